@@ -1,0 +1,30 @@
+//! The values that the query engine speaks of, and what they mean.
+#![tactic(auto)]
+
+mod copies;
+mod domain;
+mod formulas;
+mod laws;
+mod limits;
+mod list;
+mod memory;
+mod names;
+mod plans;
+mod raw;
+mod relations;
+mod tuples;
+
+pub use domain::Domain;
+pub use formulas::{DataTerm, Formula, Head, Op, Query, Term, Test, TimeTerm};
+pub use laws::{
+    core_form_is_sound, free_variables_decide, pages_are_unique, pages_resume, periods_are_least,
+    plan_is_sound, satisfaction_is_classical, texts_in_order,
+};
+pub use limits::LIMIT;
+pub use list::{Copies, List};
+pub use memory::Memory;
+pub use names::{DataText, Name};
+pub use plans::{Plan, Step, StepKind};
+pub use raw::{Place, RawColumn, RawFormula, RawKind, RawQuery, RawTerm, RawTermKind};
+pub use relations::{Bound, Column, Relation, Row, RowPoint, Sort, Value};
+pub use tuples::{Cell, Shape, Spot, Tuple};
