@@ -3,6 +3,7 @@
 
 mod copies;
 mod domain;
+mod faults;
 mod formulas;
 mod laws;
 mod limits;
@@ -12,9 +13,12 @@ mod names;
 mod plans;
 mod raw;
 mod relations;
+mod tokens;
 mod tuples;
+mod written;
 
 pub use domain::Domain;
+pub use faults::{DbFault, DbKind, QueryFault, QueryKind};
 pub use formulas::{DataTerm, Formula, Head, Op, Query, Term, Test, TimeTerm};
 pub use laws::{
     core_form_is_sound, free_variables_decide, pages_are_unique, pages_resume, periods_are_least,
@@ -25,6 +29,8 @@ pub use list::{Copies, List};
 pub use memory::Memory;
 pub use names::{DataText, Name};
 pub use plans::{Plan, Step, StepKind};
-pub use raw::{Place, RawColumn, RawFormula, RawKind, RawQuery, RawTerm, RawTermKind};
+pub use raw::{RawColumn, RawFormula, RawKind, RawQuery, RawTerm, RawTermKind};
 pub use relations::{Bound, Column, Relation, Row, RowPoint, Sort, Value};
+pub use tokens::{Fault, LexFault, LexKind, Place, Symbol, Token, TokenKind, Word};
 pub use tuples::{Cell, Shape, Spot, Tuple};
+pub use written::{BoundOp, Integer, Located, RawBound, RawRelation, RawRow, Side, WrittenValue};

@@ -1,0 +1,176 @@
+-- From bytes to tokens with their places.
+use Rattle.std.specs.Prelude.{◌+◌, ◌-◌, ◌*◌, ℕ, zero, suc, Bool, true, false, ◌||◌, ◌&&◌, ◌==◌, nat_le, List, [], ◌∷◌, length, Result, Ok, Err, if◌then◌else◌, codes}
+use Rattle.std.specs.Str.{bytes_eq}
+use Rattle.lrp_model.specs.declared.tokens.Symbol.{Symbol}
+use Rattle.lrp_model.specs.declared.tokens.Symbol.TheVariants.{Open, Close, OpenBrace, CloseBrace, Comma, Colon, Semicolon, Bar, Plus, Minus, Le, Ge, Lt, Gt, Equals}
+use Rattle.lrp_model.specs.declared.tokens.Word.TheVariants.{Relation, Where, Time, Data, Letter, Exists, Forall, Not, And, Or, Implies, In}
+use Rattle.lrp_model.specs.declared.tokens.Place.{Place}
+use Rattle.lrp_model.specs.Tokens.{Token, Tokens}
+use Rattle.lrp_model.specs.Tokens.Token.{name_token, word_token, number_token, text_token, symbol_token, end_token, bad_token}
+
+-- the greatest number that a text may have: 2 ^ 62
+abbrev pub limit : ℕ
+limit = 4611686018427387904
+
+abbrev pub is_between : ℕ → ℕ → ℕ → Bool
+is_between low high b = nat_le low b && nat_le b high
+
+-- a to z, A to Z or _
+abbrev pub is_letter : ℕ → Bool
+is_letter b = is_between 97 122 b || is_between 65 90 b || (b == 95)
+
+abbrev pub is_digit : ℕ → Bool
+is_digit b = is_between 48 57 b
+
+abbrev pub is_name_byte : ℕ → Bool
+is_name_byte b = is_letter b || is_digit b
+
+-- space, tab, carriage return or line feed
+abbrev pub is_blank : ℕ → Bool
+is_blank b = (b == 32) || (b == 9) || (b == 13) || (b == 10)
+
+-- below space, or delete
+abbrev pub is_forbidden : ℕ → Bool
+is_forbidden b = nat_le b 31 || (b == 127)
+
+-- the place behind a byte: a line feed begins the next line
+abbrev pub moved : Place → ℕ → Place
+moved p b = if b == 10 then record { line = p.line + 1; column = 1 } else record { line = p.line; column = p.column + 1 }
+
+-- the place behind some bytes
+unfoldable pub after : Place → List ℕ → Place
+after p [] = p
+after p (b ∷ bs) = after (moved p b) bs
+
+-- the bytes that are left, and the place where they begin
+pub record At : Type 0 where
+  pub place : Place
+  pub bytes : List ℕ
+
+-- behind blanks and comments; the flag says that a comment has begun
+unfoldable pub skip : Bool → Place → List ℕ → At
+skip comment p [] = record { place = p; bytes = [] }
+skip true p (b ∷ bs) = if b == 10 then skip false (moved p b) bs else skip true (moved p b) bs
+skip false p (b ∷ bs) = if b == 35 then skip true (moved p b) bs else if is_blank b then skip false (moved p b) bs else record { place = p; bytes = b ∷ bs }
+
+-- the longest run of bytes with the test
+unfoldable pub run : (ℕ → Bool) → List ℕ → List ℕ
+run test [] = []
+run test (b ∷ bs) = if test b then b ∷ run test bs else []
+
+-- the bytes behind that run
+unfoldable pub behind_run : (ℕ → Bool) → List ℕ → List ℕ
+behind_run test [] = []
+behind_run test (b ∷ bs) = if test b then behind_run test bs else b ∷ bs
+
+-- the value of digits behind a number
+unfoldable pub value_from : ℕ → List ℕ → ℕ
+value_from n [] = n
+value_from n (b ∷ bs) = value_from (10 * n + (b - 48)) bs
+
+-- a token, the bytes that it takes, and those behind it; at a bad byte, the bytes before it
+pub record Scanned : Type 0 where
+  pub token : Token
+  pub taken : List ℕ
+  pub left : List ℕ
+
+-- a reserved word, or a name
+unfoldable pub word_or_name : List ℕ → Token
+word_or_name n =
+    if bytes_eq n (codes "relation") then word_token Relation else
+    if bytes_eq n (codes "where") then word_token Where else
+    if bytes_eq n (codes "time") then word_token Time else
+    if bytes_eq n (codes "data") then word_token Data else
+    if bytes_eq n (codes "n") then word_token Letter else
+    if bytes_eq n (codes "exists") then word_token Exists else
+    if bytes_eq n (codes "forall") then word_token Forall else
+    if bytes_eq n (codes "not") then word_token Not else
+    if bytes_eq n (codes "and") then word_token And else
+    if bytes_eq n (codes "or") then word_token Or else
+    if bytes_eq n (codes "implies") then word_token Implies else
+    if bytes_eq n (codes "in") then word_token In else
+    name_token n
+
+-- the text behind an opening quote, the bytes up to and with the closing one, and those behind
+pub record Text : Type 0 where
+  pub meant : List ℕ
+  pub taken : List ℕ
+  pub left : List ℕ
+
+abbrev pub longer : ℕ → ℕ → Result Text Scanned → Result Text Scanned
+longer written b (Ok t) = Ok (record { meant = b ∷ t.meant; taken = written ∷ t.taken; left = t.left })
+longer written b (Err s) = Err (record { token = bad_token; taken = written ∷ s.taken; left = s.left })
+
+abbrev pub more_taken : ℕ → Result Text Scanned → Result Text Scanned
+more_taken b (Ok t) = Ok (record { meant = t.meant; taken = b ∷ t.taken; left = t.left })
+more_taken b (Err s) = Err (record { token = bad_token; taken = b ∷ s.taken; left = s.left })
+
+abbrev pub bad_at : List ℕ → Result Text Scanned
+bad_at bs = Err (record { token = bad_token; taken = []; left = bs })
+
+-- reads a text; the flag says that a backslash came before
+unfoldable pub text_from : Bool → List ℕ → Result Text Scanned
+text_from true [] = bad_at (92 ∷ [])
+text_from true (b ∷ bs) = if (b == 34) || (b == 92) then more_taken 92 (longer b b (text_from false bs)) else bad_at (92 ∷ b ∷ bs)
+text_from false [] = bad_at []
+text_from false (b ∷ bs) = if b == 34 then Ok (record { meant = []; taken = b ∷ []; left = bs }) else if b == 92 then text_from true bs else if is_forbidden b then bad_at (b ∷ bs) else longer b b (text_from false bs)
+
+abbrev pub text_scanned : Result Text Scanned → Scanned
+text_scanned (Ok t) = record { token = text_token t.meant; taken = 34 ∷ t.taken; left = t.left }
+text_scanned (Err s) = record { token = bad_token; taken = 34 ∷ s.taken; left = s.left }
+
+abbrev pub one : Symbol → ℕ → List ℕ → Scanned
+one s b bs = record { token = symbol_token s; taken = b ∷ []; left = bs }
+
+-- the longer symbol where an equals sign follows
+abbrev pub one_or_two : Symbol → Symbol → ℕ → List ℕ → Scanned
+one_or_two s r b [] = one s b []
+one_or_two s r b (c ∷ bs) = if c == 61 then record { token = symbol_token r; taken = b ∷ c ∷ []; left = bs } else one s b (c ∷ bs)
+
+unfoldable pub symbol_from : ℕ → List ℕ → Scanned
+symbol_from b bs =
+    if b == 40 then one Open b bs else
+    if b == 41 then one Close b bs else
+    if b == 123 then one OpenBrace b bs else
+    if b == 125 then one CloseBrace b bs else
+    if b == 44 then one Comma b bs else
+    if b == 58 then one Colon b bs else
+    if b == 59 then one Semicolon b bs else
+    if b == 124 then one Bar b bs else
+    if b == 43 then one Plus b bs else
+    if b == 45 then one Minus b bs else
+    if b == 61 then one Equals b bs else
+    if b == 60 then one_or_two Lt Le b bs else
+    if b == 62 then one_or_two Gt Ge b bs else
+    record { token = bad_token; taken = []; left = b ∷ bs }
+
+-- the token that the bytes begin with
+unfoldable pub scan : List ℕ → Scanned
+scan [] = record { token = end_token; taken = []; left = [] }
+scan (b ∷ bs) =
+    if is_letter b then record { token = word_or_name (run is_name_byte (b ∷ bs)); taken = run is_name_byte (b ∷ bs); left = behind_run is_name_byte (b ∷ bs) } else
+    if is_digit b then record { token = number_token (value_from 0 (run is_digit (b ∷ bs))); taken = run is_digit (b ∷ bs); left = behind_run is_digit (b ∷ bs) } else
+    if b == 34 then text_scanned (text_from false bs) else
+    symbol_from b bs
+
+-- the first token, at its place, and those that follow it; none follows the end or a bad byte
+abbrev pub headed : Place → Scanned → Token → Tokens → Tokens
+headed p s end_token rest = record { token = end_token; place = p } ∷ []
+headed p s bad_token rest = record { token = bad_token; place = after p s.taken } ∷ []
+headed p s t rest = record { token = t; place = p } ∷ rest
+
+-- the tokens of the bytes that are left; each turn takes a byte
+unfoldable pub tokens_from : ℕ → Place → List ℕ → Tokens
+tokens_from zero p bs = []
+tokens_from (suc n) p bs =
+    let a = skip false p bs in
+    let s = scan a.bytes in
+    headed a.place s s.token (tokens_from n (after a.place s.taken) s.left)
+
+-- the place of the first byte
+abbrev pub start : Place
+start = record { line = 1; column = 1 }
+
+-- the tokens of a text, the last one the end or a bad byte
+abbrev pub tokens : List ℕ → Tokens
+tokens bytes = tokens_from (suc (length bytes)) start bytes
