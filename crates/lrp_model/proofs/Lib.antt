@@ -1,15 +1,10 @@
 pub mod Examples
+pub mod Logic
 pub mod Decided
 pub mod Stable
-pub mod CoreLaws
 pub mod Resume
-pub mod Elements
-pub mod PlanLaws
-pub mod PlanSound
-pub mod HeadLaws
 pub mod DomainLaws
 pub mod FreeLaws
-pub mod PeriodLaws
 pub mod Views
 pub mod PageExamples
 pub mod TupleLaws

@@ -21,8 +21,8 @@ pub use domain::Domain;
 pub use faults::{DbFault, DbKind, QueryFault, QueryKind};
 pub use formulas::{DataTerm, Formula, Head, Op, Query, Term, Test, TimeTerm};
 pub use laws::{
-    core_form_is_sound, free_variables_decide, pages_are_unique, pages_resume, periods_are_least,
-    plan_is_sound, satisfaction_is_classical, texts_in_order,
+    free_variables_decide, pages_are_unique, pages_resume, satisfaction_is_classical,
+    texts_in_order,
 };
 pub use limits::LIMIT;
 pub use list::{Copies, List};
