@@ -1,0 +1,10 @@
+pub mod Local
+pub mod Sound
+pub mod Complete
+pub mod Viable
+pub mod LocatedRule
+pub mod Refusal
+pub mod Unique
+pub mod Turns
+pub mod Tests
+pub mod ColumnRule

@@ -1,0 +1,28 @@
+-- The parser of columns, as the grammars of databases and of queries both have it.
+use Rattle.std.specs.Prelude.{ℕ, Result, Ok, Err}
+use Rattle.lrp_model.specs.declared.relations.Sort.{Sort}
+use Rattle.lrp_model.specs.declared.relations.Sort.TheVariants.{Time as time_sort, Data as data_sort, Named as named_sort}
+use Rattle.lrp_model.specs.declared.raw.RawColumn.{RawColumn}
+use Rattle.lrp_model.specs.declared.tokens.Symbol.TheVariants.{Colon}
+use Rattle.lrp_model.specs.declared.tokens.Word.TheVariants.{Time, Data}
+use Rattle.lrp_model.specs.declared.tokens.Fault.{Fault}
+use Rattle.lrp_model.specs.declared.tokens.Fault.TheVariants.{Syntax}
+use Rattle.lrp_model.specs.Tokens.{Token}
+use Rattle.lrp_model.specs.Tokens.Token.{name_token, word_token}
+use Rattle.lrp_text.specs.Parsers.{Parser, accept, pure, ◌>>=◌, ◌>>◌}
+use Rattle.lrp_text.specs.Taking.{name, expect, with_place}
+
+-- the sort that a token stands for; a name is a data sort of its own
+abbrev pub sort_of : Token → Result Sort Fault
+sort_of (word_token Time) = Ok time_sort
+sort_of (word_token Data) = Ok data_sort
+sort_of (name_token n) = Ok (named_sort n)
+sort_of _ = Err Syntax
+
+-- a name, a colon and a sort
+unfoldable pub column : Parser RawColumn
+column = do
+  n ← name
+  expect Colon
+  s ← accept (λ t. with_place t.place (sort_of t.token))
+  pure (record { name = n.0; place = n.1; sort = s.0; sort_place = s.1 })

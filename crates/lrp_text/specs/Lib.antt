@@ -1,0 +1,3 @@
+pub mod Parsers
+pub mod Taking
+pub mod ColumnRule

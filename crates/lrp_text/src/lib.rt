@@ -1,0 +1,2 @@
+//! Tokens of database and query texts, and the parsers that read them.
+#![tactic(auto)]
