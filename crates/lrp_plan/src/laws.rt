@@ -1,0 +1,32 @@
+// What holds of core forms, plans and periods: each law is the contract of a function that does nothing.
+ghost use Rattle.std.specs.Prelude.{◌≡◌, ◌↔◌, ◌≤◌, ℕ, List, Bool, false, length, Contains};
+ghost use Rattle.std.specs.List.{AllByRecursion};
+ghost use Rattle.lrp_model.specs.Rows.{Datum, texts_of};
+ghost use Rattle.lrp_model.specs.Formulas.{Form, Question};
+ghost use Rattle.lrp_model.specs.Domains.{constants};
+ghost use Rattle.lrp_model.specs.Satisfaction.{Structure, Assignment, Satisfies, IsAnswer, structure, assignment, HasShape, HaveNames};
+ghost use Rattle.lrp_model.specs.Core.{positive, negative, core_form, guarded, has_named_sort, HasElements};
+ghost use Rattle.lrp_model.specs.Periods.{IsLeastMultiple, lcm_all};
+ghost use Rattle.lrp_model.specs.Steps.{formula_at};
+ghost use Rattle.lrp_model.specs.Plans.{core_steps, plan, IsPlain};
+ghost use Rattle.lrp_model.specs.declared.relations.Relation.{Relation};
+
+/// The core form of a formula says what the formula says, and the core form of its negation denies it.
+pub fn core_form_is_sound()
+    ensures keeps { (f : Form) (named : Bool) (M : Structure) (env : Assignment) → Satisfies (positive f named) M env ↔ Satisfies f M env }
+    ensures denies { (f : Form) (named : Bool) (M : Structure) (env : Assignment) → Satisfies (negative f named) M env ↔ (Satisfies f M env → ⊥) }
+    ensures query { (named : Bool) (q : Question) (M : Structure) (env : Assignment) → Satisfies (core_form named q) M env ↔ Satisfies (guarded named q.head q.body) M env }
+{}
+
+/// The step before `head` says what `head` says. The formula of the last step holds for exactly the answers, among the tuples of the head's shape whose texts are constants.
+pub fn plan_is_sound()
+    ensures steps { (db : List Relation) (q : Question) → HasElements q.body → (env : Assignment)
+        → Satisfies (formula_at (core_steps db q) (length (core_steps db q))) (structure db q) env ↔ Satisfies (guarded (has_named_sort db) q.head q.body) (structure db q) env }
+    ensures last { (db : List Relation) (q : Question) (tuple : List Datum) → (has_named_sort db ≡ false → IsPlain db q) → HaveNames q.head → HasShape q.head tuple → AllByRecursion (Contains (constants db q)) (texts_of tuple)
+        → Satisfies (formula_at (plan db q) (length (plan db q))) (structure db q) (assignment q.head tuple) ↔ IsAnswer db q tuple }
+{}
+
+/// The period is the least common multiple of the periods, where each of them is at least 1.
+pub fn periods_are_least()
+    ensures { (ks : List ℕ) → AllByRecursion (λ k. 1 ≤ k) ks → IsLeastMultiple ks (lcm_all ks) }
+{}

@@ -1,0 +1,6 @@
+//! The plan of a query. Today this crate holds the laws of plans; the planner that meets them will stand here.
+#![tactic(auto)]
+
+mod laws;
+
+pub use laws::{core_form_is_sound, periods_are_least, plan_is_sound};
