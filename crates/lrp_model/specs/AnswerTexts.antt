@@ -1,0 +1,116 @@
+-- What the answer of a query is as a text: a relation `answer` whose rows hold exactly the answers, or `Empty`.
+use Rattle.std.specs.Prelude.{◌≡◌, ◌≢◌, ◌↔◌, ◌≤◌, ◌+ℤ◌, ◌-ℤ◌, ◌≤ℤ◌, ◌<ℤ◌, ℕ, zero, suc, ℤ, pos, List, [], ◌∷◌, AllPairs, Contains, codes}
+use Rattle.std.specs.List.{AllByRecursion}
+use Rattle.std.specs.Ordering.{int_cmp, nat_cmp, ordering_then}
+use Rattle.std.specs.declared.cmp.Ordering.{Ordering}
+use Rattle.std.specs.declared.cmp.Ordering.TheVariants.{Less, Equal, Greater}
+use Rattle.std.specs.Cmp.Lexicographic.{slice_cmp}
+use Rattle.lrp_model.specs.Texts.{Text, text_cmp}
+use Rattle.lrp_model.specs.Rows.{Datum, IsOf, times_of, time_at, IsInRow, Holds}
+use Rattle.lrp_model.specs.Formulas.{Question}
+use Rattle.lrp_model.specs.Satisfaction.{IsAnswer}
+use Rattle.lrp_model.specs.Periods.{period}
+use Rattle.lrp_model.specs.Plans.{time_columns}
+use Rattle.lrp_model.specs.DatabaseReading.{IsDatabase}
+use Rattle.lrp_model.specs.Printed.{relation_bytes}
+use Rattle.lrp_model.specs.declared.relations.Value.{Value}
+use Rattle.lrp_model.specs.declared.relations.Value.TheVariants.{Point, Const}
+use Rattle.lrp_model.specs.declared.relations.Bound.{Bound}
+use Rattle.lrp_model.specs.declared.relations.Row.{Row}
+use Rattle.lrp_model.specs.declared.relations.Relation.{Relation}
+
+-- ---- the cell of a row
+
+-- the texts of a row, in head order
+abbrev pub row_texts : List Value → List Text
+row_texts [] = []
+row_texts (Point p ∷ values) = row_texts values
+row_texts (Const t ∷ values) = t ∷ row_texts values
+
+-- its residues, in head order
+abbrev pub row_residues : List Value → List ℤ
+row_residues [] = []
+row_residues (Point p ∷ values) = p.offset ∷ row_residues values
+row_residues (Const t ∷ values) = row_residues values
+
+-- the order of cells: by the texts, and then by the residues
+abbrev pub cell_cmp : Row → Row → Ordering
+cell_cmp r s = ordering_then (slice_cmp text_cmp (row_texts r.values) (row_texts s.values)) (slice_cmp int_cmp (row_residues r.values) (row_residues s.values))
+
+-- two rows are of one cell
+abbrev pub OfOneCell : Row → Row → Type 0
+OfOneCell r s = cell_cmp r s ≡ Equal
+
+-- the cell of the first row is not behind that of the second
+abbrev pub InOrder : Row → Row → Type 0
+InOrder r s = cell_cmp r s ≢ Greater
+
+-- ---- a row by itself
+
+-- a point has the period K, and an offset that is a residue
+abbrev pub HasPeriod : ℕ → Value → Type 0
+HasPeriod K (Const t) = Unit {0}
+HasPeriod K (Point p) = (p.period ≡ pos K) × (pos 0 ≤ℤ p.offset) × (p.offset <ℤ pos K)
+
+-- the number is at most time column i minus time column j, which some member of the row attains and none exceeds
+pub record IsLeastBound (row : Row) (i j : ℕ) (a : ℤ) : Type 0 where
+  pub met : (tuple : List Datum) → IsInRow row tuple → (time_at (times_of tuple) i -ℤ time_at (times_of tuple) j) ≤ℤ a
+  pub attained : (tuple : List Datum) × IsInRow row tuple × (time_at (times_of tuple) i -ℤ time_at (times_of tuple) j ≡ a)
+
+-- the bound is on two of the columns from 0 to m, and is the least one
+pub record IsOwnBound (row : Row) (m : ℕ) (bound : Bound) : Type 0 where
+  pub left : bound.left ≤ m
+  pub right : bound.right ≤ m
+  pub apart : bound.left ≢ bound.right
+  pub least : IsLeastBound row bound.left bound.right bound.most
+
+-- bounds row by row: by their left columns, and then by their right ones
+abbrev pub ComesBefore : Bound → Bound → Type 0
+ComesBefore b c = ordering_then (nat_cmp b.left c.left) (nat_cmp b.right c.right) ≡ Less
+
+-- a row of an answer with m time columns and the period K: its bounds are all least bounds of its members, in order
+pub record IsAnswerRow (K m : ℕ) (row : Row) : Type 0 where
+  pub period : AllByRecursion (HasPeriod K) row.values
+  pub own : AllByRecursion (IsOwnBound row m) row.bounds
+  pub all : (i j : ℕ) (a : ℤ) → i ≤ m → j ≤ m → i ≢ j → IsLeastBound row i j a → Contains row.bounds (record { left = i; right = j; most = a })
+  pub ordered : AllPairs ComesBefore row.bounds
+
+-- ---- the rows of one cell
+
+-- with one time column, every member of the first row comes before those of the second, and the next integer of the cell is between: the rows are the maximal disjoint intervals, ascending
+abbrev pub IsApart : ℕ → Row → Row → Type 0
+IsApart K r s = (t u : List Datum) → IsInRow r t → IsInRow s u → (time_at (times_of t) 1 +ℤ pos K) <ℤ time_at (times_of u) 1
+
+-- the answers in the row's cell are the members of one zone, which is that cell with some bounds
+pub record IsOneZone (answers : List Datum → Type 0) (row : Row) : Type 0 where
+  pub bounds : List Bound
+  pub same : (tuple : List Datum) → IsOf row.values tuple → answers tuple ↔ IsInRow (record { values = row.values; bounds = bounds }) tuple
+
+-- what holds of two rows of one cell, by the number of time columns: with none there are no two, with one they lie apart, and with more the cell is not that of one zone
+abbrev pub MayStandBeside : (List Datum → Type 0) → ℕ → ℕ → Row → Row → Type 0
+MayStandBeside answers K zero r s = ⊥
+MayStandBeside answers K (suc zero) r s = IsApart K r s
+MayStandBeside answers K (suc (suc m)) r s = IsOneZone answers r → ⊥
+
+-- ---- the text
+
+-- the relation `answer` of a query that has answers: it has the head's columns and holds exactly the answers, cell by cell
+pub record IsAnswerRelation (db : List Relation) (q : Question) (answer : Relation) : Type 0 where
+  pub name : answer.name ≡ codes "answer"
+  pub columns : answer.columns ≡ q.head
+  pub holds : (tuple : List Datum) → IsAnswer db q tuple ↔ Holds (answer ∷ []) answer.name tuple
+  pub rows : AllByRecursion (IsAnswerRow (period db q.body) (time_columns q.head)) answer.rows
+  pub cells : AllPairs InOrder answer.rows
+  pub beside : AllPairs (λ r s. OfOneCell r s → MayStandBeside (IsAnswer db q) (period db q.body) (time_columns q.head) r s) answer.rows
+
+-- the text is such a relation as it is written out, and is read back as it
+pub record IsRelationText (db : List Relation) (q : Question) (bytes : List ℕ) : Type 0 where
+  pub answer : Relation
+  pub is : IsAnswerRelation db q answer
+  pub layout : bytes ≡ relation_bytes answer
+  pub read : IsDatabase bytes (answer ∷ [])
+
+-- the text of a query's answer: the line `Empty` where no tuple satisfies the query, and such a relation where one does
+pub record IsAnswerText (db : List Relation) (q : Question) (bytes : List ℕ) : Type 0 where
+  pub none : ((tuple : List Datum) → IsAnswer db q tuple → ⊥) → bytes ≡ codes "Empty\n"
+  pub some : (tuple : List Datum) → IsAnswer db q tuple → IsRelationText db q bytes

@@ -1,0 +1,159 @@
+-- The grammar of queries: written trees, what spells them, and which are lawful.
+-- Behind 64 `not` only a formula of depth 65 can stand, so these 64 words begin no query that is shallow enough, and yet the fault belongs to the token behind them. So a lawful tree may be cut off at depth 65 by a hole, which no bytes spell: then the 64 words begin a lawful text, and the token behind them is the first with which it does not go on.
+use Rattle.std.specs.Prelude.{◌≤◌, ℕ, zero, suc, Bool, List, [], ◌∷◌, ◌++◌, length}
+use Rattle.std.specs.List.{AllByRecursion}
+use Rattle.lrp_model.specs.Texts.{Text, Identifier}
+use Rattle.lrp_model.specs.declared.tokens.Symbol.{Symbol}
+use Rattle.lrp_model.specs.declared.tokens.Symbol.TheVariants.{Open, Close, OpenBrace, CloseBrace, Bar, Plus, Le as le_sign, Ge as ge_sign, Lt as lt_sign, Gt as gt_sign, Equals}
+use Rattle.lrp_model.specs.declared.tokens.Word.{Word}
+use Rattle.lrp_model.specs.declared.tokens.Word.TheVariants.{Letter, Exists, Forall, Not, And, Or, Implies, In}
+use Rattle.lrp_model.specs.declared.tokens.Place.{Place}
+use Rattle.lrp_model.specs.declared.written.Located.{Located}
+use Rattle.lrp_model.specs.declared.written.Integer.{Integer}
+use Rattle.lrp_model.specs.declared.raw.RawColumn.{RawColumn}
+use Rattle.lrp_model.specs.declared.formulas.Op.{Op}
+use Rattle.lrp_model.specs.declared.formulas.Op.TheVariants.{Le, Lt, Ge, Gt, Eq}
+use Rattle.lrp_model.specs.Tokens.{Part, located_text, separated}
+use Rattle.lrp_model.specs.Tokens.Token.{name_token, word_token, number_token, text_token, symbol_token, end_token, hole_token}
+use Rattle.lrp_model.specs.Tokens.Part.{at, any}
+use Rattle.lrp_model.specs.Lexing.{limit}
+use Rattle.lrp_model.specs.Columns.{column_text}
+use Rattle.lrp_model.specs.Databases.{integer_text, shift, comma}
+
+-- ---- written trees
+
+-- an integer, a text, a name, or a name with an offset upwards or downwards
+pub data WrittenTerm : Type 0 where
+  integer : Integer → WrittenTerm
+  quoted : Text → WrittenTerm
+  variable : Identifier → WrittenTerm
+  shifted : Identifier → Bool → ℕ → WrittenTerm
+
+-- a formula with the place of its first token, where no term has it; the members of an `and` or `or` are two at least
+mutual
+  pub data WrittenFormula : Type 0 where
+    atom : Place → Identifier → List (Located WrittenTerm) → WrittenFormula
+    compared : Located WrittenTerm → Op → Located WrittenTerm → WrittenFormula
+    member : Located WrittenTerm → Integer → ℕ → WrittenFormula
+    denied : Place → WrittenFormula → WrittenFormula
+    all_of : Place → WrittenFormula → FurtherMembers → WrittenFormula
+    any_of : Place → WrittenFormula → FurtherMembers → WrittenFormula
+    implied : Place → WrittenFormula → WrittenFormula → WrittenFormula
+    group : Place → WrittenFormula → WrittenFormula
+    some : Place → RawColumn → WrittenFormula → WrittenFormula
+    every : Place → RawColumn → WrittenFormula → WrittenFormula
+    -- stands for a formula that would be too deep; no bytes spell one
+    hole : Place → WrittenFormula
+
+  pub data FurtherMembers : Type 0 where
+    last : WrittenFormula → FurtherMembers
+    more : WrittenFormula → FurtherMembers → FurtherMembers
+
+pub record WrittenQuery : Type 0 where
+  pub head : List RawColumn
+  pub body : WrittenFormula
+
+-- ---- what spells a tree
+
+-- term = integer | text | name [ ( "+" | "-" ) number ]
+abbrev pub term_text : WrittenTerm → List Part
+term_text (integer i) = integer_text i
+term_text (quoted t) = any (text_token t) ∷ []
+term_text (variable n) = any (name_token n) ∷ []
+term_text (shifted n down k) = any (name_token n) ∷ any (symbol_token (shift down)) ∷ any (number_token k) ∷ []
+
+-- "<=" | ">=" | "<" | ">" | "="
+abbrev pub op_symbol : Op → Symbol
+op_symbol Le = le_sign
+op_symbol Ge = ge_sign
+op_symbol Lt = lt_sign
+op_symbol Gt = gt_sign
+op_symbol Eq = Equals
+
+abbrev mutual
+  pub formula_text : WrittenFormula → List Part
+  -- name "(" [ term { "," term } ] ")"
+  formula_text (atom p n ts) = at p (name_token n) ∷ any (symbol_token Open) ∷ (separated comma (located_text term_text) ts ++ any (symbol_token Close) ∷ [])
+  -- term ( "<=" | ">=" | "<" | ">" | "=" ) term
+  formula_text (compared l op r) = located_text term_text l ++ any (symbol_token (op_symbol op)) ∷ located_text term_text r
+  -- term "in" integer "+" number "n"
+  formula_text (member t i k) = located_text term_text t ++ any (word_token In) ∷ (integer_text i ++ any (symbol_token Plus) ∷ any (number_token k) ∷ any (word_token Letter) ∷ [])
+  -- "not" formula
+  formula_text (denied p f) = at p (word_token Not) ∷ formula_text f
+  -- "(" formula ( "implies" formula | { "and" formula } | { "or" formula } ) ")"
+  formula_text (all_of p f fs) = at p (symbol_token Open) ∷ (formula_text f ++ (members_text And fs ++ any (symbol_token Close) ∷ []))
+  formula_text (any_of p f fs) = at p (symbol_token Open) ∷ (formula_text f ++ (members_text Or fs ++ any (symbol_token Close) ∷ []))
+  formula_text (implied p f g) = at p (symbol_token Open) ∷ (formula_text f ++ any (word_token Implies) ∷ (formula_text g ++ any (symbol_token Close) ∷ []))
+  formula_text (group p f) = at p (symbol_token Open) ∷ (formula_text f ++ any (symbol_token Close) ∷ [])
+  -- ( "exists" | "forall" ) name ":" sort formula
+  formula_text (some p c f) = at p (word_token Exists) ∷ (column_text c ++ formula_text f)
+  formula_text (every p c f) = at p (word_token Forall) ∷ (column_text c ++ formula_text f)
+  formula_text (hole p) = at p hole_token ∷ []
+
+  pub members_text : Word → FurtherMembers → List Part
+  members_text w (last f) = any (word_token w) ∷ formula_text f
+  members_text w (more f fs) = any (word_token w) ∷ (formula_text f ++ members_text w fs)
+
+-- query = "{" [ column { "," column } ] "|" formula "}", and behind it the end
+abbrev pub query_text : WrittenQuery → List Part
+query_text q = any (symbol_token OpenBrace) ∷ (separated comma column_text q.head ++ any (symbol_token Bar) ∷ (formula_text q.body ++ any (symbol_token CloseBrace) ∷ any end_token ∷ []))
+
+-- ---- what makes a tree lawful beyond the grammar
+
+-- with a depth left, what stands inside has one less
+abbrev pub Deeper : ℕ → (ℕ → Type 0) → Type 0
+Deeper zero inner = ⊥
+Deeper (suc n) inner = inner n
+
+abbrev pub IsZero : ℕ → Type 0
+IsZero zero = Unit {0}
+IsZero (suc n) = ⊥
+
+-- at most this deep, the formula itself counted; holes stand just below
+abbrev mutual
+  pub FitsDepth : WrittenFormula → ℕ → Type 0
+  FitsDepth (atom p n ts) d = Deeper d (λ m. Unit {0})
+  FitsDepth (compared l op r) d = Deeper d (λ m. Unit {0})
+  FitsDepth (member t i k) d = Deeper d (λ m. Unit {0})
+  FitsDepth (denied p f) d = Deeper d (FitsDepth f)
+  FitsDepth (all_of p f fs) d = Deeper d (λ m. FitsDepth f m × FitDepth fs m)
+  FitsDepth (any_of p f fs) d = Deeper d (λ m. FitsDepth f m × FitDepth fs m)
+  FitsDepth (implied p f g) d = Deeper d (λ m. FitsDepth f m × FitsDepth g m)
+  FitsDepth (group p f) d = Deeper d (FitsDepth f)
+  FitsDepth (some p c f) d = Deeper d (FitsDepth f)
+  FitsDepth (every p c f) d = Deeper d (FitsDepth f)
+  FitsDepth (hole p) d = IsZero d
+
+  pub FitDepth : FurtherMembers → ℕ → Type 0
+  FitDepth (last f) d = FitsDepth f d
+  FitDepth (more f fs) d = FitsDepth f d × FitDepth fs d
+
+abbrev pub FitsTerm : WrittenTerm → Type 0
+FitsTerm (integer i) = i.size ≤ limit
+FitsTerm (quoted t) = length t ≤ 255
+FitsTerm (variable n) = Unit {0}
+FitsTerm (shifted n down k) = k ≤ limit
+
+-- the sizes of numbers and texts, and periods that are not 0
+abbrev mutual
+  pub FitsSizes : WrittenFormula → Type 0
+  FitsSizes (atom p n ts) = AllByRecursion (λ t. FitsTerm t.item) ts
+  FitsSizes (compared l op r) = FitsTerm l.item × FitsTerm r.item
+  FitsSizes (member t i k) = FitsTerm t.item × (i.size ≤ limit) × (1 ≤ k) × (k ≤ limit)
+  FitsSizes (denied p f) = FitsSizes f
+  FitsSizes (all_of p f fs) = FitsSizes f × FitSizes fs
+  FitsSizes (any_of p f fs) = FitsSizes f × FitSizes fs
+  FitsSizes (implied p f g) = FitsSizes f × FitsSizes g
+  FitsSizes (group p f) = FitsSizes f
+  FitsSizes (some p c f) = FitsSizes f
+  FitsSizes (every p c f) = FitsSizes f
+  FitsSizes (hole p) = Unit {0}
+
+  pub FitSizes : FurtherMembers → Type 0
+  FitSizes (last f) = FitsSizes f
+  FitSizes (more f fs) = FitsSizes f × FitSizes fs
+
+-- lawful: the sizes fit, and no formula is deeper than 64
+pub record FitsQuery (q : WrittenQuery) : Type 0 where
+  pub sizes : FitsSizes q.body
+  pub depth : FitsDepth q.body 64

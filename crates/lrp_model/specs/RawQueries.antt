@@ -1,0 +1,63 @@
+-- Queries with their places, without their places in memory, and what a raw query of the program is.
+use Rattle.std.specs.Prelude.{List, [], ◌∷◌}
+use Rattle.lrp_model.specs.Texts.{Identifier}
+use Rattle.lrp_model.specs.declared.tokens.Place.{Place}
+use Rattle.lrp_model.specs.declared.relations.RowPoint.{RowPoint}
+use Rattle.lrp_model.specs.declared.formulas.Op.{Op}
+use Rattle.lrp_model.specs.declared.raw.RawColumn.{RawColumn}
+use Rattle.lrp_model.specs.declared.raw.RawTerm.{RawTerm}
+use Rattle.lrp_model.specs.declared.raw.RawQuery.{RawQuery}
+use Rattle.lrp_model.specs.declared.raw.RawFormula.{RawFormula}
+use Rattle.lrp_model.specs.declared.raw.RawKind.{RawKind, Atom, Compare, Member, Not', And', Or', Implies', Group', Exists', Forall', Row_of-RawFormula, end_of-RawFormula, more_of-RawFormula}
+
+-- a formula with the place of its first token; `raw_group` is one formula in parentheses
+mutual
+  pub data RawForm : Type 0 where
+    raw_atom : Place → Identifier → List RawTerm → RawForm
+    raw_compare : Place → RawTerm → Op → RawTerm → RawForm
+    raw_member : Place → RawTerm → RowPoint → RawForm
+    raw_not : Place → RawForm → RawForm
+    raw_and : Place → RawForms → RawForm
+    raw_or : Place → RawForms → RawForm
+    raw_implies : Place → RawForm → RawForm → RawForm
+    raw_group : Place → RawForm → RawForm
+    raw_exists : Place → RawColumn → RawForm → RawForm
+    raw_forall : Place → RawColumn → RawForm → RawForm
+
+  pub data RawForms : Type 0 where
+    no_raws : RawForms
+    raw : RawForm → RawForms → RawForms
+
+-- the formula that a value of the program is
+abbrev mutual
+  pub raw_kind : RawKind → Place → RawForm
+  raw_kind (Atom name terms) p = raw_atom p name terms
+  raw_kind (Compare left op right) p = raw_compare p left op right
+  raw_kind (Member term point) p = raw_member p term point
+  raw_kind (Not' m k q) p = raw_not p (raw_kind k q)
+  raw_kind (And' shape all) p = raw_and p (row_raws all)
+  raw_kind (Or' shape all) p = raw_or p (row_raws all)
+  raw_kind (Implies' m k q n j r) p = raw_implies p (raw_kind k q) (raw_kind j r)
+  raw_kind (Group' m k q) p = raw_group p (raw_kind k q)
+  raw_kind (Exists' binder m k q) p = raw_exists p binder (raw_kind k q)
+  raw_kind (Forall' binder m k q) p = raw_forall p binder (raw_kind k q)
+
+  pub row_raws : {m : _} → Row_of-RawFormula m → RawForms
+  row_raws end_of-RawFormula = no_raws
+  row_raws (more_of-RawFormula k q rest) = raw (raw_kind k q) (row_raws rest)
+
+abbrev pub raw_form_of : RawFormula → RawForm
+raw_form_of f = raw_kind f.kind f.place
+
+-- those of a list
+abbrev pub raw_forms_of : List RawFormula → RawForms
+raw_forms_of [] = no_raws
+raw_forms_of (f ∷ fs) = raw (raw_form_of f) (raw_forms_of fs)
+
+-- a query with its places: its head's columns and its body
+pub record RawQuestion : Type 0 where
+  pub head : List RawColumn
+  pub body : RawForm
+
+abbrev pub raw_question_of : RawQuery → RawQuestion
+raw_question_of q = record { head = q.head; body = raw_form_of q.body }
