@@ -8,3 +8,5 @@ pub mod Unique
 pub mod Turns
 pub mod Tests
 pub mod ColumnRule
+pub mod Runs
+pub mod Scans

@@ -1,3 +1,4 @@
 pub mod Parsers
 pub mod Taking
 pub mod ColumnRule
+pub mod Lexemes

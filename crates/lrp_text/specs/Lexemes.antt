@@ -1,0 +1,54 @@
+-- What a slice of the source says, against the token that the bytes begin with.
+use Rattle.std.specs.Prelude.{◌≡◌, ◌≤◌, ◌<◌, ℕ, List, [], ◌∷◌, length, Result, Ok, Err, Option, Some, None, false, ◌++◌, ◌==◌, if◌then◌else◌}
+use Rattle.std.specs.Option.{option_map}
+use Rattle.lrp_model.specs.Tokens.{Token}
+use Rattle.lrp_model.specs.Tokens.Token.{name_token, word_token, number_token, text_token, symbol_token, end_token, bad_token}
+use Rattle.lrp_model.specs.Lexing.{Scanned, Text as TextRead, word_or_name, text_from, limit}
+use Rattle.lrp_text.specs.declared.lexemes.Lexeme.{Lexeme}
+use Rattle.lrp_text.specs.declared.lexemes.Lexeme.TheVariants.{Name, Word, Number, LargeNumber, Text, LongText, Symbol, End, Bad}
+
+-- the token that a lexeme says, with what it keeps: a lawful number or text, or one that isn't
+abbrev pub IsSaid : Lexeme → List ℕ → Token → Type 0
+IsSaid Name slice k = k ≡ name_token slice
+IsSaid (Word w) slice k = k ≡ word_token w
+IsSaid (Number n) slice k = (k ≡ number_token n) × (n ≤ limit)
+IsSaid LargeNumber slice k = (n : ℕ) × (k ≡ number_token n) × (limit < n)
+IsSaid Text slice k = (t : List ℕ) × (k ≡ text_token t) × (length t ≤ 255)
+IsSaid LongText slice k = (t : List ℕ) × (k ≡ text_token t) × (255 < length t)
+IsSaid (Symbol s) slice k = k ≡ symbol_token s
+IsSaid End slice k = k ≡ end_token
+IsSaid Bad slice k = k ≡ bad_token
+
+-- a lexeme for the token that was scanned
+abbrev pub IsLexeme : Lexeme → Scanned → Type 0
+IsLexeme l s = IsSaid l s.taken s.token
+
+-- a lexeme for a name or a reserved word
+abbrev pub IsNamed : Lexeme → List ℕ → Type 0
+IsNamed l name = IsSaid l name (word_or_name name)
+
+-- a lexeme for a number
+abbrev pub IsNumber : Lexeme → ℕ → Type 0
+IsNumber l n = IsSaid l [] (number_token n)
+
+-- no symbol begins so
+abbrev pub bad_symbol : ℕ → List ℕ → Scanned
+bad_symbol b bs = record { token = bad_token; taken = []; left = b ∷ bs }
+
+-- what a text means, and what stands behind it; none at a byte that may not stand in it, and the bytes from it on
+abbrev pub read_of : Result TextRead Scanned → Option (List ℕ) × List ℕ
+read_of (Ok t) = (Some t.meant, t.left)
+read_of (Err s) = (None, s.left)
+
+-- the same of the bytes behind an opening quote
+abbrev pub text_read : List ℕ → Option (List ℕ) × List ℕ
+text_read bs = read_of (text_from false bs)
+
+-- a text with these bytes in front
+abbrev pub behind_bytes : List ℕ → Option (List ℕ) × List ℕ → Option (List ℕ) × List ℕ
+behind_bytes front r = (option_map (λ t. front ++ t) r.0, r.1)
+
+-- a text that a quote ends, or one that has no such end
+abbrev pub ended : List ℕ → Option (List ℕ) × List ℕ
+ended [] = (None, [])
+ended (b ∷ bs) = if b == 34 then (Some [], bs) else (None, b ∷ bs)

@@ -1,0 +1,16 @@
+// What a slice of the source says.
+use lrp_model::{Symbol, Word};
+
+/// A token, as it is read: a number or a text that is lawful, or one that isn't, or a byte that begins no token.
+#[derive(Clone, Copy, Debug, PartialEq, Eq)]
+pub enum Lexeme {
+    Name,
+    Word(Word),
+    Number(u64),
+    LargeNumber,
+    Text,
+    LongText,
+    Symbol(Symbol),
+    End,
+    Bad,
+}
