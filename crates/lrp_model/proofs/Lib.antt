@@ -4,8 +4,10 @@ pub mod Decided
 pub mod Stable
 pub mod Resume
 pub mod DomainLaws
+pub mod Ascending
 pub mod FreeLaws
 pub mod Views
+pub mod RawViews
 pub mod PageExamples
 pub mod TupleLaws
 pub mod Unique

@@ -12,6 +12,7 @@ mod memory;
 mod names;
 mod plans;
 mod raw;
+mod raw_copies;
 mod relations;
 mod tokens;
 mod tuples;

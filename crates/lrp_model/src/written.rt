@@ -1,5 +1,8 @@
 // Databases as their text says them, with the place of each name, value and row.
-use crate::{DataText, List, Name, Place, RawColumn};
+ghost use Rattle.std.specs.Prelude.{◌≡◌, IfOk};
+
+use crate::{Copies, DataText, List, Memory, Name, Place, RawColumn};
+use std::alloc::Global;
 
 /// Something of a tree, and the place of its first token.
 #[derive(Debug, Drop)]
@@ -68,4 +71,73 @@ pub struct RawRelation {
     pub name: Located<Name>,
     pub columns: List<RawColumn>,
     pub rows: List<Located<RawRow>>,
+}
+
+impl<T: Copies> Copies for Located<T> {
+    fn copy(&self, alloc: Global) -> Result<Self, Memory> {
+        Ok(Located {
+            place: self.place,
+            item: self.item.copy(alloc)?,
+        })
+    }
+}
+
+impl Copies for WrittenValue {
+    fn copy(&self, alloc: Global) -> Result<Self, Memory> {
+        match self {
+            WrittenValue::Constant { text } => Ok(WrittenValue::Constant {
+                text: text.copy(alloc)?,
+            }),
+            WrittenValue::Instant { at } => Ok(WrittenValue::Instant { at: *at }),
+            WrittenValue::Point { at, period } => Ok(WrittenValue::Point {
+                at: *at,
+                period: *period,
+            }),
+        }
+    }
+}
+
+impl Copies for Side {
+    fn copy(&self, alloc: Global) -> Result<Self, Memory> {
+        match self {
+            Side::Alone { value } => Ok(Side::Alone { value: *value }),
+            Side::Column { name } => Ok(Side::Column {
+                name: name.copy(alloc)?,
+            }),
+            Side::Shifted { name, down, by } => Ok(Side::Shifted {
+                name: name.copy(alloc)?,
+                down: *down,
+                by: *by,
+            }),
+        }
+    }
+}
+
+impl Copies for RawBound {
+    fn copy(&self, alloc: Global) -> Result<Self, Memory> {
+        Ok(RawBound {
+            left: self.left.copy(alloc)?,
+            op: self.op,
+            side: self.side.copy(alloc)?,
+        })
+    }
+}
+
+impl Copies for RawRow {
+    fn copy(&self, alloc: Global) -> Result<Self, Memory> {
+        Ok(RawRow {
+            values: self.values.copy(alloc)?,
+            bounds: self.bounds.copy(alloc)?,
+        })
+    }
+}
+
+impl Copies for RawRelation {
+    fn copy(&self, alloc: Global) -> Result<Self, Memory> {
+        Ok(RawRelation {
+            name: self.name.copy(alloc)?,
+            columns: self.columns.copy(alloc)?,
+            rows: self.rows.copy(alloc)?,
+        })
+    }
 }

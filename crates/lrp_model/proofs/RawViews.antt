@@ -1,0 +1,39 @@
+-- The raw formula of a node whose members stand in a vector.
+use Rattle.std.proofs.Common.{◌≡◌, ℕ, ◌+◌, ◌<◌, List, [], ◌∷◌, ◌++◌, Vec, Global, refl, ap, sym, ◌∙◌, rules, length, take, get_or}
+use Rattle.std.proofs.lemmas.List.{take_more}
+use Rattle.lrp_model.specs.RawQueries.{RawForms, raw_kind, raw_form_of, raw_forms_of, row_raws, raw_and, raw_or, no_raws, raw}
+use Rattle.lrp_model.specs.declared.tokens.Place.{Place}
+use Rattle.lrp_model.specs.declared.raw.RawFormula.{RawFormula}
+use Rattle.lrp_model.specs.declared.raw.RawKind.{And, Or, the_lemmas, Row_of-RawFormula, end_of-RawFormula, more_of-RawFormula, items-the_row-RawFormula}
+
+-- the first list and then the second
+joined_raws : RawForms → RawForms → RawForms
+joined_raws no_raws gs = gs
+joined_raws (raw f fs) gs = raw f (joined_raws fs gs)
+
+pub row_raws-items : (n : _) (k : Row_of-RawFormula n) → row_raws k ≡ raw_forms_of (items-the_row-RawFormula n k)
+row_raws-items _ end_of-RawFormula = refl
+row_raws-items _ (more_of-RawFormula k p rest) = ap (raw (raw_kind k p)) (row_raws-items _ rest)
+
+pub raw_kind-And : (v : Vec RawFormula Global) (p : Place) → raw_kind (And v) p ≡ raw_and p (raw_forms_of v.items)
+raw_kind-And v p = search (rules, the_lemmas, row_raws-items)
+
+pub raw_kind-Or : (v : Vec RawFormula Global) (p : Place) → raw_kind (Or v) p ≡ raw_or p (raw_forms_of v.items)
+raw_kind-Or v p = search (rules, the_lemmas, row_raws-items)
+
+raws_of-append : (fs gs : List RawFormula) → raw_forms_of (fs ++ gs) ≡ joined_raws (raw_forms_of fs) (raw_forms_of gs)
+unfolding joined_raws
+raws_of-append [] gs = refl
+raws_of-append (f ∷ fs) gs = ap (raw (raw_form_of f)) (raws_of-append fs gs)
+
+one_more : (fs : List RawFormula) (i : ℕ) (f : RawFormula) → i < length fs → f ≡ get_or fs i f → raw_forms_of (take (i + 1) fs) ≡ joined_raws (raw_forms_of (take i fs)) (raw (raw_form_of f) no_raws)
+one_more fs i f lt is = ap raw_forms_of (take_more fs i f lt ∙ ap (λ x. take i fs ++ x ∷ []) (sym is)) ∙ raws_of-append (take i fs) (f ∷ [])
+
+pub raws-step : (fs gs hs : List RawFormula) (i : ℕ) (f g : RawFormula) → i < length fs → f ≡ get_or fs i f → hs ≡ gs ++ g ∷ [] → raw_forms_of gs ≡ raw_forms_of (take i fs) → raw_form_of g ≡ raw_form_of f → raw_forms_of hs ≡ raw_forms_of (take (i + 1) fs)
+raws-step fs gs hs i f g lt is e h k = ap raw_forms_of e ∙ raws_of-append gs (g ∷ []) ∙ (rw (h, k) (sym (one_more fs i f lt is)))
+
+pub raw_and_copy : (f : RawFormula) (v w : Vec RawFormula Global) → f.kind ≡ And v → raw_forms_of w.items ≡ raw_forms_of v.items → raw_kind (And w) f.place ≡ raw_form_of f
+raw_and_copy f v w e h = raw_kind-And w f.place ∙ ap (raw_and f.place) h ∙ sym (ap (λ k. raw_kind k f.place) e ∙ raw_kind-And v f.place)
+
+pub raw_or_copy : (f : RawFormula) (v w : Vec RawFormula Global) → f.kind ≡ Or v → raw_forms_of w.items ≡ raw_forms_of v.items → raw_kind (Or w) f.place ≡ raw_form_of f
+raw_or_copy f v w e h = raw_kind-Or w f.place ∙ ap (raw_or f.place) h ∙ sym (ap (λ k. raw_kind k f.place) e ∙ raw_kind-Or v f.place)
