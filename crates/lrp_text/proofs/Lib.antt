@@ -10,3 +10,6 @@ pub mod Tests
 pub mod ColumnRule
 pub mod Runs
 pub mod Scans
+pub mod Cuts
+pub mod Following
+pub mod Founds

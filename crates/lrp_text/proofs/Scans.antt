@@ -1,11 +1,11 @@
 -- What a scanned token takes: the bytes before those left, on one line, up to a place where a text may be cut.
-use Rattle.std.proofs.Common.{◌≡◌, ◌<◌, ◌≤◌, ◌+◌, ◌⊎◌, inl, inr, ℕ, Bool, true, false, ◌||◌, ◌==◌, List, [], ◌∷◌, ◌++◌, refl, ap, ◌∙◌, sym, subst, if◌then◌else◌, length, get_or, Result, Ok, Err, arith, append_assoc}
+use Rattle.std.proofs.Common.{◌≡◌, ◌<◌, ◌≤◌, ◌+◌, ◌⊎◌, inl, inr, ℕ, Bool, true, false, ◌||◌, ◌==◌, List, [], ◌∷◌, ◌++◌, refl, ap, ◌∙◌, sym, subst, if◌then◌else◌, length, get_or, Result, Ok, Err, arith, append_assoc, append-nil}
 use Rattle.std.proofs.lemmas.Bool.{eqb-true}
 use Rattle.std.proofs.lemmas.Bool.Decides.{nat_tests}
 use Rattle.std.proofs.lemmas.List.{length-append}
 use Rattle.std.proofs.Math.Seq.{get_or-append_seam}
 use Rattle.std.specs.Str.{IsUtf8, IsCharBoundary}
-use Rattle.std.proofs.lemmas.Str.{IsCharBoundary-after_ascii}
+use Rattle.std.proofs.lemmas.Str.{IsCharBoundary-after_ascii, IsCharBoundary-before_ascii, IsCharBoundary-end}
 use Rattle.lrp_model.specs.declared.tokens.Place.{Place}
 use Rattle.lrp_model.specs.declared.tokens.Symbol.{Symbol}
 use Rattle.lrp_model.specs.declared.tokens.Symbol.TheVariants.{Open, Close, OpenBrace, CloseBrace, Comma, Colon, Semicolon, Bar, Plus, Minus, Le, Ge, Lt, Gt, Equals}
@@ -59,6 +59,21 @@ ends_boundary xs ys u k =
     let all : length (xs ++ ys) ≡ length xs + length ys = length-append xs ys in
     subst (IsCharBoundary (xs ++ ys)) (sym size) (IsCharBoundary-after_ascii (xs ++ ys) (length k.0) u (omega arith) (omega (arith, here, k.3)))
 
+-- bytes that end, or go on with one of ASCII
+abbrev pub GoesPlain : List ℕ → Type 0
+GoesPlain bs = (bs ≡ []) ⊎ ((b : ℕ) × (rest : List ℕ) × (bs ≡ b ∷ rest) × (b < 128))
+
+-- before such bytes a text may be cut
+pub goes_boundary : (xs ys : List ℕ) → GoesPlain ys → IsCharBoundary (xs ++ ys) (length xs)
+goes_boundary xs ys (inl n) =
+    let size : length (xs ++ ys) ≡ length xs = ap (λ x. length (xs ++ x)) n ∙ ap length (append-nil xs) in
+    subst (IsCharBoundary (xs ++ ys)) size (IsCharBoundary-end (xs ++ ys))
+goes_boundary xs ys (inr k) =
+    let whole : xs ++ ys ≡ xs ++ k.0 ∷ k.1 = ap (λ x. xs ++ x) k.2 in
+    let here : get_or (xs ++ ys) (length xs) 0 ≡ k.0 = ap (λ x. get_or x (length xs) 0) whole ∙ get_or-append_seam xs k.0 k.1 0 in
+    let all : length (xs ++ ys) ≡ length xs + length (k.0 ∷ k.1) = ap length whole ∙ length-append xs (k.0 ∷ k.1) in
+    IsCharBoundary-before_ascii (xs ++ ys) (length xs) (omega arith) (omega (arith, here, k.3))
+
 -- such bytes are some
 pub ends_some : (xs : List ℕ) → EndsPlain xs → 0 < length xs
 ends_some xs k =
@@ -85,11 +100,15 @@ run_some : (test : ℕ → Bool) (b : ℕ) (bs : List ℕ) → test b ≡ true �
 unfolding run
 run_some test b bs e n = let m : b ∷ run test bs ≡ [] = sym (ap (λ c. if c then b ∷ run test bs else []) e) ∙ n in absurd cc
 
+-- what is taken up to a bad byte: nothing, or bytes up to one of ASCII or the end
+abbrev pub StopsPlain : List ℕ → List ℕ → Type 0
+StopsPlain taken left = (taken ≡ []) ⊎ GoesPlain left
+
 -- what a scanned token takes of the bytes; all but a bad byte and the end take some, up to a place where a text may be cut
 pub record IsTaken (bs : List ℕ) (s : Scanned) : Type 0 where
   pub whole : s.taken ++ s.left ≡ bs
   pub line : OneLine s.taken
-  pub ends : (s.token ≡ bad_token) ⊎ ((s.token ≡ end_token) ⊎ EndsPlain s.taken)
+  pub ends : ((s.token ≡ bad_token) × StopsPlain s.taken s.left) ⊎ (((s.token ≡ end_token) × (s.taken ≡ [])) ⊎ EndsPlain s.taken)
 
 -- a token that is a run
 run_taken_so : (test : ℕ → Bool) (k : Token) (b : ℕ) (bs : List ℕ) → ((x : ℕ) → test x ≡ true → (x == 10) ≡ false) → ((x : ℕ) → test x ≡ true → x < 128) → test b ≡ true → IsTaken (b ∷ bs) (record { token = k; taken = run test (b ∷ bs); left = behind_run test (b ∷ bs) })
@@ -102,17 +121,21 @@ run_taken_so test k b bs plain small e = record {
 -- what a text takes
 abbrev TextTaken : List ℕ → Result TextRead Scanned → Type 0
 TextTaken bs (Ok t) = (t.taken ++ t.left ≡ bs) × OneLine t.taken × EndsPlain t.taken
-TextTaken bs (Err s) = (s.taken ++ s.left ≡ bs) × OneLine s.taken
+TextTaken bs (Err s) = (s.taken ++ s.left ≡ bs) × OneLine s.taken × GoesPlain s.left
 
 -- one more byte of a text, which means itself
 text_longer : (b : ℕ) (bs : List ℕ) (r : Result TextRead Scanned) → (b == 10) ≡ false → TextTaken bs r → TextTaken (b ∷ bs) (longer b b r)
 text_longer b bs (Ok t) e k = (ap (λ x. b ∷ x) k.0, (e, k.1), ends_more b t.taken k.2)
-text_longer b bs (Err s) e k = (ap (λ x. b ∷ x) k.0, (e, k.1))
+text_longer b bs (Err s) e k = (ap (λ x. b ∷ x) k.0, (e, k.1), k.2)
 
 -- one more byte of a text, which means nothing
 text_more : (b : ℕ) (bs : List ℕ) (r : Result TextRead Scanned) → (b == 10) ≡ false → TextTaken bs r → TextTaken (b ∷ bs) (more_taken b r)
 text_more b bs (Ok t) e k = (ap (λ x. b ∷ x) k.0, (e, k.1), ends_more b t.taken k.2)
-text_more b bs (Err s) e k = (ap (λ x. b ∷ x) k.0, (e, k.1))
+text_more b bs (Err s) e k = (ap (λ x. b ∷ x) k.0, (e, k.1), k.2)
+
+-- a forbidden byte is one of ASCII
+forbidden_small : (b : ℕ) → is_forbidden b ≡ true → b < 128
+forbidden_small b e = grind (arith, nat_tests)
 
 -- the bytes from the backslash on, where there was one
 abbrev from_slash : Bool → List ℕ → List ℕ
@@ -122,25 +145,25 @@ from_slash false bs = bs
 -- what the bytes behind an opening quote take
 text_taken : (slash : Bool) (bs : List ℕ) → TextTaken (from_slash slash bs) (text_from slash bs)
 unfolding text_from
-text_taken true [] = (refl, tt)
+text_taken true [] = (refl, tt, inr (92, [], refl, omega arith))
 text_taken true (b ∷ bs) =
     chosen (TextTaken (92 ∷ b ∷ bs)) ((b == 34) || (b == 92)) (more_taken 92 (longer b b (text_from false bs))) (bad_at (92 ∷ b ∷ bs))
     (λ e. text_more 92 (b ∷ bs) (longer b b (text_from false bs)) refl (text_longer b bs (text_from false bs) (no_feed (λ x. (x == 34) || (x == 92)) b true false e refl (λ h. absurd cc)) (text_taken false bs)))
-    (λ e. (refl, tt))
-text_taken false [] = (refl, tt)
+    (λ e. (refl, tt, inr (92, b ∷ bs, refl, omega arith)))
+text_taken false [] = (refl, tt, inl refl)
 text_taken false (b ∷ bs) =
     chosen (TextTaken (b ∷ bs)) (b == 34) (Ok (record { meant = []; taken = b ∷ []; left = bs })) _
     (λ e. let quote : b ≡ 34 = eqb-true b 34 e in (refl, (no_feed (λ x. x == 34) b true false e refl (λ h. absurd cc), tt), ([], b, refl, omega arith)))
     (λ n. chosen (TextTaken (b ∷ bs)) (b == 92) (text_from true bs) _
     (λ e. subst (λ x. TextTaken (x ∷ bs) (text_from true bs)) (sym (eqb-true b 92 e)) (text_taken true bs))
     (λ m. chosen (TextTaken (b ∷ bs)) (is_forbidden b) (bad_at (b ∷ bs)) (longer b b (text_from false bs))
-    (λ e. (refl, tt))
+    (λ e. (refl, tt, inr (b, bs, refl, forbidden_small b e)))
     (λ e. text_longer b bs (text_from false bs) (no_feed is_forbidden b false true e refl (λ h. absurd cc)) (text_taken false bs))))
 
 -- what a text takes with its opening quote
 quoted_taken : (bs : List ℕ) (r : Result TextRead Scanned) → TextTaken bs r → IsTaken (34 ∷ bs) (text_scanned r)
 quoted_taken bs (Ok t) k = record { whole = ap (λ x. 34 ∷ x) k.0; line = (refl, k.1); ends = inr (inr (ends_more 34 t.taken k.2)) }
-quoted_taken bs (Err s) k = record { whole = ap (λ x. 34 ∷ x) k.0; line = (refl, k.1); ends = inl refl }
+quoted_taken bs (Err s) k = record { whole = ap (λ x. 34 ∷ x) k.0; line = (refl, k.1); ends = inl (refl, inr k.2) }
 
 -- what a symbol of one byte takes
 one_taken : (s : Symbol) (v b : ℕ) (bs : List ℕ) → (v == 10) ≡ false → v < 128 → (b == v) ≡ true → IsTaken (b ∷ bs) (one s b bs)
@@ -175,7 +198,7 @@ symbol_taken b bs =
     chosen P (b == 61) _ _ (one_taken Equals 61 b bs refl (omega arith)) (λ n11.
     chosen P (b == 60) _ _ (two_taken Lt Le 60 b bs refl (omega arith)) (λ n12.
     chosen P (b == 62) _ _ (two_taken Gt Ge 62 b bs refl (omega arith)) (λ n13.
-    record { whole = refl; line = tt; ends = inl refl })))))))))))))
+    record { whole = refl; line = tt; ends = inl (refl, inl refl) })))))))))))))
 
 -- a byte of a name is one of ASCII
 name_small : (b : ℕ) → is_name_byte b ≡ true → b < 128
@@ -188,7 +211,7 @@ digit_small b e = grind (arith, nat_tests)
 -- what the token takes that bytes begin with
 pub scan_taken : (bs : List ℕ) → IsTaken bs (scan bs)
 unfolding scan
-scan_taken [] = record { whole = refl; line = tt; ends = inr (inl refl) }
+scan_taken [] = record { whole = refl; line = tt; ends = inr (inl (refl, refl)) }
 scan_taken (b ∷ bs) =
     let P : Scanned → Type 0 = IsTaken (b ∷ bs) in
     chosen P (is_letter b) _ _

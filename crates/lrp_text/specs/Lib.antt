@@ -2,3 +2,4 @@ pub mod Parsers
 pub mod Taking
 pub mod ColumnRule
 pub mod Lexemes
+pub mod Sources

@@ -3,6 +3,7 @@
 
 mod bytes;
 mod lexemes;
+mod lexer;
 mod scanning;
 
-pub use scanning::scan;
+pub use lexer::Lexer;

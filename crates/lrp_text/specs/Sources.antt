@@ -1,0 +1,30 @@
+-- What stands next in a source, and the tokens that are left of it.
+use Rattle.std.specs.Prelude.{◌≡◌, ◌≤◌, ◌<◌, ℕ, suc, false, List, [], ◌∷◌, ◌++◌, length}
+use Rattle.lrp_model.specs.declared.tokens.Place.{Place}
+use Rattle.lrp_model.specs.Tokens.{Token, Tokens}
+use Rattle.lrp_model.specs.Tokens.Token.{bad_token}
+use Rattle.lrp_model.specs.Lexing.{At, Scanned, after, skip, scan, tokens_from}
+use Rattle.lrp_text.specs.declared.lexemes.Lexeme.{Lexeme}
+use Rattle.lrp_text.specs.declared.lexemes.Lexeme.TheVariants.{Bad}
+use Rattle.lrp_text.specs.Lexemes.{IsSaid}
+
+-- behind the blanks and comments that come first
+abbrev pub next_at : At → At
+next_at s = skip false s.place s.bytes
+
+-- the token there, and the bytes that it takes
+abbrev pub next_of : At → Scanned
+next_of s = scan (next_at s).bytes
+
+-- behind that token
+abbrev pub behind_next : At → At
+behind_next s = record { place = after (next_at s).place (next_of s).taken; bytes = (next_of s).left }
+
+-- the tokens of the bytes that are left, the last one the end or a bad byte
+abbrev pub tokens_left : At → Tokens
+tokens_left s = tokens_from (suc (length s.bytes)) s.place s.bytes
+
+-- what stands next is this lexeme, with its slice and its place, and the source goes on behind it; at a bad byte it stays
+abbrev pub IsFound : At → Lexeme → List ℕ → Place → At → Type 0
+IsFound old Bad slice place new = ((next_of old).token ≡ bad_token) × (slice ≡ (next_of old).taken) × (place ≡ after (next_at old).place (next_of old).taken) × (new ≡ old)
+IsFound old l slice place new = IsSaid l slice (next_of old).token × (slice ≡ (next_of old).taken) × (place ≡ (next_at old).place) × (new ≡ behind_next old)
