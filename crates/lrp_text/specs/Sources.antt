@@ -1,5 +1,6 @@
 -- What stands next in a source, and the tokens that are left of it.
-use Rattle.std.specs.Prelude.{◌≡◌, ◌≤◌, ◌<◌, ℕ, suc, false, List, [], ◌∷◌, ◌++◌, length}
+use Rattle.std.specs.Prelude.{◌≡◌, ◌<◌, ◌+◌, ◌^◌, ℕ, suc, false, List, [], ◌∷◌, ◌++◌, length}
+use Rattle.lrp_text.specs.declared.sources.Source.{Source}
 use Rattle.lrp_model.specs.declared.tokens.Place.{Place}
 use Rattle.lrp_model.specs.Tokens.{Token, Tokens}
 use Rattle.lrp_model.specs.Tokens.Token.{bad_token}
@@ -7,6 +8,15 @@ use Rattle.lrp_model.specs.Lexing.{At, Scanned, after, skip, scan, tokens_from}
 use Rattle.lrp_text.specs.declared.lexemes.Lexeme.{Lexeme}
 use Rattle.lrp_text.specs.declared.lexemes.Lexeme.TheVariants.{Bad}
 use Rattle.lrp_text.specs.Lexemes.{IsSaid}
+
+-- where a source stands
+abbrev pub at_of : Source → At
+at_of s = record { place = s.place; bytes = s.rest.now }
+
+-- every place up to the end of what is left is below 2 ^ 32
+pub record IsInRange (s : At) : Type 0 where
+  pub line : s.place.line + length s.bytes < 2 ^ 32
+  pub column : s.place.column + length s.bytes < 2 ^ 32
 
 -- behind the blanks and comments that come first
 abbrev pub next_at : At → At

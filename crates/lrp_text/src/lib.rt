@@ -5,5 +5,6 @@ mod bytes;
 mod lexemes;
 mod lexer;
 mod scanning;
+mod sources;
 
 pub use lexer::Lexer;
