@@ -13,3 +13,5 @@ pub mod Scans
 pub mod Cuts
 pub mod Following
 pub mod Founds
+pub mod Alone
+pub mod Standing

@@ -3,9 +3,10 @@ use Rattle.std.specs.Prelude.{◌≡◌, ◌<◌, ◌+◌, ◌^◌, ℕ, suc, fa
 use Rattle.lrp_text.specs.declared.sources.Source.{Source}
 use Rattle.lrp_model.specs.declared.tokens.Place.{Place}
 use Rattle.lrp_model.specs.Tokens.{Token, Tokens}
-use Rattle.lrp_model.specs.Tokens.Token.{bad_token}
+use Rattle.lrp_model.specs.Tokens.Token.{text_token, end_token, bad_token}
 use Rattle.lrp_model.specs.Lexing.{At, Scanned, after, skip, scan, tokens_from}
 use Rattle.lrp_text.specs.declared.lexemes.Lexeme.{Lexeme}
+use Rattle.lrp_text.specs.declared.lexemes.Found.{Found}
 use Rattle.lrp_text.specs.declared.lexemes.Lexeme.TheVariants.{Bad}
 use Rattle.lrp_text.specs.Lexemes.{IsSaid}
 
@@ -38,3 +39,27 @@ tokens_left s = tokens_from (suc (length s.bytes)) s.place s.bytes
 abbrev pub IsFound : At → Lexeme → List ℕ → Place → At → Type 0
 IsFound old Bad slice place new = ((next_of old).token ≡ bad_token) × (slice ≡ (next_of old).taken) × (place ≡ after (next_at old).place (next_of old).taken) × (new ≡ old)
 IsFound old l slice place new = IsSaid l slice (next_of old).token × (slice ≡ (next_of old).taken) × (place ≡ (next_at old).place) × (new ≡ behind_next old)
+
+-- the next token is what a lexeme says, at its place; where it is a text, the slice by itself is that text
+pub record Stands (ts : Tokens) (l : Lexeme) (slice : List ℕ) (place : Place) : Type 0 where
+  pub token : Token
+  pub left : Tokens
+  pub whole : ts ≡ record { token = token; place = place } ∷ left
+  pub said : IsSaid l slice token
+  pub text : (t : List ℕ) → token ≡ text_token t → (scan slice).token ≡ text_token t
+
+-- others follow this token
+abbrev pub GoesOn : Token → Type 0
+GoesOn end_token = ⊥
+GoesOn bad_token = ⊥
+GoesOn _ = Unit {0}
+
+-- the next token is one that others follow
+abbrev pub Goes : Tokens → Type 0
+Goes [] = ⊥
+Goes (t ∷ ts) = GoesOn t.token
+
+-- a cursor: what stands next where it is, and the source behind that
+pub record IsReady (here : Source) (found : Found) (behind : Source) : Type 0 where
+  pub next : IsFound (at_of here) found.lexeme found.slice.now found.place (at_of behind)
+  pub range : IsInRange (at_of behind)

@@ -2,9 +2,11 @@
 #![tactic(auto)]
 
 mod bytes;
+mod cursor;
 mod lexemes;
 mod lexer;
 mod scanning;
 mod sources;
 
+pub use cursor::Cursor;
 pub use lexer::Lexer;

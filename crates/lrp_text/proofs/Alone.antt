@@ -1,0 +1,109 @@
+-- The slice of a text, by itself, is that text.
+use Rattle.std.proofs.Common.{◌≡◌, ℕ, Bool, true, false, ◌||◌, ◌==◌, List, [], ◌∷◌, ◌++◌, refl, ap, ◌∙◌, sym, subst, if◌then◌else◌, Result, Ok, Err, codes}
+use Rattle.std.proofs.lemmas.Bool.{eqb-true}
+use Rattle.std.specs.Str.{bytes_eq}
+use Rattle.lrp_model.specs.declared.tokens.Symbol.{Symbol}
+use Rattle.lrp_model.specs.declared.tokens.Symbol.TheVariants.{Open, Close, OpenBrace, CloseBrace, Comma, Colon, Semicolon, Bar, Plus, Minus, Le, Ge, Lt, Gt, Equals}
+use Rattle.lrp_model.specs.Tokens.{Token}
+use Rattle.lrp_model.specs.Tokens.Token.{text_token, number_token}
+use Rattle.lrp_model.specs.Lexing.{is_letter, is_digit, is_name_byte, is_forbidden, run, behind_run, value_from, word_or_name, Scanned, Text as TextRead, longer, more_taken, bad_at, text_from, text_scanned, one, one_or_two, symbol_from, scan}
+use Rattle.lrp_text.proofs.Scans.{chosen}
+
+-- the same text with nothing behind it
+abbrev whole : TextRead → Result TextRead Scanned
+whole t = Ok (record { meant = t.meant; taken = t.taken; left = [] })
+
+-- what a text takes is that text, also from its backslash on
+abbrev IsAlone : Bool → Result TextRead Scanned → Type 0
+IsAlone false (Ok t) = text_from false t.taken ≡ whole t
+IsAlone true (Ok t) = (us : List ℕ) × (t.taken ≡ 92 ∷ us) × (text_from true us ≡ whole t)
+IsAlone _ (Err s) = Unit {0}
+
+-- an escape in front
+alone_escape : (b : ℕ) (r : Result TextRead Scanned) → ((b == 34) || (b == 92)) ≡ true → IsAlone false r → IsAlone true (more_taken 92 (longer b b r))
+unfolding text_from
+alone_escape b (Ok t) e k = (b ∷ t.taken, refl, rw (e, k) refl)
+alone_escape b (Err s) e k = tt
+
+-- a plain byte in front
+alone_plain : (b : ℕ) (r : Result TextRead Scanned) → (b == 34) ≡ false → (b == 92) ≡ false → is_forbidden b ≡ false → IsAlone false r → IsAlone false (longer b b r)
+unfolding text_from
+alone_plain b (Ok t) n m e k = rw (n, m, e, k) refl
+alone_plain b (Err s) n m e k = tt
+
+-- from the backslash on, or whole
+alone_slash : (r : Result TextRead Scanned) → IsAlone true r → IsAlone false r
+unfolding text_from
+alone_slash (Ok t) k = ap (text_from false) k.1 ∙ k.2
+alone_slash (Err s) k = tt
+
+-- the closing quote
+alone_quote : (b : ℕ) → (b == 34) ≡ true → text_from false (b ∷ []) ≡ Ok (record { meant = []; taken = b ∷ []; left = [] })
+unfolding text_from
+alone_quote b e = rw e refl
+
+-- what the bytes behind an opening quote take is a text by itself
+text_alone : (slash : Bool) (bs : List ℕ) → IsAlone slash (text_from slash bs)
+unfolding text_from
+text_alone true [] = tt
+text_alone true (b ∷ bs) = chosen (IsAlone true) ((b == 34) || (b == 92)) (more_taken 92 (longer b b (text_from false bs))) (bad_at (92 ∷ b ∷ bs)) (λ e. alone_escape b (text_from false bs) e (text_alone false bs)) (λ e. tt)
+text_alone false [] = tt
+text_alone false (b ∷ bs) =
+    chosen (IsAlone false) (b == 34) (Ok (record { meant = []; taken = b ∷ []; left = bs })) _ (alone_quote b)
+    (λ n. chosen (IsAlone false) (b == 92) (text_from true bs) _ (λ e. alone_slash (text_from true bs) (text_alone true bs))
+    (λ m. chosen (IsAlone false) (is_forbidden b) (bad_at (b ∷ bs)) (longer b b (text_from false bs)) (λ e. tt)
+    (λ e. alone_plain b (text_from false bs) n m e (text_alone false bs))))
+
+-- a token that is no text
+abbrev NoText : Token → Type 0
+NoText (text_token t) = ⊥
+NoText _ = Unit {0}
+
+-- a text where a token is one, by itself
+abbrev SameText : Scanned → Type 0
+SameText s = (t : List ℕ) → s.token ≡ text_token t → (scan s.taken).token ≡ text_token t
+
+-- no text is the same
+none_same : (s : Scanned) → NoText s.token → SameText s
+none_same s n t e = absurd (subst NoText e n)
+
+-- a name or a word is no text
+word_no_text : (n : List ℕ) → NoText (word_or_name n)
+unfolding word_or_name
+word_no_text n =
+    chosen NoText (bytes_eq n (codes "relation")) _ _ (λ e. tt) (λ e. chosen NoText (bytes_eq n (codes "where")) _ _ (λ e. tt) (λ e. chosen NoText (bytes_eq n (codes "time")) _ _ (λ e. tt) (λ e.
+    chosen NoText (bytes_eq n (codes "data")) _ _ (λ e. tt) (λ e. chosen NoText (bytes_eq n (codes "n")) _ _ (λ e. tt) (λ e. chosen NoText (bytes_eq n (codes "exists")) _ _ (λ e. tt) (λ e.
+    chosen NoText (bytes_eq n (codes "forall")) _ _ (λ e. tt) (λ e. chosen NoText (bytes_eq n (codes "not")) _ _ (λ e. tt) (λ e. chosen NoText (bytes_eq n (codes "and")) _ _ (λ e. tt) (λ e.
+    chosen NoText (bytes_eq n (codes "or")) _ _ (λ e. tt) (λ e. chosen NoText (bytes_eq n (codes "implies")) _ _ (λ e. tt) (λ e. chosen NoText (bytes_eq n (codes "in")) _ _ (λ e. tt) (λ e. tt))))))))))))
+
+-- a symbol of one byte or two is no text
+two_no_text : (s r : Symbol) (b : ℕ) (bs : List ℕ) → NoText (one_or_two s r b bs).token
+two_no_text s r b [] = tt
+two_no_text s r b (c ∷ bs) = chosen (λ x. NoText x.token) (c == 61) _ (one s b (c ∷ bs)) (λ e. tt) (λ e. tt)
+
+-- a symbol is no text
+symbol_no_text : (b : ℕ) (bs : List ℕ) → NoText (symbol_from b bs).token
+unfolding symbol_from
+symbol_no_text b bs =
+    let P : Scanned → Type 0 = λ s. NoText s.token in
+    chosen P (b == 40) (one Open b bs) _ (λ e. tt) (λ e. chosen P (b == 41) (one Close b bs) _ (λ e. tt) (λ e. chosen P (b == 123) (one OpenBrace b bs) _ (λ e. tt) (λ e.
+    chosen P (b == 125) (one CloseBrace b bs) _ (λ e. tt) (λ e. chosen P (b == 44) (one Comma b bs) _ (λ e. tt) (λ e. chosen P (b == 58) (one Colon b bs) _ (λ e. tt) (λ e.
+    chosen P (b == 59) (one Semicolon b bs) _ (λ e. tt) (λ e. chosen P (b == 124) (one Bar b bs) _ (λ e. tt) (λ e. chosen P (b == 43) (one Plus b bs) _ (λ e. tt) (λ e.
+    chosen P (b == 45) (one Minus b bs) _ (λ e. tt) (λ e. chosen P (b == 61) (one Equals b bs) _ (λ e. tt) (λ e. chosen P (b == 60) _ _ (λ e. two_no_text Lt Le b bs) (λ e.
+    chosen P (b == 62) _ _ (λ e. two_no_text Gt Ge b bs) (λ e. tt)))))))))))))
+
+-- a text with its quotes
+quoted_same : (r : Result TextRead Scanned) → IsAlone false r → SameText (text_scanned r)
+unfolding scan
+quoted_same (Ok u) k t e = ap (λ x. (text_scanned x).token) k ∙ e
+quoted_same (Err s) k t e = absurd cc
+
+-- the slice of a text token is, by itself, that text
+pub scan_alone : (bs : List ℕ) → SameText (scan bs)
+unfolding scan
+scan_alone [] = λ t e. absurd cc
+scan_alone (b ∷ bs) =
+    chosen SameText (is_letter b) _ _ (λ e. none_same (record { token = word_or_name (run is_name_byte (b ∷ bs)); taken = run is_name_byte (b ∷ bs); left = behind_run is_name_byte (b ∷ bs) }) (word_no_text (run is_name_byte (b ∷ bs))))
+    (λ n. chosen SameText (is_digit b) _ _ (λ e. none_same (record { token = number_token (value_from 0 (run is_digit (b ∷ bs))); taken = run is_digit (b ∷ bs); left = behind_run is_digit (b ∷ bs) }) tt)
+    (λ m. chosen SameText (b == 34) (text_scanned (text_from false bs)) (symbol_from b bs) (λ e. quoted_same (text_from false bs) (text_alone false bs))
+    (λ o. none_same (symbol_from b bs) (symbol_no_text b bs))))
