@@ -55,7 +55,7 @@ text_alone false (b ∷ bs) =
     (λ e. alone_plain b (text_from false bs) n m e (text_alone false bs))))
 
 -- a token that is no text
-abbrev NoText : Token → Type 0
+abbrev pub NoText : Token → Type 0
 NoText (text_token t) = ⊥
 NoText _ = Unit {0}
 
@@ -68,7 +68,7 @@ none_same : (s : Scanned) → NoText s.token → SameText s
 none_same s n t e = absurd (subst NoText e n)
 
 -- a name or a word is no text
-word_no_text : (n : List ℕ) → NoText (word_or_name n)
+pub word_no_text : (n : List ℕ) → NoText (word_or_name n)
 unfolding word_or_name
 word_no_text n =
     chosen NoText (bytes_eq n (codes "relation")) _ _ (λ e. tt) (λ e. chosen NoText (bytes_eq n (codes "where")) _ _ (λ e. tt) (λ e. chosen NoText (bytes_eq n (codes "time")) _ _ (λ e. tt) (λ e.
@@ -82,7 +82,7 @@ two_no_text s r b [] = tt
 two_no_text s r b (c ∷ bs) = chosen (λ x. NoText x.token) (c == 61) _ (one s b (c ∷ bs)) (λ e. tt) (λ e. tt)
 
 -- a symbol is no text
-symbol_no_text : (b : ℕ) (bs : List ℕ) → NoText (symbol_from b bs).token
+pub symbol_no_text : (b : ℕ) (bs : List ℕ) → NoText (symbol_from b bs).token
 unfolding symbol_from
 symbol_no_text b bs =
     let P : Scanned → Type 0 = λ s. NoText s.token in

@@ -15,3 +15,5 @@ pub mod Following
 pub mod Founds
 pub mod Alone
 pub mod Standing
+pub mod Looking
+pub mod Meanings

@@ -1,9 +1,14 @@
 -- What a slice of the source says, against the token that the bytes begin with.
-use Rattle.std.specs.Prelude.{◌≡◌, ◌≤◌, ◌<◌, ℕ, List, [], ◌∷◌, length, Result, Ok, Err, Option, Some, None, false, ◌++◌, ◌==◌, if◌then◌else◌}
+use Rattle.std.specs.Prelude.{◌≡◌, ◌≤◌, ◌<◌, ℕ, List, [], ◌∷◌, length, Result, Ok, Err, Option, Some, None, Bool, true, false, ◌++◌, ◌==◌, if◌then◌else◌}
 use Rattle.std.specs.Option.{option_map}
+use Rattle.lrp_model.specs.declared.tokens.Symbol.{Symbol as SymbolOf}
+use Rattle.lrp_model.specs.declared.tokens.Word.{Word as WordOf}
+use Rattle.lrp_model.specs.declared.tokens.Fault.{Fault}
+use Rattle.lrp_model.specs.declared.tokens.Fault.TheVariants.{Syntax, Period, Number as TooLarge}
 use Rattle.lrp_model.specs.Tokens.{Token}
 use Rattle.lrp_model.specs.Tokens.Token.{name_token, word_token, number_token, text_token, symbol_token, end_token, bad_token}
 use Rattle.lrp_model.specs.Lexing.{Scanned, Text as TextRead, word_or_name, text_from, limit}
+use Rattle.lrp_text.specs.Taking.{same_symbol, same_word}
 use Rattle.lrp_text.specs.declared.lexemes.Lexeme.{Lexeme}
 use Rattle.lrp_text.specs.declared.lexemes.Lexeme.TheVariants.{Name, Word, Number, LargeNumber, Text, LongText, Symbol, End, Bad}
 
@@ -52,3 +57,41 @@ behind_bytes front r = (option_map (λ t. front ++ t) r.0, r.1)
 abbrev pub ended : List ℕ → Option (List ℕ) × List ℕ
 ended [] = (None, [])
 ended (b ∷ bs) = if b == 34 then (Some [], bs) else (None, b ∷ bs)
+
+-- whether a lexeme is this symbol
+abbrev pub shows_symbol : SymbolOf → Lexeme → Bool
+shows_symbol s (Symbol k) = same_symbol k s
+shows_symbol s _ = false
+
+-- whether it is this reserved word
+abbrev pub shows_word : WordOf → Lexeme → Bool
+shows_word w (Word k) = same_word k w
+shows_word w _ = false
+
+-- whether it is a name
+abbrev pub shows_name : Lexeme → Bool
+shows_name Name = true
+shows_name _ = false
+
+-- whether it is a text
+abbrev pub shows_text : Lexeme → Bool
+shows_text Text = true
+shows_text LongText = true
+shows_text _ = false
+
+-- whether it is the end
+abbrev pub shows_end : Lexeme → Bool
+shows_end End = true
+shows_end _ = false
+
+-- the number that it is
+abbrev pub shown_number : Lexeme → Result ℕ Fault
+shown_number (Number n) = Ok n
+shown_number LargeNumber = Err TooLarge
+shown_number _ = Err Syntax
+
+-- the period that it is
+abbrev pub shown_period : Lexeme → Result ℕ Fault
+shown_period (Number n) = if n == 0 then Err Period else Ok n
+shown_period LargeNumber = Err TooLarge
+shown_period _ = Err Syntax

@@ -1,5 +1,8 @@
 // What a slice of the source says.
-use lrp_model::{Place, Symbol, Word};
+ghost use Rattle.std.specs.Prelude.{◌≡◌};
+ghost use Rattle.lrp_text.specs.Lexemes.{shows_symbol, shows_word, shows_name, shows_text, shows_end, shown_number, shown_period};
+
+use lrp_model::{Fault, Place, Symbol, Word};
 
 /// A token, as it is read: a number or a text that is lawful, or one that isn't, or a byte that begins no token.
 #[derive(Clone, Copy, Debug, PartialEq, Eq)]
@@ -21,4 +24,65 @@ pub struct Found<'a> {
     pub lexeme: Lexeme,
     pub slice: &'a str,
     pub place: Place,
+}
+
+impl Lexeme {
+    pub fn is_symbol(self, symbol: Symbol) -> bool
+        ensures { result ≡ shows_symbol symbol self }
+    {
+        match self {
+            Lexeme::Symbol(shown) => shown == symbol,
+            _ => false,
+        }
+    }
+
+    pub fn is_word(self, word: Word) -> bool
+        ensures { result ≡ shows_word word self }
+    {
+        match self {
+            Lexeme::Word(shown) => shown == word,
+            _ => false,
+        }
+    }
+
+    pub fn is_name(self) -> bool
+        ensures { result ≡ shows_name self }
+    {
+        matches!(self, Lexeme::Name)
+    }
+
+    pub fn is_text(self) -> bool
+        ensures { result ≡ shows_text self }
+    {
+        matches!(self, Lexeme::Text | Lexeme::LongText)
+    }
+
+    pub fn is_end(self) -> bool
+        ensures { result ≡ shows_end self }
+    {
+        matches!(self, Lexeme::End)
+    }
+
+    // The number that it is.
+    pub fn number(self) -> Result<u64, Fault>
+        ensures { result ≡ shown_number self }
+    {
+        match self {
+            Lexeme::Number(number) => Ok(number),
+            Lexeme::LargeNumber => Err(Fault::Number),
+            _ => Err(Fault::Syntax),
+        }
+    }
+
+    // The period that it is.
+    pub fn period(self) -> Result<u64, Fault>
+        ensures { result ≡ shown_period self }
+    {
+        match self {
+            Lexeme::Number(0) => Err(Fault::Period),
+            Lexeme::Number(number) => Ok(number),
+            Lexeme::LargeNumber => Err(Fault::Number),
+            _ => Err(Fault::Syntax),
+        }
+    }
 }

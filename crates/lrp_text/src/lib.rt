@@ -7,6 +7,8 @@ mod lexemes;
 mod lexer;
 mod scanning;
 mod sources;
+mod texts;
 
 pub use cursor::Cursor;
 pub use lexer::Lexer;
+pub use texts::text_of;

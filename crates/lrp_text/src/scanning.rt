@@ -87,7 +87,7 @@ fn limited_number(bytes: &[u8]) -> (Lexeme, &[u8])
 
 // The next byte of a text without its escape, and what stands behind it; none at a quote, and at what may not stand in a text.
 #[tactic(auto, unfolding(lrp_model::specs::Lexing::text_from))]
-fn character(bytes: &[u8]) -> Option<(u8, &[u8])>
+pub fn character(bytes: &[u8]) -> Option<(u8, &[u8])>
     ensures text { MatchOption result (text_read bytes.now ≡ ended bytes.now) (λ r. text_read bytes.now ≡ behind_bytes (r.0 ∷ []) (text_read r.1.now)) }
     ensures shorter { IfSome result (λ r. length r.1.now < length bytes.now) }
 {

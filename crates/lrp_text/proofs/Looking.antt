@@ -1,0 +1,227 @@
+-- What the next token is told by its lexeme, and what is read where it is taken.
+use Rattle.std.proofs.Common.{◌≡◌, ◌≢◌, ◌<◌, ◌≤◌, ℕ, Bool, true, false, List, [], ◌∷◌, refl, ap, ◌∙◌, sym, subst, Ok, Err, Result, nat_le, ◌==◌, if◌then◌else◌, length, arith}
+use Rattle.std.proofs.lemmas.Bool.{le-leb, leb-true, eqb-true}
+use Rattle.lrp_model.specs.declared.tokens.Symbol.{Symbol as SymbolOf}
+use Rattle.lrp_model.specs.declared.tokens.Word.{Word as WordOf}
+use Rattle.lrp_model.specs.declared.tokens.Place.{Place}
+use Rattle.lrp_model.specs.declared.tokens.Fault.{Fault}
+use Rattle.lrp_model.specs.declared.tokens.Fault.TheVariants.{Syntax, TextTooLong, Number as TooLarge, Period}
+use Rattle.lrp_model.specs.Tokens.{Token, Placed, Tokens}
+use Rattle.lrp_model.specs.Tokens.Token.{name_token, word_token, number_token, text_token, symbol_token, end_token, bad_token, hole_token}
+use Rattle.lrp_model.specs.Lexing.{limit, start}
+use Rattle.lrp_text.specs.Parsers.{Outcome, accept, taken, look, eat, eaten}
+use Rattle.lrp_text.specs.Taking.{is_symbol_token, is_word_token, is_name_token, is_text_token, is_end_token, required, name_of, number_of, limited, period_of, counted, text_of, short_enough, with_place, name, number, period, text}
+use Rattle.lrp_text.specs.declared.lexemes.Lexeme.{Lexeme}
+use Rattle.lrp_text.specs.declared.lexemes.Lexeme.TheVariants.{Name, Word, Number, LargeNumber, Text, LongText, Symbol, End, Bad}
+use Rattle.lrp_text.specs.Lexemes.{IsSaid, shows_symbol, shows_word, shows_name, shows_text, shows_end, shown_number, shown_period}
+use Rattle.lrp_text.specs.Sources.{Stands, GoesOn, Goes}
+
+-- a symbol is told by its lexeme
+symbol_said : (s : SymbolOf) (l : Lexeme) (slice : List ℕ) (k : Token) → IsSaid l slice k → is_symbol_token s k ≡ shows_symbol s l
+symbol_said s Name slice k e = ap (is_symbol_token s) e
+symbol_said s (Word w) slice k e = ap (is_symbol_token s) e
+symbol_said s (Number n) slice k e = ap (is_symbol_token s) e.0
+symbol_said s LargeNumber slice k e = ap (is_symbol_token s) e.1
+symbol_said s Text slice k e = ap (is_symbol_token s) e.1
+symbol_said s LongText slice k e = ap (is_symbol_token s) e.1
+symbol_said s (Symbol y) slice k e = ap (is_symbol_token s) e
+symbol_said s End slice k e = ap (is_symbol_token s) e
+symbol_said s Bad slice k e = ap (is_symbol_token s) e
+
+-- so is a reserved word
+word_said : (w : WordOf) (l : Lexeme) (slice : List ℕ) (k : Token) → IsSaid l slice k → is_word_token w k ≡ shows_word w l
+word_said w Name slice k e = ap (is_word_token w) e
+word_said w (Word v) slice k e = ap (is_word_token w) e
+word_said w (Number n) slice k e = ap (is_word_token w) e.0
+word_said w LargeNumber slice k e = ap (is_word_token w) e.1
+word_said w Text slice k e = ap (is_word_token w) e.1
+word_said w LongText slice k e = ap (is_word_token w) e.1
+word_said w (Symbol y) slice k e = ap (is_word_token w) e
+word_said w End slice k e = ap (is_word_token w) e
+word_said w Bad slice k e = ap (is_word_token w) e
+
+-- so is a name
+name_said : (l : Lexeme) (slice : List ℕ) (k : Token) → IsSaid l slice k → is_name_token k ≡ shows_name l
+name_said Name slice k e = ap is_name_token e
+name_said (Word v) slice k e = ap is_name_token e
+name_said (Number n) slice k e = ap is_name_token e.0
+name_said LargeNumber slice k e = ap is_name_token e.1
+name_said Text slice k e = ap is_name_token e.1
+name_said LongText slice k e = ap is_name_token e.1
+name_said (Symbol y) slice k e = ap is_name_token e
+name_said End slice k e = ap is_name_token e
+name_said Bad slice k e = ap is_name_token e
+
+-- so is a text
+text_said : (l : Lexeme) (slice : List ℕ) (k : Token) → IsSaid l slice k → is_text_token k ≡ shows_text l
+text_said Name slice k e = ap is_text_token e
+text_said (Word v) slice k e = ap is_text_token e
+text_said (Number n) slice k e = ap is_text_token e.0
+text_said LargeNumber slice k e = ap is_text_token e.1
+text_said Text slice k e = ap is_text_token e.1
+text_said LongText slice k e = ap is_text_token e.1
+text_said (Symbol y) slice k e = ap is_text_token e
+text_said End slice k e = ap is_text_token e
+text_said Bad slice k e = ap is_text_token e
+
+-- so is the end
+end_said : (l : Lexeme) (slice : List ℕ) (k : Token) → IsSaid l slice k → is_end_token k ≡ shows_end l
+end_said Name slice k e = ap is_end_token e
+end_said (Word v) slice k e = ap is_end_token e
+end_said (Number n) slice k e = ap is_end_token e.0
+end_said LargeNumber slice k e = ap is_end_token e.1
+end_said Text slice k e = ap is_end_token e.1
+end_said LongText slice k e = ap is_end_token e.1
+end_said (Symbol y) slice k e = ap is_end_token e
+end_said End slice k e = ap is_end_token e
+end_said Bad slice k e = ap is_end_token e
+
+-- a number that is found at most the limit or not
+above_at : (n : ℕ) (b : Bool) → nat_le n 4611686018427387904 ≡ b → limit < n → b ≡ false
+above_at n true e h = let k : n ≤ 4611686018427387904 = leb-true n 4611686018427387904 e in absurd (omega arith)
+above_at n false e h = refl
+
+-- a number above the limit
+above : (n : ℕ) → limit < n → nat_le n 4611686018427387904 ≡ false
+above n h = above_at n (nat_le n 4611686018427387904) refl h
+
+-- so is a number
+number_said : (l : Lexeme) (slice : List ℕ) (k : Token) → IsSaid l slice k → number_of k ≡ shown_number l
+number_said Name slice k e = ap number_of e
+number_said (Word v) slice k e = ap number_of e
+number_said (Number n) slice k e = ap number_of e.0 ∙ ap (limited n TooLarge) (le-leb n 4611686018427387904 e.1)
+number_said LargeNumber slice k e = ap number_of e.1 ∙ ap (limited e.0 TooLarge) (above e.0 e.2)
+number_said Text slice k e = ap number_of e.1
+number_said LongText slice k e = ap number_of e.1
+number_said (Symbol y) slice k e = ap number_of e
+number_said End slice k e = ap number_of e
+number_said Bad slice k e = ap number_of e
+
+-- a period within the limit, and one above it
+counted_low : (n : ℕ) (b : Bool) → n ≤ limit → counted n b ≡ (if b then Err Period else Ok n)
+counted_low n true h = refl
+counted_low n false h = ap (limited n TooLarge) (le-leb n 4611686018427387904 h)
+
+counted_high : (n : ℕ) (b : Bool) → (n == 0) ≡ b → limit < n → counted n b ≡ Err TooLarge
+counted_high n true e h = let z : n ≡ 0 = eqb-true n 0 e in absurd (omega arith)
+counted_high n false e h = ap (limited n TooLarge) (above n h)
+
+-- so is a period
+period_said : (l : Lexeme) (slice : List ℕ) (k : Token) → IsSaid l slice k → period_of k ≡ shown_period l
+period_said Name slice k e = ap period_of e
+period_said (Word v) slice k e = ap period_of e
+period_said (Number n) slice k e = ap period_of e.0 ∙ counted_low n (n == 0) e.1
+period_said LargeNumber slice k e = ap period_of e.1 ∙ counted_high e.0 (e.0 == 0) refl e.2
+period_said Text slice k e = ap period_of e.1
+period_said LongText slice k e = ap period_of e.1
+period_said (Symbol y) slice k e = ap period_of e
+period_said End slice k e = ap period_of e
+period_said Bad slice k e = ap period_of e
+
+-- what is seen of the next token is what a test says of it
+look_at : {A : Type 0} (none : A) (test : Token → A) (ts : Tokens) (l : Lexeme) (slice : List ℕ) (place : Place) (st : Stands ts l slice place) (a : A) → test st.token ≡ a → look none (λ t. test t.token) ts ≡ Ok (a, ts)
+unfolding look
+look_at none test ts l slice place st a e = ap (look none (λ t. test t.token)) st.whole ∙ ap (λ x. Ok (test st.token, x)) (sym st.whole) ∙ ap (λ x. Ok (x, ts)) e
+
+pub look_symbol : (s : SymbolOf) (ts : Tokens) (l : Lexeme) (slice : List ℕ) (place : Place) → Stands ts l slice place → look false (λ t. is_symbol_token s t.token) ts ≡ Ok (shows_symbol s l, ts)
+look_symbol s ts l slice place st = look_at false (is_symbol_token s) ts l slice place st (shows_symbol s l) (symbol_said s l slice st.token st.said)
+
+pub look_word : (w : WordOf) (ts : Tokens) (l : Lexeme) (slice : List ℕ) (place : Place) → Stands ts l slice place → look false (λ t. is_word_token w t.token) ts ≡ Ok (shows_word w l, ts)
+look_word w ts l slice place st = look_at false (is_word_token w) ts l slice place st (shows_word w l) (word_said w l slice st.token st.said)
+
+pub look_name : (ts : Tokens) (l : Lexeme) (slice : List ℕ) (place : Place) → Stands ts l slice place → look false (λ t. is_name_token t.token) ts ≡ Ok (shows_name l, ts)
+look_name ts l slice place st = look_at false is_name_token ts l slice place st (shows_name l) (name_said l slice st.token st.said)
+
+pub look_text : (ts : Tokens) (l : Lexeme) (slice : List ℕ) (place : Place) → Stands ts l slice place → look false (λ t. is_text_token t.token) ts ≡ Ok (shows_text l, ts)
+look_text ts l slice place st = look_at false is_text_token ts l slice place st (shows_text l) (text_said l slice st.token st.said)
+
+pub look_end : (ts : Tokens) (l : Lexeme) (slice : List ℕ) (place : Place) → Stands ts l slice place → look false (λ t. is_end_token t.token) ts ≡ Ok (shows_end l, ts)
+look_end ts l slice place st = look_at false is_end_token ts l slice place st (shows_end l) (end_said l slice st.token st.said)
+
+-- the place of the next token
+pub look_place : (ts : Tokens) (l : Lexeme) (slice : List ℕ) (place : Place) → Stands ts l slice place → look start (λ t. t.place) ts ≡ Ok (place, ts)
+unfolding look
+look_place ts l slice place st = ap (look start (λ t. t.place)) st.whole ∙ ap (λ x. Ok (place, x)) (sym st.whole)
+
+-- a token of a test goes on, where the end and a bad byte are none of it
+goes_on : (test : Token → Bool) (k : Token) → test end_token ≡ false → test bad_token ≡ false → test k ≡ true → GoesOn k
+goes_on test (name_token n) e b h = tt
+goes_on test (word_token w) e b h = tt
+goes_on test (number_token n) e b h = tt
+goes_on test (text_token t) e b h = tt
+goes_on test (symbol_token y) e b h = tt
+goes_on test hole_token e b h = tt
+goes_on test end_token e b h = absurd cc
+goes_on test bad_token e b h = absurd cc
+
+-- what is seen goes on
+pub goes_seen : (test : Token → Bool) (ts us : Tokens) (r : Bool) → test end_token ≡ false → test bad_token ≡ false → look false (λ t. test t.token) ts ≡ Ok (r, us) → r ≡ true → Goes ts
+unfolding look
+goes_seen test [] us r e b h is =
+    let p : ◌≡◌ {A = Bool × Tokens} (false, []) (r, us) = cc in
+    let q : false ≡ true = ap (λ x. x.0) p ∙ is in
+    absurd cc
+goes_seen test (t ∷ ts) us r e b h is = 
+    let p : ◌≡◌ {A = Bool × Tokens} (test t.token, t ∷ ts) (r, us) = cc in
+    let k : test t.token ≡ r = ap (λ x. x.0) p in
+    goes_on test t.token e b (k ∙ is)
+
+-- what is seen is eaten
+pub eats_seen : (test : Placed → Bool) (ts us vs : Tokens) (r : Bool) (t : Placed) → look false test ts ≡ Ok (r, vs) → r ≡ true → ts ≡ t ∷ us → eat test ts ≡ Ok (true, us)
+unfolding look eat
+eats_seen test [] us vs r t h is w = absurd cc
+eats_seen test (x ∷ ts) us vs r t h is w =
+    let p : ◌≡◌ {A = Bool × Tokens} (test x, x ∷ ts) (r, vs) = cc in
+    let k : test x ≡ r = ap (λ y. y.0) p in
+    let same : ts ≡ us = cc in
+    ap (λ b. eaten b x ts) (k ∙ is) ∙ ap (λ y. Ok (true, y)) same
+
+-- what is not seen is not eaten
+pub eats_unseen : (test : Placed → Bool) (ts vs : Tokens) (r : Bool) → look false test ts ≡ Ok (r, vs) → r ≡ false → eat test ts ≡ Ok (false, ts)
+unfolding look eat
+eats_unseen test [] vs r h is = refl
+eats_unseen test (x ∷ ts) vs r h is =
+    let p : ◌≡◌ {A = Bool × Tokens} (test x, x ∷ ts) (r, vs) = cc in
+    let k : test x ≡ r = ap (λ y. y.0) p in
+    ap (λ b. eaten b x ts) (k ∙ is)
+
+-- what is eaten was expected
+expected_at : (test : Placed → Bool) (t : Placed) (ts us : Tokens) (b r : Bool) → test t ≡ b → eaten b t ts ≡ Ok (r, us) → r ≡ true → taken (required b) t ts ≡ Ok (tt, us)
+expected_at test t ts us true r e h is = let p : ◌≡◌ {A = Bool × Tokens} (true, ts) (r, us) = cc in ap (λ x. Ok (tt, x.1)) p
+expected_at test t ts us false r e h is =
+    let p : ◌≡◌ {A = Bool × Tokens} (false, t ∷ ts) (r, us) = cc in
+    let q : false ≡ true = ap (λ x. x.0) p ∙ is in
+    absurd cc
+
+pub expects_eaten : (test : Placed → Bool) (ts us : Tokens) (r : Bool) → eat test ts ≡ Ok (r, us) → r ≡ true → accept (λ t. required (test t)) ts ≡ Ok (tt, us)
+unfolding eat accept
+expects_eaten test [] us r h is =
+    let p : ◌≡◌ {A = Bool × Tokens} (false, []) (r, us) = cc in
+    let q : false ≡ true = ap (λ x. x.0) p ∙ is in
+    absurd cc
+expects_eaten test (t ∷ ts) us r h is = expected_at test t ts us (test t) r refl h is
+
+-- what is not eaten was not there
+missed_at : (test : Placed → Bool) (t : Placed) (ts us : Tokens) (b r : Bool) → test t ≡ b → eaten b t ts ≡ Ok (r, us) → r ≡ false → taken (required b) t ts ≡ Err (Syntax, us)
+missed_at test t ts us true r e h is =
+    let p : ◌≡◌ {A = Bool × Tokens} (true, ts) (r, us) = cc in
+    let q : true ≡ false = ap (λ x. x.0) p ∙ is in
+    absurd cc
+missed_at test t ts us false r e h is = let p : ◌≡◌ {A = Bool × Tokens} (false, t ∷ ts) (r, us) = cc in ap (λ x. Err (Syntax, x.1)) p
+
+pub expects_missed : (test : Placed → Bool) (ts us : Tokens) (r : Bool) → eat test ts ≡ Ok (r, us) → r ≡ false → accept (λ t. required (test t)) ts ≡ Err (Syntax, us)
+unfolding eat accept
+expects_missed test [] us r h is = let p : ◌≡◌ {A = Bool × Tokens} (false, []) (r, us) = cc in ap (λ x. Err (Syntax, x.1)) p
+expects_missed test (t ∷ ts) us r h is = missed_at test t ts us (test t) r refl h is
+
+-- a value that the next token gives is taken
+pub accepts_next : {A : Type 0} (test : Placed → Result A Fault) (ts us : Tokens) (t u : Placed) (left : Tokens) (a : A) → ts ≡ t ∷ left → ts ≡ u ∷ us → test t ≡ Ok a → accept test ts ≡ Ok (a, us)
+unfolding accept
+accepts_next test ts us t u left a w v e =
+    let same : left ≡ us = cc in
+    ap (accept test) w ∙ ap (λ r. taken r t left) e ∙ ap (λ x. Ok (a, x)) same
+
+-- a fault of the next token stands there
+pub refuses_next : {A : Type 0} (test : Placed → Result A Fault) (ts : Tokens) (t : Placed) (left : Tokens) (k : Fault) → ts ≡ t ∷ left → test t ≡ Err k → accept test ts ≡ Err (k, ts)
+unfolding accept
+refuses_next test ts t left k w e = ap (accept test) w ∙ ap (λ r. taken r t left) e ∙ ap (λ x. Err (k, x)) (sym w)
