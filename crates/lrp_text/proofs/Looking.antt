@@ -5,12 +5,12 @@ use Rattle.lrp_model.specs.declared.tokens.Symbol.{Symbol as SymbolOf}
 use Rattle.lrp_model.specs.declared.tokens.Word.{Word as WordOf}
 use Rattle.lrp_model.specs.declared.tokens.Place.{Place}
 use Rattle.lrp_model.specs.declared.tokens.Fault.{Fault}
-use Rattle.lrp_model.specs.declared.tokens.Fault.TheVariants.{Syntax, TextTooLong, Number as TooLarge, Period}
+use Rattle.lrp_model.specs.declared.tokens.Fault.TheVariants.{Syntax, TextTooLong, Number as TooLarge, Period, Deep, Memory}
 use Rattle.lrp_model.specs.Tokens.{Token, Placed, Tokens}
 use Rattle.lrp_model.specs.Tokens.Token.{name_token, word_token, number_token, text_token, symbol_token, end_token, bad_token, hole_token}
-use Rattle.lrp_model.specs.Lexing.{limit, start}
-use Rattle.lrp_text.specs.Parsers.{Outcome, accept, taken, look, eat, eaten}
-use Rattle.lrp_text.specs.Taking.{is_symbol_token, is_word_token, is_name_token, is_text_token, is_end_token, required, name_of, number_of, limited, period_of, counted, text_of, short_enough, with_place, name, number, period, text}
+use Rattle.lrp_model.specs.Lexing.{limit, start, scan}
+use Rattle.lrp_text.specs.Parsers.{Outcome, accept, taken, look, eat, eaten, Reads}
+use Rattle.lrp_text.specs.Taking.{is_symbol_token, is_word_token, is_name_token, is_text_token, is_end_token, required, name_of, number_of, limited, period_of, counted, text_of, short_enough, with_place, name, number, period, text, expect_end}
 use Rattle.lrp_text.specs.declared.lexemes.Lexeme.{Lexeme}
 use Rattle.lrp_text.specs.declared.lexemes.Lexeme.TheVariants.{Name, Word, Number, LargeNumber, Text, LongText, Symbol, End, Bad}
 use Rattle.lrp_text.specs.Lexemes.{IsSaid, shows_symbol, shows_word, shows_name, shows_text, shows_end, shown_number, shown_period}
@@ -225,3 +225,109 @@ accepts_next test ts us t u left a w v e =
 pub refuses_next : {A : Type 0} (test : Placed → Result A Fault) (ts : Tokens) (t : Placed) (left : Tokens) (k : Fault) → ts ≡ t ∷ left → test t ≡ Err k → accept test ts ≡ Err (k, ts)
 unfolding accept
 refuses_next test ts t left k w e = ap (accept test) w ∙ ap (λ r. taken r t left) e ∙ ap (λ x. Err (k, x)) (sym w)
+
+-- a fault, and the tokens from it on
+reads_fault : {A : Type 0} (o : Outcome A) (k : Fault) (ts : Tokens) → o ≡ Err (k, ts) → Reads o (Err k) ts
+reads_fault o Memory ts e = tt
+reads_fault o Syntax ts e = e
+reads_fault o TooLarge ts e = e
+reads_fault o TextTooLong ts e = e
+reads_fault o Period ts e = e
+reads_fault o Deep ts e = e
+
+-- a number is taken
+pub number_read : (ts us : Tokens) (l : Lexeme) (slice : List ℕ) (place : Place) (u : Placed) (n : ℕ) → Stands ts l slice place → shown_number l ≡ Ok n → ts ≡ u ∷ us → number ts ≡ Ok (n, us)
+number_read ts us l slice place u n st e w = accepts_next (λ t. number_of t.token) ts us (record { token = st.token; place = place }) u st.left n st.whole w (number_said l slice st.token st.said ∙ e)
+
+-- or it is refused
+pub number_refused : (ts : Tokens) (l : Lexeme) (slice : List ℕ) (place : Place) (k : Fault) → Stands ts l slice place → shown_number l ≡ Err k → Reads (number ts) (Err k) ts
+number_refused ts l slice place k st e = reads_fault (number ts) k ts (refuses_next (λ t. number_of t.token) ts (record { token = st.token; place = place }) st.left k st.whole (number_said l slice st.token st.said ∙ e))
+
+-- a period is taken
+pub period_read : (ts us : Tokens) (l : Lexeme) (slice : List ℕ) (place : Place) (u : Placed) (n : ℕ) → Stands ts l slice place → shown_period l ≡ Ok n → ts ≡ u ∷ us → period ts ≡ Ok (n, us)
+period_read ts us l slice place u n st e w = accepts_next (λ t. period_of t.token) ts us (record { token = st.token; place = place }) u st.left n st.whole w (period_said l slice st.token st.said ∙ e)
+
+-- or it is refused
+pub period_refused : (ts : Tokens) (l : Lexeme) (slice : List ℕ) (place : Place) (k : Fault) → Stands ts l slice place → shown_period l ≡ Err k → Reads (period ts) (Err k) ts
+period_refused ts l slice place k st e = reads_fault (period ts) k ts (refuses_next (λ t. period_of t.token) ts (record { token = st.token; place = place }) st.left k st.whole (period_said l slice st.token st.said ∙ e))
+
+-- the name of a token that is one
+named : (l : Lexeme) (slice : List ℕ) (k : Token) → shows_name l ≡ true → IsSaid l slice k → name_of k ≡ Ok slice
+named Name slice k e s = ap name_of s
+named _ slice k e s = absurd cc
+
+-- no other token is one
+unnamed : (l : Lexeme) (slice : List ℕ) (k : Token) → shows_name l ≡ false → IsSaid l slice k → name_of k ≡ Err Syntax
+unnamed Name slice k e s = absurd cc
+unnamed (Word v) slice k e s = ap name_of s
+unnamed (Number n) slice k e s = ap name_of s.0
+unnamed LargeNumber slice k e s = ap name_of s.1
+unnamed Text slice k e s = ap name_of s.1
+unnamed LongText slice k e s = ap name_of s.1
+unnamed (Symbol y) slice k e s = ap name_of s
+unnamed End slice k e s = ap name_of s
+unnamed Bad slice k e s = ap name_of s
+
+-- a name is taken
+pub name_read : (ts us : Tokens) (l : Lexeme) (slice : List ℕ) (place : Place) (u : Placed) → Stands ts l slice place → shows_name l ≡ true → ts ≡ u ∷ us → name ts ≡ Ok ((slice, place), us)
+name_read ts us l slice place u st e w = accepts_next (λ t. with_place t.place (name_of t.token)) ts us (record { token = st.token; place = place }) u st.left (slice, place) st.whole w (ap (with_place place) (named l slice st.token e st.said))
+
+-- or what stands there is refused
+pub name_refused : (ts : Tokens) (l : Lexeme) (slice : List ℕ) (place : Place) → Stands ts l slice place → shows_name l ≡ false → name ts ≡ Err (Syntax, ts)
+name_refused ts l slice place st e = refuses_next (λ t. with_place t.place (name_of t.token)) ts (record { token = st.token; place = place }) st.left Syntax st.whole (ap (with_place place) (unnamed l slice st.token e st.said))
+
+-- the text that a slice is, of at most 255 bytes
+short_text : (slice t : List ℕ) (k : Token) → k ≡ text_token t → length t ≤ 255 → text_of k ≡ Ok t
+short_text slice t k e short = ap text_of e ∙ ap (short_enough t) (le-leb (length t) 255 short)
+
+-- a longer one
+long_at : (n : ℕ) (b : Bool) → nat_le n 255 ≡ b → 255 < n → b ≡ false
+long_at n true e h = let k : n ≤ 255 = leb-true n 255 e in absurd (omega arith)
+long_at n false e h = refl
+
+long_text : (t : List ℕ) (k : Token) → k ≡ text_token t → 255 < length t → text_of k ≡ Err TextTooLong
+long_text t k e long = ap text_of e ∙ ap (short_enough t) (long_at (length t) (nat_le (length t) 255) refl long)
+
+-- a text is taken, as its slice says it
+pub text_read : (ts us : Tokens) (slice : List ℕ) (place : Place) (u : Placed) (made : List ℕ) → Stands ts Text slice place → (scan slice).token ≡ text_token made → ts ≡ u ∷ us → text ts ≡ Ok (made, us)
+text_read ts us slice place u made st e w =
+    let t = st.said.0 in
+    let both : text_token t ≡ text_token made = sym (st.text t st.said.1) ∙ e in
+    let same : t ≡ made = cc in
+    accepts_next (λ x. text_of x.token) ts us (record { token = st.token; place = place }) u st.left made st.whole w (short_text slice t st.token st.said.1 st.said.2 ∙ ap Ok same)
+
+-- a text that is too long is refused
+pub text_too_long : (ts : Tokens) (slice : List ℕ) (place : Place) → Stands ts LongText slice place → text ts ≡ Err (TextTooLong, ts)
+text_too_long ts slice place st = refuses_next (λ x. text_of x.token) ts (record { token = st.token; place = place }) st.left TextTooLong st.whole (long_text st.said.0 st.token st.said.1 st.said.2)
+
+-- no other token is a text
+untexted : (l : Lexeme) (slice : List ℕ) (k : Token) → (l ≡ Text → ⊥) → (l ≡ LongText → ⊥) → IsSaid l slice k → text_of k ≡ Err Syntax
+untexted Name slice k a b s = ap text_of s
+untexted (Word v) slice k a b s = ap text_of s
+untexted (Number n) slice k a b s = ap text_of s.0
+untexted LargeNumber slice k a b s = ap text_of s.1
+untexted Text slice k a b s = absurd (a refl)
+untexted LongText slice k a b s = absurd (b refl)
+untexted (Symbol y) slice k a b s = ap text_of s
+untexted End slice k a b s = ap text_of s
+untexted Bad slice k a b s = ap text_of s
+
+-- or what stands there is refused
+pub text_refused : (ts : Tokens) (l : Lexeme) (slice : List ℕ) (place : Place) → (l ≡ Text → ⊥) → (l ≡ LongText → ⊥) → Stands ts l slice place → text ts ≡ Err (Syntax, ts)
+text_refused ts l slice place a b st = refuses_next (λ x. text_of x.token) ts (record { token = st.token; place = place }) st.left Syntax st.whole (untexted l slice st.token a b st.said)
+
+-- the token of an end
+ended_token : (l : Lexeme) (slice : List ℕ) (k : Token) → shows_end l ≡ true → IsSaid l slice k → k ≡ end_token
+ended_token End slice k e s = s
+ended_token _ slice k e s = absurd cc
+
+-- the end is taken, and nothing is left
+pub end_read : (ts : Tokens) (l : Lexeme) (slice : List ℕ) (place : Place) → Stands ts l slice place → shows_end l ≡ true → expect_end ts ≡ Ok (tt, [])
+end_read ts l slice place st e =
+    let k : st.token ≡ end_token = ended_token l slice st.token e st.said in
+    let w : ts ≡ record { token = st.token; place = place } ∷ [] = st.whole ∙ ap (λ us. record { token = st.token; place = place } ∷ us) (st.last k) in
+    accepts_next (λ t. required (is_end_token t.token)) ts [] (record { token = st.token; place = place }) (record { token = st.token; place = place }) st.left tt st.whole w (ap required (ap is_end_token k))
+
+-- or what stands before it is refused
+pub end_refused : (ts : Tokens) (l : Lexeme) (slice : List ℕ) (place : Place) → Stands ts l slice place → shows_end l ≡ false → expect_end ts ≡ Err (Syntax, ts)
+end_refused ts l slice place st e = refuses_next (λ t. required (is_end_token t.token)) ts (record { token = st.token; place = place }) st.left Syntax st.whole (ap required (end_said l slice st.token st.said ∙ e))

@@ -34,7 +34,7 @@ text_slice old slice k e d t is = ap (λ x. (scan x).token) d ∙ scan_alone (ne
 
 -- what stands next, where others follow it
 stands_go : (old : At) (l : Lexeme) (slice : List ℕ) (place : Place) (k : Token) → (next_of old).token ≡ k → GoesOn k → IsSaid l slice k → slice ≡ (next_of old).taken → place ≡ (next_at old).place → Stands (tokens_left old) l slice place
-stands_go old l slice place k e g said d p = record { token = k; left = tokens_left (behind_next old); whole = tokens_go old place k e g p; said = said; text = text_slice old slice k e d }
+stands_go old l slice place k e g said d p = record { token = k; left = tokens_left (behind_next old); whole = tokens_go old place k e g p; said = said; text = text_slice old slice k e d; last = λ n. absurd (subst GoesOn n g) }
 
 -- what was found stands next
 pub stands_next : (old : At) (l : Lexeme) (slice : List ℕ) (place : Place) (new : At) → IsFound old l slice place new → Stands (tokens_left old) l slice place
@@ -48,6 +48,7 @@ stands_next old (Symbol s) slice place new f = stands_go old (Symbol s) slice pl
 stands_next old End slice place new f = record {
   token = end_token;
   left = [];
+  last = λ e. refl;
   whole = next_tokens old ∙ ap (λ t. headed (next_at old).place (next_of old) t (tokens_left (behind_next old))) f.0 ∙ ap (λ p. record { token = end_token; place = p } ∷ []) (sym f.2);
   said = refl;
   text = λ t e. absurd cc;
@@ -55,6 +56,7 @@ stands_next old End slice place new f = record {
 stands_next old Bad slice place new f = record {
   token = bad_token;
   left = [];
+  last = λ e. refl;
   whole = next_tokens old ∙ ap (λ t. headed (next_at old).place (next_of old) t (tokens_left (behind_next old))) f.0 ∙ ap (λ p. record { token = bad_token; place = p } ∷ []) (sym f.2);
   said = refl;
   text = λ t e. absurd cc;

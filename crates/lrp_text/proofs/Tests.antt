@@ -10,7 +10,7 @@ use Rattle.lrp_model.specs.declared.tokens.Fault.TheVariants.{Syntax, Number, Te
 use Rattle.lrp_model.specs.Tokens.{Token, Placed, Part, IsPart}
 use Rattle.lrp_model.specs.Tokens.Token.{name_token, word_token, number_token, text_token, symbol_token, end_token}
 use Rattle.lrp_model.specs.Tokens.Part.{at, any}
-use Rattle.lrp_text.specs.Taking.{same_symbol, same_word, is_symbol_token, is_symbol, is_word_token, is_word, is_end_token, is_end, required, name_of, number_of, limited, text_of, short_enough, period_of, counted, with_place}
+use Rattle.lrp_text.specs.Taking.{same_symbol, same_word, is_symbol_token, is_symbol, is_word_token, is_word, is_end_token, is_end, required, name_of, number_of, limited, text_of, short_enough, period_of, counted, IsPeriod, with_place}
 use Rattle.lrp_model.specs.Lexing.{limit, start}
 use Rattle.std.proofs.lemmas.Bool.{leb-true, le-leb, eqb-true}
 use borrow.Author.Tests.{leb-false}
@@ -264,10 +264,6 @@ counted_is n false m e = (refl, e)
 not_zero : (n : ℕ) → (n == 0) ≡ false → 1 ≤ n
 not_zero zero e = absurd cc
 not_zero (suc n) e = omega arith
-
--- a period is from 1 to the limit
-abbrev pub IsPeriod : ℕ → Type 0
-IsPeriod n = (1 ≤ n) × (n ≤ limit)
 
 -- what a period was read from
 period_is : (k : Token) (n : ℕ) → period_of k ≡ Ok n → (k ≡ number_token n) × IsPeriod n

@@ -40,13 +40,14 @@ abbrev pub IsFound : At → Lexeme → List ℕ → Place → At → Type 0
 IsFound old Bad slice place new = ((next_of old).token ≡ bad_token) × (slice ≡ (next_of old).taken) × (place ≡ after (next_at old).place (next_of old).taken) × (new ≡ old)
 IsFound old l slice place new = IsSaid l slice (next_of old).token × (slice ≡ (next_of old).taken) × (place ≡ (next_at old).place) × (new ≡ behind_next old)
 
--- the next token is what a lexeme says, at its place; where it is a text, the slice by itself is that text
+-- the next token is what a lexeme says, at its place; where it is a text, the slice by itself is that text; behind the end stands nothing
 pub record Stands (ts : Tokens) (l : Lexeme) (slice : List ℕ) (place : Place) : Type 0 where
   pub token : Token
   pub left : Tokens
   pub whole : ts ≡ record { token = token; place = place } ∷ left
   pub said : IsSaid l slice token
   pub text : (t : List ℕ) → token ≡ text_token t → (scan slice).token ≡ text_token t
+  pub last : token ≡ end_token → left ≡ []
 
 -- others follow this token
 abbrev pub GoesOn : Token → Type 0

@@ -1,5 +1,5 @@
 -- What a parser may take as its next token.
-use Rattle.std.specs.Prelude.{ℕ, Bool, true, false, List, Result, Ok, Err, length, nat_le, ◌==◌}
+use Rattle.std.specs.Prelude.{◌≤◌, ℕ, Bool, true, false, List, [], Result, Ok, Err, length, nat_le, ◌==◌}
 use Rattle.lrp_model.specs.declared.tokens.Symbol.{Symbol}
 use Rattle.lrp_model.specs.declared.tokens.Symbol.TheVariants.{Open, Close, OpenBrace, CloseBrace, Comma, Colon, Semicolon, Bar, Plus, Minus, Le, Ge, Lt, Gt, Equals}
 use Rattle.lrp_model.specs.declared.tokens.Word.{Word}
@@ -8,9 +8,9 @@ use Rattle.lrp_model.specs.declared.tokens.Place.{Place}
 use Rattle.lrp_model.specs.declared.tokens.Fault.{Fault}
 use Rattle.lrp_model.specs.declared.tokens.Fault.TheVariants.{Syntax, Number, TextTooLong, Period}
 use Rattle.lrp_model.specs.declared.written.Located.{Located}
-use Rattle.lrp_model.specs.Tokens.{Token, Placed}
+use Rattle.lrp_model.specs.Tokens.{Token, Placed, Tokens}
 use Rattle.lrp_model.specs.Tokens.Token.{name_token, word_token, number_token, text_token, symbol_token, end_token}
-use Rattle.lrp_model.specs.Lexing.{start}
+use Rattle.lrp_model.specs.Lexing.{start, limit}
 use Rattle.lrp_text.specs.Parsers.{Parser, accept, look, pure, ◌>>=◌}
 
 -- whether two symbols are one
@@ -142,6 +142,10 @@ abbrev pub period_of : Token → Result ℕ Fault
 period_of (number_token n) = counted n (n == 0)
 period_of _ = Err Syntax
 
+-- a period is from 1 to 2 ^ 62
+abbrev pub IsPeriod : ℕ → Type 0
+IsPeriod n = (1 ≤ n) × (n ≤ limit)
+
 -- takes a period
 abbrev pub period : Parser ℕ
 period = accept (λ t. period_of t.token)
@@ -176,3 +180,8 @@ is_end t = is_end_token t.token
 -- takes the end
 abbrev pub expect_end : Parser (Unit {0})
 expect_end = accept (λ t. required (is_end t))
+
+-- nothing is left behind the end, and all where it was refused
+abbrev pub behind_end : Result (Unit {0}) Fault → Tokens → Tokens
+behind_end (Ok u) ts = []
+behind_end (Err k) ts = ts

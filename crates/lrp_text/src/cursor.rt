@@ -1,7 +1,9 @@
 // The tokens of a text that are left, for readers that take one after another.
-use crate::lexemes::Found;
+use crate::lexemes::{Found, Lexeme};
 use crate::sources::{Source, step};
-use lrp_model::Place;
+use crate::texts::text_of;
+use lrp_model::{DataText, Fault, Name, Place, Symbol, Word};
+use std::alloc::Global;
 use std::marker::Model;
 
 /// The tokens of a text that are left to read; a reader looks at the next one and takes it.
@@ -25,9 +27,11 @@ impl<'a> Model for Cursor<'a> {
 }
 
 impl<'a> Cursor<'a> {
-    ghost use Rattle.std.specs.Prelude.{◌≡◌, ◌≤◌, ◌∷◌, length};
+    ghost use Rattle.std.specs.Prelude.{◌≡◌, ◌≤◌, ◌<◌, ◌∷◌, true, false, length, Ok, IfOk};
     ghost use Rattle.lrp_model.specs.Tokens.{Placed};
-    ghost use Rattle.lrp_model.specs.Lexing.{tokens};
+    ghost use Rattle.lrp_model.specs.Lexing.{tokens, limit};
+    ghost use Rattle.lrp_text.specs.Parsers.{Reads, look, eat};
+    ghost use Rattle.lrp_text.specs.Taking.{here, is_symbol, is_word, is_name, is_text, is_end, expect, expect_word, expect_end, behind_end, number, period, IsPeriod, name, text};
     ghost use Rattle.lrp_text.specs.Sources.{Stands, Goes};
 
     /// The tokens of a text of at most 16,777,216 bytes.
@@ -65,5 +69,166 @@ impl<'a> Cursor<'a> {
         self.here = here;
         self.found = found;
         self.behind = behind;
+    }
+
+    /// The place of the next token.
+    pub fn place(&self) -> Place
+        ensures { here self.now ≡ Ok (result, self.now) }
+    {
+        self.next().place
+    }
+
+    /// Whether this symbol comes next.
+    pub fn sees(&self, symbol: Symbol) -> bool
+        ensures { look false (is_symbol symbol) self.now ≡ Ok (result, self.now) }
+    {
+        self.next().lexeme.is_symbol(symbol)
+    }
+
+    /// Whether this reserved word comes next.
+    pub fn sees_word(&self, word: Word) -> bool
+        ensures { look false (is_word word) self.now ≡ Ok (result, self.now) }
+    {
+        self.next().lexeme.is_word(word)
+    }
+
+    /// Whether a name comes next.
+    pub fn sees_name(&self) -> bool
+        ensures { look false is_name self.now ≡ Ok (result, self.now) }
+    {
+        self.next().lexeme.is_name()
+    }
+
+    /// Whether a text comes next, however long.
+    pub fn sees_text(&self) -> bool
+        ensures { look false is_text self.now ≡ Ok (result, self.now) }
+    {
+        self.next().lexeme.is_text()
+    }
+
+    /// Whether the end comes next.
+    pub fn sees_end(&self) -> bool
+        ensures { look false is_end self.now ≡ Ok (result, self.now) }
+    {
+        self.next().lexeme.is_end()
+    }
+
+    /// Takes this symbol, if it comes next.
+    pub fn eat(&mut self, symbol: Symbol) -> bool
+        ensures value { eat (is_symbol symbol) self.old ≡ Ok (result, self.new) }
+        ensures shorter { length self.new ≤ length self.old }
+        ensures fewer { result ≡ true → length self.new < length self.old }
+    {
+        if !self.sees(symbol) {
+            return false;
+        }
+        self.advance();
+        true
+    }
+
+    /// Takes this reserved word, if it comes next.
+    pub fn eat_word(&mut self, word: Word) -> bool
+        ensures value { eat (is_word word) self.old ≡ Ok (result, self.new) }
+        ensures shorter { length self.new ≤ length self.old }
+        ensures fewer { result ≡ true → length self.new < length self.old }
+    {
+        if !self.sees_word(word) {
+            return false;
+        }
+        self.advance();
+        true
+    }
+
+    /// Takes this symbol, or refuses what stands there.
+    pub fn expect(&mut self, symbol: Symbol) -> Result<(), Fault>
+        ensures value { Reads (expect symbol self.old) result self.new }
+        ensures shorter { length self.new ≤ length self.old }
+        ensures fewer { IfOk result (λ _. length self.new < length self.old) }
+    {
+        if self.eat(symbol) {
+            Ok(())
+        } else {
+            Err(Fault::Syntax)
+        }
+    }
+
+    /// Takes this reserved word, or refuses what stands there.
+    pub fn expect_word(&mut self, word: Word) -> Result<(), Fault>
+        ensures value { Reads (expect_word word self.old) result self.new }
+        ensures shorter { length self.new ≤ length self.old }
+        ensures fewer { IfOk result (λ _. length self.new < length self.old) }
+    {
+        if self.eat_word(word) {
+            Ok(())
+        } else {
+            Err(Fault::Syntax)
+        }
+    }
+
+    /// Takes a number of at most 2^62.
+    pub fn number(&mut self) -> Result<u64, Fault>
+        ensures value { Reads (number self.old) result self.new }
+        ensures shorter { length self.new ≤ length self.old }
+        ensures fewer { IfOk result (λ _. length self.new < length self.old) }
+        ensures fits { IfOk result (λ n. n ≤ limit) }
+    {
+        let number = self.next().lexeme.number()?;
+        self.advance();
+        Ok(number)
+    }
+
+    /// Takes a number from 1 to 2^62.
+    pub fn period(&mut self) -> Result<u64, Fault>
+        ensures value { Reads (period self.old) result self.new }
+        ensures shorter { length self.new ≤ length self.old }
+        ensures fewer { IfOk result (λ _. length self.new < length self.old) }
+        ensures fits { IfOk result IsPeriod }
+    {
+        let period = self.next().lexeme.period()?;
+        self.advance();
+        Ok(period)
+    }
+
+    /// Takes a name, and tells its place.
+    pub fn name(&mut self, alloc: Global) -> Result<(Name, Place), Fault>
+        ensures value { Reads (name self.old) result self.new }
+        ensures shorter { length self.new ≤ length self.old }
+        ensures fewer { IfOk result (λ _. length self.new < length self.old) }
+    {
+        let next = self.next();
+        if !next.lexeme.is_name() {
+            return Err(Fault::Syntax);
+        }
+        let name = Name::new(alloc, next.slice)?;
+        self.advance();
+        Ok((name, next.place))
+    }
+
+    /// Takes a text of at most 255 bytes.
+    pub fn text(&mut self, alloc: Global) -> Result<DataText, Fault>
+        ensures value { Reads (text self.old) result self.new }
+        ensures shorter { length self.new ≤ length self.old }
+        ensures fewer { IfOk result (λ _. length self.new < length self.old) }
+    {
+        let next = self.next();
+        match next.lexeme {
+            Lexeme::Text => {}
+            Lexeme::LongText => return Err(Fault::TextTooLong),
+            _ => return Err(Fault::Syntax),
+        }
+        let text = text_of(alloc, next.slice)?;
+        self.advance();
+        Ok(text)
+    }
+
+    /// Refuses what stands before the end, behind which nothing is left.
+    pub fn expect_end(&self) -> Result<(), Fault>
+        ensures { Reads (expect_end self.now) result (behind_end result self.now) }
+    {
+        if self.next().lexeme.is_end() {
+            Ok(())
+        } else {
+            Err(Fault::Syntax)
+        }
     }
 }
