@@ -1,0 +1,215 @@
+-- The rule for bounds: complete, sound and viable.
+use Rattle.lrp_model.specs.declared.written.Located.{Located}
+use Rattle.lrp_model.specs.declared.written.Side.{Side}
+use Rattle.lrp_model.specs.declared.written.Side.TheVariants.{Alone, Column, Shifted}
+use Rattle.lrp_model.specs.declared.written.RawBound.{RawBound}
+use Rattle.lrp_model.specs.Texts.{Identifier}
+use Rattle.lrp_model.specs.Lexing.{start}
+use Rattle.lrp_model.specs.Databases.{sign, integer_text, shift, name_part, side_text, bound_symbol, bound_text, FitsSide, FitsBound}
+use Rattle.std.proofs.Common.{◌≡◌, inl, ◌≤◌, ℕ, Bool, true, false, [], ◌∷◌, ◌++◌, refl, ap, ◌∙◌, sym, subst, Ok, Err, if◌then◌else◌, arith, append-nil}
+use Rattle.lrp_model.specs.declared.tokens.Symbol.TheVariants.{Plus, Minus, Le, Ge, Equals}
+use Rattle.lrp_model.specs.declared.tokens.Fault.{Fault}
+use Rattle.lrp_model.specs.declared.tokens.Fault.TheVariants.{Syntax}
+use Rattle.lrp_model.specs.Tokens.{Token, Placed, Tokens, Part, IsPart, Takes, Spells}
+use Rattle.lrp_model.specs.Tokens.Token.{name_token, number_token, symbol_token}
+use Rattle.lrp_model.specs.Tokens.Part.{any}
+use Rattle.lrp_text.specs.Parsers.{◌>>=◌, pure, accept, look, eat}
+use Rattle.lrp_model.specs.Refused.{Stops, TextOf}
+use Rattle.lrp_model.specs.Lexing.{limit}
+use Rattle.lrp_text.specs.Taking.{is_name, is_symbol, is_symbol_token, number, is_name_token}
+use Rattle.lrp_text.proofs.Complete.{ReadsBack, IsNot, Sees, bind_back, then_back, pure_back, accepts_back, eat_back, eat_none, look_back, first_sees_any, first_sees_at, first_is_not, last_back, same_next}
+use Rattle.lrp_text.proofs.Sound.{Sound, bind_ok, accept_sound, eat_sound, eaten_parts, takes_join, look_ok}
+use Rattle.lrp_text.proofs.Viable.{Viable, One, TestStops, accept_viable, sub_step, eat_step, look_step, spells_join, always}
+use Rattle.lrp_text.proofs.Tests.{symbol_told, symbol_seen, number_part}
+use Rattle.lrp_model.specs.declared.written.BoundOp.{BoundOp}
+use Rattle.lrp_model.specs.declared.written.BoundOp.TheVariants.{AtMost, AtLeast, Equal}
+use Rattle.lrp_rel.proofs.Labels.{label_back, label_sound, label_viable}
+use Rattle.lrp_rel.specs.Rules.{label, integer, named_side, side, op_of, bound}
+use Rattle.lrp_rel.proofs.ValueRules.{number_back, integer_back, number_sound, number_viable, integer_sound, integer_viable}
+
+-- neither a plus nor a minus comes next
+abbrev pub NoShift : Tokens → Type 0
+NoShift ts = IsNot (is_symbol Plus) ts × IsNot (is_symbol Minus) ts
+
+pub column_side_back : (n : Located Identifier) → ReadsBack named_side (side_text (Column n)) (Column n) (Unit {0}) NoShift
+unfolding named_side
+column_side_back n =
+    then_back _ (label_back n (Unit {0}))
+    (bind_back _ {G = NoShift} (eat_none (is_symbol Plus) (Unit {0}))
+    (bind_back _ {G = NoShift} (eat_none (is_symbol Minus) (Unit {0})) (pure_back (Column n) (Unit {0}) NoShift) (λ ts left h g. (same_next NoShift ts left h g).1))
+    (λ ts left h g. (same_next NoShift ts left h g).0))
+
+pub shifted_side_back : (n : Located Identifier) (down : Bool) (k : ℕ) → ReadsBack named_side (side_text (Shifted n down k)) (Shifted n down k) (k ≤ limit) NoShift
+unfolding named_side
+shifted_side_back n false k =
+    then_back _ (label_back n (k ≤ limit))
+    (then_back _ (eat_back (is_symbol Plus) (any (symbol_token Plus)) (k ≤ limit) (symbol_seen Plus))
+    (then_back _ (number_back k (k ≤ limit) (λ l. l)) (pure_back _ _ NoShift)))
+shifted_side_back n true k =
+    then_back _ (label_back n (k ≤ limit))
+    (bind_back _ (eat_none (is_symbol Plus) (k ≤ limit))
+    (then_back _ (eat_back (is_symbol Minus) (any (symbol_token Minus)) (k ≤ limit) (symbol_seen Minus))
+    (then_back _ (number_back k (k ≤ limit) (λ l. l)) (pure_back _ _ NoShift)))
+    (λ ts left h g. first_is_not (is_symbol_token Plus) (symbol_token Minus) (number_part k ∷ []) ts left refl h))
+
+no_name : (negative : Bool) (n : ℕ) (ts left : Tokens) → Takes (sign negative ++ any (number_token n) ∷ []) ts left → Sees false is_name false ts
+no_name true n ts left h = first_sees_any false is_name_token (symbol_token Minus) (any (number_token n) ∷ []) ts left h
+no_name false n ts left h = first_sees_any false is_name_token (number_token n) [] ts left h
+
+pub side_back : (s : Side) → ReadsBack side (side_text s) s (FitsSide s) NoShift
+unfolding side
+side_back (Alone i) =
+    bind_back _ {G = NoShift} (look_back false is_name false (i.size ≤ limit))
+    (last_back integer Alone (integer_text i) i (i.size ≤ limit) NoShift (record { reads = λ ts left h g. (integer_back i).reads ts left h tt }))
+    (λ ts left h g. no_name i.negative i.size ts left h)
+side_back (Column n) =
+    bind_back _ {G = NoShift} (look_back false is_name true (Unit {0})) (column_side_back n)
+    (λ ts left h g. first_sees_at false is_name_token n.place (name_token n.item) [] ts left h)
+side_back (Shifted n down k) =
+    bind_back _ {G = NoShift} (look_back false is_name true (k ≤ limit)) (shifted_side_back n down k)
+    (λ ts left h g. first_sees_at false is_name_token n.place (name_token n.item) (any (symbol_token (shift down)) ∷ number_part k ∷ []) ts left h)
+
+-- the symbols of bounds
+abbrev pub op_part : BoundOp → Part
+op_part op = any (symbol_token (bound_symbol op))
+
+op_is : (k : Token) (op : BoundOp) → op_of k ≡ Ok op → k ≡ symbol_token (bound_symbol op)
+op_is (symbol_token Le) op e = let h : AtMost ≡ op = cc in ap (λ x. symbol_token (bound_symbol x)) h
+op_is (symbol_token Ge) op e = let h : AtLeast ≡ op = cc in ap (λ x. symbol_token (bound_symbol x)) h
+op_is (symbol_token Equals) op e = let h : Equal ≡ op = cc in ap (λ x. symbol_token (bound_symbol x)) h
+op_is _ op e = absurd cc
+
+op_again : (op : BoundOp) → op_of (symbol_token (bound_symbol op)) ≡ Ok op
+op_again AtMost = refl
+op_again AtLeast = refl
+op_again Equal = refl
+
+op_err : (t : Token) (k : Fault) → op_of t ≡ Err k → k ≡ Syntax
+op_err (symbol_token Le) k e = absurd cc
+op_err (symbol_token Ge) k e = absurd cc
+op_err (symbol_token Equals) k e = absurd cc
+op_err _ k e = cc
+
+op_told : (t : Placed) (op : BoundOp) → op_of t.token ≡ Ok op → IsPart (op_part op) t
+op_told t op e = op_is t.token op e
+
+op_seen : (op : BoundOp) (t : Placed) → IsPart (op_part op) t → op_of t.token ≡ Ok op
+op_seen op t h = ap op_of h ∙ op_again op
+
+op_stops : TestStops (λ t. op_of t.token) op_part (λ op. Unit {0})
+op_stops = record { token = record { token = symbol_token Le; place = start }; value = AtMost; fits = tt; is = refl; fault = λ t k e. inl (op_err t.token k e) }
+
+pub bound_back : (b : RawBound) → ReadsBack bound (bound_text b) b (FitsBound b) NoShift
+unfolding bound
+bound_back b =
+    then_back _ (label_back b.left (FitsBound b))
+    (then_back _ (accepts_back (λ t. op_of t.token) (op_part b.op) b.op (FitsBound b) (op_seen b.op))
+    (last_back side (λ s. record { left = b.left; op = b.op; side = s }) (side_text b.side) b.side (FitsBound b) NoShift (side_back b.side)))
+
+-- soundness
+shift_sound : (n : Located Identifier) (is_down : Bool) (ts us vs : Tokens) (q : Side × Tokens) → (number >>= (λ k. pure (Shifted n is_down k))) vs ≡ Ok q → Takes (name_part n ∷ []) ts us → Takes (any (symbol_token (shift is_down)) ∷ []) us vs → Takes (side_text q.0) ts q.1 × FitsSide q.0
+shift_sound n is_down ts us vs q e one sym_taken =
+    let k = bind_ok (number vs) _ q e in
+    let h : (Shifted n is_down k.0.0, k.0.1) ≡ q = cc in
+    let sized = number_sound vs k.0 k.1 in
+    subst (λ y. Takes (side_text y.0) ts y.1 × FitsSide y.0) h (takes_join (name_part n ∷ []) (any (symbol_token (shift is_down)) ∷ number_part k.0.0 ∷ []) ts us k.0.1 one (takes_join (any (symbol_token (shift is_down)) ∷ []) (number_part k.0.0 ∷ []) us vs k.0.1 sym_taken sized.0), sized.1)
+
+after_minus_sound : (n : Located Identifier) (down : Bool) (ts us vs : Tokens) (q : Side × Tokens) → (if down then (number >>= (λ k. pure (Shifted n true k))) else pure (Column n)) vs ≡ Ok q → Takes (name_part n ∷ []) ts us → Takes (eaten_parts (any (symbol_token Minus)) down) us vs → Takes (side_text q.0) ts q.1 × FitsSide q.0
+after_minus_sound n true ts us vs q e one eaten = shift_sound n true ts us vs q e one eaten
+after_minus_sound n false ts us vs q e one eaten =
+    let h : (Column n, vs) ≡ q = cc in
+    subst (λ y. Takes (side_text y.0) ts y.1 × FitsSide y.0) h (subst (λ x. Takes (name_part n ∷ []) ts x) eaten one, tt)
+
+after_name_sound : (n : Located Identifier) (up : Bool) (ts us vs : Tokens) (q : Side × Tokens) → (if up then (number >>= (λ k. pure (Shifted n false k))) else (eat (is_symbol Minus) >>= (λ down. if down then (number >>= (λ k. pure (Shifted n true k))) else pure (Column n)))) vs ≡ Ok q → Takes (name_part n ∷ []) ts us → Takes (eaten_parts (any (symbol_token Plus)) up) us vs → Takes (side_text q.0) ts q.1 × FitsSide q.0
+after_name_sound n true ts us vs q e one eaten = shift_sound n false ts us vs q e one eaten
+after_name_sound n false ts us vs q e one eaten =
+    let m = bind_ok (eat (is_symbol Minus) vs) _ q e in
+    after_minus_sound n m.0.0 ts vs m.0.1 q m.2 (subst (λ x. Takes (name_part n ∷ []) ts x) eaten one) (eat_sound (is_symbol Minus) (any (symbol_token Minus)) (symbol_told Minus) vs m.0 m.1)
+
+pub named_side_sound : Sound named_side side_text FitsSide
+unfolding named_side
+named_side_sound ts q e =
+    let n = bind_ok (label ts) _ q e in
+    let u = bind_ok (eat (is_symbol Plus) n.0.1) _ q n.2 in
+    after_name_sound n.0.0 u.0.0 ts n.0.1 u.0.1 q u.2 (label_sound ts n.0 n.1).0 (eat_sound (is_symbol Plus) (any (symbol_token Plus)) (symbol_told Plus) n.0.1 u.0 u.1)
+
+either_side_sound : (named : Bool) → Sound (if named then named_side else (integer >>= (λ i. pure (Alone i)))) side_text FitsSide
+either_side_sound true = named_side_sound
+either_side_sound false = λ ts q e.
+    let i = bind_ok (integer ts) _ q e in
+    let h : (Alone i.0.0, i.0.1) ≡ q = cc in
+    subst (λ y. Takes (side_text y.0) ts y.1 × FitsSide y.0) h (integer_sound ts i.0 i.1)
+
+pub side_sound : Sound side side_text FitsSide
+unfolding side
+side_sound ts q e =
+    let s = bind_ok (look false is_name ts) _ q e in
+    subst (λ x. Takes (side_text q.0) x q.1 × FitsSide q.0) (sym (look_ok false is_name ts s.0 s.1)) (either_side_sound s.0.0 s.0.1 q s.2)
+
+pub bound_sound : Sound bound bound_text FitsBound
+unfolding bound
+bound_sound ts q e =
+    let n = bind_ok (label ts) _ q e in
+    let o = bind_ok (accept (λ t. op_of t.token) n.0.1) _ q n.2 in
+    let s = bind_ok (side o.0.1) _ q o.2 in
+    let made : RawBound = record { left = n.0.0; op = o.0.0; side = s.0.0 } in
+    let h : (made, s.0.1) ≡ q = cc in
+    let one = side_sound o.0.1 s.0 s.1 in
+    subst (λ y. Takes (bound_text y.0) ts y.1 × FitsBound y.0) h (
+      takes_join (name_part n.0.0 ∷ []) (op_part o.0.0 ∷ side_text s.0.0) ts n.0.1 s.0.1 (label_sound ts n.0 n.1).0
+          (takes_join (op_part o.0.0 ∷ []) (side_text s.0.0) n.0.1 o.0.1 s.0.1 (accept_sound _ op_part op_told n.0.1 o.0 o.1) one.0),
+      one.1,
+    )
+
+-- viability
+abbrev Sides : Bool → Tokens → Type 0
+Sides = TextOf side_text FitsSide
+
+sides_shift : (n : Located Identifier) (is_down : Bool) (head : Tokens) (t : Placed) (vs : Tokens) (e : Fault × Tokens) → Spells (name_part n ∷ []) head → IsPart (any (symbol_token (shift is_down))) t → (number >>= (λ k. pure (Shifted n is_down k))) vs ≡ Err e → Stops (λ c x. Sides c (head ++ t ∷ x)) vs e
+sides_shift n is_down head t vs e one is d =
+    sub_step number _ (One number_part) (λ k. k ≤ limit) (λ c x. Sides c (head ++ t ∷ x)) vs e number_sound number_viable d
+    (λ c k x spelled fit. ([], (Shifted n is_down k, fit, spells_join (name_part n ∷ []) (any (symbol_token (shift is_down)) ∷ number_part k ∷ []) head (t ∷ (x ++ [])) one (is, spells_join (One number_part k) [] x [] spelled refl))))
+    (λ k h3 ws s3 f3 d3. absurd cc)
+
+pub named_side_viable : Viable named_side side_text FitsSide
+unfolding named_side
+named_side_viable ts e h =
+    sub_step label _ (One name_part) (λ n. Unit {0}) Sides ts e label_sound label_viable h
+    (λ c n x spelled fit. ([], (Column n, always (Unit {0}) c tt, subst (λ y. Spells (name_part n ∷ []) y) (sym (append-nil x)) spelled)))
+    (λ n head us one fit d. eat_step (is_symbol Plus) _ (λ c x. Sides c (head ++ x)) us e d
+    (λ t vs told d2. sides_shift n false head t vs e one (symbol_told Plus t told) d2)
+    (λ d2. eat_step (is_symbol Minus) _ (λ c x. Sides c (head ++ x)) us e d2
+    (λ t vs told d3. sides_shift n true head t vs e one (symbol_told Minus t told) d3)
+    (λ d3. absurd cc)))
+
+either_side_viable : (named : Bool) → Viable (if named then named_side else (integer >>= (λ i. pure (Alone i)))) side_text FitsSide
+either_side_viable true = named_side_viable
+either_side_viable false = λ ts e h.
+    sub_step integer _ integer_text (λ i. i.size ≤ limit) Sides ts e integer_sound integer_viable h
+    (λ c i x spelled fit. ([], (Alone i, fit, subst (λ y. Spells (integer_text i) y) (sym (append-nil x)) spelled)))
+    (λ i h2 us s2 f2 d2. absurd cc)
+
+pub side_viable : Viable side side_text FitsSide
+unfolding side
+side_viable ts e h = look_step false is_name _ Sides ts e h (λ named seen d. either_side_viable named ts e d)
+
+abbrev zero_side : Side
+zero_side = Alone (record { negative = false; size = 0 })
+
+abbrev zero_tokens : Tokens
+zero_tokens = record { token = number_token 0; place = start } ∷ []
+
+abbrev least_tokens : Tokens
+least_tokens = record { token = symbol_token Le; place = start } ∷ zero_tokens
+
+pub bound_viable : Viable bound bound_text FitsBound
+unfolding bound
+bound_viable ts e h =
+    let R : Bool → Tokens → Type 0 = TextOf bound_text FitsBound in
+    sub_step label _ (One name_part) (λ n. Unit {0}) R ts e label_sound label_viable h
+    (λ c n x spelled fit. (least_tokens, (record { left = n; op = AtMost; side = zero_side }, always (0 ≤ limit) c (omega arith), spells_join (One name_part n) (op_part AtMost ∷ side_text zero_side) x least_tokens spelled (refl, (refl, refl)))))
+    (λ n h1 us s1 f1 d1. sub_step (accept (λ t. op_of t.token)) _ (One op_part) (λ op. Unit {0}) (λ c x. R c (h1 ++ x)) us e (λ vs q r. (accept_sound _ op_part op_told vs q r, tt)) (accept_viable _ op_part (λ op. Unit {0}) op_stops) d1
+    (λ c op x spelled fit. (zero_tokens, (record { left = n; op = op; side = zero_side }, always (0 ≤ limit) c (omega arith), spells_join (One name_part n) (op_part op ∷ side_text zero_side) h1 (x ++ zero_tokens) s1 (spells_join (One op_part op) (side_text zero_side) x zero_tokens spelled (refl, refl)))))
+    (λ op h2 vs s2 f2 d2. sub_step side _ side_text FitsSide (λ c x. R c (h1 ++ (h2 ++ x))) vs e side_sound side_viable d2
+    (λ c s x spelled fit. ([], (record { left = n; op = op; side = s }, fit, spells_join (One name_part n) (op_part op ∷ side_text s) h1 (h2 ++ (x ++ [])) s1 (spells_join (One op_part op) (side_text s) h2 (x ++ []) s2 (subst (λ y. Spells (side_text s) y) (sym (append-nil x)) spelled)))))
+    (λ s h3 ws s3 f3 d3. absurd cc)))
