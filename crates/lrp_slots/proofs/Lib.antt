@@ -1,0 +1,7 @@
+pub mod Added
+pub mod Keys
+pub mod Linked
+pub mod Removed
+pub mod Tables
+pub mod Unlinked
+pub mod Copying

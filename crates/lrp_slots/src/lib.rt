@@ -1,0 +1,9 @@
+//! Lists of values by cell. Each value stands in a slot of one vector, and a slot that is given up serves every cell.
+#![tactic(auto)]
+
+mod chains;
+mod iterators;
+mod slots;
+
+pub use iterators::{Cells, Values};
+pub use slots::Slots;
