@@ -1,6 +1,7 @@
 // Files in memory, and how far one of them was read.
 ghost use Rattle.std.specs.Prelude.{◌≡◌, ◌<◌, ◌+◌, min, length, take, drop, IfSome, IfNone, OnSome, true, false};
-ghost use Rattle.lrp_io.specs.Files.{content_of, name_at, bytes_at, holds_file, plus_capped};
+ghost use Rattle.lrp_io.specs.Causes.{plus_capped};
+ghost use Rattle.lrp_io.specs.Files.{content_of, name_at, bytes_at, holds_file};
 
 use crate::File;
 use lrp_model::List;

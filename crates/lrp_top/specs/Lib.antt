@@ -1,0 +1,4 @@
+pub mod Statuses
+pub mod Outcomes
+pub mod Words
+pub mod ThinAnswers

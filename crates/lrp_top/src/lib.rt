@@ -1,0 +1,16 @@
+//! The meaning of the command line: from words and files to a status and a text.
+#![tactic(auto)]
+
+mod deciding;
+mod outcome;
+mod running;
+mod status;
+mod thin_answer;
+mod thin_form;
+mod words;
+
+pub use running::run;
+pub use status::Status;
+
+#[cfg(test)]
+mod tests;

@@ -1,0 +1,45 @@
+// How a run ends.
+ghost use Rattle.std.specs.Prelude.{◌≡◌};
+ghost use Rattle.lrp_top.specs.Statuses.{number_of};
+
+/// How a run ended. The program ends with the status's number.
+#[derive(Clone, Copy, Debug, PartialEq, Eq)]
+pub enum Status {
+    /// The output was written whole.
+    Done,
+    /// The words are no command.
+    Usage,
+    /// The database is too long, or is no database.
+    Database,
+    /// The query is too long, is no query, or has a token that doesn't belong to it.
+    Query,
+    /// A limit on periods, bounds or cells.
+    Limit,
+    /// A file could not be read.
+    Read,
+    /// The output could not be written.
+    Write,
+    /// Memory was refused.
+    Memory,
+    /// The command is not built yet.
+    Unbuilt,
+}
+
+impl Status {
+    /// The number with which the program ends.
+    pub fn code(&self) -> u8
+        ensures { result ≡ number_of self.now }
+    {
+        match self {
+            Status::Done => 0,
+            Status::Usage => 2,
+            Status::Database => 3,
+            Status::Query => 4,
+            Status::Limit => 5,
+            Status::Read => 6,
+            Status::Write => 7,
+            Status::Memory => 8,
+            Status::Unbuilt => 9,
+        }
+    }
+}
