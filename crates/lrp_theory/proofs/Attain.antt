@@ -25,15 +25,19 @@ apart d None (Some c) h k =
 apart d (Some a) None h k = (d, omega (arith, ints), h, tt)
 apart d (Some a) (Some c) h k = (a, h, omega (arith, ints), omega (arith, ints))
 
+-- an equal number meets the bound too
 same_within : (v w : ℤ) (e : Option ℤ) → v ≡ w → Within v e → Within w e
 same_within v w e eq h = subst (λ z. Within z e) eq h
 
+-- the number at p
 at_here : (p : ℕ) (d : ℤ) → at_node p d p ≡ d
 at_here p d = let e : eqb p p ≡ true = grind (arith, nat_tests) in rw e
 
+-- and elsewhere
 at_other : (p q : ℕ) (d : ℤ) → p ≢ q → at_node p d q ≡ pos 0
 at_other p q d ne = let e : eqb q p ≡ false = grind (arith, nat_tests) in rw e
 
+-- a node of the pair is p or q
 pair_cases : (p q i : ℕ) → pair_of p q i ≡ true → p ≢ q → ((i ≡ p) × (eqb i p ≡ true)) ⊎ ((i ≡ q) × (eqb i p ≡ false))
 pair_cases p q i h ne = grind (arith, nat_tests)
 

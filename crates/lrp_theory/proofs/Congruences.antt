@@ -30,6 +30,7 @@ step_is a b g s t e =
     rest_is : (a b : ℕ) → pos (a % b) ≡ pos a -ℤ pos (a / b * b)
     rest_is a b = let e : a ≡ b * (a / b) + a % b = omega arith in let f : a / b * b ≡ b * (a / b) = omega arith in omega (arith, ints)
 
+-- Euclid's algorithm, with at most b steps
 euclid : (fuel a b : ℕ) → b ≤ fuel → 0 < a → (g : ℕ) × IsCombined a b g
 euclid fuel a zero le h = (
   a,

@@ -4,6 +4,7 @@ use Rattle.std.specs.Prelude.{ℤ, pos, negsuc, ◌+ℤ◌, ◌-ℤ◌, neg_ℤ}
 use Rattle.std.proofs.Math.IntN.{◌*ℤ◌, suc_ℤ, pred_ℤ, +ℤ-suc_ℤ, +ℤ-pred_ℤ, suc_ℤ-*ℤ, pred_ℤ-*ℤ, zero-*ℤ, *ℤ_comm, *ℤ-zero}
 use Rattle.std.proofs.lemmas.Int.{ints}
 
+-- m + 0 = m
 add_zero : (m : ℤ) → m +ℤ pos 0 ≡ m
 add_zero m = omega (arith, ints)
 
