@@ -20,36 +20,35 @@ use Rattle.std.proofs.lemmas.List.Edits.{length-remove}
 use Rattle.lrp_zone.specs.Zones.{ZoneView, IsTight, IsShape, IsZone, IsMember, HasMember, columns_of, reach_of}
 use Rattle.lrp_zone.specs.Columns.{past, with_value, IsWithout, IsDropped}
 use Rattle.lrp_zone.proofs.Members.{list_member, member_meets, agrees_of}
-use Rattle.lrp_zone.proofs.Inclusion.{lesser_tight}
+use Rattle.lrp_zone.proofs.Cases.{eq_or}
+use Rattle.lrp_zone.proofs.Inclusion.{lesser_tight, lesser_met}
 use Rattle.lrp_zone.proofs.Reaches.{reach_small, small_reach}
 use Rattle.lrp_zone.proofs.Nodes.{past_below, from_past, node_at, node_past_at, length_with, node_remove}
-
-eq_or : (i j : ℕ) → (i ≡ j) ⊎ (i ≢ j)
-eq_or i j = grind arith
-
-within_one : (e f g : Option ℤ) (d : ℤ) → (e ≡ f) ⊎ (e ≡ g) → Within d f → Within d g → Within d e
-within_one e f g d (inl q) a b = rw q a
-within_one e f g d (inr q) a b = rw q b
 
 -- the values of a node that have its residue
 abbrev Fits : ℤ → (ℕ → ℤ) → ℕ → ℤ → Type 0
 Fits k r m v = Divides k (v -ℤ r m)
 
+-- a value of one residue less a tight bound has the other residue
 low_value : (k r s x a : ℤ) → Divides k (a -ℤ (r -ℤ s)) → Divides k (x -ℤ r) → Divides k ((x -ℤ a) -ℤ s)
 low_value k r s x a h g = Divides-is k ((x -ℤ r) -ℤ (a -ℤ (r -ℤ s))) _ (omega (arith, ints)) (Divides-- k _ _ g h)
 
+-- and so it has with the bound added
 high_value : (k r s x a : ℤ) → Divides k (a -ℤ (s -ℤ r)) → Divides k (x -ℤ r) → Divides k ((x +ℤ a) -ℤ s)
 high_value k r s x a h g = Divides-is k ((x -ℤ r) +ℤ (a -ℤ (s -ℤ r))) _ (omega (arith, ints)) (Divides-+ k _ _ g h)
 
+-- each residue has values above any number
 large_value : (k r d : ℤ) → pos 1 ≤ℤ k → (v : ℤ) × (d ≤ℤ v) × Divides k (v -ℤ r)
 large_value k r d one = by (int_rem_euclid (r -ℤ d) k) refl (rem_between k (r -ℤ d) _ one refl).0
   where
     by : (m : ℤ) → m ≡ int_rem_euclid (r -ℤ d) k → pos 0 ≤ℤ m → (v : ℤ) × (d ≤ℤ v) × Divides k (v -ℤ r)
     by m e h = (d +ℤ m, omega (arith, ints), Divides-is k (neg_ℤ ((r -ℤ d) -ℤ m)) _ (omega (arith, ints)) (Divides-neg k _ (rem_divides k (r -ℤ d) m one e)))
 
+-- a bound that is there has the residue
 agrees_at : (k w a : ℤ) (e : Option ℤ) → e ≡ Some a → Agrees k w e → Divides k (a -ℤ w)
 agrees_at k w a e q h = let g : Agrees k w (Some a) = subst (λ f. Agrees k w f) q h in g
 
+-- the values of the residues make a lattice for tight bounds
 lattice_of : (z : ZoneView) → IsShape z → Lattice (columns_of z + 1) (entry z.bounds) (Fits (pos z.period) (node z.residues))
 lattice_of z s =
     let one : pos 1 ≤ℤ pos z.period = (let l : 0 < z.period = s.period_low in omega (arith, ints)) in
@@ -61,6 +60,7 @@ lattice_of z s =
       large = λ k d kl. large_value (pos z.period) (node z.residues k) d one;
     }
 
+-- the sum of two tight bounds is tight
 plus_tight : (k r s t : ℤ) (e f : Option ℤ) → IsTight k (r -ℤ s) e → IsTight k (s -ℤ t) f → AtMost (2 ^ 61) e → AtMost (2 ^ 61) f → IsTight k (r -ℤ t) (plus e f)
 plus_tight k r s t None f a b g h = tt
 plus_tight k r s t (Some x) None a b g h = tt
@@ -69,20 +69,25 @@ plus_tight k r s t (Some x) (Some y) a b g h =
     let g0 = b.1 in
     (Divides-is k _ _ (omega (arith, ints)) (Divides-+ k _ _ a.0 b.0), (omega (arith, ints), omega (arith, ints)))
 
+-- no bound has any magnitude
 AtMost-none : (h : ℕ) (e : Option ℤ) → e ≡ None → AtMost h e
 AtMost-none h e q = subst (λ f. AtMost h f) (sym q) tt
 
 module _ (z : ZoneView) (valid : IsZone z) (k : ℕ) (low : 0 < k) (high : k ≤ columns_of z) (room : 2 * reach_of z ≤ 2 ^ 62) (rs : List ℤ) (bs : List (Option ℤ))
     (is : rs ≡ remove z.residues (k - 1)) (made : IsWithout z.bounds k (columns_of z) bs) where
+  -- the zone without column k
   abbrev rest : ZoneView
   rest = record { period = z.period; residues = rs; bounds = bs }
 
+  -- it has one column fewer
   count : length rs + 1 ≡ columns_of z
   count = rw is (length-remove z.residues (k - 1) (omega arith))
 
+  -- its residues are those of the other columns
   residues : (p : ℕ) → p < columns_of z → node rs p ≡ node z.residues (past k p)
   residues p pl = rw is (node_remove k p z.residues low high)
 
+  -- the bounds are small enough for a sum of two
   small : AllSmall (columns_of z + 1) (2 ^ 61) z.bounds
   small = reach_small z (2 ^ 61) (omega arith)
 
@@ -92,16 +97,19 @@ module _ (z : ZoneView) (valid : IsZone z) (k : ℕ) (low : 0 < k) (high : k ≤
   dropped_pair x h p q pl ql (inr ne) =
       let a : past k p ≤ columns_of z = past_below k p (columns_of z) pl in
       let b : past k q ≤ columns_of z = past_below k q (columns_of z) ql in
-      within_one _ _ _ (x (past k p) -ℤ x (past k q)) ((made.each p q pl ql).lesser ne).one
+      lesser_met (x (past k p) -ℤ x (past k q)) _ _ _ ((made.each p q pl ql).lesser ne)
       (h (past k p) (past k q) (omega (arith, count)) (omega (arith, count)))
       (through (x (past k p)) (x (past k q)) (x k) _ _ (h (past k p) k (omega (arith, count)) (omega (arith, count))) (h k (past k q) (omega (arith, count)) (omega (arith, count))))
 
+  -- the same for all pairs
   dropped_meets : (x : ℕ → ℤ) → Meets (columns_of z + 1) (entry z.bounds) x → Meets (length rs + 1) (entry bs) (λ p. x (past k p))
   dropped_meets x h p q pl ql = dropped_pair x h p q (omega (arith, count)) (omega (arith, count)) (eq_or p q)
 
+  -- values of the old residues have the new ones
   node_fits : (xs : List ℤ) → IsMember z xs → (p : ℕ) → p < columns_of z → Divides (pos z.period) (node xs (past k p) -ℤ node rs p)
   node_fits xs m p pl = rw (residues p pl) (m.cell.each (past k p) (past_below k p (columns_of z) pl))
 
+  -- a tuple that a value completes is in the rest
   pub from_member : (xs : List ℤ) (v : ℤ) → length xs ≡ length rs → IsMember z (with_value k v xs) → IsMember rest xs
   from_member xs v counted m =
       let at : (p : ℕ) → node (with_value k v xs) (past k p) ≡ node xs p = λ p. node_past_at k p v xs low (let c : length xs ≡ length rs = counted in omega (arith, count)) in
@@ -110,6 +118,7 @@ module _ (z : ZoneView) (valid : IsZone z) (k : ℕ) (low : 0 < k) (high : k ≤
         meets = λ p q pl ql. rw (← at p, ← at q) (dropped_meets (node (with_value k v xs)) (member_meets z (with_value k v xs) m) p q (omega (arith, count)) (omega (arith, count)));
       }
 
+  -- the rest keeps a zone's parts
   pub shape_rest : IsShape rest
   shape_rest = record {
     period_low = valid.shape.period_low;
@@ -133,6 +142,7 @@ module _ (z : ZoneView) (valid : IsZone z) (k : ℕ) (low : 0 < k) (high : k ≤
           lesser_tight _ _ _ _ _ ((made.each p q pl ql).lesser ne) (valid.shape.tight (past k p) (past k q) a b)
           (plus_tight _ _ (node z.residues k) _ _ _ (valid.shape.tight (past k p) k a high) (valid.shape.tight k (past k q) high b) (small.each (past k p) k (omega (arith, count)) (omega (arith, count))) (small.each k (past k q) (omega (arith, count)) (omega (arith, count))))
 
+  -- the old tuple without column k is in the rest
   pub has_rest : HasMember rest
   has_rest =
       let ys : List ℤ = valid.some.member in
@@ -141,6 +151,7 @@ module _ (z : ZoneView) (valid : IsZone z) (k : ℕ) (low : 0 < k) (high : k ≤
         is = list_member rest (λ p. node ys (past k p)) (dropped_meets (node ys) (member_meets z ys valid.some.is)) (λ p pl. node_fits ys valid.some.is p (omega (arith, count)));
       }
 
+  -- the reach at most doubles
   reach_rest : length bs ≡ 81 → reach_of rest ≤ 2 * reach_of z
   reach_rest size =
       small_reach rest (2 * reach_of z) shape_rest.columns size shape_rest.outside (record {
@@ -158,14 +169,17 @@ module _ (z : ZoneView) (valid : IsZone z) (k : ℕ) (low : 0 < k) (high : k ≤
       own i j il jl = (reach_small z (reach_of z) (omega (arith, count))).each i j (omega (arith, count)) (omega (arith, count))
 
   module _ (xs : List ℤ) (m : IsMember rest xs) where
+    -- column k is at most one behind the tuple
     enough : k ≤ length xs + 1
     enough = let c : length xs ≡ length rs = m.cell.count in omega (arith, count)
 
+    -- another column's value is one of the tuple
     same_other : (v : ℤ) (i : ℕ) → i ≤ columns_of z → i ≢ k → (p : ℕ) × (past k p ≡ i) × (p < columns_of z) × (node (with_value k v xs) i ≡ node xs p)
     same_other v i il ne =
         let r : (p : ℕ) × (past k p ≡ i) × (p < columns_of z) = from_past k i (columns_of z) ne il high in
         (r.0, r.1, r.2, subst (λ j. node (with_value k v xs) j ≡ node xs r.0) r.1 (node_past_at k r.0 v xs low enough))
 
+    -- and it has the residue
     other_fits : (v : ℤ) (i : ℕ) → i ≤ columns_of z → i ≢ k → Divides (pos z.period) (node (with_value k v xs) i -ℤ node z.residues i)
     other_fits v i il ne =
         let r = same_other v i il ne in
@@ -176,6 +190,7 @@ module _ (z : ZoneView) (valid : IsZone z) (k : ℕ) (low : 0 < k) (high : k ≤
         below : {p : ℕ} → p < columns_of z → p ≤ length rs
         below h = omega (arith, count)
 
+    -- two values of the rest meet the path through column k
     through_pair : (p q : ℕ) → p < columns_of z → q < columns_of z → (p ≡ q) ⊎ (p ≢ q) → Within (node xs p -ℤ node xs q) (plus (entry z.bounds (past k p) k) (entry z.bounds k (past k q)))
     through_pair p q pl ql (inl e) =
         let ys : List ℤ = valid.some.member in
@@ -184,6 +199,7 @@ module _ (z : ZoneView) (valid : IsZone z) (k : ℕ) (low : 0 < k) (high : k ≤
         (within_same (node ys (past k p)) (node xs p) _ (through (node ys (past k p)) (node ys (past k p)) (node ys k) _ _ (valid.some.is.meets (past k p) k a high) (valid.some.is.meets k (past k p) high a)))
     through_pair p q pl ql (inr ne) = (((made.each p q pl ql).lesser ne).below _ (m.meets p q (omega (arith, count)) (omega (arith, count)))).1
 
+    -- the same by the old numbers of the columns
     through_other : (i j : ℕ) → i ≤ columns_of z → j ≤ columns_of z → i ≢ k → j ≢ k → Within (node (with_value k (pos 0) xs) i -ℤ node (with_value k (pos 0) xs) j) (plus (entry z.bounds i k) (entry z.bounds k j))
     through_other i j il jl ni nj =
         let r = same_other (pos 0) i il ni in
@@ -193,6 +209,7 @@ module _ (z : ZoneView) (valid : IsZone z) (k : ℕ) (low : 0 < k) (high : k ≤
         rw (e, f) (subst (λ a. Within (node xs r.0 -ℤ node xs s.0) (plus (entry z.bounds a k) (entry z.bounds k j))) r.1
         (subst (λ b. Within (node xs r.0 -ℤ node xs s.0) (plus (entry z.bounds (past k r.0) k) (entry z.bounds k b))) s.1 (through_pair r.0 s.0 r.2 s.2 (eq_or r.0 s.0))))
 
+    -- two other columns meet their stored bound
     old_pair : (v : ℤ) (i j : ℕ) → i ≤ columns_of z → j ≤ columns_of z → i ≢ k → j ≢ k → Within (node (with_value k v xs) i -ℤ node (with_value k v xs) j) (entry z.bounds i j)
     old_pair v i j il jl ni nj =
         let r = same_other v i il ni in
@@ -206,6 +223,7 @@ module _ (z : ZoneView) (valid : IsZone z) (k : ℕ) (low : 0 < k) (high : k ≤
         place p q pl ql (inl e) = subst (λ f. Within (node xs p -ℤ node xs q) f) (sym (subst (λ r. entry z.bounds (past k p) (past k r) ≡ None) e (valid.shape.diagonal (past k p) (past_below k p (columns_of z) pl)))) tt
         place p q pl ql (inr ne) = (((made.each p q pl ql).lesser ne).below _ (m.meets p q (omega (arith, count)) (omega (arith, count)))).0
 
+    -- some value for column k completes a tuple of the rest
     pub to_member : (v : ℤ) × IsMember z (with_value k v xs)
     to_member =
         let y : ℕ → ℤ = node (with_value k (pos 0) xs) in
@@ -251,9 +269,11 @@ module _ (z : ZoneView) (valid : IsZone z) (k : ℕ) (low : 0 < k) (high : k ≤
             let r : (p : ℕ) × (past k p ≡ i) × (p < columns_of z) = from_past k i (columns_of z) ne il high in
             subst (λ j. node (with_value k v xs) j ≡ node (with_value k (pos 0) xs) j) r.1 (node_past_at k r.0 v xs low enough ∙ sym (node_past_at k r.0 (pos 0) xs low enough))
 
+  -- the rest holds the tuples that some value completes
   dropped : length bs ≡ 81 → IsDropped z k rest
   dropped size = record { period = refl; residues = is; to = λ xs m. to_member xs m; from = λ xs v l m. from_member xs v l m; reach = reach_rest size }
 
+  -- the same for a zone that is the rest
   pub dropped_to : length bs ≡ 81 → (w : ZoneView) → w ≡ rest → IsDropped z k w
   dropped_to size w h = rw h (dropped size)
 

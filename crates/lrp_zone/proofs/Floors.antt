@@ -11,6 +11,7 @@ use Rattle.lrp_theory.proofs.Floor.{Agrees}
 use Rattle.lrp_zone.specs.Zones.{IsTight}
 use Rattle.lrp_zone.specs.Tight.{HasRoom, IsFloor, IsTightened, IsStored}
 
+-- what tightening a number gives is its floor
 pub floor_of : (k w a r l u b : ℤ) → r ≤ℤ b → Divides l (r -ℤ u) → ((c : ℤ) → c ≤ℤ b → Divides l (c -ℤ u) → c ≤ℤ r) → l ≡ k → u ≡ w → b ≡ a → IsFloor k w a r
 floor_of k w a r l u b below tight greatest e f g = rw (← e, ← f, ← g) (record { below = below; tight = tight; greatest = greatest })
 
@@ -24,6 +25,7 @@ floor_above k w a v one f = by_lt_z (a -ℤ k) v
 pub floor_own : (k w a v : ℤ) → Divides k (a -ℤ w) → IsFloor k w a v → v ≡ a
 floor_own k w a v d f = let g : a ≤ℤ v = f.greatest a (omega (arith, ints)) d in let l : v ≤ℤ a = f.below in omega (arith, ints)
 
+-- a floor tightens a bound
 pub tightened_some : (k w a r v : ℤ) (e : Option ℤ) → e ≡ Some a → v ≡ r → IsFloor k w a r → IsTightened k w e (Some v)
 tightened_some k w a r v e q h s = rw (q, h) (record { none = λ n. cc; some = λ b n. let d : a ≡ b = cc in (r, refl, subst (λ y. IsFloor k w y r) d s) })
 
@@ -43,10 +45,12 @@ below_tightened k w (Some a) f d h fit g =
     let r : (u : ℤ) × (f ≡ Some u) × IsFloor k w a u = h.some a refl in
     subst (λ y. Within d y) (sym r.1) (r.2.greatest d g fit)
 
+-- a tightened bound has the residue
 pub tightened_agrees : (k w : ℤ) (e f : Option ℤ) → IsTightened k w e f → Agrees k w f
 tightened_agrees k w None f h = subst (λ y. Agrees k w y) (sym (h.none refl)) tt
 tightened_agrees k w (Some a) f h = let r : (u : ℤ) × (f ≡ Some u) × IsFloor k w a u = h.some a refl in subst (λ y. Agrees k w y) (sym r.1) r.2.tight
 
+-- a stored bound is tight
 pub stored_tight : (k w : ℤ) (e f : Option ℤ) → IsStored k w e f → IsTight k w f
 stored_tight k w e None h = tt
 stored_tight k w e (Some v) h = let g : Agrees k w (Some v) = tightened_agrees k w e (Some v) h.tightened in let s : AtMost (2 ^ 62) (Some v) = h.small in (g, s)
@@ -89,9 +93,11 @@ room_small k w (Some a) f low high fits t =
 
 -- ---- numbers in words of memory
 
+-- a number of that size keeps its value in a word
 pub word : (r : ℤ) → neg_ℤ (pos (2 ^ 64)) ≤ℤ r → r ≤ℤ pos (2 ^ 64) → to_z w128 (of_z w128 r) ≡ r
 word r h g = omega (arith, ints)
 
+-- the floor of a number of 64 bits has 65 at most
 pub floor_small : (k : ℕ) (w a v : ℤ) → 0 < k → k ≤ 2 ^ 62 → (neg_ℤ (pos (2 ^ 63)) ≤ℤ a) × (a ≤ℤ pos (2 ^ 63)) → IsFloor (pos k) w a v → (neg_ℤ (pos (2 ^ 64)) ≤ℤ v) × (v ≤ℤ pos (2 ^ 64))
 floor_small k w a v low high s f =
     let b : (a -ℤ pos k) <ℤ v = floor_above (pos k) w a v (omega (arith, ints)) f in
@@ -100,5 +106,6 @@ floor_small k w a v low high s f =
     let s1 : a ≤ℤ pos (2 ^ 63) = s.1 in
     (omega (arith, ints), omega (arith, ints))
 
+-- the magnitude of a bound that is there
 pub at_most_some : (h : ℕ) (e : Option ℤ) (a : ℤ) → e ≡ Some a → AtMost h e → (neg_ℤ (pos h) ≤ℤ a) × (a ≤ℤ pos h)
 at_most_some h e a q s = subst (λ f. AtMost h f) q s

@@ -1,6 +1,6 @@
 -- The zone of given bounds.
 use Rattle.std.proofs.Common.{◌≡◌, ℕ, ◌+◌, ◌-◌, ◌*◌, ◌<◌, ◌≤◌, ◌≢◌, ◌^◌, List, Option, Some, None, replicate, arith, refl, sym, ap, subst, ◌∙◌, length, inl, inr, ◌⊎◌, below_more}
-use Rattle.std.specs.Prelude.{ℤ, pos, nat_abs, ◌-ℤ◌, ◌≤ℤ◌, ◌<ℤ◌, IfSome, IfNone}
+use Rattle.std.specs.Prelude.{ℤ, pos, nat_abs, ◌-ℤ◌, ◌≤ℤ◌, IfSome, IfNone}
 use Rattle.std.proofs.lemmas.Int.{ints, by_lt_z}
 use Rattle.std.proofs.lemmas.List.{get_or-replicate}
 use Rattle.lrp_theory.specs.Bounds.{Within}
@@ -12,24 +12,20 @@ use Rattle.lrp_model.specs.declared.relations.Bound.{Bound}
 use Rattle.lrp_zone.specs.Zones.{ZoneView, IsShape, IsZone, IsMember, HasMember, IsTight, IsResidue, columns_of, reach_of}
 use Rattle.lrp_zone.specs.Tight.{IsStored}
 use Rattle.lrp_zone.specs.Given.{bound_at, HasNegative, IsGiven, AreGiven, IsKept, IsWith, IsGathered, MeetsGiven, IsOf, HasNone, AreOwn}
+use Rattle.lrp_zone.proofs.Cases.{eq_or, place_or}
 use Rattle.lrp_zone.proofs.Floors.{stored_tight, stored_own, tightened_below, below_tightened, tightened_small}
 use Rattle.lrp_zone.proofs.Reaches.{small_reach}
 use Rattle.lrp_zone.proofs.Tables.{same_table}
 
-eq_or : (i j : ℕ) → (i ≡ j) ⊎ (i ≢ j)
-eq_or i j = grind arith
-
-place_or : (p q i j : ℕ) → ((p ≡ i) × (q ≡ j)) ⊎ (p ≡ i → q ≡ j → ⊥)
-place_or p q i j = grind arith
-
 -- e is stored for one of the first n bounds, which stands at (p, q)
-pub record IsFrom (k : ℤ) (rs : List ℤ) (bs : List Bound) (n p q : ℕ) (e : Option ℤ) : Type 0 where
+pub record IsStoredFrom (k : ℤ) (rs : List ℤ) (bs : List Bound) (n p q : ℕ) (e : Option ℤ) : Type 0 where
   pub place : ℕ
   pub low : place < n
   pub left : (bound_at bs place).left ≡ p
   pub right : (bound_at bs place).right ≡ q
   pub kept : IsKept k rs (bound_at bs place) e
 
+-- a free table has gathered no bounds
 pub gathered_none : (k : ℤ) (rs : List ℤ) (bs : List Bound) (out : List (Option ℤ)) → out ≡ replicate 81 None → IsGathered k rs bs 0 out
 gathered_none k rs bs out e = record {
   below = λ i h. absurd (omega arith);
@@ -38,12 +34,14 @@ gathered_none k rs bs out e = record {
 
 module _ (k : ℤ) (rs : List ℤ) (bs : List Bound) (n : ℕ) (old new : List (Option ℤ)) (b : Bound) (here : bound_at bs n ≡ b)
     (step : IsWith k rs b old new) (before : IsGathered k rs bs n old) (inside : (i : ℕ) → i < n → (bound_at bs i).right < 9) where
+  -- a bound does not grow
   below_old : (p q : ℕ) → q < 9 → IsBelow (entry new p q) (entry old p q)
   below_old p q ql = elim (place_or p q b.left b.right) [
     | inl e ↦ rw (e.0, e.1) (record { below = λ d h. (step.here.2.below d h).0 })
     | inr ne ↦ rw (step.others p q ql ne) (record { below = λ d h. h })
   ]
 
+  -- each of the first n + 1 bounds is kept
   step_below : (i : ℕ) → i < n + 1 → (e : Option ℤ) × IsKept k rs (bound_at bs i) e × IsBelow (entry new (bound_at bs i).left (bound_at bs i).right) e
   step_below = below_more (λ i. (e : Option ℤ) × IsKept k rs (bound_at bs i) e × IsBelow (entry new (bound_at bs i).left (bound_at bs i).right) e) n
       (λ i h.
@@ -51,6 +49,7 @@ module _ (k : ℤ) (rs : List ℤ) (bs : List Bound) (n : ℕ) (old new : List (
       (o.0, o.1, record { below = λ d w. o.2.below d ((below_old (bound_at bs i).left (bound_at bs i).right (inside i h)).below d w) }))
       (rw here (step.here.0, step.here.1, record { below = λ d w. (step.here.2.below d w).1 }))
 
+  -- an entry that was stored for one of the first n bounds
   more : (p q : ℕ) (e f : Option ℤ) → f ≡ e → (e ≡ None) ⊎ ((i : ℕ) × (i < n) × ((bound_at bs i).left ≡ p) × ((bound_at bs i).right ≡ q) × IsKept k rs (bound_at bs i) e)
       → (f ≡ None) ⊎ ((i : ℕ) × (i < n + 1) × ((bound_at bs i).left ≡ p) × ((bound_at bs i).right ≡ q) × IsKept k rs (bound_at bs i) f)
   more p q e f eq (inl o) = inl (eq ∙ o)
@@ -59,11 +58,13 @@ module _ (k : ℤ) (rs : List ℤ) (bs : List Bound) (n : ℕ) (old new : List (
       lt : {i : ℕ} → i < n → i < n + 1
       lt h = omega arith
 
+  -- the entry at the place of the new bound
   one_here : (p q : ℕ) → p < 9 → q < 9 → p ≡ b.left → q ≡ b.right → (entry new b.left b.right ≡ entry old b.left b.right) ⊎ (entry new b.left b.right ≡ step.here.0)
       → (entry new p q ≡ None) ⊎ ((i : ℕ) × (i < n + 1) × ((bound_at bs i).left ≡ p) × ((bound_at bs i).right ≡ q) × IsKept k rs (bound_at bs i) (entry new p q))
   one_here p q pl ql e f (inl o) = more p q (entry old p q) (entry new p q) (rw (e, f) o) (before.one p q pl ql)
   one_here p q pl ql e f (inr o) = inr (n, (omega arith), rw here (sym e), rw here (sym f), rw (here, e, f, o) step.here.1)
 
+  -- one more bound is gathered
   pub gathered_more : IsGathered k rs bs (n + 1) new
   gathered_more = record {
     below = step_below;
@@ -73,6 +74,7 @@ module _ (k : ℤ) (rs : List ℤ) (bs : List Bound) (n : ℕ) (old new : List (
     ];
   }
 
+-- a difference of two values has the difference of their residues
 apart : (k x y r s : ℤ) → Divides k (x -ℤ r) → Divides k (y -ℤ s) → Divides k ((x -ℤ y) -ℤ (r -ℤ s))
 apart k x y r s h f = Divides-is k ((x -ℤ r) -ℤ (y -ℤ s)) _ (omega (arith, ints)) (Divides-- k _ _ h f)
 
@@ -88,17 +90,20 @@ pub record Giving (k : ℕ) (n : ℤ) (rs : List ℤ) (bs : List Bound) (out : L
   pub made : IsGathered (pos k) rs bs (length bs) out
 
 module _ (k : ℕ) (n : ℤ) (rs : List ℤ) (bs : List Bound) (out : List (Option ℤ)) (g : Giving k n rs bs out) where
+  -- the zone of the gathered bounds
   abbrev made_zone : ZoneView
   made_zone = record { period = k; residues = rs; bounds = out }
 
+  -- there are at most eight columns
   column_low : (p : ℕ) → p ≤ length rs → p < 9
   column_low p l = let c : length rs ≤ 8 = g.columns in omega arith
 
   -- each entry of the table is none or is stored for a given bound
-  made_one : (p q : ℕ) → p < 9 → q < 9 → (entry out p q ≡ None) ⊎ (IsFrom (pos k) rs bs (length bs) p q (entry out p q))
+  made_one : (p q : ℕ) → p < 9 → q < 9 → (entry out p q ≡ None) ⊎ (IsStoredFrom (pos k) rs bs (length bs) p q (entry out p q))
   made_one p q pl ql = elim (g.made.one p q pl ql) [ inl o ↦ inl o | inr o ↦ inr (record { place = o.0; low = o.1; left = o.2; right = o.3; kept = o.4 }) ]
 
-  from_columns : (p q : ℕ) (e : Option ℤ) → IsFrom (pos k) rs bs (length bs) p q e → (p ≤ length rs) × (q ≤ length rs)
+  -- a stored entry stands between two columns
+  from_columns : (p q : ℕ) (e : Option ℤ) → IsStoredFrom (pos k) rs bs (length bs) p q e → (p ≤ length rs) × (q ≤ length rs)
   from_columns p q e f =
       let b : IsGiven n rs (bound_at bs f.place) = g.bounds.each f.place f.low in
       (subst (λ r. r ≤ length rs) f.left b.left, subst (λ r. r ≤ length rs) f.right b.right)
@@ -107,7 +112,8 @@ module _ (k : ℕ) (n : ℤ) (rs : List ℤ) (bs : List Bound) (out : List (Opti
   stored_at : (p q i : ℕ) (e : Option ℤ) → (bound_at bs i).left ≡ p → (bound_at bs i).right ≡ q → IsKept (pos k) rs (bound_at bs i) e → p ≢ q → IsStored (pos k) (node rs p -ℤ node rs q) (Some (bound_at bs i).most) e
   stored_at p q i e l r kept ne = rw (← l, ← r) (kept.apart (λ s. ne (sym l ∙ s ∙ r)))
 
-  diagonal_at : (p : ℕ) (e : Option ℤ) → (e ≡ None) ⊎ (IsFrom (pos k) rs bs (length bs) p p e) → e ≡ None
+  -- nothing is stored on the diagonal
+  diagonal_at : (p : ℕ) (e : Option ℤ) → (e ≡ None) ⊎ (IsStoredFrom (pos k) rs bs (length bs) p p e) → e ≡ None
   diagonal_at p e (inl o) = o
   diagonal_at p e (inr f) = f.kept.same (f.left ∙ sym f.right)
 
@@ -120,11 +126,12 @@ module _ (k : ℕ) (n : ℤ) (rs : List ℤ) (bs : List Bound) (out : List (Opti
       none : (e : Option ℤ) → e ≡ None → P p q e
       none e o = subst (λ f. P p q f) (sym o) (free p q)
 
-      by : (p ≡ q) ⊎ (p ≢ q) → (entry out p q ≡ None) ⊎ (IsFrom (pos k) rs bs (length bs) p q (entry out p q)) → P p q (entry out p q)
+      by : (p ≡ q) ⊎ (p ≢ q) → (entry out p q ≡ None) ⊎ (IsStoredFrom (pos k) rs bs (length bs) p q (entry out p q)) → P p q (entry out p q)
       by s (inl o) = none (entry out p q) o
       by (inl s) (inr f) = none (entry out p q) (f.kept.same (f.left ∙ s ∙ sym f.right))
       by (inr ne) (inr f) = stored p q f.place (entry out p q) f.low f.left f.right (stored_at p q f.place (entry out p q) f.left f.right f.kept ne)
 
+  -- the zone keeps a zone's parts
   pub shape_made : IsShape made_zone
   shape_made = record {
     period_low = let e : pos k ≡ n = g.period in let l : pos 1 ≤ℤ n = g.low in omega (arith, ints);
@@ -136,11 +143,12 @@ module _ (k : ℕ) (n : ℤ) (rs : List ℤ) (bs : List Bound) (out : List (Opti
     outside = record { none = λ p q pl ql o. outside_at p q o (made_one p q pl ql) };
   }
     where
-      outside_at : (p q : ℕ) → (length rs + 1 ≤ p) ⊎ (length rs + 1 ≤ q) → (entry out p q ≡ None) ⊎ (IsFrom (pos k) rs bs (length bs) p q (entry out p q)) → entry out p q ≡ None
+      outside_at : (p q : ℕ) → (length rs + 1 ≤ p) ⊎ (length rs + 1 ≤ q) → (entry out p q ≡ None) ⊎ (IsStoredFrom (pos k) rs bs (length bs) p q (entry out p q)) → entry out p q ≡ None
       outside_at p q o (inl e) = e
       outside_at p q (inl o) (inr f) = let c : p ≤ length rs = (from_columns p q (entry out p q) f).0 in absurd (omega arith)
       outside_at p q (inr o) (inr f) = let c : q ≤ length rs = (from_columns p q (entry out p q) f).1 in absurd (omega arith)
 
+  -- its tuples meet the given bounds
   made_to : (xs : List ℤ) → IsMember made_zone xs → MeetsGiven n rs bs xs
   made_to xs m = record {
     count = m.cell.count;
@@ -160,6 +168,7 @@ module _ (k : ℕ) (n : ℤ) (rs : List ℤ) (bs : List Bound) (out : List (Opti
       same_node : (xs : List ℤ) (l r : ℕ) (a : ℤ) → l ≡ r → pos 0 ≤ℤ a → (node xs l -ℤ node xs r) ≤ℤ a
       same_node xs l r a e h = rw e (omega (arith, ints))
 
+  -- tuples that meet the given bounds are in it
   made_from : (xs : List ℤ) → MeetsGiven n rs bs xs → IsMember made_zone xs
   made_from xs m = record {
     cell = record { count = m.count; each = fit };
@@ -171,9 +180,11 @@ module _ (k : ℕ) (n : ℤ) (rs : List ℤ) (bs : List Bound) (out : List (Opti
       fit : (r : ℕ) → r ≤ length rs → Divides (pos k) (node xs r -ℤ node rs r)
       fit r h = rw g.period (m.residues.each r h)
 
+  -- a magnitude as a bound on both sides
   small_some : (h : ℕ) (a : ℤ) → nat_abs a ≤ h → AtMost h (Some a)
   small_some h a l = (omega (arith, ints), omega (arith, ints))
 
+  -- its reach is at most the greatest given magnitude and the period less 1
   made_reach : length out ≡ 81 → (h : ℕ) → ((i : ℕ) → i < length bs → nat_abs (bound_at bs i).most ≤ h) → reach_of made_zone ≤ h + (k - 1)
   made_reach size h small = small_reach made_zone (h + (k - 1)) g.columns size shape_made.outside
       (record {
@@ -181,6 +192,7 @@ module _ (k : ℕ) (n : ℤ) (rs : List ℤ) (bs : List Bound) (out : List (Opti
             (λ p q i e il l r s. tightened_small h k (node rs p -ℤ node rs q) (Some (bound_at bs i).most) e shape_made.period_low s.tightened (small_some h (bound_at bs i).most (small i il))) p q (column_low p (omega arith)) (column_low q (omega arith));
       })
 
+  -- it is the zone of the given bounds
   of_is : length out ≡ 81 → IsOf n rs bs made_zone
   of_is size = record {
     period = g.period;
@@ -191,22 +203,27 @@ module _ (k : ℕ) (n : ℤ) (rs : List ℤ) (bs : List Bound) (out : List (Opti
     reach = made_reach size;
   }
 
+  -- the same for the result of a call
   pub of_some : length out ≡ 81 → (o : Option ZoneView) → IfSome o (λ y. y ≡ made_zone) → IfSome o (λ y. IsOf n rs bs y)
   of_some size None h = tt
   of_some size (Some y) h = rw h (of_is size)
 
+  -- where it has no tuple, none meets the given bounds
   pub of_none : (o : Option ZoneView) → IfNone o (HasMember made_zone → ⊥) → IfNone o (HasNone n rs bs)
   of_none None h = record { none = λ xs m. h (record { member = xs; is = made_from xs m }) }
   of_none (Some y) h = tt
 
   -- ---- the parts of a zone z are given
   module _ (z : ZoneView) (valid : IsZone z) (own : AreOwn z n rs bs) where
+    -- the given period is that of z
     same_period : k ≡ z.period
     same_period = let e : pos k ≡ n = g.period in let f : n ≡ pos z.period = own.period in omega (arith, ints)
 
+    -- a stored bound of z is tight
     tight_some : (a : ℤ) (p q : ℕ) → p ≤ columns_of z → q ≤ columns_of z → entry z.bounds p q ≡ Some a → Divides (pos z.period) (a -ℤ (node z.residues p -ℤ node z.residues q))
     tight_some a p q pl ql e = let t : IsTight (pos z.period) (node z.residues p -ℤ node z.residues q) (Some a) = subst (λ f. IsTight (pos z.period) (node z.residues p -ℤ node z.residues q) f) e (valid.shape.tight p q pl ql) in t.0
 
+    -- what is stored for a bound of z is that bound
     kept_own : (i : ℕ) (e : Option ℤ) → i < length bs → IsStored (pos k) (node rs (bound_at bs i).left -ℤ node rs (bound_at bs i).right) (Some (bound_at bs i).most) e → e ≡ Some (bound_at bs i).most
     kept_own i e il s =
         let o = own.stored i il in
@@ -218,6 +235,7 @@ module _ (k : ℕ) (n : ℤ) (rs : List ℤ) (bs : List Bound) (out : List (Opti
         let o = own.stored i il in
         kept_own i e il (rw (l, r) s) ∙ sym (rw (← l, ← r) o.2)
 
+    -- where nothing is gathered, z has no bound
     entry_none : (p q : ℕ) → p < 9 → q < 9 → entry out p q ≡ None → (e : Option ℤ) → entry z.bounds p q ≡ e → e ≡ None
     entry_none p q pl ql o None h = refl
     entry_none p q pl ql o (Some a) h = by (inside p) (inside q)
@@ -242,40 +260,28 @@ module _ (k : ℕ) (n : ℤ) (rs : List ℤ) (bs : List Bound) (out : List (Opti
             let ne : (bound_at bs f.0).left ≢ (bound_at bs f.0).right = (λ s. not_none (let d : p ≡ q = sym f.2 ∙ s ∙ f.3 in subst (λ r. entry z.bounds p r ≡ None) d (valid.shape.diagonal p u))) in
             absurd (below_none f.0 b.0 f.1 f.2 f.3 (kept_own f.0 b.0 f.1 (b.1.apart ne)) b.2)
 
+    -- the tables have the same entries
     same_entry : (p q : ℕ) → p < 9 → q < 9 → entry out p q ≡ entry z.bounds p q
     same_entry p q pl ql = by (eq_or p q) (made_one p q pl ql)
       where
         none : entry out p q ≡ None → entry out p q ≡ entry z.bounds p q
         none o = o ∙ sym (entry_none p q pl ql o (entry z.bounds p q) refl)
 
-        by : (p ≡ q) ⊎ (p ≢ q) → (entry out p q ≡ None) ⊎ (IsFrom (pos k) rs bs (length bs) p q (entry out p q)) → entry out p q ≡ entry z.bounds p q
+        by : (p ≡ q) ⊎ (p ≢ q) → (entry out p q ≡ None) ⊎ (IsStoredFrom (pos k) rs bs (length bs) p q (entry out p q)) → entry out p q ≡ entry z.bounds p q
         by s (inl o) = none o
         by (inl s) (inr f) = none (f.kept.same (f.left ∙ s ∙ sym f.right))
         by (inr ne) (inr f) = entry_some p q f.place (entry out p q) f.low f.left f.right (stored_at p q f.place (entry out p q) f.left f.right f.kept ne)
 
+    -- so the zone is z again
     same_zone : length out ≡ 81 → made_zone ≡ z
     same_zone size =
         let e : out ≡ z.bounds = same_table out z.bounds size valid.size same_entry in
         rw (same_period, own.residues, e) refl
 
+    -- the same for the result of a call
     pub own_again : length out ≡ 81 → (o : Option ZoneView) → IfSome o (λ y. y ≡ made_zone) → IfNone o (HasMember made_zone → ⊥) → o ≡ Some z
     own_again size None s h = absurd (h (subst HasMember (sym (same_zone size)) valid.some))
     own_again size (Some y) s h = ap Some (s ∙ same_zone size)
-
--- a negative bound of a column from itself is not met
-pub negative_none : (n : ℤ) (rs : List ℤ) (bs : List Bound) → HasNegative bs → HasNone n rs bs
-negative_none n rs bs h = record { none = λ xs m. unmet xs (bound_at bs h.place).left (bound_at bs h.place).right (bound_at bs h.place).most h.same h.negative (m.meets h.place h.low) }
-  where
-    unmet : (xs : List ℤ) (l r : ℕ) (a : ℤ) → l ≡ r → a <ℤ pos 0 → (node xs l -ℤ node xs r) ≤ℤ a → ⊥
-    unmet xs l r a e lt le = let s : node xs l ≡ node xs r = ap (node xs) e in omega (arith, ints)
-
--- and no zone stores one
-pub negative_own : (z : ZoneView) (n : ℤ) (rs : List ℤ) (bs : List Bound) → IsZone z → AreOwn z n rs bs → HasNegative bs → ⊥
-negative_own z n rs bs valid own h =
-    let o = own.stored h.place h.low in
-    let d : entry z.bounds (bound_at bs h.place).left (bound_at bs h.place).right ≡ None = subst (λ r. entry z.bounds (bound_at bs h.place).left r ≡ None) h.same (valid.shape.diagonal (bound_at bs h.place).left o.0) in
-    let s : entry z.bounds (bound_at bs h.place).left (bound_at bs h.place).right ≡ Some (bound_at bs h.place).most = o.2 in
-    cc
 
 -- a zone's own parts may be given
 pub own_given : (z : ZoneView) (n : ℤ) (rs : List ℤ) (bs : List Bound) → IsZone z → AreOwn z n rs bs → AreGiven n rs bs

@@ -9,15 +9,13 @@ use Rattle.lrp_theory.proofs.Floor.{reached_in_cell}
 use Rattle.lrp_theory.proofs.Below.{within_less}
 use Rattle.lrp_zone.specs.Zones.{ZoneView, IsTight, IsShape, IsZone, IsMember, HasMember, columns_of, reach_of}
 use Rattle.lrp_zone.specs.Pairs.{IsOfCell, IsWithin, IsMeet, HaveNoCommon}
+use Rattle.lrp_zone.proofs.Cases.{eq_or}
 use Rattle.lrp_zone.proofs.Members.{tight_all, period_one, list_member, member_meets}
 use Rattle.lrp_zone.proofs.Reaches.{reach_small, small_reach}
 
 -- a zone of the cell of z differs from it in its bounds alone
 pub same_cell : (z w : ZoneView) → IsOfCell z w → record z { bounds = w.bounds } ≡ w
 same_cell z w c = rw (c.period, c.residues) refl
-
-eq_or : (i j : ℕ) → (i ≡ j) ⊎ (i ≢ j)
-eq_or i j = grind arith
 
 module _ (z : ZoneView) (sz : IsShape z) (bounds least : List (Option ℤ)) (closure : IsClosure (columns_of z + 1) (entry z.bounds) (entry least)) where
   -- the closed bounds tell which zones hold this one
@@ -28,6 +26,7 @@ module _ (z : ZoneView) (sz : IsShape z) (bounds least : List (Option ℤ)) (clo
       place xs h i j il jl (inl e) = subst (λ f. Within (node xs i -ℤ node xs j) f) (sym (subst (λ k. entry bounds i k ≡ None) e (sw.diagonal i il))) tt
       place xs h i j il jl (inr ne) = (below.each i j (omega arith) (omega arith) ne).below _ ((closure.least i j (omega arith) (omega arith) ne).met (node xs) (member_meets z xs h))
 
+  -- and the zones that hold this one have greater bounds than the closed ones
   within_below : IsWithin z (record z { bounds = bounds }) → AreBelow (columns_of z + 1) least bounds
   within_below h = record {
     each = λ i j ilt jlt ne. record {
@@ -48,25 +47,32 @@ inclusion z w cells other least vz vw c e f closure =
     let shape : IsShape (record z { bounds = w.bounds }) = subst IsShape (sym (same_cell z w c)) vw.shape in
     rw f (subst (λ v. (AreBelow (columns_of z + 1) least w.bounds → IsWithin z v) × (IsWithin z v → AreBelow (columns_of z + 1) least w.bounds)) (same_cell z w c) (below_within z vz.shape w.bounds least own shape, within_below z vz.shape w.bounds least own))
 
+-- the lesser of two tight bounds is tight
 pub lesser_tight : (k w : ℤ) (e f g : Option ℤ) → IsLesser e f g → IsTight k w f → IsTight k w g → IsTight k w e
 lesser_tight k w e f g l a b = elim l.one [ inl q ↦ rw q a | inr q ↦ rw q b ]
 
+-- the lesser of no bounds is no bound
 lesser_none : (e f g : Option ℤ) → IsLesser e f g → f ≡ None → g ≡ None → e ≡ None
 lesser_none e f g l a b = elim l.one [ inl q ↦ q ∙ a | inr q ↦ q ∙ b ]
 
+-- the lesser of two small bounds is small
 lesser_small : (h : ℕ) (e f g : Option ℤ) → IsLesser e f g → AtMost h f → AtMost h g → AtMost h e
 lesser_small h e f g l a b = elim l.one [ inl q ↦ rw q a | inr q ↦ rw q b ]
 
-lesser_met : (d : ℤ) (e f g : Option ℤ) → IsLesser e f g → Within d f → Within d g → Within d e
+-- a difference that meets two bounds meets the lesser
+pub lesser_met : (d : ℤ) (e f g : Option ℤ) → IsLesser e f g → Within d f → Within d g → Within d e
 lesser_met d e f g l a b = elim l.one [ inl q ↦ rw q a | inr q ↦ rw q b ]
 
 module _ (z : ZoneView) (w : List (Option ℤ)) (sz : IsShape z) (sw : IsShape (record z { bounds = w })) (bounds : List (Option ℤ)) (least : (p : ℕ) → p < 81 → IsLesser (get_or bounds p None) (get_or z.bounds p None) (get_or w p None)) where
+  -- the lesser bound stands at each place
   lesser_at : (i j : ℕ) → i < 9 → j < 9 → IsLesser (entry bounds i j) (entry z.bounds i j) (entry w i j)
   lesser_at i j il jl = least (9 * i + j) (omega arith)
 
+  -- there are at most eight columns
   low : (i : ℕ) → i ≤ columns_of z → i < 9
   low i l = let c : columns_of z ≤ 8 = sz.columns in omega arith
 
+  -- the lesser bounds keep a zone's parts
   meet_shape : IsShape (record z { bounds = bounds })
   meet_shape = record {
     period_low = sz.period_low;
@@ -78,18 +84,21 @@ module _ (z : ZoneView) (w : List (Option ℤ)) (sz : IsShape z) (sw : IsShape (
     outside = record { none = λ i j il jl o. lesser_none _ _ _ (lesser_at i j il jl) (sz.outside.none i j il jl o) (sw.outside.none i j il jl o) };
   }
 
+  -- what meets the lesser bounds meets both
   meet_to : (xs : List ℤ) → IsMember (record z { bounds = bounds }) xs → IsMember z xs × IsMember (record z { bounds = w }) xs
   meet_to xs h = (
     record { cell = record { count = h.cell.count; each = h.cell.each }; meets = λ i j il jl. ((lesser_at i j (low i il) (low j jl)).below _ (h.meets i j il jl)).0 },
     record { cell = record { count = h.cell.count; each = h.cell.each }; meets = λ i j il jl. ((lesser_at i j (low i il) (low j jl)).below _ (h.meets i j il jl)).1 },
   )
 
+  -- what meets both meets the lesser bounds
   meet_from : (xs : List ℤ) → IsMember z xs → IsMember (record z { bounds = w }) xs → IsMember (record z { bounds = bounds }) xs
   meet_from xs h k = record {
     cell = record { count = h.cell.count; each = h.cell.each };
     meets = λ i j il jl. lesser_met _ _ _ _ (lesser_at i j (low i il) (low j jl)) (h.meets i j il jl) (k.meets i j il jl);
   }
 
+  -- the reach does not grow
   meet_reach : length bounds ≡ 81 → reach_of (record z { bounds = bounds }) ≤ max (reach_of z) (reach_of (record z { bounds = w }))
   meet_reach size =
       let h : ℕ = max (reach_of z) (reach_of (record z { bounds = w })) in
@@ -105,23 +114,29 @@ module _ (z : ZoneView) (w : List (Option ℤ)) (sz : IsShape z) (sw : IsShape (
       max_right : (m n : ℕ) → n ≤ max m n
       max_right m n = omega arith
 
+  -- the lesser bounds give the intersection
   meet_is : length bounds ≡ 81 → IsMeet z (record z { bounds = w }) (record z { bounds = bounds })
   meet_is size = record { cell = record { period = refl; residues = refl }; to = meet_to; from = meet_from; reach = meet_reach size }
 
+  -- where it is empty, the zones have no tuple in common
   meet_none : (HasMember (record z { bounds = bounds }) → ⊥) → HaveNoCommon z (record z { bounds = w })
   meet_none empty = record { none = λ xs h k. empty (record { member = xs; is = meet_from xs h k }) }
 
 module _ (z w : ZoneView) (vz : IsZone z) (vw : IsZone w) (c : IsOfCell z w) (bounds : List (Option ℤ)) (least : (p : ℕ) → p < 81 → IsLesser (get_or bounds p None) (get_or z.bounds p None) (get_or w.bounds p None)) where
+  -- the other bounds stand in the same cell
   other_shape : IsShape (record z { bounds = w.bounds })
   other_shape = subst IsShape (sym (same_cell z w c)) vw.shape
 
+  -- the same for two zones of one cell
   pub shape_meet : IsShape (record z { bounds = bounds })
   shape_meet = meet_shape z w.bounds vz.shape other_shape bounds least
 
+  -- the intersection as the result of a call
   pub met : length bounds ≡ 81 → (r : Option ZoneView) → IfSome r (λ y. y ≡ record z { bounds = bounds }) → IfSome r (λ y. IsMeet z w y)
   met size None h = tt
   met size (Some y) h = rw h (subst (λ v. IsMeet z v (record z { bounds = bounds })) (same_cell z w c) (meet_is z w.bounds vz.shape other_shape bounds least size))
 
+  -- and where there is none
   pub met_none : (r : Option ZoneView) → IfNone r (HasMember (record z { bounds = bounds }) → ⊥) → IfNone r (HaveNoCommon z w)
   met_none None h = subst (λ v. HaveNoCommon z v) (same_cell z w c) (meet_none z w.bounds vz.shape other_shape bounds least h)
   met_none (Some y) h = tt

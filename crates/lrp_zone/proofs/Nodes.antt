@@ -8,33 +8,21 @@ use Rattle.std.proofs.lemmas.List.Edits.{get_or-insert_at, get_or-insert_below, 
 use Rattle.lrp_theory.specs.Entries.{node}
 use Rattle.lrp_zone.specs.Columns.{past, with_value}
 
+-- a node before k keeps its number
 past-low : (k p : ℕ) → p < k → past k p ≡ p
 past-low k p h = grind (arith, nat_tests)
 
+-- a node from k on is one further
 past-high : (k p : ℕ) → k ≤ p → past k p ≡ suc p
 past-high k p h = grind (arith, nat_tests)
 
+-- a number is below another, or it is not
 low_or_high : (p k : ℕ) → (p < k) ⊎ (k ≤ p)
 low_or_high p k = grind arith
 
-pub past_other : (k p : ℕ) → past k p ≢ k
-past_other k p e = elim (low_or_high p k) [ inl l ↦ let f : past k p ≡ p = past-low k p l in omega arith | inr h ↦ let f : past k p ≡ suc p = past-high k p h in omega arith ]
-
+-- the old numbers are in range
 pub past_below : (k p n : ℕ) → p < n → past k p ≤ n
 past_below k p n h = elim (low_or_high p k) [ inl l ↦ let f : past k p ≡ p = past-low k p l in omega arith | inr g ↦ let f : past k p ≡ suc p = past-high k p g in omega arith ]
-
-pub past_same : (k p q : ℕ) → past k p ≡ past k q → p ≡ q
-past_same k p q e =
-    elim (low_or_high p k) [
-      | inl l ↦ elim (low_or_high q k) [
-        | inl m ↦ let f : past k p ≡ p = past-low k p l in let g : past k q ≡ q = past-low k q m in omega arith
-        | inr m ↦ let f : past k p ≡ p = past-low k p l in let g : past k q ≡ suc q = past-high k q m in omega arith
-      ]
-      | inr l ↦ elim (low_or_high q k) [
-        | inl m ↦ let f : past k p ≡ suc p = past-high k p l in let g : past k q ≡ q = past-low k q m in omega arith
-        | inr m ↦ let f : past k p ≡ suc p = past-high k p l in let g : past k q ≡ suc q = past-high k q m in omega arith
-      ]
-    ]
 
 -- each node but k is past k p for some p
 pub from_past : (k m n : ℕ) → m ≢ k → m ≤ n → k ≤ n → (p : ℕ) × (past k p ≡ m) × (p < n)
@@ -45,10 +33,12 @@ from_past k (suc m) n ne ml kl =
       | inr h ↦ (m, past-high k m (omega arith), (omega arith))
     ]
 
+-- the value that was put in stands at its node
 pub node_at : (k : ℕ) (v : ℤ) (xs : List ℤ) → 0 < k → k ≤ length xs + 1 → node (with_value k v xs) k ≡ v
 node_at zero v xs h l = absurd (omega arith)
 node_at (suc j) v xs h l = let e : suc j - 1 ≡ j = omega arith in subst (λ i. get_or (insert xs i v) j (pos 0) ≡ v) (sym e) (get_or-insert_at xs j v (pos 0) (omega arith))
 
+-- the nodes around it keep their values
 node_past : (j p : ℕ) (v : ℤ) (xs : List ℤ) → j ≤ length xs → node (insert xs j v) (past (suc j) p) ≡ node xs p
 node_past j zero v xs h = ap (node (insert xs j v)) (past-low (suc j) zero (omega arith))
 node_past j (suc p) v xs h =
@@ -62,6 +52,7 @@ pub node_past_at : (k p : ℕ) (v : ℤ) (xs : List ℤ) → 0 < k → k ≤ len
 node_past_at zero p v xs h l = absurd (omega arith)
 node_past_at (suc j) p v xs h l = let e : suc j - 1 ≡ j = omega arith in subst (λ i. node (insert xs i v) (past (suc j) p) ≡ node xs p) (sym e) (node_past j p v xs (omega arith))
 
+-- the tuple is one longer
 pub length_with : (k : ℕ) (v : ℤ) (xs : List ℤ) → 0 < k → k ≤ length xs + 1 → length (with_value k v xs) ≡ length xs + 1
 length_with k v xs h l = length-insert xs (k - 1) v (omega arith)
 

@@ -11,9 +11,11 @@ use Rattle.lrp_theory.proofs.Modulo.{Divides-is, Divides-zero}
 use Rattle.lrp_theory.proofs.Lists.{listed}
 use Rattle.lrp_zone.specs.Zones.{ZoneView, IsTight, IsShape, IsZone, IsMember, HasMember, IsResidue, columns_of, reach_of}
 use Rattle.lrp_zone.specs.Spread.{target, ArePlaces, IsSpreadTo, IsSpread}
+use Rattle.lrp_zone.proofs.Cases.{place_or}
 use Rattle.lrp_zone.proofs.Members.{list_member}
 use Rattle.lrp_zone.proofs.Reaches.{reach_small, small_reach}
 
+-- in a free table no bound has moved
 pub spread_none : (places : List ℕ) (bounds out : List (Option ℤ)) (n : ℕ) → out ≡ replicate 81 None → IsSpreadTo places bounds n 0 0 out
 spread_none places bounds out n e = record {
   here = λ p q pl ql h. absurd (none p q h);
@@ -23,16 +25,6 @@ spread_none places bounds out n e = record {
     none : (p q : ℕ) → (p < 0) ⊎ ((p ≡ 0) × (q < 0)) → ⊥
     none p q (inl h) = omega arith
     none p q (inr h) = omega (arith, h.1)
-
-pub spread_row : (places : List ℕ) (bounds out : List (Option ℤ)) (n i j : ℕ) → n ≤ j → IsSpreadTo places bounds n i j out → IsSpreadTo places bounds n (i + 1) 0 out
-spread_row places bounds out n i j le h = record { here = λ p q pl ql c. h.here p q pl ql (row p q ql c); one = h.one }
-  where
-    row : (p q : ℕ) → q < n → (p < i + 1) ⊎ ((p ≡ i + 1) × (q < 0)) → (p < i) ⊎ ((p ≡ i) × (q < j))
-    row p q ql (inl c) = grind arith
-    row p q ql (inr c) = absurd (omega (arith, c.1))
-
-place_or : (p q i j : ℕ) → ((p ≡ i) × (q ≡ j)) ⊎ (p ≡ i → q ≡ j → ⊥)
-place_or p q i j = grind arith
 
 -- one more bound is put at its place
 pub spread_more : (places : List ℕ) (bounds old new : List (Option ℤ)) (n i j a b : ℕ) (e : Option ℤ) → n ≤ length places + 1 → i < n → j < n → ArePlaces places 8 → a ≡ target places i → b ≡ target places j → e ≡ entry bounds i j
@@ -68,9 +60,11 @@ node_map places xs (suc i) h = get_or-map (node xs) places i 0 (pos 0) (omega ar
 module _ (z : ZoneView) (valid : IsZone z) (places : List ℕ) (rs : List ℤ) (bs : List (Option ℤ)) (count : length places ≡ columns_of z) (columns : length rs ≤ 8) (are : ArePlaces places (length rs))
     (residues : (p : ℕ) → p ≤ length rs → IsResidue z.period (node rs p)) (own : (p : ℕ) → p ≤ columns_of z → node rs (target places p) ≡ node z.residues p)
     (made : IsSpreadTo places z.bounds (length places + 1) (length places + 1) 0 bs) where
+  -- the zone of the longer tuples
   abbrev long : ZoneView
   long = record { period = z.period; residues = rs; bounds = bs }
 
+  -- the places are in range
   high : (p : ℕ) → p ≤ columns_of z → target places p ≤ length rs
   high p pl = are.high p (omega arith)
 
@@ -83,6 +77,7 @@ module _ (z : ZoneView) (valid : IsZone z) (places : List ℕ) (rs : List ℤ) (
       by (inr o) = subst (λ e. P r s e) (sym o.6) (subst (λ a. P a s (entry z.bounds o.0 o.1)) o.4 (subst (λ b. P (target places o.0) b (entry z.bounds o.0 o.1)) o.5
           (moved o.0 o.1 (let l : o.0 < length places + 1 = o.2 in omega arith) (let l : o.1 < length places + 1 = o.3 in omega arith))))
 
+  -- it keeps a zone's parts
   pub shape_long : IsShape long
   shape_long = record {
     period_low = valid.shape.period_low;
@@ -111,6 +106,7 @@ module _ (z : ZoneView) (valid : IsZone z) (places : List ℕ) (rs : List ℤ) (
   lookup ys zero r = node rs r
   lookup ys (suc m) r = cond (eqb (target places m) r) (node ys m) (lookup ys m r)
 
+  -- those values have the residues
   lookup_fits : (ys : List ℤ) → IsMember z ys → (m r : ℕ) → m ≤ columns_of z + 1 → Divides (pos z.period) (lookup ys m r -ℤ node rs r)
   lookup_fits ys h zero r l = Divides-is (pos z.period) (pos 0) _ (omega (arith, ints)) (Divides-zero (pos z.period))
   lookup_fits ys h (suc m) r l = elim (eqb_tells (target places m) r) [
@@ -118,6 +114,7 @@ module _ (z : ZoneView) (valid : IsZone z) (places : List ℕ) (rs : List ℤ) (
     | inr w ↦ rw w.0 (lookup_fits ys h m r (omega arith))
   ]
 
+  -- and at the places they are those of ys
   lookup_at : (ys : List ℤ) (m p : ℕ) → m ≤ columns_of z + 1 → p < m → lookup ys m (target places p) ≡ node ys p
   lookup_at ys zero p l h = absurd (omega arith)
   lookup_at ys (suc m) p l h = elim (eqb_tells (target places m) (target places p)) [
@@ -125,6 +122,7 @@ module _ (z : ZoneView) (valid : IsZone z) (places : List ℕ) (rs : List ℤ) (
     | inr w ↦ rw w.0 (lookup_at ys m p (omega arith) (let d : p ≢ m = (λ e. w.1 (ap (target places) (sym e))) in omega arith))
   ]
 
+  -- so they are a tuple of it
   pub has_long : HasMember long
   has_long =
       let ys : List ℤ = valid.some.member in
@@ -136,6 +134,7 @@ module _ (z : ZoneView) (valid : IsZone z) (places : List ℕ) (rs : List ℤ) (
             (λ m ml. lookup_fits ys valid.some.is (columns_of z + 1) m (omega arith));
       }
 
+  -- it holds the tuples whose values at the places are a tuple of z
   spread_is : length bs ≡ 81 → IsSpread z places rs long
   spread_is size = record {
     period = refl;
@@ -156,5 +155,6 @@ module _ (z : ZoneView) (valid : IsZone z) (places : List ℕ) (rs : List ℤ) (
     });
   }
 
+  -- the same for a zone that is this one
   pub spread_to : length bs ≡ 81 → (w : ZoneView) → w ≡ long → IsSpread z places rs w
   spread_to size w h = rw h (spread_is size)

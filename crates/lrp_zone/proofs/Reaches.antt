@@ -6,27 +6,34 @@ use Rattle.lrp_theory.specs.Entries.{entry, AtMost, AllSmall}
 use Rattle.lrp_theory.proofs.Through.{AtMost-more}
 use Rattle.lrp_zone.specs.Zones.{ZoneView, IsEmptyFrom, columns_of, magnitude_of, greatest_of, reach_of}
 
+-- a bound of at most h has a magnitude of at most h
 small_magnitude : (h : ℕ) (e : Option ℤ) → AtMost h e → magnitude_of e ≤ h
 small_magnitude h None s = omega arith
 small_magnitude h (Some a) s = omega (arith, ints)
 
+-- a bound has at most its magnitude
 magnitude_small : (e : Option ℤ) → AtMost (magnitude_of e) e
 magnitude_small None = tt
 magnitude_small (Some a) = (omega (arith, ints), omega (arith, ints))
 
+-- the greater of two numbers is at most what both are
 max_low : (m n h : ℕ) → m ≤ h → n ≤ h → max m n ≤ h
 max_low m n h a b = omega arith
 
+-- the greater of two numbers is no less than the first
 left_low : (m n : ℕ) → m ≤ max m n
 left_low m n = omega arith
 
+-- and no less than the second
 right_low : (m n : ℕ) → n ≤ max m n
 right_low m n = omega arith
 
+-- where each bound has at most h, the greatest magnitude is at most h
 greatest_low : (h : ℕ) (cells : List (Option ℤ)) → ((p : ℕ) → p < length cells → AtMost h (get_or cells p None)) → greatest_of cells ≤ h
 greatest_low h [] small = omega arith
 greatest_low h (e ∷ es) small = max_low (magnitude_of e) (greatest_of es) h (small_magnitude h e (small zero (omega arith))) (greatest_low h es (λ p l. small (suc p) (omega arith)))
 
+-- no bound has more than the greatest magnitude
 below_greatest : (cells : List (Option ℤ)) (p : ℕ) → AtMost (greatest_of cells) (get_or cells p None)
 below_greatest [] p = tt
 below_greatest (e ∷ es) zero = AtMost-more (magnitude_of e) _ e (left_low (magnitude_of e) (greatest_of es)) (magnitude_small e)

@@ -33,27 +33,35 @@ pub record Refining (z : ZoneView) (k : ℕ) (n : ℤ) (rs : List ℤ) (bs : Lis
   pub made : AreStored (pos k) rs z.bounds (length rs + 1) bs
 
 module _ (z : ZoneView) (k : ℕ) (n : ℤ) (rs : List ℤ) (bs : List (Option ℤ)) (g : Refining z k n rs bs) where
+  -- the zone of the new residues
   abbrev fine : ZoneView
   fine = record { period = k; residues = rs; bounds = bs }
 
+  -- the new period is at least 1
   k_low : 0 < k
   k_low = let e : pos k ≡ n = g.period in let l : pos 1 ≤ℤ n = g.low in omega (arith, ints)
 
+  -- and at most the limit
   k_high : k ≤ 2 ^ 62
   k_high = let e : pos k ≡ n = g.period in let l : reach_of z + nat_abs n ≤ 2 ^ 62 = g.room in omega (arith, ints)
 
+  -- there is a residue for each column
   count : length rs ≡ columns_of z
   count = g.columns
 
+  -- a new column is an old one
   old : (p : ℕ) → p ≤ length rs → p ≤ columns_of z
   old p l = let c = count in omega arith
 
+  -- and an old one is new
   new : (p : ℕ) → p ≤ columns_of z → p < length rs + 1
   new p l = let c = count in omega arith
 
+  -- the old period divides the new one
   multiple_k : Divides (pos z.period) (pos k)
   multiple_k = rw g.period g.multiple
 
+  -- the zone keeps a zone's parts
   pub shape_fine : IsShape fine
   shape_fine = record {
     period_low = k_low;
@@ -65,6 +73,7 @@ module _ (z : ZoneView) (k : ℕ) (n : ℤ) (rs : List ℤ) (bs : List (Option �
     outside = g.made.outside;
   }
 
+  -- its tuples are tuples of z
   fine_to : (xs : List ℤ) → IsMember fine xs → IsMember z xs
   fine_to xs m = record {
     cell = record {
@@ -74,9 +83,11 @@ module _ (z : ZoneView) (k : ℕ) (n : ℤ) (rs : List ℤ) (bs : List (Option �
     meets = λ i j il jl. tightened_below (pos k) (node rs i -ℤ node rs j) (entry z.bounds i j) (entry bs i j) _ (g.made.each i j (new i il) (new j jl)).tightened (m.meets i j (let c = count in omega arith) (let c = count in omega arith));
   }
 
+  -- and they have the residues
   has_residues : (xs : List ℤ) → IsMember fine xs → HasResidues n rs xs
   has_residues xs m = record { each = λ p pl. subst (λ y. Divides y (node xs p -ℤ node rs p)) g.period (m.cell.each p pl) }
 
+  -- tuples of z with the residues are in it
   fine_from : (xs : List ℤ) → IsMember z xs → HasResidues n rs xs → IsMember fine xs
   fine_from xs m fit = record {
     cell = record { count = (let c = count in let d : length xs ≡ columns_of z = m.cell.count in omega arith); each = residue };
@@ -87,6 +98,7 @@ module _ (z : ZoneView) (k : ℕ) (n : ℤ) (rs : List ℤ) (bs : List (Option �
       residue : (p : ℕ) → p ≤ length rs → Divides (pos k) (node xs p -ℤ node rs p)
       residue p pl = subst (λ y. Divides y (node xs p -ℤ node rs p)) (sym g.period) (fit.each p pl)
 
+  -- it holds the tuples of z with the residues
   refined_is : length bs ≡ 81 → IsRefined z n rs fine
   refined_is size = record {
     period = g.period;
@@ -99,10 +111,12 @@ module _ (z : ZoneView) (k : ℕ) (n : ℤ) (rs : List ℤ) (bs : List (Option �
     });
   }
 
+  -- the same for the result of a call
   pub refined_some : length bs ≡ 81 → (o : Option ZoneView) → IfSome o (λ y. y ≡ fine) → IfSome o (λ y. IsRefined z n rs y)
   refined_some size None h = tt
   refined_some size (Some y) h = rw h (refined_is size)
 
+  -- and where there are none
   pub refined_empty : (o : Option ZoneView) → IfNone o (HasMember fine → ⊥) → IfNone o (HasNoRefined z n rs)
   refined_empty None h = record { none = λ xs m fit. h (record { member = xs; is = fine_from xs m fit }) }
   refined_empty (Some y) h = tt

@@ -5,6 +5,7 @@ use Rattle.std.proofs.lemmas.List.{get_or-replicate, ext_get_or}
 use Rattle.lrp_theory.specs.Entries.{entry}
 use Rattle.lrp_zone.specs.Zones.{IsEmptyFrom}
 
+-- a free table has no bounds
 pub empty_free : (n : ℕ) (out : List (Option ℤ)) → out ≡ replicate 81 None → IsEmptyFrom n out
 empty_free n out e = record { none = λ i j il jl h. (let small : 9 * i + j < 81 = omega arith in rw e (get_or-replicate 81 (9 * i + j) None None small)) }
 

@@ -1,0 +1,179 @@
+//! The calls of a zone on worked values.
+
+ghost use Rattle.std.specs.Prelude.{◌≡◌, ◌<◌, ◌≤◌, ◌^◌, ◌+◌, ◌*◌, ℕ, List, length, pos, neg_ℤ, nat_abs, ◌≤ℤ◌, IfSome};
+ghost use Rattle.lrp_theory.specs.Divides.{Divides};
+ghost use Rattle.lrp_theory.specs.Entries.{node};
+ghost use Rattle.lrp_zone.specs.Zones.{IsResidue, columns_of, reach_of};
+ghost use Rattle.lrp_zone.specs.Given.{AreGiven};
+ghost use Rattle.lrp_zone.specs.Order.{at};
+
+use crate::Zone;
+use lrp_model::{Bound, LIMIT};
+use std::process::Abort;
+
+/// A number that leaves room for a period of the same size.
+const SMALL: i64 = 576_460_752_303_423_488;
+
+/// Column `left` minus column `right` is at most `most`.
+const fn bound(left: u8, right: u8, most: i64) -> Bound {
+    Bound { left, right, most }
+}
+
+/// Stops the test unless these are residues modulo the period.
+fn check_residues(rt: &impl Abort, period: i64, residues: &[i64])
+    ensures high { period ≤ℤ pos (2 ^ 59) }
+    ensures low { pos 1 ≤ℤ period }
+    ensures count { length residues.now ≤ 8 }
+    ensures residues { (p : ℕ) → p ≤ length residues.now → IsResidue (nat_abs period) (node residues.now p) }
+{
+    assert!(rt; 1 <= period && period <= SMALL && residues.len() <= 8);
+    for residue in residues {
+        assert!(rt; 0 <= *residue && *residue < period);
+    }
+}
+
+/// The zone of these parts, whose bounds are small.
+fn made(rt: &impl Abort, period: i64, residues: &[i64], bounds: &[Bound]) -> Option<Zone>
+    ensures small { IfSome result (λ z. reach_of z + z.period ≤ 2 ^ 61) }
+    ensures period { IfSome result (λ z. pos z.period ≡ period) }
+    ensures residues { IfSome result (λ z. z.residues ≡ residues.now) }
+{
+    check_residues(rt, period, residues);
+    for bound in bounds {
+        assert!(rt; usize::from(bound.left) <= residues.len());
+        assert!(rt; usize::from(bound.right) <= residues.len());
+        assert!(rt; -SMALL <= bound.most && bound.most <= SMALL);
+    }
+    Zone::of(period, residues, bounds)
+}
+
+/// Stops the test unless the window and the values are within the limit.
+fn check_values(rt: &impl Abort, from: i64, to: i64, values: &[i64; 8])
+    ensures from { neg_ℤ (pos (2 ^ 62)) ≤ℤ from }
+    ensures to { to ≤ℤ pos (2 ^ 62) }
+    ensures values { (i : ℕ) → i < 8 → at values.now i ≤ℤ pos (2 ^ 62) }
+{
+    assert!(rt; -LIMIT <= from && to <= LIMIT);
+    for value in values {
+        assert!(rt; *value <= LIMIT);
+    }
+}
+
+fn first(rt: &impl Abort, zone: &Zone, from: i64, to: i64, least: &[i64; 8]) -> Option<[i64; 8]> {
+    check_values(rt, from, to, least);
+    zone.first_from(from, to, least)
+}
+
+fn next(rt: &impl Abort, zone: &Zone, from: i64, to: i64, after: &[i64; 8]) -> Option<[i64; 8]> {
+    check_values(rt, from, to, after);
+    zone.next_in(from, to, after)
+}
+
+#[test]
+fn drops_a_column(rt: HostRuntime) {
+    let bounds = [bound(1, 2, -1), bound(2, 1, 2)];
+    let pairs = made(&rt, 4, &[0, 1], &bounds).expect(&rt, "1 to 2 apart");
+    assert_eq!(rt; pairs.columns(), 2);
+    let rest = pairs.drop_column(1);
+    assert_eq!(rt; rest.columns(), 1);
+    assert_eq!(rt; rest.period(), 4);
+    assert_eq!(rt; rest.residue(1), 1);
+    assert_eq!(rt; rest.bound(0, 1), None);
+    assert_eq!(rt; rest.bound(1, 0), None);
+
+    assert!(rt; made(&rt, 4, &[0, 3], &bounds).is_none());
+    assert!(rt; made(&rt, 1, &[], &[bound(0, 0, -1)]).is_none());
+}
+
+#[test]
+fn closes_and_negates(rt: HostRuntime) {
+    let late = made(&rt, 60, &[5], &[bound(0, 1, -360)]).expect(&rt, "from 365 on");
+    assert_eq!(rt; late.columns(), 1);
+    let closed = late.closed();
+    assert_eq!(rt; closed.columns(), 1);
+    assert_eq!(rt; closed.get(0, 1), Some(-365));
+    assert_eq!(rt; closed.get(1, 0), None);
+    assert!(rt; late.contains(&[365]) && !late.contains(&[305]) && !late.contains(&[366]));
+
+    let early = late.negated_piece(0, 1).expect(&rt, "up to 305");
+    assert_eq!(rt; early.columns(), 1);
+    let closed = early.closed();
+    assert_eq!(rt; closed.columns(), 1);
+    assert_eq!(rt; closed.get(1, 0), Some(305));
+    assert_eq!(rt; closed.get(0, 1), None);
+    assert!(rt; late.negated_piece(1, 0).is_none());
+}
+
+#[test]
+fn meets_and_includes(rt: HostRuntime) {
+    let low = made(&rt, 5, &[2], &[bound(1, 0, 20)]).expect(&rt, "up to 17");
+    let high = made(&rt, 5, &[2], &[bound(0, 1, -10)]).expect(&rt, "from 12 on");
+    let both = low.meet(&high).expect(&rt, "12 and 17");
+    assert_eq!(rt; both.columns(), 1);
+    assert_eq!(rt; both.bound(1, 0), Some(17));
+    assert_eq!(rt; both.bound(0, 1), Some(-12));
+    assert!(rt; !low.within(&high) && low.within(&low));
+    let higher = made(&rt, 5, &[2], &[bound(0, 1, -18)]).expect(&rt, "from 22 on");
+    assert!(rt; low.meet(&higher).is_none() && higher.within(&high));
+}
+
+#[test]
+fn refines_and_spreads(rt: HostRuntime) {
+    let pair = made(&rt, 4, &[0, 1], &[bound(2, 1, 7)]).expect(&rt, "at most 7 later");
+    assert_eq!(rt; pair.columns(), 2);
+    assert_eq!(rt; pair.bound(2, 1), Some(5));
+    let fine = pair.refine(12, &[4, 1]).expect(&rt, "at most 5 later");
+    assert_eq!(rt; fine.columns(), 2);
+    assert_eq!(rt; fine.period(), 12);
+    assert_eq!(rt; fine.bound(2, 1), Some(-3));
+
+    let triple = pair.spread(&[3, 1], &[1, 2, 0]);
+    assert_eq!(rt; triple.columns(), 3);
+    assert_eq!(rt; triple.bound(1, 3), Some(5));
+    assert!(rt; triple.contains(&[5, 2, 4]) && !triple.contains(&[5, 2, -4]));
+}
+
+#[test]
+fn lists_in_order(rt: HostRuntime) {
+    let apart = 500_000_000_000_000_000;
+    let far = made(
+        &rt,
+        1,
+        &[0, 0],
+        &[
+            bound(2, 1, apart),
+            bound(1, 2, -apart),
+            bound(1, 0, 0),
+            bound(0, 1, 0),
+        ],
+    )
+    .expect(&rt, "one pair");
+    let only = [0, apart, 0, 0, 0, 0, 0, 0];
+    assert_eq!(rt; first(&rt, &far, -LIMIT, LIMIT, &[-LIMIT; 8]), Some(only));
+    assert_eq!(rt; next(&rt, &far, -LIMIT, LIMIT, &only), None);
+    assert_eq!(rt; next(&rt, &far, 1, LIMIT, &[-LIMIT; 8]), None);
+
+    let all = made(&rt, 1, &[0], &[]).expect(&rt, "all integers");
+    let last = [LIMIT, 0, 0, 0, 0, 0, 0, 0];
+    assert_eq!(rt; first(&rt, &all, -LIMIT, LIMIT, &last), Some(last));
+    assert_eq!(rt; next(&rt, &all, -LIMIT, LIMIT, &last), None);
+}
+
+#[test]
+fn has_eight_columns(rt: HostRuntime) {
+    let later = [
+        bound(1, 2, -1),
+        bound(2, 3, -1),
+        bound(3, 4, -1),
+        bound(4, 5, -1),
+        bound(5, 6, -1),
+        bound(6, 7, -1),
+        bound(7, 8, -1),
+    ];
+    let chain = made(&rt, 2, &[0; 8], &later).expect(&rt, "each later than the one before");
+    let least = [0, 2, 4, 6, 8, 10, 12, 14];
+    assert_eq!(rt; first(&rt, &chain, 0, 100, &[-1; 8]), Some(least));
+    let after = [0, 2, 4, 6, 8, 10, 12, 16];
+    assert_eq!(rt; next(&rt, &chain, 0, 100, &least), Some(after));
+    assert_eq!(rt; next(&rt, &chain, 0, 14, &least), None);
+}
