@@ -5,7 +5,7 @@ use Rattle.std.specs.Str.{bytes_eq}
 use Rattle.lrp_model.specs.declared.tokens.Symbol.{Symbol}
 use Rattle.lrp_model.specs.declared.tokens.Symbol.TheVariants.{Open, Close, OpenBrace, CloseBrace, Comma, Colon, Semicolon, Bar, Plus, Minus, Le, Ge, Lt, Gt, Equals}
 use Rattle.lrp_model.specs.Tokens.{Token}
-use Rattle.lrp_model.specs.Tokens.Token.{text_token, number_token}
+use Rattle.lrp_model.specs.Tokens.Token.{text_token, number_token, end_token}
 use Rattle.lrp_model.specs.Lexing.{is_letter, is_digit, is_name_byte, is_forbidden, run, behind_run, value_from, word_or_name, Scanned, Text as TextRead, longer, more_taken, bad_at, text_from, text_scanned, one, one_or_two, symbol_from, scan}
 use Rattle.lrp_text.proofs.Scans.{chosen}
 
@@ -54,9 +54,10 @@ text_alone false (b ∷ bs) =
     (λ m. chosen (IsAlone false) (is_forbidden b) (bad_at (b ∷ bs)) (longer b b (text_from false bs)) (λ e. tt)
     (λ e. alone_plain b (text_from false bs) n m e (text_alone false bs))))
 
--- a token that is no text
+-- a token that is no text, nor the end
 abbrev pub NoText : Token → Type 0
 NoText (text_token t) = ⊥
+NoText end_token = ⊥
 NoText _ = Unit {0}
 
 -- a text where a token is one, by itself
@@ -107,3 +108,26 @@ scan_alone (b ∷ bs) =
     (λ n. chosen SameText (is_digit b) _ _ (λ e. none_same (record { token = number_token (value_from 0 (run is_digit (b ∷ bs))); taken = run is_digit (b ∷ bs); left = behind_run is_digit (b ∷ bs) }) tt)
     (λ m. chosen SameText (b == 34) (text_scanned (text_from false bs)) (symbol_from b bs) (λ e. quoted_same (text_from false bs) (text_alone false bs))
     (λ o. none_same (symbol_from b bs) (symbol_no_text b bs))))
+
+-- the end is the token of no bytes alone
+abbrev EndsHere : List ℕ → Scanned → Type 0
+EndsHere bs s = s.token ≡ end_token → bs ≡ []
+
+-- no other token is the end
+none_ends : (bs : List ℕ) (s : Scanned) → NoText s.token → EndsHere bs s
+none_ends bs s n e = absurd (subst NoText e n)
+
+-- nor is a text
+quoted_ends : (bs : List ℕ) (r : Result TextRead Scanned) → EndsHere bs (text_scanned r)
+quoted_ends bs (Ok t) e = absurd cc
+quoted_ends bs (Err s) e = absurd cc
+
+-- the end stands behind the last byte
+pub scan_end : (bs : List ℕ) → EndsHere bs (scan bs)
+unfolding scan
+scan_end [] = λ e. refl
+scan_end (b ∷ bs) =
+    chosen (EndsHere (b ∷ bs)) (is_letter b) _ _ (λ e. none_ends (b ∷ bs) (record { token = word_or_name (run is_name_byte (b ∷ bs)); taken = run is_name_byte (b ∷ bs); left = behind_run is_name_byte (b ∷ bs) }) (word_no_text (run is_name_byte (b ∷ bs))))
+    (λ n. chosen (EndsHere (b ∷ bs)) (is_digit b) _ _ (λ e. none_ends (b ∷ bs) (record { token = number_token (value_from 0 (run is_digit (b ∷ bs))); taken = run is_digit (b ∷ bs); left = behind_run is_digit (b ∷ bs) }) tt)
+    (λ m. chosen (EndsHere (b ∷ bs)) (b == 34) (text_scanned (text_from false bs)) (symbol_from b bs) (λ e. quoted_ends (b ∷ bs) (text_from false bs))
+    (λ o. none_ends (b ∷ bs) (symbol_from b bs) (symbol_no_text b bs))))

@@ -17,3 +17,4 @@ pub mod Alone
 pub mod Standing
 pub mod Looking
 pub mod Meanings
+pub mod Giving

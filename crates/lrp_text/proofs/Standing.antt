@@ -23,7 +23,7 @@ headed_goes p s end_token rest g = absurd g
 headed_goes p s bad_token rest g = absurd g
 
 -- the tokens that are left, where others follow the first
-tokens_go : (old : At) (place : Place) (k : Token) → (next_of old).token ≡ k → GoesOn k → place ≡ (next_at old).place → tokens_left old ≡ record { token = k; place = place } ∷ tokens_left (behind_next old)
+pub tokens_go : (old : At) (place : Place) (k : Token) → (next_of old).token ≡ k → GoesOn k → place ≡ (next_at old).place → tokens_left old ≡ record { token = k; place = place } ∷ tokens_left (behind_next old)
 tokens_go old place k e g d =
     let rest = tokens_left (behind_next old) in
     next_tokens old ∙ ap (λ t. headed (next_at old).place (next_of old) t rest) e ∙ headed_goes (next_at old).place (next_of old) k rest g ∙ ap (λ p. record { token = k; place = p } ∷ rest) (sym d)

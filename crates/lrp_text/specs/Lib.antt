@@ -3,3 +3,4 @@ pub mod Taking
 pub mod ColumnRule
 pub mod Lexemes
 pub mod Sources
+pub mod Stream

@@ -1,8 +1,9 @@
 // What a slice of the source says.
 ghost use Rattle.std.specs.Prelude.{◌≡◌};
 ghost use Rattle.lrp_text.specs.Lexemes.{shows_symbol, shows_word, shows_name, shows_text, shows_end, shown_number, shown_period};
+ghost use Rattle.lrp_text.specs.Stream.{kind_of};
 
-use lrp_model::{Fault, Place, Symbol, Word};
+use lrp_model::{Fault, LexKind, Place, Symbol, TokenKind, Word};
 
 /// A token, as it is read: a number or a text that is lawful, or one that isn't, or a byte that begins no token.
 #[derive(Clone, Copy, Debug, PartialEq, Eq)]
@@ -27,6 +28,23 @@ pub struct Found<'a> {
 }
 
 impl Lexeme {
+    // The kind of the token that it is, or its fault.
+    pub fn kind(self) -> Result<TokenKind, LexKind>
+        ensures { result ≡ kind_of self }
+    {
+        match self {
+            Lexeme::Name => Ok(TokenKind::Name),
+            Lexeme::Word(_) => Ok(TokenKind::Word),
+            Lexeme::Number(_) => Ok(TokenKind::Number),
+            Lexeme::LargeNumber => Err(LexKind::Number),
+            Lexeme::Text => Ok(TokenKind::Text),
+            Lexeme::LongText => Err(LexKind::TextTooLong),
+            Lexeme::Symbol(_) => Ok(TokenKind::Symbol),
+            Lexeme::End => Ok(TokenKind::End),
+            Lexeme::Bad => Err(LexKind::BadByte),
+        }
+    }
+
     pub fn is_symbol(self, symbol: Symbol) -> bool
         ensures { result ≡ shows_symbol symbol self }
     {

@@ -1,7 +1,7 @@
 // The lexer: the tokens of a text, one at a time.
 use crate::lexemes::Found;
 use crate::sources::{Source, step};
-use lrp_model::Place;
+use lrp_model::{LexFault, Place, Token};
 use std::marker::Model;
 
 /// The rest of a text, and the place where it begins.
@@ -22,9 +22,10 @@ impl<'a> Model for Lexer<'a> {
 }
 
 impl<'a> Lexer<'a> {
-    ghost use Rattle.std.specs.Prelude.{◌≡◌, ◌≤◌, length};
+    ghost use Rattle.std.specs.Prelude.{◌≡◌, ◌≤◌, length, IfOk};
     ghost use Rattle.lrp_model.specs.Lexing.{start};
-    ghost use Rattle.lrp_text.specs.Sources.{IsFound};
+    ghost use Rattle.lrp_text.specs.Sources.{IsFound, tokens_left};
+    ghost use Rattle.lrp_text.specs.Stream.{Gives, IsFirst, IsSliceOf};
 
     /// The lexer of a text of at most 16,777,216 bytes.
     pub fn new(text: &'a str) -> Self
@@ -40,11 +41,33 @@ impl<'a> Lexer<'a> {
     }
 
     // What stands next, with its slice and its place.
-    pub fn found(&mut self) -> Found<'a>
+    fn found(&mut self) -> Found<'a>
         ensures { IsFound self.old result.lexeme result.slice.now result.place self.new }
     {
         let (found, source) = step(self.source);
         self.source = source;
         found
+    }
+
+    /// The next token. `LexKind::Number` is a number above 2^62, at its first digit, and `LexKind::TextTooLong` a text of more than 255 bytes
+    /// without its escapes, at its opening quote; the lexer goes on behind them. `LexKind::BadByte` stands at a character that begins no token,
+    /// at one that may not stand in a text, or at the end inside a text, and comes again for ever, as the end does.
+    pub fn next(&mut self) -> Result<Token<'a>, LexFault>
+        ensures step { Gives self.old self.new result }
+        ensures order { IsFirst result (tokens_left self.old) (tokens_left self.new) }
+        ensures slice { IfOk result (λ t. IsSliceOf self.old t.slice.now t.place self.new) }
+    {
+        let found = self.found();
+        match found.lexeme.kind() {
+            Ok(kind) => Ok(Token {
+                kind,
+                slice: found.slice,
+                place: found.place,
+            }),
+            Err(kind) => Err(LexFault {
+                kind,
+                place: found.place,
+            }),
+        }
     }
 }

@@ -1,0 +1,98 @@
+-- What a lexer gives of what it has found.
+use Rattle.std.proofs.Common.{◌≡◌, ◌≤◌, ◌<◌, ℕ, false, List, [], ◌∷◌, ◌++◌, refl, ap, ◌∙◌, sym, subst, length, Result, Ok, Err}
+use Rattle.lrp_model.specs.declared.tokens.Place.{Place}
+use Rattle.lrp_model.specs.declared.tokens.TokenKind.{TokenKind}
+use Rattle.lrp_model.specs.declared.tokens.TokenKind.TheVariants.{Name as NameKind, Word as WordKind, Number as NumberKind, Text as TextKind, Symbol as SymbolKind, End as EndKind}
+use Rattle.lrp_model.specs.declared.tokens.LexKind.{LexKind}
+use Rattle.lrp_model.specs.declared.tokens.LexKind.TheVariants.{Number as TooLarge, TextTooLong, BadByte}
+use Rattle.lrp_model.specs.Tokens.{Token, Placed, Tokens}
+use Rattle.lrp_model.specs.Tokens.Token.{name_token, word_token, number_token, text_token, symbol_token, end_token, bad_token}
+use Rattle.lrp_model.specs.Lexing.{At, after, skip, scan, headed, tokens_from, limit}
+use Rattle.lrp_text.specs.declared.lexemes.Lexeme.{Lexeme}
+use Rattle.lrp_text.specs.declared.lexemes.Lexeme.TheVariants.{Name, Word, Number, LargeNumber, Text, LongText, Symbol, End, Bad}
+use Rattle.lrp_text.specs.Sources.{next_at, next_of, behind_next, tokens_left, IsFound, GoesOn}
+use Rattle.lrp_text.specs.Stream.{IsOfKind, IsFaulty, GivesToken, GivesFault, FaultAt, TokenFirst, FaultFirst, IsSliceOf, kind_of}
+use Rattle.lrp_text.proofs.Scans.{scan_taken}
+use Rattle.lrp_text.proofs.Alone.{scan_end}
+use Rattle.lrp_text.proofs.Cuts.{skipped}
+use Rattle.lrp_text.proofs.Following.{next_tokens}
+use Rattle.lrp_text.proofs.Standing.{tokens_go}
+
+-- what a kind or a fault gives
+abbrev pub GivesKind : At → At → List ℕ → Place → Result TokenKind LexKind → Type 0
+GivesKind old new slice place (Ok kind) = GivesToken old new kind slice place
+GivesKind old new slice place (Err kind) = FaultAt old new kind place
+
+-- what was found is given
+pub gives_found : (old : At) (l : Lexeme) (slice : List ℕ) (place : Place) (new : At) → IsFound old l slice place new → GivesKind old new slice place (kind_of l)
+gives_found old Name slice place new f = record { kind_is = subst (IsOfKind NameKind) (sym f.0) tt; slice_is = f.1; place_is = f.2; goes_on = f.3 }
+gives_found old (Word w) slice place new f = record { kind_is = subst (IsOfKind WordKind) (sym f.0) tt; slice_is = f.1; place_is = f.2; goes_on = f.3 }
+gives_found old (Number n) slice place new f = record { kind_is = subst (IsOfKind NumberKind) (sym f.0.0) f.0.1; slice_is = f.1; place_is = f.2; goes_on = f.3 }
+gives_found old LargeNumber slice place new f = record { kind_is = subst (IsFaulty TooLarge) (sym f.0.1) f.0.2; place_is = f.2; goes_on = f.3 }
+gives_found old Text slice place new f = record { kind_is = subst (IsOfKind TextKind) (sym f.0.1) f.0.2; slice_is = f.1; place_is = f.2; goes_on = f.3 }
+gives_found old LongText slice place new f = record { kind_is = subst (IsFaulty TextTooLong) (sym f.0.1) f.0.2; place_is = f.2; goes_on = f.3 }
+gives_found old (Symbol s) slice place new f = record { kind_is = subst (IsOfKind SymbolKind) (sym f.0) tt; slice_is = f.1; place_is = f.2; goes_on = f.3 }
+gives_found old End slice place new f = record { kind_is = subst (IsOfKind EndKind) (sym f.0) tt; slice_is = f.1; place_is = f.2; goes_on = f.3 }
+gives_found old Bad slice place new f = record { kind_is = subst (IsFaulty BadByte) (sym f.0) tt; place_is = f.2; goes_on = f.3 }
+
+-- what comes first of the tokens that are left
+abbrev pub FirstKind : Result TokenKind LexKind → Place → Tokens → Tokens → Type 0
+FirstKind (Ok kind) place ts us = TokenFirst kind place ts us
+FirstKind (Err kind) place ts us = FaultFirst kind place ts us
+
+-- a token that others follow comes first
+first_go : (old new : At) (place : Place) (k : Token) → (next_of old).token ≡ k → GoesOn k → place ≡ (next_at old).place → new ≡ behind_next old → tokens_left old ≡ record { token = k; place = place } ∷ tokens_left new
+first_go old new place k e g p n = tokens_go old place k e g p ∙ ap (λ s. record { token = k; place = place } ∷ tokens_left s) (sym n)
+
+-- behind the end stands the end
+end_again : (old : At) → (next_of old).token ≡ end_token → tokens_left (behind_next old) ≡ record { token = end_token; place = (next_at old).place } ∷ []
+unfolding tokens_from scan skip after
+end_again old e =
+    let none : (next_at old).bytes ≡ [] = scan_end (next_at old).bytes e in
+    let place = (next_at old).place in
+    ap (λ bs. tokens_left (record { place = after place (scan bs).taken; bytes = (scan bs).left })) none
+
+-- what was found comes first
+pub first_found : (old : At) (l : Lexeme) (slice : List ℕ) (place : Place) (new : At) → IsFound old l slice place new → FirstKind (kind_of l) place (tokens_left old) (tokens_left new)
+first_found old Name slice place new f = (name_token slice, tt, first_go old new place (name_token slice) f.0 tt f.2 f.3)
+first_found old (Word w) slice place new f = (word_token w, tt, first_go old new place (word_token w) f.0 tt f.2 f.3)
+first_found old (Number n) slice place new f = (number_token n, f.0.1, first_go old new place (number_token n) f.0.0 tt f.2 f.3)
+first_found old LargeNumber slice place new f = (number_token f.0.0, f.0.2, first_go old new place (number_token f.0.0) f.0.1 tt f.2 f.3)
+first_found old Text slice place new f = (text_token f.0.0, f.0.2, first_go old new place (text_token f.0.0) f.0.1 tt f.2 f.3)
+first_found old LongText slice place new f = (text_token f.0.0, f.0.2, first_go old new place (text_token f.0.0) f.0.1 tt f.2 f.3)
+first_found old (Symbol s) slice place new f = (symbol_token s, tt, first_go old new place (symbol_token s) f.0 tt f.2 f.3)
+first_found old End slice place new f =
+    let is : tokens_left old ≡ record { token = end_token; place = place } ∷ [] = next_tokens old ∙ ap (λ t. headed (next_at old).place (next_of old) t (tokens_left (behind_next old))) f.0 ∙ ap (λ p. record { token = end_token; place = p } ∷ []) (sym f.2) in
+    (is, ap tokens_left f.3 ∙ end_again old f.0 ∙ ap (λ p. record { token = end_token; place = p } ∷ []) (sym f.2) ∙ sym is)
+first_found old Bad slice place new f = (next_tokens old ∙ ap (λ t. headed (next_at old).place (next_of old) t (tokens_left (behind_next old))) f.0 ∙ ap (λ p. record { token = bad_token; place = p } ∷ []) (sym f.2), ap tokens_left f.3)
+
+-- the slice of what stands next
+slice_go : (old new : At) (slice : List ℕ) (place : Place) → slice ≡ (next_of old).taken → place ≡ (next_at old).place → new ≡ behind_next old → IsSliceOf old slice place new
+slice_go old new slice place d p n =
+    let k = skipped false old.place old.bytes in
+    let s = next_of old in
+    let bytes : new.bytes ≡ s.left = ap (λ x. x.bytes) n in
+    let inner : slice ++ new.bytes ≡ (next_at old).bytes = ap (λ x. x ++ new.bytes) d ∙ ap (λ x. s.taken ++ x) bytes ∙ (scan_taken (next_at old).bytes).whole in
+    record {
+      skipped = k.front;
+      whole = sym (ap (λ x. k.front ++ x) inner ∙ k.whole);
+      place_is = p ∙ k.place;
+      goes_on = ap (λ x. x.place) n ∙ ap (λ q. after q s.taken) (sym p) ∙ ap (after place) (sym d);
+    }
+
+-- a slice of what was left, where a token is given
+abbrev pub SliceKind : Result TokenKind LexKind → At → List ℕ → Place → At → Type 0
+SliceKind (Ok kind) old slice place new = IsSliceOf old slice place new
+SliceKind (Err kind) old slice place new = Unit {0}
+
+-- what was found is a slice
+pub slice_found : (old : At) (l : Lexeme) (slice : List ℕ) (place : Place) (new : At) → IsFound old l slice place new → SliceKind (kind_of l) old slice place new
+slice_found old Name slice place new f = slice_go old new slice place f.1 f.2 f.3
+slice_found old (Word w) slice place new f = slice_go old new slice place f.1 f.2 f.3
+slice_found old (Number n) slice place new f = slice_go old new slice place f.1 f.2 f.3
+slice_found old LargeNumber slice place new f = tt
+slice_found old Text slice place new f = slice_go old new slice place f.1 f.2 f.3
+slice_found old LongText slice place new f = tt
+slice_found old (Symbol s) slice place new f = slice_go old new slice place f.1 f.2 f.3
+slice_found old End slice place new f = slice_go old new slice place f.1 f.2 f.3
+slice_found old Bad slice place new f = tt

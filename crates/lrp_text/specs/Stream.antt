@@ -1,0 +1,89 @@
+-- What a lexer gives: the tokens of a text in order, or where and why there is none.
+use Rattle.std.specs.Prelude.{◌≡◌, ◌≤◌, ◌<◌, ℕ, List, [], ◌∷◌, ◌++◌, length, Result, Ok, Err}
+use Rattle.lrp_model.specs.declared.tokens.Place.{Place}
+use Rattle.lrp_model.specs.declared.tokens.Token.{Token as SourceToken}
+use Rattle.lrp_model.specs.declared.tokens.TokenKind.{TokenKind}
+use Rattle.lrp_model.specs.declared.tokens.TokenKind.TheVariants.{Name, Word, Number, Text, Symbol, End}
+use Rattle.lrp_model.specs.declared.tokens.LexKind.{LexKind}
+use Rattle.lrp_model.specs.declared.tokens.LexKind.TheVariants.{Number as LargeNumber, TextTooLong, BadByte}
+use Rattle.lrp_model.specs.declared.tokens.LexFault.{LexFault}
+use Rattle.lrp_model.specs.Tokens.{Token, Tokens}
+use Rattle.lrp_model.specs.Tokens.Token.{name_token, word_token, number_token, text_token, symbol_token, end_token, bad_token}
+use Rattle.lrp_model.specs.Lexing.{At, after, limit}
+use Rattle.lrp_text.specs.declared.lexemes.Lexeme.{Lexeme}
+use Rattle.lrp_text.specs.declared.lexemes.Lexeme.TheVariants.{Name as NameSeen, Word as WordSeen, Number as NumberSeen, LargeNumber as LargeNumberSeen, Text as TextSeen, LongText as LongTextSeen, Symbol as SymbolSeen, End as EndSeen, Bad as BadSeen}
+use Rattle.lrp_text.specs.Sources.{next_at, next_of, behind_next, tokens_left}
+
+-- a lawful token of this kind
+abbrev pub IsOfKind : TokenKind → Token → Type 0
+IsOfKind Name (name_token n) = Unit {0}
+IsOfKind Word (word_token w) = Unit {0}
+IsOfKind Number (number_token n) = n ≤ limit
+IsOfKind Text (text_token t) = length t ≤ 255
+IsOfKind Symbol (symbol_token s) = Unit {0}
+IsOfKind End end_token = Unit {0}
+IsOfKind _ _ = ⊥
+
+-- a token with this fault
+abbrev pub IsFaulty : LexKind → Token → Type 0
+IsFaulty LargeNumber (number_token n) = limit < n
+IsFaulty TextTooLong (text_token t) = 255 < length t
+IsFaulty BadByte bad_token = Unit {0}
+IsFaulty _ _ = ⊥
+
+-- the next token is given, with its slice and its place, and the lexer stands behind it
+pub record GivesToken (old new : At) (kind : TokenKind) (slice : List ℕ) (place : Place) : Type 0 where
+  pub kind_is : IsOfKind kind (next_of old).token
+  pub slice_is : slice ≡ (next_of old).taken
+  pub place_is : place ≡ (next_at old).place
+  pub goes_on : new ≡ behind_next old
+
+-- the next token is faulty; the lexer stands behind it, or at a bad byte where it was
+pub record GivesFault (old new : At) (kind : LexKind) (place at : Place) (next : At) : Type 0 where
+  pub kind_is : IsFaulty kind (next_of old).token
+  pub place_is : place ≡ at
+  pub goes_on : new ≡ next
+
+-- a fault, at its token or at its byte
+abbrev pub FaultAt : At → At → LexKind → Place → Type 0
+FaultAt old new BadByte place = GivesFault old new BadByte place (after (next_at old).place (next_of old).taken) old
+FaultAt old new kind place = GivesFault old new kind place (next_at old).place (behind_next old)
+
+-- what the next token gives
+abbrev pub Gives : At → At → Result SourceToken LexFault → Type 0
+Gives old new (Ok t) = GivesToken old new t.kind t.slice.now t.place
+Gives old new (Err f) = FaultAt old new f.kind f.place
+
+-- a slice of what was left, behind other bytes, with its place and the place behind it
+pub record IsSliceOf (old : At) (slice : List ℕ) (place : Place) (new : At) : Type 0 where
+  pub skipped : List ℕ
+  pub whole : old.bytes ≡ skipped ++ (slice ++ new.bytes)
+  pub place_is : place ≡ after old.place skipped
+  pub goes_on : new.place ≡ after place slice
+
+-- the first of them is a lawful token of this kind
+abbrev pub TokenFirst : TokenKind → Place → Tokens → Tokens → Type 0
+TokenFirst End place ts us = (ts ≡ record { token = end_token; place = place } ∷ []) × (us ≡ ts)
+TokenFirst kind place ts us = (k : Token) × IsOfKind kind k × (ts ≡ record { token = k; place = place } ∷ us)
+
+-- the first of them is a faulty one
+abbrev pub FaultFirst : LexKind → Place → Tokens → Tokens → Type 0
+FaultFirst BadByte place ts us = (ts ≡ record { token = bad_token; place = place } ∷ []) × (us ≡ ts)
+FaultFirst kind place ts us = (k : Token) × IsFaulty kind k × (ts ≡ record { token = k; place = place } ∷ us)
+
+-- the first of the tokens that were left, and those that are left behind it; the end and a bad byte come again for ever
+abbrev pub IsFirst : Result SourceToken LexFault → Tokens → Tokens → Type 0
+IsFirst (Ok t) ts us = TokenFirst t.kind t.place ts us
+IsFirst (Err f) ts us = FaultFirst f.kind f.place ts us
+
+-- the kind of a lexeme, or its fault
+abbrev pub kind_of : Lexeme → Result TokenKind LexKind
+kind_of NameSeen = Ok Name
+kind_of (WordSeen w) = Ok Word
+kind_of (NumberSeen n) = Ok Number
+kind_of LargeNumberSeen = Err LargeNumber
+kind_of TextSeen = Ok Text
+kind_of LongTextSeen = Err TextTooLong
+kind_of (SymbolSeen s) = Ok Symbol
+kind_of EndSeen = Ok End
+kind_of BadSeen = Err BadByte
