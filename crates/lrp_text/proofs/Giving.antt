@@ -11,29 +11,12 @@ use Rattle.lrp_model.specs.Lexing.{At, after, skip, scan, headed, tokens_from, l
 use Rattle.lrp_text.specs.declared.lexemes.Lexeme.{Lexeme}
 use Rattle.lrp_text.specs.declared.lexemes.Lexeme.TheVariants.{Name, Word, Number, LargeNumber, Text, LongText, Symbol, End, Bad}
 use Rattle.lrp_text.specs.Sources.{next_at, next_of, behind_next, tokens_left, IsFound, GoesOn}
-use Rattle.lrp_text.specs.Stream.{IsOfKind, IsFaulty, GivesToken, GivesFault, FaultAt, TokenFirst, FaultFirst, IsSliceOf, kind_of}
+use Rattle.lrp_text.specs.Stream.{IsOfKind, IsFaulty, GivesToken, GivesFault, FaultAt, TokenFirst, FaultFirst, IsSliceOf, IsTextSlice, IsNextText, kind_of}
 use Rattle.lrp_text.proofs.Scans.{scan_taken}
 use Rattle.lrp_text.proofs.Alone.{scan_end}
 use Rattle.lrp_text.proofs.Cuts.{skipped}
 use Rattle.lrp_text.proofs.Following.{next_tokens}
-use Rattle.lrp_text.proofs.Standing.{tokens_go}
-
--- what a kind or a fault gives
-abbrev pub GivesKind : At → At → List ℕ → Place → Result TokenKind LexKind → Type 0
-GivesKind old new slice place (Ok kind) = GivesToken old new kind slice place
-GivesKind old new slice place (Err kind) = FaultAt old new kind place
-
--- what was found is given
-pub gives_found : (old : At) (l : Lexeme) (slice : List ℕ) (place : Place) (new : At) → IsFound old l slice place new → GivesKind old new slice place (kind_of l)
-gives_found old Name slice place new f = record { kind_is = subst (IsOfKind NameKind) (sym f.0) tt; slice_is = f.1; place_is = f.2; goes_on = f.3 }
-gives_found old (Word w) slice place new f = record { kind_is = subst (IsOfKind WordKind) (sym f.0) tt; slice_is = f.1; place_is = f.2; goes_on = f.3 }
-gives_found old (Number n) slice place new f = record { kind_is = subst (IsOfKind NumberKind) (sym f.0.0) f.0.1; slice_is = f.1; place_is = f.2; goes_on = f.3 }
-gives_found old LargeNumber slice place new f = record { kind_is = subst (IsFaulty TooLarge) (sym f.0.1) f.0.2; place_is = f.2; goes_on = f.3 }
-gives_found old Text slice place new f = record { kind_is = subst (IsOfKind TextKind) (sym f.0.1) f.0.2; slice_is = f.1; place_is = f.2; goes_on = f.3 }
-gives_found old LongText slice place new f = record { kind_is = subst (IsFaulty TextTooLong) (sym f.0.1) f.0.2; place_is = f.2; goes_on = f.3 }
-gives_found old (Symbol s) slice place new f = record { kind_is = subst (IsOfKind SymbolKind) (sym f.0) tt; slice_is = f.1; place_is = f.2; goes_on = f.3 }
-gives_found old End slice place new f = record { kind_is = subst (IsOfKind EndKind) (sym f.0) tt; slice_is = f.1; place_is = f.2; goes_on = f.3 }
-gives_found old Bad slice place new f = record { kind_is = subst (IsFaulty BadByte) (sym f.0) tt; place_is = f.2; goes_on = f.3 }
+use Rattle.lrp_text.proofs.Standing.{tokens_go, text_slice}
 
 -- what comes first of the tokens that are left
 abbrev pub FirstKind : Result TokenKind LexKind → Place → Tokens → Tokens → Type 0
@@ -96,3 +79,20 @@ slice_found old LongText slice place new f = tt
 slice_found old (Symbol s) slice place new f = slice_go old new slice place f.1 f.2 f.3
 slice_found old End slice place new f = slice_go old new slice place f.1 f.2 f.3
 slice_found old Bad slice place new f = tt
+
+-- the slice of a text, where one is given
+abbrev pub TextKindOf : Result TokenKind LexKind → At → List ℕ → Type 0
+TextKindOf (Ok kind) old slice = kind ≡ TextKind → IsNextText old slice
+TextKindOf (Err kind) old slice = Unit {0}
+
+-- the slice of a text that was found is that text
+pub text_found : (old : At) (l : Lexeme) (slice : List ℕ) (place : Place) (new : At) → IsFound old l slice place new → TextKindOf (kind_of l) old slice
+text_found old Text slice place new f = λ is. (record { text = f.0.0; token = text_slice old slice (text_token f.0.0) f.0.1 f.1 f.0.0 refl; short = f.0.2 }, f.0.1)
+text_found old Name slice place new f = λ is. absurd cc
+text_found old (Word w) slice place new f = λ is. absurd cc
+text_found old (Number n) slice place new f = λ is. absurd cc
+text_found old LargeNumber slice place new f = tt
+text_found old LongText slice place new f = tt
+text_found old (Symbol s) slice place new f = λ is. absurd cc
+text_found old End slice place new f = λ is. absurd cc
+text_found old Bad slice place new f = tt

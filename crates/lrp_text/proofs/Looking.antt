@@ -102,6 +102,7 @@ counted_low : (n : ℕ) (b : Bool) → n ≤ limit → counted n b ≡ (if b the
 counted_low n true h = refl
 counted_low n false h = ap (limited n TooLarge) (le-leb n 4611686018427387904 h)
 
+-- a number above the limit is no period
 counted_high : (n : ℕ) (b : Bool) → (n == 0) ≡ b → limit < n → counted n b ≡ Err TooLarge
 counted_high n true e h = let z : n ≡ 0 = eqb-true n 0 e in absurd (omega arith)
 counted_high n false e h = ap (limited n TooLarge) (above n h)
@@ -119,24 +120,29 @@ period_said End slice k e = ap period_of e
 period_said Bad slice k e = ap period_of e
 
 -- what is seen of the next token is what a test says of it
-look_at : {A : Type 0} (none : A) (test : Token → A) (ts : Tokens) (l : Lexeme) (slice : List ℕ) (place : Place) (st : Stands ts l slice place) (a : A) → test st.token ≡ a → look none (λ t. test t.token) ts ≡ Ok (a, ts)
+pub look_shown : {A : Type 0} (none : A) (test : Token → A) (ts : Tokens) (l : Lexeme) (slice : List ℕ) (place : Place) (st : Stands ts l slice place) (a : A) → test st.token ≡ a → look none (λ t. test t.token) ts ≡ Ok (a, ts)
 unfolding look
-look_at none test ts l slice place st a e = ap (look none (λ t. test t.token)) st.whole ∙ ap (λ x. Ok (test st.token, x)) (sym st.whole) ∙ ap (λ x. Ok (x, ts)) e
+look_shown none test ts l slice place st a e = ap (look none (λ t. test t.token)) st.whole ∙ ap (λ x. Ok (test st.token, x)) (sym st.whole) ∙ ap (λ x. Ok (x, ts)) e
 
+-- whether a symbol is seen
 pub look_symbol : (s : SymbolOf) (ts : Tokens) (l : Lexeme) (slice : List ℕ) (place : Place) → Stands ts l slice place → look false (λ t. is_symbol_token s t.token) ts ≡ Ok (shows_symbol s l, ts)
-look_symbol s ts l slice place st = look_at false (is_symbol_token s) ts l slice place st (shows_symbol s l) (symbol_said s l slice st.token st.said)
+look_symbol s ts l slice place st = look_shown false (is_symbol_token s) ts l slice place st (shows_symbol s l) (symbol_said s l slice st.token st.said)
 
+-- whether a reserved word is seen
 pub look_word : (w : WordOf) (ts : Tokens) (l : Lexeme) (slice : List ℕ) (place : Place) → Stands ts l slice place → look false (λ t. is_word_token w t.token) ts ≡ Ok (shows_word w l, ts)
-look_word w ts l slice place st = look_at false (is_word_token w) ts l slice place st (shows_word w l) (word_said w l slice st.token st.said)
+look_word w ts l slice place st = look_shown false (is_word_token w) ts l slice place st (shows_word w l) (word_said w l slice st.token st.said)
 
+-- whether a name is seen
 pub look_name : (ts : Tokens) (l : Lexeme) (slice : List ℕ) (place : Place) → Stands ts l slice place → look false (λ t. is_name_token t.token) ts ≡ Ok (shows_name l, ts)
-look_name ts l slice place st = look_at false is_name_token ts l slice place st (shows_name l) (name_said l slice st.token st.said)
+look_name ts l slice place st = look_shown false is_name_token ts l slice place st (shows_name l) (name_said l slice st.token st.said)
 
+-- whether a text is seen
 pub look_text : (ts : Tokens) (l : Lexeme) (slice : List ℕ) (place : Place) → Stands ts l slice place → look false (λ t. is_text_token t.token) ts ≡ Ok (shows_text l, ts)
-look_text ts l slice place st = look_at false is_text_token ts l slice place st (shows_text l) (text_said l slice st.token st.said)
+look_text ts l slice place st = look_shown false is_text_token ts l slice place st (shows_text l) (text_said l slice st.token st.said)
 
+-- whether the end is seen
 pub look_end : (ts : Tokens) (l : Lexeme) (slice : List ℕ) (place : Place) → Stands ts l slice place → look false (λ t. is_end_token t.token) ts ≡ Ok (shows_end l, ts)
-look_end ts l slice place st = look_at false is_end_token ts l slice place st (shows_end l) (end_said l slice st.token st.said)
+look_end ts l slice place st = look_shown false is_end_token ts l slice place st (shows_end l) (end_said l slice st.token st.said)
 
 -- the place of the next token
 pub look_place : (ts : Tokens) (l : Lexeme) (slice : List ℕ) (place : Place) → Stands ts l slice place → look start (λ t. t.place) ts ≡ Ok (place, ts)
@@ -153,6 +159,28 @@ goes_on test (symbol_token y) e b h = tt
 goes_on test hole_token e b h = tt
 goes_on test end_token e b h = absurd cc
 goes_on test bad_token e b h = absurd cc
+
+-- whether others follow a lexeme
+abbrev pub goes : Lexeme → Bool
+goes End = false
+goes Bad = false
+goes _ = true
+
+-- what a lexeme says goes on
+said_goes : (l : Lexeme) (slice : List ℕ) (k : Token) → goes l ≡ true → IsSaid l slice k → GoesOn k
+said_goes Name slice k g e = subst GoesOn (sym e) tt
+said_goes (Word w) slice k g e = subst GoesOn (sym e) tt
+said_goes (Number n) slice k g e = subst GoesOn (sym e.0) tt
+said_goes LargeNumber slice k g e = subst GoesOn (sym e.1) tt
+said_goes Text slice k g e = subst GoesOn (sym e.1) tt
+said_goes LongText slice k g e = subst GoesOn (sym e.1) tt
+said_goes (Symbol y) slice k g e = subst GoesOn (sym e) tt
+said_goes End slice k g e = absurd cc
+said_goes Bad slice k g e = absurd cc
+
+-- where a lexeme stands that others follow, a cursor may advance
+pub goes_shown : (ts : Tokens) (l : Lexeme) (slice : List ℕ) (place : Place) → Stands ts l slice place → goes l ≡ true → Goes ts
+goes_shown ts l slice place st g = subst Goes (sym st.whole) (said_goes l slice st.token g st.said)
 
 -- what is seen goes on
 pub goes_seen : (test : Token → Bool) (ts us : Tokens) (r : Bool) → test end_token ≡ false → test bad_token ≡ false → look false (λ t. test t.token) ts ≡ Ok (r, us) → r ≡ true → Goes ts
@@ -193,6 +221,7 @@ expected_at test t ts us false r e h is =
     let q : false ≡ true = ap (λ x. x.0) p ∙ is in
     absurd cc
 
+-- the same of all tokens
 pub expects_eaten : (test : Placed → Bool) (ts us : Tokens) (r : Bool) → eat test ts ≡ Ok (r, us) → r ≡ true → accept (λ t. required (test t)) ts ≡ Ok (tt, us)
 unfolding eat accept
 expects_eaten test [] us r h is =
@@ -209,6 +238,7 @@ missed_at test t ts us true r e h is =
     absurd cc
 missed_at test t ts us false r e h is = let p : ◌≡◌ {A = Bool × Tokens} (false, t ∷ ts) (r, us) = cc in ap (λ x. Err (Syntax, x.1)) p
 
+-- the same of all tokens
 pub expects_missed : (test : Placed → Bool) (ts us : Tokens) (r : Bool) → eat test ts ≡ Ok (r, us) → r ≡ false → accept (λ t. required (test t)) ts ≡ Err (Syntax, us)
 unfolding eat accept
 expects_missed test [] us r h is = let p : ◌≡◌ {A = Bool × Tokens} (false, []) (r, us) = cc in ap (λ x. Err (Syntax, x.1)) p
@@ -285,6 +315,7 @@ long_at : (n : ℕ) (b : Bool) → nat_le n 255 ≡ b → 255 < n → b ≡ fals
 long_at n true e h = let k : n ≤ 255 = leb-true n 255 e in absurd (omega arith)
 long_at n false e h = refl
 
+-- such a text is refused
 long_text : (t : List ℕ) (k : Token) → k ≡ text_token t → 255 < length t → text_of k ≡ Err TextTooLong
 long_text t k e long = ap text_of e ∙ ap (short_enough t) (long_at (length t) (nat_le (length t) 255) refl long)
 

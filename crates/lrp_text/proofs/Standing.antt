@@ -29,7 +29,7 @@ tokens_go old place k e g d =
     next_tokens old ∙ ap (λ t. headed (next_at old).place (next_of old) t rest) e ∙ headed_goes (next_at old).place (next_of old) k rest g ∙ ap (λ p. record { token = k; place = p } ∷ rest) (sym d)
 
 -- the slice of a text is that text
-text_slice : (old : At) (slice : List ℕ) (k : Token) → (next_of old).token ≡ k → slice ≡ (next_of old).taken → (t : List ℕ) → k ≡ text_token t → (scan slice).token ≡ text_token t
+pub text_slice : (old : At) (slice : List ℕ) (k : Token) → (next_of old).token ≡ k → slice ≡ (next_of old).taken → (t : List ℕ) → k ≡ text_token t → (scan slice).token ≡ text_token t
 text_slice old slice k e d t is = ap (λ x. (scan x).token) d ∙ scan_alone (next_at old).bytes t (e ∙ is)
 
 -- what stands next, where others follow it

@@ -9,7 +9,7 @@ use Rattle.lrp_model.specs.declared.tokens.LexKind.TheVariants.{Number as LargeN
 use Rattle.lrp_model.specs.declared.tokens.LexFault.{LexFault}
 use Rattle.lrp_model.specs.Tokens.{Token, Tokens}
 use Rattle.lrp_model.specs.Tokens.Token.{name_token, word_token, number_token, text_token, symbol_token, end_token, bad_token}
-use Rattle.lrp_model.specs.Lexing.{At, after, limit}
+use Rattle.lrp_model.specs.Lexing.{At, after, scan, limit}
 use Rattle.lrp_text.specs.declared.lexemes.Lexeme.{Lexeme}
 use Rattle.lrp_text.specs.declared.lexemes.Lexeme.TheVariants.{Name as NameSeen, Word as WordSeen, Number as NumberSeen, LargeNumber as LargeNumberSeen, Text as TextSeen, LongText as LongTextSeen, Symbol as SymbolSeen, End as EndSeen, Bad as BadSeen}
 use Rattle.lrp_text.specs.Sources.{next_at, next_of, behind_next, tokens_left}
@@ -87,3 +87,13 @@ kind_of LongTextSeen = Err TextTooLong
 kind_of (SymbolSeen s) = Ok Symbol
 kind_of EndSeen = Ok End
 kind_of BadSeen = Err BadByte
+
+-- a slice that is, by itself, a text of at most 255 bytes
+pub record IsTextSlice (slice : List ℕ) : Type 0 where
+  pub text : List ℕ
+  pub token : (scan slice).token ≡ text_token text
+  pub short : length text ≤ 255
+
+-- a slice that is the text that stands next
+abbrev pub IsNextText : At → List ℕ → Type 0
+IsNextText old slice = (s : IsTextSlice slice) × ((next_of old).token ≡ text_token s.text)

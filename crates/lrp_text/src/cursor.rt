@@ -51,16 +51,16 @@ impl<'a> Cursor<'a> {
         }
     }
 
-    // What stands next.
+    /// What stands next, for a reader that decides by more than one kind of token.
     #[tactic(auto, using(crate::proofs::Standing::stands_next))]
-    fn next(&self) -> Found<'a>
+    pub fn peek(&self) -> Found<'a>
         ensures { Stands self.now result.lexeme result.slice.now result.place }
     {
         self.found
     }
 
-    // Goes behind the next token, which others follow.
-    fn advance(&mut self)
+    /// Goes behind the next token, which is not the end, nor a byte that begins none.
+    pub fn advance(&mut self)
         requires { Goes self.old }
         ensures { (t : Placed) × (self.old ≡ t ∷ self.new) }
     {
@@ -75,42 +75,42 @@ impl<'a> Cursor<'a> {
     pub fn place(&self) -> Place
         ensures { here self.now ≡ Ok (result, self.now) }
     {
-        self.next().place
+        self.peek().place
     }
 
     /// Whether this symbol comes next.
     pub fn sees(&self, symbol: Symbol) -> bool
         ensures { look false (is_symbol symbol) self.now ≡ Ok (result, self.now) }
     {
-        self.next().lexeme.is_symbol(symbol)
+        self.peek().lexeme.is_symbol(symbol)
     }
 
     /// Whether this reserved word comes next.
     pub fn sees_word(&self, word: Word) -> bool
         ensures { look false (is_word word) self.now ≡ Ok (result, self.now) }
     {
-        self.next().lexeme.is_word(word)
+        self.peek().lexeme.is_word(word)
     }
 
     /// Whether a name comes next.
     pub fn sees_name(&self) -> bool
         ensures { look false is_name self.now ≡ Ok (result, self.now) }
     {
-        self.next().lexeme.is_name()
+        self.peek().lexeme.is_name()
     }
 
     /// Whether a text comes next, however long.
     pub fn sees_text(&self) -> bool
         ensures { look false is_text self.now ≡ Ok (result, self.now) }
     {
-        self.next().lexeme.is_text()
+        self.peek().lexeme.is_text()
     }
 
     /// Whether the end comes next.
     pub fn sees_end(&self) -> bool
         ensures { look false is_end self.now ≡ Ok (result, self.now) }
     {
-        self.next().lexeme.is_end()
+        self.peek().lexeme.is_end()
     }
 
     /// Takes this symbol, if it comes next.
@@ -172,7 +172,7 @@ impl<'a> Cursor<'a> {
         ensures fewer { IfOk result (λ _. length self.new < length self.old) }
         ensures fits { IfOk result (λ n. n ≤ limit) }
     {
-        let number = self.next().lexeme.number()?;
+        let number = self.peek().lexeme.number()?;
         self.advance();
         Ok(number)
     }
@@ -184,7 +184,7 @@ impl<'a> Cursor<'a> {
         ensures fewer { IfOk result (λ _. length self.new < length self.old) }
         ensures fits { IfOk result IsPeriod }
     {
-        let period = self.next().lexeme.period()?;
+        let period = self.peek().lexeme.period()?;
         self.advance();
         Ok(period)
     }
@@ -195,7 +195,7 @@ impl<'a> Cursor<'a> {
         ensures shorter { length self.new ≤ length self.old }
         ensures fewer { IfOk result (λ _. length self.new < length self.old) }
     {
-        let next = self.next();
+        let next = self.peek();
         if !next.lexeme.is_name() {
             return Err(Fault::Syntax);
         }
@@ -210,7 +210,7 @@ impl<'a> Cursor<'a> {
         ensures shorter { length self.new ≤ length self.old }
         ensures fewer { IfOk result (λ _. length self.new < length self.old) }
     {
-        let next = self.next();
+        let next = self.peek();
         match next.lexeme {
             Lexeme::Text => {}
             Lexeme::LongText => return Err(Fault::TextTooLong),
@@ -225,7 +225,7 @@ impl<'a> Cursor<'a> {
     pub fn expect_end(&self) -> Result<(), Fault>
         ensures { Reads (expect_end self.now) result (behind_end result self.now) }
     {
-        if self.next().lexeme.is_end() {
+        if self.peek().lexeme.is_end() {
             Ok(())
         } else {
             Err(Fault::Syntax)

@@ -1,7 +1,7 @@
 // The lexer: the tokens of a text, one at a time.
 use crate::lexemes::Found;
 use crate::sources::{Source, step};
-use lrp_model::{LexFault, Place, Token};
+use lrp_model::{LexFault, Place, Token, TokenKind};
 use std::marker::Model;
 
 /// The rest of a text, and the place where it begins.
@@ -25,7 +25,7 @@ impl<'a> Lexer<'a> {
     ghost use Rattle.std.specs.Prelude.{◌≡◌, ◌≤◌, length, IfOk};
     ghost use Rattle.lrp_model.specs.Lexing.{start};
     ghost use Rattle.lrp_text.specs.Sources.{IsFound, tokens_left};
-    ghost use Rattle.lrp_text.specs.Stream.{Gives, IsFirst, IsSliceOf};
+    ghost use Rattle.lrp_text.specs.Stream.{Gives, IsFirst, IsSliceOf, IsNextText};
 
     /// The lexer of a text of at most 16,777,216 bytes.
     pub fn new(text: &'a str) -> Self
@@ -56,6 +56,8 @@ impl<'a> Lexer<'a> {
         ensures step { Gives self.old self.new result }
         ensures order { IsFirst result (tokens_left self.old) (tokens_left self.new) }
         ensures slice { IfOk result (λ t. IsSliceOf self.old t.slice.now t.place self.new) }
+        // What the slice of a text means is what `text_of` gives of it.
+        ensures text { IfOk result (λ t. t.kind ≡ TokenKind.Text → IsNextText self.old t.slice.now) }
     {
         let found = self.found();
         match found.lexeme.kind() {

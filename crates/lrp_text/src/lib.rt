@@ -10,5 +10,6 @@ mod sources;
 mod texts;
 
 pub use cursor::Cursor;
+pub use lexemes::{Found, Lexeme};
 pub use lexer::Lexer;
 pub use texts::text_of;

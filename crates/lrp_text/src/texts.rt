@@ -1,7 +1,8 @@
 // The text that a text token means.
-ghost use Rattle.std.specs.Prelude.{◌≡◌, ◌≤◌, ℕ, List, length, drop, IfOk};
+ghost use Rattle.std.specs.Prelude.{◌≡◌, drop, IfOk};
 ghost use Rattle.lrp_model.specs.Tokens.Token.{text_token};
 ghost use Rattle.lrp_model.specs.Lexing.{scan};
+ghost use Rattle.lrp_text.specs.Stream.{IsTextSlice};
 
 use crate::scanning::character;
 use lrp_model::{DataText, Memory};
@@ -18,9 +19,9 @@ fn behind_first(text: &str) -> &[u8]
     }
 }
 
-/// The text of a text token's slice, without its quotes and escapes.
+/// The text of a text token's slice, as a lexer gave it, without its quotes and escapes.
 pub fn text_of(alloc: Global, slice: &str) -> Result<DataText, Memory>
-    requires { (t : List ℕ) × ((scan slice.now).token ≡ text_token t) × (length t ≤ 255) }
+    requires { IsTextSlice slice.now }
     ensures { IfOk result (λ made. (scan slice.now).token ≡ text_token made) }
 {
     let mut made = Vec::new(alloc);

@@ -3,4 +3,4 @@ use Rattle.lrp_text.proofs.Looking.{look_word}
 use Rattle.lrp_text.proofs.cursor.Cursor.sees_word.Goals as goal
 
 pub returns : goal.returns
-returns c = look_word c.args.word _ _ _ _ c.next.ensures ∙ ap (λ b. Ok (b, c.args.self.now)) (sym c.is_word.ensures)
+returns c = look_word c.args.word _ _ _ _ c.peek.ensures ∙ ap (λ b. Ok (b, c.args.self.now)) (sym c.is_word.ensures)
