@@ -9,7 +9,10 @@ use Rattle.lrp_model.specs.declared.tokens.Fault.TheVariants.{Syntax, TextTooLon
 use Rattle.lrp_model.specs.Tokens.{Token, Placed, Tokens}
 use Rattle.lrp_model.specs.Tokens.Token.{name_token, word_token, number_token, text_token, symbol_token, end_token, bad_token, hole_token}
 use Rattle.lrp_model.specs.Lexing.{limit, start, scan}
-use Rattle.lrp_text.specs.Parsers.{Outcome, accept, taken, look, eat, eaten, Reads}
+use Rattle.lrp_model.specs.declared.relations.Sort.{Sort}
+use Rattle.lrp_model.specs.declared.tokens.Word.TheVariants.{Time, Data}
+use Rattle.lrp_text.specs.Parsers.{Outcome, accept, taken, look, eat, eaten, Reads, IsOrMemory}
+use Rattle.lrp_text.specs.ColumnRule.{sort_of, sort, word_sort, shown_sort}
 use Rattle.lrp_text.specs.Taking.{is_symbol_token, is_word_token, is_name_token, is_text_token, is_end_token, required, name_of, number_of, limited, period_of, counted, text_of, short_enough, with_place, name, number, period, text, expect_end}
 use Rattle.lrp_text.specs.declared.lexemes.Lexeme.{Lexeme}
 use Rattle.lrp_text.specs.declared.lexemes.Lexeme.TheVariants.{Name, Word, Number, LargeNumber, Text, LongText, Symbol, End, Bad}
@@ -362,3 +365,40 @@ end_read ts l slice place st e =
 -- or what stands before it is refused
 pub end_refused : (ts : Tokens) (l : Lexeme) (slice : List ℕ) (place : Place) → Stands ts l slice place → shows_end l ≡ false → expect_end ts ≡ Err (Syntax, ts)
 end_refused ts l slice place st e = refuses_next (λ t. required (is_end_token t.token)) ts (record { token = st.token; place = place }) st.left Syntax st.whole (ap required (end_said l slice st.token st.said ∙ e))
+
+-- the sort that a reserved word stands for
+sort_word : (w : WordOf) → sort_of (word_token w) ≡ word_sort w
+sort_word Time = refl
+sort_word Data = refl
+sort_word _ = refl
+
+-- a sort is told by its lexeme
+sort_said : (l : Lexeme) (slice : List ℕ) (k : Token) → IsSaid l slice k → sort_of k ≡ shown_sort l slice
+sort_said Name slice k s = ap sort_of s
+sort_said (Word w) slice k s = ap sort_of s ∙ sort_word w
+sort_said (Number n) slice k s = ap sort_of s.0
+sort_said LargeNumber slice k s = ap sort_of s.1
+sort_said Text slice k s = ap sort_of s.1
+sort_said LongText slice k s = ap sort_of s.1
+sort_said (Symbol y) slice k s = ap sort_of s
+sort_said End slice k s = ap sort_of s
+sort_said Bad slice k s = ap sort_of s
+
+-- neither the end nor a bad byte is a sort
+sort_going : (l : Lexeme) (slice : List ℕ) (a : Sort) → shown_sort l slice ≡ Ok a → goes l ≡ true
+sort_going End slice a e = absurd cc
+sort_going Bad slice a e = absurd cc
+sort_going _ slice a e = refl
+
+-- a sort goes on
+pub sort_goes : (ts : Tokens) (l : Lexeme) (slice : List ℕ) (place : Place) (a : Sort) → Stands ts l slice place → shown_sort l slice ≡ Ok a → Goes ts
+sort_goes ts l slice place a st e = goes_shown ts l slice place st (sort_going l slice a e)
+
+-- a sort is taken
+pub sort_read : (ts us : Tokens) (l : Lexeme) (slice : List ℕ) (place : Place) (u : Placed) (a : Sort) → Stands ts l slice place → shown_sort l slice ≡ Ok a → ts ≡ u ∷ us → sort ts ≡ Ok ((a, place), us)
+sort_read ts us l slice place u a st e w = accepts_next (λ t. with_place t.place (sort_of t.token)) ts us (record { token = st.token; place = place }) u st.left (a, place) st.whole w (ap (with_place place) (sort_said l slice st.token st.said ∙ e))
+
+-- or what stands there is refused
+pub sort_refused : (ts : Tokens) (l : Lexeme) (slice : List ℕ) (place : Place) (k : Fault) → Stands ts l slice place → IsOrMemory (shown_sort l slice) (Err k) → Reads (sort ts) (Err k) ts
+sort_refused ts l slice place Memory st e = tt
+sort_refused ts l slice place k st e = reads_fault (sort ts) k ts (refuses_next (λ t. with_place t.place (sort_of t.token)) ts (record { token = st.token; place = place }) st.left k st.whole (ap (with_place place) (sort_said l slice st.token st.said ∙ e)))

@@ -2,6 +2,7 @@
 #![tactic(auto)]
 
 mod bytes;
+mod columns;
 mod cursor;
 mod lexemes;
 mod lexer;
@@ -9,6 +10,7 @@ mod scanning;
 mod sources;
 mod texts;
 
+pub use columns::{column, sort};
 pub use cursor::Cursor;
 pub use lexemes::{Found, Lexeme};
 pub use lexer::Lexer;

@@ -1,0 +1,53 @@
+// The reader of columns, which databases and queries share.
+ghost use Rattle.std.specs.Prelude.{◌≤◌, ◌<◌, length, IfOk};
+ghost use Rattle.lrp_text.specs.Parsers.{Reads, IsOrMemory};
+ghost use Rattle.lrp_text.specs.ColumnRule.{shown_sort, sort as sort_rule, column as column_rule};
+
+use crate::cursor::Cursor;
+use crate::lexemes::{Found, Lexeme};
+use lrp_model::{Fault, Name, Place, RawColumn, Sort, Symbol, Word};
+use std::alloc::Global;
+
+// The sort that stands there.
+fn sort_of(alloc: Global, found: Found<'_>) -> Result<Sort, Fault>
+    ensures { IsOrMemory (shown_sort found.entry.lexeme found.entry.slice.now) result }
+{
+    match found.lexeme {
+        Lexeme::Word(Word::Time) => Ok(Sort::Time),
+        Lexeme::Word(Word::Data) => Ok(Sort::Data),
+        Lexeme::Name => Ok(Sort::Named {
+            name: Name::new(alloc, found.slice)?,
+        }),
+        _ => Err(Fault::Syntax),
+    }
+}
+
+/// Reads a sort, and tells its place.
+pub fn sort(alloc: Global, tokens: &mut Cursor<'_>) -> Result<(Sort, Place), Fault>
+    ensures value { Reads (sort_rule tokens.old) result tokens.new }
+    ensures shorter { length tokens.new ≤ length tokens.old }
+    ensures fewer { IfOk result (λ _. length tokens.new < length tokens.old) }
+{
+    let next = tokens.peek();
+    let sort = sort_of(alloc, next)?;
+    tokens.advance();
+    Ok((sort, next.place))
+}
+
+/// Reads a column: a name, a colon and a sort.
+#[tactic(auto, unfolding(crate::specs::ColumnRule::column))]
+pub fn column(alloc: Global, tokens: &mut Cursor<'_>) -> Result<RawColumn, Fault>
+    ensures value { Reads (column_rule tokens.old) result tokens.new }
+    ensures shorter { length tokens.new ≤ length tokens.old }
+    ensures fewer { IfOk result (λ _. length tokens.new < length tokens.old) }
+{
+    let (name, place) = tokens.name(alloc)?;
+    tokens.expect(Symbol::Colon)?;
+    let (sort, sort_place) = sort(alloc, tokens)?;
+    Ok(RawColumn {
+        name,
+        place,
+        sort,
+        sort_place,
+    })
+}
