@@ -2,7 +2,7 @@
 #![tactic(auto)]
 
 mod bytes;
-mod columns;
+mod reading;
 mod cursor;
 mod lexemes;
 mod lexer;
@@ -10,7 +10,7 @@ mod scanning;
 mod sources;
 mod texts;
 
-pub use columns::{column, sort};
+pub use reading::{column, columns, sort};
 pub use cursor::Cursor;
 pub use lexemes::{Found, Lexeme};
 pub use lexer::Lexer;

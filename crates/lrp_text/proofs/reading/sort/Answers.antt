@@ -1,6 +1,6 @@
 use Rattle.std.proofs.lemmas.Result.{err_from_is_err_and}
 use Rattle.lrp_text.proofs.Looking.{sort_read, sort_refused}
-use Rattle.lrp_text.proofs.columns.sort.Goals as goal
+use Rattle.lrp_text.proofs.reading.sort.Goals as goal
 
 pub returns-in_err-sort-clause-value : goal.returns-in_err-sort-clause-value
 returns-in_err-sort-clause-value c =

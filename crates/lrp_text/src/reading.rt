@@ -1,11 +1,12 @@
-// The reader of columns, which databases and queries share.
-ghost use Rattle.std.specs.Prelude.{◌≤◌, ◌<◌, length, IfOk};
-ghost use Rattle.lrp_text.specs.Parsers.{Reads, IsOrMemory};
+// The readers of what databases and queries share.
+ghost use Rattle.std.specs.Prelude.{◌≤◌, ◌<◌, ℕ, [], length, IfOk};
+ghost use Rattle.lrp_text.specs.Parsers.{separated_from, listed, Reads, IsOrMemory};
+ghost use Rattle.lrp_text.specs.Taking.{is_symbol};
 ghost use Rattle.lrp_text.specs.ColumnRule.{shown_sort, sort as sort_rule, column as column_rule};
 
 use crate::cursor::Cursor;
 use crate::lexemes::{Found, Lexeme};
-use lrp_model::{Fault, Name, Place, RawColumn, Sort, Symbol, Word};
+use lrp_model::{Fault, List, Name, Place, RawColumn, Sort, Symbol, Word};
 use std::alloc::Global;
 
 // The sort that stands there.
@@ -50,4 +51,31 @@ pub fn column(alloc: Global, tokens: &mut Cursor<'_>) -> Result<RawColumn, Fault
         sort,
         sort_place,
     })
+}
+
+// Reads one column or more, with commas between.
+fn some_columns(alloc: Global, tokens: &mut Cursor<'_>) -> Result<List<RawColumn>, Fault>
+    ensures value { (n : ℕ) → length tokens.old < n → Reads (separated_from column_rule (is_symbol Symbol.Comma) n [] tokens.old) result tokens.new }
+    ensures shorter { length tokens.new ≤ length tokens.old }
+{
+    let mut found = List::new(alloc);
+    loop {
+        let column = column(alloc, tokens)?;
+        found.push(column)?;
+        if !tokens.eat(Symbol::Comma) {
+            return Ok(found);
+        }
+    }
+}
+
+/// Reads the columns up to a symbol that ends them and is left, with commas between; there may be none.
+#[tactic(auto, unfolding(crate::specs::Parsers::listed))]
+pub fn columns(alloc: Global, tokens: &mut Cursor<'_>, stop: Symbol) -> Result<List<RawColumn>, Fault>
+    ensures value { (n : ℕ) → length tokens.old < n → Reads (listed column_rule (is_symbol Symbol.Comma) (is_symbol stop) n tokens.old) result tokens.new }
+    ensures shorter { length tokens.new ≤ length tokens.old }
+{
+    if tokens.sees(stop) {
+        return Ok(List::new(alloc));
+    }
+    some_columns(alloc, tokens)
 }
