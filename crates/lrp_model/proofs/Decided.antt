@@ -1,10 +1,9 @@
 -- What formulas are made of is decided: membership in a point, order of integers, equality of texts, and holding.
 use Rattle.std.proofs.Common.{◌≡◌, ℕ, zero, suc, ◌<◌, ◌⊎◌, inl, inr, refl, sym, ap, subst, ◌∙◌, arith, List, [], ◌∷◌, length, Contains, Bool, true, false, bytes_eq, ⊎_elim, get_or}
-use Rattle.std.specs.Prelude.{ℤ, pos, negsuc, ◌-ℤ◌, ◌≤ℤ◌, ◌<ℤ◌, ◌*ℤ◌, neg_ℤ}
+use Rattle.std.specs.Prelude.{Some, ℤ, pos, negsuc, ◌-ℤ◌, ◌≤ℤ◌, ◌<ℤ◌, ◌*ℤ◌, neg_ℤ}
 use Rattle.std.proofs.Math.IntN.{zero-*ℤ, *ℤ_comm}
 use Rattle.std.specs.Cmp.Lexicographic.{bytes_decides}
 use Rattle.std.specs.List.{AllByRecursion}
-use Rattle.std.specs.Int.{int_rem_euclid}
 use Rattle.std.proofs.lemmas.Int.{ints, by_lt_z}
 use Rattle.lrp_model.specs.Texts.{Text, Identifier}
 use Rattle.lrp_theory.specs.Divides.{Divides}
@@ -13,27 +12,24 @@ use Rattle.lrp_model.specs.declared.relations.Value.{Value}
 use Rattle.lrp_model.specs.declared.relations.Value.TheVariants.{Point, Const}
 use Rattle.lrp_model.specs.declared.relations.Row.{Row}
 use Rattle.lrp_model.specs.declared.relations.Relation.{Relation}
-use Rattle.lrp_theory.proofs.Modulo.{rem_divides, rem_between, multiple_below, Divides--, Divides-is, times_neg}
-
--- it holds or it fails
-abbrev pub Decided : Type 0 → Type 0
-Decided p = p ⊎ (p → ⊥)
+use Rattle.lrp_theory.proofs.Modulo.{times_neg}
+pub use Rattle.lrp_theory.proofs.Decided.{Decided}
+use Rattle.lrp_theory.proofs.Decided.{decided_within, decided_divides as from_one, decided_both as both_decided}
 
 pub stable_of : {p : Type 0} → Decided p → ((p → ⊥) → ⊥) → p
 stable_of (inl a) h = a
 stable_of (inr n) h = absurd (h n)
 
+-- with the statements left to be found
 pub decided_both : {p q : Type 0} → Decided p → Decided q → Decided (p × q)
-decided_both (inl a) (inl b) = inl (a, b)
-decided_both (inl a) (inr b) = inr (λ h. b h.1)
-decided_both (inr a) d = inr (λ h. a h.0)
+decided_both {p} {q} a b = both_decided p q a b
 
 pub decided_iff : {p q : Type 0} → (p → q) → (q → p) → Decided p → Decided q
 decided_iff f g (inl a) = inl (f a)
 decided_iff f g (inr n) = inr (λ b. n (g b))
 
 pub decided_le : (a b : ℤ) → Decided (a ≤ℤ b)
-decided_le a b = by_lt_z b a (λ lt. inr (λ le. absurd (omega (arith, ints)))) (λ le. inl le)
+decided_le a b = decided_within a (Some b)
 
 pub decided_lt : (a b : ℤ) → Decided (a <ℤ b)
 decided_lt a b = by_lt_z a b (λ lt. inl lt) (λ le. inr (λ lt. absurd (omega (arith, ints))))
@@ -49,30 +45,6 @@ by_test false t u e = inr (λ same. let yes_so : bytes_eq t u ≡ true = (bytes_
 
 pub decided_text : (t u : Text) → Decided (t ≡ u)
 decided_text t u = by_test (bytes_eq t u) t u refl
-
-zero_or_more : (r : ℤ) → pos 0 ≤ℤ r → (r ≡ pos 0) ⊎ (pos 1 ≤ℤ r)
-zero_or_more r h = by_lt_z (pos 0) r (λ lt. inr (omega (arith, ints))) (λ le. inl (omega (arith, ints)))
-
-minus_zero : (z : ℤ) → z -ℤ pos 0 ≡ z
-minus_zero z = omega (arith, ints)
-
-back : (z r : ℤ) → z -ℤ (z -ℤ r) ≡ r
-back z r = omega (arith, ints)
-
-clash : (r : ℤ) → pos 1 ≤ℤ r → r ≤ℤ pos 0 → ⊥
-clash r h k = omega (arith, ints)
-
-from_one : (k z : ℤ) → pos 1 ≤ℤ k → Decided (Divides k z)
-from_one k z one =
-    let r : ℤ = int_rem_euclid z k in
-    let d : Divides k (z -ℤ r) = rem_divides k z r one refl in
-    let b : (pos 0 ≤ℤ r) × (r <ℤ k) = rem_between k z r one refl in
-    elim (zero_or_more r b.0) [
-      | inl e ↦ inl (Divides-is k (z -ℤ r) z (rw e (minus_zero z)) d)
-      | inr more ↦ inr (λ h.
-          let m : Divides k r = Divides-is k (z -ℤ (z -ℤ r)) r (back z r) (Divides-- k z (z -ℤ r) h d) in
-          let le : r ≤ℤ pos 0 = multiple_below k r m one b.1 in absurd (clash r more le))
-    ]
 
 by_zero : (z : ℤ) → Decided (z ≡ pos 0) → Decided (Divides (pos 0) z)
 by_zero z (inl e) = inl (record { times = pos 0; is = e ∙ sym (zero-*ℤ (pos 0)) })

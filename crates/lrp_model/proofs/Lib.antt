@@ -9,5 +9,7 @@ pub mod FreeLaws
 pub mod Views
 pub mod RawViews
 pub mod PageExamples
+pub mod TextExamples
 pub mod TupleLaws
+pub mod TokenLaws
 pub mod Unique

@@ -22,8 +22,9 @@ pub use domain::Domain;
 pub use faults::{DbFault, DbKind, QueryFault, QueryKind};
 pub use formulas::{DataTerm, Formula, Head, Op, Query, Term, Test, TimeTerm};
 pub use laws::{
-    free_variables_decide, pages_are_unique, pages_resume, satisfaction_is_classical,
-    texts_in_order,
+    divisibility_is_decided, free_variables_decide, holding_is_decided, pages_are_unique,
+    pages_resume, ranks_differ, rows_are_decided, satisfaction_is_classical, texts_in_order,
+    tokens_spell_one_tuple, tuples_are_times_and_texts,
 };
 pub use limits::LIMIT;
 pub use list::{Copies, List};
