@@ -17,18 +17,23 @@ use Rattle.lrp_matrix.specs.Ranges.{Above, AreEnds, IsGreatestOf, IsLeastOf, May
 abbrev pub with_zero : List (Option ℤ) → ℕ → ℕ → Option ℤ
 with_zero cells i j = cond (eqb i j) (Some (pos 0)) (entry cells i j)
 
+-- on the diagonal equal numbers meet them
 at_diagonal : (x y d : ℤ) (cells : List (Option ℤ)) (i j : ℕ) → i ≡ j → x ≡ y → eqb i j ≡ true → Within (x -ℤ y) (with_zero cells i j)
 at_diagonal x y d cells i j e f t = rw t (omega (arith, ints))
 
+-- off it they are the entries
 off_diagonal : (d : ℤ) (cells : List (Option ℤ)) (i j : ℕ) → eqb i j ≡ false → Within d (entry cells i j) → Within d (with_zero cells i j)
 off_diagonal d cells i j t h = rw t h
 
+-- and back
 from_off : (d : ℤ) (cells : List (Option ℤ)) (i j : ℕ) → eqb i j ≡ false → Within d (with_zero cells i j) → Within d (entry cells i j)
 from_off d cells i j t h = rw t at h
 
+-- on the diagonal they ask for at most 0
 from_diagonal : (d : ℤ) (cells : List (Option ℤ)) (i j : ℕ) → eqb i j ≡ true → Within d (with_zero cells i j) → d ≤ℤ pos 0
 from_diagonal d cells i j t h = rw t at h
 
+-- a number that is not positive is at most the difference of equal ones
 less : (x y d : ℤ) → x ≡ y → d ≤ℤ pos 0 → d ≤ℤ (x -ℤ y)
 less x y d e h = omega (arith, ints)
 
@@ -40,6 +45,7 @@ zero_met cells x i j h = elim (eqb_tells i j) [
 ]
 
 module _ (m : MatrixView) (closed : IsClosed m) where
+  -- integers that meet the entries meet them
   meets_zero : (xs : List ℤ) → MeetsBounds m xs → Meets (m.columns + 1) (with_zero m.cells) (node xs)
   meets_zero xs h i j il jl = zero_met m.cells (node xs) i j (λ ne. h.each i j (omega arith) (omega arith))
 
@@ -50,6 +56,7 @@ module _ (m : MatrixView) (closed : IsClosed m) where
     | inr w ↦ (closed.least i j (omega arith) (omega arith) w.1).reached d (from_off d m.cells i j w.0 h)
   ]
 
+  -- so they are closed under triangles: take integers that reach one bound, and let them meet the two others
   is_triangle : IsTriangle (m.columns + 1) (with_zero m.cells)
   is_triangle i j k il jl kl d h =
       let r : (xs : List ℤ) × MeetsBounds m xs × (d ≤ℤ (node xs i -ℤ node xs j)) = some_at i j d il jl h in
@@ -57,6 +64,7 @@ module _ (m : MatrixView) (closed : IsClosed m) where
       within_less d (node r.0 i -ℤ node r.0 j) (plus (with_zero m.cells i k) (with_zero m.cells k j)) r.2
       (through (node r.0 i) (node r.0 j) (node r.0 k) (with_zero m.cells i k) (with_zero m.cells k j) (met i k il kl) (met k j kl jl))
 
+  -- and none on the diagonal is negative
   no_negative : HasNoNegativeCycle (m.columns + 1) (with_zero m.cells)
   no_negative i il = let e : eqb i i ≡ true = grind (arith, nat_tests) in rw e (omega (arith, ints))
 
@@ -134,10 +142,12 @@ module _ (m : MatrixView) (closed : IsClosed m) where
     meets_lows : (v : ℤ) → MayHave m i prefix v → (p : ℕ) → p < i → Within (node prefix p -ℤ v) (entry m.cells p i)
     meets_lows v h p pl = rw (← h.before p pl, ← h.here) (h.meet.each p i (omega arith) high)
 
+    -- for the high ends too
     meets_highs : (v : ℤ) → MayHave m i prefix v → (p : ℕ) → p < i → Within (v -ℤ node prefix p) (entry m.cells i p)
     meets_highs v h p pl = rw (← h.before p pl, ← h.here) (h.meet.each i p high (omega arith))
 
     module _ (least most : Option ℤ) (ends : AreEnds m.cells i prefix least most) where
+      -- what lies between the ends is possible, and what is possible lies between them
       pub between_possible : (v : ℤ) → Above v least → Within v most → MayHave m i prefix v
       between_possible v a w = possible v (ends.above v a) (ends.below v w)
 
@@ -151,6 +161,7 @@ module _ (m : MatrixView) (closed : IsClosed m) where
       above_more x y None l h = tt
       above_more x y (Some a) l h = omega (arith, ints)
 
+      -- so the ends are reached: by d itself, or by some possible integer beyond it
       pub least_is : IsLeastOf (MayHave m i prefix) least
       least_is = record {
         met = above_least;

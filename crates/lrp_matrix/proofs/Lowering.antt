@@ -39,6 +39,7 @@ get_or-end : (xs : List ℤ) (v : ℤ) → get_or (xs ++ v ∷ []) (length xs) (
 get_or-end [] v = refl
 get_or-end (x ∷ xs) v = get_or-end xs v
 
+-- and those before it
 get_or-front : (xs : List ℤ) (v : ℤ) (p : ℕ) → p < length xs → get_or (xs ++ v ∷ []) p (pos 0) ≡ get_or xs p (pos 0)
 get_or-front [] v p h = absurd (omega arith)
 get_or-front (x ∷ xs) v zero h = refl
@@ -49,6 +50,7 @@ node-front : (xs : List ℤ) (v : ℤ) (p : ℕ) → p < length xs + 1 → node 
 node-front xs v zero h = refl
 node-front xs v (suc p) h = get_or-front xs v p (omega arith)
 
+-- and the last one
 node-end : (xs : List ℤ) (v : ℤ) (i : ℕ) → i ≡ suc (length xs) → node (xs ++ v ∷ []) i ≡ v
 node-end xs v i e = rw e (get_or-end xs v)
 

@@ -21,9 +21,11 @@ rest_is r s k m a b e f g = rw (← f, ← g) e
 
 module _ (least most : Option ℤ) (k r s m x : ℤ) (one : pos 1 ≤ℤ k) where
   module _ (start : IsStart least s) (e : m ≡ int_rem_euclid (r -ℤ s) k) (f : x ≡ s +ℤ m) where
+    -- the number s + (r - s) mod k lies from the start on
     from_start : s ≤ℤ x
     from_start = let b : pos 0 ≤ℤ m = (rem_between k (r -ℤ s) m one e).0 in omega (arith, ints)
 
+    -- it has the residue
     of_residue : Divides k (x -ℤ r)
     of_residue = Divides-is k (neg_ℤ ((r -ℤ s) -ℤ m)) _ (omega (arith, ints)) (Divides-neg k _ (rem_divides k (r -ℤ s) m one e))
 
@@ -35,6 +37,7 @@ module _ (least most : Option ℤ) (k r s m x : ℤ) (one : pos 1 ≤ℤ k) wher
         let z : (x -ℤ b) ≤ℤ pos 0 = multiple_below k (x -ℤ b) d one (omega (arith, ints)) in
         omega (arith, ints)
 
+    -- so it is the first between the ends, where it is within the high one
     pub first_from_zero : Within x most → IsFirstFromZero least most r k x
     first_from_zero high = record {
       between = record { low = above_more s x least from_start start.above; high = high; residue = of_residue };
@@ -42,17 +45,21 @@ module _ (least most : Option ℤ) (k r s m x : ℤ) (one : pos 1 ≤ℤ k) wher
       first = λ y h side. first_of_residue y (start.first y side h.low) h.residue;
     }
 
+    -- and where it is not, there is none
     pub none_from_zero : (Within x most → ⊥) → (y : ℤ) → IsBetween least most r k y → pos 0 ≤ℤ y → ⊥
     none_from_zero past y h side = past (within_less x y most (first_of_residue y (start.first y side h.low) h.residue) h.high)
 
   -- x = s - (s - r) mod k is the last number of the residue up to s
   module _ (start : IsLastStart most s) (e : m ≡ int_rem_euclid (s -ℤ r) k) (f : x ≡ s -ℤ m) where
+    -- the number lies up to the start
     to_start : x ≤ℤ s
     to_start = let b : pos 0 ≤ℤ m = (rem_between k (s -ℤ r) m one e).0 in omega (arith, ints)
 
+    -- and none of the residue lies between
     last_of_residue : (b : ℤ) → b ≤ℤ s → Divides k (b -ℤ r) → b ≤ℤ x
     last_of_residue = tight_greatest k s r m x one (rem_between k (s -ℤ r) m one e).1 (tight_is k s r m x one e f) f
 
+    -- so it is the last between the ends, where it is above the low one
     pub last_below_zero : Above x least → IsLastBelowZero least most r k x
     last_below_zero low = record {
       between = record { low = low; high = within_less x s most to_start start.within; residue = tight_is k s r m x one e f };
@@ -60,6 +67,7 @@ module _ (least most : Option ℤ) (k r s m x : ℤ) (one : pos 1 ≤ℤ k) wher
       last = λ y h side. last_of_residue y (start.last y side h.high) h.residue;
     }
 
+    -- and where it is not, there is none
     pub none_below_zero : (Above x least → ⊥) → (y : ℤ) → IsBetween least most r k y → y <ℤ pos 0 → ⊥
     none_below_zero past y h side = past (above_more y x least (last_of_residue y (start.last y side h.high) h.residue) h.low)
 

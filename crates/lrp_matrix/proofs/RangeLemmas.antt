@@ -31,6 +31,7 @@ pub low_to : (x v : ℤ) (e : Option ℤ) → Within (neg_ℤ v) (plus e (Some (
 low_to x v None h = tt
 low_to x v (Some a) h = omega (arith, ints)
 
+-- and back
 pub low_from : (x v : ℤ) (e : Option ℤ) → Within (x -ℤ v) e → Within (neg_ℤ v) (plus e (Some (neg_ℤ x)))
 low_from x v None h = tt
 low_from x v (Some a) h = omega (arith, ints)
@@ -40,6 +41,7 @@ pub high_to : (x v : ℤ) (e : Option ℤ) → Within v (plus e (Some x)) → Wi
 high_to x v None h = tt
 high_to x v (Some a) h = omega (arith, ints)
 
+-- and back
 pub high_from : (x v : ℤ) (e : Option ℤ) → Within (v -ℤ x) e → Within v (plus e (Some x))
 high_from x v None h = tt
 high_from x v (Some a) h = omega (arith, ints)
@@ -49,6 +51,7 @@ above_negation : (v : ℤ) (e : Option ℤ) → Above v (negation e) → Within 
 above_negation v None h = tt
 above_negation v (Some a) h = omega (arith, ints)
 
+-- and back
 negation_above : (v : ℤ) (e : Option ℤ) → Within (neg_ℤ v) e → Above v (negation e)
 negation_above v None h = tt
 negation_above v (Some a) h = omega (arith, ints)
@@ -57,6 +60,7 @@ negation_above v (Some a) h = omega (arith, ints)
 abbrev pub FromLow : List (Option ℤ) → ℕ → List ℤ → ℕ → ℤ → Type 0
 FromLow cells i prefix q v = Within (node prefix q -ℤ v) (entry cells q i)
 
+-- the same for the high end
 abbrev pub FromHigh : List (Option ℤ) → ℕ → List ℤ → ℕ → ℤ → Type 0
 FromHigh cells i prefix q v = Within (v -ℤ node prefix q) (entry cells i q)
 
@@ -70,15 +74,17 @@ ends_are cells i prefix low high lows highs = record {
   from_below = highs.from;
 }
 
--- magnitudes of sums, of the lesser of two, and of negations
+-- the magnitude of a sum
 pub AtMost-sum : (g h : ℕ) (e f : Option ℤ) → AtMost g e → AtMost h f → AtMost (g + h) (plus e f)
 AtMost-sum g h None f a b = tt
 AtMost-sum g h (Some x) None a b = tt
 AtMost-sum g h (Some x) (Some y) a b = (omega (arith, ints), omega (arith, ints))
 
+-- the lesser of two
 pub AtMost-one : (h : ℕ) (e f g : Option ℤ) → AtMost h f → AtMost h g → IsLesser e f g → AtMost h e
 AtMost-one h e f g a b lesser = elim lesser.one [ inl p ↦ rw p a | inr p ↦ rw p b ]
 
+-- the negation
 pub AtMost-negation : (h : ℕ) (e : Option ℤ) → AtMost h e → AtMost h (negation e)
 AtMost-negation h None a = tt
 AtMost-negation h (Some x) a = (omega (arith, ints), omega (arith, ints))
@@ -87,20 +93,24 @@ AtMost-negation h (Some x) a = (omega (arith, ints), omega (arith, ints))
 pub low_sum : (t a b c e : Option ℤ) (x : ℤ) → t ≡ plus a b → a ≡ e → b ≡ negation c → c ≡ Some x → t ≡ plus e (Some (neg_ℤ x))
 low_sum t a b c e x p q r s = rw (p, q, r, s) refl
 
+-- the same for the high end
 pub high_sum : (t a c e : Option ℤ) (x : ℤ) → t ≡ plus a c → a ≡ e → c ≡ Some x → t ≡ plus e (Some x)
 high_sum t a c e x p q s = rw (p, q, s) refl
 
+-- the low end with one column more
 pub low_step : (cells : List (Option ℤ)) (i : ℕ) (prefix : List ℤ) (p : ℕ) (low t new : Option ℤ) → Gives (FromLow cells i prefix) neg_ℤ p low → IsLesser new low t → t ≡ plus (entry cells p i) (Some (neg_ℤ (node prefix p)))
     → Gives (FromLow cells i prefix) neg_ℤ (p + 1) new
 low_step cells i prefix p low t new given lesser is = one_more (FromLow cells i prefix) neg_ℤ p low t new given lesser
     (λ v h. low_to (node prefix p) v (entry cells p i) (subst (λ e. Within (neg_ℤ v) e) is h))
     (λ v h. subst (λ e. Within (neg_ℤ v) e) (sym is) (low_from (node prefix p) v (entry cells p i) h))
 
+-- the high end with one column more
 pub high_step : (cells : List (Option ℤ)) (i : ℕ) (prefix : List ℤ) (p : ℕ) (high t new : Option ℤ) → Gives (FromHigh cells i prefix) (λ v. v) p high → IsLesser new high t → t ≡ plus (entry cells i p) (Some (node prefix p))
     → Gives (FromHigh cells i prefix) (λ v. v) (p + 1) new
 high_step cells i prefix p high t new given lesser is = one_more (FromHigh cells i prefix) (λ v. v) p high t new given lesser
     (λ v h. high_to (node prefix p) v (entry cells i p) (subst (λ e. Within v e) is h))
     (λ v h. subst (λ e. Within v e) (sym is) (high_from (node prefix p) v (entry cells i p) h))
 
+-- and the magnitude of either
 pub small_step : (old t new e f : Option ℤ) → AtMost (9 * 2 ^ 62) old → IsLesser new old t → t ≡ plus e f → AtMost (8 * 2 ^ 62) e → AtMost (2 ^ 62) f → AtMost (9 * 2 ^ 62) new
 small_step old t new e f small lesser is a b = AtMost-one (9 * 2 ^ 62) new old t small (rw is (AtMost-sum (8 * 2 ^ 62) (2 ^ 62) e f a b)) lesser
