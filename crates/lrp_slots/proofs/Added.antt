@@ -8,6 +8,7 @@ use Rattle.lrp_slots.specs.Links.{next_of, value_at, keys_from, key_after, value
 use Rattle.lrp_slots.proofs.Keys.{all_so, all_both, all_front, all_joined, apart_before, AreApart-push, keys_from-add, key_after-suc, same_walk, same_values, values_at-append, held_of, still_held}
 
 module _ {V : Type 0} where
+  -- a key with a value is not the key of a slot with none
   vacant_differs : (slots : ℕ → Option (Link V)) (key k : ℕ) → slots key ≡ None → IsSome (slots k) → k ≢ key
   vacant_differs slots key k none held e =
       let none_here : slots k ≡ None = ap slots e ∙ none in
@@ -38,27 +39,35 @@ module _ {V : Type 0} where
   }
 
 module _ {V : Type 0} (old new : Slab (Link V)) (chain : Chain) (value : V) (whole : IsWhole (get old) chain) (pushes : Pushes old new (Some chain) value) where
+  -- the key of the new slot
   abbrev key : ℕ
   key = old.vacant_key
 
+  -- how many slots come before the last
   abbrev n : ℕ
   n = chain.count - 1
 
+  -- the keys before
   abbrev keys : List ℕ
   keys = chain_keys (get old) chain
 
+  -- those before the last
   abbrev front : List ℕ
   front = keys_from (get old) n chain.first
 
+  -- the last key stands at the end
   keys_split : keys ≡ front ++ key_after (get old) n chain.first ∷ []
   keys_split = let some = whole.some in keys_from-add (get old) n 1 chain.count chain.first (omega arith)
 
+  -- no key before it is the same
   unlike_last : AllByRecursion (λ k. k ≢ key_after (get old) n chain.first) front
   unlike_last = apart_before front (key_after (get old) n chain.first) [] (subst AreApart keys_split whole.apart)
 
+  -- no key is that of the new slot
   unlike_key : AllByRecursion (λ k. k ≢ key) keys
   unlike_key = vacant_apart (get old) key keys pushes.vacant whole.held
 
+  -- the slots before the last lead to the same
   front_same : AllByRecursion (λ k. next_of (get new k) ≡ next_of (get old k)) front
   front_same =
       all_so (λ k. (k ≢ key) × (k ≢ key_after (get old) n chain.first)) (λ k. next_of (get new k) ≡ next_of (get old k)) front
@@ -66,26 +75,32 @@ module _ {V : Type 0} (old new : Slab (Link V)) (chain : Chain) (value : V) (who
       (all_both (λ k. k ≢ key) (λ k. k ≢ key_after (get old) n chain.first) front
       (all_front (λ k. k ≢ key) front (key_after (get old) n chain.first ∷ []) (subst (AllByRecursion (λ k. k ≢ key)) keys_split unlike_key)) unlike_last)
 
+  -- the last slot is one of them
   count_is : chain.count ≡ suc n
   count_is = let some = whole.some in omega arith
 
+  -- so the walk is the same, as far as it went
   walk_same : keys_from (get new) (suc n) chain.first ≡ keys
   walk_same = (same_walk (get old) (get new) n chain.first front_same).0 ∙ ap (λ k. keys_from (get old) k chain.first) (sym count_is)
 
+  -- and the slot after it is the new one
   end_is : key_after (get new) (suc n) chain.first ≡ key
   end_is =
       key_after-suc (get new) n chain.first
       ∙ ap (λ k. next_of (get new k)) ((same_walk (get old) (get new) n chain.first front_same).2 ∙ whole.last)
       ∙ pushes.joined chain.last refl
 
+  -- the keys with the new one at their end
   keys_more : chain_keys (get new) (extended (Some chain) key) ≡ keys ++ key ∷ []
   keys_more =
       keys_from-add (get new) (suc n) 1 (chain.count + 1) chain.first (omega (arith, count_is))
       ∙ ap (λ ks. ks ++ key_after (get new) (suc n) chain.first ∷ []) walk_same ∙ ap (λ k. keys ++ k ∷ []) end_is
 
+  -- they keep their values
   values_kept : AllByRecursion (λ k. value_at (get new k) ≡ value_at (get old k)) keys
   values_kept = all_so (λ k. k ≢ key) (λ k. value_at (get new k) ≡ value_at (get old k)) keys (λ k differs. pushes.values k differs) unlike_key
 
+  -- and each has a value
   all_held : AreHeld (get new) (keys ++ key ∷ [])
   all_held =
       all_joined (λ k. IsSome (get new k)) keys (key ∷ [])

@@ -19,10 +19,12 @@ pub all_joined : {X : Type 0} (P : X → Type 0) (xs ys : List X) → AllByRecur
 all_joined P [] ys p q = q
 all_joined P (x ∷ xs) ys p q = (p.0, all_joined P xs ys p.1 q)
 
+-- and each of the first
 pub all_front : {X : Type 0} (P : X → Type 0) (xs ys : List X) → AllByRecursion P (xs ++ ys) → AllByRecursion P xs
 all_front P [] ys p = tt
 all_front P (x ∷ xs) ys p = (p.0, all_front P xs ys p.1)
 
+-- and each of the second
 pub all_back : {X : Type 0} (P : X → Type 0) (xs ys : List X) → AllByRecursion P (xs ++ ys) → AllByRecursion P ys
 all_back P [] ys p = p
 all_back P (x ∷ xs) ys p = all_back P xs ys p.1
@@ -49,6 +51,7 @@ AreApart-without [] y ys apart = apart.1
 AreApart-without (x ∷ xs) y ys apart =
     (all_joined (λ other. other ≢ x) xs ys (all_front (λ other. other ≢ x) xs (y ∷ ys) apart.0) ((all_back (λ other. other ≢ x) xs (y ∷ ys) apart.0).1), AreApart-without xs y ys apart.1)
 
+-- one value before others
 joined_length : {X : Type 0} (xs ys : List X) (n : ℕ) → length xs ≡ 1 → length ys ≡ n → length (xs ++ ys) ≡ suc n
 joined_length [] ys n p q = absurd (omega arith)
 joined_length (x ∷ []) ys n p q = ap suc q
@@ -61,11 +64,13 @@ module _ {V : Type 0} where
   keys_from-add slots (suc m) n zero key e = absurd (omega arith)
   keys_from-add slots (suc m) n (suc l) key e = ap (λ ks. key ∷ ks) (keys_from-add slots m n l (next_of (slots key)) (omega arith))
 
+  -- the key that such a walk comes to
   pub key_after-add : (slots : ℕ → Option (Link V)) (m n l key : ℕ) → l ≡ m + n → key_after slots l key ≡ key_after slots n (key_after slots m key)
   key_after-add slots zero n l key e = let same : l ≡ n = omega arith in ap (λ k. key_after slots k key) same
   key_after-add slots (suc m) n zero key e = absurd (omega arith)
   key_after-add slots (suc m) n (suc l) key e = key_after-add slots m n l (next_of (slots key)) (omega arith)
 
+  -- one link more
   pub key_after-suc : (slots : ℕ → Option (Link V)) (m key : ℕ) → key_after slots (suc m) key ≡ next_of (slots (key_after slots m key))
   key_after-suc slots zero key = refl
   key_after-suc slots (suc m) key = key_after-suc slots m (next_of (slots key))
@@ -82,6 +87,7 @@ module _ {V : Type 0} where
   all_on_the_way slots P (suc m) zero key le all = absurd (omega arith)
   all_on_the_way slots P (suc m) (suc n) key le all = (all.0, all_on_the_way slots P m n (next_of (slots key)) (omega arith) all.1)
 
+  -- how many keys a walk has
   pub length-keys_from : (slots : ℕ → Option (Link V)) (n key : ℕ) → length (keys_from slots n key) ≡ n
   length-keys_from slots zero key = refl
   length-keys_from slots (suc n) key = ap suc (length-keys_from slots n (next_of (slots key)))
@@ -97,11 +103,13 @@ module _ {V : Type 0} where
         ap (key_after new n) same.0 ∙ rest.2,
       )
 
+  -- and so is each key on the way
   pub same_end : (old new : ℕ → Option (Link V)) (n m key : ℕ) → m ≤ n → AllByRecursion (λ k. next_of (new k) ≡ next_of (old k)) (keys_from old n key) → key_after new m key ≡ key_after old m key
   same_end old new n zero key le same = refl
   same_end old new zero (suc m) key le same = absurd (omega arith)
   same_end old new (suc n) (suc m) key le same = ap (key_after new m) same.0 ∙ same_end old new n m (next_of (old key)) (omega arith) same.1
 
+  -- the values under the keys of two lists
   pub values_at-append : (slots : ℕ → Option (Link V)) (xs ys : List ℕ) → values_at slots (xs ++ ys) ≡ values_at slots xs ++ values_at slots ys
   values_at-append slots [] ys = refl
   values_at-append slots (x ∷ xs) ys = regrouped (value_at (slots x)) _ _ _ (values_at-append slots xs ys)
@@ -110,14 +118,17 @@ module _ {V : Type 0} where
       regrouped [] b c d e = e
       regrouped (x ∷ a) b c d e = ap (λ xs. x ∷ xs) (regrouped a b c d e)
 
+  -- keys that keep their values have the same
   pub same_values : (old new : ℕ → Option (Link V)) (keys : List ℕ) → AllByRecursion (λ k. value_at (new k) ≡ value_at (old k)) keys → values_at new keys ≡ values_at old keys
   same_values old new [] same = refl
   same_values old new (key ∷ keys) same = ap (λ xs. xs ++ values_at new keys) same.0 ∙ ap (λ xs. value_at (old key) ++ xs) (same_values old new keys same.1)
 
+  -- a slot that is held has one value
   one_value : (o : Option (Link V)) → IsSome o → length (value_at o) ≡ 1
   one_value None held = cc
   one_value (Some link) held = refl
 
+  -- keys that are held have a value each
   pub length-values_at : (slots : ℕ → Option (Link V)) (keys : List ℕ) → AreHeld slots keys → length (values_at slots keys) ≡ length keys
   length-values_at slots [] held = refl
   length-values_at slots (key ∷ keys) held = joined_length _ _ _ (one_value (slots key) held.0) (length-values_at slots keys held.1)
@@ -127,6 +138,7 @@ module _ {V : Type 0} where
   held_of None value e = cc
   held_of (Some link) value e = refl
 
+  -- where it keeps its value it is still held
   pub still_held : (o p : Option (Link V)) → value_at p ≡ value_at o → IsSome o → IsSome p
   still_held None p e held = cc
   still_held (Some link) p e held = held_of p link.value e

@@ -31,6 +31,7 @@ module _ {V : Type 0} where
     pub keys : chain_keys new chain ≡ chain_keys old chain
     pub values : chain_values new chain ≡ chain_values old chain
 
+  -- a chain keeps what it has
   pub keeps : (old new : ℕ → Option (Link V)) (chain : Chain) → IsWhole old chain → AllByRecursion (λ k. new k ≡ old k) (chain_keys old chain) → Keeps old new chain
   keeps old new chain whole same =
       let next : AllByRecursion (λ k. next_of (new k) ≡ next_of (old k)) (chain_keys old chain) = all_so (λ k. new k ≡ old k) (λ k. next_of (new k) ≡ next_of (old k)) _ (λ k e. ap next_of e) same in
@@ -67,9 +68,11 @@ all_places : {X : Type 0} (P : X → Type 0) (xs : List X) → ((k : ℕ) (d : X
 all_places P [] each = tt
 all_places P (x ∷ xs) each = (each 0 x (omega arith), all_places P xs (λ k d within. each (suc k) d (omega arith)))
 
+-- how many slots a chain has
 abbrev count_of : Chain → ℕ
 count_of chain = chain.count
 
+-- no cells ascend
 nothing_ascends : IsStrictlySortedBy cell_cmp []
 unfolding IsStrictlySortedBy
 nothing_ascends = tt
@@ -93,15 +96,18 @@ module _ {V : Type 0} where
   keys_before slots None = []
   keys_before slots (Some chain) = chain_keys slots chain
 
+  -- what a chain is with one value more
   extension : (old new : Slab (Link V)) (es : List (Cell × Chain)) (linked : AreLinked old es) (c : Cell) (value : V) (o : Option Chain) → chain_at es c ≡ o → Pushes old new o value
       → Extends old new o (keys_before (get old) o) (list_of (get old) o) value
   extension old new es linked c value None e pushes = begins old new value pushes
   extension old new es linked c value (Some chain) e pushes = extends old new chain value (linked.whole c chain e) pushes
 
+  -- its keys are the cell's
   all_owned : (slab : Slab (Link V)) (es : List (Cell × Chain)) (linked : AreLinked slab es) (c : Cell) (o : Option Chain) → chain_at es c ≡ o → AllByRecursion (λ k. linked.owner k ≡ c) (keys_before (get slab) o)
   all_owned slab es linked c None e = tt
   all_owned slab es linked c (Some chain) e = linked.owned c chain e
 
+  -- and each has a value
   all_held_before : (slab : Slab (Link V)) (es : List (Cell × Chain)) (linked : AreLinked slab es) (c : Cell) (o : Option Chain) → chain_at es c ≡ o → AreHeld (get slab) (keys_before (get slab) o)
   all_held_before slab es linked c None e = tt
   all_held_before slab es linked c (Some chain) e = (linked.whole c chain e).held
@@ -153,6 +159,7 @@ module _ {V : Type 0} where
       linked.whole (get_or es k d).0 (get_or es k d).1
       (lookup_from_place (eq_by_cmp_equiv cells_total) es k (get_or es k d).0 (get_or es k d).1 (IsDistinct-from_sorted cell_cmp (keys_of es) linked.ascending) (slice_get-get_or es k d within)))
 
+  -- the values of these cells and the slots of their chains are as many
   sums : (slots : ℕ → Option (Link V)) (fs : List (Cell × Chain)) → AllByRecursion (λ e. IsWhole slots e.1) fs
       → sum_by (λ (xs : List V). length xs) (map (λ (f : Cell × List V). f.1) (map (λ (e : Cell × Chain). (e.0, chain_values slots e.1)) fs)) ≡ slots_of fs
   sums slots [] whole = refl
@@ -191,6 +198,7 @@ slots_of-remove es c rest chain none held =
     let had : unwrap_or (option_map count_of (chain_at es c)) 0 ≡ chain.count = ap (λ o. unwrap_or (option_map count_of o) 0) held in
     omega (arith, sum_by-remove_entry count_of (is_at (cell_cmp c)) es)
 
+-- the new chain has one slot more
 one_more : (o : Option Chain) (key : ℕ) → (extended o key).count ≡ unwrap_or (option_map count_of o) 0 + 1
 one_more None key = refl
 one_more (Some chain) key = refl
@@ -198,9 +206,11 @@ one_more (Some chain) key = refl
 -- a value was added
 module _ {V : Type 0} (old new : Slab (Link V)) (es fs : List (Cell × Chain)) (c : Cell) (value : V) (linked : AreLinked old es) (pushes : Pushes old new (chain_at es c) value)
     (updates : (q : Cell) → chain_at fs q ≡ cond (is_at (cell_cmp c) q) (Some (extended (chain_at es c) old.vacant_key)) (chain_at es q)) where
+  -- the chain with the new slot
   abbrev added_to : Chain
   added_to = extended (chain_at es c) old.vacant_key
 
+  -- what that chain has
   extended_here : Extends old new (chain_at es c) (keys_before (get old) (chain_at es c)) (list_of (get old) (chain_at es c)) value
   extended_here = extension old new es linked c value (chain_at es c) refl pushes
 
@@ -214,15 +224,18 @@ module _ {V : Type 0} (old new : Slab (Link V)) (es fs : List (Cell × Chain)) (
       (all_both (λ k. k ≢ old.vacant_key) (λ k. linked.owner k ≡ q) (chain_keys (get old) chain)
       (vacant_apart (get old) old.vacant_key (chain_keys (get old) chain) pushes.vacant whole.held) (linked.owned q chain e)))
 
+  -- whose each slot is now
   abbrev owner : ℕ → Cell
   owner k = cond (eqb k old.vacant_key) c (linked.owner k)
 
+  -- the other slots are whose they were
   owner_kept : (q : Cell) (keys : List ℕ) → AreHeld (get old) keys → AllByRecursion (λ k. linked.owner k ≡ q) keys → AllByRecursion (λ k. owner k ≡ q) keys
   owner_kept q keys held owned =
       all_so (λ k. (k ≢ old.vacant_key) × (linked.owner k ≡ q)) (λ k. owner k ≡ q) keys
       (λ k both. ap (λ b. cond b c (linked.owner k)) (ne_eqb k old.vacant_key both.0) ∙ both.1)
       (all_both (λ k. k ≢ old.vacant_key) (λ k. linked.owner k ≡ q) keys (vacant_apart (get old) old.vacant_key keys pushes.vacant held) owned)
 
+  -- the slots of the new chain are the cell's
   owned_here : AllByRecursion (λ k. owner k ≡ c) (chain_keys (get new) added_to)
   owned_here =
       subst (AllByRecursion (λ k. owner k ≡ c)) (sym extended_here.keys_are)
@@ -230,6 +243,7 @@ module _ {V : Type 0} (old new : Slab (Link V)) (es fs : List (Cell × Chain)) (
       (owner_kept c (keys_before (get old) (chain_at es c)) (all_held_before old es linked c (chain_at es c) refl) (all_owned old es linked c (chain_at es c) refl))
       (ap (λ b. cond b c (linked.owner old.vacant_key)) (eq-eqb old.vacant_key old.vacant_key refl), tt))
 
+  -- a chain of the new map is the new one or was there before
   same_chain : (q : Cell) (chain : Chain) → chain_at fs q ≡ Some chain → ((c ≡ q) × (added_to ≡ chain)) ⊎ ((c ≢ q) × (chain_at es q ≡ Some chain))
   same_chain q chain e =
       elim (changed_or_kept (is_at (cell_cmp c) q) (Some added_to) (chain_at es q) chain (sym (updates q) ∙ e)) [
@@ -237,6 +251,7 @@ module _ {V : Type 0} (old new : Slab (Link V)) (es fs : List (Cell × Chain)) (
         | inr there ↦ inr (other_cell c q there.0, there.1)
       ]
 
+  -- each slot still stands in one chain
   pub added_are_linked : slots_of fs ≡ slab_len new → slab_len new ≤ new.capacity → IsStrictlySortedBy cell_cmp (keys_of fs) → AreLinked new fs
   added_are_linked total fits ascending = record {
     owner = owner;
@@ -255,19 +270,23 @@ module _ {V : Type 0} (old new : Slab (Link V)) (es fs : List (Cell × Chain)) (
     ascending = ascending;
   }
 
+  -- the slots of all chains
   pub total_added : fs ≡ insert_entry cell_cmp es c added_to → IsStrictlySortedBy cell_cmp (keys_of es) → slots_of fs ≡ slab_len new
   total_added inserted sorted =
       ap slots_of inserted
       ∙ omega (arith, sum_by-insert_entry count_of cells_total es c added_to sorted, one_more (chain_at es c) old.vacant_key, linked.all, pushes.len)
 
+  -- a list with a value at its end is not empty
   nonempty : (xs : List V) → some_list (xs ++ value ∷ []) ≡ Some (xs ++ value ∷ [])
   nonempty [] = refl
   nonempty (x ∷ xs) = refl
 
+  -- and is set by an insertion
   inserted_list : (lists : finite.FinMap cell_cmp (List V)) (xs : List V) → set_list lists c (xs ++ value ∷ []) ≡ finite.insert lists c (xs ++ value ∷ [])
   inserted_list lists [] = refl
   inserted_list lists (x ∷ xs) = refl
 
+  -- the list has the value at its end, and the others stay
   pub lists_added : lists_of (get new) fs ≡ finite.insert (lists_of (get old) es) c (list_at (lists_of (get old) es) c ++ value ∷ [])
   lists_added =
       let before = list_of (get old) (chain_at es c) in
@@ -288,20 +307,25 @@ pub record Additions {V : Type 0} (mid new : Slab (Link V)) (es fs : List (Cell 
   pub room : HasRoomFor mid 1
 
 module _ {V : Type 0} (mid new : Slab (Link V)) (es fs : List (Cell × Chain)) (c : Cell) (held : Option Chain) (made : Chain) (value : V) (additions : Additions mid new es fs c held made value) where
+  -- the chain that was made
   made_of : made ≡ extended (chain_at es c) mid.vacant_key
   made_of = additions.made_is ∙ ap (λ h. extended h mid.vacant_key) additions.held_is
 
+  -- what the slots have
   pushed : Pushes mid new (chain_at es c) value
   pushed = subst (λ h. Pushes mid new h value) additions.held_is additions.pushes
 
+  -- what the map has
   updated : (q : Cell) → chain_at fs q ≡ cond (is_at (cell_cmp c) q) (Some (extended (chain_at es c) mid.vacant_key)) (chain_at es q)
   updated q = additions.updates q ∙ ap (λ m. cond (is_at (cell_cmp c) q) (Some m) (chain_at es q)) made_of
 
+  -- each slot still stands in one chain
   pub linked_after_append : AreLinked new fs
   linked_after_append =
       added_are_linked mid new es fs c value additions.linked pushed updated
       (total_added mid new es fs c value additions.linked pushed updated (additions.inserted ∙ ap (insert_entry cell_cmp es c) made_of) additions.linked.ascending)
       (omega (arith, additions.room, additions.pushes.len, additions.pushes.capacity)) additions.ascending
 
+  -- the list has the value at its end, and the others stay
   pub lists_after_append : lists_of (get new) fs ≡ finite.insert (lists_of (get mid) es) c (list_at (lists_of (get mid) es) c ++ value ∷ [])
   lists_after_append = lists_added mid new es fs c value additions.linked pushed updated

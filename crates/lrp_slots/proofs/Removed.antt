@@ -86,57 +86,73 @@ module _ {V : Type 0} where
 
 module _ {V : Type 0} (old mid new : Slab (Link V)) (chain : Chain) (i m key : ℕ) (link : Link V) (parts : Parts old chain i m key link)
     (updates : Updates old mid key None) (joins : Joins mid new (key_after (get old) i chain.first) link.next) where
+  -- the key of the slot before
   abbrev before : ℕ
   before = key_after (get old) i chain.first
 
+  -- the keys before the place
   abbrev front : List ℕ
   front = keys_from (get old) (suc i) chain.first
 
+  -- the keys after it
   abbrev back : List ℕ
   back = keys_from (get old) m link.next
 
+  -- a slot leads to the same as before
   abbrev SameNext : ℕ → Type 0
   SameNext k = next_of (get new k) ≡ next_of (get old k)
 
+  -- a slot that is neither of the two stays
   untouched : (k : ℕ) → k ≢ key → k ≢ before → get new k ≡ get old k
   untouched k a b = joins.others k b ∙ updates.others k a
 
+  -- keys that are neither of the two lead to the same
   same_next : (ks : List ℕ) → AllByRecursion (λ k. k ≢ key) ks → AllByRecursion (λ k. k ≢ before) ks → AllByRecursion SameNext ks
   same_next ks a b =
       all_so (λ k. (k ≢ key) × (k ≢ before)) SameNext ks (λ k both. ap next_of (untouched k both.0 both.1)) (all_both (λ k. k ≢ key) (λ k. k ≢ before) ks a b)
 
+  -- no key comes twice
   are_apart : AreApart (front ++ key ∷ back)
   are_apart = subst AreApart (keys_are old chain i m key link parts) parts.whole.apart
 
+  -- the same, with the key before apart
   are_apart_around : AreApart (keys_from (get old) i chain.first ++ before ∷ key ∷ back)
   are_apart_around = subst AreApart (keys_are_around old chain i m key link parts) parts.whole.apart
 
+  -- the key before is the last of the first keys
   front_splits : front ≡ keys_from (get old) i chain.first ++ before ∷ []
   front_splits = keys_from-add (get old) i 1 (suc i) chain.first (omega arith)
 
+  -- the keys before it lead to the same
   front_same : AllByRecursion SameNext (keys_from (get old) i chain.first)
   front_same =
       same_next (keys_from (get old) i chain.first)
       (all_front (λ k. k ≢ key) (keys_from (get old) i chain.first) (before ∷ []) (subst (AllByRecursion (λ k. k ≢ key)) front_splits (apart_before front key back are_apart)))
       (apart_before (keys_from (get old) i chain.first) before (key ∷ back) are_apart_around)
 
+  -- and so do those after the place
   back_same : AllByRecursion SameNext back
   back_same = same_next back (apart_after front key back are_apart) ((apart_after (keys_from (get old) i chain.first) before (key ∷ back) are_apart_around).1)
 
+  -- so the walk to the place is the same
   front_walk : keys_from (get new) (suc i) chain.first ≡ front
   front_walk = (same_walk (get old) (get new) i chain.first front_same).0
 
+  -- it comes to the key before
   to_before : key_after (get new) i chain.first ≡ before
   to_before = (same_walk (get old) (get new) i chain.first front_same).2
 
+  -- which leads past the place
   past_it : key_after (get new) (suc i) chain.first ≡ link.next
   past_it = key_after-suc (get new) i chain.first ∙ ap (λ k. next_of (get new k)) to_before ∙ joins.joined
 
+  -- the keys that are left
   keys_left : (count : ℕ) → count ≡ suc i + m → keys_from (get new) count chain.first ≡ front ++ back
   keys_left count e =
       keys_from-add (get new) (suc i) m count chain.first e ∙ ap (λ ks. ks ++ keys_from (get new) m (key_after (get new) (suc i) chain.first)) front_walk
       ∙ ap (λ k. front ++ keys_from (get new) m k) past_it ∙ ap (λ ks. front ++ ks) ((same_walk (get old) (get new) m link.next back_same).1)
 
+  -- the last of them
   last_left : (last rest count : ℕ) → count ≡ suc i + rest → rest ≡ m → (rest ≡ 0 → last ≡ before) → (0 < rest → last ≡ chain.last) → key_after (get new) (count - 1) chain.first ≡ last
   last_left last zero count e same if_end if_more =
       let fewer : count - 1 ≡ i = omega arith in
@@ -150,6 +166,7 @@ module _ {V : Type 0} (old mid new : Slab (Link V)) (chain : Chain) (i m key : �
       ∙ sym (key_after-add (get old) (suc i) (suc rest) (suc i + suc rest) chain.first refl)
       ∙ sym (ap (λ k. key_after (get old) k chain.first) whole) ∙ parts.whole.last ∙ sym (if_more (omega arith))
 
+  -- a slot of no key of the chain stays
   outside : (k : ℕ) → AllByRecursion (λ other. other ≢ k) (chain_keys (get old) chain) → get new k ≡ get old k
   outside k differs =
       let each : AllByRecursion (λ other. other ≢ k) (keys_from (get old) i chain.first ++ before ∷ key ∷ back) = subst (AllByRecursion (λ other. other ≢ k)) (keys_are_around old chain i m key link parts) differs in
@@ -198,6 +215,7 @@ module _ {V : Type 0} where
   reached_is_held old chain place before to r =
       subst (λ k. IsSome (get old k)) (reached old chain place before to r) (on_the_way (get old) (λ k. IsSome (get old k)) chain.count place chain.first r.within r.whole.held)
 
+  -- what is known of the slots around the place
   pub parts_of : (old : Slab (Link V)) (chain : Chain) (place before i : ℕ) (to link : Link V) → Reaches old chain place before to → place ≡ suc i → get old to.next ≡ Some link → Parts old chain i (chain.count - suc (suc i)) to.next link
   parts_of old chain place before i to link r e found = record {
     whole = r.whole;

@@ -26,9 +26,11 @@ exact_cells a b h =
     ap (λ (p : List ℕ × List ℤ). record { texts = p.0; residues = p.1 })
     (exact_pairs (slice_cmp nat_cmp) (slice_cmp int_cmp) exact_bytes (slice_cmp-IsAntisymmetric int_cmp-IsAntisymmetric) (a.texts, a.residues) (b.texts, b.residues) h)
 
+-- the order of cells is total
 pub cells_total : IsTotalOrder cell_cmp
 cells_total = then_total (on_total (λ c. c.texts) nat_list_cmp_total) (on_total (λ c. c.residues) (lists_total int_cmp_total))
 
+-- a test for equal
 tied : (o : Ordering) → is_eq o ≡ true → o ≡ Equal
 tied Less h = cc
 tied Equal h = refl
@@ -38,6 +40,7 @@ tied Greater h = cc
 pub same_cell : (c q : Cell) → is_at (cell_cmp c) q ≡ true → c ≡ q
 same_cell c q h = exact_cells c q (tied (cell_cmp c q) h)
 
+-- a cell that it does not find is another
 pub other_cell : (c q : Cell) → is_at (cell_cmp c) q ≡ false → c ≢ q
 other_cell c q h e =
     let itself : is_eq (cell_cmp c c) ≡ true = ap is_eq (tied_itself cells_total c) in
@@ -49,6 +52,7 @@ abbrev pub some_list : {X : Type 0} → List X → Option (List X)
 some_list [] = None
 some_list (x ∷ xs) = Some (x ∷ xs)
 
+-- two tests that hold
 both : (a b : Bool) → T a → T b → T (a && b)
 both true b p q = q
 both false b p q = p
@@ -58,6 +62,7 @@ ascends_from : {X Y : Type 0} (f : X → Y) (c : Cell) (es : List (Cell × X)) �
 ascends_from f c [] all = tt
 ascends_from f c (e ∷ es) all = both _ _ (subst (λ o. T (is_lt o)) (sym all.0) tt) (ascends_from f c es all.1)
 
+-- the same of a whole list
 pub ascends : {X Y : Type 0} (f : X → Y) (es : List (Cell × X)) → IsStrictlySortedBy cell_cmp (keys_of es) → T (is_sorted cell_cmp (map (λ e. (e.0, f e.1)) es))
 unfolding IsStrictlySortedBy
 ascends f [] sorted = tt
@@ -74,16 +79,20 @@ module _ {V : Type 0} where
   pub entries-lists_of : (slots : ℕ → Option (Link V)) (es : List (Cell × Chain)) → IsStrictlySortedBy cell_cmp (keys_of es) → entries (lists_of slots es) ≡ map (λ e. (e.0, chain_values slots e.1)) es
   entries-lists_of slots es sorted = entries_of (map (λ e. (e.0, chain_values slots e.1)) es) (ascends (chain_values slots) es sorted)
 
+  -- there are as many cells as chains
   pub len-lists_of : (slots : ℕ → Option (Link V)) (es : List (Cell × Chain)) → IsStrictlySortedBy cell_cmp (keys_of es) → len (lists_of slots es) ≡ length es
   len-lists_of slots es sorted = len-entries (lists_of slots es) ∙ ap length (entries-lists_of slots es sorted) ∙ length-map es (λ e. (e.0, chain_values slots e.1))
 
+  -- the cells are those of the chains
   pub keys-lists_of : (slots : ℕ → Option (Link V)) (es : List (Cell × Chain)) → IsStrictlySortedBy cell_cmp (keys_of es) → keys (lists_of slots es) ≡ keys_of es
   keys-lists_of slots es sorted = ap (map (λ e. e.0)) (entries-lists_of slots es sorted) ∙ keys_of-map_values (chain_values slots) es
 
+  -- what is at a cell after a list was set
   pub get-set_list : (lists : FinMap cell_cmp (List V)) (c : Cell) (values : List V) (q : Cell) → get (set_list lists c values) q ≡ cond (eq_by_cmp cell_cmp q c) (some_list values) (get lists q)
   get-set_list lists c [] q = get-remove cells_total lists c q
   get-set_list lists c (value ∷ values) q = get-insert cells_total lists c (value ∷ values) q
 
+  -- two ways to look up
   find_lookup : (es : List (Cell × List V)) (q : Cell) → find cell_cmp q es ≡ lookup (is_at (cell_cmp q)) es
   find_lookup [] q = refl
   find_lookup (e ∷ es) q = ap (cond (is_at (cell_cmp q) e.0) (Some e.1)) (find_lookup es q)
@@ -94,12 +103,15 @@ module _ {V : Type 0} where
       get-from_entries cells_total (map (λ e. (e.0, chain_values slots e.1)) es) q ∙ find_lookup (map (λ e. (e.0, chain_values slots e.1)) es) q
       ∙ lookup-map_values (chain_values slots) (is_at (cell_cmp q)) es
 
+  -- the list of a cell that is held
   pub list_held : (slots : ℕ → Option (Link V)) (es : List (Cell × Chain)) (q : Cell) (chain : Chain) → chain_at es q ≡ Some chain → list_at (lists_of slots es) q ≡ chain_values slots chain
   list_held slots es q chain e = ap (λ o. unwrap_or o []) (get-lists_of slots es q ∙ ap (option_map (chain_values slots)) e)
 
+  -- the list of a cell that is not held
   pub list_absent : (slots : ℕ → Option (Link V)) (es : List (Cell × Chain)) (q : Cell) → chain_at es q ≡ None → list_at (lists_of slots es) q ≡ []
   list_absent slots es q e = ap (λ o. unwrap_or o []) (get-lists_of slots es q ∙ ap (option_map (chain_values slots)) e)
 
+  -- one of two chains, as a list
   chosen : (old new : ℕ → Option (Link V)) (b : Bool) (w o : Option Chain) (values : List V) → option_map (chain_values new) w ≡ some_list values
       → (b ≡ false → (chain : Chain) → o ≡ Some chain → chain_values new chain ≡ chain_values old chain)
       → option_map (chain_values new) (cond b w o) ≡ cond b (some_list values) (option_map (chain_values old) o)
@@ -118,12 +130,3 @@ module _ {V : Type 0} where
       ∙ ap (cond (is_at (cell_cmp c) q) (some_list values)) (sym (get-lists_of old es q))
       ∙ ap (λ b. cond b (some_list values) (get (lists_of old es) q)) ((eq_by_cmp_equiv cells_total).symm c q)
       ∙ sym (get-set_list (lists_of old es) c values q))
-
-  -- where every chain keeps its values, the lists stay
-  pub lists_kept : (old new : ℕ → Option (Link V)) (es : List (Cell × Chain)) → ((q : Cell) (chain : Chain) → chain_at es q ≡ Some chain → chain_values new chain ≡ chain_values old chain) → lists_of new es ≡ lists_of old es
-  lists_kept old new es same = same_map cells_total exact_cells _ _ (λ q.
-      get-lists_of new es q ∙ kept (chain_at es q) (same q) ∙ sym (get-lists_of old es q))
-    where
-      kept : (o : Option Chain) → ((chain : Chain) → o ≡ Some chain → chain_values new chain ≡ chain_values old chain) → option_map (chain_values new) o ≡ option_map (chain_values old) o
-      kept None same = refl
-      kept (Some chain) same = ap Some (same chain refl)

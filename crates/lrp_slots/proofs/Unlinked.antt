@@ -21,6 +21,7 @@ pub removed_middle : {X : Type 0} (xs : List X) (y : X) (ys : List X) → remove
 removed_middle [] y ys = refl
 removed_middle (x ∷ xs) y ys = ap (λ zs. x ∷ zs) (removed_middle xs y ys)
 
+-- and what stands there
 pub read_middle : {X : Type 0} (xs : List X) (y : X) (ys : List X) → slice_get (xs ++ y ∷ ys) (length xs) ≡ Some y
 read_middle [] y ys = refl
 read_middle (x ∷ xs) y ys = read_middle xs y ys
@@ -59,9 +60,11 @@ pub record Removal {V : Type 0} (old new : Slab (Link V)) (es fs : List (Cell ×
   pub ascending : IsStrictlySortedBy cell_cmp (keys_of fs)
 
 module _ {V : Type 0} (old new : Slab (Link V)) (es fs : List (Cell × Chain)) (c : Cell) (chain : Chain) (place : ℕ) (value : V) (rest : Chain) (removal : Removal old new es fs c chain place value rest) where
+  -- how the slots were linked
   abbrev linked : AreLinked old es
   linked = removal.linked
 
+  -- what was taken
   abbrev taken : TakesOut old new chain place value rest
   taken = removal.taken
 
@@ -73,29 +76,37 @@ module _ {V : Type 0} (old new : Slab (Link V)) (es fs : List (Cell × Chain)) (
       (λ k mine. taken.others k (all_so (λ j. linked.owner j ≡ c) (λ j. j ≢ k) (chain_keys (get old) chain) (λ j owned same. apart (sym owned ∙ ap linked.owner same ∙ mine)) (linked.owned c chain removal.held)))
       (linked.owned q other e))
 
+  -- the chain was whole
   whole : IsWhole (get old) chain
   whole = linked.whole c chain removal.held
 
+  -- no key came twice
   were_apart : AreApart (taken.front ++ taken.key ∷ taken.back)
   were_apart = subst AreApart taken.were whole.apart
 
+  -- each had a value
   were_held : AreHeld (get old) (taken.front ++ taken.key ∷ taken.back)
   were_held = subst (AreHeld (get old)) taken.were whole.held
 
+  -- the keys that are left are others
   unlike : AllByRecursion (λ k. k ≢ taken.key) (taken.front ++ taken.back)
   unlike = all_joined (λ k. k ≢ taken.key) taken.front taken.back (apart_before taken.front taken.key taken.back were_apart) (apart_after taken.front taken.key taken.back were_apart)
 
+  -- what held of all keys holds of those that are left
   left : (P : ℕ → Type 0) → AllByRecursion P (taken.front ++ taken.key ∷ taken.back) → AllByRecursion P (taken.front ++ taken.back)
   left P all = all_joined P taken.front taken.back (all_front P taken.front (taken.key ∷ taken.back) all) ((all_back P taken.front (taken.key ∷ taken.back) all).1)
 
+  -- they keep their values
   values_kept : AllByRecursion (λ k. value_at (get new k) ≡ value_at (get old k)) (taken.front ++ taken.back)
   values_kept = all_so (λ k. k ≢ taken.key) (λ k. value_at (get new k) ≡ value_at (get old k)) (taken.front ++ taken.back) (λ k differs. taken.values k differs) unlike
 
+  -- and each has a value
   still : AreHeld (get new) (taken.front ++ taken.back)
   still =
       all_so (λ k. IsSome (get old k) × (value_at (get new k) ≡ value_at (get old k))) (λ k. IsSome (get new k)) (taken.front ++ taken.back) (λ k both. still_held (get old k) (get new k) both.1 both.0)
       (all_both (λ k. IsSome (get old k)) (λ k. value_at (get new k) ≡ value_at (get old k)) (taken.front ++ taken.back) (left (λ k. IsSome (get old k)) were_held) values_kept)
 
+  -- what is left is whole
   rest_is_whole : 0 < rest.count → IsWhole (get new) rest
   rest_is_whole some = record {
     some = some;
@@ -104,11 +115,13 @@ module _ {V : Type 0} (old new : Slab (Link V)) (es fs : List (Cell × Chain)) (
     last = taken.last some;
   }
 
+  -- and is the cell's
   rest_is_owned : AllByRecursion (λ k. linked.owner k ≡ c) (chain_keys (get new) rest)
   rest_is_owned =
       subst (AllByRecursion (λ k. linked.owner k ≡ c)) (sym taken.are)
       (left (λ k. linked.owner k ≡ c) (subst (AllByRecursion (λ k. linked.owner k ≡ c)) taken.were (linked.owned c chain removal.held)))
 
+  -- a chain of the new map is what is left or was there before
   same_chain : (q : Cell) (other : Chain) → chain_at fs q ≡ Some other → ((c ≡ q) × (if_some rest ≡ Some other)) ⊎ ((c ≢ q) × (chain_at es q ≡ Some other))
   same_chain q other e =
       elim (changed_or_kept (is_at (cell_cmp c) q) (if_some rest) (chain_at es q) other (sym (removal.updates q) ∙ e)) [
@@ -135,21 +148,22 @@ module _ {V : Type 0} (old new : Slab (Link V)) (es fs : List (Cell × Chain)) (
     ascending = removal.ascending;
   }
 
-  front_values : List V
-  front_values = values_at (get old) taken.front
-
+  -- the values that the list had
   values_were : chain_values (get old) chain ≡ values_at (get old) taken.front ++ value ∷ values_at (get old) taken.back
   values_were =
       ap (values_at (get old)) taken.were ∙ values_at-append (get old) taken.front (taken.key ∷ taken.back)
       ∙ ap (λ vs. values_at (get old) taken.front ++ (vs ++ values_at (get old) taken.back)) taken.was
 
+  -- the values that it has
   values_are : chain_values (get new) rest ≡ values_at (get old) taken.front ++ values_at (get old) taken.back
   values_are =
       ap (values_at (get new)) taken.are ∙ same_values (get old) (get new) (taken.front ++ taken.back) values_kept ∙ values_at-append (get old) taken.front taken.back
 
+  -- how many came before
   place_is : length (values_at (get old) taken.front) ≡ place
   place_is = length-values_at (get old) taken.front (all_front (λ k. IsSome (get old k)) taken.front (taken.key ∷ taken.back) were_held) ∙ taken.place_of
 
+  -- the list as it was
   pub list_was : list_at (lists_of (get old) es) c ≡ values_at (get old) taken.front ++ value ∷ values_at (get old) taken.back
   list_was = list_held (get old) es c chain removal.held ∙ values_were
 
@@ -157,11 +171,13 @@ module _ {V : Type 0} (old new : Slab (Link V)) (es fs : List (Cell × Chain)) (
   pub value_removed : slice_get (list_at (lists_of (get old) es) c) place ≡ Some value
   value_removed = ap (λ xs. slice_get xs place) list_was ∙ ap (slice_get (values_at (get old) taken.front ++ value ∷ values_at (get old) taken.back)) (sym place_is) ∙ read_middle (values_at (get old) taken.front) value (values_at (get old) taken.back)
 
+  -- the list as it is
   list_is : chain_values (get new) rest ≡ remove (list_at (lists_of (get old) es) c) place
   list_is =
       values_are ∙ sym (removed_middle (values_at (get old) taken.front) value (values_at (get old) taken.back))
       ∙ ap (remove (values_at (get old) taken.front ++ value ∷ values_at (get old) taken.back)) place_is ∙ ap (λ xs. remove xs place) (sym list_was)
 
+  -- how many values it has
   count_is : length (chain_values (get new) rest) ≡ rest.count
   count_is =
       length-values_at (get new) (chain_keys (get new) rest) (subst (AreHeld (get new)) (sym taken.are) still) ∙ length-keys_from (get new) rest.count rest.first

@@ -64,10 +64,11 @@ module _ {V : Type 0} where
   values_at slots [] = []
   values_at slots (key ∷ keys) = value_at (slots key) ++ values_at slots keys
 
-  -- the keys of a chain, and its values
+  -- the keys of a chain
   abbrev pub chain_keys : (ℕ → Option (Link V)) → Chain → List ℕ
   chain_keys slots chain = keys_from slots chain.count chain.first
 
+  -- the values of a chain
   abbrev pub chain_values : (ℕ → Option (Link V)) → Chain → List V
   chain_values slots chain = values_at slots (chain_keys slots chain)
 

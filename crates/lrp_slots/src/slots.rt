@@ -15,7 +15,9 @@ use std::marker::Model;
 
 /// Lists of values by cell, each value in a slot of one vector.
 ///
-/// A slot that is given up in one cell serves every other.
+/// A slot has the key of the slot that follows in its list, or of the next slot that is free, so one
+/// that a cell gives up serves every other (Donald Knuth, "The Art of Computer Programming", volume 1,
+/// section 2.2.3, "Linked Allocation", 1968). Reaching the value at place i costs i steps.
 #[derive(Drop)]
 pub struct Slots<V> {
     alloc: Global,
