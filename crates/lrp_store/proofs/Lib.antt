@@ -1,0 +1,4 @@
+pub mod Counted
+pub mod Grown
+pub mod Held
+pub mod Listed

@@ -1,0 +1,32 @@
+-- What calls that add to a store do: they add a part of a set, or refuse because of a cell that is one too many.
+use Rattle.std.specs.Prelude.{◌≡◌, ◌≢◌, ℕ, ℤ, ◌≤◌, ◌⊎◌, List, Option, None, Contains}
+use Rattle.std.specs.FinMap as finite
+use Rattle.lrp_model.specs.Cells.{Many}
+use Rattle.lrp_model.specs.declared.tuples.Cell.{Cell}
+use Rattle.lrp_model.specs.declared.tuples.Shape.{Shape}
+use Rattle.lrp_zone.specs.Zones.{greatest_of}
+use Rattle.lrp_store.specs.Stores.{StoreView, InStore, IsInhabited, tables_at}
+
+-- new has what old has, and besides only tuples of the set, in zones of at most this reach; it has not more than cap cells where old had not
+pub record IsGrown (set : List ℤ → List ℕ → Type 0) (cap high : ℕ) (old new : StoreView) : Type 0 where
+  pub shape : new.shape ≡ old.shape
+  pub period : new.period ≡ old.period
+  pub kept : (times : List ℤ) (texts : List ℕ) → InStore old times texts → InStore new times texts
+  pub sound : (times : List ℤ) (texts : List ℕ) → InStore new times texts → InStore old times texts ⊎ set times texts
+  pub few : finite.len old.tables ≤ cap → finite.len new.tables ≤ cap
+  pub reach : (cell : Cell) (table : List (Option ℤ)) → Contains (tables_at new cell) table → Contains (tables_at old cell) table ⊎ (greatest_of table ≤ high)
+
+-- all of the set is held
+pub record IsWhole (set : List ℤ → List ℕ → Type 0) (s : StoreView) : Type 0 where
+  pub each : (times : List ℤ) (texts : List ℕ) → set times texts → InStore s times texts
+
+-- the store has cap cells or more, and the set inhabits one that it has not
+pub record HasOneMore (set : List ℤ → List ℕ → Type 0) (cap : ℕ) (s : StoreView) : Type 0 where
+  pub cell : Cell
+  pub inhabited : IsInhabited s.shape s.period set cell
+  pub apart : finite.get s.tables cell ≡ None
+  pub full : cap ≤ finite.len s.tables
+
+-- the set inhabits more than cap cells of this shape and period
+abbrev pub InhabitsMany : Shape → ℕ → (List ℤ → List ℕ → Type 0) → ℕ → Type 0
+InhabitsMany shape period set cap = Many ◌≢◌ (IsInhabited shape period set) cap

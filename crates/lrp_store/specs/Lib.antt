@@ -1,0 +1,4 @@
+pub mod Codes
+pub mod Stored
+pub mod Stores
+pub mod Growing

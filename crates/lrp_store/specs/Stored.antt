@@ -1,0 +1,34 @@
+-- The stored bounds of a zone as a list, and the table that they stand for.
+use Rattle.std.specs.Prelude.{◌≡◌, ℕ, ℤ, ◌+◌, ◌*◌, ◌<◌, ◌≤◌, ◌==◌, List, [], ◌∷◌, length, map, Option, Some, None, is_some, count_by, if◌then◌else◌}
+use Rattle.std.specs.List.{range_with_len}
+use Rattle.lrp_model.specs.declared.relations.Bound.{Bound}
+use Rattle.lrp_zone.specs.Given.{bound_at}
+use Rattle.lrp_store.specs.declared.stored.Entry.{Entry}
+
+-- the bounds of the entries, in order
+abbrev pub bounds_of : List Entry → List Bound
+bounds_of entries = map (λ e. record { left = e.left; right = e.right; most = e.most }) entries
+
+-- the place of a bound in the table, which has nine rows of nine
+abbrev pub place_of : Bound → ℕ
+place_of b = 9 * b.left + b.right
+
+-- the bound that is listed for a place
+abbrev pub listed_at : List Bound → ℕ → Option ℤ
+listed_at [] place = None
+listed_at (b ∷ bs) place = if place_of b == place then Some b.most else listed_at bs place
+
+-- the table of the listed bounds
+unfoldable pub table_of : List Bound → List (Option ℤ)
+table_of bs = map (listed_at bs) (range_with_len 0 81)
+
+-- each listed bound is on the nine nodes, and no other is listed for its place
+pub record AreListed (bs : List Bound) : Type 0 where
+  pub left : (i : ℕ) → i < length bs → (bound_at bs i).left < 9
+  pub right : (i : ℕ) → i < length bs → (bound_at bs i).right < 9
+  pub few : length bs ≤ 81
+  pub one : (i : ℕ) → i < length bs → listed_at bs (place_of (bound_at bs i)) ≡ Some (bound_at bs i).most
+
+-- how many bounds a table has
+abbrev pub count_of : List (Option ℤ) → ℕ
+count_of table = count_by is_some table

@@ -1,0 +1,197 @@
+// Zones by cell, each zone in a slot of one vector.
+ghost use Rattle.std.specs.Prelude.{◌≡◌, ◌≢◌, ◌+◌, ◌<◌, ◌≤◌, ◌^◌, ◌≤ℤ◌, ◌↔◌, ℕ, pos, take, nat_abs, Some, None, [], ◌∷◌, ◌++◌, length, map, sum_by, slice_get, IsSome, IsOk, IfOk, IfErr, OnOk, OnErr, OnSome, IfNone};
+ghost use Rattle.std.specs.List.{remove};
+ghost use Rattle.std.specs.FinMap as finite;
+ghost use Rattle.lrp_slots.specs.Lists.{list_at, set_list};
+ghost use Rattle.lrp_store.specs.Stored.{count_of};
+ghost use Rattle.lrp_store.specs.Stores.{IsStore, IsPadded, tables_at, zones_at};
+
+use crate::stored::StoredBounds;
+use lrp_model::{Cell, Copies, Memory, Shape};
+use lrp_slots::{Cells, Slots};
+use lrp_zone::Zone;
+use std::alloc::Global;
+use std::marker::Model;
+
+/// Why nothing was added: the cell would be one too many, or memory was refused.
+#[derive(Clone, Copy, Debug, PartialEq, Eq)]
+pub enum StoreFault {
+    TooManyCells,
+    Memory,
+}
+
+/// A set of tuples of times and texts: for each cell that is held the zones of its times.
+///
+/// Texts stand as numbers. A zone of at most eight stored bounds takes one slot and no further memory.
+#[derive(Drop)]
+pub struct Store {
+    alloc: Global,
+    shape: Shape,
+    period: u64,
+    slots: Slots<StoredBounds>,
+}
+
+impl Model for Store {
+    ghost use Rattle.lrp_store.specs.Stores.{StoreView, IsStore};
+    ghost use Rattle.lrp_store.specs.Codes.{store_code};
+
+    ghost Value = { StoreView };
+
+    ghost coded = { store_code };
+
+    ghost view = { λ s. record { shape = s.shape; period = s.period; tables = s.slots.lists; spare = s.slots.spare } };
+
+    ghost invariant = { λ s. IsStore (record { shape = s.shape; period = s.period; tables = s.slots.lists; spare = s.slots.spare }) };
+}
+
+impl Store {
+    /// No cell is held, and no slot is spare.
+    pub fn new(alloc: Global, shape: Shape, period: i64) -> Store
+        requires times { shape.times ≤ 8 }
+        requires texts { shape.texts ≤ 8 }
+        requires period_low { pos 1 ≤ℤ period }
+        requires period_high { period ≤ℤ pos (2 ^ 62) }
+        ensures { result ≡ record { shape = shape; period = nat_abs period; tables = finite.empty; spare = 0 } }
+    {
+        Store {
+            alloc,
+            shape,
+            period: period as u64,
+            slots: Slots::new(alloc),
+        }
+    }
+
+    /// How many times and texts a tuple has. A caller learns here what each store keeps.
+    pub fn shape(&self) -> Shape
+        ensures value { result ≡ self.now.shape }
+        ensures valid { IsStore self.now }
+    {
+        self.shape
+    }
+
+    /// The period that all zones have.
+    pub fn period(&self) -> i64
+        ensures { result ≡ pos self.now.period }
+    {
+        self.period as i64
+    }
+
+    /// The number of cells that are held.
+    pub fn len(&self) -> u32
+        ensures { result ≡ finite.len self.now.tables }
+    {
+        self.slots.len() as u32
+    }
+
+    /// The number of all zones.
+    pub fn zones(&self) -> usize
+        ensures { result ≡ sum_by (λ tables. length tables) (finite.values self.now.tables) }
+    {
+        self.slots.values()
+    }
+
+    /// How many more zones of at most eight stored bounds the held cells can take in without memory.
+    pub fn spare(&self) -> usize
+        ensures { result ≡ self.now.spare }
+    {
+        self.slots.spare()
+    }
+
+    /// Makes at least so many slots spare.
+    pub fn reserve(&mut self, slots: usize) -> Result<(), Memory>
+        ensures room { OnOk result (slots ≤ self.new.spare) }
+        ensures same { self.new ≡ record self.old { spare = self.new.spare } }
+        ensures kept { self.old.spare ≤ self.new.spare }
+        ensures succeeds { slots ≤ self.old.spare → IsOk result }
+    {
+        self.slots.reserve(slots)
+    }
+
+    /// Appends a zone to a cell's list.
+    ///
+    /// The zone has the store's period, the cell's residues and one column for each time.
+    pub fn add(&mut self, cell: &Cell, zone: &Zone, cap: u32) -> Result<(), StoreFault>
+        requires period { zone.now.period ≡ self.old.period }
+        requires residues { zone.now.residues ≡ take self.old.shape.times cell.now.residues }
+        requires texts { IsPadded 0 self.old.shape.texts cell.now.texts }
+        requires times { IsPadded (pos 0) self.old.shape.times cell.now.residues }
+        ensures ok { OnOk result (self.new.tables ≡ finite.insert self.old.tables cell.now (tables_at self.old cell.now ++ zone.now.bounds ∷ [])) }
+        ensures err { OnErr result (self.new.tables ≡ self.old.tables) }
+        ensures rest { self.new ≡ record self.old { tables = self.new.tables; spare = self.new.spare } }
+        ensures too_many { (result ≡ Err StoreFault.TooManyCells) ↔ ((finite.get self.old.tables cell.now ≡ None) × (cap ≤ finite.len self.old.tables)) }
+
+        // A spare slot serves each held cell.
+        ensures succeeds { 0 < self.old.spare → IsSome (finite.get self.old.tables cell.now) → count_of zone.now.bounds ≤ 8 → IsOk result }
+        ensures taken { 0 < self.old.spare → IsSome (finite.get self.old.tables cell.now) → count_of zone.now.bounds ≤ 8 → self.new.spare + 1 ≡ self.old.spare }
+        ensures lowered { self.old.spare ≤ self.new.spare + 1 }
+        ensures kept { OnErr result (self.old.spare ≤ self.new.spare) }
+    {
+        zone.columns();
+        if self.slots.count(cell) == 0 && self.slots.len() >= cap as usize {
+            return Err(StoreFault::TooManyCells);
+        }
+        let bounds = StoredBounds::of(self.alloc, zone)?;
+        self.slots.append(cell, bounds)?;
+        Ok(())
+    }
+
+    /// How many zones a cell has, 0 where it is not held.
+    pub fn count(&self, cell: &Cell) -> usize
+        ensures count { result ≡ length (tables_at self.now cell.now) }
+        ensures held { (0 < result) ↔ IsSome (finite.get self.now.tables cell.now) }
+    {
+        self.slots.count(cell)
+    }
+
+    /// The zone with the number i of a cell, counted from 0.
+    pub fn zone(&self, cell: &Cell, i: usize) -> Option<Zone>
+        ensures { result ≡ slice_get (zones_at self.now cell.now) i }
+    {
+        let bounds = self.slots.get(cell, i)?;
+        let times = usize::from(self.shape.times);
+        Some(bounds.zone(self.period, &cell.residues[..times]))
+    }
+
+    /// Takes the zone with the number i out of a cell's list. The cell goes with its last zone.
+    pub fn remove(&mut self, cell: &Cell, i: usize) -> Option<Zone>
+        ensures value { result ≡ slice_get (zones_at self.old cell.now) i }
+        ensures tables { OnSome result (self.new.tables ≡ set_list self.old.tables cell.now (remove (tables_at self.old cell.now) i)) }
+        ensures rest { self.new ≡ record self.old { tables = self.new.tables; spare = self.new.spare } }
+        ensures spare { OnSome result (self.new.spare ≡ self.old.spare + 1) }
+        ensures none { IfNone result (self.new ≡ self.old) }
+    {
+        let bounds = self.slots.remove(cell, i)?;
+        let times = usize::from(self.shape.times);
+        Some(bounds.zone(self.period, &cell.residues[..times]))
+    }
+
+    /// The cells that are held, ascending by texts and then by residues.
+    pub fn cells(&self) -> Cells<'_>
+        ensures { result ≡ finite.keys self.now.tables }
+    {
+        self.slots.cells()
+    }
+
+    /// The same zones, in as many slots as there are zones.
+    pub fn copy(&self) -> Result<Store, Memory>
+        ensures { IfOk result (λ made. made ≡ record self.now { spare = made.spare }) }
+    {
+        Ok(Store {
+            alloc: self.alloc,
+            shape: self.shape,
+            period: self.period,
+            slots: self.slots.copy()?,
+        })
+    }
+}
+
+impl From<Memory> for StoreFault {
+    ghost use Rattle.std.specs.Prelude.{◌≡◌};
+    ghost use Rattle.lrp_store.specs.declared.store.StoreFault.TheVariants.{Memory as MemoryFault};
+
+    ghost from_gives = { λ _ fault. fault ≡ MemoryFault };
+
+    fn from(_: Memory) -> StoreFault {
+        StoreFault::Memory
+    }
+}
