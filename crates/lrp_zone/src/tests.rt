@@ -70,9 +70,32 @@ fn next(rt: &impl Abort, zone: &Zone, from: i64, to: i64, after: &[i64; 8]) -> O
 }
 
 #[test]
+fn closes_given_bounds(rt: HostRuntime) {
+    let pair = [bound(1, 2, -1), bound(2, 1, 2)];
+    let late = [bound(0, 1, -360)];
+    let table = [
+        (4, &[0, 1][..], &pair[..], 2, 1, Some(Some(1))),
+        (4, &[0, 3][..], &pair[..], 2, 1, None),
+        (60, &[5][..], &late[..], 0, 1, Some(Some(-365))),
+        (60, &[5][..], &late[..], 1, 0, Some(None)),
+    ];
+    for (period, residues, bounds, left, right, wanted) in table {
+        let found = made(&rt, period, residues, bounds).map(|zone| zone.closed());
+        match found {
+            Some(closed) => {
+                assert!(rt; left <= closed.columns() && right <= closed.columns());
+                assert_eq!(rt; Some(closed.get(left, right)), wanted);
+            }
+            None => assert_eq!(rt; None, wanted),
+        }
+    }
+    assert!(rt; made(&rt, 1, &[], &[bound(0, 0, -1)]).is_none());
+}
+
+#[test]
 fn drops_a_column(rt: HostRuntime) {
     let bounds = [bound(1, 2, -1), bound(2, 1, 2)];
-    let pairs = made(&rt, 4, &[0, 1], &bounds).expect(&rt, "1 to 2 apart");
+    let pairs = made(&rt, 4, &[0, 1], &bounds).expect(&rt, "1 apart");
     assert_eq!(rt; pairs.columns(), 2);
     let rest = pairs.drop_column(1);
     assert_eq!(rt; rest.columns(), 1);
@@ -80,23 +103,15 @@ fn drops_a_column(rt: HostRuntime) {
     assert_eq!(rt; rest.residue(1), 1);
     assert_eq!(rt; rest.bound(0, 1), None);
     assert_eq!(rt; rest.bound(1, 0), None);
-
-    assert!(rt; made(&rt, 4, &[0, 3], &bounds).is_none());
-    assert!(rt; made(&rt, 1, &[], &[bound(0, 0, -1)]).is_none());
 }
 
 #[test]
-fn closes_and_negates(rt: HostRuntime) {
+fn negates_a_bound(rt: HostRuntime) {
     let late = made(&rt, 60, &[5], &[bound(0, 1, -360)]).expect(&rt, "from 365 on");
     assert_eq!(rt; late.columns(), 1);
-    let closed = late.closed();
-    assert_eq!(rt; closed.columns(), 1);
-    assert_eq!(rt; closed.get(0, 1), Some(-365));
-    assert_eq!(rt; closed.get(1, 0), None);
     assert!(rt; late.contains(&[365]) && !late.contains(&[305]) && !late.contains(&[366]));
 
     let early = late.negated_piece(0, 1).expect(&rt, "up to 305");
-    assert_eq!(rt; early.columns(), 1);
     let closed = early.closed();
     assert_eq!(rt; closed.columns(), 1);
     assert_eq!(rt; closed.get(1, 0), Some(305));
