@@ -21,7 +21,7 @@ use Rattle.lrp_text.proofs.Local.{Local, bind_local, accept_local, pure_local}
 use Rattle.lrp_text.proofs.Complete.{ReadsBack, Anything, then_back, pure_back, accepts_back}
 use Rattle.lrp_text.proofs.Sound.{Sound, bind_ok, accept_sound, takes_join}
 use Rattle.lrp_text.proofs.Viable.{Viable, TestStops, One, accept_viable, sub_step, spells_join}
-use Rattle.lrp_text.proofs.Tests.{placed_is, placed_err, name_part, name_told, name_seen, name_stops, expect_told, expect_seen, expect_stops}
+use Rattle.lrp_text.proofs.TokenTests.{placed_is, placed_err, name_part, name_told, name_seen, name_stops, expect_told, expect_seen, expect_stops}
 
 -- the part that a sort with its place is
 abbrev pub sort_part : Sort × Place → Part

@@ -1,5 +1,5 @@
 -- Where a source is cut, behind blanks and comments and behind a token.
-use Rattle.std.proofs.Common.{◌≡◌, ◌≢◌, ◌<◌, ◌≤◌, ◌+◌, ◌-◌, ◌⊎◌, inl, inr, ℕ, zero, suc, Bool, true, false, ◌==◌, List, [], ◌∷◌, ◌++◌, refl, ap, ◌∙◌, sym, subst, if◌then◌else◌, length, take, drop, arith, append-nil}
+use Rattle.std.proofs.Common.{◌≡◌, ◌<◌, ◌≤◌, ◌+◌, ◌-◌, ◌⊎◌, inl, inr, ℕ, Bool, true, false, ◌==◌, List, [], ◌∷◌, ◌++◌, refl, ap, ◌∙◌, sym, subst, length, take, drop, arith, append-nil}
 use Rattle.std.proofs.lemmas.Bool.{eqb-true}
 use Rattle.std.proofs.lemmas.Bool.Decides.{nat_tests}
 use Rattle.std.proofs.lemmas.List.{length-append}
@@ -7,10 +7,9 @@ use Rattle.std.proofs.Math.Seq.{drop-append_seam}
 use Rattle.std.specs.Str.{IsUtf8, IsCharBoundary}
 use Rattle.std.proofs.lemmas.Str.{IsCharBoundary-start, IsCharBoundary-end}
 use Rattle.lrp_model.specs.declared.tokens.Place.{Place}
-use Rattle.lrp_model.specs.Tokens.{Token, Tokens}
+use Rattle.lrp_model.specs.Tokens.{Token}
 use Rattle.lrp_model.specs.Tokens.Token.{end_token, bad_token}
-use Rattle.lrp_model.specs.Lexing.{At, Scanned, moved, after, is_blank, skip, scan, headed, tokens_from}
-use Rattle.lrp_text.specs.Sources.{next_at, next_of, behind_next, tokens_left}
+use Rattle.lrp_model.specs.Lexing.{At, moved, after, is_blank, skip, scan}
 use Rattle.lrp_text.proofs.Runs.{front_of}
 use Rattle.lrp_text.proofs.Scans.{chosen, EndsPlain, ends_more, ends_boundary, StopsPlain, goes_boundary, scan_taken, after_line}
 

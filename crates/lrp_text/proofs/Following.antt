@@ -1,9 +1,9 @@
 -- The tokens of a source are the one that stands next and those of what is left behind it.
-use Rattle.std.proofs.Common.{◌≡◌, ◌<◌, ◌≤◌, ◌+◌, ◌⊎◌, inl, inr, ℕ, zero, suc, false, List, [], ◌∷◌, ◌++◌, refl, ap, ◌∙◌, sym, subst, length, arith}
+use Rattle.std.proofs.Common.{◌≡◌, ◌<◌, ◌+◌, ◌⊎◌, inl, inr, ℕ, zero, suc, false, List, [], refl, ap, ◌∙◌, sym, subst, length, arith}
 use Rattle.std.proofs.lemmas.List.{length-append}
 use Rattle.lrp_model.specs.declared.tokens.Place.{Place}
-use Rattle.lrp_model.specs.Tokens.{Token, Placed, Tokens}
-use Rattle.lrp_model.specs.Tokens.Token.{name_token, word_token, number_token, text_token, symbol_token, end_token, bad_token, hole_token}
+use Rattle.lrp_model.specs.Tokens.{Token, Tokens}
+use Rattle.lrp_model.specs.Tokens.Token.{end_token, bad_token}
 use Rattle.lrp_model.specs.Lexing.{At, Scanned, after, skip, scan, headed, tokens_from}
 use Rattle.lrp_text.specs.Sources.{next_at, next_of, behind_next, tokens_left}
 use Rattle.lrp_text.proofs.Scans.{StopsPlain, EndsPlain, ends_some, scan_taken}

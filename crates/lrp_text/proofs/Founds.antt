@@ -1,9 +1,9 @@
 -- What stands next, for the step of a lexer.
-use Rattle.std.proofs.Common.{◌≡◌, ◌+◌, ℕ, false, List, ◌∙◌, sym, ap, subst, refl, length}
+use Rattle.std.proofs.Common.{◌≡◌, ◌+◌, ℕ, List, ◌∙◌, sym, ap, subst, refl, length}
 use Rattle.lrp_model.specs.declared.tokens.Place.{Place}
-use Rattle.lrp_model.specs.Lexing.{At, after, skip, scan}
+use Rattle.lrp_model.specs.Lexing.{At, after, scan}
 use Rattle.lrp_text.specs.declared.lexemes.Lexeme.{Lexeme}
-use Rattle.lrp_text.specs.declared.lexemes.Lexeme.TheVariants.{Name, Word, Number, LargeNumber, Text, LongText, Symbol, End, Bad}
+use Rattle.lrp_text.specs.declared.lexemes.Lexeme.TheVariants.{Bad}
 use Rattle.lrp_text.specs.Lexemes.{IsSaid, IsLexeme}
 use Rattle.lrp_text.specs.Sources.{next_at, next_of, behind_next, IsFound}
 use Rattle.lrp_text.proofs.Cuts.{scan_place}

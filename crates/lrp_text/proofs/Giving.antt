@@ -1,17 +1,16 @@
 -- What a lexer gives of what it has found.
-use Rattle.std.proofs.Common.{◌≡◌, ◌≤◌, ◌<◌, ℕ, false, List, [], ◌∷◌, ◌++◌, refl, ap, ◌∙◌, sym, subst, length, Result, Ok, Err}
+use Rattle.std.proofs.Common.{◌≡◌, ℕ, false, List, [], ◌∷◌, ◌++◌, refl, ap, ◌∙◌, sym, Result, Ok, Err}
 use Rattle.lrp_model.specs.declared.tokens.Place.{Place}
 use Rattle.lrp_model.specs.declared.tokens.TokenKind.{TokenKind}
-use Rattle.lrp_model.specs.declared.tokens.TokenKind.TheVariants.{Name as NameKind, Word as WordKind, Number as NumberKind, Text as TextKind, Symbol as SymbolKind, End as EndKind}
+use Rattle.lrp_model.specs.declared.tokens.TokenKind.TheVariants.{Text as TextKind}
 use Rattle.lrp_model.specs.declared.tokens.LexKind.{LexKind}
-use Rattle.lrp_model.specs.declared.tokens.LexKind.TheVariants.{Number as TooLarge, TextTooLong, BadByte}
-use Rattle.lrp_model.specs.Tokens.{Token, Placed, Tokens}
+use Rattle.lrp_model.specs.Tokens.{Token, Tokens}
 use Rattle.lrp_model.specs.Tokens.Token.{name_token, word_token, number_token, text_token, symbol_token, end_token, bad_token}
-use Rattle.lrp_model.specs.Lexing.{At, after, skip, scan, headed, tokens_from, limit}
+use Rattle.lrp_model.specs.Lexing.{At, after, skip, scan, headed, tokens_from}
 use Rattle.lrp_text.specs.declared.lexemes.Lexeme.{Lexeme}
 use Rattle.lrp_text.specs.declared.lexemes.Lexeme.TheVariants.{Name, Word, Number, LargeNumber, Text, LongText, Symbol, End, Bad}
 use Rattle.lrp_text.specs.Sources.{next_at, next_of, behind_next, tokens_left, IsFound, GoesOn}
-use Rattle.lrp_text.specs.Stream.{IsOfKind, IsFaulty, GivesToken, GivesFault, FaultAt, TokenFirst, FaultFirst, IsSliceOf, IsTextSlice, IsNextText, kind_of}
+use Rattle.lrp_text.specs.Stream.{TokenFirst, FaultFirst, IsSliceOf, IsNextText, kind_of}
 use Rattle.lrp_text.proofs.Scans.{scan_taken}
 use Rattle.lrp_text.proofs.Alone.{scan_end}
 use Rattle.lrp_text.proofs.Cuts.{skipped}

@@ -6,7 +6,7 @@ pub mod LocatedRule
 pub mod Refusal
 pub mod Unique
 pub mod Turns
-pub mod Tests
+pub mod TokenTests
 pub mod ColumnRule
 pub mod Runs
 pub mod Scans

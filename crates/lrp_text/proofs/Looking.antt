@@ -1,5 +1,5 @@
 -- What the next token is told by its lexeme, and what is read where it is taken.
-use Rattle.std.proofs.Common.{◌≡◌, ◌≢◌, ◌<◌, ◌≤◌, ℕ, Bool, true, false, List, [], ◌∷◌, refl, ap, ◌∙◌, sym, subst, Ok, Err, Result, nat_le, ◌==◌, if◌then◌else◌, length, arith}
+use Rattle.std.proofs.Common.{◌≡◌, ◌<◌, ◌≤◌, ℕ, Bool, true, false, List, [], ◌∷◌, refl, ap, ◌∙◌, sym, subst, Ok, Err, Result, nat_le, ◌==◌, if◌then◌else◌, length, arith}
 use Rattle.std.proofs.lemmas.Bool.{le-leb, leb-true, eqb-true}
 use Rattle.lrp_model.specs.declared.tokens.Symbol.{Symbol as SymbolOf}
 use Rattle.lrp_model.specs.declared.tokens.Word.{Word as WordOf}
@@ -192,7 +192,7 @@ goes_seen test [] us r e b h is =
     let p : ◌≡◌ {A = Bool × Tokens} (false, []) (r, us) = cc in
     let q : false ≡ true = ap (λ x. x.0) p ∙ is in
     absurd cc
-goes_seen test (t ∷ ts) us r e b h is = 
+goes_seen test (t ∷ ts) us r e b h is =
     let p : ◌≡◌ {A = Bool × Tokens} (test t.token, t ∷ ts) (r, us) = cc in
     let k : test t.token ≡ r = ap (λ x. x.0) p in
     goes_on test t.token e b (k ∙ is)

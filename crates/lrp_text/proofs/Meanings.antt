@@ -1,5 +1,5 @@
 -- What a text means: bytes that a data text may have, and UTF-8 where its slice is.
-use Rattle.std.proofs.Common.{◌≡◌, ◌≢◌, ◌<◌, ◌≤◌, ◌+◌, ◌-◌, ℕ, zero, suc, Bool, true, false, ◌||◌, ◌==◌, Option, Some, None, List, [], ◌∷◌, ◌++◌, refl, ap, ◌∙◌, sym, subst, if◌then◌else◌, Result, Ok, Err, length, get_or, take, drop, arith, append_assoc, append-nil}
+use Rattle.std.proofs.Common.{◌≡◌, ◌≢◌, ◌<◌, ◌≤◌, ◌+◌, ℕ, zero, suc, Bool, true, false, ◌||◌, ◌==◌, Option, Some, None, List, [], ◌∷◌, ◌++◌, refl, ap, ◌∙◌, sym, subst, if◌then◌else◌, Result, Ok, Err, length, get_or, drop, arith, append_assoc, append-nil}
 use Rattle.std.specs.Prelude.{EachIndex, slice_index}
 use Rattle.std.specs.List.{AllByRecursion}
 use Rattle.std.specs.Option.{option_map}
@@ -10,7 +10,6 @@ use Rattle.std.proofs.Math.Seq.{get_or-append_seam, take-append_seam, drop-appen
 use Rattle.std.specs.Str.{IsUtf8, IsCharBoundary}
 use Rattle.std.proofs.lemmas.Str.{IsUtf8-append, IsUtf8-take, IsUtf8-drop, IsCharBoundary-before_ascii, IsCharBoundary-after_ascii}
 use Rattle.lrp_model.specs.Texts.{FitsText}
-use Rattle.lrp_model.specs.Tokens.{Token}
 use Rattle.lrp_model.specs.Tokens.Token.{text_token, number_token}
 use Rattle.lrp_model.specs.Lexing.{is_letter, is_digit, is_name_byte, is_forbidden, run, behind_run, value_from, word_or_name, Scanned, Text as TextRead, longer, more_taken, bad_at, text_from, text_scanned, symbol_from, scan}
 use Rattle.lrp_text.specs.Lexemes.{read_of, text_read, ended}
@@ -164,6 +163,7 @@ ended_at : (made : List ℕ) (b : ℕ) (bs t : List ℕ) (c : Bool) → option_m
 ended_at made b bs t true e = let k : made ++ [] ≡ t = cc in sym (append-nil made) ∙ k
 ended_at made b bs t false e = absurd cc
 
+-- the same of all that is left
 pub ended_means : (made rest t : List ℕ) → option_map (λ x. made ++ x) (ended rest).0 ≡ Some t → made ≡ t
 ended_means made [] t e = absurd cc
 ended_means made (b ∷ bs) t e = ended_at made b bs t (b == 34) e

@@ -1,9 +1,9 @@
 -- What stands next in a source, and what a cursor may take.
-use Rattle.std.proofs.Common.{◌≡◌, ℕ, false, List, [], ◌∷◌, refl, ap, ◌∙◌, sym, subst}
+use Rattle.std.proofs.Common.{◌≡◌, ℕ, List, [], ◌∷◌, refl, ap, ◌∙◌, sym, subst}
 use Rattle.lrp_model.specs.declared.tokens.Place.{Place}
 use Rattle.lrp_model.specs.Tokens.{Token, Placed, Tokens}
 use Rattle.lrp_model.specs.Tokens.Token.{name_token, word_token, number_token, text_token, symbol_token, end_token, bad_token, hole_token}
-use Rattle.lrp_model.specs.Lexing.{At, Scanned, after, scan, headed}
+use Rattle.lrp_model.specs.Lexing.{At, Scanned, scan, headed}
 use Rattle.lrp_text.specs.declared.lexemes.Lexeme.{Lexeme}
 use Rattle.lrp_text.specs.declared.lexemes.Lexeme.TheVariants.{Name, Word, Number, LargeNumber, Text, LongText, Symbol, End, Bad}
 use Rattle.lrp_text.specs.Lexemes.{IsSaid}

@@ -12,7 +12,7 @@ use Rattle.lrp_model.specs.Tokens.Token.{name_token, word_token, number_token, t
 use Rattle.lrp_model.specs.Lexing.{At, after, scan, limit}
 use Rattle.lrp_text.specs.declared.lexemes.Lexeme.{Lexeme}
 use Rattle.lrp_text.specs.declared.lexemes.Lexeme.TheVariants.{Name as NameSeen, Word as WordSeen, Number as NumberSeen, LargeNumber as LargeNumberSeen, Text as TextSeen, LongText as LongTextSeen, Symbol as SymbolSeen, End as EndSeen, Bad as BadSeen}
-use Rattle.lrp_text.specs.Sources.{next_at, next_of, behind_next, tokens_left}
+use Rattle.lrp_text.specs.Sources.{next_at, next_of, behind_next}
 
 -- a lawful token of this kind
 abbrev pub IsOfKind : TokenKind → Token → Type 0

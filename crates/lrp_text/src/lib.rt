@@ -2,16 +2,18 @@
 #![tactic(auto)]
 
 mod bytes;
-mod reading;
 mod cursor;
 mod lexemes;
 mod lexer;
+mod reading;
 mod scanning;
 mod sources;
+#[cfg(test)]
+mod tests;
 mod texts;
 
-pub use reading::{column, columns, sort};
 pub use cursor::Cursor;
 pub use lexemes::{Found, Lexeme};
 pub use lexer::Lexer;
+pub use reading::{column, columns, sort};
 pub use texts::text_of;

@@ -70,7 +70,11 @@ fn some_columns(alloc: Global, tokens: &mut Cursor<'_>) -> Result<List<RawColumn
 
 /// Reads the columns up to a symbol that ends them and is left, with commas between; there may be none.
 #[tactic(auto, unfolding(crate::specs::Parsers::listed))]
-pub fn columns(alloc: Global, tokens: &mut Cursor<'_>, stop: Symbol) -> Result<List<RawColumn>, Fault>
+pub fn columns(
+    alloc: Global,
+    tokens: &mut Cursor<'_>,
+    stop: Symbol,
+) -> Result<List<RawColumn>, Fault>
     ensures value { (n : ℕ) → length tokens.old < n → Reads (listed column_rule (is_symbol Symbol.Comma) (is_symbol stop) n tokens.old) result tokens.new }
     ensures shorter { length tokens.new ≤ length tokens.old }
 {

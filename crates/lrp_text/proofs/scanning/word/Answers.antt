@@ -1,7 +1,5 @@
-use Rattle.std.proofs.Common.{◌≡◌, ap, arith, rules, codes}
+use Rattle.std.proofs.Common.{ap, arith, rules, codes}
 use Rattle.std.proofs.lemmas.Slice.Eq.{text_from_reads}
-use Rattle.lrp_model.specs.declared.tokens.Word.TheVariants.{Relation, Exists, Forall, Implies}
-use Rattle.lrp_model.specs.Tokens.Token.{word_token}
 use Rattle.lrp_model.specs.Lexing.{word_or_name}
 use Rattle.lrp_text.proofs.scanning.word.Goals as goal
 
