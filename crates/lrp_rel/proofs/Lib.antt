@@ -5,3 +5,4 @@ pub mod BoundRules
 pub mod RowRules
 pub mod RelationRules
 pub mod DatabaseRules
+pub mod Pieces

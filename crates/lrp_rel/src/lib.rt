@@ -2,5 +2,7 @@
 #![tactic(auto)]
 
 mod laws;
+mod printing;
 
 pub use laws::database_texts_have_one_tree;
+pub use printing::write_relation;
