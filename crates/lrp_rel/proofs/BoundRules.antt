@@ -31,6 +31,7 @@ use Rattle.lrp_rel.proofs.ValueRules.{number_back, integer_back, number_sound, n
 abbrev pub NoShift : Tokens → Type 0
 NoShift ts = IsNot (is_symbol Plus) ts × IsNot (is_symbol Minus) ts
 
+-- the tokens of a side that is a column alone are read back
 pub column_side_back : (n : Located Identifier) → ReadsBack named_side (side_text (Column n)) (Column n) (Unit {0}) NoShift
 unfolding named_side
 column_side_back n =
@@ -39,6 +40,7 @@ column_side_back n =
     (bind_back _ {G = NoShift} (eat_none (is_symbol Minus) (Unit {0})) (pure_back (Column n) (Unit {0}) NoShift) (λ ts left h g. (same_next NoShift ts left h g).1))
     (λ ts left h g. (same_next NoShift ts left h g).0))
 
+-- the tokens of a column with an offset are read back
 pub shifted_side_back : (n : Located Identifier) (down : Bool) (k : ℕ) → ReadsBack named_side (side_text (Shifted n down k)) (Shifted n down k) (k ≤ limit) NoShift
 unfolding named_side
 shifted_side_back n false k =
@@ -52,10 +54,12 @@ shifted_side_back n true k =
     (then_back _ (number_back k (k ≤ limit) (λ l. l)) (pure_back _ _ NoShift)))
     (λ ts left h g. first_is_not (is_symbol_token Plus) (symbol_token Minus) (number_part k ∷ []) ts left refl h))
 
+-- an integer begins with no name
 no_name : (negative : Bool) (n : ℕ) (ts left : Tokens) → Takes (sign negative ++ any (number_token n) ∷ []) ts left → Sees false is_name false ts
 no_name true n ts left h = first_sees_any false is_name_token (symbol_token Minus) (any (number_token n) ∷ []) ts left h
 no_name false n ts left h = first_sees_any false is_name_token (number_token n) [] ts left h
 
+-- the tokens of a side are read back
 pub side_back : (s : Side) → ReadsBack side (side_text s) s (FitsSide s) NoShift
 unfolding side
 side_back (Alone i) =
@@ -73,32 +77,39 @@ side_back (Shifted n down k) =
 abbrev pub op_part : BoundOp → Part
 op_part op = any (symbol_token (bound_symbol op))
 
+-- the token of a comparison that was read
 op_is : (k : Token) (op : BoundOp) → op_of k ≡ Ok op → k ≡ symbol_token (bound_symbol op)
 op_is (symbol_token Le) op e = let h : AtMost ≡ op = cc in ap (λ x. symbol_token (bound_symbol x)) h
 op_is (symbol_token Ge) op e = let h : AtLeast ≡ op = cc in ap (λ x. symbol_token (bound_symbol x)) h
 op_is (symbol_token Equals) op e = let h : Equal ≡ op = cc in ap (λ x. symbol_token (bound_symbol x)) h
 op_is _ op e = absurd cc
 
+-- a comparison is read from its symbol
 op_again : (op : BoundOp) → op_of (symbol_token (bound_symbol op)) ≡ Ok op
 op_again AtMost = refl
 op_again AtLeast = refl
 op_again Equal = refl
 
+-- a token that is no comparison is a syntax fault
 op_err : (t : Token) (k : Fault) → op_of t ≡ Err k → k ≡ Syntax
 op_err (symbol_token Le) k e = absurd cc
 op_err (symbol_token Ge) k e = absurd cc
 op_err (symbol_token Equals) k e = absurd cc
 op_err _ k e = cc
 
+-- the part of a comparison that was read
 op_told : (t : Placed) (op : BoundOp) → op_of t.token ≡ Ok op → IsPart (op_part op) t
 op_told t op e = op_is t.token op e
 
+-- the comparison of a part
 op_seen : (op : BoundOp) (t : Placed) → IsPart (op_part op) t → op_of t.token ≡ Ok op
 op_seen op t h = ap op_of h ∙ op_again op
 
+-- a comparison stops for its syntax alone
 op_stops : TestStops (λ t. op_of t.token) op_part (λ op. Unit {0})
 op_stops = record { token = record { token = symbol_token Le; place = start }; value = AtMost; fits = tt; is = refl; fault = λ t k e. inl (op_err t.token k e) }
 
+-- the tokens of a bound are read back
 pub bound_back : (b : RawBound) → ReadsBack bound (bound_text b) b (FitsBound b) NoShift
 unfolding bound
 bound_back b =
@@ -114,18 +125,21 @@ shift_sound n is_down ts us vs q e one sym_taken =
     let sized = number_sound vs k.0 k.1 in
     subst (λ y. Takes (side_text y.0) ts y.1 × FitsSide y.0) h (takes_join (name_part n ∷ []) (any (symbol_token (shift is_down)) ∷ number_part k.0.0 ∷ []) ts us k.0.1 one (takes_join (any (symbol_token (shift is_down)) ∷ []) (number_part k.0.0 ∷ []) us vs k.0.1 sym_taken sized.0), sized.1)
 
+-- behind a name, with or without a minus
 after_minus_sound : (n : Located Identifier) (down : Bool) (ts us vs : Tokens) (q : Side × Tokens) → (if down then (number >>= (λ k. pure (Shifted n true k))) else pure (Column n)) vs ≡ Ok q → Takes (name_part n ∷ []) ts us → Takes (eaten_parts (any (symbol_token Minus)) down) us vs → Takes (side_text q.0) ts q.1 × FitsSide q.0
 after_minus_sound n true ts us vs q e one eaten = shift_sound n true ts us vs q e one eaten
 after_minus_sound n false ts us vs q e one eaten =
     let h : (Column n, vs) ≡ q = cc in
     subst (λ y. Takes (side_text y.0) ts y.1 × FitsSide y.0) h (subst (λ x. Takes (name_part n ∷ []) ts x) eaten one, tt)
 
+-- behind a name, with or without a plus
 after_name_sound : (n : Located Identifier) (up : Bool) (ts us vs : Tokens) (q : Side × Tokens) → (if up then (number >>= (λ k. pure (Shifted n false k))) else (eat (is_symbol Minus) >>= (λ down. if down then (number >>= (λ k. pure (Shifted n true k))) else pure (Column n)))) vs ≡ Ok q → Takes (name_part n ∷ []) ts us → Takes (eaten_parts (any (symbol_token Plus)) up) us vs → Takes (side_text q.0) ts q.1 × FitsSide q.0
 after_name_sound n true ts us vs q e one eaten = shift_sound n false ts us vs q e one eaten
 after_name_sound n false ts us vs q e one eaten =
     let m = bind_ok (eat (is_symbol Minus) vs) _ q e in
     after_minus_sound n m.0.0 ts vs m.0.1 q m.2 (subst (λ x. Takes (name_part n ∷ []) ts x) eaten one) (eat_sound (is_symbol Minus) (any (symbol_token Minus)) (symbol_told Minus) vs m.0 m.1)
 
+-- a side that names a column that is read is spelled so, and is lawful
 pub named_side_sound : Sound named_side side_text FitsSide
 unfolding named_side
 named_side_sound ts q e =
@@ -133,6 +147,7 @@ named_side_sound ts q e =
     let u = bind_ok (eat (is_symbol Plus) n.0.1) _ q n.2 in
     after_name_sound n.0.0 u.0.0 ts n.0.1 u.0.1 q u.2 (label_sound ts n.0 n.1).0 (eat_sound (is_symbol Plus) (any (symbol_token Plus)) (symbol_told Plus) n.0.1 u.0 u.1)
 
+-- a side that names a column or an integer alone
 either_side_sound : (named : Bool) → Sound (if named then named_side else (integer >>= (λ i. pure (Alone i)))) side_text FitsSide
 either_side_sound true = named_side_sound
 either_side_sound false = λ ts q e.
@@ -140,12 +155,14 @@ either_side_sound false = λ ts q e.
     let h : (Alone i.0.0, i.0.1) ≡ q = cc in
     subst (λ y. Takes (side_text y.0) ts y.1 × FitsSide y.0) h (integer_sound ts i.0 i.1)
 
+-- a side that is read is spelled so, and is lawful
 pub side_sound : Sound side side_text FitsSide
 unfolding side
 side_sound ts q e =
     let s = bind_ok (look false is_name ts) _ q e in
     subst (λ x. Takes (side_text q.0) x q.1 × FitsSide q.0) (sym (look_ok false is_name ts s.0 s.1)) (either_side_sound s.0.0 s.0.1 q s.2)
 
+-- a bound that is read is spelled so, and is lawful
 pub bound_sound : Sound bound bound_text FitsBound
 unfolding bound
 bound_sound ts q e =
@@ -165,12 +182,14 @@ bound_sound ts q e =
 abbrev Sides : Bool → Tokens → Type 0
 Sides = TextOf side_text FitsSide
 
+-- behind a name and a sign stands a number
 sides_shift : (n : Located Identifier) (is_down : Bool) (head : Tokens) (t : Placed) (vs : Tokens) (e : Fault × Tokens) → Spells (name_part n ∷ []) head → IsPart (any (symbol_token (shift is_down))) t → (number >>= (λ k. pure (Shifted n is_down k))) vs ≡ Err e → Stops (λ c x. Sides c (head ++ t ∷ x)) vs e
 sides_shift n is_down head t vs e one is d =
     sub_step number _ (One number_part) (λ k. k ≤ limit) (λ c x. Sides c (head ++ t ∷ x)) vs e number_sound number_viable d
     (λ c k x spelled fit. ([], (Shifted n is_down k, fit, spells_join (name_part n ∷ []) (any (symbol_token (shift is_down)) ∷ number_part k ∷ []) head (t ∷ (x ++ [])) one (is, spells_join (One number_part k) [] x [] spelled refl))))
     (λ k h3 ws s3 f3 d3. absurd cc)
 
+-- the tokens before a fault of a side that names a column begin one
 pub named_side_viable : Viable named_side side_text FitsSide
 unfolding named_side
 named_side_viable ts e h =
@@ -182,6 +201,7 @@ named_side_viable ts e h =
     (λ t vs told d3. sides_shift n true head t vs e one (symbol_told Minus t told) d3)
     (λ d3. absurd cc)))
 
+-- a side that names a column, or an integer alone, stops where it says
 either_side_viable : (named : Bool) → Viable (if named then named_side else (integer >>= (λ i. pure (Alone i)))) side_text FitsSide
 either_side_viable true = named_side_viable
 either_side_viable false = λ ts e h.
@@ -189,19 +209,24 @@ either_side_viable false = λ ts e h.
     (λ c i x spelled fit. ([], (Alone i, fit, subst (λ y. Spells (integer_text i) y) (sym (append-nil x)) spelled)))
     (λ i h2 us s2 f2 d2. absurd cc)
 
+-- the tokens before a fault of a side begin one
 pub side_viable : Viable side side_text FitsSide
 unfolding side
 side_viable ts e h = look_step false is_name _ Sides ts e h (λ named seen d. either_side_viable named ts e d)
 
+-- a side for what is not written yet
 abbrev zero_side : Side
 zero_side = Alone (record { negative = false; size = 0 })
 
+-- the tokens of that side
 abbrev zero_tokens : Tokens
 zero_tokens = record { token = number_token 0; place = start } ∷ []
 
+-- a comparison and that side
 abbrev least_tokens : Tokens
 least_tokens = record { token = symbol_token Le; place = start } ∷ zero_tokens
 
+-- the tokens before a fault of a bound begin one
 pub bound_viable : Viable bound bound_text FitsBound
 unfolding bound
 bound_viable ts e h =

@@ -22,12 +22,14 @@ use Rattle.lrp_rel.proofs.RelationRules.{from_name, relation_answers, relation_s
 
 -- ---- complete
 
+-- a relation as a member of a list
 relations_member : (n : ℕ) → MemberUntil (relation n) relation_text FitsRelation Anything is_end n
 relations_member n = record {
   one = λ a ts left lt h g. relation_answers n a ts left lt h;
   begins = λ a ts left h. (first_sees_any false is_end_token (word_token Relation) (from_name a.name a.columns a.rows) ts left h, tt);
 }
 
+-- a relation has a token
 relation_has_token : (r : RawRelation) → 0 < length (relation_text r)
 relation_has_token r = omega arith
 
@@ -45,18 +47,22 @@ database_complete n rs ts lt h =
 
 -- ---- sound
 
+-- the part that the end is
 abbrev end_part : Unit {0} → Part
 end_part u = any end_token
 
+-- the relations of a database that is read is spelled so, and is lawful
 relations_sound : (n : ℕ) → Sound (until_from (relation n) is_end n []) (joined relation_text) FitsDatabase
 relations_sound n ts q e =
     let k = until_sound (relation n) relation_text FitsRelation is_end (relation_sound n) n [] ts q e in
     let R : List RawRelation → Type 0 = λ l. Takes (joined relation_text l) ts q.1 × FitsDatabase l in
     subst R (sym k.made) (k.spelled, k.fits)
 
+-- the end that is read is spelled so, and is lawful
 end_sound : Sound expect_end (One end_part) (λ u. Unit {0})
 end_sound ts q e = (accept_sound _ end_part end_expected ts q e, tt)
 
+-- the tokens before a fault of the end begin one
 end_viable : Viable expect_end (One end_part) (λ u. Unit {0})
 end_viable = accept_viable _ end_part (λ u. Unit {0}) end_stops
 
@@ -73,9 +79,11 @@ database_sound n ts q e =
 
 -- ---- viable
 
+-- the tokens that end it
 abbrev ending : Tokens
 ending = record { token = end_token; place = start } ∷ []
 
+-- the tokens before a fault of a database begin one
 pub database_viable : (n : ℕ) (ts : Tokens) (e : Fault × Tokens) → length ts < n → database n ts ≡ Err e → Stops (TextOf database_text FitsDatabase) ts e
 unfolding database
 database_viable n ts e lt h =
@@ -88,6 +96,7 @@ database_viable n ts e lt h =
 
 -- ---- refused exactly where the grammar says
 
+-- the rule of databases has all that a rule owes
 pub database_rule : Rule database database_text FitsDatabase
 database_rule = record { local = database_local; complete = database_complete; viable = database_viable }
 

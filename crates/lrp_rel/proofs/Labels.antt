@@ -18,14 +18,17 @@ use Rattle.lrp_rel.specs.Rules.{label}
 abbrev located_name : Identifier × Place → Located Identifier
 located_name n = record { place = n.1; item = n.0 }
 
+-- a name with its place depends on its tokens and on the next one alone
 pub label_local : Local label
 unfolding label
 label_local = bind_local name _ (accept_local _) (λ n. pure_local _)
 
+-- the tokens of a name with its place are read back
 pub label_back : (n : Located Identifier) (L : Type 0) → ReadsBack label (name_part n ∷ []) n L Anything
 unfolding label
 label_back n L = last_back name located_name (name_part n ∷ []) (n.item, n.place) L Anything (accepts_back (λ t. with_place t.place (name_of t.token)) (name_part n) (n.item, n.place) L (name_seen (n.item, n.place)))
 
+-- a name with its place that is read is spelled so, and is lawful
 pub label_sound : Sound label (λ n. name_part n ∷ []) (λ n. Unit {0})
 unfolding label
 label_sound ts q e =
@@ -33,6 +36,7 @@ label_sound ts q e =
     let h : (located_name n.0.0, n.0.1) ≡ q = cc in
     subst (λ y. Takes (name_part y.0 ∷ []) ts y.1 × Unit {0}) h (accept_sound _ pair_part name_told ts n.0 n.1, tt)
 
+-- the tokens before a fault of a name with its place begin one
 pub label_viable : Viable label (One name_part) (λ n. Unit {0})
 unfolding label
 label_viable ts e h =

@@ -6,3 +6,7 @@ pub mod RowRules
 pub mod RelationRules
 pub mod DatabaseRules
 pub mod Pieces
+pub mod Ops
+pub mod Steps
+pub mod Shallow
+pub mod TextLaws

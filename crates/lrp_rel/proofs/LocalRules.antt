@@ -10,12 +10,14 @@ use Rattle.lrp_text.proofs.ColumnRule.{column_local}
 use Rattle.lrp_rel.proofs.Labels.{label_local}
 use Rattle.lrp_rel.specs.Rules.{label, integer, numeric, bare_value, value, named_side, side, op_of, bound, bounds, row, relation, database}
 
+-- an integer depends on its tokens and on the next one alone
 pub integer_local : Local integer
 unfolding integer
 integer_local =
     bind_local (eat (is_symbol Minus)) _ (eat_local _) (λ negative.
     bind_local number _ (accept_local _) (λ n. pure_local _))
 
+-- an instant or a point depends on its tokens and on the next one alone
 pub numeric_local : Local numeric
 unfolding numeric
 numeric_local =
@@ -25,15 +27,18 @@ numeric_local =
     (bind_local period _ (accept_local _) (λ k. bind_local (expect_word Letter) _ (accept_local _) (λ u. pure_local _)))
     (pure_local _)))
 
+-- a value depends on its tokens and on the next one alone
 pub bare_value_local : Local bare_value
 unfolding bare_value
 bare_value_local =
     bind_local (look false is_text) _ (look_local _ _) (λ quoted.
     if_local quoted _ _ (bind_local text _ (accept_local _) (λ t. pure_local _)) numeric_local)
 
+-- a value with its place depends on its tokens and on the next one alone
 pub value_local : Local value
 value_local = located_local bare_value bare_value_local
 
+-- a side that names a column depends on its tokens and on the next one alone
 pub named_side_local : Local named_side
 unfolding named_side
 named_side_local =
@@ -43,12 +48,14 @@ named_side_local =
     (bind_local (eat (is_symbol Minus)) _ (eat_local _) (λ down.
     if_local down _ _ (bind_local number _ (accept_local _) (λ k. pure_local _)) (pure_local _)))))
 
+-- a side depends on its tokens and on the next one alone
 pub side_local : Local side
 unfolding side
 side_local =
     bind_local (look false is_name) _ (look_local _ _) (λ named.
     if_local named _ _ named_side_local (bind_local integer _ integer_local (λ i. pure_local _)))
 
+-- a bound depends on its tokens and on the next one alone
 pub bound_local : Local bound
 unfolding bound
 bound_local =
@@ -56,12 +63,14 @@ bound_local =
     bind_local (accept (λ t. op_of t.token)) _ (accept_local _) (λ op.
     bind_local side _ side_local (λ s. pure_local _)))
 
+-- the bounds of a row depends on its tokens and on the next one alone
 pub bounds_local : (n : ℕ) → Local (bounds n)
 unfolding bounds
 bounds_local n =
     bind_local (eat (is_word Where)) _ (eat_local _) (λ some.
     if_local some _ _ (separated_local bound _ bound_local n []) (pure_local _))
 
+-- a row depends on its tokens and on the next one alone
 pub row_local : (n : ℕ) → Local (row n)
 unfolding row
 row_local n =
@@ -71,6 +80,7 @@ row_local n =
     bind_local (bounds n) _ (bounds_local n) (λ bs.
     bind_local (expect Semicolon) _ (accept_local _) (λ w. pure_local _)))))
 
+-- a relation depends on its tokens and on the next one alone
 pub relation_local : (n : ℕ) → Local (relation n)
 unfolding relation
 relation_local n =
@@ -83,6 +93,7 @@ relation_local n =
     bind_local (until_from (located (row n)) (is_symbol CloseBrace) n []) _ (until_local _ _ (located_local (row n) (row_local n)) n []) (λ rows.
     bind_local (expect CloseBrace) _ (accept_local _) (λ y. pure_local _))))))))
 
+-- a database depends on its tokens and on the next one alone
 pub database_local : (n : ℕ) → Local (database n)
 unfolding database
 database_local n =

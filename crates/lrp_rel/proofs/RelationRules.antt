@@ -34,9 +34,11 @@ use Rattle.lrp_rel.proofs.RowRules.{row_answers, row_sound, row_viable, sym_part
 
 -- ---- complete
 
+-- a column as a member of a list
 columns_member : MemberBack column column_text (λ c. Unit {0}) Anything comma (is_symbol Comma)
 columns_member = record { one = column_back; comma_follows = λ t ts h. tt; comma_seen = symbol_seen Comma }
 
+-- a column does not begin with a parenthesis
 column_sees : (c : RawColumn) (ts left : Tokens) → Takes (column_text c) ts left → Sees false (is_symbol Close) false ts
 column_sees c ts left h = first_sees_at false (is_symbol_token Close) c.place (name_token c.name) (any (symbol_token Colon) ∷ at c.sort_place (sort_token c.sort) ∷ []) ts left h
 
@@ -51,9 +53,11 @@ pub record EndsColumns (n : ℕ) (cs : List RawColumn) (ts : Tokens) : Type 0 wh
   pub list : FollowsList Anything (is_symbol Comma) ts
   pub few : length cs ≤ n
 
+-- the tokens of the columns of a relation are read back
 columns_back : (n : ℕ) (cs : List RawColumn) (L : Type 0) → ReadsBack (listed column (is_symbol Comma) (is_symbol Close) n) (separated comma column_text cs) cs L (EndsColumns n cs)
 columns_back n cs L = record { reads = λ ts left h g. answers_as _ cs left (AllByRecursion (λ c. Unit {0}) cs) L (λ l. all_columns cs) (listed_back columns_member (is_symbol Close) column_sees n cs g.few ts left h g.closes g.list) }
 
+-- a parenthesis ends the columns
 ends_columns : (n : ℕ) (cs : List RawColumn) (ps : List Part) (ts left : Tokens) → length cs ≤ n → Takes (any (symbol_token Close) ∷ ps) ts left → EndsColumns n cs ts
 ends_columns n cs ps ts left few h = record {
   closes = first_sees_any false (is_symbol_token Close) (symbol_token Close) ps ts left h;
@@ -61,12 +65,15 @@ ends_columns n cs ps ts left few h = record {
   few = few;
 }
 
+-- a row begins with a token at any place
 row_leads : (r : RawRow) → Leads (row_text r)
 row_leads r = tt
 
+-- what spells the rows of a relation
 abbrev pub rows_text : List (Located RawRow) → List Part
 rows_text = joined (located_text row_text)
 
+-- a row as a member of a list
 rows_member : (n : ℕ) → MemberUntil (located (row n)) (located_text row_text) (λ r. FitsRow r.item) Anything (is_symbol CloseBrace) n
 rows_member n = record {
   one = λ a ts left lt h g. located_answers (row n) row_text a (FitsRow a.item) ts left tt h (λ k. row_answers n a.item ts left lt k);
@@ -78,9 +85,11 @@ pub record EndsRows (n : ℕ) (rows : List (Located RawRow)) (ts : Tokens) : Typ
   pub closes : Sees false (is_symbol CloseBrace) true ts
   pub room : length ts + length (rows_text rows) < n
 
+-- a row has a token
 row_has_token : (r : Located RawRow) → 0 < length (located_text row_text r)
 row_has_token r = omega arith
 
+-- the tokens of the rows of a relation are read back
 rows_back : (n : ℕ) (rows : List (Located RawRow)) → ReadsBack (until_from (located (row n)) (is_symbol CloseBrace) n []) (rows_text rows) rows (AllByRecursion (λ r. FitsRow r.item) rows) (EndsRows n rows)
 rows_back n rows = record {
   reads = λ ts left h g.
@@ -94,6 +103,7 @@ rows_back n rows = record {
 abbrev pub Room : ℕ → RawRelation → Tokens → Type 0
 Room n r left = length left + length (relation_text r) < n
 
+-- the tokens of a relation are those of its columns and of its rows, and six more
 relation_long : (r : RawRelation) → length (relation_text r) ≡ length (separated comma column_text r.columns) + length (rows_text r.rows) + 6
 relation_long r =
     let ends : List Part = any (symbol_token CloseBrace) ∷ [] in
@@ -102,6 +112,7 @@ relation_long r =
     let rest : length (rows_text r.rows ++ ends) ≡ length (rows_text r.rows) + length ends = length-append (rows_text r.rows) ends in
     omega (arith, size, rest)
 
+-- a brace ends the rows
 ends_rows : (n : ℕ) (r : RawRelation) (ts left : Tokens) → Takes (any (symbol_token CloseBrace) ∷ []) ts left → Room n r left → EndsRows n r.rows ts
 ends_rows n r ts left h g =
     let size : length left + length {A = Part} (any (symbol_token CloseBrace) ∷ []) ≡ length ts = takes_shorter (any (symbol_token CloseBrace) ∷ []) ts left h in
@@ -110,9 +121,11 @@ ends_rows n r ts left h g =
       room = omega (arith, size, relation_long r, g);
     }
 
+-- the columns are fewer than the tokens
 few_columns : (n : ℕ) (r : RawRelation) (left : Tokens) → Room n r left → length r.columns ≤ n
 few_columns n r left g = omega (arith, relation_long r, separated_long comma column_text r.columns, g)
 
+-- the tokens of a relation are read back
 pub relation_back : (n : ℕ) (r : RawRelation) → ReadsBack (relation n) (relation_text r) r (FitsRelation r) (Room n r)
 unfolding relation
 relation_back n r =
@@ -128,6 +141,7 @@ relation_back n r =
     (λ ts left h g. ends_rows n r ts left h g))))
     (λ ts left h g. ends_columns n r.columns (any (symbol_token OpenBrace) ∷ (rows_text r.rows ++ any (symbol_token CloseBrace) ∷ [])) ts left (few_columns n r left g) h))))
 
+-- a relation that fewer tokens spell than the number of turns is read
 pub relation_answers : (n : ℕ) (r : RawRelation) (ts left : Tokens) → length ts < n → Takes (relation_text r) ts left → Answers (relation n ts) r left (FitsRelation r)
 relation_answers n r ts left lt h =
     let size : length left + length (relation_text r) ≡ length ts = takes_shorter (relation_text r) ts left h in
@@ -135,21 +149,26 @@ relation_answers n r ts left lt h =
 
 -- ---- sound
 
+-- the columns of a relation that is read is spelled so, and is lawful
 columns_sound : (n : ℕ) → Sound (listed column (is_symbol Comma) (is_symbol Close) n) (separated comma column_text) (AllByRecursion (λ c. Unit {0}))
 columns_sound n = listed_sound column column_text (λ c. Unit {0}) comma (is_symbol Comma) (is_symbol Close) (symbol_told Comma) column_sound n
 
+-- the rows of a relation that is read is spelled so, and is lawful
 pub rows_sound : (n : ℕ) → Sound (until_from (located (row n)) (is_symbol CloseBrace) n []) rows_text (AllByRecursion (λ r. FitsRow r.item))
 rows_sound n ts q e =
     let k = until_sound (located (row n)) (located_text row_text) (λ r. FitsRow r.item) (is_symbol CloseBrace) (located_sound (row n) row_text FitsRow row_leads (row_sound n)) n [] ts q e in
     let R : List (Located RawRow) → Type 0 = λ l. Takes (rows_text l) ts q.1 × AllByRecursion (λ r. FitsRow r.item) l in
     subst R (sym k.made) (k.spelled, k.fits)
 
+-- the part that a reserved word is
 abbrev word_part : Word → Unit {0} → Part
 word_part w u = any (word_token w)
 
+-- a reserved word that is read is spelled so, and is lawful
 word_sound : (w : Word) → Sound (expect_word w) (One (word_part w)) (λ u. Unit {0})
 word_sound w ts q e = (accept_sound _ (word_part w) (word_expected w) ts q e, tt)
 
+-- the tokens before a fault of a reserved word begin one
 word_viable : (w : Word) → Viable (expect_word w) (One (word_part w)) (λ u. Unit {0})
 word_viable w = accept_viable _ (word_part w) (λ u. Unit {0}) (word_stops w)
 
@@ -157,21 +176,27 @@ word_viable w = accept_viable _ (word_part w) (λ u. Unit {0}) (word_stops w)
 abbrev pub from_rows : List (Located RawRow) → List Part
 from_rows rows = rows_text rows ++ any (symbol_token CloseBrace) ∷ []
 
+-- from the opening brace on
 abbrev pub from_brace : List (Located RawRow) → List Part
 from_brace rows = any (symbol_token OpenBrace) ∷ from_rows rows
 
+-- from the closing parenthesis on
 abbrev pub from_close : List (Located RawRow) → List Part
 from_close rows = any (symbol_token Close) ∷ from_brace rows
 
+-- from the columns on
 abbrev pub from_columns : List RawColumn → List (Located RawRow) → List Part
 from_columns cs rows = separated comma column_text cs ++ from_close rows
 
+-- from the opening parenthesis on
 abbrev pub from_open : List RawColumn → List (Located RawRow) → List Part
 from_open cs rows = any (symbol_token Open) ∷ from_columns cs rows
 
+-- from the name on
 abbrev pub from_name : Located Identifier → List RawColumn → List (Located RawRow) → List Part
 from_name n cs rows = name_part n ∷ from_open cs rows
 
+-- a relation of its parts
 abbrev made_of : Located Identifier → List RawColumn → List (Located RawRow) → RawRelation
 made_of n cs rows = record { name = n; columns = cs; rows = rows }
 
@@ -179,9 +204,11 @@ made_of n cs rows = record { name = n; columns = cs; rows = rows }
 abbrev read_of : RawRelation × Tokens → Outcome RawRelation
 read_of p = Ok p
 
+-- one outcome reads one thing
 same_read : (p q : RawRelation × Tokens) → read_of p ≡ read_of q → p ≡ q
 same_read p q e = cc
 
+-- a relation that is read is spelled so, and is lawful
 pub relation_sound : (n : ℕ) → Sound (relation n) relation_text FitsRelation
 unfolding relation
 relation_sound n ts q e =
@@ -206,27 +233,35 @@ relation_sound n ts q e =
 
 -- ---- viable
 
+-- a symbol at the first place
 abbrev symbol_at : Symbol → Placed
 symbol_at s = record { token = symbol_token s; place = start }
 
+-- the tokens that end it
 abbrev ending : Tokens
 ending = symbol_at CloseBrace ∷ []
 
+-- tokens from the opening brace on
 abbrev pub from_brace_on : Tokens
 from_brace_on = symbol_at OpenBrace ∷ ending
 
+-- tokens from the closing parenthesis on
 abbrev pub from_close_on : Tokens
 from_close_on = symbol_at Close ∷ from_brace_on
 
+-- tokens from the opening parenthesis on
 abbrev pub from_open_on : Tokens
 from_open_on = symbol_at Open ∷ from_close_on
 
+-- a name for what is not written yet
 abbrev some_name : Located Identifier
 some_name = record { place = start; item = [] }
 
+-- tokens from the name on
 abbrev pub from_name_on : Tokens
 from_name_on = record { token = name_token []; place = start } ∷ from_open_on
 
+-- the tokens before a fault of the rows of a relation begin one
 rows_viable : (n : ℕ) (ts : Tokens) (e : Fault × Tokens) → length ts < n → until_from (located (row n)) (is_symbol CloseBrace) n [] ts ≡ Err e → Stops (TextOf rows_text (AllByRecursion (λ r. FitsRow r.item))) ts e
 rows_viable n ts e lt h =
     until_viable (located (row n)) (located_text row_text) (λ r. FitsRow r.item) (is_symbol CloseBrace) n (located_sound (row n) row_text FitsRow row_leads (row_sound n))
@@ -240,6 +275,7 @@ spelled_columns n cs rows h1 h2 h3 h4 x s1 s2 s3 s4 r =
     (spells_join (One (sym_part Open) tt) (from_columns cs rows) h3 (h4 ++ x) s3
     (spells_join (separated comma column_text cs) (from_close rows) h4 x s4 r)))
 
+-- the tokens before a fault of a relation begin one
 pub relation_viable : (n : ℕ) (ts : Tokens) (e : Fault × Tokens) → length ts < n → relation n ts ≡ Err e → Stops (TextOf relation_text FitsRelation) ts e
 unfolding relation
 relation_viable n ts e lt h =

@@ -29,9 +29,11 @@ use Rattle.lrp_rel.specs.Rules.{value, bound, bounds, row}
 use Rattle.lrp_rel.proofs.ValueRules.{NoPlus, value_back, value_sound, value_viable, bare_value_leads}
 use Rattle.lrp_rel.proofs.BoundRules.{NoShift, bound_back, bound_sound, bound_viable}
 
+-- what a comma is among symbols
 comma_token : (t : Placed) (s : Symbol) → IsPart comma t → is_symbol s t ≡ is_symbol_token s (symbol_token Comma)
 comma_token t s h = ap (is_symbol_token s) h
 
+-- a value as a member of a list
 values_member : MemberBack value (located_text value_text) (λ v. FitsValue v.item) NoPlus comma (is_symbol Comma)
 values_member = record {
   one = value_back;
@@ -39,6 +41,7 @@ values_member = record {
   comma_seen = symbol_seen Comma;
 }
 
+-- a bound as a member of a list
 bounds_member : MemberBack bound bound_text FitsBound NoShift comma (is_symbol Comma)
 bounds_member = record {
   one = bound_back;
@@ -46,15 +49,18 @@ bounds_member = record {
   comma_seen = symbol_seen Comma;
 }
 
+-- an integer does not begin with this symbol
 sign_sees : (s : Symbol) (negative : Bool) (n : ℕ) (ps : List Part) (ts left : Tokens) → is_symbol_token s (symbol_token Minus) ≡ false → Takes ((sign negative ++ any (number_token n) ∷ []) ++ ps) ts left → Sees false (is_symbol s) false ts
 sign_sees s true n ps ts left e h = subst (λ b. Sees false (is_symbol s) b ts) e (first_sees_any false (is_symbol_token s) (symbol_token Minus) (any (number_token n) ∷ ps) ts left h)
 sign_sees s false n ps ts left e h = first_sees_any false (is_symbol_token s) (number_token n) ps ts left h
 
+-- a value does not begin with a parenthesis
 bare_value_sees : (k : WrittenValue) (ts left : Tokens) → Takes (value_text k) ts left → Sees false (is_symbol Close) false ts
 bare_value_sees (Constant t) ts left h = first_sees_any false (is_symbol_token Close) (text_token t) [] ts left h
 bare_value_sees (Instant i) ts left h = sign_sees Close i.negative i.size [] ts left refl (subst (λ x. Takes x ts left) (sym (append-nil (integer_text i))) h)
 bare_value_sees (Point i k) ts left h = sign_sees Close i.negative i.size _ ts left refl h
 
+-- the same of a value with its place
 value_sees : (v : Located WrittenValue) (ts left : Tokens) → Takes ((located_text value_text) v) ts left → Sees false (is_symbol Close) false ts
 value_sees v ts left h = bare_value_sees v.item ts left (takes_from v.place (value_text v.item) ts left (bare_value_leads v.item) h).0
 
@@ -62,6 +68,7 @@ value_sees v ts left h = bare_value_sees v.item ts left (takes_from v.place (val
 abbrev pub Closes : Tokens → Type 0
 Closes ts = Sees false (is_symbol Close) true ts × FollowsList NoPlus (is_symbol Comma) ts
 
+-- a parenthesis ends the values
 closes : (ps : List Part) (ts left : Tokens) → Takes (any (symbol_token Close) ∷ ps) ts left → Closes ts
 closes ps ts left h = (
   first_sees_any false (is_symbol_token Close) (symbol_token Close) ps ts left h,
@@ -76,6 +83,7 @@ pub record FollowsBounds (ts : Tokens) : Type 0 where
   pub no_where : IsNot (is_word Where) ts
   pub list : FollowsList NoShift (is_symbol Comma) ts
 
+-- a semicolon ends the bounds
 ends_bounds : (ps : List Part) (ts left : Tokens) → Takes (any (symbol_token Semicolon) ∷ ps) ts left → FollowsBounds ts
 ends_bounds ps ts left h = record {
   no_where = first_is_not (is_word_token Where) (symbol_token Semicolon) ps ts left refl h;
@@ -85,6 +93,7 @@ ends_bounds ps ts left h = record {
   };
 }
 
+-- the tokens of the bounds of a row are read back
 pub bounds_back : (n : ℕ) (bs : List RawBound) → length bs ≤ n → ReadsBack (bounds n) (bounds_text bs) bs (AllByRecursion FitsBound bs) FollowsBounds
 unfolding bounds
 bounds_back n [] lt = bind_back _ {G = FollowsBounds} (eat_none (is_word Where) (Unit {0})) (pure_back [] (Unit {0}) FollowsBounds) (λ ts left h g. (same_next FollowsBounds ts left h g).no_where)
@@ -92,6 +101,7 @@ bounds_back n (b ∷ bs) lt =
     then_back _ (eat_back (is_word Where) (any (word_token Where)) (AllByRecursion FitsBound (b ∷ bs)) (word_seen Where))
     (record { reads = λ ts left h g. separated_back bounds_member n [] b bs (omega arith) ts left h g.list })
 
+-- the tokens of a row are read back
 pub row_back : (n : ℕ) (r : RawRow) → length r.values ≤ n → length r.bounds ≤ n → ReadsBack (row n) (row_text r) r (FitsRow r) Anything
 unfolding row
 row_back n r few less =
@@ -134,24 +144,30 @@ after_where_sound n true ts us q e eaten =
     let R : List RawBound → Type 0 = λ l. Takes (bounds_text l) ts q.1 × AllByRecursion FitsBound l in
     subst R (sym s.2) (takes_join (any (word_token Where) ∷ []) (separated comma bound_text (s.0 ∷ s.1)) ts us q.1 eaten s.3, s.4)
 
+-- the bounds of a row that is read is spelled so, and is lawful
 pub bounds_sound : (n : ℕ) → Sound (bounds n) bounds_text (AllByRecursion FitsBound)
 unfolding bounds
 bounds_sound n ts q e =
     let w = bind_ok (eat (is_word Where) ts) _ q e in
     after_where_sound n w.0.0 ts w.0.1 q w.2 (eat_sound (is_word Where) (any (word_token Where)) (word_told Where) ts w.0 w.1)
 
+-- the part that a symbol is
 abbrev pub sym_part : Symbol → Unit {0} → Part
 sym_part s u = any (symbol_token s)
 
+-- a symbol that is read is spelled so, and is lawful
 pub symbol_sound : (s : Symbol) → Sound (expect s) (One (sym_part s)) (λ u. Unit {0})
 symbol_sound s ts q e = (accept_sound _ (sym_part s) (expect_told s) ts q e, tt)
 
+-- the tokens before a fault of a symbol begin one
 pub symbol_viable : (s : Symbol) → Viable (expect s) (One (sym_part s)) (λ u. Unit {0})
 symbol_viable s = accept_viable (λ t. required (is_symbol s t)) (sym_part s) (λ u. Unit {0}) (expect_stops s)
 
+-- the values of a row that is read is spelled so, and is lawful
 pub values_sound : (n : ℕ) → Sound (listed value (is_symbol Comma) (is_symbol Close) n) (separated comma (located_text value_text)) (AllByRecursion (λ v. FitsValue v.item))
 values_sound n = listed_sound value (located_text value_text) (λ v. FitsValue v.item) comma (is_symbol Comma) (is_symbol Close) (symbol_told Comma) value_sound n
 
+-- a row that is read is spelled so, and is lawful
 pub row_sound : (n : ℕ) → Sound (row n) row_text FitsRow
 unfolding row
 row_sound n ts q e =
@@ -176,6 +192,7 @@ row_sound n ts q e =
 some_bounds : (c : Bool) (x : Tokens) → SomeText comma bound_text FitsBound c x → (t : Placed) → IsPart (any (word_token Where)) t → TextOf bounds_text (AllByRecursion FitsBound) c (t ∷ x)
 some_bounds c x s t is = (s.0 ∷ s.1, s.2, (is, s.3))
 
+-- the tokens before a fault of the bounds of a row begin one
 pub bounds_viable : (n : ℕ) (ts : Tokens) (e : Fault × Tokens) → length ts < n → bounds n ts ≡ Err e → Stops (TextOf bounds_text (AllByRecursion FitsBound)) ts e
 unfolding bounds
 bounds_viable n ts e lt h =
@@ -189,18 +206,22 @@ bounds_viable n ts e lt h =
 abbrev close_tokens : Tokens
 close_tokens = record { token = symbol_token Close; place = start } ∷ record { token = symbol_token Semicolon; place = start } ∷ []
 
+-- the token that ends a row
 abbrev semicolon_tokens : Tokens
 semicolon_tokens = record { token = symbol_token Semicolon; place = start } ∷ []
 
+-- the parts of a row behind its values
 abbrev rest_of_row : List RawBound → List Part
 rest_of_row bs = bounds_text bs ++ any (symbol_token Semicolon) ∷ []
 
+-- the parts of a row, one after the other
 row_spelled : (vs : List (Located WrittenValue)) (bs : List RawBound) (h1 h2 h3 x : Tokens) → Spells (One (sym_part Open) tt) h1 → Spells (separated comma (located_text value_text) vs) h2 → Spells (One (sym_part Close) tt) h3 → Spells (rest_of_row bs) x → Spells (row_text (record { values = vs; bounds = bs })) (h1 ++ (h2 ++ (h3 ++ x)))
 row_spelled vs bs h1 h2 h3 x o v c r =
     spells_join (One (sym_part Open) tt) (separated comma (located_text value_text) vs ++ any (symbol_token Close) ∷ rest_of_row bs) h1 (h2 ++ (h3 ++ x)) o
     (spells_join (separated comma (located_text value_text) vs) (any (symbol_token Close) ∷ rest_of_row bs) h2 (h3 ++ x) v
     (spells_join (One (sym_part Close) tt) (rest_of_row bs) h3 x c r))
 
+-- the tokens before a fault of a row begin one
 pub row_viable : (n : ℕ) (ts : Tokens) (e : Fault × Tokens) → length ts < n → row n ts ≡ Err e → Stops (TextOf row_text FitsRow) ts e
 unfolding row
 row_viable n ts e lt h =

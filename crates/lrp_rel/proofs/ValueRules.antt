@@ -20,16 +20,20 @@ use Rattle.lrp_text.specs.Taking.{is_text, is_symbol, is_symbol_token, expect_wo
 use Rattle.lrp_text.proofs.Complete.{ReadsBack, back_as, Anything, IsNot, Sees, bind_back, then_back, pure_back, accept_back, accepts_back, eat_back, eat_none, look_back, first_sees_any, first_is_not, same_next}
 use Rattle.lrp_text.proofs.Sound.{Sound, bind_ok, accept_gives, accept_sound, eat_sound, eaten_parts, takes_join, look_ok}
 use Rattle.lrp_text.proofs.Viable.{Viable, One, accept_viable, sub_step, eat_step, look_step, spells_join, fits_as, always}
-use Rattle.lrp_text.proofs.Tests.{symbol_told, symbol_seen, word_expected, word_required, word_stops, number_part, number_told, number_fits, number_stops, number_tells, period_told, period_fits, period_stops, period_tells, IsPeriod, text_part, text_told, text_fits, text_stops, text_tells}
+use Rattle.lrp_text.specs.Taking.{IsPeriod}
+use Rattle.lrp_text.proofs.Tests.{symbol_told, symbol_seen, word_expected, word_required, word_stops, number_part, number_told, number_fits, number_stops, number_tells, period_told, period_fits, period_stops, period_tells, text_part, text_told, text_fits, text_stops, text_tells}
 use Rattle.lrp_text.proofs.LocatedRule.{Leads, located_back, located_sound, located_viable}
 use Rattle.lrp_rel.specs.Rules.{integer, numeric, bare_value, value}
 
+-- no plus comes next
 abbrev pub NoPlus : Tokens → Type 0
 NoPlus = IsNot (is_symbol Plus)
 
+-- the tokens of a number are read back
 pub number_back : (n : ℕ) (L : Type 0) → (L → n ≤ limit) → ReadsBack number (any (number_token n) ∷ []) n L Anything
 number_back n L f = accept_back (λ t. number_of t.token) (any (number_token n)) n L (λ t h. number_tells t n L f h)
 
+-- a number with or without a minus is read back
 signed_back : (negative : Bool) (n : ℕ) → ReadsBack integer (sign negative ++ any (number_token n) ∷ []) (record { negative = negative; size = n }) (n ≤ limit) Anything
 unfolding integer
 signed_back true n =
@@ -40,9 +44,11 @@ signed_back false n =
     (then_back _ (number_back n (n ≤ limit) (λ l. l)) (pure_back _ _ Anything))
     (λ ts left h g. first_is_not (is_symbol_token Minus) (number_token n) [] ts left refl h)
 
+-- the tokens of an integer are read back
 pub integer_back : (i : Integer) → ReadsBack integer (integer_text i) i (i.size ≤ limit) Anything
 integer_back i = signed_back i.negative i.size
 
+-- the tokens of an instant are read back
 pub instant_back : (i : Integer) → ReadsBack numeric (integer_text i) (Instant i) (i.size ≤ limit) NoPlus
 unfolding numeric
 instant_back i = record {
@@ -50,6 +56,7 @@ instant_back i = record {
       (bind_back _ {Q = []} (integer_back i) (bind_back _ {Q = []} (eat_none (is_symbol Plus) (i.size ≤ limit)) (pure_back (Instant i) (i.size ≤ limit) NoPlus) (same_next NoPlus)) (λ us vs e d. tt)).reads ts left (subst (λ x. Takes x ts left) (sym (append-nil (integer_text i))) h) g;
 }
 
+-- the tokens of a point are read back
 pub point_back : (i : Integer) (k : ℕ) → ReadsBack numeric (value_text (Point i k)) (Point i k) (FitsValue (Point i k)) NoPlus
 unfolding numeric
 point_back i k =
@@ -58,10 +65,12 @@ point_back i k =
     (then_back _ (accept_back (λ t. period_of t.token) (any (number_token k)) k (FitsValue (Point i k)) (λ t h. period_tells t k (FitsValue (Point i k)) (λ l. (l.1, l.2)) h))
     (then_back _ (accepts_back _ (any (word_token Letter)) tt (FitsValue (Point i k)) (word_required Letter)) (pure_back _ _ NoPlus))))
 
+-- an integer begins with no text
 no_quote : (negative : Bool) (n : ℕ) (ps : List Part) (ts left : Tokens) → Takes ((sign negative ++ any (number_token n) ∷ []) ++ ps) ts left → Sees false is_text false ts
 no_quote true n ps ts left h = first_sees_any false is_text_token (symbol_token Minus) (any (number_token n) ∷ ps) ts left h
 no_quote false n ps ts left h = first_sees_any false is_text_token (number_token n) ps ts left h
 
+-- the tokens of a value are read back
 pub bare_value_back : (k : WrittenValue) → ReadsBack bare_value (value_text k) k (FitsValue k) NoPlus
 unfolding bare_value
 bare_value_back (Constant t) =
@@ -75,22 +84,27 @@ bare_value_back (Point i k) =
     bind_back _ (look_back false is_text false (FitsValue (Point i k))) (point_back i k)
     (λ ts left h g. no_quote i.negative i.size _ ts left h)
 
+-- an integer begins with a token at any place
 sign_leads : (negative : Bool) (n : ℕ) (ps : List Part) → Leads ((sign negative ++ any (number_token n) ∷ []) ++ ps)
 sign_leads true n ps = tt
 sign_leads false n ps = tt
 
+-- a value begins with a token at any place
 pub bare_value_leads : (k : WrittenValue) → Leads (value_text k)
 bare_value_leads (Constant t) = tt
 bare_value_leads (Instant i) = subst Leads (append-nil (integer_text i)) (sign_leads i.negative i.size [])
 bare_value_leads (Point i k) = sign_leads i.negative i.size _
 
+-- the tokens of a value with its place are read back
 pub value_back : (v : Located WrittenValue) → ReadsBack value ((located_text value_text) v) v (FitsValue v.item) NoPlus
 value_back v = located_back bare_value value_text v (FitsValue v.item) NoPlus (bare_value_leads v.item) (bare_value_back v.item)
 
+-- a minus that was eaten is the sign
 eaten_sign : (b : Bool) → eaten_parts (any (symbol_token Minus)) b ≡ sign b
 eaten_sign true = refl
 eaten_sign false = refl
 
+-- an integer that is read is spelled so, and is lawful
 pub integer_sound : Sound integer integer_text (λ i. i.size ≤ limit)
 unfolding integer
 integer_sound ts q e =
@@ -102,6 +116,7 @@ integer_sound ts q e =
     let sized = accept_gives _ number_part (λ m. m ≤ limit) number_told number_fits a.0.1 n.0 n.1 in
     subst (λ y. Takes (integer_text y.0) ts y.1 × (y.0.size ≤ limit)) h (takes_join (sign a.0.0) (any (number_token n.0.0) ∷ []) ts a.0.1 n.0.1 signed sized.0, sized.1)
 
+-- behind an integer, with or without a period
 after_plus_sound : (i : Integer) (more : Bool) (ts us vs : Tokens) (q : WrittenValue × Tokens) → (if more then (period >>= (λ k. expect_word Letter >>= (λ u. pure (Point i k)))) else pure (Instant i)) vs ≡ Ok q → Takes (integer_text i) ts us → i.size ≤ limit → Takes (eaten_parts (any (symbol_token Plus)) more) us vs → Takes (value_text q.0) ts q.1 × FitsValue q.0
 after_plus_sound i false ts us vs q e one fit eaten =
     let h : (Instant i, vs) ≡ q = cc in
@@ -119,6 +134,7 @@ after_plus_sound i true ts us vs q e one fit eaten =
       (fit, counts.1.0, counts.1.1),
     )
 
+-- an instant or a point that is read is spelled so, and is lawful
 pub numeric_sound : Sound numeric value_text FitsValue
 unfolding numeric
 numeric_sound ts q e =
@@ -127,6 +143,7 @@ numeric_sound ts q e =
     let one = integer_sound ts i.0 i.1 in
     after_plus_sound i.0.0 m.0.0 ts i.0.1 m.0.1 q m.2 one.0 one.1 (eat_sound (is_symbol Plus) (any (symbol_token Plus)) (symbol_told Plus) i.0.1 m.0 m.1)
 
+-- a text, or an instant or a point
 quoted_sound : (quoted : Bool) → Sound (if quoted then (text >>= (λ t. pure (Constant t))) else numeric) value_text FitsValue
 quoted_sound false = numeric_sound
 quoted_sound true = λ ts q e.
@@ -135,27 +152,33 @@ quoted_sound true = λ ts q e.
     let k = accept_gives _ text_part (λ u. length u ≤ 255) text_told text_fits ts t.0 t.1 in
     subst (λ y. Takes (value_text y.0) ts y.1 × FitsValue y.0) h k
 
+-- a value that is read is spelled so, and is lawful
 pub bare_value_sound : Sound bare_value value_text FitsValue
 unfolding bare_value
 bare_value_sound ts q e =
     let s = bind_ok (look false is_text ts) _ q e in
     subst (λ x. Takes (value_text q.0) x q.1 × FitsValue q.0) (sym (look_ok false is_text ts s.0 s.1)) (quoted_sound s.0.0 s.0.1 q s.2)
 
+-- a value with its place that is read is spelled so, and is lawful
 pub value_sound : Sound value (located_text value_text) (λ v. FitsValue v.item)
 value_sound = located_sound bare_value value_text FitsValue bare_value_leads bare_value_sound
 
+-- the tokens before a fault of a number begin one
 pub number_viable : Viable number (One number_part) (λ n. n ≤ limit)
 number_viable = accept_viable (λ t. number_of t.token) number_part (λ n. n ≤ limit) number_stops
 
+-- a number that is read is spelled so, and is lawful
 pub number_sound : Sound number (One number_part) (λ n. n ≤ limit)
 number_sound = accept_gives (λ t. number_of t.token) number_part (λ n. n ≤ limit) number_told number_fits
 
+-- behind a sign stands a number
 after_sign : (negative : Bool) (head vs : Tokens) (e : Fault × Tokens) → Spells (sign negative) head → (number >>= (λ n. let i : Integer = record { negative = negative; size = n } in pure i)) vs ≡ Err e → Stops (λ c x. TextOf integer_text (λ i. i.size ≤ limit) c (head ++ x)) vs e
 after_sign negative head vs e signed h =
     sub_step number _ (One number_part) (λ n. n ≤ limit) (λ c x. TextOf integer_text (λ i. i.size ≤ limit) c (head ++ x)) vs e number_sound number_viable h
     (λ c n x spelled fit. ([], (record { negative = negative; size = n }, fit, spells_join (sign negative) (One number_part n) head (x ++ []) signed (spells_join (One number_part n) [] x [] spelled refl))))
     (λ n h2 us s2 f2 d2. absurd cc)
 
+-- the tokens before a fault of an integer begin one
 pub integer_viable : Viable integer integer_text (λ i. i.size ≤ limit)
 unfolding integer
 integer_viable ts e h =
@@ -163,18 +186,23 @@ integer_viable ts e h =
     (λ t vs told d. after_sign true (t ∷ []) vs e (symbol_told Minus t told, refl) d)
     (λ d. after_sign false [] ts e refl d)
 
+-- the part that a plus is
 abbrev plus_part : Part
 plus_part = any (symbol_token Plus)
 
+-- the part that the letter of a point is
 abbrev letter_part : Unit {0} → Part
 letter_part u = any (word_token Letter)
 
+-- that letter at the first place
 abbrev letter : Placed
 letter = record { token = word_token Letter; place = start }
 
+-- the parts of a point, one after the other
 point_spelled : (i : Integer) (k : ℕ) (head : Tokens) (t : Placed) (x y : Tokens) → Spells (integer_text i) head → IsPart plus_part t → Spells (One number_part k) x → Spells (One letter_part tt) y → Spells (value_text (Point i k)) (head ++ t ∷ (x ++ y))
 point_spelled i k head t x y one plus number letters = spells_join (integer_text i) (plus_part ∷ number_part k ∷ letter_part tt ∷ []) head (t ∷ (x ++ y)) one (plus, spells_join (One number_part k) (One letter_part tt) x y number letters)
 
+-- the tokens before a fault of an instant or a point begin one
 pub numeric_viable : Viable numeric value_text FitsValue
 unfolding numeric
 numeric_viable ts e h =
@@ -189,6 +217,7 @@ numeric_viable ts e h =
     (λ u h4 xs s4 f4 d4. absurd cc)))
     (λ d2. absurd cc))
 
+-- a text, or an instant or a point, stops where it says
 quoted_viable : (quoted : Bool) → Viable (if quoted then (text >>= (λ t. pure (Constant t))) else numeric) value_text FitsValue
 quoted_viable false = numeric_viable
 quoted_viable true = λ ts e h.
@@ -196,9 +225,11 @@ quoted_viable true = λ ts e h.
     (λ c t x spelled fit. ([], (Constant t, fit, subst (λ y. Spells (One text_part t) y) (sym (append-nil x)) spelled)))
     (λ t h2 us s2 f2 d2. absurd cc)
 
+-- the tokens before a fault of a value begin one
 pub bare_value_viable : Viable bare_value value_text FitsValue
 unfolding bare_value
 bare_value_viable ts e h = look_step false is_text _ (TextOf value_text FitsValue) ts e h (λ quoted seen d. quoted_viable quoted ts e d)
 
+-- the tokens before a fault of a value with its place begin one
 pub value_viable : Viable value (located_text value_text) (λ v. FitsValue v.item)
 value_viable = located_viable bare_value value_text FitsValue bare_value_leads bare_value_viable

@@ -62,9 +62,11 @@ pub record IsBoundOf (times : ℕ) (b : Bound) : Type 0 where
 abbrev pub times_in : List Column → ℕ
 times_in = count_by (λ c. is_time c.sort)
 
+-- how many of the columns are of data sorts
 abbrev pub texts_in : List Column → ℕ
 texts_in = count_by (λ c. is_data c.sort)
 
+-- a row of the columns
 pub record IsRowOf (columns : List Column) (row : Row) : Type 0 where
   pub values : AreValuesOf columns row.values
   pub bounds : AllByRecursion (IsBoundOf (times_in columns)) row.bounds

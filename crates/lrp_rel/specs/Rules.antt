@@ -16,7 +16,7 @@ use Rattle.lrp_model.specs.declared.written.Side.TheVariants.{Alone, Column, Shi
 use Rattle.lrp_model.specs.declared.written.RawBound.{RawBound}
 use Rattle.lrp_model.specs.declared.written.RawRow.{RawRow}
 use Rattle.lrp_model.specs.declared.written.RawRelation.{RawRelation}
-use Rattle.lrp_model.specs.Tokens.{Token}
+use Rattle.lrp_model.specs.Tokens.{Token, Tokens}
 use Rattle.lrp_model.specs.Tokens.Token.{symbol_token}
 use Rattle.lrp_text.specs.Parsers.{Parser, ◌>>=◌, ◌>>◌, pure, accept, look, eat, listed, separated_from, until_from}
 use Rattle.lrp_text.specs.Taking.{is_symbol, is_word, is_text, is_name, is_end, expect, expect_word, expect_end, name, number, period, text, located}
@@ -128,3 +128,8 @@ database n = do
   rs ← until_from (relation n) is_end n []
   expect_end
   pure rs
+
+-- nothing is left behind a database, and all from the fault on where it was refused
+abbrev pub left_behind : {A : Type 0} → Result A Fault → Tokens → Tokens
+left_behind (Ok a) ts = []
+left_behind (Err k) ts = ts

@@ -3,6 +3,12 @@
 
 mod laws;
 mod printing;
+mod reading;
+mod trees;
 
 pub use laws::database_texts_have_one_tree;
 pub use printing::write_relation;
+pub use trees::{ReadFault, read_tree};
+
+#[cfg(test)]
+mod tests;

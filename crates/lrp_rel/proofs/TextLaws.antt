@@ -1,0 +1,113 @@
+-- The tree of a text, and the fault of one that has none, each at most once.
+use Rattle.std.proofs.Common.{◌≡◌, ◌<◌, ◌≤◌, ◌+◌, ◌^◌, ℕ, suc, true, false, List, [], ◌∷◌, ◌++◌, refl, ap, ◌∙◌, sym, subst, Ok, Err, Result, IfOk, IfErr, IsErr, length, take, take_all, get_or, add-one, arith}
+use Rattle.std.proofs.Math.Seq.{take-suc}
+use Rattle.std.specs.Str.{IsUtf8, IsValidUpTo}
+use Rattle.lrp_model.specs.declared.tokens.Place.{Place}
+use Rattle.lrp_model.specs.declared.tokens.Fault.{Fault as TokenFault}
+use Rattle.lrp_model.specs.declared.tokens.Fault.TheVariants.{Syntax as syntax, Number as number, TextTooLong as text_too_long, Period as period, Deep, Memory as memory}
+use Rattle.lrp_model.specs.declared.faults.DbFault.{DbFault}
+use Rattle.lrp_model.specs.declared.faults.DbKind.{DbKind}
+use Rattle.lrp_model.specs.declared.faults.DbKind.TheVariants.{Utf8, Syntax, Number, Period, TextTooLong, Name, Arity, Sort, Column, Wide}
+use Rattle.lrp_model.specs.declared.written.RawRelation.{RawRelation}
+use Rattle.lrp_model.specs.Tokens.{Placed, Tokens, Spells}
+use Rattle.lrp_model.specs.Lexing.{tokens, after, moved}
+use Rattle.lrp_model.specs.Databases.{database_text, FitsDatabase}
+use Rattle.lrp_model.specs.Refused.{TextOf, IsRefusedAt}
+use Rattle.lrp_model.specs.DatabaseReading.{IsDatabaseText, IsNoUtf8, IsNoDatabaseText}
+use Rattle.lrp_text.specs.Parsers.{Reads}
+use Rattle.lrp_text.specs.Sources.{Stands}
+use Rattle.lrp_text.specs.declared.lexemes.Lexeme.{Lexeme}
+use Rattle.lrp_rel.specs.declared.trees.ReadFault.{ReadFault}
+use Rattle.lrp_rel.specs.declared.trees.ReadFault.TheVariants.{Fault, Memory}
+use Rattle.lrp_rel.specs.Rules.{database}
+use Rattle.lrp_rel.specs.Reading.{IsTextFault, IsTextFaultOf, IsUnread, IsOrMemory, refusal_of}
+use Rattle.lrp_rel.proofs.DatabaseRules.{database_sound, database_refused, one_tree}
+use Rattle.lrp_rel.proofs.Shallow.{database_shallow}
+
+-- what was read is the tree of the text
+pub tree_read : (bytes : List ℕ) (ts : Tokens) (tree : List RawRelation) → ts ≡ tokens bytes → IsUtf8 bytes → ((n : ℕ) → length ts < n → database n ts ≡ Ok (tree, [])) → IsDatabaseText bytes tree
+tree_read bytes ts tree e utf8 reads =
+    let n = suc (length ts) in
+    let k = database_sound n ts (tree, []) (reads n (omega arith)) in
+    record { utf8 = utf8; spelled = subst (Spells (database_text tree)) e k.0; lawful = k.1 }
+
+-- no text is refused for depth
+pub never_deep : (ts us : Tokens) (k : TokenFault) → ((n : ℕ) → length ts < n → Reads {A = List RawRelation} (database n ts) (Err k) us) → k ≡ Deep → ⊥
+never_deep ts us k reads e =
+    let P : TokenFault → Type 0 = λ j. (n : ℕ) → length ts < n → Reads {A = List RawRelation} (database n ts) (Err j) us in
+    let at_depth = subst P e reads in
+    database_shallow (suc (length ts)) ts us (at_depth (suc (length ts)) (omega arith))
+
+-- the text is refused at the token that stands there
+refused_there : (bytes : List ℕ) (us : Tokens) (k : TokenFault) (l : Lexeme) (slice : List ℕ) (place : Place) → IsUtf8 bytes → Stands us l slice place → ((n : ℕ) → length (tokens bytes) < n → database n (tokens bytes) ≡ Err (k, us)) → IsNoDatabaseText bytes k place
+refused_there bytes us k l slice place utf8 s reads =
+    let bad : Placed = record { token = s.token; place = place } in
+    record {
+      utf8 = utf8;
+      bad = bad;
+      tail = s.left;
+      refused = database_refused (tokens bytes) k bad s.left (λ n lt. reads n lt ∙ ap (λ x. Err (k, x)) s.whole);
+      place_is = refl;
+    }
+
+-- what was met while a text was read is its fault
+refused_as : (bytes : List ℕ) (us : Tokens) (k : TokenFault) (l : Lexeme) (slice : List ℕ) (place : Place) → IsUtf8 bytes → Stands us l slice place → ((n : ℕ) → length (tokens bytes) < n → Reads {A = List RawRelation} (database n (tokens bytes)) (Err k) us) → IsUnread bytes (refusal_of k place)
+refused_as bytes us memory l slice place utf8 s reads = tt
+refused_as bytes us Deep l slice place utf8 s reads = tt
+refused_as bytes us syntax l slice place utf8 s reads = refused_there bytes us syntax l slice place utf8 s reads
+refused_as bytes us number l slice place utf8 s reads = refused_there bytes us number l slice place utf8 s reads
+refused_as bytes us text_too_long l slice place utf8 s reads = refused_there bytes us text_too_long l slice place utf8 s reads
+refused_as bytes us period l slice place utf8 s reads = refused_there bytes us period l slice place utf8 s reads
+
+-- the same of tokens that are those of the bytes
+pub text_refused : (bytes : List ℕ) (ts us : Tokens) (k : TokenFault) (l : Lexeme) (slice : List ℕ) (place : Place) → ts ≡ tokens bytes → IsUtf8 bytes → Stands us l slice place → ((n : ℕ) → length ts < n → Reads {A = List RawRelation} (database n ts) (Err k) us) → IsUnread bytes (refusal_of k place)
+text_refused bytes ts us k l slice place e utf8 s reads =
+    let P : Tokens → Type 0 = λ xs. (n : ℕ) → length xs < n → Reads {A = List RawRelation} (database n xs) (Err k) us in
+    refused_as bytes us k l slice place utf8 s (subst P e reads)
+
+-- a text of the grammar is refused nowhere
+not_refused : (bytes : List ℕ) (tree : List RawRelation) (k : TokenFault) (place : Place) → IsDatabaseText bytes tree → IsNoDatabaseText bytes k place → ⊥
+not_refused bytes tree k place t r = r.refused.first r.tail (tree, t.lawful, subst (Spells (database_text tree)) r.refused.whole t.spelled)
+
+-- bytes are UTF-8, or the longest front that is ends before them
+not_cut : (bytes : List ℕ) (place : Place) → IsUtf8 bytes → IsNoUtf8 bytes place → ⊥
+not_cut bytes place utf8 c = c.longest.longest (length bytes) c.longest.short (subst IsUtf8 (sym (take_all (length bytes) bytes (omega arith))) utf8)
+
+-- a text of the grammar has no fault of the bytes or of the grammar
+no_fault : (bytes : List ℕ) (tree : List RawRelation) (k : DbKind) (f : DbFault) → IsDatabaseText bytes tree → IsTextFaultOf bytes k f → ⊥
+no_fault bytes tree Utf8 f t r = not_cut bytes f.place t.utf8 r
+no_fault bytes tree Syntax f t r = not_refused bytes tree syntax f.place t r
+no_fault bytes tree Number f t r = not_refused bytes tree number f.place t r
+no_fault bytes tree TextTooLong f t r = not_refused bytes tree text_too_long f.place t r
+no_fault bytes tree Period f t r = not_refused bytes tree period f.place t r
+no_fault bytes tree Name f t r = r
+no_fault bytes tree Arity f t r = r
+no_fault bytes tree Sort f t r = r
+no_fault bytes tree Column f t r = r
+no_fault bytes tree Wide f t r = r
+
+-- each text of the grammar is read
+pub every_tree : (bytes : List ℕ) (r : Result (List RawRelation) ReadFault) → IfOk r (IsDatabaseText bytes) → IfErr r (IsUnread bytes) → (tree : List RawRelation) → IsDatabaseText bytes tree → IsOrMemory tree r
+every_tree bytes (Ok other) ok err tree t = one_tree other tree (tokens bytes) ok.lawful ok.spelled t.spelled
+every_tree bytes (Err Memory) ok err tree t = tt
+every_tree bytes (Err (Fault f)) ok err tree t = no_fault bytes tree f.kind f t err
+
+-- no text with a fault is read
+pub every_fault : (bytes : List ℕ) (r : Result (List RawRelation) ReadFault) → IfOk r (IsDatabaseText bytes) → (f : DbFault) → IsTextFault bytes f → IsErr r
+every_fault bytes (Ok tree) ok f t = absurd (no_fault bytes tree f.kind f ok t)
+every_fault bytes (Err e) ok f t = refl
+
+-- the place behind one more byte
+after_one : (p : Place) (bs : List ℕ) (b : ℕ) → after p (bs ++ b ∷ []) ≡ moved (after p bs) b
+unfolding after
+after_one p [] b = refl
+after_one p (a ∷ bs) b = after_one (moved p a) bs b
+
+-- the place behind one more byte of a list
+pub after_more : (p : Place) (bs : List ℕ) (i : ℕ) (d : ℕ) → i < length bs → after p (take (i + 1) bs) ≡ moved (after p (take i bs)) (get_or bs i d)
+after_more p bs i d lt = rw (add-one, take-suc bs i d lt) (after_one p (take i bs) (get_or bs i d))
+
+-- the place behind no bytes
+pub after_none : (p : Place) → after p [] ≡ p
+unfolding after
+after_none p = refl

@@ -1,0 +1,48 @@
+-- What reading the tree of a database's text means.
+use Rattle.std.specs.Prelude.{◌≡◌, ℕ, List, Result, Ok, Err}
+use Rattle.lrp_model.specs.declared.tokens.Fault.{Fault as TokenFault}
+use Rattle.lrp_model.specs.declared.tokens.Fault.TheVariants.{Syntax as syntax, Number as number, TextTooLong as text_too_long, Period as period, Deep, Memory as memory}
+use Rattle.lrp_model.specs.declared.tokens.Place.{Place}
+use Rattle.lrp_model.specs.declared.faults.DbFault.{DbFault}
+use Rattle.lrp_model.specs.declared.faults.DbKind.{DbKind}
+use Rattle.lrp_model.specs.declared.faults.DbKind.TheVariants.{Utf8, Syntax, Number, Period, TextTooLong, Name, Arity, Sort, Column, Wide}
+use Rattle.lrp_model.specs.DatabaseReading.{IsNoUtf8, IsNoDatabaseText}
+use Rattle.lrp_rel.specs.declared.trees.ReadFault.{ReadFault}
+use Rattle.lrp_rel.specs.declared.trees.ReadFault.TheVariants.{Fault, Memory}
+
+-- a fault of the bytes, or one of the grammar
+abbrev pub IsTextFaultOf : List ℕ → DbKind → DbFault → Type 0
+IsTextFaultOf bytes Utf8 f = IsNoUtf8 bytes f.place
+IsTextFaultOf bytes Syntax f = IsNoDatabaseText bytes syntax f.place
+IsTextFaultOf bytes Number f = IsNoDatabaseText bytes number f.place
+IsTextFaultOf bytes TextTooLong f = IsNoDatabaseText bytes text_too_long f.place
+IsTextFaultOf bytes Period f = IsNoDatabaseText bytes period f.place
+IsTextFaultOf bytes Name f = ⊥
+IsTextFaultOf bytes Arity f = ⊥
+IsTextFaultOf bytes Sort f = ⊥
+IsTextFaultOf bytes Column f = ⊥
+IsTextFaultOf bytes Wide f = ⊥
+
+-- the same by its own kind
+abbrev pub IsTextFault : List ℕ → DbFault → Type 0
+IsTextFault bytes f = IsTextFaultOf bytes f.kind f
+
+-- why there is no tree: a fault of the text, or want of memory
+abbrev pub IsUnread : List ℕ → ReadFault → Type 0
+IsUnread bytes (Fault f) = IsTextFault bytes f
+IsUnread bytes Memory = Unit {0}
+
+-- this value, unless memory ran out
+abbrev pub IsOrMemory : {A : Type 0} → A → Result A ReadFault → Type 0
+IsOrMemory a (Ok b) = b ≡ a
+IsOrMemory a (Err Memory) = Unit {0}
+IsOrMemory a (Err (Fault f)) = ⊥
+
+-- the fault of a text, from the kind that was met at a place
+abbrev pub refusal_of : TokenFault → Place → ReadFault
+refusal_of syntax p = Fault (record { kind = Syntax; place = p })
+refusal_of number p = Fault (record { kind = Number; place = p })
+refusal_of text_too_long p = Fault (record { kind = TextTooLong; place = p })
+refusal_of period p = Fault (record { kind = Period; place = p })
+refusal_of Deep p = Memory
+refusal_of memory p = Memory

@@ -1,0 +1,274 @@
+// The tree of a database's text, read from its tokens.
+ghost use Rattle.std.specs.Prelude.{◌≡◌, ◌<◌, ◌≤◌, ℕ, length, IfOk, []};
+ghost use Rattle.lrp_text.specs.Parsers.{Reads, accept, separated_from, listed, until_from};
+ghost use Rattle.lrp_text.specs.Taking.{is_symbol, is_end, located};
+ghost use Rattle.lrp_rel.specs.Rules.{label, integer, numeric, bare_value, value, named_side, side, op_of, bound, bounds, row, relation, database, left_behind};
+
+use lrp_model::{
+    BoundOp, Fault, Integer, List, Located, Name, RawBound, RawRelation, RawRow, Side, Symbol,
+    Word, WrittenValue,
+};
+use lrp_text::{Cursor, columns};
+use std::alloc::Global;
+
+#[tactic(auto, unfolding(crate::specs::Rules::label))]
+fn read_label(alloc: Global, tokens: &mut Cursor<'_>) -> Result<Located<Name>, Fault>
+    ensures value { Reads (label tokens.old) result tokens.new }
+    ensures fewer { IfOk result (λ _. length tokens.new < length tokens.old) }
+{
+    let (item, place) = tokens.name(alloc)?;
+    Ok(Located { place, item })
+}
+
+#[tactic(auto, unfolding(crate::specs::Rules::integer))]
+fn read_integer(tokens: &mut Cursor<'_>) -> Result<Integer, Fault>
+    ensures value { Reads (integer tokens.old) result tokens.new }
+    ensures fewer { IfOk result (λ _. length tokens.new < length tokens.old) }
+{
+    let negative = tokens.eat(Symbol::Minus);
+    let size = tokens.number()?;
+    Ok(Integer { negative, size })
+}
+
+#[tactic(auto, unfolding(crate::specs::Rules::numeric))]
+fn read_numeric(tokens: &mut Cursor<'_>) -> Result<WrittenValue, Fault>
+    ensures value { Reads (numeric tokens.old) result tokens.new }
+    ensures fewer { IfOk result (λ _. length tokens.new < length tokens.old) }
+{
+    let at = read_integer(tokens)?;
+    if !tokens.eat(Symbol::Plus) {
+        return Ok(WrittenValue::Instant { at });
+    }
+    let period = tokens.period()?;
+    tokens.expect_word(Word::Letter)?;
+    Ok(WrittenValue::Point { at, period })
+}
+
+#[tactic(auto, unfolding(crate::specs::Rules::bare_value))]
+fn read_bare_value(alloc: Global, tokens: &mut Cursor<'_>) -> Result<WrittenValue, Fault>
+    ensures value { Reads (bare_value tokens.old) result tokens.new }
+    ensures fewer { IfOk result (λ _. length tokens.new < length tokens.old) }
+{
+    if tokens.sees_text() {
+        let text = tokens.text(alloc)?;
+        Ok(WrittenValue::Constant { text })
+    } else {
+        read_numeric(tokens)
+    }
+}
+
+fn read_value(alloc: Global, tokens: &mut Cursor<'_>) -> Result<Located<WrittenValue>, Fault>
+    ensures value { Reads (value tokens.old) result tokens.new }
+    ensures fewer { IfOk result (λ _. length tokens.new < length tokens.old) }
+{
+    let place = tokens.place();
+    let item = read_bare_value(alloc, tokens)?;
+    Ok(Located { place, item })
+}
+
+#[tactic(auto, unfolding(crate::specs::Rules::named_side))]
+fn read_named_side(alloc: Global, tokens: &mut Cursor<'_>) -> Result<Side, Fault>
+    ensures value { Reads (named_side tokens.old) result tokens.new }
+    ensures fewer { IfOk result (λ _. length tokens.new < length tokens.old) }
+{
+    let name = read_label(alloc, tokens)?;
+    if tokens.eat(Symbol::Plus) {
+        let by = tokens.number()?;
+        return Ok(Side::Shifted {
+            name,
+            down: false,
+            by,
+        });
+    }
+    if tokens.eat(Symbol::Minus) {
+        let by = tokens.number()?;
+        return Ok(Side::Shifted {
+            name,
+            down: true,
+            by,
+        });
+    }
+    Ok(Side::Column { name })
+}
+
+#[tactic(auto, unfolding(crate::specs::Rules::side))]
+fn read_side(alloc: Global, tokens: &mut Cursor<'_>) -> Result<Side, Fault>
+    ensures value { Reads (side tokens.old) result tokens.new }
+    ensures fewer { IfOk result (λ _. length tokens.new < length tokens.old) }
+{
+    if tokens.sees_name() {
+        read_named_side(alloc, tokens)
+    } else {
+        let value = read_integer(tokens)?;
+        Ok(Side::Alone { value })
+    }
+}
+
+// The comparison of a bound.
+fn read_op(tokens: &mut Cursor<'_>) -> Result<BoundOp, Fault>
+    ensures value { Reads (accept (λ t. op_of t.token) tokens.old) result tokens.new }
+    ensures fewer { IfOk result (λ _. length tokens.new < length tokens.old) }
+{
+    if tokens.eat(Symbol::Le) {
+        return Ok(BoundOp::AtMost);
+    }
+    if tokens.eat(Symbol::Ge) {
+        return Ok(BoundOp::AtLeast);
+    }
+    if tokens.eat(Symbol::Equals) {
+        return Ok(BoundOp::Equal);
+    }
+    Err(Fault::Syntax)
+}
+
+#[tactic(auto, unfolding(crate::specs::Rules::bound))]
+fn read_bound(alloc: Global, tokens: &mut Cursor<'_>) -> Result<RawBound, Fault>
+    ensures value { Reads (bound tokens.old) result tokens.new }
+    ensures fewer { IfOk result (λ _. length tokens.new < length tokens.old) }
+{
+    let left = read_label(alloc, tokens)?;
+    let op = read_op(tokens)?;
+    let side = read_side(alloc, tokens)?;
+    Ok(RawBound { left, op, side })
+}
+
+// One value or more, with commas between.
+fn read_some_values(
+    alloc: Global,
+    tokens: &mut Cursor<'_>,
+) -> Result<List<Located<WrittenValue>>, Fault>
+    ensures value { (n : ℕ) → length tokens.old < n → Reads (separated_from value (is_symbol Symbol.Comma) n [] tokens.old) result tokens.new }
+    ensures shorter { IfOk result (λ _. length tokens.new ≤ length tokens.old) }
+{
+    let mut found = List::new(alloc);
+    loop {
+        let value = read_value(alloc, tokens)?;
+        found.push(value)?;
+        if !tokens.eat(Symbol::Comma) {
+            return Ok(found);
+        }
+    }
+}
+
+// The values of a row, up to the parenthesis that ends them.
+#[tactic(auto, unfolding(lrp_text::specs::Parsers::listed))]
+fn read_values(alloc: Global, tokens: &mut Cursor<'_>) -> Result<List<Located<WrittenValue>>, Fault>
+    ensures value { (n : ℕ) → length tokens.old < n → Reads (listed value (is_symbol Symbol.Comma) (is_symbol Symbol.Close) n tokens.old) result tokens.new }
+    ensures shorter { IfOk result (λ _. length tokens.new ≤ length tokens.old) }
+{
+    if tokens.sees(Symbol::Close) {
+        return Ok(List::new(alloc));
+    }
+    read_some_values(alloc, tokens)
+}
+
+// One bound or more, with commas between.
+fn read_some_bounds(alloc: Global, tokens: &mut Cursor<'_>) -> Result<List<RawBound>, Fault>
+    ensures value { (n : ℕ) → length tokens.old < n → Reads (separated_from bound (is_symbol Symbol.Comma) n [] tokens.old) result tokens.new }
+    ensures shorter { IfOk result (λ _. length tokens.new ≤ length tokens.old) }
+{
+    let mut found = List::new(alloc);
+    loop {
+        let bound = read_bound(alloc, tokens)?;
+        found.push(bound)?;
+        if !tokens.eat(Symbol::Comma) {
+            return Ok(found);
+        }
+    }
+}
+
+// The bounds of a row, if there are any.
+#[tactic(auto, unfolding(crate::specs::Rules::bounds))]
+fn read_bounds(alloc: Global, tokens: &mut Cursor<'_>) -> Result<List<RawBound>, Fault>
+    ensures value { (n : ℕ) → length tokens.old < n → Reads (bounds n tokens.old) result tokens.new }
+    ensures shorter { IfOk result (λ _. length tokens.new ≤ length tokens.old) }
+{
+    if !tokens.eat_word(Word::Where) {
+        return Ok(List::new(alloc));
+    }
+    read_some_bounds(alloc, tokens)
+}
+
+#[tactic(auto, unfolding(crate::specs::Rules::row))]
+fn read_row(alloc: Global, tokens: &mut Cursor<'_>) -> Result<RawRow, Fault>
+    ensures value { (n : ℕ) → length tokens.old < n → Reads (row n tokens.old) result tokens.new }
+    ensures fewer { IfOk result (λ _. length tokens.new < length tokens.old) }
+{
+    tokens.expect(Symbol::Open)?;
+    let values = read_values(alloc, tokens)?;
+    tokens.expect(Symbol::Close)?;
+    let bounds = read_bounds(alloc, tokens)?;
+    tokens.expect(Symbol::Semicolon)?;
+    Ok(RawRow { values, bounds })
+}
+
+fn read_placed_row(alloc: Global, tokens: &mut Cursor<'_>) -> Result<Located<RawRow>, Fault>
+    ensures value { (n : ℕ) → length tokens.old < n → Reads (located (row n) tokens.old) result tokens.new }
+    ensures fewer { IfOk result (λ _. length tokens.new < length tokens.old) }
+{
+    let place = tokens.place();
+    let item = read_row(alloc, tokens)?;
+    Ok(Located { place, item })
+}
+
+// The rows of a relation, up to the brace that ends them.
+fn read_rows(alloc: Global, tokens: &mut Cursor<'_>) -> Result<List<Located<RawRow>>, Fault>
+    ensures value { (n : ℕ) → length tokens.old < n → Reads (until_from (located (row n)) (is_symbol Symbol.CloseBrace) n [] tokens.old) result tokens.new }
+    ensures shorter { IfOk result (λ _. length tokens.new ≤ length tokens.old) }
+{
+    let mut found = List::new(alloc);
+    'rows: loop {
+        if tokens.sees(Symbol::CloseBrace) {
+            return Ok(found);
+        }
+        let row = read_placed_row(alloc, tokens)?;
+        found.push(row)?;
+    }
+}
+
+#[tactic(auto, unfolding(crate::specs::Rules::relation))]
+fn read_relation(alloc: Global, tokens: &mut Cursor<'_>) -> Result<RawRelation, Fault>
+    ensures value { (n : ℕ) → length tokens.old < n → Reads (relation n tokens.old) result tokens.new }
+    ensures fewer { IfOk result (λ _. length tokens.new < length tokens.old) }
+{
+    tokens.expect_word(Word::Relation)?;
+    let name = read_label(alloc, tokens)?;
+    tokens.expect(Symbol::Open)?;
+    let columns = columns(alloc, tokens, Symbol::Close)?;
+    tokens.expect(Symbol::Close)?;
+    tokens.expect(Symbol::OpenBrace)?;
+    let rows = read_rows(alloc, tokens)?;
+    tokens.expect(Symbol::CloseBrace)?;
+    Ok(RawRelation {
+        name,
+        columns,
+        rows,
+    })
+}
+
+// The relations of a database, up to the end.
+fn read_relations(alloc: Global, tokens: &mut Cursor<'_>) -> Result<List<RawRelation>, Fault>
+    ensures { (n : ℕ) → length tokens.old < n → Reads (until_from (relation n) is_end n [] tokens.old) result tokens.new }
+{
+    let mut found = List::new(alloc);
+    'relations: loop {
+        if tokens.sees_end() {
+            return Ok(found);
+        }
+        let relation = read_relation(alloc, tokens)?;
+        found.push(relation)?;
+    }
+}
+
+// The relations, and the end behind them.
+#[tactic(auto, unfolding(crate::specs::Rules::database))]
+pub fn read_relations_to_end(
+    alloc: Global,
+    tokens: &mut Cursor<'_>,
+) -> Result<List<RawRelation>, Fault>
+    ensures { (n : ℕ) → length tokens.old < n → Reads (database n tokens.old) result (left_behind result tokens.new) }
+{
+    let relations = read_relations(alloc, tokens)?;
+    tokens.expect_end()?;
+    Ok(relations)
+}

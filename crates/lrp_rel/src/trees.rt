@@ -1,0 +1,117 @@
+// The tree of a database's text, read from its bytes, or the fault of the bytes or of the grammar.
+ghost use Rattle.std.specs.Prelude.{◌≡◌, ◌≢◌, ◌≤◌, List as ListOf, ◌<◌, ◌+◌, length, IfOk, IfErr, IsErr};
+ghost use Rattle.lrp_model.specs.declared.faults.DbFault.{DbFault as FaultOf};
+ghost use Rattle.lrp_model.specs.declared.written.RawRelation.{RawRelation as Tree};
+ghost use Rattle.lrp_model.specs.Lexing.{after, moved, start};
+ghost use Rattle.lrp_model.specs.DatabaseReading.{IsDatabaseText};
+ghost use Rattle.lrp_rel.specs.Reading.{refusal_of, IsTextFault, IsUnread, IsOrMemory};
+
+use crate::reading::read_relations_to_end;
+use lrp_model::{DbFault, DbKind, Fault, List, Place, RawRelation};
+use lrp_text::Cursor;
+use std::alloc::Global;
+use std::str::from_utf8;
+
+/// Why no database is read: the one fault of its text, or want of memory.
+#[derive(Clone, Copy, Debug, PartialEq, Eq)]
+pub enum ReadFault {
+    Fault { fault: DbFault },
+    Memory,
+}
+
+// The place behind one more byte.
+fn moved_by(place: Place, byte: u8) -> Place
+    requires room { place.line < 16777217 }
+    requires width { place.column < 16777217 }
+    ensures place { result ≡ moved place byte }
+    ensures line { result.line ≤ place.line + 1 }
+    ensures column { result.column ≤ place.column + 1 }
+{
+    if byte == b'\n' {
+        Place {
+            line: place.line + 1,
+            column: 1,
+        }
+    } else {
+        Place {
+            line: place.line,
+            column: place.column + 1,
+        }
+    }
+}
+
+// The place behind some bytes.
+fn place_behind(bytes: &[u8]) -> Place
+    requires { length bytes.now ≤ 16777216 }
+    ensures { result ≡ after start bytes.now }
+{
+    let mut place = Place { line: 1, column: 1 };
+    for byte in bytes {
+        place = moved_by(place, *byte);
+    }
+    place
+}
+
+// The fault of a text, from what was met at a place.
+fn refusal(kind: Fault, place: Place) -> ReadFault
+    requires { kind ≢ Fault.Deep }
+    ensures { result ≡ refusal_of kind place }
+{
+    let kind = match kind {
+        Fault::Syntax => DbKind::Syntax,
+        Fault::Number => DbKind::Number,
+        Fault::TextTooLong => DbKind::TextTooLong,
+        Fault::Period => DbKind::Period,
+        Fault::Deep => unreachable!(),
+        Fault::Memory => return ReadFault::Memory,
+    };
+    ReadFault::Fault {
+        fault: DbFault { kind, place },
+    }
+}
+
+// The tree of a text.
+fn read_text(alloc: Global, text: &str) -> Result<List<RawRelation>, ReadFault>
+    requires { length text.now ≤ 16777216 }
+    ensures tree { IfOk result (IsDatabaseText text.now) }
+    ensures refused { IfErr result (IsUnread text.now) }
+{
+    let mut tokens = Cursor::new(text);
+    match read_relations_to_end(alloc, &mut tokens) {
+        Ok(tree) => Ok(tree),
+        Err(fault) => Err(refusal(fault, tokens.peek().place)),
+    }
+}
+
+// The tree of bytes, where they are UTF-8 and a text of the grammar.
+fn read_bytes(alloc: Global, bytes: &[u8]) -> Result<List<RawRelation>, ReadFault>
+    requires { length bytes.now ≤ 16777216 }
+    ensures tree { IfOk result (IsDatabaseText bytes.now) }
+    ensures refused { IfErr result (IsUnread bytes.now) }
+{
+    match from_utf8(bytes) {
+        Ok(text) => read_text(alloc, text),
+        Err(error) => {
+            let place = place_behind(&bytes[..error.valid_up_to()]);
+            Err(ReadFault::Fault {
+                fault: DbFault {
+                    kind: DbKind::Utf8,
+                    place,
+                },
+            })
+        }
+    }
+}
+
+/// The tree of a database's text of at most 16,777,216 bytes. Its faults are those of the bytes and of the grammar.
+pub fn read_tree(alloc: Global, bytes: &[u8]) -> Result<List<RawRelation>, ReadFault>
+    requires { length bytes.now ≤ 16777216 }
+    ensures tree { IfOk result (IsDatabaseText bytes.now) }
+    ensures refused { IfErr result (IsUnread bytes.now) }
+
+    // Each text of the grammar is read, and none that has a fault.
+    ensures every_tree { (tree : ListOf Tree) → IsDatabaseText bytes.now tree → IsOrMemory tree result }
+    ensures every_fault { (fault : FaultOf) → IsTextFault bytes.now fault → IsErr result }
+{
+    read_bytes(alloc, bytes)
+}
