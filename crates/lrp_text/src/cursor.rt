@@ -27,7 +27,7 @@ impl<'a> Model for Cursor<'a> {
 }
 
 impl<'a> Cursor<'a> {
-    ghost use Rattle.std.specs.Prelude.{◌≡◌, ◌≤◌, ◌<◌, ◌∷◌, true, false, length, Ok, IfOk};
+    ghost use Rattle.std.specs.Prelude.{◌≡◌, ◌≢◌, ◌≤◌, ◌<◌, ◌∷◌, true, false, length, Ok, Err, IfOk};
     ghost use Rattle.lrp_model.specs.Tokens.{Placed};
     ghost use Rattle.lrp_model.specs.Lexing.{tokens, limit};
     ghost use Rattle.lrp_text.specs.Parsers.{Reads, look, eat};
@@ -144,6 +144,7 @@ impl<'a> Cursor<'a> {
         ensures value { Reads (expect symbol self.old) result self.new }
         ensures shorter { length self.new ≤ length self.old }
         ensures fewer { IfOk result (λ _. length self.new < length self.old) }
+        ensures takes_no_memory { result ≢ Err Fault.Memory }
     {
         if self.eat(symbol) {
             Ok(())
@@ -157,6 +158,7 @@ impl<'a> Cursor<'a> {
         ensures value { Reads (expect_word word self.old) result self.new }
         ensures shorter { length self.new ≤ length self.old }
         ensures fewer { IfOk result (λ _. length self.new < length self.old) }
+        ensures takes_no_memory { result ≢ Err Fault.Memory }
     {
         if self.eat_word(word) {
             Ok(())
@@ -170,6 +172,7 @@ impl<'a> Cursor<'a> {
         ensures value { Reads (number self.old) result self.new }
         ensures shorter { length self.new ≤ length self.old }
         ensures fewer { IfOk result (λ _. length self.new < length self.old) }
+        ensures takes_no_memory { result ≢ Err Fault.Memory }
         ensures fits { IfOk result (λ n. n ≤ limit) }
     {
         let number = self.peek().lexeme.number()?;
@@ -182,6 +185,7 @@ impl<'a> Cursor<'a> {
         ensures value { Reads (period self.old) result self.new }
         ensures shorter { length self.new ≤ length self.old }
         ensures fewer { IfOk result (λ _. length self.new < length self.old) }
+        ensures takes_no_memory { result ≢ Err Fault.Memory }
         ensures fits { IfOk result IsPeriod }
     {
         let period = self.peek().lexeme.period()?;
@@ -223,7 +227,8 @@ impl<'a> Cursor<'a> {
 
     /// Refuses what stands before the end, behind which nothing is left.
     pub fn expect_end(&self) -> Result<(), Fault>
-        ensures { Reads (expect_end self.now) result (behind_end result self.now) }
+        ensures value { Reads (expect_end self.now) result (behind_end result self.now) }
+        ensures takes_no_memory { result ≢ Err Fault.Memory }
     {
         if self.peek().lexeme.is_end() {
             Ok(())

@@ -1,5 +1,5 @@
 // What a slice of the source says.
-ghost use Rattle.std.specs.Prelude.{◌≡◌};
+ghost use Rattle.std.specs.Prelude.{◌≡◌, ◌≢◌, Err};
 ghost use Rattle.lrp_text.specs.Lexemes.{shows_symbol, shows_word, shows_name, shows_text, shows_end, shown_number, shown_period};
 ghost use Rattle.lrp_text.specs.Stream.{kind_of};
 
@@ -83,7 +83,8 @@ impl Lexeme {
 
     // The number that it is.
     pub fn number(self) -> Result<u64, Fault>
-        ensures { result ≡ shown_number self }
+        ensures value { result ≡ shown_number self }
+        ensures takes_no_memory { result ≢ Err Fault.Memory }
     {
         match self {
             Lexeme::Number(number) => Ok(number),
@@ -94,7 +95,8 @@ impl Lexeme {
 
     // The period that it is.
     pub fn period(self) -> Result<u64, Fault>
-        ensures { result ≡ shown_period self }
+        ensures value { result ≡ shown_period self }
+        ensures takes_no_memory { result ≢ Err Fault.Memory }
     {
         match self {
             Lexeme::Number(0) => Err(Fault::Period),
