@@ -1,3 +1,4 @@
+-- Lemmas on texts and on sorted numbers.
 pub mod FormLemmas
 pub mod RowLines
 pub mod Sorting

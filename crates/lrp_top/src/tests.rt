@@ -21,20 +21,20 @@ fn shelf_of(alloc: Global, database: &str, query: &str, failing: &[u32]) -> Resu
     Ok(MemShelf::new(files, List::from_vec(failing.to_vec(alloc)?)))
 }
 
-// The words of a command.
-fn words_of(alloc: Global, words: &[&str]) -> Result<Vec<String>, Fail> {
-    let mut owned = Vec::new(alloc);
-    for word in words {
-        owned.push(String::from_str(alloc, word)?)?;
+// The words of a command, one behind each blank.
+fn words_of(alloc: Global, command: &str) -> Result<Vec<String>, Fail> {
+    let mut words = Vec::new(alloc);
+    for word in command.split(' ') {
+        words.push(String::from_str(alloc, word)?)?;
     }
-    Ok(owned)
+    Ok(words)
 }
 
 const BUS: &str = "relation bus(t: time) { (5+60n); }\n";
 
 const DEPARTURES: &str = "{ t: time | bus(t) }\n";
 
-const ASK: [&str; 3] = ["ask", "db=d", "query=q"];
+const ASK: &str = "ask db=d query=q";
 
 #[test]
 fn queries_are_answered(rt: HostRuntime) -> Result<(), Fail> {
@@ -60,7 +60,7 @@ fn queries_are_answered(rt: HostRuntime) -> Result<(), Fail> {
     for (database, query, want) in table {
         let mut shelf = shelf_of(alloc, database, query, &[])?;
         let mut out = MemSink::new(alloc, List::new(alloc), usize::MAX)?;
-        let words = words_of(alloc, &ASK)?;
+        let words = words_of(alloc, ASK)?;
         let status = run(alloc, words.as_slice(), &mut shelf, &mut out);
         assert_eq!(rt; status, Status::Done, "{database}");
         assert_eq!(rt; out.written(), want.as_bytes());
@@ -72,9 +72,9 @@ fn queries_are_answered(rt: HostRuntime) -> Result<(), Fail> {
 fn other_words_and_files_are_unbuilt(rt: HostRuntime) -> Result<(), Fail> {
     let alloc = rt.alloc();
     let table = [
-        (["decide", "db=d", "query=q"], BUS, DEPARTURES),
-        (["ask", "db=", "query=q"], BUS, DEPARTURES),
-        (["ask", "db=d", "query="], BUS, DEPARTURES),
+        ("decide db=d query=q", BUS, DEPARTURES),
+        ("ask db= query=q", BUS, DEPARTURES),
+        ("ask db=d query=", BUS, DEPARTURES),
         (
             ASK,
             "relation bus(t: time) { (5+60n); (5+30n); }",
@@ -100,7 +100,7 @@ fn other_words_and_files_are_unbuilt(rt: HostRuntime) -> Result<(), Fail> {
     for (words, database, query) in table {
         let mut shelf = shelf_of(alloc, database, query, &[])?;
         let mut out = MemSink::new(alloc, List::new(alloc), 4)?;
-        let words = words_of(alloc, &words)?;
+        let words = words_of(alloc, words)?;
         let status = run(alloc, words.as_slice(), &mut shelf, &mut out);
         assert_eq!(rt; status, Status::Unbuilt, "{database} {query}");
         assert_eq!(rt; out.written(), b"refused: unbuilt\n".as_slice());
@@ -115,7 +115,7 @@ fn failed_reads_name_their_file(rt: HostRuntime) -> Result<(), Fail> {
     for call in 1..7 {
         let mut shelf = shelf_of(alloc, BUS, DEPARTURES, &[call])?;
         let mut out = MemSink::new(alloc, List::new(alloc), 4)?;
-        let words = words_of(alloc, &ASK)?;
+        let words = words_of(alloc, ASK)?;
         let status = run(alloc, words.as_slice(), &mut shelf, &mut out);
         assert_eq!(rt; status, Status::Read, "call {call}");
         let want = if call < 4 {
@@ -126,13 +126,13 @@ fn failed_reads_name_their_file(rt: HostRuntime) -> Result<(), Fail> {
         assert_eq!(rt; out.written(), want);
     }
     let missing = [
-        (["ask", "db=x", "query=q"], "refused: read of database\n"),
-        (["ask", "db=d", "query=x"], "refused: read of query\n"),
+        ("ask db=x query=q", "refused: read of database\n"),
+        ("ask db=d query=x", "refused: read of query\n"),
     ];
     for (words, want) in missing {
         let mut shelf = shelf_of(alloc, BUS, DEPARTURES, &[])?;
         let mut out = MemSink::new(alloc, List::new(alloc), 4)?;
-        let words = words_of(alloc, &words)?;
+        let words = words_of(alloc, words)?;
         let status = run(alloc, words.as_slice(), &mut shelf, &mut out);
         assert_eq!(rt; status, Status::Read);
         assert_eq!(rt; out.written(), want.as_bytes());
@@ -155,7 +155,7 @@ fn stopped_sinks_hold_a_front(rt: HostRuntime) -> Result<(), Fail> {
         for room in 0..45 {
             let mut shelf = shelf_of(alloc, database, DEPARTURES, &[])?;
             let mut out = MemSink::stop_after(alloc, room, 4)?;
-            let words = words_of(alloc, &ASK)?;
+            let words = words_of(alloc, ASK)?;
             let ended = run(alloc, words.as_slice(), &mut shelf, &mut out);
             let want = if room < text.len() {
                 Status::Write

@@ -1,3 +1,4 @@
+-- What the loop over the rows keeps.
 use Rattle.std.proofs.Common.{◌≡◌, ◌++◌, drop}
 use Rattle.std.specs.List.{flat_map}
 use Rattle.lrp_top.specs.ThinAnswers.{row_line, first_line}

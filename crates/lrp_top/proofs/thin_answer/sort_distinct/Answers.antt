@@ -1,3 +1,4 @@
+-- A sorted list without doubles ascends, and has the same numbers.
 use Rattle.lrp_top.proofs.Sorting.{ascending, kept, same}
 use Rattle.lrp_top.proofs.thin_answer.sort_distinct.Goals as goal
 

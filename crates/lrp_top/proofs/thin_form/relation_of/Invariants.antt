@@ -1,3 +1,4 @@
+-- The rows come to an end.
 use Rattle.std.proofs.Common.{length}
 use Rattle.lrp_top.proofs.thin_form.relation_of.Given as goal
 
