@@ -10,3 +10,4 @@ pub mod Ops
 pub mod Steps
 pub mod Shallow
 pub mod TextLaws
+pub mod OneFault

@@ -1,8 +1,7 @@
 -- The comparison of a bound, where each of its symbols is tried in turn.
-use Rattle.std.proofs.Common.{◌≡◌, Bool, true, false, List, [], ◌∷◌, refl, ap, ◌∙◌, sym, subst, Ok, Err}
+use Rattle.std.proofs.Common.{◌≡◌, Bool, true, false, [], ◌∷◌, refl, ap, ◌∙◌, sym, subst, Ok, Err}
 use Rattle.lrp_model.specs.declared.tokens.Symbol.{Symbol}
 use Rattle.lrp_model.specs.declared.tokens.Symbol.TheVariants.{Le, Ge, Equals}
-use Rattle.lrp_model.specs.declared.tokens.Fault.{Fault}
 use Rattle.lrp_model.specs.declared.tokens.Fault.TheVariants.{Syntax}
 use Rattle.lrp_model.specs.declared.written.BoundOp.{BoundOp}
 use Rattle.lrp_model.specs.Tokens.{Token, Placed, Tokens}

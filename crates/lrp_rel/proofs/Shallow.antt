@@ -1,5 +1,5 @@
 -- No rule of databases refuses for depth.
-use Rattle.std.proofs.Common.{◌≡◌, ℕ, zero, suc, Bool, true, false, List, [], ◌∷◌, ◌++◌, refl, ap, sym, subst, inl, inr, Ok, Err, Result, if◌then◌else◌, nat_le, length, ◌==◌}
+use Rattle.std.proofs.Common.{◌≡◌, ℕ, zero, suc, Bool, true, false, List, [], ◌∷◌, ◌++◌, ap, sym, subst, inl, inr, Ok, Err, Result, if◌then◌else◌, nat_le, length, ◌==◌}
 use Rattle.lrp_model.specs.declared.tokens.Symbol.TheVariants.{Open, Close, OpenBrace, CloseBrace, Comma, Colon, Semicolon, Plus, Minus, Le, Ge, Equals}
 use Rattle.lrp_model.specs.declared.tokens.Word.TheVariants.{Relation, Where, Time, Data, Letter}
 use Rattle.lrp_model.specs.declared.tokens.Place.{Place}

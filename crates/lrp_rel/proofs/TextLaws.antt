@@ -1,7 +1,7 @@
 -- The tree of a text, and the fault of one that has none, each at most once.
-use Rattle.std.proofs.Common.{◌≡◌, ◌<◌, ◌≤◌, ◌+◌, ◌^◌, ℕ, suc, true, false, List, [], ◌∷◌, ◌++◌, refl, ap, ◌∙◌, sym, subst, Ok, Err, Result, IfOk, IfErr, IsErr, length, take, take_all, get_or, add-one, arith}
+use Rattle.std.proofs.Common.{◌≡◌, ◌<◌, ◌+◌, ℕ, suc, List, [], ◌∷◌, ◌++◌, refl, ap, ◌∙◌, sym, subst, Ok, Err, Result, IfOk, IfErr, length, take, take_all, get_or, add-one, arith}
 use Rattle.std.proofs.Math.Seq.{take-suc}
-use Rattle.std.specs.Str.{IsUtf8, IsValidUpTo}
+use Rattle.std.specs.Str.{IsUtf8}
 use Rattle.lrp_model.specs.declared.tokens.Place.{Place}
 use Rattle.lrp_model.specs.declared.tokens.Fault.{Fault as TokenFault}
 use Rattle.lrp_model.specs.declared.tokens.Fault.TheVariants.{Syntax as syntax, Number as number, TextTooLong as text_too_long, Period as period, Deep, Memory as memory}
@@ -11,8 +11,7 @@ use Rattle.lrp_model.specs.declared.faults.DbKind.TheVariants.{Utf8, Syntax, Num
 use Rattle.lrp_model.specs.declared.written.RawRelation.{RawRelation}
 use Rattle.lrp_model.specs.Tokens.{Placed, Tokens, Spells}
 use Rattle.lrp_model.specs.Lexing.{tokens, after, moved}
-use Rattle.lrp_model.specs.Databases.{database_text, FitsDatabase}
-use Rattle.lrp_model.specs.Refused.{TextOf, IsRefusedAt}
+use Rattle.lrp_model.specs.Databases.{database_text}
 use Rattle.lrp_model.specs.DatabaseReading.{IsDatabaseText, IsNoUtf8, IsNoDatabaseText}
 use Rattle.lrp_text.specs.Parsers.{Reads}
 use Rattle.lrp_text.specs.Sources.{Stands}
@@ -20,7 +19,7 @@ use Rattle.lrp_text.specs.declared.lexemes.Lexeme.{Lexeme}
 use Rattle.lrp_rel.specs.declared.trees.ReadFault.{ReadFault}
 use Rattle.lrp_rel.specs.declared.trees.ReadFault.TheVariants.{Fault, Memory}
 use Rattle.lrp_rel.specs.Rules.{database}
-use Rattle.lrp_rel.specs.Reading.{IsTextFault, IsTextFaultOf, IsUnread, IsOrMemory, refusal_of}
+use Rattle.lrp_rel.specs.Reading.{IsTextFaultOf, IsUnread, IsOrMemory, refusal_of}
 use Rattle.lrp_rel.proofs.DatabaseRules.{database_sound, database_refused, one_tree}
 use Rattle.lrp_rel.proofs.Shallow.{database_shallow}
 
@@ -70,11 +69,11 @@ not_refused : (bytes : List ℕ) (tree : List RawRelation) (k : TokenFault) (pla
 not_refused bytes tree k place t r = r.refused.first r.tail (tree, t.lawful, subst (Spells (database_text tree)) r.refused.whole t.spelled)
 
 -- bytes are UTF-8, or the longest front that is ends before them
-not_cut : (bytes : List ℕ) (place : Place) → IsUtf8 bytes → IsNoUtf8 bytes place → ⊥
+pub not_cut : (bytes : List ℕ) (place : Place) → IsUtf8 bytes → IsNoUtf8 bytes place → ⊥
 not_cut bytes place utf8 c = c.longest.longest (length bytes) c.longest.short (subst IsUtf8 (sym (take_all (length bytes) bytes (omega arith))) utf8)
 
 -- a text of the grammar has no fault of the bytes or of the grammar
-no_fault : (bytes : List ℕ) (tree : List RawRelation) (k : DbKind) (f : DbFault) → IsDatabaseText bytes tree → IsTextFaultOf bytes k f → ⊥
+pub no_fault : (bytes : List ℕ) (tree : List RawRelation) (k : DbKind) (f : DbFault) → IsDatabaseText bytes tree → IsTextFaultOf bytes k f → ⊥
 no_fault bytes tree Utf8 f t r = not_cut bytes f.place t.utf8 r
 no_fault bytes tree Syntax f t r = not_refused bytes tree syntax f.place t r
 no_fault bytes tree Number f t r = not_refused bytes tree number f.place t r
@@ -91,11 +90,6 @@ pub every_tree : (bytes : List ℕ) (r : Result (List RawRelation) ReadFault) �
 every_tree bytes (Ok other) ok err tree t = one_tree other tree (tokens bytes) ok.lawful ok.spelled t.spelled
 every_tree bytes (Err Memory) ok err tree t = tt
 every_tree bytes (Err (Fault f)) ok err tree t = no_fault bytes tree f.kind f t err
-
--- no text with a fault is read
-pub every_fault : (bytes : List ℕ) (r : Result (List RawRelation) ReadFault) → IfOk r (IsDatabaseText bytes) → (f : DbFault) → IsTextFault bytes f → IsErr r
-every_fault bytes (Ok tree) ok f t = absurd (no_fault bytes tree f.kind f ok t)
-every_fault bytes (Err e) ok f t = refl
 
 -- the place behind one more byte
 after_one : (p : Place) (bs : List ℕ) (b : ℕ) → after p (bs ++ b ∷ []) ≡ moved (after p bs) b

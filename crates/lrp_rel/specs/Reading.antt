@@ -38,6 +38,12 @@ IsOrMemory a (Ok b) = b ≡ a
 IsOrMemory a (Err Memory) = Unit {0}
 IsOrMemory a (Err (Fault f)) = ⊥
 
+-- this fault, unless memory ran out
+abbrev pub IsFaultOrMemory : {A : Type 0} → DbFault → Result A ReadFault → Type 0
+IsFaultOrMemory f (Ok a) = ⊥
+IsFaultOrMemory f (Err Memory) = Unit {0}
+IsFaultOrMemory f (Err (Fault g)) = g ≡ f
+
 -- the fault of a text, from the kind that was met at a place
 abbrev pub refusal_of : TokenFault → Place → ReadFault
 refusal_of syntax p = Fault (record { kind = Syntax; place = p })

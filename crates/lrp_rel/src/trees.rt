@@ -1,10 +1,10 @@
 // The tree of a database's text, read from its bytes, or the fault of the bytes or of the grammar.
-ghost use Rattle.std.specs.Prelude.{◌≡◌, ◌≢◌, ◌≤◌, List as ListOf, ◌<◌, ◌+◌, length, IfOk, IfErr, IsErr};
+ghost use Rattle.std.specs.Prelude.{◌≡◌, ◌≢◌, ◌≤◌, List as ListOf, ◌<◌, ◌+◌, length, IfOk, IfErr};
 ghost use Rattle.lrp_model.specs.declared.faults.DbFault.{DbFault as FaultOf};
 ghost use Rattle.lrp_model.specs.declared.written.RawRelation.{RawRelation as Tree};
 ghost use Rattle.lrp_model.specs.Lexing.{after, moved, start};
 ghost use Rattle.lrp_model.specs.DatabaseReading.{IsDatabaseText};
-ghost use Rattle.lrp_rel.specs.Reading.{refusal_of, IsTextFault, IsUnread, IsOrMemory};
+ghost use Rattle.lrp_rel.specs.Reading.{refusal_of, IsTextFault, IsUnread, IsOrMemory, IsFaultOrMemory};
 
 use crate::reading::read_relations_to_end;
 use lrp_model::{DbFault, DbKind, Fault, List, Place, RawRelation};
@@ -109,9 +109,9 @@ pub fn read_tree(alloc: Global, bytes: &[u8]) -> Result<List<RawRelation>, ReadF
     ensures tree { IfOk result (IsDatabaseText bytes.now) }
     ensures refused { IfErr result (IsUnread bytes.now) }
 
-    // Each text of the grammar is read, and none that has a fault.
+    // Each text of the grammar is read, and each other one is refused for its one fault.
     ensures every_tree { (tree : ListOf Tree) → IsDatabaseText bytes.now tree → IsOrMemory tree result }
-    ensures every_fault { (fault : FaultOf) → IsTextFault bytes.now fault → IsErr result }
+    ensures every_fault { (fault : FaultOf) → IsTextFault bytes.now fault → IsFaultOrMemory fault result }
 {
     read_bytes(alloc, bytes)
 }

@@ -1,5 +1,5 @@
 use Rattle.std.proofs.Common.{◌≡◌, ◌<◌, ◌≤◌, ℕ, [], length}
-use Rattle.lrp_text.specs.Parsers.{look, until_from}
+use Rattle.lrp_text.specs.Parsers.{until_from}
 use Rattle.lrp_text.specs.Taking.{is_end}
 use Rattle.lrp_rel.specs.Rules.{relation}
 use Rattle.lrp_rel.proofs.reading.read_relations.Given as goal

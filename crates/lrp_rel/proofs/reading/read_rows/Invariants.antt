@@ -1,6 +1,6 @@
 use Rattle.std.proofs.Common.{◌≡◌, ◌<◌, ◌≤◌, ℕ, [], length}
 use Rattle.lrp_model.specs.declared.tokens.Symbol.TheVariants.{CloseBrace}
-use Rattle.lrp_text.specs.Parsers.{look, until_from}
+use Rattle.lrp_text.specs.Parsers.{until_from}
 use Rattle.lrp_text.specs.Taking.{is_symbol, located}
 use Rattle.lrp_rel.specs.Rules.{row}
 use Rattle.lrp_rel.proofs.reading.read_rows.Given as goal
