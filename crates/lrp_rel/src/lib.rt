@@ -7,7 +7,7 @@ mod reading;
 mod trees;
 
 pub use laws::database_texts_have_one_tree;
-pub use printing::write_relation;
+pub use printing::{write_database, write_relation};
 pub use trees::{ReadFault, read_tree};
 
 #[cfg(test)]

@@ -6,7 +6,7 @@ ghost use Rattle.std.specs.Int.{int_rem_euclid};
 ghost use Rattle.lrp_io.specs.Causes.{HasCause};
 ghost use Rattle.lrp_io.specs.Pieces.{IsWritten};
 ghost use Rattle.lrp_model.specs.Sorts.{is_time as is_time_sort};
-ghost use Rattle.lrp_model.specs.Printed.{column_bytes, sort_bytes, quoted, escaped, point_bytes, value_bytes, time_name, offset_bytes, bound_bytes, bounds_bytes, row_line, relation_bytes, joined_by};
+ghost use Rattle.lrp_model.specs.Printed.{column_bytes, sort_bytes, quoted, escaped, point_bytes, value_bytes, time_name, offset_bytes, bound_bytes, bounds_bytes, row_line, relation_bytes, database_bytes, joined_by};
 ghost use Rattle.lrp_model.specs.Lexing.{limit};
 ghost use Rattle.lrp_rel.specs.Kept.{HasPeriod, IsKept, IsWritable};
 
@@ -397,4 +397,16 @@ pub fn write_relation<S: Sink>(out: &mut S, relation: &Relation) -> Result<(), F
     write_bytes(out, b") {\n")?;
     write_rows(out, relation.columns.as_slice(), relation.rows.as_slice())?;
     write_bytes(out, b"}\n")
+}
+
+/// Writes relations, one after the other.
+pub fn write_database<S: Sink>(out: &mut S, relations: &[Relation]) -> Result<(), Failed>
+    requires { AllByRecursion IsKept relations.now }
+    ensures text { IsWritten (S.written out.old) (S.written out.new) (database_bytes relations.now) result }
+    ensures cause { HasCause (S.faults out.old) (S.faults out.new) result }
+{
+    for relation in relations {
+        write_relation(out, relation)?;
+    }
+    Ok(())
 }
