@@ -1,14 +1,20 @@
 -- How the parts of a set that calls add to a store come together.
-use Rattle.std.proofs.Common.{◌≡◌, ◌≢◌, ℕ, ◌+◌, ◌<◌, ◌≤◌, inl, inr, ◌⊎◌, List, [], ◌∷◌, ◌++◌, length, take, Option, Some, None, refl, sym, ap, subst, ◌∙◌, arith, Contains}
-use Rattle.std.specs.Prelude.{ℤ, pos}
+use Rattle.std.proofs.Common.{◌≡◌, ◌≢◌, ℕ, ◌+◌, ◌<◌, ◌≤◌, inl, inr, ◌⊎◌, List, [], ◌∷◌, ◌++◌, length, take, Option, Some, None, Result, Ok, Err, OnOk, OnErr, ◌↔◌, refl, sym, ap, subst, ◌∙◌, arith, Contains}
+use Rattle.std.specs.Prelude.{ℤ, pos, ◌-ℤ◌}
+use Rattle.std.proofs.lemmas.Bool.{cases_lt}
+use Rattle.std.proofs.lemmas.List.{length-take-le}
+use Rattle.lrp_theory.specs.Divides.{Divides}
+use Rattle.lrp_theory.specs.Entries.{node}
 use Rattle.std.specs.FinMap as finite
 use Rattle.std.specs.FinMap.{get, len}
 use Rattle.std.proofs.lemmas.List.Elements.{Contains-append_left, Contains-push, Contains-push_cases}
 use Rattle.lrp_model.specs.declared.tuples.Cell.{Cell}
 use Rattle.lrp_zone.specs.Zones.{ZoneView, IsZone, IsMember, greatest_of}
-use Rattle.lrp_store.specs.Stores.{StoreView, IsStore, IsCellOf, InStore, IsInhabited, LiesIn, zone_of, tables_at}
-use Rattle.lrp_store.specs.Growing.{IsGrown, IsWhole, HasOneMore}
-use Rattle.lrp_store.proofs.Held.{Table, list_put, len_added}
+use Rattle.lrp_store.specs.Stores.{StoreView, IsStore, IsCellOf, IsPadded, InStore, IsInhabited, LiesIn, zone_of, tables_at}
+use Rattle.lrp_store.specs.Growing.{IsGrown, IsWhole, HasOneMore, IsRefused}
+use Rattle.lrp_store.specs.declared.store.StoreFault.{StoreFault}
+use Rattle.lrp_store.specs.declared.store.StoreFault.TheVariants.{TooManyCells}
+use Rattle.lrp_store.proofs.Held.{Table, node_take, list_put, len_added, cell_of}
 
 -- a set of tuples of times and numbers of texts
 abbrev pub Set : Type 1
@@ -16,12 +22,13 @@ Set = List ℤ → List ℕ → Type 0
 
 module _ (cap reach : ℕ) where
   -- nothing was added
-  pub grown_same : (set : Set) (s : StoreView) → IsGrown set cap reach s s
-  grown_same set s = record { shape = refl; period = refl; kept = λ xs ns h. h; sound = λ xs ns h. inl h; few = λ h. h; reach = λ c t h. inl h }
+  pub grown_same : (set : Set) (s : StoreView) → IsStore s → IsGrown set cap reach s s
+  grown_same set s is = record { valid = is; shape = refl; period = refl; kept = λ xs ns h. h; sound = λ xs ns h. inl h; few = λ h. h; reach = λ c t h. inl h }
 
   -- then a part of the set was added
   pub grown_on : (p q : Set) (s t u : StoreView) → ((xs : List ℤ) (ns : List ℕ) → p xs ns → q xs ns) → IsGrown q cap reach s t → IsGrown p cap reach t u → IsGrown q cap reach s u
   grown_on p q s t u f g h = record {
+    valid = h.valid;
     shape = h.shape ∙ g.shape;
     period = h.period ∙ g.period;
     kept = λ xs ns i. h.kept xs ns (g.kept xs ns i);
@@ -33,6 +40,7 @@ module _ (cap reach : ℕ) where
 -- zones of a lesser reach were added
 pub grown_within : (cap low high : ℕ) (set : Set) (s t : StoreView) → low ≤ high → IsGrown set cap low s t → IsGrown set cap high s t
 grown_within cap low high set s t le g = record {
+  valid = g.valid;
   shape = g.shape;
   period = g.period;
   kept = g.kept;
@@ -82,8 +90,9 @@ module _ (s : StoreView) (is : IsStore s) (c : Cell) (z : ZoneView) (zone : IsZo
   holds_new xs m = record { cell = c; table = z.bounds; held = held_here; named = refl; inside = subst (λ w. IsMember w xs) (sym is_seen) m }
 
   -- and where they are of a set, a part of that set was added
-  pub grown_by : (cap reach : ℕ) (set : Set) → ((xs : List ℤ) → IsMember z xs → set xs (take s.shape.texts c.texts)) → (get s.tables c ≡ None → len s.tables < cap) → greatest_of z.bounds ≤ reach → IsGrown set cap reach s grown
-  grown_by cap reach set f room low = record {
+  pub grown_by : (cap reach : ℕ) (set : Set) → ((xs : List ℤ) → IsMember z xs → set xs (take s.shape.texts c.texts)) → (get s.tables c ≡ None → len s.tables < cap) → greatest_of z.bounds ≤ reach → IsStore grown → IsGrown set cap reach s grown
+  grown_by cap reach set f room low valid = record {
+    valid = valid;
     shape = refl;
     period = refl;
     kept = λ xs ns h. record { cell = h.cell; table = h.table; held = held_before h.cell h.table h.held; named = h.named; inside = h.inside };
@@ -97,3 +106,67 @@ module _ (s : StoreView) (is : IsStore s) (c : Cell) (z : ZoneView) (zone : IsZo
     where
       member : (xs : List ℤ) (q : Cell) (t : Table) → q ≡ c → z.bounds ≡ t → IsMember (zone_of s q t) xs → IsMember z xs
       member xs q t e f m = subst (λ w. IsMember w xs) (ap (λ d. zone_of s d t) e ∙ ap (zone_of s c) (sym f) ∙ is_seen) m
+
+  -- and the set inhabits the cell
+  pub inhabited_by : (set : Set) → ((xs : List ℤ) → IsMember z xs → set xs (take s.shape.texts c.texts)) → IsInhabited s.shape s.period set c
+  inhabited_by set f = record {
+    proper = proper;
+    times = zone.some.member;
+    texts = take s.shape.texts c.texts;
+    is = f zone.some.member zone.some.is;
+    inside = record {
+      count = zone.some.is.cell.count ∙ columns;
+      residues = λ i low.
+          let e : length z.residues ≡ s.shape.times = columns in
+          subst (λ r. Divides (pos s.period) (node zone.some.member i -ℤ r)) (ap (λ rs. node rs i) residues ∙ node_take s.shape.times c.residues i low)
+          (subst (λ k. Divides (pos k) (node zone.some.member i -ℤ node z.residues i)) period (zone.some.is.cell.each i (omega arith)));
+      named = refl;
+    };
+  }
+    where
+      columns : length z.residues ≡ s.shape.times
+      columns = ap length residues ∙ length-take-le s.shape.times c.residues (let t : s.shape.times ≤ 8 = is.times in let l : length c.residues ≡ 8 = proper.residues.size in omega arith)
+
+-- the number of spare slots alone changed
+grown_spare : (set : Set) (cap high : ℕ) (s : StoreView) (n : ℕ) → IsStore (record s { spare = n }) → IsGrown set cap high s (record s { spare = n })
+grown_spare set cap high s n valid = record {
+  valid = valid;
+  shape = refl;
+  period = refl;
+  kept = λ xs ns h. record { cell = h.cell; table = h.table; held = h.held; named = h.named; inside = h.inside };
+  sound = λ xs ns h. inl (record { cell = h.cell; table = h.table; held = h.held; named = h.named; inside = h.inside });
+  few = λ h. h;
+  reach = λ c t h. inl h;
+}
+
+-- what a call that adds one zone of a set gives
+module _ {T : Type 0} (s : StoreView) (is : IsStore s) (c : Cell) (z : ZoneView) (zone : IsZone z) (period : z.period ≡ s.period) (residues : z.residues ≡ take s.shape.times c.residues) (texts : IsPadded 0 s.shape.texts c.texts) (times : IsPadded (pos 0) s.shape.times c.residues)
+    (cap high : ℕ) (set : Set) (of : (xs : List ℤ) → IsMember z xs → set xs (take s.shape.texts c.texts)) (low : greatest_of z.bounds ≤ high)
+    (new : StoreView) (valid : IsStore new) (rest : new ≡ record s { tables = new.tables; spare = new.spare }) (r : Result T StoreFault) (exact : (r ≡ Err TooManyCells) ↔ ((get s.tables c ≡ None) × (cap ≤ len s.tables))) where
+  proper : IsCellOf s.shape s.period c
+  proper = cell_of s is c z zone period residues texts times
+
+  pub added : OnOk r (new.tables ≡ finite.insert s.tables c (tables_at s c ++ z.bounds ∷ [])) → OnOk r (IsGrown set cap high s new × ((xs : List ℤ) → IsMember z xs → InStore new xs (take s.shape.texts c.texts)))
+  added ok = by_result r refl ok
+    where
+      is_new : new.tables ≡ finite.insert s.tables c (tables_at s c ++ z.bounds ∷ []) → grown s is c z zone period residues proper new.spare ≡ new
+      is_new e = ap (λ m. record s { tables = m; spare = new.spare }) (sym e) ∙ sym rest
+
+      not_err : (x : T) → r ≡ Ok x → r ≡ Err TooManyCells → ⊥
+      not_err x e f = cc
+
+      by_result : (o : Result T StoreFault) → r ≡ o → OnOk o (new.tables ≡ finite.insert s.tables c (tables_at s c ++ z.bounds ∷ [])) → OnOk o (IsGrown set cap high s new × ((xs : List ℤ) → IsMember z xs → InStore new xs (take s.shape.texts c.texts)))
+      by_result (Ok x) e h = (
+        subst (λ v. IsGrown set cap high s v) (is_new h) (grown_by s is c z zone period residues proper new.spare cap high set of (λ none. elim (cases_lt (len s.tables) cap) [ inl less ↦ less | inr more ↦ absurd (not_err x e (exact.1 (none, more))) ]) low (subst (λ v. IsStore v) (sym (is_new h)) valid)),
+        λ xs m. subst (λ v. InStore v xs (take s.shape.texts c.texts)) (is_new h) (holds_new s is c z zone period residues proper new.spare xs m),
+      )
+      by_result (Err x) e h = tt
+
+  pub refused : OnErr r (new.tables ≡ s.tables) → r ≡ Err TooManyCells → IsRefused set cap high s new
+  refused err e =
+      let same : record s { spare = new.spare } ≡ new = ap (λ m. record s { tables = m; spare = new.spare }) (sym (subst (λ o. OnErr o (new.tables ≡ s.tables)) e err)) ∙ sym rest in
+      let full = exact.0 e in
+      subst (λ v. IsRefused set cap high s v) same (record {
+        grown = grown_spare set cap high s new.spare (subst (λ v. IsStore v) (sym same) valid);
+        more = record { cell = c; inhabited = inhabited_by s is c z zone period residues proper new.spare set of; apart = full.0; full = full.1 };
+      })

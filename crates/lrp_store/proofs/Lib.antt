@@ -2,3 +2,6 @@ pub mod Counted
 pub mod Grown
 pub mod Held
 pub mod Listed
+pub mod Ranges
+pub mod Splitting
+pub mod Aligning

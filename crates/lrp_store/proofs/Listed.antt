@@ -1,7 +1,7 @@
 -- A list of bounds that was made of a table stands for that table.
 use Rattle.std.proofs.Common.{◌≡◌, ◌≢◌, ℕ, zero, suc, ◌+◌, ◌*◌, ◌<◌, ◌≤◌, inl, inr, ◌⊎◌, List, [], ◌∷◌, ◌++◌, length, take, map, Option, Some, None, Bool, true, false, cond, eqb, refl, sym, ap, subst, ◌∙◌, arith, get_or, to_z, of_z, ◌/◌, ◌%◌}
 use Rattle.std.proofs.lemmas.Int.{ints}
-use Rattle.std.specs.Prelude.{ℤ, ◌^◌, ◌-◌, ◌≤ℤ◌, ◌-ℤ◌, neg_ℤ, pos, slice_index_or, is_some, count_by}
+use Rattle.std.specs.Prelude.{ℤ, nat_abs, ◌^◌, ◌-◌, ◌≤ℤ◌, ◌-ℤ◌, neg_ℤ, pos, slice_index_or, is_some, count_by}
 use Rattle.std.specs.Int.{w64}
 use Rattle.std.specs.List.{range_with_len}
 use Rattle.std.proofs.lemmas.Bool.{eqb-true, eqb-false, cases_lt}
@@ -237,3 +237,6 @@ word_bound a h = within a h.0 h.1
 pub tight_is_small : (k w : ℤ) (e f : Option ℤ) → f ≡ e → IsTight k w e → AtMost (2 ^ 62) f
 tight_is_small k w None f same h = subst (λ y. AtMost (2 ^ 62) y) (sym same) tt
 tight_is_small k w (Some a) f same h = subst (λ y. AtMost (2 ^ 62) y) (sym same) h.1
+
+pub word_abs : (a : ℤ) → pos 1 ≤ℤ a → a ≤ℤ pos (2 ^ 62) → nat_abs (to_z w64 (of_z w64 a)) ≡ nat_abs a
+word_abs a low high = omega (arith, ints)

@@ -4,11 +4,12 @@ use Rattle.std.specs.FinMap as finite
 use Rattle.lrp_model.specs.Cells.{Many}
 use Rattle.lrp_model.specs.declared.tuples.Cell.{Cell}
 use Rattle.lrp_model.specs.declared.tuples.Shape.{Shape}
-use Rattle.lrp_zone.specs.Zones.{greatest_of}
-use Rattle.lrp_store.specs.Stores.{StoreView, InStore, IsInhabited, tables_at}
+use Rattle.lrp_zone.specs.Zones.{ZoneView, IsMember, greatest_of}
+use Rattle.lrp_store.specs.Stores.{StoreView, IsStore, InStore, IsInhabited, tables_at}
 
--- new has what old has, and besides only tuples of the set, in zones of at most this reach; it has not more than cap cells where old had not
+-- new is a store that has what old has, and besides only tuples of the set, in zones of at most this reach; it has not more than cap cells where old had not
 pub record IsGrown (set : List ℤ → List ℕ → Type 0) (cap high : ℕ) (old new : StoreView) : Type 0 where
+  pub valid : IsStore new
   pub shape : new.shape ≡ old.shape
   pub period : new.period ≡ old.period
   pub kept : (times : List ℤ) (texts : List ℕ) → InStore old times texts → InStore new times texts
@@ -26,6 +27,21 @@ pub record HasOneMore (set : List ℤ → List ℕ → Type 0) (cap : ℕ) (s : 
   pub inhabited : IsInhabited s.shape s.period set cell
   pub apart : finite.get s.tables cell ≡ None
   pub full : cap ≤ finite.len s.tables
+
+-- all of the set was added
+pub record IsAdded (set : List ℤ → List ℕ → Type 0) (cap high : ℕ) (old new : StoreView) : Type 0 where
+  pub grown : IsGrown set cap high old new
+  pub whole : IsWhole set new
+
+-- a part of the set was added, and another cell of the set would be one too many
+pub record IsRefused (set : List ℤ → List ℕ → Type 0) (cap high : ℕ) (old new : StoreView) : Type 0 where
+  pub grown : IsGrown set cap high old new
+  pub more : HasOneMore set cap new
+
+-- the times are in the zone, and the texts are these
+pub record IsTupleOf (z : ZoneView) (named : List ℕ) (times : List ℤ) (texts : List ℕ) : Type 0 where
+  pub member : IsMember z times
+  pub same : named ≡ texts
 
 -- the set inhabits more than cap cells of this shape and period
 abbrev pub InhabitsMany : Shape → ℕ → (List ℤ → List ℕ → Type 0) → ℕ → Type 0

@@ -1,3 +1,5 @@
+pub mod Aligned
+pub mod Choices
 pub mod Codes
 pub mod Stored
 pub mod Stores

@@ -25,10 +25,10 @@ pub enum StoreFault {
 /// Texts stand as numbers. A zone of at most eight stored bounds takes one slot and no further memory.
 #[derive(Drop)]
 pub struct Store {
-    alloc: Global,
-    shape: Shape,
-    period: u64,
-    slots: Slots<StoredBounds>,
+    pub(crate) alloc: Global,
+    pub(crate) shape: Shape,
+    pub(crate) period: u64,
+    pub(crate) slots: Slots<StoredBounds>,
 }
 
 impl Model for Store {
@@ -119,6 +119,9 @@ impl Store {
         ensures err { OnErr result (self.new.tables ≡ self.old.tables) }
         ensures rest { self.new ≡ record self.old { tables = self.new.tables; spare = self.new.spare } }
         ensures too_many { (result ≡ Err StoreFault.TooManyCells) ↔ ((finite.get self.old.tables cell.now ≡ None) × (cap ≤ finite.len self.old.tables)) }
+
+        // A caller learns here that it is still a store.
+        ensures valid { IsStore self.new }
 
         // A spare slot serves each held cell.
         ensures succeeds { 0 < self.old.spare → IsSome (finite.get self.old.tables cell.now) → count_of zone.now.bounds ≤ 8 → IsOk result }

@@ -18,3 +18,9 @@ invariant_of-self-2 c =
       | else-count-eq0-via-then-count-eq0+else-len-cap w ↦ omega (arith, w.if-len-cap.false, w.len.ensures)
       | else-count-eq0-via-else-count-eq0 w ↦ let nothing = subst (λ o. IsSome o) none (c.count.ensures.held.0 (omega (arith, w.if-count-eq0.false))) in absurd (some_none nothing)
     ])
+
+pub returns-in_err-append-clause-valid : goal.returns-in_err-append-clause-valid
+returns-in_err-append-clause-valid c = invariant_of-self c
+
+pub returns-clause-valid : goal.returns-clause-valid
+returns-clause-valid c = invariant_of-self-2 c
