@@ -153,13 +153,13 @@ some_of None h = absurd (nothing h)
     nothing e = cc
 some_of (Some x) h = (x, refl)
 
-first_of : {X : Type 0} (xs : List X) → xs ≢ [] → (x : X) × Contains xs x
+pub first_of : {X : Type 0} (xs : List X) → xs ≢ [] → (x : X) × Contains xs x
 first_of [] some = absurd (some refl)
 first_of (x ∷ xs) some = (x, (0, omega arith, refl))
 
 module _ (s : StoreView) (is : IsStore s) (set : Set) (cap : ℕ) where
   -- a cell among the keys is held
-  key_held : (c : Cell) → Contains (keys s.tables) c → (list : List Table) × (get s.tables c ≡ Some list)
+  pub key_held : (c : Cell) → Contains (keys s.tables) c → (list : List Table) × (get s.tables c ≡ Some list)
   key_held c h = some_of (get s.tables c) (contains_key-keys s.tables c ∙ any_of (keys s.tables) c h)
 
   key_inhabited : ((xs : List ℤ) (ns : List ℕ) → InStore s xs ns → set xs ns) → (c : Cell) → Contains (keys s.tables) c → IsInhabited s.shape s.period set c

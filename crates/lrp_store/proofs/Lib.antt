@@ -5,3 +5,4 @@ pub mod Listed
 pub mod Ranges
 pub mod Splitting
 pub mod Aligning
+pub mod Emptiness

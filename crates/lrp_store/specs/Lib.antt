@@ -3,4 +3,7 @@ pub mod Choices
 pub mod Codes
 pub mod Stored
 pub mod Stores
+pub mod Faults
 pub mod Growing
+pub mod Settled
+pub mod Tables

@@ -2,9 +2,13 @@
 #![tactic(auto)]
 
 mod align;
+mod answer;
 mod choice;
 mod store;
 mod stored;
+mod table;
 mod walk;
 
+pub use answer::Answer;
 pub use store::{Store, StoreFault};
+pub use table::{StepFault, Table, Vars};

@@ -1,0 +1,54 @@
+// Stores whose columns are named by variables.
+ghost use Rattle.std.specs.Prelude.{◌≡◌, ◌≢◌, ◌++◌, length, AllPairs};
+
+use crate::store::{Store, StoreFault};
+use lrp_model::{List, Memory, Name};
+
+/// Why a step of a plan gave no table.
+#[derive(Clone, Copy, Debug, PartialEq, Eq)]
+pub enum StepFault {
+    TooManyCells,
+    Memory,
+}
+
+/// The variables that name the columns of a table: first the times, then the texts.
+#[derive(Debug, Drop)]
+pub struct Vars {
+    pub times: List<Name>,
+    pub texts: List<Name>,
+}
+
+/// Assignments of integers and texts to variables: those whose values the store has in the columns that they name.
+#[derive(Drop)]
+pub struct Table {
+    pub vars: Vars,
+    pub store: Store,
+    ghost times_named: { length vars.times ≡ store.shape.times },
+    ghost texts_named: { length vars.texts ≡ store.shape.texts },
+    ghost names_differ: { AllPairs ◌≢◌ (vars.times ++ vars.texts) },
+}
+
+impl From<StoreFault> for StepFault {
+    ghost use Rattle.lrp_store.specs.Faults.{step_fault};
+    ghost use Rattle.std.specs.Prelude.{◌≡◌};
+
+    ghost from_gives = { λ fault made. made ≡ step_fault fault };
+
+    fn from(fault: StoreFault) -> StepFault {
+        match fault {
+            StoreFault::TooManyCells => StepFault::TooManyCells,
+            StoreFault::Memory => StepFault::Memory,
+        }
+    }
+}
+
+impl From<Memory> for StepFault {
+    ghost use Rattle.lrp_store.specs.declared.table.StepFault.TheVariants.{Memory as MemoryFault};
+    ghost use Rattle.std.specs.Prelude.{◌≡◌};
+
+    ghost from_gives = { λ _ made. made ≡ MemoryFault };
+
+    fn from(_: Memory) -> StepFault {
+        StepFault::Memory
+    }
+}
