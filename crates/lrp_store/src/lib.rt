@@ -12,3 +12,6 @@ mod walk;
 pub use answer::Answer;
 pub use store::{Store, StoreFault};
 pub use table::{StepFault, Table, Vars};
+
+#[cfg(test)]
+mod tests;
