@@ -6,3 +6,4 @@ pub mod Ranges
 pub mod Splitting
 pub mod Aligning
 pub mod Emptiness
+pub mod Tidying

@@ -7,3 +7,4 @@ pub mod Faults
 pub mod Growing
 pub mod Settled
 pub mod Tables
+pub mod Tidied

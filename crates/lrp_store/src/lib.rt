@@ -7,6 +7,7 @@ mod choice;
 mod store;
 mod stored;
 mod table;
+mod tidy;
 mod walk;
 
 pub use answer::Answer;

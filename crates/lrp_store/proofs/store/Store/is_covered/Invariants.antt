@@ -1,0 +1,8 @@
+use Rattle.std.proofs.Common.{ℕ, ◌<◌, ◌≢◌}
+use Rattle.lrp_zone.specs.Pairs.{IsWithin}
+use Rattle.lrp_store.specs.Stores.{tables_at}
+use Rattle.lrp_store.specs.Tidied.{nth_zone}
+use Rattle.lrp_store.proofs.store.Store.is_covered.Given as goal
+
+abbrev pub invariant-loop-j : goal.invariant-loop-j
+invariant-loop-j l = (k : ℕ) → k < l.j → k ≢ l.i → IsWithin (nth_zone l.self l.cell (tables_at l.self l.cell) l.i) (nth_zone l.self l.cell (tables_at l.self l.cell) k) → ⊥
