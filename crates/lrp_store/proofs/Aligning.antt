@@ -1,68 +1,23 @@
 -- How the tuples of a store come into cells of a larger period, zone after zone and cell after cell.
-use Rattle.std.proofs.Common.{◌≡◌, ℕ, zero, suc, ◌+◌, ◌-◌, ◌*◌, ◌<◌, ◌≤◌, ◌^◌, ◌⊎◌, inl, inr, List, [], ◌∷◌, length, Option, Some, None, Result, Ok, Err, OnOk, arith, refl, sym, ap, subst, ◌∙◌, take, Contains, replicate, slice_index_or, to_z}
-use Rattle.std.specs.Int.{w64}
-use Rattle.std.specs.Prelude.{ℤ, nat_abs, pos, ◌-ℤ◌, IsSome, is_some, true, unwrap_or}
+use Rattle.std.proofs.Common.{◌≡◌, ℕ, zero, suc, ◌+◌, ◌-◌, ◌<◌, ◌≤◌, ◌^◌, ◌⊎◌, inl, inr, List, [], ◌∷◌, length, Some, None, Result, Ok, Err, OnOk, arith, refl, sym, ap, subst, ◌∙◌, take, Contains}
+use Rattle.std.specs.Prelude.{ℤ, is_some, unwrap_or}
 use Rattle.std.specs.FinMap as finite
 use Rattle.std.specs.FinMap.{contains_key-keys, get-empty, len-empty}
-use Rattle.std.proofs.lemmas.Int.{ints}
 use Rattle.std.proofs.lemmas.Map.Views.{Contains-from_any}
-use Rattle.lrp_theory.specs.Divides.{Divides}
-use Rattle.lrp_theory.specs.Entries.{node, IsSmallClosure}
-use Rattle.lrp_theory.proofs.Modulo.{Divides-zero, Divides-is}
-use Rattle.lrp_matrix.specs.Matrices.{MatrixView, IsClosed, HaveSameIntegers}
 use Rattle.lrp_model.specs.declared.tuples.Cell.{Cell}
 use Rattle.lrp_slots.specs.Lists.{cell_cmp}
 use Rattle.lrp_slots.proofs.Tables.{same_cell}
-use Rattle.lrp_zone.specs.Zones.{ZoneView, IsMember, IsZone, IsResidue, columns_of, reach_of, greatest_of}
-use Rattle.lrp_store.specs.Stores.{StoreView, IsStore, IsPadded, InStore, HoldsJust, HasReach, zone_of, tables_at}
-use Rattle.lrp_store.specs.Growing.{IsGrown, IsWhole, HasOneMore, IsAdded, IsRefused, IsTupleOf, InhabitsMany}
+use Rattle.lrp_zone.specs.Zones.{ZoneView, IsMember, IsZone, reach_of, greatest_of}
+use Rattle.lrp_store.specs.Stores.{StoreView, IsStore, InStore, HasReach, zone_of, tables_at}
+use Rattle.lrp_store.specs.Growing.{IsGrown, IsAdded, IsRefused, IsTupleOf, InhabitsMany}
 use Rattle.lrp_store.specs.declared.store.StoreFault.{StoreFault}
 use Rattle.lrp_store.specs.declared.store.StoreFault.TheVariants.{TooManyCells}
-use Rattle.lrp_store.specs.Choices.{AreMet, AreChosen, IsPart, IsBegun}
+use Rattle.lrp_store.specs.Choices.{IsPart}
 use Rattle.lrp_store.specs.Aligned.{InCell, IsAligned}
-use Rattle.lrp_store.proofs.Held.{Table, held_of, zone_held, cell_held}
+use Rattle.lrp_store.proofs.Held.{Table, held_of, zone_held}
 use Rattle.lrp_store.proofs.Grown.{Set, grown_same, grown_on, grown_within, one_more_of}
 use Rattle.lrp_store.proofs.Counted.{many, not_many}
 use Rattle.lrp_store.proofs.Splitting.{whole_part}
-
--- the closed bounds of a zone are met by its tuples
-pub are_met : (z : ZoneView) (m : MatrixView) → IsClosed m → HaveSameIntegers (record { columns = columns_of z; cells = z.bounds }) m → AreMet z m
-are_met z m closed same = record {
-  columns = same.columns;
-  met = λ i j il jl apart xs is. (same.to xs (record { count = is.cell.count; each = is.meets })).each i j (subst (λ n. i ≤ n) (sym same.columns) il) (subst (λ n. j ≤ n) (sym same.columns) jl);
-  small = subst (λ n. IsSmallClosure (n + 1) (8 * 2 ^ 62) m.cells) same.columns closed.small;
-}
-
-zero_or : (i n : ℕ) → slice_index_or (replicate n (pos 0)) i (pos 0) ≡ pos 0
-zero_or i zero = refl
-zero_or zero (suc n) = refl
-zero_or (suc i) (suc n) = zero_or i n
-
-length_is : (n : ℕ) → length (replicate n (pos 0)) ≡ n
-length_is zero = refl
-length_is (suc n) = ap suc (length_is n)
-
--- a zone can be split from the first column on
-pub begun : (z : ZoneView) → IsZone z → (s : StoreView) → IsStore s → (k : ℕ) → s.period ≡ k → columns_of z ≡ s.shape.times → Divides (pos z.period) (pos s.period) → reach_of z + s.period ≤ 2 ^ 62 → (c : Cell) → IsPadded 0 s.shape.texts c.texts → c.residues ≡ replicate 8 (pos 0) → IsBegun z k s c 0
-begun z zone s is k ek columns multiple reach c texts er =
-    subst (λ n. IsBegun z n s c 0) ek (record {
-      period = refl;
-      columns = columns;
-      low = is.period_low;
-      multiple = multiple;
-      reach = reach;
-      texts = texts;
-      residues = record { size = ap length er ∙ length_is 8; zeros = λ i h. ap (λ rs. slice_index_or rs i (pos 0)) er ∙ zero_or i 8 };
-      chosen = record { residue = first; agree = agreed };
-    })
-  where
-    first : (q : ℕ) → q ≤ 0 → IsResidue s.period (node c.residues q)
-    first zero h = record { low = omega (arith, ints); high = let l : 0 < s.period = is.period_low in omega (arith, ints) }
-    first (suc q) h = absurd (omega arith)
-
-    agreed : (q : ℕ) → q ≤ 0 → Divides (pos z.period) (node c.residues q -ℤ node z.residues q)
-    agreed zero h = Divides-zero (pos z.period)
-    agreed (suc q) h = absurd (omega arith)
 
 -- the parts of a zone that have no residue chosen are its tuples with the texts of the cell
 module _ (z : ZoneView) (k : ℕ) (s : StoreView) (is : IsStore s) (c : Cell) (texts : List ℕ) (et : c.texts ≡ texts) (cap high : ℕ) (u : StoreView) where

@@ -1,12 +1,10 @@
 -- When a set inhabits more cells than a cap allows.
-use Rattle.std.proofs.Common.{◌≡◌, ◌≢◌, ℕ, zero, suc, ◌+◌, ◌<◌, ◌≤◌, inl, inr, ◌⊎◌, List, [], ◌∷◌, ◌++◌, length, take, map, Option, Some, None, Bool, true, false, cond, IsSome, Less, refl, sym, ap, subst, ◌∙◌, arith, unwrap_or, Contains, get_or}
-use Rattle.std.specs.Prelude.{ℤ, pos, AllPairs, is_some, ◌||◌, ◌-ℤ◌, ◌<ℤ◌, ◌≤ℤ◌, neg_ℤ}
-use Rattle.std.specs.List.{AllByRecursion, IsDistinct, list_any}
-use Rattle.std.specs.List.Sorted.{IsStrictlySortedBy}
-use Rattle.std.specs.Map.{lookup, keys_of}
+use Rattle.std.proofs.Common.{◌≡◌, ◌≢◌, ℕ, zero, suc, ◌+◌, ◌<◌, ◌≤◌, inl, inr, List, [], ◌∷◌, length, take, Option, Some, None, Bool, true, false, cond, IsSome, refl, sym, ap, subst, ◌∙◌, arith, unwrap_or, Contains, get_or}
+use Rattle.std.specs.Prelude.{ℤ, pos, AllPairs, is_some, ◌||◌, ◌-ℤ◌, ◌<ℤ◌, ◌≤ℤ◌}
+use Rattle.std.specs.List.{AllByRecursion, list_any}
+use Rattle.std.specs.Map.{lookup}
 use Rattle.std.specs.Ordering.{eq_by_cmp}
-use Rattle.std.specs.Cmp.{eq_by_cmp_equiv, tied_itself}
-use Rattle.std.specs.FinMap as finite
+use Rattle.std.specs.Cmp.{eq_by_cmp_equiv}
 use Rattle.std.specs.FinMap.{get, len, keys, entries, find, get-entries, len-entries, contains_key-keys}
 use Rattle.std.specs.Bool.{Decides}
 use Rattle.std.proofs.lemmas.Bool.{cases_lt, or_cases}
@@ -16,18 +14,17 @@ use Rattle.std.proofs.lemmas.Int.{ints}
 use Rattle.std.proofs.lemmas.List.{length-map, length-take-le, ext_get_or, get_or-take}
 use Rattle.std.proofs.lemmas.Map.Steps.{length-le_from_keys}
 use Rattle.std.proofs.lemmas.Map.Made.{IsDistinct-from_AllPairs, AllPairs-from_IsDistinct}
-use Rattle.std.proofs.lemmas.Map.Keys.{IsDistinct-from_sorted, IsDistinct-cons}
+use Rattle.std.proofs.lemmas.Map.Keys.{IsDistinct-from_sorted}
 use Rattle.lrp_theory.specs.Divides.{Divides}
 use Rattle.lrp_theory.specs.Entries.{node}
 use Rattle.lrp_theory.proofs.Modulo.{Divides--, Divides-is, small_multiple}
-use Rattle.lrp_model.specs.Cells.{Many}
 use Rattle.lrp_model.specs.declared.tuples.Cell.{Cell}
 use Rattle.lrp_model.specs.declared.tuples.Shape.{Shape}
 use Rattle.lrp_slots.specs.Lists.{cell_cmp}
-use Rattle.lrp_slots.proofs.Tables.{cells_total, same_cell, other_cell}
+use Rattle.lrp_slots.proofs.Tables.{cells_total, same_cell}
 use Rattle.lrp_slots.proofs.Copying.{keys_ascend}
-use Rattle.lrp_zone.specs.Zones.{IsZone, IsMember, IsResidue}
-use Rattle.lrp_store.specs.Stores.{StoreView, IsStore, IsCellOf, IsPadded, InStore, IsInhabited, LiesIn, zone_of, tables_at}
+use Rattle.lrp_zone.specs.Zones.{IsResidue}
+use Rattle.lrp_store.specs.Stores.{StoreView, IsStore, IsCellOf, IsPadded, InStore, IsInhabited, LiesIn, tables_at}
 use Rattle.lrp_store.specs.Growing.{IsWhole, HasOneMore, InhabitsMany}
 use Rattle.lrp_store.proofs.Held.{Table, cell_or, node_take, held_of, zone_held, cell_held}
 use Rattle.lrp_store.proofs.Grown.{Set}

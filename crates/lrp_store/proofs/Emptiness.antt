@@ -1,13 +1,12 @@
 -- A store without cells holds nothing, and one with a cell holds something.
-use Rattle.std.proofs.Common.{◌≡◌, ◌≢◌, ℕ, suc, List, [], ◌∷◌, length, Bool, true, false, ◌⊎◌, inl, inr, refl, sym, ap, subst, ◌∙◌, arith, Contains, take, unwrap_or, map}
+use Rattle.std.proofs.Common.{◌≡◌, ℕ, List, [], length, ◌⊎◌, inl, inr, refl, sym, ap, subst, ◌∙◌, Contains, take, unwrap_or}
 use Rattle.std.specs.Prelude.{ℤ, IsTrue, ◌↔◌, nat_eq}
-use Rattle.std.specs.FinMap as finite
 use Rattle.std.specs.FinMap.{entries, keys, len, len-entries, empty_of_len}
 use Rattle.std.proofs.lemmas.Bool.{eqb-true, eq-eqb, cases_eq}
 use Rattle.std.proofs.lemmas.List.{length-map}
 use Rattle.lrp_model.specs.declared.tuples.Cell.{Cell}
 use Rattle.lrp_store.specs.Stores.{StoreView, IsStore, InStore, tables_at}
-use Rattle.lrp_store.proofs.Held.{Table, zone_held}
+use Rattle.lrp_store.proofs.Held.{zone_held}
 use Rattle.lrp_store.proofs.Counted.{key_held, first_of}
 use Rattle.lrp_store.proofs.Aligning.{nothing_held}
 

@@ -1,7 +1,7 @@
 -- A list of bounds that was made of a table stands for that table.
-use Rattle.std.proofs.Common.{◌≡◌, ◌≢◌, ℕ, zero, suc, ◌+◌, ◌*◌, ◌<◌, ◌≤◌, inl, inr, ◌⊎◌, List, [], ◌∷◌, ◌++◌, length, take, map, Option, Some, None, Bool, true, false, cond, eqb, refl, sym, ap, subst, ◌∙◌, arith, get_or, to_z, of_z, ◌/◌, ◌%◌}
+use Rattle.std.proofs.Common.{◌≡◌, ◌≢◌, ℕ, zero, suc, ◌+◌, ◌*◌, ◌<◌, ◌≤◌, inl, inr, List, [], ◌∷◌, ◌++◌, length, take, Option, Some, None, true, false, cond, eqb, refl, sym, ap, subst, ◌∙◌, arith, get_or, to_z, of_z, ◌/◌, ◌%◌}
 use Rattle.std.proofs.lemmas.Int.{ints}
-use Rattle.std.specs.Prelude.{ℤ, nat_abs, ◌^◌, ◌-◌, ◌≤ℤ◌, ◌-ℤ◌, neg_ℤ, pos, slice_index_or, is_some, count_by}
+use Rattle.std.specs.Prelude.{ℤ, nat_abs, ◌^◌, ◌-◌, ◌≤ℤ◌, ◌-ℤ◌, neg_ℤ, pos, slice_index_or, is_some}
 use Rattle.std.specs.Int.{w64}
 use Rattle.std.specs.List.{range_with_len}
 use Rattle.std.proofs.lemmas.Bool.{eqb-true, eqb-false, cases_lt}

@@ -1,5 +1,5 @@
 -- The split of a zone: what one list of residues adds, and how the residues of a column come together.
-use Rattle.std.proofs.Common.{◌≡◌, ℕ, zero, suc, ◌+◌, ◌-◌, ◌*◌, ◌%◌, ◌<◌, ◌≤◌, ◌^◌, ◌⊎◌, inl, inr, List, [], ◌∷◌, ◌++◌, length, Option, Some, None, Result, Ok, Err, arith, refl, sym, ap, subst, ◌∙◌, take, set, to_z, OnOk, OnErr, ◌↔◌}
+use Rattle.std.proofs.Common.{◌≡◌, ℕ, zero, suc, ◌+◌, ◌-◌, ◌*◌, ◌%◌, ◌<◌, ◌≤◌, ◌^◌, ◌⊎◌, inl, inr, List, [], ◌∷◌, ◌++◌, length, None, Result, Ok, Err, arith, refl, sym, ap, subst, ◌∙◌, take, set, to_z, OnOk, OnErr, ◌↔◌}
 use Rattle.std.specs.Int.{w64}
 use Rattle.std.specs.Prelude.{ℤ, nat_abs, slice_index_or, pos, ◌-ℤ◌, ◌+ℤ◌}
 use Rattle.std.specs.FinMap as finite
@@ -13,8 +13,8 @@ use Rattle.lrp_theory.proofs.Multiples.{Divides-trans, Divides-multiple}
 use Rattle.lrp_model.specs.declared.tuples.Cell.{Cell}
 use Rattle.lrp_zone.specs.Zones.{ZoneView, IsMember, IsZone, IsResidue, columns_of, reach_of, greatest_of}
 use Rattle.lrp_zone.specs.Residues.{IsRefined, HasNoRefined}
-use Rattle.lrp_store.specs.Stores.{StoreView, IsStore, IsCellOf, IsPadded, InStore, IsInhabited, tables_at}
-use Rattle.lrp_store.specs.Growing.{IsGrown, IsWhole, HasOneMore, IsAdded, IsRefused}
+use Rattle.lrp_store.specs.Stores.{StoreView, IsStore, IsPadded, InStore, tables_at}
+use Rattle.lrp_store.specs.Growing.{IsGrown, IsWhole, IsAdded, IsRefused}
 use Rattle.lrp_store.specs.Choices.{AgreesTo, AreChosen, IsChoice, IsPart, IsPut, IsBegun}
 use Rattle.lrp_store.specs.declared.choice.Choice.{Choice}
 use Rattle.lrp_store.specs.declared.store.StoreFault.{StoreFault}

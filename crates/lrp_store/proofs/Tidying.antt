@@ -1,6 +1,6 @@
 -- Zones that lie within another one are dropped from a list, one after the other.
-use Rattle.std.proofs.Common.{◌≡◌, ◌≢◌, ℕ, zero, suc, ◌+◌, ◌-◌, ◌<◌, ◌≤◌, ◌⊎◌, inl, inr, List, [], ◌∷◌, ◌++◌, length, take, drop, map, Option, Some, None, option_map, OnSome, Bool, true, false, cond, ltb, refl, sym, ap, subst, ◌∙◌, arith, get_or}
-use Rattle.std.specs.Prelude.{ℤ, slice_get, slice_index_or}
+use Rattle.std.proofs.Common.{◌≡◌, ◌≢◌, ℕ, zero, suc, ◌+◌, ◌-◌, ◌<◌, ◌≤◌, ◌⊎◌, inl, inr, List, [], length, take, drop, Option, Some, None, option_map, OnSome, cond, ltb, refl, sym, ap, subst, ◌∙◌, arith, get_or}
+use Rattle.std.specs.Prelude.{slice_get, slice_index_or}
 use Rattle.std.specs.List.{remove}
 use Rattle.std.specs.FinMap as finite
 use Rattle.std.proofs.lemmas.Bool.{cases_lt, cases_eq, lt-ltb, le-ltb}
@@ -10,9 +10,9 @@ use Rattle.lrp_model.specs.declared.tuples.Cell.{Cell}
 use Rattle.lrp_slots.specs.Lists.{set_list, list_at}
 use Rattle.lrp_zone.specs.Zones.{ZoneView}
 use Rattle.lrp_zone.specs.Pairs.{IsWithin, IsOfCell}
-use Rattle.lrp_store.specs.Stores.{StoreView, IsStore, zone_of, tables_at, zones_at}
+use Rattle.lrp_store.specs.Stores.{StoreView, zone_of, tables_at, zones_at}
 use Rattle.lrp_store.specs.Tidied.{nth_zone, IsCovered, IsTidied}
-use Rattle.lrp_store.proofs.Held.{Table, Tables, get_set, list_set}
+use Rattle.lrp_store.proofs.Held.{Table, get_set, list_set}
 
 -- the old number of the element k once the element i is gone
 abbrev pub skip : ℕ → ℕ → ℕ

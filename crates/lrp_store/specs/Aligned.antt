@@ -1,6 +1,5 @@
 -- A store whose zones were brought to a larger period.
-use Rattle.std.specs.Prelude.{◌≡◌, ℕ, ℤ, ◌+◌, ◌-◌, ◌≤◌, ◌⊎◌, List, Option, Contains, take}
-use Rattle.lrp_theory.specs.Divides.{Divides}
+use Rattle.std.specs.Prelude.{◌≡◌, ℕ, ℤ, ◌+◌, ◌-◌, List, Option, Contains, take}
 use Rattle.lrp_model.specs.declared.tuples.Cell.{Cell}
 use Rattle.lrp_zone.specs.Zones.{IsMember}
 use Rattle.lrp_store.specs.Stores.{StoreView, InStore, HoldsJust, HasReach, zone_of, tables_at}

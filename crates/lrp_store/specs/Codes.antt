@@ -2,7 +2,6 @@
 use Rattle.std.specs.Prelude.{ℕ, ℤ, List, Option, refl}
 use Rattle.std.specs.Coded.{Coded, code_by, coded×, coded_ℕ, coded_ℤ, coded_list, coded_option}
 use Rattle.std.specs.FinMap as finite
-use Rattle.lrp_model.specs.declared.tuples.Shape.{Shape}
 use Rattle.lrp_slots.specs.Lists.{cell_cmp, cell_code}
 use Rattle.lrp_store.specs.Stores.{StoreView}
 

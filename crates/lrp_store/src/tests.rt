@@ -154,6 +154,28 @@ fn a_slot_serves_every_cell(rt: HostRuntime) -> Result<(), Fail> {
 }
 
 #[test]
+fn of_equal_and_nested_zones_one_stays(rt: HostRuntime) -> Result<(), Fail> {
+    let mut store = Store::new(rt.alloc(), Shape { times: 1, texts: 1 }, 10);
+    let table = [
+        &[bound(1, 0, 13)][..],
+        &[bound(1, 0, 13)][..],
+        &[bound(0, 1, -3), bound(1, 0, 13)][..],
+        &[bound(0, 1, -3), bound(1, 0, 23)][..],
+    ];
+    for bounds in table {
+        let zone = made(&rt, 10, &[3], bounds).ok_or("no zone")?;
+        assert_eq!(rt; put(&rt, &mut store, 0, &zone, 1), Ok(()));
+    }
+    let spare = store.spare();
+    store.tidy(&cell(0, 3));
+    assert_eq!(rt; most(&rt, store.zone(&cell(0, 3), 0)), Some(13));
+    assert_eq!(rt; most(&rt, store.zone(&cell(0, 3), 1)), Some(23));
+    assert_eq!(rt; store.count(&cell(0, 3)), 2);
+    assert!(rt; spare < 9 && store.spare() == spare + 2);
+    Ok(())
+}
+
+#[test]
 fn a_zone_is_split_residue_by_residue(rt: HostRuntime) -> Result<(), Fail> {
     let zone = made(&rt, 6, &[0], &[]).ok_or("no zone")?;
     match split_into(&rt, rt.alloc(), &zone, 18, 3, 3) {

@@ -1,4 +1,4 @@
-use Rattle.std.proofs.Common.{◌≤◌, ◌^◌, length, arith, ap, sym, ◌∙◌, take, ◌≡◌}
+use Rattle.std.proofs.Common.{◌≤◌, length, arith, ap, ◌∙◌, take, ◌≡◌}
 use Rattle.std.proofs.lemmas.List.{length-take-le}
 use Rattle.lrp_zone.specs.Zones.{columns_of}
 use Rattle.lrp_store.proofs.Listed.{word_period}

@@ -1,5 +1,4 @@
-use Rattle.std.proofs.Common.{◌≡◌, ◌<◌, ◌^◌, arith, refl, sym, subst, None, IsSome, true, false}
-use Rattle.std.specs.FinMap as finite
+use Rattle.std.proofs.Common.{◌≡◌, arith, subst, IsSome, true, false}
 use Rattle.lrp_store.proofs.Held.{same_tables, appended}
 use Rattle.lrp_store.proofs.store.Store.add.Goals as goal
 use Rattle.lrp_store.proofs.store.Store.add.Goals.{else-count-eq0-via-then-count-eq0+else-len-cap, else-count-eq0-via-else-count-eq0}

@@ -1,6 +1,5 @@
-use Rattle.std.proofs.Common.{◌+◌, ◌-◌, ◌≤◌, ◌<◌, ◌^◌, ◌⊎◌, ◌≡◌, inr, arith, ap, subst, sym, ◌∙◌, Contains}
+use Rattle.std.proofs.Common.{◌-◌, ◌≤◌, ◌<◌, ◌^◌, ◌⊎◌, ◌≡◌, inr, arith, ap, subst, sym, ◌∙◌, Contains}
 use Rattle.std.specs.Prelude.{nat_abs}
-use Rattle.std.proofs.lemmas.Int.{ints}
 use Rattle.lrp_store.specs.Stores.{InStore}
 use Rattle.lrp_store.proofs.Grown.{grown_same, grown_within}
 use Rattle.lrp_store.proofs.Listed.{word_abs}

@@ -1,4 +1,4 @@
-use Rattle.std.proofs.Common.{◌+◌, ◌-◌, ◌≤◌, ◌<◌, ◌^◌, arith, subst, sym, ◌∙◌, Contains, refl, take, ◌⊎◌}
+use Rattle.std.proofs.Common.{◌+◌, ◌-◌, ◌≤◌, ◌<◌, ◌^◌, arith, subst, ◌∙◌, Contains, take, ◌⊎◌}
 use Rattle.lrp_zone.specs.Zones.{reach_of}
 use Rattle.lrp_store.specs.Stores.{InStore}
 use Rattle.lrp_store.proofs.Grown.{grown_within}

@@ -1,4 +1,4 @@
-use Rattle.std.proofs.Common.{◌≡◌, ◌<◌, ◌+◌, inl, inr, arith, refl, subst, sym, ◌∙◌, length, true, false}
+use Rattle.std.proofs.Common.{◌≡◌, inl, inr, arith, refl, subst, sym, ◌∙◌, true, false}
 use Rattle.std.proofs.lemmas.Bool.{cases_lt}
 use Rattle.lrp_zone.specs.Pairs.{IsWithin}
 use Rattle.lrp_store.specs.Stores.{tables_at}

@@ -1,4 +1,4 @@
-use Rattle.std.proofs.Common.{arith, subst, sym, ◌≡◌, ◌<◌, ◌≤◌, ◌^◌, to_z, of_z}
+use Rattle.std.proofs.Common.{arith, ◌<◌, ◌≤◌, ◌^◌, to_z, of_z}
 use Rattle.std.specs.Int.{w64}
 use Rattle.std.specs.Prelude.{nat_abs}
 use Rattle.std.proofs.lemmas.Int.{ints}

@@ -1,4 +1,4 @@
-use Rattle.std.proofs.Common.{◌≤◌, ◌+◌, arith, refl, sym, ap, subst, ◌∙◌}
+use Rattle.std.proofs.Common.{◌≤◌, ◌+◌, arith, sym, ap, subst, ◌∙◌}
 use Rattle.lrp_store.specs.Stored.{bounds_of}
 use Rattle.lrp_store.proofs.Listed.{AreOf, all_listed, table_of-all, pushed, passed, has_room, word_bound}
 use Rattle.lrp_store.proofs.stored.StoredBounds.of.Goals as goal
