@@ -20,7 +20,7 @@ use Rattle.lrp_text.specs.Taking.{is_name, is_symbol, is_symbol_token, number, i
 use Rattle.lrp_text.proofs.Complete.{ReadsBack, IsNot, Sees, bind_back, then_back, pure_back, accepts_back, eat_back, eat_none, look_back, first_sees_any, first_sees_at, first_is_not, last_back, same_next}
 use Rattle.lrp_text.proofs.Sound.{Sound, bind_ok, accept_sound, eat_sound, eaten_parts, takes_join, look_ok}
 use Rattle.lrp_text.proofs.Viable.{Viable, One, TestStops, accept_viable, sub_step, eat_step, look_step, spells_join, always}
-use Rattle.lrp_text.proofs.Tests.{symbol_told, symbol_seen, number_part}
+use Rattle.lrp_text.proofs.TokenTests.{symbol_told, symbol_seen, number_part}
 use Rattle.lrp_model.specs.declared.written.BoundOp.{BoundOp}
 use Rattle.lrp_model.specs.declared.written.BoundOp.TheVariants.{AtMost, AtLeast, Equal}
 use Rattle.lrp_rel.proofs.Labels.{label_back, label_sound, label_viable}

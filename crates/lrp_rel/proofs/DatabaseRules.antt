@@ -14,7 +14,7 @@ use Rattle.lrp_text.specs.Taking.{is_end, is_end_token, expect_end}
 use Rattle.lrp_text.proofs.Complete.{Answers, Anything, accepts_back, answers_then, first_sees_any, MemberUntil, until_back, joined_long}
 use Rattle.lrp_text.proofs.Sound.{Sound, bind_ok, accept_sound, takes_join, takes_split, takes_shorter, until_sound}
 use Rattle.lrp_text.proofs.Viable.{Viable, One, accept_viable, sub_short, spells_join, always, until_viable}
-use Rattle.lrp_text.proofs.Tests.{end_expected, end_required, end_stops}
+use Rattle.lrp_text.proofs.TokenTests.{end_expected, end_required, end_stops}
 use Rattle.lrp_text.proofs.Refusal.{Rule, refused_at}
 use Rattle.lrp_rel.specs.Rules.{relation, database}
 use Rattle.lrp_rel.proofs.LocalRules.{database_local}

@@ -11,7 +11,7 @@ use Rattle.lrp_text.proofs.Local.{Local, bind_local, accept_local, pure_local}
 use Rattle.lrp_text.proofs.Complete.{ReadsBack, Anything, accepts_back, last_back}
 use Rattle.lrp_text.proofs.Sound.{Sound, bind_ok, accept_sound}
 use Rattle.lrp_text.proofs.Viable.{Viable, One, accept_viable, sub_step, always}
-use Rattle.lrp_text.proofs.Tests.{name_part as pair_part, name_told, name_seen, name_stops}
+use Rattle.lrp_text.proofs.TokenTests.{name_part as pair_part, name_told, name_seen, name_stops}
 use Rattle.lrp_rel.specs.Rules.{label}
 
 -- a name and its place, as one thing

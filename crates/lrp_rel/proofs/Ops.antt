@@ -10,7 +10,7 @@ use Rattle.lrp_text.specs.Parsers.{Parser, Outcome, accept, taken, eat, eaten}
 use Rattle.lrp_text.specs.Taking.{is_symbol, is_symbol_token}
 use Rattle.lrp_text.proofs.Sound.{eat_ok}
 use Rattle.lrp_text.proofs.Complete.{IsNot}
-use Rattle.lrp_text.proofs.Tests.{symbol_told}
+use Rattle.lrp_text.proofs.TokenTests.{symbol_told}
 use Rattle.lrp_rel.specs.Rules.{op_of}
 
 -- the rule for a comparison

@@ -25,7 +25,7 @@ use Rattle.lrp_text.specs.ColumnRule.{column}
 use Rattle.lrp_text.proofs.Complete.{Answers, ReadsBack, answers_as, Anything, Sees, bind_back, then_back, pure_back, accepts_back, first_sees_any, first_sees_at, first_is_not, MemberBack, FollowsList, listed_back, MemberUntil, until_back, separated_long, joined_long}
 use Rattle.lrp_text.proofs.Sound.{Sound, bind_ok, accept_sound, takes_join, takes_shorter, listed_sound, until_sound}
 use Rattle.lrp_text.proofs.Viable.{Viable, One, accept_viable, sub_short, spells_join, always, listed_viable, until_viable}
-use Rattle.lrp_text.proofs.Tests.{symbol_told, symbol_seen, word_expected, word_required, word_stops, expect_seen}
+use Rattle.lrp_text.proofs.TokenTests.{symbol_told, symbol_seen, word_expected, word_required, word_stops, expect_seen}
 use Rattle.lrp_text.proofs.LocatedRule.{Leads, located_answers, located_sound, located_stops, takes_from}
 use Rattle.lrp_text.proofs.ColumnRule.{column_back, column_sound, column_viable}
 use Rattle.lrp_rel.specs.Rules.{label, row, relation}

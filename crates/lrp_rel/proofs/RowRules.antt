@@ -23,7 +23,7 @@ use Rattle.lrp_text.proofs.Complete.{Answers, separated_long, ReadsBack, back_as
 use Rattle.std.proofs.lemmas.List.{length-append}
 use Rattle.lrp_text.proofs.Sound.{takes_shorter, Sound, bind_ok, accept_sound, eat_sound, eaten_parts, takes_join, separated_sound, listed_sound}
 use Rattle.lrp_text.proofs.Viable.{Viable, One, accept_viable, sub_short, eat_short, spells_join, both, fits_as, always, behind, SomeText, separated_viable, listed_viable}
-use Rattle.lrp_text.proofs.Tests.{symbol_told, symbol_seen, word_told, word_seen, expect_told, expect_seen, expect_stops}
+use Rattle.lrp_text.proofs.TokenTests.{symbol_told, symbol_seen, word_told, word_seen, expect_told, expect_seen, expect_stops}
 use Rattle.lrp_text.proofs.LocatedRule.{takes_from}
 use Rattle.lrp_rel.specs.Rules.{value, bound, bounds, row}
 use Rattle.lrp_rel.proofs.ValueRules.{NoPlus, value_back, value_sound, value_viable, bare_value_leads}

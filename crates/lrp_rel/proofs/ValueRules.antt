@@ -21,7 +21,7 @@ use Rattle.lrp_text.proofs.Complete.{ReadsBack, back_as, Anything, IsNot, Sees, 
 use Rattle.lrp_text.proofs.Sound.{Sound, bind_ok, accept_gives, accept_sound, eat_sound, eaten_parts, takes_join, look_ok}
 use Rattle.lrp_text.proofs.Viable.{Viable, One, accept_viable, sub_step, eat_step, look_step, spells_join, fits_as, always}
 use Rattle.lrp_text.specs.Taking.{IsPeriod}
-use Rattle.lrp_text.proofs.Tests.{symbol_told, symbol_seen, word_expected, word_required, word_stops, number_part, number_told, number_fits, number_stops, number_tells, period_told, period_fits, period_stops, period_tells, text_part, text_told, text_fits, text_stops, text_tells}
+use Rattle.lrp_text.proofs.TokenTests.{symbol_told, symbol_seen, word_expected, word_required, word_stops, number_part, number_told, number_fits, number_stops, number_tells, period_told, period_fits, period_stops, period_tells, text_part, text_told, text_fits, text_stops, text_tells}
 use Rattle.lrp_text.proofs.LocatedRule.{Leads, located_back, located_sound, located_viable}
 use Rattle.lrp_rel.specs.Rules.{integer, numeric, bare_value, value}
 
