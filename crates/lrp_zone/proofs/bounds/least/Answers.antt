@@ -1,3 +1,4 @@
+-- Each turn writes the lesser bound at one more place.
 use Rattle.std.proofs.Common.{arith, ◌≡◌, length}
 use Rattle.lrp_zone.proofs.Steps.{lesser_more, length_set}
 use Rattle.lrp_zone.proofs.bounds.least.Goals as goal

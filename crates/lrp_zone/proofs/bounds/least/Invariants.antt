@@ -1,3 +1,4 @@
+-- The places before this one have their lesser bounds.
 use Rattle.std.proofs.Common.{◌≡◌, ◌<◌, ℕ, length}
 use Rattle.std.specs.Prelude.{slice_index_or, None}
 use Rattle.lrp_theory.specs.Entries.{IsLesser}

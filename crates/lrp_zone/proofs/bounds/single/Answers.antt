@@ -1,3 +1,4 @@
+-- One write into a free table leaves one bound alone.
 use Rattle.lrp_zone.proofs.Broken.{single_of}
 use Rattle.lrp_zone.proofs.bounds.single.Goals as goal
 

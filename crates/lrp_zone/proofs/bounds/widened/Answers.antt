@@ -1,3 +1,4 @@
+-- Each turn copies one more bound.
 use Rattle.std.proofs.Common.{rules, arith, ◌≡◌, length}
 use Rattle.lrp_zone.proofs.Steps.{same_more, same_all, length_set}
 use Rattle.lrp_zone.proofs.bounds.widened.Goals as goal

@@ -1,3 +1,4 @@
+-- The bounds before this place are copied.
 use Rattle.std.proofs.Common.{◌≡◌, length, take}
 use Rattle.lrp_zone.proofs.bounds.widened.Given as goal
 

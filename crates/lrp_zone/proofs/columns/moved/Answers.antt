@@ -1,3 +1,4 @@
+-- Each turn puts one more bound at its new place.
 use Rattle.std.proofs.Common.{arith}
 use Rattle.lrp_zone.proofs.Placed.{spread_none, spread_more}
 use Rattle.lrp_zone.proofs.columns.moved.Goals as goal

@@ -1,3 +1,4 @@
+-- The bounds of the nodes so far stand at their new places, and nothing else does.
 use Rattle.lrp_zone.specs.Spread.{IsSpreadTo}
 use Rattle.lrp_zone.proofs.columns.moved.Given as goal
 

@@ -1,3 +1,4 @@
+-- The residues of the columns so far are written.
 use Rattle.std.proofs.Common.{◌≡◌, ◌<◌, ℕ, length}
 use Rattle.lrp_theory.specs.Entries.{node}
 use Rattle.lrp_zone.specs.Columns.{past}

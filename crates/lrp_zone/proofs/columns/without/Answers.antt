@@ -1,3 +1,4 @@
+-- Each turn writes the path at one more place, within the columns that are left.
 use Rattle.std.proofs.Common.{arith, sym, subst, ◌≡◌, ℕ, ℤ, Option, List, below_more}
 use Rattle.lrp_theory.proofs.Through.{rows_more}
 use Rattle.lrp_theory.specs.Entries.{entry}

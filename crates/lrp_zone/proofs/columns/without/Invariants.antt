@@ -1,3 +1,4 @@
+-- The rows above, and this row so far, have their paths; nothing stands outside.
 use Rattle.std.proofs.Common.{◌<◌, ℕ}
 use Rattle.lrp_theory.specs.Entries.{entry}
 use Rattle.lrp_zone.specs.Zones.{IsEmptyFrom}

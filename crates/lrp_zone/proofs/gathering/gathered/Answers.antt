@@ -1,3 +1,4 @@
+-- Each turn gathers one more given bound.
 use Rattle.std.proofs.Common.{arith, refl, pos}
 use Rattle.lrp_zone.specs.Given.{bound_at, IsGiven}
 use Rattle.lrp_zone.proofs.Gathered.{gathered_none, gathered_more}

@@ -1,3 +1,4 @@
+-- The bounds so far are gathered.
 use Rattle.std.proofs.Common.{pos}
 use Rattle.lrp_zone.specs.Given.{IsGathered}
 use Rattle.lrp_zone.proofs.gathering.gathered.Given as goal

@@ -1,3 +1,4 @@
+-- No bound so far is a negative one of a column from itself.
 use Rattle.std.proofs.Common.{◌≡◌, ◌<◌, ℕ}
 use Rattle.std.specs.Prelude.{pos, ◌<ℤ◌}
 use Rattle.lrp_zone.specs.Given.{bound_at}

@@ -1,3 +1,4 @@
+-- The residues so far are below the period.
 use Rattle.std.proofs.Common.{ℕ, ◌≤◌}
 use Rattle.std.specs.Prelude.{nat_abs}
 use Rattle.lrp_theory.specs.Entries.{node}

@@ -1,3 +1,4 @@
+-- The values so far are within the limit.
 use Rattle.std.proofs.Common.{ℕ, ◌<◌, ◌^◌}
 use Rattle.std.specs.Prelude.{pos, ◌≤ℤ◌}
 use Rattle.lrp_zone.specs.Order.{at}

@@ -1,3 +1,4 @@
+-- The bounds so far are small, and on the columns.
 use Rattle.std.proofs.Common.{ℕ, ◌<◌, ◌≤◌, ◌^◌, length}
 use Rattle.std.specs.Prelude.{nat_abs}
 use Rattle.lrp_zone.specs.Given.{bound_at}

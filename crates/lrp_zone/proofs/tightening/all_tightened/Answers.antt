@@ -1,3 +1,4 @@
+-- Each turn tightens the bound at one more place, within the columns.
 use Rattle.std.proofs.Common.{arith, refl, ◌∙◌, sym, ◌≡◌, ℤ, pos, ◌-ℤ◌, Option, below_more}
 use Rattle.lrp_theory.proofs.Through.{rows_more}
 use Rattle.lrp_theory.specs.Entries.{entry, node}

@@ -1,3 +1,4 @@
+-- The rows above, and this row so far, are tightened; nothing stands outside.
 use Rattle.std.proofs.Common.{◌<◌, ℕ, pos, ◌-ℤ◌}
 use Rattle.lrp_theory.specs.Entries.{entry, node}
 use Rattle.lrp_zone.specs.Zones.{IsEmptyFrom}

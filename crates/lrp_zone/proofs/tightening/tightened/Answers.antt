@@ -1,3 +1,4 @@
+-- A bound that has room stays within the limit.
 use Rattle.std.proofs.Common.{pos, ◌-ℤ◌}
 use Rattle.lrp_theory.specs.Entries.{node}
 use Rattle.lrp_zone.specs.Tight.{IsTightened}

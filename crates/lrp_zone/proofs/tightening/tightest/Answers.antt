@@ -1,3 +1,4 @@
+-- Tightening gives the floor of the bound, which fits in a word.
 use Rattle.std.proofs.Common.{rules, arith, ◌^◌, pos, ◌≤ℤ◌, ◌-ℤ◌}
 use Rattle.std.specs.Prelude.{neg_ℤ}
 use Rattle.std.proofs.lemmas.Int.{ints}

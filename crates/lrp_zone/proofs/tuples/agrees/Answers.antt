@@ -1,3 +1,4 @@
+-- Equal remainders are equal numbers modulo the period.
 use Rattle.std.proofs.Common.{rules, arith, ap, ◌∙◌, ◌≡◌, pos, to_z, of_z}
 use Rattle.std.specs.Int.{int_rem_euclid}
 use Rattle.std.specs.Int.{w64}

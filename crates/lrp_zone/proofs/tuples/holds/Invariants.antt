@@ -1,3 +1,4 @@
+-- The nodes so far have their residues and keep their bounds.
 use Rattle.std.proofs.Common.{◌<◌, ℕ, pos, ◌-ℤ◌}
 use Rattle.lrp_theory.specs.Bounds.{Within}
 use Rattle.lrp_theory.specs.Divides.{Divides}

@@ -1,3 +1,4 @@
+-- The test of a difference in words is that of integers.
 use Rattle.std.proofs.Common.{arith}
 use Rattle.std.proofs.lemmas.Int.{ints}
 use Rattle.lrp_theory.proofs.Tests.{within_test}

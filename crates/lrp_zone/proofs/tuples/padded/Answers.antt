@@ -1,3 +1,4 @@
+-- The values, and what is left of eight zeros.
 use Rattle.std.proofs.Common.{length, ℤ, refl}
 use Rattle.std.specs.Prelude.{pos}
 use Rattle.std.proofs.lemmas.List.{drop-replicate}

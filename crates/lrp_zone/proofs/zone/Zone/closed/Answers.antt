@@ -1,3 +1,4 @@
+-- The zone's tuples meet its bounds, so the closing succeeds.
 use Rattle.std.proofs.Common.{rules, ◌∙◌, IsTrue}
 use Rattle.lrp_zone.proofs.Members.{integers_of}
 use Rattle.lrp_zone.proofs.zone.Zone.closed.Goals as goal
