@@ -21,23 +21,28 @@ use Rattle.lrp_store.proofs.Splitting.{whole_part}
 
 -- the parts of a zone that have no residue chosen are its tuples with the texts of the cell
 module _ (z : ZoneView) (k : ℕ) (s : StoreView) (is : IsStore s) (c : Cell) (texts : List ℕ) (et : c.texts ≡ texts) (cap high : ℕ) (u : StoreView) where
+  -- a tuple of the part is one of the zone
   to_tuple : (xs : List ℤ) (ns : List ℕ) → IsPart z k s.shape.texts c 0 xs ns → IsTupleOf z (take s.shape.texts texts) xs ns
   to_tuple xs ns p = record { member = p.member; same = ap (take s.shape.texts) (sym et) ∙ p.named }
 
+  -- where the part was added, the zone was
   pub split_added : IsAdded (IsPart z k s.shape.texts c 0) cap high s u → IsAdded (IsTupleOf z (take s.shape.texts texts)) cap high s u
   split_added a = record {
     grown = grown_on cap high _ _ s s u to_tuple (grown_same cap high _ s is) a.grown;
     whole = record { each = λ xs ns t. a.whole.each xs ns (whole_part z k s.shape.texts c xs ns t.member (ap (take s.shape.texts) et ∙ t.same)) };
   }
 
+  -- where the part was refused, the zone was
   pub split_refused : IsRefused (IsPart z k s.shape.texts c 0) cap high s u → IsRefused (IsTupleOf z (take s.shape.texts texts)) cap high s u
   split_refused r = record { grown = grown_on cap high _ _ s s u to_tuple (grown_same cap high _ s is) r.grown; more = one_more_of cap _ _ u to_tuple r.more }
 
+-- the same of what a call answers
 pub split_ok : {T : Type 0} (z : ZoneView) (k : ℕ) (s : StoreView) (is : IsStore s) (c : Cell) (texts : List ℕ) (cap : ℕ) (u : StoreView) (r : Result T StoreFault)
     → OnOk r (IsAdded (IsPart z k s.shape.texts c 0) cap (reach_of z + (k - 1)) s u) → c.texts ≡ texts → k ≡ s.period → OnOk r (IsAdded (IsTupleOf z (take s.shape.texts texts)) cap (reach_of z + (s.period - 1)) s u)
 split_ok z k s is c texts cap u (Ok x) h et ek = split_added z s.period s is c texts et cap (reach_of z + (s.period - 1)) u (subst (λ n. IsAdded (IsPart z n s.shape.texts c 0) cap (reach_of z + (n - 1)) s u) ek h)
 split_ok z k s is c texts cap u (Err e) h et ek = tt
 
+-- the same of a refusal
 pub split_many : {T : Type 0} (z : ZoneView) (k : ℕ) (s : StoreView) (is : IsStore s) (c : Cell) (texts : List ℕ) (cap : ℕ) (u : StoreView) (r : Result T StoreFault)
     → (r ≡ Err TooManyCells → IsRefused (IsPart z k s.shape.texts c 0) cap (reach_of z + (k - 1)) s u) → c.texts ≡ texts → k ≡ s.period → r ≡ Err TooManyCells → IsRefused (IsTupleOf z (take s.shape.texts texts)) cap (reach_of z + (s.period - 1)) s u
 split_many z k s is c texts cap u r h et ek e = split_refused z s.period s is c texts et cap (reach_of z + (s.period - 1)) u (subst (λ n. IsRefused (IsPart z n s.shape.texts c 0) cap (reach_of z + (n - 1)) s u) ek (h e))
@@ -46,37 +51,47 @@ split_many z k s is c texts cap u r h et ek e = split_refused z s.period s is c 
 pub zone_read : (s now : StoreView) → s ≡ now → (c : Cell) (t : Table) (times : ℕ) (z : ZoneView) → times ≡ s.shape.times → z ≡ record { period = s.period; residues = take times c.residues; bounds = t } → z ≡ zone_of now c t
 zone_read s now same c t times z et ez = ez ∙ ap (λ n. record { period = s.period; residues = take n c.residues; bounds = t }) et ∙ ap (λ v. zone_of v c t) same
 
+-- the zone that is read is a zone
 pub zone_valid : (s now : StoreView) → s ≡ now → IsStore now → (c : Cell) (t : Table) (times : ℕ) → Contains (tables_at now c) t → times ≡ s.shape.times → IsZone (record { period = s.period; residues = take times c.residues; bounds = t })
 zone_valid s now same is c t times held et = subst (λ w. IsZone w) (sym (zone_read s now same c t times _ et refl)) (zone_held now is c t held)
 
+-- the reach of a zone of the store leaves room for the period
 pub reach_fits : (s : StoreView) (c : Cell) (t : Table) (z : ZoneView) (p q : ℕ) → HasReach s (2 ^ 62 - p) → Contains (tables_at s c) t → z ≡ zone_of s c t → q ≡ p → p ≤ 2 ^ 62 → reach_of z + q ≤ 2 ^ 62
 reach_fits s c t z p q reach held ez e low = let r : reach_of z ≤ 2 ^ 62 - p = subst (λ w. reach_of w ≤ 2 ^ 62 - p) (sym ez) (reach.each c t held) in omega arith
 
+-- a list has its first element
 pub head_in : {X : Type 0} (x : X) (xs list : List X) → list ≡ x ∷ xs → Contains list x
 head_in x xs list e = subst (λ l. Contains l x) (sym e) (0, omega arith, refl)
 
+-- and each of the rest
 pub tail_in : {X : Type 0} (x : X) (xs list : List X) → list ≡ x ∷ xs → (y : X) → Contains xs y → Contains list y
 tail_in x xs list e y h = subst (λ l. Contains l y) (sym e) (let l : h.0 < length xs = h.1 in (suc h.0, omega arith, h.2))
 
 -- the zone of one table of a cell is split into a store that has grown by zones of the cell
 module _ (s : StoreView) (is : IsStore s) (c : Cell) (t : Table) (held : Contains (tables_at s c) t) (z : ZoneView) (ez : z ≡ zone_of s c t) (cap : ℕ) (start out new : StoreView) (shape : out.shape ≡ s.shape) (period : out.period ≡ start.period) where
+  -- the tuples of the zone with the texts of the cell
   abbrev Tuples : Set
   Tuples = IsTupleOf z (take out.shape.texts c.texts)
 
+  -- both stores take as many texts
   texts_are : take out.shape.texts c.texts ≡ take s.shape.texts c.texts
   texts_are = ap (λ h. take h.texts c.texts) shape
 
+  -- they are tuples of the cell
   in_cell : (xs : List ℤ) (ns : List ℕ) → Tuples xs ns → InCell s c xs ns
   in_cell xs ns h = record { table = t; held = held; named = sym texts_are ∙ h.same; inside = subst (λ w. IsMember w xs) ez h.member }
 
+  -- so a part of the cell was added
   pub then_aligned : (high : ℕ) → HasReach s high → IsGrown (InCell s c) cap (high + (start.period - 1)) start out → IsGrown Tuples cap (reach_of z + (out.period - 1)) out new → IsGrown (InCell s c) cap (high + (start.period - 1)) start new
   then_aligned high reach g h =
       let low : reach_of z ≤ high = subst (λ w. reach_of w ≤ high) (sym ez) (reach.each c t held) in
       grown_on cap (high + (start.period - 1)) _ _ start out new in_cell g (grown_within cap (reach_of z + (out.period - 1)) (high + (start.period - 1)) _ out new (omega (arith, period)) h)
 
+  -- or a part of the cell was refused
   pub then_many : IsGrown (InCell s c) cap (2 ^ 62) start out → IsRefused Tuples cap (reach_of z + (out.period - 1)) out new → reach_of z + (out.period - 1) ≤ 2 ^ 62 → IsRefused (InCell s c) cap (2 ^ 62) start new
   then_many g r low = record { grown = grown_on cap (2 ^ 62) _ _ start out new in_cell g (grown_within cap (reach_of z + (out.period - 1)) (2 ^ 62) _ out new low r.grown); more = one_more_of cap _ _ new in_cell r.more }
 
+  -- and the tuples of one zone more are held
   pub then_held : (rest list : List Table) → list ≡ t ∷ rest → IsAdded Tuples cap (reach_of z + (out.period - 1)) out new
       → ((u : Table) (xs : List ℤ) → Contains (tables_at s c) u → IsMember (zone_of s c u) xs → InStore out xs (take s.shape.texts c.texts) ⊎ Contains list u)
       → (u : Table) (xs : List ℤ) → Contains (tables_at s c) u → IsMember (zone_of s c u) xs → InStore new xs (take s.shape.texts c.texts) ⊎ Contains rest u
@@ -108,9 +123,11 @@ of_cell s c xs ns h = record { cell = c; table = h.table; held = h.held; named =
 
 -- one cell more is behind
 module _ (s : StoreView) (c : Cell) (cap : ℕ) (start out new : StoreView) (period : out.period ≡ start.period) where
+  -- a part of the store was added
   pub then_cell : (high : ℕ) → IsGrown (InStore s) cap (high + (start.period - 1)) start out → IsGrown (InCell s c) cap (high + (out.period - 1)) out new → IsGrown (InStore s) cap (high + (start.period - 1)) start new
   then_cell high g h = grown_on cap (high + (start.period - 1)) _ _ start out new (of_cell s c) g (subst (λ k. IsGrown (InCell s c) cap (high + (k - 1)) out new) period h)
 
+  -- and the tuples of one cell more are held
   pub then_cell_held : (rest list : List Cell) → list ≡ c ∷ rest → (high : ℕ) → IsAdded (InCell s c) cap high out new
       → ((xs : List ℤ) (ns : List ℕ) → (h : InStore s xs ns) → InStore out xs ns ⊎ Contains list h.cell) → (xs : List ℤ) (ns : List ℕ) → (h : InStore s xs ns) → InStore new xs ns ⊎ Contains rest h.cell
   then_cell_held rest list el high a h xs ns i = elim (h xs ns i) [
@@ -134,9 +151,11 @@ nothing_held s e xs ns h = none_some (sym (get-empty cell_cmp h.cell) ∙ ap (λ
     none_some e = cc
 
 module _ (s : StoreView) (is : IsStore s) (cap k : ℕ) (start out : StoreView) (empty : start.tables ≡ finite.empty) (ek : start.period ≡ k) (shape : start.shape ≡ s.shape) where
+  -- nothing but tuples of the store was added
   sound_of : (high : ℕ) → IsGrown (InStore s) cap high start out → (xs : List ℤ) (ns : List ℕ) → InStore out xs ns → InStore s xs ns
   sound_of high g xs ns h = elim (g.sound xs ns h) [ inl i ↦ absurd (nothing_held start empty xs ns i) | inr i ↦ i ]
 
+  -- with all cells behind, the store is aligned
   pub aligned : ((high : ℕ) → HasReach s high → IsGrown (InStore s) cap (high + (start.period - 1)) start out) → (h0 : ℕ) → HasReach s h0 → ((xs : List ℤ) (ns : List ℕ) → (h : InStore s xs ns) → InStore out xs ns ⊎ Contains [] h.cell) → IsAligned s k out
   aligned g h0 r0 h = record {
     shape = (g h0 r0).shape ∙ shape;
@@ -153,11 +172,13 @@ module _ (s : StoreView) (is : IsStore s) (cap k : ℕ) (start out : StoreView) 
     };
   }
 
+  -- and its tuples inhabit no more than cap cells
   pub aligned_few : (high : ℕ) → IsGrown (InStore s) cap high start out → ((xs : List ℤ) (ns : List ℕ) → (h : InStore s xs ns) → InStore out xs ns ⊎ Contains [] h.cell) → InhabitsMany s.shape k (InStore s) cap → ⊥
   aligned_few high g h more =
       not_many out g.valid (InStore s) cap (record { each = λ xs ns i. elim (h xs ns i) [ inl j ↦ j | inr j ↦ (let l : j.0 < 0 = j.1 in absurd (omega arith)) ] }) (g.few (let e : finite.len start.tables ≡ 0 = ap finite.len empty ∙ len-empty cell_cmp (List Table) in omega arith))
       (subst (λ p. InhabitsMany p out.period (InStore s) cap) (sym (g.shape ∙ shape)) (subst (λ p. InhabitsMany s.shape p (InStore s) cap) (sym (g.period ∙ ek)) more))
 
+  -- a refused cell is one too many for the store
   pub aligned_many : (c : Cell) (high : ℕ) (new : StoreView) → IsGrown (InStore s) cap high start out → IsRefused (InCell s c) cap high out new → InhabitsMany s.shape k (InStore s) cap
   aligned_many c high new g r =
       let all = grown_on cap high _ _ start out new (of_cell s c) g r.grown in

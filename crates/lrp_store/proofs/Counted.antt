@@ -87,16 +87,19 @@ module _ (s : StoreView) (is : IsStore s) where
       let e : h.cell ≡ c = one_cell s.shape s.period h.cell c i.times i.texts (cell_held s is h.cell h.table h.held) i.proper (lies_in i.times i.texts h) i.inside in
       subst (λ d. IsSome (get s.tables d)) e (subst (λ o. IsSome o) (sym (held_of s.tables h.cell h.table h.held)) refl)
 
+-- the order of cells tells equal ones
 decided : (c d : Cell) → Decides (eq_by_cmp cell_cmp c d) (c ≡ d)
 decided c d = elim (cell_or c d) [
   | inl e ↦ (λ is. e.0, λ is. e.1)
   | inr e ↦ (λ is. same_cell c d is, λ is. absurd (e.0 is))
 ]
 
+-- what holds of each element of a list
 all_listed : (P : Cell → Type 0) (cs : List Cell) → ((c : Cell) → Contains cs c → P c) → AllByRecursion P cs
 all_listed P [] each = tt
 all_listed P (c ∷ cs) each = (each c (0, omega arith, refl), all_listed P cs (λ d h. let l : h.0 < length cs = h.1 in each d (suc h.0, omega arith, h.2)))
 
+-- holds of a cell that is found in it
 one_of_all : (P : Cell → Type 0) (cs : List Cell) (c : Cell) → AllByRecursion P cs → list_any (eq_by_cmp cell_cmp c) cs ≡ true → P c
 one_of_all P [] c all h = absurd (nothing h)
   where
@@ -107,16 +110,19 @@ one_of_all P (d ∷ cs) c all h = elim (or_cases (eq_by_cmp cell_cmp c d) _ h) [
   | inr e ↦ one_of_all P cs c all.1 e
 ]
 
+-- the two ways to look a cell up are one
 find_is : (es : List (Cell × List Table)) (c : Cell) → find cell_cmp c es ≡ lookup (eq_by_cmp cell_cmp c) es
 find_is [] c = refl
 find_is (e ∷ es) c = ap (cond (eq_by_cmp cell_cmp c e.0) (Some e.1)) (find_is es c)
 
+-- what the front of a list has, the list has
 Contains-take : {X : Type 0} (n : ℕ) (xs : List X) (x : X) → Contains (take n xs) x → Contains xs x
 Contains-take zero xs x h = let l : h.0 < 0 = h.1 in absurd (omega arith)
 Contains-take (suc n) [] x h = h
 Contains-take (suc n) (y ∷ xs) x (zero, l, e) = (0, omega arith, e)
 Contains-take (suc n) (y ∷ xs) x (suc k, l, e) = let h = Contains-take n xs x (k, omega arith, e) in let m : h.0 < length xs = h.1 in (suc h.0, omega arith, h.2)
 
+-- what holds of all pairs holds of those of the front
 AllPairs-take : {X : Type 0} (R : X → X → Type 0) (n : ℕ) (xs : List X) → AllPairs R xs → AllPairs R (take n xs)
 AllPairs-take R n xs pairs i j d low high =
     let l : length (take n xs) ≤ n = length-take-below n xs in
@@ -143,6 +149,7 @@ any_of (d ∷ cs) c (suc k, l, e) = or_true (eq_by_cmp cell_cmp c d) _ (any_of c
     or_true true b h = refl
     or_true false b h = h
 
+-- where there is a value, it is this
 some_of : {X : Type 0} (o : Option X) → is_some o ≡ true → (x : X) × (o ≡ Some x)
 some_of None h = absurd (nothing h)
   where
@@ -150,6 +157,7 @@ some_of None h = absurd (nothing h)
     nothing e = cc
 some_of (Some x) h = (x, refl)
 
+-- a list that is not empty has an element
 pub first_of : {X : Type 0} (xs : List X) → xs ≢ [] → (x : X) × Contains xs x
 first_of [] some = absurd (some refl)
 first_of (x ∷ xs) some = (x, (0, omega arith, refl))
@@ -159,12 +167,14 @@ module _ (s : StoreView) (is : IsStore s) (set : Set) (cap : ℕ) where
   pub key_held : (c : Cell) → Contains (keys s.tables) c → (list : List Table) × (get s.tables c ≡ Some list)
   key_held c h = some_of (get s.tables c) (contains_key-keys s.tables c ∙ any_of (keys s.tables) c h)
 
+  -- a cell among the keys is inhabited
   key_inhabited : ((xs : List ℤ) (ns : List ℕ) → InStore s xs ns → set xs ns) → (c : Cell) → Contains (keys s.tables) c → IsInhabited s.shape s.period set c
   key_inhabited sound c h =
       let list = key_held c h in
       let table = first_of list.0 (is.cells c list.0 list.1).some in
       held_inhabited s is set sound c table.0 (subst (λ l. Contains l table.0) (sym (ap (λ o. unwrap_or o []) list.1)) table.1)
 
+  -- a cell that is not held is none of the keys
   not_key : (c : Cell) → get s.tables c ≡ None → (k : ℕ) (d : Cell) → k < length (take cap (keys s.tables)) → c ≢ get_or (take cap (keys s.tables)) k d
   not_key c none k d low e =
       let list = key_held c (Contains-take cap (keys s.tables) c (subst (λ x. Contains (take cap (keys s.tables)) x) (sym e) (Contains-get_or (take cap (keys s.tables)) k d low))) in

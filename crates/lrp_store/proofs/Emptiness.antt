@@ -11,6 +11,7 @@ use Rattle.lrp_store.proofs.Counted.{key_held, first_of}
 use Rattle.lrp_store.proofs.Aligning.{nothing_held}
 
 module _ (s : StoreView) (is : IsStore s) where
+  -- a store with a cell has a key
   some_key : (len s.tables ≡ 0 → ⊥) → (c : Cell) × Contains (keys s.tables) c
   some_key some = first_of (keys s.tables) (λ e. some (len-entries s.tables ∙ sym (length-map (entries s.tables) (λ p. p.0)) ∙ ap length e))
 
@@ -24,6 +25,7 @@ module _ (s : StoreView) (is : IsStore s) where
       let m = (zone_held s is c.0 t.0 held).some in
       none m.member (take s.shape.texts c.0.texts) (record { cell = c.0; table = t.0; held = held; named = refl; inside = m.is })
 
+  -- the number of cells is 0 exactly where nothing is held
   pub empty_where : (n : ℕ) → n ≡ len s.tables → IsTrue (nat_eq n 0) ↔ ((xs : List ℤ) (ns : List ℕ) → InStore s xs ns → ⊥)
   empty_where n e = (
     λ none xs ns h. nothing_held s (empty_of_len s.tables (sym e ∙ eqb-true n 0 none)) xs ns h,

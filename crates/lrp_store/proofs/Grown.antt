@@ -49,6 +49,7 @@ grown_within cap low high set s t le g = record {
   reach = λ c table h. elim (g.reach c table h) [ inl j ↦ inl j | inr j ↦ inr (omega arith) ];
 }
 
+-- a cell that a part inhabits is inhabited by the set
 pub inhabited_more : (p q : Set) (s : StoreView) (c : Cell) → ((xs : List ℤ) (ns : List ℕ) → p xs ns → q xs ns) → IsInhabited s.shape s.period p c → IsInhabited s.shape s.period q c
 inhabited_more p q s c f i = record { proper = i.proper; times = i.times; texts = i.texts; is = f i.times i.texts i.is; inside = i.inside }
 
@@ -58,18 +59,22 @@ one_more_of cap p q s f m = record { cell = m.cell; inhabited = inhabited_more p
 
 -- one zone was added to a cell
 module _ (s : StoreView) (is : IsStore s) (c : Cell) (z : ZoneView) (zone : IsZone z) (period : z.period ≡ s.period) (residues : z.residues ≡ take s.shape.times c.residues) (proper : IsCellOf s.shape s.period c) (n : ℕ) where
+  -- the store with one zone more
   abbrev pub grown : StoreView
   grown = record s { tables = finite.insert s.tables c (tables_at s c ++ z.bounds ∷ []); spare = n }
 
+  -- the zone as it is seen in the store
   is_seen : zone_of s c z.bounds ≡ z
   is_seen = ap (λ k. record { period = k; residues = take s.shape.times c.residues; bounds = z.bounds }) (sym period) ∙ ap (λ rs. record { period = z.period; residues = rs; bounds = z.bounds }) (sym residues)
 
+  -- what was held is held
   held_before : (q : Cell) (t : Table) → Contains (tables_at s q) t → Contains (tables_at grown q) t
   held_before q t h = elim (list_put s.tables c (tables_at s c ++ z.bounds ∷ []) q) [
     | inl e ↦ subst (λ list. Contains list t) (sym e.1) (Contains-append_left (tables_at s c) (z.bounds ∷ []) t (subst (λ d. Contains (tables_at s d) t) e.0 h))
     | inr e ↦ subst (λ list. Contains list t) (sym e.1) h
   ]
 
+  -- what is held was held, or is the zone
   held_after : (q : Cell) (t : Table) → Contains (tables_at grown q) t → Contains (tables_at s q) t ⊎ ((q ≡ c) × (z.bounds ≡ t))
   held_after q t h = elim (list_put s.tables c (tables_at s c ++ z.bounds ∷ []) q) [
     | inl e ↦ elim (Contains-push_cases (tables_at s c) z.bounds t (subst (λ list. Contains list t) e.1 h)) [
@@ -79,6 +84,7 @@ module _ (s : StoreView) (is : IsStore s) (c : Cell) (z : ZoneView) (zone : IsZo
     | inr e ↦ inl (subst (λ list. Contains list t) e.1 h)
   ]
 
+  -- the zone is held
   held_here : Contains (tables_at grown c) z.bounds
   held_here = elim (list_put s.tables c (tables_at s c ++ z.bounds ∷ []) c) [
     | inl e ↦ subst (λ list. Contains list z.bounds) (sym e.1) (Contains-push (tables_at s c) z.bounds)
@@ -143,9 +149,11 @@ grown_spare set cap high s n valid = record {
 module _ {T : Type 0} (s : StoreView) (is : IsStore s) (c : Cell) (z : ZoneView) (zone : IsZone z) (period : z.period ≡ s.period) (residues : z.residues ≡ take s.shape.times c.residues) (texts : IsPadded 0 s.shape.texts c.texts) (times : IsPadded (pos 0) s.shape.times c.residues)
     (cap high : ℕ) (set : Set) (of : (xs : List ℤ) → IsMember z xs → set xs (take s.shape.texts c.texts)) (low : greatest_of z.bounds ≤ high)
     (new : StoreView) (valid : IsStore new) (rest : new ≡ record s { tables = new.tables; spare = new.spare }) (r : Result T StoreFault) (exact : (r ≡ Err TooManyCells) ↔ ((get s.tables c ≡ None) × (cap ≤ len s.tables))) where
+  -- the cell is of the shape and the period
   proper : IsCellOf s.shape s.period c
   proper = cell_of s is c z zone period residues texts times
 
+  -- on success a part of the set was added
   pub added : OnOk r (new.tables ≡ finite.insert s.tables c (tables_at s c ++ z.bounds ∷ [])) → OnOk r (IsGrown set cap high s new × ((xs : List ℤ) → IsMember z xs → InStore new xs (take s.shape.texts c.texts)))
   added ok = by_result r refl ok
     where
@@ -162,6 +170,7 @@ module _ {T : Type 0} (s : StoreView) (is : IsStore s) (c : Cell) (z : ZoneView)
       )
       by_result (Err x) e h = tt
 
+  -- on a refusal the cell is one too many
   pub refused : OnErr r (new.tables ≡ s.tables) → r ≡ Err TooManyCells → IsRefused set cap high s new
   refused err e =
       let same : record s { spare = new.spare } ≡ new = ap (λ m. record s { tables = m; spare = new.spare }) (sym (subst (λ o. OnErr o (new.tables ≡ s.tables)) e err)) ∙ sym rest in

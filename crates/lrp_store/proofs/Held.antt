@@ -16,12 +16,15 @@ use Rattle.lrp_slots.proofs.Tables.{cells_total, same_cell, other_cell}
 use Rattle.lrp_zone.specs.Zones.{ZoneView, IsZone, IsResidue}
 use Rattle.lrp_store.specs.Stores.{StoreView, IsStore, IsHeld, IsCellOf, IsPadded, zone_of, tables_at, zones_at}
 
+-- the stored bounds of a zone
 abbrev pub Table : Type 0
 Table = List (Option ℤ)
 
+-- the tables of each cell
 abbrev pub Tables : Type 0
 Tables = FinMap cell_cmp (List Table)
 
+-- the front of a list has the same nodes
 pub node_take : (n : ℕ) (l : List ℤ) (p : ℕ) → p ≤ n → node (take n l) p ≡ node l p
 node_take n l zero h = refl
 node_take n l (suc p) h = get_or-take n l p (pos 0) (omega arith)
@@ -41,6 +44,7 @@ get_put m c list q = elim (cell_or q c) [
   | inr e ↦ inr (e.0, get-insert cells_total m c list q ∙ ap (λ b. cond b (Some list) (get m q)) e.1)
 ]
 
+-- the same of its list
 pub list_put : (m : Tables) (c : Cell) (list : List Table) (q : Cell) → ((q ≡ c) × (list_at (finite.insert m c list) q ≡ list)) ⊎ ((q ≢ c) × (list_at (finite.insert m c list) q ≡ list_at m q))
 list_put m c list q = elim (get_put m c list q) [
   | inl e ↦ inl (e.0, ap (λ o. unwrap_or o []) e.1)
@@ -61,6 +65,7 @@ get_set m c (t ∷ list) q = elim (get_put m c (t ∷ list) q) [
     some_empty : (t : Table) (list : List Table) → t ∷ list ≡ [] → ⊥
     some_empty t list e = cc
 
+-- the same of its list
 pub list_set : (m : Tables) (c : Cell) (list : List Table) (q : Cell) → ((q ≡ c) × (list_at (set_list m c list) q ≡ list)) ⊎ ((q ≢ c) × (list_at (set_list m c list) q ≡ list_at m q))
 list_set m c list q = elim (get_set m c list q) [
   | inl e ↦ elim e.1 [
@@ -82,12 +87,15 @@ held_of m c t in_list = by_option (get m c) in_list
 pub zone_held : (s : StoreView) → IsStore s → (c : Cell) (t : Table) → Contains (tables_at s c) t → IsZone (zone_of s c t)
 zone_held s is c t h = All-contains (λ table. IsZone (zone_of s c table)) (tables_at s c) t (is.cells c (tables_at s c) (held_of s.tables c t h)).zones h
 
+-- each cell of a store is of its shape and period
 pub cell_held : (s : StoreView) → IsStore s → (c : Cell) (t : Table) → Contains (tables_at s c) t → IsCellOf s.shape s.period c
 cell_held s is c t h = (is.cells c (tables_at s c) (held_of s.tables c t h)).proper
 
+-- a value is one value
 some_is : {X : Type 0} (o : Option X) (x y : X) → o ≡ Some x → o ≡ Some y → x ≡ y
 some_is o x y e f = cc
 
+-- and not none
 none_is : {X : Type 0} (o : Option X) (x : X) → o ≡ None → o ≡ Some x → ⊥
 none_is o x e f = cc
 
@@ -173,6 +181,7 @@ module _ (s : StoreView) (is : IsStore s) (c : Cell) where
       ];
     }
 
+  -- the store without a zone of the cell
   abbrev pub without : ℕ → ℕ → StoreView
   without i n = record s { tables = set_list s.tables c (remove (tables_at s c) i); spare = n }
 
@@ -252,6 +261,7 @@ taken_out s is c i n t e m em = subst (λ k. IsStore (record { shape = s.shape; 
 pub zone_there : (s : StoreView) → IsStore s → (c : Cell) (i times : ℕ) (t : Table) → Some t ≡ slice_get (tables_at s c) i → times ≡ s.shape.times → IsZone (record { period = s.period; residues = take times c.residues; bounds = t })
 zone_there s is c i times t e et = subst (λ n. IsZone (record { period = s.period; residues = take n c.residues; bounds = t })) (sym et) (zone_held s is c t (Contains-from_get (tables_at s c) i t (sym e)))
 
+-- the zone that is read at a place is the one that is seen there
 pub zone_seen : (s now : StoreView) → s ≡ now → (c : Cell) (i times : ℕ) (t : Table) (z : ZoneView) → Some t ≡ slice_get (tables_at s c) i → times ≡ s.shape.times → z ≡ record { period = s.period; residues = take times c.residues; bounds = t } → Some z ≡ slice_get (zones_at now c) i
 zone_seen s now same c i times t z e et ez =
     ap Some (ez ∙ ap (λ n. record { period = s.period; residues = take n c.residues; bounds = t }) et) ∙ ap (option_map (zone_of s c)) e ∙ sym (slice_get-map (zone_of s c) (tables_at s c) i)

@@ -1,3 +1,4 @@
+-- The lemmas: stored bounds, stores, counts of cells, splits, larger periods and tidy lists.
 pub mod Counted
 pub mod Grown
 pub mod Held

@@ -56,14 +56,17 @@ pub get_or-table_of : (bs : List Bound) (p : ℕ) → p < 81 → get_or (table_o
 unfolding table_of
 get_or-table_of bs p h = get_or-map-range_with_len (listed_at bs) 0 81 p p None h (omega arith)
 
+-- a table has 81 places
 pub length-table_of : (bs : List Bound) → length (table_of bs) ≡ 81
 unfolding table_of
 length-table_of bs = length-map (range_with_len 0 81) (listed_at bs) ∙ length-range_with_len 0 81
 
 module _ (table : List (Option ℤ)) (size : length table ≡ 81) where
+  -- no bound is listed yet
   pub none_of : AreOf table 0 []
   none_of = record { left = λ i h. absurd (omega arith); right = λ i h. absurd (omega arith); from = λ i h. absurd (omega arith); all = λ p a h. absurd (omega arith); count = refl }
 
+  -- what holds of each listed bound and of one more
   one_more : (n : ℕ) (bs : List Bound) (b : Bound) → (P : Bound → Type 0) → ((i : ℕ) → i < length bs → P (bound_at bs i)) → P b → (i : ℕ) → i < length (bs ++ b ∷ []) → P (bound_at (bs ++ b ∷ []) i)
   one_more n bs b P old new i h =
       let l : length (bs ++ b ∷ []) ≡ length bs + 1 = length-append bs (b ∷ []) in
@@ -138,27 +141,32 @@ module _ (table : List (Option ℤ)) (size : length table ≡ 81) where
 
 -- the bounds of a zone's table are the zone's own
 module _ (z : ZoneView) (valid : IsZone z) (bs : List Bound) (are : AreListed bs) (is : table_of bs ≡ z.bounds) where
+  -- each listed bound stands in the table
   stands : (i : ℕ) → i < length bs → entry z.bounds (bound_at bs i).left (bound_at bs i).right ≡ Some (bound_at bs i).most
   stands i h = ap (λ t. get_or t (place_of (bound_at bs i)) None) (sym is) ∙ get_or-table_of bs (place_of (bound_at bs i)) (within (bound_at bs i) (are.left i h) (are.right i h)) ∙ are.one i h
     where
       within : (b : Bound) → b.left < 9 → b.right < 9 → place_of b < 81
       within b l r = omega arith
 
+  -- a bound is not none
   some_none : (e : Option ℤ) (a : ℤ) → e ≡ Some a → e ≡ None → ⊥
   some_none e a f g = cc
 
+  -- it is on the columns
   left_within : (i : ℕ) → i < length bs → (bound_at bs i).left ≤ columns_of z
   left_within i h = elim (cases_lt (columns_of z) (bound_at bs i).left) [
     | inl past ↦ absurd (some_none _ _ (stands i h) (valid.shape.outside.none (bound_at bs i).left (bound_at bs i).right (are.left i h) (are.right i h) (inl (omega arith))))
     | inr low ↦ low
   ]
 
+  -- on both sides
   right_within : (i : ℕ) → i < length bs → (bound_at bs i).right ≤ columns_of z
   right_within i h = elim (cases_lt (columns_of z) (bound_at bs i).right) [
     | inl past ↦ absurd (some_none _ _ (stands i h) (valid.shape.outside.none (bound_at bs i).left (bound_at bs i).right (are.left i h) (are.right i h) (inr (omega arith))))
     | inr low ↦ low
   ]
 
+  -- the listed bounds are those of the zone
   pub own : (k : ℤ) (rs : List ℤ) → k ≡ pos z.period → rs ≡ z.residues → AreOwn z k rs bs
   own k rs ek er = record {
     period = ek;
@@ -172,6 +180,7 @@ module _ (z : ZoneView) (valid : IsZone z) (bs : List Bound) (are : AreListed bs
         (w.0, w.1, omega arith, omega arith);
   }
 
+  -- each is tight
   given_at : (b : Bound) → b.left ≤ columns_of z → b.right ≤ columns_of z → entry z.bounds b.left b.right ≡ Some b.most → IsGiven (pos z.period) z.residues b
   given_at b l r e =
       let t = subst (IsTight (pos z.period) (node z.residues b.left -ℤ node z.residues b.right)) e (valid.shape.tight b.left b.right l r) in
@@ -179,18 +188,22 @@ module _ (z : ZoneView) (valid : IsZone z) (bs : List Bound) (are : AreListed bs
       let high : b.most ≤ℤ pos (2 ^ 62) = t.1.1 in
       record { left = l; right = r; fits = record { room = inl (t.0, omega (arith, ints)) } }
 
+  -- so they can be given
   pub given : (k : ℤ) (rs : List ℤ) → k ≡ pos z.period → rs ≡ z.residues → AreGiven k rs bs
   given k rs ek er =
       subst (λ y. AreGiven y rs bs) (sym ek) (subst (λ y. AreGiven (pos z.period) y bs) (sym er) (record { each = λ i h. given_at (bound_at bs i) (left_within i h) (right_within i h) (stands i h) }))
 
+-- the bounds of the entries with one more
 map_push : (es : List Entry) (e : Entry) → bounds_of (es ++ e ∷ []) ≡ bounds_of es ++ (record { left = e.left; right = e.right; most = e.most }) ∷ []
 map_push [] e = refl
 map_push (x ∷ es) e = ap (λ bs. (record { left = x.left; right = x.right; most = x.most }) ∷ bs) (map_push es e)
 
+-- the front of a table has no more bounds than the table
 taken_count : (table : List (Option ℤ)) (n : ℕ) → count_of (take n table) ≤ count_of table
 taken_count table n = sum_by-take-le (λ e. cond (is_some e) 1 0) table n
 
 module _ (table : List (Option ℤ)) (size : length table ≡ 81) (n : ℕ) (low : n < 81) (old : List Entry) (of : AreOf table n (bounds_of old)) where
+  -- a row and a column are a place
   at_place : entry table (n / 9) (n % 9) ≡ get_or table n None
   at_place = let e : 9 * (n / 9) + n % 9 ≡ n = omega arith in ap (λ p. get_or table p None) e
 
@@ -217,6 +230,7 @@ module _ (table : List (Option ℤ)) (size : length table ≡ 81) (n : ℕ) (low
 pub taken : (count : ℕ) (out : List Bound) (now items : List Entry) → count ≡ length items → now ≡ items → take (length now) out ≡ bounds_of now → bounds_of items ≡ take count out
 taken count out now items ec en e = sym (ap (λ k. take k out) (ec ∙ ap length (sym en)) ∙ e ∙ ap bounds_of en)
 
+-- a period is the same in a word with a sign
 pub word_period : (k : ℕ) → k ≤ 2 ^ 62 → to_z w64 k ≡ pos k
 word_period k h = omega (arith, ints)
 
@@ -227,6 +241,7 @@ read_back z valid bs items same are is k rs ek er =
     let t : table_of bs ≡ z.bounds = subst (λ l. table_of l ≡ z.bounds) same is in
     (given z valid bs a t k rs ek er, own z valid bs a t k rs ek er)
 
+-- so is a bound
 pub word_bound : (a : ℤ) → AtMost (2 ^ 62) (Some a) → to_z w64 (of_z w64 a) ≡ a
 word_bound a h = within a h.0 h.1
   where
@@ -238,5 +253,6 @@ pub tight_is_small : (k w : ℤ) (e f : Option ℤ) → f ≡ e → IsTight k w 
 tight_is_small k w None f same h = subst (λ y. AtMost (2 ^ 62) y) (sym same) tt
 tight_is_small k w (Some a) f same h = subst (λ y. AtMost (2 ^ 62) y) (sym same) h.1
 
+-- and its magnitude
 pub word_abs : (a : ℤ) → pos 1 ≤ℤ a → a ≤ℤ pos (2 ^ 62) → nat_abs (to_z w64 (of_z w64 a)) ≡ nat_abs a
 word_abs a low high = omega (arith, ints)

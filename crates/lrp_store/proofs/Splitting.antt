@@ -22,15 +22,19 @@ use Rattle.lrp_store.specs.declared.store.StoreFault.TheVariants.{TooManyCells}
 use Rattle.lrp_store.proofs.Held.{node_take}
 use Rattle.lrp_store.proofs.Grown.{grown_same, grown_on, one_more_of, added, refused}
 
+-- a period is the same in a word
 cast_period : (k : ℕ) → k ≤ 2 ^ 62 → nat_abs (to_z w64 k) ≡ k
 cast_period k h = omega (arith, ints)
 
+-- a residue of the cell is one of the columns
 pub residue_taken : (k n p : ℕ) (cs : List ℤ) → k ≤ 2 ^ 62 → p ≤ n → IsResidue k (node cs p) → IsResidue (nat_abs (to_z w64 k)) (node (take n cs) p)
 residue_taken k n p cs h g r = subst (λ m. IsResidue m (node (take n cs) p)) (sym (cast_period k h)) (subst (λ y. IsResidue k y) (sym (node_take n cs p g)) r)
 
+-- a node is the next one or one before it
 last_or : (q p : ℕ) → q ≤ p + 1 → (q ≤ p) ⊎ (q ≡ p + 1)
 last_or q p h = elim (cases_lt p q) [ inl more ↦ inr (omega arith) | inr less ↦ inl less ]
 
+-- with no column chosen all values agree
 none_chosen : (k : ℕ) (cs xs : List ℤ) (q : ℕ) → q ≤ 0 → Divides (pos k) (node xs q -ℤ node cs q)
 none_chosen k cs xs zero h = Divides-zero (pos k)
 none_chosen k cs xs (suc q) h = absurd (omega arith)
@@ -44,6 +48,7 @@ reduced : (k m : ℕ) (x : ℤ) → 0 < k → Divides (pos k) (x -ℤ pos m) →
 reduced k m x low d = Divides-is (pos k) ((x -ℤ pos m) +ℤ (pos m -ℤ pos (m % k))) _ (omega (arith, ints)) (Divides-+ (pos k) _ _ d (rem_divides (pos k) (pos m) (pos (m % k)) (omega (arith, ints)) refl))
 
 module _ (z : ZoneView) (k n : ℕ) (c : Cell) where
+  -- the tuples that agree up to a column
   abbrev Part : ℕ → List ℤ → List ℕ → Type 0
   Part p = IsPart z k n c p
 
@@ -134,18 +139,23 @@ module _ (z : ZoneView) (k n : ℕ) (c : Cell) where
 
 -- a store that has grown by a part of the tuples, and then by those of one more residue
 module _ (z : ZoneView) (k : ℕ) (c : Cell) (low : 0 < k) (p : ℕ) (choice : Choice) (is : IsChoice z k c.residues p choice) (t : ℕ) (next : Cell) (put : IsPut c p ((choice.first + t * z.period) % k) next) (cap high : ℕ) (s u v : StoreView) (grown : IsGrown (IsPart z k s.shape.texts c p) cap high s u) where
+  -- both stores take as many texts
   texts_same : u.shape.texts ≡ s.shape.texts
   texts_same = ap (λ h. h.texts) grown.shape
 
+  -- the part of one residue more is within the part
   part_within : (xs : List ℤ) (ns : List ℕ) → IsPart z k u.shape.texts next (p + 1) xs ns → IsPart z k s.shape.texts c p xs ns
   part_within xs ns h = part_less z k s.shape.texts c low p choice is t next put xs ns (subst (λ n. IsPart z k n next (p + 1) xs ns) texts_same h)
 
+  -- so the part was added to
   pub then_grown : IsGrown (IsPart z k u.shape.texts next (p + 1)) cap high u v → IsGrown (IsPart z k s.shape.texts c p) cap high s v
   then_grown g = grown_on cap high _ _ s u v part_within grown g
 
+  -- or a cell of the part is one too many
   pub then_refused : IsRefused (IsPart z k u.shape.texts next (p + 1)) cap high u v → IsRefused (IsPart z k s.shape.texts c p) cap high s v
   then_refused r = record { grown = then_grown r.grown; more = one_more_of cap _ _ v part_within r.more }
 
+  -- and one residue more is behind
   pub then_behind : IsAdded (IsPart z k u.shape.texts next (p + 1)) cap high u v
       → ((xs : List ℤ) (ns : List ℕ) → IsPart z k s.shape.texts c p xs ns → (m : ℕ) → m < t → Divides (pos k) (node xs (p + 1) -ℤ pos (choice.first + m * z.period)) → InStore u xs ns)
       → (xs : List ℤ) (ns : List ℕ) → IsPart z k s.shape.texts c p xs ns → (m : ℕ) → m < t + 1 → Divides (pos k) (node xs (p + 1) -ℤ pos (choice.first + m * z.period)) → InStore v xs ns

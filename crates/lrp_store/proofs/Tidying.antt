@@ -18,6 +18,7 @@ use Rattle.lrp_store.proofs.Held.{Table, get_set, list_set}
 abbrev pub skip : ℕ → ℕ → ℕ
 skip i k = cond (ltb k i) k (suc k)
 
+-- an element before i keeps its number, and one behind it has the next
 skip_or : (i k : ℕ) → ((k < i) × (skip i k ≡ k)) ⊎ ((i ≤ k) × (skip i k ≡ suc k))
 skip_or i k = elim (cases_lt k i) [
   | inl less ↦ inl (less, ap (λ b. cond b k (suc k)) (lt-ltb k i less))
@@ -36,12 +37,15 @@ unskip i j apart = elim (cases_lt j i) [
     after i (suc j) apart more = let le : i ≤ j = omega arith in (j, ap (λ b. cond b j (suc j)) (le-ltb j i le), inr (refl, omega arith))
 
 module _ {X : Type 0} (xs : List X) (i : ℕ) (low : i < length xs) where
+  -- so many stand before i
   taken : length (take i xs) ≡ i
   taken = length-take-le i xs (omega arith)
 
+  -- a list without an element is one shorter
   pub length-remove : length (remove xs i) + 1 ≡ length xs
   length-remove = let l : length (remove xs i) ≡ length (take i xs) + length (drop (suc i) xs) = length-append (take i xs) (drop (suc i) xs) in let t : length (take i xs) ≡ i = taken in let d : length (drop (suc i) xs) ≡ length xs - suc i = length-drop (suc i) xs in omega arith
 
+  -- and its elements are the others
   pub get_or-remove : (k : ℕ) (d : X) → get_or (remove xs i) k d ≡ get_or xs (skip i k) d
   get_or-remove k d = elim (skip_or i k) [
     | inl e ↦ get_or_append_left (take i xs) (drop (suc i) xs) d k (let t : length (take i xs) ≡ i = taken in let l : k < i = e.0 in omega arith) ∙ get_or-take i xs k d e.0 ∙ ap (λ n. get_or xs n d) (sym e.1)
@@ -58,12 +62,15 @@ pub record IsTidiedTo (s : StoreView) (cell : Cell) (old new : List Table) (i : 
   pub apart : (a b : ℕ) → a < i → a < length new → b < length new → a ≢ b → IsWithin (nth_zone s cell new a) (nth_zone s cell new b) → ⊥
 
 module _ (s : StoreView) (cell : Cell) (old : List Table) where
+  -- a zone lies within itself
   within_itself : (z : ZoneView) → IsWithin z z
   within_itself z = record { each = λ xs m. m }
 
+  -- and within what one that holds it lies within
   within_further : (v w z : ZoneView) → IsWithin v w → IsWithin w z → IsWithin v z
   within_further v w z f g = record { each = λ xs m. g.each xs (f.each xs m) }
 
+  -- at the start nothing was looked at
   pub none_tidied : IsTidiedTo s cell old old 0
   none_tidied = record {
     place = λ k. k;
@@ -74,6 +81,7 @@ module _ (s : StoreView) (cell : Cell) (old : List Table) where
     apart = λ a b h. absurd (omega arith);
   }
 
+  -- at the end everything was
   pub all_tidied : (new : List Table) (i : ℕ) → length new ≤ i → IsTidiedTo s cell old new i → IsTidied s cell old new
   all_tidied new i high t = record { place = t.place; rising = t.rising; inside = t.inside; same = t.same; covered = t.covered; apart = λ a b al bl. t.apart a b (omega arith) al bl }
 
@@ -168,6 +176,7 @@ of_one_cell s cell ts a b z w ez ew = record { period = ap (λ v. v.period) ew �
 pub seen_within : (s : StoreView) (cell : Cell) (ts : List Table) (a b : ℕ) (z w : ZoneView) → z ≡ nth_zone s cell ts a → w ≡ nth_zone s cell ts b → IsWithin z w → IsWithin (nth_zone s cell ts a) (nth_zone s cell ts b)
 seen_within s cell ts a b z w ez ew h = subst (λ y. IsWithin (nth_zone s cell ts a) y) ew (subst (λ y. IsWithin y w) ez h)
 
+-- and the other way round
 pub read_within : (s : StoreView) (cell : Cell) (ts : List Table) (a b : ℕ) (z w : ZoneView) → z ≡ nth_zone s cell ts a → w ≡ nth_zone s cell ts b → IsWithin (nth_zone s cell ts a) (nth_zone s cell ts b) → IsWithin z w
 read_within s cell ts a b z w ez ew h = subst (λ y. IsWithin z y) (sym ew) (subst (λ y. IsWithin y (nth_zone s cell ts b)) (sym ez) h)
 
@@ -181,13 +190,16 @@ pub nth_same : (s now : StoreView) → now ≡ record s { tables = now.tables; s
 nth_same s now rest cell ts k = ap (λ v. nth_zone v cell ts k) rest
 
 module _ (s now new : StoreView) (cell : Cell) (i : ℕ) (low : i < length (tables_at now cell)) (rest : now ≡ record s { tables = now.tables; spare = now.spare }) where
+  -- the shape and the period stay
   pub rest_then : new ≡ record now { tables = new.tables; spare = new.spare } → new ≡ record s { tables = new.tables; spare = new.spare }
   rest_then e = let f : StoreView → StoreView = λ v. record v { tables = new.tables; spare = new.spare } in e ∙ ap f rest
 
+  -- a covered zone goes
   pub covered_then : IsCovered now cell i → IsTidiedTo s cell (tables_at s cell) (tables_at now cell) i → IsTidiedTo s cell (tables_at s cell) (remove (tables_at now cell) i) i
   covered_then h t = one_goes s cell (tables_at s cell) (tables_at now cell) i low t h.place h.low h.other (subst (λ z. IsWithin z (nth_zone s cell (tables_at now cell) h.place)) (nth_same s now rest cell (tables_at now cell) i)
       (subst (λ z. IsWithin (nth_zone now cell (tables_at now cell) i) z) (nth_same s now rest cell (tables_at now cell) h.place) h.within))
 
+  -- another one stays
   pub stays_then : (IsCovered now cell i → ⊥) → IsTidiedTo s cell (tables_at s cell) (tables_at now cell) i → IsTidiedTo s cell (tables_at s cell) (tables_at now cell) (i + 1)
   stays_then none t = one_stays s cell (tables_at s cell) (tables_at now cell) i t (λ j jl other w. none (record {
     place = j;
@@ -197,11 +209,14 @@ module _ (s now new : StoreView) (cell : Cell) (i : ℕ) (low : i < length (tabl
   }))
 
   module _ (tables : new.tables ≡ set_list now.tables cell (remove (tables_at now cell) i)) where
+    -- the list without the zone
     pub list_then : tables_at new cell ≡ remove (tables_at now cell) i
     list_then = ap (λ m. list_at m cell) tables ∙ (elim (list_set now.tables cell (remove (tables_at now cell) i) cell) [ inl e ↦ e.1 | inr e ↦ absurd (e.0 refl) ])
 
+    -- the other cells keep theirs
     pub others_then : (q : Cell) → q ≢ cell → finite.get new.tables q ≡ finite.get now.tables q
     others_then q apart = ap (λ m. finite.get m q) tables ∙ (elim (get_set now.tables cell (remove (tables_at now cell) i) q) [ inl e ↦ absurd (apart e.0) | inr e ↦ e.1 ])
 
+    -- it is one shorter
     pub length_then : length (tables_at new cell) + 1 ≡ length (tables_at now cell)
     length_then = ap (λ l. length l + 1) list_then ∙ length-remove (tables_at now cell) i low

@@ -1,3 +1,4 @@
+-- What stores, tables and answers stand for, and what the calls that change them do.
 pub mod Aligned
 pub mod Choices
 pub mod Codes

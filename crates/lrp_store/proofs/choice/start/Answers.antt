@@ -1,3 +1,4 @@
+-- The remainder is a residue of the start.
 use Rattle.std.proofs.Common.{arith}
 use Rattle.std.proofs.lemmas.Int.{ints}
 use Rattle.lrp_store.proofs.Ranges.{start_cast}

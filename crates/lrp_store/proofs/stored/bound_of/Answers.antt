@@ -1,3 +1,4 @@
+-- A tight bound is within the limit.
 use Rattle.std.proofs.Common.{arith}
 use Rattle.lrp_store.proofs.Listed.{tight_is_small}
 use Rattle.lrp_store.proofs.stored.bound_of.Goals as goal

@@ -1,3 +1,4 @@
+-- The first bounds are those of the first entries.
 use Rattle.std.proofs.Common.{◌≡◌, length, take}
 use Rattle.lrp_store.specs.Stored.{bounds_of}
 use Rattle.lrp_store.proofs.stored.bounds_of_entries.Given as goal

@@ -1,3 +1,4 @@
+-- The residues that are tried miss no tuple, so the parts make up the whole.
 use Rattle.std.proofs.Common.{arith, subst, ◌+◌, ◌*◌, ◌%◌}
 use Rattle.lrp_store.specs.Choices.{IsPut}
 use Rattle.lrp_store.proofs.Splitting.{begun_more, then_grown, then_refused, then_behind, all_behind}

@@ -1,3 +1,4 @@
+-- What holds after some residues of a column: the tuples of those residues are held, and nothing else was added.
 use Rattle.std.proofs.Common.{ℕ, ◌+◌, ◌-◌, ◌*◌, ◌<◌, List}
 use Rattle.std.specs.Prelude.{ℤ, pos, ◌-ℤ◌}
 use Rattle.lrp_theory.specs.Divides.{Divides}

@@ -1,3 +1,4 @@
+-- The piece of all residues is added, or there is none.
 use Rattle.std.proofs.Common.{◌≤◌, length, arith, ap, ◌∙◌, take, ◌≡◌}
 use Rattle.std.proofs.lemmas.List.{length-take-le}
 use Rattle.lrp_zone.specs.Zones.{columns_of}

@@ -1,3 +1,4 @@
+-- The residue stands at its place, and no other place changes.
 use Rattle.std.proofs.Common.{arith}
 use Rattle.lrp_store.proofs.Listed.{word_period}
 use Rattle.lrp_store.proofs.Splitting.{put_is}

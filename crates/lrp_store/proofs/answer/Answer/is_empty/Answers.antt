@@ -1,3 +1,4 @@
+-- There is a tuple exactly where there is a cell.
 use Rattle.lrp_store.proofs.Emptiness.{empty_where}
 use Rattle.lrp_store.proofs.answer.Answer.is_empty.Goals as goal
 

@@ -1,3 +1,4 @@
+-- The list with one zone more is that of a store.
 use Rattle.std.proofs.Common.{◌≡◌, arith, subst, IsSome, true, false}
 use Rattle.lrp_store.proofs.Held.{same_tables, appended}
 use Rattle.lrp_store.proofs.store.Store.add.Goals as goal

@@ -1,3 +1,4 @@
+-- Cell after cell, all tuples are held, or one cell is too many.
 use Rattle.std.proofs.Common.{◌-◌, ◌≤◌, ◌<◌, ◌^◌, ◌⊎◌, ◌≡◌, inr, arith, ap, subst, sym, ◌∙◌, Contains}
 use Rattle.std.specs.Prelude.{nat_abs}
 use Rattle.lrp_store.specs.Stores.{InStore}

@@ -1,3 +1,4 @@
+-- The tuples of the cells that are behind are held, and nothing else was added.
 use Rattle.std.proofs.Common.{ℕ, ◌+◌, ◌-◌, ◌⊎◌, List, Contains}
 use Rattle.std.specs.Prelude.{ℤ}
 use Rattle.lrp_store.specs.Stores.{InStore, HasReach}

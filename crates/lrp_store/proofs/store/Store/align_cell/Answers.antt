@@ -1,3 +1,4 @@
+-- Zone after zone, all tuples of the cell are held, or one cell is too many.
 use Rattle.std.proofs.Common.{◌+◌, ◌-◌, ◌≤◌, ◌<◌, ◌^◌, arith, subst, ◌∙◌, Contains, take, ◌⊎◌}
 use Rattle.lrp_zone.specs.Zones.{reach_of}
 use Rattle.lrp_store.specs.Stores.{InStore}

@@ -1,3 +1,4 @@
+-- The tuples of the zones that are behind are held, and nothing else was added.
 use Rattle.std.proofs.Common.{ℕ, ◌+◌, ◌-◌, ◌⊎◌, List, Option, take, Contains}
 use Rattle.std.specs.Prelude.{ℤ}
 use Rattle.lrp_zone.specs.Zones.{IsMember}

@@ -1,3 +1,4 @@
+-- Equal tables are those of a store.
 use Rattle.lrp_store.proofs.Held.{same_tables}
 use Rattle.lrp_store.proofs.store.Store.copy.Goals as goal
 

@@ -1,3 +1,4 @@
+-- What is read of the zones holds of those of the cell.
 use Rattle.std.proofs.Common.{◌≡◌, inl, inr, arith, refl, subst, sym, ◌∙◌, true, false}
 use Rattle.std.proofs.lemmas.Bool.{cases_lt}
 use Rattle.lrp_zone.specs.Pairs.{IsWithin}

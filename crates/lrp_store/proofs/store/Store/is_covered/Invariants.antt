@@ -1,3 +1,4 @@
+-- The zone lies within none of those that were looked at.
 use Rattle.std.proofs.Common.{ℕ, ◌<◌, ◌≢◌}
 use Rattle.lrp_zone.specs.Pairs.{IsWithin}
 use Rattle.lrp_store.specs.Stores.{tables_at}

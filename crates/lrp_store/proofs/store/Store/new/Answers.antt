@@ -1,3 +1,4 @@
+-- A store without cells is a store.
 use Rattle.std.proofs.Common.{arith, ◌<◌, ◌≤◌, ◌^◌, to_z, of_z}
 use Rattle.std.specs.Int.{w64}
 use Rattle.std.specs.Prelude.{nat_abs}

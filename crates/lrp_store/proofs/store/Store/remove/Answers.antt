@@ -1,3 +1,4 @@
+-- The list without one zone is that of a store.
 use Rattle.lrp_store.proofs.Held.{taken_out, zone_there, zone_seen}
 use Rattle.lrp_store.proofs.store.Store.remove.Goals as goal
 

@@ -1,3 +1,4 @@
+-- With no residue chosen, the part is the whole zone.
 use Rattle.std.proofs.Common.{arith, refl}
 use Rattle.std.proofs.lemmas.Int.{ints}
 use Rattle.lrp_store.proofs.Aligning.{split_ok, split_many}

@@ -1,3 +1,4 @@
+-- A zone goes where it lies within another, and else stays.
 use Rattle.std.proofs.Common.{◌≡◌, ◌+◌, ◌<◌, arith, refl, subst, sym, ◌∙◌, length, true, false}
 use Rattle.lrp_store.specs.Stores.{tables_at}
 use Rattle.lrp_store.proofs.Tidying.{IsTidiedTo, none_tidied, is_given, rest_then, covered_then, stays_then, list_then, others_then, length_then}

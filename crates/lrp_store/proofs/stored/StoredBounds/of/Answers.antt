@@ -1,3 +1,4 @@
+-- The bounds of all places stand for the table, and eight of them need no memory.
 use Rattle.std.proofs.Common.{◌≤◌, ◌+◌, arith, sym, ap, subst, ◌∙◌}
 use Rattle.lrp_store.specs.Stored.{bounds_of}
 use Rattle.lrp_store.proofs.Listed.{AreOf, all_listed, table_of-all, pushed, passed, has_room, word_bound}

@@ -1,3 +1,4 @@
+-- The entries are the bounds of the places so far, and eight have room.
 use Rattle.std.proofs.Common.{◌≤◌}
 use Rattle.lrp_store.specs.Stored.{bounds_of}
 use Rattle.lrp_store.proofs.Listed.{AreOf}

@@ -1,3 +1,4 @@
+-- A zone is made again of its own bounds.
 use Rattle.std.proofs.Common.{refl}
 use Rattle.lrp_store.specs.Stored.{bounds_of}
 use Rattle.lrp_store.proofs.Listed.{read_back, taken, word_period}
