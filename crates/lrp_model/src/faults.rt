@@ -51,6 +51,13 @@ pub struct QueryFault {
     pub place: Place,
 }
 
+/// Why no query is read, or none is well-sorted: its one fault, or want of memory.
+#[derive(Clone, Copy, Debug, PartialEq, Eq)]
+pub enum QueryRead {
+    Fault { fault: QueryFault },
+    Memory,
+}
+
 impl DbKind {
     /// The number that ranks the kind among faults at one place.
     pub fn number(self) -> u8

@@ -21,7 +21,7 @@ mod tuples;
 mod written;
 
 pub use domain::Domain;
-pub use faults::{DbFault, DbKind, QueryFault, QueryKind};
+pub use faults::{DbFault, DbKind, QueryFault, QueryKind, QueryRead};
 pub use formulas::{DataTerm, Formula, Head, Op, Query, Term, Test, TimeTerm};
 pub use laws::{
     divisibility_is_decided, free_variables_decide, holding_is_decided, pages_are_unique,

@@ -8,7 +8,7 @@ use Rattle.lrp_model.proofs.domain.Domain.new.Goals as goal
 pub returns : goal.returns
 returns c =
     let moved : IsPermutation c.args.texts c.sort.new.self.items = search rules in
-    c.from_vec.ensures ∙ sorted_once c.args.texts c.sort.new.self.items c.dedup.new.self.items moved c.in_ok-sort.ensures.sorted c.dedup.ensures.filtered
+    c.from_vec.ensures ∙ sorted_once c.args.texts c.sort.new.self.items c.drop_doubles.new.texts.items moved c.in_ok-sort.ensures.sorted c.drop_doubles.ensures.kept
 
 pub invariant_of-result : goal.invariant_of-result
 invariant_of-result c = (subst Ascends (sym (returns c)) (in_order_ascends c.args.texts), search rules)
