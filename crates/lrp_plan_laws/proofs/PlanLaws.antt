@@ -10,7 +10,7 @@ use Rattle.lrp_model.specs.Conjunctions.{Element, State, select_each, is_covered
 use Rattle.lrp_model.specs.declared.formulas.Test.{Test}
 use Rattle.lrp_model.specs.declared.plans.StepKind.{StepKind}
 use Rattle.lrp_model.proofs.Logic.{same, then_iff, not_iff}
-use Rattle.lrp_plan.proofs.Elements.{length_made, formula_made, formula_front, take_out, found, within, first_within, split_all, filter_fewer}
+use Rattle.lrp_plan_laws.proofs.Elements.{length_made, formula_made, formula_front, take_out, found, within, first_within, split_all, filter_fewer}
 
 -- what is said of assignments
 abbrev pub Saying : Type 1

@@ -10,13 +10,13 @@ use Rattle.lrp_model.specs.Core.{column_elements, head_elements, guarded, has_na
 use Rattle.lrp_model.specs.Domains.{same_sort, domain, constants, all_texts}
 use Rattle.lrp_model.specs.Steps.{formula_at}
 use Rattle.lrp_model.specs.Plans.{plan, core_steps, IsPlain}
-use Rattle.lrp_plan.proofs.Elements.{formula_made}
+use Rattle.lrp_plan_laws.proofs.Elements.{formula_made}
 use Rattle.lrp_model.specs.declared.relations.Sort.{Sort}
 use Rattle.lrp_model.specs.declared.relations.Sort.TheVariants.{Time, Data, Named}
 use Rattle.lrp_model.specs.declared.relations.Column.{Column}
 use Rattle.lrp_model.specs.declared.relations.Relation.{Relation}
 use Rattle.lrp_model.proofs.Logic.{same}
-use Rattle.lrp_plan.proofs.CoreLaws.{all_joined, own_name}
+use Rattle.lrp_plan_laws.proofs.CoreLaws.{all_joined, own_name}
 
 is_false : (b : Bool) → (b ≡ true → ⊥) → b ≡ false
 is_false true h = absurd (h refl)

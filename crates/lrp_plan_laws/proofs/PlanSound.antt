@@ -17,9 +17,9 @@ use Rattle.lrp_model.specs.declared.formulas.Test.{Test}
 use Rattle.lrp_model.specs.declared.formulas.Test.TheVariants.{Compare, Member, Equal}
 use Rattle.lrp_model.proofs.Stable.{stable}
 use Rattle.lrp_model.proofs.Logic.{same, then_iff}
-use Rattle.lrp_plan.proofs.CoreLaws.{core_is}
+use Rattle.lrp_plan_laws.proofs.CoreLaws.{core_is}
 use Rattle.lrp_model.proofs.Logic.{all_append}
-use Rattle.lrp_plan.proofs.PlanLaws.{Makes, by_first, by_next, same_saying, kept, chain, Left, IsSound, all_taken, complement_makes}
+use Rattle.lrp_plan_laws.proofs.PlanLaws.{Makes, by_first, by_next, same_saying, kept, chain, Left, IsSound, all_taken, complement_makes}
 
 -- ---- the elements of an `and`, in whatever order
 

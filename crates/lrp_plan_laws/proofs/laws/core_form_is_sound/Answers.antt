@@ -1,5 +1,5 @@
-use Rattle.lrp_plan.proofs.CoreLaws.{keeps, denies, core_is}
-use Rattle.lrp_plan.proofs.laws.core_form_is_sound.Goals as goal
+use Rattle.lrp_plan_laws.proofs.CoreLaws.{keeps, denies, core_is}
+use Rattle.lrp_plan_laws.proofs.laws.core_form_is_sound.Goals as goal
 
 pub returns-clause-keeps : goal.returns-clause-keeps
 returns-clause-keeps c = λ f named M env. keeps f named M env
