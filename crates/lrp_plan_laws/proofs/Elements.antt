@@ -1,11 +1,13 @@
 -- Lists of steps and of elements: the last one, those in front, one taken out, and those that pass a test.
-use Rattle.std.proofs.Common.{◌≡◌, ◌↔◌, ◌≤◌, ◌<◌, ℕ, zero, suc, Bool, true, false, cond, not, nat_lt, List, [], ◌∷◌, ◌++◌, length, length-append, Some, None, option_map, unwrap_or, slice_get, remove, filter, refl, sym, ap, subst, ◌∙◌, arith}
+use Rattle.std.proofs.Common.{◌≡◌, ◌↔◌, ◌⊎◌, inl, inr, ⊎_elim, ◌≤◌, ◌<◌, ℕ, zero, suc, Bool, true, false, cond, not, nat_lt, List, [], ◌∷◌, ◌++◌, length, length-append, Some, None, option_map, unwrap_or, slice_get, remove, filter, refl, sym, ap, subst, ◌∙◌, arith}
 use Rattle.std.specs.List.{AllByRecursion, position_or_len}
 use Rattle.std.proofs.lemmas.Bool.{ltb-true}
 use Rattle.lrp_model.specs.Formulas.{Form, conjunction, no_forms}
 use Rattle.lrp_model.specs.Satisfaction.{Structure}
-use Rattle.lrp_model.specs.Steps.{Steps, formula_at, made}
+use Rattle.lrp_model.specs.Steps.{PlanStep, Steps, step_at, formula_at, reach_at, step_behind, made}
 use Rattle.lrp_model.specs.Conjunctions.{first_or_0}
+use Rattle.lrp_model.specs.Periods.{period}
+use Rattle.lrp_plan_laws.specs.Rising.{period_at}
 use Rattle.lrp_model.specs.declared.plans.StepKind.{StepKind}
 
 -- ---- steps
@@ -28,6 +30,31 @@ formula_made M kind f steps = ap (formula_at (made M kind f steps)) (length_made
 pub formula_front : (steps more : Steps) (i : ℕ) → i ≤ length steps → formula_at (steps ++ more) i ≡ formula_at steps i
 formula_front steps more zero le = refl
 formula_front steps more (suc i) le = ap (λ o. unwrap_or (option_map (λ step. step.formula) o) (conjunction no_forms)) (get_front steps more i (omega arith))
+
+-- step s stands where more steps follow
+pub step_front : (steps more : Steps) (s : ℕ) → s ≤ length steps → step_at (steps ++ more) s ≡ step_at steps s
+step_front steps more zero le = refl
+step_front steps more (suc i) le = get_front steps more i (omega arith)
+
+pub reach_front : (steps more : Steps) (s : ℕ) → s ≤ length steps → reach_at (steps ++ more) s ≡ reach_at steps s
+reach_front steps more s le = ap (λ o. unwrap_or (option_map (λ step. step.reach) o) 0) (step_front steps more s le)
+
+pub reach_made : (M : Structure) (kind : StepKind) (f : Form) (steps : Steps) → reach_at (made M kind f steps) (length (made M kind f steps)) ≡ (step_behind M kind f steps).reach
+reach_made M kind f steps = ap (reach_at (made M kind f steps)) (length_made M kind f steps) ∙ ap (λ o. unwrap_or (option_map (λ step. step.reach) o) 0) (get_last steps _)
+
+pub period_made : (M : Structure) (kind : StepKind) (f : Form) (steps : Steps) → period_at (made M kind f steps) (length (made M kind f steps)) ≡ period M.relations f
+period_made M kind f steps = ap (period_at (made M kind f steps)) (length_made M kind f steps) ∙ ap (λ o. unwrap_or (option_map (λ step. step.period) o) 1) (get_last steps _)
+
+-- a step of steps with one more is an earlier one, or the last
+get_one_more : {X : Type 0} (xs : List X) (x y : X) (i : ℕ) → slice_get (xs ++ x ∷ []) i ≡ Some y → ((i < length xs) × (slice_get xs i ≡ Some y)) ⊎ ((i ≡ length xs) × (x ≡ y))
+get_one_more [] x y zero e = inr (refl, cc)
+get_one_more [] x y (suc i) e = cc
+get_one_more (z ∷ zs) x y zero e = inl (omega arith, e)
+get_one_more (z ∷ zs) x y (suc i) e = ⊎_elim (λ h. inl (let l : i < length zs = h.0 in omega arith, h.1)) (λ h. inr (ap suc h.0, h.1)) (get_one_more zs x y i e)
+
+pub step_one_more : (steps : Steps) (x y : PlanStep) (s : ℕ) → step_at (steps ++ x ∷ []) s ≡ Some y → ((s ≤ length steps) × (step_at steps s ≡ Some y)) ⊎ ((s ≡ suc (length steps)) × (x ≡ y))
+step_one_more steps x y zero e = cc
+step_one_more steps x y (suc i) e = ⊎_elim (λ h. inl (let l : i < length steps = h.0 in omega arith, h.1)) (λ h. inr (ap suc h.0, h.1)) (get_one_more steps x y i e)
 
 -- ---- an element taken out
 

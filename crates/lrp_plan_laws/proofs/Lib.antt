@@ -1,6 +1,13 @@
 pub mod PeriodLaws
 pub mod CoreLaws
 pub mod Elements
+pub mod Rounds
 pub mod PlanLaws
 pub mod PlanSound
 pub mod HeadLaws
+pub mod Names
+pub mod Builds
+pub mod BuildsAnd
+pub mod PlanBuilds
+pub mod CoreNames
+pub mod RisingLaws

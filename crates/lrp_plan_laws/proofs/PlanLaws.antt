@@ -1,16 +1,16 @@
 -- The formula of the last step of a core form's plan says what the core form says.
-use Rattle.std.proofs.Common.{◌≡◌, ◌↔◌, ◌≤◌, ◌<◌, ◌+◌, ℕ, zero, suc, Bool, true, false, cond, not, ◌&&◌, List, [], ◌∷◌, ◌++◌, length, length-append, append_assoc, append-nil, Option, Some, None, slice_get, remove, filter, refl, sym, ap, subst, ◌∙◌, arith}
+use Rattle.std.proofs.Common.{◌≡◌, ◌↔◌, ◌≤◌, ◌<◌, ◌+◌, ℕ, suc, Bool, true, false, cond, not, ◌&&◌, List, [], ◌∷◌, ◌++◌, length, length-append, append_assoc, append-nil, Some, slice_get, remove, filter, refl, sym, ap, subst, ◌∙◌, arith}
 use Rattle.std.specs.List.{AllByRecursion}
-use Rattle.std.proofs.lemmas.List.Edits.{length-remove}
 use Rattle.lrp_model.specs.Formulas.{Form, test}
 use Rattle.lrp_model.specs.Variables.{Variable, free, are_among}
 use Rattle.lrp_model.specs.Satisfaction.{Structure, Assignment, Satisfies, SatisfiesAll, Passes}
 use Rattle.lrp_model.specs.Steps.{Steps, formula_at, step_behind, made, tests_as_forms, join, select, minus, complement}
-use Rattle.lrp_model.specs.Conjunctions.{Element, State, select_each, is_covered, take_in, next_positive, take_positive, take_positives, take_test, take_tests, next_negation, take_negation, take_negations, take_all}
+use Rattle.lrp_model.specs.Conjunctions.{Element, State, select_each, is_covered, take_in, take_positive, take_test, take_negation, take_all}
 use Rattle.lrp_model.specs.declared.formulas.Test.{Test}
 use Rattle.lrp_model.specs.declared.plans.StepKind.{StepKind}
 use Rattle.lrp_model.proofs.Logic.{same, then_iff, not_iff}
-use Rattle.lrp_plan_laws.proofs.Elements.{length_made, formula_made, formula_front, take_out, found, within, first_within, split_all, filter_fewer}
+use Rattle.lrp_plan_laws.proofs.Elements.{length_made, formula_made, formula_front, take_out, split_all}
+use Rattle.lrp_plan_laws.proofs.Rounds.{Finishes, all_rounds, nothing_left}
 
 -- what is said of assignments
 abbrev pub Saying : Type 1
@@ -130,9 +130,8 @@ taken_in M start count p f steps state more is ps ns last says m =
           );
     }
 
-positive_taken : (M : Structure) (start : Steps) (count : ℕ) (p : Saying) (i : ℕ) (o : Option Element) (state : State) → slice_get state.positives i ≡ o → IsOnTheWay M start count p state → IsOnTheWay M start count p (take_positive M i o state)
-positive_taken M start count p i None state e w = w
-positive_taken M start count p i (Some x) state e w =
+positive_taken : (M : Structure) (start : Steps) (count : ℕ) (p : Saying) (i : ℕ) (x : Element) (state : State) → slice_get state.positives i ≡ Some x → IsOnTheWay M start count p state → IsOnTheWay M start count p (take_positive M i (Some x) state)
+positive_taken M start count p i x state e w =
     let sound = (take_out (IsSound M) state.positives i x e).0 w.positives in
     taken_in M start count p x.formula (x.rule M state.steps) (record state { positives = remove state.positives i }) w.more w.is sound.1 w.negations w.last
     (λ env.
@@ -140,9 +139,8 @@ positive_taken M start count p i (Some x) state e w =
     ((λ h. (w.says env).0 (h.0, (t.1 (h.1.0, h.1.1.0), h.1.1.1))), λ a. let h = (w.says env).1 a in let u = t.0 h.1.0 in (h.0, (u.0, (u.1, h.1.1)))))
     (sound.0 state.steps)
 
-test_taken : (M : Structure) (start : Steps) (count : ℕ) (p : Saying) (ts : List Test) (state : State) → state.tests ≡ ts → IsOnTheWay M start count p state → IsOnTheWay M start count p (take_test M ts state)
-test_taken M start count p [] state e w = w
-test_taken M start count p (t ∷ ts) state e w =
+test_taken : (M : Structure) (start : Steps) (count : ℕ) (p : Saying) (t : Test) (ts : List Test) (state : State) → state.tests ≡ t ∷ ts → IsOnTheWay M start count p state → IsOnTheWay M start count p (take_test M (t ∷ ts) state)
+test_taken M start count p t ts state e w =
     taken_in M start count p (test t) (made M _ (test t) state.steps) (record state { tests = ts }) w.more w.is w.positives w.negations w.last
     (λ env. (
       (λ h. (w.says env).0 (h.0, (h.1.1.0, (subst (AllByRecursion (Passes env)) (sym e) (h.1.0, h.1.1.1.0), h.1.1.1.1)))),
@@ -152,7 +150,7 @@ test_taken M start count p (t ∷ ts) state e w =
 
 -- ---- negations
 
-and_first : (a b : Bool) → (a && b) ≡ true → a ≡ true
+pub and_first : (a b : Bool) → (a && b) ≡ true → a ≡ true
 and_first true b e = refl
 and_first false b e = e
 
@@ -171,9 +169,8 @@ negated_makes M before steps false true result g c last m =
     (λ env. ((λ h. h.0), λ h. (h, tt)))
 negated_makes M before steps false false result g c last m = same_saying M before (complement M steps) _ _ (complement_makes M before steps g m) (λ env. ((λ h. (tt, h)), λ h. h.1))
 
-negation_taken : (M : Structure) (start : Steps) (count : ℕ) (p : Saying) (i : ℕ) (o : Option Element) (state : State) → slice_get state.negations i ≡ o → IsOnTheWay M start count p state → IsOnTheWay M start count p (take_negation M i o state)
-negation_taken M start count p i None state e w = w
-negation_taken M start count p i (Some x) state e w =
+negation_taken : (M : Structure) (start : Steps) (count : ℕ) (p : Saying) (i : ℕ) (x : Element) (state : State) → slice_get state.negations i ≡ Some x → IsOnTheWay M start count p state → IsOnTheWay M start count p (take_negation M i (Some x) state)
+negation_taken M start count p i x state e w =
     let steps : Steps = x.rule M state.steps in
     let sound = (take_out (IsSound M) state.negations i x e).0 w.negations in
     let after : Steps = cond (is_covered state.taken x.formula) (minus state.taken.result M steps) (cond state.taken.some (join state.taken.result [] M (complement M steps)) (complement M steps)) in
@@ -194,92 +191,17 @@ negation_taken M start count p i (Some x) state e w =
           );
     }
 
--- ---- rounds, until nothing is left
+-- ---- the end
 
-positives_taken : (rounds : ℕ) (M : Structure) (start : Steps) (count : ℕ) (p : Saying) (state : State) → IsOnTheWay M start count p state → IsOnTheWay M start count p (take_positives rounds M state)
-positives_taken zero M start count p state w = w
-positives_taken (suc rounds) M start count p state w = positives_taken rounds M start count p _ (positive_taken M start count p (next_positive state) (slice_get state.positives (next_positive state)) state refl w)
-
-tests_taken : (rounds : ℕ) (M : Structure) (start : Steps) (count : ℕ) (p : Saying) (state : State) → IsOnTheWay M start count p state → IsOnTheWay M start count p (take_tests rounds M state)
-tests_taken zero M start count p state w = w
-tests_taken (suc rounds) M start count p state w = tests_taken rounds M start count p _ (test_taken M start count p state.tests state refl w)
-
-negations_taken : (rounds : ℕ) (M : Structure) (start : Steps) (count : ℕ) (p : Saying) (state : State) → IsOnTheWay M start count p state → IsOnTheWay M start count p (take_negations rounds M state)
-negations_taken zero M start count p state w = w
-negations_taken (suc rounds) M start count p state w = negations_taken rounds M start count p _ (negation_taken M start count p (next_negation state) (slice_get state.negations (next_negation state)) state refl w)
-
-none_there : {X : Type 0} (xs : List X) (i : ℕ) → slice_get xs i ≡ None → (0 < length xs → i < length xs) → length xs ≡ 0
-none_there [] i e h = refl
-none_there (x ∷ xs) i e h = let f = found (x ∷ xs) i (h (omega arith)) in let g : slice_get (x ∷ xs) i ≡ Some f.0 = f.1 in cc
-
-one_fewer : {X : Type 0} (xs : List X) (i : ℕ) (x : X) (rounds : ℕ) → slice_get xs i ≡ Some x → length xs ≤ suc rounds → length (remove xs i) ≤ rounds
-one_fewer xs i x rounds e le = let l : length (remove xs i) + 1 ≡ length xs = length-remove xs i (within xs i x e) in omega arith
-
-positive_gone : (M : Structure) (i : ℕ) (o : Option Element) (state : State) (rounds : ℕ) → slice_get state.positives i ≡ o → (0 < length state.positives → i < length state.positives) → length state.positives ≤ suc rounds
-    → length (take_positive M i o state).positives ≤ rounds
-positive_gone M i None state rounds e h le = let z : length state.positives ≡ 0 = none_there state.positives i e h in omega arith
-positive_gone M i (Some x) state rounds e h le = one_fewer state.positives i x rounds e le
-
-positives_gone : (rounds : ℕ) (M : Structure) (state : State) → length state.positives ≤ rounds → length (take_positives rounds M state).positives ≡ 0
-positives_gone zero M state le = omega arith
-positives_gone (suc rounds) M state le =
-    positives_gone rounds M (take_positive M (next_positive state) (slice_get state.positives (next_positive state)) state)
-    (positive_gone M (next_positive state) (slice_get state.positives (next_positive state)) state rounds refl (first_within _ state.positives) le)
-
-test_gone : (M : Structure) (ts : List Test) (state : State) (rounds : ℕ) → state.tests ≡ ts → length ts ≤ suc rounds → length (take_test M ts state).tests ≤ rounds
-test_gone M [] state rounds e le = let z : length state.tests ≡ 0 = ap length e in omega arith
-test_gone M (t ∷ ts) state rounds e le =
-    let f : length (filter (λ u. not (are_among (free (test u)) (state.taken.variables ++ free (test t)))) ts) ≤ length ts = filter_fewer _ ts in
-    let g : length ts ≤ rounds = omega arith in omega arith
-
-tests_gone : (rounds : ℕ) (M : Structure) (state : State) → length state.tests ≤ rounds → length (take_tests rounds M state).tests ≡ 0
-tests_gone zero M state le = omega arith
-tests_gone (suc rounds) M state le = tests_gone rounds M (take_test M state.tests state) (test_gone M state.tests state rounds refl le)
-
-negation_gone : (M : Structure) (i : ℕ) (o : Option Element) (state : State) (rounds : ℕ) → slice_get state.negations i ≡ o → (0 < length state.negations → i < length state.negations) → length state.negations ≤ suc rounds
-    → length (take_negation M i o state).negations ≤ rounds
-negation_gone M i None state rounds e h le = let z : length state.negations ≡ 0 = none_there state.negations i e h in omega arith
-negation_gone M i (Some x) state rounds e h le = one_fewer state.negations i x rounds e le
-
-negations_gone : (rounds : ℕ) (M : Structure) (state : State) → length state.negations ≤ rounds → length (take_negations rounds M state).negations ≡ 0
-negations_gone zero M state le = omega arith
-negations_gone (suc rounds) M state le =
-    negations_gone rounds M (take_negation M (next_negation state) (slice_get state.negations (next_negation state)) state)
-    (negation_gone M (next_negation state) (slice_get state.negations (next_negation state)) state rounds refl (first_within _ state.negations) le)
-
--- what a round leaves alone
-test_keeps : (M : Structure) (ts : List Test) (state : State) → (take_test M ts state).positives ≡ state.positives
-test_keeps M [] state = refl
-test_keeps M (t ∷ ts) state = refl
-
-tests_keep : (rounds : ℕ) (M : Structure) (state : State) → (take_tests rounds M state).positives ≡ state.positives
-tests_keep zero M state = refl
-tests_keep (suc rounds) M state = tests_keep rounds M (take_test M state.tests state) ∙ test_keeps M state.tests state
-
-negation_keeps : (M : Structure) (i : ℕ) (o : Option Element) (state : State) → ((take_negation M i o state).positives ≡ state.positives) × ((take_negation M i o state).tests ≡ state.tests)
-negation_keeps M i None state = (refl, refl)
-negation_keeps M i (Some x) state = (refl, refl)
-
-negations_keep : (rounds : ℕ) (M : Structure) (state : State) → ((take_negations rounds M state).positives ≡ state.positives) × ((take_negations rounds M state).tests ≡ state.tests)
-negations_keep zero M state = (refl, refl)
-negations_keep (suc rounds) M state =
-    let a = negation_keeps M (next_negation state) (slice_get state.negations (next_negation state)) state in
-    let b = negations_keep rounds M (take_negation M (next_negation state) (slice_get state.negations (next_negation state)) state) in
-    (b.0 ∙ a.0, b.1 ∙ a.1)
-
-nothing_left : {X : Type 0} (P : X → Type 0) (xs : List X) → length xs ≡ 0 → AllByRecursion P xs
-nothing_left P [] e = tt
-nothing_left P (x ∷ xs) e = absurd (omega arith)
-
-put_where : (b : Bool) (p : Type 0) → b ≡ true → p → Where b p
+pub put_where : (b : Bool) (p : Type 0) → b ≡ true → p → Where b p
 put_where true p e x = x
 put_where false p e x = tt
 
-get_where : (b : Bool) (p : Type 0) → b ≡ true → Where b p → p
+pub get_where : (b : Bool) (p : Type 0) → b ≡ true → Where b p → p
 get_where true p e x = x
 get_where false p e x = cc
 
-is_true : (b : Bool) → (b ≡ false → ⊥) → b ≡ true
+pub is_true : (b : Bool) → (b ≡ false → ⊥) → b ≡ true
 is_true true h = refl
 is_true false h = absurd (h refl)
 
@@ -300,14 +222,5 @@ finished M start count p state some w a b c =
 
 pub all_taken : (M : Structure) (start : Steps) (count : ℕ) (p : Saying) (state : State) → 0 < count → IsOnTheWay M start count p state → Makes M start (take_all M state) p
 all_taken M start count p state some w =
-    let first : State = take_positives (length state.positives) M state in
-    let second : State = take_tests (length first.tests) M first in
-    let third : State = take_negations (length second.negations) M second in
-    let w1 : IsOnTheWay M start count p first = positives_taken (length state.positives) M start count p state w in
-    let w2 : IsOnTheWay M start count p second = tests_taken (length first.tests) M start count p first w1 in
-    let w3 : IsOnTheWay M start count p third = negations_taken (length second.negations) M start count p second w2 in
-    let k = negations_keep (length second.negations) M second in
-    finished M start count p third some w3
-    (ap length (k.0 ∙ tests_keep (length first.tests) M first) ∙ positives_gone (length state.positives) M state (omega arith))
-    (ap length k.1 ∙ tests_gone (length first.tests) M first (omega arith))
-    (negations_gone (length second.negations) M second (omega arith))
+    let f : Finishes M (IsOnTheWay M start count p) state = all_rounds M (IsOnTheWay M start count p) (positive_taken M start count p) (test_taken M start count p) (negation_taken M start count p) state w in
+    subst (λ steps. Makes M start steps p) f.is (finished M start count p f.last some f.holds f.positives f.tests f.negations)

@@ -31,7 +31,7 @@ put_ranked_all : (p : Element → Type 0) (M : Structure) (e : Element) (fs : Li
 put_ranked_all p M e [] = same
 put_ranked_all p M e (f ∷ fs) = put_all p (fewer (e.rows M) (f.rows M)) e f fs (put_ranked M e fs) (put_ranked_all p M e fs)
 
-ranked_all : (p : Element → Type 0) (M : Structure) (es : List Element) → AllByRecursion p (ranked M es) ↔ AllByRecursion p es
+pub ranked_all : (p : Element → Type 0) (M : Structure) (es : List Element) → AllByRecursion p (ranked M es) ↔ AllByRecursion p es
 ranked_all p M [] = same
 ranked_all p M (e ∷ es) =
     let r : AllByRecursion p (ranked M es) ↔ AllByRecursion p es = ranked_all p M es in
@@ -48,13 +48,13 @@ put_some M e (f ∷ fs) = cond_some (fewer (e.rows M) (f.rows M)) e f fs (put_ra
 
 -- ---- an `and` is its positives, its tests and its negations
 
-first_positive : (A B C D : Type 0) → B ↔ (C × D) → (A × B) ↔ ((A × C) × D)
+pub first_positive : (A B C D : Type 0) → B ↔ (C × D) → (A × B) ↔ ((A × C) × D)
 first_positive A B C D r = ((λ h. ((h.0, (r.0 h.1).0), (r.0 h.1).1)), λ h. (h.0.0, r.1 (h.0.1, h.1)))
 
-first_test : (A B C D E : Type 0) → B ↔ (C × (D × E)) → (A × B) ↔ (C × ((A × D) × E))
+pub first_test : (A B C D E : Type 0) → B ↔ (C × (D × E)) → (A × B) ↔ (C × ((A × D) × E))
 first_test A B C D E r = ((λ h. let x = r.0 h.1 in (x.0, ((h.0, x.1.0), x.1.1))), λ h. (h.1.0.0, r.1 (h.0, (h.1.0.1, h.1.1))))
 
-first_negation : (A B C D E : Type 0) → B ↔ (C × (D × E)) → (A × B) ↔ (C × (D × (A × E)))
+pub first_negation : (A B C D E : Type 0) → B ↔ (C × (D × E)) → (A × B) ↔ (C × (D × (A × E)))
 first_negation A B C D E r = ((λ h. let x = r.0 h.1 in (x.0, (x.1.0, (h.0, x.1.1)))), λ h. (h.1.1.0, r.1 (h.0, (h.1.0, h.1.1.1))))
 
 parts : (fs : Forms) (M : Structure) (env : Assignment) → SatisfiesAll fs M env ↔ Left M (positives_in fs) (tests_in fs) (negations_in fs) env
@@ -71,7 +71,7 @@ parts (form (implication f g) fs) M env = first_positive _ _ _ _ (parts fs M env
 parts (form (exists v s f) fs) M env = first_positive _ _ _ _ (parts fs M env)
 parts (form (forall v s f) fs) M env = first_positive _ _ _ _ (parts fs M env)
 
-abbrev count : Structure → Forms → ℕ
+abbrev pub count : Structure → Forms → ℕ
 count M fs = length (ranked M (positives_in fs)) + length (tests_in fs) + length (negations_in fs)
 
 ranked_some : (M : Structure) (es : List Element) → 0 < length es → 0 < length (ranked M es)
@@ -87,7 +87,7 @@ by_test fs M h = omega arith
 by_negation : (fs : Forms) (M : Structure) → 0 < length (negations_in fs) → 0 < count M fs
 by_negation fs M h = omega arith
 
-counted : (M : Structure) (fs : Forms) → HasElement fs → 0 < count M fs
+pub counted : (M : Structure) (fs : Forms) → HasElement fs → 0 < count M fs
 counted M no_forms h = absurd h
 counted M (form (atom name terms) fs) h = by_positive (form (atom name terms) fs) M (omega arith)
 counted M (form (test (Compare left op right)) fs) h = by_test (form (test (Compare left op right)) fs) M (omega arith)

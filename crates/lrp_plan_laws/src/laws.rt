@@ -1,15 +1,17 @@
 // What holds of core forms, plans and periods: each law is the contract of a function that does nothing.
-ghost use Rattle.std.specs.Prelude.{◌≡◌, ◌↔◌, ◌≤◌, ℕ, List, Bool, false, length, Contains};
+ghost use Rattle.std.specs.Prelude.{◌≡◌, ◌↔◌, ◌≤◌, ℕ, List, Bool, false, length, Contains, Some};
 ghost use Rattle.std.specs.List.{AllByRecursion};
 ghost use Rattle.lrp_model.specs.Rows.{Datum, texts_of};
 ghost use Rattle.lrp_model.specs.Formulas.{Form, Question};
 ghost use Rattle.lrp_model.specs.Domains.{constants};
 ghost use Rattle.lrp_model.specs.Satisfaction.{Structure, Assignment, Satisfies, IsAnswer, structure, assignment, HasShape, HaveNames};
 ghost use Rattle.lrp_model.specs.Core.{positive, negative, core_form, guarded, has_named_sort, HasElements};
-ghost use Rattle.lrp_model.specs.Periods.{IsLeastMultiple, lcm_all};
-ghost use Rattle.lrp_model.specs.Steps.{formula_at};
+ghost use Rattle.lrp_model.specs.Periods.{IsLeastMultiple, lcm_all, period};
+ghost use Rattle.lrp_model.specs.Steps.{PlanStep, step_at, formula_at};
 ghost use Rattle.lrp_model.specs.Plans.{core_steps, plan, IsPlain};
 ghost use Rattle.lrp_model.specs.declared.relations.Relation.{Relation};
+ghost use Rattle.lrp_plan_laws.specs.Made.{IsMade, head_step};
+ghost use Rattle.lrp_plan_laws.specs.Rising.{HasPeriods, Rises, period_at};
 
 /// The core form of a formula says what the formula says, and the core form of its negation denies it.
 pub fn core_form_is_sound()
@@ -29,4 +31,15 @@ pub fn plan_is_sound()
 /// The period is the least common multiple of the periods, where each of them is at least 1.
 pub fn periods_are_least()
     ensures { (ks : List ℕ) → AllByRecursion (λ k. 1 ≤ k) ks → IsLeastMultiple ks (lcm_all ks) }
+{}
+
+/// Along the steps of a plan periods and reaches rise, up to those of the query.
+pub fn plan_rises()
+    ensures steps { (db : List Relation) (q : Question) → HasElements q.body → HasPeriods db q → (s : ℕ) (step : PlanStep) → step_at (plan db q) s ≡ Some step → Rises db q s step }
+    ensures last { (db : List Relation) (q : Question) → period_at (plan db q) (length (plan db q)) ≡ period db q.body }
+{}
+
+/// Each step of a plan is made of earlier ones by the rule of its kind, with the variables that the rule relies on.
+pub fn steps_are_made()
+    ensures { (db : List Relation) (q : Question) → HasElements q.body → (s : ℕ) (step : PlanStep) → step_at (plan db q) s ≡ Some step → IsMade (structure db q) (head_step db q) (plan db q) s step }
 {}

@@ -3,4 +3,4 @@
 
 mod laws;
 
-pub use laws::{core_form_is_sound, periods_are_least, plan_is_sound};
+pub use laws::{core_form_is_sound, periods_are_least, plan_is_sound, plan_rises, steps_are_made};

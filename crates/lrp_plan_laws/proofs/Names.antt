@@ -1,0 +1,125 @@
+-- What a formula names: free variables, and periods. A formula made of others names what they name.
+use Rattle.std.proofs.Common.{◌≡◌, ◌↔◌, ⊎_elim, ℕ, Bool, true, false, cond, not, ◌&&◌, ◌||◌, List, [], ◌∷◌, Contains, refl, sym, ap, subst, filter}
+use Rattle.std.specs.List.{AllByRecursion, list_any}
+use Rattle.std.specs.Cmp.Lexicographic.{bytes_decides}
+use Rattle.lrp_model.specs.Texts.{Identifier}
+use Rattle.lrp_model.specs.Formulas.{Form, Forms, test, exists, no_forms, form}
+use Rattle.lrp_model.specs.Variables.{Variable, time_variable, data_variable, bound_by, same_variable, is_among, are_among, free, free_each}
+use Rattle.lrp_model.specs.Periods.{periods, periods_each}
+use Rattle.lrp_model.specs.Steps.{tests_as_forms}
+use Rattle.lrp_model.specs.declared.relations.Sort.{Sort}
+use Rattle.lrp_model.specs.declared.relations.Relation.{Relation}
+use Rattle.lrp_model.specs.declared.formulas.Test.{Test}
+use Rattle.lrp_model.proofs.Decided.{cons_cases, contains_first, contains_later, contains_none}
+use Rattle.lrp_model.proofs.Logic.{same, all_append}
+
+-- ---- members of lists
+
+pub all_of : {X : Type 0} (p : X → Type 0) (xs : List X) (x : X) → AllByRecursion p xs → Contains xs x → p x
+all_of p [] x h c = absurd (contains_none x c)
+all_of p (y ∷ ys) x h c = ⊎_elim (λ e. subst p e h.0) (λ d. all_of p ys x h.1 d) (cons_cases y x ys c)
+
+pub all_by : {X : Type 0} (p : X → Type 0) (xs : List X) → ((x : X) → Contains xs x → p x) → AllByRecursion p xs
+all_by p [] h = tt
+all_by p (y ∷ ys) h = (h y (contains_first y ys), all_by p ys (λ x c. h x (contains_later y x ys c)))
+
+-- each element of a list is one of it
+pub all_self : {X : Type 0} (xs : List X) → AllByRecursion (Contains xs) xs
+all_self xs = all_by (Contains xs) xs (λ x c. c)
+
+-- what holds of each element of a list holds of each element of a part of it
+pub all_from : {X : Type 0} (p : X → Type 0) (xs ys : List X) → AllByRecursion (Contains xs) ys → AllByRecursion p xs → AllByRecursion p ys
+all_from p xs ys part h = all_by p ys (λ y c. all_of p xs y h (all_of (Contains xs) ys y part c))
+
+pub all_map : {X : Type 0} (p q : X → Type 0) (xs : List X) → ((x : X) → p x → q x) → AllByRecursion p xs → AllByRecursion q xs
+all_map p q [] f h = tt
+all_map p q (x ∷ xs) f h = (f x h.0, all_map p q xs f h.1)
+
+pub all_later : {X : Type 0} (x : X) (xs ys : List X) → AllByRecursion (Contains xs) ys → AllByRecursion (Contains (x ∷ xs)) ys
+all_later x xs ys h = all_map (Contains xs) (Contains (x ∷ xs)) ys (λ y c. contains_later x y xs c) h
+
+-- ---- tests on variables
+
+same_is : (v w : Variable) → same_variable v w ≡ true → v ≡ w
+same_is (time_variable v) (time_variable w) e = ap time_variable ((bytes_decides v w).0 e)
+same_is (data_variable v) (data_variable w) e = ap data_variable ((bytes_decides v w).0 e)
+same_is (time_variable v) (data_variable w) e = cc
+same_is (data_variable v) (time_variable w) e = cc
+
+pub same_own : (v : Variable) → same_variable v v ≡ true
+same_own (time_variable v) = (bytes_decides v v).1 refl
+same_own (data_variable v) = (bytes_decides v v).1 refl
+
+any_cons : (v w : Variable) (ws : List Variable) (b : Bool) → same_variable v w ≡ b → (list_any (same_variable v) ws ≡ true → Contains ws v) → (b || list_any (same_variable v) ws) ≡ true → Contains (w ∷ ws) v
+any_cons v w ws true e rest h = subst (Contains (w ∷ ws)) (sym (same_is v w e)) (contains_first w ws)
+any_cons v w ws false e rest h = contains_later w v ws (rest h)
+
+is_among_is : (ws : List Variable) (v : Variable) → is_among ws v ≡ true → Contains ws v
+is_among_is [] v e = cc
+is_among_is (w ∷ ws) v e = any_cons v w ws (same_variable v w) refl (is_among_is ws v) e
+
+all_cons : (ws : List Variable) (v : Variable) (vs : List Variable) (b : Bool) → is_among ws v ≡ b → (are_among vs ws ≡ true → AllByRecursion (Contains ws) vs) → (b && are_among vs ws) ≡ true → AllByRecursion (Contains ws) (v ∷ vs)
+all_cons ws v vs true e rest h = (is_among_is ws v e, rest h)
+all_cons ws v vs false e rest h = cc
+
+pub are_among_is : (vs ws : List Variable) → are_among vs ws ≡ true → AllByRecursion (Contains ws) vs
+are_among_is [] ws e = tt
+are_among_is (v ∷ vs) ws e = all_cons ws v vs (is_among ws v) refl (are_among_is vs ws) e
+
+-- ---- without a variable
+
+kept_at : (ws : List Variable) (b w : Variable) (rest : List Variable) (t : Bool) → same_variable b w ≡ t → AllByRecursion (Contains ws) (cond (not t) (w ∷ rest) rest) ↔ (Contains (b ∷ ws) w × AllByRecursion (Contains ws) rest)
+kept_at ws b w rest true e = ((λ h. (subst (Contains (b ∷ ws)) (same_is b w e) (contains_first b ws), h)), λ h. h.1)
+kept_at ws b w rest false e =
+    ((λ h. (contains_later b w ws h.0, h.1)), λ h. (⊎_elim (λ q. let t : same_variable b w ≡ true = subst (λ x. same_variable b x ≡ true) q (same_own b) in cc) (λ c. c) (cons_cases b w ws h.0), h.1))
+
+-- the variables other than b are among ws exactly where all are among b and ws
+pub without_is : (ws : List Variable) (b : Variable) (vs : List Variable) → AllByRecursion (Contains ws) (filter (λ w. not (same_variable b w)) vs) ↔ AllByRecursion (Contains (b ∷ ws)) vs
+without_is ws b [] = same
+without_is ws b (v ∷ vs) =
+    let r : AllByRecursion (Contains ws) (filter (λ w. not (same_variable b w)) vs) ↔ AllByRecursion (Contains (b ∷ ws)) vs = without_is ws b vs in
+    let k = kept_at ws b v (filter (λ w. not (same_variable b w)) vs) (same_variable b v) refl in
+    ((λ h. let x = k.0 h in (x.0, r.0 x.1)), λ h. k.1 (h.0, r.1 h.1))
+
+-- ---- what formulas name
+
+-- the free variables are among ws, and the periods among ks
+abbrev pub Names : List Relation → Form → List Variable → List ℕ → Type 0
+Names db f ws ks = AllByRecursion (Contains ws) (free f) × AllByRecursion (Contains ks) (periods f db)
+
+abbrev pub NamesEach : List Relation → Forms → List Variable → List ℕ → Type 0
+NamesEach db fs ws ks = AllByRecursion (Contains ws) (free_each fs) × AllByRecursion (Contains ks) (periods_each fs db)
+
+abbrev pub NamesTest : List Relation → List Variable → List ℕ → Test → Type 0
+NamesTest db ws ks t = Names db (test t) ws ks
+
+module _ (db : List Relation) (ws : List Variable) (ks : List ℕ) where
+  pub cons_named : (f : Form) (fs : Forms) → NamesEach db (form f fs) ws ks ↔ (Names db f ws ks × NamesEach db fs ws ks)
+  cons_named f fs =
+      let v = all_append (Contains ws) (free f) (free_each fs) in
+      let k = all_append (Contains ks) (periods f db) (periods_each fs db) in
+      ((λ h. (((v.0 h.0).0, (k.0 h.1).0), ((v.0 h.0).1, (k.0 h.1).1))), λ h. (v.1 (h.0.0, h.1.0), k.1 (h.0.1, h.1.1)))
+
+  pub two_named : (f g : Form) (fs : Forms) → NamesEach db (form f (form g fs)) ws ks ↔ (Names db f ws ks × (Names db g ws ks × NamesEach db fs ws ks))
+  two_named f g fs =
+      let a = cons_named f (form g fs) in
+      let b = cons_named g fs in
+      ((λ h. let x = a.0 h in (x.0, b.0 x.1)), λ h. a.1 (h.0, b.1 h.1))
+
+  -- a formula alone in a list
+  pub one_named : (f : Form) → NamesEach db (form f no_forms) ws ks ↔ Names db f ws ks
+  one_named f = let a = cons_named f no_forms in ((λ h. (a.0 h).0), λ h. a.1 (h, (tt, tt)))
+
+  pub tests_named : (ts : List Test) → NamesEach db (tests_as_forms ts) ws ks ↔ AllByRecursion (NamesTest db ws ks) ts
+  tests_named [] = ((λ h. tt), λ h. (tt, tt))
+  tests_named (t ∷ ts) =
+      let a = cons_named (test t) (tests_as_forms ts) in
+      let r : NamesEach db (tests_as_forms ts) ws ks ↔ AllByRecursion (NamesTest db ws ks) ts = tests_named ts in
+      ((λ h. let x = a.0 h in (x.0, r.0 x.1)), λ h. a.1 (h.0, r.1 h.1))
+
+  pub exists_named : (v : Identifier) (s : Sort) (f : Form) → Names db (exists v s f) ws ks ↔ Names db f (bound_by s v ∷ ws) ks
+  exists_named v s f = let w = without_is ws (bound_by s v) (free f) in ((λ h. (w.0 h.0, h.1)), λ h. (w.1 h.0, h.1))
+
+-- a formula names what it names
+pub names_self : (db : List Relation) (f : Form) → Names db f (free f) (periods f db)
+names_self db f = (all_self (free f), all_self (periods f db))

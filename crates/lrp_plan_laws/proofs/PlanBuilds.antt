@@ -1,0 +1,192 @@
+-- The plan of a core form builds steps that name what the core form names.
+use Rattle.std.proofs.Common.{◌≡◌, ◌↔◌, ◌≤◌, ◌<◌, ◌+◌, ◌*◌, ℕ, not, filter, List, [], ◌∷◌, length, Contains, refl, sym, subst, arith}
+use Rattle.std.specs.Prelude.{max}
+use Rattle.std.specs.List.{AllByRecursion}
+use Rattle.lrp_model.specs.Texts.{Identifier}
+use Rattle.lrp_model.specs.Formulas.{Form, Forms, atom, test, sorted, negation, conjunction, disjunction, implication, exists, forall, no_forms, form}
+use Rattle.lrp_model.specs.Variables.{Variable, bound_by, same_variable, free, free_each}
+use Rattle.lrp_model.specs.Satisfaction.{Structure}
+use Rattle.lrp_model.specs.Core.{IsCore, AreCore, HasElement}
+use Rattle.lrp_model.specs.Periods.{period, periods, periods_each}
+use Rattle.lrp_model.specs.Steps.{Steps, Rule, formula_at, reach_at, union, drop_of}
+use Rattle.lrp_model.specs.Conjunctions.{tests_in, ranked, nothing_taken, conjunction_rule, as_positive}
+use Rattle.lrp_model.specs.Plans.{plan_of, plan_of_others, positives_in, negations_in}
+use Rattle.lrp_model.specs.declared.relations.Sort.{Sort}
+use Rattle.lrp_model.specs.declared.relations.Sort.TheVariants.{Time, Data, Named}
+use Rattle.lrp_model.specs.declared.formulas.Test.TheVariants.{Compare, Member, Equal}
+use Rattle.lrp_model.specs.declared.plans.StepKind.TheVariants.{Scan, Leaf, Sort as SortStep, Union, DropTime, DropData}
+use Rattle.lrp_model.proofs.Logic.{then_iff, all_append}
+use Rattle.lrp_plan_laws.specs.Made.{HeadStep}
+use Rattle.lrp_plan_laws.specs.Scopes.{EachScope, EachOfScope}
+use Rattle.lrp_plan_laws.proofs.Names.{Names, NamesEach, all_self, all_later, without_is, cons_named, two_named, exists_named, names_self}
+use Rattle.lrp_plan_laws.proofs.PlanSound.{first_positive, first_test, first_negation, ranked_all, count, counted}
+use Rattle.lrp_plan_laws.proofs.Builds.{Saying, Builds, by_first, by_next, by_both, same_builds, kept_formula}
+use Rattle.lrp_plan_laws.proofs.BuildsAnd.{IsBuilt, Left, all_built, complement_builds, fits_within}
+
+-- ---- an `and` names what its positives, its tests and its negations name
+
+module _ (M : Structure) (head : HeadStep) (fits : List Variable → Type 0) (down : (vs ws : List Variable) → AllByRecursion (Contains ws) vs → fits ws → fits vs) where
+  abbrev LeftOf : Forms → Saying
+  LeftOf fs ws ks = Left M head fits down (positives_in fs) (tests_in fs) (negations_in fs) ws ks
+
+  parts : (ws : List Variable) (ks : List ℕ) (fs : Forms) → NamesEach M.relations fs ws ks ↔ LeftOf fs ws ks
+  parts ws ks no_forms = ((λ h. (tt, (tt, tt))), λ h. (tt, tt))
+  parts ws ks (form (atom name terms) fs) = then_iff (cons_named M.relations ws ks (atom name terms) fs) (first_positive _ _ _ _ (parts ws ks fs))
+  parts ws ks (form (test (Compare left op right)) fs) = then_iff (cons_named M.relations ws ks (test (Compare left op right)) fs) (first_test _ _ _ _ _ (parts ws ks fs))
+  parts ws ks (form (test (Member term point)) fs) = then_iff (cons_named M.relations ws ks (test (Member term point)) fs) (first_positive _ _ _ _ (parts ws ks fs))
+  parts ws ks (form (test (Equal left right)) fs) = then_iff (cons_named M.relations ws ks (test (Equal left right)) fs) (first_test _ _ _ _ _ (parts ws ks fs))
+  parts ws ks (form (sorted s v) fs) = then_iff (cons_named M.relations ws ks (sorted s v) fs) (first_positive _ _ _ _ (parts ws ks fs))
+  parts ws ks (form (negation g) fs) = then_iff (cons_named M.relations ws ks (negation g) fs) (first_negation _ _ _ _ _ (parts ws ks fs))
+  parts ws ks (form (conjunction gs) fs) = then_iff (cons_named M.relations ws ks (conjunction gs) fs) (first_positive _ _ _ _ (parts ws ks fs))
+  parts ws ks (form (disjunction gs) fs) = then_iff (cons_named M.relations ws ks (disjunction gs) fs) (first_positive _ _ _ _ (parts ws ks fs))
+  parts ws ks (form (implication f g) fs) = then_iff (cons_named M.relations ws ks (implication f g) fs) (first_positive _ _ _ _ (parts ws ks fs))
+  parts ws ks (form (exists v s f) fs) = then_iff (cons_named M.relations ws ks (exists v s f) fs) (first_positive _ _ _ _ (parts ws ks fs))
+  parts ws ks (form (forall v s f) fs) = then_iff (cons_named M.relations ws ks (forall v s f) fs) (first_positive _ _ _ _ (parts ws ks fs))
+
+  as_built : (f : Form) (rule : Rule) → ((steps : Steps) → Builds M head fits steps (rule M steps) (Names M.relations f)) → AllByRecursion (IsBuilt M head fits down) (as_positive f rule)
+  as_built (test (Compare left op right)) rule h = tt
+  as_built (test (Member term point)) rule h = (h, tt)
+  as_built (test (Equal left right)) rule h = tt
+  as_built (negation f) rule h = tt
+  as_built (atom name terms) rule h = (h, tt)
+  as_built (sorted s v) rule h = (h, tt)
+  as_built (conjunction fs) rule h = (h, tt)
+  as_built (disjunction fs) rule h = (h, tt)
+  as_built (implication f g) rule h = (h, tt)
+  as_built (exists v s f) rule h = (h, tt)
+  as_built (forall v s f) rule h = (h, tt)
+
+  conjunction_builds : (fs : Forms) (steps : Steps) → HasElement fs → fits (free_each fs) → AllByRecursion (IsBuilt M head fits down) (positives_in fs) → AllByRecursion (IsBuilt M head fits down) (negations_in fs)
+      → Builds M head fits steps (conjunction_rule (positives_in fs) (tests_in fs) (negations_in fs) M steps) (Names M.relations (conjunction fs))
+  conjunction_builds fs steps some good ps ns =
+      all_built M head fits down (free_each fs) (periods_each fs M.relations) good steps (count M fs) (Names M.relations (conjunction fs)) (names_self M.relations (conjunction fs))
+      (record { steps = steps; taken = nothing_taken; positives = ranked M (positives_in fs); tests = tests_in fs; negations = negations_in fs })
+      (counted M fs some)
+      (record {
+        positives = (ranked_all (IsBuilt M head fits down) M (positives_in fs)).1 ps;
+        negations = ns;
+        last = λ e. cc;
+        fresh = λ e. refl;
+        built = λ e. cc;
+        idle = λ e. refl;
+        names = λ ws ks.
+            let r = ranked_all (λ e. Names M.relations e.formula ws ks) M (positives_in fs) in
+            let p = parts ws ks fs in
+            ((λ h. p.1 (r.0 h.1.0, h.1.1)), λ x. let w = p.0 x in (tt, (r.1 w.0, w.1)));
+        known = λ ws ks h. tt;
+      })
+
+  -- ---- each rule
+
+  drop_step : (before steps : Steps) (v : Identifier) (s : Sort) (p q : Saying) → Builds M head fits before steps p → fits (free (exists v s (formula_at steps (length steps))))
+      → ((ws : List Variable) (ks : List ℕ) → Names M.relations (exists v s (formula_at steps (length steps))) ws ks ↔ q ws ks) → Builds M head fits before (drop_of v s M steps) q
+  drop_step before steps v Time p q m good names =
+      by_next M head fits before steps p q (DropTime (length steps) v) (exists v Time (formula_at steps (length steps))) m
+      (λ b ks new. (let r : 2 * reach_at steps (length steps) ≤ b = new.0 in omega arith, new.1))
+      (record { operands = ((let g : length before < length steps = m.grown in omega arith, omega arith), tt); formula = refl; variables = tt }) good names
+  drop_step before steps v Data p q m good names =
+      by_next M head fits before steps p q (DropData (length steps) v) (exists v Data (formula_at steps (length steps))) m (λ b ks new. new)
+      (record { operands = ((let g : length before < length steps = m.grown in omega arith, omega arith), tt); formula = (Data, tt, refl); variables = tt }) good names
+  drop_step before steps v (Named name) p q m good names =
+      by_next M head fits before steps p q (DropData (length steps) v) (exists v (Named name) (formula_at steps (length steps))) m (λ b ks new. new)
+      (record { operands = ((let g : length before < length steps = m.grown in omega arith, omega arith), tt); formula = (Named name, tt, refl); variables = tt }) good names
+
+  drop_builds : (before steps : Steps) (v : Identifier) (s : Sort) (f : Form) → Builds M head fits before steps (Names M.relations f) → fits (bound_by s v ∷ free f) → Builds M head fits before (drop_of v s M steps) (Names M.relations (exists v s f))
+  drop_builds before steps v s f m good =
+      let a : Form = formula_at steps (length steps) in
+      let names : (ws : List Variable) (ks : List ℕ) → Names M.relations (exists v s a) ws ks ↔ Names M.relations (exists v s f) ws ks =
+      λ ws ks.
+      let x = exists_named M.relations ws ks v s a in
+      let y = exists_named M.relations ws ks v s f in
+      let n = m.names (bound_by s v ∷ ws) ks in
+      ((λ h. y.1 (n.0 (x.0 h))), λ h. x.1 (n.1 (y.0 h))) in
+      let room : List Variable = bound_by s v ∷ free f in
+      let within : Names M.relations (exists v s f) room (periods f M.relations) =
+      (exists_named M.relations room (periods f M.relations) v s f).1 (all_later (bound_by s v) room (free f) (all_later (bound_by s v) (free f) (free f) (all_self (free f))), all_self (periods f M.relations)) in
+      drop_step before steps v s (Names M.relations f) (Names M.relations (exists v s f)) m
+      (fits_within M head fits down (exists v s a) room (periods f M.relations) good ((names room (periods f M.relations)).1 within)) names
+
+  -- a formula without a variable names no more than the formula with it
+  without_room : (b : Variable) (vs : List Variable) → AllByRecursion (Contains (b ∷ vs)) (filter (λ w. not (same_variable b w)) vs)
+  without_room b vs = (without_is (b ∷ vs) b vs).1 (all_later b (b ∷ vs) vs (all_later b vs vs (all_self vs)))
+
+  -- the free variables of the whole formula fit
+  pub whole : (f : Form) → EachScope fits f → fits (free f)
+  whole (atom name terms) good = good
+  whole (test t) good = good
+  whole (sorted s v) good = good
+  whole (negation f) good = whole f good
+  whole (conjunction fs) good = good.0
+  whole (disjunction fs) good = good.0
+  whole (implication f g) good = good.0
+  whole (exists v s f) good = down (free (exists v s f)) (bound_by s v ∷ free f) (without_room (bound_by s v) (free f)) good.0
+  whole (forall v s f) good = down (free (forall v s f)) (bound_by s v ∷ free f) (without_room (bound_by s v) (free f)) good.0
+
+  union_builds : (before mid steps : Steps) (f g : Form) (room : List Variable) (most : List ℕ) → fits room → Names M.relations g room most × Names M.relations f room most
+      → Builds M head fits before mid (Names M.relations g) → Builds M head fits mid steps (Names M.relations f) → Builds M head fits before (union (length mid) M steps) (Names M.relations (disjunction (form g (form f no_forms))))
+  union_builds before mid steps f g room most roomy inside m n =
+      let a : Form = formula_at steps (length mid) in
+      let b : Form = formula_at steps (length steps) in
+      let e : a ≡ formula_at mid (length mid) = kept_formula M head fits mid steps (Names M.relations f) (length mid) n (omega arith) in
+      let first : (ws : List Variable) (ks : List ℕ) → Names M.relations a ws ks ↔ Names M.relations g ws ks = λ ws ks. subst (λ h. Names M.relations h ws ks ↔ Names M.relations g ws ks) (sym e) (m.names ws ks) in
+      let names : (ws : List Variable) (ks : List ℕ) → Names M.relations (disjunction (form a (form b no_forms))) ws ks ↔ Names M.relations (disjunction (form g (form f no_forms))) ws ks =
+      λ ws ks.
+      let x = two_named M.relations ws ks a b no_forms in
+      let y = two_named M.relations ws ks g f no_forms in (
+        (λ h. let z = x.0 h in y.1 ((first ws ks).0 z.0, ((n.names ws ks).0 z.1.0, (tt, tt)))),
+        λ h. let z = y.0 h in x.1 ((first ws ks).1 z.0, ((n.names ws ks).1 z.1.0, (tt, tt))),
+      ) in
+      by_both M head fits before mid steps (Names M.relations g) (Names M.relations f) (Names M.relations (disjunction (form g (form f no_forms)))) (Union (length mid) (length steps)) (disjunction (form a (form b no_forms))) m n
+      (λ c ks new.
+      let r : max (reach_at steps (length mid)) (reach_at steps (length steps)) + period M.relations (disjunction (form a (form b no_forms))) ≤ c = new.0 in
+      let x = (all_append (Contains ks) (periods a M.relations) (periods_each (form b no_forms) M.relations)).0 new.1 in
+      let y = (all_append (Contains ks) (periods b M.relations) []).0 x.1 in
+      ((omega arith, x.0), (omega arith, y.0)))
+      (record {
+        operands = (let g : length before < length mid = m.grown in let h : length mid < length steps = n.grown in ((omega arith, omega arith), ((omega arith, omega arith), tt)));
+        formula = refl;
+        variables = tt;
+      })
+      (fits_within M head fits down (disjunction (form a (form b no_forms))) room most roomy ((names room most).1 ((two_named M.relations room most g f no_forms).1 (inside.0, (inside.1, (tt, tt))))))
+      names
+
+  mutual
+    pub builds : (f : Form) → IsCore f → EachScope fits f → (steps : Steps) → Builds M head fits steps (plan_of f M steps) (Names M.relations f)
+    builds (atom name terms) c good steps = by_first M head fits steps (Scan name terms) (atom name terms) (record { operands = tt; formula = refl; variables = tt }) good
+    builds (test t) c good steps = by_first M head fits steps (Leaf t) (test t) (record { operands = tt; formula = refl; variables = tt }) good
+    builds (sorted s v) c good steps = by_first M head fits steps (SortStep v s (M.domain s)) (sorted s v) (record { operands = tt; formula = (refl, refl); variables = tt }) good
+    builds (negation f) c good steps = complement_builds M head fits down steps (plan_of f M steps) f (builds f c good steps) (whole f good)
+    builds (conjunction fs) c good steps = conjunction_builds fs steps c.0 good.0 (built_positives fs c.1 good.1) (built_negations fs c.1 good.1)
+    builds (disjunction no_forms) c good steps = absurd c.0
+    builds (disjunction (form f fs)) c good steps =
+        same_builds M head fits steps (plan_of_others fs M (plan_of f M steps)) (λ ws ks. Names M.relations f ws ks × NamesEach M.relations fs ws ks) _
+        (builds_others fs c.1.1 good.1.1 steps (plan_of f M steps) f (free_each (form f fs)) (periods_each (form f fs) M.relations) good.0
+        ((cons_named M.relations (free_each (form f fs)) (periods_each (form f fs) M.relations) f fs).0 (names_self M.relations (disjunction (form f fs)))) (builds f c.1.0 good.1.0 steps))
+        (λ ws ks. let x = cons_named M.relations ws ks f fs in ((λ h. x.1 h), λ h. x.0 h))
+    builds (implication f g) c good steps = absurd c
+    builds (exists v s f) c good steps = drop_builds steps (plan_of f M steps) v s f (builds f c good.1 steps) good.0
+    builds (forall v s f) c good steps = absurd c
+
+    builds_others : (fs : Forms) → AreCore fs → EachOfScope fits fs → (before mid : Steps) (g : Form) (room : List Variable) (most : List ℕ) → fits room → Names M.relations g room most × NamesEach M.relations fs room most
+        → Builds M head fits before mid (Names M.relations g) → Builds M head fits before (plan_of_others fs M mid) (λ ws ks. Names M.relations g ws ks × NamesEach M.relations fs ws ks)
+    builds_others no_forms c good before mid g room most roomy inside m = same_builds M head fits before mid (Names M.relations g) _ m (λ ws ks. ((λ h. (h, (tt, tt))), λ h. h.0))
+    builds_others (form f fs) c good before mid g room most roomy inside m =
+        let either : Form = disjunction (form g (form f no_forms)) in
+        let here = (cons_named M.relations room most f fs).0 inside.1 in
+        let u : Builds M head fits before (union (length mid) M (plan_of f M mid)) (Names M.relations either) =
+        union_builds before mid (plan_of f M mid) f g room most roomy (inside.0, here.0) m (builds f c.0 good.0 mid) in
+        same_builds M head fits before (plan_of_others fs M (union (length mid) M (plan_of f M mid))) (λ ws ks. Names M.relations either ws ks × NamesEach M.relations fs ws ks) _
+        (builds_others fs c.1 good.1 before (union (length mid) M (plan_of f M mid)) either room most roomy ((two_named M.relations room most g f no_forms).1 (inside.0, (here.0, (tt, tt))), here.1) u)
+        (λ ws ks.
+        let x = two_named M.relations ws ks g f no_forms in
+        let y = cons_named M.relations ws ks f fs in
+        ((λ h. let z = x.0 h.0 in (z.0, y.1 (z.1.0, h.1))), λ h. let z = y.0 h.1 in (x.1 (h.0, (z.0, (tt, tt))), z.1)))
+
+    built_positives : (fs : Forms) → AreCore fs → EachOfScope fits fs → AllByRecursion (IsBuilt M head fits down) (positives_in fs)
+    built_positives no_forms c good = tt
+    built_positives (form f fs) c good = (all_append (IsBuilt M head fits down) (as_positive f (plan_of f)) (positives_in fs)).1 (as_built f (plan_of f) (builds f c.0 good.0), built_positives fs c.1 good.1)
+
+    built_negations : (fs : Forms) → AreCore fs → EachOfScope fits fs → AllByRecursion (IsBuilt M head fits down) (negations_in fs)
+    built_negations no_forms c good = tt
+    built_negations (form (negation g) fs) c good = (builds g c.0 good.0, built_negations fs c.1 good.1)
+    built_negations (form f fs) c good = built_negations fs c.1 good.1

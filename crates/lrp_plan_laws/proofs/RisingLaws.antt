@@ -1,0 +1,295 @@
+-- Periods and reaches rise along a plan, up to those of the query.
+use Rattle.std.proofs.Common.{◌≡◌, ◌↔◌, ◌≤◌, ◌<◌, ◌+◌, ◌*◌, ℕ, zero, suc, List, [], ◌∷◌, ◌++◌, length, append_assoc, append-nil, Bool, true, false, Option, Some, None, unwrap_or, option_map, slice_get, Contains, refl, sym, ap, subst, ◌∙◌, arith}
+use Rattle.std.specs.Prelude.{max, map, nat_abs}
+use Rattle.std.specs.List.{AllByRecursion}
+use Rattle.lrp_model.specs.Texts.{Identifier}
+use Rattle.lrp_model.specs.Formulas.{Form, Forms, Question, atom, test, sorted, negation, conjunction, disjunction, implication, exists, forall, no_forms, form, joined}
+use Rattle.lrp_model.specs.Variables.{Variable, free, head_variables}
+use Rattle.lrp_model.specs.Satisfaction.{Structure, structure}
+use Rattle.lrp_model.specs.Core.{core_form, guarded, has_named_sort, column_elements, head_elements, HasElements}
+use Rattle.lrp_model.specs.Periods.{IsMultiple, lcm_all, periods, periods_each, period}
+use Rattle.lrp_model.specs.Reach.{reach_of, greatest, test_reach}
+use Rattle.lrp_model.specs.Steps.{PlanStep, Steps, step_at, formula_at, reach_at, step_behind, made, tests_as_forms}
+use Rattle.lrp_model.specs.Plans.{plan, core_steps, query_reach}
+use Rattle.lrp_model.specs.declared.relations.Sort.{Sort}
+use Rattle.lrp_model.specs.declared.relations.Sort.TheVariants.{Time, Data, Named}
+use Rattle.lrp_model.specs.declared.relations.Column.{Column}
+use Rattle.lrp_model.specs.declared.relations.Relation.{Relation}
+use Rattle.lrp_model.specs.declared.formulas.Test.{Test}
+use Rattle.lrp_model.specs.declared.formulas.Test.TheVariants.{Compare, Member, Equal}
+use Rattle.lrp_model.specs.declared.plans.StepKind.{StepKind}
+use Rattle.lrp_model.specs.declared.plans.StepKind.TheVariants.{Scan, Leaf, Sort as SortStep, Join, Select, Union, Minus, Complement, DropTime, DropData, Extend}
+use Rattle.lrp_model.proofs.Logic.{all_append}
+use Rattle.lrp_plan_laws.specs.Made.{HeadStep, IsEarlier, operands, IsFormula, IsMade, head_step}
+use Rattle.lrp_plan_laws.specs.Scopes.{EachScope, EachOfScope}
+use Rattle.lrp_plan_laws.specs.Rising.{period_at, HasPeriods, Rises}
+use Rattle.lrp_plan_laws.proofs.Elements.{found, within, formula_front, reach_made, period_made}
+use Rattle.lrp_plan_laws.proofs.Names.{Names, all_self, all_map, all_from, names_self}
+use Rattle.lrp_plan_laws.proofs.PeriodLaws.{multiple_least, lcm_positive, lcm_part, lcm_alone}
+use Rattle.lrp_plan_laws.proofs.PlanSound.{core_of_query}
+use Rattle.lrp_plan_laws.proofs.Builds.{AreMade, AreUnder, IsUnder, LastIsUnder, Builds, made_more}
+use Rattle.lrp_plan_laws.proofs.PlanBuilds.{builds}
+use Rattle.lrp_plan_laws.proofs.CoreNames.{core_named, guarded_within, guarded_body}
+
+-- ---- the steps of a query
+
+-- any variables will do
+abbrev Any : List Variable → Type 0
+Any vs = Unit {0}
+
+mutual
+  any_scope : (f : Form) → EachScope Any f
+  any_scope (atom name terms) = tt
+  any_scope (test t) = tt
+  any_scope (sorted s v) = tt
+  any_scope (negation f) = any_scope f
+  any_scope (conjunction fs) = (tt, any_scopes fs)
+  any_scope (disjunction fs) = (tt, any_scopes fs)
+  any_scope (implication f g) = (tt, (any_scope f, any_scope g))
+  any_scope (exists v s f) = (tt, any_scope f)
+  any_scope (forall v s f) = (tt, any_scope f)
+
+  any_scopes : (fs : Forms) → EachOfScope Any fs
+  any_scopes no_forms = tt
+  any_scopes (form f fs) = (any_scope f, any_scopes fs)
+
+pub core_builds : (db : List Relation) (q : Question) → HasElements q.body → Builds (structure db q) (head_step db q) Any [] (core_steps db q) (Names db (core_form (has_named_sort db) q))
+core_builds db q h = builds (structure db q) (head_step db q) Any (λ vs ws c x. tt) (core_form (has_named_sort db) q) (core_of_query (has_named_sort db) q h) (any_scope (core_form (has_named_sort db) q)) []
+
+no_step : (M : Structure) (head : HeadStep) → AreMade M head []
+no_step M head zero step e = cc
+no_step M head (suc s) step e = cc
+
+-- each step of a plan is made of earlier ones
+pub plan_made : (db : List Relation) (q : Question) → HasElements q.body → AreMade (structure db q) (head_step db q) (plan db q)
+plan_made db q h =
+    let b : Builds (structure db q) (head_step db q) Any [] (core_steps db q) (Names db (core_form (has_named_sort db) q)) = core_builds db q h in
+    made_more (structure db q) (head_step db q) (core_steps db q) (Extend (length (core_steps db q))) (guarded (has_named_sort db) q.head q.body)
+    (record { operands = ((let g : 0 < length (core_steps db q) = b.grown in omega arith, omega arith), tt); formula = (refl, refl); variables = tt })
+    (b.made (no_step (structure db q) (head_step db q)))
+
+-- the formula of the last core step names what `head` names
+last_names : (db : List Relation) (q : Question) → HasElements q.body → (ws : List Variable) (ks : List ℕ)
+    → Names db (formula_at (core_steps db q) (length (core_steps db q))) ws ks ↔ Names db (guarded (has_named_sort db) q.head q.body) ws ks
+last_names db q h ws ks =
+    let a = (core_builds db q h).names ws ks in
+    let b = core_named (has_named_sort db) q db ws ks in
+    ((λ n. b.0 (a.0 n)), λ n. a.1 (b.1 n))
+
+-- `head` names the periods of the body, and no others
+head_periods : (db : List Relation) (q : Question) → AllByRecursion (Contains (periods q.body db)) (periods (guarded (has_named_sort db) q.head q.body) db)
+head_periods db q =
+    let room : List Variable = head_variables q.head ++ free q.body in
+    let two = (all_append (Contains room) (head_variables q.head) (free q.body)).0 (all_self room) in
+    (guarded_within (has_named_sort db) q db room (periods q.body db) two.0 (two.1, all_self (periods q.body db))).1
+
+body_periods : (db : List Relation) (q : Question) → AllByRecursion (Contains (periods (guarded (has_named_sort db) q.head q.body) db)) (periods q.body db)
+body_periods db q = let f : Form = guarded (has_named_sort db) q.head q.body in (guarded_body (has_named_sort db) q db (free f) (periods f db) (names_self db f)).1
+
+-- the last core step names the periods of the body
+last_periods : (db : List Relation) (q : Question) → HasElements q.body → AllByRecursion (Contains (periods q.body db)) (periods (formula_at (core_steps db q) (length (core_steps db q))) db)
+last_periods db q h =
+    let f : Form = guarded (has_named_sort db) q.head q.body in
+    ((last_names db q h (free f) (periods q.body db)).1 (all_self (free f), head_periods db q)).1
+
+periods_last : (db : List Relation) (q : Question) → HasElements q.body → AllByRecursion (Contains (periods (formula_at (core_steps db q) (length (core_steps db q))) db)) (periods q.body db)
+periods_last db q h =
+    let a : Form = formula_at (core_steps db q) (length (core_steps db q)) in
+    let f : Form = guarded (has_named_sort db) q.head q.body in
+    all_from (Contains (periods a db)) (periods f db) (periods q.body db) (body_periods db q) ((last_names db q h (free a) (periods a db)).0 (names_self db a)).1
+
+-- no step is above the query: its reach is at most the last one's, and its periods are the body's
+pub plan_under : (db : List Relation) (q : Question) → HasElements q.body → AreUnder db (query_reach db q) (periods q.body db) (plan db q)
+plan_under db q h =
+    let steps : Steps = core_steps db q in
+    let M : Structure = structure db q in
+    let f : Form = guarded (has_named_sort db) q.head q.body in
+    let b : ℕ = query_reach db q in
+    let e : b ≡ reach_at steps (length steps) = reach_made M (Extend (length steps)) f steps in
+    let last : LastIsUnder db b (periods q.body db) steps = ((omega arith), last_periods db q h) in
+    (all_append (λ step. IsUnder db b (periods q.body db) step.formula step.reach) steps (step_behind M (Extend (length steps)) f steps ∷ [])).1
+    ((core_builds db q h).under b (periods q.body db) last tt, ((omega arith, head_periods db q), tt))
+
+-- ---- steps by their numbers
+
+all_get : {X : Type 0} (p : X → Type 0) (xs : List X) (i : ℕ) (x : X) → slice_get xs i ≡ Some x → AllByRecursion p xs → p x
+all_get p [] i x e h = cc
+all_get p (y ∷ ys) zero x e h = let d : y ≡ x = cc in subst p d h.0
+all_get p (y ∷ ys) (suc i) x e h = all_get p ys i x e h.1
+
+-- what holds of each step holds of step s
+pub all_step : (p : PlanStep → Type 0) (steps : Steps) (s : ℕ) (step : PlanStep) → step_at steps s ≡ Some step → AllByRecursion p steps → p step
+all_step p steps zero step e h = cc
+all_step p steps (suc i) step e h = all_get p steps i step e h
+
+step_within : (steps : Steps) (s : ℕ) (step : PlanStep) → step_at steps s ≡ Some step → s ≤ length steps
+step_within steps zero step e = cc
+step_within steps (suc i) step e = let l : i < length steps = within steps i step e in omega arith
+
+step_found : (steps : Steps) (s : ℕ) → 0 < s → s ≤ length steps → (step : PlanStep) × (step_at steps s ≡ Some step)
+step_found steps zero h k = absurd (omega arith)
+step_found steps (suc i) h k = found steps i (omega arith)
+
+-- ---- a period is a multiple of those of the steps that are read
+
+in_three : (ks xs ys zs : List ℕ) → ks ≡ xs ++ (ys ++ zs) → AllByRecursion (Contains ks) xs × AllByRecursion (Contains ks) ys
+in_three ks xs ys zs e =
+    let all : List ℕ = xs ++ (ys ++ zs) in
+    let a = (all_append (Contains all) xs (ys ++ zs)).0 (all_self all) in
+    let b = (all_append (Contains all) ys zs).0 a.1 in
+    (subst (λ ls. AllByRecursion (Contains ls) xs) (sym e) a.0, subst (λ ls. AllByRecursion (Contains ls) ys) (sym e) b.0)
+
+-- a formula names the periods of the formulas that it is made of
+read_periods : (M : Structure) (head : HeadStep) (at : ℕ → Form) → AllByRecursion (Contains (periods head.formula M.relations)) (periods (at head.of) M.relations)
+    → (kind : StepKind) (f : Form) → IsFormula M head at kind f → AllByRecursion (λ l. AllByRecursion (Contains (periods f M.relations)) (periods (at l) M.relations)) (operands kind)
+read_periods M head at top (Scan name terms) f h = tt
+read_periods M head at top (Leaf t) f h = tt
+read_periods M head at top (SortStep v s texts) f h = tt
+read_periods M head at top (Join left right tests) f h =
+    let x = in_three (periods f M.relations) (periods (at left) M.relations) (periods (at right) M.relations) (periods_each (tests_as_forms tests) M.relations) (ap (λ g. periods g M.relations) h) in (x.0, (x.1, tt))
+read_periods M head at top (Select of t) f h = ((in_three (periods f M.relations) (periods (at of) M.relations) (periods (test t) M.relations) [] (ap (λ g. periods g M.relations) h)).0, tt)
+read_periods M head at top (Union left right) f h = let x = in_three (periods f M.relations) (periods (at left) M.relations) (periods (at right) M.relations) [] (ap (λ g. periods g M.relations) h) in (x.0, (x.1, tt))
+read_periods M head at top (Minus left right) f h = let x = in_three (periods f M.relations) (periods (at left) M.relations) (periods (at right) M.relations) [] (ap (λ g. periods g M.relations) h) in (x.0, (x.1, tt))
+read_periods M head at top (Complement of) f h = (subst (λ ks. AllByRecursion (Contains ks) (periods (at of) M.relations)) (sym (ap (λ g. periods g M.relations) h)) (all_self (periods (at of) M.relations)), tt)
+read_periods M head at top (DropTime of v) f h = (subst (λ ks. AllByRecursion (Contains ks) (periods (at of) M.relations)) (sym (ap (λ g. periods g M.relations) h)) (all_self (periods (at of) M.relations)), tt)
+read_periods M head at top (DropData of v) f h = (subst (λ ks. AllByRecursion (Contains ks) (periods (at of) M.relations)) (sym (ap (λ g. periods g M.relations) h.2)) (all_self (periods (at of) M.relations)), tt)
+read_periods M head at top (Extend of) f h =
+    (subst (λ g. AllByRecursion (Contains (periods g M.relations)) (periods (at of) M.relations)) (sym h.1) (subst (λ l. AllByRecursion (Contains (periods head.formula M.relations)) (periods (at l) M.relations)) (sym h.0) top), tt)
+
+-- the period of a step is that of its formula, also where there is no such step
+period_of : (M : Structure) (head : HeadStep) (steps : Steps) → AreMade M head steps → (l : ℕ) → period_at steps l ≡ period M.relations (formula_at steps l)
+period_of M head steps made l = by_step (step_at steps l) refl
+  where
+    by_step : (o : Option PlanStep) → step_at steps l ≡ o → unwrap_or (option_map (λ step. step.period) o) 1 ≡ period M.relations (unwrap_or (option_map (λ step. step.formula) o) (conjunction no_forms))
+    by_step None e = refl
+    by_step (Some step) e = (made l step e).period
+
+-- ---- a reach is at least the reaches of the steps that are read
+
+read_reaches : (db : List Relation) (at : ℕ → ℕ) (K r : ℕ) (kind : StepKind) → r ≡ reach_of db at K kind → AllByRecursion (λ l. at l ≤ r) (operands kind)
+read_reaches db at K r (Scan name terms) e = tt
+read_reaches db at K r (Leaf t) e = tt
+read_reaches db at K r (SortStep v s texts) e = tt
+read_reaches db at K r (Join left right tests) e = let h : r ≡ max (at left) (max (at right) (greatest (map test_reach tests))) + K = e in (omega arith, (omega arith, tt))
+read_reaches db at K r (Select of t) e = let h : r ≡ max (at of) (test_reach t) + K = e in (omega arith, tt)
+read_reaches db at K r (Union left right) e = let h : r ≡ max (at left) (at right) + K = e in (omega arith, (omega arith, tt))
+read_reaches db at K r (Minus left right) e = let h : r ≡ max (at left) (at right) + 2 * K = e in (omega arith, (omega arith, tt))
+read_reaches db at K r (Complement of) e = let h : r ≡ at of + 2 * K = e in (omega arith, tt)
+read_reaches db at K r (DropTime of v) e = let h : r ≡ 2 * at of = e in (omega arith, tt)
+read_reaches db at K r (DropData of v) e = let h : r ≡ at of = e in (omega arith, tt)
+read_reaches db at K r (Extend of) e = let h : r ≡ at of = e in (omega arith, tt)
+
+-- ---- and at least the period
+
+-- a `compare` or an `equal` has period 1, and a `point` that of its point
+test_wide : (db : List Relation) (t : Test) → AllByRecursion (λ k. 1 ≤ k) (periods (test t) db) → period db (test t) ≤ test_reach t
+test_wide db (Compare left op right) h = omega arith
+test_wide db (Member term point) h = lcm_alone (nat_abs point.period) h.0
+test_wide db (Equal left right) h = omega arith
+
+-- the reach of a step, where those of the steps that it reads are at least their periods
+step_wide : (M : Structure) (head : HeadStep) (at : ℕ → Form) (reach : ℕ → ℕ) → period M.relations head.formula ≤ period M.relations (at head.of)
+    → (kind : StepKind) (f : Form) (r : ℕ) → IsFormula M head at kind f → AllByRecursion (λ k. 1 ≤ k) (periods f M.relations) → AllByRecursion (λ l. period M.relations (at l) ≤ reach l) (operands kind)
+    → r ≡ reach_of M.relations reach (period M.relations f) kind → period M.relations f ≤ r
+step_wide M head at reach top (Scan name terms) f r h low below e = let g : r ≡ reach_of M.relations reach (period M.relations f) (Scan name terms) = e in omega arith
+step_wide M head at reach top (Leaf t) f r h low below e =
+    let k : period M.relations (test t) ≤ test_reach t = test_wide M.relations t (subst (λ g. AllByRecursion (λ k. 1 ≤ k) (periods g M.relations)) h low) in
+    let s : period M.relations f ≡ period M.relations (test t) = ap (period M.relations) h in
+    let g : r ≡ test_reach t = e in omega arith
+step_wide M head at reach top (SortStep v s texts) f r h low below e = let k : period M.relations f ≡ 1 = ap (period M.relations) h.0 in let g : r ≡ 1 = e in omega arith
+step_wide M head at reach top (Join left right tests) f r h low below e = let g : r ≡ max (reach left) (max (reach right) (greatest (map test_reach tests))) + period M.relations f = e in omega arith
+step_wide M head at reach top (Select of t) f r h low below e = let g : r ≡ max (reach of) (test_reach t) + period M.relations f = e in omega arith
+step_wide M head at reach top (Union left right) f r h low below e = let g : r ≡ max (reach left) (reach right) + period M.relations f = e in omega arith
+step_wide M head at reach top (Minus left right) f r h low below e = let g : r ≡ max (reach left) (reach right) + 2 * period M.relations f = e in omega arith
+step_wide M head at reach top (Complement of) f r h low below e = let g : r ≡ reach of + 2 * period M.relations f = e in omega arith
+step_wide M head at reach top (DropTime of v) f r h low below e =
+    let k : period M.relations f ≡ period M.relations (at of) = ap (period M.relations) h in let b : period M.relations (at of) ≤ reach of = below.0 in let g : r ≡ 2 * reach of = e in omega arith
+step_wide M head at reach top (DropData of v) f r h low below e =
+    let k : period M.relations f ≡ period M.relations (at of) = ap (period M.relations) h.2 in let b : period M.relations (at of) ≤ reach of = below.0 in let g : r ≡ reach of = e in omega arith
+step_wide M head at reach top (Extend of) f r h low below e =
+    let k : period M.relations f ≡ period M.relations head.formula = ap (period M.relations) h.1 in
+    let o : period M.relations (at of) ≡ period M.relations (at head.of) = ap (λ l. period M.relations (at l)) h.0 in
+    let b : period M.relations (at of) ≤ reach of = below.0 in
+    let g : r ≡ reach of = e in omega arith
+
+-- ---- the steps of a query
+
+module _ (db : List Relation) (q : Question) (some : HasElements q.body) (low : HasPeriods db q) where
+  -- the periods of each step are at least 1
+  step_low : (s : ℕ) (step : PlanStep) → step_at (plan db q) s ≡ Some step → AllByRecursion (λ k. 1 ≤ k) (periods step.formula db)
+  step_low s step e =
+      all_from (λ k. 1 ≤ k) (periods q.body db) (periods step.formula db) (all_step (λ x. IsUnder db (query_reach db q) (periods q.body db) x.formula x.reach) (plan db q) s step e (plan_under db q some)).1 low
+
+  before_head : formula_at (plan db q) (length (core_steps db q)) ≡ formula_at (core_steps db q) (length (core_steps db q))
+  before_head = formula_front (core_steps db q) (step_behind (structure db q) (Extend (length (core_steps db q))) (guarded (has_named_sort db) q.head q.body) (core_steps db q) ∷ []) (length (core_steps db q)) (omega arith)
+
+  -- the step before `head` names what `head` names
+  top_periods : AllByRecursion (Contains (periods (guarded (has_named_sort db) q.head q.body) db)) (periods (formula_at (plan db q) (length (core_steps db q))) db)
+  top_periods =
+      let f : Form = guarded (has_named_sort db) q.head q.body in
+      subst (λ g. AllByRecursion (Contains (periods f db)) (periods g db)) (sym before_head) ((last_names db q some (free f) (periods f db)).1 (names_self db f)).1
+
+  top_period : period db (guarded (has_named_sort db) q.head q.body) ≤ period db (formula_at (plan db q) (length (core_steps db q)))
+  top_period =
+      let f : Form = guarded (has_named_sort db) q.head q.body in
+      let a : Form = formula_at (core_steps db q) (length (core_steps db q)) in
+      let l : AllByRecursion (λ k. 1 ≤ k) (periods a db) = all_from (λ k. 1 ≤ k) (periods q.body db) (periods a db) (last_periods db q some) low in
+      subst (λ g. period db f ≤ period db g) (sym before_head)
+      (multiple_least (period db f) (period db a) (lcm_positive (periods a db) l) (lcm_part (periods f db) (periods a db) l ((last_names db q some (free a) (periods a db)).0 (names_self db a)).1))
+
+  wide_to : (n s : ℕ) (step : PlanStep) → s ≤ n → step_at (plan db q) s ≡ Some step → period db step.formula ≤ step.reach
+  wide_to zero zero step le e = cc
+  wide_to zero (suc s) step le e = absurd (omega arith)
+  wide_to (suc n) s step le e =
+      let m : IsMade (structure db q) (head_step db q) (plan db q) s step = plan_made db q some s step e in
+      step_wide (structure db q) (head_step db q) (formula_at (plan db q)) (reach_at (plan db q)) top_period step.kind step.formula step.reach m.formula (step_low s step e)
+      (all_map (IsEarlier s) (λ l. period db (formula_at (plan db q) l) ≤ reach_at (plan db q) l) (operands step.kind)
+      (λ l k.
+      let lt : l < s = k.1 in
+      let x = step_found (plan db q) l k.0 (let w : s ≤ length (plan db q) = step_within (plan db q) s step e in omega arith) in
+      let h : period db x.0.formula ≤ x.0.reach = wide_to n l x.0 (omega arith) x.1 in
+      subst (λ o. period db (unwrap_or (option_map (λ y. y.formula) o) (conjunction no_forms)) ≤ unwrap_or (option_map (λ y. y.reach) o) 0) (sym x.1) h)
+      m.operands)
+      (subst (λ K. step.reach ≡ reach_of db (reach_at (plan db q)) K step.kind) m.period m.reach)
+
+  pub rises : (s : ℕ) (step : PlanStep) → step_at (plan db q) s ≡ Some step → Rises db q s step
+  rises s step e =
+      let m : IsMade (structure db q) (head_step db q) (plan db q) s step = plan_made db q some s step e in
+      let u : IsUnder db (query_reach db q) (periods q.body db) step.formula step.reach = all_step (λ x. IsUnder db (query_reach db q) (periods q.body db) x.formula x.reach) (plan db q) s step e (plan_under db q some) in
+      let l : AllByRecursion (λ k. 1 ≤ k) (periods step.formula db) = step_low s step e in
+      let d : IsMultiple (period db step.formula) (period db q.body) = lcm_part (periods step.formula db) (periods q.body db) low u.1 in
+      record {
+        earlier = m.operands;
+        positive = subst (λ K. 1 ≤ K) (sym m.period) (lcm_positive (periods step.formula db) l);
+        wide = subst (λ K. K ≤ step.reach) (sym m.period) (wide_to s s step (omega arith) e);
+        above = read_reaches db (reach_at (plan db q)) step.period step.reach step.kind m.reach;
+        multiple = all_map (λ i. AllByRecursion (Contains (periods step.formula db)) (periods (formula_at (plan db q) i) db)) (λ i. IsMultiple (period_at (plan db q) i) step.period) (operands step.kind)
+            (λ i part. subst (IsMultiple (period_at (plan db q) i)) (sym m.period) (subst (λ K. IsMultiple K (period db step.formula)) (sym (period_of (structure db q) (head_step db q) (plan db q) (plan_made db q some) i)) (lcm_part (periods (formula_at (plan db q) i) db) (periods step.formula db) l part)))
+            (read_periods (structure db q) (head_step db q) (formula_at (plan db q)) top_periods step.kind step.formula m.formula);
+        divides = subst (λ K. IsMultiple K (period db q.body)) (sym m.period) d;
+        within = subst (λ K. K ≤ period db q.body) (sym m.period) (multiple_least (period db step.formula) (period db q.body) (lcm_positive (periods q.body db) low) d);
+        below = u.0;
+      }
+
+periods_joined : (fs gs : Forms) (db : List Relation) → periods_each (joined fs gs) db ≡ periods_each fs db ++ periods_each gs db
+periods_joined no_forms gs db = refl
+periods_joined (form f fs) gs db = ap (λ ks. periods f db ++ ks) (periods_joined fs gs db) ∙ sym (append_assoc (periods f db) (periods_each fs db) (periods_each gs db))
+
+nothing_named : (columns : List Column) (db : List Relation) → periods_each (head_elements columns) db ≡ []
+nothing_named [] db = refl
+nothing_named (c ∷ cs) db = periods_joined (column_elements c.sort c.name) (head_elements cs) db ∙ ap (λ ks. ks ++ periods_each (head_elements cs) db) (column_periods c.sort c.name db) ∙ nothing_named cs db
+  where
+    column_periods : (s : Sort) (v : Identifier) (db : List Relation) → periods_each (column_elements s v) db ≡ []
+    column_periods Time v db = refl
+    column_periods Data v db = refl
+    column_periods (Named name) v db = refl
+
+guarded_periods : (named : Bool) (q : Question) (db : List Relation) → periods (guarded named q.head q.body) db ≡ periods q.body db
+guarded_periods false q db = refl
+guarded_periods true q db = periods_joined (head_elements q.head) (form q.body no_forms) db ∙ ap (λ ks. ks ++ (periods q.body db ++ [])) (nothing_named q.head db) ∙ append-nil (periods q.body db)
+
+-- the last step has the period of the query
+pub last_period : (db : List Relation) (q : Question) → period_at (plan db q) (length (plan db q)) ≡ period db q.body
+last_period db q =
+    let f : Form = guarded (has_named_sort db) q.head q.body in
+    period_made (structure db q) (Extend (length (core_steps db q))) f (core_steps db q) ∙ ap lcm_all (guarded_periods (has_named_sort db) q db)

@@ -1,0 +1,8 @@
+use Rattle.lrp_plan_laws.proofs.RisingLaws.{rises, last_period}
+use Rattle.lrp_plan_laws.proofs.laws.plan_rises.Goals as goal
+
+pub returns-clause-steps : goal.returns-clause-steps
+returns-clause-steps c = λ db q h low s step e. rises db q h low s step e
+
+pub returns-clause-last : goal.returns-clause-last
+returns-clause-last c = λ db q. last_period db q

@@ -1,0 +1,21 @@
+-- The variables that occur together in one part of a formula.
+use Rattle.std.specs.Prelude.{List, ◌∷◌}
+use Rattle.lrp_model.specs.Formulas.{Form, Forms, atom, test, sorted, negation, conjunction, disjunction, implication, exists, forall, no_forms, form}
+use Rattle.lrp_model.specs.Variables.{Variable, bound_by, free}
+
+-- what holds of the free variables of a formula and of each formula in it, where a quantifier's formula counts the quantifier's variable as free
+abbrev mutual
+  pub EachScope : (List Variable → Type 0) → Form → Type 0
+  EachScope fits (atom name terms) = fits (free (atom name terms))
+  EachScope fits (test t) = fits (free (test t))
+  EachScope fits (sorted s v) = fits (free (sorted s v))
+  EachScope fits (negation f) = EachScope fits f
+  EachScope fits (conjunction fs) = fits (free (conjunction fs)) × EachOfScope fits fs
+  EachScope fits (disjunction fs) = fits (free (disjunction fs)) × EachOfScope fits fs
+  EachScope fits (implication f g) = fits (free (implication f g)) × (EachScope fits f × EachScope fits g)
+  EachScope fits (exists v s f) = fits (bound_by s v ∷ free f) × EachScope fits f
+  EachScope fits (forall v s f) = fits (bound_by s v ∷ free f) × EachScope fits f
+
+  pub EachOfScope : (List Variable → Type 0) → Forms → Type 0
+  EachOfScope fits no_forms = Unit {0}
+  EachOfScope fits (form f fs) = EachScope fits f × EachOfScope fits fs
