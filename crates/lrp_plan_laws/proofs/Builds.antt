@@ -2,12 +2,14 @@
 use Rattle.std.proofs.Common.{◌≡◌, ◌↔◌, ⊎_elim, ◌≤◌, ◌<◌, ◌+◌, ◌*◌, ℕ, suc, List, [], ◌∷◌, ◌++◌, length, append_assoc, append-nil, Some, Contains, refl, sym, ap, ap₂, subst, ◌∙◌, arith}
 use Rattle.std.specs.Prelude.{max, map}
 use Rattle.std.specs.List.{AllByRecursion}
+use Rattle.lrp_model.specs.Texts.{Identifier}
 use Rattle.lrp_model.specs.Formulas.{Form, test, negation, conjunction, disjunction, exists, no_forms, form}
 use Rattle.lrp_model.specs.Variables.{Variable, variables_of_test, free}
 use Rattle.lrp_model.specs.Satisfaction.{Structure}
 use Rattle.lrp_model.specs.Periods.{periods}
 use Rattle.lrp_model.specs.Reach.{reach_of, greatest, test_reach}
 use Rattle.lrp_model.specs.Steps.{PlanStep, Steps, step_at, formula_at, reach_at, step_behind, made, tests_as_forms}
+use Rattle.lrp_model.specs.declared.relations.Sort.{Sort}
 use Rattle.lrp_model.specs.declared.relations.Sort.TheVariants.{Time}
 use Rattle.lrp_model.specs.declared.relations.Relation.{Relation}
 use Rattle.lrp_model.specs.declared.plans.StepKind.{StepKind}
@@ -102,29 +104,34 @@ AreUnder db b ks steps = AllByRecursion (λ step. IsUnder db b ks step.formula s
 abbrev pub LastIsUnder : List Relation → ℕ → List ℕ → Steps → Type 0
 LastIsUnder db b ks steps = IsUnder db b ks (formula_at steps (length steps)) (reach_at steps (length steps))
 
--- each step's formula has fitting variables
-abbrev pub AreFitting : (List Variable → Type 0) → Steps → Type 0
-AreFitting fits steps = AllByRecursion (λ step. fits (free step.formula)) steps
+-- a quantifier over a formula is guarded
+abbrev pub Kept : (Identifier → Sort → Form → Type 0) → Form → Type 0
+Kept guard (exists v s f) = guard v s f
+Kept guard f = Unit {0}
+
+-- each step's formula has fitting variables and is guarded
+abbrev pub AreFitting : (List Variable → Type 0) → (Identifier → Sort → Form → Type 0) → Steps → Type 0
+AreFitting fits guard steps = AllByRecursion (λ step. fits (free step.formula) × Kept guard step.formula) steps
 
 -- ---- what a rule builds
 
--- the steps after are those before and more; the formula of the last one names what p says; the new steps are made of earlier ones, none is above the last, and their variables fit
-pub record Builds (M : Structure) (head : HeadStep) (fits : List Variable → Type 0) (before after : Steps) (p : List Variable → List ℕ → Type 0) : Type 0 where
+-- the steps after are those before and more; the formula of the last one names what p says; the new steps are made of earlier ones, none is above the last, and their formulas fit
+pub record Builds (M : Structure) (head : HeadStep) (fits : List Variable → Type 0) (guard : Identifier → Sort → Form → Type 0) (before after : Steps) (p : List Variable → List ℕ → Type 0) : Type 0 where
   pub more : Steps
   pub is : after ≡ before ++ more
   pub grown : length before < length after
   pub names : (ws : List Variable) (ks : List ℕ) → Names M.relations (formula_at after (length after)) ws ks ↔ p ws ks
   pub made : AreMade M head before → AreMade M head after
   pub under : (b : ℕ) (ks : List ℕ) → LastIsUnder M.relations b ks after → AreUnder M.relations b ks before → AreUnder M.relations b ks after
-  pub fitting : AreFitting fits before → AreFitting fits after
+  pub fitting : AreFitting fits guard before → AreFitting fits guard after
 
-module _ (M : Structure) (head : HeadStep) (fits : List Variable → Type 0) where
+module _ (M : Structure) (head : HeadStep) (fits : List Variable → Type 0) (guard : Identifier → Sort → Form → Type 0) where
   -- one step behind steps that were built before
   pub by_step : (before steps : Steps) (kind : StepKind) (f : Form) (p : Saying) (more : Steps) → steps ≡ before ++ more → length before ≤ length steps
-      → (AreMade M head before → AreMade M head steps) → (AreFitting fits before → AreFitting fits steps)
+      → (AreMade M head before → AreMade M head steps) → (AreFitting fits guard before → AreFitting fits guard steps)
       → ((b : ℕ) (ks : List ℕ) → IsUnder M.relations b ks f (step_behind M kind f steps).reach → AreUnder M.relations b ks before → AreUnder M.relations b ks steps)
-      → CanMake M head steps kind f → fits (free f) → ((ws : List Variable) (ks : List ℕ) → Names M.relations f ws ks ↔ p ws ks) → Builds M head fits before (made M kind f steps) p
-  by_step before steps kind f p more is le old fit low can good names = record {
+      → CanMake M head steps kind f → fits (free f) → Kept guard f → ((ws : List Variable) (ks : List ℕ) → Names M.relations f ws ks ↔ p ws ks) → Builds M head fits guard before (made M kind f steps) p
+  by_step before steps kind f p more is le old fit low can good kept names = record {
     more = more ++ step_behind M kind f steps ∷ [];
     is = ap (λ s. s ++ step_behind M kind f steps ∷ []) is ∙ append_assoc before more (step_behind M kind f steps ∷ []);
     grown = let l : length (made M kind f steps) ≡ suc (length steps) = length_made M kind f steps in omega arith;
@@ -134,36 +141,36 @@ module _ (M : Structure) (head : HeadStep) (fits : List Variable → Type 0) whe
         let new : IsUnder M.relations b ks f (step_behind M kind f steps).reach =
         (subst (λ r. r ≤ b) (reach_made M kind f steps) last.0, subst (λ g. AllByRecursion (Contains ks) (periods g M.relations)) (formula_made M kind f steps) last.1) in
         (all_append (λ step. IsUnder M.relations b ks step.formula step.reach) steps (step_behind M kind f steps ∷ [])).1 (low b ks new h, (new, tt));
-    fitting = λ h. (all_append (λ step. fits (free step.formula)) steps (step_behind M kind f steps ∷ [])).1 (fit h, (good, tt));
+    fitting = λ h. (all_append (λ step. fits (free step.formula) × Kept guard step.formula) steps (step_behind M kind f steps ∷ [])).1 (fit h, ((good, kept), tt));
   }
 
   -- a step that reads none
-  pub by_first : (steps : Steps) (kind : StepKind) (f : Form) → CanMake M head steps kind f → fits (free f) → Builds M head fits steps (made M kind f steps) (Names M.relations f)
-  by_first steps kind f can good =
-      by_step steps steps kind f (Names M.relations f) [] (sym (append-nil steps)) (omega arith) (λ h. h) (λ h. h) (λ b ks new h. h) can good (λ ws ks. ((λ h. h), λ h. h))
+  pub by_first : (steps : Steps) (kind : StepKind) (f : Form) → CanMake M head steps kind f → fits (free f) → Kept guard f → Builds M head fits guard steps (made M kind f steps) (Names M.relations f)
+  by_first steps kind f can good kept =
+      by_step steps steps kind f (Names M.relations f) [] (sym (append-nil steps)) (omega arith) (λ h. h) (λ h. h) (λ b ks new h. h) can good kept (λ ws ks. ((λ h. h), λ h. h))
 
   -- a step that reads the last one
-  pub by_next : (before steps : Steps) (p q : Saying) (kind : StepKind) (f : Form) → Builds M head fits before steps p
+  pub by_next : (before steps : Steps) (p q : Saying) (kind : StepKind) (f : Form) → Builds M head fits guard before steps p
       → ((b : ℕ) (ks : List ℕ) → IsUnder M.relations b ks f (step_behind M kind f steps).reach → LastIsUnder M.relations b ks steps)
-      → CanMake M head steps kind f → fits (free f) → ((ws : List Variable) (ks : List ℕ) → Names M.relations f ws ks ↔ q ws ks) → Builds M head fits before (made M kind f steps) q
-  by_next before steps p q kind f m low can good names =
-      by_step before steps kind f q m.more m.is (let g : length before < length steps = m.grown in omega arith) m.made m.fitting (λ b ks new h. m.under b ks (low b ks new) h) can good names
+      → CanMake M head steps kind f → fits (free f) → Kept guard f → ((ws : List Variable) (ks : List ℕ) → Names M.relations f ws ks ↔ q ws ks) → Builds M head fits guard before (made M kind f steps) q
+  by_next before steps p q kind f m low can good kept names =
+      by_step before steps kind f q m.more m.is (let g : length before < length steps = m.grown in omega arith) m.made m.fitting (λ b ks new h. m.under b ks (low b ks new) h) can good kept names
 
-  pub same_builds : (before after : Steps) (p q : Saying) → Builds M head fits before after p → ((ws : List Variable) (ks : List ℕ) → p ws ks ↔ q ws ks) → Builds M head fits before after q
+  pub same_builds : (before after : Steps) (p q : Saying) → Builds M head fits guard before after p → ((ws : List Variable) (ks : List ℕ) → p ws ks ↔ q ws ks) → Builds M head fits guard before after q
   same_builds before after p q m e = record { more = m.more; is = m.is; grown = m.grown; names = λ ws ks. then_iff (m.names ws ks) (e ws ks); made = m.made; under = m.under; fitting = m.fitting }
 
   -- an earlier step's formula and reach stand
-  pub kept_formula : (before after : Steps) (p : Saying) (i : ℕ) → Builds M head fits before after p → i ≤ length before → formula_at after i ≡ formula_at before i
+  pub kept_formula : (before after : Steps) (p : Saying) (i : ℕ) → Builds M head fits guard before after p → i ≤ length before → formula_at after i ≡ formula_at before i
   kept_formula before after p i m le = ap (λ s. formula_at s i) m.is ∙ formula_front before m.more i le
 
-  pub kept_reach : (before after : Steps) (p : Saying) (i : ℕ) → Builds M head fits before after p → i ≤ length before → reach_at after i ≡ reach_at before i
+  pub kept_reach : (before after : Steps) (p : Saying) (i : ℕ) → Builds M head fits guard before after p → i ≤ length before → reach_at after i ≡ reach_at before i
   kept_reach before after p i m le = ap (λ s. reach_at s i) m.is ∙ reach_front before m.more i le
 
   -- a step that reads the last steps of two lists, of which the second goes on from the first
-  pub by_both : (before mid steps : Steps) (p q r : Saying) (kind : StepKind) (f : Form) → Builds M head fits before mid p → Builds M head fits mid steps q
+  pub by_both : (before mid steps : Steps) (p q r : Saying) (kind : StepKind) (f : Form) → Builds M head fits guard before mid p → Builds M head fits guard mid steps q
       → ((b : ℕ) (ks : List ℕ) → IsUnder M.relations b ks f (step_behind M kind f steps).reach → IsUnder M.relations b ks (formula_at steps (length mid)) (reach_at steps (length mid)) × LastIsUnder M.relations b ks steps)
-      → CanMake M head steps kind f → fits (free f) → ((ws : List Variable) (ks : List ℕ) → Names M.relations f ws ks ↔ r ws ks) → Builds M head fits before (made M kind f steps) r
-  by_both before mid steps p q r kind f m n low can good names =
+      → CanMake M head steps kind f → fits (free f) → Kept guard f → ((ws : List Variable) (ks : List ℕ) → Names M.relations f ws ks ↔ r ws ks) → Builds M head fits guard before (made M kind f steps) r
+  by_both before mid steps p q r kind f m n low can good kept names =
       by_step before steps kind f r (m.more ++ n.more) (n.is ∙ ap (λ s. s ++ n.more) m.is ∙ append_assoc before m.more n.more)
       (let g : length before < length mid = m.grown in let h : length mid < length steps = n.grown in omega arith)
       (λ h. n.made (m.made h)) (λ h. n.fitting (m.fitting h))
@@ -172,4 +179,4 @@ module _ (M : Structure) (head : HeadStep) (fits : List Variable → Type 0) whe
       let first : LastIsUnder M.relations b ks mid =
       (subst (λ x. x ≤ b) (kept_reach mid steps q (length mid) n (omega arith)) two.0.0, subst (λ g. AllByRecursion (Contains ks) (periods g M.relations)) (kept_formula mid steps q (length mid) n (omega arith)) two.0.1) in
       n.under b ks two.1 (m.under b ks first h))
-      can good names
+      can good kept names

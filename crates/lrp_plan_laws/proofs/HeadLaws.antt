@@ -36,7 +36,7 @@ others [] (d ∷ ds) env w h = refl
 others (c ∷ cs) [] env w h = refl
 others (c ∷ cs) (d ∷ ds) env w h = others cs ds (with_value c.name d env) w h.1 ∙ one_other c.name w d env h.0
 
-own_text : (v : Identifier) (t : Text) (env : Assignment) → (with_value v (text t) env).texts v ≡ t
+pub own_text : (v : Identifier) (t : Text) (env : Assignment) → (with_value v (text t) env).texts v ≡ t
 own_text v t env = ap (λ b. cond b t (env.texts v)) (own_name v)
 
 -- the sort element of one column
@@ -78,7 +78,7 @@ all_pass : (es : List (Sort × Text)) → AllByRecursion (λ e. e.0 ≡ Data) es
 all_pass [] h = refl
 all_pass (e ∷ es) h = ap (λ s. cond (same_sort s Data) (e ∷ filter (λ e. same_sort e.0 Data) es) (filter (λ e. same_sort e.0 Data) es)) h.0 ∙ ap (λ r. e ∷ r) (all_pass es h.1)
 
-one_domain : (db : List Relation) (q : Question) → IsPlain db q → domain db q Data ≡ constants db q
+pub one_domain : (db : List Relation) (q : Question) → IsPlain db q → domain db q Data ≡ constants db q
 one_domain db q plain = ap (λ es. in_order (map (λ entry. entry.1) es)) (all_pass (all_texts db q) plain.texts)
 
 fits_plain : (db : List Relation) (q : Question) → IsPlain db q → (cs : List Column) (ds : List Datum) → AllByRecursion (λ c. is_named c.sort ≡ false) cs → HasShape cs ds → AllByRecursion (Contains (constants db q)) (texts_of ds) → AllZip (λ c d. IsOfSort (structure db q) c.sort d) cs ds

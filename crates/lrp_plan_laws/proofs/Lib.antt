@@ -11,3 +11,5 @@ pub mod BuildsAnd
 pub mod PlanBuilds
 pub mod CoreNames
 pub mod RisingLaws
+pub mod GuardLaws
+pub mod NarrowLaws

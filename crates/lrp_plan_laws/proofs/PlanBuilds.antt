@@ -5,7 +5,7 @@ use Rattle.std.specs.List.{AllByRecursion}
 use Rattle.lrp_model.specs.Texts.{Identifier}
 use Rattle.lrp_model.specs.Formulas.{Form, Forms, atom, test, sorted, negation, conjunction, disjunction, implication, exists, forall, no_forms, form}
 use Rattle.lrp_model.specs.Variables.{Variable, bound_by, same_variable, free, free_each}
-use Rattle.lrp_model.specs.Satisfaction.{Structure}
+use Rattle.lrp_model.specs.Satisfaction.{Structure, Assignment, Satisfies}
 use Rattle.lrp_model.specs.Core.{IsCore, AreCore, HasElement}
 use Rattle.lrp_model.specs.Periods.{period, periods, periods_each}
 use Rattle.lrp_model.specs.Steps.{Steps, Rule, formula_at, reach_at, union, drop_of}
@@ -19,15 +19,32 @@ use Rattle.lrp_model.proofs.Logic.{then_iff, all_append}
 use Rattle.lrp_plan_laws.specs.Made.{HeadStep}
 use Rattle.lrp_plan_laws.specs.Scopes.{EachScope, EachOfScope}
 use Rattle.lrp_plan_laws.proofs.Names.{Names, NamesEach, all_self, all_later, without_is, cons_named, two_named, exists_named, names_self}
-use Rattle.lrp_plan_laws.proofs.PlanSound.{first_positive, first_test, first_negation, ranked_all, count, counted}
+use Rattle.lrp_plan_laws.proofs.PlanSound.{makes, first_positive, first_test, first_negation, ranked_all, count, counted}
 use Rattle.lrp_plan_laws.proofs.Builds.{Saying, Builds, by_first, by_next, by_both, same_builds, kept_formula}
 use Rattle.lrp_plan_laws.proofs.BuildsAnd.{IsBuilt, Left, all_built, complement_builds, fits_within}
 
+-- each quantifier is guarded, over every formula that says what its own says
+abbrev mutual
+  pub EachGuard : Structure → (Identifier → Sort → Form → Type 0) → Form → Type 0
+  EachGuard M guard (atom name terms) = Unit {0}
+  EachGuard M guard (test t) = Unit {0}
+  EachGuard M guard (sorted s v) = Unit {0}
+  EachGuard M guard (negation f) = EachGuard M guard f
+  EachGuard M guard (conjunction fs) = EachOfGuard M guard fs
+  EachGuard M guard (disjunction fs) = EachOfGuard M guard fs
+  EachGuard M guard (implication f g) = EachGuard M guard f × EachGuard M guard g
+  EachGuard M guard (exists v s f) = ((a : Form) → ((env : Assignment) → Satisfies a M env ↔ Satisfies f M env) → guard v s a) × EachGuard M guard f
+  EachGuard M guard (forall v s f) = Unit {0}
+
+  pub EachOfGuard : Structure → (Identifier → Sort → Form → Type 0) → Forms → Type 0
+  EachOfGuard M guard no_forms = Unit {0}
+  EachOfGuard M guard (form f fs) = EachGuard M guard f × EachOfGuard M guard fs
+
 -- ---- an `and` names what its positives, its tests and its negations name
 
-module _ (M : Structure) (head : HeadStep) (fits : List Variable → Type 0) (down : (vs ws : List Variable) → AllByRecursion (Contains ws) vs → fits ws → fits vs) where
+module _ (M : Structure) (head : HeadStep) (fits : List Variable → Type 0) (guard : Identifier → Sort → Form → Type 0) (down : (vs ws : List Variable) → AllByRecursion (Contains ws) vs → fits ws → fits vs) where
   abbrev LeftOf : Forms → Saying
-  LeftOf fs ws ks = Left M head fits down (positives_in fs) (tests_in fs) (negations_in fs) ws ks
+  LeftOf fs ws ks = Left M head fits guard down (positives_in fs) (tests_in fs) (negations_in fs) ws ks
 
   parts : (ws : List Variable) (ks : List ℕ) (fs : Forms) → NamesEach M.relations fs ws ks ↔ LeftOf fs ws ks
   parts ws ks no_forms = ((λ h. (tt, (tt, tt))), λ h. (tt, tt))
@@ -43,7 +60,7 @@ module _ (M : Structure) (head : HeadStep) (fits : List Variable → Type 0) (do
   parts ws ks (form (exists v s f) fs) = then_iff (cons_named M.relations ws ks (exists v s f) fs) (first_positive _ _ _ _ (parts ws ks fs))
   parts ws ks (form (forall v s f) fs) = then_iff (cons_named M.relations ws ks (forall v s f) fs) (first_positive _ _ _ _ (parts ws ks fs))
 
-  as_built : (f : Form) (rule : Rule) → ((steps : Steps) → Builds M head fits steps (rule M steps) (Names M.relations f)) → AllByRecursion (IsBuilt M head fits down) (as_positive f rule)
+  as_built : (f : Form) (rule : Rule) → ((steps : Steps) → Builds M head fits guard steps (rule M steps) (Names M.relations f)) → AllByRecursion (IsBuilt M head fits guard down) (as_positive f rule)
   as_built (test (Compare left op right)) rule h = tt
   as_built (test (Member term point)) rule h = (h, tt)
   as_built (test (Equal left right)) rule h = tt
@@ -56,14 +73,14 @@ module _ (M : Structure) (head : HeadStep) (fits : List Variable → Type 0) (do
   as_built (exists v s f) rule h = (h, tt)
   as_built (forall v s f) rule h = (h, tt)
 
-  conjunction_builds : (fs : Forms) (steps : Steps) → HasElement fs → fits (free_each fs) → AllByRecursion (IsBuilt M head fits down) (positives_in fs) → AllByRecursion (IsBuilt M head fits down) (negations_in fs)
-      → Builds M head fits steps (conjunction_rule (positives_in fs) (tests_in fs) (negations_in fs) M steps) (Names M.relations (conjunction fs))
+  conjunction_builds : (fs : Forms) (steps : Steps) → HasElement fs → fits (free_each fs) → AllByRecursion (IsBuilt M head fits guard down) (positives_in fs) → AllByRecursion (IsBuilt M head fits guard down) (negations_in fs)
+      → Builds M head fits guard steps (conjunction_rule (positives_in fs) (tests_in fs) (negations_in fs) M steps) (Names M.relations (conjunction fs))
   conjunction_builds fs steps some good ps ns =
-      all_built M head fits down (free_each fs) (periods_each fs M.relations) good steps (count M fs) (Names M.relations (conjunction fs)) (names_self M.relations (conjunction fs))
+      all_built M head fits guard down (free_each fs) (periods_each fs M.relations) good steps (count M fs) (Names M.relations (conjunction fs)) (names_self M.relations (conjunction fs))
       (record { steps = steps; taken = nothing_taken; positives = ranked M (positives_in fs); tests = tests_in fs; negations = negations_in fs })
       (counted M fs some)
       (record {
-        positives = (ranked_all (IsBuilt M head fits down) M (positives_in fs)).1 ps;
+        positives = (ranked_all (IsBuilt M head fits guard down) M (positives_in fs)).1 ps;
         negations = ns;
         last = λ e. cc;
         fresh = λ e. refl;
@@ -78,21 +95,21 @@ module _ (M : Structure) (head : HeadStep) (fits : List Variable → Type 0) (do
 
   -- ---- each rule
 
-  drop_step : (before steps : Steps) (v : Identifier) (s : Sort) (p q : Saying) → Builds M head fits before steps p → fits (free (exists v s (formula_at steps (length steps))))
-      → ((ws : List Variable) (ks : List ℕ) → Names M.relations (exists v s (formula_at steps (length steps))) ws ks ↔ q ws ks) → Builds M head fits before (drop_of v s M steps) q
-  drop_step before steps v Time p q m good names =
-      by_next M head fits before steps p q (DropTime (length steps) v) (exists v Time (formula_at steps (length steps))) m
+  drop_step : (before steps : Steps) (v : Identifier) (s : Sort) (p q : Saying) → Builds M head fits guard before steps p → fits (free (exists v s (formula_at steps (length steps)))) → guard v s (formula_at steps (length steps))
+      → ((ws : List Variable) (ks : List ℕ) → Names M.relations (exists v s (formula_at steps (length steps))) ws ks ↔ q ws ks) → Builds M head fits guard before (drop_of v s M steps) q
+  drop_step before steps v Time p q m good kept names =
+      by_next M head fits guard before steps p q (DropTime (length steps) v) (exists v Time (formula_at steps (length steps))) m
       (λ b ks new. (let r : 2 * reach_at steps (length steps) ≤ b = new.0 in omega arith, new.1))
-      (record { operands = ((let g : length before < length steps = m.grown in omega arith, omega arith), tt); formula = refl; variables = tt }) good names
-  drop_step before steps v Data p q m good names =
-      by_next M head fits before steps p q (DropData (length steps) v) (exists v Data (formula_at steps (length steps))) m (λ b ks new. new)
-      (record { operands = ((let g : length before < length steps = m.grown in omega arith, omega arith), tt); formula = (Data, tt, refl); variables = tt }) good names
-  drop_step before steps v (Named name) p q m good names =
-      by_next M head fits before steps p q (DropData (length steps) v) (exists v (Named name) (formula_at steps (length steps))) m (λ b ks new. new)
-      (record { operands = ((let g : length before < length steps = m.grown in omega arith, omega arith), tt); formula = (Named name, tt, refl); variables = tt }) good names
+      (record { operands = ((let g : length before < length steps = m.grown in omega arith, omega arith), tt); formula = refl; variables = tt }) good kept names
+  drop_step before steps v Data p q m good kept names =
+      by_next M head fits guard before steps p q (DropData (length steps) v) (exists v Data (formula_at steps (length steps))) m (λ b ks new. new)
+      (record { operands = ((let g : length before < length steps = m.grown in omega arith, omega arith), tt); formula = (Data, tt, refl); variables = tt }) good kept names
+  drop_step before steps v (Named name) p q m good kept names =
+      by_next M head fits guard before steps p q (DropData (length steps) v) (exists v (Named name) (formula_at steps (length steps))) m (λ b ks new. new)
+      (record { operands = ((let g : length before < length steps = m.grown in omega arith, omega arith), tt); formula = (Named name, tt, refl); variables = tt }) good kept names
 
-  drop_builds : (before steps : Steps) (v : Identifier) (s : Sort) (f : Form) → Builds M head fits before steps (Names M.relations f) → fits (bound_by s v ∷ free f) → Builds M head fits before (drop_of v s M steps) (Names M.relations (exists v s f))
-  drop_builds before steps v s f m good =
+  drop_builds : (before steps : Steps) (v : Identifier) (s : Sort) (f : Form) → Builds M head fits guard before steps (Names M.relations f) → fits (bound_by s v ∷ free f) → guard v s (formula_at steps (length steps)) → Builds M head fits guard before (drop_of v s M steps) (Names M.relations (exists v s f))
+  drop_builds before steps v s f m good kept =
       let a : Form = formula_at steps (length steps) in
       let names : (ws : List Variable) (ks : List ℕ) → Names M.relations (exists v s a) ws ks ↔ Names M.relations (exists v s f) ws ks =
       λ ws ks.
@@ -104,7 +121,7 @@ module _ (M : Structure) (head : HeadStep) (fits : List Variable → Type 0) (do
       let within : Names M.relations (exists v s f) room (periods f M.relations) =
       (exists_named M.relations room (periods f M.relations) v s f).1 (all_later (bound_by s v) room (free f) (all_later (bound_by s v) (free f) (free f) (all_self (free f))), all_self (periods f M.relations)) in
       drop_step before steps v s (Names M.relations f) (Names M.relations (exists v s f)) m
-      (fits_within M head fits down (exists v s a) room (periods f M.relations) good ((names room (periods f M.relations)).1 within)) names
+      (fits_within M head fits guard down (exists v s a) room (periods f M.relations) good ((names room (periods f M.relations)).1 within)) kept names
 
   -- a formula without a variable names no more than the formula with it
   without_room : (b : Variable) (vs : List Variable) → AllByRecursion (Contains (b ∷ vs)) (filter (λ w. not (same_variable b w)) vs)
@@ -123,11 +140,11 @@ module _ (M : Structure) (head : HeadStep) (fits : List Variable → Type 0) (do
   whole (forall v s f) good = down (free (forall v s f)) (bound_by s v ∷ free f) (without_room (bound_by s v) (free f)) good.0
 
   union_builds : (before mid steps : Steps) (f g : Form) (room : List Variable) (most : List ℕ) → fits room → Names M.relations g room most × Names M.relations f room most
-      → Builds M head fits before mid (Names M.relations g) → Builds M head fits mid steps (Names M.relations f) → Builds M head fits before (union (length mid) M steps) (Names M.relations (disjunction (form g (form f no_forms))))
+      → Builds M head fits guard before mid (Names M.relations g) → Builds M head fits guard mid steps (Names M.relations f) → Builds M head fits guard before (union (length mid) M steps) (Names M.relations (disjunction (form g (form f no_forms))))
   union_builds before mid steps f g room most roomy inside m n =
       let a : Form = formula_at steps (length mid) in
       let b : Form = formula_at steps (length steps) in
-      let e : a ≡ formula_at mid (length mid) = kept_formula M head fits mid steps (Names M.relations f) (length mid) n (omega arith) in
+      let e : a ≡ formula_at mid (length mid) = kept_formula M head fits guard mid steps (Names M.relations f) (length mid) n (omega arith) in
       let first : (ws : List Variable) (ks : List ℕ) → Names M.relations a ws ks ↔ Names M.relations g ws ks = λ ws ks. subst (λ h. Names M.relations h ws ks ↔ Names M.relations g ws ks) (sym e) (m.names ws ks) in
       let names : (ws : List Variable) (ks : List ℕ) → Names M.relations (disjunction (form a (form b no_forms))) ws ks ↔ Names M.relations (disjunction (form g (form f no_forms))) ws ks =
       λ ws ks.
@@ -136,7 +153,7 @@ module _ (M : Structure) (head : HeadStep) (fits : List Variable → Type 0) (do
         (λ h. let z = x.0 h in y.1 ((first ws ks).0 z.0, ((n.names ws ks).0 z.1.0, (tt, tt)))),
         λ h. let z = y.0 h in x.1 ((first ws ks).1 z.0, ((n.names ws ks).1 z.1.0, (tt, tt))),
       ) in
-      by_both M head fits before mid steps (Names M.relations g) (Names M.relations f) (Names M.relations (disjunction (form g (form f no_forms)))) (Union (length mid) (length steps)) (disjunction (form a (form b no_forms))) m n
+      by_both M head fits guard before mid steps (Names M.relations g) (Names M.relations f) (Names M.relations (disjunction (form g (form f no_forms)))) (Union (length mid) (length steps)) (disjunction (form a (form b no_forms))) m n
       (λ c ks new.
       let r : max (reach_at steps (length mid)) (reach_at steps (length steps)) + period M.relations (disjunction (form a (form b no_forms))) ≤ c = new.0 in
       let x = (all_append (Contains ks) (periods a M.relations) (periods_each (form b no_forms) M.relations)).0 new.1 in
@@ -147,46 +164,47 @@ module _ (M : Structure) (head : HeadStep) (fits : List Variable → Type 0) (do
         formula = refl;
         variables = tt;
       })
-      (fits_within M head fits down (disjunction (form a (form b no_forms))) room most roomy ((names room most).1 ((two_named M.relations room most g f no_forms).1 (inside.0, (inside.1, (tt, tt))))))
+      (fits_within M head fits guard down (disjunction (form a (form b no_forms))) room most roomy ((names room most).1 ((two_named M.relations room most g f no_forms).1 (inside.0, (inside.1, (tt, tt))))))
+      tt
       names
 
   mutual
-    pub builds : (f : Form) → IsCore f → EachScope fits f → (steps : Steps) → Builds M head fits steps (plan_of f M steps) (Names M.relations f)
-    builds (atom name terms) c good steps = by_first M head fits steps (Scan name terms) (atom name terms) (record { operands = tt; formula = refl; variables = tt }) good
-    builds (test t) c good steps = by_first M head fits steps (Leaf t) (test t) (record { operands = tt; formula = refl; variables = tt }) good
-    builds (sorted s v) c good steps = by_first M head fits steps (SortStep v s (M.domain s)) (sorted s v) (record { operands = tt; formula = (refl, refl); variables = tt }) good
-    builds (negation f) c good steps = complement_builds M head fits down steps (plan_of f M steps) f (builds f c good steps) (whole f good)
-    builds (conjunction fs) c good steps = conjunction_builds fs steps c.0 good.0 (built_positives fs c.1 good.1) (built_negations fs c.1 good.1)
-    builds (disjunction no_forms) c good steps = absurd c.0
-    builds (disjunction (form f fs)) c good steps =
-        same_builds M head fits steps (plan_of_others fs M (plan_of f M steps)) (λ ws ks. Names M.relations f ws ks × NamesEach M.relations fs ws ks) _
-        (builds_others fs c.1.1 good.1.1 steps (plan_of f M steps) f (free_each (form f fs)) (periods_each (form f fs) M.relations) good.0
-        ((cons_named M.relations (free_each (form f fs)) (periods_each (form f fs) M.relations) f fs).0 (names_self M.relations (disjunction (form f fs)))) (builds f c.1.0 good.1.0 steps))
+    pub builds : (f : Form) → IsCore f → EachScope fits f → EachGuard M guard f → (steps : Steps) → Builds M head fits guard steps (plan_of f M steps) (Names M.relations f)
+    builds (atom name terms) c good kept steps = by_first M head fits guard steps (Scan name terms) (atom name terms) (record { operands = tt; formula = refl; variables = tt }) good tt
+    builds (test t) c good kept steps = by_first M head fits guard steps (Leaf t) (test t) (record { operands = tt; formula = refl; variables = tt }) good tt
+    builds (sorted s v) c good kept steps = by_first M head fits guard steps (SortStep v s (M.domain s)) (sorted s v) (record { operands = tt; formula = (refl, refl); variables = tt }) good tt
+    builds (negation f) c good kept steps = complement_builds M head fits guard down steps (plan_of f M steps) f (builds f c good kept steps) (whole f good)
+    builds (conjunction fs) c good kept steps = conjunction_builds fs steps c.0 good.0 (built_positives fs c.1 good.1 kept) (built_negations fs c.1 good.1 kept)
+    builds (disjunction no_forms) c good kept steps = absurd c.0
+    builds (disjunction (form f fs)) c good kept steps =
+        same_builds M head fits guard steps (plan_of_others fs M (plan_of f M steps)) (λ ws ks. Names M.relations f ws ks × NamesEach M.relations fs ws ks) _
+        (builds_others fs c.1.1 good.1.1 kept.1 steps (plan_of f M steps) f (free_each (form f fs)) (periods_each (form f fs) M.relations) good.0
+        ((cons_named M.relations (free_each (form f fs)) (periods_each (form f fs) M.relations) f fs).0 (names_self M.relations (disjunction (form f fs)))) (builds f c.1.0 good.1.0 kept.0 steps))
         (λ ws ks. let x = cons_named M.relations ws ks f fs in ((λ h. x.1 h), λ h. x.0 h))
-    builds (implication f g) c good steps = absurd c
-    builds (exists v s f) c good steps = drop_builds steps (plan_of f M steps) v s f (builds f c good.1 steps) good.0
-    builds (forall v s f) c good steps = absurd c
+    builds (implication f g) c good kept steps = absurd c
+    builds (exists v s f) c good kept steps = drop_builds steps (plan_of f M steps) v s f (builds f c good.1 kept.1 steps) good.0 (kept.0 (formula_at (plan_of f M steps) (length (plan_of f M steps))) (makes f c M steps).says)
+    builds (forall v s f) c good kept steps = absurd c
 
-    builds_others : (fs : Forms) → AreCore fs → EachOfScope fits fs → (before mid : Steps) (g : Form) (room : List Variable) (most : List ℕ) → fits room → Names M.relations g room most × NamesEach M.relations fs room most
-        → Builds M head fits before mid (Names M.relations g) → Builds M head fits before (plan_of_others fs M mid) (λ ws ks. Names M.relations g ws ks × NamesEach M.relations fs ws ks)
-    builds_others no_forms c good before mid g room most roomy inside m = same_builds M head fits before mid (Names M.relations g) _ m (λ ws ks. ((λ h. (h, (tt, tt))), λ h. h.0))
-    builds_others (form f fs) c good before mid g room most roomy inside m =
+    builds_others : (fs : Forms) → AreCore fs → EachOfScope fits fs → EachOfGuard M guard fs → (before mid : Steps) (g : Form) (room : List Variable) (most : List ℕ) → fits room → Names M.relations g room most × NamesEach M.relations fs room most
+        → Builds M head fits guard before mid (Names M.relations g) → Builds M head fits guard before (plan_of_others fs M mid) (λ ws ks. Names M.relations g ws ks × NamesEach M.relations fs ws ks)
+    builds_others no_forms c good kept before mid g room most roomy inside m = same_builds M head fits guard before mid (Names M.relations g) _ m (λ ws ks. ((λ h. (h, (tt, tt))), λ h. h.0))
+    builds_others (form f fs) c good kept before mid g room most roomy inside m =
         let either : Form = disjunction (form g (form f no_forms)) in
         let here = (cons_named M.relations room most f fs).0 inside.1 in
-        let u : Builds M head fits before (union (length mid) M (plan_of f M mid)) (Names M.relations either) =
-        union_builds before mid (plan_of f M mid) f g room most roomy (inside.0, here.0) m (builds f c.0 good.0 mid) in
-        same_builds M head fits before (plan_of_others fs M (union (length mid) M (plan_of f M mid))) (λ ws ks. Names M.relations either ws ks × NamesEach M.relations fs ws ks) _
-        (builds_others fs c.1 good.1 before (union (length mid) M (plan_of f M mid)) either room most roomy ((two_named M.relations room most g f no_forms).1 (inside.0, (here.0, (tt, tt))), here.1) u)
+        let u : Builds M head fits guard before (union (length mid) M (plan_of f M mid)) (Names M.relations either) =
+        union_builds before mid (plan_of f M mid) f g room most roomy (inside.0, here.0) m (builds f c.0 good.0 kept.0 mid) in
+        same_builds M head fits guard before (plan_of_others fs M (union (length mid) M (plan_of f M mid))) (λ ws ks. Names M.relations either ws ks × NamesEach M.relations fs ws ks) _
+        (builds_others fs c.1 good.1 kept.1 before (union (length mid) M (plan_of f M mid)) either room most roomy ((two_named M.relations room most g f no_forms).1 (inside.0, (here.0, (tt, tt))), here.1) u)
         (λ ws ks.
         let x = two_named M.relations ws ks g f no_forms in
         let y = cons_named M.relations ws ks f fs in
         ((λ h. let z = x.0 h.0 in (z.0, y.1 (z.1.0, h.1))), λ h. let z = y.0 h.1 in (x.1 (h.0, (z.0, (tt, tt))), z.1)))
 
-    built_positives : (fs : Forms) → AreCore fs → EachOfScope fits fs → AllByRecursion (IsBuilt M head fits down) (positives_in fs)
-    built_positives no_forms c good = tt
-    built_positives (form f fs) c good = (all_append (IsBuilt M head fits down) (as_positive f (plan_of f)) (positives_in fs)).1 (as_built f (plan_of f) (builds f c.0 good.0), built_positives fs c.1 good.1)
+    built_positives : (fs : Forms) → AreCore fs → EachOfScope fits fs → EachOfGuard M guard fs → AllByRecursion (IsBuilt M head fits guard down) (positives_in fs)
+    built_positives no_forms c good kept = tt
+    built_positives (form f fs) c good kept = (all_append (IsBuilt M head fits guard down) (as_positive f (plan_of f)) (positives_in fs)).1 (as_built f (plan_of f) (builds f c.0 good.0 kept.0), built_positives fs c.1 good.1 kept.1)
 
-    built_negations : (fs : Forms) → AreCore fs → EachOfScope fits fs → AllByRecursion (IsBuilt M head fits down) (negations_in fs)
-    built_negations no_forms c good = tt
-    built_negations (form (negation g) fs) c good = (builds g c.0 good.0, built_negations fs c.1 good.1)
-    built_negations (form f fs) c good = built_negations fs c.1 good.1
+    built_negations : (fs : Forms) → AreCore fs → EachOfScope fits fs → EachOfGuard M guard fs → AllByRecursion (IsBuilt M head fits guard down) (negations_in fs)
+    built_negations no_forms c good kept = tt
+    built_negations (form (negation g) fs) c good kept = (builds g c.0 good.0 kept.0, built_negations fs c.1 good.1 kept.1)
+    built_negations (form f fs) c good kept = built_negations fs c.1 good.1 kept.1

@@ -28,17 +28,21 @@ use Rattle.lrp_plan_laws.proofs.Names.{Names, all_self, all_map, all_from, names
 use Rattle.lrp_plan_laws.proofs.PeriodLaws.{multiple_least, lcm_positive, lcm_part, lcm_alone}
 use Rattle.lrp_plan_laws.proofs.PlanSound.{core_of_query}
 use Rattle.lrp_plan_laws.proofs.Builds.{AreMade, AreUnder, IsUnder, LastIsUnder, Builds, made_more}
-use Rattle.lrp_plan_laws.proofs.PlanBuilds.{builds}
+use Rattle.lrp_plan_laws.proofs.PlanBuilds.{EachGuard, EachOfGuard, builds}
 use Rattle.lrp_plan_laws.proofs.CoreNames.{core_named, guarded_within, guarded_body}
 
 -- ---- the steps of a query
 
 -- any variables will do
-abbrev Any : List Variable → Type 0
+abbrev pub Any : List Variable → Type 0
 Any vs = Unit {0}
 
+-- and no guard is asked for
+abbrev pub Unguarded : Identifier → Sort → Form → Type 0
+Unguarded v s f = Unit {0}
+
 mutual
-  any_scope : (f : Form) → EachScope Any f
+  pub any_scope : (f : Form) → EachScope Any f
   any_scope (atom name terms) = tt
   any_scope (test t) = tt
   any_scope (sorted s v) = tt
@@ -49,12 +53,28 @@ mutual
   any_scope (exists v s f) = (tt, any_scope f)
   any_scope (forall v s f) = (tt, any_scope f)
 
-  any_scopes : (fs : Forms) → EachOfScope Any fs
+  pub any_scopes : (fs : Forms) → EachOfScope Any fs
   any_scopes no_forms = tt
   any_scopes (form f fs) = (any_scope f, any_scopes fs)
 
-pub core_builds : (db : List Relation) (q : Question) → HasElements q.body → Builds (structure db q) (head_step db q) Any [] (core_steps db q) (Names db (core_form (has_named_sort db) q))
-core_builds db q h = builds (structure db q) (head_step db q) Any (λ vs ws c x. tt) (core_form (has_named_sort db) q) (core_of_query (has_named_sort db) q h) (any_scope (core_form (has_named_sort db) q)) []
+mutual
+  pub unguarded : (M : Structure) (f : Form) → EachGuard M Unguarded f
+  unguarded M (atom name terms) = tt
+  unguarded M (test t) = tt
+  unguarded M (sorted s v) = tt
+  unguarded M (negation f) = unguarded M f
+  unguarded M (conjunction fs) = all_unguarded M fs
+  unguarded M (disjunction fs) = all_unguarded M fs
+  unguarded M (implication f g) = (unguarded M f, unguarded M g)
+  unguarded M (exists v s f) = ((λ a says. tt), unguarded M f)
+  unguarded M (forall v s f) = tt
+
+  pub all_unguarded : (M : Structure) (fs : Forms) → EachOfGuard M Unguarded fs
+  all_unguarded M no_forms = tt
+  all_unguarded M (form f fs) = (unguarded M f, all_unguarded M fs)
+
+pub core_builds : (db : List Relation) (q : Question) → HasElements q.body → Builds (structure db q) (head_step db q) Any Unguarded [] (core_steps db q) (Names db (core_form (has_named_sort db) q))
+core_builds db q h = builds (structure db q) (head_step db q) Any Unguarded (λ vs ws c x. tt) (core_form (has_named_sort db) q) (core_of_query (has_named_sort db) q h) (any_scope (core_form (has_named_sort db) q)) (unguarded (structure db q) (core_form (has_named_sort db) q)) []
 
 no_step : (M : Structure) (head : HeadStep) → AreMade M head []
 no_step M head zero step e = cc
@@ -63,13 +83,13 @@ no_step M head (suc s) step e = cc
 -- each step of a plan is made of earlier ones
 pub plan_made : (db : List Relation) (q : Question) → HasElements q.body → AreMade (structure db q) (head_step db q) (plan db q)
 plan_made db q h =
-    let b : Builds (structure db q) (head_step db q) Any [] (core_steps db q) (Names db (core_form (has_named_sort db) q)) = core_builds db q h in
+    let b : Builds (structure db q) (head_step db q) Any Unguarded [] (core_steps db q) (Names db (core_form (has_named_sort db) q)) = core_builds db q h in
     made_more (structure db q) (head_step db q) (core_steps db q) (Extend (length (core_steps db q))) (guarded (has_named_sort db) q.head q.body)
     (record { operands = ((let g : 0 < length (core_steps db q) = b.grown in omega arith, omega arith), tt); formula = (refl, refl); variables = tt })
     (b.made (no_step (structure db q) (head_step db q)))
 
 -- the formula of the last core step names what `head` names
-last_names : (db : List Relation) (q : Question) → HasElements q.body → (ws : List Variable) (ks : List ℕ)
+pub last_names : (db : List Relation) (q : Question) → HasElements q.body → (ws : List Variable) (ks : List ℕ)
     → Names db (formula_at (core_steps db q) (length (core_steps db q))) ws ks ↔ Names db (guarded (has_named_sort db) q.head q.body) ws ks
 last_names db q h ws ks =
     let a = (core_builds db q h).names ws ks in
@@ -122,11 +142,11 @@ pub all_step : (p : PlanStep → Type 0) (steps : Steps) (s : ℕ) (step : PlanS
 all_step p steps zero step e h = cc
 all_step p steps (suc i) step e h = all_get p steps i step e h
 
-step_within : (steps : Steps) (s : ℕ) (step : PlanStep) → step_at steps s ≡ Some step → s ≤ length steps
+pub step_within : (steps : Steps) (s : ℕ) (step : PlanStep) → step_at steps s ≡ Some step → s ≤ length steps
 step_within steps zero step e = cc
 step_within steps (suc i) step e = let l : i < length steps = within steps i step e in omega arith
 
-step_found : (steps : Steps) (s : ℕ) → 0 < s → s ≤ length steps → (step : PlanStep) × (step_at steps s ≡ Some step)
+pub step_found : (steps : Steps) (s : ℕ) → 0 < s → s ≤ length steps → (step : PlanStep) × (step_at steps s ≡ Some step)
 step_found steps zero h k = absurd (omega arith)
 step_found steps (suc i) h k = found steps i (omega arith)
 

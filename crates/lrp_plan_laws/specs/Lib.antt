@@ -1,3 +1,4 @@
 pub mod Made
 pub mod Rising
 pub mod Scopes
+pub mod Guards

@@ -1,7 +1,29 @@
 -- The variables that occur together in one part of a formula.
-use Rattle.std.specs.Prelude.{List, ◌∷◌}
-use Rattle.lrp_model.specs.Formulas.{Form, Forms, atom, test, sorted, negation, conjunction, disjunction, implication, exists, forall, no_forms, form}
-use Rattle.lrp_model.specs.Variables.{Variable, bound_by, free}
+use Rattle.std.specs.Prelude.{◌≢◌, ◌≤◌, List, [], ◌∷◌, length, flat_map, Contains}
+use Rattle.std.specs.List.{AllByRecursion}
+use Rattle.lrp_model.specs.Texts.{Identifier}
+use Rattle.lrp_model.specs.Formulas.{Form, Forms, Question, atom, test, sorted, negation, conjunction, disjunction, implication, exists, forall, no_forms, form}
+use Rattle.lrp_model.specs.Variables.{Variable, time_variable, data_variable, bound_by, free}
+use Rattle.lrp_model.specs.Steps.{PlanStep, Steps, formula_at}
+use Rattle.lrp_model.specs.Plans.{plan}
+use Rattle.lrp_model.specs.Caps.{step_variables}
+use Rattle.lrp_model.specs.declared.relations.Relation.{Relation}
+use Rattle.lrp_plan_laws.specs.Made.{operands}
+
+-- no two of the names are the same
+abbrev pub AreDifferent : List Identifier → Type 0
+AreDifferent [] = Unit {0}
+AreDifferent (n ∷ ns) = AllByRecursion (λ m. n ≢ m) ns × AreDifferent ns
+
+-- at most 8 different names are such
+abbrev pub AtMostEight : (Identifier → Type 0) → Type 0
+AtMostEight is = (names : List Identifier) → AreDifferent names → AllByRecursion is names → length names ≤ 8
+
+-- at most 8 variables for integers and at most 8 for texts, and none of one name
+pub record IsNarrow (vs : List Variable) : Type 0 where
+  pub times : AtMostEight (λ n. Contains vs (time_variable n))
+  pub texts : AtMostEight (λ n. Contains vs (data_variable n))
+  pub kinds : (n : Identifier) → Contains vs (time_variable n) → Contains vs (data_variable n) → ⊥
 
 -- what holds of the free variables of a formula and of each formula in it, where a quantifier's formula counts the quantifier's variable as free
 abbrev mutual
@@ -19,3 +41,12 @@ abbrev mutual
   pub EachOfScope : (List Variable → Type 0) → Forms → Type 0
   EachOfScope fits no_forms = Unit {0}
   EachOfScope fits (form f fs) = EachScope fits f × EachOfScope fits fs
+
+-- the variables of the steps that a step reads
+abbrev pub read_variables : Steps → PlanStep → List Variable
+read_variables steps step = flat_map (λ l. free (formula_at steps l)) (operands step.kind)
+
+-- the variables of a step, and those of the steps that it reads together
+pub record IsNarrowStep (db : List Relation) (q : Question) (step : PlanStep) : Type 0 where
+  pub own : IsNarrow (step_variables q.head step)
+  pub read : IsNarrow (read_variables (plan db q) step)

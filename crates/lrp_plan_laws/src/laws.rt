@@ -1,8 +1,10 @@
 // What holds of core forms, plans and periods: each law is the contract of a function that does nothing.
-ghost use Rattle.std.specs.Prelude.{◌≡◌, ◌↔◌, ◌≤◌, ℕ, List, Bool, false, length, Contains, Some};
+ghost use Rattle.std.specs.Prelude.{◌≡◌, ◌↔◌, ◌≤◌, ℕ, List, ◌++◌, Bool, false, length, Contains, Some};
 ghost use Rattle.std.specs.List.{AllByRecursion};
 ghost use Rattle.lrp_model.specs.Rows.{Datum, texts_of};
-ghost use Rattle.lrp_model.specs.Formulas.{Form, Question};
+ghost use Rattle.lrp_model.specs.Texts.{Identifier};
+ghost use Rattle.lrp_model.specs.Formulas.{Form, Question, exists};
+ghost use Rattle.lrp_model.specs.Variables.{free, head_variables};
 ghost use Rattle.lrp_model.specs.Domains.{constants};
 ghost use Rattle.lrp_model.specs.Satisfaction.{Structure, Assignment, Satisfies, IsAnswer, structure, assignment, HasShape, HaveNames};
 ghost use Rattle.lrp_model.specs.Core.{positive, negative, core_form, guarded, has_named_sort, HasElements};
@@ -10,8 +12,12 @@ ghost use Rattle.lrp_model.specs.Periods.{IsLeastMultiple, lcm_all, period};
 ghost use Rattle.lrp_model.specs.Steps.{PlanStep, step_at, formula_at};
 ghost use Rattle.lrp_model.specs.Plans.{core_steps, plan, IsPlain};
 ghost use Rattle.lrp_model.specs.declared.relations.Relation.{Relation};
-ghost use Rattle.lrp_plan_laws.specs.Made.{IsMade, head_step};
+ghost use Rattle.lrp_model.specs.declared.relations.Sort.{Sort};
+ghost use Rattle.lrp_model.specs.declared.plans.StepKind.TheVariants.{DropData};
+ghost use Rattle.lrp_plan_laws.specs.Guards.{IsGuarded, BindsPlainly};
+ghost use Rattle.lrp_plan_laws.specs.Made.{AreAmong, IsDataSort, IsMade, head_step};
 ghost use Rattle.lrp_plan_laws.specs.Rising.{HasPeriods, Rises, period_at};
+ghost use Rattle.lrp_plan_laws.specs.Scopes.{EachScope, IsNarrow, IsNarrowStep};
 
 /// The core form of a formula says what the formula says, and the core form of its negation denies it.
 pub fn core_form_is_sound()
@@ -42,4 +48,18 @@ pub fn plan_rises()
 /// Each step of a plan is made of earlier ones by the rule of its kind, with the variables that the rule relies on.
 pub fn steps_are_made()
     ensures { (db : List Relation) (q : Question) → HasElements q.body → (s : ℕ) (step : PlanStep) → step_at (plan db q) s ≡ Some step → IsMade (structure db q) (head_step db q) (plan db q) s step }
+{}
+
+/// The variables of a step, and those of the steps that it reads together, are at most eight of each kind, and none has the name of one of the other kind, where this is so in each part of the query. Where the head has all variables of the body, it has all of the last two steps' too.
+pub fn steps_are_narrow()
+    ensures steps { (db : List Relation) (q : Question) → HasElements q.body → IsNarrow (head_variables q.head ++ free q.body) → EachScope IsNarrow q.body → (s : ℕ) (step : PlanStep) → step_at (plan db q) s ≡ Some step → IsNarrowStep db q step }
+    ensures last { (db : List Relation) (q : Question) → AreAmong (free q.body) (head_variables q.head) → AreAmong (free (formula_at (plan db q) (length (plan db q)))) (head_variables q.head) }
+    ensures core { (db : List Relation) (q : Question) → AreAmong (free q.body) (head_variables q.head) → HasElements q.body → AreAmong (free (formula_at (plan db q) (length (core_steps db q)))) (head_variables q.head) }
+{}
+
+/// Where a step drops a data variable, only texts of its sort complete a member: the core form has a sort element beside each quantifier where sorts are named, and else there is one sort.
+pub fn drops_are_guarded()
+    ensures { (db : List Relation) (q : Question) → HasElements q.body → (has_named_sort db ≡ false → IsPlain db q × BindsPlainly q.body)
+        → (s : ℕ) (step : PlanStep) → step_at (plan db q) s ≡ Some step → (of : ℕ) (v : Identifier) (t : Sort) → step.kind ≡ DropData of v → IsDataSort t → step.formula ≡ exists v t (formula_at (plan db q) of)
+        → IsGuarded (constants db q) (structure db q) v t (formula_at (plan db q) of) }
 {}

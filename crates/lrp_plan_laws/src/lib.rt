@@ -3,4 +3,7 @@
 
 mod laws;
 
-pub use laws::{core_form_is_sound, periods_are_least, plan_is_sound, plan_rises, steps_are_made};
+pub use laws::{
+    core_form_is_sound, drops_are_guarded, periods_are_least, plan_is_sound, plan_rises,
+    steps_are_made, steps_are_narrow,
+};
