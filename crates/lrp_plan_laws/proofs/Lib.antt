@@ -13,3 +13,8 @@ pub mod CoreNames
 pub mod RisingLaws
 pub mod GuardLaws
 pub mod NarrowLaws
+pub mod SortedNames
+pub mod SortedCounts
+pub mod SortedScopes
+pub mod SortedTexts
+pub mod SettledLaws

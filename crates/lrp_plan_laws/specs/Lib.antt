@@ -2,3 +2,4 @@ pub mod Made
 pub mod Rising
 pub mod Scopes
 pub mod Guards
+pub mod Settled

@@ -5,6 +5,9 @@ ghost use Rattle.lrp_model.specs.Rows.{Datum, texts_of};
 ghost use Rattle.lrp_model.specs.Texts.{Identifier};
 ghost use Rattle.lrp_model.specs.Formulas.{Form, Question, exists};
 ghost use Rattle.lrp_model.specs.Variables.{free, head_variables};
+ghost use Rattle.lrp_model.specs.RawQueries.{RawQuestion};
+ghost use Rattle.lrp_model.specs.Sorting.{IsWellSorted};
+ghost use Rattle.lrp_model.specs.Checked.{plain_question};
 ghost use Rattle.lrp_model.specs.Domains.{constants};
 ghost use Rattle.lrp_model.specs.Satisfaction.{Structure, Assignment, Satisfies, IsAnswer, structure, assignment, HasShape, HaveNames};
 ghost use Rattle.lrp_model.specs.Core.{positive, negative, core_form, guarded, has_named_sort, HasElements};
@@ -17,6 +20,7 @@ ghost use Rattle.lrp_model.specs.declared.plans.StepKind.TheVariants.{DropData};
 ghost use Rattle.lrp_plan_laws.specs.Guards.{IsGuarded, BindsPlainly};
 ghost use Rattle.lrp_plan_laws.specs.Made.{AreAmong, IsDataSort, IsMade, head_step};
 ghost use Rattle.lrp_plan_laws.specs.Rising.{HasPeriods, Rises, period_at};
+ghost use Rattle.lrp_plan_laws.specs.Settled.{HasTexts, IsGuardedDrop, IsSettled, IsSoundPlan};
 ghost use Rattle.lrp_plan_laws.specs.Scopes.{EachScope, IsNarrow, IsNarrowStep};
 
 /// The core form of a formula says what the formula says, and the core form of its negation denies it.
@@ -59,7 +63,15 @@ pub fn steps_are_narrow()
 
 /// Where a step drops a data variable, only texts of its sort complete a member: the core form has a sort element beside each quantifier where sorts are named, and else there is one sort.
 pub fn drops_are_guarded()
-    ensures { (db : List Relation) (q : Question) → HasElements q.body → (has_named_sort db ≡ false → IsPlain db q × BindsPlainly q.body)
-        → (s : ℕ) (step : PlanStep) → step_at (plan db q) s ≡ Some step → (of : ℕ) (v : Identifier) (t : Sort) → step.kind ≡ DropData of v → IsDataSort t → step.formula ≡ exists v t (formula_at (plan db q) of)
-        → IsGuarded (constants db q) (structure db q) v t (formula_at (plan db q) of) }
+    ensures { (db : List Relation) (q : Question) → HasElements q.body → (has_named_sort db ≡ false → IsPlain db q × BindsPlainly q.body) → (s : ℕ) (step : PlanStep) → step_at (plan db q) s ≡ Some step → IsGuardedDrop db q step }
+{}
+
+/// A well-sorted query over a database is settled, where each `and` and `or` of it has an element, each period is at least 1 and each text of the database stands in a data column.
+pub fn sorted_queries_are_settled()
+    ensures { (db : List Relation) (q : RawQuestion) → IsWellSorted db q → HasTexts db → HasElements (plain_question q).body → HasPeriods db (plain_question q) → IsSettled db (plain_question q) }
+{}
+
+/// All that the laws above say of the plan of a settled query.
+pub fn settled_queries_have_sound_plans()
+    ensures { (db : List Relation) (q : Question) → IsSettled db q → IsSoundPlan db q }
 {}
