@@ -39,6 +39,9 @@ step_front steps more (suc i) le = get_front steps more i (omega arith)
 pub reach_front : (steps more : Steps) (s : ℕ) → s ≤ length steps → reach_at (steps ++ more) s ≡ reach_at steps s
 reach_front steps more s le = ap (λ o. unwrap_or (option_map (λ step. step.reach) o) 0) (step_front steps more s le)
 
+pub step_made : (M : Structure) (kind : StepKind) (f : Form) (steps : Steps) → step_at (made M kind f steps) (length (made M kind f steps)) ≡ Some (step_behind M kind f steps)
+step_made M kind f steps = ap (step_at (made M kind f steps)) (length_made M kind f steps) ∙ get_last steps _
+
 pub reach_made : (M : Structure) (kind : StepKind) (f : Form) (steps : Steps) → reach_at (made M kind f steps) (length (made M kind f steps)) ≡ (step_behind M kind f steps).reach
 reach_made M kind f steps = ap (reach_at (made M kind f steps)) (length_made M kind f steps) ∙ ap (λ o. unwrap_or (option_map (λ step. step.reach) o) 0) (get_last steps _)
 

@@ -1,13 +1,13 @@
 -- Periods and reaches rise along a plan, up to those of the query.
-use Rattle.std.proofs.Common.{◌≡◌, ◌↔◌, ◌≤◌, ◌<◌, ◌+◌, ◌*◌, ℕ, zero, suc, List, [], ◌∷◌, ◌++◌, length, append_assoc, append-nil, Bool, true, false, Option, Some, None, unwrap_or, option_map, slice_get, Contains, refl, sym, ap, subst, ◌∙◌, arith}
-use Rattle.std.specs.Prelude.{max, map, nat_abs}
+use Rattle.std.proofs.Common.{◌≡◌, ◌↔◌, ◌≤◌, ◌<◌, ◌+◌, ◌*◌, ℕ, zero, suc, List, [], ◌∷◌, ◌++◌, length, append_assoc, append-nil, Bool, true, false, Option, Some, None, unwrap_or, option_map, slice_get, flat_map, Contains, refl, sym, ap, subst, ◌∙◌, arith}
+use Rattle.std.specs.Prelude.{MatchOption, max, map, nat_abs}
 use Rattle.std.specs.List.{AllByRecursion}
 use Rattle.lrp_model.specs.Texts.{Identifier}
 use Rattle.lrp_model.specs.Formulas.{Form, Forms, Question, atom, test, sorted, negation, conjunction, disjunction, implication, exists, forall, no_forms, form, joined}
 use Rattle.lrp_model.specs.Variables.{Variable, free, head_variables}
 use Rattle.lrp_model.specs.Satisfaction.{Structure, structure}
 use Rattle.lrp_model.specs.Core.{core_form, guarded, has_named_sort, column_elements, head_elements, HasElements}
-use Rattle.lrp_model.specs.Periods.{IsMultiple, lcm_all, periods, periods_each, period}
+use Rattle.lrp_model.specs.Periods.{IsMultiple, lcm_all, test_periods, periods, periods_each, period}
 use Rattle.lrp_model.specs.Reach.{reach_of, greatest, test_reach}
 use Rattle.lrp_model.specs.Steps.{PlanStep, Steps, step_at, formula_at, reach_at, step_behind, made, tests_as_forms}
 use Rattle.lrp_model.specs.Plans.{plan, core_steps, query_reach}
@@ -22,10 +22,10 @@ use Rattle.lrp_model.specs.declared.plans.StepKind.TheVariants.{Scan, Leaf, Sort
 use Rattle.lrp_model.proofs.Logic.{all_append}
 use Rattle.lrp_plan_laws.specs.Made.{HeadStep, IsEarlier, operands, IsFormula, IsMade, head_step}
 use Rattle.lrp_plan_laws.specs.Scopes.{EachScope, EachOfScope}
-use Rattle.lrp_plan_laws.specs.Rising.{period_at, HasPeriods, Rises}
-use Rattle.lrp_plan_laws.proofs.Elements.{found, within, formula_front, reach_made, period_made}
-use Rattle.lrp_plan_laws.proofs.Names.{Names, all_self, all_map, all_from, names_self}
-use Rattle.lrp_plan_laws.proofs.PeriodLaws.{multiple_least, lcm_positive, lcm_part, lcm_alone}
+use Rattle.lrp_plan_laws.specs.Rising.{period_at, HasPeriods, named_periods, test_period, KeepsPeriod, Rises}
+use Rattle.lrp_plan_laws.proofs.Elements.{found, within, formula_front, step_made, reach_made, period_made}
+use Rattle.lrp_plan_laws.proofs.Names.{Names, all_of, all_self, all_map, all_from, names_self}
+use Rattle.lrp_plan_laws.proofs.PeriodLaws.{lcm_all_is, multiple_least, lcm_positive, lcm_part, lcm_alone, lcm_same, lcm_one}
 use Rattle.lrp_plan_laws.proofs.PlanSound.{core_of_query}
 use Rattle.lrp_plan_laws.proofs.Builds.{AreMade, AreUnder, IsUnder, LastIsUnder, Builds, made_more}
 use Rattle.lrp_plan_laws.proofs.PlanBuilds.{EachGuard, EachOfGuard, builds}
@@ -87,6 +87,12 @@ plan_made db q h =
     made_more (structure db q) (head_step db q) (core_steps db q) (Extend (length (core_steps db q))) (guarded (has_named_sort db) q.head q.body)
     (record { operands = ((let g : 0 < length (core_steps db q) = b.grown in omega arith, omega arith), tt); formula = (refl, refl); variables = tt })
     (b.made (no_step (structure db q) (head_step db q)))
+
+-- the last step is `head`
+pub last_made : (db : List Relation) (q : Question) → MatchOption (step_at (plan db q) (length (plan db q))) ⊥ (λ step. (step.kind ≡ Extend (length (core_steps db q))) × (step.formula ≡ guarded (has_named_sort db) q.head q.body))
+last_made db q =
+    subst (λ o. MatchOption o ⊥ (λ step. (step.kind ≡ Extend (length (core_steps db q))) × (step.formula ≡ guarded (has_named_sort db) q.head q.body)))
+    (sym (step_made (structure db q) (Extend (length (core_steps db q))) (guarded (has_named_sort db) q.head q.body) (core_steps db q))) (refl, refl)
 
 -- the formula of the last core step names what `head` names
 pub last_names : (db : List Relation) (q : Question) → HasElements q.body → (ws : List Variable) (ks : List ℕ)
@@ -176,6 +182,52 @@ read_periods M head at top (DropData of v) f h = (subst (λ ks. AllByRecursion (
 read_periods M head at top (Extend of) f h =
     (subst (λ g. AllByRecursion (Contains (periods g M.relations)) (periods (at of) M.relations)) (sym h.1) (subst (λ l. AllByRecursion (Contains (periods head.formula M.relations)) (periods (at l) M.relations)) (sym h.0) top), tt)
 
+-- the periods of tests are those that the tests as formulas name
+tests_periods : (ts : List Test) (db : List Relation) → periods_each (tests_as_forms ts) db ≡ flat_map test_periods ts
+tests_periods [] db = refl
+tests_periods (t ∷ ts) db = ap (λ ks. test_periods t ++ ks) (tests_periods ts db)
+
+in_last : (ks xs ys zs : List ℕ) → ks ≡ xs ++ (ys ++ zs) → AllByRecursion (Contains ks) zs
+in_last ks xs ys zs e =
+    let all : List ℕ = xs ++ (ys ++ zs) in
+    subst (λ ls. AllByRecursion (Contains ls) zs) (sym e) ((all_append (Contains all) ys zs).0 ((all_append (Contains all) xs (ys ++ zs)).0 (all_self all)).1).1
+
+-- the periods that a step itself names are named by its formula
+own_periods : (M : Structure) (head : HeadStep) (at : ℕ → Form) (kind : StepKind) (f : Form) → IsFormula M head at kind f → AllByRecursion (Contains (periods f M.relations)) (named_periods M.relations kind)
+own_periods M head at (Scan name terms) f h = subst (λ g. AllByRecursion (Contains (periods g M.relations)) (periods (atom name terms) M.relations)) (sym h) (all_self (periods (atom name terms) M.relations))
+own_periods M head at (Leaf t) f h = subst (λ g. AllByRecursion (Contains (periods g M.relations)) (test_periods t)) (sym h) (all_self (test_periods t))
+own_periods M head at (SortStep v s texts) f h = tt
+own_periods M head at (Join left right tests) f h =
+    in_last (periods f M.relations) (periods (at left) M.relations) (periods (at right) M.relations) (flat_map test_periods tests)
+    (ap (λ g. periods g M.relations) h ∙ ap (λ ks. periods (at left) M.relations ++ (periods (at right) M.relations ++ ks)) (tests_periods tests M.relations))
+own_periods M head at (Select of t) f h = (in_three (periods f M.relations) (periods (at of) M.relations) (test_periods t) [] (ap (λ g. periods g M.relations) h)).1
+own_periods M head at (Union left right) f h = tt
+own_periods M head at (Minus left right) f h = tt
+own_periods M head at (Complement of) f h = tt
+own_periods M head at (DropTime of v) f h = tt
+own_periods M head at (DropData of v) f h = tt
+own_periods M head at (Extend of) f h = tt
+
+-- the period of a test, and the periods of a step that meets no second one
+test_alone : (db : List Relation) (t : Test) → AllByRecursion (λ k. 1 ≤ k) (periods (test t) db) → period db (test t) ≡ test_period t
+test_alone db (Compare left op right) h = refl
+test_alone db (Member term point) h = lcm_one (nat_abs point.period) h.0
+test_alone db (Equal left right) h = refl
+
+period_kept : (M : Structure) (head : HeadStep) (at : ℕ → Form) (periods_at : ℕ → ℕ) → ((l : ℕ) → periods_at l ≡ period M.relations (at l)) → period M.relations head.formula ≡ period M.relations (at head.of)
+    → (kind : StepKind) (f : Form) → IsFormula M head at kind f → AllByRecursion (λ k. 1 ≤ k) (periods f M.relations) → KeepsPeriod periods_at (period M.relations f) kind
+period_kept M head at periods_at same top (Scan name terms) f h low = tt
+period_kept M head at periods_at same top (Leaf t) f h low = ap (period M.relations) h ∙ test_alone M.relations t (subst (λ g. AllByRecursion (λ k. 1 ≤ k) (periods g M.relations)) h low)
+period_kept M head at periods_at same top (SortStep v s texts) f h low = ap (period M.relations) h.0
+period_kept M head at periods_at same top (Join left right tests) f h low = tt
+period_kept M head at periods_at same top (Select of t) f h low = tt
+period_kept M head at periods_at same top (Union left right) f h low = tt
+period_kept M head at periods_at same top (Minus left right) f h low = tt
+period_kept M head at periods_at same top (Complement of) f h low = ap (period M.relations) h ∙ sym (same of)
+period_kept M head at periods_at same top (DropTime of v) f h low = ap (period M.relations) h ∙ sym (same of)
+period_kept M head at periods_at same top (DropData of v) f h low = ap (period M.relations) h.2 ∙ sym (same of)
+period_kept M head at periods_at same top (Extend of) f h low = ap (period M.relations) h.1 ∙ top ∙ ap (λ l. period M.relations (at l)) (sym h.0) ∙ sym (same of)
+
 -- the period of a step is that of its formula, also where there is no such step
 period_of : (M : Structure) (head : HeadStep) (steps : Steps) → AreMade M head steps → (l : ℕ) → period_at steps l ≡ period M.relations (formula_at steps l)
 period_of M head steps made l = by_step (step_at steps l) refl
@@ -198,6 +250,20 @@ read_reaches db at K r (Complement of) e = let h : r ≡ at of + 2 * K = e in (o
 read_reaches db at K r (DropTime of v) e = let h : r ≡ 2 * at of = e in (omega arith, tt)
 read_reaches db at K r (DropData of v) e = let h : r ≡ at of = e in (omega arith, tt)
 read_reaches db at K r (Extend of) e = let h : r ≡ at of = e in (omega arith, tt)
+
+-- a step's reach grows with those of the steps that it reads
+pub reach_grows : (db : List Relation) (at more : ℕ → ℕ) (K : ℕ) (kind : StepKind) → AllByRecursion (λ l. at l ≤ more l) (operands kind) → reach_of db at K kind ≤ reach_of db more K kind
+reach_grows db at more K (Scan name terms) h = omega arith
+reach_grows db at more K (Leaf t) h = omega arith
+reach_grows db at more K (SortStep v s texts) h = omega arith
+reach_grows db at more K (Join left right tests) h = let a : at left ≤ more left = h.0 in let b : at right ≤ more right = h.1.0 in omega arith
+reach_grows db at more K (Select of t) h = let a : at of ≤ more of = h.0 in omega arith
+reach_grows db at more K (Union left right) h = let a : at left ≤ more left = h.0 in let b : at right ≤ more right = h.1.0 in omega arith
+reach_grows db at more K (Minus left right) h = let a : at left ≤ more left = h.0 in let b : at right ≤ more right = h.1.0 in omega arith
+reach_grows db at more K (Complement of) h = let a : at of ≤ more of = h.0 in omega arith
+reach_grows db at more K (DropTime of v) h = let a : at of ≤ more of = h.0 in omega arith
+reach_grows db at more K (DropData of v) h = h.0
+reach_grows db at more K (Extend of) h = h.0
 
 -- ---- and at least the period
 
@@ -257,6 +323,16 @@ module _ (db : List Relation) (q : Question) (some : HasElements q.body) (low : 
       subst (λ g. period db f ≤ period db g) (sym before_head)
       (multiple_least (period db f) (period db a) (lcm_positive (periods a db) l) (lcm_part (periods f db) (periods a db) l ((last_names db q some (free a) (periods a db)).0 (names_self db a)).1))
 
+  -- `head` has the period of the step before it
+  same_period : period db (guarded (has_named_sort db) q.head q.body) ≡ period db (formula_at (plan db q) (length (core_steps db q)))
+  same_period =
+      let f : Form = guarded (has_named_sort db) q.head q.body in
+      let a : Form = formula_at (core_steps db q) (length (core_steps db q)) in
+      let l : AllByRecursion (λ k. 1 ≤ k) (periods a db) = all_from (λ k. 1 ≤ k) (periods q.body db) (periods a db) (last_periods db q some) low in
+      let m : AllByRecursion (λ k. 1 ≤ k) (periods f db) = all_from (λ k. 1 ≤ k) (periods q.body db) (periods f db) (head_periods db q) low in
+      subst (λ g. period db f ≡ period db g) (sym before_head)
+      (lcm_same (periods f db) (periods a db) m l ((last_names db q some (free a) (periods a db)).0 (names_self db a)).1 ((last_names db q some (free f) (periods f db)).1 (names_self db f)).1)
+
   wide_to : (n s : ℕ) (step : PlanStep) → s ≤ n → step_at (plan db q) s ≡ Some step → period db step.formula ≤ step.reach
   wide_to zero zero step le e = cc
   wide_to zero (suc s) step le e = absurd (omega arith)
@@ -286,6 +362,11 @@ module _ (db : List Relation) (q : Question) (some : HasElements q.body) (low : 
         multiple = all_map (λ i. AllByRecursion (Contains (periods step.formula db)) (periods (formula_at (plan db q) i) db)) (λ i. IsMultiple (period_at (plan db q) i) step.period) (operands step.kind)
             (λ i part. subst (IsMultiple (period_at (plan db q) i)) (sym m.period) (subst (λ K. IsMultiple K (period db step.formula)) (sym (period_of (structure db q) (head_step db q) (plan db q) (plan_made db q some) i)) (lcm_part (periods (formula_at (plan db q) i) db) (periods step.formula db) l part)))
             (read_periods (structure db q) (head_step db q) (formula_at (plan db q)) top_periods step.kind step.formula m.formula);
+        points = all_map (Contains (periods step.formula db)) (λ k. (1 ≤ k) × IsMultiple k step.period) (named_periods db step.kind)
+            (λ k part. (all_of (λ n. 1 ≤ n) (periods step.formula db) k l part, subst (IsMultiple k) (sym m.period) (all_of (λ n. IsMultiple n (period db step.formula)) (periods step.formula db) k (lcm_all_is (periods step.formula db) l).common part)))
+            (own_periods (structure db q) (head_step db q) (formula_at (plan db q)) step.kind step.formula m.formula);
+        keeps = subst (λ K. KeepsPeriod (period_at (plan db q)) K step.kind) (sym m.period)
+            (period_kept (structure db q) (head_step db q) (formula_at (plan db q)) (period_at (plan db q)) (period_of (structure db q) (head_step db q) (plan db q) (plan_made db q some)) same_period step.kind step.formula m.formula l);
         divides = subst (λ K. IsMultiple K (period db q.body)) (sym m.period) d;
         within = subst (λ K. K ≤ period db q.body) (sym m.period) (multiple_least (period db step.formula) (period db q.body) (lcm_positive (periods q.body db) low) d);
         below = u.0;

@@ -1,9 +1,8 @@
 // What holds of core forms, plans and periods: each law is the contract of a function that does nothing.
-ghost use Rattle.std.specs.Prelude.{◌≡◌, ◌↔◌, ◌≤◌, ℕ, List, ◌++◌, Bool, false, length, Contains, Some};
+ghost use Rattle.std.specs.Prelude.{◌≡◌, ◌↔◌, ◌≤◌, ◌+◌, ℕ, List, ◌++◌, Bool, false, length, Contains, Some, MatchOption};
 ghost use Rattle.std.specs.List.{AllByRecursion};
 ghost use Rattle.lrp_model.specs.Rows.{Datum, texts_of};
-ghost use Rattle.lrp_model.specs.Texts.{Identifier};
-ghost use Rattle.lrp_model.specs.Formulas.{Form, Question, exists};
+ghost use Rattle.lrp_model.specs.Formulas.{Form, Question};
 ghost use Rattle.lrp_model.specs.Variables.{free, head_variables};
 ghost use Rattle.lrp_model.specs.RawQueries.{RawQuestion};
 ghost use Rattle.lrp_model.specs.Sorting.{IsWellSorted};
@@ -12,13 +11,14 @@ ghost use Rattle.lrp_model.specs.Domains.{constants};
 ghost use Rattle.lrp_model.specs.Satisfaction.{Structure, Assignment, Satisfies, IsAnswer, structure, assignment, HasShape, HaveNames};
 ghost use Rattle.lrp_model.specs.Core.{positive, negative, core_form, guarded, has_named_sort, HasElements};
 ghost use Rattle.lrp_model.specs.Periods.{IsLeastMultiple, lcm_all, period};
+ghost use Rattle.lrp_model.specs.Reach.{reach_of};
 ghost use Rattle.lrp_model.specs.Steps.{PlanStep, step_at, formula_at};
 ghost use Rattle.lrp_model.specs.Plans.{core_steps, plan, IsPlain};
 ghost use Rattle.lrp_model.specs.declared.relations.Relation.{Relation};
-ghost use Rattle.lrp_model.specs.declared.relations.Sort.{Sort};
-ghost use Rattle.lrp_model.specs.declared.plans.StepKind.TheVariants.{DropData};
-ghost use Rattle.lrp_plan_laws.specs.Guards.{IsGuarded, BindsPlainly};
-ghost use Rattle.lrp_plan_laws.specs.Made.{AreAmong, IsDataSort, IsMade, head_step};
+ghost use Rattle.lrp_model.specs.declared.plans.StepKind.{StepKind};
+ghost use Rattle.lrp_model.specs.declared.plans.StepKind.TheVariants.{Extend};
+ghost use Rattle.lrp_plan_laws.specs.Guards.{BindsPlainly};
+ghost use Rattle.lrp_plan_laws.specs.Made.{AreAmong, operands, IsMade, head_step};
 ghost use Rattle.lrp_plan_laws.specs.Rising.{HasPeriods, Rises, period_at};
 ghost use Rattle.lrp_plan_laws.specs.Settled.{HasTexts, IsGuardedDrop, IsSettled, IsSoundPlan};
 ghost use Rattle.lrp_plan_laws.specs.Scopes.{EachScope, IsNarrow, IsNarrowStep};
@@ -43,15 +43,18 @@ pub fn periods_are_least()
     ensures { (ks : List ℕ) → AllByRecursion (λ k. 1 ≤ k) ks → IsLeastMultiple ks (lcm_all ks) }
 {}
 
-/// Along the steps of a plan periods and reaches rise, up to those of the query.
+/// Along the steps of a plan periods and reaches rise, up to those of the query. The last step has the period of the query, and a step's reach is no less where those of the steps that it reads are no less.
 pub fn plan_rises()
     ensures steps { (db : List Relation) (q : Question) → HasElements q.body → HasPeriods db q → (s : ℕ) (step : PlanStep) → step_at (plan db q) s ≡ Some step → Rises db q s step }
     ensures last { (db : List Relation) (q : Question) → period_at (plan db q) (length (plan db q)) ≡ period db q.body }
+    ensures grows { (db : List Relation) (at more : ℕ → ℕ) (K : ℕ) (kind : StepKind) → AllByRecursion (λ l. at l ≤ more l) (operands kind) → reach_of db at K kind ≤ reach_of db more K kind }
 {}
 
-/// Each step of a plan is made of earlier ones by the rule of its kind, with the variables that the rule relies on.
+/// Each step of a plan is made of earlier ones by the rule of its kind, with the variables that the rule relies on. The last one is `head`, and reads the step before it.
 pub fn steps_are_made()
-    ensures { (db : List Relation) (q : Question) → HasElements q.body → (s : ℕ) (step : PlanStep) → step_at (plan db q) s ≡ Some step → IsMade (structure db q) (head_step db q) (plan db q) s step }
+    ensures steps { (db : List Relation) (q : Question) → HasElements q.body → (s : ℕ) (step : PlanStep) → step_at (plan db q) s ≡ Some step → IsMade (structure db q) (head_step db q) (plan db q) s step }
+    ensures last { (db : List Relation) (q : Question) → MatchOption (step_at (plan db q) (length (plan db q))) ⊥ (λ step. (step.kind ≡ Extend (length (core_steps db q))) × (step.formula ≡ guarded (has_named_sort db) q.head q.body)) }
+    ensures count { (db : List Relation) (q : Question) → length (plan db q) ≡ length (core_steps db q) + 1 }
 {}
 
 /// The variables of a step, and those of the steps that it reads together, are at most eight of each kind, and none has the name of one of the other kind, where this is so in each part of the query. Where the head has all variables of the body, it has all of the last two steps' too.
