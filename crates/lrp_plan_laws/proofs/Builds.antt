@@ -6,7 +6,6 @@ use Rattle.lrp_model.specs.Texts.{Identifier}
 use Rattle.lrp_model.specs.Formulas.{Form, test, negation, conjunction, disjunction, exists, no_forms, form}
 use Rattle.lrp_model.specs.Variables.{Variable, variables_of_test, free}
 use Rattle.lrp_model.specs.Satisfaction.{Structure}
-use Rattle.lrp_model.specs.Periods.{periods}
 use Rattle.lrp_model.specs.Reach.{reach_of, greatest, test_reach}
 use Rattle.lrp_model.specs.Steps.{PlanStep, Steps, step_at, formula_at, reach_at, step_behind, made, tests_as_forms}
 use Rattle.lrp_model.specs.declared.relations.Sort.{Sort}
@@ -17,11 +16,13 @@ use Rattle.lrp_model.specs.declared.plans.StepKind.TheVariants.{Scan, Leaf, Sort
 use Rattle.lrp_model.proofs.Logic.{then_iff, all_append}
 use Rattle.lrp_plan_laws.specs.Made.{HeadStep, IsEarlier, operands, IsFormula, AreAmong, HasVariables, IsMade}
 use Rattle.lrp_plan_laws.proofs.Elements.{length_made, formula_made, formula_front, reach_made, reach_front, step_one_more}
-use Rattle.lrp_plan_laws.proofs.Names.{Names, all_map}
+use Rattle.lrp_plan_laws.proofs.Names.{Names}
+use Rattle.lrp_plan_laws.proofs.Members.{all_map}
+use Rattle.lrp_plan_laws.proofs.Marks.{Mark, marks}
 
 -- what is said of lists of variables and of periods
 abbrev pub Saying : Type 1
-Saying = List Variable → List ℕ → Type 0
+Saying = List Variable → List Mark → Type 0
 
 -- ---- a step stays what it is where more steps follow
 
@@ -95,13 +96,13 @@ made_more M head steps kind f can all s step e =
 -- ---- no step before the last one is above it
 
 -- a formula's periods are among ks, and a reach is at most b
-abbrev pub IsUnder : List Relation → ℕ → List ℕ → Form → ℕ → Type 0
-IsUnder db b ks f r = (r ≤ b) × AllByRecursion (Contains ks) (periods f db)
+abbrev pub IsUnder : List Relation → ℕ → List Mark → Form → ℕ → Type 0
+IsUnder db b ks f r = (r ≤ b) × AllByRecursion (Contains ks) (marks f db)
 
-abbrev pub AreUnder : List Relation → ℕ → List ℕ → Steps → Type 0
+abbrev pub AreUnder : List Relation → ℕ → List Mark → Steps → Type 0
 AreUnder db b ks steps = AllByRecursion (λ step. IsUnder db b ks step.formula step.reach) steps
 
-abbrev pub LastIsUnder : List Relation → ℕ → List ℕ → Steps → Type 0
+abbrev pub LastIsUnder : List Relation → ℕ → List Mark → Steps → Type 0
 LastIsUnder db b ks steps = IsUnder db b ks (formula_at steps (length steps)) (reach_at steps (length steps))
 
 -- a quantifier over a formula is guarded
@@ -116,21 +117,21 @@ AreFitting fits guard steps = AllByRecursion (λ step. fits (free step.formula) 
 -- ---- what a rule builds
 
 -- the steps after are those before and more; the formula of the last one names what p says; the new steps are made of earlier ones, none is above the last, and their formulas fit
-pub record Builds (M : Structure) (head : HeadStep) (fits : List Variable → Type 0) (guard : Identifier → Sort → Form → Type 0) (before after : Steps) (p : List Variable → List ℕ → Type 0) : Type 0 where
+pub record Builds (M : Structure) (head : HeadStep) (fits : List Variable → Type 0) (guard : Identifier → Sort → Form → Type 0) (before after : Steps) (p : List Variable → List Mark → Type 0) : Type 0 where
   pub more : Steps
   pub is : after ≡ before ++ more
   pub grown : length before < length after
-  pub names : (ws : List Variable) (ks : List ℕ) → Names M.relations (formula_at after (length after)) ws ks ↔ p ws ks
+  pub names : (ws : List Variable) (ks : List Mark) → Names M.relations (formula_at after (length after)) ws ks ↔ p ws ks
   pub made : AreMade M head before → AreMade M head after
-  pub under : (b : ℕ) (ks : List ℕ) → LastIsUnder M.relations b ks after → AreUnder M.relations b ks before → AreUnder M.relations b ks after
+  pub under : (b : ℕ) (ks : List Mark) → LastIsUnder M.relations b ks after → AreUnder M.relations b ks before → AreUnder M.relations b ks after
   pub fitting : AreFitting fits guard before → AreFitting fits guard after
 
 module _ (M : Structure) (head : HeadStep) (fits : List Variable → Type 0) (guard : Identifier → Sort → Form → Type 0) where
   -- one step behind steps that were built before
   pub by_step : (before steps : Steps) (kind : StepKind) (f : Form) (p : Saying) (more : Steps) → steps ≡ before ++ more → length before ≤ length steps
       → (AreMade M head before → AreMade M head steps) → (AreFitting fits guard before → AreFitting fits guard steps)
-      → ((b : ℕ) (ks : List ℕ) → IsUnder M.relations b ks f (step_behind M kind f steps).reach → AreUnder M.relations b ks before → AreUnder M.relations b ks steps)
-      → CanMake M head steps kind f → fits (free f) → Kept guard f → ((ws : List Variable) (ks : List ℕ) → Names M.relations f ws ks ↔ p ws ks) → Builds M head fits guard before (made M kind f steps) p
+      → ((b : ℕ) (ks : List Mark) → IsUnder M.relations b ks f (step_behind M kind f steps).reach → AreUnder M.relations b ks before → AreUnder M.relations b ks steps)
+      → CanMake M head steps kind f → fits (free f) → Kept guard f → ((ws : List Variable) (ks : List Mark) → Names M.relations f ws ks ↔ p ws ks) → Builds M head fits guard before (made M kind f steps) p
   by_step before steps kind f p more is le old fit low can good kept names = record {
     more = more ++ step_behind M kind f steps ∷ [];
     is = ap (λ s. s ++ step_behind M kind f steps ∷ []) is ∙ append_assoc before more (step_behind M kind f steps ∷ []);
@@ -139,7 +140,7 @@ module _ (M : Structure) (head : HeadStep) (fits : List Variable → Type 0) (gu
     made = λ h. made_more M head steps kind f can (old h);
     under = λ b ks last h.
         let new : IsUnder M.relations b ks f (step_behind M kind f steps).reach =
-        (subst (λ r. r ≤ b) (reach_made M kind f steps) last.0, subst (λ g. AllByRecursion (Contains ks) (periods g M.relations)) (formula_made M kind f steps) last.1) in
+        (subst (λ r. r ≤ b) (reach_made M kind f steps) last.0, subst (λ g. AllByRecursion (Contains ks) (marks g M.relations)) (formula_made M kind f steps) last.1) in
         (all_append (λ step. IsUnder M.relations b ks step.formula step.reach) steps (step_behind M kind f steps ∷ [])).1 (low b ks new h, (new, tt));
     fitting = λ h. (all_append (λ step. fits (free step.formula) × Kept guard step.formula) steps (step_behind M kind f steps ∷ [])).1 (fit h, ((good, kept), tt));
   }
@@ -151,12 +152,12 @@ module _ (M : Structure) (head : HeadStep) (fits : List Variable → Type 0) (gu
 
   -- a step that reads the last one
   pub by_next : (before steps : Steps) (p q : Saying) (kind : StepKind) (f : Form) → Builds M head fits guard before steps p
-      → ((b : ℕ) (ks : List ℕ) → IsUnder M.relations b ks f (step_behind M kind f steps).reach → LastIsUnder M.relations b ks steps)
-      → CanMake M head steps kind f → fits (free f) → Kept guard f → ((ws : List Variable) (ks : List ℕ) → Names M.relations f ws ks ↔ q ws ks) → Builds M head fits guard before (made M kind f steps) q
+      → ((b : ℕ) (ks : List Mark) → IsUnder M.relations b ks f (step_behind M kind f steps).reach → LastIsUnder M.relations b ks steps)
+      → CanMake M head steps kind f → fits (free f) → Kept guard f → ((ws : List Variable) (ks : List Mark) → Names M.relations f ws ks ↔ q ws ks) → Builds M head fits guard before (made M kind f steps) q
   by_next before steps p q kind f m low can good kept names =
       by_step before steps kind f q m.more m.is (let g : length before < length steps = m.grown in omega arith) m.made m.fitting (λ b ks new h. m.under b ks (low b ks new) h) can good kept names
 
-  pub same_builds : (before after : Steps) (p q : Saying) → Builds M head fits guard before after p → ((ws : List Variable) (ks : List ℕ) → p ws ks ↔ q ws ks) → Builds M head fits guard before after q
+  pub same_builds : (before after : Steps) (p q : Saying) → Builds M head fits guard before after p → ((ws : List Variable) (ks : List Mark) → p ws ks ↔ q ws ks) → Builds M head fits guard before after q
   same_builds before after p q m e = record { more = m.more; is = m.is; grown = m.grown; names = λ ws ks. then_iff (m.names ws ks) (e ws ks); made = m.made; under = m.under; fitting = m.fitting }
 
   -- an earlier step's formula and reach stand
@@ -168,8 +169,8 @@ module _ (M : Structure) (head : HeadStep) (fits : List Variable → Type 0) (gu
 
   -- a step that reads the last steps of two lists, of which the second goes on from the first
   pub by_both : (before mid steps : Steps) (p q r : Saying) (kind : StepKind) (f : Form) → Builds M head fits guard before mid p → Builds M head fits guard mid steps q
-      → ((b : ℕ) (ks : List ℕ) → IsUnder M.relations b ks f (step_behind M kind f steps).reach → IsUnder M.relations b ks (formula_at steps (length mid)) (reach_at steps (length mid)) × LastIsUnder M.relations b ks steps)
-      → CanMake M head steps kind f → fits (free f) → Kept guard f → ((ws : List Variable) (ks : List ℕ) → Names M.relations f ws ks ↔ r ws ks) → Builds M head fits guard before (made M kind f steps) r
+      → ((b : ℕ) (ks : List Mark) → IsUnder M.relations b ks f (step_behind M kind f steps).reach → IsUnder M.relations b ks (formula_at steps (length mid)) (reach_at steps (length mid)) × LastIsUnder M.relations b ks steps)
+      → CanMake M head steps kind f → fits (free f) → Kept guard f → ((ws : List Variable) (ks : List Mark) → Names M.relations f ws ks ↔ r ws ks) → Builds M head fits guard before (made M kind f steps) r
   by_both before mid steps p q r kind f m n low can good kept names =
       by_step before steps kind f r (m.more ++ n.more) (n.is ∙ ap (λ s. s ++ n.more) m.is ∙ append_assoc before m.more n.more)
       (let g : length before < length mid = m.grown in let h : length mid < length steps = n.grown in omega arith)
@@ -177,6 +178,6 @@ module _ (M : Structure) (head : HeadStep) (fits : List Variable → Type 0) (gu
       (λ b ks new h.
       let two = low b ks new in
       let first : LastIsUnder M.relations b ks mid =
-      (subst (λ x. x ≤ b) (kept_reach mid steps q (length mid) n (omega arith)) two.0.0, subst (λ g. AllByRecursion (Contains ks) (periods g M.relations)) (kept_formula mid steps q (length mid) n (omega arith)) two.0.1) in
+      (subst (λ x. x ≤ b) (kept_reach mid steps q (length mid) n (omega arith)) two.0.0, subst (λ g. AllByRecursion (Contains ks) (marks g M.relations)) (kept_formula mid steps q (length mid) n (omega arith)) two.0.1) in
       n.under b ks two.1 (m.under b ks first h))
       can good kept names

@@ -6,7 +6,7 @@ use Rattle.lrp_model.specs.Texts.{Identifier}
 use Rattle.lrp_model.specs.Formulas.{Form, test, negation, conjunction, no_forms, form}
 use Rattle.lrp_model.specs.Variables.{Variable, free, variables_of_test, are_among}
 use Rattle.lrp_model.specs.Satisfaction.{Structure}
-use Rattle.lrp_model.specs.Periods.{period, periods, periods_each}
+use Rattle.lrp_model.specs.Periods.{period}
 use Rattle.lrp_model.specs.Reach.{greatest, test_reach}
 use Rattle.lrp_model.specs.Steps.{Steps, formula_at, reach_at, made, tests_as_forms, join, select, minus, complement}
 use Rattle.lrp_model.specs.Conjunctions.{Element, State, select_each, is_covered, take_in, take_positive, take_test, take_negation, take_all}
@@ -16,14 +16,16 @@ use Rattle.lrp_model.specs.declared.plans.StepKind.TheVariants.{Leaf, Join, Sele
 use Rattle.lrp_model.proofs.Logic.{all_append}
 use Rattle.lrp_plan_laws.specs.Made.{HeadStep, AreAmong}
 use Rattle.lrp_plan_laws.proofs.Elements.{take_out, split_all}
-use Rattle.lrp_plan_laws.proofs.Names.{Names, NamesTest, all_of, all_self, all_map, all_from, are_among_is, two_named, tests_named, names_self}
+use Rattle.lrp_plan_laws.proofs.Names.{Names, NamesTest, are_among_is, two_named, tests_named, names_self}
 use Rattle.lrp_plan_laws.proofs.PlanLaws.{Where, put_where, get_where, is_true, and_first}
 use Rattle.lrp_plan_laws.proofs.Rounds.{Finishes, all_rounds, nothing_left}
 use Rattle.lrp_plan_laws.proofs.Builds.{Saying, Builds, by_first, by_next, by_both, same_builds, kept_formula}
+use Rattle.lrp_plan_laws.proofs.Members.{all_of, all_self, all_from, all_map}
+use Rattle.lrp_plan_laws.proofs.Marks.{Mark, marks, marks_each}
 
 module _ (M : Structure) (head : HeadStep) (fits : List Variable → Type 0) (guard : Identifier → Sort → Form → Type 0) (down : (vs ws : List Variable) → AllByRecursion (Contains ws) vs → fits ws → fits vs) where
   -- the variables of a formula that names no others than fitting ones fit
-  pub fits_within : (f : Form) (room : List Variable) (most : List ℕ) → fits room → Names M.relations f room most → fits (free f)
+  pub fits_within : (f : Form) (room : List Variable) (most : List Mark) → fits room → Names M.relations f room most → fits (free f)
   fits_within f room most roomy h = down (free f) room h.0 roomy
 
   pub complement_builds : (before steps : Steps) (g : Form) → Builds M head fits guard before steps (Names M.relations g) → fits (free g) → Builds M head fits guard before (complement M steps) (Names M.relations g)
@@ -32,29 +34,29 @@ module _ (M : Structure) (head : HeadStep) (fits : List Variable → Type 0) (gu
       by_next M head fits guard before steps (Names M.relations g) (Names M.relations g) (Complement (length steps)) (negation a) m
       (λ b ks new. (let r : reach_at steps (length steps) + 2 * period M.relations (negation a) ≤ b = new.0 in omega arith, new.1))
       (record { operands = ((let g : length before < length steps = m.grown in omega arith, omega arith), tt); formula = refl; variables = tt })
-      (down (free a) (free g) ((m.names (free g) (periods g M.relations)).1 (names_self M.relations g)).0 good)
+      (down (free a) (free g) ((m.names (free g) (marks g M.relations)).1 (names_self M.relations g)).0 good)
       tt
       m.names
 
   -- ---- steps with tests, within the variables and the periods of the whole `and`
-  module _ (room : List Variable) (most : List ℕ) (roomy : fits room) where
+  module _ (room : List Variable) (most : List Mark) (roomy : fits room) where
     selects : (before steps : Steps) (p : Saying) (variables : List Variable) (ts : List Test) → Builds M head fits guard before steps p
-        → ((ws : List Variable) (ks : List ℕ) → p ws ks → AllByRecursion (Contains ws) variables) → AllByRecursion (λ t. AllByRecursion (Contains variables) (variables_of_test t)) ts
+        → ((ws : List Variable) (ks : List Mark) → p ws ks → AllByRecursion (Contains ws) variables) → AllByRecursion (λ t. AllByRecursion (Contains variables) (variables_of_test t)) ts
         → p room most × AllByRecursion (NamesTest M.relations room most) ts
         → Builds M head fits guard before (select_each ts M steps) (λ ws ks. p ws ks × AllByRecursion (NamesTest M.relations ws ks) ts)
     selects before steps p variables [] m known covered inside = same_builds M head fits guard before steps p _ m (λ ws ks. ((λ x. (x, tt)), λ x. x.0))
     selects before steps p variables (t ∷ ts) m known covered inside =
         let a : Form = formula_at steps (length steps) in
         let f : Form = conjunction (form a (form (test t) no_forms)) in
-        let names : (ws : List Variable) (ks : List ℕ) → Names M.relations f ws ks ↔ (p ws ks × NamesTest M.relations ws ks t) =
+        let names : (ws : List Variable) (ks : List Mark) → Names M.relations f ws ks ↔ (p ws ks × NamesTest M.relations ws ks t) =
         λ ws ks. let two = two_named M.relations ws ks a (test t) no_forms in ((λ h. let x = two.0 h in ((m.names ws ks).0 x.0, x.1.0)), λ h. two.1 ((m.names ws ks).1 h.0, (h.1, (tt, tt)))) in
         let n : Builds M head fits guard before (select t M steps) (λ ws ks. p ws ks × NamesTest M.relations ws ks t) =
         by_next M head fits guard before steps p (λ ws ks. p ws ks × NamesTest M.relations ws ks t) (Select (length steps) t) f m
-        (λ b ks new. (let r : max (reach_at steps (length steps)) (test_reach t) + period M.relations f ≤ b = new.0 in omega arith, ((all_append (Contains ks) (periods a M.relations) (periods_each (form (test t) no_forms) M.relations)).0 new.1).0))
+        (λ b ks new. (let r : max (reach_at steps (length steps)) (test_reach t) + period M.relations f ≤ b = new.0 in omega arith, ((all_append (Contains ks) (marks a M.relations) (marks_each (form (test t) no_forms) M.relations)).0 new.1).0))
         (record {
           operands = ((let g : length before < length steps = m.grown in omega arith, omega arith), tt);
           formula = refl;
-          variables = λ v c. all_of (Contains (free a)) variables v (known (free a) (periods a M.relations) ((m.names (free a) (periods a M.relations)).0 (names_self M.relations a))) (all_of (Contains variables) (variables_of_test t) v covered.0 c);
+          variables = λ v c. all_of (Contains (free a)) variables v (known (free a) (marks a M.relations) ((m.names (free a) (marks a M.relations)).0 (names_self M.relations a))) (all_of (Contains variables) (variables_of_test t) v covered.0 c);
         })
         (fits_within f room most roomy ((names room most).1 (inside.0, inside.1.0)))
         tt
@@ -64,7 +66,7 @@ module _ (M : Structure) (head : HeadStep) (fits : List Variable → Type 0) (gu
         (λ ws ks. ((λ h. (h.0.0, (h.0.1, h.1))), λ h. ((h.0, h.1.0), h.1.1)))
 
     joins : (start mid steps : Steps) (p q : Saying) (variables : List Variable) (ts : List Test) → Builds M head fits guard start mid p → Builds M head fits guard mid steps q
-        → ((ws : List Variable) (ks : List ℕ) → p ws ks → q ws ks → AllByRecursion (Contains ws) variables) → AllByRecursion (λ t. AllByRecursion (Contains variables) (variables_of_test t)) ts
+        → ((ws : List Variable) (ks : List Mark) → p ws ks → q ws ks → AllByRecursion (Contains ws) variables) → AllByRecursion (λ t. AllByRecursion (Contains variables) (variables_of_test t)) ts
         → (p room most × q room most) × AllByRecursion (NamesTest M.relations room most) ts
         → Builds M head fits guard start (join (length mid) ts M steps) (λ ws ks. (p ws ks × q ws ks) × AllByRecursion (NamesTest M.relations ws ks) ts)
     joins start mid steps p q variables ts m n known covered inside =
@@ -72,8 +74,8 @@ module _ (M : Structure) (head : HeadStep) (fits : List Variable → Type 0) (gu
         let b : Form = formula_at steps (length steps) in
         let f : Form = conjunction (form a (form b (tests_as_forms ts))) in
         let e : a ≡ formula_at mid (length mid) = kept_formula M head fits guard mid steps q (length mid) n (omega arith) in
-        let first : (ws : List Variable) (ks : List ℕ) → Names M.relations a ws ks ↔ p ws ks = λ ws ks. subst (λ g. Names M.relations g ws ks ↔ p ws ks) (sym e) (m.names ws ks) in
-        let names : (ws : List Variable) (ks : List ℕ) → Names M.relations f ws ks ↔ ((p ws ks × q ws ks) × AllByRecursion (NamesTest M.relations ws ks) ts) =
+        let first : (ws : List Variable) (ks : List Mark) → Names M.relations a ws ks ↔ p ws ks = λ ws ks. subst (λ g. Names M.relations g ws ks ↔ p ws ks) (sym e) (m.names ws ks) in
+        let names : (ws : List Variable) (ks : List Mark) → Names M.relations f ws ks ↔ ((p ws ks × q ws ks) × AllByRecursion (NamesTest M.relations ws ks) ts) =
         λ ws ks.
         let two = two_named M.relations ws ks a b (tests_as_forms ts) in
         let r = tests_named M.relations ws ks ts in (
@@ -81,15 +83,15 @@ module _ (M : Structure) (head : HeadStep) (fits : List Variable → Type 0) (gu
           λ h. two.1 ((first ws ks).1 h.0.0, ((n.names ws ks).1 h.0.1, r.1 h.1)),
         ) in
         let vs : List Variable = free a ++ free b in
-        let ks : List ℕ = periods a M.relations ++ periods b M.relations in
+        let ks : List Mark = marks a M.relations ++ marks b M.relations in
         let left = (all_append (Contains vs) (free a) (free b)).0 (all_self vs) in
-        let right = (all_append (Contains ks) (periods a M.relations) (periods b M.relations)).0 (all_self ks) in
+        let right = (all_append (Contains ks) (marks a M.relations) (marks b M.relations)).0 (all_self ks) in
         let all : AllByRecursion (Contains vs) variables = known vs ks ((first vs ks).0 (left.0, right.0)) ((n.names vs ks).0 (left.1, right.1)) in
         by_both M head fits guard start mid steps p q _ (Join (length mid) (length steps) ts) f m n
         (λ c ks new.
         let r : max (reach_at steps (length mid)) (max (reach_at steps (length steps)) (greatest (map test_reach ts))) + period M.relations f ≤ c = new.0 in
-        let x = (all_append (Contains ks) (periods a M.relations) (periods_each (form b (tests_as_forms ts)) M.relations)).0 new.1 in
-        let y = (all_append (Contains ks) (periods b M.relations) (periods_each (tests_as_forms ts) M.relations)).0 x.1 in
+        let x = (all_append (Contains ks) (marks a M.relations) (marks_each (form b (tests_as_forms ts)) M.relations)).0 new.1 in
+        let y = (all_append (Contains ks) (marks b M.relations) (marks_each (tests_as_forms ts) M.relations)).0 x.1 in
         ((omega arith, x.0), (omega arith, y.0)))
         (record {
           operands = (let g : length start < length mid = m.grown in let h : length mid < length steps = n.grown in ((omega arith, omega arith), ((omega arith, omega arith), tt)));
@@ -101,7 +103,7 @@ module _ (M : Structure) (head : HeadStep) (fits : List Variable → Type 0) (gu
         names
 
     minuses : (start mid steps : Steps) (p : Saying) (g : Form) (variables : List Variable) → Builds M head fits guard start mid p → Builds M head fits guard mid steps (Names M.relations g)
-        → ((ws : List Variable) (ks : List ℕ) → p ws ks → AllByRecursion (Contains ws) variables) → AllByRecursion (Contains variables) (free g)
+        → ((ws : List Variable) (ks : List Mark) → p ws ks → AllByRecursion (Contains ws) variables) → AllByRecursion (Contains variables) (free g)
         → p room most × Names M.relations g room most
         → Builds M head fits guard start (minus (length mid) M steps) (λ ws ks. p ws ks × Names M.relations g ws ks)
     minuses start mid steps p g variables m n known covered inside =
@@ -109,17 +111,17 @@ module _ (M : Structure) (head : HeadStep) (fits : List Variable → Type 0) (gu
         let b : Form = formula_at steps (length steps) in
         let f : Form = conjunction (form a (form (negation b) no_forms)) in
         let e : a ≡ formula_at mid (length mid) = kept_formula M head fits guard mid steps (Names M.relations g) (length mid) n (omega arith) in
-        let first : (ws : List Variable) (ks : List ℕ) → Names M.relations a ws ks ↔ p ws ks = λ ws ks. subst (λ h. Names M.relations h ws ks ↔ p ws ks) (sym e) (m.names ws ks) in
-        let names : (ws : List Variable) (ks : List ℕ) → Names M.relations f ws ks ↔ (p ws ks × Names M.relations g ws ks) =
+        let first : (ws : List Variable) (ks : List Mark) → Names M.relations a ws ks ↔ p ws ks = λ ws ks. subst (λ h. Names M.relations h ws ks ↔ p ws ks) (sym e) (m.names ws ks) in
+        let names : (ws : List Variable) (ks : List Mark) → Names M.relations f ws ks ↔ (p ws ks × Names M.relations g ws ks) =
         λ ws ks. let two = two_named M.relations ws ks a (negation b) no_forms in ((λ h. let x = two.0 h in ((first ws ks).0 x.0, (n.names ws ks).0 x.1.0)), λ h. two.1 ((first ws ks).1 h.0, ((n.names ws ks).1 h.1, (tt, tt)))) in
-        let all : AllByRecursion (Contains (free a)) variables = known (free a) (periods a M.relations) ((first (free a) (periods a M.relations)).0 (names_self M.relations a)) in
+        let all : AllByRecursion (Contains (free a)) variables = known (free a) (marks a M.relations) ((first (free a) (marks a M.relations)).0 (names_self M.relations a)) in
         let part : AllByRecursion (Contains (free a)) (free g) = all_from (Contains (free a)) variables (free g) covered all in
-        let taken : AllByRecursion (Contains (free a)) (free b) = ((n.names (free a) (periods g M.relations)).1 (part, all_self (periods g M.relations))).0 in
+        let taken : AllByRecursion (Contains (free a)) (free b) = ((n.names (free a) (marks g M.relations)).1 (part, all_self (marks g M.relations))).0 in
         by_both M head fits guard start mid steps p (Names M.relations g) _ (Minus (length mid) (length steps)) f m n
         (λ c ks new.
         let r : max (reach_at steps (length mid)) (reach_at steps (length steps)) + 2 * period M.relations f ≤ c = new.0 in
-        let x = (all_append (Contains ks) (periods a M.relations) (periods_each (form (negation b) no_forms) M.relations)).0 new.1 in
-        let y = (all_append (Contains ks) (periods b M.relations) []).0 x.1 in
+        let x = (all_append (Contains ks) (marks a M.relations) (marks_each (form (negation b) no_forms) M.relations)).0 new.1 in
+        let y = (all_append (Contains ks) (marks b M.relations) []).0 x.1 in
         ((omega arith, x.0), (omega arith, y.0)))
         (record {
           operands = (let g : length start < length mid = m.grown in let h : length mid < length steps = n.grown in ((omega arith, omega arith), ((omega arith, omega arith), tt)));
@@ -143,21 +145,21 @@ module _ (M : Structure) (head : HeadStep) (fits : List Variable → Type 0) (gu
   IsBuilt e = (steps : Steps) → Builds M head fits guard steps (e.rule M steps) (Names M.relations e.formula)
 
   -- the result so far and what is left name together what p says
-  pub record IsOnTheWay (start : Steps) (count : ℕ) (p : List Variable → List ℕ → Type 0) (state : State) : Type 0 where
+  pub record IsOnTheWay (start : Steps) (count : ℕ) (p : List Variable → List Mark → Type 0) (state : State) : Type 0 where
     pub positives : AllByRecursion IsBuilt state.positives
     pub negations : AllByRecursion IsBuilt state.negations
     pub last : state.taken.some ≡ true → state.taken.result ≡ length state.steps
     pub fresh : state.taken.some ≡ false → state.steps ≡ start
     pub built : state.taken.some ≡ true → Builds M head fits guard start state.steps (LastNames state.steps)
     pub idle : state.taken.some ≡ false → length state.positives + length state.tests + length state.negations ≡ count
-    pub names : (ws : List Variable) (ks : List ℕ) → (Where state.taken.some (LastNames state.steps ws ks) × Left state.positives state.tests state.negations ws ks) ↔ p ws ks
-    pub known : (ws : List Variable) (ks : List ℕ) → Where state.taken.some (LastNames state.steps ws ks) → AllByRecursion (Contains ws) state.taken.variables
+    pub names : (ws : List Variable) (ks : List Mark) → (Where state.taken.some (LastNames state.steps ws ks) × Left state.positives state.tests state.negations ws ks) ↔ p ws ks
+    pub known : (ws : List Variable) (ks : List Mark) → Where state.taken.some (LastNames state.steps ws ks) → AllByRecursion (Contains ws) state.taken.variables
 
-  module _ (room : List Variable) (most : List ℕ) (roomy : fits room) where
+  module _ (room : List Variable) (most : List Mark) (roomy : fits room) where
     -- the steps after an element g was taken in: the result so far, the element and the carried tests
     taken_builds : (start mid steps : Steps) (some : Bool) (result : ℕ) (g : Form) (variables : List Variable) (ts : List Test)
         → (some ≡ true → result ≡ length mid) → (some ≡ false → mid ≡ start) → (some ≡ true → Builds M head fits guard start mid (LastNames mid)) → Builds M head fits guard mid steps (Names M.relations g)
-        → ((ws : List Variable) (ks : List ℕ) → Where some (LastNames mid ws ks) → Names M.relations g ws ks → AllByRecursion (Contains ws) variables) → AllByRecursion (λ t. AllByRecursion (Contains variables) (variables_of_test t)) ts
+        → ((ws : List Variable) (ks : List Mark) → Where some (LastNames mid ws ks) → Names M.relations g ws ks → AllByRecursion (Contains ws) variables) → AllByRecursion (λ t. AllByRecursion (Contains variables) (variables_of_test t)) ts
         → (Where some (LastNames mid room most) × Names M.relations g room most) × AllByRecursion (NamesTest M.relations room most) ts
         → Builds M head fits guard start (cond some (join result ts M steps) (select_each ts M steps)) (λ ws ks. (Where some (LastNames mid ws ks) × Names M.relations g ws ks) × AllByRecursion (NamesTest M.relations ws ks) ts)
     taken_builds start mid steps true result g variables ts last fresh m n known covered inside =
@@ -172,7 +174,7 @@ module _ (M : Structure) (head : HeadStep) (fits : List Variable → Type 0) (gu
     -- the steps after a negation of g was taken in
     negated_builds : (start mid steps : Steps) (covered some : Bool) (result : ℕ) (g : Form) (variables : List Variable)
         → (covered ≡ true → some ≡ true) → (some ≡ true → result ≡ length mid) → (some ≡ false → mid ≡ start) → (some ≡ true → Builds M head fits guard start mid (LastNames mid)) → Builds M head fits guard mid steps (Names M.relations g)
-        → ((ws : List Variable) (ks : List ℕ) → Where some (LastNames mid ws ks) → AllByRecursion (Contains ws) variables) → (covered ≡ true → AllByRecursion (Contains variables) (free g))
+        → ((ws : List Variable) (ks : List Mark) → Where some (LastNames mid ws ks) → AllByRecursion (Contains ws) variables) → (covered ≡ true → AllByRecursion (Contains variables) (free g))
         → Where some (LastNames mid room most) × Names M.relations g room most
         → Builds M head fits guard start (cond covered (minus result M steps) (cond some (join result [] M (complement M steps)) (complement M steps))) (λ ws ks. Where some (LastNames mid ws ks) × Names M.relations g ws ks)
     negated_builds start mid steps true true result g variables c last fresh m n known covered inside =
@@ -188,7 +190,7 @@ module _ (M : Structure) (head : HeadStep) (fits : List Variable → Type 0) (gu
         subst (λ s. Builds M head fits guard s (complement M steps) (λ ws ks. Unit {0} × Names M.relations g ws ks)) (fresh refl)
         (same_builds M head fits guard mid (complement M steps) (Names M.relations g) _ (complement_builds mid steps g n (fits_within g room most roomy inside.1)) (λ ws ks. ((λ h. (tt, h)), λ h. h.1)))
 
-    module _ (start : Steps) (count : ℕ) (p : List Variable → List ℕ → Type 0) (inside : p room most) where
+    module _ (start : Steps) (count : ℕ) (p : List Variable → List Mark → Type 0) (inside : p room most) where
       covered_at : (variables : List Variable) (t : Test) (us : List Test) (b : Bool) → are_among (free (test t)) variables ≡ b → AllByRecursion (λ u. AllByRecursion (Contains variables) (variables_of_test u)) us
           → AllByRecursion (λ u. AllByRecursion (Contains variables) (variables_of_test u)) (cond b (t ∷ us) us)
       covered_at variables t us true e h = (are_among_is (variables_of_test t) variables e, h)
@@ -202,8 +204,8 @@ module _ (M : Structure) (head : HeadStep) (fits : List Variable → Type 0) (gu
       -- an element g is taken in
       taken_in : (g : Form) (steps : Steps) (state : State) → AllByRecursion IsBuilt state.positives → AllByRecursion IsBuilt state.negations
           → (state.taken.some ≡ true → state.taken.result ≡ length state.steps) → (state.taken.some ≡ false → state.steps ≡ start) → (state.taken.some ≡ true → Builds M head fits guard start state.steps (LastNames state.steps))
-          → ((ws : List Variable) (ks : List ℕ) → (Where state.taken.some (LastNames state.steps ws ks) × (Names M.relations g ws ks × Left state.positives state.tests state.negations ws ks)) ↔ p ws ks)
-          → ((ws : List Variable) (ks : List ℕ) → Where state.taken.some (LastNames state.steps ws ks) → AllByRecursion (Contains ws) state.taken.variables)
+          → ((ws : List Variable) (ks : List Mark) → (Where state.taken.some (LastNames state.steps ws ks) × (Names M.relations g ws ks × Left state.positives state.tests state.negations ws ks)) ↔ p ws ks)
+          → ((ws : List Variable) (ks : List Mark) → Where state.taken.some (LastNames state.steps ws ks) → AllByRecursion (Contains ws) state.taken.variables)
           → Builds M head fits guard state.steps steps (Names M.relations g) → IsOnTheWay start count p (take_in M g steps state)
       taken_in g steps state ps ns last fresh built names known m =
           let variables : List Variable = state.taken.variables ++ free g in
@@ -211,9 +213,9 @@ module _ (M : Structure) (head : HeadStep) (fits : List Variable → Type 0) (gu
           let carried : List Test = filter covered state.tests in
           let after : Steps = cond state.taken.some (join state.taken.result carried M steps) (select_each carried M steps) in
           let here = (names room most).1 inside in
-          let of_all : (ws : List Variable) (ks : List ℕ) → Where state.taken.some (LastNames state.steps ws ks) → Names M.relations g ws ks → AllByRecursion (Contains ws) variables =
+          let of_all : (ws : List Variable) (ks : List Mark) → Where state.taken.some (LastNames state.steps ws ks) → Names M.relations g ws ks → AllByRecursion (Contains ws) variables =
           λ ws ks a b. (all_append (Contains ws) state.taken.variables (free g)).1 (known ws ks a, b.0) in
-          let split : (ws : List Variable) (ks : List ℕ) → AllByRecursion (NamesTest M.relations ws ks) state.tests ↔ (AllByRecursion (NamesTest M.relations ws ks) carried × AllByRecursion (NamesTest M.relations ws ks) (filter (λ t. not (covered t)) state.tests)) =
+          let split : (ws : List Variable) (ks : List Mark) → AllByRecursion (NamesTest M.relations ws ks) state.tests ↔ (AllByRecursion (NamesTest M.relations ws ks) carried × AllByRecursion (NamesTest M.relations ws ks) (filter (λ t. not (covered t)) state.tests)) =
           λ ws ks. split_all (NamesTest M.relations ws ks) covered state.tests in
           let n : Builds M head fits guard start after (λ ws ks. (Where state.taken.some (LastNames state.steps ws ks) × Names M.relations g ws ks) × AllByRecursion (NamesTest M.relations ws ks) carried) =
           taken_builds start state.steps steps state.taken.some state.taken.result g variables carried last fresh built m of_all (covered_tests variables state.tests) ((here.0, here.1.0), ((split room most).0 here.1.1.1.0).0) in

@@ -1,11 +1,10 @@
 -- The core form of a formula, and of its negation, names what the formula names, and its parts have variables that occur together in the formula.
-use Rattle.std.proofs.Common.{◌↔◌, ℕ, Bool, true, false, List, [], ◌∷◌, ◌++◌, Contains}
+use Rattle.std.proofs.Common.{◌↔◌, Bool, true, false, List, [], ◌∷◌, ◌++◌, Contains}
 use Rattle.std.specs.List.{AllByRecursion}
 use Rattle.lrp_model.specs.Texts.{Identifier}
 use Rattle.lrp_model.specs.Formulas.{Form, Forms, Question, atom, test, sorted, negation, conjunction, disjunction, implication, exists, forall, no_forms, form, joined}
 use Rattle.lrp_model.specs.Variables.{Variable, data_variable, bound_by, variables_of_time, free, free_each, head_variables}
 use Rattle.lrp_model.specs.Core.{conjuncts, disjuncts, all_conjuncts, all_disjuncts, and_list, or_list, and_two, positive_test, negative_test, with_sort, positive, negative, positives, negatives, column_elements, head_elements, guarded, core_form}
-use Rattle.lrp_model.specs.Periods.{periods, periods_each}
 use Rattle.lrp_model.specs.declared.relations.Sort.{Sort}
 use Rattle.lrp_model.specs.declared.relations.Sort.TheVariants.{Time, Data, Named}
 use Rattle.lrp_model.specs.declared.relations.Column.{Column}
@@ -17,7 +16,9 @@ use Rattle.lrp_model.specs.declared.formulas.Test.TheVariants.{Compare, Member, 
 use Rattle.lrp_model.proofs.Decided.{contains_first}
 use Rattle.lrp_model.proofs.Logic.{same, then_iff, all_append}
 use Rattle.lrp_plan_laws.specs.Scopes.{EachScope, EachOfScope}
-use Rattle.lrp_plan_laws.proofs.Names.{Names, NamesEach, all_self, all_later, cons_named, two_named, one_named, exists_named, names_self}
+use Rattle.lrp_plan_laws.proofs.Names.{Names, NamesEach, cons_named, two_named, one_named, exists_named, names_self}
+use Rattle.lrp_plan_laws.proofs.Members.{all_self, all_later}
+use Rattle.lrp_plan_laws.proofs.Marks.{Mark, marks, marks_each}
 
 flip : {p q : Type 0} → p ↔ q → q ↔ p
 flip e = (e.1, e.0)
@@ -28,7 +29,7 @@ swapped p xs ys =
     let b = all_append p ys xs in
     ((λ h. let x = a.0 h in b.1 (x.1, x.0)), λ h. let x = b.0 h in a.1 (x.1, x.0))
 
-module _ (db : List Relation) (ws : List Variable) (ks : List ℕ) where
+module _ (db : List Relation) (ws : List Variable) (ks : List Mark) where
   pub joined_named : (fs gs : Forms) → NamesEach db (joined fs gs) ws ks ↔ (NamesEach db fs ws ks × NamesEach db gs ws ks)
   joined_named no_forms gs = ((λ h. ((tt, tt), h)), λ h. h.1)
   joined_named (form f fs) gs =
@@ -88,41 +89,41 @@ module _ (db : List Relation) (ws : List Variable) (ks : List ℕ) where
   negative_test_named (Equal a b) = same
 
 -- with the sort element of a variable, a formula names no more than the variable beside its own
-sorted_two : (db : List Relation) (ws : List Variable) (ks : List ℕ) (s : Sort) (v : Identifier) (f : Form) → Names db (and_two (sorted s v) f) (data_variable v ∷ ws) ks ↔ Names db f (data_variable v ∷ ws) ks
+sorted_two : (db : List Relation) (ws : List Variable) (ks : List Mark) (s : Sort) (v : Identifier) (f : Form) → Names db (and_two (sorted s v) f) (data_variable v ∷ ws) ks ↔ Names db f (data_variable v ∷ ws) ks
 sorted_two db ws ks s v f =
     let a = and_named db (data_variable v ∷ ws) ks (form (sorted s v) (form f no_forms)) in
     let two = two_named db (data_variable v ∷ ws) ks (sorted s v) f no_forms in
     ((λ h. (two.0 (a.0 h)).1.0), λ h. a.1 (two.1 (((contains_first (data_variable v) ws, tt), tt), (h, (tt, tt)))))
 
-with_sort_named : (db : List Relation) (ws : List Variable) (ks : List ℕ) (named : Bool) (s : Sort) (v : Identifier) (f : Form) → Names db (with_sort named s v f) (bound_by s v ∷ ws) ks ↔ Names db f (bound_by s v ∷ ws) ks
+with_sort_named : (db : List Relation) (ws : List Variable) (ks : List Mark) (named : Bool) (s : Sort) (v : Identifier) (f : Form) → Names db (with_sort named s v f) (bound_by s v ∷ ws) ks ↔ Names db f (bound_by s v ∷ ws) ks
 with_sort_named db ws ks named Time v f = same
 with_sort_named db ws ks false Data v f = same
 with_sort_named db ws ks true Data v f = sorted_two db ws ks Data v f
 with_sort_named db ws ks false (Named name) v f = same
 with_sort_named db ws ks true (Named name) v f = sorted_two db ws ks (Named name) v f
 
-quantified_named : (db : List Relation) (ws : List Variable) (ks : List ℕ) (named : Bool) (s : Sort) (v : Identifier) (f g : Form) → ((us : List Variable) → Names db g us ks ↔ Names db f us ks)
+quantified_named : (db : List Relation) (ws : List Variable) (ks : List Mark) (named : Bool) (s : Sort) (v : Identifier) (f g : Form) → ((us : List Variable) → Names db g us ks ↔ Names db f us ks)
     → Names db (exists v s (with_sort named s v g)) ws ks ↔ Names db (exists v s f) ws ks
 quantified_named db ws ks named s v f g e =
     then_iff (exists_named db ws ks v s (with_sort named s v g)) (then_iff (with_sort_named db ws ks named s v g) (then_iff (e (bound_by s v ∷ ws)) (flip (exists_named db ws ks v s f))))
 
-both_named : (db : List Relation) (ws : List Variable) (ks : List ℕ) (f g : Form) → NamesEach db (form f (form g no_forms)) ws ks ↔ Names db (implication f g) ws ks
+both_named : (db : List Relation) (ws : List Variable) (ks : List Mark) (f g : Form) → NamesEach db (form f (form g no_forms)) ws ks ↔ Names db (implication f g) ws ks
 both_named db ws ks f g =
     let two = two_named db ws ks f g no_forms in
     let v = all_append (Contains ws) (free f) (free g) in
-    let k = all_append (Contains ks) (periods f db) (periods g db) in (
+    let k = all_append (Contains ks) (marks f db) (marks g db) in (
       (λ h. let x = two.0 h in (v.1 (x.0.0, x.1.0.0), k.1 (x.0.1, x.1.0.1))),
       λ h. let a = v.0 h.0 in let b = k.0 h.1 in two.1 ((a.0, b.0), ((a.1, b.1), (tt, tt))),
     )
 
-two_same : (db : List Relation) (ws : List Variable) (ks : List ℕ) (f g h i : Form) → Names db h ws ks ↔ Names db f ws ks → Names db i ws ks ↔ Names db g ws ks → NamesEach db (form h (form i no_forms)) ws ks ↔ NamesEach db (form f (form g no_forms)) ws ks
+two_same : (db : List Relation) (ws : List Variable) (ks : List Mark) (f g h i : Form) → Names db h ws ks ↔ Names db f ws ks → Names db i ws ks ↔ Names db g ws ks → NamesEach db (form h (form i no_forms)) ws ks ↔ NamesEach db (form f (form g no_forms)) ws ks
 two_same db ws ks f g h i a b =
     let x = two_named db ws ks h i no_forms in
     let y = two_named db ws ks f g no_forms in
     ((λ n. let z = x.0 n in y.1 (a.0 z.0, (b.0 z.1.0, (tt, tt)))), λ n. let z = y.0 n in x.1 (a.1 z.0, (b.1 z.1.0, (tt, tt))))
 
 mutual
-  pub positive_named : (f : Form) (named : Bool) (db : List Relation) (ws : List Variable) (ks : List ℕ) → Names db (positive f named) ws ks ↔ Names db f ws ks
+  pub positive_named : (f : Form) (named : Bool) (db : List Relation) (ws : List Variable) (ks : List Mark) → Names db (positive f named) ws ks ↔ Names db f ws ks
   positive_named (atom name terms) named db ws ks = same
   positive_named (test t) named db ws ks = positive_test_named db ws ks t
   positive_named (sorted s v) named db ws ks = same
@@ -135,7 +136,7 @@ mutual
   positive_named (exists v s f) named db ws ks = quantified_named db ws ks named s v f (positive f named) (λ us. positive_named f named db us ks)
   positive_named (forall v s f) named db ws ks = quantified_named db ws ks named s v f (negative f named) (λ us. negative_named f named db us ks)
 
-  pub negative_named : (f : Form) (named : Bool) (db : List Relation) (ws : List Variable) (ks : List ℕ) → Names db (negative f named) ws ks ↔ Names db f ws ks
+  pub negative_named : (f : Form) (named : Bool) (db : List Relation) (ws : List Variable) (ks : List Mark) → Names db (negative f named) ws ks ↔ Names db f ws ks
   negative_named (atom name terms) named db ws ks = same
   negative_named (test t) named db ws ks = negative_test_named db ws ks t
   negative_named (sorted s v) named db ws ks = same
@@ -148,7 +149,7 @@ mutual
   negative_named (exists v s f) named db ws ks = quantified_named db ws ks named s v f (positive f named) (λ us. positive_named f named db us ks)
   negative_named (forall v s f) named db ws ks = quantified_named db ws ks named s v f (negative f named) (λ us. negative_named f named db us ks)
 
-  pub positives_named : (fs : Forms) (named : Bool) (db : List Relation) (ws : List Variable) (ks : List ℕ) → NamesEach db (positives fs named) ws ks ↔ NamesEach db fs ws ks
+  pub positives_named : (fs : Forms) (named : Bool) (db : List Relation) (ws : List Variable) (ks : List Mark) → NamesEach db (positives fs named) ws ks ↔ NamesEach db fs ws ks
   positives_named no_forms named db ws ks = same
   positives_named (form f fs) named db ws ks =
       let a = cons_named db ws ks (positive f named) (positives fs named) in
@@ -157,7 +158,7 @@ mutual
       let r : NamesEach db (positives fs named) ws ks ↔ NamesEach db fs ws ks = positives_named fs named db ws ks in
       ((λ h. let x = a.0 h in b.1 (p.0 x.0, r.0 x.1)), λ h. let x = b.0 h in a.1 (p.1 x.0, r.1 x.1))
 
-  pub negatives_named : (fs : Forms) (named : Bool) (db : List Relation) (ws : List Variable) (ks : List ℕ) → NamesEach db (negatives fs named) ws ks ↔ NamesEach db fs ws ks
+  pub negatives_named : (fs : Forms) (named : Bool) (db : List Relation) (ws : List Variable) (ks : List Mark) → NamesEach db (negatives fs named) ws ks ↔ NamesEach db fs ws ks
   negatives_named no_forms named db ws ks = same
   negatives_named (form f fs) named db ws ks =
       let a = cons_named db ws ks (negative f named) (negatives fs named) in
@@ -168,7 +169,7 @@ mutual
 
 -- ---- a query
 
-pub core_named : (named : Bool) (q : Question) (db : List Relation) (ws : List Variable) (ks : List ℕ) → Names db (core_form named q) ws ks ↔ Names db (guarded named q.head q.body) ws ks
+pub core_named : (named : Bool) (q : Question) (db : List Relation) (ws : List Variable) (ks : List Mark) → Names db (core_form named q) ws ks ↔ Names db (guarded named q.head q.body) ws ks
 core_named false q db ws ks = positive_named q.body false db ws ks
 core_named true q db ws ks =
     let p = positive_named q.body true db ws ks in
@@ -179,23 +180,23 @@ core_named true q db ws ks =
     let y = one_named db ws ks q.body in
     ((λ h. let w = j.0 (a.0 h) in k.1 (w.0, y.1 (p.0 (x.0 w.1)))), λ h. let w = k.0 h in a.1 (j.1 (w.0, x.1 (p.1 (y.0 w.1)))))
 
-column_named : (db : List Relation) (ws : List Variable) (ks : List ℕ) (s : Sort) (v : Identifier) → Contains ws (bound_by s v) → NamesEach db (column_elements s v) ws ks
+column_named : (db : List Relation) (ws : List Variable) (ks : List Mark) (s : Sort) (v : Identifier) → Contains ws (bound_by s v) → NamesEach db (column_elements s v) ws ks
 column_named db ws ks Time v c = (tt, tt)
 column_named db ws ks Data v c = ((c, tt), tt)
 column_named db ws ks (Named name) v c = ((c, tt), tt)
 
 -- the sort elements of a head name no more than its variables
-pub head_named : (db : List Relation) (ws : List Variable) (ks : List ℕ) (columns : List Column) → AllByRecursion (Contains ws) (head_variables columns) → NamesEach db (head_elements columns) ws ks
+pub head_named : (db : List Relation) (ws : List Variable) (ks : List Mark) (columns : List Column) → AllByRecursion (Contains ws) (head_variables columns) → NamesEach db (head_elements columns) ws ks
 head_named db ws ks [] h = (tt, tt)
 head_named db ws ks (c ∷ cs) h = (joined_named db ws ks (column_elements c.sort c.name) (head_elements cs)).1 (column_named db ws ks c.sort c.name h.0, head_named db ws ks cs h.1)
 
 -- with or without sort elements, the formula of a query names no more than the head's variables beside the body's
-pub guarded_within : (named : Bool) (q : Question) (db : List Relation) (ws : List Variable) (ks : List ℕ) → AllByRecursion (Contains ws) (head_variables q.head) → Names db q.body ws ks → Names db (guarded named q.head q.body) ws ks
+pub guarded_within : (named : Bool) (q : Question) (db : List Relation) (ws : List Variable) (ks : List Mark) → AllByRecursion (Contains ws) (head_variables q.head) → Names db q.body ws ks → Names db (guarded named q.head q.body) ws ks
 guarded_within false q db ws ks h b = b
 guarded_within true q db ws ks h b = (joined_named db ws ks (head_elements q.head) (form q.body no_forms)).1 (head_named db ws ks q.head h, (one_named db ws ks q.body).1 b)
 
 -- and it names all that the body names
-pub guarded_body : (named : Bool) (q : Question) (db : List Relation) (ws : List Variable) (ks : List ℕ) → Names db (guarded named q.head q.body) ws ks → Names db q.body ws ks
+pub guarded_body : (named : Bool) (q : Question) (db : List Relation) (ws : List Variable) (ks : List Mark) → Names db (guarded named q.head q.body) ws ks → Names db q.body ws ks
 guarded_body false q db ws ks h = h
 guarded_body true q db ws ks h = (one_named db ws ks q.body).0 ((joined_named db ws ks (head_elements q.head) (form q.body no_forms)).0 h).1
 
@@ -203,7 +204,7 @@ guarded_body true q db ws ks h = (one_named db ws ks q.body).0 ((joined_named db
 
 module _ (fits : List Variable → Type 0) (down : (vs ws : List Variable) → AllByRecursion (Contains ws) vs → fits ws → fits vs) (db : List Relation) where
   -- what names no more than a fitting list fits
-  at_most : (f : Form) (room : List Variable) (ks : List ℕ) → Names db f room ks → fits room → fits (free f)
+  at_most : (f : Form) (room : List Variable) (ks : List Mark) → Names db f room ks → fits room → fits (free f)
   at_most f room ks h good = down (free f) room h.0 good
 
   scopes_joined : (fs gs : Forms) → EachOfScope fits fs → EachOfScope fits gs → EachOfScope fits (joined fs gs)
@@ -226,10 +227,10 @@ module _ (fits : List Variable → Type 0) (down : (vs ws : List Variable) → A
   scopes_all_disjuncts no_forms a = tt
   scopes_all_disjuncts (form f fs) a = scopes_joined (disjuncts f) (all_disjuncts fs) (scopes_disjuncts f a.0) (scopes_all_disjuncts fs a.1)
 
-  scope_and : (fs : Forms) (room : List Variable) (ks : List ℕ) → fits room → NamesEach db fs room ks → EachOfScope fits fs → EachScope fits (and_list fs)
+  scope_and : (fs : Forms) (room : List Variable) (ks : List Mark) → fits room → NamesEach db fs room ks → EachOfScope fits fs → EachScope fits (and_list fs)
   scope_and fs room ks good h a = (at_most (and_list fs) room ks ((and_named db room ks fs).1 h) good, scopes_all_conjuncts fs a)
 
-  scope_or : (fs : Forms) (room : List Variable) (ks : List ℕ) → fits room → NamesEach db fs room ks → EachOfScope fits fs → EachScope fits (or_list fs)
+  scope_or : (fs : Forms) (room : List Variable) (ks : List Mark) → fits room → NamesEach db fs room ks → EachOfScope fits fs → EachScope fits (or_list fs)
   scope_or fs room ks good h a = (at_most (or_list fs) room ks ((or_named db room ks fs).1 h) good, scopes_all_disjuncts fs a)
 
   scope_turned : (a b : TimeTerm) → fits (variables_of_time a ++ variables_of_time b) → fits (variables_of_time b ++ variables_of_time a)
@@ -255,12 +256,12 @@ module _ (fits : List Variable → Type 0) (down : (vs ws : List Variable) → A
   scope_negative_test (Member term point) good = good
   scope_negative_test (Equal a b) good = good
 
-  scope_sorted : (s : Sort) (v : Identifier) (g : Form) (vs : List Variable) (ks : List ℕ) → fits (data_variable v ∷ vs) → Names db g (data_variable v ∷ vs) ks → EachScope fits g → EachScope fits (and_two (sorted s v) g)
+  scope_sorted : (s : Sort) (v : Identifier) (g : Form) (vs : List Variable) (ks : List Mark) → fits (data_variable v ∷ vs) → Names db g (data_variable v ∷ vs) ks → EachScope fits g → EachScope fits (and_two (sorted s v) g)
   scope_sorted s v g vs ks good h a =
       scope_and (form (sorted s v) (form g no_forms)) (data_variable v ∷ vs) ks good ((two_named db (data_variable v ∷ vs) ks (sorted s v) g no_forms).1 (((contains_first (data_variable v) vs, tt), tt), (h, (tt, tt))))
       (down (data_variable v ∷ []) (data_variable v ∷ vs) (contains_first (data_variable v) vs, tt) good, (a, tt))
 
-  scope_with_sort : (named : Bool) (s : Sort) (v : Identifier) (g : Form) (vs : List Variable) (ks : List ℕ) → fits (bound_by s v ∷ vs) → Names db g (bound_by s v ∷ vs) ks → EachScope fits g → EachScope fits (with_sort named s v g)
+  scope_with_sort : (named : Bool) (s : Sort) (v : Identifier) (g : Form) (vs : List Variable) (ks : List Mark) → fits (bound_by s v ∷ vs) → Names db g (bound_by s v ∷ vs) ks → EachScope fits g → EachScope fits (with_sort named s v g)
   scope_with_sort named Time v g vs ks good h a = a
   scope_with_sort false Data v g vs ks good h a = a
   scope_with_sort true Data v g vs ks good h a = scope_sorted Data v g vs ks good h a
@@ -268,12 +269,12 @@ module _ (fits : List Variable → Type 0) (down : (vs ws : List Variable) → A
   scope_with_sort true (Named name) v g vs ks good h a = scope_sorted (Named name) v g vs ks good h a
 
   -- a quantifier over g, that names what f names
-  scope_quantified : (named : Bool) (s : Sort) (v : Identifier) (f g : Form) → fits (bound_by s v ∷ free f) → ((ws : List Variable) (ks : List ℕ) → Names db g ws ks ↔ Names db f ws ks) → EachScope fits g → EachScope fits (exists v s (with_sort named s v g))
+  scope_quantified : (named : Bool) (s : Sort) (v : Identifier) (f g : Form) → fits (bound_by s v ∷ free f) → ((ws : List Variable) (ks : List Mark) → Names db g ws ks ↔ Names db f ws ks) → EachScope fits g → EachScope fits (exists v s (with_sort named s v g))
   scope_quantified named s v f g good e a =
       let room : List Variable = bound_by s v ∷ free f in
-      let h : Names db g room (periods f db) = (e room (periods f db)).1 (all_later (bound_by s v) (free f) (free f) (all_self (free f)), all_self (periods f db)) in (
-        down (bound_by s v ∷ free (with_sort named s v g)) room (contains_first (bound_by s v) (free f), ((with_sort_named db (free f) (periods f db) named s v g).1 h).0) good,
-        scope_with_sort named s v g (free f) (periods f db) good h a,
+      let h : Names db g room (marks f db) = (e room (marks f db)).1 (all_later (bound_by s v) (free f) (free f) (all_self (free f)), all_self (marks f db)) in (
+        down (bound_by s v ∷ free (with_sort named s v g)) room (contains_first (bound_by s v) (free f), ((with_sort_named db (free f) (marks f db) named s v g).1 h).0) good,
+        scope_with_sort named s v g (free f) (marks f db) good h a,
       )
 
   mutual
@@ -282,11 +283,11 @@ module _ (fits : List Variable → Type 0) (down : (vs ws : List Variable) → A
     scope_positive (test t) named good = scope_positive_test t good
     scope_positive (sorted s v) named good = good
     scope_positive (negation f) named good = scope_negative f named good
-    scope_positive (conjunction fs) named good = scope_and (positives fs named) (free_each fs) (periods_each fs db) good.0 ((positives_named fs named db (free_each fs) (periods_each fs db)).1 (names_self db (conjunction fs))) (scope_positives fs named good.1)
-    scope_positive (disjunction fs) named good = scope_or (positives fs named) (free_each fs) (periods_each fs db) good.0 ((positives_named fs named db (free_each fs) (periods_each fs db)).1 (names_self db (disjunction fs))) (scope_positives fs named good.1)
+    scope_positive (conjunction fs) named good = scope_and (positives fs named) (free_each fs) (marks_each fs db) good.0 ((positives_named fs named db (free_each fs) (marks_each fs db)).1 (names_self db (conjunction fs))) (scope_positives fs named good.1)
+    scope_positive (disjunction fs) named good = scope_or (positives fs named) (free_each fs) (marks_each fs db) good.0 ((positives_named fs named db (free_each fs) (marks_each fs db)).1 (names_self db (disjunction fs))) (scope_positives fs named good.1)
     scope_positive (implication f g) named good =
         let ws : List Variable = free f ++ free g in
-        let ks : List ℕ = periods f db ++ periods g db in
+        let ks : List Mark = marks f db ++ marks g db in
         scope_or (form (negative f named) (form (positive g named) no_forms)) ws ks good.0
         ((two_same db ws ks f g (negative f named) (positive g named) (negative_named f named db ws ks) (positive_named g named db ws ks)).1 ((both_named db ws ks f g).1 (names_self db (implication f g))))
         (scope_negative f named good.1.0, (scope_positive g named good.1.1, tt))
@@ -298,11 +299,11 @@ module _ (fits : List Variable → Type 0) (down : (vs ws : List Variable) → A
     scope_negative (test t) named good = scope_negative_test t good
     scope_negative (sorted s v) named good = good
     scope_negative (negation f) named good = scope_positive f named good
-    scope_negative (conjunction fs) named good = scope_and (positives fs named) (free_each fs) (periods_each fs db) good.0 ((positives_named fs named db (free_each fs) (periods_each fs db)).1 (names_self db (conjunction fs))) (scope_positives fs named good.1)
-    scope_negative (disjunction fs) named good = scope_and (negatives fs named) (free_each fs) (periods_each fs db) good.0 ((negatives_named fs named db (free_each fs) (periods_each fs db)).1 (names_self db (disjunction fs))) (scope_negatives fs named good.1)
+    scope_negative (conjunction fs) named good = scope_and (positives fs named) (free_each fs) (marks_each fs db) good.0 ((positives_named fs named db (free_each fs) (marks_each fs db)).1 (names_self db (conjunction fs))) (scope_positives fs named good.1)
+    scope_negative (disjunction fs) named good = scope_and (negatives fs named) (free_each fs) (marks_each fs db) good.0 ((negatives_named fs named db (free_each fs) (marks_each fs db)).1 (names_self db (disjunction fs))) (scope_negatives fs named good.1)
     scope_negative (implication f g) named good =
         let ws : List Variable = free f ++ free g in
-        let ks : List ℕ = periods f db ++ periods g db in
+        let ks : List Mark = marks f db ++ marks g db in
         scope_and (form (positive f named) (form (negative g named) no_forms)) ws ks good.0
         ((two_same db ws ks f g (positive f named) (negative g named) (positive_named f named db ws ks) (negative_named g named db ws ks)).1 ((both_named db ws ks f g).1 (names_self db (implication f g))))
         (scope_positive f named good.1.0, (scope_negative g named good.1.1, tt))
@@ -331,7 +332,7 @@ module _ (fits : List Variable → Type 0) (down : (vs ws : List Variable) → A
   scope_core false q good a = scope_positive q.body false a
   scope_core true q good a =
       let room : List Variable = head_variables q.head ++ free q.body in
-      let ks : List ℕ = periods q.body db in
+      let ks : List Mark = marks q.body db in
       let two = (all_append (Contains room) (head_variables q.head) (free q.body)).0 (all_self room) in
       let h : Names db (positive q.body true) room ks = (positive_named q.body true db room ks).1 (two.1, all_self ks) in
       scope_and (joined (head_elements q.head) (form (positive q.body true) no_forms)) room ks good

@@ -5,6 +5,8 @@ pub mod Rounds
 pub mod PlanLaws
 pub mod PlanSound
 pub mod HeadLaws
+pub mod Members
+pub mod Marks
 pub mod Names
 pub mod Builds
 pub mod BuildsAnd
@@ -17,4 +19,6 @@ pub mod SortedNames
 pub mod SortedCounts
 pub mod SortedScopes
 pub mod SortedTexts
+pub mod ScanLaws
+pub mod SortedAtoms
 pub mod SettledLaws

@@ -1,42 +1,18 @@
 -- What a formula names: free variables, and periods. A formula made of others names what they name.
-use Rattle.std.proofs.Common.{◌≡◌, ◌↔◌, ⊎_elim, ℕ, Bool, true, false, cond, not, ◌&&◌, ◌||◌, List, [], ◌∷◌, Contains, refl, sym, ap, subst, filter}
+use Rattle.std.proofs.Common.{◌≡◌, ◌↔◌, ⊎_elim, Bool, true, false, cond, not, ◌&&◌, ◌||◌, List, [], ◌∷◌, Contains, refl, sym, ap, subst, filter}
 use Rattle.std.specs.List.{AllByRecursion, list_any}
 use Rattle.std.specs.Cmp.Lexicographic.{bytes_decides}
 use Rattle.lrp_model.specs.Texts.{Identifier}
 use Rattle.lrp_model.specs.Formulas.{Form, Forms, test, exists, no_forms, form}
 use Rattle.lrp_model.specs.Variables.{Variable, time_variable, data_variable, bound_by, same_variable, is_among, are_among, free, free_each}
-use Rattle.lrp_model.specs.Periods.{periods, periods_each}
 use Rattle.lrp_model.specs.Steps.{tests_as_forms}
 use Rattle.lrp_model.specs.declared.relations.Sort.{Sort}
 use Rattle.lrp_model.specs.declared.relations.Relation.{Relation}
 use Rattle.lrp_model.specs.declared.formulas.Test.{Test}
-use Rattle.lrp_model.proofs.Decided.{cons_cases, contains_first, contains_later, contains_none}
+use Rattle.lrp_model.proofs.Decided.{cons_cases, contains_first, contains_later}
 use Rattle.lrp_model.proofs.Logic.{same, all_append}
-
--- ---- members of lists
-
-pub all_of : {X : Type 0} (p : X → Type 0) (xs : List X) (x : X) → AllByRecursion p xs → Contains xs x → p x
-all_of p [] x h c = absurd (contains_none x c)
-all_of p (y ∷ ys) x h c = ⊎_elim (λ e. subst p e h.0) (λ d. all_of p ys x h.1 d) (cons_cases y x ys c)
-
-pub all_by : {X : Type 0} (p : X → Type 0) (xs : List X) → ((x : X) → Contains xs x → p x) → AllByRecursion p xs
-all_by p [] h = tt
-all_by p (y ∷ ys) h = (h y (contains_first y ys), all_by p ys (λ x c. h x (contains_later y x ys c)))
-
--- each element of a list is one of it
-pub all_self : {X : Type 0} (xs : List X) → AllByRecursion (Contains xs) xs
-all_self xs = all_by (Contains xs) xs (λ x c. c)
-
--- what holds of each element of a list holds of each element of a part of it
-pub all_from : {X : Type 0} (p : X → Type 0) (xs ys : List X) → AllByRecursion (Contains xs) ys → AllByRecursion p xs → AllByRecursion p ys
-all_from p xs ys part h = all_by p ys (λ y c. all_of p xs y h (all_of (Contains xs) ys y part c))
-
-pub all_map : {X : Type 0} (p q : X → Type 0) (xs : List X) → ((x : X) → p x → q x) → AllByRecursion p xs → AllByRecursion q xs
-all_map p q [] f h = tt
-all_map p q (x ∷ xs) f h = (f x h.0, all_map p q xs f h.1)
-
-pub all_later : {X : Type 0} (x : X) (xs ys : List X) → AllByRecursion (Contains xs) ys → AllByRecursion (Contains (x ∷ xs)) ys
-all_later x xs ys h = all_map (Contains xs) (Contains (x ∷ xs)) ys (λ y c. contains_later x y xs c) h
+use Rattle.lrp_plan_laws.proofs.Members.{all_self}
+use Rattle.lrp_plan_laws.proofs.Marks.{Mark, marks, marks_each}
 
 -- ---- tests on variables
 
@@ -84,20 +60,20 @@ without_is ws b (v ∷ vs) =
 -- ---- what formulas name
 
 -- the free variables are among ws, and the periods among ks
-abbrev pub Names : List Relation → Form → List Variable → List ℕ → Type 0
-Names db f ws ks = AllByRecursion (Contains ws) (free f) × AllByRecursion (Contains ks) (periods f db)
+abbrev pub Names : List Relation → Form → List Variable → List Mark → Type 0
+Names db f ws ks = AllByRecursion (Contains ws) (free f) × AllByRecursion (Contains ks) (marks f db)
 
-abbrev pub NamesEach : List Relation → Forms → List Variable → List ℕ → Type 0
-NamesEach db fs ws ks = AllByRecursion (Contains ws) (free_each fs) × AllByRecursion (Contains ks) (periods_each fs db)
+abbrev pub NamesEach : List Relation → Forms → List Variable → List Mark → Type 0
+NamesEach db fs ws ks = AllByRecursion (Contains ws) (free_each fs) × AllByRecursion (Contains ks) (marks_each fs db)
 
-abbrev pub NamesTest : List Relation → List Variable → List ℕ → Test → Type 0
+abbrev pub NamesTest : List Relation → List Variable → List Mark → Test → Type 0
 NamesTest db ws ks t = Names db (test t) ws ks
 
-module _ (db : List Relation) (ws : List Variable) (ks : List ℕ) where
+module _ (db : List Relation) (ws : List Variable) (ks : List Mark) where
   pub cons_named : (f : Form) (fs : Forms) → NamesEach db (form f fs) ws ks ↔ (Names db f ws ks × NamesEach db fs ws ks)
   cons_named f fs =
       let v = all_append (Contains ws) (free f) (free_each fs) in
-      let k = all_append (Contains ks) (periods f db) (periods_each fs db) in
+      let k = all_append (Contains ks) (marks f db) (marks_each fs db) in
       ((λ h. (((v.0 h.0).0, (k.0 h.1).0), ((v.0 h.0).1, (k.0 h.1).1))), λ h. (v.1 (h.0.0, h.1.0), k.1 (h.0.1, h.1.1)))
 
   pub two_named : (f g : Form) (fs : Forms) → NamesEach db (form f (form g fs)) ws ks ↔ (Names db f ws ks × (Names db g ws ks × NamesEach db fs ws ks))
@@ -121,5 +97,5 @@ module _ (db : List Relation) (ws : List Variable) (ks : List ℕ) where
   exists_named v s f = let w = without_is ws (bound_by s v) (free f) in ((λ h. (w.0 h.0, h.1)), λ h. (w.1 h.0, h.1))
 
 -- a formula names what it names
-pub names_self : (db : List Relation) (f : Form) → Names db f (free f) (periods f db)
-names_self db f = (all_self (free f), all_self (periods f db))
+pub names_self : (db : List Relation) (f : Form) → Names db f (free f) (marks f db)
+names_self db f = (all_self (free f), all_self (marks f db))

@@ -5,7 +5,6 @@ use Rattle.lrp_model.specs.Formulas.{Form, Question, conjunction, no_forms}
 use Rattle.lrp_model.specs.Variables.{Variable, time_variable, data_variable, free, free_each, head_variables}
 use Rattle.lrp_model.specs.Satisfaction.{Structure, structure}
 use Rattle.lrp_model.specs.Core.{core_form, guarded, has_named_sort, HasElements}
-use Rattle.lrp_model.specs.Periods.{periods}
 use Rattle.lrp_model.specs.Steps.{PlanStep, step_at, formula_at, tests_as_forms}
 use Rattle.lrp_model.specs.Plans.{plan, core_steps}
 use Rattle.lrp_model.specs.Caps.{step_variables, variables_with}
@@ -17,12 +16,14 @@ use Rattle.lrp_model.proofs.Logic.{all_append}
 use Rattle.lrp_plan_laws.specs.Made.{HeadStep, IsEarlier, operands, IsFormula, IsMade, AreAmong, head_step}
 use Rattle.lrp_plan_laws.specs.Scopes.{IsNarrow, IsNarrowStep, EachScope}
 use Rattle.lrp_plan_laws.proofs.Elements.{step_one_more, formula_made, formula_front}
-use Rattle.lrp_plan_laws.proofs.Names.{Names, all_of, all_by, all_map, all_self}
+use Rattle.lrp_plan_laws.proofs.Names.{Names}
+use Rattle.lrp_plan_laws.proofs.Marks.{marks}
 use Rattle.lrp_plan_laws.proofs.PlanSound.{core_of_query}
 use Rattle.lrp_plan_laws.proofs.Builds.{Kept, Builds}
 use Rattle.lrp_plan_laws.proofs.PlanBuilds.{builds}
 use Rattle.lrp_plan_laws.proofs.CoreNames.{guarded_within, scope_core}
 use Rattle.lrp_plan_laws.proofs.RisingLaws.{Unguarded, unguarded, plan_made, last_names, all_step, step_within, step_found}
+use Rattle.lrp_plan_laws.proofs.Members.{all_of, all_by, all_self, all_map}
 
 -- fewer variables are narrow too
 narrow_part : (vs ws : List Variable) → AllByRecursion (Contains ws) vs → IsNarrow ws → IsNarrow vs
@@ -92,7 +93,7 @@ module _ (db : List Relation) (q : Question) (some : HasElements q.body) (top : 
       let room : List Variable = head_variables q.head ++ free q.body in
       let f : Form = guarded (has_named_sort db) q.head q.body in
       let two = (all_append (Contains room) (head_variables q.head) (free q.body)).0 (all_self room) in
-      narrow_part (head_variables q.head ++ free f) room ((all_append (Contains room) (head_variables q.head) (free f)).1 (two.0, (guarded_within (has_named_sort db) q db room (periods q.body db) two.0 (two.1, all_self (periods q.body db))).0)) top
+      narrow_part (head_variables q.head ++ free f) room ((all_append (Contains room) (head_variables q.head) (free f)).1 (two.0, (guarded_within (has_named_sort db) q db room (marks q.body db) two.0 (two.1, all_self (marks q.body db))).0)) top
 
   own_narrow : (s : ℕ) (step : PlanStep) → step_at (plan db q) s ≡ Some step → IsNarrow (step_variables q.head step)
   own_narrow s step e =
@@ -137,8 +138,8 @@ module _ (db : List Relation) (q : Question) (some : HasElements q.body) (top : 
 
 module _ (db : List Relation) (q : Question) (bound : AreAmong (free q.body) (head_variables q.head)) where
   -- the formula of `head` names no more than the head's variables
-  head_within : Names db (guarded (has_named_sort db) q.head q.body) (head_variables q.head) (periods q.body db)
-  head_within = guarded_within (has_named_sort db) q db (head_variables q.head) (periods q.body db) (all_self (head_variables q.head)) (all_by (Contains (head_variables q.head)) (free q.body) bound, all_self (periods q.body db))
+  head_within : Names db (guarded (has_named_sort db) q.head q.body) (head_variables q.head) (marks q.body db)
+  head_within = guarded_within (has_named_sort db) q db (head_variables q.head) (marks q.body db) (all_self (head_variables q.head)) (all_by (Contains (head_variables q.head)) (free q.body) bound, all_self (marks q.body db))
 
   pub last_bound : AreAmong (free (formula_at (plan db q) (length (plan db q)))) (head_variables q.head)
   last_bound v c =
@@ -149,4 +150,4 @@ module _ (db : List Relation) (q : Question) (bound : AreAmong (free q.body) (he
   core_bound some v c =
       let f : Form = formula_at (core_steps db q) (length (core_steps db q)) in
       let e : formula_at (plan db q) (length (core_steps db q)) ≡ f = formula_front (core_steps db q) _ (length (core_steps db q)) (omega arith) in
-      all_of (Contains (head_variables q.head)) (free f) v ((last_names db q some (head_variables q.head) (periods q.body db)).1 head_within).0 (subst (λ g. Contains (free g) v) e c)
+      all_of (Contains (head_variables q.head)) (free f) v ((last_names db q some (head_variables q.head) (marks q.body db)).1 head_within).0 (subst (λ g. Contains (free g) v) e c)

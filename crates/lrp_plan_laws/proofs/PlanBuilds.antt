@@ -1,5 +1,5 @@
 -- The plan of a core form builds steps that name what the core form names.
-use Rattle.std.proofs.Common.{◌≡◌, ◌↔◌, ◌≤◌, ◌<◌, ◌+◌, ◌*◌, ℕ, not, filter, List, [], ◌∷◌, length, Contains, refl, sym, subst, arith}
+use Rattle.std.proofs.Common.{◌≡◌, ◌↔◌, ◌≤◌, ◌<◌, ◌+◌, ◌*◌, not, filter, List, [], ◌∷◌, length, Contains, refl, sym, subst, arith}
 use Rattle.std.specs.Prelude.{max}
 use Rattle.std.specs.List.{AllByRecursion}
 use Rattle.lrp_model.specs.Texts.{Identifier}
@@ -7,7 +7,7 @@ use Rattle.lrp_model.specs.Formulas.{Form, Forms, atom, test, sorted, negation, 
 use Rattle.lrp_model.specs.Variables.{Variable, bound_by, same_variable, free, free_each}
 use Rattle.lrp_model.specs.Satisfaction.{Structure, Assignment, Satisfies}
 use Rattle.lrp_model.specs.Core.{IsCore, AreCore, HasElement}
-use Rattle.lrp_model.specs.Periods.{period, periods, periods_each}
+use Rattle.lrp_model.specs.Periods.{period}
 use Rattle.lrp_model.specs.Steps.{Steps, Rule, formula_at, reach_at, union, drop_of}
 use Rattle.lrp_model.specs.Conjunctions.{tests_in, ranked, nothing_taken, conjunction_rule, as_positive}
 use Rattle.lrp_model.specs.Plans.{plan_of, plan_of_others, positives_in, negations_in}
@@ -18,10 +18,12 @@ use Rattle.lrp_model.specs.declared.plans.StepKind.TheVariants.{Scan, Leaf, Sort
 use Rattle.lrp_model.proofs.Logic.{then_iff, all_append}
 use Rattle.lrp_plan_laws.specs.Made.{HeadStep}
 use Rattle.lrp_plan_laws.specs.Scopes.{EachScope, EachOfScope}
-use Rattle.lrp_plan_laws.proofs.Names.{Names, NamesEach, all_self, all_later, without_is, cons_named, two_named, exists_named, names_self}
+use Rattle.lrp_plan_laws.proofs.Names.{Names, NamesEach, without_is, cons_named, two_named, exists_named, names_self}
 use Rattle.lrp_plan_laws.proofs.PlanSound.{makes, first_positive, first_test, first_negation, ranked_all, count, counted}
 use Rattle.lrp_plan_laws.proofs.Builds.{Saying, Builds, by_first, by_next, by_both, same_builds, kept_formula}
 use Rattle.lrp_plan_laws.proofs.BuildsAnd.{IsBuilt, Left, all_built, complement_builds, fits_within}
+use Rattle.lrp_plan_laws.proofs.Members.{all_self, all_later}
+use Rattle.lrp_plan_laws.proofs.Marks.{Mark, marks, marks_each}
 
 -- each quantifier is guarded, over every formula that says what its own says
 abbrev mutual
@@ -46,7 +48,7 @@ module _ (M : Structure) (head : HeadStep) (fits : List Variable → Type 0) (gu
   abbrev LeftOf : Forms → Saying
   LeftOf fs ws ks = Left M head fits guard down (positives_in fs) (tests_in fs) (negations_in fs) ws ks
 
-  parts : (ws : List Variable) (ks : List ℕ) (fs : Forms) → NamesEach M.relations fs ws ks ↔ LeftOf fs ws ks
+  parts : (ws : List Variable) (ks : List Mark) (fs : Forms) → NamesEach M.relations fs ws ks ↔ LeftOf fs ws ks
   parts ws ks no_forms = ((λ h. (tt, (tt, tt))), λ h. (tt, tt))
   parts ws ks (form (atom name terms) fs) = then_iff (cons_named M.relations ws ks (atom name terms) fs) (first_positive _ _ _ _ (parts ws ks fs))
   parts ws ks (form (test (Compare left op right)) fs) = then_iff (cons_named M.relations ws ks (test (Compare left op right)) fs) (first_test _ _ _ _ _ (parts ws ks fs))
@@ -76,7 +78,7 @@ module _ (M : Structure) (head : HeadStep) (fits : List Variable → Type 0) (gu
   conjunction_builds : (fs : Forms) (steps : Steps) → HasElement fs → fits (free_each fs) → AllByRecursion (IsBuilt M head fits guard down) (positives_in fs) → AllByRecursion (IsBuilt M head fits guard down) (negations_in fs)
       → Builds M head fits guard steps (conjunction_rule (positives_in fs) (tests_in fs) (negations_in fs) M steps) (Names M.relations (conjunction fs))
   conjunction_builds fs steps some good ps ns =
-      all_built M head fits guard down (free_each fs) (periods_each fs M.relations) good steps (count M fs) (Names M.relations (conjunction fs)) (names_self M.relations (conjunction fs))
+      all_built M head fits guard down (free_each fs) (marks_each fs M.relations) good steps (count M fs) (Names M.relations (conjunction fs)) (names_self M.relations (conjunction fs))
       (record { steps = steps; taken = nothing_taken; positives = ranked M (positives_in fs); tests = tests_in fs; negations = negations_in fs })
       (counted M fs some)
       (record {
@@ -96,7 +98,7 @@ module _ (M : Structure) (head : HeadStep) (fits : List Variable → Type 0) (gu
   -- ---- each rule
 
   drop_step : (before steps : Steps) (v : Identifier) (s : Sort) (p q : Saying) → Builds M head fits guard before steps p → fits (free (exists v s (formula_at steps (length steps)))) → guard v s (formula_at steps (length steps))
-      → ((ws : List Variable) (ks : List ℕ) → Names M.relations (exists v s (formula_at steps (length steps))) ws ks ↔ q ws ks) → Builds M head fits guard before (drop_of v s M steps) q
+      → ((ws : List Variable) (ks : List Mark) → Names M.relations (exists v s (formula_at steps (length steps))) ws ks ↔ q ws ks) → Builds M head fits guard before (drop_of v s M steps) q
   drop_step before steps v Time p q m good kept names =
       by_next M head fits guard before steps p q (DropTime (length steps) v) (exists v Time (formula_at steps (length steps))) m
       (λ b ks new. (let r : 2 * reach_at steps (length steps) ≤ b = new.0 in omega arith, new.1))
@@ -111,17 +113,17 @@ module _ (M : Structure) (head : HeadStep) (fits : List Variable → Type 0) (gu
   drop_builds : (before steps : Steps) (v : Identifier) (s : Sort) (f : Form) → Builds M head fits guard before steps (Names M.relations f) → fits (bound_by s v ∷ free f) → guard v s (formula_at steps (length steps)) → Builds M head fits guard before (drop_of v s M steps) (Names M.relations (exists v s f))
   drop_builds before steps v s f m good kept =
       let a : Form = formula_at steps (length steps) in
-      let names : (ws : List Variable) (ks : List ℕ) → Names M.relations (exists v s a) ws ks ↔ Names M.relations (exists v s f) ws ks =
+      let names : (ws : List Variable) (ks : List Mark) → Names M.relations (exists v s a) ws ks ↔ Names M.relations (exists v s f) ws ks =
       λ ws ks.
       let x = exists_named M.relations ws ks v s a in
       let y = exists_named M.relations ws ks v s f in
       let n = m.names (bound_by s v ∷ ws) ks in
       ((λ h. y.1 (n.0 (x.0 h))), λ h. x.1 (n.1 (y.0 h))) in
       let room : List Variable = bound_by s v ∷ free f in
-      let within : Names M.relations (exists v s f) room (periods f M.relations) =
-      (exists_named M.relations room (periods f M.relations) v s f).1 (all_later (bound_by s v) room (free f) (all_later (bound_by s v) (free f) (free f) (all_self (free f))), all_self (periods f M.relations)) in
+      let within : Names M.relations (exists v s f) room (marks f M.relations) =
+      (exists_named M.relations room (marks f M.relations) v s f).1 (all_later (bound_by s v) room (free f) (all_later (bound_by s v) (free f) (free f) (all_self (free f))), all_self (marks f M.relations)) in
       drop_step before steps v s (Names M.relations f) (Names M.relations (exists v s f)) m
-      (fits_within M head fits guard down (exists v s a) room (periods f M.relations) good ((names room (periods f M.relations)).1 within)) kept names
+      (fits_within M head fits guard down (exists v s a) room (marks f M.relations) good ((names room (marks f M.relations)).1 within)) kept names
 
   -- a formula without a variable names no more than the formula with it
   without_room : (b : Variable) (vs : List Variable) → AllByRecursion (Contains (b ∷ vs)) (filter (λ w. not (same_variable b w)) vs)
@@ -139,14 +141,14 @@ module _ (M : Structure) (head : HeadStep) (fits : List Variable → Type 0) (gu
   whole (exists v s f) good = down (free (exists v s f)) (bound_by s v ∷ free f) (without_room (bound_by s v) (free f)) good.0
   whole (forall v s f) good = down (free (forall v s f)) (bound_by s v ∷ free f) (without_room (bound_by s v) (free f)) good.0
 
-  union_builds : (before mid steps : Steps) (f g : Form) (room : List Variable) (most : List ℕ) → fits room → Names M.relations g room most × Names M.relations f room most
+  union_builds : (before mid steps : Steps) (f g : Form) (room : List Variable) (most : List Mark) → fits room → Names M.relations g room most × Names M.relations f room most
       → Builds M head fits guard before mid (Names M.relations g) → Builds M head fits guard mid steps (Names M.relations f) → Builds M head fits guard before (union (length mid) M steps) (Names M.relations (disjunction (form g (form f no_forms))))
   union_builds before mid steps f g room most roomy inside m n =
       let a : Form = formula_at steps (length mid) in
       let b : Form = formula_at steps (length steps) in
       let e : a ≡ formula_at mid (length mid) = kept_formula M head fits guard mid steps (Names M.relations f) (length mid) n (omega arith) in
-      let first : (ws : List Variable) (ks : List ℕ) → Names M.relations a ws ks ↔ Names M.relations g ws ks = λ ws ks. subst (λ h. Names M.relations h ws ks ↔ Names M.relations g ws ks) (sym e) (m.names ws ks) in
-      let names : (ws : List Variable) (ks : List ℕ) → Names M.relations (disjunction (form a (form b no_forms))) ws ks ↔ Names M.relations (disjunction (form g (form f no_forms))) ws ks =
+      let first : (ws : List Variable) (ks : List Mark) → Names M.relations a ws ks ↔ Names M.relations g ws ks = λ ws ks. subst (λ h. Names M.relations h ws ks ↔ Names M.relations g ws ks) (sym e) (m.names ws ks) in
+      let names : (ws : List Variable) (ks : List Mark) → Names M.relations (disjunction (form a (form b no_forms))) ws ks ↔ Names M.relations (disjunction (form g (form f no_forms))) ws ks =
       λ ws ks.
       let x = two_named M.relations ws ks a b no_forms in
       let y = two_named M.relations ws ks g f no_forms in (
@@ -156,8 +158,8 @@ module _ (M : Structure) (head : HeadStep) (fits : List Variable → Type 0) (gu
       by_both M head fits guard before mid steps (Names M.relations g) (Names M.relations f) (Names M.relations (disjunction (form g (form f no_forms)))) (Union (length mid) (length steps)) (disjunction (form a (form b no_forms))) m n
       (λ c ks new.
       let r : max (reach_at steps (length mid)) (reach_at steps (length steps)) + period M.relations (disjunction (form a (form b no_forms))) ≤ c = new.0 in
-      let x = (all_append (Contains ks) (periods a M.relations) (periods_each (form b no_forms) M.relations)).0 new.1 in
-      let y = (all_append (Contains ks) (periods b M.relations) []).0 x.1 in
+      let x = (all_append (Contains ks) (marks a M.relations) (marks_each (form b no_forms) M.relations)).0 new.1 in
+      let y = (all_append (Contains ks) (marks b M.relations) []).0 x.1 in
       ((omega arith, x.0), (omega arith, y.0)))
       (record {
         operands = (let g : length before < length mid = m.grown in let h : length mid < length steps = n.grown in ((omega arith, omega arith), ((omega arith, omega arith), tt)));
@@ -178,14 +180,14 @@ module _ (M : Structure) (head : HeadStep) (fits : List Variable → Type 0) (gu
     builds (disjunction no_forms) c good kept steps = absurd c.0
     builds (disjunction (form f fs)) c good kept steps =
         same_builds M head fits guard steps (plan_of_others fs M (plan_of f M steps)) (λ ws ks. Names M.relations f ws ks × NamesEach M.relations fs ws ks) _
-        (builds_others fs c.1.1 good.1.1 kept.1 steps (plan_of f M steps) f (free_each (form f fs)) (periods_each (form f fs) M.relations) good.0
-        ((cons_named M.relations (free_each (form f fs)) (periods_each (form f fs) M.relations) f fs).0 (names_self M.relations (disjunction (form f fs)))) (builds f c.1.0 good.1.0 kept.0 steps))
+        (builds_others fs c.1.1 good.1.1 kept.1 steps (plan_of f M steps) f (free_each (form f fs)) (marks_each (form f fs) M.relations) good.0
+        ((cons_named M.relations (free_each (form f fs)) (marks_each (form f fs) M.relations) f fs).0 (names_self M.relations (disjunction (form f fs)))) (builds f c.1.0 good.1.0 kept.0 steps))
         (λ ws ks. let x = cons_named M.relations ws ks f fs in ((λ h. x.1 h), λ h. x.0 h))
     builds (implication f g) c good kept steps = absurd c
     builds (exists v s f) c good kept steps = drop_builds steps (plan_of f M steps) v s f (builds f c good.1 kept.1 steps) good.0 (kept.0 (formula_at (plan_of f M steps) (length (plan_of f M steps))) (makes f c M steps).says)
     builds (forall v s f) c good kept steps = absurd c
 
-    builds_others : (fs : Forms) → AreCore fs → EachOfScope fits fs → EachOfGuard M guard fs → (before mid : Steps) (g : Form) (room : List Variable) (most : List ℕ) → fits room → Names M.relations g room most × NamesEach M.relations fs room most
+    builds_others : (fs : Forms) → AreCore fs → EachOfScope fits fs → EachOfGuard M guard fs → (before mid : Steps) (g : Form) (room : List Variable) (most : List Mark) → fits room → Names M.relations g room most × NamesEach M.relations fs room most
         → Builds M head fits guard before mid (Names M.relations g) → Builds M head fits guard before (plan_of_others fs M mid) (λ ws ks. Names M.relations g ws ks × NamesEach M.relations fs ws ks)
     builds_others no_forms c good kept before mid g room most roomy inside m = same_builds M head fits guard before mid (Names M.relations g) _ m (λ ws ks. ((λ h. (h, (tt, tt))), λ h. h.0))
     builds_others (form f fs) c good kept before mid g room most roomy inside m =

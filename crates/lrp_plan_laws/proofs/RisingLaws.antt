@@ -24,12 +24,14 @@ use Rattle.lrp_plan_laws.specs.Made.{HeadStep, IsEarlier, operands, IsFormula, I
 use Rattle.lrp_plan_laws.specs.Scopes.{EachScope, EachOfScope}
 use Rattle.lrp_plan_laws.specs.Rising.{period_at, HasPeriods, named_periods, test_period, KeepsPeriod, Rises}
 use Rattle.lrp_plan_laws.proofs.Elements.{found, within, formula_front, step_made, reach_made, period_made}
-use Rattle.lrp_plan_laws.proofs.Names.{Names, all_of, all_self, all_map, all_from, names_self}
+use Rattle.lrp_plan_laws.proofs.Names.{Names, names_self}
+use Rattle.lrp_plan_laws.proofs.Marks.{Mark, marks, marked_periods}
 use Rattle.lrp_plan_laws.proofs.PeriodLaws.{lcm_all_is, multiple_least, lcm_positive, lcm_part, lcm_alone, lcm_same, lcm_one}
 use Rattle.lrp_plan_laws.proofs.PlanSound.{core_of_query}
 use Rattle.lrp_plan_laws.proofs.Builds.{AreMade, AreUnder, IsUnder, LastIsUnder, Builds, made_more}
 use Rattle.lrp_plan_laws.proofs.PlanBuilds.{EachGuard, EachOfGuard, builds}
-use Rattle.lrp_plan_laws.proofs.CoreNames.{core_named, guarded_within, guarded_body}
+use Rattle.lrp_plan_laws.proofs.CoreNames.{core_named, guarded_within}
+use Rattle.lrp_plan_laws.proofs.Members.{all_of, all_self, all_from, all_map}
 
 -- ---- the steps of a query
 
@@ -95,46 +97,56 @@ last_made db q =
     (sym (step_made (structure db q) (Extend (length (core_steps db q))) (guarded (has_named_sort db) q.head q.body) (core_steps db q))) (refl, refl)
 
 -- the formula of the last core step names what `head` names
-pub last_names : (db : List Relation) (q : Question) → HasElements q.body → (ws : List Variable) (ks : List ℕ)
+pub last_names : (db : List Relation) (q : Question) → HasElements q.body → (ws : List Variable) (ks : List Mark)
     → Names db (formula_at (core_steps db q) (length (core_steps db q))) ws ks ↔ Names db (guarded (has_named_sort db) q.head q.body) ws ks
 last_names db q h ws ks =
     let a = (core_builds db q h).names ws ks in
     let b = core_named (has_named_sort db) q db ws ks in
     ((λ n. b.0 (a.0 n)), λ n. a.1 (b.1 n))
 
--- `head` names the periods of the body, and no others
-head_periods : (db : List Relation) (q : Question) → AllByRecursion (Contains (periods q.body db)) (periods (guarded (has_named_sort db) q.head q.body) db)
-head_periods db q =
+-- `head` names the periods and the atoms of the body, and no others
+head_marks : (db : List Relation) (q : Question) → AllByRecursion (Contains (marks q.body db)) (marks (guarded (has_named_sort db) q.head q.body) db)
+head_marks db q =
     let room : List Variable = head_variables q.head ++ free q.body in
     let two = (all_append (Contains room) (head_variables q.head) (free q.body)).0 (all_self room) in
-    (guarded_within (has_named_sort db) q db room (periods q.body db) two.0 (two.1, all_self (periods q.body db))).1
+    (guarded_within (has_named_sort db) q db room (marks q.body db) two.0 (two.1, all_self (marks q.body db))).1
 
-body_periods : (db : List Relation) (q : Question) → AllByRecursion (Contains (periods (guarded (has_named_sort db) q.head q.body) db)) (periods q.body db)
-body_periods db q = let f : Form = guarded (has_named_sort db) q.head q.body in (guarded_body (has_named_sort db) q db (free f) (periods f db) (names_self db f)).1
+head_periods : (db : List Relation) (q : Question) → AllByRecursion (Contains (periods q.body db)) (periods (guarded (has_named_sort db) q.head q.body) db)
+head_periods db q = marked_periods (guarded (has_named_sort db) q.head q.body) q.body db (head_marks db q)
 
--- the last core step names the periods of the body
+-- the last core step names the periods and the atoms of the body
+last_marks : (db : List Relation) (q : Question) → HasElements q.body → AllByRecursion (Contains (marks q.body db)) (marks (formula_at (core_steps db q) (length (core_steps db q))) db)
+last_marks db q h =
+    let f : Form = guarded (has_named_sort db) q.head q.body in
+    ((last_names db q h (free f) (marks q.body db)).1 (all_self (free f), head_marks db q)).1
+
 last_periods : (db : List Relation) (q : Question) → HasElements q.body → AllByRecursion (Contains (periods q.body db)) (periods (formula_at (core_steps db q) (length (core_steps db q))) db)
-last_periods db q h =
-    let f : Form = guarded (has_named_sort db) q.head q.body in
-    ((last_names db q h (free f) (periods q.body db)).1 (all_self (free f), head_periods db q)).1
+last_periods db q h = marked_periods (formula_at (core_steps db q) (length (core_steps db q))) q.body db (last_marks db q h)
 
-periods_last : (db : List Relation) (q : Question) → HasElements q.body → AllByRecursion (Contains (periods (formula_at (core_steps db q) (length (core_steps db q))) db)) (periods q.body db)
-periods_last db q h =
+-- and `head` names those of the last core step, and the other way round
+last_of_head : (db : List Relation) (q : Question) → HasElements q.body → AllByRecursion (Contains (periods (formula_at (core_steps db q) (length (core_steps db q))) db)) (periods (guarded (has_named_sort db) q.head q.body) db)
+last_of_head db q h =
+    let f : Form = guarded (has_named_sort db) q.head q.body in
     let a : Form = formula_at (core_steps db q) (length (core_steps db q)) in
-    let f : Form = guarded (has_named_sort db) q.head q.body in
-    all_from (Contains (periods a db)) (periods f db) (periods q.body db) (body_periods db q) ((last_names db q h (free a) (periods a db)).0 (names_self db a)).1
+    marked_periods f a db ((last_names db q h (free a) (marks a db)).0 (names_self db a)).1
 
--- no step is above the query: its reach is at most the last one's, and its periods are the body's
-pub plan_under : (db : List Relation) (q : Question) → HasElements q.body → AreUnder db (query_reach db q) (periods q.body db) (plan db q)
+head_of_last : (db : List Relation) (q : Question) → HasElements q.body → AllByRecursion (Contains (periods (guarded (has_named_sort db) q.head q.body) db)) (periods (formula_at (core_steps db q) (length (core_steps db q))) db)
+head_of_last db q h =
+    let f : Form = guarded (has_named_sort db) q.head q.body in
+    let a : Form = formula_at (core_steps db q) (length (core_steps db q)) in
+    marked_periods a f db ((last_names db q h (free f) (marks f db)).1 (names_self db f)).1
+
+-- no step is above the query: its reach is at most the last one's, and its periods and atoms are the body's
+pub plan_under : (db : List Relation) (q : Question) → HasElements q.body → AreUnder db (query_reach db q) (marks q.body db) (plan db q)
 plan_under db q h =
     let steps : Steps = core_steps db q in
     let M : Structure = structure db q in
     let f : Form = guarded (has_named_sort db) q.head q.body in
     let b : ℕ = query_reach db q in
     let e : b ≡ reach_at steps (length steps) = reach_made M (Extend (length steps)) f steps in
-    let last : LastIsUnder db b (periods q.body db) steps = ((omega arith), last_periods db q h) in
-    (all_append (λ step. IsUnder db b (periods q.body db) step.formula step.reach) steps (step_behind M (Extend (length steps)) f steps ∷ [])).1
-    ((core_builds db q h).under b (periods q.body db) last tt, ((omega arith, head_periods db q), tt))
+    let last : LastIsUnder db b (marks q.body db) steps = ((omega arith), last_marks db q h) in
+    (all_append (λ step. IsUnder db b (marks q.body db) step.formula step.reach) steps (step_behind M (Extend (length steps)) f steps ∷ [])).1
+    ((core_builds db q h).under b (marks q.body db) last tt, ((omega arith, head_marks db q), tt))
 
 -- ---- steps by their numbers
 
@@ -300,28 +312,21 @@ step_wide M head at reach top (Extend of) f r h low below e =
 
 -- ---- the steps of a query
 
+-- the periods and the atoms of each step are the body's
+pub step_marks : (db : List Relation) (q : Question) → HasElements q.body → (s : ℕ) (step : PlanStep) → step_at (plan db q) s ≡ Some step → AllByRecursion (Contains (marks q.body db)) (marks step.formula db)
+step_marks db q h s step e = (all_step (λ x. IsUnder db (query_reach db q) (marks q.body db) x.formula x.reach) (plan db q) s step e (plan_under db q h)).1
+
 module _ (db : List Relation) (q : Question) (some : HasElements q.body) (low : HasPeriods db q) where
   -- the periods of each step are at least 1
   step_low : (s : ℕ) (step : PlanStep) → step_at (plan db q) s ≡ Some step → AllByRecursion (λ k. 1 ≤ k) (periods step.formula db)
-  step_low s step e =
-      all_from (λ k. 1 ≤ k) (periods q.body db) (periods step.formula db) (all_step (λ x. IsUnder db (query_reach db q) (periods q.body db) x.formula x.reach) (plan db q) s step e (plan_under db q some)).1 low
+  step_low s step e = all_from (λ k. 1 ≤ k) (periods q.body db) (periods step.formula db) (marked_periods step.formula q.body db (step_marks db q some s step e)) low
 
   before_head : formula_at (plan db q) (length (core_steps db q)) ≡ formula_at (core_steps db q) (length (core_steps db q))
   before_head = formula_front (core_steps db q) (step_behind (structure db q) (Extend (length (core_steps db q))) (guarded (has_named_sort db) q.head q.body) (core_steps db q) ∷ []) (length (core_steps db q)) (omega arith)
 
   -- the step before `head` names what `head` names
   top_periods : AllByRecursion (Contains (periods (guarded (has_named_sort db) q.head q.body) db)) (periods (formula_at (plan db q) (length (core_steps db q))) db)
-  top_periods =
-      let f : Form = guarded (has_named_sort db) q.head q.body in
-      subst (λ g. AllByRecursion (Contains (periods f db)) (periods g db)) (sym before_head) ((last_names db q some (free f) (periods f db)).1 (names_self db f)).1
-
-  top_period : period db (guarded (has_named_sort db) q.head q.body) ≤ period db (formula_at (plan db q) (length (core_steps db q)))
-  top_period =
-      let f : Form = guarded (has_named_sort db) q.head q.body in
-      let a : Form = formula_at (core_steps db q) (length (core_steps db q)) in
-      let l : AllByRecursion (λ k. 1 ≤ k) (periods a db) = all_from (λ k. 1 ≤ k) (periods q.body db) (periods a db) (last_periods db q some) low in
-      subst (λ g. period db f ≤ period db g) (sym before_head)
-      (multiple_least (period db f) (period db a) (lcm_positive (periods a db) l) (lcm_part (periods f db) (periods a db) l ((last_names db q some (free a) (periods a db)).0 (names_self db a)).1))
+  top_periods = subst (λ g. AllByRecursion (Contains (periods (guarded (has_named_sort db) q.head q.body) db)) (periods g db)) (sym before_head) (head_of_last db q some)
 
   -- `head` has the period of the step before it
   same_period : period db (guarded (has_named_sort db) q.head q.body) ≡ period db (formula_at (plan db q) (length (core_steps db q)))
@@ -330,8 +335,10 @@ module _ (db : List Relation) (q : Question) (some : HasElements q.body) (low : 
       let a : Form = formula_at (core_steps db q) (length (core_steps db q)) in
       let l : AllByRecursion (λ k. 1 ≤ k) (periods a db) = all_from (λ k. 1 ≤ k) (periods q.body db) (periods a db) (last_periods db q some) low in
       let m : AllByRecursion (λ k. 1 ≤ k) (periods f db) = all_from (λ k. 1 ≤ k) (periods q.body db) (periods f db) (head_periods db q) low in
-      subst (λ g. period db f ≡ period db g) (sym before_head)
-      (lcm_same (periods f db) (periods a db) m l ((last_names db q some (free a) (periods a db)).0 (names_self db a)).1 ((last_names db q some (free f) (periods f db)).1 (names_self db f)).1)
+      subst (λ g. period db f ≡ period db g) (sym before_head) (lcm_same (periods f db) (periods a db) m l (last_of_head db q some) (head_of_last db q some))
+
+  top_period : period db (guarded (has_named_sort db) q.head q.body) ≤ period db (formula_at (plan db q) (length (core_steps db q)))
+  top_period = let e : period db (guarded (has_named_sort db) q.head q.body) ≡ period db (formula_at (plan db q) (length (core_steps db q))) = same_period in omega arith
 
   wide_to : (n s : ℕ) (step : PlanStep) → s ≤ n → step_at (plan db q) s ≡ Some step → period db step.formula ≤ step.reach
   wide_to zero zero step le e = cc
@@ -351,9 +358,9 @@ module _ (db : List Relation) (q : Question) (some : HasElements q.body) (low : 
   pub rises : (s : ℕ) (step : PlanStep) → step_at (plan db q) s ≡ Some step → Rises db q s step
   rises s step e =
       let m : IsMade (structure db q) (head_step db q) (plan db q) s step = plan_made db q some s step e in
-      let u : IsUnder db (query_reach db q) (periods q.body db) step.formula step.reach = all_step (λ x. IsUnder db (query_reach db q) (periods q.body db) x.formula x.reach) (plan db q) s step e (plan_under db q some) in
+      let u : IsUnder db (query_reach db q) (marks q.body db) step.formula step.reach = all_step (λ x. IsUnder db (query_reach db q) (marks q.body db) x.formula x.reach) (plan db q) s step e (plan_under db q some) in
       let l : AllByRecursion (λ k. 1 ≤ k) (periods step.formula db) = step_low s step e in
-      let d : IsMultiple (period db step.formula) (period db q.body) = lcm_part (periods step.formula db) (periods q.body db) low u.1 in
+      let d : IsMultiple (period db step.formula) (period db q.body) = lcm_part (periods step.formula db) (periods q.body db) low (marked_periods step.formula q.body db u.1) in
       record {
         earlier = m.operands;
         positive = subst (λ K. 1 ≤ K) (sym m.period) (lcm_positive (periods step.formula db) l);

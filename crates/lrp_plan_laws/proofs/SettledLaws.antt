@@ -12,6 +12,8 @@ use Rattle.lrp_plan_laws.proofs.HeadLaws.{last_is}
 use Rattle.lrp_plan_laws.proofs.RisingLaws.{plan_made, rises}
 use Rattle.lrp_plan_laws.proofs.NarrowLaws.{narrow_steps, last_bound, core_bound}
 use Rattle.lrp_plan_laws.proofs.GuardLaws.{drops_guarded}
+use Rattle.lrp_plan_laws.proofs.ScanLaws.{scan_known, database_known}
+use Rattle.lrp_plan_laws.proofs.SortedAtoms.{query_atoms}
 use Rattle.lrp_plan_laws.proofs.SortedScopes.{head_names, body_in_head, narrow_head, narrow_body}
 use Rattle.lrp_plan_laws.proofs.SortedTexts.{plain_query}
 
@@ -24,6 +26,7 @@ settled db q sorted texts some low = record {
   bound = body_in_head db q sorted;
   whole = narrow_head db q sorted;
   parts = narrow_body db q sorted;
+  atoms = query_atoms db q sorted;
   plain = plain_query db q sorted texts;
 }
 
@@ -35,7 +38,9 @@ sound db q h = record {
     rises = rises db q h.elements h.periods s step e;
     narrow = narrow_steps db q h.elements h.whole h.parts s step e;
     guarded = drops_guarded db q h.elements h.plain s step e;
+    scans = scan_known db q h.elements h.atoms s step e;
   };
+  texts = database_known db q;
   core = core_bound db q h.bound h.elements;
   last = last_bound db q h.bound;
   answers = λ tuple shape texts. last_is db q tuple (λ none. (h.plain none).0) h.names shape texts;

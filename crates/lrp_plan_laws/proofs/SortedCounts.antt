@@ -14,7 +14,7 @@ use Rattle.lrp_model.specs.declared.relations.Sort.TheVariants.{Time, Data, Name
 use Rattle.lrp_model.proofs.Decided.{cons_cases, contains_first, contains_later, contains_none}
 use Rattle.lrp_plan_laws.specs.Made.{IsDataSort}
 use Rattle.lrp_plan_laws.specs.Scopes.{AreDifferent, IsNarrow}
-use Rattle.lrp_plan_laws.proofs.Names.{all_of, all_map}
+use Rattle.lrp_plan_laws.proofs.Members.{all_of, all_map}
 use Rattle.lrp_plan_laws.proofs.SortedNames.{Occurs, same_name}
 
 -- ---- without one name

@@ -28,7 +28,8 @@ use Rattle.lrp_model.specs.declared.faults.QueryKind.TheVariants.{Wide}
 use Rattle.lrp_model.proofs.Decided.{cons_cases, contains_first, contains_later, contains_none}
 use Rattle.lrp_model.proofs.Logic.{all_append}
 use Rattle.lrp_plan_laws.specs.Made.{IsDataSort}
-use Rattle.lrp_plan_laws.proofs.Names.{all_of, all_map, all_self, same_own}
+use Rattle.lrp_plan_laws.proofs.Names.{same_own}
+use Rattle.lrp_plan_laws.proofs.Members.{all_map, in_left, in_right}
 
 -- ---- lists without an element
 
@@ -37,15 +38,13 @@ pub both_none : {F : Type 0} (xs ys : List F) → xs ++ ys ≡ [] → (xs ≡ []
 both_none [] ys e = (refl, e)
 both_none (x ∷ xs) ys e = cc
 
+pub not_false : (b : Bool) → not b ≡ false → b ≡ true
+not_false true e = refl
+not_false false e = cc
+
 pub none_if : {F : Type 0} (b : Bool) (f : F) → fault_if b f ≡ [] → b ≡ false
 none_if true f e = cc
 none_if false f e = refl
-
-pub in_left : {X : Type 0} (xs ys : List X) (x : X) → Contains xs x → Contains (xs ++ ys) x
-in_left xs ys x c = all_of (Contains (xs ++ ys)) xs x ((all_append (Contains (xs ++ ys)) xs ys).0 (all_self (xs ++ ys))).0 c
-
-pub in_right : {X : Type 0} (xs ys : List X) (x : X) → Contains ys x → Contains (xs ++ ys) x
-in_right xs ys x c = all_of (Contains (xs ++ ys)) ys x ((all_append (Contains (xs ++ ys)) xs ys).0 (all_self (xs ++ ys))).1 c
 
 -- ---- binders
 
@@ -167,7 +166,7 @@ kind_known bs p (Text t) f = tt
 kind_known bs p (Var n) f = alone_known (binder_sort bs n) false p f
 kind_known bs p (Shifted n plus) f = subst IsKnown (sym (shifted_known bs n (binder_sort bs n) p f)) tt
 
-same_kind : (s t : Sort) → not (same_sort t s) ≡ false → is_data s ≡ is_data t
+pub same_kind : (s t : Sort) → not (same_sort t s) ≡ false → is_data s ≡ is_data t
 same_kind Time Time e = refl
 same_kind Time Data e = cc
 same_kind Time (Named n) e = cc
@@ -178,7 +177,7 @@ same_kind (Named m) Time e = cc
 same_kind (Named m) Data e = cc
 same_kind (Named m) (Named n) e = refl
 
-no_time : (s : Sort) → is_time s ≡ false → is_data s ≡ true
+pub no_time : (s : Sort) → is_time s ≡ false → is_data s ≡ true
 no_time Time e = cc
 no_time Data e = refl
 no_time (Named n) e = refl

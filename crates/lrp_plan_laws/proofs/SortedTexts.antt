@@ -34,8 +34,8 @@ use Rattle.lrp_model.proofs.Decided.{contains_first}
 use Rattle.lrp_model.proofs.Logic.{all_append}
 use Rattle.lrp_plan_laws.specs.Guards.{BindsPlainly, BindPlainly}
 use Rattle.lrp_plan_laws.specs.Settled.{HasTexts}
-use Rattle.lrp_plan_laws.proofs.Names.{all_map}
-use Rattle.lrp_plan_laws.proofs.SortedNames.{bound_here, bound_further, same_name, both_none, none_if, not_wide, not_wide_inside}
+use Rattle.lrp_plan_laws.proofs.Members.{all_map}
+use Rattle.lrp_plan_laws.proofs.SortedNames.{bound_here, bound_further, same_name, both_none, none_if, not_false, not_wide, not_wide_inside}
 use Rattle.lrp_plan_laws.proofs.SortedScopes.{names_in, head_first, still, turned_more, parts_sorted}
 
 -- ---- lists
@@ -94,10 +94,6 @@ untimed : (s : Sort) → IsUnnamed s → is_time s ≡ false → s ≡ Data
 untimed Time n t = cc
 untimed Data n t = refl
 untimed (Named m) n t = cc
-
-not_false : (b : Bool) → not b ≡ false → b ≡ true
-not_false true e = refl
-not_false false e = cc
 
 same_named : (s : Sort) (m : Identifier) → same_sort s (Named m) ≡ true → is_named s ≡ true
 same_named Time m e = cc

@@ -3,3 +3,4 @@ pub mod Rising
 pub mod Scopes
 pub mod Guards
 pub mod Settled
+pub mod Atoms

@@ -13,7 +13,9 @@ use Rattle.lrp_model.specs.Steps.{PlanStep, step_at, formula_at}
 use Rattle.lrp_model.specs.Plans.{core_steps, plan, IsPlain}
 use Rattle.lrp_model.specs.declared.relations.Sort.{Sort}
 use Rattle.lrp_model.specs.declared.relations.Relation.{Relation}
-use Rattle.lrp_model.specs.declared.plans.StepKind.TheVariants.{DropData}
+use Rattle.lrp_model.specs.declared.formulas.Term.{Term}
+use Rattle.lrp_model.specs.declared.plans.StepKind.TheVariants.{Scan, DropData}
+use Rattle.lrp_plan_laws.specs.Atoms.{atoms, FitsRelation, IsKnownScan}
 use Rattle.lrp_plan_laws.specs.Made.{AreAmong, IsDataSort, IsMade, head_step}
 use Rattle.lrp_plan_laws.specs.Rising.{HasPeriods, Rises}
 use Rattle.lrp_plan_laws.specs.Scopes.{EachScope, IsNarrow, IsNarrowStep}
@@ -23,7 +25,7 @@ use Rattle.lrp_plan_laws.specs.Guards.{IsGuarded, BindsPlainly}
 abbrev pub HasTexts : List Relation → Type 0
 HasTexts db = AllByRecursion (λ entry. is_data entry.0 ≡ true) (database_texts db)
 
--- each `and` and `or` has an element, and each period is at least 1; the head's names differ, and the body's variables are the head's; few variables occur together; and where no sort is named, all texts are of one sort
+-- each `and` and `or` has an element, and each period is at least 1; the head's names differ, and the body's variables are the head's; few variables occur together; each atom fits the database; and where no sort is named, all texts are of one sort
 pub record IsSettled (db : List Relation) (q : Question) : Type 0 where
   pub elements : HasElements q.body
   pub periods : HasPeriods db q
@@ -31,6 +33,7 @@ pub record IsSettled (db : List Relation) (q : Question) : Type 0 where
   pub bound : AreAmong (free q.body) (head_variables q.head)
   pub whole : IsNarrow (head_variables q.head ++ free q.body)
   pub parts : EachScope IsNarrow q.body
+  pub atoms : AllByRecursion (FitsRelation db) (atoms q.body)
   pub plain : has_named_sort db ≡ false → IsPlain db q × BindsPlainly q.body
 
 -- a drop of a data variable is guarded
@@ -38,16 +41,18 @@ abbrev pub IsGuardedDrop : List Relation → Question → PlanStep → Type 0
 IsGuardedDrop db q step =
     (of : ℕ) (v : Identifier) (s : Sort) → step.kind ≡ DropData of v → IsDataSort s → step.formula ≡ exists v s (formula_at (plan db q) of) → IsGuarded (constants db q) (structure db q) v s (formula_at (plan db q) of)
 
--- step s is made of earlier ones, periods and reaches rise, its variables are few, and its drop is guarded
+-- step s is made of earlier ones, periods and reaches rise, its variables are few, its drop is guarded, and its scan is of an atom that fits
 pub record IsSoundStep (db : List Relation) (q : Question) (s : ℕ) (step : PlanStep) : Type 0 where
   pub made : IsMade (structure db q) (head_step db q) (plan db q) s step
   pub rises : Rises db q s step
   pub narrow : IsNarrowStep db q step
   pub guarded : IsGuardedDrop db q step
+  pub scans : (name : Identifier) (terms : List Term) → step.kind ≡ Scan name terms → IsKnownScan db q (record { name = name; terms = terms })
 
--- each step is sound, the last two have variables of the head alone, and the last one's formula holds for exactly the answers
+-- each step is sound, the texts of the database are constants, the last two steps have variables of the head alone, and the last one's formula holds for exactly the answers
 pub record IsSoundPlan (db : List Relation) (q : Question) : Type 0 where
   pub steps : (s : ℕ) (step : PlanStep) → step_at (plan db q) s ≡ Some step → IsSoundStep db q s step
+  pub texts : AllByRecursion (λ entry. Contains (constants db q) entry.1) (database_texts db)
   pub core : AreAmong (free (formula_at (plan db q) (length (core_steps db q)))) (head_variables q.head)
   pub last : AreAmong (free (formula_at (plan db q) (length (plan db q)))) (head_variables q.head)
   pub answers : (tuple : List Datum) → HasShape q.head tuple → AllByRecursion (Contains (constants db q)) (texts_of tuple) → Satisfies (formula_at (plan db q) (length (plan db q))) (structure db q) (assignment q.head tuple) ↔ IsAnswer db q tuple
