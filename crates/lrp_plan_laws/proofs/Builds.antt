@@ -27,6 +27,7 @@ Saying = List Variable → List Mark → Type 0
 -- ---- a step stays what it is where more steps follow
 
 module _ (M : Structure) (head : HeadStep) (at other : ℕ → Form) (s : ℕ) (same : (l : ℕ) → IsEarlier s l → other l ≡ at l) where
+  -- the formula is made in the same way of formulas that are the same
   moved_formula : (kind : StepKind) (f : Form) → AllByRecursion (IsEarlier s) (operands kind) → IsFormula M head at kind f → IsFormula M head other kind f
   moved_formula (Scan name terms) f o h = h
   moved_formula (Leaf t) f o h = h
@@ -40,6 +41,7 @@ module _ (M : Structure) (head : HeadStep) (at other : ℕ → Form) (s : ℕ) (
   moved_formula (DropData of v) f o h = (h.0, h.1, h.2 ∙ sym (ap (λ a. exists v h.0 a) (same of o.0)))
   moved_formula (Extend of) f o h = h
 
+  -- and relies on the same variables
   moved_variables : (kind : StepKind) → AllByRecursion (IsEarlier s) (operands kind) → HasVariables at kind → HasVariables other kind
   moved_variables (Scan name terms) o h = tt
   moved_variables (Leaf t) o h = tt
@@ -53,6 +55,7 @@ module _ (M : Structure) (head : HeadStep) (at other : ℕ → Form) (s : ℕ) (
   moved_variables (DropData of v) o h = tt
   moved_variables (Extend of) o h = tt
 
+-- the reach is the same where the reaches that are read are
 moved_reach : (db : List Relation) (at other : ℕ → ℕ) (s K : ℕ) → ((l : ℕ) → IsEarlier s l → other l ≡ at l) → (kind : StepKind) → AllByRecursion (IsEarlier s) (operands kind) → reach_of db at K kind ≡ reach_of db other K kind
 moved_reach db at other s K same (Scan name terms) o = refl
 moved_reach db at other s K same (Leaf t) o = refl
@@ -66,6 +69,7 @@ moved_reach db at other s K same (DropTime of v) o = sym (ap (λ a. 2 * a) (same
 moved_reach db at other s K same (DropData of v) o = sym (same of o.0)
 moved_reach db at other s K same (Extend of) o = sym (same of o.0)
 
+-- a step is what it was where more steps follow
 pub moved : (M : Structure) (head : HeadStep) (steps more : Steps) (s : ℕ) (step : PlanStep) → s ≤ suc (length steps) → IsMade M head steps s step → IsMade M head (steps ++ more) s step
 moved M head steps more s step le m = record {
   operands = m.operands;
@@ -85,6 +89,7 @@ pub record CanMake (M : Structure) (head : HeadStep) (steps : Steps) (kind : Ste
   pub formula : IsFormula M head (formula_at steps) kind f
   pub variables : HasVariables (formula_at steps) kind
 
+-- a step that can be made is made of earlier ones, and so is each before it
 pub made_more : (M : Structure) (head : HeadStep) (steps : Steps) (kind : StepKind) (f : Form) → CanMake M head steps kind f → AreMade M head steps → AreMade M head (made M kind f steps)
 made_more M head steps kind f can all s step e =
     ⊎_elim (λ h. let le : s ≤ length steps = h.0 in moved M head steps (step_behind M kind f steps ∷ []) s step (omega arith) (all s step h.1))
@@ -99,9 +104,11 @@ made_more M head steps kind f can all s step e =
 abbrev pub IsUnder : List Relation → ℕ → List Mark → Form → ℕ → Type 0
 IsUnder db b ks f r = (r ≤ b) × AllByRecursion (Contains ks) (marks f db)
 
+-- each step is under the bound
 abbrev pub AreUnder : List Relation → ℕ → List Mark → Steps → Type 0
 AreUnder db b ks steps = AllByRecursion (λ step. IsUnder db b ks step.formula step.reach) steps
 
+-- the last step is
 abbrev pub LastIsUnder : List Relation → ℕ → List Mark → Steps → Type 0
 LastIsUnder db b ks steps = IsUnder db b ks (formula_at steps (length steps)) (reach_at steps (length steps))
 
@@ -157,6 +164,7 @@ module _ (M : Structure) (head : HeadStep) (fits : List Variable → Type 0) (gu
   by_next before steps p q kind f m low can good kept names =
       by_step before steps kind f q m.more m.is (let g : length before < length steps = m.grown in omega arith) m.made m.fitting (λ b ks new h. m.under b ks (low b ks new) h) can good kept names
 
+  -- what is said may be said otherwise
   pub same_builds : (before after : Steps) (p q : Saying) → Builds M head fits guard before after p → ((ws : List Variable) (ks : List Mark) → p ws ks ↔ q ws ks) → Builds M head fits guard before after q
   same_builds before after p q m e = record { more = m.more; is = m.is; grown = m.grown; names = λ ws ks. then_iff (m.names ws ks) (e ws ks); made = m.made; under = m.under; fitting = m.fitting }
 
@@ -164,6 +172,7 @@ module _ (M : Structure) (head : HeadStep) (fits : List Variable → Type 0) (gu
   pub kept_formula : (before after : Steps) (p : Saying) (i : ℕ) → Builds M head fits guard before after p → i ≤ length before → formula_at after i ≡ formula_at before i
   kept_formula before after p i m le = ap (λ s. formula_at s i) m.is ∙ formula_front before m.more i le
 
+  -- and its reach
   pub kept_reach : (before after : Steps) (p : Saying) (i : ℕ) → Builds M head fits guard before after p → i ≤ length before → reach_at after i ≡ reach_at before i
   kept_reach before after p i m le = ap (λ s. reach_at s i) m.is ∙ reach_front before m.more i le
 

@@ -28,6 +28,7 @@ module _ (M : Structure) (head : HeadStep) (fits : List Variable → Type 0) (gu
   pub fits_within : (f : Form) (room : List Variable) (most : List Mark) → fits room → Names M.relations f room most → fits (free f)
   fits_within f room most roomy h = down (free f) room h.0 roomy
 
+  -- a complement names what its operand names
   pub complement_builds : (before steps : Steps) (g : Form) → Builds M head fits guard before steps (Names M.relations g) → fits (free g) → Builds M head fits guard before (complement M steps) (Names M.relations g)
   complement_builds before steps g m good =
       let a : Form = formula_at steps (length steps) in
@@ -40,6 +41,7 @@ module _ (M : Structure) (head : HeadStep) (fits : List Variable → Type 0) (gu
 
   -- ---- steps with tests, within the variables and the periods of the whole `and`
   module _ (room : List Variable) (most : List Mark) (roomy : fits room) where
+    -- selections by tests whose variables are known: the operand and the tests
     selects : (before steps : Steps) (p : Saying) (variables : List Variable) (ts : List Test) → Builds M head fits guard before steps p
         → ((ws : List Variable) (ks : List Mark) → p ws ks → AllByRecursion (Contains ws) variables) → AllByRecursion (λ t. AllByRecursion (Contains variables) (variables_of_test t)) ts
         → p room most × AllByRecursion (NamesTest M.relations room most) ts
@@ -65,6 +67,7 @@ module _ (M : Structure) (head : HeadStep) (fits : List Variable → Type 0) (gu
         (selects before (select t M steps) (λ ws ks. p ws ks × NamesTest M.relations ws ks t) variables ts n (λ ws ks h. known ws ks h.0) covered.1 ((inside.0, inside.1.0), inside.1.1))
         (λ ws ks. ((λ h. (h.0.0, (h.0.1, h.1))), λ h. ((h.0, h.1.0), h.1.1)))
 
+    -- a join that carries tests whose variables are known: both operands and the tests
     joins : (start mid steps : Steps) (p q : Saying) (variables : List Variable) (ts : List Test) → Builds M head fits guard start mid p → Builds M head fits guard mid steps q
         → ((ws : List Variable) (ks : List Mark) → p ws ks → q ws ks → AllByRecursion (Contains ws) variables) → AllByRecursion (λ t. AllByRecursion (Contains variables) (variables_of_test t)) ts
         → (p room most × q room most) × AllByRecursion (NamesTest M.relations room most) ts
@@ -102,6 +105,7 @@ module _ (M : Structure) (head : HeadStep) (fits : List Variable → Type 0) (gu
         tt
         names
 
+    -- a minus of what has no further variables: both operands
     minuses : (start mid steps : Steps) (p : Saying) (g : Form) (variables : List Variable) → Builds M head fits guard start mid p → Builds M head fits guard mid steps (Names M.relations g)
         → ((ws : List Variable) (ks : List Mark) → p ws ks → AllByRecursion (Contains ws) variables) → AllByRecursion (Contains variables) (free g)
         → p room most × Names M.relations g room most
@@ -134,9 +138,11 @@ module _ (M : Structure) (head : HeadStep) (fits : List Variable → Type 0) (gu
 
   -- ---- what an `and` has taken in and has left
 
+  -- what the last step names
   abbrev pub LastNames : Steps → Saying
   LastNames steps ws ks = Names M.relations (formula_at steps (length steps)) ws ks
 
+  -- what the positives, the tests and the negations that are left name
   abbrev pub Left : List Element → List Test → List Element → Saying
   Left ps ts ns ws ks = AllByRecursion (λ e. Names M.relations e.formula ws ks) ps × (AllByRecursion (NamesTest M.relations ws ks) ts × AllByRecursion (λ e. Names M.relations e.formula ws ks) ns)
 
@@ -191,6 +197,7 @@ module _ (M : Structure) (head : HeadStep) (fits : List Variable → Type 0) (gu
         (same_builds M head fits guard mid (complement M steps) (Names M.relations g) _ (complement_builds mid steps g n (fits_within g room most roomy inside.1)) (λ ws ks. ((λ h. (tt, h)), λ h. h.1)))
 
     module _ (start : Steps) (count : ℕ) (p : List Variable → List Mark → Type 0) (inside : p room most) where
+      -- a test that is covered, or is not
       covered_at : (variables : List Variable) (t : Test) (us : List Test) (b : Bool) → are_among (free (test t)) variables ≡ b → AllByRecursion (λ u. AllByRecursion (Contains variables) (variables_of_test u)) us
           → AllByRecursion (λ u. AllByRecursion (Contains variables) (variables_of_test u)) (cond b (t ∷ us) us)
       covered_at variables t us true e h = (are_among_is (variables_of_test t) variables e, h)
@@ -233,6 +240,7 @@ module _ (M : Structure) (head : HeadStep) (fits : List Variable → Type 0) (gu
             known = λ ws ks h. let w = (n.names ws ks).0 h in of_all ws ks w.0.0 w.0.1;
           }
 
+      -- a round for a positive, for a test and for a negation
       positive_taken : (i : ℕ) (x : Element) (state : State) → slice_get state.positives i ≡ Some x → IsOnTheWay start count p state → IsOnTheWay start count p (take_positive M i (Some x) state)
       positive_taken i x state e w =
           let sound = (take_out IsBuilt state.positives i x e).0 w.positives in
@@ -243,6 +251,7 @@ module _ (M : Structure) (head : HeadStep) (fits : List Variable → Type 0) (gu
           w.known
           (sound.0 state.steps)
 
+      -- a round for a test
       test_taken : (t : Test) (ts : List Test) (state : State) → state.tests ≡ t ∷ ts → IsOnTheWay start count p state → IsOnTheWay start count p (take_test M (t ∷ ts) state)
       test_taken t ts state e w =
           let here = subst (AllByRecursion (NamesTest M.relations room most)) e ((w.names room most).1 inside).1.1.0 in
@@ -254,6 +263,7 @@ module _ (M : Structure) (head : HeadStep) (fits : List Variable → Type 0) (gu
           w.known
           (by_first M head fits guard state.steps (Leaf t) (test t) (record { operands = tt; formula = refl; variables = tt }) (fits_within (test t) room most roomy here.0) tt)
 
+      -- a round for a negation
       negation_taken : (i : ℕ) (x : Element) (state : State) → slice_get state.negations i ≡ Some x → IsOnTheWay start count p state → IsOnTheWay start count p (take_negation M i (Some x) state)
       negation_taken i x state e w =
           let steps : Steps = x.rule M state.steps in
@@ -292,6 +302,7 @@ module _ (M : Structure) (head : HeadStep) (fits : List Variable → Type 0) (gu
             λ x. get_where state.taken.some _ so ((w.names ws ks).1 x).0,
           ))
 
+      -- so do the steps of the whole `and`
       pub all_built : (state : State) → 0 < count → IsOnTheWay start count p state → Builds M head fits guard start (take_all M state) p
       all_built state some w =
           let f : Finishes M (IsOnTheWay start count p) state = all_rounds M (IsOnTheWay start count p) positive_taken test_taken negation_taken state w in

@@ -32,6 +32,7 @@ use Rattle.lrp_plan_laws.proofs.RisingLaws.{Any, any_scope, all_step}
 
 -- ---- the texts of a sort are constants
 
+-- one entry that passes or does not
 image_at : {X : Type 0} (f : X → Text) (p : X → Bool) (x : X) (xs : List X) (t : Text) (b : Bool) → (Contains (map f (filter p xs)) t → Contains (map f xs) t) → Contains (map f (cond b (x ∷ filter p xs) (filter p xs))) t → Contains (map f (x ∷ xs)) t
 image_at f p x xs t true rest c = ⊎_elim (λ e. subst (λ y. Contains (f x ∷ map f xs) y) e (contains_first (f x) (map f xs))) (λ d. contains_later (f x) t (map f xs) (rest d)) (cons_cases (f x) t (map f (filter p xs)) c)
 image_at f p x xs t false rest c = contains_later (f x) t (map f xs) (rest c)
@@ -41,6 +42,7 @@ image_of_some : {X : Type 0} (f : X → Text) (p : X → Bool) (xs : List X) (t 
 image_of_some f p [] t c = c
 image_of_some f p (x ∷ xs) t c = image_at f p x xs t (p x) (image_of_some f p xs t) c
 
+-- the texts of a sort are constants
 pub domain_known : (db : List Relation) (q : Question) (s : Sort) (t : Text) → Contains (domain db q s) t → Contains (constants db q) t
 domain_known db q s t c =
     (contains_in_order (map (λ entry. entry.1) (all_texts db q)) t).1
@@ -52,6 +54,7 @@ domain_known db q s t c =
 abbrev pub Guard : List Relation → Question → Identifier → Sort → Form → Type 0
 Guard db q v s f = IsDataSort s → IsGuarded (constants db q) (structure db q) v s f
 
+-- a quantifier is guarded by the sort element of its variable
 by_element : (db : List Relation) (q : Question) (v : Identifier) (s : Sort) (f a : Form) → ((env : Assignment) → Satisfies a (structure db q) env ↔ Satisfies (and_two (sorted s v) f) (structure db q) env) → IsGuarded (constants db q) (structure db q) v s a
 by_element db q v s f a says = record {
   known = λ t c. domain_known db q s t c;
@@ -61,9 +64,11 @@ by_element db q v s f a says = record {
       subst (Contains (domain db q s)) (own_text v t env) e;
 }
 
+-- or since all constants are of sort `data`
 by_one_sort : (db : List Relation) (q : Question) (v : Identifier) (a : Form) → IsPlain db q → IsGuarded (constants db q) (structure db q) v Data a
 by_one_sort db q v a plain = record { known = λ t c. domain_known db q Data t c; guards = λ env t c h. subst (λ ts. Contains ts t) (sym (one_domain db q plain)) c }
 
+-- the one where sorts are named, and the other where none is
 by_named : (db : List Relation) (q : Question) (named : Bool) (v : Identifier) (s : Sort) (f a : Form) → (named ≡ false → IsPlain db q) → (named ≡ false → is_named s ≡ false)
     → ((env : Assignment) → Satisfies a (structure db q) env ↔ Satisfies (with_sort named s v f) (structure db q) env) → Guard db q v s a
 by_named db q named v Time f a plain none says = λ d. absurd d
@@ -75,26 +80,32 @@ by_named db q false v (Named name) f a plain none says = λ d. let e : true ≡ 
 -- ---- each quantifier of a core form
 
 module _ (M : Structure) (guard : Identifier → Sort → Form → Type 0) where
+  -- two lists of formulas together
   guards_joined : (fs gs : Forms) → EachOfGuard M guard fs → EachOfGuard M guard gs → EachOfGuard M guard (joined fs gs)
   guards_joined no_forms gs a b = b
   guards_joined (form f fs) gs a b = (a.0, guards_joined fs gs a.1 b)
 
+  -- the elements that stand for a formula in an `and`
   guards_conjuncts : (f : Form) → EachGuard M guard f → EachOfGuard M guard (conjuncts f)
   guards_conjuncts (conjunction fs) a = a
   guards_conjuncts f a = (a, tt)
 
+  -- and in an `or`
   guards_disjuncts : (f : Form) → EachGuard M guard f → EachOfGuard M guard (disjuncts f)
   guards_disjuncts (disjunction fs) a = a
   guards_disjuncts f a = (a, tt)
 
+  -- an `and` of a list
   guards_and : (fs : Forms) → EachOfGuard M guard fs → EachGuard M guard (and_list fs)
   guards_and no_forms a = tt
   guards_and (form f fs) a = guards_joined (conjuncts f) (all_conjuncts fs) (guards_conjuncts f a.0) (guards_and fs a.1)
 
+  -- an `or` of a list
   guards_or : (fs : Forms) → EachOfGuard M guard fs → EachGuard M guard (or_list fs)
   guards_or no_forms a = tt
   guards_or (form f fs) a = guards_joined (disjuncts f) (all_disjuncts fs) (guards_disjuncts f a.0) (guards_or fs a.1)
 
+  -- the core form of a test has no quantifier
   guards_positive_test : (t : Test) → EachGuard M guard (positive_test t)
   guards_positive_test (Compare a Le b) = tt
   guards_positive_test (Compare a Lt b) = tt
@@ -104,6 +115,7 @@ module _ (M : Structure) (guard : Identifier → Sort → Form → Type 0) where
   guards_positive_test (Member term point) = tt
   guards_positive_test (Equal a b) = tt
 
+  -- nor has that of its negation
   guards_negative_test : (t : Test) → EachGuard M guard (negative_test t)
   guards_negative_test (Compare a Le b) = tt
   guards_negative_test (Compare a Lt b) = tt
@@ -113,6 +125,7 @@ module _ (M : Structure) (guard : Identifier → Sort → Form → Type 0) where
   guards_negative_test (Member term point) = tt
   guards_negative_test (Equal a b) = tt
 
+  -- a formula with or without the sort element of its variable
   guards_with_sort : (named : Bool) (s : Sort) (v : Identifier) (f : Form) → EachGuard M guard f → EachGuard M guard (with_sort named s v f)
   guards_with_sort named Time v f a = a
   guards_with_sort false Data v f a = a
@@ -126,6 +139,7 @@ module _ (db : List Relation) (q : Question) (named : Bool) (plain : named ≡ f
   guarded_quantifier s v f none h = ((λ a says. by_named db q named v s f a plain none says), guards_with_sort (structure db q) (Guard db q) named s v f h)
 
   mutual
+    -- the core form of a formula
     pub guards_positive : (f : Form) → (named ≡ false → BindsPlainly f) → EachGuard (structure db q) (Guard db q) (positive f named)
     guards_positive (atom name terms) b = tt
     guards_positive (test t) b = guards_positive_test (structure db q) (Guard db q) t
@@ -137,6 +151,7 @@ module _ (db : List Relation) (q : Question) (named : Bool) (plain : named ≡ f
     guards_positive (exists v s f) b = guarded_quantifier s v (positive f named) (λ e. (b e).0) (guards_positive f (λ e. (b e).1))
     guards_positive (forall v s f) b = guarded_quantifier s v (negative f named) (λ e. (b e).0) (guards_negative f (λ e. (b e).1))
 
+    -- and of its negation
     pub guards_negative : (f : Form) → (named ≡ false → BindsPlainly f) → EachGuard (structure db q) (Guard db q) (negative f named)
     guards_negative (atom name terms) b = tt
     guards_negative (test t) b = guards_negative_test (structure db q) (Guard db q) t
@@ -148,23 +163,28 @@ module _ (db : List Relation) (q : Question) (named : Bool) (plain : named ≡ f
     guards_negative (exists v s f) b = guarded_quantifier s v (positive f named) (λ e. (b e).0) (guards_positive f (λ e. (b e).1))
     guards_negative (forall v s f) b = guarded_quantifier s v (negative f named) (λ e. (b e).0) (guards_negative f (λ e. (b e).1))
 
+    -- each of a list
     guards_positives : (fs : Forms) → (named ≡ false → BindPlainly fs) → EachOfGuard (structure db q) (Guard db q) (positives fs named)
     guards_positives no_forms b = tt
     guards_positives (form f fs) b = (guards_positive f (λ e. (b e).0), guards_positives fs (λ e. (b e).1))
 
+    -- and the negation of each of a list
     guards_negatives : (fs : Forms) → (named ≡ false → BindPlainly fs) → EachOfGuard (structure db q) (Guard db q) (negatives fs named)
     guards_negatives no_forms b = tt
     guards_negatives (form f fs) b = (guards_negative f (λ e. (b e).0), guards_negatives fs (λ e. (b e).1))
 
+-- a sort element of the head has no quantifier
 guards_column : (M : Structure) (guard : Identifier → Sort → Form → Type 0) (s : Sort) (v : Identifier) → EachOfGuard M guard (column_elements s v)
 guards_column M guard Time v = tt
 guards_column M guard Data v = (tt, tt)
 guards_column M guard (Named name) v = (tt, tt)
 
+-- nor has any of them
 guards_head : (M : Structure) (guard : Identifier → Sort → Form → Type 0) (columns : List Column) → EachOfGuard M guard (head_elements columns)
 guards_head M guard [] = tt
 guards_head M guard (c ∷ cs) = guards_joined M guard (column_elements c.sort c.name) (head_elements cs) (guards_column M guard c.sort c.name) (guards_head M guard cs)
 
+-- each quantifier of the core form of a query is guarded
 guards_core : (db : List Relation) (q : Question) (named : Bool) → (named ≡ false → IsPlain db q) → (named ≡ false → BindsPlainly q.body) → EachGuard (structure db q) (Guard db q) (core_form named q)
 guards_core db q false plain b = guards_positive db q false plain q.body b
 guards_core db q true plain b =
@@ -173,9 +193,11 @@ guards_core db q true plain b =
 
 -- ---- each drop of a plan
 
+-- `head` drops nothing
 not_head : (M : Structure) (f : Form) (steps : Steps) (step : PlanStep) (of : ℕ) (v : Identifier) → step_behind M (Extend (length steps)) f steps ≡ step → step.kind ≡ DropData of v → ⊥
 not_head M f steps step of v e k = let x : Extend (length steps) ≡ DropData of v = ap (λ x. x.kind) e ∙ k in cc
 
+-- each drop of a data variable is guarded
 pub drops_guarded : (db : List Relation) (q : Question) → HasElements q.body → (has_named_sort db ≡ false → IsPlain db q × BindsPlainly q.body)
     → (s : ℕ) (step : PlanStep) → step_at (plan db q) s ≡ Some step → (of : ℕ) (v : Identifier) (t : Sort) → step.kind ≡ DropData of v → IsDataSort t → step.formula ≡ exists v t (formula_at (plan db q) of)
     → IsGuarded (constants db q) (structure db q) v t (formula_at (plan db q) of)

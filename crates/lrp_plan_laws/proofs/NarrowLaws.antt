@@ -95,6 +95,7 @@ module _ (db : List Relation) (q : Question) (some : HasElements q.body) (top : 
       let two = (all_append (Contains room) (head_variables q.head) (free q.body)).0 (all_self room) in
       narrow_part (head_variables q.head ++ free f) room ((all_append (Contains room) (head_variables q.head) (free f)).1 (two.0, (guarded_within (has_named_sort db) q db room (marks q.body db) two.0 (two.1, all_self (marks q.body db))).0)) top
 
+  -- each step's variables are narrow, with the head's at `head`
   own_narrow : (s : ℕ) (step : PlanStep) → step_at (plan db q) s ≡ Some step → IsNarrow (step_variables q.head step)
   own_narrow s step e =
       let m : IsMade (structure db q) (head_step db q) (plan db q) s step = plan_made db q some s step e in
@@ -120,6 +121,7 @@ module _ (db : List Relation) (q : Question) (some : HasElements q.body) (top : 
       formula_part (DropTime of v) columns vs = all_self vs
       formula_part (DropData of v) columns vs = all_self vs
 
+  -- each step is narrow, and so is what it reads
   pub narrow_steps : (s : ℕ) (step : PlanStep) → step_at (plan db q) s ≡ Some step → IsNarrowStep db q step
   narrow_steps s step e =
       let m : IsMade (structure db q) (head_step db q) (plan db q) s step = plan_made db q some s step e in
@@ -141,11 +143,13 @@ module _ (db : List Relation) (q : Question) (bound : AreAmong (free q.body) (he
   head_within : Names db (guarded (has_named_sort db) q.head q.body) (head_variables q.head) (marks q.body db)
   head_within = guarded_within (has_named_sort db) q db (head_variables q.head) (marks q.body db) (all_self (head_variables q.head)) (all_by (Contains (head_variables q.head)) (free q.body) bound, all_self (marks q.body db))
 
+  -- the last step has variables of the head alone
   pub last_bound : AreAmong (free (formula_at (plan db q) (length (plan db q)))) (head_variables q.head)
   last_bound v c =
       let e : formula_at (plan db q) (length (plan db q)) ≡ guarded (has_named_sort db) q.head q.body = formula_made (structure db q) _ (guarded (has_named_sort db) q.head q.body) (core_steps db q) in
       all_of (Contains (head_variables q.head)) (free (guarded (has_named_sort db) q.head q.body)) v head_within.0 (subst (λ f. Contains (free f) v) e c)
 
+  -- and so has the step before it
   pub core_bound : HasElements q.body → AreAmong (free (formula_at (plan db q) (length (core_steps db q)))) (head_variables q.head)
   core_bound some v c =
       let f : Form = formula_at (core_steps db q) (length (core_steps db q)) in

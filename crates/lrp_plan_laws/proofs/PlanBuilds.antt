@@ -45,9 +45,11 @@ abbrev mutual
 -- ---- an `and` names what its positives, its tests and its negations name
 
 module _ (M : Structure) (head : HeadStep) (fits : List Variable → Type 0) (guard : Identifier → Sort → Form → Type 0) (down : (vs ws : List Variable) → AllByRecursion (Contains ws) vs → fits ws → fits vs) where
+  -- what is left of a list before the first round
   abbrev LeftOf : Forms → Saying
   LeftOf fs ws ks = Left M head fits guard down (positives_in fs) (tests_in fs) (negations_in fs) ws ks
 
+  -- a list names what its positives, its tests and its negations name
   parts : (ws : List Variable) (ks : List Mark) (fs : Forms) → NamesEach M.relations fs ws ks ↔ LeftOf fs ws ks
   parts ws ks no_forms = ((λ h. (tt, (tt, tt))), λ h. (tt, tt))
   parts ws ks (form (atom name terms) fs) = then_iff (cons_named M.relations ws ks (atom name terms) fs) (first_positive _ _ _ _ (parts ws ks fs))
@@ -62,6 +64,7 @@ module _ (M : Structure) (head : HeadStep) (fits : List Variable → Type 0) (gu
   parts ws ks (form (exists v s f) fs) = then_iff (cons_named M.relations ws ks (exists v s f) fs) (first_positive _ _ _ _ (parts ws ks fs))
   parts ws ks (form (forall v s f) fs) = then_iff (cons_named M.relations ws ks (forall v s f) fs) (first_positive _ _ _ _ (parts ws ks fs))
 
+  -- a positive whose rule builds what it should
   as_built : (f : Form) (rule : Rule) → ((steps : Steps) → Builds M head fits guard steps (rule M steps) (Names M.relations f)) → AllByRecursion (IsBuilt M head fits guard down) (as_positive f rule)
   as_built (test (Compare left op right)) rule h = tt
   as_built (test (Member term point)) rule h = (h, tt)
@@ -75,6 +78,7 @@ module _ (M : Structure) (head : HeadStep) (fits : List Variable → Type 0) (gu
   as_built (exists v s f) rule h = (h, tt)
   as_built (forall v s f) rule h = (h, tt)
 
+  -- an `and` builds what it names
   conjunction_builds : (fs : Forms) (steps : Steps) → HasElement fs → fits (free_each fs) → AllByRecursion (IsBuilt M head fits guard down) (positives_in fs) → AllByRecursion (IsBuilt M head fits guard down) (negations_in fs)
       → Builds M head fits guard steps (conjunction_rule (positives_in fs) (tests_in fs) (negations_in fs) M steps) (Names M.relations (conjunction fs))
   conjunction_builds fs steps some good ps ns =
@@ -97,6 +101,7 @@ module _ (M : Structure) (head : HeadStep) (fits : List Variable → Type 0) (gu
 
   -- ---- each rule
 
+  -- a drop of a variable names what is said of it
   drop_step : (before steps : Steps) (v : Identifier) (s : Sort) (p q : Saying) → Builds M head fits guard before steps p → fits (free (exists v s (formula_at steps (length steps)))) → guard v s (formula_at steps (length steps))
       → ((ws : List Variable) (ks : List Mark) → Names M.relations (exists v s (formula_at steps (length steps))) ws ks ↔ q ws ks) → Builds M head fits guard before (drop_of v s M steps) q
   drop_step before steps v Time p q m good kept names =
@@ -110,6 +115,7 @@ module _ (M : Structure) (head : HeadStep) (fits : List Variable → Type 0) (gu
       by_next M head fits guard before steps p q (DropData (length steps) v) (exists v (Named name) (formula_at steps (length steps))) m (λ b ks new. new)
       (record { operands = ((let g : length before < length steps = m.grown in omega arith, omega arith), tt); formula = (Named name, tt, refl); variables = tt }) good kept names
 
+  -- a quantifier builds what it names
   drop_builds : (before steps : Steps) (v : Identifier) (s : Sort) (f : Form) → Builds M head fits guard before steps (Names M.relations f) → fits (bound_by s v ∷ free f) → guard v s (formula_at steps (length steps)) → Builds M head fits guard before (drop_of v s M steps) (Names M.relations (exists v s f))
   drop_builds before steps v s f m good kept =
       let a : Form = formula_at steps (length steps) in
@@ -141,6 +147,7 @@ module _ (M : Structure) (head : HeadStep) (fits : List Variable → Type 0) (gu
   whole (exists v s f) good = down (free (exists v s f)) (bound_by s v ∷ free f) (without_room (bound_by s v) (free f)) good.0
   whole (forall v s f) good = down (free (forall v s f)) (bound_by s v ∷ free f) (without_room (bound_by s v) (free f)) good.0
 
+  -- a union names what its two operands name
   union_builds : (before mid steps : Steps) (f g : Form) (room : List Variable) (most : List Mark) → fits room → Names M.relations g room most × Names M.relations f room most
       → Builds M head fits guard before mid (Names M.relations g) → Builds M head fits guard mid steps (Names M.relations f) → Builds M head fits guard before (union (length mid) M steps) (Names M.relations (disjunction (form g (form f no_forms))))
   union_builds before mid steps f g room most roomy inside m n =
@@ -171,6 +178,7 @@ module _ (M : Structure) (head : HeadStep) (fits : List Variable → Type 0) (gu
       names
 
   mutual
+    -- each core form builds what it names
     pub builds : (f : Form) → IsCore f → EachScope fits f → EachGuard M guard f → (steps : Steps) → Builds M head fits guard steps (plan_of f M steps) (Names M.relations f)
     builds (atom name terms) c good kept steps = by_first M head fits guard steps (Scan name terms) (atom name terms) (record { operands = tt; formula = refl; variables = tt }) good tt
     builds (test t) c good kept steps = by_first M head fits guard steps (Leaf t) (test t) (record { operands = tt; formula = refl; variables = tt }) good tt
@@ -187,6 +195,7 @@ module _ (M : Structure) (head : HeadStep) (fits : List Variable → Type 0) (gu
     builds (exists v s f) c good kept steps = drop_builds steps (plan_of f M steps) v s f (builds f c good.1 kept.1 steps) good.0 (kept.0 (formula_at (plan_of f M steps) (length (plan_of f M steps))) (makes f c M steps).says)
     builds (forall v s f) c good kept steps = absurd c
 
+    -- a result so far and the formulas of an `or` that are left
     builds_others : (fs : Forms) → AreCore fs → EachOfScope fits fs → EachOfGuard M guard fs → (before mid : Steps) (g : Form) (room : List Variable) (most : List Mark) → fits room → Names M.relations g room most × NamesEach M.relations fs room most
         → Builds M head fits guard before mid (Names M.relations g) → Builds M head fits guard before (plan_of_others fs M mid) (λ ws ks. Names M.relations g ws ks × NamesEach M.relations fs ws ks)
     builds_others no_forms c good kept before mid g room most roomy inside m = same_builds M head fits guard before mid (Names M.relations g) _ m (λ ws ks. ((λ h. (h, (tt, tt))), λ h. h.0))
@@ -202,10 +211,12 @@ module _ (M : Structure) (head : HeadStep) (fits : List Variable → Type 0) (gu
         let y = cons_named M.relations ws ks f fs in
         ((λ h. let z = x.0 h.0 in (z.0, y.1 (z.1.0, h.1))), λ h. let z = y.0 h.1 in (x.1 (h.0, (z.0, (tt, tt))), z.1)))
 
+    -- each positive of a list builds what it names
     built_positives : (fs : Forms) → AreCore fs → EachOfScope fits fs → EachOfGuard M guard fs → AllByRecursion (IsBuilt M head fits guard down) (positives_in fs)
     built_positives no_forms c good kept = tt
     built_positives (form f fs) c good kept = (all_append (IsBuilt M head fits guard down) (as_positive f (plan_of f)) (positives_in fs)).1 (as_built f (plan_of f) (builds f c.0 good.0 kept.0), built_positives fs c.1 good.1 kept.1)
 
+    -- and each negation
     built_negations : (fs : Forms) → AreCore fs → EachOfScope fits fs → EachOfGuard M guard fs → AllByRecursion (IsBuilt M head fits guard down) (negations_in fs)
     built_negations no_forms c good kept = tt
     built_negations (form (negation g) fs) c good kept = (builds g c.0 good.0 kept.0, built_negations fs c.1 good.1 kept.1)

@@ -44,6 +44,7 @@ abbrev pub Unguarded : Identifier → Sort → Form → Type 0
 Unguarded v s f = Unit {0}
 
 mutual
+  -- each part of a formula has such variables
   pub any_scope : (f : Form) → EachScope Any f
   any_scope (atom name terms) = tt
   any_scope (test t) = tt
@@ -55,11 +56,13 @@ mutual
   any_scope (exists v s f) = (tt, any_scope f)
   any_scope (forall v s f) = (tt, any_scope f)
 
+  -- and of a list
   pub any_scopes : (fs : Forms) → EachOfScope Any fs
   any_scopes no_forms = tt
   any_scopes (form f fs) = (any_scope f, any_scopes fs)
 
 mutual
+  -- each quantifier of a formula is guarded so
   pub unguarded : (M : Structure) (f : Form) → EachGuard M Unguarded f
   unguarded M (atom name terms) = tt
   unguarded M (test t) = tt
@@ -71,13 +74,16 @@ mutual
   unguarded M (exists v s f) = ((λ a says. tt), unguarded M f)
   unguarded M (forall v s f) = tt
 
+  -- and of a list
   pub all_unguarded : (M : Structure) (fs : Forms) → EachOfGuard M Unguarded fs
   all_unguarded M no_forms = tt
   all_unguarded M (form f fs) = (unguarded M f, all_unguarded M fs)
 
+-- the core steps of a query build what its core form names
 pub core_builds : (db : List Relation) (q : Question) → HasElements q.body → Builds (structure db q) (head_step db q) Any Unguarded [] (core_steps db q) (Names db (core_form (has_named_sort db) q))
 core_builds db q h = builds (structure db q) (head_step db q) Any Unguarded (λ vs ws c x. tt) (core_form (has_named_sort db) q) (core_of_query (has_named_sort db) q h) (any_scope (core_form (has_named_sort db) q)) (unguarded (structure db q) (core_form (has_named_sort db) q)) []
 
+-- where there is no step, each is made of earlier ones
 no_step : (M : Structure) (head : HeadStep) → AreMade M head []
 no_step M head zero step e = cc
 no_step M head (suc s) step e = cc
@@ -111,6 +117,7 @@ head_marks db q =
     let two = (all_append (Contains room) (head_variables q.head) (free q.body)).0 (all_self room) in
     (guarded_within (has_named_sort db) q db room (marks q.body db) two.0 (two.1, all_self (marks q.body db))).1
 
+-- so the periods of `head` are the body's
 head_periods : (db : List Relation) (q : Question) → AllByRecursion (Contains (periods q.body db)) (periods (guarded (has_named_sort db) q.head q.body) db)
 head_periods db q = marked_periods (guarded (has_named_sort db) q.head q.body) q.body db (head_marks db q)
 
@@ -120,6 +127,7 @@ last_marks db q h =
     let f : Form = guarded (has_named_sort db) q.head q.body in
     ((last_names db q h (free f) (marks q.body db)).1 (all_self (free f), head_marks db q)).1
 
+-- so its periods are the body's
 last_periods : (db : List Relation) (q : Question) → HasElements q.body → AllByRecursion (Contains (periods q.body db)) (periods (formula_at (core_steps db q) (length (core_steps db q))) db)
 last_periods db q h = marked_periods (formula_at (core_steps db q) (length (core_steps db q))) q.body db (last_marks db q h)
 
@@ -130,6 +138,7 @@ last_of_head db q h =
     let a : Form = formula_at (core_steps db q) (length (core_steps db q)) in
     marked_periods f a db ((last_names db q h (free a) (marks a db)).0 (names_self db a)).1
 
+-- the last core step names the periods of `head`
 head_of_last : (db : List Relation) (q : Question) → HasElements q.body → AllByRecursion (Contains (periods (guarded (has_named_sort db) q.head q.body) db)) (periods (formula_at (core_steps db q) (length (core_steps db q))) db)
 head_of_last db q h =
     let f : Form = guarded (has_named_sort db) q.head q.body in
@@ -150,6 +159,7 @@ plan_under db q h =
 
 -- ---- steps by their numbers
 
+-- what holds of each element holds of the one at a place
 all_get : {X : Type 0} (p : X → Type 0) (xs : List X) (i : ℕ) (x : X) → slice_get xs i ≡ Some x → AllByRecursion p xs → p x
 all_get p [] i x e h = cc
 all_get p (y ∷ ys) zero x e h = let d : y ≡ x = cc in subst p d h.0
@@ -160,16 +170,19 @@ pub all_step : (p : PlanStep → Type 0) (steps : Steps) (s : ℕ) (step : PlanS
 all_step p steps zero step e h = cc
 all_step p steps (suc i) step e h = all_get p steps i step e h
 
+-- a step that is there has a number up to the length
 pub step_within : (steps : Steps) (s : ℕ) (step : PlanStep) → step_at steps s ≡ Some step → s ≤ length steps
 step_within steps zero step e = cc
 step_within steps (suc i) step e = let l : i < length steps = within steps i step e in omega arith
 
+-- and for each such number there is a step
 pub step_found : (steps : Steps) (s : ℕ) → 0 < s → s ≤ length steps → (step : PlanStep) × (step_at steps s ≡ Some step)
 step_found steps zero h k = absurd (omega arith)
 step_found steps (suc i) h k = found steps i (omega arith)
 
 -- ---- a period is a multiple of those of the steps that are read
 
+-- a list of three parts has the first two
 in_three : (ks xs ys zs : List ℕ) → ks ≡ xs ++ (ys ++ zs) → AllByRecursion (Contains ks) xs × AllByRecursion (Contains ks) ys
 in_three ks xs ys zs e =
     let all : List ℕ = xs ++ (ys ++ zs) in
@@ -199,6 +212,7 @@ tests_periods : (ts : List Test) (db : List Relation) → periods_each (tests_as
 tests_periods [] db = refl
 tests_periods (t ∷ ts) db = ap (λ ks. test_periods t ++ ks) (tests_periods ts db)
 
+-- and the third
 in_last : (ks xs ys zs : List ℕ) → ks ≡ xs ++ (ys ++ zs) → AllByRecursion (Contains ks) zs
 in_last ks xs ys zs e =
     let all : List ℕ = xs ++ (ys ++ zs) in
@@ -226,6 +240,7 @@ test_alone db (Compare left op right) h = refl
 test_alone db (Member term point) h = lcm_one (nat_abs point.period) h.0
 test_alone db (Equal left right) h = refl
 
+-- a step that meets no second one keeps the period
 period_kept : (M : Structure) (head : HeadStep) (at : ℕ → Form) (periods_at : ℕ → ℕ) → ((l : ℕ) → periods_at l ≡ period M.relations (at l)) → period M.relations head.formula ≡ period M.relations (at head.of)
     → (kind : StepKind) (f : Form) → IsFormula M head at kind f → AllByRecursion (λ k. 1 ≤ k) (periods f M.relations) → KeepsPeriod periods_at (period M.relations f) kind
 period_kept M head at periods_at same top (Scan name terms) f h low = tt
@@ -250,6 +265,7 @@ period_of M head steps made l = by_step (step_at steps l) refl
 
 -- ---- a reach is at least the reaches of the steps that are read
 
+-- a reach is at least those of the steps that are read
 read_reaches : (db : List Relation) (at : ℕ → ℕ) (K r : ℕ) (kind : StepKind) → r ≡ reach_of db at K kind → AllByRecursion (λ l. at l ≤ r) (operands kind)
 read_reaches db at K r (Scan name terms) e = tt
 read_reaches db at K r (Leaf t) e = tt
@@ -321,6 +337,7 @@ module _ (db : List Relation) (q : Question) (some : HasElements q.body) (low : 
   step_low : (s : ℕ) (step : PlanStep) → step_at (plan db q) s ≡ Some step → AllByRecursion (λ k. 1 ≤ k) (periods step.formula db)
   step_low s step e = all_from (λ k. 1 ≤ k) (periods q.body db) (periods step.formula db) (marked_periods step.formula q.body db (step_marks db q some s step e)) low
 
+  -- the step before `head` is the last core step
   before_head : formula_at (plan db q) (length (core_steps db q)) ≡ formula_at (core_steps db q) (length (core_steps db q))
   before_head = formula_front (core_steps db q) (step_behind (structure db q) (Extend (length (core_steps db q))) (guarded (has_named_sort db) q.head q.body) (core_steps db q) ∷ []) (length (core_steps db q)) (omega arith)
 
@@ -337,9 +354,11 @@ module _ (db : List Relation) (q : Question) (some : HasElements q.body) (low : 
       let m : AllByRecursion (λ k. 1 ≤ k) (periods f db) = all_from (λ k. 1 ≤ k) (periods q.body db) (periods f db) (head_periods db q) low in
       subst (λ g. period db f ≡ period db g) (sym before_head) (lcm_same (periods f db) (periods a db) m l (last_of_head db q some) (head_of_last db q some))
 
+  -- so the period of `head` is no greater
   top_period : period db (guarded (has_named_sort db) q.head q.body) ≤ period db (formula_at (plan db q) (length (core_steps db q)))
   top_period = let e : period db (guarded (has_named_sort db) q.head q.body) ≡ period db (formula_at (plan db q) (length (core_steps db q))) = same_period in omega arith
 
+  -- each step up to n has a reach of at least its period
   wide_to : (n s : ℕ) (step : PlanStep) → s ≤ n → step_at (plan db q) s ≡ Some step → period db step.formula ≤ step.reach
   wide_to zero zero step le e = cc
   wide_to zero (suc s) step le e = absurd (omega arith)
@@ -355,6 +374,7 @@ module _ (db : List Relation) (q : Question) (some : HasElements q.body) (low : 
       m.operands)
       (subst (λ K. step.reach ≡ reach_of db (reach_at (plan db q)) K step.kind) m.period m.reach)
 
+  -- periods and reaches rise along a plan
   pub rises : (s : ℕ) (step : PlanStep) → step_at (plan db q) s ≡ Some step → Rises db q s step
   rises s step e =
       let m : IsMade (structure db q) (head_step db q) (plan db q) s step = plan_made db q some s step e in
@@ -379,10 +399,12 @@ module _ (db : List Relation) (q : Question) (some : HasElements q.body) (low : 
         below = u.0;
       }
 
+-- two lists of formulas together name the periods of both
 periods_joined : (fs gs : Forms) (db : List Relation) → periods_each (joined fs gs) db ≡ periods_each fs db ++ periods_each gs db
 periods_joined no_forms gs db = refl
 periods_joined (form f fs) gs db = ap (λ ks. periods f db ++ ks) (periods_joined fs gs db) ∙ sym (append_assoc (periods f db) (periods_each fs db) (periods_each gs db))
 
+-- sort elements name no period
 nothing_named : (columns : List Column) (db : List Relation) → periods_each (head_elements columns) db ≡ []
 nothing_named [] db = refl
 nothing_named (c ∷ cs) db = periods_joined (column_elements c.sort c.name) (head_elements cs) db ∙ ap (λ ks. ks ++ periods_each (head_elements cs) db) (column_periods c.sort c.name db) ∙ nothing_named cs db
@@ -392,6 +414,7 @@ nothing_named (c ∷ cs) db = periods_joined (column_elements c.sort c.name) (he
     column_periods Data v db = refl
     column_periods (Named name) v db = refl
 
+-- the formula of `head` names the periods of the body, in order
 guarded_periods : (named : Bool) (q : Question) (db : List Relation) → periods (guarded named q.head q.body) db ≡ periods q.body db
 guarded_periods false q db = refl
 guarded_periods true q db = periods_joined (head_elements q.head) (form q.body no_forms) db ∙ ap (λ ks. ks ++ (periods q.body db ++ [])) (nothing_named q.head db) ∙ append-nil (periods q.body db)

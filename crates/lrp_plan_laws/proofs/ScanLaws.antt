@@ -35,10 +35,12 @@ atom_texts db a = term_texts (columns_of (relation_named db a.name)) a.terms
 all_before : (xs ys : List (Sort × Text)) (zs : List (Sort × Text)) → AllByRecursion (Contains xs) zs → AllByRecursion (Contains (xs ++ ys)) zs
 all_before xs ys zs h = all_map (Contains xs) (Contains (xs ++ ys)) zs (λ z c. in_left xs ys z c) h
 
+-- and behind
 all_behind : (xs ys : List (Sort × Text)) (zs : List (Sort × Text)) → AllByRecursion (Contains ys) zs → AllByRecursion (Contains (xs ++ ys)) zs
 all_behind xs ys zs h = all_map (Contains ys) (Contains (xs ++ ys)) zs (λ z c. in_right xs ys z c) h
 
 mutual
+  -- the texts of an atom's terms are among those of the formula
   atom_in : (f : Form) (db : List Relation) (columns : List Column) (a : Atom) → Contains (atoms f) a → AllByRecursion (Contains (form_texts f db columns)) (atom_texts db a)
   atom_in (atom name terms) db columns a c =
       ⊎_elim (λ e. subst (λ b. AllByRecursion (Contains (form_texts (atom name terms) db columns)) (atom_texts db b)) e (all_self (form_texts (atom name terms) db columns))) (λ d. absurd (contains_none a d))
@@ -53,6 +55,7 @@ mutual
   atom_in (exists v s f) db columns a c = atom_in f db (record { name = v; sort = s } ∷ columns) a c
   atom_in (forall v s f) db columns a c = atom_in f db (record { name = v; sort = s } ∷ columns) a c
 
+  -- and of a list of formulas
   atoms_in : (fs : Forms) (db : List Relation) (columns : List Column) (a : Atom) → Contains (atoms_each fs) a → AllByRecursion (Contains (forms_texts fs db columns)) (atom_texts db a)
   atoms_in no_forms db columns a c = absurd (contains_none a c)
   atoms_in (form f fs) db columns a c =
@@ -60,10 +63,12 @@ mutual
 
 -- ---- they are constants
 
+-- the text of an entry is one of the texts
 in_texts : (es : List (Sort × Text)) (e : Sort × Text) → Contains es e → Contains (map (λ entry. entry.1) es) e.1
 in_texts [] e c = absurd (contains_none e c)
 in_texts (d ∷ ds) e c = ⊎_elim (λ same. subst (λ x. Contains (d.1 ∷ map (λ entry. entry.1) ds) x.1) same (contains_first d.1 (map (λ entry. entry.1) ds))) (λ k. contains_later d.1 e.1 (map (λ entry. entry.1) ds) (in_texts ds e k)) (cons_cases d e ds c)
 
+-- each text of a database and a query is a constant
 entry_known : (db : List Relation) (q : Question) (e : Sort × Text) → Contains (all_texts db q) e → Contains (constants db q) e.1
 entry_known db q e c = (contains_in_order (map (λ entry. entry.1) (all_texts db q)) e.1).1 (in_texts (all_texts db q) e c)
 
@@ -81,12 +86,14 @@ among_known ds (c ∷ cs) (data_term (data_const t) ∷ ts) z h = (h.0, among_kn
 among_known ds (c ∷ cs) (data_term (data_var v) ∷ ts) z h = among_known ds cs ts z.1 h
 among_known ds (c ∷ cs) (time_term t ∷ ts) z h = among_known ds cs ts z.1 h
 
+-- the texts among the terms of an atom that fits
 atom_known : (db : List Relation) (q : Question) (a : Atom) (o : Option Relation) → MatchOption o ⊥ (λ r. AllZip FitsColumn r.columns a.terms) → AllByRecursion (λ entry. Contains (constants db q) entry.1) (term_texts (columns_of o) a.terms) → AllByRecursion (Contains (constants db q)) (texts_among a.terms)
 atom_known db q a None f h = absurd f
 atom_known db q a (Some r) f h = among_known (constants db q) r.columns a.terms f h
 
 -- ---- a scan
 
+-- each scan is of an atom of the body, with constants among its terms
 pub scan_known : (db : List Relation) (q : Question) → HasElements q.body → AllByRecursion (FitsRelation db) (atoms q.body) → (s : ℕ) (step : PlanStep) → step_at (plan db q) s ≡ Some step
     → (name : Identifier) (terms : List Term) → step.kind ≡ Scan name terms → IsKnownScan db q (record { name = name; terms = terms })
 scan_known db q some fit s step e name terms kind =

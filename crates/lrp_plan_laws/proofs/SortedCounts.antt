@@ -19,6 +19,7 @@ use Rattle.lrp_plan_laws.proofs.SortedNames.{Occurs, same_name}
 
 -- ---- without one name
 
+-- names that pass as different are different
 other_is : (m n : Identifier) → bytes_eq m n ≡ false → m ≢ n
 other_is m n e same = let t : bytes_eq m n ≡ true = (bytes_decides m n).1 same in cc
 
@@ -49,9 +50,11 @@ left_over p m (n ∷ ns) h = at_name (bytes_eq m n) refl (left_over p m ns h.1)
     at_name true e rest = rest
     at_name false e rest = ((h.0, other_is m n e), rest)
 
+-- what holds of names holds of those other than m
 without_all : (p : Identifier → Type 0) (m : Identifier) (ns : List Identifier) → AllByRecursion p ns → AllByRecursion p (without m ns)
 without_all p m ns h = all_map (λ n. p n × (m ≢ n)) p (without m ns) (λ n x. x.0) (left_over p m ns h)
 
+-- different names stay different without m
 different_left : (m : Identifier) (ns : List Identifier) → AreDifferent ns → AreDifferent (without m ns)
 different_left m [] h = tt
 different_left m (n ∷ ns) h = at_name (bytes_eq m n) (different_left m ns h.1)
@@ -62,6 +65,7 @@ different_left m (n ∷ ns) h = at_name (bytes_eq m n) (different_left m ns h.1)
 
 -- ---- no more than there are
 
+-- a member other than the first is one of the others
 other_member : (m n : Identifier) (ms : List Identifier) → Contains (m ∷ ms) n → (m ≢ n) → Contains ms n
 other_member m n ms c ne = ⊎_elim (λ e. absurd (ne e)) (λ d. d) (cons_cases m n ms c)
 
@@ -75,6 +79,7 @@ no_more (m ∷ ms) names d h =
 
 -- ---- the names that are counted
 
+-- a name that passes as one of a list is one of it
 named_is : (ns : List Identifier) (n : Identifier) → is_named_in ns n ≡ true → Contains ns n
 named_is [] n e = cc
 named_is (m ∷ ms) n e = at_name (bytes_eq n m) refl e (named_is ms n)
@@ -103,6 +108,7 @@ module _ (passes : Sort → Bool) (bs : Binders) where
       by_pass true = omega arith
       by_pass false = omega arith
 
+  -- the tally is as long as the count
   tally_counts : (ns : List Identifier) → length (tally passes bs ns) ≡ count passes bs ns
   tally_counts [] = refl
   tally_counts (n ∷ ns) = by_named (is_named_in ns n) (tally_counts ns)
@@ -120,6 +126,7 @@ module _ (passes : Sort → Bool) (bs : Binders) where
       passes_of None = true
       passes_of (Some u) = passes u
 
+  -- a name behind a chosen one
   past_chosen : (o : Option Sort) (m n : Identifier) (ms : List Identifier) → Contains ms n → Contains (chosen passes o m ms) n
   past_chosen None m n ms c = c
   past_chosen (Some t) m n ms c = by_pass (passes t)
@@ -128,6 +135,7 @@ module _ (passes : Sort → Bool) (bs : Binders) where
       by_pass true = contains_later m n ms c
       by_pass false = c
 
+  -- each name whose sort passes is in the tally
   in_tally : (ns : List Identifier) (n : Identifier) (s : Sort) → Contains ns n → binder_sort bs n ≡ Some s → passes s ≡ true → Contains (tally passes bs ns) n
   in_tally [] n s c e p = absurd (contains_none n c)
   in_tally (m ∷ ms) n s c e p = by_named (is_named_in ms m) refl (cons_cases m n ms c) (λ d. in_tally ms n s d e p)
@@ -147,15 +155,18 @@ module _ (passes : Sort → Bool) (bs : Binders) where
 
 -- ---- variables that are counted
 
+-- where not the one or the other holds, neither does
 neither : (a b : Bool) → (a || b) ≡ false → (a ≡ false) × (b ≡ false)
 neither true b e = cc
 neither false b e = (refl, e)
 
+-- a data sort passes as one
 data_passes : (s : Sort) → IsDataSort s → is_data s ≡ true
 data_passes Time d = absurd d
 data_passes Data d = refl
 data_passes (Named n) d = refl
 
+-- no sort is both that of times and a data sort
 pub one_kind : (o : Option Sort) (s : Sort) → o ≡ Some Time → IsDataSort s → o ≡ Some s → ⊥
 one_kind o Time e d f = d
 one_kind o Data e d f = cc

@@ -38,16 +38,19 @@ pub both_none : {F : Type 0} (xs ys : List F) → xs ++ ys ≡ [] → (xs ≡ []
 both_none [] ys e = (refl, e)
 both_none (x ∷ xs) ys e = cc
 
+-- what is not false is true
 pub not_false : (b : Bool) → not b ≡ false → b ≡ true
 not_false true e = refl
 not_false false e = cc
 
+-- where there is no fault, its test is false
 pub none_if : {F : Type 0} (b : Bool) (f : F) → fault_if b f ≡ [] → b ≡ false
 none_if true f e = cc
 none_if false f e = refl
 
 -- ---- binders
 
+-- names that pass as the same are the same
 pub same_name : (v w : Identifier) → bytes_eq v w ≡ true → v ≡ w
 same_name v w e = (bytes_decides v w).0 e
 
@@ -55,6 +58,7 @@ same_name v w e = (bytes_decides v w).0 e
 pub bound_here : (c : RawColumn) (bs : Binders) (n : Identifier) → bytes_eq c.name n ≡ true → binder_sort (c ∷ bs) n ≡ Some c.sort
 bound_here c bs n e = ap (λ b. option_map (λ d. d.sort) (cond b (Some c) (find (λ d. bytes_eq d.name n) bs))) e
 
+-- a binder of another name hides nothing
 pub bound_further : (c : RawColumn) (bs : Binders) (n : Identifier) → bytes_eq c.name n ≡ false → binder_sort (c ∷ bs) n ≡ binder_sort bs n
 bound_further c bs n e = ap (λ b. option_map (λ d. d.sort) (cond b (Some c) (find (λ d. bytes_eq d.name n) bs))) e
 
@@ -63,6 +67,7 @@ abbrev pub IsBound : Binders → Variable → Type 0
 IsBound bs (time_variable n) = binder_sort bs n ≡ Some Time
 IsBound bs (data_variable n) = (s : Sort) × IsDataSort s × (binder_sort bs n ≡ Some s)
 
+-- the name of a variable
 abbrev pub name_of : Variable → Identifier
 name_of (time_variable n) = n
 name_of (data_variable n) = n
@@ -71,12 +76,15 @@ name_of (data_variable n) = n
 abbrev pub Occurs : List Identifier → Binders → Variable → Type 0
 Occurs names bs v = Contains names (name_of v) × IsBound bs v
 
+-- among more names, behind these
 pub all_left : (xs ys : List Identifier) (bs : Binders) (vs : List Variable) → AllByRecursion (Occurs xs bs) vs → AllByRecursion (Occurs (xs ++ ys) bs) vs
 all_left xs ys bs vs h = all_map (Occurs xs bs) (Occurs (xs ++ ys) bs) vs (λ v o. (in_left xs ys (name_of v) o.0, o.1)) h
 
+-- or before these
 pub all_right : (xs ys : List Identifier) (bs : Binders) (vs : List Variable) → AllByRecursion (Occurs ys bs) vs → AllByRecursion (Occurs (xs ++ ys) bs) vs
 all_right xs ys bs vs h = all_map (Occurs ys bs) (Occurs (xs ++ ys) bs) vs (λ v o. (in_right xs ys (name_of v) o.0, o.1)) h
 
+-- variables among two lists of names
 pub all_both : (xs ys : List Identifier) (bs : Binders) (vs ws : List Variable) → AllByRecursion (Occurs xs bs) vs → AllByRecursion (Occurs ys bs) ws → AllByRecursion (Occurs (xs ++ ys) bs) (vs ++ ws)
 all_both xs ys bs vs ws h k = (all_append (Occurs (xs ++ ys) bs) vs ws).1 (all_left xs ys bs vs h, all_right xs ys bs ws k)
 
@@ -86,22 +94,26 @@ all_both xs ys bs vs ws h k = (all_append (Occurs (xs ++ ys) bs) vs ws).1 (all_l
 abbrev term_as : TermSort → RawTermKind → Term
 term_as s k = if is_data_term s then data_term (data_of k) else time_term (time_of k)
 
+-- a term with its place
 abbrev raw_term : RawTermKind → Place → RawTerm
 raw_term k p = record { kind = k; place = p }
 
 module _ (bs : Binders) (n : Identifier) where
+  -- a name alone, as a term of an atom
   alone_bound : (o : Option Sort) (p : Place) → binder_sort bs n ≡ o → variable_faults o false p ≡ [] → AllByRecursion (Occurs (n ∷ []) bs) (variables_of_term (term_as (alone_sort o) (Var n)))
   alone_bound None p e f = cc
   alone_bound (Some Time) p e f = ((contains_first n [], e), tt)
   alone_bound (Some Data) p e f = ((contains_first n [], (Data, tt, e)), tt)
   alone_bound (Some (Named m)) p e f = ((contains_first n [], (Named m, tt, e)), tt)
 
+  -- a name alone, that is read as a time
   alone_time : (o : Option Sort) (p : Place) → binder_sort bs n ≡ o → variable_faults o false p ≡ [] → is_data_term (alone_sort o) ≡ false → AllByRecursion (Occurs (n ∷ []) bs) (time_variable n ∷ [])
   alone_time None p e f d = cc
   alone_time (Some Time) p e f d = ((contains_first n [], e), tt)
   alone_time (Some Data) p e f d = cc
   alone_time (Some (Named m)) p e f d = cc
 
+  -- a name alone, that is read as a text
   alone_data : (o : Option Sort) (p : Place) → binder_sort bs n ≡ o → variable_faults o false p ≡ [] → is_data_term (alone_sort o) ≡ true → AllByRecursion (Occurs (n ∷ []) bs) (data_variable n ∷ [])
   alone_data None p e f d = cc
   alone_data (Some Time) p e f d = cc
@@ -115,6 +127,7 @@ module _ (bs : Binders) (n : Identifier) where
   shifted_time (Some Data) p e f = cc
   shifted_time (Some (Named m)) p e f = cc
 
+  -- and has the sort of times
   shifted_known : (o : Option Sort) (p : Place) → variable_faults o true p ≡ [] → shifted_sort o ≡ of_sort Time
   shifted_known None p f = cc
   shifted_known (Some s) p f = refl
@@ -142,6 +155,7 @@ module _ (bs : Binders) (p : Place) where
   data_bound (Var n) f d = alone_data bs n (binder_sort bs n) p refl f d
   data_bound (Shifted n plus) f d = tt
 
+-- the terms of an atom
 terms_bound : (bs : Binders) (ts : List RawTerm) → flat_map (term_faults bs) ts ≡ [] → AllByRecursion (Occurs (flat_map term_names ts) bs) (flat_map variables_of_term (map (term_of bs) ts))
 terms_bound bs [] f = tt
 terms_bound bs (t ∷ ts) f =
@@ -156,16 +170,19 @@ IsKnown (of_sort s) = Unit {0}
 IsKnown any_data = Unit {0}
 IsKnown unsorted = ⊥
 
+-- a name that has a binder has a sort
 alone_known : (o : Option Sort) (b : Bool) (p : Place) → variable_faults o b p ≡ [] → IsKnown (alone_sort o)
 alone_known None b p f = cc
 alone_known (Some s) b p f = tt
 
+-- a term without a fault has a sort
 kind_known : (bs : Binders) (p : Place) (k : RawTermKind) → kind_faults bs k p ≡ [] → IsKnown (kind_sort bs k)
 kind_known bs p (Int x) f = tt
 kind_known bs p (Text t) f = tt
 kind_known bs p (Var n) f = alone_known (binder_sort bs n) false p f
 kind_known bs p (Shifted n plus) f = subst IsKnown (sym (shifted_known bs n (binder_sort bs n) p f)) tt
 
+-- sorts that are one are of one kind
 pub same_kind : (s t : Sort) → not (same_sort t s) ≡ false → is_data s ≡ is_data t
 same_kind Time Time e = refl
 same_kind Time Data e = cc
@@ -177,6 +194,7 @@ same_kind (Named m) Time e = cc
 same_kind (Named m) Data e = cc
 same_kind (Named m) (Named n) e = refl
 
+-- a sort that is not that of times is a data sort
 pub no_time : (s : Sort) → is_time s ≡ false → is_data s ≡ true
 no_time Time e = cc
 no_time Data e = refl
@@ -193,9 +211,11 @@ alike any_data unsorted h k e = absurd k
 alike unsorted b h k e = absurd h
 
 module _ (bs : Binders) (l r : RawTerm) (lf : term_faults bs l ≡ []) (rf : term_faults bs r ≡ []) where
+  -- two sides that are read as times
   times_bound : (op : Op) → is_data_term (term_sort bs l) ≡ false → is_data_term (term_sort bs r) ≡ false → AllByRecursion (Occurs (term_names l ++ term_names r) bs) (variables_of_test (Compare (time_of l.kind) op (time_of r.kind)))
   times_bound op d e = all_both (term_names l) (term_names r) bs (variables_of_time (time_of l.kind)) (variables_of_time (time_of r.kind)) (time_bound bs l.place l.kind lf d) (time_bound bs r.place r.kind rf e)
 
+  -- two sides of `=`, of one kind
   equal_bound : (d e : Bool) → is_data_term (term_sort bs l) ≡ d → is_data_term (term_sort bs r) ≡ e → d ≡ e
       → AllByRecursion (Occurs (term_names l ++ term_names r) bs) (variables_of_test (if d && e then Equal (data_of l.kind) (data_of r.kind) else Compare (time_of l.kind) Eq (time_of r.kind)))
   equal_bound true true x y same = all_both (term_names l) (term_names r) bs (variables_of_data (data_of l.kind)) (variables_of_data (data_of r.kind)) (data_bound bs l.place l.kind lf x) (data_bound bs r.place r.kind rf y)
@@ -203,9 +223,11 @@ module _ (bs : Binders) (l r : RawTerm) (lf : term_faults bs l ≡ []) (rf : ter
   equal_bound true false x y same = cc
   equal_bound false true x y same = cc
 
+  -- two sides of another comparison
   ordered_bound : (op : Op) → time_faults bs l ++ time_faults bs r ≡ [] → AllByRecursion (Occurs (term_names l ++ term_names r) bs) (variables_of_test (Compare (time_of l.kind) op (time_of r.kind)))
   ordered_bound op f = let x = both_none (time_faults bs l) (time_faults bs r) f in times_bound op (none_if (is_data_term (term_sort bs l)) _ x.0) (none_if (is_data_term (term_sort bs r)) _ x.1)
 
+  -- two sides of a comparison without a fault
   compare_bound : (op : Op) → compare_faults bs l op r ≡ [] → AllByRecursion (Occurs (term_names l ++ term_names r) bs) (variables_of_test (compare_of bs l op r))
   compare_bound Eq f =
       equal_bound (is_data_term (term_sort bs l)) (is_data_term (term_sort bs r)) refl refl
@@ -217,6 +239,7 @@ module _ (bs : Binders) (l r : RawTerm) (lf : term_faults bs l ≡ []) (rf : ter
 
 -- ---- under a binder
 
+-- another name stays
 pub in_without : (m : Identifier) (names : List Identifier) (n : Identifier) → Contains names n → bytes_eq m n ≡ false → Contains (without m names) n
 in_without m [] n c e = absurd (contains_none n c)
 in_without m (k ∷ ks) n c e = at_name (bytes_eq m k) refl (cons_cases k n ks c) (in_without m ks n)
@@ -244,6 +267,7 @@ own_variable c bs (data_variable n) e b = by_sort c.sort b.0 b.1 (sym (bound_her
     by_sort Data t d q = ap data_variable (same_name c.name n e)
     by_sort (Named m) t d q = ap data_variable (same_name c.name n e)
 
+-- a variable of another name is bound outside
 other_bound : (c : RawColumn) (bs : Binders) (v : Variable) → bytes_eq c.name (name_of v) ≡ false → IsBound (c ∷ bs) v → IsBound bs v
 other_bound c bs (time_variable n) e b = sym (bound_further c bs n e) ∙ b
 other_bound c bs (data_variable n) e b = (b.0, b.1, sym (bound_further c bs n e) ∙ b.2)
@@ -268,10 +292,12 @@ not_wide bs bound f inside e =
     let x = both_none (fault_if (too_many bs (bound ++ free_names f)) (fault Wide (place_of f))) inside e in
     (none_if (too_many bs (bound ++ free_names f)) (fault Wide (place_of f)) x.0, x.1)
 
+-- and so is the formula of a quantifier, with the quantifier's variable
 pub not_wide_inside : (db : List Relation) (bs : Binders) (c : RawColumn) (f : RawForm) (inside : List QueryFault) → binder_faults db bs c ++ widened (c ∷ bs) (c.name ∷ []) f inside ≡ [] → (too_many (c ∷ bs) (c.name ∷ free_names f) ≡ false) × (inside ≡ [])
 not_wide_inside db bs c f inside e = not_wide (c ∷ bs) (c.name ∷ []) f inside (both_none (binder_faults db bs c) (widened (c ∷ bs) (c.name ∷ []) f inside) e).1
 
 mutual
+  -- each free variable of a formula without a fault occurs in it and is of its binder's kind
   pub raw_bound : (f : RawForm) (db : List Relation) (bs : Binders) → form_faults f db bs ≡ [] → AllByRecursion (Occurs (free_names f) bs) (free (plain f bs))
   raw_bound (raw_atom p n ts) db bs e = terms_bound bs ts (both_none (flat_map (term_faults bs) ts) _ e).0
   raw_bound (raw_compare p l op r) db bs e =
@@ -293,6 +319,7 @@ mutual
   raw_bound (raw_exists p c f) db bs e = under c bs (free_names f) (free (plain f (c ∷ bs))) (raw_bound f db (c ∷ bs) (not_wide_inside db bs c f (form_faults f db (c ∷ bs)) e).1)
   raw_bound (raw_forall p c f) db bs e = under c bs (free_names f) (free (plain f (c ∷ bs))) (raw_bound f db (c ∷ bs) (not_wide_inside db bs c f (form_faults f db (c ∷ bs)) e).1)
 
+  -- and each of a list
   pub raws_bound : (fs : RawForms) (db : List Relation) (bs : Binders) → forms_faults fs db bs ≡ [] → AllByRecursion (Occurs (free_names_each fs) bs) (free_each (plain_each fs bs))
   raws_bound no_raws db bs e = tt
   raws_bound (raw f fs) db bs e =

@@ -31,6 +31,7 @@ use Rattle.lrp_plan_laws.proofs.SortedCounts.{narrow_by, no_more, one_kind}
 
 -- ---- parts of a formula
 
+-- a binder's variable is bound by it
 own_bound : (c : RawColumn) (bs : Binders) → IsBound (c ∷ bs) (bound_by c.sort c.name)
 own_bound c bs = by_sort c.sort refl
   where
@@ -39,6 +40,7 @@ own_bound c bs = by_sort c.sort refl
     by_sort Data e = (Data, tt, bound_here c bs c.name (own_name c.name) ∙ ap Some e)
     by_sort (Named m) e = (Named m, tt, bound_here c bs c.name (own_name c.name) ∙ ap Some e)
 
+-- and occurs among names that begin with its own
 own_occurs : (c : RawColumn) (bs : Binders) (names : List Identifier) → Occurs (c.name ∷ names) (c ∷ bs) (bound_by c.sort c.name)
 own_occurs c bs names = (by_sort c.sort, own_bound c bs)
   where
@@ -55,9 +57,11 @@ narrow_inside db bs c f e =
     (own_occurs c bs (free_names f), all_map (Occurs (free_names f) (c ∷ bs)) (Occurs (c.name ∷ free_names f) (c ∷ bs)) (free (plain f (c ∷ bs))) (λ v o. (contains_later c.name (name_of v) (free_names f) o.0, o.1)) (raw_bound f db (c ∷ bs) x.1))
     x.0
 
+-- a formula that is not too wide has narrow variables
 narrow_child : (db : List Relation) (bs : Binders) (f : RawForm) → widened bs [] f (form_faults f db bs) ≡ [] → IsNarrow (free (plain f bs))
 narrow_child db bs f e = let x = not_wide bs [] f (form_faults f db bs) e in narrow_by bs (free_names f) (free (plain f bs)) (raw_bound f db bs x.1) x.0
 
+-- fewer variables are narrow too
 narrow_tail : (v : Variable) (vs : List Variable) → IsNarrow (v ∷ vs) → IsNarrow vs
 narrow_tail v vs n = record {
   times = λ names d h. n.times names d (all_map (λ m. Contains vs (time_variable m)) (λ m. Contains (v ∷ vs) (time_variable m)) names (λ m c. contains_later v (time_variable m) vs c) h);
@@ -66,6 +70,7 @@ narrow_tail v vs n = record {
 }
 
 mutual
+  -- each part of a formula without a fault has narrow variables
   pub narrow_scopes : (f : RawForm) (db : List Relation) (bs : Binders) → form_faults f db bs ≡ [] → IsNarrow (free (plain f bs)) → EachScope IsNarrow (plain f bs)
   narrow_scopes (raw_atom p name ts) db bs e n = n
   narrow_scopes (raw_compare p l op r) db bs e n = n
@@ -84,6 +89,7 @@ mutual
       let w : IsNarrow (bound_by c.sort c.name ∷ free (plain f (c ∷ bs))) = narrow_inside db bs c f e in
       (w, narrow_scopes f db (c ∷ bs) (not_wide_inside db bs c f (form_faults f db (c ∷ bs)) e).1 (narrow_tail (bound_by c.sort c.name) (free (plain f (c ∷ bs))) w))
 
+  -- and each of a list
   pub narrow_each : (fs : RawForms) (db : List Relation) (bs : Binders) → forms_faults fs db bs ≡ [] → EachOfScope IsNarrow (plain_each fs bs)
   narrow_each no_raws db bs e = tt
   narrow_each (raw f fs) db bs e =
@@ -92,9 +98,11 @@ mutual
 
 -- ---- the head's names differ
 
+-- the names of binders
 abbrev pub names_in : Binders → List Identifier
 names_in bs = map (λ b. b.name) bs
 
+-- a name that passes as none of a list differs from each
 not_named : (ns : List Identifier) (n : Identifier) → is_named_in ns n ≡ false → AllByRecursion (λ m. m ≢ n) ns
 not_named [] n e = tt
 not_named (m ∷ ms) n e = at_name (bytes_eq n m) refl e (not_named ms n)
@@ -111,18 +119,21 @@ module _ (db : List Relation) where
       let y = both_none (fault_if (is_named_in (names_in bs) c.name) (fault Rebound c.place)) (sort_faults db c.sort c.sort_place) x.0 in
       (not_named (names_in bs) c.name (none_if (is_named_in (names_in bs) c.name) (fault Rebound c.place) y.0), (y.1, x.1))
 
+  -- a name that is bound before a head is no name of the head
   apart_from : (n : Identifier) (bs : Binders) (cs : List RawColumn) → head_faults db bs cs ≡ [] → Contains (names_in bs) n → AllByRecursion (λ d. n ≢ d.name) (map column_of cs)
   apart_from n bs [] e c = tt
   apart_from n bs (d ∷ ds) e c =
       let x = head_first bs d ds e in
       (all_of (λ m. m ≢ d.name) (names_in bs) n x.0 c, apart_from n (d ∷ bs) ds x.1.1 (contains_later d.name n (names_in bs) c))
 
+  -- a head's names differ
   pub names_differ : (bs : Binders) (cs : List RawColumn) → head_faults db bs cs ≡ [] → HaveNames (map column_of cs)
   names_differ bs [] e = tt
   names_differ bs (c ∷ cs) e = let x = head_first bs c cs e in (apart_from c.name (c ∷ bs) cs x.1.1 (contains_first c.name (names_in bs)), names_differ (c ∷ bs) cs x.1.1)
 
   -- ---- a head as binders, the last column first
 
+  -- the first column of a head is the binder behind the others
   pub turned_more : (c : RawColumn) (cs : List RawColumn) (bs : Binders) → reverse (c ∷ cs) ++ bs ≡ reverse cs ++ (c ∷ bs)
   turned_more c cs bs = ap (λ l. l ++ bs) (reverse-cons c cs) ∙ append_assoc (reverse cs) (c ∷ []) bs
 
@@ -133,6 +144,7 @@ module _ (db : List Relation) where
       let x = head_first bs d ds e in
       ap (λ l. binder_sort l n) (turned_more d ds bs) ∙ still ds (d ∷ bs) n x.1.1 (contains_later d.name n (names_in bs) c) ∙ bound_further d bs n (other_name d.name n (all_of (λ m. m ≢ d.name) (names_in bs) n x.0 c))
 
+  -- a variable of the sort of its binder
   bound_as : (bs : Binders) (s : Sort) (n : Identifier) → binder_sort bs n ≡ Some s → IsBound bs (bound_by s n)
   bound_as bs Time n e = e
   bound_as bs Data n e = (Data, tt, e)
@@ -174,14 +186,17 @@ bound_in_head cs (data_variable n) b = by_sort b.0 b.1 (⊎_elim (λ e. cc) (λ 
 
 -- ---- at most eight columns of each kind
 
+-- the names of the time columns
 abbrev times_in : List RawColumn → List Identifier
 times_in [] = []
 times_in (c ∷ cs) = cond (is_time c.sort) (c.name ∷ times_in cs) (times_in cs)
 
+-- and of the others
 abbrev texts_in : List RawColumn → List Identifier
 texts_in [] = []
 texts_in (c ∷ cs) = cond (is_time c.sort) (texts_in cs) (c.name ∷ texts_in cs)
 
+-- a time variable of a head is one of its time columns
 in_times : (cs : List RawColumn) (n : Identifier) → Contains (head_variables (map column_of cs)) (time_variable n) → Contains (times_in cs) n
 in_times [] n c = absurd (contains_none (time_variable n) c)
 in_times (d ∷ ds) n c = by_sort d.sort (cons_cases (bound_by d.sort d.name) (time_variable n) (head_variables (map column_of ds)) c) (in_times ds n)
@@ -194,6 +209,7 @@ in_times (d ∷ ds) n c = by_sort d.sort (cons_cases (bound_by d.sort d.name) (t
     by_sort (Named m) (inl e) rest = cc
     by_sort (Named m) (inr k) rest = rest k
 
+-- a data variable of a head is one of its others
 in_texts : (cs : List RawColumn) (n : Identifier) → Contains (head_variables (map column_of cs)) (data_variable n) → Contains (texts_in cs) n
 in_texts [] n c = absurd (contains_none (data_variable n) c)
 in_texts (d ∷ ds) n c = by_sort d.sort (cons_cases (bound_by d.sort d.name) (data_variable n) (head_variables (map column_of ds)) c) (in_texts ds n)
@@ -206,6 +222,7 @@ in_texts (d ∷ ds) n c = by_sort d.sort (cons_cases (bound_by d.sort d.name) (d
     by_sort (Named m) (inl e) rest = let same : d.name ≡ n = ap name_of e in subst (Contains (d.name ∷ texts_in ds)) same (contains_first d.name (texts_in ds))
     by_sort (Named m) (inr k) rest = contains_later d.name n (texts_in ds) (rest k)
 
+-- without a ninth column there are at most eight of each kind
 few_columns : (t u : ℕ) (cs : List RawColumn) → ninth (fault Wide) t u cs ≡ [] → t ≤ 8 → u ≤ 8 → (t + length (times_in cs) ≤ 8) × (u + length (texts_in cs) ≤ 8)
 few_columns t u [] e h k = (omega arith, omega arith)
 few_columns t u (c ∷ cs) e h k = by_time (is_time c.sort) e (few_columns (t + 1) u cs) (few_columns t (u + 1) cs)
@@ -252,15 +269,19 @@ module _ (db : List Relation) (q : RawQuestion) (sorted : IsWellSorted db q) whe
       let y = both_none (head_faults db [] q.head) (ninth (fault Wide) 0 0 q.head) x.0 in
       (y.0, (y.1, x.1))
 
+  -- the head's names differ
   pub head_names : HaveNames (plain_question q).head
   head_names = names_differ db [] q.head parts_sorted.0
 
+  -- the body's variables are bound by the head
   body_bound : AllByRecursion (IsBound (reverse q.head)) (free (plain_question q).body)
   body_bound = all_map (Occurs (free_names q.body) (reverse q.head)) (IsBound (reverse q.head)) (free (plain q.body (reverse q.head))) (λ v o. o.1) (raw_bound q.body db (reverse q.head) (not_wide (reverse q.head) [] q.body (form_faults q.body db (reverse q.head)) parts_sorted.1.1).1)
 
+  -- so they are variables of the head
   pub body_in_head : AreAmong (free (plain_question q).body) (head_variables (plain_question q).head)
   body_in_head v c = bound_in_head q.head v (all_of (IsBound (reverse q.head)) (free (plain_question q).body) v body_bound c)
 
+  -- the head's variables and the body's are narrow together
   pub narrow_head : IsNarrow (head_variables (plain_question q).head ++ free (plain_question q).body)
   narrow_head =
       let few = few_columns 0 0 q.head parts_sorted.1.0 (omega arith) (omega arith) in
@@ -270,5 +291,6 @@ module _ (db : List Relation) (q : RawQuestion) (sorted : IsWellSorted db q) whe
       narrow_bound q.head (head_variables (plain_question q).head ++ free (plain_question q).body) (omega arith) (omega arith)
       ((all_append (IsBound (reverse q.head)) (head_variables (map column_of q.head)) (free (plain_question q).body)).1 (h, body_bound))
 
+  -- and each part of the body has narrow variables
   pub narrow_body : EachScope IsNarrow (plain_question q).body
   narrow_body = narrow_scopes q.body db (reverse q.head) (not_wide (reverse q.head) [] q.body (form_faults q.body db (reverse q.head)) parts_sorted.1.1).1 (narrow_child db (reverse q.head) q.body parts_sorted.1.1)

@@ -40,6 +40,7 @@ use Rattle.lrp_plan_laws.proofs.SortedScopes.{names_in, head_first, still, turne
 
 -- ---- lists
 
+-- what follows for each element holds of some
 any_more : {X : Type 0} (p q : X → Bool) (xs : List X) → ((x : X) → p x ≡ true → q x ≡ true) → list_any p xs ≡ true → list_any q xs ≡ true
 any_more p q [] h e = e
 any_more p q (x ∷ xs) h e = at_first (p x) (q x) refl refl e (any_more p q xs h)
@@ -49,6 +50,7 @@ any_more p q (x ∷ xs) h e = at_first (p x) (q x) refl refl e (any_more p q xs 
     at_first true false u w f rest = let z : q x ≡ true = h x u in cc
     at_first false false u w f rest = rest f
 
+-- where it holds of none, it fails for each
 none_any : {X : Type 0} (p : X → Bool) (xs : List X) → list_any p xs ≡ false → AllByRecursion (λ x. p x ≡ false) xs
 none_any p [] e = tt
 none_any p (x ∷ xs) e = at_first (p x) refl e (none_any p xs)
@@ -57,18 +59,22 @@ none_any p (x ∷ xs) e = at_first (p x) refl e (none_any p xs)
     at_first true u f rest = cc
     at_first false u f rest = (u, rest f)
 
+-- what always holds, holds of each
 all_every : {X : Type 0} (p : X → Type 0) (xs : List X) → ((x : X) → p x) → AllByRecursion p xs
 all_every p [] h = tt
 all_every p (x ∷ xs) h = (h x, all_every p xs h)
 
+-- what holds of each image holds of all of them together
 all_flat : {X Y : Type 0} (p : Y → Type 0) (f : X → List Y) (xs : List X) → AllByRecursion (λ x. AllByRecursion p (f x)) xs → AllByRecursion p (flat_map f xs)
 all_flat p f [] h = tt
 all_flat p f (x ∷ xs) h = (all_append p (f x) (flat_map f xs)).1 (h.0, all_flat p f xs h.1)
 
+-- what follows from two facts on each element
 all_two : {X : Type 0} (p q r : X → Type 0) (xs : List X) → ((x : X) → p x → q x → r x) → AllByRecursion p xs → AllByRecursion q xs → AllByRecursion r xs
 all_two p q r [] f h k = tt
 all_two p q r (x ∷ xs) f h k = (f x h.0 k.0, all_two p q r xs f h.1 k.1)
 
+-- what holds of each element holds of the one that is found
 found_is : {X : Type 0} (p : X → Type 0) (t : X → Bool) (xs : List X) (x : X) → find t xs ≡ Some x → AllByRecursion p xs → p x
 found_is p t [] x e h = cc
 found_is p t (y ∷ ys) x e h = at_first (t y) e (λ f. found_is p t ys x f h.1)
@@ -82,19 +88,23 @@ found_is p t (y ∷ ys) x e h = at_first (t y) e (λ f. found_is p t ys x f h.1)
 
 -- ---- no sort is named
 
+-- the sort is not named
 abbrev IsUnnamed : Sort → Type 0
 IsUnnamed s = is_named s ≡ false
 
+-- a data sort that is not named is `data`
 plain_sort : (s : Sort) → IsUnnamed s → is_data s ≡ true → s ≡ Data
 plain_sort Time n d = cc
 plain_sort Data n d = refl
 plain_sort (Named m) n d = cc
 
+-- a sort that is not named and not that of times is `data`
 untimed : (s : Sort) → IsUnnamed s → is_time s ≡ false → s ≡ Data
 untimed Time n t = cc
 untimed Data n t = refl
 untimed (Named m) n t = cc
 
+-- a sort that is a named one is named
 same_named : (s : Sort) (m : Identifier) → same_sort s (Named m) ≡ true → is_named s ≡ true
 same_named Time m e = cc
 same_named Data m e = cc
@@ -110,10 +120,12 @@ sort_unnamed db (Named m) p none e =
     any_more (λ r. list_any (λ c. same_sort c.sort (Named m)) r.columns) (λ r. list_any (λ c. is_named c.sort) r.columns) db (λ r k. any_more (λ c. same_sort c.sort (Named m)) (λ c. is_named c.sort) r.columns (λ c j. same_named c.sort m j) k) h in
     cc
 
+-- the sort of a binder without a fault is not named
 binder_unnamed : (db : List Relation) (bs : Binders) (c : RawColumn) → has_named_sort db ≡ false → binder_faults db bs c ≡ [] → IsUnnamed c.sort
 binder_unnamed db bs c none e = sort_unnamed db c.sort c.sort_place none (both_none (fault_if _ _) (sort_faults db c.sort c.sort_place) e).1
 
 mutual
+  -- no quantifier of a formula without a fault is over a named sort
   binds_plainly : (f : RawForm) (db : List Relation) (bs : Binders) → has_named_sort db ≡ false → form_faults f db bs ≡ [] → BindsPlainly (plain f bs)
   binds_plainly (raw_atom p name ts) db bs none e = tt
   binds_plainly (raw_compare p l op r) db bs none e = tt
@@ -130,6 +142,7 @@ mutual
   binds_plainly (raw_forall p c f) db bs none e =
       (binder_unnamed db bs c none (both_none (binder_faults db bs c) (widened (c ∷ bs) (c.name ∷ []) f (form_faults f db (c ∷ bs))) e).0, binds_plainly f db (c ∷ bs) none (not_wide_inside db bs c f (form_faults f db (c ∷ bs)) e).1)
 
+  -- nor any of a list
   bind_plainly : (fs : RawForms) (db : List Relation) (bs : Binders) → has_named_sort db ≡ false → forms_faults fs db bs ≡ [] → BindPlainly (plain_each fs bs)
   bind_plainly no_raws db bs none e = tt
   bind_plainly (raw f fs) db bs none e =
@@ -138,16 +151,12 @@ mutual
 
 -- ---- the texts of the database
 
-abbrev HasData : Sort × Text → Type 0
-HasData entry = entry.0 ≡ Data
-
-AreUnnamed : List Column → Type 0
-AreUnnamed cs = AllByRecursion (λ c. is_named c.sort ≡ false) cs
-
+-- no column of the database is of a named sort
 columns_unnamed : (db : List Relation) → has_named_sort db ≡ false → AllByRecursion (λ r. AllByRecursion (λ c. is_named c.sort ≡ false) r.columns) db
 columns_unnamed db none =
     all_map (λ r. list_any (λ c. is_named c.sort) r.columns ≡ false) (λ r. AllByRecursion (λ c. is_named c.sort ≡ false) r.columns) db (λ r h. none_any (λ c. is_named c.sort) r.columns h) (none_any (λ r. list_any (λ c. is_named c.sort) r.columns) db none)
 
+-- so no text of a row has a named sort
 row_unnamed : (cs : List Column) (vs : List Value) → AllByRecursion (λ c. is_named c.sort ≡ false) cs → AllByRecursion (λ entry. is_named entry.0 ≡ false) (row_texts cs vs)
 row_unnamed [] [] h = tt
 row_unnamed [] (v ∷ vs) h = tt
@@ -155,6 +164,7 @@ row_unnamed (c ∷ cs) [] h = tt
 row_unnamed (c ∷ cs) (Const t ∷ vs) h = (h.0, row_unnamed cs vs h.1)
 row_unnamed (c ∷ cs) (Point at ∷ vs) h = row_unnamed cs vs h.1
 
+-- each text of the database has sort `data`
 database_data : (db : List Relation) → has_named_sort db ≡ false → HasTexts db → AllByRecursion (λ entry. entry.0 ≡ Data) (database_texts db)
 database_data db none texts =
     all_two (λ entry. is_named entry.0 ≡ false) (λ entry. is_data entry.0 ≡ true) (λ entry. entry.0 ≡ Data) (database_texts db) (λ entry n d. plain_sort entry.0 n d)
@@ -182,6 +192,7 @@ term_data bs (Shifted m plus) c cs us e n rest = by_sort (binder_sort bs m)
     by_sort None = rest
     by_sort (Some s) = rest
 
+-- the terms of an atom, in their columns
 terms_data : (bs : Binders) (ts : List RawTerm) (cs : List Column) → column_faults bs ts cs ≡ [] → AllByRecursion (λ c. is_named c.sort ≡ false) cs → AllByRecursion (λ entry. entry.0 ≡ Data) (term_texts cs (map (term_of bs) ts))
 terms_data bs [] [] e h = tt
 terms_data bs [] (c ∷ cs) e h = tt
@@ -190,6 +201,7 @@ terms_data bs (t ∷ ts) (c ∷ cs) e h =
     let x = both_none (fault_if (differs (term_sort bs t) c.sort) _) (column_faults bs ts cs) e in
     term_data bs t.kind c cs (map (term_of bs) ts) (none_if (differs (term_sort bs t) c.sort) _ x.0) h.0 (terms_data bs ts cs x.1 h.1)
 
+-- an atom without a fault
 atom_data : (db : List Relation) (bs : Binders) (p : Place) (ts : List RawTerm) (o : Option Relation) → ((r : Relation) → o ≡ Some r → AllByRecursion (λ c. is_named c.sort ≡ false) r.columns) → atom_faults bs p ts o ≡ []
     → AllByRecursion (λ entry. entry.0 ≡ Data) (term_texts (columns_of o) (map (term_of bs) ts))
 atom_data db bs p ts None h e = cc
@@ -203,6 +215,7 @@ Binds columns bs = (n : Identifier) → option_map (λ c. c.sort) (find (λ c. b
 abbrev BindUnnamed : Binders → Type 0
 BindUnnamed bs = (n : Identifier) (s : Sort) → binder_sort bs n ≡ Some s → is_named s ≡ false
 
+-- under one more quantifier
 binds_more : (c : RawColumn) (columns : List Column) (bs : Binders) → Binds columns bs → Binds (record { name = c.name; sort = c.sort } ∷ columns) (c ∷ bs)
 binds_more c columns bs m n = by_name (bytes_eq c.name n)
   where
@@ -210,6 +223,7 @@ binds_more c columns bs m n = by_name (bytes_eq c.name n)
     by_name true = refl
     by_name false = m n
 
+-- under one more binder that is not over a named sort
 unnamed_more : (c : RawColumn) (bs : Binders) → IsUnnamed c.sort → BindUnnamed bs → BindUnnamed (c ∷ bs)
 unnamed_more c bs u h n s e = by_name (bytes_eq c.name n) refl
   where
@@ -232,10 +246,12 @@ module _ (columns : List Column) (bs : Binders) (binds : Binds columns bs) (unna
       by_sort None e t = refl
       by_sort (Some s) e t = plain_sort s (unnamed n s e) t
 
+  -- a text beside a data term, or none
   text_data : (other this : DataTerm) → sort_beside columns other ≡ Data → AllByRecursion (λ entry. entry.0 ≡ Data) (text_beside columns other this)
   text_data other (data_var v) e = tt
   text_data other (data_const t) e = (e, tt)
 
+  -- the texts of an `=`
   equal_data : (l r : RawTerm) (op : Op) (a d e : Bool) → is_data_term (term_sort bs l) ≡ d → is_data_term (term_sort bs r) ≡ e
       → AllByRecursion (λ entry. entry.0 ≡ Data) (test_texts columns (if a && d && e then Equal (data_of l.kind) (data_of r.kind) else Compare (time_of l.kind) op (time_of r.kind)))
   equal_data l r op true true true x y =
@@ -245,10 +261,12 @@ module _ (columns : List Column) (bs : Binders) (binds : Binds columns bs) (unna
   equal_data l r op true false e x y = tt
   equal_data l r op true true false x y = tt
 
+  -- the texts of a comparison
   compare_data : (l r : RawTerm) (op : Op) → AllByRecursion (λ entry. entry.0 ≡ Data) (test_texts columns (compare_of bs l op r))
   compare_data l r op = equal_data l r op (is_equals op) (is_data_term (term_sort bs l)) (is_data_term (term_sort bs r)) refl refl
 
 mutual
+  -- each text of a formula without a fault has sort `data`
   form_data : (f : RawForm) (db : List Relation) (bs : Binders) (columns : List Column) → has_named_sort db ≡ false → Binds columns bs → BindUnnamed bs → form_faults f db bs ≡ [] → AllByRecursion (λ entry. entry.0 ≡ Data) (form_texts (plain f bs) db columns)
   form_data (raw_atom p name ts) db bs columns none m u e =
       atom_data db bs p ts (relation_named db name) (λ r found. found_is (λ r. AllByRecursion (λ c. is_named c.sort ≡ false) r.columns) (λ r. bytes_eq r.name name) db r found (columns_unnamed db none))
@@ -270,6 +288,7 @@ mutual
       let s : IsUnnamed c.sort = binder_unnamed db bs c none (both_none (binder_faults db bs c) (widened (c ∷ bs) (c.name ∷ []) f (form_faults f db (c ∷ bs))) e).0 in
       form_data f db (c ∷ bs) (record { name = c.name; sort = c.sort } ∷ columns) none (binds_more c columns bs m) (unnamed_more c bs s u) (not_wide_inside db bs c f (form_faults f db (c ∷ bs)) e).1
 
+  -- and each of a list
   forms_data : (fs : RawForms) (db : List Relation) (bs : Binders) (columns : List Column) → has_named_sort db ≡ false → Binds columns bs → BindUnnamed bs → forms_faults fs db bs ≡ [] → AllByRecursion (λ entry. entry.0 ≡ Data) (forms_texts (plain_each fs bs) db columns)
   forms_data no_raws db bs columns none m u e = tt
   forms_data (raw f fs) db bs columns none m u e =
@@ -284,6 +303,7 @@ abbrev pick : List RawColumn → Identifier → Option Sort → Option Sort
 pick [] n o = o
 pick (c ∷ cs) n o = cond (bytes_eq c.name n) (Some c.sort) (pick cs n o)
 
+-- what is found in order
 find_pick : (cs : List RawColumn) (n : Identifier) → option_map (λ c. c.sort) (find (λ c. bytes_eq c.name n) (map column_of cs)) ≡ pick cs n None
 find_pick [] n = refl
 find_pick (c ∷ cs) n = by_name (bytes_eq c.name n) (find_pick cs n)
@@ -304,10 +324,12 @@ module _ (db : List Relation) where
       by_name true q f h = still db cs (c ∷ bs) n f (subst (Contains (names_in (c ∷ bs))) (same_name c.name n q) (contains_first c.name (names_in bs))) ∙ bound_here c bs n q
       by_name false q f h = h ∙ ap (pick cs n) (bound_further c bs n q)
 
+  -- no column of a head without a fault is of a named sort
   head_unnamed : (bs : Binders) (cs : List RawColumn) → has_named_sort db ≡ false → head_faults db bs cs ≡ [] → AllByRecursion (λ c. is_named c.sort ≡ false) (map column_of cs)
   head_unnamed bs [] none e = tt
   head_unnamed bs (c ∷ cs) none e = let x = head_first db bs c cs e in (sort_unnamed db c.sort c.sort_place none x.1.0, head_unnamed (c ∷ bs) cs none x.1.1)
 
+-- nor is the one that is picked
 pick_unnamed : (cs : List RawColumn) (n : Identifier) (s : Sort) → AllByRecursion (λ c. is_named c.sort ≡ false) (map column_of cs) → pick cs n None ≡ Some s → is_named s ≡ false
 pick_unnamed [] n s h e = cc
 pick_unnamed (c ∷ cs) n s h e = by_name (bytes_eq c.name n) e (pick_unnamed cs n s h.1)

@@ -17,6 +17,7 @@ pub record Atom : Type 0 where
   pub name : Identifier
   pub terms : List Term
 
+-- the atoms of a formula, in order of the text
 abbrev mutual
   pub atoms : Form → List Atom
   atoms (atom name terms) = record { name = name; terms = terms } ∷ []

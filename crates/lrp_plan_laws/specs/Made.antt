@@ -33,6 +33,7 @@ operands (DropTime of v) = of ∷ []
 operands (DropData of v) = of ∷ []
 operands (Extend of) = of ∷ []
 
+-- a sort of texts
 abbrev pub IsDataSort : Sort → Type 0
 IsDataSort Time = ⊥
 IsDataSort Data = Unit {0}

@@ -1,4 +1,4 @@
-//! The plan of a query. Today this crate holds the laws of plans; the planner that meets them will stand here.
+//! Laws of plans: what every plan's steps are, and what a well-sorted query gives them. Each law is the contract of a function that does nothing.
 #![tactic(auto)]
 
 mod laws;
