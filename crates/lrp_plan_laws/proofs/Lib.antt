@@ -21,4 +21,5 @@ pub mod SortedScopes
 pub mod SortedTexts
 pub mod ScanLaws
 pub mod SortedAtoms
+pub mod SourcePeriods
 pub mod SettledLaws

@@ -2,7 +2,7 @@
 use Rattle.std.proofs.Common.{◌≡◌, Bool, true, false, cond, not, ◌&&◌, ◌||◌, List, [], ◌∷◌, ◌++◌, length, append-nil, Option, Some, None, unwrap_or, map, flat_map, Contains, refl, sym, ap, subst, ◌∙◌, bytes_eq}
 use Rattle.std.specs.Prelude.{◌==◌, if◌then◌else◌, reverse, option_map, find}
 use Rattle.std.specs.List.{AllByRecursion, list_any}
-use Rattle.lrp_model.specs.Texts.{Text, Identifier}
+use Rattle.lrp_model.specs.Texts.{Identifier}
 use Rattle.lrp_model.specs.Rows.{relation_named}
 use Rattle.lrp_model.specs.Sorts.{same_sort, is_time, is_data}
 use Rattle.lrp_model.specs.Faults.{fault_if}

@@ -19,7 +19,7 @@ ghost use Rattle.lrp_model.specs.declared.plans.StepKind.{StepKind};
 ghost use Rattle.lrp_model.specs.declared.plans.StepKind.TheVariants.{Extend};
 ghost use Rattle.lrp_plan_laws.specs.Guards.{BindsPlainly};
 ghost use Rattle.lrp_plan_laws.specs.Made.{AreAmong, operands, IsMade, head_step};
-ghost use Rattle.lrp_plan_laws.specs.Rising.{HasPeriods, Rises, period_at};
+ghost use Rattle.lrp_plan_laws.specs.Rising.{HasPeriods, Rises, period_at, point_periods, row_periods};
 ghost use Rattle.lrp_plan_laws.specs.Settled.{HasTexts, IsGuardedDrop, IsSettled, IsSoundPlan};
 ghost use Rattle.lrp_plan_laws.specs.Scopes.{EachScope, IsNarrow, IsNarrowStep};
 
@@ -38,9 +38,10 @@ pub fn plan_is_sound()
         → Satisfies (formula_at (plan db q) (length (plan db q))) (structure db q) (assignment q.head tuple) ↔ IsAnswer db q tuple }
 {}
 
-/// The period is the least common multiple of the periods, where each of them is at least 1.
+/// The period is the least common multiple of the periods, where each of them is at least 1; and each is, where those in the rows and in the `in` points are.
 pub fn periods_are_least()
-    ensures { (ks : List ℕ) → AllByRecursion (λ k. 1 ≤ k) ks → IsLeastMultiple ks (lcm_all ks) }
+    ensures least { (ks : List ℕ) → AllByRecursion (λ k. 1 ≤ k) ks → IsLeastMultiple ks (lcm_all ks) }
+    ensures sources { (db : List Relation) (q : Question) → AllByRecursion (λ k. 1 ≤ k) (row_periods db) → AllByRecursion (λ k. 1 ≤ k) (point_periods q.body) → HasPeriods db q }
 {}
 
 /// Along the steps of a plan periods and reaches rise, up to those of the query. The last step has the period of the query, and a step's reach is no less where those of the steps that it reads are no less.

@@ -1,0 +1,43 @@
+-- Where each period in the rows of a database and in the points of a body is at least 1, so is each that the query names.
+use Rattle.std.proofs.Common.{ℕ, true, false, Bool, cond, List, [], ◌∷◌, Some, flat_map, bytes_eq}
+use Rattle.std.specs.List.{AllByRecursion}
+use Rattle.lrp_model.specs.Texts.{Identifier}
+use Rattle.lrp_model.specs.Rows.{rows_in, relation_named}
+use Rattle.lrp_model.specs.Formulas.{Form, Forms, atom, test, sorted, negation, conjunction, disjunction, implication, exists, forall, no_forms, form}
+use Rattle.lrp_model.specs.Periods.{value_periods, periods, periods_each}
+use Rattle.lrp_model.specs.declared.relations.Relation.{Relation}
+use Rattle.lrp_model.proofs.Logic.{all_append}
+use Rattle.lrp_plan_laws.specs.Rising.{row_periods, point_periods, point_periods_each}
+
+module _ (p : ℕ → Type 0) where
+  -- of all rows, those of the relation that is found, or none
+  found_rows : (db : List Relation) (name : Identifier) → AllByRecursion p (row_periods db) → AllByRecursion p (flat_map (λ row. flat_map value_periods row.values) (rows_in (relation_named db name)))
+  found_rows [] name h = tt
+  found_rows (r ∷ rs) name h =
+      let two = (all_append p (flat_map (λ row. flat_map value_periods row.values) r.rows) (row_periods rs)).0 h in
+      by_name (bytes_eq r.name name) two.0 (found_rows rs name two.1)
+    where
+      by_name : (b : Bool) → AllByRecursion p (flat_map (λ row. flat_map value_periods row.values) r.rows) → AllByRecursion p (flat_map (λ row. flat_map value_periods row.values) (rows_in (relation_named rs name)))
+          → AllByRecursion p (flat_map (λ row. flat_map value_periods row.values) (rows_in (cond b (Some r) (relation_named rs name))))
+      by_name true here rest = here
+      by_name false here rest = rest
+
+  mutual
+    -- what holds of the periods of rows and of points holds of those that a formula names
+    pub named_from : (f : Form) (db : List Relation) → AllByRecursion p (row_periods db) → AllByRecursion p (point_periods f) → AllByRecursion p (periods f db)
+    named_from (atom name terms) db rows points = found_rows db name rows
+    named_from (test t) db rows points = points
+    named_from (sorted s v) db rows points = tt
+    named_from (negation f) db rows points = named_from f db rows points
+    named_from (conjunction fs) db rows points = each_from fs db rows points
+    named_from (disjunction fs) db rows points = each_from fs db rows points
+    named_from (implication f g) db rows points =
+        let two = (all_append p (point_periods f) (point_periods g)).0 points in (all_append p (periods f db) (periods g db)).1 (named_from f db rows two.0, named_from g db rows two.1)
+    named_from (exists v s f) db rows points = named_from f db rows points
+    named_from (forall v s f) db rows points = named_from f db rows points
+
+    -- and of those that each of a list names
+    each_from : (fs : Forms) (db : List Relation) → AllByRecursion p (row_periods db) → AllByRecursion p (point_periods_each fs) → AllByRecursion p (periods_each fs db)
+    each_from no_forms db rows points = tt
+    each_from (form f fs) db rows points =
+        let two = (all_append p (point_periods f) (point_periods_each fs)).0 points in (all_append p (periods f db) (periods_each fs db)).1 (named_from f db rows two.0, each_from fs db rows two.1)
