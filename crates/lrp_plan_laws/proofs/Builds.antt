@@ -72,11 +72,11 @@ moved_reach db at other s K same (Extend of) o = sym (same of o.0)
 -- a step is what it was where more steps follow
 pub moved : (M : Structure) (head : HeadStep) (steps more : Steps) (s : ℕ) (step : PlanStep) → s ≤ suc (length steps) → IsMade M head steps s step → IsMade M head (steps ++ more) s step
 moved M head steps more s step le m = record {
-  operands = m.operands;
-  formula = moved_formula M head (formula_at steps) (formula_at (steps ++ more)) s (λ l e. let lt : l < s = e.1 in formula_front steps more l (omega arith)) step.kind step.formula m.operands m.formula;
-  variables = moved_variables M head (formula_at steps) (formula_at (steps ++ more)) s (λ l e. let lt : l < s = e.1 in formula_front steps more l (omega arith)) step.kind m.operands m.variables;
+  earlier = m.earlier;
+  formula = moved_formula M head (formula_at steps) (formula_at (steps ++ more)) s (λ l e. let lt : l < s = e.1 in formula_front steps more l (omega arith)) step.kind step.formula m.earlier m.formula;
+  variables = moved_variables M head (formula_at steps) (formula_at (steps ++ more)) s (λ l e. let lt : l < s = e.1 in formula_front steps more l (omega arith)) step.kind m.earlier m.variables;
   period = m.period;
-  reach = m.reach ∙ moved_reach M.relations (reach_at steps) (reach_at (steps ++ more)) s step.period (λ l e. let lt : l < s = e.1 in reach_front steps more l (omega arith)) step.kind m.operands;
+  reach = m.reach ∙ moved_reach M.relations (reach_at steps) (reach_at (steps ++ more)) s step.period (λ l e. let lt : l < s = e.1 in reach_front steps more l (omega arith)) step.kind m.earlier;
 }
 
 -- each step is made of earlier ones
@@ -95,7 +95,7 @@ made_more M head steps kind f can all s step e =
     ⊎_elim (λ h. let le : s ≤ length steps = h.0 in moved M head steps (step_behind M kind f steps ∷ []) s step (omega arith) (all s step h.1))
     (λ h. subst (λ n. IsMade M head (made M kind f steps) n step) (sym h.0) (subst (IsMade M head (made M kind f steps) (suc (length steps))) h.1
     (moved M head steps (step_behind M kind f steps ∷ []) (suc (length steps)) (step_behind M kind f steps) (omega arith)
-    (record { operands = can.operands; formula = can.formula; variables = can.variables; period = refl; reach = refl }))))
+    (record { earlier = can.operands; formula = can.formula; variables = can.variables; period = refl; reach = refl }))))
     (step_one_more steps (step_behind M kind f steps) step s e)
 
 -- ---- no step before the last one is above it

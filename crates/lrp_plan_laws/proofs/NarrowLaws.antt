@@ -100,7 +100,7 @@ module _ (db : List Relation) (q : Question) (some : HasElements q.body) (top : 
   own_narrow s step e =
       let m : IsMade (structure db q) (head_step db q) (plan db q) s step = plan_made db q some s step e in
       ⊎_elim
-      (λ h. subst IsNarrow (sym (own_variables step.kind q.head (free step.formula) (head_reads (structure db q) (head_step db q) (formula_at (plan db q)) s step.kind step.formula h.0 m.operands m.formula))) (core_narrow s step h.1))
+      (λ h. subst IsNarrow (sym (own_variables step.kind q.head (free step.formula) (head_reads (structure db q) (head_step db q) (formula_at (plan db q)) s step.kind step.formula h.0 m.earlier m.formula))) (core_narrow s step h.1))
       (λ h. subst (λ x. IsNarrow (step_variables q.head x)) h.1 head_narrow)
       (step_one_more (core_steps db q) _ step s e)
 
@@ -133,7 +133,7 @@ module _ (db : List Relation) (q : Question) (some : HasElements q.body) (top : 
             let lt : l < s = k.1 in
             let x = step_found (plan db q) l k.0 (let w : s ≤ length (plan db q) = step_within (plan db q) s step e in omega arith) in
             subst (λ o. IsNarrow (free (unwrap_or (option_map (λ y. y.formula) o) (conjunction no_forms)))) (sym x.1) (formula_narrow l x.0 x.1))
-            m.operands);
+            m.earlier);
       }
 
 -- ---- the last steps have variables of the head alone, where the body has

@@ -371,7 +371,7 @@ module _ (db : List Relation) (q : Question) (some : HasElements q.body) (low : 
       let x = step_found (plan db q) l k.0 (let w : s ≤ length (plan db q) = step_within (plan db q) s step e in omega arith) in
       let h : period db x.0.formula ≤ x.0.reach = wide_to n l x.0 (omega arith) x.1 in
       subst (λ o. period db (unwrap_or (option_map (λ y. y.formula) o) (conjunction no_forms)) ≤ unwrap_or (option_map (λ y. y.reach) o) 0) (sym x.1) h)
-      m.operands)
+      m.earlier)
       (subst (λ K. step.reach ≡ reach_of db (reach_at (plan db q)) K step.kind) m.period m.reach)
 
   -- periods and reaches rise along a plan
@@ -382,7 +382,7 @@ module _ (db : List Relation) (q : Question) (some : HasElements q.body) (low : 
       let l : AllByRecursion (λ k. 1 ≤ k) (periods step.formula db) = step_low s step e in
       let d : IsMultiple (period db step.formula) (period db q.body) = lcm_part (periods step.formula db) (periods q.body db) low (marked_periods step.formula q.body db u.1) in
       record {
-        earlier = m.operands;
+        earlier = m.earlier;
         positive = subst (λ K. 1 ≤ K) (sym m.period) (lcm_positive (periods step.formula db) l);
         wide = subst (λ K. K ≤ step.reach) (sym m.period) (wide_to s s step (omega arith) e);
         above = read_reaches db (reach_at (plan db q)) step.period step.reach step.kind m.reach;

@@ -71,7 +71,7 @@ HasVariables at kind = Unit {0}
 
 -- step s of these steps is made of earlier ones, and has the period of its formula and the reach of its kind
 pub record IsMade (M : Structure) (head : HeadStep) (steps : Steps) (s : ℕ) (step : PlanStep) : Type 0 where
-  pub operands : AllByRecursion (IsEarlier s) (operands step.kind)
+  pub earlier : AllByRecursion (IsEarlier s) (operands step.kind)
   pub formula : IsFormula M head (formula_at steps) step.kind step.formula
   pub variables : HasVariables (formula_at steps) step.kind
   pub period : step.period ≡ period M.relations step.formula
