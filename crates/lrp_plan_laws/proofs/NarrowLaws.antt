@@ -56,6 +56,12 @@ head_reads M head at s kind f le earlier h of e =
     let same : of ≡ head.of = b.0 in
     omega arith
 
+-- so no step but the last is `head`
+pub no_other_head : (db : List Relation) (q : Question) → HasElements q.body → (s : ℕ) (step : PlanStep) → step_at (plan db q) s ≡ Some step → s ≤ length (core_steps db q) → (of : ℕ) → step.kind ≡ Extend of → ⊥
+no_other_head db q some s step e le of kind =
+    let m : IsMade (structure db q) (head_step db q) (plan db q) s step = plan_made db q some s step e in
+    head_reads (structure db q) (head_step db q) (formula_at (plan db q)) s step.kind step.formula le m.earlier m.formula of kind
+
 -- two parts of a list
 in_front : (vs ws us all : List Variable) → all ≡ vs ++ (ws ++ us) → AllByRecursion (Contains all) (vs ++ (ws ++ []))
 in_front vs ws us all e =

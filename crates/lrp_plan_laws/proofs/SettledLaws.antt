@@ -11,7 +11,7 @@ use Rattle.lrp_plan_laws.specs.Settled.{HasTexts, IsSettled, IsSoundPlan}
 use Rattle.lrp_plan_laws.proofs.HeadLaws.{last_is}
 use Rattle.lrp_plan_laws.proofs.RisingLaws.{plan_made, rises}
 use Rattle.lrp_plan_laws.proofs.NarrowLaws.{narrow_steps, last_bound, core_bound}
-use Rattle.lrp_plan_laws.proofs.GuardLaws.{drops_guarded}
+use Rattle.lrp_plan_laws.proofs.GuardLaws.{domain_known, drops_guarded}
 use Rattle.lrp_plan_laws.proofs.ScanLaws.{scan_known, database_known}
 use Rattle.lrp_plan_laws.proofs.SortedAtoms.{query_atoms}
 use Rattle.lrp_plan_laws.proofs.SortedScopes.{head_names, body_in_head, narrow_head, narrow_body}
@@ -41,6 +41,7 @@ sound db q h = record {
     scans = scan_known db q h.elements h.atoms s step e;
   };
   texts = database_known db q;
+  sorts = domain_known db q;
   core = core_bound db q h.bound h.elements;
   last = last_bound db q h.bound;
   answers = λ tuple shape texts. last_is db q tuple (λ none. (h.plain none).0) h.names shape texts;

@@ -1,13 +1,13 @@
 -- What a plan relies on in a query over a database, as a well-sorted query gives it, and what then holds of the plan.
 use Rattle.std.specs.Prelude.{◌≡◌, ◌↔◌, ℕ, true, false, List, ◌++◌, length, Some, Contains}
 use Rattle.std.specs.List.{AllByRecursion}
-use Rattle.lrp_model.specs.Texts.{Identifier}
+use Rattle.lrp_model.specs.Texts.{Text, Identifier}
 use Rattle.lrp_model.specs.Sorts.{is_data}
 use Rattle.lrp_model.specs.Rows.{Datum, texts_of}
 use Rattle.lrp_model.specs.Formulas.{Question, exists}
 use Rattle.lrp_model.specs.Variables.{free, head_variables}
 use Rattle.lrp_model.specs.Satisfaction.{Satisfies, IsAnswer, structure, assignment, HasShape, HaveNames}
-use Rattle.lrp_model.specs.Domains.{database_texts, constants}
+use Rattle.lrp_model.specs.Domains.{database_texts, domain, constants}
 use Rattle.lrp_model.specs.Core.{has_named_sort, HasElements}
 use Rattle.lrp_model.specs.Steps.{PlanStep, step_at, formula_at}
 use Rattle.lrp_model.specs.Plans.{core_steps, plan, IsPlain}
@@ -49,10 +49,11 @@ pub record IsSoundStep (db : List Relation) (q : Question) (s : ℕ) (step : Pla
   pub guarded : IsGuardedDrop db q step
   pub scans : (name : Identifier) (terms : List Term) → step.kind ≡ Scan name terms → IsKnownScan db q (record { name = name; terms = terms })
 
--- each step is sound, the texts of the database are constants, the last two steps have variables of the head alone, and the last one's formula holds for exactly the answers
+-- each step is sound, the texts of the database and of each sort are constants, the last two steps have variables of the head alone, and the last one's formula holds for exactly the answers
 pub record IsSoundPlan (db : List Relation) (q : Question) : Type 0 where
   pub steps : (s : ℕ) (step : PlanStep) → step_at (plan db q) s ≡ Some step → IsSoundStep db q s step
   pub texts : AllByRecursion (λ entry. Contains (constants db q) entry.1) (database_texts db)
+  pub sorts : (s : Sort) (t : Text) → Contains (domain db q s) t → Contains (constants db q) t
   pub core : AreAmong (free (formula_at (plan db q) (length (core_steps db q)))) (head_variables q.head)
   pub last : AreAmong (free (formula_at (plan db q) (length (plan db q)))) (head_variables q.head)
   pub answers : (tuple : List Datum) → HasShape q.head tuple → AllByRecursion (Contains (constants db q)) (texts_of tuple) → Satisfies (formula_at (plan db q) (length (plan db q))) (structure db q) (assignment q.head tuple) ↔ IsAnswer db q tuple

@@ -51,10 +51,11 @@ pub fn plan_rises()
     ensures grows { (db : List Relation) (at more : ℕ → ℕ) (K : ℕ) (kind : StepKind) → AllByRecursion (λ l. at l ≤ more l) (operands kind) → reach_of db at K kind ≤ reach_of db more K kind }
 {}
 
-/// Each step of a plan is made of earlier ones by the rule of its kind, with the variables that the rule relies on. The last one is `head`, and reads the step before it.
+/// Each step of a plan is made of earlier ones by the rule of its kind, with the variables that the rule relies on. The last one and no other is `head`, and it reads the step before it.
 pub fn steps_are_made()
     ensures steps { (db : List Relation) (q : Question) → HasElements q.body → (s : ℕ) (step : PlanStep) → step_at (plan db q) s ≡ Some step → IsMade (structure db q) (head_step db q) (plan db q) s step }
     ensures last { (db : List Relation) (q : Question) → MatchOption (step_at (plan db q) (length (plan db q))) ⊥ (λ step. (step.kind ≡ Extend (length (core_steps db q))) × (step.formula ≡ guarded (has_named_sort db) q.head q.body)) }
+    ensures other { (db : List Relation) (q : Question) → HasElements q.body → (s : ℕ) (step : PlanStep) → step_at (plan db q) s ≡ Some step → s ≤ length (core_steps db q) → (of : ℕ) → step.kind ≡ Extend of → ⊥ }
     ensures count { (db : List Relation) (q : Question) → length (plan db q) ≡ length (core_steps db q) + 1 }
 {}
 
