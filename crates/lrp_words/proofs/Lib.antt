@@ -1,0 +1,3 @@
+-- Lemmas on words and their entries.
+pub mod EntryLemmas
+pub mod NumberLemmas

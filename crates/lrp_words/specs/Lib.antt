@@ -1,0 +1,4 @@
+-- The command that words spell.
+pub mod Entries
+pub mod Numbers
+pub mod Commands

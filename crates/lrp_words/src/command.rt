@@ -1,0 +1,43 @@
+// What words ask for.
+
+/// A command with its values, whose texts are borrowed from the words.
+///
+/// `db` and `query` are names of files, and not empty. `from` and `to` have a magnitude of at most 2^62. `after` is any text; its form is judged later.
+#[derive(Clone, Copy, Debug, PartialEq, Eq)]
+pub enum Command<'a> {
+    Ask {
+        db: &'a str,
+        query: &'a str,
+        cap: u32,
+    },
+    Decide {
+        db: &'a str,
+        query: &'a str,
+        cap: u32,
+    },
+    List {
+        db: &'a str,
+        query: &'a str,
+        from: i64,
+        to: i64,
+        limit: u32,
+        after: Option<&'a str>,
+        json: bool,
+        cap: u32,
+    },
+    Explain {
+        db: &'a str,
+        query: &'a str,
+    },
+    Check {
+        db: &'a str,
+    },
+    Sample {
+        seed: u32,
+        size: u32,
+    },
+}
+
+/// The words spell no command.
+#[derive(Clone, Copy, Debug, PartialEq, Eq)]
+pub struct Usage;

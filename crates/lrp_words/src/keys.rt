@@ -1,0 +1,38 @@
+// The keys of all commands.
+ghost use Rattle.std.specs.Prelude.{◌≡◌};
+ghost use Rattle.lrp_words.specs.Entries.{name_of};
+
+/// A key of some command.
+#[derive(Clone, Copy, Debug, PartialEq, Eq)]
+pub enum Key {
+    Db,
+    Query,
+    Cap,
+    From,
+    To,
+    Limit,
+    After,
+    Form,
+    Seed,
+    Size,
+}
+
+impl Key {
+    /// How the key is spelled.
+    pub fn name(self) -> &'static str
+        ensures { result.now ≡ name_of self }
+    {
+        match self {
+            Key::Db => "db",
+            Key::Query => "query",
+            Key::Cap => "cap",
+            Key::From => "from",
+            Key::To => "to",
+            Key::Limit => "limit",
+            Key::After => "after",
+            Key::Form => "form",
+            Key::Seed => "seed",
+            Key::Size => "size",
+        }
+    }
+}

@@ -1,0 +1,14 @@
+//! The commands that the words of a command line spell.
+#![tactic(auto)]
+
+mod command;
+mod entries;
+mod keys;
+mod numbers;
+mod reading;
+
+pub use command::{Command, Usage};
+pub use reading::read_words;
+
+#[cfg(test)]
+mod tests;

@@ -1,0 +1,189 @@
+// Words as a command: its name, and then the values of its keys.
+ghost use Rattle.std.specs.Prelude.{◌≡◌, ◌<◌, ◌^◌, [], ◌∷◌, map, string_bytes, Some, None, MatchResult};
+ghost use Rattle.lrp_words.specs.Commands.{ask_of, cap_of, check_of, command, decide_of, end_of, explain_of, file as file_by, is_json as is_json_by, limit_of, list_of, number as number_by, number_or as number_or_by, over, sample_of, task_of, tasks_of, text_of};
+ghost use Rattle.lrp_words.specs.Entries.{value as value_by};
+
+use crate::command::{Command, Usage};
+use crate::entries::{are_given, value};
+use crate::keys::Key;
+use crate::numbers::{integer, within};
+
+/// The command that the words after the program's name spell, or `Usage` where they spell none.
+///
+/// The first word is the command's name. Every other is `key=value`, cut at its first `=`, in any order; each key is one of the command's, and stands at most once.
+pub fn read_words(words: &[String]) -> Result<Command<'_>, Usage>
+    ensures { MatchResult result (λ found. command (map string_bytes words.now) ≡ Some (task_of found)) (λ _. command (map string_bytes words.now) ≡ None) }
+{
+    let [name, words @ ..] = words else {
+        return Err(Usage);
+    };
+    match named(name.as_str(), words) {
+        Some(command) => Ok(command),
+        None => Err(Usage),
+    }
+}
+
+/// The command of a name from the words behind it.
+fn named<'a>(name: &str, words: &'a [String]) -> Option<Command<'a>>
+    ensures { tasks_of result ≡ command (name.now ∷ map string_bytes words.now) }
+{
+    match name {
+        "ask" => ask(words),
+        "decide" => decide(words),
+        "list" => list(words),
+        "explain" => explain(words),
+        "check" => check(words),
+        "sample" => sample(words),
+        _ => None,
+    }
+}
+
+fn ask(words: &[String]) -> Option<Command<'_>>
+    ensures { tasks_of result ≡ over (Key.Db ∷ Key.Query ∷ Key.Cap ∷ []) (map string_bytes words.now) (ask_of (map string_bytes words.now)) }
+{
+    if !are_given(&[Key::Db, Key::Query, Key::Cap], words) {
+        return None;
+    }
+    Some(Command::Ask {
+        db: file(Key::Db, words)?,
+        query: file(Key::Query, words)?,
+        cap: cap(words)?,
+    })
+}
+
+fn decide(words: &[String]) -> Option<Command<'_>>
+    ensures { tasks_of result ≡ over (Key.Db ∷ Key.Query ∷ Key.Cap ∷ []) (map string_bytes words.now) (decide_of (map string_bytes words.now)) }
+{
+    if !are_given(&[Key::Db, Key::Query, Key::Cap], words) {
+        return None;
+    }
+    Some(Command::Decide {
+        db: file(Key::Db, words)?,
+        query: file(Key::Query, words)?,
+        cap: cap(words)?,
+    })
+}
+
+fn list(words: &[String]) -> Option<Command<'_>>
+    ensures { tasks_of result ≡ over (Key.Db ∷ Key.Query ∷ Key.From ∷ Key.To ∷ Key.Limit ∷ Key.After ∷ Key.Form ∷ Key.Cap ∷ []) (map string_bytes words.now) (list_of (map string_bytes words.now)) }
+{
+    let keys = [
+        Key::Db,
+        Key::Query,
+        Key::From,
+        Key::To,
+        Key::Limit,
+        Key::After,
+        Key::Form,
+        Key::Cap,
+    ];
+    if !are_given(&keys, words) {
+        return None;
+    }
+    Some(Command::List {
+        db: file(Key::Db, words)?,
+        query: file(Key::Query, words)?,
+        from: end(Key::From, words)?,
+        to: end(Key::To, words)?,
+        limit: limit(words)?,
+        after: value(Key::After, words),
+        json: is_json(words)?,
+        cap: cap(words)?,
+    })
+}
+
+fn explain(words: &[String]) -> Option<Command<'_>>
+    ensures { tasks_of result ≡ over (Key.Db ∷ Key.Query ∷ []) (map string_bytes words.now) (explain_of (map string_bytes words.now)) }
+{
+    if !are_given(&[Key::Db, Key::Query], words) {
+        return None;
+    }
+    Some(Command::Explain {
+        db: file(Key::Db, words)?,
+        query: file(Key::Query, words)?,
+    })
+}
+
+fn check(words: &[String]) -> Option<Command<'_>>
+    ensures { tasks_of result ≡ over (Key.Db ∷ []) (map string_bytes words.now) (check_of (map string_bytes words.now)) }
+{
+    if !are_given(&[Key::Db], words) {
+        return None;
+    }
+    Some(Command::Check {
+        db: file(Key::Db, words)?,
+    })
+}
+
+fn sample(words: &[String]) -> Option<Command<'_>>
+    ensures { tasks_of result ≡ over (Key.Seed ∷ Key.Size ∷ []) (map string_bytes words.now) (sample_of (map string_bytes words.now)) }
+{
+    if !are_given(&[Key::Seed, Key::Size], words) {
+        return None;
+    }
+    Some(Command::Sample {
+        seed: number(Key::Seed, words, 0, 1_000_000)?,
+        size: number(Key::Size, words, 1, 500)?,
+    })
+}
+
+/// The name of a file, which is not empty.
+fn file(key: Key, words: &[String]) -> Option<&str>
+    ensures { text_of result ≡ file_by (value_by key (map string_bytes words.now)) }
+{
+    let name = value(key, words)?;
+    if name.is_empty() { None } else { Some(name) }
+}
+
+/// A number from low to high.
+fn number(key: Key, words: &[String], low: u32, high: u32) -> Option<u32>
+    ensures { result ≡ number_by low high (value_by key (map string_bytes words.now)) }
+{
+    let text = value(key, words)?;
+    let number = within(text, u64::from(low), u64::from(high))?;
+    Some(number as u32)
+}
+
+/// The same, with a default where the key is not given.
+fn number_or(key: Key, words: &[String], default: u32, low: u32, high: u32) -> Option<u32>
+    ensures { result ≡ number_or_by default low high (value_by key (map string_bytes words.now)) }
+{
+    match value(key, words) {
+        Some(_) => number(key, words, low, high),
+        None => Some(default),
+    }
+}
+
+/// The most cells of a step.
+fn cap(words: &[String]) -> Option<u32>
+    ensures { result ≡ cap_of (map string_bytes words.now) }
+{
+    number_or(Key::Cap, words, 1_000_000, 1, 1_000_000_000)
+}
+
+/// The most lines of a page.
+fn limit(words: &[String]) -> Option<u32>
+    ensures { result ≡ limit_of (map string_bytes words.now) }
+{
+    number_or(Key::Limit, words, 1000, 1, 1_000_000)
+}
+
+/// An end of the window.
+fn end(key: Key, words: &[String]) -> Option<i64>
+    ensures { result ≡ end_of (value_by key (map string_bytes words.now)) }
+{
+    let text = value(key, words)?;
+    integer(text)
+}
+
+/// Whether the page is to be in JSON.
+fn is_json(words: &[String]) -> Option<bool>
+    ensures { result ≡ is_json_by (value_by Key.Form (map string_bytes words.now)) }
+{
+    match value(Key::Form, words) {
+        None => Some(false),
+        Some("plain") => Some(false),
+        Some("json") => Some(true),
+        Some(_) => None,
+    }
+}
