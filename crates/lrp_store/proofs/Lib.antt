@@ -5,6 +5,10 @@ pub mod Held
 pub mod Listed
 pub mod Ranges
 pub mod Splitting
+pub mod AnswerFirst
 pub mod Aligning
 pub mod Emptiness
 pub mod Tidying
+pub mod Rooms
+pub mod StoreFirst
+pub mod ZoneFirst

@@ -6,6 +6,7 @@ pub mod Stored
 pub mod Stores
 pub mod Faults
 pub mod Growing
+pub mod Least
 pub mod Settled
 pub mod Tables
 pub mod Tidied

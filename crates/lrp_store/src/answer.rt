@@ -1,11 +1,13 @@
 // The answers of a query.
-ghost use Rattle.std.specs.Prelude.{◌≡◌, ◌↔◌, ◌+◌, ℕ, ℤ, List, length, pos, IsTrue};
+ghost use Rattle.lrp_model.specs.Rows.{Datum};
+ghost use Rattle.std.specs.Prelude.{IfNone, IfSome, ◌≡◌, ◌↔◌, ◌+◌, ℕ, ℤ, List, length, pos, IsTrue};
 ghost use Rattle.lrp_model.specs.Plans.{time_columns};
 ghost use Rattle.lrp_store.specs.Stores.{InStore};
-ghost use Rattle.lrp_store.specs.Tables.{AreNumbered};
+ghost use Rattle.lrp_store.specs.Least.{HasRoom, IsLeastSpot};
+ghost use Rattle.lrp_store.specs.Tables.{AreNumbered, InAnswer};
 
 use crate::store::Store;
-use lrp_model::{Domain, Head};
+use lrp_model::{Domain, Head, Spot};
 
 /// The tuples of a store, with a time or a text for each column of the head, in its order.
 ///
@@ -29,5 +31,18 @@ impl Answer {
     {
         self.store.shape();
         self.store.len() == 0
+    }
+
+    /// The first answer in the order 0, 1, -1, 2, -2, .. of its times in head order, and then of its texts, if there is one.
+    ///
+    /// With the asked room each of its times has a magnitude of at most 2^62.
+    pub fn least(&self) -> Option<Spot>
+        requires { HasRoom self.now.store }
+        ensures none { IfNone result ((tuple : List Datum) → InAnswer self.now.head.columns self.now.domain self.now.store tuple → ⊥) }
+        ensures some { IfSome result (λ spot. IsLeastSpot self.now.head.columns self.now.domain self.now.store spot) }
+    {
+        self.store.shape();
+        self.domain.len();
+        self.store.first()
     }
 }

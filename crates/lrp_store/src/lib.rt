@@ -4,6 +4,8 @@
 mod align;
 mod answer;
 mod choice;
+mod least;
+mod nearest;
 mod store;
 mod stored;
 mod table;

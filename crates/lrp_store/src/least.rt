@@ -1,0 +1,99 @@
+// The first tuple of a store: by the ranks of its times, and then by the numbers of its texts.
+ghost use Rattle.std.specs.Prelude.{◌≡◌, ◌≢◌, ◌⊎◌, ◌↔◌, ℕ, ℤ, List, map, Some, IsTrue, IfSome, IfNone};
+ghost use Rattle.std.specs.declared.cmp.Ordering.TheVariants.{Less, Greater};
+ghost use Rattle.lrp_model.specs.Order.{rank};
+ghost use Rattle.lrp_store.specs.Aligned.{InCell};
+ghost use Rattle.lrp_store.specs.Least.{HasRoom, IsFound, IsNotAfter, held_cmp};
+ghost use Rattle.lrp_store.specs.Stores.{InStore};
+
+use crate::nearest::nearest;
+use crate::store::Store;
+use lrp_model::{Cell, Spot};
+
+/// What spots are compared by.
+#[derive(Clone, Copy, PartialEq, Eq, PartialOrd, Ord)]
+struct Key {
+    ranks: [u128; 8],
+    texts: [u32; 8],
+}
+
+/// The place of a time in the order 0, 1, -1, 2, -2, ..
+fn rank_of(time: i64) -> u128
+    ensures { result ≡ rank time }
+{
+    let twice = 2 * u128::from(time.unsigned_abs());
+    if time > 0 { twice - 1 } else { twice }
+}
+
+/// The ranks of the times, and the texts.
+fn key_of(spot: &Spot) -> Key
+    ensures ranks { result.ranks ≡ map rank spot.now.times }
+    ensures texts { result.texts ≡ spot.now.texts }
+{
+    let mut ranks = [0; 8];
+    for (i, time) in spot.times.iter().enumerate() {
+        ranks[i] = rank_of(*time);
+    }
+    Key {
+        ranks,
+        texts: spot.texts,
+    }
+}
+
+/// Whether a spot comes before another one.
+fn is_before(a: &Spot, b: &Spot) -> bool
+    ensures { IsTrue result ↔ (held_cmp a.now.times a.now.texts b.now.times b.now.texts ≡ Less) }
+{
+    key_of(a).cmp(&key_of(b)).is_lt()
+}
+
+/// Of a spot that was found, if any, and another one the nearer.
+fn nearer(found: Option<Spot>, spot: Spot) -> Spot
+    ensures one { (found ≡ Some result) ⊎ (result ≡ spot) }
+    ensures found { IfSome found (λ old. held_cmp result.times result.texts old.times old.texts ≢ Greater) }
+    ensures spot { held_cmp result.times result.texts spot.times spot.texts ≢ Greater }
+{
+    let Some(old) = found else {
+        return spot;
+    };
+    if is_before(&spot, &old) { spot } else { old }
+}
+
+impl Store {
+    /// The first tuple of all that are held, if there is one.
+    pub(crate) fn first(&self) -> Option<Spot>
+        requires { HasRoom self.now }
+        ensures none { IfNone result ((times : List ℤ) (texts : List ℕ) → InStore self.now times texts → ⊥) }
+        ensures some { IsFound self.now result }
+        ensures first { IfSome result (λ spot. (times : List ℤ) (texts : List ℕ) → InStore self.now times texts → IsNotAfter self.now (Some spot) times texts) }
+    {
+        self.shape();
+        let mut found = None;
+        for cell in self.cells() {
+            found = self.first_of_cell(&cell, found);
+        }
+        found
+    }
+
+    // The first of what was found and of the tuples of one cell.
+    fn first_of_cell(&self, cell: &Cell, found: Option<Spot>) -> Option<Spot>
+        requires room { HasRoom self.now }
+        requires found { IsFound self.now found }
+        ensures found { IsFound self.now result }
+        ensures kept { (times : List ℤ) (texts : List ℕ) → IsNotAfter self.now found times texts → IsNotAfter self.now result times texts }
+        ensures cell { (times : List ℤ) (texts : List ℕ) → InCell self.now cell.now times texts → IsNotAfter self.now result times texts }
+    {
+        self.shape();
+        let times = usize::from(self.shape.times);
+        let mut found = found;
+        for bounds in self.slots.iter(cell) {
+            let zone = bounds.zone(self.period, &cell.residues[..times]);
+            let spot = Spot {
+                times: nearest(&zone),
+                texts: cell.texts,
+            };
+            found = Some(nearer(found, spot));
+        }
+        found
+    }
+}

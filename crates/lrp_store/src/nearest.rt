@@ -1,0 +1,42 @@
+// The first tuple of a zone, where each time is in the order 0, 1, -1, 2, -2, ..
+ghost use Rattle.std.specs.Prelude.{◌≡◌, ◌+◌, ◌<◌, ℕ};
+ghost use Rattle.lrp_matrix.specs.Matrices.{IsClosed, HaveSameIntegers};
+ghost use Rattle.lrp_zone.specs.Zones.{columns_of};
+ghost use Rattle.lrp_store.specs.Least.{matrix_of, IsRoom, IsNearestTo};
+
+use lrp_matrix::{Matrix, nearest_zero};
+use lrp_zone::Zone;
+
+/// The values of one more column. Behind those before it, a column may have what lies within two ends and has its residue.
+fn with_next(zone: &Zone, least: &Matrix, xs: &[i64; 8], i: usize) -> [i64; 8]
+    requires column { i < columns_of zone.now }
+    requires closed { IsClosed least.now }
+    requires integers { HaveSameIntegers (matrix_of zone.now) least.now }
+    requires room { (h : ℕ) × IsRoom zone.now h }
+    requires begun { IsNearestTo zone.now i xs.now }
+    ensures { IsNearestTo zone.now (i + 1) result }
+{
+    zone.columns();
+    let (low, high) = least.range(i + 1, &xs[..i]);
+    let mut next = *xs;
+    match nearest_zero(low, high, zone.residue(i + 1), zone.period()) {
+        Some(x) => {
+            next[i] = x as i64;
+            next
+        }
+        None => unreachable!(),
+    }
+}
+
+/// The first tuple of a zone by the ranks of its values, with zeros behind it.
+pub fn nearest(zone: &Zone) -> [i64; 8]
+    requires room { (h : ℕ) × IsRoom zone.now h }
+    ensures { IsNearestTo zone.now (columns_of zone.now) result }
+{
+    let least = zone.closed();
+    let mut xs = [0; 8];
+    for i in 0..zone.columns() {
+        xs = with_next(zone, &least, &xs, i);
+    }
+    xs
+}
