@@ -1,3 +1,4 @@
+pub mod FirstFault
 pub mod Labels
 pub mod LocalRules
 pub mod ValueRules

@@ -1,3 +1,4 @@
+pub mod Sooner
 pub mod Rules
 pub mod Kept
 pub mod Reading
