@@ -1,4 +1,6 @@
 pub mod FirstFault
+pub mod SeenLemmas
+pub mod StoredLemmas
 pub mod Labels
 pub mod LocalRules
 pub mod ValueRules

@@ -1,3 +1,6 @@
+pub mod Once
+pub mod Seen
+pub mod Stored
 pub mod Sooner
 pub mod Rules
 pub mod Kept
