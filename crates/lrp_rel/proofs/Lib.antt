@@ -1,4 +1,6 @@
 pub mod FirstFault
+pub mod FaultWalks
+pub mod SoundLemmas
 pub mod SeenLemmas
 pub mod StoredLemmas
 pub mod Labels

@@ -2,7 +2,9 @@
 #![tactic(auto)]
 
 mod database;
+mod faults;
 mod laws;
+mod meaning;
 mod printing;
 mod reading;
 mod seen;

@@ -1,0 +1,162 @@
+-- What a walk over the parts of a written database keeps of its first fault.
+use Rattle.std.proofs.Common.{◌≡◌, ◌<◌, ◌≤◌, ◌+◌, ℕ, zero, suc, Bool, true, false, ◌||◌, not, ◌==◌, if◌then◌else◌, List, [], ◌∷◌, ◌++◌, length, map, filter, fold, get_or, drop, min, Option, refl, sym, ap, ◌∙◌, arith, add-one, drop-cons}
+use Rattle.std.proofs.lemmas.Bool.Decides.{nat_tests}
+use Rattle.std.specs.List.{list_any, flat_map}
+use Rattle.std.specs.Str.{bytes_eq}
+use Rattle.std.specs.Cmp.Lexicographic.{bytes_decides}
+use Rattle.std.proofs.lemmas.Cmp.{nat_list_eq_equiv}
+use Rattle.indexmap.specs.IndexSet.{insert_key}
+use Rattle.lrp_model.specs.Texts.{Identifier}
+use Rattle.lrp_model.specs.Sorts.{is_time}
+use Rattle.lrp_model.specs.Faults.{first, fault_if, repeated, is_named_in}
+use Rattle.lrp_model.specs.DatabaseMeaning.{time_number}
+use Rattle.lrp_model.specs.DatabaseFaults.{stands, fault, suits, wrong_sorts, unknown, side_faults}
+use Rattle.lrp_model.specs.declared.tokens.Place.{Place}
+use Rattle.lrp_model.specs.declared.raw.RawColumn.{RawColumn}
+use Rattle.lrp_model.specs.declared.written.Located.{Located}
+use Rattle.lrp_model.specs.declared.written.WrittenValue.{WrittenValue}
+use Rattle.lrp_model.specs.declared.written.RawBound.{RawBound}
+use Rattle.lrp_model.specs.declared.faults.DbFault.{DbFault}
+use Rattle.lrp_model.specs.declared.faults.DbKind.TheVariants.{Name, Sort}
+use Rattle.lrp_rel.specs.Sooner.{sooner}
+use Rattle.lrp_rel.specs.Once.{put_once}
+use Rattle.lrp_rel.specs.Times.{time_names, AreTimesOf}
+use Rattle.lrp_rel.proofs.FirstFault.{first_of_both, sooner_again}
+
+-- the faults of a bound
+abbrev pub bound_faults : List RawColumn → RawBound → List DbFault
+bound_faults cs b = unknown cs b.left ++ side_faults cs b.side
+
+-- the elements from an index on are the one there and those behind it
+pub behind : {A : Type 0} (xs : List A) (i : ℕ) (x : A) → i < length xs → x ≡ get_or xs i x → drop i xs ≡ x ∷ drop (i + 1) xs
+behind xs i x lt e = drop-cons xs i x lt ∙ ap (λ y. y ∷ drop (suc i) xs) (sym e) ∙ ap (λ k. x ∷ drop k xs) (sym (add-one i))
+
+-- a fault found on the way is taken over
+pub walk_said : (best more found a b all : Option DbFault) → sooner stands best a ≡ all → a ≡ sooner stands found b → more ≡ sooner stands best found → sooner stands more b ≡ all
+walk_said best more found a b all h e is = ap (λ x. sooner stands x b) is ∙ sym (sooner_again stands best found b) ∙ ap (sooner stands best) (sym e) ∙ h
+
+-- the same, where the faults are those of two lists
+pub walk : (best more found all : Option DbFault) (xs rest : List DbFault) → sooner stands best (first stands (xs ++ rest)) ≡ all → found ≡ first stands xs → more ≡ sooner stands best found → sooner stands more (first stands rest) ≡ all
+walk best more found all xs rest h e is =
+    walk_said best more found (first stands (xs ++ rest)) (first stands rest) all h (first_of_both stands xs rest ∙ ap (λ x. sooner stands x (first stands rest)) (sym e)) is
+
+-- one element more of those that have faults
+pub flat_walk : {A : Type 0} (f : A → List DbFault) (xs : List A) (i : ℕ) (x : A) (best more found all : Option DbFault)
+    → sooner stands best (first stands (flat_map f (drop i xs))) ≡ all → i < length xs → x ≡ get_or xs i x → found ≡ first stands (f x) → more ≡ sooner stands best found
+    → sooner stands more (first stands (flat_map f (drop (i + 1) xs))) ≡ all
+flat_walk f xs i x best more found all h lt here e is =
+    walk best more found all (f x) (flat_map f (drop (i + 1) xs)) (ap (λ l. sooner stands best (first stands (flat_map f l))) (sym (behind xs i x lt here)) ∙ h) e is
+
+-- ---- names that stand twice
+
+-- whether a name more passes
+pub any_more : (p : Identifier → Bool) (xs : List Identifier) (x : Identifier) → list_any p (xs ++ x ∷ []) ≡ p x || list_any p xs
+any_more p [] x = refl
+any_more p (y ∷ xs) x = ap (λ b. p y || b) (any_more p xs x) ∙ turned (p y) (p x) (list_any p xs)
+  where
+    turned : (a b c : Bool) → a || (b || c) ≡ b || (a || c)
+    turned true true c = refl
+    turned true false c = refl
+    turned false b c = refl
+
+-- a name that is there already passes no further test
+there_already : (names : List Identifier) (n m : Identifier) (b : Bool) → list_any (bytes_eq n) names ≡ true → bytes_eq m n ≡ b → list_any (bytes_eq m) names ≡ b || list_any (bytes_eq m) names
+there_already names n m false h e = refl
+there_already names n m true h e = ap (λ k. list_any (bytes_eq k) names) ((bytes_decides m n).0 e) ∙ h
+
+-- a name put in is there, beside those before
+pub any_put : (names : List Identifier) (n m : Identifier) → list_any (bytes_eq m) (insert_key bytes_eq names n) ≡ bytes_eq m n || list_any (bytes_eq m) names
+any_put names n m = by (list_any (bytes_eq n) names) refl
+  where
+    by : (b : Bool) → list_any (bytes_eq n) names ≡ b → list_any (bytes_eq m) (if b then names else names ++ n ∷ []) ≡ bytes_eq m n || list_any (bytes_eq m) names
+    by true e = there_already names n m (bytes_eq m n) e refl
+    by false e = any_more (bytes_eq m) names n
+
+-- the names that stand twice depend only on which names stand before
+repeated_as : (f : Place → DbFault) (b c : List Identifier) → ((m : Identifier) → is_named_in b m ≡ is_named_in c m) → (ns : List (Located Identifier)) → repeated f b ns ≡ repeated f c ns
+repeated_as f b c same [] = refl
+repeated_as f b c same (n ∷ ns) =
+    ap (λ t. fault_if t (f n.place) ++ repeated f (n.item ∷ b) ns) (same n.item)
+    ∙ ap (λ l. fault_if (is_named_in c n.item) (f n.place) ++ l) (repeated_as f (n.item ∷ b) (n.item ∷ c) (λ m. ap (λ t. bytes_eq m n.item || t) (same m)) ns)
+
+-- one name more of those that may stand twice
+pub names_walk : (n : Located Identifier) (ns : List (Located Identifier)) (names more_names : List Identifier) (best more found all : Option DbFault)
+    → sooner stands best (first stands (repeated (fault Name) names (n ∷ ns))) ≡ all → found ≡ first stands (fault_if (is_named_in names n.item) (fault Name n.place))
+    → more_names ≡ insert_key bytes_eq names n.item → more ≡ sooner stands best found → sooner stands more (first stands (repeated (fault Name) more_names ns)) ≡ all
+names_walk n ns names more_names best more found all h e put is =
+    ap (λ l. sooner stands more (first stands l)) (repeated_as (fault Name) more_names (n.item ∷ names) (λ m. ap (list_any (bytes_eq m)) put ∙ any_put names n.item m) ns)
+    ∙ walk best more found all (fault_if (is_named_in names n.item) (fault Name n.place)) (repeated (fault Name) (n.item ∷ names) ns) h e is
+
+-- ---- values in their columns
+
+-- no values have no faults
+no_sorts : (cs : List RawColumn) → wrong_sorts cs [] ≡ []
+no_sorts [] = refl
+no_sorts (c ∷ cs) = refl
+
+-- past the last column or the last value there are no faults
+pub sorts_end : (cs : List RawColumn) (vs : List (Located WrittenValue)) (i : ℕ) → min (length cs) (length vs) ≤ i → wrong_sorts (drop i cs) (drop i vs) ≡ []
+sorts_end [] vs zero le = refl
+sorts_end [] vs (suc i) le = refl
+sorts_end (c ∷ cs) [] zero le = refl
+sorts_end (c ∷ cs) [] (suc i) le = no_sorts (drop i cs)
+sorts_end (c ∷ cs) (v ∷ vs) zero le = absurd (omega (arith, le))
+sorts_end (c ∷ cs) (v ∷ vs) (suc i) le = sorts_end cs vs i (omega (arith, le))
+
+-- one value more, with its column
+pub sorts_walk : (cs : List RawColumn) (vs : List (Located WrittenValue)) (i : ℕ) (c : RawColumn) (v : Located WrittenValue) (best more found all : Option DbFault)
+    → sooner stands best (first stands (wrong_sorts (drop i cs) (drop i vs))) ≡ all → i < length cs → i < length vs → c ≡ get_or cs i c → v ≡ get_or vs i v
+    → found ≡ first stands (fault_if (not (suits v.item c)) (fault Sort v.place)) → more ≡ sooner stands best found
+    → sooner stands more (first stands (wrong_sorts (drop (i + 1) cs) (drop (i + 1) vs))) ≡ all
+sorts_walk cs vs i c v best more found all h lt less here there e is =
+    walk best more found all (fault_if (not (suits v.item c)) (fault Sort v.place)) (wrong_sorts (drop (i + 1) cs) (drop (i + 1) vs))
+    (ap (λ l. sooner stands best (first stands (wrong_sorts l (v ∷ drop (i + 1) vs)))) (sym (behind cs i c lt here)) ∙ ap (λ l. sooner stands best (first stands (wrong_sorts (drop i cs) l))) (sym (behind vs i v less there)) ∙ h) e is
+
+-- ---- names of time columns
+
+-- a name among those that were put in, each once
+any_once : (n : Identifier) (before ns : List Identifier) → list_any (bytes_eq n) (fold put_once before ns) ≡ list_any (bytes_eq n) before || list_any (bytes_eq n) ns
+any_once n before [] = or_false (list_any (bytes_eq n) before)
+  where
+    or_false : (b : Bool) → b ≡ b || false
+    or_false true = refl
+    or_false false = refl
+any_once n before (m ∷ ns) =
+    any_once n (put_once before m) ns ∙ ap (λ b. b || list_any (bytes_eq n) ns) (any_put before m n) ∙ moved_out (bytes_eq n m) (list_any (bytes_eq n) before) (list_any (bytes_eq n) ns)
+  where
+    moved_out : (a b c : Bool) → (a || b) || c ≡ b || (a || c)
+    moved_out true true c = refl
+    moved_out true false c = refl
+    moved_out false true c = refl
+    moved_out false false c = refl
+
+-- a number behind others is not 0
+not_zero : (k : ℕ) → (k + 1 == 0) ≡ false
+not_zero k = grind (arith, nat_tests)
+
+-- a column with the name, or one of those behind it
+named_here : (before k : ℕ) (t : Bool) (cs : List RawColumn) (n : Identifier) → not (list_any (bytes_eq n) (time_names cs)) ≡ (time_number k cs n == 0) → not (t || list_any (bytes_eq n) (time_names cs)) ≡ ((if t then before + 1 else time_number k cs n) == 0)
+named_here before k true cs n h = sym (not_zero before)
+named_here before k false cs n h = h
+
+-- a name has the number 0 where no time column has it
+numbered : (before : ℕ) (cs : List RawColumn) (n : Identifier) → not (list_any (bytes_eq n) (time_names cs)) ≡ (time_number before cs n == 0)
+numbered before [] n = refl
+numbered before (c ∷ cs) n = by (is_time c.sort) (numbered (before + 1) cs n) (numbered before cs n)
+  where
+    by : (b : Bool) → not (list_any (bytes_eq n) (time_names cs)) ≡ (time_number (before + 1) cs n == 0) → not (list_any (bytes_eq n) (time_names cs)) ≡ (time_number before cs n == 0)
+        → not (list_any (bytes_eq n) (map (λ x. x.name) (if b then c ∷ filter (λ x. is_time x.sort) cs else filter (λ x. is_time x.sort) cs))) ≡ ((if b then (if bytes_eq c.name n then before + 1 else time_number (before + 1) cs n) else time_number before cs n) == 0)
+    by true more same = ap (λ t. not (t || list_any (bytes_eq n) (time_names cs))) (nat_list_eq_equiv.symm n c.name) ∙ named_here before (before + 1) (bytes_eq c.name n) cs n more
+    by false more same = same
+
+-- a name is unknown where it is not among the names of the time columns
+pub known : (cs : List RawColumn) (n : Identifier) (names : List Identifier) → AreTimesOf cs names → not (list_any (bytes_eq n) names) ≡ (time_number 0 cs n == 0)
+known cs n names are = ap (λ l. not (list_any (bytes_eq n) l)) are ∙ ap not (any_once n [] (time_names cs)) ∙ numbered 0 cs n
+
+-- ---- faults of three parts
+
+-- the first fault of three lists
+pub first_of_three : (a b c : Option DbFault) (xs ys zs : List DbFault) → a ≡ first stands xs → b ≡ first stands ys → c ≡ first stands zs → sooner stands (sooner stands a b) c ≡ first stands (xs ++ ys ++ zs)
+first_of_three a b c xs ys zs e d f =
+    ap (λ x. sooner stands (sooner stands x b) c) e ∙ ap (λ x. sooner stands (sooner stands (first stands xs) x) c) d ∙ ap (sooner stands (sooner stands (first stands xs) (first stands ys))) f
+    ∙ ap (λ x. sooner stands x (first stands zs)) (sym (first_of_both stands xs ys)) ∙ sym (first_of_both stands (xs ++ ys) zs)

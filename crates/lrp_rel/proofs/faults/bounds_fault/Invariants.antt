@@ -1,0 +1,16 @@
+-- The first fault is the sooner one of that so far and of that of the bounds left.
+use Rattle.std.proofs.Common.{◌≡◌, List, drop}
+use Rattle.std.specs.List.{flat_map}
+use Rattle.indexmap.specs.IndexSet.{keys}
+use Rattle.lrp_model.specs.Faults.{first}
+use Rattle.lrp_model.specs.DatabaseFaults.{stands}
+use Rattle.lrp_model.specs.declared.raw.RawColumn.{RawColumn}
+use Rattle.lrp_rel.specs.Sooner.{sooner}
+use Rattle.lrp_rel.specs.Times.{AreTimesOf}
+use Rattle.lrp_rel.proofs.FaultWalks.{bound_faults}
+use Rattle.lrp_rel.proofs.faults.bounds_fault.Given as goal
+
+abbrev pub invariant-loop-bound : goal.invariant-loop-bound
+invariant-loop-bound l =
+    (columns : List RawColumn) → AreTimesOf columns (keys l.times)
+    → sooner stands l.best (first stands (flat_map (bound_faults columns) (drop l.bound-index l.bounds))) ≡ first stands (flat_map (bound_faults columns) l.bounds)
