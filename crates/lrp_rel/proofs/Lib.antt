@@ -1,6 +1,10 @@
 pub mod FirstFault
 pub mod FaultWalks
 pub mod SoundLemmas
+pub mod NameLemmas
+pub mod MeaningKept
+pub mod FewTexts
+pub mod WholeFault
 pub mod SeenLemmas
 pub mod StoredLemmas
 pub mod Labels

@@ -1,12 +1,17 @@
 -- What reading the tree of a database's text means.
-use Rattle.std.specs.Prelude.{◌≡◌, ℕ, List, Result, Ok, Err}
+use Rattle.std.specs.Prelude.{◌≡◌, ◌≤◌, ℕ, List, [], Some, length, Result, Ok, Err}
 use Rattle.lrp_model.specs.declared.tokens.Fault.{Fault as TokenFault}
 use Rattle.lrp_model.specs.declared.tokens.Fault.TheVariants.{Syntax as syntax, Number as number, TextTooLong as text_too_long, Period as period, Deep, Memory as memory}
 use Rattle.lrp_model.specs.declared.tokens.Place.{Place}
 use Rattle.lrp_model.specs.declared.faults.DbFault.{DbFault}
 use Rattle.lrp_model.specs.declared.faults.DbKind.{DbKind}
 use Rattle.lrp_model.specs.declared.faults.DbKind.TheVariants.{Utf8, Syntax, Number, Period, TextTooLong, Name, Arity, Sort, Column, Wide}
-use Rattle.lrp_model.specs.DatabaseReading.{IsNoUtf8, IsNoDatabaseText}
+use Rattle.lrp_model.specs.Faults.{first}
+use Rattle.lrp_model.specs.DatabaseMeaning.{database_of}
+use Rattle.lrp_model.specs.DatabaseFaults.{stands, faults}
+use Rattle.lrp_model.specs.DatabaseReading.{IsNoUtf8, IsNoDatabaseText, IsDatabaseText, IsDatabaseFault}
+use Rattle.lrp_model.specs.declared.relations.Relation.{Relation}
+use Rattle.lrp_model.specs.declared.written.RawRelation.{RawRelation}
 use Rattle.lrp_rel.specs.declared.trees.ReadFault.{ReadFault}
 use Rattle.lrp_rel.specs.declared.trees.ReadFault.TheVariants.{Fault, Memory}
 
@@ -31,6 +36,27 @@ IsTextFault bytes f = IsTextFaultOf bytes f.kind f
 abbrev pub IsUnread : List ℕ → ReadFault → Type 0
 IsUnread bytes (Fault f) = IsTextFault bytes f
 IsUnread bytes Memory = Unit {0}
+
+-- why there is no database: its one fault, or want of memory
+abbrev pub IsRefused : List ℕ → ReadFault → Type 0
+IsRefused bytes (Fault f) = IsDatabaseFault bytes f
+IsRefused bytes Memory = Unit {0}
+
+-- the tree of some bytes that are few enough
+pub record IsTreeOfText (tree : List RawRelation) : Type 0 where
+  pub bytes : List ℕ
+  pub short : length bytes ≤ 16777216
+  pub text : IsDatabaseText bytes tree
+
+-- the relations that a tree without faults means
+pub record IsSoundTree (tree : List RawRelation) (db : List Relation) : Type 0 where
+  pub sound : faults tree ≡ []
+  pub meant : db ≡ database_of tree
+
+-- why a tree has no meaning: its first fault, or want of memory
+abbrev pub IsTreeRefusal : List RawRelation → ReadFault → Type 0
+IsTreeRefusal tree (Fault f) = first stands (faults tree) ≡ Some f
+IsTreeRefusal tree Memory = Unit {0}
 
 -- this value, unless memory ran out
 abbrev pub IsOrMemory : {A : Type 0} → A → Result A ReadFault → Type 0

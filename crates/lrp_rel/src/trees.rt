@@ -7,7 +7,7 @@ ghost use Rattle.lrp_model.specs.DatabaseReading.{IsDatabaseText};
 ghost use Rattle.lrp_rel.specs.Reading.{refusal_of, IsTextFault, IsUnread, IsOrMemory, IsFaultOrMemory};
 
 use crate::reading::read_relations_to_end;
-use lrp_model::{DbFault, DbKind, Fault, List, Place, RawRelation};
+use lrp_model::{DbFault, DbKind, Fault, List, Memory, Place, RawRelation};
 use lrp_text::Cursor;
 use std::alloc::Global;
 use std::str::from_utf8;
@@ -17,6 +17,17 @@ use std::str::from_utf8;
 pub enum ReadFault {
     Fault { fault: DbFault },
     Memory,
+}
+
+impl From<Memory> for ReadFault {
+    ghost use Rattle.std.specs.Prelude.{◌≡◌};
+    ghost use Rattle.lrp_rel.specs.declared.trees.ReadFault.TheVariants.{Memory as memory};
+
+    ghost from_gives = { λ _ e. e ≡ memory };
+
+    fn from(_: Memory) -> Self {
+        ReadFault::Memory
+    }
 }
 
 // The place behind one more byte.
