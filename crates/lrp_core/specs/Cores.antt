@@ -1,7 +1,7 @@
 -- The formula that a core form of the program is.
 use Rattle.std.specs.Prelude.{List, [], ◌∷◌}
 use Rattle.lrp_model.specs.Formulas.{Form, Forms, atom, test, sorted, negation, conjunction, disjunction, exists, no_forms, form}
-use Rattle.lrp_core.specs.declared.core.Core.{Core, Atom, Check, Sorted, Not', And', Or', Exists', Row_of-Core, end_of-Core, more_of-Core}
+use Rattle.lrp_core.specs.declared.core_forms.Core.{Core, Atom, Check, Sorted, Not', And', Or', Exists', Row_of-Core, end_of-Core, more_of-Core}
 
 abbrev mutual
   pub core_of : Core → Form

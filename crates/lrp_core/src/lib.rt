@@ -1,6 +1,12 @@
 //! Core forms of formulas and queries, as the planner reads them.
 #![tactic(auto)]
 
-mod core;
+mod comparisons;
+mod core_forms;
+mod forming;
+mod junctions;
+mod variables;
 
-pub use core::Core;
+pub use core_forms::Core;
+pub use forming::core_form;
+pub use variables::Variable;

@@ -1,0 +1,109 @@
+-- The formula of a core form whose members stand in a vector, and lists of members as they grow.
+use Rattle.std.proofs.Common.{◌≡◌, subst, List, [], ◌∷◌, ◌++◌, Vec, Global, refl, ap, sym, ◌∙◌, rules}
+use Rattle.lrp_model.specs.Formulas.{Form, Forms, conjunction, disjunction, no_forms, form, joined}
+use Rattle.lrp_model.specs.Core.{conjuncts, disjuncts, all_conjuncts, all_disjuncts, and_two, or_two, and_list, or_list}
+use Rattle.lrp_core.specs.Cores.{core_of, cores_of, row_cores}
+use Rattle.lrp_core.specs.declared.core_forms.Core.{Core, And, Or, the_lemmas, Row_of-Core, end_of-Core, more_of-Core, items-the_row-Core, roll-Core, out-Core, roll-out-Core}
+use Rattle.lrp_core.specs.declared.core_forms.Core.TheOpen.{Core-F}
+use Rattle.lrp_core.specs.declared.core_forms.Core.TheVariants.{rolls-And, rolls-Or}
+
+-- the members in a row are those of the list
+row_cores-items : (n : _) (k : Row_of-Core n) → row_cores k ≡ cores_of (items-the_row-Core n k)
+row_cores-items _ end_of-Core = refl
+row_cores-items _ (more_of-Core f rest) = ap (form (core_of f)) (row_cores-items _ rest)
+
+-- an `and` and an `or` are those of the vector's members
+pub core_of-And : (v : Vec Core Global) → core_of (And v) ≡ conjunction (cores_of v.items)
+core_of-And v = search (rules, the_lemmas, row_cores-items)
+
+pub core_of-Or : (v : Vec Core Global) → core_of (Or v) ≡ disjunction (cores_of v.items)
+core_of-Or v = search (rules, the_lemmas, row_cores-items)
+
+-- two lists, one behind the other
+pub cores_of-append : (fs gs : List Core) → cores_of (fs ++ gs) ≡ joined (cores_of fs) (cores_of gs)
+cores_of-append [] gs = refl
+cores_of-append (f ∷ fs) gs = ap (form (core_of f)) (cores_of-append fs gs)
+
+pub joined_none : (fs : Forms) → joined fs no_forms ≡ fs
+joined_none no_forms = refl
+joined_none (form f fs) = ap (form f) (joined_none fs)
+
+pub joined_assoc : (fs gs hs : Forms) → joined (joined fs gs) hs ≡ joined fs (joined gs hs)
+joined_assoc no_forms gs hs = refl
+joined_assoc (form f fs) gs hs = ap (form f) (joined_assoc fs gs hs)
+
+-- a core form that is no `and` is one element of an `and`
+one_conjunct : (layer : Core-F Core) → ((v : Vec Core Global) → roll-Core layer ≡ And v → ⊥) → conjuncts (core_of (roll-Core layer)) ≡ form (core_of (roll-Core layer)) no_forms
+unfolding roll-Core denote.Hole.Carrier.roll
+one_conjunct (Core-F.And v) other = absurd (other v (rolls-And v))
+one_conjunct (Core-F.Atom r ts) other = refl
+one_conjunct (Core-F.Check t) other = refl
+one_conjunct (Core-F.Sorted s v) other = refl
+one_conjunct (Core-F.Not f) other = refl
+one_conjunct (Core-F.Or v) other = refl
+one_conjunct (Core-F.Exists v s f) other = refl
+
+-- and one that is no `or` is one element of an `or`
+one_disjunct : (layer : Core-F Core) → ((v : Vec Core Global) → roll-Core layer ≡ Or v → ⊥) → disjuncts (core_of (roll-Core layer)) ≡ form (core_of (roll-Core layer)) no_forms
+unfolding roll-Core denote.Hole.Carrier.roll
+one_disjunct (Core-F.Or v) other = absurd (other v (rolls-Or v))
+one_disjunct (Core-F.Atom r ts) other = refl
+one_disjunct (Core-F.Check t) other = refl
+one_disjunct (Core-F.Sorted s v) other = refl
+one_disjunct (Core-F.Not f) other = refl
+one_disjunct (Core-F.And v) other = refl
+one_disjunct (Core-F.Exists v s f) other = refl
+
+-- an `and` in an `and` is added by its elements
+pub conjuncts_added : (fs gs : List Core) (f : Core) (v : Vec Core Global) → f ≡ And v → gs ≡ fs ++ v.items → cores_of gs ≡ joined (cores_of fs) (conjuncts (core_of f))
+conjuncts_added fs gs f v is e = ap cores_of e ∙ cores_of-append fs v.items ∙ ap (joined (cores_of fs)) (sym (ap (λ x. conjuncts (core_of x)) is ∙ ap conjuncts (core_of-And v)))
+
+-- and any other core form as it is
+pub conjunct_added : (fs gs : List Core) (f : Core) → ((v : Vec Core Global) → f ≡ And v → ⊥) → gs ≡ fs ++ f ∷ [] → cores_of gs ≡ joined (cores_of fs) (conjuncts (core_of f))
+conjunct_added fs gs f other e =
+    let one : conjuncts (core_of f) ≡ form (core_of f) no_forms = subst (λ g. conjuncts (core_of g) ≡ form (core_of g) no_forms) (roll-out-Core f) (one_conjunct (out-Core f) (λ v is. other v (sym (roll-out-Core f) ∙ is))) in
+    ap cores_of e ∙ cores_of-append fs (f ∷ []) ∙ ap (joined (cores_of fs)) (sym one)
+
+-- the same for an `or`
+pub disjuncts_added : (fs gs : List Core) (f : Core) (v : Vec Core Global) → f ≡ Or v → gs ≡ fs ++ v.items → cores_of gs ≡ joined (cores_of fs) (disjuncts (core_of f))
+disjuncts_added fs gs f v is e = ap cores_of e ∙ cores_of-append fs v.items ∙ ap (joined (cores_of fs)) (sym (ap (λ x. disjuncts (core_of x)) is ∙ ap disjuncts (core_of-Or v)))
+
+pub disjunct_added : (fs gs : List Core) (f : Core) → ((v : Vec Core Global) → f ≡ Or v → ⊥) → gs ≡ fs ++ f ∷ [] → cores_of gs ≡ joined (cores_of fs) (disjuncts (core_of f))
+disjunct_added fs gs f other e =
+    let one : disjuncts (core_of f) ≡ form (core_of f) no_forms = subst (λ g. disjuncts (core_of g) ≡ form (core_of g) no_forms) (roll-out-Core f) (one_disjunct (out-Core f) (λ v is. other v (sym (roll-out-Core f) ∙ is))) in
+    ap cores_of e ∙ cores_of-append fs (f ∷ []) ∙ ap (joined (cores_of fs)) (sym one)
+
+-- elements are added one after the other
+all_conjuncts-joined : (fs gs : Forms) → all_conjuncts (joined fs gs) ≡ joined (all_conjuncts fs) (all_conjuncts gs)
+all_conjuncts-joined no_forms gs = refl
+all_conjuncts-joined (form f fs) gs = ap (joined (conjuncts f)) (all_conjuncts-joined fs gs) ∙ sym (joined_assoc (conjuncts f) (all_conjuncts fs) (all_conjuncts gs))
+
+all_disjuncts-joined : (fs gs : Forms) → all_disjuncts (joined fs gs) ≡ joined (all_disjuncts fs) (all_disjuncts gs)
+all_disjuncts-joined no_forms gs = refl
+all_disjuncts-joined (form f fs) gs = ap (joined (disjuncts f)) (all_disjuncts-joined fs gs) ∙ sym (joined_assoc (disjuncts f) (all_disjuncts fs) (all_disjuncts gs))
+
+pub conjuncts-step : (seen more made now : List Core) (f : Core) → more ≡ seen ++ f ∷ [] → cores_of made ≡ all_conjuncts (cores_of seen) → cores_of now ≡ joined (cores_of made) (conjuncts (core_of f)) → cores_of now ≡ all_conjuncts (cores_of more)
+conjuncts-step seen more made now f e before step =
+    step ∙ ap (λ x. joined x (conjuncts (core_of f))) before ∙ ap (joined (all_conjuncts (cores_of seen))) (sym (joined_none (conjuncts (core_of f))))
+    ∙ sym (all_conjuncts-joined (cores_of seen) (form (core_of f) no_forms)) ∙ sym (ap all_conjuncts (ap cores_of e ∙ cores_of-append seen (f ∷ [])))
+
+pub disjuncts-step : (seen more made now : List Core) (f : Core) → more ≡ seen ++ f ∷ [] → cores_of made ≡ all_disjuncts (cores_of seen) → cores_of now ≡ joined (cores_of made) (disjuncts (core_of f)) → cores_of now ≡ all_disjuncts (cores_of more)
+disjuncts-step seen more made now f e before step =
+    step ∙ ap (λ x. joined x (disjuncts (core_of f))) before ∙ ap (joined (all_disjuncts (cores_of seen))) (sym (joined_none (disjuncts (core_of f))))
+    ∙ sym (all_disjuncts-joined (cores_of seen) (form (core_of f) no_forms)) ∙ sym (ap all_disjuncts (ap cores_of e ∙ cores_of-append seen (f ∷ [])))
+
+-- an `and` of all members, and one of two
+pub all_conjuncts-and : (fs v : Vec Core Global) → cores_of v.items ≡ all_conjuncts (cores_of fs.items) → core_of (And v) ≡ and_list (cores_of fs.items)
+all_conjuncts-and fs v e = core_of-And v ∙ ap conjunction e
+
+pub two_conjuncts-and : (none one two : Vec Core Global) (f g : Form) → none.items ≡ [] → cores_of one.items ≡ joined (cores_of none.items) (conjuncts f) → cores_of two.items ≡ joined (cores_of one.items) (conjuncts g) → core_of (And two) ≡ and_two f g
+two_conjuncts-and none one two f g start first second =
+    core_of-And two ∙ ap conjunction (second ∙ ap (λ x. joined x (conjuncts g)) (first ∙ ap (λ x. joined (cores_of x) (conjuncts f)) start) ∙ ap (joined (conjuncts f)) (sym (joined_none (conjuncts g))))
+
+-- an `or` of all members, and one of two
+pub all_disjuncts-or : (fs v : Vec Core Global) → cores_of v.items ≡ all_disjuncts (cores_of fs.items) → core_of (Or v) ≡ or_list (cores_of fs.items)
+all_disjuncts-or fs v e = core_of-Or v ∙ ap disjunction e
+
+pub two_disjuncts-or : (none one two : Vec Core Global) (f g : Form) → none.items ≡ [] → cores_of one.items ≡ joined (cores_of none.items) (disjuncts f) → cores_of two.items ≡ joined (cores_of one.items) (disjuncts g) → core_of (Or two) ≡ or_two f g
+two_disjuncts-or none one two f g start first second =
+    core_of-Or two ∙ ap disjunction (second ∙ ap (λ x. joined x (disjuncts g)) (first ∙ ap (λ x. joined (cores_of x) (disjuncts f)) start) ∙ ap (joined (disjuncts f)) (sym (joined_none (disjuncts g))))

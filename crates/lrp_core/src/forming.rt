@@ -1,0 +1,181 @@
+// The core form of a formula, of its negation, and of a query.
+ghost use Rattle.std.specs.Prelude.{◌≡◌, IfOk, OnOk};
+ghost use Rattle.lrp_model.specs.Formulas.{form_of, forms_of, question_of, atom, negation, exists, sorted as sorted_form, joined, form, no_forms};
+ghost use Rattle.lrp_model.specs.Core.{core_form as core_form_of, positive as positive_of, negative as negative_of, positives as positives_of, negatives as negatives_of, with_sort, column_elements, head_elements as elements_of, and_list};
+ghost use Rattle.lrp_core.specs.Cores.{core_of, cores_of};
+
+use crate::Core;
+use crate::comparisons::{negated, negative_test, positive_test};
+use crate::junctions::{all_of, both, either, push_conjunct, some_of};
+use lrp_model::{Column, Copies, Formula, List, Memory, Name, Query, Sort, Term};
+use std::alloc::Global;
+
+/// The core form of a query. `named` says whether some column of the database has a named sort.
+pub fn core_form(alloc: Global, query: &Query, named: bool) -> Result<Core, Memory>
+    ensures { IfOk result (λ core. core_of core ≡ core_form_of named (question_of query.now)) }
+{
+    let body = positive(alloc, &query.body, named)?;
+    if named {
+        guarded(alloc, query.head.columns.as_slice(), body)
+    } else {
+        Ok(body)
+    }
+}
+
+// The sort elements of the data columns, and then the formula.
+fn guarded(alloc: Global, columns: &[Column], body: Core) -> Result<Core, Memory>
+    ensures { IfOk result (λ core. core_of core ≡ and_list (joined (elements_of columns.now) (form (core_of body) no_forms))) }
+{
+    let mut of = head_elements(alloc, columns)?;
+    push_conjunct(&mut of, body)?;
+    Ok(Core::And { of })
+}
+
+// The sort elements of the data columns, in order.
+fn head_elements(alloc: Global, columns: &[Column]) -> Result<Vec<Core>, Memory>
+    ensures { IfOk result (λ made. cores_of made.items ≡ elements_of columns.now) }
+{
+    let mut all = Vec::new(alloc);
+    for column in columns {
+        push_column(alloc, &mut all, column)?;
+    }
+    Ok(all)
+}
+
+// The sort element of a data column.
+fn push_column(alloc: Global, all: &mut Vec<Core>, column: &Column) -> Result<(), Memory>
+    ensures { OnOk result (cores_of all.new.items ≡ joined (cores_of all.old.items) (column_elements column.now.sort column.now.name)) }
+{
+    if !column.sort.is_time() {
+        all.push(sorted(alloc, &column.sort, &column.name)?)?;
+    }
+    Ok(())
+}
+
+fn sorted(alloc: Global, sort: &Sort, name: &Name) -> Result<Core, Memory>
+    ensures { IfOk result (λ core. core_of core ≡ sorted_form sort.now name.now) }
+{
+    Ok(Core::Sorted {
+        sort: sort.copy(alloc)?,
+        name: name.copy(alloc)?,
+    })
+}
+
+// Where sorts are named, a quantifier over a data sort takes its formula with the sort element of its variable.
+fn with_sorted(
+    alloc: Global,
+    named: bool,
+    sort: &Sort,
+    name: &Name,
+    f: Core,
+) -> Result<Core, Memory>
+    ensures { IfOk result (λ core. core_of core ≡ with_sort named sort.now name.now (core_of f)) }
+{
+    if named && !sort.is_time() {
+        both(alloc, sorted(alloc, sort, name)?, f)
+    } else {
+        Ok(f)
+    }
+}
+
+fn some(alloc: Global, named: bool, name: &Name, sort: &Sort, f: Core) -> Result<Core, Memory>
+    ensures { IfOk result (λ core. core_of core ≡ exists name.now sort.now (with_sort named sort.now name.now (core_of f))) }
+{
+    let of = Box::new(alloc, with_sorted(alloc, named, sort, name, f)?)?;
+    Ok(Core::Exists {
+        name: name.copy(alloc)?,
+        sort: sort.copy(alloc)?,
+        of,
+    })
+}
+
+fn none(alloc: Global, named: bool, name: &Name, sort: &Sort, f: Core) -> Result<Core, Memory>
+    ensures { IfOk result (λ core. core_of core ≡ negation (exists name.now sort.now (with_sort named sort.now name.now (core_of f)))) }
+{
+    negated(alloc, some(alloc, named, name, sort, f)?)
+}
+
+fn holding(alloc: Global, relation: &Name, terms: &List<Term>) -> Result<Core, Memory>
+    ensures { IfOk result (λ core. core_of core ≡ atom relation.now terms.now) }
+{
+    Ok(Core::Atom {
+        relation: relation.copy(alloc)?,
+        terms: terms.copy(alloc)?,
+    })
+}
+
+#[cycle(forming)]
+fn positive(alloc: Global, f: &Formula, named: bool) -> Result<Core, Memory>
+    ensures { IfOk result (λ core. core_of core ≡ positive_of (form_of f.now) named) }
+{
+    match f {
+        Formula::Atom { relation, terms } => holding(alloc, relation, terms),
+        Formula::Check { test } => positive_test(alloc, test),
+        Formula::Not { of } => negative(alloc, of, named),
+        Formula::And { of } => all_of(alloc, positives(alloc, of, named)?),
+        Formula::Or { of } => some_of(alloc, positives(alloc, of, named)?),
+        Formula::Implies { left, right } => {
+            let left = negative(alloc, left, named)?;
+            let right = positive(alloc, right, named)?;
+            either(alloc, left, right)
+        }
+        Formula::Exists { name, sort, of } => {
+            let of = positive(alloc, of, named)?;
+            some(alloc, named, name, sort, of)
+        }
+        Formula::Forall { name, sort, of } => {
+            let of = negative(alloc, of, named)?;
+            none(alloc, named, name, sort, of)
+        }
+    }
+}
+
+#[cycle(forming)]
+fn negative(alloc: Global, f: &Formula, named: bool) -> Result<Core, Memory>
+    ensures { IfOk result (λ core. core_of core ≡ negative_of (form_of f.now) named) }
+{
+    match f {
+        Formula::Atom { relation, terms } => negated(alloc, holding(alloc, relation, terms)?),
+        Formula::Check { test } => negative_test(alloc, test),
+        Formula::Not { of } => positive(alloc, of, named),
+        Formula::And { of } => negated(alloc, all_of(alloc, positives(alloc, of, named)?)?),
+        Formula::Or { of } => all_of(alloc, negatives(alloc, of, named)?),
+        Formula::Implies { left, right } => {
+            let left = positive(alloc, left, named)?;
+            let right = negative(alloc, right, named)?;
+            both(alloc, left, right)
+        }
+        Formula::Exists { name, sort, of } => {
+            let of = positive(alloc, of, named)?;
+            none(alloc, named, name, sort, of)
+        }
+        Formula::Forall { name, sort, of } => {
+            let of = negative(alloc, of, named)?;
+            some(alloc, named, name, sort, of)
+        }
+    }
+}
+
+#[cycle(forming)]
+fn positives(alloc: Global, fs: &[Formula], named: bool) -> Result<Vec<Core>, Memory>
+    ensures { IfOk result (λ made. cores_of made.items ≡ positives_of (forms_of fs.now) named) }
+{
+    let mut all = Vec::new(alloc);
+    for f in fs {
+        let core = positive(alloc, f, named)?;
+        all.push(core)?;
+    }
+    Ok(all)
+}
+
+#[cycle(forming)]
+fn negatives(alloc: Global, fs: &[Formula], named: bool) -> Result<Vec<Core>, Memory>
+    ensures { IfOk result (λ made. cores_of made.items ≡ negatives_of (forms_of fs.now) named) }
+{
+    let mut all = Vec::new(alloc);
+    for f in fs {
+        let core = negative(alloc, f, named)?;
+        all.push(core)?;
+    }
+    Ok(all)
+}
