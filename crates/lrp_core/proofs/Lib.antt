@@ -1,2 +1,3 @@
 pub mod CoreViews
 pub mod Members
+pub mod VariableLists

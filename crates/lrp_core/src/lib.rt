@@ -9,4 +9,4 @@ mod variables;
 
 pub use core_forms::Core;
 pub use forming::core_form;
-pub use variables::Variable;
+pub use variables::{Variable, free_variables};
