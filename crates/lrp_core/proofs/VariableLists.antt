@@ -1,5 +1,5 @@
 -- Lists that hold each variable once: their members, and how they grow.
-use Rattle.std.proofs.Common.{◌≡◌, ℕ, ◌+◌, ◌<◌, Bool, true, false, not, ◌||◌, List, [], ◌∷◌, ◌++◌, Vec, Global, refl, ap, sym, subst, ◌∙◌, length, take, get_or, map, filter, if◌then◌else◌, append_assoc, append-nil}
+use Rattle.std.proofs.Common.{◌≡◌, ℕ, ◌+◌, ◌<◌, Bool, true, false, not, ◌||◌, ◌&&◌, List, [], ◌∷◌, ◌++◌, Vec, Global, refl, ap, sym, subst, ◌∙◌, length, take, get_or, map, filter, if◌then◌else◌, append_assoc, append-nil}
 use Rattle.std.specs.List.{flat_map}
 use Rattle.std.proofs.lemmas.Bool.{true≢false}
 use Rattle.std.proofs.lemmas.List.{take_more, map-append}
@@ -8,7 +8,7 @@ use Rattle.std.proofs.lemmas.List.Elements.{filter-append}
 use Rattle.std.specs.Cmp.Lexicographic.{bytes_decides}
 use Rattle.std.proofs.lemmas.Grind.{flat_map-append}
 use Rattle.lrp_model.specs.Formulas.{Form, Forms, form, no_forms, joined}
-use Rattle.lrp_model.specs.Variables.{Variable, time_variable, data_variable, same_variable, is_among, free, free_each}
+use Rattle.lrp_model.specs.Variables.{Variable, time_variable, data_variable, same_variable, is_among, are_among, meet, free, free_each}
 use Rattle.lrp_core.specs.Cores.{core_of, cores_of}
 use Rattle.lrp_core.specs.FreeVariables.{variable_of, with_variable, with_variables, each_once, others}
 use Rattle.lrp_core.specs.declared.variables.Variable.{Variable as ProgramVariable}
@@ -127,3 +127,18 @@ others-step b seen more v old made now e before step =
 -- a quantifier's free variables are those of its formula but for the bound one
 pub free-exists : (b : Variable) (vs inner fs gs : List Variable) → inner ≡ with_variables [] fs → gs ≡ others b fs → with_variables vs (others b inner) ≡ with_variables vs gs
 free-exists b vs inner fs gs e is = ap (λ x. with_variables vs (others b x)) e ∙ others-with_variables b vs [] fs ∙ ap (with_variables vs) (sym is)
+
+-- a further variable, behind those before it
+pub variables-step : (seen more : List ProgramVariable) (v : ProgramVariable) (old made now : List Variable) → more ≡ seen ++ v ∷ [] → made ≡ with_variables old (map variable_of seen) → now ≡ with_variable made (variable_of v) → now ≡ with_variables old (map variable_of more)
+variables-step seen more v old made now e before step =
+    step ∙ ap (λ x. with_variable x (variable_of v)) before ∙ sym (with_variables-append old (map variable_of seen) (variable_of v ∷ []))
+    ∙ ap (with_variables old) (sym (ap (map variable_of) e ∙ map-append variable_of seen (v ∷ [])))
+
+-- lists with the same members have the same variables among them, and share variables with the same lists
+pub are_among-members : (vs ws xs : List Variable) → ((v : Variable) → is_among ws v ≡ is_among xs v) → are_among vs ws ≡ are_among vs xs
+are_among-members [] ws xs same = refl
+are_among-members (v ∷ vs) ws xs same = ap (λ b. b && are_among vs ws) (same v) ∙ ap (λ b. is_among xs v && b) (are_among-members vs ws xs same)
+
+pub meet-members : (vs ws xs : List Variable) → ((v : Variable) → is_among ws v ≡ is_among xs v) → meet vs ws ≡ meet vs xs
+meet-members [] ws xs same = refl
+meet-members (v ∷ vs) ws xs same = ap (λ b. b || meet vs ws) (same v) ∙ ap (λ b. is_among xs v || b) (meet-members vs ws xs same)

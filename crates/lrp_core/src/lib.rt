@@ -3,10 +3,12 @@
 
 mod comparisons;
 mod core_forms;
+mod coverage;
 mod forming;
 mod junctions;
 mod variables;
 
 pub use core_forms::Core;
+pub use coverage::{are_among, covers, meet};
 pub use forming::core_form;
-pub use variables::{Variable, free_variables};
+pub use variables::{Variable, add_variables, free_variables};

@@ -37,8 +37,8 @@ impl Variable {
         }
     }
 
-    // Whether it is one of them.
-    fn is_among(&self, all: &[Variable]) -> bool
+    /// Whether it is one of them.
+    pub fn is_among(&self, all: &[Variable]) -> bool
         ensures { result ≡ is_member (map variable_of all.now) (variable_of self.now) }
     {
         match self {
@@ -49,7 +49,7 @@ impl Variable {
 }
 
 // Whether the variable that a binder of this sort and name binds is one of them.
-fn contains(all: &[Variable], sort: &Sort, name: &Name) -> bool
+pub(crate) fn contains(all: &[Variable], sort: &Sort, name: &Name) -> bool
     ensures { result ≡ is_member (map variable_of all.now) (bound_by sort.now name.now) }
 {
     for variable in all {
@@ -58,6 +58,16 @@ fn contains(all: &[Variable], sort: &Sort, name: &Name) -> bool
         }
     }
     false
+}
+
+/// All of the variables, each behind the others where it is none of them yet.
+pub fn add_variables(all: &mut List<Variable>, more: List<Variable>) -> Result<(), Memory>
+    ensures { OnOk result (map variable_of all.new ≡ with_variables (map variable_of all.old) (map variable_of more)) }
+{
+    for variable in more.into_vec() {
+        add(all, variable)?;
+    }
+    Ok(())
 }
 
 // A further variable, where it is none of them yet.
