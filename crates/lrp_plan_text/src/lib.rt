@@ -1,0 +1,8 @@
+//! The text of a plan: a line for each step.
+#![tactic(auto)]
+
+mod pieces;
+mod plans;
+mod terms;
+
+pub use plans::write_plan;

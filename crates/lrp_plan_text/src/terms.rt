@@ -1,0 +1,210 @@
+// Terms and tests.
+ghost use Rattle.std.specs.Prelude.{◌≡◌, ◌≤ℤ◌, ◌++◌, pos, codes};
+ghost use Rattle.std.specs.List.{flat_map, AllByRecursion};
+ghost use Rattle.lrp_io.specs.Causes.{HasCause};
+ghost use Rattle.lrp_io.specs.Pieces.{IsWritten};
+ghost use Rattle.lrp_model.specs.Printed.{joined_by, point_bytes, offset_bytes};
+ghost use Rattle.lrp_model.specs.PrintedPlans.{time_bytes, data_bytes, term_bytes, op_bytes, test_bytes, leaf_word as word_of_leaf, carried_bytes};
+ghost use Rattle.lrp_plan_text.specs.Writable.{HasPeriod};
+
+use crate::pieces::{write_bytes, write_integer, write_offset, write_point, write_quoted};
+use lrp_io::{Failed, Sink};
+use lrp_model::{DataTerm, Name, Op, RowPoint, Term, Test, TimeTerm};
+
+// A variable with its offset.
+fn write_variable<S: Sink>(out: &mut S, name: &Name, plus: &i64) -> Result<(), Failed>
+    ensures text { IsWritten (S.written out.old) (S.written out.new) (name.now ++ offset_bytes plus.now) result }
+    ensures cause { HasCause (S.faults out.old) (S.faults out.new) result }
+{
+    write_bytes(out, name.as_bytes())?;
+    write_offset(out, plus)
+}
+
+fn write_time<S: Sink>(out: &mut S, term: &TimeTerm) -> Result<(), Failed>
+    ensures text { IsWritten (S.written out.old) (S.written out.new) (time_bytes term.now) result }
+    ensures cause { HasCause (S.faults out.old) (S.faults out.new) result }
+{
+    match term {
+        TimeTerm::Var { name, plus } => write_variable(out, name, plus),
+        TimeTerm::Int { value } => write_integer(out, value),
+    }
+}
+
+fn write_data<S: Sink>(out: &mut S, term: &DataTerm) -> Result<(), Failed>
+    ensures text { IsWritten (S.written out.old) (S.written out.new) (data_bytes term.now) result }
+    ensures cause { HasCause (S.faults out.old) (S.faults out.new) result }
+{
+    match term {
+        DataTerm::Var { name } => write_bytes(out, name.as_bytes()),
+        DataTerm::Const { text } => write_quoted(out, text.as_bytes()),
+    }
+}
+
+fn write_term<S: Sink>(out: &mut S, term: &Term) -> Result<(), Failed>
+    ensures text { IsWritten (S.written out.old) (S.written out.new) (term_bytes term.now) result }
+    ensures cause { HasCause (S.faults out.old) (S.faults out.new) result }
+{
+    match term {
+        Term::Time { term } => write_time(out, term),
+        Term::Data { term } => write_data(out, term),
+    }
+}
+
+fn write_op<S: Sink>(out: &mut S, op: Op) -> Result<(), Failed>
+    ensures text { IsWritten (S.written out.old) (S.written out.new) (op_bytes op) result }
+    ensures cause { HasCause (S.faults out.old) (S.faults out.new) result }
+{
+    match op {
+        Op::Le => write_bytes(out, b"<="),
+        Op::Lt => write_bytes(out, b"<"),
+        Op::Ge => write_bytes(out, b">="),
+        Op::Gt => write_bytes(out, b">"),
+        Op::Eq => write_bytes(out, b"="),
+    }
+}
+
+// `T OP T`.
+fn write_comparison<S: Sink>(
+    out: &mut S,
+    left: &TimeTerm,
+    op: Op,
+    right: &TimeTerm,
+) -> Result<(), Failed>
+    ensures text { IsWritten (S.written out.old) (S.written out.new) (time_bytes left.now ++ (codes " " ++ (op_bytes op ++ (codes " " ++ time_bytes right.now)))) result }
+    ensures cause { HasCause (S.faults out.old) (S.faults out.new) result }
+{
+    write_time(out, left)?;
+    write_bytes(out, b" ")?;
+    write_op(out, op)?;
+    write_bytes(out, b" ")?;
+    write_time(out, right)
+}
+
+// `T in c+kn`.
+fn write_member<S: Sink>(out: &mut S, term: &TimeTerm, point: &RowPoint) -> Result<(), Failed>
+    requires { pos 1 ≤ℤ point.now.period }
+    ensures text { IsWritten (S.written out.old) (S.written out.new) (time_bytes term.now ++ (codes " in " ++ point_bytes point.now)) result }
+    ensures cause { HasCause (S.faults out.old) (S.faults out.new) result }
+{
+    write_time(out, term)?;
+    write_bytes(out, b" in ")?;
+    write_point(out, point)
+}
+
+// `T = T` of data terms.
+fn write_equality<S: Sink>(out: &mut S, left: &DataTerm, right: &DataTerm) -> Result<(), Failed>
+    ensures text { IsWritten (S.written out.old) (S.written out.new) (data_bytes left.now ++ (codes " = " ++ data_bytes right.now)) result }
+    ensures cause { HasCause (S.faults out.old) (S.faults out.new) result }
+{
+    write_data(out, left)?;
+    write_bytes(out, b" = ")?;
+    write_data(out, right)
+}
+
+/// A test.
+pub(crate) fn write_test<S: Sink>(out: &mut S, test: &Test) -> Result<(), Failed>
+    requires { HasPeriod test.now }
+    ensures text { IsWritten (S.written out.old) (S.written out.new) (test_bytes test.now) result }
+    ensures cause { HasCause (S.faults out.old) (S.faults out.new) result }
+{
+    match test {
+        Test::Compare { left, op, right } => write_comparison(out, left, *op, right),
+        Test::Member { term, point } => write_member(out, term, point),
+        Test::Equal { left, right } => write_equality(out, left, right),
+    }
+}
+
+/// The word of a test that is a step of its own.
+pub(crate) fn leaf_word(test: &Test) -> &'static [u8]
+    ensures { result.now ≡ word_of_leaf test.now }
+{
+    match test {
+        Test::Compare { .. } => b"compare ",
+        Test::Member { .. } => b"point ",
+        Test::Equal { .. } => b"equal ",
+    }
+}
+
+fn write_next_term<S: Sink>(out: &mut S, term: &Term) -> Result<(), Failed>
+    ensures text { IsWritten (S.written out.old) (S.written out.new) (codes ", " ++ term_bytes term.now) result }
+    ensures cause { HasCause (S.faults out.old) (S.faults out.new) result }
+{
+    write_bytes(out, b", ")?;
+    write_term(out, term)
+}
+
+// Terms, with a comma before each.
+fn write_further_terms<S: Sink>(out: &mut S, terms: &[Term]) -> Result<(), Failed>
+    ensures text { IsWritten (S.written out.old) (S.written out.new) (flat_map (λ x. codes ", " ++ term_bytes x) terms.now) result }
+    ensures cause { HasCause (S.faults out.old) (S.faults out.new) result }
+{
+    for term in terms {
+        write_next_term(out, term)?;
+    }
+    Ok(())
+}
+
+/// Terms, with commas between.
+pub(crate) fn write_terms<S: Sink>(out: &mut S, terms: &[Term]) -> Result<(), Failed>
+    ensures text { IsWritten (S.written out.old) (S.written out.new) (joined_by (codes ", ") term_bytes terms.now) result }
+    ensures cause { HasCause (S.faults out.old) (S.faults out.new) result }
+{
+    match terms {
+        [] => Ok(()),
+        [first, rest @ ..] => {
+            write_term(out, first)?;
+            write_further_terms(out, rest)
+        }
+    }
+}
+
+fn write_next_test<S: Sink>(out: &mut S, test: &Test) -> Result<(), Failed>
+    requires { HasPeriod test.now }
+    ensures text { IsWritten (S.written out.old) (S.written out.new) (codes ", " ++ test_bytes test.now) result }
+    ensures cause { HasCause (S.faults out.old) (S.faults out.new) result }
+{
+    write_bytes(out, b", ")?;
+    write_test(out, test)
+}
+
+// Tests, with a comma before each.
+fn write_further_tests<S: Sink>(out: &mut S, tests: &[Test]) -> Result<(), Failed>
+    requires { AllByRecursion HasPeriod tests.now }
+    ensures text { IsWritten (S.written out.old) (S.written out.new) (flat_map (λ x. codes ", " ++ test_bytes x) tests.now) result }
+    ensures cause { HasCause (S.faults out.old) (S.faults out.new) result }
+{
+    for test in tests {
+        write_next_test(out, test)?;
+    }
+    Ok(())
+}
+
+// Tests, with commas between.
+fn write_tests<S: Sink>(out: &mut S, tests: &[Test]) -> Result<(), Failed>
+    requires { AllByRecursion HasPeriod tests.now }
+    ensures text { IsWritten (S.written out.old) (S.written out.new) (joined_by (codes ", ") test_bytes tests.now) result }
+    ensures cause { HasCause (S.faults out.old) (S.faults out.new) result }
+{
+    match tests {
+        [] => Ok(()),
+        [first, rest @ ..] => {
+            write_test(out, first)?;
+            write_further_tests(out, rest)
+        }
+    }
+}
+
+/// ` where ` and the tests, if there are any.
+pub(crate) fn write_carried<S: Sink>(out: &mut S, tests: &[Test]) -> Result<(), Failed>
+    requires { AllByRecursion HasPeriod tests.now }
+    ensures text { IsWritten (S.written out.old) (S.written out.new) (carried_bytes tests.now) result }
+    ensures cause { HasCause (S.faults out.old) (S.faults out.new) result }
+{
+    match tests {
+        [] => Ok(()),
+        [_, ..] => {
+            write_bytes(out, b" where ")?;
+            write_tests(out, tests)
+        }
+    }
+}
