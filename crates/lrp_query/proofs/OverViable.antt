@@ -1,0 +1,197 @@
+-- The rule for formulas over others: viable where the rule of the others is.
+use Rattle.std.proofs.Common.{◌≡◌, ◌≢◌, inl, inr, ◌<◌, ◌≤◌, ◌+◌, ℕ, zero, suc, Bool, true, false, List, [], ◌∷◌, ◌++◌, refl, ap, sym, ◌∙◌, subst, Ok, Err, if◌then◌else◌, length, append-nil, append_assoc, arith}
+use Rattle.std.specs.List.{AllByRecursion}
+use Rattle.lrp_model.specs.Texts.{Identifier}
+use Rattle.lrp_model.specs.declared.tokens.Symbol.TheVariants.{Open, Close, Plus, Minus, Equals}
+use Rattle.lrp_model.specs.declared.tokens.Word.{Word}
+use Rattle.lrp_model.specs.declared.tokens.Word.TheVariants.{Exists, Forall, Not, And, Or, Implies, In}
+use Rattle.lrp_model.specs.declared.tokens.Fault.{Fault}
+use Rattle.lrp_model.specs.declared.tokens.Fault.TheVariants.{Syntax, Deep}
+use Rattle.lrp_model.specs.declared.tokens.Place.{Place}
+use Rattle.lrp_model.specs.declared.formulas.Op.{Op}
+use Rattle.lrp_model.specs.declared.formulas.Op.TheVariants.{Le, Lt, Ge, Gt, Eq}
+use Rattle.lrp_model.specs.declared.raw.RawColumn.{RawColumn}
+use Rattle.lrp_model.specs.declared.written.Located.{Located}
+use Rattle.lrp_model.specs.declared.written.Integer.{Integer}
+use Rattle.lrp_model.specs.Tokens.{Token, Placed, Tokens, Part, IsPart, Takes, Spells, from, separated}
+use Rattle.lrp_model.specs.Tokens.Token.{name_token, word_token, number_token, text_token, symbol_token, hole_token}
+use Rattle.lrp_model.specs.Tokens.Part.{at, any}
+use Rattle.lrp_model.specs.Lexing.{limit, start}
+use Rattle.lrp_model.specs.Columns.{column_text}
+use Rattle.lrp_model.specs.Databases.{sign, integer_text, shift, comma}
+use Rattle.lrp_model.specs.Refused.{Stops, TextOf, Fitting}
+use Rattle.lrp_model.specs.Queries.{WrittenTerm, WrittenFormula, FurtherMembers, term_text, op_symbol, formula_text, members_text, FitsTerm, FitsSizes, FitSizes, FitsDepth, FitDepth}
+use Rattle.lrp_model.specs.Queries.WrittenTerm.{integer as integer_term, quoted, variable, shifted}
+use Rattle.lrp_model.specs.Queries.WrittenFormula.{atom, compared, member, denied, all_of, any_of, implied, group, some, every, hole}
+use Rattle.lrp_model.specs.Queries.FurtherMembers.{last, more}
+use Rattle.lrp_text.specs.Parsers.{Parser, Outcome, and_then, ◌>>=◌, pure, accept, look, eat, separated_from}
+use Rattle.lrp_text.specs.Taking.{is_symbol, is_symbol_token, is_word, is_word_token, expect, expect_word}
+use Rattle.lrp_text.specs.ColumnRule.{column}
+use Rattle.lrp_text.proofs.Complete.{ReadsBack, Answers, answers_then, answers_as, back_as, Anything, IsNot, bind_back, then_back, pure_back, accepts_back, eat_back, eat_none, eats_none, first_is_not, FollowsList, separated_long}
+use Rattle.lrp_text.proofs.Sound.{Sound, bind_ok, eat_sound, eaten_parts, takes_join, takes_split, takes_shorter, takes_front, separated_sound}
+use Rattle.lrp_text.proofs.Viable.{Viable, ViableBelow, One, SomeText, bind_err, behind, before, at_once, sub_short, eat_short, spells_join, always, both, fitting, fits_as}
+use Rattle.lrp_text.proofs.TokenTests.{word_told, word_seen, word_required, expect_seen}
+use Rattle.lrp_text.proofs.LocatedRule.{takes_from}
+use Rattle.lrp_text.proofs.ColumnRule.{column_back, column_sound, column_viable}
+use Rattle.lrp_query.specs.declared.starts.Start.{Start}
+use Rattle.lrp_query.specs.Rules.{Trees, written, further, gathered, Offset, unmoved, moved_by, integer, unnamed_term, test, named, unnamed, negated, existing, holding, implying, conjoined, disjoined, behind_first, enclosed, start_of, is_hole_token, started, formula_over}
+use Rattle.lrp_query.proofs.TermRules.{NoShift, offset_text, FitsOffset, quoted_back, integer_term_back, term_leads, placed_text}
+use Rattle.lrp_query.proofs.Below.{separated_below, separated_stops}
+use Rattle.lrp_query.proofs.TestRules.{FitsAt, Formulas, sym_part, symbol_sound, symbol_viable, symbol_at, op_part, point_text, test_point_back, test_compared_back, Ends, named_test_back, atom_back, named_sound, unnamed_sound, named_stops, unnamed_stops, zero_term, zero_tokens}
+use Rattle.lrp_query.proofs.OverRules.{members_spell, members_fit, some_formula, some_tokens, some_spelled, some_fits}
+
+-- the token that closes
+abbrev close : Tokens
+close = symbol_at Close ∷ []
+
+module _ (inner : Parser WrittenFormula) (d turns : ℕ) (inner_sound : Sound inner formula_text (FitsAt d)) (inner_viable : ViableBelow turns inner formula_text (FitsAt d)) where
+  -- a parenthesis at its place
+  abbrev opening : Place → Placed
+  opening p = record { token = symbol_token Open; place = p }
+
+  -- behind a parenthesis and a formula
+  abbrev Behind : Place → Tokens → Bool → Tokens → Type 0
+  Behind p head c x = Formulas (suc d) c (opening p ∷ (head ++ x))
+
+  -- behind `implies`
+  implying_stops : (p : Place) (f : WrittenFormula) (head : Tokens) (t : Placed) (ws : Tokens) (e : Fault × Tokens) → Spells (formula_text f) head → FitsAt d f → IsPart (any (word_token Implies)) t → length ws < turns → implying written inner p f ws ≡ Err e → Stops (λ c x. Behind p head c (t ∷ x)) ws e
+  unfolding implying
+  implying_stops p f head t ws e one fit is lt h =
+      let R : Bool → Tokens → Type 0 = λ c x. Behind p head c (t ∷ x) in
+      let spell : (g : WrittenFormula) (x y : Tokens) → Spells (formula_text g) x → Spells (any (symbol_token Close) ∷ []) y → Spells (formula_text (implied p f g)) (opening p ∷ (head ++ t ∷ (x ++ y))) = λ g x y s c. ((refl, refl), spells_join (formula_text f) (any (word_token Implies) ∷ (formula_text g ++ any (symbol_token Close) ∷ [])) head (t ∷ (x ++ y)) one (is, spells_join (formula_text g) (any (symbol_token Close) ∷ []) x y s c)) in
+      sub_short inner _ formula_text (FitsAt d) R ws e inner_sound (inner_viable ws e lt) h
+      (λ c g x spelled fits. (close, (implied p f g, fits_as (FitsAt d g) (FitsAt (suc d) (implied p f g)) c (λ k. ((fit.0, k.0), (fit.1, k.1))) fits, spell g x close spelled (refl, refl))))
+      (λ g h1 xs s1 f1 l1 d1. sub_short (expect Close) _ (One (sym_part Close)) (λ u. Unit {0}) (λ c x. R c (h1 ++ x)) xs e (symbol_sound Close) (symbol_viable Close xs e) d1
+      (λ c u x spelled fits. ([], (implied p f g, always (FitsAt (suc d) (implied p f g)) c ((fit.0, f1.0), (fit.1, f1.1)), spell g h1 (x ++ []) s1 (subst (λ y. Spells (One (sym_part Close) u) y) (sym (append-nil x)) spelled))))
+      (λ u h2 ys s2 f2 l2 d2. absurd cc))
+
+  -- behind `and`
+  conjoined_stops : (p : Place) (f : WrittenFormula) (head : Tokens) (t : Placed) (ws : Tokens) (e : Fault × Tokens) → Spells (formula_text f) head → FitsAt d f → IsPart (any (word_token And)) t → length ws < turns → conjoined written inner turns p f ws ≡ Err e → Stops (λ c x. Behind p head c (t ∷ x)) ws e
+  unfolding conjoined
+  conjoined_stops p f head t ws e one fit is lt h =
+      let R : Bool → Tokens → Type 0 = λ c x. Behind p head c (t ∷ x) in
+      let Some : Bool → Tokens → Type 0 = SomeText (any (word_token And)) formula_text (FitsAt d) in
+      let spell : (g : WrittenFormula) (gs : List WrittenFormula) (x y : Tokens) → Spells (separated (any (word_token And)) formula_text (g ∷ gs)) x → Spells (any (symbol_token Close) ∷ []) y → Spells (formula_text (all_of p f (further g gs))) (opening p ∷ (head ++ t ∷ (x ++ y))) = λ g gs x y s c.
+      ((refl, refl), spells_join (formula_text f) (members_text And (further g gs) ++ any (symbol_token Close) ∷ []) head (t ∷ (x ++ y)) one (subst (λ ps. Spells (ps ++ any (symbol_token Close) ∷ []) (t ∷ (x ++ y))) (sym (members_spell And g gs)) (is, spells_join (separated (any (word_token And)) formula_text (g ∷ gs)) (any (symbol_token Close) ∷ []) x y s c))) in
+      elim (bind_err (separated_from inner (is_word And) turns (f ∷ []) ws) _ e h) [
+        | inl k ↦
+            before Some R ws e (λ c x s. (close, (all_of p f (further s.0 s.1), fits_as (AllByRecursion (FitsAt d) (s.0 ∷ s.1)) (FitsAt (suc d) (all_of p f (further s.0 s.1))) c (λ a. let m = members_fit d s.0 s.1 a in ((fit.0, m.0), (fit.1, m.1))) s.2, spell s.0 s.1 x close s.3 (refl, refl))))
+            (separated_stops inner formula_text (FitsAt d) (any (word_token And)) (is_word And) turns (word_told And) inner_sound inner_viable turns (f ∷ []) ws e lt lt k)
+        | inr fs ↦
+            let s = separated_sound inner formula_text (FitsAt d) (any (word_token And)) (is_word And) (word_told And) inner_sound turns (f ∷ []) ws fs.0 fs.1 in
+            let front = takes_front (separated (any (word_token And)) formula_text (s.0 ∷ s.1)) ws fs.0.1 s.3 in
+            let m = members_fit d s.0 s.1 s.4 in
+            behind (λ c x. R c (front.head ++ x)) R front.head ws fs.0.1 e front.whole (λ c x r. r)
+            (sub_short (expect Close) _ (One (sym_part Close)) (λ u. Unit {0}) (λ c x. R c (front.head ++ x)) fs.0.1 e (symbol_sound Close) (symbol_viable Close fs.0.1 e) fs.2
+            (λ c u x spelled fits. ([], (all_of p f (further s.0 s.1), always (FitsAt (suc d) (all_of p f (further s.0 s.1))) c ((fit.0, m.0), (fit.1, m.1)), spell s.0 s.1 front.head (x ++ []) front.spelled (subst (λ y. Spells (One (sym_part Close) u) y) (sym (append-nil x)) spelled))))
+            (λ u h2 ys s2 f2 l2 d2. absurd cc))
+      ]
+
+  -- behind `or`
+  disjoined_stops : (p : Place) (f : WrittenFormula) (head : Tokens) (t : Placed) (ws : Tokens) (e : Fault × Tokens) → Spells (formula_text f) head → FitsAt d f → IsPart (any (word_token Or)) t → length ws < turns → disjoined written inner turns p f ws ≡ Err e → Stops (λ c x. Behind p head c (t ∷ x)) ws e
+  unfolding disjoined
+  disjoined_stops p f head t ws e one fit is lt h =
+      let R : Bool → Tokens → Type 0 = λ c x. Behind p head c (t ∷ x) in
+      let Some : Bool → Tokens → Type 0 = SomeText (any (word_token Or)) formula_text (FitsAt d) in
+      let spell : (g : WrittenFormula) (gs : List WrittenFormula) (x y : Tokens) → Spells (separated (any (word_token Or)) formula_text (g ∷ gs)) x → Spells (any (symbol_token Close) ∷ []) y → Spells (formula_text (any_of p f (further g gs))) (opening p ∷ (head ++ t ∷ (x ++ y))) = λ g gs x y s c.
+      ((refl, refl), spells_join (formula_text f) (members_text Or (further g gs) ++ any (symbol_token Close) ∷ []) head (t ∷ (x ++ y)) one (subst (λ ps. Spells (ps ++ any (symbol_token Close) ∷ []) (t ∷ (x ++ y))) (sym (members_spell Or g gs)) (is, spells_join (separated (any (word_token Or)) formula_text (g ∷ gs)) (any (symbol_token Close) ∷ []) x y s c))) in
+      elim (bind_err (separated_from inner (is_word Or) turns (f ∷ []) ws) _ e h) [
+        | inl k ↦
+            before Some R ws e (λ c x s. (close, (any_of p f (further s.0 s.1), fits_as (AllByRecursion (FitsAt d) (s.0 ∷ s.1)) (FitsAt (suc d) (any_of p f (further s.0 s.1))) c (λ a. let m = members_fit d s.0 s.1 a in ((fit.0, m.0), (fit.1, m.1))) s.2, spell s.0 s.1 x close s.3 (refl, refl))))
+            (separated_stops inner formula_text (FitsAt d) (any (word_token Or)) (is_word Or) turns (word_told Or) inner_sound inner_viable turns (f ∷ []) ws e lt lt k)
+        | inr fs ↦
+            let s = separated_sound inner formula_text (FitsAt d) (any (word_token Or)) (is_word Or) (word_told Or) inner_sound turns (f ∷ []) ws fs.0 fs.1 in
+            let front = takes_front (separated (any (word_token Or)) formula_text (s.0 ∷ s.1)) ws fs.0.1 s.3 in
+            let m = members_fit d s.0 s.1 s.4 in
+            behind (λ c x. R c (front.head ++ x)) R front.head ws fs.0.1 e front.whole (λ c x r. r)
+            (sub_short (expect Close) _ (One (sym_part Close)) (λ u. Unit {0}) (λ c x. R c (front.head ++ x)) fs.0.1 e (symbol_sound Close) (symbol_viable Close fs.0.1 e) fs.2
+            (λ c u x spelled fits. ([], (any_of p f (further s.0 s.1), always (FitsAt (suc d) (any_of p f (further s.0 s.1))) c ((fit.0, m.0), (fit.1, m.1)), spell s.0 s.1 front.head (x ++ []) front.spelled (subst (λ y. Spells (One (sym_part Close) u) y) (sym (append-nil x)) spelled))))
+            (λ u h2 ys s2 f2 l2 d2. absurd cc))
+      ]
+
+  -- behind a formula in parentheses
+  behind_stops : (p : Place) (f : WrittenFormula) (head vs : Tokens) (e : Fault × Tokens) → Spells (formula_text f) head → FitsAt d f → length vs < turns → behind_first written inner turns p f vs ≡ Err e → Stops (Behind p head) vs e
+  unfolding behind_first
+  behind_stops p f head vs e one fit lt h =
+      eat_short (is_word Implies) _ (Behind p head) vs e h
+      (λ t ws told less k. implying_stops p f head t ws e one fit (word_told Implies t told) (omega arith) k)
+      (λ a. eat_short (is_word And) _ (Behind p head) vs e a
+      (λ t ws told less k. conjoined_stops p f head t ws e one fit (word_told And t told) (omega arith) k)
+      (λ b. eat_short (is_word Or) _ (Behind p head) vs e b
+      (λ t ws told less k. disjoined_stops p f head t ws e one fit (word_told Or t told) (omega arith) k)
+      (λ k. sub_short (expect Close) _ (One (sym_part Close)) (λ u. Unit {0}) (Behind p head) vs e (symbol_sound Close) (symbol_viable Close vs e) k
+      (λ c u x spelled fits. ([], (group p f, always (FitsAt (suc d) (group p f)) c fit, ((refl, refl), spells_join (formula_text f) (any (symbol_token Close) ∷ []) head (x ++ []) one (subst (λ y. Spells (One (sym_part Close) u) y) (sym (append-nil x)) spelled)))))
+      (λ u h2 ys s2 f2 l2 d2. absurd cc))))
+
+  -- behind a parenthesis
+  enclosed_stops : (p : Place) (us : Tokens) (e : Fault × Tokens) → length us < turns → enclosed written inner turns p (opening p ∷ us) ≡ Err e → Stops (Formulas (suc d)) (opening p ∷ us) e
+  unfolding enclosed accept
+  enclosed_stops p us e lt h =
+      let R : Bool → Tokens → Type 0 = λ c x. Formulas (suc d) c (opening p ∷ x) in
+      behind R (Formulas (suc d)) (opening p ∷ []) (opening p ∷ us) us e refl (λ c x r. r)
+      (sub_short inner _ formula_text (FitsAt d) R us e inner_sound (inner_viable us e lt) h
+      (λ c f x spelled fits. (close, (group p f, fits, ((refl, refl), spells_join (formula_text f) (any (symbol_token Close) ∷ []) x close spelled (refl, refl)))))
+      (λ f h1 vs s1 f1 l1 d1. behind_stops p f h1 vs e s1 f1 (omega arith) d1))
+
+  -- behind `not`
+  negated_stops : (p : Place) (us : Tokens) (e : Fault × Tokens) → length us < turns → negated written inner p (record { token = word_token Not; place = p } ∷ us) ≡ Err e → Stops (Formulas (suc d)) (record { token = word_token Not; place = p } ∷ us) e
+  unfolding negated accept
+  negated_stops p us e lt h =
+      let t : Placed = record { token = word_token Not; place = p } in
+      let R : Bool → Tokens → Type 0 = λ c x. Formulas (suc d) c (t ∷ x) in
+      behind R (Formulas (suc d)) (t ∷ []) (t ∷ us) us e refl (λ c x r. r)
+      (sub_short inner _ formula_text (FitsAt d) R us e inner_sound (inner_viable us e lt) h
+      (λ c f x spelled fits. ([], (denied p f, fits, ((refl, refl), subst (λ y. Spells (formula_text f) y) (sym (append-nil x)) spelled))))
+      (λ f h1 vs s1 f1 l1 d1. absurd cc))
+
+  -- behind `exists`
+  existing_stops : (p : Place) (us : Tokens) (e : Fault × Tokens) → length us < turns → existing written inner p (record { token = word_token Exists; place = p } ∷ us) ≡ Err e → Stops (Formulas (suc d)) (record { token = word_token Exists; place = p } ∷ us) e
+  unfolding existing accept
+  existing_stops p us e lt h =
+      let t : Placed = record { token = word_token Exists; place = p } in
+      let R : Bool → Tokens → Type 0 = λ c x. Formulas (suc d) c (t ∷ x) in
+      behind R (Formulas (suc d)) (t ∷ []) (t ∷ us) us e refl (λ c x r. r)
+      (sub_short column _ column_text (λ k. Unit {0}) R us e column_sound (column_viable us e) h
+      (λ c k x spelled fits. (some_tokens d, (some p k (some_formula d), always (FitsAt d (some_formula d)) c (some_fits d), ((refl, refl), spells_join (column_text k) (formula_text (some_formula d)) x (some_tokens d) spelled (some_spelled d)))))
+      (λ k h1 vs s1 f1 l1 d1. sub_short inner _ formula_text (FitsAt d) (λ c x. R c (h1 ++ x)) vs e inner_sound (inner_viable vs e (omega arith)) d1
+      (λ c f x spelled fits. ([], (some p k f, fits, ((refl, refl), spells_join (column_text k) (formula_text f) h1 (x ++ []) s1 (subst (λ y. Spells (formula_text f) y) (sym (append-nil x)) spelled)))))
+      (λ f h2 ws s2 f2 l2 d2. absurd cc)))
+
+  -- behind `forall`
+  holding_stops : (p : Place) (us : Tokens) (e : Fault × Tokens) → length us < turns → holding written inner p (record { token = word_token Forall; place = p } ∷ us) ≡ Err e → Stops (Formulas (suc d)) (record { token = word_token Forall; place = p } ∷ us) e
+  unfolding holding accept
+  holding_stops p us e lt h =
+      let t : Placed = record { token = word_token Forall; place = p } in
+      let R : Bool → Tokens → Type 0 = λ c x. Formulas (suc d) c (t ∷ x) in
+      behind R (Formulas (suc d)) (t ∷ []) (t ∷ us) us e refl (λ c x r. r)
+      (sub_short column _ column_text (λ k. Unit {0}) R us e column_sound (column_viable us e) h
+      (λ c k x spelled fits. (some_tokens d, (every p k (some_formula d), always (FitsAt d (some_formula d)) c (some_fits d), ((refl, refl), spells_join (column_text k) (formula_text (some_formula d)) x (some_tokens d) spelled (some_spelled d)))))
+      (λ k h1 vs s1 f1 l1 d1. sub_short inner _ formula_text (FitsAt d) (λ c x. R c (h1 ++ x)) vs e inner_sound (inner_viable vs e (omega arith)) d1
+      (λ c f x spelled fits. ([], (every p k f, fits, ((refl, refl), spells_join (column_text k) (formula_text f) h1 (x ++ []) s1 (subst (λ y. Spells (formula_text f) y) (sym (append-nil x)) spelled)))))
+      (λ f h2 ws s2 f2 l2 d2. absurd cc)))
+
+  -- a formula by its first token
+  token_stops : (k : Token) (p : Place) (us : Tokens) (e : Fault × Tokens) → suc (length us) < turns → formula_over written inner turns (record { token = k; place = p } ∷ us) ≡ Err e → Stops (Formulas (suc d)) (record { token = k; place = p } ∷ us) e
+  unfolding formula_over look
+  token_stops hole_token p us e lt h =
+      let t : Placed = record { token = hole_token; place = p } in
+      let k : (Deep, t ∷ us) ≡ e = cc in
+      subst (λ x. Stops (Formulas (suc d)) (t ∷ us) x) k (record {
+        front = [];
+        whole = refl;
+        more = some_tokens (suc d);
+        begins = (some_formula (suc d), some_fits (suc d), some_spelled (suc d));
+        through = record { token = t; cause = tt; tail = us; at = refl; more = []; begins = (hole p, tt, ((refl, refl), refl)) };
+      })
+  token_stops (word_token Not) p us e lt h = negated_stops p us e (omega arith) h
+  token_stops (word_token Exists) p us e lt h = existing_stops p us e (omega arith) h
+  token_stops (word_token Forall) p us e lt h = holding_stops p us e (omega arith) h
+  token_stops (symbol_token Open) p us e lt h = enclosed_stops p us e (omega arith) h
+  token_stops (name_token n) p us e lt h = named_stops d turns (record { token = name_token n; place = p } ∷ us) e lt h
+  token_stops k p us e lt h = unnamed_stops d (record { token = k; place = p }) us e h
+
+  -- the tokens before a fault of a formula begin one
+  pub over_stops : ViableBelow turns (formula_over written inner turns) formula_text (FitsAt (suc d))
+  unfolding formula_over look unnamed unnamed_term integer eat accept
+  over_stops [] e lt h = let k : (Syntax, []) ≡ e = cc in subst (λ x. Stops (Formulas (suc d)) [] x) k (at_once (Formulas (suc d)) [] (some_tokens (suc d)) (some_formula (suc d), some_fits (suc d), some_spelled (suc d)))
+  over_stops (t ∷ us) e lt h = token_stops t.token t.place us e lt h

@@ -1,0 +1,20 @@
+-- The place behind some bytes, one byte after the other.
+use Rattle.std.proofs.Common.{◌≡◌, ◌<◌, ◌+◌, ℕ, List, [], ◌∷◌, ◌++◌, refl, length, take, get_or, add-one}
+use Rattle.std.proofs.Math.Seq.{take-suc}
+use Rattle.lrp_model.specs.declared.tokens.Place.{Place}
+use Rattle.lrp_model.specs.Lexing.{after, moved}
+
+-- the place behind one more byte
+after_one : (p : Place) (bs : List ℕ) (b : ℕ) → after p (bs ++ b ∷ []) ≡ moved (after p bs) b
+unfolding after
+after_one p [] b = refl
+after_one p (a ∷ bs) b = after_one (moved p a) bs b
+
+-- the place behind one more byte of a list
+pub after_more : (p : Place) (bs : List ℕ) (i : ℕ) (d : ℕ) → i < length bs → after p (take (i + 1) bs) ≡ moved (after p (take i bs)) (get_or bs i d)
+after_more p bs i d lt = rw (add-one, take-suc bs i d lt) (after_one p (take i bs) (get_or bs i d))
+
+-- the place behind no bytes
+pub after_none : (p : Place) → after p [] ≡ p
+unfolding after
+after_none p = refl

@@ -1,0 +1,5 @@
+use Rattle.lrp_query.proofs.QueryRules.{one_tree}
+use Rattle.lrp_query.proofs.laws.query_texts_have_one_tree.Goals as goal
+
+pub returns : goal.returns
+returns c = λ tree other tokens lawful spelled again. one_tree tree other tokens lawful spelled again

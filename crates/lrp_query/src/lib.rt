@@ -1,0 +1,17 @@
+//! Queries as text: what is read.
+#![tactic(auto)]
+
+mod formulas;
+mod laws;
+mod queries;
+mod starts;
+mod terms;
+#[cfg(test)]
+mod tests;
+
+pub use laws::query_texts_have_one_tree;
+pub use lrp_model::{
+    QueryFault, QueryKind, QueryRead, RawColumn, RawFormula, RawKind, RawQuery, RawTerm,
+    RawTermKind,
+};
+pub use queries::read_query;

@@ -1,0 +1,128 @@
+// The query of a text, read from its bytes, or the fault of the bytes or of the grammar.
+ghost use Rattle.std.specs.Prelude.{◌≡◌, ◌≢◌, ◌≤◌, ◌<◌, ◌+◌, ℕ, length, IfOk, IfErr};
+ghost use Rattle.lrp_model.specs.declared.faults.QueryFault.{QueryFault as FaultOf};
+ghost use Rattle.lrp_model.specs.Lexing.{after, moved, start};
+ghost use Rattle.lrp_model.specs.RawQueries.{RawQuestion, raw_question_of};
+ghost use Rattle.lrp_model.specs.QueryReading.{IsQuery, IsQueryFault};
+ghost use Rattle.lrp_query.specs.Rules.{meant, query};
+ghost use Rattle.lrp_query.specs.Reading.{ReadsQuery, left_behind, refusal_of, IsUnread, IsQueryOrMemory, IsFaultOrMemory};
+
+use crate::formulas::read_formula;
+use lrp_model::{Fault, Place, QueryFault, QueryKind, QueryRead, RawQuery, Symbol};
+use lrp_text::{Cursor, columns};
+use std::alloc::Global;
+use std::str::from_utf8;
+
+// How deep formulas may stand; the body has depth 1.
+const DEPTH: u32 = 64;
+
+// The place behind one more byte.
+fn moved_by(place: Place, byte: u8) -> Place
+    requires room { place.line < 16777217 }
+    requires width { place.column < 16777217 }
+    ensures place { result ≡ moved place byte }
+    ensures line { result.line ≤ place.line + 1 }
+    ensures column { result.column ≤ place.column + 1 }
+{
+    if byte == b'\n' {
+        Place {
+            line: place.line + 1,
+            column: 1,
+        }
+    } else {
+        Place {
+            line: place.line,
+            column: place.column + 1,
+        }
+    }
+}
+
+// The place behind some bytes.
+fn place_behind(bytes: &[u8]) -> Place
+    requires { length bytes.now ≤ 16777216 }
+    ensures { result ≡ after start bytes.now }
+{
+    let mut place = Place { line: 1, column: 1 };
+    for byte in bytes {
+        place = moved_by(place, *byte);
+    }
+    place
+}
+
+// The fault of a text, from what was met at a place.
+fn refusal(kind: Fault, place: Place) -> QueryRead
+    ensures { result ≡ refusal_of kind place }
+{
+    let kind = match kind {
+        Fault::Syntax => QueryKind::Syntax,
+        Fault::Number => QueryKind::Number,
+        Fault::TextTooLong => QueryKind::TextTooLong,
+        Fault::Period => QueryKind::Period,
+        Fault::Deep => QueryKind::Deep,
+        Fault::Memory => return QueryRead::Memory,
+    };
+    QueryRead::Fault {
+        fault: QueryFault { kind, place },
+    }
+}
+
+// The query of some tokens, and the end behind it.
+#[tactic(auto, unfolding(crate::specs::Rules::query))]
+fn read_tokens(alloc: Global, tokens: &mut Cursor<'_>) -> Result<RawQuery, Fault>
+    ensures { (turns : ℕ) → length tokens.old < turns → ReadsQuery (query meant turns tokens.old) result (left_behind result tokens.new) }
+{
+    tokens.expect(Symbol::OpenBrace)?;
+    let head = columns(alloc, tokens, Symbol::Bar)?;
+    tokens.expect(Symbol::Bar)?;
+    let body = read_formula(alloc, tokens, DEPTH)?;
+    tokens.expect(Symbol::CloseBrace)?;
+    tokens.expect_end()?;
+    Ok(RawQuery { head, body })
+}
+
+// The query of a text.
+fn read_text(alloc: Global, text: &str) -> Result<RawQuery, QueryRead>
+    requires { length text.now ≤ 16777216 }
+    ensures query { IfOk result (λ q. IsQuery text.now (raw_question_of q)) }
+    ensures refused { IfErr result (IsUnread text.now) }
+{
+    let mut tokens = Cursor::new(text);
+    match read_tokens(alloc, &mut tokens) {
+        Ok(query) => Ok(query),
+        Err(fault) => Err(refusal(fault, tokens.peek().place)),
+    }
+}
+
+// The query of bytes, where they are UTF-8 and a text of the grammar.
+fn read_bytes(alloc: Global, bytes: &[u8]) -> Result<RawQuery, QueryRead>
+    requires { length bytes.now ≤ 16777216 }
+    ensures query { IfOk result (λ q. IsQuery bytes.now (raw_question_of q)) }
+    ensures refused { IfErr result (IsUnread bytes.now) }
+{
+    match from_utf8(bytes) {
+        Ok(text) => read_text(alloc, text),
+        Err(error) => {
+            let place = place_behind(&bytes[..error.valid_up_to()]);
+            Err(QueryRead::Fault {
+                fault: QueryFault {
+                    kind: QueryKind::Utf8,
+                    place,
+                },
+            })
+        }
+    }
+}
+
+/// The query of a text of at most 16,777,216 bytes, with the place of each name, term and formula.
+/// Its faults are those of the bytes and of the grammar: `Utf8`, `Syntax`, `Number`, `Period`, `Deep` and `TextTooLong`.
+pub fn read_query(alloc: Global, bytes: &[u8]) -> Result<RawQuery, QueryRead>
+    requires { length bytes.now ≤ 16777216 }
+    ensures query { IfOk result (λ q. IsQuery bytes.now (raw_question_of q)) }
+    ensures refused { IfErr result (IsUnread bytes.now) }
+
+    // Each text of the grammar is read, and each other one is refused for its one fault.
+    ensures every_query { (q : RawQuestion) → IsQuery bytes.now q → IsQueryOrMemory q result }
+    ensures every_fault { (fault : FaultOf) → IsQueryFault bytes.now fault → IsFaultOrMemory fault result }
+{
+    read_bytes(alloc, bytes)
+}

@@ -1,0 +1,260 @@
+// Queries, and faults with their places, against what the format says.
+use crate::{
+    QueryFault, QueryKind, QueryRead, RawFormula, RawKind, RawQuery, RawTermKind, read_query,
+};
+use lrp_model::{Op, Place};
+use std::alloc::Global;
+use std::test::Fail;
+
+const TIMETABLE: &[u8] = b"{ t: time, u: time, l: data | bus(t, u, l) }";
+
+// The fault of a short text, if it has one.
+fn fault_of(alloc: Global, bytes: &[u8]) -> Option<QueryFault> {
+    if bytes.len() > 2000 {
+        return None;
+    }
+    match read_query(alloc, bytes) {
+        Err(QueryRead::Fault { fault }) => Some(fault),
+        _ => None,
+    }
+}
+
+fn at(kind: QueryKind, line: u32, column: u32) -> Option<QueryFault> {
+    Some(QueryFault {
+        kind,
+        place: Place { line, column },
+    })
+}
+
+// A part so often, behind a beginning and before an end.
+fn repeated(
+    alloc: Global,
+    start: &str,
+    part: &str,
+    times: usize,
+    end: &str,
+) -> Result<Vec<u8>, Fail> {
+    let mut text = Vec::new(alloc);
+    text.extend_from_slice(start.as_bytes())?;
+    for _ in 0..times {
+        text.extend_from_slice(part.as_bytes())?;
+    }
+    text.extend_from_slice(end.as_bytes())?;
+    Ok(text)
+}
+
+// The fault of a text that is put together so, if it has one.
+fn fault_behind(
+    alloc: Global,
+    part: &str,
+    times: usize,
+    end: &str,
+) -> Result<Option<QueryFault>, Fail> {
+    let text = repeated(alloc, "{ | ", part, times, end)?;
+    Ok(fault_of(alloc, &text))
+}
+
+#[test]
+fn lawful_texts_have_no_fault(rt: HostRuntime) -> Result<(), Fail> {
+    let alloc = rt.alloc();
+    assert_eq!(rt; fault_of(alloc, TIMETABLE), None);
+    assert_eq!(rt; fault_of(alloc, b"{|()=()}"), at(QueryKind::Syntax, 1, 4));
+    assert_eq!(rt; fault_of(alloc, b"{|r()}# done"), None);
+    assert_eq!(rt;
+        fault_of(
+            alloc,
+            b"{ | forall t: time exists u: time (bus(u) and u >= t and u <= t + 59) }"
+        ),
+        None
+    );
+    assert_eq!(rt;
+        fault_of(
+            alloc,
+            b"{ d: line | ((\"7\" = d or not d = \"\") implies -4611686018427387904 in -0+07n) }"
+        ),
+        None
+    );
+    Ok(())
+}
+
+#[test]
+fn syntax_is_told_at_the_first_token_that_goes_nowhere(rt: HostRuntime) -> Result<(), Fail> {
+    let alloc = rt.alloc();
+    assert_eq!(rt; fault_of(alloc, b"{\n|"), at(QueryKind::Syntax, 2, 2));
+    assert_eq!(rt;
+        fault_of(alloc, b"{ n: time | 0 = 0 }"),
+        at(QueryKind::Syntax, 1, 3)
+    );
+    assert_eq!(rt;
+        fault_of(alloc, b"{ | 0 = 0 } }"),
+        at(QueryKind::Syntax, 1, 13)
+    );
+    assert_eq!(rt;
+        fault_of(alloc, b"{ | (0 <= 0 and 0 <= 0 or 0 <= 0) }"),
+        at(QueryKind::Syntax, 1, 24)
+    );
+    assert_eq!(rt;
+        fault_of(alloc, b"{ | (0=0 implies 0=0 implies 0=0) }"),
+        at(QueryKind::Syntax, 1, 22)
+    );
+    assert_eq!(rt;
+        fault_of(alloc, b"{ | r(t,) }"),
+        at(QueryKind::Syntax, 1, 9)
+    );
+    assert_eq!(rt;
+        fault_of(alloc, b"{ | 0 in 0+7 }"),
+        at(QueryKind::Syntax, 1, 14)
+    );
+    Ok(())
+}
+
+#[test]
+fn each_cut_of_a_query_is_a_syntax_fault(rt: HostRuntime) -> Result<(), Fail> {
+    let alloc = rt.alloc();
+    for length in 0..TIMETABLE.len() {
+        let fault = fault_of(alloc, &TIMETABLE[..length]);
+        assert!(rt;
+            matches!(
+                fault,
+                Some(QueryFault {
+                    kind: QueryKind::Syntax,
+                    ..
+                })
+            )
+        );
+    }
+    Ok(())
+}
+
+#[test]
+fn numbers_periods_texts_and_bytes_have_their_places(rt: HostRuntime) -> Result<(), Fail> {
+    let alloc = rt.alloc();
+    assert_eq!(rt;
+        fault_of(alloc, b"{ | 4611686018427387905 x"),
+        at(QueryKind::Number, 1, 5)
+    );
+    assert_eq!(rt;
+        fault_of(alloc, b"{ t: time | t + 4611686018427387905 <= t }"),
+        at(QueryKind::Number, 1, 17)
+    );
+    assert_eq!(rt;
+        fault_of(alloc, b"{ | 0 in 0+4611686018427387905n }"),
+        at(QueryKind::Number, 1, 12)
+    );
+    assert_eq!(rt;
+        fault_of(alloc, b"{ | 0 in 0+0n }"),
+        at(QueryKind::Period, 1, 12)
+    );
+    let long = repeated(alloc, "{ | r(\"", "a", 256, "\") }")?;
+    assert_eq!(rt; fault_of(alloc, &long), at(QueryKind::TextTooLong, 1, 7));
+    let short = repeated(alloc, "{ | r(\"", "a", 255, "\") }")?;
+    assert_eq!(rt; fault_of(alloc, &short), None);
+    assert_eq!(rt; fault_of(alloc, b"{ |\n \xc3"), at(QueryKind::Utf8, 2, 2));
+    Ok(())
+}
+
+#[test]
+fn formulas_are_at_most_64_deep(rt: HostRuntime) -> Result<(), Fail> {
+    let alloc = rt.alloc();
+    assert_eq!(rt; fault_behind(alloc, "not ", 63, "0 <= 0 }")?, None);
+    assert_eq!(rt;
+        fault_behind(alloc, "not ", 64, "0 <= 0 }")?,
+        at(QueryKind::Deep, 1, 261)
+    );
+    assert_eq!(rt; fault_behind(alloc, "exists x: time ", 63, "r(x) }")?, None);
+    assert_eq!(rt;
+        fault_behind(alloc, "forall x: time ", 64, "r(x) }")?,
+        at(QueryKind::Deep, 1, 965)
+    );
+    let mut enclosed = repeated(alloc, "{ | ", "(", 63, "0 = 0")?;
+    let closed = repeated(alloc, "", ")", 63, " }")?;
+    enclosed.extend_from_slice(&closed)?;
+    assert_eq!(rt; fault_of(alloc, &enclosed), None);
+    assert_eq!(rt;
+        fault_behind(alloc, "(", 64, "0 = 0")?,
+        at(QueryKind::Deep, 1, 69)
+    );
+    Ok(())
+}
+
+#[test]
+fn kinds_at_one_place_have_their_ranks(rt: HostRuntime) -> Result<(), Fail> {
+    let alloc = rt.alloc();
+    assert_eq!(rt;
+        fault_behind(alloc, "not ", 64, "4611686018427387905 = 0 }")?,
+        at(QueryKind::Number, 1, 261)
+    );
+    assert_eq!(rt;
+        fault_behind(alloc, "not ", 64, "-4611686018427387905 = 0 }")?,
+        at(QueryKind::Deep, 1, 261)
+    );
+    assert_eq!(rt;
+        fault_behind(alloc, "not ", 64, ")")?,
+        at(QueryKind::Syntax, 1, 261)
+    );
+    let mut long = repeated(alloc, "{ | ", "not ", 64, "")?;
+    let text = repeated(alloc, "\"", "a", 256, "\"")?;
+    long.extend_from_slice(&text)?;
+    assert_eq!(rt; fault_of(alloc, &long), at(QueryKind::Deep, 1, 261));
+    Ok(())
+}
+
+fn query_of(alloc: Global, bytes: &[u8]) -> Option<RawQuery> {
+    if bytes.len() > 1000 {
+        return None;
+    }
+    read_query(alloc, bytes).ok()
+}
+
+// The places of a quantified formula, of its binder and of the formula in it.
+fn places(formula: &RawFormula) -> Option<(Place, Place, Place)> {
+    match &formula.kind {
+        RawKind::Exists { binder, of } => Some((formula.place, binder.place, of.place)),
+        _ => None,
+    }
+}
+
+// The offset and the place of a term that is less than another one.
+fn lesser(formula: &RawFormula) -> Option<(i64, Place)> {
+    match &formula.kind {
+        RawKind::Compare {
+            left,
+            op: Op::Lt,
+            right: _,
+        } => match &left.kind {
+            RawTermKind::Shifted { name: _, plus } => Some((*plus, left.place)),
+            _ => None,
+        },
+        _ => None,
+    }
+}
+
+#[test]
+fn trees_have_their_places_and_values(rt: HostRuntime) -> Result<(), Fail> {
+    let alloc = rt.alloc();
+    let spot = |column: u32| Place { line: 1, column };
+    let bound = query_of(alloc, b"{ t: time | exists t: time bus(t, t) }");
+    assert_eq!(rt;
+        bound.as_ref().and_then(|query| places(&query.body)),
+        Some((spot(13), spot(20), spot(28)))
+    );
+    let offset = query_of(alloc, b"{ t: time | t - 5 < 3 }");
+    assert_eq!(rt;
+        offset.as_ref().and_then(|query| lesser(&query.body)),
+        Some((-5, spot(13)))
+    );
+    let bus = query_of(alloc, b"{ d: data | (bus(d) and tram(d)) }");
+    assert!(rt;
+        matches!(
+            bus,
+            Some(RawQuery {
+                body: RawFormula {
+                    kind: RawKind::And { .. },
+                    ..
+                },
+                ..
+            })
+        )
+    );
+    Ok(())
+}
