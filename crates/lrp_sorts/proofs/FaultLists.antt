@@ -1,0 +1,17 @@
+-- The first faults of lists that are made piece by piece.
+use Rattle.std.proofs.Common.{◌≡◌, ℕ, ◌+◌, ◌<◌, List, [], ◌∷◌, ◌++◌, Option, None, flat_map, refl, ap, sym, ◌∙◌, length, take, get_or}
+use Rattle.std.proofs.lemmas.List.{take_more, append-nil}
+use Rattle.std.proofs.lemmas.List.Concat.{flat_map-append}
+use Rattle.lrp_model.specs.Faults.{first}
+use Rattle.lrp_rel.specs.Sooner.{sooner}
+use Rattle.lrp_rel.proofs.FirstFault.{first_of_both}
+
+-- one element more in a list, each with its faults
+pub one_more : {A F : Type 0} (stands : F → List ℕ) (f : A → List F) (xs : List A) (i : ℕ) (x : A) → i < length xs → x ≡ get_or xs i x
+    → sooner stands (first stands (flat_map f (take i xs))) (first stands (f x)) ≡ first stands (flat_map f (take (i + 1) xs))
+one_more stands f xs i x lt is =
+    sym (first_of_both stands (flat_map f (take i xs)) (f x))
+    ∙ ap (λ l. first stands (flat_map f (take i xs) ++ l)) (sym (append-nil (f x)))
+    ∙ ap (first stands) (sym (flat_map-append f (take i xs) (x ∷ [])))
+    ∙ ap (λ x. first stands (flat_map f (take i xs ++ x ∷ []))) is
+    ∙ ap (λ l. first stands (flat_map f l)) (sym (take_more xs i x lt))

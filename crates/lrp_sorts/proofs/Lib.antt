@@ -1,0 +1,3 @@
+pub mod Binding
+pub mod FaultLists
+pub mod ColumnFaults

@@ -1,0 +1,66 @@
+// The binders around a formula, looked up by their names.
+ghost use Rattle.std.specs.Prelude.{◌≡◌, ◌∷◌, OnOk, option_map, map, reverse, List};
+ghost use Rattle.lrp_model.specs.Sorting.{binder_sort};
+ghost use Rattle.lrp_model.specs.declared.raw.RawColumn.{RawColumn as RawColumnValue};
+ghost use Rattle.lrp_sorts.specs.Scopes.{Around, binders};
+
+use lrp_model::{Memory, Name, RawColumn, Sort};
+use std::collections::HashMap;
+use std::marker::Model;
+
+/// The head's columns, and the quantifiers around a formula.
+#[derive(Drop)]
+pub struct Scope<'a> {
+    columns: &'a [RawColumn],
+    sorts: HashMap<&'a [u8], &'a Sort>,
+    quantifiers: Vec<&'a RawColumn>,
+}
+
+impl<'a> Model for Scope<'a> {
+    ghost use Rattle.std.specs.Prelude.{◌≡◌, reverse, map};
+    ghost use Rattle.lrp_model.specs.Texts.{Identifier};
+    ghost use Rattle.lrp_model.specs.Sorting.{binder_sort};
+ghost use Rattle.lrp_model.specs.declared.raw.RawColumn.{RawColumn as RawColumnValue};
+    ghost use Rattle.lrp_sorts.specs.Scopes.{Around, kept_at};
+
+    ghost Value = { Around };
+
+    ghost view = { λ a. record { quantifiers = reverse (map (λ c. c.now) a.quantifiers.items); head = a.columns.now } };
+
+    ghost invariant = { λ a. (n : Identifier) → kept_at a.sorts n ≡ binder_sort (reverse a.columns.now) n };
+}
+
+impl<'a> Scope<'a> {
+    // The sort of a name's innermost binder, where it has one.
+    pub fn sort_of(&self, name: &Name) -> Option<&'a Sort>
+        ensures { option_map (λ s. s.now) result ≡ binder_sort (binders self.now) name.now }
+    {
+        let quantifiers = &self.quantifiers;
+        match innermost(quantifiers, name) {
+            Some(sort) => Some(sort),
+            None => self.sorts.get(name.as_bytes()).copied(),
+        }
+    }
+
+    // One quantifier further in.
+    pub fn enter(&mut self, binder: &'a RawColumn) -> Result<(), Memory>
+        ensures { OnOk result (self.new ≡ record self.old { quantifiers = binder.now ∷ self.old.quantifiers }) }
+    {
+        self.quantifiers.push(binder)?;
+        Ok(())
+    }
+
+    // Out of the innermost quantifier.
+    pub fn leave(&mut self)
+        ensures { (c : RawColumn) (outer : Around) → self.old ≡ record outer { quantifiers = c ∷ outer.quantifiers } → self.new ≡ outer }
+    {
+        self.quantifiers.pop();
+    }
+}
+
+fn innermost<'a>(quantifiers: &[&'a RawColumn], name: &Name) -> Option<&'a Sort>
+    ensures { option_map (λ s. s.now) result ≡ binder_sort (reverse (map (λ c. c.now) quantifiers.now)) name.now }
+{
+    let found = quantifiers.iter().rev().find(|c| c.name == *name)?;
+    Some(&found.sort)
+}
