@@ -1,3 +1,4 @@
 pub mod Binding
 pub mod FaultLists
 pub mod ColumnFaults
+pub mod Counting

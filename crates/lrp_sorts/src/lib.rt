@@ -4,3 +4,4 @@
 mod earliest;
 mod scope;
 mod terms;
+mod width;
