@@ -1,5 +1,5 @@
 -- The binder of a name, found among references.
-use Rattle.std.proofs.Common.{◌≡◌, ℕ, Bool, true, false, List, [], ◌∷◌, map, reverse, Option, Some, None, option_map, refl, ap, sym, ◌∙◌, Bor, cond, ◌++◌}
+use Rattle.std.proofs.Common.{◌≡◌, ℕ, Bool, true, false, List, [], ◌∷◌, map, reverse, Option, Some, None, option_map, refl, ap, sym, ◌∙◌, Bor, cond, ◌++◌, ◌||◌}
 use Rattle.std.specs.List.{find}
 use Rattle.std.proofs.lemmas.List.{reverse-append}
 use Rattle.std.proofs.lemmas.List.{map-append}
@@ -7,6 +7,9 @@ use Rattle.std.specs.Str.{bytes_eq}
 use Rattle.lrp_model.specs.Texts.{Identifier}
 use Rattle.std.specs.Option.{option_or}
 use Rattle.std.proofs.lemmas.List.Folds.{find-append}
+use Rattle.std.specs.Option.{is_some}
+use Rattle.std.specs.Cmp.Lexicographic.{nat_list_eq_equiv}
+use Rattle.lrp_model.specs.Faults.{is_named_in}
 use Rattle.lrp_model.specs.Sorting.{Binders, binder_sort}
 use Rattle.lrp_sorts.specs.Scopes.{Around, binders}
 use Rattle.lrp_model.specs.declared.relations.Sort.{Sort}
@@ -63,3 +66,21 @@ bound_inside a qs hs n s e h = ap (λ r. option_or r (binder_sort (reverse hs) n
 -- and where there is none, the head does
 pub bound_outside : (a : Around) (qs hs : List RawColumn) (n : Identifier) (r : Option Sort) → record { quantifiers = qs; head = hs } ≡ a → None ≡ binder_sort qs n → r ≡ binder_sort (reverse hs) n → r ≡ binder_sort (binders a) n
 bound_outside a qs hs n r e h k = k ∙ ap (λ q. option_or q (binder_sort (reverse hs) n)) h ∙ sym (binder_sort-append qs (reverse hs) n) ∙ ap (λ a. binder_sort (binders a) n) e
+
+-- whichever way the test goes, one name further
+one_name : (b : Bool) (c : RawColumn) (found : Option RawColumn) (rest : Bool) → is_some (option_map (λ (c : RawColumn). c.sort) found) ≡ rest
+    → is_some (option_map (λ (c : RawColumn). c.sort) (cond b (Some c) found)) ≡ (b || rest)
+one_name true c found rest e = refl
+one_name false c found rest e = e
+
+-- a name has a binder where it is one of their names
+pub bound_names : (bs : Binders) (n : Identifier) → is_some (binder_sort bs n) ≡ is_named_in (map (λ b. b.name) bs) n
+bound_names [] n = refl
+bound_names (b ∷ bs) n =
+    one_name (bytes_eq b.name n) b (find (λ c. bytes_eq c.name n) bs) _ (bound_names bs n)
+    ∙ ap (λ t. t || is_named_in (map (λ b. b.name) bs) n) (nat_list_eq_equiv.symm b.name n)
+
+-- a sort behind a reference is there where the sort is
+pub there_behind : (s : Option (Bor Sort)) → is_some s ≡ is_some (option_map (λ (s : Bor Sort). s.now) s)
+there_behind None = refl
+there_behind (Some s) = refl

@@ -1,5 +1,5 @@
 -- Names that are kept once each: which they are, and how many.
-use Rattle.std.proofs.Common.{◌≡◌, ℕ, ◌+◌, ◌≤◌, Bool, true, false, not, cond, ◌&&◌, ◌||◌, List, [], ◌∷◌, ◌++◌, map, length, Option, Some, None, refl, ap, sym, ◌∙◌, arith, Bor, bytes_eq, length-append, subst, nat_lt, append_assoc}
+use Rattle.std.proofs.Common.{◌≡◌, ℕ, ◌+◌, ◌≤◌, Bool, true, false, not, cond, ◌&&◌, ◌||◌, List, [], ◌∷◌, ◌++◌, map, length, Option, Some, None, refl, ap, sym, ◌∙◌, arith, Bor, bytes_eq, length-append, subst, nat_lt, append_assoc, filter}
 use Rattle.std.specs.List.{list_any}
 use Rattle.std.proofs.lemmas.List.{map-append}
 use Rattle.std.proofs.lemmas.List.Folds.{list_any-append}
@@ -194,3 +194,13 @@ pub names_regrouped : (front done : List (Bor Identifier)) (r : Bor Identifier) 
     → ms ++ names_behind ((front ++ r ∷ []) ++ done) ≡ (ms ++ names_behind front) ++ (r.now ∷ names_behind done)
 names_regrouped front done r ms =
     ap (λ l. ms ++ names_behind l) (append_assoc front (r ∷ []) done) ∙ ap (λ l. ms ++ l) (map-append (λ n. n.now) front (r ∷ done)) ∙ sym (append_assoc ms (names_behind front) (r.now ∷ names_behind done))
+
+-- whether one passes, and the others
+passed : (b : Bool) (n : Bor Identifier) (l : List (Bor Identifier)) (m : List Identifier) → names_behind l ≡ m → names_behind (cond b (n ∷ l) l) ≡ cond b (n.now ∷ m) m
+passed true n l m e = ap (λ m. n.now ∷ m) e
+passed false n l m e = e
+
+-- the names that pass, behind references or not
+pub filter_behind : (p : Identifier → Bool) (ns : List (Bor Identifier)) → names_behind (filter (λ (n : Bor Identifier). p n.now) ns) ≡ filter p (names_behind ns)
+filter_behind p [] = refl
+filter_behind p (n ∷ ns) = passed (p n.now) n (filter (λ (n : Bor Identifier). p n.now) ns) (filter p (names_behind ns)) (filter_behind p ns)

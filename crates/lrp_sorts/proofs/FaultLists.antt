@@ -6,12 +6,16 @@ use Rattle.lrp_model.specs.Faults.{first}
 use Rattle.lrp_rel.specs.Sooner.{sooner}
 use Rattle.lrp_rel.proofs.FirstFault.{first_of_both}
 
--- one element more in a list, each with its faults
+-- one element more in a list, each with a list of its own
+pub one_further : {A B : Type 0} (f : A → List B) (xs : List A) (i : ℕ) (x : A) → i < length xs → x ≡ get_or xs i x
+    → flat_map f (take i xs) ++ f x ≡ flat_map f (take (i + 1) xs)
+one_further f xs i x lt is =
+    ap (λ l. flat_map f (take i xs) ++ l) (sym (append-nil (f x)))
+    ∙ sym (flat_map-append f (take i xs) (x ∷ []))
+    ∙ ap (λ x. flat_map f (take i xs ++ x ∷ [])) is
+    ∙ ap (flat_map f) (sym (take_more xs i x lt))
+
+-- the same of faults
 pub one_more : {A F : Type 0} (stands : F → List ℕ) (f : A → List F) (xs : List A) (i : ℕ) (x : A) → i < length xs → x ≡ get_or xs i x
     → sooner stands (first stands (flat_map f (take i xs))) (first stands (f x)) ≡ first stands (flat_map f (take (i + 1) xs))
-one_more stands f xs i x lt is =
-    sym (first_of_both stands (flat_map f (take i xs)) (f x))
-    ∙ ap (λ l. first stands (flat_map f (take i xs) ++ l)) (sym (append-nil (f x)))
-    ∙ ap (first stands) (sym (flat_map-append f (take i xs) (x ∷ [])))
-    ∙ ap (λ x. first stands (flat_map f (take i xs ++ x ∷ []))) is
-    ∙ ap (λ l. first stands (flat_map f l)) (sym (take_more xs i x lt))
+one_more stands f xs i x lt is = sym (first_of_both stands (flat_map f (take i xs)) (f x)) ∙ ap (first stands) (one_further f xs i x lt is)

@@ -2,3 +2,5 @@ pub mod Binding
 pub mod FaultLists
 pub mod ColumnFaults
 pub mod Counting
+pub mod SortNames
+pub mod RawNodes

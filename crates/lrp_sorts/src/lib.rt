@@ -1,7 +1,10 @@
 //! The sort checker: a raw query as a query of the engine, or the first of its sort faults.
 #![tactic(auto)]
 
+mod catalog;
 mod earliest;
+mod finding;
 mod scope;
 mod terms;
+mod walk;
 mod width;

@@ -1,0 +1,179 @@
+-- What the nodes of a raw formula show, from what their members show.
+use Rattle.std.proofs.Common.{◌≡◌, ℕ, List, [], ◌∷◌, ◌++◌, Option, Result, Ok, Err, IfOk, OnOk, Box, Vec, Global, refl, ap, sym, ◌∙◌, rules, ◌+◌, ◌<◌, length, take, get_or, append_assoc}
+use Rattle.std.proofs.lemmas.List.{take_more, append-nil}
+use Rattle.lrp_model.specs.Texts.{Identifier}
+use Rattle.lrp_model.specs.Faults.{first, fault_if}
+use Rattle.lrp_model.specs.RawQueries.{raw_kind, raw_form_of, raw_forms_of, raw_not, raw_and, raw_or, raw_implies, raw_group, raw_exists, raw_forall}
+use Rattle.lrp_model.specs.Sorting.{Binders, stands, fault, too_many, free_names, free_names_each, form_faults, forms_faults, widened, place_of, binder_faults, without}
+use Rattle.lrp_model.specs.declared.tokens.Place.{Place}
+use Rattle.lrp_model.specs.declared.relations.Relation.{Relation}
+use Rattle.lrp_model.specs.declared.faults.QueryFault.{QueryFault}
+use Rattle.lrp_model.specs.declared.faults.QueryKind.TheVariants.{Wide}
+use Rattle.lrp_model.specs.declared.raw.RawColumn.{RawColumn}
+use Rattle.lrp_model.specs.declared.raw.RawFormula.{RawFormula}
+use Rattle.lrp_model.specs.declared.raw.RawKind.{RawKind, Atom, Compare, Member, Not, Group, And, Or, Implies, Exists, Forall, Not', And', Or', Implies', Group', Exists', Forall', the_lemmas}
+use Rattle.lrp_model.proofs.RawViews.{raw_kind-And, raw_kind-Or}
+use Rattle.lrp_rel.specs.Sooner.{sooner}
+use Rattle.lrp_rel.proofs.FirstFault.{first_of_both}
+use Rattle.lrp_sorts.specs.declared.finding.Finding.{Finding}
+use Rattle.lrp_sorts.specs.Scopes.{Around, binders}
+use Rattle.lrp_sorts.specs.Widths.{names_behind}
+
+-- ---- nodes of the tree in memory
+
+pub raw_kind-Not : (b : Box RawFormula Global) (p : Place) → raw_kind (Not b) p ≡ raw_not p (raw_form_of b.value)
+raw_kind-Not b p = search (rules, the_lemmas)
+
+pub raw_kind-Group : (b : Box RawFormula Global) (p : Place) → raw_kind (Group b) p ≡ raw_group p (raw_form_of b.value)
+raw_kind-Group b p = search (rules, the_lemmas)
+
+pub raw_kind-Implies : (b d : Box RawFormula Global) (p : Place) → raw_kind (Implies b d) p ≡ raw_implies p (raw_form_of b.value) (raw_form_of d.value)
+raw_kind-Implies b d p = search (rules, the_lemmas)
+
+pub raw_kind-Exists : (c : RawColumn) (b : Box RawFormula Global) (p : Place) → raw_kind (Exists c b) p ≡ raw_exists p c (raw_form_of b.value)
+raw_kind-Exists c b p = search (rules, the_lemmas)
+
+pub raw_kind-Forall : (c : RawColumn) (b : Box RawFormula Global) (p : Place) → raw_kind (Forall c b) p ≡ raw_forall p c (raw_form_of b.value)
+raw_kind-Forall c b p = search (rules, the_lemmas)
+
+-- a formula has the place that it is kept with
+pub place_kept : (k : RawKind) (p : Place) → place_of (raw_kind k p) ≡ p
+place_kept (Atom n ts) p = refl
+place_kept (Compare l op r) p = refl
+place_kept (Member t point) p = refl
+place_kept (Not' m k q) p = refl
+place_kept (And' shape all) p = refl
+place_kept (Or' shape all) p = refl
+place_kept (Implies' m k q n j r) p = refl
+place_kept (Group' m k q) p = refl
+place_kept (Exists' c m k q) p = refl
+place_kept (Forall' c m k q) p = refl
+
+-- ---- results
+
+-- another spelling of the fault, and of the names
+pub fault_then : {E : Type 0} (r : Result Finding E) (a b : Option QueryFault) → a ≡ b → IfOk r (λ made. made.fault ≡ a) → IfOk r (λ made. made.fault ≡ b)
+fault_then (Ok x) a b e h = h ∙ e
+fault_then (Err x) a b e h = h
+
+pub free_then : {E : Type 0} (r : Result Finding E) (a b : List Identifier) → a ≡ b → IfOk r (λ made. names_behind made.free.items ≡ a) → IfOk r (λ made. names_behind made.free.items ≡ b)
+free_then (Ok x) a b e h = h ∙ e
+free_then (Err x) a b e h = h
+
+-- ---- widths
+
+module _ (db : List Relation) (bs : Binders) where
+  -- the fault of a formula with its width
+  pub width_shows : (extra : List Identifier) (g : RawFormula) (names : List Identifier) (inside : Option QueryFault)
+      → names ≡ free_names (raw_form_of g) → inside ≡ first stands (form_faults (raw_form_of g) db bs)
+      → sooner stands (first stands (fault_if (too_many bs (extra ++ names)) (fault Wide g.place))) inside ≡ first stands (widened bs extra (raw_form_of g) (form_faults (raw_form_of g) db bs))
+  width_shows extra g names inside e h =
+      ap (λ ns. sooner stands (first stands (fault_if (too_many bs (extra ++ ns)) (fault Wide g.place))) inside) e
+      ∙ ap (λ p. sooner stands (first stands (fault_if (too_many bs (extra ++ free_names (raw_form_of g))) (fault Wide p))) inside) (sym (place_kept g.kind g.place))
+      ∙ ap (sooner stands (first stands (fault_if (too_many bs (extra ++ free_names (raw_form_of g))) (fault Wide (place_of (raw_form_of g)))))) h
+      ∙ sym (first_of_both stands (fault_if (too_many bs (extra ++ free_names (raw_form_of g))) (fault Wide (place_of (raw_form_of g)))) (form_faults (raw_form_of g) db bs))
+
+  -- ---- the faults of nodes
+
+  pub not_faults : (f : RawFormula) (b : Box RawFormula Global) → f.kind ≡ Not b
+      → first stands (widened bs [] (raw_form_of b.value) (form_faults (raw_form_of b.value) db bs)) ≡ first stands (form_faults (raw_form_of f) db bs)
+  not_faults f b e = ap (λ g. first stands (form_faults g db bs)) (sym (ap (λ k. raw_kind k f.place) e ∙ raw_kind-Not b f.place))
+
+  pub group_faults : (f : RawFormula) (b : Box RawFormula Global) → f.kind ≡ Group b
+      → first stands (widened bs [] (raw_form_of b.value) (form_faults (raw_form_of b.value) db bs)) ≡ first stands (form_faults (raw_form_of f) db bs)
+  group_faults f b e = ap (λ g. first stands (form_faults g db bs)) (sym (ap (λ k. raw_kind k f.place) e ∙ raw_kind-Group b f.place))
+
+  pub and_faults : (f : RawFormula) (v : Vec RawFormula Global) → f.kind ≡ And v → first stands (forms_faults (raw_forms_of v.items) db bs) ≡ first stands (form_faults (raw_form_of f) db bs)
+  and_faults f v e = ap (λ g. first stands (form_faults g db bs)) (sym (ap (λ k. raw_kind k f.place) e ∙ raw_kind-And v f.place))
+
+  pub or_faults : (f : RawFormula) (v : Vec RawFormula Global) → f.kind ≡ Or v → first stands (forms_faults (raw_forms_of v.items) db bs) ≡ first stands (form_faults (raw_form_of f) db bs)
+  or_faults f v e = ap (λ g. first stands (form_faults g db bs)) (sym (ap (λ k. raw_kind k f.place) e ∙ raw_kind-Or v f.place))
+
+  pub implies_faults : (f : RawFormula) (b d : Box RawFormula Global) → f.kind ≡ Implies b d
+      → sooner stands (first stands (widened bs [] (raw_form_of b.value) (form_faults (raw_form_of b.value) db bs))) (first stands (widened bs [] (raw_form_of d.value) (form_faults (raw_form_of d.value) db bs)))
+      ≡ first stands (form_faults (raw_form_of f) db bs)
+  implies_faults f b d e =
+      sym (first_of_both stands (widened bs [] (raw_form_of b.value) (form_faults (raw_form_of b.value) db bs)) (widened bs [] (raw_form_of d.value) (form_faults (raw_form_of d.value) db bs)))
+      ∙ ap (λ g. first stands (form_faults g db bs)) (sym (ap (λ k. raw_kind k f.place) e ∙ raw_kind-Implies b d f.place))
+
+  pub exists_faults : (f : RawFormula) (c : RawColumn) (b : Box RawFormula Global) → f.kind ≡ Exists c b
+      → sooner stands (first stands (binder_faults db bs c)) (first stands (widened (c ∷ bs) (c.name ∷ []) (raw_form_of b.value) (form_faults (raw_form_of b.value) db (c ∷ bs))))
+      ≡ first stands (form_faults (raw_form_of f) db bs)
+  exists_faults f c b e =
+      sym (first_of_both stands (binder_faults db bs c) (widened (c ∷ bs) (c.name ∷ []) (raw_form_of b.value) (form_faults (raw_form_of b.value) db (c ∷ bs))))
+      ∙ ap (λ g. first stands (form_faults g db bs)) (sym (ap (λ k. raw_kind k f.place) e ∙ raw_kind-Exists c b f.place))
+
+  pub forall_faults : (f : RawFormula) (c : RawColumn) (b : Box RawFormula Global) → f.kind ≡ Forall c b
+      → sooner stands (first stands (binder_faults db bs c)) (first stands (widened (c ∷ bs) (c.name ∷ []) (raw_form_of b.value) (form_faults (raw_form_of b.value) db (c ∷ bs))))
+      ≡ first stands (form_faults (raw_form_of f) db bs)
+  forall_faults f c b e =
+      sym (first_of_both stands (binder_faults db bs c) (widened (c ∷ bs) (c.name ∷ []) (raw_form_of b.value) (form_faults (raw_form_of b.value) db (c ∷ bs))))
+      ∙ ap (λ g. first stands (form_faults g db bs)) (sym (ap (λ k. raw_kind k f.place) e ∙ raw_kind-Forall c b f.place))
+
+-- ---- the names of members
+
+pub and_names : (f : RawFormula) (v : Vec RawFormula Global) → f.kind ≡ And v → free_names_each (raw_forms_of v.items) ≡ free_names (raw_form_of f)
+and_names f v e = ap free_names (sym (ap (λ k. raw_kind k f.place) e ∙ raw_kind-And v f.place))
+
+pub or_names : (f : RawFormula) (v : Vec RawFormula Global) → f.kind ≡ Or v → free_names_each (raw_forms_of v.items) ≡ free_names (raw_form_of f)
+or_names f v e = ap free_names (sym (ap (λ k. raw_kind k f.place) e ∙ raw_kind-Or v f.place))
+
+-- ---- what the walk has at a node
+
+-- what follows from what an Ok says
+pub then_ok : {A E : Type 0} (r : Result A E) (P Q : Type 0) → OnOk r P → (P → Q) → OnOk r Q
+then_ok (Ok x) P Q h f = f h
+then_ok (Err x) P Q h f = h
+
+module _ (db : List Relation) where
+  -- a member's fault with its width, the member being read through references
+  pub shown : (around after : Around) (extra : List Identifier) (v g h : RawFormula) (inside : Finding)
+      → after ≡ around → g ≡ v → h ≡ v → names_behind inside.free.items ≡ free_names (raw_form_of g) → inside.fault ≡ first stands (form_faults (raw_form_of g) db (binders around))
+      → sooner stands (first stands (fault_if (too_many (binders after) (extra ++ names_behind inside.free.items)) (fault Wide h.place))) inside.fault
+      ≡ first stands (widened (binders around) extra (raw_form_of v) (form_faults (raw_form_of v) db (binders around)))
+  shown around after extra v g h inside a e k n f =
+      ap (λ x. sooner stands (first stands (fault_if (too_many (binders x) (extra ++ names_behind inside.free.items)) (fault Wide h.place))) inside.fault) a
+      ∙ ap (λ x. sooner stands (first stands (fault_if (too_many (binders around) (extra ++ names_behind inside.free.items)) (fault Wide x.place))) inside.fault) k
+      ∙ width_shows db (binders around) extra v (names_behind inside.free.items) inside.fault (n ∙ ap (λ x. free_names (raw_form_of x)) e) (f ∙ ap (λ x. first stands (form_faults (raw_form_of x) db (binders around))) e)
+
+  -- the same one quantifier further in, with the faults of the quantifier's binder
+  pub shown_bound : (around within after : Around) (c : RawColumn) (own : Option QueryFault) (v g h : RawFormula) (inside : Finding)
+      → within ≡ record around { quantifiers = c ∷ around.quantifiers } → after ≡ within → own ≡ first stands (binder_faults db (binders around) c)
+      → g ≡ v → h ≡ v → names_behind inside.free.items ≡ free_names (raw_form_of g) → inside.fault ≡ first stands (form_faults (raw_form_of g) db (binders within))
+      → sooner stands own (sooner stands (first stands (fault_if (too_many (binders after) (c.name ∷ names_behind inside.free.items)) (fault Wide h.place))) inside.fault)
+      ≡ sooner stands (first stands (binder_faults db (binders around) c)) (first stands (widened (c ∷ binders around) (c.name ∷ []) (raw_form_of v) (form_faults (raw_form_of v) db (c ∷ binders around))))
+  shown_bound around within after c own v g h inside w a o e k n f =
+      ap (λ x. sooner stands x (sooner stands (first stands (fault_if (too_many (binders after) (c.name ∷ names_behind inside.free.items)) (fault Wide h.place))) inside.fault)) o
+      ∙ ap (sooner stands (first stands (binder_faults db (binders around) c))) (shown within after (c.name ∷ []) v g h inside a e k n f)
+      ∙ ap (λ x. sooner stands (first stands (binder_faults db (binders around) c)) (first stands (widened (binders x) (c.name ∷ []) (raw_form_of v) (form_faults (raw_form_of v) db (binders x))))) w
+
+-- ---- the members of a list, one after the other
+
+forms_faults-append : (db : List Relation) (bs : Binders) (fs gs : List RawFormula) → forms_faults (raw_forms_of (fs ++ gs)) db bs ≡ forms_faults (raw_forms_of fs) db bs ++ forms_faults (raw_forms_of gs) db bs
+forms_faults-append db bs [] gs = refl
+forms_faults-append db bs (f ∷ fs) gs =
+    let own = widened bs [] (raw_form_of f) (form_faults (raw_form_of f) db bs) in
+    ap (λ l. own ++ l) (forms_faults-append db bs fs gs) ∙ sym (append_assoc own (forms_faults (raw_forms_of fs) db bs) (forms_faults (raw_forms_of gs) db bs))
+
+names_each-append : (fs gs : List RawFormula) → free_names_each (raw_forms_of (fs ++ gs)) ≡ free_names_each (raw_forms_of fs) ++ free_names_each (raw_forms_of gs)
+names_each-append [] gs = refl
+names_each-append (f ∷ fs) gs = ap (λ l. free_names (raw_form_of f) ++ l) (names_each-append fs gs) ∙ sym (append_assoc (free_names (raw_form_of f)) (free_names_each (raw_forms_of fs)) (free_names_each (raw_forms_of gs)))
+
+-- one member more
+pub one_member_faults : (db : List Relation) (bs : Binders) (fs : List RawFormula) (i : ℕ) (f : RawFormula) → i < length fs → f ≡ get_or fs i f
+    → sooner stands (first stands (forms_faults (raw_forms_of (take i fs)) db bs)) (first stands (widened bs [] (raw_form_of f) (form_faults (raw_form_of f) db bs))) ≡ first stands (forms_faults (raw_forms_of (take (i + 1) fs)) db bs)
+one_member_faults db bs fs i f lt is =
+    let own = widened bs [] (raw_form_of f) (form_faults (raw_form_of f) db bs) in
+    sym (first_of_both stands (forms_faults (raw_forms_of (take i fs)) db bs) own)
+    ∙ ap (λ l. first stands (forms_faults (raw_forms_of (take i fs)) db bs ++ l)) (sym (append-nil own))
+    ∙ ap (first stands) (sym (forms_faults-append db bs (take i fs) (f ∷ [])))
+    ∙ ap (λ x. first stands (forms_faults (raw_forms_of (take i fs ++ x ∷ [])) db bs)) is
+    ∙ ap (λ l. first stands (forms_faults (raw_forms_of l) db bs)) (sym (take_more fs i f lt))
+
+pub one_member_names : (fs : List RawFormula) (i : ℕ) (f : RawFormula) → i < length fs → f ≡ get_or fs i f
+    → free_names_each (raw_forms_of (take i fs)) ++ free_names (raw_form_of f) ≡ free_names_each (raw_forms_of (take (i + 1) fs))
+one_member_names fs i f lt is =
+    ap (λ l. free_names_each (raw_forms_of (take i fs)) ++ l) (sym (append-nil (free_names (raw_form_of f))))
+    ∙ sym (names_each-append (take i fs) (f ∷ []))
+    ∙ ap (λ x. free_names_each (raw_forms_of (take i fs ++ x ∷ []))) is
+    ∙ ap (λ l. free_names_each (raw_forms_of l)) (sym (take_more fs i f lt))

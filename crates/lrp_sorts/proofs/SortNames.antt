@@ -1,0 +1,38 @@
+-- The set of the names of named sorts, name by name.
+use Rattle.std.proofs.Common.{◌≡◌, ℕ, ◌+◌, ◌<◌, Bool, true, false, cond, ◌||◌, List, [], ◌∷◌, ◌++◌, refl, ap, sym, ◌∙◌, length, take, get_or, Bor}
+use Rattle.std.specs.List.{list_any}
+use Rattle.std.specs.Str.{bytes_eq}
+use Rattle.std.specs.HashSet.{HashSet, UpdatesBy}
+use Rattle.std.proofs.lemmas.List.Folds.{list_any_more}
+use Rattle.lrp_model.specs.Texts.{Identifier}
+use Rattle.lrp_model.specs.Sorts.{same_sort}
+use Rattle.lrp_model.specs.declared.relations.Sort.{Sort}
+use Rattle.lrp_sorts.specs.Scopes.{holds}
+
+-- a choice of true is an `or`
+chosen_or : (b x : Bool) → cond b true x ≡ (x || b)
+chosen_or true true = refl
+chosen_or true false = refl
+chosen_or false true = refl
+chosen_or false false = refl
+
+pub nothing_added : (x : Bool) → x ≡ (x || false)
+nothing_added true = refl
+nothing_added false = refl
+
+or_again : (a b c : Bool) → ((a || b) || c) ≡ (a || (b || c))
+or_again true b c = refl
+or_again false b c = refl
+
+-- a set with one name more
+pub one_name : {S : Type 0} (k : Bor (List ℕ)) (s t : HashSet (Bor (List ℕ)) S) (name : Identifier) → k.now ≡ name → UpdatesBy (λ x y. bytes_eq x.now y.now) (λ y. bytes_eq k.now y.now) s t true
+    → (n : Identifier) → holds t n ≡ (holds s n || bytes_eq name n)
+one_name k s t name e u n =
+    u.0 (record { ref_ptr = (0, 0); now = n }) ∙ chosen_or (bytes_eq k.now n) (holds s n) ∙ ap (λ m. holds s n || bytes_eq m n) e
+
+-- one element more
+pub one_sort : {A : Type 0} (old new before : Bool) (p : A → Bool) (xs : List A) (i : ℕ) (x : A) → i < length xs → x ≡ get_or xs i x
+    → old ≡ (before || list_any p (take i xs)) → new ≡ (old || p x) → new ≡ (before || list_any p (take (i + 1) xs))
+one_sort old new before p xs i x lt is o n =
+    n ∙ ap (λ b. b || p x) o ∙ or_again before (list_any p (take i xs)) (p x)
+    ∙ ap (λ b. before || b) (ap (λ y. list_any p (take i xs) || p y) is ∙ sym (list_any_more p xs i x lt))
