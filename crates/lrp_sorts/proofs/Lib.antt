@@ -4,3 +4,5 @@ pub mod ColumnFaults
 pub mod Counting
 pub mod SortNames
 pub mod RawNodes
+pub mod Heads
+pub mod PlainForms

@@ -1,5 +1,8 @@
 -- The set of the names of named sorts, name by name.
-use Rattle.std.proofs.Common.{◌≡◌, ℕ, ◌+◌, ◌<◌, Bool, true, false, cond, ◌||◌, List, [], ◌∷◌, ◌++◌, refl, ap, sym, ◌∙◌, length, take, get_or, Bor}
+use Rattle.std.proofs.Common.{◌≡◌, ℕ, ◌+◌, ◌<◌, Bool, true, false, cond, ◌||◌, List, [], ◌∷◌, ◌++◌, refl, ap, sym, ◌∙◌, length, take, get_or, Bor, Option, Some, slice_get}
+use Rattle.std.proofs.lemmas.Option.{get_or_from_slice_get}
+use Rattle.lrp_model.specs.Sorting.{has_sort}
+use Rattle.lrp_model.specs.declared.relations.Relation.{Relation}
 use Rattle.std.specs.List.{list_any}
 use Rattle.std.specs.Str.{bytes_eq}
 use Rattle.std.specs.HashSet.{HashSet, UpdatesBy}
@@ -36,3 +39,15 @@ pub one_sort : {A : Type 0} (old new before : Bool) (p : A → Bool) (xs : List 
 one_sort old new before p xs i x lt is o n =
     n ∙ ap (λ b. b || p x) o ∙ or_again before (list_any p (take i xs)) (p x)
     ∙ ap (λ b. before || b) (ap (λ y. list_any p (take i xs) || p y) is ∙ sym (list_any_more p xs i x lt))
+
+-- the element at an index is the one that is there
+at_index : {A : Type 0} (xs : List A) (i : ℕ) (x : A) → slice_get xs i ≡ Some x → get_or xs i x ≡ x
+at_index xs i x e = get_or_from_slice_get xs i x x e
+
+-- one relation more
+pub one_relation : (db : List Relation) (i : ℕ) (r : Relation) (s : Sort) (new old : Bool) → i < length db → slice_get db i ≡ Some r
+    → new ≡ (old || list_any (λ c. same_sort c.sort s) r.columns) → old ≡ has_sort (take i db) s → new ≡ has_sort (take (i + 1) db) s
+one_relation db i r s new old lt at n o =
+    n ∙ ap (λ b. b || list_any (λ c. same_sort c.sort s) r.columns) o
+    ∙ ap (λ x. has_sort (take i db) s || list_any (λ c. same_sort c.sort s) x.columns) (sym (at_index db i r at))
+    ∙ sym (list_any_more (λ r. list_any (λ c. same_sort c.sort s) r.columns) db i r lt)

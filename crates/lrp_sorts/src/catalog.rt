@@ -11,6 +11,7 @@ ghost use Rattle.lrp_sorts.specs.Scopes.{holds};
 
 use crate::earliest::fault_where;
 use lrp_model::{Column, Memory, Name, Place, QueryFault, QueryKind, Relation, Sort};
+use lrp_rel::Database;
 use std::alloc::Global;
 use std::collections::HashSet;
 use std::marker::Model;
@@ -18,7 +19,7 @@ use std::marker::Model;
 /// A database with the names of its named sorts.
 #[derive(Drop)]
 pub struct Catalog<'a> {
-    relations: &'a [Relation],
+    db: &'a Database,
     sorts: HashSet<&'a [u8]>,
 }
 
@@ -32,25 +33,26 @@ impl<'a> Model for Catalog<'a> {
 
     ghost Value = { List Relation };
 
-    ghost view = { λ a. a.relations.now };
+    ghost view = { λ a. a.db.now };
 
-    ghost invariant = { λ a. (n : Identifier) → holds a.sorts n ≡ has_sort a.relations.now (Named n) };
+    ghost invariant = { λ a. (n : Identifier) → holds a.sorts n ≡ has_sort a.db.now (Named n) };
 }
 
 impl<'a> Catalog<'a> {
     // The catalog of a database.
-    pub fn new(alloc: Global, relations: &'a [Relation]) -> Result<Self, Memory>
-        ensures { IfOk result (λ made. made ≡ relations.now) }
+    pub fn new(alloc: Global, db: &'a Database) -> Result<Self, Memory>
+        ensures { IfOk result (λ made. made ≡ db.now) }
     {
-        let sorts = named_sorts(alloc, relations)?;
-        Ok(Catalog { relations, sorts })
+        let sorts = named_sorts(alloc, db)?;
+        Ok(Catalog { db, sorts })
     }
 
     // The relation of a name.
     pub fn relation(&self, name: &Name) -> Option<&'a Relation>
         ensures { option_map (λ r. r.now) result ≡ relation_named self.now name.now }
     {
-        self.relations.iter().find(|r| r.name == *name)
+        let db = self.db;
+        db.relation(name)
     }
 
     // A named sort that no column has.
@@ -68,12 +70,12 @@ impl<'a> Catalog<'a> {
 }
 
 // The names of the named sorts that columns of the database have.
-fn named_sorts<'a>(alloc: Global, relations: &'a [Relation]) -> Result<HashSet<&'a [u8]>, Memory>
-    ensures { IfOk result (λ made. (n : Identifier) → holds made n ≡ has_sort relations.now (Named n)) }
+fn named_sorts<'a>(alloc: Global, db: &'a Database) -> Result<HashSet<&'a [u8]>, Memory>
+    ensures { IfOk result (λ made. (n : Identifier) → holds made n ≡ has_sort db.now (Named n)) }
 {
     let mut sorts = HashSet::new(alloc);
-    for relation in relations {
-        add_sorts(&mut sorts, relation.columns.as_slice())?;
+    for i in 0..db.relations() {
+        add_sorts(&mut sorts, db.at(i).columns.as_slice())?;
     }
     Ok(sorts)
 }

@@ -4,6 +4,8 @@
 mod catalog;
 mod earliest;
 mod finding;
+mod head;
+mod plain;
 mod scope;
 mod terms;
 mod walk;

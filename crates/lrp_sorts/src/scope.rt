@@ -1,10 +1,11 @@
 // The binders around a formula, looked up by their names.
-ghost use Rattle.std.specs.Prelude.{◌≡◌, ◌∷◌, OnOk, option_map, map, reverse, List};
+ghost use Rattle.std.specs.Prelude.{◌≡◌, ◌∷◌, OnOk, option_map, map, reverse, []};
 ghost use Rattle.lrp_model.specs.Sorting.{binder_sort};
-ghost use Rattle.lrp_model.specs.declared.raw.RawColumn.{RawColumn as RawColumnValue};
-ghost use Rattle.lrp_sorts.specs.Scopes.{Around, binders};
+ghost use Rattle.lrp_sorts.specs.Scopes.{Around, binders, kept_at};
+ghost use Rattle.lrp_model.specs.Texts.{Identifier};
 
 use lrp_model::{Memory, Name, RawColumn, Sort};
+use std::alloc::Global;
 use std::collections::HashMap;
 use std::marker::Model;
 
@@ -20,7 +21,6 @@ impl<'a> Model for Scope<'a> {
     ghost use Rattle.std.specs.Prelude.{◌≡◌, reverse, map};
     ghost use Rattle.lrp_model.specs.Texts.{Identifier};
     ghost use Rattle.lrp_model.specs.Sorting.{binder_sort};
-ghost use Rattle.lrp_model.specs.declared.raw.RawColumn.{RawColumn as RawColumnValue};
     ghost use Rattle.lrp_sorts.specs.Scopes.{Around, kept_at};
 
     ghost Value = { Around };
@@ -31,6 +31,18 @@ ghost use Rattle.lrp_model.specs.declared.raw.RawColumn.{RawColumn as RawColumnV
 }
 
 impl<'a> Scope<'a> {
+    // The binders of a head, with the sort of the last column of each name.
+    pub fn of(alloc: Global, columns: &'a [RawColumn], sorts: HashMap<&'a [u8], &'a Sort>) -> Self
+        requires { (n : Identifier) → kept_at sorts n ≡ binder_sort (reverse columns.now) n }
+        ensures { result ≡ record { quantifiers = []; head = columns.now } }
+    {
+        Scope {
+            columns,
+            sorts,
+            quantifiers: Vec::new(alloc),
+        }
+    }
+
     // The sort of a name's innermost binder, where it has one.
     pub fn sort_of(&self, name: &Name) -> Option<&'a Sort>
         ensures { option_map (λ s. s.now) result ≡ binder_sort (binders self.now) name.now }

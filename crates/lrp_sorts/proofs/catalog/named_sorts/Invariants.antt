@@ -6,5 +6,5 @@ use Rattle.lrp_sorts.specs.Scopes.{holds}
 use Rattle.lrp_sorts.proofs.catalog.named_sorts.Given as goal
 
 -- the sorts of the relations so far are there
-abbrev pub invariant-loop-relation : goal.invariant-loop-relation
-invariant-loop-relation l = (n : Identifier) → holds l.sorts n ≡ has_sort (take l.relation-index l.relations) (Named n)
+abbrev pub invariant-loop-i : goal.invariant-loop-i
+invariant-loop-i l = (n : Identifier) → holds l.sorts n ≡ has_sort (take l.i l.db) (Named n)
