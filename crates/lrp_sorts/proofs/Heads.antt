@@ -69,8 +69,8 @@ one_column_faults db cs i c found next own bound lt is n o b f =
     let before : List RawColumn = take i cs in
     let named : bound ≡ is_named_in (map (λ b. b.name) (reverse before)) c.name = b ∙ bound_names (reverse before) c.name in
     let of_binder : own ≡ first stands (binder_faults db (reverse before) c) =
-        o ∙ ap (λ b. sooner stands (first stands (fault_if b (fault Rebound c.place))) (first stands (sort_faults db c.sort c.sort_place))) named
-        ∙ sym (first_of_both stands (fault_if (is_named_in (map (λ b. b.name) (reverse before)) c.name) (fault Rebound c.place)) (sort_faults db c.sort c.sort_place)) in
+    o ∙ ap (λ b. sooner stands (first stands (fault_if b (fault Rebound c.place))) (first stands (sort_faults db c.sort c.sort_place))) named
+    ∙ sym (first_of_both stands (fault_if (is_named_in (map (λ b. b.name) (reverse before)) c.name) (fault Rebound c.place)) (sort_faults db c.sort c.sort_place)) in
     n ∙ ap (λ x. sooner stands x own) f ∙ ap (sooner stands _) of_binder
     ∙ sym (first_of_both stands (head_faults db [] before) (binder_faults db (reverse before) c))
     ∙ ap (λ l. first stands (head_faults db [] before ++ binder_faults db l c)) (sym (append-nil (reverse before)))

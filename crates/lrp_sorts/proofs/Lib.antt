@@ -6,3 +6,6 @@ pub mod SortNames
 pub mod RawNodes
 pub mod Heads
 pub mod PlainForms
+pub mod Surveys
+pub mod Carries
+pub mod HeadNames

@@ -1,3 +1,5 @@
 pub mod Scopes
 pub mod Terms
 pub mod Widths
+pub mod Outcomes
+pub mod Carried

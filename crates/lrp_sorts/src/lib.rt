@@ -2,11 +2,17 @@
 #![tactic(auto)]
 
 mod catalog;
+mod checking;
 mod earliest;
 mod finding;
 mod head;
+mod laws;
 mod plain;
 mod scope;
 mod terms;
 mod walk;
 mod width;
+
+pub use checking::check;
+pub use laws::head_names_differ;
+pub use lrp_model::QueryRead;

@@ -81,7 +81,11 @@ fn term_fault(scope: &Scope<'_>, term: &RawTerm) -> Option<QueryFault>
     match &term.kind {
         RawTermKind::Int { .. } | RawTermKind::Text { .. } => None,
         RawTermKind::Var { name } => {
-            fault_where(scope.sort_of(name).is_none(), QueryKind::Unbound, term.place)
+            fault_where(
+                scope.sort_of(name).is_none(),
+                QueryKind::Unbound,
+                term.place,
+            )
         }
         RawTermKind::Shifted { name, .. } => match scope.sort_of(name) {
             Some(sort) => fault_where(!sort.is_time(), QueryKind::Sort, term.place),
@@ -156,7 +160,11 @@ pub fn atom_fault(
 fn time_fault(scope: &Scope<'_>, term: &RawTerm) -> Option<QueryFault>
     ensures { result ≡ first stands (time_faults (binders scope.now) term.now) }
 {
-    fault_where(term_sort(scope, term).is_data(), QueryKind::Sort, term.place)
+    fault_where(
+        term_sort(scope, term).is_data(),
+        QueryKind::Sort,
+        term.place,
+    )
 }
 
 // Sides of a comparison that do not go together.

@@ -12,7 +12,7 @@ use Rattle.lrp_sorts.proofs.finding.bind.Goals as goal
 pub returns-clause-fault : goal.returns-clause-fault
 returns-clause-fault c =
     let known : c.is_some.result ≡ is_named_in (map (λ b. b.name) (binders c.args.scope.now)) c.args.binder.now.name =
-        c.is_some.ensures ∙ there_behind c.sort_of.result ∙ ap is_some c.sort_of.ensures ∙ bound_names (binders c.args.scope.now) c.args.binder.now.name in
+    c.is_some.ensures ∙ there_behind c.sort_of.result ∙ ap is_some c.sort_of.ensures ∙ bound_names (binders c.args.scope.now) c.args.binder.now.name in
     c.binder_fault-own.ensures
     ∙ ap (λ b. sooner stands (first stands (fault_if b (fault Rebound c.args.binder.now.place))) (first stands (sort_faults c.args.catalog.now c.args.binder.now.sort c.args.binder.now.sort_place))) known
     ∙ sym (first_of_both stands (fault_if (is_named_in (map (λ b. b.name) (binders c.args.scope.now)) c.args.binder.now.name) (fault Rebound c.args.binder.now.place)) (sort_faults c.args.catalog.now c.args.binder.now.sort c.args.binder.now.sort_place))

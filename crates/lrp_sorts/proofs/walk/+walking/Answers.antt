@@ -13,7 +13,7 @@ inspect-returns-in_ok-inside-in-Not-clause-fault t c =
     let k = c.in_ok-inside-in-Not in
     fault_then c.with_width.result _ _
     (shown c.args.catalog.now c.args.scope.now c.inspect.new.scope [] c.in-Not.of.value c.deref.result.now c.deref-in-Not.result.now k.inside k.ensures.scope c.deref.ensures c.deref-in-Not.ensures k.ensures.free k.ensures.fault
-        ∙ not_faults c.args.catalog.now (binders c.args.scope.now) c.args.f.now c.in-Not.of c.in-Not.is)
+    ∙ not_faults c.args.catalog.now (binders c.args.scope.now) c.args.f.now c.in-Not.of c.in-Not.is)
     c.with_width.ensures.fault
 
 pub inspect-returns-in_ok-inside-in-Group-clause-fault : goal.inspect-returns-in_ok-inside-in-Group-clause-fault
@@ -21,14 +21,14 @@ inspect-returns-in_ok-inside-in-Group-clause-fault t c =
     let k = c.in_ok-inside-in-Group in
     fault_then c.with_width-in-Group.result _ _
     (shown c.args.catalog.now c.args.scope.now c.inspect-in-Group.new.scope [] c.in-Group.of.value c.deref-in-Group.result.now c.deref-in-Group-2.result.now k.inside k.ensures.scope c.deref-in-Group.ensures c.deref-in-Group-2.ensures k.ensures.free k.ensures.fault
-        ∙ group_faults c.args.catalog.now (binders c.args.scope.now) c.args.f.now c.in-Group.of c.in-Group.is)
+    ∙ group_faults c.args.catalog.now (binders c.args.scope.now) c.args.f.now c.in-Group.of c.in-Group.is)
     c.with_width-in-Group.ensures.fault
 
 pub inspect-returns-in-And-clause-fault : goal.inspect-returns-in-And-clause-fault
 inspect-returns-in-And-clause-fault t c =
     fault_then c.inspect_each.result _ _
     (ap (λ fs. first stands (forms_faults (raw_forms_of fs) c.args.catalog.now (binders c.args.scope.now))) c.deref-in-And.ensures.value
-        ∙ and_faults c.args.catalog.now (binders c.args.scope.now) c.args.f.now c.in-And.of c.in-And.is)
+    ∙ and_faults c.args.catalog.now (binders c.args.scope.now) c.args.f.now c.in-And.of c.in-And.is)
     c.inspect_each.ensures.fault
 
 pub inspect-returns-in-And-clause-free : goal.inspect-returns-in-And-clause-free
@@ -39,7 +39,7 @@ pub inspect-returns-in-Or-clause-fault : goal.inspect-returns-in-Or-clause-fault
 inspect-returns-in-Or-clause-fault t c =
     fault_then c.inspect_each-in-Or.result _ _
     (ap (λ fs. first stands (forms_faults (raw_forms_of fs) c.args.catalog.now (binders c.args.scope.now))) c.deref-in-Or.ensures.value
-        ∙ or_faults c.args.catalog.now (binders c.args.scope.now) c.args.f.now c.in-Or.of c.in-Or.is)
+    ∙ or_faults c.args.catalog.now (binders c.args.scope.now) c.args.f.now c.in-Or.of c.in-Or.is)
     c.inspect_each-in-Or.ensures.fault
 
 pub inspect-returns-in-Or-clause-free : goal.inspect-returns-in-Or-clause-free
@@ -53,13 +53,13 @@ inspect-returns-in_ok-behind-in-Implies-2-clause-fault t c =
     let l = c.in_ok-behind-in-Implies in
     fault_then c.both.result _ _
     (ap (λ x. sooner stands x c.in_ok-behind-in-Implies-2.behind.fault)
-        (c.in_ok-before-in-Implies-2.ensures.fault
-            ∙ shown c.args.catalog.now c.args.scope.now c.inspect-in-Implies.new.scope [] c.in-Implies.left.value c.deref-in-Implies.result.now c.deref-in-Implies-2.result.now k.before k.ensures.scope c.deref-in-Implies.ensures c.deref-in-Implies-2.ensures k.ensures.free k.ensures.fault)
-        ∙ ap (sooner stands _)
-            (c.in_ok-behind-in-Implies-2.ensures.fault
-                ∙ shown c.args.catalog.now c.inspect-in-Implies.new.scope c.inspect-in-Implies-2.new.scope [] c.in-Implies.right.value c.deref-in-Implies-3.result.now c.deref-in-Implies-4.result.now l.behind l.ensures.scope c.deref-in-Implies-3.ensures c.deref-in-Implies-4.ensures l.ensures.free l.ensures.fault
-                ∙ ap (λ a. first stands (widened (binders a) [] (raw_form_of c.in-Implies.right.value) (form_faults (raw_form_of c.in-Implies.right.value) c.args.catalog.now (binders a)))) k.ensures.scope)
-        ∙ implies_faults c.args.catalog.now bs c.args.f.now c.in-Implies.left c.in-Implies.right c.in-Implies.is)
+    (c.in_ok-before-in-Implies-2.ensures.fault
+    ∙ shown c.args.catalog.now c.args.scope.now c.inspect-in-Implies.new.scope [] c.in-Implies.left.value c.deref-in-Implies.result.now c.deref-in-Implies-2.result.now k.before k.ensures.scope c.deref-in-Implies.ensures c.deref-in-Implies-2.ensures k.ensures.free k.ensures.fault)
+    ∙ ap (sooner stands _)
+    (c.in_ok-behind-in-Implies-2.ensures.fault
+    ∙ shown c.args.catalog.now c.inspect-in-Implies.new.scope c.inspect-in-Implies-2.new.scope [] c.in-Implies.right.value c.deref-in-Implies-3.result.now c.deref-in-Implies-4.result.now l.behind l.ensures.scope c.deref-in-Implies-3.ensures c.deref-in-Implies-4.ensures l.ensures.free l.ensures.fault
+    ∙ ap (λ a. first stands (widened (binders a) [] (raw_form_of c.in-Implies.right.value) (form_faults (raw_form_of c.in-Implies.right.value) c.args.catalog.now (binders a)))) k.ensures.scope)
+    ∙ implies_faults c.args.catalog.now bs c.args.f.now c.in-Implies.left c.in-Implies.right c.in-Implies.is)
     c.both.ensures.fault
 
 pub inspect-returns-in_ok-inside-in-Exists-clause-fault : goal.inspect-returns-in_ok-inside-in-Exists-clause-fault
@@ -67,8 +67,8 @@ inspect-returns-in_ok-inside-in-Exists-clause-fault t c =
     let k = c.in_ok-inside-in-Exists in
     fault_then c.unbind.result _ _
     (shown_bound c.args.catalog.now c.args.scope.now c.bind.new.scope c.inspect-in-Exists.new.scope c.in-Exists.binder c.in_ok-own-in-Exists.own c.in-Exists.of.value c.deref-in-Exists.result.now c.deref-in-Exists-2.result.now k.inside
-        c.in_ok-own-in-Exists.ensures.scope k.ensures.scope c.in_ok-own-in-Exists.ensures.fault c.deref-in-Exists.ensures c.deref-in-Exists-2.ensures k.ensures.free k.ensures.fault
-        ∙ exists_faults c.args.catalog.now (binders c.args.scope.now) c.args.f.now c.in-Exists.binder c.in-Exists.of c.in-Exists.is)
+    c.in_ok-own-in-Exists.ensures.scope k.ensures.scope c.in_ok-own-in-Exists.ensures.fault c.deref-in-Exists.ensures c.deref-in-Exists-2.ensures k.ensures.free k.ensures.fault
+    ∙ exists_faults c.args.catalog.now (binders c.args.scope.now) c.args.f.now c.in-Exists.binder c.in-Exists.of c.in-Exists.is)
     c.unbind.ensures.fault
 
 pub inspect-returns-in_ok-inside-in-Exists-clause-scope : goal.inspect-returns-in_ok-inside-in-Exists-clause-scope
@@ -80,8 +80,8 @@ inspect-returns-in_ok-inside-in-Forall-clause-fault t c =
     let k = c.in_ok-inside-in-Forall in
     fault_then c.unbind-in-Forall.result _ _
     (shown_bound c.args.catalog.now c.args.scope.now c.bind-in-Forall.new.scope c.inspect-in-Forall.new.scope c.in-Forall.binder c.in_ok-own-in-Forall.own c.in-Forall.of.value c.deref-in-Forall.result.now c.deref-in-Forall-2.result.now k.inside
-        c.in_ok-own-in-Forall.ensures.scope k.ensures.scope c.in_ok-own-in-Forall.ensures.fault c.deref-in-Forall.ensures c.deref-in-Forall-2.ensures k.ensures.free k.ensures.fault
-        ∙ forall_faults c.args.catalog.now (binders c.args.scope.now) c.args.f.now c.in-Forall.binder c.in-Forall.of c.in-Forall.is)
+    c.in_ok-own-in-Forall.ensures.scope k.ensures.scope c.in_ok-own-in-Forall.ensures.fault c.deref-in-Forall.ensures c.deref-in-Forall-2.ensures k.ensures.free k.ensures.fault
+    ∙ forall_faults c.args.catalog.now (binders c.args.scope.now) c.args.f.now c.in-Forall.binder c.in-Forall.of c.in-Forall.is)
     c.unbind-in-Forall.ensures.fault
 
 pub inspect-returns-in_ok-inside-in-Forall-clause-scope : goal.inspect-returns-in_ok-inside-in-Forall-clause-scope

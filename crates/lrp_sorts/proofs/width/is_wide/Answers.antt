@@ -20,8 +20,8 @@ returns-then-is_wide c =
     let one : Bor Identifier = c.in-Some.name.now in
     let whole : c.args.names.now ≡ (front ++ one ∷ []) ++ kept.0 = kept.1 ∙ ap (λ l. l ++ kept.0) c.in-Some.ensures.steps in
     sym (ap (λ ns. too_many bs (added c.args.bound ++ names_behind ns)) whole
-        ∙ ap (too_many bs) (names_regrouped front kept.0 one (added c.args.bound))
-        ∙ still_too_many bs (added c.args.bound ++ names_behind front) (one.now ∷ names_behind kept.0) (sym (c.if-is_wide.ensures bs _ (c.in_ok-add.ensures (names_behind kept.0) kept.2))))
+    ∙ ap (too_many bs) (names_regrouped front kept.0 one (added c.args.bound))
+    ∙ still_too_many bs (added c.args.bound ++ names_behind front) (one.now ∷ names_behind kept.0) (sym (c.if-is_wide.ensures bs _ (c.in_ok-add.ensures (names_behind kept.0) kept.2))))
 
 pub loop-name-preserved : goal.loop-name-preserved
 loop-name-preserved c =

@@ -11,6 +11,6 @@ use Rattle.lrp_sorts.proofs.catalog.Catalog.sort_fault.Goals as goal
 pub returns-in-Named : goal.returns-in-Named
 returns-in-Named c =
     let known : c.contains-known.result ≡ has_sort c.args.self.now (Named c.in-Named.name) =
-        c.contains-known.ensures ∙ ap (λ q. contains_by (λ k. bytes_eq q k.now) c.self.inside.sorts) c.as_bytes.ensures
-        ∙ c.self.invariant c.in-Named.name ∙ ap (λ db. has_sort db (Named c.in-Named.name)) c.self.view_is in
+    c.contains-known.ensures ∙ ap (λ q. contains_by (λ k. bytes_eq q k.now) c.self.inside.sorts) c.as_bytes.ensures
+    ∙ c.self.invariant c.in-Named.name ∙ ap (λ db. has_sort db (Named c.in-Named.name)) c.self.view_is in
     rw c.in-Named.is (c.fault_where.ensures ∙ ap (λ b. first stands (fault_if (not b) (fault UnknownSort c.args.place))) known)

@@ -1,0 +1,23 @@
+use Rattle.std.proofs.Common.{◌≡◌, reverse, ap, sym, subst, ◌∙◌}
+use Rattle.lrp_model.specs.Checked.{plain}
+use Rattle.lrp_model.specs.Core.{HasElements}
+use Rattle.lrp_model.specs.Formulas.{form_of}
+use Rattle.lrp_model.specs.RawQueries.{raw_form_of, raw_question_of}
+use Rattle.lrp_model.specs.Sorting.{stands, faults}
+use Rattle.lrp_rel.proofs.FirstFault.{none_is_empty}
+use Rattle.lrp_sorts.specs.Carried.{points}
+use Rattle.lrp_sorts.proofs.Carries.{members_stay, points_stay}
+use Rattle.lrp_sorts.proofs.checking.check.Goals as goal
+
+pub returns-in-Ok-plain_query-clause-sorted : goal.returns-in-Ok-plain_query-clause-sorted
+returns-in-Ok-plain_query-clause-sorted c = none_is_empty stands (faults c.args.db.now (raw_question_of c.args.raw.now)) (sym c.in-Ok.ensures.fault ∙ c.in_default-fault.is)
+
+pub returns-in-Ok-plain_query-clause-members : goal.returns-in-Ok-plain_query-clause-members
+returns-in-Ok-plain_query-clause-members c = λ h.
+    let same : form_of c.in-Ok-plain_query.query.body ≡ plain (raw_form_of c.args.raw.now.body) (reverse c.args.raw.now.head) = ap (λ q. q.body) c.in-Ok-plain_query.ensures in
+    subst HasElements (sym same) (members_stay (raw_form_of c.args.raw.now.body) (reverse c.args.raw.now.head) h)
+
+pub returns-in-Ok-plain_query-clause-points : goal.returns-in-Ok-plain_query-clause-points
+returns-in-Ok-plain_query-clause-points c =
+    let same : form_of c.in-Ok-plain_query.query.body ≡ plain (raw_form_of c.args.raw.now.body) (reverse c.args.raw.now.head) = ap (λ q. q.body) c.in-Ok-plain_query.ensures in
+    ap points same ∙ points_stay (raw_form_of c.args.raw.now.body) (reverse c.args.raw.now.head)

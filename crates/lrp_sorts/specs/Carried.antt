@@ -1,0 +1,78 @@
+-- What a query has of the raw query that it was checked from.
+use Rattle.std.specs.Prelude.{◌≡◌, List, [], ◌∷◌, ◌++◌}
+use Rattle.lrp_model.specs.Formulas.{Form, Forms, Question, atom, test, sorted, negation, conjunction, disjunction, implication, exists, forall, no_forms, form}
+use Rattle.lrp_model.specs.RawQueries.{RawForm, RawForms, RawQuestion, raw_atom, raw_compare, raw_member, raw_not, raw_and, raw_or, raw_implies, raw_group, raw_exists, raw_forall, no_raws, raw}
+use Rattle.lrp_model.specs.Sorting.{IsWellSorted}
+use Rattle.lrp_model.specs.Checked.{plain_question}
+use Rattle.lrp_model.specs.declared.formulas.Test.{Test}
+use Rattle.lrp_model.specs.declared.formulas.Test.TheVariants.{Compare, Member, Equal}
+use Rattle.lrp_model.specs.declared.relations.Relation.{Relation}
+use Rattle.lrp_model.specs.declared.relations.RowPoint.{RowPoint}
+
+-- a query as the checker gives it: that of a raw query which is well-sorted for the database
+pub record IsCheckedFor (db : List Relation) (q : Question) : Type 0 where
+  pub raw : RawQuestion
+  pub well_sorted : IsWellSorted db raw
+  pub plain : q ≡ plain_question raw
+
+-- each `and` and `or` has a member, as in every raw query that is read
+abbrev mutual
+  pub HasMembers : RawForm → Type 0
+  HasMembers (raw_atom p n ts) = Unit {0}
+  HasMembers (raw_compare p l op r) = Unit {0}
+  HasMembers (raw_member p t point) = Unit {0}
+  HasMembers (raw_not p f) = HasMembers f
+  HasMembers (raw_and p fs) = HasMember fs × HaveMembers fs
+  HasMembers (raw_or p fs) = HasMember fs × HaveMembers fs
+  HasMembers (raw_implies p f g) = HasMembers f × HasMembers g
+  HasMembers (raw_group p f) = HasMembers f
+  HasMembers (raw_exists p c f) = HasMembers f
+  HasMembers (raw_forall p c f) = HasMembers f
+
+  pub HaveMembers : RawForms → Type 0
+  HaveMembers no_raws = Unit {0}
+  HaveMembers (raw f fs) = HasMembers f × HaveMembers fs
+
+  pub HasMember : RawForms → Type 0
+  HasMember no_raws = ⊥
+  HasMember (raw f fs) = Unit {0}
+
+-- the points of a raw formula, in order of the text
+abbrev mutual
+  pub raw_points : RawForm → List RowPoint
+  raw_points (raw_atom p n ts) = []
+  raw_points (raw_compare p l op r) = []
+  raw_points (raw_member p t point) = point ∷ []
+  raw_points (raw_not p f) = raw_points f
+  raw_points (raw_and p fs) = raw_points_each fs
+  raw_points (raw_or p fs) = raw_points_each fs
+  raw_points (raw_implies p f g) = raw_points f ++ raw_points g
+  raw_points (raw_group p f) = raw_points f
+  raw_points (raw_exists p c f) = raw_points f
+  raw_points (raw_forall p c f) = raw_points f
+
+  pub raw_points_each : RawForms → List RowPoint
+  raw_points_each no_raws = []
+  raw_points_each (raw f fs) = raw_points f ++ raw_points_each fs
+
+abbrev pub test_points : Test → List RowPoint
+test_points (Compare l op r) = []
+test_points (Member t point) = point ∷ []
+test_points (Equal l r) = []
+
+-- those of a formula
+abbrev mutual
+  pub points : Form → List RowPoint
+  points (atom n ts) = []
+  points (test t) = test_points t
+  points (sorted s v) = []
+  points (negation f) = points f
+  points (conjunction fs) = points_each fs
+  points (disjunction fs) = points_each fs
+  points (implication f g) = points f ++ points g
+  points (exists v s f) = points f
+  points (forall v s f) = points f
+
+  pub points_each : Forms → List RowPoint
+  points_each no_forms = []
+  points_each (form f fs) = points f ++ points_each fs

@@ -1,0 +1,11 @@
+// What a checked query gives: each law is the contract of a function that does nothing.
+ghost use Rattle.std.specs.Prelude.{List};
+ghost use Rattle.lrp_model.specs.Formulas.{Question};
+ghost use Rattle.lrp_model.specs.Satisfaction.{HaveNames};
+ghost use Rattle.lrp_model.specs.declared.relations.Relation.{Relation};
+ghost use Rattle.lrp_sorts.specs.Carried.{IsCheckedFor};
+
+/// The names of the head of a checked query differ.
+pub fn head_names_differ()
+    ensures { (db : List Relation) (q : Question) → IsCheckedFor db q → HaveNames q.head }
+{}
