@@ -115,7 +115,7 @@ sorts_walk cs vs i c v best more found all h lt less here there e is =
 -- ---- names of time columns
 
 -- a name among those that were put in, each once
-any_once : (n : Identifier) (before ns : List Identifier) → list_any (bytes_eq n) (fold put_once before ns) ≡ list_any (bytes_eq n) before || list_any (bytes_eq n) ns
+pub any_once : (n : Identifier) (before ns : List Identifier) → list_any (bytes_eq n) (fold put_once before ns) ≡ list_any (bytes_eq n) before || list_any (bytes_eq n) ns
 any_once n before [] = or_false (list_any (bytes_eq n) before)
   where
     or_false : (b : Bool) → b ≡ b || false

@@ -7,6 +7,7 @@ pub mod FewTexts
 pub mod WholeFault
 pub mod SeenLemmas
 pub mod StoredLemmas
+pub mod OnceLaws
 pub mod Labels
 pub mod LocalRules
 pub mod ValueRules

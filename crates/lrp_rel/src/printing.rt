@@ -10,6 +10,7 @@ ghost use Rattle.lrp_model.specs.Printed.{column_bytes, sort_bytes, quoted, esca
 ghost use Rattle.lrp_model.specs.Lexing.{limit};
 ghost use Rattle.lrp_rel.specs.Kept.{HasPeriod, IsKept, IsWritable};
 
+use crate::database::Database;
 use itoa::Buffer;
 use lrp_io::{Failed, Sink, put_all};
 use lrp_model::{Bound, Column, Relation, Row, RowPoint, Sort, Value};
@@ -399,8 +400,8 @@ pub fn write_relation<S: Sink>(out: &mut S, relation: &Relation) -> Result<(), F
     write_bytes(out, b"}\n")
 }
 
-/// Writes relations, one after the other.
-pub fn write_database<S: Sink>(out: &mut S, relations: &[Relation]) -> Result<(), Failed>
+// Relations, one after the other.
+fn write_relations<S: Sink>(out: &mut S, relations: &[Relation]) -> Result<(), Failed>
     requires { AllByRecursion IsKept relations.now }
     ensures text { IsWritten (S.written out.old) (S.written out.new) (database_bytes relations.now) result }
     ensures cause { HasCause (S.faults out.old) (S.faults out.new) result }
@@ -409,4 +410,12 @@ pub fn write_database<S: Sink>(out: &mut S, relations: &[Relation]) -> Result<()
         write_relation(out, relation)?;
     }
     Ok(())
+}
+
+/// The text of a database: that of each of its relations, in order. After a failure a front of it was written.
+pub fn write_database<S: Sink>(out: &mut S, database: &Database) -> Result<(), Failed>
+    ensures text { IsWritten (S.written out.old) (S.written out.new) (database_bytes database.now) result }
+    ensures cause { HasCause (S.faults out.old) (S.faults out.new) result }
+{
+    write_relations(out, database.as_slice())
 }

@@ -4,7 +4,7 @@ use Rattle.std.proofs.lemmas.Result.{err_from_is_err_and}
 use Rattle.lrp_model.specs.Printed.{relation_bytes}
 use Rattle.lrp_io.proofs.PieceLemmas.{written_err}
 use Rattle.lrp_rel.proofs.Pieces.{item_step, item_front}
-use Rattle.lrp_rel.proofs.printing.write_database.Goals as goal
+use Rattle.lrp_rel.proofs.printing.write_relations.Goals as goal
 
 pub returns-in_err-write_relation-clause-text : goal.returns-in_err-write_relation-clause-text
 returns-in_err-write_relation-clause-text g c =

@@ -2,7 +2,7 @@ use Rattle.std.proofs.Common.{◌≡◌, ◌≤◌, take}
 use Rattle.std.specs.List.{flat_map}
 use Rattle.lrp_io.specs.Bytes.{appended}
 use Rattle.lrp_model.specs.Printed.{relation_bytes}
-use Rattle.lrp_rel.proofs.printing.write_database.Given as goal
+use Rattle.lrp_rel.proofs.printing.write_relations.Given as goal
 
 -- those so far were written
 abbrev pub invariant-loop-relation : goal.invariant-loop-relation
