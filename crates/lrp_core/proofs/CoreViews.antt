@@ -12,10 +12,11 @@ row_cores-items : (n : _) (k : Row_of-Core n) → row_cores k ≡ cores_of (item
 row_cores-items _ end_of-Core = refl
 row_cores-items _ (more_of-Core f rest) = ap (form (core_of f)) (row_cores-items _ rest)
 
--- an `and` and an `or` are those of the vector's members
+-- an `and` is that of the vector's members
 pub core_of-And : (v : Vec Core Global) → core_of (And v) ≡ conjunction (cores_of v.items)
 core_of-And v = search (rules, the_lemmas, row_cores-items)
 
+-- the same for an `or`
 pub core_of-Or : (v : Vec Core Global) → core_of (Or v) ≡ disjunction (cores_of v.items)
 core_of-Or v = search (rules, the_lemmas, row_cores-items)
 
@@ -24,10 +25,12 @@ pub cores_of-append : (fs gs : List Core) → cores_of (fs ++ gs) ≡ joined (co
 cores_of-append [] gs = refl
 cores_of-append (f ∷ fs) gs = ap (form (core_of f)) (cores_of-append fs gs)
 
+-- nothing behind a list leaves it as it is
 pub joined_none : (fs : Forms) → joined fs no_forms ≡ fs
 joined_none no_forms = refl
 joined_none (form f fs) = ap (form f) (joined_none fs)
 
+-- three lists, one behind the other
 pub joined_assoc : (fs gs hs : Forms) → joined (joined fs gs) hs ≡ joined fs (joined gs hs)
 joined_assoc no_forms gs hs = refl
 joined_assoc (form f fs) gs hs = ap (form f) (joined_assoc fs gs hs)
@@ -68,6 +71,7 @@ conjunct_added fs gs f other e =
 pub disjuncts_added : (fs gs : List Core) (f : Core) (v : Vec Core Global) → f ≡ Or v → gs ≡ fs ++ v.items → cores_of gs ≡ joined (cores_of fs) (disjuncts (core_of f))
 disjuncts_added fs gs f v is e = ap cores_of e ∙ cores_of-append fs v.items ∙ ap (joined (cores_of fs)) (sym (ap (λ x. disjuncts (core_of x)) is ∙ ap disjuncts (core_of-Or v)))
 
+-- and any other core form as it is, in an `or`
 pub disjunct_added : (fs gs : List Core) (f : Core) → ((v : Vec Core Global) → f ≡ Or v → ⊥) → gs ≡ fs ++ f ∷ [] → cores_of gs ≡ joined (cores_of fs) (disjuncts (core_of f))
 disjunct_added fs gs f other e =
     let one : disjuncts (core_of f) ≡ form (core_of f) no_forms = subst (λ g. disjuncts (core_of g) ≡ form (core_of g) no_forms) (roll-out-Core f) (one_disjunct (out-Core f) (λ v is. other v (sym (roll-out-Core f) ∙ is))) in
@@ -78,32 +82,37 @@ all_conjuncts-joined : (fs gs : Forms) → all_conjuncts (joined fs gs) ≡ join
 all_conjuncts-joined no_forms gs = refl
 all_conjuncts-joined (form f fs) gs = ap (joined (conjuncts f)) (all_conjuncts-joined fs gs) ∙ sym (joined_assoc (conjuncts f) (all_conjuncts fs) (all_conjuncts gs))
 
+-- the same for an `or`
 all_disjuncts-joined : (fs gs : Forms) → all_disjuncts (joined fs gs) ≡ joined (all_disjuncts fs) (all_disjuncts gs)
 all_disjuncts-joined no_forms gs = refl
 all_disjuncts-joined (form f fs) gs = ap (joined (disjuncts f)) (all_disjuncts-joined fs gs) ∙ sym (joined_assoc (disjuncts f) (all_disjuncts fs) (all_disjuncts gs))
 
+-- a further formula, behind those whose elements were taken
 pub conjuncts-step : (seen more made now : List Core) (f : Core) → more ≡ seen ++ f ∷ [] → cores_of made ≡ all_conjuncts (cores_of seen) → cores_of now ≡ joined (cores_of made) (conjuncts (core_of f)) → cores_of now ≡ all_conjuncts (cores_of more)
 conjuncts-step seen more made now f e before step =
     step ∙ ap (λ x. joined x (conjuncts (core_of f))) before ∙ ap (joined (all_conjuncts (cores_of seen))) (sym (joined_none (conjuncts (core_of f))))
     ∙ sym (all_conjuncts-joined (cores_of seen) (form (core_of f) no_forms)) ∙ sym (ap all_conjuncts (ap cores_of e ∙ cores_of-append seen (f ∷ [])))
 
+-- the same for an `or`
 pub disjuncts-step : (seen more made now : List Core) (f : Core) → more ≡ seen ++ f ∷ [] → cores_of made ≡ all_disjuncts (cores_of seen) → cores_of now ≡ joined (cores_of made) (disjuncts (core_of f)) → cores_of now ≡ all_disjuncts (cores_of more)
 disjuncts-step seen more made now f e before step =
     step ∙ ap (λ x. joined x (disjuncts (core_of f))) before ∙ ap (joined (all_disjuncts (cores_of seen))) (sym (joined_none (disjuncts (core_of f))))
     ∙ sym (all_disjuncts-joined (cores_of seen) (form (core_of f) no_forms)) ∙ sym (ap all_disjuncts (ap cores_of e ∙ cores_of-append seen (f ∷ [])))
 
--- an `and` of all members, and one of two
+-- an `and` of all members
 pub all_conjuncts-and : (fs v : Vec Core Global) → cores_of v.items ≡ all_conjuncts (cores_of fs.items) → core_of (And v) ≡ and_list (cores_of fs.items)
 all_conjuncts-and fs v e = core_of-And v ∙ ap conjunction e
 
+-- an `and` of two, from no elements on
 pub two_conjuncts-and : (none one two : Vec Core Global) (f g : Form) → none.items ≡ [] → cores_of one.items ≡ joined (cores_of none.items) (conjuncts f) → cores_of two.items ≡ joined (cores_of one.items) (conjuncts g) → core_of (And two) ≡ and_two f g
 two_conjuncts-and none one two f g start first second =
     core_of-And two ∙ ap conjunction (second ∙ ap (λ x. joined x (conjuncts g)) (first ∙ ap (λ x. joined (cores_of x) (conjuncts f)) start) ∙ ap (joined (conjuncts f)) (sym (joined_none (conjuncts g))))
 
--- an `or` of all members, and one of two
+-- an `or` of all members
 pub all_disjuncts-or : (fs v : Vec Core Global) → cores_of v.items ≡ all_disjuncts (cores_of fs.items) → core_of (Or v) ≡ or_list (cores_of fs.items)
 all_disjuncts-or fs v e = core_of-Or v ∙ ap disjunction e
 
+-- an `or` of two, from no elements on
 pub two_disjuncts-or : (none one two : Vec Core Global) (f g : Form) → none.items ≡ [] → cores_of one.items ≡ joined (cores_of none.items) (disjuncts f) → cores_of two.items ≡ joined (cores_of one.items) (disjuncts g) → core_of (Or two) ≡ or_two f g
 two_disjuncts-or none one two f g start first second =
     core_of-Or two ∙ ap disjunction (second ∙ ap (λ x. joined x (disjuncts g)) (first ∙ ap (λ x. joined (cores_of x) (disjuncts f)) start) ∙ ap (joined (disjuncts f)) (sym (joined_none (disjuncts g))))

@@ -20,6 +20,7 @@ positives-joined : (fs gs : Forms) (named : Bool) → positives (joined fs gs) n
 positives-joined no_forms gs named = refl
 positives-joined (form f fs) gs named = ap (form (positive f named)) (positives-joined fs gs named)
 
+-- the same for their negations
 negatives-joined : (fs gs : Forms) (named : Bool) → negatives (joined fs gs) named ≡ joined (negatives fs named) (negatives gs named)
 negatives-joined no_forms gs named = refl
 negatives-joined (form f fs) gs named = ap (form (negative f named)) (negatives-joined fs gs named)
@@ -28,26 +29,31 @@ negatives-joined (form f fs) gs named = ap (form (negative f named)) (negatives-
 forms_of-take : (fs : List Formula) (i : ℕ) (f : Formula) → i < length fs → f ≡ get_or fs i f → forms_of (take (i + 1) fs) ≡ joined (forms_of (take i fs)) (form (form_of f) no_forms)
 forms_of-take fs i f lt is = ap forms_of (take_more fs i f lt ∙ ap (λ x. take i fs ++ x ∷ []) (sym is)) ∙ forms_of-append (take i fs) (f ∷ [])
 
+-- a further core form, behind those of the formulas before
 pub positives-step : (fs : List Formula) (gs hs : List Core) (i : ℕ) (f : Formula) (g : Core) (named : Bool) → i < length fs → f ≡ get_or fs i f → hs ≡ gs ++ g ∷ [] → cores_of gs ≡ positives (forms_of (take i fs)) named → core_of g ≡ positive (form_of f) named → cores_of hs ≡ positives (forms_of (take (i + 1) fs)) named
 positives-step fs gs hs i f g named lt is e before one =
     ap cores_of e ∙ cores_of-append gs (g ∷ []) ∙ (rw (before, one) refl)
     ∙ sym (positives-joined (forms_of (take i fs)) (form (form_of f) no_forms) named) ∙ sym (ap (λ x. positives x named) (forms_of-take fs i f lt is))
 
+-- the same for negations
 pub negatives-step : (fs : List Formula) (gs hs : List Core) (i : ℕ) (f : Formula) (g : Core) (named : Bool) → i < length fs → f ≡ get_or fs i f → hs ≡ gs ++ g ∷ [] → cores_of gs ≡ negatives (forms_of (take i fs)) named → core_of g ≡ negative (form_of f) named → cores_of hs ≡ negatives (forms_of (take (i + 1) fs)) named
 negatives-step fs gs hs i f g named lt is e before one =
     ap cores_of e ∙ cores_of-append gs (g ∷ []) ∙ (rw (before, one) refl)
     ∙ sym (negatives-joined (forms_of (take i fs)) (form (form_of f) no_forms) named) ∙ sym (ap (λ x. negatives x named) (forms_of-take fs i f lt is))
 
--- the core form of an `and` and of an `or`, and of their negations
+-- the core form of an `and`
 pub positive-And : (f : Formula) (v : Vec Formula Global) (cs : List Core) (named : Bool) → f ≡ all_formulas v → cores_of cs ≡ positives (forms_of v.items) named → and_list (cores_of cs) ≡ positive (form_of f) named
 positive-And f v cs named is h = ap and_list h ∙ sym (ap (λ x. positive (form_of x) named) is ∙ ap (λ x. positive x named) (form_of-And v))
 
+-- the core form of an `or`
 pub positive-Or : (f : Formula) (v : Vec Formula Global) (cs : List Core) (named : Bool) → f ≡ some_formula v → cores_of cs ≡ positives (forms_of v.items) named → or_list (cores_of cs) ≡ positive (form_of f) named
 positive-Or f v cs named is h = ap or_list h ∙ sym (ap (λ x. positive (form_of x) named) is ∙ ap (λ x. positive x named) (form_of-Or v))
 
+-- the core form of the negation of an `and`
 pub negative-And : (f : Formula) (v : Vec Formula Global) (cs : List Core) (all : Core) (named : Bool) → f ≡ all_formulas v → cores_of cs ≡ positives (forms_of v.items) named → core_of all ≡ and_list (cores_of cs) → negation (core_of all) ≡ negative (form_of f) named
 negative-And f v cs all named is h whole = ap negation (whole ∙ ap and_list h) ∙ sym (ap (λ x. negative (form_of x) named) is ∙ ap (λ x. negative x named) (form_of-And v))
 
+-- the core form of the negation of an `or`
 pub negative-Or : (f : Formula) (v : Vec Formula Global) (cs : List Core) (named : Bool) → f ≡ some_formula v → cores_of cs ≡ negatives (forms_of v.items) named → and_list (cores_of cs) ≡ negative (form_of f) named
 negative-Or f v cs named is h = ap and_list h ∙ sym (ap (λ x. negative (form_of x) named) is ∙ ap (λ x. negative x named) (form_of-Or v))
 
@@ -56,6 +62,7 @@ head_elements-append : (cs ds : List Column) → head_elements (cs ++ ds) ≡ jo
 head_elements-append [] ds = refl
 head_elements-append (c ∷ cs) ds = ap (joined (column_elements c.sort c.name)) (head_elements-append cs ds) ∙ sym (joined_assoc (column_elements c.sort c.name) (head_elements cs) (head_elements ds))
 
+-- the sort elements of one column more
 pub head_elements-step : (cs : List Column) (made now : List Core) (i : ℕ) (c : Column) → i < length cs → c ≡ get_or cs i c → cores_of made ≡ head_elements (take i cs) → cores_of now ≡ joined (cores_of made) (column_elements c.sort c.name) → cores_of now ≡ head_elements (take (i + 1) cs)
 head_elements-step cs made now i c lt is before step =
     step ∙ ap (λ x. joined x (column_elements c.sort c.name)) before ∙ ap (joined (head_elements (take i cs))) (sym (joined_none (column_elements c.sort c.name)))
@@ -67,22 +74,25 @@ column_elements-plain Time v fs = refl
 column_elements-plain Data v fs = refl
 column_elements-plain (Named name) v fs = refl
 
+-- sort elements before a list stay as they are when its inner lists are taken apart
 head_elements-plain : (cs : List Column) (fs : Forms) → all_conjuncts (joined (head_elements cs) fs) ≡ joined (head_elements cs) (all_conjuncts fs)
 head_elements-plain [] fs = refl
 head_elements-plain (c ∷ cs) fs =
     ap all_conjuncts (joined_assoc (column_elements c.sort c.name) (head_elements cs) fs) ∙ column_elements-plain c.sort c.name (joined (head_elements cs) fs)
     ∙ ap (joined (column_elements c.sort c.name)) (head_elements-plain cs fs) ∙ sym (joined_assoc (column_elements c.sort c.name) (head_elements cs) (all_conjuncts fs))
 
+-- the sort elements of a head and then the elements of a formula are the `and` of both
 pub guarded-And : (cs : List Column) (made : List Core) (v : Vec Core Global) (body : Form) → cores_of made ≡ head_elements cs → cores_of v.items ≡ joined (cores_of made) (conjuncts body) → core_of (And v) ≡ and_list (joined (head_elements cs) (form body no_forms))
 guarded-And cs made v body before step =
     core_of-And v ∙ ap conjunction (step ∙ ap (λ x. joined x (conjuncts body)) before ∙ ap (joined (head_elements cs)) (sym (joined_none (conjuncts body))) ∙ sym (head_elements-plain cs (form body no_forms)))
 
--- a data column has a sort element, and a time column none
+-- a data column has a sort element
 pub column_elements-data : (made now : List Core) (one : Core) (s : Sort) (v : Identifier) → is_time s ≡ false → core_of one ≡ sorted s v → now ≡ made ++ one ∷ [] → cores_of now ≡ joined (cores_of made) (column_elements s v)
 column_elements-data made now one Time v not_time is e = absurd (true≢false not_time)
 column_elements-data made now one Data v not_time is e = ap cores_of e ∙ cores_of-append made (one ∷ []) ∙ ap (λ x. joined (cores_of made) (form x no_forms)) is
 column_elements-data made now one (Named name) v not_time is e = ap cores_of e ∙ cores_of-append made (one ∷ []) ∙ ap (λ x. joined (cores_of made) (form x no_forms)) is
 
+-- a time column adds nothing
 pub column_elements-time : (made : List Core) (s : Sort) (v : Identifier) → is_time s ≡ true → cores_of made ≡ joined (cores_of made) (column_elements s v)
 column_elements-time made Time v time = sym (joined_none (cores_of made))
 column_elements-time made Data v time = absurd (true≢false (sym time))

@@ -15,10 +15,12 @@ use Rattle.lrp_core.specs.declared.variables.Variable.{Variable as ProgramVariab
 use Rattle.lrp_core.specs.declared.core_forms.Core.{Core, And, Or}
 use Rattle.lrp_core.proofs.CoreViews.{core_of-And, core_of-Or, cores_of-append}
 
+-- nothing more to choose from
 or_false : (b : Bool) → (b || false) ≡ b
 or_false true = refl
 or_false false = refl
 
+-- a choice among three
 or_assoc : (a b c : Bool) → ((a || b) || c) ≡ (a || (b || c))
 or_assoc true b c = refl
 or_assoc false b c = refl
@@ -67,6 +69,7 @@ kept_one b u x us true false s k free member rest = absurd (true≢false (sym fr
 kept_one b u x us false true s k free member rest = ap (λ t. t || is_among (others b us) x) s ∙ rest member
 kept_one b u x us false false s k free member rest = rest member
 
+-- what is a member and not the bound variable is among the others
 is_among-others : (b x : Variable) (us : List Variable) → not (same_variable b x) ≡ true → is_among us x ≡ true → is_among (others b us) x ≡ true
 is_among-others b x [] free member = absurd (true≢false (sym member))
 is_among-others b x (u ∷ us) free member = kept_one b u x us (same_variable x u) (not (same_variable b u)) refl refl free member (is_among-others b x us free)
@@ -76,6 +79,7 @@ again : (b x : Variable) (ws : List Variable) (kept : Bool) → not (same_variab
 again b x ws true k member = sym (with_known ws x (member k))
 again b x ws false k member = refl
 
+-- one variable more, before and after the choice of the others
 others_one : (b x : Variable) (vs us : List Variable) (known : Bool) → is_among us x ≡ known → with_variables vs (others b (if known then us else us ++ x ∷ [])) ≡ with_variables (with_variables vs (others b us)) (others b (x ∷ []))
 others_one b x vs us true e =
     again b x (with_variables vs (others b us)) (not (same_variable b x)) refl
@@ -86,6 +90,7 @@ others_one b x vs us true e =
     or_true false = refl
 others_one b x vs us false e = ap (with_variables vs) (filter-append (λ w. not (same_variable b w)) us (x ∷ [])) ∙ with_variables-append vs (others b us) (others b (x ∷ []))
 
+-- the others may be chosen before or after the variables are put together
 pub others-with_variables : (b : Variable) (vs us xs : List Variable) → with_variables vs (others b (with_variables us xs)) ≡ with_variables (with_variables vs (others b us)) (others b xs)
 others-with_variables b vs us [] = refl
 others-with_variables b vs us (x ∷ xs) =
@@ -104,6 +109,7 @@ free_each-joined : (fs gs : Forms) → free_each (joined fs gs) ≡ free_each fs
 free_each-joined no_forms gs = refl
 free_each-joined (form f fs) gs = ap (λ x. free f ++ x) (free_each-joined fs gs) ∙ sym (append_assoc (free f) (free_each fs) (free_each gs))
 
+-- the free variables of one element more
 pub cores-step : (fs : List Core) (i : ℕ) (f : Core) (old made now : List Variable) → i < length fs → f ≡ get_or fs i f → made ≡ with_variables old (free_each (cores_of (take i fs))) → now ≡ with_variables made (free (core_of f)) → now ≡ with_variables old (free_each (cores_of (take (i + 1) fs)))
 cores-step fs i f old made now lt is before step =
     step ∙ ap (λ x. with_variables x (free (core_of f))) before ∙ sym (with_variables-append old (free_each (cores_of (take i fs))) (free (core_of f)))
@@ -111,10 +117,11 @@ cores-step fs i f old made now lt is before step =
     ∙ ap free_each (cores_of-append (take i fs) (f ∷ [])) ∙ free_each-joined (cores_of (take i fs)) (form (core_of f) no_forms)
     ∙ ap (λ x. free_each (cores_of (take i fs)) ++ x) (append-nil (free (core_of f)))))
 
--- the free variables of an `and` and of an `or` are those of its members
+-- the free variables of an `and` are those of its members
 pub free-And : (f : Core) (v : Vec Core Global) → f ≡ And v → free_each (cores_of v.items) ≡ free (core_of f)
 free-And f v is = sym (ap (λ x. free (core_of x)) is ∙ ap free (core_of-And v))
 
+-- the same for an `or`
 pub free-Or : (f : Core) (v : Vec Core Global) → f ≡ Or v → free_each (cores_of v.items) ≡ free (core_of f)
 free-Or f v is = sym (ap (λ x. free (core_of x)) is ∙ ap free (core_of-Or v))
 
@@ -134,11 +141,12 @@ variables-step seen more v old made now e before step =
     step ∙ ap (λ x. with_variable x (variable_of v)) before ∙ sym (with_variables-append old (map variable_of seen) (variable_of v ∷ []))
     ∙ ap (with_variables old) (sym (ap (map variable_of) e ∙ map-append variable_of seen (v ∷ [])))
 
--- lists with the same members have the same variables among them, and share variables with the same lists
+-- of lists with the same members, the same variables are among them
 pub are_among-members : (vs ws xs : List Variable) → ((v : Variable) → is_among ws v ≡ is_among xs v) → are_among vs ws ≡ are_among vs xs
 are_among-members [] ws xs same = refl
 are_among-members (v ∷ vs) ws xs same = ap (λ b. b && are_among vs ws) (same v) ∙ ap (λ b. is_among xs v && b) (are_among-members vs ws xs same)
 
+-- the same for sharing a variable
 pub meet-members : (vs ws xs : List Variable) → ((v : Variable) → is_among ws v ≡ is_among xs v) → meet vs ws ≡ meet vs xs
 meet-members [] ws xs same = refl
 meet-members (v ∷ vs) ws xs same = ap (λ b. b || meet vs ws) (same v) ∙ ap (λ b. is_among xs v || b) (meet-members vs ws xs same)

@@ -124,8 +124,8 @@ fn positive(alloc: Global, f: &Formula, named: bool) -> Result<Core, Memory>
             some(alloc, named, name, sort, of)
         }
         Formula::Forall { name, sort, of } => {
-            let of = negative(alloc, of, named)?;
-            none(alloc, named, name, sort, of)
+            let denied = negative(alloc, of, named)?;
+            none(alloc, named, name, sort, denied)
         }
     }
 }
@@ -150,8 +150,8 @@ fn negative(alloc: Global, f: &Formula, named: bool) -> Result<Core, Memory>
             none(alloc, named, name, sort, of)
         }
         Formula::Forall { name, sort, of } => {
-            let of = negative(alloc, of, named)?;
-            some(alloc, named, name, sort, of)
+            let denied = negative(alloc, of, named)?;
+            some(alloc, named, name, sort, denied)
         }
     }
 }

@@ -6,6 +6,8 @@ mod core_forms;
 mod coverage;
 mod forming;
 mod junctions;
+#[cfg(test)]
+mod tests;
 mod variables;
 
 pub use core_forms::Core;
