@@ -4,5 +4,7 @@
 mod pieces;
 mod plans;
 mod terms;
+#[cfg(test)]
+mod tests;
 
 pub use plans::write_plan;
