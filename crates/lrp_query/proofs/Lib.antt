@@ -18,3 +18,4 @@ mod HoleFree
 mod Ranks
 pub mod TextLaws
 pub mod OneFault
+pub mod LawfulQueries

@@ -1,2 +1,3 @@
 pub mod Rules
 pub mod Reading
+pub mod Lawful

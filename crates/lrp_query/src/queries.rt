@@ -4,6 +4,7 @@ ghost use Rattle.lrp_model.specs.declared.faults.QueryFault.{QueryFault as Fault
 ghost use Rattle.lrp_model.specs.Lexing.{after, moved, start};
 ghost use Rattle.lrp_model.specs.RawQueries.{RawQuestion, raw_question_of};
 ghost use Rattle.lrp_model.specs.QueryReading.{IsQuery, IsQueryFault};
+ghost use Rattle.lrp_query.specs.Lawful.{IsLawful};
 ghost use Rattle.lrp_query.specs.Rules.{meant, query};
 ghost use Rattle.lrp_query.specs.Reading.{ReadsQuery, left_behind, refusal_of, IsUnread, IsQueryOrMemory, IsFaultOrMemory};
 
@@ -119,6 +120,8 @@ pub fn read_query(alloc: Global, bytes: &[u8]) -> Result<RawQuery, QueryRead>
     requires { length bytes.now ≤ 16777216 }
     ensures query { IfOk result (λ q. IsQuery bytes.now (raw_question_of q)) }
     ensures refused { IfErr result (IsUnread bytes.now) }
+
+    ensures lawful { IfOk result (λ q. IsLawful (raw_question_of q)) }
 
     // Each text of the grammar is read, and each other one is refused for its one fault.
     ensures every_query { (q : RawQuestion) → IsQuery bytes.now q → IsQueryOrMemory q result }

@@ -1,0 +1,354 @@
+-- What holds of each query that is read.
+use Rattle.std.proofs.Common.{◌≡◌, ◌≤◌, ◌<◌, ◌+◌, ◌≤ℤ◌, ℕ, ℤ, pos, neg_ℤ, zero, suc, Bool, true, false, List, [], ◌∷◌, ◌++◌, map, refl, ap, sym, ◌∙◌, subst, length, arith, Result, Ok, Err, IfOk}
+use Rattle.std.proofs.lemmas.Int.{ints}
+use Rattle.std.proofs.lemmas.List.Sums.{count_by-le-length}
+use Rattle.std.specs.List.{AllByRecursion}
+use Rattle.std.proofs.lemmas.List.{length-append}
+use Rattle.lrp_model.specs.declared.tokens.Place.{Place}
+use Rattle.lrp_model.specs.declared.tokens.Symbol.TheVariants.{Close, CloseBrace, OpenBrace, Bar, Plus}
+use Rattle.lrp_model.specs.declared.tokens.Word.{Word}
+use Rattle.lrp_model.specs.declared.tokens.Word.TheVariants.{And, Or, Implies, In, Letter}
+use Rattle.lrp_model.specs.declared.raw.RawTerm.{RawTerm}
+use Rattle.lrp_model.specs.declared.raw.RawTermKind.{RawTermKind}
+use Rattle.lrp_model.specs.declared.raw.RawTermKind.TheVariants.{Int, Text, Var, Shifted}
+use Rattle.lrp_model.specs.declared.raw.RawQuery.{RawQuery}
+use Rattle.lrp_model.specs.declared.faults.QueryRead.{QueryRead}
+use Rattle.lrp_model.specs.declared.written.Located.{Located}
+use Rattle.lrp_model.specs.Tokens.{Token, Placed, Tokens, Part, Takes, Spells, from, located_text, separated}
+use Rattle.lrp_model.specs.Tokens.Token.{number_token, symbol_token, word_token, name_token, text_token, end_token, bad_token, hole_token}
+use Rattle.lrp_model.specs.Tokens.Part.{at, any}
+use Rattle.lrp_model.specs.Lexing.{limit, start, Scanned, scan, skip, after, headed, tokens_from, tokens}
+use Rattle.lrp_model.specs.Columns.{column_text}
+use Rattle.lrp_model.specs.Databases.{sign, integer_text, comma}
+use Rattle.lrp_model.specs.DatabaseMeaning.{signed}
+use Rattle.lrp_model.specs.Queries.{WrittenTerm, WrittenFormula, FurtherMembers, WrittenQuery, term_text, op_symbol, formula_text, members_text, query_text, FitsTerm, FitsSizes, FitSizes, FitsDepth, FitDepth}
+use Rattle.lrp_model.specs.Queries.WrittenTerm.{integer as integer_term, quoted, variable, shifted}
+use Rattle.lrp_model.specs.Queries.WrittenFormula.{atom, compared, member, denied, all_of, any_of, implied, group, some, every, hole}
+use Rattle.lrp_model.specs.Queries.FurtherMembers.{last, more}
+use Rattle.lrp_model.specs.QueryMeaning.{term_kind, raw_term, raw_form, raw_forms, raw_question}
+use Rattle.lrp_model.specs.RawQueries.{RawForm, RawForms, RawQuestion, raw, raw_question_of}
+use Rattle.lrp_model.specs.QueryReading.{IsQuery}
+use Rattle.lrp_text.proofs.Sound.{takes_split, takes_front, takes_shorter}
+use Rattle.lrp_text.proofs.Complete.{separated_long}
+use Rattle.lrp_query.specs.Rules.{is_hole_token}
+use Rattle.lrp_query.specs.Lawful.{IsWithin, FitsRawTerm, FitsRawPoint, HasTwo, FitsRaw, FitRaws, IsShallow, AreShallow, formulas_in, formulas_of, is_raw_text, texts_among, texts_in, texts_of, IsLawful}
+use Rattle.lrp_query.proofs.Marks.{NoHoles}
+use Rattle.lrp_query.proofs.HoleFree.{tokens_clean}
+use Rattle.lrp_query.proofs.TermRules.{placed_text}
+
+-- ---- no hole stands in a tree that is spelled
+
+-- no hole stands in the formula
+abbrev mutual
+  Whole : WrittenFormula → Type 0
+  Whole (atom p n ts) = Unit {0}
+  Whole (compared l op r) = Unit {0}
+  Whole (member t i k) = Unit {0}
+  Whole (denied p f) = Whole f
+  Whole (all_of p f fs) = Whole f × Wholes fs
+  Whole (any_of p f fs) = Whole f × Wholes fs
+  Whole (implied p f g) = Whole f × Whole g
+  Whole (group p f) = Whole f
+  Whole (some p c f) = Whole f
+  Whole (every p c f) = Whole f
+  Whole (hole p) = ⊥
+
+  Wholes : FurtherMembers → Type 0
+  Wholes (last f) = Whole f
+  Wholes (more f fs) = Whole f × Wholes fs
+
+-- those behind a front
+clean_back : (front back : Tokens) → NoHoles (front ++ back) → NoHoles back
+clean_back [] back c = c
+clean_back (x ∷ front) back c = clean_back front back c.1
+
+-- those behind some parts
+clean_rest : (ps : List Part) (ts us : Tokens) → Takes ps ts us → NoHoles ts → NoHoles us
+clean_rest ps ts us h c = let k = takes_front ps ts us h in clean_back k.head us (subst NoHoles k.whole c)
+
+-- a hole shows itself
+no_hole : (k : Token) → k ≡ hole_token → is_hole_token k ≡ false → ⊥
+no_hole k e n = let h : true ≡ false = sym (ap is_hole_token e) ∙ n in absurd cc
+
+mutual
+  -- tokens without holes spell a formula without them
+  whole : (w : WrittenFormula) (ts left : Tokens) → Takes (formula_text w) ts left → NoHoles ts → Whole w
+  whole (atom p n all) ts left h c = tt
+  whole (compared l op r) ts left h c = tt
+  whole (member l i k) ts left h c = tt
+  whole (denied p f) [] left h c = absurd h
+  whole (denied p f) (t ∷ ts) left h c = whole f ts left h.1 c.1
+  whole (all_of p f fs) [] left h c = absurd h
+  whole (all_of p f fs) (t ∷ ts) left h c =
+      let k = takes_split (formula_text f) (members_text And fs ++ any (symbol_token Close) ∷ []) ts left h.1 in
+      let m = takes_split (members_text And fs) (any (symbol_token Close) ∷ []) k.0 left k.2 in
+      (whole f ts k.0 k.1 c.1, wholes And fs k.0 m.0 m.1 (clean_rest (formula_text f) ts k.0 k.1 c.1))
+  whole (any_of p f fs) [] left h c = absurd h
+  whole (any_of p f fs) (t ∷ ts) left h c =
+      let k = takes_split (formula_text f) (members_text Or fs ++ any (symbol_token Close) ∷ []) ts left h.1 in
+      let m = takes_split (members_text Or fs) (any (symbol_token Close) ∷ []) k.0 left k.2 in
+      (whole f ts k.0 k.1 c.1, wholes Or fs k.0 m.0 m.1 (clean_rest (formula_text f) ts k.0 k.1 c.1))
+  whole (implied p f g) [] left h c = absurd h
+  whole (implied p f g) (t ∷ ts) left h c =
+      let k = takes_split (formula_text f) (any (word_token Implies) ∷ (formula_text g ++ any (symbol_token Close) ∷ [])) ts left h.1 in
+      let j = takes_split (any (word_token Implies) ∷ []) (formula_text g ++ any (symbol_token Close) ∷ []) k.0 left k.2 in
+      let m = takes_split (formula_text g) (any (symbol_token Close) ∷ []) j.0 left j.2 in
+      (whole f ts k.0 k.1 c.1, whole g j.0 m.0 m.1 (clean_rest (any (word_token Implies) ∷ []) k.0 j.0 j.1 (clean_rest (formula_text f) ts k.0 k.1 c.1)))
+  whole (group p f) [] left h c = absurd h
+  whole (group p f) (t ∷ ts) left h c = let k = takes_split (formula_text f) (any (symbol_token Close) ∷ []) ts left h.1 in whole f ts k.0 k.1 c.1
+  whole (some p b f) [] left h c = absurd h
+  whole (some p b f) (t ∷ ts) left h c = let k = takes_split (column_text b) (formula_text f) ts left h.1 in whole f k.0 left k.2 (clean_rest (column_text b) ts k.0 k.1 c.1)
+  whole (every p b f) [] left h c = absurd h
+  whole (every p b f) (t ∷ ts) left h c = let k = takes_split (column_text b) (formula_text f) ts left h.1 in whole f k.0 left k.2 (clean_rest (column_text b) ts k.0 k.1 c.1)
+  whole (hole p) [] left h c = absurd h
+  whole (hole p) (t ∷ ts) left h c = no_hole t.token h.0.0 c.0
+
+  -- the same of members
+  wholes : (w : Word) (fs : FurtherMembers) (ts left : Tokens) → Takes (members_text w fs) ts left → NoHoles ts → Wholes fs
+  wholes w (last f) [] left h c = absurd h
+  wholes w (last f) (t ∷ ts) left h c = whole f ts left h.1 c.1
+  wholes w (more f fs) [] left h c = absurd h
+  wholes w (more f fs) (t ∷ ts) left h c = let k = takes_split (formula_text f) (members_text w fs) ts left h.1 in (whole f ts k.0 k.1 c.1, wholes w fs k.0 left k.2 (clean_rest (formula_text f) ts k.0 k.1 c.1))
+
+-- ---- sizes
+
+-- a size within the limit, with any sign
+within : (b : Bool) (n : ℕ) → n ≤ limit → IsWithin (signed b n)
+within true n h = (omega (arith, ints), omega (arith, ints))
+within false n h = (omega (arith, ints), omega (arith, ints))
+
+-- a term
+term_fits : (t : WrittenTerm) → FitsTerm t → FitsRawTerm (term_kind t)
+term_fits (integer_term i) h = within i.negative i.size h
+term_fits (quoted t) h = tt
+term_fits (variable n) h = tt
+term_fits (shifted n down k) h = within down k h
+
+-- several
+terms_fit : (ts : List (Located WrittenTerm)) → AllByRecursion (λ t. FitsTerm t.item) ts → AllByRecursion (λ t. FitsRawTerm t.kind) (map raw_term ts)
+terms_fit [] h = tt
+terms_fit (t ∷ ts) h = (term_fits t.item h.0, terms_fit ts h.1)
+
+-- a first member and further ones are two at least
+two : (f : RawForm) (fs : FurtherMembers) → HasTwo (raw f (raw_forms fs))
+two f (last g) = tt
+two f (more g gs) = tt
+
+-- a period from 1 to the limit
+period_fits : (k : ℕ) → 1 ≤ k → k ≤ limit → (pos 1 ≤ℤ pos k) × (pos k ≤ℤ pos limit)
+period_fits k one most = (omega (arith, ints), omega (arith, ints))
+
+mutual
+  -- a formula
+  fits_raw : (w : WrittenFormula) → Whole w → FitsSizes w → FitsRaw (raw_form w)
+  fits_raw (atom p n ts) o h = terms_fit ts h
+  fits_raw (compared l op r) o h = (term_fits l.item h.0, term_fits r.item h.1)
+  fits_raw (member t i k) o h = let p = period_fits k h.2 h.3 in let w = within i.negative i.size h.1 in (term_fits t.item h.0, ((w.0, w.1), p.0, p.1))
+  fits_raw (denied p f) o h = fits_raw f o h
+  fits_raw (all_of p f fs) o h = (two (raw_form f) fs, (fits_raw f o.0 h.0, fit_raws fs o.1 h.1))
+  fits_raw (any_of p f fs) o h = (two (raw_form f) fs, (fits_raw f o.0 h.0, fit_raws fs o.1 h.1))
+  fits_raw (implied p f g) o h = (fits_raw f o.0 h.0, fits_raw g o.1 h.1)
+  fits_raw (group p f) o h = fits_raw f o h
+  fits_raw (some p c f) o h = fits_raw f o h
+  fits_raw (every p c f) o h = fits_raw f o h
+  fits_raw (hole p) o h = absurd o
+
+  -- members
+  fit_raws : (fs : FurtherMembers) → Wholes fs → FitSizes fs → FitRaws (raw_forms fs)
+  fit_raws (last f) o h = (fits_raw f o h, tt)
+  fit_raws (more f fs) o h = (fits_raw f o.0 h.0, fit_raws fs o.1 h.1)
+
+-- ---- depth
+
+mutual
+  -- a formula
+  shallow : (w : WrittenFormula) (d : ℕ) → Whole w → FitsDepth w d → IsShallow (raw_form w) d
+  shallow (atom p n ts) d o h = h
+  shallow (compared l op r) d o h = h
+  shallow (member t i k) d o h = h
+  shallow (denied p f) zero o h = absurd h
+  shallow (denied p f) (suc d) o h = shallow f d o h
+  shallow (all_of p f fs) zero o h = absurd h
+  shallow (all_of p f fs) (suc d) o h = (shallow f d o.0 h.0, shallows fs d o.1 h.1)
+  shallow (any_of p f fs) zero o h = absurd h
+  shallow (any_of p f fs) (suc d) o h = (shallow f d o.0 h.0, shallows fs d o.1 h.1)
+  shallow (implied p f g) zero o h = absurd h
+  shallow (implied p f g) (suc d) o h = (shallow f d o.0 h.0, shallow g d o.1 h.1)
+  shallow (group p f) zero o h = absurd h
+  shallow (group p f) (suc d) o h = shallow f d o h
+  shallow (some p c f) zero o h = absurd h
+  shallow (some p c f) (suc d) o h = shallow f d o h
+  shallow (every p c f) zero o h = absurd h
+  shallow (every p c f) (suc d) o h = shallow f d o h
+  shallow (hole p) d o h = absurd o
+
+  -- members
+  shallows : (fs : FurtherMembers) (d : ℕ) → Wholes fs → FitDepth fs d → AreShallow (raw_forms fs) d
+  shallows (last f) d o h = (shallow f d o h, tt)
+  shallows (more f fs) d o h = (shallow f d o.0 h.0, shallows fs d o.1 h.1)
+
+-- ---- how many
+
+-- as many terms as are written
+map_length : (ts : List (Located WrittenTerm)) → length (map raw_term ts) ≡ length ts
+map_length [] = refl
+map_length (t ∷ ts) = let k = map_length ts in omega (arith, k)
+
+-- an integer has a token
+sign_some : (p : Place) (b : Bool) (n : ℕ) → 0 < length (from p (sign b ++ any (number_token n) ∷ []))
+sign_some p true n = omega arith
+sign_some p false n = omega arith
+
+-- so has each term
+term_some : (p : Place) (k : WrittenTerm) → 0 < length (from p (term_text k))
+term_some p (integer_term i) = sign_some p i.negative i.size
+term_some p (quoted t) = omega arith
+term_some p (variable n) = omega arith
+term_some p (shifted n down k) = omega arith
+
+-- both counts are at most the number of tokens
+abbrev Counted : ℕ → ℕ → List Part → Type 0
+Counted formulas texts ps = (formulas ≤ length ps) × (texts ≤ length ps)
+
+mutual
+  -- of a formula
+  counted : (w : WrittenFormula) → Counted (formulas_in (raw_form w)) (texts_in (raw_form w)) (formula_text w)
+  counted (atom p n ts) =
+      let texts : texts_among (map raw_term ts) ≤ length (map raw_term ts) = count_by-le-length (λ t. is_raw_text t.kind) (map raw_term ts) in
+      let all : List Part = separated comma placed_text ts in
+      let size : length (all ++ any (symbol_token Close) ∷ []) ≡ length all + length {A = Part} (any (symbol_token Close) ∷ []) = length-append all (any (symbol_token Close) ∷ []) in
+      let long : length ts ≤ length all + 1 = separated_long comma placed_text ts in
+      (omega (arith, size), omega (arith, texts, map_length ts, size, long))
+  counted (compared l op r) =
+      let texts : texts_among (raw_term l ∷ raw_term r ∷ []) ≤ length (raw_term l ∷ raw_term r ∷ []) = count_by-le-length (λ t. is_raw_text t.kind) (raw_term l ∷ raw_term r ∷ []) in
+      let size : length (placed_text l ++ any (symbol_token (op_symbol op)) ∷ placed_text r) ≡ length (placed_text l) + length (any (symbol_token (op_symbol op)) ∷ placed_text r) = length-append (placed_text l) (any (symbol_token (op_symbol op)) ∷ placed_text r) in
+      let left = term_some l.place l.item in
+      let right = term_some r.place r.item in
+      (omega (arith, size, left, right), omega (arith, texts, size, left, right))
+  counted (member t i k) =
+      let texts : texts_among (raw_term t ∷ []) ≤ length (raw_term t ∷ []) = count_by-le-length (λ t. is_raw_text t.kind) (raw_term t ∷ []) in
+      let rest : List Part = integer_text i ++ any (symbol_token Plus) ∷ any (number_token k) ∷ any (word_token Letter) ∷ [] in
+      let size : length (placed_text t ++ any (word_token In) ∷ rest) ≡ length (placed_text t) + length (any (word_token In) ∷ rest) = length-append (placed_text t) (any (word_token In) ∷ rest) in
+      let left = term_some t.place t.item in
+      (omega (arith, size, left), omega (arith, texts, size, left))
+  counted (denied p f) = let k = counted f in (omega (arith, k.0), omega (arith, k.1))
+  counted (all_of p f fs) =
+      let a = counted f in
+      let b = counted_members And fs in
+      let rest : List Part = members_text And fs ++ any (symbol_token Close) ∷ [] in
+      let size : length (formula_text f ++ rest) ≡ length (formula_text f) + length rest = length-append (formula_text f) rest in
+      let more : length rest ≡ length (members_text And fs) + length {A = Part} (any (symbol_token Close) ∷ []) = length-append (members_text And fs) (any (symbol_token Close) ∷ []) in
+      (omega (arith, a.0, b.0, size, more), omega (arith, a.1, b.1, size, more))
+  counted (any_of p f fs) =
+      let a = counted f in
+      let b = counted_members Or fs in
+      let rest : List Part = members_text Or fs ++ any (symbol_token Close) ∷ [] in
+      let size : length (formula_text f ++ rest) ≡ length (formula_text f) + length rest = length-append (formula_text f) rest in
+      let more : length rest ≡ length (members_text Or fs) + length {A = Part} (any (symbol_token Close) ∷ []) = length-append (members_text Or fs) (any (symbol_token Close) ∷ []) in
+      (omega (arith, a.0, b.0, size, more), omega (arith, a.1, b.1, size, more))
+  counted (implied p f g) =
+      let a = counted f in
+      let b = counted g in
+      let rest : List Part = formula_text g ++ any (symbol_token Close) ∷ [] in
+      let size : length (formula_text f ++ any (word_token Implies) ∷ rest) ≡ length (formula_text f) + length (any (word_token Implies) ∷ rest) = length-append (formula_text f) (any (word_token Implies) ∷ rest) in
+      let more : length rest ≡ length (formula_text g) + length {A = Part} (any (symbol_token Close) ∷ []) = length-append (formula_text g) (any (symbol_token Close) ∷ []) in
+      (omega (arith, a.0, b.0, size, more), omega (arith, a.1, b.1, size, more))
+  counted (group p f) =
+      let a = counted f in
+      let size : length (formula_text f ++ any (symbol_token Close) ∷ []) ≡ length (formula_text f) + length {A = Part} (any (symbol_token Close) ∷ []) = length-append (formula_text f) (any (symbol_token Close) ∷ []) in
+      (omega (arith, a.0, size), omega (arith, a.1, size))
+  counted (some p c f) =
+      let a = counted f in
+      let size : length (column_text c ++ formula_text f) ≡ length (column_text c) + length (formula_text f) = length-append (column_text c) (formula_text f) in
+      (omega (arith, a.0, size), omega (arith, a.1, size))
+  counted (every p c f) =
+      let a = counted f in
+      let size : length (column_text c ++ formula_text f) ≡ length (column_text c) + length (formula_text f) = length-append (column_text c) (formula_text f) in
+      (omega (arith, a.0, size), omega (arith, a.1, size))
+  counted (hole p) = (omega arith, omega arith)
+
+  -- of members
+  counted_members : (w : Word) (fs : FurtherMembers) → Counted (formulas_of (raw_forms fs)) (texts_of (raw_forms fs)) (members_text w fs)
+  counted_members w (last f) = let a = counted f in (omega (arith, a.0), omega (arith, a.1))
+  counted_members w (more f fs) =
+      let a = counted f in
+      let b = counted_members w fs in
+      let size : length (formula_text f ++ members_text w fs) ≡ length (formula_text f) + length (members_text w fs) = length-append (formula_text f) (members_text w fs) in
+      (omega (arith, a.0, b.0, size), omega (arith, a.1, b.1, size))
+
+-- a token and those that follow it
+headed_long : (p : Place) (s : Scanned) (k : Token) (rest : Tokens) → length (headed p s k rest) ≤ suc (length rest)
+headed_long p s (name_token n) rest = omega arith
+headed_long p s (word_token w) rest = omega arith
+headed_long p s (number_token n) rest = omega arith
+headed_long p s (text_token t) rest = omega arith
+headed_long p s (symbol_token y) rest = omega arith
+headed_long p s hole_token rest = omega arith
+headed_long p s end_token rest = omega arith
+headed_long p s bad_token rest = omega arith
+
+-- each turn gives a token
+from_long : (n : ℕ) (p : Place) (bs : List ℕ) → length (tokens_from n p bs) ≤ n
+unfolding tokens_from
+from_long zero p bs = omega arith
+from_long (suc n) p bs =
+    let a = skip false p bs in
+    let s = scan a.bytes in
+    let rest = tokens_from n (after a.place s.taken) s.left in
+    let k : length (headed a.place s s.token rest) ≤ suc (length rest) = headed_long a.place s s.token rest in
+    let m : length rest ≤ n = from_long n (after a.place s.taken) s.left in
+    omega (arith, k, m)
+
+-- a text has at most a token more than bytes
+tokens_long : (bytes : List ℕ) → length (tokens bytes) ≤ suc (length bytes)
+tokens_long bytes = from_long (suc (length bytes)) start bytes
+
+-- ---- queries
+
+-- what stands behind the head
+abbrev behind_head : WrittenFormula → List Part
+behind_head f = any (symbol_token Bar) ∷ (formula_text f ++ any (symbol_token CloseBrace) ∷ any end_token ∷ [])
+
+-- the body has four tokens fewer than the query
+body_short : (t : WrittenQuery) → length (formula_text t.body) + 4 ≤ length (query_text t)
+body_short t =
+    let ends : List Part = any (symbol_token CloseBrace) ∷ any end_token ∷ [] in
+    let size : length (separated comma column_text t.head ++ behind_head t.body) ≡ length (separated comma column_text t.head) + length (behind_head t.body) = length-append (separated comma column_text t.head) (behind_head t.body) in
+    let rest : length (formula_text t.body ++ ends) ≡ length (formula_text t.body) + length ends = length-append (formula_text t.body) ends in
+    omega (arith, size, rest)
+
+-- the tokens that spell the body have no holes
+whole_body : (t : WrittenQuery) (ts : Tokens) → Spells (query_text t) ts → NoHoles ts → Whole t.body
+whole_body t ts h c =
+    let first : List Part = any (symbol_token OpenBrace) ∷ [] in
+    let bar : List Part = any (symbol_token Bar) ∷ [] in
+    let ends : List Part = any (symbol_token CloseBrace) ∷ any end_token ∷ [] in
+    let a = takes_split first (separated comma column_text t.head ++ behind_head t.body) ts [] h in
+    let b = takes_split (separated comma column_text t.head) (behind_head t.body) a.0 [] a.2 in
+    let d = takes_split bar (formula_text t.body ++ ends) b.0 [] b.2 in
+    let e = takes_split (formula_text t.body) ends d.0 [] d.2 in
+    whole t.body d.0 e.0 e.1 (clean_rest bar b.0 d.0 d.1 (clean_rest (separated comma column_text t.head) a.0 b.0 b.1 (clean_rest first ts a.0 a.1 c)))
+
+-- the query that a written one means
+lawful_tree : (bytes : List ℕ) (t : WrittenQuery) → length bytes ≤ 16777216 → Spells (query_text t) (tokens bytes) → FitsSizes t.body → FitsDepth t.body 64 → IsLawful (raw_question t)
+lawful_tree bytes t small spelled sizes depth =
+    let o = whole_body t (tokens bytes) spelled (tokens_clean bytes) in
+    let size : length {A = Placed} [] + length (query_text t) ≡ length (tokens bytes) = takes_shorter (query_text t) (tokens bytes) [] spelled in
+    let long = tokens_long bytes in
+    let short = body_short t in
+    let k = counted t.body in
+    record {
+      sizes = fits_raw t.body o sizes;
+      depth = shallow t.body 64 o depth;
+      formulas = omega (arith, size, long, short, k.0, small);
+      texts = omega (arith, size, long, short, k.1, small);
+    }
+
+-- each query of a text of at most 16,777,216 bytes
+pub lawful_query : (bytes : List ℕ) (q : RawQuestion) → length bytes ≤ 16777216 → IsQuery bytes q → IsLawful q
+lawful_query bytes q small t = subst IsLawful (sym t.meant) (lawful_tree bytes t.tree small t.text.spelled t.text.lawful.sizes t.text.lawful.depth)
+
+-- and each that is read
+pub lawful_read : (bytes : List ℕ) (r : Result RawQuery QueryRead) → length bytes ≤ 16777216 → IfOk r (λ q. IsQuery bytes (raw_question_of q)) → IfOk r (λ q. IsLawful (raw_question_of q))
+lawful_read bytes (Ok q) small t = lawful_query bytes (raw_question_of q) small t
+lawful_read bytes (Err e) small t = t
