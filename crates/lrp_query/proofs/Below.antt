@@ -3,10 +3,10 @@ use Rattle.std.proofs.Common.{◌≡◌, inl, inr, ◌<◌, ◌+◌, ℕ, zero, 
 use Rattle.std.specs.List.{AllByRecursion}
 use Rattle.lrp_model.specs.declared.tokens.Fault.{Fault}
 use Rattle.lrp_model.specs.Tokens.{Placed, Tokens, Part, IsPart, Takes, Spells, separated}
-use Rattle.lrp_model.specs.Refused.{Stops, Fitting, TextOf}
+use Rattle.lrp_model.specs.Refused.{Stops, TextOf}
 use Rattle.lrp_text.specs.Parsers.{Parser, pure, eat, separated_from}
-use Rattle.lrp_text.proofs.Complete.{Answers, answers_then, answers_as, IsNot, eats_none, FollowsList}
-use Rattle.lrp_text.proofs.Sound.{Sound, bind_ok, takes_join, takes_split, takes_shorter, takes_onto, takes_front, Front, Eaten, eat_ok}
+use Rattle.lrp_text.proofs.Complete.{Answers, answers_then, answers_as, eats_none, FollowsList}
+use Rattle.lrp_text.proofs.Sound.{Sound, takes_join, takes_split, takes_shorter, takes_onto, takes_front, Front, Eaten, eat_ok}
 use Rattle.lrp_text.proofs.Viable.{ViableBelow, SomeText, bind_err, eat_err, before, behind, both, fits_as}
 
 -- ---- complete

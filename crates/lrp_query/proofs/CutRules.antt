@@ -1,7 +1,6 @@
 -- Where a formula would be too deep, a hole alone is read: complete, sound and viable.
-use Rattle.std.proofs.Common.{◌≡◌, ◌≢◌, inl, inr, ◌<◌, ◌≤◌, ℕ, zero, suc, Bool, true, false, List, [], ◌∷◌, ◌++◌, refl, ap, sym, ◌∙◌, subst, Ok, Err, nat_le, arith}
+use Rattle.std.proofs.Common.{◌≡◌, ◌≢◌, inr, ℕ, Bool, true, false, List, [], ◌∷◌, ◌++◌, refl, ap, sym, ◌∙◌, subst, Ok, Err, nat_le}
 use borrow.Author.Tests.{leb-false}
-use Rattle.lrp_model.specs.declared.tokens.Symbol.{Symbol}
 use Rattle.lrp_model.specs.declared.tokens.Symbol.TheVariants.{Open, Minus, Equals}
 use Rattle.lrp_model.specs.declared.tokens.Word.TheVariants.{Exists, Forall, Not}
 use Rattle.lrp_model.specs.declared.tokens.Word.TheVariants.{Time as time_word}
@@ -9,21 +8,20 @@ use Rattle.lrp_model.specs.declared.tokens.Symbol.TheVariants.{Close, Colon}
 use Rattle.lrp_model.specs.declared.relations.Sort.TheVariants.{Time as time_sort}
 use Rattle.lrp_model.specs.declared.raw.RawColumn.{RawColumn}
 use Rattle.lrp_model.specs.declared.tokens.Fault.{Fault}
-use Rattle.lrp_model.specs.declared.tokens.Fault.TheVariants.{Syntax, Number, Deep}
+use Rattle.lrp_model.specs.declared.tokens.Fault.TheVariants.{Syntax, Deep}
 use Rattle.lrp_model.specs.declared.tokens.Place.{Place}
 use Rattle.lrp_model.specs.declared.formulas.Op.TheVariants.{Eq}
-use Rattle.lrp_model.specs.declared.written.Located.{Located}
-use Rattle.lrp_model.specs.Tokens.{Token, Placed, Tokens, Part, IsPart, Takes, Spells, from}
+use Rattle.lrp_model.specs.Tokens.{Token, Placed, Tokens, Part, Takes, Spells, from}
 use Rattle.lrp_model.specs.Tokens.Token.{name_token, word_token, number_token, text_token, symbol_token, end_token, bad_token, hole_token}
 use Rattle.lrp_model.specs.Tokens.Part.{at, any}
 use Rattle.lrp_model.specs.Lexing.{limit, start}
 use Rattle.lrp_model.specs.Databases.{sign}
-use Rattle.lrp_model.specs.Refused.{IsCause, GoesThrough, Through, Stops}
-use Rattle.lrp_model.specs.Queries.{WrittenTerm, WrittenFormula, term_text, op_symbol, formula_text}
+use Rattle.lrp_model.specs.Refused.{GoesThrough, Through, Stops}
+use Rattle.lrp_model.specs.Queries.{WrittenTerm, WrittenFormula, term_text, formula_text}
 use Rattle.lrp_model.specs.Queries.WrittenTerm.{integer as integer_term, quoted, variable, shifted}
 use Rattle.lrp_model.specs.Queries.WrittenFormula.{atom, compared, member, denied, all_of, any_of, implied, group, some, every, hole}
 use Rattle.lrp_text.specs.Parsers.{Parser, accept, taken}
-use Rattle.lrp_text.proofs.Complete.{Answers, Anything, accepts_back}
+use Rattle.lrp_text.proofs.Complete.{Answers, accepts_back}
 use Rattle.lrp_text.proofs.Sound.{Sound, accept_ok}
 use Rattle.lrp_text.proofs.Viable.{Viable, at_once}
 use Rattle.lrp_query.specs.Rules.{written, too_deep, deep_or_number, cut_at, is_hole_token}

@@ -1,11 +1,10 @@
 -- No bytes make a hole.
-use Rattle.std.proofs.Common.{◌≡◌, ℕ, zero, suc, Bool, true, false, ◌==◌, List, [], ◌∷◌, ◌++◌, refl, subst, ap, Result, Ok, Err, codes, if◌then◌else◌}
+use Rattle.std.proofs.Common.{◌≡◌, ℕ, zero, suc, Bool, true, false, ◌==◌, List, [], ◌∷◌, refl, Result, Ok, Err, codes, if◌then◌else◌}
 use Rattle.std.specs.Str.{bytes_eq}
-use Rattle.std.specs.List.{AllByRecursion}
 use Rattle.lrp_model.specs.declared.tokens.Symbol.{Symbol}
 use Rattle.lrp_model.specs.declared.tokens.Symbol.TheVariants.{Open, Close, OpenBrace, CloseBrace, Comma, Colon, Semicolon, Bar, Plus, Minus, Le, Ge, Lt, Gt, Equals}
 use Rattle.lrp_model.specs.declared.tokens.Place.{Place}
-use Rattle.lrp_model.specs.Tokens.{Token, Placed, Tokens}
+use Rattle.lrp_model.specs.Tokens.{Token, Tokens}
 use Rattle.lrp_model.specs.Tokens.Token.{name_token, word_token, number_token, text_token, symbol_token, end_token, bad_token, hole_token}
 use Rattle.lrp_model.specs.Lexing.{is_letter, is_digit, is_name_byte, run, behind_run, value_from, word_or_name, Scanned, Text as TextRead, text_from, text_scanned, one, one_or_two, symbol_from, scan, after, skip, start, headed, tokens_from, tokens}
 use Rattle.lrp_query.specs.Rules.{is_hole_token}

@@ -1,5 +1,5 @@
 -- What holds of each query that is read.
-use Rattle.std.proofs.Common.{◌≡◌, ◌≤◌, ◌<◌, ◌+◌, ◌≤ℤ◌, ℕ, ℤ, pos, neg_ℤ, zero, suc, Bool, true, false, List, [], ◌∷◌, ◌++◌, map, refl, ap, sym, ◌∙◌, subst, length, arith, Result, Ok, Err, IfOk}
+use Rattle.std.proofs.Common.{◌≡◌, ◌≤◌, ◌<◌, ◌+◌, ◌≤ℤ◌, ℕ, pos, zero, suc, Bool, true, false, List, [], ◌∷◌, ◌++◌, map, refl, ap, sym, ◌∙◌, subst, length, arith, Result, Ok, Err, IfOk}
 use Rattle.std.proofs.lemmas.Int.{ints}
 use Rattle.std.proofs.lemmas.List.Sums.{count_by-le-length}
 use Rattle.std.specs.List.{AllByRecursion}
@@ -8,15 +8,12 @@ use Rattle.lrp_model.specs.declared.tokens.Place.{Place}
 use Rattle.lrp_model.specs.declared.tokens.Symbol.TheVariants.{Close, CloseBrace, OpenBrace, Bar, Plus}
 use Rattle.lrp_model.specs.declared.tokens.Word.{Word}
 use Rattle.lrp_model.specs.declared.tokens.Word.TheVariants.{And, Or, Implies, In, Letter}
-use Rattle.lrp_model.specs.declared.raw.RawTerm.{RawTerm}
-use Rattle.lrp_model.specs.declared.raw.RawTermKind.{RawTermKind}
-use Rattle.lrp_model.specs.declared.raw.RawTermKind.TheVariants.{Int, Text, Var, Shifted}
 use Rattle.lrp_model.specs.declared.raw.RawQuery.{RawQuery}
 use Rattle.lrp_model.specs.declared.faults.QueryRead.{QueryRead}
 use Rattle.lrp_model.specs.declared.written.Located.{Located}
-use Rattle.lrp_model.specs.Tokens.{Token, Placed, Tokens, Part, Takes, Spells, from, located_text, separated}
+use Rattle.lrp_model.specs.Tokens.{Token, Placed, Tokens, Part, Takes, Spells, from, separated}
 use Rattle.lrp_model.specs.Tokens.Token.{number_token, symbol_token, word_token, name_token, text_token, end_token, bad_token, hole_token}
-use Rattle.lrp_model.specs.Tokens.Part.{at, any}
+use Rattle.lrp_model.specs.Tokens.Part.{any}
 use Rattle.lrp_model.specs.Lexing.{limit, start, Scanned, scan, skip, after, headed, tokens_from, tokens}
 use Rattle.lrp_model.specs.Columns.{column_text}
 use Rattle.lrp_model.specs.Databases.{sign, integer_text, comma}
@@ -26,12 +23,12 @@ use Rattle.lrp_model.specs.Queries.WrittenTerm.{integer as integer_term, quoted,
 use Rattle.lrp_model.specs.Queries.WrittenFormula.{atom, compared, member, denied, all_of, any_of, implied, group, some, every, hole}
 use Rattle.lrp_model.specs.Queries.FurtherMembers.{last, more}
 use Rattle.lrp_model.specs.QueryMeaning.{term_kind, raw_term, raw_form, raw_forms, raw_question}
-use Rattle.lrp_model.specs.RawQueries.{RawForm, RawForms, RawQuestion, raw, raw_question_of}
+use Rattle.lrp_model.specs.RawQueries.{RawForm, RawQuestion, raw, raw_question_of}
 use Rattle.lrp_model.specs.QueryReading.{IsQuery}
 use Rattle.lrp_text.proofs.Sound.{takes_split, takes_front, takes_shorter}
 use Rattle.lrp_text.proofs.Complete.{separated_long}
 use Rattle.lrp_query.specs.Rules.{is_hole_token}
-use Rattle.lrp_query.specs.Lawful.{IsWithin, FitsRawTerm, FitsRawPoint, HasTwo, FitsRaw, FitRaws, IsShallow, AreShallow, formulas_in, formulas_of, is_raw_text, texts_among, texts_in, texts_of, IsLawful}
+use Rattle.lrp_query.specs.Lawful.{IsWithin, FitsRawTerm, HasTwo, FitsRaw, FitRaws, IsShallow, AreShallow, formulas_in, formulas_of, is_raw_text, texts_among, texts_in, texts_of, IsLawful}
 use Rattle.lrp_query.proofs.Marks.{NoHoles}
 use Rattle.lrp_query.proofs.HoleFree.{tokens_clean}
 use Rattle.lrp_query.proofs.TermRules.{placed_text}

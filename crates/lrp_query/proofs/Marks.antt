@@ -1,5 +1,5 @@
 -- A reader that marks the token where a formula would be too deep: no hole stands before a mark, and it would mark each token there.
-use Rattle.std.proofs.Common.{◌≡◌, ℕ, zero, suc, Bool, true, false, List, [], ◌∷◌, ◌++◌, refl, ap, sym, ◌∙◌, subst, Ok, Err, Result, if◌then◌else◌, append_assoc, nat_le, ◌==◌, length}
+use Rattle.std.proofs.Common.{◌≡◌, ℕ, zero, suc, Bool, true, false, List, [], ◌∷◌, ◌++◌, refl, ap, sym, ◌∙◌, subst, Ok, Err, Result, if◌then◌else◌, append_assoc, nat_le, ◌==◌}
 use Rattle.std.specs.List.{AllByRecursion}
 use Rattle.std.proofs.lemmas.List.{append_cancel_right}
 use Rattle.lrp_model.specs.Texts.{Identifier}
@@ -9,13 +9,13 @@ use Rattle.lrp_model.specs.declared.tokens.Word.{Word}
 use Rattle.lrp_model.specs.declared.tokens.Word.TheVariants.{Letter, Exists, Forall, Not, And, Or, Implies, In, Time, Data}
 use Rattle.lrp_model.specs.declared.tokens.Place.{Place}
 use Rattle.lrp_model.specs.declared.tokens.Fault.{Fault}
-use Rattle.lrp_model.specs.declared.tokens.Fault.TheVariants.{Syntax, Number, TextTooLong, Deep, Memory}
+use Rattle.lrp_model.specs.declared.tokens.Fault.TheVariants.{Syntax, Number, Deep, Memory}
 use Rattle.lrp_model.specs.declared.written.Integer.{Integer}
 use Rattle.lrp_model.specs.Tokens.{Token, Placed, Tokens}
-use Rattle.lrp_model.specs.Tokens.Token.{name_token, word_token, number_token, text_token, symbol_token, end_token, hole_token}
+use Rattle.lrp_model.specs.Tokens.Token.{name_token, word_token, number_token, text_token, symbol_token, end_token}
 use Rattle.lrp_model.specs.Refused.{Fitting}
 use Rattle.lrp_text.specs.Parsers.{Outcome, Parser, and_then, ◌>>=◌, pure, fail, accept, taken, look, eat, eaten, listed, separated_from}
-use Rattle.lrp_text.specs.Taking.{same_symbol, same_word, is_symbol, is_symbol_token, is_word, is_word_token, required, expect, expect_word, name, name_of, with_place, number, number_of, limited, period, period_of, counted, text, text_of, short_enough, is_text, is_name, is_end, is_end_token, expect_end, here}
+use Rattle.lrp_text.specs.Taking.{same_symbol, same_word, is_symbol, is_symbol_token, is_word, is_word_token, required, expect, expect_word, name, name_of, with_place, number, number_of, limited, period_of, counted, text_of, short_enough, is_text, is_name, is_end, is_end_token, here}
 use Rattle.lrp_text.specs.ColumnRule.{column, sort_of}
 use Rattle.lrp_text.proofs.Local.{Local, IsLocal, left_of, onto, listed_local, separated_local}
 use Rattle.lrp_text.proofs.Viable.{always}

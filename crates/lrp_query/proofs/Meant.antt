@@ -1,13 +1,12 @@
 -- The reader that makes raw queries reads what the written tree means.
-use Rattle.std.proofs.Common.{◌≡◌, ℕ, inl, inr, List, [], ◌∷◌, map, refl, ap, sym, Ok, Err}
+use Rattle.std.proofs.Common.{◌≡◌, ℕ, inl, inr, List, [], ◌∷◌, map, refl, ap}
 use Rattle.lrp_model.specs.declared.tokens.Place.{Place}
-use Rattle.lrp_model.specs.declared.tokens.Fault.{Fault}
-use Rattle.lrp_model.specs.Tokens.{Token, Placed, Tokens}
+use Rattle.lrp_model.specs.Tokens.{Token, Tokens}
 use Rattle.lrp_model.specs.Tokens.Token.{name_token, word_token, number_token, text_token, symbol_token, end_token, bad_token, hole_token}
 use Rattle.lrp_model.specs.Queries.{WrittenFormula, WrittenQuery}
 use Rattle.lrp_model.specs.Queries.WrittenFormula.{hole}
 use Rattle.lrp_model.specs.QueryMeaning.{term_kind, raw_term, raw_form, raw_forms, raw_question}
-use Rattle.lrp_model.specs.RawQueries.{RawForm, RawForms, raw, no_raws, raw_and, raw_or}
+use Rattle.lrp_model.specs.RawQueries.{raw, no_raws, raw_and, raw_or}
 use Rattle.lrp_text.specs.Parsers.{Outcome}
 use Rattle.lrp_query.specs.Rules.{written, meant, raws, further, cut_at, query}
 use Rattle.lrp_query.proofs.Natural.{mapped, result_map, Same, Mapping, query_same}

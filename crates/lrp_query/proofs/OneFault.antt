@@ -18,7 +18,7 @@ use Rattle.lrp_model.specs.Lexing.{tokens, after, start}
 use Rattle.lrp_model.specs.Refused.{IsCause}
 use Rattle.lrp_model.specs.DatabaseReading.{IsNoUtf8}
 use Rattle.lrp_model.specs.RawQueries.{raw_question_of}
-use Rattle.lrp_model.specs.QueryReading.{IsQuery, Texts, IsTooDeep, IsRanked, IsNoQueryText, IsQueryFault, IsQueryFaultOf}
+use Rattle.lrp_model.specs.QueryReading.{IsQuery, Texts, IsRanked, IsNoQueryText, IsQueryFault, IsQueryFaultOf}
 use Rattle.lrp_text.proofs.Unique.{refused_once}
 use Rattle.lrp_query.specs.Reading.{IsUnread, IsFaultOrMemory}
 use Rattle.lrp_query.proofs.TextLaws.{not_cut, no_fault}

@@ -1,43 +1,38 @@
 -- The rule for formulas over others: complete, sound and viable where the rule of the others is.
-use Rattle.std.proofs.Common.{◌≡◌, ◌≢◌, inl, inr, ◌<◌, ◌≤◌, ◌+◌, ℕ, zero, suc, Bool, true, false, List, [], ◌∷◌, ◌++◌, refl, ap, sym, ◌∙◌, subst, Ok, Err, if◌then◌else◌, length, append-nil, append_assoc, arith}
+use Rattle.std.proofs.Common.{◌≡◌, inl, inr, ◌<◌, ◌≤◌, ◌+◌, ℕ, zero, suc, Bool, true, false, List, [], ◌∷◌, ◌++◌, refl, ap, sym, subst, length, arith}
 use Rattle.std.specs.List.{AllByRecursion}
 use Rattle.lrp_model.specs.Texts.{Identifier}
 use Rattle.lrp_model.specs.declared.tokens.Symbol.TheVariants.{Open, Close, Plus, Minus, Equals}
 use Rattle.lrp_model.specs.declared.tokens.Word.{Word}
 use Rattle.lrp_model.specs.declared.tokens.Word.TheVariants.{Exists, Forall, Not, And, Or, Implies, In}
-use Rattle.lrp_model.specs.declared.tokens.Fault.{Fault}
-use Rattle.lrp_model.specs.declared.tokens.Fault.TheVariants.{Syntax, Deep}
+use Rattle.lrp_model.specs.declared.tokens.Fault.TheVariants.{Deep}
 use Rattle.lrp_model.specs.declared.tokens.Place.{Place}
 use Rattle.lrp_model.specs.declared.formulas.Op.{Op}
 use Rattle.lrp_model.specs.declared.formulas.Op.TheVariants.{Le, Lt, Ge, Gt, Eq}
 use Rattle.lrp_model.specs.declared.raw.RawColumn.{RawColumn}
 use Rattle.lrp_model.specs.declared.written.Located.{Located}
-use Rattle.lrp_model.specs.declared.written.Integer.{Integer}
-use Rattle.lrp_model.specs.Tokens.{Token, Placed, Tokens, Part, IsPart, Takes, Spells, from, separated}
+use Rattle.lrp_model.specs.Tokens.{Token, Placed, Tokens, Part, Takes, Spells, from, separated}
 use Rattle.lrp_model.specs.Tokens.Token.{name_token, word_token, number_token, text_token, symbol_token, hole_token}
 use Rattle.lrp_model.specs.Tokens.Part.{at, any}
-use Rattle.lrp_model.specs.Lexing.{limit, start}
+use Rattle.lrp_model.specs.Lexing.{start}
 use Rattle.lrp_model.specs.Columns.{column_text}
-use Rattle.lrp_model.specs.Databases.{sign, integer_text, shift, comma}
-use Rattle.lrp_model.specs.Refused.{Stops, TextOf, Fitting}
-use Rattle.lrp_model.specs.Queries.{WrittenTerm, WrittenFormula, FurtherMembers, term_text, op_symbol, formula_text, members_text, FitsTerm, FitsSizes, FitSizes, FitsDepth, FitDepth}
+use Rattle.lrp_model.specs.Databases.{sign, comma}
+use Rattle.lrp_model.specs.Queries.{WrittenTerm, WrittenFormula, FurtherMembers, term_text, op_symbol, formula_text, members_text, FitsTerm, FitsSizes, FitSizes, FitDepth}
 use Rattle.lrp_model.specs.Queries.WrittenTerm.{integer as integer_term, quoted, variable, shifted}
 use Rattle.lrp_model.specs.Queries.WrittenFormula.{atom, compared, member, denied, all_of, any_of, implied, group, some, every, hole}
 use Rattle.lrp_model.specs.Queries.FurtherMembers.{last, more}
-use Rattle.lrp_text.specs.Parsers.{Parser, Outcome, and_then, ◌>>=◌, pure, accept, look, eat, separated_from}
-use Rattle.lrp_text.specs.Taking.{is_symbol, is_symbol_token, is_word, is_word_token, expect, expect_word}
+use Rattle.lrp_text.specs.Parsers.{Parser, look, eat, separated_from}
+use Rattle.lrp_text.specs.Taking.{is_symbol_token, is_word, is_word_token, expect, expect_word}
 use Rattle.lrp_text.specs.ColumnRule.{column}
-use Rattle.lrp_text.proofs.Complete.{ReadsBack, Answers, answers_then, answers_as, back_as, Anything, IsNot, bind_back, then_back, pure_back, accepts_back, eat_back, eat_none, eats_none, first_is_not, FollowsList, separated_long}
-use Rattle.lrp_text.proofs.Sound.{Sound, bind_ok, eat_sound, eaten_parts, takes_join, takes_split, takes_shorter, takes_front, separated_sound}
-use Rattle.lrp_text.proofs.Viable.{Viable, ViableBelow, One, SomeText, bind_err, behind, before, at_once, sub_short, eat_short, spells_join, always, both, fitting, fits_as}
-use Rattle.lrp_text.proofs.TokenTests.{word_told, word_seen, word_required, expect_seen}
+use Rattle.lrp_text.proofs.Complete.{ReadsBack, Answers, answers_then, answers_as, back_as, Anything, bind_back, then_back, pure_back, accepts_back, eat_back, eat_none, eats_none, first_is_not, separated_long}
+use Rattle.lrp_text.proofs.Sound.{takes_split, takes_shorter}
+use Rattle.lrp_text.proofs.TokenTests.{word_seen, word_required, expect_seen}
 use Rattle.lrp_text.proofs.LocatedRule.{takes_from}
-use Rattle.lrp_text.proofs.ColumnRule.{column_back, column_sound, column_viable}
-use Rattle.lrp_query.specs.declared.starts.Start.{Start}
-use Rattle.lrp_query.specs.Rules.{Trees, written, further, gathered, Offset, unmoved, moved_by, integer, unnamed_term, test, named, unnamed, negated, existing, holding, implying, conjoined, disjoined, behind_first, enclosed, start_of, is_hole_token, started, formula_over}
-use Rattle.lrp_query.proofs.TermRules.{NoShift, offset_text, FitsOffset, quoted_back, integer_term_back, term_leads, placed_text}
-use Rattle.lrp_query.proofs.Below.{separated_below, separated_stops}
-use Rattle.lrp_query.proofs.TestRules.{FitsAt, Formulas, sym_part, symbol_sound, symbol_viable, symbol_at, op_part, point_text, test_point_back, test_compared_back, Ends, named_test_back, atom_back, named_sound, unnamed_sound, named_stops, unnamed_stops, zero_term, zero_tokens}
+use Rattle.lrp_text.proofs.ColumnRule.{column_back}
+use Rattle.lrp_query.specs.Rules.{written, further, unmoved, moved_by, unnamed_term, test, unnamed, negated, existing, holding, implying, conjoined, disjoined, behind_first, enclosed, start_of, is_hole_token, started, formula_over}
+use Rattle.lrp_query.proofs.TermRules.{NoShift, quoted_back, integer_term_back, term_leads, placed_text}
+use Rattle.lrp_query.proofs.Below.{separated_below}
+use Rattle.lrp_query.proofs.TestRules.{FitsAt, symbol_at, point_text, test_point_back, test_compared_back, Ends, named_test_back, atom_back, zero_term, zero_tokens}
 
 -- ---- members
 

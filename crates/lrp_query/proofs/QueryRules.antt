@@ -1,5 +1,5 @@
 -- The rules for formulas of any depth and for queries: local, complete, sound and viable, so that they refuse exactly where the grammar says.
-use Rattle.std.proofs.Common.{◌≡◌, ◌<◌, ◌≤◌, ◌+◌, ℕ, zero, suc, Bool, true, false, List, [], ◌∷◌, ◌++◌, inl, inr, refl, ap, sym, subst, Ok, Err, length, arith, append-nil}
+use Rattle.std.proofs.Common.{◌≡◌, ◌<◌, ◌≤◌, ◌+◌, ℕ, zero, suc, Bool, false, List, [], ◌∷◌, ◌++◌, inl, inr, refl, ap, sym, subst, Err, length, arith, append-nil}
 use Rattle.std.specs.List.{AllByRecursion}
 use Rattle.lrp_model.specs.declared.tokens.Symbol.TheVariants.{OpenBrace, CloseBrace, Comma, Colon, Bar, Plus, Minus}
 use Rattle.lrp_model.specs.declared.tokens.Fault.{Fault}
@@ -12,7 +12,7 @@ use Rattle.lrp_model.specs.Columns.{sort_token, column_text}
 use Rattle.lrp_model.specs.Databases.{comma}
 use Rattle.lrp_model.specs.Refused.{Stops, TextOf, IsRefusedAt}
 use Rattle.lrp_model.specs.Queries.{WrittenFormula, WrittenQuery, formula_text, query_text, FitsQuery}
-use Rattle.lrp_text.specs.Parsers.{Outcome, Parser, listed}
+use Rattle.lrp_text.specs.Parsers.{Outcome, listed}
 use Rattle.lrp_text.specs.Taking.{is_symbol, is_symbol_token, expect, expect_end}
 use Rattle.lrp_text.specs.ColumnRule.{column}
 use Rattle.lrp_text.proofs.Complete.{Answers, Anything, Sees, answers_then, answers_as, accepts_back, first_sees_any, first_sees_at, first_is_not, MemberBack, listed_back, separated_long}

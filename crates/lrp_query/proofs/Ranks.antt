@@ -1,5 +1,5 @@
 -- Which kind is told where a formula of depth 65 would begin, and that none is for its depth elsewhere.
-use Rattle.std.proofs.Common.{◌≡◌, ◌⊎◌, inl, inr, ◌<◌, ◌+◌, ℕ, suc, Bool, true, false, List, [], ◌∷◌, ◌++◌, refl, ap, sym, ◌∙◌, subst, Ok, Err, nat_le, length, arith, append-nil}
+use Rattle.std.proofs.Common.{◌≡◌, ◌⊎◌, inl, inr, ◌<◌, ◌+◌, ℕ, suc, Bool, true, false, [], ◌∷◌, ◌++◌, refl, ap, sym, ◌∙◌, subst, Ok, Err, nat_le, length, arith, append-nil}
 use Rattle.std.proofs.lemmas.List.{append_cancel_right}
 use Rattle.lrp_model.specs.declared.tokens.Symbol.TheVariants.{Open, Minus}
 use Rattle.lrp_model.specs.declared.tokens.Word.TheVariants.{Exists, Forall, Not}
@@ -7,7 +7,6 @@ use Rattle.lrp_model.specs.declared.tokens.Fault.{Fault}
 use Rattle.lrp_model.specs.declared.tokens.Fault.TheVariants.{Syntax, Number, TextTooLong, Period, Deep, Memory}
 use Rattle.lrp_model.specs.Tokens.{Token, Placed, Tokens, Takes, Spells}
 use Rattle.lrp_model.specs.Tokens.Token.{name_token, word_token, number_token, text_token, symbol_token, hole_token}
-use Rattle.lrp_model.specs.Lexing.{limit}
 use Rattle.lrp_model.specs.Refused.{IsCause}
 use Rattle.lrp_model.specs.Queries.{WrittenQuery, query_text, FitsQuery}
 use Rattle.lrp_model.specs.Queries.WrittenFormula.{hole}
@@ -15,7 +14,7 @@ use Rattle.lrp_model.specs.QueryReading.{Texts, IsTooDeep, IsRanked}
 use Rattle.lrp_text.specs.Parsers.{Outcome}
 use Rattle.lrp_text.proofs.Complete.{Answers}
 use Rattle.lrp_text.proofs.Sound.{takes_onto}
-use Rattle.lrp_query.specs.Rules.{written, too_deep, deep_or_number, cut_at, is_hole_token, query}
+use Rattle.lrp_query.specs.Rules.{written, too_deep, deep_or_number, is_hole_token, query}
 use Rattle.lrp_query.proofs.Shown.{cut_told, large_at}
 use Rattle.lrp_query.proofs.Natural.{mapped, Same, Marked, Mapping, query_same}
 use Rattle.lrp_query.proofs.Marks.{marking, NoHoles, Took, Why, plain, at_hole, mark, Told, query_told}

@@ -1,26 +1,25 @@
 -- What a lexeme shows of a comparison, of the start of a formula, and of one that would be too deep.
-use Rattle.std.proofs.Common.{◌≡◌, ◌<◌, ◌≤◌, ℕ, Bool, true, false, List, [], ◌∷◌, refl, ap, ◌∙◌, sym, subst, Ok, Err, Result, nat_le, arith}
+use Rattle.std.proofs.Common.{◌≡◌, ◌<◌, ◌≤◌, ℕ, Bool, true, false, List, ◌∷◌, refl, ap, ◌∙◌, sym, subst, Ok, Err, nat_le, arith}
 use Rattle.std.proofs.lemmas.Bool.{le-leb, leb-true}
 use Rattle.lrp_model.specs.declared.formulas.Op.{Op}
 use Rattle.lrp_model.specs.declared.tokens.Symbol.{Symbol as SymbolOf}
-use Rattle.lrp_model.specs.declared.tokens.Symbol.TheVariants.{Open, Close, OpenBrace, CloseBrace, Comma, Colon, Semicolon, Bar, Plus, Minus, Le, Ge, Lt, Gt, Equals}
+use Rattle.lrp_model.specs.declared.tokens.Symbol.TheVariants.{Open, Minus, Le, Ge, Lt, Gt, Equals}
 use Rattle.lrp_model.specs.declared.tokens.Word.{Word as WordOf}
-use Rattle.lrp_model.specs.declared.tokens.Word.TheVariants.{Relation, Where, Time, Data, Letter, Exists, Forall, Not, And, Or, Implies, In}
+use Rattle.lrp_model.specs.declared.tokens.Word.TheVariants.{Exists, Forall, Not}
 use Rattle.lrp_model.specs.declared.tokens.Place.{Place}
 use Rattle.lrp_model.specs.declared.tokens.Fault.{Fault}
-use Rattle.lrp_model.specs.declared.tokens.Fault.TheVariants.{Syntax, Number as TooLarge, Deep}
+use Rattle.lrp_model.specs.declared.tokens.Fault.TheVariants.{Syntax, Number as TooLarge}
 use Rattle.lrp_model.specs.Tokens.{Token, Placed, Tokens}
 use Rattle.lrp_model.specs.Tokens.Token.{name_token, word_token, number_token, text_token, symbol_token, end_token, bad_token, hole_token}
 use Rattle.lrp_model.specs.Lexing.{limit}
 use Rattle.lrp_model.specs.RawQueries.{RawForm}
-use Rattle.lrp_text.specs.Parsers.{Outcome, accept, look, Reads}
+use Rattle.lrp_text.specs.Parsers.{accept, look, Reads}
 use Rattle.lrp_text.specs.declared.lexemes.Lexeme.{Lexeme}
 use Rattle.lrp_text.specs.declared.lexemes.Lexeme.TheVariants.{Name, Word, Number, LargeNumber, Text, LongText, Symbol, End, Bad}
 use Rattle.lrp_text.specs.Lexemes.{IsSaid}
 use Rattle.lrp_text.specs.Sources.{Stands, Goes}
 use Rattle.lrp_text.proofs.Looking.{goes, goes_shown, look_shown, accepts_next, refuses_next}
-use Rattle.lrp_query.specs.declared.starts.Start.{Start}
-use Rattle.lrp_query.specs.declared.starts.Start.TheVariants.{Not as by_not, Exists as by_exists, Forall as by_forall, Open as by_open, Name as by_name, Term as by_term}
+use Rattle.lrp_query.specs.declared.starts.Start.TheVariants.{Term as by_term}
 use Rattle.lrp_query.specs.Rules.{meant, op_of, start_of, is_hole_token, too_deep, deep_or_number, cut_at}
 use Rattle.lrp_query.specs.Reading.{symbol_op, shown_op, word_start, symbol_start, shown_start, word_too_deep, symbol_too_deep, shown_too_deep}
 

@@ -5,8 +5,8 @@ use Rattle.lrp_model.specs.Tokens.{Placed, Tokens}
 use Rattle.lrp_model.specs.declared.tokens.Fault.{Fault}
 use Rattle.lrp_model.specs.declared.tokens.Fault.TheVariants.{Syntax, Number, TextTooLong, Period, Deep, Memory}
 use Rattle.lrp_model.specs.declared.raw.RawFormula.{RawFormula}
-use Rattle.lrp_model.specs.RawQueries.{RawForm, RawForms, raw, raw_form_of, raw_forms_of}
-use Rattle.lrp_text.specs.Parsers.{Parser, Outcome, accept, eat, separated_from, look}
+use Rattle.lrp_model.specs.RawQueries.{RawForm, raw, raw_form_of, raw_forms_of}
+use Rattle.lrp_text.specs.Parsers.{Parser, Outcome, accept, separated_from, look}
 use Rattle.lrp_text.specs.Taking.{here}
 use Rattle.lrp_query.specs.declared.starts.Start.{Start}
 use Rattle.lrp_query.specs.declared.starts.Start.TheVariants.{Term as by_term}

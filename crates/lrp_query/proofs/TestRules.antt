@@ -1,5 +1,5 @@
 -- The rules for atoms, comparisons and memberships: complete, sound and viable.
-use Rattle.std.proofs.Common.{◌≡◌, ◌⊎◌, inl, inr, ◌≤◌, ◌<◌, ◌+◌, ℕ, suc, Bool, true, false, List, [], ◌∷◌, ◌++◌, refl, ap, sym, ◌∙◌, subst, Ok, Err, Result, if◌then◌else◌, length, append-nil, append_assoc, arith}
+use Rattle.std.proofs.Common.{◌≡◌, inl, inr, ◌≤◌, ◌<◌, ℕ, suc, Bool, true, false, List, [], ◌∷◌, ◌++◌, refl, ap, sym, ◌∙◌, subst, Ok, Err, if◌then◌else◌, length, append-nil, append_assoc, arith}
 use Rattle.std.specs.List.{AllByRecursion}
 use Rattle.lrp_model.specs.Texts.{Identifier}
 use Rattle.lrp_model.specs.declared.tokens.Symbol.{Symbol}
@@ -13,7 +13,7 @@ use Rattle.lrp_model.specs.declared.formulas.Op.{Op}
 use Rattle.lrp_model.specs.declared.formulas.Op.TheVariants.{Le, Lt, Ge, Gt, Eq}
 use Rattle.lrp_model.specs.declared.written.Located.{Located}
 use Rattle.lrp_model.specs.declared.written.Integer.{Integer}
-use Rattle.lrp_model.specs.Tokens.{Token, Placed, Tokens, Part, IsPart, Takes, Spells, from, separated, located_text}
+use Rattle.lrp_model.specs.Tokens.{Token, Placed, Tokens, Part, IsPart, Takes, Spells, separated}
 use Rattle.lrp_model.specs.Tokens.Token.{name_token, word_token, number_token, text_token, symbol_token}
 use Rattle.lrp_model.specs.Tokens.Part.{at, any}
 use Rattle.lrp_model.specs.Lexing.{limit, start}
@@ -22,15 +22,15 @@ use Rattle.lrp_model.specs.Databases.{sign, integer_text, shift, comma}
 use Rattle.lrp_model.specs.Queries.{WrittenTerm, WrittenFormula, term_text, op_symbol, formula_text, FitsTerm, FitsSizes, FitsDepth}
 use Rattle.lrp_model.specs.Queries.WrittenTerm.{integer as integer_term, quoted, variable, shifted}
 use Rattle.lrp_model.specs.Queries.WrittenFormula.{atom, compared, member}
-use Rattle.lrp_text.specs.Parsers.{Parser, Outcome, and_then, ◌>>=◌, pure, accept, look, eat, listed}
-use Rattle.lrp_text.specs.Taking.{is_symbol, is_symbol_token, is_word, is_word_token, expect, expect_word, required, number, period, period_of, name, name_of, with_place, is_name, is_text, IsPeriod}
-use Rattle.lrp_text.proofs.Complete.{ReadsBack, Answers, answers_then, answers_as, back_as, Anything, IsNot, Sees, bind_back, then_back, pure_back, accept_back, accepts_back, eat_back, eat_none, first_sees_any, first_sees_at, first_is_not, last_back, MemberBack, FollowsList, listed_back}
+use Rattle.lrp_text.specs.Parsers.{Parser, Outcome, and_then, ◌>>=◌, pure, accept, eat, listed}
+use Rattle.lrp_text.specs.Taking.{is_symbol, is_symbol_token, is_word, is_word_token, expect, expect_word, required, period, period_of, name, name_of, with_place, IsPeriod}
+use Rattle.lrp_text.proofs.Complete.{ReadsBack, back_as, IsNot, Sees, bind_back, then_back, pure_back, accept_back, accepts_back, eat_back, eat_none, first_sees_any, first_is_not, last_back, MemberBack, FollowsList, listed_back}
 use Rattle.lrp_text.proofs.Sound.{Sound, bind_ok, accept_gives, accept_sound, eat_sound, eaten_parts, takes_join, takes_front, listed_sound}
 use Rattle.lrp_text.proofs.Viable.{Viable, One, TestStops, accept_viable, bind_err, behind, before, sub_step, sub_short, eat_step, eat_short, spells_join, always, fits_as, listed_viable}
 use Rattle.lrp_text.proofs.TokenTests.{symbol_told, symbol_seen, word_told, word_seen, word_expected, word_required, word_stops, expect_told, expect_seen, expect_stops, number_part, period_told, period_fits, period_stops, period_tells, name_part, name_told, name_seen, name_stops}
 use Rattle.lrp_text.proofs.LocatedRule.{Leads, from_place, takes_from}
 use Rattle.lrp_query.specs.Rules.{written, integer, Offset, unmoved, moved_by, offset, with_offset, named_term, unnamed_term, term, op_of, point, comparing, test, atom_terms, named, unnamed}
-use Rattle.lrp_query.proofs.TermRules.{NoShift, integer_back, integer_sound, integer_viable, offset_text, FitsOffset, offset_back, offset_sound, offset_viable, with_offset_fits, offset_fits, unnamed_term_sound, unnamed_term_viable, term_leads, placed_text, FitsPlaced, term_back, term_sound, term_viable}
+use Rattle.lrp_query.proofs.TermRules.{NoShift, integer_back, integer_sound, integer_viable, offset_text, FitsOffset, offset_back, offset_sound, offset_viable, with_offset_fits, unnamed_term_sound, unnamed_term_viable, term_leads, placed_text, FitsPlaced, term_back, term_sound, term_viable}
 
 -- lawful with so much depth left
 abbrev pub FitsAt : ℕ → WrittenFormula → Type 0

@@ -1,5 +1,5 @@
 -- The query of a text, and the fault of one that is none.
-use Rattle.std.proofs.Common.{◌≡◌, ◌<◌, ◌+◌, ℕ, suc, List, [], ◌∷◌, ◌++◌, refl, ap, ◌∙◌, sym, subst, Ok, Err, Result, IfOk, IfErr, length, take, take_all, arith}
+use Rattle.std.proofs.Common.{◌≡◌, ◌<◌, ℕ, suc, List, [], ◌∷◌, refl, ap, ◌∙◌, sym, subst, Ok, Err, Result, IfOk, IfErr, length, take_all, arith}
 use Rattle.std.specs.Str.{IsUtf8}
 use Rattle.lrp_model.specs.declared.tokens.Place.{Place}
 use Rattle.lrp_model.specs.declared.tokens.Fault.{Fault as TokenFault}
@@ -12,7 +12,6 @@ use Rattle.lrp_model.specs.declared.faults.QueryKind.TheVariants.{Utf8, Syntax, 
 use Rattle.lrp_model.specs.declared.raw.RawQuery.{RawQuery}
 use Rattle.lrp_model.specs.Tokens.{Placed, Tokens, Spells}
 use Rattle.lrp_model.specs.Lexing.{tokens}
-use Rattle.lrp_model.specs.Refused.{IsRefusedAt}
 use Rattle.lrp_model.specs.DatabaseReading.{IsNoUtf8}
 use Rattle.lrp_model.specs.Queries.{WrittenQuery, query_text}
 use Rattle.lrp_model.specs.QueryMeaning.{raw_question}

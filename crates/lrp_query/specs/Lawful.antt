@@ -1,5 +1,5 @@
 -- What holds of each query that is read: numbers within the limit, formulas that are not too deep, and bounds on how many there are.
-use Rattle.std.specs.Prelude.{◌≤◌, ◌<◌, ◌+◌, ◌≤ℤ◌, ℕ, ℤ, pos, neg_ℤ, Bool, true, false, List, [], ◌∷◌, count_by}
+use Rattle.std.specs.Prelude.{◌<◌, ◌+◌, ◌≤ℤ◌, ℕ, ℤ, pos, neg_ℤ, Bool, true, false, List, [], ◌∷◌, count_by}
 use Rattle.std.specs.List.{AllByRecursion}
 use Rattle.lrp_model.specs.Lexing.{limit}
 use Rattle.lrp_model.specs.Queries.{Deeper}

@@ -1,11 +1,9 @@
-use Rattle.std.proofs.Common.{◌≡◌, ◌<◌, ◌∷◌, [], ◌∙◌, sym, ap, subst, refl, arith, length, map, Ok, true, false}
+use Rattle.std.proofs.Common.{◌≡◌, ◌<◌, ◌∷◌, [], ◌∙◌, sym, ap, subst, refl, arith, length, Ok, true, false}
 use Rattle.std.proofs.lemmas.Result.{err_from_is_err_and}
-use Rattle.lrp_model.specs.declared.tokens.Symbol.TheVariants.{Open}
-use Rattle.lrp_model.specs.declared.tokens.Word.TheVariants.{Not, Exists, Forall, And, Or}
+use Rattle.lrp_model.specs.declared.tokens.Word.TheVariants.{And, Or}
 use Rattle.lrp_model.specs.RawQueries.{raw_form_of}
 use Rattle.lrp_text.specs.Parsers.{eat, separated_from}
-use Rattle.lrp_text.specs.Taking.{is_word, expect, expect_word}
-use Rattle.lrp_text.specs.ColumnRule.{column}
+use Rattle.lrp_text.specs.Taking.{is_word}
 use Rattle.lrp_text.proofs.Turns.{more_below, last_below}
 use Rattle.lrp_query.specs.declared.starts.Start.TheVariants.{Not as by_not, Exists as by_exists, Forall as by_forall, Open as by_open, Name as by_name, Term as by_term}
 use Rattle.lrp_query.specs.Rules.{meant, formula, negated, existing, holding, enclosed, implying, conjoined, disjoined}
