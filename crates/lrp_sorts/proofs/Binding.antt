@@ -1,5 +1,5 @@
 -- The binder of a name, found among references.
-use Rattle.std.proofs.Common.{◌≡◌, ℕ, Bool, true, false, List, [], ◌∷◌, map, reverse, Option, Some, None, option_map, refl, ap, sym, ◌∙◌, Bor, cond, ◌++◌, ◌||◌}
+use Rattle.std.proofs.Common.{◌≡◌, Bool, true, false, List, [], ◌∷◌, map, reverse, Option, Some, None, option_map, refl, ap, sym, ◌∙◌, Bor, cond, ◌++◌, ◌||◌}
 use Rattle.std.specs.List.{find}
 use Rattle.std.proofs.lemmas.List.{reverse-append}
 use Rattle.std.proofs.lemmas.List.{map-append}

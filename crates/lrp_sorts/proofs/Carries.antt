@@ -1,13 +1,12 @@
 -- What is carried over from a raw query to the query that it is.
-use Rattle.std.proofs.Common.{◌≡◌, Bool, true, false, cond, List, [], ◌∷◌, ◌++◌, refl, ap, ap₂, sym, ◌∙◌, ◌&&◌}
+use Rattle.std.proofs.Common.{◌≡◌, Bool, true, false, cond, [], ◌∷◌, ◌++◌, refl, ap, ◌∙◌, ◌&&◌}
 use Rattle.lrp_model.specs.Core.{HasElement, HasElements, HaveElements}
-use Rattle.lrp_model.specs.Checked.{plain, plain_each, compare_of, is_equals, data_of, time_of}
+use Rattle.lrp_model.specs.Checked.{plain, plain_each, compare_of, is_equals}
 use Rattle.lrp_model.specs.RawQueries.{RawForm, RawForms, raw_atom, raw_compare, raw_member, raw_not, raw_and, raw_or, raw_implies, raw_group, raw_exists, raw_forall, no_raws, raw}
 use Rattle.lrp_model.specs.Sorting.{Binders, term_sort, is_data_term}
 use Rattle.lrp_model.specs.declared.formulas.Op.{Op}
 use Rattle.lrp_model.specs.declared.formulas.Test.{Test}
 use Rattle.lrp_model.specs.declared.raw.RawTerm.{RawTerm}
-use Rattle.lrp_model.specs.declared.relations.RowPoint.{RowPoint}
 use Rattle.lrp_sorts.specs.Carried.{HasMembers, HaveMembers, HasMember, raw_points, raw_points_each, points, points_each, test_points}
 
 -- a member stays a member

@@ -1,5 +1,5 @@
 -- The faults of terms beside their columns, one pair after the other.
-use Rattle.std.proofs.Common.{◌≡◌, List, [], ◌∷◌, ◌++◌, Option, None, refl, ap, sym, ◌∙◌, ◌⊎◌, inl, inr}
+use Rattle.std.proofs.Common.{◌≡◌, List, [], ◌∷◌, Option, refl, ap, sym, ◌∙◌, ◌⊎◌, inl, inr}
 use Rattle.lrp_model.specs.Faults.{first, fault_if}
 use Rattle.lrp_model.specs.Sorting.{Binders, stands, fault, term_sort, differs, column_faults}
 use Rattle.lrp_model.specs.declared.faults.QueryFault.{QueryFault}

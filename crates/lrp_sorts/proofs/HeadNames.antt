@@ -6,7 +6,6 @@ use Rattle.lrp_model.specs.DatabaseMeaning.{column_of}
 use Rattle.lrp_model.specs.Faults.{is_named_in, fault_if}
 use Rattle.lrp_model.specs.Satisfaction.{HaveNames}
 use Rattle.lrp_model.specs.Sorting.{Binders, binder_faults, head_faults, sort_faults, fault}
-use Rattle.lrp_model.specs.declared.faults.QueryFault.{QueryFault}
 use Rattle.lrp_model.specs.declared.faults.QueryKind.TheVariants.{Rebound}
 use Rattle.lrp_model.specs.declared.raw.RawColumn.{RawColumn}
 use Rattle.lrp_model.specs.declared.relations.Relation.{Relation}

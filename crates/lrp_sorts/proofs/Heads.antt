@@ -1,5 +1,5 @@
 -- The columns of a head, one after the other.
-use Rattle.std.proofs.Common.{◌≡◌, ℕ, suc, ◌+◌, ◌<◌, ◌==◌, Bool, true, false, cond, List, [], ◌∷◌, ◌++◌, map, reverse, Option, Some, None, option_map, refl, ap, sym, ◌∙◌, length, take, drop, get_or, Bor, append_assoc, drop-cons, add-one, bytes_eq, arith}
+use Rattle.std.proofs.Common.{◌≡◌, ℕ, suc, ◌+◌, ◌<◌, ◌==◌, Bool, true, false, cond, List, [], ◌∷◌, ◌++◌, map, reverse, Option, Some, option_map, refl, ap, sym, ◌∙◌, length, take, drop, get_or, Bor, append_assoc, drop-cons, add-one, bytes_eq, arith}
 use Rattle.std.specs.List.{find}
 use Rattle.std.specs.Option.{is_some}
 use Rattle.std.specs.HashMap.{HashMap, UpdatesBy, get_by}
@@ -15,7 +15,7 @@ use Rattle.lrp_model.specs.declared.relations.Relation.{Relation}
 use Rattle.lrp_model.specs.declared.relations.Sort.{Sort}
 use Rattle.lrp_model.specs.declared.raw.RawColumn.{RawColumn}
 use Rattle.lrp_rel.specs.Sooner.{sooner}
-use Rattle.lrp_rel.proofs.FirstFault.{first_of_both, sooner_again, sooner_than_none}
+use Rattle.lrp_rel.proofs.FirstFault.{first_of_both, sooner_again}
 use Rattle.lrp_sorts.specs.Scopes.{kept_at}
 use Rattle.lrp_sorts.specs.declared.head.Before.{Before}
 use Rattle.lrp_sorts.proofs.Binding.{bound_names}

@@ -9,3 +9,4 @@ pub mod PlainForms
 pub mod Surveys
 pub mod Carries
 pub mod HeadNames
+pub mod FreeBound

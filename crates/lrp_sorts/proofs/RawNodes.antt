@@ -3,8 +3,8 @@ use Rattle.std.proofs.Common.{◌≡◌, ℕ, List, [], ◌∷◌, ◌++◌, Opt
 use Rattle.std.proofs.lemmas.List.{take_more, append-nil}
 use Rattle.lrp_model.specs.Texts.{Identifier}
 use Rattle.lrp_model.specs.Faults.{first, fault_if}
-use Rattle.lrp_model.specs.RawQueries.{raw_kind, raw_form_of, raw_forms_of, raw_not, raw_and, raw_or, raw_implies, raw_group, raw_exists, raw_forall}
-use Rattle.lrp_model.specs.Sorting.{Binders, stands, fault, too_many, free_names, free_names_each, form_faults, forms_faults, widened, place_of, binder_faults, without}
+use Rattle.lrp_model.specs.RawQueries.{raw_kind, raw_form_of, raw_forms_of, raw_not, raw_implies, raw_group, raw_exists, raw_forall}
+use Rattle.lrp_model.specs.Sorting.{Binders, stands, fault, too_many, free_names, free_names_each, form_faults, forms_faults, widened, place_of, binder_faults}
 use Rattle.lrp_model.specs.declared.tokens.Place.{Place}
 use Rattle.lrp_model.specs.declared.relations.Relation.{Relation}
 use Rattle.lrp_model.specs.declared.faults.QueryFault.{QueryFault}

@@ -1,5 +1,5 @@
 -- The set of the names of named sorts, name by name.
-use Rattle.std.proofs.Common.{◌≡◌, ℕ, ◌+◌, ◌<◌, Bool, true, false, cond, ◌||◌, List, [], ◌∷◌, ◌++◌, refl, ap, sym, ◌∙◌, length, take, get_or, Bor, Option, Some, slice_get}
+use Rattle.std.proofs.Common.{◌≡◌, ℕ, ◌+◌, ◌<◌, Bool, true, false, cond, ◌||◌, List, refl, ap, sym, ◌∙◌, length, take, get_or, Bor, Some, slice_get}
 use Rattle.std.proofs.lemmas.Option.{get_or_from_slice_get}
 use Rattle.lrp_model.specs.Sorting.{has_sort}
 use Rattle.lrp_model.specs.declared.relations.Relation.{Relation}

@@ -1,5 +1,5 @@
 -- The binders around a formula, as the checker keeps them.
-use Rattle.std.specs.Prelude.{◌≡◌, ℕ, Bool, List, ◌++◌, map, reverse, Option, option_map}
+use Rattle.std.specs.Prelude.{ℕ, Bool, List, ◌++◌, reverse, Option, option_map}
 use Rattle.std.specs.Str.{bytes_eq}
 use Rattle.std.specs.HashMap.{HashMap, get_by}
 use Rattle.std.specs.HashSet.{HashSet, contains_by}

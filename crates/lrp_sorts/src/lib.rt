@@ -14,5 +14,5 @@ mod walk;
 mod width;
 
 pub use checking::check;
-pub use laws::head_names_differ;
+pub use laws::{free_variables_are_columns, head_names_differ};
 pub use lrp_model::QueryRead;

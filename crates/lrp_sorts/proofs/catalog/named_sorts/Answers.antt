@@ -1,4 +1,4 @@
-use Rattle.std.proofs.Common.{◌≡◌, ◌<◌, ◌||◌, length, arith, ap, ◌∙◌}
+use Rattle.std.proofs.Common.{◌<◌, ◌||◌, length, arith, ap, ◌∙◌}
 use Rattle.std.specs.List.{list_any}
 use Rattle.lrp_model.specs.Sorts.{same_sort}
 use Rattle.lrp_model.specs.declared.relations.Sort.TheVariants.{Named}

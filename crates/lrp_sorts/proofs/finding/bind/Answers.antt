@@ -1,4 +1,4 @@
-use Rattle.std.proofs.Common.{◌≡◌, ◌++◌, ap, sym, ◌∙◌, map}
+use Rattle.std.proofs.Common.{◌≡◌, ap, sym, ◌∙◌, map}
 use Rattle.std.specs.Option.{is_some}
 use Rattle.lrp_model.specs.Faults.{first, fault_if, is_named_in}
 use Rattle.lrp_model.specs.Sorting.{stands, fault, sort_faults}

@@ -1,4 +1,4 @@
-use Rattle.std.proofs.Common.{◌≡◌, not, filter, bytes_eq, rules, tests, ap, ◌∙◌, Bor}
+use Rattle.std.proofs.Common.{not, bytes_eq, rules, tests, ap, ◌∙◌, Bor}
 use Rattle.std.proofs.lemmas.Fn.{filter_same}
 use Rattle.lrp_model.specs.Texts.{Identifier}
 use Rattle.lrp_sorts.specs.Widths.{names_behind}

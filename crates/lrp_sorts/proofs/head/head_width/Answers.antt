@@ -1,8 +1,8 @@
-use Rattle.std.proofs.Common.{◌≡◌, ◌+◌, cond, arith, ◌∙◌, ap}
+use Rattle.std.proofs.Common.{◌+◌, ◌∙◌, ap}
 use Rattle.lrp_model.specs.Sorts.{is_time}
 use Rattle.lrp_model.specs.Sorting.{fault}
 use Rattle.lrp_model.specs.declared.faults.QueryKind.TheVariants.{Wide}
-use Rattle.lrp_sorts.proofs.Heads.{ninth_step, one_more_of, counted_once}
+use Rattle.lrp_sorts.proofs.Heads.{ninth_step, counted_once}
 use Rattle.lrp_sorts.proofs.head.head_width.Goals as goal
 
 pub loop-column-preserved : goal.loop-column-preserved

@@ -1,7 +1,6 @@
-use Rattle.std.proofs.Common.{◌≡◌, reverse, take, refl, ap, ◌∙◌, bytes_eq}
+use Rattle.std.proofs.Common.{refl, ap, ◌∙◌, bytes_eq}
 use Rattle.std.specs.Option.{is_some}
 use Rattle.std.specs.HashMap.{get_by}
-use Rattle.lrp_model.specs.Sorting.{binder_sort}
 use Rattle.lrp_sorts.specs.Scopes.{kept_at}
 use Rattle.lrp_sorts.proofs.Heads.{one_column_faults, one_column_kept}
 use Rattle.lrp_sorts.proofs.Binding.{there_behind}

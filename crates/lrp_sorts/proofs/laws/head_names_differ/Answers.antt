@@ -1,7 +1,5 @@
-use Rattle.std.proofs.Common.{[], ◌++◌, map, reverse, subst, sym, ap}
-use Rattle.lrp_model.specs.Faults.{ninth}
+use Rattle.std.proofs.Common.{[], subst, sym, ap}
 use Rattle.lrp_model.specs.Satisfaction.{HaveNames}
-use Rattle.lrp_model.specs.Sorting.{head_faults}
 use Rattle.lrp_sorts.proofs.HeadNames.{left_empty, names_differ}
 use Rattle.lrp_sorts.proofs.laws.head_names_differ.Goals as goal
 

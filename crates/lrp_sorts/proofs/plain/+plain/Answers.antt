@@ -1,4 +1,4 @@
-use Rattle.std.proofs.Common.{◌≡◌, ap, sym, ◌∙◌}
+use Rattle.std.proofs.Common.{ap, ◌∙◌}
 use Rattle.lrp_model.specs.Checked.{plain}
 use Rattle.lrp_model.specs.RawQueries.{raw_form_of}
 use Rattle.lrp_sorts.specs.Scopes.{binders}

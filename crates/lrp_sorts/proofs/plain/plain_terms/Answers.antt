@@ -1,4 +1,4 @@
-use Rattle.std.proofs.Common.{[], ◌∷◌, ◌++◌, ap, ◌∙◌}
+use Rattle.std.proofs.Common.{◌∙◌}
 use Rattle.lrp_model.specs.Checked.{term_of}
 use Rattle.lrp_sorts.specs.Scopes.{binders}
 use Rattle.lrp_sorts.proofs.PlainForms.{one_mapped}

@@ -1,5 +1,4 @@
-use Rattle.std.proofs.Common.{ap, ◌∙◌, flat_map}
-use Rattle.lrp_model.specs.Faults.{first}
+use Rattle.std.proofs.Common.{ap, ◌∙◌}
 use Rattle.lrp_model.specs.Sorting.{stands, term_faults}
 use Rattle.lrp_rel.specs.Sooner.{sooner}
 use Rattle.lrp_sorts.specs.Scopes.{binders}

@@ -1,7 +1,7 @@
-use Rattle.std.proofs.Common.{◌≡◌, ap, sym, ◌∙◌, [], ◌∷◌, ◌++◌, take, refl}
+use Rattle.std.proofs.Common.{◌≡◌, ap, ◌∙◌, [], ◌++◌, take, refl}
 use Rattle.lrp_model.specs.Faults.{first}
 use Rattle.lrp_model.specs.RawQueries.{raw_form_of, raw_forms_of}
-use Rattle.lrp_model.specs.Sorting.{stands, widened, form_faults, forms_faults, free_names, free_names_each}
+use Rattle.lrp_model.specs.Sorting.{stands, widened, form_faults, forms_faults, free_names_each}
 use Rattle.lrp_rel.specs.Sooner.{sooner}
 use Rattle.lrp_sorts.specs.Scopes.{binders}
 use Rattle.lrp_sorts.specs.Widths.{names_behind}

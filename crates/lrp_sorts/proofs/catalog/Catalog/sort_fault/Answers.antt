@@ -1,11 +1,10 @@
-use Rattle.std.proofs.Common.{◌≡◌, not, ap, sym, ◌∙◌, subst}
+use Rattle.std.proofs.Common.{◌≡◌, not, ap, ◌∙◌}
 use Rattle.std.specs.Str.{bytes_eq}
 use Rattle.std.specs.HashSet.{contains_by}
 use Rattle.lrp_model.specs.Faults.{first, fault_if}
-use Rattle.lrp_model.specs.Sorting.{stands, fault, has_sort, sort_faults}
+use Rattle.lrp_model.specs.Sorting.{stands, fault, has_sort}
 use Rattle.lrp_model.specs.declared.faults.QueryKind.TheVariants.{UnknownSort}
 use Rattle.lrp_model.specs.declared.relations.Sort.TheVariants.{Named}
-use Rattle.lrp_sorts.specs.Scopes.{holds}
 use Rattle.lrp_sorts.proofs.catalog.Catalog.sort_fault.Goals as goal
 
 pub returns-in-Named : goal.returns-in-Named

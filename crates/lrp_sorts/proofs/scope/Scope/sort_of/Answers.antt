@@ -1,4 +1,4 @@
-use Rattle.std.proofs.Common.{◌≡◌, option_map, map, reverse, sym, ap, ◌∙◌}
+use Rattle.std.proofs.Common.{option_map, map, reverse, sym, ap, ◌∙◌}
 use Rattle.std.specs.HashMap.{get_by}
 use Rattle.std.specs.Str.{bytes_eq}
 use Rattle.lrp_model.specs.Sorting.{binder_sort}

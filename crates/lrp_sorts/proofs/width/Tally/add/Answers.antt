@@ -1,4 +1,4 @@
-use Rattle.std.proofs.Common.{◌≡◌, false, ap, sym, ◌∙◌, refl, option_map}
+use Rattle.std.proofs.Common.{ap, sym, ◌∙◌, refl, option_map}
 use Rattle.lrp_model.specs.Faults.{is_named_in}
 use Rattle.lrp_sorts.specs.Scopes.{binders}
 use Rattle.lrp_sorts.specs.Widths.{names_behind}
