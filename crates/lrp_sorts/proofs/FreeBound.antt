@@ -154,7 +154,7 @@ module _ (bs : Binders) (l r : RawTerm) (fl : term_faults bs l ≡ []) (fr : ter
 
 -- ---- quantifiers
 
-true_not : (b : Bool) → b ≡ true → not b ≡ true → (A : Type 0) → A
+pub true_not : (b : Bool) → b ≡ true → not b ≡ true → (A : Type 0) → A
 true_not true e f A = cc
 true_not false e f A = cc
 
@@ -211,7 +211,7 @@ mutual
   free_bound (raw_exists p c f) db bs e = others_bound c bs (free (plain f (c ∷ bs))) (free_bound f db (c ∷ bs) (inside db (c ∷ bs) (c.name ∷ []) f (right_empty (binder_faults db bs c) (widened (c ∷ bs) (c.name ∷ []) f (form_faults f db (c ∷ bs))) e)))
   free_bound (raw_forall p c f) db bs e = others_bound c bs (free (plain f (c ∷ bs))) (free_bound f db (c ∷ bs) (inside db (c ∷ bs) (c.name ∷ []) f (right_empty (binder_faults db bs c) (widened (c ∷ bs) (c.name ∷ []) f (form_faults f db (c ∷ bs))) e)))
 
-  free_each_bound : (fs : RawForms) (db : List Relation) (bs : Binders) → forms_faults fs db bs ≡ [] → AreBound bs (free_each (plain_each fs bs))
+  pub free_each_bound : (fs : RawForms) (db : List Relation) (bs : Binders) → forms_faults fs db bs ≡ [] → AreBound bs (free_each (plain_each fs bs))
   free_each_bound no_raws db bs e = tt
   free_each_bound (raw f fs) db bs e =
       let own = widened bs [] f (form_faults f db bs) in

@@ -10,3 +10,5 @@ pub mod Surveys
 pub mod Carries
 pub mod HeadNames
 pub mod FreeBound
+pub mod FewNames
+pub mod HeadNarrow

@@ -14,5 +14,8 @@ mod walk;
 mod width;
 
 pub use checking::check;
-pub use laws::{free_variables_are_columns, head_names_differ};
+pub use laws::{free_variables_are_columns, head_names_differ, heads_are_narrow, parts_are_narrow};
 pub use lrp_model::QueryRead;
+
+#[cfg(test)]
+mod tests;
