@@ -2,17 +2,17 @@
 ghost use Rattle.std.specs.Prelude.{◌≡◌, ◌+◌, ◌≤◌, ◌^◌, ℕ, [], ◌∷◌, length, take, pos, nat_abs, ◌≤ℤ◌, IfSome};
 ghost use Rattle.lrp_theory.specs.Entries.{node};
 ghost use Rattle.lrp_zone.specs.Zones.{IsResidue, reach_of};
-ghost use Rattle.lrp_store.specs.Stores.{IsPadded};
+ghost use Rattle.lrp_store.specs.Stores.{IsPadded, HasReach};
 
 use crate::{Store, StoreFault};
-use lrp_model::{Bound, Cell, Shape};
+use lrp_model::{Bound, Cell, Shape, Spot};
 use lrp_zone::Zone;
 use std::alloc::Global;
 use std::process::Abort;
 use std::test::Fail;
 
-// A number that leaves room for a period of the same size.
-const SMALL: i64 = 576_460_752_303_423_488;
+// A number that leaves room for a period of the same size, eight times over.
+const SMALL: i64 = 9_007_199_254_740_992;
 
 // Column `left` minus column `right` is at most `most`.
 const fn bound(left: u8, right: u8, most: i64) -> Bound {
@@ -21,7 +21,7 @@ const fn bound(left: u8, right: u8, most: i64) -> Bound {
 
 // Stops the test unless these are residues modulo the period.
 fn check_residues(rt: &impl Abort, period: i64, residues: &[i64])
-    ensures high { period ≤ℤ pos (2 ^ 59) }
+    ensures high { period ≤ℤ pos (2 ^ 53) }
     ensures low { pos 1 ≤ℤ period }
     ensures count { length residues.now ≤ 8 }
     ensures residues { (p : ℕ) → p ≤ length residues.now → IsResidue (nat_abs period) (node residues.now p) }
@@ -34,7 +34,7 @@ fn check_residues(rt: &impl Abort, period: i64, residues: &[i64])
 
 // The zone of these parts, whose bounds are small.
 fn made(rt: &impl Abort, period: i64, residues: &[i64], bounds: &[Bound]) -> Option<Zone>
-    ensures { IfSome result (λ z. reach_of z + z.period ≤ 2 ^ 61) }
+    ensures { IfSome result (λ z. reach_of z + z.period ≤ 2 ^ 55) }
 {
     check_residues(rt, period, residues);
     for bound in bounds {
@@ -196,14 +196,137 @@ fn a_zone_is_split_residue_by_residue(rt: HostRuntime) -> Result<(), Fail> {
     Ok(())
 }
 
-// All pairs of residues would be a hundred million.
-#[test]
-fn a_fixed_difference_is_computed(rt: HostRuntime) -> Result<(), Fail> {
-    let bounds = [bound(1, 2, -25), bound(2, 1, 25)];
-    let zone = made(&rt, 1, &[0, 0], &bounds).ok_or("no zone")?;
-    match split_into(&rt, rt.alloc(), &zone, 10_080, 10_080, 10_080) {
-        Ok(store) => assert_eq!(rt; store.len(), 10_080),
-        Err(_) => assert!(rt; false),
+// The zone of these residues and bounds, with a text.
+#[derive(Clone, Copy)]
+struct Part<'a> {
+    text: u32,
+    residues: &'a [i64],
+    bounds: &'a [Bound],
+}
+
+// A store of one text for each tuple, in zones of one period.
+fn store_of(rt: &impl Abort, alloc: Global, times: u8, period: i64, parts: &[Part]) -> Store
+    ensures reach { HasReach result (2 ^ 55) }
+    ensures period { result.period ≤ 2 ^ 53 }
+{
+    assert!(rt; times <= 8);
+    assert!(rt; 1 <= period && period <= SMALL);
+    let mut store = Store::new(alloc, Shape { times, texts: 1 }, period);
+    store.shape();
+    for part in parts {
+        let Some(zone) = made(rt, period, part.residues, part.bounds) else {
+            panic!(rt; "no zone");
+        };
+        assert!(rt; zone.columns() == usize::from(times));
+        assert!(rt; zone.period() == store.period());
+        match store.split(&[part.text, 0, 0, 0, 0, 0, 0, 0], &zone, 8) {
+            Ok(()) => {}
+            Err(fault) => panic!(rt; "{fault:?}"),
+        }
     }
+    store
+}
+
+// The first tuple of a store of small zones.
+fn first_of(store: &Store) -> Option<Spot>
+    requires reach { HasReach store.now (2 ^ 55) }
+    requires period { store.now.period ≤ 2 ^ 53 }
+{
+    store.shape();
+    store.first()
+}
+
+// The number of cells over so many times the period.
+fn cells_over(rt: &impl Abort, store: &Store, times: i64, cap: u32) -> Result<u32, StoreFault>
+    requires reach { HasReach store.now (2 ^ 55) }
+{
+    store.shape();
+    assert!(rt; 1 <= times && times <= SMALL);
+    let Some(period) = store.period().checked_mul(times) else {
+        return Err(StoreFault::Memory);
+    };
+    assert!(rt; 1 <= period);
+    assert!(rt; period <= SMALL);
+    match store.align(period, cap) {
+        Ok(made) => Ok(made.len()),
+        Err(fault) => Err(fault),
+    }
+}
+
+#[test]
+fn a_store_is_aligned_residue_by_residue(rt: HostRuntime) -> Result<(), Fail> {
+    let sixth = Part {
+        text: 0,
+        residues: &[0],
+        bounds: &[],
+    };
+    let store = store_of(&rt, rt.alloc(), 1, 6, &[sixth]);
+    assert_eq!(rt; cells_over(&rt, &store, 3, 3), Ok(3));
+    assert_eq!(rt;
+        cells_over(&rt, &store, 3, 2),
+        Err(StoreFault::TooManyCells)
+    );
+
+    // All pairs of residues would be a hundred million.
+    let later = [bound(1, 2, -25), bound(2, 1, 25)];
+    let ride = Part {
+        text: 0,
+        residues: &[0, 0],
+        bounds: &later,
+    };
+    let store = store_of(&rt, rt.alloc(), 2, 1, &[ride]);
+    assert_eq!(rt; cells_over(&rt, &store, 10_080, 10_080), Ok(10_080));
+    assert_eq!(rt;
+        cells_over(&rt, &store, 10_080, 10_079),
+        Err(StoreFault::TooManyCells)
+    );
+    Ok(())
+}
+
+#[test]
+fn the_first_tuple_is_the_nearest(rt: HostRuntime) -> Result<(), Fail> {
+    let departures = [
+        (&[50][..], &[][..], -10),
+        (&[30][..], &[][..], 30),
+        (&[0][..], &[bound(0, 1, -60)][..], 60),
+        (&[0][..], &[bound(0, 1, 90), bound(1, 0, -60)][..], -60),
+    ];
+    for (residues, bounds, want) in departures {
+        let part = Part {
+            text: 0,
+            residues,
+            bounds,
+        };
+        let store = store_of(&rt, rt.alloc(), 1, 60, &[part]);
+        let spot = first_of(&store).ok_or("no tuple")?;
+        assert_eq!(rt; spot.times, [want, 0, 0, 0, 0, 0, 0, 0]);
+    }
+    Ok(())
+}
+
+#[test]
+fn eight_columns_follow_one_another(rt: HostRuntime) -> Result<(), Fail> {
+    // The first is at most -15, the second at least 20 more, the last at least 30 less than that; all are 3 modulo 10.
+    let bounds = [bound(1, 0, -15), bound(1, 2, -20), bound(8, 2, -30)];
+    let eight = Part {
+        text: 1,
+        residues: &[3; 8],
+        bounds: &bounds,
+    };
+    let other = Part {
+        text: 0,
+        residues: &[7; 8],
+        bounds: &[bound(1, 0, -15)],
+    };
+    let same = Part { text: 0, ..eight };
+    let store = store_of(&rt, rt.alloc(), 8, 10, &[eight, other]);
+    let spot = first_of(&store).ok_or("no tuple")?;
+    assert_eq!(rt; spot.times, [-17, 3, 3, 3, 3, 3, 3, -27]);
+    assert_eq!(rt; spot.texts[0], 1);
+    let store = store_of(&rt, rt.alloc(), 8, 10, &[eight, same]);
+    let spot = first_of(&store).ok_or("no tuple")?;
+    assert_eq!(rt; spot.texts[0], 0);
+    let store = store_of(&rt, rt.alloc(), 8, 10, &[]);
+    assert_eq!(rt; first_of(&store), None);
     Ok(())
 }
