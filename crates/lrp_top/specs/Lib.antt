@@ -1,5 +1,4 @@
 -- What contracts say of words, outcomes and texts.
 pub mod Statuses
 pub mod Outcomes
-pub mod Words
 pub mod ThinAnswers

@@ -1,23 +1,50 @@
 // The decision: what the words ask for, before the first byte is written.
 ghost use Rattle.std.specs.Prelude.{◌≡◌, ◌≤◌, ◌⊎◌, List as ListOf, ℕ, IfErr};
 ghost use Rattle.lrp_io.specs.Causes.{Rose};
-ghost use Rattle.lrp_top.specs.Outcomes.{IsDue};
+ghost use Rattle.lrp_top.specs.Outcomes.{IsAnswered, IsDue, IsDueOf};
+ghost use Rattle.lrp_words.specs.Commands.{task_of};
 
 use crate::outcome::{Output, Refusal};
 use crate::thin_answer::thin_answer;
 use crate::thin_form::{relation_of, variable_of};
-use crate::words::files_of;
 use lrp_io::{LoadFault, Shelf, load};
 use lrp_model::List;
+use lrp_words::{Command, Usage, read_words};
 use std::alloc::Global;
 
 /// The output that the words ask for, or the first refusal that applies.
 pub fn decide<F: Shelf>(alloc: Global, words: &[String], shelf: &mut F) -> Result<Output, Refusal>
     ensures { IsDue words.now (F.faults shelf.old) (F.faults shelf.new) result }
 {
-    let Some((database, query)) = files_of(words) else {
-        return Err(Refusal::Unbuilt);
-    };
+    match read_words(words) {
+        Ok(command) => decide_command(alloc, command, shelf),
+        Err(Usage) => Err(Refusal::Usage),
+    }
+}
+
+/// The output that a command asks for, or the first refusal that applies.
+fn decide_command<F: Shelf>(
+    alloc: Global,
+    command: Command<'_>,
+    shelf: &mut F,
+) -> Result<Output, Refusal>
+    ensures { IsDueOf (task_of command.entry) (F.faults shelf.old) (F.faults shelf.new) result }
+{
+    match command {
+        Command::Ask { db, query, .. } => ask(alloc, db, query, shelf),
+        _ => Err(Refusal::Unbuilt),
+    }
+}
+
+/// The answer of a question.
+fn ask<F: Shelf>(
+    alloc: Global,
+    database: &str,
+    query: &str,
+    shelf: &mut F,
+) -> Result<Output, Refusal>
+    ensures { IsAnswered database.now query.now (F.faults shelf.old) (F.faults shelf.new) result }
+{
     let database = bytes_of(alloc, shelf, database, Refusal::ReadDatabase)?;
     let Some(relation) = relation_of(alloc, database.as_slice())? else {
         return Err(Refusal::Unbuilt);

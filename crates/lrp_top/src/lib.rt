@@ -7,8 +7,8 @@ mod running;
 mod status;
 mod thin_answer;
 mod thin_form;
-mod words;
 
+pub use lrp_words::{Command, Usage, read_words};
 pub use running::run;
 pub use status::Status;
 

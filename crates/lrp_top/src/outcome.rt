@@ -16,6 +16,8 @@ pub enum Output {
 /// Why a command is refused.
 #[derive(Clone, Copy, Debug, PartialEq, Eq)]
 pub enum Refusal {
+    /// The words are no command.
+    Usage,
     /// The database's file could not be read.
     ReadDatabase,
     /// The query's file could not be read.
@@ -32,6 +34,7 @@ impl Refusal {
         ensures { result.now ≡ line_of self.now }
     {
         match self {
+            Refusal::Usage => b"refused: usage\n",
             Refusal::ReadDatabase => b"refused: read of database\n",
             Refusal::ReadQuery => b"refused: read of query\n",
             Refusal::Memory => b"refused: memory\n",
@@ -44,6 +47,7 @@ impl Refusal {
         ensures { result ≡ refused_with self.now }
     {
         match self {
+            Refusal::Usage => Status::Usage,
             Refusal::ReadDatabase | Refusal::ReadQuery => Status::Read,
             Refusal::Memory => Status::Memory,
             Refusal::Unbuilt => Status::Unbuilt,
