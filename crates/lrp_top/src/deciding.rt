@@ -1,20 +1,21 @@
 // The decision: what the words ask for, before the first byte is written.
-ghost use Rattle.std.specs.Prelude.{◌≡◌, ◌≤◌, ◌⊎◌, List as ListOf, ℕ, IfErr};
-ghost use Rattle.lrp_io.specs.Causes.{Rose};
-ghost use Rattle.lrp_top.specs.Outcomes.{IsAnswered, IsDue, IsDueOf};
+ghost use Rattle.std.specs.Prelude.{ℕ, List as ListOf, Option};
+ghost use Rattle.lrp_io.specs.declared.shelf.File.{File as HeldFile};
+ghost use Rattle.lrp_top.specs.Outcomes.{IsAnswered, IsAnsweredOver, IsChecked, IsDue, IsDueOf};
 ghost use Rattle.lrp_words.specs.Commands.{task_of};
 
+use crate::files::{database_of, query_of};
 use crate::outcome::{Output, Refusal};
-use crate::thin_answer::thin_answer;
-use crate::thin_form::{relation_of, variable_of};
-use lrp_io::{LoadFault, Shelf, load};
-use lrp_model::List;
+use crate::thin_answer::thin_text;
+use lrp_io::Shelf;
+use lrp_model::Memory;
+use lrp_rel::Database;
 use lrp_words::{Command, Usage, read_words};
 use std::alloc::Global;
 
 /// The output that the words ask for, or the first refusal that applies.
 pub fn decide<F: Shelf>(alloc: Global, words: &[String], shelf: &mut F) -> Result<Output, Refusal>
-    ensures { IsDue words.now (F.faults shelf.old) (F.faults shelf.new) result }
+    ensures { IsDue words.now (F.files shelf.old) (F.faults shelf.old) (F.faults shelf.new) result }
 {
     match read_words(words) {
         Ok(command) => decide_command(alloc, command, shelf),
@@ -28,11 +29,22 @@ fn decide_command<F: Shelf>(
     command: Command<'_>,
     shelf: &mut F,
 ) -> Result<Output, Refusal>
-    ensures { IsDueOf (task_of command.entry) (F.faults shelf.old) (F.faults shelf.new) result }
+    ensures { IsDueOf (task_of command.entry) (F.files shelf.old) (F.faults shelf.old) (F.faults shelf.new) result }
 {
     match command {
         Command::Ask { db, query, .. } => ask(alloc, db, query, shelf),
+        Command::Check { db } => check(alloc, db, shelf),
         _ => Err(Refusal::Unbuilt),
+    }
+}
+
+/// The relations of a database.
+fn check<F: Shelf>(alloc: Global, database: &str, shelf: &mut F) -> Result<Output, Refusal>
+    ensures { IsChecked (F.files shelf.old) database.now (F.faults shelf.old) (F.faults shelf.new) result }
+{
+    match database_of(alloc, database, shelf) {
+        Ok(relations) => Ok(Output::Relations(relations)),
+        Err(refusal) => Err(refusal),
     }
 }
 
@@ -43,34 +55,36 @@ fn ask<F: Shelf>(
     query: &str,
     shelf: &mut F,
 ) -> Result<Output, Refusal>
-    ensures { IsAnswered database.now query.now (F.faults shelf.old) (F.faults shelf.new) result }
+    ensures { IsAnswered (F.files shelf.old) database.now query.now (F.faults shelf.old) (F.faults shelf.new) result }
 {
-    let database = bytes_of(alloc, shelf, database, Refusal::ReadDatabase)?;
-    let Some(relation) = relation_of(alloc, database.as_slice())? else {
-        return Err(Refusal::Unbuilt);
-    };
-    let query = bytes_of(alloc, shelf, query, Refusal::ReadQuery)?;
-    let Some(variable) = variable_of(query.as_slice(), relation.name) else {
-        return Err(Refusal::Unbuilt);
-    };
-    let text = thin_answer(alloc, variable, relation.period, relation.residues)?;
-    Ok(Output::Text(text))
+    match database_of(alloc, database, shelf) {
+        Ok(relations) => ask_over(alloc, &relations, query, shelf),
+        Err(refusal) => Err(refusal),
+    }
 }
 
-/// A file's bytes, or this refusal where the file could not be read.
-fn bytes_of<F: Shelf>(
+/// The answer of a question over a database.
+fn ask_over<F: Shelf>(
     alloc: Global,
+    relations: &Database,
+    query: &str,
     shelf: &mut F,
-    name: &str,
-    unread: Refusal,
-) -> Result<List<u8>, Refusal>
-    ensures cause { IfErr result (λ refusal. (refusal ≡ Refusal.Unbuilt) ⊎ (refusal ≡ Refusal.Memory) ⊎ ((refusal ≡ unread) × Rose (F.faults shelf.old name.now) (F.faults shelf.new name.now))) }
-    ensures later { (other : ListOf ℕ) → F.faults shelf.old other ≤ F.faults shelf.new other }
+) -> Result<Output, Refusal>
+    ensures { IsAnsweredOver (F.files shelf.old) query.now (F.faults shelf.old) (F.faults shelf.new) result }
 {
-    match load(alloc, shelf, name) {
-        Ok(bytes) => Ok(bytes),
-        Err(LoadFault::Failed) => Err(unread),
-        Err(LoadFault::TooLong) => Err(Refusal::Unbuilt),
-        Err(LoadFault::Memory) => Err(Refusal::Memory),
+    match query_of(alloc, query, shelf) {
+        Ok(bytes) => answer(alloc, relations, bytes.as_slice()),
+        Err(refusal) => Err(refusal),
+    }
+}
+
+/// The answer of a query's text.
+fn answer(alloc: Global, relations: &Database, query: &[u8]) -> Result<Output, Refusal>
+    ensures { (files : Option (ListOf HeldFile)) (name : ListOf ℕ) (before now : ListOf ℕ → ℕ) → IsAnsweredOver files name before now result }
+{
+    match thin_text(alloc, relations, query) {
+        Ok(Some(text)) => Ok(Output::Text(text)),
+        Ok(None) => Err(Refusal::Unbuilt),
+        Err(Memory) => Err(Refusal::Memory),
     }
 }

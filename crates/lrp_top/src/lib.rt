@@ -2,11 +2,13 @@
 #![tactic(auto)]
 
 mod deciding;
+mod files;
 mod outcome;
 mod running;
 mod status;
 mod thin_answer;
 mod thin_form;
+mod writing;
 
 pub use lrp_words::{Command, Usage, read_words};
 pub use running::run;

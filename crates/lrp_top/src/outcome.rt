@@ -1,16 +1,19 @@
 // What a run decides before its first byte is written: an output, or a refusal.
 ghost use Rattle.std.specs.Prelude.{◌≡◌};
-ghost use Rattle.lrp_top.specs.Outcomes.{line_of, refused_with};
+ghost use Rattle.lrp_top.specs.Outcomes.{refused_with};
 ghost use Rattle.lrp_top.specs.declared.outcome.Refusal.TheVariants.{Memory as memory};
 
 use crate::Status;
-use lrp_model::List;
+use lrp_model::{DbFault, List};
+use lrp_rel::Database;
 
 /// What a command writes.
-#[derive(Debug, Drop)]
+#[derive(Drop)]
 pub enum Output {
     /// A text that was made whole beforehand.
     Text(List<u8>),
+    /// The relations of a database, in order.
+    Relations(Database),
 }
 
 /// Why a command is refused.
@@ -20,8 +23,14 @@ pub enum Refusal {
     Usage,
     /// The database's file could not be read.
     ReadDatabase,
+    /// The database's file has more bytes than a file may have.
+    LongDatabase,
+    /// The database's text has a fault.
+    Database(DbFault),
     /// The query's file could not be read.
     ReadQuery,
+    /// The query's file has more bytes than a file may have.
+    LongQuery,
     /// Memory was refused.
     Memory,
     /// The command, or the form of its files, is not built yet.
@@ -29,19 +38,6 @@ pub enum Refusal {
 }
 
 impl Refusal {
-    /// The line that is written.
-    pub fn line(&self) -> &'static [u8]
-        ensures { result.now ≡ line_of self.now }
-    {
-        match self {
-            Refusal::Usage => b"refused: usage\n",
-            Refusal::ReadDatabase => b"refused: read of database\n",
-            Refusal::ReadQuery => b"refused: read of query\n",
-            Refusal::Memory => b"refused: memory\n",
-            Refusal::Unbuilt => b"refused: unbuilt\n",
-        }
-    }
-
     /// The status with which the run ends.
     pub fn status(&self) -> Status
         ensures { result ≡ refused_with self.now }
@@ -49,6 +45,8 @@ impl Refusal {
         match self {
             Refusal::Usage => Status::Usage,
             Refusal::ReadDatabase | Refusal::ReadQuery => Status::Read,
+            Refusal::LongDatabase | Refusal::Database(_) => Status::Database,
+            Refusal::LongQuery => Status::Query,
             Refusal::Memory => Status::Memory,
             Refusal::Unbuilt => Status::Unbuilt,
         }

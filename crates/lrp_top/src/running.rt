@@ -1,13 +1,12 @@
 // A run: one decision, and then one writer.
 ghost use Rattle.std.specs.Prelude.{◌≡◌};
-ghost use Rattle.lrp_io.specs.Causes.{HasCause};
-ghost use Rattle.lrp_io.specs.Pieces.{IsWritten};
-ghost use Rattle.lrp_top.specs.Outcomes.{Outcome, text_of, status_of, IsDue, Ends};
+ghost use Rattle.lrp_top.specs.Outcomes.{Outcome, status_of, IsDue, Ends};
 
 use crate::Status;
 use crate::deciding::decide;
 use crate::outcome::{Output, Refusal};
-use lrp_io::{Failed, Shelf, Sink, put_all};
+use crate::writing::write_outcome;
+use lrp_io::{Failed, Shelf, Sink};
 use std::alloc::Global;
 
 /// Does what the words after the program's name say, and writes one text or one line.
@@ -15,23 +14,12 @@ use std::alloc::Global;
 /// No memory is taken once the first byte is written, so a run that has begun to write ends with
 /// its outcome's status, or with `Write`.
 pub fn run<F: Shelf, S: Sink>(alloc: Global, words: &[String], shelf: &mut F, out: &mut S) -> Status
-    ensures { (outcome : Outcome) × IsDue words.now (F.faults shelf.old) (F.faults shelf.new) outcome × Ends outcome (S.written out.old) (S.written out.new) (S.faults out.old) (S.faults out.new) result }
+    ensures { (outcome : Outcome) × IsDue words.now (F.files shelf.old) (F.faults shelf.old) (F.faults shelf.new) outcome × Ends outcome (S.written out.old) (S.written out.new) (S.faults out.old) (S.faults out.new) result }
 {
     let outcome = decide(alloc, words, shelf);
     match write_outcome(out, &outcome) {
         Ok(()) => status_after(&outcome),
         Err(Failed) => Status::Write,
-    }
-}
-
-/// Writes an outcome's text.
-fn write_outcome<S: Sink>(out: &mut S, outcome: &Result<Output, Refusal>) -> Result<(), Failed>
-    ensures text { IsWritten (S.written out.old) (S.written out.new) (text_of outcome.now) result }
-    ensures cause { HasCause (S.faults out.old) (S.faults out.new) result }
-{
-    match outcome {
-        Ok(Output::Text(text)) => put_all(out, text.as_slice()),
-        Err(refusal) => put_all(out, refusal.line()),
     }
 }
 

@@ -1,9 +1,11 @@
 // The text of an answer with one time column: a stopgap, until the real evaluation is there.
-ghost use Rattle.std.specs.Prelude.{◌≡◌, ◌++◌, IfOk, OnOk, Contains, ℕ};
+ghost use Rattle.std.specs.Prelude.{◌≡◌, ◌++◌, IfOk, IfSome, OnOk, Contains, ℕ};
 ghost use Rattle.std.specs.List.Sorted.{IsStrictlyIncreasing};
 ghost use Rattle.lrp_top.specs.ThinAnswers.{answer_of, row_line, IsThinAnswer};
 
+use crate::thin_form::{relation_of, variable_of};
 use lrp_model::{List, Memory};
+use lrp_rel::Database;
 use std::alloc::Global;
 
 /// Leaves each number once, ascending.
@@ -52,8 +54,31 @@ fn push_row(text: &mut Vec<u8>, period: u64, residue: u64) -> Result<(), Memory>
     Ok(())
 }
 
+/// The text of the answer of a query of the thin form, over a database of one relation of the thin form.
+pub fn thin_text(
+    alloc: Global,
+    database: &Database,
+    query: &[u8],
+) -> Result<Option<List<u8>>, Memory>
+    ensures { IfOk result (λ answer. IfSome answer (λ text. IsThinAnswer text)) }
+{
+    if database.relations() != 1 {
+        return Ok(None);
+    }
+    let Some(relation) = relation_of(alloc, database.at(0))? else {
+        return Ok(None);
+    };
+    let Some(variable) = variable_of(query, relation.name) else {
+        return Ok(None);
+    };
+    match thin_answer(alloc, variable, relation.period, relation.residues) {
+        Ok(text) => Ok(Some(text)),
+        Err(Memory) => Err(Memory),
+    }
+}
+
 /// The text of the answer that has these residues of the period, in any order.
-pub fn thin_answer(
+fn thin_answer(
     alloc: Global,
     column: &[u8],
     period: u64,

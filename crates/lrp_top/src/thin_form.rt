@@ -1,7 +1,7 @@
-// The thin form of databases and queries, read by hand: a stopgap, until the real readers are there.
-ghost use Rattle.std.specs.Prelude.{◌≡◌, ◌++◌, ◌≤◌, ◌<◌, IfSome, IsTrue, pos, ◌≤ℤ◌, length};
+// The thin form of relations and queries: a stopgap, until the real evaluation is there.
+ghost use Rattle.std.specs.Prelude.{◌≡◌, ◌++◌, IfSome, pos, ◌≤ℤ◌};
 
-use lrp_model::{LIMIT, Memory};
+use lrp_model::{Memory, Relation, Row, RowPoint, Value};
 use std::alloc::Global;
 
 /// The greatest period of a row, 2^60.
@@ -11,9 +11,6 @@ const MOST_PERIOD: i64 = 1_152_921_504_606_846_976;
 const MOST_ROWS: usize = 1_000_000;
 
 /// One relation with one time column, whose rows are points of one period.
-///
-/// Its text is `relation N(C: time) {`, then for each row a blank and `(c+kn);`, then a blank and
-/// `}`, and at most one line feed.
 #[derive(Drop)]
 pub struct ThinRelation<'a> {
     pub name: &'a [u8],
@@ -23,40 +20,45 @@ pub struct ThinRelation<'a> {
     pub residues: Vec<u64>,
 }
 
-/// A row `(c+kn);`, and what follows it.
-#[derive(Drop)]
-struct ThinRow<'a> {
-    offset: i64,
-    period: i64,
-    rest: &'a [u8],
-}
-
-/// The relation that the bytes spell, where they are of the thin form.
-pub fn relation_of(alloc: Global, bytes: &[u8]) -> Result<Option<ThinRelation<'_>>, Memory> {
-    let Some((name, rows)) = head_of(bytes) else {
+/// The relation as a thin one, where it is one.
+pub fn relation_of(alloc: Global, relation: &Relation) -> Result<Option<ThinRelation<'_>>, Memory> {
+    let columns = relation.columns.as_slice();
+    let rows = relation.rows.as_slice();
+    if columns.len() != 1 || !columns[0].sort.is_time() || rows.len() > MOST_ROWS {
         return Ok(None);
-    };
+    }
     let mut period = 1;
     let mut residues = Vec::new(alloc);
-    let mut rest = rows;
-    while let Some(row) = row_at(rest) {
+    for row in rows {
+        let Some(point) = point_of(row) else {
+            return Ok(None);
+        };
         if residues.is_empty() {
-            period = row.period as u64;
+            period = point.period as u64;
         }
-        if row.period as u64 != period || residues.len() == MOST_ROWS {
+        if point.period as u64 != period {
             return Ok(None);
         }
-        residues.push(residue_of(row.offset, row.period))?;
-        rest = row.rest;
-    }
-    if !ends(rest, b" }") {
-        return Ok(None);
+        residues.push(residue_of(point.offset, point.period))?;
     }
     Ok(Some(ThinRelation {
-        name,
+        name: relation.name.as_bytes(),
         period,
         residues,
     }))
+}
+
+/// The point of a row that has one value and no bounds, where its period is within the limit.
+fn point_of(row: &Row) -> Option<RowPoint>
+    ensures { IfSome result (λ point. pos 1 ≤ℤ point.period) }
+{
+    if row.values.len() != 1 || row.bounds.len() != 0 {
+        return None;
+    }
+    match row.values.at(0) {
+        Value::Point { at } if at.period >= 1 && at.period <= MOST_PERIOD => Some(*at),
+        _ => None,
+    }
 }
 
 /// The variable of the query `{ V: time | N(V) }`, with at most one line feed, for this name N.
@@ -72,43 +74,6 @@ pub fn variable_of<'a>(bytes: &'a [u8], name: &[u8]) -> Option<&'a [u8]> {
     } else {
         None
     }
-}
-
-/// The name of the relation, and what follows its head.
-fn head_of(bytes: &[u8]) -> Option<(&[u8], &[u8])> {
-    let rest = after(bytes, b"relation ")?;
-    let (name, rest) = name_at(rest)?;
-    let rest = after(rest, b"(")?;
-    let (_column, rest) = name_at(rest)?;
-    let rest = after(rest, b": time) {")?;
-    Some((name, rest))
-}
-
-/// The row behind a blank at the front.
-fn row_at(bytes: &[u8]) -> Option<ThinRow<'_>>
-    ensures positive { IfSome result (λ row. pos 1 ≤ℤ row.period) }
-    ensures shorter { IfSome result (λ row. length row.rest.now < length bytes.now) }
-{
-    let rest = after(bytes, b" (")?;
-    let (offset, rest) = number_at(rest)?;
-    let rest = after(rest, b"+")?;
-    let (period, rest) = number_at(rest)?;
-    let rest = after(rest, b"n);")?;
-    if !is_within(offset, period) {
-        return None;
-    }
-    Some(ThinRow {
-        offset,
-        period,
-        rest,
-    })
-}
-
-/// Whether an offset and a period are within the limits.
-fn is_within(offset: i64, period: i64) -> bool
-    ensures { IsTrue result → pos 1 ≤ℤ period }
-{
-    period >= 1 && period <= MOST_PERIOD && offset <= LIMIT && offset >= -LIMIT
 }
 
 /// The offset modulo the period.
@@ -167,21 +132,4 @@ fn is_reserved(name: &[u8]) -> bool {
             | b"implies"
             | b"in"
     )
-}
-
-/// The number at the front, in its one spelling, and what follows it.
-fn number_at(bytes: &[u8]) -> Option<(i64, &[u8])>
-    ensures { IfSome result (λ found. length found.1.now ≤ length bytes.now) }
-{
-    let count = bytes
-        .iter()
-        .take_while(|b| b.is_ascii_digit() || **b == b'-')
-        .count();
-    let (digits, rest) = bytes.split_at(count.min(bytes.len()));
-    let text = str::from_utf8(digits).ok()?;
-    let number = text.parse::<i64>().ok()?;
-    if itoa::Buffer::new().format(number) != text {
-        return None;
-    }
-    Some((number, rest))
 }

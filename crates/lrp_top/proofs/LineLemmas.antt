@@ -1,0 +1,55 @@
+-- Lines in pieces, and how a run ends that wrote its text whole.
+use Rattle.std.proofs.Common.{◌≡◌, ℕ, zero, suc, ◌<◌, List, [], ◌∷◌, ◌++◌, length, get_or, take, Option, Ok, Err, arith, refl, sym, ◌∙◌}
+use Rattle.std.specs.Prelude.{codes}
+use Rattle.std.specs.Borrow.{Bor}
+use Rattle.std.specs.Fmt.{decimal}
+use Rattle.std.specs.List.{flat_map}
+use Rattle.lrp_io.specs.Bytes.{appended, AppendsFront}
+use Rattle.lrp_model.specs.Kinds.{database_word}
+use Rattle.lrp_model.specs.declared.faults.DbFault.{DbFault}
+use Rattle.lrp_rel.proofs.Pieces.{item_front}
+use Rattle.lrp_top.specs.Outcomes.{Outcome, fault_line, refused_with, status_of, text_of, Ends}
+use Rattle.lrp_top.specs.declared.status.Status.{Status}
+use Rattle.lrp_top.specs.declared.status.Status.TheVariants as status
+use Rattle.lrp_top.specs.declared.outcome.Refusal.{Refusal}
+use Rattle.lrp_top.specs.declared.outcome.Refusal.TheVariants.{Usage, ReadDatabase, LongDatabase, Database, ReadQuery, LongQuery, Memory, Unbuilt}
+
+-- the seven pieces of the line of a fault
+pub fault_pieces : (f : DbFault) (a b c d e g h : List ℕ) → a ≡ codes "refused: database " → b ≡ database_word f.kind → c ≡ codes " at " → d ≡ decimal f.place.line → e ≡ codes ":" → g ≡ decimal f.place.column → h ≡ codes "\n"
+    → a ++ (b ++ (c ++ (d ++ (e ++ (g ++ (h ++ [])))))) ≡ fault_line f
+fault_pieces f a b c d e g h p q r s t u v = rw (p, q, r, s, t, u, v) refl
+
+-- an element is there, whatever stands for one that is not
+there : {A : Type 0} (xs : List A) (i : ℕ) (d : A) → i < length xs → get_or xs i d ≡ get_or xs i (get_or xs i d)
+there [] i d l = absurd (omega arith)
+there (x ∷ xs) zero d l = refl
+there (x ∷ xs) (suc i) d l = there xs i d (omega arith)
+
+-- a front of a piece behind those before it is a front of all pieces
+pub piece_front : (xs : List (Bor (List ℕ))) (i : ℕ) (d : Bor (List ℕ)) (old now new : Option (List ℕ)) → i < length xs → now ≡ appended old (flat_map (λ piece. piece.now) (take i xs)) → AppendsFront now new (get_or xs i d).now → AppendsFront old new (flat_map (λ piece. piece.now) xs)
+piece_front xs i d old now new l so_far front = item_front (λ piece. piece.now) xs i (get_or xs i d) old now new l (there xs i d l) so_far front
+
+-- no refusal has the status of a failed write
+refused_whole : (refusal : Refusal) → refused_with refusal ≡ status.Write → ⊥
+refused_whole Usage e = cc
+refused_whole ReadDatabase e = cc
+refused_whole LongDatabase e = cc
+refused_whole (Database fault) e = cc
+refused_whole ReadQuery e = cc
+refused_whole LongQuery e = cc
+refused_whole Memory e = cc
+refused_whole Unbuilt e = cc
+
+-- nor has any outcome
+not_write : (outcome : Outcome) → status_of outcome ≡ status.Write → ⊥
+not_write (Ok output) e = cc
+not_write (Err refusal) e = refused_whole refusal e
+
+-- a text that was written whole ends with its status
+pub ends_whole : (outcome : Outcome) (old new : Option (List ℕ)) (before now : ℕ) (ended : Status) → new ≡ appended old (text_of outcome) → ended ≡ status_of outcome → Ends outcome old new before now ended
+ends_whole outcome old new before now ended text own = record {
+  whole = λ other. text;
+  own_status = λ other. own;
+  front = λ e. absurd (not_write outcome (sym own ∙ e));
+  cause = λ e. absurd (not_write outcome (sym own ∙ e));
+}

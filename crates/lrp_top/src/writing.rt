@@ -1,0 +1,81 @@
+// The text of an outcome, piece by piece: no memory is taken.
+ghost use Rattle.std.specs.Prelude.{◌≡◌};
+ghost use Rattle.std.specs.List.{flat_map};
+ghost use Rattle.lrp_io.specs.Causes.{HasCause};
+ghost use Rattle.lrp_io.specs.Pieces.{IsWritten};
+ghost use Rattle.lrp_top.specs.Outcomes.{fault_line, line_of, text_of};
+
+use crate::outcome::{Output, Refusal};
+use itoa::Buffer;
+use lrp_io::{Failed, Sink, put_all};
+use lrp_model::DbFault;
+use lrp_rel::write_database;
+
+/// Writes an outcome's text, or a front of it where the sink fails.
+pub fn write_outcome<S: Sink>(out: &mut S, outcome: &Result<Output, Refusal>) -> Result<(), Failed>
+    ensures text { IsWritten (S.written out.old) (S.written out.new) (text_of outcome.now) result }
+    ensures cause { HasCause (S.faults out.old) (S.faults out.new) result }
+{
+    match outcome {
+        Ok(Output::Text(text)) => write_bytes(out, text.as_slice()),
+        Ok(Output::Relations(database)) => write_database(out, database),
+        Err(refusal) => write_refusal(out, refusal),
+    }
+}
+
+/// Writes a refusal's line.
+fn write_refusal<S: Sink>(out: &mut S, refusal: &Refusal) -> Result<(), Failed>
+    ensures text { IsWritten (S.written out.old) (S.written out.new) (line_of refusal.now) result }
+    ensures cause { HasCause (S.faults out.old) (S.faults out.new) result }
+{
+    match refusal {
+        Refusal::Usage => write_bytes(out, b"refused: usage\n"),
+        Refusal::ReadDatabase => write_bytes(out, b"refused: read of database\n"),
+        Refusal::LongDatabase => {
+            write_bytes(out, b"refused: database longer than 16777216 bytes\n")
+        }
+        Refusal::Database(fault) => write_fault(out, fault),
+        Refusal::ReadQuery => write_bytes(out, b"refused: read of query\n"),
+        Refusal::LongQuery => write_bytes(out, b"refused: query longer than 16777216 bytes\n"),
+        Refusal::Memory => write_bytes(out, b"refused: memory\n"),
+        Refusal::Unbuilt => write_bytes(out, b"refused: unbuilt\n"),
+    }
+}
+
+/// Writes the line of a fault of the database.
+fn write_fault<S: Sink>(out: &mut S, fault: &DbFault) -> Result<(), Failed>
+    ensures text { IsWritten (S.written out.old) (S.written out.new) (fault_line fault.now) result }
+    ensures cause { HasCause (S.faults out.old) (S.faults out.new) result }
+{
+    let mut line = Buffer::new();
+    let mut column = Buffer::new();
+    let pieces = [
+        b"refused: database ".as_slice(),
+        fault.kind.word().as_bytes(),
+        b" at ".as_slice(),
+        line.format(fault.place.line).as_bytes(),
+        b":".as_slice(),
+        column.format(fault.place.column).as_bytes(),
+        b"\n".as_slice(),
+    ];
+    write_pieces(out, &pieces)
+}
+
+/// Writes pieces, one after the other.
+fn write_pieces<S: Sink>(out: &mut S, pieces: &[&[u8]]) -> Result<(), Failed>
+    ensures text { IsWritten (S.written out.old) (S.written out.new) (flat_map (λ piece. piece.now) pieces.now) result }
+    ensures cause { HasCause (S.faults out.old) (S.faults out.new) result }
+{
+    for piece in pieces {
+        write_bytes(out, piece)?;
+    }
+    Ok(())
+}
+
+/// Writes these bytes.
+fn write_bytes<S: Sink>(out: &mut S, bytes: &[u8]) -> Result<(), Failed>
+    ensures text { IsWritten (S.written out.old) (S.written out.new) bytes.now result }
+    ensures cause { HasCause (S.faults out.old) (S.faults out.new) result }
+{
+    put_all(out, bytes)
+}
