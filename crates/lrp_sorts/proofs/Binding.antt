@@ -26,6 +26,7 @@ one_further : (b : Bool) (c : Bor RawColumn) (found : Option (Bor RawColumn)) (r
 one_further true c found rest e = refl
 one_further false c found rest e = e
 
+-- a binder found among references has the sort that the binders give
 pub sort_found : (cs : List (Bor RawColumn)) (n : Identifier) → binder_sort (map (λ c. c.now) cs) n ≡ option_map (λ c. c.now.sort) (find (is_of n) cs)
 sort_found [] n = refl
 sort_found (c ∷ cs) n = one_further (is_of n c) c (find (is_of n) cs) _ (sort_found cs n)

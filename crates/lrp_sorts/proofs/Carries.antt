@@ -28,6 +28,7 @@ mutual
   members_stay (raw_exists p c f) bs h = members_stay f (c ∷ bs) h
   members_stay (raw_forall p c f) bs h = members_stay f (c ∷ bs) h
 
+  -- so do those in a list
   each_stay : (fs : RawForms) (bs : Binders) → HaveMembers fs → HaveElements (plain_each fs bs)
   each_stay no_raws bs h = h
   each_stay (raw f fs) bs h = (members_stay f bs h.0, each_stay fs bs h.1)
@@ -37,6 +38,7 @@ no_points : (b : Bool) (x y : Test) → test_points x ≡ [] → test_points y �
 no_points true x y e f = e
 no_points false x y e f = f
 
+-- the kind of a comparison does not matter
 compared_points : (bs : Binders) (l : RawTerm) (op : Op) (r : RawTerm) → test_points (compare_of bs l op r) ≡ []
 compared_points bs l op r = no_points (is_equals op && is_data_term (term_sort bs l) && is_data_term (term_sort bs r)) _ _ refl refl
 
@@ -54,6 +56,7 @@ mutual
   points_stay (raw_exists p c f) bs = points_stay f (c ∷ bs)
   points_stay (raw_forall p c f) bs = points_stay f (c ∷ bs)
 
+  -- the same of lists
   all_points_stay : (fs : RawForms) (bs : Binders) → points_each (plain_each fs bs) ≡ raw_points_each fs
   all_points_stay no_raws bs = refl
   all_points_stay (raw f fs) bs = ap (λ l. l ++ points_each (plain_each fs bs)) (points_stay f bs) ∙ ap (λ l. raw_points f ++ l) (all_points_stay fs bs)

@@ -29,6 +29,7 @@ no_pairs bs ts cs (inl e) = ap (λ ts. column_faults bs ts cs) e
 no_pairs bs [] cs (inr e) = refl
 no_pairs bs (t ∷ ts) cs (inr e) = ap (column_faults bs (t ∷ ts)) e
 
+-- at the end, what was found is the whole
 pub column_end : (bs : Binders) (ts : List RawTerm) (cs : List Column) (found all : Option QueryFault) → (ts ≡ []) ⊎ (cs ≡ [])
     → sooner stands found (first stands (column_faults bs ts cs)) ≡ all → found ≡ all
 column_end bs ts cs found all e h = sym (sooner_than_none stands found) ∙ ap (λ l. sooner stands found (first stands l)) (sym (no_pairs bs ts cs e)) ∙ h

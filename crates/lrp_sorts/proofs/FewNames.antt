@@ -33,11 +33,13 @@ use Rattle.lrp_sorts.proofs.HeadNames.{left_empty, right_empty, no_fault}
 
 -- ---- the names of a list whose binder's sort passes, each once
 
+-- with one name more
 kept_more : (passes : Sort → Bool) (bs : Binders) (names kept : List Identifier) (n : Identifier) (k : IsKept passes bs names kept) (a b : Bool) → is_named_in kept n ≡ a → passing passes (binder_sort bs n) ≡ b → (more : List Identifier) × IsKept passes bs (n ∷ names) more
 kept_more passes bs names kept n k true b e f = (kept, already passes bs names kept n k e)
 kept_more passes bs names kept n k false true e f = (kept ++ n ∷ [], newly passes bs names kept n k e f)
 kept_more passes bs names kept n k false false e f = (kept, other passes bs names kept n k f)
 
+-- those of a whole list
 kept_of : (passes : Sort → Bool) (bs : Binders) (names : List Identifier) → (kept : List Identifier) × IsKept passes bs names kept
 kept_of passes bs [] = ([], record { each = λ n. refl; many = refl })
 kept_of passes bs (n ∷ names) =
@@ -49,10 +51,12 @@ apart : (n m : Identifier) (b : Bool) → bytes_eq n m ≡ b → n ≢ m → byt
 apart n m false e d = e
 apart n m true e d = absurd (d (same_name n m e))
 
+-- a name is apart from all others of the list
 all_apart : (n : Identifier) (ms : List Identifier) → AllByRecursion (λ m. n ≢ m) ms → AllByRecursion (λ m. bytes_eq n m ≡ false) ms
 all_apart n [] h = tt
 all_apart n (m ∷ ms) h = (apart n m (bytes_eq n m) refl h.0, all_apart n ms h.1)
 
+-- so different names are distinct by the test
 pub distinct : (ns : List Identifier) → AreDifferent ns → IsDistinct bytes_eq ns
 unfolding IsDistinct
 distinct [] d = tt
@@ -78,6 +82,7 @@ few passes bs names xs c d h =
 
 -- ---- the names of variables
 
+-- the name of a variable
 abbrev pub name_of : Variable → Identifier
 name_of (time_variable v) = v
 name_of (data_variable v) = v
@@ -86,21 +91,26 @@ name_of (data_variable v) = v
 abbrev pub AreNamed : List Identifier → List Variable → Type 0
 AreNamed names = AllByRecursion (λ v. is_named_in names (name_of v) ≡ true)
 
+-- the first holds
 or_left : (a b : Bool) → a ≡ true → (a || b) ≡ true
 or_left a b e = ap (λ a. a || b) e
 
+-- the second holds
 pub or_right : (a b : Bool) → b ≡ true → (a || b) ≡ true
 or_right true b e = refl
 or_right false b e = e
 
+-- more names behind
 named_front : (ns ms : List Identifier) (vs : List Variable) → AreNamed ns vs → AreNamed (ns ++ ms) vs
 named_front ns ms [] h = tt
 named_front ns ms (v ∷ vs) h = (list_any-append (bytes_eq (name_of v)) ns ms ∙ or_left _ (is_named_in ms (name_of v)) h.0, named_front ns ms vs h.1)
 
+-- more names in front
 named_behind : (ns ms : List Identifier) (vs : List Variable) → AreNamed ms vs → AreNamed (ns ++ ms) vs
 named_behind ns ms [] h = tt
 named_behind ns ms (v ∷ vs) h = (list_any-append (bytes_eq (name_of v)) ns ms ∙ or_right (is_named_in ns (name_of v)) _ h.0, named_behind ns ms vs h.1)
 
+-- two lists of variables
 named_both : (ns : List Identifier) (vs ws : List Variable) → AreNamed ns vs → AreNamed ns ws → AreNamed ns (vs ++ ws)
 named_both ns [] ws h k = k
 named_both ns (v ∷ vs) ws h k = (h.0, named_both ns vs ws h.1 k)
@@ -109,22 +119,26 @@ named_both ns (v ∷ vs) ws h k = (h.0, named_both ns vs ws h.1 k)
 pub at_front : (n : Identifier) (ns : List Identifier) → is_named_in (n ∷ ns) n ≡ true
 at_front n ns = or_left (bytes_eq n n) (is_named_in ns n) (own_name n)
 
+-- a time term names what the raw term does
 time_named : (k : RawTermKind) (p : Place) → AreNamed (term_names (record { kind = k; place = p })) (variables_of_time (time_of k))
 time_named (Int x) p = tt
 time_named (Text t) p = tt
 time_named (Var n) p = (at_front n [], tt)
 time_named (Shifted n plus) p = (at_front n [], tt)
 
+-- so does a data term
 data_named : (k : RawTermKind) (p : Place) → AreNamed (term_names (record { kind = k; place = p })) (variables_of_data (data_of k))
 data_named (Int x) p = tt
 data_named (Text t) p = tt
 data_named (Var n) p = (at_front n [], tt)
 data_named (Shifted n plus) p = tt
 
+-- and a term of either kind
 chosen_named : (k : RawTermKind) (p : Place) (b : Bool) → AreNamed (term_names (record { kind = k; place = p })) (variables_of_term (cond b (data_term (data_of k)) (time_term (time_of k))))
 chosen_named k p true = data_named k p
 chosen_named k p false = time_named k p
 
+-- and the terms of an atom
 terms_named : (bs : Binders) (ts : List RawTerm) → AreNamed (flat_map term_names ts) (flat_map variables_of_term (map (term_of bs) ts))
 terms_named bs [] = tt
 terms_named bs (t ∷ ts) =
@@ -132,6 +146,7 @@ terms_named bs (t ∷ ts) =
     (named_front (term_names t) (flat_map term_names ts) (variables_of_term (term_of bs t)) (chosen_named t.kind t.place (is_data_term (term_sort bs t))))
     (named_behind (term_names t) (flat_map term_names ts) (flat_map variables_of_term (map (term_of bs) ts)) (terms_named bs ts))
 
+-- and both sides of a comparison
 sides_named : (l : RawTerm) (op : Op) (r : RawTerm) (b : Bool) → AreNamed (term_names l ++ term_names r) (variables_of_test (cond b (Equal (data_of l.kind) (data_of r.kind)) (Compare (time_of l.kind) op (time_of r.kind))))
 sides_named l op r true =
     named_both (term_names l ++ term_names r) (variables_of_data (data_of l.kind)) (variables_of_data (data_of r.kind))
@@ -142,6 +157,7 @@ sides_named l op r false =
 
 -- ---- quantifiers
 
+-- a time variable that the quantifier does not bind
 apart_time : (c : RawColumn) (bs : Binders) (v : Identifier) (s : Sort) (b : Bool) → bytes_eq c.name v ≡ b → c.sort ≡ s → passing is_time (option_map (λ (c : RawColumn). c.sort) (cond b (Some c) (find (λ (d : RawColumn). bytes_eq d.name v) bs))) ≡ true
     → not (same_variable (bound_by s c.name) (time_variable v)) ≡ true → bytes_eq c.name v ≡ false
 apart_time c bs v s false e k h d = e
@@ -149,6 +165,7 @@ apart_time c bs v Time true e k h d = true_not (bytes_eq c.name v) e d _
 apart_time c bs v Data true e k h d = let f : is_time Data ≡ true = ap is_time (sym k) ∙ h in cc
 apart_time c bs v (Named n) true e k h d = let f : is_time (Named n) ≡ true = ap is_time (sym k) ∙ h in cc
 
+-- a data variable that it does not bind
 apart_data : (c : RawColumn) (bs : Binders) (v : Identifier) (s : Sort) (b : Bool) → bytes_eq c.name v ≡ b → c.sort ≡ s → passing is_data (option_map (λ (c : RawColumn). c.sort) (cond b (Some c) (find (λ (d : RawColumn). bytes_eq d.name v) bs))) ≡ true
     → not (same_variable (bound_by s c.name) (data_variable v)) ≡ true → bytes_eq c.name v ≡ false
 apart_data c bs v s false e k h d = e
@@ -161,6 +178,7 @@ other_name : (c : RawColumn) (bs : Binders) (w : Variable) → bound_in (c ∷ b
 other_name c bs (time_variable v) h d = apart_time c bs v c.sort (bytes_eq c.name v) refl refl h d
 other_name c bs (data_variable v) h d = apart_data c bs v c.sort (bytes_eq c.name v) refl refl h d
 
+-- one name of the list
 still_one : (c n m : Identifier) (ms rest : List Identifier) (b a : Bool) → bytes_eq c m ≡ b → bytes_eq n m ≡ a → bytes_eq c n ≡ false → (is_named_in ms n ≡ true → is_named_in rest n ≡ true) → (a || is_named_in ms n) ≡ true → is_named_in (cond (not b) (m ∷ rest) rest) n ≡ true
 still_one c n m ms rest true true e f d r h =
     let s : c ≡ n = same_name c m e ∙ sym (same_name n m f) in
@@ -170,14 +188,17 @@ still_one c n m ms rest true false e f d r h = r h
 still_one c n m ms rest false true e f d r h = or_left (bytes_eq n m) (is_named_in rest n) f
 still_one c n m ms rest false false e f d r h = or_right (bytes_eq n m) (is_named_in rest n) (r h)
 
+-- another name is still there without the quantifier's
 still_named : (c : Identifier) (names : List Identifier) (n : Identifier) → bytes_eq c n ≡ false → is_named_in names n ≡ true → is_named_in (without c names) n ≡ true
 still_named c [] n d h = h
 still_named c (m ∷ ms) n d h = still_one c n m ms (without c ms) (bytes_eq c m) (bytes_eq n m) refl refl d (still_named c ms n d) h
 
+-- one variable, if the quantifier does not bind it
 one_named : (c : RawColumn) (bs : Binders) (names : List Identifier) (v : Variable) (ws : List Variable) (b : Bool) → bound_in (c ∷ bs) v ≡ true → is_named_in names (name_of v) ≡ true → not (same_variable (bound_by c.sort c.name) v) ≡ b → AreNamed (without c.name names) ws → AreNamed (without c.name names) (cond b (v ∷ ws) ws)
 one_named c bs names v ws true h k e r = (still_named c.name names (name_of v) (other_name c bs v h e) k, r)
 one_named c bs names v ws false h k e r = r
 
+-- all that it does not bind
 others_named : (c : RawColumn) (bs : Binders) (names : List Identifier) (vs : List Variable) → AreBound (c ∷ bs) vs → AreNamed names vs → AreNamed (without c.name names) (filter (λ w. not (same_variable (bound_by c.sort c.name) w)) vs)
 others_named c bs names [] h k = tt
 others_named c bs names (v ∷ vs) h k = one_named c bs names v (filter (λ w. not (same_variable (bound_by c.sort c.name) w)) vs) (not (same_variable (bound_by c.sort c.name) v)) h.0 k.0 refl (others_named c bs names vs h.1 k.1)
@@ -188,6 +209,7 @@ others_named c bs names (v ∷ vs) h k = one_named c bs names v (filter (λ w. n
 under : (db : List Relation) (bs : Binders) (c : RawColumn) (f : RawForm) → binder_faults db bs c ++ widened (c ∷ bs) (c.name ∷ []) f (form_faults f db (c ∷ bs)) ≡ [] → widened (c ∷ bs) (c.name ∷ []) f (form_faults f db (c ∷ bs)) ≡ []
 under db bs c f e = right_empty (binder_faults db bs c) (widened (c ∷ bs) (c.name ∷ []) f (form_faults f db (c ∷ bs))) e
 
+-- the free variables have names that occur free
 mutual
   pub free_named : (f : RawForm) (db : List Relation) (bs : Binders) → form_faults f db bs ≡ [] → AreNamed (free_names f) (free (plain f bs))
   free_named (raw_atom p n ts) db bs e = terms_named bs ts
@@ -206,6 +228,7 @@ mutual
   free_named (raw_exists p c f) db bs e = let h = inside db (c ∷ bs) (c.name ∷ []) f (under db bs c f e) in others_named c bs (free_names f) (free (plain f (c ∷ bs))) (free_bound f db (c ∷ bs) h) (free_named f db (c ∷ bs) h)
   free_named (raw_forall p c f) db bs e = let h = inside db (c ∷ bs) (c.name ∷ []) f (under db bs c f e) in others_named c bs (free_names f) (free (plain f (c ∷ bs))) (free_bound f db (c ∷ bs) h) (free_named f db (c ∷ bs) h)
 
+  -- the same of lists
   free_each_named : (fs : RawForms) (db : List Relation) (bs : Binders) → forms_faults fs db bs ≡ [] → AreNamed (free_names_each fs) (free_each (plain_each fs bs))
   free_each_named no_raws db bs e = tt
   free_each_named (raw f fs) db bs e =
@@ -221,27 +244,34 @@ pub of_all : {X : Type 0} (p : X → Type 0) (xs : List X) (x : X) → AllByRecu
 of_all p [] x h c = absurd (contains_none x c)
 of_all p (y ∷ ys) x h c = ⊎_elim (λ e. subst p e h.0) (λ d. of_all p ys x h.1 d) (cons_cases y x ys c)
 
+-- what follows for each element holds of all
 pub of_each : {X : Type 0} (p q : X → Type 0) (xs : List X) → ((x : X) → p x → q x) → AllByRecursion p xs → AllByRecursion q xs
 of_each p q [] f h = tt
 of_each p q (x ∷ xs) f h = (f x h.0, of_each p q xs f h.1)
 
+-- neither holds, so the first does not
 neither_left : (a b : Bool) → (a || b) ≡ false → a ≡ false
 neither_left true b e = e
 neither_left false b e = refl
 
+-- neither holds, so the second does not
 neither_right : (a b : Bool) → (a || b) ≡ false → b ≡ false
 neither_right true b e = cc
 neither_right false b e = e
 
+-- a number that is not above 8
 few_one : (a : ℕ) (b : Bool) → nat_lt 8 a ≡ b → nat_lt 8 a ≡ false → a ≤ 8
 few_one a b e f = grind (arith, nat_tests)
 
+-- of two that are not, the first
 few_left : (a b : ℕ) → (nat_lt 8 a || nat_lt 8 b) ≡ false → a ≤ 8
 few_left a b e = few_one a (nat_lt 8 a) refl (neither_left (nat_lt 8 a) _ e)
 
+-- and the second
 few_right : (a b : ℕ) → (nat_lt 8 a || nat_lt 8 b) ≡ false → b ≤ 8
 few_right a b e = few_one b (nat_lt 8 b) refl (neither_right (nat_lt 8 a) _ e)
 
+-- variables that are bound, and whose names are those of a list that is not too wide, are few
 pub narrow : (bs : Binders) (names : List Identifier) (vs : List Variable) → too_many bs names ≡ false → AreBound bs vs → AreNamed names vs → IsNarrow vs
 narrow bs names vs w h k = record {
   times = λ xs d c. few is_time bs names xs (few_left (count is_time bs names) (count is_data bs names) w) d (of_each (λ n. Contains vs (time_variable n)) (λ n. (is_named_in names n ≡ true) × (passing is_time (binder_sort bs n) ≡ true)) xs
@@ -259,6 +289,7 @@ narrow bs names vs w h k = record {
 pub width_of : (db : List Relation) (bs : Binders) (names : List Identifier) (f : RawForm) → widened bs names f (form_faults f db bs) ≡ [] → too_many bs (names ++ free_names f) ≡ false
 width_of db bs names f e = no_fault (too_many bs (names ++ free_names f)) (fault Wide (place_of f)) (left_empty (fault_if (too_many bs (names ++ free_names f)) (fault Wide (place_of f))) (form_faults f db bs) e)
 
+-- a part of a list that is not too wide is not
 not_wider : (bs : Binders) (ms ns : List Identifier) (b : Bool) → too_many bs ns ≡ b → too_many bs (ms ++ ns) ≡ false → too_many bs ns ≡ false
 not_wider bs ms ns false e h = e
 not_wider bs ms ns true e h = let f : too_many bs (ms ++ ns) ≡ true = still_too_many bs ms ns e in cc
@@ -268,15 +299,18 @@ own_time : (c : RawColumn) (bs : Binders) (s : Sort) (b : Bool) → c.sort ≡ s
 own_time c bs s true k e t h = ap is_time k ∙ h
 own_time c bs s false k e t h = cc
 
+-- the same of a data variable
 own_data : (c : RawColumn) (bs : Binders) (s : Sort) (b : Bool) → c.sort ≡ s → bytes_eq c.name c.name ≡ b → b ≡ true → is_data s ≡ true → passing is_data (option_map (λ (c : RawColumn). c.sort) (cond b (Some c) (find (λ (d : RawColumn). bytes_eq d.name c.name) bs))) ≡ true
 own_data c bs s true k e t h = ap is_data k ∙ h
 own_data c bs s false k e t h = cc
 
+-- of either
 own_sorted : (c : RawColumn) (bs : Binders) (s : Sort) → c.sort ≡ s → bound_in (c ∷ bs) (bound_by s c.name) ≡ true
 own_sorted c bs Time k = own_time c bs Time (bytes_eq c.name c.name) k refl (own_name c.name) refl
 own_sorted c bs Data k = own_data c bs Data (bytes_eq c.name c.name) k refl (own_name c.name) refl
 own_sorted c bs (Named n) k = own_data c bs (Named n) (bytes_eq c.name c.name) k refl (own_name c.name) refl
 
+-- its name is the first
 own_named : (c : RawColumn) (names : List Identifier) (s : Sort) → is_named_in (c.name ∷ names) (name_of (bound_by s c.name)) ≡ true
 own_named c names Time = at_front c.name names
 own_named c names Data = at_front c.name names
@@ -290,6 +324,7 @@ quantified c f db bs e =
     (own_sorted c bs c.sort refl, free_bound f db (c ∷ bs) h)
     (own_named c (free_names f) c.sort, named_behind (c.name ∷ []) (free_names f) (free (plain f (c ∷ bs))) (free_named f db (c ∷ bs) h))
 
+-- each formula inside has few variables
 mutual
   pub scopes_narrow : (f : RawForm) (db : List Relation) (bs : Binders) → form_faults f db bs ≡ [] → too_many bs (free_names f) ≡ false → EachScope IsNarrow (plain f bs)
   scopes_narrow (raw_atom p n ts) db bs e w = narrow bs _ _ w (free_bound (raw_atom p n ts) db bs e) (free_named (raw_atom p n ts) db bs e)
@@ -312,6 +347,7 @@ mutual
       let h = under db bs c f e in
       (quantified c f db bs h, scopes_narrow f db (c ∷ bs) (inside db (c ∷ bs) (c.name ∷ []) f h) (not_wider (c ∷ bs) (c.name ∷ []) (free_names f) (too_many (c ∷ bs) (free_names f)) refl (width_of db (c ∷ bs) (c.name ∷ []) f h)))
 
+  -- the same of lists
   all_scopes_narrow : (fs : RawForms) (db : List Relation) (bs : Binders) → forms_faults fs db bs ≡ [] → EachOfScope IsNarrow (plain_each fs bs)
   all_scopes_narrow no_raws db bs e = tt
   all_scopes_narrow (raw f fs) db bs e =

@@ -33,54 +33,66 @@ abbrev pub bound_in : Binders → Variable → Bool
 bound_in bs (time_variable v) = passing is_time (binder_sort bs v)
 bound_in bs (data_variable v) = passing is_data (binder_sort bs v)
 
+-- all of them have
 abbrev pub AreBound : Binders → List Variable → Type 0
 AreBound bs = AllByRecursion (λ v. bound_in bs v ≡ true)
 
+-- two lists
 both_bound : (bs : Binders) (vs ws : List Variable) → AreBound bs vs → AreBound bs ws → AreBound bs (vs ++ ws)
 both_bound bs [] ws h k = k
 both_bound bs (v ∷ vs) ws h k = (h.0, both_bound bs vs ws h.1 k)
 
 -- ---- terms
 
+-- what is not false is true
 not_false : (b : Bool) → not b ≡ false → b ≡ true
 not_false true h = refl
 not_false false h = sym h
 
+-- a sort that is no data sort is that of times
 time_again : (s : Sort) → is_data s ≡ false → is_time s ≡ true
 time_again s e = not_false (is_time s) e
 
 module _ (bs : Binders) where
+  -- a name alone that is no data term is bound as a time variable
   time_name : (n : Identifier) (p : Place) (shifted : Bool) (s : Option Sort) → binder_sort bs n ≡ s → variable_faults s shifted p ≡ [] → (IsData : passing is_data s ≡ false) → passing is_time (binder_sort bs n) ≡ true
   time_name n p shifted None e f d = cc
   time_name n p shifted (Some s) e f d = ap (passing is_time) e ∙ time_again s d
 
+  -- so is one with an offset, where that is no fault
   shifted_time : (n : Identifier) (p : Place) (s : Option Sort) → binder_sort bs n ≡ s → variable_faults s true p ≡ [] → passing is_time (binder_sort bs n) ≡ true
   shifted_time n p None e f = cc
   shifted_time n p (Some s) e f = ap (passing is_time) e ∙ time_again s (no_fault (is_data s) (fault WrongSort p) f)
 
+  -- whether a name alone is a data term is told by its binder
   alone_data : (s : Option Sort) (b : Bool) → is_data_term (alone_sort s) ≡ b → passing is_data s ≡ b
   alone_data None b e = e
   alone_data (Some s) b e = e
 
+  -- a term that is no data term has bound time variables
   time_bound : (k : RawTermKind) (p : Place) → kind_faults bs k p ≡ [] → is_data_term (kind_sort bs k) ≡ false → AreBound bs (variables_of_time (time_of k))
   time_bound (Int x) p f d = tt
   time_bound (Text t) p f d = tt
   time_bound (Var n) p f d = (time_name n p false (binder_sort bs n) refl f (alone_data (binder_sort bs n) false d), tt)
   time_bound (Shifted n plus) p f d = (shifted_time n p (binder_sort bs n) refl f, tt)
 
+  -- a data term has bound data variables
   data_bound : (k : RawTermKind) (p : Place) → kind_faults bs k p ≡ [] → is_data_term (kind_sort bs k) ≡ true → AreBound bs (variables_of_data (data_of k))
   data_bound (Int x) p f d = tt
   data_bound (Text t) p f d = tt
   data_bound (Var n) p f d = (alone_data (binder_sort bs n) true d, tt)
   data_bound (Shifted n plus) p f d = tt
 
+  -- a term of either kind
   chosen_bound : (k : RawTermKind) (p : Place) (b : Bool) → kind_faults bs k p ≡ [] → is_data_term (kind_sort bs k) ≡ b → AreBound bs (variables_of_term (cond b (data_term (data_of k)) (time_term (time_of k))))
   chosen_bound k p true f d = data_bound k p f d
   chosen_bound k p false f d = time_bound k p f d
 
+  -- a term by its sort
   term_bound : (t : RawTerm) → term_faults bs t ≡ [] → AreBound bs (variables_of_term (term_of bs t))
   term_bound t f = chosen_bound t.kind t.place (is_data_term (kind_sort bs t.kind)) f refl
 
+  -- the terms of an atom
   terms_bound : (ts : List RawTerm) → flat_map (term_faults bs) ts ≡ [] → AreBound bs (flat_map variables_of_term (map (term_of bs) ts))
   terms_bound [] f = tt
   terms_bound (t ∷ ts) f = both_bound bs (variables_of_term (term_of bs t)) _ (term_bound t (left_empty (term_faults bs t) (flat_map (term_faults bs) ts) f)) (terms_bound ts (right_empty (term_faults bs t) (flat_map (term_faults bs) ts) f))
@@ -93,14 +105,17 @@ HasSort (of_sort s) = Unit {0}
 HasSort any_data = Unit {0}
 HasSort unsorted = ⊥
 
+-- a name with a binder has a sort
 alone_has : (s : Option Sort) (p : Place) → variable_faults s false p ≡ [] → HasSort (alone_sort s)
 alone_has None p f = cc
 alone_has (Some s) p f = tt
 
+-- with an offset too
 shifted_has : (s : Option Sort) (p : Place) → variable_faults s true p ≡ [] → HasSort (shifted_sort s)
 shifted_has None p f = cc
 shifted_has (Some s) p f = tt
 
+-- so has each term without a fault
 has_sort_of : (bs : Binders) (k : RawTermKind) (p : Place) → kind_faults bs k p ≡ [] → HasSort (kind_sort bs k)
 has_sort_of bs (Int x) p f = tt
 has_sort_of bs (Text t) p f = tt
@@ -119,6 +134,7 @@ same_kind (Named n) Time e = cc
 same_kind (Named n) Data e = refl
 same_kind (Named n) (Named m) e = refl
 
+-- sides that are not unlike are both data terms, or neither is
 alike : (a b : TermSort) → HasSort a → HasSort b → unlike a b ≡ false → is_data_term a ≡ is_data_term b
 alike (of_sort s) (of_sort t) h k e = same_kind s t e
 alike (of_sort s) any_data h k e = ap not e
@@ -129,18 +145,22 @@ alike (of_sort s) unsorted h k e = absurd k
 alike any_data unsorted h k e = absurd k
 
 module _ (bs : Binders) (l r : RawTerm) (fl : term_faults bs l ≡ []) (fr : term_faults bs r ≡ []) where
+  -- two time terms
   times_bound : is_data_term (term_sort bs l) ≡ false → is_data_term (term_sort bs r) ≡ false → AreBound bs (variables_of_time (time_of l.kind) ++ variables_of_time (time_of r.kind))
   times_bound dl dr = both_bound bs (variables_of_time (time_of l.kind)) _ (time_bound bs l.kind l.place fl dl) (time_bound bs r.kind r.place fr dr)
 
+  -- two terms of one kind in an `=`
   equal_bound : (b : Bool) → is_data_term (term_sort bs l) ≡ b → is_data_term (term_sort bs r) ≡ b → AreBound bs (variables_of_test (cond (true && b && b) (Equal (data_of l.kind) (data_of r.kind)) (Compare (time_of l.kind) Eq (time_of r.kind))))
   equal_bound true dl dr = both_bound bs (variables_of_data (data_of l.kind)) _ (data_bound bs l.kind l.place fl dl) (data_bound bs r.kind r.place fr dr)
   equal_bound false dl dr = times_bound dl dr
 
+  -- two terms in another comparison
   ordered : (op : Op) → time_faults bs l ++ time_faults bs r ≡ [] → AreBound bs (variables_of_time (time_of l.kind) ++ variables_of_time (time_of r.kind))
   ordered op f =
       times_bound (no_fault (is_data_term (term_sort bs l)) (fault WrongSort l.place) (left_empty (time_faults bs l) (time_faults bs r) f))
       (no_fault (is_data_term (term_sort bs r)) (fault WrongSort r.place) (right_empty (time_faults bs l) (time_faults bs r) f))
 
+  -- the sides of each comparison
   compare_bound : (op : Op) → compare_faults bs l op r ≡ [] → AreBound bs (variables_of_test (compare_of bs l op r))
   compare_bound Eq f =
       let same : is_data_term (term_sort bs l) ≡ is_data_term (term_sort bs r) =
@@ -154,10 +174,12 @@ module _ (bs : Binders) (l r : RawTerm) (fl : term_faults bs l ≡ []) (fr : ter
 
 -- ---- quantifiers
 
+-- a test and its denial do not hold together
 pub true_not : (b : Bool) → b ≡ true → not b ≡ true → (A : Type 0) → A
 true_not true e f A = cc
 true_not false e f A = cc
 
+-- a time variable that the quantifier does not bind is bound outside
 outside_time : (c : RawColumn) (bs : Binders) (v : Identifier) (s : Sort) (b : Bool) → bytes_eq c.name v ≡ b → c.sort ≡ s → passing is_time (option_map (λ (c : RawColumn). c.sort) (cond b (Some c) (find (λ (d : RawColumn). bytes_eq d.name v) bs))) ≡ true
     → not (same_variable (bound_by s c.name) (time_variable v)) ≡ true → bound_in bs (time_variable v) ≡ true
 outside_time c bs v s false e k h d = h
@@ -165,6 +187,7 @@ outside_time c bs v Time true e k h d = true_not (bytes_eq c.name v) e d _
 outside_time c bs v Data true e k h d = let f : is_time Data ≡ true = ap is_time (sym k) ∙ h in cc
 outside_time c bs v (Named n) true e k h d = let f : is_time (Named n) ≡ true = ap is_time (sym k) ∙ h in cc
 
+-- so is such a data variable
 outside_data : (c : RawColumn) (bs : Binders) (v : Identifier) (s : Sort) (b : Bool) → bytes_eq c.name v ≡ b → c.sort ≡ s → passing is_data (option_map (λ (c : RawColumn). c.sort) (cond b (Some c) (find (λ (d : RawColumn). bytes_eq d.name v) bs))) ≡ true
     → not (same_variable (bound_by s c.name) (data_variable v)) ≡ true → bound_in bs (data_variable v) ≡ true
 outside_data c bs v s false e k h d = h
@@ -172,6 +195,7 @@ outside_data c bs v Time true e k h d = let f : is_data Time ≡ true = ap is_da
 outside_data c bs v Data true e k h d = true_not (bytes_eq c.name v) e d _
 outside_data c bs v (Named n) true e k h d = true_not (bytes_eq c.name v) e d _
 
+-- and a variable of either kind
 outside : (c : RawColumn) (bs : Binders) (w : Variable) → bound_in (c ∷ bs) w ≡ true → not (same_variable (bound_by c.sort c.name) w) ≡ true → bound_in bs w ≡ true
 outside c bs (time_variable v) h d = outside_time c bs v c.sort (bytes_eq c.name v) refl refl h d
 outside c bs (data_variable v) h d = outside_data c bs v c.sort (bytes_eq c.name v) refl refl h d
@@ -192,6 +216,7 @@ others_bound c bs (v ∷ vs) h = one_other c bs v (filter (λ w. not (same_varia
 pub inside : (db : List Relation) (bs : Binders) (names : List Identifier) (f : RawForm) → widened bs names f (form_faults f db bs) ≡ [] → form_faults f db bs ≡ []
 inside db bs names f e = right_empty (fault_if (too_many bs (names ++ free_names f)) (fault Wide (place_of f))) (form_faults f db bs) e
 
+-- the free variables of a formula without faults have binders of their kinds
 mutual
   pub free_bound : (f : RawForm) (db : List Relation) (bs : Binders) → form_faults f db bs ≡ [] → AreBound bs (free (plain f bs))
   free_bound (raw_atom p n ts) db bs e = terms_bound bs ts (left_empty (flat_map (term_faults bs) ts) (atom_faults bs p ts (relation_named db n)) e)
@@ -211,6 +236,7 @@ mutual
   free_bound (raw_exists p c f) db bs e = others_bound c bs (free (plain f (c ∷ bs))) (free_bound f db (c ∷ bs) (inside db (c ∷ bs) (c.name ∷ []) f (right_empty (binder_faults db bs c) (widened (c ∷ bs) (c.name ∷ []) f (form_faults f db (c ∷ bs))) e)))
   free_bound (raw_forall p c f) db bs e = others_bound c bs (free (plain f (c ∷ bs))) (free_bound f db (c ∷ bs) (inside db (c ∷ bs) (c.name ∷ []) f (right_empty (binder_faults db bs c) (widened (c ∷ bs) (c.name ∷ []) f (form_faults f db (c ∷ bs))) e)))
 
+  -- the same of lists
   pub free_each_bound : (fs : RawForms) (db : List Relation) (bs : Binders) → forms_faults fs db bs ≡ [] → AreBound bs (free_each (plain_each fs bs))
   free_each_bound no_raws db bs e = tt
   free_each_bound (raw f fs) db bs e =
@@ -219,10 +245,12 @@ mutual
 
 -- ---- the head
 
+-- the second holds
 or_so : (a b : Bool) → b ≡ true → (a || b) ≡ true
 or_so true b e = refl
 or_so false b e = e
 
+-- a time variable with such a binder is among the columns
 at_time : (c : RawColumn) (bs : Binders) (n : Identifier) (s : Sort) (b : Bool) → bytes_eq c.name n ≡ b → c.sort ≡ s → passing is_time (option_map (λ (c : RawColumn). c.sort) (cond b (Some c) (find (λ (d : RawColumn). bytes_eq d.name n) bs))) ≡ true
     → (passing is_time (binder_sort bs n) ≡ true → list_any (same_variable (time_variable n)) (map (λ c. bound_by c.sort c.name) bs) ≡ true)
     → (same_variable (time_variable n) (bound_by s c.name) || list_any (same_variable (time_variable n)) (map (λ c. bound_by c.sort c.name) bs)) ≡ true
@@ -231,6 +259,7 @@ at_time c bs n Time true e k h r = ap (λ b. b || list_any (same_variable (time_
 at_time c bs n Data true e k h r = let f : is_time Data ≡ true = ap is_time (sym k) ∙ h in cc
 at_time c bs n (Named m) true e k h r = let f : is_time (Named m) ≡ true = ap is_time (sym k) ∙ h in cc
 
+-- so is a data variable
 at_data : (c : RawColumn) (bs : Binders) (n : Identifier) (s : Sort) (b : Bool) → bytes_eq c.name n ≡ b → c.sort ≡ s → passing is_data (option_map (λ (c : RawColumn). c.sort) (cond b (Some c) (find (λ (d : RawColumn). bytes_eq d.name n) bs))) ≡ true
     → (passing is_data (binder_sort bs n) ≡ true → list_any (same_variable (data_variable n)) (map (λ c. bound_by c.sort c.name) bs) ≡ true)
     → (same_variable (data_variable n) (bound_by s c.name) || list_any (same_variable (data_variable n)) (map (λ c. bound_by c.sort c.name) bs)) ≡ true
@@ -246,20 +275,24 @@ bound_among [] (data_variable n) h = h
 bound_among (c ∷ bs) (time_variable n) h = at_time c bs n c.sort (bytes_eq c.name n) refl refl h (bound_among bs (time_variable n))
 bound_among (c ∷ bs) (data_variable n) h = at_data c bs n c.sort (bytes_eq c.name n) refl refl h (bound_among bs (data_variable n))
 
+-- the order of two does not matter
 or_turned : (a b : Bool) → (a || b) ≡ (b || a)
 or_turned true true = refl
 or_turned true false = refl
 or_turned false true = refl
 or_turned false false = refl
 
+-- what is false adds nothing
 either_nil : (b : Bool) → (b || false) ≡ b
 either_nil true = refl
 either_nil false = refl
 
+-- nor does the grouping of three
 or_thrice : (a b c : Bool) → ((a || b) || c) ≡ (a || (b || c))
 or_thrice true b c = refl
 or_thrice false b c = refl
 
+-- a column at the end is tried last
 any_mapped : (p : Variable → Bool) (ds : Binders) (c : RawColumn) → list_any p (map (λ c. bound_by c.sort c.name) (ds ++ c ∷ [])) ≡ (list_any p (map (λ c. bound_by c.sort c.name) ds) || p (bound_by c.sort c.name))
 any_mapped p [] c = either_nil (p (bound_by c.sort c.name))
 any_mapped p (d ∷ ds) c = ap (λ b. p (bound_by d.sort d.name) || b) (any_mapped p ds c) ∙ sym (or_thrice (p (bound_by d.sort d.name)) (list_any p (map (λ c. bound_by c.sort c.name) ds)) (p (bound_by c.sort c.name)))
@@ -273,6 +306,7 @@ any_turned p (c ∷ cs) =
     ∙ ap (λ b. b || p (bound_by c.sort c.name)) (any_turned p cs)
     ∙ or_turned (list_any p (head_variables (map column_of cs))) (p (bound_by c.sort c.name))
 
+-- both hold
 and_so : (a b : Bool) → a ≡ true → b ≡ true → (a && b) ≡ true
 and_so true b e f = f
 and_so false b e f = cc

@@ -16,6 +16,7 @@ pub left_empty : {A : Type 0} (xs ys : List A) → xs ++ ys ≡ [] → xs ≡ []
 left_empty [] ys e = refl
 left_empty (x ∷ xs) ys e = cc
 
+-- the second one too
 pub right_empty : {A : Type 0} (xs ys : List A) → xs ++ ys ≡ [] → ys ≡ []
 right_empty [] ys e = e
 right_empty (x ∷ xs) ys e = cc
@@ -25,6 +26,7 @@ pub no_fault : {F : Type 0} (b : Bool) (f : F) → fault_if b f ≡ [] → b ≡
 no_fault false f e = refl
 no_fault true f e = cc
 
+-- the second holds
 or_right : (a b : Bool) → b ≡ true → (a || b) ≡ true
 or_right true b e = refl
 or_right false b e = e

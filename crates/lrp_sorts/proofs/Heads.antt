@@ -26,6 +26,7 @@ use Rattle.lrp_sorts.proofs.Binding.{bound_names}
 abbrev pub one_more_of : Bool → Before → Before
 one_more_of b k = cond b (record k { times = k.times + 1 }) (record k { texts = k.texts + 1 })
 
+-- the fault of a column, and those of what follows
 ninth_split : (F : Place → QueryFault) (k : Before) (f : QueryFault) (cs : List RawColumn) (b : Bool)
     → first stands (cond b (fault_if (k.times == 8) f ++ ninth F (k.times + 1) k.texts cs) (fault_if (k.texts == 8) f ++ ninth F k.times (k.texts + 1) cs))
     ≡ sooner stands (first stands (fault_if (cond b (k.times == 8) (k.texts == 8)) f)) (first stands (ninth F (one_more_of b k).times (one_more_of b k).texts cs))
@@ -49,6 +50,7 @@ ninth_step F k l cs i c found next own all full lt is n o f e h =
 
 -- ---- the binders, each among those before it
 
+-- one column more has the faults of its binder
 head_faults-more : (db : List Relation) (bs : Binders) (cs : List RawColumn) (c : RawColumn) → head_faults db bs (cs ++ c ∷ []) ≡ head_faults db bs cs ++ binder_faults db (reverse cs ++ bs) c
 head_faults-more db bs [] c = append-nil (binder_faults db bs c)
 head_faults-more db bs (d ∷ cs) c =
@@ -80,10 +82,12 @@ one_column_faults db cs i c found next own bound lt is n o b f =
 
 -- ---- the map from names to sorts
 
+-- whether the name is the column's or not
 kept_choice : (b : Bool) (s : Bor Sort) (old : Option (Bor Sort)) → option_map (λ (s : Bor Sort). s.now) (cond b (Some s) old) ≡ cond b (Some s.now) (option_map (λ (s : Bor Sort). s.now) old)
 kept_choice true s old = refl
 kept_choice false s old = refl
 
+-- the same of the binder
 sort_choice : (b : Bool) (c : RawColumn) (found : Option RawColumn) → cond b (Some c.sort) (option_map (λ (c : RawColumn). c.sort) found) ≡ option_map (λ (c : RawColumn). c.sort) (cond b (Some c) found)
 sort_choice true c found = refl
 sort_choice false c found = refl

@@ -17,14 +17,17 @@ one_mapped f xs i x made y lt is m e =
     ap (λ l. l ++ y ∷ []) m ∙ ap (λ z. map f (take i xs) ++ z ∷ []) e ∙ sym (map-append f (take i xs) (x ∷ []))
     ∙ ap (λ z. map f (take i xs ++ z ∷ [])) is ∙ ap (map f) (sym (take_more xs i x lt))
 
+-- an `and` of the plain members
 pub and_plain : (f : RawFormula) (v : Vec RawFormula Global) (w : Vec Formula Global) (fs : List RawFormula) (bs : Binders) → f.kind ≡ And v → fs ≡ v.items → forms_of w.items ≡ plain_each (raw_forms_of fs) bs → form_of (and_formula w) ≡ plain (raw_form_of f) bs
 and_plain f v w fs bs e i h =
     form_of-And w ∙ ap conjunction (h ∙ ap (λ fs. plain_each (raw_forms_of fs) bs) i) ∙ ap (λ g. plain g bs) (sym (ap (λ k. raw_kind k f.place) e ∙ raw_kind-And v f.place))
 
+-- an `or` of them
 pub or_plain : (f : RawFormula) (v : Vec RawFormula Global) (w : Vec Formula Global) (fs : List RawFormula) (bs : Binders) → f.kind ≡ Or v → fs ≡ v.items → forms_of w.items ≡ plain_each (raw_forms_of fs) bs → form_of (or_formula w) ≡ plain (raw_form_of f) bs
 or_plain f v w fs bs e i h =
     form_of-Or w ∙ ap disjunction (h ∙ ap (λ fs. plain_each (raw_forms_of fs) bs) i) ∙ ap (λ g. plain g bs) (sym (ap (λ k. raw_kind k f.place) e ∙ raw_kind-Or v f.place))
 
+-- the plain members of two lists
 plain_each-append : (fs gs : List RawFormula) (bs : Binders) → plain_each (raw_forms_of (fs ++ gs)) bs ≡ joined (plain_each (raw_forms_of fs) bs) (plain_each (raw_forms_of gs) bs)
 plain_each-append [] gs bs = refl
 plain_each-append (f ∷ fs) gs bs = ap (form (plain (raw_form_of f) bs)) (plain_each-append fs gs bs)

@@ -21,18 +21,23 @@ use Rattle.lrp_sorts.specs.Widths.{names_behind}
 
 -- ---- nodes of the tree in memory
 
+-- a `not`
 pub raw_kind-Not : (b : Box RawFormula Global) (p : Place) → raw_kind (Not b) p ≡ raw_not p (raw_form_of b.value)
 raw_kind-Not b p = search (rules, the_lemmas)
 
+-- a formula in parentheses
 pub raw_kind-Group : (b : Box RawFormula Global) (p : Place) → raw_kind (Group b) p ≡ raw_group p (raw_form_of b.value)
 raw_kind-Group b p = search (rules, the_lemmas)
 
+-- an `implies`
 pub raw_kind-Implies : (b d : Box RawFormula Global) (p : Place) → raw_kind (Implies b d) p ≡ raw_implies p (raw_form_of b.value) (raw_form_of d.value)
 raw_kind-Implies b d p = search (rules, the_lemmas)
 
+-- an `exists`
 pub raw_kind-Exists : (c : RawColumn) (b : Box RawFormula Global) (p : Place) → raw_kind (Exists c b) p ≡ raw_exists p c (raw_form_of b.value)
 raw_kind-Exists c b p = search (rules, the_lemmas)
 
+-- a `forall`
 pub raw_kind-Forall : (c : RawColumn) (b : Box RawFormula Global) (p : Place) → raw_kind (Forall c b) p ≡ raw_forall p c (raw_form_of b.value)
 raw_kind-Forall c b p = search (rules, the_lemmas)
 
@@ -56,6 +61,7 @@ pub fault_then : {E : Type 0} (r : Result Finding E) (a b : Option QueryFault) �
 fault_then (Ok x) a b e h = h ∙ e
 fault_then (Err x) a b e h = h
 
+-- the same of names
 pub free_then : {E : Type 0} (r : Result Finding E) (a b : List Identifier) → a ≡ b → IfOk r (λ made. names_behind made.free.items ≡ a) → IfOk r (λ made. names_behind made.free.items ≡ b)
 free_then (Ok x) a b e h = h ∙ e
 free_then (Err x) a b e h = h
@@ -75,20 +81,25 @@ module _ (db : List Relation) (bs : Binders) where
 
   -- ---- the faults of nodes
 
+  -- those of a `not`
   pub not_faults : (f : RawFormula) (b : Box RawFormula Global) → f.kind ≡ Not b
       → first stands (widened bs [] (raw_form_of b.value) (form_faults (raw_form_of b.value) db bs)) ≡ first stands (form_faults (raw_form_of f) db bs)
   not_faults f b e = ap (λ g. first stands (form_faults g db bs)) (sym (ap (λ k. raw_kind k f.place) e ∙ raw_kind-Not b f.place))
 
+  -- of a formula in parentheses
   pub group_faults : (f : RawFormula) (b : Box RawFormula Global) → f.kind ≡ Group b
       → first stands (widened bs [] (raw_form_of b.value) (form_faults (raw_form_of b.value) db bs)) ≡ first stands (form_faults (raw_form_of f) db bs)
   group_faults f b e = ap (λ g. first stands (form_faults g db bs)) (sym (ap (λ k. raw_kind k f.place) e ∙ raw_kind-Group b f.place))
 
+  -- of an `and`
   pub and_faults : (f : RawFormula) (v : Vec RawFormula Global) → f.kind ≡ And v → first stands (forms_faults (raw_forms_of v.items) db bs) ≡ first stands (form_faults (raw_form_of f) db bs)
   and_faults f v e = ap (λ g. first stands (form_faults g db bs)) (sym (ap (λ k. raw_kind k f.place) e ∙ raw_kind-And v f.place))
 
+  -- of an `or`
   pub or_faults : (f : RawFormula) (v : Vec RawFormula Global) → f.kind ≡ Or v → first stands (forms_faults (raw_forms_of v.items) db bs) ≡ first stands (form_faults (raw_form_of f) db bs)
   or_faults f v e = ap (λ g. first stands (form_faults g db bs)) (sym (ap (λ k. raw_kind k f.place) e ∙ raw_kind-Or v f.place))
 
+  -- of an `implies`
   pub implies_faults : (f : RawFormula) (b d : Box RawFormula Global) → f.kind ≡ Implies b d
       → sooner stands (first stands (widened bs [] (raw_form_of b.value) (form_faults (raw_form_of b.value) db bs))) (first stands (widened bs [] (raw_form_of d.value) (form_faults (raw_form_of d.value) db bs)))
       ≡ first stands (form_faults (raw_form_of f) db bs)
@@ -96,6 +107,7 @@ module _ (db : List Relation) (bs : Binders) where
       sym (first_of_both stands (widened bs [] (raw_form_of b.value) (form_faults (raw_form_of b.value) db bs)) (widened bs [] (raw_form_of d.value) (form_faults (raw_form_of d.value) db bs)))
       ∙ ap (λ g. first stands (form_faults g db bs)) (sym (ap (λ k. raw_kind k f.place) e ∙ raw_kind-Implies b d f.place))
 
+  -- of an `exists`
   pub exists_faults : (f : RawFormula) (c : RawColumn) (b : Box RawFormula Global) → f.kind ≡ Exists c b
       → sooner stands (first stands (binder_faults db bs c)) (first stands (widened (c ∷ bs) (c.name ∷ []) (raw_form_of b.value) (form_faults (raw_form_of b.value) db (c ∷ bs))))
       ≡ first stands (form_faults (raw_form_of f) db bs)
@@ -103,6 +115,7 @@ module _ (db : List Relation) (bs : Binders) where
       sym (first_of_both stands (binder_faults db bs c) (widened (c ∷ bs) (c.name ∷ []) (raw_form_of b.value) (form_faults (raw_form_of b.value) db (c ∷ bs))))
       ∙ ap (λ g. first stands (form_faults g db bs)) (sym (ap (λ k. raw_kind k f.place) e ∙ raw_kind-Exists c b f.place))
 
+  -- of a `forall`
   pub forall_faults : (f : RawFormula) (c : RawColumn) (b : Box RawFormula Global) → f.kind ≡ Forall c b
       → sooner stands (first stands (binder_faults db bs c)) (first stands (widened (c ∷ bs) (c.name ∷ []) (raw_form_of b.value) (form_faults (raw_form_of b.value) db (c ∷ bs))))
       ≡ first stands (form_faults (raw_form_of f) db bs)
@@ -112,9 +125,11 @@ module _ (db : List Relation) (bs : Binders) where
 
 -- ---- the names of members
 
+-- those of an `and`
 pub and_names : (f : RawFormula) (v : Vec RawFormula Global) → f.kind ≡ And v → free_names_each (raw_forms_of v.items) ≡ free_names (raw_form_of f)
 and_names f v e = ap free_names (sym (ap (λ k. raw_kind k f.place) e ∙ raw_kind-And v f.place))
 
+-- those of an `or`
 pub or_names : (f : RawFormula) (v : Vec RawFormula Global) → f.kind ≡ Or v → free_names_each (raw_forms_of v.items) ≡ free_names (raw_form_of f)
 or_names f v e = ap free_names (sym (ap (λ k. raw_kind k f.place) e ∙ raw_kind-Or v f.place))
 
@@ -149,12 +164,14 @@ module _ (db : List Relation) where
 
 -- ---- the members of a list, one after the other
 
+-- the faults of two lists of members
 forms_faults-append : (db : List Relation) (bs : Binders) (fs gs : List RawFormula) → forms_faults (raw_forms_of (fs ++ gs)) db bs ≡ forms_faults (raw_forms_of fs) db bs ++ forms_faults (raw_forms_of gs) db bs
 forms_faults-append db bs [] gs = refl
 forms_faults-append db bs (f ∷ fs) gs =
     let own = widened bs [] (raw_form_of f) (form_faults (raw_form_of f) db bs) in
     ap (λ l. own ++ l) (forms_faults-append db bs fs gs) ∙ sym (append_assoc own (forms_faults (raw_forms_of fs) db bs) (forms_faults (raw_forms_of gs) db bs))
 
+-- the names of two lists of members
 names_each-append : (fs gs : List RawFormula) → free_names_each (raw_forms_of (fs ++ gs)) ≡ free_names_each (raw_forms_of fs) ++ free_names_each (raw_forms_of gs)
 names_each-append [] gs = refl
 names_each-append (f ∷ fs) gs = ap (λ l. free_names (raw_form_of f) ++ l) (names_each-append fs gs) ∙ sym (append_assoc (free_names (raw_form_of f)) (free_names_each (raw_forms_of fs)) (free_names_each (raw_forms_of gs)))
@@ -170,6 +187,7 @@ one_member_faults db bs fs i f lt is =
     ∙ ap (λ x. first stands (forms_faults (raw_forms_of (take i fs ++ x ∷ [])) db bs)) is
     ∙ ap (λ l. first stands (forms_faults (raw_forms_of l) db bs)) (sym (take_more fs i f lt))
 
+-- the same of names
 pub one_member_names : (fs : List RawFormula) (i : ℕ) (f : RawFormula) → i < length fs → f ≡ get_or fs i f
     → free_names_each (raw_forms_of (take i fs)) ++ free_names (raw_form_of f) ≡ free_names_each (raw_forms_of (take (i + 1) fs))
 one_member_names fs i f lt is =

@@ -19,10 +19,12 @@ chosen_or true false = refl
 chosen_or false true = refl
 chosen_or false false = refl
 
+-- what is false adds nothing
 pub nothing_added : (x : Bool) → x ≡ (x || false)
 nothing_added true = refl
 nothing_added false = refl
 
+-- the grouping of three does not matter
 or_again : (a b c : Bool) → ((a || b) || c) ≡ (a || (b || c))
 or_again true b c = refl
 or_again false b c = refl
