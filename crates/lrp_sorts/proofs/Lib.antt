@@ -8,7 +8,3 @@ pub mod Heads
 pub mod PlainForms
 pub mod Surveys
 pub mod Carries
-pub mod HeadNames
-pub mod FreeBound
-pub mod FewNames
-pub mod HeadNarrow

@@ -1,19 +1,10 @@
 -- What a query has of the raw query that it was checked from.
-use Rattle.std.specs.Prelude.{◌≡◌, List, [], ◌∷◌, ◌++◌}
-use Rattle.lrp_model.specs.Formulas.{Form, Forms, Question, atom, test, sorted, negation, conjunction, disjunction, implication, exists, forall, no_forms, form}
-use Rattle.lrp_model.specs.RawQueries.{RawForm, RawForms, RawQuestion, raw_atom, raw_compare, raw_member, raw_not, raw_and, raw_or, raw_implies, raw_group, raw_exists, raw_forall, no_raws, raw}
-use Rattle.lrp_model.specs.Sorting.{IsWellSorted}
-use Rattle.lrp_model.specs.Checked.{plain_question}
+use Rattle.std.specs.Prelude.{List, [], ◌∷◌, ◌++◌}
+use Rattle.lrp_model.specs.Formulas.{Form, Forms, atom, test, sorted, negation, conjunction, disjunction, implication, exists, forall, no_forms, form}
+use Rattle.lrp_model.specs.RawQueries.{RawForm, RawForms, raw_atom, raw_compare, raw_member, raw_not, raw_and, raw_or, raw_implies, raw_group, raw_exists, raw_forall, no_raws, raw}
 use Rattle.lrp_model.specs.declared.formulas.Test.{Test}
 use Rattle.lrp_model.specs.declared.formulas.Test.TheVariants.{Compare, Member, Equal}
-use Rattle.lrp_model.specs.declared.relations.Relation.{Relation}
 use Rattle.lrp_model.specs.declared.relations.RowPoint.{RowPoint}
-
--- a query as the checker gives it: that of a raw query which is well-sorted for the database
-pub record IsCheckedFor (db : List Relation) (q : Question) : Type 0 where
-  pub raw : RawQuestion
-  pub well_sorted : IsWellSorted db raw
-  pub plain : q ≡ plain_question raw
 
 -- each `and` and `or` has a member, as in every raw query that is read
 abbrev mutual

@@ -3,4 +3,3 @@ pub mod Terms
 pub mod Widths
 pub mod Outcomes
 pub mod Carried
-pub mod Narrow

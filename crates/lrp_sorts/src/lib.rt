@@ -6,7 +6,6 @@ mod checking;
 mod earliest;
 mod finding;
 mod head;
-mod laws;
 mod plain;
 mod scope;
 mod terms;
@@ -14,7 +13,6 @@ mod walk;
 mod width;
 
 pub use checking::check;
-pub use laws::{free_variables_are_columns, head_names_differ, heads_are_narrow, parts_are_narrow};
 pub use lrp_model::QueryRead;
 
 #[cfg(test)]
