@@ -46,7 +46,7 @@ fn queries_are_answered(rt: HostRuntime) -> Result<(), Fail> {
             "relation answer(t: time) {\n  (5+60n);\n}\n",
         ),
         (
-            "relation r(t: time) { (7+4n); (-1+4n); (0+4n); }",
+            "relation r(t:time) { (7+4n); (-1+4n);\n(0 + 4n); } # rows",
             "{ u: time | r(u) }",
             "relation answer(u: time) {\n  (0+4n);\n  (3+4n);\n}\n",
         ),
@@ -69,41 +69,157 @@ fn queries_are_answered(rt: HostRuntime) -> Result<(), Fail> {
 }
 
 #[test]
-fn other_words_and_files_are_unbuilt(rt: HostRuntime) -> Result<(), Fail> {
+fn databases_are_written_again(rt: HostRuntime) -> Result<(), Fail> {
     let alloc = rt.alloc();
     let table = [
-        ("decide db=d query=q", BUS, DEPARTURES),
-        ("ask db= query=q", BUS, DEPARTURES),
-        ("ask db=d query=", BUS, DEPARTURES),
+        ("", ""),
+        (BUS, "relation bus(t: time) {\n  (5+60n);\n}\n"),
+        (
+            "relation r(t:time,l:data){(65+60n,\"7\")where t>=0;} # a comment\nrelation s() {();}",
+            "relation r(t: time, l: data) {\n  (5+60n, \"7\") where t >= 0;\n}\nrelation s() {\n  ();\n}\n",
+        ),
+        (
+            "relation r(a: time, b: time) { (3, -1+4n) where b <= a - 2; }",
+            "relation r(a: time, b: time) {\n  (0+1n, 3+4n) where a <= 3, a >= 3, b <= a - 2;\n}\n",
+        ),
+    ];
+    for (database, want) in table {
+        let mut shelf = shelf_of(alloc, database, DEPARTURES, &[])?;
+        let mut out = MemSink::new(alloc, List::new(alloc), 3)?;
+        let words = words_of(alloc, "check db=d")?;
+        let status = run(alloc, words.as_slice(), &mut shelf, &mut out);
+        assert_eq!(rt; status, Status::Done, "{database}");
+        assert_eq!(rt; out.written(), want.as_bytes());
+    }
+    Ok(())
+}
+
+#[test]
+fn words_and_files_are_refused(rt: HostRuntime) -> Result<(), Fail> {
+    let alloc = rt.alloc();
+    let faulty = "relation bus(t: time) { (5+0n); }";
+    let table = [
+        ("", faulty, Status::Usage, "refused: usage\n"),
+        ("check", faulty, Status::Usage, "refused: usage\n"),
+        (
+            "ask db=d db=d query=q",
+            faulty,
+            Status::Usage,
+            "refused: usage\n",
+        ),
+        (
+            "list db=d query=q from=01 to=2",
+            BUS,
+            Status::Usage,
+            "refused: usage\n",
+        ),
+        (
+            "check db=d",
+            faulty,
+            Status::Database,
+            "refused: database Period at 1:28\n",
+        ),
+        (
+            "ask db=d query=x",
+            faulty,
+            Status::Database,
+            "refused: database Period at 1:28\n",
+        ),
+        (
+            "check db=d",
+            "relation r(t: time) {\n  (0+1n)\n}",
+            Status::Database,
+            "refused: database Syntax at 3:1\n",
+        ),
+        (
+            "check db=d",
+            "relation r(t: time) { }\nrelation r() { }",
+            Status::Database,
+            "refused: database Name at 2:10\n",
+        ),
+        (
+            "check db=d",
+            "relation bus(t: time) { (4611686018427387905+60n); }",
+            Status::Database,
+            "refused: database Number at 1:26\n",
+        ),
+        (
+            "decide db=d query=q",
+            BUS,
+            Status::Unbuilt,
+            "refused: unbuilt\n",
+        ),
+        (
+            "explain db=d query=q",
+            BUS,
+            Status::Unbuilt,
+            "refused: unbuilt\n",
+        ),
+        (ASK, "", Status::Unbuilt, "refused: unbuilt\n"),
         (
             ASK,
             "relation bus(t: time) { (5+60n); (5+30n); }",
-            DEPARTURES,
+            Status::Unbuilt,
+            "refused: unbuilt\n",
         ),
-        (ASK, "relation bus(t: time) { (5+0n); }", DEPARTURES),
-        (ASK, "relation bus(t: time) { (05+60n); }", DEPARTURES),
-        (ASK, "relation bus(n: time) { (5+60n); }", DEPARTURES),
         (
             ASK,
             "relation bus(t: time) { (5+1152921504606846977n); }",
-            DEPARTURES,
+            Status::Unbuilt,
+            "refused: unbuilt\n",
         ),
         (
             ASK,
-            "relation bus(t: time) { (4611686018427387905+60n); }",
-            DEPARTURES,
+            "relation bus(t: time) { (5+60n) where t >= 0; }",
+            Status::Unbuilt,
+            "refused: unbuilt\n",
         ),
-        (ASK, "relation bus(t: time) { (5+60n); }\n\n", DEPARTURES),
-        (ASK, BUS, "{ t: time | tram(t) }"),
-        (ASK, BUS, "{ t: time | bus(u) }"),
+        (
+            ASK,
+            "relation tram(t: time) { (5+60n); }",
+            Status::Unbuilt,
+            "refused: unbuilt\n",
+        ),
     ];
-    for (words, database, query) in table {
-        let mut shelf = shelf_of(alloc, database, query, &[])?;
+    for (words, database, status, want) in table {
+        let mut shelf = shelf_of(alloc, database, DEPARTURES, &[])?;
         let mut out = MemSink::new(alloc, List::new(alloc), 4)?;
         let words = words_of(alloc, words)?;
-        let status = run(alloc, words.as_slice(), &mut shelf, &mut out);
-        assert_eq!(rt; status, Status::Unbuilt, "{database} {query}");
-        assert_eq!(rt; out.written(), b"refused: unbuilt\n".as_slice());
+        let ended = run(alloc, words.as_slice(), &mut shelf, &mut out);
+        assert_eq!(rt; ended, status, "{database}");
+        assert_eq!(rt; out.written(), want.as_bytes());
+    }
+    Ok(())
+}
+
+#[test]
+fn long_files_are_refused(rt: HostRuntime) -> Result<(), Fail> {
+    let alloc = rt.alloc();
+    let table = [
+        (
+            "d",
+            Status::Database,
+            "refused: database longer than 16777216 bytes\n",
+        ),
+        (
+            "q",
+            Status::Query,
+            "refused: query longer than 16777216 bytes\n",
+        ),
+    ];
+    for (long, status, want) in table {
+        let mut files = List::new(alloc);
+        files.push(File {
+            name: Name::new(alloc, long)?,
+            bytes: List::from_vec(vec![in alloc; b' '; 16_777_217]?),
+        })?;
+        files.push(file(alloc, "d", BUS)?)?;
+        let mut shelf = MemShelf::new(files, List::new(alloc));
+        let mut out = MemSink::new(alloc, List::new(alloc), 4)?;
+        let words = words_of(alloc, ASK)?;
+        let ended = run(alloc, words.as_slice(), &mut shelf, &mut out);
+        assert_eq!(rt; ended, status);
+        assert_eq!(rt; out.written(), want.as_bytes());
     }
     Ok(())
 }
