@@ -1,6 +1,6 @@
--- Lemmas on texts, on files and on sorted numbers.
+-- Lemmas on texts, on files, on questions and on sorted numbers.
 pub mod FileLemmas
-pub mod FormLemmas
 pub mod LineLemmas
+pub mod QuestionLemmas
 pub mod RowLines
 pub mod Sorting

@@ -5,19 +5,18 @@ use Rattle.std.specs.Borrow.{Bor}
 use Rattle.std.specs.Fmt.{decimal}
 use Rattle.std.specs.List.{flat_map}
 use Rattle.lrp_io.specs.Bytes.{appended, AppendsFront}
-use Rattle.lrp_model.specs.Kinds.{database_word}
-use Rattle.lrp_model.specs.declared.faults.DbFault.{DbFault}
+use Rattle.lrp_model.specs.declared.tokens.Place.{Place}
 use Rattle.lrp_rel.proofs.Pieces.{item_front}
 use Rattle.lrp_top.specs.Outcomes.{Outcome, fault_line, refused_with, status_of, text_of, Ends}
 use Rattle.lrp_top.specs.declared.status.Status.{Status}
 use Rattle.lrp_top.specs.declared.status.Status.TheVariants as status
 use Rattle.lrp_top.specs.declared.outcome.Refusal.{Refusal}
-use Rattle.lrp_top.specs.declared.outcome.Refusal.TheVariants.{Usage, ReadDatabase, LongDatabase, Database, ReadQuery, LongQuery, Memory, Unbuilt}
+use Rattle.lrp_top.specs.declared.outcome.Refusal.TheVariants.{Usage, ReadDatabase, LongDatabase, Database, ReadQuery, LongQuery, Query, Memory, Unbuilt}
 
 -- the seven pieces of the line of a fault
-pub fault_pieces : (f : DbFault) (a b c d e g h : List ℕ) → a ≡ codes "refused: database " → b ≡ database_word f.kind → c ≡ codes " at " → d ≡ decimal f.place.line → e ≡ codes ":" → g ≡ decimal f.place.column → h ≡ codes "\n"
-    → a ++ (b ++ (c ++ (d ++ (e ++ (g ++ (h ++ [])))))) ≡ fault_line f
-fault_pieces f a b c d e g h p q r s t u v = rw (p, q, r, s, t, u, v) refl
+pub fault_pieces : (whose kind : List ℕ) (place : Place) (a b c d e g h : List ℕ) → a ≡ whose → b ≡ kind → c ≡ codes " at " → d ≡ decimal place.line → e ≡ codes ":" → g ≡ decimal place.column → h ≡ codes "\n"
+    → a ++ (b ++ (c ++ (d ++ (e ++ (g ++ (h ++ [])))))) ≡ fault_line whose kind place
+fault_pieces whose kind place a b c d e g h p q r s t u v = rw (p, q, r, s, t, u, v) refl
 
 -- an element is there, whatever stands for one that is not
 there : {A : Type 0} (xs : List A) (i : ℕ) (d : A) → i < length xs → get_or xs i d ≡ get_or xs i (get_or xs i d)
@@ -37,6 +36,7 @@ refused_whole LongDatabase e = cc
 refused_whole (Database fault) e = cc
 refused_whole ReadQuery e = cc
 refused_whole LongQuery e = cc
+refused_whole (Query fault) e = cc
 refused_whole Memory e = cc
 refused_whole Unbuilt e = cc
 

@@ -1,5 +1,5 @@
 -- What a run may end with: each output and each refusal has its text, its status and its cause.
-use Rattle.std.specs.Prelude.{◌≡◌, ◌≢◌, ℕ, ◌<◌, ◌≤◌, List, ◌++◌, length, map, Option, Some, None, Result, Ok, Err, String, string_bytes, codes}
+use Rattle.std.specs.Prelude.{◌≡◌, ◌≢◌, ◌⊎◌, ℕ, ◌<◌, ◌≤◌, List, ◌++◌, length, map, Option, Some, None, Result, Ok, Err, String, string_bytes, codes}
 use Rattle.std.specs.Fmt.{decimal}
 use Rattle.std.specs.declared.alloc.Global.{Global}
 use Rattle.lrp_io.specs.Bytes.{appended, AppendsFront}
@@ -9,31 +9,38 @@ use Rattle.lrp_io.specs.declared.shelf.File.{File}
 use Rattle.lrp_words.specs.Commands.{Task, command}
 use Rattle.lrp_words.specs.Commands.Task.{ask, decide, list, explain, check, sample}
 use Rattle.lrp_model.specs.DatabaseReading.{IsDatabase, IsDatabaseFault}
-use Rattle.lrp_model.specs.Kinds.{database_word}
+use Rattle.lrp_model.specs.Kinds.{database_word, query_word}
 use Rattle.lrp_model.specs.Printed.{database_bytes}
+use Rattle.lrp_model.specs.QueryReading.{IsQuery, IsQueryFault}
+use Rattle.lrp_model.specs.RawQueries.{RawQuestion}
+use Rattle.lrp_model.specs.Sorting.{IsWellSorted, IsSortFault}
 use Rattle.lrp_model.specs.Texts.{Identifier}
-use Rattle.lrp_model.specs.declared.faults.DbFault.{DbFault}
+use Rattle.lrp_model.specs.declared.faults.QueryFault.{QueryFault}
+use Rattle.lrp_model.specs.declared.faults.QueryRead.{QueryRead}
+use Rattle.lrp_model.specs.declared.faults.QueryRead.TheVariants.{Fault, Memory as memory}
 use Rattle.lrp_model.specs.declared.relations.Relation.{Relation}
+use Rattle.lrp_model.specs.declared.tokens.Place.{Place}
 use Rattle.lrp_top.specs.ThinAnswers.{IsThinAnswer}
 use Rattle.lrp_top.specs.declared.status.Status.{Status}
 use Rattle.lrp_top.specs.declared.status.Status.TheVariants as status
 use Rattle.lrp_top.specs.declared.outcome.Output.{Output}
 use Rattle.lrp_top.specs.declared.outcome.Output.TheVariants.{Text, Relations}
 use Rattle.lrp_top.specs.declared.outcome.Refusal.{Refusal}
-use Rattle.lrp_top.specs.declared.outcome.Refusal.TheVariants.{Usage, ReadDatabase, LongDatabase, Database, ReadQuery, LongQuery, Memory, Unbuilt}
+use Rattle.lrp_top.specs.declared.outcome.Refusal.TheVariants.{Usage, ReadDatabase, LongDatabase, Database, ReadQuery, LongQuery, Query, Memory, Unbuilt}
 
--- the line of a fault of the database: its kind, its line and its column
-abbrev pub fault_line : DbFault → List ℕ
-fault_line f = codes "refused: database " ++ (database_word f.kind ++ (codes " at " ++ (decimal f.place.line ++ (codes ":" ++ (decimal f.place.column ++ codes "\n")))))
+-- the line of a fault: whose it is, its kind, its line and its column
+abbrev pub fault_line : List ℕ → List ℕ → Place → List ℕ
+fault_line whose kind place = whose ++ (kind ++ (codes " at " ++ (decimal place.line ++ (codes ":" ++ (decimal place.column ++ codes "\n")))))
 
 -- the line of a refusal
 abbrev pub line_of : Refusal → List ℕ
 line_of Usage = codes "refused: usage\n"
 line_of ReadDatabase = codes "refused: read of database\n"
 line_of LongDatabase = codes "refused: database longer than 16777216 bytes\n"
-line_of (Database fault) = fault_line fault
+line_of (Database fault) = fault_line (codes "refused: database ") (database_word fault.kind) fault.place
 line_of ReadQuery = codes "refused: read of query\n"
 line_of LongQuery = codes "refused: query longer than 16777216 bytes\n"
+line_of (Query fault) = fault_line (codes "refused: query ") (query_word fault.kind) fault.place
 line_of Memory = codes "refused: memory\n"
 line_of Unbuilt = codes "refused: unbuilt\n"
 
@@ -45,8 +52,14 @@ refused_with LongDatabase = status.Database
 refused_with (Database fault) = status.Database
 refused_with ReadQuery = status.Read
 refused_with LongQuery = status.Query
+refused_with (Query fault) = status.Query
 refused_with Memory = status.Memory
 refused_with Unbuilt = status.Unbuilt
+
+-- the refusal of a query that was not read, or not sorted
+abbrev pub refused_by : QueryRead → Refusal
+refused_by (Fault fault) = Query fault
+refused_by memory = Memory
 
 -- what is decided: an output or a refusal
 abbrev pub Outcome : Type 0
@@ -78,6 +91,7 @@ IsNoDatabase bytes before now Memory = Unit {0}
 IsNoDatabase bytes before now Usage = ⊥
 IsNoDatabase bytes before now ReadQuery = ⊥
 IsNoDatabase bytes before now LongQuery = ⊥
+IsNoDatabase bytes before now (Query fault) = ⊥
 IsNoDatabase bytes before now Unbuilt = ⊥
 
 -- the relations of bytes, or why there are none
@@ -91,43 +105,56 @@ pub record IsRead (files : Option (List File)) (name : Identifier) (before now :
   pub told : MayBe files name bytes
   pub is : IsReadOf bytes before now result
 
--- the file is a database
-pub record HasDatabase (files : Option (List File)) (name : Identifier) : Type 0 where
+-- the bytes are a query that is well-sorted over relations
+pub record IsSorted (relations : List Relation) (bytes : List ℕ) : Type 0 where
+  pub raw : RawQuestion
+  pub query : IsQuery bytes raw
+  pub sorted : IsWellSorted relations raw
+
+-- the bytes are a query that has this sort fault over relations
+pub record IsUnsortedBy (relations : List Relation) (bytes : List ℕ) (fault : QueryFault) : Type 0 where
+  pub raw : RawQuestion
+  pub query : IsQuery bytes raw
+  pub unsorted : IsSortFault relations raw fault
+
+-- why bytes are no well-sorted query over relations: their file's count of faults rose, they are too many, or their text or its sorts have a fault; or want of memory
+abbrev pub IsNoQuery : List Relation → List ℕ → ℕ → ℕ → Refusal → Type 0
+IsNoQuery relations bytes before now ReadQuery = Rose before now
+IsNoQuery relations bytes before now LongQuery = 16777216 < length bytes
+IsNoQuery relations bytes before now (Query fault) = (length bytes ≤ 16777216) × (IsQueryFault bytes fault ⊎ IsUnsortedBy relations bytes fault)
+IsNoQuery relations bytes before now Memory = Unit {0}
+IsNoQuery relations bytes before now Usage = ⊥
+IsNoQuery relations bytes before now ReadDatabase = ⊥
+IsNoQuery relations bytes before now LongDatabase = ⊥
+IsNoQuery relations bytes before now (Database fault) = ⊥
+IsNoQuery relations bytes before now Unbuilt = ⊥
+
+-- the bytes are a well-sorted query over relations where nothing is refused
+abbrev pub IsAskedBy : List Relation → List ℕ → ℕ → ℕ → Option Refusal → Type 0
+IsAskedBy relations bytes before now None = (length bytes ≤ 16777216) × IsSorted relations bytes
+IsAskedBy relations bytes before now (Some refusal) = IsNoQuery relations bytes before now refusal
+
+-- the same of a file
+pub record IsAsked (relations : List Relation) (files : Option (List File)) (name : Identifier) (before now : ℕ) (refused : Option Refusal) : Type 0 where
   pub bytes : List ℕ
   pub told : MayBe files name bytes
-  pub short : length bytes ≤ 16777216
-  pub relations : List Relation
-  pub is : IsDatabase bytes relations
+  pub is : IsAskedBy relations bytes before now refused
 
--- the file is longer than a file may be
-pub record IsLong (files : Option (List File)) (name : Identifier) : Type 0 where
-  pub bytes : List ℕ
-  pub told : MayBe files name bytes
-  pub long : 16777216 < length bytes
+-- a query's file over what was read of the database's: the refusal of the database comes first
+abbrev pub IsAskedBehind : Result (List Relation) Refusal → Option (List File) → Identifier → ℕ → ℕ → Option Refusal → Type 0
+IsAskedBehind (Ok relations) files name before now refused = IsAsked relations files name before now refused
+IsAskedBehind (Err refusal) files name before now refused = refused ≡ Some refusal
 
--- why there are no bytes of a query: its file's count of faults rose, or it is too long; or want of memory
-abbrev pub IsNoQuery : Option (List File) → Identifier → ℕ → ℕ → Refusal → Type 0
-IsNoQuery files name before now ReadQuery = Rose before now
-IsNoQuery files name before now LongQuery = IsLong files name
-IsNoQuery files name before now Memory = Unit {0}
-IsNoQuery files name before now Usage = ⊥
-IsNoQuery files name before now ReadDatabase = ⊥
-IsNoQuery files name before now LongDatabase = ⊥
-IsNoQuery files name before now (Database fault) = ⊥
-IsNoQuery files name before now Unbuilt = ⊥
+-- a question of two files, a database and a well-sorted query over it, where nothing is refused; or its first refusal
+pub record IsQuestion (files : Option (List File)) (database query : Identifier) (before now : Identifier → ℕ) (refused : Option Refusal) : Type 0 where
+  pub read : Result (List Relation) Refusal
+  pub is : IsRead files database (before database) (now database) read
+  pub asked : IsAskedBehind read files query (before query) (now query) refused
 
--- what is due for a question whose database was read: an answer, or a refusal
-abbrev pub IsAnsweredOver : Option (List File) → Identifier → (Identifier → ℕ) → (Identifier → ℕ) → Outcome → Type 0
-IsAnsweredOver files query before now (Ok (Text bytes)) = IsThinAnswer bytes
-IsAnsweredOver files query before now (Ok (Relations relations)) = ⊥
-IsAnsweredOver files query before now (Err ReadQuery) = Rose (before query) (now query)
-IsAnsweredOver files query before now (Err LongQuery) = IsLong files query
-IsAnsweredOver files query before now (Err Memory) = Unit {0}
-IsAnsweredOver files query before now (Err Unbuilt) = Unit {0}
-IsAnsweredOver files query before now (Err Usage) = ⊥
-IsAnsweredOver files query before now (Err ReadDatabase) = ⊥
-IsAnsweredOver files query before now (Err LongDatabase) = ⊥
-IsAnsweredOver files query before now (Err (Database fault)) = ⊥
+-- why a result is none
+abbrev pub refusal_of : {A : Type 0} → Result A Refusal → Option Refusal
+refusal_of (Ok _) = None
+refusal_of (Err refusal) = Some refusal
 
 -- what is due for a check: the relations, or why there are none
 abbrev pub IsChecked : Option (List File) → Identifier → (Identifier → ℕ) → (Identifier → ℕ) → Outcome → Type 0
@@ -135,26 +162,32 @@ IsChecked files database before now (Ok (Relations relations)) = IsRead files da
 IsChecked files database before now (Ok (Text bytes)) = ⊥
 IsChecked files database before now (Err refusal) = IsRead files database (before database) (now database) (Err refusal)
 
--- what is due for a question: an answer, or a refusal; the database is refused first
-abbrev pub IsAnswered : Option (List File) → Identifier → Identifier → (Identifier → ℕ) → (Identifier → ℕ) → Outcome → Type 0
-IsAnswered files database query before now (Ok (Text bytes)) = HasDatabase files database × IsThinAnswer bytes
-IsAnswered files database query before now (Ok (Relations relations)) = ⊥
-IsAnswered files database query before now (Err Usage) = ⊥
-IsAnswered files database query before now (Err ReadDatabase) = IsRead files database (before database) (now database) (Err ReadDatabase)
-IsAnswered files database query before now (Err LongDatabase) = IsRead files database (before database) (now database) (Err LongDatabase)
-IsAnswered files database query before now (Err (Database fault)) = IsRead files database (before database) (now database) (Err (Database fault))
-IsAnswered files database query before now (Err ReadQuery) = HasDatabase files database × Rose (before query) (now query)
-IsAnswered files database query before now (Err LongQuery) = HasDatabase files database × IsLong files query
-IsAnswered files database query before now (Err Memory) = Unit {0}
-IsAnswered files database query before now (Err Unbuilt) = HasDatabase files database
+-- what is due for a question: its first refusal; and where nothing is refused, one of the texts that may answer it, or that it is not built
+abbrev pub IsAnswered : (List ℕ → Type 0) → Option (List File) → Identifier → Identifier → (Identifier → ℕ) → (Identifier → ℕ) → Outcome → Type 0
+IsAnswered Answers files database query before now (Ok (Text bytes)) = IsQuestion files database query before now None × Answers bytes
+IsAnswered Answers files database query before now (Ok (Relations relations)) = ⊥
+IsAnswered Answers files database query before now (Err Unbuilt) = IsQuestion files database query before now None
+IsAnswered Answers files database query before now (Err refusal) = IsQuestion files database query before now (Some refusal)
 
--- what is due for a task; all others are not built yet
+-- what is due once nothing is refused
+abbrev pub IsAnswer : (List ℕ → Type 0) → Outcome → Type 0
+IsAnswer Answers (Ok (Text bytes)) = Answers bytes
+IsAnswer Answers (Ok (Relations relations)) = ⊥
+IsAnswer Answers (Err Memory) = Unit {0}
+IsAnswer Answers (Err Unbuilt) = Unit {0}
+IsAnswer Answers (Err _) = ⊥
+
+-- no text
+abbrev pub IsNoText : List ℕ → Type 0
+IsNoText bytes = ⊥
+
+-- what is due for a task; `sample` and the answers of three commands are not built yet
 abbrev pub IsDueOf : Task → Option (List File) → (Identifier → ℕ) → (Identifier → ℕ) → Outcome → Type 0
-IsDueOf (ask database query cap) files before now outcome = IsAnswered files database query before now outcome
+IsDueOf (ask database query cap) files before now outcome = IsAnswered IsThinAnswer files database query before now outcome
+IsDueOf (decide database query cap) files before now outcome = IsAnswered IsNoText files database query before now outcome
+IsDueOf (list database query from to limit after json cap) files before now outcome = IsAnswered IsNoText files database query before now outcome
+IsDueOf (explain database query) files before now outcome = IsAnswered IsNoText files database query before now outcome
 IsDueOf (check database) files before now outcome = IsChecked files database before now outcome
-IsDueOf (decide database query cap) files before now outcome = outcome ≡ Err Unbuilt
-IsDueOf (list database query from to limit after json cap) files before now outcome = outcome ≡ Err Unbuilt
-IsDueOf (explain database query) files before now outcome = outcome ≡ Err Unbuilt
 IsDueOf (sample seed size) files before now outcome = outcome ≡ Err Unbuilt
 
 -- for words that spell no task it is the refusal of usage

@@ -1,15 +1,14 @@
 // The decision: what the words ask for, before the first byte is written.
-ghost use Rattle.std.specs.Prelude.{ℕ, List as ListOf, Option};
-ghost use Rattle.lrp_io.specs.declared.shelf.File.{File as HeldFile};
-ghost use Rattle.lrp_top.specs.Outcomes.{IsAnswered, IsAnsweredOver, IsChecked, IsDue, IsDueOf};
+ghost use Rattle.lrp_top.specs.Outcomes.{IsAnswer, IsAnswered, IsChecked, IsDue, IsDueOf, IsNoText};
+ghost use Rattle.lrp_top.specs.ThinAnswers.{IsThinAnswer};
 ghost use Rattle.lrp_words.specs.Commands.{task_of};
 
-use crate::files::{database_of, query_of};
+use crate::files::database_of;
 use crate::outcome::{Output, Refusal};
+use crate::questions::{Question, question_of};
 use crate::thin_answer::thin_text;
 use lrp_io::Shelf;
 use lrp_model::Memory;
-use lrp_rel::Database;
 use lrp_words::{Command, Usage, read_words};
 use std::alloc::Global;
 
@@ -33,8 +32,11 @@ fn decide_command<F: Shelf>(
 {
     match command {
         Command::Ask { db, query, .. } => ask(alloc, db, query, shelf),
+        Command::Decide { db, query, .. } => unbuilt(alloc, db, query, shelf),
+        Command::List { db, query, .. } => unbuilt(alloc, db, query, shelf),
+        Command::Explain { db, query } => unbuilt(alloc, db, query, shelf),
         Command::Check { db } => check(alloc, db, shelf),
-        _ => Err(Refusal::Unbuilt),
+        Command::Sample { .. } => Err(Refusal::Unbuilt),
     }
 }
 
@@ -55,36 +57,36 @@ fn ask<F: Shelf>(
     query: &str,
     shelf: &mut F,
 ) -> Result<Output, Refusal>
-    ensures { IsAnswered (F.files shelf.old) database.now query.now (F.faults shelf.old) (F.faults shelf.new) result }
+    ensures { IsAnswered IsThinAnswer (F.files shelf.old) database.now query.now (F.faults shelf.old) (F.faults shelf.new) result }
 {
-    match database_of(alloc, database, shelf) {
-        Ok(relations) => ask_over(alloc, &relations, query, shelf),
+    match question_of(alloc, database, query, shelf) {
+        Ok(question) => answer(alloc, &question),
         Err(refusal) => Err(refusal),
     }
 }
 
-/// The answer of a question over a database.
-fn ask_over<F: Shelf>(
-    alloc: Global,
-    relations: &Database,
-    query: &str,
-    shelf: &mut F,
-) -> Result<Output, Refusal>
-    ensures { IsAnsweredOver (F.files shelf.old) query.now (F.faults shelf.old) (F.faults shelf.new) result }
+/// The answer of a question that is refused nothing.
+fn answer(alloc: Global, question: &Question) -> Result<Output, Refusal>
+    ensures { IsAnswer IsThinAnswer result }
 {
-    match query_of(alloc, query, shelf) {
-        Ok(bytes) => answer(alloc, relations, bytes.as_slice()),
-        Err(refusal) => Err(refusal),
-    }
-}
-
-/// The answer of a query's text.
-fn answer(alloc: Global, relations: &Database, query: &[u8]) -> Result<Output, Refusal>
-    ensures { (files : Option (ListOf HeldFile)) (name : ListOf ℕ) (before now : ListOf ℕ → ℕ) → IsAnsweredOver files name before now result }
-{
-    match thin_text(alloc, relations, query) {
+    match thin_text(alloc, &question.database, &question.query) {
         Ok(Some(text)) => Ok(Output::Text(text)),
         Ok(None) => Err(Refusal::Unbuilt),
         Err(Memory) => Err(Refusal::Memory),
+    }
+}
+
+/// The first refusal of a question whose answer is not built yet.
+fn unbuilt<F: Shelf>(
+    alloc: Global,
+    database: &str,
+    query: &str,
+    shelf: &mut F,
+) -> Result<Output, Refusal>
+    ensures { IsAnswered IsNoText (F.files shelf.old) database.now query.now (F.faults shelf.old) (F.faults shelf.new) result }
+{
+    match question_of(alloc, database, query, shelf) {
+        Ok(_question) => Err(Refusal::Unbuilt),
+        Err(refusal) => Err(refusal),
     }
 }

@@ -4,6 +4,7 @@
 mod deciding;
 mod files;
 mod outcome;
+mod questions;
 mod running;
 mod status;
 mod thin_answer;

@@ -1,10 +1,10 @@
 // What a run decides before its first byte is written: an output, or a refusal.
 ghost use Rattle.std.specs.Prelude.{◌≡◌};
-ghost use Rattle.lrp_top.specs.Outcomes.{refused_with};
+ghost use Rattle.lrp_top.specs.Outcomes.{refused_by, refused_with};
 ghost use Rattle.lrp_top.specs.declared.outcome.Refusal.TheVariants.{Memory as memory};
 
 use crate::Status;
-use lrp_model::{DbFault, List};
+use lrp_model::{DbFault, List, QueryFault, QueryRead};
 use lrp_rel::Database;
 
 /// What a command writes.
@@ -31,6 +31,8 @@ pub enum Refusal {
     ReadQuery,
     /// The query's file has more bytes than a file may have.
     LongQuery,
+    /// The query's text has a fault, or its sorts over the database.
+    Query(QueryFault),
     /// Memory was refused.
     Memory,
     /// The command, or the form of its files, is not built yet.
@@ -46,7 +48,7 @@ impl Refusal {
             Refusal::Usage => Status::Usage,
             Refusal::ReadDatabase | Refusal::ReadQuery => Status::Read,
             Refusal::LongDatabase | Refusal::Database(_) => Status::Database,
-            Refusal::LongQuery => Status::Query,
+            Refusal::LongQuery | Refusal::Query(_) => Status::Query,
             Refusal::Memory => Status::Memory,
             Refusal::Unbuilt => Status::Unbuilt,
         }
@@ -58,5 +60,16 @@ impl From<lrp_model::Memory> for Refusal {
 
     fn from(_: lrp_model::Memory) -> Self {
         Refusal::Memory
+    }
+}
+
+impl From<QueryRead> for Refusal {
+    ghost from_gives = { λ read e. e ≡ refused_by read };
+
+    fn from(read: QueryRead) -> Self {
+        match read {
+            QueryRead::Fault { fault } => Refusal::Query(fault),
+            QueryRead::Memory => Refusal::Memory,
+        }
     }
 }

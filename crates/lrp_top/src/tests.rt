@@ -34,6 +34,10 @@ const BUS: &str = "relation bus(t: time) { (5+60n); }\n";
 
 const DEPARTURES: &str = "{ t: time | bus(t) }\n";
 
+// One `not` more than a formula may be deep.
+const DEEP: &str =
+    "{ | not not not not not not not not not not not not not not not not not not not not not not not not not not not not not not not not not not not not not not not not not not not not not not not not not not not not not not not not not not not not not not not not 0 <= 0 }";
+
 const ASK: &str = "ask db=d query=q";
 
 #[test]
@@ -150,12 +154,29 @@ fn words_and_files_are_refused(rt: HostRuntime) -> Result<(), Fail> {
             "refused: unbuilt\n",
         ),
         (
+            "list db=d query=q from=0 to=9",
+            BUS,
+            Status::Unbuilt,
+            "refused: unbuilt\n",
+        ),
+        (
             "explain db=d query=q",
             BUS,
             Status::Unbuilt,
             "refused: unbuilt\n",
         ),
-        (ASK, "", Status::Unbuilt, "refused: unbuilt\n"),
+        (
+            "sample seed=0 size=1",
+            BUS,
+            Status::Unbuilt,
+            "refused: unbuilt\n",
+        ),
+        (
+            ASK,
+            "",
+            Status::Query,
+            "refused: query UnknownRelation at 1:13\n",
+        ),
         (
             ASK,
             "relation bus(t: time) { (5+60n); (5+30n); }",
@@ -177,8 +198,8 @@ fn words_and_files_are_refused(rt: HostRuntime) -> Result<(), Fail> {
         (
             ASK,
             "relation tram(t: time) { (5+60n); }",
-            Status::Unbuilt,
-            "refused: unbuilt\n",
+            Status::Query,
+            "refused: query UnknownRelation at 1:13\n",
         ),
     ];
     for (words, database, status, want) in table {
@@ -188,6 +209,55 @@ fn words_and_files_are_refused(rt: HostRuntime) -> Result<(), Fail> {
         let ended = run(alloc, words.as_slice(), &mut shelf, &mut out);
         assert_eq!(rt; ended, status, "{database}");
         assert_eq!(rt; out.written(), want.as_bytes());
+    }
+    Ok(())
+}
+
+#[test]
+fn queries_are_refused(rt: HostRuntime) -> Result<(), Fail> {
+    let alloc = rt.alloc();
+    let table = [
+        ("{ t: time | bus(t)", "refused: query Syntax at 1:19\n"),
+        (
+            "{ t: time |\n  bus(t) } x",
+            "refused: query Syntax at 2:12\n",
+        ),
+        (
+            "{ | t <= 4611686018427387905 }",
+            "refused: query Number at 1:10\n",
+        ),
+        (DEEP, "refused: query Deep at 1:261\n"),
+        (
+            "{ d: data | (bus(d) and tram(d)) }",
+            "refused: query Sort at 1:18\n",
+        ),
+        (
+            "{ t: time | buss(t) }",
+            "refused: query UnknownRelation at 1:13\n",
+        ),
+        (
+            "{ t: time | exists t: time bus(t, t) }",
+            "refused: query Rebound at 1:20\n",
+        ),
+        ("{ t: time | bus(t, x) }", "refused: query Arity at 1:13\n"),
+        ("{ | bus(t) }", "refused: query Unbound at 1:9\n"),
+        ("{ l: lime | l = l }", "refused: query UnknownSort at 1:6\n"),
+    ];
+    let commands = [
+        ASK,
+        "decide db=d query=q",
+        "list db=d query=q from=0 to=9",
+        "explain db=d query=q",
+    ];
+    for (query, want) in table {
+        for command in commands {
+            let mut shelf = shelf_of(alloc, BUS, query, &[])?;
+            let mut out = MemSink::new(alloc, List::new(alloc), 4)?;
+            let words = words_of(alloc, command)?;
+            let ended = run(alloc, words.as_slice(), &mut shelf, &mut out);
+            assert_eq!(rt; ended, Status::Query, "{query}");
+            assert_eq!(rt; out.written(), want.as_bytes());
+        }
     }
     Ok(())
 }
@@ -265,7 +335,11 @@ fn stopped_sinks_hold_a_front(rt: HostRuntime) -> Result<(), Fail> {
             b"relation answer(t: time) {\n  (5+60n);\n}\n".as_slice(),
             Status::Done,
         ),
-        ("", b"refused: unbuilt\n".as_slice(), Status::Unbuilt),
+        (
+            "",
+            b"refused: query UnknownRelation at 1:13\n".as_slice(),
+            Status::Query,
+        ),
     ];
     for (database, text, status) in table {
         for room in 0..45 {

@@ -4,7 +4,7 @@ ghost use Rattle.std.specs.List.Sorted.{IsStrictlyIncreasing};
 ghost use Rattle.lrp_top.specs.ThinAnswers.{answer_of, row_line, IsThinAnswer};
 
 use crate::thin_form::{relation_of, variable_of};
-use lrp_model::{List, Memory};
+use lrp_model::{List, Memory, Query};
 use lrp_rel::Database;
 use std::alloc::Global;
 
@@ -58,7 +58,7 @@ fn push_row(text: &mut Vec<u8>, period: u64, residue: u64) -> Result<(), Memory>
 pub fn thin_text(
     alloc: Global,
     database: &Database,
-    query: &[u8],
+    query: &Query,
 ) -> Result<Option<List<u8>>, Memory>
     ensures { IfOk result (λ answer. IfSome answer (λ text. IsThinAnswer text)) }
 {

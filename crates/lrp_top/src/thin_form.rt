@@ -1,7 +1,7 @@
 // The thin form of relations and queries: a stopgap, until the real evaluation is there.
-ghost use Rattle.std.specs.Prelude.{◌≡◌, ◌++◌, IfSome, pos, ◌≤ℤ◌};
+ghost use Rattle.std.specs.Prelude.{IfSome, pos, ◌≤ℤ◌};
 
-use lrp_model::{Memory, Relation, Row, RowPoint, Value};
+use lrp_model::{Formula, Memory, Query, Relation, Row, RowPoint, Term, TimeTerm, Value};
 use std::alloc::Global;
 
 /// The greatest period of a row, 2^60.
@@ -61,18 +61,20 @@ fn point_of(row: &Row) -> Option<RowPoint>
     }
 }
 
-/// The variable of the query `{ V: time | N(V) }`, with at most one line feed, for this name N.
-pub fn variable_of<'a>(bytes: &'a [u8], name: &[u8]) -> Option<&'a [u8]> {
-    let rest = after(bytes, b"{ ")?;
-    let (variable, rest) = name_at(rest)?;
-    let rest = after(rest, b": time | ")?;
-    let rest = after(rest, name)?;
-    let rest = after(rest, b"(")?;
-    let rest = after(rest, variable)?;
-    if ends(rest, b") }") {
-        Some(variable)
-    } else {
-        None
+/// The variable of the query `{ V: time | N(V) }`, for this name N.
+pub fn variable_of<'a>(query: &'a Query, name: &[u8]) -> Option<&'a [u8]> {
+    let columns = query.head.columns.as_slice();
+    let Formula::Atom { relation, terms } = &query.body else {
+        return None;
+    };
+    if columns.len() != 1 || terms.len() != 1 || relation.as_bytes() != name {
+        return None;
+    }
+    match terms.at(0) {
+        Term::Time {
+            term: TimeTerm::Var { name, plus },
+        } if *plus == 0 && *name == columns[0].name => Some(name.as_bytes()),
+        _ => None,
     }
 }
 
@@ -81,55 +83,4 @@ fn residue_of(offset: i64, period: i64) -> u64
     requires { pos 1 ≤ℤ period }
 {
     offset.rem_euclid(period) as u64
-}
-
-/// What follows a text at the front.
-#[tactic(auto, using(crate::proofs::FormLemmas::front_is))]
-fn after<'a>(bytes: &'a [u8], front: &[u8]) -> Option<&'a [u8]>
-    ensures { IfSome result (λ rest. bytes.now ≡ front.now ++ rest.now) }
-{
-    let rest = bytes.strip_prefix(front)?;
-    Some(rest)
-}
-
-/// Whether the bytes are this text, and at most one line feed.
-fn ends(bytes: &[u8], text: &[u8]) -> bool {
-    match after(bytes, text) {
-        Some(rest) => rest.is_empty() || rest == b"\n".as_slice(),
-        None => false,
-    }
-}
-
-/// The name at the front, and what follows it.
-fn name_at(bytes: &[u8]) -> Option<(&[u8], &[u8])>
-    ensures { IfSome result (λ found. bytes.now ≡ found.0.now ++ found.1.now) }
-{
-    let count = bytes
-        .iter()
-        .take_while(|b| b.is_ascii_alphanumeric() || **b == b'_')
-        .count();
-    let (name, rest) = bytes.split_at(count.min(bytes.len()));
-    if name.is_empty() || name[0].is_ascii_digit() || is_reserved(name) {
-        return None;
-    }
-    Some((name, rest))
-}
-
-/// Whether this is a word that is no name.
-fn is_reserved(name: &[u8]) -> bool {
-    matches!(
-        name,
-        b"relation"
-            | b"where"
-            | b"time"
-            | b"data"
-            | b"n"
-            | b"exists"
-            | b"forall"
-            | b"not"
-            | b"and"
-            | b"or"
-            | b"implies"
-            | b"in"
-    )
 }

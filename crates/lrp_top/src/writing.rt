@@ -8,7 +8,7 @@ ghost use Rattle.lrp_top.specs.Outcomes.{fault_line, line_of, text_of};
 use crate::outcome::{Output, Refusal};
 use itoa::Buffer;
 use lrp_io::{Failed, Sink, put_all};
-use lrp_model::DbFault;
+use lrp_model::Place;
 use lrp_rel::write_database;
 
 /// Writes an outcome's text, or a front of it where the sink fails.
@@ -34,28 +34,33 @@ fn write_refusal<S: Sink>(out: &mut S, refusal: &Refusal) -> Result<(), Failed>
         Refusal::LongDatabase => {
             write_bytes(out, b"refused: database longer than 16777216 bytes\n")
         }
-        Refusal::Database(fault) => write_fault(out, fault),
+        Refusal::Database(fault) => {
+            write_fault(out, b"refused: database ", fault.kind.word(), fault.place)
+        }
         Refusal::ReadQuery => write_bytes(out, b"refused: read of query\n"),
         Refusal::LongQuery => write_bytes(out, b"refused: query longer than 16777216 bytes\n"),
+        Refusal::Query(fault) => {
+            write_fault(out, b"refused: query ", fault.kind.word(), fault.place)
+        }
         Refusal::Memory => write_bytes(out, b"refused: memory\n"),
         Refusal::Unbuilt => write_bytes(out, b"refused: unbuilt\n"),
     }
 }
 
-/// Writes the line of a fault of the database.
-fn write_fault<S: Sink>(out: &mut S, fault: &DbFault) -> Result<(), Failed>
-    ensures text { IsWritten (S.written out.old) (S.written out.new) (fault_line fault.now) result }
+/// Writes the line of a fault of a file's text.
+fn write_fault<S: Sink>(out: &mut S, whose: &[u8], kind: &str, place: Place) -> Result<(), Failed>
+    ensures text { IsWritten (S.written out.old) (S.written out.new) (fault_line whose.now kind.now place) result }
     ensures cause { HasCause (S.faults out.old) (S.faults out.new) result }
 {
     let mut line = Buffer::new();
     let mut column = Buffer::new();
     let pieces = [
-        b"refused: database ".as_slice(),
-        fault.kind.word().as_bytes(),
+        whose,
+        kind.as_bytes(),
         b" at ".as_slice(),
-        line.format(fault.place.line).as_bytes(),
+        line.format(place.line).as_bytes(),
         b":".as_slice(),
-        column.format(fault.place.column).as_bytes(),
+        column.format(place.column).as_bytes(),
         b"\n".as_slice(),
     ];
     write_pieces(out, &pieces)
