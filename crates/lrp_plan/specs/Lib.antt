@@ -1,0 +1,4 @@
+pub mod Multiples
+pub mod Capped
+pub mod Facts
+pub mod Drafts

@@ -1,0 +1,234 @@
+// The steps made so far, and the rules that make one more.
+ghost use Rattle.std.specs.Prelude.{◌≡◌, ℕ, [], ◌∷◌, OnOk};
+ghost use Rattle.std.specs.List.{AllByRecursion};
+ghost use Rattle.lrp_model.specs.Formulas.{Form, atom, test as test_form};
+ghost use Rattle.lrp_model.specs.Rows.{rows_of};
+ghost use Rattle.lrp_model.specs.Periods.{periods, test_periods};
+ghost use Rattle.lrp_model.specs.Satisfaction.{Structure};
+ghost use Rattle.lrp_model.specs.Steps.{scan as scanned, leaf as tested, sort_texts, join as joined, select as selected, union as united, minus as taken_off, complement as complemented, drop_of};
+ghost use Rattle.lrp_plan.specs.Capped.{capped as capped_at};
+ghost use Rattle.lrp_plan.specs.Drafts.{AddsStep, Extends, ExtendsBoth, AreTests, headed};
+ghost use Rattle.lrp_plan.specs.Facts.{AreFacts};
+ghost use Rattle.lrp_plan.specs.Multiples.{IsCommon, IsPeriod, IsLeastOf};
+
+use crate::facts::Facts;
+use crate::periods::{Period, common_period, one};
+use crate::reaches::{
+    capped, doubled, greatest_offset, scan_reach, test_reach, tests_reach, with_period,
+    with_two_periods,
+};
+use lrp_model::{DataText, List, Memory, Name, Sort, Step, StepKind, Term, Test};
+use std::alloc::Global;
+
+/// What later steps read of a step: its number, its period, and its reach up to 2^62 + 1.
+#[derive(Clone, Copy, Debug)]
+pub(crate) struct Operand {
+    pub(crate) number: u32,
+    pub(crate) period: Period,
+    pub(crate) reach: u64,
+}
+
+/// The steps made so far, with reaches up to 2^62 + 1, and what is read of the last of them.
+#[derive(Debug, Drop)]
+pub(crate) struct Draft {
+    pub(crate) steps: List<Step>,
+    pub(crate) last: Operand,
+}
+
+impl Draft {
+    /// No steps yet.
+    pub(crate) fn new(alloc: Global) -> Draft
+        ensures steps { result.steps ≡ [] }
+        ensures number { result.last.number ≡ 0 }
+        ensures period { result.last.period.number ≡ 1 }
+        ensures reach { result.last.reach ≡ 0 }
+    {
+        Draft {
+            steps: List::new(alloc),
+            last: Operand {
+                number: 0,
+                period: one(),
+                reach: 0,
+            },
+        }
+    }
+
+    // One step more. Memory is refused where its number is above 32 bits.
+    fn add(&mut self, kind: StepKind, period: Period, reach: u128) -> Result<(), Memory>
+        ensures { OnOk result (AddsStep kind period.number (capped_at reach) self.old self.new) }
+    {
+        let number = self.last.number.checked_add(1).ok_or(Memory)?;
+        let reach = capped(reach);
+        self.steps.push(Step {
+            kind,
+            period: period.number as i64,
+            reach: reach as i64,
+        })?;
+        self.last = Operand {
+            number,
+            period,
+            reach,
+        };
+        Ok(())
+    }
+
+    /// An atom, over the facts of its relation's rows.
+    pub(crate) fn scan(
+        &mut self,
+        facts: Facts,
+        relation: Name,
+        terms: List<Term>,
+    ) -> Result<(), Memory>
+        ensures { OnOk result ((M : Structure) (K : ℕ) → AreFacts (rows_of M.relations relation) facts → IsCommon (periods (atom relation terms) M.relations) K → Extends M K (scanned relation terms) self.old self.new) }
+    {
+        let period = facts.period.unwrap_or(one());
+        let reach = scan_reach(facts.bound, greatest_offset(terms.as_slice()), period);
+        self.add(StepKind::Scan { relation, terms }, period, reach)
+    }
+
+    /// A test as a step of its own.
+    pub(crate) fn leaf(&mut self, test: Test) -> Result<(), Memory>
+        ensures { OnOk result ((M : Structure) (K : ℕ) → IsCommon (periods (test_form test) M.relations) K → Extends M K (tested test) self.old self.new) }
+    {
+        let period = period_of(&test);
+        let reach = u128::from(test_reach(&test));
+        self.add(StepKind::Leaf { test }, period, reach)
+    }
+
+    /// A sort element, with the texts of the sort.
+    pub(crate) fn sort(
+        &mut self,
+        name: Name,
+        sort: Sort,
+        texts: List<DataText>,
+    ) -> Result<(), Memory>
+        ensures { OnOk result ((M : Structure) (K : ℕ) → texts ≡ M.domain sort → Extends M K (sort_texts sort name) self.old self.new) }
+    {
+        self.add(StepKind::Sort { name, sort, texts }, one(), 1)
+    }
+
+    /// An earlier step joined with the last one; the tests name no period.
+    pub(crate) fn join(&mut self, left: Operand, tests: List<Test>) -> Result<(), Memory>
+        ensures { OnOk result ((M : Structure) (K : ℕ) → AreTests tests → ExtendsBoth M K left (λ number. joined number tests) self.old self.new) }
+    {
+        let right = self.last;
+        let period = common_period(left.period, right.period);
+        let operands = left.reach.max(right.reach);
+        let reach = with_period(operands.max(tests_reach(tests.as_slice())), period);
+        self.add(
+            StepKind::Join {
+                left: left.number,
+                right: right.number,
+                tests,
+            },
+            period,
+            reach,
+        )
+    }
+
+    /// What of the last step passes a test that names no period.
+    pub(crate) fn select(&mut self, test: Test) -> Result<(), Memory>
+        ensures { OnOk result ((M : Structure) (K : ℕ) → AreTests (test ∷ []) → Extends M K (selected test) self.old self.new) }
+    {
+        let of = self.last;
+        let reach = with_period(of.reach.max(test_reach(&test)), of.period);
+        self.add(
+            StepKind::Select {
+                of: of.number,
+                test,
+            },
+            of.period,
+            reach,
+        )
+    }
+
+    /// An earlier step and the last one.
+    pub(crate) fn union(&mut self, left: Operand) -> Result<(), Memory>
+        ensures { OnOk result ((M : Structure) (K : ℕ) → ExtendsBoth M K left united self.old self.new) }
+    {
+        let right = self.last;
+        let period = common_period(left.period, right.period);
+        let reach = with_period(left.reach.max(right.reach), period);
+        self.add(
+            StepKind::Union {
+                left: left.number,
+                right: right.number,
+            },
+            period,
+            reach,
+        )
+    }
+
+    /// An earlier step without what the last one has.
+    pub(crate) fn minus(&mut self, left: Operand) -> Result<(), Memory>
+        ensures { OnOk result ((M : Structure) (K : ℕ) → ExtendsBoth M K left taken_off self.old self.new) }
+    {
+        let right = self.last;
+        let period = common_period(left.period, right.period);
+        let reach = with_two_periods(left.reach.max(right.reach), period);
+        self.add(
+            StepKind::Minus {
+                left: left.number,
+                right: right.number,
+            },
+            period,
+            reach,
+        )
+    }
+
+    /// What the last step does not have.
+    pub(crate) fn complement(&mut self) -> Result<(), Memory>
+        ensures { OnOk result ((M : Structure) (K : ℕ) → Extends M K complemented self.old self.new) }
+    {
+        let of = self.last;
+        let reach = with_two_periods(of.reach, of.period);
+        self.add(StepKind::Complement { of: of.number }, of.period, reach)
+    }
+
+    /// The last step without a variable.
+    pub(crate) fn drop_variable(&mut self, name: Name, sort: &Sort) -> Result<(), Memory>
+        ensures { OnOk result ((M : Structure) (K : ℕ) → Extends M K (drop_of name sort.now) self.old self.new) }
+    {
+        let of = self.last;
+        if sort.is_time() {
+            let reach = doubled(of.reach);
+            self.add(
+                StepKind::DropTime {
+                    of: of.number,
+                    name,
+                },
+                of.period,
+                reach,
+            )
+        } else {
+            let reach = u128::from(of.reach);
+            self.add(
+                StepKind::DropData {
+                    of: of.number,
+                    name,
+                },
+                of.period,
+                reach,
+            )
+        }
+    }
+
+    /// The last step with the head's further variables; the period is that of the query's body.
+    pub(crate) fn extend(&mut self, period: Period) -> Result<(), Memory>
+        ensures { OnOk result ((M : Structure) (K : ℕ) (f : Form) → IsLeastOf (periods f M.relations) period.number → IsCommon (periods f M.relations) K → Extends M K (headed f) self.old self.new) }
+    {
+        let of = self.last;
+        let reach = u128::from(of.reach);
+        self.add(StepKind::Extend { of: of.number }, period, reach)
+    }
+}
+
+// The period of a test.
+fn period_of(test: &Test) -> Period
+    ensures { (K : ℕ) → IsCommon (test_periods test.now) K → IsPeriod K → IsLeastOf (test_periods test.now) result.number }
+{
+    match test {
+        Test::Member { point, .. } => one().with(point.period.unsigned_abs()).unwrap_or(one()),
+        Test::Compare { .. } | Test::Equal { .. } => one(),
+    }
+}
