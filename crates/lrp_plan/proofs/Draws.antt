@@ -1,5 +1,5 @@
 -- What each call on the planner's draft promises, from the step that it adds.
-use Rattle.std.proofs.Common.{◌≡◌, ◌+◌, ◌*◌, ℕ, max, true, false, List, [], ◌∷◌, Option, option_map, unwrap_or, map, flat_map, Result, Ok, Err}
+use Rattle.std.proofs.Common.{◌≡◌, ◌+◌, ◌*◌, ℕ, max, true, false, List, [], ◌∷◌, option_map, unwrap_or, map, flat_map, Result, Ok, Err}
 use Rattle.std.specs.Result.{OnOk}
 use Rattle.lrp_model.specs.Texts.{Text, Identifier}
 use Rattle.lrp_model.specs.Formulas.{Form, atom, test}

@@ -1,10 +1,10 @@
 -- A least common multiple with further numbers, and with those of two lists.
-use Rattle.std.proofs.Common.{◌≡◌, ◌↔◌, ◌≤◌, ◌^◌, ◌*◌, ℕ, zero, suc, List, [], ◌∷◌, ◌++◌, Option, Some, None, unwrap_or, option_map, refl, sym, ap, subst, append_assoc, append-nil, arith}
+use Rattle.std.proofs.Common.{◌≡◌, ◌↔◌, ◌≤◌, ◌*◌, ℕ, zero, suc, List, [], ◌∷◌, ◌++◌, Option, Some, None, unwrap_or, option_map, sym, ap, subst, append_assoc, append-nil, arith}
 use Rattle.std.specs.List.{AllByRecursion}
 use Rattle.lrp_model.specs.Periods.{IsMultiple, lcm_all, IsLeastMultiple}
 use Rattle.lrp_model.proofs.Logic.{all_append}
 use Rattle.lrp_plan_laws.proofs.PeriodLaws.{lcm_all_is}
-use Rattle.lrp_plan.specs.Multiples.{IsCommon, IsPeriod, IsLeastOf, IsPeriodOf, AlwaysJoins}
+use Rattle.lrp_plan.specs.Multiples.{IsCommon, IsLeastOf, IsPeriodOf, AlwaysJoins}
 use Rattle.lrp_plan.specs.Facts.{KeepsPeriod}
 use Rattle.lrp_plan.specs.declared.periods.Period.{Period}
 use Rattle.lrp_plan.proofs.Multiples.{multiple_le}

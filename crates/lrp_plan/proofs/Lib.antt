@@ -3,3 +3,12 @@ pub mod Greatest
 pub mod Keeping
 pub mod Made
 pub mod Draws
+pub mod Members
+pub mod Takes
+pub mod Turns
+pub mod Unions
+pub mod Planned
+pub mod Answered
+pub mod Texts
+pub mod Sorting
+pub mod Sorted

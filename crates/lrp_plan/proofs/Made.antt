@@ -1,13 +1,13 @@
 -- One step more in the planner's draft is one step more of the plan.
-use Rattle.std.proofs.Common.{◌≡◌, ◌≤◌, ◌+◌, ◌*◌, ℕ, suc, max, min, true, false, List, [], ◌∷◌, ◌++◌, length, Option, Some, None, option_map, unwrap_or, slice_get, map, flat_map, refl, sym, ap, subst, ◌∙◌, append-nil, pos, arith}
-use Rattle.std.specs.List.{AllZip, AllByRecursion}
+use Rattle.std.proofs.Common.{◌≡◌, ◌+◌, ◌*◌, ℕ, suc, max, min, true, false, List, [], ◌∷◌, ◌++◌, length, Option, Some, None, option_map, unwrap_or, slice_get, map, flat_map, refl, sym, ap, subst, ◌∙◌, append-nil, pos, arith}
+use Rattle.std.specs.List.{AllZip}
 use Rattle.lrp_model.specs.Texts.{Text, Identifier}
 use Rattle.lrp_model.specs.Formulas.{Form, atom, test, sorted}
 use Rattle.lrp_model.specs.Rows.{rows_of}
 use Rattle.lrp_model.specs.Satisfaction.{Structure}
-use Rattle.lrp_model.specs.Periods.{IsMultiple, lcm_all, period, periods, periods_each, test_periods}
+use Rattle.lrp_model.specs.Periods.{period, periods, periods_each, test_periods}
 use Rattle.lrp_model.specs.Reach.{greatest, reach_of, test_reach, term_magnitudes}
-use Rattle.lrp_model.specs.Steps.{PlanStep, Steps, formula_at, reach_at, made, step_behind, tests_as_forms, scan, leaf, sort_texts, join, select, union, minus, complement, drop_of, drop_kind}
+use Rattle.lrp_model.specs.Steps.{Steps, formula_at, reach_at, made, step_behind, tests_as_forms, scan, leaf, sort_texts, join, select, union, minus, complement, drop_of}
 use Rattle.lrp_model.specs.Conjunctions.{is_test}
 use Rattle.lrp_model.specs.declared.relations.Relation.{Relation}
 use Rattle.lrp_model.specs.Sorts.{is_time}
@@ -16,7 +16,6 @@ use Rattle.lrp_model.specs.declared.relations.Sort.TheVariants.{Time, Data, Name
 use Rattle.lrp_model.specs.declared.formulas.Term.{Term}
 use Rattle.lrp_model.specs.declared.formulas.Test.{Test}
 use Rattle.lrp_model.specs.declared.formulas.Test.TheVariants.{Compare, Member, Equal}
-use Rattle.lrp_model.specs.declared.plans.Step.{Step}
 use Rattle.lrp_model.specs.declared.plans.StepKind.{StepKind}
 use Rattle.lrp_model.specs.declared.plans.StepKind.TheVariants.{Scan, Leaf, Sort as SortStep, Join, Select, Union, Minus, Complement, DropTime, DropData, Extend}
 use Rattle.lrp_plan_laws.proofs.Elements.{length_made, formula_made}

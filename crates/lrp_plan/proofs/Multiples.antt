@@ -1,13 +1,12 @@
 -- Least common multiples by the numbers that they divide, and what one number more makes of them.
-use Rattle.std.proofs.Common.{◌≡◌, ◌↔◌, ◌≤◌, ◌<◌, ◌+◌, ◌*◌, ◌/◌, ◌%◌, ◌^◌, ℕ, zero, suc, ℤ, pos, List, [], ◌∷◌, ◌++◌, Some, None, refl, sym, ap, ⊎_elim, arith}
-use Rattle.std.proofs.lemmas.Int.{ints}
+use Rattle.std.proofs.Common.{◌≡◌, ◌↔◌, ◌≤◌, ◌<◌, ◌*◌, ◌/◌, ◌%◌, ◌^◌, ℕ, zero, suc, pos, List, [], ◌∷◌, ◌++◌, None, ap, ⊎_elim, arith}
 use Rattle.std.proofs.lemmas.Bool.{cases_lt}
 use Rattle.lrp_theory.specs.Divides.{Divides, IsLcm}
 use Rattle.lrp_theory.proofs.Multiples.{no_remainder}
 use Rattle.lrp_point.specs.Points.{IsLcmAbove}
 use Rattle.lrp_model.specs.Periods.{IsMultiple}
 use Rattle.lrp_model.proofs.Logic.{all_append}
-use Rattle.lrp_plan.specs.Multiples.{IsCommon, IsPeriod, IsLeastOf, IsPeriodOf}
+use Rattle.lrp_plan.specs.Multiples.{IsLeastOf, IsPeriodOf}
 
 -- a divisor of integers, as one of natural numbers
 to_multiple : (k n : ℕ) → 0 < k → Divides (pos k) (pos n) → IsMultiple k n

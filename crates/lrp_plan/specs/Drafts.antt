@@ -1,10 +1,10 @@
 -- How the steps that the planner has made so far follow the plan, with reaches up to 2^62 + 1.
-use Rattle.std.specs.Prelude.{◌≡◌, ℕ, ◌+◌, ◌≤◌, pos, true, List, [], ◌∷◌, ◌++◌, length}
+use Rattle.std.specs.Prelude.{◌≡◌, ℕ, ◌+◌, ◌≤◌, pos, true, List, [], ◌∷◌, ◌++◌, length, Option, Some, None}
 use Rattle.std.specs.List.{AllZip, AllByRecursion}
 use Rattle.lrp_model.specs.Formulas.{Form}
 use Rattle.lrp_model.specs.Satisfaction.{Structure}
 use Rattle.lrp_model.specs.Periods.{periods}
-use Rattle.lrp_model.specs.Steps.{PlanStep, Steps, Rule, formula_at, reach_at, made}
+use Rattle.lrp_model.specs.Steps.{PlanStep, Steps, Rule, formula_at, reach_at, made, union}
 use Rattle.lrp_model.specs.Conjunctions.{is_test}
 use Rattle.lrp_model.specs.declared.formulas.Test.{Test}
 use Rattle.lrp_model.specs.declared.plans.StepKind.{StepKind}
@@ -58,3 +58,8 @@ AreTests ts = AllByRecursion (λ t. is_test t ≡ true) ts
 -- the last step, over the one before it
 abbrev pub headed : Form → Rule
 headed f M steps = made M (Extend (length steps)) f steps
+
+-- a `union` with an earlier step, where there is one
+pub record Unites (left : Option Operand) (old new : Draft) : Type 0 where
+  pub none : left ≡ None → new ≡ old
+  pub some : (o : Operand) → left ≡ Some o → (M : Structure) (K : ℕ) → ExtendsBoth M K o union old new

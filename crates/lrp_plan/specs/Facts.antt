@@ -1,5 +1,5 @@
 -- What the planner knows of the rows of a relation.
-use Rattle.std.specs.Prelude.{◌≡◌, ℕ, List, ◌++◌, Option, Some, None, flat_map, map, nat_abs, length}
+use Rattle.std.specs.Prelude.{◌≡◌, ℕ, List, ◌++◌, Option, flat_map, map, nat_abs, length}
 use Rattle.std.specs.Option.{option_map}
 use Rattle.lrp_model.specs.Periods.{value_periods}
 use Rattle.lrp_model.specs.Reach.{greatest}

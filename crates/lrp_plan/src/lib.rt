@@ -2,6 +2,11 @@
 #![tactic(auto)]
 
 mod drafts;
+mod elements;
 mod facts;
 mod periods;
+mod planner;
 mod reaches;
+mod sources;
+mod splits;
+mod taking;

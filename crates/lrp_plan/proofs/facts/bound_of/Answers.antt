@@ -1,4 +1,4 @@
-use Rattle.std.proofs.Common.{◌≡◌, nat_abs, pos, arith}
+use Rattle.std.proofs.Common.{nat_abs, pos, arith}
 use Rattle.lrp_model.specs.declared.relations.Bound.{Bound}
 use Rattle.lrp_plan.proofs.Greatest.{greatest_map_at}
 use Rattle.lrp_plan.proofs.facts.bound_of.Goals as goal

@@ -1,4 +1,4 @@
-use Rattle.std.proofs.Common.{◌≡◌, [], sym, subst, arith, refl}
+use Rattle.std.proofs.Common.{[], sym, subst, arith, refl}
 use Rattle.std.specs.Option.{option_map}
 use Rattle.lrp_plan.specs.Multiples.{IsLeastOf, IsPeriodOf}
 use Rattle.lrp_plan.specs.Facts.{periods_of_row, most_of_row}

@@ -1,7 +1,7 @@
 use Rattle.std.proofs.Common.{sym}
 use Rattle.lrp_model.specs.Periods.{value_periods}
 use Rattle.lrp_plan.proofs.Greatest.{flat_map_step}
-use Rattle.lrp_plan.proofs.Keeping.{keeps_more, keeps_as, keeps_none}
+use Rattle.lrp_plan.proofs.Keeping.{keeps_more, keeps_as}
 use Rattle.lrp_plan.proofs.facts.with_row.Goals as goal
 
 pub loop-value-preserved : goal.loop-value-preserved

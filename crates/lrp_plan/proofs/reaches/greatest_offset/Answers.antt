@@ -1,4 +1,4 @@
-use Rattle.std.proofs.Common.{◌≡◌, arith}
+use Rattle.std.proofs.Common.{arith}
 use Rattle.lrp_model.specs.Reach.{term_magnitudes}
 use Rattle.lrp_plan.proofs.Greatest.{greatest_step}
 use Rattle.lrp_plan.proofs.reaches.greatest_offset.Goals as goal

@@ -1,4 +1,4 @@
-use Rattle.std.proofs.Common.{◌≡◌, arith}
+use Rattle.std.proofs.Common.{arith}
 use Rattle.lrp_model.specs.Reach.{test_reach}
 use Rattle.lrp_plan.proofs.Greatest.{greatest_map_step}
 use Rattle.lrp_plan.proofs.reaches.tests_reach.Goals as goal

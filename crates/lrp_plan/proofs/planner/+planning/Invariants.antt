@@ -1,0 +1,18 @@
+use Rattle.std.proofs.Common.{take}
+use Rattle.lrp_core.specs.Cores.{cores_of}
+use Rattle.lrp_model.specs.Satisfaction.{Structure}
+use Rattle.lrp_plan.specs.Sources.{AreSources}
+use Rattle.lrp_plan.specs.Elements.{TakesPositives, TakesNegations}
+use Rattle.lrp_plan.proofs.Unions.{SomeSoFar}
+use Rattle.lrp_plan.proofs.planner.+planning.Given as goal
+
+-- the elements so far were united
+abbrev pub invariant-plan_some-loop-core : goal.invariant-plan_some-loop-core
+invariant-plan_some-loop-core l = (M : Structure) → AreSources M l.sources → SomeSoFar M (cores_of (take l.core-index l.of)) l.fn.draft l.draft l.left
+
+-- so many turns were made
+abbrev pub invariant-plan_positives-loop-turn : goal.invariant-plan_positives-loop-turn
+invariant-plan_positives-loop-turn l = (M : Structure) → AreSources M l.sources → TakesPositives M l._turn l.of l.fn.positives.items l.left.items l.fn.draft l.draft l.fn.taking l.taking
+
+abbrev pub invariant-plan_negations-loop-turn : goal.invariant-plan_negations-loop-turn
+invariant-plan_negations-loop-turn l = (M : Structure) → AreSources M l.sources → TakesNegations M l._turn l.of l.fn.negations.items l.left.items l.fn.draft l.draft l.fn.taking l.taking

@@ -1,0 +1,10 @@
+use Rattle.std.proofs.Common.{take}
+use Rattle.lrp_core.specs.Cores.{cores_of}
+use Rattle.lrp_model.specs.Satisfaction.{Structure}
+use Rattle.lrp_plan.specs.Sources.{AreSources}
+use Rattle.lrp_plan.specs.Splits.{IsParts}
+use Rattle.lrp_plan.proofs.splits.split.Given as goal
+
+-- the elements so far were sorted out
+abbrev pub invariant-loop-index : goal.invariant-loop-index
+invariant-loop-index l = (M : Structure) → AreSources M l.sources → IsParts M l.of (cores_of (take l.index l.of)) l.parts

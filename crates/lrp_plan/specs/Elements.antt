@@ -1,0 +1,91 @@
+-- The elements of an `and` of the program, against those of the rules.
+use Rattle.std.specs.Prelude.{◌≡◌, ℕ, ◌+◌, List, [], Option, Some, None, map, remove, slice_get}
+use Rattle.std.specs.List.{AllZip, AllByRecursion}
+use Rattle.lrp_core.specs.Cores.{core_of, cores_of}
+use Rattle.lrp_core.specs.FreeVariables.{variable_of}
+use Rattle.lrp_core.specs.declared.core_forms.Core.{Core}
+use Rattle.lrp_model.specs.Formulas.{Form, negation}
+use Rattle.lrp_model.specs.Variables.{free}
+use Rattle.lrp_model.specs.Satisfaction.{Structure}
+use Rattle.lrp_model.specs.Conjunctions.{Element as PlanElement, State, ranked, tests_in, take_positives, take_tests, take_negations}
+use Rattle.lrp_model.specs.Plans.{plan_of, positives_in, negations_in}
+use Rattle.lrp_plan.specs.declared.elements.Element.{Element}
+use Rattle.lrp_plan.specs.declared.elements.Split.{Split}
+use Rattle.lrp_plan.specs.declared.drafts.Draft.{Draft}
+use Rattle.lrp_plan.specs.declared.taking.Taking.{Taking}
+use Rattle.lrp_model.specs.Core.{IsCore}
+use Rattle.lrp_model.specs.Periods.{periods}
+use Rattle.lrp_plan.specs.Multiples.{IsCommon}
+use Rattle.lrp_plan.specs.Drafts.{IsDraft}
+use Rattle.lrp_plan.specs.Taking.{HaveSame, IsTaking}
+
+-- the element at this place was taken out of the list, or there is none
+abbrev pub TakesAt : ℕ → List Element → List Element → Option Element → Type 0
+TakesAt i old new None = (old ≡ []) × (new ≡ [])
+TakesAt i old new (Some e) = (slice_get old i ≡ Some e) × (new ≡ remove old i)
+
+-- an element of the list of core forms, with the rule that makes its steps
+pub record IsElement (fs : List Core) (e : Element) (p : PlanElement) : Type 0 where
+  pub core : Core
+  pub stands : slice_get fs e.index ≡ Some core
+  pub formula : p.formula ≡ core_of core
+  pub rule : p.rule ≡ plan_of p.formula
+  pub variables : HaveSame (map variable_of e.variables) (free p.formula)
+
+-- a negation of the list, with the rule that makes the steps of what it denies
+pub record IsDenied (fs : List Core) (e : Element) (p : PlanElement) : Type 0 where
+  pub core : Core
+  pub stands : slice_get fs e.index ≡ Some core
+  pub formula : core_of core ≡ negation p.formula
+  pub rule : p.rule ≡ plan_of p.formula
+  pub variables : HaveSame (map variable_of e.variables) (free p.formula)
+
+-- where the making of an `and` stands
+pub record IsAt (M : Structure) (K : ℕ) (fs : List Core) (draft : Draft) (ps ns : List Element) (taking : Taking) (s : State) : Type 0 where
+  pub made : IsDraft M.relations K draft s.steps
+  pub took : IsTaking M.relations K s.steps taking s.taken s.tests
+  pub positives : AllZip (IsElement fs) ps s.positives
+  pub negations : AllZip (IsDenied fs) ns s.negations
+
+-- a core form whose periods all divide K
+pub record CanPlan (M : Structure) (K : ℕ) (f : Form) : Type 0 where
+  pub core : IsCore f
+  pub divides : IsCommon (periods f M.relations) K
+
+abbrev pub EachCanPlan : Structure → ℕ → List Core → Type 0
+EachCanPlan M K fs = AllByRecursion (λ core. CanPlan M K (core_of core)) fs
+
+-- the `and`'s positives, ranked, its tests and its negations
+pub record IsSplitOf (M : Structure) (fs : List Core) (split : Split) : Type 0 where
+  pub ranks : AllZip (IsElement fs) split.positives.items (ranked M (positives_in (cores_of fs)))
+  pub checks : split.tests ≡ tests_in (cores_of fs)
+  pub denials : AllZip (IsDenied fs) split.negations.items (negations_in (cores_of fs))
+
+-- so many turns of positives, of tests and of negations
+pub record TakesPositives (M : Structure) (turns : ℕ) (fs : List Core) (ps qs : List Element) (before after : Draft) (old new : Taking) : Type 0 where
+  pub follows : (K : ℕ) (ns : List Element) (s : State) → EachCanPlan M K fs → IsAt M K fs before ps ns old s → IsAt M K fs after qs ns new (take_positives turns M s)
+
+pub record TakesTests (turns : ℕ) (before after : Draft) (old new : Taking) : Type 0 where
+  pub follows : (M : Structure) (K : ℕ) (fs : List Core) (ps ns : List Element) (s : State) → IsAt M K fs before ps ns old s → IsAt M K fs after ps ns new (take_tests turns M s)
+
+pub record TakesNegations (M : Structure) (turns : ℕ) (fs : List Core) (ns qs : List Element) (before after : Draft) (old new : Taking) : Type 0 where
+  pub follows : (K : ℕ) (ps : List Element) (s : State) → EachCanPlan M K fs → IsAt M K fs before ps ns old s → IsAt M K fs after ps qs new (take_negations turns M s)
+
+-- all turns, whatever is left of the elements then
+pub record TakesEach (M : Structure) (turns : ℕ) (fs : List Core) (ps : List Element) (before after : Draft) (old new : Taking) : Type 0 where
+  pub left : List Element
+  pub takes : TakesPositives M turns fs ps left before after old new
+
+pub record DeniesEach (M : Structure) (turns : ℕ) (fs : List Core) (ns : List Element) (before after : Draft) (old new : Taking) : Type 0 where
+  pub left : List Element
+  pub takes : TakesNegations M turns fs ns left before after old new
+
+-- one turn behind those that were made
+pub record TurnsPositive (M : Structure) (fs : List Core) (qs rs : List Element) (mid after : Draft) (now new : Taking) : Type 0 where
+  pub next : (turns : ℕ) (ps : List Element) (before : Draft) (old : Taking) → TakesPositives M turns fs ps qs before mid old now → TakesPositives M (turns + 1) fs ps rs before after old new
+
+pub record TurnsTest (mid after : Draft) (now new : Taking) : Type 0 where
+  pub next : (turns : ℕ) (before : Draft) (old : Taking) → TakesTests turns before mid old now → TakesTests (turns + 1) before after old new
+
+pub record TurnsNegation (M : Structure) (fs : List Core) (qs rs : List Element) (mid after : Draft) (now new : Taking) : Type 0 where
+  pub next : (turns : ℕ) (ns : List Element) (before : Draft) (old : Taking) → TakesNegations M turns fs ns qs before mid old now → TakesNegations M (turns + 1) fs ns rs before after old new

@@ -1,0 +1,179 @@
+// What an `and` has taken in, and the tests that it has left.
+ghost use Rattle.std.specs.Prelude.{◌≡◌, ℕ, not, filter, map, length, IfOk, OnOk};
+ghost use Rattle.lrp_core.specs.FreeVariables.{variable_of};
+ghost use Rattle.lrp_model.specs.Satisfaction.{Structure};
+ghost use Rattle.lrp_model.specs.Formulas.{test as test_form};
+ghost use Rattle.lrp_model.specs.Variables.{free};
+ghost use Rattle.lrp_model.specs.Conjunctions.{select_each as selected_each};
+ghost use Rattle.lrp_plan.specs.Drafts.{AreTests, Extends};
+ghost use Rattle.lrp_plan.specs.Elements.{TakesTests, TurnsTest};
+ghost use Rattle.lrp_plan.specs.Taking.{NextTest, TakesIn, TakesOff, TakesTest, HaveSame, Carries, Subtracts, covers as covered_by};
+
+use crate::drafts::{Draft, Operand};
+use lrp_core::{Core, Variable, add_variables, are_among, covers, free_variables};
+use lrp_model::{Copies, List, Memory, Test};
+use std::alloc::Global;
+use std::mem;
+
+/// What was taken in: the result so far, if there is one, and its variables; and the tests that remain, in list order.
+#[derive(Debug, Drop)]
+pub(crate) struct Taking {
+    pub(crate) result: Option<Operand>,
+    pub(crate) variables: List<Variable>,
+    pub(crate) tests: List<Test>,
+}
+
+impl Taking {
+    /// The element whose steps were just made is taken in, with these variables. The tests that are then covered follow by `select` where it is the first element, and are else carried by a `join`.
+    pub(crate) fn take_in(
+        &mut self,
+        alloc: Global,
+        draft: &mut Draft,
+        variables: List<Variable>,
+    ) -> Result<(), Memory>
+        ensures { OnOk result (TakesIn (map variable_of variables) self.old self.new draft.old draft.new) }
+    {
+        add_variables(&mut self.variables, variables)?;
+        let tests = mem::replace(&mut self.tests, List::new(alloc));
+        let (carried, left) = split_covered(alloc, tests, self.variables.as_slice())?;
+        self.tests = left;
+        carry(draft, self.result, carried)?;
+        self.result = Some(draft.last);
+        Ok(())
+    }
+
+    /// The first remaining test, which is no longer one.
+    pub(crate) fn next_test(&mut self, alloc: Global) -> Option<Test>
+        ensures { NextTest self.old self.new result }
+    {
+        let mut tests = mem::replace(&mut self.tests, List::new(alloc)).into_vec();
+        if tests.is_empty() {
+            return None;
+        }
+        let first = tests.remove(0);
+        self.tests = List::from_vec(tests);
+        Some(first)
+    }
+
+    /// The first remaining test is made as a step of its own, and taken in.
+    pub(crate) fn take_test(
+        &mut self,
+        alloc: Global,
+        draft: &mut Draft,
+        test: Test,
+    ) -> Result<(), Memory>
+        ensures { OnOk result (TakesTest test self.old self.new draft.old draft.new) }
+    {
+        let variables = variables_of(alloc, &test)?;
+        draft.leaf(test)?;
+        self.take_in(alloc, draft, variables)
+    }
+
+    /// The formula whose steps were just made is taken off: by a `minus` where its variables are covered, and else as its complement, which is joined with the result so far.
+    pub(crate) fn take_off(
+        &mut self,
+        alloc: Global,
+        draft: &mut Draft,
+        variables: List<Variable>,
+    ) -> Result<(), Memory>
+        ensures { OnOk result (TakesOff (map variable_of variables) self.old self.new draft.old draft.new) }
+    {
+        let covered = are_among(variables.as_slice(), self.variables.as_slice());
+        subtract(alloc, draft, self.result, covered)?;
+        add_variables(&mut self.variables, variables)?;
+        self.result = Some(draft.last);
+        Ok(())
+    }
+}
+
+/// Each test that remains is made and taken in, in order.
+pub(crate) fn take_tests(
+    alloc: Global,
+    draft: &mut Draft,
+    taking: &mut Taking,
+) -> Result<(), Memory>
+    ensures { OnOk result (TakesTests (length taking.old.tests) draft.old draft.new taking.old taking.new) }
+{
+    for _turn in 0..taking.tests.len() {
+        take_next(alloc, draft, taking)?;
+    }
+    Ok(())
+}
+
+// The next test, if there is one.
+fn take_next(alloc: Global, draft: &mut Draft, taking: &mut Taking) -> Result<(), Memory>
+    ensures { OnOk result (TurnsTest draft.old draft.new taking.old taking.new) }
+{
+    match taking.next_test(alloc) {
+        None => Ok(()),
+        Some(test) => taking.take_test(alloc, draft, test),
+    }
+}
+
+// The variables of a test.
+fn variables_of(alloc: Global, test: &Test) -> Result<List<Variable>, Memory>
+    ensures { IfOk result (λ made. HaveSame (map variable_of made) (free (test_form test.now))) }
+{
+    let test = test.copy(alloc)?;
+    free_variables(alloc, &Core::Check { test })
+}
+
+// The last step joined with the result so far, or the tests selected of it where there is no result.
+fn carry(draft: &mut Draft, left: Option<Operand>, tests: List<Test>) -> Result<(), Memory>
+    ensures { OnOk result (Carries left tests draft.old draft.new) }
+{
+    match left {
+        Some(left) => draft.join(left, tests),
+        None => select_each(draft, tests),
+    }
+}
+
+// The last step taken off the result so far where it is covered; else its complement, joined with the result where there is one.
+fn subtract(
+    alloc: Global,
+    draft: &mut Draft,
+    left: Option<Operand>,
+    covered: bool,
+) -> Result<(), Memory>
+    ensures { OnOk result (Subtracts left covered draft.old draft.new) }
+{
+    match left {
+        Some(left) if covered => draft.minus(left),
+        Some(left) => {
+            draft.complement()?;
+            draft.join(left, List::new(alloc))
+        }
+        None => draft.complement(),
+    }
+}
+
+// One `select` for each test, in order.
+fn select_each(draft: &mut Draft, tests: List<Test>) -> Result<(), Memory>
+    ensures { OnOk result ((M : Structure) (K : ℕ) → AreTests tests → Extends M K (selected_each tests) draft.old draft.new) }
+{
+    for test in tests.into_vec() {
+        draft.select(test)?;
+    }
+    Ok(())
+}
+
+// The tests whose variables are all among these, and the others, each in order.
+fn split_covered(
+    alloc: Global,
+    tests: List<Test>,
+    variables: &[Variable],
+) -> Result<(List<Test>, List<Test>), Memory>
+    ensures covered { IfOk result (λ made. made.0 ≡ filter (covered_by (map variable_of variables.now)) tests) }
+    ensures others { IfOk result (λ made. made.1 ≡ filter (λ t. not (covered_by (map variable_of variables.now) t)) tests) }
+{
+    let mut covered = List::new(alloc);
+    let mut others = List::new(alloc);
+    for test in tests.into_vec() {
+        if covers(variables, &test) {
+            covered.push(test)?;
+        } else {
+            others.push(test)?;
+        }
+    }
+    Ok((covered, others))
+}
