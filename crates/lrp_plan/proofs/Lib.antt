@@ -12,3 +12,7 @@ pub mod Answered
 pub mod Texts
 pub mod Sorting
 pub mod Sorted
+pub mod Named
+pub mod Names
+pub mod Scales
+pub mod NamedSorts

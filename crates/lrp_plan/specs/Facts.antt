@@ -5,7 +5,7 @@ use Rattle.lrp_model.specs.Periods.{value_periods}
 use Rattle.lrp_model.specs.Reach.{greatest}
 use Rattle.lrp_model.specs.declared.relations.Row.{Row}
 use Rattle.lrp_plan.specs.declared.facts.Facts.{Facts}
-use Rattle.lrp_plan.specs.Multiples.{IsPeriodOf}
+use Rattle.lrp_plan.specs.Multiples.{IsPeriodOf, IsLeastOf}
 
 -- the periods of a row's points
 abbrev pub periods_of_row : Row → List ℕ
@@ -24,3 +24,11 @@ pub record AreFacts (all : List Row) (facts : Facts) : Type 0 where
 -- a least common multiple, and the one with further numbers
 pub record KeepsPeriod (further : List ℕ) (old new : Option ℕ) : Type 0 where
   pub keeps : (ks : List ℕ) → IsPeriodOf ks old → IsPeriodOf (ks ++ further) new
+
+-- a least common multiple, and the one with that of other numbers, if they have one
+pub record KeepsRows (rows : Option ℕ) (old : ℕ) (new : Option ℕ) : Type 0 where
+  pub keeps : (ks ls : List ℕ) → IsLeastOf ks old → IsPeriodOf ls rows → IsPeriodOf (ks ++ ls) new
+
+-- and the one with those of rows
+pub record KeepsFacts (facts : Facts) (old new : Option ℕ) : Type 0 where
+  pub keeps : (all : List Row) → AreFacts all facts → KeepsPeriod (flat_map periods_of_row all) old new

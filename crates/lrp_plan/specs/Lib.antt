@@ -6,3 +6,4 @@ pub mod Taking
 pub mod Elements
 pub mod Sources
 pub mod Splits
+pub mod Naming

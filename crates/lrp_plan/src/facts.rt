@@ -54,7 +54,8 @@ fn with_value(period: Option<Period>, value: &Value) -> Option<Period>
     }
 }
 
-fn with_point(period: Option<Period>, at: &RowPoint) -> Option<Period>
+/// The period with that of a point.
+pub(crate) fn with_point(period: Option<Period>, at: &RowPoint) -> Option<Period>
     ensures { KeepsPeriod (nat_abs at.now.period ∷ []) (option_map (λ p. p.number) period) (option_map (λ p. p.number) result) }
 {
     match period {

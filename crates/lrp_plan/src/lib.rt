@@ -4,9 +4,13 @@
 mod drafts;
 mod elements;
 mod facts;
+mod naming;
 mod periods;
 mod planner;
 mod reaches;
+mod scaling;
+mod sorts;
 mod sources;
 mod splits;
 mod taking;
+mod wholes;
