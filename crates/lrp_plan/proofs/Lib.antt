@@ -16,3 +16,5 @@ pub mod Named
 pub mod Names
 pub mod Scales
 pub mod NamedSorts
+pub mod Finished
+pub mod Literal

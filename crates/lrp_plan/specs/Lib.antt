@@ -7,3 +7,4 @@ pub mod Elements
 pub mod Sources
 pub mod Splits
 pub mod Naming
+pub mod Literals

@@ -4,6 +4,7 @@
 mod drafts;
 mod elements;
 mod facts;
+mod literals;
 mod naming;
 mod periods;
 mod planner;
