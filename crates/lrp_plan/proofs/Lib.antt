@@ -18,3 +18,4 @@ pub mod Scales
 pub mod NamedSorts
 pub mod Finished
 pub mod Literal
+pub mod Whole

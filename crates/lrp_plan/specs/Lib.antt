@@ -8,3 +8,4 @@ pub mod Sources
 pub mod Splits
 pub mod Naming
 pub mod Literals
+pub mod Planning

@@ -8,6 +8,7 @@ mod literals;
 mod naming;
 mod periods;
 mod planner;
+mod planning;
 mod reaches;
 mod scaling;
 mod sorts;
@@ -15,3 +16,10 @@ mod sources;
 mod splits;
 mod taking;
 mod wholes;
+
+pub use lrp_plan_laws::{
+    core_form_is_sound, drops_are_guarded, periods_are_least, plan_is_sound, plan_rises,
+    settled_queries_have_sound_plans, sorted_queries_are_settled, steps_are_made, steps_are_narrow,
+};
+pub use lrp_plan_text::write_plan;
+pub use planning::{PlanFault, plan};

@@ -1,0 +1,215 @@
+-- The whole plan of a query: its core form has the periods of the body, and so its draft is the query's.
+use Rattle.std.proofs.Common.{◌≡◌, ◌≤◌, ◌<◌, ◌+◌, ◌*◌, ◌^◌, ℕ, Bool, List, [], ◌∷◌, ◌++◌, Contains, Option, Some, None, option_map, Result, Ok, Err, zero, suc, ⊎_elim, refl, sym, ap, subst, ◌∙◌, arith}
+use Rattle.std.specs.List.{AllZip, AllByRecursion}
+use Rattle.std.specs.Result.{IfOk}
+use Rattle.std.specs.Str.{bytes_eq}
+use Rattle.std.specs.HashMap.{get}
+use Rattle.std.proofs.lemmas.Bool.{cases_lt}
+use Rattle.std.proofs.lemmas.Nat.{pow_pos}
+use Rattle.lrp_model.specs.Texts.{Text, Identifier, in_order}
+use Rattle.lrp_model.specs.Rows.{rows_of}
+use Rattle.lrp_model.specs.Formulas.{Form, Question}
+use Rattle.lrp_model.specs.Variables.{Variable, free, head_variables}
+use Rattle.lrp_model.specs.Satisfaction.{Structure, structure}
+use Rattle.lrp_model.specs.Core.{core_form, guarded, has_named_sort, HasElements}
+use Rattle.lrp_model.specs.Domains.{database_texts, all_texts}
+use Rattle.lrp_model.specs.Periods.{IsMultiple, lcm_all, periods, period}
+use Rattle.lrp_model.specs.Plans.{plan, plan_of, query_reach, scaled_reach, time_columns, IsStep}
+use Rattle.lrp_model.specs.declared.relations.Relation.{Relation}
+use Rattle.lrp_model.specs.declared.relations.Column.{Column}
+use Rattle.lrp_model.specs.declared.relations.Sort.{Sort}
+use Rattle.lrp_model.proofs.Logic.{all_append}
+use Rattle.lrp_plan_laws.specs.Rising.{HasPeriods}
+use Rattle.lrp_plan_laws.proofs.Marks.{marks, marked_periods}
+use Rattle.lrp_plan_laws.proofs.Names.{names_self}
+use Rattle.lrp_plan_laws.proofs.Members.{all_from, all_self}
+use Rattle.lrp_plan_laws.proofs.CoreNames.{core_named, guarded_within, guarded_body}
+use Rattle.lrp_plan_laws.proofs.PeriodLaws.{lcm_all_is, lcm_positive}
+use Rattle.lrp_plan_laws.proofs.PlanSound.{core_of_query}
+use Rattle.lrp_rel.specs.Once.{once, texts_among, texts_with}
+use Rattle.lrp_rel.proofs.OnceLaws.{once_in_order}
+use Rattle.lrp_plan.specs.declared.drafts.Draft.{Draft}
+use Rattle.lrp_plan.specs.declared.sources.Sources.{Sources}
+use Rattle.lrp_plan.specs.Capped.{capped}
+use Rattle.lrp_plan.specs.Drafts.{IsDraft, IsDraftOf, Extends, headed}
+use Rattle.lrp_plan.specs.Elements.{CanPlan}
+use Rattle.lrp_plan.specs.Facts.{KeepsPeriod}
+use Rattle.lrp_plan.specs.Multiples.{IsCommon, IsPeriod, IsLeastOf, IsPeriodOf}
+use Rattle.lrp_model.specs.declared.plans.Plan.{Plan}
+use Rattle.lrp_plan.specs.declared.periods.Period.{Period}
+use Rattle.lrp_plan.specs.declared.planning.PlanFault.{PlanFault}
+use Rattle.lrp_plan.specs.declared.planning.PlanFault.TheVariants.{PeriodLimit, BoundLimit, Memory}
+use Rattle.lrp_plan.specs.Planning.{IsWholeDraft, AreGathered, IsOutcome}
+use Rattle.lrp_plan.specs.Sources.{AreFactsOf, AreSources}
+use Rattle.lrp_plan.proofs.Finished.{finished}
+use Rattle.lrp_plan.proofs.Keeping.{least_is, least_of_none}
+
+-- ---- what is read
+
+-- the texts of the database and of the query are all texts, and so those of each sort
+pub sources_are : (db : List Relation) (q : Question) (sources : Sources) → ((name : Identifier) → AreFactsOf (rows_of db name) (get bytes_eq sources.facts name)) → database_texts sources.database.now ++ sources.texts.items ≡ all_texts db q → AreSources (structure db q) sources
+sources_are db q sources h e = record { facts_are = h; texts_are = λ s. ap (λ xs. in_order (texts_with s xs)) (sym e) }
+
+-- texts of two lists of entries
+among_both : (xs ys : List (Sort × Text)) → texts_among (xs ++ ys) ≡ texts_among xs ++ texts_among ys
+among_both [] ys = refl
+among_both (x ∷ xs) ys = ap (λ ts. x.1 ∷ ts) (among_both xs ys)
+
+-- the constants, where those of the database stand once
+pub constants_made : {E : Type 0} (r : Result (List Text) E) (all : List Text) (xs ys : List (Sort × Text)) → all ≡ once (texts_among xs) ++ texts_among ys → IfOk r (λ made. made ≡ in_order all) → IfOk r (λ made. made ≡ in_order (texts_among (xs ++ ys)))
+constants_made (Ok made) all xs ys e m = m ∙ ap in_order e ∙ once_in_order (texts_among xs) (texts_among ys) ∙ ap in_order (sym (among_both xs ys))
+constants_made (Err x) all xs ys e m = tt
+
+-- ---- the periods of the core form
+
+-- the formula with the head's sort elements names the body's periods
+head_in_body : (named : Bool) (q : Question) (db : List Relation) → AllByRecursion (Contains (periods q.body db)) (periods (guarded named q.head q.body) db)
+head_in_body named q db =
+    let room : List Variable = head_variables q.head ++ free q.body in
+    let two = (all_append (Contains room) (head_variables q.head) (free q.body)).0 (all_self room) in
+    marked_periods (guarded named q.head q.body) q.body db (guarded_within named q db room (marks q.body db) two.0 (two.1, all_self (marks q.body db))).1
+
+-- and the other way round
+body_in_head : (named : Bool) (q : Question) (db : List Relation) → AllByRecursion (Contains (periods (guarded named q.head q.body) db)) (periods q.body db)
+body_in_head named q db =
+    let f : Form = guarded named q.head q.body in
+    marked_periods q.body f db (guarded_body named q db (free f) (marks f db) (names_self db f)).1
+
+-- the core form names those of that formula
+core_in_head : (named : Bool) (q : Question) (db : List Relation) → AllByRecursion (Contains (periods (guarded named q.head q.body) db)) (periods (core_form named q) db)
+core_in_head named q db =
+    let f : Form = guarded named q.head q.body in
+    marked_periods (core_form named q) f db ((core_named named q db (free f) (marks f db)).1 (names_self db f)).1
+
+-- and the other way round
+head_in_core : (named : Bool) (q : Question) (db : List Relation) → AllByRecursion (Contains (periods (core_form named q) db)) (periods (guarded named q.head q.body) db)
+head_in_core named q db =
+    let f : Form = core_form named q in
+    marked_periods (guarded named q.head q.body) f db ((core_named named q db (free f) (marks f db)).0 (names_self db f)).1
+
+-- lists with the same members have the same common multiples
+common_from : (ks ls : List ℕ) (n : ℕ) → AllByRecursion (Contains ks) ls → IsCommon ks n → IsCommon ls n
+common_from ks ls n h c = all_from (λ k. IsMultiple k n) ks ls h c
+
+-- and the same least one
+least_from : (ks ls : List ℕ) (k : ℕ) → AllByRecursion (Contains ks) ls → AllByRecursion (Contains ls) ks → IsLeastOf ks k → IsLeastOf ls k
+least_from ks ls k h g least = record { period = least.period; multiples = λ n. let m = least.multiples n in ((λ x. common_from ks ls n h (m.0 x)), λ c. m.1 (common_from ls ks n g c)) }
+
+-- the least common multiple is a common one
+common_self : (ks : List ℕ) (k : ℕ) → IsLeastOf ks k → IsCommon ks k
+common_self ks k least = (least.multiples k).0 (record { times = 1; is = omega arith })
+
+-- the period of the core form is the query's, so that is at most 2^62
+pub low_period : (db : List Relation) (q : Question) (k : ℕ) → IsLeastOf (periods (core_form (has_named_sort db) q) db) k → period db q.body ≤ 2 ^ 62
+low_period db q k least =
+    let named : Bool = has_named_sort db in
+    let head : IsLeastOf (periods (guarded named q.head q.body) db) k = least_from (periods (core_form named q) db) (periods (guarded named q.head q.body) db) k (head_in_core named q db) (core_in_head named q db) least in
+    let body : IsLeastOf (periods q.body db) k = least_from (periods (guarded named q.head q.body) db) (periods q.body db) k (body_in_head named q db) (head_in_body named q db) head in
+    let high : k ≤ 2 ^ 62 = body.period.high in
+    subst (λ x. x ≤ 2 ^ 62) (least_is (periods q.body db) k body) high
+
+-- where the core form has none up to 2^62, the query's is above
+pub high_period : (db : List Relation) (q : Question) → HasPeriods db q → IsPeriodOf (periods (core_form (has_named_sort db) q) db) None → 2 ^ 62 < period db q.body
+high_period db q h none =
+    let named : Bool = has_named_sort db in
+    let ks : List ℕ = periods q.body db in
+    ⊎_elim (λ lt. lt)
+    (λ le. absurd (none (lcm_all ks) (record { low = lcm_positive ks h; high = le })
+    (common_from (periods (guarded named q.head q.body) db) (periods (core_form named q) db) (lcm_all ks) (core_in_head named q db)
+    (common_from ks (periods (guarded named q.head q.body) db) (lcm_all ks) (head_in_body named q db) (lcm_all_is ks h).common))))
+    (cases_lt (2 ^ 62) (lcm_all ks))
+
+-- ---- the draft
+
+-- from the period 1 on, the period of a core form
+pub from_one : (ks : List ℕ) (old new : Option ℕ) → KeepsPeriod ks old new → old ≡ Some 1 → IsPeriodOf ks new
+from_one ks old new h e = h.keeps [] (subst (IsPeriodOf []) (sym e) least_of_none)
+
+-- no steps are a draft of no plan
+starts : (db : List Relation) (K : ℕ) (start : Draft) → start.steps ≡ [] → start.last.number ≡ 0 → start.last.period.number ≡ 1 → start.last.reach ≡ 0 → IsPeriod K → IsDraft db K start []
+starts db K start s n p r whole = record {
+  whole = whole;
+  steps = subst (λ xs. AllZip IsDraftOf xs []) (sym s) tt;
+  last = record { within = omega arith; number = n; period = subst (IsLeastOf []) (sym p) least_of_none; reach = r; divides = tt };
+}
+
+-- the steps of the core form, and then the last one
+pub whole_follows : (sources : Sources) (f : Form) (k : ℕ) (start mid new : Draft) → start.steps ≡ [] → start.last.number ≡ 0 → start.last.period.number ≡ 1 → start.last.reach ≡ 0
+    → ((M : Structure) (K : ℕ) → AreSources M sources → CanPlan M K f → Extends M K (plan_of f) start mid)
+    → ((M : Structure) (K : ℕ) (g : Form) → IsLeastOf (periods g M.relations) k → IsCommon (periods g M.relations) K → Extends M K (headed g) mid new)
+    → IsWholeDraft sources f k new
+whole_follows sources f k start mid new s n p r core head =
+    record { follows = λ M K g a c whole least common. (head M K g least common).follows (plan_of f M []) ((core M K a c).follows [] (starts M.relations K start s n p r whole)) }
+
+-- the draft of the query's core form is that of its plan
+pub draft_is : (db : List Relation) (q : Question) (sources : Sources) (f : Form) (k : ℕ) (draft : Draft) → HasElements q.body → AreSources (structure db q) sources → f ≡ core_form (has_named_sort db) q → IsLeastOf (periods f db) k → IsWholeDraft sources f k draft → IsDraft db k draft (plan db q)
+draft_is db q sources f k draft h a e least w =
+    let named : Bool = has_named_sort db in
+    let M : Structure = structure db q in
+    let g : Form = guarded named q.head q.body in
+    let c : Form = core_form named q in
+    let l : IsLeastOf (periods c db) k = subst (λ x. IsLeastOf (periods x db) k) e least in
+    let m : IsLeastOf (periods g db) k = least_from (periods c db) (periods g db) k (head_in_core named q db) (core_in_head named q db) l in
+    (subst (λ x. IsWholeDraft sources x k draft) e w).follows M k g a (record { core = core_of_query named q h; divides = common_self (periods c db) k l }) l.period m (common_self (periods g db) k m)
+
+-- its last reach, doubled, is the query's up to 2^62 + 1
+pub reach_is : (db : List Relation) (q : Question) (k r : ℕ) (draft : Draft) → IsDraft db k draft (plan db q) → ((n : ℕ) → draft.last.reach ≡ capped n → r ≡ capped (2 ^ (time_columns q.head + 1) * n)) → r ≡ capped (scaled_reach db q)
+reach_is db q k r draft d h = h (query_reach db q) d.last.reach
+
+-- a power of 2 is at least 1
+doubled_up : (m n : ℕ) → n ≤ 2 ^ (m + 1) * n
+doubled_up m n = times (2 ^ (m + 1)) (some m)
+  where
+    some : (m : ℕ) → 1 ≤ 2 ^ (m + 1)
+    some m = let p = pow_pos (m + 1) in omega (arith, p)
+
+    times : (t : ℕ) → 1 ≤ t → n ≤ t * n
+    times zero h = absurd (omega arith)
+    times (suc t) h = omega arith
+
+-- where that is at most 2^62, the steps are the plan's
+pub steps_are : (db : List Relation) (q : Question) (k r : ℕ) (draft : Draft) → HasElements q.body → HasPeriods db q → IsDraft db k draft (plan db q) → r ≡ capped (scaled_reach db q) → r ≤ 2 ^ 62 → AllZip IsStep draft.steps (plan db q)
+steps_are db q k r draft h p d e low =
+    let s : scaled_reach db q ≤ 2 ^ 62 = omega arith in
+    let u : query_reach db q ≤ scaled_reach db q = doubled_up (time_columns q.head) (query_reach db q) in
+    finished db q k draft h p (omega arith) d
+
+-- the reach, doubled for the columns that are read, is that for the head's
+pub same_head : (cs head : List Column) (r reach : ℕ) → cs ≡ head → ((n : ℕ) → reach ≡ capped n → r ≡ capped (2 ^ (time_columns cs + 1) * n)) → (n : ℕ) → reach ≡ capped n → r ≡ capped (2 ^ (time_columns head + 1) * n)
+same_head cs head r reach e h n is = h n is ∙ ap (λ xs. capped (2 ^ (time_columns xs + 1) * n)) e
+
+-- ---- outcomes
+
+-- without a period up to 2^62
+pub no_period : (db : List Relation) (q : Question) (sources : Sources) (f : Form) (o : Option Period) → o ≡ None → ((M : Structure) → AreSources M sources → IsPeriodOf (periods f M.relations) (option_map (λ p. p.number) o)) → AreGathered db q sources f → IsOutcome db q (Err PeriodLimit)
+no_period db q sources f o e h g =
+    high_period db q g.periods (subst (λ x. IsPeriodOf (periods x db) None) g.core (subst (λ x. IsPeriodOf (periods f db) (option_map (λ (p : Period). p.number) x)) e (h (structure db q) g.gathered)))
+
+-- without memory
+pub no_memory : (db : List Relation) (q : Question) (e : PlanFault) → e ≡ Memory → IsOutcome db q (Err e)
+no_memory db q e is = subst (λ x. IsOutcome db q (Err x)) (sym is) tt
+
+-- the period that was found is the core form's
+least_found : (db : List Relation) (q : Question) (sources : Sources) (f : Form) (o : Option Period) (p : Period) → o ≡ Some p → ((M : Structure) → AreSources M sources → IsPeriodOf (periods f M.relations) (option_map (λ p. p.number) o)) → AreGathered db q sources f → IsLeastOf (periods f db) p.number
+least_found db q sources f o p e h g = subst (λ x. IsPeriodOf (periods f db) (option_map (λ (p : Period). p.number) x)) e (h (structure db q) g.gathered)
+
+-- above the limit of reaches
+pub far_reach : (db : List Relation) (q : Question) (sources : Sources) (f : Form) (o : Option Period) (p : Period) (draft : Draft) (r : ℕ) → o ≡ Some p → ((M : Structure) → AreSources M sources → IsPeriodOf (periods f M.relations) (option_map (λ p. p.number) o)) → IsWholeDraft sources f p.number draft
+    → ((n : ℕ) → draft.last.reach ≡ capped n → r ≡ capped (2 ^ (time_columns q.head + 1) * n)) → 2 ^ 62 < r → AreGathered db q sources f → IsOutcome db q (Err BoundLimit)
+far_reach db q sources f o p draft r e h w s far g =
+    let least : IsLeastOf (periods f db) p.number = least_found db q sources f o p e h g in
+    let d : IsDraft db p.number draft (plan db q) = draft_is db q sources f p.number draft g.elements g.gathered g.core least w in
+    let c : r ≡ capped (scaled_reach db q) = reach_is db q p.number r draft d s in
+    (low_period db q p.number (subst (λ x. IsLeastOf (periods x db) p.number) g.core least), omega arith)
+
+-- within the limits
+pub near_reach : (db : List Relation) (q : Question) (sources : Sources) (f : Form) (o : Option Period) (p : Period) (draft : Draft) (r : ℕ) (made : Plan) → o ≡ Some p → ((M : Structure) → AreSources M sources → IsPeriodOf (periods f M.relations) (option_map (λ p. p.number) o)) → IsWholeDraft sources f p.number draft
+    → ((n : ℕ) → draft.last.reach ≡ capped n → r ≡ capped (2 ^ (time_columns q.head + 1) * n)) → r ≤ 2 ^ 62
+    → made.steps ≡ draft.steps → made.head.columns ≡ q.head → made.domain ≡ in_order (texts_among (database_texts sources.database.now ++ sources.texts.items)) → AreGathered db q sources f → IsOutcome db q (Ok made)
+near_reach db q sources f o p draft r made e h w s low steps head domain g =
+    let least : IsLeastOf (periods f db) p.number = least_found db q sources f o p e h g in
+    let d : IsDraft db p.number draft (plan db q) = draft_is db q sources f p.number draft g.elements g.gathered g.core least w in
+    let c : r ≡ capped (scaled_reach db q) = reach_is db q p.number r draft d s in (
+      record { steps = subst (λ xs. AllZip IsStep xs (plan db q)) (sym steps) (steps_are db q p.number r draft g.elements g.periods d c low); head = head; domain = domain ∙ ap (λ xs. in_order (texts_among xs)) g.texts },
+      record { period = low_period db q p.number (subst (λ x. IsLeastOf (periods x db) p.number) g.core least); reach = omega arith },
+    )

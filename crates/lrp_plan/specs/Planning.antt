@@ -1,0 +1,47 @@
+-- Which queries have a plan, and why others have none.
+use Rattle.std.specs.Prelude.{◌≡◌, ℕ, ◌≤◌, ◌<◌, ◌^◌, List, [], ◌++◌, Result, Ok, Err}
+use Rattle.lrp_model.specs.Formulas.{Form, Question}
+use Rattle.lrp_model.specs.Satisfaction.{Structure, structure}
+use Rattle.lrp_model.specs.Core.{core_form, has_named_sort, HasElements}
+use Rattle.lrp_model.specs.Domains.{database_texts, all_texts}
+use Rattle.lrp_model.specs.Periods.{periods, period}
+use Rattle.lrp_model.specs.Plans.{plan_of, scaled_reach, IsPlan}
+use Rattle.lrp_model.specs.declared.plans.Plan.{Plan}
+use Rattle.lrp_model.specs.declared.relations.Relation.{Relation}
+use Rattle.lrp_plan_laws.specs.Rising.{HasPeriods}
+use Rattle.lrp_plan.specs.declared.drafts.Draft.{Draft}
+use Rattle.lrp_plan.specs.declared.planning.PlanFault.{PlanFault}
+use Rattle.lrp_plan.specs.declared.planning.PlanFault.TheVariants.{PeriodLimit, BoundLimit, Memory}
+use Rattle.lrp_plan.specs.declared.sources.Sources.{Sources}
+use Rattle.lrp_plan.specs.Drafts.{IsDraft, headed}
+use Rattle.lrp_plan.specs.Elements.{CanPlan}
+use Rattle.lrp_plan.specs.Multiples.{IsCommon, IsPeriod, IsLeastOf}
+use Rattle.lrp_plan.specs.Sources.{AreSources}
+
+-- neither the period nor the reach, doubled for the answers, is above 2^62
+pub record IsWithinLimits (db : List Relation) (q : Question) : Type 0 where
+  pub period : period db q.body ≤ 2 ^ 62
+  pub reach : scaled_reach db q ≤ 2 ^ 62
+
+-- the period is above 2^62; or else the reach is; or memory ran out
+abbrev pub HasCause : PlanFault → List Relation → Question → Type 0
+HasCause PeriodLimit db q = 2 ^ 62 < period db q.body
+HasCause BoundLimit db q = (period db q.body ≤ 2 ^ 62) × (2 ^ 62 < scaled_reach db q)
+HasCause Memory db q = Unit {0}
+
+-- the steps of a core form, and then the last one, of a formula with this period
+pub record IsWholeDraft (sources : Sources) (f : Form) (k : ℕ) (draft : Draft) : Type 0 where
+  pub follows : (M : Structure) (K : ℕ) (g : Form) → AreSources M sources → CanPlan M K f → IsPeriod K → IsLeastOf (periods g M.relations) k → IsCommon (periods g M.relations) K → IsDraft M.relations K draft (headed g M (plan_of f M []))
+
+-- what is read is that of a database and a query, and the core form is the query's
+pub record AreGathered (db : List Relation) (q : Question) (sources : Sources) (f : Form) : Type 0 where
+  pub elements : HasElements q.body
+  pub periods : HasPeriods db q
+  pub core : f ≡ core_form (has_named_sort db) q
+  pub gathered : AreSources (structure db q) sources
+  pub texts : database_texts sources.database.now ++ sources.texts.items ≡ all_texts db q
+
+-- the plan within the limits, or the cause why there is none
+abbrev pub IsOutcome : List Relation → Question → Result Plan PlanFault → Type 0
+IsOutcome db q (Ok p) = IsPlan p db q × IsWithinLimits db q
+IsOutcome db q (Err e) = HasCause e db q
