@@ -1,7 +1,6 @@
 //! The text of a plan: a line for each step.
 #![tactic(auto)]
 
-mod pieces;
 mod plans;
 mod terms;
 #[cfg(test)]

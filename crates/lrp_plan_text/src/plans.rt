@@ -8,10 +8,10 @@ ghost use Rattle.lrp_model.specs.Printed.{joined_by, sort_bytes};
 ghost use Rattle.lrp_model.specs.PrintedPlans.{term_bytes, test_bytes, leaf_word as word_of_leaf, two_steps, carried_bytes, drop_bytes, kind_bytes, step_line, step_lines, plan_bytes};
 ghost use Rattle.lrp_plan_text.specs.Writable.{HasPeriod, HasPeriods, KindHasPeriods};
 
-use crate::pieces::{write_bytes, write_count, write_integer, write_number, write_sort};
 use crate::terms::{leaf_word, write_carried, write_terms, write_test};
 use lrp_io::{Failed, Sink};
 use lrp_model::{Name, Plan, Sort, Step, StepKind, Term, Test};
+use lrp_print::{write_bytes, write_count, write_integer, write_number, write_sort};
 
 /// Writes a plan: for each step a line with its number, its word and operands, its period and its reach. After a failure a front of the text was written.
 pub fn write_plan<S: Sink>(out: &mut S, plan: &Plan) -> Result<(), Failed>

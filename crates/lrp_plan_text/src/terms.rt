@@ -7,9 +7,9 @@ ghost use Rattle.lrp_model.specs.Printed.{joined_by, point_bytes, offset_bytes};
 ghost use Rattle.lrp_model.specs.PrintedPlans.{time_bytes, data_bytes, term_bytes, op_bytes, test_bytes, leaf_word as word_of_leaf, carried_bytes};
 ghost use Rattle.lrp_plan_text.specs.Writable.{HasPeriod};
 
-use crate::pieces::{write_bytes, write_integer, write_offset, write_point, write_quoted};
 use lrp_io::{Failed, Sink};
 use lrp_model::{DataTerm, Name, Op, RowPoint, Term, Test, TimeTerm};
+use lrp_print::{write_bytes, write_integer, write_offset, write_point, write_quoted};
 
 // A variable with its offset.
 fn write_variable<S: Sink>(out: &mut S, name: &Name, plus: &i64) -> Result<(), Failed>

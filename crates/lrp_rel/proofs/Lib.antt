@@ -15,7 +15,6 @@ pub mod BoundRules
 pub mod RowRules
 pub mod RelationRules
 pub mod DatabaseRules
-pub mod Pieces
 pub mod Ops
 pub mod Steps
 pub mod Shallow

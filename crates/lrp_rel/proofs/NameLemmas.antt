@@ -17,7 +17,7 @@ use Rattle.lrp_model.specs.Lexing.{Scanned, Text as TextRead, scan, run, behind_
 use Rattle.lrp_model.specs.Columns.{column_text, sort_token}
 use Rattle.lrp_model.specs.Databases.{comma, name_part, row_text, relation_text, database_text}
 use Rattle.lrp_text.proofs.Scans.{chosen}
-use Rattle.lrp_rel.specs.Kept.{IsName, IsNamedSort}
+use Rattle.lrp_print.specs.Kept.{IsName, IsNamedSort}
 
 -- a run of a run is the run, and nothing is behind it
 run_again : (test : ℕ → Bool) (bs : List ℕ) → (run test (run test bs) ≡ run test bs) × (behind_run test (run test bs) ≡ [])

@@ -20,7 +20,7 @@ use Rattle.lrp_model.specs.declared.relations.Sort.TheVariants.{Data, Named}
 use Rattle.lrp_model.specs.declared.relations.Column.{Column}
 use Rattle.lrp_model.specs.declared.relations.Value.{Value}
 use Rattle.lrp_model.specs.declared.relations.Value.TheVariants.{Point, Const}
-use Rattle.lrp_rel.specs.Kept.{AreValuesOf}
+use Rattle.lrp_print.specs.Kept.{AreValuesOf}
 use Rattle.lrp_rel.specs.Seen.{HasSeen, SeesMore, named_texts}
 use Rattle.lrp_rel.specs.declared.seen.Seen.{Seen}
 use Rattle.lrp_rel.specs.Once.{once, put_once, texts_among, texts_with, beside}

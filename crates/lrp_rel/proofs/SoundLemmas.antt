@@ -20,7 +20,7 @@ use Rattle.lrp_model.specs.declared.written.RawRow.{RawRow}
 use Rattle.lrp_model.specs.declared.written.RawRelation.{RawRelation}
 use Rattle.lrp_model.specs.declared.faults.DbFault.{DbFault}
 use Rattle.lrp_model.specs.declared.faults.DbKind.TheVariants.{Name, Arity, Sort, Wide}
-use Rattle.lrp_rel.specs.Kept.{Differ, times_in, texts_in}
+use Rattle.lrp_print.specs.Kept.{Differ, times_in, texts_in}
 use Rattle.lrp_rel.specs.Once.{once, put_once}
 use Rattle.lrp_model.specs.Databases.{FitsRow}
 use Rattle.lrp_rel.specs.Times.{time_names, AreTimesOf, AreNumbered, place_from, points_in, point_count, HasRowMeaning, HasMeaning}

@@ -17,8 +17,8 @@ use Rattle.lrp_model.specs.declared.relations.Column.{Column}
 use Rattle.lrp_model.specs.declared.relations.Value.{Value}
 use Rattle.lrp_model.specs.declared.relations.Value.TheVariants.{Point, Const}
 use Rattle.lrp_model.specs.declared.relations.Relation.{Relation}
-use Rattle.lrp_rel.specs.Kept.{AreValuesOf, IsRowOf, IsKept, Differ}
-use Rattle.lrp_rel.proofs.Pieces.{all_at, all_as}
+use Rattle.lrp_print.specs.Kept.{AreValuesOf, IsRowOf, IsKept, Differ}
+use Rattle.lrp_print.proofs.Lines.{all_at, all_as}
 use Rattle.lrp_rel.proofs.SeenLemmas.{IsFirst, neither}
 
 -- a test that passes nothing of each part passes nothing of the whole

@@ -4,5 +4,4 @@ pub mod Stored
 pub mod Times
 pub mod Sooner
 pub mod Rules
-pub mod Kept
 pub mod Reading

@@ -5,7 +5,7 @@ use Rattle.lrp_model.specs.Texts.{Identifier}
 use Rattle.lrp_model.specs.Domains.{database_texts}
 use Rattle.lrp_model.specs.declared.relations.Sort.TheVariants.{Data, Named}
 use Rattle.lrp_model.specs.declared.relations.Relation.{Relation}
-use Rattle.lrp_rel.specs.Kept.{AreKept}
+use Rattle.lrp_print.specs.Kept.{AreKept}
 use Rattle.lrp_rel.specs.declared.texts.Texts.{Texts}
 use Rattle.lrp_rel.specs.Once.{once, texts_among, texts_with, beside}
 

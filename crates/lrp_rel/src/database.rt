@@ -6,7 +6,7 @@ ghost use Rattle.indexmap.specs.IndexSet.{keys};
 ghost use Rattle.lrp_model.specs.Rows.{relation_named};
 ghost use Rattle.lrp_model.specs.Domains.{database_texts};
 ghost use Rattle.lrp_model.specs.Sorts.{is_time};
-ghost use Rattle.lrp_rel.specs.Kept.{AreKept, IsKept, Differ};
+ghost use Rattle.lrp_print.specs.Kept.{AreKept, IsKept, Differ};
 ghost use Rattle.lrp_rel.specs.Once.{once, texts_among, texts_with};
 ghost use Rattle.lrp_rel.specs.Stored.{HasFewTexts};
 

@@ -5,18 +5,19 @@ mod database;
 mod faults;
 mod laws;
 mod meaning;
-mod printing;
 mod read;
 mod reading;
 mod seen;
 mod texts;
 mod trees;
+mod written;
 
 pub use database::Database;
 pub use laws::database_texts_have_one_tree;
-pub use printing::{write_database, write_relation};
+pub use lrp_print::write_relation;
 pub use read::read_database;
 pub use trees::{ReadFault, read_tree};
+pub use written::write_database;
 
 #[cfg(test)]
 mod tests;

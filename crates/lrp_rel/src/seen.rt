@@ -3,7 +3,7 @@ ghost use Rattle.std.specs.Prelude.{◌≡◌, ◌∷◌, [], OnOk, IfOk};
 ghost use Rattle.std.specs.List.{flat_map, AllByRecursion};
 ghost use Rattle.indexmap.specs.IndexSet.{keys};
 ghost use Rattle.lrp_model.specs.Domains.{row_texts, database_texts};
-ghost use Rattle.lrp_rel.specs.Kept.{AreValuesOf, IsRowOf, IsKept};
+ghost use Rattle.lrp_print.specs.Kept.{AreValuesOf, IsRowOf, IsKept};
 ghost use Rattle.lrp_rel.specs.Once.{put_once};
 ghost use Rattle.lrp_rel.specs.Seen.{HasSeen, IsPaired, SeesMore, SeesNamed};
 

@@ -2,7 +2,7 @@
 ghost use Rattle.std.specs.Prelude.{◌≡◌, ◌∷◌, [], map, length, IfOk};
 ghost use Rattle.std.specs.List.{AllByRecursion};
 ghost use Rattle.indexmap.specs.IndexSet.{keys};
-ghost use Rattle.lrp_rel.specs.Kept.{IsKept};
+ghost use Rattle.lrp_print.specs.Kept.{IsKept};
 ghost use Rattle.lrp_rel.specs.Once.{beside};
 ghost use Rattle.lrp_rel.specs.Stored.{AreTextsOf};
 

@@ -2,7 +2,7 @@ use Rattle.std.proofs.Common.{◌++◌, codes}
 use Rattle.lrp_model.specs.Printed.{sort_bytes}
 use Rattle.std.proofs.lemmas.Result.{err_from_is_err_and}
 use Rattle.lrp_io.proofs.PieceLemmas.{written_behind, written_err, front_behind, front_before}
-use Rattle.lrp_plan_text.proofs.Lines.{ok_as, front_as}
+use Rattle.lrp_print.proofs.Lines.{ok_as, front_as}
 use Rattle.lrp_plan_text.proofs.plans.write_element.Goals as goal
 
 pub returns-in_err-write_bytes-clause-text : goal.returns-in_err-write_bytes-clause-text

@@ -3,7 +3,7 @@ use Rattle.lrp_model.specs.Printed.{joined_by}
 use Rattle.lrp_model.specs.PrintedPlans.{term_bytes}
 use Rattle.std.proofs.lemmas.Result.{err_from_is_err_and}
 use Rattle.lrp_io.proofs.PieceLemmas.{written_behind, written_err, front_behind, front_before}
-use Rattle.lrp_plan_text.proofs.Lines.{ok_as, front_as}
+use Rattle.lrp_print.proofs.Lines.{ok_as, front_as}
 use Rattle.lrp_plan_text.proofs.plans.write_scan.Goals as goal
 
 pub returns-in_err-write_bytes-clause-text : goal.returns-in_err-write_bytes-clause-text

@@ -3,7 +3,8 @@ use Rattle.std.proofs.lemmas.Result.{err_from_is_err_and}
 use Rattle.lrp_model.specs.Printed.{joined_by}
 use Rattle.lrp_model.specs.PrintedPlans.{test_bytes, carried_bytes}
 use Rattle.lrp_io.proofs.PieceLemmas.{written_behind, written_err, front_before}
-use Rattle.lrp_plan_text.proofs.Lines.{some_carried, front_as, written_as}
+use Rattle.lrp_plan_text.proofs.Lines.{some_carried}
+use Rattle.lrp_print.proofs.Lines.{front_as, written_as}
 use Rattle.lrp_plan_text.proofs.terms.write_carried.Goals as goal
 
 pub returns-in_err-write_bytes-in-len1-up-clause-text : goal.returns-in_err-write_bytes-in-len1-up-clause-text

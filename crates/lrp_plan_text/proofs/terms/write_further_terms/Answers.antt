@@ -3,7 +3,7 @@ use Rattle.std.specs.List.{flat_map}
 use Rattle.std.proofs.lemmas.Result.{err_from_is_err_and}
 use Rattle.lrp_model.specs.PrintedPlans.{term_bytes}
 use Rattle.lrp_io.proofs.PieceLemmas.{written_err}
-use Rattle.lrp_plan_text.proofs.Lines.{item_step, item_front}
+use Rattle.lrp_print.proofs.Lines.{item_step, item_front}
 use Rattle.lrp_plan_text.proofs.terms.write_further_terms.Goals as goal
 
 pub returns-in_err-write_next_term-clause-text : goal.returns-in_err-write_next_term-clause-text

@@ -2,7 +2,7 @@ use Rattle.std.proofs.Common.{◌++◌, ◌-◌, codes, take, drop, length}
 use Rattle.std.specs.List.{flat_map}
 use Rattle.lrp_model.specs.PrintedPlans.{term_bytes}
 use Rattle.lrp_io.proofs.PieceLemmas.{written_behind}
-use Rattle.lrp_plan_text.proofs.Lines.{joined_rest, written_as}
+use Rattle.lrp_print.proofs.Lines.{joined_rest, written_as}
 use Rattle.lrp_plan_text.proofs.terms.write_terms.Goals as goal
 
 pub returns-in_ok-write_term-in-len1-up-clause-text : goal.returns-in_ok-write_term-in-len1-up-clause-text

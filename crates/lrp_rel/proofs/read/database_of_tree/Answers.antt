@@ -5,7 +5,7 @@ use Rattle.lrp_model.specs.Domains.{database_texts}
 use Rattle.lrp_model.specs.DatabaseMeaning.{database_of}
 use Rattle.lrp_model.specs.DatabaseFaults.{stands, faults}
 use Rattle.lrp_model.specs.declared.relations.Relation.{Relation}
-use Rattle.lrp_rel.specs.Kept.{AreKept}
+use Rattle.lrp_print.specs.Kept.{AreKept}
 use Rattle.lrp_rel.proofs.FirstFault.{none_is_empty}
 use Rattle.lrp_rel.proofs.NameLemmas.{tree_named}
 use Rattle.lrp_rel.proofs.MeaningKept.{tree_means, tree_kept}

@@ -6,7 +6,7 @@ use Rattle.std.specs.Str.{bytes_eq}
 use Rattle.std.proofs.lemmas.Option.{get_or_from_slice_get}
 use Rattle.lrp_model.specs.declared.relations.Relation.{Relation}
 use Rattle.lrp_model.specs.Rows.{relation_named}
-use Rattle.lrp_rel.specs.Kept.{IsKept}
+use Rattle.lrp_print.specs.Kept.{IsKept}
 use Rattle.lrp_rel.proofs.SeenLemmas.{found_first}
 use Rattle.lrp_rel.proofs.StoredLemmas.{named_found, named_none, all_got}
 use Rattle.lrp_rel.proofs.database.Database.relation.Goals as goal

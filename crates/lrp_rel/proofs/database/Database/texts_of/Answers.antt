@@ -3,7 +3,7 @@ use Rattle.std.proofs.Common.{◌∙◌, ap, sym, subst, List}
 use Rattle.std.specs.List.{AllByRecursion}
 use Rattle.lrp_model.specs.Domains.{database_texts}
 use Rattle.lrp_model.specs.declared.relations.Relation.{Relation}
-use Rattle.lrp_rel.specs.Kept.{IsKept}
+use Rattle.lrp_print.specs.Kept.{IsKept}
 use Rattle.lrp_rel.specs.Once.{once, texts_with, texts_among}
 use Rattle.lrp_rel.proofs.StoredLemmas.{no_times}
 use Rattle.lrp_rel.proofs.database.Database.texts_of.Goals as goal

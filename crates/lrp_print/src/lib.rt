@@ -1,0 +1,11 @@
+//! Texts as they are written out: numbers, data texts, sorts, points and offsets, and relations made of them.
+#![tactic(auto)]
+
+mod pieces;
+mod relations;
+
+pub use pieces::{
+    write_bytes, write_count, write_integer, write_number, write_offset, write_point, write_quoted,
+    write_sort,
+};
+pub use relations::{write_relation, write_relations};
