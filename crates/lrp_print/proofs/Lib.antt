@@ -1,2 +1,11 @@
 pub mod Lines
 pub mod RowLemmas
+pub mod Spelling
+pub mod Scanned
+pub mod PieceLaws
+pub mod Trees
+pub mod Meant
+pub mod Faultless
+pub mod Sameness
+pub mod Utf8
+pub mod Reading

@@ -1,7 +1,6 @@
 -- Rows and bounds of relations that are written out.
 use Rattle.std.proofs.Common.{◌≡◌, ◌≤◌, codes, length, arith, List, [], ◌∷◌, ◌++◌, refl, ap, ◌∙◌}
 use Rattle.std.specs.Prelude.{◌≤ℤ◌, pos, neg_ℤ}
-use Rattle.std.proofs.lemmas.Int.{ints}
 use Rattle.std.specs.List.{flat_map, AllByRecursion}
 use Rattle.lrp_model.specs.Printed.{joined_by, row_line, bound_bytes, bounds_bytes}
 use Rattle.lrp_model.specs.Lexing.{limit}
@@ -28,7 +27,7 @@ periods : (cs : List Column) (vs : List Value) → AreValuesOf cs vs → AllByRe
 periods [] [] h = tt
 periods [] (v ∷ vs) h = absurd h
 periods (c ∷ cs) [] h = absurd h
-periods (c ∷ cs) (Point p ∷ vs) h = (h.0.1.0, periods cs vs h.1)
+periods (c ∷ cs) (Point p ∷ vs) h = (h.0.1, periods cs vs h.1)
 periods (c ∷ cs) (Const t ∷ vs) h = (tt, periods cs vs h.1)
 
 -- the rows that are kept can be written

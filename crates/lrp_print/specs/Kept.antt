@@ -1,7 +1,8 @@
 -- What a database keeps of its relations.
 use Rattle.std.specs.Prelude.{◌≡◌, ◌≢◌, ◌≤◌, ◌<◌, ◌+◌, ◌≤ℤ◌, ℕ, pos, neg_ℤ, true, false, List, [], ◌∷◌, map, count_by}
 use Rattle.std.specs.List.{AllByRecursion}
-use Rattle.lrp_model.specs.Texts.{Identifier}
+use Rattle.std.specs.Str.{IsUtf8}
+use Rattle.lrp_model.specs.Texts.{Identifier, Text, FitsText}
 use Rattle.lrp_model.specs.Sorts.{is_time, is_data}
 use Rattle.lrp_model.specs.Lexing.{limit, scan}
 use Rattle.lrp_model.specs.Tokens.Token.{name_token}
@@ -29,10 +30,15 @@ abbrev pub Differ : List Identifier → Type 0
 Differ [] = Unit {0}
 Differ (n ∷ ns) = AllByRecursion (λ m. n ≢ m) ns × Differ ns
 
+-- the bytes are a data text: UTF-8 of at most 255 bytes, with no control character
+pub record IsText (t : Text) : Type 0 where
+  pub fits : FitsText t
+  pub utf8 : IsUtf8 t
+
 -- a value of the column's sort; the period of a point is from 1 to 2 ^ 62
 abbrev pub IsValueOf : Column → Value → Type 0
 IsValueOf c (Point p) = (is_time c.sort ≡ true) × (pos 1 ≤ℤ p.period) × (p.period ≤ℤ pos limit)
-IsValueOf c (Const t) = is_time c.sort ≡ false
+IsValueOf c (Const t) = (is_time c.sort ≡ false) × IsText t
 
 -- a point of a period of at least 1, or a text
 abbrev pub HasPeriod : Value → Type 0

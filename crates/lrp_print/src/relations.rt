@@ -1,5 +1,5 @@
 // Relations as they are written out.
-ghost use Rattle.std.specs.Prelude.{◌≡◌, ◌≤ℤ◌, ◌++◌, pos, codes, neg_ℤ};
+ghost use Rattle.std.specs.Prelude.{◌≡◌, ◌≤ℤ◌, ◌++◌, ◌∷◌, [], pos, codes, neg_ℤ};
 ghost use Rattle.std.specs.List.{flat_map, AllByRecursion};
 ghost use Rattle.std.specs.Fmt.{signed_decimal};
 ghost use Rattle.lrp_io.specs.Causes.{HasCause};
@@ -7,8 +7,11 @@ ghost use Rattle.lrp_io.specs.Pieces.{IsWritten};
 ghost use Rattle.lrp_model.specs.Printed.{column_bytes, value_bytes, time_name, offset_bytes, bound_bytes, bounds_bytes, row_line, relation_bytes, database_bytes, joined_by};
 ghost use Rattle.lrp_model.specs.Lexing.{limit};
 ghost use Rattle.lrp_print.specs.Kept.{HasPeriod, IsKept, IsWritable};
+ghost use Rattle.lrp_print.specs.ReadBack.{ReadsBack};
 
-use crate::pieces::{write_bytes, write_integer, write_offset, write_point, write_quoted, write_sort};
+use crate::pieces::{
+    write_bytes, write_integer, write_offset, write_point, write_quoted, write_sort,
+};
 use itoa::Buffer;
 use lrp_io::{Failed, Sink, put_all};
 use lrp_model::{Bound, Column, Relation, Row, Value};
@@ -264,6 +267,9 @@ pub fn write_relation<S: Sink>(out: &mut S, relation: &Relation) -> Result<(), F
     requires { IsKept relation.now }
     ensures text { IsWritten (S.written out.old) (S.written out.new) (relation_bytes relation.now) result }
     ensures cause { HasCause (S.faults out.old) (S.faults out.new) result }
+
+    // The whole text is that of a database with one relation, which holds the same.
+    ensures reads_back { ReadsBack (relation.now ∷ []) }
 {
     write_bytes(out, b"relation ")?;
     write_bytes(out, relation.name.as_bytes())?;

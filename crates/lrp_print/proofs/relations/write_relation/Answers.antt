@@ -8,6 +8,7 @@ use Rattle.std.proofs.Common.{subst}
 use Rattle.std.specs.List.{flat_map, AllByRecursion}
 use Rattle.lrp_print.specs.Kept.{IsWritable}
 use Rattle.lrp_print.proofs.RowLemmas.{rows_as, kept_writable}
+use Rattle.lrp_print.proofs.Reading.{one_reads_back}
 
 pub write_rows-requires : goal.write_rows-requires
 write_rows-requires g c = subst (AllByRecursion IsWritable) (sym c.as_slice-3.ensures) (kept_writable c.args.relation.now c.requires)
@@ -44,3 +45,24 @@ returns-in_err-write_rows-clause-text g c =
 
 pub returns-clause-text : goal.returns-clause-text
 returns-clause-text g c = written_behind _ _ _ (codes "relation ") (c.args.relation.now.name ++ (codes "(" ++ (joined_by (codes ", ") column_bytes c.args.relation.now.columns ++ (codes ") {\n" ++ (flat_map (row_line c.args.relation.now.columns) c.args.relation.now.rows ++ (codes "}\n")))))) _ c.in_ok-write_bytes.ensures.text (written_behind _ _ _ (c.args.relation.now.name) (codes "(" ++ (joined_by (codes ", ") column_bytes c.args.relation.now.columns ++ (codes ") {\n" ++ (flat_map (row_line c.args.relation.now.columns) c.args.relation.now.rows ++ (codes "}\n"))))) _ (ok_as _ _ _ _ c.as_bytes.ensures c.in_ok-write_bytes-2.ensures.text) (written_behind _ _ _ (codes "(") (joined_by (codes ", ") column_bytes c.args.relation.now.columns ++ (codes ") {\n" ++ (flat_map (row_line c.args.relation.now.columns) c.args.relation.now.rows ++ (codes "}\n")))) _ c.in_ok-write_bytes-3.ensures.text (written_behind _ _ _ (joined_by (codes ", ") column_bytes c.args.relation.now.columns) (codes ") {\n" ++ (flat_map (row_line c.args.relation.now.columns) c.args.relation.now.rows ++ (codes "}\n"))) _ (ok_as _ _ _ _ (ap (joined_by (codes ", ") column_bytes) c.as_slice.ensures) c.in_ok-write_columns.ensures.text) (written_behind _ _ _ (codes ") {\n") (flat_map (row_line c.args.relation.now.columns) c.args.relation.now.rows ++ (codes "}\n")) _ c.in_ok-write_bytes-4.ensures.text (written_behind _ _ _ (flat_map (row_line c.args.relation.now.columns) c.args.relation.now.rows) (codes "}\n") _ (ok_as _ _ _ _ (rows_as _ _ _ _ c.as_slice-2.ensures c.as_slice-3.ensures) c.in_ok-write_rows.ensures.text) (c.write_bytes-5.ensures.text))))))
+
+pub returns-in_err-write_bytes-clause-reads_back : goal.returns-in_err-write_bytes-clause-reads_back
+returns-in_err-write_bytes-clause-reads_back g c = one_reads_back c.args.relation.now c.requires
+
+pub returns-in_err-write_bytes-2-clause-reads_back : goal.returns-in_err-write_bytes-2-clause-reads_back
+returns-in_err-write_bytes-2-clause-reads_back g c = one_reads_back c.args.relation.now c.requires
+
+pub returns-in_err-write_bytes-3-clause-reads_back : goal.returns-in_err-write_bytes-3-clause-reads_back
+returns-in_err-write_bytes-3-clause-reads_back g c = one_reads_back c.args.relation.now c.requires
+
+pub returns-in_err-write_columns-clause-reads_back : goal.returns-in_err-write_columns-clause-reads_back
+returns-in_err-write_columns-clause-reads_back g c = one_reads_back c.args.relation.now c.requires
+
+pub returns-in_err-write_bytes-4-clause-reads_back : goal.returns-in_err-write_bytes-4-clause-reads_back
+returns-in_err-write_bytes-4-clause-reads_back g c = one_reads_back c.args.relation.now c.requires
+
+pub returns-in_err-write_rows-clause-reads_back : goal.returns-in_err-write_rows-clause-reads_back
+returns-in_err-write_rows-clause-reads_back g c = one_reads_back c.args.relation.now c.requires
+
+pub returns-clause-reads_back : goal.returns-clause-reads_back
+returns-clause-reads_back g c = one_reads_back c.args.relation.now c.requires

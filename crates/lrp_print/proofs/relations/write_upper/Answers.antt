@@ -17,4 +17,4 @@ returns-in_err-write_bytes-2-clause-text g c =
     written_err _ _ (time_name c.args.columns.now c.args.bound.now.left ++ (codes " <= " ++ signed_decimal c.args.bound.now.most)) _ p.0 p.1 (front_behind _ _ _ (time_name c.args.columns.now c.args.bound.now.left) (codes " <= " ++ (signed_decimal c.args.bound.now.most)) (ok_as _ _ _ _ c.name_of_time.ensures c.in_ok-write_bytes.ensures.text) (front_before _ _ (codes " <= ") (signed_decimal c.args.bound.now.most) c.in_err-write_bytes-2.ensures.text))
 
 pub returns-clause-text : goal.returns-clause-text
-returns-clause-text g c = written_behind _ _ _ (time_name c.args.columns.now c.args.bound.now.left) (codes " <= " ++ (signed_decimal c.args.bound.now.most)) _ (ok_as _ _ _ _ c.name_of_time.ensures c.in_ok-write_bytes.ensures.text) (written_behind _ _ _ (codes " <= ") (signed_decimal c.args.bound.now.most) _ c.in_ok-write_bytes-2.ensures.text (c.write_most.ensures.text))
+returns-clause-text g c = written_behind _ _ _ (time_name c.args.columns.now c.args.bound.now.left) (codes " <= " ++ (signed_decimal c.args.bound.now.most)) _ (ok_as _ _ _ _ c.name_of_time.ensures c.in_ok-write_bytes.ensures.text) (written_behind _ _ _ (codes " <= ") (signed_decimal c.args.bound.now.most) _ c.in_ok-write_bytes-2.ensures.text (c.write_integer.ensures.text))
