@@ -2,6 +2,7 @@ pub mod FirstFault
 pub mod FaultWalks
 pub mod SoundLemmas
 pub mod NameLemmas
+pub mod TreeTexts
 pub mod MeaningKept
 pub mod FewTexts
 pub mod WholeFault

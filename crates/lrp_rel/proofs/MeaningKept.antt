@@ -29,29 +29,30 @@ use Rattle.lrp_print.specs.Kept.{IsName, IsNamedSort, IsValueOf, AreValuesOf, Is
 use Rattle.lrp_rel.specs.Times.{points_in, point_count, HasMeaning}
 use Rattle.lrp_rel.proofs.FaultWalks.{bound_faults}
 use Rattle.lrp_rel.proofs.NameLemmas.{IsNamedColumn, IsNamedRelation}
+use Rattle.lrp_rel.proofs.TreeTexts.{HasText, RowHasTexts, HasTexts}
 use Rattle.lrp_rel.proofs.SoundLemmas.{first_empty, second_empty, no_fault_if, each_empty, differ, columns_differ, columns_few, rows_sound, row_many, row_suits, points_many, times_more, turned_false}
 
 -- ---- values
 
 -- a value that suits its column is one of it
-one_kept : (v : WrittenValue) (c : RawColumn) → suits v c ≡ true → FitsValue v → IsValueOf (column_of c) (value_of v)
-one_kept (Constant t) c e fits = turned (is_time c.sort) e
+one_kept : (v : WrittenValue) (c : RawColumn) → suits v c ≡ true → FitsValue v → HasText v → IsValueOf (column_of c) (value_of v)
+one_kept (Constant t) c e fits text = (turned (is_time c.sort) e, record { fits = text.1 fits; utf8 = text.0 })
   where
     turned : (b : Bool) → not b ≡ true → b ≡ false
     turned false h = refl
     turned true h = absurd cc
-one_kept (Instant i) c e fits = (e, omega (arith, ints), omega (arith, ints))
-one_kept (Point i k) c e fits = (e, omega (arith, ints, fits.1), omega (arith, ints, fits.2))
+one_kept (Instant i) c e fits text = (e, omega (arith, ints), omega (arith, ints))
+one_kept (Point i k) c e fits text = (e, omega (arith, ints, fits.1), omega (arith, ints, fits.2))
 
 -- values that suit their columns
-values_kept : (cs : List RawColumn) (vs : List (Located WrittenValue)) → length vs ≡ length cs → wrong_sorts cs vs ≡ [] → AllByRecursion (λ v. FitsValue v.item) vs → AreValuesOf (map column_of cs) (map (λ v. value_of v.item) vs)
-values_kept [] [] same e fits = tt
-values_kept [] (v ∷ vs) same e fits = absurd (omega (arith, same))
-values_kept (c ∷ cs) [] same e fits = absurd (omega (arith, same))
-values_kept (c ∷ cs) (v ∷ vs) same e fits =
+values_kept : (cs : List RawColumn) (vs : List (Located WrittenValue)) → length vs ≡ length cs → wrong_sorts cs vs ≡ [] → AllByRecursion (λ v. FitsValue v.item) vs → AllByRecursion (λ v. HasText v.item) vs → AreValuesOf (map column_of cs) (map (λ v. value_of v.item) vs)
+values_kept [] [] same e fits texts = tt
+values_kept [] (v ∷ vs) same e fits texts = absurd (omega (arith, same))
+values_kept (c ∷ cs) [] same e fits texts = absurd (omega (arith, same))
+values_kept (c ∷ cs) (v ∷ vs) same e fits texts =
     let here = fault_if (not (suits v.item c)) (fault Sort v.place) in (
-      one_kept v.item c (turned_false (suits v.item c) (no_fault_if (not (suits v.item c)) (fault Sort v.place) (first_empty here (wrong_sorts cs vs) e))) fits.0,
-      values_kept cs vs (omega (arith, same)) (second_empty here (wrong_sorts cs vs) e) fits.1,
+      one_kept v.item c (turned_false (suits v.item c) (no_fault_if (not (suits v.item c)) (fault Sort v.place) (first_empty here (wrong_sorts cs vs) e))) fits.0 texts.0,
+      values_kept cs vs (omega (arith, same)) (second_empty here (wrong_sorts cs vs) e) fits.1 texts.1,
     )
 
 -- ---- bounds
@@ -137,23 +138,23 @@ bounds_within cs (b ∷ bs) e fits =
 -- ---- rows and relations
 
 -- a row without faults is kept
-row_kept : (cs : List RawColumn) (row : Located RawRow) → row_faults cs row ≡ [] → FitsRow row.item → IsRowOf (map column_of cs) (row_of cs row.item)
-row_kept cs row e fits =
+row_kept : (cs : List RawColumn) (row : Located RawRow) → row_faults cs row ≡ [] → FitsRow row.item → RowHasTexts row → IsRowOf (map column_of cs) (row_of cs row.item)
+row_kept cs row e fits texts =
     let arity = fault_if (not (length row.item.values == length cs)) (fault Arity row.place) in
     let sorts = wrong_sorts cs row.item.values in
     let names = flat_map (bound_faults cs) row.item.bounds in
     let many = points_many cs row.item.values (row_many cs row e) (row_suits cs row e) in
     record {
-      values = values_kept cs row.item.values (row_many cs row e) (row_suits cs row e) fits.0;
+      values = values_kept cs row.item.values (row_many cs row e) (row_suits cs row e) fits.0 texts;
       bounds = all_join (IsBoundOf (times_in (map column_of cs))) (instant_bounds row.item.values 0) (flat_map (kept_bounds cs) row.item.bounds)
           (instants_within (times_in (map column_of cs)) 0 row.item.values (omega (arith, many)) fits.0)
           (bounds_within cs row.item.bounds (each_empty (bound_faults cs) row.item.bounds (second_empty (arity ++ sorts) names e)) fits.1);
     }
 
 -- rows without faults are kept
-rows_kept : (cs : List RawColumn) (rows : List (Located RawRow)) → AllByRecursion (λ row. row_faults cs row ≡ []) rows → AllByRecursion (λ row. FitsRow row.item) rows → AllByRecursion (IsRowOf (map column_of cs)) (map (λ row. row_of cs row.item) rows)
-rows_kept cs [] e fits = tt
-rows_kept cs (row ∷ rows) e fits = (row_kept cs row e.0 fits.0, rows_kept cs rows e.1 fits.1)
+rows_kept : (cs : List RawColumn) (rows : List (Located RawRow)) → AllByRecursion (λ row. row_faults cs row ≡ []) rows → AllByRecursion (λ row. FitsRow row.item) rows → AllByRecursion RowHasTexts rows → AllByRecursion (IsRowOf (map column_of cs)) (map (λ row. row_of cs row.item) rows)
+rows_kept cs [] e fits texts = tt
+rows_kept cs (row ∷ rows) e fits texts = (row_kept cs row e.0 fits.0 texts.0, rows_kept cs rows e.1 fits.1 texts.1)
 
 -- columns whose names are names
 columns_kept : (cs : List RawColumn) → AllByRecursion IsNamedColumn cs → AllByRecursion (λ c. IsName c.name × IsNamedSort c.sort) (map column_of cs)
@@ -166,8 +167,8 @@ plain_names [] = refl
 plain_names (c ∷ cs) = ap (λ l. c.name ∷ l) (plain_names cs)
 
 -- a relation without faults is kept
-relation_kept : (r : RawRelation) → HasMeaning r → IsNamedRelation r → IsKept (relation_of r)
-relation_kept r h named =
+relation_kept : (r : RawRelation) → HasMeaning r → IsNamedRelation r → HasTexts r → IsKept (relation_of r)
+relation_kept r h named texts =
     let few = columns_few r h.sound in
     record {
       name = named.name;
@@ -175,13 +176,13 @@ relation_kept r h named =
       differ = subst Differ (plain_names r.columns) (columns_differ r h.sound);
       times = few.0;
       texts = few.1;
-      rows = rows_kept r.columns r.rows (rows_sound r h.sound) h.fits;
+      rows = rows_kept r.columns r.rows (rows_sound r h.sound) h.fits texts;
     }
 
 -- relations without faults are kept
-relations_kept : (rs : List RawRelation) → AllByRecursion HasMeaning rs → AllByRecursion IsNamedRelation rs → AllByRecursion IsKept (database_of rs)
-relations_kept [] h named = tt
-relations_kept (r ∷ rs) h named = (relation_kept r h.0 named.0, relations_kept rs h.1 named.1)
+relations_kept : (rs : List RawRelation) → AllByRecursion HasMeaning rs → AllByRecursion IsNamedRelation rs → AllByRecursion HasTexts rs → AllByRecursion IsKept (database_of rs)
+relations_kept [] h named texts = tt
+relations_kept (r ∷ rs) h named texts = (relation_kept r h.0 named.0 texts.0, relations_kept rs h.1 named.1 texts.1)
 
 -- the names of relations, with their places and without
 relation_names : (rs : List RawRelation) → map (λ n. n.item) (map (λ r. r.name) rs) ≡ map (λ r. r.name) (database_of rs)
@@ -197,8 +198,8 @@ tree_means rs fits e = both rs fits (each_empty relation_faults rs (second_empty
     both (r ∷ ss) f s = (record { fits = f.0; sound = s.0 }, both ss f.1 s.1)
 
 -- and the relations that it means are kept
-pub tree_kept : (rs : List RawRelation) → FitsDatabase rs → faults rs ≡ [] → AllByRecursion IsNamedRelation rs → AreKept (database_of rs)
-tree_kept rs fits e named = record {
-  each = relations_kept rs (tree_means rs fits e) named;
+pub tree_kept : (rs : List RawRelation) → FitsDatabase rs → faults rs ≡ [] → AllByRecursion IsNamedRelation rs → AllByRecursion HasTexts rs → AreKept (database_of rs)
+tree_kept rs fits e named texts = record {
+  each = relations_kept rs (tree_means rs fits e) named texts;
   differ = subst Differ (relation_names rs) (differ (fault Name) (map (λ r. r.name) rs) (first_empty (repeated (fault Name) [] (map (λ r. r.name) rs)) (flat_map relation_faults rs) e));
 }

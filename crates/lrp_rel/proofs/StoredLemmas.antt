@@ -37,7 +37,7 @@ no_times_in_row [] (v ∷ vs) h = absurd h
 no_times_in_row (c ∷ cs) [] h = absurd h
 no_times_in_row (c ∷ cs) (Point p ∷ vs) h = no_times_in_row cs vs h.1
 no_times_in_row (c ∷ cs) (Const t ∷ vs) h =
-    ap (λ b. if b then (c.sort, t) ∷ filter has_time (row_texts cs vs) else filter has_time (row_texts cs vs)) h.0 ∙ no_times_in_row cs vs h.1
+    ap (λ b. if b then (c.sort, t) ∷ filter has_time (row_texts cs vs) else filter has_time (row_texts cs vs)) h.0.0 ∙ no_times_in_row cs vs h.1
 
 -- no text of kept relations has the sort of times
 pub no_times : (rs : List Relation) → AllByRecursion IsKept rs → filter has_time (database_texts rs) ≡ []

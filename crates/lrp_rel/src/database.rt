@@ -1,6 +1,5 @@
 // Databases: relations by their names, and the texts of their rows by their sorts.
 ghost use Rattle.std.specs.Prelude.{◌≡◌, ◌<◌, [], Some, length, map, slice_get, IfOk, IfSome, true};
-ghost use Rattle.std.specs.List.{AllByRecursion};
 ghost use Rattle.std.specs.Option.{option_copied};
 ghost use Rattle.indexmap.specs.IndexSet.{keys};
 ghost use Rattle.lrp_model.specs.Rows.{relation_named};
@@ -70,7 +69,7 @@ impl Database {
     // The relations, in order.
     pub(crate) fn as_slice(&self) -> &[Relation]
         ensures same { result.now ≡ self.now }
-        ensures kept { AllByRecursion IsKept result.now }
+        ensures kept { AreKept result.now }
     {
         self.relations.as_slice()
     }

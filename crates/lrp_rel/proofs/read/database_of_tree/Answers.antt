@@ -8,6 +8,7 @@ use Rattle.lrp_model.specs.declared.relations.Relation.{Relation}
 use Rattle.lrp_print.specs.Kept.{AreKept}
 use Rattle.lrp_rel.proofs.FirstFault.{none_is_empty}
 use Rattle.lrp_rel.proofs.NameLemmas.{tree_named}
+use Rattle.lrp_rel.proofs.TreeTexts.{tree_texted}
 use Rattle.lrp_rel.proofs.MeaningKept.{tree_means, tree_kept}
 use Rattle.lrp_rel.proofs.FewTexts.{few_texts}
 use Rattle.lrp_rel.proofs.read.database_of_tree.Goals as goal
@@ -23,7 +24,7 @@ of-requires-clause-kept c =
     let tree = c.args.tree in
     let none : first stands (faults tree) ≡ None = ap (λ t. first stands (faults t)) (sym c.as_slice.ensures) ∙ sym c.in_ok-fault.ensures ∙ c.in-None.is in
     let meant : c.in_ok-meant_database-in-None.field-0 ≡ database_of tree = c.in_ok-meant_database-in-None.ensures in
-    subst AreKept (sym meant) (tree_kept tree c.requires.text.lawful (none_is_empty stands (faults tree) none) (tree_named c.requires.bytes tree c.requires.text.spelled))
+    subst AreKept (sym meant) (tree_kept tree c.requires.text.lawful (none_is_empty stands (faults tree) none) (tree_named c.requires.bytes tree c.requires.text.spelled) (tree_texted c.requires.bytes tree c.requires.text.utf8 c.requires.text.spelled))
 
 pub of-requires-clause-few : goal.of-requires-clause-few
 of-requires-clause-few c =
