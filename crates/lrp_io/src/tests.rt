@@ -1,4 +1,8 @@
-// What no clause says: that calls succeed, and what real files and standard output do.
+// What no clause says: that calls succeed, how large the pieces are that a sink is handed, and what
+// real files and standard output do.
+ghost use Rattle.std.specs.Prelude.{◌≡◌, ℕ, List};
+ghost use Rattle.std.specs.List.{flat_map};
+
 use super::*;
 use lrp_model::{List, Name};
 use std::alloc::Global;
@@ -109,6 +113,106 @@ fn sinks_fail_at_their_second_call(rt: HostRuntime) -> Result<(), Fail> {
     assert_eq!(rt; out.faults(), 1);
     put_all(&mut out, b"tion")?;
     assert_eq!(rt; out.written(), b"relation".as_slice());
+    Ok(())
+}
+
+// Pieces, one after the other, as a text.
+#[derive(Drop)]
+struct Pieces<'a> {
+    pieces: &'a [&'a [u8]],
+}
+
+impl Text for Pieces<'_> {
+    ghost use Rattle.std.specs.List.{flat_map};
+
+    ghost text = { λ s. flat_map (λ piece. piece.now) s.pieces.now };
+
+    fn write_to<S: Sink>(&self, out: &mut S) -> Result<(), Failed> {
+        for piece in self.pieces {
+            put_all(out, piece)?;
+        }
+        Ok(())
+    }
+}
+
+// The bytes of so many of these pieces.
+fn repeated(alloc: Global, piece: &[u8], times: usize) -> Result<Vec<u8>, Fail> {
+    let mut all = Vec::new(alloc);
+    for _ in 0..times {
+        all.extend_from_slice(piece)?;
+    }
+    Ok(all)
+}
+
+// Whether the piece was written so many times, by way of a buffer.
+fn is_written<S: Sink>(
+    alloc: Global,
+    out: &mut S,
+    piece: &[u8],
+    times: usize,
+) -> Result<bool, Fail> {
+    let pieces = vec![in alloc; piece; times]?;
+    Ok(write_buffered(out, &Pieces { pieces: &pieces }).is_ok())
+}
+
+#[test]
+fn pieces_reach_the_sink_whole(rt: HostRuntime) -> Result<(), Fail> {
+    let alloc = rt.alloc();
+    for (length, times) in [
+        (0, 1),
+        (1, 0),
+        (1, 4_095),
+        (1, 4_096),
+        (1, 4_097),
+        (3, 3_000),
+        (5_000, 3),
+    ] {
+        for most in [4, 4_096, usize::MAX] {
+            let mut out = MemSink::new(alloc, List::new(alloc), most)?;
+            let piece = vec![in alloc; b'x'; length]?;
+            assert!(rt; is_written(alloc, &mut out, &piece, times)?);
+            assert_eq!(rt;
+                out.written(),
+                vec![in alloc; b'x'; length * times]?.as_slice()
+            );
+            assert_eq!(rt; out.faults(), 0);
+        }
+    }
+    Ok(())
+}
+
+#[test]
+fn a_sink_that_is_full_has_the_first_bytes(rt: HostRuntime) -> Result<(), Fail> {
+    let alloc = rt.alloc();
+    let text = b"abcde".as_slice();
+    let all = repeated(alloc, text, 1_000)?;
+    for room in [0, 1, 7, 4_095, 4_096, 4_097, 4_999, 5_000] {
+        let mut out = MemSink::stop_after(alloc, room, 4)?;
+        assert_eq!(rt;
+            is_written(alloc, &mut out, text, 1_000)?,
+            room >= 5_000,
+            "room for {room}"
+        );
+        assert_eq!(rt; out.written(), &all[..room]);
+        assert_eq!(rt; out.faults(), u64::from(room < 5_000));
+    }
+    Ok(())
+}
+
+#[test]
+fn a_sink_is_called_once_for_4096_bytes(rt: HostRuntime) -> Result<(), Fail> {
+    // 9,000 bytes in 3,000 pieces are handed on as 4,096, 4,096 and 808.
+    let alloc = rt.alloc();
+    for (call, length) in [(1, 0), (2, 4_096), (3, 8_192), (4, 9_000)] {
+        let mut out = MemSink::new(alloc, listed(alloc, &[call])?, usize::MAX)?;
+        assert_eq!(rt;
+            is_written(alloc, &mut out, b"abc", 3_000)?,
+            call == 4,
+            "call {call}"
+        );
+        assert_eq!(rt; out.written().len(), length);
+        assert_eq!(rt; out.faults(), u64::from(call < 4));
+    }
     Ok(())
 }
 

@@ -1,11 +1,11 @@
 // A text that is written to any sink.
 ghost use Rattle.std.specs.Prelude.{◌≡◌, ◌≤◌, List, ℕ, Option, true, false};
 ghost use Rattle.lrp_io.specs.Bytes.{appended, AppendsFront};
-ghost use Rattle.lrp_io.specs.Buffered.{between, Grew};
+ghost use Rattle.lrp_io.specs.Buffers.{between, Grew};
 ghost use Rattle.lrp_io.specs.Causes.{HasCause, Rose};
 ghost use Rattle.lrp_io.specs.Pieces.{IsWritten};
 
-use crate::buffered::Buffer;
+use crate::buffer::Buffer;
 use crate::{Failed, Sink};
 use std::marker::{Brand, PhantomData};
 
@@ -66,7 +66,7 @@ struct Buffered<'a, L: Lent, S: Sink> {
 
 impl<L: Lent, S: Sink> Sink for Buffered<'_, L, S> {
     ghost use Rattle.lrp_io.specs.Bytes.{appended};
-    ghost use Rattle.lrp_io.specs.Buffered.{between};
+    ghost use Rattle.lrp_io.specs.Buffers.{between};
 
     ghost written = { λ s. appended (S.written s.buffer.out.now) (between s.buffer.bytes s.buffer.first s.buffer.last) };
 

@@ -1,6 +1,6 @@
 -- Once all that is held was handed on, the whole text is written.
 use Rattle.std.proofs.Common.{rules}
-use Rattle.lrp_io.proofs.BufferedLemmas.{lent_front, lent_written}
+use Rattle.lrp_io.proofs.BufferLemmas.{lent_front, lent_written}
 use Rattle.lrp_io.proofs.text.write_buffered.Goals as goal
 
 pub returns-then-buffer-clause-text : goal.returns-then-buffer-clause-text

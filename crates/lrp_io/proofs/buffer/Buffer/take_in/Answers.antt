@@ -1,8 +1,8 @@
 -- The piece stands behind the bytes that were held.
 use Rattle.std.proofs.Common.{◌≡◌, ◌+◌, length, take, rules, arith, ap, sym, ◌∙◌, length-take-le}
-use Rattle.lrp_io.specs.Buffered.{between}
-use Rattle.lrp_io.proofs.BufferedLemmas.{held_more}
-use Rattle.lrp_io.proofs.buffered.Buffer.take_in.Goals as goal
+use Rattle.lrp_io.specs.Buffers.{between}
+use Rattle.lrp_io.proofs.BufferLemmas.{held_more}
+use Rattle.lrp_io.proofs.buffer.Buffer.take_in.Goals as goal
 
 pub returns-clause-held : goal.returns-clause-held
 returns-clause-held g c =

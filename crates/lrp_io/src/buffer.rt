@@ -2,7 +2,7 @@
 ghost use Rattle.std.specs.Prelude.{◌≡◌, ◌≤◌, ◌<◌, ◌+◌, ◌-◌, ◌++◌, min, List, [], ℕ, length, take, IfOk, OnErr, OnOk, Option};
 ghost use Rattle.lrp_io.specs.Bytes.{appended, AppendsFront};
 ghost use Rattle.lrp_io.specs.Causes.{HasCause};
-ghost use Rattle.lrp_io.specs.Buffered.{between, Grew, HandsOn};
+ghost use Rattle.lrp_io.specs.Buffers.{between, Grew, HandsOn};
 ghost use Rattle.lrp_io.specs.Pieces.{IsWritten};
 
 use crate::{Failed, Sink};
@@ -12,7 +12,8 @@ const ROOM: usize = 4096;
 
 /// A sink, and bytes that it was not handed yet: those from place `first` on, as far as `last`.
 ///
-/// What is held when it is dropped is lost.
+/// It keeps whether a text that was written into it failed. What is held when it is dropped is
+/// lost.
 #[derive(Drop)]
 pub(crate) struct Buffer<'a, S: Sink> {
     out: &'a mut S,

@@ -5,7 +5,7 @@ use Rattle.std.proofs.lemmas.Option.{same_Some}
 use Rattle.std.proofs.Math.Seq.{take-length, take-append_seam, drop-append_seam}
 use Rattle.lrp_io.specs.Bytes.{appended, AppendsFront}
 use Rattle.lrp_io.specs.Pieces.{IsWritten}
-use Rattle.lrp_io.specs.Buffered.{between, behind, Grew, HandsOn}
+use Rattle.lrp_io.specs.Buffers.{between, behind, Grew, HandsOn}
 use Rattle.lrp_io.proofs.BytesLemmas.{appended_twice}
 
 -- a piece that is written behind the bytes that are held

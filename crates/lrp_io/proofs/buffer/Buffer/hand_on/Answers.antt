@@ -1,6 +1,6 @@
 -- What the sink took is no longer held.
-use Rattle.lrp_io.proofs.BufferedLemmas.{handed}
-use Rattle.lrp_io.proofs.buffered.Buffer.hand_on.Goals as goal
+use Rattle.lrp_io.proofs.BufferLemmas.{handed}
+use Rattle.lrp_io.proofs.buffer.Buffer.hand_on.Goals as goal
 
 pub returns-else-is_ok-clause-hands_on : goal.returns-else-is_ok-clause-hands_on
 returns-else-is_ok-clause-hands_on g c =

@@ -1,7 +1,7 @@
 -- What the loop over the pieces keeps.
 use Rattle.std.proofs.Common.{◌≡◌, ◌≤◌, ◌-◌, length, take}
 use Rattle.lrp_io.specs.Bytes.{appended}
-use Rattle.lrp_io.proofs.buffered.put_front.Given as goal
+use Rattle.lrp_io.proofs.buffer.put_front.Given as goal
 
 -- the bytes so far were appended
 abbrev pub invariant-loop-count : goal.invariant-loop-count

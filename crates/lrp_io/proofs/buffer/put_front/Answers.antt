@@ -2,7 +2,7 @@
 use Rattle.std.proofs.Common.{◌≡◌, ◌-◌, take, drop, length, arith}
 use Rattle.std.proofs.lemmas.Grind.{common_steps}
 use Rattle.lrp_io.proofs.BytesLemmas.{appended_next}
-use Rattle.lrp_io.proofs.buffered.put_front.Goals as goal
+use Rattle.lrp_io.proofs.buffer.put_front.Goals as goal
 
 pub loop-count-preserved : goal.loop-count-preserved
 loop-count-preserved g c =
