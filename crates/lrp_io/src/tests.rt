@@ -193,7 +193,7 @@ fn a_sink_that_is_full_has_the_first_bytes(rt: HostRuntime) -> Result<(), Fail> 
             room >= 5_000,
             "room for {room}"
         );
-        assert_eq!(rt; out.written(), &all[..room]);
+        assert_eq!(rt; out.written(), &all[..room.min(all.len())]);
         assert_eq!(rt; out.faults(), u64::from(room < 5_000));
     }
     Ok(())
