@@ -87,3 +87,8 @@ none_of_some f (Some g) stands e = neither (slice_cmp nat_cmp (stands g) (stands
 pub none_is_empty : {F : Type 0} (stands : F → List ℕ) (xs : List F) → first stands xs ≡ None → xs ≡ []
 none_is_empty stands [] e = refl
 none_is_empty stands (x ∷ xs) e = none_of_some x (first stands xs) stands e
+
+-- of two that have no first, neither is a fault
+pub none_of_both : {F : Type 0} (stands : F → List ℕ) (f g : Option F) → sooner stands f g ≡ None → (f ≡ None) × (g ≡ None)
+none_of_both stands None g e = (refl, e)
+none_of_both stands (Some f) g e = none_of_some f g stands e

@@ -1,5 +1,7 @@
 pub mod FirstFault
 pub mod FaultWalks
+pub mod KeptTurns
+pub mod GatheredLemmas
 pub mod SoundLemmas
 pub mod NameLemmas
 pub mod TreeTexts

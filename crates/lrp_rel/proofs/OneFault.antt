@@ -1,5 +1,5 @@
 -- A text has at most one fault of its bytes or of the grammar.
-use Rattle.std.proofs.Common.{◌≡◌, ℕ, false, List, ◌∷◌, ◌++◌, refl, ap, ◌∙◌, sym, subst, arith, Result, Ok, Err, IfOk, IfErr}
+use Rattle.std.proofs.Common.{◌≡◌, ℕ, false, List, ◌∷◌, ◌++◌, refl, ap, ◌∙◌, sym, subst, arith}
 use Rattle.std.proofs.lemmas.List.{append_cancel_right}
 use Rattle.std.proofs.lemmas.Str.{utf8_valid_len-IsValidUpTo}
 use Rattle.std.specs.Prelude.{take}
@@ -14,13 +14,10 @@ use Rattle.lrp_model.specs.Tokens.Token.{number_token}
 use Rattle.lrp_model.specs.Lexing.{tokens, after, start}
 use Rattle.lrp_model.specs.Databases.{database_text, FitsDatabase}
 use Rattle.lrp_model.specs.Refused.{TextOf, IsCause}
-use Rattle.lrp_model.specs.DatabaseReading.{IsDatabaseText, IsNoUtf8, IsNoDatabaseText}
-use Rattle.lrp_model.specs.declared.written.RawRelation.{RawRelation}
-use Rattle.lrp_rel.specs.declared.trees.ReadFault.{ReadFault}
-use Rattle.lrp_rel.specs.declared.trees.ReadFault.TheVariants.{Fault, Memory}
+use Rattle.lrp_model.specs.DatabaseReading.{IsNoUtf8, IsNoDatabaseText}
 use Rattle.lrp_text.proofs.Unique.{refused_once}
-use Rattle.lrp_rel.specs.Reading.{IsTextFault, IsTextFaultOf, IsUnread, IsFaultOrMemory}
-use Rattle.lrp_rel.proofs.TextLaws.{not_cut, no_fault}
+use Rattle.lrp_rel.specs.Reading.{IsTextFault, IsTextFaultOf}
+use Rattle.lrp_rel.proofs.TextLaws.{not_cut}
 
 -- no token shows two causes
 number_or_period : (t : Token) → IsCause number t → IsCause period t → ⊥
@@ -153,9 +150,3 @@ pub fault_once : (bytes : List ℕ) (f g : DbFault) → IsTextFault bytes f → 
 fault_once bytes f g a b =
     let h = both_once bytes f.kind g.kind f.place g.place (group_of bytes f.kind f a) (group_of bytes g.kind g b) in
     ap (λ k. fault_of k f.place) h.0 ∙ ap (fault_of g.kind) h.1
-
--- each text with a fault is refused for it
-pub every_fault : (bytes : List ℕ) (r : Result (List RawRelation) ReadFault) → IfOk r (IsDatabaseText bytes) → IfErr r (IsUnread bytes) → (f : DbFault) → IsTextFault bytes f → IsFaultOrMemory f r
-every_fault bytes (Ok tree) ok err f t = no_fault bytes tree f.kind f ok t
-every_fault bytes (Err Memory) ok err f t = tt
-every_fault bytes (Err (Fault g)) ok err f t = fault_once bytes g f err t

@@ -22,8 +22,7 @@ use Rattle.lrp_model.specs.declared.faults.DbFault.{DbFault}
 use Rattle.lrp_model.specs.declared.faults.DbKind.TheVariants.{Name, Arity, Sort, Wide}
 use Rattle.lrp_print.specs.Kept.{Differ, times_in, texts_in}
 use Rattle.lrp_rel.specs.Once.{once, put_once}
-use Rattle.lrp_model.specs.Databases.{FitsRow}
-use Rattle.lrp_rel.specs.Times.{time_names, AreTimesOf, AreNumbered, place_from, points_in, point_count, HasRowMeaning, HasMeaning}
+use Rattle.lrp_rel.specs.Times.{time_names, AreTimesOf, AreNumbered, place_from, points_in, point_count}
 use Rattle.lrp_rel.proofs.SeenLemmas.{IsFirst, neither}
 use Rattle.lrp_rel.proofs.FaultWalks.{any_more, bound_faults}
 
@@ -281,14 +280,3 @@ row_suits cs row e =
     let sorts = wrong_sorts cs row.item.values in
     let names = flat_map (bound_faults cs) row.item.bounds in
     second_empty arity sorts (first_empty (arity ++ sorts) names e)
-
--- the rows of a lawful relation without faults have a meaning
-pub rows_mean : (r : RawRelation) → HasMeaning r → AllByRecursion (λ row. HasRowMeaning row.item) r.rows
-rows_mean r h = both r.rows h.fits (rows_sound r h.sound)
-  where
-    both : (rows : List (Located RawRow)) → AllByRecursion (λ row. FitsRow row.item) rows → AllByRecursion (λ row. row_faults r.columns row ≡ []) rows → AllByRecursion (λ row. HasRowMeaning row.item) rows
-    both [] f s = tt
-    both (row ∷ rows) f s =
-        let few = columns_few r h.sound in
-        let many : points_in row.item.values ≡ times_in (map column_of r.columns) = points_many r.columns row.item.values (row_many r.columns row s.0) (row_suits r.columns row s.0) in
-        (record { fits = f.0; few = omega (arith, few.0, many) }, both rows f.1 s.1)

@@ -1,5 +1,5 @@
 -- The tree of a text, and the fault of one that has none, each at most once.
-use Rattle.std.proofs.Common.{◌≡◌, ◌<◌, ◌+◌, ℕ, suc, List, [], ◌∷◌, ◌++◌, refl, ap, ◌∙◌, sym, subst, Ok, Err, Result, IfOk, IfErr, length, take, take_all, get_or, add-one, arith}
+use Rattle.std.proofs.Common.{◌≡◌, ◌<◌, ◌+◌, ℕ, suc, List, [], ◌∷◌, ◌++◌, refl, ap, ◌∙◌, sym, subst, Ok, Err, length, take, take_all, get_or, add-one, arith}
 use Rattle.std.proofs.Math.Seq.{take-suc}
 use Rattle.std.specs.Str.{IsUtf8}
 use Rattle.lrp_model.specs.declared.tokens.Place.{Place}
@@ -16,19 +16,30 @@ use Rattle.lrp_model.specs.DatabaseReading.{IsDatabaseText, IsNoUtf8, IsNoDataba
 use Rattle.lrp_text.specs.Parsers.{Reads}
 use Rattle.lrp_text.specs.Sources.{Stands}
 use Rattle.lrp_text.specs.declared.lexemes.Lexeme.{Lexeme}
-use Rattle.lrp_rel.specs.declared.trees.ReadFault.{ReadFault}
-use Rattle.lrp_rel.specs.declared.trees.ReadFault.TheVariants.{Fault, Memory}
 use Rattle.lrp_rel.specs.Rules.{database}
-use Rattle.lrp_rel.specs.Reading.{IsTextFaultOf, IsUnread, IsOrMemory, refusal_of}
-use Rattle.lrp_rel.proofs.DatabaseRules.{database_sound, database_refused, one_tree}
+use Rattle.lrp_rel.specs.declared.gathering.Gathered.{Gathered}
+use Rattle.lrp_rel.specs.Gathered.{IsReadAs, AreGathered}
+use Rattle.lrp_rel.specs.Reading.{IsTextFaultOf, IsUnread, IsGatheredFrom, refusal_of}
+use Rattle.lrp_rel.proofs.DatabaseRules.{database_sound, database_refused}
 use Rattle.lrp_rel.proofs.Shallow.{database_shallow}
 
--- what was read is the tree of the text
-pub tree_read : (bytes : List ℕ) (ts : Tokens) (tree : List RawRelation) → ts ≡ tokens bytes → IsUtf8 bytes → ((n : ℕ) → length ts < n → database n ts ≡ Ok (tree, [])) → IsDatabaseText bytes tree
-tree_read bytes ts tree e utf8 reads =
-    let n = suc (length ts) in
-    let k = database_sound n ts (tree, []) (reads n (omega arith)) in
-    record { utf8 = utf8; spelled = subst (Spells (database_text tree)) e k.0; lawful = k.1 }
+-- a tree that was read is the tree of the text
+tree_read : (bytes : List ℕ) (tree : List RawRelation) → IsUtf8 bytes → database (suc (length (tokens bytes))) (tokens bytes) ≡ Ok (tree, []) → IsDatabaseText bytes tree
+tree_read bytes tree utf8 read =
+    let k = database_sound (suc (length (tokens bytes))) (tokens bytes) (tree, []) read in
+    record { utf8 = utf8; spelled = k.0; lawful = k.1 }
+
+-- what was gathered is what the text says
+gathered_read : (bytes : List ℕ) (g : Gathered) → IsUtf8 bytes → ((n : ℕ) → length (tokens bytes) < n → IsReadAs AreGathered (database n (tokens bytes)) g []) → IsGatheredFrom bytes g
+gathered_read bytes g utf8 reads =
+    let one = reads (suc (length (tokens bytes))) (omega arith) in
+    record { tree = one.value; text = tree_read bytes one.value utf8 one.read; are = one.stands }
+
+-- the same of tokens that are those of the bytes
+pub text_gathered : (bytes : List ℕ) (ts : Tokens) (g : Gathered) → ts ≡ tokens bytes → IsUtf8 bytes → ((n : ℕ) → length ts < n → IsReadAs AreGathered (database n ts) g []) → IsGatheredFrom bytes g
+text_gathered bytes ts g e utf8 reads =
+    let P : Tokens → Type 0 = λ xs. (n : ℕ) → length xs < n → IsReadAs AreGathered (database n xs) g [] in
+    gathered_read bytes g utf8 (subst P e reads)
 
 -- no text is refused for depth
 pub never_deep : (ts us : Tokens) (k : TokenFault) → ((n : ℕ) → length ts < n → Reads {A = List RawRelation} (database n ts) (Err k) us) → k ≡ Deep → ⊥
@@ -84,12 +95,6 @@ no_fault bytes tree Arity f t r = r
 no_fault bytes tree Sort f t r = r
 no_fault bytes tree Column f t r = r
 no_fault bytes tree Wide f t r = r
-
--- each text of the grammar is read
-pub every_tree : (bytes : List ℕ) (r : Result (List RawRelation) ReadFault) → IfOk r (IsDatabaseText bytes) → IfErr r (IsUnread bytes) → (tree : List RawRelation) → IsDatabaseText bytes tree → IsOrMemory tree r
-every_tree bytes (Ok other) ok err tree t = one_tree other tree (tokens bytes) ok.lawful ok.spelled t.spelled
-every_tree bytes (Err Memory) ok err tree t = tt
-every_tree bytes (Err (Fault f)) ok err tree t = no_fault bytes tree f.kind f t err
 
 -- the place behind one more byte
 after_one : (p : Place) (bs : List ℕ) (b : ℕ) → after p (bs ++ b ∷ []) ≡ moved (after p bs) b

@@ -4,4 +4,5 @@ pub mod Stored
 pub mod Times
 pub mod Sooner
 pub mod Rules
+pub mod Gathered
 pub mod Reading

@@ -1,4 +1,4 @@
--- What reading the tree of a database's text means.
+-- What reading the text of a database means.
 use Rattle.std.specs.Prelude.{◌≡◌, ◌≤◌, ℕ, List, [], Some, length, Result, Ok, Err}
 use Rattle.lrp_model.specs.declared.tokens.Fault.{Fault as TokenFault}
 use Rattle.lrp_model.specs.declared.tokens.Fault.TheVariants.{Syntax as syntax, Number as number, TextTooLong as text_too_long, Period as period, Deep, Memory as memory}
@@ -12,6 +12,8 @@ use Rattle.lrp_model.specs.DatabaseFaults.{stands, faults}
 use Rattle.lrp_model.specs.DatabaseReading.{IsNoUtf8, IsNoDatabaseText, IsDatabaseText, IsDatabaseFault}
 use Rattle.lrp_model.specs.declared.relations.Relation.{Relation}
 use Rattle.lrp_model.specs.declared.written.RawRelation.{RawRelation}
+use Rattle.lrp_rel.specs.Gathered.{AreGathered}
+use Rattle.lrp_rel.specs.declared.gathering.Gathered.{Gathered}
 use Rattle.lrp_rel.specs.declared.trees.ReadFault.{ReadFault}
 use Rattle.lrp_rel.specs.declared.trees.ReadFault.TheVariants.{Fault, Memory}
 
@@ -42,11 +44,17 @@ abbrev pub IsRefused : List ℕ → ReadFault → Type 0
 IsRefused bytes (Fault f) = IsDatabaseFault bytes f
 IsRefused bytes Memory = Unit {0}
 
--- the tree of some bytes that are few enough
-pub record IsTreeOfText (tree : List RawRelation) : Type 0 where
+-- the bytes are a text of the grammar, and what is gathered is what its tree says
+pub record IsGatheredFrom (bytes : List ℕ) (gathered : Gathered) : Type 0 where
+  pub tree : List RawRelation
+  pub text : IsDatabaseText bytes tree
+  pub are : AreGathered tree gathered
+
+-- the same of some bytes that are few enough
+pub record IsGatheredFromText (gathered : Gathered) : Type 0 where
   pub bytes : List ℕ
   pub short : length bytes ≤ 16777216
-  pub text : IsDatabaseText bytes tree
+  pub said : IsGatheredFrom bytes gathered
 
 -- the relations that a tree without faults means
 pub record IsSoundTree (tree : List RawRelation) (db : List Relation) : Type 0 where

@@ -1,10 +1,10 @@
-// The first fault of a written database that its grammar allows.
+// The first faults of written columns and rows that the grammar allows.
 ghost use Rattle.std.specs.Prelude.{◌≡◌, ◌∷◌, ◌++◌, ◌<◌, ◌+◌, ◌^◌, [], Some, List as ListOf, not, map, fold, IfOk, OnOk};
 ghost use Rattle.std.specs.List.{flat_map};
 ghost use Rattle.std.specs.Str.{bytes_eq};
 ghost use Rattle.indexmap.specs.IndexSet.{keys, insert_key};
 ghost use Rattle.lrp_model.specs.Faults.{first, fault_if, repeated, ninth, is_named_in};
-ghost use Rattle.lrp_model.specs.DatabaseFaults.{stands, fault, suits, wrong_sorts, unknown, side_faults, row_faults, named_at, relation_faults, faults};
+ghost use Rattle.lrp_model.specs.DatabaseFaults.{stands, fault, suits, wrong_sorts, unknown, side_faults, row_faults, named_at};
 ghost use Rattle.lrp_model.specs.declared.raw.RawColumn.{RawColumn as ColumnOf};
 ghost use Rattle.lrp_rel.specs.Once.{put_once};
 ghost use Rattle.lrp_rel.specs.Sooner.{sooner};
@@ -12,8 +12,7 @@ ghost use Rattle.lrp_rel.specs.Times.{time_names, AreTimesOf};
 
 use indexmap::IndexSet;
 use lrp_model::{
-    DbFault, DbKind, Located, Memory, Name, Place, RawBound, RawColumn, RawRelation, RawRow, Side,
-    WrittenValue,
+    DbFault, DbKind, Located, Memory, Name, Place, RawBound, RawColumn, RawRow, Side, WrittenValue,
 };
 use std::alloc::Global;
 use std::cmp::Ordering;
@@ -40,7 +39,7 @@ fn earlier_of(left: DbFault, right: DbFault) -> DbFault
 }
 
 // The earlier of two faults, or the one that there is.
-fn sooner_of(left: Option<DbFault>, right: Option<DbFault>) -> Option<DbFault>
+pub fn sooner_of(left: Option<DbFault>, right: Option<DbFault>) -> Option<DbFault>
     ensures { result ≡ sooner stands left right }
 {
     match (left, right) {
@@ -62,7 +61,7 @@ fn fault_where(bad: bool, kind: DbKind, place: Place) -> Option<DbFault>
 }
 
 // The fault of a name that is among those before it. It is then among them.
-fn repeated_name(
+pub fn repeated_name(
     alloc: Global,
     names: &mut IndexSet<Name>,
     name: &Name,
@@ -78,21 +77,8 @@ fn repeated_name(
     Ok(None)
 }
 
-// The first relation that has the name of an earlier one.
-fn repeated_relation(alloc: Global, relations: &[RawRelation]) -> Result<Option<DbFault>, Memory>
-    ensures { IfOk result (λ f. f ≡ first stands (repeated (fault DbKind.Name) [] (map (λ r. r.name) relations.now))) }
-{
-    let mut names = IndexSet::new(alloc);
-    let mut best = None;
-    for relation in relations {
-        let found = repeated_name(alloc, &mut names, &relation.name.item, relation.name.place)?;
-        best = sooner_of(best, found);
-    }
-    Ok(best)
-}
-
 // The first column that has the name of an earlier one.
-fn repeated_column(alloc: Global, columns: &[RawColumn]) -> Result<Option<DbFault>, Memory>
+pub fn repeated_column(alloc: Global, columns: &[RawColumn]) -> Result<Option<DbFault>, Memory>
     ensures { IfOk result (λ f. f ≡ first stands (repeated (fault DbKind.Name) [] (map named_at columns.now))) }
 {
     let mut names = IndexSet::new(alloc);
@@ -139,7 +125,7 @@ fn counted(counts: Counts, column: &RawColumn) -> (Option<DbFault>, Counts)
 }
 
 // A ninth time column, or a ninth among those of all data sorts.
-fn ninth_column(columns: &[RawColumn]) -> Option<DbFault>
+pub fn ninth_column(columns: &[RawColumn]) -> Option<DbFault>
     ensures { result ≡ first stands (ninth (fault DbKind.Wide) 0 0 columns.now) }
 {
     let mut counts = Counts { times: 0, texts: 0 };
@@ -232,7 +218,7 @@ fn bounds_fault(times: &IndexSet<Name>, bounds: &[RawBound]) -> Option<DbFault>
 }
 
 // The first fault of a row.
-fn row_fault(
+pub fn row_fault(
     columns: &[RawColumn],
     times: &IndexSet<Name>,
     row: &Located<RawRow>,
@@ -245,52 +231,4 @@ fn row_fault(
     let sorts = wrong_sort(columns, row.item.values.as_slice());
     let bounds = bounds_fault(times, row.item.bounds.as_slice());
     sooner_of(sooner_of(arity, sorts), bounds)
-}
-
-// The first fault of the rows of a relation.
-fn rows_fault(
-    columns: &[RawColumn],
-    times: &IndexSet<Name>,
-    rows: &[Located<RawRow>],
-) -> Option<DbFault>
-    requires { AreTimesOf columns.now (keys times.now) }
-    ensures { result ≡ first stands (flat_map (row_faults columns.now) rows.now) }
-{
-    let mut best = None;
-    for row in rows {
-        best = sooner_of(best, row_fault(columns, times, row));
-    }
-    best
-}
-
-// The first fault of a relation.
-fn relation_fault(alloc: Global, relation: &RawRelation) -> Result<Option<DbFault>, Memory>
-    ensures { IfOk result (λ f. f ≡ first stands (relation_faults relation.now)) }
-{
-    let columns = relation.columns.as_slice();
-    let times = times_of(alloc, columns)?;
-    let names = repeated_column(alloc, columns)?;
-    let wide = ninth_column(columns);
-    let rows = rows_fault(columns, &times, relation.rows.as_slice());
-    Ok(sooner_of(sooner_of(names, wide), rows))
-}
-
-// The first of the faults that each relation has by itself.
-fn relations_fault(alloc: Global, relations: &[RawRelation]) -> Result<Option<DbFault>, Memory>
-    ensures { IfOk result (λ f. f ≡ first stands (flat_map relation_faults relations.now)) }
-{
-    let mut best = None;
-    for relation in relations {
-        best = sooner_of(best, relation_fault(alloc, relation)?);
-    }
-    Ok(best)
-}
-
-// The first fault of a written database.
-pub fn tree_fault(alloc: Global, relations: &[RawRelation]) -> Result<Option<DbFault>, Memory>
-    ensures { IfOk result (λ f. f ≡ first stands (faults relations.now)) }
-{
-    let names = repeated_relation(alloc, relations)?;
-    let parts = relations_fault(alloc, relations)?;
-    Ok(sooner_of(names, parts))
 }

@@ -3,6 +3,7 @@
 
 mod database;
 mod faults;
+mod gathering;
 mod laws;
 mod meaning;
 mod read;
@@ -16,7 +17,7 @@ pub use database::Database;
 pub use laws::database_texts_have_one_tree;
 pub use lrp_print::write_relation;
 pub use read::read_database;
-pub use trees::{ReadFault, read_tree};
+pub use trees::ReadFault;
 pub use written::write_database;
 
 #[cfg(test)]

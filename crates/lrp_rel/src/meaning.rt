@@ -1,19 +1,18 @@
-// The relations that a written database means.
+// What written rows and columns mean.
 ghost use Rattle.std.specs.Prelude.{◌≡◌, ◌∷◌, ◌++◌, ◌≤◌, ◌≤ℤ◌, ◌+◌, [], ℕ, pos, neg_ℤ, List as ListOf, map, length, IfOk, OnOk};
 ghost use Rattle.std.specs.List.{flat_map, AllByRecursion};
 ghost use Rattle.indexmap.specs.IndexSet.{keys};
 ghost use Rattle.lrp_model.specs.Lexing.{limit};
 ghost use Rattle.lrp_model.specs.Databases.{FitsValue, FitsSide, FitsBound};
-ghost use Rattle.lrp_model.specs.DatabaseMeaning.{signed, value_of, kept, value_bounds, instant_bounds, side_bounds, kept_bounds, row_of, column_of, relation_of, database_of};
+ghost use Rattle.lrp_model.specs.DatabaseMeaning.{signed, value_of, kept, value_bounds, instant_bounds, side_bounds, kept_bounds, row_of, column_of};
 ghost use Rattle.lrp_model.specs.declared.raw.RawColumn.{RawColumn as ColumnOf};
 ghost use Rattle.lrp_model.specs.declared.relations.Bound.{Bound as BoundOf};
-ghost use Rattle.lrp_rel.specs.Times.{AreNumbered, HasMeaning, HasRowMeaning, place_from, point_count, points_in};
+ghost use Rattle.lrp_rel.specs.Times.{AreNumbered, HasRowMeaning, place_from, point_count, points_in};
 
-use crate::faults::times_of;
 use indexmap::IndexSet;
 use lrp_model::{
-    Bound, BoundOp, Column, List, Located, Memory, Name, RawBound, RawColumn, RawRelation, RawRow,
-    Relation, Row, RowPoint, Side, Value, WrittenValue,
+    Bound, BoundOp, Column, List, Located, Memory, Name, RawBound, RawColumn, RawRow, Row,
+    RowPoint, Side, Value, WrittenValue,
 };
 use std::alloc::Global;
 
@@ -55,11 +54,11 @@ fn meant_values(alloc: Global, values: List<Located<WrittenValue>>) -> Result<Li
     requires { AllByRecursion (λ v. FitsValue v.item) values }
     ensures { IfOk result (λ made. made ≡ map (λ v. value_of v.item) values) }
 {
-    let mut made = List::new(alloc);
+    let mut made = Vec::with_capacity(alloc, values.len())?;
     for value in values.into_vec() {
         made.push(meant_value(value.item))?;
     }
-    Ok(made)
+    Ok(List::from_vec(made))
 }
 
 // The bounds that a comparison of two columns means, behind the others.
@@ -173,8 +172,17 @@ fn keep_bounds(
     Ok(())
 }
 
+// The same bounds, in no more memory than they need.
+fn with_exact_room(bounds: List<Bound>) -> List<Bound>
+    ensures { result ≡ bounds }
+{
+    let mut items = bounds.into_vec();
+    items.shrink_to_fit();
+    List::from_vec(items)
+}
+
 // The row that a written one means.
-fn meant_row(alloc: Global, times: &IndexSet<Name>, row: RawRow) -> Result<Row, Memory>
+pub fn meant_row(alloc: Global, times: &IndexSet<Name>, row: RawRow) -> Result<Row, Memory>
     requires times { length (keys times.now) ≤ 8 }
     requires lawful { HasRowMeaning row }
     ensures { IfOk result (λ made. (columns : ListOf ColumnOf) → AreNumbered columns (keys times.now) → made ≡ row_of columns row) }
@@ -182,29 +190,14 @@ fn meant_row(alloc: Global, times: &IndexSet<Name>, row: RawRow) -> Result<Row, 
     let mut bounds = List::new(alloc);
     keep_values(&mut bounds, row.values.as_slice())?;
     keep_bounds(&mut bounds, times, row.bounds.as_slice())?;
-    let values = meant_values(alloc, row.values)?;
-    Ok(Row { values, bounds })
-}
-
-// The rows that written ones mean.
-fn meant_rows(
-    alloc: Global,
-    times: &IndexSet<Name>,
-    rows: List<Located<RawRow>>,
-) -> Result<List<Row>, Memory>
-    requires times { length (keys times.now) ≤ 8 }
-    requires lawful { AllByRecursion (λ row. HasRowMeaning row.item) rows }
-    ensures { IfOk result (λ made. (columns : ListOf ColumnOf) → AreNumbered columns (keys times.now) → made ≡ map (λ row. row_of columns row.item) rows) }
-{
-    let mut made = List::new(alloc);
-    for row in rows.into_vec() {
-        made.push(meant_row(alloc, times, row.item)?)?;
-    }
-    Ok(made)
+    Ok(Row {
+        values: meant_values(alloc, row.values)?,
+        bounds: with_exact_room(bounds),
+    })
 }
 
 // The columns, without their places.
-fn meant_columns(alloc: Global, columns: List<RawColumn>) -> Result<List<Column>, Memory>
+pub fn meant_columns(alloc: Global, columns: List<RawColumn>) -> Result<List<Column>, Memory>
     ensures { IfOk result (λ made. made ≡ map column_of columns) }
 {
     let mut made = List::new(alloc);
@@ -213,38 +206,6 @@ fn meant_columns(alloc: Global, columns: List<RawColumn>) -> Result<List<Column>
             name: column.name,
             sort: column.sort,
         })?;
-    }
-    Ok(made)
-}
-
-// The relation that a written one means.
-fn meant_relation(alloc: Global, relation: RawRelation) -> Result<Relation, Memory>
-    requires { HasMeaning relation }
-    ensures { IfOk result (λ made. made ≡ relation_of relation) }
-{
-    let RawRelation {
-        name,
-        columns,
-        rows,
-    } = relation;
-    let times = times_of(alloc, columns.as_slice())?;
-    let rows = meant_rows(alloc, &times, rows)?;
-    let columns = meant_columns(alloc, columns)?;
-    Ok(Relation {
-        name: name.item,
-        columns,
-        rows,
-    })
-}
-
-// The relations that a written database means.
-pub fn meant_database(alloc: Global, tree: List<RawRelation>) -> Result<List<Relation>, Memory>
-    requires { AllByRecursion HasMeaning tree }
-    ensures { IfOk result (λ made. made ≡ database_of tree) }
-{
-    let mut made = List::new(alloc);
-    for relation in tree.into_vec() {
-        made.push(meant_relation(alloc, relation)?)?;
     }
     Ok(made)
 }

@@ -3,24 +3,24 @@ ghost use Rattle.std.specs.Prelude.{◌≡◌, ◌≤◌, List as ListOf, length
 ghost use Rattle.lrp_model.specs.DatabaseReading.{IsDatabase, IsDatabaseFault};
 ghost use Rattle.lrp_model.specs.declared.faults.DbFault.{DbFault as FaultOf};
 ghost use Rattle.lrp_model.specs.declared.relations.Relation.{Relation as RelationOf};
-ghost use Rattle.lrp_rel.specs.Reading.{IsOrMemory, IsFaultOrMemory, IsRefused, IsSoundTree, IsTreeOfText, IsTreeRefusal};
+ghost use Rattle.lrp_model.specs.declared.written.RawRelation.{RawRelation as Tree};
+ghost use Rattle.lrp_rel.specs.Gathered.{AreGathered};
+ghost use Rattle.lrp_rel.specs.Reading.{IsOrMemory, IsFaultOrMemory, IsRefused, IsSoundTree, IsGatheredFromText, IsTreeRefusal};
 
 use crate::database::Database;
-use crate::faults::tree_fault;
-use crate::meaning::meant_database;
-use crate::trees::{ReadFault, read_tree};
-use lrp_model::{List, RawRelation};
+use crate::gathering::Gathered;
+use crate::trees::{ReadFault, read_bytes};
 use std::alloc::Global;
 
-// The database of a text's tree, or the first fault of the tree.
-fn database_of_tree(alloc: Global, tree: List<RawRelation>) -> Result<Database, ReadFault>
-    requires { IsTreeOfText tree }
-    ensures read { IfOk result (IsSoundTree tree) }
-    ensures refused { IfErr result (IsTreeRefusal tree) }
+// The database of what a text says, or the first fault of that.
+fn database_of(alloc: Global, gathered: Gathered) -> Result<Database, ReadFault>
+    requires { IsGatheredFromText gathered }
+    ensures read { IfOk result (λ db. (tree : ListOf Tree) → AreGathered tree gathered → IsSoundTree tree db) }
+    ensures refused { IfErr result (λ e. (tree : ListOf Tree) → AreGathered tree gathered → IsTreeRefusal tree e) }
 {
-    match tree_fault(alloc, tree.as_slice())? {
+    match gathered.fault() {
         Some(fault) => Err(ReadFault::Fault { fault }),
-        None => Ok(Database::of(alloc, meant_database(alloc, tree)?)?),
+        None => Ok(Database::of(alloc, gathered.relations)?),
     }
 }
 
@@ -30,8 +30,8 @@ fn database_of_bytes(alloc: Global, bytes: &[u8]) -> Result<Database, ReadFault>
     ensures read { IfOk result (IsDatabase bytes.now) }
     ensures refused { IfErr result (IsRefused bytes.now) }
 {
-    let tree = read_tree(alloc, bytes)?;
-    database_of_tree(alloc, tree)
+    let gathered = read_bytes(alloc, bytes)?;
+    database_of(alloc, gathered)
 }
 
 /// The database of a text of at most 16,777,216 bytes. A text that is none has the one fault that is reported: of its bytes,

@@ -1,12 +1,15 @@
-// The tree of a database's text, read from its tokens.
+// Databases, read from the tokens of a text: a written row is dropped as soon as what it means is kept.
 ghost use Rattle.std.specs.Prelude.{◌≡◌, ◌<◌, ◌≤◌, ℕ, length, IfOk, []};
+ghost use Rattle.lrp_model.specs.Databases.{FitsRow};
 ghost use Rattle.lrp_text.specs.Parsers.{Reads, accept, separated_from, listed, until_from};
 ghost use Rattle.lrp_text.specs.Taking.{is_symbol, is_end, located};
+ghost use Rattle.lrp_rel.specs.Gathered.{ReadsAs, IsHeading, IsBodyOf, IsMeaningOf, AreGathered};
 ghost use Rattle.lrp_rel.specs.Rules.{label, integer, numeric, bare_value, value, named_side, side, op_of, bound, bounds, row, relation, database, left_behind};
 
+use crate::gathering::{Body, Gathered, Heading, Meaning};
 use lrp_model::{
-    BoundOp, Fault, Integer, List, Located, Name, RawBound, RawRelation, RawRow, Side, Symbol,
-    Word, WrittenValue,
+    BoundOp, Fault, Integer, List, Located, Name, RawBound, RawRow, Side, Symbol, Word,
+    WrittenValue,
 };
 use lrp_text::{Cursor, columns};
 use std::alloc::Global;
@@ -204,6 +207,7 @@ fn read_row(alloc: Global, tokens: &mut Cursor<'_>) -> Result<RawRow, Fault>
 
 fn read_placed_row(alloc: Global, tokens: &mut Cursor<'_>) -> Result<Located<RawRow>, Fault>
     ensures value { (n : ℕ) → length tokens.old < n → Reads (located (row n) tokens.old) result tokens.new }
+    ensures fits { IfOk result (λ row. FitsRow row.item) }
     ensures fewer { IfOk result (λ _. length tokens.new < length tokens.old) }
 {
     let place = tokens.place();
@@ -212,23 +216,24 @@ fn read_placed_row(alloc: Global, tokens: &mut Cursor<'_>) -> Result<Located<Raw
 }
 
 // The rows of a relation, up to the brace that ends them.
-fn read_rows(alloc: Global, tokens: &mut Cursor<'_>) -> Result<List<Located<RawRow>>, Fault>
-    ensures value { (n : ℕ) → length tokens.old < n → Reads (until_from (located (row n)) (is_symbol Symbol.CloseBrace) n [] tokens.old) result tokens.new }
+fn read_rows(alloc: Global, heading: &Heading, tokens: &mut Cursor<'_>) -> Result<Body, Fault>
+    requires { IsHeading heading.now }
+    ensures value { (n : ℕ) → length tokens.old < n → ReadsAs (IsBodyOf heading.now) (until_from (located (row n)) (is_symbol Symbol.CloseBrace) n [] tokens.old) result tokens.new }
     ensures shorter { IfOk result (λ _. length tokens.new ≤ length tokens.old) }
 {
-    let mut found = List::new(alloc);
+    let mut body = Body::new(alloc);
     'rows: loop {
         if tokens.sees(Symbol::CloseBrace) {
-            return Ok(found);
+            return Ok(body);
         }
         let row = read_placed_row(alloc, tokens)?;
-        found.push(row)?;
+        body.keep(alloc, heading, row)?;
     }
 }
 
 #[tactic(auto, unfolding(crate::specs::Rules::relation))]
-fn read_relation(alloc: Global, tokens: &mut Cursor<'_>) -> Result<RawRelation, Fault>
-    ensures value { (n : ℕ) → length tokens.old < n → Reads (relation n tokens.old) result tokens.new }
+fn read_relation(alloc: Global, tokens: &mut Cursor<'_>) -> Result<Meaning, Fault>
+    ensures value { (n : ℕ) → length tokens.old < n → ReadsAs IsMeaningOf (relation n tokens.old) result tokens.new }
     ensures fewer { IfOk result (λ _. length tokens.new < length tokens.old) }
 {
     tokens.expect_word(Word::Relation)?;
@@ -237,38 +242,32 @@ fn read_relation(alloc: Global, tokens: &mut Cursor<'_>) -> Result<RawRelation, 
     let columns = columns(alloc, tokens, Symbol::Close)?;
     tokens.expect(Symbol::Close)?;
     tokens.expect(Symbol::OpenBrace)?;
-    let rows = read_rows(alloc, tokens)?;
+    let heading = Heading::of(alloc, columns)?;
+    let body = read_rows(alloc, &heading, tokens)?;
     tokens.expect(Symbol::CloseBrace)?;
-    Ok(RawRelation {
-        name,
-        columns,
-        rows,
-    })
+    Ok(Meaning::of(alloc, name, heading, body)?)
 }
 
 // The relations of a database, up to the end.
-fn read_relations(alloc: Global, tokens: &mut Cursor<'_>) -> Result<List<RawRelation>, Fault>
-    ensures { (n : ℕ) → length tokens.old < n → Reads (until_from (relation n) is_end n [] tokens.old) result tokens.new }
+fn read_relations(alloc: Global, tokens: &mut Cursor<'_>) -> Result<Gathered, Fault>
+    ensures { (n : ℕ) → length tokens.old < n → ReadsAs AreGathered (until_from (relation n) is_end n [] tokens.old) result tokens.new }
 {
-    let mut found = List::new(alloc);
+    let mut gathered = Gathered::new(alloc);
     'relations: loop {
         if tokens.sees_end() {
-            return Ok(found);
+            return Ok(gathered);
         }
-        let relation = read_relation(alloc, tokens)?;
-        found.push(relation)?;
+        let meaning = read_relation(alloc, tokens)?;
+        gathered.keep(alloc, meaning)?;
     }
 }
 
 // The relations, and the end behind them.
 #[tactic(auto, unfolding(crate::specs::Rules::database))]
-pub fn read_relations_to_end(
-    alloc: Global,
-    tokens: &mut Cursor<'_>,
-) -> Result<List<RawRelation>, Fault>
-    ensures { (n : ℕ) → length tokens.old < n → Reads (database n tokens.old) result (left_behind result tokens.new) }
+pub fn read_relations_to_end(alloc: Global, tokens: &mut Cursor<'_>) -> Result<Gathered, Fault>
+    ensures { (n : ℕ) → length tokens.old < n → ReadsAs AreGathered (database n tokens.old) result (left_behind result tokens.new) }
 {
-    let relations = read_relations(alloc, tokens)?;
+    let gathered = read_relations(alloc, tokens)?;
     tokens.expect_end()?;
-    Ok(relations)
+    Ok(gathered)
 }

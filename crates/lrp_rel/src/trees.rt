@@ -1,13 +1,11 @@
-// The tree of a database's text, read from its bytes, or the fault of the bytes or of the grammar.
-ghost use Rattle.std.specs.Prelude.{◌≡◌, ◌≢◌, ◌≤◌, List as ListOf, ◌<◌, ◌+◌, length, IfOk, IfErr};
-ghost use Rattle.lrp_model.specs.declared.faults.DbFault.{DbFault as FaultOf};
-ghost use Rattle.lrp_model.specs.declared.written.RawRelation.{RawRelation as Tree};
+// What the text of a database says, read from its bytes, or the fault of the bytes or of the grammar.
+ghost use Rattle.std.specs.Prelude.{◌≡◌, ◌≢◌, ◌≤◌, ◌<◌, ◌+◌, length, IfOk, IfErr};
 ghost use Rattle.lrp_model.specs.Lexing.{after, moved, start};
-ghost use Rattle.lrp_model.specs.DatabaseReading.{IsDatabaseText};
-ghost use Rattle.lrp_rel.specs.Reading.{refusal_of, IsTextFault, IsUnread, IsOrMemory, IsFaultOrMemory};
+ghost use Rattle.lrp_rel.specs.Reading.{refusal_of, IsGatheredFrom, IsUnread};
 
+use crate::gathering::Gathered;
 use crate::reading::read_relations_to_end;
-use lrp_model::{DbFault, DbKind, Fault, List, Memory, Place, RawRelation};
+use lrp_model::{DbFault, DbKind, Fault, Memory, Place};
 use lrp_text::Cursor;
 use std::alloc::Global;
 use std::str::from_utf8;
@@ -81,23 +79,23 @@ fn refusal(kind: Fault, place: Place) -> ReadFault
     }
 }
 
-// The tree of a text.
-fn read_text(alloc: Global, text: &str) -> Result<List<RawRelation>, ReadFault>
+// What a text says.
+fn read_text(alloc: Global, text: &str) -> Result<Gathered, ReadFault>
     requires { length text.now ≤ 16777216 }
-    ensures tree { IfOk result (IsDatabaseText text.now) }
+    ensures gathered { IfOk result (IsGatheredFrom text.now) }
     ensures refused { IfErr result (IsUnread text.now) }
 {
     let mut tokens = Cursor::new(text);
     match read_relations_to_end(alloc, &mut tokens) {
-        Ok(tree) => Ok(tree),
+        Ok(gathered) => Ok(gathered),
         Err(fault) => Err(refusal(fault, tokens.peek().place)),
     }
 }
 
-// The tree of bytes, where they are UTF-8 and a text of the grammar.
-fn read_bytes(alloc: Global, bytes: &[u8]) -> Result<List<RawRelation>, ReadFault>
+// What bytes say, where they are UTF-8 and a text of the grammar.
+pub fn read_bytes(alloc: Global, bytes: &[u8]) -> Result<Gathered, ReadFault>
     requires { length bytes.now ≤ 16777216 }
-    ensures tree { IfOk result (IsDatabaseText bytes.now) }
+    ensures gathered { IfOk result (IsGatheredFrom bytes.now) }
     ensures refused { IfErr result (IsUnread bytes.now) }
 {
     match from_utf8(bytes) {
@@ -112,17 +110,4 @@ fn read_bytes(alloc: Global, bytes: &[u8]) -> Result<List<RawRelation>, ReadFaul
             })
         }
     }
-}
-
-/// The tree of a database's text of at most 16,777,216 bytes. Its faults are those of the bytes and of the grammar.
-pub fn read_tree(alloc: Global, bytes: &[u8]) -> Result<List<RawRelation>, ReadFault>
-    requires { length bytes.now ≤ 16777216 }
-    ensures tree { IfOk result (IsDatabaseText bytes.now) }
-    ensures refused { IfErr result (IsUnread bytes.now) }
-
-    // Each text of the grammar is read, and each other one is refused for its one fault.
-    ensures every_tree { (tree : ListOf Tree) → IsDatabaseText bytes.now tree → IsOrMemory tree result }
-    ensures every_fault { (fault : FaultOf) → IsTextFault bytes.now fault → IsFaultOrMemory fault result }
-{
-    read_bytes(alloc, bytes)
 }

@@ -7,5 +7,5 @@ use Rattle.lrp_rel.proofs.meaning.meant_values.Given as goal
 abbrev pub invariant-loop-value : goal.invariant-loop-value
 invariant-loop-value l = record {
   all : l.yielded ++ into_iter_items l.value-iterator ≡ into_iter_items l.initial.value-iterator;
-  meant : l.made ≡ map (λ v. value_of v.item) l.yielded;
+  meant : l.made.items ≡ map (λ v. value_of v.item) l.yielded;
 }

@@ -1,13 +1,14 @@
-use Rattle.std.proofs.Common.{◌≡◌, ◌<◌, ◌≤◌, ℕ, [], length}
-use Rattle.lrp_text.specs.Parsers.{until_from}
+use Rattle.std.proofs.Common.{◌<◌, ◌≤◌, ℕ, length}
 use Rattle.lrp_text.specs.Taking.{is_end}
 use Rattle.lrp_rel.specs.Rules.{relation}
+use Rattle.lrp_rel.specs.Gathered.{AreGathered}
+use Rattle.lrp_rel.proofs.KeptTurns.{KeptTurn}
 use Rattle.lrp_rel.proofs.reading.read_relations.Given as goal
 
--- those so far and those that follow are the rule's
+-- those so far are kept, and with those that follow are the rule's
 abbrev pub invariant-relations : goal.invariant-relations
 invariant-relations l = record {
-  same : (turns : ℕ) → length l.fn.tokens < turns → (n : ℕ) × (length l.tokens < n) × (until_from (relation turns) is_end n l.found l.tokens ≡ until_from (relation turns) is_end turns [] l.fn.tokens);
+  same : (turns : ℕ) → length l.fn.tokens < turns → KeptTurn (relation turns) is_end AreGathered turns l.fn.tokens l.tokens l.gathered;
   shorter : length l.tokens ≤ length l.fn.tokens;
 }
 
