@@ -5,9 +5,13 @@ pub mod Viable
 pub mod LocatedRule
 pub mod Refusal
 pub mod Unique
+pub mod OneCause
+pub mod LongestFront
 pub mod Turns
 pub mod TokenTests
 pub mod ColumnRule
+pub mod IntegerRule
+pub mod Behind
 pub mod Runs
 pub mod Scans
 pub mod Cuts

@@ -30,19 +30,19 @@ pub last_below : {A : Type 0} (p : Parser A) (comma : Placed → Bool) (n k : �
 last_below p comma zero k found ts us vs a lt e d = absurd (omega arith)
 last_below p comma (suc n) k found ts us vs a lt e d = last p comma n found ts us vs a e d
 
--- what failed in a turn, for a loop that has ended in a fault
-failed : {A B : Type 0} (o : Outcome A) (q : Outcome B) (us : Tokens) (fault : Fault) → ((k : Fault) → o ≡ Err (k, us) → q ≡ Err (k, us)) → Reads o (Err fault) us → Reads q (Err fault) us
-failed o q us Memory f e = tt
-failed o q us Syntax f e = f Syntax e
-failed o q us Number f e = f Number e
-failed o q us TextTooLong f e = f TextTooLong e
-failed o q us Period f e = f Period e
-failed o q us Deep f e = f Deep e
+-- the fault of one outcome, handed on by another
+pub lifts : {A B : Type 0} (o : Outcome A) (q : Outcome B) (us : Tokens) (fault : Fault) → ((k : Fault) → o ≡ Err (k, us) → q ≡ Err (k, us)) → Reads o (Err fault) us → Reads q (Err fault) us
+lifts o q us Memory f e = tt
+lifts o q us Syntax f e = f Syntax e
+lifts o q us Number f e = f Number e
+lifts o q us TextTooLong f e = f TextTooLong e
+lifts o q us Period f e = f Period e
+lifts o q us Deep f e = f Deep e
 
 -- a member that fails
 pub none_below : {A : Type 0} (p : Parser A) (comma : Placed → Bool) (n k : ℕ) (found : List A) (ts us : Tokens) (result : Outcome (List A)) (fault : Fault) → k < n → Reads (p ts) (Err fault) us → separated_from p comma n found ts ≡ result → Reads result (Err fault) us
 none_below p comma zero k found ts us result fault lt e w = absurd (omega arith)
-none_below p comma (suc n) k found ts us result fault lt e w = failed (p ts) result us fault (λ kind d. sym w ∙ none p comma n found ts us kind d) e
+none_below p comma (suc n) k found ts us result fault lt e w = lifts (p ts) result us fault (λ kind d. sym w ∙ none p comma n found ts us kind d) e
 
 -- a list that a token ends, one turn at a time
 ends : {A : Type 0} (p : Parser A) (stop : Placed → Bool) (n : ℕ) (found : List A) (ts : Tokens) → look false stop ts ≡ Ok (true, ts) → until_from p stop (suc n) found ts ≡ Ok (found, ts)
@@ -72,4 +72,4 @@ goes_below p stop (suc n) k found ts us a lt e d s = (n, omega arith, goes p sto
 -- a member that fails
 pub fails_below : {A : Type 0} (p : Parser A) (stop : Placed → Bool) (n k : ℕ) (found : List A) (ts us : Tokens) (result : Outcome (List A)) (fault : Fault) → k < n → look false stop ts ≡ Ok (false, ts) → Reads (p ts) (Err fault) us → until_from p stop n found ts ≡ result → Reads result (Err fault) us
 fails_below p stop zero k found ts us result fault lt e d w = absurd (omega arith)
-fails_below p stop (suc n) k found ts us result fault lt e d w = failed (p ts) result us fault (λ kind f. sym w ∙ fails p stop n found ts us kind e f) d
+fails_below p stop (suc n) k found ts us result fault lt e d w = lifts (p ts) result us fault (λ kind f. sym w ∙ fails p stop n found ts us kind e f) d

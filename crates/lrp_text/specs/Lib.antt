@@ -1,6 +1,7 @@
 pub mod Parsers
 pub mod Taking
 pub mod ColumnRule
+pub mod IntegerRule
 pub mod Lexemes
 pub mod Sources
 pub mod Stream

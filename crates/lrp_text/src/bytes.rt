@@ -1,7 +1,8 @@
 // The bytes that tokens are made of, and the runs of them.
 ghost use Rattle.std.specs.Prelude.{◌≡◌, ◌≤◌, ◌<◌, ◌+◌, ◌^◌, length, min, false};
-ghost use Rattle.lrp_model.specs.Lexing.{is_letter as is_letter_byte, is_digit as is_digit_byte, is_name_byte as is_byte_of_names, is_blank as is_blank_byte, is_forbidden as is_forbidden_byte, moved, skip as skip_rule, run, behind_run, value_from, limit};
+ghost use Rattle.lrp_model.specs.Lexing.{is_letter as is_letter_byte, is_digit as is_digit_byte, is_name_byte as is_byte_of_names, is_blank as is_blank_byte, is_forbidden as is_forbidden_byte, skip as skip_rule, run, behind_run, value_from, limit};
 
+use crate::places::behind;
 use lrp_model::{LIMIT, Place};
 
 pub fn is_letter(b: u8) -> bool
@@ -32,25 +33,6 @@ pub fn is_forbidden(b: u8) -> bool
     ensures { result ≡ is_forbidden_byte b }
 {
     b <= 31 || b == 127
-}
-
-// The place behind a byte.
-fn behind(place: Place, b: u8) -> Place
-    requires line { place.line + 1 < 2 ^ 32 }
-    requires column { place.column + 1 < 2 ^ 32 }
-    ensures { result ≡ moved place b }
-{
-    if b == b'\n' {
-        Place {
-            line: place.line + 1,
-            column: 1,
-        }
-    } else {
-        Place {
-            line: place.line,
-            column: place.column + 1,
-        }
-    }
 }
 
 // Goes behind blanks and comments.

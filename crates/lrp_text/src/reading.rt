@@ -1,13 +1,28 @@
 // The readers of what databases and queries share.
-ghost use Rattle.std.specs.Prelude.{◌≤◌, ◌<◌, ℕ, [], length, IfOk};
+ghost use Rattle.std.specs.Prelude.{◌≢◌, ◌≤◌, ◌<◌, ℕ, [], length, Err, IfOk};
 ghost use Rattle.lrp_text.specs.Parsers.{separated_from, listed, Reads, IsOrMemory};
 ghost use Rattle.lrp_text.specs.Taking.{is_symbol};
+ghost use Rattle.lrp_model.specs.Lexing.{limit};
 ghost use Rattle.lrp_text.specs.ColumnRule.{shown_sort, sort as sort_rule, column as column_rule};
+ghost use Rattle.lrp_text.specs.IntegerRule.{integer as integer_rule};
 
 use crate::cursor::Cursor;
 use crate::lexemes::{Found, Lexeme};
-use lrp_model::{Fault, List, Name, Place, RawColumn, Sort, Symbol, Word};
+use lrp_model::{Fault, Integer, List, Name, Place, RawColumn, Sort, Symbol, Word};
 use std::alloc::Global;
+
+/// Reads an integer: a number of at most 2^62, which may have a minus before it.
+#[tactic(auto, unfolding(crate::specs::IntegerRule::integer))]
+pub fn integer(tokens: &mut Cursor<'_>) -> Result<Integer, Fault>
+    ensures value { Reads (integer_rule tokens.old) result tokens.new }
+    ensures fewer { IfOk result (λ _. length tokens.new < length tokens.old) }
+    ensures takes_no_memory { result ≢ Err Fault.Memory }
+    ensures fits { IfOk result (λ i. i.size ≤ limit) }
+{
+    let negative = tokens.eat(Symbol::Minus);
+    let size = tokens.number()?;
+    Ok(Integer { negative, size })
+}
 
 // The sort that stands there.
 fn sort_of(alloc: Global, found: Found<'_>) -> Result<Sort, Fault>

@@ -1,0 +1,36 @@
+// Places behind bytes.
+ghost use Rattle.std.specs.Prelude.{◌≡◌, ◌≤◌, ◌<◌, ◌+◌, ◌^◌, length};
+ghost use Rattle.lrp_model.specs.Lexing.{after, moved, start};
+
+use lrp_model::Place;
+
+// The place behind one more byte.
+pub fn behind(place: Place, b: u8) -> Place
+    requires line { place.line + 1 < 2 ^ 32 }
+    requires column { place.column + 1 < 2 ^ 32 }
+    ensures { result ≡ moved place b }
+{
+    if b == b'\n' {
+        Place {
+            line: place.line + 1,
+            column: 1,
+        }
+    } else {
+        Place {
+            line: place.line,
+            column: place.column + 1,
+        }
+    }
+}
+
+/// The place behind the bytes that a text begins with, at most 16,777,216 of them.
+pub fn place_behind(bytes: &[u8]) -> Place
+    requires { length bytes.now ≤ 16777216 }
+    ensures { result ≡ after start bytes.now }
+{
+    let mut place = Place { line: 1, column: 1 };
+    for byte in bytes {
+        place = behind(place, *byte);
+    }
+    place
+}
