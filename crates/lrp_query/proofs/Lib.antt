@@ -1,6 +1,5 @@
 pub mod Shown
 pub mod Steps
-pub mod Places
 pub mod Started
 mod LocalRules
 mod TermRules

@@ -10,16 +10,11 @@ use Rattle.lrp_text.specs.Taking.{is_symbol, is_word, expect, expect_word, name,
 use Rattle.lrp_text.specs.ColumnRule.{column}
 use Rattle.lrp_text.proofs.Local.{Local, bind_local, accept_local, pure_local, fail_local, eat_local, look_local, if_local, separated_local, listed_local}
 use Rattle.lrp_text.proofs.ColumnRule.{column_local}
+use Rattle.lrp_text.proofs.IntegerRule.{integer_local}
 use Rattle.lrp_query.specs.declared.starts.Start.{Start}
 use Rattle.lrp_query.specs.declared.starts.Start.TheVariants.{Not as by_not, Exists as by_exists, Forall as by_forall, Open as by_open, Name as by_name, Term as by_term}
-use Rattle.lrp_query.specs.Rules.{Trees, integer, offset, named_term, unnamed_term, bare_term, term, op_of, point, comparing, test, atom_terms, named, unnamed, negated, existing, holding, implying, conjoined, disjoined, behind_first, enclosed, start_of, is_hole_token, started, formula_over, formula, query}
-
--- an integer depends on its tokens and on the next one alone
-pub integer_local : Local integer
-unfolding integer
-integer_local =
-    bind_local (eat (is_symbol Minus)) _ (eat_local _) (λ negative.
-    bind_local number _ (accept_local _) (λ n. pure_local _))
+use Rattle.lrp_text.specs.IntegerRule.{integer}
+use Rattle.lrp_query.specs.Rules.{Trees, offset, named_term, unnamed_term, bare_term, term, op_of, point, comparing, test, atom_terms, named, unnamed, negated, existing, holding, implying, conjoined, disjoined, behind_first, enclosed, start_of, is_hole_token, started, formula_over, formula, query}
 
 -- an offset depends on its tokens and on the next one alone
 pub offset_local : Local offset

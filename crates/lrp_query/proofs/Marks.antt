@@ -23,8 +23,10 @@ use Rattle.lrp_text.proofs.TokenTests.{symbol_told, word_told}
 use Rattle.lrp_text.proofs.ColumnRule.{column_local}
 use Rattle.lrp_query.specs.declared.starts.Start.{Start}
 use Rattle.lrp_query.specs.declared.starts.Start.TheVariants.{Not as by_not, Exists as by_exists, Forall as by_forall, Open as by_open, Name as by_name, Term as by_term}
-use Rattle.lrp_query.specs.Rules.{Trees, integer, unmoved, moved_by, offset, named_term, unnamed_term, bare_term, term, op_of, point, comparing, test, atom_terms, named, unnamed, negated, existing, holding, implying, conjoined, disjoined, behind_first, enclosed, start_of, is_hole_token, started, formula_over, formula, query}
-use Rattle.lrp_query.proofs.LocalRules.{integer_local, offset_local, named_term_local, unnamed_term_local, bare_term_local, term_local, formula_local}
+use Rattle.lrp_text.specs.IntegerRule.{integer}
+use Rattle.lrp_query.specs.Rules.{Trees, unmoved, moved_by, offset, named_term, unnamed_term, bare_term, term, op_of, point, comparing, test, atom_terms, named, unnamed, negated, existing, holding, implying, conjoined, disjoined, behind_first, enclosed, start_of, is_hole_token, started, formula_over, formula, query}
+use Rattle.lrp_text.proofs.IntegerRule.{integer_local}
+use Rattle.lrp_query.proofs.LocalRules.{offset_local, named_term_local, unnamed_term_local, bare_term_local, term_local, formula_local}
 
 -- trees of which nothing is kept, where each token is marked at which a formula would be too deep
 abbrev pub marking : Trees (Unit {0}) (Unit {0}) (Unit {0}) (Unit {0})

@@ -18,7 +18,8 @@ use Rattle.lrp_text.specs.ColumnRule.{column}
 use Rattle.lrp_text.proofs.Sound.{bind_ok}
 use Rattle.lrp_query.specs.declared.starts.Start.{Start}
 use Rattle.lrp_query.specs.declared.starts.Start.TheVariants.{Not as by_not, Exists as by_exists, Forall as by_forall, Open as by_open, Name as by_name, Term as by_term}
-use Rattle.lrp_query.specs.Rules.{Trees, integer, offset, with_offset, named_term, unnamed_term, bare_term, term, op_of, point, comparing, test, atom_terms, named, unnamed, negated, existing, holding, implying, conjoined, disjoined, behind_first, enclosed, start_of, is_hole_token, started, formula_over, formula, query}
+use Rattle.lrp_text.specs.IntegerRule.{integer}
+use Rattle.lrp_query.specs.Rules.{Trees, offset, with_offset, named_term, unnamed_term, bare_term, term, op_of, point, comparing, test, atom_terms, named, unnamed, negated, existing, holding, implying, conjoined, disjoined, behind_first, enclosed, start_of, is_hole_token, started, formula_over, formula, query}
 
 -- ---- outcomes
 

@@ -1,8 +1,5 @@
 -- A text has at most one fault of its bytes or of the grammar.
-use Rattle.std.proofs.Common.{◌≡◌, ℕ, false, List, ◌∷◌, ◌++◌, refl, ap, ◌∙◌, sym, subst, arith, Result, Ok, Err, IfOk, IfErr}
-use Rattle.std.proofs.lemmas.List.{append_cancel_right}
-use Rattle.std.proofs.lemmas.Str.{utf8_valid_len-IsValidUpTo}
-use Rattle.std.specs.Prelude.{take}
+use Rattle.std.proofs.Common.{◌≡◌, ◌⊎◌, inl, inr, ℕ, List, refl, ap, ◌∙◌, sym, subst, Result, Ok, Err, IfOk, IfErr}
 use Rattle.lrp_model.specs.declared.tokens.Place.{Place}
 use Rattle.lrp_model.specs.declared.tokens.Fault.{Fault as TokenFault}
 use Rattle.lrp_model.specs.declared.tokens.Fault.TheVariants.{Syntax as syntax, Number as number, TextTooLong as text_too_long, Period as period, Deep as deep, Memory as memory}
@@ -12,76 +9,37 @@ use Rattle.lrp_model.specs.declared.faults.QueryRead.TheVariants.{Fault, Memory}
 use Rattle.lrp_model.specs.declared.faults.QueryKind.{QueryKind}
 use Rattle.lrp_model.specs.declared.faults.QueryKind.TheVariants.{Utf8, Syntax, Number, Period, Deep, UnknownRelation, Arity, Sort, Unbound, Rebound, Wide, TextTooLong, UnknownSort}
 use Rattle.lrp_model.specs.declared.raw.RawQuery.{RawQuery}
-use Rattle.lrp_model.specs.Tokens.{Token, Placed, Tokens}
-use Rattle.lrp_model.specs.Tokens.Token.{number_token}
-use Rattle.lrp_model.specs.Lexing.{tokens, after, start}
+use Rattle.lrp_model.specs.Tokens.{Placed, Tokens}
+use Rattle.lrp_model.specs.Lexing.{tokens}
 use Rattle.lrp_model.specs.Refused.{IsCause}
 use Rattle.lrp_model.specs.DatabaseReading.{IsNoUtf8}
 use Rattle.lrp_model.specs.RawQueries.{raw_question_of}
 use Rattle.lrp_model.specs.QueryReading.{IsQuery, Texts, IsRanked, IsNoQueryText, IsQueryFault, IsQueryFaultOf}
-use Rattle.lrp_text.proofs.Unique.{refused_once}
+use Rattle.lrp_text.proofs.OneCause.{same_token, same_front, second_cause, for_syntax, IsShown, apart_syntax, same_kind}
+use Rattle.lrp_text.proofs.LongestFront.{not_cut, same_cut}
 use Rattle.lrp_query.specs.Reading.{IsUnread, IsFaultOrMemory}
-use Rattle.lrp_query.proofs.TextLaws.{not_cut, no_fault}
+use Rattle.lrp_query.proofs.TextLaws.{no_fault}
 
--- no token shows two causes
-number_or_period : (t : Token) → IsCause number t → IsCause period t → ⊥
-number_or_period (number_token n) a b = absurd (omega arith)
-number_or_period _ a b = a
-
--- nor these two
-number_or_text : (t : Token) → IsCause number t → IsCause text_too_long t → ⊥
-number_or_text (number_token n) a b = b
-number_or_text _ a b = a
-
--- nor these
-period_or_text : (t : Token) → IsCause period t → IsCause text_too_long t → ⊥
-period_or_text (number_token n) a b = b
-period_or_text _ a b = a
-
--- equal lists have equal heads
-heads : (a b : Placed) (xs ys : Tokens) → a ∷ xs ≡ b ∷ ys → a ≡ b
-heads a b xs ys e = cc
-
--- two refusals of one text stand at one token
+-- two refusals of one text
 module _ (bytes : List ℕ) (k l : TokenFault) (p q : Place) (r : IsNoQueryText bytes k p) (s : IsNoQueryText bytes l q) where
-  -- they leave the same tokens
-  same_rest : r.bad ∷ r.tail ≡ s.bad ∷ s.tail
-  same_rest = refused_once Texts (tokens bytes) k l r.bad s.bad r.tail s.tail r.refused s.refused
-
   -- they stand at one token
-  same_token : r.bad ≡ s.bad
-  same_token = heads r.bad s.bad r.tail s.tail same_rest
+  at_token : r.bad ≡ s.bad
+  at_token = same_token Texts (tokens bytes) k l r.bad s.bad r.tail s.tail r.refused s.refused
 
   -- and at one place
   pub same_place : p ≡ q
-  same_place = r.place_is ∙ ap (λ t. t.place) same_token ∙ sym s.place_is
+  same_place = r.place_is ∙ ap (λ t. t.place) at_token ∙ sym s.place_is
 
   -- behind the same tokens
-  same_front : r.refused.front ≡ s.refused.front
-  same_front = append_cancel_right r.refused.front s.refused.front (s.bad ∷ s.tail) (sym (r.refused.whole ∙ ap (λ x. r.refused.front ++ x) same_rest) ∙ s.refused.whole)
-
-  -- the second one's cause at the token of the first
-  second_cause : IsCause l r.bad.token
-  second_cause = let P : Placed → Type 0 = λ t. IsCause l t.token in subst P (sym same_token) s.refused.cause
-
-  -- where one is for the syntax, so is the other
-  pub for_syntax : k ≡ syntax → (l ≡ syntax → ⊥) → ⊥
-  for_syntax e ne =
-      let other = s.refused.others ne in
-      let P : Tokens → Type 0 = λ x. Texts false x in
-      let here : s.refused.front ++ s.bad ∷ other.0 ≡ r.refused.front ++ r.bad ∷ other.0 = ap (λ x. x ++ s.bad ∷ other.0) (sym same_front) ∙ ap (λ t. r.refused.front ++ t ∷ other.0) (sym same_token) in
-      r.refused.syntax e other.0 (subst P here other.1)
-
-  -- two causes that exclude each other
-  pub causes : (a : IsCause k r.bad.token → IsCause l r.bad.token → ⊥) → ⊥
-  causes a = a r.refused.cause second_cause
+  behind_front : r.refused.front ≡ s.refused.front
+  behind_front = same_front Texts (tokens bytes) k l r.bad s.bad r.tail s.tail r.refused s.refused
 
   -- the second one's rank, at the token of the first
   second_rank : IsRanked l r.refused.front r.bad.token
   second_rank =
       let P : Placed → Type 0 = λ t. IsRanked l s.refused.front t.token in
       let Q : Tokens → Type 0 = λ f. IsRanked l f r.bad.token in
-      subst Q (sym same_front) (subst P (sym same_token) s.ranked)
+      subst Q (sym behind_front) (subst P (sym at_token) s.ranked)
 
   -- two ranks that exclude each other
   pub ranks : (IsRanked k r.refused.front r.bad.token → IsRanked l r.refused.front r.bad.token → ⊥) → ⊥
@@ -89,7 +47,15 @@ module _ (bytes : List ℕ) (k l : TokenFault) (p q : Place) (r : IsNoQueryText 
 
   -- a rank of the first that excludes a cause of the second
   pub rank_or_cause : (IsRanked k r.refused.front r.bad.token → IsCause l r.bad.token → ⊥) → ⊥
-  rank_or_cause a = a r.ranked second_cause
+  rank_or_cause a = a r.ranked (second_cause Texts (tokens bytes) k l r.bad s.bad r.tail s.tail r.refused s.refused)
+
+  -- where one is for the syntax, so is the other
+  pub both_syntax : k ≡ syntax → (l ≡ syntax → ⊥) → ⊥
+  both_syntax = for_syntax Texts (tokens bytes) k l r.bad s.bad r.tail s.tail r.refused s.refused
+
+  -- kinds that tokens show by themselves are one
+  pub shown_kind : IsShown k → IsShown l → k ≡ l
+  shown_kind = same_kind Texts (tokens bytes) k l r.bad s.bad r.tail s.tail r.refused s.refused
 
 -- the kinds that are met while a text is read
 abbrev IsMet : TokenFault → Type 0
@@ -105,44 +71,33 @@ kind_met period = Period
 kind_met deep = Deep
 kind_met memory = Utf8
 
--- a kind that is none of syntax
-abbrev IsOther : TokenFault → Type 0
-IsOther syntax = ⊥
-IsOther _ = Unit {0}
+-- a kind is for the depth, or a token shows it
+met_kind : (k : TokenFault) → IsMet k → (k ≡ deep) ⊎ IsShown k
+met_kind deep m = inl refl
+met_kind syntax m = inr tt
+met_kind number m = inr tt
+met_kind text_too_long m = inr tt
+met_kind period m = inr tt
+met_kind memory m = absurd m
 
--- it is none
-apart_syntax : (k : TokenFault) → IsOther k → k ≡ syntax → ⊥
-apart_syntax k o e = subst IsOther e o
+-- of two refusals none is for the depth alone
+never_alone : (bytes : List ℕ) (l : TokenFault) (p q : Place) → IsNoQueryText bytes deep p → IsNoQueryText bytes l q → IsShown l → ⊥
+never_alone bytes syntax p q r s n = both_syntax bytes syntax deep q p s r refl (apart_syntax deep tt)
+never_alone bytes number p q r s n = rank_or_cause bytes deep number p q r s (λ a b. a.1 b)
+never_alone bytes period p q r s n = ranks bytes deep period p q r s (λ a b. b a.0)
+never_alone bytes text_too_long p q r s n = ranks bytes deep text_too_long p q r s (λ a b. b a.0)
+never_alone bytes _ p q r s n = n
+
+-- two refusals of one text are for one kind, where each is for the depth or a token shows it
+either_kind : (bytes : List ℕ) (k l : TokenFault) (p q : Place) → IsNoQueryText bytes k p → IsNoQueryText bytes l q → (k ≡ deep) ⊎ IsShown k → (l ≡ deep) ⊎ IsShown l → k ≡ l
+either_kind bytes k l p q r s (inl e) (inl d) = e ∙ sym d
+either_kind bytes k l p q r s (inr m) (inr n) = shown_kind bytes k l p q r s m n
+either_kind bytes k l p q r s (inl e) (inr n) = let P : TokenFault → Type 0 = λ j. IsNoQueryText bytes j p in absurd (never_alone bytes l p q (subst P e r) s n)
+either_kind bytes k l p q r s (inr m) (inl d) = let P : TokenFault → Type 0 = λ j. IsNoQueryText bytes j q in absurd (never_alone bytes k q p (subst P d s) r m)
 
 -- two refusals of one text are for one kind
-same_kind : (bytes : List ℕ) (k l : TokenFault) (p q : Place) → IsNoQueryText bytes k p → IsNoQueryText bytes l q → IsMet k → IsMet l → k ≡ l
-same_kind bytes syntax syntax p q r s m n = refl
-same_kind bytes number number p q r s m n = refl
-same_kind bytes text_too_long text_too_long p q r s m n = refl
-same_kind bytes period period p q r s m n = refl
-same_kind bytes deep deep p q r s m n = refl
-same_kind bytes syntax number p q r s m n = absurd (for_syntax bytes syntax number p q r s refl (λ e. apart_syntax number tt e))
-same_kind bytes number syntax p q r s m n = absurd (for_syntax bytes syntax number q p s r refl (λ e. apart_syntax number tt e))
-same_kind bytes syntax text_too_long p q r s m n = absurd (for_syntax bytes syntax text_too_long p q r s refl (λ e. apart_syntax text_too_long tt e))
-same_kind bytes text_too_long syntax p q r s m n = absurd (for_syntax bytes syntax text_too_long q p s r refl (λ e. apart_syntax text_too_long tt e))
-same_kind bytes syntax period p q r s m n = absurd (for_syntax bytes syntax period p q r s refl (λ e. apart_syntax period tt e))
-same_kind bytes period syntax p q r s m n = absurd (for_syntax bytes syntax period q p s r refl (λ e. apart_syntax period tt e))
-same_kind bytes syntax deep p q r s m n = absurd (for_syntax bytes syntax deep p q r s refl (λ e. apart_syntax deep tt e))
-same_kind bytes deep syntax p q r s m n = absurd (for_syntax bytes syntax deep q p s r refl (λ e. apart_syntax deep tt e))
-same_kind bytes number period p q r s m n = absurd (causes bytes number period p q r s (number_or_period r.bad.token))
-same_kind bytes period number p q r s m n = absurd (causes bytes number period q p s r (number_or_period s.bad.token))
-same_kind bytes number text_too_long p q r s m n = absurd (causes bytes number text_too_long p q r s (number_or_text r.bad.token))
-same_kind bytes text_too_long number p q r s m n = absurd (causes bytes number text_too_long q p s r (number_or_text s.bad.token))
-same_kind bytes period text_too_long p q r s m n = absurd (causes bytes period text_too_long p q r s (period_or_text r.bad.token))
-same_kind bytes text_too_long period p q r s m n = absurd (causes bytes period text_too_long q p s r (period_or_text s.bad.token))
-same_kind bytes deep number p q r s m n = absurd (rank_or_cause bytes deep number p q r s (λ a b. a.1 b))
-same_kind bytes number deep p q r s m n = absurd (rank_or_cause bytes deep number q p s r (λ a b. a.1 b))
-same_kind bytes deep period p q r s m n = absurd (ranks bytes deep period p q r s (λ a b. b a.0))
-same_kind bytes period deep p q r s m n = absurd (ranks bytes deep period q p s r (λ a b. b a.0))
-same_kind bytes deep text_too_long p q r s m n = absurd (ranks bytes deep text_too_long p q r s (λ a b. b a.0))
-same_kind bytes text_too_long deep p q r s m n = absurd (ranks bytes deep text_too_long q p s r (λ a b. b a.0))
-same_kind bytes _ memory p q r s m n = absurd n
-same_kind bytes memory _ p q r s m n = absurd m
+one_kind : (bytes : List ℕ) (k l : TokenFault) (p q : Place) → IsNoQueryText bytes k p → IsNoQueryText bytes l q → IsMet k → IsMet l → k ≡ l
+one_kind bytes k l p q r s m n = either_kind bytes k l p q r s (met_kind k m) (met_kind l n)
 
 -- a fault is one of the bytes, or one that was met
 data Group (bytes : List ℕ) (k : QueryKind) (p : Place) : Type 0 where
@@ -165,18 +120,12 @@ group_of bytes Rebound f r = absurd r
 group_of bytes Wide f r = absurd r
 group_of bytes UnknownSort f r = absurd r
 
--- the bytes are cut at one place
-same_cut : (bytes : List ℕ) (p q : Place) → IsNoUtf8 bytes p → IsNoUtf8 bytes q → p ≡ q
-same_cut bytes p q a b =
-    let e : a.valid ≡ b.valid = sym (utf8_valid_len-IsValidUpTo bytes a.valid a.longest) ∙ utf8_valid_len-IsValidUpTo bytes b.valid b.longest in
-    a.place_is ∙ ap (λ n. after start (take n bytes)) e ∙ sym b.place_is
-
 -- two faults are one
 both_once : (bytes : List ℕ) (k l : QueryKind) (p q : Place) → Group bytes k p → Group bytes l q → (k ≡ l) × (p ≡ q)
 both_once bytes k l p q (cut e a) (cut d b) = (e ∙ sym d, same_cut bytes p q a b)
 both_once bytes k l p q (cut e a) (met j m d s) = absurd (not_cut bytes p s.utf8 a)
 both_once bytes k l p q (met j m e r) (cut d b) = absurd (not_cut bytes q r.utf8 b)
-both_once bytes k l p q (met j m e r) (met i n d s) = (e ∙ ap kind_met (same_kind bytes j i p q r s m n) ∙ sym d, same_place bytes j i p q r s)
+both_once bytes k l p q (met j m e r) (met i n d s) = (e ∙ ap kind_met (one_kind bytes j i p q r s m n) ∙ sym d, same_place bytes j i p q r s)
 
 -- a fault by its kind and place
 abbrev fault_of : QueryKind → Place → QueryFault

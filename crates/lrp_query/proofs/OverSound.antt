@@ -15,7 +15,8 @@ use Rattle.lrp_text.specs.ColumnRule.{column}
 use Rattle.lrp_text.proofs.Sound.{Sound, bind_ok, eat_sound, eaten_parts, takes_join, separated_sound}
 use Rattle.lrp_text.proofs.TokenTests.{word_told}
 use Rattle.lrp_text.proofs.ColumnRule.{column_sound}
-use Rattle.lrp_query.specs.Rules.{written, further, gathered, integer, unnamed_term, unnamed, negated, existing, holding, implying, conjoined, disjoined, behind_first, enclosed, formula_over}
+use Rattle.lrp_text.specs.IntegerRule.{integer}
+use Rattle.lrp_query.specs.Rules.{written, further, gathered, unnamed_term, unnamed, negated, existing, holding, implying, conjoined, disjoined, behind_first, enclosed, formula_over}
 use Rattle.lrp_query.proofs.TestRules.{FitsAt, symbol_sound, named_sound, unnamed_sound}
 use Rattle.lrp_query.proofs.OverRules.{members_spell, members_fit}
 

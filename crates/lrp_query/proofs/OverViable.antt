@@ -20,7 +20,8 @@ use Rattle.lrp_text.proofs.Sound.{Sound, takes_front, separated_sound}
 use Rattle.lrp_text.proofs.Viable.{ViableBelow, One, SomeText, bind_err, behind, before, at_once, sub_short, eat_short, spells_join, always, fits_as}
 use Rattle.lrp_text.proofs.TokenTests.{word_told}
 use Rattle.lrp_text.proofs.ColumnRule.{column_sound, column_viable}
-use Rattle.lrp_query.specs.Rules.{written, further, integer, unnamed_term, unnamed, negated, existing, holding, implying, conjoined, disjoined, behind_first, enclosed, formula_over}
+use Rattle.lrp_text.specs.IntegerRule.{integer}
+use Rattle.lrp_query.specs.Rules.{written, further, unnamed_term, unnamed, negated, existing, holding, implying, conjoined, disjoined, behind_first, enclosed, formula_over}
 use Rattle.lrp_query.proofs.Below.{separated_stops}
 use Rattle.lrp_query.proofs.TestRules.{FitsAt, Formulas, sym_part, symbol_sound, symbol_viable, symbol_at, named_stops, unnamed_stops}
 use Rattle.lrp_query.proofs.OverRules.{members_spell, members_fit, some_formula, some_tokens, some_spelled, some_fits}

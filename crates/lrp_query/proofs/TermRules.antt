@@ -20,71 +20,14 @@ use Rattle.lrp_text.proofs.Complete.{ReadsBack, Answers, Anything, IsNot, Sees, 
 use Rattle.lrp_text.proofs.Sound.{Sound, bind_ok, accept_gives, accept_sound, eat_sound, eaten_parts, takes_join, look_ok}
 use Rattle.lrp_text.proofs.Viable.{Viable, One, accept_viable, sub_step, eat_step, look_step, spells_join, always, fits_as}
 use Rattle.lrp_text.proofs.TokenTests.{symbol_told, symbol_seen, number_part, number_told, number_fits, number_stops, number_tells, text_part, text_told, text_fits, text_stops, text_tells, name_part, name_told, name_seen, name_stops}
+use Rattle.lrp_text.proofs.IntegerRule.{number_back, number_sound, number_viable, integer_back, integer_sound, integer_viable, no_quote, no_name, integer_leads}
 use Rattle.lrp_text.proofs.LocatedRule.{Leads, located_back, located_sound, located_viable}
-use Rattle.lrp_query.specs.Rules.{written, integer, Offset, unmoved, moved_by, offset, with_offset, named_term, unnamed_term, bare_term, term}
+use Rattle.lrp_text.specs.IntegerRule.{integer}
+use Rattle.lrp_query.specs.Rules.{written, Offset, unmoved, moved_by, offset, with_offset, named_term, unnamed_term, bare_term, term}
 
 -- neither a plus nor a minus comes next
 abbrev pub NoShift : Tokens → Type 0
 NoShift ts = IsNot (is_symbol Plus) ts × IsNot (is_symbol Minus) ts
-
--- ---- integers
-
--- the tokens of a number are read back
-pub number_back : (n : ℕ) (L : Type 0) → (L → n ≤ limit) → ReadsBack number (any (number_token n) ∷ []) n L Anything
-number_back n L f = accept_back (λ t. number_of t.token) (any (number_token n)) n L (λ t h. number_tells t n L f h)
-
--- a number with or without a minus is read back
-signed_back : (negative : Bool) (n : ℕ) → ReadsBack integer (sign negative ++ any (number_token n) ∷ []) (record { negative = negative; size = n }) (n ≤ limit) Anything
-unfolding integer
-signed_back true n =
-    then_back _ (eat_back (is_symbol Minus) (any (symbol_token Minus)) (n ≤ limit) (symbol_seen Minus))
-    (then_back _ (number_back n (n ≤ limit) (λ l. l)) (pure_back _ _ Anything))
-signed_back false n =
-    bind_back _ (eat_none (is_symbol Minus) (n ≤ limit))
-    (then_back _ (number_back n (n ≤ limit) (λ l. l)) (pure_back _ _ Anything))
-    (λ ts left h g. first_is_not (is_symbol_token Minus) (number_token n) [] ts left refl h)
-
--- the tokens of an integer are read back
-pub integer_back : (i : Integer) → ReadsBack integer (integer_text i) i (i.size ≤ limit) Anything
-integer_back i = signed_back i.negative i.size
-
--- a minus that was eaten is the sign
-eaten_sign : (b : Bool) → eaten_parts (any (symbol_token Minus)) b ≡ sign b
-eaten_sign true = refl
-eaten_sign false = refl
-
--- a number that is read is spelled so, and is lawful
-pub number_sound : Sound number (One number_part) (λ n. n ≤ limit)
-number_sound = accept_gives _ number_part (λ n. n ≤ limit) number_told number_fits
-
--- the tokens before a fault of a number begin one
-pub number_viable : Viable number (One number_part) (λ n. n ≤ limit)
-number_viable = accept_viable _ number_part (λ n. n ≤ limit) number_stops
-
--- an integer that is read is spelled so, and is lawful
-pub integer_sound : Sound integer integer_text (λ i. i.size ≤ limit)
-unfolding integer
-integer_sound ts q e =
-    let a = bind_ok (eat (is_symbol Minus) ts) _ q e in
-    let n = bind_ok (number a.0.1) _ q a.2 in
-    let made : Integer = record { negative = a.0.0; size = n.0.0 } in
-    let h : (made, n.0.1) ≡ q = cc in
-    let signed : Takes (sign a.0.0) ts a.0.1 = subst (λ x. Takes x ts a.0.1) (eaten_sign a.0.0) (eat_sound (is_symbol Minus) (any (symbol_token Minus)) (symbol_told Minus) ts a.0 a.1) in
-    let sized = number_sound a.0.1 n.0 n.1 in
-    subst (λ y. Takes (integer_text y.0) ts y.1 × (y.0.size ≤ limit)) h (takes_join (sign a.0.0) (any (number_token n.0.0) ∷ []) ts a.0.1 n.0.1 signed sized.0, sized.1)
-
--- the tokens before a fault of an integer begin one
-pub integer_viable : Viable integer integer_text (λ i. i.size ≤ limit)
-unfolding integer
-integer_viable ts e h =
-    let R : Bool → Tokens → Type 0 = TextOf integer_text (λ i. i.size ≤ limit) in
-    eat_step (is_symbol Minus) _ R ts e h
-    (λ t us told d. sub_step number _ (One number_part) (λ n. n ≤ limit) (λ c x. R c (t ∷ x)) us e number_sound number_viable d
-    (λ c n x spelled fit. ([], (record { negative = true; size = n }, fit, (symbol_told Minus t told, subst (λ y. Spells (One number_part n) y) (sym (append-nil x)) spelled))))
-    (λ n head vs spelled fit d2. absurd cc))
-    (λ d. sub_step number _ (One number_part) (λ n. n ≤ limit) R ts e number_sound number_viable d
-    (λ c n x spelled fit. ([], (record { negative = false; size = n }, fit, subst (λ y. Spells (One number_part n) y) (sym (append-nil x)) spelled)))
-    (λ n head vs spelled fit d2. absurd cc))
 
 -- ---- offsets
 
@@ -178,16 +121,6 @@ offset_viable ts e h =
 
 -- ---- terms without names
 
--- an integer begins with no text
-no_quote : (negative : Bool) (n : ℕ) (ts left : Tokens) → Takes (sign negative ++ any (number_token n) ∷ []) ts left → Sees false is_text false ts
-no_quote true n ts left h = first_sees_any false is_text_token (symbol_token Minus) (any (number_token n) ∷ []) ts left h
-no_quote false n ts left h = first_sees_any false is_text_token (number_token n) [] ts left h
-
--- and with no name
-no_name : (negative : Bool) (n : ℕ) (ts left : Tokens) → Takes (sign negative ++ any (number_token n) ∷ []) ts left → Sees false is_name false ts
-no_name true n ts left h = first_sees_any false is_name_token (symbol_token Minus) (any (number_token n) ∷ []) ts left h
-no_name false n ts left h = first_sees_any false is_name_token (number_token n) [] ts left h
-
 -- the tokens of a text are read back
 pub quoted_back : (t : List ℕ) → ReadsBack (unnamed_term written) (term_text (quoted t)) (quoted t) (FitsTerm (quoted t)) Anything
 unfolding unnamed_term
@@ -202,7 +135,7 @@ unfolding unnamed_term
 integer_term_back i =
     bind_back _ {G = Anything} (look_back false is_text false (i.size ≤ limit))
     (last_back integer integer_term (integer_text i) i (i.size ≤ limit) Anything (integer_back i))
-    (λ ts left h g. no_quote i.negative i.size ts left h)
+    (λ ts left h g. no_quote i ts left h)
 
 -- a text or an integer is spelled so
 either_sound : (text_next : Bool) → Sound (if text_next then (text >>= (λ t. pure (quoted t))) else (integer >>= (λ i. pure (integer_term i)))) term_text FitsTerm
@@ -322,17 +255,12 @@ pub bare_term_viable : Viable (bare_term written) term_text FitsTerm
 unfolding bare_term
 bare_term_viable ts e h = look_step false is_name _ (TextOf term_text FitsTerm) ts e h (λ name_next seen d. either_named_viable name_next ts e d)
 
--- an integer begins with a token at any place
-sign_leads : (negative : Bool) (n : ℕ) → Leads (sign negative ++ any (number_token n) ∷ [])
-sign_leads true n = tt
-sign_leads false n = tt
-
 -- a term begins with a token at any place
 pub term_leads : (k : WrittenTerm) → Leads (term_text k)
 term_leads (variable n) = tt
 term_leads (shifted n down k) = tt
 term_leads (quoted t) = tt
-term_leads (integer_term i) = sign_leads i.negative i.size
+term_leads (integer_term i) = integer_leads i
 
 -- what spells a term with its place
 abbrev pub placed_text : Located WrittenTerm → List Part

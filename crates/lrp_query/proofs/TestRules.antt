@@ -29,8 +29,10 @@ use Rattle.lrp_text.proofs.Sound.{Sound, bind_ok, accept_gives, accept_sound, ea
 use Rattle.lrp_text.proofs.Viable.{Viable, One, TestStops, accept_viable, bind_err, behind, before, sub_step, sub_short, eat_step, eat_short, spells_join, always, fits_as, listed_viable}
 use Rattle.lrp_text.proofs.TokenTests.{symbol_told, symbol_seen, word_told, word_seen, word_expected, word_required, word_stops, expect_told, expect_seen, expect_stops, number_part, period_told, period_fits, period_stops, period_tells, name_part, name_told, name_seen, name_stops}
 use Rattle.lrp_text.proofs.LocatedRule.{Leads, from_place, takes_from}
-use Rattle.lrp_query.specs.Rules.{written, integer, Offset, unmoved, moved_by, offset, with_offset, named_term, unnamed_term, term, op_of, point, comparing, test, atom_terms, named, unnamed}
-use Rattle.lrp_query.proofs.TermRules.{NoShift, integer_back, integer_sound, integer_viable, offset_text, FitsOffset, offset_back, offset_sound, offset_viable, with_offset_fits, unnamed_term_sound, unnamed_term_viable, term_leads, placed_text, FitsPlaced, term_back, term_sound, term_viable}
+use Rattle.lrp_text.specs.IntegerRule.{integer}
+use Rattle.lrp_query.specs.Rules.{written, Offset, unmoved, moved_by, offset, with_offset, named_term, unnamed_term, term, op_of, point, comparing, test, atom_terms, named, unnamed}
+use Rattle.lrp_text.proofs.IntegerRule.{integer_back, integer_sound, integer_viable}
+use Rattle.lrp_query.proofs.TermRules.{NoShift, offset_text, FitsOffset, offset_back, offset_sound, offset_viable, with_offset_fits, unnamed_term_sound, unnamed_term_viable, term_leads, placed_text, FitsPlaced, term_back, term_sound, term_viable}
 
 -- lawful with so much depth left
 abbrev pub FitsAt : ℕ → WrittenFormula → Type 0

@@ -1,5 +1,5 @@
 -- The query of a text, and the fault of one that is none.
-use Rattle.std.proofs.Common.{◌≡◌, ◌<◌, ℕ, suc, List, [], ◌∷◌, refl, ap, ◌∙◌, sym, subst, Ok, Err, Result, IfOk, IfErr, length, take_all, arith}
+use Rattle.std.proofs.Common.{◌≡◌, ◌<◌, ℕ, suc, List, [], ◌∷◌, refl, ap, ◌∙◌, sym, subst, Ok, Err, Result, IfOk, IfErr, length, arith}
 use Rattle.std.specs.Str.{IsUtf8}
 use Rattle.lrp_model.specs.declared.tokens.Place.{Place}
 use Rattle.lrp_model.specs.declared.tokens.Fault.{Fault as TokenFault}
@@ -12,7 +12,6 @@ use Rattle.lrp_model.specs.declared.faults.QueryKind.TheVariants.{Utf8, Syntax, 
 use Rattle.lrp_model.specs.declared.raw.RawQuery.{RawQuery}
 use Rattle.lrp_model.specs.Tokens.{Placed, Tokens, Spells}
 use Rattle.lrp_model.specs.Lexing.{tokens}
-use Rattle.lrp_model.specs.DatabaseReading.{IsNoUtf8}
 use Rattle.lrp_model.specs.Queries.{WrittenQuery, query_text}
 use Rattle.lrp_model.specs.QueryMeaning.{raw_question}
 use Rattle.lrp_model.specs.RawQueries.{RawQuestion, raw_question_of}
@@ -26,6 +25,7 @@ use Rattle.lrp_query.proofs.Natural.{mapped}
 use Rattle.lrp_query.proofs.Meant.{query_meant}
 use Rattle.lrp_query.proofs.QueryRules.{query_sound, query_refused, one_tree}
 use Rattle.lrp_query.proofs.HoleFree.{tokens_clean}
+use Rattle.lrp_text.proofs.LongestFront.{not_cut}
 use Rattle.lrp_query.proofs.Ranks.{ranked}
 
 -- an outcome with another value
@@ -82,10 +82,6 @@ text_refused bytes ts us k l slice place e utf8 s reads =
 -- a text of the grammar is refused nowhere
 not_refused : (bytes : List ℕ) (tree : WrittenQuery) (k : TokenFault) (place : Place) → IsQueryText bytes tree → IsNoQueryText bytes k place → ⊥
 not_refused bytes tree k place t r = r.refused.first r.tail (tree, t.lawful, subst (Spells (query_text tree)) r.refused.whole t.spelled)
-
--- bytes are UTF-8, or the longest front that is ends before them
-pub not_cut : (bytes : List ℕ) (place : Place) → IsUtf8 bytes → IsNoUtf8 bytes place → ⊥
-not_cut bytes place utf8 c = c.longest.longest (length bytes) c.longest.short (subst IsUtf8 (sym (take_all (length bytes) bytes (omega arith))) utf8)
 
 -- a text of the grammar has no fault of the bytes or of the grammar
 pub no_fault : (bytes : List ℕ) (tree : WrittenQuery) (k : QueryKind) (f : QueryFault) → IsQueryText bytes tree → IsQueryFaultOf bytes k f → ⊥

@@ -25,6 +25,7 @@ use Rattle.lrp_model.specs.RawQueries.{RawForm, RawForms, RawQuestion, raw_atom,
 use Rattle.lrp_text.specs.Parsers.{Parser, ◌>>=◌, ◌>>◌, pure, fail, accept, look, eat, listed, separated_from}
 use Rattle.lrp_text.specs.Taking.{is_symbol, is_word, is_text, is_name, expect, expect_word, expect_end, name, number, period, text, here}
 use Rattle.lrp_text.specs.ColumnRule.{column}
+use Rattle.lrp_text.specs.IntegerRule.{integer}
 use Rattle.lrp_query.specs.declared.starts.Start.{Start}
 use Rattle.lrp_query.specs.declared.starts.Start.TheVariants.{Not as by_not, Exists as by_exists, Forall as by_forall, Open as by_open, Name as by_name, Term as by_term}
 
@@ -123,13 +124,6 @@ meant = record {
 }
 
 -- ---- terms
-
--- a number that may have a minus before it
-unfoldable pub integer : Parser Integer
-integer = do
-  negative ← eat (is_symbol Minus)
-  n ← number
-  pure (record { negative = negative; size = n })
 
 -- what stands behind the name of a term: nothing, or an offset downwards or upwards
 pub data Offset : Type 0 where

@@ -289,6 +289,15 @@ fn read_disjunction(
     Ok(disjunction(place, of))
 }
 
+// These members, with no room for more.
+fn exact(members: Vec<RawFormula>) -> Vec<RawFormula>
+    ensures { result.items ≡ members.items }
+{
+    let mut items = members;
+    items.shrink_to_fit();
+    items
+}
+
 // The members behind a reserved word that stands between them, and the first one before these.
 #[cycle(reading)]
 fn read_members(
@@ -306,7 +315,7 @@ fn read_members(
         let next = read_formula(alloc, tokens, depth)?;
         add(&mut found, next)?;
         if !tokens.eat_word(word) {
-            return Ok(found);
+            return Ok(exact(found));
         }
     }
 }

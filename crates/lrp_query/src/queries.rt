@@ -1,7 +1,6 @@
 // The query of a text, read from its bytes, or the fault of the bytes or of the grammar.
 ghost use Rattle.std.specs.Prelude.{◌≡◌, ◌≢◌, ◌≤◌, ◌<◌, ◌+◌, ℕ, length, IfOk, IfErr};
 ghost use Rattle.lrp_model.specs.declared.faults.QueryFault.{QueryFault as FaultOf};
-ghost use Rattle.lrp_model.specs.Lexing.{after, moved, start};
 ghost use Rattle.lrp_model.specs.RawQueries.{RawQuestion, raw_question_of};
 ghost use Rattle.lrp_model.specs.QueryReading.{IsQuery, IsQueryFault};
 ghost use Rattle.lrp_query.specs.Lawful.{IsLawful};
@@ -10,45 +9,12 @@ ghost use Rattle.lrp_query.specs.Reading.{ReadsQuery, left_behind, refusal_of, I
 
 use crate::formulas::read_formula;
 use lrp_model::{Fault, Place, QueryFault, QueryKind, QueryRead, RawQuery, Symbol};
-use lrp_text::{Cursor, columns};
+use lrp_text::{Cursor, columns, place_behind};
 use std::alloc::Global;
 use std::str::from_utf8;
 
 // How deep formulas may stand; the body has depth 1.
 const DEPTH: u32 = 64;
-
-// The place behind one more byte.
-fn moved_by(place: Place, byte: u8) -> Place
-    requires room { place.line < 16777217 }
-    requires width { place.column < 16777217 }
-    ensures place { result ≡ moved place byte }
-    ensures line { result.line ≤ place.line + 1 }
-    ensures column { result.column ≤ place.column + 1 }
-{
-    if byte == b'\n' {
-        Place {
-            line: place.line + 1,
-            column: 1,
-        }
-    } else {
-        Place {
-            line: place.line,
-            column: place.column + 1,
-        }
-    }
-}
-
-// The place behind some bytes.
-fn place_behind(bytes: &[u8]) -> Place
-    requires { length bytes.now ≤ 16777216 }
-    ensures { result ≡ after start bytes.now }
-{
-    let mut place = Place { line: 1, column: 1 };
-    for byte in bytes {
-        place = moved_by(place, *byte);
-    }
-    place
-}
 
 // The fault of a text, from what was met at a place.
 fn refusal(kind: Fault, place: Place) -> QueryRead

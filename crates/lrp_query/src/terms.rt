@@ -5,13 +5,12 @@ ghost use Rattle.lrp_model.specs.DatabaseMeaning.{signed as signed_number};
 ghost use Rattle.lrp_text.specs.Parsers.{Reads, accept, separated_from, listed};
 ghost use Rattle.lrp_text.specs.Taking.{is_symbol};
 ghost use Rattle.lrp_query.specs.Reading.{ReadsFormula, shown_op};
-ghost use Rattle.lrp_query.specs.Rules.{meant, integer, named_term, unnamed_term, bare_term, term, op_of as op_rule, point, comparing, test, atom_terms, named, unnamed};
+ghost use Rattle.lrp_query.specs.Rules.{meant, named_term, unnamed_term, bare_term, term, op_of as op_rule, point, comparing, test, atom_terms, named, unnamed};
 
 use lrp_model::{
-    Fault, Integer, List, Name, Op, Place, RawFormula, RawKind, RawTerm, RawTermKind, RowPoint,
-    Symbol, Word,
+    Fault, List, Name, Op, Place, RawFormula, RawKind, RawTerm, RawTermKind, RowPoint, Symbol, Word,
 };
-use lrp_text::{Cursor, Lexeme};
+use lrp_text::{Cursor, Lexeme, integer};
 use std::alloc::Global;
 
 // The number of this size, negative with the flag.
@@ -21,17 +20,6 @@ fn signed(negative: bool, size: u64) -> i64
 {
     let size = size as i64;
     if negative { -size } else { size }
-}
-
-#[tactic(auto, unfolding(crate::specs::Rules::integer))]
-fn read_integer(tokens: &mut Cursor<'_>) -> Result<Integer, Fault>
-    ensures value { Reads (integer tokens.old) result tokens.new }
-    ensures fewer { IfOk result (λ _. length tokens.new < length tokens.old) }
-    ensures fits { IfOk result (λ i. i.size ≤ limit) }
-{
-    let negative = tokens.eat(Symbol::Minus);
-    let size = tokens.number()?;
-    Ok(Integer { negative, size })
 }
 
 // A name, alone or with an offset.
@@ -61,8 +49,8 @@ fn read_unnamed_term(alloc: Global, tokens: &mut Cursor<'_>) -> Result<RawTermKi
         let text = tokens.text(alloc)?;
         return Ok(RawTermKind::Text { text });
     }
-    let integer = read_integer(tokens)?;
-    let value = signed(integer.negative, integer.size);
+    let read = integer(tokens)?;
+    let value = signed(read.negative, read.size);
     Ok(RawTermKind::Int { value })
 }
 
@@ -118,12 +106,12 @@ fn read_point(tokens: &mut Cursor<'_>, term: RawTerm) -> Result<RawFormula, Faul
     ensures value { ReadsFormula (point meant term tokens.old) result tokens.new }
     ensures fewer { IfOk result (λ _. length tokens.new < length tokens.old) }
 {
-    let integer = read_integer(tokens)?;
+    let offset = integer(tokens)?;
     tokens.expect(Symbol::Plus)?;
     let period = tokens.period()?;
     tokens.expect_word(Word::Letter)?;
     let point = RowPoint {
-        offset: signed(integer.negative, integer.size),
+        offset: signed(offset.negative, offset.size),
         period: signed(false, period),
     };
     let place = term.place;
@@ -165,6 +153,15 @@ fn read_test(alloc: Global, tokens: &mut Cursor<'_>, left: RawTerm) -> Result<Ra
     }
 }
 
+// These terms, with no room for more.
+fn exact(terms: List<RawTerm>) -> List<RawTerm>
+    ensures { result ≡ terms }
+{
+    let mut items = terms.into_vec();
+    items.shrink_to_fit();
+    List::from_vec(items)
+}
+
 // One term or more, with commas between.
 fn read_some_terms(alloc: Global, tokens: &mut Cursor<'_>) -> Result<List<RawTerm>, Fault>
     ensures value { (n : ℕ) → length tokens.old < n → Reads (separated_from (term meant) (is_symbol Symbol.Comma) n [] tokens.old) result tokens.new }
@@ -175,7 +172,7 @@ fn read_some_terms(alloc: Global, tokens: &mut Cursor<'_>) -> Result<List<RawTer
         let term = read_term(alloc, tokens)?;
         found.push(term)?;
         if !tokens.eat(Symbol::Comma) {
-            return Ok(found);
+            return Ok(exact(found));
         }
     }
 }

@@ -1,4 +1,4 @@
-use Rattle.std.proofs.Common.{◌≡◌, ◌<◌, ◌∷◌, [], ◌∙◌, sym, ap, subst, refl, arith, length, Ok, true, false}
+use Rattle.std.proofs.Common.{◌≡◌, ◌<◌, ◌∷◌, [], map, ◌∙◌, sym, ap, subst, refl, arith, length, Ok, true, false}
 use Rattle.std.proofs.lemmas.Result.{err_from_is_err_and}
 use Rattle.lrp_model.specs.declared.tokens.Word.TheVariants.{And, Or}
 use Rattle.lrp_model.specs.RawQueries.{raw_form_of}
@@ -107,7 +107,7 @@ read_members-returns-then-not-eat_word-clause-value t c = λ turns lt.
     let kept = c.loop-found.invariant.same turns lt in
     let less : length c.loop-found.tokens < turns = omega (arith, c.loop-found.invariant.shorter, lt) in
     let stops : eat (is_word c.args.word) c.read_formula.new.tokens ≡ Ok (false, c.eat_word.new.self) = c.eat_word.ensures.value ∙ ap (λ b. Ok (b, c.eat_word.new.self)) c.if-not-eat_word.true in
-    sym kept.2 ∙ last_below (formula meant c.args.depth turns) (is_word c.args.word) kept.0 _ _ _ _ _ _ kept.1 (c.in_ok-next.ensures.value turns less) stops ∙ ap (λ x. Ok (x, c.eat_word.new.self)) (sym c.in_ok-add.ensures)
+    sym kept.2 ∙ last_below (formula meant c.args.depth turns) (is_word c.args.word) kept.0 _ _ _ _ _ _ kept.1 (c.in_ok-next.ensures.value turns less) stops ∙ ap (λ x. Ok (x, c.eat_word.new.self)) (sym (ap (map raw_form_of) c.exact.ensures ∙ c.in_ok-add.ensures))
 
 pub read_members-loop-found-preserved : goal.read_members-loop-found-preserved
 read_members-loop-found-preserved t c = record {
