@@ -5,7 +5,7 @@ use Rattle.lrp_model.specs.declared.written.Side.TheVariants.{Alone, Column, Shi
 use Rattle.lrp_model.specs.declared.written.RawBound.{RawBound}
 use Rattle.lrp_model.specs.Texts.{Identifier}
 use Rattle.lrp_model.specs.Lexing.{start}
-use Rattle.lrp_model.specs.Databases.{sign, integer_text, shift, name_part, side_text, bound_symbol, bound_text, FitsSide, FitsBound}
+use Rattle.lrp_model.specs.Databases.{integer_text, shift, name_part, side_text, bound_symbol, bound_text, FitsSide, FitsBound}
 use Rattle.std.proofs.Common.{◌≡◌, inl, ◌≤◌, ℕ, Bool, true, false, [], ◌∷◌, ◌++◌, refl, ap, ◌∙◌, sym, subst, Ok, Err, if◌then◌else◌, arith, append-nil}
 use Rattle.lrp_model.specs.declared.tokens.Symbol.TheVariants.{Plus, Minus, Le, Ge, Equals}
 use Rattle.lrp_model.specs.declared.tokens.Fault.{Fault}
@@ -17,15 +17,16 @@ use Rattle.lrp_text.specs.Parsers.{◌>>=◌, pure, accept, look, eat}
 use Rattle.lrp_model.specs.Refused.{Stops, TextOf}
 use Rattle.lrp_model.specs.Lexing.{limit}
 use Rattle.lrp_text.specs.Taking.{is_name, is_symbol, is_symbol_token, number, is_name_token}
-use Rattle.lrp_text.proofs.Complete.{ReadsBack, IsNot, Sees, bind_back, then_back, pure_back, accepts_back, eat_back, eat_none, look_back, first_sees_any, first_sees_at, first_is_not, last_back, same_next}
+use Rattle.lrp_text.proofs.Complete.{ReadsBack, IsNot, bind_back, then_back, pure_back, accepts_back, eat_back, eat_none, look_back, first_sees_at, first_is_not, last_back, same_next}
 use Rattle.lrp_text.proofs.Sound.{Sound, bind_ok, accept_sound, eat_sound, eaten_parts, takes_join, look_ok}
 use Rattle.lrp_text.proofs.Viable.{Viable, One, TestStops, accept_viable, sub_step, eat_step, look_step, spells_join, always}
 use Rattle.lrp_text.proofs.TokenTests.{symbol_told, symbol_seen, number_part}
 use Rattle.lrp_model.specs.declared.written.BoundOp.{BoundOp}
 use Rattle.lrp_model.specs.declared.written.BoundOp.TheVariants.{AtMost, AtLeast, Equal}
 use Rattle.lrp_rel.proofs.Labels.{label_back, label_sound, label_viable}
-use Rattle.lrp_rel.specs.Rules.{label, integer, named_side, side, op_of, bound}
-use Rattle.lrp_rel.proofs.ValueRules.{number_back, integer_back, number_sound, number_viable, integer_sound, integer_viable}
+use Rattle.lrp_text.specs.IntegerRule.{integer}
+use Rattle.lrp_rel.specs.Rules.{label, named_side, side, op_of, bound}
+use Rattle.lrp_text.proofs.IntegerRule.{number_back, integer_back, number_sound, number_viable, integer_sound, integer_viable, no_name}
 
 -- neither a plus nor a minus comes next
 abbrev pub NoShift : Tokens → Type 0
@@ -53,11 +54,6 @@ shifted_side_back n true k =
     (then_back _ (eat_back (is_symbol Minus) (any (symbol_token Minus)) (k ≤ limit) (symbol_seen Minus))
     (then_back _ (number_back k (k ≤ limit) (λ l. l)) (pure_back _ _ NoShift)))
     (λ ts left h g. first_is_not (is_symbol_token Plus) (symbol_token Minus) (number_part k ∷ []) ts left refl h))
-
--- an integer begins with no name
-no_name : (negative : Bool) (n : ℕ) (ts left : Tokens) → Takes (sign negative ++ any (number_token n) ∷ []) ts left → Sees false is_name false ts
-no_name true n ts left h = first_sees_any false is_name_token (symbol_token Minus) (any (number_token n) ∷ []) ts left h
-no_name false n ts left h = first_sees_any false is_name_token (number_token n) [] ts left h
 
 -- the tokens of a side are read back
 pub side_back : (s : Side) → ReadsBack side (side_text s) s (FitsSide s) NoShift

@@ -19,7 +19,6 @@ pub mod RowRules
 pub mod RelationRules
 pub mod DatabaseRules
 pub mod Ops
-pub mod Steps
 pub mod Shallow
 pub mod TextLaws
 pub mod OneFault

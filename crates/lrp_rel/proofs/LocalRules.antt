@@ -7,15 +7,10 @@ use Rattle.lrp_text.specs.Taking.{is_symbol, is_word, expect, expect_word, numbe
 use Rattle.lrp_text.proofs.Local.{Local, bind_local, accept_local, pure_local, eat_local, look_local, if_local, separated_local, listed_local, until_local}
 use Rattle.lrp_text.proofs.LocatedRule.{located_local}
 use Rattle.lrp_text.proofs.ColumnRule.{column_local}
+use Rattle.lrp_text.proofs.IntegerRule.{integer_local}
 use Rattle.lrp_rel.proofs.Labels.{label_local}
-use Rattle.lrp_rel.specs.Rules.{label, integer, numeric, bare_value, value, named_side, side, op_of, bound, bounds, row, relation, database}
-
--- an integer depends on its tokens and on the next one alone
-pub integer_local : Local integer
-unfolding integer
-integer_local =
-    bind_local (eat (is_symbol Minus)) _ (eat_local _) (λ negative.
-    bind_local number _ (accept_local _) (λ n. pure_local _))
+use Rattle.lrp_text.specs.IntegerRule.{integer}
+use Rattle.lrp_rel.specs.Rules.{label, numeric, bare_value, value, named_side, side, op_of, bound, bounds, row, relation, database}
 
 -- an instant or a point depends on its tokens and on the next one alone
 pub numeric_local : Local numeric

@@ -11,7 +11,8 @@ use Rattle.lrp_text.specs.Parsers.{Parser, ◌>>=◌, pure, fail, accept, taken,
 use Rattle.lrp_text.specs.Taking.{is_symbol, is_word, is_text, is_name, is_end, required, expect, expect_word, expect_end, name, name_of, with_place, number, number_of, limited, period, period_of, counted, text, text_of, short_enough, located, here}
 use Rattle.lrp_text.specs.ColumnRule.{sort, sort_of, column}
 use Rattle.lrp_text.proofs.Viable.{bind_err, eat_err, look_err}
-use Rattle.lrp_rel.specs.Rules.{label, integer, numeric, bare_value, value, named_side, side, op_of, bound, bounds, row, relation, database}
+use Rattle.lrp_text.specs.IntegerRule.{integer}
+use Rattle.lrp_rel.specs.Rules.{label, numeric, bare_value, value, named_side, side, op_of, bound, bounds, row, relation, database}
 
 -- the parser has no fault of this kind
 abbrev pub Shallow : {A : Type 0} → Parser A → Type 0

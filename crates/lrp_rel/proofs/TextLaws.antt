@@ -1,6 +1,5 @@
 -- The tree of a text, and the fault of one that has none, each at most once.
-use Rattle.std.proofs.Common.{◌≡◌, ◌<◌, ◌+◌, ℕ, suc, List, [], ◌∷◌, ◌++◌, refl, ap, ◌∙◌, sym, subst, Ok, Err, length, take, take_all, get_or, add-one, arith}
-use Rattle.std.proofs.Math.Seq.{take-suc}
+use Rattle.std.proofs.Common.{◌≡◌, ◌<◌, ℕ, suc, List, [], refl, ap, ◌∙◌, subst, Ok, Err, length, arith}
 use Rattle.std.specs.Str.{IsUtf8}
 use Rattle.lrp_model.specs.declared.tokens.Place.{Place}
 use Rattle.lrp_model.specs.declared.tokens.Fault.{Fault as TokenFault}
@@ -10,13 +9,14 @@ use Rattle.lrp_model.specs.declared.faults.DbKind.{DbKind}
 use Rattle.lrp_model.specs.declared.faults.DbKind.TheVariants.{Utf8, Syntax, Number, Period, TextTooLong, Name, Arity, Sort, Column, Wide}
 use Rattle.lrp_model.specs.declared.written.RawRelation.{RawRelation}
 use Rattle.lrp_model.specs.Tokens.{Placed, Tokens, Spells}
-use Rattle.lrp_model.specs.Lexing.{tokens, after, moved}
+use Rattle.lrp_model.specs.Lexing.{tokens}
 use Rattle.lrp_model.specs.Databases.{database_text}
-use Rattle.lrp_model.specs.DatabaseReading.{IsDatabaseText, IsNoUtf8, IsNoDatabaseText}
+use Rattle.lrp_model.specs.DatabaseReading.{IsDatabaseText, IsNoDatabaseText}
 use Rattle.lrp_text.specs.Parsers.{Reads}
 use Rattle.lrp_text.specs.Sources.{Stands}
 use Rattle.lrp_text.specs.declared.lexemes.Lexeme.{Lexeme}
 use Rattle.lrp_rel.specs.Rules.{database}
+use Rattle.lrp_text.proofs.LongestFront.{not_cut}
 use Rattle.lrp_rel.specs.declared.gathering.Gathered.{Gathered}
 use Rattle.lrp_rel.specs.Gathered.{IsReadAs, AreGathered}
 use Rattle.lrp_rel.specs.Reading.{IsTextFaultOf, IsUnread, IsGatheredFrom, refusal_of}
@@ -79,10 +79,6 @@ text_refused bytes ts us k l slice place e utf8 s reads =
 not_refused : (bytes : List ℕ) (tree : List RawRelation) (k : TokenFault) (place : Place) → IsDatabaseText bytes tree → IsNoDatabaseText bytes k place → ⊥
 not_refused bytes tree k place t r = r.refused.first r.tail (tree, t.lawful, subst (Spells (database_text tree)) r.refused.whole t.spelled)
 
--- bytes are UTF-8, or the longest front that is ends before them
-pub not_cut : (bytes : List ℕ) (place : Place) → IsUtf8 bytes → IsNoUtf8 bytes place → ⊥
-not_cut bytes place utf8 c = c.longest.longest (length bytes) c.longest.short (subst IsUtf8 (sym (take_all (length bytes) bytes (omega arith))) utf8)
-
 -- a text of the grammar has no fault of the bytes or of the grammar
 pub no_fault : (bytes : List ℕ) (tree : List RawRelation) (k : DbKind) (f : DbFault) → IsDatabaseText bytes tree → IsTextFaultOf bytes k f → ⊥
 no_fault bytes tree Utf8 f t r = not_cut bytes f.place t.utf8 r
@@ -96,17 +92,3 @@ no_fault bytes tree Sort f t r = r
 no_fault bytes tree Column f t r = r
 no_fault bytes tree Wide f t r = r
 
--- the place behind one more byte
-after_one : (p : Place) (bs : List ℕ) (b : ℕ) → after p (bs ++ b ∷ []) ≡ moved (after p bs) b
-unfolding after
-after_one p [] b = refl
-after_one p (a ∷ bs) b = after_one (moved p a) bs b
-
--- the place behind one more byte of a list
-pub after_more : (p : Place) (bs : List ℕ) (i : ℕ) (d : ℕ) → i < length bs → after p (take (i + 1) bs) ≡ moved (after p (take i bs)) (get_or bs i d)
-after_more p bs i d lt = rw (add-one, take-suc bs i d lt) (after_one p (take i bs) (get_or bs i d))
-
--- the place behind no bytes
-pub after_none : (p : Place) → after p [] ≡ p
-unfolding after
-after_none p = refl

@@ -4,49 +4,31 @@ use Rattle.lrp_model.specs.declared.written.Integer.{Integer}
 use Rattle.lrp_model.specs.declared.written.WrittenValue.{WrittenValue}
 use Rattle.lrp_model.specs.declared.written.WrittenValue.TheVariants.{Constant, Instant, Point}
 use Rattle.lrp_model.specs.Lexing.{start}
-use Rattle.lrp_model.specs.Databases.{sign, integer_text, value_text, FitsValue}
+use Rattle.lrp_model.specs.Databases.{integer_text, value_text, FitsValue}
 use Rattle.lrp_model.specs.Tokens.{located_text}
-use Rattle.std.proofs.Common.{◌≡◌, ◌≤◌, ℕ, Bool, true, false, List, [], ◌∷◌, ◌++◌, refl, sym, subst, Ok, Err, if◌then◌else◌, length, append-nil}
-use Rattle.lrp_model.specs.declared.tokens.Symbol.TheVariants.{Plus, Minus}
+use Rattle.std.proofs.Common.{◌≡◌, ◌≤◌, ℕ, Bool, true, false, [], ◌∷◌, ◌++◌, refl, sym, subst, Ok, if◌then◌else◌, length, append-nil}
+use Rattle.lrp_model.specs.declared.tokens.Symbol.TheVariants.{Plus}
 use Rattle.lrp_model.specs.declared.tokens.Word.TheVariants.{Letter}
-use Rattle.lrp_model.specs.declared.tokens.Fault.{Fault}
 use Rattle.lrp_model.specs.Tokens.{Placed, Tokens, Part, IsPart, Takes, Spells}
 use Rattle.lrp_model.specs.Tokens.Token.{number_token, text_token, symbol_token, word_token}
 use Rattle.lrp_model.specs.Tokens.Part.{any}
 use Rattle.lrp_text.specs.Parsers.{◌>>=◌, pure, look, eat}
-use Rattle.lrp_model.specs.Refused.{Stops, TextOf}
+use Rattle.lrp_model.specs.Refused.{TextOf}
 use Rattle.lrp_model.specs.Lexing.{limit}
-use Rattle.lrp_text.specs.Taking.{is_text, is_symbol, is_symbol_token, expect_word, number, number_of, period, period_of, text, text_of, is_text_token}
-use Rattle.lrp_text.proofs.Complete.{ReadsBack, back_as, Anything, IsNot, Sees, bind_back, then_back, pure_back, accept_back, accepts_back, eat_back, eat_none, look_back, first_sees_any, first_is_not, same_next}
+use Rattle.lrp_text.specs.Taking.{is_text, is_symbol, expect_word, number, period, period_of, text, text_of, is_text_token}
+use Rattle.lrp_text.proofs.Complete.{ReadsBack, back_as, IsNot, bind_back, then_back, pure_back, accept_back, accepts_back, eat_back, eat_none, look_back, first_sees_any, same_next}
 use Rattle.lrp_text.proofs.Sound.{Sound, bind_ok, accept_gives, accept_sound, eat_sound, eaten_parts, takes_join, look_ok}
 use Rattle.lrp_text.proofs.Viable.{Viable, One, accept_viable, sub_step, eat_step, look_step, spells_join, fits_as, always}
 use Rattle.lrp_text.specs.Taking.{IsPeriod}
-use Rattle.lrp_text.proofs.TokenTests.{symbol_told, symbol_seen, word_expected, word_required, word_stops, number_part, number_told, number_fits, number_stops, number_tells, period_told, period_fits, period_stops, period_tells, text_part, text_told, text_fits, text_stops, text_tells}
+use Rattle.lrp_text.proofs.TokenTests.{symbol_told, symbol_seen, word_expected, word_required, word_stops, number_part, period_told, period_fits, period_stops, period_tells, text_part, text_told, text_fits, text_stops, text_tells}
+use Rattle.lrp_text.proofs.IntegerRule.{integer_back, integer_sound, integer_viable, no_quote, no_quote_before, sign_leads, integer_leads}
 use Rattle.lrp_text.proofs.LocatedRule.{Leads, located_back, located_sound, located_viable}
-use Rattle.lrp_rel.specs.Rules.{integer, numeric, bare_value, value}
+use Rattle.lrp_text.specs.IntegerRule.{integer}
+use Rattle.lrp_rel.specs.Rules.{numeric, bare_value, value}
 
 -- no plus comes next
 abbrev pub NoPlus : Tokens → Type 0
 NoPlus = IsNot (is_symbol Plus)
-
--- the tokens of a number are read back
-pub number_back : (n : ℕ) (L : Type 0) → (L → n ≤ limit) → ReadsBack number (any (number_token n) ∷ []) n L Anything
-number_back n L f = accept_back (λ t. number_of t.token) (any (number_token n)) n L (λ t h. number_tells t n L f h)
-
--- a number with or without a minus is read back
-signed_back : (negative : Bool) (n : ℕ) → ReadsBack integer (sign negative ++ any (number_token n) ∷ []) (record { negative = negative; size = n }) (n ≤ limit) Anything
-unfolding integer
-signed_back true n =
-    then_back _ (eat_back (is_symbol Minus) (any (symbol_token Minus)) (n ≤ limit) (symbol_seen Minus))
-    (then_back _ (number_back n (n ≤ limit) (λ l. l)) (pure_back _ _ Anything))
-signed_back false n =
-    bind_back _ (eat_none (is_symbol Minus) (n ≤ limit))
-    (then_back _ (number_back n (n ≤ limit) (λ l. l)) (pure_back _ _ Anything))
-    (λ ts left h g. first_is_not (is_symbol_token Minus) (number_token n) [] ts left refl h)
-
--- the tokens of an integer are read back
-pub integer_back : (i : Integer) → ReadsBack integer (integer_text i) i (i.size ≤ limit) Anything
-integer_back i = signed_back i.negative i.size
 
 -- the tokens of an instant are read back
 pub instant_back : (i : Integer) → ReadsBack numeric (integer_text i) (Instant i) (i.size ≤ limit) NoPlus
@@ -65,11 +47,6 @@ point_back i k =
     (then_back _ (accept_back (λ t. period_of t.token) (any (number_token k)) k (FitsValue (Point i k)) (λ t h. period_tells t k (FitsValue (Point i k)) (λ l. (l.1, l.2)) h))
     (then_back _ (accepts_back _ (any (word_token Letter)) tt (FitsValue (Point i k)) (word_required Letter)) (pure_back _ _ NoPlus))))
 
--- an integer begins with no text
-no_quote : (negative : Bool) (n : ℕ) (ps : List Part) (ts left : Tokens) → Takes ((sign negative ++ any (number_token n) ∷ []) ++ ps) ts left → Sees false is_text false ts
-no_quote true n ps ts left h = first_sees_any false is_text_token (symbol_token Minus) (any (number_token n) ∷ ps) ts left h
-no_quote false n ps ts left h = first_sees_any false is_text_token (number_token n) ps ts left h
-
 -- the tokens of a value are read back
 pub bare_value_back : (k : WrittenValue) → ReadsBack bare_value (value_text k) k (FitsValue k) NoPlus
 unfolding bare_value
@@ -79,42 +56,20 @@ bare_value_back (Constant t) =
     (λ ts left h g. first_sees_any false is_text_token (text_token t) [] ts left h)
 bare_value_back (Instant i) =
     bind_back _ (look_back false is_text false (i.size ≤ limit)) (instant_back i)
-    (λ ts left h g. no_quote i.negative i.size [] ts left (subst (λ x. Takes x ts left) (sym (append-nil (integer_text i))) h))
+    (λ ts left h g. no_quote i ts left h)
 bare_value_back (Point i k) =
     bind_back _ (look_back false is_text false (FitsValue (Point i k))) (point_back i k)
-    (λ ts left h g. no_quote i.negative i.size _ ts left h)
-
--- an integer begins with a token at any place
-sign_leads : (negative : Bool) (n : ℕ) (ps : List Part) → Leads ((sign negative ++ any (number_token n) ∷ []) ++ ps)
-sign_leads true n ps = tt
-sign_leads false n ps = tt
+    (λ ts left h g. no_quote_before i.negative i.size _ ts left h)
 
 -- a value begins with a token at any place
 pub bare_value_leads : (k : WrittenValue) → Leads (value_text k)
 bare_value_leads (Constant t) = tt
-bare_value_leads (Instant i) = subst Leads (append-nil (integer_text i)) (sign_leads i.negative i.size [])
+bare_value_leads (Instant i) = integer_leads i
 bare_value_leads (Point i k) = sign_leads i.negative i.size _
 
 -- the tokens of a value with its place are read back
 pub value_back : (v : Located WrittenValue) → ReadsBack value ((located_text value_text) v) v (FitsValue v.item) NoPlus
 value_back v = located_back bare_value value_text v (FitsValue v.item) NoPlus (bare_value_leads v.item) (bare_value_back v.item)
-
--- a minus that was eaten is the sign
-eaten_sign : (b : Bool) → eaten_parts (any (symbol_token Minus)) b ≡ sign b
-eaten_sign true = refl
-eaten_sign false = refl
-
--- an integer that is read is spelled so, and is lawful
-pub integer_sound : Sound integer integer_text (λ i. i.size ≤ limit)
-unfolding integer
-integer_sound ts q e =
-    let a = bind_ok (eat (is_symbol Minus) ts) _ q e in
-    let n = bind_ok (number a.0.1) _ q a.2 in
-    let made : Integer = record { negative = a.0.0; size = n.0.0 } in
-    let h : (made, n.0.1) ≡ q = cc in
-    let signed : Takes (sign a.0.0) ts a.0.1 = subst (λ x. Takes x ts a.0.1) (eaten_sign a.0.0) (eat_sound (is_symbol Minus) (any (symbol_token Minus)) (symbol_told Minus) ts a.0 a.1) in
-    let sized = accept_gives _ number_part (λ m. m ≤ limit) number_told number_fits a.0.1 n.0 n.1 in
-    subst (λ y. Takes (integer_text y.0) ts y.1 × (y.0.size ≤ limit)) h (takes_join (sign a.0.0) (any (number_token n.0.0) ∷ []) ts a.0.1 n.0.1 signed sized.0, sized.1)
 
 -- behind an integer, with or without a period
 after_plus_sound : (i : Integer) (more : Bool) (ts us vs : Tokens) (q : WrittenValue × Tokens) → (if more then (period >>= (λ k. expect_word Letter >>= (λ u. pure (Point i k)))) else pure (Instant i)) vs ≡ Ok q → Takes (integer_text i) ts us → i.size ≤ limit → Takes (eaten_parts (any (symbol_token Plus)) more) us vs → Takes (value_text q.0) ts q.1 × FitsValue q.0
@@ -162,29 +117,6 @@ bare_value_sound ts q e =
 -- a value with its place that is read is spelled so, and is lawful
 pub value_sound : Sound value (located_text value_text) (λ v. FitsValue v.item)
 value_sound = located_sound bare_value value_text FitsValue bare_value_leads bare_value_sound
-
--- the tokens before a fault of a number begin one
-pub number_viable : Viable number (One number_part) (λ n. n ≤ limit)
-number_viable = accept_viable (λ t. number_of t.token) number_part (λ n. n ≤ limit) number_stops
-
--- a number that is read is spelled so, and is lawful
-pub number_sound : Sound number (One number_part) (λ n. n ≤ limit)
-number_sound = accept_gives (λ t. number_of t.token) number_part (λ n. n ≤ limit) number_told number_fits
-
--- behind a sign stands a number
-after_sign : (negative : Bool) (head vs : Tokens) (e : Fault × Tokens) → Spells (sign negative) head → (number >>= (λ n. let i : Integer = record { negative = negative; size = n } in pure i)) vs ≡ Err e → Stops (λ c x. TextOf integer_text (λ i. i.size ≤ limit) c (head ++ x)) vs e
-after_sign negative head vs e signed h =
-    sub_step number _ (One number_part) (λ n. n ≤ limit) (λ c x. TextOf integer_text (λ i. i.size ≤ limit) c (head ++ x)) vs e number_sound number_viable h
-    (λ c n x spelled fit. ([], (record { negative = negative; size = n }, fit, spells_join (sign negative) (One number_part n) head (x ++ []) signed (spells_join (One number_part n) [] x [] spelled refl))))
-    (λ n h2 us s2 f2 d2. absurd cc)
-
--- the tokens before a fault of an integer begin one
-pub integer_viable : Viable integer integer_text (λ i. i.size ≤ limit)
-unfolding integer
-integer_viable ts e h =
-    eat_step (is_symbol Minus) _ (TextOf integer_text (λ i. i.size ≤ limit)) ts e h
-    (λ t vs told d. after_sign true (t ∷ []) vs e (symbol_told Minus t told, refl) d)
-    (λ d. after_sign false [] ts e refl d)
 
 -- the part that a plus is
 abbrev plus_part : Part

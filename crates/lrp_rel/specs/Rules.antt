@@ -6,7 +6,6 @@ use Rattle.lrp_model.specs.declared.tokens.Word.TheVariants.{Relation, Where, Le
 use Rattle.lrp_model.specs.declared.tokens.Fault.{Fault}
 use Rattle.lrp_model.specs.declared.tokens.Fault.TheVariants.{Syntax}
 use Rattle.lrp_model.specs.declared.written.Located.{Located}
-use Rattle.lrp_model.specs.declared.written.Integer.{Integer}
 use Rattle.lrp_model.specs.declared.written.WrittenValue.{WrittenValue}
 use Rattle.lrp_model.specs.declared.written.WrittenValue.TheVariants.{Constant, Instant, Point}
 use Rattle.lrp_model.specs.declared.written.BoundOp.{BoundOp}
@@ -21,19 +20,13 @@ use Rattle.lrp_model.specs.Tokens.Token.{symbol_token}
 use Rattle.lrp_text.specs.Parsers.{Parser, ◌>>=◌, ◌>>◌, pure, accept, look, eat, listed, separated_from, until_from}
 use Rattle.lrp_text.specs.Taking.{is_symbol, is_word, is_text, is_name, is_end, expect, expect_word, expect_end, name, number, period, text, located}
 use Rattle.lrp_text.specs.ColumnRule.{column}
+use Rattle.lrp_text.specs.IntegerRule.{integer}
 
 -- a name with its place
 unfoldable pub label : Parser (Located Identifier)
 label = do
   n ← name
   pure (record { place = n.1; item = n.0 })
-
--- a number that may have a minus before it
-unfoldable pub integer : Parser Integer
-integer = do
-  negative ← eat (is_symbol Minus)
-  n ← number
-  pure (record { negative = negative; size = n })
 
 -- an integer alone is an instant, with a period behind it a point
 unfoldable pub numeric : Parser WrittenValue

@@ -4,14 +4,14 @@ ghost use Rattle.lrp_model.specs.Databases.{FitsRow};
 ghost use Rattle.lrp_text.specs.Parsers.{Reads, accept, separated_from, listed, until_from};
 ghost use Rattle.lrp_text.specs.Taking.{is_symbol, is_end, located};
 ghost use Rattle.lrp_rel.specs.Gathered.{ReadsAs, IsHeading, IsBodyOf, IsMeaningOf, AreGathered};
-ghost use Rattle.lrp_rel.specs.Rules.{label, integer, numeric, bare_value, value, named_side, side, op_of, bound, bounds, row, relation, database, left_behind};
+ghost use Rattle.lrp_rel.specs.Rules.{label, numeric, bare_value, value, named_side, side, op_of, bound, bounds, row, relation, database, left_behind};
 
 use crate::gathering::{Body, Gathered, Heading, Meaning};
 use lrp_model::{
-    BoundOp, Fault, Integer, List, Located, Name, RawBound, RawRow, Side, Symbol, Word,
+    BoundOp, Fault, List, Located, Name, RawBound, RawRow, Side, Symbol, Word,
     WrittenValue,
 };
-use lrp_text::{Cursor, columns};
+use lrp_text::{Cursor, columns, integer};
 use std::alloc::Global;
 
 #[tactic(auto, unfolding(crate::specs::Rules::label))]
@@ -23,22 +23,12 @@ fn read_label(alloc: Global, tokens: &mut Cursor<'_>) -> Result<Located<Name>, F
     Ok(Located { place, item })
 }
 
-#[tactic(auto, unfolding(crate::specs::Rules::integer))]
-fn read_integer(tokens: &mut Cursor<'_>) -> Result<Integer, Fault>
-    ensures value { Reads (integer tokens.old) result tokens.new }
-    ensures fewer { IfOk result (λ _. length tokens.new < length tokens.old) }
-{
-    let negative = tokens.eat(Symbol::Minus);
-    let size = tokens.number()?;
-    Ok(Integer { negative, size })
-}
-
 #[tactic(auto, unfolding(crate::specs::Rules::numeric))]
 fn read_numeric(tokens: &mut Cursor<'_>) -> Result<WrittenValue, Fault>
     ensures value { Reads (numeric tokens.old) result tokens.new }
     ensures fewer { IfOk result (λ _. length tokens.new < length tokens.old) }
 {
-    let at = read_integer(tokens)?;
+    let at = integer(tokens)?;
     if !tokens.eat(Symbol::Plus) {
         return Ok(WrittenValue::Instant { at });
     }
@@ -102,7 +92,7 @@ fn read_side(alloc: Global, tokens: &mut Cursor<'_>) -> Result<Side, Fault>
     if tokens.sees_name() {
         read_named_side(alloc, tokens)
     } else {
-        let value = read_integer(tokens)?;
+        let value = integer(tokens)?;
         Ok(Side::Alone { value })
     }
 }

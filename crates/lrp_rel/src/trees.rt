@@ -1,12 +1,11 @@
 // What the text of a database says, read from its bytes, or the fault of the bytes or of the grammar.
-ghost use Rattle.std.specs.Prelude.{◌≡◌, ◌≢◌, ◌≤◌, ◌<◌, ◌+◌, length, IfOk, IfErr};
-ghost use Rattle.lrp_model.specs.Lexing.{after, moved, start};
+ghost use Rattle.std.specs.Prelude.{◌≡◌, ◌≢◌, ◌≤◌, length, IfOk, IfErr};
 ghost use Rattle.lrp_rel.specs.Reading.{refusal_of, IsGatheredFrom, IsUnread};
 
 use crate::gathering::Gathered;
 use crate::reading::read_relations_to_end;
 use lrp_model::{DbFault, DbKind, Fault, Memory, Place};
-use lrp_text::Cursor;
+use lrp_text::{Cursor, place_behind};
 use std::alloc::Global;
 use std::str::from_utf8;
 
@@ -26,39 +25,6 @@ impl From<Memory> for ReadFault {
     fn from(_: Memory) -> Self {
         ReadFault::Memory
     }
-}
-
-// The place behind one more byte.
-fn moved_by(place: Place, byte: u8) -> Place
-    requires room { place.line < 16777217 }
-    requires width { place.column < 16777217 }
-    ensures place { result ≡ moved place byte }
-    ensures line { result.line ≤ place.line + 1 }
-    ensures column { result.column ≤ place.column + 1 }
-{
-    if byte == b'\n' {
-        Place {
-            line: place.line + 1,
-            column: 1,
-        }
-    } else {
-        Place {
-            line: place.line,
-            column: place.column + 1,
-        }
-    }
-}
-
-// The place behind some bytes.
-fn place_behind(bytes: &[u8]) -> Place
-    requires { length bytes.now ≤ 16777216 }
-    ensures { result ≡ after start bytes.now }
-{
-    let mut place = Place { line: 1, column: 1 };
-    for byte in bytes {
-        place = moved_by(place, *byte);
-    }
-    place
 }
 
 // The fault of a text, from what was met at a place.

@@ -2,8 +2,8 @@ use Rattle.std.proofs.lemmas.Result.{err_from_is_err_and}
 use Rattle.std.proofs.Common.{ℕ, suc, length, refl, arith}
 use Rattle.lrp_text.specs.Taking.{located}
 use Rattle.lrp_rel.specs.Rules.{row}
+use Rattle.lrp_text.proofs.Turns.{lifts}
 use Rattle.lrp_rel.proofs.RowRules.{row_sound}
-use Rattle.lrp_rel.proofs.Steps.{lifts}
 use Rattle.lrp_rel.proofs.reading.read_placed_row.Goals as goal
 
 pub returns-in_err-item-clause-value : goal.returns-in_err-item-clause-value

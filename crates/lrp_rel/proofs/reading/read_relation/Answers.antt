@@ -5,8 +5,8 @@ use Rattle.lrp_text.specs.Parsers.{listed, until_from}
 use Rattle.lrp_text.specs.Taking.{is_symbol, located}
 use Rattle.lrp_text.specs.ColumnRule.{column}
 use Rattle.lrp_rel.specs.Rules.{row, relation}
+use Rattle.lrp_text.proofs.Turns.{lifts}
 use Rattle.lrp_rel.proofs.GatheredLemmas.{written_with}
-use Rattle.lrp_rel.proofs.Steps.{lifts}
 use Rattle.lrp_rel.proofs.reading.read_relation.Goals as goal
 
 pub returns-in_err-columns-clause-value : goal.returns-in_err-columns-clause-value

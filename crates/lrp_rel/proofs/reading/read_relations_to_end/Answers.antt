@@ -3,7 +3,7 @@ use Rattle.std.proofs.lemmas.Result.{err_from_is_err_and}
 use Rattle.lrp_text.specs.Parsers.{until_from}
 use Rattle.lrp_text.specs.Taking.{is_end, expect_end}
 use Rattle.lrp_rel.specs.Rules.{relation, database}
-use Rattle.lrp_rel.proofs.Steps.{lifts}
+use Rattle.lrp_text.proofs.Turns.{lifts}
 use Rattle.lrp_rel.proofs.reading.read_relations_to_end.Goals as goal
 
 pub returns-in_err-gathered : goal.returns-in_err-gathered

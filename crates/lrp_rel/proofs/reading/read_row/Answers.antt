@@ -4,7 +4,7 @@ use Rattle.lrp_model.specs.declared.tokens.Symbol.TheVariants.{Close, Comma}
 use Rattle.lrp_text.specs.Parsers.{listed}
 use Rattle.lrp_text.specs.Taking.{is_symbol}
 use Rattle.lrp_rel.specs.Rules.{row, value, bounds}
-use Rattle.lrp_rel.proofs.Steps.{lifts}
+use Rattle.lrp_text.proofs.Turns.{lifts}
 use Rattle.lrp_rel.proofs.reading.read_row.Goals as goal
 
 pub returns-in_err-values-clause-value : goal.returns-in_err-values-clause-value
