@@ -11,15 +11,15 @@ use Rattle.lrp_model.specs.Tokens.Token.{name_token, number_token, text_token, s
 use Rattle.lrp_model.specs.Tokens.Part.{at, any}
 use Rattle.lrp_model.specs.Lexing.{limit}
 use Rattle.lrp_model.specs.Refused.{Stops, TextOf, Fitting}
-use Rattle.lrp_model.specs.Databases.{sign, integer_text, shift}
+use Rattle.lrp_model.specs.Databases.{integer_text, shift}
 use Rattle.lrp_model.specs.Queries.{WrittenTerm, term_text, FitsTerm}
 use Rattle.lrp_model.specs.Queries.WrittenTerm.{integer as integer_term, quoted, variable, shifted}
 use Rattle.lrp_text.specs.Parsers.{◌>>=◌, pure, look, eat}
-use Rattle.lrp_text.specs.Taking.{is_text, is_name, is_symbol, is_symbol_token, number, number_of, text, text_of, is_text_token, is_name_token, name, name_of, with_place}
-use Rattle.lrp_text.proofs.Complete.{ReadsBack, Answers, Anything, IsNot, Sees, bind_back, then_back, pure_back, accept_back, accepts_back, eat_back, eat_none, look_back, first_sees_any, first_sees_at, first_is_not, last_back, same_next}
+use Rattle.lrp_text.specs.Taking.{is_text, is_name, is_symbol, is_symbol_token, number, text, text_of, is_text_token, is_name_token, name, name_of, with_place}
+use Rattle.lrp_text.proofs.Complete.{ReadsBack, Answers, Anything, IsNot, bind_back, then_back, pure_back, accept_back, accepts_back, eat_back, eat_none, look_back, first_sees_any, first_sees_at, first_is_not, last_back, same_next}
 use Rattle.lrp_text.proofs.Sound.{Sound, bind_ok, accept_gives, accept_sound, eat_sound, eaten_parts, takes_join, look_ok}
 use Rattle.lrp_text.proofs.Viable.{Viable, One, accept_viable, sub_step, eat_step, look_step, spells_join, always, fits_as}
-use Rattle.lrp_text.proofs.TokenTests.{symbol_told, symbol_seen, number_part, number_told, number_fits, number_stops, number_tells, text_part, text_told, text_fits, text_stops, text_tells, name_part, name_told, name_seen, name_stops}
+use Rattle.lrp_text.proofs.TokenTests.{symbol_told, symbol_seen, number_part, text_part, text_told, text_fits, text_stops, text_tells, name_part, name_told, name_seen, name_stops}
 use Rattle.lrp_text.proofs.IntegerRule.{number_back, number_sound, number_viable, integer_back, integer_sound, integer_viable, no_quote, no_name, integer_leads}
 use Rattle.lrp_text.proofs.LocatedRule.{Leads, located_back, located_sound, located_viable}
 use Rattle.lrp_text.specs.IntegerRule.{integer}
