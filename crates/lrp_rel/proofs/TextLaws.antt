@@ -91,4 +91,3 @@ no_fault bytes tree Arity f t r = r
 no_fault bytes tree Sort f t r = r
 no_fault bytes tree Column f t r = r
 no_fault bytes tree Wide f t r = r
-

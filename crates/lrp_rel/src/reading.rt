@@ -8,8 +8,7 @@ ghost use Rattle.lrp_rel.specs.Rules.{label, numeric, bare_value, value, named_s
 
 use crate::gathering::{Body, Gathered, Heading, Meaning};
 use lrp_model::{
-    BoundOp, Fault, List, Located, Name, RawBound, RawRow, Side, Symbol, Word,
-    WrittenValue,
+    BoundOp, Fault, List, Located, Name, RawBound, RawRow, Side, Symbol, Word, WrittenValue,
 };
 use lrp_text::{Cursor, columns, integer};
 use std::alloc::Global;
