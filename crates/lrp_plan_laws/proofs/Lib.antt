@@ -23,3 +23,4 @@ pub mod ScanLaws
 pub mod SortedAtoms
 pub mod SourcePeriods
 pub mod SettledLaws
+pub mod PointLaws

@@ -4,3 +4,4 @@ pub mod Scopes
 pub mod Guards
 pub mod Settled
 pub mod Atoms
+pub mod Points

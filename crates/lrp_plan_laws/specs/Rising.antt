@@ -1,8 +1,8 @@
 -- Periods and reaches along a plan.
-use Rattle.std.specs.Prelude.{◌≡◌, ℕ, ◌≤◌, List, [], ◌++◌, flat_map, nat_abs, unwrap_or, option_map}
+use Rattle.std.specs.Prelude.{◌≡◌, ℕ, ◌≤◌, List, [], flat_map, nat_abs, unwrap_or, option_map}
 use Rattle.std.specs.List.{AllByRecursion}
 use Rattle.lrp_model.specs.Rows.{rows_of}
-use Rattle.lrp_model.specs.Formulas.{Form, Forms, Question, atom, test, sorted, negation, conjunction, disjunction, implication, exists, forall, no_forms, form}
+use Rattle.lrp_model.specs.Formulas.{Question}
 use Rattle.lrp_model.specs.Periods.{IsMultiple, value_periods, test_periods, periods, period}
 use Rattle.lrp_model.specs.Steps.{PlanStep, Steps, step_at, reach_at}
 use Rattle.lrp_model.specs.Plans.{plan, query_reach}
@@ -48,23 +48,6 @@ HasPeriods db q = AllByRecursion (λ k. 1 ≤ k) (periods q.body db)
 -- the periods in the rows of a database
 abbrev pub row_periods : List Relation → List ℕ
 row_periods relations = flat_map (λ relation. flat_map (λ row. flat_map value_periods row.values) relation.rows) relations
-
--- the periods of the `in` points of a formula
-abbrev mutual
-  pub point_periods : Form → List ℕ
-  point_periods (atom name terms) = []
-  point_periods (test t) = test_periods t
-  point_periods (sorted s v) = []
-  point_periods (negation f) = point_periods f
-  point_periods (conjunction fs) = point_periods_each fs
-  point_periods (disjunction fs) = point_periods_each fs
-  point_periods (implication f g) = point_periods f ++ point_periods g
-  point_periods (exists v s f) = point_periods f
-  point_periods (forall v s f) = point_periods f
-
-  pub point_periods_each : Forms → List ℕ
-  point_periods_each no_forms = []
-  point_periods_each (form f fs) = point_periods f ++ point_periods_each fs
 
 -- step s of a plan reads earlier steps, its reach is at least its period and their reaches, its period is a multiple of theirs and of those that it names, and neither is above the query's
 pub record Rises (db : List Relation) (q : Question) (s : ℕ) (step : PlanStep) : Type 0 where

@@ -1,5 +1,5 @@
 // What holds of core forms, plans and periods: each law is the contract of a function that does nothing.
-ghost use Rattle.std.specs.Prelude.{◌≡◌, ◌↔◌, ◌≤◌, ◌+◌, ℕ, List, ◌++◌, Bool, false, length, Contains, Some, MatchOption};
+ghost use Rattle.std.specs.Prelude.{◌≡◌, ◌↔◌, ◌≤◌, ◌+◌, ℕ, List, ◌++◌, Bool, false, length, Contains, Some, MatchOption, nat_abs};
 ghost use Rattle.std.specs.List.{AllByRecursion};
 ghost use Rattle.lrp_model.specs.Rows.{Datum, texts_of};
 ghost use Rattle.lrp_model.specs.Formulas.{Form, Question};
@@ -19,7 +19,8 @@ ghost use Rattle.lrp_model.specs.declared.plans.StepKind.{StepKind};
 ghost use Rattle.lrp_model.specs.declared.plans.StepKind.TheVariants.{Extend};
 ghost use Rattle.lrp_plan_laws.specs.Guards.{BindsPlainly};
 ghost use Rattle.lrp_plan_laws.specs.Made.{AreAmong, operands, IsMade, head_step};
-ghost use Rattle.lrp_plan_laws.specs.Rising.{HasPeriods, Rises, period_at, point_periods, row_periods};
+ghost use Rattle.lrp_plan_laws.specs.Points.{points, step_points};
+ghost use Rattle.lrp_plan_laws.specs.Rising.{HasPeriods, Rises, period_at, row_periods};
 ghost use Rattle.lrp_plan_laws.specs.Settled.{HasTexts, IsGuardedDrop, IsSettled, IsSoundPlan};
 ghost use Rattle.lrp_plan_laws.specs.Scopes.{EachScope, IsNarrow, IsNarrowStep};
 
@@ -41,7 +42,7 @@ pub fn plan_is_sound()
 /// The period is the least common multiple of the periods, where each of them is at least 1; and each is, where those in the rows and in the `in` points are.
 pub fn periods_are_least()
     ensures least { (ks : List ℕ) → AllByRecursion (λ k. 1 ≤ k) ks → IsLeastMultiple ks (lcm_all ks) }
-    ensures sources { (db : List Relation) (q : Question) → AllByRecursion (λ k. 1 ≤ k) (row_periods db) → AllByRecursion (λ k. 1 ≤ k) (point_periods q.body) → HasPeriods db q }
+    ensures sources { (db : List Relation) (q : Question) → AllByRecursion (λ k. 1 ≤ k) (row_periods db) → AllByRecursion (λ at. 1 ≤ nat_abs at.period) (points q.body) → HasPeriods db q }
 {}
 
 /// Along the steps of a plan periods and reaches rise, up to those of the query. The last step has the period of the query, and a step's reach is no less where those of the steps that it reads are no less.
@@ -51,9 +52,10 @@ pub fn plan_rises()
     ensures grows { (db : List Relation) (at more : ℕ → ℕ) (K : ℕ) (kind : StepKind) → AllByRecursion (λ l. at l ≤ more l) (operands kind) → reach_of db at K kind ≤ reach_of db more K kind }
 {}
 
-/// Each step of a plan is made of earlier ones by the rule of its kind, with the variables that the rule relies on. The last one and no other is `head`, and it reads the step before it.
+/// Each step of a plan is made of earlier ones by the rule of its kind, with the variables that the rule relies on, and the points of its tests are the query's. The last one and no other is `head`, and it reads the step before it.
 pub fn steps_are_made()
     ensures steps { (db : List Relation) (q : Question) → HasElements q.body → (s : ℕ) (step : PlanStep) → step_at (plan db q) s ≡ Some step → IsMade (structure db q) (head_step db q) (plan db q) s step }
+    ensures points { (db : List Relation) (q : Question) → HasElements q.body → (s : ℕ) (step : PlanStep) → step_at (plan db q) s ≡ Some step → AllByRecursion (Contains (points q.body)) (step_points step.kind) }
     ensures last { (db : List Relation) (q : Question) → MatchOption (step_at (plan db q) (length (plan db q))) ⊥ (λ step. (step.kind ≡ Extend (length (core_steps db q))) × (step.formula ≡ guarded (has_named_sort db) q.head q.body)) }
     ensures other { (db : List Relation) (q : Question) → HasElements q.body → (s : ℕ) (step : PlanStep) → step_at (plan db q) s ≡ Some step → s ≤ length (core_steps db q) → (of : ℕ) → step.kind ≡ Extend of → ⊥ }
     ensures count { (db : List Relation) (q : Question) → length (plan db q) ≡ length (core_steps db q) + 1 }
