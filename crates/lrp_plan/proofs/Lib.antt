@@ -12,10 +12,12 @@ pub mod Answered
 pub mod Texts
 pub mod Sorting
 pub mod Sorted
-pub mod Named
+pub mod WholePeriods
 pub mod Names
 pub mod Scales
 pub mod NamedSorts
 pub mod Finished
 pub mod Literal
 pub mod Whole
+pub mod KeptPeriods
+pub mod Promised

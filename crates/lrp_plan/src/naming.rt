@@ -1,8 +1,10 @@
 // The facts of all relations of a database, by their names.
-ghost use Rattle.std.specs.Prelude.{ℕ, List, [], ◌∷◌, ◌++◌, IfOk, OnOk, bytes_eq};
+ghost use Rattle.std.specs.Prelude.{ℕ, ◌≤◌, List, [], ◌∷◌, ◌++◌, IfOk, OnOk, bytes_eq};
+ghost use Rattle.std.specs.List.{AllByRecursion};
 ghost use Rattle.std.specs.HashMap.{get};
 ghost use Rattle.lrp_model.specs.Rows.{rows_of, relation_named};
 ghost use Rattle.lrp_model.specs.declared.relations.Relation.{Relation as RelationOf};
+ghost use Rattle.lrp_plan_laws.specs.Rising.{row_periods};
 ghost use Rattle.lrp_plan.specs.Sources.{AreFactsOf};
 ghost use Rattle.lrp_plan.specs.Naming.{IsNamedAs};
 
@@ -12,12 +14,13 @@ use lrp_rel::Database;
 use std::alloc::Global;
 use std::collections::HashMap;
 
-/// The facts of each relation of the database, by its name.
+/// The facts of each relation of the database, by its name. A database keeps periods of at least 1.
 pub(crate) fn facts_by_name(
     alloc: Global,
     database: &Database,
 ) -> Result<HashMap<Name, Facts>, Memory>
-    ensures { IfOk result (λ made. (name : List ℕ) → AreFactsOf (rows_of database.now name) (get bytes_eq made name)) }
+    ensures facts { IfOk result (λ made. (name : List ℕ) → AreFactsOf (rows_of database.now name) (get bytes_eq made name)) }
+    ensures periods { IfOk result (λ _. AllByRecursion (λ k. 1 ≤ k) (row_periods database.now)) }
 {
     let mut facts = HashMap::new(alloc);
     for i in 0..database.relations() {

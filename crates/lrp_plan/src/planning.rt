@@ -1,5 +1,6 @@
 // The plan of a query over a database, or why it has none.
-ghost use Rattle.std.specs.Prelude.{◌≡◌, List, ◌++◌, IfOk, IfErr, OnOk};
+ghost use Rattle.std.specs.Prelude.{◌≡◌, ◌≤◌, ◌≤ℤ◌, pos, List, ◌++◌, IfOk, IfErr, OnOk};
+ghost use Rattle.std.specs.List.{AllByRecursion};
 ghost use Rattle.std.specs.Option.{option_map};
 ghost use Rattle.lrp_core.specs.Cores.{core_of};
 ghost use Rattle.lrp_model.specs.Formulas.{form_of, question_of};
@@ -10,7 +11,10 @@ ghost use Rattle.lrp_model.specs.Plans.{IsPlan};
 ghost use Rattle.lrp_model.specs.Satisfaction.{Structure, structure};
 ghost use Rattle.lrp_model.specs.Texts.{in_order};
 ghost use Rattle.lrp_model.specs.declared.relations.Relation.{Relation as RelationOf};
-ghost use Rattle.lrp_plan_laws.specs.Rising.{HasPeriods};
+ghost use Rattle.lrp_plan_laws.specs.Points.{points};
+ghost use Rattle.lrp_plan_laws.specs.Rising.{row_periods};
+ghost use Rattle.lrp_plan_laws.specs.Settled.{IsSettled, IsSoundPlan};
+ghost use Rattle.lrp_plan_text.specs.Writable.{HasPeriods};
 ghost use Rattle.lrp_plan.specs.Multiples.{IsPeriodOf};
 ghost use Rattle.lrp_plan.specs.Planning.{IsWithinLimits, HasCause, IsWholeDraft, AreGathered, IsOutcome};
 ghost use Rattle.lrp_plan.specs.Sources.{AreSources};
@@ -57,9 +61,11 @@ impl From<Memory> for PlanFault {
 /// [`settled_queries_have_sound_plans`] the last step of its plan then has exactly the answers.
 pub fn plan(alloc: Global, query: &Query, database: &Database) -> Result<Plan, PlanFault>
     requires elements { HasElements (form_of query.now.body) }
-    requires periods { HasPeriods database.now (question_of query.now) }
+    requires points { AllByRecursion (λ at. pos 1 ≤ℤ at.period) (points (form_of query.now.body)) }
     ensures ok { IfOk result (λ p. IsPlan p database.now (question_of query.now)) }
     ensures limits { IfOk result (λ p. IsWithinLimits database.now (question_of query.now)) }
+    ensures writable { IfOk result (λ p. AllByRecursion HasPeriods p.steps) }
+    ensures sound { IfOk result (λ _. IsSettled database.now (question_of query.now) → IsSoundPlan database.now (question_of query.now)) }
     ensures fault { IfErr result (λ e. HasCause e database.now (question_of query.now)) }
 {
     let core = core_form(alloc, query, has_named_sort(database))?;
@@ -107,6 +113,7 @@ fn finish(alloc: Global, query: &Query, sources: &Sources<'_>, draft: Draft) -> 
 // What is read of the database and the query.
 fn gather<'a>(alloc: Global, query: &Query, database: &'a Database) -> Result<Sources<'a>, Memory>
     ensures sources { IfOk result (λ made. AreSources (structure database.now (question_of query.now)) made) }
+    ensures periods { IfOk result (λ _. AllByRecursion (λ k. 1 ≤ k) (row_periods database.now)) }
     ensures texts { IfOk result (λ made. database_texts made.database.now ++ made.texts.items ≡ all_texts database.now (question_of query.now)) }
 {
     let facts = facts_by_name(alloc, database)?;

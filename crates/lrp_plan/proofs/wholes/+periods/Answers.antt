@@ -3,7 +3,7 @@ use Rattle.lrp_core.specs.Cores.{core_of, cores_of}
 use Rattle.lrp_core.proofs.CoreViews.{core_of-And, core_of-Or}
 use Rattle.lrp_model.specs.Formulas.{conjunction}
 use Rattle.lrp_model.specs.Periods.{periods}
-use Rattle.lrp_plan.proofs.Named.{atom_whole, same_whole, each_more}
+use Rattle.lrp_plan.proofs.WholePeriods.{atom_whole, same_whole, each_more}
 use Rattle.lrp_plan.proofs.wholes.+periods.Goals as goal
 
 pub with_core-returns-in-Atom : goal.with_core-returns-in-Atom

@@ -1,4 +1,4 @@
-use Rattle.lrp_plan.proofs.Named.{facts_some, facts_none}
+use Rattle.lrp_plan.proofs.WholePeriods.{facts_some, facts_none}
 use Rattle.lrp_plan.proofs.wholes.with_facts.Goals as goal
 
 pub returns-in-Some : goal.returns-in-Some

@@ -1,4 +1,4 @@
-use Rattle.lrp_plan.proofs.Named.{rows_some, rows_none}
+use Rattle.lrp_plan.proofs.WholePeriods.{rows_some, rows_none}
 use Rattle.lrp_plan.proofs.wholes.with_rows.Goals as goal
 
 pub returns-in-Some : goal.returns-in-Some
