@@ -137,7 +137,7 @@ fn add_name<'a>(names: &mut Vec<&'a Name>, term: &'a RawTerm) -> Result<(), Memo
 fn names_in<'a>(alloc: Global, terms: &'a [RawTerm]) -> Result<Vec<&'a Name>, Memory>
     ensures { IfOk result (λ made. names_behind made.items ≡ flat_map term_names terms.now) }
 {
-    let mut names = Vec::new(alloc);
+    let mut names = Vec::with_capacity(alloc, terms.len())?;
     for term in terms {
         add_name(&mut names, term)?;
     }

@@ -67,7 +67,7 @@ fn plain_term(alloc: Global, scope: &Scope<'_>, term: &RawTerm) -> Result<Term, 
 fn plain_terms(alloc: Global, scope: &Scope<'_>, terms: &[RawTerm]) -> Result<List<Term>, Memory>
     ensures { IfOk result (λ made. made ≡ map (term_of (binders scope.now)) terms.now) }
 {
-    let mut made = List::new(alloc);
+    let mut made = List::from_vec(Vec::with_capacity(alloc, terms.len())?);
     for term in terms {
         made.push(plain_term(alloc, scope, term)?)?;
     }
@@ -166,7 +166,7 @@ fn plain_each<'a>(
     ensures forms { IfOk result (λ made. forms_of made.items ≡ plain_forms (raw_forms_of fs.now) (binders scope.old)) }
     ensures scope { OnOk result (scope.new ≡ scope.old) }
 {
-    let mut made = Vec::new(alloc);
+    let mut made = Vec::with_capacity(alloc, fs.len())?;
     for f in fs {
         let g = plain_formula(alloc, scope, f)?;
         made.push(g)?;
@@ -236,7 +236,7 @@ fn plain_column(alloc: Global, column: &RawColumn) -> Result<Column, Memory>
 pub fn plain_columns(alloc: Global, columns: &[RawColumn]) -> Result<List<Column>, Memory>
     ensures { IfOk result (λ made. made ≡ map column_of columns.now) }
 {
-    let mut made = List::new(alloc);
+    let mut made = List::from_vec(Vec::with_capacity(alloc, columns.len())?);
     for column in columns {
         made.push(plain_column(alloc, column)?)?;
     }
