@@ -1,12 +1,17 @@
 -- Bytes that may be those of a file, and why there are none.
-use Rattle.std.proofs.Common.{◌≡◌, ℕ, zero, suc, ◌<◌, List, [], ◌∷◌, length, Option, Some, None, Err, arith, refl, ap}
+use Rattle.std.proofs.Common.{◌≡◌, ℕ, zero, suc, ◌<◌, ◌≤◌, List, [], ◌∷◌, length, Bool, true, Option, Some, None, Ok, Err, arith, refl, ap}
 use Rattle.lrp_io.specs.Causes.{Rose}
 use Rattle.lrp_io.specs.Files.{content_of}
 use Rattle.lrp_io.specs.declared.shelf.File.{File}
 use Rattle.lrp_model.specs.Texts.{Identifier}
 use Rattle.lrp_model.specs.declared.relations.Relation.{Relation}
-use Rattle.lrp_top.specs.Outcomes.{MayBe, IsRead, IsAsked}
+use Rattle.lrp_top.specs.Due.{IsRead, IsAsked}
+use Rattle.lrp_top.specs.Seen.{Seen, IsOverrun}
 use Rattle.lrp_top.specs.declared.outcome.Refusal.TheVariants.{ReadDatabase, LongDatabase, ReadQuery, LongQuery, Memory}
+
+-- the bytes of a file of files, where these are told
+abbrev Told : Option (List File) → Identifier → List ℕ → Type 0
+Told files name bytes = (held : List File) → files ≡ Some held → bytes ≡ content_of held name
 
 -- the same files
 same_held : (held other : List File) → Some held ≡ Some other → held ≡ other
@@ -17,7 +22,7 @@ none_held : (held : List File) → None ≡ Some held → ⊥
 none_held held e = cc
 
 -- some bytes may always be those of a file
-some_bytes : (files : Option (List File)) (name : Identifier) → (bytes : List ℕ) × MayBe files name bytes
+some_bytes : (files : Option (List File)) (name : Identifier) → (bytes : List ℕ) × Told files name bytes
 some_bytes None name = ([], λ held e. absurd (none_held held e))
 some_bytes (Some held) name = (content_of held name, λ other e. ap (λ h. content_of h name) (same_held held other e))
 
@@ -27,27 +32,31 @@ of_length zero = ([], refl)
 of_length (suc n) = let r = of_length n in (0 ∷ r.0, ap suc r.1)
 
 -- bytes of a file that is too long where files are told
-long_bytes : (files : Option (List File)) (name : Identifier) → ((held : List File) → files ≡ Some held → 16777216 < length (content_of held name)) → (bytes : List ℕ) × MayBe files name bytes × (16777216 < length bytes)
+long_bytes : (files : Option (List File)) (name : Identifier) → ((held : List File) → files ≡ Some held → 16777216 < length (content_of held name)) → (bytes : List ℕ) × Told files name bytes × (16777216 < length bytes)
 long_bytes None name h = let r = of_length 16777217 in (r.0, λ held e. absurd (none_held held e), (let e : length r.0 ≡ 16777217 = r.1 in omega arith))
 long_bytes (Some held) name h = (content_of held name, (λ other e. ap (λ k. content_of k name) (same_held held other e)), h held refl)
 
 -- a database or a query that is too long
-pub long_database : (files : Option (List File)) (name : Identifier) (before now : ℕ) → ((held : List File) → files ≡ Some held → 16777216 < length (content_of held name)) → IsRead files name before now (Err LongDatabase)
-long_database files name before now h = let l = long_bytes files name h in record { bytes = l.0; told = l.1; is = l.2 }
+pub long_database : (seen : Seen) (name : Identifier) → ((held : List File) → seen.files ≡ Some held → 16777216 < length (content_of held name)) → seen.may_be name ≡ true → 16777216 < seen.given → IsRead seen name (Err LongDatabase)
+long_database seen name h named many = let l = long_bytes seen.files name h in record { bytes = l.0; told = l.1; is = (l.2, record { named = named; many = many }) }
 
-pub long_query : (relations : List Relation) (files : Option (List File)) (name : Identifier) (before now : ℕ) → ((held : List File) → files ≡ Some held → 16777216 < length (content_of held name)) → IsAsked relations files name before now (Some LongQuery)
-long_query relations files name before now h = let l = long_bytes files name h in record { bytes = l.0; told = l.1; is = l.2 }
+pub long_query : (relations : List Relation) (seen : Seen) (name : Identifier) → ((held : List File) → seen.files ≡ Some held → 16777216 < length (content_of held name)) → seen.may_be name ≡ true → 16777216 < seen.given → IsAsked relations seen name (Err LongQuery)
+long_query relations seen name h named many = let l = long_bytes seen.files name h in record { bytes = l.0; told = l.1; is = (l.2, record { named = named; many = many }) }
 
 -- a file that was not read, and want of memory
-pub unread_database : (files : Option (List File)) (name : Identifier) (before now : ℕ) → Rose before now → IsRead files name before now (Err ReadDatabase)
-unread_database files name before now rose = let b = some_bytes files name in record { bytes = b.0; told = b.1; is = rose }
+pub unread_database : (seen : Seen) (name : Identifier) → Rose (seen.before name) (seen.now name) → IsRead seen name (Err ReadDatabase)
+unread_database seen name rose = let b = some_bytes seen.files name in record { bytes = b.0; told = b.1; is = rose }
 
-pub no_memory : (files : Option (List File)) (name : Identifier) (before now : ℕ) → IsRead files name before now (Err Memory)
-no_memory files name before now = let b = some_bytes files name in record { bytes = b.0; told = b.1; is = tt }
+pub no_memory : (seen : Seen) (name : Identifier) → IsRead seen name (Err Memory)
+no_memory seen name = let b = some_bytes seen.files name in record { bytes = b.0; told = b.1; is = tt }
 
 -- the same of a query
-pub unread_query : (relations : List Relation) (files : Option (List File)) (name : Identifier) (before now : ℕ) → Rose before now → IsAsked relations files name before now (Some ReadQuery)
-unread_query relations files name before now rose = let b = some_bytes files name in record { bytes = b.0; told = b.1; is = rose }
+pub unread_query : (relations : List Relation) (seen : Seen) (name : Identifier) → Rose (seen.before name) (seen.now name) → IsAsked relations seen name (Err ReadQuery)
+unread_query relations seen name rose = let b = some_bytes seen.files name in record { bytes = b.0; told = b.1; is = rose }
 
-pub no_query_memory : (relations : List Relation) (files : Option (List File)) (name : Identifier) (before now : ℕ) → IsAsked relations files name before now (Some Memory)
-no_query_memory relations files name before now = let b = some_bytes files name in record { bytes = b.0; told = b.1; is = tt }
+pub no_query_memory : (relations : List Relation) (seen : Seen) (name : Identifier) → IsAsked relations seen name (Err Memory)
+no_query_memory relations seen name = let b = some_bytes seen.files name in record { bytes = b.0; told = b.1; is = tt }
+
+-- a file whose given bytes are few is not overrun
+pub few_given : {P : Type 0} (seen : Seen) (name : Identifier) → seen.given ≤ 16777216 → IsOverrun seen name → P
+few_given seen name few over = let many : 16777216 < seen.given = over.many in absurd (omega arith)

@@ -1,6 +1,8 @@
--- Lemmas on texts, on files, on questions and on sorted numbers.
+-- Lemmas on texts, on files, on steps, on questions, on what can be planned and on sorted numbers.
 pub mod FileLemmas
 pub mod LineLemmas
+pub mod Plannable
 pub mod QuestionLemmas
 pub mod RowLines
 pub mod Sorting
+pub mod StepLemmas

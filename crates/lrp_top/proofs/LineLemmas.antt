@@ -6,12 +6,12 @@ use Rattle.std.specs.Fmt.{decimal}
 use Rattle.std.specs.List.{flat_map}
 use Rattle.lrp_io.specs.Bytes.{appended, AppendsFront}
 use Rattle.lrp_model.specs.declared.tokens.Place.{Place}
-use Rattle.lrp_rel.proofs.Pieces.{item_front}
+use Rattle.lrp_print.proofs.Lines.{item_front}
 use Rattle.lrp_top.specs.Outcomes.{Outcome, fault_line, refused_with, status_of, text_of, Ends}
 use Rattle.lrp_top.specs.declared.status.Status.{Status}
 use Rattle.lrp_top.specs.declared.status.Status.TheVariants as status
 use Rattle.lrp_top.specs.declared.outcome.Refusal.{Refusal}
-use Rattle.lrp_top.specs.declared.outcome.Refusal.TheVariants.{Usage, ReadDatabase, LongDatabase, Database, ReadQuery, LongQuery, Query, Memory, Unbuilt}
+use Rattle.lrp_top.specs.declared.outcome.Refusal.TheVariants.{Usage, ReadDatabase, LongDatabase, Database, ReadQuery, LongQuery, Query, PeriodLimit, BoundLimit, Memory, Unbuilt}
 
 -- the seven pieces of the line of a fault
 pub fault_pieces : (whose kind : List ℕ) (place : Place) (a b c d e g h : List ℕ) → a ≡ whose → b ≡ kind → c ≡ codes " at " → d ≡ decimal place.line → e ≡ codes ":" → g ≡ decimal place.column → h ≡ codes "\n"
@@ -37,6 +37,8 @@ refused_whole (Database fault) e = cc
 refused_whole ReadQuery e = cc
 refused_whole LongQuery e = cc
 refused_whole (Query fault) e = cc
+refused_whole PeriodLimit e = cc
+refused_whole BoundLimit e = cc
 refused_whole Memory e = cc
 refused_whole Unbuilt e = cc
 

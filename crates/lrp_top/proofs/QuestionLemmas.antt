@@ -1,84 +1,92 @@
 -- Questions: what is refused first, and what is due behind that.
-use Rattle.std.proofs.Common.{◌≡◌, ℕ, ◌≤◌, List, Option, Some, None, Result, Ok, Err, arith, refl, subst}
+use Rattle.std.proofs.Common.{◌≡◌, ℕ, ◌≤◌, List, Bool, Option, Result, Ok, Err, arith, refl, sym, ◌∙◌, subst, ap}
 use Rattle.lrp_io.specs.Causes.{Rose}
 use Rattle.lrp_io.specs.declared.shelf.File.{File}
+use Rattle.lrp_model.specs.Formulas.{Question as Queried, question_of}
 use Rattle.lrp_model.specs.Texts.{Identifier}
+use Rattle.lrp_model.specs.declared.plans.Plan.{Plan}
 use Rattle.lrp_model.specs.declared.relations.Relation.{Relation}
-use Rattle.lrp_top.specs.Outcomes.{Outcome, IsNoDatabase, IsRead, IsAskedBy, IsAsked, IsAskedBehind, IsQuestion, IsAnswer, IsAnswered}
-use Rattle.lrp_top.specs.declared.outcome.Output.TheVariants.{Text, Relations}
+use Rattle.lrp_top.specs.Due.{IsRead, IsAskedOf, IsAsked, IsPlanned, IsQuestion}
+use Rattle.lrp_top.specs.Questions.{IsMadeOf}
+use Rattle.lrp_top.specs.Seen.{Seen, seen_of}
+use Rattle.lrp_top.specs.Steps.{Then}
+use Rattle.lrp_top.proofs.StepLemmas.{mapped, no_refusal, same_refusal}
 use Rattle.lrp_top.specs.declared.outcome.Refusal.{Refusal}
-use Rattle.lrp_top.specs.declared.outcome.Refusal.TheVariants.{Usage, ReadDatabase, LongDatabase, Database, ReadQuery, LongQuery, Query, Memory, Unbuilt}
+use Rattle.lrp_top.specs.declared.outcome.Refusal.TheVariants.{Usage, ReadDatabase, LongDatabase, Database, ReadQuery, LongQuery, Query, PeriodLimit, BoundLimit, Memory, Unbuilt}
+use Rattle.lrp_top.specs.declared.questions.Question.{Question}
 
 -- a count that rose later rose
 rose_later : (a b c : ℕ) → a ≤ b → Rose b c → Rose a c
 rose_later a b c l r = omega arith
 
--- what holds from a later count on holds from an earlier one on
-asked_since : (relations : List Relation) (bytes : List ℕ) (before middle now : ℕ) (refused : Option Refusal) → before ≤ middle → IsAskedBy relations bytes middle now refused → IsAskedBy relations bytes before now refused
-asked_since relations bytes before middle now None l h = h
-asked_since relations bytes before middle now (Some Usage) l h = h
-asked_since relations bytes before middle now (Some ReadDatabase) l h = h
-asked_since relations bytes before middle now (Some LongDatabase) l h = h
-asked_since relations bytes before middle now (Some (Database fault)) l h = h
-asked_since relations bytes before middle now (Some ReadQuery) l h = rose_later before middle now l h
-asked_since relations bytes before middle now (Some LongQuery) l h = h
-asked_since relations bytes before middle now (Some (Query fault)) l h = h
-asked_since relations bytes before middle now (Some Memory) l h = h
-asked_since relations bytes before middle now (Some Unbuilt) l h = h
+-- a database that was read is read, whatever is seen afterwards
+pub read_before : (middle seen : Seen) (name : Identifier) (relations : List Relation) → seen.files ≡ middle.files → IsRead middle name (Ok relations) → IsRead seen name (Ok relations)
+read_before middle seen name relations e h = record { bytes = h.bytes; told = λ held f. h.told held (sym e ∙ f); is = h.is }
 
--- a query's file behind a database that was read makes the question
-pub question_behind : (files told : Option (List File)) (database query : Identifier) (before middle now : Identifier → ℕ) (relations : List Relation) (refused : Option Refusal) → IsRead files database (before database) (middle database) (Ok relations) → told ≡ files → before query ≤ middle query
-    → IsAsked relations told query (middle query) (now query) refused → IsQuestion files database query before now refused
-question_behind files told database query before middle now relations refused d e l h = record {
-  read = Ok relations;
-  is = record { bytes = d.bytes; told = d.told; is = d.is };
-  asked = subst (λ f. IsAsked relations f query (before query) (now query) refused) e (record { bytes = h.bytes; told = h.told; is = asked_since relations h.bytes (before query) (middle query) (now query) refused l h.is });
+-- what holds from a later count on holds from an earlier one on
+asked_of : (relations : List Relation) (files told : Option (List File)) (before middle now : Identifier → ℕ) (given : ℕ) (may_be : Identifier → Bool) (name : Identifier) (bytes : List ℕ) (result : Result Queried Refusal) → before name ≤ middle name
+    → IsAskedOf relations (seen_of told middle now given may_be) name bytes result → IsAskedOf relations (seen_of files before now given may_be) name bytes result
+asked_of relations files told before middle now given may_be name bytes (Ok q) l h = h
+asked_of relations files told before middle now given may_be name bytes (Err Usage) l h = h
+asked_of relations files told before middle now given may_be name bytes (Err ReadDatabase) l h = h
+asked_of relations files told before middle now given may_be name bytes (Err LongDatabase) l h = h
+asked_of relations files told before middle now given may_be name bytes (Err (Database fault)) l h = h
+asked_of relations files told before middle now given may_be name bytes (Err ReadQuery) l h = rose_later (before name) (middle name) (now name) l h
+asked_of relations files told before middle now given may_be name bytes (Err LongQuery) l h = (h.0, record { named = h.1.named; many = h.1.many })
+asked_of relations files told before middle now given may_be name bytes (Err (Query fault)) l h = h
+asked_of relations files told before middle now given may_be name bytes (Err PeriodLimit) l h = h
+asked_of relations files told before middle now given may_be name bytes (Err BoundLimit) l h = h
+asked_of relations files told before middle now given may_be name bytes (Err Memory) l h = h
+asked_of relations files told before middle now given may_be name bytes (Err Unbuilt) l h = h
+
+pub asked_since : (relations : List Relation) (files told : Option (List File)) (before middle now : Identifier → ℕ) (given : ℕ) (may_be : Identifier → Bool) (name : Identifier) (result : Result Queried Refusal) → files ≡ told → before name ≤ middle name
+    → IsAsked relations (seen_of told middle now given may_be) name result → IsAsked relations (seen_of files before now given may_be) name result
+asked_since relations files told before middle now given may_be name result e l h = record {
+  bytes = h.bytes;
+  told = λ held f. h.told held (sym e ∙ f);
+  is = asked_of relations files told before middle now given may_be name h.bytes result l h.is;
 }
 
+-- where a database and a query over it were read, and the query was planned, the rest is due of them
+pub question_read : {B : Type 0} (seen : Seen) (database query : Identifier) (relations : List Relation) (q : Queried) (p : Plan) (Next : List Relation → Queried → Plan → Result B Refusal → Type 0) (result : Result B Refusal)
+    → IsRead seen database (Ok relations) → IsAsked relations seen query (Ok q) → IsPlanned relations q (Ok p) → Next relations q p result → IsQuestion seen database query Next result
+question_read seen database query relations q p Next result r a planned n = record { first = Ok relations; is = r; next = record { first = Ok q; is = a; next = record { first = Ok p; is = planned; next = n } } }
+
+-- a query that was not planned is refused behind its database and its text
+pub plan_refused : {B : Type 0} (seen : Seen) (database query : Identifier) (relations : List Relation) (q : Queried) (refusal : Refusal) (Next : List Relation → Queried → Plan → Result B Refusal → Type 0)
+    → IsRead seen database (Ok relations) → IsAsked relations seen query (Ok q) → IsPlanned relations q (Err refusal) → IsQuestion seen database query Next (Err refusal)
+plan_refused seen database query relations q refusal Next r a planned = record { first = Ok relations; is = r; next = record { first = Ok q; is = a; next = record { first = Err refusal; is = planned; next = refl } } }
+
+-- a refused query is refused behind its database
+pub query_refused : {B : Type 0} (seen : Seen) (database query : Identifier) (relations : List Relation) (refusal : Refusal) (Next : List Relation → Queried → Plan → Result B Refusal → Type 0)
+    → IsRead seen database (Ok relations) → IsAsked relations seen query (Err refusal) → IsQuestion seen database query Next (Err refusal)
+query_refused seen database query relations refusal Next r a = record { first = Ok relations; is = r; next = record { first = Err refusal; is = a; next = refl } }
+
 -- a refused database is refused first
-pub question_refused : (files : Option (List File)) (database query : Identifier) (before now : Identifier → ℕ) (refusal : Refusal) → IsRead files database (before database) (now database) (Err refusal) → IsQuestion files database query before now (Some refusal)
-question_refused files database query before now refusal h = record { read = Err refusal; is = h; asked = refl }
+pub database_refused : {B : Type 0} (seen : Seen) (database query : Identifier) (refusal : Refusal) (Next : List Relation → Queried → Plan → Result B Refusal → Type 0) → IsRead seen database (Err refusal) → IsQuestion seen database query Next (Err refusal)
+database_refused seen database query refusal Next r = record { first = Err refusal; is = r; next = refl }
 
--- nothing is not a refusal
-none_refused : (refusal : Refusal) → None ≡ Some refusal → ⊥
-none_refused refusal e = cc
+-- what is due of a plan is due of the question that was made of it
+pub question_due : {B : Type 0} (seen : Seen) (database query : Identifier) (question : Question) (Next : List Relation → Queried → Plan → Result B Refusal → Type 0) (result : Result B Refusal)
+    → IsQuestion seen database query IsMadeOf (Ok question) → Next question.database (question_of question.query) question.plan result → IsQuestion seen database query Next result
+question_due {B} seen database query question Next result h n =
+    mapped (IsRead seen database) (λ relations. Then (IsAsked relations seen query) (λ q. Then (IsPlanned relations q) (IsMadeOf relations q))) (λ relations. Then (IsAsked relations seen query) (λ q. Then (IsPlanned relations q) (Next relations q))) (Ok question) result
+    (λ relations. mapped (IsAsked relations seen query) (λ q. Then (IsPlanned relations q) (IsMadeOf relations q)) (λ q. Then (IsPlanned relations q) (Next relations q)) (Ok question) result
+    (λ q. mapped (IsPlanned relations q) (IsMadeOf relations q) (Next relations q) (Ok question) result
+    (λ p made.
+    let P : List Relation → Type 0 = λ r. Next r q p result in
+    let Q : Queried → Type 0 = λ a. Next question.database a p result in
+    let R : Plan → Type 0 = λ a. Next question.database (question_of question.query) a result in
+    subst P made.0 (subst Q made.1 (subst R made.2 n)))
+    (λ refusal e. no_refusal question refusal e))
+    (λ refusal e. no_refusal question refusal e))
+    (λ refusal e. no_refusal question refusal e) h
 
--- the same refusal
-same_refusal : (one other : Refusal) → Some one ≡ Some other → other ≡ one
-same_refusal one other e = cc
-
--- memory may be refused behind a question
-asked_memory : (read : Result (List Relation) Refusal) (files : Option (List File)) (name : Identifier) (before now : ℕ) → IsAskedBehind read files name before now None → IsAskedBehind read files name before now (Some Memory)
-asked_memory (Ok relations) files name before now h = record { bytes = h.bytes; told = h.told; is = tt }
-asked_memory (Err refusal) files name before now e = absurd (none_refused refusal e)
-
--- no question is refused as not built
-never_unbuilt : (read : Result (List Relation) Refusal) (files : Option (List File)) (database query : Identifier) (before now earlier later : ℕ) → IsRead files database before now read → IsAskedBehind read files query earlier later (Some Unbuilt) → ⊥
-never_unbuilt (Ok relations) files database query before now earlier later d h = h.is
-never_unbuilt (Err refusal) files database query before now earlier later d e = subst (λ r. IsNoDatabase d.bytes before now r) (same_refusal Unbuilt refusal e) d.is
-
--- the answer of a question that is refused nothing is due
-pub answered : (Answers : List ℕ → Type 0) (files : Option (List File)) (database query : Identifier) (before now : Identifier → ℕ) (outcome : Outcome) → IsQuestion files database query before now None → IsAnswer Answers outcome → IsAnswered Answers files database query before now outcome
-answered Answers files database query before now (Ok (Text bytes)) q h = (q, h)
-answered Answers files database query before now (Ok (Relations relations)) q h = h
-answered Answers files database query before now (Err Usage) q h = absurd h
-answered Answers files database query before now (Err ReadDatabase) q h = absurd h
-answered Answers files database query before now (Err LongDatabase) q h = absurd h
-answered Answers files database query before now (Err (Database fault)) q h = absurd h
-answered Answers files database query before now (Err ReadQuery) q h = absurd h
-answered Answers files database query before now (Err LongQuery) q h = absurd h
-answered Answers files database query before now (Err (Query fault)) q h = absurd h
-answered Answers files database query before now (Err Memory) q h = record { read = q.read; is = q.is; asked = asked_memory q.read files query (before query) (now query) q.asked }
-answered Answers files database query before now (Err Unbuilt) q h = q
-
--- the refusal of a question is due
-pub refused_answer : (Answers : List ℕ → Type 0) (files : Option (List File)) (database query : Identifier) (before now : Identifier → ℕ) (refusal : Refusal) → IsQuestion files database query before now (Some refusal) → IsAnswered Answers files database query before now (Err refusal)
-refused_answer Answers files database query before now Usage q = q
-refused_answer Answers files database query before now ReadDatabase q = q
-refused_answer Answers files database query before now LongDatabase q = q
-refused_answer Answers files database query before now (Database fault) q = q
-refused_answer Answers files database query before now ReadQuery q = q
-refused_answer Answers files database query before now LongQuery q = q
-refused_answer Answers files database query before now (Query fault) q = q
-refused_answer Answers files database query before now Memory q = q
-refused_answer Answers files database query before now Unbuilt q = absurd (never_unbuilt q.read files database query (before database) (now database) (before query) (now query) q.is q.asked)
+-- the refusal of a question is that of what is due
+pub refusal_due : {B : Type 0} (seen : Seen) (database query : Identifier) (refusal : Refusal) (Next : List Relation → Queried → Plan → Result B Refusal → Type 0) → IsQuestion seen database query IsMadeOf (Err refusal) → IsQuestion seen database query Next (Err refusal)
+refusal_due {B} seen database query refusal Next h =
+    mapped (IsRead seen database) (λ relations. Then (IsAsked relations seen query) (λ q. Then (IsPlanned relations q) (IsMadeOf relations q))) (λ relations. Then (IsAsked relations seen query) (λ q. Then (IsPlanned relations q) (Next relations q))) (Err refusal) (Err refusal)
+    (λ relations. mapped (IsAsked relations seen query) (λ q. Then (IsPlanned relations q) (IsMadeOf relations q)) (λ q. Then (IsPlanned relations q) (Next relations q)) (Err refusal) (Err refusal)
+    (λ q. mapped (IsPlanned relations q) (IsMadeOf relations q) (Next relations q) (Err refusal) (Err refusal) (λ p none. absurd none) (λ other e. same_refusal refusal other e))
+    (λ other e. same_refusal refusal other e))
+    (λ other e. same_refusal refusal other e) h

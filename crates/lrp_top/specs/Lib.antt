@@ -2,3 +2,7 @@
 pub mod Statuses
 pub mod Outcomes
 pub mod ThinAnswers
+pub mod Seen
+pub mod Steps
+pub mod Due
+pub mod Questions

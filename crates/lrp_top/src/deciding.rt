@@ -1,5 +1,9 @@
 // The decision: what the words ask for, before the first byte is written.
-ghost use Rattle.lrp_top.specs.Outcomes.{IsAnswer, IsAnswered, IsChecked, IsDue, IsDueOf, IsNoText};
+ghost use Rattle.std.specs.List.{AllByRecursion};
+ghost use Rattle.lrp_top.specs.Due.{IsAnswered, IsDue, IsDueOf, IsExplained, IsNoText, IsQuestion, IsRead, IsTooLong, IsWrittenAgain, TellsLength, files_of};
+ghost use Rattle.lrp_top.specs.Outcomes.{CanBeWritten};
+ghost use Rattle.lrp_top.specs.Seen.{IsOverrun, seen_of};
+ghost use Rattle.lrp_top.specs.Steps.{Then};
 ghost use Rattle.lrp_top.specs.ThinAnswers.{IsThinAnswer};
 ghost use Rattle.lrp_words.specs.Commands.{task_of};
 
@@ -9,12 +13,14 @@ use crate::questions::{Question, question_of};
 use crate::thin_answer::thin_text;
 use lrp_io::Shelf;
 use lrp_model::Memory;
+use lrp_rel::databases_read_back;
 use lrp_words::{Command, Usage, read_words};
 use std::alloc::Global;
 
 /// The output that the words ask for, or the first refusal that applies.
 pub fn decide<F: Shelf>(alloc: Global, words: &[String], shelf: &mut F) -> Result<Output, Refusal>
-    ensures { IsDue words.now (F.files shelf.old) (F.faults shelf.old) (F.faults shelf.new) result }
+    ensures due { IsDue words.now (seen_of (F.files shelf.old) (F.faults shelf.old) (F.faults shelf.new) (F.given shelf.new) (F.may_be shelf.new)) result }
+    ensures writable { CanBeWritten result }
 {
     match read_words(words) {
         Ok(command) => decide_command(alloc, command, shelf),
@@ -28,13 +34,15 @@ fn decide_command<F: Shelf>(
     command: Command<'_>,
     shelf: &mut F,
 ) -> Result<Output, Refusal>
-    ensures { IsDueOf (task_of command.entry) (F.files shelf.old) (F.faults shelf.old) (F.faults shelf.new) result }
+    ensures due { IsDueOf (task_of command.entry) (seen_of (F.files shelf.old) (F.faults shelf.old) (F.faults shelf.new) (F.given shelf.new) (F.may_be shelf.new)) result }
+    ensures long { AllByRecursion (λ name. IsOverrun (seen_of (F.files shelf.old) (F.faults shelf.old) (F.faults shelf.new) (F.given shelf.new) (F.may_be shelf.new)) name → IsTooLong result) (files_of (task_of command.entry)) }
+    ensures writable { CanBeWritten result }
 {
     match command {
         Command::Ask { db, query, .. } => ask(alloc, db, query, shelf),
         Command::Decide { db, query, .. } => unbuilt(alloc, db, query, shelf),
         Command::List { db, query, .. } => unbuilt(alloc, db, query, shelf),
-        Command::Explain { db, query } => unbuilt(alloc, db, query, shelf),
+        Command::Explain { db, query } => explain(alloc, db, query, shelf),
         Command::Check { db } => check(alloc, db, shelf),
         Command::Sample { .. } => Err(Refusal::Unbuilt),
     }
@@ -42,10 +50,15 @@ fn decide_command<F: Shelf>(
 
 /// The relations of a database.
 fn check<F: Shelf>(alloc: Global, database: &str, shelf: &mut F) -> Result<Output, Refusal>
-    ensures { IsChecked (F.files shelf.old) database.now (F.faults shelf.old) (F.faults shelf.new) result }
+    ensures due { Then (IsRead (seen_of (F.files shelf.old) (F.faults shelf.old) (F.faults shelf.new) (F.given shelf.new) (F.may_be shelf.new)) database.now) IsWrittenAgain result }
+    ensures long { TellsLength (seen_of (F.files shelf.old) (F.faults shelf.old) (F.faults shelf.new) (F.given shelf.new) (F.may_be shelf.new)) result }
+    ensures writable { CanBeWritten result }
 {
     match database_of(alloc, database, shelf) {
-        Ok(relations) => Ok(Output::Relations(relations)),
+        Ok(relations) => {
+            databases_read_back();
+            Ok(Output::Relations(relations))
+        }
         Err(refusal) => Err(refusal),
     }
 }
@@ -57,7 +70,9 @@ fn ask<F: Shelf>(
     query: &str,
     shelf: &mut F,
 ) -> Result<Output, Refusal>
-    ensures { IsAnswered IsThinAnswer (F.files shelf.old) database.now query.now (F.faults shelf.old) (F.faults shelf.new) result }
+    ensures due { IsQuestion (seen_of (F.files shelf.old) (F.faults shelf.old) (F.faults shelf.new) (F.given shelf.new) (F.may_be shelf.new)) database.now query.now (λ relations q p. IsAnswered IsThinAnswer) result }
+    ensures long { TellsLength (seen_of (F.files shelf.old) (F.faults shelf.old) (F.faults shelf.new) (F.given shelf.new) (F.may_be shelf.new)) result }
+    ensures writable { CanBeWritten result }
 {
     match question_of(alloc, database, query, shelf) {
         Ok(question) => answer(alloc, &question),
@@ -67,12 +82,30 @@ fn ask<F: Shelf>(
 
 /// The answer of a question that is refused nothing.
 fn answer(alloc: Global, question: &Question) -> Result<Output, Refusal>
-    ensures { IsAnswer IsThinAnswer result }
+    ensures answer { IsAnswered IsThinAnswer result }
+    ensures writable { CanBeWritten result }
 {
     match thin_text(alloc, &question.database, &question.query) {
         Ok(Some(text)) => Ok(Output::Text(text)),
         Ok(None) => Err(Refusal::Unbuilt),
         Err(Memory) => Err(Refusal::Memory),
+    }
+}
+
+/// The plan of a question.
+fn explain<F: Shelf>(
+    alloc: Global,
+    database: &str,
+    query: &str,
+    shelf: &mut F,
+) -> Result<Output, Refusal>
+    ensures due { IsQuestion (seen_of (F.files shelf.old) (F.faults shelf.old) (F.faults shelf.new) (F.given shelf.new) (F.may_be shelf.new)) database.now query.now (λ relations q. IsExplained) result }
+    ensures long { TellsLength (seen_of (F.files shelf.old) (F.faults shelf.old) (F.faults shelf.new) (F.given shelf.new) (F.may_be shelf.new)) result }
+    ensures writable { CanBeWritten result }
+{
+    match question_of(alloc, database, query, shelf) {
+        Ok(question) => Ok(Output::Plan(question.into_plan())),
+        Err(refusal) => Err(refusal),
     }
 }
 
@@ -83,7 +116,9 @@ fn unbuilt<F: Shelf>(
     query: &str,
     shelf: &mut F,
 ) -> Result<Output, Refusal>
-    ensures { IsAnswered IsNoText (F.files shelf.old) database.now query.now (F.faults shelf.old) (F.faults shelf.new) result }
+    ensures due { IsQuestion (seen_of (F.files shelf.old) (F.faults shelf.old) (F.faults shelf.new) (F.given shelf.new) (F.may_be shelf.new)) database.now query.now (λ relations q p. IsAnswered IsNoText) result }
+    ensures long { TellsLength (seen_of (F.files shelf.old) (F.faults shelf.old) (F.faults shelf.new) (F.given shelf.new) (F.may_be shelf.new)) result }
+    ensures writable { CanBeWritten result }
 {
     match question_of(alloc, database, query, shelf) {
         Ok(_question) => Err(Refusal::Unbuilt),

@@ -1,10 +1,11 @@
 // What a run decides before its first byte is written: an output, or a refusal.
 ghost use Rattle.std.specs.Prelude.{◌≡◌};
-ghost use Rattle.lrp_top.specs.Outcomes.{refused_by, refused_with};
+ghost use Rattle.lrp_top.specs.Outcomes.{limited_by, refused_by, refused_with};
 ghost use Rattle.lrp_top.specs.declared.outcome.Refusal.TheVariants.{Memory as memory};
 
 use crate::Status;
-use lrp_model::{DbFault, List, QueryFault, QueryRead};
+use lrp_model::{DbFault, List, Plan, QueryFault, QueryRead};
+use lrp_plan::PlanFault;
 use lrp_rel::Database;
 
 /// What a command writes.
@@ -14,6 +15,8 @@ pub enum Output {
     Text(List<u8>),
     /// The relations of a database, in order.
     Relations(Database),
+    /// The plan of a query.
+    Plan(Plan),
 }
 
 /// Why a command is refused.
@@ -33,6 +36,10 @@ pub enum Refusal {
     LongQuery,
     /// The query's text has a fault, or its sorts over the database.
     Query(QueryFault),
+    /// The query's period is above 2^62.
+    PeriodLimit,
+    /// The query's reach is above 2^62, doubled once and once more for each time column of the head.
+    BoundLimit,
     /// Memory was refused.
     Memory,
     /// The command, or the form of its files, is not built yet.
@@ -49,6 +56,7 @@ impl Refusal {
             Refusal::ReadDatabase | Refusal::ReadQuery => Status::Read,
             Refusal::LongDatabase | Refusal::Database(_) => Status::Database,
             Refusal::LongQuery | Refusal::Query(_) => Status::Query,
+            Refusal::PeriodLimit | Refusal::BoundLimit => Status::Limit,
             Refusal::Memory => Status::Memory,
             Refusal::Unbuilt => Status::Unbuilt,
         }
@@ -70,6 +78,18 @@ impl From<QueryRead> for Refusal {
         match read {
             QueryRead::Fault { fault } => Refusal::Query(fault),
             QueryRead::Memory => Refusal::Memory,
+        }
+    }
+}
+
+impl From<PlanFault> for Refusal {
+    ghost from_gives = { λ fault e. e ≡ limited_by fault };
+
+    fn from(fault: PlanFault) -> Self {
+        match fault {
+            PlanFault::PeriodLimit => Refusal::PeriodLimit,
+            PlanFault::BoundLimit => Refusal::BoundLimit,
+            PlanFault::Memory => Refusal::Memory,
         }
     }
 }

@@ -1,46 +1,68 @@
-// Questions: a database and a well-sorted query over it, or the first refusal of their files.
-ghost use Rattle.lrp_top.specs.Outcomes.{IsAsked, IsQuestion, refusal_of};
+// Questions: a database, a well-sorted query over it and its plan, or the first refusal.
+ghost use Rattle.std.specs.Prelude.{◌≡◌, ◌≤ℤ◌, IfOk, pos};
+ghost use Rattle.std.specs.List.{AllByRecursion};
+ghost use Rattle.lrp_model.specs.Core.{HasElements};
+ghost use Rattle.lrp_model.specs.Formulas.{form_of, question_of as queried};
+ghost use Rattle.lrp_plan_laws.specs.Points.{points};
+ghost use Rattle.lrp_plan_text.specs.Writable.{HasPeriods};
+ghost use Rattle.lrp_top.specs.Due.{IsPlanned, IsQuestion, TellsLength};
+ghost use Rattle.lrp_top.specs.Questions.{IsMadeOf};
+ghost use Rattle.lrp_top.specs.Seen.{seen_of};
 
 use crate::files::{database_of, query_of};
 use crate::outcome::Refusal;
 use lrp_io::Shelf;
-use lrp_model::Query;
+use lrp_model::{Plan, Query};
+use lrp_plan::plan;
 use lrp_rel::Database;
 use std::alloc::Global;
 
-/// A database, and a query that is well-sorted over it.
+/// A database, a query that is well-sorted over it, and its plan.
 #[derive(Drop)]
 pub struct Question {
     pub database: Database,
     pub query: Query,
+    pub plan: Plan,
 }
 
-/// The question of a database's file and a query's file.
+impl Question {
+    /// Its plan alone.
+    pub fn into_plan(self) -> Plan
+        ensures { result ≡ self.plan }
+    {
+        let Question { plan, .. } = self;
+        plan
+    }
+}
+
+/// The question of a database's file and a query's file, or the first refusal of either, or of the plan.
 pub fn question_of<F: Shelf>(
     alloc: Global,
     database: &str,
     query: &str,
     shelf: &mut F,
 ) -> Result<Question, Refusal>
-    ensures { IsQuestion (F.files shelf.old) database.now query.now (F.faults shelf.old) (F.faults shelf.new) (refusal_of result) }
+    ensures question { IsQuestion (seen_of (F.files shelf.old) (F.faults shelf.old) (F.faults shelf.new) (F.given shelf.new) (F.may_be shelf.new)) database.now query.now IsMadeOf result }
+    ensures long { TellsLength (seen_of (F.files shelf.old) (F.faults shelf.old) (F.faults shelf.new) (F.given shelf.new) (F.may_be shelf.new)) result }
+    ensures writable { IfOk result (λ question. AllByRecursion HasPeriods question.plan.steps) }
 {
-    match database_of(alloc, database, shelf) {
-        Ok(database) => question_over(alloc, database, query, shelf),
-        Err(refusal) => Err(refusal),
-    }
+    let database = database_of(alloc, database, shelf)?;
+    let query = query_of(alloc, &database, query, shelf)?;
+    let plan = plan_of(alloc, &database, &query)?;
+    Ok(Question {
+        database,
+        query,
+        plan,
+    })
 }
 
-/// The question of a query's file over a database.
-fn question_over<F: Shelf>(
-    alloc: Global,
-    database: Database,
-    query: &str,
-    shelf: &mut F,
-) -> Result<Question, Refusal>
-    ensures { IsAsked database (F.files shelf.old) query.now (F.faults shelf.old query.now) (F.faults shelf.new query.now) (refusal_of result) }
+/// The plan of a query over a database, or the limit that it passes.
+fn plan_of(alloc: Global, database: &Database, query: &Query) -> Result<Plan, Refusal>
+    requires elements { HasElements (form_of query.now.body) }
+    requires points { AllByRecursion (λ at. pos 1 ≤ℤ at.period) (points (form_of query.now.body)) }
+    ensures planned { IsPlanned database.now (queried query.now) result }
+    ensures writable { IfOk result (λ p. AllByRecursion HasPeriods p.steps) }
 {
-    match query_of(alloc, &database, query, shelf) {
-        Ok(query) => Ok(Question { database, query }),
-        Err(refusal) => Err(refusal),
-    }
+    let planned = plan(alloc, query, database)?;
+    Ok(planned)
 }

@@ -1,6 +1,8 @@
 // A run: one decision, and then one writer.
 ghost use Rattle.std.specs.Prelude.{◌≡◌};
-ghost use Rattle.lrp_top.specs.Outcomes.{Outcome, status_of, IsDue, Ends};
+ghost use Rattle.lrp_top.specs.Due.{IsDue};
+ghost use Rattle.lrp_top.specs.Outcomes.{Outcome, status_of, Ends};
+ghost use Rattle.lrp_top.specs.Seen.{seen_of};
 
 use crate::Status;
 use crate::deciding::decide;
@@ -14,7 +16,7 @@ use std::alloc::Global;
 /// No memory is taken once the first byte is written, so a run that has begun to write ends with
 /// its outcome's status, or with `Write`.
 pub fn run<F: Shelf, S: Sink>(alloc: Global, words: &[String], shelf: &mut F, out: &mut S) -> Status
-    ensures { (outcome : Outcome) × IsDue words.now (F.files shelf.old) (F.faults shelf.old) (F.faults shelf.new) outcome × Ends outcome (S.written out.old) (S.written out.new) (S.faults out.old) (S.faults out.new) result }
+    ensures { (outcome : Outcome) × IsDue words.now (seen_of (F.files shelf.old) (F.faults shelf.old) (F.faults shelf.new) (F.given shelf.new) (F.may_be shelf.new)) outcome × Ends outcome (S.written out.old) (S.written out.new) (S.faults out.old) (S.faults out.new) result }
 {
     let outcome = decide(alloc, words, shelf);
     match write_outcome(out, &outcome) {

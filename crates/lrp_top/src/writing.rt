@@ -3,23 +3,43 @@ ghost use Rattle.std.specs.Prelude.{◌≡◌};
 ghost use Rattle.std.specs.List.{flat_map};
 ghost use Rattle.lrp_io.specs.Causes.{HasCause};
 ghost use Rattle.lrp_io.specs.Pieces.{IsWritten};
-ghost use Rattle.lrp_top.specs.Outcomes.{fault_line, line_of, text_of};
+ghost use Rattle.lrp_top.specs.Outcomes.{CanBeWritten, fault_line, line_of, text_of};
 
 use crate::outcome::{Output, Refusal};
 use itoa::Buffer;
-use lrp_io::{Failed, Sink, put_all};
+use lrp_io::{Failed, Sink, Text, write_buffered};
 use lrp_model::Place;
-use lrp_rel::write_database;
+use lrp_plan_text::write_plan;
+use lrp_print::write_bytes;
+use lrp_rel::{Database, write_database};
 
 /// Writes an outcome's text, or a front of it where the sink fails.
 pub fn write_outcome<S: Sink>(out: &mut S, outcome: &Result<Output, Refusal>) -> Result<(), Failed>
+    requires { CanBeWritten outcome.now }
     ensures text { IsWritten (S.written out.old) (S.written out.new) (text_of outcome.now) result }
     ensures cause { HasCause (S.faults out.old) (S.faults out.new) result }
 {
     match outcome {
         Ok(Output::Text(text)) => write_bytes(out, text.as_slice()),
-        Ok(Output::Relations(database)) => write_database(out, database),
+        Ok(Output::Relations(database)) => write_buffered(out, &DatabaseText { database }),
+        Ok(Output::Plan(plan)) => write_plan(out, plan),
         Err(refusal) => write_refusal(out, refusal),
+    }
+}
+
+/// The text of a database, which is made of many small pieces.
+#[derive(Drop)]
+struct DatabaseText<'a> {
+    database: &'a Database,
+}
+
+impl Text for DatabaseText<'_> {
+    ghost use Rattle.lrp_model.specs.Printed.{database_bytes};
+
+    ghost text = { λ s. database_bytes s.database.now };
+
+    fn write_to<S: Sink>(&self, out: &mut S) -> Result<(), Failed> {
+        write_database(out, self.database)
     }
 }
 
@@ -42,6 +62,8 @@ fn write_refusal<S: Sink>(out: &mut S, refusal: &Refusal) -> Result<(), Failed>
         Refusal::Query(fault) => {
             write_fault(out, b"refused: query ", fault.kind.word(), fault.place)
         }
+        Refusal::PeriodLimit => write_bytes(out, b"refused: period above 4611686018427387904\n"),
+        Refusal::BoundLimit => write_bytes(out, b"refused: bound above 4611686018427387904\n"),
         Refusal::Memory => write_bytes(out, b"refused: memory\n"),
         Refusal::Unbuilt => write_bytes(out, b"refused: unbuilt\n"),
     }
@@ -75,12 +97,4 @@ fn write_pieces<S: Sink>(out: &mut S, pieces: &[&[u8]]) -> Result<(), Failed>
         write_bytes(out, piece)?;
     }
     Ok(())
-}
-
-/// Writes these bytes.
-fn write_bytes<S: Sink>(out: &mut S, bytes: &[u8]) -> Result<(), Failed>
-    ensures text { IsWritten (S.written out.old) (S.written out.new) bytes.now result }
-    ensures cause { HasCause (S.faults out.old) (S.faults out.new) result }
-{
-    put_all(out, bytes)
 }

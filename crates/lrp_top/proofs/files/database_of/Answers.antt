@@ -1,21 +1,36 @@
 -- The bytes that were read, or why none were.
-use Rattle.std.proofs.Common.{Err, ap, subst}
-use Rattle.lrp_top.proofs.FileLemmas.{long_database, no_memory, unread_database}
-use Rattle.lrp_top.specs.Outcomes.{IsReadOf}
+use Rattle.std.proofs.Common.{Err, ap, arith, subst}
+use Rattle.lrp_top.proofs.FileLemmas.{few_given, long_database, no_memory, unread_database}
+use Rattle.lrp_top.specs.Due.{IsReadOf}
+use Rattle.lrp_top.specs.Seen.{seen_of}
 use Rattle.lrp_top.proofs.files.database_of.Goals as goal
 
 pub returns-in-Ok-clause-read : goal.returns-in-Ok-clause-read
-returns-in-Ok-clause-read g c = record {
-  bytes = c.in-Ok.bytes;
-  told = λ held e. c.in-Ok.ensures.whole held e;
-  is = subst (λ bytes. IsReadOf bytes (g.F.Shelf.faults c.args.shelf.now c.args.name.now) (g.F.Shelf.faults c.load.new.shelf c.args.name.now) c.read.result) c.as_slice.ensures (c.read.ensures (g.F.Shelf.faults c.args.shelf.now c.args.name.now) (g.F.Shelf.faults c.load.new.shelf c.args.name.now));
-}
+returns-in-Ok-clause-read g c =
+    let seen = seen_of (g.F.Shelf.files c.args.shelf.now) (g.F.Shelf.faults c.args.shelf.now) (g.F.Shelf.faults c.load.new.shelf) (g.F.Shelf.given c.load.new.shelf) (g.F.Shelf.may_be c.load.new.shelf) in
+    record {
+      bytes = c.in-Ok.bytes;
+      told = λ held e. c.in-Ok.ensures.whole held e;
+      is = subst (λ bytes. IsReadOf seen c.args.name.now bytes c.read.result) c.as_slice.ensures (c.read.ensures seen c.args.name.now);
+    }
+
+pub returns-in-Ok-clause-long : goal.returns-in-Ok-clause-long
+returns-in-Ok-clause-long g c =
+    let seen = seen_of (g.F.Shelf.files c.args.shelf.now) (g.F.Shelf.faults c.args.shelf.now) (g.F.Shelf.faults c.load.new.shelf) (g.F.Shelf.given c.load.new.shelf) (g.F.Shelf.may_be c.load.new.shelf) in
+    λ name over. few_given seen name (omega (arith, c.in-Ok.ensures.count, c.in-Ok.ensures.short)) over
 
 pub returns-in-Err-Failed-clause-read : goal.returns-in-Err-Failed-clause-read
-returns-in-Err-Failed-clause-read g c = unread_database (g.F.Shelf.files c.args.shelf.now) c.args.name.now _ _ (c.in-Err-Failed.ensures.failed (ap Err c.in-Err-Failed.field-0-is))
+returns-in-Err-Failed-clause-read g c = unread_database _ c.args.name.now (c.in-Err-Failed.ensures.failed (ap Err c.in-Err-Failed.field-0-is))
+
+pub returns-in-Err-Failed-clause-long : goal.returns-in-Err-Failed-clause-long
+returns-in-Err-Failed-clause-long g c =
+    let seen = seen_of (g.F.Shelf.files c.args.shelf.now) (g.F.Shelf.faults c.args.shelf.now) (g.F.Shelf.faults c.load.new.shelf) (g.F.Shelf.given c.load.new.shelf) (g.F.Shelf.may_be c.load.new.shelf) in
+    λ name over. few_given seen name (c.in-Err-Failed.ensures.failed_short name (ap Err c.in-Err-Failed.field-0-is) over.named) over
 
 pub returns-in-Err-TooLong-clause-read : goal.returns-in-Err-TooLong-clause-read
-returns-in-Err-TooLong-clause-read g c = long_database (g.F.Shelf.files c.args.shelf.now) c.args.name.now _ _ (λ held e. c.in-Err-TooLong.ensures.too_long_told held e (ap Err c.in-Err-TooLong.field-0-is))
+returns-in-Err-TooLong-clause-read g c =
+    let e = ap Err c.in-Err-TooLong.field-0-is in
+    long_database _ c.args.name.now (λ held f. c.in-Err-TooLong.ensures.too_long_told held f e) (c.in-Err-TooLong.ensures.too_long_named e) (c.in-Err-TooLong.ensures.too_long e)
 
 pub returns-in-Err-Memory-clause-read : goal.returns-in-Err-Memory-clause-read
-returns-in-Err-Memory-clause-read g c = no_memory (g.F.Shelf.files c.args.shelf.now) c.args.name.now _ _
+returns-in-Err-Memory-clause-read g c = no_memory _ c.args.name.now

@@ -1,6 +1,6 @@
 -- The pieces are the line.
 use Rattle.std.proofs.Common.{◌∙◌, refl}
-use Rattle.lrp_rel.proofs.Pieces.{written_as}
+use Rattle.lrp_print.proofs.Lines.{written_as}
 use Rattle.lrp_top.proofs.LineLemmas.{fault_pieces}
 use Rattle.lrp_top.proofs.writing.write_fault.Goals as goal
 

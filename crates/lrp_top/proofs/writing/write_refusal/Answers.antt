@@ -1,7 +1,7 @@
 -- Each refusal has its line.
 use Rattle.std.proofs.Common.{◌∙◌, sym, ap}
 use Rattle.std.specs.Prelude.{codes}
-use Rattle.lrp_rel.proofs.Pieces.{written_as}
+use Rattle.lrp_print.proofs.Lines.{written_as}
 use Rattle.lrp_top.specs.Outcomes.{fault_line, line_of}
 use Rattle.lrp_top.proofs.writing.write_refusal.Goals as goal
 

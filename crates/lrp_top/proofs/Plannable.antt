@@ -1,0 +1,79 @@
+-- A query that is read can be planned: each `and` and `or` has a member, and each point has a period.
+use Rattle.std.proofs.Common.{◌≡◌, ◌∙◌, pos, ◌≤ℤ◌, List, ◌++◌, ap₂, refl, sym, subst}
+use Rattle.std.specs.List.{AllByRecursion}
+use Rattle.lrp_model.proofs.Logic.{all_append}
+use Rattle.lrp_model.specs.Formulas.{Form, Forms, atom, test, sorted, negation, conjunction, disjunction, implication, exists, forall, no_forms, form}
+use Rattle.lrp_model.specs.RawQueries.{RawForm, RawForms, raw_atom, raw_compare, raw_member, raw_not, raw_and, raw_or, raw_implies, raw_group, raw_exists, raw_forall, no_raws, raw}
+use Rattle.lrp_model.specs.declared.formulas.Test.TheVariants.{Compare, Member, Equal}
+use Rattle.lrp_model.specs.declared.relations.RowPoint.{RowPoint}
+use Rattle.lrp_plan_laws.specs.Points as planned
+use Rattle.lrp_query.specs.Lawful.{FitsRaw, FitRaws, HasTwo}
+use Rattle.lrp_sorts.specs.Carried.{HasMember, HasMembers, HaveMembers, raw_points, raw_points_each, points, points_each}
+
+-- two members are one
+one_of_two : (fs : RawForms) → HasTwo fs → HasMember fs
+one_of_two no_raws h = absurd h
+one_of_two (raw f fs) h = tt
+
+mutual
+  -- each `and` and `or` of a formula that is read has a member
+  pub has_members : (f : RawForm) → FitsRaw f → HasMembers f
+  has_members (raw_atom p n ts) h = tt
+  has_members (raw_compare p l op r) h = tt
+  has_members (raw_member p t q) h = tt
+  has_members (raw_not p f) h = has_members f h
+  has_members (raw_and p fs) h = (one_of_two fs h.0, have_members fs h.1)
+  has_members (raw_or p fs) h = (one_of_two fs h.0, have_members fs h.1)
+  has_members (raw_implies p f g) h = (has_members f h.0, has_members g h.1)
+  has_members (raw_group p f) h = has_members f h
+  has_members (raw_exists p c f) h = has_members f h
+  has_members (raw_forall p c f) h = has_members f h
+
+  have_members : (fs : RawForms) → FitRaws fs → HaveMembers fs
+  have_members no_raws h = tt
+  have_members (raw f fs) h = (has_members f h.0, have_members fs h.1)
+
+-- a period of at least 1
+abbrev pub Repeats : RowPoint → Type 0
+Repeats point = pos 1 ≤ℤ point.period
+
+mutual
+  -- each point of a formula that is read has one
+  points_repeat : (f : RawForm) → FitsRaw f → AllByRecursion Repeats (raw_points f)
+  points_repeat (raw_atom p n ts) h = tt
+  points_repeat (raw_compare p l op r) h = tt
+  points_repeat (raw_member p t q) h = (h.1.1, tt)
+  points_repeat (raw_not p f) h = points_repeat f h
+  points_repeat (raw_and p fs) h = each_repeats fs h.1
+  points_repeat (raw_or p fs) h = each_repeats fs h.1
+  points_repeat (raw_implies p f g) h = (all_append Repeats (raw_points f) (raw_points g)).1 (points_repeat f h.0, points_repeat g h.1)
+  points_repeat (raw_group p f) h = points_repeat f h
+  points_repeat (raw_exists p c f) h = points_repeat f h
+  points_repeat (raw_forall p c f) h = points_repeat f h
+
+  each_repeats : (fs : RawForms) → FitRaws fs → AllByRecursion Repeats (raw_points_each fs)
+  each_repeats no_raws h = tt
+  each_repeats (raw f fs) h = (all_append Repeats (raw_points f) (raw_points_each fs)).1 (points_repeat f h.0, each_repeats fs h.1)
+
+mutual
+  -- the points of a formula, as the planner and as the checker tell them
+  same_points : (f : Form) → planned.points f ≡ points f
+  same_points (atom n ts) = refl
+  same_points (test (Compare l op r)) = refl
+  same_points (test (Member t point)) = refl
+  same_points (test (Equal l r)) = refl
+  same_points (sorted s v) = refl
+  same_points (negation f) = same_points f
+  same_points (conjunction fs) = same_points_each fs
+  same_points (disjunction fs) = same_points_each fs
+  same_points (implication f g) = ap₂ (λ ps qs. ps ++ qs) (same_points f) (same_points g)
+  same_points (exists v s f) = same_points f
+  same_points (forall v s f) = same_points f
+
+  same_points_each : (fs : Forms) → planned.points_each fs ≡ points_each fs
+  same_points_each no_forms = refl
+  same_points_each (form f fs) = ap₂ (λ ps qs. ps ++ qs) (same_points f) (same_points_each fs)
+
+-- a formula with the points of one that was read has points with periods
+pub has_periods : (f : Form) (from : RawForm) → FitsRaw from → points f ≡ raw_points from → AllByRecursion Repeats (planned.points f)
+has_periods f from h e = let P : List RowPoint → Type 0 = λ ps. AllByRecursion Repeats ps in subst P (sym (same_points f ∙ e)) (points_repeat from h)

@@ -1,0 +1,10 @@
+-- The relations of the bytes that were read.
+use Rattle.std.proofs.Common.{Ok, refl}
+use Rattle.lrp_top.proofs.deciding.check.Goals as goal
+
+pub returns-in-Ok-clause-due : goal.returns-in-Ok-clause-due
+returns-in-Ok-clause-due g c = record {
+  first = Ok c.in-Ok.relations;
+  is = c.in-Ok.ensures.read;
+  next = (refl, c.databases_read_back.ensures c.in-Ok.ensures.read.bytes c.in-Ok.relations c.in-Ok.ensures.read.is.1);
+}
