@@ -30,6 +30,20 @@ fn words_of(alloc: Global, command: &str) -> Result<Vec<String>, Fail> {
     Ok(words)
 }
 
+// How a run on these files ends, and what it writes into a sink that takes four bytes a call.
+fn outcome(
+    alloc: Global,
+    command: &str,
+    database: &str,
+    query: &str,
+) -> Result<(Status, Vec<u8>), Fail> {
+    let mut shelf = shelf_of(alloc, database, query, &[])?;
+    let mut out = MemSink::new(alloc, List::new(alloc), 4)?;
+    let words = words_of(alloc, command)?;
+    let ended = run(alloc, words.as_slice(), &mut shelf, &mut out);
+    Ok((ended, out.written().to_vec(alloc)?))
+}
+
 const BUS: &str = "relation bus(t: time) { (5+60n); }\n";
 
 const DEPARTURES: &str = "{ t: time | bus(t) }\n";
@@ -39,6 +53,21 @@ const DEEP: &str =
     "{ | not not not not not not not not not not not not not not not not not not not not not not not not not not not not not not not not not not not not not not not not not not not not not not not not not not not not not not not not not not not not not not not not 0 <= 0 }";
 
 const ASK: &str = "ask db=d query=q";
+
+const EXPLAIN: &str = "explain db=d query=q";
+
+// The commands that read a query.
+const QUESTIONS: [&str; 4] = [
+    ASK,
+    "decide db=d query=q",
+    "list db=d query=q from=0 to=9",
+    EXPLAIN,
+];
+
+const TRIPS: &str =
+    "relation trip(t: time, l: line, c: city) { (5+60n, \"7\", \"Port\"); } relation lines(l: line) { (\"9\"); }";
+
+const NEVER: &str = "{ l: line | not exists t: time exists c: city trip(t, l, c) }";
 
 #[test]
 fn queries_are_answered(rt: HostRuntime) -> Result<(), Fail> {
@@ -162,8 +191,8 @@ fn words_and_files_are_refused(rt: HostRuntime) -> Result<(), Fail> {
         (
             "explain db=d query=q",
             BUS,
-            Status::Unbuilt,
-            "refused: unbuilt\n",
+            Status::Done,
+            "1 scan bus(t) [period 60, reach 60]\n2 head 1 [period 60, reach 60]\n",
         ),
         (
             "sample seed=0 size=1",
@@ -186,8 +215,8 @@ fn words_and_files_are_refused(rt: HostRuntime) -> Result<(), Fail> {
         (
             ASK,
             "relation bus(t: time) { (5+1152921504606846977n); }",
-            Status::Unbuilt,
-            "refused: unbuilt\n",
+            Status::Limit,
+            "refused: bound above 4611686018427387904\n",
         ),
         (
             ASK,
@@ -203,12 +232,9 @@ fn words_and_files_are_refused(rt: HostRuntime) -> Result<(), Fail> {
         ),
     ];
     for (words, database, status, want) in table {
-        let mut shelf = shelf_of(alloc, database, DEPARTURES, &[])?;
-        let mut out = MemSink::new(alloc, List::new(alloc), 4)?;
-        let words = words_of(alloc, words)?;
-        let ended = run(alloc, words.as_slice(), &mut shelf, &mut out);
+        let (ended, written) = outcome(alloc, words, database, DEPARTURES)?;
         assert_eq!(rt; ended, status, "{database}");
-        assert_eq!(rt; out.written(), want.as_bytes());
+        assert_eq!(rt; written.as_slice(), want.as_bytes());
     }
     Ok(())
 }
@@ -243,22 +269,134 @@ fn queries_are_refused(rt: HostRuntime) -> Result<(), Fail> {
         ("{ | bus(t) }", "refused: query Unbound at 1:9\n"),
         ("{ l: lime | l = l }", "refused: query UnknownSort at 1:6\n"),
     ];
-    let commands = [
-        ASK,
-        "decide db=d query=q",
-        "list db=d query=q from=0 to=9",
-        "explain db=d query=q",
-    ];
     for (query, want) in table {
-        for command in commands {
-            let mut shelf = shelf_of(alloc, BUS, query, &[])?;
-            let mut out = MemSink::new(alloc, List::new(alloc), 4)?;
-            let words = words_of(alloc, command)?;
-            let ended = run(alloc, words.as_slice(), &mut shelf, &mut out);
+        for command in QUESTIONS {
+            let (ended, written) = outcome(alloc, command, BUS, query)?;
             assert_eq!(rt; ended, Status::Query, "{query}");
-            assert_eq!(rt; out.written(), want.as_bytes());
+            assert_eq!(rt; written.as_slice(), want.as_bytes());
         }
     }
+    Ok(())
+}
+
+#[test]
+fn plans_are_explained(rt: HostRuntime) -> Result<(), Fail> {
+    let alloc = rt.alloc();
+    let table = [
+        (
+            "relation a(t: time) { (0+6n); } relation b(t: time) { (3+9n); }",
+            "{ t: time | (a(t) and b(t)) }",
+            "1 scan a(t) [period 6, reach 6]\n2 scan b(t) [period 9, reach 9]\n3 join 1 2 [period 18, reach 27]\n4 head 3 [period 18, reach 27]\n",
+        ),
+        (
+            "",
+            "{ y: time | exists x: time (x in 0+4n and y >= x + 1 and y <= x + 2) }",
+            "1 point x in 0+4n [period 4, reach 4]\n2 compare x + 1 <= y [period 1, reach 2]\n3 join 1 2 where y <= x + 2 [period 4, reach 8]\n4 drop 3 x [period 4, reach 16]\n5 head 4 [period 4, reach 16]\n",
+        ),
+        (
+            TRIPS,
+            NEVER,
+            "1 sort line(l) [period 1, reach 1]\n2 sort city(c) [period 1, reach 1]\n3 scan trip(t, l, c) [period 60, reach 60]\n4 join 2 3 [period 60, reach 120]\n5 drop 4 c [period 60, reach 120]\n6 drop 5 t [period 60, reach 240]\n7 minus 1 6 [period 60, reach 360]\n8 head 7 [period 60, reach 360]\n",
+        ),
+        (
+            "relation r(t: time, u: time) { (0+2n, 1+2n) where u >= t, u <= t + 9; }",
+            "{ t: time, u: time | (r(t, u) and u <= t + 5) }",
+            "1 scan r(t, u) [period 2, reach 11]\n2 select 1 u <= t + 5 [period 2, reach 13]\n3 head 2 [period 2, reach 13]\n",
+        ),
+    ];
+    for (database, query, want) in table {
+        let (ended, written) = outcome(alloc, EXPLAIN, database, query)?;
+        assert_eq!(rt; ended, Status::Done, "{query}");
+        assert_eq!(rt; written.as_slice(), want.as_bytes());
+    }
+    Ok(())
+}
+
+#[test]
+fn limits_are_refused(rt: HostRuntime) -> Result<(), Fail> {
+    let alloc = rt.alloc();
+    let database =
+        "relation a(t: time) { (0+4611686018427387904n); } relation b(t: time) { (0+3n); }";
+    let table = [
+        (
+            "{ t: time | (a(t) and b(t)) }",
+            "refused: period above 4611686018427387904\n",
+        ),
+        (
+            "{ | exists t: time a(t) }",
+            "refused: bound above 4611686018427387904\n",
+        ),
+        (
+            "{ | exists t: time t <= 1152921504606846976 }",
+            "refused: bound above 4611686018427387904\n",
+        ),
+    ];
+    for (query, want) in table {
+        for command in QUESTIONS {
+            let (ended, written) = outcome(alloc, command, database, query)?;
+            assert_eq!(rt; ended, Status::Limit, "{query}");
+            assert_eq!(rt; written.as_slice(), want.as_bytes());
+        }
+    }
+    let within = "{ | exists t: time t <= 1152921504606846975 }";
+    let (ended, written) = outcome(alloc, EXPLAIN, database, within)?;
+    assert_eq!(rt; ended, Status::Done);
+    let want =
+        "1 compare t <= 1152921504606846975 [period 1, reach 1152921504606846976]\n2 drop 1 t [period 1, reach 2305843009213693952]\n3 head 2 [period 1, reach 2305843009213693952]\n";
+    assert_eq!(rt; written.as_slice(), want.as_bytes());
+    Ok(())
+}
+
+// How the check of a database of so many blanks ends, and what it writes.
+fn check_of_blanks(alloc: Global, count: usize) -> Result<(Status, Vec<u8>), Fail> {
+    let mut files = List::new(alloc);
+    files.push(File {
+        name: Name::new(alloc, "d")?,
+        bytes: List::from_vec(vec![in alloc; b' '; count]?),
+    })?;
+    let mut shelf = MemShelf::new(files, List::new(alloc));
+    let mut out = MemSink::new(alloc, List::new(alloc), 4)?;
+    let words = words_of(alloc, "check db=d")?;
+    let ended = run(alloc, words.as_slice(), &mut shelf, &mut out);
+    Ok((ended, out.written().to_vec(alloc)?))
+}
+
+#[test]
+fn blanks_are_a_database_up_to_the_limit(rt: HostRuntime) -> Result<(), Fail> {
+    let alloc = rt.alloc();
+    let (ended, written) = check_of_blanks(alloc, 16_777_216)?;
+    assert_eq!(rt; ended, Status::Done);
+    assert_eq!(rt; written.as_slice(), b"".as_slice());
+    let (ended, written) = check_of_blanks(alloc, 16_777_217)?;
+    assert_eq!(rt; ended, Status::Database);
+    assert_eq!(rt;
+        written.as_slice(),
+        b"refused: database longer than 16777216 bytes\n".as_slice()
+    );
+    Ok(())
+}
+
+// How an explanation ends in a sink with room for so many bytes, and what it has then.
+fn explained_within(alloc: Global, room: usize) -> Result<(Status, Vec<u8>), Fail> {
+    let mut shelf = shelf_of(alloc, BUS, DEPARTURES, &[])?;
+    let mut out = MemSink::stop_after(alloc, room.min(1_048_576), 4)?;
+    let words = words_of(alloc, EXPLAIN)?;
+    let ended = run(alloc, words.as_slice(), &mut shelf, &mut out);
+    Ok((ended, out.written().to_vec(alloc)?))
+}
+
+#[test]
+fn stopped_sinks_hold_a_front_of_a_plan(rt: HostRuntime) -> Result<(), Fail> {
+    let alloc = rt.alloc();
+    let text = b"1 scan bus(t) [period 60, reach 60]\n2 head 1 [period 60, reach 60]\n".as_slice();
+    for room in 0..text.len() {
+        let (ended, written) = explained_within(alloc, room)?;
+        assert_eq!(rt; ended, Status::Write, "room for {room}");
+        assert_eq!(rt; written.as_slice(), &text[..room]);
+    }
+    let (ended, written) = explained_within(alloc, text.len())?;
+    assert_eq!(rt; ended, Status::Done);
+    assert_eq!(rt; written.as_slice(), text);
     Ok(())
 }
 
