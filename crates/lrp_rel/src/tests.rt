@@ -90,6 +90,7 @@ fn lawful_texts_have_no_fault(rt: HostRuntime) -> Result<(), Fail> {
 fn faults_of_the_grammar_have_their_places(rt: HostRuntime) -> Result<(), Fail> {
     let alloc = rt.alloc();
     for (text, fault) in [
+        ("}", at(DbKind::Syntax, 1, 1)),
         ("relation", at(DbKind::Syntax, 1, 9)),
         ("relation n() { }", at(DbKind::Syntax, 1, 10)),
         ("relation a() { }\n}", at(DbKind::Syntax, 2, 1)),
@@ -105,8 +106,16 @@ fn faults_of_the_grammar_have_their_places(rt: HostRuntime) -> Result<(), Fail> 
             at(DbKind::Number, 1, 26),
         ),
         (
+            "relation r(t: time) { (0) where t <= 4611686018427387905; }",
+            at(DbKind::Number, 1, 38),
+        ),
+        (
             "relation a(t: time) { (1+0n, 4611686018427387905); }",
             at(DbKind::Period, 1, 26),
+        ),
+        (
+            "relation a(t: time, u: time) { (1, 2+0n); }",
+            at(DbKind::Period, 1, 38),
         ),
     ] {
         assert_eq!(rt; fault_of(alloc, text.as_bytes()), fault, "{text}");
@@ -124,6 +133,10 @@ fn faults_of_the_tree_have_their_places(rt: HostRuntime) -> Result<(), Fail> {
             at(DbKind::Name, 3, 10),
         ),
         ("relation a(t: time, t: data) { }", at(DbKind::Name, 1, 21)),
+        (
+            "relation a() { } relation b(t: time, d: data, t: data) { }",
+            at(DbKind::Name, 1, 47),
+        ),
         ("relation a(t: time) { (); }", at(DbKind::Arity, 1, 23)),
         (
             "relation a(t: time) { (1);\n(1, 2); }",
@@ -143,8 +156,16 @@ fn faults_of_the_tree_have_their_places(rt: HostRuntime) -> Result<(), Fail> {
             at(DbKind::Column, 2, 6),
         ),
         (
+            "relation a(t: time, d: data) { (1, \"x\") where t <= 1, t >= t, t = d; }",
+            at(DbKind::Column, 1, 67),
+        ),
+        (
             "relation w(a: time, b: time, c: time, d: time, e: time, f: time, g: time, h: time, i: time) { }",
             at(DbKind::Wide, 1, 84),
+        ),
+        (
+            "relation a() { }\nrelation w(a: time, b: time, c: time, d: time, e: time, f: time, g: time, h: time, i: time) { }",
+            at(DbKind::Wide, 2, 84),
         ),
         (
             "relation a(t: time, a: data, b: line, c: data, d: line, e: data, f: line, g: data, h: line, i: stop) { }",
@@ -171,6 +192,14 @@ fn the_first_of_two_faults_is_told(rt: HostRuntime) -> Result<(), Fail> {
             at(DbKind::Syntax, 1, 29),
         ),
         (
+            b"relation a(t: time) { (); (4611686018427387905); }".as_slice(),
+            at(DbKind::Number, 1, 28),
+        ),
+        (
+            b"relation a(t: time) { (); (1+0n); }".as_slice(),
+            at(DbKind::Period, 1, 30),
+        ),
+        (
             b"relation a(t: time) { (\"x\", 1); }".as_slice(),
             at(DbKind::Arity, 1, 23),
         ),
@@ -188,10 +217,11 @@ fn the_first_of_two_faults_is_told(rt: HostRuntime) -> Result<(), Fail> {
     Ok(())
 }
 
-// The text of a database with one text of so many bytes.
-fn long_text(alloc: Global, count: usize) -> Result<String, AllocError> {
+// The text of a database that goes on behind this front with a text of so many bytes, and ends.
+fn long_text(alloc: Global, front: &str, count: usize) -> Result<String, AllocError> {
     let mut text = String::new(alloc);
-    text.push_str("relation r(d: data) { (\"")?;
+    text.push_str(front)?;
+    text.push('"')?;
     for _ in 0..count {
         text.push('A')?;
     }
@@ -202,13 +232,66 @@ fn long_text(alloc: Global, count: usize) -> Result<String, AllocError> {
 #[test]
 fn texts_have_at_most_255_bytes(rt: HostRuntime) -> Result<(), Fail> {
     let alloc = rt.alloc();
-    let longest = long_text(alloc, 255)?;
-    let longer = long_text(alloc, 256)?;
-    assert_eq!(rt; fault_of(alloc, longest.as_bytes()), None);
-    assert_eq!(rt;
-        fault_of(alloc, longer.as_bytes()),
-        at(DbKind::TextTooLong, 1, 24)
-    );
+    for (front, fault) in [
+        ("relation r(d: data) { (", at(DbKind::TextTooLong, 1, 24)),
+        (
+            "relation r(d: data, e: data) { (\"x\", ",
+            at(DbKind::TextTooLong, 1, 38),
+        ),
+    ] {
+        let longest = long_text(alloc, front, 255)?;
+        let longer = long_text(alloc, front, 256)?;
+        assert_eq!(rt; fault_of(alloc, longest.as_bytes()), None);
+        assert_eq!(rt; fault_of(alloc, longer.as_bytes()), fault);
+    }
+    Ok(())
+}
+
+// The first length at which the front of some bytes is refused otherwise than for its syntax.
+fn front_that_is_no_syntax_fault(alloc: Global, bytes: &[u8]) -> Option<usize> {
+    for length in 1..bytes.len() {
+        match fault_of(alloc, &bytes[..length]) {
+            Some(
+                DbFault {
+                    kind: DbKind::Syntax,
+                    ..
+                },
+            ) => {}
+            _ => return Some(length),
+        }
+    }
+    None
+}
+
+#[test]
+fn a_text_that_is_cut_off_is_refused_for_its_syntax(rt: HostRuntime) -> Result<(), Fail> {
+    let alloc = rt.alloc();
+    let text =
+        b"relation bus(dep: time, arr: time, line: data) { (5+60n, 30+60n, \"7\") where arr = dep + 25; }";
+    assert_eq!(rt; fault_of(alloc, text), None);
+    assert_eq!(rt; front_that_is_no_syntax_fault(alloc, text), None);
+    Ok(())
+}
+
+// How many relations so many blanks have, if they are a database.
+fn relations_of_blanks(alloc: Global, count: usize) -> Result<Option<usize>, AllocError> {
+    let mut blanks = Vec::new(alloc);
+    for _ in 0..count {
+        blanks.push(b' ')?;
+    }
+    if blanks.len() > 16_777_216 {
+        return Ok(None);
+    }
+    match read_database(alloc, &blanks) {
+        Ok(database) => Ok(Some(database.relations())),
+        Err(_) => Ok(None),
+    }
+}
+
+#[test]
+fn as_many_blanks_as_a_text_may_have_are_no_relations(rt: HostRuntime) -> Result<(), Fail> {
+    let relations = relations_of_blanks(rt.alloc(), 16_777_216)?;
+    assert_eq!(rt; relations, Some(0));
     Ok(())
 }
 
@@ -229,6 +312,27 @@ fn databases_are_written_as_they_are_kept(rt: HostRuntime) -> Result<(), Fail> {
     let want =
         b"relation s(x: time, y: time) {\n  (1+2n, 0+3n) where x <= y - 4, y <= x + 4, x >= -7, y <= x;\n}\n";
     assert_eq!(rt; out.written(), want.as_slice());
+    Ok(())
+}
+
+// What a sink with room for so many bytes has of a database whose writing failed there.
+fn written_front(alloc: Global, text: &str, room: usize) -> Result<MemSink, Memory> {
+    let database = database(alloc, text)?;
+    let mut out = MemSink::stop_after(alloc, room.min(1000), 7)?;
+    match write_database(&mut out, &database) {
+        Ok(()) => Err(Memory),
+        Err(_) => Ok(out),
+    }
+}
+
+#[test]
+fn a_sink_that_fails_has_a_front_of_the_text(rt: HostRuntime) -> Result<(), Fail> {
+    let alloc = rt.alloc();
+    let text = "relation r(t: time, d: data) { (480, \"a\"); }";
+    let out = written_front(alloc, text, 40)?;
+    let want = b"relation r(t: time, d: data) {\n  (0+1n, ";
+    assert_eq!(rt; out.written(), want.as_slice());
+    assert_eq!(rt; out.faults(), 1);
     Ok(())
 }
 
