@@ -57,8 +57,8 @@ impl From<Memory> for PlanFault {
 }
 
 /// The plan of a query: the steps of its core form and the step `head`, the head's columns, and all constants in order of
-/// bytes. A settled query, as each well-sorted one is by the law [`sorted_queries_are_settled`], has what is asked for; by
-/// [`settled_queries_have_sound_plans`] the last step of its plan then has exactly the answers.
+/// bytes. Each query that is read has what is asked for. Each well-sorted one is settled, by the law
+/// [`sorted_queries_are_settled`], and the last step of its plan then has exactly the answers.
 pub fn plan(alloc: Global, query: &Query, database: &Database) -> Result<Plan, PlanFault>
     requires elements { HasElements (form_of query.now.body) }
     requires points { AllByRecursion (λ at. pos 1 ≤ℤ at.period) (points (form_of query.now.body)) }
