@@ -199,6 +199,49 @@ fn kinds_at_one_place_have_their_ranks(rt: HostRuntime) -> Result<(), Fail> {
     Ok(())
 }
 
+#[test]
+fn the_first_of_several_faults_is_told(rt: HostRuntime) -> Result<(), Fail> {
+    let alloc = rt.alloc();
+    assert_eq!(rt; fault_of(alloc, b"\xff{ | \xff"), at(QueryKind::Utf8, 1, 1));
+    assert_eq!(rt;
+        fault_of(alloc, b"{ | (0 = 0 ) ) }"),
+        at(QueryKind::Syntax, 1, 14)
+    );
+    assert_eq!(rt;
+        fault_of(
+            alloc,
+            b"{ | (4611686018427387905 = 0 and 0 = 4611686018427387905) }"
+        ),
+        at(QueryKind::Number, 1, 6)
+    );
+    assert_eq!(rt;
+        fault_of(alloc, b"{ | (0 in 0+1n and 0 in 0+0n and 0 in 1+0n) }"),
+        at(QueryKind::Period, 1, 27)
+    );
+    let long = repeated(alloc, "{ | r(\"a\", \"", "a", 256, "\", 0+0n) }")?;
+    assert_eq!(rt; fault_of(alloc, &long), at(QueryKind::TextTooLong, 1, 12));
+    let first = repeated(alloc, "{ | (", "not ", 63, "0 = 0 and 0 = 0) }")?;
+    assert_eq!(rt; fault_of(alloc, &first), at(QueryKind::Deep, 1, 258));
+    let second = repeated(alloc, "{ | (0 = 0 implies ", "not ", 63, "0 = 0) }")?;
+    assert_eq!(rt; fault_of(alloc, &second), at(QueryKind::Deep, 1, 272));
+    Ok(())
+}
+
+#[test]
+fn faults_of_bytes_go_before_those_of_the_grammar(rt: HostRuntime) -> Result<(), Fail> {
+    let alloc = rt.alloc();
+    assert_eq!(rt; fault_of(alloc, b"{ | ) \xff"), at(QueryKind::Utf8, 1, 7));
+    assert_eq!(rt;
+        fault_of(alloc, b"{ | ) 4611686018427387905 }"),
+        at(QueryKind::Syntax, 1, 5)
+    );
+    assert_eq!(rt;
+        fault_of(alloc, b"{ | (0 in 0+0n ) ) }"),
+        at(QueryKind::Period, 1, 13)
+    );
+    Ok(())
+}
+
 fn query_of(alloc: Global, bytes: &[u8]) -> Option<RawQuery> {
     if bytes.len() > 1000 {
         return None;

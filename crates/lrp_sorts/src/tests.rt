@@ -45,6 +45,14 @@ fn well_sorted_queries_have_no_fault(rt: HostRuntime) -> Result<(), Fail> {
             "{ | (exists t: time bus(t) and exists t: time bus(t + 1)) }",
         ),
         (BUS, "{ d: data, t: time | (d = \"x\" implies t < 5) }"),
+        (
+            BUS,
+            "{ t: time | (exists u: time bus(t) and exists d: data bus(t)) }",
+        ),
+        (
+            "",
+            "{ a: time, b: time, c: time, d: time, e: time, f: time, g: time, h: time, i: data, j: data, k: data, l: data, m: data, o: data, p: data, q: data | 0 <= 0 }",
+        ),
         (TRIP, "{ l: line, c: city | (l = \"7\" and \"Port\" = c) }"),
         (TRIP, "{ l: line | exists t: time trip(t, l, \"Zoo\") }"),
         (
@@ -135,6 +143,91 @@ fn ninth_variables_are_too_many(rt: HostRuntime) -> Result<(), Fail> {
         ),
     ] {
         assert_eq!(rt; fault_of(alloc, BUS, query), fault, "{query}");
+    }
+    Ok(())
+}
+
+#[test]
+fn variables_of_each_kind_are_counted_apart(rt: HostRuntime) -> Result<(), Fail> {
+    let alloc = rt.alloc();
+    for (db, query, fault) in [
+        (
+            TRIP,
+            "{ a: data, b: line, c: city, d: data, e: line, f: city, g: data, h: line, i: city | 0 <= 0 }",
+            at(QueryKind::Wide, 75),
+        ),
+        (
+            "",
+            "{ a: time, b: time, c: time, d: time, e: time, f: time, g: time, h: time, a: time | 0 <= 0 }",
+            at(QueryKind::Rebound, 75),
+        ),
+        (
+            "",
+            "{ a: time, b: time, c: time, d: time, e: time, f: time, g: time, h: time | ((a <= b and c <= d and e <= f and g <= h) or exists i: time not (a <= b and c <= d and e <= f and g <= h and 0 <= i)) }",
+            at(QueryKind::Wide, 137),
+        ),
+        (
+            "",
+            "{ | exists a: data exists b: data exists c: data exists d: data exists e: data exists f: data exists g: data exists h: data exists i: data (a = b and c = d and e = f and g = h) }",
+            at(QueryKind::Wide, 140),
+        ),
+    ] {
+        assert_eq!(rt; fault_of(alloc, db, query), fault, "{query}");
+    }
+    Ok(())
+}
+
+#[test]
+fn the_earliest_of_several_faults_is_told(rt: HostRuntime) -> Result<(), Fail> {
+    let alloc = rt.alloc();
+    for (db, query, fault) in [
+        (
+            BUS,
+            "{ | (tram(x) and bus(x)) }",
+            at(QueryKind::UnknownRelation, 6),
+        ),
+        (
+            BUS,
+            "{ | (bus(x) and tram(x)) }",
+            at(QueryKind::Unbound, 10),
+        ),
+        (
+            BUS,
+            "{ | (train() or tram()) }",
+            at(QueryKind::UnknownRelation, 6),
+        ),
+        (
+            BUS,
+            "{ t: time | (bus(t) and bus(t, t) and bus()) }",
+            at(QueryKind::Arity, 25),
+        ),
+        (
+            TRIP,
+            "{ l: line, c: city | (l = \"7\" and c = l and l = c) }",
+            at(QueryKind::Sort, 39),
+        ),
+        (
+            BUS,
+            "{ t: time | (exists u: time bus(u) and exists t: time exists t: time bus(t)) }",
+            at(QueryKind::Rebound, 47),
+        ),
+        (
+            TRIP,
+            "{ l: line, c: lime, d: lame | l = l }",
+            at(QueryKind::UnknownSort, 15),
+        ),
+        (
+            TRIP,
+            "{ | exists l: lame l = l }",
+            at(QueryKind::UnknownSort, 15),
+        ),
+        (
+            "",
+            "{ d: data, t: time | (t <= 5 and t < d and d in 0+4n) }",
+            at(QueryKind::Sort, 38),
+        ),
+    ] {
+        assert_eq!(rt; fault_of(alloc, db, query), fault, "{query}");
     }
     Ok(())
 }
