@@ -16,4 +16,6 @@ pub use running::run;
 pub use status::Status;
 
 #[cfg(test)]
+mod plan_tests;
+#[cfg(test)]
 mod tests;

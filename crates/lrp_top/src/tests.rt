@@ -31,7 +31,7 @@ fn words_of(alloc: Global, command: &str) -> Result<Vec<String>, Fail> {
 }
 
 // How a run on these files ends, and what it writes into a sink that takes four bytes a call.
-fn outcome(
+pub(crate) fn outcome(
     alloc: Global,
     command: &str,
     database: &str,
