@@ -1,5 +1,5 @@
 -- Questions: what is refused first, and what is due behind that.
-use Rattle.std.proofs.Common.{◌≡◌, ℕ, ◌≤◌, List, Bool, Option, Result, Ok, Err, arith, refl, sym, ◌∙◌, subst, ap}
+use Rattle.std.proofs.Common.{◌≡◌, ℕ, ◌≤◌, List, Bool, Option, Result, Ok, Err, arith, refl, sym, ◌∙◌, subst}
 use Rattle.lrp_io.specs.Causes.{Rose}
 use Rattle.lrp_io.specs.declared.shelf.File.{File}
 use Rattle.lrp_model.specs.Formulas.{Question as Queried, question_of}

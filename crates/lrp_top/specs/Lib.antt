@@ -6,3 +6,4 @@ pub mod Seen
 pub mod Steps
 pub mod Due
 pub mod Questions
+pub mod WritablePlans

@@ -1,14 +1,16 @@
 // The text of an outcome, piece by piece: no memory is taken.
 ghost use Rattle.std.specs.Prelude.{◌≡◌};
-ghost use Rattle.std.specs.List.{flat_map};
+ghost use Rattle.std.specs.List.{flat_map, AllByRecursion};
 ghost use Rattle.lrp_io.specs.Causes.{HasCause};
 ghost use Rattle.lrp_io.specs.Pieces.{IsWritten};
+ghost use Rattle.lrp_plan_text.specs.Writable.{HasPeriods};
+ghost use Rattle.lrp_top.specs.WritablePlans.{steps_prop};
 ghost use Rattle.lrp_top.specs.Outcomes.{CanBeWritten, fault_line, line_of, text_of};
 
 use crate::outcome::{Output, Refusal};
 use itoa::Buffer;
 use lrp_io::{Failed, Sink, Text, write_buffered};
-use lrp_model::Place;
+use lrp_model::{Place, Plan};
 use lrp_plan_text::write_plan;
 use lrp_print::write_bytes;
 use lrp_rel::{Database, write_database};
@@ -22,7 +24,7 @@ pub fn write_outcome<S: Sink>(out: &mut S, outcome: &Result<Output, Refusal>) ->
     match outcome {
         Ok(Output::Text(text)) => write_bytes(out, text.as_slice()),
         Ok(Output::Relations(database)) => write_buffered(out, &DatabaseText { database }),
-        Ok(Output::Plan(plan)) => write_plan(out, plan),
+        Ok(Output::Plan(plan)) => write_buffered(out, &PlanText { plan }),
         Err(refusal) => write_refusal(out, refusal),
     }
 }
@@ -40,6 +42,23 @@ impl Text for DatabaseText<'_> {
 
     fn write_to<S: Sink>(&self, out: &mut S) -> Result<(), Failed> {
         write_database(out, self.database)
+    }
+}
+
+/// The text of a plan, of which each line is made of many small pieces.
+#[derive(Drop)]
+struct PlanText<'a> {
+    plan: &'a Plan,
+    ghost writable: { AllByRecursion HasPeriods plan.now.steps } by { steps_prop plan.now.steps },
+}
+
+impl Text for PlanText<'_> {
+    ghost use Rattle.lrp_model.specs.PrintedPlans.{plan_bytes};
+
+    ghost text = { λ s. plan_bytes s.plan.now };
+
+    fn write_to<S: Sink>(&self, out: &mut S) -> Result<(), Failed> {
+        write_plan(out, self.plan)
     }
 }
 
