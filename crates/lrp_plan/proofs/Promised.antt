@@ -17,7 +17,8 @@ use Rattle.lrp_model.specs.declared.plans.Step.{Step}
 use Rattle.lrp_model.specs.declared.plans.StepKind.{StepKind}
 use Rattle.lrp_model.specs.declared.plans.StepKind.TheVariants.{Scan, Leaf, Sort as SortStep, Join, Select, Union, Minus, Complement, DropTime, DropData, Extend}
 use Rattle.lrp_model.proofs.Logic.{all_append}
-use Rattle.lrp_plan_laws.specs.Points.{test_points, points, step_points}
+use Rattle.lrp_model.specs.TestPoints.{test_points, points}
+use Rattle.lrp_plan_laws.specs.Points.{step_points}
 use Rattle.lrp_plan_laws.specs.Rising.{HasPeriods, row_periods}
 use Rattle.lrp_plan_laws.proofs.Members.{all_from, all_map}
 use Rattle.lrp_plan_laws.proofs.PointLaws.{points_known}

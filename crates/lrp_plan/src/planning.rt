@@ -11,7 +11,7 @@ ghost use Rattle.lrp_model.specs.Plans.{IsPlan};
 ghost use Rattle.lrp_model.specs.Satisfaction.{Structure, structure};
 ghost use Rattle.lrp_model.specs.Texts.{in_order};
 ghost use Rattle.lrp_model.specs.declared.relations.Relation.{Relation as RelationOf};
-ghost use Rattle.lrp_plan_laws.specs.Points.{points};
+ghost use Rattle.lrp_model.specs.TestPoints.{points};
 ghost use Rattle.lrp_plan_laws.specs.Rising.{row_periods};
 ghost use Rattle.lrp_plan_laws.specs.Settled.{IsSettled, IsSoundPlan};
 ghost use Rattle.lrp_plan_text.specs.Writable.{HasPeriods};

@@ -10,7 +10,7 @@ use Rattle.lrp_model.specs.declared.relations.RowPoint.{RowPoint}
 use Rattle.lrp_model.specs.declared.formulas.Term.{Term}
 use Rattle.lrp_model.proofs.Decided.{cons_cases, contains_first, contains_later, contains_none}
 use Rattle.lrp_plan_laws.specs.Atoms.{Atom, atoms, atoms_each}
-use Rattle.lrp_plan_laws.specs.Points.{test_points, points, points_each}
+use Rattle.lrp_model.specs.TestPoints.{test_points, points, points_each}
 use Rattle.lrp_plan_laws.proofs.Members.{all_of, all_by, in_left, in_right, in_one}
 
 pub data Mark : Type 0 where

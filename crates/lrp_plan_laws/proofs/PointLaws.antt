@@ -13,7 +13,8 @@ use Rattle.lrp_model.specs.declared.plans.StepKind.{StepKind}
 use Rattle.lrp_model.specs.declared.plans.StepKind.TheVariants.{Scan, Leaf, Sort as SortStep, Join, Select, Union, Minus, Complement, DropTime, DropData, Extend}
 use Rattle.lrp_model.proofs.Logic.{all_append}
 use Rattle.lrp_plan_laws.specs.Made.{HeadStep, IsFormula, IsMade, head_step}
-use Rattle.lrp_plan_laws.specs.Points.{test_points, points, points_each, step_points}
+use Rattle.lrp_model.specs.TestPoints.{test_points, points, points_each}
+use Rattle.lrp_plan_laws.specs.Points.{step_points}
 use Rattle.lrp_plan_laws.proofs.Marks.{marked_points}
 use Rattle.lrp_plan_laws.proofs.Members.{all_self, all_from}
 use Rattle.lrp_plan_laws.proofs.RisingLaws.{plan_made, step_marks}

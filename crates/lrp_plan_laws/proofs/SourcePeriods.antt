@@ -9,7 +9,7 @@ use Rattle.lrp_model.specs.declared.relations.Relation.{Relation}
 use Rattle.lrp_model.proofs.Logic.{all_append}
 use Rattle.lrp_model.specs.declared.formulas.Test.{Test}
 use Rattle.lrp_model.specs.declared.formulas.Test.TheVariants.{Compare, Member, Equal}
-use Rattle.lrp_plan_laws.specs.Points.{test_points, points, points_each}
+use Rattle.lrp_model.specs.TestPoints.{test_points, points, points_each}
 use Rattle.lrp_plan_laws.specs.Rising.{row_periods}
 
 module _ (p : ℕ → Type 0) where

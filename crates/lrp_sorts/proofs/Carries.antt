@@ -7,7 +7,8 @@ use Rattle.lrp_model.specs.Sorting.{Binders, term_sort, is_data_term}
 use Rattle.lrp_model.specs.declared.formulas.Op.{Op}
 use Rattle.lrp_model.specs.declared.formulas.Test.{Test}
 use Rattle.lrp_model.specs.declared.raw.RawTerm.{RawTerm}
-use Rattle.lrp_sorts.specs.Carried.{HasMembers, HaveMembers, HasMember, raw_points, raw_points_each, points, points_each, test_points}
+use Rattle.lrp_model.specs.TestPoints.{test_points, points, points_each}
+use Rattle.lrp_sorts.specs.Carried.{HasMembers, HaveMembers, HasMember, raw_points, raw_points_each}
 
 -- a member stays a member
 member_stays : (fs : RawForms) (bs : Binders) → HasMember fs → HasElement (plain_each fs bs)

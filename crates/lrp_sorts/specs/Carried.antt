@@ -1,9 +1,6 @@
 -- What a query has of the raw query that it was checked from.
 use Rattle.std.specs.Prelude.{List, [], ◌∷◌, ◌++◌}
-use Rattle.lrp_model.specs.Formulas.{Form, Forms, atom, test, sorted, negation, conjunction, disjunction, implication, exists, forall, no_forms, form}
 use Rattle.lrp_model.specs.RawQueries.{RawForm, RawForms, raw_atom, raw_compare, raw_member, raw_not, raw_and, raw_or, raw_implies, raw_group, raw_exists, raw_forall, no_raws, raw}
-use Rattle.lrp_model.specs.declared.formulas.Test.{Test}
-use Rattle.lrp_model.specs.declared.formulas.Test.TheVariants.{Compare, Member, Equal}
 use Rattle.lrp_model.specs.declared.relations.RowPoint.{RowPoint}
 
 -- each `and` and `or` has a member, as in every raw query that is read
@@ -45,25 +42,3 @@ abbrev mutual
   pub raw_points_each : RawForms → List RowPoint
   raw_points_each no_raws = []
   raw_points_each (raw f fs) = raw_points f ++ raw_points_each fs
-
-abbrev pub test_points : Test → List RowPoint
-test_points (Compare l op r) = []
-test_points (Member t point) = point ∷ []
-test_points (Equal l r) = []
-
--- those of a formula
-abbrev mutual
-  pub points : Form → List RowPoint
-  points (atom n ts) = []
-  points (test t) = test_points t
-  points (sorted s v) = []
-  points (negation f) = points f
-  points (conjunction fs) = points_each fs
-  points (disjunction fs) = points_each fs
-  points (implication f g) = points f ++ points g
-  points (exists v s f) = points f
-  points (forall v s f) = points f
-
-  pub points_each : Forms → List RowPoint
-  points_each no_forms = []
-  points_each (form f fs) = points f ++ points_each fs

@@ -7,7 +7,8 @@ ghost use Rattle.lrp_model.specs.Formulas.{form_of, question_of};
 ghost use Rattle.lrp_model.specs.RawQueries.{raw_form_of, raw_question_of};
 ghost use Rattle.lrp_model.specs.Sorting.{stands, faults, IsWellSorted, IsSortFault};
 ghost use Rattle.lrp_model.specs.declared.faults.QueryFault.{QueryFault};
-ghost use Rattle.lrp_sorts.specs.Carried.{HasMembers, raw_points, points};
+ghost use Rattle.lrp_model.specs.TestPoints.{points};
+ghost use Rattle.lrp_sorts.specs.Carried.{HasMembers, raw_points};
 ghost use Rattle.lrp_sorts.specs.Outcomes.{IsUnsorted, IsQueryOrMemory, IsFaultOrMemory};
 
 use crate::catalog::Catalog;

@@ -1,14 +1,13 @@
 -- A query that is read can be planned: each `and` and `or` has a member, and each point has a period.
-use Rattle.std.proofs.Common.{◌≡◌, ◌∙◌, pos, ◌≤ℤ◌, List, ◌++◌, ap₂, refl, sym, subst}
+use Rattle.std.proofs.Common.{◌≡◌, pos, ◌≤ℤ◌, List, ◌++◌, refl, sym, subst}
 use Rattle.std.specs.List.{AllByRecursion}
 use Rattle.lrp_model.proofs.Logic.{all_append}
-use Rattle.lrp_model.specs.Formulas.{Form, Forms, atom, test, sorted, negation, conjunction, disjunction, implication, exists, forall, no_forms, form}
+use Rattle.lrp_model.specs.Formulas.{Form}
+use Rattle.lrp_model.specs.TestPoints.{points}
 use Rattle.lrp_model.specs.RawQueries.{RawForm, RawForms, raw_atom, raw_compare, raw_member, raw_not, raw_and, raw_or, raw_implies, raw_group, raw_exists, raw_forall, no_raws, raw}
-use Rattle.lrp_model.specs.declared.formulas.Test.TheVariants.{Compare, Member, Equal}
 use Rattle.lrp_model.specs.declared.relations.RowPoint.{RowPoint}
-use Rattle.lrp_plan_laws.specs.Points as planned
 use Rattle.lrp_query.specs.Lawful.{FitsRaw, FitRaws, HasTwo}
-use Rattle.lrp_sorts.specs.Carried.{HasMember, HasMembers, HaveMembers, raw_points, raw_points_each, points, points_each}
+use Rattle.lrp_sorts.specs.Carried.{HasMember, HasMembers, HaveMembers, raw_points, raw_points_each}
 
 -- two members are one
 one_of_two : (fs : RawForms) → HasTwo fs → HasMember fs
@@ -55,25 +54,6 @@ mutual
   each_repeats no_raws h = tt
   each_repeats (raw f fs) h = (all_append Repeats (raw_points f) (raw_points_each fs)).1 (points_repeat f h.0, each_repeats fs h.1)
 
-mutual
-  -- the points of a formula, as the planner and as the checker tell them
-  same_points : (f : Form) → planned.points f ≡ points f
-  same_points (atom n ts) = refl
-  same_points (test (Compare l op r)) = refl
-  same_points (test (Member t point)) = refl
-  same_points (test (Equal l r)) = refl
-  same_points (sorted s v) = refl
-  same_points (negation f) = same_points f
-  same_points (conjunction fs) = same_points_each fs
-  same_points (disjunction fs) = same_points_each fs
-  same_points (implication f g) = ap₂ (λ ps qs. ps ++ qs) (same_points f) (same_points g)
-  same_points (exists v s f) = same_points f
-  same_points (forall v s f) = same_points f
-
-  same_points_each : (fs : Forms) → planned.points_each fs ≡ points_each fs
-  same_points_each no_forms = refl
-  same_points_each (form f fs) = ap₂ (λ ps qs. ps ++ qs) (same_points f) (same_points_each fs)
-
 -- a formula with the points of one that was read has points with periods
-pub has_periods : (f : Form) (from : RawForm) → FitsRaw from → points f ≡ raw_points from → AllByRecursion Repeats (planned.points f)
-has_periods f from h e = let P : List RowPoint → Type 0 = λ ps. AllByRecursion Repeats ps in subst P (sym (same_points f ∙ e)) (points_repeat from h)
+pub has_periods : (f : Form) (from : RawForm) → FitsRaw from → points f ≡ raw_points from → AllByRecursion Repeats (points f)
+has_periods f from h e = subst (AllByRecursion Repeats) (sym e) (points_repeat from h)

@@ -3,7 +3,7 @@ ghost use Rattle.std.specs.Prelude.{◌≡◌, ◌≤◌, ◌≤ℤ◌, IfOk, Li
 ghost use Rattle.std.specs.List.{AllByRecursion};
 ghost use Rattle.lrp_model.specs.Core.{HasElements};
 ghost use Rattle.lrp_model.specs.Formulas.{form_of};
-ghost use Rattle.lrp_plan_laws.specs.Points.{points};
+ghost use Rattle.lrp_model.specs.TestPoints.{points};
 ghost use Rattle.lrp_top.specs.Due.{IsAsked, IsAskedOf, IsRead, IsReadOf, TellsLength};
 ghost use Rattle.lrp_top.specs.Questions.{asked_as};
 ghost use Rattle.lrp_top.specs.Seen.{Seen, seen_of};

@@ -3,7 +3,7 @@ ghost use Rattle.std.specs.Prelude.{◌≡◌, ◌≤ℤ◌, IfOk, pos};
 ghost use Rattle.std.specs.List.{AllByRecursion};
 ghost use Rattle.lrp_model.specs.Core.{HasElements};
 ghost use Rattle.lrp_model.specs.Formulas.{form_of, question_of as queried};
-ghost use Rattle.lrp_plan_laws.specs.Points.{points};
+ghost use Rattle.lrp_model.specs.TestPoints.{points};
 ghost use Rattle.lrp_plan_text.specs.Writable.{HasPeriods};
 ghost use Rattle.lrp_top.specs.Due.{IsPlanned, IsQuestion, TellsLength};
 ghost use Rattle.lrp_top.specs.Questions.{IsMadeOf};

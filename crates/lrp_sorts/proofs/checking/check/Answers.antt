@@ -5,7 +5,7 @@ use Rattle.lrp_model.specs.Formulas.{form_of}
 use Rattle.lrp_model.specs.RawQueries.{raw_form_of, raw_question_of}
 use Rattle.lrp_model.specs.Sorting.{stands, faults}
 use Rattle.lrp_rel.proofs.FirstFault.{none_is_empty}
-use Rattle.lrp_sorts.specs.Carried.{points}
+use Rattle.lrp_model.specs.TestPoints.{points}
 use Rattle.lrp_sorts.proofs.Carries.{members_stay, points_stay}
 use Rattle.lrp_sorts.proofs.checking.check.Goals as goal
 
