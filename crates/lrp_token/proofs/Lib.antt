@@ -1,0 +1,6 @@
+pub mod Refusals
+pub mod Lists
+pub mod HexLaws
+pub mod Numbers
+pub mod Tokens
+pub mod Telling

@@ -1,0 +1,17 @@
+//! The tokens by which a page of answers is followed: the text of a tuple and of the files' digest, written and read.
+#![tactic(auto)]
+
+mod files;
+mod hexes;
+mod parts;
+mod reading;
+mod resume;
+#[cfg(test)]
+mod tests;
+mod writing;
+
+pub use files::digest;
+pub use lrp_model::tokens_spell_one_tuple;
+pub use reading::read_token;
+pub use resume::{Resume, TokenFault};
+pub use writing::write_token;

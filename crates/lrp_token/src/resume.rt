@@ -1,0 +1,43 @@
+// Where a page goes on, and why a text does not say it.
+use lrp_model::{Copies, Memory, Tuple};
+use std::alloc::Global;
+
+/// What a token spells: the tuple behind which a page goes on, and the digest of the files that it was written for.
+///
+/// A token of version 1 has no digest.
+#[derive(Debug, Drop)]
+pub struct Resume {
+    pub tuple: Tuple,
+    pub digest: Option<[u8; 32]>,
+}
+
+impl Copies for Resume {
+    fn copy(&self, alloc: Global) -> Result<Self, Memory> {
+        Ok(Resume {
+            tuple: self.tuple.copy(alloc)?,
+            digest: self.digest,
+        })
+    }
+}
+
+/// Why a text is not read. [`TokenFault::Memory`] says nothing of the text.
+#[derive(Clone, Copy, Debug, PartialEq, Eq)]
+pub enum TokenFault {
+    /// The text is no token.
+    Form,
+    /// It is a token with other counts of times or texts.
+    Shape,
+    /// There was no memory.
+    Memory,
+}
+
+impl From<Memory> for TokenFault {
+    ghost use Rattle.std.specs.Prelude.{◌≡◌};
+    ghost use Rattle.lrp_token.specs.declared.resume.TokenFault.TheVariants.{Memory as memory};
+
+    ghost from_gives = { λ _ fault. fault ≡ memory };
+
+    fn from(_: Memory) -> TokenFault {
+        TokenFault::Memory
+    }
+}
