@@ -1,7 +1,5 @@
 -- Numbers as they are written: which bytes they lack, and what `parse` makes of them.
-use Rattle.std.proofs.Common.{◌≡◌, ◌≢◌, ◌<◌, ◌≤◌, ◌+◌, ◌^◌, ℕ, ℤ, zero, suc, pos, negsuc, w64, List, [], ◌∷◌, length, get_or, Option, Result, Ok, Err, refl, ap, sym, ◌∙◌, arith, rules}
-use Rattle.std.specs.Prelude.{nat_abs}
-use Rattle.std.specs.List.{AllByRecursion}
+use Rattle.std.proofs.Common.{◌≡◌, ◌≢◌, ◌<◌, ◌^◌, ℕ, ℤ, suc, pos, negsuc, w64, List, [], ◌∷◌, length, get_or, Result, Ok, arith}
 use Rattle.std.proofs.Common.{FitsSigned, to_z, of_z}
 use Rattle.std.proofs.lemmas.Int.{to_z-of_z}
 use Rattle.std.specs.Fmt.{decimal, signed_decimal}

@@ -1,5 +1,5 @@
 -- What follows from what an answer tells, since a text is a token of one tuple and digest alone.
-use Rattle.std.proofs.Common.{◌≡◌, ◌⊎◌, inl, inr, ℕ, ℤ, List, Option, Result, Ok, Err, refl, sym, subst, ap}
+use Rattle.std.proofs.Common.{◌≡◌, ◌⊎◌, inl, inr, ℕ, ℤ, List, Option, Result, Ok, Err, refl, sym, subst}
 use Rattle.std.specs.Prelude.{IsErrAnd, MatchResult}
 use Rattle.lrp_model.specs.Texts.{Text}
 use Rattle.lrp_model.specs.PrintedPages.{IsToken}
@@ -9,7 +9,7 @@ use Rattle.lrp_token.specs.declared.resume.Resume.{Resume}
 use Rattle.lrp_token.specs.declared.resume.TokenFault.{TokenFault}
 use Rattle.lrp_token.specs.declared.resume.TokenFault.TheVariants.{Form, Shape as OtherShape, Memory}
 use Rattle.lrp_token.specs.Parts.{IsRead}
-use Rattle.lrp_token.specs.Reading.{HasCounts, HasOtherCounts, Tells}
+use Rattle.lrp_token.specs.Reading.{HasCounts, Tells}
 use Rattle.lrp_token.proofs.Refusals.{same_err}
 
 -- what is read is a token

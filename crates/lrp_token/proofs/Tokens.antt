@@ -1,12 +1,12 @@
 -- Tokens, cut at their first slash.
-use Rattle.std.proofs.Common.{◌≡◌, ◌≢◌, ◌<◌, ◌≤◌, ◌+◌, ◌⊎◌, inl, inr, ℕ, ℤ, zero, suc, true, false, eqb, List, [], ◌∷◌, ◌++◌, length, get_or, drop, Option, Some, None, MatchOption, refl, ap, sym, subst, ◌∙◌, arith, codes, lit<}
+use Rattle.std.proofs.Common.{◌≡◌, ◌≢◌, ◌⊎◌, inl, inr, ℕ, ℤ, true, false, eqb, List, [], ◌∷◌, ◌++◌, get_or, drop, Option, Some, None, MatchOption, refl, ap, sym, subst, ◌∙◌, arith, codes, lit<}
 use Rattle.std.specs.Borrow.{Bor}
 use Rattle.std.specs.List.{AllByRecursion}
 use Rattle.std.specs.Fmt.{signed_decimal}
-use Rattle.std.proofs.lemmas.Str.Pattern.{IsSplitOnceResult, split_after, split_parts}
+use Rattle.std.proofs.lemmas.Str.Pattern.{IsSplitOnceResult, split_after}
 use Rattle.lrp_model.specs.Texts.{Text}
 use Rattle.lrp_model.specs.Printed.{joined_by}
-use Rattle.lrp_model.specs.PrintedPages.{IsToken, IsDataText, IsDigest, hex, text_part, token_text, tuple_text}
+use Rattle.lrp_model.specs.PrintedPages.{IsToken, IsDataText, IsDigest, hex, text_part, tuple_text}
 use Rattle.lrp_token.specs.Parts.{HasDigest, IsListOf, IsSmall, IsTuple}
 use Rattle.lrp_token.proofs.Lists.{Lacks, lacks_append, lacks_at}
 use Rattle.lrp_token.proofs.Numbers.{number_lacks}

@@ -1,8 +1,8 @@
 //! The tokens by which a page of answers is followed: the text of a tuple and of the files' digest, written and read.
 #![tactic(auto)]
 
+mod digits;
 mod files;
-mod hexes;
 mod parts;
 mod reading;
 mod resume;

@@ -1,5 +1,5 @@
 // Tokens as they are written: version 2, with the files' digest.
-ghost use Rattle.std.specs.Prelude.{◌≡◌, ◌<◌, ◌≤◌, ◌++◌, codes, Some, length, take, nat_abs, slice_index_or, []};
+ghost use Rattle.std.specs.Prelude.{◌<◌, ◌≤◌, ◌++◌, codes, Some, length, take, nat_abs};
 ghost use Rattle.std.specs.List.{AllByRecursion, flat_map};
 ghost use Rattle.std.specs.Fmt.{signed_decimal};
 ghost use Rattle.lrp_io.specs.Causes.{HasCause};
@@ -9,7 +9,7 @@ ghost use Rattle.lrp_model.specs.Printed.{joined_by};
 ghost use Rattle.lrp_model.specs.PrintedPages.{IsDataText, IsToken, hex as hex_of, text_part, tuple_text};
 ghost use Rattle.lrp_token.specs.Spots.{spot_token, text_at, texts_in, times_in};
 
-use crate::hexes::{MOST_DIGITS, digits_of};
+use crate::digits::{MOST_DIGITS, digits_of};
 use lrp_io::{Failed, Sink};
 use lrp_model::{Domain, Shape, Spot};
 use lrp_print::{write_bytes, write_integer};

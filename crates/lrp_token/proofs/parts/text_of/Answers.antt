@@ -1,7 +1,7 @@
 -- A text is what its hex digits spell, behind an `x`.
-use Rattle.std.proofs.Common.{◌≡◌, ◌≢◌, ◌≤◌, ◌/◌, ℕ, List, ◌∷◌, length, lit<, sym, ◌∙◌, arith}
+use Rattle.std.proofs.Common.{◌≡◌, ◌≢◌, ◌≤◌, ◌/◌, ℕ, List, ◌∷◌, length, lit<, arith}
 use Rattle.std.proofs.lemmas.Str.Pattern.{strip_prefix_char}
-use Rattle.lrp_model.specs.PrintedPages.{IsDataText, hex, text_part}
+use Rattle.lrp_model.specs.PrintedPages.{hex}
 use Rattle.lrp_token.proofs.HexLaws.{behind_x, half, text_read}
 use Rattle.lrp_token.proofs.parts.text_of.Goals as goal
 

@@ -1,5 +1,5 @@
 -- What is parsed is the integer that the text spells, if it spells one.
-use Rattle.std.proofs.Common.{◌≡◌, ◌≤◌, ℕ, ℤ, Ok, sym, subst, ◌∙◌, ap, arith, of_z, to_z, w64}
+use Rattle.std.proofs.Common.{◌≡◌, ◌≤◌, sym, subst, ◌∙◌, ap, arith, of_z, to_z, w64}
 use Rattle.std.specs.Prelude.{IsTrue, nat_abs}
 use Rattle.std.specs.Fmt.{signed_decimal}
 use Rattle.lrp_model.specs.Lexing.{limit}

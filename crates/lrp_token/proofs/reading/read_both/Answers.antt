@@ -1,5 +1,5 @@
 -- A digest stands before the first slash.
-use Rattle.std.proofs.Common.{◌≡◌, ◌∙◌, sym, subst}
+use Rattle.std.proofs.Common.{sym, subst}
 use Rattle.lrp_model.specs.PrintedPages.{hex}
 use Rattle.lrp_model.specs.declared.tuples.Tuple.{Tuple}
 use Rattle.lrp_token.specs.declared.resume.Resume.{Resume}

@@ -1,6 +1,5 @@
 -- Each piece is read in turn.
-use Rattle.std.proofs.Common.{◌≡◌, ◌∙◌, ℤ, List, [], ◌∷◌, ◌++◌, length, sym, ap, lit<, arith}
-use Rattle.lrp_model.specs.Texts.{Text}
+use Rattle.std.proofs.Common.{◌≡◌, ◌∙◌, [], ◌∷◌, ◌++◌, length, lit<, arith}
 use Rattle.lrp_model.specs.PrintedPages.{IsDataText, text_part}
 use Rattle.lrp_token.specs.Parts.{IsListOf, Spells}
 use Rattle.lrp_token.proofs.HexLaws.{text_lacks}

@@ -1,5 +1,5 @@
 -- Each piece is read in turn.
-use Rattle.std.proofs.Common.{◌≡◌, ◌∙◌, ℤ, List, [], ◌∷◌, ◌++◌, length, sym, ap, lit<, arith}
+use Rattle.std.proofs.Common.{◌≡◌, ◌∙◌, [], ◌∷◌, ◌++◌, length, ap, lit<, arith}
 use Rattle.std.specs.Fmt.{signed_decimal}
 use Rattle.lrp_token.specs.Parts.{IsSmall, Spells}
 use Rattle.lrp_token.proofs.Numbers.{number_lacks, through_word}

@@ -1,4 +1,4 @@
-use Rattle.std.proofs.Common.{◌++◌, codes, pos}
+use Rattle.std.proofs.Common.{◌++◌, codes}
 use Rattle.std.specs.List.{flat_map}
 use Rattle.lrp_model.specs.PrintedPages.{text_part}
 use Rattle.lrp_token.specs.Spots.{text_at}

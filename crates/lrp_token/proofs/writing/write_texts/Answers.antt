@@ -1,4 +1,4 @@
-use Rattle.std.proofs.Common.{ℕ, List, ◌++◌, ◌-◌, codes, pos, take, drop, length, get_or}
+use Rattle.std.proofs.Common.{ℕ, List, ◌++◌, ◌-◌, codes, take, drop, length, get_or}
 use Rattle.std.specs.List.{flat_map}
 use Rattle.lrp_model.specs.PrintedPages.{text_part}
 use Rattle.lrp_token.specs.Spots.{text_at}

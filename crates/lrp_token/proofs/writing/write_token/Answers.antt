@@ -1,7 +1,6 @@
-use Rattle.std.proofs.Common.{◌≡◌, ◌++◌, codes, Some, length, refl, ap, append_assoc, arith}
-use Rattle.std.specs.List.{AllByRecursion}
+use Rattle.std.proofs.Common.{◌++◌, codes, refl, ap, append_assoc}
 use Rattle.std.proofs.lemmas.Result.{err_from_is_err_and}
-use Rattle.lrp_model.specs.PrintedPages.{IsDataText, IsToken, hex, token_text, tuple_text}
+use Rattle.lrp_model.specs.PrintedPages.{hex, tuple_text}
 use Rattle.lrp_io.proofs.PieceLemmas.{written_behind, written_err, front_before}
 use Rattle.lrp_print.proofs.Lines.{front_as, written_as}
 use Rattle.lrp_token.specs.Spots.{spot_token, times_in, texts_in}

@@ -1,8 +1,8 @@
-use Rattle.std.proofs.Common.{◌++◌, codes, take, ap, sym, ◌∙◌}
+use Rattle.std.proofs.Common.{◌++◌, codes, take}
 use Rattle.std.specs.Fmt.{signed_decimal}
 use Rattle.std.proofs.lemmas.Result.{err_from_is_err_and}
 use Rattle.lrp_model.specs.Printed.{joined_by}
-use Rattle.lrp_model.specs.PrintedPages.{text_part, tuple_text}
+use Rattle.lrp_model.specs.PrintedPages.{text_part}
 use Rattle.lrp_io.proofs.PieceLemmas.{written_behind, written_err, front_behind, front_before}
 use Rattle.lrp_print.proofs.Lines.{written_as}
 use Rattle.lrp_token.specs.Spots.{times_in, text_at, texts_in}

@@ -1,6 +1,5 @@
 // Bytes as lower-case hex digits, and back, in place.
-ghost use Rattle.std.specs.Prelude.{◌≡◌, ◌≢◌, ◌<◌, ◌≤◌, ◌/◌, ℕ, List, length, MatchBool};
-ghost use Rattle.std.specs.List.{AllByRecursion};
+ghost use Rattle.std.specs.Prelude.{◌≡◌, ◌≢◌, ◌≤◌, ◌/◌, ℕ, List, length, MatchBool};
 ghost use Rattle.lrp_model.specs.PrintedPages.{hex as hex_of};
 ghost use Rattle.lrp_token.specs.Parts.{IsHex};
 
