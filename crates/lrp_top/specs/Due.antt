@@ -139,6 +139,14 @@ files_of (explain database query) = database ∷ query ∷ []
 files_of (check database) = database ∷ []
 files_of (sample seed size) = []
 
+-- the names of the files that words name: none where they spell no task
+abbrev pub files_asked : Option Task → List Identifier
+files_asked None = []
+files_asked (Some task) = files_of task
+
+abbrev pub files_named : List (String Global) → List Identifier
+files_named words = files_asked (command (map string_bytes words))
+
 -- a file is too long; or want of memory
 abbrev pub IsTooLong : {B : Type 0} → Result B Refusal → Type 0
 IsTooLong (Err LongDatabase) = Unit {0}

@@ -1,6 +1,7 @@
 // The decision: what the words ask for, before the first byte is written.
+ghost use Rattle.std.specs.Prelude.{◌≡◌, []};
 ghost use Rattle.std.specs.List.{AllByRecursion};
-ghost use Rattle.lrp_top.specs.Due.{IsAnswered, IsDue, IsDueOf, IsExplained, IsNoText, IsQuestion, IsRead, IsTooLong, IsWrittenAgain, TellsLength, files_of};
+ghost use Rattle.lrp_top.specs.Due.{IsAnswered, IsDue, IsDueOf, IsExplained, IsNoText, IsQuestion, IsRead, IsTooLong, IsWrittenAgain, TellsLength, files_named, files_of};
 ghost use Rattle.lrp_top.specs.Outcomes.{CanBeWritten};
 ghost use Rattle.lrp_top.specs.Seen.{IsOverrun, seen_of};
 ghost use Rattle.lrp_top.specs.Steps.{Then};
@@ -20,6 +21,7 @@ use std::alloc::Global;
 /// The output that the words ask for, or the first refusal that applies.
 pub fn decide<F: Shelf>(alloc: Global, words: &[String], shelf: &mut F) -> Result<Output, Refusal>
     ensures due { IsDue words.now (seen_of (F.files shelf.old) (F.faults shelf.old) (F.faults shelf.new) (F.given shelf.new) (F.may_be shelf.new)) result }
+    ensures unread { files_named words.now ≡ [] → shelf.new ≡ shelf.old }
     ensures writable { CanBeWritten result }
 {
     match read_words(words) {
@@ -36,6 +38,7 @@ fn decide_command<F: Shelf>(
 ) -> Result<Output, Refusal>
     ensures due { IsDueOf (task_of command.entry) (seen_of (F.files shelf.old) (F.faults shelf.old) (F.faults shelf.new) (F.given shelf.new) (F.may_be shelf.new)) result }
     ensures long { AllByRecursion (λ name. IsOverrun (seen_of (F.files shelf.old) (F.faults shelf.old) (F.faults shelf.new) (F.given shelf.new) (F.may_be shelf.new)) name → IsTooLong result) (files_of (task_of command.entry)) }
+    ensures unread { files_of (task_of command.entry) ≡ [] → shelf.new ≡ shelf.old }
     ensures writable { CanBeWritten result }
 {
     match command {
