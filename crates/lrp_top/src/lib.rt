@@ -16,6 +16,10 @@ pub use running::run;
 pub use status::Status;
 
 #[cfg(test)]
+mod length_tests;
+#[cfg(test)]
 mod plan_tests;
+#[cfg(test)]
+mod reach_tests;
 #[cfg(test)]
 mod tests;

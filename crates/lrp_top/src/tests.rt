@@ -22,7 +22,7 @@ fn shelf_of(alloc: Global, database: &str, query: &str, failing: &[u32]) -> Resu
 }
 
 // The words of a command, one behind each blank.
-fn words_of(alloc: Global, command: &str) -> Result<Vec<String>, Fail> {
+pub(crate) fn words_of(alloc: Global, command: &str) -> Result<Vec<String>, Fail> {
     let mut words = Vec::new(alloc);
     for word in command.split(' ') {
         words.push(String::from_str(alloc, word)?)?;
@@ -347,35 +347,6 @@ fn limits_are_refused(rt: HostRuntime) -> Result<(), Fail> {
     Ok(())
 }
 
-// How the check of a database of so many blanks ends, and what it writes.
-fn check_of_blanks(alloc: Global, count: usize) -> Result<(Status, Vec<u8>), Fail> {
-    let mut files = List::new(alloc);
-    files.push(File {
-        name: Name::new(alloc, "d")?,
-        bytes: List::from_vec(vec![in alloc; b' '; count]?),
-    })?;
-    let mut shelf = MemShelf::new(files, List::new(alloc));
-    let mut out = MemSink::new(alloc, List::new(alloc), 4)?;
-    let words = words_of(alloc, "check db=d")?;
-    let ended = run(alloc, words.as_slice(), &mut shelf, &mut out);
-    Ok((ended, out.written().to_vec(alloc)?))
-}
-
-#[test]
-fn blanks_are_a_database_up_to_the_limit(rt: HostRuntime) -> Result<(), Fail> {
-    let alloc = rt.alloc();
-    let (ended, written) = check_of_blanks(alloc, 16_777_216)?;
-    assert_eq!(rt; ended, Status::Done);
-    assert_eq!(rt; written.as_slice(), b"".as_slice());
-    let (ended, written) = check_of_blanks(alloc, 16_777_217)?;
-    assert_eq!(rt; ended, Status::Database);
-    assert_eq!(rt;
-        written.as_slice(),
-        b"refused: database longer than 16777216 bytes\n".as_slice()
-    );
-    Ok(())
-}
-
 // How an explanation ends in a sink with room for so many bytes, and what it has then.
 fn explained_within(alloc: Global, room: usize) -> Result<(Status, Vec<u8>), Fail> {
     let mut shelf = shelf_of(alloc, BUS, DEPARTURES, &[])?;
@@ -397,38 +368,6 @@ fn stopped_sinks_hold_a_front_of_a_plan(rt: HostRuntime) -> Result<(), Fail> {
     let (ended, written) = explained_within(alloc, text.len())?;
     assert_eq!(rt; ended, Status::Done);
     assert_eq!(rt; written.as_slice(), text);
-    Ok(())
-}
-
-#[test]
-fn long_files_are_refused(rt: HostRuntime) -> Result<(), Fail> {
-    let alloc = rt.alloc();
-    let table = [
-        (
-            "d",
-            Status::Database,
-            "refused: database longer than 16777216 bytes\n",
-        ),
-        (
-            "q",
-            Status::Query,
-            "refused: query longer than 16777216 bytes\n",
-        ),
-    ];
-    for (long, status, want) in table {
-        let mut files = List::new(alloc);
-        files.push(File {
-            name: Name::new(alloc, long)?,
-            bytes: List::from_vec(vec![in alloc; b' '; 16_777_217]?),
-        })?;
-        files.push(file(alloc, "d", BUS)?)?;
-        let mut shelf = MemShelf::new(files, List::new(alloc));
-        let mut out = MemSink::new(alloc, List::new(alloc), 4)?;
-        let words = words_of(alloc, ASK)?;
-        let ended = run(alloc, words.as_slice(), &mut shelf, &mut out);
-        assert_eq!(rt; ended, status);
-        assert_eq!(rt; out.written(), want.as_bytes());
-    }
     Ok(())
 }
 
