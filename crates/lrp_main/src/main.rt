@@ -1,7 +1,12 @@
 //! The program: the words, real files and standard output.
 #![tactic(auto)]
 
+ghost use Rattle.std.specs.Prelude.{◌≡◌};
+ghost use Rattle.std.specs.Process.{exit_status};
+ghost use Rattle.lrp_top.specs.Statuses.{number_of as number_of_status};
+
 use lrp_io::{RealShelf, RealSink};
+use lrp_top::Status;
 use std::env;
 use std::io::{self, ErrorKind};
 use std::process::ExitCode;
@@ -24,6 +29,13 @@ fn main(rt: HostRuntime) -> ExitCode {
     let mut shelf = RealShelf::new(&rt);
     let mut out = RealSink::new(&rt);
     let status = lrp_top::run(alloc, words.as_slice(), &mut shelf, &mut out);
+    exit_code(status)
+}
+
+/// How the program ends where a run ended so.
+fn exit_code(status: Status) -> ExitCode
+    ensures { exit_status result ≡ number_of_status status }
+{
     ExitCode::from(status.code())
 }
 
