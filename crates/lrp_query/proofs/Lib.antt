@@ -1,5 +1,4 @@
 pub mod Shown
-pub mod Steps
 pub mod Started
 mod LocalRules
 mod TermRules

@@ -1,18 +1,17 @@
--- A formula is read by the way it begins, and a list of members one turn at a time.
-use Rattle.std.proofs.Common.{◌≡◌, ◌-◌, ◌<◌, ℕ, zero, suc, Bool, false, List, [], ◌∷◌, map, refl, ap, sym, ◌∙◌, subst, Ok, Err, arith}
+-- A formula is read by the way it begins.
+use Rattle.std.proofs.Common.{◌≡◌, ◌-◌, ℕ, zero, suc, false, List, [], ◌∷◌, map, refl, ap, sym, subst, Ok, Err, arith}
 use Rattle.lrp_model.specs.declared.tokens.Place.{Place}
-use Rattle.lrp_model.specs.Tokens.{Placed, Tokens}
+use Rattle.lrp_model.specs.Tokens.{Tokens}
 use Rattle.lrp_model.specs.declared.tokens.Fault.{Fault}
 use Rattle.lrp_model.specs.declared.tokens.Fault.TheVariants.{Syntax, Number, TextTooLong, Period, Deep, Memory}
 use Rattle.lrp_model.specs.declared.raw.RawFormula.{RawFormula}
 use Rattle.lrp_model.specs.RawQueries.{RawForm, raw, raw_form_of, raw_forms_of}
-use Rattle.lrp_text.specs.Parsers.{Parser, Outcome, accept, separated_from, look}
+use Rattle.lrp_text.specs.Parsers.{Parser, Outcome, accept, look}
 use Rattle.lrp_text.specs.Taking.{here}
 use Rattle.lrp_query.specs.declared.starts.Start.{Start}
 use Rattle.lrp_query.specs.declared.starts.Start.TheVariants.{Term as by_term}
 use Rattle.lrp_query.specs.Rules.{meant, start_of, is_hole_token, started, formula_over, formula, raws}
-use Rattle.lrp_query.specs.Reading.{ReadsFormula, ReadsFormulas}
-use Rattle.lrp_query.proofs.Steps.{member_lifts}
+use Rattle.lrp_query.specs.Reading.{ReadsFormula}
 
 -- a formula that begins so
 over_started : (inner : Parser RawForm) (turns : ℕ) (ts : Tokens) (p : Place) (s : Start) → look false (λ t. is_hole_token t.token) ts ≡ Ok (false, ts) → here ts ≡ Ok (p, ts) → look by_term (λ t. start_of t.token) ts ≡ Ok (s, ts) → formula_over meant inner turns ts ≡ started meant inner turns p s ts
@@ -38,16 +37,6 @@ fault_reads o Deep us e = e
 pub formula_cut : (depth turns : ℕ) (ts : Tokens) (k : Fault) (us : Tokens) → depth ≡ 0 → accept meant.cut ts ≡ Err (k, us) → ReadsFormula (formula meant depth turns ts) (Err k) us
 unfolding formula
 formula_cut depth turns ts k us z e = subst (λ d. ReadsFormula (formula meant d turns ts) (Err k) us) (sym z) (fault_reads (accept meant.cut ts) k us e)
-
--- a member that fails
-member_fails : (p : Parser RawForm) (comma : Placed → Bool) (n : ℕ) (found : List RawForm) (ts us : Tokens) (k : Fault) → p ts ≡ Err (k, us) → separated_from p comma (suc n) found ts ≡ Err (k, us)
-unfolding separated_from
-member_fails p comma n found ts us k e = rw e refl
-
--- the same for a number of turns that is greater than another
-pub members_fail : (p : Parser RawForm) (comma : Placed → Bool) (n k : ℕ) (found : List RawForm) (ts us : Tokens) (result : Outcome (List RawForm)) (fault : Fault) → k < n → ReadsFormula (p ts) (Err fault) us → separated_from p comma n found ts ≡ result → ReadsFormulas result (Err fault) us
-members_fail p comma zero k found ts us result fault lt e w = absurd (omega arith)
-members_fail p comma (suc n) k found ts us result fault lt e w = member_lifts (p ts) result us fault (λ j d. sym w ∙ member_fails p comma n found ts us j d) e
 
 -- the raw formulas of a list
 pub raws_of : (fs : List RawFormula) → raws (map raw_form_of fs) ≡ raw_forms_of fs

@@ -19,7 +19,7 @@ use Rattle.lrp_model.specs.declared.formulas.Op.TheVariants.{Le, Lt, Ge, Gt, Eq}
 use Rattle.lrp_model.specs.Tokens.{Tokens}
 use Rattle.lrp_model.specs.RawQueries.{RawForm, RawQuestion, raw_form_of, raw_question_of}
 use Rattle.lrp_model.specs.QueryReading.{IsQueryFault}
-use Rattle.lrp_text.specs.Parsers.{Outcome}
+use Rattle.lrp_text.specs.Parsers.{Outcome, Reads}
 use Rattle.lrp_text.specs.declared.lexemes.Lexeme.{Lexeme}
 use Rattle.lrp_text.specs.declared.lexemes.Lexeme.TheVariants.{Name as name_seen, Word as word_seen, Number as number_seen, LargeNumber as large_seen, Text as text_seen, LongText as long_seen, Symbol as symbol_seen, End as end_seen, Bad as bad_seen}
 use Rattle.lrp_query.specs.declared.starts.Start.{Start}
@@ -28,20 +28,17 @@ use Rattle.lrp_query.specs.declared.starts.Start.TheVariants.{Not as by_not, Exi
 -- the parser's outcome, seen as a raw formula, unless memory ran out
 abbrev pub ReadsFormula : Outcome RawForm → Result RawFormula TokenFault → Tokens → Type 0
 ReadsFormula outcome (Ok f) new = outcome ≡ Ok (raw_form_of f, new)
-ReadsFormula outcome (Err memory) new = Unit {0}
-ReadsFormula outcome (Err k) new = outcome ≡ Err (k, new)
+ReadsFormula outcome (Err k) new = Reads outcome (Err k) new
 
 -- the same of several formulas
 abbrev pub ReadsFormulas : Outcome (List RawForm) → Result (Vec RawFormula Global) TokenFault → Tokens → Type 0
 ReadsFormulas outcome (Ok fs) new = outcome ≡ Ok (map raw_form_of fs.items, new)
-ReadsFormulas outcome (Err memory) new = Unit {0}
-ReadsFormulas outcome (Err k) new = outcome ≡ Err (k, new)
+ReadsFormulas outcome (Err k) new = Reads outcome (Err k) new
 
 -- the same of a query
 abbrev pub ReadsQuery : Outcome RawQuestion → Result RawQuery TokenFault → Tokens → Type 0
 ReadsQuery outcome (Ok q) new = outcome ≡ Ok (raw_question_of q, new)
-ReadsQuery outcome (Err memory) new = Unit {0}
-ReadsQuery outcome (Err k) new = outcome ≡ Err (k, new)
+ReadsQuery outcome (Err k) new = Reads outcome (Err k) new
 
 -- the comparison that a symbol stands for
 abbrev pub symbol_op : SymbolOf → Result Op TokenFault

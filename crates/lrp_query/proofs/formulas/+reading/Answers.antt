@@ -4,12 +4,11 @@ use Rattle.lrp_model.specs.declared.tokens.Word.TheVariants.{And, Or}
 use Rattle.lrp_model.specs.RawQueries.{raw_form_of}
 use Rattle.lrp_text.specs.Parsers.{eat, separated_from}
 use Rattle.lrp_text.specs.Taking.{is_word}
-use Rattle.lrp_text.proofs.Turns.{more_below, last_below}
+use Rattle.lrp_text.proofs.Turns.{more_below, last_below, none_below, lifts}
 use Rattle.lrp_query.specs.declared.starts.Start.TheVariants.{Not as by_not, Exists as by_exists, Forall as by_forall, Open as by_open, Name as by_name, Term as by_term}
 use Rattle.lrp_query.specs.Rules.{meant, formula, negated, existing, holding, enclosed, implying, conjoined, disjoined}
 use Rattle.lrp_query.specs.Reading.{ReadsFormula}
-use Rattle.lrp_query.proofs.Steps.{inner_lifts, members_lift}
-use Rattle.lrp_query.proofs.Started.{formula_started, formula_cut, members_fail}
+use Rattle.lrp_query.proofs.Started.{formula_started, formula_cut}
 use Rattle.lrp_query.proofs.formulas.+reading.Goals as goal
 
 pub read_formula-returns-then-depth-eq0-clause-value : goal.read_formula-returns-then-depth-eq0-clause-value
@@ -44,7 +43,7 @@ unfolding negated
 read_negation-returns-in_err-of-clause-value t c = λ turns lt.
     let p = err_from_is_err_and c.from_residual-in_err-of.result c.from_residual-in_err-of.ensures.1 in
     let fewer : length c.expect_word.new.self < turns = omega (arith, c.in_ok-expect_word.ensures.fewer, lt) in
-    rw (p.1, p.2) (inner_lifts (formula meant c.args.depth turns c.expect_word.new.self) (negated meant (formula meant c.args.depth turns) c.args.place c.args.tokens.now) c.read_formula.new.tokens c.in_err-of.field-0.0
+    rw (p.1, p.2) (lifts (formula meant c.args.depth turns c.expect_word.new.self) (negated meant (formula meant c.args.depth turns) c.args.place c.args.tokens.now) c.read_formula.new.tokens c.in_err-of.field-0.0
     (λ j e. rw (c.in_ok-expect_word.ensures.value, e) refl) (c.in_err-of.ensures.value turns fewer))
 
 pub read_existential-returns-in_err-of-clause-value : goal.read_existential-returns-in_err-of-clause-value
@@ -52,7 +51,7 @@ unfolding existing
 read_existential-returns-in_err-of-clause-value t c = λ turns lt.
     let p = err_from_is_err_and c.from_residual-in_err-of.result c.from_residual-in_err-of.ensures.1 in
     let fewer : length c.column.new.tokens < turns = omega (arith, c.in_ok-expect_word.ensures.fewer, c.in_ok-binder.ensures.fewer, lt) in
-    rw (p.1, p.2) (inner_lifts (formula meant c.args.depth turns c.column.new.tokens) (existing meant (formula meant c.args.depth turns) c.args.place c.args.tokens.now) c.read_formula.new.tokens c.in_err-of.field-0.0
+    rw (p.1, p.2) (lifts (formula meant c.args.depth turns c.column.new.tokens) (existing meant (formula meant c.args.depth turns) c.args.place c.args.tokens.now) c.read_formula.new.tokens c.in_err-of.field-0.0
     (λ j e. rw (c.in_ok-expect_word.ensures.value, c.in_ok-binder.ensures.value, e) refl) (c.in_err-of.ensures.value turns fewer))
 
 pub read_universal-returns-in_err-of-clause-value : goal.read_universal-returns-in_err-of-clause-value
@@ -60,7 +59,7 @@ unfolding holding
 read_universal-returns-in_err-of-clause-value t c = λ turns lt.
     let p = err_from_is_err_and c.from_residual-in_err-of.result c.from_residual-in_err-of.ensures.1 in
     let fewer : length c.column.new.tokens < turns = omega (arith, c.in_ok-expect_word.ensures.fewer, c.in_ok-binder.ensures.fewer, lt) in
-    rw (p.1, p.2) (inner_lifts (formula meant c.args.depth turns c.column.new.tokens) (holding meant (formula meant c.args.depth turns) c.args.place c.args.tokens.now) c.read_formula.new.tokens c.in_err-of.field-0.0
+    rw (p.1, p.2) (lifts (formula meant c.args.depth turns c.column.new.tokens) (holding meant (formula meant c.args.depth turns) c.args.place c.args.tokens.now) c.read_formula.new.tokens c.in_err-of.field-0.0
     (λ j e. rw (c.in_ok-expect_word.ensures.value, c.in_ok-binder.ensures.value, e) refl) (c.in_err-of.ensures.value turns fewer))
 
 pub read_enclosed-returns-in_err-first-clause-value : goal.read_enclosed-returns-in_err-first-clause-value
@@ -68,28 +67,28 @@ unfolding enclosed
 read_enclosed-returns-in_err-first-clause-value t c = λ turns lt.
     let p = err_from_is_err_and c.from_residual-in_err-first.result c.from_residual-in_err-first.ensures.1 in
     let fewer : length c.expect.new.self < turns = omega (arith, c.in_ok-expect.ensures.fewer, lt) in
-    rw (p.1, p.2) (inner_lifts (formula meant c.args.depth turns c.expect.new.self) (enclosed meant (formula meant c.args.depth turns) turns c.args.place c.args.tokens.now) c.read_formula.new.tokens c.in_err-first.field-0.0
+    rw (p.1, p.2) (lifts (formula meant c.args.depth turns c.expect.new.self) (enclosed meant (formula meant c.args.depth turns) turns c.args.place c.args.tokens.now) c.read_formula.new.tokens c.in_err-first.field-0.0
     (λ j e. rw (c.in_ok-expect.ensures.value, e) refl) (c.in_err-first.ensures.value turns fewer))
 
 pub read_implication-returns-in_err-second-clause-value : goal.read_implication-returns-in_err-second-clause-value
 unfolding implying
 read_implication-returns-in_err-second-clause-value t c = λ turns lt.
     let p = err_from_is_err_and c.from_residual.result c.from_residual.ensures.1 in
-    rw (p.1, p.2) (inner_lifts (formula meant c.args.depth turns c.args.tokens.now) (implying meant (formula meant c.args.depth turns) c.args.place (raw_form_of c.args.first) c.args.tokens.now) c.read_formula.new.tokens c.in_err-second.field-0.0
+    rw (p.1, p.2) (lifts (formula meant c.args.depth turns c.args.tokens.now) (implying meant (formula meant c.args.depth turns) c.args.place (raw_form_of c.args.first) c.args.tokens.now) c.read_formula.new.tokens c.in_err-second.field-0.0
     (λ j e. rw e refl) (c.in_err-second.ensures.value turns lt))
 
 pub read_conjunction-returns-in_err-of-clause-value : goal.read_conjunction-returns-in_err-of-clause-value
 unfolding conjoined
 read_conjunction-returns-in_err-of-clause-value t c = λ turns lt.
     let p = err_from_is_err_and c.from_residual.result c.from_residual.ensures.1 in
-    rw (p.1, p.2) (members_lift (separated_from (formula meant c.args.depth turns) (is_word And) turns (raw_form_of c.args.first ∷ []) c.args.tokens.now) (conjoined meant (formula meant c.args.depth turns) turns c.args.place (raw_form_of c.args.first) c.args.tokens.now) c.read_members.new.tokens c.in_err-of.field-0.0
+    rw (p.1, p.2) (lifts (separated_from (formula meant c.args.depth turns) (is_word And) turns (raw_form_of c.args.first ∷ []) c.args.tokens.now) (conjoined meant (formula meant c.args.depth turns) turns c.args.place (raw_form_of c.args.first) c.args.tokens.now) c.read_members.new.tokens c.in_err-of.field-0.0
     (λ j e. rw e refl) (c.in_err-of.ensures.value turns lt))
 
 pub read_disjunction-returns-in_err-of-clause-value : goal.read_disjunction-returns-in_err-of-clause-value
 unfolding disjoined
 read_disjunction-returns-in_err-of-clause-value t c = λ turns lt.
     let p = err_from_is_err_and c.from_residual.result c.from_residual.ensures.1 in
-    rw (p.1, p.2) (members_lift (separated_from (formula meant c.args.depth turns) (is_word Or) turns (raw_form_of c.args.first ∷ []) c.args.tokens.now) (disjoined meant (formula meant c.args.depth turns) turns c.args.place (raw_form_of c.args.first) c.args.tokens.now) c.read_members.new.tokens c.in_err-of.field-0.0
+    rw (p.1, p.2) (lifts (separated_from (formula meant c.args.depth turns) (is_word Or) turns (raw_form_of c.args.first ∷ []) c.args.tokens.now) (disjoined meant (formula meant c.args.depth turns) turns c.args.place (raw_form_of c.args.first) c.args.tokens.now) c.read_members.new.tokens c.in_err-of.field-0.0
     (λ j e. rw e refl) (c.in_err-of.ensures.value turns lt))
 
 pub read_members-loop-found-init : goal.read_members-loop-found-init
@@ -100,7 +99,7 @@ read_members-returns-in_err-next-clause-value t c = λ turns lt.
     let p = err_from_is_err_and c.from_residual-in_err-next.result c.from_residual-in_err-next.ensures.1 in
     let kept = c.loop-found.invariant.same turns lt in
     let less : length c.loop-found.tokens < turns = omega (arith, c.loop-found.invariant.shorter, lt) in
-    rw (p.1, p.2) (members_fail (formula meant c.args.depth turns) (is_word c.args.word) kept.0 _ _ _ _ _ c.in_err-next.field-0.0 kept.1 (c.in_err-next.ensures.value turns less) kept.2)
+    rw (p.1, p.2) (none_below (formula meant c.args.depth turns) (is_word c.args.word) kept.0 _ _ _ _ _ c.in_err-next.field-0.0 kept.1 (c.in_err-next.ensures.value turns less) kept.2)
 
 pub read_members-returns-then-not-eat_word-clause-value : goal.read_members-returns-then-not-eat_word-clause-value
 read_members-returns-then-not-eat_word-clause-value t c = λ turns lt.
