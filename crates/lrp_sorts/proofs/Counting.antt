@@ -1,19 +1,36 @@
--- Names that are kept once each: which they are, and how many.
-use Rattle.std.proofs.Common.{◌≡◌, ℕ, ◌+◌, ◌≤◌, Bool, true, false, not, cond, ◌&&◌, ◌||◌, List, [], ◌∷◌, ◌++◌, length, Option, Some, None, refl, ap, sym, ◌∙◌, arith, Bor, bytes_eq, length-append, subst, nat_lt, append_assoc, filter}
-use Rattle.std.specs.List.{list_any}
-use Rattle.std.proofs.lemmas.List.{map-append}
+-- How many names of a kind occur free, told by names that are kept once each.
+use Rattle.std.proofs.Common.{◌≡◌, ℕ, suc, ◌+◌, ◌≤◌, Bool, true, false, not, cond, ◌&&◌, ◌||◌, List, [], ◌∷◌, ◌++◌, length, Option, Some, None, refl, ap, sym, ◌∙◌, arith, bytes_eq, subst}
 use Rattle.std.proofs.lemmas.List.Folds.{list_any-append}
 use Rattle.std.proofs.lemmas.Slice.Eq.{bytes_eq-Decides}
-use Rattle.std.proofs.lemmas.Bool.Decides.{nat_tests}
 use Rattle.lrp_model.specs.Texts.{Identifier}
-use Rattle.lrp_model.specs.Sorts.{is_time, is_data}
 use Rattle.lrp_model.specs.Faults.{is_named_in}
-use Rattle.lrp_model.specs.Sorting.{Binders, binder_sort, count, counted, too_many}
+use Rattle.lrp_model.specs.Sorting.{Binders, binder_sort, count, counted, without}
 use Rattle.lrp_model.specs.declared.relations.Sort.{Sort}
-use Rattle.lrp_sorts.specs.Widths.{passing, IsKept, IsTally, names_behind}
-use Rattle.lrp_sorts.specs.declared.width.Tally.{Tally}
+use Rattle.lrp_sorts.specs.Widths.{passing}
 
--- ---- names and tests
+-- ---- tests
+
+-- what is true decides
+pub or_true : (a : Bool) → (a || true) ≡ true
+or_true true = refl
+or_true false = refl
+
+-- what is false adds nothing
+pub or_false : (a : Bool) → (a || false) ≡ a
+or_false true = refl
+or_false false = refl
+
+-- none of two holds
+pub or_neither : (a b : Bool) → (a || b) ≡ false → (a ≡ false) × (b ≡ false)
+or_neither true b h = absurd cc
+or_neither false b h = (refl, h)
+
+-- both hold
+pub and_both : (a b : Bool) → (a && b) ≡ true → (a ≡ true) × (b ≡ true)
+and_both true b e = (refl, e)
+and_both false b e = absurd cc
+
+-- ---- names
 
 -- names that pass the test are one
 pub same_name : (m n : Identifier) → bytes_eq m n ≡ true → m ≡ n
@@ -23,207 +40,198 @@ same_name m n e = (bytes_eq-Decides m n).0 e
 pub own_name : (n : Identifier) → bytes_eq n n ≡ true
 own_name n = (bytes_eq-Decides n n).1 refl
 
--- both hold, so the first does
-and_left : (a b : Bool) → (a && b) ≡ true → a ≡ true
-and_left true b e = refl
-and_left false b e = e
+other_way : (m n : Identifier) (b : Bool) → bytes_eq m n ≡ b → bytes_eq n m ≡ false → b ≡ false
+other_way m n false e h = refl
+other_way m n true e h =
+    let t : bytes_eq n m ≡ true = ap (λ k. bytes_eq n k) (same_name m n e) ∙ own_name n in
+    cc
 
--- both hold, so the second does
-and_right : (a b : Bool) → (a && b) ≡ true → b ≡ true
-and_right true b e = e
-and_right false b e = cc
+-- other names are so both ways round
+pub otherwise : (m n : Identifier) → bytes_eq n m ≡ false → bytes_eq m n ≡ false
+otherwise m n h = other_way m n (bytes_eq m n) refl h
 
--- nothing holds together with what is false
-and_false : (a : Bool) → (a && false) ≡ false
-and_false true = refl
-and_false false = refl
+apart_at : (names : List Identifier) (x m : Identifier) (b : Bool) → bytes_eq x m ≡ b → is_named_in names x ≡ false → is_named_in names m ≡ true → b ≡ false
+apart_at names x m false e f h = refl
+apart_at names x m true e f h =
+    let t : is_named_in names x ≡ true = ap (is_named_in names) (same_name x m e) ∙ h in
+    cc
 
--- of two that do not hold together, the first is false where the second holds
-not_both : (a b : Bool) → (a && b) ≡ false → b ≡ true → a ≡ false
-not_both true b e f = sym f ∙ e ∙ refl
-not_both false b e f = refl
+-- a name of a list is another than one that the list lacks
+pub apart : (names : List Identifier) (x m : Identifier) → is_named_in names x ≡ false → is_named_in names m ≡ true → bytes_eq x m ≡ false
+apart names x m f h = apart_at names x m (bytes_eq x m) refl f h
 
--- what is false adds nothing
-or_false : (a : Bool) → (a || false) ≡ a
-or_false true = refl
-or_false false = refl
+-- ---- a name taken out of a list
 
--- what is true decides
-or_true : (a : Bool) → (a || true) ≡ true
-or_true true = refl
-or_true false = refl
+stays_at : (n m x : Identifier) (xs : List Identifier) (b : Bool) → bytes_eq n x ≡ b → bytes_eq n m ≡ false → is_named_in (without n xs) m ≡ is_named_in xs m
+    → is_named_in (cond (not b) (x ∷ without n xs) (without n xs)) m ≡ (bytes_eq m x || is_named_in xs m)
+stays_at n m x xs false e h rest = ap (λ t. bytes_eq m x || t) rest
+stays_at n m x xs true e h rest =
+    rest ∙ sym (ap (λ t. t || is_named_in xs m) (ap (λ k. bytes_eq m k) (sym (same_name n x e)) ∙ otherwise m n h))
 
--- no sort passes as both
-pub time_not_data : (s : Option Sort) → passing is_time s ≡ true → passing is_data s ≡ false
-time_not_data None e = refl
-time_not_data (Some s) e = ap not e
+-- the other names stay
+pub stays : (n m : Identifier) (names : List Identifier) → bytes_eq n m ≡ false → is_named_in (without n names) m ≡ is_named_in names m
+stays n m [] h = refl
+stays n m (x ∷ xs) h = stays_at n m x xs (bytes_eq n x) refl h (stays n m xs h)
 
--- a data sort is not that of times
-pub data_not_time : (s : Option Sort) → passing is_data s ≡ true → passing is_time s ≡ false
-data_not_time None e = refl
-data_not_time (Some s) e = flipped (is_time s) e
+gone_at : (n x : Identifier) (xs : List Identifier) (b : Bool) → bytes_eq n x ≡ b → is_named_in (without n xs) n ≡ false
+    → is_named_in (cond (not b) (x ∷ without n xs) (without n xs)) n ≡ false
+gone_at n x xs false e rest = ap (λ t. t || is_named_in (without n xs) n) e ∙ rest
+gone_at n x xs true e rest = rest
+
+-- the name itself is gone
+pub gone : (n : Identifier) (names : List Identifier) → is_named_in (without n names) n ≡ false
+gone n [] = refl
+gone n (x ∷ xs) = gone_at n x xs (bytes_eq n x) refl (gone n xs)
+
+-- a name that is left is another
+pub left_apart : (n m : Identifier) (names : List Identifier) → is_named_in (without n names) m ≡ true → bytes_eq n m ≡ false
+left_apart n m names h = apart (without n names) n m (gone n names) h
+
+-- ---- counts
+
+-- a number counted unless the test holds
+more_cond : (b : Bool) (k m n : ℕ) → m ≤ n → cond b m (k + m) ≤ cond b n (k + n)
+more_cond true k m n h = h
+more_cond false k m n h = omega (arith, h)
+
+most_cond : (b : Bool) (k n : ℕ) → n ≤ cond b n (k + n)
+most_cond true k n = omega arith
+most_cond false k n = omega arith
+
+sooner_cond : (b : Bool) (k m n : ℕ) → suc m ≤ n → suc (cond b m (k + m)) ≤ cond b n (k + n)
+sooner_cond true k m n h = h
+sooner_cond false k m n h = omega (arith, h)
+
+-- one that passes counts once, and one that doesn't, nothing
+counted_once : (passes : Sort → Bool) (s : Option Sort) → passing passes s ≡ true → counted passes s ≡ 1
+counted_once passes None e = absurd cc
+counted_once passes (Some s) e = ap (λ b. cond b 1 0) e
+
+counted_never : (passes : Sort → Bool) (s : Option Sort) → passing passes s ≡ false → counted passes s ≡ 0
+counted_never passes None e = refl
+counted_never passes (Some s) e = ap (λ b. cond b 1 0) e
+
+pub counted_most : (passes : Sort → Bool) (s : Option Sort) → counted passes s ≤ 1
+counted_most passes None = omega arith
+counted_most passes (Some s) = one_at (passes s)
   where
-    flipped : (b : Bool) → not b ≡ true → b ≡ false
-    flipped true h = sym h
-    flipped false h = refl
+    one_at : (b : Bool) → cond b 1 0 ≤ 1
+    one_at true = omega arith
+    one_at false = omega arith
 
--- a sort that does not pass is not counted
-not_counted : (passes : Sort → Bool) (s : Option Sort) → passing passes s ≡ false → counted passes s ≡ 0
-not_counted passes None e = refl
-not_counted passes (Some s) e = ap (λ b. cond b 1 0) e
+pub counted_passing : (passes : Sort → Bool) (s : Option Sort) → counted passes s ≡ 1 → passing passes s ≡ true
+counted_passing passes None e = absurd (omega (arith, e))
+counted_passing passes (Some s) e = passes_at (passes s) e
+  where
+    passes_at : (b : Bool) → ◌≡◌ {A = ℕ} (cond b 1 0) 1 → b ≡ true
+    passes_at true h = refl
+    passes_at false h = absurd (omega (arith, h))
 
--- one that passes counts once
-once_counted : (passes : Sort → Bool) (s : Option Sort) → passing passes s ≡ true → counted passes s ≡ 1
-once_counted passes None e = cc
-once_counted passes (Some s) e = ap (λ b. cond b 1 0) e
+module _ (passes : Sort → Bool) (bs : Binders) where
+  -- a name that stands further on too isn't counted again
+  again : (x : Identifier) (xs : List Identifier) → is_named_in xs x ≡ true → count passes bs (x ∷ xs) ≡ count passes bs xs
+  again x xs e = ap (λ b. cond b (count passes bs xs) (counted passes (binder_sort bs x) + count passes bs xs)) e
 
--- ---- one name more
+  -- the last of its name is
+  newly : (x : Identifier) (xs : List Identifier) → is_named_in xs x ≡ false → count passes bs (x ∷ xs) ≡ counted passes (binder_sort bs x) + count passes bs xs
+  newly x xs e = ap (λ b. cond b (count passes bs xs) (counted passes (binder_sort bs x) + count passes bs xs)) e
 
-module _ (passes : Sort → Bool) (bs : Binders) (names kept : List Identifier) (n : Identifier) (k : IsKept passes bs names kept) where
-  -- a name that is kept already
-  already_at : is_named_in kept n ≡ true → (m : Identifier) (b : Bool) → bytes_eq m n ≡ b → is_named_in kept m ≡ ((b || is_named_in names m) && passing passes (binder_sort bs m))
-  already_at h m false e = k.each m
-  already_at h m true e =
-      let s : m ≡ n = same_name m n e in
-      let p : passing passes (binder_sort bs n) ≡ true = and_right (is_named_in names n) _ (sym (k.each n) ∙ h) in
-      ap (is_named_in kept) s ∙ h ∙ sym (ap (λ m. passing passes (binder_sort bs m)) s ∙ p)
+  -- so a name more is no fewer
+  no_fewer : (x : Identifier) (xs : List Identifier) → count passes bs xs ≤ count passes bs (x ∷ xs)
+  no_fewer x xs = most_cond (is_named_in xs x) (counted passes (binder_sort bs x)) (count passes bs xs)
 
-  -- so such a name changes nothing
-  pub already : is_named_in kept n ≡ true → IsKept passes bs (n ∷ names) kept
-  already h = record {
-    each = λ m. already_at h m (bytes_eq m n) refl;
-    many = ap (λ b. cond b (count passes bs names) (counted passes (binder_sort bs n) + count passes bs names)) (and_left (is_named_in names n) _ (sym (k.each n) ∙ h)) ∙ k.many;
-  }
+  -- the count of a list in which a name was taken out behind another
+  behind : (n x : Identifier) (xs : List Identifier) → bytes_eq n x ≡ false
+      → count passes bs (x ∷ without n xs) ≡ cond (is_named_in xs x) (count passes bs (without n xs)) (counted passes (binder_sort bs x) + count passes bs (without n xs))
+  behind n x xs e = ap (λ b. cond b (count passes bs (without n xs)) (counted passes (binder_sort bs x) + count passes bs (without n xs))) (stays n x xs e)
 
-  -- a name whose binder's sort does not pass
-  other_at : passing passes (binder_sort bs n) ≡ false → (m : Identifier) (b : Bool) → bytes_eq m n ≡ b → is_named_in kept m ≡ ((b || is_named_in names m) && passing passes (binder_sort bs m))
-  other_at h m false e = k.each m
-  other_at h m true e =
-      let p : passing passes (binder_sort bs m) ≡ false = ap (λ m. passing passes (binder_sort bs m)) (same_name m n e) ∙ h in
-      k.each m ∙ ap (λ b. is_named_in names m && b) p ∙ and_false (is_named_in names m) ∙ sym p
+  fewer_at : (n x : Identifier) (xs : List Identifier) (b : Bool) → bytes_eq n x ≡ b → count passes bs (without n xs) ≤ count passes bs xs
+      → count passes bs (cond (not b) (x ∷ without n xs) (without n xs)) ≤ count passes bs (x ∷ xs)
+  fewer_at n x xs true e rest = let more : count passes bs xs ≤ count passes bs (x ∷ xs) = no_fewer x xs in omega (arith, rest, more)
+  fewer_at n x xs false e rest =
+      subst (λ k. k ≤ count passes bs (x ∷ xs)) (sym (behind n x xs e)) (more_cond (is_named_in xs x) (counted passes (binder_sort bs x)) (count passes bs (without n xs)) (count passes bs xs) rest)
 
-  -- nothing added, whichever way the test goes
-  either_way : (b : Bool) (x : ℕ) → cond b x (0 + x) ≡ x
-  either_way true x = refl
-  either_way false x = omega arith
+  -- without a name there are no more
+  fewer : (n : Identifier) (xs : List Identifier) → count passes bs (without n xs) ≤ count passes bs xs
+  fewer n [] = omega arith
+  fewer n (x ∷ xs) = fewer_at n x xs (bytes_eq n x) refl (fewer n xs)
 
-  -- nor does such a name
-  pub other : passing passes (binder_sort bs n) ≡ false → IsKept passes bs (n ∷ names) kept
-  other h = record {
-    each = λ m. other_at h m (bytes_eq m n) refl;
-    many = ap (λ c. cond (is_named_in names n) (count passes bs names) (c + count passes bs names)) (not_counted passes (binder_sort bs n) h) ∙ either_way (is_named_in names n) (count passes bs names) ∙ k.many;
-  }
+  out_here : (n x : Identifier) (xs : List Identifier) (b : Bool) → n ≡ x → is_named_in xs n ≡ b → passing passes (binder_sort bs n) ≡ true
+      → (is_named_in xs n ≡ true → suc (count passes bs (without n xs)) ≤ count passes bs xs) → suc (count passes bs (without n xs)) ≤ count passes bs (x ∷ xs)
+  out_here n x xs true s i p rest =
+      let less : suc (count passes bs (without n xs)) ≤ count passes bs xs = rest i in
+      let more : count passes bs xs ≤ count passes bs (x ∷ xs) = no_fewer x xs in
+      omega (arith, less, more)
+  out_here n x xs false s i p rest =
+      let whole : count passes bs (x ∷ xs) ≡ counted passes (binder_sort bs x) + count passes bs xs = newly x xs (ap (is_named_in xs) (sym s) ∙ i) in
+      let one : counted passes (binder_sort bs x) ≡ 1 = counted_once passes (binder_sort bs x) (ap (λ k. passing passes (binder_sort bs k)) (sym s) ∙ p) in
+      let less : count passes bs (without n xs) ≤ count passes bs xs = fewer n xs in
+      omega (arith, whole, one, less)
 
-  -- a name whose binder's sort passes, for the first time
-  new_at : passing passes (binder_sort bs n) ≡ true → (m : Identifier) (b : Bool) → bytes_eq m n ≡ b → (is_named_in kept m || (b || false)) ≡ ((b || is_named_in names m) && passing passes (binder_sort bs m))
-  new_at h m false e = or_false (is_named_in kept m) ∙ k.each m
-  new_at h m true e = or_true (is_named_in kept m) ∙ sym (ap (λ m. passing passes (binder_sort bs m)) (same_name m n e) ∙ h)
+  out_at : (n x : Identifier) (xs : List Identifier) (b : Bool) → bytes_eq n x ≡ b → (b || is_named_in xs n) ≡ true → passing passes (binder_sort bs n) ≡ true
+      → (is_named_in xs n ≡ true → suc (count passes bs (without n xs)) ≤ count passes bs xs) → suc (count passes bs (cond (not b) (x ∷ without n xs) (without n xs))) ≤ count passes bs (x ∷ xs)
+  out_at n x xs true e i p rest = out_here n x xs (is_named_in xs n) (same_name n x e) refl p rest
+  out_at n x xs false e i p rest =
+      subst (λ k. suc k ≤ count passes bs (x ∷ xs)) (sym (behind n x xs e)) (sooner_cond (is_named_in xs x) (counted passes (binder_sort bs x)) (count passes bs (without n xs)) (count passes bs xs) (rest i))
 
-  -- such a name is kept, behind the others
-  pub newly : is_named_in kept n ≡ false → passing passes (binder_sort bs n) ≡ true → IsKept passes bs (n ∷ names) (kept ++ n ∷ [])
-  newly f h = record {
-    each = λ m. list_any-append (bytes_eq m) kept (n ∷ []) ∙ new_at h m (bytes_eq m n) refl;
-    many =
-        let first : is_named_in names n ≡ false = not_both (is_named_in names n) _ (sym (k.each n) ∙ f) h in
-        let one : counted passes (binder_sort bs n) ≡ 1 = once_counted passes (binder_sort bs n) h in
-        let same : count passes bs names ≡ length kept = k.many in
-        let long : length (kept ++ n ∷ []) ≡ length kept + 1 = length-append kept (n ∷ []) in
-        ap (λ b. cond b (count passes bs names) (counted passes (binder_sort bs n) + count passes bs names)) first ∙ omega (arith, one, same, long);
-  }
+  -- without a name that is counted there are fewer
+  out : (n : Identifier) (xs : List Identifier) → is_named_in xs n ≡ true → passing passes (binder_sort bs n) ≡ true → suc (count passes bs (without n xs)) ≤ count passes bs xs
+  out n [] i p = absurd cc
+  out n (x ∷ xs) i p = out_at n x xs (bytes_eq n x) refl i p (λ h. out n xs h p)
 
--- ---- tallies
+  within_at : (x : Identifier) (xs names : List Identifier) (b d : Bool) → is_named_in xs x ≡ b → passing passes (binder_sort bs x) ≡ d
+      → ((m : Identifier) → (bytes_eq m x || is_named_in xs m) ≡ true → passing passes (binder_sort bs m) ≡ true → is_named_in names m ≡ true)
+      → ((others : List Identifier) → ((m : Identifier) → is_named_in xs m ≡ true → passing passes (binder_sort bs m) ≡ true → is_named_in others m ≡ true) → count passes bs xs ≤ count passes bs others)
+      → count passes bs (x ∷ xs) ≤ count passes bs names
+  within_at x xs names true d i p h rest =
+      let same : count passes bs (x ∷ xs) ≡ count passes bs xs = again x xs i in
+      let less : count passes bs xs ≤ count passes bs names = rest names (λ m j q. h m (ap (λ t. bytes_eq m x || t) j ∙ or_true (bytes_eq m x)) q) in
+      omega (arith, same, less)
+  within_at x xs names false false i p h rest =
+      let same : count passes bs (x ∷ xs) ≡ counted passes (binder_sort bs x) + count passes bs xs = newly x xs i in
+      let none : counted passes (binder_sort bs x) ≡ 0 = counted_never passes (binder_sort bs x) p in
+      let less : count passes bs xs ≤ count passes bs names = rest names (λ m j q. h m (ap (λ t. bytes_eq m x || t) j ∙ or_true (bytes_eq m x)) q) in
+      omega (arith, same, none, less)
+  within_at x xs names false true i p h rest =
+      let same : count passes bs (x ∷ xs) ≡ counted passes (binder_sort bs x) + count passes bs xs = newly x xs i in
+      let one : counted passes (binder_sort bs x) ≡ 1 = counted_once passes (binder_sort bs x) p in
+      let there : is_named_in names x ≡ true = h x (ap (λ t. t || is_named_in xs x) (own_name x)) p in
+      let fewer : suc (count passes bs (without x names)) ≤ count passes bs names = out x names there p in
+      let less : count passes bs xs ≤ count passes bs (without x names) =
+          rest (without x names) (λ m j q. stays x m names (apart xs x m i j) ∙ h m (ap (λ t. bytes_eq m x || t) j ∙ or_true (bytes_eq m x)) q) in
+      omega (arith, same, one, fewer, less)
 
-module _ (bs : Binders) (names : List Identifier) (old : Tally) (r : Bor Identifier) (t : IsTally bs names old) where
-  -- the name is one of those that were counted
-  pub counted_time : is_named_in (names_behind old.times.items) r.now ≡ true → IsTally bs (r.now ∷ names) old
-  counted_time h = record {
-    times = already is_time bs names (names_behind old.times.items) r.now t.times h;
-    texts = other is_data bs names (names_behind old.texts.items) r.now t.texts (time_not_data (binder_sort bs r.now) (and_right (is_named_in names r.now) _ (sym (t.times.each r.now) ∙ h)));
-  }
+  -- names that all stand in another list are no more than those
+  pub within : (xs names : List Identifier) → ((m : Identifier) → is_named_in xs m ≡ true → passing passes (binder_sort bs m) ≡ true → is_named_in names m ≡ true) → count passes bs xs ≤ count passes bs names
+  within [] names h = omega arith
+  within (x ∷ xs) names h = within_at x xs names (is_named_in xs x) (passing passes (binder_sort bs x)) refl refl h (λ others k. within xs others k)
 
-  -- the same of data variables
-  pub counted_text : is_named_in (names_behind old.texts.items) r.now ≡ true → IsTally bs (r.now ∷ names) old
-  counted_text h = record {
-    times = other is_time bs names (names_behind old.times.items) r.now t.times (data_not_time (binder_sort bs r.now) (and_right (is_named_in names r.now) _ (sym (t.texts.each r.now) ∙ h)));
-    texts = already is_data bs names (names_behind old.texts.items) r.now t.texts h;
-  }
+  -- ---- names that are each counted
 
-  -- it has no binder
-  pub counts_nowhere : binder_sort bs r.now ≡ None → IsTally bs (r.now ∷ names) old
-  counts_nowhere h = record {
-    times = other is_time bs names (names_behind old.times.items) r.now t.times (ap (passing is_time) h);
-    texts = other is_data bs names (names_behind old.texts.items) r.now t.texts (ap (passing is_data) h);
-  }
+  most_at : (b : Bool) (k n l : ℕ) → k ≤ 1 → n ≤ l → cond b n (k + n) ≤ suc l
+  most_at true k n l h j = omega (arith, j)
+  most_at false k n l h j = omega (arith, h, j)
 
-  -- it is new, and a time variable, or a data variable
-  pub new_time : (new : Tally) (s : Sort) → is_named_in (names_behind old.times.items) r.now ≡ false → Some s ≡ binder_sort bs r.now → is_time s ≡ true
-      → new.times.items ≡ old.times.items ++ r ∷ [] → new.texts ≡ old.texts → IsTally bs (r.now ∷ names) new
-  new_time new s f h p e g =
-      let b : passing is_time (binder_sort bs r.now) ≡ true = ap (passing is_time) (sym h) ∙ p in
-      record {
-        times = subst (λ l. IsKept is_time bs (r.now ∷ names) l) (sym (ap names_behind e ∙ map-append (λ n. n.now) old.times.items (r ∷ []))) (newly is_time bs names (names_behind old.times.items) r.now t.times f b);
-        texts = subst (λ v. IsKept is_data bs (r.now ∷ names) (names_behind v.items)) (sym g) (other is_data bs names (names_behind old.texts.items) r.now t.texts (time_not_data (binder_sort bs r.now) b));
-      }
+  -- no list counts more than its length
+  pub at_most : (xs : List Identifier) → count passes bs xs ≤ length xs
+  at_most [] = omega arith
+  at_most (x ∷ xs) = most_at (is_named_in xs x) (counted passes (binder_sort bs x)) (count passes bs xs) (length xs) (counted_most passes (binder_sort bs x)) (at_most xs)
 
-  -- a data variable
-  pub new_text : (new : Tally) (s : Sort) → is_named_in (names_behind old.texts.items) r.now ≡ false → Some s ≡ binder_sort bs r.now → is_time s ≡ false
-      → new.texts.items ≡ old.texts.items ++ r ∷ [] → new.times ≡ old.times → IsTally bs (r.now ∷ names) new
-  new_text new s f h p e g =
-      let b : passing is_data (binder_sort bs r.now) ≡ true = ap (passing is_data) (sym h) ∙ ap not p in
-      record {
-        times = subst (λ v. IsKept is_time bs (r.now ∷ names) (names_behind v.items)) (sym g) (other is_time bs names (names_behind old.times.items) r.now t.times (data_not_time (binder_sort bs r.now) b));
-        texts = subst (λ l. IsKept is_data bs (r.now ∷ names) l) (sym (ap names_behind e ∙ map-append (λ n. n.now) old.texts.items (r ∷ []))) (newly is_data bs names (names_behind old.texts.items) r.now t.texts f b);
-      }
+  push_at : (x n : Identifier) (xs : List Identifier) (b : Bool) → is_named_in xs x ≡ b → bytes_eq x n ≡ false → count passes bs (xs ++ n ∷ []) ≡ count passes bs xs + 1
+      → count passes bs (x ∷ (xs ++ n ∷ [])) ≡ count passes bs (x ∷ xs) + 1
+  push_at x n xs b e d rest =
+      let front : is_named_in (xs ++ n ∷ []) x ≡ b = list_any-append (bytes_eq x) xs (n ∷ []) ∙ ap (λ t. is_named_in xs x || (t || false)) d ∙ or_false (is_named_in xs x) ∙ e in
+      ap (λ t. cond t (count passes bs (xs ++ n ∷ [])) (counted passes (binder_sort bs x) + count passes bs (xs ++ n ∷ []))) front
+      ∙ plus_one b
+      ∙ sym (ap (λ t. cond t (count passes bs xs) (counted passes (binder_sort bs x) + count passes bs xs) + 1) e)
+    where
+      plus_one : (b : Bool) → cond b (count passes bs (xs ++ n ∷ [])) (counted passes (binder_sort bs x) + count passes bs (xs ++ n ∷ [])) ≡ cond b (count passes bs xs) (counted passes (binder_sort bs x) + count passes bs xs) + 1
+      plus_one true = rest
+      plus_one false = omega (arith, rest)
 
--- ---- names behind references
-
--- a test of names behind references is that of the names
-pub among_behind : (ns : List (Bor Identifier)) (m : Identifier) → list_any (λ (n : Bor Identifier). bytes_eq m n.now) ns ≡ is_named_in (names_behind ns) m
-among_behind [] m = refl
-among_behind (n ∷ ns) m = ap (λ b. bytes_eq m n.now || b) (among_behind ns m)
-
--- ---- more names make no formula narrower
-
--- one more is no fewer
-count_cons : (b : Bool) (k n : ℕ) → n ≤ cond b n (k + n)
-count_cons true k n = omega arith
-count_cons false k n = omega arith
-
--- more names are no fewer
-count_more : (passes : Sort → Bool) (bs : Binders) (ms ns : List Identifier) → count passes bs ns ≤ count passes bs (ms ++ ns)
-count_more passes bs [] ns = omega arith
-count_more passes bs (m ∷ ms) ns =
-    let rest : count passes bs ns ≤ count passes bs (ms ++ ns) = count_more passes bs ms ns in
-    let one : count passes bs (ms ++ ns) ≤ count passes bs (m ∷ (ms ++ ns)) = count_cons (is_named_in (ms ++ ns) m) (counted passes (binder_sort bs m)) (count passes bs (ms ++ ns)) in
-    omega (arith, rest, one)
-
--- more than a number that is above 8 is above 8
-lt_more : (a b : ℕ) → a ≤ b → nat_lt 8 a ≡ true → nat_lt 8 b ≡ true
-lt_more a b le e = grind (arith, nat_tests)
-
--- the same of two numbers
-either_more : (a b c d : ℕ) → a ≤ c → b ≤ d → (p : Bool) → nat_lt 8 a ≡ p → (p || nat_lt 8 b) ≡ true → (nat_lt 8 c || nat_lt 8 d) ≡ true
-either_more a b c d le le' true e h = ap (λ t. t || nat_lt 8 d) (lt_more a c le e)
-either_more a b c d le le' false e h = ap (λ t. nat_lt 8 c || t) (lt_more b d le' h) ∙ or_true (nat_lt 8 c)
-
--- a list that is too wide stays so with more names in front
-pub still_too_many : (bs : Binders) (ms ns : List Identifier) → too_many bs ns ≡ true → too_many bs (ms ++ ns) ≡ true
-still_too_many bs ms ns h =
-    either_more (count is_time bs ns) (count is_data bs ns) (count is_time bs (ms ++ ns)) (count is_data bs (ms ++ ns))
-    (count_more is_time bs ms ns) (count_more is_data bs ms ns) (nat_lt 8 (count is_time bs ns)) refl h
-
--- the names behind what is left, one that is taken, and those that are done
-pub names_regrouped : (front done : List (Bor Identifier)) (r : Bor Identifier) (ms : List Identifier)
-    → ms ++ names_behind ((front ++ r ∷ []) ++ done) ≡ (ms ++ names_behind front) ++ (r.now ∷ names_behind done)
-names_regrouped front done r ms =
-    ap (λ l. ms ++ names_behind l) (append_assoc front (r ∷ []) done) ∙ ap (λ l. ms ++ l) (map-append (λ n. n.now) front (r ∷ done)) ∙ sym (append_assoc ms (names_behind front) (r.now ∷ names_behind done))
-
--- whether one passes, and the others
-passed : (b : Bool) (n : Bor Identifier) (l : List (Bor Identifier)) (m : List Identifier) → names_behind l ≡ m → names_behind (cond b (n ∷ l) l) ≡ cond b (n.now ∷ m) m
-passed true n l m e = ap (λ m. n.now ∷ m) e
-passed false n l m e = e
-
--- the names that pass, behind references or not
-pub filter_behind : (p : Identifier → Bool) (ns : List (Bor Identifier)) → names_behind (filter (λ (n : Bor Identifier). p n.now) ns) ≡ filter p (names_behind ns)
-filter_behind p [] = refl
-filter_behind p (n ∷ ns) = passed (p n.now) n (filter (λ (n : Bor Identifier). p n.now) ns) (filter p (names_behind ns)) (filter_behind p ns)
+  -- one that is new and passes is one more
+  pub pushed : (n : Identifier) (xs : List Identifier) → is_named_in xs n ≡ false → passing passes (binder_sort bs n) ≡ true → count passes bs (xs ++ n ∷ []) ≡ count passes bs xs + 1
+  pushed n [] f p = let one : counted passes (binder_sort bs n) ≡ 1 = counted_once passes (binder_sort bs n) p in omega (arith, one)
+  pushed n (x ∷ xs) f p =
+      let neither = or_neither (bytes_eq n x) (is_named_in xs n) f in
+      push_at x n xs (is_named_in xs x) refl (otherwise x n neither.0) (pushed n xs neither.1 p)

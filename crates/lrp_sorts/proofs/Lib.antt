@@ -2,6 +2,8 @@ pub mod Binding
 pub mod FaultLists
 pub mod ColumnFaults
 pub mod Counting
+pub mod Kept
+pub mod Tallies
 pub mod SortNames
 pub mod RawNodes
 pub mod Heads

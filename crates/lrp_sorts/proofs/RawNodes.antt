@@ -1,10 +1,10 @@
 -- What the nodes of a raw formula show, from what their members show.
-use Rattle.std.proofs.Common.{◌≡◌, ℕ, List, [], ◌∷◌, ◌++◌, Option, Result, Ok, Err, IfOk, OnOk, Box, Vec, Global, refl, ap, sym, ◌∙◌, rules, ◌+◌, ◌<◌, length, take, get_or, append_assoc}
+use Rattle.std.proofs.Common.{◌≡◌, ℕ, List, [], ◌∷◌, ◌++◌, Option, Result, Ok, Err, IfOk, OnOk, Box, Vec, Global, refl, ap, sym, subst, ◌∙◌, rules, ◌+◌, ◌<◌, length, take, get_or, append_assoc}
 use Rattle.std.proofs.lemmas.List.{take_more, append-nil}
 use Rattle.lrp_model.specs.Texts.{Identifier}
 use Rattle.lrp_model.specs.Faults.{first, fault_if}
 use Rattle.lrp_model.specs.RawQueries.{raw_kind, raw_form_of, raw_forms_of, raw_not, raw_implies, raw_group, raw_exists, raw_forall}
-use Rattle.lrp_model.specs.Sorting.{Binders, stands, fault, too_many, free_names, free_names_each, form_faults, forms_faults, widened, place_of, binder_faults}
+use Rattle.lrp_model.specs.Sorting.{Binders, stands, fault, too_many, free_names, free_names_each, form_faults, forms_faults, widened, without, place_of, binder_faults}
 use Rattle.lrp_model.specs.declared.tokens.Place.{Place}
 use Rattle.lrp_model.specs.declared.relations.Relation.{Relation}
 use Rattle.lrp_model.specs.declared.faults.QueryFault.{QueryFault}
@@ -17,7 +17,8 @@ use Rattle.lrp_rel.specs.Sooner.{sooner}
 use Rattle.lrp_rel.proofs.FirstFault.{first_of_both}
 use Rattle.lrp_sorts.specs.declared.finding.Finding.{Finding}
 use Rattle.lrp_sorts.specs.Scopes.{Around, binders}
-use Rattle.lrp_sorts.specs.Widths.{names_behind}
+use Rattle.lrp_sorts.specs.Widths.{IsTally, IsCounted}
+use Rattle.lrp_sorts.specs.declared.width.Tally.{Tally}
 
 -- ---- nodes of the tree in memory
 
@@ -62,9 +63,24 @@ fault_then (Ok x) a b e h = h ∙ e
 fault_then (Err x) a b e h = h
 
 -- the same of names
-pub free_then : {E : Type 0} (r : Result Finding E) (a b : List Identifier) → a ≡ b → IfOk r (λ made. names_behind made.free.items ≡ a) → IfOk r (λ made. names_behind made.free.items ≡ b)
-free_then (Ok x) a b e h = h ∙ e
-free_then (Err x) a b e h = h
+pub free_then : {E : Type 0} (around : Around) (r : Result Finding E) (a b : List Identifier) → a ≡ b → IfOk r (λ made. IsCounted around a made.free) → IfOk r (λ made. IsCounted around b made.free)
+free_then around (Ok x) a b e h = subst (λ ns. IsCounted around ns x.free) e h
+free_then around (Err x) a b e h = h
+
+-- the same of a tally that is there
+pub counted_then : (around : Around) (a b : List Identifier) (t u : Tally) → a ≡ b → u ≡ t → IsCounted around a t → IsCounted around b u
+counted_then around a b t u e d h = subst (λ ns. IsCounted around ns u) e (subst (λ v. IsCounted around a v) (sym d) h)
+
+-- the tally of two formulas together
+pub both_then : {E : Type 0} (around : Around) (r : Result Finding E) (q : ℕ) (names others all : List Identifier) (left right : Tally) → q ≡ length around.quantifiers → names ++ others ≡ all
+    → IsCounted around names left → IsCounted around others right
+    → IfOk r (λ made. (bs : Binders) (ns os : List Identifier) → IsTally bs q ns left → IsTally bs q os right → IsTally bs q (ns ++ os) made.free)
+    → IfOk r (λ made. IsCounted around all made.free)
+both_then around (Ok x) q names others all left right e w l m h =
+    subst (λ ns. IsCounted around ns x.free) w
+    (subst (λ n. IsTally (binders around) n (names ++ others) x.free) e
+    (h (binders around) names others (subst (λ n. IsTally (binders around) n names left) (sym e) l) (subst (λ n. IsTally (binders around) n others right) (sym e) m)))
+both_then around (Err x) q names others all left right e w l m h = h
 
 -- ---- widths
 
@@ -123,15 +139,35 @@ module _ (db : List Relation) (bs : Binders) where
       sym (first_of_both stands (binder_faults db bs c) (widened (c ∷ bs) (c.name ∷ []) (raw_form_of b.value) (form_faults (raw_form_of b.value) db (c ∷ bs))))
       ∙ ap (λ g. first stands (form_faults g db bs)) (sym (ap (λ k. raw_kind k f.place) e ∙ raw_kind-Forall c b f.place))
 
--- ---- the names of members
+-- ---- the names of nodes
 
--- those of an `and`
+-- those of a `not`
+pub not_names : (f : RawFormula) (b : Box RawFormula Global) → f.kind ≡ Not b → free_names (raw_form_of b.value) ≡ free_names (raw_form_of f)
+not_names f b e = ap free_names (sym (ap (λ k. raw_kind k f.place) e ∙ raw_kind-Not b f.place))
+
+-- of a formula in parentheses
+pub group_names : (f : RawFormula) (b : Box RawFormula Global) → f.kind ≡ Group b → free_names (raw_form_of b.value) ≡ free_names (raw_form_of f)
+group_names f b e = ap free_names (sym (ap (λ k. raw_kind k f.place) e ∙ raw_kind-Group b f.place))
+
+-- of an `and`
 pub and_names : (f : RawFormula) (v : Vec RawFormula Global) → f.kind ≡ And v → free_names_each (raw_forms_of v.items) ≡ free_names (raw_form_of f)
 and_names f v e = ap free_names (sym (ap (λ k. raw_kind k f.place) e ∙ raw_kind-And v f.place))
 
--- those of an `or`
+-- of an `or`
 pub or_names : (f : RawFormula) (v : Vec RawFormula Global) → f.kind ≡ Or v → free_names_each (raw_forms_of v.items) ≡ free_names (raw_form_of f)
 or_names f v e = ap free_names (sym (ap (λ k. raw_kind k f.place) e ∙ raw_kind-Or v f.place))
+
+-- of an `implies`
+pub implies_names : (f : RawFormula) (b d : Box RawFormula Global) → f.kind ≡ Implies b d → free_names (raw_form_of b.value) ++ free_names (raw_form_of d.value) ≡ free_names (raw_form_of f)
+implies_names f b d e = ap free_names (sym (ap (λ k. raw_kind k f.place) e ∙ raw_kind-Implies b d f.place))
+
+-- of an `exists`
+pub exists_names : (f : RawFormula) (c : RawColumn) (b : Box RawFormula Global) → f.kind ≡ Exists c b → without c.name (free_names (raw_form_of b.value)) ≡ free_names (raw_form_of f)
+exists_names f c b e = ap free_names (sym (ap (λ k. raw_kind k f.place) e ∙ raw_kind-Exists c b f.place))
+
+-- of a `forall`
+pub forall_names : (f : RawFormula) (c : RawColumn) (b : Box RawFormula Global) → f.kind ≡ Forall c b → without c.name (free_names (raw_form_of b.value)) ≡ free_names (raw_form_of f)
+forall_names f c b e = ap free_names (sym (ap (λ k. raw_kind k f.place) e ∙ raw_kind-Forall c b f.place))
 
 -- ---- what the walk has at a node
 
@@ -142,24 +178,24 @@ then_ok (Err x) P Q h f = h
 
 module _ (db : List Relation) where
   -- a member's fault with its width, the member being read through references
-  pub shown : (around after : Around) (extra : List Identifier) (v g h : RawFormula) (inside : Finding)
-      → after ≡ around → g ≡ v → h ≡ v → names_behind inside.free.items ≡ free_names (raw_form_of g) → inside.fault ≡ first stands (form_faults (raw_form_of g) db (binders around))
-      → sooner stands (first stands (fault_if (too_many (binders after) (extra ++ names_behind inside.free.items)) (fault Wide h.place))) inside.fault
+  pub shown : (around after : Around) (extra : List Identifier) (v g h : RawFormula) (inside : Option QueryFault)
+      → after ≡ around → g ≡ v → h ≡ v → inside ≡ first stands (form_faults (raw_form_of g) db (binders around))
+      → sooner stands (first stands (fault_if (too_many (binders after) (extra ++ free_names (raw_form_of g))) (fault Wide h.place))) inside
       ≡ first stands (widened (binders around) extra (raw_form_of v) (form_faults (raw_form_of v) db (binders around)))
-  shown around after extra v g h inside a e k n f =
-      ap (λ x. sooner stands (first stands (fault_if (too_many (binders x) (extra ++ names_behind inside.free.items)) (fault Wide h.place))) inside.fault) a
-      ∙ ap (λ x. sooner stands (first stands (fault_if (too_many (binders around) (extra ++ names_behind inside.free.items)) (fault Wide x.place))) inside.fault) k
-      ∙ width_shows db (binders around) extra v (names_behind inside.free.items) inside.fault (n ∙ ap (λ x. free_names (raw_form_of x)) e) (f ∙ ap (λ x. first stands (form_faults (raw_form_of x) db (binders around))) e)
+  shown around after extra v g h inside a e k f =
+      ap (λ x. sooner stands (first stands (fault_if (too_many (binders x) (extra ++ free_names (raw_form_of g))) (fault Wide h.place))) inside) a
+      ∙ ap (λ x. sooner stands (first stands (fault_if (too_many (binders around) (extra ++ free_names (raw_form_of g))) (fault Wide x.place))) inside) k
+      ∙ width_shows db (binders around) extra v (free_names (raw_form_of g)) inside (ap (λ x. free_names (raw_form_of x)) e) (f ∙ ap (λ x. first stands (form_faults (raw_form_of x) db (binders around))) e)
 
   -- the same one quantifier further in, with the faults of the quantifier's binder
-  pub shown_bound : (around within after : Around) (c : RawColumn) (own : Option QueryFault) (v g h : RawFormula) (inside : Finding)
+  pub shown_bound : (around within after : Around) (c : RawColumn) (own : Option QueryFault) (v g h : RawFormula) (inside : Option QueryFault)
       → within ≡ record around { quantifiers = c ∷ around.quantifiers } → after ≡ within → own ≡ first stands (binder_faults db (binders around) c)
-      → g ≡ v → h ≡ v → names_behind inside.free.items ≡ free_names (raw_form_of g) → inside.fault ≡ first stands (form_faults (raw_form_of g) db (binders within))
-      → sooner stands own (sooner stands (first stands (fault_if (too_many (binders after) (c.name ∷ names_behind inside.free.items)) (fault Wide h.place))) inside.fault)
+      → g ≡ v → h ≡ v → inside ≡ first stands (form_faults (raw_form_of g) db (binders within))
+      → sooner stands own (sooner stands (first stands (fault_if (too_many (binders after) (c.name ∷ free_names (raw_form_of g))) (fault Wide h.place))) inside)
       ≡ sooner stands (first stands (binder_faults db (binders around) c)) (first stands (widened (c ∷ binders around) (c.name ∷ []) (raw_form_of v) (form_faults (raw_form_of v) db (c ∷ binders around))))
-  shown_bound around within after c own v g h inside w a o e k n f =
-      ap (λ x. sooner stands x (sooner stands (first stands (fault_if (too_many (binders after) (c.name ∷ names_behind inside.free.items)) (fault Wide h.place))) inside.fault)) o
-      ∙ ap (sooner stands (first stands (binder_faults db (binders around) c))) (shown within after (c.name ∷ []) v g h inside a e k n f)
+  shown_bound around within after c own v g h inside w a o e k f =
+      ap (λ x. sooner stands x (sooner stands (first stands (fault_if (too_many (binders after) (c.name ∷ free_names (raw_form_of g))) (fault Wide h.place))) inside)) o
+      ∙ ap (sooner stands (first stands (binder_faults db (binders around) c))) (shown within after (c.name ∷ []) v g h inside a e k f)
       ∙ ap (λ x. sooner stands (first stands (binder_faults db (binders around) c)) (first stands (widened (binders x) (c.name ∷ []) (raw_form_of v) (form_faults (raw_form_of v) db (binders x))))) w
 
 -- ---- the members of a list, one after the other

@@ -11,21 +11,19 @@ use Rattle.lrp_model.specs.declared.relations.Relation.{Relation}
 use Rattle.lrp_rel.specs.Sooner.{sooner}
 use Rattle.lrp_rel.proofs.FirstFault.{first_of_both}
 use Rattle.lrp_sorts.specs.Scopes.{Around, binders}
-use Rattle.lrp_sorts.specs.Widths.{names_behind}
-use Rattle.lrp_sorts.specs.declared.finding.Finding.{Finding}
 use Rattle.lrp_sorts.proofs.RawNodes.{shown}
 
 -- the faults of the head's binders, of its width, and of the body with its width, one after the other
-pub survey_faults : (db catalog : List Relation) (q : RawQuery) (columns : List RawColumn) (scope after : Around) (opened head width total body : Option QueryFault) (inside : Finding)
+pub survey_faults : (db catalog : List Relation) (q : RawQuery) (columns : List RawColumn) (scope : Around) (opened head width total body inside : Option QueryFault)
     → catalog ≡ db → columns ≡ q.head → scope ≡ record { quantifiers = []; head = columns } → opened ≡ first stands (head_faults catalog [] columns)
     → width ≡ first stands (ninth (fault Wide) 0 0 columns) → head ≡ sooner stands opened width
-    → after ≡ scope → names_behind inside.free.items ≡ free_names (raw_form_of q.body) → inside.fault ≡ first stands (form_faults (raw_form_of q.body) catalog (binders scope))
-    → body ≡ sooner stands (first stands (fault_if (too_many (binders after) ([] ++ names_behind inside.free.items)) (fault Wide q.body.place))) inside.fault
+    → inside ≡ first stands (form_faults (raw_form_of q.body) catalog (binders scope))
+    → body ≡ sooner stands (first stands (fault_if (too_many (binders scope) (free_names (raw_form_of q.body))) (fault Wide q.body.place))) inside
     → total ≡ sooner stands head body → total ≡ first stands (faults db (raw_question_of q))
-survey_faults db catalog q columns scope after opened head width total body inside d e s o w h a n f b t =
+survey_faults db catalog q columns scope opened head width total body inside d e s o w h f b t =
     let form = raw_form_of q.body in
     let body_is : body ≡ first stands (widened (reverse q.head) [] form (form_faults form db (reverse q.head))) =
-    b ∙ shown catalog scope after [] q.body q.body q.body inside a refl refl n f
+    b ∙ shown catalog scope scope [] q.body q.body q.body inside refl refl refl f
     ∙ ap (λ x. first stands (widened (binders x) [] form (form_faults form catalog (binders x)))) (s ∙ ap (λ cs. record { quantifiers = []; head = cs }) e)
     ∙ ap (λ x. first stands (widened (reverse q.head) [] form (form_faults form x (reverse q.head)))) d in
     let head_is : head ≡ first stands (head_faults db [] q.head ++ ninth (fault Wide) 0 0 q.head) =

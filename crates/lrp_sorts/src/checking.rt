@@ -31,7 +31,7 @@ fn survey<'a>(alloc: Global, raw: &'a RawQuery, db: &Database) -> Result<Opening
     let columns = raw.head.as_slice();
     let Opening { fault, mut scope } = open(alloc, &catalog, columns)?;
     let inside = inspect(alloc, &catalog, &mut scope, &raw.body)?;
-    let body = with_width(alloc, &scope, None, raw.body.place, inside)?;
+    let body = with_width(raw.body.place, inside);
     let head = sooner_of(fault, head_width(columns));
     Ok(Opening {
         fault: sooner_of(head, body.fault),

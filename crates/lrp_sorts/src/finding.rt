@@ -1,26 +1,27 @@
 // What the checker finds in a formula.
-ghost use Rattle.std.specs.Prelude.{◌≡◌, ◌∷◌, ◌++◌, IfOk, OnOk, flat_map, not, bytes_eq};
+ghost use Rattle.std.specs.Prelude.{◌≡◌, ◌∷◌, ◌++◌, List, ℕ, flat_map, IfOk, OnOk};
+ghost use Rattle.lrp_model.specs.Texts.{Identifier};
 ghost use Rattle.lrp_model.specs.Faults.{first, fault_if};
-ghost use Rattle.lrp_model.specs.Sorting.{stands, fault, too_many, sort_faults, binder_faults, form_faults, free_names, without, term_names, term_faults, time_faults, compare_faults};
+ghost use Rattle.lrp_model.specs.Sorting.{Binders, stands, fault, too_many, sort_faults, binder_faults, form_faults, free_names, without, term_names, term_faults, time_faults, compare_faults};
 ghost use Rattle.lrp_model.specs.RawQueries.{raw_atom};
 ghost use Rattle.lrp_model.specs.declared.faults.QueryKind.TheVariants.{Wide as wide, Rebound as rebound};
 ghost use Rattle.lrp_rel.specs.Sooner.{sooner};
 ghost use Rattle.lrp_sorts.specs.Scopes.{Around, binders};
-ghost use Rattle.lrp_sorts.specs.Widths.{names_behind, added};
+ghost use Rattle.lrp_sorts.specs.Widths.{IsTally, IsCounted, added};
 
 use crate::catalog::Catalog;
 use crate::earliest::{fault_where, sooner_of};
 use crate::scope::Scope;
 use crate::terms::{atom_fault, compare_fault, member_fault};
-use crate::width::is_wide;
+use crate::width::Tally;
 use lrp_model::{Memory, Name, Op, Place, QueryFault, QueryKind, RawColumn, RawTerm, RawTermKind};
 use std::alloc::Global;
 
-/// The first fault in a formula, and the names that occur free in it, some more than once.
+/// The first fault in a formula, and the variables that occur free in it.
 #[derive(Drop)]
 pub struct Finding<'a> {
     pub fault: Option<QueryFault>,
-    pub free: Vec<&'a Name>,
+    pub free: Tally<'a>,
 }
 
 // The name in a term.
@@ -33,36 +34,33 @@ fn term_name(term: &RawTerm) -> Option<&Name>
     }
 }
 
-// What two formulas show together.
-pub fn both<'a>(left: Finding<'a>, right: Finding<'a>) -> Result<Finding<'a>, Memory>
+// What two formulas show together, within so many quantifiers.
+pub fn both<'a>(
+    quantifiers: usize,
+    left: Finding<'a>,
+    right: Finding<'a>,
+) -> Result<Finding<'a>, Memory>
     ensures fault { IfOk result (λ made. made.fault ≡ sooner stands left.entry.fault right.entry.fault) }
-    ensures free { IfOk result (λ made. names_behind made.free.items ≡ names_behind left.entry.free.items ++ names_behind right.entry.free.items) }
+    ensures free { IfOk result (λ made. (bs : Binders) (names others : List Identifier) → IsTally bs quantifiers names left.entry.free → IsTally bs quantifiers others right.entry.free → IsTally bs quantifiers (names ++ others) made.free) }
 {
     let mut free = left.free;
-    free.extend_from_slice(&right.free)?;
+    free.join(quantifiers, &right.free)?;
     Ok(Finding {
         fault: sooner_of(left.fault, right.fault),
         free,
     })
 }
 
-// What a formula shows, its own width among it. The quantifier that takes it, if one does, adds its name.
-pub fn with_width<'a>(
-    alloc: Global,
-    scope: &Scope<'_>,
-    bound: Option<&'a Name>,
-    place: Place,
-    inside: Finding<'a>,
-) -> Result<Finding<'a>, Memory>
-    ensures fault { IfOk result (λ made. made.fault ≡ sooner stands (first stands (fault_if (too_many (binders scope.now) (added bound.entry ++ names_behind inside.entry.free.items)) (fault wide place))) inside.entry.fault) }
-    ensures free { IfOk result (λ made. made.free.items ≡ inside.entry.free.items) }
+// What a formula shows, its own width among it.
+pub fn with_width<'a>(place: Place, inside: Finding<'a>) -> Finding<'a>
+    ensures fault { (bs : Binders) (quantifiers : ℕ) (names : List Identifier) → IsTally bs quantifiers names inside.entry.free → result.fault ≡ sooner stands (first stands (fault_if (too_many bs names) (fault wide place))) inside.entry.fault }
+    ensures free { result.free ≡ inside.entry.free }
 {
-    let wide = is_wide(alloc, scope, bound, &inside.free)?;
-    let own = fault_where(wide, QueryKind::Wide, place);
-    Ok(Finding {
+    let own = fault_where(inside.free.is_wide(), QueryKind::Wide, place);
+    Finding {
         fault: sooner_of(own, inside.fault),
         free: inside.free,
-    })
+    }
 }
 
 // The first fault of a binder, whose name is bound around it or not.
@@ -87,61 +85,66 @@ pub fn bind<'a>(
     Ok(own)
 }
 
-// What a quantified formula shows, outside its quantifier again.
+// What a quantified formula shows, outside its quantifier again. Its own variable counts as free inside.
 pub fn unbind<'a>(
-    alloc: Global,
     scope: &mut Scope<'a>,
     binder: &'a RawColumn,
     own: Option<QueryFault>,
     place: Place,
     inside: Finding<'a>,
 ) -> Result<Finding<'a>, Memory>
-    ensures fault { IfOk result (λ made. made.fault ≡ sooner stands own (sooner stands (first stands (fault_if (too_many (binders scope.old) (binder.now.name ∷ names_behind inside.entry.free.items)) (fault wide place))) inside.entry.fault)) }
-    ensures free { IfOk result (λ made. names_behind made.free.items ≡ without binder.now.name (names_behind inside.entry.free.items)) }
+    ensures fault { (outer : Around) (names : List Identifier) → scope.old ≡ record outer { quantifiers = binder.now ∷ outer.quantifiers } → IsCounted scope.old names inside.entry.free → IfOk result (λ made. made.fault ≡ sooner stands own (sooner stands (first stands (fault_if (too_many (binders scope.old) (binder.now.name ∷ names)) (fault wide place))) inside.entry.fault)) }
+    ensures free { (outer : Around) (names : List Identifier) → scope.old ≡ record outer { quantifiers = binder.now ∷ outer.quantifiers } → IsCounted scope.old names inside.entry.free → IfOk result (λ made. IsCounted outer (without binder.now.name names) made.free) }
     ensures scope { OnOk result ((outer : Around) → scope.old ≡ record outer { quantifiers = binder.now ∷ outer.quantifiers } → scope.new ≡ outer) }
 {
-    let within = with_width(alloc, scope, Some(&binder.name), place, inside)?;
+    let mut all = inside.free;
+    all.add(scope.quantifiers(), &binder.name, &binder.sort)?;
+    let within = with_width(
+        place,
+        Finding {
+            fault: inside.fault,
+            free: all,
+        },
+    );
     scope.leave();
+    let mut free = within.free;
+    free.leave(&binder.name);
     Ok(Finding {
         fault: sooner_of(own, within.fault),
-        free: others(within.free, &binder.name),
+        free,
     })
 }
 
-// The names other than one.
-fn others<'a>(names: Vec<&'a Name>, name: &Name) -> Vec<&'a Name>
-    ensures { names_behind result.items ≡ without name.now (names_behind names.entry.items) }
+// The variable in a term, with those before.
+fn add_variable<'a>(
+    variables: &mut Tally<'a>,
+    scope: &Scope<'_>,
+    term: &'a RawTerm,
+) -> Result<(), Memory>
+    ensures { OnOk result ((names : List Identifier) → IsCounted scope.now names variables.old → IsCounted scope.now (names ++ term_names term.now) variables.new) }
 {
-    let mut left = names;
-    left.retain(|n| is_other(name, n));
-    left
+    let Some(name) = term_name(term) else {
+        return Ok(());
+    };
+    let Some(sort) = scope.sort_of(name) else {
+        return Ok(());
+    };
+    variables.add(scope.quantifiers(), name, sort)
 }
 
-fn is_other(name: &Name, other: &Name) -> bool
-    ensures { result ≡ not (bytes_eq name.now other.now) }
+// The variables in terms.
+fn variables_of<'a>(
+    alloc: Global,
+    scope: &Scope<'_>,
+    terms: &'a [RawTerm],
+) -> Result<Tally<'a>, Memory>
+    ensures { IfOk result (IsCounted scope.now (flat_map term_names terms.now)) }
 {
-    name != other
-}
-
-// The names of terms, behind others.
-fn add_name<'a>(names: &mut Vec<&'a Name>, term: &'a RawTerm) -> Result<(), Memory>
-    ensures { OnOk result (names_behind names.new.items ≡ names_behind names.old.items ++ term_names term.now) }
-{
-    if let Some(name) = term_name(term) {
-        names.push(name)?;
-    }
-    Ok(())
-}
-
-// The names in terms, in order.
-fn names_in<'a>(alloc: Global, terms: &'a [RawTerm]) -> Result<Vec<&'a Name>, Memory>
-    ensures { IfOk result (λ made. names_behind made.items ≡ flat_map term_names terms.now) }
-{
-    let mut names = Vec::with_capacity(alloc, terms.len())?;
+    let mut variables = Tally::new(alloc);
     for term in terms {
-        add_name(&mut names, term)?;
+        add_variable(&mut variables, scope, term)?;
     }
-    Ok(names)
+    Ok(variables)
 }
 
 // What an atom shows.
@@ -154,11 +157,11 @@ pub fn atom<'a>(
     terms: &'a [RawTerm],
 ) -> Result<Finding<'a>, Memory>
     ensures fault { IfOk result (λ made. made.fault ≡ first stands (form_faults (raw_atom place relation.now terms.now) catalog.now (binders scope.now))) }
-    ensures free { IfOk result (λ made. names_behind made.free.items ≡ free_names (raw_atom place relation.now terms.now)) }
+    ensures free { IfOk result (λ made. IsCounted scope.now (free_names (raw_atom place relation.now terms.now)) made.free) }
 {
     Ok(Finding {
         fault: atom_fault(scope, place, terms, catalog.relation(relation)),
-        free: names_in(alloc, terms)?,
+        free: variables_of(alloc, scope, terms)?,
     })
 }
 
@@ -171,11 +174,11 @@ pub fn comparison<'a>(
     right: &'a RawTerm,
 ) -> Result<Finding<'a>, Memory>
     ensures fault { IfOk result (λ made. made.fault ≡ first stands (term_faults (binders scope.now) left.now ++ term_faults (binders scope.now) right.now ++ compare_faults (binders scope.now) left.now op right.now)) }
-    ensures free { IfOk result (λ made. names_behind made.free.items ≡ term_names left.now ++ term_names right.now) }
+    ensures free { IfOk result (λ made. IsCounted scope.now (term_names left.now ++ term_names right.now) made.free) }
 {
-    let mut free = Vec::new(alloc);
-    add_name(&mut free, left)?;
-    add_name(&mut free, right)?;
+    let mut free = Tally::new(alloc);
+    add_variable(&mut free, scope, left)?;
+    add_variable(&mut free, scope, right)?;
     Ok(Finding {
         fault: compare_fault(scope, left, op, right),
         free,
@@ -189,10 +192,10 @@ pub fn membership<'a>(
     term: &'a RawTerm,
 ) -> Result<Finding<'a>, Memory>
     ensures fault { IfOk result (λ made. made.fault ≡ first stands (term_faults (binders scope.now) term.now ++ time_faults (binders scope.now) term.now)) }
-    ensures free { IfOk result (λ made. names_behind made.free.items ≡ term_names term.now) }
+    ensures free { IfOk result (λ made. IsCounted scope.now (term_names term.now) made.free) }
 {
-    let mut free = Vec::new(alloc);
-    add_name(&mut free, term)?;
+    let mut free = Tally::new(alloc);
+    add_variable(&mut free, scope, term)?;
     Ok(Finding {
         fault: member_fault(scope, term),
         free,

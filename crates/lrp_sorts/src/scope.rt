@@ -1,5 +1,5 @@
 // The binders around a formula, looked up by their names.
-ghost use Rattle.std.specs.Prelude.{◌≡◌, ◌∷◌, OnOk, option_map, map, reverse, []};
+ghost use Rattle.std.specs.Prelude.{◌≡◌, ◌∷◌, OnOk, option_map, map, reverse, length, []};
 ghost use Rattle.lrp_model.specs.Sorting.{binder_sort};
 ghost use Rattle.lrp_sorts.specs.Scopes.{Around, binders, kept_at};
 ghost use Rattle.lrp_model.specs.Texts.{Identifier};
@@ -52,6 +52,13 @@ impl<'a> Scope<'a> {
             Some(sort) => Some(sort),
             None => self.sorts.get(name.as_bytes()).copied(),
         }
+    }
+
+    // How many quantifiers there are.
+    pub fn quantifiers(&self) -> usize
+        ensures { result ≡ length self.now.quantifiers }
+    {
+        self.quantifiers.len()
     }
 
     // One quantifier further in.

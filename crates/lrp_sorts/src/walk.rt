@@ -4,18 +4,19 @@ ghost use Rattle.lrp_model.specs.Faults.{first};
 ghost use Rattle.lrp_model.specs.RawQueries.{raw_form_of, raw_forms_of};
 ghost use Rattle.lrp_model.specs.Sorting.{stands, form_faults, forms_faults, free_names, free_names_each};
 ghost use Rattle.lrp_sorts.specs.Scopes.{binders};
-ghost use Rattle.lrp_sorts.specs.Widths.{names_behind};
+ghost use Rattle.lrp_sorts.specs.Widths.{IsCounted};
 
 use crate::catalog::Catalog;
 use crate::finding::{Finding, atom, bind, both, comparison, membership, unbind, with_width};
 use crate::scope::Scope;
+use crate::width::Tally;
 use lrp_model::{Memory, RawFormula, RawKind};
 use std::alloc::Global;
 
 // What a formula shows within the binders of the scope, all but its own width.
 //
-// The names of a formula go up to the formula around it. So the walk looks at each name once for each formula that it is in:
-// it takes time linear in the text times the depth.
+// The variables of a formula go up to the formula around it, each once. So a formula takes time by the variables of its parts, of which
+// there are few where none is too wide.
 #[cycle(walking)]
 pub fn inspect<'a>(
     alloc: Global,
@@ -24,7 +25,7 @@ pub fn inspect<'a>(
     f: &'a RawFormula,
 ) -> Result<Finding<'a>, Memory>
     ensures fault { IfOk result (λ made. made.fault ≡ first stands (form_faults (raw_form_of f.now) catalog.now (binders scope.old))) }
-    ensures free { IfOk result (λ made. names_behind made.free.items ≡ free_names (raw_form_of f.now)) }
+    ensures free { IfOk result (λ made. IsCounted scope.old (free_names (raw_form_of f.now)) made.free) }
     ensures scope { OnOk result (scope.new ≡ scope.old) }
 {
     match &f.kind {
@@ -35,30 +36,30 @@ pub fn inspect<'a>(
         RawKind::Member { term, .. } => membership(alloc, scope, term),
         RawKind::Not { of } => {
             let inside = inspect(alloc, catalog, scope, of)?;
-            with_width(alloc, scope, None, of.place, inside)
+            Ok(with_width(of.place, inside))
         }
         RawKind::Group { of } => {
             let inside = inspect(alloc, catalog, scope, of)?;
-            with_width(alloc, scope, None, of.place, inside)
+            Ok(with_width(of.place, inside))
         }
         RawKind::And { of } => inspect_each(alloc, catalog, scope, of),
         RawKind::Or { of } => inspect_each(alloc, catalog, scope, of),
         RawKind::Implies { left, right } => {
             let before = inspect(alloc, catalog, scope, left)?;
-            let before = with_width(alloc, scope, None, left.place, before)?;
+            let before = with_width(left.place, before);
             let behind = inspect(alloc, catalog, scope, right)?;
-            let behind = with_width(alloc, scope, None, right.place, behind)?;
-            both(before, behind)
+            let behind = with_width(right.place, behind);
+            both(scope.quantifiers(), before, behind)
         }
         RawKind::Exists { binder, of } => {
             let own = bind(catalog, scope, binder)?;
             let inside = inspect(alloc, catalog, scope, of)?;
-            unbind(alloc, scope, binder, own, of.place, inside)
+            unbind(scope, binder, own, of.place, inside)
         }
         RawKind::Forall { binder, of } => {
             let own = bind(catalog, scope, binder)?;
             let inside = inspect(alloc, catalog, scope, of)?;
-            unbind(alloc, scope, binder, own, of.place, inside)
+            unbind(scope, binder, own, of.place, inside)
         }
     }
 }
@@ -72,17 +73,17 @@ fn inspect_each<'a>(
     fs: &'a [RawFormula],
 ) -> Result<Finding<'a>, Memory>
     ensures fault { IfOk result (λ made. made.fault ≡ first stands (forms_faults (raw_forms_of fs.now) catalog.now (binders scope.old))) }
-    ensures free { IfOk result (λ made. names_behind made.free.items ≡ free_names_each (raw_forms_of fs.now)) }
+    ensures free { IfOk result (λ made. IsCounted scope.old (free_names_each (raw_forms_of fs.now)) made.free) }
     ensures scope { OnOk result (scope.new ≡ scope.old) }
 {
     let mut found = Finding {
         fault: None,
-        free: Vec::new(alloc),
+        free: Tally::new(alloc),
     };
     for f in fs {
         let inside = inspect(alloc, catalog, scope, f)?;
-        let one = with_width(alloc, scope, None, f.place, inside)?;
-        found = both(found, one)?;
+        let one = with_width(f.place, inside);
+        found = both(scope.quantifiers(), found, one)?;
     }
     Ok(found)
 }

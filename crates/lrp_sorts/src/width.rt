@@ -1,19 +1,20 @@
-// Whether too many variables occur free in a formula.
-ghost use Rattle.std.specs.Prelude.{◌≡◌, ◌∷◌, ◌++◌, [], List, IfOk, OnOk};
+// The variables that occur free in a formula, as they are counted.
+ghost use Rattle.std.specs.Prelude.{◌≡◌, ◌∷◌, ◌++◌, [], List, ℕ, Bool, true, suc, not, bytes_eq, Some, OnOk};
 ghost use Rattle.lrp_model.specs.Texts.{Identifier};
 ghost use Rattle.lrp_model.specs.Faults.{is_named_in};
-ghost use Rattle.lrp_model.specs.Sorting.{Binders, too_many};
-ghost use Rattle.lrp_sorts.specs.Scopes.{binders};
-ghost use Rattle.lrp_sorts.specs.Widths.{IsTally, names_behind, added};
+ghost use Rattle.lrp_model.specs.Sorting.{Binders, binder_sort, too_many, without};
+ghost use Rattle.lrp_model.specs.declared.raw.RawColumn.{RawColumn};
+ghost use Rattle.lrp_model.specs.declared.relations.Sort.{Sort as SortOf};
+ghost use Rattle.lrp_sorts.specs.Widths.{IsKept, IsTally, names_behind, passing};
 
-use crate::scope::Scope;
-use lrp_model::{Memory, Name};
+use lrp_model::{Memory, Name, Sort};
 use std::alloc::Global;
 
 // The most variables of a kind that may occur free in a formula.
 const MOST: usize = 8;
 
-/// The names of time variables and of data variables that were met, each once.
+/// The names of time variables and of data variables that occur free, each once. A list that is longer than 8 and the number of the quantifiers
+/// around stays too long, however many of these take a name off, so it need not grow.
 #[derive(Drop)]
 pub struct Tally<'a> {
     pub times: Vec<&'a Name>,
@@ -21,8 +22,9 @@ pub struct Tally<'a> {
 }
 
 impl<'a> Tally<'a> {
-    fn new(alloc: Global) -> Self
-        ensures { (bs : Binders) → IsTally bs [] result }
+    // No names.
+    pub fn new(alloc: Global) -> Self
+        ensures { (bs : Binders) (quantifiers : ℕ) → IsTally bs quantifiers [] result }
     {
         Tally {
             times: Vec::new(alloc),
@@ -30,28 +32,45 @@ impl<'a> Tally<'a> {
         }
     }
 
-    // One name more; a name without a binder is not counted.
-    fn add(&mut self, scope: &Scope<'_>, name: &'a Name) -> Result<(), Memory>
-        ensures { OnOk result ((names : List Identifier) → IsTally (binders scope.now) names self.old → IsTally (binders scope.now) (name.now ∷ names) self.new) }
+    // One name more, whose binder has this sort.
+    pub fn add(&mut self, quantifiers: usize, name: &'a Name, sort: &Sort) -> Result<(), Memory>
+        ensures { OnOk result ((bs : Binders) (names : List Identifier) → binder_sort bs name.now ≡ Some sort.now → IsTally bs quantifiers names self.old → IsTally bs quantifiers (names ++ name.now ∷ []) self.new) }
     {
-        if is_among(&self.times, name) || is_among(&self.texts, name) {
-            return Ok(());
+        if sort.is_time() {
+            keep(&mut self.times, quantifiers, name)
+        } else {
+            keep(&mut self.texts, quantifiers, name)
         }
-        if let Some(sort) = scope.sort_of(name) {
-            if sort.is_time() {
-                self.times.push(name)?;
-            } else {
-                self.texts.push(name)?;
-            }
-        }
-        Ok(())
     }
 
-    fn is_wide(&self) -> bool
-        ensures { (bs : Binders) (names : List Identifier) → IsTally bs names self.now → result ≡ too_many bs names }
+    // The names of another formula too.
+    pub fn join(&mut self, quantifiers: usize, other: &Tally<'a>) -> Result<(), Memory>
+        ensures { OnOk result ((bs : Binders) (names others : List Identifier) → IsTally bs quantifiers names self.old → IsTally bs quantifiers others other.now → IsTally bs quantifiers (names ++ others) self.new) }
+    {
+        keep_each(&mut self.times, quantifiers, &other.times)?;
+        keep_each(&mut self.texts, quantifiers, &other.texts)
+    }
+
+    // Outside a quantifier, whose name is not free there.
+    pub fn leave(&mut self, name: &Name)
+        ensures { (c : RawColumn) (bs : Binders) (quantifiers : ℕ) (names : List Identifier) → c.name ≡ name.now → IsTally (c ∷ bs) (suc quantifiers) names self.old → IsTally bs quantifiers (without name.now names) self.new }
+    {
+        self.times.retain(|n| is_other(name, n));
+        self.texts.retain(|n| is_other(name, n));
+    }
+
+    // More than 8 variables of sort time, or more than 8 of all data sorts together.
+    pub fn is_wide(&self) -> bool
+        ensures { (bs : Binders) (quantifiers : ℕ) (names : List Identifier) → IsTally bs quantifiers names self.now → result ≡ too_many bs names }
     {
         self.times.len() > MOST || self.texts.len() > MOST
     }
+}
+
+fn is_other(name: &Name, other: &Name) -> bool
+    ensures { result ≡ not (bytes_eq name.now other.now) }
+{
+    name != other
 }
 
 fn is_among(names: &[&Name], name: &Name) -> bool
@@ -60,26 +79,23 @@ fn is_among(names: &[&Name], name: &Name) -> bool
     names.iter().any(|n| *name == **n)
 }
 
-// More than 8 variables of sort time, or more than 8 of all data sorts together, among those that a quantifier adds and these.
-//
-// It looks at each name once, against at most 16 others, and stops at the ninth variable of a kind.
-pub fn is_wide<'a>(
-    alloc: Global,
-    scope: &Scope<'_>,
-    bound: Option<&'a Name>,
-    names: &[&'a Name],
-) -> Result<bool, Memory>
-    ensures { IfOk result (λ wide. wide ≡ too_many (binders scope.now) (added bound.entry ++ names_behind names.now)) }
+// A name among others of its kind, unless they are too many anyway.
+fn keep<'a>(kept: &mut Vec<&'a Name>, quantifiers: usize, name: &'a Name) -> Result<(), Memory>
+    ensures { OnOk result ((passes : SortOf → Bool) (bs : Binders) (names : List Identifier) → passing passes (binder_sort bs name.now) ≡ true → IsKept passes bs quantifiers names (names_behind kept.old.items) → IsKept passes bs quantifiers (names ++ name.now ∷ []) (names_behind kept.new.items)) }
 {
-    let mut tally = Tally::new(alloc);
-    for name in names.iter().rev() {
-        tally.add(scope, name)?;
-        if tally.is_wide() {
-            return Ok(true);
-        }
+    let more = kept.len().saturating_sub(MOST);
+    if more <= quantifiers && !is_among(kept, name) {
+        kept.push(name)?;
     }
-    if let Some(name) = bound {
-        tally.add(scope, name)?;
+    Ok(())
+}
+
+// The names of another list, each so.
+fn keep_each<'a>(kept: &mut Vec<&'a Name>, quantifiers: usize, others: &[&'a Name]) -> Result<(), Memory>
+    ensures { OnOk result ((passes : SortOf → Bool) (bs : Binders) (names more : List Identifier) → IsKept passes bs quantifiers names (names_behind kept.old.items) → IsKept passes bs quantifiers more (names_behind others.now) → IsKept passes bs quantifiers (names ++ more) (names_behind kept.new.items)) }
+{
+    for name in others {
+        keep(kept, quantifiers, *name)?;
     }
-    Ok(tally.is_wide())
+    Ok(())
 }

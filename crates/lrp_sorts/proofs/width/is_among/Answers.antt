@@ -2,7 +2,7 @@ use Rattle.std.proofs.Common.{◌∙◌, bytes_eq, rules, tests, Bor}
 use Rattle.std.proofs.lemmas.Iterator.{YieldsList-from_slice}
 use Rattle.std.proofs.lemmas.Iterator.Search.{any_from_yields_List}
 use Rattle.lrp_model.specs.Texts.{Identifier}
-use Rattle.lrp_sorts.proofs.Counting.{among_behind}
+use Rattle.lrp_sorts.proofs.Tallies.{among_behind}
 use Rattle.lrp_sorts.proofs.width.is_among.Goals as goal
 
 pub returns : goal.returns

@@ -1,22 +1,18 @@
-use Rattle.std.proofs.Common.{ap, sym, ◌∙◌, refl, option_map}
-use Rattle.lrp_model.specs.Faults.{is_named_in}
-use Rattle.lrp_sorts.specs.Scopes.{binders}
-use Rattle.lrp_sorts.specs.Widths.{names_behind}
-use Rattle.lrp_sorts.proofs.Counting.{new_time, new_text}
+use Rattle.std.proofs.Common.{refl, sym, ◌∙◌}
+use Rattle.lrp_model.specs.Sorts.{is_time, is_data}
+use Rattle.lrp_sorts.specs.declared.width.Tally.{Tally}
+use Rattle.lrp_sorts.proofs.RawNodes.{then_ok}
+use Rattle.lrp_sorts.proofs.Tallies.{time_counted, text_counted}
 use Rattle.lrp_sorts.proofs.width.Tally.add.Goals as goal
 
-pub returns-in_ok-push : goal.returns-in_ok-push
-returns-in_ok-push c = λ names t.
-    new_time (binders c.args.scope.now) names c.args.self.now c.args.name t _ c.in-Some.sort.now
-    (ap (λ ns. is_named_in (names_behind ns) c.args.name.now) (sym c.deref.ensures.value) ∙ sym c.is_among.ensures ∙ c.if-is_among.false)
-    (ap (option_map (λ s. s.now)) (sym c.in-Some.is) ∙ c.sort_of.ensures)
-    (sym c.is_time.ensures ∙ c.if-is_time.true)
-    c.in_ok-push.ensures.items refl
+pub returns-then-is_time : goal.returns-then-is_time
+returns-then-is_time c =
+    let new : Tally = record { times = c.keep.new.kept; texts = c.args.self.now.texts } in
+    then_ok c.keep.result _ _ c.keep.ensures (λ kept bs names h t.
+    time_counted bs c.args.quantifiers names c.args.self.now c.args.name.now t new c.args.sort.now h (sym c.is_time.ensures ∙ c.if-is_time.true) (λ p k. kept is_time bs names p k) refl)
 
-pub returns-in_ok-push-2 : goal.returns-in_ok-push-2
-returns-in_ok-push-2 c = λ names t.
-    new_text (binders c.args.scope.now) names c.args.self.now c.args.name t _ c.in-Some.sort.now
-    (ap (λ ns. is_named_in (names_behind ns) c.args.name.now) (sym c.deref-else-is_among.ensures.value) ∙ sym c.is_among-else-is_among.ensures ∙ c.if-is_among-2.false)
-    (ap (option_map (λ s. s.now)) (sym c.in-Some.is) ∙ c.sort_of.ensures)
-    (sym c.is_time.ensures ∙ c.if-is_time.false)
-    c.in_ok-push-2.ensures.items refl
+pub returns-else-is_time : goal.returns-else-is_time
+returns-else-is_time c =
+    let new : Tally = record { times = c.args.self.now.times; texts = c.keep-else-is_time.new.kept } in
+    then_ok c.keep-else-is_time.result _ _ c.keep-else-is_time.ensures (λ kept bs names h t.
+    text_counted bs c.args.quantifiers names c.args.self.now c.args.name.now t new c.args.sort.now h (sym c.is_time.ensures ∙ c.if-is_time.false) (λ p k. kept is_data bs names p k) refl)
