@@ -198,7 +198,7 @@ module _ (passes : Sort → Bool) (bs : Binders) where
       let there : is_named_in names x ≡ true = h x (ap (λ t. t || is_named_in xs x) (own_name x)) p in
       let fewer : suc (count passes bs (without x names)) ≤ count passes bs names = out x names there p in
       let less : count passes bs xs ≤ count passes bs (without x names) =
-          rest (without x names) (λ m j q. stays x m names (apart xs x m i j) ∙ h m (ap (λ t. bytes_eq m x || t) j ∙ or_true (bytes_eq m x)) q) in
+      rest (without x names) (λ m j q. stays x m names (apart xs x m i j) ∙ h m (ap (λ t. bytes_eq m x || t) j ∙ or_true (bytes_eq m x)) q) in
       omega (arith, same, one, fewer, less)
 
   -- names that all stand in another list are no more than those

@@ -82,13 +82,20 @@ one_column_faults db cs i c found next own bound lt is n o b f =
 
 -- ---- the map from names to sorts
 
--- whether the name is the column's or not
-kept_choice : (b : Bool) (s : Bor Sort) (old : Option (Bor Sort)) → option_map (λ (s : Bor Sort). s.now) (cond b (Some s) old) ≡ cond b (Some s.now) (option_map (λ (s : Bor Sort). s.now) old)
-kept_choice true s old = refl
-kept_choice false s old = refl
+-- whether the name is the one or not
+kept_choice : (b : Bool) (w old : Option (Bor Sort)) → option_map (λ (s : Bor Sort). s.now) (cond b w old) ≡ cond b (option_map (λ (s : Bor Sort). s.now) w) (option_map (λ (s : Bor Sort). s.now) old)
+kept_choice true w old = refl
+kept_choice false w old = refl
+
+-- a map in which a name was bound, or is no more
+pub updated : {S : Type 0} (k : Bor (List ℕ)) (m n : HashMap (Bor (List ℕ)) (Bor Sort) S) (w : Option (Bor Sort)) → UpdatesBy (λ x y. bytes_eq x.now y.now) (λ y. bytes_eq k.now y.now) m n w
+    → (name : Identifier) → kept_at n name ≡ cond (bytes_eq k.now name) (option_map (λ (s : Bor Sort). s.now) w) (kept_at m name)
+updated k m n w u name =
+    ap (option_map (λ (s : Bor Sort). s.now)) (u.0 (record { ref_ptr = (0, 0); now = name }))
+    ∙ kept_choice (bytes_eq k.now name) w (get_by (λ (y : Bor (List ℕ)). bytes_eq name y.now) m)
 
 -- the same of the binder
-sort_choice : (b : Bool) (c : RawColumn) (found : Option RawColumn) → cond b (Some c.sort) (option_map (λ (c : RawColumn). c.sort) found) ≡ option_map (λ (c : RawColumn). c.sort) (cond b (Some c) found)
+pub sort_choice : (b : Bool) (c : RawColumn) (found : Option RawColumn) → cond b (Some c.sort) (option_map (λ (c : RawColumn). c.sort) found) ≡ option_map (λ (c : RawColumn). c.sort) (cond b (Some c) found)
 sort_choice true c found = refl
 sort_choice false c found = refl
 
@@ -98,8 +105,7 @@ pub one_column_kept : {S : Type 0} (k : Bor (List ℕ)) (s : Bor Sort) (m n : Ha
     → ((name : Identifier) → kept_at m name ≡ binder_sort (reverse (take i cs)) name)
     → (name : Identifier) → kept_at n name ≡ binder_sort (reverse (take (i + 1) cs)) name
 one_column_kept k s m n cs i c lt is e f u old name =
-    ap (option_map (λ (s : Bor Sort). s.now)) (u.0 (record { ref_ptr = (0, 0); now = name }))
-    ∙ kept_choice (bytes_eq k.now name) s (get_by (λ (y : Bor (List ℕ)). bytes_eq name y.now) m)
+    updated k m n (Some s) u name
     ∙ ap (λ x. cond (bytes_eq k.now name) (Some s.now) x) (old name)
     ∙ ap (λ x. cond (bytes_eq x name) (Some s.now) (binder_sort (reverse (take i cs)) name)) e
     ∙ ap (λ x. cond (bytes_eq c.name name) (Some x) (binder_sort (reverse (take i cs)) name)) f

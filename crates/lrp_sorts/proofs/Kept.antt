@@ -120,7 +120,7 @@ module _ (passes : Sort → Bool) (bs : Binders) (q : ℕ) where
       room : length kept ≤ 8 + q → length more ≤ 8 + q
       room l =
           let less : count passes bs more ≤ count passes bs kept =
-              within passes bs more kept (λ m h p. k.every l m (list_any-append (bytes_eq m) before more ∙ ap (λ t. is_named_in before m || t) h ∙ or_true (is_named_in before m)) p) in
+          within passes bs more kept (λ m h p. k.every l m (list_any-append (bytes_eq m) before more ∙ ap (λ t. is_named_in before m || t) h ∙ or_true (is_named_in before m)) p) in
           let one : count passes bs more ≡ length more = j.once in
           let other : count passes bs kept ≡ length kept = k.once in
           omega (arith, less, one, other, l)
@@ -168,7 +168,7 @@ module _ (passes : Sort → Bool) where
     outer_at x xs false e f rest =
         let one : counted passes (binder_sort bs x) ≡ 1 = ap (counted passes) (sym (outside x e)) ∙ f.counts in
         let whole : count passes bs (x ∷ without c.name xs) ≡ counted passes (binder_sort bs x) + count passes bs (without c.name xs) =
-            ap (λ t. cond t (count passes bs (without c.name xs)) (counted passes (binder_sort bs x) + count passes bs (without c.name xs))) (stays c.name x xs e ∙ f.alone) in
+        ap (λ t. cond t (count passes bs (without c.name xs)) (counted passes (binder_sort bs x) + count passes bs (without c.name xs))) (stays c.name x xs e ∙ f.alone) in
         let others : count passes bs (without c.name xs) ≡ length (without c.name xs) = rest.0 in
         let less : length xs ≤ suc (length (without c.name xs)) = rest.1 in
         (omega (arith, one, whole, others), omega (arith, less))

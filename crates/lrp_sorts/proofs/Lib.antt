@@ -9,4 +9,5 @@ pub mod RawNodes
 pub mod Heads
 pub mod PlainForms
 pub mod Surveys
+pub mod Nested
 pub mod Carries

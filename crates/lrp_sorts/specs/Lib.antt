@@ -1,4 +1,5 @@
 pub mod Scopes
+pub mod Nesting
 pub mod Terms
 pub mod Widths
 pub mod Outcomes

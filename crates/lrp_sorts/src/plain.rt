@@ -7,7 +7,7 @@ ghost use Rattle.lrp_model.specs.RawQueries.{raw_form_of, raw_forms_of};
 ghost use Rattle.lrp_sorts.specs.Scopes.{Around, binders};
 
 use crate::scope::Scope;
-use crate::terms::term_sort;
+use crate::terms::is_data;
 use lrp_model::{
     Column, Copies, DataTerm, DataText, Formula, List, Memory, Op, RawColumn, RawFormula, RawKind,
     RawTerm, RawTermKind, Term, Test, TimeTerm,
@@ -53,7 +53,7 @@ fn data_term(alloc: Global, term: &RawTerm) -> Result<DataTerm, Memory>
 fn plain_term(alloc: Global, scope: &Scope<'_>, term: &RawTerm) -> Result<Term, Memory>
     ensures { IfOk result (λ made. made ≡ term_of (binders scope.now) term.now) }
 {
-    if term_sort(scope, term).is_data() {
+    if is_data(scope, term) {
         Ok(Term::Data {
             term: data_term(alloc, term)?,
         })
@@ -84,8 +84,7 @@ fn plain_comparison(
 ) -> Result<Test, Memory>
     ensures { IfOk result (λ made. made ≡ compare_of (binders scope.now) left.now op right.now) }
 {
-    let of_data = term_sort(scope, left).is_data() && term_sort(scope, right).is_data();
-    if op == Op::Eq && of_data {
+    if op == Op::Eq && is_data(scope, left) && is_data(scope, right) {
         Ok(Test::Equal {
             left: data_term(alloc, left)?,
             right: data_term(alloc, right)?,

@@ -1,5 +1,5 @@
 // The binders around a formula, looked up by their names.
-ghost use Rattle.std.specs.Prelude.{◌≡◌, ◌∷◌, OnOk, option_map, map, reverse, length, []};
+ghost use Rattle.std.specs.Prelude.{◌≡◌, ◌∷◌, OnOk, OnErr, IsSome, Some, option_map, reverse, length, [], if◌then◌else◌, bytes_eq};
 ghost use Rattle.lrp_model.specs.Sorting.{binder_sort};
 ghost use Rattle.lrp_sorts.specs.Scopes.{Around, binders, kept_at};
 ghost use Rattle.lrp_model.specs.Texts.{Identifier};
@@ -9,25 +9,31 @@ use std::alloc::Global;
 use std::collections::HashMap;
 use std::marker::Model;
 
-/// The head's columns, and the quantifiers around a formula.
+/// A quantifier's binder, and the sort that its name has outside, where it is bound there too.
+#[derive(Clone, Copy)]
+pub struct Quantifier<'a> {
+    pub binder: &'a RawColumn,
+    pub outer: Option<&'a Sort>,
+}
+
+/// The head's columns, and the quantifiers around a formula. A map has the sort of each name's innermost binder.
 #[derive(Drop)]
 pub struct Scope<'a> {
     columns: &'a [RawColumn],
     sorts: HashMap<&'a [u8], &'a Sort>,
-    quantifiers: Vec<&'a RawColumn>,
+    quantifiers: Vec<Quantifier<'a>>,
 }
 
 impl<'a> Model for Scope<'a> {
-    ghost use Rattle.std.specs.Prelude.{◌≡◌, reverse, map};
-    ghost use Rattle.lrp_model.specs.Texts.{Identifier};
-    ghost use Rattle.lrp_model.specs.Sorting.{binder_sort};
-    ghost use Rattle.lrp_sorts.specs.Scopes.{Around, kept_at};
+    ghost use Rattle.std.specs.Prelude.{reverse, map};
+    ghost use Rattle.lrp_sorts.specs.Scopes.{Around};
+    ghost use Rattle.lrp_sorts.specs.Nesting.{IsNested};
 
     ghost Value = { Around };
 
-    ghost view = { λ a. record { quantifiers = reverse (map (λ c. c.now) a.quantifiers.items); head = a.columns.now } };
+    ghost view = { λ a. record { quantifiers = reverse (map (λ q. q.binder.now) a.quantifiers.items); head = a.columns.now } };
 
-    ghost invariant = { λ a. (n : Identifier) → kept_at a.sorts n ≡ binder_sort (reverse a.columns.now) n };
+    ghost invariant = { λ a. IsNested a.sorts (reverse a.quantifiers.items) (reverse a.columns.now) };
 }
 
 impl<'a> Scope<'a> {
@@ -47,11 +53,7 @@ impl<'a> Scope<'a> {
     pub fn sort_of(&self, name: &Name) -> Option<&'a Sort>
         ensures { option_map (λ s. s.now) result ≡ binder_sort (binders self.now) name.now }
     {
-        let quantifiers = &self.quantifiers;
-        match innermost(quantifiers, name) {
-            Some(sort) => Some(sort),
-            None => self.sorts.get(name.as_bytes()).copied(),
-        }
+        self.sorts.get(name.as_bytes()).copied()
     }
 
     // How many quantifiers there are.
@@ -65,21 +67,53 @@ impl<'a> Scope<'a> {
     pub fn enter(&mut self, binder: &'a RawColumn) -> Result<(), Memory>
         ensures { OnOk result (self.new ≡ record self.old { quantifiers = binder.now ∷ self.old.quantifiers }) }
     {
-        self.quantifiers.push(binder)?;
-        Ok(())
+        let outer = self.sort_of(&binder.name);
+        self.quantifiers.push(Quantifier { binder, outer })?;
+        match bind_name(&mut self.sorts, binder.name.as_bytes(), &binder.sort) {
+            Ok(()) => Ok(()),
+            Err(refused) => {
+                self.quantifiers.pop();
+                Err(refused)
+            }
+        }
     }
 
     // Out of the innermost quantifier.
     pub fn leave(&mut self)
         ensures { (c : RawColumn) (outer : Around) → self.old ≡ record outer { quantifiers = c ∷ outer.quantifiers } → self.new ≡ outer }
     {
-        self.quantifiers.pop();
+        let Some(last) = self.quantifiers.pop() else {
+            return;
+        };
+        restore(&mut self.sorts, last.binder.name.as_bytes(), last.outer);
     }
 }
 
-fn innermost<'a>(quantifiers: &[&'a RawColumn], name: &Name) -> Option<&'a Sort>
-    ensures { option_map (λ s. s.now) result ≡ binder_sort (reverse (map (λ c. c.now) quantifiers.now)) name.now }
+// A name, bound to a sort from now on.
+fn bind_name<'a>(
+    sorts: &mut HashMap<&'a [u8], &'a Sort>,
+    name: &'a [u8],
+    sort: &'a Sort,
+) -> Result<(), Memory>
+    ensures bound { OnOk result ((n : Identifier) → kept_at sorts.new n ≡ (if bytes_eq name.now n then Some sort.now else kept_at sorts.old n)) }
+    ensures refused { OnErr result ((n : Identifier) → kept_at sorts.new n ≡ kept_at sorts.old n) }
 {
-    let found = quantifiers.iter().rev().find(|c| c.name == *name)?;
-    Some(&found.sort)
+    sorts.insert(name, sort)?;
+    Ok(())
+}
+
+// A name that is bound, with the sort that it has outside.
+fn restore<'a>(sorts: &mut HashMap<&'a [u8], &'a Sort>, name: &'a [u8], outer: Option<&'a Sort>)
+    requires { IsSome (kept_at sorts.old name.now) }
+    ensures { (n : Identifier) → kept_at sorts.new n ≡ (if bytes_eq name.now n then option_map (λ s. s.now) outer.entry else kept_at sorts.old n) }
+{
+    match outer {
+        Some(sort) => match sorts.insert(name, sort) {
+            Ok(_) => {}
+            Err(_) => unreachable!(),
+        },
+        None => {
+            sorts.remove(name);
+        }
+    }
 }

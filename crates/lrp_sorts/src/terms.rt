@@ -57,7 +57,7 @@ impl<'a> Sorted<'a> {
 }
 
 // The sort of a term among the binders around it.
-pub fn term_sort<'a>(scope: &Scope<'a>, term: &RawTerm) -> Sorted<'a>
+fn term_sort<'a>(scope: &Scope<'a>, term: &RawTerm) -> Sorted<'a>
     ensures { sort_told result ≡ sort_by (binders scope.now) term.now }
 {
     match &term.kind {
@@ -71,6 +71,17 @@ pub fn term_sort<'a>(scope: &Scope<'a>, term: &RawTerm) -> Sorted<'a>
             Some(_) => Sorted::Instant,
             None => Sorted::Unbound,
         },
+    }
+}
+
+// Whether a term is of a data sort. Only a name alone is looked up.
+pub fn is_data(scope: &Scope<'_>, term: &RawTerm) -> bool
+    ensures { result ≡ is_data_term (sort_by (binders scope.now) term.now) }
+{
+    match &term.kind {
+        RawTermKind::Text { .. } => true,
+        RawTermKind::Int { .. } | RawTermKind::Shifted { .. } => false,
+        RawTermKind::Var { .. } => term_sort(scope, term).is_data(),
     }
 }
 
@@ -160,11 +171,7 @@ pub fn atom_fault(
 fn time_fault(scope: &Scope<'_>, term: &RawTerm) -> Option<QueryFault>
     ensures { result ≡ first stands (time_faults (binders scope.now) term.now) }
 {
-    fault_where(
-        term_sort(scope, term).is_data(),
-        QueryKind::Sort,
-        term.place,
-    )
+    fault_where(is_data(scope, term), QueryKind::Sort, term.place)
 }
 
 // Sides of a comparison that do not go together.

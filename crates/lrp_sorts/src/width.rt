@@ -91,7 +91,11 @@ fn keep<'a>(kept: &mut Vec<&'a Name>, quantifiers: usize, name: &'a Name) -> Res
 }
 
 // The names of another list, each so.
-fn keep_each<'a>(kept: &mut Vec<&'a Name>, quantifiers: usize, others: &[&'a Name]) -> Result<(), Memory>
+fn keep_each<'a>(
+    kept: &mut Vec<&'a Name>,
+    quantifiers: usize,
+    others: &[&'a Name],
+) -> Result<(), Memory>
     ensures { OnOk result ((passes : SortOf → Bool) (bs : Binders) (names more : List Identifier) → IsKept passes bs quantifiers names (names_behind kept.old.items) → IsKept passes bs quantifiers more (names_behind others.now) → IsKept passes bs quantifiers (names ++ more) (names_behind kept.new.items)) }
 {
     for name in others {

@@ -14,7 +14,7 @@ own_counted : (c : After-leave-2) (outer : Around) (names : List Identifier) →
     → IsCounted c.args.scope.now (c.args.binder.now.name ∷ names) c.add.new.self
 own_counted c outer names e k =
     let bound : binder_sort (binders c.args.scope.now) c.args.binder.now.name ≡ Some c.args.binder.now.sort =
-        ap (λ a. binder_sort (binders a) c.args.binder.now.name) e ∙ own_binder c.args.binder.now (binders outer) in
+    ap (λ a. binder_sort (binders a) c.args.binder.now.name) e ∙ own_binder c.args.binder.now (binders outer) in
     first_counted (binders c.args.scope.now) (length c.args.scope.now.quantifiers) names c.args.binder.now.name c.add.new.self
     (subst (λ q. IsTally (binders c.args.scope.now) q (names ++ c.args.binder.now.name ∷ []) c.add.new.self) c.quantifiers.ensures
     (c.in_ok-add.ensures (binders c.args.scope.now) names bound (subst (λ q. IsTally (binders c.args.scope.now) q names c.args.inside.free) (sym c.quantifiers.ensures) k)))
@@ -31,7 +31,7 @@ pub returns-clause-free : goal.returns-clause-free
 returns-clause-free c = λ outer names e k.
     let own = c.args.binder.now in
     let inside : IsCounted (record outer { quantifiers = own ∷ outer.quantifiers }) (own.name ∷ names) c.with_width-within.result.free =
-        subst (λ t. IsCounted (record outer { quantifiers = own ∷ outer.quantifiers }) (own.name ∷ names) t) (sym c.with_width-within.ensures.free)
-        (subst (λ a. IsCounted a (own.name ∷ names) c.add.new.self) e (own_counted (goal.at.returns-clause-free c).After-leave-2 outer names e k)) in
+    subst (λ t. IsCounted (record outer { quantifiers = own ∷ outer.quantifiers }) (own.name ∷ names) t) (sym c.with_width-within.ensures.free)
+    (subst (λ a. IsCounted a (own.name ∷ names) c.add.new.self) e (own_counted (goal.at.returns-clause-free c).After-leave-2 outer names e k)) in
     subst (λ ns. IsCounted outer ns c.leave-2.new.self) (own_gone own.name names)
     (c.leave-2.ensures own (binders outer) (length outer.quantifiers) (own.name ∷ names) refl inside)

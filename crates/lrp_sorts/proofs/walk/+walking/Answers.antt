@@ -136,8 +136,8 @@ inspect_each-loop-f-preserved t c =
     let q : c.quantifiers.result ≡ length around.quantifiers = c.quantifiers.ensures ∙ ap (λ a. length a.quantifiers) (k.scope ∙ kept.scope) in
     let fault_is : c.in_ok-inside.inside.fault ≡ first stands (form_faults (raw_form_of f) db bs) = k.fault ∙ ap (λ a. first stands (form_faults (raw_form_of f) db (binders a))) kept.scope in
     let one : IsCounted around (free_names (raw_form_of f)) c.with_width-one.result.free =
-        counted_then around (free_names (raw_form_of f)) (free_names (raw_form_of f)) c.in_ok-inside.inside.free c.with_width-one.result.free refl c.with_width-one.ensures.free
-        (subst (λ a. IsCounted a (free_names (raw_form_of f)) c.in_ok-inside.inside.free) kept.scope k.free) in
+    counted_then around (free_names (raw_form_of f)) (free_names (raw_form_of f)) c.in_ok-inside.inside.free c.with_width-one.result.free refl c.with_width-one.ensures.free
+    (subst (λ a. IsCounted a (free_names (raw_form_of f)) c.in_ok-inside.inside.free) kept.scope k.free) in
     record {
       fault =
           c.in_ok-found.ensures.fault

@@ -9,7 +9,7 @@ use Rattle.lrp_sorts.proofs.width.keep.Goals as goal
 pub returns-in_ok-push : goal.returns-in_ok-push
 returns-in_ok-push c = λ passes bs names p k.
     let new : is_named_in (names_behind c.args.kept.now.items) c.args.name.now ≡ false =
-        ap (λ ns. is_named_in (names_behind ns) c.args.name.now) (sym c.deref.ensures.value) ∙ sym c.is_among.ensures ∙ c.if-not-is_among.true in
+    ap (λ ns. is_named_in (names_behind ns) c.args.name.now) (sym c.deref.ensures.value) ∙ sym c.is_among.ensures ∙ c.if-not-is_among.true in
     subst (λ l. IsKept passes bs c.args.quantifiers (names ++ c.args.name.now ∷ []) l)
     (sym (ap names_behind c.in_ok-push.ensures.items ∙ map-append (λ n. n.now) c.args.kept.now.items (c.args.name ∷ [])))
     (kept_too passes bs c.args.quantifiers names (names_behind c.args.kept.now.items) c.args.name.now k new p)
@@ -19,7 +19,7 @@ returns-else-more-quantifiers c = λ passes bs names p k.
     let long : length (names_behind c.args.kept.now.items) ≡ length c.args.kept.now.items = length-map c.args.kept.now.items (λ n. n.now) in
     as_is passes bs c.args.quantifiers names (names_behind c.args.kept.now.items) c.args.name.now k (λ short q.
     elim c.else-more-quantifiers.branch [
-      else-more-quantifiers-via-then-more-quantifiers+else-not-is_among w ↦
-        ap (λ ns. is_named_in (names_behind ns) c.args.name.now) (sym w.deref.ensures.value) ∙ sym w.is_among.ensures ∙ w.if-not-is_among.false
-    | else-more-quantifiers-via-else-more-quantifiers w ↦ absurd (omega (arith, short, long, w.if-more-quantifiers.false, c.saturating_sub-more.ensures, c.len.ensures))
+      | else-more-quantifiers-via-then-more-quantifiers+else-not-is_among w ↦
+          ap (λ ns. is_named_in (names_behind ns) c.args.name.now) (sym w.deref.ensures.value) ∙ sym w.is_among.ensures ∙ w.if-not-is_among.false
+      | else-more-quantifiers-via-else-more-quantifiers w ↦ absurd (omega (arith, short, long, w.if-more-quantifiers.false, c.saturating_sub-more.ensures, c.len.ensures))
     ])

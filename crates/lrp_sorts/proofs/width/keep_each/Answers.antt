@@ -15,16 +15,16 @@ loop-name-preserved c = λ passes bs names k all.
     let i = c.loop-name.name-index in
     let one : Bor Identifier = c.name-item.result in
     let whole : (names ++ names_behind (take i others)) ++ one.now ∷ [] ≡ names ++ names_behind (take (i + 1) others) =
-        append_assoc names (names_behind (take i others)) (one.now ∷ [])
-        ∙ ap (λ l. names ++ l) (sym (map-append (λ n. n.now) (take i others) (one ∷ [])) ∙ ap (λ x. names_behind (take i others ++ x ∷ [])) c.name-item.is ∙ ap names_behind (sym (take_more others i one c.loop-name-test.true))) in
+    append_assoc names (names_behind (take i others)) (one.now ∷ [])
+    ∙ ap (λ l. names ++ l) (sym (map-append (λ n. n.now) (take i others) (one ∷ [])) ∙ ap (λ x. names_behind (take i others ++ x ∷ [])) c.name-item.is ∙ ap names_behind (sym (take_more others i one c.loop-name-test.true))) in
     subst (λ l. IsKept passes bs c.args.quantifiers l (names_behind c.keep.new.kept.items)) whole
     (c.in_ok-keep.ensures passes bs (names ++ names_behind (take i others)) (all one.now (item_behind others i one c.loop-name-test.true c.name-item.is)) (c.loop-name.invariant passes bs names k all))
 
 pub returns : goal.returns
 returns c = λ passes bs names more k j.
     let whole : take c.loop-name.name-index c.args.others.now ≡ c.args.others.now =
-        let last : c.loop-name.name-index ≡ length c.args.others.now = omega arith in
-        ap (λ i. take i c.args.others.now) last ∙ take-length c.args.others.now in
+    let last : c.loop-name.name-index ≡ length c.args.others.now = omega arith in
+    ap (λ i. take i c.args.others.now) last ∙ take-length c.args.others.now in
     joined passes bs c.args.quantifiers names more (names_behind c.args.others.now) (names_behind c.loop-name.kept.items)
     (subst (λ l. IsKept passes bs c.args.quantifiers (names ++ names_behind l) (names_behind c.loop-name.kept.items)) whole
     (c.loop-name.invariant passes bs names k (λ n h. (and_both (is_named_in more n) _ (j.among n h)).1))) j
