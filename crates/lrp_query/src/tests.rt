@@ -301,3 +301,78 @@ fn trees_have_their_places_and_values(rt: HostRuntime) -> Result<(), Fail> {
     );
     Ok(())
 }
+
+const MOST: usize = 16_777_216;
+
+// A text of the greatest length: a part so often, behind a beginning, and the end of the text, with blanks before it.
+fn longest(
+    alloc: Global,
+    start: &str,
+    part: &str,
+    times: usize,
+    end: &[u8],
+) -> Result<Vec<u8>, Fail> {
+    let mut text = repeated(alloc, start, part, times, "")?;
+    let blanks = MOST.saturating_sub(text.len()).saturating_sub(end.len());
+    for _ in 0..blanks {
+        text.push(b' ')?;
+    }
+    text.extend_from_slice(end)?;
+    Ok(text)
+}
+
+// The fault of a text of the greatest length, if it has one.
+fn fault_of_longest(alloc: Global, bytes: &[u8]) -> Option<QueryFault> {
+    if bytes.len() != MOST {
+        return None;
+    }
+    match read_query(alloc, bytes) {
+        Err(QueryRead::Fault { fault }) => Some(fault),
+        _ => None,
+    }
+}
+
+// How many members the body of such a text has.
+fn members_of_longest(alloc: Global, bytes: &[u8]) -> Option<usize> {
+    if bytes.len() != MOST {
+        return None;
+    }
+    let query = read_query(alloc, bytes).ok()?;
+    match &query.body.kind {
+        RawKind::And { of } => Some(of.len()),
+        RawKind::Or { of } => Some(of.len()),
+        _ => None,
+    }
+}
+
+#[test]
+fn texts_of_the_greatest_length_are_read(rt: HostRuntime) -> Result<(), Fail> {
+    let alloc = rt.alloc();
+    let atoms = longest(alloc, "{ t: time | (", "r(t)and ", 2_097_148, b"r(t)) }")?;
+    assert_eq!(rt; members_of_longest(alloc, &atoms), Some(2_097_149));
+    let tests = longest(alloc, "{ | (", "0<0or ", 2_796_200, b"0<0) }")?;
+    assert_eq!(rt; members_of_longest(alloc, &tests), Some(2_796_201));
+    Ok(())
+}
+
+#[test]
+fn faults_at_the_last_byte_have_their_places(rt: HostRuntime) -> Result<(), Fail> {
+    let alloc = rt.alloc();
+    let closed_twice = longest(alloc, "{ | (", "0<0or ", 2_796_200, b"0<0))")?;
+    assert_eq!(rt;
+        fault_of_longest(alloc, &closed_twice),
+        at(QueryKind::Syntax, 1, 16_777_216)
+    );
+    let behind = longest(alloc, "{ | 0<0 }", "\n", 1_000_000, b"}")?;
+    assert_eq!(rt;
+        fault_of_longest(alloc, &behind),
+        at(QueryKind::Syntax, 1_000_001, 15_777_207)
+    );
+    let last = repeated(alloc, "", "not ", 63, "0")?;
+    let deep = longest(alloc, "{ | (", "0<0or ", 2_796_150, &last)?;
+    assert_eq!(rt;
+        fault_of_longest(alloc, &deep),
+        at(QueryKind::Deep, 1, 16_777_216)
+    );
+    Ok(())
+}
