@@ -260,3 +260,130 @@ fn groups_are_their_formulas_and_equal_texts_an_equality(rt: HostRuntime) -> Res
     assert!(rt; shown);
     Ok(())
 }
+
+const MOST: usize = 16_777_216;
+
+const EIGHT: &str = "{ a: time, b: time, c: time, d: time, e: time, f: time, g: time, h: time | ";
+
+fn add_often(text: &mut Vec<u8>, part: &str, times: usize) -> Result<(), Fail> {
+    for _ in 0..times {
+        text.extend_from_slice(part.as_bytes())?;
+    }
+    Ok(())
+}
+
+// A text of the greatest length: a part so often, behind a beginning, and the end of the text, with blanks before it.
+fn longest(start: Vec<u8>, part: &str, times: usize, end: &[u8]) -> Result<Vec<u8>, Fail> {
+    let mut text = start;
+    add_often(&mut text, part, times)?;
+    let blanks = MOST.saturating_sub(text.len()).saturating_sub(end.len());
+    add_often(&mut text, " ", blanks)?;
+    text.extend_from_slice(end)?;
+    Ok(text)
+}
+
+// A beginning, and a part so often behind it.
+fn opened(alloc: Global, start: &str, part: &str, times: usize) -> Result<Vec<u8>, Fail> {
+    let mut text = Vec::new(alloc);
+    add_often(&mut text, start, 1)?;
+    add_often(&mut text, part, times)?;
+    Ok(text)
+}
+
+// What the checker says of a query of the greatest length.
+fn checked_longest(alloc: Global, query: &[u8]) -> Option<Result<Query, QueryRead>> {
+    if query.len() != MOST {
+        return None;
+    }
+    let db = read_database(alloc, b"relation r(t: time) { (5+60n); }").ok()?;
+    let raw = read_query(alloc, query).ok()?;
+    Some(check(alloc, &raw, &db))
+}
+
+// How many members the formula has that such a query is, inside its quantifiers.
+fn members_of_longest(alloc: Global, query: &[u8]) -> Option<usize> {
+    let query = checked_longest(alloc, query)?.ok()?;
+    members_inside(&query.body)
+}
+
+fn members_inside(formula: &Formula) -> Option<usize> {
+    match formula {
+        Formula::And { of } => Some(of.len()),
+        Formula::Or { of } => Some(of.len()),
+        Formula::Exists { of, .. } => members_inside(of),
+        _ => None,
+    }
+}
+
+fn fault_of_longest(alloc: Global, query: &[u8]) -> Option<QueryFault> {
+    match checked_longest(alloc, query) {
+        Some(Err(QueryRead::Fault { fault })) => Some(fault),
+        _ => None,
+    }
+}
+
+#[test]
+fn queries_of_the_greatest_length_are_accepted(rt: HostRuntime) -> Result<(), Fail> {
+    let alloc = rt.alloc();
+    let atoms = longest(
+        opened(alloc, "{ t: time | (", "", 0)?,
+        "r(t)and ",
+        2_097_148,
+        b"r(t)) }",
+    )?;
+    assert_eq!(rt; members_of_longest(alloc, &atoms), Some(2_097_149));
+    let mut closed = opened(alloc, "h<a", ")", 61)?;
+    add_often(&mut closed, "}", 1)?;
+    let deep = longest(
+        opened(alloc, EIGHT, "(", 61)?,
+        "a<b or c<d or e<f or g<h or ",
+        599_170,
+        &closed,
+    )?;
+    assert_eq!(rt; members_of_longest(alloc, &deep), Some(2_396_681));
+    Ok(())
+}
+
+#[test]
+fn variables_are_found_through_many_quantifiers(rt: HostRuntime) -> Result<(), Fail> {
+    let alloc = rt.alloc();
+    let mut start = opened(alloc, "{ t: time | ", "", 0)?;
+    for name in [
+        "a", "b", "c", "d", "e", "f", "g", "h", "i", "j", "k", "l", "m", "o", "p", "q", "r", "s",
+        "u", "v", "w", "x", "y", "z",
+    ] {
+        add_often(&mut start, "exists ", 1)?;
+        add_often(&mut start, name, 1)?;
+        add_often(&mut start, ": time ", 1)?;
+    }
+    add_often(&mut start, "(", 1)?;
+    let inside = longest(start, "t<a or ", 2_396_600, b"0 < t) }")?;
+    assert_eq!(rt; members_of_longest(alloc, &inside), Some(2_396_601));
+    Ok(())
+}
+
+#[test]
+fn faults_at_the_end_of_the_longest_queries_are_told(rt: HostRuntime) -> Result<(), Fail> {
+    let alloc = rt.alloc();
+    let unbound = longest(
+        opened(alloc, "{ t: time | (", "", 0)?,
+        "r(t)and ",
+        2_097_148,
+        b"r(u))}",
+    )?;
+    assert_eq!(rt;
+        fault_of_longest(alloc, &unbound),
+        at(QueryKind::Unbound, 16_777_213)
+    );
+    let wide = longest(
+        opened(alloc, EIGHT, "(", 1)?,
+        "a<b or c<d or e<f or g<h or ",
+        599_170,
+        b"exists i: time (a<b and c<d and e<f and g<h and 0<i))}",
+    )?;
+    assert_eq!(rt;
+        fault_of_longest(alloc, &wide),
+        at(QueryKind::Wide, 16_777_178)
+    );
+    Ok(())
+}
