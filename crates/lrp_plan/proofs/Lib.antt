@@ -4,6 +4,7 @@ pub mod Keeping
 pub mod Made
 pub mod Draws
 pub mod Members
+pub mod Settled
 pub mod Takes
 pub mod Turns
 pub mod Unions

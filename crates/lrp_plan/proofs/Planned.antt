@@ -1,6 +1,7 @@
 -- The steps of each kind of core form, from the steps of its parts.
 use Rattle.std.proofs.Common.{◌≡◌, ◌≤◌, ℕ, zero, suc, Bool, true, false, cond, List, [], ◌∷◌, length, take, Option, None, map, Result, Ok, Err, refl, sym, ap, subst, ◌∙◌, arith}
 use Rattle.std.specs.Result.{OnOk}
+use Rattle.std.proofs.lemmas.Bool.{false≢true}
 use Rattle.lrp_core.specs.Cores.{core_of, cores_of}
 use Rattle.lrp_core.specs.FreeVariables.{variable_of}
 use Rattle.lrp_core.specs.declared.core_forms.Core.{Core}
@@ -117,19 +118,19 @@ tests_are_tests (form (exists v s f) fs) = tests_are_tests fs
 tests_are_tests (form (forall v s f) fs) = tests_are_tests fs
 
 pub all_planned : {T E : Type 0} (r : Result T E) (sources : Sources) (fs : List Core) (split : Split) (first second third : Taking) (fourth : Taking) (old a b new : Draft) → ((M : Structure) → AreSources M sources → IsSplitOf M fs split)
-    → first.result ≡ None → map variable_of first.variables ≡ [] → first.tests ≡ split.tests
+    → first.result ≡ None → map variable_of first.variables ≡ [] → first.tests ≡ split.tests → first.settled ≡ false
     → ((M : Structure) → AreSources M sources → TakesEach M (length split.positives.items) fs split.positives.items old a first second)
     → TakesTests (length second.tests) a b second third
     → OnOk r ((M : Structure) → AreSources M sources → DeniesEach M (length split.negations.items) fs split.negations.items b new third fourth) → Planned r sources (conjunction (cores_of fs)) old new
-all_planned (Err x) sources fs split first second third fourth old a b new is e v t ps ts ns = tt
-all_planned (Ok x) sources fs split first second third fourth old a b new is e v t ps ts ns = λ M K src c. record {
+all_planned (Err x) sources fs split first second third fourth old a b new is e v t u ps ts ns = tt
+all_planned (Ok x) sources fs split first second third fourth old a b new is e v t u ps ts ns = λ M K src c. record {
   follows = λ planned d.
       let can : EachCanPlan M K fs = each_can M K fs c.core.1 c.divides in
       let split_is : IsSplitOf M fs split = is M src in
       let s0 : State = record { steps = planned; taken = nothing_taken; positives = ranked M (positives_in (cores_of fs)); tests = tests_in (cores_of fs); negations = negations_in (cores_of fs) } in
       let at : IsAt M K fs old split.positives.items split.negations.items first s0 = record {
         made = d;
-        took = record { result = subst (λ o. IsResult M.relations K planned o nothing_taken) (sym e) refl; variables = record { each = λ w. ap (λ vs. is_among vs w) v }; remain = t ∙ split_is.checks; tests = subst AreTests (sym (t ∙ split_is.checks)) (tests_are_tests (cores_of fs)) };
+        took = record { result = subst (λ o. IsResult M.relations K planned o nothing_taken) (sym e) refl; variables = record { each = λ w. ap (λ vs. is_among vs w) v }; remain = t ∙ split_is.checks; tests = subst AreTests (sym (t ∙ split_is.checks)) (tests_are_tests (cores_of fs)); settled = λ y. absurd (false≢true (sym u ∙ y)) };
         positives = split_is.ranks;
         negations = split_is.denials;
       } in

@@ -1,6 +1,7 @@
 -- What an `and` takes in, against its rules.
 use Rattle.std.proofs.Common.{◌≡◌, ◌≤◌, ◌+◌, ℕ, zero, suc, Bool, true, false, cond, not, ◌&&◌, List, [], ◌∷◌, ◌++◌, length, Option, Some, None, option_map, unwrap_or, slice_get, filter, map, Result, Ok, Err, refl, sym, ap, subst, ◌∙◌, arith, length-append}
 use Rattle.std.specs.Result.{OnOk}
+use Rattle.std.proofs.lemmas.Bool.{false≢true}
 use Rattle.std.proofs.lemmas.List.Elements.{filter_agree}
 use Rattle.lrp_model.specs.Formulas.{test}
 use Rattle.lrp_model.specs.Variables.{Variable, free, are_among}
@@ -19,8 +20,9 @@ use Rattle.lrp_plan.specs.declared.taking.Taking.{Taking}
 use Rattle.lrp_plan.specs.Capped.{capped}
 use Rattle.lrp_plan.specs.Multiples.{IsCommon, IsLeastOf}
 use Rattle.lrp_plan.specs.Drafts.{IsOperand, IsDraft, AreTests, Extends, ExtendsBoth}
-use Rattle.lrp_plan.specs.Taking.{covers, HaveSame, IsResult, IsTaking, carrying, Carries, TakesIn, TakesTest, taking_off, Subtracts, without, taken_with, TakesOff}
+use Rattle.lrp_plan.specs.Taking.{covers, AreUncovered, HaveSame, IsResult, IsTaking, carrying, Carries, Splits, TakesIn, TakesTest, taking_off, Subtracts, without, taken_with, TakesOff}
 use Rattle.lrp_plan.proofs.Members.{are_among_same, more_same}
+use Rattle.lrp_plan.proofs.Settled.{left_fail, still_uncovered}
 
 -- ---- an earlier step stays as more are made
 
@@ -49,7 +51,7 @@ result_grows db K steps more None taken h = h
 result_grows db K steps more (Some o) taken h = (h.0, operand_grows db K steps more taken.result o h.1)
 
 pub taking_grows : (db : List Relation) (K : ℕ) (steps more : Steps) (taking : Taking) (taken : Taken) (ts : List Test) → IsTaking db K steps taking taken ts → IsTaking db K (steps ++ more) taking taken ts
-taking_grows db K steps more taking taken ts h = record { result = result_grows db K steps more taking.result taken h.result; variables = h.variables; remain = h.remain; tests = h.tests }
+taking_grows db K steps more taking taken ts h = record { result = result_grows db K steps more taking.result taken h.result; variables = h.variables; remain = h.remain; tests = h.tests; settled = h.settled }
 
 -- ---- tests, one by one
 
@@ -87,10 +89,13 @@ carry_none (Ok x) result tests old new e h = record {
 }
 carry_none (Err x) result tests old new e h = tt
 
-pub takes_in : (vs : List Variable) (old new : Taking) (before after : Draft) (carried : List Test) → map variable_of new.variables ≡ with_variables (map variable_of old.variables) vs
-    → carried ≡ filter (covers (map variable_of new.variables)) old.tests → new.tests ≡ filter (λ t. not (covers (map variable_of new.variables) t)) old.tests → new.result ≡ Some after.last → Carries old.result carried before after → TakesIn vs old new before after
-takes_in vs old new before after carried e c l r h = record {
+pub takes_in : (vs : List Variable) (old new : Taking) (before after : Draft) (carried : List Test) (settled : Bool) → settled ≡ (old.settled && are_among vs (map variable_of old.variables)) → map variable_of new.variables ≡ with_variables (map variable_of old.variables) vs
+    → Splits settled (map variable_of new.variables) old.tests carried new.tests → new.result ≡ Some after.last → Carries old.result carried before after → TakesIn vs old new before after
+takes_in vs old new before after carried settled s e split r h = record {
   follows = λ M K f steps state same d t.
+      let u : settled ≡ true → AreUncovered (map variable_of new.variables) old.tests = still_uncovered settled old.settled (map variable_of old.variables) (map variable_of new.variables) vs old.tests s e t.settled in
+      let c : carried ≡ filter (covers (map variable_of new.variables)) old.tests = split.carries u in
+      let l : new.tests ≡ filter (λ t. not (covers (map variable_of new.variables) t)) old.tests = split.leaves u in
       let ws : List Variable = state.taken.variables ++ free f in
       let have : HaveSame (map variable_of new.variables) ws = subst (λ us. HaveSame us ws) (sym e) (more_same (map variable_of old.variables) state.taken.variables vs (free f) t.variables same) in
       let agree : (u : Test) → covers (map variable_of new.variables) u ≡ are_among (free (test u)) ws = λ u. are_among_same (free (test u)) (free (test u)) (map variable_of new.variables) ws (record { each = λ v. refl }) have in
@@ -106,6 +111,7 @@ takes_in vs old new before after carried e c l r h = record {
           variables = have;
           remain = ls;
           tests = subst AreTests (sym l) both.1;
+          settled = λ y. subst (AreUncovered (map variable_of new.variables)) (sym l) (left_fail (covers (map variable_of new.variables)) old.tests);
         };
       };
 }
@@ -154,8 +160,8 @@ subtract_first (Ok x) result covered old new e h = record {
 subtract_first (Err x) result covered old new e h = tt
 
 pub takes_off : (vs : List Variable) (old new : Taking) (before after : Draft) (covered : Bool) → covered ≡ are_among vs (map variable_of old.variables) → map variable_of new.variables ≡ with_variables (map variable_of old.variables) vs
-    → new.tests ≡ old.tests → new.result ≡ Some after.last → Subtracts old.result covered before after → TakesOff vs old new before after
-takes_off vs old new before after covered c e l r h = record {
+    → new.tests ≡ old.tests → new.settled ≡ false → new.result ≡ Some after.last → Subtracts old.result covered before after → TakesOff vs old new before after
+takes_off vs old new before after covered c e l u r h = record {
   follows = λ M K f steps taken tests same d t.
       let b : covered ≡ are_among (free f) taken.variables = c ∙ are_among_same vs (free f) (map variable_of old.variables) taken.variables same t.variables in
       let d' : IsDraft M.relations K after (without taken f M steps) = subst (λ x. IsDraft M.relations K after (taking_off taken x M steps)) b (h.follows M K steps taken d t.result) in (
@@ -165,6 +171,7 @@ takes_off vs old new before after covered c e l r h = record {
           variables = subst (λ us. HaveSame us (taken.variables ++ free f)) (sym e) (more_same (map variable_of old.variables) taken.variables vs (free f) t.variables same);
           remain = l ∙ t.remain;
           tests = subst AreTests (sym l) t.tests;
+          settled = λ y. absurd (false≢true (sym u ∙ y));
         },
       );
 }

@@ -1,5 +1,5 @@
 -- One turn of each loop of an `and`.
-use Rattle.std.proofs.Common.{◌≡◌, ◌<◌, ◌+◌, ℕ, zero, suc, Bool, cond, not, ◌&&◌, List, [], ◌∷◌, ◌++◌, length, Option, Some, None, unwrap_or, slice_get, remove, map, refl, sym, ap, subst, ◌∙◌, arith, nat_lt, ◌↔◌, ⊎_elim, get_or}
+use Rattle.std.proofs.Common.{◌≡◌, ◌<◌, ◌+◌, ℕ, zero, suc, Bool, true, cond, not, ◌&&◌, List, [], ◌∷◌, ◌++◌, length, Option, Some, None, unwrap_or, slice_get, remove, map, refl, sym, ap, subst, ◌∙◌, arith, nat_lt, ◌↔◌, ⊎_elim, get_or}
 use Rattle.std.specs.List.{AllZip, AllByRecursion, position_or_len}
 use Rattle.std.specs.Option.{is_some, IsSome, IfSome, IfNone, OnSome}
 use Rattle.std.proofs.lemmas.Bool.{cases_lt, false≢true}
@@ -22,7 +22,7 @@ use Rattle.lrp_plan.specs.declared.drafts.Operand.{Operand}
 use Rattle.lrp_plan.specs.declared.drafts.Draft.{Draft}
 use Rattle.lrp_plan.specs.declared.taking.Taking.{Taking}
 use Rattle.lrp_plan.specs.Drafts.{IsDraft, Extends, AreTests}
-use Rattle.lrp_plan.specs.Taking.{HaveSame, NextTest, IsResult, IsTaking, IsIn, TakesIn, TakesTest, TakesOff}
+use Rattle.lrp_plan.specs.Taking.{AreUncovered, HaveSame, NextTest, IsResult, IsTaking, IsIn, TakesIn, TakesTest, TakesOff}
 use Rattle.lrp_plan.specs.Elements.{TakesAt, IsElement, IsDenied, IsAt, CanPlan, EachCanPlan, TakesPositives, TakesTests, TakesNegations, TurnsPositive, TurnsTest, TurnsNegation}
 use Rattle.lrp_plan.proofs.Members.{are_among_same, meet_same}
 use Rattle.lrp_plan.proofs.Takes.{taking_grows}
@@ -236,7 +236,8 @@ tests_more turns before mid after t old now next new h n takes = record {
       let a : IsAt M K fs mid ps ns now st = h.follows M K fs ps ns s at in
       let e : st.tests ≡ t ∷ next.tests = sym a.took.remain ∙ n.0 in
       let ok : AreTests (t ∷ next.tests) = subst AreTests n.0 a.took.tests in
-      let w : IsTaking M.relations K st.steps next st.taken next.tests = record { result = subst (λ o. IsResult M.relations K st.steps o st.taken) (sym n.1) a.took.result; variables = subst (λ vs. HaveSame (map variable_of vs) st.taken.variables) (sym n.2) a.took.variables; remain = refl; tests = ok.1 } in
+      let uncovered : next.settled ≡ true → AreUncovered (map variable_of next.variables) (t ∷ next.tests) = λ y. subst (AreUncovered (map variable_of next.variables)) n.0 (subst (λ vs. AreUncovered (map variable_of vs) now.tests) (sym n.2) (a.took.settled (sym n.3 ∙ y))) in
+      let w : IsTaking M.relations K st.steps next st.taken next.tests = record { result = subst (λ o. IsResult M.relations K st.steps o st.taken) (sym n.1) a.took.result; variables = subst (λ vs. HaveSame (map variable_of vs) st.taken.variables) (sym n.2) a.took.variables; remain = refl; tests = ok.1; settled = λ y. (uncovered y).1 } in
       let r : IsIn M.relations K after new (take_test M (t ∷ next.tests) (record st { tests = t ∷ next.tests })) = takes.follows M K st next.tests a.made w (ok.0, tt) in
       let x : IsAt M K fs after ps ns new (take_test M (t ∷ next.tests) (record st { tests = t ∷ next.tests })) = record { made = r.made; took = r.took; positives = a.positives; negations = a.negations } in
       subst (λ k. IsAt M K fs after ps ns new (take_tests k M s)) (sym (add_one turns)) (subst (IsAt M K fs after ps ns new) (sym (more_tests turns M s)) (subst (λ ts. IsAt M K fs after ps ns new (take_test M ts st)) (sym e) x));

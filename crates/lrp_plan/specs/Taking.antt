@@ -1,5 +1,6 @@
 -- How what an `and` of the program has taken in follows the rules of an `and`.
-use Rattle.std.specs.Prelude.{◌≡◌, ℕ, Bool, true, false, cond, ◌&&◌, List, [], ◌∷◌, ◌++◌, length, Option, Some, None, map}
+use Rattle.std.specs.Prelude.{◌≡◌, ℕ, Bool, true, false, cond, ◌&&◌, List, [], ◌∷◌, ◌++◌, length, Option, Some, None, map, filter, not}
+use Rattle.std.specs.List.{AllByRecursion}
 use Rattle.lrp_core.specs.FreeVariables.{variable_of}
 use Rattle.lrp_model.specs.Formulas.{Form}
 use Rattle.lrp_model.specs.Variables.{Variable, free, is_among, are_among, variables_of_test}
@@ -17,6 +18,10 @@ use Rattle.lrp_plan.specs.Drafts.{IsOperand, IsDraft, AreTests}
 abbrev pub covers : List Variable → Test → Bool
 covers vs t = are_among (variables_of_test t) vs
 
+-- none of the tests is covered by these variables
+abbrev pub AreUncovered : List Variable → List Test → Type 0
+AreUncovered vs ts = AllByRecursion (λ t. covers vs t ≡ false) ts
+
 -- the same variables, whatever their order
 pub record HaveSame (vs ws : List Variable) : Type 0 where
   pub each : (v : Variable) → is_among vs v ≡ is_among ws v
@@ -26,12 +31,13 @@ abbrev pub IsResult : List Relation → ℕ → Steps → Option Operand → Tak
 IsResult db K steps None taken = taken.some ≡ false
 IsResult db K steps (Some o) taken = (taken.some ≡ true) × IsOperand db K steps taken.result o
 
--- what was taken in, and the tests that remain
+-- what was taken in, and the tests that remain, none of which is covered where they are settled
 pub record IsTaking (db : List Relation) (K : ℕ) (steps : Steps) (taking : Taking) (taken : Taken) (remaining : List Test) : Type 0 where
   pub result : IsResult db K steps taking.result taken
   pub variables : HaveSame (map variable_of taking.variables) taken.variables
   pub remain : taking.tests ≡ remaining
   pub tests : AreTests taking.tests
+  pub settled : taking.settled ≡ true → AreUncovered (map variable_of taking.variables) taking.tests
 
 -- the steps and what was taken in are those of a state
 pub record IsIn (db : List Relation) (K : ℕ) (draft : Draft) (taking : Taking) (state : State) : Type 0 where
@@ -45,6 +51,11 @@ carrying taken tests M steps = cond taken.some (join taken.result tests M steps)
 -- these tests were carried
 pub record Carries (result : Option Operand) (tests : List Test) (before after : Draft) : Type 0 where
   pub follows : (M : Structure) (K : ℕ) (steps : Steps) (taken : Taken) → AreTests tests → IsDraft M.relations K before steps → IsResult M.relations K steps result taken → IsDraft M.relations K after (carrying taken tests M steps)
+
+-- the tests that these variables cover were split from the others, where it is true that settled ones are not covered
+pub record Splits (settled : Bool) (vs : List Variable) (tests carried left : List Test) : Type 0 where
+  pub carries : (settled ≡ true → AreUncovered vs tests) → carried ≡ filter (covers vs) tests
+  pub leaves : (settled ≡ true → AreUncovered vs tests) → left ≡ filter (λ t. not (covers vs t)) tests
 
 -- an element of these variables was taken in, whose steps had just been made
 pub record TakesIn (vs : List Variable) (old new : Taking) (before after : Draft) : Type 0 where
@@ -83,4 +94,4 @@ pub record TakesOff (vs : List Variable) (old new : Taking) (before after : Draf
 -- the first of the tests that remain was taken out, if there is one
 abbrev pub NextTest : Taking → Taking → Option Test → Type 0
 NextTest old new None = (old.tests ≡ []) × (new ≡ old)
-NextTest old new (Some t) = (old.tests ≡ t ∷ new.tests) × (new.result ≡ old.result) × (new.variables ≡ old.variables)
+NextTest old new (Some t) = (old.tests ≡ t ∷ new.tests) × (new.result ≡ old.result) × (new.variables ≡ old.variables) × (new.settled ≡ old.settled)

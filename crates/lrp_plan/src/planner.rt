@@ -99,6 +99,7 @@ fn plan_all(
         result: None,
         variables: List::new(alloc),
         tests,
+        settled: false,
     };
     plan_positives(alloc, sources, draft, of, positives, &mut taking)?;
     take_tests(alloc, draft, &mut taking)?;

@@ -1,13 +1,13 @@
 // What an `and` has taken in, and the tests that it has left.
-ghost use Rattle.std.specs.Prelude.{◌≡◌, ℕ, not, filter, map, length, IfOk, OnOk};
+ghost use Rattle.std.specs.Prelude.{◌≡◌, ◌&&◌, ℕ, not, filter, map, length, IfOk, OnOk};
 ghost use Rattle.lrp_core.specs.FreeVariables.{variable_of};
 ghost use Rattle.lrp_model.specs.Satisfaction.{Structure};
 ghost use Rattle.lrp_model.specs.Formulas.{test as test_form};
-ghost use Rattle.lrp_model.specs.Variables.{free};
+ghost use Rattle.lrp_model.specs.Variables.{free, are_among as are_members};
 ghost use Rattle.lrp_model.specs.Conjunctions.{select_each as selected_each};
 ghost use Rattle.lrp_plan.specs.Drafts.{AreTests, Extends};
 ghost use Rattle.lrp_plan.specs.Elements.{TakesTests, TurnsTest};
-ghost use Rattle.lrp_plan.specs.Taking.{NextTest, TakesIn, TakesOff, TakesTest, HaveSame, Carries, Subtracts, covers as covered_by};
+ghost use Rattle.lrp_plan.specs.Taking.{NextTest, TakesIn, TakesOff, TakesTest, HaveSame, Carries, Splits, Subtracts, covers as covered_by};
 
 use crate::drafts::{Draft, Operand};
 use lrp_core::{Core, Variable, add_variables, are_among, covers, free_variables};
@@ -15,12 +15,13 @@ use lrp_model::{Copies, List, Memory, Test};
 use std::alloc::Global;
 use std::mem;
 
-/// What was taken in: the result so far, if there is one, and its variables; and the tests that remain, in list order.
+/// What was taken in: the result so far, if there is one, and its variables; and the tests that remain, in list order. Where they are settled, the variables cover none of them, so that they need not be looked at until there is a further variable.
 #[derive(Debug, Drop)]
 pub(crate) struct Taking {
     pub(crate) result: Option<Operand>,
     pub(crate) variables: List<Variable>,
     pub(crate) tests: List<Test>,
+    pub(crate) settled: bool,
 }
 
 impl Taking {
@@ -33,13 +34,22 @@ impl Taking {
     ) -> Result<(), Memory>
         ensures { OnOk result (TakesIn (map variable_of variables) self.old self.new draft.old draft.new) }
     {
+        let settled = self.stays_settled(variables.as_slice());
         add_variables(&mut self.variables, variables)?;
         let tests = mem::replace(&mut self.tests, List::new(alloc));
-        let (carried, left) = split_covered(alloc, tests, self.variables.as_slice())?;
+        let (carried, left) = split_tests(alloc, settled, tests, self.variables.as_slice())?;
         self.tests = left;
+        self.settled = true;
         carry(draft, self.result, carried)?;
         self.result = Some(draft.last);
         Ok(())
+    }
+
+    // Whether the tests are settled and there is no further variable among these.
+    fn stays_settled(&self, variables: &[Variable]) -> bool
+        ensures { result ≡ (self.now.settled && are_members (map variable_of variables.now) (map variable_of self.now.variables)) }
+    {
+        self.settled && are_among(variables, self.variables.as_slice())
     }
 
     /// The first remaining test, which is no longer one.
@@ -81,6 +91,7 @@ impl Taking {
         let covered = are_among(variables.as_slice(), self.variables.as_slice());
         subtract(alloc, draft, self.result, covered)?;
         add_variables(&mut self.variables, variables)?;
+        self.settled = false;
         self.result = Some(draft.last);
         Ok(())
     }
@@ -155,6 +166,21 @@ fn select_each(draft: &mut Draft, tests: List<Test>) -> Result<(), Memory>
         draft.select(test)?;
     }
     Ok(())
+}
+
+// The tests that these variables cover, and the others, each in order. Settled tests are all others.
+fn split_tests(
+    alloc: Global,
+    settled: bool,
+    tests: List<Test>,
+    variables: &[Variable],
+) -> Result<(List<Test>, List<Test>), Memory>
+    ensures { IfOk result (λ made. Splits settled (map variable_of variables.now) tests made.0 made.1) }
+{
+    if settled {
+        return Ok((List::new(alloc), tests));
+    }
+    split_covered(alloc, tests, variables)
 }
 
 // The tests whose variables are all among these, and the others, each in order.

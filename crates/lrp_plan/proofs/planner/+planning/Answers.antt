@@ -1,4 +1,4 @@
-use Rattle.std.proofs.Common.{◌&&◌, map, None, Some, refl, sym, ap, subst, ◌∙◌, arith}
+use Rattle.std.proofs.Common.{false, ◌&&◌, map, None, Some, refl, sym, ap, subst, ◌∙◌, arith}
 use Rattle.lrp_core.specs.Cores.{core_of, cores_of}
 use Rattle.lrp_core.specs.FreeVariables.{variable_of}
 use Rattle.lrp_core.proofs.CoreViews.{core_of-And, core_of-Or}
@@ -51,9 +51,9 @@ plan_some-returns t c = some_planned c.args.sources.now c.args.of.now c.loop-cor
 
 pub plan_all-returns : goal.plan_all-returns
 plan_all-returns t c =
-    let first : Taking = record { result = None; variables = c.new.result; tests = c.in_ok-parts.parts.tests } in
+    let first : Taking = record { result = None; variables = c.new.result; tests = c.in_ok-parts.parts.tests; settled = false } in
     all_planned c.plan_negations.result c.args.sources.now c.args.of.now c.in_ok-parts.parts first c.plan_positives.new.taking c.take_tests.new.taking c.plan_negations.new.taking c.args.draft.now c.plan_positives.new.draft c.take_tests.new.draft c.plan_negations.new.draft
-    c.in_ok-parts.ensures refl (ap (map variable_of) c.new.ensures) refl c.in_ok-plan_positives.ensures c.in_ok-take_tests.ensures c.plan_negations.ensures
+    c.in_ok-parts.ensures refl (ap (map variable_of) c.new.ensures) refl refl c.in_ok-plan_positives.ensures c.in_ok-take_tests.ensures c.plan_negations.ensures
 
 pub plan_positive-returns-in-None : goal.plan_positive-returns-in-None
 plan_positive-returns-in-None t c = λ M s. idles_positive M c.args.of.now c.args.left.now.items c.take_meeting.new.elements.items c.args.draft.now c.args.taking.now 0 c.in-None.ensures

@@ -7,4 +7,4 @@ use Rattle.lrp_plan.proofs.taking.Taking.take_off.Goals as goal
 pub returns : goal.returns
 returns c =
     let covered : c.are_among-covered.result ≡ are_among (map variable_of c.args.variables) (map variable_of c.args.self.now.variables) = search rules in
-    takes_off (map variable_of c.args.variables) c.args.self.now _ c.args.draft.now c.subtract.new.draft c.are_among-covered.result covered c.in_ok-add_variables.ensures refl refl c.in_ok-subtract.ensures
+    takes_off (map variable_of c.args.variables) c.args.self.now _ c.args.draft.now c.subtract.new.draft c.are_among-covered.result covered c.in_ok-add_variables.ensures refl refl refl c.in_ok-subtract.ensures
