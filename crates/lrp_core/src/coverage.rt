@@ -1,5 +1,5 @@
 // Whether variables are among others.
-ghost use Rattle.std.specs.Prelude.{◌≡◌, map};
+ghost use Rattle.std.specs.Prelude.{◌≡◌, map, true};
 ghost use Rattle.lrp_model.specs.Variables.{is_among as is_member, are_among as are_members, meet as share, variables_of_time, variables_of_data, variables_of_test};
 ghost use Rattle.lrp_core.specs.FreeVariables.{variable_of};
 
@@ -29,6 +29,21 @@ pub fn meet(variables: &[Variable], all: &[Variable]) -> bool
         }
     }
     false
+}
+
+/// Whether they are the same variables, in the same order.
+pub fn are_same(left: &[Variable], right: &[Variable]) -> bool
+    ensures { result ≡ true → left.now ≡ right.now }
+{
+    if left.len() != right.len() {
+        return false;
+    }
+    for i in 0..left.len() {
+        if !left[i].is_same(&right[i]) {
+            return false;
+        }
+    }
+    true
 }
 
 /// Whether each variable of the test is one of `all`.

@@ -11,6 +11,6 @@ mod tests;
 mod variables;
 
 pub use core_forms::Core;
-pub use coverage::{are_among, covers, meet};
+pub use coverage::{are_among, are_same, covers, meet};
 pub use forming::core_form;
 pub use variables::{Variable, add_variables, free_variables};

@@ -1,5 +1,5 @@
 // The variables that occur free in a core form.
-ghost use Rattle.std.specs.Prelude.{◌≡◌, [], ◌∷◌, IfOk, OnOk, map};
+ghost use Rattle.std.specs.Prelude.{◌≡◌, [], ◌∷◌, IfOk, OnOk, map, true};
 ghost use Rattle.std.specs.List.{flat_map};
 ghost use Rattle.lrp_model.specs.Variables.{Variable as VariableOf, bound_by, same_variable, is_among as is_member, variables_of_time, variables_of_data, variables_of_term, variables_of_test, free, free_each};
 ghost use Rattle.lrp_core.specs.Cores.{core_of, cores_of};
@@ -14,6 +14,19 @@ use std::alloc::Global;
 pub enum Variable {
     Time { name: Name },
     Data { name: Name },
+}
+
+impl Copies for Variable {
+    fn copy(&self, alloc: Global) -> Result<Self, Memory> {
+        match self {
+            Variable::Time { name } => Ok(Variable::Time {
+                name: name.copy(alloc)?,
+            }),
+            Variable::Data { name } => Ok(Variable::Data {
+                name: name.copy(alloc)?,
+            }),
+        }
+    }
 }
 
 /// The variables that occur free in a core form, each once, in order of their first occurrences.
@@ -34,6 +47,17 @@ impl Variable {
         match self {
             Variable::Time { name: own } => sort.is_time() && name == own,
             Variable::Data { name: own } => !sort.is_time() && name == own,
+        }
+    }
+
+    /// Whether it is the same variable.
+    pub(crate) fn is_same(&self, other: &Variable) -> bool
+        ensures { result ≡ true → self.now ≡ other.now }
+    {
+        match (self, other) {
+            (Variable::Time { name }, Variable::Time { name: other }) => name == other,
+            (Variable::Data { name }, Variable::Data { name: other }) => name == other,
+            _ => false,
         }
     }
 

@@ -6,6 +6,7 @@ pub mod Draws
 pub mod Members
 pub mod Settled
 pub mod Takes
+pub mod WaitingLaws
 pub mod Turns
 pub mod Unions
 pub mod Planned

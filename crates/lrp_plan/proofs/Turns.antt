@@ -1,8 +1,7 @@
 -- One turn of each loop of an `and`.
-use Rattle.std.proofs.Common.{◌≡◌, ◌<◌, ◌+◌, ℕ, zero, suc, Bool, true, cond, not, ◌&&◌, List, [], ◌∷◌, ◌++◌, length, Option, Some, None, unwrap_or, slice_get, remove, map, refl, sym, ap, subst, ◌∙◌, arith, nat_lt, ◌↔◌, ⊎_elim, get_or}
+use Rattle.std.proofs.Common.{◌≡◌, ◌+◌, ℕ, zero, suc, Bool, true, cond, not, ◌&&◌, List, [], ◌∷◌, ◌++◌, length, Option, Some, None, unwrap_or, slice_get, remove, map, refl, sym, ap, subst, ◌∙◌, arith, nat_lt}
 use Rattle.std.specs.List.{AllZip, AllByRecursion, position_or_len}
-use Rattle.std.specs.Option.{is_some, IsSome, IfSome, IfNone, OnSome}
-use Rattle.std.proofs.lemmas.Bool.{cases_lt, false≢true}
+use Rattle.std.specs.Option.{is_some}
 use Rattle.lrp_core.specs.Cores.{core_of}
 use Rattle.lrp_core.specs.FreeVariables.{variable_of}
 use Rattle.lrp_core.specs.declared.core_forms.Core.{Core}
@@ -16,7 +15,6 @@ use Rattle.lrp_model.specs.Plans.{plan_of}
 use Rattle.lrp_model.specs.declared.formulas.Test.{Test}
 use Rattle.lrp_plan_laws.proofs.PlanLaws.{Makes}
 use Rattle.lrp_plan_laws.proofs.PlanSound.{makes}
-use Rattle.lrp_plan_laws.proofs.Elements.{first_within}
 use Rattle.lrp_plan.specs.declared.elements.Element.{Element}
 use Rattle.lrp_plan.specs.declared.drafts.Operand.{Operand}
 use Rattle.lrp_plan.specs.declared.drafts.Draft.{Draft}
@@ -63,21 +61,6 @@ module _ {A B : Type 0} (R : A → B → Type 0) where
       let e : position_or_len p xs ≡ position_or_len q ys = zip_front p q agree xs ys h in
       let l : length xs ≡ length ys = zip_length xs ys h in
       ap (λ n. unwrap_or (cond (nat_lt n (length xs)) (Some n) None) 0) e ∙ ap (λ n. unwrap_or (cond (nat_lt (position_or_len q ys) n) (Some (position_or_len q ys)) None) 0) l
-
--- ---- what is taken out of a list
-
-get_from : {X : Type 0} (xs : List X) (i : ℕ) (x : X) → i < length xs → x ≡ get_or xs i x → slice_get xs i ≡ Some x
-get_from [] i x lt e = absurd (omega arith)
-get_from (y ∷ xs) zero x lt e = ap Some (sym e)
-get_from (y ∷ xs) (suc i) x lt e = get_from xs i x (omega arith) e
-
-nothing : {X : Type 0} (xs : List X) → length xs ≡ 0 → xs ≡ []
-nothing [] e = refl
-nothing (x ∷ xs) e = absurd (omega arith)
-
-pub takes_at : (p : Element → Bool) (old new : List Element) (r : Option Element) (i : ℕ) → i ≡ first_or_0 p old → IsSome r ↔ (i < length old) → IfSome r (λ e. e ≡ get_or old i e) → OnSome r (new ≡ remove old i) → IfNone r (new ≡ old) → TakesAt (first_or_0 p old) old new r
-takes_at p old new None i e v get gone stays = let n : old ≡ [] = nothing old (⊎_elim (λ lt. absurd (false≢true (v.1 (subst (λ n. n < length old) (sym e) (first_within p old lt))))) (λ le. omega arith) (cases_lt 0 (length old))) in (n, stays ∙ n)
-takes_at p old new (Some x) i e v get gone stays = (subst (λ n. slice_get old n ≡ Some x) e (get_from old i x (v.0 refl) get), subst (λ n. new ≡ remove old n) e gone)
 
 -- ---- what can be planned
 

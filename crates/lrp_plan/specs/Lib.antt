@@ -4,6 +4,7 @@ pub mod Facts
 pub mod Drafts
 pub mod Taking
 pub mod Elements
+pub mod Waiting
 pub mod Sources
 pub mod Splits
 pub mod Naming

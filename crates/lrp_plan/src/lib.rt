@@ -15,6 +15,7 @@ mod sorts;
 mod sources;
 mod splits;
 mod taking;
+mod waiting;
 mod wholes;
 
 pub use lrp_plan_laws::{

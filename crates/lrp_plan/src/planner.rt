@@ -10,10 +10,11 @@ ghost use Rattle.lrp_plan.specs.Elements.{CanPlan, TakesEach, DeniesEach, TurnsP
 ghost use Rattle.lrp_plan.specs.Sources.{AreSources};
 
 use crate::drafts::{Draft, Operand};
-use crate::elements::{Element, Split, take_covered, take_meeting};
+use crate::elements::{Element, Split};
 use crate::sources::Sources;
 use crate::splits::split;
 use crate::taking::{Taking, take_tests};
+use crate::waiting::{Turn, Waiting};
 use lrp_core::Core;
 use lrp_model::{Copies, List, Memory};
 use std::alloc::Global;
@@ -118,8 +119,9 @@ fn plan_positives(
 ) -> Result<(), Memory>
     ensures { OnOk result ((M : Structure) → AreSources M sources.now → TakesEach M (length positives.items) of.now positives.items draft.old draft.new taking.old taking.new) }
 {
-    let mut left = positives;
-    for _turn in 0..left.len() {
+    let turns = positives.len();
+    let mut left = Waiting::new(alloc, positives);
+    for _turn in 0..turns {
         plan_positive(alloc, sources, draft, of, &mut left, taking)?;
     }
     Ok(())
@@ -132,12 +134,12 @@ fn plan_positive(
     sources: &Sources<'_>,
     draft: &mut Draft,
     of: &[Core],
-    left: &mut VecDeque<Element>,
+    left: &mut Waiting,
     taking: &mut Taking,
 ) -> Result<(), Memory>
-    ensures { OnOk result ((M : Structure) → AreSources M sources.now → TurnsPositive M of.now left.old.items left.new.items draft.old draft.new taking.old taking.new) }
+    ensures { OnOk result ((M : Structure) → AreSources M sources.now → TurnsPositive M of.now left.old left.new draft.old draft.new taking.old taking.new) }
 {
-    match take_meeting(left, taking.variables.as_slice()) {
+    match left.take_next(alloc, Turn::Meeting, &taking.variables)? {
         None => Ok(()),
         Some(element) => {
             plan_at(alloc, sources, draft, of, element.index)?;
@@ -158,8 +160,9 @@ fn plan_negations(
 ) -> Result<(), Memory>
     ensures { OnOk result ((M : Structure) → AreSources M sources.now → DeniesEach M (length negations.items) of.now negations.items draft.old draft.new taking.old taking.new) }
 {
-    let mut left = negations;
-    for _turn in 0..left.len() {
+    let turns = negations.len();
+    let mut left = Waiting::new(alloc, negations);
+    for _turn in 0..turns {
         plan_negation(alloc, sources, draft, of, &mut left, taking)?;
     }
     Ok(())
@@ -172,13 +175,13 @@ fn plan_negation(
     sources: &Sources<'_>,
     draft: &mut Draft,
     of: &[Core],
-    left: &mut VecDeque<Element>,
+    left: &mut Waiting,
     taking: &mut Taking,
 ) -> Result<(), Memory>
-    ensures { OnOk result ((M : Structure) → AreSources M sources.now → TurnsNegation M of.now left.old.items left.new.items draft.old draft.new taking.old taking.new) }
+    ensures { OnOk result ((M : Structure) → AreSources M sources.now → TurnsNegation M of.now left.old left.new draft.old draft.new taking.old taking.new) }
 {
     let some = taking.result.is_some();
-    match take_covered(left, some, taking.variables.as_slice()) {
+    match left.take_next(alloc, Turn::Covered { some }, &taking.variables)? {
         None => Ok(()),
         Some(element) => {
             plan_denied_at(alloc, sources, draft, of, element.index)?;

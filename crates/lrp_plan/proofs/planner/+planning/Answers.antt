@@ -1,4 +1,4 @@
-use Rattle.std.proofs.Common.{false, ◌&&◌, map, None, Some, refl, sym, ap, subst, ◌∙◌, arith}
+use Rattle.std.proofs.Common.{false, ◌&&◌, map, None, refl, sym, ap, subst, ◌∙◌, arith}
 use Rattle.lrp_core.specs.Cores.{core_of, cores_of}
 use Rattle.lrp_core.specs.FreeVariables.{variable_of}
 use Rattle.lrp_core.proofs.CoreViews.{core_of-And, core_of-Or}
@@ -56,19 +56,23 @@ plan_all-returns t c =
     c.in_ok-parts.ensures refl (ap (map variable_of) c.new.ensures) refl refl c.in_ok-plan_positives.ensures c.in_ok-take_tests.ensures c.plan_negations.ensures
 
 pub plan_positive-returns-in-None : goal.plan_positive-returns-in-None
-plan_positive-returns-in-None t c = λ M s. idles_positive M c.args.of.now c.args.left.now.items c.take_meeting.new.elements.items c.args.draft.now c.args.taking.now 0 c.in-None.ensures
+plan_positive-returns-in-None t c = λ M s.
+    idles_positive M c.args.of.now c.args.left.now c.take_next.new.self c.args.draft.now c.args.taking.now (first_or_0 (λ x. meet (map variable_of x.variables) (map variable_of c.args.taking.now.variables)) c.args.left.now)
+    (subst (TakesAt (first_or_0 (λ x. meet (map variable_of x.variables) (map variable_of c.args.taking.now.variables)) c.args.left.now) c.args.left.now c.take_next.new.self) c.in-None.is c.in_ok-take_next.ensures)
 
 pub plan_positive-returns-in_ok-plan_at-in-Some : goal.plan_positive-returns-in_ok-plan_at-in-Some
 plan_positive-returns-in_ok-plan_at-in-Some t c =
-    positive_turned c.take_in.result c.args.sources.now c.args.of.now c.args.left.now.items c.take_meeting.new.elements.items c.args.draft.now c.plan_at.new.draft c.take_in.new.draft c.in-Some.element c.args.taking.now c.take_in.new.self
-    (subst (λ vs. TakesAt (first_or_0 (λ x. meet (map variable_of x.variables) (map variable_of vs)) c.args.left.now.items) c.args.left.now.items c.take_meeting.new.elements.items (Some c.in-Some.element)) c.as_slice.ensures c.in-Some.ensures)
+    positive_turned c.take_in.result c.args.sources.now c.args.of.now c.args.left.now c.take_next.new.self c.args.draft.now c.plan_at.new.draft c.take_in.new.draft c.in-Some.element c.args.taking.now c.take_in.new.self
+    (subst (TakesAt (first_or_0 (λ x. meet (map variable_of x.variables) (map variable_of c.args.taking.now.variables)) c.args.left.now) c.args.left.now c.take_next.new.self) c.in-Some.is c.in_ok-take_next.ensures)
     c.in_ok-plan_at-in-Some.ensures c.take_in.ensures
 
 pub plan_negation-returns-in-None : goal.plan_negation-returns-in-None
-plan_negation-returns-in-None t c = λ M s. idles_negation M c.args.of.now c.args.left.now.items c.take_covered.new.elements.items c.args.draft.now c.args.taking.now 0 c.in-None.ensures
+plan_negation-returns-in-None t c = λ M s.
+    idles_negation M c.args.of.now c.args.left.now c.take_next.new.self c.args.draft.now c.args.taking.now (first_or_0 (λ x. c.is_some-some.result && are_among (map variable_of x.variables) (map variable_of c.args.taking.now.variables)) c.args.left.now)
+    (subst (TakesAt (first_or_0 (λ x. c.is_some-some.result && are_among (map variable_of x.variables) (map variable_of c.args.taking.now.variables)) c.args.left.now) c.args.left.now c.take_next.new.self) c.in-None.is c.in_ok-take_next.ensures)
 
 pub plan_negation-returns-in_ok-plan_denied_at-in-Some : goal.plan_negation-returns-in_ok-plan_denied_at-in-Some
 plan_negation-returns-in_ok-plan_denied_at-in-Some t c =
-    negation_turned c.take_off.result c.args.sources.now c.args.of.now c.args.left.now.items c.take_covered.new.elements.items c.args.draft.now c.plan_denied_at.new.draft c.take_off.new.draft c.in-Some.element c.is_some-some.result c.args.taking.now c.take_off.new.self c.is_some-some.ensures
-    (subst (λ vs. TakesAt (first_or_0 (λ x. c.is_some-some.result && are_among (map variable_of x.variables) (map variable_of vs)) c.args.left.now.items) c.args.left.now.items c.take_covered.new.elements.items (Some c.in-Some.element)) c.as_slice.ensures c.in-Some.ensures)
+    negation_turned c.take_off.result c.args.sources.now c.args.of.now c.args.left.now c.take_next.new.self c.args.draft.now c.plan_denied_at.new.draft c.take_off.new.draft c.in-Some.element c.is_some-some.result c.args.taking.now c.take_off.new.self c.is_some-some.ensures
+    (subst (TakesAt (first_or_0 (λ x. c.is_some-some.result && are_among (map variable_of x.variables) (map variable_of c.args.taking.now.variables)) c.args.left.now) c.args.left.now c.take_next.new.self) c.in-Some.is c.in_ok-take_next.ensures)
     c.in_ok-plan_denied_at-in-Some.ensures c.take_off.ensures

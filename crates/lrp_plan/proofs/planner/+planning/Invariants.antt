@@ -12,7 +12,7 @@ invariant-plan_some-loop-core l = (M : Structure) → AreSources M l.sources →
 
 -- so many turns were made
 abbrev pub invariant-plan_positives-loop-turn : goal.invariant-plan_positives-loop-turn
-invariant-plan_positives-loop-turn l = (M : Structure) → AreSources M l.sources → TakesPositives M l._turn l.of l.fn.positives.items l.left.items l.fn.draft l.draft l.fn.taking l.taking
+invariant-plan_positives-loop-turn l = (M : Structure) → AreSources M l.sources → TakesPositives M l._turn l.of l.fn.positives.items l.left l.fn.draft l.draft l.fn.taking l.taking
 
 abbrev pub invariant-plan_negations-loop-turn : goal.invariant-plan_negations-loop-turn
-invariant-plan_negations-loop-turn l = (M : Structure) → AreSources M l.sources → TakesNegations M l._turn l.of l.fn.negations.items l.left.items l.fn.draft l.draft l.fn.taking l.taking
+invariant-plan_negations-loop-turn l = (M : Structure) → AreSources M l.sources → TakesNegations M l._turn l.of l.fn.negations.items l.left l.fn.draft l.draft l.fn.taking l.taking

@@ -1,0 +1,101 @@
+-- What is taken out of elements that wait: the first that goes before the others, or else the first.
+use Rattle.std.proofs.Common.{◌≡◌, ◌<◌, ◌+◌, ◌↔◌, ℕ, Bool, true, false, cond, not, nat_lt, List, [], ◌∷◌, ◌++◌, length, Option, Some, None, unwrap_or, slice_get, remove, refl, sym, ap, subst, ◌∙◌, arith, option_to_list, append-nil, Result, Ok, Err}
+use Rattle.std.specs.List.{AllByRecursion, position_or_len}
+use Rattle.std.specs.Option.{IsSome}
+use Rattle.std.specs.Result.{IfOk}
+use Rattle.std.proofs.lemmas.Bool.{lt-ltb, le-ltb, false≢true}
+use Rattle.lrp_core.specs.declared.variables.Variable.{Variable as ProgramVariable}
+use Rattle.lrp_model.proofs.Logic.{all_append}
+use Rattle.lrp_model.specs.Conjunctions.{first_or_0}
+use Rattle.lrp_plan.specs.declared.elements.Element.{Element}
+use Rattle.lrp_plan.specs.declared.waiting.Turn.{Turn}
+use Rattle.lrp_plan.specs.Elements.{TakesAt}
+use Rattle.lrp_plan.specs.Waiting.{goes_first, FallBehind}
+
+module _ {X : Type 0} (p : X → Bool) where
+  behind : (xs ys : List X) (x : X) → AllByRecursion (λ y. p y ≡ false) xs → p x ≡ true → position_or_len p (xs ++ x ∷ ys) ≡ length xs
+  behind [] ys x h e = ap (λ b. cond (not b) (1 + position_or_len p ys) 0) e
+  behind (z ∷ xs) ys x h e =
+      let n : position_or_len p (xs ++ x ∷ ys) ≡ length xs = behind xs ys x h.1 e in
+      ap (λ b. cond (not b) (1 + position_or_len p (xs ++ x ∷ ys)) 0) h.0 ∙ (omega arith)
+
+  none : (xs : List X) → AllByRecursion (λ y. p y ≡ false) xs → position_or_len p xs ≡ length xs
+  none [] h = refl
+  none (z ∷ xs) h =
+      let n : position_or_len p xs ≡ length xs = none xs h.1 in
+      ap (λ b. cond (not b) (1 + position_or_len p xs) 0) h.0 ∙ (omega arith)
+
+  chosen : (n m : ℕ) (b : Bool) → nat_lt n m ≡ b → unwrap_or (cond (nat_lt n m) (Some n) None) 0 ≡ unwrap_or (cond b (Some n) None) 0
+  chosen n m b e = ap (λ c. unwrap_or (cond c (Some n) None) 0) e
+
+  longer : (xs ys : List X) (x : X) → length xs < length (xs ++ x ∷ ys)
+  longer [] ys x = omega arith
+  longer (z ∷ xs) ys x = let h : length xs < length (xs ++ x ∷ ys) = longer xs ys x in omega arith
+
+  -- one that passes, behind those that do not
+  pub first_behind : (xs ys : List X) (x : X) → AllByRecursion (λ y. p y ≡ false) xs → p x ≡ true → first_or_0 p (xs ++ x ∷ ys) ≡ length xs
+  first_behind xs ys x h e =
+      ap (λ n. unwrap_or (cond (nat_lt n (length (xs ++ x ∷ ys))) (Some n) None) 0) (behind xs ys x h e)
+      ∙ chosen (length xs) (length (xs ++ x ∷ ys)) true (lt-ltb (length xs) (length (xs ++ x ∷ ys)) (longer xs ys x))
+
+  -- where none passes
+  pub first_of_none : (xs : List X) → AllByRecursion (λ y. p y ≡ false) xs → first_or_0 p xs ≡ 0
+  first_of_none xs h =
+      ap (λ n. unwrap_or (cond (nat_lt n (length xs)) (Some n) None) 0) (none xs h)
+      ∙ chosen (length xs) (length xs) false (le-ltb (length xs) (length xs) (omega arith))
+
+module _ {X : Type 0} where
+  get_behind : (xs ys : List X) (x : X) → slice_get (xs ++ x ∷ ys) (length xs) ≡ Some x
+  get_behind [] ys x = refl
+  get_behind (z ∷ xs) ys x = get_behind xs ys x
+
+  remove_behind : (xs ys : List X) (x : X) → remove (xs ++ x ∷ ys) (length xs) ≡ xs ++ ys
+  remove_behind [] ys x = refl
+  remove_behind (z ∷ xs) ys x = ap (λ zs. z ∷ zs) (remove_behind xs ys x)
+
+-- one that goes before the others is taken from behind those that do not
+pub takes_behind : (p : Element → Bool) (all xs ys : List Element) (e : Element) → all ≡ xs ++ e ∷ ys → AllByRecursion (λ y. p y ≡ false) xs → p e ≡ true → TakesAt (first_or_0 p all) all (xs ++ ys) (Some e)
+takes_behind p all xs ys e is h t =
+    subst (λ zs. TakesAt (first_or_0 p zs) zs (xs ++ ys) (Some e)) (sym is)
+    (subst (λ n. TakesAt n (xs ++ e ∷ ys) (xs ++ ys) (Some e)) (sym (first_behind p xs ys e h t)) (get_behind xs ys e, sym (remove_behind xs ys e)))
+
+-- where none does, the first is taken
+takes_first : (p : Element → Bool) (all xs : List Element) (r : Option Element) → all ≡ option_to_list r ++ xs → IsSome r ↔ (0 < length all) → AllByRecursion (λ y. p y ≡ false) all → TakesAt (first_or_0 p all) all xs r
+takes_first p [] xs None is v h = (refl, sym is)
+takes_first p (e ∷ es) xs None is v h = absurd (false≢true (v.1 (omega arith)))
+takes_first p all xs (Some e) is v h =
+    subst (λ i. TakesAt i all xs (Some e)) (sym (first_of_none p all h))
+    (subst (λ zs. TakesAt 0 zs xs (Some e)) (sym is) (refl, refl))
+
+nothing_behind : (xs ys : List Element) → ys ≡ [] → xs ++ ys ≡ xs
+nothing_behind xs ys e = ap (λ zs. xs ++ zs) e ∙ append-nil xs
+
+-- the same, where all were passed over
+pub takes_left : (p : Element → Bool) (all passed rest left gone : List Element) (r : Option Element) → all ≡ passed ++ rest → rest ≡ [] → gone ≡ [] → passed ≡ option_to_list r ++ left → IsSome r ↔ (0 < length passed) → AllByRecursion (λ y. p y ≡ false) passed → TakesAt (first_or_0 p all) all (left ++ gone) r
+takes_left p all passed rest left gone r is none empty out v h =
+    subst (λ zs. TakesAt (first_or_0 p zs) zs (left ++ gone) r) (sym (is ∙ nothing_behind passed rest none))
+    (subst (λ zs. TakesAt (first_or_0 p passed) passed zs r) (sym (nothing_behind left gone empty)) (takes_first p passed left r out v h))
+
+-- one more that does not go before the others
+pub one_behind : (turn : Turn) (vs : List ProgramVariable) (es : List Element) (e : Element) → FallBehind turn vs es → goes_first turn vs e ≡ false → FallBehind turn vs (es ++ e ∷ [])
+one_behind turn vs es e h t = (all_append (λ x. goes_first turn vs x ≡ false) es (e ∷ [])).1 (h, (t, tt))
+
+-- what is left of them
+pub left_behind : (turn : Turn) (vs : List ProgramVariable) (es xs : List Element) (r : Option Element) → es ≡ option_to_list r ++ xs → FallBehind turn vs es → FallBehind turn vs xs
+left_behind turn vs es xs r is h = ((all_append (λ x. goes_first turn vs x ≡ false) (option_to_list r) xs).0 (subst (FallBehind turn vs) is h)).1
+
+-- none was passed over yet
+pub none_behind : (turn : Turn) (vs : List ProgramVariable) (es : List Element) → es ≡ [] → FallBehind turn vs es
+none_behind turn vs es is = subst (FallBehind turn vs) (sym is) tt
+
+-- those that were passed over in a turn are behind in the same turn
+pub still_behind : (before turn : Turn) (seen vs : List ProgramVariable) (es : List Element) → before ≡ turn → seen ≡ vs → FallBehind before seen es → FallBehind turn vs es
+still_behind before turn seen vs es t s h = subst (λ ws. FallBehind turn ws es) s (subst (λ u. FallBehind u seen es) t h)
+
+-- what is taken out of all that wait
+pub takes_next : {E : Type 0} (r : Result (Option Element) E) (turn : Turn) (vs ws : List ProgramVariable) (old passed rest new : List Element) → vs ≡ ws → passed ++ rest ≡ old → FallBehind turn ws passed
+    → IfOk r (λ taken. FallBehind turn vs passed → TakesAt (first_or_0 (goes_first turn vs) (passed ++ rest)) (passed ++ rest) new taken) → IfOk r (λ taken. TakesAt (first_or_0 (goes_first turn ws) old) old new taken)
+takes_next (Ok t) turn vs ws old passed rest new s e h k =
+    subst (λ us. TakesAt (first_or_0 (goes_first turn us) old) old new t) s
+    (subst (λ xs. TakesAt (first_or_0 (goes_first turn vs) xs) xs new t) e (k (subst (λ us. FallBehind turn us passed) (sym s) h)))
+takes_next (Err x) turn vs ws old passed rest new s e h k = tt

@@ -1,0 +1,18 @@
+-- Elements of an `and` of the program that wait for their turn.
+use Rattle.std.specs.Prelude.{◌≡◌, Bool, false, ◌&&◌, List, map}
+use Rattle.std.specs.List.{AllByRecursion}
+use Rattle.lrp_core.specs.FreeVariables.{variable_of}
+use Rattle.lrp_core.specs.declared.variables.Variable.{Variable as ProgramVariable}
+use Rattle.lrp_model.specs.Variables.{are_among, meet}
+use Rattle.lrp_plan.specs.declared.elements.Element.{Element}
+use Rattle.lrp_plan.specs.declared.waiting.Turn.{Turn}
+use Rattle.lrp_plan.specs.declared.waiting.Turn.TheVariants.{Meeting, Covered}
+
+-- whether an element goes before the others, where these variables were taken in
+abbrev pub goes_first : Turn → List ProgramVariable → Element → Bool
+goes_first Meeting vs e = meet (map variable_of e.variables) (map variable_of vs)
+goes_first (Covered some) vs e = some && are_among (map variable_of e.variables) (map variable_of vs)
+
+-- none of the elements goes before the others
+abbrev pub FallBehind : Turn → List ProgramVariable → List Element → Type 0
+FallBehind turn vs es = AllByRecursion (λ e. goes_first turn vs e ≡ false) es
