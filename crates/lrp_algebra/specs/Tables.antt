@@ -1,0 +1,38 @@
+-- What the operations on tables do, said of the assignments that the tables stand for.
+use Rattle.std.specs.Prelude.{◌≡◌, ℕ, ℤ, ◌*◌, List, Contains, map}
+use Rattle.lrp_model.specs.Texts.{Text, Identifier}
+use Rattle.lrp_model.specs.Rows.{time, text}
+use Rattle.lrp_model.specs.Satisfaction.{Assignment, with_value}
+use Rattle.lrp_store.specs.Stores.{HasReach}
+use Rattle.lrp_store.specs.Tables.{InTable, AreTexts}
+use Rattle.lrp_store.specs.declared.table.Table.{Table}
+use Rattle.lrp_algebra.specs.Columns.{others}
+
+-- the table has the assignment, where the numbers of its texts are those of the domain
+abbrev pub Has : Table → List Text → Assignment → Type 0
+Has table domain env = InTable domain table.vars.times table.vars.texts table.store env
+
+-- the assignments of old that some integer for the time variable completes
+pub record IsTimeDropped (name : Identifier) (old new : Table) : Type 0 where
+  pub times : new.vars.times ≡ others name old.vars.times
+  pub texts : new.vars.texts ≡ old.vars.texts
+  pub period : new.store.period ≡ old.store.period
+  pub to : (domain : List Text) (env : Assignment) → Has new domain env → (x : ℤ) × Has old domain (with_value name (time x) env)
+  pub from : (domain : List Text) (env : Assignment) (x : ℤ) → Has old domain (with_value name (time x) env) → Has new domain env
+  pub reach : (high : ℕ) → HasReach old.store high → HasReach new.store (2 * high)
+
+-- the assignments of old that some text of the domain for the data variable completes
+pub record IsTextDropped (domain : List Text) (name : Identifier) (old new : Table) : Type 0 where
+  pub times : new.vars.times ≡ old.vars.times
+  pub texts : new.vars.texts ≡ others name old.vars.texts
+  pub period : new.store.period ≡ old.store.period
+  pub to : (env : Assignment) → Has new domain env → (t : Text) × Contains domain t × Has old domain (with_value name (text t) env)
+  pub from : (env : Assignment) (t : Text) → Contains domain t → Has old domain (with_value name (text t) env) → Has new domain env
+  pub reach : (high : ℕ) → HasReach old.store high → HasReach new.store high
+
+-- the times and the numbers of texts at these columns of the assignments of a set
+pub record AtColumns (domain : List Text) (times texts : List Identifier) (set : Assignment → Type 0) (values : List ℤ) (numbers : List ℕ) : Type 0 where
+  pub env : Assignment
+  pub is : set env
+  pub times_are : map env.times times ≡ values
+  pub texts_are : AreTexts domain numbers (map env.texts texts)

@@ -1,0 +1,86 @@
+// One data column fewer: some text of the domain completes what is left.
+ghost use Rattle.std.specs.Prelude.{◌≡◌, ◌+◌, ◌-◌, ◌<◌, ◌≤◌, ◌^◌, ℕ, OnOk, IfOk};
+ghost use Rattle.lrp_zone.specs.Zones.{reach_of};
+ghost use Rattle.lrp_store.specs.Growing.{IsAdded};
+ghost use Rattle.lrp_algebra.specs.Pieces.{Fits, InPiece};
+ghost use Rattle.lrp_algebra.specs.Tuples.{IsMade, IsWithoutText, IsStoreWithoutText};
+ghost use Rattle.lrp_algebra.specs.Tables.{IsTextDropped};
+
+use crate::names::{place_of, without};
+use crate::pieces::{Piece, Pieces};
+use crate::places::without_number;
+use lrp_model::{Cell, Domain, Memory, Name, Shape};
+use lrp_store::{Store, StoreFault, Table, Vars};
+use std::alloc::Global;
+
+/// The assignments that some text of the domain for the data variable completes to one of the table, over its other columns.
+///
+/// Where no column has the name, these are the assignments of the table, or none where the domain has no text.
+pub fn drop_data(
+    alloc: Global,
+    table: &Table,
+    name: &Name,
+    domain: &Domain,
+) -> Result<Table, Memory>
+    ensures { IfOk result (λ made. IsTextDropped domain.now name.now table.now made) }
+{
+    let vars = Vars {
+        times: table.vars.times.copy(alloc)?,
+        texts: without(alloc, &table.vars.texts, name)?,
+    };
+    let shape = table.store.shape();
+    let size = domain.len();
+    let store = match place_of(&table.vars.texts, name) {
+        Some(place) => without_text(alloc, &table.store, place, size)?,
+        None if size == 0 => Store::new(alloc, shape, table.store.period()),
+        None => table.store.copy()?,
+    };
+    Ok(Table { vars, store })
+}
+
+// The tuples without the text at a place, where its number is below the size of the domain.
+fn without_text(alloc: Global, store: &Store, place: usize, size: u32) -> Result<Store, Memory>
+    requires place { place < store.now.shape.texts }
+    ensures { IfOk result (λ made. IsStoreWithoutText place size store.now made) }
+{
+    let shape = store.shape();
+    let shape = Shape {
+        times: shape.times,
+        texts: shape.texts - 1,
+    };
+    let mut out = Store::new(alloc, shape, store.period());
+    out.shape();
+    for piece in Pieces::of(store) {
+        match add_without_text(&piece, place, size, &mut out) {
+            Ok(()) => {}
+
+            // No cell is one too many, since the operand has as many cells at least.
+            Err(_) => return Err(Memory),
+        }
+    }
+    Ok(out)
+}
+
+// Adds the tuples of a zone without the text at a place, where its number is below the size of the domain.
+fn add_without_text(
+    piece: &Piece,
+    place: usize,
+    size: u32,
+    out: &mut Store,
+) -> Result<(), StoreFault>
+    requires place { place ≤ out.old.shape.texts }
+    requires wide { out.old.shape.texts < 8 }
+    requires fits { Fits (record { times = out.old.shape.times; texts = out.old.shape.texts + 1 }) out.old.period piece.now }
+    ensures ok { OnOk result (IsAdded (IsMade (IsWithoutText place size) (InPiece (out.old.shape.texts + 1) piece.now)) (2 ^ 32 - 1) (reach_of piece.now.zone) out.old out.new) }
+{
+    out.shape();
+    piece.zone.columns();
+    if piece.cell.texts[place] >= size {
+        return Ok(());
+    }
+    let cell = Cell {
+        texts: without_number(&piece.cell.texts, place),
+        residues: piece.cell.residues,
+    };
+    out.add(&cell, &piece.zone, u32::MAX)
+}

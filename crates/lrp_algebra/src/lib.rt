@@ -1,0 +1,12 @@
+//! The operations on tables by which a query's plan is run.
+#![tactic(auto)]
+
+mod data_drops;
+mod names;
+mod pieces;
+mod places;
+mod time_drops;
+
+pub use data_drops::drop_data;
+pub use lrp_store::{StepFault, Table, Vars};
+pub use time_drops::drop_time;

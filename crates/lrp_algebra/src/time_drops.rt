@@ -1,0 +1,77 @@
+// One time column fewer: some integer completes what is left.
+ghost use Rattle.std.specs.Prelude.{◌≡◌, ◌+◌, ◌*◌, ◌-◌, ◌<◌, ◌≤◌, ◌^◌, ℕ, OnOk, IfOk};
+ghost use Rattle.lrp_zone.specs.Zones.{reach_of};
+ghost use Rattle.lrp_store.specs.Stores.{InStore, HasReach, HoldsJust};
+ghost use Rattle.lrp_store.specs.Growing.{IsAdded, IsRefused};
+ghost use Rattle.lrp_algebra.specs.Pieces.{Fits, InPiece};
+ghost use Rattle.lrp_algebra.specs.Tuples.{IsMade, IsWithoutTime, IsStoreWithoutTime};
+ghost use Rattle.lrp_algebra.specs.Tables.{IsTimeDropped};
+
+use crate::names::{place_of, without};
+use crate::pieces::{Piece, Pieces};
+use crate::places::without_residue;
+use lrp_model::{Cell, Copies, Memory, Name, Shape};
+use lrp_store::{Store, StoreFault, Table, Vars};
+use std::alloc::Global;
+
+/// The assignments that some integer for the time variable completes to one of the table, over its other columns.
+///
+/// Where no column has the name, these are the assignments of the table.
+pub fn drop_time(alloc: Global, table: &Table, name: &Name) -> Result<Table, Memory>
+    requires reach { HasReach table.now.store (2 ^ 61) }
+    ensures { IfOk result (λ made. IsTimeDropped name.now table.now made) }
+{
+    let vars = Vars {
+        times: without(alloc, &table.vars.times, name)?,
+        texts: table.vars.texts.copy(alloc)?,
+    };
+    table.store.shape();
+    let store = match place_of(&table.vars.times, name) {
+        Some(place) => without_time(alloc, &table.store, place)?,
+        None => table.store.copy()?,
+    };
+    Ok(Table { vars, store })
+}
+
+// The tuples without the time at a place.
+fn without_time(alloc: Global, store: &Store, place: usize) -> Result<Store, Memory>
+    requires place { place < store.now.shape.times }
+    requires reach { HasReach store.now (2 ^ 61) }
+    ensures { IfOk result (λ made. IsStoreWithoutTime place store.now made) }
+{
+    let shape = store.shape();
+    let shape = Shape {
+        times: shape.times - 1,
+        texts: shape.texts,
+    };
+    let mut out = Store::new(alloc, shape, store.period());
+    out.shape();
+    for piece in Pieces::of(store) {
+        match add_without_time(&piece, place, &mut out) {
+            Ok(()) => {}
+
+            // No cell is one too many, since the operand has as many cells at least.
+            Err(_) => return Err(Memory),
+        }
+    }
+    Ok(out)
+}
+
+// Adds the tuples of a zone without the time at a place.
+fn add_without_time(piece: &Piece, place: usize, out: &mut Store) -> Result<(), StoreFault>
+    requires place { place ≤ out.old.shape.times }
+    requires wide { out.old.shape.times < 8 }
+    requires fits { Fits (record { times = out.old.shape.times + 1; texts = out.old.shape.texts }) out.old.period piece.now }
+    requires reach { 2 * reach_of piece.now.zone ≤ 2 ^ 62 }
+    ensures ok { OnOk result (IsAdded (IsMade (IsWithoutTime place) (InPiece out.old.shape.texts piece.now)) (2 ^ 32 - 1) (2 * reach_of piece.now.zone) out.old out.new) }
+{
+    out.shape();
+    piece.zone.columns();
+    let zone = piece.zone.drop_column(place + 1);
+    zone.columns();
+    let cell = Cell {
+        texts: piece.cell.texts,
+        residues: without_residue(&piece.cell.residues, place),
+    };
+    out.add(&cell, &zone, u32::MAX)
+}
