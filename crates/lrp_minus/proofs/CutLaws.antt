@@ -1,6 +1,6 @@
 -- A part is cut along pair after pair: what is dropped, what is kept, and how many pieces come of it.
-use Rattle.std.proofs.Common.{◌≡◌, ℕ, zero, suc, ◌+◌, ◌*◌, ◌-◌, ◌<◌, ◌≤◌, ◌⊎◌, ◌^◌, inl, inr, List, [], ◌∷◌, ◌++◌, Option, Some, None, length, get_or, arith, refl, sym, subst, ◌∙◌, ap, max, take, length-append, append_assoc}
-use Rattle.std.specs.Prelude.{ℤ, pos, neg_ℤ, nat_abs, ◌-ℤ◌, ◌+ℤ◌, ◌≤ℤ◌, ◌<ℤ◌, Contains, AllPairs, map, flat_map}
+use Rattle.std.proofs.Common.{◌≡◌, ℕ, ◌+◌, ◌*◌, ◌<◌, ◌≤◌, inl, inr, List, [], ◌∷◌, ◌++◌, Option, Some, None, length, arith, refl, sym, subst, ◌∙◌, ap, max, take, length-append, append_assoc}
+use Rattle.std.specs.Prelude.{ℤ, pos, neg_ℤ, ◌-ℤ◌, ◌≤ℤ◌, Contains, map}
 use Rattle.std.proofs.lemmas.Int.{ints}
 use Rattle.std.proofs.lemmas.List.{append-nil}
 use Rattle.std.proofs.lemmas.List.Elements.{Contains-append_cases, Contains-append_left, Contains-append_right}
@@ -12,9 +12,8 @@ use Rattle.lrp_zone.specs.Pairs.{IsOfCell, IsWithin, HaveNoCommon}
 use Rattle.lrp_store.specs.Settled.{InSome}
 use Rattle.lrp_minus.specs.declared.pairs.Pair.{Pair}
 use Rattle.lrp_minus.specs.Differences.{AreOfCell, IsDifference, greatest_reach}
-use Rattle.lrp_minus.specs.Halves.{MeetsBound, other_side}
 use Rattle.lrp_minus.specs.Thresholds.{listed, thresholds_of, all_thresholds, parts_along, most_parts}
-use Rattle.lrp_minus.specs.Cutting.{IsPairOf, lower_side, side_reach, IsOneSided, IsCutAlong, IsSplitAlong, HaveCommon, IsWithinOne, MeetsOne, MeetsNone, AreLeft, AreCut, AppendsCut}
+use Rattle.lrp_minus.specs.Cutting.{IsPairOf, side_reach, IsOneSided, IsCutAlong, IsSplitAlong, HaveCommon, IsWithinOne, MeetsOne, MeetsNone, AreLeft, AppendsCut}
 use Rattle.lrp_minus.proofs.Lists.{in_none, in_one, one_in, in_cons, later, pairs_append, pairs_one, pairs_none, in_left, in_right, in_either, in_this, this_has, in_nothing, in_flat, greatest_below, below_or}
 
 -- ---- the number of parts

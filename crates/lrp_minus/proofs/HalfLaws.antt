@@ -1,9 +1,8 @@
 -- The half of a zone that meets one more bound, by the zone of that bound alone.
-use Rattle.std.proofs.Common.{◌≡◌, ℕ, zero, suc, ◌+◌, ◌<◌, ◌≤◌, ◌⊎◌, ◌^◌, inl, inr, List, [], ◌∷◌, Option, Some, None, length, arith, refl, sym, subst, ◌∙◌, max}
+use Rattle.std.proofs.Common.{◌≡◌, ℕ, zero, suc, ◌<◌, ◌≤◌, inl, inr, List, [], ◌∷◌, Option, Some, length, arith, refl, sym, subst, max}
 use Rattle.std.specs.Prelude.{ℤ, pos, nat_abs, ◌-ℤ◌, ◌≤ℤ◌}
 use Rattle.std.proofs.lemmas.Int.{ints}
-use Rattle.lrp_theory.specs.Divides.{Divides}
-use Rattle.lrp_theory.specs.Entries.{entry, node, AtMost, AllSmall}
+use Rattle.lrp_theory.specs.Entries.{entry, node, AtMost}
 use Rattle.lrp_model.specs.declared.relations.Bound.{Bound}
 use Rattle.lrp_zone.specs.Zones.{ZoneView, IsZone, IsMember, columns_of, reach_of}
 use Rattle.lrp_zone.specs.Pairs.{IsOfCell, IsMeet, HaveNoCommon}

@@ -1,5 +1,5 @@
 -- Lists of zones: what is in them, and pairs of their elements.
-use Rattle.std.proofs.Common.{length-append, zero, suc, take, ap, ◌∙◌, add-zero, zero-add, ◌≡◌, ℕ, ◌+◌, ◌-◌, ◌<◌, ◌≤◌, ◌⊎◌, inl, inr, List, [], ◌∷◌, ◌++◌, length, get_or, arith, refl, sym, subst, max}
+use Rattle.std.proofs.Common.{length-append, zero, suc, take, ap, ◌∙◌, add-zero, zero-add, ◌≡◌, ℕ, ◌+◌, ◌-◌, ◌<◌, ◌≤◌, ◌⊎◌, inl, inr, List, [], ◌∷◌, ◌++◌, length, get_or, arith, refl, sym, subst}
 use Rattle.std.specs.Prelude.{ℤ, pos, Contains, AllPairs, flat_map, Result, Ok, Err, IfOk, OnOk}
 use Rattle.std.specs.List.{range_with_len}
 use Rattle.std.proofs.lemmas.List.{get_or_append_left, get_or-append_right, take_more, get_or-take, get_or_default, length-take-le}

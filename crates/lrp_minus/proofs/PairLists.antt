@@ -7,7 +7,7 @@ use Rattle.std.proofs.lemmas.List.FromFn.{map-range_with_len_more, length-map-ra
 use Rattle.std.proofs.lemmas.Grind.{flat_map-append}
 use Rattle.lrp_minus.specs.declared.pairs.Pair.{Pair}
 use Rattle.lrp_minus.specs.Thresholds.{row_of_pairs, pairs_below}
-use Rattle.lrp_minus.specs.Cutting.{IsPairOf, AreLeft}
+use Rattle.lrp_minus.specs.Cutting.{AreLeft}
 use Rattle.lrp_zone.specs.Zones.{ZoneView, columns_of}
 use Rattle.lrp_minus.proofs.Lists.{range_more, in_flat, in_range, from_flat}
 

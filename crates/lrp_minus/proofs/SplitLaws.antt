@@ -1,20 +1,20 @@
 -- A zone is split at one threshold after another, from the least one on.
-use Rattle.std.proofs.Common.{◌≡◌, ℕ, zero, suc, ◌+◌, ◌-◌, ◌<◌, ◌≤◌, ◌⊎◌, ◌^◌, inl, inr, List, [], ◌∷◌, ◌++◌, Option, Some, None, length, get_or, arith, refl, sym, subst, ◌∙◌, max, length-append}
-use Rattle.std.specs.Prelude.{ℤ, pos, neg_ℤ, nat_abs, ◌-ℤ◌, ◌+ℤ◌, ◌≤ℤ◌, ◌<ℤ◌, Contains, AllPairs, All, IfSome, IfNone}
+use Rattle.std.proofs.Common.{◌≡◌, ℕ, ◌+◌, ◌<◌, ◌≤◌, ◌⊎◌, inl, inr, List, [], ◌∷◌, ◌++◌, Option, Some, None, length, get_or, arith, refl, subst, ◌∙◌, max, length-append}
+use Rattle.std.specs.Prelude.{ℤ, pos, nat_abs, ◌-ℤ◌, ◌+ℤ◌, ◌≤ℤ◌, ◌<ℤ◌, Contains, AllPairs, IfSome, IfNone}
 use Rattle.std.specs.Option.{option_to_list}
 use Rattle.std.proofs.lemmas.Int.{ints, by_lt_z}
-use Rattle.std.proofs.lemmas.List.Elements.{Contains-get_or, Contains-append_cases, Contains-append_left}
+use Rattle.std.proofs.lemmas.List.Elements.{Contains-append_cases}
 use Rattle.lrp_theory.specs.Divides.{Divides}
 use Rattle.lrp_theory.specs.Entries.{node}
 use Rattle.lrp_theory.proofs.Modulo.{Divides--, Divides-is, multiple_below}
 use Rattle.lrp_model.specs.declared.relations.Bound.{Bound}
-use Rattle.lrp_zone.specs.Zones.{ZoneView, IsZone, IsMember, columns_of, reach_of}
+use Rattle.lrp_zone.specs.Zones.{ZoneView, IsZone, IsMember, reach_of}
 use Rattle.lrp_zone.specs.Pairs.{IsOfCell, IsWithin, HaveNoCommon}
 use Rattle.lrp_store.specs.Settled.{InSome}
 use Rattle.lrp_minus.specs.declared.pairs.Pair.{Pair}
 use Rattle.lrp_minus.specs.Halves.{MeetsBound, CanBeStored, IsHalf, HasNoHalf, other_side}
 use Rattle.lrp_minus.specs.Cutting.{lower_side, HasSides, IsOneSided, IsSplit}
-use Rattle.lrp_minus.proofs.Lists.{below_or, in_none, in_one, pairs_append, pairs_one, pairs_none, in_left, in_right, in_either, in_this}
+use Rattle.lrp_minus.proofs.Lists.{below_or, in_none, in_one, pairs_append, pairs_one, pairs_none, in_left, in_right, in_this}
 
 -- the parts below the first n thresholds, and the rest above them
 pub record IsSplitting (z : ZoneView) (p : Pair) (ts : List ℤ) (h n : ℕ) (parts : List ZoneView) (rest : ZoneView) : Type 0 where

@@ -1,15 +1,14 @@
 -- Thresholds: their order, their number, and the bounds that their sides are.
-use Rattle.std.proofs.Common.{◌≡◌, ℕ, zero, suc, ◌+◌, ◌-◌, ◌<◌, ◌≤◌, ◌⊎◌, ◌^◌, inl, inr, List, [], ◌∷◌, ◌++◌, Bool, true, false, Option, Some, None, length, get_or, arith, refl, sym, subst, ◌∙◌, ap, max, append_assoc, to_z, of_z, w64}
-use Rattle.std.specs.Prelude.{ℤ, pos, neg_ℤ, nat_abs, ◌-ℤ◌, ◌+ℤ◌, ◌≤ℤ◌, ◌<ℤ◌, Contains, AllPairs, All, map, flat_map, ◌==◌, ◌&&◌, cond}
+use Rattle.std.proofs.Common.{◌≡◌, ℕ, ◌+◌, ◌<◌, ◌≤◌, ◌⊎◌, ◌^◌, inl, inr, List, [], ◌∷◌, ◌++◌, Bool, true, false, Option, Some, None, length, get_or, arith, refl, sym, subst, ◌∙◌, ap, append_assoc, to_z, of_z, w64}
+use Rattle.std.specs.Prelude.{ℤ, pos, neg_ℤ, nat_abs, ◌-ℤ◌, ◌<ℤ◌, Contains, AllPairs, All, map, flat_map, ◌==◌}
 use Rattle.std.specs.List.{range_with_len, list_any, dedup}
 use Rattle.std.specs.List.Sorted.{IsStrictlySortedBy, IsPermutation, IsSorted}
-use Rattle.std.specs.Ordering.{int_cmp, int_eq, MatchOrdering, eq_by_cmp}
-use Rattle.std.specs.declared.cmp.Ordering.{Ordering}
+use Rattle.std.specs.Ordering.{int_cmp, int_eq, MatchOrdering}
 use Rattle.std.specs.declared.cmp.Ordering.TheVariants.{Less}
 use Rattle.std.specs.Cmp.{int_ranks}
 use Rattle.std.proofs.lemmas.Cmp.{int_eq_equiv, int_cmp_total}
 use Rattle.std.proofs.lemmas.Int.{ints}
-use Rattle.std.proofs.lemmas.List.Elements.{All-from_recursion, All-weaker, All-contains, Contains-get_or, Contains-append_cases, Contains-append_left, Contains-append_right}
+use Rattle.std.proofs.lemmas.List.Elements.{All-from_recursion, All-weaker, All-contains, Contains-get_or, Contains-append_cases, Contains-append_left}
 use Rattle.std.proofs.lemmas.List.Kept.{AllPairs-cons, IsStrictlySortedBy-dedup, Contains-dedup, Contains-from_dedup}
 use Rattle.std.proofs.lemmas.List.Sorted.{Contains-permutation, IsPermutation-sym}
 use Rattle.std.proofs.lemmas.List.{append-nil}
@@ -18,10 +17,10 @@ use Rattle.std.proofs.lemmas.Map.Made.{length-le_from_is_member, IsDistinct-from
 use Rattle.std.proofs.lemmas.Map.Views.{Contains-from_any, list_any-from_Contains}
 use Rattle.std.proofs.lemmas.Bool.Decides.{Decides-int_eq, nat_tests}
 use Rattle.lrp_theory.specs.Divides.{Divides}
-use Rattle.lrp_theory.specs.Entries.{entry, node, AtMost, AllSmall}
+use Rattle.lrp_theory.specs.Entries.{entry, node, AtMost}
 use Rattle.lrp_theory.proofs.Modulo.{Divides--, Divides-neg, Divides-self, Divides-is}
 use Rattle.lrp_model.specs.declared.relations.Bound.{Bound}
-use Rattle.lrp_model.specs.Cuts.{is_of_pair, threshold, distinct, cuts}
+use Rattle.lrp_model.specs.Cuts.{threshold, distinct, cuts}
 use Rattle.lrp_zone.specs.Zones.{ZoneView, IsZone, IsTight, columns_of, reach_of}
 use Rattle.lrp_zone.specs.Pairs.{IsOfCell}
 use Rattle.lrp_zone.proofs.Reaches.{reach_small}
@@ -29,8 +28,8 @@ use Rattle.lrp_minus.specs.declared.pairs.Pair.{Pair}
 use Rattle.lrp_minus.specs.Differences.{AreOfCell, greatest_reach}
 use Rattle.lrp_minus.specs.Halves.{CanBeStored, other_side}
 use Rattle.lrp_minus.specs.Thresholds.{bound_there, stored_bounds, listed, thresholds_of, all_thresholds, parts_along, AreThresholds}
-use Rattle.lrp_minus.specs.Cutting.{IsPairOf, lower_side, side_reach, HasSides, IsSplit, IsSplitAlong, IsCutAlong, IsOneSided}
-use Rattle.lrp_minus.proofs.Lists.{below_or, in_none, in_one, one_in, in_cons, later, in_flat, in_range, pairs_none, reach_below}
+use Rattle.lrp_minus.specs.Cutting.{IsPairOf, lower_side, side_reach, HasSides, IsSplit, IsSplitAlong}
+use Rattle.lrp_minus.proofs.Lists.{in_none, in_one, one_in, in_cons, later, in_flat, in_range, pairs_none, reach_below}
 
 -- ---- order
 less_is : (x y : ℤ) → int_cmp x y ≡ Less → x <ℤ y

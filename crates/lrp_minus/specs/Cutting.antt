@@ -1,5 +1,5 @@
 -- How a part of a zone is cut along the thresholds of cutters.
-use Rattle.std.specs.Prelude.{◌≡◌, ℕ, ℤ, ◌+◌, ◌<◌, ◌≤◌, ◌^◌, ◌⊎◌, List, [], ◌∷◌, ◌++◌, length, Contains, AllPairs, max, nat_abs}
+use Rattle.std.specs.Prelude.{◌≡◌, ℕ, ℤ, ◌+◌, ◌<◌, ◌≤◌, ◌⊎◌, List, ◌++◌, length, Contains, AllPairs, max, nat_abs}
 use Rattle.lrp_model.specs.declared.relations.Bound.{Bound}
 use Rattle.lrp_zone.specs.Zones.{ZoneView, IsZone, IsMember, columns_of, reach_of}
 use Rattle.lrp_zone.specs.Pairs.{IsOfCell, IsWithin, HaveNoCommon}

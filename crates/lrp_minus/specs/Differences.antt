@@ -1,5 +1,5 @@
 -- The tuples of a zone that are in none of some cutters, as disjoint zones.
-use Rattle.std.specs.Prelude.{◌≡◌, ℕ, ℤ, List, [], ◌∷◌, Contains, AllPairs, max}
+use Rattle.std.specs.Prelude.{ℕ, ℤ, List, [], ◌∷◌, Contains, AllPairs, max}
 use Rattle.lrp_zone.specs.Zones.{ZoneView, IsZone, IsMember, reach_of}
 use Rattle.lrp_zone.specs.Pairs.{IsOfCell, HaveNoCommon}
 use Rattle.lrp_store.specs.Settled.{InSome}

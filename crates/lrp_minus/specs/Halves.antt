@@ -1,5 +1,5 @@
 -- The part of a zone that meets one more bound.
-use Rattle.std.specs.Prelude.{◌≡◌, ℕ, ℤ, ◌≤◌, ◌≢◌, ◌^◌, List, max, nat_abs, pos, neg_ℤ, ◌-ℤ◌, ◌≤ℤ◌}
+use Rattle.std.specs.Prelude.{ℕ, ℤ, ◌≤◌, ◌≢◌, ◌^◌, List, max, nat_abs, pos, neg_ℤ, ◌-ℤ◌, ◌≤ℤ◌}
 use Rattle.lrp_theory.specs.Divides.{Divides}
 use Rattle.lrp_theory.specs.Entries.{node}
 use Rattle.lrp_model.specs.declared.relations.Bound.{Bound}

@@ -9,3 +9,6 @@ mod standing;
 mod thresholds;
 
 pub use cutting::pieces;
+
+#[cfg(test)]
+mod tests;

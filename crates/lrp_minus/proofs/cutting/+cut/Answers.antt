@@ -1,8 +1,8 @@
 -- A part is dropped, kept, or split and its parts cut along the other pairs.
-use Rattle.std.proofs.Common.{◌≡◌, ℕ, ◌+◌, ◌*◌, ◌<◌, ◌≤◌, ◌++◌, ◌∷◌, [], List, length, take, ap, sym, subst, ◌∙◌, arith, refl, max}
+use Rattle.std.proofs.Common.{◌≡◌, ◌+◌, ◌++◌, ◌∷◌, [], length, take, sym, subst, arith, refl, max}
 use Rattle.std.specs.Prelude.{Contains}
 use Rattle.std.proofs.lemmas.List.{nil_from_length}
-use Rattle.lrp_zone.specs.Zones.{ZoneView, reach_of}
+use Rattle.lrp_zone.specs.Zones.{reach_of}
 use Rattle.lrp_zone.specs.Pairs.{IsOfCell, HaveNoCommon}
 use Rattle.lrp_minus.specs.Thresholds.{most_parts}
 use Rattle.lrp_minus.specs.Cutting.{AppendsCut, AreLeft, IsSplitAlong, side_reach}

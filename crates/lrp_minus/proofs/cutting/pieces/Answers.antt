@@ -1,5 +1,5 @@
 -- The zone is cut along all pairs.
-use Rattle.std.proofs.Common.{◌≡◌, ◌+◌, ◌∙◌, ap}
+use Rattle.std.proofs.Common.{◌+◌, ◌∙◌, ap}
 use Rattle.lrp_minus.specs.Thresholds.{pairs_below}
 use Rattle.lrp_minus.proofs.PairLists.{all_left}
 use Rattle.lrp_minus.proofs.CutLaws.{difference_of, reach_of_pieces, cut_as}

@@ -1,8 +1,8 @@
 -- The zone of the bound is met with the zone.
-use Rattle.std.proofs.Common.{◌≡◌, ◌∙◌, ◌<◌, ◌≤◌, ◌^◌, List, ap, arith, take, to_z, of_z, w64}
-use Rattle.std.specs.Prelude.{ℤ, pos}
+use Rattle.std.proofs.Common.{◌≡◌, ◌∙◌, ◌≤◌, ◌^◌, ap, arith, take, to_z, of_z, w64}
+use Rattle.std.specs.Prelude.{pos}
 use Rattle.std.proofs.lemmas.Int.{ints}
-use Rattle.lrp_minus.proofs.HalfLaws.{given_as, none_given_as, of_as, side_cell, none_common, half_of}
+use Rattle.lrp_minus.proofs.HalfLaws.{none_given_as, of_as, none_common, half_of}
 use Rattle.lrp_minus.proofs.half.half.Goals as goal
 
 pub returns-in_err-side-clause-none : goal.returns-in_err-side-clause-none

@@ -1,5 +1,5 @@
 -- One more pair is appended.
-use Rattle.std.proofs.Common.{◌≡◌, ◌≤◌, ◌+◌, ◌++◌, ◌∷◌, [], ap, sym, ◌∙◌, arith, append_assoc}
+use Rattle.std.proofs.Common.{◌≤◌, ◌+◌, ◌++◌, ◌∷◌, [], ap, sym, ◌∙◌, arith, append_assoc}
 use Rattle.lrp_minus.specs.Thresholds.{row_of_pairs}
 use Rattle.lrp_minus.proofs.PairLists.{row_more}
 use Rattle.lrp_minus.proofs.pairs.push_row.Goals as goal

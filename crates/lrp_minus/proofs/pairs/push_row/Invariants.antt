@@ -1,5 +1,5 @@
 -- The first pairs of the row are appended.
-use Rattle.std.proofs.Common.{◌≡◌, ◌+◌, ◌-◌, ◌++◌}
+use Rattle.std.proofs.Common.{◌≡◌, ◌++◌}
 use Rattle.lrp_minus.specs.Thresholds.{row_of_pairs}
 use Rattle.lrp_minus.proofs.pairs.push_row.Given as goal
 

@@ -1,11 +1,9 @@
 -- One more threshold: the lower half is a part, the upper half the next rest.
-use Rattle.std.proofs.Common.{◌≡◌, ◌+◌, ◌<◌, ◌≤◌, ◌^◌, ◌++◌, ◌∷◌, [], length, get_or, ap, sym, subst, ◌∙◌, arith, to_z, of_z, w64, refl}
-use Rattle.std.specs.Prelude.{ℤ, pos, ◌-ℤ◌, nat_abs, IfSome, IfNone, AllPairs, ◌<ℤ◌}
-use Rattle.std.specs.Option.{option_to_list}
+use Rattle.std.proofs.Common.{◌≡◌, ◌+◌, ◌≤◌, ◌^◌, length, get_or, ap, sym, subst, ◌∙◌, arith, to_z, of_z, w64}
+use Rattle.std.specs.Prelude.{ℤ, pos, nat_abs, IfSome, IfNone}
 use Rattle.std.proofs.lemmas.Int.{ints}
 use Rattle.std.proofs.lemmas.List.{get_or_default}
-use Rattle.lrp_model.specs.declared.relations.Bound.{Bound}
-use Rattle.lrp_minus.specs.Halves.{CanBeStored, IsHalf, HasNoHalf, other_side}
+use Rattle.lrp_minus.specs.Halves.{IsHalf, HasNoHalf, other_side}
 use Rattle.lrp_minus.specs.Cutting.{lower_side, HasSides, IsSplit}
 use Rattle.lrp_minus.proofs.HalfLaws.{stored_moved}
 use Rattle.lrp_minus.proofs.SplitLaws.{IsSplitting, splitting_none, splitting_more, split_early, split_late}

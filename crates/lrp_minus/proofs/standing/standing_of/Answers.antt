@@ -1,10 +1,9 @@
 -- One more cutter is looked at.
 use Rattle.std.proofs.Common.{◌≡◌, ℕ, ◌+◌, ◌<◌, ◌++◌, ◌∷◌, [], List, length, get_or, take, subst, sym, ◌∙◌}
-use Rattle.std.proofs.lemmas.List.Elements.{Contains-get_or}
 use Rattle.std.specs.Prelude.{Contains}
 use Rattle.lrp_zone.specs.Zones.{ZoneView}
 use Rattle.lrp_zone.specs.Pairs.{IsWithin}
-use Rattle.lrp_minus.specs.Cutting.{HaveCommon, IsWithinOne, MeetsNone, MeetsOne}
+use Rattle.lrp_minus.specs.Cutting.{IsWithinOne, MeetsNone}
 use Rattle.lrp_minus.proofs.Lists.{front_more}
 use Rattle.lrp_minus.proofs.CutLaws.{none_more, out_more, no_common}
 use Rattle.lrp_minus.proofs.standing.standing_of.Goals.{then-have_common, else-have_common}

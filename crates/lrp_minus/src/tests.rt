@@ -1,0 +1,166 @@
+// Differences by example: intervals, instants, diagonals.
+ghost use Rattle.std.specs.Prelude.{◌≡◌, ◌+◌, ◌≤◌, ◌^◌, ℕ, length, pos, nat_abs, ◌≤ℤ◌, IfSome};
+ghost use Rattle.lrp_theory.specs.Entries.{node};
+ghost use Rattle.lrp_zone.specs.Zones.{IsResidue, reach_of};
+
+use crate::pieces;
+use lrp_model::{Bound, List};
+use lrp_zone::Zone;
+use std::alloc::Global;
+use std::process::Abort;
+use std::test::Fail;
+
+// A number that leaves room for a period of the same size.
+const SMALL: i64 = 9_007_199_254_740_992;
+
+// Column `left` minus column `right` is at most `most`.
+const fn bound(left: u8, right: u8, most: i64) -> Bound {
+    Bound { left, right, most }
+}
+
+// The one column is between the two numbers.
+const fn between(least: i64, most: i64) -> [Bound; 2]
+    requires { nat_abs least ≤ 2 ^ 62 }
+{
+    [bound(0, 1, -least), bound(1, 0, most)]
+}
+
+// Stops the test unless these are residues modulo the period.
+fn check_residues(rt: &impl Abort, period: i64, residues: &[i64])
+    ensures high { period ≤ℤ pos (2 ^ 53) }
+    ensures low { pos 1 ≤ℤ period }
+    ensures count { length residues.now ≤ 8 }
+    ensures residues { (p : ℕ) → p ≤ length residues.now → IsResidue (nat_abs period) (node residues.now p) }
+{
+    assert!(rt; 1 <= period && period <= SMALL && residues.len() <= 8);
+    for residue in residues {
+        assert!(rt; 0 <= *residue && *residue < period);
+    }
+}
+
+// The zone of these parts, whose bounds are small.
+fn made(rt: &impl Abort, period: i64, residues: &[i64], bounds: &[Bound]) -> Option<Zone>
+    ensures reach { IfSome result (λ z. reach_of z + z.period ≤ 2 ^ 55) }
+    ensures period { IfSome result (λ z. pos z.period ≡ period) }
+    ensures residues { IfSome result (λ z. z.residues ≡ residues.now) }
+{
+    check_residues(rt, period, residues);
+    for bound in bounds {
+        assert!(rt; usize::from(bound.left) <= residues.len());
+        assert!(rt; usize::from(bound.right) <= residues.len());
+        assert!(rt; -SMALL <= bound.most && bound.most <= SMALL);
+    }
+    Zone::of(period, residues, bounds)
+}
+
+// The pieces of the zone of some bounds, cut by the zones of others.
+fn cut(
+    rt: &impl Abort,
+    alloc: Global,
+    period: i64,
+    residues: &[i64],
+    bounds: &[Bound],
+    others: &[[Bound; 2]],
+) -> Option<List<Zone>> {
+    let zone = made(rt, period, residues, bounds)?;
+    let mut cutters = List::new(alloc);
+    for other in others {
+        let cutter = made(rt, period, residues, other)?;
+        match cutters.push(cutter) {
+            Ok(()) => {}
+            Err(_) => return None,
+        }
+    }
+    pieces(alloc, &zone, &cutters).ok()
+}
+
+// How many of the zones have the tuple.
+fn holders(rt: &impl Abort, zones: &List<Zone>, xs: &[i64]) -> usize {
+    let mut count = 0;
+    for zone in zones.as_slice() {
+        assert!(rt; zone.columns() == xs.len());
+        if zone.contains(xs) {
+            count += 1;
+        }
+    }
+    count
+}
+
+#[test]
+fn instants_leave_the_gaps(rt: HostRuntime) -> Result<(), Fail> {
+    let mut instants = [between(0, 0); 20];
+    for (i, instant) in instants.iter_mut().enumerate() {
+        *instant = between(2 * i as i64, 2 * i as i64);
+    }
+    let left = cut(&rt, rt.alloc(), 1, &[0], &[], &instants).ok_or("no pieces")?;
+    assert!(rt; left.len() <= 41);
+    for x in -3..43i64 {
+        let is_instant = 0 <= x && x <= 38 && x % 2 == 0;
+        assert_eq!(rt;
+            holders(&rt, &left, &[x]),
+            usize::from(!is_instant),
+            "at {x}"
+        );
+    }
+    Ok(())
+}
+
+#[test]
+fn one_instant_leaves_two_rays(rt: HostRuntime) -> Result<(), Fail> {
+    let left = cut(&rt, rt.alloc(), 1, &[0], &[], &[between(480, 480)]).ok_or("no pieces")?;
+    assert_eq!(rt; left.len(), 2);
+    for x in [-9_000, 0, 479, 480, 481, 9_000] {
+        assert_eq!(rt; holders(&rt, &left, &[x]), usize::from(x != 480), "at {x}");
+    }
+    Ok(())
+}
+
+#[test]
+fn a_zone_less_itself_is_nothing(rt: HostRuntime) -> Result<(), Fail> {
+    let none = cut(&rt, rt.alloc(), 1, &[0], &between(3, 8), &[between(3, 8)]);
+    assert_eq!(rt; none.ok_or("no pieces")?.len(), 0);
+    let trivial = [bound(0, 0, 0), bound(0, 0, 0)];
+    let point = cut(&rt, rt.alloc(), 7, &[], &[], &[trivial]);
+    assert_eq!(rt; point.ok_or("no pieces")?.len(), 0);
+    let all = cut(&rt, rt.alloc(), 7, &[3], &[], &[]);
+    assert_eq!(rt; all.ok_or("no pieces")?.len(), 1);
+    Ok(())
+}
+
+#[test]
+fn cutters_may_overlap(rt: HostRuntime) -> Result<(), Fail> {
+    let others = [between(10, 50), between(40, 60), between(20, 30)];
+    let left = cut(&rt, rt.alloc(), 1, &[0], &between(0, 100), &others).ok_or("no pieces")?;
+    for x in [-1, 0, 9, 10, 25, 40, 50, 55, 60, 61, 100, 101] {
+        let is_left = (0 <= x && x < 10) || (60 < x && x <= 100);
+        assert_eq!(rt; holders(&rt, &left, &[x]), usize::from(is_left), "at {x}");
+    }
+    Ok(())
+}
+
+#[test]
+fn a_bound_is_broken_by_a_period(rt: HostRuntime) -> Result<(), Fail> {
+    let left = cut(&rt, rt.alloc(), 5, &[2], &[], &[between(7, 12)]).ok_or("no pieces")?;
+    for x in [-3, 2, 3, 7, 12, 13, 17, 22] {
+        let is_left = x == -3 || x == 2 || x == 17 || x == 22;
+        assert_eq!(rt; holders(&rt, &left, &[x]), usize::from(is_left), "at {x}");
+    }
+    Ok(())
+}
+
+#[test]
+fn a_diagonal_leaves_both_sides(rt: HostRuntime) -> Result<(), Fail> {
+    let diagonal = [bound(1, 2, 0), bound(2, 1, 0)];
+    let left = cut(&rt, rt.alloc(), 1, &[0, 0], &[], &[diagonal]).ok_or("no pieces")?;
+    assert_eq!(rt; left.len(), 2);
+    for x in -2..3i64 {
+        for y in -2..3i64 {
+            assert_eq!(rt;
+                holders(&rt, &left, &[x, y]),
+                usize::from(x != y),
+                "at {x}, {y}"
+            );
+        }
+    }
+    Ok(())
+}
