@@ -1,5 +1,5 @@
 -- One zone was added, and its tuples are those of a set.
-use Rattle.std.proofs.Common.{◌≡◌, ℕ, ◌≤◌, List, [], ◌∷◌, ◌++◌, take, None, Result, Ok, Err, OnOk, OnErr, ◌↔◌, sym, subst}
+use Rattle.std.proofs.Common.{◌≡◌, ℕ, ◌≤◌, List, [], ◌∷◌, ◌++◌, take, None, Result, Ok, Err, OnOk, OnErr, ◌↔◌, subst}
 use Rattle.std.specs.Prelude.{ℤ, pos}
 use Rattle.std.specs.FinMap as finite
 use Rattle.lrp_model.specs.declared.tuples.Cell.{Cell}

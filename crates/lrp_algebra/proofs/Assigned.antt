@@ -1,14 +1,9 @@
 -- Assignments with given values at given names.
-use Rattle.std.proofs.Common.{◌≡◌, ◌≢◌, ℕ, zero, suc, ◌+◌, ◌<◌, List, [], ◌∷◌, length, map, Some, cond, refl, sym, ap, subst, ◌∙◌, arith, get_or, Contains}
-use Rattle.std.specs.Prelude.{ℤ, pos, AllPairs, slice_get}
-use Rattle.std.specs.Str.{bytes_eq}
-use Rattle.std.specs.List.{AllZip, AllByRecursion}
-use Rattle.std.proofs.lemmas.List.{length-map}
+use Rattle.std.proofs.Common.{◌≡◌, ◌≢◌, ℕ, suc, ◌<◌, List, [], ◌∷◌, length, map, cond, refl, sym, ap, ◌∙◌, arith, get_or, Contains}
+use Rattle.std.specs.Prelude.{ℤ, AllPairs}
+use Rattle.std.specs.List.{AllByRecursion}
 use Rattle.std.proofs.lemmas.Option.{slice_get-get_or}
-use Rattle.std.proofs.lemmas.List.Elements.{length_all_zip}
 use Rattle.lrp_model.specs.Texts.{Text, Identifier}
-use Rattle.lrp_model.specs.Satisfaction.{Assignment}
-use Rattle.lrp_model.specs.Cells.{Many}
 use Rattle.lrp_model.specs.declared.tuples.Cell.{Cell}
 use Rattle.lrp_model.specs.declared.tuples.Shape.{Shape}
 use Rattle.lrp_store.specs.Stores.{IsInhabited}

@@ -1,5 +1,5 @@
 -- Lists with one value more or fewer.
-use Rattle.std.proofs.Common.{◌≡◌, ℕ, zero, suc, ◌+◌, ◌<◌, ◌≤◌, List, [], ◌∷◌, ◌++◌, length, take, drop, refl, sym, ap, ◌∙◌, arith, get_or}
+use Rattle.std.proofs.Common.{◌≡◌, ℕ, zero, suc, ◌+◌, ◌<◌, ◌≤◌, List, [], ◌∷◌, ◌++◌, length, take, drop, refl, ap, arith, get_or}
 use Rattle.std.specs.List.{insert, remove, AllZip}
 use Rattle.std.proofs.lemmas.List.{length-append, take-append-drop}
 

@@ -1,15 +1,15 @@
 -- A pass over the zones of a store that adds what a step makes of the tuples of each.
-use Rattle.std.proofs.Common.{◌≡◌, ℕ, zero, suc, ◌<◌, ◌≤◌, ◌⊎◌, inl, inr, List, [], ◌∷◌, length, refl, sym, ap, subst, ◌∙◌, arith, Contains}
+use Rattle.std.proofs.Common.{◌≡◌, ℕ, zero, suc, ◌<◌, ◌≤◌, ◌⊎◌, inl, inr, List, [], ◌∷◌, length, sym, ap, subst, ◌∙◌, arith, Contains}
 use Rattle.std.specs.Prelude.{ℤ, unwrap_or}
 use Rattle.std.specs.FinMap as finite
 use Rattle.std.specs.FinMap.{get-empty, len-empty}
 use Rattle.lrp_slots.specs.Lists.{cell_cmp}
 use Rattle.lrp_model.specs.declared.tuples.Cell.{Cell}
-use Rattle.lrp_zone.specs.Zones.{reach_of, greatest_of}
-use Rattle.lrp_store.specs.Stores.{StoreView, IsStore, InStore, HasReach, HoldsJust, tables_at}
+use Rattle.lrp_zone.specs.Zones.{reach_of}
+use Rattle.lrp_store.specs.Stores.{StoreView, IsStore, InStore, HasReach, tables_at}
 use Rattle.lrp_store.specs.Growing.{IsGrown, IsAdded, IsRefused, InhabitsMany}
 use Rattle.lrp_store.proofs.Held.{Table}
-use Rattle.lrp_store.proofs.Grown.{Set, grown_same, grown_on, grown_within, one_more_of}
+use Rattle.lrp_store.proofs.Grown.{grown_same, grown_on, grown_within, one_more_of}
 use Rattle.lrp_store.proofs.Aligning.{head_in, tail_in, nothing_held}
 use Rattle.lrp_store.proofs.Counted.{many, not_many}
 use Rattle.lrp_algebra.specs.Pieces.{IsPieceOf, InPiece, InPieces, ArePieces}

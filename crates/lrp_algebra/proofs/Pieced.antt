@@ -11,11 +11,10 @@ use Rattle.lrp_theory.specs.Entries.{entry, AtMost}
 use Rattle.lrp_zone.specs.Zones.{ZoneView, IsMember, IsTight, reach_of}
 use Rattle.lrp_zone.proofs.Reaches.{small_reach}
 use Rattle.lrp_store.specs.Stores.{StoreView, IsStore, InStore, HasReach, zone_of, tables_at, zones_at}
-use Rattle.lrp_store.specs.Growing.{IsTupleOf}
-use Rattle.lrp_store.proofs.Held.{Table, held_of, cell_held, zone_held}
+use Rattle.lrp_store.proofs.Held.{Table, cell_held, zone_held}
 use Rattle.lrp_store.proofs.Aligning.{key_of, tail_in}
 use Rattle.lrp_store.proofs.Counted.{key_held}
-use Rattle.lrp_algebra.specs.Pieces.{piece_of, pieces_at, pieces_left, HaveZones, IsPieceOf, InPiece, InPieces, ArePieces, Fits}
+use Rattle.lrp_algebra.specs.Pieces.{piece_of, pieces_at, pieces_left, HaveZones, IsPieceOf, InPiece, ArePieces, Fits}
 use Rattle.lrp_algebra.specs.declared.pieces.Piece.{Piece}
 
 -- what a part of a list has, the list has

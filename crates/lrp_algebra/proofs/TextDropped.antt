@@ -1,16 +1,16 @@
 -- The tuples of a zone and of a table without one data column.
-use Rattle.std.proofs.Common.{◌≡◌, ℕ, ◌+◌, ◌-◌, ◌<◌, ◌≤◌, List, [], ◌∷◌, ◌++◌, length, take, Some, refl, sym, ap, subst, ◌∙◌, arith, map, get_or, Contains, ◌⊎◌, inl, inr}
-use Rattle.std.specs.Prelude.{ℤ, pos, AllPairs, ◌≢◌, slice_get}
-use Rattle.std.specs.List.{insert, remove, AllZip}
+use Rattle.std.proofs.Common.{◌≡◌, ℕ, ◌+◌, ◌-◌, ◌<◌, ◌≤◌, List, [], ◌++◌, length, take, Some, refl, sym, ap, subst, ◌∙◌, arith, map, get_or, Contains, ◌⊎◌, inl, inr}
+use Rattle.std.specs.Prelude.{ℤ, AllPairs, ◌≢◌, slice_get}
+use Rattle.std.specs.List.{insert, remove}
 use Rattle.std.specs.FinMap as finite
 use Rattle.std.proofs.lemmas.List.{length-take-le, length-map, get_or-take}
 use Rattle.std.proofs.lemmas.Option.{slice_get-get_or, slice_get_within}
-use Rattle.std.proofs.lemmas.List.Elements.{length_all_zip, Contains-get_or}
+use Rattle.std.proofs.lemmas.List.Elements.{Contains-get_or}
 use Rattle.lrp_model.specs.Texts.{Text, Identifier}
 use Rattle.lrp_model.specs.Rows.{text}
 use Rattle.lrp_model.specs.Satisfaction.{Assignment, with_value}
-use Rattle.lrp_zone.specs.Zones.{ZoneView, IsZone, IsMember, columns_of, reach_of}
-use Rattle.lrp_store.specs.Stores.{StoreView, IsStore, InStore, HasReach, zone_of, tables_at}
+use Rattle.lrp_zone.specs.Zones.{IsZone, IsMember, reach_of}
+use Rattle.lrp_store.specs.Stores.{StoreView, IsStore, InStore, tables_at}
 use Rattle.lrp_store.specs.Growing.{IsAdded}
 use Rattle.lrp_store.specs.Tables.{InTable, AreTexts}
 use Rattle.lrp_store.specs.declared.table.Table.{Table}

@@ -1,14 +1,12 @@
 -- The tuples of a zone and of a table without one time column.
-use Rattle.std.proofs.Common.{◌≡◌, ℕ, ◌+◌, ◌-◌, ◌*◌, ◌<◌, ◌≤◌, List, [], ◌∷◌, ◌++◌, length, take, drop, Some, refl, sym, ap, subst, ◌∙◌, arith, map, Contains, ◌⊎◌, inl, inr}
+use Rattle.std.proofs.Common.{◌≡◌, ℕ, ◌+◌, ◌-◌, ◌*◌, ◌<◌, ◌≤◌, List, ◌++◌, length, take, Some, refl, sym, ap, subst, ◌∙◌, arith, map, Contains, ◌⊎◌, inl, inr}
 use Rattle.std.specs.Prelude.{ℤ, pos, AllPairs, ◌≢◌, slice_get}
-use Rattle.std.specs.List.{insert, remove, AllZip}
+use Rattle.std.specs.List.{insert, remove}
 use Rattle.std.proofs.lemmas.List.{length-take-le}
 use Rattle.std.proofs.lemmas.List.Edits.{length-remove}
 use Rattle.lrp_model.specs.Texts.{Text, Identifier}
 use Rattle.lrp_model.specs.Rows.{time}
 use Rattle.lrp_model.specs.Satisfaction.{Assignment, with_value}
-use Rattle.lrp_model.specs.declared.tuples.Cell.{Cell}
-use Rattle.lrp_model.specs.declared.tuples.Shape.{Shape}
 use Rattle.lrp_zone.specs.Zones.{ZoneView, IsZone, IsMember, columns_of, reach_of}
 use Rattle.lrp_zone.specs.Columns.{IsDropped}
 use Rattle.lrp_store.specs.Stores.{StoreView, IsStore, InStore, HasReach, zone_of, tables_at}
@@ -16,7 +14,7 @@ use Rattle.lrp_store.specs.Tables.{InTable}
 use Rattle.lrp_store.specs.declared.table.Table.{Table}
 use Rattle.lrp_algebra.specs.Columns.{IsCut, others}
 use Rattle.lrp_algebra.specs.Pieces.{InPiece, Fits}
-use Rattle.lrp_algebra.specs.Tuples.{IsMade, IsWithoutTime, IsResult, IsStoreWithoutTime}
+use Rattle.lrp_algebra.specs.Tuples.{IsMade, IsWithoutTime, IsStoreWithoutTime}
 use Rattle.lrp_algebra.specs.Tables.{Has, IsTimeDropped}
 use Rattle.lrp_algebra.specs.declared.pieces.Piece.{Piece}
 use Rattle.lrp_algebra.proofs.Named.{inserted, unchanged, others_all, others_fewer, pairs_left}

@@ -1,5 +1,5 @@
 -- The zones of a store, one after another, each with its cell.
-use Rattle.std.specs.Prelude.{◌≡◌, ◌≢◌, ℕ, ℤ, ◌<◌, ◌≤◌, List, [], ◌++◌, Option, map, drop, take, length, Contains}
+use Rattle.std.specs.Prelude.{◌≡◌, ℕ, ℤ, ◌<◌, ◌≤◌, List, ◌++◌, Option, map, drop, take, length, Contains}
 use Rattle.std.specs.List.{flat_map}
 use Rattle.lrp_model.specs.declared.tuples.Cell.{Cell}
 use Rattle.lrp_model.specs.declared.tuples.Shape.{Shape}

@@ -1,9 +1,8 @@
 -- The store of what is left has a column for each name that is left.
-use Rattle.std.proofs.Common.{◌≡◌, ℕ, ◌<◌, ◌≤◌, ◌^◌, inl, inr, sym, ap, subst, ◌∙◌, length, ◌++◌, arith}
+use Rattle.std.proofs.Common.{◌≡◌, ◌<◌, ◌≤◌, ◌^◌, inl, inr, sym, ap, subst, ◌∙◌, length, ◌++◌, arith}
 use Rattle.std.specs.Prelude.{AllPairs, ◌≢◌}
 use Rattle.std.proofs.lemmas.Int.{ints}
 use Rattle.lrp_store.specs.Stores.{StoreView}
-use Rattle.lrp_algebra.specs.Columns.{others}
 use Rattle.lrp_algebra.specs.Tuples.{IsStoreWithoutText}
 use Rattle.lrp_algebra.proofs.Named.{others_differ_behind}
 use Rattle.lrp_algebra.proofs.TextDropped.{StoreOf, either_dropped, either_times, either_texts}

@@ -1,5 +1,5 @@
 -- The values before the place stay, and those behind it move up so far.
-use Rattle.std.proofs.Common.{◌≡◌, ℕ, ◌+◌, ◌<◌, ◌≤◌, pos, length, slice_index_or}
+use Rattle.std.proofs.Common.{◌≡◌, ℕ, ◌+◌, ◌<◌, ◌≤◌, length, slice_index_or}
 use Rattle.lrp_algebra.proofs.places.without_number.Given as goal
 
 abbrev pub invariant-loop-i : goal.invariant-loop-i
