@@ -1,6 +1,5 @@
 -- The lemmas: the zones of a store, passes over them, and columns by their names.
 pub mod Adding
-pub mod Assigned
 pub mod Cuts
 pub mod Inserts
 pub mod Named

@@ -1,10 +1,10 @@
 -- What the operations on tables do, said of the assignments that the tables stand for.
-use Rattle.std.specs.Prelude.{◌≡◌, ℕ, ℤ, ◌*◌, List, Contains, map}
+use Rattle.std.specs.Prelude.{◌≡◌, ℕ, ℤ, ◌*◌, List, Contains}
 use Rattle.lrp_model.specs.Texts.{Text, Identifier}
 use Rattle.lrp_model.specs.Rows.{time, text}
 use Rattle.lrp_model.specs.Satisfaction.{Assignment, with_value}
 use Rattle.lrp_store.specs.Stores.{HasReach}
-use Rattle.lrp_store.specs.Tables.{InTable, AreTexts}
+use Rattle.lrp_store.specs.Tables.{InTable}
 use Rattle.lrp_store.specs.declared.table.Table.{Table}
 use Rattle.lrp_algebra.specs.Columns.{others}
 
@@ -29,10 +29,3 @@ pub record IsTextDropped (domain : List Text) (name : Identifier) (old new : Tab
   pub to : (env : Assignment) → Has new domain env → (t : Text) × Contains domain t × Has old domain (with_value name (text t) env)
   pub from : (env : Assignment) (t : Text) → Contains domain t → Has old domain (with_value name (text t) env) → Has new domain env
   pub reach : (high : ℕ) → HasReach old.store high → HasReach new.store high
-
--- the times and the numbers of texts at these columns of the assignments of a set
-pub record AtColumns (domain : List Text) (times texts : List Identifier) (set : Assignment → Type 0) (values : List ℤ) (numbers : List ℕ) : Type 0 where
-  pub env : Assignment
-  pub is : set env
-  pub times_are : map env.times times ≡ values
-  pub texts_are : AreTexts domain numbers (map env.texts texts)
