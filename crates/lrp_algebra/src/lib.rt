@@ -5,6 +5,8 @@ mod data_drops;
 mod names;
 mod pieces;
 mod places;
+#[cfg(test)]
+mod tests;
 mod time_drops;
 
 pub use data_drops::drop_data;
