@@ -1,6 +1,6 @@
 -- When the zones of a cell are settled: each set of tuples of one cell has them in one way where it has at most one column.
 use Rattle.std.specs.Prelude.{◌≡◌, ℕ, ℤ, ◌<◌, ◌↔◌, List, [], ◌∷◌, length, Contains, AllPairs, ◌<ℤ◌}
-use Rattle.lrp_zone.specs.Zones.{ZoneView, IsZone, IsMember}
+use Rattle.lrp_zone.specs.Zones.{ZoneView, IsZone, IsMember, columns_of}
 use Rattle.lrp_zone.specs.Pairs.{IsOfCell, IsWithin}
 
 -- some of the zones has the tuple
@@ -24,8 +24,8 @@ pub record AreIntervals (zones : List ZoneView) : Type 0 where
   pub ascending : AllPairs IsBelow zones
   pub maximal : (w v : ZoneView) → Contains zones v → IsZone w → IsOfCell v w → ((xs : List ℤ) → IsMember w xs → InSome zones xs) → (u : ZoneView) × Contains zones u × IsWithin w u
 
--- the zones of a cell of so many columns: one where there is no column, the maximal intervals where there is one, and else one exactly where the set is that of one zone
-pub record AreSettled (columns : ℕ) (zones : List ZoneView) : Type 0 where
-  pub none : columns ≡ 0 → length zones ≡ 1
-  pub one : columns ≡ 1 → AreIntervals zones
-  pub more : 1 < columns → ((length zones ≡ 1) ↔ ((z : ZoneView) × IsOneZone zones z))
+-- the zones of the cell of z are one where there is no column, the maximal intervals where there is one, and else one exactly where the set is that of one zone of the cell
+pub record AreSettled (z : ZoneView) (zones : List ZoneView) : Type 0 where
+  pub none : columns_of z ≡ 0 → length zones ≡ 1
+  pub one : columns_of z ≡ 1 → AreIntervals zones
+  pub more : 1 < columns_of z → ((length zones ≡ 1) ↔ ((w : ZoneView) × IsOfCell z w × IsOneZone zones w))
