@@ -43,68 +43,193 @@ fn repeated(
     Ok(text)
 }
 
-// The fault of a text that is put together so, if it has one.
-fn fault_behind(
-    alloc: Global,
-    part: &str,
-    times: usize,
-    end: &str,
-) -> Result<Option<QueryFault>, Fail> {
-    let text = repeated(alloc, "{ | ", part, times, end)?;
-    Ok(fault_of(alloc, &text))
-}
+// Texts that are lawful.
+const LAWFUL: [&str; 4] = [
+    "{ t: time, u: time, l: data | bus(t, u, l) }",
+    "{|r()}# done",
+    "{ | forall t: time exists u: time (bus(u) and u >= t and u <= t + 59) }",
+    "{ d: line | ((\"7\" = d or not d = \"\") implies -4611686018427387904 in -0+07n) }",
+];
 
 #[test]
 fn lawful_texts_have_no_fault(rt: HostRuntime) -> Result<(), Fail> {
     let alloc = rt.alloc();
-    assert_eq!(rt; fault_of(alloc, TIMETABLE), None);
-    assert_eq!(rt; fault_of(alloc, b"{|()=()}"), at(QueryKind::Syntax, 1, 4));
-    assert_eq!(rt; fault_of(alloc, b"{|r()}# done"), None);
-    assert_eq!(rt;
-        fault_of(
-            alloc,
-            b"{ | forall t: time exists u: time (bus(u) and u >= t and u <= t + 59) }"
-        ),
-        None
-    );
-    assert_eq!(rt;
-        fault_of(
-            alloc,
-            b"{ d: line | ((\"7\" = d or not d = \"\") implies -4611686018427387904 in -0+07n) }"
-        ),
-        None
-    );
+    for text in &LAWFUL {
+        assert_eq!(rt; fault_of(alloc, text.as_bytes()), None, "{text}");
+    }
+    Ok(())
+}
+
+// Texts, and the kind, the line and the column of the fault of each.
+const FAULTS: [(&str, QueryKind, u32, u32); 17] = [
+    // The first token that goes nowhere.
+    ("{|()=()}", QueryKind::Syntax, 1, 4),
+    ("{\n|", QueryKind::Syntax, 2, 2),
+    ("{ n: time | 0 = 0 }", QueryKind::Syntax, 1, 3),
+    ("{ | 0 = 0 } }", QueryKind::Syntax, 1, 13),
+    (
+        "{ | (0 <= 0 and 0 <= 0 or 0 <= 0) }",
+        QueryKind::Syntax,
+        1,
+        24,
+    ),
+    (
+        "{ | (0=0 implies 0=0 implies 0=0) }",
+        QueryKind::Syntax,
+        1,
+        22,
+    ),
+    ("{ | r(t,) }", QueryKind::Syntax, 1, 9),
+    ("{ | 0 in 0+7 }", QueryKind::Syntax, 1, 14),
+    // Numbers and periods.
+    ("{ | 4611686018427387905 x", QueryKind::Number, 1, 5),
+    (
+        "{ t: time | t + 4611686018427387905 <= t }",
+        QueryKind::Number,
+        1,
+        17,
+    ),
+    (
+        "{ | 0 in 0+4611686018427387905n }",
+        QueryKind::Number,
+        1,
+        12,
+    ),
+    ("{ | 0 in 0+0n }", QueryKind::Period, 1, 12),
+    // The first of several.
+    ("{ | (0 = 0 ) ) }", QueryKind::Syntax, 1, 14),
+    (
+        "{ | (4611686018427387905 = 0 and 0 = 4611686018427387905) }",
+        QueryKind::Number,
+        1,
+        6,
+    ),
+    (
+        "{ | (0 in 0+1n and 0 in 0+0n and 0 in 1+0n) }",
+        QueryKind::Period,
+        1,
+        27,
+    ),
+    ("{ | ) 4611686018427387905 }", QueryKind::Syntax, 1, 5),
+    ("{ | (0 in 0+0n ) ) }", QueryKind::Period, 1, 13),
+];
+
+#[test]
+fn each_fault_is_told_at_its_place(rt: HostRuntime) -> Result<(), Fail> {
+    let alloc = rt.alloc();
+    for (text, kind, line, column) in &FAULTS {
+        assert_eq!(rt;
+            fault_of(alloc, text.as_bytes()),
+            at(*kind, *line, *column),
+            "{text}"
+        );
+    }
     Ok(())
 }
 
 #[test]
-fn syntax_is_told_at_the_first_token_that_goes_nowhere(rt: HostRuntime) -> Result<(), Fail> {
+fn bytes_that_are_no_text_are_told_before_the_grammar(rt: HostRuntime) -> Result<(), Fail> {
     let alloc = rt.alloc();
-    assert_eq!(rt; fault_of(alloc, b"{\n|"), at(QueryKind::Syntax, 2, 2));
-    assert_eq!(rt;
-        fault_of(alloc, b"{ n: time | 0 = 0 }"),
-        at(QueryKind::Syntax, 1, 3)
-    );
-    assert_eq!(rt;
-        fault_of(alloc, b"{ | 0 = 0 } }"),
-        at(QueryKind::Syntax, 1, 13)
-    );
-    assert_eq!(rt;
-        fault_of(alloc, b"{ | (0 <= 0 and 0 <= 0 or 0 <= 0) }"),
-        at(QueryKind::Syntax, 1, 24)
-    );
-    assert_eq!(rt;
-        fault_of(alloc, b"{ | (0=0 implies 0=0 implies 0=0) }"),
-        at(QueryKind::Syntax, 1, 22)
-    );
-    assert_eq!(rt;
-        fault_of(alloc, b"{ | r(t,) }"),
-        at(QueryKind::Syntax, 1, 9)
-    );
-    assert_eq!(rt;
-        fault_of(alloc, b"{ | 0 in 0+7 }"),
-        at(QueryKind::Syntax, 1, 14)
-    );
+    assert_eq!(rt; fault_of(alloc, b"{ |\n \xc3"), at(QueryKind::Utf8, 2, 2));
+    assert_eq!(rt; fault_of(alloc, b"\xff{ | \xff"), at(QueryKind::Utf8, 1, 1));
+    assert_eq!(rt; fault_of(alloc, b"{ | ) \xff"), at(QueryKind::Utf8, 1, 7));
+    Ok(())
+}
+
+// A beginning, a part that comes so often behind it, and an end. Each such text is lawful.
+const LAWFUL_REPEATED: [(&str, &str, usize, &str); 3] = [
+    ("{ | r(\"", "a", 255, "\") }"),
+    ("{ | ", "not ", 63, "0 <= 0 }"),
+    ("{ | ", "exists x: time ", 63, "r(x) }"),
+];
+
+// The same, and the kind and the column of the fault.
+const FAULTS_REPEATED: [(&str, &str, usize, &str, QueryKind, u32); 10] = [
+    ("{ | r(\"", "a", 256, "\") }", QueryKind::TextTooLong, 7),
+    (
+        "{ | r(\"a\", \"",
+        "a",
+        256,
+        "\", 0+0n) }",
+        QueryKind::TextTooLong,
+        12,
+    ),
+    // Formulas are at most 64 deep.
+    ("{ | ", "not ", 64, "0 <= 0 }", QueryKind::Deep, 261),
+    (
+        "{ | ",
+        "forall x: time ",
+        64,
+        "r(x) }",
+        QueryKind::Deep,
+        965,
+    ),
+    ("{ | ", "(", 64, "0 = 0", QueryKind::Deep, 69),
+    (
+        "{ | (",
+        "not ",
+        63,
+        "0 = 0 and 0 = 0) }",
+        QueryKind::Deep,
+        258,
+    ),
+    (
+        "{ | (0 = 0 implies ",
+        "not ",
+        63,
+        "0 = 0) }",
+        QueryKind::Deep,
+        272,
+    ),
+    // Kinds at one place have their ranks.
+    (
+        "{ | ",
+        "not ",
+        64,
+        "4611686018427387905 = 0 }",
+        QueryKind::Number,
+        261,
+    ),
+    (
+        "{ | ",
+        "not ",
+        64,
+        "-4611686018427387905 = 0 }",
+        QueryKind::Deep,
+        261,
+    ),
+    ("{ | ", "not ", 64, ")", QueryKind::Syntax, 261),
+];
+
+#[test]
+fn long_and_deep_texts_have_their_faults(rt: HostRuntime) -> Result<(), Fail> {
+    let alloc = rt.alloc();
+    for (start, part, times, end) in &LAWFUL_REPEATED {
+        let text = repeated(alloc, start, part, *times, end)?;
+        assert_eq!(rt; fault_of(alloc, &text), None, "{start}{end}");
+    }
+    for (start, part, times, end, kind, column) in &FAULTS_REPEATED {
+        let text = repeated(alloc, start, part, *times, end)?;
+        assert_eq!(rt;
+            fault_of(alloc, &text),
+            at(*kind, 1, *column),
+            "{start}{end}"
+        );
+    }
+    Ok(())
+}
+
+#[test]
+fn parts_of_two_kinds_stand_behind_one_another(rt: HostRuntime) -> Result<(), Fail> {
+    let alloc = rt.alloc();
+    let mut enclosed = repeated(alloc, "{ | ", "(", 63, "0 = 0")?;
+    let closed = repeated(alloc, "", ")", 63, " }")?;
+    enclosed.extend_from_slice(&closed)?;
+    assert_eq!(rt; fault_of(alloc, &enclosed), None);
+    let mut long = repeated(alloc, "{ | ", "not ", 64, "")?;
+    let text = repeated(alloc, "\"", "a", 256, "\"")?;
+    long.extend_from_slice(&text)?;
+    assert_eq!(rt; fault_of(alloc, &long), at(QueryKind::Deep, 1, 261));
     Ok(())
 }
 
@@ -123,122 +248,6 @@ fn each_cut_of_a_query_is_a_syntax_fault(rt: HostRuntime) -> Result<(), Fail> {
             )
         );
     }
-    Ok(())
-}
-
-#[test]
-fn numbers_periods_texts_and_bytes_have_their_places(rt: HostRuntime) -> Result<(), Fail> {
-    let alloc = rt.alloc();
-    assert_eq!(rt;
-        fault_of(alloc, b"{ | 4611686018427387905 x"),
-        at(QueryKind::Number, 1, 5)
-    );
-    assert_eq!(rt;
-        fault_of(alloc, b"{ t: time | t + 4611686018427387905 <= t }"),
-        at(QueryKind::Number, 1, 17)
-    );
-    assert_eq!(rt;
-        fault_of(alloc, b"{ | 0 in 0+4611686018427387905n }"),
-        at(QueryKind::Number, 1, 12)
-    );
-    assert_eq!(rt;
-        fault_of(alloc, b"{ | 0 in 0+0n }"),
-        at(QueryKind::Period, 1, 12)
-    );
-    let long = repeated(alloc, "{ | r(\"", "a", 256, "\") }")?;
-    assert_eq!(rt; fault_of(alloc, &long), at(QueryKind::TextTooLong, 1, 7));
-    let short = repeated(alloc, "{ | r(\"", "a", 255, "\") }")?;
-    assert_eq!(rt; fault_of(alloc, &short), None);
-    assert_eq!(rt; fault_of(alloc, b"{ |\n \xc3"), at(QueryKind::Utf8, 2, 2));
-    Ok(())
-}
-
-#[test]
-fn formulas_are_at_most_64_deep(rt: HostRuntime) -> Result<(), Fail> {
-    let alloc = rt.alloc();
-    assert_eq!(rt; fault_behind(alloc, "not ", 63, "0 <= 0 }")?, None);
-    assert_eq!(rt;
-        fault_behind(alloc, "not ", 64, "0 <= 0 }")?,
-        at(QueryKind::Deep, 1, 261)
-    );
-    assert_eq!(rt; fault_behind(alloc, "exists x: time ", 63, "r(x) }")?, None);
-    assert_eq!(rt;
-        fault_behind(alloc, "forall x: time ", 64, "r(x) }")?,
-        at(QueryKind::Deep, 1, 965)
-    );
-    let mut enclosed = repeated(alloc, "{ | ", "(", 63, "0 = 0")?;
-    let closed = repeated(alloc, "", ")", 63, " }")?;
-    enclosed.extend_from_slice(&closed)?;
-    assert_eq!(rt; fault_of(alloc, &enclosed), None);
-    assert_eq!(rt;
-        fault_behind(alloc, "(", 64, "0 = 0")?,
-        at(QueryKind::Deep, 1, 69)
-    );
-    Ok(())
-}
-
-#[test]
-fn kinds_at_one_place_have_their_ranks(rt: HostRuntime) -> Result<(), Fail> {
-    let alloc = rt.alloc();
-    assert_eq!(rt;
-        fault_behind(alloc, "not ", 64, "4611686018427387905 = 0 }")?,
-        at(QueryKind::Number, 1, 261)
-    );
-    assert_eq!(rt;
-        fault_behind(alloc, "not ", 64, "-4611686018427387905 = 0 }")?,
-        at(QueryKind::Deep, 1, 261)
-    );
-    assert_eq!(rt;
-        fault_behind(alloc, "not ", 64, ")")?,
-        at(QueryKind::Syntax, 1, 261)
-    );
-    let mut long = repeated(alloc, "{ | ", "not ", 64, "")?;
-    let text = repeated(alloc, "\"", "a", 256, "\"")?;
-    long.extend_from_slice(&text)?;
-    assert_eq!(rt; fault_of(alloc, &long), at(QueryKind::Deep, 1, 261));
-    Ok(())
-}
-
-#[test]
-fn the_first_of_several_faults_is_told(rt: HostRuntime) -> Result<(), Fail> {
-    let alloc = rt.alloc();
-    assert_eq!(rt; fault_of(alloc, b"\xff{ | \xff"), at(QueryKind::Utf8, 1, 1));
-    assert_eq!(rt;
-        fault_of(alloc, b"{ | (0 = 0 ) ) }"),
-        at(QueryKind::Syntax, 1, 14)
-    );
-    assert_eq!(rt;
-        fault_of(
-            alloc,
-            b"{ | (4611686018427387905 = 0 and 0 = 4611686018427387905) }"
-        ),
-        at(QueryKind::Number, 1, 6)
-    );
-    assert_eq!(rt;
-        fault_of(alloc, b"{ | (0 in 0+1n and 0 in 0+0n and 0 in 1+0n) }"),
-        at(QueryKind::Period, 1, 27)
-    );
-    let long = repeated(alloc, "{ | r(\"a\", \"", "a", 256, "\", 0+0n) }")?;
-    assert_eq!(rt; fault_of(alloc, &long), at(QueryKind::TextTooLong, 1, 12));
-    let first = repeated(alloc, "{ | (", "not ", 63, "0 = 0 and 0 = 0) }")?;
-    assert_eq!(rt; fault_of(alloc, &first), at(QueryKind::Deep, 1, 258));
-    let second = repeated(alloc, "{ | (0 = 0 implies ", "not ", 63, "0 = 0) }")?;
-    assert_eq!(rt; fault_of(alloc, &second), at(QueryKind::Deep, 1, 272));
-    Ok(())
-}
-
-#[test]
-fn faults_of_bytes_go_before_those_of_the_grammar(rt: HostRuntime) -> Result<(), Fail> {
-    let alloc = rt.alloc();
-    assert_eq!(rt; fault_of(alloc, b"{ | ) \xff"), at(QueryKind::Utf8, 1, 7));
-    assert_eq!(rt;
-        fault_of(alloc, b"{ | ) 4611686018427387905 }"),
-        at(QueryKind::Syntax, 1, 5)
-    );
-    assert_eq!(rt;
-        fault_of(alloc, b"{ | (0 in 0+0n ) ) }"),
-        at(QueryKind::Period, 1, 13)
-    );
     Ok(())
 }
 

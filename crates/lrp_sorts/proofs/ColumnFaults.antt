@@ -1,35 +1,62 @@
 -- The faults of terms beside their columns, one pair after the other.
-use Rattle.std.proofs.Common.{◌≡◌, List, [], ◌∷◌, Option, refl, ap, sym, ◌∙◌, ◌⊎◌, inl, inr}
-use Rattle.lrp_model.specs.Faults.{first, fault_if}
-use Rattle.lrp_model.specs.Sorting.{Binders, stands, fault, term_sort, differs, column_faults}
-use Rattle.lrp_model.specs.declared.faults.QueryFault.{QueryFault}
-use Rattle.lrp_model.specs.declared.faults.QueryKind.TheVariants.{Sort as WrongSort}
+use Rattle.std.proofs.Common.{◌≡◌, ℕ, zero, suc, ◌+◌, ◌<◌, ◌≤◌, List, [], ◌∷◌, ◌++◌, Option, None, Some, IfSome, MatchOption, option_map, Bor, refl, ap, sym, ◌∙◌, length, take, get_or, slice_get, append_assoc, arith}
+use Rattle.std.specs.List.{HoldsAt}
+use Rattle.std.proofs.lemmas.List.{append-nil}
+use Rattle.std.proofs.lemmas.Option.{slice_get_past, slice_get_read}
+use Rattle.lrp_model.specs.Faults.{first}
+use Rattle.lrp_model.specs.Sorting.{Binders, stands, fault, term_sort, column_faults, atom_faults}
+use Rattle.lrp_model.specs.declared.faults.QueryKind.TheVariants.{UnknownRelation}
+use Rattle.lrp_model.specs.declared.tokens.Place.{Place}
 use Rattle.lrp_model.specs.declared.raw.RawTerm.{RawTerm}
 use Rattle.lrp_model.specs.declared.relations.Column.{Column}
+use Rattle.lrp_model.specs.declared.relations.Relation.{Relation}
 use Rattle.lrp_rel.specs.Sooner.{sooner}
-use Rattle.lrp_rel.proofs.FirstFault.{first_of_both, sooner_again, sooner_than_none}
+use Rattle.lrp_rel.proofs.FirstFault.{first_of_both}
+use Rattle.lrp_sorts.specs.Terms.{misfits, relation_faults, columns_in}
 
--- one pair is taken off what is left
-pub column_step : (bs : Binders) (t : RawTerm) (c : Column) (ts us : List RawTerm) (cs ds : List Column) (found next one all : Option QueryFault)
-    → next ≡ sooner stands found one → one ≡ first stands (fault_if (differs (term_sort bs t) c.sort) (fault WrongSort t.place))
-    → (ts ≡ t ∷ us) → (cs ≡ c ∷ ds)
-    → sooner stands found (first stands (column_faults bs ts cs)) ≡ all
-    → sooner stands next (first stands (column_faults bs us ds)) ≡ all
-column_step bs t c ts us cs ds found next one all n o e f h =
-    ap (λ n. sooner stands n (first stands (column_faults bs us ds))) (n ∙ ap (sooner stands found) o)
-    ∙ sym (sooner_again stands found (first stands (fault_if (differs (term_sort bs t) c.sort) (fault WrongSort t.place))) (first stands (column_faults bs us ds)))
-    ∙ ap (sooner stands found) (sym (first_of_both stands (fault_if (differs (term_sort bs t) c.sort) (fault WrongSort t.place)) (column_faults bs us ds)))
-    ∙ ap (λ ts. sooner stands found (first stands (column_faults bs ts (c ∷ ds)))) (sym e)
-    ∙ ap (λ cs. sooner stands found (first stands (column_faults bs ts cs))) (sym f)
-    ∙ h
+-- no column, no fault
+no_columns : (bs : Binders) (ts : List RawTerm) → column_faults bs ts [] ≡ []
+no_columns bs [] = refl
+no_columns bs (t ∷ ts) = refl
 
--- where one list is at its end, nothing is left
-no_pairs : (bs : Binders) (ts : List RawTerm) (cs : List Column) → (ts ≡ []) ⊎ (cs ≡ []) → column_faults bs ts cs ≡ []
-no_pairs bs ts cs (inl e) = ap (λ ts. column_faults bs ts cs) e
-no_pairs bs [] cs (inr e) = refl
-no_pairs bs (t ∷ ts) cs (inr e) = ap (column_faults bs (t ∷ ts)) e
+-- no term, no fault
+pub no_terms : (bs : Binders) (cs : List Column) → column_faults bs [] cs ≡ []
+no_terms bs [] = refl
+no_terms bs (c ∷ cs) = refl
 
--- at the end, what was found is the whole
-pub column_end : (bs : Binders) (ts : List RawTerm) (cs : List Column) (found all : Option QueryFault) → (ts ≡ []) ⊎ (cs ≡ [])
-    → sooner stands found (first stands (column_faults bs ts cs)) ≡ all → found ≡ all
-column_end bs ts cs found all e h = sym (sooner_than_none stands found) ∙ ap (λ l. sooner stands found (first stands l)) (sym (no_pairs bs ts cs e)) ∙ h
+-- one term further, with the column beside it
+one_beside : (bs : Binders) (ts : List RawTerm) (cs : List Column) (i : ℕ) (t : RawTerm) → i < length ts → t ≡ get_or ts i t
+    → column_faults bs (take i ts) cs ++ misfits (term_sort bs t) t.place (slice_get cs i) ≡ column_faults bs (take (suc i) ts) cs
+one_beside bs [] cs i t lt is = absurd (omega (arith, lt))
+one_beside bs (u ∷ ts) [] i t lt is = ap (λ l. l ++ []) (no_columns bs (take i (u ∷ ts)))
+one_beside bs (u ∷ ts) (c ∷ cs) zero t lt is =
+    ap (λ l. l ++ misfits (term_sort bs t) t.place (Some c)) (no_terms bs (c ∷ cs))
+    ∙ ap (λ x. misfits (term_sort bs x) x.place (Some c)) is
+    ∙ sym (ap (λ l. misfits (term_sort bs u) u.place (Some c) ++ l) (no_terms bs cs) ∙ append-nil (misfits (term_sort bs u) u.place (Some c)))
+one_beside bs (u ∷ ts) (c ∷ cs) (suc i) t lt is =
+    append_assoc (misfits (term_sort bs u) u.place (Some c)) (column_faults bs (take i ts) cs) (misfits (term_sort bs t) t.place (slice_get cs i))
+    ∙ ap (λ l. misfits (term_sort bs u) u.place (Some c) ++ l) (one_beside bs ts cs i t (omega (arith, lt)) is)
+
+-- the first fault, one term further
+pub column_further : (bs : Binders) (ts : List RawTerm) (cs : List Column) (i : ℕ) (t : RawTerm) → i < length ts → t ≡ get_or ts i t
+    → sooner stands (first stands (column_faults bs (take i ts) cs)) (first stands (misfits (term_sort bs t) t.place (slice_get cs i))) ≡ first stands (column_faults bs (take (i + 1) ts) cs)
+column_further bs ts cs i t lt is =
+    let on : suc i ≡ i + 1 = omega arith in
+    sym (first_of_both stands (column_faults bs (take i ts) cs) (misfits (term_sort bs t) t.place (slice_get cs i)))
+    ∙ ap (first stands) (one_beside bs ts cs i t lt is)
+    ∙ ap (λ n. first stands (column_faults bs (take n ts) cs)) on
+
+-- the column that stands at an index, if there is one
+pub column_at : (cs : List Column) (i : ℕ) (r : Option (Bor Column)) → IfSome r (λ x. x.now ≡ get_or cs i x.now) → MatchOption r (length cs ≤ i) (λ x. (i < length cs) × HoldsAt (λ y. x.now ≡ y) cs i) → option_map (λ x. x.now) r ≡ slice_get cs i
+column_at cs i None same there = sym (slice_get_past cs i there)
+column_at cs i (Some x) same there = sym (slice_get_read cs (length cs) i x.now refl there.0 same)
+
+-- the faults of an atom: its relation's, and those of its terms beside the columns
+both_parts : (bs : Binders) (p : Place) (ts : List RawTerm) (r : Option Relation) → relation_faults p (length ts) r ++ column_faults bs ts (columns_in r) ≡ atom_faults bs p ts r
+both_parts bs p ts None = ap (λ l. fault UnknownRelation p ∷ l) (no_columns bs ts)
+both_parts bs p ts (Some r) = refl
+
+-- the first of them
+pub atom_shows : (bs : Binders) (p : Place) (ts : List RawTerm) (r : Option Relation)
+    → sooner stands (first stands (relation_faults p (length ts) r)) (first stands (column_faults bs ts (columns_in r))) ≡ first stands (atom_faults bs p ts r)
+atom_shows bs p ts r = sym (first_of_both stands (relation_faults p (length ts) r) (column_faults bs ts (columns_in r))) ∙ ap (first stands) (both_parts bs p ts r)

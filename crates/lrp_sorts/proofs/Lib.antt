@@ -11,3 +11,4 @@ pub mod PlainForms
 pub mod Surveys
 pub mod Nested
 pub mod Carries
+pub mod SeenTerms

@@ -5,11 +5,11 @@ use Rattle.lrp_model.specs.Checked.{plain, plain_each}
 use Rattle.lrp_model.specs.Formulas.{form_of, forms_of, conjunction, disjunction, no_forms, form, joined}
 use Rattle.lrp_model.specs.RawQueries.{raw_kind, raw_form_of, raw_forms_of}
 use Rattle.lrp_model.specs.Sorting.{Binders}
-use Rattle.lrp_model.specs.declared.formulas.Formula.{Formula, And as and_formula, Or as or_formula}
+use Rattle.lrp_model.specs.declared.formulas.Formula.{Formula}
 use Rattle.lrp_model.specs.declared.raw.RawFormula.{RawFormula}
 use Rattle.lrp_model.specs.declared.raw.RawKind.{And, Or}
 use Rattle.lrp_model.proofs.RawViews.{raw_kind-And, raw_kind-Or}
-use Rattle.lrp_model.proofs.Views.{form_of-And, form_of-Or, forms_of-append}
+use Rattle.lrp_model.proofs.Views.{forms_of-append}
 
 -- one element more of an image
 pub one_mapped : {A B : Type 0} (f : A → B) (xs : List A) (i : ℕ) (x : A) (made : List B) (y : B) → i < length xs → x ≡ get_or xs i x → made ≡ map f (take i xs) → y ≡ f x → made ++ y ∷ [] ≡ map f (take (i + 1) xs)
@@ -18,14 +18,12 @@ one_mapped f xs i x made y lt is m e =
     ∙ ap (λ z. map f (take i xs ++ z ∷ [])) is ∙ ap (map f) (sym (take_more xs i x lt))
 
 -- an `and` of the plain members
-pub and_plain : (f : RawFormula) (v : Vec RawFormula Global) (w : Vec Formula Global) (fs : List RawFormula) (bs : Binders) → f.kind ≡ And v → fs ≡ v.items → forms_of w.items ≡ plain_each (raw_forms_of fs) bs → form_of (and_formula w) ≡ plain (raw_form_of f) bs
-and_plain f v w fs bs e i h =
-    form_of-And w ∙ ap conjunction (h ∙ ap (λ fs. plain_each (raw_forms_of fs) bs) i) ∙ ap (λ g. plain g bs) (sym (ap (λ k. raw_kind k f.place) e ∙ raw_kind-And v f.place))
+pub and_plain : (f : RawFormula) (v : Vec RawFormula Global) (fs : List RawFormula) (bs : Binders) → f.kind ≡ And v → fs ≡ v.items → conjunction (plain_each (raw_forms_of fs) bs) ≡ plain (raw_form_of f) bs
+and_plain f v fs bs e i = ap (λ fs. conjunction (plain_each (raw_forms_of fs) bs)) i ∙ ap (λ g. plain g bs) (sym (ap (λ k. raw_kind k f.place) e ∙ raw_kind-And v f.place))
 
 -- an `or` of them
-pub or_plain : (f : RawFormula) (v : Vec RawFormula Global) (w : Vec Formula Global) (fs : List RawFormula) (bs : Binders) → f.kind ≡ Or v → fs ≡ v.items → forms_of w.items ≡ plain_each (raw_forms_of fs) bs → form_of (or_formula w) ≡ plain (raw_form_of f) bs
-or_plain f v w fs bs e i h =
-    form_of-Or w ∙ ap disjunction (h ∙ ap (λ fs. plain_each (raw_forms_of fs) bs) i) ∙ ap (λ g. plain g bs) (sym (ap (λ k. raw_kind k f.place) e ∙ raw_kind-Or v f.place))
+pub or_plain : (f : RawFormula) (v : Vec RawFormula Global) (fs : List RawFormula) (bs : Binders) → f.kind ≡ Or v → fs ≡ v.items → disjunction (plain_each (raw_forms_of fs) bs) ≡ plain (raw_form_of f) bs
+or_plain f v fs bs e i = ap (λ fs. disjunction (plain_each (raw_forms_of fs) bs)) i ∙ ap (λ g. plain g bs) (sym (ap (λ k. raw_kind k f.place) e ∙ raw_kind-Or v f.place))
 
 -- the plain members of two lists
 plain_each-append : (fs gs : List RawFormula) (bs : Binders) → plain_each (raw_forms_of (fs ++ gs)) bs ≡ joined (plain_each (raw_forms_of fs) bs) (plain_each (raw_forms_of gs) bs)

@@ -71,16 +71,13 @@ free_then around (Err x) a b e h = h
 pub counted_then : (around : Around) (a b : List Identifier) (t u : Tally) → a ≡ b → u ≡ t → IsCounted around a t → IsCounted around b u
 counted_then around a b t u e d h = subst (λ ns. IsCounted around ns u) e (subst (λ v. IsCounted around a v) (sym d) h)
 
--- the tally of two formulas together
-pub both_then : {E : Type 0} (around : Around) (r : Result Finding E) (q : ℕ) (names others all : List Identifier) (left right : Tally) → q ≡ length around.quantifiers → names ++ others ≡ all
-    → IsCounted around names left → IsCounted around others right
-    → IfOk r (λ made. (bs : Binders) (ns os : List Identifier) → IsTally bs q ns left → IsTally bs q os right → IsTally bs q (ns ++ os) made.free)
-    → IfOk r (λ made. IsCounted around all made.free)
-both_then around (Ok x) q names others all left right e w l m h =
-    subst (λ ns. IsCounted around ns x.free) w
-    (subst (λ n. IsTally (binders around) n (names ++ others) x.free) e
-    (h (binders around) names others (subst (λ n. IsTally (binders around) n names left) (sym e) l) (subst (λ n. IsTally (binders around) n others right) (sym e) m)))
-both_then around (Err x) q names others all left right e w l m h = h
+-- a tally within so many quantifiers, which are those of the scope
+pub tally_at : (around : Around) (q : ℕ) (names : List Identifier) (t : Tally) → q ≡ length around.quantifiers → IsTally (binders around) q names t → IsCounted around names t
+tally_at around q names t e h = subst (λ n. IsTally (binders around) n names t) e h
+
+-- the same the other way round
+pub at_tally : (around : Around) (q : ℕ) (names : List Identifier) (t : Tally) → q ≡ length around.quantifiers → IsCounted around names t → IsTally (binders around) q names t
+at_tally around q names t e h = subst (λ n. IsTally (binders around) n names t) (sym e) h
 
 -- ---- widths
 
@@ -175,6 +172,11 @@ forall_names f c b e = ap free_names (sym (ap (λ k. raw_kind k f.place) e ∙ r
 pub then_ok : {A E : Type 0} (r : Result A E) (P Q : Type 0) → OnOk r P → (P → Q) → OnOk r Q
 then_ok (Ok x) P Q h f = f h
 then_ok (Err x) P Q h f = h
+
+-- the same of its value
+pub if_ok_then : {A E : Type 0} (r : Result A E) (P Q : A → Type 0) → IfOk r P → ((x : A) → P x → Q x) → IfOk r Q
+if_ok_then (Ok x) P Q h f = f x h
+if_ok_then (Err x) P Q h f = h
 
 module _ (db : List Relation) where
   -- a member's fault with its width, the member being read through references

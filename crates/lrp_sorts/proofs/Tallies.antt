@@ -107,6 +107,19 @@ first_counted bs q names n t k = record {
   texts = same_kept is_data bs q (names ++ n ∷ []) (n ∷ names) (names_behind t.texts.items) (λ m. list_any-append (bytes_eq m) names (n ∷ []) ∙ turned_or (is_named_in names m) (bytes_eq m n)) k.texts;
 }
 
+-- the first names behind the others, or before them
+or_turned : (a b : Bool) → (a || b) ≡ (b || a)
+or_turned true true = refl
+or_turned true false = refl
+or_turned false true = refl
+or_turned false false = refl
+
+-- what is kept of two lists does not depend on which comes first
+pub turned_kept : (passes : Sort → Bool) (bs : Binders) (q : ℕ) (names more kept : List Identifier) → IsKept passes bs q (more ++ names) kept → IsKept passes bs q (names ++ more) kept
+turned_kept passes bs q names more kept k =
+    same_kept passes bs q (more ++ names) (names ++ more) kept
+    (λ m. list_any-append (bytes_eq m) more names ∙ or_turned (is_named_in more m) (is_named_in names m) ∙ sym (list_any-append (bytes_eq m) names more)) k
+
 -- whether a tally is too wide
 pub wide_counted : (bs : Binders) (q : ℕ) (names : List Identifier) (t : Tally) → IsTally bs q names t → (nat_lt 8 (length t.times.items) || nat_lt 8 (length t.texts.items)) ≡ too_many bs names
 wide_counted bs q names t k =

@@ -1,20 +1,24 @@
 // What the checker finds in a formula.
-ghost use Rattle.std.specs.Prelude.{◌≡◌, ◌∷◌, ◌++◌, List, ℕ, flat_map, IfOk, OnOk};
+ghost use Rattle.std.specs.Prelude.{◌≡◌, ◌∷◌, ◌++◌, List, ℕ, flat_map, IfOk, OnOk, option_map};
 ghost use Rattle.lrp_model.specs.Texts.{Identifier};
 ghost use Rattle.lrp_model.specs.Faults.{first, fault_if};
-ghost use Rattle.lrp_model.specs.Sorting.{Binders, stands, fault, too_many, sort_faults, binder_faults, form_faults, free_names, without, term_names, term_faults, time_faults, compare_faults};
+ghost use Rattle.lrp_model.specs.Sorting.{Binders, stands, fault, too_many, sort_faults, binder_faults, form_faults, free_names, without, term_names, term_faults, column_faults, time_faults, compare_faults};
 ghost use Rattle.lrp_model.specs.RawQueries.{raw_atom};
 ghost use Rattle.lrp_model.specs.declared.faults.QueryKind.TheVariants.{Wide as wide, Rebound as rebound};
 ghost use Rattle.lrp_rel.specs.Sooner.{sooner};
 ghost use Rattle.lrp_sorts.specs.Scopes.{Around, binders};
+ghost use Rattle.lrp_sorts.specs.Terms.{IsSeen, columns_in};
 ghost use Rattle.lrp_sorts.specs.Widths.{IsTally, IsCounted, added};
 
 use crate::catalog::Catalog;
 use crate::earliest::{fault_where, sooner_of};
 use crate::scope::Scope;
-use crate::terms::{atom_fault, compare_fault, member_fault};
+use crate::terms::{Sorted, compare_fault, member_fault, relation_fault, term_sort};
 use crate::width::Tally;
-use lrp_model::{Memory, Name, Op, Place, QueryFault, QueryKind, RawColumn, RawTerm, RawTermKind};
+use lrp_model::{
+    Column, Memory, Name, Op, Place, QueryFault, QueryKind, RawColumn, RawTerm, RawTermKind,
+    Relation,
+};
 use std::alloc::Global;
 
 /// The first fault in a formula, and the variables that occur free in it.
@@ -43,11 +47,9 @@ pub fn both<'a>(
     ensures fault { IfOk result (λ made. made.fault ≡ sooner stands left.entry.fault right.entry.fault) }
     ensures free { IfOk result (λ made. (bs : Binders) (names others : List Identifier) → IsTally bs quantifiers names left.entry.free → IsTally bs quantifiers others right.entry.free → IsTally bs quantifiers (names ++ others) made.free) }
 {
-    let mut free = left.free;
-    free.join(quantifiers, &right.free)?;
     Ok(Finding {
         fault: sooner_of(left.fault, right.fault),
-        free,
+        free: left.free.and(quantifiers, right.free)?,
     })
 }
 
@@ -115,36 +117,67 @@ pub fn unbind<'a>(
     })
 }
 
-// The variable in a term, with those before.
+// The variable in a term of this sort, with those before.
 fn add_variable<'a>(
     variables: &mut Tally<'a>,
-    scope: &Scope<'_>,
+    quantifiers: usize,
     term: &'a RawTerm,
+    sorted: Sorted<'_>,
 ) -> Result<(), Memory>
-    ensures { OnOk result ((names : List Identifier) → IsCounted scope.now names variables.old → IsCounted scope.now (names ++ term_names term.now) variables.new) }
+    ensures { OnOk result ((bs : Binders) (names : List Identifier) → IsSeen bs term.now sorted.entry → IsTally bs quantifiers names variables.old → IsTally bs quantifiers (names ++ term_names term.now) variables.new) }
 {
     let Some(name) = term_name(term) else {
         return Ok(());
     };
-    let Some(sort) = scope.sort_of(name) else {
+    let Some(sort) = sorted.bound() else {
         return Ok(());
     };
-    variables.add(scope.quantifiers(), name, sort)
+    variables.add(quantifiers, name, sort)
 }
 
-// The variables in terms.
-fn variables_of<'a>(
+// What the terms of an atom show: the first fault of a term, and the first of a term that is not of its column's sort.
+struct Shown<'a> {
+    fault: Option<QueryFault>,
+    misfit: Option<QueryFault>,
+    free: Tally<'a>,
+}
+
+// The terms of an atom beside the columns of its relation. Each variable is looked up once.
+fn terms_shown<'a>(
     alloc: Global,
     scope: &Scope<'_>,
     terms: &'a [RawTerm],
-) -> Result<Tally<'a>, Memory>
-    ensures { IfOk result (IsCounted scope.now (flat_map term_names terms.now)) }
+    columns: &[Column],
+) -> Result<Shown<'a>, Memory>
+    ensures fault { IfOk result (λ made. made.fault ≡ first stands (flat_map (term_faults (binders scope.now)) terms.now)) }
+    ensures misfit { IfOk result (λ made. made.misfit ≡ first stands (column_faults (binders scope.now) terms.now columns.now)) }
+    ensures free { IfOk result (λ made. IsCounted scope.now (flat_map term_names terms.now) made.free) }
 {
-    let mut variables = Tally::new(alloc);
-    for term in terms {
-        add_variable(&mut variables, scope, term)?;
+    let quantifiers = scope.quantifiers();
+    let mut fault = None;
+    let mut misfit = None;
+    let mut free = Tally::new(alloc);
+    for (i, term) in terms.iter().enumerate() {
+        let sorted = term_sort(scope, term);
+        fault = sooner_of(fault, sorted.fault(term.place));
+        misfit = sooner_of(misfit, sorted.misfit(term.place, columns.get(i)));
+        add_variable(&mut free, quantifiers, term, sorted)?;
     }
-    Ok(variables)
+    Ok(Shown {
+        fault,
+        misfit,
+        free,
+    })
+}
+
+// The columns of a relation, if there is one.
+fn columns_of(relation: Option<&Relation>) -> &[Column]
+    ensures { result.now ≡ columns_in (option_map (λ r. r.now) relation.entry) }
+{
+    match relation {
+        Some(relation) => relation.columns.as_slice(),
+        None => &[],
+    }
 }
 
 // What an atom shows.
@@ -153,15 +186,22 @@ pub fn atom<'a>(
     catalog: &Catalog<'_>,
     scope: &Scope<'_>,
     place: Place,
-    relation: &Name,
+    name: &Name,
     terms: &'a [RawTerm],
 ) -> Result<Finding<'a>, Memory>
-    ensures fault { IfOk result (λ made. made.fault ≡ first stands (form_faults (raw_atom place relation.now terms.now) catalog.now (binders scope.now))) }
-    ensures free { IfOk result (λ made. IsCounted scope.now (free_names (raw_atom place relation.now terms.now)) made.free) }
+    ensures fault { IfOk result (λ made. made.fault ≡ first stands (form_faults (raw_atom place name.now terms.now) catalog.now (binders scope.now))) }
+    ensures free { IfOk result (λ made. IsCounted scope.now (free_names (raw_atom place name.now terms.now)) made.free) }
 {
+    let relation = catalog.relation(name);
+    let Shown {
+        fault,
+        misfit,
+        free,
+    } = terms_shown(alloc, scope, terms, columns_of(relation))?;
+    let own = relation_fault(place, terms.len(), relation);
     Ok(Finding {
-        fault: atom_fault(scope, place, terms, catalog.relation(relation)),
-        free: variables_of(alloc, scope, terms)?,
+        fault: sooner_of(fault, sooner_of(own, misfit)),
+        free,
     })
 }
 
@@ -176,11 +216,14 @@ pub fn comparison<'a>(
     ensures fault { IfOk result (λ made. made.fault ≡ first stands (term_faults (binders scope.now) left.now ++ term_faults (binders scope.now) right.now ++ compare_faults (binders scope.now) left.now op right.now)) }
     ensures free { IfOk result (λ made. IsCounted scope.now (term_names left.now ++ term_names right.now) made.free) }
 {
+    let one = term_sort(scope, left);
+    let other = term_sort(scope, right);
+    let quantifiers = scope.quantifiers();
     let mut free = Tally::new(alloc);
-    add_variable(&mut free, scope, left)?;
-    add_variable(&mut free, scope, right)?;
+    add_variable(&mut free, quantifiers, left, one)?;
+    add_variable(&mut free, quantifiers, right, other)?;
     Ok(Finding {
-        fault: compare_fault(scope, left, op, right),
+        fault: compare_fault(left, one, op, right, other),
         free,
     })
 }
@@ -194,10 +237,11 @@ pub fn membership<'a>(
     ensures fault { IfOk result (λ made. made.fault ≡ first stands (term_faults (binders scope.now) term.now ++ time_faults (binders scope.now) term.now)) }
     ensures free { IfOk result (λ made. IsCounted scope.now (term_names term.now) made.free) }
 {
+    let sorted = term_sort(scope, term);
     let mut free = Tally::new(alloc);
-    add_variable(&mut free, scope, term)?;
+    add_variable(&mut free, scope.quantifiers(), term, sorted)?;
     Ok(Finding {
-        fault: member_fault(scope, term),
+        fault: member_fault(term, sorted),
         free,
     })
 }

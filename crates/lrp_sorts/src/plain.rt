@@ -2,15 +2,15 @@
 ghost use Rattle.std.specs.Prelude.{◌≡◌, ◌∷◌, IfOk, OnOk, map};
 ghost use Rattle.lrp_model.specs.Checked.{time_of, data_of, term_of, compare_of, plain as plain_form, plain_each as plain_forms};
 ghost use Rattle.lrp_model.specs.DatabaseMeaning.{column_of};
-ghost use Rattle.lrp_model.specs.Formulas.{form_of, forms_of, negation, implication, exists, forall};
+ghost use Rattle.lrp_model.specs.Formulas.{form_of, forms_of, atom, test, negation, conjunction, disjunction, implication, exists, forall};
 ghost use Rattle.lrp_model.specs.RawQueries.{raw_form_of, raw_forms_of};
 ghost use Rattle.lrp_sorts.specs.Scopes.{Around, binders};
 
 use crate::scope::Scope;
 use crate::terms::is_data;
 use lrp_model::{
-    Column, Copies, DataTerm, DataText, Formula, List, Memory, Op, RawColumn, RawFormula, RawKind,
-    RawTerm, RawTermKind, Term, Test, TimeTerm,
+    Column, Copies, DataTerm, DataText, Formula, List, Memory, Name, Op, RawColumn, RawFormula,
+    RawKind, RawTerm, RawTermKind, RowPoint, Term, Test, TimeTerm,
 };
 use std::alloc::Global;
 
@@ -75,7 +75,7 @@ fn plain_terms(alloc: Global, scope: &Scope<'_>, terms: &[RawTerm]) -> Result<Li
 }
 
 // An `=` of two data terms is an equality, and every other comparison is one of times.
-fn plain_comparison(
+fn comparison(
     alloc: Global,
     scope: &Scope<'_>,
     left: &RawTerm,
@@ -98,7 +98,44 @@ fn plain_comparison(
     }
 }
 
+fn plain_atom(
+    alloc: Global,
+    scope: &Scope<'_>,
+    relation: &Name,
+    terms: &[RawTerm],
+) -> Result<Formula, Memory>
+    ensures { IfOk result (λ made. form_of made ≡ atom relation.now (map (term_of (binders scope.now)) terms.now)) }
+{
+    let relation = relation.copy(alloc)?;
+    let terms = plain_terms(alloc, scope, terms)?;
+    Ok(Formula::Atom { relation, terms })
+}
+
+fn plain_comparison(
+    alloc: Global,
+    scope: &Scope<'_>,
+    left: &RawTerm,
+    op: Op,
+    right: &RawTerm,
+) -> Result<Formula, Memory>
+    ensures { IfOk result (λ made. form_of made ≡ test (compare_of (binders scope.now) left.now op right.now)) }
+{
+    let test = comparison(alloc, scope, left, op, right)?;
+    Ok(Formula::Check { test })
+}
+
+fn plain_member(alloc: Global, term: &RawTerm, point: RowPoint) -> Result<Formula, Memory>
+    ensures { IfOk result (λ made. form_of made ≡ test (Test.Member (time_of term.now.kind) point)) }
+{
+    let term = time_term(alloc, term)?;
+    Ok(Formula::Check {
+        test: Test::Member { term, point },
+    })
+}
+
 // The formula within the binders of the scope; one in parentheses is the formula itself.
+//
+// A function clears its locals when it begins. So each kind of formula has a function of its own, and a formula pays for its own kind alone.
 #[cycle(plain)]
 pub fn plain_formula<'a>(
     alloc: Global,
@@ -109,51 +146,103 @@ pub fn plain_formula<'a>(
     ensures scope { OnOk result (scope.new ≡ scope.old) }
 {
     match &f.kind {
-        RawKind::Atom { relation, terms } => {
-            let relation = relation.copy(alloc)?;
-            let terms = plain_terms(alloc, scope, terms.as_slice())?;
-            Ok(Formula::Atom { relation, terms })
-        }
-        RawKind::Compare { left, op, right } => {
-            let test = plain_comparison(alloc, scope, left, *op, right)?;
-            Ok(Formula::Check { test })
-        }
-        RawKind::Member { term, point } => {
-            let term = time_term(alloc, term)?;
-            let point = *point;
-            Ok(Formula::Check {
-                test: Test::Member { term, point },
-            })
-        }
-        RawKind::Not { of } => {
-            let of = plain_formula(alloc, scope, of)?;
-            negated(alloc, of)
-        }
-        RawKind::And { of } => {
-            let of = plain_each(alloc, scope, of)?;
-            Ok(Formula::And { of })
-        }
-        RawKind::Or { of } => {
-            let of = plain_each(alloc, scope, of)?;
-            Ok(Formula::Or { of })
-        }
+        RawKind::Atom { relation, terms } => plain_atom(alloc, scope, relation, terms.as_slice()),
+        RawKind::Compare { left, op, right } => plain_comparison(alloc, scope, left, *op, right),
+        RawKind::Member { term, point } => plain_member(alloc, term, *point),
+        RawKind::Not { of } => plain_negation(alloc, scope, of),
+        RawKind::And { of } => plain_conjunction(alloc, scope, of),
+        RawKind::Or { of } => plain_disjunction(alloc, scope, of),
         RawKind::Implies { left, right } => {
             let left = plain_formula(alloc, scope, left)?;
-            let right = plain_formula(alloc, scope, right)?;
-            implied(alloc, left, right)
+            plain_implication(alloc, scope, right, left)
         }
         RawKind::Group { of } => plain_formula(alloc, scope, of),
-        RawKind::Exists { binder, of } => {
-            scope.enter(binder)?;
-            let of = plain_formula(alloc, scope, of)?;
-            some(alloc, scope, binder, of)
-        }
-        RawKind::Forall { binder, of } => {
-            scope.enter(binder)?;
-            let of = plain_formula(alloc, scope, of)?;
-            every(alloc, scope, binder, of)
-        }
+        RawKind::Exists { binder, of } => plain_existential(alloc, scope, binder, of),
+        RawKind::Forall { binder, of } => plain_universal(alloc, scope, binder, of),
     }
+}
+
+#[cycle(plain)]
+fn plain_negation<'a>(
+    alloc: Global,
+    scope: &mut Scope<'a>,
+    f: &'a RawFormula,
+) -> Result<Formula, Memory>
+    ensures form { IfOk result (λ made. form_of made ≡ negation (plain_form (raw_form_of f.now) (binders scope.old))) }
+    ensures scope { OnOk result (scope.new ≡ scope.old) }
+{
+    let f = plain_formula(alloc, scope, f)?;
+    negated(alloc, f)
+}
+
+#[cycle(plain)]
+fn plain_conjunction<'a>(
+    alloc: Global,
+    scope: &mut Scope<'a>,
+    fs: &'a [RawFormula],
+) -> Result<Formula, Memory>
+    ensures form { IfOk result (λ made. form_of made ≡ conjunction (plain_forms (raw_forms_of fs.now) (binders scope.old))) }
+    ensures scope { OnOk result (scope.new ≡ scope.old) }
+{
+    let of = plain_each(alloc, scope, fs)?;
+    Ok(Formula::And { of })
+}
+
+#[cycle(plain)]
+fn plain_disjunction<'a>(
+    alloc: Global,
+    scope: &mut Scope<'a>,
+    fs: &'a [RawFormula],
+) -> Result<Formula, Memory>
+    ensures form { IfOk result (λ made. form_of made ≡ disjunction (plain_forms (raw_forms_of fs.now) (binders scope.old))) }
+    ensures scope { OnOk result (scope.new ≡ scope.old) }
+{
+    let of = plain_each(alloc, scope, fs)?;
+    Ok(Formula::Or { of })
+}
+
+#[cycle(plain)]
+fn plain_implication<'a>(
+    alloc: Global,
+    scope: &mut Scope<'a>,
+    f: &'a RawFormula,
+    left: Formula,
+) -> Result<Formula, Memory>
+    ensures form { IfOk result (λ made. form_of made ≡ implication (form_of left) (plain_form (raw_form_of f.now) (binders scope.old))) }
+    ensures scope { OnOk result (scope.new ≡ scope.old) }
+{
+    let right = plain_formula(alloc, scope, f)?;
+    implied(alloc, left, right)
+}
+
+#[cycle(plain)]
+fn plain_existential<'a>(
+    alloc: Global,
+    scope: &mut Scope<'a>,
+    binder: &'a RawColumn,
+    f: &'a RawFormula,
+) -> Result<Formula, Memory>
+    ensures form { IfOk result (λ made. form_of made ≡ exists binder.now.name binder.now.sort (plain_form (raw_form_of f.now) (binder.now ∷ binders scope.old))) }
+    ensures scope { OnOk result (scope.new ≡ scope.old) }
+{
+    scope.enter(binder)?;
+    let of = plain_formula(alloc, scope, f)?;
+    some(alloc, scope, binder, of)
+}
+
+#[cycle(plain)]
+fn plain_universal<'a>(
+    alloc: Global,
+    scope: &mut Scope<'a>,
+    binder: &'a RawColumn,
+    f: &'a RawFormula,
+) -> Result<Formula, Memory>
+    ensures form { IfOk result (λ made. form_of made ≡ forall binder.now.name binder.now.sort (plain_form (raw_form_of f.now) (binder.now ∷ binders scope.old))) }
+    ensures scope { OnOk result (scope.new ≡ scope.old) }
+{
+    scope.enter(binder)?;
+    let of = plain_formula(alloc, scope, f)?;
+    every(alloc, scope, binder, of)
 }
 
 #[cycle(plain)]

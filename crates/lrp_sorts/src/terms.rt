@@ -1,18 +1,20 @@
 // The sorts of terms, and the faults of terms, atoms and comparisons.
-ghost use Rattle.std.specs.Prelude.{◌≡◌, ◌++◌, flat_map, option_map};
+ghost use Rattle.std.specs.Prelude.{◌≡◌, ◌++◌, option_map};
 ghost use Rattle.lrp_model.specs.Faults.{first, fault_if};
-ghost use Rattle.lrp_model.specs.Sorting.{stands, fault, term_sort as sort_by, is_data_term, differs, unlike, term_faults, time_faults, column_faults, atom_faults, compare_faults};
+ghost use Rattle.lrp_model.specs.Sorting.{Binders, stands, fault, term_sort as sort_by, is_data_term, differs, unlike, term_faults, time_faults, compare_faults};
 ghost use Rattle.lrp_sorts.specs.Scopes.{binders};
-ghost use Rattle.lrp_sorts.specs.Terms.{sort_told};
+ghost use Rattle.lrp_sorts.specs.Terms.{sort_told, told_faults, sort_kept, IsSeen, misfits, relation_faults};
 
 use crate::earliest::{fault_where, sooner_of};
 use crate::scope::Scope;
 use lrp_model::{Column, Op, Place, QueryFault, QueryKind, RawTerm, RawTermKind, Relation, Sort};
 
-/// The sort of a term: an integer or a name with an offset is an `Instant`, and a variable without a binder is `Unbound`.
+/// The sort of a term, found by one look at its binder: a name alone is `Of` its binder's sort, a name with an offset is `Shifted`, of which the
+/// binder's sort is kept, an integer is an `Instant`, and a variable without a binder is `Unbound`.
 #[derive(Clone, Copy)]
 pub enum Sorted<'a> {
     Of { sort: &'a Sort },
+    Shifted { sort: &'a Sort },
     Instant,
     Text,
     Unbound,
@@ -26,8 +28,46 @@ impl<'a> Sorted<'a> {
         match self {
             Sorted::Of { sort } => !sort.is_time(),
             Sorted::Text => true,
-            Sorted::Instant | Sorted::Unbound => false,
+            Sorted::Shifted { .. } | Sorted::Instant | Sorted::Unbound => false,
         }
+    }
+
+    // The sort of the variable's binder, where the term has a variable and it a binder.
+    pub fn bound(&self) -> Option<&'a Sort>
+        ensures { option_map (λ s. s.now) result ≡ sort_kept self.now }
+    {
+        match self {
+            Sorted::Of { sort } | Sorted::Shifted { sort } => Some(*sort),
+            Sorted::Instant | Sorted::Text | Sorted::Unbound => None,
+        }
+    }
+
+    // A variable without a binder, or an offset on one of a data sort, at the term's place.
+    pub fn fault(&self, place: Place) -> Option<QueryFault>
+        ensures { result ≡ first stands (told_faults self.now place) }
+    {
+        match self {
+            Sorted::Shifted { sort } => fault_where(!sort.is_time(), QueryKind::Sort, place),
+            Sorted::Unbound => fault_where(true, QueryKind::Unbound, place),
+            Sorted::Of { .. } | Sorted::Instant | Sorted::Text => None,
+        }
+    }
+
+    // A term whose sort is not that of the column beside it, where one stands there, at the term's place.
+    pub fn misfit(&self, place: Place, column: Option<&Column>) -> Option<QueryFault>
+        ensures { result ≡ first stands (misfits (sort_told self.now) place (option_map (λ c. c.now) column.entry)) }
+    {
+        match column {
+            Some(column) => fault_where(self.differs(&column.sort), QueryKind::Sort, place),
+            None => None,
+        }
+    }
+
+    // A term of a data sort where a time term is wanted, at its place.
+    fn time_fault(&self, place: Place) -> Option<QueryFault>
+        ensures { result ≡ first stands (fault_if (is_data_term (sort_told self.now)) (fault QueryKind.Sort place)) }
+    {
+        fault_where(self.is_data(), QueryKind::Sort, place)
     }
 
     // Whether the sort is another one than a column's.
@@ -36,7 +76,7 @@ impl<'a> Sorted<'a> {
     {
         match self {
             Sorted::Of { sort } => !sort.is_same(column),
-            Sorted::Instant => !column.is_time(),
+            Sorted::Shifted { .. } | Sorted::Instant => !column.is_time(),
             Sorted::Text => column.is_time(),
             Sorted::Unbound => false,
         }
@@ -48,17 +88,17 @@ impl<'a> Sorted<'a> {
     {
         match (self, other) {
             (Sorted::Of { sort }, _) => other.differs(sort),
-            (Sorted::Instant, _) => other.differs(&Sort::Time),
+            (Sorted::Shifted { .. } | Sorted::Instant, _) => other.differs(&Sort::Time),
             (Sorted::Text, Sorted::Of { sort }) => sort.is_time(),
-            (Sorted::Text, Sorted::Instant) => true,
+            (Sorted::Text, Sorted::Shifted { .. } | Sorted::Instant) => true,
             (Sorted::Text | Sorted::Unbound, _) => false,
         }
     }
 }
 
 // The sort of a term among the binders around it.
-fn term_sort<'a>(scope: &Scope<'a>, term: &RawTerm) -> Sorted<'a>
-    ensures { sort_told result ≡ sort_by (binders scope.now) term.now }
+pub fn term_sort<'a>(scope: &Scope<'a>, term: &RawTerm) -> Sorted<'a>
+    ensures { IsSeen (binders scope.now) term.now result }
 {
     match &term.kind {
         RawTermKind::Int { .. } => Sorted::Instant,
@@ -68,7 +108,7 @@ fn term_sort<'a>(scope: &Scope<'a>, term: &RawTerm) -> Sorted<'a>
             None => Sorted::Unbound,
         },
         RawTermKind::Shifted { name, .. } => match scope.sort_of(name) {
-            Some(_) => Sorted::Instant,
+            Some(sort) => Sorted::Shifted { sort },
             None => Sorted::Unbound,
         },
     }
@@ -85,129 +125,60 @@ pub fn is_data(scope: &Scope<'_>, term: &RawTerm) -> bool
     }
 }
 
-// A variable without a binder, or an offset on one of a data sort.
-fn term_fault(scope: &Scope<'_>, term: &RawTerm) -> Option<QueryFault>
-    ensures { result ≡ first stands (term_faults (binders scope.now) term.now) }
+// An atom of no relation, or of another number of terms than the relation has columns.
+pub fn relation_fault(place: Place, terms: usize, relation: Option<&Relation>) -> Option<QueryFault>
+    ensures { result ≡ first stands (relation_faults place terms (option_map (λ r. r.now) relation.entry)) }
 {
-    match &term.kind {
-        RawTermKind::Int { .. } | RawTermKind::Text { .. } => None,
-        RawTermKind::Var { name } => {
-            fault_where(
-                scope.sort_of(name).is_none(),
-                QueryKind::Unbound,
-                term.place,
-            )
+    match relation {
+        Some(relation) => {
+            let arity = terms != relation.columns.len();
+            fault_where(arity, QueryKind::Arity, place)
         }
-        RawTermKind::Shifted { name, .. } => match scope.sort_of(name) {
-            Some(sort) => fault_where(!sort.is_time(), QueryKind::Sort, term.place),
-            None => fault_where(true, QueryKind::Unbound, term.place),
-        },
+        None => fault_where(true, QueryKind::UnknownRelation, place),
     }
 }
 
-fn terms_fault(scope: &Scope<'_>, terms: &[RawTerm]) -> Option<QueryFault>
-    ensures { result ≡ first stands (flat_map (term_faults (binders scope.now)) terms.now) }
-{
-    let mut found = None;
-    for term in terms {
-        found = sooner_of(found, term_fault(scope, term));
-    }
-    found
-}
-
-// A term whose sort is not that of its column.
-fn column_fault(scope: &Scope<'_>, term: &RawTerm, column: &Column) -> Option<QueryFault>
-    ensures { result ≡ first stands (fault_if (differs (sort_by (binders scope.now) term.now) column.now.sort) (fault QueryKind.Sort term.now.place)) }
-{
-    let sort = term_sort(scope, term);
-    fault_where(sort.differs(&column.sort), QueryKind::Sort, term.place)
-}
-
-fn columns_fault(scope: &Scope<'_>, terms: &[RawTerm], columns: &[Column]) -> Option<QueryFault>
-    ensures { result ≡ first stands (column_faults (binders scope.now) terms.now columns.now) }
-{
-    let mut found = None;
-    for (term, column) in terms.iter().zip(columns) {
-        found = sooner_of(found, column_fault(scope, term, column));
-    }
-    found
-}
-
-// An atom of no relation, of another number of columns, or with a term of another sort than its column.
+// Sides of a comparison that do not go together, from the sorts of both.
 #[tactic(auto, using(lrp_rel::proofs::FirstFault::first_of_both))]
-fn relation_fault(
-    scope: &Scope<'_>,
-    place: Place,
-    terms: &[RawTerm],
-    relation: Option<&Relation>,
+pub fn sides_fault(
+    left: &RawTerm,
+    one: Sorted<'_>,
+    op: Op,
+    right: &RawTerm,
+    other: Sorted<'_>,
 ) -> Option<QueryFault>
-    ensures { result ≡ first stands (atom_faults (binders scope.now) place terms.now (option_map (λ r. r.now) relation.entry)) }
-{
-    let Some(relation) = relation else {
-        return fault_where(true, QueryKind::UnknownRelation, place);
-    };
-    let columns = relation.columns.as_slice();
-    let arity = fault_where(terms.len() != columns.len(), QueryKind::Arity, place);
-    sooner_of(arity, columns_fault(scope, terms, columns))
-}
-
-// The first fault of an atom.
-#[tactic(auto, using(lrp_rel::proofs::FirstFault::first_of_both))]
-pub fn atom_fault(
-    scope: &Scope<'_>,
-    place: Place,
-    terms: &[RawTerm],
-    relation: Option<&Relation>,
-) -> Option<QueryFault>
-    ensures { result ≡ first stands (flat_map (term_faults (binders scope.now)) terms.now ++ atom_faults (binders scope.now) place terms.now (option_map (λ r. r.now) relation.entry)) }
-{
-    sooner_of(
-        terms_fault(scope, terms),
-        relation_fault(scope, place, terms, relation),
-    )
-}
-
-// A term of a data sort where a time term is wanted.
-fn time_fault(scope: &Scope<'_>, term: &RawTerm) -> Option<QueryFault>
-    ensures { result ≡ first stands (time_faults (binders scope.now) term.now) }
-{
-    fault_where(is_data(scope, term), QueryKind::Sort, term.place)
-}
-
-// Sides of a comparison that do not go together.
-#[tactic(auto, using(lrp_rel::proofs::FirstFault::first_of_both))]
-fn sides_fault(scope: &Scope<'_>, left: &RawTerm, op: Op, right: &RawTerm) -> Option<QueryFault>
-    ensures { result ≡ first stands (compare_faults (binders scope.now) left.now op right.now) }
+    ensures { (bs : Binders) → sort_told one.entry ≡ sort_by bs left.now → sort_told other.entry ≡ sort_by bs right.now → result ≡ first stands (compare_faults bs left.now op right.now) }
 {
     match op {
         Op::Eq => {
-            let unlike = term_sort(scope, left).is_unlike(&term_sort(scope, right));
+            let unlike = one.is_unlike(&other);
             fault_where(unlike, QueryKind::Sort, right.place)
         }
         Op::Le | Op::Lt | Op::Ge | Op::Gt => {
-            sooner_of(time_fault(scope, left), time_fault(scope, right))
+            sooner_of(one.time_fault(left.place), other.time_fault(right.place))
         }
     }
 }
 
-// The first fault of a comparison.
+// The first fault of a comparison, from the sorts of its sides.
 #[tactic(auto, using(lrp_rel::proofs::FirstFault::first_of_both))]
 pub fn compare_fault(
-    scope: &Scope<'_>,
     left: &RawTerm,
+    one: Sorted<'_>,
     op: Op,
     right: &RawTerm,
+    other: Sorted<'_>,
 ) -> Option<QueryFault>
-    ensures { result ≡ first stands (term_faults (binders scope.now) left.now ++ term_faults (binders scope.now) right.now ++ compare_faults (binders scope.now) left.now op right.now) }
+    ensures { (bs : Binders) → IsSeen bs left.now one.entry → IsSeen bs right.now other.entry → result ≡ first stands (term_faults bs left.now ++ term_faults bs right.now ++ compare_faults bs left.now op right.now) }
 {
-    let terms = sooner_of(term_fault(scope, left), term_fault(scope, right));
-    sooner_of(terms, sides_fault(scope, left, op, right))
+    let terms = sooner_of(one.fault(left.place), other.fault(right.place));
+    sooner_of(terms, sides_fault(left, one, op, right, other))
 }
 
-// The first fault of a term in a point.
+// The first fault of a term in a point, from its sort.
 #[tactic(auto, using(lrp_rel::proofs::FirstFault::first_of_both))]
-pub fn member_fault(scope: &Scope<'_>, term: &RawTerm) -> Option<QueryFault>
-    ensures { result ≡ first stands (term_faults (binders scope.now) term.now ++ time_faults (binders scope.now) term.now) }
+pub fn member_fault(term: &RawTerm, sorted: Sorted<'_>) -> Option<QueryFault>
+    ensures { (bs : Binders) → IsSeen bs term.now sorted.entry → result ≡ first stands (term_faults bs term.now ++ time_faults bs term.now) }
 {
-    sooner_of(term_fault(scope, term), time_fault(scope, term))
+    sooner_of(sorted.fault(term.place), sorted.time_fault(term.place))
 }

@@ -1,8 +1,10 @@
 // The first fault of a formula and its free names, by one walk over it.
-ghost use Rattle.std.specs.Prelude.{◌≡◌, IfOk, OnOk};
+ghost use Rattle.std.specs.Prelude.{◌≡◌, ◌∷◌, ◌++◌, [], List, IfOk, OnOk};
+ghost use Rattle.lrp_model.specs.Texts.{Identifier};
 ghost use Rattle.lrp_model.specs.Faults.{first};
 ghost use Rattle.lrp_model.specs.RawQueries.{raw_form_of, raw_forms_of};
-ghost use Rattle.lrp_model.specs.Sorting.{stands, form_faults, forms_faults, free_names, free_names_each};
+ghost use Rattle.lrp_model.specs.Sorting.{stands, widened, binder_faults, form_faults, forms_faults, free_names, free_names_each, without};
+ghost use Rattle.lrp_rel.specs.Sooner.{sooner};
 ghost use Rattle.lrp_sorts.specs.Scopes.{binders};
 ghost use Rattle.lrp_sorts.specs.Widths.{IsCounted};
 
@@ -10,13 +12,13 @@ use crate::catalog::Catalog;
 use crate::finding::{Finding, atom, bind, both, comparison, membership, unbind, with_width};
 use crate::scope::Scope;
 use crate::width::Tally;
-use lrp_model::{Memory, RawFormula, RawKind};
+use lrp_model::{Memory, RawColumn, RawFormula, RawKind};
 use std::alloc::Global;
 
 // What a formula shows within the binders of the scope, all but its own width.
 //
 // The variables of a formula go up to the formula around it, each once. So a formula takes time by the variables of its parts, of which
-// there are few where none is too wide.
+// there are few where none is too wide. A function clears its locals when it begins, so each kind of formula has one of its own.
 #[cycle(walking)]
 pub fn inspect<'a>(
     alloc: Global,
@@ -34,34 +36,68 @@ pub fn inspect<'a>(
         }
         RawKind::Compare { left, op, right } => comparison(alloc, scope, left, *op, right),
         RawKind::Member { term, .. } => membership(alloc, scope, term),
-        RawKind::Not { of } => {
-            let inside = inspect(alloc, catalog, scope, of)?;
-            Ok(with_width(of.place, inside))
-        }
-        RawKind::Group { of } => {
-            let inside = inspect(alloc, catalog, scope, of)?;
-            Ok(with_width(of.place, inside))
-        }
+        RawKind::Not { of } => inspect_whole(alloc, catalog, scope, of),
+        RawKind::Group { of } => inspect_whole(alloc, catalog, scope, of),
         RawKind::And { of } => inspect_each(alloc, catalog, scope, of),
         RawKind::Or { of } => inspect_each(alloc, catalog, scope, of),
         RawKind::Implies { left, right } => {
-            let before = inspect(alloc, catalog, scope, left)?;
-            let before = with_width(left.place, before);
-            let behind = inspect(alloc, catalog, scope, right)?;
-            let behind = with_width(right.place, behind);
-            both(scope.quantifiers(), before, behind)
+            let before = inspect_whole(alloc, catalog, scope, left)?;
+            inspect_behind(alloc, catalog, scope, before, right)
         }
-        RawKind::Exists { binder, of } => {
-            let own = bind(catalog, scope, binder)?;
-            let inside = inspect(alloc, catalog, scope, of)?;
-            unbind(scope, binder, own, of.place, inside)
-        }
-        RawKind::Forall { binder, of } => {
-            let own = bind(catalog, scope, binder)?;
-            let inside = inspect(alloc, catalog, scope, of)?;
-            unbind(scope, binder, own, of.place, inside)
-        }
+        RawKind::Exists { binder, of } => inspect_bound(alloc, catalog, scope, binder, of),
+        RawKind::Forall { binder, of } => inspect_bound(alloc, catalog, scope, binder, of),
     }
+}
+
+// What a formula shows, its own width among it.
+#[cycle(walking)]
+pub fn inspect_whole<'a>(
+    alloc: Global,
+    catalog: &Catalog<'_>,
+    scope: &mut Scope<'a>,
+    f: &'a RawFormula,
+) -> Result<Finding<'a>, Memory>
+    ensures fault { IfOk result (λ made. made.fault ≡ first stands (widened (binders scope.old) [] (raw_form_of f.now) (form_faults (raw_form_of f.now) catalog.now (binders scope.old)))) }
+    ensures free { IfOk result (λ made. IsCounted scope.old (free_names (raw_form_of f.now)) made.free) }
+    ensures scope { OnOk result (scope.new ≡ scope.old) }
+{
+    let inside = inspect(alloc, catalog, scope, f)?;
+    Ok(with_width(f.place, inside))
+}
+
+// What a formula shows, its own width among it, together with what was found before it.
+#[cycle(walking)]
+fn inspect_behind<'a>(
+    alloc: Global,
+    catalog: &Catalog<'_>,
+    scope: &mut Scope<'a>,
+    before: Finding<'a>,
+    f: &'a RawFormula,
+) -> Result<Finding<'a>, Memory>
+    ensures fault { IfOk result (λ made. made.fault ≡ sooner stands before.entry.fault (first stands (widened (binders scope.old) [] (raw_form_of f.now) (form_faults (raw_form_of f.now) catalog.now (binders scope.old))))) }
+    ensures free { IfOk result (λ made. (names : List Identifier) → IsCounted scope.old names before.entry.free → IsCounted scope.old (names ++ free_names (raw_form_of f.now)) made.free) }
+    ensures scope { OnOk result (scope.new ≡ scope.old) }
+{
+    let behind = inspect_whole(alloc, catalog, scope, f)?;
+    both(scope.quantifiers(), before, behind)
+}
+
+// What a quantifier and its formula show, the width of the formula among it.
+#[cycle(walking)]
+fn inspect_bound<'a>(
+    alloc: Global,
+    catalog: &Catalog<'_>,
+    scope: &mut Scope<'a>,
+    binder: &'a RawColumn,
+    f: &'a RawFormula,
+) -> Result<Finding<'a>, Memory>
+    ensures fault { IfOk result (λ made. made.fault ≡ sooner stands (first stands (binder_faults catalog.now (binders scope.old) binder.now)) (first stands (widened (binder.now ∷ binders scope.old) (binder.now.name ∷ []) (raw_form_of f.now) (form_faults (raw_form_of f.now) catalog.now (binder.now ∷ binders scope.old))))) }
+    ensures free { IfOk result (λ made. IsCounted scope.old (without binder.now.name (free_names (raw_form_of f.now))) made.free) }
+    ensures scope { OnOk result (scope.new ≡ scope.old) }
+{
+    let own = bind(catalog, scope, binder)?;
+    let inside = inspect(alloc, catalog, scope, f)?;
+    unbind(scope, binder, own, f.place, inside)
 }
 
 // What the members of an `and` or an `or` show together, their widths among it.
@@ -81,9 +117,7 @@ fn inspect_each<'a>(
         free: Tally::new(alloc),
     };
     for f in fs {
-        let inside = inspect(alloc, catalog, scope, f)?;
-        let one = with_width(f.place, inside);
-        found = both(scope.quantifiers(), found, one)?;
+        found = inspect_behind(alloc, catalog, scope, found, f)?;
     }
     Ok(found)
 }

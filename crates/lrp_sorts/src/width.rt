@@ -1,5 +1,5 @@
 // The variables that occur free in a formula, as they are counted.
-ghost use Rattle.std.specs.Prelude.{◌≡◌, ◌∷◌, ◌++◌, [], List, ℕ, Bool, true, suc, not, bytes_eq, Some, OnOk};
+ghost use Rattle.std.specs.Prelude.{◌≡◌, ◌∷◌, ◌++◌, [], List, ℕ, Bool, true, suc, not, bytes_eq, Some, IfOk, OnOk};
 ghost use Rattle.lrp_model.specs.Texts.{Identifier};
 ghost use Rattle.lrp_model.specs.Faults.{is_named_in};
 ghost use Rattle.lrp_model.specs.Sorting.{Binders, binder_sort, too_many, without};
@@ -43,12 +43,14 @@ impl<'a> Tally<'a> {
         }
     }
 
-    // The names of another formula too.
-    pub fn join(&mut self, quantifiers: usize, other: &Tally<'a>) -> Result<(), Memory>
-        ensures { OnOk result ((bs : Binders) (names others : List Identifier) → IsTally bs quantifiers names self.old → IsTally bs quantifiers others other.now → IsTally bs quantifiers (names ++ others) self.new) }
+    // The names of this formula and of another one.
+    pub fn and(self, quantifiers: usize, other: Tally<'a>) -> Result<Tally<'a>, Memory>
+        ensures { IfOk result (λ made. (bs : Binders) (names others : List Identifier) → IsTally bs quantifiers names self.entry → IsTally bs quantifiers others other.entry → IsTally bs quantifiers (names ++ others) made) }
     {
-        keep_each(&mut self.times, quantifiers, &other.times)?;
-        keep_each(&mut self.texts, quantifiers, &other.texts)
+        Ok(Tally {
+            times: merged(quantifiers, self.times, other.times)?,
+            texts: merged(quantifiers, self.texts, other.texts)?,
+        })
     }
 
     // Outside a quantifier, whose name is not free there.
@@ -88,6 +90,34 @@ fn keep<'a>(kept: &mut Vec<&'a Name>, quantifiers: usize, name: &'a Name) -> Res
         kept.push(name)?;
     }
     Ok(())
+}
+
+// The names of two lists. Those of the shorter one go behind the others, so that a long list is neither copied nor gone through for each of its names.
+fn merged<'a>(
+    quantifiers: usize,
+    left: Vec<&'a Name>,
+    right: Vec<&'a Name>,
+) -> Result<Vec<&'a Name>, Memory>
+    ensures { IfOk result (λ made. (passes : SortOf → Bool) (bs : Binders) (names more : List Identifier) → IsKept passes bs quantifiers names (names_behind left.entry.items) → IsKept passes bs quantifiers more (names_behind right.entry.items) → IsKept passes bs quantifiers (names ++ more) (names_behind made.items)) }
+{
+    if left.len() < right.len() {
+        appended(quantifiers, right, &left)
+    } else {
+        appended(quantifiers, left, &right)
+    }
+}
+
+// The names of a list, and those of another one behind them.
+fn appended<'a>(
+    quantifiers: usize,
+    names: Vec<&'a Name>,
+    others: &[&'a Name],
+) -> Result<Vec<&'a Name>, Memory>
+    ensures { IfOk result (λ made. (passes : SortOf → Bool) (bs : Binders) (some more : List Identifier) → IsKept passes bs quantifiers some (names_behind names.entry.items) → IsKept passes bs quantifiers more (names_behind others.now) → IsKept passes bs quantifiers (some ++ more) (names_behind made.items)) }
+{
+    let mut kept = names;
+    keep_each(&mut kept, quantifiers, others)?;
+    Ok(kept)
 }
 
 // The names of another list, each so.

@@ -2,21 +2,33 @@ use Rattle.std.proofs.Common.{ap, ◌∙◌}
 use Rattle.lrp_model.specs.Checked.{plain}
 use Rattle.lrp_model.specs.RawQueries.{raw_form_of}
 use Rattle.lrp_sorts.specs.Scopes.{binders}
+use Rattle.lrp_model.specs.Formulas.{conjunction, disjunction}
+use Rattle.lrp_model.proofs.Views.{form_of-And, form_of-Or}
 use Rattle.lrp_sorts.proofs.PlainForms.{and_plain, or_plain, one_plain}
-use Rattle.lrp_sorts.proofs.RawNodes.{then_ok}
+use Rattle.lrp_sorts.proofs.RawNodes.{then_ok, if_ok_then}
 use Rattle.lrp_sorts.proofs.plain.+plain.Goals as goal
 
-pub plain_formula-returns-in_ok-of-in-And-clause-form : goal.plain_formula-returns-in_ok-of-in-And-clause-form
-plain_formula-returns-in_ok-of-in-And-clause-form t c = and_plain c.args.f.now c.in-And.of c.in_ok-of-in-And.of _ (binders c.args.scope.now) c.in-And.is c.deref-in-And.ensures.value c.in_ok-of-in-And.ensures.forms
+pub plain_formula-returns-in-And-clause-form : goal.plain_formula-returns-in-And-clause-form
+plain_formula-returns-in-And-clause-form t c =
+    if_ok_then c.plain_conjunction.result _ _ c.plain_conjunction.ensures.form (λ made h.
+    h ∙ and_plain c.args.f.now c.in-And.of c.deref-in-And.result.now (binders c.args.scope.now) c.in-And.is c.deref-in-And.ensures.value)
 
-pub plain_formula-returns-in_ok-of-in-Or-clause-form : goal.plain_formula-returns-in_ok-of-in-Or-clause-form
-plain_formula-returns-in_ok-of-in-Or-clause-form t c = or_plain c.args.f.now c.in-Or.of c.in_ok-of-in-Or.of _ (binders c.args.scope.now) c.in-Or.is c.deref-in-Or.ensures.value c.in_ok-of-in-Or.ensures.forms
+pub plain_formula-returns-in-Or-clause-form : goal.plain_formula-returns-in-Or-clause-form
+plain_formula-returns-in-Or-clause-form t c =
+    if_ok_then c.plain_disjunction.result _ _ c.plain_disjunction.ensures.form (λ made h.
+    h ∙ or_plain c.args.f.now c.in-Or.of c.deref-in-Or.result.now (binders c.args.scope.now) c.in-Or.is c.deref-in-Or.ensures.value)
 
-pub plain_formula-returns-in_ok-of-in-Exists-clause-scope : goal.plain_formula-returns-in_ok-of-in-Exists-clause-scope
-plain_formula-returns-in_ok-of-in-Exists-clause-scope t c = then_ok c.some.result _ _ c.some.ensures.scope (λ left. left c.args.scope.now (c.in_ok-of-in-Exists.ensures.scope ∙ c.in_ok-enter-in-Exists.ensures))
+pub plain_conjunction-returns-clause-form : goal.plain_conjunction-returns-clause-form
+plain_conjunction-returns-clause-form t c = form_of-And c.in_ok-of.of ∙ ap conjunction c.in_ok-of.ensures.forms
 
-pub plain_formula-returns-in_ok-of-in-Forall-clause-scope : goal.plain_formula-returns-in_ok-of-in-Forall-clause-scope
-plain_formula-returns-in_ok-of-in-Forall-clause-scope t c = then_ok c.every.result _ _ c.every.ensures.scope (λ left. left c.args.scope.now (c.in_ok-of-in-Forall.ensures.scope ∙ c.in_ok-enter-in-Forall.ensures))
+pub plain_disjunction-returns-clause-form : goal.plain_disjunction-returns-clause-form
+plain_disjunction-returns-clause-form t c = form_of-Or c.in_ok-of.of ∙ ap disjunction c.in_ok-of.ensures.forms
+
+pub plain_existential-returns-clause-scope : goal.plain_existential-returns-clause-scope
+plain_existential-returns-clause-scope t c = then_ok c.some.result _ _ c.some.ensures.scope (λ left. left c.args.scope.now (c.in_ok-of.ensures.scope ∙ c.in_ok-enter.ensures))
+
+pub plain_universal-returns-clause-scope : goal.plain_universal-returns-clause-scope
+plain_universal-returns-clause-scope t c = then_ok c.every.result _ _ c.every.ensures.scope (λ left. left c.args.scope.now (c.in_ok-of.ensures.scope ∙ c.in_ok-enter.ensures))
 
 pub plain_each-loop-f-preserved : goal.plain_each-loop-f-preserved
 plain_each-loop-f-preserved t c =

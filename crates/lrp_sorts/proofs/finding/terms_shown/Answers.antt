@@ -1,0 +1,58 @@
+use Rattle.std.proofs.Common.{◌≡◌, ap, sym, ◌∙◌, refl, subst, flat_map, take, length, option_map, arith}
+use Rattle.std.proofs.Math.Seq.{take-length}
+use Rattle.lrp_model.specs.Faults.{first}
+use Rattle.lrp_model.specs.Sorting.{stands, term_sort, term_names, term_faults, column_faults}
+use Rattle.lrp_rel.specs.Sooner.{sooner}
+use Rattle.lrp_sorts.specs.Scopes.{binders}
+use Rattle.lrp_sorts.specs.Terms.{misfits}
+use Rattle.lrp_sorts.specs.Widths.{IsTally, IsCounted}
+use Rattle.lrp_sorts.proofs.ColumnFaults.{no_terms, column_further, column_at}
+use Rattle.lrp_sorts.proofs.FaultLists.{one_further, one_more}
+use Rattle.lrp_sorts.proofs.finding.terms_shown.Goals.{After-loop-i}
+use Rattle.lrp_sorts.proofs.finding.terms_shown.Goals as goal
+
+pub loop-i-init : goal.loop-i-init
+loop-i-init c = record {
+  fault = refl;
+  misfit = ap (first stands) (sym (no_terms (binders c.args.scope.now) c.args.columns.now));
+  free = c.new-free.ensures (binders c.args.scope.now) c.quantifiers-quantifiers.result;
+}
+
+pub loop-i-preserved : goal.loop-i-preserved
+loop-i-preserved c =
+    let bs = binders c.args.scope.now in
+    let kept = c.loop-i.invariant in
+    let t = c.index-terms-i.result in
+    let seen = c.term_sort-sorted.ensures in
+    record {
+      fault =
+          c.sooner_of-fault.ensures ∙ ap (λ f. sooner stands f c.fault.result) kept.fault ∙ ap (sooner stands _) (c.fault.ensures ∙ ap (first stands) seen.faults)
+          ∙ one_more stands (term_faults bs) c.args.terms.now c.loop-i.i t c.loop-i-test.true c.index-terms-i.is;
+      misfit =
+          c.sooner_of-misfit.ensures ∙ ap (λ f. sooner stands f c.misfit.result) kept.misfit
+          ∙ ap (sooner stands _) (c.misfit.ensures ∙ ap (λ s. first stands (misfits s t.place (option_map (λ x. x.now) c.get.result))) seen.sort ∙ ap (λ k. first stands (misfits (term_sort bs t) t.place k)) (column_at c.args.columns.now c.loop-i.i c.get.result c.get.ensures.lookup.1 c.get.ensures.lookup.3))
+          ∙ column_further bs c.args.terms.now c.args.columns.now c.loop-i.i t c.loop-i-test.true c.index-terms-i.is;
+      free =
+          subst (λ ns. IsTally bs c.quantifiers-quantifiers.result ns c.add_variable.new.variables) (one_further term_names c.args.terms.now c.loop-i.i t c.loop-i-test.true c.index-terms-i.is)
+          (c.in_ok-add_variable.ensures bs _ seen kept.free);
+    }
+
+-- all terms
+all_terms : (c : After-loop-i) → take c.loop-i.i c.args.terms.now ≡ c.args.terms.now
+all_terms c =
+    let last : c.loop-i.i ≡ length c.args.terms.now = omega (arith, c.loop-i-test.false, c.loop-i.auto.i-end) in
+    ap (λ i. take i c.args.terms.now) last ∙ take-length c.args.terms.now
+
+pub returns-clause-fault : goal.returns-clause-fault
+returns-clause-fault c =
+    c.loop-i.invariant.fault ∙ ap (λ ts. first stands (flat_map (term_faults (binders c.args.scope.now)) ts)) (all_terms c)
+
+pub returns-clause-misfit : goal.returns-clause-misfit
+returns-clause-misfit c =
+    c.loop-i.invariant.misfit ∙ ap (λ ts. first stands (column_faults (binders c.args.scope.now) ts c.args.columns.now)) (all_terms c)
+
+pub returns-clause-free : goal.returns-clause-free
+returns-clause-free c =
+    let bs = binders c.args.scope.now in
+    subst (λ ts. IsCounted c.args.scope.now (flat_map term_names ts) c.loop-i.free) (all_terms c)
+    (subst (λ q. IsTally bs q (flat_map term_names (take c.loop-i.i c.args.terms.now)) c.loop-i.free) c.quantifiers-quantifiers.ensures c.loop-i.invariant.free)
