@@ -55,7 +55,7 @@ with_variables-append vs [] xs = refl
 with_variables-append vs (w ∷ ws) xs = with_variables-append (with_variable vs w) ws xs
 
 -- a variable that is a member already adds nothing
-with_known : (vs : List Variable) (v : Variable) → is_among vs v ≡ true → with_variable vs v ≡ vs
+pub with_known : (vs : List Variable) (v : Variable) → is_among vs v ≡ true → with_variable vs v ≡ vs
 with_known vs v e = ap (λ b. if b then vs else vs ++ v ∷ []) e
 
 -- and another one stands behind them

@@ -1,2 +1,4 @@
 pub mod Cores
 pub mod FreeVariables
+pub mod VariableTrees
+pub mod Literals

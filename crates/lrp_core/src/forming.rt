@@ -7,6 +7,7 @@ ghost use Rattle.lrp_core.specs.Cores.{core_of, cores_of};
 use crate::Core;
 use crate::comparisons::{negated, negative_test, positive_test};
 use crate::junctions::{all_of, both, either, push_conjunct, some_of};
+use crate::terms::copy_terms;
 use lrp_model::{Column, Copies, Formula, List, Memory, Name, Query, Sort, Term};
 use std::alloc::Global;
 
@@ -100,7 +101,7 @@ fn holding(alloc: Global, relation: &Name, terms: &List<Term>) -> Result<Core, M
 {
     Ok(Core::Atom {
         relation: relation.copy(alloc)?,
-        terms: terms.copy(alloc)?,
+        terms: copy_terms(alloc, terms.as_slice())?,
     })
 }
 

@@ -34,7 +34,7 @@ pub fn free_variables(alloc: Global, core: &Core) -> Result<List<Variable>, Memo
     ensures value { IfOk result (λ made. map variable_of made ≡ each_once (free (core_of core.now))) }
     ensures members { IfOk result (λ made. (v : VariableOf) → is_member (map variable_of made) v ≡ is_member (free (core_of core.now)) v) }
 {
-    let mut all = List::new(alloc);
+    let mut all = List::from_vec(Vec::with_capacity(alloc, 1)?);
     add_free(alloc, &mut all, core)?;
     Ok(all)
 }
@@ -177,7 +177,7 @@ fn add_test(alloc: Global, all: &mut List<Variable>, test: &Test) -> Result<(), 
 }
 
 // Those of a quantifier's formula but for the one that it binds.
-fn add_others(
+pub(crate) fn add_others(
     all: &mut List<Variable>,
     inner: List<Variable>,
     sort: &Sort,

@@ -4,6 +4,8 @@ pub mod Keeping
 pub mod Made
 pub mod Draws
 pub mod Members
+pub mod Grown
+pub mod FirstTrees
 pub mod Settled
 pub mod Takes
 pub mod WaitingLaws
@@ -12,6 +14,7 @@ pub mod Unions
 pub mod Planned
 pub mod Answered
 pub mod Texts
+pub mod Gathered
 pub mod Sorting
 pub mod Sorted
 pub mod WholePeriods
@@ -19,7 +22,6 @@ pub mod Names
 pub mod Scales
 pub mod NamedSorts
 pub mod Finished
-pub mod Literal
 pub mod Whole
 pub mod KeptPeriods
 pub mod Promised

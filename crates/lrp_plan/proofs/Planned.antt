@@ -28,54 +28,55 @@ use Rattle.lrp_plan.specs.Multiples.{IsCommon}
 use Rattle.lrp_plan.specs.Facts.{AreFacts}
 use Rattle.lrp_plan.specs.Drafts.{IsDraft, Extends, AreTests}
 use Rattle.lrp_plan.specs.Taking.{IsResult}
-use Rattle.lrp_plan.specs.Elements.{CanPlan, EachCanPlan, IsElement, IsDenied, IsAt, IsSplitOf, TakesTests, TakesEach, DeniesEach}
+use Rattle.lrp_core.specs.declared.variable_trees.VariableTree.{VariableTree}
+use Rattle.lrp_plan.specs.Elements.{AreInner, CanPlan, EachCanPlan, IsElement, IsDenied, IsAt, IsSplitOf, TakesTests, TakesEach, DeniesEach}
 use Rattle.lrp_plan.specs.Sources.{AreSources}
 use Rattle.lrp_plan.proofs.Keeping.{common_both}
 use Rattle.lrp_plan.proofs.Turns.{zip_length}
 use Rattle.lrp_plan.proofs.Unions.{SomeSoFar}
 
 -- what was promised of a core form's steps
-abbrev pub Planned : {T E : Type 0} → Result T E → Sources → Form → Draft → Draft → Type 0
-Planned r sources f old new = OnOk r ((M : Structure) (K : ℕ) → AreSources M sources → CanPlan M K f → Extends M K (plan_of f) old new)
+abbrev pub Planned : {T E : Type 0} → Result T E → Sources → List VariableTree → Form → Draft → Draft → Type 0
+Planned r sources trees f old new = OnOk r ((M : Structure) (K : ℕ) → AreSources M sources → AreInner trees f → CanPlan M K f → Extends M K (plan_of f) old new)
 
-pub atom_planned : {T E : Type 0} (r : Result T E) (sources : Sources) (f : Form) (name own : Identifier) (terms copies : List Term) (facts : Facts) (old new : Draft) → f ≡ atom name terms → own ≡ name → copies ≡ terms → ((M : Structure) → AreSources M sources → AreFacts (rows_of M.relations name) facts)
-    → OnOk r ((M : Structure) (K : ℕ) → AreFacts (rows_of M.relations own) facts → IsCommon (periods (atom own copies) M.relations) K → Extends M K (scan own copies) old new) → Planned r sources f old new
-atom_planned (Ok x) sources f name own terms copies facts old new e g k facts_are h = λ M K s c.
+pub atom_planned : {T E : Type 0} (r : Result T E) (sources : Sources) (trees : List VariableTree) (f : Form) (name own : Identifier) (terms copies : List Term) (facts : Facts) (old new : Draft) → f ≡ atom name terms → own ≡ name → copies ≡ terms → ((M : Structure) → AreSources M sources → AreFacts (rows_of M.relations name) facts)
+    → OnOk r ((M : Structure) (K : ℕ) → AreFacts (rows_of M.relations own) facts → IsCommon (periods (atom own copies) M.relations) K → Extends M K (scan own copies) old new) → Planned r sources trees f old new
+atom_planned (Ok x) sources trees f name own terms copies facts old new e g k facts_are h = λ M K s known c.
     let i : atom own copies ≡ f = ap (λ n. atom n copies) g ∙ ap (atom name) k ∙ sym e in
     subst (λ y. Extends M K (plan_of y) old new) i (h M K (subst (λ n. AreFacts (rows_of M.relations n) facts) (sym g) (facts_are M s)) (subst (λ y. IsCommon (periods y M.relations) K) (sym i) c.divides))
-atom_planned (Err x) sources f name own terms copies facts old new e g k facts_are h = tt
+atom_planned (Err x) sources trees f name own terms copies facts old new e g k facts_are h = tt
 
-pub check_planned : {T E : Type 0} (r : Result T E) (sources : Sources) (f : Form) (t own : Test) (old new : Draft) → f ≡ test t → own ≡ t → OnOk r ((M : Structure) (K : ℕ) → IsCommon (test_periods own) K → Extends M K (leaf own) old new) → Planned r sources f old new
-check_planned (Ok x) sources f t own old new e g h = λ M K s c.
+pub check_planned : {T E : Type 0} (r : Result T E) (sources : Sources) (trees : List VariableTree) (f : Form) (t own : Test) (old new : Draft) → f ≡ test t → own ≡ t → OnOk r ((M : Structure) (K : ℕ) → IsCommon (test_periods own) K → Extends M K (leaf own) old new) → Planned r sources trees f old new
+check_planned (Ok x) sources trees f t own old new e g h = λ M K s known c.
     let i : test own ≡ f = ap test g ∙ sym e in
     subst (λ y. Extends M K (plan_of y) old new) i (h M K (subst (λ y. IsCommon (periods y M.relations) K) (sym i) c.divides))
-check_planned (Err x) sources f t own old new e g h = tt
+check_planned (Err x) sources trees f t own old new e g h = tt
 
-pub sorted_planned : {T E : Type 0} (r : Result T E) (sources : Sources) (f : Form) (v own : Identifier) (s like : Sort) (texts : List Text) (old new : Draft) → f ≡ sorted s v → own ≡ v → like ≡ s → ((M : Structure) → AreSources M sources → texts ≡ M.domain s)
-    → OnOk r ((M : Structure) (K : ℕ) → texts ≡ M.domain like → Extends M K (sort_texts like own) old new) → Planned r sources f old new
-sorted_planned (Ok x) sources f v own s like texts old new e g k are h = λ M K src c.
+pub sorted_planned : {T E : Type 0} (r : Result T E) (sources : Sources) (trees : List VariableTree) (f : Form) (v own : Identifier) (s like : Sort) (texts : List Text) (old new : Draft) → f ≡ sorted s v → own ≡ v → like ≡ s → ((M : Structure) → AreSources M sources → texts ≡ M.domain s)
+    → OnOk r ((M : Structure) (K : ℕ) → texts ≡ M.domain like → Extends M K (sort_texts like own) old new) → Planned r sources trees f old new
+sorted_planned (Ok x) sources trees f v own s like texts old new e g k are h = λ M K src known c.
     let i : sorted like own ≡ f = ap (λ z. sorted z own) k ∙ ap (sorted s) g ∙ sym e in
     subst (λ y. Extends M K (plan_of y) old new) i (h M K (are M src ∙ ap (λ z. M.domain z) (sym k)))
-sorted_planned (Err x) sources f v own s like texts old new e g k are h = tt
+sorted_planned (Err x) sources trees f v own s like texts old new e g k are h = tt
 
-pub not_planned : {T E : Type 0} (r : Result T E) (sources : Sources) (f g : Form) (old mid new : Draft) → f ≡ negation g → ((M : Structure) (K : ℕ) → AreSources M sources → CanPlan M K g → Extends M K (plan_of g) old mid)
-    → OnOk r ((M : Structure) (K : ℕ) → Extends M K complement mid new) → Planned r sources f old new
-not_planned (Ok x) sources f g old mid new e h k = λ M K s c.
+pub not_planned : {T E : Type 0} (r : Result T E) (sources : Sources) (trees : List VariableTree) (f g : Form) (old mid new : Draft) → f ≡ negation g → ((M : Structure) (K : ℕ) → AreSources M sources → AreInner trees g → CanPlan M K g → Extends M K (plan_of g) old mid)
+    → OnOk r ((M : Structure) (K : ℕ) → Extends M K complement mid new) → Planned r sources trees f old new
+not_planned (Ok x) sources trees f g old mid new e h k = λ M K s known c.
     let d : CanPlan M K (negation g) = subst (CanPlan M K) e c in
-    subst (λ y. Extends M K (plan_of y) old new) (sym e) (record { follows = λ planned p. (k M K).follows (plan_of g M planned) ((h M K s (record { core = d.core; divides = d.divides })).follows planned p) })
-not_planned (Err x) sources f g old mid new e h k = tt
+    subst (λ y. Extends M K (plan_of y) old new) (sym e) (record { follows = λ planned p. (k M K).follows (plan_of g M planned) ((h M K s (subst (AreInner trees) e known) (record { core = d.core; divides = d.divides })).follows planned p) })
+not_planned (Err x) sources trees f g old mid new e h k = tt
 
-pub exists_planned : {T E : Type 0} (r : Result T E) (sources : Sources) (f g : Form) (v own : Identifier) (s : Sort) (old mid new : Draft) → f ≡ exists v s g → own ≡ v → ((M : Structure) (K : ℕ) → AreSources M sources → CanPlan M K g → Extends M K (plan_of g) old mid)
-    → OnOk r ((M : Structure) (K : ℕ) → Extends M K (drop_of own s) mid new) → Planned r sources f old new
-exists_planned (Ok x) sources f g v own s old mid new e same h k = λ M K src c.
+pub exists_planned : {T E : Type 0} (r : Result T E) (sources : Sources) (trees : List VariableTree) (f g : Form) (v own : Identifier) (s : Sort) (old mid new : Draft) → f ≡ exists v s g → own ≡ v → ((M : Structure) (K : ℕ) → AreSources M sources → AreInner trees g → CanPlan M K g → Extends M K (plan_of g) old mid)
+    → OnOk r ((M : Structure) (K : ℕ) → Extends M K (drop_of own s) mid new) → Planned r sources trees f old new
+exists_planned (Ok x) sources trees f g v own s old mid new e same h k = λ M K src known c.
     let d : CanPlan M K (exists v s g) = subst (CanPlan M K) e c in
     subst (λ y. Extends M K (plan_of y) old new) (sym e) (record {
-      follows = λ planned p. subst (λ n. IsDraft M.relations K new (drop_of n s M (plan_of g M planned))) same ((k M K).follows (plan_of g M planned) ((h M K src (record { core = d.core; divides = d.divides })).follows planned p));
+      follows = λ planned p. subst (λ n. IsDraft M.relations K new (drop_of n s M (plan_of g M planned))) same ((k M K).follows (plan_of g M planned) ((h M K src (subst (AreInner trees) e known) (record { core = d.core; divides = d.divides })).follows planned p));
     })
-exists_planned (Err x) sources f g v own s old mid new e same h k = tt
+exists_planned (Err x) sources trees f g v own s old mid new e same h k = tt
 
-pub as_planned : {T E : Type 0} (r : Result T E) (sources : Sources) (f g : Form) (old new : Draft) → f ≡ g → Planned r sources g old new → Planned r sources f old new
-as_planned r sources f g old new e h = subst (λ y. Planned r sources y old new) (sym e) h
+pub as_planned : {T E : Type 0} (r : Result T E) (sources : Sources) (trees : List VariableTree) (f g : Form) (old new : Draft) → f ≡ g → Planned r sources trees g old new → Planned r sources trees f old new
+as_planned r sources trees f g old new e h = subst (λ y. Planned r sources trees y old new) (sym e) h
 
 -- ---- `or`
 
@@ -85,12 +86,12 @@ take_all_of [] (suc i) h = refl
 take_all_of (x ∷ xs) zero h = absurd (omega arith)
 take_all_of (x ∷ xs) (suc i) h = ap (λ ys. x ∷ ys) (take_all_of xs i (omega arith))
 
-pub some_planned : (sources : Sources) (fs : List Core) (i : ℕ) (left : Option Operand) (old now : Draft) → length fs ≤ i → ((M : Structure) → AreSources M sources → SomeSoFar M (cores_of (take i fs)) old now left)
-    → (M : Structure) (K : ℕ) → AreSources M sources → CanPlan M K (disjunction (cores_of fs)) → Extends M K (plan_of (disjunction (cores_of fs))) old now
-some_planned sources fs i left old now le h M K s c = record {
+pub some_planned : (sources : Sources) (trees : List VariableTree) (fs : List Core) (i : ℕ) (left : Option Operand) (old now : Draft) → length fs ≤ i → (AreInner trees (disjunction (cores_of fs)) → (M : Structure) → AreSources M sources → SomeSoFar M (cores_of (take i fs)) old now left)
+    → (M : Structure) (K : ℕ) → AreSources M sources → AreInner trees (disjunction (cores_of fs)) → CanPlan M K (disjunction (cores_of fs)) → Extends M K (plan_of (disjunction (cores_of fs))) old now
+some_planned sources trees fs i left old now le h M K s known c = record {
   follows = λ planned d.
       let e : take i fs ≡ fs = take_all_of fs i le in
-      (subst (λ xs. SomeSoFar M (cores_of xs) old now left) e (h M s)).follows K planned (record { cores = c.core.1; divide = c.divides }) d;
+      (subst (λ xs. SomeSoFar M (cores_of xs) old now left) e (h known M s)).follows K planned (record { cores = c.core.1; divide = c.divides }) d;
 }
 
 -- ---- `and`
@@ -117,16 +118,16 @@ tests_are_tests (form (implication f g) fs) = tests_are_tests fs
 tests_are_tests (form (exists v s f) fs) = tests_are_tests fs
 tests_are_tests (form (forall v s f) fs) = tests_are_tests fs
 
-pub all_planned : {T E : Type 0} (r : Result T E) (sources : Sources) (fs : List Core) (split : Split) (first second third : Taking) (fourth : Taking) (old a b new : Draft) → ((M : Structure) → AreSources M sources → IsSplitOf M fs split)
+pub all_planned : {T E : Type 0} (r : Result T E) (sources : Sources) (trees : List VariableTree) (fs : List Core) (split : Split) (first second third : Taking) (fourth : Taking) (old a b new : Draft) → ((M : Structure) → AreSources M sources → AreInner trees (conjunction (cores_of fs)) → IsSplitOf M fs split)
     → first.result ≡ None → map variable_of first.variables ≡ [] → first.tests ≡ split.tests → first.settled ≡ false
     → ((M : Structure) → AreSources M sources → TakesEach M (length split.positives.items) fs split.positives.items old a first second)
     → TakesTests (length second.tests) a b second third
-    → OnOk r ((M : Structure) → AreSources M sources → DeniesEach M (length split.negations.items) fs split.negations.items b new third fourth) → Planned r sources (conjunction (cores_of fs)) old new
-all_planned (Err x) sources fs split first second third fourth old a b new is e v t u ps ts ns = tt
-all_planned (Ok x) sources fs split first second third fourth old a b new is e v t u ps ts ns = λ M K src c. record {
+    → OnOk r ((M : Structure) → AreSources M sources → DeniesEach M (length split.negations.items) fs split.negations.items b new third fourth) → Planned r sources trees (conjunction (cores_of fs)) old new
+all_planned (Err x) sources trees fs split first second third fourth old a b new is e v t u ps ts ns = tt
+all_planned (Ok x) sources trees fs split first second third fourth old a b new is e v t u ps ts ns = λ M K src known c. record {
   follows = λ planned d.
       let can : EachCanPlan M K fs = each_can M K fs c.core.1 c.divides in
-      let split_is : IsSplitOf M fs split = is M src in
+      let split_is : IsSplitOf M fs split = is M src known in
       let s0 : State = record { steps = planned; taken = nothing_taken; positives = ranked M (positives_in (cores_of fs)); tests = tests_in (cores_of fs); negations = negations_in (cores_of fs) } in
       let at : IsAt M K fs old split.positives.items split.negations.items first s0 = record {
         made = d;

@@ -1,22 +1,15 @@
--- A stable sort by rank is the ranking of the rules, and the texts of a sort in order.
-use Rattle.std.proofs.Common.{◌≡◌, ◌<◌, ◌≤◌, ℕ, suc, Bool, true, false, cond, not, ◌&&◌, nat_le, nat_lt, ◌==◌, ◌^◌, take, List, [], ◌∷◌, ◌++◌, length, Option, Some, None, filter, Result, Ok, Err, refl, sym, ap, subst, ◌∙◌, arith}
+-- A stable sort by rank is the ranking of the rules.
+use Rattle.std.proofs.Common.{◌≡◌, ◌<◌, ◌≤◌, ℕ, suc, Bool, true, false, cond, not, ◌&&◌, nat_le, nat_lt, ◌==◌, ◌^◌, take, List, [], ◌∷◌, length, Option, Some, None, filter, refl, sym, ap, subst, ◌∙◌, arith}
 use Rattle.std.specs.List.{AllZip, AllByRecursion}
 use Rattle.std.specs.List.Sorted.{IsNonDecreasingBy, ties}
 use Rattle.std.specs.Ordering.{is_lt, nat_cmp}
 use Rattle.std.specs.declared.cmp.Ordering.TheVariants.{Less, Equal, Greater}
 use Rattle.std.proofs.lemmas.List.Elements.{recursion_from_All}
-use Rattle.std.specs.Result.{IfOk}
 use Rattle.std.proofs.lemmas.Bool.{ltb-true, ltb-false, leb-true, leb-false}
 use Rattle.lrp_core.specs.declared.core_forms.Core.{Core}
-use Rattle.lrp_model.specs.Texts.{Text, in_order}
 use Rattle.lrp_model.specs.Satisfaction.{Structure}
-use Rattle.lrp_model.specs.Domains.{database_texts}
 use Rattle.lrp_model.specs.Conjunctions.{Element as PlanElement, fewer, put_ranked, ranked}
-use Rattle.lrp_model.specs.declared.relations.Sort.{Sort}
-use Rattle.lrp_rel.specs.Once.{once, texts_with}
 use Rattle.lrp_plan.specs.declared.elements.Element.{Element}
-use Rattle.lrp_plan.specs.declared.sources.Sources.{Sources}
-use Rattle.lrp_plan.specs.Sources.{AreSources}
 use Rattle.lrp_plan.specs.Splits.{IsRank, IsRanked, IsParts}
 use Rattle.lrp_plan.specs.Elements.{IsElement, IsDenied, IsSplitOf}
 use Rattle.lrp_plan.specs.declared.elements.Split.{Split}
@@ -24,11 +17,6 @@ use Rattle.lrp_plan.specs.declared.splits.Parts.{Parts}
 use Rattle.lrp_plan.proofs.Planned.{take_all_of}
 use Rattle.lrp_core.specs.Cores.{cores_of}
 use Rattle.lrp_model.specs.Plans.{positives_in, negations_in}
-use Rattle.lrp_plan.proofs.Texts.{same_texts}
-
-pub texts_ordered : {E : Type 0} (r : Result (List Text) E) (sources : Sources) (s : Sort) (all : List Text) → all ≡ once (texts_with s (database_texts sources.database.now)) ++ texts_with s sources.texts.items → IfOk r (λ made. made ≡ in_order all) → IfOk r (λ made. (M : Structure) → AreSources M sources → made ≡ M.domain s)
-texts_ordered (Ok made) sources s all e h = λ M src. h ∙ ap in_order e ∙ same_texts s (database_texts sources.database.now) sources.texts.items ∙ sym (src.texts_are s)
-texts_ordered (Err x) sources s all e h = tt
 
 -- ---- tests of numbers
 

@@ -8,7 +8,7 @@ use Rattle.lrp_core.specs.FreeVariables.{variable_of}
 use Rattle.lrp_model.specs.Variables.{free}
 use Rattle.lrp_core.specs.declared.core_forms.Core.{Core}
 use Rattle.lrp_core.proofs.CoreViews.{cores_of-append}
-use Rattle.lrp_model.specs.Texts.{Text, Identifier}
+use Rattle.lrp_model.specs.Texts.{Identifier}
 use Rattle.lrp_model.specs.Formulas.{Form, Forms, atom, test, sorted, negation, conjunction, disjunction, implication, exists, forall, no_forms, form, joined}
 use Rattle.lrp_model.specs.Rows.{rows_of}
 use Rattle.lrp_model.specs.Satisfaction.{Structure}
@@ -26,6 +26,16 @@ use Rattle.lrp_plan.specs.Taking.{HaveSame}
 use Rattle.lrp_plan.specs.Elements.{IsDenied}
 use Rattle.lrp_plan.specs.Sources.{AreSources}
 use Rattle.lrp_plan.specs.Splits.{IsRank, IsRanked, IsParts, SortsOut, AddsPositive, AddsNegation}
+use Rattle.lrp_core.specs.FreeVariables.{each_once}
+use Rattle.lrp_core.specs.VariableTrees.{tree, tree_of, trees_of, free_tree}
+use Rattle.lrp_core.specs.declared.variable_trees.VariableTree.{VariableTree}
+use Rattle.lrp_core.proofs.TreeViews.{tree_variables, tree_inner}
+use Rattle.lrp_core.proofs.VariableLists.{is_among-each_once}
+use Rattle.lrp_model.specs.Variables.{Variable, is_among}
+
+-- each variable once has the same members
+same_as_once : (vs ws : List Variable) → vs ≡ each_once ws → HaveSame vs ws
+same_as_once vs ws e = record { each = λ v. ap (λ x. is_among x v) e ∙ is_among-each_once ws v }
 
 zip_join : {A B : Type 0} (R : A → B → Type 0) (xs us : List A) (ys vs : List B) → AllZip R xs ys → AllZip R us vs → AllZip R (xs ++ us) (ys ++ vs)
 zip_join R [] us [] vs h k = k
@@ -80,14 +90,15 @@ parts_push M fs gs core f old new ps ns e h p pz t n nz =
     })
 
 -- a positive
-sorts_positive : (M : Structure) (index : ℕ) (core : Core) (f : Form) (rank : ℕ) (rows : Structure → Option ℕ) (old new : Parts) → core_of core ≡ f → positives_in (form f no_forms) ≡ record { formula = f; rule = plan_of f; rows = rows } ∷ [] → tests_in (form f no_forms) ≡ [] → negations_in (form f no_forms) ≡ []
-    → IsRank (rows M) rank → AddsPositive index (core_of core) rank old new → SortsOut M index core old new
-sorts_positive M index core f rank rows old new e p t n r a = record {
-  next = λ fs gs stands h.
+sorts_positive : (M : Structure) (index : ℕ) (core : Core) (own : VariableTree) (f : Form) (rank : ℕ) (rows : Structure → Option ℕ) (old new : Parts) → core_of core ≡ f → positives_in (form f no_forms) ≡ record { formula = f; rule = plan_of f; rows = rows } ∷ [] → tests_in (form f no_forms) ≡ [] → negations_in (form f no_forms) ≡ []
+    → IsRank (rows M) rank → AddsPositive index own rank old new → SortsOut M index core own old new
+sorts_positive M index core own f rank rows old new e p t n r a = record {
+  next = λ fs gs stands is h.
+      let parts : tree (map variable_of a.added.variables) (trees_of a.added.inner.items) ≡ free_tree f = sym a.variables ∙ is ∙ ap free_tree e in
       parts_push M fs gs core f old new (a.added ∷ []) [] e h a.items
       (subst (AllZip (IsRanked M fs) (a.added ∷ [])) (sym p) (
         record {
-          element = record { core = core; stands = subst (λ i. slice_get fs i ≡ Some core) (sym a.place) stands; formula = sym e; rule = refl; variables = subst (HaveSame (map variable_of a.added.variables)) (ap free e) a.variables };
+          element = record { core = core; stands = subst (λ i. slice_get fs i ≡ Some core) (sym a.place) stands; formula = sym e; rule = refl; variables = same_as_once _ (free f) (tree_variables _ _ _ _ parts); inner = tree_inner _ _ _ _ parts };
           ranks = subst (IsRank (rows M)) (sym a.ranked_as) r;
         },
         tt,
@@ -97,32 +108,32 @@ sorts_positive M index core f rank rows old new e p t n r a = record {
       (subst (AllZip (IsDenied fs) []) (sym n) tt);
 }
 
-pub atom_sorted : {T E : Type 0} (r : Result T E) (sources : Sources) (index : ℕ) (core : Core) (name : Identifier) (terms : List Term) (facts : Facts) (rank : ℕ) (old new : Parts) → core_of core ≡ atom name terms → ((M : Structure) → AreSources M sources → AreFacts (rows_of M.relations name) facts) → rank ≡ facts.rows → facts.rows < 2 ^ 64
-    → OnOk r (AddsPositive index (core_of core) rank old new) → OnOk r ((M : Structure) → AreSources M sources → SortsOut M index core old new)
-atom_sorted (Ok x) sources index core name terms facts rank old new e h k lt a = λ M s.
-    sorts_positive M index core (atom name terms) rank (λ N. Some (length (rows_of N.relations name))) old new e refl refl refl (let n : facts.rows ≡ length (rows_of M.relations name) = (h M s).rows in (k ∙ n, omega arith)) a
-atom_sorted (Err x) sources index core name terms facts rank old new e h k lt a = tt
+pub atom_sorted : {T E : Type 0} (r : Result T E) (sources : Sources) (index : ℕ) (core : Core) (own : VariableTree) (name : Identifier) (terms : List Term) (facts : Facts) (rank : ℕ) (old new : Parts) → core_of core ≡ atom name terms → ((M : Structure) → AreSources M sources → AreFacts (rows_of M.relations name) facts) → rank ≡ facts.rows → facts.rows < 2 ^ 64
+    → OnOk r (AddsPositive index own rank old new) → OnOk r ((M : Structure) → AreSources M sources → SortsOut M index core own old new)
+atom_sorted (Ok x) sources index core own name terms facts rank old new e h k lt a = λ M s.
+    sorts_positive M index core own (atom name terms) rank (λ N. Some (length (rows_of N.relations name))) old new e refl refl refl (let n : facts.rows ≡ length (rows_of M.relations name) = (h M s).rows in (k ∙ n, omega arith)) a
+atom_sorted (Err x) sources index core own name terms facts rank old new e h k lt a = tt
 
-pub sort_sorted : {T E : Type 0} (r : Result T E) (sources : Sources) (index : ℕ) (core : Core) (s : Sort) (v : Identifier) (texts : List Text) (rank : ℕ) (old new : Parts) → core_of core ≡ sorted s v → ((M : Structure) → AreSources M sources → texts ≡ M.domain s) → rank ≡ length texts → length texts < 2 ^ 64
-    → OnOk r (AddsPositive index (core_of core) rank old new) → OnOk r ((M : Structure) → AreSources M sources → SortsOut M index core old new)
-sort_sorted (Ok x) sources index core s v texts rank old new e h k lt a = λ M src.
-    sorts_positive M index core (sorted s v) rank (λ N. Some (length (N.domain s))) old new e refl refl refl (let n : length texts ≡ length (M.domain s) = ap length (h M src) in (k ∙ n, omega arith)) a
-sort_sorted (Err x) sources index core s v texts rank old new e h k lt a = tt
+pub sort_sorted : {T E : Type 0} (r : Result T E) (sources : Sources) (index : ℕ) (core : Core) (own : VariableTree) (s : Sort) (v : Identifier) (count rank : ℕ) (old new : Parts) → core_of core ≡ sorted s v → ((M : Structure) → AreSources M sources → count ≡ length (M.domain s)) → rank ≡ count → count < 2 ^ 64
+    → OnOk r (AddsPositive index own rank old new) → OnOk r ((M : Structure) → AreSources M sources → SortsOut M index core own old new)
+sort_sorted (Ok x) sources index core own s v count rank old new e h k lt a = λ M src.
+    sorts_positive M index core own (sorted s v) rank (λ N. Some (length (N.domain s))) old new e refl refl refl (let n : count ≡ length (M.domain s) = h M src in (k ∙ n, omega arith)) a
+sort_sorted (Err x) sources index core own s v count rank old new e h k lt a = tt
 
-pub other_sorted : {T E : Type 0} (r : Result T E) (sources : Sources) (index : ℕ) (core : Core) (f : Form) (rank : ℕ) (old new : Parts) → core_of core ≡ f → positives_in (form f no_forms) ≡ record { formula = f; rule = plan_of f; rows = λ M. None } ∷ [] → tests_in (form f no_forms) ≡ [] → negations_in (form f no_forms) ≡ [] → rank ≡ 2 ^ 64
-    → OnOk r (AddsPositive index (core_of core) rank old new) → OnOk r ((M : Structure) → AreSources M sources → SortsOut M index core old new)
-other_sorted (Ok x) sources index core f rank old new e p t n k a = λ M s. sorts_positive M index core f rank (λ N. None) old new e p t n k a
-other_sorted (Err x) sources index core f rank old new e p t n k a = tt
+pub other_sorted : {T E : Type 0} (r : Result T E) (sources : Sources) (index : ℕ) (core : Core) (own : VariableTree) (f : Form) (rank : ℕ) (old new : Parts) → core_of core ≡ f → positives_in (form f no_forms) ≡ record { formula = f; rule = plan_of f; rows = λ M. None } ∷ [] → tests_in (form f no_forms) ≡ [] → negations_in (form f no_forms) ≡ [] → rank ≡ 2 ^ 64
+    → OnOk r (AddsPositive index own rank old new) → OnOk r ((M : Structure) → AreSources M sources → SortsOut M index core own old new)
+other_sorted (Ok x) sources index core own f rank old new e p t n k a = λ M s. sorts_positive M index core own f rank (λ N. None) old new e p t n k a
+other_sorted (Err x) sources index core own f rank old new e p t n k a = tt
 
 -- an `in`, which is a test of the program and a positive
 pub in_is : (t : Test) → is_test t ≡ false → (positives_in (form (test t) no_forms) ≡ record { formula = test t; rule = plan_of (test t); rows = λ M. None } ∷ []) × (tests_in (form (test t) no_forms) ≡ [])
 in_is t e = (ap (λ b. cond b [] (record { formula = test t; rule = plan_of (test t); rows = λ M. None } ∷ []) ++ []) e, ap (λ b. cond b (t ∷ []) []) e)
 
 -- a test
-pub test_sorted : (sources : Sources) (index : ℕ) (core : Core) (t own : Test) (old new : Parts) → core_of core ≡ test t → own ≡ t → is_test t ≡ true → new.positives.items ≡ old.positives.items → new.tests ≡ old.tests ++ own ∷ [] → new.negations.items ≡ old.negations.items
-    → (M : Structure) → AreSources M sources → SortsOut M index core old new
-test_sorted sources index core t own old new e same is p g n M s = record {
-  next = λ fs gs stands h.
+pub test_sorted : (sources : Sources) (index : ℕ) (core : Core) (of : VariableTree) (t own : Test) (old new : Parts) → core_of core ≡ test t → own ≡ t → is_test t ≡ true → new.positives.items ≡ old.positives.items → new.tests ≡ old.tests ++ own ∷ [] → new.negations.items ≡ old.negations.items
+    → (M : Structure) → AreSources M sources → SortsOut M index core of old new
+test_sorted sources index core of t own old new e same is p g n M s = record {
+  next = λ fs gs stands known h.
       parts_push M fs gs core (test t) old new [] [] e h (p ∙ sym (append-nil old.positives.items))
       (subst (AllZip (IsRanked M fs) []) (sym (ap (λ b. cond b [] (record { formula = test t; rule = plan_of (test t); rows = λ N. None } ∷ []) ++ []) is)) tt)
       (g ∙ ap (λ u. old.tests ++ u ∷ []) same ∙ ap (λ ts. old.tests ++ ts) (sym (ap (λ b. cond b (t ∷ []) []) is)))
@@ -130,14 +141,15 @@ test_sorted sources index core t own old new e same is p g n M s = record {
 }
 
 -- a negation
-pub negation_sorted : {T E : Type 0} (r : Result T E) (sources : Sources) (index : ℕ) (core inner : Core) (old new : Parts) → core_of core ≡ negation (core_of inner) → OnOk r (AddsNegation index (core_of inner) old new) → OnOk r ((M : Structure) → AreSources M sources → SortsOut M index core old new)
-negation_sorted (Ok x) sources index core inner old new e a = λ M s. record {
-  next = λ fs gs stands h.
+pub negation_sorted : {T E : Type 0} (r : Result T E) (sources : Sources) (index : ℕ) (core inner : Core) (own : VariableTree) (old new : Parts) → core_of core ≡ negation (core_of inner) → OnOk r (AddsNegation index own old new) → OnOk r ((M : Structure) → AreSources M sources → SortsOut M index core own old new)
+negation_sorted (Ok x) sources index core inner own old new e a = λ M s. record {
+  next = λ fs gs stands is h.
+      let parts : tree (map variable_of a.added.variables) (trees_of a.added.inner.items) ≡ free_tree (core_of inner) = sym a.variables ∙ is ∙ ap free_tree e in
       parts_push M fs gs core (negation (core_of inner)) old new [] (a.added ∷ []) e h (a.positives_stay ∙ sym (append-nil old.positives.items)) tt
       (a.tests_stay ∙ sym (append-nil old.tests)) a.items
-      (record { core = core; stands = subst (λ i. slice_get fs i ≡ Some core) (sym a.place) stands; formula = e; rule = refl; variables = a.variables }, tt);
+      (record { core = core; stands = subst (λ i. slice_get fs i ≡ Some core) (sym a.place) stands; formula = e; rule = refl; variables = same_as_once _ (free (core_of inner)) (tree_variables _ _ _ _ parts); inner = tree_inner _ _ _ _ parts }, tt);
 }
-negation_sorted (Err x) sources index core inner old new e a = tt
+negation_sorted (Err x) sources index core inner own old new e a = tt
 
 -- ---- the loop
 
@@ -146,6 +158,6 @@ get_from [] i x lt e = absurd (omega arith)
 get_from (y ∷ xs) zero x lt e = ap Some (sym e)
 get_from (y ∷ xs) (suc i) x lt e = get_from xs i x (omega arith) e
 
-pub sorted_more : (M : Structure) (fs : List Core) (i : ℕ) (core : Core) (old new : Parts) → i < length fs → core ≡ get_or fs i core → IsParts M fs (cores_of (take i fs)) old → SortsOut M i core old new → IsParts M fs (cores_of (take (i + 1) fs)) new
-sorted_more M fs i core old new lt is h s =
-    subst (λ gs. IsParts M fs gs new) (sym (ap cores_of (take_more fs i core lt ∙ ap (λ x. take i fs ++ x ∷ []) (sym is)) ∙ cores_of-append (take i fs) (core ∷ []))) (s.next fs (cores_of (take i fs)) (get_from fs i core lt is) h)
+pub sorted_more : (M : Structure) (fs : List Core) (i : ℕ) (core : Core) (own : VariableTree) (old new : Parts) → i < length fs → core ≡ get_or fs i core → tree_of own ≡ free_tree (core_of core) → IsParts M fs (cores_of (take i fs)) old → SortsOut M i core own old new → IsParts M fs (cores_of (take (i + 1) fs)) new
+sorted_more M fs i core own old new lt is known h s =
+    subst (λ gs. IsParts M fs gs new) (sym (ap cores_of (take_more fs i core lt ∙ ap (λ x. take i fs ++ x ∷ []) (sym is)) ∙ cores_of-append (take i fs) (core ∷ []))) (s.next fs (cores_of (take i fs)) (get_from fs i core lt is) known h)

@@ -21,7 +21,7 @@ use Rattle.lrp_plan.specs.declared.drafts.Draft.{Draft}
 use Rattle.lrp_plan.specs.declared.taking.Taking.{Taking}
 use Rattle.lrp_plan.specs.Drafts.{IsDraft, Extends, AreTests}
 use Rattle.lrp_plan.specs.Taking.{AreUncovered, HaveSame, NextTest, IsResult, IsTaking, IsIn, TakesIn, TakesTest, TakesOff}
-use Rattle.lrp_plan.specs.Elements.{TakesAt, IsElement, IsDenied, IsAt, CanPlan, EachCanPlan, TakesPositives, TakesTests, TakesNegations, TurnsPositive, TurnsTest, TurnsNegation}
+use Rattle.lrp_plan.specs.Elements.{AreInner, TakesAt, IsElement, IsDenied, IsAt, CanPlan, EachCanPlan, TakesPositives, TakesTests, TakesNegations, TurnsPositive, TurnsTest, TurnsNegation}
 use Rattle.lrp_plan.proofs.Members.{are_among_same, meet_same}
 use Rattle.lrp_plan.proofs.Takes.{taking_grows}
 
@@ -78,7 +78,7 @@ some_is M K steps (Some o) taken h = sym h.0
 
 pub positive_turn : (M : Structure) (K : ℕ) (fs : List Core) (draft mid after : Draft) (ps qs ns : List Element) (e : Element) (old new : Taking) (s : State) (i : ℕ) → IsAt M K fs draft ps ns old s → EachCanPlan M K fs
     → i ≡ first_or_0 (λ x. meet (map variable_of x.variables) (map variable_of old.variables)) ps → slice_get ps i ≡ Some e → qs ≡ remove ps i
-    → ((core : Core) → slice_get fs e.index ≡ Some core → Extends M K (plan_of (core_of core)) draft mid) → TakesIn (map variable_of e.variables) old new mid after
+    → ((core : Core) → slice_get fs e.index ≡ Some core → AreInner e.inner.items (core_of core) → Extends M K (plan_of (core_of core)) draft mid) → TakesIn (map variable_of e.variables) old new mid after
     → IsAt M K fs after qs ns new (take_positive M (next_positive s) (slice_get s.positives (next_positive s)) s)
 positive_turn M K fs draft mid after ps qs ns e old new s i at can first there left plans takes =
     let agree : (x : Element) (p : PlanElement) → IsElement fs x p → meet (map variable_of x.variables) (map variable_of old.variables) ≡ meet (free p.formula) s.taken.variables = λ x p h. meet_same _ _ _ _ h.variables at.took.variables in
@@ -89,7 +89,7 @@ positive_turn M K fs draft mid after ps qs ns e old new s i at can first there l
     let c : CanPlan M K (core_of el.core) = got (λ x. CanPlan M K (core_of x)) fs e.index el.core can el.stands in
     let core : IsCore p.formula = subst IsCore (sym el.formula) c.core in
     let m : Makes M s.steps (plan_of p.formula M s.steps) (Satisfies p.formula M) = makes p.formula core M s.steps in
-    let d1 : IsDraft M.relations K mid (plan_of (core_of el.core) M s.steps) = (plans el.core el.stands).follows s.steps at.made in
+    let d1 : IsDraft M.relations K mid (plan_of (core_of el.core) M s.steps) = (plans el.core el.stands (subst (AreInner e.inner.items) el.formula el.inner)).follows s.steps at.made in
     let d2 : IsDraft M.relations K mid (p.rule M s.steps) = subst (λ r. IsDraft M.relations K mid (r M s.steps)) (sym el.rule) (subst (λ f. IsDraft M.relations K mid (plan_of f M s.steps)) (sym el.formula) d1) in
     let grown : p.rule M s.steps ≡ s.steps ++ m.more = ap (λ (r : Rule). r M s.steps) el.rule ∙ m.is in
     let t : IsTaking M.relations K (p.rule M s.steps) old s.taken s.tests = subst (λ st. IsTaking M.relations K st old s.taken s.tests) (sym grown) (taking_grows M.relations K s.steps m.more old s.taken s.tests at.took) in
@@ -106,7 +106,7 @@ positive_turn M K fs draft mid after ps qs ns e old new s i at can first there l
 
 pub negation_turn : (M : Structure) (K : ℕ) (fs : List Core) (draft mid after : Draft) (ps qs ns : List Element) (e : Element) (some : Bool) (old new : Taking) (s : State) (i : ℕ) → IsAt M K fs draft ps ns old s → EachCanPlan M K fs → some ≡ is_some old.result
     → i ≡ first_or_0 (λ x. some && are_among (map variable_of x.variables) (map variable_of old.variables)) ns → slice_get ns i ≡ Some e → qs ≡ remove ns i
-    → ((core : Core) (f : Form) → slice_get fs e.index ≡ Some core → core_of core ≡ negation f → Extends M K (plan_of f) draft mid) → TakesOff (map variable_of e.variables) old new mid after
+    → ((core : Core) (f : Form) → slice_get fs e.index ≡ Some core → core_of core ≡ negation f → AreInner e.inner.items f → Extends M K (plan_of f) draft mid) → TakesOff (map variable_of e.variables) old new mid after
     → IsAt M K fs after ps qs new (take_negation M (next_negation s) (slice_get s.negations (next_negation s)) s)
 negation_turn M K fs draft mid after ps qs ns e some old new s i at can so first there left plans takes =
     let same : some ≡ s.taken.some = so ∙ some_is M K s.steps old.result s.taken at.took.result in
@@ -119,7 +119,7 @@ negation_turn M K fs draft mid after ps qs ns e some old new s i at can so first
     let c : CanPlan M K (core_of el.core) = got (λ x. CanPlan M K (core_of x)) fs e.index el.core can el.stands in
     let core : IsCore (negation p.formula) = subst IsCore el.formula c.core in
     let m : Makes M s.steps (plan_of p.formula M s.steps) (Satisfies p.formula M) = makes p.formula core M s.steps in
-    let d2 : IsDraft M.relations K mid (p.rule M s.steps) = subst (λ r. IsDraft M.relations K mid (r M s.steps)) (sym el.rule) ((plans el.core p.formula el.stands el.formula).follows s.steps at.made) in
+    let d2 : IsDraft M.relations K mid (p.rule M s.steps) = subst (λ r. IsDraft M.relations K mid (r M s.steps)) (sym el.rule) ((plans el.core p.formula el.stands el.formula el.inner).follows s.steps at.made) in
     let grown : p.rule M s.steps ≡ s.steps ++ m.more = ap (λ (r : Rule). r M s.steps) el.rule ∙ m.is in
     let t : IsTaking M.relations K (p.rule M s.steps) old s.taken s.tests = subst (λ st. IsTaking M.relations K st old s.taken s.tests) (sym grown) (taking_grows M.relations K s.steps m.more old s.taken s.tests at.took) in
     let r = takes.follows M K p.formula (p.rule M s.steps) s.taken s.tests el.variables d2 t in
@@ -170,13 +170,13 @@ add_one : (n : ℕ) → n + 1 ≡ suc n
 add_one n = omega arith
 
 pub positives_more : (M : Structure) (turns : ℕ) (fs : List Core) (ps qs rs : List Element) (before mid last after : Draft) (e : Element) (old now new : Taking) → TakesPositives M turns fs ps qs before mid old now
-    → TakesAt (first_or_0 (λ x. meet (map variable_of x.variables) (map variable_of now.variables)) qs) qs rs (Some e) → ((K : ℕ) (core : Core) → slice_get fs e.index ≡ Some core → CanPlan M K (core_of core) → Extends M K (plan_of (core_of core)) mid last) → TakesIn (map variable_of e.variables) now new last after
+    → TakesAt (first_or_0 (λ x. meet (map variable_of x.variables) (map variable_of now.variables)) qs) qs rs (Some e) → ((K : ℕ) (core : Core) → slice_get fs e.index ≡ Some core → AreInner e.inner.items (core_of core) → CanPlan M K (core_of core) → Extends M K (plan_of (core_of core)) mid last) → TakesIn (map variable_of e.variables) now new last after
     → TakesPositives M (turns + 1) fs ps rs before after old new
 positives_more M turns fs ps qs rs before mid last after e old now new h t plans takes = record {
   follows = λ K ns s can at.
       let st : State = take_positives turns M s in
       subst (λ n. IsAt M K fs after rs ns new (take_positives n M s)) (sym (add_one turns)) (subst (IsAt M K fs after rs ns new) (sym (more_positives turns M s))
-      (positive_turn M K fs mid last after qs rs ns e now new st _ (h.follows K ns s can at) can refl t.0 t.1 (λ core is. plans K core is (got (λ x. CanPlan M K (core_of x)) fs e.index core can is)) takes));
+      (positive_turn M K fs mid last after qs rs ns e now new st _ (h.follows K ns s can at) can refl t.0 t.1 (λ core is inner. plans K core is inner (got (λ x. CanPlan M K (core_of x)) fs e.index core can is)) takes));
 }
 
 pub positives_idle : (M : Structure) (turns : ℕ) (fs : List Core) (ps qs rs : List Element) (before mid : Draft) (old now : Taking) (i : ℕ) → TakesPositives M turns fs ps qs before mid old now → TakesAt i qs rs None → TakesPositives M (turns + 1) fs ps rs before mid old now
@@ -186,14 +186,14 @@ positives_idle M turns fs ps qs rs before mid old now i h t = record {
 }
 
 pub negations_more : (M : Structure) (turns : ℕ) (fs : List Core) (ns qs rs : List Element) (before mid last after : Draft) (e : Element) (some : Bool) (old now new : Taking) → TakesNegations M turns fs ns qs before mid old now → some ≡ is_some now.result
-    → TakesAt (first_or_0 (λ x. some && are_among (map variable_of x.variables) (map variable_of now.variables)) qs) qs rs (Some e) → ((K : ℕ) (core : Core) (f : Form) → slice_get fs e.index ≡ Some core → core_of core ≡ negation f → CanPlan M K f → Extends M K (plan_of f) mid last) → TakesOff (map variable_of e.variables) now new last after
+    → TakesAt (first_or_0 (λ x. some && are_among (map variable_of x.variables) (map variable_of now.variables)) qs) qs rs (Some e) → ((K : ℕ) (core : Core) (f : Form) → slice_get fs e.index ≡ Some core → core_of core ≡ negation f → AreInner e.inner.items f → CanPlan M K f → Extends M K (plan_of f) mid last) → TakesOff (map variable_of e.variables) now new last after
     → TakesNegations M (turns + 1) fs ns rs before after old new
 negations_more M turns fs ns qs rs before mid last after e some old now new h so t plans takes = record {
   follows = λ K ps s can at.
       let st : State = take_negations turns M s in
       subst (λ n. IsAt M K fs after ps rs new (take_negations n M s)) (sym (add_one turns)) (subst (IsAt M K fs after ps rs new) (sym (more_negations turns M s))
       (negation_turn M K fs mid last after ps rs qs e some now new st _ (h.follows K ps s can at) can so refl t.0 t.1
-      (λ core f is denies. plans K core f is denies (let c : CanPlan M K (core_of core) = got (λ x. CanPlan M K (core_of x)) fs e.index core can is in let d : CanPlan M K (negation f) = subst (CanPlan M K) denies c in record { core = d.core; divides = d.divides })) takes));
+      (λ core f is denies inner. plans K core f is denies inner (let c : CanPlan M K (core_of core) = got (λ x. CanPlan M K (core_of x)) fs e.index core can is in let d : CanPlan M K (negation f) = subst (CanPlan M K) denies c in record { core = d.core; divides = d.divides })) takes));
 }
 
 pub negations_idle : (M : Structure) (turns : ℕ) (fs : List Core) (ns qs rs : List Element) (before mid : Draft) (old now : Taking) (i : ℕ) → TakesNegations M turns fs ns qs before mid old now → TakesAt i qs rs None → TakesNegations M (turns + 1) fs ns rs before mid old now
@@ -229,14 +229,14 @@ tests_more turns before mid after t old now next new h n takes = record {
 -- ---- single turns, and none
 
 pub turns_positive : (M : Structure) (fs : List Core) (qs rs : List Element) (mid last after : Draft) (e : Element) (now new : Taking) → TakesAt (first_or_0 (λ x. meet (map variable_of x.variables) (map variable_of now.variables)) qs) qs rs (Some e)
-    → ((K : ℕ) (core : Core) → slice_get fs e.index ≡ Some core → CanPlan M K (core_of core) → Extends M K (plan_of (core_of core)) mid last) → TakesIn (map variable_of e.variables) now new last after → TurnsPositive M fs qs rs mid after now new
+    → ((K : ℕ) (core : Core) → slice_get fs e.index ≡ Some core → AreInner e.inner.items (core_of core) → CanPlan M K (core_of core) → Extends M K (plan_of (core_of core)) mid last) → TakesIn (map variable_of e.variables) now new last after → TurnsPositive M fs qs rs mid after now new
 turns_positive M fs qs rs mid last after e now new t plans takes = record { next = λ turns ps before old h. positives_more M turns fs ps qs rs before mid last after e old now new h t plans takes }
 
 pub idles_positive : (M : Structure) (fs : List Core) (qs rs : List Element) (mid : Draft) (now : Taking) (i : ℕ) → TakesAt i qs rs None → TurnsPositive M fs qs rs mid mid now now
 idles_positive M fs qs rs mid now i t = record { next = λ turns ps before old h. positives_idle M turns fs ps qs rs before mid old now i h t }
 
 pub turns_negation : (M : Structure) (fs : List Core) (qs rs : List Element) (mid last after : Draft) (e : Element) (some : Bool) (now new : Taking) → some ≡ is_some now.result → TakesAt (first_or_0 (λ x. some && are_among (map variable_of x.variables) (map variable_of now.variables)) qs) qs rs (Some e)
-    → ((K : ℕ) (core : Core) (f : Form) → slice_get fs e.index ≡ Some core → core_of core ≡ negation f → CanPlan M K f → Extends M K (plan_of f) mid last) → TakesOff (map variable_of e.variables) now new last after → TurnsNegation M fs qs rs mid after now new
+    → ((K : ℕ) (core : Core) (f : Form) → slice_get fs e.index ≡ Some core → core_of core ≡ negation f → AreInner e.inner.items f → CanPlan M K f → Extends M K (plan_of f) mid last) → TakesOff (map variable_of e.variables) now new last after → TurnsNegation M fs qs rs mid after now new
 turns_negation M fs qs rs mid last after e some now new so t plans takes = record { next = λ turns ns before old h. negations_more M turns fs ns qs rs before mid last after e some old now new h so t plans takes }
 
 pub idles_negation : (M : Structure) (fs : List Core) (qs rs : List Element) (mid : Draft) (now : Taking) (i : ℕ) → TakesAt i qs rs None → TurnsNegation M fs qs rs mid mid now now

@@ -39,6 +39,7 @@ use Rattle.lrp_model.specs.declared.plans.Plan.{Plan}
 use Rattle.lrp_plan.specs.declared.periods.Period.{Period}
 use Rattle.lrp_plan.specs.declared.planning.PlanFault.{PlanFault}
 use Rattle.lrp_plan.specs.declared.planning.PlanFault.TheVariants.{PeriodLimit, BoundLimit, Memory}
+use Rattle.lrp_plan.specs.Domains.{AreDomains}
 use Rattle.lrp_plan.specs.Planning.{IsWholeDraft, AreGathered, IsOutcome}
 use Rattle.lrp_plan.specs.Sources.{AreFactsOf, AreSources}
 use Rattle.lrp_plan.proofs.Finished.{finished}
@@ -47,8 +48,8 @@ use Rattle.lrp_plan.proofs.Keeping.{least_is, least_of_none}
 -- ---- what is read
 
 -- the texts of the database and of the query are all texts, and so those of each sort
-pub sources_are : (db : List Relation) (q : Question) (sources : Sources) → ((name : Identifier) → AreFactsOf (rows_of db name) (get bytes_eq sources.facts name)) → database_texts sources.database.now ++ sources.texts.items ≡ all_texts db q → AreSources (structure db q) sources
-sources_are db q sources h e = record { facts_are = h; texts_are = λ s. ap (λ xs. in_order (texts_with s xs)) (sym e) }
+pub sources_are : (db : List Relation) (q : Question) (sources : Sources) → ((name : Identifier) → AreFactsOf (rows_of db name) (get bytes_eq sources.facts name)) → AreDomains (database_texts sources.database.now) sources.texts.items sources.domains → database_texts sources.database.now ++ sources.texts.items ≡ all_texts db q → AreSources (structure db q) sources
+sources_are db q sources h d e = record { facts_are = h; domains_are = d; texts_are = λ s. ap (λ xs. in_order (texts_with s xs)) (sym e) }
 
 -- texts of two lists of entries
 among_both : (xs ys : List (Sort × Text)) → texts_among (xs ++ ys) ≡ texts_among xs ++ texts_among ys

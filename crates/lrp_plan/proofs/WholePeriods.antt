@@ -1,5 +1,5 @@
 -- The periods that a core form names, one part after the other.
-use Rattle.std.proofs.Common.{◌≡◌, ◌<◌, ◌+◌, ℕ, List, [], ◌∷◌, ◌++◌, length, take, get_or, Option, Some, None, option_map, sym, ap, subst, ◌∙◌, append_assoc, append-nil, flat_map}
+use Rattle.std.proofs.Common.{◌≡◌, ◌<◌, ◌≤◌, ◌+◌, ℕ, List, [], ◌∷◌, ◌++◌, length, take, get_or, Option, Some, None, option_map, sym, ap, subst, ◌∙◌, append_assoc, append-nil, flat_map}
 use Rattle.std.proofs.lemmas.List.{take_more}
 use Rattle.lrp_core.specs.Cores.{core_of, cores_of}
 use Rattle.lrp_core.specs.declared.core_forms.Core.{Core}
@@ -16,6 +16,7 @@ use Rattle.lrp_plan.specs.declared.sources.Sources.{Sources}
 use Rattle.lrp_plan.specs.Multiples.{IsLeastOf, IsPeriodOf}
 use Rattle.lrp_plan.specs.Facts.{AreFacts, KeepsPeriod, KeepsRows, KeepsFacts, periods_of_row}
 use Rattle.lrp_plan.specs.Sources.{AreSources}
+use Rattle.lrp_plan.proofs.Planned.{take_all_of}
 use Rattle.lrp_plan.proofs.Keeping.{common_both, keeps_more, keeps_as, none_stays, stands_for}
 
 -- the least common multiple of two lists, the second one's being l
@@ -52,3 +53,6 @@ pub each_more : (M : Structure) (fs : List Core) (i : ℕ) (core : Core) (old mi
 each_more M fs i core old mid new lt is h k =
     keeps_as _ _ old new (sym (ap (λ gs. periods_each gs M.relations) (ap cores_of (take_more fs i core lt ∙ ap (λ x. take i fs ++ x ∷ []) (sym is)) ∙ cores_of-append (take i fs) (core ∷ [])) ∙ each_push (cores_of (take i fs)) (core_of core) M.relations))
     (keeps_more (periods_each (cores_of (take i fs)) M.relations) (periods (core_of core) M.relations) old mid new h k)
+
+pub each_all : (M : Structure) (fs : List Core) (i : ℕ) (old new : Option ℕ) → length fs ≤ i → KeepsPeriod (periods_each (cores_of (take i fs)) M.relations) old new → KeepsPeriod (periods_each (cores_of fs) M.relations) old new
+each_all M fs i old new le h = subst (λ xs. KeepsPeriod (periods_each (cores_of xs) M.relations) old new) (take_all_of fs i le) h

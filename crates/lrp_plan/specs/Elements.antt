@@ -3,7 +3,9 @@ use Rattle.std.specs.Prelude.{◌≡◌, ℕ, ◌+◌, List, [], Option, Some, N
 use Rattle.std.specs.List.{AllZip, AllByRecursion}
 use Rattle.lrp_core.specs.Cores.{core_of, cores_of}
 use Rattle.lrp_core.specs.FreeVariables.{variable_of}
+use Rattle.lrp_core.specs.VariableTrees.{trees_of, inner_trees}
 use Rattle.lrp_core.specs.declared.core_forms.Core.{Core}
+use Rattle.lrp_core.specs.declared.variable_trees.VariableTree.{VariableTree}
 use Rattle.lrp_model.specs.Formulas.{Form, negation}
 use Rattle.lrp_model.specs.Variables.{free}
 use Rattle.lrp_model.specs.Satisfaction.{Structure}
@@ -24,6 +26,10 @@ abbrev pub TakesAt : ℕ → List Element → List Element → Option Element �
 TakesAt i old new None = (old ≡ []) × (new ≡ [])
 TakesAt i old new (Some e) = (slice_get old i ≡ Some e) × (new ≡ remove old i)
 
+-- these are the trees of the elements in a formula
+abbrev pub AreInner : List VariableTree → Form → Type 0
+AreInner ts f = trees_of ts ≡ inner_trees f
+
 -- an element of the list of core forms, with the rule that makes its steps
 pub record IsElement (fs : List Core) (e : Element) (p : PlanElement) : Type 0 where
   pub core : Core
@@ -31,6 +37,7 @@ pub record IsElement (fs : List Core) (e : Element) (p : PlanElement) : Type 0 w
   pub formula : p.formula ≡ core_of core
   pub rule : p.rule ≡ plan_of p.formula
   pub variables : HaveSame (map variable_of e.variables) (free p.formula)
+  pub inner : AreInner e.inner.items p.formula
 
 -- a negation of the list, with the rule that makes the steps of what it denies
 pub record IsDenied (fs : List Core) (e : Element) (p : PlanElement) : Type 0 where
@@ -39,6 +46,7 @@ pub record IsDenied (fs : List Core) (e : Element) (p : PlanElement) : Type 0 wh
   pub formula : core_of core ≡ negation p.formula
   pub rule : p.rule ≡ plan_of p.formula
   pub variables : HaveSame (map variable_of e.variables) (free p.formula)
+  pub inner : AreInner e.inner.items p.formula
 
 -- where the making of an `and` stands
 pub record IsAt (M : Structure) (K : ℕ) (fs : List Core) (draft : Draft) (ps ns : List Element) (taking : Taking) (s : State) : Type 0 where

@@ -5,8 +5,8 @@ pub mod Drafts
 pub mod Taking
 pub mod Elements
 pub mod Waiting
+pub mod Domains
 pub mod Sources
 pub mod Splits
 pub mod Naming
-pub mod Literals
 pub mod Planning

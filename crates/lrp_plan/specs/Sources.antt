@@ -11,6 +11,7 @@ use Rattle.lrp_model.specs.declared.relations.Sort.{Sort}
 use Rattle.lrp_rel.specs.Once.{texts_with}
 use Rattle.lrp_plan.specs.declared.facts.Facts.{Facts}
 use Rattle.lrp_plan.specs.declared.sources.Sources.{Sources}
+use Rattle.lrp_plan.specs.Domains.{AreDomains}
 use Rattle.lrp_plan.specs.Facts.{AreFacts}
 
 -- the facts of rows, or no rows where there are no facts
@@ -18,7 +19,8 @@ abbrev pub AreFactsOf : List Row → Option Facts → Type 0
 AreFactsOf rows (Some facts) = AreFacts rows facts
 AreFactsOf rows None = rows ≡ []
 
--- the relations' facts, and the texts of each sort
+-- the relations' facts, and the texts of each sort, as they are and as they were gathered
 pub record AreSources (M : Structure) (sources : Sources) : Type 0 where
   pub facts_are : (name : Identifier) → AreFactsOf (rows_of M.relations name) (get bytes_eq sources.facts name)
+  pub domains_are : AreDomains (database_texts sources.database.now) sources.texts.items sources.domains
   pub texts_are : (s : Sort) → M.domain s ≡ in_order (texts_with s (database_texts sources.database.now ++ sources.texts.items))

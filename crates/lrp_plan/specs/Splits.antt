@@ -3,15 +3,15 @@ use Rattle.std.specs.Prelude.{◌≡◌, ℕ, ◌<◌, ◌^◌, List, [], ◌∷
 use Rattle.std.specs.List.{AllZip}
 use Rattle.lrp_core.specs.Cores.{core_of}
 use Rattle.lrp_core.specs.FreeVariables.{variable_of}
+use Rattle.lrp_core.specs.VariableTrees.{tree, tree_of, trees_of, free_tree}
 use Rattle.lrp_core.specs.declared.core_forms.Core.{Core}
-use Rattle.lrp_model.specs.Formulas.{Form, Forms, no_forms, form, joined}
-use Rattle.lrp_model.specs.Variables.{free}
+use Rattle.lrp_core.specs.declared.variable_trees.VariableTree.{VariableTree}
+use Rattle.lrp_model.specs.Formulas.{Forms, no_forms, form, joined}
 use Rattle.lrp_model.specs.Satisfaction.{Structure}
 use Rattle.lrp_model.specs.Conjunctions.{Element as PlanElement, tests_in}
 use Rattle.lrp_model.specs.Plans.{positives_in, negations_in}
 use Rattle.lrp_plan.specs.declared.elements.Element.{Element}
 use Rattle.lrp_plan.specs.declared.splits.Parts.{Parts}
-use Rattle.lrp_plan.specs.Taking.{HaveSame}
 use Rattle.lrp_plan.specs.Elements.{IsElement, IsDenied}
 
 -- the number of rows, or 2^64 where there is none
@@ -30,25 +30,25 @@ pub record IsParts (M : Structure) (fs : List Core) (gs : Forms) (parts : Parts)
   pub checks : parts.tests ≡ tests_in gs
   pub denials : AllZip (IsDenied fs) parts.negations.items (negations_in gs)
 
--- one element more
-pub record SortsOut (M : Structure) (index : ℕ) (core : Core) (old new : Parts) : Type 0 where
-  pub next : (fs : List Core) (gs : Forms) → slice_get fs index ≡ Some core → IsParts M fs gs old → IsParts M fs (joined gs (form (core_of core) no_forms)) new
+-- one element more, with its tree
+pub record SortsOut (M : Structure) (index : ℕ) (core : Core) (own : VariableTree) (old new : Parts) : Type 0 where
+  pub next : (fs : List Core) (gs : Forms) → slice_get fs index ≡ Some core → tree_of own ≡ free_tree (core_of core) → IsParts M fs gs old → IsParts M fs (joined gs (form (core_of core) no_forms)) new
 
 -- one positive more
-pub record AddsPositive (index : ℕ) (f : Form) (rank : ℕ) (old new : Parts) : Type 0 where
+pub record AddsPositive (index : ℕ) (own : VariableTree) (rank : ℕ) (old new : Parts) : Type 0 where
   pub added : Element
   pub items : new.positives.items ≡ old.positives.items ++ added ∷ []
   pub place : added.index ≡ index
   pub ranked_as : added.rank ≡ rank
-  pub variables : HaveSame (map variable_of added.variables) (free f)
+  pub variables : tree_of own ≡ tree (map variable_of added.variables) (trees_of added.inner.items)
   pub tests_stay : new.tests ≡ old.tests
   pub negations_stay : new.negations.items ≡ old.negations.items
 
 -- one negation more
-pub record AddsNegation (index : ℕ) (f : Form) (old new : Parts) : Type 0 where
+pub record AddsNegation (index : ℕ) (own : VariableTree) (old new : Parts) : Type 0 where
   pub added : Element
   pub items : new.negations.items ≡ old.negations.items ++ added ∷ []
   pub place : added.index ≡ index
-  pub variables : HaveSame (map variable_of added.variables) (free f)
+  pub variables : tree_of own ≡ tree (map variable_of added.variables) (trees_of added.inner.items)
   pub tests_stay : new.tests ≡ old.tests
   pub positives_stay : new.positives.items ≡ old.positives.items

@@ -1,10 +1,10 @@
 //! The plan of a query: the steps by which it is answered, with their periods and reaches.
 #![tactic(auto)]
 
+mod domains;
 mod drafts;
 mod elements;
 mod facts;
-mod literals;
 mod naming;
 mod periods;
 mod planner;
@@ -15,6 +15,7 @@ mod sorts;
 mod sources;
 mod splits;
 mod taking;
+mod trees;
 mod waiting;
 mod wholes;
 

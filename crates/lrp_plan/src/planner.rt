@@ -6,7 +6,7 @@ ghost use Rattle.lrp_model.specs.Formulas.{Form, negation, conjunction, disjunct
 ghost use Rattle.lrp_model.specs.Satisfaction.{Structure};
 ghost use Rattle.lrp_model.specs.Plans.{plan_of};
 ghost use Rattle.lrp_plan.specs.Drafts.{Extends, Unites};
-ghost use Rattle.lrp_plan.specs.Elements.{CanPlan, TakesEach, DeniesEach, TurnsPositive, TurnsNegation};
+ghost use Rattle.lrp_plan.specs.Elements.{AreInner, CanPlan, TakesEach, DeniesEach, TurnsPositive, TurnsNegation};
 ghost use Rattle.lrp_plan.specs.Sources.{AreSources};
 
 use crate::drafts::{Draft, Operand};
@@ -14,27 +14,29 @@ use crate::elements::{Element, Split};
 use crate::sources::Sources;
 use crate::splits::split;
 use crate::taking::{Taking, take_tests};
+use crate::trees::next_tree;
 use crate::waiting::{Turn, Waiting};
-use lrp_core::Core;
+use lrp_core::{Core, VariableTree, copy_terms};
 use lrp_model::{Copies, List, Memory};
 use std::alloc::Global;
 use std::collections::VecDeque;
 
-/// The steps of a core form behind those that were made.
+/// The steps of a core form behind those that were made. The trees are of the elements in it.
 #[cycle(planning)]
 pub(crate) fn plan_core(
     alloc: Global,
     sources: &Sources<'_>,
     draft: &mut Draft,
     core: &Core,
+    inner: Vec<VariableTree>,
 ) -> Result<(), Memory>
-    ensures { OnOk result ((M : Structure) (K : ℕ) → AreSources M sources.now → CanPlan M K (core_of core.now) → Extends M K (plan_of (core_of core.now)) draft.old draft.new) }
+    ensures { OnOk result ((M : Structure) (K : ℕ) → AreSources M sources.now → AreInner inner.items (core_of core.now) → CanPlan M K (core_of core.now) → Extends M K (plan_of (core_of core.now)) draft.old draft.new) }
 {
     match core {
         Core::Atom { relation, terms } => {
             let facts = sources.facts(relation);
             let relation = relation.copy(alloc)?;
-            let terms = terms.copy(alloc)?;
+            let terms = copy_terms(alloc, terms.as_slice())?;
             draft.scan(facts, relation, terms)
         }
         Core::Check { test } => {
@@ -48,13 +50,13 @@ pub(crate) fn plan_core(
             draft.sort(name, sort, texts)
         }
         Core::Not { of } => {
-            plan_core(alloc, sources, draft, of)?;
+            plan_core(alloc, sources, draft, of, inner)?;
             draft.complement()
         }
-        Core::And { of } => plan_all(alloc, sources, draft, of),
-        Core::Or { of } => plan_some(alloc, sources, draft, of),
+        Core::And { of } => plan_all(alloc, sources, draft, of, inner),
+        Core::Or { of } => plan_some(alloc, sources, draft, of, inner),
         Core::Exists { name, sort, of } => {
-            plan_core(alloc, sources, draft, of)?;
+            plan_core(alloc, sources, draft, of, inner)?;
             let name = name.copy(alloc)?;
             draft.drop_variable(name, sort)
         }
@@ -68,12 +70,15 @@ fn plan_some(
     sources: &Sources<'_>,
     draft: &mut Draft,
     of: &[Core],
+    inner: Vec<VariableTree>,
 ) -> Result<(), Memory>
-    ensures { OnOk result ((M : Structure) (K : ℕ) → AreSources M sources.now → CanPlan M K (disjunction (cores_of of.now)) → Extends M K (plan_of (disjunction (cores_of of.now))) draft.old draft.new) }
+    ensures { OnOk result ((M : Structure) (K : ℕ) → AreSources M sources.now → AreInner inner.items (disjunction (cores_of of.now)) → CanPlan M K (disjunction (cores_of of.now)) → Extends M K (plan_of (disjunction (cores_of of.now))) draft.old draft.new) }
 {
+    let mut trees = VecDeque::from_vec(inner);
     let mut left: Option<Operand> = None;
     for core in of {
-        plan_core(alloc, sources, draft, core)?;
+        let tree = next_tree(alloc, &mut trees);
+        plan_core(alloc, sources, draft, core, tree.inner)?;
         unite(draft, left)?;
         left = Some(draft.last);
     }
@@ -87,10 +92,11 @@ fn plan_all(
     sources: &Sources<'_>,
     draft: &mut Draft,
     of: &[Core],
+    inner: Vec<VariableTree>,
 ) -> Result<(), Memory>
-    ensures { OnOk result ((M : Structure) (K : ℕ) → AreSources M sources.now → CanPlan M K (conjunction (cores_of of.now)) → Extends M K (plan_of (conjunction (cores_of of.now))) draft.old draft.new) }
+    ensures { OnOk result ((M : Structure) (K : ℕ) → AreSources M sources.now → AreInner inner.items (conjunction (cores_of of.now)) → CanPlan M K (conjunction (cores_of of.now)) → Extends M K (plan_of (conjunction (cores_of of.now))) draft.old draft.new) }
 {
-    let parts = split(alloc, sources, of)?;
+    let parts = split(alloc, sources, of, inner)?;
     let Split {
         positives,
         tests,
@@ -142,7 +148,7 @@ fn plan_positive(
     match left.take_next(alloc, Turn::Meeting, &taking.variables)? {
         None => Ok(()),
         Some(element) => {
-            plan_at(alloc, sources, draft, of, element.index)?;
+            plan_at(alloc, sources, draft, of, element.index, element.inner)?;
             taking.take_in(alloc, draft, element.variables)
         }
     }
@@ -184,7 +190,7 @@ fn plan_negation(
     match left.take_next(alloc, Turn::Covered { some }, &taking.variables)? {
         None => Ok(()),
         Some(element) => {
-            plan_denied_at(alloc, sources, draft, of, element.index)?;
+            plan_denied_at(alloc, sources, draft, of, element.index, element.inner)?;
             taking.take_off(alloc, draft, element.variables)
         }
     }
@@ -198,11 +204,12 @@ fn plan_at(
     draft: &mut Draft,
     of: &[Core],
     index: usize,
+    inner: Vec<VariableTree>,
 ) -> Result<(), Memory>
-    ensures { OnOk result ((M : Structure) (K : ℕ) (core : CoreForm) → AreSources M sources.now → slice_get of.now index ≡ Some core → CanPlan M K (core_of core) → Extends M K (plan_of (core_of core)) draft.old draft.new) }
+    ensures { OnOk result ((M : Structure) (K : ℕ) (core : CoreForm) → AreSources M sources.now → slice_get of.now index ≡ Some core → AreInner inner.items (core_of core) → CanPlan M K (core_of core) → Extends M K (plan_of (core_of core)) draft.old draft.new) }
 {
     if index < of.len() {
-        plan_core(alloc, sources, draft, &of[index])?;
+        plan_core(alloc, sources, draft, &of[index], inner)?;
     }
     Ok(())
 }
@@ -215,11 +222,12 @@ fn plan_denied_at(
     draft: &mut Draft,
     of: &[Core],
     index: usize,
+    inner: Vec<VariableTree>,
 ) -> Result<(), Memory>
-    ensures { OnOk result ((M : Structure) (K : ℕ) (core : CoreForm) (f : Form) → AreSources M sources.now → slice_get of.now index ≡ Some core → core_of core ≡ negation f → CanPlan M K f → Extends M K (plan_of f) draft.old draft.new) }
+    ensures { OnOk result ((M : Structure) (K : ℕ) (core : CoreForm) (f : Form) → AreSources M sources.now → slice_get of.now index ≡ Some core → core_of core ≡ negation f → AreInner inner.items f → CanPlan M K f → Extends M K (plan_of f) draft.old draft.new) }
 {
     if index < of.len() {
-        plan_denied(alloc, sources, draft, &of[index])?;
+        plan_denied(alloc, sources, draft, &of[index], inner)?;
     }
     Ok(())
 }
@@ -231,11 +239,12 @@ fn plan_denied(
     sources: &Sources<'_>,
     draft: &mut Draft,
     core: &Core,
+    inner: Vec<VariableTree>,
 ) -> Result<(), Memory>
-    ensures { OnOk result ((M : Structure) (K : ℕ) (f : Form) → AreSources M sources.now → core_of core.now ≡ negation f → CanPlan M K f → Extends M K (plan_of f) draft.old draft.new) }
+    ensures { OnOk result ((M : Structure) (K : ℕ) (f : Form) → AreSources M sources.now → core_of core.now ≡ negation f → AreInner inner.items f → CanPlan M K f → Extends M K (plan_of f) draft.old draft.new) }
 {
     if let Core::Not { of } = core {
-        plan_core(alloc, sources, draft, of)?;
+        plan_core(alloc, sources, draft, of, inner)?;
     }
     Ok(())
 }

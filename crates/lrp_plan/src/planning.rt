@@ -20,8 +20,8 @@ ghost use Rattle.lrp_plan.specs.Planning.{IsWithinLimits, HasCause, IsWholeDraft
 ghost use Rattle.lrp_plan.specs.Sources.{AreSources};
 ghost use Rattle.lrp_rel.specs.Once.{texts_among};
 
+use crate::domains::domains_of;
 use crate::drafts::Draft;
-use crate::literals::query_texts;
 use crate::naming::facts_by_name;
 use crate::periods::{Period, one};
 use crate::planner::plan_core;
@@ -29,7 +29,7 @@ use crate::scaling::scaled;
 use crate::sorts::has_named_sort;
 use crate::sources::Sources;
 use crate::wholes::with_core;
-use lrp_core::{Core, core_form};
+use lrp_core::{Core, core_form, query_texts, variable_tree};
 use lrp_model::{Copies, DataText, Domain, LIMIT, List, Memory, Plan, Query, Sort};
 use lrp_rel::Database;
 use std::alloc::Global;
@@ -118,10 +118,12 @@ fn gather<'a>(alloc: Global, query: &Query, database: &'a Database) -> Result<So
 {
     let facts = facts_by_name(alloc, database)?;
     let texts = query_texts(alloc, query, database)?;
+    let domains = domains_of(alloc, database, &texts)?;
     Ok(Sources {
         database,
         facts,
         texts,
+        domains,
     })
 }
 
@@ -142,7 +144,8 @@ fn whole_draft(
     ensures { IfOk result (λ made. IsWholeDraft sources.now (core_of core.now) period.number made) }
 {
     let mut draft = Draft::new(alloc);
-    plan_core(alloc, sources, &mut draft, core)?;
+    let tree = variable_tree(alloc, core)?;
+    plan_core(alloc, sources, &mut draft, core, tree.inner)?;
     draft.extend(period)?;
     Ok(draft)
 }

@@ -1,16 +1,18 @@
 // The elements of an `and` by what they are.
-ghost use Rattle.std.specs.Prelude.{◌≡◌, ◌<◌, ◌^◌, length, IfOk, OnOk};
-ghost use Rattle.lrp_core.specs.Cores.{core_of};
+ghost use Rattle.std.specs.Prelude.{◌≡◌, ◌<◌, ◌^◌, IfOk, OnOk};
+ghost use Rattle.lrp_core.specs.Cores.{cores_of};
+ghost use Rattle.lrp_model.specs.Formulas.{conjunction};
 ghost use Rattle.lrp_model.specs.Satisfaction.{Structure};
 ghost use Rattle.lrp_model.specs.Conjunctions.{is_test as is_compared};
-ghost use Rattle.lrp_plan.specs.Elements.{IsSplitOf};
+ghost use Rattle.lrp_plan.specs.Elements.{AreInner, IsSplitOf};
 ghost use Rattle.lrp_plan.specs.Splits.{SortsOut, AddsPositive, AddsNegation};
 ghost use Rattle.lrp_plan.specs.Sources.{AreSources};
 
 use crate::elements::{Element, Split};
 use crate::sources::Sources;
-use lrp_core::{Core, free_variables};
-use lrp_model::{Copies, DataText, List, Memory, Test};
+use crate::trees::next_tree;
+use lrp_core::{Core, VariableTree};
+use lrp_model::{Copies, List, Memory, Test};
 use std::alloc::Global;
 use std::collections::VecDeque;
 
@@ -25,17 +27,24 @@ pub(crate) struct Parts {
     pub(crate) negations: VecDeque<Element>,
 }
 
-/// The positives in order of their ranks, and the tests and the negations, in list order.
-pub(crate) fn split(alloc: Global, sources: &Sources<'_>, of: &[Core]) -> Result<Split, Memory>
-    ensures { IfOk result (λ made. (M : Structure) → AreSources M sources.now → IsSplitOf M of.now made) }
+/// The positives in order of their ranks, and the tests and the negations, in list order. The elements' trees go with them.
+pub(crate) fn split(
+    alloc: Global,
+    sources: &Sources<'_>,
+    of: &[Core],
+    inner: Vec<VariableTree>,
+) -> Result<Split, Memory>
+    ensures { IfOk result (λ made. (M : Structure) → AreSources M sources.now → AreInner inner.items (conjunction (cores_of of.now)) → IsSplitOf M of.now made) }
 {
     let mut parts = Parts {
-        positives: Vec::new(alloc),
+        positives: Vec::with_capacity(alloc, of.len())?,
         tests: List::new(alloc),
         negations: VecDeque::new(alloc),
     };
+    let mut trees = VecDeque::from_vec(inner);
     for (index, core) in of.iter().enumerate() {
-        sort_out(alloc, sources, &mut parts, index, core)?;
+        let tree = next_tree(alloc, &mut trees);
+        sort_out(alloc, sources, &mut parts, index, core, tree)?;
     }
     let Parts {
         mut positives,
@@ -50,76 +59,71 @@ pub(crate) fn split(alloc: Global, sources: &Sources<'_>, of: &[Core]) -> Result
     })
 }
 
-// The element at this place of the list.
+// The element at this place of the list, with its tree.
 fn sort_out(
     alloc: Global,
     sources: &Sources<'_>,
     parts: &mut Parts,
     index: usize,
     core: &Core,
+    tree: VariableTree,
 ) -> Result<(), Memory>
-    ensures { OnOk result ((M : Structure) → AreSources M sources.now → SortsOut M index core.now parts.old parts.new) }
+    ensures { OnOk result ((M : Structure) → AreSources M sources.now → SortsOut M index core.now tree parts.old parts.new) }
 {
     match core {
-        Core::Not { of } => add_negation(alloc, parts, index, of),
+        Core::Not { .. } => add_negation(parts, index, tree),
         Core::Check { test } => {
             if is_test(test) {
                 let test = test.copy(alloc)?;
                 parts.tests.push(test)?;
                 Ok(())
             } else {
-                add_positive(alloc, parts, index, core, NO_ROWS)
+                add_positive(parts, index, tree, NO_ROWS)
             }
         }
         Core::Atom { relation, .. } => {
             let rank = rank_of(sources.facts(relation).rows);
-            add_positive(alloc, parts, index, core, rank)
+            add_positive(parts, index, tree, rank)
         }
         Core::Sorted { sort, .. } => {
-            let texts = sources.texts(alloc, sort)?;
-            let rank = rank_of(count_of(&texts));
-            add_positive(alloc, parts, index, core, rank)
+            let rank = rank_of(sources.count(sort));
+            add_positive(parts, index, tree, rank)
         }
-        Core::And { .. } => add_positive(alloc, parts, index, core, NO_ROWS),
-        Core::Or { .. } => add_positive(alloc, parts, index, core, NO_ROWS),
-        Core::Exists { .. } => add_positive(alloc, parts, index, core, NO_ROWS),
+        Core::And { .. } => add_positive(parts, index, tree, NO_ROWS),
+        Core::Or { .. } => add_positive(parts, index, tree, NO_ROWS),
+        Core::Exists { .. } => add_positive(parts, index, tree, NO_ROWS),
     }
 }
 
 fn add_positive(
-    alloc: Global,
     parts: &mut Parts,
     index: usize,
-    core: &Core,
+    tree: VariableTree,
     rank: u128,
 ) -> Result<(), Memory>
-    ensures { OnOk result (AddsPositive index (core_of core.now) rank parts.old parts.new) }
+    ensures { OnOk result (AddsPositive index tree rank parts.old parts.new) }
 {
-    let variables = free_variables(alloc, core)?;
+    let VariableTree { variables, inner } = tree;
     parts.positives.push(Element {
         index,
         variables,
+        inner,
         rank,
     })?;
     Ok(())
 }
 
-fn add_negation(alloc: Global, parts: &mut Parts, index: usize, denied: &Core) -> Result<(), Memory>
-    ensures { OnOk result (AddsNegation index (core_of denied.now) parts.old parts.new) }
+fn add_negation(parts: &mut Parts, index: usize, tree: VariableTree) -> Result<(), Memory>
+    ensures { OnOk result (AddsNegation index tree parts.old parts.new) }
 {
-    let variables = free_variables(alloc, denied)?;
+    let VariableTree { variables, inner } = tree;
     parts.negations.push_back(Element {
         index,
         variables,
+        inner,
         rank: NO_ROWS,
     })?;
     Ok(())
-}
-
-fn count_of(texts: &List<DataText>) -> u64
-    ensures { result ≡ length texts.now }
-{
-    texts.len() as u64
 }
 
 // The rank of an element with a number of rows.

@@ -1,6 +1,6 @@
 // What an `and` has taken in, and the tests that it has left.
-ghost use Rattle.std.specs.Prelude.{◌≡◌, ◌&&◌, ℕ, not, filter, map, length, IfOk, OnOk};
-ghost use Rattle.lrp_core.specs.FreeVariables.{variable_of};
+ghost use Rattle.std.specs.Prelude.{◌≡◌, ℕ, not, filter, map, length, IfOk, OnOk};
+ghost use Rattle.lrp_core.specs.FreeVariables.{variable_of, with_variables};
 ghost use Rattle.lrp_model.specs.Satisfaction.{Structure};
 ghost use Rattle.lrp_model.specs.Formulas.{test as test_form};
 ghost use Rattle.lrp_model.specs.Variables.{free, are_among as are_members};
@@ -10,7 +10,7 @@ ghost use Rattle.lrp_plan.specs.Elements.{TakesTests, TurnsTest};
 ghost use Rattle.lrp_plan.specs.Taking.{NextTest, TakesIn, TakesOff, TakesTest, HaveSame, Carries, Splits, Subtracts, covers as covered_by};
 
 use crate::drafts::{Draft, Operand};
-use lrp_core::{Core, Variable, add_variables, are_among, covers, free_variables};
+use lrp_core::{Core, Variable, add_variables, covers, free_variables};
 use lrp_model::{Copies, List, Memory, Test};
 use std::alloc::Global;
 use std::mem;
@@ -34,8 +34,8 @@ impl Taking {
     ) -> Result<(), Memory>
         ensures { OnOk result (TakesIn (map variable_of variables) self.old self.new draft.old draft.new) }
     {
-        let settled = self.stays_settled(variables.as_slice());
-        add_variables(&mut self.variables, variables)?;
+        let known = add_further(&mut self.variables, variables)?;
+        let settled = self.settled && known;
         let tests = mem::replace(&mut self.tests, List::new(alloc));
         let (carried, left) = split_tests(alloc, settled, tests, self.variables.as_slice())?;
         self.tests = left;
@@ -43,13 +43,6 @@ impl Taking {
         carry(draft, self.result, carried)?;
         self.result = Some(draft.last);
         Ok(())
-    }
-
-    // Whether the tests are settled and there is no further variable among these.
-    fn stays_settled(&self, variables: &[Variable]) -> bool
-        ensures { result ≡ (self.now.settled && are_members (map variable_of variables.now) (map variable_of self.now.variables)) }
-    {
-        self.settled && are_among(variables, self.variables.as_slice())
     }
 
     /// The first remaining test, which is no longer one.
@@ -88,13 +81,22 @@ impl Taking {
     ) -> Result<(), Memory>
         ensures { OnOk result (TakesOff (map variable_of variables) self.old self.new draft.old draft.new) }
     {
-        let covered = are_among(variables.as_slice(), self.variables.as_slice());
+        let covered = add_further(&mut self.variables, variables)?;
         subtract(alloc, draft, self.result, covered)?;
-        add_variables(&mut self.variables, variables)?;
         self.settled = false;
         self.result = Some(draft.last);
         Ok(())
     }
+}
+
+// All of the variables, each behind the others where it is none of them yet; and whether all of them were there before.
+fn add_further(all: &mut List<Variable>, more: List<Variable>) -> Result<bool, Memory>
+    ensures known { IfOk result (λ known. known ≡ are_members (map variable_of more) (map variable_of all.old)) }
+    ensures all { OnOk result (map variable_of all.new ≡ with_variables (map variable_of all.old) (map variable_of more)) }
+{
+    let before = all.len();
+    add_variables(all, more)?;
+    Ok(all.len() == before)
 }
 
 /// Each test that remains is made and taken in, in order.

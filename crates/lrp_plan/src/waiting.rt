@@ -38,6 +38,11 @@ impl Model for Waiting {
 
     ghost view = { λ w. w.passed.items ++ w.rest.items };
 
+    ghost use Rattle.std.specs.Coded.{codes};
+    ghost use Rattle.lrp_core.specs.contracts.variable_trees.VariableTree as trees;
+
+    ghost coded = { Prim.hlevel (codes, trees.the_row.coded) };
+
     ghost invariant = { λ w. FallBehind w.turn w.seen w.passed.items };
 }
 

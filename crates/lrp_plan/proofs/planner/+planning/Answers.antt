@@ -1,4 +1,4 @@
-use Rattle.std.proofs.Common.{false, ◌&&◌, map, None, refl, sym, ap, subst, ◌∙◌, arith}
+use Rattle.std.proofs.Common.{◌≡◌, ◌+◌, drop, length, false, ◌&&◌, map, None, refl, sym, ap, subst, ◌∙◌, arith}
 use Rattle.lrp_core.specs.Cores.{core_of, cores_of}
 use Rattle.lrp_core.specs.FreeVariables.{variable_of}
 use Rattle.lrp_core.proofs.CoreViews.{core_of-And, core_of-Or}
@@ -8,52 +8,80 @@ use Rattle.lrp_model.specs.Conjunctions.{first_or_0}
 use Rattle.lrp_plan.specs.declared.taking.Taking.{Taking}
 use Rattle.lrp_plan.specs.Elements.{TakesAt}
 use Rattle.lrp_plan.proofs.Planned.{atom_planned, check_planned, sorted_planned, not_planned, exists_planned, as_planned, some_planned, all_planned}
-use Rattle.lrp_plan.proofs.Unions.{one_more}
-use Rattle.lrp_plan.proofs.Turns.{idles_positive, idles_negation}
+use Rattle.lrp_core.specs.VariableTrees.{trees_of, one_more, free_tree, free_trees}
+use Rattle.lrp_core.proofs.TreeViews.{trees-next, inner_known}
+use Rattle.lrp_plan.proofs.Unions.{none_so_far, one_more as one_more_planned}
+use Rattle.lrp_plan.specs.Elements.{TakesPositives, TakesNegations}
+use Rattle.lrp_plan.proofs.Turns.{idles_positive, idles_negation, no_positives, no_negations}
 use Rattle.lrp_plan.proofs.Answered.{positive_turned, negation_turned}
 use Rattle.lrp_plan.proofs.planner.+planning.Goals as goal
 
 pub plan_core-returns-in_ok-terms-in-Atom : goal.plan_core-returns-in_ok-terms-in-Atom
 plan_core-returns-in_ok-terms-in-Atom t c =
-    atom_planned c.scan.result c.args.sources.now (core_of c.args.core.now) c.in-Atom.relation c.in_ok-relation-in-Atom.relation c.in-Atom.terms c.in_ok-terms-in-Atom.terms c.facts-facts.result c.args.draft.now c.scan.new.self (ap core_of c.in-Atom.is) c.in_ok-relation-in-Atom.ensures c.in_ok-terms-in-Atom.ensures c.facts-facts.ensures c.scan.ensures
+    atom_planned c.scan.result c.args.sources.now c.args.inner.items (core_of c.args.core.now) c.in-Atom.relation c.in_ok-relation-in-Atom.relation c.in-Atom.terms c.in_ok-terms-in-Atom.terms c.facts-facts.result c.args.draft.now c.scan.new.self (ap core_of c.in-Atom.is) c.in_ok-relation-in-Atom.ensures (c.in_ok-terms-in-Atom.ensures ∙ c.as_slice.ensures) c.facts-facts.ensures c.scan.ensures
 
 pub plan_core-returns-in_ok-test-in-Check : goal.plan_core-returns-in_ok-test-in-Check
 plan_core-returns-in_ok-test-in-Check t c =
-    check_planned c.leaf.result c.args.sources.now (core_of c.args.core.now) c.in-Check.test c.in_ok-test-in-Check.test c.args.draft.now c.leaf.new.self (ap core_of c.in-Check.is) c.in_ok-test-in-Check.ensures c.leaf.ensures
+    check_planned c.leaf.result c.args.sources.now c.args.inner.items (core_of c.args.core.now) c.in-Check.test c.in_ok-test-in-Check.test c.args.draft.now c.leaf.new.self (ap core_of c.in-Check.is) c.in_ok-test-in-Check.ensures c.leaf.ensures
 
 pub plan_core-returns-in_ok-sort-in-Sorted : goal.plan_core-returns-in_ok-sort-in-Sorted
 plan_core-returns-in_ok-sort-in-Sorted t c =
-    sorted_planned c.sort.result c.args.sources.now (core_of c.args.core.now) c.in-Sorted.name c.in_ok-name-in-Sorted.name c.in-Sorted.sort c.in_ok-sort-in-Sorted.sort c.in_ok-texts-in-Sorted.texts c.args.draft.now c.sort.new.self (ap core_of c.in-Sorted.is) c.in_ok-name-in-Sorted.ensures c.in_ok-sort-in-Sorted.ensures c.in_ok-texts-in-Sorted.ensures c.sort.ensures
+    sorted_planned c.sort.result c.args.sources.now c.args.inner.items (core_of c.args.core.now) c.in-Sorted.name c.in_ok-name-in-Sorted.name c.in-Sorted.sort c.in_ok-sort-in-Sorted.sort c.in_ok-texts-in-Sorted.texts c.args.draft.now c.sort.new.self (ap core_of c.in-Sorted.is) c.in_ok-name-in-Sorted.ensures c.in_ok-sort-in-Sorted.ensures c.in_ok-texts-in-Sorted.ensures c.sort.ensures
 
 pub plan_core-returns-in_ok-plan_core-in-Not : goal.plan_core-returns-in_ok-plan_core-in-Not
 plan_core-returns-in_ok-plan_core-in-Not t c =
-    not_planned c.complement.result c.args.sources.now (core_of c.args.core.now) (core_of c.deref.result.now) c.args.draft.now c.plan_core.new.draft c.complement.new.self (ap core_of c.in-Not.is ∙ ap (λ x. negation (core_of x)) (sym c.deref.ensures)) c.in_ok-plan_core-in-Not.ensures c.complement.ensures
+    not_planned c.complement.result c.args.sources.now c.args.inner.items (core_of c.args.core.now) (core_of c.deref.result.now) c.args.draft.now c.plan_core.new.draft c.complement.new.self (ap core_of c.in-Not.is ∙ ap (λ x. negation (core_of x)) (sym c.deref.ensures)) c.in_ok-plan_core-in-Not.ensures c.complement.ensures
 
 pub plan_core-returns-in-And : goal.plan_core-returns-in-And
 plan_core-returns-in-And t c =
-    as_planned c.plan_all.result c.args.sources.now (core_of c.args.core.now) (conjunction (cores_of c.deref-in-And.result.now)) c.args.draft.now c.plan_all.new.draft (ap core_of c.in-And.is ∙ core_of-And c.in-And.of ∙ ap (λ xs. conjunction (cores_of xs)) (sym c.deref-in-And.ensures.value)) c.plan_all.ensures
+    as_planned c.plan_all.result c.args.sources.now c.args.inner.items (core_of c.args.core.now) (conjunction (cores_of c.deref-in-And.result.now)) c.args.draft.now c.plan_all.new.draft (ap core_of c.in-And.is ∙ core_of-And c.in-And.of ∙ ap (λ xs. conjunction (cores_of xs)) (sym c.deref-in-And.ensures.value)) c.plan_all.ensures
 
 pub plan_core-returns-in-Or : goal.plan_core-returns-in-Or
 plan_core-returns-in-Or t c =
-    as_planned c.plan_some.result c.args.sources.now (core_of c.args.core.now) (disjunction (cores_of c.deref-in-Or.result.now)) c.args.draft.now c.plan_some.new.draft (ap core_of c.in-Or.is ∙ core_of-Or c.in-Or.of ∙ ap (λ xs. disjunction (cores_of xs)) (sym c.deref-in-Or.ensures.value)) c.plan_some.ensures
+    as_planned c.plan_some.result c.args.sources.now c.args.inner.items (core_of c.args.core.now) (disjunction (cores_of c.deref-in-Or.result.now)) c.args.draft.now c.plan_some.new.draft (ap core_of c.in-Or.is ∙ core_of-Or c.in-Or.of ∙ ap (λ xs. disjunction (cores_of xs)) (sym c.deref-in-Or.ensures.value)) c.plan_some.ensures
 
 pub plan_core-returns-in_ok-name-in-Exists : goal.plan_core-returns-in_ok-name-in-Exists
 plan_core-returns-in_ok-name-in-Exists t c =
-    exists_planned c.drop_variable.result c.args.sources.now (core_of c.args.core.now) (core_of c.deref-in-Exists.result.now) c.in-Exists.name c.in_ok-name-in-Exists.name c.in-Exists.sort c.args.draft.now c.plan_core-in-Exists.new.draft c.drop_variable.new.self
+    exists_planned c.drop_variable.result c.args.sources.now c.args.inner.items (core_of c.args.core.now) (core_of c.deref-in-Exists.result.now) c.in-Exists.name c.in_ok-name-in-Exists.name c.in-Exists.sort c.args.draft.now c.plan_core-in-Exists.new.draft c.drop_variable.new.self
     (ap core_of c.in-Exists.is ∙ ap (λ x. exists c.in-Exists.name c.in-Exists.sort (core_of x)) (sym c.deref-in-Exists.ensures)) c.in_ok-name-in-Exists.ensures c.in_ok-plan_core-in-Exists.ensures c.drop_variable.ensures
 
+pub plan_some-loop-core-init : goal.plan_some-loop-core-init
+plan_some-loop-core-init t c = λ known. (ap trees_of c.from_vec-trees.ensures.items ∙ known, λ M s. none_so_far M c.args.draft.now)
+
 pub plan_some-loop-core-preserved : goal.plan_some-loop-core-preserved
-plan_some-loop-core-preserved t c = λ M s.
-    one_more M c.args.of.now c.loop-core.core-index c.core-item.result c.args.draft.now c.loop-core.draft c.plan_core.new.draft c.unite.new.draft c.loop-core.left (omega (arith, c.loop-core-test.true)) c.core-item.is (c.loop-core.invariant M s) (λ K can. c.in_ok-plan_core.ensures M K s can) c.in_ok-unite.ensures
+plan_some-loop-core-preserved t c = λ known.
+    let now = c.loop-core.invariant known in
+    let next : trees_of c.loop-core.trees.items ≡ one_more (free_tree (core_of c.core-item.result)) (free_trees (cores_of (drop (c.loop-core.core-index + 1) c.args.of.now))) =
+    now.0 ∙ trees-next c.args.of.now c.loop-core.core-index c.core-item.result c.loop-core-test.true c.core-item.is in
+    let inner = inner_known c.next_tree-tree.result (core_of c.core-item.result) (c.next_tree-tree.ensures.first _ _ next) in (
+      c.next_tree-tree.ensures.rest _ _ next,
+      λ M s. one_more_planned M c.args.of.now c.loop-core.core-index c.core-item.result c.args.draft.now c.loop-core.draft c.plan_core.new.draft c.unite.new.draft c.loop-core.left (omega (arith, c.loop-core-test.true)) c.core-item.is (now.1 M s) (λ K can. c.in_ok-plan_core.ensures M K s inner can) c.in_ok-unite.ensures,
+    )
 
 pub plan_some-returns : goal.plan_some-returns
-plan_some-returns t c = some_planned c.args.sources.now c.args.of.now c.loop-core.core-index c.loop-core.left c.args.draft.now c.loop-core.draft c.loop-core-test.false c.loop-core.invariant
+plan_some-returns t c = some_planned c.args.sources.now c.args.inner.items c.args.of.now c.loop-core.core-index c.loop-core.left c.args.draft.now c.loop-core.draft c.loop-core-test.false (λ known. (c.loop-core.invariant known).1)
 
 pub plan_all-returns : goal.plan_all-returns
 plan_all-returns t c =
     let first : Taking = record { result = None; variables = c.new.result; tests = c.in_ok-parts.parts.tests; settled = false } in
-    all_planned c.plan_negations.result c.args.sources.now c.args.of.now c.in_ok-parts.parts first c.plan_positives.new.taking c.take_tests.new.taking c.plan_negations.new.taking c.args.draft.now c.plan_positives.new.draft c.take_tests.new.draft c.plan_negations.new.draft
+    all_planned c.plan_negations.result c.args.sources.now c.args.inner.items c.args.of.now c.in_ok-parts.parts first c.plan_positives.new.taking c.take_tests.new.taking c.plan_negations.new.taking c.args.draft.now c.plan_positives.new.draft c.take_tests.new.draft c.plan_negations.new.draft
     c.in_ok-parts.ensures refl (ap (map variable_of) c.new.ensures) refl refl c.in_ok-plan_positives.ensures c.in_ok-take_tests.ensures c.plan_negations.ensures
+
+pub plan_positives-loop-turn-init : goal.plan_positives-loop-turn-init
+plan_positives-loop-turn-init t c = λ M s.
+    subst (λ qs. TakesPositives M 0 c.args.of.now c.args.positives.items qs c.args.draft.now c.args.draft.now c.args.taking.now c.args.taking.now) (sym c.new-left.ensures) (no_positives M c.args.of.now c.args.positives.items c.args.draft.now c.args.taking.now)
+
+pub plan_positives-loop-turn-preserved : goal.plan_positives-loop-turn-preserved
+plan_positives-loop-turn-preserved t c = λ M s. (c.in_ok-plan_positive.ensures M s).next _ _ _ _ (c.loop-turn.invariant M s)
+
+pub plan_positives-returns : goal.plan_positives-returns
+plan_positives-returns t c = λ M s.
+    let n : c.len-turns.result ≡ length c.args.positives.items = c.len-turns.ensures ∙ c.args.positives.ok.0 in
+    let all : c.loop-turn._turn ≡ length c.args.positives.items = omega (arith, c.loop-turn-test.false, c.loop-turn.auto._turn-end) in
+    record {
+      left = c.loop-turn.left;
+      takes = subst (λ turns. TakesPositives M turns c.args.of.now c.args.positives.items c.loop-turn.left c.args.draft.now c.loop-turn.draft c.args.taking.now c.loop-turn.taking) all (c.loop-turn.invariant M s);
+    }
 
 pub plan_positive-returns-in-None : goal.plan_positive-returns-in-None
 plan_positive-returns-in-None t c = λ M s.
@@ -65,6 +93,22 @@ plan_positive-returns-in_ok-plan_at-in-Some t c =
     positive_turned c.take_in.result c.args.sources.now c.args.of.now c.args.left.now c.take_next.new.self c.args.draft.now c.plan_at.new.draft c.take_in.new.draft c.in-Some.element c.args.taking.now c.take_in.new.self
     (subst (TakesAt (first_or_0 (λ x. meet (map variable_of x.variables) (map variable_of c.args.taking.now.variables)) c.args.left.now) c.args.left.now c.take_next.new.self) c.in-Some.is c.in_ok-take_next.ensures)
     c.in_ok-plan_at-in-Some.ensures c.take_in.ensures
+
+pub plan_negations-loop-turn-init : goal.plan_negations-loop-turn-init
+plan_negations-loop-turn-init t c = λ M s.
+    subst (λ qs. TakesNegations M 0 c.args.of.now c.args.negations.items qs c.args.draft.now c.args.draft.now c.args.taking.now c.args.taking.now) (sym c.new-left.ensures) (no_negations M c.args.of.now c.args.negations.items c.args.draft.now c.args.taking.now)
+
+pub plan_negations-loop-turn-preserved : goal.plan_negations-loop-turn-preserved
+plan_negations-loop-turn-preserved t c = λ M s. (c.in_ok-plan_negation.ensures M s).next _ _ _ _ (c.loop-turn.invariant M s)
+
+pub plan_negations-returns : goal.plan_negations-returns
+plan_negations-returns t c = λ M s.
+    let n : c.len-turns.result ≡ length c.args.negations.items = c.len-turns.ensures ∙ c.args.negations.ok.0 in
+    let all : c.loop-turn._turn ≡ length c.args.negations.items = omega (arith, c.loop-turn-test.false, c.loop-turn.auto._turn-end) in
+    record {
+      left = c.loop-turn.left;
+      takes = subst (λ turns. TakesNegations M turns c.args.of.now c.args.negations.items c.loop-turn.left c.args.draft.now c.loop-turn.draft c.args.taking.now c.loop-turn.taking) all (c.loop-turn.invariant M s);
+    }
 
 pub plan_negation-returns-in-None : goal.plan_negation-returns-in-None
 plan_negation-returns-in-None t c = λ M s.

@@ -1,9 +1,9 @@
-use Rattle.std.proofs.Common.{sym, ap, ◌∙◌}
+use Rattle.std.proofs.Common.{sym, ap, ◌∙◌, arith}
 use Rattle.lrp_core.specs.Cores.{core_of, cores_of}
 use Rattle.lrp_core.proofs.CoreViews.{core_of-And, core_of-Or}
 use Rattle.lrp_model.specs.Formulas.{conjunction}
 use Rattle.lrp_model.specs.Periods.{periods}
-use Rattle.lrp_plan.proofs.WholePeriods.{atom_whole, same_whole, each_more}
+use Rattle.lrp_plan.proofs.WholePeriods.{atom_whole, same_whole, each_more, each_all}
 use Rattle.lrp_plan.proofs.wholes.+periods.Goals as goal
 
 pub with_core-returns-in-Atom : goal.with_core-returns-in-Atom
@@ -19,3 +19,6 @@ with_core-returns-in-Or t c =
 
 pub with_each-loop-core-preserved : goal.with_each-loop-core-preserved
 with_each-loop-core-preserved t c = λ M s. each_more M c.args.of.now c.loop-core.core-index c.core-item.result _ _ _ c.loop-core-test.true c.core-item.is (c.loop-core.invariant M s) (c.with_core-all.ensures M s)
+
+pub with_each-returns : goal.with_each-returns
+with_each-returns t c = λ M s. each_all M c.args.of.now c.loop-core.core-index _ _ (omega (arith, c.loop-core-test.false)) (c.loop-core.invariant M s)

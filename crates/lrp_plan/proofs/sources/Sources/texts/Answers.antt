@@ -1,10 +1,14 @@
-use Rattle.std.proofs.Common.{◌≡◌, ◌++◌, rules}
+use Rattle.std.proofs.Common.{◌≡◌, None, rules}
+use Rattle.std.specs.BTreeSet.{keys}
+use Rattle.lrp_model.specs.Texts.{in_order}
 use Rattle.lrp_model.specs.Domains.{database_texts}
 use Rattle.lrp_rel.specs.Once.{once, texts_with}
-use Rattle.lrp_plan.proofs.Sorted.{texts_ordered}
+use Rattle.lrp_plan.specs.Domains.{gathered}
+use Rattle.lrp_plan.proofs.Gathered.{ordered_is}
 use Rattle.lrp_plan.proofs.sources.Sources.texts.Goals as goal
 
-pub returns : goal.returns
-returns c =
-    let e : c.add_texts.new.all.items ≡ once (texts_with c.args.sort.now (database_texts c.args.self.now.database.now)) ++ texts_with c.args.sort.now c.args.self.now.texts.items = search rules in
-    texts_ordered c.in_order.result c.args.self.now c.args.sort.now c.add_texts.new.all.items e c.in_order.ensures
+pub returns-in_ok-texts-in-None : goal.returns-in_ok-texts-in-None
+returns-in_ok-texts-in-None c =
+    let g : gathered c.args.self.now.domains c.args.sort.now ≡ None = search rules in
+    let e : keys c.in_ok-texts-in-None.texts ≡ in_order (once (texts_with c.args.sort.now (database_texts c.args.self.now.database.now))) = search rules in
+    ordered_is c.list_of-in-None.result c.args.self.now c.args.sort.now (keys c.in_ok-texts-in-None.texts) e g c.list_of-in-None.ensures

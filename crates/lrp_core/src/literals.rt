@@ -1,0 +1,243 @@
+// The data texts of a query, each with its sort.
+ghost use Rattle.std.specs.Prelude.{◌≡◌, List, [], ◌∷◌, ◌++◌, drop, slice_get, IfOk, OnOk};
+ghost use Rattle.lrp_model.specs.Formulas.{form_of, forms_of, conjunction};
+ghost use Rattle.lrp_model.specs.Rows.{relation_named};
+ghost use Rattle.lrp_model.specs.Domains.{term_texts, columns_of, sort_beside, text_beside, test_texts, form_texts, forms_texts};
+ghost use Rattle.lrp_core.specs.Literals.{AddsTexts, one_text, one_in};
+
+use lrp_model::{
+    Column, Copies, DataTerm, DataText, Formula, List, Memory, Name, Query, Sort, Term, Test,
+};
+use lrp_rel::Database;
+use std::alloc::Global;
+
+/// The data texts of a query's body in order, each with its sort: that of its column, or of the variable that it is equal to.
+pub fn query_texts(
+    alloc: Global,
+    query: &Query,
+    database: &Database,
+) -> Result<Vec<(Sort, DataText)>, Memory>
+    ensures { IfOk result (λ made. made.items ≡ form_texts (form_of query.now.body) database.now query.now.head.columns) }
+{
+    let mut binders = query.head.columns.copy(alloc)?.into_vec();
+    let mut all = Vec::new(alloc);
+    add_formula(alloc, database, &query.body, &mut binders, &mut all)?;
+    Ok(all)
+}
+
+// Those of a formula; the innermost binder is the first.
+#[cycle(literals)]
+fn add_formula(
+    alloc: Global,
+    database: &Database,
+    f: &Formula,
+    binders: &mut Vec<Column>,
+    all: &mut Vec<(Sort, DataText)>,
+) -> Result<(), Memory>
+    ensures { OnOk result (AddsTexts (form_texts (form_of f.now) database.now binders.old.items) binders.old.items binders.new.items all.old.items all.new.items) }
+{
+    match f {
+        Formula::Atom { relation, terms } => add_atom(
+            alloc,
+            database,
+            relation,
+            terms.as_slice(),
+            all,
+        ),
+        Formula::Check { test } => add_test(alloc, test, binders.as_slice(), all),
+        Formula::Not { of } => add_formula(alloc, database, of, binders, all),
+        Formula::And { of } => add_formulas(alloc, database, of, binders, all),
+        Formula::Or { of } => add_formulas(alloc, database, of, binders, all),
+        Formula::Implies { left, right } => {
+            add_formula(alloc, database, left, binders, all)?;
+            add_formula(alloc, database, right, binders, all)
+        }
+        Formula::Exists { name, sort, of } => add_bound(
+            alloc, database, name, sort, of, binders, all,
+        ),
+        Formula::Forall { name, sort, of } => add_bound(
+            alloc, database, name, sort, of, binders, all,
+        ),
+    }
+}
+
+#[cycle(literals)]
+fn add_formulas(
+    alloc: Global,
+    database: &Database,
+    fs: &[Formula],
+    binders: &mut Vec<Column>,
+    all: &mut Vec<(Sort, DataText)>,
+) -> Result<(), Memory>
+    ensures { OnOk result (AddsTexts (forms_texts (forms_of fs.now) database.now binders.old.items) binders.old.items binders.new.items all.old.items all.new.items) }
+{
+    for f in fs {
+        add_formula(alloc, database, f, binders, all)?;
+    }
+    Ok(())
+}
+
+// Those of a quantifier's formula.
+#[cycle(literals)]
+fn add_bound(
+    alloc: Global,
+    database: &Database,
+    name: &Name,
+    sort: &Sort,
+    of: &Formula,
+    binders: &mut Vec<Column>,
+    all: &mut Vec<(Sort, DataText)>,
+) -> Result<(), Memory>
+    ensures { OnOk result (AddsTexts (form_texts (form_of of.now) database.now (record { name = name.now; sort = sort.now } ∷ binders.old.items)) binders.old.items binders.new.items all.old.items all.new.items) }
+{
+    let name = name.copy(alloc)?;
+    let sort = sort.copy(alloc)?;
+    binders.insert(0, Column { name, sort })?;
+    add_formula(alloc, database, of, binders, all)?;
+    remove_first(binders);
+    Ok(())
+}
+
+fn add_atom(
+    alloc: Global,
+    database: &Database,
+    relation: &Name,
+    terms: &[Term],
+    all: &mut Vec<(Sort, DataText)>,
+) -> Result<(), Memory>
+    ensures { OnOk result (all.new.items ≡ all.old.items ++ term_texts (columns_of (relation_named database.now relation.now)) terms.now) }
+{
+    match database.relation(relation) {
+        Some(found) => add_terms(alloc, found.columns.as_slice(), terms, all),
+        None => Ok(()),
+    }
+}
+
+fn add_terms(
+    alloc: Global,
+    columns: &[Column],
+    terms: &[Term],
+    all: &mut Vec<(Sort, DataText)>,
+) -> Result<(), Memory>
+    ensures { OnOk result (all.new.items ≡ all.old.items ++ term_texts columns.now terms.now) }
+{
+    for (i, term) in terms.iter().enumerate() {
+        add_at(alloc, columns, i, term, all)?;
+    }
+    Ok(())
+}
+
+// That of a term in the column at a place, if there is one.
+fn add_at(
+    alloc: Global,
+    columns: &[Column],
+    i: usize,
+    term: &Term,
+    all: &mut Vec<(Sort, DataText)>,
+) -> Result<(), Memory>
+    ensures { OnOk result (all.new.items ≡ all.old.items ++ one_in (slice_get columns.now i) term.now) }
+{
+    if i < columns.len() {
+        return add_term(alloc, &columns[i].sort, term, all);
+    }
+    Ok(())
+}
+
+fn add_term(
+    alloc: Global,
+    sort: &Sort,
+    term: &Term,
+    all: &mut Vec<(Sort, DataText)>,
+) -> Result<(), Memory>
+    ensures { OnOk result (all.new.items ≡ all.old.items ++ one_text sort.now term.now) }
+{
+    match term {
+        Term::Data {
+            term: DataTerm::Const { text },
+        } => add(alloc, sort, text, all),
+        Term::Data {
+            term: DataTerm::Var { .. },
+        } => Ok(()),
+        Term::Time { .. } => Ok(()),
+    }
+}
+
+fn add_test(
+    alloc: Global,
+    test: &Test,
+    binders: &[Column],
+    all: &mut Vec<(Sort, DataText)>,
+) -> Result<(), Memory>
+    ensures { OnOk result (all.new.items ≡ all.old.items ++ test_texts binders.now test.now) }
+{
+    match test {
+        Test::Equal { left, right } => {
+            add_beside(alloc, right, left, binders, all)?;
+            add_beside(alloc, left, right, binders, all)
+        }
+        Test::Compare { .. } => Ok(()),
+        Test::Member { .. } => Ok(()),
+    }
+}
+
+// The text of a side of an equality, by the other side.
+fn add_beside(
+    alloc: Global,
+    other: &DataTerm,
+    own: &DataTerm,
+    binders: &[Column],
+    all: &mut Vec<(Sort, DataText)>,
+) -> Result<(), Memory>
+    ensures { OnOk result (all.new.items ≡ all.old.items ++ text_beside binders.now other.now own.now) }
+{
+    match own {
+        DataTerm::Var { .. } => Ok(()),
+        DataTerm::Const { text } => {
+            let sort = sort_of(alloc, binders, other)?;
+            add(alloc, &sort, text, all)
+        }
+    }
+}
+
+// The sort of a data term: that of its variable's innermost binder, or `data`.
+fn sort_of(alloc: Global, binders: &[Column], term: &DataTerm) -> Result<Sort, Memory>
+    ensures { IfOk result (λ sort. sort ≡ sort_beside binders.now term.now) }
+{
+    match term {
+        DataTerm::Const { .. } => Ok(Sort::Data),
+        DataTerm::Var { name } => sort_of_name(alloc, binders, name),
+    }
+}
+
+fn sort_of_name(alloc: Global, binders: &[Column], name: &Name) -> Result<Sort, Memory>
+    ensures { IfOk result (λ sort. sort ≡ sort_beside binders.now (DataTerm.Var name.now)) }
+{
+    for column in binders {
+        if column.name == *name {
+            return column.sort.copy(alloc);
+        }
+    }
+    Ok(Sort::Data)
+}
+
+fn remove_first(binders: &mut Vec<Column>)
+    ensures { binders.new.items ≡ drop 1 binders.old.items }
+{
+    if !binders.is_empty() {
+        binders.remove(0);
+    }
+}
+
+fn add(
+    alloc: Global,
+    sort: &Sort,
+    text: &DataText,
+    all: &mut Vec<(Sort, DataText)>,
+) -> Result<(), Memory>
+    ensures { OnOk result (all.new.items ≡ all.old.items ++ (sort.now, text.now) ∷ []) }
+{
+    let sort = sort.copy(alloc)?;
+    let text = text.copy(alloc)?;
+    all.push((sort, text))?;
+    Ok(())
+}

@@ -1,0 +1,103 @@
+// The variables of a formula and of the elements in it, found in one walk from below.
+ghost use Rattle.std.specs.Prelude.{◌≡◌, ◌∷◌, [], IfOk, OnOk, List as ListOf, map};
+ghost use Rattle.lrp_model.specs.Variables.{Variable as VariableOf, bound_by, free};
+ghost use Rattle.lrp_core.specs.Cores.{core_of, cores_of};
+ghost use Rattle.lrp_model.specs.Formulas.{conjunction};
+ghost use Rattle.lrp_core.specs.FreeVariables.{variable_of, with_variable, with_variables, others, each_once};
+ghost use Rattle.lrp_core.specs.VariableTrees.{Trees, tree, no_trees, tree_of, free_tree};
+
+use crate::variables::add_others;
+use crate::{Core, Variable, free_variables};
+use lrp_model::{Copies, List, Memory, Name, Sort};
+use std::alloc::Global;
+
+/// The variables that occur free in a formula, each once; and, in order, the trees of the elements of the `and` or the `or`
+/// that it is, or that stands in it behind `not`s and quantifiers alone.
+#[derive(Debug, Drop)]
+pub struct VariableTree {
+    pub variables: List<Variable>,
+    pub inner: Vec<VariableTree>,
+}
+
+/// The tree of a core form. Each part of it is looked at once.
+#[cycle(trees)]
+pub fn variable_tree(alloc: Global, core: &Core) -> Result<VariableTree, Memory>
+    ensures { IfOk result (λ made. tree_of made ≡ free_tree (core_of core.now)) }
+{
+    match core {
+        Core::Atom { .. } => leaf(alloc, core),
+        Core::Check { .. } => leaf(alloc, core),
+        Core::Sorted { .. } => leaf(alloc, core),
+        Core::Not { of } => variable_tree(alloc, of),
+        Core::And { of } => tree_of_all(alloc, of),
+        Core::Or { of } => tree_of_all(alloc, of),
+        Core::Exists { name, sort, of } => {
+            let inner = variable_tree(alloc, of)?;
+            without(alloc, inner, sort, name)
+        }
+    }
+}
+
+// The tree of these elements.
+#[cycle(trees)]
+fn tree_of_all(alloc: Global, of: &[Core]) -> Result<VariableTree, Memory>
+    ensures { IfOk result (λ made. tree_of made ≡ free_tree (conjunction (cores_of of.now))) }
+{
+    let mut variables = List::new(alloc);
+    let mut inner = Vec::with_capacity(alloc, of.len())?;
+    for core in of {
+        let part = variable_tree(alloc, core)?;
+        add_copies(alloc, &mut variables, part.variables.as_slice())?;
+        inner.push(part)?;
+    }
+    Ok(VariableTree { variables, inner })
+}
+
+// The tree of a formula with no elements in it.
+fn leaf(alloc: Global, core: &Core) -> Result<VariableTree, Memory>
+    ensures { IfOk result (λ made. tree_of made ≡ tree (each_once (free (core_of core.now))) no_trees) }
+{
+    let variables = free_variables(alloc, core)?;
+    Ok(VariableTree {
+        variables,
+        inner: Vec::new(alloc),
+    })
+}
+
+// The tree of a formula under a quantifier of this sort and name.
+fn without(
+    alloc: Global,
+    of: VariableTree,
+    sort: &Sort,
+    name: &Name,
+) -> Result<VariableTree, Memory>
+    ensures { IfOk result (λ made. (vs : ListOf VariableOf) (inner : Trees) → tree_of of ≡ tree vs inner → tree_of made ≡ tree (each_once (others (bound_by sort.now name.now) vs)) inner) }
+{
+    let VariableTree {
+        variables: all,
+        inner,
+    } = of;
+    let mut variables = List::new(alloc);
+    add_others(&mut variables, all, sort, name)?;
+    Ok(VariableTree { variables, inner })
+}
+
+// Copies of the variables, each behind the others where it is none of them yet.
+fn add_copies(alloc: Global, all: &mut List<Variable>, more: &[Variable]) -> Result<(), Memory>
+    ensures { OnOk result (map variable_of all.new ≡ with_variables (map variable_of all.old) (map variable_of more.now)) }
+{
+    for variable in more {
+        add_copy(alloc, all, variable)?;
+    }
+    Ok(())
+}
+
+// A copy of the variable, where it is none of them yet.
+fn add_copy(alloc: Global, all: &mut List<Variable>, variable: &Variable) -> Result<(), Memory>
+    ensures { OnOk result (map variable_of all.new ≡ with_variable (map variable_of all.old) (variable_of variable.now)) }
+{
+    if !variable.is_among(all.as_slice()) {
+        all.push(variable.copy(alloc)?)?;
+    }
+    Ok(())
+}

@@ -1,7 +1,0 @@
-use Rattle.std.proofs.Common.{◌≡◌, ◌++◌, take}
-use Rattle.lrp_rel.specs.Once.{texts_with}
-use Rattle.lrp_plan.proofs.sources.add_texts.Given as goal
-
--- those of the texts so far were added
-abbrev pub invariant-loop-entry : goal.invariant-loop-entry
-invariant-loop-entry l = l.all.items ≡ l.fn.all.items ++ texts_with l.sort (take l.entry-index l.texts)

@@ -1,9 +1,0 @@
-use Rattle.std.proofs.Common.{◌∙◌, rules}
-use Rattle.std.specs.Prelude.{IsPermutation}
-use Rattle.lrp_model.proofs.Ascending.{sorted_once}
-use Rattle.lrp_plan.proofs.sources.in_order.Goals as goal
-
-pub returns : goal.returns
-returns c =
-    let moved : IsPermutation c.args.texts.items c.sort.new.self.items = search rules in
-    c.from_vec.ensures ∙ sorted_once c.args.texts.items c.sort.new.self.items c.drop_doubles.new.texts.items moved c.in_ok-sort.ensures.sorted c.drop_doubles.ensures
