@@ -1,0 +1,6 @@
+-- What systems of zones stand for, and which residues are tried for their solutions.
+pub mod Choices
+pub mod Parts
+pub mod Pieces
+pub mod Residues
+pub mod Systems

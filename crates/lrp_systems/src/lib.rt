@@ -1,0 +1,14 @@
+//! Systems of zones over joint columns: the tuples that lie in each of them, added to a store cell by cell.
+#![tactic(auto)]
+
+mod choice;
+mod part;
+mod piece;
+mod residue;
+mod system;
+
+pub use part::Part;
+pub use system::add_system;
+
+#[cfg(test)]
+mod tests;
