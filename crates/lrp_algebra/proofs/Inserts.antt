@@ -1,5 +1,6 @@
 -- Lists with one value more or fewer.
 use Rattle.std.proofs.Common.{◌≡◌, ℕ, zero, suc, ◌+◌, ◌<◌, ◌≤◌, List, [], ◌∷◌, ◌++◌, length, take, drop, refl, ap, arith, get_or}
+use Rattle.std.specs.Prelude.{All}
 use Rattle.std.specs.List.{insert, remove, AllZip}
 use Rattle.std.proofs.lemmas.List.{length-append, take-append-drop}
 
@@ -29,6 +30,17 @@ get_inserted [] zero x d h = refl
 get_inserted [] (suc i) x d h = absurd (omega arith)
 get_inserted (y ∷ xs) zero x d h = refl
 get_inserted (y ∷ xs) (suc i) x d h = get_inserted xs i x d (omega arith)
+
+-- what holds of the first and of the others holds of all
+all_cons : {X : Type 0} (P : X → Type 0) (x : X) (xs : List X) → P x → All P xs → All P (x ∷ xs)
+all_cons P x xs p all zero d h = p
+all_cons P x xs p all (suc k) d h = all k d (omega arith)
+
+-- what holds of a list with one value more holds of the list
+pub all_inserted : {X : Type 0} (P : X → Type 0) (xs : List X) (i : ℕ) (x : X) → All P (insert xs i x) → All P xs
+all_inserted P [] i x all = λ k d h. absurd (omega arith)
+all_inserted P (y ∷ xs) zero x all = λ k d h. all (suc k) d (omega arith)
+all_inserted P (y ∷ xs) (suc i) x all = all_cons P y xs (all 0 y (omega arith)) (all_inserted P xs i x (λ k d h. all (suc k) d (omega arith)))
 
 -- one pair more
 pub zip_insert : {X Y : Type 0} (R : X → Y → Type 0) (xs : List X) (ys : List Y) (i : ℕ) (x : X) (y : Y) → i ≤ length ys → AllZip R xs ys → R x y → AllZip R (insert xs i x) (insert ys i y)

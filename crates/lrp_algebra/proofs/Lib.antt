@@ -1,9 +1,15 @@
--- The lemmas: the zones of a store, passes over them, and columns by their names.
-pub mod Adding
+-- The lemmas: cells and lists with one value fewer, and sets that are added part by part.
+pub mod Compared
+pub mod Conditioned
 pub mod Cuts
+pub mod Extended
+pub mod Filled
+pub mod Found
+pub mod Leaves
+pub mod Parts
 pub mod Inserts
-pub mod Named
-pub mod Passing
-pub mod Pieced
+pub mod Selected
+pub mod Steps
 pub mod TextDropped
 pub mod TimeDropped
+pub mod United

@@ -1,6 +1,6 @@
 -- The tuples of a zone and of a table without one data column.
 use Rattle.std.proofs.Common.{◌≡◌, ℕ, ◌+◌, ◌-◌, ◌<◌, ◌≤◌, List, [], ◌++◌, length, take, Some, refl, sym, ap, subst, ◌∙◌, arith, map, get_or, Contains, ◌⊎◌, inl, inr}
-use Rattle.std.specs.Prelude.{ℤ, AllPairs, ◌≢◌, slice_get}
+use Rattle.std.specs.Prelude.{ℤ, All, AllPairs, ◌≢◌, slice_get}
 use Rattle.std.specs.List.{insert, remove}
 use Rattle.std.specs.FinMap as finite
 use Rattle.std.proofs.lemmas.List.{length-take-le, length-map, get_or-take}
@@ -12,20 +12,24 @@ use Rattle.lrp_model.specs.Satisfaction.{Assignment, with_value}
 use Rattle.lrp_zone.specs.Zones.{IsZone, IsMember, reach_of}
 use Rattle.lrp_store.specs.Stores.{StoreView, IsStore, InStore, tables_at}
 use Rattle.lrp_store.specs.Growing.{IsAdded}
-use Rattle.lrp_store.specs.Tables.{InTable, AreTexts}
+use Rattle.lrp_store.specs.Tables.{InTable, AreTexts, AreNumbered}
 use Rattle.lrp_store.specs.declared.table.Table.{Table}
 use Rattle.lrp_store.proofs.Grown.{grown_same}
 use Rattle.lrp_store.proofs.Aligning.{nothing_held}
-use Rattle.lrp_algebra.specs.Columns.{IsCut, others}
-use Rattle.lrp_algebra.specs.Pieces.{InPiece, Fits}
-use Rattle.lrp_algebra.specs.Tuples.{IsMade, IsWithoutText, IsStoreWithoutText}
-use Rattle.lrp_algebra.specs.Tables.{Has, IsTextDropped}
-use Rattle.lrp_algebra.specs.declared.pieces.Piece.{Piece}
-use Rattle.lrp_algebra.proofs.Adding.{IsZoneOf}
+use Rattle.lrp_algebra.specs.Columns.{IsCut}
+use Rattle.lrp_tables.specs.Columns.{others}
+use Rattle.lrp_tables.specs.Pieces.{InPiece, Fits}
+use Rattle.lrp_tables.specs.Passes.{IsMade}
+use Rattle.lrp_algebra.specs.Tuples.{IsWithoutText, IsStoreWithoutText}
+use Rattle.lrp_tables.specs.Tables.{Has}
+use Rattle.lrp_algebra.specs.Tables.{IsTextDropped}
+use Rattle.lrp_tables.specs.declared.pieces.Piece.{Piece}
+use Rattle.lrp_tables.proofs.Adding.{IsZoneOf}
+use Rattle.lrp_tables.proofs.TableMade.{held_known, numbered_by}
 use Rattle.lrp_algebra.proofs.Cuts.{cut_front, cut_padded}
-use Rattle.lrp_algebra.proofs.Inserts.{length_insert, insert_removed, remove_inserted, get_inserted, zip_insert, zip_removed}
-use Rattle.lrp_algebra.proofs.Named.{inserted, unchanged, others_all, others_fewer, pairs_right}
-use Rattle.lrp_algebra.proofs.Passing.{nothing_at}
+use Rattle.lrp_algebra.proofs.Inserts.{length_insert, insert_removed, remove_inserted, get_inserted, zip_insert, zip_removed, all_inserted}
+use Rattle.lrp_tables.proofs.Named.{inserted, unchanged, others_all, others_fewer, pairs_right}
+use Rattle.lrp_tables.proofs.Passing.{nothing_at}
 use Rattle.lrp_algebra.proofs.TimeDropped.{spare_same, same_spare}
 
 -- the zone in the cell without the text has what is left of the tuples
@@ -108,7 +112,7 @@ pub number_text : (domain : List Text) (n : ℕ) → n < length domain → (t : 
 number_text domain n h = (get_or domain n [], Contains-get_or domain n [] h, slice_get-get_or domain n [] h)
 
 -- a table without one data column, or its copy or no assignment where there is none of the name
-module _ (domain : List Text) (name : Identifier) (old new : Table) (times : new.vars.times ≡ old.vars.times) (texts : new.vars.texts ≡ others name old.vars.texts) (differ : AllPairs ◌≢◌ (old.vars.times ++ old.vars.texts)) where
+module _ (domain : List Text) (name : Identifier) (old new : Table) (times : new.vars.times ≡ old.vars.times) (texts : new.vars.texts ≡ others name old.vars.texts) (differ : AllPairs ◌≢◌ (old.vars.times ++ old.vars.texts)) (is_old : IsStore old.store) (is_new : IsStore new.store) where
   -- the columns of the new table
   abbrev Old : Assignment → Type 0
   Old env = InTable domain old.vars.times (others name old.vars.texts) new.store env
@@ -168,6 +172,8 @@ module _ (domain : List Text) (name : Identifier) (old new : Table) (times : new
       to = λ env h. to_dropped env (to_old env h);
       from = λ env t c h. of_old env (of_dropped env t h);
       reach = m.made.within;
+      numbered = λ n. numbered_by new.store is_new domain (λ xs ns h.
+          let g = m.made.same.sound xs ns h in all_inserted (λ k. k < length domain) ns place g.made.value (subst (λ l. All (λ k. k < length domain) l) g.made.texts_are (held_known old.store is_old domain n g.old_times g.old_texts g.is)));
     }
 
   -- no column has the name
@@ -192,6 +198,7 @@ module _ (domain : List Text) (name : Identifier) (old new : Table) (times : new
         to = λ env h. to_kept env (to_old env h);
         from = λ env t c h. of_old env (of_kept env t h);
         reach = λ high r. record { each = λ c t h. r.each c t (subst (λ s. Contains (tables_at s c) t) same h) };
+        numbered = λ n. subst (λ s. AreNumbered domain s) (sym same) n;
       }
 
     -- and the domain has no text
@@ -203,6 +210,7 @@ module _ (domain : List Text) (name : Identifier) (old new : Table) (times : new
       to = λ env h. absurd (nothing_held new.store empty _ _ h.2);
       from = λ env t c h. let l : c.0 < length domain = c.1 in absurd (omega arith);
       reach = λ high r. record { each = λ c t h. absurd (nothing_at new.store empty c t h) };
+      numbered = λ n. numbered_by new.store is_new domain (λ xs ns h. absurd (nothing_held new.store empty xs ns h));
     }
 
 -- the store without the column of the name, or its copy or no cell where there is none
@@ -213,12 +221,12 @@ StoreOf domain name old new =
 
 module _ (domain : List Text) (name : Identifier) (old : Table) (differ : AllPairs ◌≢◌ (old.vars.times ++ old.vars.texts)) where
   -- each has what is left of the assignments
-  pub either_dropped : (new : Table) → new.vars.times ≡ old.vars.times → new.vars.texts ≡ others name old.vars.texts → StoreOf domain name old new.store → IsTextDropped domain name old new
-  either_dropped new times texts h = elim h [
-    | inl g ↦ texts_dropped domain name old new times texts differ g.0 g.1 (length domain) refl g.2
+  pub either_dropped : (new : Table) → new.vars.times ≡ old.vars.times → new.vars.texts ≡ others name old.vars.texts → StoreOf domain name old new.store → IsStore old.store → IsStore new.store → IsTextDropped domain name old new
+  either_dropped new times texts h is_old is_new = elim h [
+    | inl g ↦ texts_dropped domain name old new times texts differ is_old is_new g.0 g.1 (length domain) refl g.2
     | inr g ↦ elim g.1 [
-      | inl k ↦ texts_copied domain name old new times texts differ g.0 k.0 k.1
-      | inr k ↦ texts_emptied domain name old new times texts differ g.0 k.1 k.2 k.3
+      | inl k ↦ texts_copied domain name old new times texts differ is_old is_new g.0 k.0 k.1
+      | inr k ↦ texts_emptied domain name old new times texts differ is_old is_new g.0 k.1 k.2 k.3
     ]
   ]
 

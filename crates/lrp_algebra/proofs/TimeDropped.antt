@@ -1,6 +1,6 @@
 -- The tuples of a zone and of a table without one time column.
 use Rattle.std.proofs.Common.{◌≡◌, ℕ, ◌+◌, ◌-◌, ◌*◌, ◌<◌, ◌≤◌, List, ◌++◌, length, take, Some, refl, sym, ap, subst, ◌∙◌, arith, map, Contains, ◌⊎◌, inl, inr}
-use Rattle.std.specs.Prelude.{ℤ, pos, AllPairs, ◌≢◌, slice_get}
+use Rattle.std.specs.Prelude.{ℤ, pos, All, AllPairs, ◌≢◌, slice_get}
 use Rattle.std.specs.List.{insert, remove}
 use Rattle.std.proofs.lemmas.List.{length-take-le}
 use Rattle.std.proofs.lemmas.List.Edits.{length-remove}
@@ -10,15 +10,19 @@ use Rattle.lrp_model.specs.Satisfaction.{Assignment, with_value}
 use Rattle.lrp_zone.specs.Zones.{ZoneView, IsZone, IsMember, columns_of, reach_of}
 use Rattle.lrp_zone.specs.Columns.{IsDropped}
 use Rattle.lrp_store.specs.Stores.{StoreView, IsStore, InStore, HasReach, zone_of, tables_at}
-use Rattle.lrp_store.specs.Tables.{InTable}
+use Rattle.lrp_store.specs.Tables.{InTable, AreNumbered}
 use Rattle.lrp_store.specs.declared.table.Table.{Table}
-use Rattle.lrp_algebra.specs.Columns.{IsCut, others}
-use Rattle.lrp_algebra.specs.Pieces.{InPiece, Fits}
-use Rattle.lrp_algebra.specs.Tuples.{IsMade, IsWithoutTime, IsStoreWithoutTime}
-use Rattle.lrp_algebra.specs.Tables.{Has, IsTimeDropped}
-use Rattle.lrp_algebra.specs.declared.pieces.Piece.{Piece}
-use Rattle.lrp_algebra.proofs.Named.{inserted, unchanged, others_all, others_fewer, pairs_left}
-use Rattle.lrp_algebra.proofs.Adding.{IsZoneOf}
+use Rattle.lrp_algebra.specs.Columns.{IsCut}
+use Rattle.lrp_tables.specs.Columns.{others}
+use Rattle.lrp_tables.specs.Pieces.{InPiece, Fits}
+use Rattle.lrp_tables.specs.Passes.{IsMade}
+use Rattle.lrp_algebra.specs.Tuples.{IsWithoutTime, IsStoreWithoutTime}
+use Rattle.lrp_tables.specs.Tables.{Has}
+use Rattle.lrp_algebra.specs.Tables.{IsTimeDropped}
+use Rattle.lrp_tables.specs.declared.pieces.Piece.{Piece}
+use Rattle.lrp_tables.proofs.Named.{inserted, unchanged, others_all, others_fewer, pairs_left}
+use Rattle.lrp_tables.proofs.Adding.{IsZoneOf}
+use Rattle.lrp_tables.proofs.TableMade.{held_known, numbered_by}
 use Rattle.lrp_algebra.proofs.Cuts.{cut_front, cut_padded}
 use Rattle.lrp_algebra.proofs.Inserts.{length_insert}
 
@@ -88,7 +92,7 @@ fits_longer s out place low shape period piece fits =
     (subst (λ m. Fits (record { times = out.shape.times + 1; texts = m }) s.period piece) (sym (ap (λ h. h.texts) shape)) (subst (λ n. Fits (record { times = n; texts = s.shape.texts }) s.period piece) times fits))
 
 -- a table without one time column, or its copy where there is none of the name
-module _ (name : Identifier) (old new : Table) (times : new.vars.times ≡ others name old.vars.times) (texts : new.vars.texts ≡ old.vars.texts) (differ : AllPairs ◌≢◌ (old.vars.times ++ old.vars.texts)) where
+module _ (name : Identifier) (old new : Table) (times : new.vars.times ≡ others name old.vars.times) (texts : new.vars.texts ≡ old.vars.texts) (differ : AllPairs ◌≢◌ (old.vars.times ++ old.vars.texts)) (is_old : IsStore old.store) (is_new : IsStore new.store) where
   -- the columns of the new table
   abbrev Old : List Text → Assignment → Type 0
   Old domain env = InTable domain (others name old.vars.times) old.vars.texts new.store env
@@ -130,6 +134,7 @@ module _ (name : Identifier) (old new : Table) (times : new.vars.times ≡ other
       to = λ domain env h. to_dropped domain env (to_old domain env h);
       from = λ domain env x h. of_old domain env (of_dropped domain env x h);
       reach = m.made.within;
+      numbered = λ domain n. numbered_by new.store is_new domain (λ xs ns h. let g = m.made.same.sound xs ns h in subst (λ l. All (λ k. k < length domain) l) g.made.texts_are (held_known old.store is_old domain n g.old_times g.old_texts g.is));
     }
 
   -- no column has the name
@@ -151,6 +156,7 @@ module _ (name : Identifier) (old new : Table) (times : new.vars.times ≡ other
       to = λ domain env h. to_kept domain env (to_old domain env h);
       from = λ domain env x h. of_old domain env (of_kept domain env x h);
       reach = λ high r. record { each = λ c t h. let l : reach_of (zone_of old.store c t) ≤ high = r.each c t (subst (λ s. Contains (tables_at s c) t) same h) in omega (arith, l) };
+      numbered = λ domain n. subst (λ s. AreNumbered domain s) (sym same) n;
     }
 
 -- the store without the column of the name, or its copy where there is none
@@ -159,10 +165,10 @@ StoreOf name old new = ((place : ℕ) × (slice_get old.vars.times place ≡ Som
 
 module _ (name : Identifier) (old : Table) (differ : AllPairs ◌≢◌ (old.vars.times ++ old.vars.texts)) where
   -- either has what is left of the assignments
-  pub either_dropped : (new : Table) → new.vars.times ≡ others name old.vars.times → new.vars.texts ≡ old.vars.texts → StoreOf name old new.store → IsTimeDropped name old new
-  either_dropped new times texts h = elim h [
-    | inl g ↦ table_dropped name old new times texts differ g.0 g.1 g.2
-    | inr g ↦ table_copied name old new times texts differ g.0 g.1
+  pub either_dropped : (new : Table) → new.vars.times ≡ others name old.vars.times → new.vars.texts ≡ old.vars.texts → StoreOf name old new.store → IsStore old.store → IsStore new.store → IsTimeDropped name old new
+  either_dropped new times texts h is_old is_new = elim h [
+    | inl g ↦ table_dropped name old new times texts differ is_old is_new g.0 g.1 g.2
+    | inr g ↦ table_copied name old new times texts differ is_old is_new g.0 g.1
   ]
 
   -- a column for each name

@@ -1,5 +1,9 @@
 -- What the operations on tables do.
 pub mod Columns
-pub mod Pieces
+pub mod Comparisons
+pub mod Conditions
+pub mod Fillings
+pub mod Gathered
+pub mod Patterns
 pub mod Tables
 pub mod Tuples

@@ -4,15 +4,12 @@ use Rattle.lrp_model.specs.Texts.{Text, Identifier}
 use Rattle.lrp_model.specs.Rows.{time, text}
 use Rattle.lrp_model.specs.Satisfaction.{Assignment, with_value}
 use Rattle.lrp_store.specs.Stores.{HasReach}
-use Rattle.lrp_store.specs.Tables.{InTable}
+use Rattle.lrp_store.specs.Tables.{AreNumbered}
 use Rattle.lrp_store.specs.declared.table.Table.{Table}
-use Rattle.lrp_algebra.specs.Columns.{others}
+use Rattle.lrp_tables.specs.Columns.{others}
+use Rattle.lrp_tables.specs.Tables.{Has}
 
--- the table has the assignment, where the numbers of its texts are those of the domain
-abbrev pub Has : Table → List Text → Assignment → Type 0
-Has table domain env = InTable domain table.vars.times table.vars.texts table.store env
-
--- the assignments of old that some integer for the time variable completes
+-- the assignments of old that some integer for the time variable completes; numbers of texts stay numbers of a domain
 pub record IsTimeDropped (name : Identifier) (old new : Table) : Type 0 where
   pub times : new.vars.times ≡ others name old.vars.times
   pub texts : new.vars.texts ≡ old.vars.texts
@@ -20,8 +17,9 @@ pub record IsTimeDropped (name : Identifier) (old new : Table) : Type 0 where
   pub to : (domain : List Text) (env : Assignment) → Has new domain env → (x : ℤ) × Has old domain (with_value name (time x) env)
   pub from : (domain : List Text) (env : Assignment) (x : ℤ) → Has old domain (with_value name (time x) env) → Has new domain env
   pub reach : (high : ℕ) → HasReach old.store high → HasReach new.store (2 * high)
+  pub numbered : (domain : List Text) → AreNumbered domain old.store → AreNumbered domain new.store
 
--- the assignments of old that some text of the domain for the data variable completes
+-- the assignments of old that some text of the domain for the data variable completes; numbers of texts stay numbers of the domain
 pub record IsTextDropped (domain : List Text) (name : Identifier) (old new : Table) : Type 0 where
   pub times : new.vars.times ≡ old.vars.times
   pub texts : new.vars.texts ≡ others name old.vars.texts
@@ -29,3 +27,4 @@ pub record IsTextDropped (domain : List Text) (name : Identifier) (old new : Tab
   pub to : (env : Assignment) → Has new domain env → (t : Text) × Contains domain t × Has old domain (with_value name (text t) env)
   pub from : (env : Assignment) (t : Text) → Contains domain t → Has old domain (with_value name (text t) env) → Has new domain env
   pub reach : (high : ℕ) → HasReach old.store high → HasReach new.store high
+  pub numbered : AreNumbered domain old.store → AreNumbered domain new.store

@@ -2,15 +2,15 @@
 ghost use Rattle.std.specs.Prelude.{◌≡◌, ◌+◌, ◌-◌, ◌<◌, ◌≤◌, ◌^◌, ℕ, OnOk, IfOk};
 ghost use Rattle.lrp_zone.specs.Zones.{reach_of};
 ghost use Rattle.lrp_store.specs.Growing.{IsAdded};
-ghost use Rattle.lrp_algebra.specs.Pieces.{Fits, InPiece};
-ghost use Rattle.lrp_algebra.specs.Tuples.{IsMade, IsWithoutText, IsStoreWithoutText};
+ghost use Rattle.lrp_tables.specs.Pieces.{Fits, InPiece};
+ghost use Rattle.lrp_tables.specs.Passes.{IsMade};
+ghost use Rattle.lrp_algebra.specs.Tuples.{IsWithoutText, IsStoreWithoutText};
 ghost use Rattle.lrp_algebra.specs.Tables.{IsTextDropped};
 
-use crate::names::{place_of, without};
-use crate::pieces::{Piece, Pieces};
 use crate::places::without_number;
 use lrp_model::{Cell, Domain, Memory, Name, Shape};
-use lrp_store::{Store, StoreFault, Table, Vars};
+use lrp_store::{Store, StoreFault};
+use lrp_tables::{Piece, Pieces, Table, Vars, place_of, without};
 use std::alloc::Global;
 
 /// The assignments that some text of the domain for the data variable completes to one of the table, over its other columns.
@@ -35,6 +35,7 @@ pub fn drop_data(
         None if size == 0 => Store::new(alloc, shape, table.store.period()),
         None => table.store.copy()?,
     };
+    store.shape();
     Ok(Table { vars, store })
 }
 

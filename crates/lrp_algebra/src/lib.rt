@@ -1,14 +1,29 @@
 //! The operations on tables by which a query's plan is run.
 #![tactic(auto)]
 
+mod columns;
+mod comparisons;
+mod conditions;
 mod data_drops;
-mod names;
-mod pieces;
+mod equalities;
+mod filling;
+mod gathering;
+mod layout;
+mod pair;
+mod pattern;
 mod places;
+mod selections;
+mod sides;
+mod test_tables;
+mod tested;
 #[cfg(test)]
 mod tests;
 mod time_drops;
+mod unions;
 
 pub use data_drops::drop_data;
-pub use lrp_store::{StepFault, Table, Vars};
+pub use lrp_tables::{StepFault, Table, Vars};
+pub use selections::select;
+pub use test_tables::leaf;
 pub use time_drops::drop_time;
+pub use unions::{extend, union};

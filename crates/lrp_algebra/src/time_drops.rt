@@ -3,15 +3,15 @@ ghost use Rattle.std.specs.Prelude.{◌≡◌, ◌+◌, ◌*◌, ◌-◌, ◌<�
 ghost use Rattle.lrp_zone.specs.Zones.{reach_of};
 ghost use Rattle.lrp_store.specs.Stores.{InStore, HasReach, HoldsJust};
 ghost use Rattle.lrp_store.specs.Growing.{IsAdded, IsRefused};
-ghost use Rattle.lrp_algebra.specs.Pieces.{Fits, InPiece};
-ghost use Rattle.lrp_algebra.specs.Tuples.{IsMade, IsWithoutTime, IsStoreWithoutTime};
+ghost use Rattle.lrp_tables.specs.Pieces.{Fits, InPiece};
+ghost use Rattle.lrp_tables.specs.Passes.{IsMade};
+ghost use Rattle.lrp_algebra.specs.Tuples.{IsWithoutTime, IsStoreWithoutTime};
 ghost use Rattle.lrp_algebra.specs.Tables.{IsTimeDropped};
 
-use crate::names::{place_of, without};
-use crate::pieces::{Piece, Pieces};
 use crate::places::without_residue;
 use lrp_model::{Cell, Copies, Memory, Name, Shape};
-use lrp_store::{Store, StoreFault, Table, Vars};
+use lrp_store::{Store, StoreFault};
+use lrp_tables::{Piece, Pieces, Table, Vars, place_of, without};
 use std::alloc::Global;
 
 /// The assignments that some integer for the time variable completes to one of the table, over its other columns.
@@ -30,6 +30,7 @@ pub fn drop_time(alloc: Global, table: &Table, name: &Name) -> Result<Table, Mem
         Some(place) => without_time(alloc, &table.store, place)?,
         None => table.store.copy()?,
     };
+    store.shape();
     Ok(Table { vars, store })
 }
 

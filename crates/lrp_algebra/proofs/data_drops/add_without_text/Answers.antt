@@ -1,6 +1,6 @@
 -- The zone in the cell without the text has what is left of the tuples.
 use Rattle.lrp_zone.specs.Zones.{reach_of}
-use Rattle.lrp_algebra.proofs.Adding.{zone_added}
+use Rattle.lrp_tables.proofs.Adding.{zone_added}
 use Rattle.lrp_algebra.proofs.TextDropped.{text_dropped}
 use Rattle.lrp_algebra.proofs.data_drops.add_without_text.Goals as goal
 

@@ -4,7 +4,7 @@ use Rattle.std.specs.Prelude.{AllPairs, ◌≢◌}
 use Rattle.std.proofs.lemmas.Int.{ints}
 use Rattle.lrp_store.specs.Stores.{StoreView}
 use Rattle.lrp_algebra.specs.Tuples.{IsStoreWithoutText}
-use Rattle.lrp_algebra.proofs.Named.{others_differ_behind}
+use Rattle.lrp_tables.proofs.Named.{others_differ_behind}
 use Rattle.lrp_algebra.proofs.TextDropped.{StoreOf, either_dropped, either_times, either_texts}
 use Rattle.lrp_algebra.proofs.data_drops.drop_data.Goals as goal
 use Rattle.lrp_algebra.proofs.data_drops.drop_data.Goals.{in-Some+in_ok-store-in-Some, in-None, in-None-2+in_ok-store-in-None-2}
@@ -59,4 +59,4 @@ returns c =
           inr (w.in-None.ensures.none, inl (subst (λ (s : StoreView). s ≡ record c.args.table.now.store { spare = s.spare }) (sym w.store-is) w.in_ok-store-in-None-2.ensures, low))
           )
     ] in
-    either_dropped c.args.domain.now c.args.name.now c.args.table.now c.args.table.now.names_differ _ c.in_ok-copy.ensures c.in_ok-without.ensures store
+    either_dropped c.args.domain.now c.args.name.now c.args.table.now c.args.table.now.names_differ _ c.in_ok-copy.ensures c.in_ok-without.ensures store c.shape-shape.ensures.valid c.shape.ensures.valid

@@ -1,10 +1,10 @@
 -- Zone after zone, what is left of all tuples is held.
 use Rattle.std.proofs.Common.{◌≡◌, ◌+◌, ◌-◌, ◌<◌, ◌≤◌, ◌^◌, sym, ap, subst, ◌∙◌, arith}
 use Rattle.std.proofs.lemmas.Int.{ints}
-use Rattle.lrp_algebra.specs.Pieces.{ArePieces}
+use Rattle.lrp_tables.specs.Pieces.{ArePieces}
 use Rattle.lrp_algebra.specs.Tuples.{IsWithoutText}
-use Rattle.lrp_algebra.proofs.Pieced.{piece_fits, any_reach}
-use Rattle.lrp_algebra.proofs.Passing.{IsPassing, passing_none, passing_more, next_is, passed}
+use Rattle.lrp_tables.proofs.Pieced.{piece_fits, any_reach}
+use Rattle.lrp_tables.proofs.Passing.{IsPassing, passing_none, passing_more, next_is, passed}
 use Rattle.lrp_algebra.proofs.TextDropped.{fits_wider}
 use Rattle.lrp_algebra.proofs.data_drops.without_text.Goals as goal
 

@@ -1,7 +1,7 @@
 -- What is left of the tuples of the zones that are behind was added.
 use Rattle.std.proofs.Common.{◌-◌, ◌^◌}
 use Rattle.lrp_algebra.specs.Tuples.{IsWithoutText}
-use Rattle.lrp_algebra.proofs.Passing.{IsPassing}
+use Rattle.lrp_tables.proofs.Passing.{IsPassing}
 use Rattle.lrp_algebra.proofs.data_drops.without_text.Given as goal
 
 abbrev pub invariant-loop-piece : goal.invariant-loop-piece

@@ -1,7 +1,7 @@
 -- The zone without the column has what is left of the tuples.
 use Rattle.std.proofs.Common.{◌*◌}
 use Rattle.lrp_zone.specs.Zones.{reach_of}
-use Rattle.lrp_algebra.proofs.Adding.{zone_added}
+use Rattle.lrp_tables.proofs.Adding.{zone_added}
 use Rattle.lrp_algebra.proofs.TimeDropped.{time_dropped}
 use Rattle.lrp_algebra.proofs.time_drops.add_without_time.Goals as goal
 

@@ -2,9 +2,9 @@
 use Rattle.std.proofs.Common.{◌≡◌, inl, inr, sym, ap, subst, ◌∙◌, length, ◌++◌}
 use Rattle.std.specs.Prelude.{AllPairs, ◌≢◌}
 use Rattle.lrp_store.specs.Stores.{StoreView}
-use Rattle.lrp_algebra.specs.Columns.{others}
+use Rattle.lrp_tables.specs.Columns.{others}
 use Rattle.lrp_algebra.specs.Tuples.{IsStoreWithoutTime}
-use Rattle.lrp_algebra.proofs.Named.{others_differ}
+use Rattle.lrp_tables.proofs.Named.{others_differ}
 use Rattle.lrp_algebra.proofs.TimeDropped.{StoreOf, either_dropped, either_times, either_texts}
 use Rattle.lrp_algebra.proofs.time_drops.drop_time.Goals as goal
 use Rattle.lrp_algebra.proofs.time_drops.drop_time.Goals.{in-Some+in_ok-store-in-Some, in-None+in_ok-store-in-None}
@@ -27,4 +27,4 @@ returns c =
       | in-Some+in_ok-store-in-Some w ↦ inl (w.in-Some.place, w.in-Some.ensures.some, subst (λ s. IsStoreWithoutTime w.in-Some.place c.args.table.now.store s) (sym w.store-is) w.in_ok-store-in-Some.ensures)
       | in-None+in_ok-store-in-None w ↦ inr (w.in-None.ensures.none, subst (λ (s : StoreView). s ≡ record c.args.table.now.store { spare = s.spare }) (sym w.store-is) w.in_ok-store-in-None.ensures)
     ] in
-    either_dropped c.args.name.now c.args.table.now c.args.table.now.names_differ _ c.in_ok-without.ensures c.in_ok-copy.ensures store
+    either_dropped c.args.name.now c.args.table.now c.args.table.now.names_differ _ c.in_ok-without.ensures c.in_ok-copy.ensures store c.shape.ensures.valid c.shape-2.ensures.valid

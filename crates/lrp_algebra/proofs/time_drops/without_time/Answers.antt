@@ -2,10 +2,10 @@
 use Rattle.std.proofs.Common.{◌≡◌, ◌*◌, ◌-◌, ◌<◌, ◌≤◌, ◌^◌, sym, ap, subst, ◌∙◌, arith}
 use Rattle.std.proofs.lemmas.Int.{ints}
 use Rattle.lrp_zone.specs.Zones.{reach_of}
-use Rattle.lrp_algebra.specs.Pieces.{ArePieces}
+use Rattle.lrp_tables.specs.Pieces.{ArePieces}
 use Rattle.lrp_algebra.specs.Tuples.{IsWithoutTime}
-use Rattle.lrp_algebra.proofs.Pieced.{piece_fits, piece_reach}
-use Rattle.lrp_algebra.proofs.Passing.{IsPassing, passing_none, passing_more, next_is, passed}
+use Rattle.lrp_tables.proofs.Pieced.{piece_fits, piece_reach}
+use Rattle.lrp_tables.proofs.Passing.{IsPassing, passing_none, passing_more, next_is, passed}
 use Rattle.lrp_algebra.proofs.TimeDropped.{fits_longer}
 use Rattle.lrp_algebra.proofs.time_drops.without_time.Goals as goal
 

@@ -1,6 +1,0 @@
--- The name is none of those before.
-use Rattle.std.proofs.Common.{◌≡◌, ℕ, ◌<◌, Some, slice_get}
-use Rattle.lrp_algebra.proofs.names.place_of.Given as goal
-
-abbrev pub invariant-loop-place : goal.invariant-loop-place
-invariant-loop-place l = (k : ℕ) → k < l.place → slice_get l.names k ≡ Some l.name → ⊥

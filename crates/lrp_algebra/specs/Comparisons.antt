@@ -1,0 +1,32 @@
+-- What the bounds of a comparison stand for.
+use Rattle.std.specs.Prelude.{◌≡◌, ℕ, ℤ, ◌+◌, ◌≤◌, ◌+ℤ◌, ◌-ℤ◌, ◌≤ℤ◌, List, length, nat_abs, All, ◌⊎◌}
+use Rattle.lrp_theory.specs.Entries.{node}
+use Rattle.lrp_model.specs.Satisfaction.{Compares}
+use Rattle.lrp_model.specs.declared.relations.Bound.{Bound}
+use Rattle.lrp_model.specs.declared.formulas.Op.{Op}
+use Rattle.lrp_zone.specs.Zones.{ZoneView, IsMember, columns_of, reach_of}
+use Rattle.lrp_algebra.specs.declared.comparisons.Side.{Side}
+
+-- the value of a side
+abbrev pub side_value : Side → List ℤ → ℤ
+side_value side xs = node xs side.column +ℤ side.plus
+
+-- the bounds hold exactly where the left value compares with the right one and the number
+pub record AreBounds (op : Op) (left right : ℕ) (most : ℤ) (bounds : List Bound) : Type 0 where
+  pub count : length bounds ≡ 2
+  pub between : All (λ b. (b.left ≤ left ⊎ b.left ≤ right) × (b.right ≤ left ⊎ b.right ≤ right)) bounds
+  pub small : All (λ b. nat_abs b.most ≤ 1 + nat_abs most) bounds
+  pub to : (xs : List ℤ) → All (λ b. (node xs b.left -ℤ node xs b.right) ≤ℤ b.most) bounds → Compares op (node xs left) (node xs right +ℤ most)
+  pub from : (xs : List ℤ) → Compares op (node xs left) (node xs right +ℤ most) → All (λ b. (node xs b.left -ℤ node xs b.right) ≤ℤ b.most) bounds
+
+-- the zone holds the tuples of so many times whose sides compare
+pub record IsCompared (left : Side) (op : Op) (right : Side) (columns : ℕ) (z : ZoneView) : Type 0 where
+  pub period : z.period ≡ 1
+  pub count : columns_of z ≡ columns
+  pub to : (xs : List ℤ) → IsMember z xs → Compares op (side_value left xs) (side_value right xs)
+  pub from : (xs : List ℤ) → length xs ≡ columns → Compares op (side_value left xs) (side_value right xs) → IsMember z xs
+  pub reach : reach_of z ≤ 1 + nat_abs (left.plus -ℤ right.plus)
+
+-- no tuple of so many times has sides that compare
+pub record HasNoCompared (left : Side) (op : Op) (right : Side) (columns : ℕ) : Type 0 where
+  pub none : (xs : List ℤ) → length xs ≡ columns → Compares op (side_value left xs) (side_value right xs) → ⊥

@@ -1,0 +1,84 @@
+// Tests as conditions of a pattern.
+ghost use Rattle.std.specs.Prelude.{◌≡◌, ◌+◌, ◌<◌, ◌≤◌, ◌^◌, ◌++◌, ◌-ℤ◌, ◌≤ℤ◌, ℕ, List as ListOf, pos, nat_abs, length, slice_index, IfOk, MatchOption};
+ghost use Rattle.lrp_model.specs.Reach.{offset, test_reach};
+ghost use Rattle.lrp_model.specs.Texts.{Text, Identifier};
+ghost use Rattle.lrp_model.specs.declared.formulas.Test.TheVariants.{Compare, Member};
+ghost use Rattle.lrp_tables.specs.Columns.{names_of_time};
+ghost use Rattle.lrp_tables.specs.Tables.{AreNamesAmong};
+ghost use Rattle.lrp_algebra.specs.Conditions.{IsWithTest, HasNoTest};
+
+use crate::comparisons::{compared, shifted};
+use crate::pattern::Pattern;
+use crate::sides::side_of;
+use lrp_model::{Copies, List, Memory, Name, Op, RowPoint, TimeTerm};
+use lrp_zone::Zone;
+use std::alloc::Global;
+
+/// The pattern and a comparison of times of these variables, or `None` where nothing that the pattern asks for passes.
+pub fn with_comparison(
+    alloc: Global,
+    pattern: &Pattern,
+    left: &TimeTerm,
+    op: Op,
+    right: &TimeTerm,
+    times: &List<Name>,
+) -> Result<Option<Pattern>, Memory>
+    requires few { length times.now ≤ 8 }
+    requires known { length pattern.now.texts ≡ 8 }
+    requires left { AreNamesAmong (names_of_time left.now) times.now }
+    requires right { AreNamesAmong (names_of_time right.now) times.now }
+    requires reach { 1 + nat_abs (offset left.now -ℤ offset right.now) ≤ 2 ^ 62 }
+    ensures { IfOk result (λ found. (domain : ListOf Text) (texts : ListOf Identifier) → MatchOption found (HasNoTest domain times.now texts (Compare left.now op right.now) pattern.now) (IsWithTest domain times.now texts (Compare left.now op right.now) pattern.now)) }
+{
+    let columns = times.len();
+    let first = side_of(left, times);
+    let second = side_of(right, times);
+    match compared(&first, op, &second, columns) {
+        Some(zone) => {
+            let places = counted();
+            Ok(Some(pattern.with_zone(alloc, &zone, &places[..columns])?))
+        }
+        None => Ok(None),
+    }
+}
+
+/// The pattern and a point for a time of these variables, or `None` where nothing that the pattern asks for passes.
+pub fn with_member(
+    alloc: Global,
+    pattern: &Pattern,
+    term: &TimeTerm,
+    point: RowPoint,
+    times: &List<Name>,
+) -> Result<Option<Pattern>, Memory>
+    requires few { length times.now ≤ 8 }
+    requires known { length pattern.now.texts ≡ 8 }
+    requires names { AreNamesAmong (names_of_time term.now) times.now }
+    requires low { pos 1 ≤ℤ point.period }
+    requires high { point.period ≤ℤ pos (2 ^ 62) }
+    ensures { IfOk result (λ found. (domain : ListOf Text) (texts : ListOf Identifier) → MatchOption found (HasNoTest domain times.now texts (Member term.now point) pattern.now) (IsWithTest domain times.now texts (Member term.now point) pattern.now)) }
+{
+    let side = side_of(term, times);
+    let residue = shifted(point.offset, side.plus, point.period);
+    if side.column == 0 {
+        return if residue == 0 {
+            Ok(Some(pattern.copy(alloc)?))
+        } else {
+            Ok(None)
+        };
+    }
+    match Zone::of(point.period, &[residue], &[]) {
+        Some(zone) => {
+            zone.columns();
+            Ok(Some(pattern.with_zone(alloc, &zone, &[side.column])?))
+        }
+        None => Ok(None),
+    }
+}
+
+// The places of columns in order, from 1.
+fn counted() -> [usize; 8]
+    ensures size { length result ≡ 8 }
+    ensures each { (i : ℕ) → i < 8 → slice_index result i ≡ i + 1 }
+{
+    [1, 2, 3, 4, 5, 6, 7, 8]
+}

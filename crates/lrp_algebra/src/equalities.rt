@@ -1,0 +1,103 @@
+// Equal texts as conditions of a pattern.
+ghost use Rattle.std.specs.Prelude.{◌≡◌, ◌-◌, ◌<◌, ◌≤◌, length, List as ListOf, IfOk, MatchOption};
+ghost use Rattle.lrp_model.specs.Texts.{Identifier};
+ghost use Rattle.lrp_model.specs.declared.formulas.Test.TheVariants.{Equal};
+ghost use Rattle.lrp_tables.specs.Columns.{names_of_data};
+ghost use Rattle.lrp_tables.specs.Tables.{AreNamesAmong};
+ghost use Rattle.lrp_algebra.specs.Conditions.{IsWithTest, HasNoTest, IsWithPair, IsWithText, HasNoText};
+
+use crate::pair::Pair;
+use crate::pattern::{Pattern, known_at};
+use crate::sides::column_among;
+use lrp_model::{Copies, DataTerm, DataText, Domain, List, Memory, Name};
+use std::alloc::Global;
+
+/// The pattern and an equality of texts of these variables, or `None` where nothing that the pattern asks for passes.
+pub fn with_equal(
+    alloc: Global,
+    pattern: &Pattern,
+    left: &DataTerm,
+    right: &DataTerm,
+    texts: &List<Name>,
+    domain: &Domain,
+) -> Result<Option<Pattern>, Memory>
+    requires few { length texts.now ≤ 8 }
+    requires known { length pattern.now.texts ≡ 8 }
+    requires left { AreNamesAmong (names_of_data left.now) texts.now }
+    requires right { AreNamesAmong (names_of_data right.now) texts.now }
+    ensures { IfOk result (λ found. (times : ListOf Identifier) → MatchOption found (HasNoTest domain.now times texts.now (Equal left.now right.now) pattern.now) (IsWithTest domain.now times texts.now (Equal left.now right.now) pattern.now)) }
+{
+    domain.len();
+    match left {
+        DataTerm::Var { name } => {
+            let column = column_among(texts, name);
+            match right {
+                DataTerm::Var { name: other } => {
+                    let second = column_among(texts, other);
+                    Ok(Some(with_pair(alloc, pattern, column, second)?))
+                }
+                DataTerm::Const { text } => with_text(alloc, pattern, column, text, domain),
+            }
+        }
+        DataTerm::Const { text } => match right {
+            DataTerm::Var { name } => {
+                let column = column_among(texts, name);
+                with_text(alloc, pattern, column, text, domain)
+            }
+            DataTerm::Const { text: other } => {
+                if text == other {
+                    Ok(Some(pattern.copy(alloc)?))
+                } else {
+                    Ok(None)
+                }
+            }
+        },
+    }
+}
+
+// The pattern and that two data columns, counted from 1, have one text.
+fn with_pair(alloc: Global, pattern: &Pattern, left: usize, right: usize) -> Result<Pattern, Memory>
+    requires left_low { 0 < left }
+    requires left_high { left ≤ 8 }
+    requires right_low { 0 < right }
+    requires right_high { right ≤ 8 }
+    ensures { IfOk result (IsWithPair pattern.now left right) }
+{
+    let mut equal = pattern.equal.copy(alloc)?;
+    equal.push(Pair {
+        left: left - 1,
+        right: right - 1,
+    })?;
+    Ok(Pattern {
+        zones: pattern.zones.copy(alloc)?,
+        texts: pattern.texts,
+        equal,
+    })
+}
+
+// The pattern and that a data column, counted from 1, has a text.
+fn with_text(
+    alloc: Global,
+    pattern: &Pattern,
+    column: usize,
+    text: &DataText,
+    domain: &Domain,
+) -> Result<Option<Pattern>, Memory>
+    requires low { 0 < column }
+    requires high { column ≤ 8 }
+    requires known { length pattern.now.texts ≡ 8 }
+    ensures { IfOk result (λ found. MatchOption found (HasNoText domain.now pattern.now column text.now) (IsWithText domain.now pattern.now column text.now)) }
+{
+    domain.len();
+    let Some(number) = domain.find(text) else {
+        return Ok(None);
+    };
+    let Some(texts) = known_at(&pattern.texts, column - 1, number) else {
+        return Ok(None);
+    };
+    Ok(Some(Pattern {
+        zones: pattern.zones.copy(alloc)?,
+        texts,
+        equal: pattern.equal.copy(alloc)?,
+    }))
+}

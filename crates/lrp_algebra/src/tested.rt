@@ -1,0 +1,42 @@
+// Tests as conditions of a pattern.
+ghost use Rattle.std.specs.Prelude.{◌≡◌, ◌≤◌, ◌^◌, ◌≤ℤ◌, pos, length, IfOk, MatchOption};
+ghost use Rattle.lrp_model.specs.Reach.{test_reach};
+ghost use Rattle.lrp_tables.specs.Calls.{test_period};
+ghost use Rattle.lrp_tables.specs.Columns.{times_of_test, texts_of_test};
+ghost use Rattle.lrp_tables.specs.Tables.{AreNamesAmong};
+ghost use Rattle.lrp_algebra.specs.Conditions.{IsWithTest, HasNoTest};
+
+use crate::conditions::{with_comparison, with_member};
+use crate::equalities::with_equal;
+use crate::pattern::Pattern;
+use lrp_model::{Domain, Memory, Test};
+use lrp_tables::Vars;
+use std::alloc::Global;
+
+/// The pattern and a test of these variables, or `None` where nothing that the pattern asks for passes.
+pub fn with_test(
+    alloc: Global,
+    pattern: &Pattern,
+    test: &Test,
+    vars: &Vars,
+    domain: &Domain,
+) -> Result<Option<Pattern>, Memory>
+    requires few_times { length vars.now.times ≤ 8 }
+    requires few_texts { length vars.now.texts ≤ 8 }
+    requires known { length pattern.now.texts ≡ 8 }
+    requires times { AreNamesAmong (times_of_test test.now) vars.now.times }
+    requires texts { AreNamesAmong (texts_of_test test.now) vars.now.texts }
+    requires low { pos 1 ≤ℤ test_period test.now }
+    requires reach { test_reach test.now ≤ 2 ^ 62 }
+    ensures { IfOk result (λ found. MatchOption found (HasNoTest domain.now vars.now.times vars.now.texts test.now pattern.now) (IsWithTest domain.now vars.now.times vars.now.texts test.now pattern.now)) }
+{
+    match test {
+        Test::Compare { left, op, right } => {
+            with_comparison(alloc, pattern, left, *op, right, &vars.times)
+        }
+        Test::Member { term, point } => with_member(alloc, pattern, term, *point, &vars.times),
+        Test::Equal { left, right } => {
+            with_equal(alloc, pattern, left, right, &vars.texts, domain)
+        }
+    }
+}

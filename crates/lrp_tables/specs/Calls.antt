@@ -1,0 +1,108 @@
+-- What the steps of a plan ask of the tables, terms and tests that they are given.
+use Rattle.std.specs.Prelude.{◌≡◌, ◌≤◌, ◌≤ℤ◌, ℕ, ℤ, pos, true, List, length, map, count_by, Contains}
+use Rattle.std.specs.List.{AllByRecursion, AllZip}
+use Rattle.lrp_theory.specs.Divides.{Divides}
+use Rattle.lrp_model.specs.Texts.{Text, Identifier}
+use Rattle.lrp_model.specs.Sorts.{is_time, is_data}
+use Rattle.lrp_model.specs.Reach.{greatest, test_reach}
+use Rattle.lrp_model.specs.Satisfaction.{HaveNames}
+use Rattle.lrp_model.specs.declared.relations.Column.{Column}
+use Rattle.lrp_model.specs.declared.relations.Bound.{Bound}
+use Rattle.lrp_model.specs.declared.relations.Value.{Value}
+use Rattle.lrp_model.specs.declared.relations.Value.TheVariants.{Point, Const}
+use Rattle.lrp_model.specs.declared.relations.Row.{Row}
+use Rattle.lrp_model.specs.declared.relations.Relation.{Relation}
+use Rattle.lrp_model.specs.declared.formulas.DataTerm.TheVariants.{Var as data_var, Const as data_const}
+use Rattle.lrp_model.specs.declared.formulas.Term.{Term}
+use Rattle.lrp_model.specs.declared.formulas.Term.TheVariants.{Time as time_term, Data as data_term}
+use Rattle.lrp_model.specs.declared.formulas.Test.{Test}
+use Rattle.lrp_model.specs.declared.formulas.Test.TheVariants.{Compare, Member, Equal}
+use Rattle.lrp_store.specs.declared.table.Table.{Table}
+use Rattle.lrp_tables.specs.Columns.{joint, scan_times, scan_texts, times_of_test, texts_of_test, head_times, head_texts}
+use Rattle.lrp_tables.specs.Tables.{AreNamesAmong, HaveNoName}
+
+-- ---- two tables
+
+-- two tables together have at most 8 variables of each kind, and none is a time variable of the one and a data variable of the other
+pub record CanMeet (left right : Table) : Type 0 where
+  pub times : length (joint left.vars.times right.vars.times) ≤ 8
+  pub texts : length (joint left.vars.texts right.vars.texts) ≤ 8
+  pub left_apart : HaveNoName left.vars.times right.vars.texts
+  pub right_apart : HaveNoName right.vars.times left.vars.texts
+
+-- the variables of the second table are variables of the first
+pub record AreVariablesOf (left right : Table) : Type 0 where
+  pub times : AreNamesAmong right.vars.times left.vars.times
+  pub texts : AreNamesAmong right.vars.texts left.vars.texts
+
+-- ---- tests
+
+-- the period of a test: that of its point, or 1
+abbrev pub test_period : Test → ℤ
+test_period (Compare left op right) = pos 1
+test_period (Member term point) = point.period
+test_period (Equal left right) = pos 1
+
+-- a test of variables of these names, whose period is at least 1 and divides the step's
+pub record CanBeCarried (times texts : List Identifier) (period : ℤ) (test : Test) : Type 0 where
+  pub times_known : AreNamesAmong (times_of_test test) times
+  pub texts_known : AreNamesAmong (texts_of_test test) texts
+  pub low : pos 1 ≤ℤ test_period test
+  pub divides : Divides (test_period test) period
+
+-- the greatest reach of the tests as steps of their own
+abbrev pub tests_reach : List Test → ℕ
+tests_reach tests = greatest (map test_reach tests)
+
+-- ---- heads
+
+-- the head has the variables of the table, its names differ, and it has at most 8 columns of each kind
+pub record CanExtend (columns : List Column) (table : Table) : Type 0 where
+  pub times : AreNamesAmong table.vars.times (head_times columns)
+  pub texts : AreNamesAmong table.vars.texts (head_texts columns)
+  pub names : HaveNames columns
+  pub few_times : length (head_times columns) ≤ 8
+  pub few_texts : length (head_texts columns) ≤ 8
+
+-- ---- relations
+
+-- a time term in a column of times, a data term in one of a data sort
+abbrev pub Suits : Column → Term → Type 0
+Suits c (time_term t) = is_time c.sort ≡ true
+Suits c (data_term t) = is_data c.sort ≡ true
+
+-- in a column of times a point whose period is at least 1 and divides the step's, and in one of a data sort a text of the domain
+abbrev pub CanStand : List Text → ℤ → Column → Value → Type 0
+CanStand domain period c (Point at) = (is_time c.sort ≡ true) × (pos 1 ≤ℤ at.period) × Divides at.period period
+CanStand domain period c (Const t) = (is_data c.sort ≡ true) × Contains domain t
+
+-- a bound between two of so many time columns, or one of them and zero
+pub record IsBetween (times : ℕ) (bound : Bound) : Type 0 where
+  pub left : bound.left ≤ times
+  pub right : bound.right ≤ times
+
+abbrev pub time_count : List Column → ℕ
+time_count = count_by (λ c. is_time c.sort)
+
+abbrev pub text_count : List Column → ℕ
+text_count = count_by (λ c. is_data c.sort)
+
+-- a row with one value for each column, and bounds on its time columns
+pub record CanBeRow (domain : List Text) (period : ℤ) (columns : List Column) (row : Row) : Type 0 where
+  pub values : AllZip (CanStand domain period) columns row.values
+  pub bounds : AllByRecursion (IsBetween (time_count columns)) row.bounds
+
+-- the text of a data term, where it is one, is of the domain
+abbrev pub HasText : List Text → Term → Type 0
+HasText domain (time_term t) = Unit {0}
+HasText domain (data_term (data_var v)) = Unit {0}
+HasText domain (data_term (data_const t)) = Contains domain t
+
+-- a relation of at most 8 columns of each kind, with its rows, and a term for each of its columns; no name is a time variable and a data variable of the terms
+pub record CanScan (domain : List Text) (period : ℤ) (relation : Relation) (terms : List Term) : Type 0 where
+  pub times : time_count relation.columns ≤ 8
+  pub texts : text_count relation.columns ≤ 8
+  pub rows : AllByRecursion (CanBeRow domain period relation.columns) relation.rows
+  pub terms_fit : AllZip Suits relation.columns terms
+  pub terms_known : AllByRecursion (HasText domain) terms
+  pub apart : HaveNoName (scan_times terms) (scan_texts terms)

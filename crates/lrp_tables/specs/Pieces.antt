@@ -1,0 +1,52 @@
+-- The zones of a store, one after another, each with its cell.
+use Rattle.std.specs.Prelude.{◌≡◌, ℕ, ℤ, ◌<◌, ◌≤◌, List, ◌++◌, Option, map, drop, take, length, Contains}
+use Rattle.std.specs.List.{flat_map}
+use Rattle.lrp_model.specs.declared.tuples.Cell.{Cell}
+use Rattle.lrp_model.specs.declared.tuples.Shape.{Shape}
+use Rattle.lrp_store.specs.Stores.{StoreView, InStore, IsCellOf, zone_of, tables_at}
+use Rattle.lrp_store.specs.Growing.{IsTupleOf}
+use Rattle.lrp_tables.specs.declared.pieces.Piece.{Piece}
+
+-- a zone of a cell, with the cell
+abbrev pub piece_of : StoreView → Cell → List (Option ℤ) → Piece
+piece_of s cell table = record { cell = cell; zone = zone_of s cell table }
+
+-- the zones of a cell, in order
+abbrev pub pieces_at : StoreView → Cell → List Piece
+pieces_at s cell = map (piece_of s cell) (tables_at s cell)
+
+-- those of a cell from the number `next` on, and behind them those of other cells
+abbrev pub pieces_left : StoreView → Cell → ℕ → List Cell → List Piece
+pieces_left s cell next cells = drop next (pieces_at s cell) ++ flat_map (pieces_at s) cells
+
+-- there is such a place among the zones of the cell, and each other cell has some zone
+pub record HaveZones (s : StoreView) (cell : Cell) (next : ℕ) (cells : List Cell) : Type 0 where
+  pub low : next ≤ length (tables_at s cell)
+  pub some : (other : Cell) → Contains cells other → 0 < length (tables_at s other)
+
+-- the store has the zone in its cell
+pub record IsPieceOf (s : StoreView) (piece : Piece) : Type 0 where
+  pub table : List (Option ℤ)
+  pub held : Contains (tables_at s piece.cell) table
+  pub zone : piece.zone ≡ zone_of s piece.cell table
+
+-- the tuples of a zone, with the first n texts of its cell
+abbrev pub InPiece : ℕ → Piece → List ℤ → List ℕ → Type 0
+InPiece n piece = IsTupleOf piece.zone (take n piece.cell.texts)
+
+-- some zone of the list has the tuple
+pub record InPieces (n : ℕ) (pieces : List Piece) (times : List ℤ) (texts : List ℕ) : Type 0 where
+  pub piece : Piece
+  pub listed : Contains pieces piece
+  pub inside : InPiece n piece times texts
+
+-- these are the zones of the store
+pub record ArePieces (s : StoreView) (pieces : List Piece) : Type 0 where
+  pub each : (piece : Piece) → Contains pieces piece → IsPieceOf s piece
+  pub all : (times : List ℤ) (texts : List ℕ) → InStore s times texts → InPieces s.shape.texts pieces times texts
+
+-- the zone has the residues of its cell, which is of this shape and period
+pub record Fits (shape : Shape) (period : ℕ) (piece : Piece) : Type 0 where
+  pub cell : IsCellOf shape period piece.cell
+  pub period_is : piece.zone.period ≡ period
+  pub residues : piece.zone.residues ≡ take shape.times piece.cell.residues

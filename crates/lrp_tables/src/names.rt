@@ -1,0 +1,74 @@
+// Columns by their names.
+ghost use Rattle.std.specs.Prelude.{◌≡◌, Some, slice_get, IfOk, IfSome, IfNone, Contains};
+ghost use Rattle.lrp_tables.specs.Columns.{others, joint, IsPlace, ArePlacesOf};
+ghost use Rattle.lrp_tables.specs.Tables.{AreNamesAmong};
+
+use lrp_model::{List, Memory, Name};
+use std::alloc::Global;
+
+/// The number of the column with this name, from 0, where there is one.
+pub fn place_of(names: &List<Name>, name: &Name) -> Option<usize>
+    ensures some { IfSome result (λ place. slice_get names.now place ≡ Some name.now) }
+    ensures none { IfNone result (Contains names.now name.now → ⊥) }
+{
+    for place in 0..names.len() {
+        if names.at(place) == name {
+            return Some(place);
+        }
+    }
+    None
+}
+
+/// The names but this one, in order.
+pub fn without(alloc: Global, names: &List<Name>, name: &Name) -> Result<List<Name>, Memory>
+    ensures { IfOk result (λ made. made ≡ others name.now names.now) }
+{
+    let mut kept = List::new(alloc);
+    for other in names.as_slice() {
+        if name != other {
+            kept.push(other.copy(alloc)?)?;
+        }
+    }
+    Ok(kept)
+}
+
+/// The names, and behind them those of the second list that are new, each once.
+pub fn joint(alloc: Global, names: &List<Name>, more: &List<Name>) -> Result<List<Name>, Memory>
+    ensures { IfOk result (λ made. made ≡ joint names.now more.now) }
+{
+    let mut made = names.copy(alloc)?;
+    for name in more.as_slice() {
+        if place_of(&made, name).is_none() {
+            made.push(name.copy(alloc)?)?;
+        }
+    }
+    Ok(made)
+}
+
+// The place of a name among these, counted from 1, where it is one of them.
+fn column_of(all: &List<Name>, name: &Name) -> usize
+    ensures { Contains all.now name.now → IsPlace all.now result name.now }
+{
+    for (place, other) in all.as_slice().iter().enumerate() {
+        if name == other {
+            return place + 1;
+        }
+    }
+    0
+}
+
+/// For each of the names its place among all of them, counted from 1, as `Zone::spread` takes places.
+pub fn places_among(
+    alloc: Global,
+    names: &List<Name>,
+    all: &List<Name>,
+) -> Result<Vec<usize>, Memory>
+    requires { AreNamesAmong names.now all.now }
+    ensures { IfOk result (λ places. ArePlacesOf names.now all.now places.items) }
+{
+    let mut places = Vec::new(alloc);
+    for name in names.as_slice() {
+        places.push(column_of(all, name))?;
+    }
+    Ok(places)
+}
