@@ -1,7 +1,21 @@
 -- What is proved of differences of zones, by topic.
+pub mod AbsenceLaws
+pub mod Alike
+pub mod BoundedLaws
+pub mod ComplementLaws
 pub mod CutLaws
+pub mod FillingLaws
+pub mod Gathering
 pub mod HalfLaws
+pub mod HullLaws
+pub mod IntervalLaws
+pub mod LineLaws
 pub mod Lists
+pub mod Membership
+pub mod MergeLaws
 pub mod PairLists
+pub mod SettlingLaws
+pub mod SpanLaws
 pub mod SplitLaws
 pub mod ThresholdLaws
+pub mod WidestLaws

@@ -1,10 +1,11 @@
 -- Lists of zones: what is in them, and pairs of their elements.
 use Rattle.std.proofs.Common.{length-append, zero, suc, take, ap, ◌∙◌, add-zero, zero-add, ◌≡◌, ℕ, ◌+◌, ◌-◌, ◌<◌, ◌≤◌, ◌⊎◌, inl, inr, List, [], ◌∷◌, ◌++◌, length, get_or, arith, refl, sym, subst}
-use Rattle.std.specs.Prelude.{ℤ, pos, Contains, AllPairs, flat_map, Result, Ok, Err, IfOk, OnOk}
+use Rattle.std.specs.Prelude.{ℤ, pos, Contains, AllPairs, map, flat_map, slice_get, Some, Result, Ok, Err, IfOk, OnOk}
 use Rattle.std.specs.List.{range_with_len}
 use Rattle.std.proofs.lemmas.List.{get_or_append_left, get_or-append_right, take_more, get_or-take, get_or_default, length-take-le}
 use Rattle.std.proofs.lemmas.List.Elements.{Contains-get_or, Contains-append_left, Contains-append_right, Contains-append_cases, Contains-push_cases}
 use Rattle.std.proofs.lemmas.List.FromFn.{length-range_with_len, get_or-range_with_len}
+use Rattle.std.proofs.lemmas.Option.{slice_get_within, get_or_from_slice_get}
 use Rattle.lrp_zone.specs.Zones.{ZoneView, IsMember, reach_of}
 use Rattle.lrp_store.specs.Settled.{InSome}
 use Rattle.lrp_zone.specs.Pairs.{IsOfCell}
@@ -170,3 +171,47 @@ cells_push z zs w a c = record {
     | inr k ↦ subst (λ y. IsOfCell z y) (in_one w v k) c
   ];
 }
+
+-- what stands behind the first element of a list, as in the whole list
+pub behind_first : {X : Type 0} (all : List X) (x : X) (xs : List X) (i : ℕ) (y : X) → all ≡ x ∷ xs → i < length xs → y ≡ get_or xs i y → take (i + 1 + 1) all ≡ take (i + 1) all ++ y ∷ []
+behind_first all x xs i y e l q =
+    let on : i + 1 ≡ suc i = omega arith in
+    let here : y ≡ get_or (x ∷ xs) (i + 1) y = q ∙ ap (λ n. get_or (x ∷ xs) n y) (sym on) in
+    rw e (front_more (x ∷ xs) (i + 1) y (omega arith) here)
+
+-- and is in the whole list
+pub rest_in : {X : Type 0} (all : List X) (x : X) (xs : List X) (y : X) → all ≡ x ∷ xs → Contains xs y → Contains all y
+rest_in all x xs y e l = rw e (later x xs y l)
+
+pub first_in : {X : Type 0} (all : List X) (x : X) (xs : List X) → all ≡ x ∷ xs → Contains all x
+first_in all x xs e = rw e (head_in x xs)
+
+-- what a list is mapped to
+pub in_map : {X Y : Type 0} (f : X → Y) (xs : List X) (x : X) → Contains xs x → Contains (map f xs) (f x)
+in_map f [] x l = absurd (in_none x l)
+in_map f (v ∷ vs) x l = elim (in_cons v vs x l) [
+  | inl e ↦ subst (λ u. Contains (f v ∷ map f vs) (f u)) e (head_in (f v) (map f vs))
+  | inr k ↦ later (f v) (map f vs) (f x) (in_map f vs x k)
+]
+
+pub from_map : {X Y : Type 0} (f : X → Y) (xs : List X) (y : Y) → Contains (map f xs) y → (x : X) × Contains xs x × (f x ≡ y)
+from_map f [] y h = absurd (in_none y h)
+from_map f (v ∷ vs) y h = elim (in_cons (f v) (map f vs) y h) [
+  | inl e ↦ (v, head_in v vs, e)
+  | inr k ↦ (let r = from_map f vs y k in (r.0, later v vs r.0 r.1, r.2))
+]
+
+-- a list that is not empty has an element
+pub some_in : {X : Type 0} (xs : List X) → 0 < length xs → (x : X) × Contains xs x
+some_in [] l = absurd (omega arith)
+some_in (x ∷ xs) l = (x, head_in x xs)
+
+-- a list of one
+pub one_of : {X : Type 0} (xs : List X) → length xs ≡ 1 → (x : X) × (xs ≡ x ∷ [])
+one_of [] h = absurd (omega arith)
+one_of (x ∷ []) h = (x, refl)
+one_of (x ∷ y ∷ ys) h = absurd (omega arith)
+
+-- what is read at a place is in the list
+pub got_in : {X : Type 0} (xs : List X) (i : ℕ) (x : X) → slice_get xs i ≡ Some x → Contains xs x
+got_in xs i x e = (i, slice_get_within xs i x e, get_or_from_slice_get xs i x x e)

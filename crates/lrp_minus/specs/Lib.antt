@@ -1,5 +1,11 @@
--- What the difference of a zone and other zones is, and how it is cut out.
+-- What the difference of a zone and other zones is, how it is cut out, and how zones are settled.
+pub mod Absences
+pub mod Bounded
 pub mod Cutting
 pub mod Differences
+pub mod Filling
 pub mod Halves
+pub mod Hulls
+pub mod Intervals
+pub mod Settling
 pub mod Thresholds

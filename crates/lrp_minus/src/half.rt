@@ -7,7 +7,7 @@ use lrp_model::Bound;
 use lrp_zone::Zone;
 
 // The residues of a zone's columns, and zeros behind them.
-fn residues_of(zone: &Zone) -> [i64; 8]
+pub(crate) fn residues_of(zone: &Zone) -> [i64; 8]
     ensures size { length result ≡ 8 }
     ensures value { take (columns_of zone.now) result ≡ zone.now.residues }
 {

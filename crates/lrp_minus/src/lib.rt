@@ -1,14 +1,23 @@
-//! Differences of sets of zones: what of a zone is left where others are taken away.
+//! Differences of sets of zones: what of a zone is left where others are taken away. Zones of one cell, settled.
 #![tactic(auto)]
 
+mod absences;
+mod bounded;
+mod complements;
 mod cutting;
+mod filling;
 mod half;
+mod hull;
+mod intervals;
 mod pairs;
+mod settling;
 mod split;
 mod standing;
 mod thresholds;
 
+pub use complements::complement;
 pub use cutting::pieces;
+pub use settling::settle;
 
 #[cfg(test)]
 mod tests;

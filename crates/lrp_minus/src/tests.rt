@@ -1,9 +1,10 @@
 // Differences by example: intervals, instants, diagonals.
-ghost use Rattle.std.specs.Prelude.{◌≡◌, ◌+◌, ◌≤◌, ◌^◌, ℕ, length, pos, nat_abs, ◌≤ℤ◌, IfSome};
+ghost use Rattle.std.specs.Prelude.{◌≡◌, ◌+◌, ◌*◌, ◌≤◌, ◌^◌, ℕ, length, pos, nat_abs, ◌≤ℤ◌, Contains, IfSome};
 ghost use Rattle.lrp_theory.specs.Entries.{node};
-ghost use Rattle.lrp_zone.specs.Zones.{IsResidue, reach_of};
+ghost use Rattle.lrp_zone.specs.Zones.{ZoneView, IsResidue, columns_of, reach_of};
+ghost use Rattle.lrp_minus.specs.Differences.{AreOfCell};
 
-use crate::pieces;
+use crate::{pieces, settle};
 use lrp_model::{Bound, List};
 use lrp_zone::Zone;
 use std::alloc::Global;
@@ -61,8 +62,12 @@ fn cut(
     residues: &[i64],
     bounds: &[Bound],
     others: &[[Bound; 2]],
-) -> Option<List<Zone>> {
+) -> Option<List<Zone>>
+    ensures cell { IfSome result (λ zones. (z : ZoneView) → Contains zones z → AreOfCell z zones) }
+    ensures reach { IfSome result (λ zones. (z : ZoneView) → Contains zones z → columns_of z * reach_of z + z.period ≤ 2 ^ 62) }
+{
     let zone = made(rt, period, residues, bounds)?;
+    zone.columns();
     let mut cutters = List::new(alloc);
     for other in others {
         let cutter = made(rt, period, residues, other)?;
@@ -71,7 +76,10 @@ fn cut(
             Err(_) => return None,
         }
     }
-    pieces(alloc, &zone, &cutters).ok()
+    match pieces(alloc, &zone, &cutters) {
+        Ok(left) => Some(left),
+        Err(_) => None,
+    }
 }
 
 // How many of the zones have the tuple.
@@ -162,5 +170,108 @@ fn a_diagonal_leaves_both_sides(rt: HostRuntime) -> Result<(), Fail> {
             );
         }
     }
+    Ok(())
+}
+
+// The zones of these bounds, settled.
+fn settled(
+    rt: &impl Abort,
+    alloc: Global,
+    period: i64,
+    residues: &[i64],
+    zones: &[[Bound; 2]],
+) -> Option<List<Zone>> {
+    let cell = made(rt, period, residues, &[])?;
+    cell.columns();
+    let mut given = List::new(alloc);
+    for bounds in zones {
+        let zone = made(rt, period, residues, bounds)?;
+        match given.push(zone) {
+            Ok(()) => {}
+            Err(_) => return None,
+        }
+    }
+    assert!(rt; given.len() > 0);
+    settle(alloc, &given).ok()
+}
+
+#[test]
+fn gaps_of_instants_are_settled(rt: HostRuntime) -> Result<(), Fail> {
+    let mut instants = [between(0, 0); 20];
+    for (i, instant) in instants.iter_mut().enumerate() {
+        *instant = between(2 * i as i64, 2 * i as i64);
+    }
+    let left = cut(&rt, rt.alloc(), 1, &[0], &[], &instants).ok_or("no pieces")?;
+    assert!(rt; left.len() > 0);
+    let gaps = settle(rt.alloc(), &left).ok().ok_or("no gaps")?;
+    assert_eq!(rt; gaps.len(), 21);
+    for x in -3..43i64 {
+        let is_instant = 0 <= x && x <= 38 && x % 2 == 0;
+        assert_eq!(rt;
+            holders(&rt, &gaps, &[x]),
+            usize::from(!is_instant),
+            "at {x}"
+        );
+    }
+    Ok(())
+}
+
+#[test]
+fn neighbouring_intervals_become_one(rt: HostRuntime) -> Result<(), Fail> {
+    let zones = [
+        between(20, 35),
+        between(0, 10),
+        between(5, 15),
+        between(45, 50),
+    ];
+    let made = settled(&rt, rt.alloc(), 5, &[0], &zones).ok_or("not settled")?;
+    assert_eq!(rt; made.len(), 2);
+    for (x, place) in [(0, 0), (15, 0), (20, 0), (35, 0), (45, 1), (50, 1)] {
+        let zone = made.at(place);
+        assert!(rt; zone.columns() == 1);
+        assert!(rt; zone.contains(&[x]), "at {x}");
+    }
+    assert_eq!(rt; holders(&rt, &made, &[40]), 0);
+    Ok(())
+}
+
+#[test]
+fn halves_of_a_plane_become_one(rt: HostRuntime) -> Result<(), Fail> {
+    let low = [bound(1, 2, 3), bound(1, 0, 100)];
+    let high = [bound(2, 1, -4), bound(1, 0, 100)];
+    let made = settled(&rt, rt.alloc(), 1, &[0, 0], &[low, high]).ok_or("not settled")?;
+    assert_eq!(rt; made.len(), 1);
+    for (x, y, is_in) in [
+        (3, 0, true),
+        (4, 0, true),
+        (100, -900, true),
+        (101, 0, false),
+    ] {
+        assert_eq!(rt;
+            holders(&rt, &made, &[x, y]),
+            usize::from(is_in),
+            "at {x}, {y}"
+        );
+    }
+    Ok(())
+}
+
+#[test]
+fn two_instants_of_a_plane_stay_two(rt: HostRuntime) -> Result<(), Fail> {
+    let zero = [bound(1, 0, 0), bound(0, 1, 0)];
+    let two = [bound(1, 0, 2), bound(0, 1, -2)];
+    let made = settled(&rt, rt.alloc(), 1, &[0, 0], &[zero, two]).ok_or("not settled")?;
+    assert_eq!(rt; made.len(), 2);
+    assert_eq!(rt; holders(&rt, &made, &[1, 5]), 0);
+    let same = settled(&rt, rt.alloc(), 1, &[0, 0], &[two, two]).ok_or("not settled")?;
+    assert_eq!(rt; same.len(), 1);
+    Ok(())
+}
+
+#[test]
+fn no_column_gives_one_zone(rt: HostRuntime) -> Result<(), Fail> {
+    let trivial = [bound(0, 0, 0), bound(0, 0, 0)];
+    let made = settled(&rt, rt.alloc(), 7, &[], &[trivial, trivial]).ok_or("not settled")?;
+    assert_eq!(rt; made.len(), 1);
     Ok(())
 }

@@ -1,0 +1,14 @@
+-- What holds after some residues of a column: the tuples with those residues were added.
+use Rattle.std.proofs.Common.{ℕ, ◌-◌, ◌+◌, ◌*◌}
+use Rattle.std.specs.Prelude.{pos, ◌≤ℤ◌}
+use Rattle.lrp_store.specs.Stores.{HasReach}
+use Rattle.lrp_minus.specs.Absences.{IsAbsentAt}
+use Rattle.lrp_minus.proofs.AbsenceLaws.{IsBehind}
+use Rattle.lrp_minus.proofs.Gathering.{IsGathering}
+use Rattle.lrp_minus.proofs.absences.+fill_residues.Given as goal
+
+abbrev pub decreases-fill_residues : goal.decreases-fill_residues
+decreases-fill_residues a = a.store.now.shape.times - a.column
+
+abbrev pub invariant-loop-residue : goal.invariant-loop-residue
+invariant-loop-residue l = (pos 0 ≤ℤ l.residue) × ((high : ℕ) → HasReach l.store high → IsGathering (IsAbsentAt l.store l.column l.cell) (IsBehind l.store.period l.column l.residue) l.cap (high + 2 * l.store.period) l.initial.out l.out)

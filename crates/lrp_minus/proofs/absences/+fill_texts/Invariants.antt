@@ -1,0 +1,12 @@
+-- What holds after some numbers of a column: the tuples with those numbers were added.
+use Rattle.std.proofs.Common.{ℕ, ◌-◌, ◌+◌, ◌*◌, ◌≤◌, get_or}
+use Rattle.lrp_store.specs.Stores.{HasReach}
+use Rattle.lrp_minus.specs.Absences.{IsAbsent}
+use Rattle.lrp_minus.proofs.Gathering.{IsGathering}
+use Rattle.lrp_minus.proofs.absences.+fill_texts.Given as goal
+
+abbrev pub decreases-fill_texts : goal.decreases-fill_texts
+decreases-fill_texts a = a.store.now.shape.texts - a.column
+
+abbrev pub invariant-loop-number : goal.invariant-loop-number
+invariant-loop-number l = (high : ℕ) → HasReach l.store high → IsGathering (IsAbsent l.size l.store l.column l.texts) (λ xs ns. l.number ≤ get_or ns l.column 0) l.cap (high + 2 * l.store.period) l.initial.out l.out

@@ -1,0 +1,26 @@
+-- What the table has not was added.
+use Rattle.std.proofs.Common.{◌≡◌, Err, refl, ap, replicate, ◌∙◌}
+use Rattle.std.specs.Prelude.{nat_abs}
+use Rattle.lrp_minus.proofs.AbsenceLaws.{period_word}
+use Rattle.lrp_minus.proofs.ComplementLaws.{fresh_store, fresh_by, complement_table, complement_few, complement_reach, complement_many}
+use Rattle.lrp_minus.proofs.complements.complement.Goals as goal
+
+pub returns-in-Ok-clause-table : goal.returns-in-Ok-clause-table
+returns-in-Ok-clause-table c =
+    let fresh : c.new-out.result ≡ fresh_store c.args.table.now.store = fresh_by c.args.table.now.store c.new-out.result _ _ c.new-out.ensures c.shape.ensures.value (ap nat_abs (period_word c.args.table.now.store c.shape.ensures.valid c.period.result c.period.ensures)) in
+    complement_table c.args.domain.now c.len-domain_size.ensures.ascending c.args.table.now c.len-domain_size.result c.len-domain_size.ensures.count (replicate 8 0) c.args.cap c.new-out.result c.fill_texts.new.out fresh c.shape-2.ensures.valid _ (c.in-Ok.ensures.ok _ c.requires.reach) _ c.in_ok-copy.ensures c.in_ok-copy-2.ensures refl
+
+pub returns-in-Ok-clause-reach : goal.returns-in-Ok-clause-reach
+returns-in-Ok-clause-reach c = λ high r.
+    let fresh : c.new-out.result ≡ fresh_store c.args.table.now.store = fresh_by c.args.table.now.store c.new-out.result _ _ c.new-out.ensures c.shape.ensures.value (ap nat_abs (period_word c.args.table.now.store c.shape.ensures.valid c.period.result c.period.ensures)) in
+    complement_reach c.args.domain.now c.len-domain_size.ensures.ascending c.args.table.now c.len-domain_size.result c.len-domain_size.ensures.count (replicate 8 0) c.args.cap c.new-out.result c.fill_texts.new.out fresh c.shape-2.ensures.valid _ (c.in-Ok.ensures.ok high r)
+
+pub returns-in-Ok-clause-few : goal.returns-in-Ok-clause-few
+returns-in-Ok-clause-few c =
+    let fresh : c.new-out.result ≡ fresh_store c.args.table.now.store = fresh_by c.args.table.now.store c.new-out.result _ _ c.new-out.ensures c.shape.ensures.value (ap nat_abs (period_word c.args.table.now.store c.shape.ensures.valid c.period.result c.period.ensures)) in
+    complement_few c.args.domain.now c.len-domain_size.ensures.ascending c.args.table.now c.len-domain_size.result c.len-domain_size.ensures.count (replicate 8 0) c.args.cap c.new-out.result c.fill_texts.new.out fresh c.shape-2.ensures.valid _ (c.in-Ok.ensures.ok _ c.requires.reach)
+
+pub returns-in-Err-TooManyCells-clause-many : goal.returns-in-Err-TooManyCells-clause-many
+returns-in-Err-TooManyCells-clause-many c = λ e.
+    let fresh : c.new-out.result ≡ fresh_store c.args.table.now.store = fresh_by c.args.table.now.store c.new-out.result _ _ c.new-out.ensures c.shape.ensures.value (ap nat_abs (period_word c.args.table.now.store c.shape.ensures.valid c.period.result c.period.ensures)) in
+    complement_many c.args.domain.now c.len-domain_size.ensures.ascending c.args.table.now c.len-domain_size.result c.len-domain_size.ensures.count (replicate 8 0) c.args.cap c.new-out.result c.fill_texts.new.out fresh c.shape-2.ensures.valid _ (c.fill_texts.ensures.refused (c.in-Err-TooManyCells.is ∙ ap Err c.in-Err-TooManyCells.field-0-is) _ c.requires.reach)

@@ -1,0 +1,27 @@
+-- Zones of one cell, settled: the same set in zones of that cell, in one way where it can be.
+use Rattle.std.specs.Prelude.{ℕ, ℤ, ◌+◌, ◌*◌, ◌≤◌, List, Contains}
+use Rattle.lrp_theory.specs.Entries.{IsSmallClosure}
+use Rattle.lrp_matrix.specs.Matrices.{MatrixView, IsClosed, HaveSameIntegers}
+use Rattle.lrp_zone.specs.Zones.{ZoneView, IsZone, columns_of, reach_of}
+use Rattle.lrp_zone.specs.Pairs.{IsOfCell}
+use Rattle.lrp_store.specs.Least.{matrix_of}
+use Rattle.lrp_store.specs.Settled.{InSome, AreSettled}
+use Rattle.lrp_minus.specs.Differences.{greatest_reach}
+
+-- each stored bound of the zone, and each least bound that the integers within its bounds meet, has a magnitude of at most h
+pub record IsSmallZone (z : ZoneView) (h : ℕ) : Type 0 where
+  pub stored : reach_of z ≤ h
+  pub closed : (m : MatrixView) → IsClosed m → HaveSameIntegers (matrix_of z) m → IsSmallClosure (columns_of z + 1) h m.cells
+
+-- the new zones are of the cell of z, hold the tuples of the old ones, are settled, and small for the old ones
+pub record IsSettlement (z : ZoneView) (old new : List ZoneView) : Type 0 where
+  pub zones : (w : ZoneView) → Contains new w → IsZone w × IsOfCell z w
+  pub to : (xs : List ℤ) → InSome new xs → InSome old xs
+  pub from : (xs : List ℤ) → InSome old xs → InSome new xs
+  pub settled : AreSettled z new
+  pub small : (w : ZoneView) → Contains new w → IsSmallZone w (columns_of z * greatest_reach old)
+
+-- some of the zones, which hold the tuples of all
+pub record IsThinned (old new : List ZoneView) : Type 0 where
+  pub kept : (w : ZoneView) → Contains new w → Contains old w × IsZone w
+  pub whole : (xs : List ℤ) → InSome old xs → InSome new xs
