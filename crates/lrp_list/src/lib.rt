@@ -1,0 +1,20 @@
+//! Answers as they are listed: those of a window one after the other, and the lines of a page.
+#![tactic(auto)]
+
+mod cursor;
+mod heap;
+mod laws;
+mod lines;
+mod lister;
+mod steps;
+#[cfg(test)]
+mod tests;
+mod texts;
+mod window;
+
+pub use cursor::Cursor;
+pub use laws::{listings_are_pages, moves_are_few};
+pub use lines::write_line;
+pub use lister::Lister;
+pub use steps::Steps;
+pub use texts::{Form, JsonTexts};
