@@ -110,11 +110,11 @@ fn read_group(
     Ok(grouped(alloc, place, of)?)
 }
 
-// The first member.
+// The first member, with room for a second one.
 fn members_from(alloc: Global, first: RawFormula) -> Result<Vec<RawFormula>, Memory>
     ensures { IfOk result (λ made. map raw_form_of made.items ≡ raw_form_of first ∷ []) }
 {
-    let mut all = Vec::new(alloc);
+    let mut all = Vec::with_capacity(alloc, 2)?;
     all.push(first)?;
     Ok(all)
 }

@@ -8,7 +8,8 @@ ghost use Rattle.lrp_query.specs.Reading.{ReadsFormula, shown_op};
 ghost use Rattle.lrp_query.specs.Rules.{meant, named_term, unnamed_term, bare_term, term, op_of as op_rule, point, comparing, test, atom_terms, named, unnamed};
 
 use lrp_model::{
-    Fault, List, Name, Op, Place, RawFormula, RawKind, RawTerm, RawTermKind, RowPoint, Symbol, Word,
+    Fault, List, Memory, Name, Op, Place, RawFormula, RawKind, RawTerm, RawTermKind, RowPoint,
+    Symbol, Word,
 };
 use lrp_text::{Cursor, Lexeme, integer};
 use std::alloc::Global;
@@ -162,12 +163,19 @@ fn exact(terms: List<RawTerm>) -> List<RawTerm>
     List::from_vec(items)
 }
 
+// No terms yet, with room for two.
+fn no_terms(alloc: Global) -> Result<List<RawTerm>, Memory>
+    ensures { IfOk result (λ made. made ≡ []) }
+{
+    Ok(List::from_vec(Vec::with_capacity(alloc, 2)?))
+}
+
 // One term or more, with commas between.
 fn read_some_terms(alloc: Global, tokens: &mut Cursor<'_>) -> Result<List<RawTerm>, Fault>
     ensures value { (n : ℕ) → length tokens.old < n → Reads (separated_from (term meant) (is_symbol Symbol.Comma) n [] tokens.old) result tokens.new }
     ensures shorter { IfOk result (λ _. length tokens.new ≤ length tokens.old) }
 {
-    let mut found = List::new(alloc);
+    let mut found = no_terms(alloc)?;
     loop {
         let term = read_term(alloc, tokens)?;
         found.push(term)?;

@@ -9,7 +9,7 @@ use Rattle.lrp_query.proofs.terms.read_some_terms.Goals as goal
 
 pub returns-in_err-term-clause-value : goal.returns-in_err-term-clause-value
 returns-in_err-term-clause-value c = λ turns lt.
-    let p = err_from_is_err_and c.from_residual.result c.from_residual.ensures.1 in
+    let p = err_from_is_err_and c.from_residual-in_err-term.result c.from_residual-in_err-term.ensures.1 in
     let kept = c.loop-found.invariant.same turns lt in
     rw (p.1, p.2) (none_below (term meant) (is_symbol Comma) kept.0 _ _ _ _ _ c.in_err-term.field-0.0 kept.1 c.in_err-term.ensures.value kept.2)
 
@@ -31,4 +31,4 @@ loop-found-preserved c = record {
 }
 
 pub loop-found-init : goal.loop-found-init
-loop-found-init c = record { same = λ turns lt. (turns, lt, ap (λ found. separated_from (term meant) (is_symbol Comma) turns found c.args.tokens.now) c.new-found.ensures); shorter = omega arith }
+loop-found-init c = record { same = λ turns lt. (turns, lt, ap (λ found. separated_from (term meant) (is_symbol Comma) turns found c.args.tokens.now) c.in_ok-found.ensures); shorter = omega arith }
