@@ -30,8 +30,9 @@ use Rattle.lrp_tables.proofs.CellsNamed.{AreTuplesOf}
 use Rattle.lrp_tables.proofs.HeadNames.{pairs_apart}
 use Rattle.lrp_tables.proofs.Joining.{joint_differs}
 use Rattle.lrp_algebra.specs.declared.pattern.Pattern.{Pattern}
-use Rattle.lrp_algebra.specs.Conditions.{IsWithTest, HasNoTest}
+use Rattle.lrp_algebra.specs.Conditions.{condition_reach, IsWithTest, HasNoTest}
 use Rattle.lrp_algebra.specs.Patterns.{parts_of, IsOver, Suits}
+use Rattle.lrp_algebra.proofs.Conditioned.{condition_within}
 use Rattle.lrp_algebra.proofs.Parts.{added_nothing}
 use Rattle.lrp_algebra.proofs.Steps.{over_tuples, has_texts, free, free_reach, free_suits, step_table, step_few, step_many, step_reach, empty_store, divides_abs, positive, same_word}
 
@@ -159,8 +160,8 @@ module _ (domain : List Text) (ascends : Ascends domain) (test : Test) (one : po
     within : system_reach start.period (parts_of pattern) ≤ test_reach test
     within = subst (λ n. system_reach n (parts_of pattern) ≤ test_reach test) (sym start_period) (w.reach k (test_reach test) (same (k == k) (eq-eqb k k refl)) (free_reach old none k (test_reach test)))
       where
-        same : (b : Bool) → b ≡ true → (if b then test_reach test else test_reach test + (k - 1)) ≤ test_reach test
-        same true e = omega arith
+        same : (b : Bool) → b ≡ true → (if b then condition_reach test else condition_reach test + (k - 1)) ≤ test_reach test
+        same true e = condition_within test
         same false e = cc
 
     module _ (out : StoreView) (ok : IsAdded (IsOver start.shape size (Suits pattern)) cap (system_reach start.period (parts_of pattern)) start out) where

@@ -20,9 +20,10 @@ use Rattle.lrp_tables.proofs.Named.{pairs_left, pairs_right}
 use Rattle.lrp_tables.proofs.TableLaws.{table_texts}
 use Rattle.lrp_algebra.specs.declared.layout.Places.{Places}
 use Rattle.lrp_algebra.specs.declared.pattern.Pattern.{Pattern}
-use Rattle.lrp_algebra.specs.Conditions.{IsWithTest, HasNoTest}
+use Rattle.lrp_algebra.specs.Conditions.{condition_reach, IsWithTest, HasNoTest}
 use Rattle.lrp_algebra.specs.Patterns.{parts_of, IsOver}
 use Rattle.lrp_algebra.specs.Gathered.{IsFound, CanStandIn, HasBrought}
+use Rattle.lrp_algebra.proofs.Conditioned.{condition_within}
 use Rattle.lrp_algebra.proofs.Parts.{added_nothing}
 use Rattle.lrp_algebra.proofs.Steps.{at_has, has_at, can_stand, over_tuples, free, free_reach, free_suits, step_table, step_few, step_many, step_reach, brought_by, empty_store, divides_abs}
 
@@ -105,14 +106,14 @@ module _ (domain : List Text) (ascends : Ascends domain) (table : Table) (is : I
         (subst (λ n. Divides (pos table.store.period) (pos n)) (sym start_period) (divides_abs period (pos table.store.period) one divides)) (λ n. subst (λ m. HasReach table.store (2 ^ 62 - m)) (sym start_period) high_reach)
 
     pub select_fits : All (Fits start.shape.times start.period) (parts_of pattern)
-    select_fits = subst (λ (q : Shape). All (Fits q.times start.period) (parts_of pattern)) (sym start_shape) (subst (λ n. All (Fits (length times) n) (parts_of pattern)) (sym start_period) (w.fits k (divides_abs period (test_period test) one can.divides) (inr room) (none_fit (length times) k old none)))
+    select_fits = subst (λ (q : Shape). All (Fits q.times start.period) (parts_of pattern)) (sym start_shape) (subst (λ n. All (Fits (length times) n) (parts_of pattern)) (sym start_period) (w.fits k (divides_abs period (test_period test) one can.divides) (inr (let c = condition_within test in omega (arith, c, room))) (none_fit (length times) k old none)))
 
     within : (high : ℕ) → test_reach test ≤ high → system_reach k (parts_of pattern) ≤ high + k
     within high h = w.reach k (high + k) (by (nat_abs (test_period test) == k)) (free_reach old none k (high + k))
       where
-        by : (b : Bool) → (if b then test_reach test else test_reach test + (k - 1)) ≤ high + k
-        by true = omega arith
-        by false = omega arith
+        by : (b : Bool) → (if b then condition_reach test else condition_reach test + (k - 1)) ≤ high + k
+        by true = let c = condition_within test in omega (arith, c, h)
+        by false = let c = condition_within test in omega (arith, c, h)
 
     wide : (high : ℕ) → HasReach table.store high → HasBrought table.store start.period (high + k)
     wide high r = subst (λ n. HasBrought table.store n (high + k)) (sym start_period) (brought_by table.store k high r)

@@ -4,6 +4,7 @@ ghost use Rattle.lrp_tables.specs.Columns.{ArePlacesOf};
 ghost use Rattle.lrp_tables.specs.Tables.{AreNamesAmong};
 
 use lrp_model::{List, Memory};
+use lrp_store::Store;
 use lrp_tables::{Vars, places_among};
 use std::alloc::Global;
 
@@ -12,6 +13,13 @@ use std::alloc::Global;
 pub struct Places {
     pub times: List<usize>,
     pub texts: List<usize>,
+}
+
+/// A store, and the places of its columns among those of a longer tuple.
+#[derive(Clone, Copy)]
+pub struct Operand<'a> {
+    pub store: &'a Store,
+    pub places: &'a Places,
 }
 
 /// The places of these variables among all of them.

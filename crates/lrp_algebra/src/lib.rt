@@ -8,7 +8,9 @@ mod data_drops;
 mod equalities;
 mod filling;
 mod gathering;
+mod joins;
 mod layout;
+mod meeting;
 mod pair;
 mod pattern;
 mod places;
@@ -22,6 +24,7 @@ mod time_drops;
 mod unions;
 
 pub use data_drops::drop_data;
+pub use joins::join;
 pub use lrp_tables::{StepFault, Table, Vars};
 pub use selections::select;
 pub use test_tables::leaf;
