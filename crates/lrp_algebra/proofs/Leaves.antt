@@ -39,7 +39,7 @@ use Rattle.lrp_algebra.proofs.Steps.{over_tuples, has_texts, free, free_reach, f
 -- ---- the names of a test
 
 -- two lists put together have no more names than both
-joint_short : (names more : List Identifier) → length (joint names more) ≤ length names + length more
+pub joint_short : (names more : List Identifier) → length (joint names more) ≤ length names + length more
 joint_short names [] = omega arith
 joint_short names (name ∷ more) = by (list_any (bytes_eq name) names) (joint_short names more) (joint_short (names ++ name ∷ []) more)
   where

@@ -8,8 +8,10 @@ pub mod Found
 pub mod Leaves
 pub mod BothFound
 pub mod Parts
+pub mod ReadRows
 pub mod Inserts
 pub mod Joined
+pub mod Scanned
 pub mod Selected
 pub mod Steps
 pub mod AllTests

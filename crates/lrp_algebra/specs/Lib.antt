@@ -5,5 +5,6 @@ pub mod Conditions
 pub mod Fillings
 pub mod Gathered
 pub mod Patterns
+pub mod Rows
 pub mod Tables
 pub mod Tuples

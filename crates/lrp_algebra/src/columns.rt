@@ -1,9 +1,9 @@
 // The columns that steps make.
-ghost use Rattle.std.specs.Prelude.{◌≡◌, ◌≤◌, ◌^◌, ◌++◌, ◌≤ℤ◌, pos, nat_abs, length, IfOk, OnOk};
+ghost use Rattle.std.specs.Prelude.{◌≡◌, ◌≤◌, ◌^◌, ◌++◌, ◌≤ℤ◌, pos, nat_abs, length, flat_map, IfOk, OnOk};
 ghost use Rattle.std.specs.FinMap as finite;
-ghost use Rattle.lrp_tables.specs.Columns.{head_times, head_texts, joint, names_of_time, names_of_data, times_of_test, texts_of_test, test_times, test_texts};
+ghost use Rattle.lrp_tables.specs.Columns.{head_times, head_texts, joint, names_of_time, names_of_data, times_of_test, texts_of_test, test_times, test_texts, times_of_term, texts_of_term, scan_times, scan_texts};
 
-use lrp_model::{DataTerm, Head, List, Memory, Name, Shape, Test, TimeTerm};
+use lrp_model::{DataTerm, Head, List, Memory, Name, Shape, Term, Test, TimeTerm};
 use lrp_store::Store;
 use lrp_tables::{Vars, joint};
 use std::alloc::Global;
@@ -109,6 +109,62 @@ fn texts_in(alloc: Global, test: &Test) -> Result<List<Name>, Memory>
         push_text(alloc, right, &mut names)?;
     }
     Ok(names)
+}
+
+/// The time variables of an atom's terms and its data variables, each once.
+pub fn scan_vars(alloc: Global, terms: &List<Term>) -> Result<Vars, Memory>
+    ensures times { IfOk result (λ made. made.times ≡ scan_times terms.now) }
+    ensures texts { IfOk result (λ made. made.texts ≡ scan_texts terms.now) }
+{
+    let none = List::new(alloc);
+    let times = times_of_terms(alloc, terms)?;
+    let texts = texts_of_terms(alloc, terms)?;
+    Ok(Vars {
+        times: joint(alloc, &none, &times)?,
+        texts: joint(alloc, &none, &texts)?,
+    })
+}
+
+// The time variables of the terms, as often as they stand there.
+fn times_of_terms(alloc: Global, terms: &List<Term>) -> Result<List<Name>, Memory>
+    ensures { IfOk result (λ made. made ≡ flat_map times_of_term terms.now) }
+{
+    let mut names = List::new(alloc);
+    for term in terms.as_slice() {
+        push_times(alloc, term, &mut names)?;
+    }
+    Ok(names)
+}
+
+// The data variables of the terms, as often as they stand there.
+fn texts_of_terms(alloc: Global, terms: &List<Term>) -> Result<List<Name>, Memory>
+    ensures { IfOk result (λ made. made ≡ flat_map texts_of_term terms.now) }
+{
+    let mut names = List::new(alloc);
+    for term in terms.as_slice() {
+        push_texts(alloc, term, &mut names)?;
+    }
+    Ok(names)
+}
+
+// Puts the variable of a term, if it is a time term with one, behind the names.
+fn push_times(alloc: Global, term: &Term, names: &mut List<Name>) -> Result<(), Memory>
+    ensures { OnOk result (names.new ≡ names.old ++ times_of_term term.now) }
+{
+    match term {
+        Term::Time { term } => push_time(alloc, term, names),
+        Term::Data { .. } => Ok(()),
+    }
+}
+
+// Puts the variable of a term, if it is a data term with one, behind the names.
+fn push_texts(alloc: Global, term: &Term, names: &mut List<Name>) -> Result<(), Memory>
+    ensures { OnOk result (names.new ≡ names.old ++ texts_of_term term.now) }
+{
+    match term {
+        Term::Time { .. } => Ok(()),
+        Term::Data { term } => push_text(alloc, term, names),
+    }
 }
 
 // Puts the variable of a time term, if it has one, behind the names.

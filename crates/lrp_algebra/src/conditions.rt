@@ -75,8 +75,8 @@ pub fn with_member(
     }
 }
 
-// The places of columns in order, from 1.
-fn counted() -> [usize; 8]
+/// The places of columns in order, from 1.
+pub fn counted() -> [usize; 8]
     ensures size { length result ≡ 8 }
     ensures each { (i : ℕ) → i < 8 → slice_index result i ≡ i + 1 }
 {

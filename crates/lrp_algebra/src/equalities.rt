@@ -2,6 +2,7 @@
 ghost use Rattle.std.specs.Prelude.{◌≡◌, ◌-◌, ◌<◌, ◌≤◌, length, List as ListOf, IfOk, MatchOption};
 ghost use Rattle.lrp_model.specs.Texts.{Identifier};
 ghost use Rattle.lrp_model.specs.declared.formulas.Test.TheVariants.{Equal};
+ghost use Rattle.lrp_model.specs.declared.formulas.DataTerm.TheVariants.{Const as constant};
 ghost use Rattle.lrp_tables.specs.Columns.{names_of_data};
 ghost use Rattle.lrp_tables.specs.Tables.{AreNamesAmong};
 ghost use Rattle.lrp_algebra.specs.Conditions.{IsWithTest, HasNoTest, IsWithPair, IsWithText, HasNoText};
@@ -52,6 +53,36 @@ pub fn with_equal(
                 }
             }
         },
+    }
+}
+
+/// The pattern and that a data term of these variables is a text, or `None` where nothing that the pattern asks for passes.
+pub fn with_constant(
+    alloc: Global,
+    pattern: &Pattern,
+    term: &DataTerm,
+    text: &DataText,
+    texts: &List<Name>,
+    domain: &Domain,
+) -> Result<Option<Pattern>, Memory>
+    requires few { length texts.now ≤ 8 }
+    requires known { length pattern.now.texts ≡ 8 }
+    requires names { AreNamesAmong (names_of_data term.now) texts.now }
+    ensures { IfOk result (λ found. (times : ListOf Identifier) → MatchOption found (HasNoTest domain.now times texts.now (Equal term.now (constant text.now)) pattern.now) (IsWithTest domain.now times texts.now (Equal term.now (constant text.now)) pattern.now)) }
+{
+    domain.len();
+    match term {
+        DataTerm::Var { name } => {
+            let column = column_among(texts, name);
+            with_text(alloc, pattern, column, text, domain)
+        }
+        DataTerm::Const { text: other } => {
+            if other == text {
+                Ok(Some(pattern.copy(alloc)?))
+            } else {
+                Ok(None)
+            }
+        }
     }
 }
 
