@@ -1,5 +1,5 @@
 -- The pieces of a zone are added to a cell of a store, one after another.
-use Rattle.std.proofs.Common.{◌≡◌, ℕ, ◌≤◌, inl, inr, List, [], ◌∷◌, ◌++◌, take, None, Result, Ok, Err, OnOk, OnErr, ◌↔◌, arith, sym, ap, subst, ◌∙◌}
+use Rattle.std.proofs.Common.{◌≡◌, ℕ, ◌+◌, ◌<◌, ◌≤◌, length, refl, inl, inr, List, [], ◌∷◌, ◌++◌, take, None, Result, Ok, Err, OnOk, OnErr, ◌↔◌, arith, sym, ap, subst, ◌∙◌}
 use Rattle.std.specs.Prelude.{ℤ, pos, Contains}
 use Rattle.std.specs.FinMap as finite
 use Rattle.lrp_model.specs.declared.tuples.Cell.{Cell}
@@ -10,6 +10,7 @@ use Rattle.lrp_store.specs.Settled.{InSome}
 use Rattle.lrp_store.specs.declared.store.StoreFault.{StoreFault}
 use Rattle.lrp_store.specs.declared.store.StoreFault.TheVariants.{TooManyCells}
 use Rattle.lrp_store.proofs.Grown.{grown_same, grown_on, added, refused}
+use Rattle.lrp_tables.proofs.Adding.{IsZoneOf}
 use Rattle.lrp_minus.specs.Differences.{IsDifference, greatest_reach}
 use Rattle.lrp_minus.specs.Filling.{IsLeft}
 use Rattle.lrp_minus.proofs.Lists.{in_either, in_nothing, reach_below, this_has}
@@ -72,3 +73,19 @@ module _ (z : ZoneView) (cutters : List ZoneView) (named : List ℕ) (cap high :
     grown = f.grown;
     whole = record { each = λ xs ns l. subst (λ ms. InStore now xs ms) l.same (f.held xs (gap.from xs l.member l.none)) };
   }
+
+-- ---- nothing is taken away
+
+-- without cutters the zone is left as it is
+pub all_left : (z : ZoneView) (cutters : List ZoneView) → length cutters ≡ 0 → IsZone z → (old : StoreView) → z.period ≡ old.period → (cell : Cell) → z.residues ≡ take old.shape.times cell.residues → IsPadded 0 old.shape.texts cell.texts → IsPadded (pos 0) old.shape.times cell.residues
+    → IsZoneOf (IsLeft z cutters (take old.shape.texts cell.texts)) old cell z (greatest_reach (z ∷ cutters) + z.period)
+all_left z cutters none valid old period cell residues texts times = record {
+  zone = valid;
+  period = period;
+  residues = residues;
+  texts = texts;
+  times = times;
+  to = λ xs m. record { member = m; none = λ s. let l : s.listed.0 < length cutters = s.listed.1 in absurd (omega arith); same = refl };
+  from = λ xs ns h. (h.member, h.same);
+  low = omega arith;
+}

@@ -1,9 +1,12 @@
 -- What is proved of differences of zones, by topic.
 pub mod AbsenceLaws
 pub mod Alike
+pub mod BeneathLaws
 pub mod BoundedLaws
 pub mod ComplementLaws
 pub mod CutLaws
+pub mod CutterLaws
+pub mod DifferenceLaws
 pub mod FillingLaws
 pub mod Gathering
 pub mod HalfLaws
@@ -16,6 +19,7 @@ pub mod MergeLaws
 pub mod PairLists
 pub mod SettlingLaws
 pub mod SpanLaws
+pub mod SparedLaws
 pub mod SplitLaws
 pub mod ThresholdLaws
 pub mod WidestLaws

@@ -122,7 +122,7 @@ module _ (f : ZoneView) (zones : List ZoneView) (h : ZoneView) (cells : AreOfCel
   pub settled_hull : length missing ≡ 0 → IsSmallZone h (columns_of f * greatest_reach zones) → IsSettlement f zones (h ∷ [])
   settled_hull none small = record {
     zones = λ w l. subst (λ y. IsZone y × IsOfCell f y) (in_one h w l) (hull.valid, hull.cell);
-    to = λ xs s. elim (decided_some zones valid xs) [
+    to = λ xs s. elim (decided_some zones xs) [
       | inl k ↦ k
       | inr out ↦ absurd (in_nothing xs (subst (λ ms. InSome ms xs) (nil_from_length missing none) (gap.from xs (this_has h xs s) out)))
     ];

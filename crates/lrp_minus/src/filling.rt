@@ -13,7 +13,7 @@ use std::alloc::Global;
 
 /// Adds to a cell of the store what of a zone is in no cutter.
 ///
-/// Where the cell is one too many, nothing was added to it.
+/// Without cutters the zone is added as it is. Where the cell is one too many, nothing was added to it.
 pub(crate) fn add_left(
     alloc: Global,
     zone: &Zone,
@@ -32,6 +32,10 @@ pub(crate) fn add_left(
     ensures refused { result ≡ Err StoreFault.TooManyCells → IsRefused (IsLeft zone.now cutters.now (take store.old.shape.texts cell.now.texts)) cap (greatest_reach (zone.now ∷ cutters.now) + zone.now.period) store.old store.new }
 {
     store.shape();
+    if cutters.len() == 0 {
+        zone.columns();
+        return store.add(cell, zone, cap);
+    }
     let left = pieces(alloc, zone, cutters)?;
     for piece in left.as_slice() {
         piece.columns();

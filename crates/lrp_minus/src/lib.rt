@@ -2,9 +2,12 @@
 #![tactic(auto)]
 
 mod absences;
+mod beneath;
 mod bounded;
 mod complements;
+mod cutters;
 mod cutting;
+mod differences;
 mod filling;
 mod half;
 mod hull;
@@ -17,7 +20,10 @@ mod thresholds;
 
 pub use complements::complement;
 pub use cutting::pieces;
+pub use differences::minus;
 pub use settling::settle;
 
+#[cfg(test)]
+mod table_tests;
 #[cfg(test)]
 mod tests;

@@ -15,12 +15,12 @@ use std::test::Fail;
 const SMALL: i64 = 9_007_199_254_740_992;
 
 // Column `left` minus column `right` is at most `most`.
-const fn bound(left: u8, right: u8, most: i64) -> Bound {
+pub(crate) const fn bound(left: u8, right: u8, most: i64) -> Bound {
     Bound { left, right, most }
 }
 
 // The one column is between the two numbers.
-const fn between(least: i64, most: i64) -> [Bound; 2]
+pub(crate) const fn between(least: i64, most: i64) -> [Bound; 2]
     requires { nat_abs least ≤ 2 ^ 62 }
 {
     [bound(0, 1, -least), bound(1, 0, most)]
@@ -40,7 +40,7 @@ fn check_residues(rt: &impl Abort, period: i64, residues: &[i64])
 }
 
 // The zone of these parts, whose bounds are small.
-fn made(rt: &impl Abort, period: i64, residues: &[i64], bounds: &[Bound]) -> Option<Zone>
+pub(crate) fn made(rt: &impl Abort, period: i64, residues: &[i64], bounds: &[Bound]) -> Option<Zone>
     ensures reach { IfSome result (λ z. reach_of z + z.period ≤ 2 ^ 55) }
     ensures period { IfSome result (λ z. pos z.period ≡ period) }
     ensures residues { IfSome result (λ z. z.residues ≡ residues.now) }

@@ -1,0 +1,151 @@
+-- Differences of stores as those of the tables whose columns they have.
+use Rattle.std.proofs.Common.{◌≡◌, ◌≢◌, ℕ, ◌+◌, ◌*◌, ◌-◌, ◌<◌, ◌≤◌, ◌^◌, List, [], length, sym, ap, subst, ◌∙◌, arith, get_or, to_z, of_z}
+use Rattle.std.specs.Prelude.{ℤ, pos, All, nat_abs, ◌≤ℤ◌}
+use Rattle.std.specs.Int.{w64}
+use Rattle.std.specs.FinMap as finite
+use Rattle.std.proofs.lemmas.Int.{ints}
+use Rattle.std.proofs.lemmas.List.{get_or_default}
+use Rattle.std.proofs.lemmas.Option.{slice_get_within, slice_get-get_or}
+use Rattle.lrp_theory.specs.Divides.{Divides}
+use Rattle.lrp_model.specs.Texts.{Text, Ascends}
+use Rattle.lrp_model.specs.declared.tuples.Shape.{Shape}
+use Rattle.lrp_zone.specs.Spread.{ArePlaces}
+use Rattle.lrp_zone.specs.Zones.{reach_of}
+use Rattle.lrp_store.specs.Aligned.{IsAligned}
+use Rattle.lrp_store.specs.Growing.{IsAdded, IsRefused}
+use Rattle.lrp_store.specs.Stores.{StoreView, IsStore, InStore, HasReach, zone_of}
+use Rattle.lrp_store.specs.Tables.{AreNumbered}
+use Rattle.lrp_store.specs.declared.table.Table.{Table}
+use Rattle.lrp_tables.specs.Caps.{InhabitsMoreThan}
+use Rattle.lrp_tables.specs.Columns.{ArePlacesOf, IsPlace}
+use Rattle.lrp_tables.specs.Tables.{Has, HasTexts, IsLess, IsTableOf}
+use Rattle.lrp_tables.proofs.CellsNamed.{AreTuplesOf}
+use Rattle.lrp_tables.proofs.Filled.{IsStart, step_table, step_few, step_many, reach_held}
+use Rattle.lrp_tables.proofs.Joining.{places_count, place_is, places_are}
+use Rattle.lrp_tables.proofs.Named.{pairs_left}
+use Rattle.lrp_tables.proofs.TableLaws.{table_texts}
+use Rattle.lrp_tables.proofs.TableMade.{held_times, held_texts, held_known, tuples_of}
+use Rattle.lrp_tables.proofs.Wider.{IsWider, less_tuples, same_tuples, wider_tuples}
+use Rattle.lrp_minus.specs.Beneath.{AreAmong}
+use Rattle.lrp_minus.specs.Cutters.{CanTake, HaveReach, IsSpared}
+use Rattle.lrp_minus.specs.declared.beneath.Places.{Places}
+
+-- a period as it is passed
+pub passed_is : (k : ℤ) → pos 1 ≤ℤ k → 2 * nat_abs k ≤ 2 ^ 62 → to_z w64 (of_z w64 k) ≡ k
+passed_is k low high = omega (arith, ints)
+
+pub passed_abs : (k : ℤ) → pos 1 ≤ℤ k → 2 * nat_abs k ≤ 2 ^ 62 → nat_abs (to_z w64 (of_z w64 k)) ≡ nat_abs k
+passed_abs k low high = ap nat_abs (passed_is k low high)
+
+pub passed_pos : (k : ℤ) → pos 1 ≤ℤ k → k ≡ pos (nat_abs k)
+passed_pos k low = omega (arith, ints)
+
+-- a farther reach
+pub farther : (s : StoreView) (low high : ℕ) → low ≤ high → HasReach s low → HasReach s high
+farther s low high le r = record { each = λ c t h. let l : reach_of (zone_of s c t) ≤ low = r.each c t h in omega arith }
+
+-- that of a store that is aligned
+pub align_reach : (s : StoreView) (k : ℤ) → pos 1 ≤ℤ k → 2 * nat_abs k ≤ 2 ^ 62 → HasReach s (2 ^ 62 - 2 * nat_abs k) → HasReach s (2 ^ 62 - nat_abs (to_z w64 (of_z w64 k)))
+align_reach s k low high r = subst (λ (n : ℕ). HasReach s (2 ^ 62 - n)) (sym (passed_abs k low high)) (farther s (2 ^ 62 - 2 * nat_abs k) (2 ^ 62 - nat_abs k) (omega arith) r)
+
+-- a store without cells of a shape and a period
+abbrev pub without_cells : Shape → ℕ → StoreView
+without_cells q k = record { shape = q; period = k; tables = finite.empty; spare = 0 }
+
+pub started : (start : StoreView) (q r : Shape) (j k : ℕ) → start ≡ without_cells q j → q ≡ r → j ≡ k → start ≡ without_cells r k
+started start q r j k e eq ek = e ∙ ap (λ (p : Shape). without_cells p j) eq ∙ ap (λ (n : ℕ). without_cells r n) ek
+
+module _ (left right : Table) (right_is : IsStore right.store) (places : Places) (times_at : ArePlacesOf right.vars.times left.vars.times places.times) (texts_at : ArePlacesOf right.vars.texts left.vars.texts places.texts)
+    (k : ℕ) (aligned : StoreView) (is : IsAligned left.store k aligned) where
+  -- ---- the right store stands beneath the left one
+
+  times_are : length left.vars.times ≡ aligned.shape.times
+  times_are = left.times_named ∙ ap (λ (q : Shape). q.times) (sym is.shape)
+
+  texts_are : length left.vars.texts ≡ aligned.shape.texts
+  texts_are = left.texts_named ∙ ap (λ (q : Shape). q.texts) (sym is.shape)
+
+  text_place : All (λ p. (0 < p) × (p ≤ aligned.shape.texts)) places.texts
+  text_place i d h =
+      let c : length places.texts ≡ length right.vars.texts = places_count right.vars.texts left.vars.texts places.texts texts_at in
+      let at : IsPlace left.vars.texts (get_or places.texts i 0) (get_or right.vars.texts i []) = place_is right.vars.texts left.vars.texts places.texts texts_at i (get_or right.vars.texts i []) (slice_get-get_or right.vars.texts i [] (omega arith)) in
+      let low : 0 < get_or places.texts i 0 = at.0 in
+      let within : get_or places.texts i 0 - 1 < length left.vars.texts = slice_get_within left.vars.texts (get_or places.texts i 0 - 1) (get_or right.vars.texts i []) at.1 in
+      let t = texts_are in
+      subst (λ p. (0 < p) × (p ≤ aligned.shape.texts)) (get_or_default places.texts i 0 d h) (low, omega arith)
+
+  among : AreAmong aligned.shape.times aligned.shape.texts right.store places
+  among = record {
+    times_count = places_count right.vars.times left.vars.times places.times times_at ∙ right.times_named;
+    texts_count = places_count right.vars.texts left.vars.texts places.texts texts_at ∙ right.texts_named;
+    in_times = subst (ArePlaces places.times) times_are (places_are right.vars.times left.vars.times places.times times_at (pairs_left ◌≢◌ right.vars.times right.vars.texts right.names_differ));
+    in_texts = text_place;
+  }
+
+  -- both reach no farther than tables may
+  pub both_reach : (high : ℕ) → HasReach left.store high → HasReach right.store high → HaveReach aligned right.store high
+  both_reach high l r = record { in_left = subst (λ (n : ℕ). HasReach aligned (high + (n - 1))) (sym is.period_is) (is.reach high l); in_right = r }
+
+  pub can_take : Divides (pos right.store.period) (pos k) → 2 * k ≤ 2 ^ 62 → HasReach left.store (2 ^ 62 - 2 * k) → HasReach right.store (2 ^ 62 - 2 * k) → CanTake places aligned right.store
+  can_take divides small l r = record {
+    among = among;
+    multiple = subst (λ (n : ℕ). Divides (pos right.store.period) (pos n)) (sym is.period_is) divides;
+    period = let e : aligned.period ≡ k = is.period_is in omega arith;
+    reach = subst (λ (n : ℕ). HaveReach aligned right.store (2 ^ 62 - 2 * n)) (sym is.period_is) (both_reach (2 ^ 62 - 2 * k) l r);
+  }
+
+  -- ---- tuples that are spared are those of the assignments of the difference
+
+  module _ (left_is : IsStore left.store) (domain : List Text) (ascends : Ascends domain) (numbered : AreNumbered domain left.store) where
+    abbrev Wide : List ℤ → List ℕ → Type 0
+    Wide = IsWider (length domain) (length left.vars.times) (length left.vars.texts) places.times places.texts right.store
+
+    are : AreTuplesOf domain left.vars.times left.vars.texts (IsSpared places aligned right.store) (IsLess domain left right)
+    are = same_tuples domain left.vars.times left.vars.texts (λ xs ns. InStore left.store xs ns × (Wide xs ns → ⊥)) (IsSpared places aligned right.store)
+        (λ env. Has left domain env × (HasTexts domain left.vars.texts env × Has right domain env → ⊥)) (IsLess domain left right)
+        (λ xs ns. (
+          λ h. record {
+            held = is.same.whole xs ns h.0;
+            none = λ b. h.1 (record {
+              times_count = held_times left.store left_is xs ns h.0 ∙ sym left.times_named;
+              texts_count = held_texts left.store left_is xs ns h.0 ∙ sym left.texts_named;
+              known = held_known left.store left_is domain numbered xs ns h.0;
+              held = b;
+            });
+          },
+          λ h. (is.same.sound xs ns h.held, λ w. h.none w.held),
+        ))
+        (λ env. (λ h. record { has = h.0; none = λ r. h.1 (table_texts domain left env h.0, r) }, λ h. (h.has, λ p. h.none p.1)))
+        (less_tuples domain ascends left.vars.times left.vars.texts (InStore left.store) Wide (Has left domain) (λ env. HasTexts domain left.vars.texts env × Has right domain env) (tuples_of domain left left_is numbered)
+        (wider_tuples domain ascends left.vars.times left.vars.texts right places.times places.texts times_at texts_at))
+
+    module _ (cap : ℕ) (start out : StoreView) (fresh : start ≡ without_cells left.store.shape k) (valid : IsStore start) where
+      period_is : start.period ≡ k
+      period_is = ap (λ (s : StoreView). s.period) fresh
+
+      start_is : IsStart domain left.vars.times left.vars.texts start
+      start_is = record {
+        ascends = ascends;
+        names_differ = left.names_differ;
+        valid = valid;
+        times_are = ap (λ (s : StoreView). s.shape.times) fresh ∙ sym left.times_named;
+        texts_are = ap (λ (s : StoreView). s.shape.texts) fresh ∙ sym left.texts_named;
+        empty = ap (λ (s : StoreView). s.tables) fresh;
+      }
+
+      module _ (high : ℕ) (a : IsAdded (IsSpared places aligned right.store) cap high start out) where
+        pub minus_table : (made : Table) → made.vars.times ≡ left.vars.times → made.vars.texts ≡ left.vars.texts → made.store ≡ out → IsTableOf domain left.vars.times left.vars.texts k (IsLess domain left right) made
+        minus_table made et ex eo = subst (λ (n : ℕ). IsTableOf domain left.vars.times left.vars.texts n (IsLess domain left right) made) period_is
+            (step_table domain left.vars.times left.vars.texts start start_is (IsSpared places aligned right.store) (IsLess domain left right) are cap high out a made et ex eo)
+
+        pub minus_few : InhabitsMoreThan cap domain k left.vars.times left.vars.texts (IsLess domain left right) → ⊥
+        minus_few more = step_few domain left.vars.times left.vars.texts start start_is (IsSpared places aligned right.store) (IsLess domain left right) are cap high out a
+            (subst (λ (n : ℕ). InhabitsMoreThan cap domain n left.vars.times left.vars.texts (IsLess domain left right)) (sym period_is) more)
+
+      pub minus_many : (high : ℕ) → IsRefused (IsSpared places aligned right.store) cap high start out → InhabitsMoreThan cap domain k left.vars.times left.vars.texts (IsLess domain left right)
+      minus_many high r = subst (λ (n : ℕ). InhabitsMoreThan cap domain n left.vars.times left.vars.texts (IsLess domain left right)) period_is
+          (step_many domain left.vars.times left.vars.texts start start_is (IsSpared places aligned right.store) (IsLess domain left right) are cap high out r)
+
+  pub minus_reach : (cap : ℕ) (start out : StoreView) → start ≡ without_cells left.store.shape k → (high : ℕ) → IsAdded (IsSpared places aligned right.store) cap (high + 2 * aligned.period) start out → HasReach out (high + 2 * k)
+  minus_reach cap start out fresh high a =
+      subst (λ (n : ℕ). HasReach out (high + 2 * n)) is.period_is (reach_held (IsSpared places aligned right.store) cap (high + 2 * aligned.period) start out (ap (λ (s : StoreView). s.tables) fresh) a.grown)

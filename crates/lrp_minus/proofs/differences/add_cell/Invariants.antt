@@ -1,0 +1,10 @@
+-- What is left of the first zones was added.
+use Rattle.std.proofs.Common.{ℕ, ◌+◌, ◌*◌}
+use Rattle.lrp_store.specs.Stores.{zones_at}
+use Rattle.lrp_minus.specs.Cutters.{HaveReach, IsSparedIn}
+use Rattle.lrp_minus.proofs.Gathering.{IsGathering}
+use Rattle.lrp_minus.proofs.SparedLaws.{IsBehindZone}
+use Rattle.lrp_minus.proofs.differences.add_cell.Given as goal
+
+abbrev pub invariant-loop-i : goal.invariant-loop-i
+invariant-loop-i l = (high : ℕ) → HaveReach l.left l.right high → IsGathering (IsSparedIn l.places l.left l.cell l.right) (IsBehindZone (zones_at l.left l.cell) l.i) l.cap (high + 2 * l.left.period) l.initial.out l.out

@@ -1,0 +1,63 @@
+-- Tuples of a store that have none of another store beneath them, and what of a cell is cut away to leave these.
+use Rattle.std.specs.Prelude.{◌≡◌, ℕ, ℤ, ◌+◌, ◌*◌, ◌-◌, ◌^◌, ◌≤◌, pos, List, map, length, take, Contains}
+use Rattle.lrp_theory.specs.Divides.{Divides}
+use Rattle.lrp_theory.specs.Entries.{node}
+use Rattle.lrp_model.specs.declared.tuples.Cell.{Cell}
+use Rattle.lrp_zone.specs.Residues.{HasResidues}
+use Rattle.lrp_zone.specs.Zones.{ZoneView, IsMember, reach_of}
+use Rattle.lrp_store.specs.Aligned.{InCell}
+use Rattle.lrp_store.specs.Settled.{InSome}
+use Rattle.lrp_store.specs.Stores.{StoreView, InStore, HasReach}
+use Rattle.lrp_minus.specs.Beneath.{AreAmong, HasBeneath}
+use Rattle.lrp_minus.specs.Differences.{greatest_reach}
+use Rattle.lrp_minus.specs.declared.beneath.Places.{Places}
+
+-- a tuple of the left store that has none of the right one at the places
+pub record IsSpared (places : Places) (left right : StoreView) (times : List ℤ) (texts : List ℕ) : Type 0 where
+  pub held : InStore left times texts
+  pub none : HasBeneath places right times texts → ⊥
+
+-- one of a cell
+pub record IsSparedIn (places : Places) (left : StoreView) (cell : Cell) (right : StoreView) (times : List ℤ) (texts : List ℕ) : Type 0 where
+  pub held : InCell left cell times texts
+  pub none : HasBeneath places right times texts → ⊥
+
+-- the zones of the right store reach no farther than this, and those of the left one no farther than that and the period less 1
+pub record HaveReach (left right : StoreView) (high : ℕ) : Type 0 where
+  pub in_left : HasReach left (high + (left.period - 1))
+  pub in_right : HasReach right high
+
+-- the right store's columns have places among those of the left one, whose period is a multiple, and bounds of both can be turned
+pub record CanTake (places : Places) (left right : StoreView) : Type 0 where
+  pub among : AreAmong left.shape.times left.shape.texts right places
+  pub multiple : Divides (pos right.period) (pos left.period)
+  pub period : 2 * left.period ≤ 2 ^ 62
+  pub reach : HaveReach left right (2 ^ 62 - 2 * left.period)
+
+-- w holds the tuples with the residues rs modulo k that have one of z at the places
+pub record IsCutter (z : ZoneView) (places : List ℕ) (k : ℤ) (rs : List ℤ) (w : ZoneView) : Type 0 where
+  pub period : pos w.period ≡ k
+  pub residues : w.residues ≡ rs
+  pub to : (xs : List ℤ) → IsMember w xs → IsMember z (map (node xs) places)
+  pub from : (xs : List ℤ) → length xs ≡ length rs → HasResidues k rs xs → IsMember z (map (node xs) places) → IsMember w xs
+  pub reach : reach_of w ≤ reach_of z + (w.period - 1)
+
+-- there is none
+pub record HasNoCutter (z : ZoneView) (places : List ℕ) (k : ℤ) (rs : List ℤ) : Type 0 where
+  pub none : (xs : List ℤ) → length xs ≡ length rs → HasResidues k rs xs → IsMember z (map (node xs) places) → ⊥
+
+-- the cutters hold the tuples with the residues rs modulo k that have one of the zones at the places
+pub record AreCutOf (zones : List ZoneView) (places : List ℕ) (k : ℕ) (rs : List ℤ) (cutters : List ZoneView) : Type 0 where
+  pub period : (w : ZoneView) → Contains cutters w → w.period ≡ k
+  pub residues : (w : ZoneView) → Contains cutters w → w.residues ≡ rs
+  pub to : (xs : List ℤ) → InSome cutters xs → InSome zones (map (node xs) places)
+  pub from : (xs : List ℤ) → length xs ≡ length rs → HasResidues (pos k) rs xs → InSome zones (map (node xs) places) → InSome cutters xs
+  pub reach : greatest_reach cutters ≤ greatest_reach zones + (k - 1)
+
+-- the cutters hold the tuples of the left store's cell that have one of the right store at the places
+pub record AreCutters (places : Places) (left : StoreView) (cell : Cell) (right : StoreView) (cutters : List ZoneView) : Type 0 where
+  pub period : (w : ZoneView) → Contains cutters w → w.period ≡ left.period
+  pub residues : (w : ZoneView) → Contains cutters w → w.residues ≡ take left.shape.times cell.residues
+  pub to : (xs : List ℤ) → InSome cutters xs → HasBeneath places right xs (take left.shape.texts cell.texts)
+  pub from : (xs : List ℤ) → length xs ≡ left.shape.times → HasResidues (pos left.period) (take left.shape.times cell.residues) xs → HasBeneath places right xs (take left.shape.texts cell.texts) → InSome cutters xs
+  pub reach : (high : ℕ) → HasReach right high → greatest_reach cutters ≤ high + (left.period - 1)
