@@ -1,5 +1,8 @@
 -- The lemmas: lines, orders of tuples, tuples in head order, the first tuples of zones, and what a listing keeps.
 pub mod LineLaws
+pub mod AnswerLines
+pub mod Shortest
+pub mod Rows
 pub mod Orders
 pub mod HeadOrder
 pub mod HeapLaws

@@ -19,18 +19,18 @@ use Rattle.lrp_list.specs.Lines.{text_at, texts_at, behind}
 use Rattle.lrp_list.proofs.HeadOrder.{head_is}
 
 -- what is left of a list behind its first element
-rest_is : {A : Type 0} (x : A) (xs : List A) → take (length (x ∷ xs) - 1) xs ≡ xs
+pub rest_is : {A : Type 0} (x : A) (xs : List A) → take (length (x ∷ xs) - 1) xs ≡ xs
 rest_is x xs = take_all (length (x ∷ xs) - 1) xs (omega arith)
 
 clash : true ≡ false → ⊥
 clash e = cc
 
-time_put : (s : Sort) (x : ℤ) (xs : List ℤ) (ts : List Text) (rest : List ℤ → List Text → List Datum) → is_time s ≡ true → put_first s (x ∷ xs) ts rest ≡ time x ∷ rest xs ts
+pub time_put : (s : Sort) (x : ℤ) (xs : List ℤ) (ts : List Text) (rest : List ℤ → List Text → List Datum) → is_time s ≡ true → put_first s (x ∷ xs) ts rest ≡ time x ∷ rest xs ts
 time_put Time x xs ts rest e = refl
 time_put Data x xs ts rest e = absurd (clash (sym e))
 time_put (Named name) x xs ts rest e = absurd (clash (sym e))
 
-text_put : (s : Sort) (xs : List ℤ) (t : Text) (ts : List Text) (rest : List ℤ → List Text → List Datum) → is_time s ≡ false → put_first s xs (t ∷ ts) rest ≡ text t ∷ rest xs ts
+pub text_put : (s : Sort) (xs : List ℤ) (t : Text) (ts : List Text) (rest : List ℤ → List Text → List Datum) → is_time s ≡ false → put_first s xs (t ∷ ts) rest ≡ text t ∷ rest xs ts
 text_put Time xs t ts rest e = absurd (clash e)
 text_put Data xs t ts rest e = refl
 text_put (Named name) xs t ts rest e = refl

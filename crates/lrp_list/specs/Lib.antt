@@ -6,3 +6,4 @@ pub mod Following
 pub mod Giving
 pub mod Progress
 pub mod Codes
+pub mod AnswerText

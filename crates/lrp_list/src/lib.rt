@@ -1,6 +1,8 @@
 //! Answers as they are listed: those of a window one after the other, and the lines of a page.
 #![tactic(auto)]
 
+mod answers;
+mod closures;
 mod cursor;
 mod heap;
 mod laws;
@@ -12,6 +14,7 @@ mod tests;
 mod texts;
 mod window;
 
+pub use answers::write_answer;
 pub use cursor::Cursor;
 pub use laws::{listings_are_pages, moves_are_few};
 pub use lines::write_line;

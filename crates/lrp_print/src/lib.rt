@@ -8,4 +8,4 @@ pub use pieces::{
     write_bytes, write_count, write_integer, write_number, write_offset, write_point, write_quoted,
     write_sort,
 };
-pub use relations::{write_relation, write_relations};
+pub use relations::{write_columns, write_conditions, write_relation, write_relations};

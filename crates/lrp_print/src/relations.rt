@@ -127,8 +127,8 @@ fn write_further_columns<S: Sink>(out: &mut S, columns: &[Column]) -> Result<(),
     Ok(())
 }
 
-// Columns, with commas between.
-fn write_columns<S: Sink>(out: &mut S, columns: &[Column]) -> Result<(), Failed>
+/// Columns, with commas between. After a failure a front of them was written.
+pub fn write_columns<S: Sink>(out: &mut S, columns: &[Column]) -> Result<(), Failed>
     ensures text { IsWritten (S.written out.old) (S.written out.new) (joined_by (codes ", ") column_bytes columns.now) result }
     ensures cause { HasCause (S.faults out.old) (S.faults out.new) result }
 {
@@ -217,8 +217,8 @@ fn write_bounds<S: Sink>(out: &mut S, columns: &[Column], bounds: &[Bound]) -> R
     }
 }
 
-// ` where ` and the bounds, if there are any.
-fn write_conditions<S: Sink>(
+/// ` where ` and the bounds, if there are any. After a failure a front of them was written.
+pub fn write_conditions<S: Sink>(
     out: &mut S,
     columns: &[Column],
     bounds: &[Bound],
