@@ -1,7 +1,7 @@
 -- The formula of a core form whose members stand in a vector, and lists of members as they grow.
 use Rattle.std.proofs.Common.{◌≡◌, subst, List, [], ◌∷◌, ◌++◌, Vec, Global, refl, ap, sym, ◌∙◌, rules}
 use Rattle.lrp_model.specs.Formulas.{Form, Forms, conjunction, disjunction, no_forms, form, joined}
-use Rattle.lrp_model.specs.Core.{conjuncts, disjuncts, all_conjuncts, all_disjuncts, and_two, or_two, and_list, or_list}
+use Rattle.lrp_model.specs.Core.{conjuncts, disjuncts, all_conjuncts, all_disjuncts, and_two, or_two}
 use Rattle.lrp_core.specs.Cores.{core_of, cores_of, row_cores}
 use Rattle.lrp_core.specs.declared.core_forms.Core.{Core, And, Or, the_lemmas, Row_of-Core, end_of-Core, more_of-Core, items-the_row-Core, roll-Core, out-Core, roll-out-Core}
 use Rattle.lrp_core.specs.declared.core_forms.Core.TheOpen.{Core-F}
@@ -88,29 +88,19 @@ all_disjuncts-joined no_forms gs = refl
 all_disjuncts-joined (form f fs) gs = ap (joined (disjuncts f)) (all_disjuncts-joined fs gs) ∙ sym (joined_assoc (disjuncts f) (all_disjuncts fs) (all_disjuncts gs))
 
 -- a further formula, behind those whose elements were taken
-pub conjuncts-step : (seen more made now : List Core) (f : Core) → more ≡ seen ++ f ∷ [] → cores_of made ≡ all_conjuncts (cores_of seen) → cores_of now ≡ joined (cores_of made) (conjuncts (core_of f)) → cores_of now ≡ all_conjuncts (cores_of more)
-conjuncts-step seen more made now f e before step =
-    step ∙ ap (λ x. joined x (conjuncts (core_of f))) before ∙ ap (joined (all_conjuncts (cores_of seen))) (sym (joined_none (conjuncts (core_of f))))
-    ∙ sym (all_conjuncts-joined (cores_of seen) (form (core_of f) no_forms)) ∙ sym (ap all_conjuncts (ap cores_of e ∙ cores_of-append seen (f ∷ [])))
+pub conjuncts-more : (gs hs : List Core) (f : Form) (made more : Forms) → cores_of gs ≡ all_conjuncts made → cores_of hs ≡ joined (cores_of gs) (conjuncts f) → more ≡ joined made (form f no_forms) → cores_of hs ≡ all_conjuncts more
+conjuncts-more gs hs f made more before step e =
+    step ∙ ap (λ x. joined x (conjuncts f)) before ∙ ap (joined (all_conjuncts made)) (sym (joined_none (conjuncts f))) ∙ sym (all_conjuncts-joined made (form f no_forms)) ∙ sym (ap all_conjuncts e)
 
 -- the same for an `or`
-pub disjuncts-step : (seen more made now : List Core) (f : Core) → more ≡ seen ++ f ∷ [] → cores_of made ≡ all_disjuncts (cores_of seen) → cores_of now ≡ joined (cores_of made) (disjuncts (core_of f)) → cores_of now ≡ all_disjuncts (cores_of more)
-disjuncts-step seen more made now f e before step =
-    step ∙ ap (λ x. joined x (disjuncts (core_of f))) before ∙ ap (joined (all_disjuncts (cores_of seen))) (sym (joined_none (disjuncts (core_of f))))
-    ∙ sym (all_disjuncts-joined (cores_of seen) (form (core_of f) no_forms)) ∙ sym (ap all_disjuncts (ap cores_of e ∙ cores_of-append seen (f ∷ [])))
-
--- an `and` of all members
-pub all_conjuncts-and : (fs v : Vec Core Global) → cores_of v.items ≡ all_conjuncts (cores_of fs.items) → core_of (And v) ≡ and_list (cores_of fs.items)
-all_conjuncts-and fs v e = core_of-And v ∙ ap conjunction e
+pub disjuncts-more : (gs hs : List Core) (f : Form) (made more : Forms) → cores_of gs ≡ all_disjuncts made → cores_of hs ≡ joined (cores_of gs) (disjuncts f) → more ≡ joined made (form f no_forms) → cores_of hs ≡ all_disjuncts more
+disjuncts-more gs hs f made more before step e =
+    step ∙ ap (λ x. joined x (disjuncts f)) before ∙ ap (joined (all_disjuncts made)) (sym (joined_none (disjuncts f))) ∙ sym (all_disjuncts-joined made (form f no_forms)) ∙ sym (ap all_disjuncts e)
 
 -- an `and` of two, from no elements on
 pub two_conjuncts-and : (none one two : Vec Core Global) (f g : Form) → none.items ≡ [] → cores_of one.items ≡ joined (cores_of none.items) (conjuncts f) → cores_of two.items ≡ joined (cores_of one.items) (conjuncts g) → core_of (And two) ≡ and_two f g
 two_conjuncts-and none one two f g start first second =
     core_of-And two ∙ ap conjunction (second ∙ ap (λ x. joined x (conjuncts g)) (first ∙ ap (λ x. joined (cores_of x) (conjuncts f)) start) ∙ ap (joined (conjuncts f)) (sym (joined_none (conjuncts g))))
-
--- an `or` of all members
-pub all_disjuncts-or : (fs v : Vec Core Global) → cores_of v.items ≡ all_disjuncts (cores_of fs.items) → core_of (Or v) ≡ or_list (cores_of fs.items)
-all_disjuncts-or fs v e = core_of-Or v ∙ ap disjunction e
 
 -- an `or` of two, from no elements on
 pub two_disjuncts-or : (none one two : Vec Core Global) (f g : Form) → none.items ≡ [] → cores_of one.items ≡ joined (cores_of none.items) (disjuncts f) → cores_of two.items ≡ joined (cores_of one.items) (disjuncts g) → core_of (Or two) ≡ or_two f g

@@ -44,6 +44,15 @@ terms_more cs ts i t old mid new lt is h k =
     ap (term_texts cs) (take_more ts i t lt ∙ ap (λ x. take i ts ++ x ∷ []) (sym is)) ∙ term_push cs (take i ts) t ∙ ap (λ m. term_texts cs (take i ts) ++ one_in (slice_get cs m) t) n in
     k ∙ ap (λ ys. ys ++ one_in (slice_get cs i) t) h ∙ append_assoc old (term_texts cs (take i ts)) (one_in (slice_get cs i) t) ∙ ap (λ ys. old ++ ys) (sym e)
 
+-- one more term that is no text
+pub still_none : (cs : List Column) (ts : List Term) (i : ℕ) (t : Term) → i < length ts → t ≡ get_or ts i t → ((s : Sort) → one_text s t ≡ []) → term_texts cs (take i ts) ≡ [] → term_texts cs (take (i + 1) ts) ≡ []
+still_none cs ts i t lt is none before =
+    ap (term_texts cs) (take_more ts i t lt ∙ ap (λ x. take i ts ++ x ∷ []) (sym is)) ∙ term_push cs (take i ts) t ∙ ap (λ ys. ys ++ one_in (slice_get cs (length (take i ts))) t) before ∙ in_none (slice_get cs (length (take i ts)))
+  where
+    in_none : (o : Option Column) → one_in o t ≡ []
+    in_none None = refl
+    in_none (Some c) = none c.sort
+
 get_from : {X : Type 0} (xs : List X) (i : ℕ) (x : X) → i < length xs → x ≡ get_or xs i x → slice_get xs i ≡ Some x
 get_from [] i x lt e = absurd (omega arith)
 get_from (y ∷ xs) zero x lt e = ap Some (sym e)

@@ -29,33 +29,29 @@ negatives-joined (form f fs) gs named = ap (form (negative f named)) (negatives-
 forms_of-take : (fs : List Formula) (i : ℕ) (f : Formula) → i < length fs → f ≡ get_or fs i f → forms_of (take (i + 1) fs) ≡ joined (forms_of (take i fs)) (form (form_of f) no_forms)
 forms_of-take fs i f lt is = ap forms_of (take_more fs i f lt ∙ ap (λ x. take i fs ++ x ∷ []) (sym is)) ∙ forms_of-append (take i fs) (f ∷ [])
 
--- a further core form, behind those of the formulas before
-pub positives-step : (fs : List Formula) (gs hs : List Core) (i : ℕ) (f : Formula) (g : Core) (named : Bool) → i < length fs → f ≡ get_or fs i f → hs ≡ gs ++ g ∷ [] → cores_of gs ≡ positives (forms_of (take i fs)) named → core_of g ≡ positive (form_of f) named → cores_of hs ≡ positives (forms_of (take (i + 1) fs)) named
-positives-step fs gs hs i f g named lt is e before one =
-    ap cores_of e ∙ cores_of-append gs (g ∷ []) ∙ (rw (before, one) refl)
-    ∙ sym (positives-joined (forms_of (take i fs)) (form (form_of f) no_forms) named) ∙ sym (ap (λ x. positives x named) (forms_of-take fs i f lt is))
+-- one core form more
+pub positives-more : (fs : List Formula) (i : ℕ) (f : Formula) (named : Bool) → i < length fs → f ≡ get_or fs i f → positives (forms_of (take (i + 1) fs)) named ≡ joined (positives (forms_of (take i fs)) named) (form (positive (form_of f) named) no_forms)
+positives-more fs i f named lt is = ap (λ x. positives x named) (forms_of-take fs i f lt is) ∙ positives-joined (forms_of (take i fs)) (form (form_of f) no_forms) named
 
 -- the same for negations
-pub negatives-step : (fs : List Formula) (gs hs : List Core) (i : ℕ) (f : Formula) (g : Core) (named : Bool) → i < length fs → f ≡ get_or fs i f → hs ≡ gs ++ g ∷ [] → cores_of gs ≡ negatives (forms_of (take i fs)) named → core_of g ≡ negative (form_of f) named → cores_of hs ≡ negatives (forms_of (take (i + 1) fs)) named
-negatives-step fs gs hs i f g named lt is e before one =
-    ap cores_of e ∙ cores_of-append gs (g ∷ []) ∙ (rw (before, one) refl)
-    ∙ sym (negatives-joined (forms_of (take i fs)) (form (form_of f) no_forms) named) ∙ sym (ap (λ x. negatives x named) (forms_of-take fs i f lt is))
+pub negatives-more : (fs : List Formula) (i : ℕ) (f : Formula) (named : Bool) → i < length fs → f ≡ get_or fs i f → negatives (forms_of (take (i + 1) fs)) named ≡ joined (negatives (forms_of (take i fs)) named) (form (negative (form_of f) named) no_forms)
+negatives-more fs i f named lt is = ap (λ x. negatives x named) (forms_of-take fs i f lt is) ∙ negatives-joined (forms_of (take i fs)) (form (form_of f) no_forms) named
 
 -- the core form of an `and`
-pub positive-And : (f : Formula) (v : Vec Formula Global) (cs : List Core) (named : Bool) → f ≡ all_formulas v → cores_of cs ≡ positives (forms_of v.items) named → and_list (cores_of cs) ≡ positive (form_of f) named
-positive-And f v cs named is h = ap and_list h ∙ sym (ap (λ x. positive (form_of x) named) is ∙ ap (λ x. positive x named) (form_of-And v))
+pub positive-And : (f : Formula) (v : Vec Formula Global) (named : Bool) → f ≡ all_formulas v → and_list (positives (forms_of v.items) named) ≡ positive (form_of f) named
+positive-And f v named is = sym (ap (λ x. positive (form_of x) named) is ∙ ap (λ x. positive x named) (form_of-And v))
 
 -- the core form of an `or`
-pub positive-Or : (f : Formula) (v : Vec Formula Global) (cs : List Core) (named : Bool) → f ≡ some_formula v → cores_of cs ≡ positives (forms_of v.items) named → or_list (cores_of cs) ≡ positive (form_of f) named
-positive-Or f v cs named is h = ap or_list h ∙ sym (ap (λ x. positive (form_of x) named) is ∙ ap (λ x. positive x named) (form_of-Or v))
+pub positive-Or : (f : Formula) (v : Vec Formula Global) (named : Bool) → f ≡ some_formula v → or_list (positives (forms_of v.items) named) ≡ positive (form_of f) named
+positive-Or f v named is = sym (ap (λ x. positive (form_of x) named) is ∙ ap (λ x. positive x named) (form_of-Or v))
 
 -- the core form of the negation of an `and`
-pub negative-And : (f : Formula) (v : Vec Formula Global) (cs : List Core) (all : Core) (named : Bool) → f ≡ all_formulas v → cores_of cs ≡ positives (forms_of v.items) named → core_of all ≡ and_list (cores_of cs) → negation (core_of all) ≡ negative (form_of f) named
-negative-And f v cs all named is h whole = ap negation (whole ∙ ap and_list h) ∙ sym (ap (λ x. negative (form_of x) named) is ∙ ap (λ x. negative x named) (form_of-And v))
+pub negative-And : (f : Formula) (v : Vec Formula Global) (all : Core) (named : Bool) → f ≡ all_formulas v → core_of all ≡ and_list (positives (forms_of v.items) named) → negation (core_of all) ≡ negative (form_of f) named
+negative-And f v all named is whole = ap negation whole ∙ sym (ap (λ x. negative (form_of x) named) is ∙ ap (λ x. negative x named) (form_of-And v))
 
 -- the core form of the negation of an `or`
-pub negative-Or : (f : Formula) (v : Vec Formula Global) (cs : List Core) (named : Bool) → f ≡ some_formula v → cores_of cs ≡ negatives (forms_of v.items) named → and_list (cores_of cs) ≡ negative (form_of f) named
-negative-Or f v cs named is h = ap and_list h ∙ sym (ap (λ x. negative (form_of x) named) is ∙ ap (λ x. negative x named) (form_of-Or v))
+pub negative-Or : (f : Formula) (v : Vec Formula Global) (named : Bool) → f ≡ some_formula v → and_list (negatives (forms_of v.items) named) ≡ negative (form_of f) named
+negative-Or f v named is = sym (ap (λ x. negative (form_of x) named) is ∙ ap (λ x. negative x named) (form_of-Or v))
 
 -- the sort elements of a head, column by column
 head_elements-append : (cs ds : List Column) → head_elements (cs ++ ds) ≡ joined (head_elements cs) (head_elements ds)

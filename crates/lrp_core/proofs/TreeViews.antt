@@ -1,5 +1,5 @@
 -- Trees of variables as they are made.
-use Rattle.std.proofs.Common.{◌≡◌, ℕ, zero, suc, ◌+◌, ◌<◌, ◌≤◌, Bool, true, false, ◌||◌, List, [], ◌∷◌, ◌++◌, Vec, Global, refl, ap, sym, ◌∙◌, length, take, drop, get_or, map, if◌then◌else◌, Result, Ok, Err, rules, arith}
+use Rattle.std.proofs.Common.{◌≡◌, ℕ, zero, suc, ◌+◌, ◌<◌, ◌≤◌, Bool, true, false, ◌||◌, List, [], ◌∷◌, ◌++◌, refl, ap, sym, ◌∙◌, length, take, drop, get_or, map, if◌then◌else◌, Result, Ok, Err, rules, arith}
 use Rattle.std.proofs.lemmas.List.{take_more, drop_more}
 use Rattle.lrp_model.specs.Formulas.{Form, Forms, form, no_forms, joined, conjunction, exists}
 use Rattle.std.specs.Result.{IfOk}
@@ -8,14 +8,13 @@ use Rattle.lrp_model.specs.declared.relations.Sort.{Sort}
 use Rattle.lrp_model.specs.Variables.{Variable, free, free_each, is_among, bound_by}
 use Rattle.lrp_core.specs.Cores.{core_of, cores_of}
 use Rattle.lrp_core.specs.FreeVariables.{variable_of, with_variable, with_variables, each_once, others}
-use Rattle.lrp_core.specs.VariableTrees.{Tree, Trees, tree, no_trees, one_more, tree_of, row_trees, trees_of, inner_trees, free_trees, free_tree}
+use Rattle.lrp_core.specs.VariableTrees.{Trees, tree, no_trees, one_more, tree_of, row_trees, trees_of, inner_trees, free_trees, free_tree}
 use Rattle.lrp_core.specs.declared.core_forms.Core.{Core}
-use Rattle.lrp_core.specs.declared.variables.Variable.{Variable as ProgramVariable}
 use Rattle.lrp_core.specs.declared.variable_trees.VariableTree.{VariableTree, Row_of-VariableTree, end_of-VariableTree, more_of-VariableTree, items-the_row-VariableTree}
 use Rattle.lrp_core.specs.declared.variable_trees.VariableTree.TheOpen.{VariableTree-F}
 use Rattle.lrp_core.specs.declared.variable_trees.VariableTree.TheViews.{the_lemmas, roll-VariableTree, out-VariableTree, roll-out-VariableTree}
 use Rattle.lrp_core.proofs.CoreViews.{cores_of-append}
-use Rattle.lrp_core.proofs.VariableLists.{with_known, is_among-with_variables, with_variables-append, cores-step, variables-step, free-exists}
+use Rattle.lrp_core.proofs.VariableLists.{with_known, is_among-with_variables, with_variables-append, cores-step, free-exists}
 
 -- the trees in a row are those of the list
 row_trees-items : (n : _) (k : Row_of-VariableTree n) → row_trees k ≡ trees_of (items-the_row-VariableTree n k)

@@ -1,5 +1,5 @@
 -- Lists that hold each variable once: their members, and how they grow.
-use Rattle.std.proofs.Common.{◌≡◌, ℕ, ◌+◌, ◌<◌, Bool, true, false, not, ◌||◌, ◌&&◌, List, [], ◌∷◌, ◌++◌, Vec, Global, refl, ap, sym, subst, ◌∙◌, length, take, get_or, map, filter, if◌then◌else◌, append_assoc, append-nil}
+use Rattle.std.proofs.Common.{◌≡◌, ℕ, ◌+◌, ◌<◌, Bool, true, false, not, ◌||◌, ◌&&◌, List, [], ◌∷◌, ◌++◌, Vec, Global, refl, ap, sym, ◌∙◌, length, take, get_or, map, if◌then◌else◌, append_assoc, append-nil}
 use Rattle.std.specs.List.{flat_map}
 use Rattle.std.proofs.lemmas.Bool.{true≢false}
 use Rattle.std.proofs.lemmas.List.{take_more, map-append}
@@ -7,7 +7,7 @@ use Rattle.std.proofs.lemmas.List.Folds.{list_any-append}
 use Rattle.std.proofs.lemmas.List.Elements.{filter-append}
 use Rattle.std.specs.Cmp.Lexicographic.{bytes_decides}
 use Rattle.std.proofs.lemmas.Grind.{flat_map-append}
-use Rattle.lrp_model.specs.Formulas.{Form, Forms, form, no_forms, joined}
+use Rattle.lrp_model.specs.Formulas.{Forms, form, no_forms, joined}
 use Rattle.lrp_model.specs.Variables.{Variable, time_variable, data_variable, same_variable, is_among, are_among, meet, free, free_each}
 use Rattle.lrp_core.specs.Cores.{core_of, cores_of}
 use Rattle.lrp_core.specs.FreeVariables.{variable_of, with_variable, with_variables, each_once, others}

@@ -1,12 +1,12 @@
 // The core form of a formula, of its negation, and of a query.
 ghost use Rattle.std.specs.Prelude.{◌≡◌, IfOk, OnOk};
 ghost use Rattle.lrp_model.specs.Formulas.{form_of, forms_of, question_of, atom, negation, exists, sorted as sorted_form, joined, form, no_forms};
-ghost use Rattle.lrp_model.specs.Core.{core_form as core_form_of, positive as positive_of, negative as negative_of, positives as positives_of, negatives as negatives_of, with_sort, column_elements, head_elements as elements_of, and_list};
+ghost use Rattle.lrp_model.specs.Core.{core_form as core_form_of, positive as positive_of, negative as negative_of, positives, negatives, with_sort, column_elements, head_elements as elements_of, and_list, or_list};
 ghost use Rattle.lrp_core.specs.Cores.{core_of, cores_of};
 
 use crate::Core;
 use crate::comparisons::{negated, negative_test, positive_test};
-use crate::junctions::{all_of, both, either, push_conjunct, some_of};
+use crate::junctions::{both, either, push_conjunct, push_disjunct};
 use crate::terms::copy_terms;
 use lrp_model::{Column, Copies, Formula, List, Memory, Name, Query, Sort, Term};
 use std::alloc::Global;
@@ -113,8 +113,8 @@ fn positive(alloc: Global, f: &Formula, named: bool) -> Result<Core, Memory>
         Formula::Atom { relation, terms } => holding(alloc, relation, terms),
         Formula::Check { test } => positive_test(alloc, test),
         Formula::Not { of } => negative(alloc, of, named),
-        Formula::And { of } => all_of(alloc, positives(alloc, of, named)?),
-        Formula::Or { of } => some_of(alloc, positives(alloc, of, named)?),
+        Formula::And { of } => all_positive(alloc, of, named),
+        Formula::Or { of } => some_positive(alloc, of, named),
         Formula::Implies { left, right } => {
             let left = negative(alloc, left, named)?;
             let right = positive(alloc, right, named)?;
@@ -139,8 +139,8 @@ fn negative(alloc: Global, f: &Formula, named: bool) -> Result<Core, Memory>
         Formula::Atom { relation, terms } => negated(alloc, holding(alloc, relation, terms)?),
         Formula::Check { test } => negative_test(alloc, test),
         Formula::Not { of } => positive(alloc, of, named),
-        Formula::And { of } => negated(alloc, all_of(alloc, positives(alloc, of, named)?)?),
-        Formula::Or { of } => all_of(alloc, negatives(alloc, of, named)?),
+        Formula::And { of } => negated(alloc, all_positive(alloc, of, named)?),
+        Formula::Or { of } => all_negative(alloc, of, named),
         Formula::Implies { left, right } => {
             let left = positive(alloc, left, named)?;
             let right = negative(alloc, right, named)?;
@@ -157,26 +157,41 @@ fn negative(alloc: Global, f: &Formula, named: bool) -> Result<Core, Memory>
     }
 }
 
+// All of the formulas.
 #[cycle(forming)]
-fn positives(alloc: Global, fs: &[Formula], named: bool) -> Result<Vec<Core>, Memory>
-    ensures { IfOk result (λ made. cores_of made.items ≡ positives_of (forms_of fs.now) named) }
+fn all_positive(alloc: Global, fs: &[Formula], named: bool) -> Result<Core, Memory>
+    ensures { IfOk result (λ core. core_of core ≡ and_list (positives (forms_of fs.now) named)) }
 {
-    let mut all = Vec::new(alloc);
+    let mut of = Vec::with_capacity(alloc, fs.len())?;
     for f in fs {
         let core = positive(alloc, f, named)?;
-        all.push(core)?;
+        push_conjunct(&mut of, core)?;
     }
-    Ok(all)
+    Ok(Core::And { of })
 }
 
+// Some of the formulas.
 #[cycle(forming)]
-fn negatives(alloc: Global, fs: &[Formula], named: bool) -> Result<Vec<Core>, Memory>
-    ensures { IfOk result (λ made. cores_of made.items ≡ negatives_of (forms_of fs.now) named) }
+fn some_positive(alloc: Global, fs: &[Formula], named: bool) -> Result<Core, Memory>
+    ensures { IfOk result (λ core. core_of core ≡ or_list (positives (forms_of fs.now) named)) }
 {
-    let mut all = Vec::new(alloc);
+    let mut of = Vec::with_capacity(alloc, fs.len())?;
+    for f in fs {
+        let core = positive(alloc, f, named)?;
+        push_disjunct(&mut of, core)?;
+    }
+    Ok(Core::Or { of })
+}
+
+// None of the formulas.
+#[cycle(forming)]
+fn all_negative(alloc: Global, fs: &[Formula], named: bool) -> Result<Core, Memory>
+    ensures { IfOk result (λ core. core_of core ≡ and_list (negatives (forms_of fs.now) named)) }
+{
+    let mut of = Vec::with_capacity(alloc, fs.len())?;
     for f in fs {
         let core = negative(alloc, f, named)?;
-        all.push(core)?;
+        push_conjunct(&mut of, core)?;
     }
-    Ok(all)
+    Ok(Core::And { of })
 }

@@ -1,40 +1,18 @@
 // `and` and `or` of core forms: the elements of an inner one stand in its place.
 ghost use Rattle.std.specs.Prelude.{◌≡◌, IfOk, OnOk};
 ghost use Rattle.lrp_model.specs.Formulas.{joined};
-ghost use Rattle.lrp_model.specs.Core.{and_list, or_list, and_two, or_two, conjuncts, disjuncts};
+ghost use Rattle.lrp_model.specs.Core.{and_two, or_two, conjuncts, disjuncts};
 ghost use Rattle.lrp_core.specs.Cores.{core_of, cores_of};
 
 use crate::Core;
 use lrp_model::Memory;
 use std::alloc::Global;
 
-/// All of the formulas.
-pub fn all_of(alloc: Global, fs: Vec<Core>) -> Result<Core, Memory>
-    ensures { IfOk result (λ core. core_of core ≡ and_list (cores_of fs.items)) }
-{
-    let mut of = Vec::new(alloc);
-    for f in fs {
-        push_conjunct(&mut of, f)?;
-    }
-    Ok(Core::And { of })
-}
-
-/// Some of the formulas.
-pub fn some_of(alloc: Global, fs: Vec<Core>) -> Result<Core, Memory>
-    ensures { IfOk result (λ core. core_of core ≡ or_list (cores_of fs.items)) }
-{
-    let mut of = Vec::new(alloc);
-    for f in fs {
-        push_disjunct(&mut of, f)?;
-    }
-    Ok(Core::Or { of })
-}
-
 /// Both formulas.
 pub fn both(alloc: Global, f: Core, g: Core) -> Result<Core, Memory>
     ensures { IfOk result (λ core. core_of core ≡ and_two (core_of f) (core_of g)) }
 {
-    let mut of = Vec::new(alloc);
+    let mut of = Vec::with_capacity(alloc, 2)?;
     push_conjunct(&mut of, f)?;
     push_conjunct(&mut of, g)?;
     Ok(Core::And { of })
@@ -44,7 +22,7 @@ pub fn both(alloc: Global, f: Core, g: Core) -> Result<Core, Memory>
 pub fn either(alloc: Global, f: Core, g: Core) -> Result<Core, Memory>
     ensures { IfOk result (λ core. core_of core ≡ or_two (core_of f) (core_of g)) }
 {
-    let mut of = Vec::new(alloc);
+    let mut of = Vec::with_capacity(alloc, 2)?;
     push_disjunct(&mut of, f)?;
     push_disjunct(&mut of, g)?;
     Ok(Core::Or { of })

@@ -1,8 +1,10 @@
 // The data texts of a query, each with its sort.
-ghost use Rattle.std.specs.Prelude.{◌≡◌, List, [], ◌∷◌, ◌++◌, drop, slice_get, IfOk, OnOk};
+ghost use Rattle.std.specs.Prelude.{◌≡◌, List, [], ◌∷◌, ◌++◌, drop, false, slice_get, IfOk, OnOk};
 ghost use Rattle.lrp_model.specs.Formulas.{form_of, forms_of, conjunction};
 ghost use Rattle.lrp_model.specs.Rows.{relation_named};
 ghost use Rattle.lrp_model.specs.Domains.{term_texts, columns_of, sort_beside, text_beside, test_texts, form_texts, forms_texts};
+ghost use Rattle.lrp_model.specs.declared.relations.Sort.{Sort as SortOf};
+ghost use Rattle.lrp_model.specs.declared.relations.Column.{Column as ColumnOf};
 ghost use Rattle.lrp_core.specs.Literals.{AddsTexts, one_text, one_in};
 
 use lrp_model::{
@@ -107,9 +109,38 @@ fn add_atom(
 ) -> Result<(), Memory>
     ensures { OnOk result (all.new.items ≡ all.old.items ++ term_texts (columns_of (relation_named database.now relation.now)) terms.now) }
 {
+    if !has_text(terms) {
+        return Ok(());
+    }
     match database.relation(relation) {
         Some(found) => add_terms(alloc, found.columns.as_slice(), terms, all),
         None => Ok(()),
+    }
+}
+
+// Whether some term is a data text. Without one the relation need not be looked up.
+fn has_text(terms: &[Term]) -> bool
+    ensures { result ≡ false → (columns : List ColumnOf) → term_texts columns terms.now ≡ [] }
+{
+    for term in terms {
+        if is_text(term) {
+            return true;
+        }
+    }
+    false
+}
+
+fn is_text(term: &Term) -> bool
+    ensures { result ≡ false → (sort : SortOf) → one_text sort term.now ≡ [] }
+{
+    match term {
+        Term::Data {
+            term: DataTerm::Const { .. },
+        } => true,
+        Term::Data {
+            term: DataTerm::Var { .. },
+        } => false,
+        Term::Time { .. } => false,
     }
 }
 

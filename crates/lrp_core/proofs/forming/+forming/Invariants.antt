@@ -1,12 +1,15 @@
 use Rattle.std.proofs.Common.{◌≡◌, take}
 use Rattle.lrp_model.specs.Formulas.{forms_of}
-use Rattle.lrp_model.specs.Core.{positives, negatives}
+use Rattle.lrp_model.specs.Core.{positives, negatives, all_conjuncts, all_disjuncts}
 use Rattle.lrp_core.specs.Cores.{cores_of}
 use Rattle.lrp_core.proofs.forming.+forming.Given as goal
 
--- the core forms so far are of the formulas so far
-abbrev pub invariant-positives-loop-f : goal.invariant-positives-loop-f
-invariant-positives-loop-f l = cores_of l.all.items ≡ positives (forms_of (take l.f-index l.fs)) l.named
+-- the elements so far are those of the formulas so far
+abbrev pub invariant-all_positive-loop-f : goal.invariant-all_positive-loop-f
+invariant-all_positive-loop-f l = cores_of l.of.items ≡ all_conjuncts (positives (forms_of (take l.f-index l.fs)) l.named)
 
-abbrev pub invariant-negatives-loop-f : goal.invariant-negatives-loop-f
-invariant-negatives-loop-f l = cores_of l.all.items ≡ negatives (forms_of (take l.f-index l.fs)) l.named
+abbrev pub invariant-some_positive-loop-f : goal.invariant-some_positive-loop-f
+invariant-some_positive-loop-f l = cores_of l.of.items ≡ all_disjuncts (positives (forms_of (take l.f-index l.fs)) l.named)
+
+abbrev pub invariant-all_negative-loop-f : goal.invariant-all_negative-loop-f
+invariant-all_negative-loop-f l = cores_of l.of.items ≡ all_conjuncts (negatives (forms_of (take l.f-index l.fs)) l.named)

@@ -1,9 +1,9 @@
-use Rattle.std.proofs.Common.{◌≡◌, ◌∙◌, map, refl, sym, ap, take, subst, arith}
-use Rattle.lrp_model.specs.Formulas.{atom, test, sorted, negation, conjunction, disjunction, exists}
+use Rattle.std.proofs.Common.{◌≡◌, ◌∙◌, map, refl, sym, ap, take, arith}
+use Rattle.lrp_model.specs.Formulas.{conjunction, disjunction, exists}
 use Rattle.lrp_model.specs.Variables.{free_each}
 use Rattle.lrp_core.specs.Cores.{core_of, cores_of}
 use Rattle.lrp_core.specs.FreeVariables.{variable_of, each_once, with_variables}
-use Rattle.lrp_core.specs.VariableTrees.{trees_of, free_tree, free_trees}
+use Rattle.lrp_core.specs.VariableTrees.{free_tree, free_trees}
 use Rattle.lrp_core.proofs.CoreViews.{core_of-And, core_of-Or}
 use Rattle.lrp_core.proofs.TreeViews.{leaf-is, tree-as, tree-exists, tree-all, tree-variables-step, trees-step, all_taken}
 use Rattle.lrp_core.proofs.variable_trees.+trees.Goals as goal
