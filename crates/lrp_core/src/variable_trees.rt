@@ -3,12 +3,12 @@ ghost use Rattle.std.specs.Prelude.{◌≡◌, ◌∷◌, [], IfOk, OnOk, List a
 ghost use Rattle.lrp_model.specs.Variables.{Variable as VariableOf, bound_by, free};
 ghost use Rattle.lrp_core.specs.Cores.{core_of, cores_of};
 ghost use Rattle.lrp_model.specs.Formulas.{conjunction};
-ghost use Rattle.lrp_core.specs.FreeVariables.{variable_of, with_variable, with_variables, others, each_once};
+ghost use Rattle.lrp_core.specs.FreeVariables.{variable_of, others, each_once};
 ghost use Rattle.lrp_core.specs.VariableTrees.{Trees, tree, no_trees, tree_of, free_tree};
 
-use crate::variables::add_others;
+use crate::variables::{add_others, add_variables};
 use crate::{Core, Variable, free_variables};
-use lrp_model::{Copies, List, Memory, Name, Sort};
+use lrp_model::{List, Memory, Name, Sort};
 use std::alloc::Global;
 
 /// The variables that occur free in a formula, each once; and, in order, the trees of the elements of the `and` or the `or`
@@ -47,7 +47,7 @@ fn tree_of_all(alloc: Global, of: &[Core]) -> Result<VariableTree, Memory>
     let mut inner = Vec::with_capacity(alloc, of.len())?;
     for core in of {
         let part = variable_tree(alloc, core)?;
-        add_copies(alloc, &mut variables, part.variables.as_slice())?;
+        add_variables(alloc, &mut variables, part.variables.as_slice())?;
         inner.push(part)?;
     }
     Ok(VariableTree { variables, inner })
@@ -80,24 +80,4 @@ fn without(
     let mut variables = List::new(alloc);
     add_others(&mut variables, all, sort, name)?;
     Ok(VariableTree { variables, inner })
-}
-
-// Copies of the variables, each behind the others where it is none of them yet.
-fn add_copies(alloc: Global, all: &mut List<Variable>, more: &[Variable]) -> Result<(), Memory>
-    ensures { OnOk result (map variable_of all.new ≡ with_variables (map variable_of all.old) (map variable_of more.now)) }
-{
-    for variable in more {
-        add_copy(alloc, all, variable)?;
-    }
-    Ok(())
-}
-
-// A copy of the variable, where it is none of them yet.
-fn add_copy(alloc: Global, all: &mut List<Variable>, variable: &Variable) -> Result<(), Memory>
-    ensures { OnOk result (map variable_of all.new ≡ with_variable (map variable_of all.old) (variable_of variable.now)) }
-{
-    if !variable.is_among(all.as_slice()) {
-        all.push(variable.copy(alloc)?)?;
-    }
-    Ok(())
 }

@@ -84,12 +84,26 @@ pub(crate) fn contains(all: &[Variable], sort: &Sort, name: &Name) -> bool
     false
 }
 
-/// All of the variables, each behind the others where it is none of them yet.
-pub fn add_variables(all: &mut List<Variable>, more: List<Variable>) -> Result<(), Memory>
-    ensures { OnOk result (map variable_of all.new ≡ with_variables (map variable_of all.old) (map variable_of more)) }
+/// Copies of the variables, each behind the others where it is none of them yet.
+pub fn add_variables(
+    alloc: Global,
+    all: &mut List<Variable>,
+    more: &[Variable],
+) -> Result<(), Memory>
+    ensures { OnOk result (map variable_of all.new ≡ with_variables (map variable_of all.old) (map variable_of more.now)) }
 {
-    for variable in more.into_vec() {
-        add(all, variable)?;
+    for variable in more {
+        add_copy(alloc, all, variable)?;
+    }
+    Ok(())
+}
+
+// A copy of the variable, where it is none of them yet.
+fn add_copy(alloc: Global, all: &mut List<Variable>, variable: &Variable) -> Result<(), Memory>
+    ensures { OnOk result (map variable_of all.new ≡ with_variable (map variable_of all.old) (variable_of variable.now)) }
+{
+    if !variable.is_among(all.as_slice()) {
+        all.push(variable.copy(alloc)?)?;
     }
     Ok(())
 }

@@ -15,15 +15,16 @@ to_multiple k n kp d = record { times = n / k; is = (let r : n % k ≡ 0 = no_re
 to_divides : (k n : ℕ) → IsMultiple k n → Divides (pos k) (pos n)
 to_divides k n h = record { times = pos h.times; is = ap pos h.is }
 
+-- a multiple of a multiple is one
+multiple_through : (d k m : ℕ) → IsMultiple d k → IsMultiple k m → IsMultiple d m
+multiple_through d k m h i = record { times = h.times * i.times; is = (let e : k ≡ d * h.times = h.is in let f : m ≡ k * i.times = i.is in omega (arith, ap (λ x. x * i.times) e)) }
+
 -- the multiples of the least common multiple are the common ones
 lcm_multiples : (a b l n : ℕ) → 0 < a → 0 < b → IsLcm a b l → IsMultiple l n ↔ (IsMultiple a n × IsMultiple b n)
 lcm_multiples a b l n ap' bp h = (
-  (λ m. (trans a l n (to_multiple a l ap' h.left) m, trans b l n (to_multiple b l bp h.right) m)),
+  (λ m. (multiple_through a l n (to_multiple a l ap' h.left) m, multiple_through b l n (to_multiple b l bp h.right) m)),
   λ m. to_multiple l n h.positive (h.least (pos n) (to_divides a n m.0) (to_divides b n m.1)),
 )
-  where
-    trans : (d k m : ℕ) → IsMultiple d k → IsMultiple k m → IsMultiple d m
-    trans d k m h i = record { times = h.times * i.times; is = (let e : k ≡ d * h.times = h.is in let f : m ≡ k * i.times = i.is in omega (arith, ap (λ x. x * i.times) e)) }
 
 -- a multiple is no less, unless it is 0
 pub multiple_le : (k n : ℕ) → IsMultiple k n → 1 ≤ n → k ≤ n
@@ -42,6 +43,17 @@ with_one ks k l m h low high is = record {
       let s = h.multiples n in
       let t = all_append (λ d. IsMultiple d n) ks (l ∷ []) in
       ((λ x. let y = r.0 x in t.1 (s.0 y.0, (y.1, tt))), λ x. let y = t.0 x in r.1 (s.1 y.0, y.1.0));
+}
+
+-- a divisor more
+pub with_divisor : (ks : List ℕ) (k l : ℕ) → IsLeastOf ks k → 0 < l → k % l ≡ 0 → IsLeastOf (ks ++ l ∷ []) k
+with_divisor ks k l h low r = record {
+  period = h.period;
+  multiples = λ n.
+      let s = h.multiples n in
+      let t = all_append (λ d. IsMultiple d n) ks (l ∷ []) in
+      let own : IsMultiple l k = record { times = k / l; is = omega arith } in
+      ((λ x. t.1 (s.0 x, (multiple_through l k n own x, tt))), λ x. s.1 (t.0 x).0);
 }
 
 -- a least common multiple above 2^62

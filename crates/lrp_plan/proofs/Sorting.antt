@@ -1,10 +1,9 @@
 -- The elements of an `and` sorted out one by one.
-use Rattle.std.proofs.Common.{◌≡◌, ◌<◌, ◌+◌, ◌^◌, ℕ, zero, suc, Bool, true, false, cond, List, [], ◌∷◌, ◌++◌, length, take, Option, Some, None, slice_get, map, Result, Ok, Err, refl, sym, ap, subst, ◌∙◌, append_assoc, append-nil, arith, get_or}
+use Rattle.std.proofs.Common.{◌≡◌, ◌<◌, ◌+◌, ◌^◌, ℕ, zero, suc, Bool, true, false, cond, List, [], ◌∷◌, ◌++◌, length, take, Option, Some, None, slice_get, Result, Ok, Err, refl, sym, ap, subst, ◌∙◌, append_assoc, append-nil, arith, get_or}
 use Rattle.std.specs.List.{AllZip}
 use Rattle.std.specs.Result.{OnOk}
 use Rattle.std.proofs.lemmas.List.{take_more}
 use Rattle.lrp_core.specs.Cores.{core_of, cores_of}
-use Rattle.lrp_core.specs.FreeVariables.{variable_of}
 use Rattle.lrp_model.specs.Variables.{free}
 use Rattle.lrp_core.specs.declared.core_forms.Core.{Core}
 use Rattle.lrp_core.proofs.CoreViews.{cores_of-append}
@@ -23,13 +22,13 @@ use Rattle.lrp_plan.specs.declared.sources.Sources.{Sources}
 use Rattle.lrp_plan.specs.declared.splits.Parts.{Parts}
 use Rattle.lrp_plan.specs.Facts.{AreFacts}
 use Rattle.lrp_plan.specs.Taking.{HaveSame}
-use Rattle.lrp_plan.specs.Elements.{IsDenied}
+use Rattle.lrp_plan.specs.Elements.{element_variables, element_inner, IsDenied}
 use Rattle.lrp_plan.specs.Sources.{AreSources}
 use Rattle.lrp_plan.specs.Splits.{IsRank, IsRanked, IsParts, SortsOut, AddsPositive, AddsNegation}
 use Rattle.lrp_core.specs.FreeVariables.{each_once}
 use Rattle.lrp_core.specs.VariableTrees.{tree, tree_of, trees_of, free_tree}
 use Rattle.lrp_core.specs.declared.variable_trees.VariableTree.{VariableTree}
-use Rattle.lrp_core.proofs.TreeViews.{tree_variables, tree_inner}
+use Rattle.lrp_core.proofs.TreeViews.{tree_of-opened, tree_variables, tree_inner}
 use Rattle.lrp_core.proofs.VariableLists.{is_among-each_once}
 use Rattle.lrp_model.specs.Variables.{Variable, is_among}
 
@@ -94,7 +93,7 @@ sorts_positive : (M : Structure) (index : ℕ) (core : Core) (own : VariableTree
     → IsRank (rows M) rank → AddsPositive index own rank old new → SortsOut M index core own old new
 sorts_positive M index core own f rank rows old new e p t n r a = record {
   next = λ fs gs stands is h.
-      let parts : tree (map variable_of a.added.variables) (trees_of a.added.inner.items) ≡ free_tree f = sym a.variables ∙ is ∙ ap free_tree e in
+      let parts : tree (element_variables a.added) (trees_of (element_inner a.added)) ≡ free_tree f = sym (tree_of-opened a.added.tree.now) ∙ ap tree_of a.tree_is ∙ is ∙ ap free_tree e in
       parts_push M fs gs core f old new (a.added ∷ []) [] e h a.items
       (subst (AllZip (IsRanked M fs) (a.added ∷ [])) (sym p) (
         record {
@@ -144,7 +143,7 @@ test_sorted sources index core of t own old new e same is p g n M s = record {
 pub negation_sorted : {T E : Type 0} (r : Result T E) (sources : Sources) (index : ℕ) (core inner : Core) (own : VariableTree) (old new : Parts) → core_of core ≡ negation (core_of inner) → OnOk r (AddsNegation index own old new) → OnOk r ((M : Structure) → AreSources M sources → SortsOut M index core own old new)
 negation_sorted (Ok x) sources index core inner own old new e a = λ M s. record {
   next = λ fs gs stands is h.
-      let parts : tree (map variable_of a.added.variables) (trees_of a.added.inner.items) ≡ free_tree (core_of inner) = sym a.variables ∙ is ∙ ap free_tree e in
+      let parts : tree (element_variables a.added) (trees_of (element_inner a.added)) ≡ free_tree (core_of inner) = sym (tree_of-opened a.added.tree.now) ∙ ap tree_of a.tree_is ∙ is ∙ ap free_tree e in
       parts_push M fs gs core (negation (core_of inner)) old new [] (a.added ∷ []) e h (a.positives_stay ∙ sym (append-nil old.positives.items)) tt
       (a.tests_stay ∙ sym (append-nil old.tests)) a.items
       (record { core = core; stands = subst (λ i. slice_get fs i ≡ Some core) (sym a.place) stands; formula = e; rule = refl; variables = same_as_once _ (free (core_of inner)) (tree_variables _ _ _ _ parts); inner = tree_inner _ _ _ _ parts }, tt);

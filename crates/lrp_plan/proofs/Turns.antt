@@ -21,7 +21,7 @@ use Rattle.lrp_plan.specs.declared.drafts.Draft.{Draft}
 use Rattle.lrp_plan.specs.declared.taking.Taking.{Taking}
 use Rattle.lrp_plan.specs.Drafts.{IsDraft, Extends, AreTests}
 use Rattle.lrp_plan.specs.Taking.{AreUncovered, HaveSame, NextTest, IsResult, IsTaking, IsIn, TakesIn, TakesTest, TakesOff}
-use Rattle.lrp_plan.specs.Elements.{AreInner, TakesAt, IsElement, IsDenied, IsAt, CanPlan, EachCanPlan, TakesPositives, TakesTests, TakesNegations, TurnsPositive, TurnsTest, TurnsNegation}
+use Rattle.lrp_plan.specs.Elements.{element_variables, element_inner, AreInner, TakesAt, IsElement, IsDenied, IsAt, CanPlan, EachCanPlan, TakesPositives, TakesTests, TakesNegations, TurnsPositive, TurnsTest, TurnsNegation}
 use Rattle.lrp_plan.proofs.Members.{are_among_same, meet_same}
 use Rattle.lrp_plan.proofs.Takes.{taking_grows}
 
@@ -77,19 +77,19 @@ some_is M K steps (Some o) taken h = sym h.0
 -- ---- a positive
 
 pub positive_turn : (M : Structure) (K : ℕ) (fs : List Core) (draft mid after : Draft) (ps qs ns : List Element) (e : Element) (old new : Taking) (s : State) (i : ℕ) → IsAt M K fs draft ps ns old s → EachCanPlan M K fs
-    → i ≡ first_or_0 (λ x. meet (map variable_of x.variables) (map variable_of old.variables)) ps → slice_get ps i ≡ Some e → qs ≡ remove ps i
-    → ((core : Core) → slice_get fs e.index ≡ Some core → AreInner e.inner.items (core_of core) → Extends M K (plan_of (core_of core)) draft mid) → TakesIn (map variable_of e.variables) old new mid after
+    → i ≡ first_or_0 (λ x. meet (element_variables x) (map variable_of old.variables)) ps → slice_get ps i ≡ Some e → qs ≡ remove ps i
+    → ((core : Core) → slice_get fs e.index ≡ Some core → AreInner (element_inner e) (core_of core) → Extends M K (plan_of (core_of core)) draft mid) → TakesIn (element_variables e) old new mid after
     → IsAt M K fs after qs ns new (take_positive M (next_positive s) (slice_get s.positives (next_positive s)) s)
 positive_turn M K fs draft mid after ps qs ns e old new s i at can first there left plans takes =
-    let agree : (x : Element) (p : PlanElement) → IsElement fs x p → meet (map variable_of x.variables) (map variable_of old.variables) ≡ meet (free p.formula) s.taken.variables = λ x p h. meet_same _ _ _ _ h.variables at.took.variables in
-    let n : i ≡ next_positive s = first ∙ zip_first (IsElement fs) (λ x. meet (map variable_of x.variables) (map variable_of old.variables)) (λ p. meet (free p.formula) s.taken.variables) agree ps s.positives at.positives in
+    let agree : (x : Element) (p : PlanElement) → IsElement fs x p → meet (element_variables x) (map variable_of old.variables) ≡ meet (free p.formula) s.taken.variables = λ x p h. meet_same _ _ _ _ h.variables at.took.variables in
+    let n : i ≡ next_positive s = first ∙ zip_first (IsElement fs) (λ x. meet (element_variables x) (map variable_of old.variables)) (λ p. meet (free p.formula) s.taken.variables) agree ps s.positives at.positives in
     let g = zip_get (IsElement fs) ps s.positives i e at.positives there in
     let p : PlanElement = g.0 in
     let el : IsElement fs e p = g.2 in
     let c : CanPlan M K (core_of el.core) = got (λ x. CanPlan M K (core_of x)) fs e.index el.core can el.stands in
     let core : IsCore p.formula = subst IsCore (sym el.formula) c.core in
     let m : Makes M s.steps (plan_of p.formula M s.steps) (Satisfies p.formula M) = makes p.formula core M s.steps in
-    let d1 : IsDraft M.relations K mid (plan_of (core_of el.core) M s.steps) = (plans el.core el.stands (subst (AreInner e.inner.items) el.formula el.inner)).follows s.steps at.made in
+    let d1 : IsDraft M.relations K mid (plan_of (core_of el.core) M s.steps) = (plans el.core el.stands (subst (AreInner (element_inner e)) el.formula el.inner)).follows s.steps at.made in
     let d2 : IsDraft M.relations K mid (p.rule M s.steps) = subst (λ r. IsDraft M.relations K mid (r M s.steps)) (sym el.rule) (subst (λ f. IsDraft M.relations K mid (plan_of f M s.steps)) (sym el.formula) d1) in
     let grown : p.rule M s.steps ≡ s.steps ++ m.more = ap (λ (r : Rule). r M s.steps) el.rule ∙ m.is in
     let t : IsTaking M.relations K (p.rule M s.steps) old s.taken s.tests = subst (λ st. IsTaking M.relations K st old s.taken s.tests) (sym grown) (taking_grows M.relations K s.steps m.more old s.taken s.tests at.took) in
@@ -105,14 +105,14 @@ positive_turn M K fs draft mid after ps qs ns e old new s i at can first there l
 -- ---- a negation
 
 pub negation_turn : (M : Structure) (K : ℕ) (fs : List Core) (draft mid after : Draft) (ps qs ns : List Element) (e : Element) (some : Bool) (old new : Taking) (s : State) (i : ℕ) → IsAt M K fs draft ps ns old s → EachCanPlan M K fs → some ≡ is_some old.result
-    → i ≡ first_or_0 (λ x. some && are_among (map variable_of x.variables) (map variable_of old.variables)) ns → slice_get ns i ≡ Some e → qs ≡ remove ns i
-    → ((core : Core) (f : Form) → slice_get fs e.index ≡ Some core → core_of core ≡ negation f → AreInner e.inner.items f → Extends M K (plan_of f) draft mid) → TakesOff (map variable_of e.variables) old new mid after
+    → i ≡ first_or_0 (λ x. some && are_among (element_variables x) (map variable_of old.variables)) ns → slice_get ns i ≡ Some e → qs ≡ remove ns i
+    → ((core : Core) (f : Form) → slice_get fs e.index ≡ Some core → core_of core ≡ negation f → AreInner (element_inner e) f → Extends M K (plan_of f) draft mid) → TakesOff (element_variables e) old new mid after
     → IsAt M K fs after ps qs new (take_negation M (next_negation s) (slice_get s.negations (next_negation s)) s)
 negation_turn M K fs draft mid after ps qs ns e some old new s i at can so first there left plans takes =
     let same : some ≡ s.taken.some = so ∙ some_is M K s.steps old.result s.taken at.took.result in
-    let agree : (x : Element) (p : PlanElement) → IsDenied fs x p → (some && are_among (map variable_of x.variables) (map variable_of old.variables)) ≡ is_covered s.taken p.formula =
-    λ x p h. ap (λ b. b && are_among (map variable_of x.variables) (map variable_of old.variables)) same ∙ ap (λ b. s.taken.some && b) (are_among_same _ _ _ _ h.variables at.took.variables) in
-    let n : i ≡ next_negation s = first ∙ zip_first (IsDenied fs) (λ x. some && are_among (map variable_of x.variables) (map variable_of old.variables)) (λ p. is_covered s.taken p.formula) agree ns s.negations at.negations in
+    let agree : (x : Element) (p : PlanElement) → IsDenied fs x p → (some && are_among (element_variables x) (map variable_of old.variables)) ≡ is_covered s.taken p.formula =
+    λ x p h. ap (λ b. b && are_among (element_variables x) (map variable_of old.variables)) same ∙ ap (λ b. s.taken.some && b) (are_among_same _ _ _ _ h.variables at.took.variables) in
+    let n : i ≡ next_negation s = first ∙ zip_first (IsDenied fs) (λ x. some && are_among (element_variables x) (map variable_of old.variables)) (λ p. is_covered s.taken p.formula) agree ns s.negations at.negations in
     let g = zip_get (IsDenied fs) ns s.negations i e at.negations there in
     let p : PlanElement = g.0 in
     let el : IsDenied fs e p = g.2 in
@@ -170,7 +170,7 @@ add_one : (n : ℕ) → n + 1 ≡ suc n
 add_one n = omega arith
 
 pub positives_more : (M : Structure) (turns : ℕ) (fs : List Core) (ps qs rs : List Element) (before mid last after : Draft) (e : Element) (old now new : Taking) → TakesPositives M turns fs ps qs before mid old now
-    → TakesAt (first_or_0 (λ x. meet (map variable_of x.variables) (map variable_of now.variables)) qs) qs rs (Some e) → ((K : ℕ) (core : Core) → slice_get fs e.index ≡ Some core → AreInner e.inner.items (core_of core) → CanPlan M K (core_of core) → Extends M K (plan_of (core_of core)) mid last) → TakesIn (map variable_of e.variables) now new last after
+    → TakesAt (first_or_0 (λ x. meet (element_variables x) (map variable_of now.variables)) qs) qs rs (Some e) → ((K : ℕ) (core : Core) → slice_get fs e.index ≡ Some core → AreInner (element_inner e) (core_of core) → CanPlan M K (core_of core) → Extends M K (plan_of (core_of core)) mid last) → TakesIn (element_variables e) now new last after
     → TakesPositives M (turns + 1) fs ps rs before after old new
 positives_more M turns fs ps qs rs before mid last after e old now new h t plans takes = record {
   follows = λ K ns s can at.
@@ -186,7 +186,7 @@ positives_idle M turns fs ps qs rs before mid old now i h t = record {
 }
 
 pub negations_more : (M : Structure) (turns : ℕ) (fs : List Core) (ns qs rs : List Element) (before mid last after : Draft) (e : Element) (some : Bool) (old now new : Taking) → TakesNegations M turns fs ns qs before mid old now → some ≡ is_some now.result
-    → TakesAt (first_or_0 (λ x. some && are_among (map variable_of x.variables) (map variable_of now.variables)) qs) qs rs (Some e) → ((K : ℕ) (core : Core) (f : Form) → slice_get fs e.index ≡ Some core → core_of core ≡ negation f → AreInner e.inner.items f → CanPlan M K f → Extends M K (plan_of f) mid last) → TakesOff (map variable_of e.variables) now new last after
+    → TakesAt (first_or_0 (λ x. some && are_among (element_variables x) (map variable_of now.variables)) qs) qs rs (Some e) → ((K : ℕ) (core : Core) (f : Form) → slice_get fs e.index ≡ Some core → core_of core ≡ negation f → AreInner (element_inner e) f → CanPlan M K f → Extends M K (plan_of f) mid last) → TakesOff (element_variables e) now new last after
     → TakesNegations M (turns + 1) fs ns rs before after old new
 negations_more M turns fs ns qs rs before mid last after e some old now new h so t plans takes = record {
   follows = λ K ps s can at.
@@ -228,15 +228,15 @@ tests_more turns before mid after t old now next new h n takes = record {
 
 -- ---- single turns, and none
 
-pub turns_positive : (M : Structure) (fs : List Core) (qs rs : List Element) (mid last after : Draft) (e : Element) (now new : Taking) → TakesAt (first_or_0 (λ x. meet (map variable_of x.variables) (map variable_of now.variables)) qs) qs rs (Some e)
-    → ((K : ℕ) (core : Core) → slice_get fs e.index ≡ Some core → AreInner e.inner.items (core_of core) → CanPlan M K (core_of core) → Extends M K (plan_of (core_of core)) mid last) → TakesIn (map variable_of e.variables) now new last after → TurnsPositive M fs qs rs mid after now new
+pub turns_positive : (M : Structure) (fs : List Core) (qs rs : List Element) (mid last after : Draft) (e : Element) (now new : Taking) → TakesAt (first_or_0 (λ x. meet (element_variables x) (map variable_of now.variables)) qs) qs rs (Some e)
+    → ((K : ℕ) (core : Core) → slice_get fs e.index ≡ Some core → AreInner (element_inner e) (core_of core) → CanPlan M K (core_of core) → Extends M K (plan_of (core_of core)) mid last) → TakesIn (element_variables e) now new last after → TurnsPositive M fs qs rs mid after now new
 turns_positive M fs qs rs mid last after e now new t plans takes = record { next = λ turns ps before old h. positives_more M turns fs ps qs rs before mid last after e old now new h t plans takes }
 
 pub idles_positive : (M : Structure) (fs : List Core) (qs rs : List Element) (mid : Draft) (now : Taking) (i : ℕ) → TakesAt i qs rs None → TurnsPositive M fs qs rs mid mid now now
 idles_positive M fs qs rs mid now i t = record { next = λ turns ps before old h. positives_idle M turns fs ps qs rs before mid old now i h t }
 
-pub turns_negation : (M : Structure) (fs : List Core) (qs rs : List Element) (mid last after : Draft) (e : Element) (some : Bool) (now new : Taking) → some ≡ is_some now.result → TakesAt (first_or_0 (λ x. some && are_among (map variable_of x.variables) (map variable_of now.variables)) qs) qs rs (Some e)
-    → ((K : ℕ) (core : Core) (f : Form) → slice_get fs e.index ≡ Some core → core_of core ≡ negation f → AreInner e.inner.items f → CanPlan M K f → Extends M K (plan_of f) mid last) → TakesOff (map variable_of e.variables) now new last after → TurnsNegation M fs qs rs mid after now new
+pub turns_negation : (M : Structure) (fs : List Core) (qs rs : List Element) (mid last after : Draft) (e : Element) (some : Bool) (now new : Taking) → some ≡ is_some now.result → TakesAt (first_or_0 (λ x. some && are_among (element_variables x) (map variable_of now.variables)) qs) qs rs (Some e)
+    → ((K : ℕ) (core : Core) (f : Form) → slice_get fs e.index ≡ Some core → core_of core ≡ negation f → AreInner (element_inner e) f → CanPlan M K f → Extends M K (plan_of f) mid last) → TakesOff (element_variables e) now new last after → TurnsNegation M fs qs rs mid after now new
 turns_negation M fs qs rs mid last after e some now new so t plans takes = record { next = λ turns ns before old h. negations_more M turns fs ns qs rs before mid last after e some old now new h so t plans takes }
 
 pub idles_negation : (M : Structure) (fs : List Core) (qs rs : List Element) (mid : Draft) (now : Taking) (i : ℕ) → TakesAt i qs rs None → TurnsNegation M fs qs rs mid mid now now

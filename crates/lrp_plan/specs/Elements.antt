@@ -6,8 +6,9 @@ use Rattle.lrp_core.specs.FreeVariables.{variable_of}
 use Rattle.lrp_core.specs.VariableTrees.{trees_of, inner_trees}
 use Rattle.lrp_core.specs.declared.core_forms.Core.{Core}
 use Rattle.lrp_core.specs.declared.variable_trees.VariableTree.{VariableTree}
+use Rattle.lrp_core.specs.declared.variable_trees.VariableTree.TheViews.{out-VariableTree}
 use Rattle.lrp_model.specs.Formulas.{Form, negation}
-use Rattle.lrp_model.specs.Variables.{free}
+use Rattle.lrp_model.specs.Variables.{Variable, free}
 use Rattle.lrp_model.specs.Satisfaction.{Structure}
 use Rattle.lrp_model.specs.Conjunctions.{Element as PlanElement, State, ranked, tests_in, take_positives, take_tests, take_negations}
 use Rattle.lrp_model.specs.Plans.{plan_of, positives_in, negations_in}
@@ -20,6 +21,13 @@ use Rattle.lrp_model.specs.Periods.{periods}
 use Rattle.lrp_plan.specs.Multiples.{IsCommon}
 use Rattle.lrp_plan.specs.Drafts.{IsDraft}
 use Rattle.lrp_plan.specs.Taking.{HaveSame, IsTaking}
+
+-- the variables of an element, and the trees of the elements in it
+abbrev pub element_variables : Element → List Variable
+element_variables e = map variable_of (out-VariableTree e.tree.now).variables
+
+abbrev pub element_inner : Element → List VariableTree
+element_inner e = (out-VariableTree e.tree.now).inner.items
 
 -- the element at this place was taken out of the list, or there is none
 abbrev pub TakesAt : ℕ → List Element → List Element → Option Element → Type 0
@@ -36,8 +44,8 @@ pub record IsElement (fs : List Core) (e : Element) (p : PlanElement) : Type 0 w
   pub stands : slice_get fs e.index ≡ Some core
   pub formula : p.formula ≡ core_of core
   pub rule : p.rule ≡ plan_of p.formula
-  pub variables : HaveSame (map variable_of e.variables) (free p.formula)
-  pub inner : AreInner e.inner.items p.formula
+  pub variables : HaveSame (element_variables e) (free p.formula)
+  pub inner : AreInner (element_inner e) p.formula
 
 -- a negation of the list, with the rule that makes the steps of what it denies
 pub record IsDenied (fs : List Core) (e : Element) (p : PlanElement) : Type 0 where
@@ -45,8 +53,8 @@ pub record IsDenied (fs : List Core) (e : Element) (p : PlanElement) : Type 0 wh
   pub stands : slice_get fs e.index ≡ Some core
   pub formula : core_of core ≡ negation p.formula
   pub rule : p.rule ≡ plan_of p.formula
-  pub variables : HaveSame (map variable_of e.variables) (free p.formula)
-  pub inner : AreInner e.inner.items p.formula
+  pub variables : HaveSame (element_variables e) (free p.formula)
+  pub inner : AreInner (element_inner e) p.formula
 
 -- where the making of an `and` stands
 pub record IsAt (M : Structure) (K : ℕ) (fs : List Core) (draft : Draft) (ps ns : List Element) (taking : Taking) (s : State) : Type 0 where

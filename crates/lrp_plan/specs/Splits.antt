@@ -1,9 +1,8 @@
 -- The elements of an `and` of the program as they are sorted out.
-use Rattle.std.specs.Prelude.{◌≡◌, ℕ, ◌<◌, ◌^◌, List, [], ◌∷◌, ◌++◌, Option, Some, None, map, slice_get}
+use Rattle.std.specs.Prelude.{◌≡◌, ℕ, ◌<◌, ◌^◌, List, [], ◌∷◌, ◌++◌, Option, Some, None, slice_get}
 use Rattle.std.specs.List.{AllZip}
 use Rattle.lrp_core.specs.Cores.{core_of}
-use Rattle.lrp_core.specs.FreeVariables.{variable_of}
-use Rattle.lrp_core.specs.VariableTrees.{tree, tree_of, trees_of, free_tree}
+use Rattle.lrp_core.specs.VariableTrees.{tree_of, free_tree}
 use Rattle.lrp_core.specs.declared.core_forms.Core.{Core}
 use Rattle.lrp_core.specs.declared.variable_trees.VariableTree.{VariableTree}
 use Rattle.lrp_model.specs.Formulas.{Forms, no_forms, form, joined}
@@ -40,7 +39,7 @@ pub record AddsPositive (index : ℕ) (own : VariableTree) (rank : ℕ) (old new
   pub items : new.positives.items ≡ old.positives.items ++ added ∷ []
   pub place : added.index ≡ index
   pub ranked_as : added.rank ≡ rank
-  pub variables : tree_of own ≡ tree (map variable_of added.variables) (trees_of added.inner.items)
+  pub tree_is : added.tree.now ≡ own
   pub tests_stay : new.tests ≡ old.tests
   pub negations_stay : new.negations.items ≡ old.negations.items
 
@@ -49,6 +48,6 @@ pub record AddsNegation (index : ℕ) (own : VariableTree) (old new : Parts) : T
   pub added : Element
   pub items : new.negations.items ≡ old.negations.items ++ added ∷ []
   pub place : added.index ≡ index
-  pub variables : tree_of own ≡ tree (map variable_of added.variables) (trees_of added.inner.items)
+  pub tree_is : added.tree.now ≡ own
   pub tests_stay : new.tests ≡ old.tests
   pub positives_stay : new.positives.items ≡ old.positives.items

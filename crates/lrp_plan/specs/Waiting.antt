@@ -5,13 +5,14 @@ use Rattle.lrp_core.specs.FreeVariables.{variable_of}
 use Rattle.lrp_core.specs.declared.variables.Variable.{Variable as ProgramVariable}
 use Rattle.lrp_model.specs.Variables.{are_among, meet}
 use Rattle.lrp_plan.specs.declared.elements.Element.{Element}
+use Rattle.lrp_plan.specs.Elements.{element_variables}
 use Rattle.lrp_plan.specs.declared.waiting.Turn.{Turn}
 use Rattle.lrp_plan.specs.declared.waiting.Turn.TheVariants.{Meeting, Covered}
 
 -- whether an element goes before the others, where these variables were taken in
 abbrev pub goes_first : Turn → List ProgramVariable → Element → Bool
-goes_first Meeting vs e = meet (map variable_of e.variables) (map variable_of vs)
-goes_first (Covered some) vs e = some && are_among (map variable_of e.variables) (map variable_of vs)
+goes_first Meeting vs e = meet (element_variables e) (map variable_of vs)
+goes_first (Covered some) vs e = some && are_among (element_variables e) (map variable_of vs)
 
 -- none of the elements goes before the others
 abbrev pub FallBehind : Turn → List ProgramVariable → List Element → Type 0

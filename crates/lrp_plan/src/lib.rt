@@ -15,7 +15,6 @@ mod sorts;
 mod sources;
 mod splits;
 mod taking;
-mod trees;
 mod waiting;
 mod wholes;
 

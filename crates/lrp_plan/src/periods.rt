@@ -24,12 +24,15 @@ pub(crate) fn one() -> Period
 impl Period {
     ghost use Rattle.lrp_plan.specs.Multiples.{IsLeastOf, IsPeriodOf};
 
-    /// The least common multiple of this period and a further number, or `None` where it is none from 1 to 2^62.
+    /// The least common multiple of this period and a further number, or `None` where it is none from 1 to 2^62. A divisor adds nothing.
     pub(crate) fn with(self, further: u64) -> Option<Period>
         ensures { (ks : List ℕ) → IsLeastOf ks self.number → IsPeriodOf (ks ++ further ∷ []) (option_map (λ p. p.number) result) }
     {
         if further < 1 || further > LIMIT as u64 {
             return None;
+        }
+        if self.number % further == 0 {
+            return Some(self);
         }
         match common(self.number as i64, further as i64) {
             Ok(k) => Some(Period { number: k as u64 }),

@@ -2,6 +2,8 @@
 ghost use Rattle.std.specs.Prelude.{◌≡◌, ℕ, [], length, map, slice_get, Some, IfOk, OnOk};
 ghost use Rattle.lrp_core.specs.Cores.{core_of, cores_of};
 ghost use Rattle.lrp_core.specs.declared.core_forms.Core.{Core as CoreForm};
+ghost use Rattle.lrp_core.specs.declared.variable_trees.VariableTree.{VariableTree as TreeOf};
+ghost use Rattle.lrp_core.specs.VariableTrees.{tree_of, free_tree};
 ghost use Rattle.lrp_model.specs.Formulas.{Form, negation, conjunction, disjunction};
 ghost use Rattle.lrp_model.specs.Satisfaction.{Structure};
 ghost use Rattle.lrp_model.specs.Plans.{plan_of};
@@ -14,7 +16,6 @@ use crate::elements::{Element, Split};
 use crate::sources::Sources;
 use crate::splits::split;
 use crate::taking::{Taking, take_tests};
-use crate::trees::next_tree;
 use crate::waiting::{Turn, Waiting};
 use lrp_core::{Core, VariableTree, copy_terms};
 use lrp_model::{Copies, List, Memory};
@@ -28,9 +29,9 @@ pub(crate) fn plan_core(
     sources: &Sources<'_>,
     draft: &mut Draft,
     core: &Core,
-    inner: Vec<VariableTree>,
+    inner: &[VariableTree],
 ) -> Result<(), Memory>
-    ensures { OnOk result ((M : Structure) (K : ℕ) → AreSources M sources.now → AreInner inner.items (core_of core.now) → CanPlan M K (core_of core.now) → Extends M K (plan_of (core_of core.now)) draft.old draft.new) }
+    ensures { OnOk result ((M : Structure) (K : ℕ) → AreSources M sources.now → AreInner inner.now (core_of core.now) → CanPlan M K (core_of core.now) → Extends M K (plan_of (core_of core.now)) draft.old draft.new) }
 {
     match core {
         Core::Atom { relation, terms } => {
@@ -70,17 +71,33 @@ fn plan_some(
     sources: &Sources<'_>,
     draft: &mut Draft,
     of: &[Core],
-    inner: Vec<VariableTree>,
+    inner: &[VariableTree],
 ) -> Result<(), Memory>
-    ensures { OnOk result ((M : Structure) (K : ℕ) → AreSources M sources.now → AreInner inner.items (disjunction (cores_of of.now)) → CanPlan M K (disjunction (cores_of of.now)) → Extends M K (plan_of (disjunction (cores_of of.now))) draft.old draft.new) }
+    ensures { OnOk result ((M : Structure) (K : ℕ) → AreSources M sources.now → AreInner inner.now (disjunction (cores_of of.now)) → CanPlan M K (disjunction (cores_of of.now)) → Extends M K (plan_of (disjunction (cores_of of.now))) draft.old draft.new) }
 {
-    let mut trees = VecDeque::from_vec(inner);
     let mut left: Option<Operand> = None;
-    for core in of {
-        let tree = next_tree(alloc, &mut trees);
-        plan_core(alloc, sources, draft, core, tree.inner)?;
+    for (index, core) in of.iter().enumerate() {
+        plan_with(alloc, sources, draft, core, inner, index)?;
         unite(draft, left)?;
         left = Some(draft.last);
+    }
+    Ok(())
+}
+
+// The steps of a core form, whose tree is the one at this place.
+#[cycle(planning)]
+fn plan_with(
+    alloc: Global,
+    sources: &Sources<'_>,
+    draft: &mut Draft,
+    core: &Core,
+    trees: &[VariableTree],
+    index: usize,
+) -> Result<(), Memory>
+    ensures { OnOk result ((M : Structure) (K : ℕ) (tree : TreeOf) → AreSources M sources.now → slice_get trees.now index ≡ Some tree → tree_of tree ≡ free_tree (core_of core.now) → CanPlan M K (core_of core.now) → Extends M K (plan_of (core_of core.now)) draft.old draft.new) }
+{
+    if index < trees.len() {
+        plan_core(alloc, sources, draft, core, &trees[index].inner)?;
     }
     Ok(())
 }
@@ -92,9 +109,9 @@ fn plan_all(
     sources: &Sources<'_>,
     draft: &mut Draft,
     of: &[Core],
-    inner: Vec<VariableTree>,
+    inner: &[VariableTree],
 ) -> Result<(), Memory>
-    ensures { OnOk result ((M : Structure) (K : ℕ) → AreSources M sources.now → AreInner inner.items (conjunction (cores_of of.now)) → CanPlan M K (conjunction (cores_of of.now)) → Extends M K (plan_of (conjunction (cores_of of.now))) draft.old draft.new) }
+    ensures { OnOk result ((M : Structure) (K : ℕ) → AreSources M sources.now → AreInner inner.now (conjunction (cores_of of.now)) → CanPlan M K (conjunction (cores_of of.now)) → Extends M K (plan_of (conjunction (cores_of of.now))) draft.old draft.new) }
 {
     let parts = split(alloc, sources, of, inner)?;
     let Split {
@@ -120,10 +137,10 @@ fn plan_positives(
     sources: &Sources<'_>,
     draft: &mut Draft,
     of: &[Core],
-    positives: VecDeque<Element>,
+    positives: VecDeque<Element<'_>>,
     taking: &mut Taking,
 ) -> Result<(), Memory>
-    ensures { OnOk result ((M : Structure) → AreSources M sources.now → TakesEach M (length positives.items) of.now positives.items draft.old draft.new taking.old taking.new) }
+    ensures { OnOk result ((M : Structure) → AreSources M sources.now → TakesEach M (length positives.entry.items) of.now positives.entry.items draft.old draft.new taking.old taking.new) }
 {
     let turns = positives.len();
     let mut left = Waiting::new(alloc, positives);
@@ -140,7 +157,7 @@ fn plan_positive(
     sources: &Sources<'_>,
     draft: &mut Draft,
     of: &[Core],
-    left: &mut Waiting,
+    left: &mut Waiting<'_>,
     taking: &mut Taking,
 ) -> Result<(), Memory>
     ensures { OnOk result ((M : Structure) → AreSources M sources.now → TurnsPositive M of.now left.old left.new draft.old draft.new taking.old taking.new) }
@@ -148,8 +165,15 @@ fn plan_positive(
     match left.take_next(alloc, Turn::Meeting, &taking.variables)? {
         None => Ok(()),
         Some(element) => {
-            plan_at(alloc, sources, draft, of, element.index, element.inner)?;
-            taking.take_in(alloc, draft, element.variables)
+            plan_at(
+                alloc,
+                sources,
+                draft,
+                of,
+                element.index,
+                &element.tree.inner,
+            )?;
+            taking.take_in(alloc, draft, element.tree.variables.as_slice())
         }
     }
 }
@@ -161,10 +185,10 @@ fn plan_negations(
     sources: &Sources<'_>,
     draft: &mut Draft,
     of: &[Core],
-    negations: VecDeque<Element>,
+    negations: VecDeque<Element<'_>>,
     taking: &mut Taking,
 ) -> Result<(), Memory>
-    ensures { OnOk result ((M : Structure) → AreSources M sources.now → DeniesEach M (length negations.items) of.now negations.items draft.old draft.new taking.old taking.new) }
+    ensures { OnOk result ((M : Structure) → AreSources M sources.now → DeniesEach M (length negations.entry.items) of.now negations.entry.items draft.old draft.new taking.old taking.new) }
 {
     let turns = negations.len();
     let mut left = Waiting::new(alloc, negations);
@@ -181,7 +205,7 @@ fn plan_negation(
     sources: &Sources<'_>,
     draft: &mut Draft,
     of: &[Core],
-    left: &mut Waiting,
+    left: &mut Waiting<'_>,
     taking: &mut Taking,
 ) -> Result<(), Memory>
     ensures { OnOk result ((M : Structure) → AreSources M sources.now → TurnsNegation M of.now left.old left.new draft.old draft.new taking.old taking.new) }
@@ -190,8 +214,15 @@ fn plan_negation(
     match left.take_next(alloc, Turn::Covered { some }, &taking.variables)? {
         None => Ok(()),
         Some(element) => {
-            plan_denied_at(alloc, sources, draft, of, element.index, element.inner)?;
-            taking.take_off(alloc, draft, element.variables)
+            plan_denied_at(
+                alloc,
+                sources,
+                draft,
+                of,
+                element.index,
+                &element.tree.inner,
+            )?;
+            taking.take_off(alloc, draft, element.tree.variables.as_slice())
         }
     }
 }
@@ -204,9 +235,9 @@ fn plan_at(
     draft: &mut Draft,
     of: &[Core],
     index: usize,
-    inner: Vec<VariableTree>,
+    inner: &[VariableTree],
 ) -> Result<(), Memory>
-    ensures { OnOk result ((M : Structure) (K : ℕ) (core : CoreForm) → AreSources M sources.now → slice_get of.now index ≡ Some core → AreInner inner.items (core_of core) → CanPlan M K (core_of core) → Extends M K (plan_of (core_of core)) draft.old draft.new) }
+    ensures { OnOk result ((M : Structure) (K : ℕ) (core : CoreForm) → AreSources M sources.now → slice_get of.now index ≡ Some core → AreInner inner.now (core_of core) → CanPlan M K (core_of core) → Extends M K (plan_of (core_of core)) draft.old draft.new) }
 {
     if index < of.len() {
         plan_core(alloc, sources, draft, &of[index], inner)?;
@@ -222,9 +253,9 @@ fn plan_denied_at(
     draft: &mut Draft,
     of: &[Core],
     index: usize,
-    inner: Vec<VariableTree>,
+    inner: &[VariableTree],
 ) -> Result<(), Memory>
-    ensures { OnOk result ((M : Structure) (K : ℕ) (core : CoreForm) (f : Form) → AreSources M sources.now → slice_get of.now index ≡ Some core → core_of core ≡ negation f → AreInner inner.items f → CanPlan M K f → Extends M K (plan_of f) draft.old draft.new) }
+    ensures { OnOk result ((M : Structure) (K : ℕ) (core : CoreForm) (f : Form) → AreSources M sources.now → slice_get of.now index ≡ Some core → core_of core ≡ negation f → AreInner inner.now f → CanPlan M K f → Extends M K (plan_of f) draft.old draft.new) }
 {
     if index < of.len() {
         plan_denied(alloc, sources, draft, &of[index], inner)?;
@@ -239,9 +270,9 @@ fn plan_denied(
     sources: &Sources<'_>,
     draft: &mut Draft,
     core: &Core,
-    inner: Vec<VariableTree>,
+    inner: &[VariableTree],
 ) -> Result<(), Memory>
-    ensures { OnOk result ((M : Structure) (K : ℕ) (f : Form) → AreSources M sources.now → core_of core.now ≡ negation f → AreInner inner.items f → CanPlan M K f → Extends M K (plan_of f) draft.old draft.new) }
+    ensures { OnOk result ((M : Structure) (K : ℕ) (f : Form) → AreSources M sources.now → core_of core.now ≡ negation f → AreInner inner.now f → CanPlan M K f → Extends M K (plan_of f) draft.old draft.new) }
 {
     if let Core::Not { of } = core {
         plan_core(alloc, sources, draft, of, inner)?;

@@ -145,7 +145,7 @@ fn whole_draft(
 {
     let mut draft = Draft::new(alloc);
     let tree = variable_tree(alloc, core)?;
-    plan_core(alloc, sources, &mut draft, core, tree.inner)?;
+    plan_core(alloc, sources, &mut draft, core, &tree.inner)?;
     draft.extend(period)?;
     Ok(draft)
 }

@@ -1,6 +1,7 @@
 // The elements of an `and` by what they are.
-ghost use Rattle.std.specs.Prelude.{◌≡◌, ◌<◌, ◌^◌, IfOk, OnOk};
+ghost use Rattle.std.specs.Prelude.{◌≡◌, ◌<◌, ◌^◌, IfOk, OnOk, slice_get, Some};
 ghost use Rattle.lrp_core.specs.Cores.{cores_of};
+ghost use Rattle.lrp_core.specs.declared.variable_trees.VariableTree.{VariableTree as TreeOf};
 ghost use Rattle.lrp_model.specs.Formulas.{conjunction};
 ghost use Rattle.lrp_model.specs.Satisfaction.{Structure};
 ghost use Rattle.lrp_model.specs.Conjunctions.{is_test as is_compared};
@@ -10,7 +11,6 @@ ghost use Rattle.lrp_plan.specs.Sources.{AreSources};
 
 use crate::elements::{Element, Split};
 use crate::sources::Sources;
-use crate::trees::next_tree;
 use lrp_core::{Core, VariableTree};
 use lrp_model::{Copies, List, Memory, Test};
 use std::alloc::Global;
@@ -21,37 +21,35 @@ const NO_ROWS: u128 = 1 << 64;
 
 /// The elements so far, each kind in list order.
 #[derive(Debug, Drop)]
-pub(crate) struct Parts {
-    pub(crate) positives: Vec<Element>,
+pub(crate) struct Parts<'a> {
+    pub(crate) positives: Vec<Element<'a>>,
     pub(crate) tests: List<Test>,
-    pub(crate) negations: VecDeque<Element>,
+    pub(crate) negations: VecDeque<Element<'a>>,
 }
 
 /// The positives in order of their ranks, and the tests and the negations, in list order. The elements' trees go with them.
-pub(crate) fn split(
+pub(crate) fn split<'a>(
     alloc: Global,
     sources: &Sources<'_>,
     of: &[Core],
-    inner: Vec<VariableTree>,
-) -> Result<Split, Memory>
-    ensures { IfOk result (λ made. (M : Structure) → AreSources M sources.now → AreInner inner.items (conjunction (cores_of of.now)) → IsSplitOf M of.now made) }
+    inner: &'a [VariableTree],
+) -> Result<Split<'a>, Memory>
+    ensures { IfOk result (λ made. (M : Structure) → AreSources M sources.now → AreInner inner.now (conjunction (cores_of of.now)) → IsSplitOf M of.now made) }
 {
     let mut parts = Parts {
         positives: Vec::with_capacity(alloc, of.len())?,
         tests: List::new(alloc),
         negations: VecDeque::new(alloc),
     };
-    let mut trees = VecDeque::from_vec(inner);
     for (index, core) in of.iter().enumerate() {
-        let tree = next_tree(alloc, &mut trees);
-        sort_out(alloc, sources, &mut parts, index, core, tree)?;
+        sort_out_at(alloc, sources, &mut parts, index, core, inner)?;
     }
     let Parts {
         mut positives,
         tests,
         negations,
     } = parts;
-    positives.sort_by_key(|element: &Element| element.rank)?;
+    positives.sort_by_key(|element: &Element<'_>| element.rank)?;
     Ok(Split {
         positives: VecDeque::from_vec(positives),
         tests,
@@ -59,16 +57,33 @@ pub(crate) fn split(
     })
 }
 
-// The element at this place of the list, with its tree.
-fn sort_out(
+// The element at this place of the list, with the tree at this place.
+fn sort_out_at<'a>(
     alloc: Global,
     sources: &Sources<'_>,
-    parts: &mut Parts,
+    parts: &mut Parts<'a>,
     index: usize,
     core: &Core,
-    tree: VariableTree,
+    inner: &'a [VariableTree],
 ) -> Result<(), Memory>
-    ensures { OnOk result ((M : Structure) → AreSources M sources.now → SortsOut M index core.now tree parts.old parts.new) }
+    ensures { OnOk result ((M : Structure) (tree : TreeOf) → AreSources M sources.now → slice_get inner.now index ≡ Some tree → SortsOut M index core.now tree parts.old parts.new) }
+{
+    if index < inner.len() {
+        sort_out(alloc, sources, parts, index, core, &inner[index])?;
+    }
+    Ok(())
+}
+
+// The element at this place of the list, with its tree.
+fn sort_out<'a>(
+    alloc: Global,
+    sources: &Sources<'_>,
+    parts: &mut Parts<'a>,
+    index: usize,
+    core: &Core,
+    tree: &'a VariableTree,
+) -> Result<(), Memory>
+    ensures { OnOk result ((M : Structure) → AreSources M sources.now → SortsOut M index core.now tree.now parts.old parts.new) }
 {
     match core {
         Core::Not { .. } => add_negation(parts, index, tree),
@@ -95,32 +110,28 @@ fn sort_out(
     }
 }
 
-fn add_positive(
-    parts: &mut Parts,
+fn add_positive<'a>(
+    parts: &mut Parts<'a>,
     index: usize,
-    tree: VariableTree,
+    tree: &'a VariableTree,
     rank: u128,
 ) -> Result<(), Memory>
-    ensures { OnOk result (AddsPositive index tree rank parts.old parts.new) }
+    ensures { OnOk result (AddsPositive index tree.now rank parts.old parts.new) }
 {
-    let VariableTree { variables, inner } = tree;
-    parts.positives.push(Element {
-        index,
-        variables,
-        inner,
-        rank,
-    })?;
+    parts.positives.push(Element { index, tree, rank })?;
     Ok(())
 }
 
-fn add_negation(parts: &mut Parts, index: usize, tree: VariableTree) -> Result<(), Memory>
-    ensures { OnOk result (AddsNegation index tree parts.old parts.new) }
+fn add_negation<'a>(
+    parts: &mut Parts<'a>,
+    index: usize,
+    tree: &'a VariableTree,
+) -> Result<(), Memory>
+    ensures { OnOk result (AddsNegation index tree.now parts.old parts.new) }
 {
-    let VariableTree { variables, inner } = tree;
     parts.negations.push_back(Element {
         index,
-        variables,
-        inner,
+        tree,
         rank: NO_ROWS,
     })?;
     Ok(())

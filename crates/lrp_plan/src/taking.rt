@@ -30,11 +30,11 @@ impl Taking {
         &mut self,
         alloc: Global,
         draft: &mut Draft,
-        variables: List<Variable>,
+        variables: &[Variable],
     ) -> Result<(), Memory>
-        ensures { OnOk result (TakesIn (map variable_of variables) self.old self.new draft.old draft.new) }
+        ensures { OnOk result (TakesIn (map variable_of variables.now) self.old self.new draft.old draft.new) }
     {
-        let known = add_further(&mut self.variables, variables)?;
+        let known = add_further(alloc, &mut self.variables, variables)?;
         let settled = self.settled && known;
         let tests = mem::replace(&mut self.tests, List::new(alloc));
         let (carried, left) = split_tests(alloc, settled, tests, self.variables.as_slice())?;
@@ -69,7 +69,7 @@ impl Taking {
     {
         let variables = variables_of(alloc, &test)?;
         draft.leaf(test)?;
-        self.take_in(alloc, draft, variables)
+        self.take_in(alloc, draft, variables.as_slice())
     }
 
     /// The formula whose steps were just made is taken off: by a `minus` where its variables are covered, and else as its complement, which is joined with the result so far.
@@ -77,11 +77,11 @@ impl Taking {
         &mut self,
         alloc: Global,
         draft: &mut Draft,
-        variables: List<Variable>,
+        variables: &[Variable],
     ) -> Result<(), Memory>
-        ensures { OnOk result (TakesOff (map variable_of variables) self.old self.new draft.old draft.new) }
+        ensures { OnOk result (TakesOff (map variable_of variables.now) self.old self.new draft.old draft.new) }
     {
-        let covered = add_further(&mut self.variables, variables)?;
+        let covered = add_further(alloc, &mut self.variables, variables)?;
         subtract(alloc, draft, self.result, covered)?;
         self.settled = false;
         self.result = Some(draft.last);
@@ -90,12 +90,12 @@ impl Taking {
 }
 
 // All of the variables, each behind the others where it is none of them yet; and whether all of them were there before.
-fn add_further(all: &mut List<Variable>, more: List<Variable>) -> Result<bool, Memory>
-    ensures known { IfOk result (λ known. known ≡ are_members (map variable_of more) (map variable_of all.old)) }
-    ensures all { OnOk result (map variable_of all.new ≡ with_variables (map variable_of all.old) (map variable_of more)) }
+fn add_further(alloc: Global, all: &mut List<Variable>, more: &[Variable]) -> Result<bool, Memory>
+    ensures known { IfOk result (λ known. known ≡ are_members (map variable_of more.now) (map variable_of all.old)) }
+    ensures all { OnOk result (map variable_of all.new ≡ with_variables (map variable_of all.old) (map variable_of more.now)) }
 {
     let before = all.len();
-    add_variables(all, more)?;
+    add_variables(alloc, all, more)?;
     Ok(all.len() == before)
 }
 

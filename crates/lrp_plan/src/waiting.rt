@@ -21,14 +21,14 @@ pub(crate) enum Turn {
 
 /// The elements that wait, in order. Those that were passed over do not go before the others where these variables were taken in; the rest were not looked at since these were.
 #[derive(Debug, Drop)]
-pub(crate) struct Waiting {
+pub(crate) struct Waiting<'a> {
     turn: Turn,
     seen: List<Variable>,
-    passed: VecDeque<Element>,
-    rest: VecDeque<Element>,
+    passed: VecDeque<Element<'a>>,
+    rest: VecDeque<Element<'a>>,
 }
 
-impl Model for Waiting {
+impl<'a> Model for Waiting<'a> {
     ghost use Rattle.std.specs.Prelude.{List, ◌++◌};
     ghost use Rattle.lrp_plan.specs.declared.elements.Element.{Element as ElementOf};
 
@@ -46,10 +46,10 @@ impl Model for Waiting {
     ghost invariant = { λ w. FallBehind w.turn w.seen w.passed.items };
 }
 
-impl Waiting {
+impl<'a> Waiting<'a> {
     /// All of the elements, none of which was looked at.
-    pub(crate) fn new(alloc: Global, elements: VecDeque<Element>) -> Waiting
-        ensures { result ≡ elements.items }
+    pub(crate) fn new(alloc: Global, elements: VecDeque<Element<'a>>) -> Waiting<'a>
+        ensures { result ≡ elements.entry.items }
     {
         Waiting {
             turn: Turn::Meeting,
@@ -65,7 +65,7 @@ impl Waiting {
         alloc: Global,
         turn: Turn,
         variables: &List<Variable>,
-    ) -> Result<Option<Element>, Memory>
+    ) -> Result<Option<Element<'a>>, Memory>
         ensures { IfOk result (λ taken. TakesAt (first_or_0 (goes_first turn variables.now) self.old) self.old self.new taken) }
     {
         if !is_same(self.turn, turn, self.seen.as_slice(), variables.as_slice()) {
@@ -86,7 +86,10 @@ fn is_same(left: Turn, right: Turn, seen: &[Variable], variables: &[Variable]) -
 }
 
 // All elements are looked at again, those that were passed over ahead of the others. Where memory is refused they are as before.
-fn look_again(passed: &mut VecDeque<Element>, rest: &mut VecDeque<Element>) -> Result<(), Memory>
+fn look_again<'a>(
+    passed: &mut VecDeque<Element<'a>>,
+    rest: &mut VecDeque<Element<'a>>,
+) -> Result<(), Memory>
     ensures passed { OnOk result (passed.new.items ≡ []) }
     ensures rest { OnOk result (rest.new.items ≡ passed.old.items ++ rest.old.items) }
     ensures passed_stay { OnErr result (passed.new.items ≡ passed.old.items) }
@@ -98,12 +101,12 @@ fn look_again(passed: &mut VecDeque<Element>, rest: &mut VecDeque<Element>) -> R
 }
 
 // The first of the rest that goes before the others is taken out, and those ahead of it are passed over; where there is none, the first of all is.
-fn take_first(
-    passed: &mut VecDeque<Element>,
-    rest: &mut VecDeque<Element>,
+fn take_first<'a>(
+    passed: &mut VecDeque<Element<'a>>,
+    rest: &mut VecDeque<Element<'a>>,
     turn: Turn,
     variables: &[Variable],
-) -> Result<Option<Element>, Memory>
+) -> Result<Option<Element<'a>>, Memory>
     ensures behind { FallBehind turn variables.now passed.old.items → FallBehind turn variables.now passed.new.items }
     ensures taken { IfOk result (λ taken. FallBehind turn variables.now passed.old.items → TakesAt (first_or_0 (goes_first turn variables.now) (passed.old.items ++ rest.old.items)) (passed.old.items ++ rest.old.items) (passed.new.items ++ rest.new.items) taken) }
 {
@@ -116,11 +119,11 @@ fn take_first(
     Ok(passed.pop_front())
 }
 
-fn goes_before(element: &Element, turn: Turn, variables: &[Variable]) -> bool
+fn goes_before(element: &Element<'_>, turn: Turn, variables: &[Variable]) -> bool
     ensures { result ≡ goes_first turn variables.now element.now }
 {
     match turn {
-        Turn::Meeting => meet(element.variables.as_slice(), variables),
-        Turn::Covered { some } => some && are_among(element.variables.as_slice(), variables),
+        Turn::Meeting => meet(element.tree.variables.as_slice(), variables),
+        Turn::Covered { some } => some && are_among(element.tree.variables.as_slice(), variables),
     }
 }

@@ -38,8 +38,8 @@ variable_tree-returns-in_ok-inner-in-Exists t c =
 
 pub tree_of_all-loop-core-preserved : goal.tree_of_all-loop-core-preserved
 tree_of_all-loop-core-preserved t c = record {
-  variables = tree-variables-step c.args.of.now c.loop-core.core-index c.core-item.result (map variable_of c.loop-core.variables) (map variable_of c.add_copies.new.all) c.in_ok-part.part c.loop-core-test.true c.core-item.is c.loop-core.invariant.variables c.in_ok-part.ensures
-      (c.in_ok-add_copies.ensures ∙ ap (λ vs. with_variables (map variable_of c.loop-core.variables) (map variable_of vs)) c.as_slice.ensures);
+  variables = tree-variables-step c.args.of.now c.loop-core.core-index c.core-item.result (map variable_of c.loop-core.variables) (map variable_of c.add_variables.new.all) c.in_ok-part.part c.loop-core-test.true c.core-item.is c.loop-core.invariant.variables c.in_ok-part.ensures
+      (c.in_ok-add_variables.ensures ∙ ap (λ vs. with_variables (map variable_of c.loop-core.variables) (map variable_of vs)) c.as_slice.ensures);
   inner = trees-step c.args.of.now c.loop-core.core-index c.core-item.result c.loop-core.inner.items c.push.new.self.items c.in_ok-part.part c.loop-core-test.true c.core-item.is c.loop-core.invariant.inner c.in_ok-part.ensures c.in_ok-push.ensures.items;
 }
 

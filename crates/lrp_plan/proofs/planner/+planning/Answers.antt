@@ -1,4 +1,4 @@
-use Rattle.std.proofs.Common.{◌≡◌, ◌+◌, drop, length, false, ◌&&◌, map, None, refl, sym, ap, subst, ◌∙◌, arith}
+use Rattle.std.proofs.Common.{◌≡◌, get_or, length, false, ◌&&◌, map, None, refl, sym, ap, subst, ◌∙◌, arith}
 use Rattle.lrp_core.specs.Cores.{core_of, cores_of}
 use Rattle.lrp_core.specs.FreeVariables.{variable_of}
 use Rattle.lrp_core.proofs.CoreViews.{core_of-And, core_of-Or}
@@ -6,10 +6,12 @@ use Rattle.lrp_model.specs.Formulas.{negation, exists, conjunction, disjunction}
 use Rattle.lrp_model.specs.Variables.{are_among, meet}
 use Rattle.lrp_model.specs.Conjunctions.{first_or_0}
 use Rattle.lrp_plan.specs.declared.taking.Taking.{Taking}
-use Rattle.lrp_plan.specs.Elements.{TakesAt}
+use Rattle.lrp_plan.specs.Elements.{element_variables, AreInner, TakesAt}
+use Rattle.lrp_plan.specs.Taking.{TakesIn, TakesOff}
+use Rattle.std.specs.Result.{OnOk}
 use Rattle.lrp_plan.proofs.Planned.{atom_planned, check_planned, sorted_planned, not_planned, exists_planned, as_planned, some_planned, all_planned}
-use Rattle.lrp_core.specs.VariableTrees.{trees_of, one_more, free_tree, free_trees}
-use Rattle.lrp_core.proofs.TreeViews.{trees-next, inner_known}
+use Rattle.lrp_core.proofs.TreeViews.{inner_known}
+use Rattle.lrp_plan.proofs.FirstTrees.{tree_there, tree_read, none_past}
 use Rattle.lrp_plan.proofs.Unions.{none_so_far, one_more as one_more_planned}
 use Rattle.lrp_plan.specs.Elements.{TakesPositives, TakesNegations}
 use Rattle.lrp_plan.proofs.Turns.{idles_positive, idles_negation, no_positives, no_negations}
@@ -18,53 +20,58 @@ use Rattle.lrp_plan.proofs.planner.+planning.Goals as goal
 
 pub plan_core-returns-in_ok-terms-in-Atom : goal.plan_core-returns-in_ok-terms-in-Atom
 plan_core-returns-in_ok-terms-in-Atom t c =
-    atom_planned c.scan.result c.args.sources.now c.args.inner.items (core_of c.args.core.now) c.in-Atom.relation c.in_ok-relation-in-Atom.relation c.in-Atom.terms c.in_ok-terms-in-Atom.terms c.facts-facts.result c.args.draft.now c.scan.new.self (ap core_of c.in-Atom.is) c.in_ok-relation-in-Atom.ensures (c.in_ok-terms-in-Atom.ensures ∙ c.as_slice.ensures) c.facts-facts.ensures c.scan.ensures
+    atom_planned c.scan.result c.args.sources.now c.args.inner.now (core_of c.args.core.now) c.in-Atom.relation c.in_ok-relation-in-Atom.relation c.in-Atom.terms c.in_ok-terms-in-Atom.terms c.facts-facts.result c.args.draft.now c.scan.new.self (ap core_of c.in-Atom.is) c.in_ok-relation-in-Atom.ensures (c.in_ok-terms-in-Atom.ensures ∙ c.as_slice.ensures) c.facts-facts.ensures c.scan.ensures
 
 pub plan_core-returns-in_ok-test-in-Check : goal.plan_core-returns-in_ok-test-in-Check
 plan_core-returns-in_ok-test-in-Check t c =
-    check_planned c.leaf.result c.args.sources.now c.args.inner.items (core_of c.args.core.now) c.in-Check.test c.in_ok-test-in-Check.test c.args.draft.now c.leaf.new.self (ap core_of c.in-Check.is) c.in_ok-test-in-Check.ensures c.leaf.ensures
+    check_planned c.leaf.result c.args.sources.now c.args.inner.now (core_of c.args.core.now) c.in-Check.test c.in_ok-test-in-Check.test c.args.draft.now c.leaf.new.self (ap core_of c.in-Check.is) c.in_ok-test-in-Check.ensures c.leaf.ensures
 
 pub plan_core-returns-in_ok-sort-in-Sorted : goal.plan_core-returns-in_ok-sort-in-Sorted
 plan_core-returns-in_ok-sort-in-Sorted t c =
-    sorted_planned c.sort.result c.args.sources.now c.args.inner.items (core_of c.args.core.now) c.in-Sorted.name c.in_ok-name-in-Sorted.name c.in-Sorted.sort c.in_ok-sort-in-Sorted.sort c.in_ok-texts-in-Sorted.texts c.args.draft.now c.sort.new.self (ap core_of c.in-Sorted.is) c.in_ok-name-in-Sorted.ensures c.in_ok-sort-in-Sorted.ensures c.in_ok-texts-in-Sorted.ensures c.sort.ensures
+    sorted_planned c.sort.result c.args.sources.now c.args.inner.now (core_of c.args.core.now) c.in-Sorted.name c.in_ok-name-in-Sorted.name c.in-Sorted.sort c.in_ok-sort-in-Sorted.sort c.in_ok-texts-in-Sorted.texts c.args.draft.now c.sort.new.self (ap core_of c.in-Sorted.is) c.in_ok-name-in-Sorted.ensures c.in_ok-sort-in-Sorted.ensures c.in_ok-texts-in-Sorted.ensures c.sort.ensures
 
 pub plan_core-returns-in_ok-plan_core-in-Not : goal.plan_core-returns-in_ok-plan_core-in-Not
 plan_core-returns-in_ok-plan_core-in-Not t c =
-    not_planned c.complement.result c.args.sources.now c.args.inner.items (core_of c.args.core.now) (core_of c.deref.result.now) c.args.draft.now c.plan_core.new.draft c.complement.new.self (ap core_of c.in-Not.is ∙ ap (λ x. negation (core_of x)) (sym c.deref.ensures)) c.in_ok-plan_core-in-Not.ensures c.complement.ensures
+    not_planned c.complement.result c.args.sources.now c.args.inner.now (core_of c.args.core.now) (core_of c.deref.result.now) c.args.draft.now c.plan_core.new.draft c.complement.new.self (ap core_of c.in-Not.is ∙ ap (λ x. negation (core_of x)) (sym c.deref.ensures)) c.in_ok-plan_core-in-Not.ensures c.complement.ensures
 
 pub plan_core-returns-in-And : goal.plan_core-returns-in-And
 plan_core-returns-in-And t c =
-    as_planned c.plan_all.result c.args.sources.now c.args.inner.items (core_of c.args.core.now) (conjunction (cores_of c.deref-in-And.result.now)) c.args.draft.now c.plan_all.new.draft (ap core_of c.in-And.is ∙ core_of-And c.in-And.of ∙ ap (λ xs. conjunction (cores_of xs)) (sym c.deref-in-And.ensures.value)) c.plan_all.ensures
+    as_planned c.plan_all.result c.args.sources.now c.args.inner.now (core_of c.args.core.now) (conjunction (cores_of c.deref-in-And.result.now)) c.args.draft.now c.plan_all.new.draft (ap core_of c.in-And.is ∙ core_of-And c.in-And.of ∙ ap (λ xs. conjunction (cores_of xs)) (sym c.deref-in-And.ensures.value)) c.plan_all.ensures
 
 pub plan_core-returns-in-Or : goal.plan_core-returns-in-Or
 plan_core-returns-in-Or t c =
-    as_planned c.plan_some.result c.args.sources.now c.args.inner.items (core_of c.args.core.now) (disjunction (cores_of c.deref-in-Or.result.now)) c.args.draft.now c.plan_some.new.draft (ap core_of c.in-Or.is ∙ core_of-Or c.in-Or.of ∙ ap (λ xs. disjunction (cores_of xs)) (sym c.deref-in-Or.ensures.value)) c.plan_some.ensures
+    as_planned c.plan_some.result c.args.sources.now c.args.inner.now (core_of c.args.core.now) (disjunction (cores_of c.deref-in-Or.result.now)) c.args.draft.now c.plan_some.new.draft (ap core_of c.in-Or.is ∙ core_of-Or c.in-Or.of ∙ ap (λ xs. disjunction (cores_of xs)) (sym c.deref-in-Or.ensures.value)) c.plan_some.ensures
 
 pub plan_core-returns-in_ok-name-in-Exists : goal.plan_core-returns-in_ok-name-in-Exists
 plan_core-returns-in_ok-name-in-Exists t c =
-    exists_planned c.drop_variable.result c.args.sources.now c.args.inner.items (core_of c.args.core.now) (core_of c.deref-in-Exists.result.now) c.in-Exists.name c.in_ok-name-in-Exists.name c.in-Exists.sort c.args.draft.now c.plan_core-in-Exists.new.draft c.drop_variable.new.self
+    exists_planned c.drop_variable.result c.args.sources.now c.args.inner.now (core_of c.args.core.now) (core_of c.deref-in-Exists.result.now) c.in-Exists.name c.in_ok-name-in-Exists.name c.in-Exists.sort c.args.draft.now c.plan_core-in-Exists.new.draft c.drop_variable.new.self
     (ap core_of c.in-Exists.is ∙ ap (λ x. exists c.in-Exists.name c.in-Exists.sort (core_of x)) (sym c.deref-in-Exists.ensures)) c.in_ok-name-in-Exists.ensures c.in_ok-plan_core-in-Exists.ensures c.drop_variable.ensures
 
-pub plan_some-loop-core-init : goal.plan_some-loop-core-init
-plan_some-loop-core-init t c = λ known. (ap trees_of c.from_vec-trees.ensures.items ∙ known, λ M s. none_so_far M c.args.draft.now)
+pub plan_some-loop-index-init : goal.plan_some-loop-index-init
+plan_some-loop-index-init t c = λ known M s. none_so_far M c.args.draft.now
 
-pub plan_some-loop-core-preserved : goal.plan_some-loop-core-preserved
-plan_some-loop-core-preserved t c = λ known.
-    let now = c.loop-core.invariant known in
-    let next : trees_of c.loop-core.trees.items ≡ one_more (free_tree (core_of c.core-item.result)) (free_trees (cores_of (drop (c.loop-core.core-index + 1) c.args.of.now))) =
-    now.0 ∙ trees-next c.args.of.now c.loop-core.core-index c.core-item.result c.loop-core-test.true c.core-item.is in
-    let inner = inner_known c.next_tree-tree.result (core_of c.core-item.result) (c.next_tree-tree.ensures.first _ _ next) in (
-      c.next_tree-tree.ensures.rest _ _ next,
-      λ M s. one_more_planned M c.args.of.now c.loop-core.core-index c.core-item.result c.args.draft.now c.loop-core.draft c.plan_core.new.draft c.unite.new.draft c.loop-core.left (omega (arith, c.loop-core-test.true)) c.core-item.is (now.1 M s) (λ K can. c.in_ok-plan_core.ensures M K s inner can) c.in_ok-unite.ensures,
-    )
+pub plan_some-loop-index-preserved : goal.plan_some-loop-index-preserved
+plan_some-loop-index-preserved t c = λ known M s.
+    let own = tree_there c.args.inner.now c.args.of.now c.loop-index.index c.index-of-index.result known c.loop-index-test.true c.index-of-index.is in
+    one_more_planned M c.args.of.now c.loop-index.index c.index-of-index.result c.args.draft.now c.loop-index.draft c.plan_with.new.draft c.unite.new.draft c.loop-index.left (omega (arith, c.loop-index-test.true)) c.index-of-index.is (c.loop-index.invariant known M s)
+    (λ K can. c.in_ok-plan_with.ensures M K own.0 s own.1 own.2 can) c.in_ok-unite.ensures
 
 pub plan_some-returns : goal.plan_some-returns
-plan_some-returns t c = some_planned c.args.sources.now c.args.inner.items c.args.of.now c.loop-core.core-index c.loop-core.left c.args.draft.now c.loop-core.draft c.loop-core-test.false (λ known. (c.loop-core.invariant known).1)
+plan_some-returns t c = some_planned c.args.sources.now c.args.inner.now c.args.of.now c.loop-index.index c.loop-index.left c.args.draft.now c.loop-index.draft c.loop-index-test.false c.loop-index.invariant
+
+pub plan_with-returns-in_ok-plan_core : goal.plan_with-returns-in_ok-plan_core
+plan_with-returns-in_ok-plan_core t c = λ M K tree s there known can.
+    c.in_ok-plan_core.ensures M K s
+    (subst (λ ts. AreInner ts (core_of c.args.core.now)) (sym c.deref.ensures.value)
+    (inner_known (get_or c.args.trees.now c.args.index c.index-trees-index.result) (core_of c.args.core.now) (tree_read c.args.trees.now c.args.index tree c.index-trees-index.result there ∙ known))) can
+
+pub plan_with-returns-else-index-trees : goal.plan_with-returns-else-index-trees
+plan_with-returns-else-index-trees t c = λ M K tree s there known can. absurd (none_past c.args.trees.now c.args.index tree (omega (arith, c.if-index-trees.false)) there)
 
 pub plan_all-returns : goal.plan_all-returns
 plan_all-returns t c =
     let first : Taking = record { result = None; variables = c.new.result; tests = c.in_ok-parts.parts.tests; settled = false } in
-    all_planned c.plan_negations.result c.args.sources.now c.args.inner.items c.args.of.now c.in_ok-parts.parts first c.plan_positives.new.taking c.take_tests.new.taking c.plan_negations.new.taking c.args.draft.now c.plan_positives.new.draft c.take_tests.new.draft c.plan_negations.new.draft
+    all_planned c.plan_negations.result c.args.sources.now c.args.inner.now c.args.of.now c.in_ok-parts.parts first c.plan_positives.new.taking c.take_tests.new.taking c.plan_negations.new.taking c.args.draft.now c.plan_positives.new.draft c.take_tests.new.draft c.plan_negations.new.draft
     c.in_ok-parts.ensures refl (ap (map variable_of) c.new.ensures) refl refl c.in_ok-plan_positives.ensures c.in_ok-take_tests.ensures c.plan_negations.ensures
 
 pub plan_positives-loop-turn-init : goal.plan_positives-loop-turn-init
@@ -85,14 +92,15 @@ plan_positives-returns t c = λ M s.
 
 pub plan_positive-returns-in-None : goal.plan_positive-returns-in-None
 plan_positive-returns-in-None t c = λ M s.
-    idles_positive M c.args.of.now c.args.left.now c.take_next.new.self c.args.draft.now c.args.taking.now (first_or_0 (λ x. meet (map variable_of x.variables) (map variable_of c.args.taking.now.variables)) c.args.left.now)
-    (subst (TakesAt (first_or_0 (λ x. meet (map variable_of x.variables) (map variable_of c.args.taking.now.variables)) c.args.left.now) c.args.left.now c.take_next.new.self) c.in-None.is c.in_ok-take_next.ensures)
+    idles_positive M c.args.of.now c.args.left.now c.take_next.new.self c.args.draft.now c.args.taking.now (first_or_0 (λ x. meet (element_variables x) (map variable_of c.args.taking.now.variables)) c.args.left.now)
+    (subst (TakesAt (first_or_0 (λ x. meet (element_variables x) (map variable_of c.args.taking.now.variables)) c.args.left.now) c.args.left.now c.take_next.new.self) c.in-None.is c.in_ok-take_next.ensures)
 
 pub plan_positive-returns-in_ok-plan_at-in-Some : goal.plan_positive-returns-in_ok-plan_at-in-Some
 plan_positive-returns-in_ok-plan_at-in-Some t c =
     positive_turned c.take_in.result c.args.sources.now c.args.of.now c.args.left.now c.take_next.new.self c.args.draft.now c.plan_at.new.draft c.take_in.new.draft c.in-Some.element c.args.taking.now c.take_in.new.self
-    (subst (TakesAt (first_or_0 (λ x. meet (map variable_of x.variables) (map variable_of c.args.taking.now.variables)) c.args.left.now) c.args.left.now c.take_next.new.self) c.in-Some.is c.in_ok-take_next.ensures)
-    c.in_ok-plan_at-in-Some.ensures c.take_in.ensures
+    (subst (TakesAt (first_or_0 (λ x. meet (element_variables x) (map variable_of c.args.taking.now.variables)) c.args.left.now) c.args.left.now c.take_next.new.self) c.in-Some.is c.in_ok-take_next.ensures)
+    (λ M K core s is inner can. c.in_ok-plan_at-in-Some.ensures M K core s is (subst (λ ts. AreInner ts (core_of core)) (sym c.deref.ensures.value) inner) can)
+    (subst (λ vs. OnOk c.take_in.result (TakesIn (map variable_of vs) c.args.taking.now c.take_in.new.self c.plan_at.new.draft c.take_in.new.draft)) c.as_slice.ensures c.take_in.ensures)
 
 pub plan_negations-loop-turn-init : goal.plan_negations-loop-turn-init
 plan_negations-loop-turn-init t c = λ M s.
@@ -112,11 +120,12 @@ plan_negations-returns t c = λ M s.
 
 pub plan_negation-returns-in-None : goal.plan_negation-returns-in-None
 plan_negation-returns-in-None t c = λ M s.
-    idles_negation M c.args.of.now c.args.left.now c.take_next.new.self c.args.draft.now c.args.taking.now (first_or_0 (λ x. c.is_some-some.result && are_among (map variable_of x.variables) (map variable_of c.args.taking.now.variables)) c.args.left.now)
-    (subst (TakesAt (first_or_0 (λ x. c.is_some-some.result && are_among (map variable_of x.variables) (map variable_of c.args.taking.now.variables)) c.args.left.now) c.args.left.now c.take_next.new.self) c.in-None.is c.in_ok-take_next.ensures)
+    idles_negation M c.args.of.now c.args.left.now c.take_next.new.self c.args.draft.now c.args.taking.now (first_or_0 (λ x. c.is_some-some.result && are_among (element_variables x) (map variable_of c.args.taking.now.variables)) c.args.left.now)
+    (subst (TakesAt (first_or_0 (λ x. c.is_some-some.result && are_among (element_variables x) (map variable_of c.args.taking.now.variables)) c.args.left.now) c.args.left.now c.take_next.new.self) c.in-None.is c.in_ok-take_next.ensures)
 
 pub plan_negation-returns-in_ok-plan_denied_at-in-Some : goal.plan_negation-returns-in_ok-plan_denied_at-in-Some
 plan_negation-returns-in_ok-plan_denied_at-in-Some t c =
     negation_turned c.take_off.result c.args.sources.now c.args.of.now c.args.left.now c.take_next.new.self c.args.draft.now c.plan_denied_at.new.draft c.take_off.new.draft c.in-Some.element c.is_some-some.result c.args.taking.now c.take_off.new.self c.is_some-some.ensures
-    (subst (TakesAt (first_or_0 (λ x. c.is_some-some.result && are_among (map variable_of x.variables) (map variable_of c.args.taking.now.variables)) c.args.left.now) c.args.left.now c.take_next.new.self) c.in-Some.is c.in_ok-take_next.ensures)
-    c.in_ok-plan_denied_at-in-Some.ensures c.take_off.ensures
+    (subst (TakesAt (first_or_0 (λ x. c.is_some-some.result && are_among (element_variables x) (map variable_of c.args.taking.now.variables)) c.args.left.now) c.args.left.now c.take_next.new.self) c.in-Some.is c.in_ok-take_next.ensures)
+    (λ M K core f s is denies inner can. c.in_ok-plan_denied_at-in-Some.ensures M K core f s is denies (subst (λ ts. AreInner ts f) (sym c.deref.ensures.value) inner) can)
+    (subst (λ vs. OnOk c.take_off.result (TakesOff (map variable_of vs) c.args.taking.now c.take_off.new.self c.plan_denied_at.new.draft c.take_off.new.draft)) c.as_slice.ensures c.take_off.ensures)

@@ -1,16 +1,15 @@
-use Rattle.std.proofs.Common.{◌≡◌, take, drop}
+use Rattle.std.proofs.Common.{take}
 use Rattle.lrp_core.specs.Cores.{cores_of}
 use Rattle.lrp_model.specs.Satisfaction.{Structure}
 use Rattle.lrp_plan.specs.Sources.{AreSources}
-use Rattle.lrp_core.specs.VariableTrees.{trees_of, free_trees}
 use Rattle.lrp_model.specs.Formulas.{disjunction}
 use Rattle.lrp_plan.specs.Elements.{AreInner, TakesPositives, TakesNegations}
 use Rattle.lrp_plan.proofs.Unions.{SomeSoFar}
 use Rattle.lrp_plan.proofs.planner.+planning.Given as goal
 
--- the elements so far were united, and the trees of the others are left
-abbrev pub invariant-plan_some-loop-core : goal.invariant-plan_some-loop-core
-invariant-plan_some-loop-core l = AreInner l.fn.inner.items (disjunction (cores_of l.of)) → (trees_of l.trees.items ≡ free_trees (cores_of (drop l.core-index l.of))) × ((M : Structure) → AreSources M l.sources → SomeSoFar M (cores_of (take l.core-index l.of)) l.fn.draft l.draft l.left)
+-- the elements so far were united
+abbrev pub invariant-plan_some-loop-index : goal.invariant-plan_some-loop-index
+invariant-plan_some-loop-index l = AreInner l.inner (disjunction (cores_of l.of)) → (M : Structure) → AreSources M l.sources → SomeSoFar M (cores_of (take l.index l.of)) l.fn.draft l.draft l.left
 
 -- so many turns were made
 abbrev pub invariant-plan_positives-loop-turn : goal.invariant-plan_positives-loop-turn

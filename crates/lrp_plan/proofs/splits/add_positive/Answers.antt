@@ -1,15 +1,13 @@
 use Rattle.std.proofs.Common.{refl}
-use Rattle.lrp_core.specs.declared.variable_trees.VariableTree.TheViews.{out-VariableTree}
-use Rattle.lrp_core.proofs.TreeViews.{tree_of-opened}
 use Rattle.lrp_plan.proofs.splits.add_positive.Goals as goal
 
 pub returns : goal.returns
 returns c = record {
-  added = record { index = c.args.index; variables = (out-VariableTree c.args.tree).variables; inner = (out-VariableTree c.args.tree).inner; rank = c.args.rank };
+  added = record { index = c.args.index; tree = c.args.tree; rank = c.args.rank };
   items = c.in_ok-push.ensures.items;
   place = refl;
   ranked_as = refl;
-  variables = tree_of-opened c.args.tree;
+  tree_is = refl;
   tests_stay = refl;
   negations_stay = refl;
 }

@@ -1,10 +1,10 @@
-use Rattle.std.proofs.Common.{◌≡◌, ◌≤◌, ◌^◌, w64, to_z, of_z, arith, subst, sym, refl}
+use Rattle.std.proofs.Common.{◌≡◌, ◌≤◌, ◌^◌, w64, to_z, of_z, arith, subst, sym, refl, rules}
 use Rattle.std.proofs.Math.IntN.{nat_abs}
 use Rattle.std.proofs.lemmas.Int.{ints}
 use Rattle.std.proofs.lemmas.Bool.{false≢true}
 use Rattle.lrp_theory.specs.Divides.{IsLcm}
 use Rattle.lrp_point.specs.Points.{IsLcmAbove}
-use Rattle.lrp_plan.proofs.Multiples.{with_one, with_above, not_above}
+use Rattle.lrp_plan.proofs.Multiples.{with_one, with_divisor, with_above, not_above}
 use Rattle.lrp_plan.proofs.periods.Period.with.Goals as goal
 
 pub returns-in-Ok : goal.returns-in-Ok
@@ -24,3 +24,6 @@ returns-in-Err c = λ ks h.
     let l : nat_abs (to_z w64 c.args.further) ≡ c.args.further = omega (arith, ints) in
     with_above ks c.args.self.number c.args.further h (omega arith)
     (subst (λ x. IsLcmAbove c.args.self.number x (2 ^ 62)) l (subst (λ x. IsLcmAbove x (nat_abs (to_z w64 c.args.further)) (2 ^ 62)) k (c.in-Err.ensures.limit.0 refl)))
+
+pub returns-then-self-further-eq0 : goal.returns-then-self-further-eq0
+returns-then-self-further-eq0 c = λ ks h. with_divisor ks c.args.self.number c.args.further h (omega arith) (search rules)
