@@ -11,7 +11,7 @@ use Rattle.lrp_top.specs.Outcomes.{Outcome, fault_line, refused_with, status_of,
 use Rattle.lrp_top.specs.declared.status.Status.{Status}
 use Rattle.lrp_top.specs.declared.status.Status.TheVariants as status
 use Rattle.lrp_top.specs.declared.outcome.Refusal.{Refusal}
-use Rattle.lrp_top.specs.declared.outcome.Refusal.TheVariants.{Usage, ReadDatabase, LongDatabase, Database, ReadQuery, LongQuery, Query, PeriodLimit, BoundLimit, Memory, Unbuilt}
+use Rattle.lrp_top.specs.declared.outcome.Refusal.TheVariants.{Usage, ReadDatabase, LongDatabase, Database, ReadQuery, LongQuery, Query, PeriodLimit, BoundLimit, TokenForm, TokenShape, TokenStale, Memory, Unbuilt}
 
 -- the seven pieces of the line of a fault
 pub fault_pieces : (whose kind : List ℕ) (place : Place) (a b c d e g h : List ℕ) → a ≡ whose → b ≡ kind → c ≡ codes " at " → d ≡ decimal place.line → e ≡ codes ":" → g ≡ decimal place.column → h ≡ codes "\n"
@@ -39,6 +39,9 @@ refused_whole LongQuery e = cc
 refused_whole (Query fault) e = cc
 refused_whole PeriodLimit e = cc
 refused_whole BoundLimit e = cc
+refused_whole TokenForm e = cc
+refused_whole TokenShape e = cc
+refused_whole TokenStale e = cc
 refused_whole Memory e = cc
 refused_whole Unbuilt e = cc
 

@@ -12,18 +12,21 @@ use Rattle.lrp_model.specs.Plans.{IsPlan}
 use Rattle.lrp_model.specs.QueryReading.{IsQuery, IsQueryFault}
 use Rattle.lrp_model.specs.RawQueries.{RawQuestion}
 use Rattle.lrp_model.specs.Sorting.{IsWellSorted, IsSortFault}
-use Rattle.lrp_model.specs.Texts.{Identifier}
+use Rattle.lrp_model.specs.Texts.{Identifier, Text}
 use Rattle.lrp_model.specs.declared.faults.QueryFault.{QueryFault}
 use Rattle.lrp_model.specs.declared.plans.Plan.{Plan}
 use Rattle.lrp_model.specs.declared.relations.Relation.{Relation}
 use Rattle.lrp_print.specs.ReadBack.{ReadsBack}
+use Rattle.lrp_token.specs.Files.{files_digest}
 use Rattle.lrp_plan.specs.Planning.{IsWithinLimits, HasCause}
 use Rattle.lrp_plan.specs.declared.planning.PlanFault.TheVariants as plan_fault
 use Rattle.lrp_top.specs.Outcomes.{Outcome}
+use Rattle.lrp_top.specs.Resuming.{IsResumed}
 use Rattle.lrp_top.specs.Seen.{Seen, AreBytesOf, IsOverrun}
+use Rattle.lrp_top.specs.Sources.{Source}
 use Rattle.lrp_top.specs.Steps.{Then}
 use Rattle.lrp_top.specs.ThinAnswers.{IsThinAnswer}
-use Rattle.lrp_top.specs.declared.outcome.Output.TheVariants.{Text, Relations, Plan as plan_output}
+use Rattle.lrp_top.specs.declared.outcome.Output.TheVariants.{Text as text_output, Relations, Plan as plan_output}
 use Rattle.lrp_top.specs.declared.outcome.Refusal.{Refusal}
 use Rattle.lrp_top.specs.declared.outcome.Refusal.TheVariants.{Usage, ReadDatabase, LongDatabase, Database, ReadQuery, LongQuery, Query, PeriodLimit, BoundLimit, Memory, Unbuilt}
 
@@ -38,12 +41,12 @@ IsNoDatabase seen name bytes Memory = Unit {0}
 IsNoDatabase seen name bytes _ = ⊥
 
 -- the relations of bytes, or why there are none
-abbrev pub IsReadOf : Seen → Identifier → List ℕ → Result (List Relation) Refusal → Type 0
-IsReadOf seen name bytes (Ok relations) = (length bytes ≤ 16777216) × IsDatabase bytes relations
+abbrev pub IsReadOf : Seen → Identifier → List ℕ → Result (Source (List Relation)) Refusal → Type 0
+IsReadOf seen name bytes (Ok database) = (database.bytes ≡ bytes) × (length bytes ≤ 16777216) × IsDatabase bytes database.says
 IsReadOf seen name bytes (Err refusal) = IsNoDatabase seen name bytes refusal
 
 -- those of a file
-pub record IsRead (seen : Seen) (name : Identifier) (result : Result (List Relation) Refusal) : Type 0 where
+pub record IsRead (seen : Seen) (name : Identifier) (result : Result (Source (List Relation)) Refusal) : Type 0 where
   pub bytes : List ℕ
   pub told : AreBytesOf seen name bytes
   pub is : IsReadOf seen name bytes result
@@ -72,12 +75,12 @@ IsNoQuery relations seen name bytes Memory = Unit {0}
 IsNoQuery relations seen name bytes _ = ⊥
 
 -- the query of bytes, or why there is none
-abbrev pub IsAskedOf : List Relation → Seen → Identifier → List ℕ → Result Question Refusal → Type 0
-IsAskedOf relations seen name bytes (Ok q) = (length bytes ≤ 16777216) × IsSorted relations bytes q
+abbrev pub IsAskedOf : List Relation → Seen → Identifier → List ℕ → Result (Source Question) Refusal → Type 0
+IsAskedOf relations seen name bytes (Ok query) = (query.bytes ≡ bytes) × (length bytes ≤ 16777216) × IsSorted relations bytes query.says
 IsAskedOf relations seen name bytes (Err refusal) = IsNoQuery relations seen name bytes refusal
 
 -- that of a file
-pub record IsAsked (relations : List Relation) (seen : Seen) (name : Identifier) (result : Result Question Refusal) : Type 0 where
+pub record IsAsked (relations : List Relation) (seen : Seen) (name : Identifier) (result : Result (Source Question) Refusal) : Type 0 where
   pub bytes : List ℕ
   pub told : AreBytesOf seen name bytes
   pub is : IsAskedOf relations seen name bytes result
@@ -99,8 +102,8 @@ IsPlanned relations q (Err refusal) = IsNoPlan relations q refusal
 -- ---- a task
 
 -- the relations that were read are written, and what is written reads back as relations that hold the same
-abbrev pub IsWrittenAgain : List Relation → Outcome → Type 0
-IsWrittenAgain relations outcome = (outcome ≡ Ok (Relations relations)) × ReadsBack relations
+abbrev pub IsWrittenAgain : Source (List Relation) → Outcome → Type 0
+IsWrittenAgain database outcome = (outcome ≡ Ok (Relations database.says)) × ReadsBack database.says
 
 -- the plan is written
 abbrev pub IsExplained : Plan → Outcome → Type 0
@@ -108,7 +111,7 @@ IsExplained p outcome = outcome ≡ Ok (plan_output p)
 
 -- a query is answered by one of these texts, or its answer is not built yet; or want of memory
 abbrev pub IsAnswered : (List ℕ → Type 0) → Outcome → Type 0
-IsAnswered Answers (Ok (Text bytes)) = Answers bytes
+IsAnswered Answers (Ok (text_output bytes)) = Answers bytes
 IsAnswered Answers (Err Memory) = Unit {0}
 IsAnswered Answers (Err Unbuilt) = Unit {0}
 IsAnswered Answers _ = ⊥
@@ -118,15 +121,19 @@ abbrev pub IsNoText : List ℕ → Type 0
 IsNoText bytes = ⊥
 
 -- a database is read, then a query over its relations, then the query is planned, and then this is due
-abbrev pub IsQuestion : {B : Type 0} → Seen → Identifier → Identifier → (List Relation → Question → Plan → Result B Refusal → Type 0) → Result B Refusal → Type 0
-IsQuestion seen database query Next result = Then (IsRead seen database) (λ relations. Then (IsAsked relations seen query) (λ q. Then (IsPlanned relations q) (Next relations q))) result
+abbrev pub IsQuestion : {B : Type 0} → Seen → Identifier → Identifier → (Source (List Relation) → Source Question → Plan → Result B Refusal → Type 0) → Result B Refusal → Type 0
+IsQuestion seen database query Next result = Then (IsRead seen database) (λ d. Then (IsAsked d.says seen query) (λ q. Then (IsPlanned d.says q.says) (Next d q))) result
+
+-- a page is listed from where its token says; or the token is refused. It is not built yet
+abbrev pub IsListed : Option Text → Source (List Relation) → Source Question → Plan → Outcome → Type 0
+IsListed after d q p = Then (IsResumed (files_digest d.bytes q.bytes) q.says.head after) (λ from. IsAnswered IsNoText)
 
 -- what is due for a task; `sample` and the answers of two commands are not built yet
 abbrev pub IsDueOf : Task → Seen → Outcome → Type 0
-IsDueOf (ask database query cap) seen outcome = IsQuestion seen database query (λ relations q p. IsAnswered IsThinAnswer) outcome
-IsDueOf (decide database query cap) seen outcome = IsQuestion seen database query (λ relations q p. IsAnswered IsNoText) outcome
-IsDueOf (list database query from to limit after json cap) seen outcome = IsQuestion seen database query (λ relations q p. IsAnswered IsNoText) outcome
-IsDueOf (explain database query) seen outcome = IsQuestion seen database query (λ relations q. IsExplained) outcome
+IsDueOf (ask database query cap) seen outcome = IsQuestion seen database query (λ d q p. IsAnswered IsThinAnswer) outcome
+IsDueOf (decide database query cap) seen outcome = IsQuestion seen database query (λ d q p. IsAnswered IsNoText) outcome
+IsDueOf (list database query from to limit after json cap) seen outcome = IsQuestion seen database query (IsListed after) outcome
+IsDueOf (explain database query) seen outcome = IsQuestion seen database query (λ d q. IsExplained) outcome
 IsDueOf (check database) seen outcome = Then (IsRead seen database) IsWrittenAgain outcome
 IsDueOf (sample seed size) seen outcome = outcome ≡ Err Unbuilt
 

@@ -18,7 +18,7 @@ use Rattle.lrp_top.specs.declared.status.Status.TheVariants as status
 use Rattle.lrp_top.specs.declared.outcome.Output.{Output}
 use Rattle.lrp_top.specs.declared.outcome.Output.TheVariants.{Text, Relations, Plan}
 use Rattle.lrp_top.specs.declared.outcome.Refusal.{Refusal}
-use Rattle.lrp_top.specs.declared.outcome.Refusal.TheVariants.{Usage, ReadDatabase, LongDatabase, Database, ReadQuery, LongQuery, Query, PeriodLimit, BoundLimit, Memory, Unbuilt}
+use Rattle.lrp_top.specs.declared.outcome.Refusal.TheVariants.{Usage, ReadDatabase, LongDatabase, Database, ReadQuery, LongQuery, Query, PeriodLimit, BoundLimit, TokenForm, TokenShape, TokenStale, Memory, Unbuilt}
 
 -- the line of a fault: whose it is, its kind, its line and its column
 abbrev pub fault_line : List ℕ → List ℕ → Place → List ℕ
@@ -35,6 +35,9 @@ line_of LongQuery = codes "refused: query longer than 16777216 bytes\n"
 line_of (Query fault) = fault_line (codes "refused: query ") (query_word fault.kind) fault.place
 line_of PeriodLimit = codes "refused: period above 4611686018427387904\n"
 line_of BoundLimit = codes "refused: bound above 4611686018427387904\n"
+line_of TokenForm = codes "refused: token form\n"
+line_of TokenShape = codes "refused: token shape\n"
+line_of TokenStale = codes "refused: token stale\n"
 line_of Memory = codes "refused: memory\n"
 line_of Unbuilt = codes "refused: unbuilt\n"
 
@@ -49,6 +52,9 @@ refused_with LongQuery = status.Query
 refused_with (Query fault) = status.Query
 refused_with PeriodLimit = status.Limit
 refused_with BoundLimit = status.Limit
+refused_with TokenForm = status.Query
+refused_with TokenShape = status.Query
+refused_with TokenStale = status.Query
 refused_with Memory = status.Memory
 refused_with Unbuilt = status.Unbuilt
 

@@ -1,20 +1,25 @@
 // The decision: what the words ask for, before the first byte is written.
 ghost use Rattle.std.specs.Prelude.{◌≡◌, []};
 ghost use Rattle.std.specs.List.{AllByRecursion};
-ghost use Rattle.lrp_top.specs.Due.{IsAnswered, IsDue, IsDueOf, IsExplained, IsNoText, IsQuestion, IsRead, IsTooLong, IsWrittenAgain, TellsLength, files_named, files_of};
+ghost use Rattle.lrp_model.specs.Formulas.{question_of as queried};
+ghost use Rattle.lrp_plan_laws.specs.Settled.{IsSettled};
+ghost use Rattle.lrp_top.specs.Due.{IsAnswered, IsDue, IsDueOf, IsExplained, IsListed, IsNoText, IsQuestion, IsRead, IsTooLong, IsWrittenAgain, TellsLength, files_named, files_of};
 ghost use Rattle.lrp_top.specs.Outcomes.{CanBeWritten};
+ghost use Rattle.lrp_top.specs.Questions.{database_source, query_source};
 ghost use Rattle.lrp_top.specs.Seen.{IsOverrun, seen_of};
 ghost use Rattle.lrp_top.specs.Steps.{Then};
 ghost use Rattle.lrp_top.specs.ThinAnswers.{IsThinAnswer};
-ghost use Rattle.lrp_words.specs.Commands.{task_of};
+ghost use Rattle.lrp_words.specs.Commands.{task_of, text_of};
 
 use crate::files::database_of;
 use crate::outcome::{Output, Refusal};
 use crate::questions::{Question, question_of};
+use crate::resuming::resumed;
 use crate::thin_answer::thin_text;
 use lrp_io::Shelf;
 use lrp_model::Memory;
 use lrp_rel::databases_read_back;
+use lrp_token::digest;
 use lrp_words::{Command, Usage, read_words};
 use std::alloc::Global;
 
@@ -44,7 +49,12 @@ fn decide_command<F: Shelf>(
     match command {
         Command::Ask { db, query, .. } => ask(alloc, db, query, shelf),
         Command::Decide { db, query, .. } => unbuilt(alloc, db, query, shelf),
-        Command::List { db, query, .. } => unbuilt(alloc, db, query, shelf),
+        Command::List {
+            db,
+            query,
+            after,
+            ..
+        } => list(alloc, db, query, after, shelf),
         Command::Explain { db, query } => explain(alloc, db, query, shelf),
         Command::Check { db } => check(alloc, db, shelf),
         Command::Sample { .. } => Err(Refusal::Unbuilt),
@@ -58,9 +68,9 @@ fn check<F: Shelf>(alloc: Global, database: &str, shelf: &mut F) -> Result<Outpu
     ensures writable { CanBeWritten result }
 {
     match database_of(alloc, database, shelf) {
-        Ok(relations) => {
+        Ok(file) => {
             databases_read_back();
-            Ok(Output::Relations(relations))
+            Ok(Output::Relations(file.relations))
         }
         Err(refusal) => Err(refusal),
     }
@@ -73,7 +83,7 @@ fn ask<F: Shelf>(
     query: &str,
     shelf: &mut F,
 ) -> Result<Output, Refusal>
-    ensures due { IsQuestion (seen_of (F.files shelf.old) (F.faults shelf.old) (F.faults shelf.new) (F.given shelf.new) (F.may_be shelf.new)) database.now query.now (λ relations q p. IsAnswered IsThinAnswer) result }
+    ensures due { IsQuestion (seen_of (F.files shelf.old) (F.faults shelf.old) (F.faults shelf.new) (F.given shelf.new) (F.may_be shelf.new)) database.now query.now (λ d q p. IsAnswered IsThinAnswer) result }
     ensures long { TellsLength (seen_of (F.files shelf.old) (F.faults shelf.old) (F.faults shelf.new) (F.given shelf.new) (F.may_be shelf.new)) result }
     ensures writable { CanBeWritten result }
 {
@@ -88,7 +98,7 @@ fn answer(alloc: Global, question: &Question) -> Result<Output, Refusal>
     ensures answer { IsAnswered IsThinAnswer result }
     ensures writable { CanBeWritten result }
 {
-    match thin_text(alloc, &question.database, &question.query) {
+    match thin_text(alloc, &question.database.relations, &question.query.query) {
         Ok(Some(text)) => Ok(Output::Text(text)),
         Ok(None) => Err(Refusal::Unbuilt),
         Err(Memory) => Err(Refusal::Memory),
@@ -102,7 +112,7 @@ fn explain<F: Shelf>(
     query: &str,
     shelf: &mut F,
 ) -> Result<Output, Refusal>
-    ensures due { IsQuestion (seen_of (F.files shelf.old) (F.faults shelf.old) (F.faults shelf.new) (F.given shelf.new) (F.may_be shelf.new)) database.now query.now (λ relations q. IsExplained) result }
+    ensures due { IsQuestion (seen_of (F.files shelf.old) (F.faults shelf.old) (F.faults shelf.new) (F.given shelf.new) (F.may_be shelf.new)) database.now query.now (λ d q. IsExplained) result }
     ensures long { TellsLength (seen_of (F.files shelf.old) (F.faults shelf.old) (F.faults shelf.new) (F.given shelf.new) (F.may_be shelf.new)) result }
     ensures writable { CanBeWritten result }
 {
@@ -119,12 +129,47 @@ fn unbuilt<F: Shelf>(
     query: &str,
     shelf: &mut F,
 ) -> Result<Output, Refusal>
-    ensures due { IsQuestion (seen_of (F.files shelf.old) (F.faults shelf.old) (F.faults shelf.new) (F.given shelf.new) (F.may_be shelf.new)) database.now query.now (λ relations q p. IsAnswered IsNoText) result }
+    ensures due { IsQuestion (seen_of (F.files shelf.old) (F.faults shelf.old) (F.faults shelf.new) (F.given shelf.new) (F.may_be shelf.new)) database.now query.now (λ d q p. IsAnswered IsNoText) result }
     ensures long { TellsLength (seen_of (F.files shelf.old) (F.faults shelf.old) (F.faults shelf.new) (F.given shelf.new) (F.may_be shelf.new)) result }
     ensures writable { CanBeWritten result }
 {
     match question_of(alloc, database, query, shelf) {
         Ok(_question) => Err(Refusal::Unbuilt),
+        Err(refusal) => Err(refusal),
+    }
+}
+
+/// The page of a question, from where its token says.
+fn list<F: Shelf>(
+    alloc: Global,
+    database: &str,
+    query: &str,
+    after: Option<&str>,
+    shelf: &mut F,
+) -> Result<Output, Refusal>
+    ensures due { IsQuestion (seen_of (F.files shelf.old) (F.faults shelf.old) (F.faults shelf.new) (F.given shelf.new) (F.may_be shelf.new)) database.now query.now (IsListed (text_of after.entry)) result }
+    ensures long { TellsLength (seen_of (F.files shelf.old) (F.faults shelf.old) (F.faults shelf.new) (F.given shelf.new) (F.may_be shelf.new)) result }
+    ensures writable { CanBeWritten result }
+{
+    match question_of(alloc, database, query, shelf) {
+        Ok(question) => page(alloc, &question, after),
+        Err(refusal) => Err(refusal),
+    }
+}
+
+/// The page of a question that is refused nothing else than its token.
+fn page(alloc: Global, question: &Question, after: Option<&str>) -> Result<Output, Refusal>
+    requires settled { IsSettled question.now.database.relations (queried question.now.query.query) }
+    ensures page { IsListed (text_of after.entry) (database_source question.now.database) (query_source question.now.query) question.now.plan result }
+    ensures writable { CanBeWritten result }
+{
+    let head = question.query.query.head.columns.as_slice();
+    let files = digest(
+        question.database.bytes.as_slice(),
+        question.query.bytes.as_slice(),
+    );
+    match resumed(alloc, after, &files, head) {
+        Ok(_from) => Err(Refusal::Unbuilt),
         Err(refusal) => Err(refusal),
     }
 }

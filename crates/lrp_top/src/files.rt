@@ -2,29 +2,49 @@
 ghost use Rattle.std.specs.Prelude.{◌≡◌, ◌≤◌, ◌≤ℤ◌, IfOk, List as ListOf, ℕ, length, pos};
 ghost use Rattle.std.specs.List.{AllByRecursion};
 ghost use Rattle.lrp_model.specs.Core.{HasElements};
-ghost use Rattle.lrp_model.specs.Formulas.{form_of};
+ghost use Rattle.lrp_model.specs.Formulas.{form_of, question_of};
 ghost use Rattle.lrp_model.specs.TestPoints.{points};
+ghost use Rattle.lrp_plan_laws.specs.Settled.{IsSettled};
 ghost use Rattle.lrp_top.specs.Due.{IsAsked, IsAskedOf, IsRead, IsReadOf, TellsLength};
-ghost use Rattle.lrp_top.specs.Questions.{asked_as};
+ghost use Rattle.lrp_top.specs.Questions.{asked_as, read_as};
 ghost use Rattle.lrp_top.specs.Seen.{Seen, seen_of};
 
 use crate::outcome::Refusal;
 use lrp_io::{LoadFault, Shelf, load};
-use lrp_model::Query;
+use lrp_model::{List, Query};
+use lrp_plan_laws::{periods_are_least, sorted_queries_are_settled};
 use lrp_query::read_query;
 use lrp_rel::{Database, ReadFault, read_database};
 use lrp_sorts::check;
 use std::alloc::Global;
 
+/// The bytes of a database's file, and the relations that they mean.
+#[derive(Drop)]
+pub struct DatabaseFile {
+    pub bytes: List<u8>,
+    pub relations: Database,
+}
+
+/// The bytes of a query's file, and the well-sorted query that they say.
+#[derive(Drop)]
+pub struct QueryFile {
+    pub bytes: List<u8>,
+    pub query: Query,
+}
+
 /// The database of a file.
-pub fn database_of<F: Shelf>(alloc: Global, name: &str, shelf: &mut F) -> Result<Database, Refusal>
-    ensures read { IsRead (seen_of (F.files shelf.old) (F.faults shelf.old) (F.faults shelf.new) (F.given shelf.new) (F.may_be shelf.new)) name.now result }
+pub fn database_of<F: Shelf>(
+    alloc: Global,
+    name: &str,
+    shelf: &mut F,
+) -> Result<DatabaseFile, Refusal>
+    ensures read { IsRead (seen_of (F.files shelf.old) (F.faults shelf.old) (F.faults shelf.new) (F.given shelf.new) (F.may_be shelf.new)) name.now (read_as result) }
     ensures long { TellsLength (seen_of (F.files shelf.old) (F.faults shelf.old) (F.faults shelf.new) (F.given shelf.new) (F.may_be shelf.new)) result }
     ensures files { F.files shelf.new ≡ F.files shelf.old }
     ensures later { (other : ListOf ℕ) → F.faults shelf.old other ≤ F.faults shelf.new other }
 {
     match load(alloc, shelf, name) {
-        Ok(bytes) => read(alloc, bytes.as_slice()),
+        Ok(bytes) => read(alloc, bytes),
         Err(LoadFault::Failed) => Err(Refusal::ReadDatabase),
         Err(LoadFault::TooLong) => Err(Refusal::LongDatabase),
         Err(LoadFault::Memory) => Err(Refusal::Memory),
@@ -32,12 +52,12 @@ pub fn database_of<F: Shelf>(alloc: Global, name: &str, shelf: &mut F) -> Result
 }
 
 /// The database of its bytes.
-fn read(alloc: Global, bytes: &[u8]) -> Result<Database, Refusal>
-    requires { length bytes.now ≤ 16777216 }
-    ensures { (seen : Seen) (name : ListOf ℕ) → IsReadOf seen name bytes.now result }
+fn read(alloc: Global, bytes: List<u8>) -> Result<DatabaseFile, Refusal>
+    requires { length bytes ≤ 16777216 }
+    ensures { (seen : Seen) (name : ListOf ℕ) → IsReadOf seen name bytes (read_as result) }
 {
-    match read_database(alloc, bytes) {
-        Ok(database) => Ok(database),
+    match read_database(alloc, bytes.as_slice()) {
+        Ok(relations) => Ok(DatabaseFile { bytes, relations }),
         Err(ReadFault::Fault { fault }) => Err(Refusal::Database(fault)),
         Err(ReadFault::Memory) => Err(Refusal::Memory),
     }
@@ -49,14 +69,14 @@ pub fn query_of<F: Shelf>(
     database: &Database,
     name: &str,
     shelf: &mut F,
-) -> Result<Query, Refusal>
+) -> Result<QueryFile, Refusal>
     ensures asked { IsAsked database.now (seen_of (F.files shelf.old) (F.faults shelf.old) (F.faults shelf.new) (F.given shelf.new) (F.may_be shelf.new)) name.now (asked_as result) }
     ensures long { TellsLength (seen_of (F.files shelf.old) (F.faults shelf.old) (F.faults shelf.new) (F.given shelf.new) (F.may_be shelf.new)) result }
-    ensures elements { IfOk result (λ query. HasElements (form_of query.body)) }
-    ensures points { IfOk result (λ query. AllByRecursion (λ at. pos 1 ≤ℤ at.period) (points (form_of query.body))) }
+    ensures settled { IfOk result (λ file. IsSettled database.now (question_of file.query)) }
+    ensures points { IfOk result (λ file. AllByRecursion (λ at. pos 1 ≤ℤ at.period) (points (form_of file.query.body))) }
 {
     match load(alloc, shelf, name) {
-        Ok(bytes) => sorted(alloc, database, bytes.as_slice()),
+        Ok(bytes) => sorted(alloc, database, bytes),
         Err(LoadFault::Failed) => Err(Refusal::ReadQuery),
         Err(LoadFault::TooLong) => Err(Refusal::LongQuery),
         Err(LoadFault::Memory) => Err(Refusal::Memory),
@@ -64,13 +84,16 @@ pub fn query_of<F: Shelf>(
 }
 
 /// The well-sorted query of its bytes, over a database.
-fn sorted(alloc: Global, database: &Database, bytes: &[u8]) -> Result<Query, Refusal>
-    requires { length bytes.now ≤ 16777216 }
-    ensures asked { (seen : Seen) (name : ListOf ℕ) → IsAskedOf database.now seen name bytes.now (asked_as result) }
-    ensures elements { IfOk result (λ query. HasElements (form_of query.body)) }
-    ensures points { IfOk result (λ query. AllByRecursion (λ at. pos 1 ≤ℤ at.period) (points (form_of query.body))) }
+fn sorted(alloc: Global, database: &Database, bytes: List<u8>) -> Result<QueryFile, Refusal>
+    requires { length bytes ≤ 16777216 }
+    ensures asked { (seen : Seen) (name : ListOf ℕ) → IsAskedOf database.now seen name bytes (asked_as result) }
+    ensures settled { IfOk result (λ file. IsSettled database.now (question_of file.query)) }
+    ensures points { IfOk result (λ file. AllByRecursion (λ at. pos 1 ≤ℤ at.period) (points (form_of file.query.body))) }
 {
-    let raw = read_query(alloc, bytes)?;
+    let raw = read_query(alloc, bytes.as_slice())?;
     let query = check(alloc, &raw, database)?;
-    Ok(query)
+    database.relations();
+    periods_are_least();
+    sorted_queries_are_settled();
+    Ok(QueryFile { bytes, query })
 }

@@ -5,6 +5,7 @@ mod deciding;
 mod files;
 mod outcome;
 mod questions;
+mod resuming;
 mod running;
 mod status;
 mod thin_answer;
@@ -23,3 +24,5 @@ mod plan_tests;
 mod reach_tests;
 #[cfg(test)]
 mod tests;
+#[cfg(test)]
+mod token_tests;

@@ -1,12 +1,14 @@
 // What a run decides before its first byte is written: an output, or a refusal.
 ghost use Rattle.std.specs.Prelude.{◌≡◌};
 ghost use Rattle.lrp_top.specs.Outcomes.{limited_by, refused_by, refused_with};
+ghost use Rattle.lrp_top.specs.Resuming.{token_refused};
 ghost use Rattle.lrp_top.specs.declared.outcome.Refusal.TheVariants.{Memory as memory};
 
 use crate::Status;
 use lrp_model::{DbFault, List, Plan, QueryFault, QueryRead};
 use lrp_plan::PlanFault;
 use lrp_rel::Database;
+use lrp_token::TokenFault;
 
 /// What a command writes.
 #[derive(Drop)]
@@ -40,6 +42,12 @@ pub enum Refusal {
     PeriodLimit,
     /// The query's reach is above 2^62, doubled once and once more for each time column of the head.
     BoundLimit,
+    /// The token of a page is no token.
+    TokenForm,
+    /// The token has other counts of times or texts than the head.
+    TokenShape,
+    /// The token is of other files.
+    TokenStale,
     /// Memory was refused.
     Memory,
     /// The command, or the form of its files, is not built yet.
@@ -55,7 +63,11 @@ impl Refusal {
             Refusal::Usage => Status::Usage,
             Refusal::ReadDatabase | Refusal::ReadQuery => Status::Read,
             Refusal::LongDatabase | Refusal::Database(_) => Status::Database,
-            Refusal::LongQuery | Refusal::Query(_) => Status::Query,
+            Refusal::LongQuery
+            | Refusal::Query(_)
+            | Refusal::TokenForm
+            | Refusal::TokenShape
+            | Refusal::TokenStale => Status::Query,
             Refusal::PeriodLimit | Refusal::BoundLimit => Status::Limit,
             Refusal::Memory => Status::Memory,
             Refusal::Unbuilt => Status::Unbuilt,
@@ -90,6 +102,18 @@ impl From<PlanFault> for Refusal {
             PlanFault::PeriodLimit => Refusal::PeriodLimit,
             PlanFault::BoundLimit => Refusal::BoundLimit,
             PlanFault::Memory => Refusal::Memory,
+        }
+    }
+}
+
+impl From<TokenFault> for Refusal {
+    ghost from_gives = { λ fault e. e ≡ token_refused fault };
+
+    fn from(fault: TokenFault) -> Self {
+        match fault {
+            TokenFault::Form => Refusal::TokenForm,
+            TokenFault::Shape => Refusal::TokenShape,
+            TokenFault::Memory => Refusal::Memory,
         }
     }
 }

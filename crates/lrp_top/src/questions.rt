@@ -4,12 +4,13 @@ ghost use Rattle.std.specs.List.{AllByRecursion};
 ghost use Rattle.lrp_model.specs.Core.{HasElements};
 ghost use Rattle.lrp_model.specs.Formulas.{form_of, question_of as queried};
 ghost use Rattle.lrp_model.specs.TestPoints.{points};
+ghost use Rattle.lrp_plan_laws.specs.Settled.{IsSettled};
 ghost use Rattle.lrp_plan_text.specs.Writable.{HasPeriods};
 ghost use Rattle.lrp_top.specs.Due.{IsPlanned, IsQuestion, TellsLength};
 ghost use Rattle.lrp_top.specs.Questions.{IsMadeOf};
 ghost use Rattle.lrp_top.specs.Seen.{seen_of};
 
-use crate::files::{database_of, query_of};
+use crate::files::{DatabaseFile, QueryFile, database_of, query_of};
 use crate::outcome::Refusal;
 use lrp_io::Shelf;
 use lrp_model::{Plan, Query};
@@ -20,8 +21,8 @@ use std::alloc::Global;
 /// A database, a query that is well-sorted over it, and its plan.
 #[derive(Drop)]
 pub struct Question {
-    pub database: Database,
-    pub query: Query,
+    pub database: DatabaseFile,
+    pub query: QueryFile,
     pub plan: Plan,
 }
 
@@ -44,11 +45,12 @@ pub fn question_of<F: Shelf>(
 ) -> Result<Question, Refusal>
     ensures question { IsQuestion (seen_of (F.files shelf.old) (F.faults shelf.old) (F.faults shelf.new) (F.given shelf.new) (F.may_be shelf.new)) database.now query.now IsMadeOf result }
     ensures long { TellsLength (seen_of (F.files shelf.old) (F.faults shelf.old) (F.faults shelf.new) (F.given shelf.new) (F.may_be shelf.new)) result }
+    ensures settled { IfOk result (λ question. IsSettled question.database.relations (queried question.query.query)) }
     ensures writable { IfOk result (λ question. AllByRecursion HasPeriods question.plan.steps) }
 {
     let database = database_of(alloc, database, shelf)?;
-    let query = query_of(alloc, &database, query, shelf)?;
-    let plan = plan_of(alloc, &database, &query)?;
+    let query = query_of(alloc, &database.relations, query, shelf)?;
+    let plan = plan_of(alloc, &database.relations, &query.query)?;
     Ok(Question {
         database,
         query,
@@ -58,7 +60,7 @@ pub fn question_of<F: Shelf>(
 
 /// The plan of a query over a database, or the limit that it passes.
 fn plan_of(alloc: Global, database: &Database, query: &Query) -> Result<Plan, Refusal>
-    requires elements { HasElements (form_of query.now.body) }
+    requires settled { IsSettled database.now (queried query.now) }
     requires points { AllByRecursion (λ at. pos 1 ≤ℤ at.period) (points (form_of query.now.body)) }
     ensures planned { IsPlanned database.now (queried query.now) result }
     ensures writable { IfOk result (λ p. AllByRecursion HasPeriods p.steps) }

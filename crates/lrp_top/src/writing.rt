@@ -83,6 +83,9 @@ fn write_refusal<S: Sink>(out: &mut S, refusal: &Refusal) -> Result<(), Failed>
         }
         Refusal::PeriodLimit => write_bytes(out, b"refused: period above 4611686018427387904\n"),
         Refusal::BoundLimit => write_bytes(out, b"refused: bound above 4611686018427387904\n"),
+        Refusal::TokenForm => write_bytes(out, b"refused: token form\n"),
+        Refusal::TokenShape => write_bytes(out, b"refused: token shape\n"),
+        Refusal::TokenStale => write_bytes(out, b"refused: token stale\n"),
         Refusal::Memory => write_bytes(out, b"refused: memory\n"),
         Refusal::Unbuilt => write_bytes(out, b"refused: unbuilt\n"),
     }

@@ -1,7 +1,6 @@
 -- The bytes that were read, or why none were.
-use Rattle.std.proofs.Common.{Err, ap, arith, subst}
+use Rattle.std.proofs.Common.{Err, ap, arith}
 use Rattle.lrp_top.proofs.FileLemmas.{few_given, long_database, no_memory, unread_database}
-use Rattle.lrp_top.specs.Due.{IsReadOf}
 use Rattle.lrp_top.specs.Seen.{seen_of}
 use Rattle.lrp_top.proofs.files.database_of.Goals as goal
 
@@ -11,7 +10,7 @@ returns-in-Ok-clause-read g c =
     record {
       bytes = c.in-Ok.bytes;
       told = λ held e. c.in-Ok.ensures.whole held e;
-      is = subst (λ bytes. IsReadOf seen c.args.name.now bytes c.read.result) c.as_slice.ensures (c.read.ensures seen c.args.name.now);
+      is = c.read.ensures seen c.args.name.now;
     }
 
 pub returns-in-Ok-clause-long : goal.returns-in-Ok-clause-long

@@ -1,8 +1,6 @@
 -- The bytes that were read, or why none were.
-use Rattle.std.proofs.Common.{Err, ap, arith, subst}
+use Rattle.std.proofs.Common.{Err, ap, arith}
 use Rattle.lrp_top.proofs.FileLemmas.{few_given, long_query, no_query_memory, unread_query}
-use Rattle.lrp_top.specs.Due.{IsAskedOf}
-use Rattle.lrp_top.specs.Questions.{asked_as}
 use Rattle.lrp_top.specs.Seen.{seen_of}
 use Rattle.lrp_top.proofs.files.query_of.Goals as goal
 
@@ -12,7 +10,7 @@ returns-in-Ok-clause-asked g c =
     record {
       bytes = c.in-Ok.bytes;
       told = λ held e. c.in-Ok.ensures.whole held e;
-      is = subst (λ bytes. IsAskedOf c.args.database.now seen c.args.name.now bytes (asked_as c.sorted.result)) c.as_slice.ensures (c.sorted.ensures.asked seen c.args.name.now);
+      is = c.sorted.ensures.asked seen c.args.name.now;
     }
 
 pub returns-in-Ok-clause-long : goal.returns-in-Ok-clause-long

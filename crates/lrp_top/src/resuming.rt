@@ -1,0 +1,60 @@
+// Where a page begins: behind the tuple of a token, where there is one.
+ghost use Rattle.std.specs.Prelude.{◌≡◌, ◌≤◌, count_by};
+ghost use Rattle.lrp_model.specs.Plans.{time_columns};
+ghost use Rattle.lrp_model.specs.Sorts.{is_data, is_time};
+ghost use Rattle.lrp_words.specs.Commands.{text_of};
+ghost use Rattle.lrp_top.specs.Resuming.{IsResumed, data_columns, resumed_as, shape_of as shape_of_head};
+
+use crate::outcome::Refusal;
+use lrp_model::{Column, Shape, Tuple};
+use lrp_token::read_token;
+use std::alloc::Global;
+
+/// The tuple of a token for this head and the files of this digest, or why the token is refused.
+pub fn resumed(
+    alloc: Global,
+    after: Option<&str>,
+    digest: &[u8; 32],
+    head: &[Column],
+) -> Result<Option<Tuple>, Refusal>
+    requires times { time_columns head.now ≤ 8 }
+    requires texts { data_columns head.now ≤ 8 }
+    ensures resumed { IsResumed digest.now head.now (text_of after.entry) (resumed_as head.now result) }
+{
+    let Some(token) = after else {
+        return Ok(None);
+    };
+    let resume = read_token(alloc, token, shape_of(head))?;
+    match resume.digest {
+        Some(told) if told != *digest => Err(Refusal::TokenStale),
+        _ => Ok(Some(resume.tuple)),
+    }
+}
+
+/// How many time columns and how many data columns a head has.
+fn shape_of(head: &[Column]) -> Shape
+    requires times { time_columns head.now ≤ 8 }
+    requires texts { data_columns head.now ≤ 8 }
+    ensures { result ≡ shape_of_head head.now }
+{
+    let times = times_of(head);
+    let texts = texts_of(head);
+    Shape {
+        times: times as u8,
+        texts: texts as u8,
+    }
+}
+
+/// How many time columns a head has.
+fn times_of(head: &[Column]) -> usize
+    ensures { result ≡ count_by (λ column. is_time column.sort) head.now }
+{
+    head.iter().filter(|column| column.sort.is_time()).count()
+}
+
+/// How many data columns a head has.
+fn texts_of(head: &[Column]) -> usize
+    ensures { result ≡ count_by (λ column. is_data column.sort) head.now }
+{
+    head.iter().filter(|column| !column.sort.is_time()).count()
+}
