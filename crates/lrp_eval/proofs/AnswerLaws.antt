@@ -1,0 +1,162 @@
+-- The last table has exactly the answers.
+use Rattle.std.proofs.Common.{◌≡◌, ◌↔◌, ◌≢◌, Bool, true, false, cond, ℕ, List, [], ◌∷◌, length, Contains, refl, sym, ap, ap₂, subst, ◌∙◌, map, bytes_eq}
+use Rattle.std.specs.List.{AllByRecursion, AllZip}
+use Rattle.std.specs.Cmp.Lexicographic.{bytes_decides}
+use Rattle.lrp_model.specs.Texts.{Text, Identifier}
+use Rattle.lrp_model.specs.Rows.{Datum, time, text, times_of, texts_of}
+use Rattle.lrp_model.specs.Formulas.{Question}
+use Rattle.lrp_model.specs.Core.{guarded, has_named_sort}
+use Rattle.lrp_model.specs.Domains.{constants}
+use Rattle.lrp_model.specs.Satisfaction.{Assignment, Satisfies, structure, IsOfKind, IsOfSort, IsAnswer, HasShape, HaveNames, assign, assignment, with_value}
+use Rattle.lrp_model.specs.Steps.{step_behind, formula_at}
+use Rattle.lrp_model.specs.Plans.{plan, core_steps}
+use Rattle.lrp_model.specs.declared.relations.Sort.{Sort}
+use Rattle.lrp_model.specs.declared.relations.Sort.TheVariants.{Time, Data, Named}
+use Rattle.lrp_model.specs.declared.relations.Column.{Column}
+use Rattle.lrp_model.specs.declared.relations.Relation.{Relation}
+use Rattle.lrp_model.specs.declared.plans.Plan.{Plan}
+use Rattle.lrp_model.specs.declared.plans.StepKind.TheVariants.{Extend}
+use Rattle.lrp_store.specs.Tables.{StoreHolds}
+use Rattle.lrp_store.specs.declared.table.Table.{Table}
+use Rattle.lrp_tables.specs.Columns.{time_name, text_name, head_times, head_texts}
+use Rattle.lrp_tables.specs.Tables.{Has}
+use Rattle.lrp_tables.proofs.Numbers.{texts_known, all_mapped}
+use Rattle.lrp_plan_laws.specs.Settled.{IsSoundPlan}
+use Rattle.lrp_plan_laws.proofs.Elements.{step_made}
+use Rattle.lrp_plan_laws.proofs.SettledLaws.{sound}
+use Rattle.lrp_eval.specs.Planned.{IsPlanOf, HasAnswers}
+use Rattle.lrp_eval.specs.Running.{HasConstants, variables_of, IsLastRun}
+use Rattle.lrp_eval.proofs.Named.{texts_are}
+
+-- ---- a tuple's values are those of its assignment
+
+own : {A : Type 0} (v : Identifier) (x y : A) → cond (bytes_eq v v) x y ≡ x
+own v x y = ap (λ b. cond b x y) ((bytes_decides v v).1 refl)
+
+is_other : (b : Bool) (v w : Identifier) → bytes_eq v w ≡ b → w ≢ v → b ≡ false
+is_other true v w e n = absurd (n (sym ((bytes_decides v w).0 e)))
+is_other false v w e n = refl
+
+another : {A : Type 0} (v w : Identifier) (x y : A) → w ≢ v → cond (bytes_eq v w) x y ≡ y
+another v w x y n = ap (λ b. cond b x y) (is_other (bytes_eq v w) v w refl n)
+
+other_time : (v w : Identifier) (d : Datum) (env : Assignment) → w ≢ v → (with_value v d env).times w ≡ env.times w
+other_time v w (time x) env n = another v w x (env.times w) n
+other_time v w (text t) env n = refl
+
+other_text : (v w : Identifier) (d : Datum) (env : Assignment) → w ≢ v → (with_value v d env).texts w ≡ env.texts w
+other_text v w (time x) env n = refl
+other_text v w (text t) env n = another v w t (env.texts w) n
+
+keeps_time : (cs : List Column) (ds : List Datum) (env : Assignment) (w : Identifier) → AllByRecursion (λ c. w ≢ c.name) cs → (assign cs ds env).times w ≡ env.times w
+keeps_time [] [] env w h = refl
+keeps_time [] (d ∷ ds) env w h = refl
+keeps_time (c ∷ cs) [] env w h = refl
+keeps_time (c ∷ cs) (d ∷ ds) env w h = keeps_time cs ds (with_value c.name d env) w h.1 ∙ other_time c.name w d env h.0
+
+keeps_text : (cs : List Column) (ds : List Datum) (env : Assignment) (w : Identifier) → AllByRecursion (λ c. w ≢ c.name) cs → (assign cs ds env).texts w ≡ env.texts w
+keeps_text [] [] env w h = refl
+keeps_text [] (d ∷ ds) env w h = refl
+keeps_text (c ∷ cs) [] env w h = refl
+keeps_text (c ∷ cs) (d ∷ ds) env w h = keeps_text cs ds (with_value c.name d env) w h.1 ∙ other_text c.name w d env h.0
+
+first_time : (s : Sort) (v : Identifier) (d : Datum) (ds : List Datum) (env last : Assignment) (names : List Identifier) → IsOfKind s d → last.times v ≡ (with_value v d env).times v → map last.times names ≡ times_of ds → map last.times (time_name s v names) ≡ times_of (d ∷ ds)
+first_time Time v (time x) ds env last names k e r = ap₂ (λ a l. a ∷ l) (e ∙ own v x (env.times v)) r
+first_time Time v (text t) ds env last names k e r = absurd k
+first_time Data v (time x) ds env last names k e r = absurd k
+first_time Data v (text t) ds env last names k e r = r
+first_time (Named name) v (time x) ds env last names k e r = absurd k
+first_time (Named name) v (text t) ds env last names k e r = r
+
+first_text : (s : Sort) (v : Identifier) (d : Datum) (ds : List Datum) (env last : Assignment) (names : List Identifier) → IsOfKind s d → last.texts v ≡ (with_value v d env).texts v → map last.texts names ≡ texts_of ds → map last.texts (text_name s v names) ≡ texts_of (d ∷ ds)
+first_text Time v (time x) ds env last names k e r = r
+first_text Time v (text t) ds env last names k e r = absurd k
+first_text Data v (time x) ds env last names k e r = absurd k
+first_text Data v (text t) ds env last names k e r = ap₂ (λ a l. a ∷ l) (e ∙ own v t (env.texts v)) r
+first_text (Named name) v (time x) ds env last names k e r = absurd k
+first_text (Named name) v (text t) ds env last names k e r = ap₂ (λ a l. a ∷ l) (e ∙ own v t (env.texts v)) r
+
+tuple_times : (cs : List Column) (ds : List Datum) (env : Assignment) → HaveNames cs → HasShape cs ds → map (assign cs ds env).times (head_times cs) ≡ times_of ds
+tuple_times [] [] env n k = refl
+tuple_times [] (d ∷ ds) env n k = absurd k
+tuple_times (c ∷ cs) [] env n k = absurd k
+tuple_times (c ∷ cs) (d ∷ ds) env n k = first_time c.sort c.name d ds env (assign cs ds (with_value c.name d env)) (head_times cs) k.0 (keeps_time cs ds (with_value c.name d env) c.name n.0) (tuple_times cs ds (with_value c.name d env) n.1 k.1)
+
+tuple_texts : (cs : List Column) (ds : List Datum) (env : Assignment) → HaveNames cs → HasShape cs ds → map (assign cs ds env).texts (head_texts cs) ≡ texts_of ds
+tuple_texts [] [] env n k = refl
+tuple_texts [] (d ∷ ds) env n k = absurd k
+tuple_texts (c ∷ cs) [] env n k = absurd k
+tuple_texts (c ∷ cs) (d ∷ ds) env n k = first_text c.sort c.name d ds env (assign cs ds (with_value c.name d env)) (head_texts cs) k.0 (keeps_text cs ds (with_value c.name d env) c.name n.0) (tuple_texts cs ds (with_value c.name d env) n.1 k.1)
+
+-- ---- an answer has values of the kinds of its columns, and its texts are constants
+
+of_kind : (db : List Relation) (q : Question) (s : Sort) (d : Datum) → IsOfSort (structure db q) s d → IsOfKind s d
+of_kind db q Time (time x) h = tt
+of_kind db q Time (text t) h = h
+of_kind db q Data (time x) h = h
+of_kind db q Data (text t) h = tt
+of_kind db q (Named name) (time x) h = h
+of_kind db q (Named name) (text t) h = tt
+
+shape_of : (db : List Relation) (q : Question) (cs : List Column) (ds : List Datum) → AllZip (λ c d. IsOfSort (structure db q) c.sort d) cs ds → HasShape cs ds
+shape_of db q [] [] h = tt
+shape_of db q [] (d ∷ ds) h = absurd h
+shape_of db q (c ∷ cs) [] h = absurd h
+shape_of db q (c ∷ cs) (d ∷ ds) h = (of_kind db q c.sort d h.0, shape_of db q cs ds h.1)
+
+one_sort : (db : List Relation) (q : Question) → IsSoundPlan db q → (s : Sort) (t : Text) → IsOfSort (structure db q) s (text t) → Contains (constants db q) t
+one_sort db q h Time t k = absurd k
+one_sort db q h Data t k = h.sorts Data t k
+one_sort db q h (Named name) t k = h.sorts (Named name) t k
+
+fits_known : (db : List Relation) (q : Question) → IsSoundPlan db q → (cs : List Column) (ds : List Datum) → AllZip (λ c d. IsOfSort (structure db q) c.sort d) cs ds → AllByRecursion (Contains (constants db q)) (texts_of ds)
+fits_known db q p [] [] h = tt
+fits_known db q p [] (d ∷ ds) h = absurd h
+fits_known db q p (c ∷ cs) [] h = absurd h
+fits_known db q p (c ∷ cs) (time x ∷ ds) h = fits_known db q p cs ds h.1
+fits_known db q p (c ∷ cs) (text t ∷ ds) h = (one_sort db q p c.sort t h.0, fits_known db q p cs ds h.1)
+
+-- ---- the last table
+
+module _ (db : List Relation) (q : Question) (p : Plan) (h : IsPlanOf db q p) (cap : ℕ) (table : Table) (r : IsLastRun db q cap table) where
+  sound_plan : IsSoundPlan db q
+  sound_plan = sound db q h.settled
+
+  ordered : (table.vars.times ≡ head_times q.head) × (table.vars.texts ≡ head_texts q.head)
+  ordered = r.run.order (step_behind (structure db q) (Extend (length (core_steps db q))) (guarded (has_named_sort db) q.head q.body) (core_steps db q)) (length (core_steps db q))
+      (step_made (structure db q) (Extend (length (core_steps db q))) (guarded (has_named_sort db) q.head q.body) (core_steps db q)) refl
+
+  is_table : (tuple : List Datum) → HasShape q.head tuple → Has table (constants db q) (assignment q.head tuple) ↔ StoreHolds (constants db q) table.store (times_of tuple) (texts_of tuple)
+  is_table tuple k =
+      let a : map (assignment q.head tuple).times table.vars.times ≡ times_of tuple = ap (map (assignment q.head tuple).times) ordered.0 ∙ tuple_times q.head tuple _ h.settled.names k in
+      let b : map (assignment q.head tuple).texts table.vars.texts ≡ texts_of tuple = ap (map (assignment q.head tuple).texts) ordered.1 ∙ tuple_texts q.head tuple _ h.settled.names k in (
+        (λ x. subst (λ l. StoreHolds (constants db q) table.store (times_of tuple) l) b (subst (λ l. StoreHolds (constants db q) table.store l (map (assignment q.head tuple).texts table.vars.texts)) a x)),
+        λ x. subst (λ l. StoreHolds (constants db q) table.store l (map (assignment q.head tuple).texts table.vars.texts)) (sym a) (subst (λ l. StoreHolds (constants db q) table.store (times_of tuple) l) (sym b) x),
+      )
+
+  known : (tuple : List Datum) → HasShape q.head tuple → AllByRecursion (Contains (constants db q)) (texts_of tuple) → HasConstants (constants db q) (variables_of table) (assignment q.head tuple)
+  known tuple k c =
+      let b : map (assignment q.head tuple).texts table.vars.texts ≡ texts_of tuple = ap (map (assignment q.head tuple).texts) ordered.1 ∙ tuple_texts q.head tuple _ h.settled.names k in
+      texts_are (constants db q) table.vars.times table.vars.texts (assignment q.head tuple)
+      ((all_mapped (assignment q.head tuple).texts (Contains (constants db q)) table.vars.texts).0 (subst (λ l. AllByRecursion (Contains (constants db q)) l) (sym b) c))
+
+  holds : (tuple : List Datum) → HasShape q.head tuple → AllByRecursion (Contains (constants db q)) (texts_of tuple) → StoreHolds (constants db q) table.store (times_of tuple) (texts_of tuple) ↔ IsAnswer db q tuple
+  holds tuple k c =
+      let t = is_table tuple k in
+      let m : Has table (constants db q) (assignment q.head tuple) ↔ Satisfies (formula_at (plan db q) (length (plan db q))) (structure db q) (assignment q.head tuple) = r.run.means (assignment q.head tuple) (known tuple k c) in
+      let a : Satisfies (formula_at (plan db q) (length (plan db q))) (structure db q) (assignment q.head tuple) ↔ IsAnswer db q tuple = sound_plan.answers tuple k c in
+      ((λ x. a.0 (m.0 (t.1 x))), λ x. t.0 (m.1 (a.1 x)))
+
+  pub has_answers : HasAnswers db q cap table
+  has_answers = record {
+    times = ordered.0;
+    texts = ordered.1;
+    answers = λ tuple. (
+      (λ x. (holds tuple x.shape (texts_known (constants db q) x.held.0 (texts_of tuple) x.held.1)).0 x.held),
+      λ a. let k : HasShape q.head tuple = shape_of db q q.head tuple a.fits in record { shape = k; held = (holds tuple k (fits_known db q sound_plan q.head tuple a.fits)).1 a },
+    );
+    numbered = r.run.numbered;
+    period = r.run.period;
+    reach = r.run.reach;
+    few = r.few;
+  }

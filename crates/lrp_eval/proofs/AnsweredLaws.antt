@@ -1,0 +1,211 @@
+-- The settled store has the tuples of the last table.
+use Rattle.std.proofs.Common.{◌≡◌, ◌↔◌, ◌≤◌, ◌<◌, ◌+◌, ◌*◌, ◌^◌, ℕ, zero, suc, cond, List, [], ◌∷◌, length, take, filter, Option, Some, None, IsSome, unwrap_or, option_map, Contains, refl, sym, ap, ap₂, subst, ◌∙◌, arith, to_z, of_z, w64}
+use Rattle.std.proofs.Math.Nat.{pow-succ', mul-le-mul_right, mul-le-mul_left}
+use Rattle.std.proofs.lemmas.Int.{ints}
+use Rattle.std.specs.Prelude.{ℤ, pos, neg_ℤ, ◌≤ℤ◌}
+use Rattle.std.specs.FinMap as finite
+use Rattle.lrp_theory.specs.Entries.{AtMost}
+use Rattle.lrp_model.specs.Texts.{Text, Identifier}
+use Rattle.lrp_model.specs.Rows.{Datum, times_of}
+use Rattle.lrp_model.specs.Formulas.{Question}
+use Rattle.lrp_model.specs.Core.{guarded, has_named_sort}
+use Rattle.lrp_model.specs.Domains.{constants, same_sort}
+use Rattle.lrp_model.specs.Satisfaction.{IsAnswer, structure}
+use Rattle.lrp_model.specs.Steps.{PlanStep, step_behind, step_at}
+use Rattle.lrp_model.specs.Plans.{plan, core_steps, query_reach, time_columns}
+use Rattle.lrp_model.specs.declared.relations.Sort.{Sort}
+use Rattle.lrp_model.specs.declared.relations.Sort.TheVariants.{Time, Data, Named}
+use Rattle.lrp_model.specs.declared.relations.Column.{Column}
+use Rattle.lrp_model.specs.declared.relations.Relation.{Relation}
+use Rattle.lrp_model.specs.declared.plans.Plan.{Plan}
+use Rattle.lrp_model.specs.declared.plans.StepKind.TheVariants.{Extend}
+use Rattle.lrp_model.specs.declared.tuples.Cell.{Cell}
+use Rattle.lrp_model.proofs.Decided.{contains_first, contains_none}
+use Rattle.lrp_zone.specs.Zones.{ZoneView, IsMember, columns_of, reach_of}
+use Rattle.lrp_zone.specs.Pairs.{IsOfCell}
+use Rattle.lrp_store.specs.Stores.{StoreView, InStore, HasReach, zone_of, tables_at, zones_at}
+use Rattle.lrp_store.specs.Settled.{AreSettled, InSome}
+use Rattle.lrp_store.specs.Tables.{AreNumbered, InAnswer}
+use Rattle.lrp_store.specs.declared.table.Table.{Table}
+use Rattle.lrp_store.specs.declared.answer.Answer.{Answer}
+use Rattle.lrp_tables.specs.Columns.{time_name, text_name, head_times, head_texts}
+use Rattle.lrp_minus.specs.Settling.{IsSettlement, IsSmallZone}
+use Rattle.lrp_minus.specs.Differences.{greatest_reach}
+use Rattle.lrp_minus.proofs.Lists.{greatest_below}
+use Rattle.lrp_plan_laws.specs.Rising.{period_at}
+use Rattle.lrp_plan_laws.proofs.Elements.{step_made}
+use Rattle.lrp_plan_laws.proofs.SettledLaws.{sound}
+use Rattle.lrp_eval.specs.Planned.{IsPlanOf, HasAnswers}
+use Rattle.lrp_eval.specs.Settling.{CanSettle, IsSettledStore}
+use Rattle.lrp_eval.specs.Answered.{IsAnswerOf}
+use Rattle.lrp_eval.proofs.SettleLaws.{table_of, zone_in}
+
+-- ---- columns of a head
+
+one_time : (s : Sort) (c : Column) (fs : List Column) (v : Identifier) (ns : List Identifier) → length fs ≡ length ns → length (cond (same_sort s Time) (c ∷ fs) fs) ≡ length (time_name s v ns)
+one_time Time c fs v ns e = ap suc e
+one_time Data c fs v ns e = e
+one_time (Named name) c fs v ns e = e
+
+pub times_counted : (cs : List Column) → time_columns cs ≡ length (head_times cs)
+times_counted [] = refl
+times_counted (c ∷ cs) = one_time c.sort c (filter (λ d. same_sort d.sort Time) cs) c.name (head_times cs) (times_counted cs)
+
+one_column : (s : Sort) (n : ℕ) (v : Identifier) (ns ms : List Identifier) → n ≡ length ns + length ms → suc n ≡ length (time_name s v ns) + length (text_name s v ms)
+one_column Time n v ns ms e = omega arith
+one_column Data n v ns ms e = omega arith
+one_column (Named name) n v ns ms e = omega arith
+
+pub columns_counted : (cs : List Column) → length cs ≡ length (head_times cs) + length (head_texts cs)
+columns_counted [] = refl
+columns_counted (c ∷ cs) = one_column c.sort (length cs) c.name (head_times cs) (head_texts cs) (columns_counted cs)
+
+-- ---- bounds
+
+fewer : {X : Type 0} (n : ℕ) (xs : List X) → length (take n xs) ≤ n
+fewer zero [] = omega arith
+fewer zero (x ∷ xs) = omega arith
+fewer (suc n) [] = omega arith
+fewer (suc n) (x ∷ xs) = let r : length (take n xs) ≤ n = fewer n xs in omega arith
+
+at_most : (o : Option ℤ) (low high : ℕ) → low ≤ high → AtMost low o → AtMost high o
+at_most None low high le h = tt
+at_most (Some a) low high le h = let p : neg_ℤ (pos low) ≤ℤ a = h.0 in let q : a ≤ℤ pos low = h.1 in (omega (arith, ints), omega (arith, ints))
+
+more_small : (z : ZoneView) (low high : ℕ) → low ≤ high → IsSmallZone z low → IsSmallZone z high
+more_small z low high le h = record {
+  stored = let s = h.stored in omega arith;
+  closed = λ m c same. let k = h.closed m c same in record { each = λ i j a b n. at_most _ low high le (k.each i j a b n) };
+}
+
+power : (m : ℕ) → m + 1 ≤ 2 ^ (m + 1)
+power zero = omega arith
+power (suc m) = let r : m + 1 ≤ 2 ^ (m + 1) = power m in let e : 2 ^ (suc m + 1) ≡ 2 * 2 ^ (m + 1) = ap (λ i. 2 ^ i) (omega arith) ∙ pow-succ' 2 (m + 1) in omega arith
+
+room : (c m r R K : ℕ) → c ≤ m → r ≤ R → K ≤ R → 2 ^ (m + 1) * R ≤ 2 ^ 62 → c * r + K ≤ 2 ^ 62
+room c m r R K cm rR KR h =
+    let a : c * r ≤ c * R = mul-le-mul_left c rR in
+    let b : c * R ≤ m * R = mul-le-mul_right R cm in
+    let d : (m + 1) * R ≤ 2 ^ (m + 1) * R = mul-le-mul_right R (power m) in
+    omega arith
+
+-- ---- the same cells
+
+settled_as : (z w : ZoneView) (zs : List ZoneView) → IsOfCell z w → AreSettled z zs → AreSettled w zs
+settled_as z w zs o h =
+    let e : columns_of z ≡ columns_of w = ap length (sym o.residues) in
+    record {
+      none = λ k. h.none (e ∙ k);
+      one = λ k. h.one (e ∙ k);
+      more = λ lt.
+          let m = h.more (subst (λ n. 1 < n) (sym e) lt) in (
+            (λ l. let x = m.0 l in (x.0, record { period = x.1.period ∙ sym o.period; residues = x.1.residues ∙ sym o.residues }, x.2)),
+            λ x. m.1 (x.0, record { period = x.1.period ∙ o.period; residues = x.1.residues ∙ o.residues }, x.2),
+          );
+    }
+
+module _ (old new : StoreView) (h : IsSettledStore old new) where
+  some_zone : (cell : Cell) (w : ZoneView) → Contains (zones_at new cell) w → (ts : List (List (Option ℤ))) → tables_at old cell ≡ ts → (z : ZoneView) × Contains (zones_at old cell) z
+  some_zone cell w c [] e = absurd (let t = table_of new cell (tables_at new cell) w c in contains_none t.0 (subst (λ l. Contains l t.0) (h.only cell e) t.1))
+  some_zone cell w c (t ∷ ts) e = (zone_of old cell t, zone_in old cell (tables_at old cell) t (subst (λ l. Contains l t) (sym e) (contains_first t ts)))
+
+  settlement : (cell : Cell) (w : ZoneView) → Contains (zones_at new cell) w → (z : ZoneView) × Contains (zones_at old cell) z × IsSettlement z (zones_at old cell) (zones_at new cell)
+  settlement cell w c = let z = some_zone cell w c (tables_at old cell) refl in (z.0, z.1, h.cells cell z.0 z.1)
+
+  to_old : (times : List ℤ) (texts : List ℕ) → InStore new times texts → InStore old times texts
+  to_old times texts i =
+      let w : Contains (zones_at new i.cell) (zone_of new i.cell i.table) = zone_in new i.cell (tables_at new i.cell) i.table i.held in
+      let s = settlement i.cell (zone_of new i.cell i.table) w in
+      let x : InSome (zones_at old i.cell) times = s.2.to times (record { zone = zone_of new i.cell i.table; listed = w; inside = i.inside }) in
+      let t = table_of old i.cell (tables_at old i.cell) x.zone x.listed in
+      record { cell = i.cell; table = t.0; held = t.1; named = ap (λ sh. take sh.texts i.cell.texts) (sym h.shape) ∙ i.named; inside = subst (λ (z : ZoneView). IsMember z times) (sym t.2) x.inside }
+
+  to_new : (times : List ℤ) (texts : List ℕ) → InStore old times texts → InStore new times texts
+  to_new times texts i =
+      let w : Contains (zones_at old i.cell) (zone_of old i.cell i.table) = zone_in old i.cell (tables_at old i.cell) i.table i.held in
+      let x : InSome (zones_at new i.cell) times = (h.cells i.cell (zone_of old i.cell i.table) w).from times (record { zone = zone_of old i.cell i.table; listed = w; inside = i.inside }) in
+      let t = table_of new i.cell (tables_at new i.cell) x.zone x.listed in
+      record { cell = i.cell; table = t.0; held = t.1; named = ap (λ sh. take sh.texts i.cell.texts) h.shape ∙ i.named; inside = subst (λ (z : ZoneView). IsMember z times) (sym t.2) x.inside }
+
+  same_answers : (columns : List Column) (domain : List Text) (tuple : List Datum) → InAnswer columns domain new tuple ↔ InAnswer columns domain old tuple
+  same_answers columns domain tuple = (
+    (λ a. record { shape = a.shape; held = (a.held.0, a.held.1, to_old (times_of tuple) a.held.0 a.held.2) }),
+    λ a. record { shape = a.shape; held = (a.held.0, a.held.1, to_new (times_of tuple) a.held.0 a.held.2) },
+  )
+
+  held_in_old : (cell : Cell) (o p : Option (List (List (Option ℤ)))) → finite.get new.tables cell ≡ o → finite.get old.tables cell ≡ p → IsSome o → IsSome p
+  held_in_old cell None p e f s = cc
+  held_in_old cell (Some ts) (Some us) e f s = refl
+  held_in_old cell (Some ts) None e f s = absurd ((h.valid.cells cell ts e).some (sym (ap (λ o. unwrap_or o []) e) ∙ h.only cell (ap (λ o. unwrap_or o []) f)))
+
+  pub numbered_new : (domain : List Text) → AreNumbered domain old → AreNumbered domain new
+  numbered_new domain n cell i s lt = n cell i (held_in_old cell (finite.get new.tables cell) (finite.get old.tables cell) refl refl s) (subst (λ sh. i < sh.texts) h.shape lt)
+
+  pub settled_new : (cell : Cell) (w : ZoneView) → Contains (zones_at new cell) w → AreSettled w (zones_at new cell)
+  settled_new cell w c = let s = settlement cell w c in settled_as s.0 w (zones_at new cell) (s.2.zones w c).1 s.2.settled
+
+  small_new : (m R : ℕ) → old.shape.times ≡ m → HasReach old R → (cell : Cell) (w : ZoneView) → Contains (zones_at new cell) w → IsSmallZone w (m * R)
+  small_new m R e r cell w c =
+      let s = settlement cell w c in
+      let t = table_of old cell (tables_at old cell) s.0 s.1 in
+      let g : greatest_reach (zones_at old cell) ≤ R = greatest_below (zones_at old cell) R (λ z k. let u = table_of old cell (tables_at old cell) z k in subst (λ (v : ZoneView). reach_of v ≤ R) u.2 (r.each cell u.0 u.1)) in
+      let f : columns_of s.0 ≤ m = subst (λ n. columns_of s.0 ≤ n) e (subst (λ (v : ZoneView). columns_of v ≤ old.shape.times) t.2 (fewer old.shape.times cell.residues)) in
+      let a : columns_of s.0 * greatest_reach (zones_at old cell) ≤ columns_of s.0 * R = mul-le-mul_left (columns_of s.0) g in
+      let b : columns_of s.0 * R ≤ m * R = mul-le-mul_right R f in
+      more_small w (columns_of s.0 * greatest_reach (zones_at old cell)) (m * R) (omega arith) (s.2.small w c)
+
+-- ---- the answer
+
+module _ (db : List Relation) (q : Question) (p : Plan) (h : IsPlanOf db q p) (cap : ℕ) (table : Table) (a : HasAnswers db q cap table) (times : length table.vars.times ≡ table.store.shape.times) (texts : length table.vars.texts ≡ table.store.shape.texts) where
+  abbrev last : PlanStep
+  last = step_behind (structure db q) (Extend (length (core_steps db q))) (guarded (has_named_sort db) q.head q.body) (core_steps db q)
+
+  at_last : step_at (plan db q) (length (plan db q)) ≡ Some last
+  at_last = step_made (structure db q) (Extend (length (core_steps db q))) (guarded (has_named_sort db) q.head q.body) (core_steps db q)
+
+  wide : period_at (plan db q) (length (plan db q)) ≤ query_reach db q
+  wide =
+      let w = ((sound db q h.settled).steps (length (plan db q)) last at_last).rises.wide in
+      let k : period_at (plan db q) (length (plan db q)) ≡ last.period = ap (λ o. unwrap_or (option_map (λ step. step.period) o) 1) at_last in
+      let r : query_reach db q ≡ last.reach = ap (λ o. unwrap_or (option_map (λ step. step.reach) o) 0) at_last in
+      omega (arith, w, k, r)
+
+  times_are : time_columns q.head ≡ table.store.shape.times
+  times_are = times_counted q.head ∙ ap length (sym a.times) ∙ times
+
+  pub can_settle : CanSettle table.store
+  can_settle cell z k =
+      let t = table_of table.store cell (tables_at table.store cell) z k in
+      subst (λ (v : ZoneView). columns_of v * reach_of v + v.period ≤ 2 ^ 62) t.2
+      (room (length (take table.store.shape.times cell.residues)) (time_columns q.head) (reach_of (zone_of table.store cell t.0)) (query_reach db q) table.store.period
+      (subst (λ n. length (take table.store.shape.times cell.residues) ≤ n) (sym times_are) (fewer table.store.shape.times cell.residues)) (a.reach.each cell t.0 t.1) (subst (λ k. k ≤ query_reach db q) (sym a.period) wide) h.reach)
+
+  module _ (store : StoreView) (s : IsSettledStore table.store store) where
+    pub head_times_are : time_columns q.head ≡ store.shape.times
+    head_times_are = times_are ∙ ap (λ sh. sh.times) (sym s.shape)
+
+    pub head_columns_are : length q.head ≡ store.shape.times + store.shape.texts
+    head_columns_are =
+        columns_counted q.head ∙ ap₂ (λ m n. m + n) (ap length (sym a.times) ∙ times ∙ ap (λ sh. sh.times) (sym s.shape)) (ap length (sym a.texts) ∙ texts ∙ ap (λ sh. sh.texts) (sym s.shape))
+
+    pub numbered_store : AreNumbered p.domain store
+    numbered_store = subst (λ d. AreNumbered d store) (sym h.is.domain) (numbered_new table.store store s (constants db q) a.numbered)
+
+    pub answer_of : (made : Answer) → made.head.columns ≡ q.head → made.domain ≡ constants db q → made.period ≡ pos store.period → made.store ≡ store → IsAnswerOf db q cap made
+    answer_of made head domain period same = record {
+      head = head;
+      domain = domain;
+      period = period ∙ ap pos (s.period_is ∙ a.period);
+      answers = λ tuple.
+          subst (λ st. InAnswer made.head.columns made.domain st tuple ↔ IsAnswer db q tuple) (sym same)
+          (subst (λ cs. InAnswer cs made.domain store tuple ↔ IsAnswer db q tuple) (sym head) (subst (λ d. InAnswer q.head d store tuple ↔ IsAnswer db q tuple) (sym domain)
+          (let x = same_answers table.store store s q.head (constants db q) tuple in let y = a.answers tuple in ((λ i. y.0 (x.0 i)), λ i. x.1 (y.1 i)))));
+      settled = subst (λ st. (cell : Cell) (z : ZoneView) → Contains (zones_at st cell) z → AreSettled z (zones_at st cell)) (sym same) (settled_new table.store store s);
+      small = subst (λ st. (cell : Cell) (z : ZoneView) → Contains (zones_at st cell) z → IsSmallZone z (time_columns q.head * query_reach db q)) (sym same)
+          (small_new table.store store s (time_columns q.head) (query_reach db q) (sym times_are) a.reach);
+      few = a.few;
+    }
+
+-- a period of 63 bits is its word
+pub word_is : (p : ℕ) (z : ℤ) → z ≡ pos p → p ≤ 2 ^ 62 → to_z w64 (of_z w64 z) ≡ pos p
+word_is p z e h = omega (arith, ints)

@@ -1,0 +1,118 @@
+-- The steps that drop a variable: each has no more cells than the table that it reads.
+use Rattle.std.proofs.Common.{◌≡◌, ◌^◌, ℕ, suc, List, length, sym, subst, ◌∙◌, arith}
+use Rattle.std.specs.Prelude.{ℤ}
+use Rattle.lrp_model.specs.Texts.{Text, Identifier, Ascends}
+use Rattle.lrp_model.specs.Formulas.{Question, exists}
+use Rattle.lrp_model.specs.Variables.{time_variable, data_variable}
+use Rattle.lrp_model.specs.Satisfaction.{structure}
+use Rattle.lrp_model.specs.Domains.{constants}
+use Rattle.lrp_model.specs.Steps.{formula_at, reach_at}
+use Rattle.lrp_model.specs.Plans.{plan}
+use Rattle.lrp_model.specs.declared.relations.Sort.{Sort}
+use Rattle.lrp_model.specs.declared.relations.Sort.TheVariants.{Time, Data, Named}
+use Rattle.lrp_model.specs.declared.relations.Relation.{Relation}
+use Rattle.lrp_model.specs.declared.plans.StepKind.TheVariants.{DropTime, DropData, Extend}
+use Rattle.lrp_store.specs.Stores.{IsStore, HasReach}
+use Rattle.lrp_store.specs.declared.table.Table.{Table}
+use Rattle.lrp_tables.specs.Caps.{InhabitsMoreThan}
+use Rattle.lrp_tables.specs.Columns.{others as other_names}
+use Rattle.lrp_tables.specs.Tables.{Has, named_variables}
+use Rattle.lrp_tables.proofs.TableLaws.{decided_table}
+use Rattle.lrp_tables.proofs.DropCounts.{drop_time_counts, drop_data_counts}
+use Rattle.lrp_algebra.specs.Tables.{IsTimeDropped, IsTextDropped}
+use Rattle.lrp_plan_laws.specs.Made.{IsEarlier, IsDataSort}
+use Rattle.lrp_plan_laws.specs.Guards.{IsGuarded}
+use Rattle.lrp_eval.specs.Running.{SameVariables, variables_of, IsRun, IsOperand, IsNext}
+use Rattle.lrp_eval.proofs.Denotes.{Denotes, IsDecided, IsDropData, others, drop_time_keeps, drop_data_keeps, drop_named_keeps}
+use Rattle.lrp_eval.proofs.Named.{time_dropped, text_dropped}
+use Rattle.lrp_eval.proofs.Nexts.{formula_kind, reach_kind, keeps_kind, denotes_of, sound_step, meant, run, run_of, many_read, ascends, no_order, IsMeant}
+use Rattle.lrp_eval.proofs.Reading.{step_small, earlier, reach_within, numbered}
+
+module _ {db : List Relation} {q : Question} {cap : ℕ} {domain : List Text} {tables : List Table} {of : ℕ} {name : Identifier} {period : ℤ} (n : IsNext db q cap domain tables (DropTime of name) period) {table : Table} (o : IsOperand tables of table) where
+  before : IsEarlier (suc (length tables)) of
+  before = (earlier n).0
+
+  pub drop_time_reach : HasReach table.store (2 ^ 61)
+  drop_time_reach = reach_within n o before _ (let e = reach_kind n in let s = step_small n in omega arith)
+
+  other : (l : ℕ) → DropTime of name ≡ Extend l → ⊥
+  other l e = cc
+
+  module _ {made : Table} (valid : IsStore made.store) (d : IsTimeDropped name table made) where
+    variables_are : SameVariables (named_variables (other_names name table.vars.times) table.vars.texts) (others (time_variable name) (variables_of table))
+    variables_are = time_dropped name table.vars.times table.vars.texts
+
+    denotes : Denotes (constants db q) (structure db q) (named_variables (other_names name table.vars.times) table.vars.texts) (Has made domain) n.step.formula
+    denotes =
+        subst (Denotes (constants db q) (structure db q) (named_variables (other_names name table.vars.times) table.vars.texts) (Has made domain)) (sym (formula_kind n))
+        (subst (λ c. Denotes (constants db q) (structure db q) (named_variables (other_names name table.vars.times) table.vars.texts) (Has made c) (exists name Time (formula_at (plan db q) of))) (sym n.domain_is)
+        (drop_time_keeps (constants db q) (structure db q) (variables_of table) (named_variables (other_names name table.vars.times) table.vars.texts) (Has table (constants db q)) (Has made (constants db q)) (formula_at (plan db q) of) name
+        (denotes_of n of table before o) variables_are (λ env. decided_table (constants db q) (subst Ascends n.domain_is (ascends n)) made valid env)
+        (λ env. ((λ h. d.to (constants db q) env h), λ h. d.from (constants db q) env h.0 h.1))))
+
+    is_meant : IsMeant n (named_variables (other_names name table.vars.times) table.vars.texts) (Has made domain)
+    is_meant = meant n _ _ other denotes
+
+    same_period : table.store.period ≡ n.step.period
+    same_period = (run_of n of table before.0 o).period ∙ sym (keeps_kind n)
+
+    few : InhabitsMoreThan cap domain table.store.period (other_names name table.vars.times) table.vars.texts (Has made domain) → ⊥
+    few h = (run_of n of table before.0 o).few (many_read n of table before o table.store.period (run_of n of table before.0 o).period
+        (subst (λ c. InhabitsMoreThan cap c table.store.period table.vars.times table.vars.texts (Has table c)) n.domain_is
+        (drop_time_counts domain table.store.period o.valid.period_low table.vars.times table.vars.texts name (Has made domain) (Has table domain) (λ env m. d.to domain env m) cap h)))
+
+    pub drop_time_run : IsRun db q cap (suc (length tables)) made
+    drop_time_run =
+        run n _ _ (Has made domain) table.store.period is_meant same_period made
+        (record { times_are = d.times; texts_are = d.texts; period_is = d.period; sound = λ env h. h; whole = λ env h. h; numbered = d.numbered domain (numbered n o before) })
+        (subst (λ r. HasReach made.store r) (sym (reach_kind n)) (d.reach (reach_at (plan db q) of) (reach_within n o before (reach_at (plan db q) of) (omega arith)))) few (no_order n other made)
+
+module _ {db : List Relation} {q : Question} {cap : ℕ} {domain : List Text} {tables : List Table} {of : ℕ} {name : Identifier} {period : ℤ} (n : IsNext db q cap domain tables (DropData of name) period) {table : Table} (o : IsOperand tables of table) where
+  text_before : IsEarlier (suc (length tables)) of
+  text_before = (earlier n).0
+
+  text_other : (l : ℕ) → DropData of name ≡ Extend l → ⊥
+  text_other l e = cc
+
+  module _ {made : Table} (valid : IsStore made.store) (d : IsTextDropped domain name table made) where
+    text_variables : SameVariables (named_variables table.vars.times (other_names name table.vars.texts)) (others (data_variable name) (variables_of table))
+    text_variables = text_dropped name table.vars.times table.vars.texts
+
+    is_drop : IsDropData (constants db q) name (Has table (constants db q)) (Has made (constants db q))
+    is_drop = subst (λ c. IsDropData c name (Has table c) (Has made c)) n.domain_is (λ env. ((λ h. d.to env h), λ h. d.from env h.0 h.1 h.2))
+
+    decided : IsDecided (Has made (constants db q))
+    decided env = decided_table (constants db q) (subst Ascends n.domain_is (ascends n)) made valid env
+
+    by_sort : (s : Sort) → IsDataSort s → IsGuarded (constants db q) (structure db q) name s (formula_at (plan db q) of)
+        → Denotes (constants db q) (structure db q) (named_variables table.vars.times (other_names name table.vars.texts)) (Has made (constants db q)) (exists name s (formula_at (plan db q) of))
+    by_sort Time h g = absurd h
+    by_sort Data h g = drop_data_keeps (constants db q) (structure db q) (variables_of table) (named_variables table.vars.times (other_names name table.vars.texts)) (Has table (constants db q)) (Has made (constants db q)) (formula_at (plan db q) of) name
+        (denotes_of n of table text_before o) text_variables decided g is_drop
+    by_sort (Named sort) h g =
+        drop_named_keeps (constants db q) (structure db q) (variables_of table) (named_variables table.vars.times (other_names name table.vars.texts)) (Has table (constants db q)) (Has made (constants db q)) (formula_at (plan db q) of) name sort
+        (denotes_of n of table text_before o) text_variables decided g is_drop
+
+    text_denotes : Denotes (constants db q) (structure db q) (named_variables table.vars.times (other_names name table.vars.texts)) (Has made domain) n.step.formula
+    text_denotes =
+        let f : (s : Sort) × IsDataSort s × (n.step.formula ≡ exists name s (formula_at (plan db q) of)) = formula_kind n in
+        subst (Denotes (constants db q) (structure db q) (named_variables table.vars.times (other_names name table.vars.texts)) (Has made domain)) (sym f.2)
+        (subst (λ c. Denotes (constants db q) (structure db q) (named_variables table.vars.times (other_names name table.vars.texts)) (Has made c) (exists name f.0 (formula_at (plan db q) of))) (sym n.domain_is)
+        (by_sort f.0 f.1 ((sound_step n).guarded of name f.0 (sym n.kind_is) f.1 f.2)))
+
+    text_meant : IsMeant n (named_variables table.vars.times (other_names name table.vars.texts)) (Has made domain)
+    text_meant = meant n _ _ text_other text_denotes
+
+    text_period : table.store.period ≡ n.step.period
+    text_period = (run_of n of table text_before.0 o).period ∙ sym (keeps_kind n)
+
+    text_few : InhabitsMoreThan cap domain table.store.period table.vars.times (other_names name table.vars.texts) (Has made domain) → ⊥
+    text_few h = (run_of n of table text_before.0 o).few (many_read n of table text_before o table.store.period (run_of n of table text_before.0 o).period
+        (subst (λ c. InhabitsMoreThan cap c table.store.period table.vars.times table.vars.texts (Has table c)) n.domain_is
+        (drop_data_counts domain table.store.period o.valid.period_low table.vars.times table.vars.texts name (Has made domain) (Has table domain) (λ env m. d.to env m) cap h)))
+
+    pub drop_data_run : IsRun db q cap (suc (length tables)) made
+    drop_data_run =
+        run n _ _ (Has made domain) table.store.period text_meant text_period made
+        (record { times_are = d.times; texts_are = d.texts; period_is = d.period; sound = λ env h. h; whole = λ env h. h; numbered = d.numbered (numbered n o text_before) })
+        (subst (λ r. HasReach made.store r) (sym (reach_kind n)) (d.reach (reach_at (plan db q) of) (reach_within n o text_before (reach_at (plan db q) of) (omega arith)))) text_few (no_order n text_other made)

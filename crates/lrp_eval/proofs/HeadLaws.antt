@@ -1,0 +1,104 @@
+-- The step `head`.
+use Rattle.std.proofs.Common.{◌≡◌, ◌↔◌, ⊎_elim, ℕ, suc, List, ◌++◌, length, Contains, sym, ap, subst, ◌∙◌, arith}
+use Rattle.std.specs.Prelude.{ℤ}
+use Rattle.lrp_model.specs.Texts.{Text}
+use Rattle.lrp_model.specs.Formulas.{Question}
+use Rattle.lrp_model.specs.Core.{guarded, has_named_sort}
+use Rattle.lrp_model.specs.Variables.{Variable, time_variable, data_variable, free, head_variables}
+use Rattle.lrp_model.specs.Satisfaction.{Assignment, Satisfies, structure}
+use Rattle.lrp_model.specs.Domains.{constants}
+use Rattle.lrp_model.specs.Caps.{ManyAt, step_variables, variables_with}
+use Rattle.lrp_model.specs.Steps.{formula_at, reach_at}
+use Rattle.lrp_model.specs.Plans.{plan, core_steps}
+use Rattle.lrp_model.specs.declared.relations.Relation.{Relation}
+use Rattle.lrp_model.specs.declared.plans.StepKind.TheVariants.{Extend}
+use Rattle.lrp_store.specs.Stores.{HasReach}
+use Rattle.lrp_store.specs.Tables.{AreNumbered}
+use Rattle.lrp_store.specs.declared.table.Table.{Table}
+use Rattle.lrp_tables.specs.Calls.{CanExtend}
+use Rattle.lrp_tables.specs.Caps.{InhabitsMoreThan}
+use Rattle.lrp_tables.specs.Columns.{head_times, head_texts}
+use Rattle.lrp_tables.specs.Tables.{Has, IsTableOf, IsExtended, named_variables}
+use Rattle.lrp_tables.proofs.HeadNames.{head_names_differ}
+use Rattle.lrp_plan_laws.specs.Made.{IsEarlier}
+use Rattle.lrp_plan_laws.specs.Scopes.{IsNarrow}
+use Rattle.lrp_plan_laws.proofs.Elements.{formula_front, formula_made}
+use Rattle.lrp_plan_laws.proofs.PlanSound.{steps_say}
+use Rattle.lrp_eval.specs.Running.{HasConstants, variables_of, IsRun, IsOperand, IsNext}
+use Rattle.lrp_eval.proofs.Denotes.{in_left, in_one}
+use Rattle.lrp_eval.proofs.Named.{all_by, head_columns, times_in_head, texts_in_head, time_named, data_named, are_texts}
+use Rattle.lrp_eval.proofs.Nexts.{formula_kind, reach_kind, keeps_kind, denotes_of, sound_plan, too_many, run, run_of, IsMeant}
+use Rattle.lrp_eval.proofs.Reading.{earlier, reach_within, numbered, first_differ, second_differ}
+
+module _ {db : List Relation} {q : Question} {cap : ℕ} {domain : List Text} {tables : List Table} {of : ℕ} {period : ℤ} (n : IsNext db q cap domain tables (Extend of) period) {table : Table} (o : IsOperand tables of table) where
+  before : IsEarlier (suc (length tables)) of
+  before = (earlier n).0
+
+  abbrev names : List Variable
+  names = named_variables (head_times q.head) (head_texts q.head)
+
+  -- the columns of the table are the head's
+  among : (v : Variable) → Contains (variables_of table) v → Contains (head_variables q.head) v
+  among v c = (sound_plan n).core v (subst (λ l. Contains (free (formula_at (plan db q) l)) v) (formula_kind n).0 (((denotes_of n of table before o).variables v).0 c))
+
+  pub head_numbered : AreNumbered domain table.store
+  head_numbered = numbered n o before
+
+  narrow : IsNarrow (head_variables q.head ++ free q.body)
+  narrow = n.planned.1.settled.whole
+
+  pub can_extend : CanExtend q.head table
+  can_extend = record {
+    times = λ v c. (times_in_head q.head v).1 (among (time_variable v) ((time_named table.vars.times table.vars.texts v).1 c));
+    texts = λ v c. (texts_in_head q.head v).1 (among (data_variable v) ((data_named table.vars.times table.vars.texts v).1 c));
+    names = n.planned.1.settled.names;
+    few_times = narrow.times (head_times q.head) (first_differ (head_times q.head) (head_texts q.head) (head_names_differ q.head n.planned.1.settled.names))
+        (all_by _ (head_times q.head) (λ v c. in_left (head_variables q.head) (free q.body) (time_variable v) ((times_in_head q.head v).0 c)));
+    few_texts = narrow.texts (head_texts q.head) (second_differ (head_times q.head) (head_texts q.head) (head_names_differ q.head n.planned.1.settled.names))
+        (all_by _ (head_texts q.head) (λ v c. in_left (head_variables q.head) (free q.body) (data_variable v) ((texts_in_head q.head v).0 c)));
+  }
+
+  -- the step has the variables of the head
+  step_is : step_variables q.head n.step ≡ head_variables q.head ++ free n.step.formula
+  step_is = ap (λ k. variables_with k q.head (free n.step.formula)) (sym n.kind_is)
+
+  formula_is : n.step.formula ≡ formula_at (plan db q) (length (plan db q))
+  formula_is = (formula_kind n).1 ∙ sym last_formula
+    where
+      last_formula : formula_at (plan db q) (length (plan db q)) ≡ guarded (has_named_sort db) q.head q.body
+      last_formula = formula_made (structure db q) (Extend (length (core_steps db q))) (guarded (has_named_sort db) q.head q.body) (core_steps db q)
+
+  head_means : (env : Assignment) → HasConstants (constants db q) names env → IsExtended (constants db q) q.head table env ↔ Satisfies n.step.formula (structure db q) env
+  head_means env k =
+      let own : HasConstants (constants db q) (variables_of table) env = λ v c. k v ((head_columns q.head (data_variable v)).1 (among (data_variable v) c)) in
+      let l : Has table (constants db q) env ↔ Satisfies (formula_at (plan db q) of) (structure db q) env = (denotes_of n of table before o).means env own in
+      let f : formula_at (plan db q) of ≡ formula_at (core_steps db q) (length (core_steps db q)) =
+      ap (formula_at (plan db q)) (formula_kind n).0 ∙ formula_front (core_steps db q) _ (length (core_steps db q)) (omega arith) in
+      let s : Satisfies (formula_at (core_steps db q) (length (core_steps db q))) (structure db q) env ↔ Satisfies (guarded (has_named_sort db) q.head q.body) (structure db q) env = steps_say db q n.planned.1.settled.elements env in
+      let t : Satisfies (formula_at (plan db q) of) (structure db q) env ↔ Satisfies n.step.formula (structure db q) env =
+      subst (λ g. Satisfies g (structure db q) env ↔ Satisfies n.step.formula (structure db q) env) (sym f)
+      (subst (λ g. Satisfies (formula_at (core_steps db q) (length (core_steps db q))) (structure db q) env ↔ Satisfies g (structure db q) env) (sym (formula_kind n).1) s) in
+      ((λ h. t.0 (l.0 h.has)), λ h. record { known = are_texts (constants db q) (head_times q.head) (head_texts q.head) env k; has = l.1 (t.1 h) })
+
+  is_meant : IsMeant n names (IsExtended domain q.head table)
+  is_meant = record {
+    variables = λ v. (
+      (λ c. subst (λ vs. Contains vs v) (sym step_is) (in_left (head_variables q.head) (free n.step.formula) v ((head_columns q.head v).0 c))),
+      λ c. (head_columns q.head v).1 (⊎_elim (λ a. a) (λ b. (sound_plan n).last v (subst (λ f. Contains (free f) v) formula_is b)) (in_one (head_variables q.head) (free n.step.formula) v (subst (λ vs. Contains vs v) step_is c))),
+    );
+    means = subst (λ d. (env : Assignment) → HasConstants (constants db q) names env → IsExtended d q.head table env ↔ Satisfies n.step.formula (structure db q) env) (sym n.domain_is) head_means;
+  }
+
+  same_period : table.store.period ≡ n.step.period
+  same_period = (run_of n of table before.0 o).period ∙ sym (keeps_kind n)
+
+  pub head_many : InhabitsMoreThan cap domain table.store.period (head_times q.head) (head_texts q.head) (IsExtended domain q.head table) → ManyAt db q cap (suc (length tables))
+  head_many = too_many n _ _ _ _ is_meant same_period
+
+  pub head_run : (made : Table) → IsTableOf domain (head_times q.head) (head_texts q.head) table.store.period (IsExtended domain q.head table) made
+      → ((high : ℕ) → HasReach table.store high → HasReach made.store high)
+      → (InhabitsMoreThan cap domain table.store.period (head_times q.head) (head_texts q.head) (IsExtended domain q.head table) → ⊥) → IsRun db q cap (suc (length tables)) made
+  head_run made is reach few =
+      run n _ _ _ _ is_meant same_period made is
+      (subst (λ r. HasReach made.store r) (sym (reach_kind n)) (reach (reach_at (plan db q) of) (reach_within n o before (reach_at (plan db q) of) (omega arith))))
+      few (λ step l at kind. (is.times_are, is.texts_are))

@@ -1,0 +1,17 @@
+-- The lemmas.
+pub mod Denotes
+pub mod Named
+pub mod Counted
+pub mod Nexts
+pub mod Reading
+pub mod AnswerLaws
+pub mod SettleLaws
+pub mod AnsweredLaws
+pub mod JoinLaws
+pub mod LoopLaws
+pub mod HeadLaws
+pub mod ScanLaws
+pub mod UnionLaws
+pub mod DropLaws
+pub mod SelectLaws
+pub mod MinusLaws

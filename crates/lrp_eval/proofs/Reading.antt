@@ -1,0 +1,200 @@
+-- What holds of the tables that a step reads: their periods, reaches, numbers and columns.
+use Rattle.std.proofs.Common.{◌≡◌, ◌≢◌, ◌↔◌, ◌≤◌, ◌^◌, ◌||◌, ⊎_elim, ℕ, zero, suc, Bool, true, false, cond, List, [], ◌∷◌, ◌++◌, length, Contains, refl, sym, subst, ◌∙◌, arith, bytes_eq, Result, Ok, Err, to_z, of_z, w64}
+use Rattle.std.specs.Prelude.{ℤ, pos, nat_abs, ◌≤ℤ◌, AllPairs, IfOk, OnOk}
+use Rattle.std.specs.List.{AllByRecursion, list_any}
+use Rattle.std.specs.Cmp.Lexicographic.{bytes_decides}
+use Rattle.std.proofs.lemmas.Int.{ints}
+use Rattle.lrp_theory.specs.Divides.{Divides}
+use Rattle.lrp_model.specs.Texts.{Text, Identifier}
+use Rattle.lrp_model.specs.Formulas.{Question}
+use Rattle.lrp_model.specs.Variables.{Variable, time_variable, data_variable, variables_of_test, free}
+use Rattle.lrp_model.specs.Periods.{IsMultiple, test_periods}
+use Rattle.lrp_model.specs.Steps.{formula_at, reach_at}
+use Rattle.lrp_model.specs.Plans.{plan}
+use Rattle.lrp_model.specs.TestPoints.{points, test_points}
+use Rattle.lrp_model.specs.declared.relations.Relation.{Relation}
+use Rattle.lrp_model.specs.declared.formulas.Test.{Test}
+use Rattle.lrp_model.specs.declared.formulas.Test.TheVariants.{Compare, Member, Equal}
+use Rattle.lrp_model.specs.declared.plans.StepKind.{StepKind}
+use Rattle.lrp_store.specs.Stores.{StoreView, HasReach}
+use Rattle.lrp_store.specs.Tables.{AreNumbered}
+use Rattle.lrp_store.specs.declared.table.Table.{Table}
+use Rattle.lrp_tables.specs.Calls.{CanMeet, CanBeCarried, test_period}
+use Rattle.lrp_tables.specs.Columns.{joint}
+use Rattle.lrp_tables.specs.Tables.{named_variables}
+use Rattle.lrp_plan_laws.specs.Made.{IsEarlier, operands, AreAmong}
+use Rattle.lrp_plan_laws.specs.Points.{step_points}
+use Rattle.lrp_plan_laws.specs.Rising.{period_at, named_periods}
+use Rattle.lrp_plan_laws.specs.Scopes.{AreDifferent, IsNarrow}
+use Rattle.lrp_plan_laws.proofs.PointLaws.{points_known}
+use Rattle.lrp_eval.specs.Running.{variables_of, IsOperand, IsNext}
+use Rattle.lrp_eval.proofs.Denotes.{in_left, in_right}
+use Rattle.lrp_eval.proofs.Named.{all_of, all_by, in_joint, time_named, data_named, times_in_test, texts_in_test}
+use Rattle.lrp_eval.proofs.Nexts.{of_kind, run_of, made, rises, reach_low, denotes_of, to_divides}
+
+-- ---- results
+
+pub both_ok : {A E : Type 0} (P Q R : A → Type 0) (X : Type 0) (r : Result A E) → ((a : A) → P a → Q a → X → R a) → IfOk r P → IfOk r Q → OnOk r X → IfOk r R
+both_ok P Q R X (Ok a) f p q x = f a p q x
+both_ok P Q R X (Err e) f p q x = tt
+
+pub if_ok : {A E : Type 0} (P R : A → Type 0) (r : Result A E) → ((a : A) → P a → R a) → IfOk r P → IfOk r R
+if_ok P R (Ok a) f p = f a p
+if_ok P R (Err e) f p = tt
+
+-- ---- reaches
+
+pub reach_up : (s : StoreView) (low high : ℕ) → low ≤ high → HasReach s low → HasReach s high
+reach_up s low high le h = record { each = λ cell table held. let r = h.each cell table held in omega (arith, r) }
+
+-- ---- names that differ
+
+first_apart : {X : Type 0} (x : X) (xs : List X) → AllPairs ◌≢◌ (x ∷ xs) → AllByRecursion (λ y. x ≢ y) xs
+first_apart x xs h = all_by (λ y. x ≢ y) xs (λ y c e. h zero (suc c.0) y (omega arith) (omega (arith, c.1)) (e ∙ sym c.2))
+
+rest_apart : {X : Type 0} (x : X) (xs : List X) → AllPairs ◌≢◌ (x ∷ xs) → AllPairs ◌≢◌ xs
+rest_apart x xs h i j d lt below = h (suc i) (suc j) d (omega arith) (omega arith)
+
+front_all : {X : Type 0} (p : X → Type 0) (xs ys : List X) → AllByRecursion p (xs ++ ys) → AllByRecursion p xs
+front_all p [] ys h = tt
+front_all p (x ∷ xs) ys h = (h.0, front_all p xs ys h.1)
+
+pub first_differ : (ns ms : List Identifier) → AllPairs ◌≢◌ (ns ++ ms) → AreDifferent ns
+first_differ [] ms h = tt
+first_differ (n ∷ ns) ms h = (front_all (λ m. n ≢ m) ns ms (first_apart n (ns ++ ms) h), first_differ ns ms (rest_apart n (ns ++ ms) h))
+
+all_differ : (ms : List Identifier) → AllPairs ◌≢◌ ms → AreDifferent ms
+all_differ [] h = tt
+all_differ (m ∷ ms) h = (first_apart m ms h, all_differ ms (rest_apart m ms h))
+
+pub second_differ : (ns ms : List Identifier) → AllPairs ◌≢◌ (ns ++ ms) → AreDifferent ms
+second_differ [] ms h = all_differ ms h
+second_differ (n ∷ ns) ms h = second_differ ns ms (rest_apart n (ns ++ ms) h)
+
+any_of : (n : Identifier) (ns : List Identifier) → list_any (bytes_eq n) ns ≡ false → AllByRecursion (λ m. m ≢ n) ns
+any_of n [] e = tt
+any_of n (m ∷ ms) e = apart (bytes_eq n m) (list_any (bytes_eq n) ms) refl (any_of n ms) e
+  where
+    apart : (b c : Bool) → bytes_eq n m ≡ b → (c ≡ false → AllByRecursion (λ m. m ≢ n) ms) → (b || c) ≡ false → AllByRecursion (λ m. m ≢ n) (m ∷ ms)
+    apart true c t h f = cc
+    apart false c t h f = ((λ same. let yes_so : bytes_eq n m ≡ true = (bytes_decides n m).1 (sym same) in cc), h f)
+
+all_behind : (p : Identifier → Type 0) (ns : List Identifier) (n : Identifier) → AllByRecursion p ns → p n → AllByRecursion p (ns ++ n ∷ [])
+all_behind p [] n h k = (k, tt)
+all_behind p (m ∷ ms) n h k = (h.0, all_behind p ms n h.1 k)
+
+one_behind : (ns : List Identifier) (n : Identifier) → AreDifferent ns → AllByRecursion (λ m. m ≢ n) ns → AreDifferent (ns ++ n ∷ [])
+one_behind [] n d h = (tt, tt)
+one_behind (m ∷ ms) n d h = (all_behind (λ k. m ≢ k) ms n d.0 h.0, one_behind ms n d.1 h.1)
+
+pub joint_differ : (ns more : List Identifier) → AreDifferent ns → AreDifferent (joint ns more)
+joint_differ ns [] d = d
+joint_differ ns (n ∷ more) d = joint_differ (cond (list_any (bytes_eq n) ns) ns (ns ++ n ∷ [])) more (taken (list_any (bytes_eq n) ns) (any_of n ns))
+  where
+    taken : (b : Bool) → (b ≡ false → AllByRecursion (λ m. m ≢ n) ns) → AreDifferent (cond b ns (ns ++ n ∷ []))
+    taken true h = d
+    taken false h = one_behind ns n d (h refl)
+
+-- ---- tests
+
+pub low_period : (t : Test) → AllByRecursion (λ at. pos 1 ≤ℤ at.period) (test_points t) → pos 1 ≤ℤ test_period t
+low_period (Compare left op right) h = omega (arith, ints)
+low_period (Member term point) h = h.0
+low_period (Equal left right) h = omega (arith, ints)
+
+pub natural : (z : ℤ) → pos 1 ≤ℤ z → pos (nat_abs z) ≡ z
+natural z h = omega (arith, ints)
+
+one_divides : (k : ℕ) → Divides (pos 1) (pos k)
+one_divides k = to_divides 1 k (record { times = k; is = omega arith })
+
+divides_test : (t : Test) (K : ℕ) → AllByRecursion (λ at. pos 1 ≤ℤ at.period) (test_points t) → AllByRecursion (λ k. (1 ≤ k) × IsMultiple k K) (test_periods t) → Divides (test_period t) (pos K)
+divides_test (Compare left op right) K h m = one_divides K
+divides_test (Member term point) K h m = subst (λ z. Divides z (pos K)) (natural point.period h.0) (to_divides (nat_abs point.period) K m.0.1)
+divides_test (Equal left right) K h m = one_divides K
+
+pub carried : (times texts : List Identifier) (K : ℕ) (t : Test) → AreAmong (variables_of_test t) (named_variables times texts)
+    → AllByRecursion (λ at. pos 1 ≤ℤ at.period) (test_points t) → AllByRecursion (λ k. (1 ≤ k) × IsMultiple k K) (test_periods t) → CanBeCarried times texts (pos K) t
+carried times texts K t among h m = record {
+  times_known = λ v c. (time_named times texts v).0 (among (time_variable v) ((times_in_test t v).0 c));
+  texts_known = λ v c. (data_named times texts v).0 (among (data_variable v) ((texts_in_test t v).0 c));
+  low = low_period t h;
+  divides = divides_test t K h m;
+}
+
+module _ {db : List Relation} {q : Question} {cap : ℕ} {domain : List Text} {tables : List Table} {kind : StepKind} {period : ℤ} (n : IsNext db q cap domain tables kind period) where
+  -- ---- periods
+
+  pub low : pos 1 ≤ℤ period
+  low = let r : 1 ≤ n.step.period = (rises n).positive in let e : period ≡ pos n.step.period = n.period_is in omega (arith, ints)
+
+  pub step_small : n.step.reach ≤ 2 ^ 61
+  step_small = let a = (rises n).below in let b = reach_low n in omega arith
+
+  pub high : period ≤ℤ pos (2 ^ 62)
+  high =
+      let w : n.step.period ≤ n.step.reach = (rises n).wide in
+      let e : period ≡ pos n.step.period = n.period_is in
+      let b : n.step.reach ≤ 2 ^ 61 = step_small in
+      omega (arith, ints)
+
+  -- the period is its word
+  pub worded : IsNext db q cap domain tables kind (to_z w64 (of_z w64 period))
+  worded =
+      let a = low in
+      let b = high in
+      let e : period ≡ to_z w64 (of_z w64 period) = omega (arith, ints) in
+      subst (λ p. IsNext db q cap domain tables kind p) e n
+
+  pub point_periods : AllByRecursion (λ at. pos 1 ≤ℤ at.period) (step_points kind)
+  point_periods = of_kind n (λ k. AllByRecursion (λ at. pos 1 ≤ℤ at.period) (step_points k))
+      (all_by (λ at. pos 1 ≤ℤ at.period) (step_points n.step.kind) (λ at c.
+      all_of (λ at. pos 1 ≤ℤ at.period) (points q.body) at n.planned.1.points
+      (all_of (Contains (points q.body)) (step_points n.step.kind) at (points_known db q n.planned.1.settled.elements (suc (length tables)) n.step n.at) c)))
+
+  pub own_periods : AllByRecursion (λ k. (1 ≤ k) × IsMultiple k n.step.period) (named_periods db kind)
+  own_periods = of_kind n (λ k. AllByRecursion (λ k. (1 ≤ k) × IsMultiple k n.step.period) (named_periods db k)) (rises n).points
+
+  pub earlier : AllByRecursion (IsEarlier (suc (length tables))) (operands kind)
+  earlier = of_kind n (λ k. AllByRecursion (IsEarlier (suc (length tables))) (operands k)) (made n).earlier
+
+  pub multiples : AllByRecursion (λ l. IsMultiple (period_at (plan db q) l) n.step.period) (operands kind)
+  multiples = of_kind n (λ k. AllByRecursion (λ l. IsMultiple (period_at (plan db q) l) n.step.period) (operands k)) (rises n).multiple
+
+  -- ---- a table that is read
+
+  module _ {l : ℕ} {t : Table} (o : IsOperand tables l t) (e : IsEarlier (suc (length tables)) l) where
+    pub period_divides : IsMultiple (period_at (plan db q) l) n.step.period → Divides (pos t.store.period) period
+    period_divides m =
+        subst (λ p. Divides (pos t.store.period) p) (sym n.period_is) (subst (λ k. Divides (pos k) (pos n.step.period)) (sym (run_of n l t e.0 o).period) (to_divides (period_at (plan db q) l) n.step.period m))
+
+    pub reach_within : (high : ℕ) → reach_at (plan db q) l ≤ high → HasReach t.store high
+    reach_within high le = reach_up t.store (reach_at (plan db q) l) high le (run_of n l t e.0 o).reach
+
+    pub numbered : AreNumbered domain t.store
+    numbered = subst (λ d. AreNumbered d t.store) (sym n.domain_is) (run_of n l t e.0 o).numbered
+
+    pub variables : (v : Variable) → Contains (variables_of t) v ↔ Contains (free (formula_at (plan db q) l)) v
+    variables = (denotes_of n l t e o).variables
+
+  -- ---- two tables that are read
+
+  module _ {l r : ℕ} {lt rt : Table} (lo : IsOperand tables l lt) (ro : IsOperand tables r rt) (le : IsEarlier (suc (length tables)) l) (re : IsEarlier (suc (length tables)) r)
+      (narrow : IsNarrow (free (formula_at (plan db q) l) ++ (free (formula_at (plan db q) r) ++ []))) where
+    left_in : (v : Variable) → Contains (variables_of lt) v → Contains (free (formula_at (plan db q) l) ++ (free (formula_at (plan db q) r) ++ [])) v
+    left_in v c = in_left (free (formula_at (plan db q) l)) (free (formula_at (plan db q) r) ++ []) v ((variables lo le v).0 c)
+
+    right_in : (v : Variable) → Contains (variables_of rt) v → Contains (free (formula_at (plan db q) l) ++ (free (formula_at (plan db q) r) ++ [])) v
+    right_in v c = in_right (free (formula_at (plan db q) l)) (free (formula_at (plan db q) r) ++ []) v (in_left (free (formula_at (plan db q) r)) [] v ((variables ro re v).0 c))
+
+    pub can_meet : CanMeet lt rt
+    can_meet = record {
+      times = narrow.times (joint lt.vars.times rt.vars.times) (joint_differ lt.vars.times rt.vars.times (first_differ lt.vars.times lt.vars.texts lo.differ))
+          (all_by _ (joint lt.vars.times rt.vars.times) (λ v c.
+          ⊎_elim (λ a. left_in (time_variable v) ((time_named lt.vars.times lt.vars.texts v).1 a)) (λ b. right_in (time_variable v) ((time_named rt.vars.times rt.vars.texts v).1 b)) ((in_joint lt.vars.times rt.vars.times v).0 c)));
+      texts = narrow.texts (joint lt.vars.texts rt.vars.texts) (joint_differ lt.vars.texts rt.vars.texts (second_differ lt.vars.times lt.vars.texts lo.differ))
+          (all_by _ (joint lt.vars.texts rt.vars.texts) (λ v c.
+          ⊎_elim (λ a. left_in (data_variable v) ((data_named lt.vars.times lt.vars.texts v).1 a)) (λ b. right_in (data_variable v) ((data_named rt.vars.times rt.vars.texts v).1 b)) ((in_joint lt.vars.texts rt.vars.texts v).0 c)));
+      left_apart = λ v a b. narrow.kinds v (left_in (time_variable v) ((time_named lt.vars.times lt.vars.texts v).1 a)) (right_in (data_variable v) ((data_named rt.vars.times rt.vars.texts v).1 b));
+      right_apart = λ v a b. narrow.kinds v (right_in (time_variable v) ((time_named rt.vars.times rt.vars.texts v).1 a)) (left_in (data_variable v) ((data_named lt.vars.times lt.vars.texts v).1 b));
+    }

@@ -1,0 +1,117 @@
+-- The steps of a test and of a selection.
+use Rattle.std.proofs.Common.{◌≡◌, ◌≤◌, ◌+◌, ◌-◌, ◌^◌, ⊎_elim, ℕ, suc, List, [], length, max, refl, sym, ap, subst, ◌∙◌, arith}
+use Rattle.std.specs.Prelude.{ℤ, pos, nat_abs, ◌≤ℤ◌}
+use Rattle.lrp_theory.specs.Divides.{Divides}
+use Rattle.lrp_model.specs.Texts.{Text}
+use Rattle.lrp_model.specs.Formulas.{Question, conjunction, test, no_forms, form}
+use Rattle.lrp_model.specs.Variables.{variables_of_test}
+use Rattle.lrp_model.specs.Satisfaction.{structure}
+use Rattle.lrp_model.specs.Domains.{constants}
+use Rattle.lrp_model.specs.Caps.{ManyAt}
+use Rattle.lrp_model.specs.Reach.{test_reach}
+use Rattle.lrp_model.specs.Steps.{formula_at, reach_at}
+use Rattle.lrp_model.specs.Plans.{plan}
+use Rattle.lrp_model.specs.declared.relations.Relation.{Relation}
+use Rattle.lrp_model.specs.declared.formulas.Test.{Test}
+use Rattle.lrp_model.specs.declared.formulas.Test.TheVariants.{Compare, Member, Equal}
+use Rattle.lrp_model.specs.declared.plans.StepKind.TheVariants.{Leaf, Select, Extend}
+use Rattle.lrp_model.proofs.Decided.{contains_none}
+use Rattle.lrp_store.specs.Stores.{HasReach}
+use Rattle.lrp_store.specs.Tables.{AreNumbered}
+use Rattle.lrp_store.specs.declared.table.Table.{Table}
+use Rattle.lrp_tables.specs.Calls.{CanBeCarried, test_period}
+use Rattle.lrp_tables.specs.Caps.{InhabitsMoreThan}
+use Rattle.lrp_tables.specs.Columns.{test_times, test_texts}
+use Rattle.lrp_tables.specs.Tables.{Has, IsTableOf, IsTested, IsSelected, named_variables}
+use Rattle.lrp_plan_laws.specs.Made.{IsEarlier, AreAmong}
+use Rattle.lrp_plan_laws.specs.Rising.{test_period as period_of}
+use Rattle.lrp_eval.specs.Running.{variables_of, IsRun, IsOperand, IsNext}
+use Rattle.lrp_eval.proofs.Denotes.{Denotes, in_one, leaf_keeps, select_keeps}
+use Rattle.lrp_eval.proofs.Named.{test_variables, texts_are, are_texts}
+use Rattle.lrp_eval.proofs.Nexts.{formula_kind, variables_kind, reach_kind, keeps_kind, period_nat, denotes_of, meant, too_many, run, no_order, IsMeant}
+use Rattle.lrp_eval.proofs.Reading.{step_small, point_periods, own_periods, earlier, multiples, period_divides, reach_within, numbered, variables, carried, low_period}
+
+same_period : (t : Test) → nat_abs (test_period t) ≡ period_of t
+same_period (Compare left op right) = refl
+same_period (Member term point) = refl
+same_period (Equal left right) = refl
+
+module _ {db : List Relation} {q : Question} {cap : ℕ} {domain : List Text} {tables : List Table} {t : Test} {period : ℤ} (n : IsNext db q cap domain tables (Leaf t) period) where
+  pub leaf_low : pos 1 ≤ℤ test_period t
+  leaf_low = low_period t (point_periods n)
+
+  pub leaf_reach : test_reach t ≤ 2 ^ 62
+  leaf_reach = let e = reach_kind n in let s = step_small n in omega arith
+
+  leaf_period : nat_abs (test_period t) ≡ n.step.period
+  leaf_period = same_period t ∙ sym (keeps_kind n)
+
+  leaf_denotes : Denotes (constants db q) (structure db q) (named_variables (test_times t) (test_texts t)) (IsTested domain t) n.step.formula
+  leaf_denotes =
+      subst (Denotes (constants db q) (structure db q) (named_variables (test_times t) (test_texts t)) (IsTested domain t)) (sym (formula_kind n))
+      (subst (λ d. Denotes (constants db q) (structure db q) (named_variables (test_times t) (test_texts t)) (IsTested d t) (test t)) (sym n.domain_is)
+      (leaf_keeps (constants db q) (structure db q) (named_variables (test_times t) (test_texts t)) t (IsTested (constants db q) t) (test_variables t)
+      (λ env. ((λ h. (texts_are (constants db q) (test_times t) (test_texts t) env h.known, h.passes)), λ h. record { known = are_texts (constants db q) (test_times t) (test_texts t) env h.0; passes = h.1 }))))
+
+  leaf_other : (of : ℕ) → Leaf t ≡ Extend of → ⊥
+  leaf_other of e = cc
+
+  leaf_meant : IsMeant n (named_variables (test_times t) (test_texts t)) (IsTested domain t)
+  leaf_meant = meant n _ _ leaf_other leaf_denotes
+
+  pub leaf_many : InhabitsMoreThan cap domain (nat_abs (test_period t)) (test_times t) (test_texts t) (IsTested domain t) → ManyAt db q cap (suc (length tables))
+  leaf_many = too_many n _ _ _ _ leaf_meant leaf_period
+
+  pub leaf_run : (made : Table) → IsTableOf domain (test_times t) (test_texts t) (nat_abs (test_period t)) (IsTested domain t) made → HasReach made.store (test_reach t)
+      → (InhabitsMoreThan cap domain (nat_abs (test_period t)) (test_times t) (test_texts t) (IsTested domain t) → ⊥) → IsRun db q cap (suc (length tables)) made
+  leaf_run made is reach few = run n _ _ _ _ leaf_meant leaf_period made is (subst (λ r. HasReach made.store r) (sym (reach_kind n)) reach) few (no_order n leaf_other made)
+
+-- what the call of a selection asks
+pub record CanSelect (domain : List Text) (table : Table) (t : Test) (period : ℤ) : Type 0 where
+  pub divides : Divides (pos table.store.period) period
+  pub reach : HasReach table.store (2 ^ 62 - nat_abs period)
+  pub numbers : AreNumbered domain table.store
+  pub carries : CanBeCarried table.vars.times table.vars.texts period t
+  pub small : test_reach t + nat_abs period ≤ 2 ^ 62
+
+module _ {db : List Relation} {q : Question} {cap : ℕ} {domain : List Text} {tables : List Table} {of : ℕ} {t : Test} {period : ℤ} (n : IsNext db q cap domain tables (Select of t) period) {table : Table} (o : IsOperand tables of table) where
+  before : IsEarlier (suc (length tables)) of
+  before = (earlier n).0
+
+  known : AreAmong (variables_of_test t) (variables_of table)
+  known v c = (variables n o before v).1 (variables_kind n v c)
+
+  pub can_select : CanSelect domain table t period
+  can_select = record {
+    divides = period_divides n o before (multiples n).0;
+    reach = reach_within n o before _ (let e = reach_kind n in let s = step_small n in let p = period_nat n in omega arith);
+    numbers = numbered n o before;
+    carries = subst (λ p. CanBeCarried table.vars.times table.vars.texts p t) (sym n.period_is) (carried table.vars.times table.vars.texts n.step.period t known (point_periods n) (own_periods n));
+    small = (let e = reach_kind n in let s = step_small n in let p = period_nat n in omega arith);
+  }
+
+  denotes : Denotes (constants db q) (structure db q) (variables_of table) (IsSelected domain table t) n.step.formula
+  denotes =
+      subst (Denotes (constants db q) (structure db q) (variables_of table) (IsSelected domain table t)) (sym (formula_kind n))
+      (subst (λ d. Denotes (constants db q) (structure db q) (variables_of table) (IsSelected d table t) (conjunction (form (formula_at (plan db q) of) (form (test t) no_forms)))) (sym n.domain_is)
+      (select_keeps (constants db q) (structure db q) (variables_of table) (Has table (constants db q)) (IsSelected (constants db q) table t) (formula_at (plan db q) of) t (denotes_of n of table before o)
+      (λ v c. ⊎_elim (λ a. known v a) (λ b. absurd (contains_none v b)) (in_one (variables_of_test t) [] v c))
+      (λ env. ((λ h. (h.has, h.passes)), λ h. record { has = h.0; passes = h.1 }))))
+
+  other : (l : ℕ) → Select of t ≡ Extend l → ⊥
+  other l e = cc
+
+  is_meant : IsMeant n (variables_of table) (IsSelected domain table t)
+  is_meant = meant n _ _ other denotes
+
+  pub select_many : InhabitsMoreThan cap domain (nat_abs period) table.vars.times table.vars.texts (IsSelected domain table t) → ManyAt db q cap (suc (length tables))
+  select_many = too_many n _ _ _ _ is_meant (period_nat n)
+
+  pub select_run : (made : Table) → IsTableOf domain table.vars.times table.vars.texts (nat_abs period) (IsSelected domain table t) made
+      → ((high : ℕ) → HasReach table.store high → test_reach t ≤ high → HasReach made.store (high + nat_abs period))
+      → (InhabitsMoreThan cap domain (nat_abs period) table.vars.times table.vars.texts (IsSelected domain table t) → ⊥) → IsRun db q cap (suc (length tables)) made
+  select_run made is reach few =
+      let high : ℕ = max (reach_at (plan db q) of) (test_reach t) in
+      run n _ _ _ _ is_meant (period_nat n) made is
+      (subst (λ r. HasReach made.store r) (sym (reach_kind n ∙ ap (λ k. high + k) (sym (period_nat n)))) (reach high (reach_within n o before high (omega arith)) (omega arith)))
+      few (no_order n other made)

@@ -1,0 +1,238 @@
+-- Cells are settled one after another.
+use Rattle.std.proofs.Common.{◌≡◌, ◌≢◌, ◌⊎◌, inl, inr, ⊎_elim, ◌≤◌, ◌<◌, ◌+◌, ℕ, zero, suc, List, [], ◌∷◌, ◌++◌, length, get_or, take, map, Option, Some, None, unwrap_or, slice_get, Contains, refl, sym, ap, subst, ◌∙◌, arith, add-one}
+use Rattle.std.specs.Prelude.{ℤ, AllPairs, is_some}
+use Rattle.std.specs.Bool.{Decides}
+use Rattle.std.specs.Ordering.{eq_by_cmp}
+use Rattle.std.specs.FinMap.{contains_key-keys, get-empty}
+use Rattle.std.proofs.lemmas.List.{length-map}
+use Rattle.std.proofs.lemmas.Map.Made.{AllPairs-from_IsDistinct}
+use Rattle.std.proofs.lemmas.Map.Views.{Contains-from_any}
+use Rattle.std.proofs.lemmas.Map.Keys.{IsDistinct-from_sorted}
+use Rattle.lrp_slots.proofs.Tables.{same_cell}
+use Rattle.lrp_slots.proofs.Copying.{keys_ascend}
+use Rattle.lrp_store.proofs.Counted.{key_held}
+use Rattle.lrp_eval.proofs.Nexts.{element}
+use Rattle.std.specs.FinMap as finite
+use Rattle.lrp_model.specs.declared.tuples.Cell.{Cell}
+use Rattle.lrp_model.proofs.Decided.{cons_cases, contains_first, contains_later, contains_none}
+use Rattle.lrp_zone.specs.Zones.{ZoneView}
+use Rattle.lrp_zone.specs.Pairs.{IsOfCell}
+use Rattle.lrp_slots.specs.Lists.{cell_cmp, list_at}
+use Rattle.lrp_store.specs.Stores.{StoreView, IsStore, IsCellOf, zone_of, tables_at, zones_at}
+use Rattle.lrp_store.proofs.Held.{cell_or, list_put, held_of, cell_held}
+use Rattle.lrp_minus.specs.Differences.{AreOfCell}
+use Rattle.lrp_minus.specs.Settling.{IsSettlement}
+use Rattle.lrp_eval.specs.Settling.{AddsZones, IsSettledStore}
+
+-- ---- the zones of a cell
+
+pub take_some : {X : Type 0} (xs : List X) (i : ℕ) (x : X) → slice_get xs i ≡ Some x → take (i + 1) xs ≡ take i xs ++ x ∷ []
+take_some xs i x e = ap (λ n. take n xs) (add-one i) ∙ by_place xs i x e
+  where
+    by_place : {X : Type 0} (xs : List X) (i : ℕ) (x : X) → slice_get xs i ≡ Some x → take (suc i) xs ≡ take i xs ++ x ∷ []
+    by_place [] i x e = cc
+    by_place (y ∷ ys) zero x e = let same : y ≡ x = cc in ap (λ z. z ∷ []) same
+    by_place (y ∷ ys) (suc i) x e = ap (λ zs. y ∷ zs) (by_place ys i x e)
+
+pub take_read : {X : Type 0} (xs : List X) (i : ℕ) (x : X) → i < length xs → x ≡ get_or xs i x → take (i + 1) xs ≡ take i xs ++ x ∷ []
+take_read xs i x lt e = take_some xs i x (found xs i x lt e)
+  where
+    found : {X : Type 0} (xs : List X) (i : ℕ) (x : X) → i < length xs → x ≡ get_or xs i x → slice_get xs i ≡ Some x
+    found [] i x lt e = absurd (omega arith)
+    found (y ∷ ys) zero x lt e = ap Some (sym e)
+    found (y ∷ ys) (suc i) x lt e = found ys i x (omega arith) e
+
+pub take_whole : {X : Type 0} (xs : List X) (n : ℕ) → length xs ≤ n → take n xs ≡ xs
+take_whole [] zero le = refl
+take_whole [] (suc n) le = refl
+take_whole (x ∷ xs) zero le = absurd (omega arith)
+take_whole (x ∷ xs) (suc n) le = ap (λ zs. x ∷ zs) (take_whole xs n (omega arith))
+
+-- a zone of a cell is one of its tables
+pub table_of : (s : StoreView) (cell : Cell) (ts : List (List (Option ℤ))) (z : ZoneView) → Contains (map (zone_of s cell) ts) z → (t : List (Option ℤ)) × Contains ts t × (zone_of s cell t ≡ z)
+table_of s cell [] z c = absurd (contains_none z c)
+table_of s cell (t ∷ ts) z c =
+    ⊎_elim (λ e. (t, contains_first t ts, e)) (λ d. let r = table_of s cell ts z d in (r.0, contains_later t r.0 ts r.1, r.2)) (cons_cases (zone_of s cell t) z (map (zone_of s cell) ts) c)
+
+pub zone_in : (s : StoreView) (cell : Cell) (ts : List (List (Option ℤ))) (t : List (Option ℤ)) → Contains ts t → Contains (map (zone_of s cell) ts) (zone_of s cell t)
+zone_in s cell [] t c = absurd (contains_none t c)
+zone_in s cell (u ∷ us) t c =
+    ⊎_elim (λ e. subst (λ w. Contains (zone_of s cell u ∷ map (zone_of s cell) us) (zone_of s cell w)) e (contains_first (zone_of s cell u) (map (zone_of s cell) us)))
+    (λ d. contains_later (zone_of s cell u) (zone_of s cell t) (map (zone_of s cell) us) (zone_in s cell us t d)) (cons_cases u t us c)
+
+pub one_cell : (s : StoreView) (cell : Cell) (z : ZoneView) → Contains (zones_at s cell) z → AreOfCell z (zones_at s cell)
+one_cell s cell z c = record {
+  each = λ w d.
+      let a = table_of s cell (tables_at s cell) z c in
+      let b = table_of s cell (tables_at s cell) w d in
+      record { period = sym (ap (λ (v : ZoneView). v.period) b.2) ∙ ap (λ (v : ZoneView). v.period) a.2; residues = sym (ap (λ (v : ZoneView). v.residues) b.2) ∙ ap (λ (v : ZoneView). v.residues) a.2 };
+}
+
+-- zones of a cell, from their bounds
+zones_back : (s : StoreView) (cell : Cell) (ws : List ZoneView) → ((w : ZoneView) → Contains ws w → (w.period ≡ s.period) × (w.residues ≡ take s.shape.times cell.residues)) → map (zone_of s cell) (map (λ w. w.bounds) ws) ≡ ws
+zones_back s cell [] h = refl
+zones_back s cell (w ∷ ws) h =
+    let e = h w (contains_first w ws) in
+    let a : zone_of s cell w.bounds ≡ w = ap (λ k. record { period = k; residues = take s.shape.times cell.residues; bounds = w.bounds }) (sym e.0) ∙ ap (λ rs. record { period = w.period; residues = rs; bounds = w.bounds }) (sym e.1) in
+    ap (λ z. z ∷ map (zone_of s cell) (map (λ w. w.bounds) ws)) a ∙ ap (λ zs. w ∷ zs) (zones_back s cell ws (λ v c. h v (contains_later w v ws c)))
+
+-- ---- zones are appended
+
+pub none_added : (cell : Cell) (s : StoreView) → AddsZones cell [] s s
+none_added cell s = record { shape = refl; period = refl; here = sym (append_none (tables_at s cell)); others = λ d n. refl }
+  where
+    append_none : {X : Type 0} (xs : List X) → xs ++ [] ≡ xs
+    append_none [] = refl
+    append_none (x ∷ xs) = ap (λ l. x ∷ l) (append_none xs)
+
+append_one : {X : Type 0} (xs ys : List X) (z : X) → (xs ++ ys) ++ z ∷ [] ≡ xs ++ (ys ++ z ∷ [])
+append_one [] ys z = refl
+append_one (x ∷ xs) ys z = ap (λ l. x ∷ l) (append_one xs ys z)
+
+map_one : (zs : List ZoneView) (z : ZoneView) → map (λ z. z.bounds) (zs ++ z ∷ []) ≡ map (λ z. z.bounds) zs ++ z.bounds ∷ []
+map_one [] z = refl
+map_one (w ∷ ws) z = ap (λ l. w.bounds ∷ l) (map_one ws z)
+
+pub one_added : (cell : Cell) (zones more : List ZoneView) (z : ZoneView) (start old new : StoreView) → more ≡ zones ++ z ∷ [] → AddsZones cell zones start old
+    → new.tables ≡ finite.insert old.tables cell (tables_at old cell ++ z.bounds ∷ []) → new.shape ≡ old.shape → new.period ≡ old.period → AddsZones cell more start new
+one_added cell zones more z start old new same h e shape period = record {
+  shape = shape ∙ h.shape;
+  period = period ∙ h.period;
+  here = ⊎_elim (λ x. ap (λ m. list_at m cell) e ∙ x.1 ∙ ap (λ l. l ++ z.bounds ∷ []) h.here ∙ append_one (tables_at start cell) (map (λ z. z.bounds) zones) z.bounds ∙ ap (λ l. tables_at start cell ++ l) (sym (ap (map (λ z. z.bounds)) same ∙ map_one zones z)))
+      (λ x. absurd (x.0 refl)) (list_put old.tables cell (tables_at old cell ++ z.bounds ∷ []) cell);
+  others = λ d n. ⊎_elim (λ x. absurd (n x.0)) (λ x. ap (λ m. list_at m d) e ∙ x.1 ∙ h.others d n) (list_put old.tables cell (tables_at old cell ++ z.bounds ∷ []) d);
+}
+
+-- ---- cell after cell
+
+-- the cells that are left are different and not held, and each other one is settled
+pub record IsSettling (old new : StoreView) (left : List Cell) : Type 0 where
+  pub valid : IsStore new
+  pub shape : new.shape ≡ old.shape
+  pub period_is : new.period ≡ old.period
+  pub cells : (cell : Cell) (z : ZoneView) → Contains (zones_at old cell) z → Contains left cell ⊎ IsSettlement z (zones_at old cell) (zones_at new cell)
+  pub only : (cell : Cell) → tables_at old cell ≡ [] → tables_at new cell ≡ []
+  pub fresh : (cell : Cell) → Contains left cell → tables_at new cell ≡ []
+  pub differ : AllPairs ◌≢◌ left
+  pub held : (cell : Cell) → Contains left cell → (z : ZoneView) × Contains (zones_at old cell) z
+
+first_differs : (c : Cell) (cs : List Cell) → AllPairs ◌≢◌ (c ∷ cs) → (d : Cell) → Contains cs d → d ≢ c
+first_differs c cs h d k e = h zero (suc k.0) d (omega arith) (omega (arith, k.1)) (sym (k.2 ∙ e))
+
+rest_differ : (c : Cell) (cs : List Cell) → AllPairs ◌≢◌ (c ∷ cs) → AllPairs ◌≢◌ cs
+rest_differ c cs h i j d lt below = h (suc i) (suc j) d (omega arith) (omega arith)
+
+-- one cell more
+pub settling_more : (s old new : StoreView) (left rest : List Cell) (c : Cell) (zones made : List ZoneView) → left ≡ c ∷ rest → IsSettling s old left → IsStore new → zones ≡ zones_at s c
+    → ((z : ZoneView) → Contains zones z → IsSettlement z zones made) → AddsZones c made old new → IsSettling s new rest
+settling_more s old new left rest c zones made el h valid ez settle adds =
+    let g : IsSettling s old (c ∷ rest) = subst (λ l. IsSettling s old l) el h in
+    let shape : new.shape ≡ s.shape = adds.shape ∙ g.shape in
+    let period : new.period ≡ s.period = adds.period ∙ g.period_is in
+    let own : (z : ZoneView) → Contains (zones_at s c) z → IsSettlement z (zones_at s c) (zones_at new c) = λ z k.
+    let i : IsSettlement z (zones_at s c) made = subst (λ zs. IsSettlement z zs made) ez (settle z (subst (λ zs. Contains zs z) (sym ez) k)) in
+    let t = table_of s c (tables_at s c) z k in
+    let b : tables_at new c ≡ map (λ w. w.bounds) made = adds.here ∙ ap (λ l. l ++ map (λ w. w.bounds) made) (g.fresh c (contains_first c rest)) in
+    let e : zones_at new c ≡ made =
+    ap (map (zone_of new c)) b ∙ zones_back new c made (λ w m. let o : IsOfCell z w = (i.zones w m).1 in (
+      (o.period ∙ sym (ap (λ (v : ZoneView). v.period) t.2) ∙ sym period),
+      o.residues ∙ sym (ap (λ (v : ZoneView). v.residues) t.2) ∙ sym (ap (λ sh. take sh.times c.residues) shape),
+    )) in
+    subst (λ zs. IsSettlement z (zones_at s c) zs) (sym e) i in
+    record {
+      valid = valid;
+      shape = shape;
+      period_is = period;
+      cells = λ cell z k. ⊎_elim
+          (λ same. inr (subst (λ d. IsSettlement z (zones_at s d) (zones_at new d)) (sym same.0) (own z (subst (λ d. Contains (zones_at s d) z) same.0 k))))
+          (λ apart. ⊎_elim
+          (λ l. ⊎_elim (λ e. absurd (apart.0 (sym e))) (λ r. inl r) (cons_cases c cell rest l))
+          (λ d. inr (subst (λ zs. IsSettlement z (zones_at s cell) zs) (zones_same cell shape period apart.0) d))
+          (g.cells cell z k))
+          (cell_or cell c);
+      only = λ cell none. ⊎_elim
+          (λ same. absurd (let w = g.held c (contains_first c rest) in let t = table_of s c (tables_at s c) w.0 w.1 in contains_none t.0 (subst (λ l. Contains l t.0) (subst (λ d. tables_at s d ≡ []) same.0 none) t.1)))
+          (λ apart. adds.others cell apart.0 ∙ g.only cell none)
+          (cell_or cell c);
+      fresh = λ cell k. adds.others cell (first_differs c rest g.differ cell k) ∙ g.fresh cell (contains_later c cell rest k);
+      differ = rest_differ c rest g.differ;
+      held = λ cell k. g.held cell (contains_later c cell rest k);
+    }
+  where
+    zones_same : (cell : Cell) → new.shape ≡ s.shape → new.period ≡ s.period → cell ≢ c → zones_at old cell ≡ zones_at new cell
+    zones_same cell shape period n =
+        ap (map (zone_of old cell)) (sym (adds.others cell n)) ∙ ap (λ k. map (λ t. record { period = k; residues = take old.shape.times cell.residues; bounds = t }) (tables_at new cell)) (sym adds.period)
+        ∙ ap (λ sh. map (λ t. record { period = new.period; residues = take sh.times cell.residues; bounds = t }) (tables_at new cell)) (sym adds.shape)
+
+-- all cells are settled
+pub settled_all : (s new : StoreView) (left : List Cell) → left ≡ [] → IsSettling s new left → IsSettledStore s new
+settled_all s new left none h = record {
+  valid = h.valid;
+  shape = h.shape;
+  period_is = h.period_is;
+  cells = λ cell z k. ⊎_elim (λ l. absurd (contains_none cell (subst (λ cs. Contains cs cell) none l))) (λ d. d) (h.cells cell z k);
+  only = h.only;
+}
+
+-- ---- before the first cell
+
+pub never_none : (s : StoreView) (cell : Cell) (i : ℕ) → i < length (tables_at s cell) → None ≡ slice_get (zones_at s cell) i → ⊥
+never_none s cell i lt e =
+    let n : length (zones_at s cell) ≡ length (tables_at s cell) = length-map (tables_at s cell) (zone_of s cell) in
+    let x : (z : ZoneView) × (slice_get (zones_at s cell) i ≡ Some z) = element (zones_at s cell) i (omega arith) in
+    cc (x.1, e)
+
+pub all_zones : (s : StoreView) (cell : Cell) (i : ℕ) → length (tables_at s cell) ≤ i → take i (zones_at s cell) ≡ zones_at s cell
+all_zones s cell i le = let n : length (zones_at s cell) ≡ length (tables_at s cell) = length-map (tables_at s cell) (zone_of s cell) in take_whole (zones_at s cell) i (omega arith)
+
+is_decided : (c d : Cell) → Decides (eq_by_cmp cell_cmp c d) (c ≡ d)
+is_decided c d = elim (cell_or c d) [
+  | inl e ↦ ((λ h. e.0), λ h. e.1)
+  | inr e ↦ ((λ h. same_cell c d h), λ h. absurd (e.0 h))
+]
+
+key_is : (s : StoreView) (cell : Cell) (t : List (Option ℤ)) → Contains (tables_at s cell) t → Contains (finite.keys s.tables) cell
+key_is s cell t c = Contains-from_any same_cell cell (finite.keys s.tables) (sym (contains_key-keys s.tables cell) ∙ ap is_some (held_of s.tables cell t c))
+
+some_table : (s : StoreView) → IsStore s → (cell : Cell) (ts : List (List (Option ℤ))) → finite.get s.tables cell ≡ Some ts → (z : ZoneView) × Contains (zones_at s cell) z
+some_table s is cell [] e = absurd ((is.cells cell [] e).some refl)
+some_table s is cell (t ∷ ts) e = (zone_of s cell t, zone_in s cell (tables_at s cell) t (subst (λ l. Contains l t) (sym (ap (λ o. unwrap_or o []) e)) (contains_first t ts)))
+
+pub settling_none : (s new : StoreView) (left : List Cell) → IsStore s → IsStore new → new.shape ≡ s.shape → new.period ≡ s.period → new.tables ≡ finite.empty → left ≡ finite.keys s.tables → IsSettling s new left
+settling_none s new left is valid shape period empty keys = record {
+  valid = valid;
+  shape = shape;
+  period_is = period;
+  cells = λ cell z k. let t = table_of s cell (tables_at s cell) z k in inl (subst (λ cs. Contains cs cell) (sym keys) (key_is s cell t.0 t.1));
+  only = λ cell none. nothing cell;
+  fresh = λ cell k. nothing cell;
+  differ = subst (λ cs. AllPairs ◌≢◌ cs) (sym keys) (AllPairs-from_IsDistinct is_decided (finite.keys s.tables) (IsDistinct-from_sorted cell_cmp (finite.keys s.tables) (keys_ascend s.tables)));
+  held = λ cell k. let h = key_held s is (λ xs ns. Unit {0}) 0 cell (subst (λ cs. Contains cs cell) keys k) in some_table s is cell h.0 h.1;
+}
+  where
+    nothing : (cell : Cell) → tables_at new cell ≡ []
+    nothing cell = ap (λ m. list_at m cell) empty ∙ ap (λ o. unwrap_or o []) (get-empty cell_cmp cell)
+
+-- the zones that a cell is settled to are of the cell
+pub cell_of : (s old : StoreView) (left rest : List Cell) (c : Cell) (zones made : List ZoneView) → left ≡ c ∷ rest → IsStore s → IsSettling s old left → zones ≡ zones_at s c
+    → ((z : ZoneView) → Contains zones z → IsSettlement z zones made) → (w : ZoneView) → Contains made w → (w.period ≡ old.period) × (w.residues ≡ take old.shape.times c.residues)
+cell_of s old left rest c zones made el is h ez settle w m =
+    let g : IsSettling s old (c ∷ rest) = subst (λ l. IsSettling s old l) el h in
+    let z = g.held c (contains_first c rest) in
+    let t = table_of s c (tables_at s c) z.0 z.1 in
+    let o : IsOfCell z.0 w = ((settle z.0 (subst (λ zs. Contains zs z.0) (sym ez) z.1)).zones w m).1 in (
+      o.period ∙ sym (ap (λ (v : ZoneView). v.period) t.2) ∙ sym g.period_is,
+      o.residues ∙ sym (ap (λ (v : ZoneView). v.residues) t.2) ∙ sym (ap (λ sh. take sh.times c.residues) g.shape),
+    )
+
+pub proper_cell : (s old : StoreView) (left rest : List Cell) (c : Cell) → left ≡ c ∷ rest → IsStore s → IsSettling s old left → IsCellOf s.shape s.period c
+proper_cell s old left rest c el is h =
+    let z = h.held c (subst (λ l. Contains l c) (sym el) (contains_first c rest)) in
+    let t = table_of s c (tables_at s c) z.0 z.1 in
+    cell_held s is c t.0 t.1
+
+pub some_zone : (s old : StoreView) (left rest : List Cell) (c : Cell) (zones : List ZoneView) → left ≡ c ∷ rest → IsSettling s old left → zones ≡ zones_at s c → 0 < length zones
+some_zone s old left rest c zones el h ez =
+    let z = h.held c (subst (λ l. Contains l c) (sym el) (contains_first c rest)) in
+    let k : Contains zones z.0 = subst (λ zs. Contains zs z.0) (sym ez) z.1 in
+    omega (arith, k.1)

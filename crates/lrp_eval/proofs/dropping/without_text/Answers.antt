@@ -1,0 +1,14 @@
+-- The table that is read is that of an earlier step.
+use Rattle.lrp_eval.proofs.Reading.{earlier}
+use Rattle.lrp_eval.proofs.Nexts.{within}
+use Rattle.lrp_eval.proofs.DropLaws.{drop_data_run}
+use Rattle.lrp_eval.proofs.dropping.without_text.Goals as goal
+
+pub operand-table-requires-clause-low : goal.operand-table-requires-clause-low
+operand-table-requires-clause-low c = (earlier c.requires.next.1.is).0.0
+
+pub operand-table-requires-clause-high : goal.operand-table-requires-clause-high
+operand-table-requires-clause-high c = within c.requires.next.1.is _ (earlier c.requires.next.1.is).0
+
+pub returns : goal.returns
+returns c = λ period db q n. drop_data_run n c.operand-table.ensures c.shape.ensures.valid c.in_ok-made.ensures

@@ -1,0 +1,27 @@
+-- What the answer of a plan is.
+use Rattle.std.specs.Prelude.{◌≡◌, ◌↔◌, ℕ, ◌*◌, pos, List, length, Contains}
+use Rattle.lrp_model.specs.Rows.{Datum}
+use Rattle.lrp_model.specs.Formulas.{Question}
+use Rattle.lrp_model.specs.Satisfaction.{IsAnswer}
+use Rattle.lrp_model.specs.Domains.{constants}
+use Rattle.lrp_model.specs.Caps.{ManyAt}
+use Rattle.lrp_model.specs.Plans.{plan, query_reach, time_columns}
+use Rattle.lrp_model.specs.declared.relations.Relation.{Relation}
+use Rattle.lrp_model.specs.declared.tuples.Cell.{Cell}
+use Rattle.lrp_zone.specs.Zones.{ZoneView}
+use Rattle.lrp_store.specs.Stores.{zones_at}
+use Rattle.lrp_store.specs.Settled.{AreSettled}
+use Rattle.lrp_store.specs.Tables.{InAnswer}
+use Rattle.lrp_store.specs.declared.answer.Answer.{Answer}
+use Rattle.lrp_minus.specs.Settling.{IsSmallZone}
+use Rattle.lrp_plan_laws.specs.Rising.{period_at}
+
+-- the answer has the head, the constants and the answers of the query, and the period of the last step; its cells are settled, no bound of theirs is above the last reach times the head's time columns, and no step has more than cap cells
+pub record IsAnswerOf (db : List Relation) (q : Question) (cap : ℕ) (a : Answer) : Type 0 where
+  pub head : a.head.columns ≡ q.head
+  pub domain : a.domain ≡ constants db q
+  pub period : a.period ≡ pos (period_at (plan db q) (length (plan db q)))
+  pub answers : (tuple : List Datum) → InAnswer a.head.columns a.domain a.store tuple ↔ IsAnswer db q tuple
+  pub settled : (cell : Cell) (z : ZoneView) → Contains (zones_at a.store cell) z → AreSettled z (zones_at a.store cell)
+  pub small : (cell : Cell) (z : ZoneView) → Contains (zones_at a.store cell) z → IsSmallZone z (time_columns q.head * query_reach db q)
+  pub few : (s : ℕ) → ManyAt db q cap s → ⊥

@@ -1,0 +1,5 @@
+-- What plans are run on, and what their tables stand for.
+pub mod Answered
+pub mod Planned
+pub mod Running
+pub mod Settling

@@ -1,0 +1,49 @@
+-- Which plans are run.
+use Rattle.std.specs.Prelude.{◌≡◌, ◌↔◌, length, ℕ, ◌≤◌, ◌^◌, ◌≤ℤ◌, pos, List}
+use Rattle.std.specs.List.{AllByRecursion}
+use Rattle.lrp_model.specs.Formulas.{Question}
+use Rattle.lrp_model.specs.Caps.{IsFirstMany, ManyAt}
+use Rattle.lrp_model.specs.Periods.{period}
+use Rattle.lrp_model.specs.Plans.{plan, query_reach, scaled_reach, IsPlan}
+use Rattle.lrp_model.specs.Rows.{Datum}
+use Rattle.lrp_model.specs.Domains.{constants}
+use Rattle.lrp_model.specs.Satisfaction.{IsAnswer}
+use Rattle.lrp_model.specs.TestPoints.{points}
+use Rattle.lrp_model.specs.declared.plans.Plan.{Plan}
+use Rattle.lrp_model.specs.declared.relations.Relation.{Relation}
+use Rattle.lrp_store.specs.Stores.{HasReach}
+use Rattle.lrp_store.specs.Tables.{AreNumbered, InAnswer}
+use Rattle.lrp_store.specs.declared.table.Table.{Table}
+use Rattle.lrp_tables.specs.Columns.{head_times, head_texts}
+use Rattle.lrp_plan_laws.specs.Rising.{period_at}
+use Rattle.lrp_plan_laws.specs.Settled.{IsSettled}
+use Rattle.lrp_eval.specs.declared.evaluation.EvalFault.{EvalFault}
+use Rattle.lrp_eval.specs.declared.evaluation.EvalFault.TheVariants.{TooManyCells, Memory}
+
+-- the plan of a settled query whose points have periods of at least 1; neither the query's period nor its reach, doubled for the answers, is above 2^62
+pub record IsPlanOf (db : List Relation) (q : Question) (p : Plan) : Type 0 where
+  pub settled : IsSettled db q
+  pub points : AllByRecursion (λ at. pos 1 ≤ℤ at.period) (points q.body)
+  pub is : IsPlan p db q
+  pub period : period db q.body ≤ 2 ^ 62
+  pub reach : scaled_reach db q ≤ 2 ^ 62
+
+-- the plan of some query
+pub record IsSomePlan (db : List Relation) (p : Plan) : Type 0 where
+  pub query : Question
+  pub is : IsPlanOf db query p
+
+-- the first step with too many cells, in each query that has the plan; or no memory
+abbrev pub IsCause : List Relation → Plan → ℕ → EvalFault → Type 0
+IsCause db p cap (TooManyCells step) = (q : Question) → IsPlanOf db q p → IsFirstMany db q cap step
+IsCause db p cap Memory = Unit {0}
+
+-- the table has just the answers of the query, in the columns of its head; it has the period of the last step and no more than its reach, and no step has more than cap cells
+pub record HasAnswers (db : List Relation) (q : Question) (cap : ℕ) (table : Table) : Type 0 where
+  pub times : table.vars.times ≡ head_times q.head
+  pub texts : table.vars.texts ≡ head_texts q.head
+  pub answers : (tuple : List Datum) → InAnswer q.head (constants db q) table.store tuple ↔ IsAnswer db q tuple
+  pub numbered : AreNumbered (constants db q) table.store
+  pub period : table.store.period ≡ period_at (plan db q) (length (plan db q))
+  pub reach : HasReach table.store (query_reach db q)
+  pub few : (s : ℕ) → ManyAt db q cap s → ⊥

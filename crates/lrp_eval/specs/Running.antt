@@ -1,0 +1,123 @@
+-- What the tables of the steps of a plan stand for.
+use Rattle.std.specs.Prelude.{◌≡◌, ◌≢◌, ◌↔◌, ℕ, suc, ◌-◌, ℤ, pos, List, [], ◌∷◌, ◌++◌, length, AllPairs, Some, Contains, slice_get, unwrap_or, option_map}
+use Rattle.lrp_model.specs.Texts.{Text, Identifier}
+use Rattle.lrp_model.specs.Formulas.{Question}
+use Rattle.lrp_model.specs.Variables.{Variable, data_variable}
+use Rattle.lrp_model.specs.Satisfaction.{Assignment, Satisfies, structure}
+use Rattle.lrp_model.specs.Domains.{constants}
+use Rattle.lrp_model.specs.Caps.{ManyAt, step_variables}
+use Rattle.lrp_model.specs.Steps.{PlanStep, step_at, formula_at, reach_at}
+use Rattle.lrp_model.specs.Plans.{plan}
+use Rattle.lrp_model.specs.declared.relations.Sort.TheVariants.{Data}
+use Rattle.lrp_model.specs.declared.relations.Column.{Column}
+use Rattle.lrp_model.specs.declared.relations.Value.TheVariants.{Const}
+use Rattle.lrp_model.specs.declared.relations.Row.{Row}
+use Rattle.lrp_model.specs.declared.relations.Relation.{Relation}
+use Rattle.lrp_model.specs.declared.plans.Plan.{Plan}
+use Rattle.lrp_model.specs.declared.plans.StepKind.{StepKind}
+use Rattle.lrp_model.specs.declared.plans.StepKind.TheVariants.{Extend}
+use Rattle.lrp_store.specs.Stores.{IsStore, HasReach}
+use Rattle.lrp_store.specs.Tables.{AreNumbered}
+use Rattle.lrp_store.specs.declared.table.Table.{Table}
+use Rattle.lrp_tables.specs.Columns.{head_times, head_texts}
+use Rattle.lrp_tables.specs.Tables.{Has, named_variables}
+use Rattle.lrp_plan_laws.specs.Rising.{period_at}
+use Rattle.lrp_eval.specs.Planned.{IsPlanOf}
+
+-- the assignment gives each data variable of the list a text of the domain
+abbrev pub HasConstants : List Text → List Variable → Assignment → Type 0
+HasConstants domain vs env = (v : Identifier) → Contains vs (data_variable v) → Contains domain (env.texts v)
+
+-- the lists have the same variables
+abbrev pub SameVariables : List Variable → List Variable → Type 0
+SameVariables vs ws = (v : Variable) → Contains vs v ↔ Contains ws v
+
+-- the variables of the columns of a table
+abbrev pub variables_of : Table → List Variable
+variables_of table = named_variables table.vars.times table.vars.texts
+
+-- the variables of the cells of step s
+abbrev pub variables_at : List Relation → Question → ℕ → List Variable
+variables_at db q s = unwrap_or (option_map (step_variables q.head) (step_at (plan db q) s)) []
+
+-- at the step `head` the columns are the head's, in its order
+abbrev pub IsInOrder : List Relation → Question → ℕ → Table → Type 0
+IsInOrder db q s table =
+    (step : PlanStep) (of : ℕ) → step_at (plan db q) s ≡ Some step → step.kind ≡ Extend of → (table.vars.times ≡ head_times q.head) × (table.vars.texts ≡ head_texts q.head)
+
+-- the table has just the assignments that satisfy the formula of step s, over its variables; it has the step's period, and no more than its reach and cap cells
+pub record IsRun (db : List Relation) (q : Question) (cap s : ℕ) (table : Table) : Type 0 where
+  pub variables : SameVariables (variables_of table) (variables_at db q s)
+  pub means : (env : Assignment) → HasConstants (constants db q) (variables_of table) env → Has table (constants db q) env ↔ Satisfies (formula_at (plan db q) s) (structure db q) env
+  pub numbered : AreNumbered (constants db q) table.store
+  pub period : table.store.period ≡ period_at (plan db q) s
+  pub reach : HasReach table.store (reach_at (plan db q) s)
+  pub few : ManyAt db q cap s → ⊥
+  pub order : IsInOrder db q s table
+
+-- the table of a step by its number, from 1
+pub record IsOperand (tables : List Table) (number : ℕ) (table : Table) : Type 0 where
+  pub at : slice_get tables (number - 1) ≡ Some table
+  pub valid : IsStore table.store
+  pub times_named : length table.vars.times ≡ table.store.shape.times
+  pub texts_named : length table.vars.texts ≡ table.store.shape.texts
+  pub differ : AllPairs ◌≢◌ (table.vars.times ++ table.vars.texts)
+
+-- the tables are those of the first steps
+abbrev pub AreRun : List Relation → Question → ℕ → List Table → Type 0
+AreRun db q cap tables = (i : ℕ) (table : Table) → slice_get tables i ≡ Some table → IsRun db q cap (suc i) table
+
+-- the step behind these tables has this kind and period
+pub record IsNext (db : List Relation) (q : Question) (cap : ℕ) (domain : List Text) (tables : List Table) (kind : StepKind) (period : ℤ) : Type 0 where
+  pub planned : (p : Plan) × IsPlanOf db q p
+  pub step : PlanStep
+  pub at : step_at (plan db q) (suc (length tables)) ≡ Some step
+  pub kind_is : kind ≡ step.kind
+  pub period_is : period ≡ pos step.period
+  pub domain_is : domain ≡ constants db q
+  pub before : AreRun db q cap tables
+
+-- some database and query have such a step
+pub record IsSomeNext (cap : ℕ) (domain : List Text) (tables : List Table) (kind : StepKind) (period : ℤ) : Type 0 where
+  pub database : List Relation
+  pub query : Question
+  pub is : IsNext database query cap domain tables kind period
+
+-- the table is that of the next step, in each database and query that has it
+abbrev pub IsNextTable : ℕ → List Text → List Table → StepKind → ℤ → Table → Type 0
+IsNextTable cap domain tables kind period made = (db : List Relation) (q : Question) → IsNext db q cap domain tables kind period → IsRun db q cap (suc (length tables)) made
+
+-- the next step has more than cap cells, in each database and query that has it
+abbrev pub HasTooMany : ℕ → List Text → List Table → StepKind → ℤ → Type 0
+HasTooMany cap domain tables kind period = (db : List Relation) (q : Question) → IsNext db q cap domain tables kind period → ManyAt db q cap (suc (length tables))
+
+-- some database and query have the step `head` next, with these columns
+pub record IsSomeLast (cap : ℕ) (domain : List Text) (tables : List Table) (of : ℕ) (columns : List Column) (period : ℤ) : Type 0 where
+  pub database : List Relation
+  pub query : Question
+  pub head : columns ≡ query.head
+  pub is : IsNext database query cap domain tables (Extend of) period
+
+-- the table is that of the step `head`, and the step has too many cells, in each database and query that has it next
+abbrev pub IsLastTable : ℕ → List Text → List Table → ℕ → List Column → ℤ → Table → Type 0
+IsLastTable cap domain tables of columns period made = (db : List Relation) (q : Question) → columns ≡ q.head → IsNext db q cap domain tables (Extend of) period → IsRun db q cap (suc (length tables)) made
+
+abbrev pub HasTooManyLast : ℕ → List Text → List Table → ℕ → List Column → ℤ → Type 0
+HasTooManyLast cap domain tables of columns period = (db : List Relation) (q : Question) → columns ≡ q.head → IsNext db q cap domain tables (Extend of) period → ManyAt db q cap (suc (length tables))
+
+-- ---- the texts of a sort as a relation
+
+-- the row of one text
+abbrev pub text_row : Text → Row
+text_row t = record { values = Const t ∷ []; bounds = [] }
+
+-- a column of a data sort
+abbrev pub text_column : Identifier → Column
+text_column name = record { name = name; sort = Data }
+
+-- ---- the whole plan
+
+-- the table is that of the last step, and no step has more than cap cells
+pub record IsLastRun (db : List Relation) (q : Question) (cap : ℕ) (table : Table) : Type 0 where
+  pub run : IsRun db q cap (length (plan db q)) table
+  pub few : (s : ℕ) → ManyAt db q cap s → ⊥

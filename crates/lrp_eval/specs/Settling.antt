@@ -1,0 +1,25 @@
+-- Stores whose cells are settled.
+use Rattle.std.specs.Prelude.{◌≡◌, ◌≢◌, ◌+◌, ◌*◌, ◌≤◌, ◌^◌, List, [], ◌++◌, map, Contains}
+use Rattle.lrp_model.specs.declared.tuples.Cell.{Cell}
+use Rattle.lrp_zone.specs.Zones.{ZoneView, columns_of, reach_of}
+use Rattle.lrp_store.specs.Stores.{StoreView, IsStore, tables_at, zones_at}
+use Rattle.lrp_minus.specs.Settling.{IsSettlement}
+
+-- the zones are appended to the cell's list, and nothing else changes
+pub record AddsZones (cell : Cell) (zones : List ZoneView) (old new : StoreView) : Type 0 where
+  pub shape : new.shape ≡ old.shape
+  pub period : new.period ≡ old.period
+  pub here : tables_at new cell ≡ tables_at old cell ++ map (λ z. z.bounds) zones
+  pub others : (other : Cell) → other ≢ cell → tables_at new other ≡ tables_at old other
+
+-- each zone has room for the bounds of a settlement
+abbrev pub CanSettle : StoreView → Type 0
+CanSettle s = (cell : Cell) (z : ZoneView) → Contains (zones_at s cell) z → columns_of z * reach_of z + z.period ≤ 2 ^ 62
+
+-- the zones of each cell are a settlement of the old ones, and no other cell is held
+pub record IsSettledStore (old new : StoreView) : Type 0 where
+  pub valid : IsStore new
+  pub shape : new.shape ≡ old.shape
+  pub period_is : new.period ≡ old.period
+  pub cells : (cell : Cell) (z : ZoneView) → Contains (zones_at old cell) z → IsSettlement z (zones_at old cell) (zones_at new cell)
+  pub only : (cell : Cell) → tables_at old cell ≡ [] → tables_at new cell ≡ []

@@ -1,0 +1,39 @@
+// The answer of a plan.
+ghost use Rattle.std.specs.Prelude.{IfOk, IfErr};
+ghost use Rattle.lrp_model.specs.Formulas.{Question};
+ghost use Rattle.lrp_eval.specs.Answered.{IsAnswerOf};
+ghost use Rattle.lrp_eval.specs.Planned.{IsCause, IsPlanOf, IsSomePlan};
+
+use crate::evaluation::{EvalFault, run_steps};
+use crate::settling::settled;
+use lrp_model::{Copies, Plan};
+use lrp_rel::Database;
+use lrp_store::Answer;
+use std::alloc::Global;
+
+/// The answers of each settled query that has the plan, with the zones of each cell settled.
+///
+/// `TooManyCells` names the first step whose formula is inhabited in more than `cap` cells of its period.
+pub fn answer(
+    alloc: Global,
+    plan: &Plan,
+    database: &Database,
+    cap: u32,
+) -> Result<Answer, EvalFault>
+    requires plan { IsSomePlan database.now plan.now }
+    ensures answer { IfOk result (λ made. (q : Question) → IsPlanOf database.now q plan.now → IsAnswerOf database.now q cap made) }
+    ensures fault { IfErr result (λ fault. IsCause database.now plan.now cap fault) }
+{
+    let table = run_steps(alloc, plan, database, cap)?;
+    table.store.shape();
+    let store = settled(alloc, &table.store)?;
+    let head = plan.head.copy(alloc)?;
+    let domain = plan.domain.copy(alloc)?;
+    let period = store.period();
+    Ok(Answer {
+        head,
+        period,
+        domain,
+        store,
+    })
+}

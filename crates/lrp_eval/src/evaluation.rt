@@ -1,0 +1,73 @@
+// The steps of a plan, one after another.
+ghost use Rattle.std.specs.Prelude.{◌≡◌, ℕ, suc, IfOk, IfErr};
+ghost use Rattle.lrp_model.specs.Formulas.{Question};
+ghost use Rattle.lrp_store.specs.declared.table.StepFault.TheVariants.{TooManyCells as too_many};
+ghost use Rattle.lrp_eval.specs.Planned.{HasAnswers, IsCause, IsPlanOf, IsSomePlan};
+
+use crate::running::{Setting, run_step};
+use lrp_model::{List, Memory, Plan};
+use lrp_rel::Database;
+use lrp_tables::{StepFault, Table};
+use std::alloc::Global;
+
+/// Why a plan has no answer: a step has too many cells, or memory was refused. Steps are numbered from 1.
+#[derive(Clone, Copy, Debug, PartialEq, Eq)]
+pub enum EvalFault {
+    TooManyCells { step: u32 },
+    Memory,
+}
+
+impl From<Memory> for EvalFault {
+    ghost use Rattle.std.specs.Prelude.{◌≡◌};
+    ghost use Rattle.lrp_eval.specs.declared.evaluation.EvalFault.TheVariants.{Memory as memory};
+
+    ghost from_gives = { λ _ fault. fault ≡ memory };
+
+    fn from(_: Memory) -> EvalFault {
+        EvalFault::Memory
+    }
+}
+
+/// The table of the last step of a plan, which has just the answers of each settled query that has the plan.
+///
+/// The steps are run one after another. `TooManyCells` comes at the first step whose formula is inhabited in more than `cap`
+/// cells of its period.
+pub fn run_steps(
+    alloc: Global,
+    plan: &Plan,
+    database: &Database,
+    cap: u32,
+) -> Result<Table, EvalFault>
+    requires plan { IsSomePlan database.now plan.now }
+    ensures table { IfOk result (λ made. (q : Question) → IsPlanOf database.now q plan.now → HasAnswers database.now q cap made) }
+    ensures fault { IfErr result (λ fault. IsCause database.now plan.now cap fault) }
+{
+    let setting = Setting {
+        alloc,
+        domain: &plan.domain,
+        cap,
+    };
+    let mut tables = List::new(alloc);
+    for step in plan.steps.as_slice() {
+        match run_step(&setting, database, &plan.head, tables.as_slice(), step) {
+            Ok(table) => tables.push(table)?,
+            Err(fault) => return Err(fault_behind(tables.len(), fault)),
+        }
+    }
+    match tables.into_vec().pop() {
+        Some(table) => Ok(table),
+        None => unreachable!(),
+    }
+}
+
+// The fault of the step behind so many tables.
+fn fault_behind(tables: usize, fault: StepFault) -> EvalFault
+    ensures { (step : ℕ) → result ≡ EvalFault.TooManyCells step → (fault ≡ too_many) × (step ≡ suc tables) }
+{
+    match (fault, u32::try_from(tables)) {
+        (StepFault::TooManyCells, Ok(tables)) if tables < u32::MAX => {
+            EvalFault::TooManyCells { step: tables + 1 }
+        }
+        _ => EvalFault::Memory,
+    }
+}

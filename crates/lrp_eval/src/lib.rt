@@ -1,0 +1,16 @@
+//! The evaluation of a plan: its steps are run one after another, and the last table has the answers.
+#![tactic(auto)]
+
+mod answering;
+mod dropping;
+mod evaluation;
+mod joining;
+mod running;
+mod scanning;
+mod selecting;
+mod settling;
+mod subtracting;
+mod uniting;
+
+pub use answering::answer;
+pub use evaluation::{EvalFault, run_steps};

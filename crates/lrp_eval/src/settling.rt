@@ -1,0 +1,58 @@
+// Stores whose cells are settled.
+ghost use Rattle.std.specs.Prelude.{◌≡◌, IfOk, OnOk, Contains, take, pos};
+ghost use Rattle.lrp_zone.specs.Zones.{ZoneView};
+ghost use Rattle.lrp_store.specs.Stores.{IsPadded, zones_at};
+ghost use Rattle.lrp_eval.specs.Settling.{AddsZones, CanSettle, IsSettledStore};
+
+use lrp_minus::settle;
+use lrp_model::{Cell, List, Memory};
+use lrp_store::Store;
+use lrp_zone::Zone;
+use std::alloc::Global;
+
+/// The same tuples, in zones that are settled cell by cell.
+pub(crate) fn settled(alloc: Global, store: &Store) -> Result<Store, Memory>
+    requires room { CanSettle store.now }
+    ensures { IfOk result (λ made. IsSettledStore store.now made) }
+{
+    let mut made = Store::new(alloc, store.shape(), store.period());
+    made.shape();
+    for cell in store.cells() {
+        let zones = zones_of(alloc, store, &cell)?;
+        let zones = settle(alloc, &zones)?;
+        add_all(&mut made, &cell, zones.as_slice())?;
+        made.shape();
+    }
+    Ok(made)
+}
+
+// The zones of a cell, in order.
+fn zones_of(alloc: Global, store: &Store, cell: &Cell) -> Result<List<Zone>, Memory>
+    ensures { IfOk result (λ made. made ≡ zones_at store.now cell.now) }
+{
+    let mut zones = List::new(alloc);
+    for i in 0..store.count(cell) {
+        match store.zone(cell, i) {
+            Some(zone) => zones.push(zone)?,
+            None => unreachable!(),
+        }
+    }
+    Ok(zones)
+}
+
+// Appends zones to a cell's list.
+fn add_all(store: &mut Store, cell: &Cell, zones: &[Zone]) -> Result<(), Memory>
+    requires texts { IsPadded 0 store.old.shape.texts cell.now.texts }
+    requires times { IsPadded (pos 0) store.old.shape.times cell.now.residues }
+    requires periods { (z : ZoneView) → Contains zones.now z → z.period ≡ store.old.period }
+    requires residues { (z : ZoneView) → Contains zones.now z → z.residues ≡ take store.old.shape.times cell.now.residues }
+    ensures { OnOk result (AddsZones cell.now zones.now store.old store.new) }
+{
+    for zone in zones {
+        match store.add(cell, zone, u32::MAX) {
+            Ok(()) => {}
+            Err(_) => return Err(Memory),
+        }
+    }
+    Ok(())
+}
