@@ -1,17 +1,27 @@
 -- The formula that a core form of the program is.
 use Rattle.std.specs.Prelude.{List, [], ◌∷◌}
 use Rattle.lrp_model.specs.Formulas.{Form, Forms, atom, test, sorted, negation, conjunction, disjunction, exists, no_forms, form}
+use Rattle.lrp_model.specs.declared.formulas.Test.{Test}
+use Rattle.lrp_model.specs.declared.formulas.Test.TheVariants.{Compare as OwnCompare, Member as OwnMember, Equal as OwnEqual}
+use Rattle.lrp_core.specs.declared.core_forms.TermTest.{TermTest}
+use Rattle.lrp_core.specs.declared.core_forms.TermTest.TheVariants.{Compare, Member, Equal}
 use Rattle.lrp_core.specs.declared.core_forms.Core.{Core, Atom, Check, Sorted, Not', And', Or', Exists', Row_of-Core, end_of-Core, more_of-Core}
+
+-- the test that one over the terms of a query is
+abbrev pub test_of : TermTest → Test
+test_of (Compare l op r) = OwnCompare l.now op r.now
+test_of (Member t at) = OwnMember t.now at
+test_of (Equal l r) = OwnEqual l.now r.now
 
 abbrev mutual
   pub core_of : Core → Form
-  core_of (Atom relation terms) = atom relation terms
-  core_of (Check t) = test t
-  core_of (Sorted s v) = sorted s v
+  core_of (Atom relation terms) = atom relation.now terms.now
+  core_of (Check t) = test (test_of t)
+  core_of (Sorted s v) = sorted s.now v.now
   core_of (Not' p f) = negation (core_of f)
   core_of (And' shape all) = conjunction (row_cores all)
   core_of (Or' shape all) = disjunction (row_cores all)
-  core_of (Exists' v s p f) = exists v s (core_of f)
+  core_of (Exists' v s p f) = exists v.now s.now (core_of f)
 
   pub row_cores : {m : _} → Row_of-Core m → Forms
   row_cores end_of-Core = no_forms

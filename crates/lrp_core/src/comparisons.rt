@@ -4,48 +4,53 @@ ghost use Rattle.lrp_model.specs.Formulas.{negation, test as test_form};
 ghost use Rattle.lrp_model.specs.Core.{compare, compare_not, positive_test as core_of_test, negative_test as core_of_denied};
 ghost use Rattle.lrp_core.specs.Cores.{core_of};
 
-use crate::Core;
 use crate::junctions::either;
-use lrp_model::{Copies, Memory, Op, Test, TimeTerm};
+use crate::{Core, TermTest};
+use lrp_model::{Memory, Op, Test, TimeTerm};
 use std::alloc::Global;
 
 /// The core form of a test.
-pub fn positive_test(alloc: Global, test: &Test) -> Result<Core, Memory>
-    ensures { IfOk result (λ core. core_of core ≡ core_of_test test.now) }
+pub fn positive_test<'a>(test: &'a Test) -> Core<'a>
+    ensures { core_of result ≡ core_of_test test.now }
 {
-    match test.copy(alloc)? {
-        Test::Compare { left, op, right } => Ok(compared(left, op, right)),
-        test => Ok(Core::Check { test }),
+    match test {
+        Test::Compare { left, op, right } => compared(left, *op, right),
+        test => Core::Check {
+            test: TermTest::of(test),
+        },
     }
 }
 
 /// The core form of its negation.
-pub fn negative_test(alloc: Global, test: &Test) -> Result<Core, Memory>
+pub fn negative_test<'a>(alloc: Global, test: &'a Test) -> Result<Core<'a>, Memory>
     ensures { IfOk result (λ core. core_of core ≡ core_of_denied test.now) }
 {
-    match test.copy(alloc)? {
-        Test::Compare { left, op, right } => not_compared(alloc, left, op, right),
-        test => negated(alloc, Core::Check { test }),
+    match test {
+        Test::Compare { left, op, right } => not_compared(alloc, left, *op, right),
+        test => {
+            let test = TermTest::of(test);
+            negated(alloc, Core::Check { test })
+        }
     }
 }
 
 /// The negation of a core form that may be negated.
-pub fn negated(alloc: Global, f: Core) -> Result<Core, Memory>
-    ensures { IfOk result (λ core. core_of core ≡ negation (core_of f)) }
+pub fn negated<'a>(alloc: Global, f: Core<'a>) -> Result<Core<'a>, Memory>
+    ensures { IfOk result (λ core. core_of core ≡ negation (core_of f.entry)) }
 {
     let of = Box::new(alloc, f)?;
     Ok(Core::Not { of })
 }
 
-fn check(left: TimeTerm, op: Op, right: TimeTerm) -> Core
-    ensures { core_of result ≡ test_form (Test.Compare left op right) }
+fn check<'a>(left: &'a TimeTerm, op: Op, right: &'a TimeTerm) -> Core<'a>
+    ensures { core_of result ≡ test_form (Test.Compare left.now op right.now) }
 {
-    let test = Test::Compare { left, op, right };
+    let test = TermTest::Compare { left, op, right };
     Core::Check { test }
 }
 
-fn compared(left: TimeTerm, op: Op, right: TimeTerm) -> Core
-    ensures { core_of result ≡ compare left op right }
+fn compared<'a>(left: &'a TimeTerm, op: Op, right: &'a TimeTerm) -> Core<'a>
+    ensures { core_of result ≡ compare left.now op right.now }
 {
     match op {
         Op::Le => check(left, Op::Le, right),
@@ -56,8 +61,13 @@ fn compared(left: TimeTerm, op: Op, right: TimeTerm) -> Core
     }
 }
 
-fn not_compared(alloc: Global, left: TimeTerm, op: Op, right: TimeTerm) -> Result<Core, Memory>
-    ensures { IfOk result (λ core. core_of core ≡ compare_not left op right) }
+fn not_compared<'a>(
+    alloc: Global,
+    left: &'a TimeTerm,
+    op: Op,
+    right: &'a TimeTerm,
+) -> Result<Core<'a>, Memory>
+    ensures { IfOk result (λ core. core_of core ≡ compare_not left.now op right.now) }
 {
     match op {
         Op::Le => Ok(check(right, Op::Lt, left)),
@@ -69,10 +79,14 @@ fn not_compared(alloc: Global, left: TimeTerm, op: Op, right: TimeTerm) -> Resul
 }
 
 // One of the two times is before the other.
-fn differing(alloc: Global, left: TimeTerm, right: TimeTerm) -> Result<Core, Memory>
-    ensures { IfOk result (λ core. core_of core ≡ compare_not left Op.Eq right) }
+fn differing<'a>(
+    alloc: Global,
+    left: &'a TimeTerm,
+    right: &'a TimeTerm,
+) -> Result<Core<'a>, Memory>
+    ensures { IfOk result (λ core. core_of core ≡ compare_not left.now Op.Eq right.now) }
 {
-    let before = check(left.copy(alloc)?, Op::Lt, right.copy(alloc)?);
+    let before = check(left, Op::Lt, right);
     let after = check(right, Op::Lt, left);
     either(alloc, before, after)
 }

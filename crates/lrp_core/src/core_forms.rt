@@ -1,32 +1,97 @@
-// Formulas in core form.
-use lrp_model::{List, Name, Sort, Term, Test};
+// Formulas in core form, over the names and the terms of a query.
+ghost use Rattle.std.specs.Prelude.{◌≡◌, IfOk};
+ghost use Rattle.lrp_core.specs.Cores.{test_of};
+
+use lrp_model::{
+    Copies, DataTerm, List, Memory, Name, Op, RowPoint, Sort, Term, Test, TimeTerm,
+};
+use std::alloc::Global;
+
+/// A test over the terms of a query.
+#[derive(Clone, Copy, Debug)]
+pub enum TermTest<'a> {
+    Compare {
+        left: &'a TimeTerm,
+        op: Op,
+        right: &'a TimeTerm,
+    },
+    Member {
+        term: &'a TimeTerm,
+        point: RowPoint,
+    },
+    Equal {
+        left: &'a DataTerm,
+        right: &'a DataTerm,
+    },
+}
+
+impl<'a> TermTest<'a> {
+    /// The same test.
+    pub fn of(test: &'a Test) -> TermTest<'a>
+        ensures { test_of result ≡ test.now }
+    {
+        match test {
+            Test::Compare { left, op, right } => TermTest::Compare {
+                left,
+                op: *op,
+                right,
+            },
+            Test::Member { term, point } => TermTest::Member {
+                term,
+                point: *point,
+            },
+            Test::Equal { left, right } => TermTest::Equal { left, right },
+        }
+    }
+
+    /// The test with terms of its own.
+    pub fn owned(&self, alloc: Global) -> Result<Test, Memory>
+        ensures { IfOk result (λ made. made ≡ test_of self.now) }
+    {
+        match self {
+            TermTest::Compare { left, op, right } => Ok(Test::Compare {
+                left: left.copy(alloc)?,
+                op: *op,
+                right: right.copy(alloc)?,
+            }),
+            TermTest::Member { term, point } => Ok(Test::Member {
+                term: term.copy(alloc)?,
+                point: *point,
+            }),
+            TermTest::Equal { left, right } => Ok(Test::Equal {
+                left: left.copy(alloc)?,
+                right: right.copy(alloc)?,
+            }),
+        }
+    }
+}
 
 /// A formula in core form: no implication, no `forall`, and a `Not` before an atom, an `in`, an equality, an `And` or an `Exists` alone. `Sorted` says that the variable's text is a text of the sort.
 #[derive(Debug, Drop)]
-pub enum Core {
+pub enum Core<'a> {
     Atom {
-        relation: Name,
-        terms: List<Term>,
+        relation: &'a Name,
+        terms: &'a List<Term>,
     },
     Check {
-        test: Test,
+        test: TermTest<'a>,
     },
     Sorted {
-        sort: Sort,
-        name: Name,
+        sort: &'a Sort,
+        name: &'a Name,
     },
     Not {
-        of: Box<Core>,
+        of: Box<Core<'a>>,
     },
     And {
-        of: Vec<Core>,
+        of: Vec<Core<'a>>,
     },
     Or {
-        of: Vec<Core>,
+        of: Vec<Core<'a>>,
     },
     Exists {
-        name: Name,
-        sort: Sort,
-        of: Box<Core>,
+        name: &'a Name,
+        sort: &'a Sort,
+        of: Box<Core<'a>>,
     },
 }

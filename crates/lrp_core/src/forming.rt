@@ -7,8 +7,7 @@ ghost use Rattle.lrp_core.specs.Cores.{core_of, cores_of};
 use crate::Core;
 use crate::comparisons::{negated, negative_test, positive_test};
 use crate::junctions::{both, either, push_conjunct, push_disjunct};
-use crate::terms::copy_terms;
-use lrp_model::{Column, Copies, Formula, List, Memory, Name, Query, Sort, Term};
+use lrp_model::{Column, Formula, List, Memory, Name, Query, Sort, Term};
 use std::alloc::Global;
 
 /// The core form of a query. `named` says whether some column of the database has a named sort.
@@ -24,8 +23,12 @@ pub fn core_form(alloc: Global, query: &Query, named: bool) -> Result<Core, Memo
 }
 
 // The sort elements of the data columns, and then the formula.
-fn guarded(alloc: Global, columns: &[Column], body: Core) -> Result<Core, Memory>
-    ensures { IfOk result (λ core. core_of core ≡ and_list (joined (elements_of columns.now) (form (core_of body) no_forms))) }
+fn guarded<'a>(
+    alloc: Global,
+    columns: &'a [Column],
+    body: Core<'a>,
+) -> Result<Core<'a>, Memory>
+    ensures { IfOk result (λ core. core_of core ≡ and_list (joined (elements_of columns.now) (form (core_of body.entry) no_forms))) }
 {
     let mut of = head_elements(alloc, columns)?;
     push_conjunct(&mut of, body)?;
@@ -33,85 +36,87 @@ fn guarded(alloc: Global, columns: &[Column], body: Core) -> Result<Core, Memory
 }
 
 // The sort elements of the data columns, in order.
-fn head_elements(alloc: Global, columns: &[Column]) -> Result<Vec<Core>, Memory>
+fn head_elements<'a>(alloc: Global, columns: &'a [Column]) -> Result<Vec<Core<'a>>, Memory>
     ensures { IfOk result (λ made. cores_of made.items ≡ elements_of columns.now) }
 {
     let mut all = Vec::new(alloc);
     for column in columns {
-        push_column(alloc, &mut all, column)?;
+        push_column(&mut all, column)?;
     }
     Ok(all)
 }
 
 // The sort element of a data column.
-fn push_column(alloc: Global, all: &mut Vec<Core>, column: &Column) -> Result<(), Memory>
+fn push_column<'a>(all: &mut Vec<Core<'a>>, column: &'a Column) -> Result<(), Memory>
     ensures { OnOk result (cores_of all.new.items ≡ joined (cores_of all.old.items) (column_elements column.now.sort column.now.name)) }
 {
     if !column.sort.is_time() {
-        all.push(sorted(alloc, &column.sort, &column.name)?)?;
+        all.push(sorted(&column.sort, &column.name))?;
     }
     Ok(())
 }
 
-fn sorted(alloc: Global, sort: &Sort, name: &Name) -> Result<Core, Memory>
-    ensures { IfOk result (λ core. core_of core ≡ sorted_form sort.now name.now) }
+fn sorted<'a>(sort: &'a Sort, name: &'a Name) -> Core<'a>
+    ensures { core_of result ≡ sorted_form sort.now name.now }
 {
-    Ok(Core::Sorted {
-        sort: sort.copy(alloc)?,
-        name: name.copy(alloc)?,
-    })
+    Core::Sorted { sort, name }
 }
 
 // Where sorts are named, a quantifier over a data sort takes its formula with the sort element of its variable.
-fn with_sorted(
+fn with_sorted<'a>(
     alloc: Global,
     named: bool,
-    sort: &Sort,
-    name: &Name,
-    f: Core,
-) -> Result<Core, Memory>
-    ensures { IfOk result (λ core. core_of core ≡ with_sort named sort.now name.now (core_of f)) }
+    sort: &'a Sort,
+    name: &'a Name,
+    f: Core<'a>,
+) -> Result<Core<'a>, Memory>
+    ensures { IfOk result (λ core. core_of core ≡ with_sort named sort.now name.now (core_of f.entry)) }
 {
     if named && !sort.is_time() {
-        both(alloc, sorted(alloc, sort, name)?, f)
+        both(alloc, sorted(sort, name), f)
     } else {
         Ok(f)
     }
 }
 
-fn some(alloc: Global, named: bool, name: &Name, sort: &Sort, f: Core) -> Result<Core, Memory>
-    ensures { IfOk result (λ core. core_of core ≡ exists name.now sort.now (with_sort named sort.now name.now (core_of f))) }
+fn some<'a>(
+    alloc: Global,
+    named: bool,
+    name: &'a Name,
+    sort: &'a Sort,
+    f: Core<'a>,
+) -> Result<Core<'a>, Memory>
+    ensures { IfOk result (λ core. core_of core ≡ exists name.now sort.now (with_sort named sort.now name.now (core_of f.entry))) }
 {
     let of = Box::new(alloc, with_sorted(alloc, named, sort, name, f)?)?;
-    Ok(Core::Exists {
-        name: name.copy(alloc)?,
-        sort: sort.copy(alloc)?,
-        of,
-    })
+    Ok(Core::Exists { name, sort, of })
 }
 
-fn none(alloc: Global, named: bool, name: &Name, sort: &Sort, f: Core) -> Result<Core, Memory>
-    ensures { IfOk result (λ core. core_of core ≡ negation (exists name.now sort.now (with_sort named sort.now name.now (core_of f)))) }
+fn none<'a>(
+    alloc: Global,
+    named: bool,
+    name: &'a Name,
+    sort: &'a Sort,
+    f: Core<'a>,
+) -> Result<Core<'a>, Memory>
+    ensures { IfOk result (λ core. core_of core ≡ negation (exists name.now sort.now (with_sort named sort.now name.now (core_of f.entry)))) }
 {
     negated(alloc, some(alloc, named, name, sort, f)?)
 }
 
-fn holding(alloc: Global, relation: &Name, terms: &List<Term>) -> Result<Core, Memory>
-    ensures { IfOk result (λ core. core_of core ≡ atom relation.now terms.now) }
+fn holding<'a>(relation: &'a Name, terms: &'a List<Term>) -> Core<'a>
+    ensures { core_of result ≡ atom relation.now terms.now }
 {
-    Ok(Core::Atom {
-        relation: relation.copy(alloc)?,
-        terms: copy_terms(alloc, terms.as_slice())?,
-    })
+    Core::Atom { relation, terms }
 }
 
 #[cycle(forming)]
-fn positive(alloc: Global, f: &Formula, named: bool) -> Result<Core, Memory>
+fn positive<'a>(alloc: Global, f: &'a Formula, named: bool) -> Result<Core<'a>, Memory>
     ensures { IfOk result (λ core. core_of core ≡ positive_of (form_of f.now) named) }
 {
     match f {
-        Formula::Atom { relation, terms } => holding(alloc, relation, terms),
-        Formula::Check { test } => positive_test(alloc, test),
+        Formula::Atom { relation, terms } => Ok(holding(relation, terms)),
+        Formula::Check { test } => Ok(positive_test(test)),
         Formula::Not { of } => negative(alloc, of, named),
         Formula::And { of } => all_positive(alloc, of, named),
         Formula::Or { of } => some_positive(alloc, of, named),
@@ -132,11 +137,11 @@ fn positive(alloc: Global, f: &Formula, named: bool) -> Result<Core, Memory>
 }
 
 #[cycle(forming)]
-fn negative(alloc: Global, f: &Formula, named: bool) -> Result<Core, Memory>
+fn negative<'a>(alloc: Global, f: &'a Formula, named: bool) -> Result<Core<'a>, Memory>
     ensures { IfOk result (λ core. core_of core ≡ negative_of (form_of f.now) named) }
 {
     match f {
-        Formula::Atom { relation, terms } => negated(alloc, holding(alloc, relation, terms)?),
+        Formula::Atom { relation, terms } => negated(alloc, holding(relation, terms)),
         Formula::Check { test } => negative_test(alloc, test),
         Formula::Not { of } => positive(alloc, of, named),
         Formula::And { of } => negated(alloc, all_positive(alloc, of, named)?),
@@ -159,7 +164,7 @@ fn negative(alloc: Global, f: &Formula, named: bool) -> Result<Core, Memory>
 
 // All of the formulas.
 #[cycle(forming)]
-fn all_positive(alloc: Global, fs: &[Formula], named: bool) -> Result<Core, Memory>
+fn all_positive<'a>(alloc: Global, fs: &'a [Formula], named: bool) -> Result<Core<'a>, Memory>
     ensures { IfOk result (λ core. core_of core ≡ and_list (positives (forms_of fs.now) named)) }
 {
     let mut of = Vec::with_capacity(alloc, fs.len())?;
@@ -172,7 +177,7 @@ fn all_positive(alloc: Global, fs: &[Formula], named: bool) -> Result<Core, Memo
 
 // Some of the formulas.
 #[cycle(forming)]
-fn some_positive(alloc: Global, fs: &[Formula], named: bool) -> Result<Core, Memory>
+fn some_positive<'a>(alloc: Global, fs: &'a [Formula], named: bool) -> Result<Core<'a>, Memory>
     ensures { IfOk result (λ core. core_of core ≡ or_list (positives (forms_of fs.now) named)) }
 {
     let mut of = Vec::with_capacity(alloc, fs.len())?;
@@ -185,7 +190,7 @@ fn some_positive(alloc: Global, fs: &[Formula], named: bool) -> Result<Core, Mem
 
 // None of the formulas.
 #[cycle(forming)]
-fn all_negative(alloc: Global, fs: &[Formula], named: bool) -> Result<Core, Memory>
+fn all_negative<'a>(alloc: Global, fs: &'a [Formula], named: bool) -> Result<Core<'a>, Memory>
     ensures { IfOk result (λ core. core_of core ≡ and_list (negatives (forms_of fs.now) named)) }
 {
     let mut of = Vec::with_capacity(alloc, fs.len())?;

@@ -9,8 +9,8 @@ use lrp_model::Memory;
 use std::alloc::Global;
 
 /// Both formulas.
-pub fn both(alloc: Global, f: Core, g: Core) -> Result<Core, Memory>
-    ensures { IfOk result (λ core. core_of core ≡ and_two (core_of f) (core_of g)) }
+pub fn both<'a>(alloc: Global, f: Core<'a>, g: Core<'a>) -> Result<Core<'a>, Memory>
+    ensures { IfOk result (λ core. core_of core ≡ and_two (core_of f.entry) (core_of g.entry)) }
 {
     let mut of = Vec::with_capacity(alloc, 2)?;
     push_conjunct(&mut of, f)?;
@@ -19,8 +19,8 @@ pub fn both(alloc: Global, f: Core, g: Core) -> Result<Core, Memory>
 }
 
 /// One of the two formulas.
-pub fn either(alloc: Global, f: Core, g: Core) -> Result<Core, Memory>
-    ensures { IfOk result (λ core. core_of core ≡ or_two (core_of f) (core_of g)) }
+pub fn either<'a>(alloc: Global, f: Core<'a>, g: Core<'a>) -> Result<Core<'a>, Memory>
+    ensures { IfOk result (λ core. core_of core ≡ or_two (core_of f.entry) (core_of g.entry)) }
 {
     let mut of = Vec::with_capacity(alloc, 2)?;
     push_disjunct(&mut of, f)?;
@@ -29,8 +29,8 @@ pub fn either(alloc: Global, f: Core, g: Core) -> Result<Core, Memory>
 }
 
 /// A further element of an `and`.
-pub fn push_conjunct(all: &mut Vec<Core>, f: Core) -> Result<(), Memory>
-    ensures { OnOk result (cores_of all.new.items ≡ joined (cores_of all.old.items) (conjuncts (core_of f))) }
+pub fn push_conjunct<'a>(all: &mut Vec<Core<'a>>, f: Core<'a>) -> Result<(), Memory>
+    ensures { OnOk result (cores_of all.new.items ≡ joined (cores_of all.old.items) (conjuncts (core_of f.entry))) }
 {
     match f {
         Core::And { mut of } => all.append(&mut of)?,
@@ -40,8 +40,8 @@ pub fn push_conjunct(all: &mut Vec<Core>, f: Core) -> Result<(), Memory>
 }
 
 /// A further element of an `or`.
-pub fn push_disjunct(all: &mut Vec<Core>, f: Core) -> Result<(), Memory>
-    ensures { OnOk result (cores_of all.new.items ≡ joined (cores_of all.old.items) (disjuncts (core_of f))) }
+pub fn push_disjunct<'a>(all: &mut Vec<Core<'a>>, f: Core<'a>) -> Result<(), Memory>
+    ensures { OnOk result (cores_of all.new.items ≡ joined (cores_of all.old.items) (disjuncts (core_of f.entry))) }
 {
     match f {
         Core::Or { mut of } => all.append(&mut of)?,

@@ -13,7 +13,7 @@ mod tests;
 mod variable_trees;
 mod variables;
 
-pub use core_forms::Core;
+pub use core_forms::{Core, TermTest};
 pub use coverage::{are_among, are_same, covers, meet};
 pub use forming::core_form;
 pub use literals::query_texts;

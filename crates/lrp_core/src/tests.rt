@@ -146,15 +146,15 @@ fn sign(op: Op) -> &'static [u8] {
     }
 }
 
-fn write_test(out: &mut Vec<u8>, test: &Test) -> Result<(), Fail> {
+fn write_test(out: &mut Vec<u8>, test: &TermTest<'_>) -> Result<(), Fail> {
     match test {
-        Test::Compare { left, op, right } => {
+        TermTest::Compare { left, op, right } => {
             write_time(out, left)?;
             write(out, sign(*op))?;
             write_time(out, right)
         }
-        Test::Member { .. } => write(out, b"in"),
-        Test::Equal { .. } => write(out, b"equal"),
+        TermTest::Member { .. } => write(out, b"in"),
+        TermTest::Equal { .. } => write(out, b"equal"),
     }
 }
 
@@ -167,7 +167,7 @@ fn sort_text(sort: &Sort) -> &[u8] {
 }
 
 #[cycle(writing)]
-fn write_core(out: &mut Vec<u8>, core: &Core) -> Result<(), Fail> {
+fn write_core(out: &mut Vec<u8>, core: &Core<'_>) -> Result<(), Fail> {
     match core {
         Core::Atom { relation, .. } => write(out, relation.as_bytes()),
         Core::Check { test } => write_test(out, test),
@@ -190,7 +190,7 @@ fn write_core(out: &mut Vec<u8>, core: &Core) -> Result<(), Fail> {
 }
 
 #[cycle(writing)]
-fn write_each(out: &mut Vec<u8>, word: &[u8], cores: &[Core]) -> Result<(), Fail> {
+fn write_each(out: &mut Vec<u8>, word: &[u8], cores: &[Core<'_>]) -> Result<(), Fail> {
     write(out, word)?;
     for core in cores {
         write(out, b" ")?;

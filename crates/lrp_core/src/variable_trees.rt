@@ -21,7 +21,7 @@ pub struct VariableTree {
 
 /// The tree of a core form. Each part of it is looked at once.
 #[cycle(trees)]
-pub fn variable_tree(alloc: Global, core: &Core) -> Result<VariableTree, Memory>
+pub fn variable_tree(alloc: Global, core: &Core<'_>) -> Result<VariableTree, Memory>
     ensures { IfOk result (λ made. tree_of made ≡ free_tree (core_of core.now)) }
 {
     match core {
@@ -40,7 +40,7 @@ pub fn variable_tree(alloc: Global, core: &Core) -> Result<VariableTree, Memory>
 
 // The tree of these elements.
 #[cycle(trees)]
-fn tree_of_all(alloc: Global, of: &[Core]) -> Result<VariableTree, Memory>
+fn tree_of_all(alloc: Global, of: &[Core<'_>]) -> Result<VariableTree, Memory>
     ensures { IfOk result (λ made. tree_of made ≡ free_tree (conjunction (cores_of of.now))) }
 {
     let mut variables = List::new(alloc);
@@ -54,7 +54,7 @@ fn tree_of_all(alloc: Global, of: &[Core]) -> Result<VariableTree, Memory>
 }
 
 // The tree of a formula with no elements in it.
-fn leaf(alloc: Global, core: &Core) -> Result<VariableTree, Memory>
+fn leaf(alloc: Global, core: &Core<'_>) -> Result<VariableTree, Memory>
     ensures { IfOk result (λ made. tree_of made ≡ tree (each_once (free (core_of core.now))) no_trees) }
 {
     let variables = free_variables(alloc, core)?;

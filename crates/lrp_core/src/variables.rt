@@ -2,11 +2,11 @@
 ghost use Rattle.std.specs.Prelude.{◌≡◌, [], ◌∷◌, IfOk, OnOk, map, true};
 ghost use Rattle.std.specs.List.{flat_map};
 ghost use Rattle.lrp_model.specs.Variables.{Variable as VariableOf, bound_by, same_variable, is_among as is_member, variables_of_time, variables_of_data, variables_of_term, variables_of_test, free, free_each};
-ghost use Rattle.lrp_core.specs.Cores.{core_of, cores_of};
+ghost use Rattle.lrp_core.specs.Cores.{core_of, cores_of, test_of};
 ghost use Rattle.lrp_core.specs.FreeVariables.{variable_of, with_variable, with_variables, others, each_once};
 
-use crate::Core;
-use lrp_model::{Copies, DataTerm, List, Memory, Name, Sort, Term, Test, TimeTerm};
+use crate::{Core, TermTest};
+use lrp_model::{Copies, DataTerm, List, Memory, Name, Sort, Term, TimeTerm};
 use std::alloc::Global;
 
 /// A variable for integers, or one for data texts. Two variables are one where their kinds and their names are.
@@ -30,7 +30,7 @@ impl Copies for Variable {
 }
 
 /// The variables that occur free in a core form, each once, in order of their first occurrences.
-pub fn free_variables(alloc: Global, core: &Core) -> Result<List<Variable>, Memory>
+pub fn free_variables(alloc: Global, core: &Core<'_>) -> Result<List<Variable>, Memory>
     ensures value { IfOk result (λ made. map variable_of made ≡ each_once (free (core_of core.now))) }
     ensures members { IfOk result (λ made. (v : VariableOf) → is_member (map variable_of made) v ≡ is_member (free (core_of core.now)) v) }
 {
@@ -174,16 +174,16 @@ fn add_terms(alloc: Global, all: &mut List<Variable>, terms: &[Term]) -> Result<
     Ok(())
 }
 
-fn add_test(alloc: Global, all: &mut List<Variable>, test: &Test) -> Result<(), Memory>
-    ensures { OnOk result (map variable_of all.new ≡ with_variables (map variable_of all.old) (variables_of_test test.now)) }
+fn add_test(alloc: Global, all: &mut List<Variable>, test: &TermTest<'_>) -> Result<(), Memory>
+    ensures { OnOk result (map variable_of all.new ≡ with_variables (map variable_of all.old) (variables_of_test (test_of test.now))) }
 {
     match test {
-        Test::Compare { left, right, .. } => {
+        TermTest::Compare { left, right, .. } => {
             add_time_term(alloc, all, left)?;
             add_time_term(alloc, all, right)
         }
-        Test::Member { term, .. } => add_time_term(alloc, all, term),
-        Test::Equal { left, right } => {
+        TermTest::Member { term, .. } => add_time_term(alloc, all, term),
+        TermTest::Equal { left, right } => {
             add_data_term(alloc, all, left)?;
             add_data_term(alloc, all, right)
         }
@@ -221,7 +221,7 @@ fn add_other(
 }
 
 #[cycle(variables)]
-fn add_free(alloc: Global, all: &mut List<Variable>, core: &Core) -> Result<(), Memory>
+fn add_free(alloc: Global, all: &mut List<Variable>, core: &Core<'_>) -> Result<(), Memory>
     ensures { OnOk result (map variable_of all.new ≡ with_variables (map variable_of all.old) (free (core_of core.now))) }
 {
     match core {
@@ -240,7 +240,7 @@ fn add_free(alloc: Global, all: &mut List<Variable>, core: &Core) -> Result<(), 
 }
 
 #[cycle(variables)]
-fn add_each(alloc: Global, all: &mut List<Variable>, cores: &[Core]) -> Result<(), Memory>
+fn add_each(alloc: Global, all: &mut List<Variable>, cores: &[Core<'_>]) -> Result<(), Memory>
     ensures { OnOk result (map variable_of all.new ≡ with_variables (map variable_of all.old) (free_each (cores_of cores.now))) }
 {
     for core in cores {

@@ -28,7 +28,7 @@ pub(crate) fn plan_core(
     alloc: Global,
     sources: &Sources<'_>,
     draft: &mut Draft,
-    core: &Core,
+    core: &Core<'_>,
     inner: &[VariableTree],
 ) -> Result<(), Memory>
     ensures { OnOk result ((M : Structure) (K : ℕ) → AreSources M sources.now → AreInner inner.now (core_of core.now) → CanPlan M K (core_of core.now) → Extends M K (plan_of (core_of core.now)) draft.old draft.new) }
@@ -41,7 +41,7 @@ pub(crate) fn plan_core(
             draft.scan(facts, relation, terms)
         }
         Core::Check { test } => {
-            let test = test.copy(alloc)?;
+            let test = test.owned(alloc)?;
             draft.leaf(test)
         }
         Core::Sorted { sort, name } => {
@@ -70,7 +70,7 @@ fn plan_some(
     alloc: Global,
     sources: &Sources<'_>,
     draft: &mut Draft,
-    of: &[Core],
+    of: &[Core<'_>],
     inner: &[VariableTree],
 ) -> Result<(), Memory>
     ensures { OnOk result ((M : Structure) (K : ℕ) → AreSources M sources.now → AreInner inner.now (disjunction (cores_of of.now)) → CanPlan M K (disjunction (cores_of of.now)) → Extends M K (plan_of (disjunction (cores_of of.now))) draft.old draft.new) }
@@ -90,7 +90,7 @@ fn plan_with(
     alloc: Global,
     sources: &Sources<'_>,
     draft: &mut Draft,
-    core: &Core,
+    core: &Core<'_>,
     trees: &[VariableTree],
     index: usize,
 ) -> Result<(), Memory>
@@ -108,7 +108,7 @@ fn plan_all(
     alloc: Global,
     sources: &Sources<'_>,
     draft: &mut Draft,
-    of: &[Core],
+    of: &[Core<'_>],
     inner: &[VariableTree],
 ) -> Result<(), Memory>
     ensures { OnOk result ((M : Structure) (K : ℕ) → AreSources M sources.now → AreInner inner.now (conjunction (cores_of of.now)) → CanPlan M K (conjunction (cores_of of.now)) → Extends M K (plan_of (conjunction (cores_of of.now))) draft.old draft.new) }
@@ -136,7 +136,7 @@ fn plan_positives(
     alloc: Global,
     sources: &Sources<'_>,
     draft: &mut Draft,
-    of: &[Core],
+    of: &[Core<'_>],
     positives: VecDeque<Element<'_>>,
     taking: &mut Taking,
 ) -> Result<(), Memory>
@@ -156,7 +156,7 @@ fn plan_positive(
     alloc: Global,
     sources: &Sources<'_>,
     draft: &mut Draft,
-    of: &[Core],
+    of: &[Core<'_>],
     left: &mut Waiting<'_>,
     taking: &mut Taking,
 ) -> Result<(), Memory>
@@ -184,7 +184,7 @@ fn plan_negations(
     alloc: Global,
     sources: &Sources<'_>,
     draft: &mut Draft,
-    of: &[Core],
+    of: &[Core<'_>],
     negations: VecDeque<Element<'_>>,
     taking: &mut Taking,
 ) -> Result<(), Memory>
@@ -204,7 +204,7 @@ fn plan_negation(
     alloc: Global,
     sources: &Sources<'_>,
     draft: &mut Draft,
-    of: &[Core],
+    of: &[Core<'_>],
     left: &mut Waiting<'_>,
     taking: &mut Taking,
 ) -> Result<(), Memory>
@@ -233,7 +233,7 @@ fn plan_at(
     alloc: Global,
     sources: &Sources<'_>,
     draft: &mut Draft,
-    of: &[Core],
+    of: &[Core<'_>],
     index: usize,
     inner: &[VariableTree],
 ) -> Result<(), Memory>
@@ -251,7 +251,7 @@ fn plan_denied_at(
     alloc: Global,
     sources: &Sources<'_>,
     draft: &mut Draft,
-    of: &[Core],
+    of: &[Core<'_>],
     index: usize,
     inner: &[VariableTree],
 ) -> Result<(), Memory>
@@ -269,7 +269,7 @@ fn plan_denied(
     alloc: Global,
     sources: &Sources<'_>,
     draft: &mut Draft,
-    core: &Core,
+    core: &Core<'_>,
     inner: &[VariableTree],
 ) -> Result<(), Memory>
     ensures { OnOk result ((M : Structure) (K : ℕ) (f : Form) → AreSources M sources.now → core_of core.now ≡ negation f → AreInner inner.now f → CanPlan M K f → Extends M K (plan_of f) draft.old draft.new) }

@@ -78,7 +78,7 @@ fn plan_gathered(
     alloc: Global,
     query: &Query,
     sources: &Sources<'_>,
-    core: &Core,
+    core: &Core<'_>,
 ) -> Result<Plan, PlanFault>
     ensures { (db : List RelationOf) → AreGathered db (question_of query.now) sources.now (core_of core.now) → IsOutcome db (question_of query.now) result }
 {
@@ -128,7 +128,7 @@ fn gather<'a>(alloc: Global, query: &Query, database: &'a Database) -> Result<So
 }
 
 // The period of a core form, or `None` where it is above 2^62.
-fn whole_period(sources: &Sources<'_>, core: &Core) -> Option<Period>
+fn whole_period(sources: &Sources<'_>, core: &Core<'_>) -> Option<Period>
     ensures { (M : Structure) → AreSources M sources.now → IsPeriodOf (periods (core_of core.now) M.relations) (option_map (λ p. p.number) result) }
 {
     with_core(sources, core, Some(one()))
@@ -138,7 +138,7 @@ fn whole_period(sources: &Sources<'_>, core: &Core) -> Option<Period>
 fn whole_draft(
     alloc: Global,
     sources: &Sources<'_>,
-    core: &Core,
+    core: &Core<'_>,
     period: Period,
 ) -> Result<Draft, Memory>
     ensures { IfOk result (λ made. IsWholeDraft sources.now (core_of core.now) period.number made) }

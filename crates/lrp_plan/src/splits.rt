@@ -1,6 +1,6 @@
 // The elements of an `and` by what they are.
 ghost use Rattle.std.specs.Prelude.{◌≡◌, ◌<◌, ◌^◌, IfOk, OnOk, slice_get, Some};
-ghost use Rattle.lrp_core.specs.Cores.{cores_of};
+ghost use Rattle.lrp_core.specs.Cores.{cores_of, test_of};
 ghost use Rattle.lrp_core.specs.declared.variable_trees.VariableTree.{VariableTree as TreeOf};
 ghost use Rattle.lrp_model.specs.Formulas.{conjunction};
 ghost use Rattle.lrp_model.specs.Satisfaction.{Structure};
@@ -11,8 +11,8 @@ ghost use Rattle.lrp_plan.specs.Sources.{AreSources};
 
 use crate::elements::{Element, Split};
 use crate::sources::Sources;
-use lrp_core::{Core, VariableTree};
-use lrp_model::{Copies, List, Memory, Test};
+use lrp_core::{Core, TermTest, VariableTree};
+use lrp_model::{List, Memory, Test};
 use std::alloc::Global;
 use std::collections::VecDeque;
 
@@ -31,7 +31,7 @@ pub(crate) struct Parts<'a> {
 pub(crate) fn split<'a>(
     alloc: Global,
     sources: &Sources<'_>,
-    of: &[Core],
+    of: &[Core<'_>],
     inner: &'a [VariableTree],
 ) -> Result<Split<'a>, Memory>
     ensures { IfOk result (λ made. (M : Structure) → AreSources M sources.now → AreInner inner.now (conjunction (cores_of of.now)) → IsSplitOf M of.now made) }
@@ -63,7 +63,7 @@ fn sort_out_at<'a>(
     sources: &Sources<'_>,
     parts: &mut Parts<'a>,
     index: usize,
-    core: &Core,
+    core: &Core<'_>,
     inner: &'a [VariableTree],
 ) -> Result<(), Memory>
     ensures { OnOk result ((M : Structure) (tree : TreeOf) → AreSources M sources.now → slice_get inner.now index ≡ Some tree → SortsOut M index core.now tree parts.old parts.new) }
@@ -80,7 +80,7 @@ fn sort_out<'a>(
     sources: &Sources<'_>,
     parts: &mut Parts<'a>,
     index: usize,
-    core: &Core,
+    core: &Core<'_>,
     tree: &'a VariableTree,
 ) -> Result<(), Memory>
     ensures { OnOk result ((M : Structure) → AreSources M sources.now → SortsOut M index core.now tree.now parts.old parts.new) }
@@ -89,7 +89,7 @@ fn sort_out<'a>(
         Core::Not { .. } => add_negation(parts, index, tree),
         Core::Check { test } => {
             if is_test(test) {
-                let test = test.copy(alloc)?;
+                let test = test.owned(alloc)?;
                 parts.tests.push(test)?;
                 Ok(())
             } else {
@@ -146,8 +146,8 @@ fn rank_of(rows: u64) -> u128
 }
 
 // Whether it is a comparison or an equality.
-fn is_test(test: &Test) -> bool
-    ensures { result ≡ is_compared test.now }
+fn is_test(test: &TermTest<'_>) -> bool
+    ensures { result ≡ is_compared (test_of test.now) }
 {
-    !matches!(test, Test::Member { .. })
+    !matches!(test, TermTest::Member { .. })
 }

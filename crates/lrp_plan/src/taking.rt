@@ -10,8 +10,8 @@ ghost use Rattle.lrp_plan.specs.Elements.{TakesTests, TurnsTest};
 ghost use Rattle.lrp_plan.specs.Taking.{NextTest, TakesIn, TakesOff, TakesTest, HaveSame, Carries, Splits, Subtracts, covers as covered_by};
 
 use crate::drafts::{Draft, Operand};
-use lrp_core::{Core, Variable, add_variables, covers, free_variables};
-use lrp_model::{Copies, List, Memory, Test};
+use lrp_core::{Core, TermTest, Variable, add_variables, covers, free_variables};
+use lrp_model::{List, Memory, Test};
 use std::alloc::Global;
 use std::mem;
 
@@ -127,7 +127,7 @@ fn take_next(alloc: Global, draft: &mut Draft, taking: &mut Taking) -> Result<()
 fn variables_of(alloc: Global, test: &Test) -> Result<List<Variable>, Memory>
     ensures { IfOk result (λ made. HaveSame (map variable_of made) (free (test_form test.now))) }
 {
-    let test = test.copy(alloc)?;
+    let test = TermTest::of(test);
     free_variables(alloc, &Core::Check { test })
 }
 

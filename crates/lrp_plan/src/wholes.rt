@@ -1,6 +1,6 @@
 // The least common multiple of all periods that a core form names.
 ghost use Rattle.std.specs.Option.{option_map};
-ghost use Rattle.lrp_core.specs.Cores.{core_of, cores_of};
+ghost use Rattle.lrp_core.specs.Cores.{core_of, cores_of, test_of};
 ghost use Rattle.lrp_model.specs.Formulas.{conjunction};
 ghost use Rattle.lrp_model.specs.Periods.{periods, test_periods};
 ghost use Rattle.lrp_model.specs.Satisfaction.{Structure};
@@ -10,14 +10,13 @@ ghost use Rattle.lrp_plan.specs.Sources.{AreSources};
 use crate::facts::{Facts, with_point};
 use crate::periods::Period;
 use crate::sources::Sources;
-use lrp_core::Core;
-use lrp_model::Test;
+use lrp_core::{Core, TermTest};
 
 /// A period with those that a core form names, or `None` where the common one is above 2^62.
 #[cycle(periods)]
 pub(crate) fn with_core(
     sources: &Sources<'_>,
-    core: &Core,
+    core: &Core<'_>,
     period: Option<Period>,
 ) -> Option<Period>
     ensures { (M : Structure) → AreSources M sources.now → KeepsPeriod (periods (core_of core.now) M.relations) (option_map (λ p. p.number) period) (option_map (λ p. p.number) result) }
@@ -34,7 +33,7 @@ pub(crate) fn with_core(
 }
 
 #[cycle(periods)]
-fn with_each(sources: &Sources<'_>, of: &[Core], period: Option<Period>) -> Option<Period>
+fn with_each(sources: &Sources<'_>, of: &[Core<'_>], period: Option<Period>) -> Option<Period>
     ensures { (M : Structure) → AreSources M sources.now → KeepsPeriod (periods (conjunction (cores_of of.now)) M.relations) (option_map (λ p. p.number) period) (option_map (λ p. p.number) result) }
 {
     let mut all = period;
@@ -64,12 +63,12 @@ fn with_rows(period: Period, rows: Option<Period>) -> Option<Period>
 }
 
 // The period with that of a test.
-fn with_test(period: Option<Period>, test: &Test) -> Option<Period>
-    ensures { KeepsPeriod (test_periods test.now) (option_map (λ p. p.number) period) (option_map (λ p. p.number) result) }
+fn with_test(period: Option<Period>, test: &TermTest<'_>) -> Option<Period>
+    ensures { KeepsPeriod (test_periods (test_of test.now)) (option_map (λ p. p.number) period) (option_map (λ p. p.number) result) }
 {
     match test {
-        Test::Member { point, .. } => with_point(period, point),
-        Test::Compare { .. } => period,
-        Test::Equal { .. } => period,
+        TermTest::Member { point, .. } => with_point(period, point),
+        TermTest::Compare { .. } => period,
+        TermTest::Equal { .. } => period,
     }
 }

@@ -33,8 +33,8 @@ variable_tree-returns-in-Or t c =
 
 pub variable_tree-returns-in_ok-inner-in-Exists : goal.variable_tree-returns-in_ok-inner-in-Exists
 variable_tree-returns-in_ok-inner-in-Exists t c =
-    tree-exists c.without.result c.in-Exists.name c.in-Exists.sort (core_of c.deref-in-Exists.result.now) (core_of c.args.core.now) c.in_ok-inner-in-Exists.inner c.in_ok-inner-in-Exists.ensures
-    (ap core_of c.in-Exists.is ∙ ap (λ x. exists c.in-Exists.name c.in-Exists.sort (core_of x)) (sym c.deref-in-Exists.ensures)) c.without.ensures
+    tree-exists c.without.result c.in-Exists.name.now c.in-Exists.sort.now (core_of c.deref-in-Exists.result.now) (core_of c.args.core.now) c.in_ok-inner-in-Exists.inner c.in_ok-inner-in-Exists.ensures
+    (ap core_of c.in-Exists.is ∙ ap (λ x. exists c.in-Exists.name.now c.in-Exists.sort.now (core_of x)) (sym c.deref-in-Exists.ensures)) c.without.ensures
 
 pub tree_of_all-loop-core-preserved : goal.tree_of_all-loop-core-preserved
 tree_of_all-loop-core-preserved t c = record {

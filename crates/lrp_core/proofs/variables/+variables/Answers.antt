@@ -18,9 +18,9 @@ add_free-returns-in-Or t c =
 pub add_free-returns-in_ok-add_free-in-Exists : goal.add_free-returns-in_ok-add_free-in-Exists
 add_free-returns-in_ok-add_free-in-Exists t c =
     subst (λ x. OnOk c.add_others.result (map variable_of c.add_others.new.all ≡ x))
-    (free-exists (bound_by c.in-Exists.sort c.in-Exists.name) (map variable_of c.args.all.now) _ (free (core_of c.deref-in-Exists.result.now)) (free (core_of c.args.core.now))
+    (free-exists (bound_by c.in-Exists.sort.now c.in-Exists.name.now) (map variable_of c.args.all.now) _ (free (core_of c.deref-in-Exists.result.now)) (free (core_of c.args.core.now))
     (c.in_ok-add_free-in-Exists.ensures ∙ ap (λ x. with_variables (map variable_of x) (free (core_of c.deref-in-Exists.result.now))) c.new-inner.ensures)
-    (ap (λ x. free (core_of x)) c.in-Exists.is ∙ ap (λ x. others (bound_by c.in-Exists.sort c.in-Exists.name) (free (core_of x))) (sym c.deref-in-Exists.ensures)))
+    (ap (λ x. free (core_of x)) c.in-Exists.is ∙ ap (λ x. others (bound_by c.in-Exists.sort.now c.in-Exists.name.now) (free (core_of x))) (sym c.deref-in-Exists.ensures)))
     c.add_others.ensures
 
 pub add_each-loop-core-preserved : goal.add_each-loop-core-preserved

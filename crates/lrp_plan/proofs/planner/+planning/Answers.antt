@@ -1,5 +1,5 @@
 use Rattle.std.proofs.Common.{◌≡◌, get_or, length, false, ◌&&◌, map, None, refl, sym, ap, subst, ◌∙◌, arith}
-use Rattle.lrp_core.specs.Cores.{core_of, cores_of}
+use Rattle.lrp_core.specs.Cores.{core_of, cores_of, test_of}
 use Rattle.lrp_core.specs.FreeVariables.{variable_of}
 use Rattle.lrp_core.proofs.CoreViews.{core_of-And, core_of-Or}
 use Rattle.lrp_model.specs.Formulas.{negation, exists, conjunction, disjunction}
@@ -20,15 +20,15 @@ use Rattle.lrp_plan.proofs.planner.+planning.Goals as goal
 
 pub plan_core-returns-in_ok-terms-in-Atom : goal.plan_core-returns-in_ok-terms-in-Atom
 plan_core-returns-in_ok-terms-in-Atom t c =
-    atom_planned c.scan.result c.args.sources.now c.args.inner.now (core_of c.args.core.now) c.in-Atom.relation c.in_ok-relation-in-Atom.relation c.in-Atom.terms c.in_ok-terms-in-Atom.terms c.facts-facts.result c.args.draft.now c.scan.new.self (ap core_of c.in-Atom.is) c.in_ok-relation-in-Atom.ensures (c.in_ok-terms-in-Atom.ensures ∙ c.as_slice.ensures) c.facts-facts.ensures c.scan.ensures
+    atom_planned c.scan.result c.args.sources.now c.args.inner.now (core_of c.args.core.now) c.in-Atom.relation.now c.in_ok-relation-in-Atom.relation c.in-Atom.terms.now c.in_ok-terms-in-Atom.terms c.facts-facts.result c.args.draft.now c.scan.new.self (ap core_of c.in-Atom.is) c.in_ok-relation-in-Atom.ensures (c.in_ok-terms-in-Atom.ensures ∙ c.as_slice.ensures) c.facts-facts.ensures c.scan.ensures
 
 pub plan_core-returns-in_ok-test-in-Check : goal.plan_core-returns-in_ok-test-in-Check
 plan_core-returns-in_ok-test-in-Check t c =
-    check_planned c.leaf.result c.args.sources.now c.args.inner.now (core_of c.args.core.now) c.in-Check.test c.in_ok-test-in-Check.test c.args.draft.now c.leaf.new.self (ap core_of c.in-Check.is) c.in_ok-test-in-Check.ensures c.leaf.ensures
+    check_planned c.leaf.result c.args.sources.now c.args.inner.now (core_of c.args.core.now) (test_of c.in-Check.test) c.in_ok-test-in-Check.test c.args.draft.now c.leaf.new.self (ap core_of c.in-Check.is) c.in_ok-test-in-Check.ensures c.leaf.ensures
 
 pub plan_core-returns-in_ok-sort-in-Sorted : goal.plan_core-returns-in_ok-sort-in-Sorted
 plan_core-returns-in_ok-sort-in-Sorted t c =
-    sorted_planned c.sort.result c.args.sources.now c.args.inner.now (core_of c.args.core.now) c.in-Sorted.name c.in_ok-name-in-Sorted.name c.in-Sorted.sort c.in_ok-sort-in-Sorted.sort c.in_ok-texts-in-Sorted.texts c.args.draft.now c.sort.new.self (ap core_of c.in-Sorted.is) c.in_ok-name-in-Sorted.ensures c.in_ok-sort-in-Sorted.ensures c.in_ok-texts-in-Sorted.ensures c.sort.ensures
+    sorted_planned c.sort.result c.args.sources.now c.args.inner.now (core_of c.args.core.now) c.in-Sorted.name.now c.in_ok-name-in-Sorted.name c.in-Sorted.sort.now c.in_ok-sort-in-Sorted.sort c.in_ok-texts-in-Sorted.texts c.args.draft.now c.sort.new.self (ap core_of c.in-Sorted.is) c.in_ok-name-in-Sorted.ensures c.in_ok-sort-in-Sorted.ensures c.in_ok-texts-in-Sorted.ensures c.sort.ensures
 
 pub plan_core-returns-in_ok-plan_core-in-Not : goal.plan_core-returns-in_ok-plan_core-in-Not
 plan_core-returns-in_ok-plan_core-in-Not t c =
@@ -44,8 +44,8 @@ plan_core-returns-in-Or t c =
 
 pub plan_core-returns-in_ok-name-in-Exists : goal.plan_core-returns-in_ok-name-in-Exists
 plan_core-returns-in_ok-name-in-Exists t c =
-    exists_planned c.drop_variable.result c.args.sources.now c.args.inner.now (core_of c.args.core.now) (core_of c.deref-in-Exists.result.now) c.in-Exists.name c.in_ok-name-in-Exists.name c.in-Exists.sort c.args.draft.now c.plan_core-in-Exists.new.draft c.drop_variable.new.self
-    (ap core_of c.in-Exists.is ∙ ap (λ x. exists c.in-Exists.name c.in-Exists.sort (core_of x)) (sym c.deref-in-Exists.ensures)) c.in_ok-name-in-Exists.ensures c.in_ok-plan_core-in-Exists.ensures c.drop_variable.ensures
+    exists_planned c.drop_variable.result c.args.sources.now c.args.inner.now (core_of c.args.core.now) (core_of c.deref-in-Exists.result.now) c.in-Exists.name.now c.in_ok-name-in-Exists.name c.in-Exists.sort.now c.args.draft.now c.plan_core-in-Exists.new.draft c.drop_variable.new.self
+    (ap core_of c.in-Exists.is ∙ ap (λ x. exists c.in-Exists.name.now c.in-Exists.sort.now (core_of x)) (sym c.deref-in-Exists.ensures)) c.in_ok-name-in-Exists.ensures c.in_ok-plan_core-in-Exists.ensures c.drop_variable.ensures
 
 pub plan_some-loop-index-init : goal.plan_some-loop-index-init
 plan_some-loop-index-init t c = λ known M s. none_so_far M c.args.draft.now

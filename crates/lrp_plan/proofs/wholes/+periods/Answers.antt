@@ -7,7 +7,7 @@ use Rattle.lrp_plan.proofs.WholePeriods.{atom_whole, same_whole, each_more, each
 use Rattle.lrp_plan.proofs.wholes.+periods.Goals as goal
 
 pub with_core-returns-in-Atom : goal.with_core-returns-in-Atom
-with_core-returns-in-Atom t c = atom_whole c.args.sources.now (core_of c.args.core.now) c.in-Atom.relation c.in-Atom.terms c.facts.result _ _ (ap core_of c.in-Atom.is) c.facts.ensures c.with_facts.ensures
+with_core-returns-in-Atom t c = atom_whole c.args.sources.now (core_of c.args.core.now) c.in-Atom.relation.now c.in-Atom.terms.now c.facts.result _ _ (ap core_of c.in-Atom.is) c.facts.ensures c.with_facts.ensures
 
 pub with_core-returns-in-And : goal.with_core-returns-in-And
 with_core-returns-in-And t c =
