@@ -1,10 +1,11 @@
 -- What is taken out of elements that wait: the first that goes before the others, or else the first.
-use Rattle.std.proofs.Common.{◌≡◌, ◌<◌, ◌+◌, ◌↔◌, ℕ, Bool, true, false, cond, not, nat_lt, List, [], ◌∷◌, ◌++◌, length, Option, Some, None, unwrap_or, slice_get, remove, refl, sym, ap, subst, ◌∙◌, arith, option_to_list, append-nil, Result, Ok, Err}
+use Rattle.std.proofs.Common.{◌≡◌, ◌<◌, ◌≤◌, ◌+◌, ◌↔◌, ℕ, Bool, true, false, cond, not, nat_lt, ◌==◌, List, [], ◌∷◌, ◌++◌, length, Option, Some, None, unwrap_or, slice_get, remove, refl, sym, ap, subst, ◌∙◌, arith, option_to_list, append-nil, Result, Ok, Err}
 use Rattle.std.specs.List.{AllByRecursion, position_or_len}
 use Rattle.std.specs.Option.{IsSome}
 use Rattle.std.specs.Result.{IfOk}
-use Rattle.std.proofs.lemmas.Bool.{lt-ltb, le-ltb, false≢true}
+use Rattle.std.proofs.lemmas.Bool.{lt-ltb, le-ltb, eqb-true, false≢true}
 use Rattle.lrp_core.specs.declared.variables.Variable.{Variable as ProgramVariable}
+use Rattle.lrp_model.specs.Variables.{Variable, meet}
 use Rattle.lrp_model.proofs.Logic.{all_append}
 use Rattle.lrp_model.specs.Conjunctions.{first_or_0}
 use Rattle.lrp_plan.specs.declared.elements.Element.{Element}
@@ -58,6 +59,46 @@ pub takes_behind : (p : Element → Bool) (all xs ys : List Element) (e : Elemen
 takes_behind p all xs ys e is h t =
     subst (λ zs. TakesAt (first_or_0 p zs) zs (xs ++ ys) (Some e)) (sym is)
     (subst (λ n. TakesAt n (xs ++ e ∷ ys) (xs ++ ys) (Some e)) (sym (first_behind p xs ys e h t)) (get_behind xs ys e, sym (remove_behind xs ys e)))
+
+-- the first is taken
+takes_zero : (all xs : List Element) (r : Option Element) → all ≡ option_to_list r ++ xs → IsSome r ↔ (0 < length all) → TakesAt 0 all xs r
+takes_zero [] xs None is v = (refl, sym is)
+takes_zero (e ∷ es) xs None is v = absurd (false≢true (v.1 (omega arith)))
+takes_zero all xs (Some e) is v = subst (λ zs. TakesAt 0 zs xs (Some e)) (sym is) (refl, refl)
+
+-- where none was passed over and the first is the next
+pub takes_front : (p : Element → Bool) (all passed rest left : List Element) (r : Option Element) → passed ++ rest ≡ all → passed ≡ [] → first_or_0 p rest ≡ 0 → rest ≡ option_to_list r ++ left → IsSome r ↔ (0 < length rest) → TakesAt (first_or_0 p all) all (passed ++ left) r
+takes_front p all passed rest left r is none zero out v =
+    subst (λ zs. TakesAt (first_or_0 p zs) zs (passed ++ left) r) (sym (ap (λ zs. zs ++ rest) none) ∙ is)
+    (subst (λ i. TakesAt i rest (passed ++ left) r) (sym zero) (subst (λ zs. TakesAt 0 rest (zs ++ left) r) (sym none) (takes_zero rest left r out v)))
+
+-- one that is alone is the first
+alone_by : (p : Element → Bool) (e : Element) (b : Bool) → p e ≡ b → first_or_0 p (e ∷ []) ≡ 0
+alone_by p e true h = first_behind p [] [] e tt h
+alone_by p e false h = first_of_none p (e ∷ []) (h, tt)
+
+pub alone : (p : Element → Bool) (es : List Element) → length es ≤ 1 → first_or_0 p es ≡ 0
+alone p [] h = first_of_none p [] tt
+alone p (e ∷ []) h = alone_by p e (p e) refl
+alone p (e ∷ f ∷ es) h = absurd (omega arith)
+
+-- the first is the next where no element passes
+pub first_where_none : (p : Element → Bool) (es : List Element) → ((e : Element) → p e ≡ false) → first_or_0 p es ≡ 0
+first_where_none p es h = first_of_none p es (each es)
+  where
+    each : (es : List Element) → AllByRecursion (λ e. p e ≡ false) es
+    each [] = tt
+    each (e ∷ es) = (h e, each es)
+
+-- a list of no items
+pub emptied : {X : Type 0} (xs : List X) → (length xs == 0) ≡ true → xs ≡ []
+emptied [] e = refl
+emptied (x ∷ xs) e = let n : length (x ∷ xs) ≡ 0 = eqb-true (length (x ∷ xs)) 0 e in absurd (omega arith)
+
+-- no variable is one of none
+pub meet_nothing : (vs : List Variable) → meet vs [] ≡ false
+meet_nothing [] = refl
+meet_nothing (v ∷ vs) = meet_nothing vs
 
 -- where none does, the first is taken
 takes_first : (p : Element → Bool) (all xs : List Element) (r : Option Element) → all ≡ option_to_list r ++ xs → IsSome r ↔ (0 < length all) → AllByRecursion (λ y. p y ≡ false) all → TakesAt (first_or_0 p all) all xs r

@@ -1,7 +1,8 @@
 // Elements of an `and` that wait for their turn.
-ghost use Rattle.std.specs.Prelude.{◌≡◌, ◌++◌, [], true, IfOk, OnOk, OnErr};
+ghost use Rattle.std.specs.Prelude.{◌≡◌, ◌++◌, [], true, false, IfOk, OnOk, OnErr};
 ghost use Rattle.lrp_model.specs.Conjunctions.{first_or_0};
 ghost use Rattle.lrp_plan.specs.Elements.{TakesAt};
+ghost use Rattle.lrp_plan.specs.declared.elements.Element.{Element as ElementOf};
 ghost use Rattle.lrp_plan.specs.Waiting.{goes_first, FallBehind};
 
 use crate::elements::Element;
@@ -68,6 +69,9 @@ impl<'a> Waiting<'a> {
     ) -> Result<Option<Element<'a>>, Memory>
         ensures { IfOk result (λ taken. TakesAt (first_or_0 (goes_first turn variables.now) self.old) self.old self.new taken) }
     {
+        if self.passed.is_empty() && is_first_next(&self.rest, turn, variables.as_slice()) {
+            return Ok(self.rest.pop_front());
+        }
         if !is_same(self.turn, turn, self.seen.as_slice(), variables.as_slice()) {
             let seen = variables.copy(alloc)?;
             look_again(&mut self.passed, &mut self.rest)?;
@@ -75,6 +79,26 @@ impl<'a> Waiting<'a> {
             self.seen = seen;
         }
         take_first(&mut self.passed, &mut self.rest, turn, variables.as_slice())
+    }
+}
+
+// Whether the first of the elements is the next: it is alone, or none goes before the others.
+fn is_first_next(elements: &VecDeque<Element<'_>>, turn: Turn, variables: &[Variable]) -> bool
+    ensures { result ≡ true → first_or_0 (goes_first turn variables.now) elements.now.items ≡ 0 }
+{
+    if elements.len() <= 1 {
+        return true;
+    }
+    none_goes(turn, variables)
+}
+
+// Whether no element at all goes before the others.
+fn none_goes(turn: Turn, variables: &[Variable]) -> bool
+    ensures { result ≡ true → (element : ElementOf) → goes_first turn variables.now element ≡ false }
+{
+    match turn {
+        Turn::Meeting => variables.is_empty(),
+        Turn::Covered { some } => !some,
     }
 }
 
