@@ -3,6 +3,16 @@ pub mod LineLaws
 pub mod AnswerLines
 pub mod Shortest
 pub mod Rows
+pub mod Lists
+pub mod Closed
+pub mod AnswerRows
+pub mod AnswerHolds
+pub mod AnswerRead
+pub mod Made
+pub mod Apart
+pub mod Hull
+pub mod AnswerBeside
+pub mod AnswerLaw
 pub mod Orders
 pub mod HeadOrder
 pub mod HeapLaws

@@ -118,7 +118,7 @@ bounds_same n b c h =
 
 module _ (z : ZoneView) (is : IsZone z) where
   -- the members meet the bounds
-  zone_closes : IsClosure (columns_of z + 1) (entry z.bounds) (shortest z.bounds (columns_of z + 1))
+  pub zone_closes : IsClosure (columns_of z + 1) (entry z.bounds) (shortest z.bounds (columns_of z + 1))
   zone_closes = shortest_closes (columns_of z + 1) z.bounds (node is.some.member) (λ i j il jl. is.some.is.meets i j (omega arith) (omega arith))
 
   pub shortest_least : (i j : ℕ) → i < columns_of z + 1 → j < columns_of z + 1 → i ≢ j → IsLeastBound (columns_of z + 1) (entry z.bounds) i j (shortest z.bounds (columns_of z + 1) i j)

@@ -7,3 +7,4 @@ pub mod Giving
 pub mod Progress
 pub mod Codes
 pub mod AnswerText
+pub mod Answering

@@ -1,9 +1,15 @@
-// What is proved of listings, each law as the contract of a function that does nothing.
+// What is proved of listings and of whole answers, each law as the contract of a function that does nothing.
 ghost use Rattle.std.specs.Prelude.{◌≡◌, ◌≤◌, ◌↔◌, ℕ, Bool, IsTrue, List, length, Option, sum_by};
 ghost use Rattle.lrp_model.specs.Pages.{IsPage, Tuple};
 ghost use Rattle.lrp_store.specs.Tables.{InAnswer};
 ghost use Rattle.std.specs.FinMap as finite;
 ghost use Rattle.lrp_model.specs.declared.tuples.Spot.{Spot};
+ghost use Rattle.lrp_model.specs.AnswerTexts.{IsAnswerText};
+ghost use Rattle.lrp_model.specs.Formulas.{Question};
+ghost use Rattle.lrp_model.specs.declared.relations.Relation.{Relation};
+ghost use Rattle.lrp_store.specs.declared.answer.Answer.{Answer};
+ghost use Rattle.lrp_list.specs.AnswerText.{answer_text};
+ghost use Rattle.lrp_list.specs.Answering.{IsSettledAnswer};
 ghost use Rattle.lrp_list.specs.Cursors.{standing_at};
 ghost use Rattle.lrp_list.specs.Giving.{Gives};
 ghost use Rattle.lrp_list.specs.Listing.{AreCursors, IsLeft, WindowView};
@@ -25,4 +31,10 @@ pub fn moves_are_few()
     ensures { (w : WindowView) (position : Option Tuple) (cursors : List Cursor) (spot : Spot)
         → AreCursors w position cursors
         → standing_at spot cursors ≤ sum_by (λ tables. length tables) (finite.values w.store.tables) }
+{}
+
+/// The text of a settled answer is an answer text of the query: `Empty` where nothing is an answer, and else a relation
+/// `answer` that holds just the answers, with closed bounds and in order, which reads back as it is.
+pub fn answers_are_texts()
+    ensures { (db : List Relation) (q : Question) (a : Answer) → IsSettledAnswer db q a → IsAnswerText db q (answer_text a) }
 {}
