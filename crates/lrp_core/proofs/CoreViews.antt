@@ -87,15 +87,17 @@ all_disjuncts-joined : (fs gs : Forms) → all_disjuncts (joined fs gs) ≡ join
 all_disjuncts-joined no_forms gs = refl
 all_disjuncts-joined (form f fs) gs = ap (joined (disjuncts f)) (all_disjuncts-joined fs gs) ∙ sym (joined_assoc (disjuncts f) (all_disjuncts fs) (all_disjuncts gs))
 
--- a further formula, behind those whose elements were taken
-pub conjuncts-more : (gs hs : List Core) (f : Form) (made more : Forms) → cores_of gs ≡ all_conjuncts made → cores_of hs ≡ joined (cores_of gs) (conjuncts f) → more ≡ joined made (form f no_forms) → cores_of hs ≡ all_conjuncts more
-conjuncts-more gs hs f made more before step e =
-    step ∙ ap (λ x. joined x (conjuncts f)) before ∙ ap (joined (all_conjuncts made)) (sym (joined_none (conjuncts f))) ∙ sym (all_conjuncts-joined made (form f no_forms)) ∙ sym (ap all_conjuncts e)
+-- the elements of a further formula, behind those of the formulas before
+pub conjuncts-more : (start gs hs : Forms) (f : Form) (made more : Forms) → gs ≡ joined start (all_conjuncts made) → hs ≡ joined gs (conjuncts f) → more ≡ joined made (form f no_forms) → hs ≡ joined start (all_conjuncts more)
+conjuncts-more start gs hs f made more before step e =
+    step ∙ ap (λ x. joined x (conjuncts f)) before ∙ joined_assoc start (all_conjuncts made) (conjuncts f)
+    ∙ ap (joined start) (ap (joined (all_conjuncts made)) (sym (joined_none (conjuncts f))) ∙ sym (all_conjuncts-joined made (form f no_forms)) ∙ sym (ap all_conjuncts e))
 
 -- the same for an `or`
-pub disjuncts-more : (gs hs : List Core) (f : Form) (made more : Forms) → cores_of gs ≡ all_disjuncts made → cores_of hs ≡ joined (cores_of gs) (disjuncts f) → more ≡ joined made (form f no_forms) → cores_of hs ≡ all_disjuncts more
-disjuncts-more gs hs f made more before step e =
-    step ∙ ap (λ x. joined x (disjuncts f)) before ∙ ap (joined (all_disjuncts made)) (sym (joined_none (disjuncts f))) ∙ sym (all_disjuncts-joined made (form f no_forms)) ∙ sym (ap all_disjuncts e)
+pub disjuncts-more : (start gs hs : Forms) (f : Form) (made more : Forms) → gs ≡ joined start (all_disjuncts made) → hs ≡ joined gs (disjuncts f) → more ≡ joined made (form f no_forms) → hs ≡ joined start (all_disjuncts more)
+disjuncts-more start gs hs f made more before step e =
+    step ∙ ap (λ x. joined x (disjuncts f)) before ∙ joined_assoc start (all_disjuncts made) (disjuncts f)
+    ∙ ap (joined start) (ap (joined (all_disjuncts made)) (sym (joined_none (disjuncts f))) ∙ sym (all_disjuncts-joined made (form f no_forms)) ∙ sym (ap all_disjuncts e))
 
 -- an `and` of two, from no elements on
 pub two_conjuncts-and : (none one two : Vec Core Global) (f g : Form) → none.items ≡ [] → cores_of one.items ≡ joined (cores_of none.items) (conjuncts f) → cores_of two.items ≡ joined (cores_of one.items) (conjuncts g) → core_of (And two) ≡ and_two f g

@@ -79,11 +79,7 @@ fn not_compared<'a>(
 }
 
 // One of the two times is before the other.
-fn differing<'a>(
-    alloc: Global,
-    left: &'a TimeTerm,
-    right: &'a TimeTerm,
-) -> Result<Core<'a>, Memory>
+fn differing<'a>(alloc: Global, left: &'a TimeTerm, right: &'a TimeTerm) -> Result<Core<'a>, Memory>
     ensures { IfOk result (λ core. core_of core ≡ compare_not left.now Op.Eq right.now) }
 {
     let before = check(left, Op::Lt, right);

@@ -2,9 +2,7 @@
 ghost use Rattle.std.specs.Prelude.{◌≡◌, IfOk};
 ghost use Rattle.lrp_core.specs.Cores.{test_of};
 
-use lrp_model::{
-    Copies, DataTerm, List, Memory, Name, Op, RowPoint, Sort, Term, Test, TimeTerm,
-};
+use lrp_model::{Copies, DataTerm, List, Memory, Name, Op, RowPoint, Sort, Term, Test, TimeTerm};
 use std::alloc::Global;
 
 /// A test over the terms of a query.

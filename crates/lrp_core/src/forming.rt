@@ -1,7 +1,7 @@
 // The core form of a formula, of its negation, and of a query.
 ghost use Rattle.std.specs.Prelude.{◌≡◌, IfOk, OnOk};
 ghost use Rattle.lrp_model.specs.Formulas.{form_of, forms_of, question_of, atom, negation, exists, sorted as sorted_form, joined, form, no_forms};
-ghost use Rattle.lrp_model.specs.Core.{core_form as core_form_of, positive as positive_of, negative as negative_of, positives, negatives, with_sort, column_elements, head_elements as elements_of, and_list, or_list};
+ghost use Rattle.lrp_model.specs.Core.{core_form as core_form_of, positive as positive_of, negative as negative_of, positives, negatives, conjuncts, disjuncts, all_conjuncts, all_disjuncts, with_sort, column_elements, head_elements as elements_of, and_list, or_list};
 ghost use Rattle.lrp_core.specs.Cores.{core_of, cores_of};
 
 use crate::Core;
@@ -23,11 +23,7 @@ pub fn core_form(alloc: Global, query: &Query, named: bool) -> Result<Core, Memo
 }
 
 // The sort elements of the data columns, and then the formula.
-fn guarded<'a>(
-    alloc: Global,
-    columns: &'a [Column],
-    body: Core<'a>,
-) -> Result<Core<'a>, Memory>
+fn guarded<'a>(alloc: Global, columns: &'a [Column], body: Core<'a>) -> Result<Core<'a>, Memory>
     ensures { IfOk result (λ core. core_of core ≡ and_list (joined (elements_of columns.now) (form (core_of body.entry) no_forms))) }
 {
     let mut of = head_elements(alloc, columns)?;
@@ -168,11 +164,44 @@ fn all_positive<'a>(alloc: Global, fs: &'a [Formula], named: bool) -> Result<Cor
     ensures { IfOk result (λ core. core_of core ≡ and_list (positives (forms_of fs.now) named)) }
 {
     let mut of = Vec::with_capacity(alloc, fs.len())?;
-    for f in fs {
-        let core = positive(alloc, f, named)?;
-        push_conjunct(&mut of, core)?;
-    }
+    push_all_positive(alloc, fs, named, &mut of)?;
     Ok(Core::And { of })
+}
+
+// The elements of all of the formulas, behind the others.
+#[cycle(forming)]
+fn push_all_positive<'a>(
+    alloc: Global,
+    fs: &'a [Formula],
+    named: bool,
+    all: &mut Vec<Core<'a>>,
+) -> Result<(), Memory>
+    ensures { OnOk result (cores_of all.new.items ≡ joined (cores_of all.old.items) (all_conjuncts (positives (forms_of fs.now) named))) }
+{
+    for f in fs {
+        push_positive(alloc, f, named, all)?;
+    }
+    Ok(())
+}
+
+// Those of one formula; an inner list takes no list of its own.
+#[cycle(forming)]
+fn push_positive<'a>(
+    alloc: Global,
+    f: &'a Formula,
+    named: bool,
+    all: &mut Vec<Core<'a>>,
+) -> Result<(), Memory>
+    ensures { OnOk result (cores_of all.new.items ≡ joined (cores_of all.old.items) (conjuncts (positive_of (form_of f.now) named))) }
+{
+    match f {
+        Formula::And { of } => push_all_positive(alloc, of, named, all),
+        Formula::Not { of } => push_negative(alloc, of, named, all),
+        f => {
+            let core = positive(alloc, f, named)?;
+            push_conjunct(all, core)
+        }
+    }
 }
 
 // Some of the formulas.
@@ -181,11 +210,43 @@ fn some_positive<'a>(alloc: Global, fs: &'a [Formula], named: bool) -> Result<Co
     ensures { IfOk result (λ core. core_of core ≡ or_list (positives (forms_of fs.now) named)) }
 {
     let mut of = Vec::with_capacity(alloc, fs.len())?;
-    for f in fs {
-        let core = positive(alloc, f, named)?;
-        push_disjunct(&mut of, core)?;
-    }
+    push_some_positive(alloc, fs, named, &mut of)?;
     Ok(Core::Or { of })
+}
+
+// The elements of some of the formulas, behind the others.
+#[cycle(forming)]
+fn push_some_positive<'a>(
+    alloc: Global,
+    fs: &'a [Formula],
+    named: bool,
+    all: &mut Vec<Core<'a>>,
+) -> Result<(), Memory>
+    ensures { OnOk result (cores_of all.new.items ≡ joined (cores_of all.old.items) (all_disjuncts (positives (forms_of fs.now) named))) }
+{
+    for f in fs {
+        push_choice(alloc, f, named, all)?;
+    }
+    Ok(())
+}
+
+// Those of one formula; an inner list takes no list of its own.
+#[cycle(forming)]
+fn push_choice<'a>(
+    alloc: Global,
+    f: &'a Formula,
+    named: bool,
+    all: &mut Vec<Core<'a>>,
+) -> Result<(), Memory>
+    ensures { OnOk result (cores_of all.new.items ≡ joined (cores_of all.old.items) (disjuncts (positive_of (form_of f.now) named))) }
+{
+    match f {
+        Formula::Or { of } => push_some_positive(alloc, of, named, all),
+        f => {
+            let core = positive(alloc, f, named)?;
+            push_disjunct(all, core)
+        }
+    }
 }
 
 // None of the formulas.
@@ -194,9 +255,42 @@ fn all_negative<'a>(alloc: Global, fs: &'a [Formula], named: bool) -> Result<Cor
     ensures { IfOk result (λ core. core_of core ≡ and_list (negatives (forms_of fs.now) named)) }
 {
     let mut of = Vec::with_capacity(alloc, fs.len())?;
-    for f in fs {
-        let core = negative(alloc, f, named)?;
-        push_conjunct(&mut of, core)?;
-    }
+    push_all_negative(alloc, fs, named, &mut of)?;
     Ok(Core::And { of })
+}
+
+// The elements of none of the formulas, behind the others.
+#[cycle(forming)]
+fn push_all_negative<'a>(
+    alloc: Global,
+    fs: &'a [Formula],
+    named: bool,
+    all: &mut Vec<Core<'a>>,
+) -> Result<(), Memory>
+    ensures { OnOk result (cores_of all.new.items ≡ joined (cores_of all.old.items) (all_conjuncts (negatives (forms_of fs.now) named))) }
+{
+    for f in fs {
+        push_negative(alloc, f, named, all)?;
+    }
+    Ok(())
+}
+
+// Those of one formula; an inner list takes no list of its own.
+#[cycle(forming)]
+fn push_negative<'a>(
+    alloc: Global,
+    f: &'a Formula,
+    named: bool,
+    all: &mut Vec<Core<'a>>,
+) -> Result<(), Memory>
+    ensures { OnOk result (cores_of all.new.items ≡ joined (cores_of all.old.items) (conjuncts (negative_of (form_of f.now) named))) }
+{
+    match f {
+        Formula::Or { of } => push_all_negative(alloc, of, named, all),
+        Formula::Not { of } => push_positive(alloc, of, named, all),
+        f => {
+            let core = negative(alloc, f, named)?;
+            push_conjunct(all, core)
+        }
+    }
 }
