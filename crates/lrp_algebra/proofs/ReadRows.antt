@@ -1,5 +1,5 @@
 -- Rows of a relation as patterns.
-use Rattle.std.proofs.Common.{◌≡◌, ◌≢◌, ℕ, zero, suc, ◌+◌, ◌-◌, ◌*◌, ◌<◌, ◌≤◌, ◌^◌, ◌⊎◌, inl, inr, Bool, true, false, List, [], ◌∷◌, ◌++◌, length, take, drop, map, Option, None, Some, refl, sym, ap, ap₂, subst, ◌∙◌, arith, get_or, Contains}
+use Rattle.std.proofs.Common.{◌≡◌, ◌≢◌, ℕ, zero, suc, ◌+◌, ◌-◌, ◌*◌, ◌<◌, ◌≤◌, ◌^◌, inl, inr, Bool, true, false, List, [], ◌∷◌, ◌++◌, length, take, drop, map, Option, None, Some, refl, sym, ap, subst, ◌∙◌, arith, get_or, Contains}
 use Rattle.std.specs.Prelude.{ℤ, pos, neg_ℤ, nat_abs, min, max, All, ◌+ℤ◌, ◌-ℤ◌, ◌≤ℤ◌, ◌<ℤ◌, ◌==◌, if◌then◌else◌, flat_map, slice_get, MatchOption}
 use Rattle.std.specs.List.{AllByRecursion}
 use Rattle.std.proofs.lemmas.Int.{ints}
@@ -9,17 +9,16 @@ use Rattle.std.proofs.lemmas.List.{drop_more, take_more, length-take, get_or_def
 use Rattle.std.proofs.lemmas.Bool.{cases_lt}
 use Rattle.lrp_theory.specs.Divides.{Divides}
 use Rattle.lrp_theory.specs.Entries.{node}
-use Rattle.lrp_model.specs.Points.{IsMember}
 use Rattle.lrp_model.specs.Reach.{greatest, offset, term_magnitudes}
-use Rattle.lrp_model.specs.Rows.{Datum, time, text, times_of, time_at, IsOf, IsInRow, Meets}
-use Rattle.lrp_model.specs.Satisfaction.{Assignment, Passes, term_value, time_value, text_value}
+use Rattle.lrp_model.specs.Rows.{Datum, time, text, time_at, IsOf, Meets}
+use Rattle.lrp_model.specs.Satisfaction.{Assignment, Passes, term_value, time_value}
 use Rattle.lrp_model.specs.Texts.{Text, Identifier}
 use Rattle.lrp_model.specs.declared.formulas.DataTerm.{DataTerm}
 use Rattle.lrp_model.specs.declared.formulas.DataTerm.TheVariants.{Const as data_const}
 use Rattle.lrp_model.specs.declared.formulas.Term.{Term}
 use Rattle.lrp_model.specs.declared.formulas.Term.TheVariants.{Time as time_term, Data as data_term}
 use Rattle.lrp_model.specs.declared.formulas.Test.{Test}
-use Rattle.lrp_model.specs.declared.formulas.Test.TheVariants.{Compare, Member, Equal}
+use Rattle.lrp_model.specs.declared.formulas.Test.TheVariants.{Member, Equal}
 use Rattle.lrp_model.specs.declared.formulas.TimeTerm.{TimeTerm}
 use Rattle.lrp_model.specs.declared.relations.Bound.{Bound}
 use Rattle.lrp_model.specs.declared.relations.Row.{Row}
@@ -30,17 +29,15 @@ use Rattle.std.proofs.lemmas.Option.{slice_get_within, get_or_from_slice_get}
 use Rattle.lrp_model.proofs.Ascending.{all_at}
 use Rattle.lrp_model.proofs.Logic.{all_append}
 use Rattle.lrp_tables.proofs.Joining.{at_place}
-use Rattle.lrp_store.specs.Tables.{AreTexts}
-use Rattle.lrp_systems.specs.Parts.{PartView, InPart, Fits, part_reach, system_reach}
+use Rattle.lrp_systems.specs.Parts.{PartView, Fits, part_reach, system_reach}
 use Rattle.lrp_tables.specs.Calls.{test_period}
-use Rattle.lrp_zone.specs.Zones.{ZoneView, IsMember as InZone, columns_of, reach_of}
-use Rattle.lrp_zone.specs.Spread.{ArePlaces}
+use Rattle.lrp_zone.specs.Zones.{ZoneView, IsMember as InZone, reach_of}
 use Rattle.lrp_zone.specs.Given.{bound_at, IsOf as IsZoneOf, HasNone, AreGiven, MeetsGiven}
 use Rattle.lrp_algebra.specs.declared.comparisons.Side.{Side}
 use Rattle.lrp_algebra.specs.declared.pattern.Pattern.{Pattern}
 use Rattle.lrp_algebra.specs.Comparisons.{side_value}
 use Rattle.lrp_algebra.specs.Conditions.{condition_reach, IsWithTest, HasNoTest, IsWithZone}
-use Rattle.lrp_algebra.specs.Patterns.{parts_of, Suits}
+use Rattle.lrp_algebra.specs.Patterns.{parts_of}
 use Rattle.lrp_algebra.specs.Rows.{IsIn, HasPeriod, HasSmallPeriod, times_in, offsets_reach, bounds_reach, IsShifted, AreMet, IsBounded, HasNoBounded, IsWithBounds, HasNoBounds, IsWithValue, HasNoValue, IsWithValues, HasNoValues, IsOfRow, HasNoRow}
 use Rattle.lrp_algebra.proofs.Compared.{one_divides}
 use Rattle.lrp_algebra.proofs.Conditioned.{zone_to, zone_from, all_places, all_values}

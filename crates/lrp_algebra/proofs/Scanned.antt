@@ -1,17 +1,17 @@
 -- The tuples for which a relation holds the values of an atom's terms.
-use Rattle.std.proofs.Common.{◌≡◌, ◌≢◌, ℕ, zero, suc, ◌+◌, ◌-◌, ◌*◌, ◌<◌, ◌≤◌, ◌^◌, ◌⊎◌, inl, inr, Bool, true, false, cond, not, List, [], ◌∷◌, ◌++◌, length, drop, map, Some, refl, sym, ap, ap₂, subst, ◌∙◌, arith, get_or, Contains, to_z, of_z}
+use Rattle.std.proofs.Common.{◌≡◌, ◌≢◌, ℕ, zero, suc, ◌+◌, ◌<◌, ◌≤◌, ◌^◌, ◌⊎◌, inl, inr, Bool, true, false, cond, List, [], ◌∷◌, ◌++◌, length, drop, map, refl, sym, ap, ap₂, subst, ◌∙◌, arith, get_or, Contains, to_z, of_z}
 use Rattle.std.specs.Int.{w64}
-use Rattle.std.specs.Prelude.{ℤ, pos, neg_ℤ, nat_abs, max, All, AllPairs, ◌+ℤ◌, ◌≤ℤ◌, ◌<ℤ◌, flat_map, slice_get}
+use Rattle.std.specs.Prelude.{ℤ, pos, nat_abs, max, AllPairs, ◌+ℤ◌, ◌≤ℤ◌, flat_map}
 use Rattle.std.specs.List.{AllByRecursion, AllZip}
 use Rattle.std.proofs.lemmas.Int.{ints}
 use Rattle.std.proofs.lemmas.Bool.{cases_lt}
-use Rattle.std.proofs.lemmas.List.{drop_more, drop_all, length-append, length-map}
+use Rattle.std.proofs.lemmas.List.{drop_more, drop_all}
 use Rattle.std.proofs.lemmas.List.Elements.{Contains-append_left, Contains-append_right}
 use Rattle.std.proofs.lemmas.List.Sums.{sum_by-cons}
 use Rattle.lrp_theory.specs.Divides.{Divides}
 use Rattle.lrp_theory.proofs.Modulo.{small_multiple}
-use Rattle.lrp_model.specs.Reach.{greatest, scan_reach, term_magnitudes}
-use Rattle.lrp_model.specs.Rows.{Datum, time, text, IsInRow}
+use Rattle.lrp_model.specs.Reach.{greatest, scan_reach}
+use Rattle.lrp_model.specs.Rows.{time, text, IsInRow}
 use Rattle.lrp_model.specs.Satisfaction.{Assignment, term_value}
 use Rattle.lrp_model.specs.Sorts.{is_time, is_data}
 use Rattle.lrp_model.specs.Texts.{Text, Identifier, Ascends}
@@ -28,12 +28,11 @@ use Rattle.lrp_model.specs.declared.relations.Value.TheVariants.{Point, Const}
 use Rattle.lrp_model.specs.declared.tuples.Shape.{Shape}
 use Rattle.lrp_model.proofs.Ascending.{all_at}
 use Rattle.lrp_model.proofs.Decided.{contains_first}
-use Rattle.lrp_store.specs.Growing.{IsAdded, IsRefused, IsGrown}
+use Rattle.lrp_store.specs.Growing.{IsAdded, IsRefused}
 use Rattle.lrp_store.specs.Stores.{StoreView, IsStore, HasReach}
 use Rattle.lrp_store.specs.Tables.{AreTexts}
 use Rattle.lrp_store.specs.declared.table.Table.{Table}
 use Rattle.lrp_store.proofs.Grown.{Set}
-use Rattle.lrp_systems.specs.Parts.{Fits, system_reach}
 use Rattle.lrp_tables.specs.Calls.{CanScan, CanBeRow, CanStand, Suits as FitsIn, time_count, text_count}
 use Rattle.lrp_tables.specs.Caps.{InhabitsMoreThan}
 use Rattle.lrp_tables.specs.Columns.{scan_times, scan_texts, texts_of_term, times_of_term}
@@ -41,13 +40,12 @@ use Rattle.lrp_tables.specs.Tables.{AreNamesAmong, HasTexts, IsScanned, IsTableO
 use Rattle.lrp_tables.proofs.CellsNamed.{AreTuplesOf, env_of, env_times, env_texts}
 use Rattle.lrp_tables.proofs.HeadNames.{pairs_apart}
 use Rattle.lrp_tables.proofs.Joining.{joint_differs, in_joint_right}
-use Rattle.lrp_tables.proofs.Named.{pairs_left, pairs_right, some_is}
-use Rattle.lrp_algebra.specs.Patterns.{parts_of, IsOver, Suits}
+use Rattle.lrp_tables.proofs.Named.{some_is}
+use Rattle.lrp_algebra.specs.Patterns.{IsOver, Suits}
 use Rattle.lrp_algebra.specs.Rows.{bounds_reach, offsets_reach, CanBeRead, HasPeriod, HasSmallPeriod, HasNoRow, IsOfRow, IsRowTuple}
 use Rattle.lrp_algebra.specs.declared.pattern.Pattern.{Pattern}
 use Rattle.lrp_algebra.proofs.Leaves.{joint_short}
 use Rattle.lrp_algebra.proofs.Parts.{IsGathering, gathering_none, gathering_more, gathering_refused, gathered}
-use Rattle.lrp_algebra.proofs.ReadRows.{in_flat}
 use Rattle.lrp_algebra.proofs.Steps.{over_tuples, has_texts, step_table, step_few, step_many, step_reach, empty_store, abs_is, positive, same_word}
 
 -- ---- one row

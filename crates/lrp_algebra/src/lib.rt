@@ -18,6 +18,8 @@ mod row_bounds;
 mod rows;
 mod scans;
 mod selections;
+#[cfg(test)]
+mod shared_tests;
 mod sides;
 mod test_tables;
 mod tested;

@@ -1,7 +1,6 @@
 -- The bound of the sides.
-use Rattle.std.proofs.Common.{refl, arith, ◌+◌, ◌*◌, ◌<◌, ◌≤◌, ◌^◌}
-use Rattle.std.specs.Prelude.{nat_abs, flat_map}
-use Rattle.std.proofs.lemmas.Int.{ints}
+use Rattle.std.proofs.Common.{refl}
+use Rattle.std.specs.Prelude.{flat_map}
 use Rattle.lrp_model.specs.Reach.{greatest, term_magnitudes}
 use Rattle.lrp_algebra.proofs.ReadRows.{shift_bound, shift_words}
 use Rattle.lrp_algebra.proofs.row_bounds.shifted_bound.Goals as goal

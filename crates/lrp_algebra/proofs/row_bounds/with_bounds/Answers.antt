@@ -1,11 +1,11 @@
 -- The zone of all shifted bounds.
-use Rattle.std.proofs.Common.{◌≡◌, ◌+◌, ◌<◌, ◌≤◌, ◌^◌, ◌++◌, ◌∷◌, [], List, length, take, get_or, sym, subst, ◌∙◌, arith}
+use Rattle.std.proofs.Common.{◌+◌, ◌<◌, ◌≤◌, ◌^◌, ◌++◌, ◌∷◌, [], List, length, take, get_or, sym, subst}
 use Rattle.std.specs.Prelude.{pos, nat_abs, All}
 use Rattle.std.proofs.lemmas.List.{take_more, take_all}
 use Rattle.lrp_model.specs.declared.relations.Bound.{Bound}
 use Rattle.lrp_algebra.specs.Conditions.{IsWithZone}
 use Rattle.lrp_algebra.specs.Rows.{offsets_reach, IsShifted, IsBounded, HasNoBounded}
-use Rattle.lrp_algebra.proofs.ReadRows.{AreShifted, no_shifted, one_shifted, bound_room, shifted_between, shifted_fit, shifted_no, with_shifted}
+use Rattle.lrp_algebra.proofs.ReadRows.{AreShifted, one_shifted, bound_room, shifted_between, shifted_fit, shifted_no, with_shifted}
 use Rattle.lrp_algebra.proofs.row_bounds.with_bounds.Goals as goal
 
 pub shifted_bound-requires-clause-room : goal.shifted_bound-requires-clause-room

@@ -1,5 +1,5 @@
 -- What the pattern of the row asks for.
-use Rattle.std.proofs.Common.{◌+◌, ◌≤◌, length, subst, arith}
+use Rattle.std.proofs.Common.{◌+◌, length, subst, arith}
 use Rattle.std.specs.Prelude.{MatchOption, All}
 use Rattle.lrp_systems.specs.Parts.{Fits, system_reach}
 use Rattle.lrp_store.specs.Growing.{IsAdded, IsRefused}

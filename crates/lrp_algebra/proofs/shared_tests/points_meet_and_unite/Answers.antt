@@ -1,0 +1,11 @@
+-- 6 and 9 divide 18.
+use Rattle.std.proofs.Common.{refl, arith}
+use Rattle.std.specs.Prelude.{pos}
+use Rattle.std.proofs.lemmas.Int.{ints}
+use Rattle.lrp_algebra.proofs.shared_tests.points_meet_and_unite.Goals as goal
+
+pub points-left-requires-clause-divides : goal.points-left-requires-clause-divides
+points-left-requires-clause-divides g c = record { times = pos 3; is = omega (arith, ints) }
+
+pub points-right-requires-clause-divides : goal.points-right-requires-clause-divides
+points-right-requires-clause-divides g c = record { times = pos 2; is = omega (arith, ints) }
