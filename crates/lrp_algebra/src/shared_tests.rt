@@ -4,7 +4,7 @@ ghost use Rattle.lrp_theory.specs.Divides.{Divides};
 ghost use Rattle.lrp_store.specs.Stores.{HasReach};
 ghost use Rattle.lrp_store.specs.Tables.{AreNumbered};
 
-use crate::{StepFault, Table, join, leaf, union};
+use crate::{StepFault, Table, join, leaf, select, union};
 use lrp_model::{Domain, List, Name, RowPoint, Test, TimeTerm};
 use std::alloc::Global;
 use std::process::Abort;
@@ -79,6 +79,34 @@ fn either(
     union(alloc, left, right, domain, 18, cap)
 }
 
+// The times of the table that are in a point too, in cells of the period 18.
+fn chosen(
+    rt: &impl Abort,
+    alloc: Global,
+    table: &Table,
+    offset: i64,
+    period: i64,
+    domain: &Domain,
+    cap: u32,
+) -> Result<Table, StepFault>
+    requires low { pos 1 ≤ℤ period }
+    requires high { period ≤ℤ pos 18 }
+    requires divides { Divides period (pos 18) }
+    requires times { table.now.vars.times ≡ (116 ∷ []) ∷ [] }
+    requires table_period { Divides (pos table.now.store.period) (pos 18) }
+    requires reach { HasReach table.now.store 18 }
+    requires numbered { AreNumbered domain.now table.now.store }
+{
+    let Ok(name) = Name::new(alloc, "t") else {
+        panic!(rt; "no memory");
+    };
+    let test = Test::Member {
+        term: TimeTerm::Var { name, plus: 0 },
+        point: RowPoint { offset, period },
+    };
+    select(alloc, table, &test, domain, 18, cap)
+}
+
 // Stops the test unless these are the residues of the cells, in order.
 fn check_cells(rt: &impl Abort, found: Result<Table, StepFault>, wanted: &[i64]) {
     let Ok(table) = found else {
@@ -107,6 +135,7 @@ fn points_meet_and_unite(rt: HostRuntime) -> Result<(), Fail> {
     let right = points(&rt, alloc, 4, 9, &domain);
     check_cells(&rt, both(alloc, &left, &right, &domain, 1), &[13]);
     assert!(rt; is_refused(both(alloc, &left, &right, &domain, 0)));
+    check_cells(&rt, chosen(&rt, alloc, &left, 4, 9, &domain, 1), &[13]);
     check_cells(
         &rt,
         either(alloc, &left, &right, &domain, 4),

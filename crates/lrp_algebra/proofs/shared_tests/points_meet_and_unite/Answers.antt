@@ -9,3 +9,6 @@ points-left-requires-clause-divides g c = record { times = pos 3; is = omega (ar
 
 pub points-right-requires-clause-divides : goal.points-right-requires-clause-divides
 points-right-requires-clause-divides g c = record { times = pos 2; is = omega (arith, ints) }
+
+pub chosen-requires-clause-divides : goal.chosen-requires-clause-divides
+chosen-requires-clause-divides g c = record { times = pos 2; is = omega (arith, ints) }
