@@ -57,6 +57,43 @@ fn both(
     join(alloc, left, right, &tests, domain, 18, cap)
 }
 
+// What both tables have in a point, in cells of the period 18.
+fn both_in(
+    rt: &impl Abort,
+    alloc: Global,
+    left: &Table,
+    right: &Table,
+    point: RowPoint,
+    domain: &Domain,
+) -> Result<Table, StepFault>
+    requires low { pos 1 ≤ℤ point.period }
+    requires high { point.period ≤ℤ pos 18 }
+    requires divides { Divides point.period (pos 18) }
+    requires left_times { left.now.vars.times ≡ (116 ∷ []) ∷ [] }
+    requires left_texts { left.now.vars.texts ≡ [] }
+    requires left_period { Divides (pos left.now.store.period) (pos 18) }
+    requires left_reach { HasReach left.now.store 18 }
+    requires left_numbered { AreNumbered domain.now left.now.store }
+    requires right_times { right.now.vars.times ≡ (116 ∷ []) ∷ [] }
+    requires right_texts { right.now.vars.texts ≡ [] }
+    requires right_period { Divides (pos right.now.store.period) (pos 18) }
+    requires right_reach { HasReach right.now.store 18 }
+    requires right_numbered { AreNumbered domain.now right.now.store }
+{
+    let Ok(name) = Name::new(alloc, "t") else {
+        panic!(rt; "no memory");
+    };
+    let test = Test::Member {
+        term: TimeTerm::Var { name, plus: 0 },
+        point,
+    };
+    let mut tests = List::new(alloc);
+    let Ok(()) = tests.push(test) else {
+        panic!(rt; "no memory");
+    };
+    join(alloc, left, right, &tests, domain, 18, 1)
+}
+
 // What one of the tables has, in cells of the period 18.
 fn either(
     alloc: Global,
@@ -135,6 +172,16 @@ fn points_meet_and_unite(rt: HostRuntime) -> Result<(), Fail> {
     let right = points(&rt, alloc, 4, 9, &domain);
     check_cells(&rt, both(alloc, &left, &right, &domain, 1), &[13]);
     assert!(rt; is_refused(both(alloc, &left, &right, &domain, 0)));
+    let even = RowPoint {
+        offset: 0,
+        period: 2,
+    };
+    check_cells(&rt, both_in(&rt, alloc, &left, &right, even, &domain), &[]);
+    let odd = RowPoint {
+        offset: 1,
+        period: 2,
+    };
+    check_cells(&rt, both_in(&rt, alloc, &left, &right, odd, &domain), &[13]);
     check_cells(&rt, chosen(&rt, alloc, &left, 4, 9, &domain, 1), &[13]);
     check_cells(
         &rt,

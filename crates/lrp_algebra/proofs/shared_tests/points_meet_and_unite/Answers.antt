@@ -12,3 +12,9 @@ points-right-requires-clause-divides g c = record { times = pos 2; is = omega (a
 
 pub chosen-requires-clause-divides : goal.chosen-requires-clause-divides
 chosen-requires-clause-divides g c = record { times = pos 2; is = omega (arith, ints) }
+
+pub both_in-requires-clause-divides : goal.both_in-requires-clause-divides
+both_in-requires-clause-divides g c = record { times = pos 9; is = omega (arith, ints) }
+
+pub both_in-requires-2-clause-divides : goal.both_in-requires-2-clause-divides
+both_in-requires-2-clause-divides g c = record { times = pos 9; is = omega (arith, ints) }
