@@ -1,9 +1,11 @@
 // Pages by example: windows, positions, zones that overlap, the widest window, texts, and lines.
-ghost use Rattle.std.specs.Prelude.{◌≡◌, ◌<◌, ◌≤◌, ◌≤ℤ◌, ◌^◌, [], ◌∷◌, pos, take, length, IfOk};
+ghost use Rattle.std.specs.Prelude.{◌≡◌, ◌<◌, ◌≤◌, ◌≤ℤ◌, ◌+◌, ◌^◌, [], ◌∷◌, ℕ, pos, nat_abs, take, length, IfOk, IfSome};
+ghost use Rattle.lrp_theory.specs.Entries.{node};
 ghost use Rattle.lrp_model.specs.Plans.{time_columns};
-ghost use Rattle.lrp_store.specs.Stores.{IsPadded};
+ghost use Rattle.lrp_zone.specs.Zones.{IsResidue, reach_of};
+ghost use Rattle.lrp_store.specs.Stores.{HasReach, IsPadded};
 
-use crate::{Form, JsonTexts, Lister, Steps, write_line};
+use crate::{Form, JsonTexts, Lister, Steps, write_answer, write_line};
 use lrp_io::MemSink;
 use lrp_model::{
     Bound, Cell, Column, Copies, DataText, Domain, Head, LIMIT, List, Name, Shape, Sort, Spot,
@@ -16,6 +18,14 @@ use std::marker::Brand;
 use std::process::Abort;
 use std::sync::ledger::{Blank, Ledger};
 use std::test::Fail;
+
+// A number that leaves room for a period of the same size, eight times over.
+const SMALL: i64 = 9_007_199_254_740_992;
+
+// Column `left` minus column `right` is at most `most`.
+const fn bound(left: u8, right: u8, most: i64) -> Bound {
+    Bound { left, right, most }
+}
 
 // The cell of one text and one time.
 fn cell(text: u32, residue: i64) -> Cell
@@ -264,4 +274,120 @@ fn lines_are_plain_or_json(rt: HostRuntime) -> Result<(), Fail> {
     assert!(rt; write_line(&mut json, &answer, &spot, &form).is_ok());
     assert_eq!(rt; json.written(), "[\"Zürich\",5]\n".as_bytes());
     Ok(())
+}
+
+// The zone of these parts, whose bounds are small.
+fn made(rt: &impl Abort, period: i64, residues: &[i64], bounds: &[Bound]) -> Option<Zone>
+    ensures { IfSome result (λ z. reach_of z + z.period ≤ 2 ^ 55) }
+{
+    check_residues(rt, period, residues);
+    for bound in bounds {
+        assert!(rt; usize::from(bound.left) <= residues.len());
+        assert!(rt; usize::from(bound.right) <= residues.len());
+        assert!(rt; -SMALL <= bound.most && bound.most <= SMALL);
+    }
+    Zone::of(period, residues, bounds)
+}
+
+// Stops the test unless these are residues modulo the period.
+fn check_residues(rt: &impl Abort, period: i64, residues: &[i64])
+    ensures high { period ≤ℤ pos (2 ^ 53) }
+    ensures low { pos 1 ≤ℤ period }
+    ensures count { length residues.now ≤ 8 }
+    ensures residues { (p : ℕ) → p ≤ length residues.now → IsResidue (nat_abs period) (node residues.now p) }
+{
+    assert!(rt; 1 <= period && period <= SMALL && residues.len() <= 8);
+    for residue in residues {
+        assert!(rt; 0 <= *residue && *residue < period);
+    }
+}
+
+// Adds a zone to a store of times alone.
+fn fill(rt: &impl Abort, store: &mut Store, residues: &[i64], bounds: &[Bound])
+    requires reach { HasReach store.old (2 ^ 55) }
+    requires period { store.old.period ≤ 2 ^ 53 }
+    ensures reach { HasReach store.new (2 ^ 55) }
+    ensures shape { store.new.shape ≡ store.old.shape }
+    ensures period { store.new.period ≡ store.old.period }
+{
+    let shape = store.shape();
+    let Some(zone) = made(rt, store.period(), residues, bounds) else {
+        panic!(rt; "no zone");
+    };
+    assert!(rt; shape.texts == 0 && usize::from(shape.times) == zone.columns());
+    assert!(rt; zone.period() == store.period());
+    match store.split(&[0; 8], &zone, 100) {
+        Ok(()) => {}
+        Err(fault) => panic!(rt; "{fault:?}"),
+    }
+}
+
+// Stops the test unless this is the text of the answer with these columns of times and no texts.
+fn check_text(
+    rt: &impl Abort,
+    alloc: Global,
+    names: &[&str; 2],
+    store: Store,
+    text: &str,
+) -> Result<(), Fail>
+    requires reach { HasReach store (2 ^ 55) }
+    requires period { store.period ≤ 2 ^ 53 }
+    requires shape { store.shape ≡ record { times = 2; texts = 0 } }
+{
+    store.shape();
+    let mut columns = List::new(alloc);
+    columns.push(Column {
+        name: Name::new(alloc, names[0])?,
+        sort: Sort::Time,
+    })?;
+    columns.push(Column {
+        name: Name::new(alloc, names[1])?,
+        sort: Sort::Time,
+    })?;
+    let answer = Answer {
+        head: Head { columns },
+        period: store.period(),
+        domain: Domain::new(List::new(alloc))?,
+        store,
+    };
+    let mut sink = MemSink::new(alloc, List::new(alloc), 5)?;
+    assert!(rt; write_answer(&mut sink, &answer).is_ok());
+    assert_eq!(rt; sink.written(), text.as_bytes());
+    Ok(())
+}
+
+#[test]
+fn an_answer_is_written_with_its_closed_bounds(rt: HostRuntime) -> Result<(), Fail> {
+    let alloc = rt.alloc();
+    let shape = Shape { times: 2, texts: 0 };
+    let names = ["dep", "arr"];
+    check_text(&rt, alloc, &names, Store::new(alloc, shape, 60), "Empty\n")?;
+    let mut store = Store::new(alloc, shape, 60);
+    fill(
+        &rt,
+        &mut store,
+        &[5, 30],
+        &[bound(1, 2, -25), bound(2, 1, 25)],
+    );
+    check_text(
+        &rt,
+        alloc,
+        &names,
+        store,
+        "relation answer(dep: time, arr: time) {\n  (5+60n, 30+60n) where dep <= arr - 25, arr <= dep + 25;\n}\n",
+    )
+}
+
+#[test]
+fn rows_stand_cell_by_cell(rt: HostRuntime) -> Result<(), Fail> {
+    let alloc = rt.alloc();
+    let shape = Shape { times: 2, texts: 0 };
+    let mut store = Store::new(alloc, shape, 2);
+    fill(&rt, &mut store, &[1, 0], &[bound(2, 1, 2), bound(1, 0, 10)]);
+    fill(&rt, &mut store, &[0, 0], &[bound(1, 0, -4)]);
+    fill(&rt, &mut store, &[0, 0], &[bound(2, 1, 2), bound(0, 1, -4)]);
+    let rows =
+        "  (0+2n, 0+2n) where a <= -4;\n  (0+2n, 0+2n) where a >= 4, b <= a + 2;\n  (1+2n, 0+2n) where a <= 9, b <= 10, b <= a + 1;\n";
+    let text = format!(in alloc; "relation answer(a: time, b: time) {{\n{rows}}}\n")?;
+    check_text(&rt, alloc, &["a", "b"], store, text.as_str())
 }
