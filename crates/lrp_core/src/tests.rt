@@ -335,7 +335,8 @@ fn variables_that_occur_free(rt: HostRuntime) -> Result<(), Fail> {
         ("iti|", "a;"),
     ] {
         let body = formula(&rt, alloc, text)?;
-        let core = core_form(alloc, &query(alloc, body), false)?;
+        let query = query(alloc, body);
+        let core = core_form(alloc, &query, false)?;
         let variables = free_variables(alloc, &core)?;
         let mut out = Vec::new(alloc);
         write_variables(&mut out, variables.as_slice())?;
