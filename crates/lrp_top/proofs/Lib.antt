@@ -1,11 +1,14 @@
 -- Lemmas on texts, on files, on steps, on questions, on what can be planned and on sorted numbers.
+pub mod Answered
 pub mod FileLemmas
 pub mod HeadCounts
 pub mod KeptTexts
 pub mod LineLemmas
+pub mod Listed
 pub mod Plannable
 pub mod QuestionLemmas
 pub mod ResumeLemmas
 pub mod RowLines
 pub mod Sorting
 pub mod StepLemmas
+pub mod WordEnds

@@ -7,19 +7,23 @@ use Rattle.std.specs.List.{flat_map}
 use Rattle.lrp_io.specs.Bytes.{appended, AppendsFront}
 use Rattle.lrp_model.specs.declared.tokens.Place.{Place}
 use Rattle.lrp_print.proofs.Lines.{item_front}
-use Rattle.lrp_top.specs.Outcomes.{Outcome, fault_line, refused_with, status_of, text_of, Ends}
+use Rattle.lrp_top.specs.Outcomes.{Outcome, cells_line, fault_line, refused_with, status_of, text_of, Ends}
 use Rattle.lrp_top.specs.declared.status.Status.{Status}
 use Rattle.lrp_top.specs.declared.status.Status.TheVariants as status
 use Rattle.lrp_top.specs.declared.outcome.Refusal.{Refusal}
-use Rattle.lrp_top.specs.declared.outcome.Refusal.TheVariants.{Usage, ReadDatabase, LongDatabase, Database, ReadQuery, LongQuery, Query, PeriodLimit, BoundLimit, TokenForm, TokenShape, TokenStale, Memory, Unbuilt}
+use Rattle.lrp_top.specs.declared.outcome.Refusal.TheVariants.{Usage, ReadDatabase, LongDatabase, Database, ReadQuery, LongQuery, Query, PeriodLimit, BoundLimit, TokenForm, TokenShape, TokenStale, Cells, Memory, Unbuilt}
 
 -- the seven pieces of the line of a fault
 pub fault_pieces : (whose kind : List ℕ) (place : Place) (a b c d e g h : List ℕ) → a ≡ whose → b ≡ kind → c ≡ codes " at " → d ≡ decimal place.line → e ≡ codes ":" → g ≡ decimal place.column → h ≡ codes "\n"
     → a ++ (b ++ (c ++ (d ++ (e ++ (g ++ (h ++ [])))))) ≡ fault_line whose kind place
 fault_pieces whose kind place a b c d e g h p q r s t u v = rw (p, q, r, s, t, u, v) refl
 
+-- the five pieces of the line of a step with too many cells
+pub cells_pieces : (cap step : ℕ) (a b c d e : List ℕ) → a ≡ codes "refused: more than " → b ≡ decimal cap → c ≡ codes " cells at step " → d ≡ decimal step → e ≡ codes "\n" → a ++ (b ++ (c ++ (d ++ (e ++ [])))) ≡ cells_line cap step
+cells_pieces cap step a b c d e p q r s t = rw (p, q, r, s, t) refl
+
 -- an element is there, whatever stands for one that is not
-there : {A : Type 0} (xs : List A) (i : ℕ) (d : A) → i < length xs → get_or xs i d ≡ get_or xs i (get_or xs i d)
+pub there : {A : Type 0} (xs : List A) (i : ℕ) (d : A) → i < length xs → get_or xs i d ≡ get_or xs i (get_or xs i d)
 there [] i d l = absurd (omega arith)
 there (x ∷ xs) zero d l = refl
 there (x ∷ xs) (suc i) d l = there xs i d (omega arith)
@@ -42,6 +46,7 @@ refused_whole BoundLimit e = cc
 refused_whole TokenForm e = cc
 refused_whole TokenShape e = cc
 refused_whole TokenStale e = cc
+refused_whole (Cells cap step) e = cc
 refused_whole Memory e = cc
 refused_whole Unbuilt e = cc
 

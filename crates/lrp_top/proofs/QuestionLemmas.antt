@@ -13,7 +13,7 @@ use Rattle.lrp_top.specs.Sources.{Source}
 use Rattle.lrp_top.specs.Steps.{Then}
 use Rattle.lrp_top.proofs.StepLemmas.{mapped, no_refusal, same_refusal}
 use Rattle.lrp_top.specs.declared.outcome.Refusal.{Refusal}
-use Rattle.lrp_top.specs.declared.outcome.Refusal.TheVariants.{Usage, ReadDatabase, LongDatabase, Database, ReadQuery, LongQuery, Query, PeriodLimit, BoundLimit, TokenForm, TokenShape, TokenStale, Memory, Unbuilt}
+use Rattle.lrp_top.specs.declared.outcome.Refusal.TheVariants.{Usage, ReadDatabase, LongDatabase, Database, ReadQuery, LongQuery, Query, PeriodLimit, BoundLimit, TokenForm, TokenShape, TokenStale, Cells, Memory, Unbuilt}
 use Rattle.lrp_top.specs.declared.questions.Question.{Question}
 
 -- a count that rose later rose
@@ -40,6 +40,7 @@ asked_of relations files told before middle now given may_be name bytes (Err Bou
 asked_of relations files told before middle now given may_be name bytes (Err TokenForm) l h = h
 asked_of relations files told before middle now given may_be name bytes (Err TokenShape) l h = h
 asked_of relations files told before middle now given may_be name bytes (Err TokenStale) l h = h
+asked_of relations files told before middle now given may_be name bytes (Err (Cells cap step)) l h = h
 asked_of relations files told before middle now given may_be name bytes (Err Memory) l h = h
 asked_of relations files told before middle now given may_be name bytes (Err Unbuilt) l h = h
 

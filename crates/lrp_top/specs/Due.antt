@@ -1,5 +1,5 @@
 -- What is due for words: the first refusal that applies, or the output.
-use Rattle.std.specs.Prelude.{◌≡◌, ◌⊎◌, ℕ, ◌<◌, ◌≤◌, List, [], ◌∷◌, length, map, Option, Some, None, Result, Ok, Err, String, string_bytes}
+use Rattle.std.specs.Prelude.{◌≡◌, ◌⊎◌, ℕ, ℤ, Bool, ◌<◌, ◌≤◌, List, [], ◌∷◌, length, map, Option, Some, None, Result, Ok, Err, String, string_bytes}
 use Rattle.std.specs.List.{AllByRecursion}
 use Rattle.std.specs.declared.alloc.Global.{Global}
 use Rattle.lrp_io.specs.Causes.{Rose}
@@ -20,13 +20,16 @@ use Rattle.lrp_print.specs.ReadBack.{ReadsBack}
 use Rattle.lrp_token.specs.Files.{files_digest}
 use Rattle.lrp_plan.specs.Planning.{IsWithinLimits, HasCause}
 use Rattle.lrp_plan.specs.declared.planning.PlanFault.TheVariants as plan_fault
+use Rattle.lrp_top.specs.Counting.{IsCounted}
+use Rattle.lrp_top.specs.Listings.{TellsPage, page_text}
 use Rattle.lrp_top.specs.Outcomes.{Outcome}
 use Rattle.lrp_top.specs.Resuming.{IsResumed}
 use Rattle.lrp_top.specs.Seen.{Seen, AreBytesOf, IsOverrun}
 use Rattle.lrp_top.specs.Sources.{Source}
 use Rattle.lrp_top.specs.Steps.{Then}
 use Rattle.lrp_top.specs.ThinAnswers.{IsThinAnswer}
-use Rattle.lrp_top.specs.declared.outcome.Output.TheVariants.{Text as text_output, Relations, Plan as plan_output}
+use Rattle.lrp_top.specs.Witnesses.{TellsWitness, witness_text}
+use Rattle.lrp_top.specs.declared.outcome.Output.TheVariants.{Text as text_output, Relations, Plan as plan_output, Witness, Page}
 use Rattle.lrp_top.specs.declared.outcome.Refusal.{Refusal}
 use Rattle.lrp_top.specs.declared.outcome.Refusal.TheVariants.{Usage, ReadDatabase, LongDatabase, Database, ReadQuery, LongQuery, Query, PeriodLimit, BoundLimit, Memory, Unbuilt}
 
@@ -116,23 +119,36 @@ IsAnswered Answers (Err Memory) = Unit {0}
 IsAnswered Answers (Err Unbuilt) = Unit {0}
 IsAnswered Answers _ = ⊥
 
--- no text
-abbrev pub IsNoText : List ℕ → Type 0
-IsNoText bytes = ⊥
-
 -- a database is read, then a query over its relations, then the query is planned, and then this is due
 abbrev pub IsQuestion : {B : Type 0} → Seen → Identifier → Identifier → (Source (List Relation) → Source Question → Plan → Result B Refusal → Type 0) → Result B Refusal → Type 0
 IsQuestion seen database query Next result = Then (IsRead seen database) (λ d. Then (IsAsked d.says seen query) (λ q. Then (IsPlanned d.says q.says) (Next d q))) result
 
--- a page is listed from where its token says; or the token is refused. It is not built yet
-abbrev pub IsListed : Option Text → Source (List Relation) → Source Question → Plan → Outcome → Type 0
-IsListed after d q p = Then (IsResumed (files_digest d.bytes q.bytes) q.says.head after) (λ from. IsAnswered IsNoText)
+-- the least answer is written, or that there is none
+abbrev pub IsWitnessed : List Relation → Question → Outcome → Type 0
+IsWitnessed db q (Ok (Witness w)) = TellsWitness db q (witness_text w)
+IsWitnessed db q _ = ⊥
 
--- what is due for a task; `sample` and the answers of two commands are not built yet
+-- no step has more than cap cells, and then the least answer is due
+abbrev pub IsDecided : ℕ → Source (List Relation) → Source Question → Plan → Outcome → Type 0
+IsDecided cap d q p = Then (IsCounted d.says q.says cap) (λ done. IsWitnessed d.says q.says)
+
+-- a page is written that is told so; or want of memory
+abbrev pub IsPaged : (List ℕ → Type 0) → Outcome → Type 0
+IsPaged Tells (Ok (Page page)) = Tells (page_text page)
+IsPaged Tells (Err Memory) = Unit {0}
+IsPaged Tells _ = ⊥
+
+-- a page begins where its token says, no step has more than cap cells, and then the page of the window is due
+abbrev pub IsListed : ℤ → ℤ → ℕ → Option Text → Bool → ℕ → Source (List Relation) → Source Question → Plan → Outcome → Type 0
+IsListed from to limit after json cap d q p =
+    let files = files_digest d.bytes q.bytes in
+    Then (IsResumed files q.says.head after) (λ tuple. Then (IsCounted d.says q.says cap) (λ done. IsPaged (TellsPage d.says q.says from to tuple limit json files)))
+
+-- what is due for a task; `sample` and most answers of `ask` are not built yet
 abbrev pub IsDueOf : Task → Seen → Outcome → Type 0
 IsDueOf (ask database query cap) seen outcome = IsQuestion seen database query (λ d q p. IsAnswered IsThinAnswer) outcome
-IsDueOf (decide database query cap) seen outcome = IsQuestion seen database query (λ d q p. IsAnswered IsNoText) outcome
-IsDueOf (list database query from to limit after json cap) seen outcome = IsQuestion seen database query (IsListed after) outcome
+IsDueOf (decide database query cap) seen outcome = IsQuestion seen database query (IsDecided cap) outcome
+IsDueOf (list database query from to limit after json cap) seen outcome = IsQuestion seen database query (IsListed from to limit after json cap) outcome
 IsDueOf (explain database query) seen outcome = IsQuestion seen database query (λ d q. IsExplained) outcome
 IsDueOf (check database) seen outcome = Then (IsRead seen database) IsWrittenAgain outcome
 IsDueOf (sample seed size) seen outcome = outcome ≡ Err Unbuilt

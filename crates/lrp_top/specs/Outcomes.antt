@@ -13,16 +13,22 @@ use Rattle.lrp_model.specs.declared.tokens.Place.{Place}
 use Rattle.lrp_plan.specs.declared.planning.PlanFault.{PlanFault}
 use Rattle.lrp_plan.specs.declared.planning.PlanFault.TheVariants as plan_fault
 use Rattle.lrp_plan_text.specs.Writable.{HasPeriods}
+use Rattle.lrp_top.specs.Listings.{page_text}
+use Rattle.lrp_top.specs.Witnesses.{witness_text}
 use Rattle.lrp_top.specs.declared.status.Status.{Status}
 use Rattle.lrp_top.specs.declared.status.Status.TheVariants as status
 use Rattle.lrp_top.specs.declared.outcome.Output.{Output}
-use Rattle.lrp_top.specs.declared.outcome.Output.TheVariants.{Text, Relations, Plan}
+use Rattle.lrp_top.specs.declared.outcome.Output.TheVariants.{Text, Relations, Plan, Witness, Page}
 use Rattle.lrp_top.specs.declared.outcome.Refusal.{Refusal}
-use Rattle.lrp_top.specs.declared.outcome.Refusal.TheVariants.{Usage, ReadDatabase, LongDatabase, Database, ReadQuery, LongQuery, Query, PeriodLimit, BoundLimit, TokenForm, TokenShape, TokenStale, Memory, Unbuilt}
+use Rattle.lrp_top.specs.declared.outcome.Refusal.TheVariants.{Usage, ReadDatabase, LongDatabase, Database, ReadQuery, LongQuery, Query, PeriodLimit, BoundLimit, TokenForm, TokenShape, TokenStale, Cells, Memory, Unbuilt}
 
 -- the line of a fault: whose it is, its kind, its line and its column
 abbrev pub fault_line : List ℕ → List ℕ → Place → List ℕ
 fault_line whose kind place = whose ++ (kind ++ (codes " at " ++ (decimal place.line ++ (codes ":" ++ (decimal place.column ++ codes "\n")))))
+
+-- the line of a step that has more than cap cells
+abbrev pub cells_line : ℕ → ℕ → List ℕ
+cells_line cap step = codes "refused: more than " ++ (decimal cap ++ (codes " cells at step " ++ (decimal step ++ codes "\n")))
 
 -- the line of a refusal
 abbrev pub line_of : Refusal → List ℕ
@@ -38,6 +44,7 @@ line_of BoundLimit = codes "refused: bound above 4611686018427387904\n"
 line_of TokenForm = codes "refused: token form\n"
 line_of TokenShape = codes "refused: token shape\n"
 line_of TokenStale = codes "refused: token stale\n"
+line_of (Cells cap step) = cells_line cap step
 line_of Memory = codes "refused: memory\n"
 line_of Unbuilt = codes "refused: unbuilt\n"
 
@@ -55,6 +62,7 @@ refused_with BoundLimit = status.Limit
 refused_with TokenForm = status.Query
 refused_with TokenShape = status.Query
 refused_with TokenStale = status.Query
+refused_with (Cells cap step) = status.Limit
 refused_with Memory = status.Memory
 refused_with Unbuilt = status.Unbuilt
 
@@ -78,6 +86,8 @@ abbrev pub text_of : Outcome → List ℕ
 text_of (Ok (Text bytes)) = bytes
 text_of (Ok (Relations relations)) = database_bytes relations
 text_of (Ok (Plan p)) = plan_bytes p
+text_of (Ok (Witness w)) = witness_text w
+text_of (Ok (Page page)) = page_text page
 text_of (Err refusal) = line_of refusal
 
 -- a plan can be written where the points of its `in` tests have periods

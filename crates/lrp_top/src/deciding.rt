@@ -1,25 +1,25 @@
 // The decision: what the words ask for, before the first byte is written.
 ghost use Rattle.std.specs.Prelude.{◌≡◌, []};
 ghost use Rattle.std.specs.List.{AllByRecursion};
-ghost use Rattle.lrp_model.specs.Formulas.{question_of as queried};
-ghost use Rattle.lrp_plan_laws.specs.Settled.{IsSettled};
-ghost use Rattle.lrp_top.specs.Due.{IsAnswered, IsDue, IsDueOf, IsExplained, IsListed, IsNoText, IsQuestion, IsRead, IsTooLong, IsWrittenAgain, TellsLength, files_named, files_of};
+ghost use Rattle.lrp_top.specs.Due.{IsAnswered, IsDecided, IsDue, IsDueOf, IsExplained, IsListed, IsQuestion, IsRead, IsTooLong, IsWrittenAgain, TellsLength, files_named, files_of};
 ghost use Rattle.lrp_top.specs.Outcomes.{CanBeWritten};
-ghost use Rattle.lrp_top.specs.Questions.{database_source, query_source};
 ghost use Rattle.lrp_top.specs.Seen.{IsOverrun, seen_of};
 ghost use Rattle.lrp_top.specs.Steps.{Then};
+ghost use Rattle.lrp_top.specs.Windows.{HasEnds};
 ghost use Rattle.lrp_top.specs.ThinAnswers.{IsThinAnswer};
+ghost use Rattle.lrp_list.specs.Listing.{AreEnds};
 ghost use Rattle.lrp_words.specs.Commands.{task_of, text_of};
 
 use crate::files::database_of;
+use crate::listing::page;
 use crate::outcome::{Output, Refusal};
+use crate::paging::Paging;
 use crate::questions::{Question, question_of};
-use crate::resuming::resumed;
 use crate::thin_answer::thin_text;
+use crate::witnesses::witness;
 use lrp_io::Shelf;
 use lrp_model::Memory;
 use lrp_rel::databases_read_back;
-use lrp_token::digest;
 use lrp_words::{Command, Usage, read_words};
 use std::alloc::Global;
 
@@ -41,6 +41,7 @@ fn decide_command<F: Shelf>(
     command: Command<'_>,
     shelf: &mut F,
 ) -> Result<Output, Refusal>
+    requires ends { HasEnds (task_of command) }
     ensures due { IsDueOf (task_of command.entry) (seen_of (F.files shelf.old) (F.faults shelf.old) (F.faults shelf.new) (F.given shelf.new) (F.may_be shelf.new)) result }
     ensures long { AllByRecursion (λ name. IsOverrun (seen_of (F.files shelf.old) (F.faults shelf.old) (F.faults shelf.new) (F.given shelf.new) (F.may_be shelf.new)) name → IsTooLong result) (files_of (task_of command.entry)) }
     ensures unread { files_of (task_of command.entry) ≡ [] → shelf.new ≡ shelf.old }
@@ -48,13 +49,27 @@ fn decide_command<F: Shelf>(
 {
     match command {
         Command::Ask { db, query, .. } => ask(alloc, db, query, shelf),
-        Command::Decide { db, query, .. } => unbuilt(alloc, db, query, shelf),
+        Command::Decide { db, query, cap } => decide_question(alloc, db, query, cap, shelf),
         Command::List {
             db,
             query,
+            from,
+            to,
+            limit,
             after,
-            ..
-        } => list(alloc, db, query, after, shelf),
+            json,
+            cap,
+        } => {
+            let paging = Paging {
+                from,
+                to,
+                limit,
+                after,
+                json,
+                cap,
+            };
+            list(alloc, db, query, &paging, shelf)
+        }
         Command::Explain { db, query } => explain(alloc, db, query, shelf),
         Command::Check { db } => check(alloc, db, shelf),
         Command::Sample { .. } => Err(Refusal::Unbuilt),
@@ -122,54 +137,39 @@ fn explain<F: Shelf>(
     }
 }
 
-/// The first refusal of a question whose answer is not built yet.
-fn unbuilt<F: Shelf>(
+/// The least answer of a question.
+fn decide_question<F: Shelf>(
     alloc: Global,
     database: &str,
     query: &str,
+    cap: u32,
     shelf: &mut F,
 ) -> Result<Output, Refusal>
-    ensures due { IsQuestion (seen_of (F.files shelf.old) (F.faults shelf.old) (F.faults shelf.new) (F.given shelf.new) (F.may_be shelf.new)) database.now query.now (λ d q p. IsAnswered IsNoText) result }
+    ensures due { IsQuestion (seen_of (F.files shelf.old) (F.faults shelf.old) (F.faults shelf.new) (F.given shelf.new) (F.may_be shelf.new)) database.now query.now (IsDecided cap) result }
     ensures long { TellsLength (seen_of (F.files shelf.old) (F.faults shelf.old) (F.faults shelf.new) (F.given shelf.new) (F.may_be shelf.new)) result }
     ensures writable { CanBeWritten result }
 {
     match question_of(alloc, database, query, shelf) {
-        Ok(_question) => Err(Refusal::Unbuilt),
+        Ok(question) => witness(alloc, &question, cap),
         Err(refusal) => Err(refusal),
     }
 }
 
-/// The page of a question, from where its token says.
+/// The page of a question.
 fn list<F: Shelf>(
     alloc: Global,
     database: &str,
     query: &str,
-    after: Option<&str>,
+    paging: &Paging<'_>,
     shelf: &mut F,
 ) -> Result<Output, Refusal>
-    ensures due { IsQuestion (seen_of (F.files shelf.old) (F.faults shelf.old) (F.faults shelf.new) (F.given shelf.new) (F.may_be shelf.new)) database.now query.now (IsListed (text_of after.entry)) result }
+    requires ends { AreEnds paging.now.from paging.now.to }
+    ensures due { IsQuestion (seen_of (F.files shelf.old) (F.faults shelf.old) (F.faults shelf.new) (F.given shelf.new) (F.may_be shelf.new)) database.now query.now (IsListed paging.now.from paging.now.to paging.now.limit (text_of paging.now.after) paging.now.json paging.now.cap) result }
     ensures long { TellsLength (seen_of (F.files shelf.old) (F.faults shelf.old) (F.faults shelf.new) (F.given shelf.new) (F.may_be shelf.new)) result }
     ensures writable { CanBeWritten result }
 {
     match question_of(alloc, database, query, shelf) {
-        Ok(question) => page(alloc, &question, after),
-        Err(refusal) => Err(refusal),
-    }
-}
-
-/// The page of a question that is refused nothing else than its token.
-fn page(alloc: Global, question: &Question, after: Option<&str>) -> Result<Output, Refusal>
-    requires settled { IsSettled question.now.database.relations (queried question.now.query.query) }
-    ensures page { IsListed (text_of after.entry) (database_source question.now.database) (query_source question.now.query) question.now.plan result }
-    ensures writable { CanBeWritten result }
-{
-    let head = question.query.query.head.columns.as_slice();
-    let files = digest(
-        question.database.bytes.as_slice(),
-        question.query.bytes.as_slice(),
-    );
-    match resumed(alloc, after, &files, head) {
-        Ok(_from) => Err(Refusal::Unbuilt),
+        Ok(question) => page(alloc, &question, paging),
         Err(refusal) => Err(refusal),
     }
 }

@@ -5,6 +5,8 @@ ghost use Rattle.lrp_top.specs.Resuming.{token_refused};
 ghost use Rattle.lrp_top.specs.declared.outcome.Refusal.TheVariants.{Memory as memory};
 
 use crate::Status;
+use crate::page::Page;
+use crate::witness::Witness;
 use lrp_model::{DbFault, List, Plan, QueryFault, QueryRead};
 use lrp_plan::PlanFault;
 use lrp_rel::Database;
@@ -19,6 +21,10 @@ pub enum Output {
     Relations(Database),
     /// The plan of a query.
     Plan(Plan),
+    /// The least answer of a query.
+    Witness(Witness),
+    /// A page of answers of a query.
+    Page(Page),
 }
 
 /// Why a command is refused.
@@ -48,6 +54,8 @@ pub enum Refusal {
     TokenShape,
     /// The token is of other files.
     TokenStale,
+    /// A step has more than `cap` inhabited cells; the first such step, from 1.
+    Cells { cap: u32, step: u32 },
     /// Memory was refused.
     Memory,
     /// The command, or the form of its files, is not built yet.
@@ -68,7 +76,7 @@ impl Refusal {
             | Refusal::TokenForm
             | Refusal::TokenShape
             | Refusal::TokenStale => Status::Query,
-            Refusal::PeriodLimit | Refusal::BoundLimit => Status::Limit,
+            Refusal::PeriodLimit | Refusal::BoundLimit | Refusal::Cells { .. } => Status::Limit,
             Refusal::Memory => Status::Memory,
             Refusal::Unbuilt => Status::Unbuilt,
         }

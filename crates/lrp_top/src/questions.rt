@@ -1,7 +1,7 @@
 // Questions: a database, a well-sorted query over it and its plan, or the first refusal.
 ghost use Rattle.std.specs.Prelude.{◌≡◌, ◌≤ℤ◌, IfOk, pos};
 ghost use Rattle.std.specs.List.{AllByRecursion};
-ghost use Rattle.lrp_model.specs.Core.{HasElements};
+ghost use Rattle.lrp_eval.specs.Planned.{IsPlanOf};
 ghost use Rattle.lrp_model.specs.Formulas.{form_of, question_of as queried};
 ghost use Rattle.lrp_model.specs.TestPoints.{points};
 ghost use Rattle.lrp_plan_laws.specs.Settled.{IsSettled};
@@ -45,7 +45,7 @@ pub fn question_of<F: Shelf>(
 ) -> Result<Question, Refusal>
     ensures question { IsQuestion (seen_of (F.files shelf.old) (F.faults shelf.old) (F.faults shelf.new) (F.given shelf.new) (F.may_be shelf.new)) database.now query.now IsMadeOf result }
     ensures long { TellsLength (seen_of (F.files shelf.old) (F.faults shelf.old) (F.faults shelf.new) (F.given shelf.new) (F.may_be shelf.new)) result }
-    ensures settled { IfOk result (λ question. IsSettled question.database.relations (queried question.query.query)) }
+    ensures planned { IfOk result (λ question. IsPlanOf question.database.relations (queried question.query.query) question.plan) }
     ensures writable { IfOk result (λ question. AllByRecursion HasPeriods question.plan.steps) }
 {
     let database = database_of(alloc, database, shelf)?;

@@ -1,5 +1,6 @@
 // Where a page begins: behind the tuple of a token, where there is one.
-ghost use Rattle.std.specs.Prelude.{◌≡◌, ◌≤◌, count_by};
+ghost use Rattle.std.specs.Prelude.{◌≡◌, ◌≤◌, IfOk, IfSome, count_by};
+ghost use Rattle.lrp_list.specs.Listing.{HasShapeOf};
 ghost use Rattle.lrp_model.specs.Plans.{time_columns};
 ghost use Rattle.lrp_model.specs.Sorts.{is_data, is_time};
 ghost use Rattle.lrp_words.specs.Commands.{text_of};
@@ -19,6 +20,7 @@ pub fn resumed(
 ) -> Result<Option<Tuple>, Refusal>
     requires times { time_columns head.now ≤ 8 }
     requires texts { data_columns head.now ≤ 8 }
+    ensures shape { IfOk result (λ tuple. IfSome tuple (HasShapeOf (shape_of_head head.now))) }
     ensures resumed { IsResumed digest.now head.now (text_of after.entry) (resumed_as head.now result) }
 {
     let Some(token) = after else {

@@ -176,17 +176,12 @@ fn words_and_files_are_refused(rt: HostRuntime) -> Result<(), Fail> {
             Status::Database,
             "refused: database Number at 1:26\n",
         ),
-        (
-            "decide db=d query=q",
-            BUS,
-            Status::Unbuilt,
-            "refused: unbuilt\n",
-        ),
+        ("decide db=d query=q", BUS, Status::Done, "Nonempty\n5\n"),
         (
             "list db=d query=q from=0 to=9",
             BUS,
-            Status::Unbuilt,
-            "refused: unbuilt\n",
+            Status::Done,
+            "5\nend\n",
         ),
         (
             "explain db=d query=q",

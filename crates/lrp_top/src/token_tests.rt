@@ -14,8 +14,8 @@ const SHAPE: &str = "refused: token shape\n";
 
 const STALE: &str = "refused: token stale\n";
 
-// Behind the token's own refusals.
-const LATER: &str = "refused: unbuilt\n";
+// The page where the token is not refused.
+const LATER: &str = "end\n";
 
 // How a page of departures behind this token ends.
 fn behind(alloc: Global, token: &str, query: &str) -> Result<(Status, Vec<u8>), Fail> {

@@ -5,7 +5,7 @@ ghost use Rattle.lrp_io.specs.Causes.{HasCause};
 ghost use Rattle.lrp_io.specs.Pieces.{IsWritten};
 ghost use Rattle.lrp_plan_text.specs.Writable.{HasPeriods};
 ghost use Rattle.lrp_top.specs.WritablePlans.{steps_prop};
-ghost use Rattle.lrp_top.specs.Outcomes.{CanBeWritten, fault_line, line_of, text_of};
+ghost use Rattle.lrp_top.specs.Outcomes.{CanBeWritten, cells_line, fault_line, line_of, text_of};
 
 use crate::outcome::{Output, Refusal};
 use itoa::Buffer;
@@ -25,6 +25,8 @@ pub fn write_outcome<S: Sink>(out: &mut S, outcome: &Result<Output, Refusal>) ->
         Ok(Output::Text(text)) => write_bytes(out, text.as_slice()),
         Ok(Output::Relations(database)) => write_buffered(out, &DatabaseText { database }),
         Ok(Output::Plan(plan)) => write_buffered(out, &PlanText { plan }),
+        Ok(Output::Witness(witness)) => write_buffered(out, witness),
+        Ok(Output::Page(page)) => write_buffered(out, page),
         Err(refusal) => write_refusal(out, refusal),
     }
 }
@@ -86,6 +88,7 @@ fn write_refusal<S: Sink>(out: &mut S, refusal: &Refusal) -> Result<(), Failed>
         Refusal::TokenForm => write_bytes(out, b"refused: token form\n"),
         Refusal::TokenShape => write_bytes(out, b"refused: token shape\n"),
         Refusal::TokenStale => write_bytes(out, b"refused: token stale\n"),
+        Refusal::Cells { cap, step } => write_cells(out, *cap, *step),
         Refusal::Memory => write_bytes(out, b"refused: memory\n"),
         Refusal::Unbuilt => write_bytes(out, b"refused: unbuilt\n"),
     }
@@ -105,6 +108,23 @@ fn write_fault<S: Sink>(out: &mut S, whose: &[u8], kind: &str, place: Place) -> 
         line.format(place.line).as_bytes(),
         b":".as_slice(),
         column.format(place.column).as_bytes(),
+        b"\n".as_slice(),
+    ];
+    write_pieces(out, &pieces)
+}
+
+/// Writes the line of a step with too many cells.
+fn write_cells<S: Sink>(out: &mut S, cap: u32, step: u32) -> Result<(), Failed>
+    ensures text { IsWritten (S.written out.old) (S.written out.new) (cells_line cap step) result }
+    ensures cause { HasCause (S.faults out.old) (S.faults out.new) result }
+{
+    let mut most = Buffer::new();
+    let mut number = Buffer::new();
+    let pieces = [
+        b"refused: more than ".as_slice(),
+        most.format(cap).as_bytes(),
+        b" cells at step ".as_slice(),
+        number.format(step).as_bytes(),
         b"\n".as_slice(),
     ];
     write_pieces(out, &pieces)

@@ -35,3 +35,12 @@ returns-clause-question g c =
 
 pub returns-clause-long : goal.returns-clause-long
 returns-clause-long g c = λ name over. c.in_ok-query.ensures.long name (record { named = over.named; many = over.many })
+
+pub returns-clause-planned : goal.returns-clause-planned
+returns-clause-planned g c = record {
+  settled = c.in_ok-query.ensures.settled;
+  points = c.in_ok-query.ensures.points;
+  is = c.in_ok-plan.ensures.planned.0;
+  period = c.in_ok-plan.ensures.planned.1.period;
+  reach = c.in_ok-plan.ensures.planned.1.reach;
+}

@@ -1,0 +1,157 @@
+-- What the answers of a query leave room for, and what is told of them.
+use Rattle.std.proofs.Common.{◌≡◌, ◌↔◌, inl, inr, ◌≤◌, ◌<◌, ◌+◌, ◌*◌, ◌^◌, ℕ, zero, suc, List, [], ◌∷◌, ◌++◌, length, take, Option, Some, None, unwrap_or, option_map, Bool, refl, sym, ap, subst, ◌∙◌, arith}
+use Rattle.std.proofs.Math.Nat.{pow-succ', mul-le-mul_right}
+use Rattle.std.specs.Prelude.{ℤ, pos, codes, slice_get, IfNone, IfSome}
+use Rattle.std.specs.List.{AllByRecursion}
+use Rattle.lrp_theory.proofs.Through.{AtMost-more}
+use Rattle.lrp_model.specs.Texts.{Text}
+use Rattle.lrp_model.specs.Core.{guarded, has_named_sort}
+use Rattle.lrp_model.specs.Formulas.{Question}
+use Rattle.lrp_model.specs.Pages.{IsDue, IsPage, Tuple}
+use Rattle.lrp_model.specs.PrintedPages.{plain_line}
+use Rattle.lrp_model.specs.Plans.{plan, core_steps, query_reach, time_columns}
+use Rattle.lrp_model.specs.Satisfaction.{structure}
+use Rattle.lrp_model.specs.Steps.{PlanStep, step_behind}
+use Rattle.lrp_model.specs.declared.plans.Plan.{Plan}
+use Rattle.lrp_model.specs.declared.plans.StepKind.TheVariants.{Extend}
+use Rattle.lrp_model.specs.declared.relations.Relation.{Relation}
+use Rattle.lrp_model.specs.declared.tuples.Spot.{Spot}
+use Rattle.lrp_plan_laws.specs.Rising.{period_at}
+use Rattle.lrp_plan_laws.proofs.Elements.{step_made}
+use Rattle.lrp_plan_laws.proofs.SettledLaws.{sound}
+use Rattle.lrp_zone.specs.Zones.{columns_of}
+use Rattle.lrp_store.specs.Least.{HasRoom, IsLeastSpot, StandsFor}
+use Rattle.lrp_store.specs.Stores.{IsStore, tables_at, zone_of}
+use Rattle.lrp_store.specs.Tables.{AreTexts, InAnswer}
+use Rattle.lrp_store.specs.declared.answer.Answer.{Answer}
+use Rattle.lrp_list.proofs.HeadOrder.{spot_tuple_is}
+use Rattle.lrp_eval.specs.Answered.{IsAnswerOf}
+use Rattle.lrp_eval.proofs.SettleLaws.{zone_in}
+use Rattle.lrp_eval.specs.Planned.{IsPlanOf}
+use Rattle.lrp_top.specs.Known.{HasTexts}
+use Rattle.lrp_top.specs.Witnesses.{TellsWitness, spot_text}
+
+-- ---- numbers
+
+one_more : (m : ℕ) → m + 1 ≤ 2 ^ m
+one_more zero = omega arith
+one_more (suc m) = let r : m + 1 ≤ 2 ^ m = one_more m in let e : 2 ^ suc m ≡ 2 * 2 ^ m = pow-succ' 2 m in omega arith
+
+-- m * (m + 1) is at most 2 ^ (m + 1)
+squares : (m : ℕ) → m * (m + 1) ≤ 2 ^ (m + 1)
+squares zero = omega arith
+squares (suc m) =
+    let r : m * (m + 1) ≤ 2 ^ (m + 1) = squares m in
+    let s : m + 1 ≤ 2 ^ m = one_more m in
+    let d : 2 ^ (m + 1) ≡ 2 * 2 ^ m = ap (λ i. 2 ^ i) (omega arith) ∙ pow-succ' 2 m in
+    let e : 2 ^ (suc m + 1) ≡ 2 * 2 ^ (m + 1) = ap (λ i. 2 ^ i) (omega arith) ∙ pow-succ' 2 (m + 1) in
+    let f : suc m * (suc m + 1) ≡ m * (m + 1) + 2 * (m + 1) = omega arith in
+    omega arith
+
+scaled : (c m R : ℕ) → c ≤ m → 2 ^ (m + 1) * R ≤ 2 ^ 62 → c * ((m + 1) * R) ≤ 2 ^ 62
+scaled c m R l h =
+    let a : c * ((m + 1) * R) ≤ m * ((m + 1) * R) = mul-le-mul_right ((m + 1) * R) l in
+    let b : m * (m + 1) * R ≤ 2 ^ (m + 1) * R = mul-le-mul_right R (squares m) in
+    let e : m * ((m + 1) * R) ≡ m * (m + 1) * R = omega arith in
+    omega arith
+
+fewer : {X : Type 0} (n : ℕ) (xs : List X) → length (take n xs) ≤ n
+fewer zero [] = omega arith
+fewer zero (x ∷ xs) = omega arith
+fewer (suc n) [] = omega arith
+fewer (suc n) (x ∷ xs) = let r : length (take n xs) ≤ n = fewer n xs in omega arith
+
+-- ---- room for the least answer
+
+module _ (db : List Relation) (q : Question) (p : Plan) (h : IsPlanOf db q p) (cap : ℕ) (a : Answer) (is : IsAnswerOf db q cap a) where
+  last : PlanStep
+  last = step_behind (structure db q) (Extend (length (core_steps db q))) (guarded (has_named_sort db) q.head q.body) (core_steps db q)
+
+  wide : period_at (plan db q) (length (plan db q)) ≤ query_reach db q
+  unfolding last
+  wide =
+      let at_last = step_made (structure db q) (Extend (length (core_steps db q))) (guarded (has_named_sort db) q.head q.body) (core_steps db q) in
+      let w = ((sound db q h.settled).steps (length (plan db q)) last at_last).rises.wide in
+      let k : period_at (plan db q) (length (plan db q)) ≡ last.period = ap (λ o. unwrap_or (option_map (λ step. step.period) o) 1) at_last in
+      let r : query_reach db q ≡ last.reach = ap (λ o. unwrap_or (option_map (λ step. step.reach) o) 0) at_last in
+      omega (arith, w, k, r)
+
+  pub has_room : IsStore a.store → HasRoom a.store
+  has_room valid = record {
+    each = λ cell table held.
+        let z = zone_of a.store cell table in
+        let m = time_columns q.head in
+        let R = query_reach db q in
+        let c : columns_of z ≤ m = subst (λ n. columns_of z ≤ n) (sym a.times_are ∙ ap time_columns is.head) (fewer a.store.shape.times cell.residues) in
+        let k : pos a.store.period ≡ pos (period_at (plan db q) (length (plan db q))) = sym a.period_is ∙ is.period in
+        let same : a.store.period ≡ period_at (plan db q) (length (plan db q)) = cc in
+        let small = is.small cell z (zone_in a.store cell (tables_at a.store cell) table held) in (
+          (m + 1) * R,
+          record {
+            room = scaled (columns_of z) m R c h.reach;
+            period = let w : period_at (plan db q) (length (plan db q)) ≤ R = wide in let one : 1 * R ≤ (m + 1) * R = mul-le-mul_right R (omega arith) in omega arith;
+            closed = λ n closed same. record { each = λ i j il jl ne. AtMost-more (m * R) ((m + 1) * R) _ (mul-le-mul_right R (omega arith)) ((small.closed n closed same).each i j il jl ne) };
+          },
+        );
+  }
+
+-- ---- the least answer
+
+module _ (db : List Relation) (q : Question) (cap : ℕ) (a : Answer) (is : IsAnswerOf db q cap a) where
+  pub told_none : ((tuple : Tuple) → InAnswer a.head.columns a.domain a.store tuple → ⊥) → TellsWitness db q (spot_text a None)
+  told_none none = inl (record { none = λ tuple h. none tuple ((is.answers tuple).1 h); spelled = refl })
+
+  pub told_some : (spot : Spot) → IsLeastSpot a.head.columns a.domain a.store spot → TellsWitness db q (spot_text a (Some spot))
+  told_some spot l = inr (record {
+    tuple = l.tuple;
+    least = record { is = (is.answers l.tuple).0 l.least.is; first = λ other h. l.least.first other ((is.answers other).1 h) };
+    spelled = ap (λ (t : Tuple). codes "Nonempty\n" ++ plain_line t) (spot_tuple_is a.head.columns a.store.shape a.domain spot l.tuple l.least.is.shape l.stands);
+  })
+
+  pub told_least : (o : Option Spot) → IfNone o ((tuple : Tuple) → InAnswer a.head.columns a.domain a.store tuple → ⊥) → IfSome o (λ spot. IsLeastSpot a.head.columns a.domain a.store spot) → TellsWitness db q (spot_text a o)
+  told_least None n s = told_none n
+  told_least (Some spot) n s = told_some spot s
+
+-- ---- texts by their numbers
+
+below : (domain : List Text) (n : ℕ) (t : Text) → slice_get domain n ≡ Some t → n < length domain
+below [] n t e = cc
+below (d ∷ ds) zero t e = omega arith
+below (d ∷ ds) (suc n) t e = let r : n < length ds = below ds n t e in omega arith
+
+texts_below : (domain : List Text) (ns : List ℕ) (ts : List Text) → AreTexts domain ns ts → AllByRecursion (λ n. n < length domain) ns
+texts_below domain [] ts h = tt
+texts_below domain (n ∷ ns) [] h = absurd h
+texts_below domain (n ∷ ns) (t ∷ ts) h = (below domain n t h.0, texts_below domain ns ts h.1)
+
+-- a spot that stands for a tuple has numbers of the domain
+pub texts_known : (a : Answer) (spot : Spot) (tuple : Tuple) → StandsFor a.store.shape a.domain spot tuple → HasTexts a spot
+texts_known a spot tuple s = texts_below a.domain (take a.store.shape.texts spot.texts) _ s.texts
+
+pub known_least : (a : Answer) (o : Option Spot) → IfSome o (λ spot. IsLeastSpot a.head.columns a.domain a.store spot) → IfSome o (HasTexts a)
+known_least a None h = tt
+known_least a (Some spot) h = texts_known a spot h.tuple h.stands
+
+-- ---- pages
+
+module _ (P Q : Tuple → Type 0) (same : (t : Tuple) → P t ↔ Q t) (from to : ℤ) (after : Option Tuple) where
+  due_to : (t : Tuple) → IsDue P from to after t → IsDue Q from to after t
+  due_to t d = record { is = (same t).0 d.is; inside = d.inside; later = d.later }
+
+  due_from : (t : Tuple) → IsDue Q from to after t → IsDue P from to after t
+  due_from t d = record { is = (same t).1 d.is; inside = d.inside; later = d.later }
+
+  all_due : (ts : List Tuple) → AllByRecursion (IsDue P from to after) ts → AllByRecursion (IsDue Q from to after) ts
+  all_due [] h = tt
+  all_due (t ∷ ts) h = (due_to t h.0, all_due ts h.1)
+
+  -- the page of the same answers
+  pub same_page : (limit : ℕ) (page : List Tuple) (more : Bool) → IsPage P from to after limit page more → IsPage Q from to after limit page more
+  same_page limit page more h = record {
+    rises = h.rises;
+    due = all_due page h.due;
+    whole = λ t d unless. h.whole t (due_from t d) unless;
+    more_is = ((λ m. let r = h.more_is.0 m in (r.0, due_to r.0 r.1, r.2)), λ r. h.more_is.1 (r.0, due_from r.0 r.1, r.2));
+    short = h.short;
+    full = h.full;
+  }

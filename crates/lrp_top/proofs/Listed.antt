@@ -1,0 +1,212 @@
+-- Spots that follow one another, and the text of their page.
+use Rattle.std.proofs.Common.{◌≡◌, ◌≤◌, ◌+◌, ◌-◌, ◌^◌, ℕ, zero, suc, List, [], ◌∷◌, ◌++◌, length, take, map, Option, Some, None, Bool, true, false, not, cond, filter, refl, sym, ap, ap₂, subst, ◌∙◌, arith, to_z, of_z, w64}
+use Rattle.std.specs.Prelude.{ℤ, pos, negsuc, neg_ℤ, ◌≤ℤ◌, nat_abs, slice_get, flat_map, ◌↔◌, IsTrue, IfSome}
+use Rattle.std.specs.Borrow.{Bor}
+use Rattle.std.specs.List.{AllByRecursion}
+use Rattle.std.proofs.lemmas.Int.{ints}
+use Rattle.std.proofs.lemmas.List.{length-map, length-take-le, map-append}
+use Rattle.lrp_model.specs.Lexing.{limit}
+use Rattle.lrp_model.specs.Formulas.{Question}
+use Rattle.lrp_model.specs.Pages.{IsPage, Tuple, last_of}
+use Rattle.lrp_model.specs.Plans.{time_columns}
+use Rattle.lrp_model.specs.PrintedPages.{answer_line, page_bytes, token_behind, token_of, token_text}
+use Rattle.lrp_model.specs.Rows.{times_of}
+use Rattle.lrp_model.specs.Satisfaction.{IsAnswer}
+use Rattle.lrp_model.specs.Sorts.{same_sort, is_data}
+use Rattle.lrp_model.specs.declared.relations.Sort.TheVariants.{Time}
+use Rattle.lrp_model.specs.declared.relations.Column.{Column}
+use Rattle.lrp_model.specs.declared.relations.Relation.{Relation}
+use Rattle.lrp_model.specs.declared.tuples.Shape.{Shape}
+use Rattle.lrp_model.specs.declared.tuples.Spot.{Spot}
+use Rattle.lrp_model.specs.declared.tuples.Tuple.{Tuple as ToldTuple}
+use Rattle.lrp_store.specs.Stores.{IsStore}
+use Rattle.lrp_store.specs.declared.answer.Answer.{Answer}
+use Rattle.lrp_eval.specs.Answered.{IsAnswerOf}
+use Rattle.lrp_store.specs.Tables.{InAnswer}
+use Rattle.lrp_list.specs.Giving.{Gives, IsFirst}
+use Rattle.lrp_list.specs.Lines.{is_json, texts_at}
+use Rattle.lrp_list.specs.Listing.{AreEnds, HasNoneLeft, HasShapeOf, IsFirstLeft, IsLeft, WindowView, tuple_at, window_of}
+use Rattle.lrp_list.proofs.HeadOrder.{head_is}
+use Rattle.lrp_list.proofs.Paging.{page_is}
+use Rattle.lrp_token.specs.Reading.{HasCounts}
+use Rattle.lrp_token.specs.Spots.{spot_token}
+use Rattle.lrp_top.specs.Known.{HasTimes, IsKnown, IsStanding, tuple_of}
+use Rattle.lrp_top.specs.Listings.{TellsPage, page_text}
+use Rattle.lrp_top.specs.Resuming.{data_columns, shape_of}
+use Rattle.lrp_top.specs.declared.page.Page.{Page}
+use Rattle.lrp_top.proofs.Answered.{same_page, texts_known}
+
+-- ---- one more
+
+gives_more : (w : WindowView) (p e : Option Tuple) (ts : List Tuple) (t : Tuple) → Gives w p ts e → IsFirst w e t → Gives w p (ts ++ t ∷ []) (Some t)
+gives_more w p e [] t g f = (subst (λ o. IsFirst w o t) (sym g) f, refl)
+gives_more w p e (u ∷ us) t g f = (g.0, gives_more w (Some u) e us t g.1 f)
+
+all_more : {A : Type 0} (P : A → Type 0) (xs : List A) (x : A) → AllByRecursion P xs → P x → AllByRecursion P (xs ++ x ∷ [])
+all_more P [] x h k = (k, tt)
+all_more P (y ∷ ys) x h k = (h.0, all_more P ys x h.1 k)
+
+pub length_more : {A : Type 0} (xs : List A) (x : A) → length (xs ++ x ∷ []) ≡ length xs + 1
+length_more [] x = omega arith
+length_more (y ∷ ys) x = let r : length (ys ++ x ∷ []) ≡ length ys + 1 = length_more ys x in omega arith
+
+-- what stands for the first tuple that is left is given next
+pub given_next : (w v : WindowView) (p e : Option Tuple) (spots : List Spot) (spot : Spot) → v ≡ w → Gives w p (map (tuple_at w) spots) e → IsFirstLeft v e spot → Gives w p (map (tuple_at w) (spots ++ spot ∷ [])) (Some (tuple_at v spot))
+given_next w v p e spots spot same g f =
+    let P : WindowView → Type 0 = λ u. IsFirstLeft u e spot → Gives w p (map (tuple_at w) (spots ++ spot ∷ [])) (Some (tuple_at u spot)) in
+    subst P (sym same) (λ h. subst (λ ts. Gives w p ts (Some (tuple_at w spot))) (sym (map-append (tuple_at w) spots (spot ∷ []))) (gives_more w p e (map (tuple_at w) spots) (tuple_at w spot) g (record { is = h.is; first = h.first }))) f
+
+pub standing_more : (w v : WindowView) (e : Option Tuple) (spots : List Spot) (spot : Spot) → v ≡ w → AllByRecursion (IsStanding w) spots → IsFirstLeft v e spot → AllByRecursion (IsStanding w) (spots ++ spot ∷ [])
+standing_more w v e spots spot same h f =
+    let P : WindowView → Type 0 = λ u. IsFirstLeft u e spot → IsStanding u spot in
+    let standing : IsStanding v spot = record { stands = f.stands; inside = f.is.inside } in
+    all_more (IsStanding w) spots spot h (subst (λ u. IsStanding u spot) same standing)
+
+-- nothing is left, whatever stands for the window and the position
+pub none_left : (w v : WindowView) (p e : Option Tuple) → v ≡ w → e ≡ p → HasNoneLeft v p → (t : Tuple) → IsLeft w e t → ⊥
+none_left w v p e vw ep none t left = none t (subst (λ o. IsLeft v o t) ep (subst (λ (x : WindowView). IsLeft x e t) (sym vw) left))
+
+-- what was given is a page
+pub page_given : (w v u : WindowView) (p after end : Option Tuple) (spots : List Spot) (limit : ℕ) (more : Bool) → v ≡ w → u ≡ v → p ≡ after → Gives v p (map (tuple_at v) spots) end → length spots ≤ limit
+    → ((t : Tuple) → IsLeft v end t → length spots ≡ limit) → (IsTrue more ↔ ((t : Tuple) × IsLeft u end t)) → IsPage (InAnswer w.columns w.domain w.store) w.from w.to after limit (map (tuple_at w) spots) more
+page_given w v u p after end spots limit more vw uv pa g few full is =
+    let n : length (map (tuple_at w) spots) ≡ length spots = length-map spots (tuple_at w) in
+    let given : Gives w after (map (tuple_at w) spots) end = subst (λ (x : WindowView). Gives x after (map (tuple_at x) spots) end) vw (subst (λ o. Gives v o (map (tuple_at v) spots) end) pa g) in
+    let left : IsTrue more ↔ ((t : Tuple) × IsLeft w end t) = subst (λ (x : WindowView). IsTrue more ↔ ((t : Tuple) × IsLeft x end t)) (uv ∙ vw) is in
+    let whole : (t : Tuple) → IsLeft w end t → length spots ≡ limit = subst (λ (x : WindowView). (t : Tuple) → IsLeft x end t → length spots ≡ limit) vw full in
+    page_is w after end limit (map (tuple_at w) spots) more given (omega arith) (λ m. let t = left.0 m in n ∙ whole t.0 t.1) left
+
+-- an end of a window is its word
+pub word : (z : ℤ) → neg_ℤ (pos (2 ^ 62)) ≤ℤ z → z ≤ℤ pos (2 ^ 62) → to_z w64 (of_z w64 z) ≡ z
+word z l h = omega (arith, ints)
+
+-- ---- what is known of spots in a window
+
+magnitude : (from to x : ℤ) → AreEnds from to → from ≤ℤ x → x ≤ℤ to → nat_abs x ≤ limit
+magnitude from to (pos n) e l h = let a : to ≤ℤ pos (2 ^ 62) = e.to_high in let r : n ≤ limit = omega (arith, ints) in r
+magnitude from to (negsuc n) e l h = let a : neg_ℤ (pos (2 ^ 62)) ≤ℤ from = e.from_low in let r : suc n ≤ limit = omega (arith, ints) in r
+
+magnitudes : (from to : ℤ) (xs : List ℤ) → AreEnds from to → AllByRecursion (λ x. (from ≤ℤ x) × (x ≤ℤ to)) xs → AllByRecursion (λ x. nat_abs x ≤ limit) xs
+magnitudes from to [] e h = tt
+magnitudes from to (x ∷ xs) e h = (magnitude from to x e h.0.0 h.0.1, magnitudes from to xs e h.1)
+
+known_at : (a : Answer) (from to : ℤ) (spot : Spot) → AreEnds from to → IsStanding (window_of a from to) spot → IsKnown a spot
+known_at a from to spot e s =
+    let times : HasTimes a spot = subst (λ xs. AllByRecursion (λ x. nat_abs x ≤ limit) xs) (sym s.stands.times) (magnitudes from to (times_of (tuple_of a spot)) e s.inside) in
+    ((texts_known a spot (tuple_of a spot) s.stands, times), (s.stands.times_padded.size, s.stands.texts_padded.size))
+
+pub known_all : (a : Answer) (from to : ℤ) (spots : List Spot) → AreEnds from to → AllByRecursion (IsStanding (window_of a from to)) spots → AllByRecursion (IsKnown a) spots
+known_all a from to [] e h = tt
+known_all a from to (spot ∷ spots) e h = (known_at a from to spot e h.0, known_all a from to spots e h.1)
+
+-- ---- the last spot
+
+pub last_mapped : (f : Spot → Tuple) (spots : List Spot) (last : Spot) → slice_get spots (length spots - 1) ≡ Some last → last_of (map f spots) ≡ Some (f last)
+last_mapped f [] last e = cc
+last_mapped f (x ∷ []) last e = let s : x ≡ last = cc in ap (λ y. Some (f y)) s
+last_mapped f (x ∷ y ∷ ys) last e =
+    let k : length (x ∷ y ∷ ys) - 1 ≡ suc (length (y ∷ ys) - 1) = omega arith in
+    last_mapped f (y ∷ ys) last (subst (λ n. slice_get (x ∷ y ∷ ys) n ≡ Some last) k e)
+
+pub none_mapped : (f : Spot → Tuple) (spots : List Spot) → slice_get spots (length spots - 1) ≡ None → last_of (map f spots) ≡ None
+none_mapped f [] e = refl
+none_mapped f (x ∷ xs) e = absurd (some xs x e)
+  where
+    some : (xs : List Spot) (x : Spot) → slice_get (x ∷ xs) (length (x ∷ xs) - 1) ≡ None → ⊥
+    some [] x e = cc
+    some (y ∷ ys) x e =
+        let k : length (x ∷ y ∷ ys) - 1 ≡ suc (length (y ∷ ys) - 1) = omega arith in
+        some ys y (subst (λ n. slice_get (x ∷ y ∷ ys) n ≡ None) k e)
+
+pub known_last : (P : Spot → Type 0) (spots : List Spot) (n : ℕ) (last : Spot) → slice_get spots n ≡ Some last → AllByRecursion P spots → P last
+known_last P [] n last e h = cc
+known_last P (x ∷ xs) zero last e h = let s : x ≡ last = cc in subst P s h.0
+known_last P (x ∷ xs) (suc n) last e h = known_last P xs n last e h.1
+
+-- ---- tokens
+
+pub token_is : (a : Answer) (files : List ℕ) (spot : Spot) → IsStore a.store → length spot.times ≡ 8 → length spot.texts ≡ 8 → spot_token a.store.shape a.domain files spot ≡ token_of files (tuple_of a spot)
+token_is a files spot valid times texts =
+    let shape = a.store.shape in
+    let m : shape.times ≤ 8 = valid.times in
+    let n : shape.texts ≤ 8 = valid.texts in
+    let t : length (take shape.times spot.times) ≡ shape.times = length-take-le shape.times spot.times (omega arith) in
+    let s : length (take shape.texts spot.texts) ≡ shape.texts = length-take-le shape.texts spot.texts (omega arith) in
+    let u : length (texts_at a.domain (take shape.texts spot.texts)) ≡ shape.texts = length-map (take shape.texts spot.texts) _ ∙ s in
+    let h = head_is a.head.columns (take shape.times spot.times) (texts_at a.domain (take shape.texts spot.texts)) (a.times_are ∙ sym t) (a.columns_are ∙ ap₂ (λ x y. x + y) (sym t) (sym u)) in
+    ap₂ (token_text (Some files)) (sym h.times) (sym h.texts)
+
+-- ---- lines
+
+pub lines_mapped : (json : Bool) (f : Spot → Tuple) (spots : List Spot) → flat_map (λ spot. answer_line json (f spot)) spots ≡ flat_map (answer_line json) (map f spots)
+lines_mapped json f [] = refl
+lines_mapped json f (x ∷ xs) = ap (λ bytes. answer_line json (f x) ++ bytes) (lines_mapped json f xs)
+
+-- a page that isn't followed has no token behind it
+pub no_token_behind : (files : List ℕ) (more : Bool) (last : Option Tuple) → last ≡ None → token_behind files more last ≡ None
+no_token_behind files false last e = refl
+no_token_behind files true last e = ap (token_behind files true) e
+
+pub not_more : (files : List ℕ) (more : Bool) (last : Option Tuple) → more ≡ false → token_behind files more last ≡ None
+not_more files more last e = ap (λ m. token_behind files m last) e
+
+pub is_more : (files : List ℕ) (more : Bool) (last : Option Tuple) (tuple : Tuple) → more ≡ true → last ≡ Some tuple → token_behind files more last ≡ Some (token_of files tuple)
+is_more files more last tuple e f = ap₂ (token_behind files) e f
+
+-- ---- the page that is told
+
+-- the page of the answers is the query's
+pub told_page : (db : List Relation) (q : Question) (cap : ℕ) (a : Answer) (from to : ℤ) (begins : List Column → Option Tuple) (limit : ℕ) (json : Bool) (files : List ℕ) (page : Page)
+    → IsAnswerOf db q cap a → page.answer ≡ a → is_json page.form ≡ json → page.files ≡ files
+    → IsPage (InAnswer a.head.columns a.domain a.store) from to (begins a.head.columns) limit (map (tuple_of a) page.spots) page.more
+    → TellsPage db q from to (begins q.head) limit json files (page_text page)
+told_page db q cap a from to begins limit json files page is same form digest h = record {
+  page = map (tuple_of a) page.spots;
+  more = page.more;
+  is = subst (λ columns. IsPage (IsAnswer db q) from to (begins columns) limit (map (tuple_of a) page.spots) page.more) is.head
+      (same_page (InAnswer a.head.columns a.domain a.store) (IsAnswer db q) is.answers from to (begins a.head.columns) limit (map (tuple_of a) page.spots) page.more h);
+  spelled = ap (λ j. page_bytes j page.files (map (tuple_of page.answer) page.spots) page.more) form ∙ ap (λ d. page_bytes json d (map (tuple_of page.answer) page.spots) page.more) digest ∙ ap (λ b. page_bytes json files (map (tuple_of b) page.spots) page.more) same;
+}
+
+-- ---- counts of columns
+
+columns_split : (cs : List Column) → time_columns cs + data_columns cs ≡ length cs
+columns_split [] = refl
+columns_split (c ∷ cs) = by (same_sort c.sort Time) (columns_split cs)
+  where
+    by : (b : Bool) → time_columns cs + data_columns cs ≡ length cs → length (cond b (c ∷ filter (λ d. same_sort d.sort Time) cs) (filter (λ d. same_sort d.sort Time) cs)) + length (cond (not b) (c ∷ filter (λ d. is_data d.sort) cs) (filter (λ d. is_data d.sort) cs)) ≡ suc (length cs)
+    by true e = omega arith
+    by false e = omega arith
+
+-- a tuple of the head's shape has the shape of its answers
+pub same_shape : (a : Answer) (head : List Column) (t : ToldTuple) → a.head.columns ≡ head → HasShapeOf (shape_of head) t → HasShapeOf a.store.shape t
+same_shape a head t e h =
+    let m : a.store.shape.times ≡ time_columns head = sym a.times_are ∙ ap time_columns e in
+    let n : length head ≡ a.store.shape.times + a.store.shape.texts = ap (λ cs. length cs) (sym e) ∙ a.columns_are in
+    let s : time_columns head + data_columns head ≡ length head = columns_split head in
+    let d : data_columns head ≡ a.store.shape.texts = omega arith in
+    record { times = h.times ∙ sym m; texts = h.texts ∙ d; low = h.low; high = h.high }
+
+pub some_shape : (a : Answer) (head : List Column) (o : Option (Bor ToldTuple)) → a.head.columns ≡ head → IfSome o (λ t. HasShapeOf (shape_of head) t.now) → IfSome o (λ t. HasShapeOf a.store.shape t.now)
+some_shape a head None e h = tt
+some_shape a head (Some t) e h = same_shape a head t.now e h
+
+-- a tuple of a token has the shape
+pub token_shape : (shape : Shape) (t : ToldTuple) → HasCounts shape t.times t.texts → AllByRecursion (λ x. nat_abs x ≤ limit) t.times → HasShapeOf shape t
+token_shape shape t c small = record { times = c.of_times; texts = c.of_texts; low = lows t.times small; high = highs t.times small }
+  where
+    low : (x : ℤ) → nat_abs x ≤ limit → neg_ℤ (pos (2 ^ 62)) ≤ℤ x
+    low (pos n) h = omega (arith, ints)
+    low (negsuc n) h = let k : suc n ≤ limit = h in omega (arith, ints)
+
+    high : (x : ℤ) → nat_abs x ≤ limit → x ≤ℤ pos (2 ^ 62)
+    high (pos n) h = let k : n ≤ limit = h in omega (arith, ints)
+    high (negsuc n) h = omega (arith, ints)
+
+    lows : (xs : List ℤ) → AllByRecursion (λ x. nat_abs x ≤ limit) xs → AllByRecursion (λ x. neg_ℤ (pos (2 ^ 62)) ≤ℤ x) xs
+    lows [] h = tt
+    lows (x ∷ xs) h = (low x h.0, lows xs h.1)
+
+    highs : (xs : List ℤ) → AllByRecursion (λ x. nat_abs x ≤ limit) xs → AllByRecursion (λ x. x ≤ℤ pos (2 ^ 62)) xs
+    highs [] h = tt
+    highs (x ∷ xs) h = (high x h.0, highs xs h.1)
