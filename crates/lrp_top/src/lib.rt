@@ -25,14 +25,4 @@ pub use running::run;
 pub use status::Status;
 
 #[cfg(test)]
-mod answer_tests;
-#[cfg(test)]
-mod length_tests;
-#[cfg(test)]
-mod plan_tests;
-#[cfg(test)]
-mod reach_tests;
-#[cfg(test)]
 mod tests;
-#[cfg(test)]
-mod token_tests;
