@@ -8,8 +8,6 @@ mod forming;
 mod junctions;
 mod literals;
 mod terms;
-#[cfg(test)]
-mod tests;
 mod variable_trees;
 mod variables;
 

@@ -68,23 +68,6 @@ fn each_call_fails_in_turn(rt: HostRuntime) -> Result<(), Fail> {
 }
 
 #[test]
-fn files_may_have_16777216_bytes(rt: HostRuntime) -> Result<(), Fail> {
-    let alloc = rt.alloc();
-    let longest = vec![in alloc; b'x'; 16_777_216]?;
-    let longer = vec![in alloc; b'x'; 16_777_217]?;
-    let mut files = List::new(alloc);
-    files.push(file(alloc, "longest", &longest)?)?;
-    files.push(file(alloc, "longer", &longer)?)?;
-    let mut shelf = MemShelf::new(files, List::new(alloc));
-    let bytes = load(alloc, &mut shelf, "longest")?;
-    assert_eq!(rt; bytes.as_slice(), longest.as_slice());
-    let refused = load(alloc, &mut shelf, "longer");
-    assert!(rt; matches!(refused, Err(LoadFault::TooLong)));
-    assert_eq!(rt; shelf.faults(), 0);
-    Ok(())
-}
-
-#[test]
 fn sinks_stop_where_they_are_full(rt: HostRuntime) -> Result<(), Fail> {
     let alloc = rt.alloc();
     let text = b"hello world".as_slice();

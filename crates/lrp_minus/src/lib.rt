@@ -24,6 +24,4 @@ pub use differences::minus;
 pub use settling::settle;
 
 #[cfg(test)]
-mod table_tests;
-#[cfg(test)]
 mod tests;

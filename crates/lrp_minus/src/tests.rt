@@ -15,12 +15,12 @@ use std::test::Fail;
 const SMALL: i64 = 9_007_199_254_740_992;
 
 // Column `left` minus column `right` is at most `most`.
-pub(crate) const fn bound(left: u8, right: u8, most: i64) -> Bound {
+const fn bound(left: u8, right: u8, most: i64) -> Bound {
     Bound { left, right, most }
 }
 
 // The one column is between the two numbers.
-pub(crate) const fn between(least: i64, most: i64) -> [Bound; 2]
+const fn between(least: i64, most: i64) -> [Bound; 2]
     requires { nat_abs least ≤ 2 ^ 62 }
 {
     [bound(0, 1, -least), bound(1, 0, most)]
@@ -40,7 +40,7 @@ fn check_residues(rt: &impl Abort, period: i64, residues: &[i64])
 }
 
 // The zone of these parts, whose bounds are small.
-pub(crate) fn made(rt: &impl Abort, period: i64, residues: &[i64], bounds: &[Bound]) -> Option<Zone>
+fn made(rt: &impl Abort, period: i64, residues: &[i64], bounds: &[Bound]) -> Option<Zone>
     ensures reach { IfSome result (λ z. reach_of z + z.period ≤ 2 ^ 55) }
     ensures period { IfSome result (λ z. pos z.period ≡ period) }
     ensures residues { IfSome result (λ z. z.residues ≡ residues.now) }
@@ -124,78 +124,6 @@ fn one_instant_leaves_two_rays(rt: HostRuntime) -> Result<(), Fail> {
 }
 
 #[test]
-fn a_zone_less_itself_is_nothing(rt: HostRuntime) -> Result<(), Fail> {
-    let none = cut(&rt, rt.alloc(), 1, &[0], &between(3, 8), &[between(3, 8)]);
-    assert_eq!(rt; none.ok_or("no pieces")?.len(), 0);
-    let trivial = [bound(0, 0, 0), bound(0, 0, 0)];
-    let point = cut(&rt, rt.alloc(), 7, &[], &[], &[trivial]);
-    assert_eq!(rt; point.ok_or("no pieces")?.len(), 0);
-    let all = cut(&rt, rt.alloc(), 7, &[3], &[], &[]);
-    assert_eq!(rt; all.ok_or("no pieces")?.len(), 1);
-    Ok(())
-}
-
-#[test]
-fn cutters_may_overlap(rt: HostRuntime) -> Result<(), Fail> {
-    let others = [between(10, 50), between(40, 60), between(20, 30)];
-    let left = cut(&rt, rt.alloc(), 1, &[0], &between(0, 100), &others).ok_or("no pieces")?;
-    for x in [-1, 0, 9, 10, 25, 40, 50, 55, 60, 61, 100, 101] {
-        let is_left = (0 <= x && x < 10) || (60 < x && x <= 100);
-        assert_eq!(rt; holders(&rt, &left, &[x]), usize::from(is_left), "at {x}");
-    }
-    Ok(())
-}
-
-#[test]
-fn a_bound_is_broken_by_a_period(rt: HostRuntime) -> Result<(), Fail> {
-    let left = cut(&rt, rt.alloc(), 5, &[2], &[], &[between(7, 12)]).ok_or("no pieces")?;
-    for x in [-3, 2, 3, 7, 12, 13, 17, 22] {
-        let is_left = x == -3 || x == 2 || x == 17 || x == 22;
-        assert_eq!(rt; holders(&rt, &left, &[x]), usize::from(is_left), "at {x}");
-    }
-    Ok(())
-}
-
-#[test]
-fn a_diagonal_leaves_both_sides(rt: HostRuntime) -> Result<(), Fail> {
-    let diagonal = [bound(1, 2, 0), bound(2, 1, 0)];
-    let left = cut(&rt, rt.alloc(), 1, &[0, 0], &[], &[diagonal]).ok_or("no pieces")?;
-    assert_eq!(rt; left.len(), 2);
-    for x in -2..3i64 {
-        for y in -2..3i64 {
-            assert_eq!(rt;
-                holders(&rt, &left, &[x, y]),
-                usize::from(x != y),
-                "at {x}, {y}"
-            );
-        }
-    }
-    Ok(())
-}
-
-// The zones of these bounds, settled.
-fn settled(
-    rt: &impl Abort,
-    alloc: Global,
-    period: i64,
-    residues: &[i64],
-    zones: &[[Bound; 2]],
-) -> Option<List<Zone>> {
-    let cell = made(rt, period, residues, &[])?;
-    cell.columns();
-    let mut given = List::new(alloc);
-    for bounds in zones {
-        let zone = made(rt, period, residues, bounds)?;
-        match given.push(zone) {
-            Ok(()) => {}
-            Err(_) => return None,
-        }
-    }
-    assert!(rt; given.len() > 0);
-    settle(alloc, &given).ok()
-}
-
-#[test]
 fn gaps_of_instants_are_settled(rt: HostRuntime) -> Result<(), Fail> {
     let mut instants = [between(0, 0); 20];
     for (i, instant) in instants.iter_mut().enumerate() {
@@ -213,65 +141,5 @@ fn gaps_of_instants_are_settled(rt: HostRuntime) -> Result<(), Fail> {
             "at {x}"
         );
     }
-    Ok(())
-}
-
-#[test]
-fn neighbouring_intervals_become_one(rt: HostRuntime) -> Result<(), Fail> {
-    let zones = [
-        between(20, 35),
-        between(0, 10),
-        between(5, 15),
-        between(45, 50),
-    ];
-    let made = settled(&rt, rt.alloc(), 5, &[0], &zones).ok_or("not settled")?;
-    assert_eq!(rt; made.len(), 2);
-    for (x, place) in [(0, 0), (15, 0), (20, 0), (35, 0), (45, 1), (50, 1)] {
-        let zone = made.at(place);
-        assert!(rt; zone.columns() == 1);
-        assert!(rt; zone.contains(&[x]), "at {x}");
-    }
-    assert_eq!(rt; holders(&rt, &made, &[40]), 0);
-    Ok(())
-}
-
-#[test]
-fn halves_of_a_plane_become_one(rt: HostRuntime) -> Result<(), Fail> {
-    let low = [bound(1, 2, 3), bound(1, 0, 100)];
-    let high = [bound(2, 1, -4), bound(1, 0, 100)];
-    let made = settled(&rt, rt.alloc(), 1, &[0, 0], &[low, high]).ok_or("not settled")?;
-    assert_eq!(rt; made.len(), 1);
-    for (x, y, is_in) in [
-        (3, 0, true),
-        (4, 0, true),
-        (100, -900, true),
-        (101, 0, false),
-    ] {
-        assert_eq!(rt;
-            holders(&rt, &made, &[x, y]),
-            usize::from(is_in),
-            "at {x}, {y}"
-        );
-    }
-    Ok(())
-}
-
-#[test]
-fn two_instants_of_a_plane_stay_two(rt: HostRuntime) -> Result<(), Fail> {
-    let zero = [bound(1, 0, 0), bound(0, 1, 0)];
-    let two = [bound(1, 0, 2), bound(0, 1, -2)];
-    let made = settled(&rt, rt.alloc(), 1, &[0, 0], &[zero, two]).ok_or("not settled")?;
-    assert_eq!(rt; made.len(), 2);
-    assert_eq!(rt; holders(&rt, &made, &[1, 5]), 0);
-    let same = settled(&rt, rt.alloc(), 1, &[0, 0], &[two, two]).ok_or("not settled")?;
-    assert_eq!(rt; same.len(), 1);
-    Ok(())
-}
-
-#[test]
-fn no_column_gives_one_zone(rt: HostRuntime) -> Result<(), Fail> {
-    let trivial = [bound(0, 0, 0), bound(0, 0, 0)];
-    let made = settled(&rt, rt.alloc(), 7, &[], &[trivial, trivial]).ok_or("not settled")?;
-    assert_eq!(rt; made.len(), 1);
     Ok(())
 }

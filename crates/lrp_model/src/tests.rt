@@ -84,28 +84,6 @@ fn constants_in_order(rt: HostRuntime) -> Result<(), Fail> {
     Ok(())
 }
 
-#[test]
-fn numbers_and_words_of_kinds(rt: HostRuntime) {
-    assert_eq!(rt;
-        (DbKind::TextTooLong.number(), DbKind::TextTooLong.word()),
-        (10, "TextTooLong")
-    );
-    assert_eq!(rt;
-        (
-            QueryKind::TextTooLong.number(),
-            QueryKind::TextTooLong.word()
-        ),
-        (12, "TextTooLong")
-    );
-    assert_eq!(rt;
-        (
-            QueryKind::UnknownSort.number(),
-            QueryKind::UnknownSort.word()
-        ),
-        (13, "UnknownSort")
-    );
-}
-
 fn one<T: Drop>(alloc: Global, x: T) -> Result<List<T>, Fail> {
     let mut xs = List::new(alloc);
     xs.push(x)?;

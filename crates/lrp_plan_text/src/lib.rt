@@ -3,7 +3,5 @@
 
 mod plans;
 mod terms;
-#[cfg(test)]
-mod tests;
 
 pub use plans::write_plan;

@@ -6,8 +6,6 @@ mod laws;
 mod queries;
 mod starts;
 mod terms;
-#[cfg(test)]
-mod tests;
 
 pub use laws::query_texts_have_one_tree;
 pub use lrp_model::{

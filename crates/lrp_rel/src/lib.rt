@@ -19,6 +19,3 @@ pub use lrp_print::write_relation;
 pub use read::read_database;
 pub use trees::ReadFault;
 pub use written::write_database;
-
-#[cfg(test)]
-mod tests;

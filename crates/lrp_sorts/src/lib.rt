@@ -14,6 +14,3 @@ mod width;
 
 pub use checking::check;
 pub use lrp_model::QueryRead;
-
-#[cfg(test)]
-mod tests;

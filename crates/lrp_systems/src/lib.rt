@@ -9,6 +9,3 @@ mod system;
 
 pub use part::Part;
 pub use system::add_system;
-
-#[cfg(test)]
-mod tests;

@@ -3,8 +3,6 @@
 
 mod names;
 mod pieces;
-#[cfg(test)]
-mod tests;
 
 pub use lrp_store::{StepFault, Table, Vars};
 pub use names::{joint, place_of, places_among, without};

@@ -9,8 +9,6 @@ mod places;
 mod reading;
 mod scanning;
 mod sources;
-#[cfg(test)]
-mod tests;
 mod texts;
 
 pub use cursor::Cursor;

@@ -25,4 +25,6 @@ pub use running::run;
 pub use status::Status;
 
 #[cfg(test)]
+mod copy_tests;
+#[cfg(test)]
 mod tests;

@@ -74,6 +74,11 @@ fn short_sinks_hold_a_front(rt: HostRuntime) -> Result<(), Fail> {
     for (command, text, status) in [
         (ASK, ANSWER, Status::Done),
         (
+            "check db=d",
+            "relation bus(t: time) {\n  (5+60n);\n}\n",
+            Status::Done,
+        ),
+        (
             "explain db=d query=q",
             "1 scan bus(t) [period 60, reach 60]\n2 head 1 [period 60, reach 60]\n",
             Status::Done,

@@ -9,6 +9,3 @@ mod reading;
 
 pub use command::{Command, Usage};
 pub use reading::read_words;
-
-#[cfg(test)]
-mod tests;
