@@ -1,13 +1,10 @@
-//! Points by example: common members, limits, the ends of the integer types, and the parts of a point.
+//! Points at the limits: common members, periods, and the ends of the integer types.
 
 ghost use Rattle.std.specs.Prelude.{◌≡◌, ◌^◌, ◌≤ℤ◌, pos};
-ghost use Rattle.lrp_theory.specs.Divides.{Divides};
 
 use super::*;
-use crate::numbers::remainder;
 use lrp_model::LIMIT;
 use std::process::Abort;
-use std::test::Fail;
 
 /// The point of an offset and a period that is in range.
 fn point(rt: &impl Abort, offset: i64, period: i64) -> Point
@@ -64,22 +61,6 @@ fn offsets_are_in_normal_form(rt: HostRuntime) {
 }
 
 #[test]
-fn members_are_found(rt: HostRuntime) {
-    let bus = point(&rt, 5, 60);
-    for (x, wanted) in [
-        (5, true),
-        (65, true),
-        (-55, true),
-        (6, false),
-        (-5, false),
-        (i64::MIN, false),
-    ] {
-        assert_eq!(rt; bus.contains(x), wanted, "{x}");
-    }
-    assert_eq!(rt; remainder(-55, 60), 5);
-}
-
-#[test]
 fn multiples_stay_within_the_limit(rt: HostRuntime) {
     let cases = [
         (6, 9, Ok(18)),
@@ -117,37 +98,4 @@ fn bounds_are_tightened(rt: HostRuntime) {
             "{a} for {ri} - {rj} modulo {k}"
         );
     }
-}
-
-/// The number of parts, and the sum of their offsets, where each has the new period.
-fn parts(rt: &impl Abort, of: &Point, k: i64) -> (usize, i64)
-    requires low { pos 1 ≤ℤ k }
-    requires high { k ≤ℤ pos (2 ^ 62) }
-    requires divides { Divides (pos of.now.period) k }
-{
-    let mut count = 0;
-    let mut sum = 0;
-    for part in of.splits(k) {
-        assert_eq!(rt; part.period(), k);
-        assert!(rt; count < 1_000 && sum < 1_000_000);
-        count += 1;
-        sum += part.offset();
-    }
-    (count, sum)
-}
-
-#[test]
-fn points_split(rt: HostRuntime) -> Result<(), Fail> {
-    let every = point(&rt, 0, 1);
-    let same = parts(&rt, &every, 1);
-    assert_eq!(rt; same, (1, 0));
-    let thousand = parts(&rt, &every, 1_000);
-    assert_eq!(rt; thousand, (1_000, 499_500));
-    let hourly = point(&rt, 5, 60);
-    let mut halves = hourly.splits(120);
-    assert_eq!(rt; halves.next().map(|p| p.offset()), Some(5));
-    assert_eq!(rt; halves.next().map(|p| p.offset()), Some(65));
-    assert_eq!(rt; halves.next(), None);
-    assert_eq!(rt; halves.next(), None);
-    Ok(())
 }

@@ -61,21 +61,6 @@ fn a_slot_given_up_in_one_cell_serves_another(rt: HostRuntime) -> Result<(), Fai
 }
 
 #[test]
-fn a_cell_goes_with_its_last_value_and_comes_back(rt: HostRuntime) -> Result<(), Fail> {
-    let gone = cell(2, 3);
-    let mut slots = Slots::new(rt.alloc());
-    append_marks(&mut slots, &cell(0, 3), &[1])?;
-    append_marks(&mut slots, &gone, &[2])?;
-    assert_eq!(rt; slots.remove(&gone, 0), Some(Mark(2)));
-    assert_eq!(rt; (slots.len(), slots.count(&gone)), (1, 0));
-    append_marks(&mut slots, &gone, &[3])?;
-    assert_eq!(rt; (slots.len(), slots.values()), (2, 2));
-    assert_eq!(rt; slots.get(&gone, 0), Some(&Mark(3)));
-    assert_eq!(rt; slots.get(&gone, 1), None);
-    Ok(())
-}
-
-#[test]
 fn cells_come_by_texts_then_by_residues(rt: HostRuntime) -> Result<(), Fail> {
     let mut slots = Slots::new(rt.alloc());
     for (text, residue) in [(2, 0), (1, 7), (2, -4), (1, 6), (1, 7)] {

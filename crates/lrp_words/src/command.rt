@@ -3,7 +3,7 @@
 /// A command with its values, whose texts are borrowed from the words.
 ///
 /// `db` and `query` are names of files, and not empty. `from` and `to` have a magnitude of at most 2^62. `after` is any text; its form is judged later.
-#[derive(Clone, Copy, Debug, PartialEq, Eq)]
+#[derive(Clone, Copy)]
 pub enum Command<'a> {
     Ask {
         db: &'a str,

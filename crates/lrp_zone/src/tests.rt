@@ -120,35 +120,6 @@ fn negates_a_bound(rt: HostRuntime) {
 }
 
 #[test]
-fn meets_and_includes(rt: HostRuntime) {
-    let low = made(&rt, 5, &[2], &[bound(1, 0, 20)]).expect(&rt, "up to 17");
-    let high = made(&rt, 5, &[2], &[bound(0, 1, -10)]).expect(&rt, "from 12 on");
-    let both = low.meet(&high).expect(&rt, "12 and 17");
-    assert_eq!(rt; both.columns(), 1);
-    assert_eq!(rt; both.bound(1, 0), Some(17));
-    assert_eq!(rt; both.bound(0, 1), Some(-12));
-    assert!(rt; !low.within(&high) && low.within(&low));
-    let higher = made(&rt, 5, &[2], &[bound(0, 1, -18)]).expect(&rt, "from 22 on");
-    assert!(rt; low.meet(&higher).is_none() && higher.within(&high));
-}
-
-#[test]
-fn refines_and_spreads(rt: HostRuntime) {
-    let pair = made(&rt, 4, &[0, 1], &[bound(2, 1, 7)]).expect(&rt, "at most 7 later");
-    assert_eq!(rt; pair.columns(), 2);
-    assert_eq!(rt; pair.bound(2, 1), Some(5));
-    let fine = pair.refine(12, &[4, 1]).expect(&rt, "at most 5 later");
-    assert_eq!(rt; fine.columns(), 2);
-    assert_eq!(rt; fine.period(), 12);
-    assert_eq!(rt; fine.bound(2, 1), Some(-3));
-
-    let triple = pair.spread(&[3, 1], &[1, 2, 0]);
-    assert_eq!(rt; triple.columns(), 3);
-    assert_eq!(rt; triple.bound(1, 3), Some(5));
-    assert!(rt; triple.contains(&[5, 2, 4]) && !triple.contains(&[5, 2, -4]));
-}
-
-#[test]
 fn lists_in_order(rt: HostRuntime) {
     let apart = 500_000_000_000_000_000;
     let far = made(
