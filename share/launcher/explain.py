@@ -1,0 +1,128 @@
+"""What a refusal of the program means, for standard error."""
+
+import os
+import re
+import subprocess
+import textwrap
+from collections.abc import Callable
+from pathlib import Path
+
+from catalogue import Entry, find_entry
+from places import WORD, Place, caret_line, clean, show_place
+from usage import find_fault
+
+RELATION = re.compile(r"\brelation\s+([A-Za-z_]\w*)\s*\(([^)]*)\)", re.ASCII)
+
+
+def explain(program: str, words: list[str], line: str, width: int) -> str:
+    """The explanation of a refusal line that the program wrote for these words; empty where there is none."""
+    found = find_entry(line)
+    if found is None:
+        return ""
+    entry, numbers = found
+    if line == "refused: usage":
+        return explain_usage(words, width)
+    files = dict(word.split("=", 1) for word in words[1:] if "=" in word)
+    shown = ""
+    place = numbers.groupdict()
+    which = "query" if line.startswith("refused: query") else "db"
+    if place.get("line"):
+        shown = show_place(Place(files.get(which, ""), int(place["line"]), int(place["column"])), width)
+    detail = detail_of(program, files, line, place)
+    return shown + sentences(entry, detail, width)
+
+
+def explain_unwritten(width: int) -> str:
+    """The explanation of an output that could not be written."""
+    found = find_entry("no line, status 7")
+    return sentences(found[0], "", width) if found else ""
+
+
+def explain_usage(words: list[str], width: int) -> str:
+    """The words with a caret under the wrong one, and what is wrong with it."""
+    fault = find_fault(words)
+    if fault is None:
+        return ""
+    before = " ".join(["fizhedul", *words[:fault.word]]) + " "
+    wrong = words[fault.word] if fault.word < len(words) else ""
+    # A blank in a word would end the caret's tail.
+    text = before + wrong.replace(" ", "_") + " " + " ".join(words[fault.word + 1:])
+    shown = caret_line(text.encode(errors="replace"), len(before.encode(errors="replace")), width, WORD)
+    return shown + wrap(clean(fault.means), width) + wrap(clean(fault.to_do), width)
+
+
+def sentences(entry: Entry, detail: str, width: int) -> str:
+    """The two sentences of an entry, with a detail of this case between them."""
+    return wrap(entry.means, width) + (wrap(detail, width) if detail else "") + wrap(entry.to_do, width)
+
+
+def wrap(text: str, width: int) -> str:
+    """A paragraph in lines of at most `width`."""
+    return textwrap.fill(text, max(width - 1, 30), break_long_words=False, break_on_hyphens=False) + "\n"
+
+
+def detail_of(program: str, files: dict[str, str], line: str, numbers: dict[str, str]) -> str:
+    """What the files say about this refusal; empty where they say nothing."""
+    details: list[tuple[str, Callable[[], str]]] = [
+        ("refused: read of database", lambda: why_unread(files.get("db", ""))),
+        ("refused: read of query", lambda: why_unread(files.get("query", ""))),
+        ("refused: query UnknownRelation", lambda: relations_of(files.get("db", ""))),
+        ("refused: query Arity", lambda: relations_of(files.get("db", ""))),
+        ("refused: query Sort", lambda: relations_of(files.get("db", ""))),
+        ("refused: query UnknownSort", lambda: sorts_of(files.get("db", ""))),
+        ("refused: more than", lambda: step_of(program, files, numbers.get("step", ""))),
+    ]
+    for front, tell in details:
+        if line.startswith(front):
+            return clean(tell())
+    return ""
+
+
+def why_unread(file: str) -> str:
+    """Why a file can't be read."""
+    try:
+        with open(file, "rb") as opened:
+            opened.read(1)
+    except (OSError, ValueError) as error:
+        return f"{file}: {getattr(error, 'strerror', None) or error}."
+    return ""
+
+
+def relations_of(file: str) -> str:
+    """The relations of a database, with their columns."""
+    found = RELATION.findall(text_of(file))
+    if not found:
+        return ""
+    shown = [f"{name}({' '.join(columns.split())})" for name, columns in found[:8]]
+    return "Its relations are " + ", ".join(shown) + (" and more." if len(found) > 8 else ".")
+
+
+def sorts_of(file: str) -> str:
+    """The sorts of a database's columns."""
+    sorts = [column.rpartition(":")[2].strip()
+             for _, columns in RELATION.findall(text_of(file)) for column in columns.split(",") if ":" in column]
+    return "Its sorts are " + ", ".join(dict.fromkeys(sorts)) + "." if sorts else ""
+
+
+def text_of(file: str) -> str:
+    """The text of a regular file without its comments; empty where it can't be read again."""
+    try:
+        text = Path(file).read_text(errors="replace") if Path(file).is_file() else ""
+    except (OSError, ValueError):
+        return ""
+    return re.sub(r"#[^\n]*", "", text)
+
+
+def step_of(program: str, files: dict[str, str], step: str) -> str:
+    """The line of the plan for a step, which the program's own `explain` gives without computing anything."""
+    if not all(os.path.isfile(files.get(key, "")) for key in ("db", "query")):
+        return ""
+    words = [program, "explain", "db=" + files["db"], "query=" + files["query"]]
+    try:
+        done = subprocess.run(words, stdin=subprocess.DEVNULL, capture_output=True, text=True, timeout=5, check=False)
+    except (OSError, subprocess.SubprocessError):
+        return ""
+    for line in done.stdout.splitlines():
+        if line.startswith(step + " "):
+            return f"The step is '{line}'."
+    return ""

@@ -1,0 +1,118 @@
+"""Runs the program for someone who watches: shows that long work goes on, and explains a refusal.
+
+    run.py PROGRAM WORD ..
+
+Standard output and the status are the program's own, byte for byte; all else goes to standard error.
+"""
+
+import errno
+import os
+import select
+import shutil
+import signal
+import subprocess
+import sys
+import time
+from typing import NamedTuple
+
+from explain import explain, explain_unwritten
+
+PATIENCE = 2
+HINT_AFTER = 10
+HINT = "'fizhedul explain' shows the plan; 'cap=' bounds the work"
+UNWRITTEN = 7
+REFUSED = (2, 3, 4, 5, 6, 8, 9)
+LONGEST_LINE = 200
+
+
+class Output(NamedTuple):
+    """The front of what a program wrote, and the error by which standard output refused it, or 0."""
+
+    front: bytes
+    error: int
+
+
+def main(program: str, words: list[str]) -> int:
+    """Runs the program on the words, and ends as it does."""
+    watched = sys.stderr.isatty() and os.environ.get("TERM", "dumb") != "dumb"
+    # The child keeps the open files of this process: a word may name one, as in db=/dev/fd/63.
+    child = subprocess.Popen([program, *words], stdout=subprocess.PIPE, close_fds=False)  # pylint: disable=R1732
+    for number in (signal.SIGINT, signal.SIGTERM, signal.SIGHUP):
+        signal.signal(number, lambda which, _: child.send_signal(which))
+    output = hand_on(child, time.monotonic() if watched else None)
+    status = child.wait()
+    if status < 0:
+        signal.signal(-status, signal.SIG_DFL)
+        os.kill(os.getpid(), -status)
+    if output.error:
+        status = UNWRITTEN
+    sys.stderr.write(explanation(program, words, status, output))
+    return status
+
+
+def hand_on(child: subprocess.Popen[bytes], start: float | None) -> Output:
+    """Hands on what the child writes; until it begins, shows the time gone since `start`, where that is given."""
+    assert child.stdout is not None
+    source = child.stdout.fileno()
+    shown = False
+    while start is not None and not select.select([source], [], [], 0.1)[0]:
+        gone = time.monotonic() - start
+        if gone >= PATIENCE:
+            shown = show_time(gone)
+    if shown:
+        clear()
+    front = b""
+    while piece := os.read(source, 65536):
+        front += piece[:LONGEST_LINE - len(front)]
+        error = write_all(piece)
+        if error:
+            child.stdout.close()
+            return Output(front, error)
+    return Output(front, 0)
+
+
+def write_all(piece: bytes) -> int:
+    """Writes all of a piece to standard output; the number of the error that kept it from that, or 0."""
+    try:
+        while piece:
+            piece = piece[os.write(1, piece):]
+    except OSError as error:
+        return error.errno or errno.EIO
+    return 0
+
+
+def show_time(gone: float) -> bool:
+    """Shows the time gone in one line of the terminal, which the next one replaces."""
+    text = f"fizhedul: at work for {int(gone)} s"
+    if gone >= HINT_AFTER:
+        text += "; " + HINT
+    sys.stderr.write("\r\x1b[K" + text[:width_of_terminal() - 1])
+    sys.stderr.flush()
+    return True
+
+
+def clear() -> None:
+    """Takes the time away again."""
+    sys.stderr.write("\r\x1b[K")
+    sys.stderr.flush()
+
+
+def explanation(program: str, words: list[str], status: int, output: Output) -> str:
+    """What to tell of how the program ended; nothing where its output is whole, or where nobody reads it."""
+    if status == UNWRITTEN and output.error != errno.EPIPE:
+        return explain_unwritten(width_of_terminal())
+    if status in REFUSED and output.front.endswith(b"\n"):
+        return explain(program, words, output.front.decode(errors="replace").rstrip("\n"), width_of_terminal())
+    return ""
+
+
+def width_of_terminal() -> int:
+    """The width of the terminal behind standard error."""
+    try:
+        return os.get_terminal_size(2).columns or 80
+    except OSError:
+        return shutil.get_terminal_size((80, 24)).columns
+
+
+if __name__ == "__main__":
+    sys.exit(main(sys.argv[1], sys.argv[2:]))

@@ -1,0 +1,103 @@
+"""Which of the program's words is wrong, why, and what is nearest to it."""
+
+import difflib
+import re
+from typing import NamedTuple
+
+from table import LIMIT, Key, read_table
+
+WHOLE = re.compile(r"0|[1-9][0-9]*")
+SIGNED = re.compile(r"0|-?[1-9][0-9]*")
+
+
+class Fault(NamedTuple):
+    """A fault of the words. `word` is the number of the wrong word; that of the words' end where one is missing."""
+
+    word: int
+    means: str
+    to_do: str
+
+
+def find_fault(words: list[str]) -> Fault | None:
+    """The first fault of these words, or none where they spell a command."""
+    table = read_table()
+    if not words:
+        return Fault(0, "A command is missing.", "Begin with one of: " + ", ".join(table) + ".")
+    command, *pairs = words
+    if command not in table:
+        return Fault(0, f"'{command}' is no command.", nearest(command, list(table), "command"))
+    seen: set[str] = set()
+    for number, word in enumerate(pairs, 1):
+        fault = fault_of_word(table[command], word, seen)
+        if fault:
+            return Fault(number, *fault)
+    for key in table[command].values():
+        if key.needed and key.name not in seen:
+            return Fault(len(words), f"'{command}' needs the key '{key.name}'.", f"Add {key.name}={sample(key)}.")
+    return None
+
+
+def fault_of_word(keys: dict[str, Key], word: str, seen: set[str]) -> tuple[str, str] | None:
+    """What is wrong with one word behind the command, with what to do. Its key joins those that were seen."""
+    command = next(iter(keys.values())).command
+    name, sign, value = word.partition("=")
+    if not sign:
+        return fault_of_bare_word(keys, word, seen)
+    if name not in keys:
+        return f"'{command}' has no key '{name}'.", nearest(name, list(keys), "key")
+    if name in seen:
+        return f"The key '{name}' stands twice.", "Take out one of the two."
+    seen.add(name)
+    wanted = fault_of_value(keys[name], value)
+    if wanted is None:
+        return None
+    shown = f"'{value}' is no value of '{name}'." if value else f"'{name}' has no value."
+    return shown, f"Write {wanted}."
+
+
+def fault_of_bare_word(keys: dict[str, Key], word: str, seen: set[str]) -> tuple[str, str]:
+    """What is wrong with a word that has no '='."""
+    command = next(iter(keys.values())).command
+    means = f"'{word}' is no KEY=VALUE."
+    if word in ("-h", "--help", "help"):
+        return means, f"'fizhedul help {command}' shows the keys of '{command}'."
+    if word in keys:
+        return means, f"Write {word}={sample(keys[word])}, without a blank beside the '='."
+    ending = word.rpartition(".")[2]
+    for key in keys.values():
+        if key.kind == "file" and key.of == [ending] and key.name not in seen:
+            return means, f"Write {key.name}={word}."
+    return means, "Write each word behind the command as KEY=VALUE; the keys are " + ", ".join(keys) + "."
+
+
+def fault_of_value(key: Key, value: str) -> str | None:
+    """What is wanted of the value of a key, or none where the value is one."""
+    if key.kind == "file":
+        return None if value else "the name of a file, as " + sample(key)
+    if key.kind == "time":
+        if SIGNED.fullmatch(value) and len(value) < 25 and abs(int(value)) <= LIMIT:
+            return None
+        return f"a whole number from -{LIMIT} to {LIMIT}, without leading zeros"
+    if key.kind == "number":
+        low, high = int(key.of[0]), int(key.of[1])
+        if WHOLE.fullmatch(value) and len(value) < 25 and low <= int(value) <= high:
+            return None
+        return f"a whole number from {low} to {high}, without leading zeros"
+    if key.kind == "one":
+        return None if value in key.of else " or ".join(key.of)
+    return None
+
+
+def nearest(word: str, names: list[str], what: str) -> str:
+    """What to write in place of a word that is no name of this kind."""
+    close = difflib.get_close_matches(word.lower(), names, 1, 0.5)
+    others = ", ".join(names)
+    if close:
+        return f"The nearest {what} is '{close[0]}'; all of them are {others}."
+    return f"Take one of: {others}."
+
+
+def sample(key: Key) -> str:
+    """What the value of a key may look like."""
+    samples = {"file": "FILE." + "".join(key.of), "time": "NUMBER", "number": key.of[-1] if key.of else "1"}
+    return samples.get(key.kind, key.of[0] if key.of else "TOKEN")

@@ -1,0 +1,122 @@
+"""The pages of help: each example in them works as it stands."""
+
+import re
+import shutil
+import tempfile
+import unittest
+from pathlib import Path
+
+from support import LAUNCHER, TOP, run, shell
+from table import read_table
+
+PAGES = sorted((TOP / "share/help").glob("*.txt"))
+
+
+def examples_of(text: str) -> list[tuple[str, str]]:
+    """The commands of a page, each a line behind '  $ ', with the lines under it up to an empty one."""
+    found = re.findall(r"^  \$ (.*)\n((?:  .*\n)*)", text, re.MULTILINE)
+    return [(line, re.sub(r"^  ", "", out, flags=re.MULTILINE)) for line, out in found]
+
+
+class Help(unittest.TestCase):
+    """Help by its words."""
+
+    def test_each_spelling_shows_the_overview(self):
+        wanted = run("help")
+        self.assertEqual(wanted.status, 0)
+        self.assertTrue(wanted.out.startswith("fizhedul - "))
+        for word in ("--help", "-h"):
+            self.assertEqual(run(word), wanted)
+
+    def test_each_command_and_topic_has_its_page(self):
+        for topic in [*read_table(), "language", "refusals"]:
+            page = run("help", topic)
+            self.assertEqual((page.status, page.err), (0, ""), topic)
+            self.assertGreater(len(page.out), 300, topic)
+
+    def test_the_overview_names_each_command(self):
+        overview = run("help").out
+        for command in read_table():
+            self.assertRegex(overview, rf"(?m)^  {command} +db=FILE")
+
+    def test_a_page_names_each_key_of_its_command(self):
+        for command, keys in read_table().items():
+            page = run("help", command).out
+            for key in keys:
+                self.assertRegex(page, rf"(?m)^  ([a-z]+=[^ ]+ )*{key}=", f"{command} {key}")
+
+    def test_a_page_that_is_not_there(self):
+        for topic in ("nothing", "../version", "", "ask.txt"):
+            page = run("help", topic)
+            self.assertEqual((page.status, page.out), (2, ""))
+            self.assertIn("the topics are: ", page.err)
+
+    def test_pages_fit_a_terminal(self):
+        for page in PAGES:
+            for line in page.read_text().splitlines():
+                self.assertTrue(len(line) < 80 or "=" in line or "T2/" in line, f"{page.name}: {line}")
+
+    def test_examples_work_as_they_stand(self):
+        count = 0
+        for page in PAGES:
+            for line, wanted in examples_of(page.read_text()):
+                self.assertEqual(shell(line, TOP / "examples").out, wanted, f"{page.name}: {line}")
+                count += 1
+        self.assertGreater(count, 9)
+
+    def test_pages_name_the_folder_of_the_examples(self):
+        self.assertIn(f"from the folder {TOP}/examples", run("help").out)
+
+    def test_the_language_page_is_in_the_language(self):
+        page = (TOP / "share/help/language.txt").read_text()
+        blocks = re.findall(r"^  #.*\n(?:  .*\n)+", page, re.MULTILINE)
+        database, query = blocks
+        with tempfile.TemporaryDirectory() as name:
+            folder = Path(name)
+            (folder / "bus.lrp").write_text(database)
+            (folder / "soon.lrq").write_text(query)
+            self.assertEqual(run("check", "db=bus.lrp", folder=folder).status, 0)
+            # Line 7 leaves at 485 = 5 + 8 * 60, and the night bus a quarter of an hour later; else the next bus is
+            # an hour away.
+            answer = run("decide", "db=bus.lrp", "query=soon.lrq", folder=folder)
+            self.assertEqual((answer.status, answer.out), (0, 'Nonempty\n485, "7"\n'))
+
+
+class Version(unittest.TestCase):
+    """One version for all that shows one."""
+
+    def test_version_commit_and_toolchain(self):
+        lines = run("--version").out.splitlines()
+        self.assertEqual(lines[0], "fizhedul " + (TOP / "share/version").read_text().strip())
+        self.assertRegex(lines[1], r"^commit ([0-9a-f]{12}|unknown)$")
+        self.assertEqual(lines[2], "toolchain " + (TOP / "share/toolchain").read_text().strip())
+        self.assertEqual(len(lines), 3)
+
+    def test_the_toolchain_is_that_of_the_readme(self):
+        self.assertIn((TOP / "share/toolchain").read_text().strip(), (TOP / "README.md").read_text())
+
+    def test_the_changelog_begins_with_the_version(self):
+        changes = (TOP / "CHANGELOG.md").read_text()
+        self.assertEqual(re.findall(r"^## ([0-9.]+)", changes, re.MULTILINE)[0],
+                         (TOP / "share/version").read_text().strip())
+
+
+class Launcher(unittest.TestCase):
+    """How the launcher finds its parts."""
+
+    def test_it_runs_from_any_folder_and_through_a_link(self):
+        with tempfile.TemporaryDirectory() as name:
+            link = Path(name) / "fiz"
+            link.symlink_to(LAUNCHER)
+            found = shell(f"'{link}' help", Path(name))
+            self.assertEqual((found.status, found.out), (0, run("help").out))
+
+    def test_words_go_to_the_program_as_they_are(self):
+        with tempfile.TemporaryDirectory() as name:
+            folder = Path(name)
+            shutil.copy(TOP / "examples/bus/bus.lrp", folder / "a b.lrp")
+            self.assertEqual(run("check", "db=a b.lrp", folder=folder).out, run("check", "db=examples/bus/bus.lrp").out)
+
+
+if __name__ == "__main__":
+    unittest.main()

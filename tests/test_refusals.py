@@ -1,0 +1,278 @@
+"""Each kind of refusal is explained, on standard error alone, with the caret where the fault is."""
+
+import os
+import re
+import subprocess
+import tempfile
+import unittest
+from pathlib import Path
+from typing import NamedTuple
+
+import support
+from catalogue import read_catalogue
+from places import Place, caret_line, clean, show_place
+from support import TOP, fake, run
+from usage import find_fault
+
+BUS = "relation bus(t: time) { (5+60n); }"
+TRIP = 'relation trip(t: time, l: line) { (5+60n, "7"); }'
+ASK = "{ t: time | bus(t) }"
+BIG = "4611686018427387905"
+LONG = "x" * 256
+NINE = ", ".join(f"c{i}: time" for i in range(9))
+TOKEN = "T2/" + "0" * 64 + "/5/"
+
+
+class Case(NamedTuple):
+    """A refusal that is wanted, for a database and a query, with the text that begins under the caret."""
+
+    line: str
+    db: str | bytes
+    query: str | bytes = ASK
+    caret: str = ""
+    more: tuple[str, ...] = ()
+    command: str = "decide"
+
+
+DATABASE = [
+    Case("refused: database Utf8 at 2:3", b"# \xc3\xa4\n# \xff\n", caret="\ufffd"),
+    Case("refused: database Syntax at 1:33", "relation bus(t: time) { (5+60n) }", caret="}"),
+    Case("refused: database Number at 2:4", f"relation r(t: time) {{\n  ({BIG}); }}", caret=BIG),
+    Case("refused: database Period at 1:26", "relation r(t: time) { (5+0n); }", caret="0"),
+    Case("refused: database TextTooLong at 1:23", f'relation r(d: data) {{("{LONG}"); }}', caret='"x'),
+    Case("refused: database Name at 2:10", f"{BUS}\nrelation bus() {{ }}", caret="bus"),
+    Case("refused: database Arity at 1:23", "relation r(t: time) { (5, 6); }", caret="("),
+    Case("refused: database Sort at 1:24", 'relation r(t: time) { ("7"); }', caret='"7"'),
+    Case("refused: database Column at 1:34", "relation r(t: time) { (5) where  u <= 5; }", caret="u"),
+    Case("refused: database Wide at 1:92", f"relation r({NINE}) {{ }}", caret="c8"),
+]
+QUERY = [
+    Case("refused: query Utf8 at 1:3", BUS, b"# \xff", caret="\ufffd"),
+    Case("refused: query Syntax at 1:20", BUS, "{ t: time | bus(t) and bus(t) }", caret="and"),
+    Case("refused: query Number at 1:18", BUS, f"{{ t: time | t <= {BIG} }}", caret=BIG),
+    Case("refused: query Period at 1:20", BUS, "{ t: time | t in 3+0n }", caret="0"),
+    Case("refused: query Deep at 1:69", BUS, "{ | " + "(" * 64 + "0 = 0" + ")" * 64 + " }", caret="0"),
+    Case("refused: query TextTooLong at 1:5", BUS, f'{{ | "{LONG}" = "7" }}', caret='"x'),
+    Case("refused: query UnknownRelation at 1:13", BUS, "{ t: time | buss(t) }", caret="buss"),
+    Case("refused: query Arity at 1:13", BUS, "{ t: time | bus(t, t) }", caret="bus"),
+    Case("refused: query Sort at 1:17", BUS, '{ t: time | bus("7") }', caret='"7"'),
+    Case("refused: query Unbound at 1:30", BUS, "{ t: time | (bus(t) and t <= u) }", caret="u"),
+    Case("refused: query Rebound at 1:20", BUS, "{ t: time | exists t: time bus(t) }", caret="t"),
+    Case("refused: query Wide at 1:83", BUS, f"{{ {NINE} | bus(c0) }}", caret="c8"),
+    Case("refused: query UnknownSort at 1:6", TRIP, "{ l: lime | l = l }", caret="lime"),
+]
+OTHERS = [
+    Case("refused: read of database", ""),
+    Case("refused: read of query", BUS, ""),
+    Case("refused: database longer than 16777216 bytes", " " * 16777217),
+    Case("refused: query longer than 16777216 bytes", BUS, " " * 16777217),
+    Case("refused: period above 4611686018427387904", "relation r(t: time) { (0+4611686018427387904n); (0+3n); }",
+         "{ t: time | r(t) }"),
+    Case("refused: bound above 4611686018427387904", BUS, "{ t: time | (bus(t) and t >= 4611686018427387904) }"),
+    Case("refused: more than 1 cells at step 1", "relation r(t: time) { (0+4n); (1+4n); }", "{ t: time | r(t) }",
+         more=("cap=1",)),
+    Case("refused: token form", BUS, more=("from=0", "to=9", "after=5"), command="list"),
+    Case("refused: token shape", BUS, more=("from=0", "to=9", "after=T1/5,6/"), command="list"),
+    Case("refused: token stale", BUS, more=("from=0", "to=9", "after=" + TOKEN), command="list"),
+]
+USAGE = [
+    ((), "", "A command is missing.", "ask, decide, list, explain, check"),
+    (("lst", "db=a"), "lst", "'lst' is no command.", "'list'"),
+    (("xyzzy",), "xyzzy", "'xyzzy' is no command.", "ask, decide, list, explain, check"),
+    (("check", "a.lrp"), "a.lrp", "'a.lrp' is no KEY=VALUE.", "db=a.lrp"),
+    (("check", "--help"), "--help", "'--help' is no KEY=VALUE.", "'fizhedul help check'"),
+    (("check", "db", "=a"), "db", "'db' is no KEY=VALUE.", "without a blank"),
+    (("check", "dv=a"), "dv=a", "'check' has no key 'dv'.", "'db'"),
+    (("ask", "db=a", "qery=b"), "qery=b", "'ask' has no key 'qery'.", "'query'"),
+    (("check", "db=a", "cap=5"), "cap=5", "'check' has no key 'cap'.", "db"),
+    (("check", "db=a", "db=b"), "db=b", "The key 'db' stands twice.", "one of the two"),
+    (("check", "db="), "db=", "'db' has no value.", "the name of a file"),
+    (("ask", "db=a", "query=b", "cap=0"), "cap=0", "'0' is no value of 'cap'.", "from 1 to 1000000000"),
+    (("ask", "db=a", "query=b", "cap=1000000001"), "cap=1", "'1000000001' is no value", "from 1 to 1000000000"),
+    (("list", "db=a", "query=b", "from=05", "to=9"), "from=05", "'05' is no value of 'from'.", "leading zeros"),
+    (("list", "db=a", "query=b", "from=-0", "to=9"), "from=-0", "'-0' is no value of 'from'.", "whole number"),
+    (("list", "db=a", "query=b", "from=0", "to=" + BIG), "to=", f"'{BIG}' is no value of 'to'.", "whole number"),
+    (("list", "db=a", "query=b", "from=0", "to=9", "limit=1e3"), "limit=1e3", "'1e3' is no value", "whole number"),
+    (("list", "db=a", "query=b", "from=0", "to=9", "form=xml"), "form=xml", "'xml' is no value", "plain or json"),
+    (("list", "db=a", "query=b", "from=0"), "", "'list' needs the key 'to'.", "to=NUMBER"),
+    (("ask", "db=a"), "", "'ask' needs the key 'query'.", "query=FILE.lrq"),
+]
+
+
+def write(path: Path, content: str | bytes) -> None:
+    """Writes a file, but for one without content, which is to be missing."""
+    if content:
+        path.write_bytes(content.encode() if isinstance(content, str) else content)
+
+
+def sentences_of(heading: str) -> tuple[str, str]:
+    """What the page says of a refusal."""
+    entry = next(entry for entry in read_catalogue() if entry.heading == heading)
+    return entry.means, entry.to_do
+
+
+def heading_of(line: str) -> str:
+    """The heading of the page for a line of the program."""
+    return next(entry.heading for entry in read_catalogue() if entry.pattern.fullmatch(line))
+
+
+class Explained(unittest.TestCase):
+    """The program's own refusals."""
+
+    def explain(self, case: Case) -> None:
+        """The refusal of a case, its caret and its sentences."""
+        with tempfile.TemporaryDirectory() as name:
+            folder = Path(name)
+            write(folder / "a.lrp", case.db)
+            write(folder / "b.lrq", case.query)
+            words = [case.command, "db=a.lrp", "query=b.lrq", *case.more]
+            plain = run(*words, folder=folder)
+            told = run(*words, folder=folder, explain="always")
+        self.assertEqual((plain.out, plain.err), (case.line + "\n", ""))
+        self.assertEqual((told.status, told.out), (plain.status, plain.out))
+        means, to_do = sentences_of(heading_of(case.line))
+        words_told = " ".join(told.err.split())
+        self.assertIn(means, words_told)
+        self.assertIn(to_do, words_told)
+        if case.caret:
+            self.assertTrue(under_caret(told.err).startswith(case.caret), told.err)
+
+    def test_database_faults(self):
+        for case in DATABASE:
+            with self.subTest(case.line):
+                self.explain(case)
+
+    def test_query_faults(self):
+        for case in QUERY:
+            with self.subTest(case.line):
+                self.explain(case)
+
+    def test_files_limits_and_tokens(self):
+        for case in OTHERS:
+            with self.subTest(case.line):
+                self.explain(case)
+
+    def test_no_kind_is_left_out(self):
+        tested = {heading_of(case.line) for case in DATABASE + QUERY + OTHERS}
+        others = {"refused: usage", "refused: memory", "refused: unbuilt", "no line, status 7"}
+        self.assertEqual(tested | others, {entry.heading for entry in read_catalogue()})
+
+    def test_each_entry_is_one_sentence_and_what_to_do(self):
+        for entry in read_catalogue():
+            self.assertRegex(entry.means, r"^[A-Z].*\.$")
+            self.assertRegex(entry.to_do, r"^[A-Z].*\.$")
+
+    def test_what_a_program_may_say_of_the_machine(self):
+        with tempfile.TemporaryDirectory() as name:
+            for line, status in (("refused: memory", 8), ("refused: unbuilt", 9)):
+                program = fake(Path(name), f"echo '{line}'\nexit {status}\n")
+                told = run("check", "db=a", explain="always", FIZHEDUL_PROGRAM=str(program))
+                self.assertEqual((told.status, told.out), (status, line + "\n"))
+                self.assertIn(sentences_of(line)[0], " ".join(told.err.split()))
+
+    def test_an_output_that_can_not_be_written(self):
+        words = [support.LAUNCHER, "check", "db=examples/bus/bus.lrp"]
+        for explain, wanted in (("never", ""), ("always", sentences_of("no line, status 7")[0])):
+            with open("/dev/full", "wb") as full:
+                done = subprocess.run(words, cwd=TOP, stdout=full, stderr=subprocess.PIPE, check=False, text=True,
+                                      env=support.environment(FIZHEDUL_EXPLAIN=explain))
+            self.assertEqual(done.returncode, 7)
+            self.assertIn(wanted, " ".join(done.stderr.split()))
+
+    def test_a_reader_that_leaves_is_no_matter(self):
+        script = f"'{support.LAUNCHER}' check db=examples/week/week.lrp | true; echo ${{PIPESTATUS[0]}}"
+        for explain in ("never", "always"):
+            done = support.shell(script, explain=explain)
+            self.assertEqual(done.err, "")
+
+    def test_details_of_the_files(self):
+        folder = TOP / "examples/bus"
+        told = run("decide", "db=bus.lrp", "query=misspelt.lrq", folder=folder, explain="always")
+        self.assertIn("Its relations are bus(t: time).", told.err)
+        told = run("check", "db=tram.lrp", folder=folder, explain="always")
+        self.assertIn("tram.lrp: No such file or directory.", told.err)
+        folder = TOP / "examples/maintenance"
+        told = run("decide", "db=maintenance.lrp", "query=unattended.lrq", "cap=5", folder=folder, explain="always")
+        self.assertIn("'2 scan due(t, m) [period 1008, reach 1008]'", " ".join(told.err.split()))
+
+    def test_a_file_that_is_read_once_has_its_sentences(self):
+        for words in ("db=<(echo relation)", "db=/dev/stdin < <(echo relation)"):
+            told = support.shell(f"fizhedul check {words}", explain="always")
+            self.assertEqual((told.status, told.out), (3, "refused: database Syntax at 2:1\n"))
+            self.assertIn(sentences_of("refused: database Syntax at L:C")[0], " ".join(told.err.split()))
+
+    def test_without_a_terminal_nothing_is_told(self):
+        done = subprocess.run([support.LAUNCHER, "lst"], stdin=subprocess.DEVNULL, capture_output=True, check=False,
+                              env={**support.environment(), "FIZHEDUL_EXPLAIN": ""})
+        self.assertEqual((done.returncode, done.stdout, done.stderr), (2, b"refused: usage\n", b""))
+
+
+class Usage(unittest.TestCase):
+    """Which word is wrong, and the nearest one."""
+
+    def test_each_fault_of_words(self):
+        for words, caret, means, to_do in USAGE:
+            with self.subTest(words):
+                told = run(*words, explain="always")
+                self.assertEqual((told.status, told.out), (2, "refused: usage\n"))
+                self.assertEqual(under_caret(told.err)[:len(caret)], caret)
+                said = " ".join(told.err.split())
+                self.assertIn(means, said)
+                self.assertIn(to_do, said.split(means)[1])
+
+    def test_words_that_spell_a_command_have_no_fault(self):
+        for words in ("check db=a", "ask query=b db=a", "ask db=a query=b cap=1000000000", "list db=a query=b to=0 from=-5",
+                      "list db=a query=b from=0 to=0 limit=1000000 after= form=json cap=1", "decide db=a=b query=b",
+                      "list db=a query=b from=-4611686018427387904 to=4611686018427387904"):
+            self.assertIsNone(find_fault(words.split()), words)
+            self.assertNotEqual(run(*words.split()).out, "refused: usage\n", words)
+
+
+class Places(unittest.TestCase):
+    """The line of a file and the caret under a place."""
+
+    def test_columns_count_bytes_and_carets_stand_under_characters(self):
+        line = '  ("Zürich", 日本, x)'.encode()
+        for token in ("日本", "x"):
+            shown = caret_line(line, line.index(token.encode()), 80).splitlines()
+            cells_before = len(shown[1]) - len(shown[1].lstrip())
+            wanted = {"日本": 2 + 2 + len('("Zürich", '), "x": 2 + 2 + len('("Zürich", ') + 4 + 2}
+            self.assertEqual(cells_before, wanted[token])
+
+    def test_a_long_line_is_cut_around_the_place(self):
+        line = b"a " * 300 + b"here " + b"b " * 300
+        shown = caret_line(line, 600, 60).splitlines()
+        self.assertLess(max(map(len, shown)), 61)
+        self.assertTrue(shown[0][shown[1].index("^"):].startswith("here"))
+
+    def test_what_a_terminal_must_not_obey_is_not_shown(self):
+        self.assertEqual(clean("a\x1b[2J\tb\u202e\x9b\r"), "a\ufffd[2J b\ufffd\ufffd")
+
+    def test_the_end_of_a_file(self):
+        with tempfile.TemporaryDirectory() as name:
+            path = Path(name) / "a.lrp"
+            path.write_text("relation r(\n\n")
+            shown = show_place(Place(str(path), 3, 1), 80)
+            self.assertEqual(shown, f"{path}:3:1\n  relation r(\n  \n  ^\n")
+
+    def test_a_place_that_is_no_longer_there(self):
+        with tempfile.TemporaryDirectory() as name:
+            path = Path(name) / "a.lrp"
+            self.assertEqual(show_place(Place(str(path), 1, 1), 80), "")
+            path.write_text("x")
+            self.assertEqual(show_place(Place(str(path), 7, 1), 80), "")
+            os.truncate(path, 0)
+            self.assertEqual(show_place(Place(str(path), 1, 9), 80), f"{path}:1:9\n  \n  ^\n")
+
+
+def under_caret(told: str) -> str:
+    """What stands above the caret of an explanation, from there on."""
+    lines = told.splitlines()
+    for above, line in zip(lines, lines[1:]):
+        if re.fullmatch(r" *\^~*", line):
+            return above[line.index("^"):]
+    return ""
+
+
+if __name__ == "__main__":
+    unittest.main()
