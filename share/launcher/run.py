@@ -5,6 +5,7 @@
 Standard output and the status are the program's own, byte for byte; all else goes to standard error.
 """
 
+import contextlib
 import errno
 import os
 import select
@@ -42,7 +43,8 @@ def main(program: str, words: list[str]) -> int:
     output = hand_on(child, time.monotonic() if watched else None)
     status = child.wait()
     if status < 0:
-        signal.signal(-status, signal.SIG_DFL)
+        with contextlib.suppress(OSError):
+            signal.signal(-status, signal.SIG_DFL)
         os.kill(os.getpid(), -status)
     if output.error:
         status = UNWRITTEN
