@@ -1,0 +1,38 @@
+"""The answers that the planning examples expect are those that a second count gives."""
+
+import unittest
+
+from recounts import EXAMPLES, FOLDERS
+# Plans, refusals and normal forms, which follow from the rules of the formats and not from a count.
+NOT_COUNTED = {"maintenance": {"unattended", "far", "far_asked", "few_cells"}, "guide": {"check", "costly"}}
+
+
+def names_of(folder: str) -> set[str]:
+    """The names of a folder's cases, which `examples/check` runs."""
+    lines = (EXAMPLES / folder / "cases").read_text().splitlines()
+    return {line.split()[0] for line in lines if line and not line.startswith("#")}
+
+
+class Examples(unittest.TestCase):
+    """Each folder of a planning problem."""
+
+    def test_expected_answers_are_counted_again(self):
+        for folder, count in FOLDERS.items():
+            counted = count()
+            for name, text in counted.items():
+                with self.subTest(f"{folder} {name}"):
+                    self.assertEqual((EXAMPLES / folder / "expected" / name).read_text(), text)
+
+    def test_each_case_is_counted(self):
+        for folder, count in FOLDERS.items():
+            self.assertEqual(names_of(folder), set(count()) | NOT_COUNTED.get(folder, set()), folder)
+
+    def test_each_folder_begins_with_a_page_that_names_its_cases(self):
+        for folder in FOLDERS:
+            page = (EXAMPLES / folder / "README.md").read_text()
+            for query in (EXAMPLES / folder).glob("*.lrq"):
+                self.assertIn(query.name, page, folder)
+
+
+if __name__ == "__main__":
+    unittest.main()
