@@ -1,0 +1,67 @@
+# Completion of fizhedul for bash. Made by tools/make_share from share/commands.
+
+# The keys of a command.
+_fizhedul_keys() {
+    local keys=
+    case $1 in
+        ask) keys='db query cap' ;;
+        decide) keys='db query cap' ;;
+        list) keys='db query from to limit after form cap' ;;
+        explain) keys='db query' ;;
+        check) keys='db' ;;
+    esac
+    echo "$keys"
+}
+
+# The values of a key that begin so: file names by their ending, folders, or words.
+_fizhedul_values() {
+    local endings='' values=''
+    case $1 in
+        db) endings='lrp' ;;
+        query) endings='lrq' ;;
+        form) values='plain json' ;;
+    esac
+    if [ -n "$endings" ]; then
+        compopt -o filenames 2>/dev/null
+        mapfile -t COMPREPLY < <(compgen -f -X "!*.$endings" -- "$2"; compgen -d -- "$2")
+    elif [ -n "$values" ]; then
+        mapfile -t COMPREPLY < <(compgen -W "$values" -- "$2")
+    fi
+}
+
+# The values found, as words with their key; bash no longer sees which of them are folders.
+_fizhedul_whole_words() {
+    local i
+    for i in "${!COMPREPLY[@]}"; do
+        if [ -d "${COMPREPLY[i]}" ]; then
+            COMPREPLY[i]+=/
+            compopt -o nospace 2>/dev/null
+        fi
+        COMPREPLY[i]=$1=${COMPREPLY[i]}
+    done
+}
+
+_fizhedul() {
+    local line=${COMP_LINE:0:COMP_POINT} word key
+    local -a words
+    read -ra words <<<"$line"
+    word=
+    [[ $line == *[[:blank:]] ]] || { word=${words[-1]}; unset 'words[-1]'; }
+    COMPREPLY=()
+    if [ ${#words[@]} -le 1 ]; then
+        mapfile -t COMPREPLY < <(compgen -W 'ask decide list explain check help --version' -- "$word")
+    elif [ "${words[1]}" = help ]; then
+        [ ${#words[@]} -gt 2 ] || mapfile -t COMPREPLY < <(compgen -W 'ask decide list explain check language refusals' -- "$word")
+    elif [[ $word == *=* ]]; then
+        _fizhedul_values "${word%%=*}" "${word#*=}"
+        # Where bash cuts words at '=', only what stands behind it is completed.
+        [[ $COMP_WORDBREAKS == *=* ]] || _fizhedul_whole_words "${word%%=*}"
+    else
+        compopt -o nospace 2>/dev/null
+        for key in $(_fizhedul_keys "${words[1]}"); do
+            [[ " ${words[*]} " == *" $key="* || $key= != "$word"* ]] || COMPREPLY+=("$key=")
+        done
+    fi
+}
+
+complete -F _fizhedul fizhedul

@@ -1,0 +1,64 @@
+# Completion of fizhedul for fish. Made by tools/make_share from share/commands.
+
+# Whether the command is still to be named.
+function __fizhedul_at_command
+    test (count (commandline -opc)) -eq 1
+end
+
+# Whether the command is this one, and the word at hand, where a key is given, is a value of it.
+function __fizhedul_at --argument-names command key
+    set -l words (commandline -opc)
+    test (count $words) -ge 2; and test "$words[2]" = $command; or return 1
+    test -z "$key"; or string match -q -- "$key=*" (commandline -ct)
+end
+
+# Whether the command is this one and has not been given this key.
+function __fizhedul_wants_key --argument-names command key
+    __fizhedul_at $command; or return 1
+    string match -q -- '*=*' (commandline -ct); and return 1
+    not string match -q -- "$key=*" (commandline -opc)
+end
+
+# The files with an ending, and the folders, that begin as the value at hand.
+function __fizhedul_files --argument-names key ending
+    set -l value (string replace -- "$key=" '' (commandline -ct))
+    for path in $value*/ $value*$ending
+        echo $key=$path
+    end
+end
+
+complete -c fizhedul -f -n __fizhedul_at_command -a help -d 'the pages of help'
+complete -c fizhedul -f -n __fizhedul_at_command -l version -d 'the version'
+complete -c fizhedul -f -n __fizhedul_at_command -a check -d 'shows a database, or its first fault'
+complete -c fizhedul -f -n __fizhedul_at_command -a ask -d 'writes the whole answer, as a relation'
+complete -c fizhedul -f -n __fizhedul_at_command -a decide -d 'is there an answer? the nearest to 0'
+complete -c fizhedul -f -n __fizhedul_at_command -a list -d 'the answers of a window, page by page'
+complete -c fizhedul -f -n __fizhedul_at_command -a explain -d 'the plan by which a query is answered'
+complete -c fizhedul -f -n '__fizhedul_at help' -a 'ask decide list explain check language refusals'
+complete -c fizhedul -f -n '__fizhedul_wants_key ask db' -a 'db=' -d 'the database'
+complete -c fizhedul -f -n '__fizhedul_at ask db' -a '(__fizhedul_files db .lrp)'
+complete -c fizhedul -f -n '__fizhedul_wants_key ask query' -a 'query=' -d 'the query'
+complete -c fizhedul -f -n '__fizhedul_at ask query' -a '(__fizhedul_files query .lrq)'
+complete -c fizhedul -f -n '__fizhedul_wants_key ask cap' -a 'cap=' -d 'how many cells a step of the plan may fill'
+complete -c fizhedul -f -n '__fizhedul_wants_key decide db' -a 'db=' -d 'the database'
+complete -c fizhedul -f -n '__fizhedul_at decide db' -a '(__fizhedul_files db .lrp)'
+complete -c fizhedul -f -n '__fizhedul_wants_key decide query' -a 'query=' -d 'the query'
+complete -c fizhedul -f -n '__fizhedul_at decide query' -a '(__fizhedul_files query .lrq)'
+complete -c fizhedul -f -n '__fizhedul_wants_key decide cap' -a 'cap=' -d 'how many cells a step of the plan may fill'
+complete -c fizhedul -f -n '__fizhedul_wants_key list db' -a 'db=' -d 'the database'
+complete -c fizhedul -f -n '__fizhedul_at list db' -a '(__fizhedul_files db .lrp)'
+complete -c fizhedul -f -n '__fizhedul_wants_key list query' -a 'query=' -d 'the query'
+complete -c fizhedul -f -n '__fizhedul_at list query' -a '(__fizhedul_files query .lrq)'
+complete -c fizhedul -f -n '__fizhedul_wants_key list from' -a 'from=' -d 'the window, two whole numbers'
+complete -c fizhedul -f -n '__fizhedul_wants_key list to' -a 'to=' -d 'the window, two whole numbers'
+complete -c fizhedul -f -n '__fizhedul_wants_key list limit' -a 'limit=' -d 'lines of a page'
+complete -c fizhedul -f -n '__fizhedul_wants_key list after' -a 'after=' -d 'go on behind the page whose last line was more TOKEN'
+complete -c fizhedul -f -n '__fizhedul_wants_key list form' -a 'form=' -d 'a line is 100, "mill"'
+complete -c fizhedul -f -n '__fizhedul_at list form' -a 'form=plain form=json'
+complete -c fizhedul -f -n '__fizhedul_wants_key list cap' -a 'cap=' -d 'how many cells a step of the plan may fill'
+complete -c fizhedul -f -n '__fizhedul_wants_key explain db' -a 'db=' -d 'the database'
+complete -c fizhedul -f -n '__fizhedul_at explain db' -a '(__fizhedul_files db .lrp)'
+complete -c fizhedul -f -n '__fizhedul_wants_key explain query' -a 'query=' -d 'the query'
+complete -c fizhedul -f -n '__fizhedul_at explain query' -a '(__fizhedul_files query .lrq)'
+complete -c fizhedul -f -n '__fizhedul_wants_key check db' -a 'db=' -d 'the database, a file of relations'
+complete -c fizhedul -f -n '__fizhedul_at check db' -a '(__fizhedul_files db .lrp)'

@@ -1,0 +1,67 @@
+"""The documents: each command that they show writes what stands under it, and each file that they show is as shown."""
+
+import re
+import unittest
+from pathlib import Path
+
+from support import TOP, shell
+
+GUIDE = TOP / "docs/guide.md"
+FOLDER = TOP / "examples/guide"
+
+
+def blocks_of(document: Path) -> list[tuple[str, str]]:
+    """The indented blocks of a document, each with the paragraph before it."""
+    parts = document.read_text().split("\n\n")
+    blocks: list[tuple[str, str]] = []
+    before = ""
+    for part in parts:
+        if part.startswith("    "):
+            blocks.append((before, re.sub(r"(?m)^    ", "", part).rstrip("\n") + "\n"))
+        else:
+            before = part
+    return blocks
+
+
+def commands_of(block: str) -> list[tuple[str, str]]:
+    """The commands of a block, each with what stands under it."""
+    return [(line, out) for line, out in re.findall(r"(?m)^\$ (.*)\n((?:(?!\$ ).*\n)*)", block)]
+
+
+class Guide(unittest.TestCase):
+    """The planner's guide."""
+
+    def test_each_command_writes_what_is_shown(self):
+        count = 0
+        for _, block in blocks_of(GUIDE):
+            for line, wanted in commands_of(block):
+                with self.subTest(line):
+                    done = shell(line, FOLDER)
+                    self.assertEqual((done.out, done.err), (wanted, ""))
+                    count += 1
+        self.assertGreater(count, 10)
+
+    def test_each_file_is_as_it_is_shown(self):
+        files = set()
+        for before, block in blocks_of(GUIDE):
+            named = re.findall(r"`([a-z]+\.lr[pq])`", before)
+            if named and not block.startswith("$ "):
+                with self.subTest(named[0]):
+                    self.assertEqual((FOLDER / named[0]).read_text(), block)
+                    files.add(named[0])
+        self.assertEqual(files, {"line.lrp", "departures.lrq", "uncovered.lrq", "hourly.lrq", "trips.lrq", "costly.lrq"})
+
+
+class Links(unittest.TestCase):
+    """What documents and pages name is there."""
+
+    def test_named_files_are_there(self):
+        documents = [GUIDE, TOP / "CONTRIBUTING.md", *TOP.glob("examples/*/README.md"), *TOP.glob("editors/*/README.md")]
+        for document in documents:
+            for name in re.findall(r"`((?:docs|examples|tests|share|tools|packaging|editors|crates)/[\w./-]*)`",
+                                   document.read_text()):
+                self.assertTrue((TOP / name).exists(), f"{document.name}: {name}")
+
+
+if __name__ == "__main__":
+    unittest.main()
