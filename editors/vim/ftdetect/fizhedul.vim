@@ -1,0 +1,2 @@
+" Databases and queries of Fizhedul.
+autocmd BufNewFile,BufRead *.lrp,*.lrq setfiletype fizhedul

@@ -1,0 +1,12 @@
+" Settings for databases and queries of Fizhedul.
+if exists('b:did_ftplugin')
+  finish
+endif
+let b:did_ftplugin = 1
+
+setlocal commentstring=#\ %s comments=:# formatoptions-=t
+" :make checks a database, and goes to the place of its fault.
+setlocal makeprg=fizhedul\ check\ db=%:S
+setlocal errorformat=refused:\ database\ %m\ at\ %l:%c
+
+let b:undo_ftplugin = 'setlocal commentstring< comments< formatoptions< makeprg< errorformat<'

@@ -1,0 +1,39 @@
+" Databases and queries of Fizhedul: each token has its class, and what is no token is an error.
+if exists('b:current_syntax')
+  finish
+endif
+syntax case match
+
+" Of matches that begin at one place, the last one defined is taken.
+syntax match fizhedulError /\S/
+syntax match fizhedulName /\h\w*/
+syntax match fizhedulRelation /\h\w*\ze\s*(/
+syntax match fizhedulSort /\(:\s*\)\@<=\h\w*/
+syntax match fizhedulType /\(time\|data\)\w\@!/
+syntax match fizhedulPoint /n\w\@!/
+syntax match fizhedulKeyword /\(relation\|where\|exists\|forall\|implies\|not\|and\|or\|in\)\w\@!/
+syntax match fizhedulNumber /\d\+/
+syntax match fizhedulOperator /<=\|>=\|[-<>=+]/
+syntax match fizhedulDelimiter /[(){},:;|]/
+syntax match fizhedulError /".*$/
+syntax match fizhedulText /"\([^"\\]\|\\.\)*"/ contains=fizhedulEscape,fizhedulBad
+syntax match fizhedulBad /\\[^"\\]\|[[:cntrl:]]/ contained
+syntax match fizhedulEscape /\\["\\]/ contained
+syntax match fizhedulComment /#.*$/ contains=@Spell
+
+highlight default link fizhedulError Error
+highlight default link fizhedulBad Error
+highlight default link fizhedulName Identifier
+highlight default link fizhedulRelation Function
+highlight default link fizhedulSort Type
+highlight default link fizhedulType Type
+highlight default link fizhedulPoint Number
+highlight default link fizhedulNumber Number
+highlight default link fizhedulKeyword Keyword
+highlight default link fizhedulOperator Operator
+highlight default link fizhedulDelimiter Delimiter
+highlight default link fizhedulText String
+highlight default link fizhedulEscape SpecialChar
+highlight default link fizhedulComment Comment
+
+let b:current_syntax = 'fizhedul'

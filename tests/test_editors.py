@@ -1,0 +1,173 @@
+"""The editors' files, on every example and on faulty texts: each token has its class, and no fault is hidden.
+
+Vim is run. The grammar of Visual Studio Code is read here by the rules of TextMate grammars that it uses: of the
+patterns, the one that matches first in the line is taken, and of several at one place the first one.
+"""
+
+import json
+import re
+import subprocess
+import tempfile
+import unittest
+from pathlib import Path
+
+from support import TOP, environment, need
+
+RESERVED = ["relation", "where", "exists", "forall", "implies", "not", "and", "or", "in"]
+# The tokens of the language, each with its class; a name's class also hangs on what stands around it.
+TOKENS = re.compile(r"""
+    (?P<comment>\#[^\n]*) | (?P<text>"(?:[^"\\\n]|\\["\\])*") | (?P<name>[A-Za-z_]\w*) | (?P<number>[0-9]+)
+    | (?P<operator><=|>=|[-<>=+]) | (?P<delimiter>[(){},:;|]) | (?P<blank>\s+) | (?P<error>.)""", re.VERBOSE | re.ASCII)
+FAULTY = 'relation r(t: time, d: data) {\n  (5+0n, "a\\x") where t ! 5;\n  (6, "b) ;\n  (7n, "\\"ü\\\\");\n}\n'
+VIM = {"comment": "fizhedulComment", "text": "fizhedulText", "number": "fizhedulNumber", "operator": "fizhedulOperator",
+       "delimiter": "fizhedulDelimiter", "keyword": "fizhedulKeyword", "type": "fizhedulType", "point": "fizhedulPoint",
+       "sort": "fizhedulSort", "relation": "fizhedulRelation", "variable": "fizhedulName"}
+CODE = {"comment": "comment.line", "text": "string.quoted", "number": "constant.numeric", "operator": "keyword.operator",
+        "delimiter": "punctuation", "keyword": "keyword.control", "type": "storage.type", "point": "constant.numeric.point",
+        "sort": "entity.name.type", "relation": "entity.name.function", "variable": "variable.other"}
+DUMP = """
+set nomore
+filetype on
+syntax on
+let out = {}
+for path in readfile($LISTED)
+  execute 'edit' fnameescape(path)
+  let lines = []
+  for line in range(1, line('$'))
+    let classes = []
+    for col in range(1, strlen(getline(line)))
+      call add(classes, synIDattr(synID(line, col, 1), 'name'))
+    endfor
+    call add(lines, classes)
+  endfor
+  let out[path] = lines
+endfor
+call writefile([json_encode(out)], $DUMPED)
+qa!
+"""
+
+Token = tuple[int, int, int, str]
+
+
+def tokens_of(text: str) -> list[Token]:
+    """The tokens of a text that has no fault: line, first byte, byte behind the last, class."""
+    found = []
+    for line, content in enumerate(text.split("\n")):
+        for match in TOKENS.finditer(content):
+            kind = match.lastgroup or ""
+            if kind == "name":
+                kind = class_of_name(match.group(), content[:match.start()], content[match.end():])
+            if kind != "blank":
+                start = len(content[:match.start()].encode())
+                found.append((line, start, start + len(match.group().encode()), kind))
+    return found
+
+
+def class_of_name(name: str, before: str, after: str) -> str:
+    """The class of a name or a reserved word."""
+    if name in RESERVED:
+        return "keyword"
+    if name in ("time", "data"):
+        return "type"
+    if name == "n":
+        return "point"
+    if before.rstrip().endswith(":"):
+        return "sort"
+    return "relation" if after.lstrip().startswith("(") else "variable"
+
+
+def scopes_of(grammar: dict, text: str) -> list[list[str]]:
+    """The scope of each byte of each line by a TextMate grammar of plain matches."""
+    lines = []
+    for content in text.split("\n"):
+        scopes = [""] * len(content)
+        paint(grammar["patterns"], content, 0, len(content), scopes)
+        lines.append([scope for scope, each in zip(scopes, content) for _ in each.encode()])
+    return lines
+
+
+def paint(patterns: list[dict], content: str, start: int, end: int, scopes: list[str]) -> None:
+    """Gives a part of a line its scopes."""
+    while start < end:
+        found = [(match.start(), rank, match) for rank, pattern in enumerate(patterns)
+                 if (match := re.compile(pattern["match"]).search(content, start, end))]
+        if not found:
+            return
+        _, rank, match = min(found, key=lambda each: each[:2])
+        for place in range(*match.span()):
+            scopes[place] = patterns[rank]["name"]
+        for group, inner in patterns[rank].get("captures", {}).items():
+            paint(inner["patterns"], content, *match.span(int(group)), scopes)
+        start = match.end()
+
+
+class Editors(unittest.TestCase):
+    """Both editors."""
+
+    files = sorted([*TOP.glob("examples/*/*.lrp"), *TOP.glob("examples/*/*.lrq")])
+
+    def check_tokens(self, path: Path, classes: list[list[str]], names: dict[str, str]) -> None:
+        """Each byte of each token has the class of the token."""
+        for line, start, end, kind in tokens_of(path.read_text()):
+            for byte in range(start, end):
+                is_class = classes[line][byte]
+                fits = is_class.startswith(names[kind]) or (kind == "text" and "scape" in is_class)
+                self.assertTrue(fits, f"{path}:{line + 1}:{byte + 1}: {kind} is {is_class!r}")
+
+    def check_faults(self, classes: list[list[str]], bad: tuple[str, ...]) -> None:
+        """The faults of the faulty text are seen, and nothing else is."""
+        lines = FAULTY.encode().split(b"\n")
+        wanted = {(1, byte) for byte in (lines[1].index(b"\\"), lines[1].index(b"x"), lines[1].index(b"!"))}
+        wanted |= {(2, byte) for byte in range(lines[2].index(b'"'), len(lines[2]))}
+        found = {(line, byte) for line, row in enumerate(classes) for byte, is_class in enumerate(row)
+                 if is_class.startswith(bad)}
+        self.assertEqual(found, wanted)
+
+    def test_vim(self):
+        vim = need("vim")
+        with tempfile.TemporaryDirectory() as name:
+            faulty, dump = Path(name, "faulty.lrp"), Path(name, "dump.vim")
+            listed, dumped = Path(name, "listed"), Path(name, "dumped")
+            faulty.write_text(FAULTY)
+            dump.write_text(DUMP)
+            listed.write_text("".join(f"{path}\n" for path in [*self.files, faulty]))
+            words = [vim, "-es", "-N", "-u", "NONE", "-i", "NONE", "--cmd", f"set rtp^={TOP}/editors/vim enc=utf-8", "-S", dump]
+            subprocess.run(words, stdin=subprocess.DEVNULL, capture_output=True, check=False, timeout=60,
+                           env=environment(LISTED=str(listed), DUMPED=str(dumped), HOME=name))
+            classes = {Path(path): rows for path, rows in json.loads(dumped.read_text()).items()}
+        for path in self.files:
+            self.check_tokens(path, classes[path], VIM)
+        self.check_faults(classes[faulty], ("fizhedulError", "fizhedulBad"))
+
+    def test_vim_goes_to_the_place_of_a_fault(self):
+        vim = need("vim")
+        with tempfile.TemporaryDirectory() as name:
+            said = Path(name, "said")
+            launcher = Path(name, "fizhedul")
+            launcher.symlink_to(TOP / "fizhedul")
+            subprocess.run([vim, "-es", "-N", "-u", "NONE", "-i", "NONE", "--cmd", f"set rtp^={TOP}/editors/vim",
+                            "-c", "filetype plugin on", "-c", "edit", "-c", "silent make",
+                            "-c", f"call writefile([line('.') . ' ' . col('.') . ' ' . getqflist()[0].text], '{said}')",
+                            "-c", "qa!", TOP / "examples/week/broken.lrp"], stdin=subprocess.DEVNULL, capture_output=True,
+                           check=False, timeout=60, env=environment(HOME=name, PATH=f"{name}:/usr/bin:/bin"))
+            self.assertEqual(said.read_text(), "8 3 Arity\n")
+
+    def test_visual_studio_code(self):
+        folder = TOP / "editors/vscode"
+        grammar = json.loads((folder / "syntaxes/fizhedul.tmLanguage.json").read_text())
+        for path in self.files:
+            self.check_tokens(path, scopes_of(grammar, path.read_text()), CODE)
+        self.check_faults(scopes_of(grammar, FAULTY), ("invalid",))
+
+    def test_the_extension_names_what_is_there(self):
+        folder = TOP / "editors/vscode"
+        extension = json.loads((folder / "package.json").read_text())
+        self.assertEqual(extension["version"], (TOP / "share/version").read_text().strip())
+        language, grammar = extension["contributes"]["languages"][0], extension["contributes"]["grammars"][0]
+        self.assertEqual(language["extensions"], [".lrp", ".lrq"])
+        json.loads((folder / language["configuration"]).read_text())
+        self.assertEqual(json.loads((folder / grammar["path"]).read_text())["scopeName"], grammar["scopeName"])
+
+
+if __name__ == "__main__":
+    unittest.main()
