@@ -3,6 +3,7 @@
 import os
 import shutil
 import subprocess
+import tempfile
 import unittest
 from pathlib import Path
 from typing import NamedTuple
@@ -34,9 +35,11 @@ def run(*words: str | Path, folder: Path = TOP, explain: str = "never", **more: 
 
 def shell(line: str, folder: Path = TOP, explain: str = "never", **more: str) -> Run:
     """Runs a line of shell in which 'fizhedul' is the launcher."""
-    script = f'fizhedul() {{ "{LAUNCHER}" "$@"; }}\n{line}'
-    done = subprocess.run(["bash", "-c", script], cwd=folder, stdin=subprocess.DEVNULL, capture_output=True,
-                          check=False, env=environment(FIZHEDUL_EXPLAIN=explain, **more))
+    with tempfile.TemporaryDirectory() as name:
+        Path(name, "fizhedul").symlink_to(LAUNCHER)
+        path = f"{name}:{os.environ['PATH']}"
+        done = subprocess.run(["bash", "-c", line], cwd=folder, stdin=subprocess.DEVNULL, capture_output=True,
+                              check=False, env=environment(FIZHEDUL_EXPLAIN=explain, PATH=path, HOME=name, **more))
     return Run(done.returncode, done.stdout.decode(), done.stderr.decode())
 
 

@@ -1,10 +1,13 @@
 """The documents: each command that they show writes what stands under it, and each file that they show is as shown."""
 
 import re
+import shutil
+import tempfile
 import unittest
 from pathlib import Path
 
-from support import TOP, shell
+from recounts import passes
+from support import TOP, need, shell
 
 GUIDE = TOP / "docs/guide.md"
 FOLDER = TOP / "examples/guide"
@@ -52,11 +55,39 @@ class Guide(unittest.TestCase):
         self.assertEqual(files, {"line.lrp", "departures.lrq", "uncovered.lrq", "hourly.lrq", "trips.lrq", "costly.lrq"})
 
 
+class Scale(unittest.TestCase):
+    """How work is spread."""
+
+    def test_each_command_writes_what_is_shown(self):
+        need("parallel")
+        lines = [each for _, block in blocks_of(TOP / "docs/scale.md") for each in commands_of(block)]
+        self.assertEqual(len(lines), 4)
+        for line, wanted in lines:
+            with self.subTest(line):
+                self.assertEqual(shell(line, TOP / "examples/passes").out, wanted)
+
+    def test_the_counts_shown_are_counted_again(self):
+        counted = passes()
+        self.assertEqual(counted["silence"].count("\n") - 1, 48 // 3)
+        self.assertEqual(counted["conflicts"].count("\n") - 1, 9 // 3)
+        self.assertEqual(counted["nearest_silence"], "Nonempty\n24\n")
+        self.assertEqual(counted["seen"], "Empty\n")
+
+    def test_the_array_is_a_script_of_shell(self):
+        block = next(block for _, block in blocks_of(TOP / "docs/scale.md") if block.startswith("#!"))
+        with tempfile.TemporaryDirectory() as name:
+            for file in ("sky.lrp", "silence.lrq"):
+                shutil.copy(TOP / "examples/passes" / file, name)
+            Path(name, "day.sh").write_text(block)
+            self.assertEqual(shell("bash day.sh", Path(name), SLURM_ARRAY_TASK_ID="0").status, 0)
+            self.assertEqual(Path(name, "day-0").read_text(), passes()["silence"])
+
+
 class Links(unittest.TestCase):
     """What documents and pages name is there."""
 
     def test_named_files_are_there(self):
-        documents = [GUIDE, TOP / "CONTRIBUTING.md", *TOP.glob("examples/*/README.md"), *TOP.glob("editors/*/README.md")]
+        documents = [GUIDE, TOP / "docs/scale.md", TOP / "CONTRIBUTING.md", *TOP.glob("examples/*/README.md"), *TOP.glob("editors/*/README.md")]
         for document in documents:
             for name in re.findall(r"`((?:docs|examples|tests|share|tools|packaging|editors|crates)/[\w./-]*)`",
                                    document.read_text()):

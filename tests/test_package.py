@@ -37,8 +37,8 @@ def lay_tool(root: Path, tool: str) -> None:
 
 
 def files_of(root: Path) -> set[str]:
-    """All files and folders of a root, but for what the package manager keeps."""
-    return {str(path.relative_to(root)) for path in root.rglob("*")} - {
+    """All files of a root, but for what the package manager keeps; it takes empty folders with it."""
+    return {str(path.relative_to(root)) for path in root.rglob("*") if not path.is_dir()} - {
         str(path.relative_to(root)) for path in (root / "var").rglob("*")}
 
 
