@@ -16,7 +16,7 @@ def help_of_commands() -> dict[str, str]:
 def help_of_keys(command: str) -> dict[str, str]:
     """What the page of a command says of each key, on its first line."""
     page = (SHARE / f"help/{command}.txt").read_text()
-    found = {}
+    found: dict[str, str] = {}
     for keys, said in re.findall(r"^  ([a-z]+=\S+(?: [a-z]+=\S+)*)  +(\S.*)$", page, re.MULTILINE):
         for key in re.findall(r"([a-z]+)=", keys):
             found.setdefault(key, re.split(r"[:;(]", said)[0].strip())

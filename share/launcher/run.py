@@ -36,10 +36,7 @@ class Output(NamedTuple):
 def main(program: str, words: list[str]) -> int:
     """Runs the program on the words, and ends as it does."""
     watched = sys.stderr.isatty() and os.environ.get("TERM", "dumb") != "dumb"
-    # The child keeps the open files of this process: a word may name one, as in db=/dev/fd/63.
-    child = subprocess.Popen([program, *words], stdout=subprocess.PIPE, close_fds=False)  # pylint: disable=R1732
-    for number in (signal.SIGINT, signal.SIGTERM, signal.SIGHUP):
-        signal.signal(number, lambda which, _: child.send_signal(which))
+    child = start(program, words)
     output = hand_on(child, time.monotonic() if watched else None)
     status = child.wait()
     if status < 0:
@@ -52,13 +49,33 @@ def main(program: str, words: list[str]) -> int:
     return status
 
 
-def hand_on(child: subprocess.Popen[bytes], start: float | None) -> Output:
-    """Hands on what the child writes; until it begins, shows the time gone since `start`, where that is given."""
+def start(program: str, words: list[str]) -> subprocess.Popen[bytes]:
+    """Starts the program. What would end this process is passed on to it, and ends this one behind it."""
+    child: subprocess.Popen[bytes] | None = None
+    early: list[int] = []
+
+    def pass_on(number: int, _: object) -> None:
+        if child is None:
+            early.append(number)
+        else:
+            child.send_signal(number)
+
+    for number in (signal.SIGINT, signal.SIGTERM, signal.SIGHUP):
+        signal.signal(number, pass_on)
+    # The child keeps the open files of this process: a word may name one, as in db=/dev/fd/63.
+    child = subprocess.Popen([program, *words], stdout=subprocess.PIPE, close_fds=False)
+    for waiting in early:
+        child.send_signal(waiting)
+    return child
+
+
+def hand_on(child: subprocess.Popen[bytes], since: float | None) -> Output:
+    """Hands on what the child writes; until it begins, shows the time gone since then, where that is given."""
     assert child.stdout is not None
     source = child.stdout.fileno()
     shown = False
-    while start is not None and not select.select([source], [], [], 0.1)[0]:
-        gone = time.monotonic() - start
+    while since is not None and not select.select([source], [], [], 0.1)[0]:
+        gone = time.monotonic() - since
         if gone >= PATIENCE:
             shown = show_time(gone)
     if shown:
