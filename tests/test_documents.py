@@ -32,16 +32,17 @@ def commands_of(block: str) -> list[tuple[str, str]]:
 
 
 class Guide(unittest.TestCase):
-    """The planner's guide."""
+    """The planner's guide, and the first page."""
 
     def test_each_command_writes_what_is_shown(self):
         count = 0
-        for _, block in blocks_of(GUIDE):
-            for line, wanted in commands_of(block):
-                with self.subTest(line):
-                    done = shell(line, FOLDER)
-                    self.assertEqual((done.out, done.err), (wanted, ""))
-                    count += 1
+        for document, folder in ((GUIDE, FOLDER), (TOP / "README.md", TOP)):
+            for _, block in blocks_of(document):
+                for line, wanted in commands_of(block):
+                    with self.subTest(line):
+                        done = shell(line, folder)
+                        self.assertEqual((done.out, done.err), (wanted, ""))
+                        count += 1
         self.assertGreater(count, 10)
 
     def test_each_file_is_as_it_is_shown(self):

@@ -8,7 +8,8 @@ from collections.abc import Callable
 from pathlib import Path
 
 from catalogue import Entry, find_entry
-from places import WORD, Place, caret_line, clean, show_place
+from grammar import fault_of_syntax
+from places import WORD, Place, caret_line, clean, read_lines, show_place
 from usage import find_fault
 
 RELATION = re.compile(r"\brelation\s+([A-Za-z_]\w*)\s*\(([^)]*)\)", re.ASCII)
@@ -64,6 +65,8 @@ def wrap(text: str, width: int) -> str:
 def detail_of(program: str, files: dict[str, str], line: str, numbers: dict[str, str]) -> str:
     """What the files say about this refusal; empty where they say nothing."""
     details: list[tuple[str, Callable[[], str]]] = [
+        ("refused: database Syntax", lambda: syntax_of(files.get("db", ""), numbers, False)),
+        ("refused: query Syntax", lambda: syntax_of(files.get("query", ""), numbers, True)),
         ("refused: read of database", lambda: why_unread(files.get("db", ""))),
         ("refused: read of query", lambda: why_unread(files.get("query", ""))),
         ("refused: query UnknownRelation", lambda: relations_of(files.get("db", ""))),
@@ -86,6 +89,17 @@ def why_unread(file: str) -> str:
     except (OSError, ValueError) as error:
         return f"{file}: {getattr(error, 'strerror', None) or error}."
     return ""
+
+
+def syntax_of(file: str, numbers: dict[str, str], query: bool) -> str:
+    """What may stand where a file has its fault of syntax."""
+    lines = read_lines(file)
+    line, column = int(numbers["line"]), int(numbers["column"])
+    if lines is None or line > len(lines):
+        return ""
+    front = b"\n".join([*lines[:line - 1], lines[line - 1][:column - 1]]).decode(errors="replace")
+    rest = lines[line - 1][column - 1:].decode(errors="replace")
+    return fault_of_syntax(front + rest, len(front), query)
 
 
 def relations_of(file: str) -> str:

@@ -1,0 +1,199 @@
+"""What may stand at a place of a database or a query where the text stops being one."""
+
+import re
+from collections.abc import Callable
+
+RESERVED = ("relation", "where", "time", "data", "n", "exists", "forall", "not", "and", "or", "implies", "in")
+TOKEN = re.compile(r'[\s]+|#[^\n]*|(?P<name>[A-Za-z_][A-Za-z0-9_]*)|(?P<number>[0-9]+)|'
+                   r'(?P<text>"(?:[^"\\\x00-\x1f\x7f]|\\["\\])*")|(?P<symbol><=|>=|[(){},:;|+<>=-])', re.ASCII)
+COMPARISONS = ("<=", ">=", "<", ">", "=")
+
+
+class Stop(Exception):
+    """The place is reached."""
+
+
+def fault_of_syntax(text: str, place: int, query: bool) -> str:
+    """What is known of a fault of syntax at a place of a text."""
+    inside = re.search(r'"(?:[^"\\\x00-\x1f\x7f]|\\["\\])*$', without_texts_and_comments(text[:place]))
+    if inside:
+        return "It stands inside a text, which ends at the next quote of its line; in it \\\" is a quote, \\\\ is a \\."
+    found = TOKEN.match(text, place)
+    if place < len(text) and found is None:
+        return f"{text[place]!r} begins no token of the language."
+    wanted = wanted_at(text[:place], query)
+    if found and "a name" in wanted and found.group() in RESERVED:
+        return f"'{found.group()}' is a word of the language, and can't be a name."
+    return "Here may stand: " + " or ".join(filter(None, [", ".join(wanted[:-1]), wanted[-1]])) + "." if wanted else ""
+
+
+def without_texts_and_comments(text: str) -> str:
+    """The text without its whole texts and comments, so that a quote in it opens a text that is not closed."""
+    return re.sub(r'"(?:[^"\\\x00-\x1f\x7f]|\\["\\])*"|#[^\n]*', " ", text)
+
+
+def wanted_at(front: str, query: bool) -> list[str]:
+    """What may follow the front of a database or a query."""
+    reader = Reader([found for found in TOKEN.finditer(front) if found.lastgroup])
+    try:
+        if query:
+            reader.query()
+        else:
+            reader.database()
+    except Stop:
+        pass
+    return list(dict.fromkeys(reader.wanted))
+
+
+class Reader:
+    """Reads tokens by the grammar up to their end, and keeps what was looked for there."""
+
+    def __init__(self, tokens: list[re.Match[str]]):
+        self.tokens = tokens
+        self.next = 0
+        self.wanted: list[str] = []
+
+    def at(self, *wanted: str) -> bool:
+        """Takes the next token where it is one of these; at the end of the tokens they are kept."""
+        if self.next == len(self.tokens):
+            self.wanted += [word if word.startswith("a ") else f"'{word}'" for word in wanted]
+            return False
+        token = self.tokens[self.next]
+        kind = "a " + (token.lastgroup or "")
+        is_name = kind == "a name" and token.group() not in RESERVED
+        found = token.group() in wanted or (kind in wanted and (kind != "a name" or is_name))
+        self.next += found
+        return found
+
+    def need(self, *wanted: str) -> None:
+        """The same, where nothing else may stand."""
+        if not self.at(*wanted):
+            raise Stop
+
+    def begin(self, what: str) -> None:
+        """At the end of the tokens, a thing of this kind may begin."""
+        if self.next == len(self.tokens):
+            self.wanted.append(what)
+            raise Stop
+
+    def list_up_to(self, end: str, item: Callable[[], None]) -> None:
+        """Items between commas, or none, and the end."""
+        if not self.at(end):
+            item()
+            while self.at(","):
+                item()
+            self.need(end)
+
+    def database(self) -> None:
+        """relation NAME(COLUMN: SORT, ..) { ROWS } .."""
+        while self.at("relation"):
+            self.need("a name")
+            self.need("(")
+            self.list_up_to(")", self.column)
+            self.need("{")
+            while not self.at("}"):
+                self.need("(")
+                self.list_up_to(")", self.value)
+                if self.at("where"):
+                    self.bound()
+                    while self.at(","):
+                        self.bound()
+                self.need(";")
+
+    def column(self) -> None:
+        """NAME: SORT"""
+        self.need("a name")
+        self.need(":")
+        self.begin("a sort")
+        self.need("time", "data", "a name")
+
+    def value(self) -> None:
+        """A text, an integer or a point."""
+        self.begin("a value")
+        if not self.at("a text"):
+            self.integer()
+            if self.at("+"):
+                self.need("a number")
+                self.need("n")
+
+    def integer(self) -> None:
+        """A number, perhaps behind a minus."""
+        self.at("-")
+        self.need("a number")
+
+    def bound(self) -> None:
+        """NAME <= SIDE"""
+        self.need("a name")
+        self.need("<=", ">=", "=")
+        self.offset_name_or(self.integer)
+
+    def offset_name_or(self, other: Callable[[], None]) -> None:
+        """A name, perhaps with an offset, or something else."""
+        if not self.at("a name"):
+            other()
+        elif self.at("+", "-"):
+            self.need("a number")
+
+    def query(self) -> None:
+        """{ COLUMNS | FORMULA }"""
+        self.need("{")
+        self.list_up_to("|", self.column)
+        self.formula()
+        self.need("}")
+
+    def formula(self) -> None:
+        """One formula."""
+        self.begin("a formula")
+        if self.at("not"):
+            self.formula()
+        elif self.at("exists", "forall"):
+            self.column()
+            self.formula()
+        elif self.at("("):
+            self.group()
+        elif self.at("a name"):
+            self.atom_or_test()
+        else:
+            self.term()
+            self.test()
+
+    def group(self) -> None:
+        """Formulas in parentheses, joined by one word."""
+        self.formula()
+        if self.at("implies"):
+            self.formula()
+        elif self.at("and"):
+            self.formula()
+            while self.at("and"):
+                self.formula()
+        elif self.at("or"):
+            self.formula()
+            while self.at("or"):
+                self.formula()
+        self.need(")")
+
+    def atom_or_test(self) -> None:
+        """What goes on behind a name: an atom, or the left side of a test."""
+        if self.at("("):
+            self.list_up_to(")", self.term)
+            return
+        if self.at("+", "-"):
+            self.need("a number")
+        self.test()
+
+    def term(self) -> None:
+        """A text, an integer, or a name with or without an offset."""
+        self.begin("a term")
+        if not self.at("a text"):
+            self.offset_name_or(self.integer)
+
+    def test(self) -> None:
+        """What goes on behind the left side of a comparison or of 'in'."""
+        if self.at("in"):
+            self.integer()
+            self.need("+")
+            self.need("a number")
+            self.need("n")
+        else:
+            self.need(*COMPARISONS)
+            self.term()

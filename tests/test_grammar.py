@@ -1,0 +1,75 @@
+"""What is said to be able to stand at a place is what the program takes there."""
+
+import re
+import subprocess
+import tempfile
+import unittest
+from pathlib import Path
+
+from grammar import RESERVED, TOKEN, fault_of_syntax, wanted_at
+from support import PROGRAM
+
+DATABASE = 'relation r(t: time, d: line) { (5, "7") where t <= t + 5, t = -1; (-5+60n, "8"); } relation s() { (); }'
+QUERY = '{ t: time, d: line | (r(t, d) and not (t < 5 - 1 implies exists u: time u in -5+60n) and ("7" = d or s() or t + 1 >= -3)) }'
+# Token by token what may follow; what begins a formula, a term, a value or a sort.
+SAMPLES = ["x", "7", '"a"', *RESERVED, *"(){},:;|+-<>=", "<=", ">="]
+BEGINS = {
+    "a name": ["x"], "a number": ["7"], "a text": ['"a"'], "a sort": ["time", "data", "x"],
+    "a value": ["7", "-", '"a"'], "a term": ["x", "7", "-", '"a"'],
+    "a formula": ["not", "exists", "forall", "(", "x", "7", "-", '"a"'],
+}
+
+
+def taken(front: str, query: bool, folder: Path) -> set[str]:
+    """Which of the samples the program takes behind the front of a text: its fault stands behind the sample."""
+    found = set()
+    for sample in SAMPLES:
+        text = f"{front} {sample} ?"
+        (folder / "a.lrp").write_text(DATABASE if query else text)
+        (folder / "b.lrq").write_text(text)
+        words = ["explain", "db=a.lrp", "query=b.lrq"] if query else ["check", "db=a.lrp"]
+        line = subprocess.run([PROGRAM, *words], cwd=folder, capture_output=True, text=True, check=False).stdout
+        fault = re.fullmatch(r"refused: (?:query|database) Syntax at 1:(\d+)\n", line)
+        if fault is None:
+            raise AssertionError(f"{text}: {line}")
+        if int(fault.group(1)) > len(front.encode()) + 2:
+            found.add(sample)
+    return found
+
+
+class Wanted(unittest.TestCase):
+    """At each token of a text."""
+
+    def check_text(self, text: str, query: bool) -> None:
+        """Cuts the text at each token, and tries every kind of token there."""
+        with tempfile.TemporaryDirectory() as name:
+            for token in TOKEN.finditer(text):
+                if token.lastgroup:
+                    front = text[:token.start()]
+                    said = {sample for word in wanted_at(front, query) for sample in BEGINS.get(word, [word.strip("'")])}
+                    self.assertEqual(taken(front, query, Path(name)), said, front)
+
+    def test_databases(self):
+        self.check_text(DATABASE, False)
+
+    def test_queries(self):
+        self.check_text(QUERY, True)
+
+
+class Told(unittest.TestCase):
+    """The sentence on a fault."""
+
+    def test_each_kind_of_sentence(self):
+        for front, rest, wanted in (
+                ("{ t: time | bus(t) ", "and bus(t) }", "Here may stand: '}'."),
+                ("{ t: time | (a(t) and b(t) ", "or c(t)) }", "Here may stand: 'and' or ')'."),
+                ("{ ", "n: time | a(n) }", "'n' is a word of the language, and can't be a name."),
+                ("{ t: time | (a(t) and t ", "! 5) }", "'!' begins no token of the language."),
+                ('{ | "a', '\\x" = "b" }', "It stands inside a text, which ends at the next quote of its line; in it \\\""
+                                           " is a quote, \\\\ is a \\."),
+                ('{ | # "\n', "| }", "Here may stand: a formula.")):
+            self.assertEqual(fault_of_syntax(front + rest, len(front), True), wanted)
+
+
+if __name__ == "__main__":
+    unittest.main()
