@@ -16,17 +16,22 @@ from support import TOP, environment, need
 RESERVED = ["relation", "where", "exists", "forall", "implies", "not", "and", "or", "in"]
 # The tokens of the language, each with its class; a name's class also hangs on what stands around it.
 TOKENS = re.compile(r"""
-    (?P<comment>\#[^\n]*) | (?P<text>"(?:[^"\\\n]|\\["\\])*") | (?P<name>[A-Za-z_]\w*) | (?P<number>[0-9]+)
-    | (?P<operator><=|>=|[-<>=+]) | (?P<delimiter>[(){},:;|]) | (?P<blank>\s+) | (?P<error>.)""", re.VERBOSE | re.ASCII)
+    (?P<comment>\#[^\n]*) | (?P<text>"(?:[^"\\\n]|\\.)*") | (?P<name>[A-Za-z_]\w*) | (?P<number>[0-9]+)
+    | (?P<operator><=|>=|[-<>=+]) | (?P<delimiter>[(){},:;|]) | (?P<blank>[ \t\r]+) | (?P<error>".*|.)""",
+                    re.VERBOSE | re.ASCII)
+# What can't stand in a text, beside the escapes of quotes and backslashes, which are whole.
+IN_TEXT = re.compile(r'(?P<escape>\\["\\])|(?P<error>\\.|[\x00-\x1f\x7f])')
 FAULTY = 'relation r(t: time, d: data) {\n  (5+0n, "a\\x") where t ! 5;\n  (6, "b) ;\n  (7n, "\\"ü\\\\");\n}\n'
 VIM = {"comment": "fizhedulComment", "text": "fizhedulText", "number": "fizhedulNumber", "operator": "fizhedulOperator",
        "delimiter": "fizhedulDelimiter", "keyword": "fizhedulKeyword", "type": "fizhedulType", "point": "fizhedulPoint",
-       "sort": "fizhedulSort", "relation": "fizhedulRelation", "variable": "fizhedulName"}
+       "sort": "fizhedulSort", "relation": "fizhedulRelation", "variable": "fizhedulName", "escape": "fizhedulEscape",
+       "error": ("fizhedulError", "fizhedulBad")}
 CODE = {"comment": "comment.line", "text": "string.quoted", "number": "constant.numeric", "operator": "keyword.operator",
         "delimiter": "punctuation", "keyword": "keyword.control", "type": "storage.type", "point": "constant.numeric.point",
-        "sort": "entity.name.type", "relation": "entity.name.function", "variable": "variable.other"}
+        "sort": "entity.name.type", "relation": "entity.name.function", "variable": "variable.other",
+        "escape": "constant.character.escape", "error": "invalid"}
 DUMP = """
-set nomore
+set nomore synmaxcol=0
 filetype on
 syntax on
 let out = {}
@@ -50,17 +55,29 @@ Token = tuple[int, int, int, str]
 
 
 def tokens_of(text: str) -> list[Token]:
-    """The tokens of a text that has no fault: line, first byte, byte behind the last, class."""
+    """The tokens of a text, and what is no token: line, first byte, byte behind the last, class."""
     found = []
     for line, content in enumerate(text.split("\n")):
         for match in TOKENS.finditer(content):
             kind = match.lastgroup or ""
             if kind == "name":
                 kind = class_of_name(match.group(), content[:match.start()], content[match.end():])
-            if kind != "blank":
-                start = len(content[:match.start()].encode())
-                found.append((line, start, start + len(match.group().encode()), kind))
+            for start, end, part in parts_of(content, match, kind):
+                if part != "blank":
+                    found.append((line, len(content[:start].encode()), len(content[:end].encode()), part))
     return found
+
+
+def parts_of(content: str, match: re.Match[str], kind: str) -> list[tuple[int, int, str]]:
+    """The parts of a token: of a text its escapes and faults, else the token itself."""
+    start, end = match.span()
+    if kind != "text":
+        return [(start, end, kind)]
+    parts = []
+    for inner in IN_TEXT.finditer(content, start, end):
+        parts += [(start, inner.start(), kind), (*inner.span(), inner.lastgroup or "")]
+        start = inner.end()
+    return [*parts, (start, end, kind)]
 
 
 def class_of_name(name: str, before: str, after: str) -> str:
@@ -101,27 +118,30 @@ def paint(patterns: list[dict], content: str, start: int, end: int, scopes: list
         start = match.end()
 
 
+def text_of(path: Path) -> str:
+    """The text of a file, with its carriage returns."""
+    return path.read_bytes().decode()
+
+
+def is_text(path: Path) -> bool:
+    """Whether a file is one that editors show as it is: in UTF-8, without a byte order mark."""
+    try:
+        return not text_of(path).startswith("\ufeff")
+    except UnicodeDecodeError:
+        return False
+
+
 class Editors(unittest.TestCase):
     """Both editors."""
 
-    files = sorted([*TOP.glob("examples/*/*.lrp"), *TOP.glob("examples/*/*.lrq")])
+    files = [path for path in sorted(TOP.glob("examples/*/*.lr[pq]")) if is_text(path)]
 
     def check_tokens(self, path: Path, classes: list[list[str]], names: dict[str, str]) -> None:
-        """Each byte of each token has the class of the token."""
-        for line, start, end, kind in tokens_of(path.read_text()):
+        """Each byte of each token has the class of the token, and each fault is seen."""
+        for line, start, end, kind in tokens_of(text_of(path)):
             for byte in range(start, end):
                 is_class = classes[line][byte]
-                fits = is_class.startswith(names[kind]) or (kind == "text" and "scape" in is_class)
-                self.assertTrue(fits, f"{path}:{line + 1}:{byte + 1}: {kind} is {is_class!r}")
-
-    def check_faults(self, classes: list[list[str]], bad: tuple[str, ...]) -> None:
-        """The faults of the faulty text are seen, and nothing else is."""
-        lines = FAULTY.encode().split(b"\n")
-        wanted = {(1, byte) for byte in (lines[1].index(b"\\"), lines[1].index(b"x"), lines[1].index(b"!"))}
-        wanted |= {(2, byte) for byte in range(lines[2].index(b'"'), len(lines[2]))}
-        found = {(line, byte) for line, row in enumerate(classes) for byte, is_class in enumerate(row)
-                 if is_class.startswith(bad)}
-        self.assertEqual(found, wanted)
+                self.assertTrue(is_class.startswith(names[kind]), f"{path}:{line + 1}:{byte + 1}: {kind} is {is_class!r}")
 
     def test_vim(self):
         vim = need("vim")
@@ -135,9 +155,8 @@ class Editors(unittest.TestCase):
             subprocess.run(words, stdin=subprocess.DEVNULL, capture_output=True, check=False, timeout=60,
                            env=environment(LISTED=str(listed), DUMPED=str(dumped), HOME=name))
             classes = {Path(path): rows for path, rows in json.loads(dumped.read_text()).items()}
-        for path in self.files:
-            self.check_tokens(path, classes[path], VIM)
-        self.check_faults(classes[faulty], ("fizhedulError", "fizhedulBad"))
+            for path in [*self.files, faulty]:
+                self.check_tokens(path, classes[path], VIM)
 
     def test_vim_goes_to_the_place_of_a_fault(self):
         vim = need("vim")
@@ -155,9 +174,11 @@ class Editors(unittest.TestCase):
     def test_visual_studio_code(self):
         folder = TOP / "editors/vscode"
         grammar = json.loads((folder / "syntaxes/fizhedul.tmLanguage.json").read_text())
-        for path in self.files:
-            self.check_tokens(path, scopes_of(grammar, path.read_text()), CODE)
-        self.check_faults(scopes_of(grammar, FAULTY), ("invalid",))
+        with tempfile.TemporaryDirectory() as name:
+            faulty = Path(name, "faulty.lrp")
+            faulty.write_text(FAULTY)
+            for path in [*self.files, faulty]:
+                self.check_tokens(path, scopes_of(grammar, text_of(path)), CODE)
 
     def test_the_extension_names_what_is_there(self):
         folder = TOP / "editors/vscode"

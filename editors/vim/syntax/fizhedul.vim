@@ -5,7 +5,7 @@ endif
 syntax case match
 
 " Of matches that begin at one place, the last one defined is taken.
-syntax match fizhedulError /\S/
+syntax match fizhedulError /[^ \t\r]/
 syntax match fizhedulName /\h\w*/
 syntax match fizhedulRelation /\h\w*\ze\s*(/
 syntax match fizhedulSort /\(:\s*\)\@<=\h\w*/
