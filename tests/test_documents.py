@@ -7,7 +7,7 @@ import unittest
 from pathlib import Path
 
 from recounts import passes
-from support import TOP, need, shell
+from support import TOP, need, run, shell
 
 GUIDE = TOP / "docs/guide.md"
 FOLDER = TOP / "examples/guide"
@@ -54,6 +54,36 @@ class Guide(unittest.TestCase):
                     self.assertEqual((FOLDER / named[0]).read_text(), block)
                     files.add(named[0])
         self.assertEqual(files, {"line.lrp", "departures.lrq", "uncovered.lrq", "hourly.lrq", "trips.lrq", "costly.lrq"})
+
+
+BUS = "relation bus(dep: time, arr: time) { (5+60n, 30+60n)%s; }"
+NIGHT = 'relation shift(b: time, e: time) { (1200+1440n, 240+1440n) where %s; }'
+NEXT_DAY = "{ | exists b: time shift(b, b + 1920) }"
+# What the guide says of each mistake: a database, or that of the guide, a query, and what comes of it.
+MISTAKES = [
+    (BUS % "", "{ | exists d: time exists a: time (bus(d, a) and a < d) }", "Nonempty\n()\n"),
+    (BUS % " where arr = dep + 25", "{ | exists d: time exists a: time (bus(d, a) and a < d) }", "Empty\n"),
+    (NIGHT % "e >= b", NEXT_DAY, "Nonempty\n()\n"),
+    (NIGHT % "e = b + 480", NEXT_DAY, "Empty\n"),
+    ("", "{ d: time, a: time | bus(d, a) and a <= 480 }", "refused: query Syntax at 1:32\n"),
+    ("", "{ | forall d: time bus(d, d) }", "Empty\n"),
+    ("", "{ n: time | bus(n, n) }", "refused: query Syntax at 1:3\n"),
+    ("", "{ b: time, e: time | shift(b, e, Ada) }", "refused: query Unbound at 1:34\n"),
+    ("", '{ b: time, e: time | shift(b, e, "ada") }', "Empty\n"),
+    ("", '{ b: time, e: time | shift(b, e, "Ada") }', "Nonempty\n240, 720\n"),
+]
+
+
+class Mistakes(unittest.TestCase):
+    """The mistakes that the guide warns of."""
+
+    def test_each_mistake_does_what_is_said(self):
+        for database, query, wanted in MISTAKES:
+            with self.subTest(query), tempfile.TemporaryDirectory() as name:
+                folder = Path(name)
+                folder.joinpath("a.lrp").write_text(database or (FOLDER / "line.lrp").read_text())
+                folder.joinpath("b.lrq").write_text(query)
+                self.assertEqual(run("decide", "db=a.lrp", "query=b.lrq", folder=folder).out, wanted)
 
 
 class Scale(unittest.TestCase):

@@ -117,6 +117,28 @@ class Launcher(unittest.TestCase):
             shutil.copy(TOP / "examples/bus/bus.lrp", folder / "a b.lrp")
             self.assertEqual(run("check", "db=a b.lrp", folder=folder).out, run("check", "db=examples/bus/bus.lrp").out)
 
+    def test_words_of_the_workbench_go_to_it(self):
+        with tempfile.TemporaryDirectory() as name:
+            folder = Path(name)
+            shutil.copy(LAUNCHER, folder)
+            shutil.copytree(TOP / "share", folder / "share")
+            said = shell("./fizhedul draw db=a", folder)
+            self.assertEqual((said.status, said.out), (70, ""))
+            self.assertIn("'draw'", said.err)
+            (folder / "workbench").mkdir()
+            tool = folder / "workbench/run"
+            tool.write_text('#!/bin/sh\nprintf "<%s>" "$@"\nexit 5\n')
+            tool.chmod(0o755)
+            for word in ("shell", "draw", "import", "export"):
+                said = shell(f"./fizhedul {word} 'db=a b' x", folder)
+                self.assertEqual((said.status, said.out, said.err), (5, f"<{word}><db=a b><x>", ""))
+
+    def test_a_program_that_is_not_there(self):
+        for explain in ("never", "always"):
+            said = run("check", "db=a", explain=explain, FIZHEDUL_PROGRAM="/nowhere/program")
+            self.assertEqual((said.status, said.out), (127, ""))
+            self.assertIn("/nowhere/program: No such file or directory", said.err)
+
 
 if __name__ == "__main__":
     unittest.main()

@@ -22,6 +22,7 @@ PATIENCE = 2
 HINT_AFTER = 10
 HINT = "'fizhedul explain' shows the plan; 'cap=' bounds the work"
 UNWRITTEN = 7
+NOT_RUN = 127
 REFUSED = (2, 3, 4, 5, 6, 8, 9)
 LONGEST_LINE = 200
 
@@ -36,7 +37,11 @@ class Output(NamedTuple):
 def main(program: str, words: list[str]) -> int:
     """Runs the program on the words, and ends as it does."""
     watched = sys.stderr.isatty() and os.environ.get("TERM", "dumb") != "dumb"
-    child = start(program, words)
+    try:
+        child = start(program, words)
+    except OSError as error:
+        sys.stderr.write(f"fizhedul: {program}: {error.strerror}\n")
+        return NOT_RUN
     output = hand_on(child, time.monotonic() if watched else None)
     status = child.wait()
     if status < 0:

@@ -22,7 +22,7 @@ def find_fault(words: list[str]) -> Fault | None:
     """The first fault of these words, or none where they spell a command."""
     table = read_table()
     if not words:
-        return Fault(0, "A command is missing.", "Begin with one of: " + ", ".join(table) + ".")
+        return Fault(0, "A command is missing.", "Begin with one of: " + ", ".join(table) + ". 'fizhedul help' says more.")
     command, *pairs = words
     if command not in table:
         return Fault(0, f"'{command}' is no command.", nearest(command, list(table), "command"))
