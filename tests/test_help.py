@@ -1,5 +1,6 @@
 """The pages of help: each example in them works as it stands."""
 
+import os
 import re
 import shutil
 import tempfile
@@ -132,6 +133,36 @@ class Launcher(unittest.TestCase):
             for word in ("shell", "draw", "import", "export"):
                 said = shell(f"./fizhedul {word} 'db=a b' x", folder)
                 self.assertEqual((said.status, said.out, said.err), (5, f"<{word}><db=a b><x>", ""))
+
+    def test_a_program_that_is_missing_or_stale_is_built(self):
+        with tempfile.TemporaryDirectory() as name:
+            folder = Path(name)
+            shutil.copy(LAUNCHER, folder)
+            shutil.copytree(TOP / "share", folder / "share")
+            source, tool = folder / "crates/low/src/lib.rt", folder / "tools/build_program"
+            out = folder / "crates/lrp_main/out"
+            for each in (source, tool):
+                each.parent.mkdir(parents=True)
+                each.touch()
+            tool.write_text(f"""#!/bin/sh
+echo built >&2
+mkdir -p {out}; rm -f {out}/building
+printf '#!/bin/sh\\necho ran\\n' >{out}/lrp_main; chmod +x {out}/lrp_main
+""")
+            tool.chmod(0o755)
+
+            def call() -> tuple[int, str, str]:
+                return tuple(shell("./fizhedul check db=a", folder, FIZHEDUL_PROGRAM=""))
+
+            self.assertEqual(call(), (0, "ran\n", "built\n"))
+            self.assertEqual(call(), (0, "ran\n", ""))
+            (out / "building").touch()
+            self.assertEqual(call(), (0, "ran\n", "built\n"))
+            later = (out / "lrp_main").stat().st_mtime + 5
+            os.utime(source, (later, later))
+            self.assertEqual(call(), (0, "ran\n", "built\n"))
+            tool.write_text("#!/bin/sh\necho 'fizhedul: there is no space' >&2\nexit 70\n")
+            self.assertEqual(call(), (70, "", "fizhedul: there is no space\n"))
 
     def test_a_program_that_is_not_there(self):
         for explain in ("never", "always"):
