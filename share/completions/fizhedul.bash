@@ -9,8 +9,22 @@ _fizhedul_keys() {
         list) keys='db query from to limit after form cap' ;;
         explain) keys='db query' ;;
         check) keys='db' ;;
+        shell) keys='db' ;;
+        draw) keys='db query from to format grid marks hour out cap' ;;
     esac
     echo "$keys"
+}
+
+# What may be imported or exported; behind that, files.
+_fizhedul_kinds_or_files() {
+    local kinds=csv
+    [ "$1" = export ] || kinds='gtfs ics csv'
+    if [ "$3" -eq 2 ]; then
+        mapfile -t COMPREPLY < <(compgen -W "$kinds" -- "$2")
+    else
+        compopt -o filenames 2>/dev/null
+        mapfile -t COMPREPLY < <(compgen -f -- "$2")
+    fi
 }
 
 # The values of a key that begin so: file names by their ending, folders, or words.
@@ -20,6 +34,8 @@ _fizhedul_values() {
         db) endings='lrp' ;;
         query) endings='lrq' ;;
         form) values='plain json' ;;
+        format) values='html svg png' ;;
+        grid) values='numbers dates' ;;
     esac
     if [ -n "$endings" ]; then
         compopt -o filenames 2>/dev/null
@@ -49,9 +65,11 @@ _fizhedul() {
     [[ $line == *[[:blank:]] ]] || { word=${words[-1]}; unset 'words[-1]'; }
     COMPREPLY=()
     if [ ${#words[@]} -le 1 ]; then
-        mapfile -t COMPREPLY < <(compgen -W 'ask decide list explain check help --version' -- "$word")
+        mapfile -t COMPREPLY < <(compgen -W 'check ask decide list explain shell draw import export help --version' -- "$word")
     elif [ "${words[1]}" = help ]; then
-        [ ${#words[@]} -gt 2 ] || mapfile -t COMPREPLY < <(compgen -W 'ask decide list explain check language refusals' -- "$word")
+        [ ${#words[@]} -gt 2 ] || mapfile -t COMPREPLY < <(compgen -W 'ask decide list explain check language refusals workbench' -- "$word")
+    elif [ "${words[1]}" = import ] || [ "${words[1]}" = export ]; then
+        _fizhedul_kinds_or_files "${words[1]}" "$word" ${#words[@]}
     elif [[ $word == *=* ]]; then
         _fizhedul_values "${word%%=*}" "${word#*=}"
         # Where bash cuts words at '=', only what stands behind it is completed.
