@@ -24,11 +24,11 @@ def display(lines: list[str]) -> list[str]:
 
 
 def page_of_help(text: str) -> list[str]:
-    """A help page without its first lines: paragraphs at the margin, displays where lines are indented."""
+    """A help page without its first lines: paragraphs, and displays where some lines are indented."""
     out: list[str] = []
     for part in re.split(r"\n\n+", text.strip("\n")):
         # Displays that follow one another are one.
-        if part.startswith(" "):
+        if part.startswith(" ") or "\n " in part:
             shown = display(part.split("\n"))
             if out and out[-1] == ".Ed":
                 out[-1:] = ["", *shown[1:]]
