@@ -185,6 +185,28 @@ class Explained(unittest.TestCase):
             done = support.shell(script, explain=explain)
             self.assertEqual(done.err, "")
 
+    def test_outputs_that_are_closed(self):
+        for explain in ("never", "always"):
+            for line, wanted in (("fizhedul check db=bus.lrp >&-", (7, "")), ("fizhedul lst >&-", (7, "")),
+                                 ("fizhedul lst 2>&-", (2, "refused: usage\n")), ("fizhedul lst <&-", (2, "refused: usage\n"))):
+                with self.subTest(line):
+                    done = support.shell(line, TOP / "examples/bus", explain)
+                    self.assertEqual((done.status, done.out), wanted)
+
+    def test_words_that_a_terminal_must_not_obey(self):
+        told = run("\x1b[31mred", explain="always")
+        self.assertEqual((told.status, told.out), (2, "refused: usage\n"))
+        self.assertNotIn("\x1b", told.err)
+
+    def test_a_pipe_and_a_folder(self):
+        with tempfile.TemporaryDirectory() as name:
+            os.mkfifo(Path(name, "pipe"))
+            told = support.shell("echo x >pipe & fizhedul check db=pipe", Path(name), "always")
+            self.assertEqual((told.status, told.out), (3, "refused: database Syntax at 1:1\n"))
+            self.assertIn(sentences_of("refused: database Syntax at L:C")[1], " ".join(told.err.split()))
+            told = run("check", "db=" + name, explain="always")
+            self.assertIn("Is a directory.", told.err)
+
     def test_details_of_the_files(self):
         folder = TOP / "examples/bus"
         told = run("decide", "db=bus.lrp", "query=misspelt.lrq", folder=folder, explain="always")

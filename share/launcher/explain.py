@@ -2,6 +2,7 @@
 
 import os
 import re
+import stat
 import subprocess
 import textwrap
 from collections.abc import Callable
@@ -82,10 +83,12 @@ def detail_of(program: str, files: dict[str, str], line: str, numbers: dict[str,
 
 
 def why_unread(file: str) -> str:
-    """Why a file can't be read."""
+    """Why a file can't be read; empty for what is no file or folder, since a pipe may keep its reader waiting."""
     try:
-        with open(file, "rb") as opened:
-            opened.read(1)
+        mode = os.stat(file).st_mode
+        if stat.S_ISREG(mode) or stat.S_ISDIR(mode):
+            with open(file, "rb") as opened:
+                opened.read(1)
     except (OSError, ValueError) as error:
         return f"{file}: {getattr(error, 'strerror', None) or error}."
     return ""

@@ -7,6 +7,7 @@ Standard output and the status are the program's own, byte for byte; all else go
 
 import contextlib
 import errno
+import fcntl
 import os
 import select
 import shutil
@@ -36,6 +37,8 @@ class Output(NamedTuple):
 
 def main(program: str, words: list[str]) -> int:
     """Runs the program on the words, and ends as it does."""
+    if not is_open():
+        os.execv(program, [program, *words])
     watched = sys.stderr.isatty() and os.environ.get("TERM", "dumb") != "dumb"
     try:
         child = start(program, words)
@@ -52,6 +55,14 @@ def main(program: str, words: list[str]) -> int:
         status = UNWRITTEN
     sys.stderr.write(explanation(program, words, status, output))
     return status
+
+
+def is_open() -> bool:
+    """Whether standard error takes anything. Where it is closed, its number may have become that of a file being read."""
+    try:
+        return fcntl.fcntl(2, fcntl.F_GETFL) & os.O_ACCMODE != os.O_RDONLY
+    except OSError:
+        return False
 
 
 def start(program: str, words: list[str]) -> subprocess.Popen[bytes]:
