@@ -47,7 +47,7 @@ def need(tool: str) -> str:
     """The path of a tool that is a nicety: a test that needs it is left out where it isn't installed."""
     found = shutil.which(tool)
     if found is None:
-        raise unittest.SkipTest(f"'{tool}' is not installed")
+        raise unittest.SkipTest(f"'{tool}' is not installed (apt-get install {tool})")
     return found
 
 

@@ -49,11 +49,13 @@ class LongWork(unittest.TestCase):
     def test_the_time_comes_then_a_hint_and_both_go_when_output_begins(self):
         status, out, shown = watch(self.program(SLOW), "decide", "db=a", "query=b")
         self.assertEqual((status, out), (0, b"one\ntwo\n"))
-        self.assertTrue(shown.startswith(CLEAR + "fizhedul: at work for 2 s" + CLEAR), shown[:80])
+        self.assertRegex(shown, f"^{re.escape(CLEAR)}fizhedul: at work for [23] s{re.escape(CLEAR)}")
         seconds = [int(found) for found in re.findall(r"at work for (\d+) s", shown)]
-        self.assertEqual(sorted(set(seconds)), list(range(2, 11)) + ([11] if 11 in seconds else []))
+        self.assertEqual(seconds, sorted(seconds))
+        self.assertGreater(len(set(seconds)), 5)
         hints = [int(found) for found in re.findall(r"for (\d+) s; 'fizhedul explain' shows the plan", shown)]
-        self.assertEqual(min(hints), 10)
+        self.assertEqual(hints, [second for second in seconds if second >= 10])
+        self.assertGreater(len(hints), 0)
         self.assertTrue(shown.endswith(CLEAR), shown[-80:])
 
     def test_a_quick_run_shows_nothing(self):

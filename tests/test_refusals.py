@@ -214,6 +214,8 @@ class Explained(unittest.TestCase):
         told = run("check", "db=tram.lrp", folder=folder, explain="always")
         self.assertIn("tram.lrp: No such file or directory.", told.err)
         folder = TOP / "examples/maintenance"
+        told = run("decide", "db=maintenance.lrp", "query=far.lrq", folder=folder, explain="always")
+        self.assertIn("The greatest numbers in both files are 4611686018427387904, 504, 336, 168.", " ".join(told.err.split()))
         told = run("decide", "db=maintenance.lrp", "query=unattended.lrq", "cap=5", folder=folder, explain="always")
         self.assertIn("'2 scan due(t, m) [period 1008, reach 1008]'", " ".join(told.err.split()))
 

@@ -15,6 +15,9 @@ from usage import find_fault
 
 RELATION = re.compile(r"\brelation\s+([A-Za-z_]\w*)\s*\(([^)]*)\)", re.ASCII)
 
+PERIOD = re.compile(r"\+\s*(\d+)\s*n\b", re.ASCII)
+NUMBER = re.compile(r"(?<![A-Za-z_0-9])(\d+)", re.ASCII)
+
 
 def explain(program: str, words: list[str], line: str, width: int) -> str:
     """The explanation of a refusal line that the program wrote for these words; empty where there is none."""
@@ -74,6 +77,8 @@ def detail_of(program: str, files: dict[str, str], line: str, numbers: dict[str,
         ("refused: query Arity", lambda: relations_of(files.get("db", ""))),
         ("refused: query Sort", lambda: relations_of(files.get("db", ""))),
         ("refused: query UnknownSort", lambda: sorts_of(files.get("db", ""))),
+        ("refused: period", lambda: numbers_of(files, "periods", PERIOD)),
+        ("refused: bound", lambda: numbers_of(files, "numbers", NUMBER)),
         ("refused: more than", lambda: step_of(program, files, numbers.get("step", ""))),
     ]
     for front, tell in details:
@@ -119,6 +124,14 @@ def sorts_of(file: str) -> str:
     sorts = [column.rpartition(":")[2].strip()
              for _, columns in RELATION.findall(text_of(file)) for column in columns.split(",") if ":" in column]
     return "Its sorts are " + ", ".join(dict.fromkeys(sorts)) + "." if sorts else ""
+
+
+def numbers_of(files: dict[str, str], what: str, pattern: re.Pattern[str]) -> str:
+    """The greatest of some numbers in both files."""
+    texts = (text_of(files.get(key, "")) for key in ("db", "query"))
+    found = {int(number) for text in texts for number in pattern.findall(text) if len(number) < 25}
+    greatest = [str(number) for number in sorted(found, reverse=True)[:4]]
+    return f"The greatest {what} in both files are " + ", ".join(greatest) + "." if len(greatest) > 1 else ""
 
 
 def text_of(file: str) -> str:
