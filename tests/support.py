@@ -43,10 +43,11 @@ def shell(line: str, folder: Path = TOP, explain: str = "never", **more: str) ->
     return Run(done.returncode, done.stdout.decode(), done.stderr.decode())
 
 
-def need(tool: str) -> str:
-    """The path of a tool that is a nicety: a test that needs it is left out where it isn't installed."""
+def need(tool: str, version: str = "") -> str:
+    """The path of a tool that is a nicety, of which `--version` says these words: a test is left out where it isn't."""
     found = shutil.which(tool)
-    if found is None:
+    if found is None or version not in subprocess.run([found, "--version"], capture_output=True, text=True, check=False,
+                                                      stdin=subprocess.DEVNULL).stdout:
         raise unittest.SkipTest(f"'{tool}' is not installed (apt-get install {tool})")
     return found
 

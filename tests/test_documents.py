@@ -90,7 +90,7 @@ class Scale(unittest.TestCase):
     """How work is spread."""
 
     def test_each_command_writes_what_is_shown(self):
-        need("parallel")
+        need("parallel", "GNU parallel")
         lines = [each for _, block in blocks_of(TOP / "docs/scale.md") for each in commands_of(block)]
         self.assertEqual(len(lines), 4)
         for line, wanted in lines:

@@ -144,7 +144,7 @@ class Editors(unittest.TestCase):
                 self.assertTrue(is_class.startswith(names[kind]), f"{path}:{line + 1}:{byte + 1}: {kind} is {is_class!r}")
 
     def test_vim(self):
-        vim = need("vim")
+        vim = need("vim", "+syntax")
         with tempfile.TemporaryDirectory() as name:
             faulty, dump = Path(name, "faulty.lrp"), Path(name, "dump.vim")
             listed, dumped = Path(name, "listed"), Path(name, "dumped")
@@ -159,7 +159,7 @@ class Editors(unittest.TestCase):
                 self.check_tokens(path, classes[path], VIM)
 
     def test_vim_goes_to_the_place_of_a_fault(self):
-        vim = need("vim")
+        vim = need("vim", "+syntax")
         with tempfile.TemporaryDirectory() as name:
             said = Path(name, "said")
             launcher = Path(name, "fizhedul")
