@@ -21,7 +21,7 @@ from explain import explain, explain_unwritten
 
 PATIENCE = 2
 HINT_AFTER = 10
-HINT = "'fizhedul explain' shows the plan; 'cap=' bounds the work"
+HINT = "'fizhedul explain' shows the plan, 'cap=' bounds the work"
 UNWRITTEN = 7
 NOT_RUN = 127
 REFUSED = (2, 3, 4, 5, 6, 8, 9)
@@ -89,11 +89,12 @@ def hand_on(child: subprocess.Popen[bytes], since: float | None) -> Output:
     """Hands on what the child writes; until it begins, shows the time gone since then, where that is given."""
     assert child.stdout is not None
     source = child.stdout.fileno()
-    shown = False
+    shown = 0
     while since is not None and not select.select([source], [], [], 0.1)[0]:
-        gone = time.monotonic() - since
-        if gone >= PATIENCE:
-            shown = show_time(gone)
+        gone = int(time.monotonic() - since)
+        if gone >= PATIENCE and gone != shown:
+            show_time(gone)
+            shown = gone
     if shown:
         clear()
     front = b""
@@ -116,14 +117,13 @@ def write_all(piece: bytes) -> int:
     return 0
 
 
-def show_time(gone: float) -> bool:
-    """Shows the time gone in one line of the terminal, which the next one replaces."""
-    text = f"fizhedul: at work for {int(gone)} s"
+def show_time(gone: int) -> None:
+    """Shows the seconds gone in one line of the terminal, which the next one replaces."""
+    text = f"fizhedul: {gone} s"
     if gone >= HINT_AFTER:
         text += "; " + HINT
     sys.stderr.write("\r\x1b[K" + text[:width_of_terminal() - 1])
     sys.stderr.flush()
-    return True
 
 
 def clear() -> None:
