@@ -118,7 +118,7 @@ class Links(unittest.TestCase):
     """What documents and pages name is there."""
 
     def test_named_files_are_there(self):
-        documents = [GUIDE, TOP / "docs/scale.md", TOP / "CONTRIBUTING.md", *TOP.glob("examples/*/README.md"), *TOP.glob("editors/*/README.md")]
+        documents = [GUIDE, TOP / "docs/scale.md", TOP / "examples/README.md", TOP / "CONTRIBUTING.md", *TOP.glob("examples/*/README.md"), *TOP.glob("editors/*/README.md")]
         for document in documents:
             for name in re.findall(r"`((?:docs|examples|tests|share|tools|packaging|editors|crates)/[\w./-]*)`",
                                    document.read_text()):

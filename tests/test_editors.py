@@ -180,6 +180,20 @@ class Editors(unittest.TestCase):
             for path in [*self.files, faulty]:
                 self.check_tokens(path, scopes_of(grammar, text_of(path)), CODE)
 
+    def test_the_engine_of_such_editors_reads_the_patterns_as_they_are_read_here(self):
+        # jq has Oniguruma in it, the engine by which these patterns are read in an editor.
+        jq = need("jq")
+        grammar = json.loads((TOP / "editors/vscode/syntaxes/fizhedul.tmLanguage.json").read_text())
+        inner = [each for pattern in grammar["patterns"] for group in pattern.get("captures", {}).values()
+                 for each in group["patterns"]]
+        lines = [line for path in self.files for line in text_of(path).split("\n") if len(line) < 500]
+        for pattern in (each["match"] for each in [*grammar["patterns"], *inner]):
+            program = '[.[] | [match($pattern; "g") | [.offset, .length]]]'
+            done = subprocess.run([jq, "-c", "--arg", "pattern", pattern, program], input=json.dumps(lines), text=True,
+                                  capture_output=True, check=False)
+            wanted = [[[match.start(), len(match.group())] for match in re.finditer(pattern, line)] for line in lines]
+            self.assertEqual(json.loads(done.stdout or "null"), wanted, pattern)
+
     def test_the_extension_names_what_is_there(self):
         folder = TOP / "editors/vscode"
         extension = json.loads((folder / "package.json").read_text())
