@@ -11,7 +11,7 @@ use Rattle.lrp_model.specs.Faults.{first}
 use Rattle.lrp_model.specs.declared.relations.Relation.{Relation}
 use Rattle.lrp_model.specs.declared.faults.DbFault.{DbFault}
 use Rattle.lrp_model.specs.declared.faults.DbKind.{DbKind}
-use Rattle.lrp_model.specs.declared.faults.DbKind.TheVariants.{Utf8, Syntax, Number, Period, TextTooLong, Name, Arity, Sort, Column, Wide}
+use Rattle.lrp_model.specs.declared.faults.DbKind.TheVariants.{Utf8, Syntax, Number, Period, TextTooLong, Name, Arity, Sort, Column, Wide, UnknownRelation}
 use Rattle.lrp_model.specs.declared.written.RawRelation.{RawRelation}
 use Rattle.lrp_model.specs.Databases.{database_text, FitsDatabase}
 use Rattle.lrp_model.specs.DatabaseMeaning.{database_of}
@@ -50,7 +50,7 @@ pub record HasDatabaseFault (bytes : List ℕ) (fault : DbFault) : Type 0 where
   pub text : IsDatabaseText bytes tree
   pub found : first stands (faults tree) ≡ Some fault
 
--- the one fault that is reported: of the bytes, else of the grammar, else of the tree
+-- the one fault that is reported: of the bytes, else of the grammar, else of the tree; no database names a relation that is not its own
 abbrev pub IsDatabaseFaultOf : List ℕ → DbKind → DbFault → Type 0
 IsDatabaseFaultOf bytes Utf8 f = IsNoUtf8 bytes f.place
 IsDatabaseFaultOf bytes Syntax f = IsNoDatabaseText bytes syntax f.place
@@ -62,6 +62,7 @@ IsDatabaseFaultOf bytes Arity f = HasDatabaseFault bytes f
 IsDatabaseFaultOf bytes Sort f = HasDatabaseFault bytes f
 IsDatabaseFaultOf bytes Column f = HasDatabaseFault bytes f
 IsDatabaseFaultOf bytes Wide f = HasDatabaseFault bytes f
+IsDatabaseFaultOf bytes UnknownRelation f = ⊥
 
 abbrev pub IsDatabaseFault : List ℕ → DbFault → Type 0
 IsDatabaseFault bytes f = IsDatabaseFaultOf bytes f.kind f

@@ -1,9 +1,9 @@
 -- Answers as lines, pages of them, and the tokens by which a page is followed.
 use Rattle.std.specs.Prelude.{◌≡◌, ◌+◌, ◌/◌, ◌%◌, ◌<◌, ◌≤◌, nat_lt, ℕ, ℤ, nat_abs, Bool, true, false, List, [], ◌∷◌, ◌++◌, flat_map, length, Option, Some, None, if◌then◌else◌, codes}
 use Rattle.std.specs.List.{AllByRecursion}
-use Rattle.std.specs.Str.{IsUtf8}
 use Rattle.std.specs.Fmt.{signed_decimal}
-use Rattle.lrp_model.specs.Texts.{Text, FitsText}
+use Rattle.lrp_model.specs.Texts.{Text}
+use Rattle.lrp_model.specs.DataTexts.{IsDataText}
 use Rattle.lrp_model.specs.Rows.{Datum, time, text, times_of, texts_of}
 use Rattle.lrp_model.specs.Pages.{Tuple, last_of}
 use Rattle.lrp_model.specs.Lexing.{limit}
@@ -61,11 +61,6 @@ pub record IsDigest (digest : List ℕ) : Type 0 where
 abbrev pub MayBeDigest : Option (List ℕ) → Type 0
 MayBeDigest None = Unit {0}
 MayBeDigest (Some digest) = IsDigest digest
-
--- the bytes are a data text within the limits
-pub record IsDataText (t : Text) : Type 0 where
-  pub utf8 : IsUtf8 t
-  pub fits : FitsText t
 
 -- the text is a token of these times and texts, and of the digest where there is one
 pub record IsToken (token : List ℕ) (digest : Option (List ℕ)) (times : List ℤ) (texts : List Text) : Type 0 where

@@ -3,6 +3,7 @@ ghost use Rattle.std.specs.Prelude.{◌≡◌};
 ghost use Rattle.lrp_model.specs.Kinds.{database_number, database_word, query_number, query_word};
 
 use crate::Place;
+use thiserror::Error;
 
 /// Why a text is no database. At one place the kind of the least number is reported.
 #[derive(Clone, Copy, Debug, PartialEq, Eq)]
@@ -17,10 +18,13 @@ pub enum DbKind {
     Column,
     Wide,
     TextTooLong,
+    /// A name in a file of edits that is no relation of the database.
+    UnknownRelation,
 }
 
 /// The fault of a text that is no database.
-#[derive(Clone, Copy, Debug, PartialEq, Eq)]
+#[derive(Clone, Copy, Debug, PartialEq, Eq, Error)]
+#[error("database {} at {}:{}", .kind.word(), .place.line, .place.column)]
 pub struct DbFault {
     pub kind: DbKind,
     pub place: Place,
@@ -45,16 +49,19 @@ pub enum QueryKind {
 }
 
 /// The fault of a text that is no query, or of a query that is not well-sorted.
-#[derive(Clone, Copy, Debug, PartialEq, Eq)]
+#[derive(Clone, Copy, Debug, PartialEq, Eq, Error)]
+#[error("query {} at {}:{}", .kind.word(), .place.line, .place.column)]
 pub struct QueryFault {
     pub kind: QueryKind,
     pub place: Place,
 }
 
 /// Why no query is read, or none is well-sorted: its one fault, or want of memory.
-#[derive(Clone, Copy, Debug, PartialEq, Eq)]
+#[derive(Clone, Copy, Debug, PartialEq, Eq, Error)]
 pub enum QueryRead {
+    #[error("{fault}")]
     Fault { fault: QueryFault },
+    #[error("memory")]
     Memory,
 }
 
@@ -74,6 +81,7 @@ impl DbKind {
             DbKind::Column => 8,
             DbKind::Wide => 9,
             DbKind::TextTooLong => 10,
+            DbKind::UnknownRelation => 11,
         }
     }
 
@@ -92,6 +100,7 @@ impl DbKind {
             DbKind::Column => "Column",
             DbKind::Wide => "Wide",
             DbKind::TextTooLong => "TextTooLong",
+            DbKind::UnknownRelation => "UnknownRelation",
         }
     }
 }

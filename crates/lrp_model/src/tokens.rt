@@ -1,6 +1,8 @@
 // Tokens of database and query texts, the places where they stand, and the faults that reading can meet.
 ghost use Rattle.std.specs.Prelude.{◌≡◌};
 
+use thiserror::Error;
+
 /// A line and a column, both from 1; the column counts bytes.
 #[derive(Clone, Copy, Debug, PartialEq, Eq)]
 pub struct Place {
@@ -73,20 +75,27 @@ pub enum LexKind {
 }
 
 /// A fault of a token, and where it stands.
-#[derive(Clone, Copy, Debug, PartialEq, Eq)]
+#[derive(Clone, Copy, Debug, PartialEq, Eq, Error)]
+#[error("{:?} at {}:{}", .kind, .place.line, .place.column)]
 pub struct LexFault {
     pub kind: LexKind,
     pub place: Place,
 }
 
 /// Why a text is refused while it is read from left to right, or want of memory.
-#[derive(Clone, Copy, Debug, PartialEq, Eq)]
+#[derive(Clone, Copy, Debug, PartialEq, Eq, Error)]
 pub enum Fault {
+    #[error("Syntax")]
     Syntax,
+    #[error("Number")]
     Number,
+    #[error("TextTooLong")]
     TextTooLong,
+    #[error("Period")]
     Period,
+    #[error("Deep")]
     Deep,
+    #[error("memory")]
     Memory,
 }
 

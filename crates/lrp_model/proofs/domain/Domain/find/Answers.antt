@@ -14,4 +14,4 @@ pub returns-in-Err : goal.returns-in-Err
 returns-in-Err c =
     let xs = c.as_slice.result.now in
     subst (λ ts. Contains ts c.args.text.now → ⊥) (let e : c.as_slice.result.now ≡ c.args.self.now = search rules in e)
-    (not_there xs c.args.text.now c.in-Err.field-0 (c.in-Err.ensures.position (searchable xs c.args.text.now (let a : Ascends c.as_slice.result.now = rw c.as_slice.ensures c.self.invariant.0 in a))))
+    (not_there xs c.args.text.now c.in-Err.field-0 (c.in-Err.ensures.position (searchable xs c.args.text.now (let a : Ascends c.as_slice.result.now = rw c.as_slice.ensures c.self.invariant.ascends in a))))
