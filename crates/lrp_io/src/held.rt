@@ -4,7 +4,8 @@ ghost use Rattle.lrp_io.specs.Causes.{plus_capped};
 ghost use Rattle.lrp_io.specs.Files.{content_of, name_at, bytes_at, holds_file};
 
 use crate::File;
-use lrp_model::List;
+use lrp_model::{Copies, List, Memory};
+use std::alloc::Global;
 
 /// Files, and a reader's place in one of them. Of two files of one name the first one is held.
 #[derive(Drop)]
@@ -61,6 +62,18 @@ impl HeldFiles {
         self.at += count;
         self.given = self.given.saturating_add(count as u64);
         count
+    }
+}
+
+impl Copies for HeldFiles {
+    fn copy(&self, alloc: Global) -> Result<Self, Memory> {
+        Ok(HeldFiles {
+            files: self.files.copy(alloc)?,
+            started: self.started,
+            file: self.file,
+            at: self.at,
+            given: self.given,
+        })
     }
 }
 

@@ -5,7 +5,8 @@ ghost use Rattle.lrp_io.specs.Held.{left_of};
 
 use crate::held::{HeldFiles, find_file};
 use crate::{Failed, File, Shelf};
-use lrp_model::List;
+use lrp_model::{Copies, List, Memory};
+use std::alloc::Global;
 
 /// A shelf in memory that never fails. A file that it doesn't hold is empty.
 ///
@@ -23,6 +24,14 @@ impl SureShelf {
         SureShelf {
             held: HeldFiles::new(files),
         }
+    }
+}
+
+impl Copies for SureShelf {
+    fn copy(&self, alloc: Global) -> Result<Self, Memory> {
+        Ok(SureShelf {
+            held: self.held.copy(alloc)?,
+        })
     }
 }
 

@@ -20,6 +20,7 @@ use Rattle.lrp_model.specs.Satisfaction.{HasShape, IsOfKind}
 use Rattle.lrp_model.specs.Sorts.{is_time}
 use Rattle.lrp_model.specs.Domains.{same_sort}
 use Rattle.lrp_model.specs.Texts.{Text, Ascends}
+use Rattle.lrp_model.specs.DataTexts.{IsDataText}
 use Rattle.lrp_model.specs.Tokens.{Takes, Spells, joined}
 use Rattle.lrp_model.specs.Tokens.Part.{any}
 use Rattle.lrp_model.specs.Tokens.Token.{end_token}
@@ -33,7 +34,7 @@ use Rattle.lrp_model.specs.declared.relations.Value.TheVariants.{Point, Const}
 use Rattle.lrp_model.specs.declared.tokens.Place.{Place}
 use Rattle.lrp_model.specs.declared.tuples.Cell.{Cell}
 use Rattle.lrp_model.specs.declared.written.RawRelation.{RawRelation}
-use Rattle.lrp_print.specs.Kept.{AreKept, AreValuesOf, IsBoundOf, IsKept, IsRowOf, IsText, times_in}
+use Rattle.lrp_print.specs.Kept.{AreKept, AreValuesOf, IsBoundOf, IsKept, IsRowOf, times_in}
 use Rattle.lrp_print.proofs.Faultless.{relations_fit, relations_sound}
 use Rattle.lrp_print.proofs.Meant.{reduced, reduced_row, reduced_value, relations_mean}
 use Rattle.lrp_print.proofs.PieceLaws.{trees, behind}
@@ -130,18 +131,18 @@ text_sort Time t h = absurd h
 text_sort Data t h = refl
 text_sort (Named name) t h = refl
 
-values_kept : (k : ℕ) (cs : List Column) (tuple : List Datum) → 0 < k → k ≤ limit → HasShape cs tuple → AllByRecursion IsText (texts_of tuple) → AreValuesOf cs (map (value_of (pos k)) tuple)
+values_kept : (k : ℕ) (cs : List Column) (tuple : List Datum) → 0 < k → k ≤ limit → HasShape cs tuple → AllByRecursion IsDataText (texts_of tuple) → AreValuesOf cs (map (value_of (pos k)) tuple)
 values_kept k [] [] some few s h = tt
 values_kept k [] (d ∷ tuple) some few s h = absurd s
 values_kept k (c ∷ cs) [] some few s h = absurd s
 values_kept k (c ∷ cs) (time x ∷ tuple) some few s h = ((time_sort c.sort x s.0, omega (arith, ints), omega (arith, ints)), values_kept k cs tuple some few s.1 h)
 values_kept k (c ∷ cs) (text t ∷ tuple) some few s h = ((text_sort c.sort t s.0, h.0), values_kept k cs tuple some few s.1 h.1)
 
-texts_kept : (domain : List Text) (ns : List ℕ) (ts : List Text) → AreTexts domain ns ts → AllByRecursion IsText domain → AllByRecursion IsText ts
+texts_kept : (domain : List Text) (ns : List ℕ) (ts : List Text) → AreTexts domain ns ts → AllByRecursion IsDataText domain → AllByRecursion IsDataText ts
 texts_kept domain [] [] h all = tt
 texts_kept domain [] (t ∷ ts) h all = absurd h
 texts_kept domain (n ∷ ns) [] h all = absurd h
-texts_kept domain (n ∷ ns) (t ∷ ts) h all = (in_all IsText domain all t (Contains-from_get domain n t h.0), texts_kept domain ns ts h.1 all)
+texts_kept domain (n ∷ ns) (t ∷ ts) h all = (in_all IsDataText domain all t (Contains-from_get domain n t h.0), texts_kept domain ns ts h.1 all)
 
 -- time columns by their count
 times_same : (cs : List Column) → times_in cs ≡ time_columns cs
@@ -152,7 +153,7 @@ times_same (c ∷ cs) = times_cons c cs ∙ by (is_time c.sort) (times_same cs)
     by true e = omega (arith, e)
     by false e = omega (arith, e)
 
-module _ (a : Answer) (store : IsStore a.store) (ascends : Ascends a.domain) (room : HasRoom a.store) (texts : AllByRecursion IsText a.domain) where
+module _ (a : Answer) (store : IsStore a.store) (ascends : Ascends a.domain) (room : HasRoom a.store) (texts : AllByRecursion IsDataText a.domain) where
   row_kept : (cell : Cell) (table : List (Option ℤ)) (held : Contains (tables_at a.store cell) table) → IsRowOf a.head.columns (row_of a.head.columns a.domain a.store cell table)
   row_kept cell table held =
       let z = zone a store ascends cell table held in
@@ -162,7 +163,7 @@ module _ (a : Answer) (store : IsStore a.store) (ascends : Ascends a.domain) (ro
       let space = room.each cell table held in
       record {
         values = values_kept a.store.period a.head.columns (first a store ascends cell table held) store.period_low store.period_high h.shape
-            (subst (AllByRecursion IsText) (sym h.texts) (texts_kept a.domain (take a.store.shape.texts cell.texts) _ (cell_texts (window_of a (pos 0) (pos 0)) (known a store ascends cell table held) cell table held) texts));
+            (subst (AllByRecursion IsDataText) (sym h.texts) (texts_kept a.domain (take a.store.shape.texts cell.texts) _ (cell_texts (window_of a (pos 0) (pos 0)) (known a store ascends cell table held) cell table held) texts));
         bounds = all_in (IsBoundOf (times_in a.head.columns)) (closed_bounds z) (λ b m.
             let l = from_bounds (columns_of z + 1) (closed_at z is) b m in
             let small : AtMost (2 ^ 62) (Some b.most) = subst (λ e. AtMost (2 ^ 62) e) l.most (closed_small z is space.0 space.1 b.left b.right (less l.left) (less l.right) l.apart) in

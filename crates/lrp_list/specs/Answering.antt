@@ -6,9 +6,10 @@ use Rattle.lrp_model.specs.Periods.{period}
 use Rattle.lrp_model.specs.Rows.{Datum}
 use Rattle.lrp_model.specs.Satisfaction.{IsAnswer}
 use Rattle.lrp_model.specs.Texts.{Ascends}
+use Rattle.lrp_model.specs.DataTexts.{IsDataText}
 use Rattle.lrp_model.specs.declared.relations.Relation.{Relation}
 use Rattle.lrp_model.specs.declared.tuples.Cell.{Cell}
-use Rattle.lrp_print.specs.Kept.{IsKept, IsText}
+use Rattle.lrp_print.specs.Kept.{IsKept}
 use Rattle.lrp_zone.specs.Zones.{ZoneView}
 use Rattle.lrp_store.specs.Least.{HasRoom}
 use Rattle.lrp_store.specs.Settled.{AreSettled}
@@ -25,5 +26,5 @@ pub record IsSettledAnswer (db : List Relation) (q : Question) (a : Answer) : Ty
   pub answers : (tuple : List Datum) → InAnswer a.head.columns a.domain a.store tuple ↔ IsAnswer db q tuple
   pub settled : (cell : Cell) (z : ZoneView) → Contains (zones_at a.store cell) z → AreSettled z (zones_at a.store cell)
   pub room : HasRoom a.store
-  pub texts : AllByRecursion IsText a.domain
+  pub texts : AllByRecursion IsDataText a.domain
   pub columns : IsKept (record { name = codes "answer"; columns = q.head; rows = [] })

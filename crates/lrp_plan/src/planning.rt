@@ -33,15 +33,19 @@ use lrp_core::{Core, core_form, query_texts, variable_tree};
 use lrp_model::{Copies, DataText, Domain, LIMIT, List, Memory, Plan, Query, Sort};
 use lrp_rel::Database;
 use std::alloc::Global;
+use thiserror::Error;
 
 /// Why there is no plan. [`PlanFault::Memory`] says nothing of the query.
-#[derive(Clone, Copy, Debug, PartialEq, Eq)]
+#[derive(Clone, Copy, Debug, PartialEq, Eq, Error)]
 pub enum PlanFault {
     /// The query's period is above 2^62.
+    #[error("period above {LIMIT}")]
     PeriodLimit,
     /// The period is not, but the query's reach is, doubled once and once more for each time column of the head.
+    #[error("bound above {LIMIT}")]
     BoundLimit,
     /// There was no memory.
+    #[error("memory")]
     Memory,
 }
 

@@ -17,7 +17,7 @@ use Rattle.lrp_model.specs.Tokens.Part.{at, any}
 use Rattle.lrp_model.specs.Databases.{comma, integer_text}
 use Rattle.lrp_model.specs.Lexing.{limit, is_letter, is_digit, is_name_byte, run, value_from, word_or_name, scan, symbol_from, after}
 use Rattle.lrp_model.specs.Printed.{joined_by, quoted, escaped}
-use Rattle.lrp_print.specs.Kept.{IsName}
+use Rattle.lrp_model.specs.Names.{IsName}
 use Rattle.lrp_print.proofs.Spelling.{Spelled, Begins, took, nothing, both, token_at, token_any, blank}
 use Rattle.lrp_print.proofs.Scanned.{Stops, IsPlain, word_scanned, letter_begins, name_word, decimal_number, digit_begins, number_scanned, text_scanned_so}
 

@@ -31,6 +31,7 @@ use Rattle.lrp_model.specs.declared.written.RawBound.{RawBound}
 use Rattle.lrp_model.specs.declared.written.RawRow.{RawRow}
 use Rattle.lrp_model.specs.declared.written.RawRelation.{RawRelation}
 use Rattle.lrp_model.specs.Texts.{Identifier}
+use Rattle.lrp_model.specs.DataTexts.{IsDataText}
 use Rattle.lrp_model.specs.Sorts.{is_time}
 use Rattle.lrp_model.specs.Tokens.{from, located_text, joined}
 use Rattle.lrp_model.specs.Tokens.Token.{word_token, number_token, symbol_token}
@@ -39,7 +40,8 @@ use Rattle.lrp_model.specs.Columns.{column_text, sort_token}
 use Rattle.lrp_model.specs.Databases.{value_text, side_text, bound_text, bounds_text, row_text, relation_text}
 use Rattle.lrp_model.specs.Lexing.{limit, is_letter, is_digit, is_name_byte, after}
 use Rattle.lrp_model.specs.Printed.{joined_by, value_bytes, column_bytes, sort_bytes, time_name, offset_bytes, bound_bytes, bounds_bytes, row_line, relation_bytes}
-use Rattle.lrp_print.specs.Kept.{IsName, IsNamedSort, IsText, AreValuesOf, IsBoundOf, IsRowOf, IsKept, times_in}
+use Rattle.lrp_model.specs.Names.{IsName, IsNamedSort, AreNamed}
+use Rattle.lrp_print.specs.Kept.{AreValuesOf, IsBoundOf, IsRowOf, IsKept, times_in}
 use Rattle.lrp_print.proofs.Spelling.{Spelled, nothing, both}
 use Rattle.lrp_print.proofs.Scanned.{Stops, IsPlain}
 use Rattle.lrp_print.proofs.PieceLaws.{space, feed, open_at, open_any, close, open_brace, close_brace, colon, semicolon, plus, minus, at_most, at_least, relation_word, where_word, letter_word, time_at, data_at, name_at, number_any, written, IsShort, short, integer_any, integer_at, text_at, trees, behind_comma, behind, separated_spelled, joined_spelled}
@@ -58,7 +60,7 @@ value_at p v = record { place = p; item = value_tree v }
 -- a point whose period is from 1 to 2 ^ 62, or a data text
 abbrev pub IsReadable : Value → Type 0
 IsReadable (Point p) = (pos 1 ≤ℤ p.period) × (p.period ≤ℤ pos limit)
-IsReadable (Const t) = IsText t
+IsReadable (Const t) = IsDataText t
 
 -- bytes of a text are plain
 plain_bytes : (t : List ℕ) → EachIndex t (λ i. (32 ≤ slice_index t i) × (slice_index t i ≡ 127 → ⊥)) → AllByRecursion IsPlain t
@@ -173,7 +175,7 @@ pub times_cons : (c : Column) (cs : List Column) → times_in (c ∷ cs) ≡ (if
 times_cons c cs = sum_by-cons (λ x. if is_time x.sort then 1 else 0) c cs
 
 -- a time column of a number has a name
-time_named : (cs : List Column) (i : ℕ) → AllByRecursion (λ c. IsName c.name × IsNamedSort c.sort) cs → 0 < i → i ≤ times_in cs → IsName (time_name cs i)
+time_named : (cs : List Column) (i : ℕ) → AreNamed cs → 0 < i → i ≤ times_in cs → IsName (time_name cs i)
 time_named [] i h some le = absurd (omega arith)
 time_named (c ∷ cs) i h some le = by (is_time c.sort) (i == 1) refl refl (λ k more_than few. time_named cs k h.1 more_than few)
   where
@@ -194,7 +196,7 @@ time_named (c ∷ cs) i h some le = by (is_time c.sort) (i == 1) refl refl (λ k
         again i some (omega (arith, size, le))
 
 -- a bound
-bound_spelled : (cs : List Column) → AllByRecursion (λ c. IsName c.name × IsNamedSort c.sort) cs → (b : Bound) (p : Place) (rest : List ℕ) → IsBoundOf (times_in cs) b → Stops is_name_byte rest → Spelled (bound_text (bound_tree cs p b)) p (bound_bytes cs b) rest
+bound_spelled : (cs : List Column) → AreNamed cs → (b : Bound) (p : Place) (rest : List ℕ) → IsBoundOf (times_in cs) b → Stops is_name_byte rest → Spelled (bound_text (bound_tree cs p b)) p (bound_bytes cs b) rest
 bound_spelled cs names b p rest h s = by (b.left == 0) (b.right == 0) refl refl
   where
     low : IsShort (neg_ℤ b.most)
@@ -249,7 +251,7 @@ abbrev pub row_at : List Column → Place → Row → Located RawRow
 row_at cs p r = record { place = after (after p (32 ∷ [])) (32 ∷ []); item = row_tree cs p r }
 
 -- the bounds behind `where`
-bounds_spelled : (cs : List Column) → AllByRecursion (λ c. IsName c.name × IsNamedSort c.sort) cs → (bs : List Bound) (p : Place) (rest : List ℕ) → AllByRecursion (IsBoundOf (times_in cs)) bs → Stops is_name_byte rest
+bounds_spelled : (cs : List Column) → AreNamed cs → (bs : List Bound) (p : Place) (rest : List ℕ) → AllByRecursion (IsBoundOf (times_in cs)) bs → Stops is_name_byte rest
     → Spelled (bounds_text (bound_trees cs (after p (codes " where ")) bs)) p (bounds_bytes cs bs) rest
 bounds_spelled cs names [] p rest h s = nothing p rest
 bounds_spelled cs names (b ∷ bs) p rest h s =
@@ -267,7 +269,7 @@ values_readable (c ∷ cs) (Point p ∷ vs) h = ((h.0.1, h.0.2), values_readable
 values_readable (c ∷ cs) (Const t ∷ vs) h = (h.0.1, values_readable cs vs h.1)
 
 -- a row on its line
-row_spelled : (cs : List Column) → AllByRecursion (λ c. IsName c.name × IsNamedSort c.sort) cs → (r : Row) (p : Place) (rest : List ℕ) → IsRowOf cs r → Spelled (located_text row_text (row_at cs p r)) p (row_line cs r) rest
+row_spelled : (cs : List Column) → AreNamed cs → (r : Row) (p : Place) (rest : List ℕ) → IsRowOf cs r → Spelled (located_text row_text (row_at cs p r)) p (row_line cs r) rest
 row_spelled cs names r p rest h =
     let values = joined_by (codes ", ") value_bytes r.values in
     let bounds = bounds_bytes cs r.bounds in

@@ -25,7 +25,8 @@ use Rattle.lrp_model.specs.Texts.{Identifier}
 use Rattle.lrp_model.specs.Sorts.{is_time}
 use Rattle.lrp_model.specs.Lexing.{is_name_byte, run}
 use Rattle.lrp_model.specs.Printed.{joined_by, escaped, quoted, value_bytes, sort_bytes, column_bytes, time_name, offset_bytes, bound_bytes, bounds_bytes, row_line, relation_bytes}
-use Rattle.lrp_print.specs.Kept.{IsName, IsNamedSort, IsBoundOf, IsRowOf, IsKept, times_in}
+use Rattle.lrp_model.specs.Names.{IsName, IsNamedSort, AreNamed}
+use Rattle.lrp_print.specs.Kept.{IsBoundOf, IsRowOf, IsKept, times_in}
 use Rattle.lrp_print.proofs.Scanned.{name_word}
 use Rattle.lrp_print.proofs.PieceLaws.{IsShort, short}
 use Rattle.lrp_print.proofs.Trees.{IsReadable, values_readable}
@@ -76,7 +77,7 @@ name_utf8 n h =
     IsUtf8-from_ascii n (ascii_each n (subst (λ x. AllByRecursion (λ b. b < 128) x) (sym w.is) (run_ascii (w.first ∷ w.others) w.whole)))
 
 -- the name of a time column, if there is one
-time_name_utf8 : (cs : List Column) (i : ℕ) → AllByRecursion (λ c. IsName c.name × IsNamedSort c.sort) cs → IsUtf8 (time_name cs i)
+time_name_utf8 : (cs : List Column) (i : ℕ) → AreNamed cs → IsUtf8 (time_name cs i)
 time_name_utf8 [] i h = IsUtf8-nil
 time_name_utf8 (c ∷ cs) i h = by (is_time c.sort) (i == 1) (λ k. time_name_utf8 cs k h.1)
   where
@@ -169,7 +170,7 @@ offset_utf8 (pos (suc a)) h = IsUtf8-append (codes " + ") (decimal (suc a)) (pla
 offset_utf8 (negsuc a) h = IsUtf8-append (codes " - ") (decimal (suc a)) (plain_utf8 (codes " - ") refl) (IsUtf8-from_ascii (decimal (suc a)) (IsAscii-decimal (suc a) (omega (arith, h))))
 
 -- a bound
-bound_utf8 : (cs : List Column) → AllByRecursion (λ c. IsName c.name × IsNamedSort c.sort) cs → (b : Bound) → IsBoundOf (times_in cs) b → IsUtf8 (bound_bytes cs b)
+bound_utf8 : (cs : List Column) → AreNamed cs → (b : Bound) → IsBoundOf (times_in cs) b → IsUtf8 (bound_bytes cs b)
 bound_utf8 cs names b h = by (b.left == 0) (b.right == 0)
   where
     low : IsShort (neg_ℤ b.most)
@@ -192,13 +193,13 @@ bound_utf8 cs names b h = by (b.left == 0) (b.right == 0)
         (IsUtf8-append (codes " <= ") (time_name cs b.right ++ offset_bytes b.most) most (IsUtf8-append (time_name cs b.right) (offset_bytes b.most) (time_name_utf8 cs b.right names) (offset_utf8 b.most high)))
 
 -- the bounds of a row
-bounds_utf8 : (cs : List Column) → AllByRecursion (λ c. IsName c.name × IsNamedSort c.sort) cs → (bs : List Bound) → AllByRecursion (IsBoundOf (times_in cs)) bs → IsUtf8 (bounds_bytes cs bs)
+bounds_utf8 : (cs : List Column) → AreNamed cs → (bs : List Bound) → AllByRecursion (IsBoundOf (times_in cs)) bs → IsUtf8 (bounds_bytes cs bs)
 bounds_utf8 cs names [] h = IsUtf8-nil
 bounds_utf8 cs names (b ∷ bs) h =
     IsUtf8-append (codes " where ") (joined_by (codes ", ") (bound_bytes cs) (b ∷ bs)) (plain_utf8 (codes " where ") refl) (joined_utf8 (bound_bytes cs) (IsBoundOf (times_in cs)) (bound_utf8 cs names) (b ∷ bs) h)
 
 -- a row
-row_utf8 : (cs : List Column) → AllByRecursion (λ c. IsName c.name × IsNamedSort c.sort) cs → (r : Row) → IsRowOf cs r → IsUtf8 (row_line cs r)
+row_utf8 : (cs : List Column) → AreNamed cs → (r : Row) → IsRowOf cs r → IsUtf8 (row_line cs r)
 row_utf8 cs names r h =
     IsUtf8-append (codes "  (") _ (plain_utf8 (codes "  (") refl)
     (IsUtf8-append (joined_by (codes ", ") value_bytes r.values) _ (joined_utf8 value_bytes IsReadable value_utf8 r.values (values_readable cs r.values h.values))

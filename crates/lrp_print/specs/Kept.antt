@@ -1,13 +1,11 @@
 -- What a database keeps of its relations.
 use Rattle.std.specs.Prelude.{◌≡◌, ◌≢◌, ◌≤◌, ◌<◌, ◌+◌, ◌≤ℤ◌, ℕ, pos, neg_ℤ, true, false, List, [], ◌∷◌, map, count_by}
 use Rattle.std.specs.List.{AllByRecursion}
-use Rattle.std.specs.Str.{IsUtf8}
-use Rattle.lrp_model.specs.Texts.{Identifier, Text, FitsText}
+use Rattle.lrp_model.specs.Texts.{Identifier}
+use Rattle.lrp_model.specs.DataTexts.{IsDataText}
 use Rattle.lrp_model.specs.Sorts.{is_time, is_data}
-use Rattle.lrp_model.specs.Lexing.{limit, scan}
-use Rattle.lrp_model.specs.Tokens.Token.{name_token}
-use Rattle.lrp_model.specs.declared.relations.Sort.{Sort}
-use Rattle.lrp_model.specs.declared.relations.Sort.TheVariants.{Time, Data, Named}
+use Rattle.lrp_model.specs.Names.{IsName, AreNamed}
+use Rattle.lrp_model.specs.Lexing.{limit}
 use Rattle.lrp_model.specs.declared.relations.Column.{Column}
 use Rattle.lrp_model.specs.declared.relations.Bound.{Bound}
 use Rattle.lrp_model.specs.declared.relations.Value.{Value}
@@ -15,30 +13,15 @@ use Rattle.lrp_model.specs.declared.relations.Value.TheVariants.{Point, Const}
 use Rattle.lrp_model.specs.declared.relations.Row.{Row}
 use Rattle.lrp_model.specs.declared.relations.Relation.{Relation}
 
--- the bytes are the token of a name
-abbrev pub IsName : Identifier → Type 0
-IsName n = scan n ≡ record { token = name_token n; taken = n; left = [] }
-
--- the name of a sort, if it has one of its own, is a name
-abbrev pub IsNamedSort : Sort → Type 0
-IsNamedSort Time = Unit {0}
-IsNamedSort Data = Unit {0}
-IsNamedSort (Named n) = IsName n
-
 -- no two of the names are one
 abbrev pub Differ : List Identifier → Type 0
 Differ [] = Unit {0}
 Differ (n ∷ ns) = AllByRecursion (λ m. n ≢ m) ns × Differ ns
 
--- the bytes are a data text: UTF-8 of at most 255 bytes, with no control character
-pub record IsText (t : Text) : Type 0 where
-  pub fits : FitsText t
-  pub utf8 : IsUtf8 t
-
 -- a value of the column's sort; the period of a point is from 1 to 2 ^ 62
 abbrev pub IsValueOf : Column → Value → Type 0
 IsValueOf c (Point p) = (is_time c.sort ≡ true) × (pos 1 ≤ℤ p.period) × (p.period ≤ℤ pos limit)
-IsValueOf c (Const t) = (is_time c.sort ≡ false) × IsText t
+IsValueOf c (Const t) = (is_time c.sort ≡ false) × IsDataText t
 
 -- a point of a period of at least 1, or a text
 abbrev pub HasPeriod : Value → Type 0
@@ -80,7 +63,7 @@ pub record IsRowOf (columns : List Column) (row : Row) : Type 0 where
 -- what is kept of each relation
 pub record IsKept (r : Relation) : Type 0 where
   pub name : IsName r.name
-  pub columns : AllByRecursion (λ c. IsName c.name × IsNamedSort c.sort) r.columns
+  pub columns : AreNamed r.columns
   pub differ : Differ (map (λ c. c.name) r.columns)
   pub times : times_in r.columns ≤ 8
   pub texts : texts_in r.columns ≤ 8

@@ -25,10 +25,10 @@ use Rattle.lrp_model.specs.declared.written.RawBound.{RawBound}
 use Rattle.lrp_model.specs.declared.written.RawRow.{RawRow}
 use Rattle.lrp_model.specs.declared.written.RawRelation.{RawRelation}
 use Rattle.lrp_model.specs.declared.faults.DbKind.TheVariants.{Name, Arity, Sort, Column as column_kind}
-use Rattle.lrp_print.specs.Kept.{IsName, IsNamedSort, IsValueOf, AreValuesOf, IsBoundOf, IsRowOf, IsKept, AreKept, Differ, times_in}
+use Rattle.lrp_print.specs.Kept.{IsValueOf, AreValuesOf, IsBoundOf, IsRowOf, IsKept, AreKept, Differ, times_in}
 use Rattle.lrp_rel.specs.Times.{points_in, point_count, HasMeaning}
 use Rattle.lrp_rel.proofs.FaultWalks.{bound_faults}
-use Rattle.lrp_rel.proofs.NameLemmas.{IsNamedColumn, IsNamedRelation}
+use Rattle.lrp_rel.proofs.NameLemmas.{IsNamedRelation}
 use Rattle.lrp_rel.proofs.TreeTexts.{HasText, RowHasTexts, HasTexts}
 use Rattle.lrp_rel.proofs.SoundLemmas.{first_empty, second_empty, no_fault_if, each_empty, differ, columns_differ, columns_few, rows_sound, row_many, row_suits, points_many, times_more, turned_false}
 
@@ -156,11 +156,6 @@ rows_kept : (cs : List RawColumn) (rows : List (Located RawRow)) → AllByRecurs
 rows_kept cs [] e fits texts = tt
 rows_kept cs (row ∷ rows) e fits texts = (row_kept cs row e.0 fits.0 texts.0, rows_kept cs rows e.1 fits.1 texts.1)
 
--- columns whose names are names
-columns_kept : (cs : List RawColumn) → AllByRecursion IsNamedColumn cs → AllByRecursion (λ c. IsName c.name × IsNamedSort c.sort) (map column_of cs)
-columns_kept [] h = tt
-columns_kept (c ∷ cs) h = (h.0, columns_kept cs h.1)
-
 -- the names of columns, without the places
 plain_names : (cs : List RawColumn) → map (λ c. c.name) cs ≡ map (λ c. c.name) (map column_of cs)
 plain_names [] = refl
@@ -172,7 +167,7 @@ relation_kept r h named texts =
     let few = columns_few r h.sound in
     record {
       name = named.name;
-      columns = columns_kept r.columns named.columns;
+      columns = named.columns;
       differ = subst Differ (plain_names r.columns) (columns_differ r h.sound);
       times = few.0;
       texts = few.1;

@@ -1,199 +1,23 @@
 -- The names in a text's tree are names.
-use Rattle.std.proofs.Common.{◌≡◌, ℕ, zero, suc, Bool, true, false, ◌||◌, ◌==◌, if◌then◌else◌, List, [], ◌∷◌, ◌++◌, length, refl, sym, ap, subst, ◌∙◌, codes, Result, Ok, Err}
+use Rattle.std.proofs.Common.{ℕ, List, [], ◌∷◌, ◌++◌, map}
 use Rattle.std.specs.List.{AllByRecursion}
-use Rattle.std.specs.Str.{bytes_eq}
-use Rattle.lrp_model.specs.declared.tokens.Place.{Place}
-use Rattle.lrp_model.specs.declared.tokens.Symbol.{Symbol}
-use Rattle.lrp_model.specs.declared.tokens.Symbol.TheVariants.{Open, Close, OpenBrace, CloseBrace, Comma, Colon, Semicolon, Bar, Plus, Minus, Le, Ge, Lt, Gt, Equals}
+use Rattle.lrp_model.specs.declared.tokens.Symbol.TheVariants.{Open, Close, OpenBrace, CloseBrace}
 use Rattle.lrp_model.specs.declared.tokens.Word.TheVariants.{Relation}
-use Rattle.lrp_model.specs.declared.relations.Sort.{Sort}
-use Rattle.lrp_model.specs.declared.relations.Sort.TheVariants.{Time, Data, Named}
-use Rattle.lrp_model.specs.declared.raw.RawColumn.{RawColumn}
 use Rattle.lrp_model.specs.declared.written.RawRelation.{RawRelation}
-use Rattle.lrp_model.specs.Tokens.{Token, Tokens, Part, Takes, Spells, joined, separated, located_text}
-use Rattle.lrp_model.specs.Tokens.Token.{name_token, word_token, number_token, text_token, symbol_token, end_token, bad_token, hole_token}
-use Rattle.lrp_model.specs.Tokens.Part.{at, any}
-use Rattle.lrp_model.specs.Lexing.{Scanned, Text as TextRead, scan, run, behind_run, is_letter, is_digit, is_name_byte, value_from, word_or_name, one, one_or_two, symbol_from, text_from, text_scanned, skip, after, headed, tokens_from, tokens, start}
-use Rattle.lrp_model.specs.Columns.{column_text, sort_token}
+use Rattle.lrp_model.specs.Tokens.{Spells, joined, separated, located_text}
+use Rattle.lrp_model.specs.Tokens.Token.{word_token, symbol_token, end_token}
+use Rattle.lrp_model.specs.Tokens.Part.{any}
+use Rattle.lrp_model.specs.Lexing.{tokens}
+use Rattle.lrp_model.specs.Columns.{column_text}
 use Rattle.lrp_model.specs.Databases.{comma, name_part, row_text, relation_text, database_text}
-use Rattle.lrp_text.proofs.Scans.{chosen}
-use Rattle.lrp_print.specs.Kept.{IsName, IsNamedSort}
-
--- a run of a run is the run, and nothing is behind it
-run_again : (test : ℕ → Bool) (bs : List ℕ) → (run test (run test bs) ≡ run test bs) × (behind_run test (run test bs) ≡ [])
-unfolding run behind_run
-run_again test [] = (refl, refl)
-run_again test (b ∷ bs) = by (test b) refl (run_again test bs)
-  where
-    by : (c : Bool) → test b ≡ c → (run test (run test bs) ≡ run test bs) × (behind_run test (run test bs) ≡ [])
-        → (run test (if c then b ∷ run test bs else []) ≡ (if c then b ∷ run test bs else [])) × (behind_run test (if c then b ∷ run test bs else []) ≡ [])
-    by true e h = (ap (λ c. if c then b ∷ run test (run test bs) else []) e ∙ ap (λ l. b ∷ l) h.0, ap (λ c. if c then behind_run test (run test bs) else b ∷ run test bs) e ∙ h.1)
-    by false e h = (refl, refl)
-
--- the bytes that a scan of a name takes
-abbrev word_scanned : List ℕ → Scanned
-word_scanned r = record { token = word_or_name r; taken = r; left = [] }
-
--- a run of a name's bytes that begins with a letter is taken whole
-scan_word : (b : ℕ) (r : List ℕ) → is_letter b ≡ true → run is_name_byte r ≡ r → behind_run is_name_byte r ≡ [] → scan (b ∷ r) ≡ word_scanned (b ∷ r)
-unfolding scan run behind_run
-scan_word b r e whole none =
-    let letter : is_name_byte b ≡ true = ap (λ c. c || is_digit b) e in
-    let one_run : (if is_name_byte b then b ∷ run is_name_byte r else []) ≡ b ∷ r = ap (λ c. if c then b ∷ run is_name_byte r else []) letter ∙ ap (λ l. b ∷ l) whole in
-    let left : (if is_name_byte b then behind_run is_name_byte r else b ∷ r) ≡ [] = ap (λ c. if c then behind_run is_name_byte r else b ∷ r) letter ∙ none in
-    ap (λ c. if c then scanned_word (if is_name_byte b then b ∷ run is_name_byte r else []) (if is_name_byte b then behind_run is_name_byte r else b ∷ r) else
-    (if is_digit b then record { token = number_token (value_from 0 (run is_digit (b ∷ r))); taken = run is_digit (b ∷ r); left = behind_run is_digit (b ∷ r) } else
-    (if b == 34 then text_scanned (text_from false r) else symbol_from b r))) e
-    ∙ ap (λ l. scanned_word l (if is_name_byte b then behind_run is_name_byte r else b ∷ r)) one_run ∙ ap (scanned_word (b ∷ r)) left
-  where
-    scanned_word : List ℕ → List ℕ → Scanned
-    scanned_word w l = record { token = word_or_name w; taken = w; left = l }
-
--- a word that is a name is itself that name
-word_is : (r n : List ℕ) → word_or_name r ≡ name_token n → r ≡ n
-unfolding word_or_name
-word_is r n =
-    let P : Token → Type 0 = λ w. w ≡ name_token n → r ≡ n in
-    chosen P (bytes_eq r (codes "relation")) _ _ (λ e d. absurd cc) (λ e. chosen P (bytes_eq r (codes "where")) _ _ (λ e d. absurd cc) (λ e. chosen P (bytes_eq r (codes "time")) _ _ (λ e d. absurd cc) (λ e.
-    chosen P (bytes_eq r (codes "data")) _ _ (λ e d. absurd cc) (λ e. chosen P (bytes_eq r (codes "n")) _ _ (λ e d. absurd cc) (λ e. chosen P (bytes_eq r (codes "exists")) _ _ (λ e d. absurd cc) (λ e.
-    chosen P (bytes_eq r (codes "forall")) _ _ (λ e d. absurd cc) (λ e. chosen P (bytes_eq r (codes "not")) _ _ (λ e d. absurd cc) (λ e. chosen P (bytes_eq r (codes "and")) _ _ (λ e d. absurd cc) (λ e.
-    chosen P (bytes_eq r (codes "or")) _ _ (λ e d. absurd cc) (λ e. chosen P (bytes_eq r (codes "implies")) _ _ (λ e d. absurd cc) (λ e. chosen P (bytes_eq r (codes "in")) _ _ (λ e d. absurd cc) (λ e d. ap name_in d))))))))))))
-  where
-    name_in : Token → List ℕ
-    name_in (name_token m) = m
-    name_in _ = []
-
--- a token of a name has a name
-abbrev pub NamedToken : Token → Type 0
-NamedToken (name_token n) = IsName n
-NamedToken _ = Unit {0}
-
--- a word or a name, scanned alone
-word_named : (r : List ℕ) (w : Token) → scan r ≡ word_scanned r → word_or_name r ≡ w → NamedToken w
-word_named r (name_token n) e d =
-    let same : r ≡ n = word_is r n d in
-    let P : List ℕ → Type 0 = λ x. scan x ≡ record { token = name_token n; taken = x; left = [] } in
-    subst P same (e ∙ ap (λ k. record { token = k; taken = r; left = [] }) d)
-word_named r (word_token w) e d = tt
-word_named r (number_token n) e d = tt
-word_named r (text_token t) e d = tt
-word_named r (symbol_token s) e d = tt
-word_named r end_token e d = tt
-word_named r bad_token e d = tt
-word_named r hole_token e d = tt
-
--- the first bytes of a name, where a letter stands first
-first_word : (b : ℕ) (bs : List ℕ) → is_letter b ≡ true → NamedToken (word_or_name (run is_name_byte (b ∷ bs)))
-unfolding run
-first_word b bs e =
-    let letter : is_name_byte b ≡ true = ap (λ c. c || is_digit b) e in
-    let begins : (if is_name_byte b then b ∷ run is_name_byte bs else []) ≡ b ∷ run is_name_byte bs = ap (λ c. if c then b ∷ run is_name_byte bs else []) letter in
-    let again = run_again is_name_byte bs in
-    let P : List ℕ → Type 0 = λ r. NamedToken (word_or_name r) in
-    subst P (sym begins) (word_named (b ∷ run is_name_byte bs) (word_or_name (b ∷ run is_name_byte bs)) (scan_word b (run is_name_byte bs) e again.0 again.1) refl)
-
--- a symbol has no name
-two_named : (s r : Symbol) (b : ℕ) (bs : List ℕ) → NamedToken (one_or_two s r b bs).token
-two_named s r b [] = tt
-two_named s r b (c ∷ bs) = chosen (λ x. NamedToken x.token) (c == 61) _ (one s b (c ∷ bs)) (λ e. tt) (λ e. tt)
-
-symbol_named : (b : ℕ) (bs : List ℕ) → NamedToken (symbol_from b bs).token
-unfolding symbol_from
-symbol_named b bs =
-    let P : Scanned → Type 0 = λ s. NamedToken s.token in
-    chosen P (b == 40) (one Open b bs) _ (λ e. tt) (λ e. chosen P (b == 41) (one Close b bs) _ (λ e. tt) (λ e. chosen P (b == 123) (one OpenBrace b bs) _ (λ e. tt) (λ e.
-    chosen P (b == 125) (one CloseBrace b bs) _ (λ e. tt) (λ e. chosen P (b == 44) (one Comma b bs) _ (λ e. tt) (λ e. chosen P (b == 58) (one Colon b bs) _ (λ e. tt) (λ e.
-    chosen P (b == 59) (one Semicolon b bs) _ (λ e. tt) (λ e. chosen P (b == 124) (one Bar b bs) _ (λ e. tt) (λ e. chosen P (b == 43) (one Plus b bs) _ (λ e. tt) (λ e.
-    chosen P (b == 45) (one Minus b bs) _ (λ e. tt) (λ e. chosen P (b == 61) (one Equals b bs) _ (λ e. tt) (λ e. chosen P (b == 60) _ _ (λ e. two_named Lt Le b bs) (λ e.
-    chosen P (b == 62) _ _ (λ e. two_named Gt Ge b bs) (λ e. tt)))))))))))))
-
--- a text has no name
-text_named : (r : Result TextRead Scanned) → NamedToken (text_scanned r).token
-text_named (Ok t) = tt
-text_named (Err s) = tt
-
--- the first token of bytes has a name, if it is one
-scan_named : (bs : List ℕ) → NamedToken (scan bs).token
-unfolding scan
-scan_named [] = tt
-scan_named (b ∷ bs) =
-    let P : Scanned → Type 0 = λ s. NamedToken s.token in
-    chosen P (is_letter b) _ _ (λ e. first_word b bs e) (λ n. chosen P (is_digit b) _ _ (λ e. tt) (λ m. chosen P (b == 34) (text_scanned (text_from false bs)) (symbol_from b bs) (λ e. text_named (text_from false bs)) (λ o. symbol_named b bs)))
-
--- a token with those behind it
-headed_named : (p : Place) (s : Scanned) (k : Token) (rest : Tokens) → NamedToken k → AllByRecursion (λ t. NamedToken t.token) rest → AllByRecursion (λ t. NamedToken t.token) (headed p s k rest)
-headed_named p s (name_token n) rest h r = (h, r)
-headed_named p s (word_token w) rest h r = (tt, r)
-headed_named p s (number_token n) rest h r = (tt, r)
-headed_named p s (text_token t) rest h r = (tt, r)
-headed_named p s (symbol_token x) rest h r = (tt, r)
-headed_named p s end_token rest h r = (tt, tt)
-headed_named p s bad_token rest h r = (tt, tt)
-headed_named p s hole_token rest h r = (tt, r)
-
--- all tokens of bytes
-tokens_named : (n : ℕ) (p : Place) (bs : List ℕ) → AllByRecursion (λ t. NamedToken t.token) (tokens_from n p bs)
-unfolding tokens_from
-tokens_named zero p bs = tt
-tokens_named (suc n) p bs =
-    let a = skip false p bs in
-    let s = scan a.bytes in
-    headed_named a.place s s.token (tokens_from n (after a.place s.taken) s.left) (scan_named a.bytes) (tokens_named n (after a.place s.taken) s.left)
-
--- a part of a tree's text has a name, if it is one
-abbrev NamedPart : Part → Type 0
-NamedPart (at p k) = NamedToken k
-NamedPart (any k) = NamedToken k
-
--- parts that are spelled by such tokens
-takes_named : (ps : List Part) (ts left : Tokens) → Takes ps ts left → AllByRecursion (λ t. NamedToken t.token) ts → AllByRecursion NamedPart ps
-takes_named [] ts left h named = tt
-takes_named (p ∷ ps) [] left h named = absurd h
-takes_named (at p k ∷ ps) (t ∷ ts) left h named = (subst NamedToken h.0.0 named.0, takes_named ps ts left h.1 named.1)
-takes_named (any k ∷ ps) (t ∷ ts) left h named = (subst NamedToken h.0 named.0, takes_named ps ts left h.1 named.1)
-
--- what holds of both of two lists' elements
-pub all_front : {A : Type 0} (P : A → Type 0) (xs ys : List A) → AllByRecursion P (xs ++ ys) → AllByRecursion P xs
-all_front P [] ys h = tt
-all_front P (x ∷ xs) ys h = (h.0, all_front P xs ys h.1)
-
-pub all_behind : {A : Type 0} (P : A → Type 0) (xs ys : List A) → AllByRecursion P (xs ++ ys) → AllByRecursion P ys
-all_behind P [] ys h = h
-all_behind P (x ∷ xs) ys h = all_behind P xs ys h.1
-
-pub all_tail : {A : Type 0} (P : A → Type 0) (x : A) (xs : List A) → AllByRecursion P (x ∷ xs) → AllByRecursion P xs
-all_tail P x xs h = h.1
-
-all_head : {A : Type 0} (P : A → Type 0) (x : A) (xs : List A) → AllByRecursion P (x ∷ xs) → P x
-all_head P x xs h = h.0
-
--- a sort that a text names has a name
-sort_named : (s : Sort) → NamedToken (sort_token s) → IsNamedSort s
-sort_named Time h = tt
-sort_named Data h = tt
-sort_named (Named n) h = h
-
--- the names of a column are names
-abbrev pub IsNamedColumn : RawColumn → Type 0
-IsNamedColumn c = IsName c.name × IsNamedSort c.sort
-
-column_named : (c : RawColumn) → AllByRecursion NamedPart (column_text c) → IsNamedColumn c
-column_named c h =
-    let who = at c.place (name_token c.name) in
-    let colon = any (symbol_token Colon) in
-    let what = at c.sort_place (sort_token c.sort) in
-    (all_head NamedPart who (colon ∷ what ∷ []) h, sort_named c.sort (all_head NamedPart what [] (all_tail NamedPart colon (what ∷ []) (all_tail NamedPart who (colon ∷ what ∷ []) h))))
-
-columns_named : (cs : List RawColumn) → AllByRecursion NamedPart (separated comma column_text cs) → AllByRecursion IsNamedColumn cs
-columns_named [] h = tt
-columns_named (c ∷ []) h = (column_named c h, tt)
-columns_named (c ∷ d ∷ cs) h =
-    (column_named c (all_front NamedPart (column_text c) (comma ∷ separated comma column_text (d ∷ cs)) h), columns_named (d ∷ cs) (all_tail NamedPart comma (separated comma column_text (d ∷ cs)) (all_behind NamedPart (column_text c) (comma ∷ separated comma column_text (d ∷ cs)) h)))
+use Rattle.lrp_model.specs.DatabaseMeaning.{column_of}
+use Rattle.lrp_model.specs.Names.{IsName, AreNamed}
+use Rattle.lrp_text.proofs.NameTokens.{NamedPart, all_front, all_behind, all_head, all_tail, columns_named, spelled_named}
 
 -- the names of a relation are names
 pub record IsNamedRelation (r : RawRelation) : Type 0 where
   pub name : IsName r.name.item
-  pub columns : AllByRecursion IsNamedColumn r.columns
+  pub columns : AreNamed (map column_of r.columns)
 
 relation_named : (r : RawRelation) → AllByRecursion NamedPart (relation_text r) → IsNamedRelation r
 relation_named r h =
@@ -210,4 +34,4 @@ relations_named (r ∷ rs) h = (relation_named r (all_front NamedPart (relation_
 
 -- the names of a tree that bytes spell are names
 pub tree_named : (bytes : List ℕ) (tree : List RawRelation) → Spells (database_text tree) (tokens bytes) → AllByRecursion IsNamedRelation tree
-tree_named bytes tree h = relations_named tree (all_front NamedPart (joined relation_text tree) (any end_token ∷ []) (takes_named (database_text tree) (tokens bytes) [] h (tokens_named (suc (length bytes)) start bytes)))
+tree_named bytes tree h = relations_named tree (all_front NamedPart (joined relation_text tree) (any end_token ∷ []) (spelled_named bytes (database_text tree) h))

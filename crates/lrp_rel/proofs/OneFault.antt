@@ -5,7 +5,7 @@ use Rattle.lrp_model.specs.declared.tokens.Fault.{Fault as TokenFault}
 use Rattle.lrp_model.specs.declared.tokens.Fault.TheVariants.{Syntax as syntax, Number as number, TextTooLong as text_too_long, Period as period}
 use Rattle.lrp_model.specs.declared.faults.DbFault.{DbFault}
 use Rattle.lrp_model.specs.declared.faults.DbKind.{DbKind}
-use Rattle.lrp_model.specs.declared.faults.DbKind.TheVariants.{Utf8, Syntax, Number, Period, TextTooLong, Name, Arity, Sort, Column, Wide}
+use Rattle.lrp_model.specs.declared.faults.DbKind.TheVariants.{Utf8, Syntax, Number, Period, TextTooLong, Name, Arity, Sort, Column, Wide, UnknownRelation}
 use Rattle.lrp_model.specs.Lexing.{tokens}
 use Rattle.lrp_model.specs.Databases.{database_text, FitsDatabase}
 use Rattle.lrp_model.specs.Refused.{TextOf}
@@ -48,6 +48,7 @@ group_of bytes Arity f r = absurd r
 group_of bytes Sort f r = absurd r
 group_of bytes Column f r = absurd r
 group_of bytes Wide f r = absurd r
+group_of bytes UnknownRelation f r = absurd r
 
 -- two faults are one
 both_once : (bytes : List ℕ) (k l : DbKind) (p q : Place) → Group bytes k p → Group bytes l q → (k ≡ l) × (p ≡ q)

@@ -6,7 +6,7 @@ use Rattle.lrp_model.specs.declared.tokens.Fault.{Fault as TokenFault}
 use Rattle.lrp_model.specs.declared.tokens.Fault.TheVariants.{Syntax as syntax, Number as number, TextTooLong as text_too_long, Period as period, Deep, Memory as memory}
 use Rattle.lrp_model.specs.declared.faults.DbFault.{DbFault}
 use Rattle.lrp_model.specs.declared.faults.DbKind.{DbKind}
-use Rattle.lrp_model.specs.declared.faults.DbKind.TheVariants.{Utf8, Syntax, Number, Period, TextTooLong, Name, Arity, Sort, Column, Wide}
+use Rattle.lrp_model.specs.declared.faults.DbKind.TheVariants.{Utf8, Syntax, Number, Period, TextTooLong, Name, Arity, Sort, Column, Wide, UnknownRelation}
 use Rattle.lrp_model.specs.declared.written.RawRelation.{RawRelation}
 use Rattle.lrp_model.specs.Tokens.{Placed, Tokens, Spells}
 use Rattle.lrp_model.specs.Lexing.{tokens}
@@ -91,3 +91,4 @@ no_fault bytes tree Arity f t r = r
 no_fault bytes tree Sort f t r = r
 no_fault bytes tree Column f t r = r
 no_fault bytes tree Wide f t r = r
+no_fault bytes tree UnknownRelation f t r = r

@@ -20,7 +20,7 @@ use Rattle.lrp_model.specs.Columns.{column_text}
 use Rattle.lrp_model.specs.Databases.{comma, value_text, name_part, bounds_text, row_text, relation_text, database_text}
 use Rattle.lrp_text.proofs.Cuts.{skip_cut, skip_rest, scan_cut, scan_rest}
 use Rattle.lrp_text.proofs.Meanings.{slice_fits, slice_utf8}
-use Rattle.lrp_rel.proofs.NameLemmas.{all_front, all_behind, all_tail}
+use Rattle.lrp_text.proofs.NameTokens.{all_front, all_behind, all_tail}
 
 -- a token of a text has a data text, if it is short enough
 abbrev TextToken : Token → Type 0

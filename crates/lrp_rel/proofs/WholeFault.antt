@@ -23,7 +23,7 @@ use Rattle.lrp_model.specs.declared.written.RawRow.{RawRow}
 use Rattle.lrp_model.specs.declared.written.RawRelation.{RawRelation}
 use Rattle.lrp_model.specs.declared.faults.DbFault.{DbFault}
 use Rattle.lrp_model.specs.declared.faults.DbKind.{DbKind}
-use Rattle.lrp_model.specs.declared.faults.DbKind.TheVariants.{Utf8, Syntax, Number, Period, TextTooLong, Name, Arity, Sort, Column, Wide}
+use Rattle.lrp_model.specs.declared.faults.DbKind.TheVariants.{Utf8, Syntax, Number, Period, TextTooLong, Name, Arity, Sort, Column, Wide, UnknownRelation}
 use Rattle.lrp_rel.specs.declared.trees.ReadFault.{ReadFault}
 use Rattle.lrp_rel.specs.declared.trees.ReadFault.TheVariants.{Fault, Memory}
 use Rattle.lrp_rel.specs.Reading.{IsTextFault, IsTextFaultOf, IsRefused, IsTreeRefusal, IsUnread, IsOrMemory, IsFaultOrMemory}
@@ -137,6 +137,7 @@ as_fault bytes Syntax f o h = absurd o
 as_fault bytes Number f o h = absurd o
 as_fault bytes Period f o h = absurd o
 as_fault bytes TextTooLong f o h = absurd o
+as_fault bytes UnknownRelation f o h = absurd o
 
 -- so is a fault of the bytes or of the grammar
 as_text_fault : (bytes : List ℕ) (k : DbKind) (f : DbFault) → IsTextFaultOf bytes k f → IsDatabaseFaultOf bytes k f
@@ -150,6 +151,7 @@ as_text_fault bytes Arity f h = absurd h
 as_text_fault bytes Sort f h = absurd h
 as_text_fault bytes Column f h = absurd h
 as_text_fault bytes Wide f h = absurd h
+as_text_fault bytes UnknownRelation f h = absurd h
 
 -- why there was no tree is why there is no database
 pub unread_refused : (bytes : List ℕ) (r : ReadFault) → IsUnread bytes r → IsRefused bytes r
@@ -180,6 +182,7 @@ split_of bytes Arity f e h = of_tree h
 split_of bytes Sort f e h = of_tree h
 split_of bytes Column f e h = of_tree h
 split_of bytes Wide f e h = of_tree h
+split_of bytes UnknownRelation f e h = absurd h
 
 -- two trees of one text are one
 same_tree : (bytes : List ℕ) (a b : List RawRelation) → IsDatabaseText bytes a → IsDatabaseText bytes b → a ≡ b

@@ -5,7 +5,7 @@ use Rattle.lrp_model.specs.declared.tokens.Fault.TheVariants.{Syntax as syntax, 
 use Rattle.lrp_model.specs.declared.tokens.Place.{Place}
 use Rattle.lrp_model.specs.declared.faults.DbFault.{DbFault}
 use Rattle.lrp_model.specs.declared.faults.DbKind.{DbKind}
-use Rattle.lrp_model.specs.declared.faults.DbKind.TheVariants.{Utf8, Syntax, Number, Period, TextTooLong, Name, Arity, Sort, Column, Wide}
+use Rattle.lrp_model.specs.declared.faults.DbKind.TheVariants.{Utf8, Syntax, Number, Period, TextTooLong, Name, Arity, Sort, Column, Wide, UnknownRelation}
 use Rattle.lrp_model.specs.Faults.{first}
 use Rattle.lrp_model.specs.DatabaseMeaning.{database_of}
 use Rattle.lrp_model.specs.DatabaseFaults.{stands, faults}
@@ -29,6 +29,7 @@ IsTextFaultOf bytes Arity f = ⊥
 IsTextFaultOf bytes Sort f = ⊥
 IsTextFaultOf bytes Column f = ⊥
 IsTextFaultOf bytes Wide f = ⊥
+IsTextFaultOf bytes UnknownRelation f = ⊥
 
 -- the same by its own kind
 abbrev pub IsTextFault : List ℕ → DbFault → Type 0

@@ -15,6 +15,7 @@ mod written;
 
 pub use database::Database;
 pub use laws::{database_texts_have_one_tree, databases_read_back};
+pub use lrp_model::{DbFault, DbKind};
 pub use lrp_print::write_relation;
 pub use read::read_database;
 pub use trees::ReadFault;

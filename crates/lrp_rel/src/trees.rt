@@ -8,11 +8,14 @@ use lrp_model::{DbFault, DbKind, Fault, Memory, Place};
 use lrp_text::{Cursor, place_behind};
 use std::alloc::Global;
 use std::str::from_utf8;
+use thiserror::Error;
 
 /// Why no database is read: the one fault of its text, or want of memory.
-#[derive(Clone, Copy, Debug, PartialEq, Eq)]
+#[derive(Clone, Copy, Debug, PartialEq, Eq, Error)]
 pub enum ReadFault {
+    #[error("{fault}")]
     Fault { fault: DbFault },
+    #[error("memory")]
     Memory,
 }
 

@@ -21,4 +21,5 @@ pub mod Alone
 pub mod Standing
 pub mod Looking
 pub mod Meanings
+pub mod NameTokens
 pub mod Giving

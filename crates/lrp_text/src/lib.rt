@@ -14,6 +14,7 @@ mod texts;
 pub use cursor::Cursor;
 pub use lexemes::{Found, Lexeme};
 pub use lexer::Lexer;
+pub use lrp_model::{LexFault, LexKind, Token, TokenKind};
 pub use places::place_behind;
 pub use reading::{column, columns, integer, sort};
 pub use texts::text_of;

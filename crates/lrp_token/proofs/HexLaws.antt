@@ -10,7 +10,8 @@ use Rattle.hex.specs.Hex.{lower_digits, encode_with, encode_lower, decode_of, de
 use Rattle.hex.specs.declared.error.FromHexError.{FromHexError}
 use Rattle.hex.proofs.HexLemmas.{decode_sized-encode_lower, decode_sized-twice, decode_sized-ok, decode_of-ok}
 use Rattle.lrp_model.specs.Texts.{Text}
-use Rattle.lrp_model.specs.PrintedPages.{IsDataText, hex, hex_digit, text_part}
+use Rattle.lrp_model.specs.DataTexts.{IsDataText}
+use Rattle.lrp_model.specs.PrintedPages.{hex, hex_digit, text_part}
 use Rattle.lrp_model.proofs.Logic.{all_append}
 use Rattle.lrp_token.specs.declared.resume.TokenFault.{TokenFault}
 use Rattle.lrp_token.specs.declared.resume.TokenFault.TheVariants.{Form, Shape, Memory}

@@ -2,9 +2,10 @@
 use Rattle.std.specs.Prelude.{◌≡◌, ◌<◌, ◌≤◌, ◌++◌, ℕ, ℤ, nat_abs, List, Option, None, Some, Result, Ok, Err, codes}
 use Rattle.std.specs.List.{AllByRecursion}
 use Rattle.lrp_model.specs.Texts.{Text}
+use Rattle.lrp_model.specs.DataTexts.{IsDataText}
 use Rattle.lrp_model.specs.Lexing.{limit}
 use Rattle.lrp_model.specs.Printed.{joined_by}
-use Rattle.lrp_model.specs.PrintedPages.{hex, tuple_text, IsDataText, IsDigest}
+use Rattle.lrp_model.specs.PrintedPages.{hex, tuple_text, IsDigest}
 use Rattle.lrp_token.specs.declared.resume.TokenFault.{TokenFault}
 use Rattle.lrp_token.specs.declared.resume.TokenFault.TheVariants.{Form, Shape, Memory}
 

@@ -2,7 +2,8 @@
 ghost use Rattle.std.specs.Prelude.{◌≡◌, ◌↔◌, ◌⊎◌, ℕ, ℤ, List as ListOf, Option as OptionOf, IsTrue, MatchResult};
 ghost use Rattle.std.specs.Fmt.{signed_decimal};
 ghost use Rattle.lrp_model.specs.Texts.{Text};
-ghost use Rattle.lrp_model.specs.PrintedPages.{IsDataText, IsToken, text_part};
+ghost use Rattle.lrp_model.specs.DataTexts.{IsDataText};
+ghost use Rattle.lrp_model.specs.PrintedPages.{IsToken, text_part};
 ghost use Rattle.lrp_token.specs.Parts.{IsRead, HasDigest, IsListOf, IsSmall, IsTuple};
 ghost use Rattle.lrp_token.specs.Reading.{HasCounts, IsNoToken, Tells};
 

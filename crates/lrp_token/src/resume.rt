@@ -1,6 +1,7 @@
 // Where a page goes on, and why a text does not say it.
 use lrp_model::{Copies, Memory, Tuple};
 use std::alloc::Global;
+use thiserror::Error;
 
 /// What a token spells: the tuple behind which a page goes on, and the digest of the files that it was written for.
 ///
@@ -21,13 +22,16 @@ impl Copies for Resume {
 }
 
 /// Why a text is not read. [`TokenFault::Memory`] says nothing of the text.
-#[derive(Clone, Copy, Debug, PartialEq, Eq)]
+#[derive(Clone, Copy, Debug, PartialEq, Eq, Error)]
 pub enum TokenFault {
     /// The text is no token.
+    #[error("token form")]
     Form,
     /// It is a token with other counts of times or texts.
+    #[error("token shape")]
     Shape,
     /// There was no memory.
+    #[error("memory")]
     Memory,
 }
 

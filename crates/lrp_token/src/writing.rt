@@ -6,7 +6,8 @@ ghost use Rattle.lrp_io.specs.Causes.{HasCause};
 ghost use Rattle.lrp_io.specs.Pieces.{IsWritten};
 ghost use Rattle.lrp_model.specs.Lexing.{limit};
 ghost use Rattle.lrp_model.specs.Printed.{joined_by};
-ghost use Rattle.lrp_model.specs.PrintedPages.{IsDataText, IsToken, hex as hex_of, text_part, tuple_text};
+ghost use Rattle.lrp_model.specs.PrintedPages.{IsToken, hex as hex_of, text_part, tuple_text};
+ghost use Rattle.lrp_model.specs.DataTexts.{IsDataText};
 ghost use Rattle.lrp_token.specs.Spots.{spot_token, text_at, texts_in, times_in};
 
 use crate::digits::{MOST_DIGITS, digits_of};

@@ -1,6 +1,7 @@
 -- Each piece is read in turn.
 use Rattle.std.proofs.Common.{◌≡◌, ◌∙◌, [], ◌∷◌, ◌++◌, length, lit<, arith}
-use Rattle.lrp_model.specs.PrintedPages.{IsDataText, text_part}
+use Rattle.lrp_model.specs.PrintedPages.{text_part}
+use Rattle.lrp_model.specs.DataTexts.{IsDataText}
 use Rattle.lrp_token.specs.Parts.{IsListOf, Spells}
 use Rattle.lrp_token.proofs.HexLaws.{text_lacks}
 use Rattle.std.proofs.lemmas.Iterator.Consumers.{YieldsList-turn, YieldsList-end}

@@ -1,6 +1,7 @@
 use Rattle.std.proofs.Common.{◌≡◌, map}
 use Rattle.std.specs.List.{AllByRecursion}
-use Rattle.lrp_model.specs.PrintedPages.{IsDataText, text_part}
+use Rattle.lrp_model.specs.PrintedPages.{text_part}
+use Rattle.lrp_model.specs.DataTexts.{IsDataText}
 use Rattle.lrp_token.proofs.reading.read_texts.Given as goal
 
 -- the values so far are those of the pieces so far
