@@ -15,13 +15,12 @@ use Rattle.lrp_model.specs.Printed.{relation_bytes}
 use Rattle.lrp_model.specs.Rows.{Datum, times_of}
 use Rattle.lrp_model.specs.Satisfaction.{IsAnswer}
 use Rattle.lrp_model.specs.declared.relations.Relation.{Relation}
-use Rattle.lrp_print.specs.Kept.{IsKept}
 use Rattle.lrp_store.specs.Tables.{InAnswer}
 use Rattle.lrp_store.specs.declared.answer.Answer.{Answer}
 use Rattle.lrp_store.proofs.Aligning.{nothing_held}
 use Rattle.lrp_store.proofs.Emptiness.{something_held}
 use Rattle.lrp_list.specs.AnswerText.{answer_relation, answer_text}
-use Rattle.lrp_list.specs.Answering.{IsSettledAnswer}
+use Rattle.lrp_list.specs.Answering.{AreAnswerColumns, IsSettledAnswer}
 use Rattle.lrp_list.proofs.AnswerBeside.{answer_beside}
 use Rattle.lrp_list.proofs.AnswerHolds.{answer_holds, cells_in_order, in_answer, rows_are}
 use Rattle.lrp_list.proofs.AnswerRead.{answer_reads}
@@ -45,8 +44,8 @@ module _ (db : List Relation) (q : Question) (a : Answer) (h : IsSettledAnswer d
         (subst (λ m. AllPairs (λ r s. OfOneCell r s → MayStandBeside (IsAnswer db q) a.store.period m r s) (answer_relation a).rows) times_same (answer_beside a h.store h.ascends h.room (IsAnswer db q) h.answers h.settled));
   }
 
-  kept : IsKept (record { name = codes "answer"; columns = a.head.columns; rows = [] })
-  kept = subst (λ cs. IsKept (record { name = codes "answer"; columns = cs; rows = [] })) (sym h.head) h.columns
+  kept : AreAnswerColumns a.head.columns
+  kept = subst AreAnswerColumns (sym h.head) h.columns
 
   reads : IsDatabase (relation_bytes (answer_relation a)) (answer_relation a ∷ [])
   reads = answer_reads a h.store h.ascends h.room h.texts kept

@@ -1,5 +1,6 @@
 -- The lemmas: lines, orders of tuples, tuples in head order, the first tuples of zones, and what a listing keeps.
 pub mod LineLaws
+pub mod Escapes
 pub mod AnswerLines
 pub mod Shortest
 pub mod Rows
@@ -13,6 +14,7 @@ pub mod Apart
 pub mod Hull
 pub mod AnswerBeside
 pub mod AnswerLaw
+pub mod HeadColumns
 pub mod Orders
 pub mod HeadOrder
 pub mod HeapLaws

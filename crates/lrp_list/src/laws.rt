@@ -9,7 +9,11 @@ ghost use Rattle.lrp_model.specs.Formulas.{Question};
 ghost use Rattle.lrp_model.specs.declared.relations.Relation.{Relation};
 ghost use Rattle.lrp_store.specs.declared.answer.Answer.{Answer};
 ghost use Rattle.lrp_list.specs.AnswerText.{answer_text};
-ghost use Rattle.lrp_list.specs.Answering.{IsSettledAnswer};
+ghost use Rattle.lrp_list.specs.Answering.{AreAnswerColumns, IsSettledAnswer};
+ghost use Rattle.lrp_model.specs.Checked.{plain_question};
+ghost use Rattle.lrp_model.specs.Names.{AreNamed};
+ghost use Rattle.lrp_model.specs.RawQueries.{RawQuestion};
+ghost use Rattle.lrp_model.specs.Sorting.{IsWellSorted};
 ghost use Rattle.lrp_list.specs.Cursors.{standing_at};
 ghost use Rattle.lrp_list.specs.Giving.{Gives};
 ghost use Rattle.lrp_list.specs.Listing.{AreCursors, IsLeft, WindowView};
@@ -37,4 +41,10 @@ pub fn moves_are_few()
 /// `answer` that holds just the answers, with closed bounds and in order, which reads back as it is.
 pub fn answers_are_texts()
     ensures { (db : List Relation) (q : Question) (a : Answer) → IsSettledAnswer db q a → IsAnswerText db q (answer_text a) }
+{}
+
+/// The head of a well-sorted query can be that of the relation `answer`, where its names are names: they differ, and it has
+/// at most eight columns of each kind.
+pub fn heads_are_columns()
+    ensures { (db : List Relation) (q : RawQuestion) → IsWellSorted db q → AreNamed (plain_question q).head → AreAnswerColumns (plain_question q).head }
 {}

@@ -16,7 +16,7 @@ mod window;
 
 pub use answers::write_answer;
 pub use cursor::Cursor;
-pub use laws::{answers_are_texts, listings_are_pages, moves_are_few};
+pub use laws::{answers_are_texts, heads_are_columns, listings_are_pages, moves_are_few};
 pub use lines::write_line;
 pub use lister::Lister;
 pub use steps::Steps;

@@ -1,8 +1,9 @@
 // The JSON texts of the constants of a domain.
-ghost use Rattle.std.specs.Prelude.{◌≡◌, ◌++◌, map, IfOk, OnOk};
-ghost use Rattle.lrp_model.specs.Printed.{quoted, escaped};
+ghost use Rattle.std.specs.Prelude.{◌≡◌, map, IfOk};
+ghost use Rattle.lrp_model.specs.Printed.{quoted};
 
-use lrp_model::{Copies, Domain, List, Memory};
+use lrp_model::{Copies, DataText, Domain, List, Memory};
+use serde_json::Value;
 use std::alloc::Global;
 use std::marker::Model;
 
@@ -30,13 +31,13 @@ pub enum Form {
 impl JsonTexts {
     /// The constants of the domain between quotes, with a backslash before each quote and each backslash.
     ///
-    /// A constant has no control character, and in JSON no other byte needs one.
+    /// A constant has no control character, so in JSON no other byte needs one.
     pub fn new(alloc: Global, domain: &Domain) -> Result<JsonTexts, Memory>
         ensures { IfOk result (λ made. made ≡ map quoted domain.now) }
     {
         let mut texts = List::new(alloc);
         for number in 0..domain.len() {
-            texts.push(quoted_text(alloc, domain.text(number).as_bytes())?)?;
+            texts.push(quoted_text(alloc, domain.text(number))?)?;
         }
         Ok(JsonTexts { texts })
     }
@@ -79,25 +80,10 @@ fn copies_of(alloc: Global, texts: &[List<u8>]) -> Result<List<List<u8>>, Memory
     Ok(made)
 }
 
-// A text between quotes.
-fn quoted_text(alloc: Global, text: &[u8]) -> Result<List<u8>, Memory>
+// A text between quotes, as JSON has it.
+fn quoted_text(alloc: Global, text: &DataText) -> Result<List<u8>, Memory>
     ensures { IfOk result (λ made. made ≡ quoted text.now) }
 {
-    let mut made = List::new(alloc);
-    made.push(b'"')?;
-    for byte in text {
-        push_escaped(&mut made, *byte)?;
-    }
-    made.push(b'"')?;
-    Ok(made)
-}
-
-// A byte; a quote or a backslash has a backslash before it.
-fn push_escaped(made: &mut List<u8>, byte: u8) -> Result<(), Memory>
-    ensures { OnOk result (made.new ≡ made.old ++ escaped byte) }
-{
-    if byte == b'"' || byte == b'\\' {
-        made.push(b'\\')?;
-    }
-    made.push(byte)
+    let value = Value::String(String::from_str(alloc, text.as_str())?);
+    Ok(List::from_vec(value.to_string(alloc)?.into_bytes()))
 }
