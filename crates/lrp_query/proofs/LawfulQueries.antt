@@ -17,7 +17,8 @@ use Rattle.lrp_model.specs.Tokens.Part.{any}
 use Rattle.lrp_model.specs.Lexing.{limit, start, Scanned, scan, skip, after, headed, tokens_from, tokens}
 use Rattle.lrp_model.specs.Columns.{column_text}
 use Rattle.lrp_model.specs.Databases.{sign, integer_text, comma}
-use Rattle.lrp_model.specs.DatabaseMeaning.{signed}
+use Rattle.lrp_model.specs.DatabaseMeaning.{signed, column_of}
+use Rattle.lrp_model.specs.Names.{AreNamed}
 use Rattle.lrp_model.specs.Queries.{WrittenTerm, WrittenFormula, FurtherMembers, WrittenQuery, term_text, op_symbol, formula_text, members_text, query_text, FitsTerm, FitsSizes, FitSizes, FitsDepth, FitDepth}
 use Rattle.lrp_model.specs.Queries.WrittenTerm.{integer as integer_term, quoted, variable, shifted}
 use Rattle.lrp_model.specs.Queries.WrittenFormula.{atom, compared, member, denied, all_of, any_of, implied, group, some, every, hole}
@@ -27,6 +28,7 @@ use Rattle.lrp_model.specs.RawQueries.{RawForm, RawQuestion, raw, raw_question_o
 use Rattle.lrp_model.specs.QueryReading.{IsQuery}
 use Rattle.lrp_text.proofs.Sound.{takes_split, takes_front, takes_shorter}
 use Rattle.lrp_text.proofs.Complete.{separated_long}
+use Rattle.lrp_text.proofs.NameTokens.{NamedPart, all_front, all_tail, columns_named, spelled_named}
 use Rattle.lrp_query.specs.Rules.{is_hole_token}
 use Rattle.lrp_query.specs.Lawful.{IsWithin, FitsRawTerm, HasTwo, FitsRaw, FitRaws, IsShallow, AreShallow, formulas_in, formulas_of, is_raw_text, texts_among, texts_in, texts_of, IsLawful}
 use Rattle.lrp_query.proofs.Marks.{NoHoles}
@@ -326,6 +328,12 @@ whole_body t ts h c =
     let e = takes_split (formula_text t.body) ends d.0 [] d.2 in
     whole t.body d.0 e.0 e.1 (clean_rest bar b.0 d.0 d.1 (clean_rest (separated comma column_text t.head) a.0 b.0 b.1 (clean_rest first ts a.0 a.1 c)))
 
+-- the names in the head are names
+head_named : (bytes : List ℕ) (t : WrittenQuery) → Spells (query_text t) (tokens bytes) → AreNamed (map column_of t.head)
+head_named bytes t spelled =
+    let columns : List Part = separated comma column_text t.head in
+    columns_named t.head (all_front NamedPart columns (behind_head t.body) (all_tail NamedPart (any (symbol_token OpenBrace)) (columns ++ behind_head t.body) (spelled_named bytes (query_text t) spelled)))
+
 -- the query that a written one means
 lawful_tree : (bytes : List ℕ) (t : WrittenQuery) → length bytes ≤ 16777216 → Spells (query_text t) (tokens bytes) → FitsSizes t.body → FitsDepth t.body 64 → IsLawful (raw_question t)
 lawful_tree bytes t small spelled sizes depth =
@@ -335,6 +343,7 @@ lawful_tree bytes t small spelled sizes depth =
     let short = body_short t in
     let k = counted t.body in
     record {
+      names = head_named bytes t spelled;
       sizes = fits_raw t.body o sizes;
       depth = shallow t.body 64 o depth;
       formulas = omega (arith, size, long, short, k.0, small);

@@ -1,7 +1,9 @@
 -- What holds of each query that is read: numbers within the limit, formulas that are not too deep, and bounds on how many there are.
-use Rattle.std.specs.Prelude.{◌<◌, ◌+◌, ◌≤ℤ◌, ℕ, ℤ, pos, neg_ℤ, Bool, true, false, List, [], ◌∷◌, count_by}
+use Rattle.std.specs.Prelude.{◌<◌, ◌+◌, ◌≤ℤ◌, ℕ, ℤ, pos, neg_ℤ, Bool, true, false, List, [], ◌∷◌, map, count_by}
 use Rattle.std.specs.List.{AllByRecursion}
 use Rattle.lrp_model.specs.Lexing.{limit}
+use Rattle.lrp_model.specs.Names.{AreNamed}
+use Rattle.lrp_model.specs.DatabaseMeaning.{column_of}
 use Rattle.lrp_model.specs.Queries.{Deeper}
 use Rattle.lrp_model.specs.RawQueries.{RawForm, RawForms, RawQuestion, raw_atom, raw_compare, raw_member, raw_not, raw_and, raw_or, raw_implies, raw_group, raw_exists, raw_forall, no_raws, raw}
 use Rattle.lrp_model.specs.declared.relations.RowPoint.{RowPoint}
@@ -110,8 +112,9 @@ abbrev mutual
   texts_of no_raws = 0
   texts_of (raw f fs) = texts_in f + texts_of fs
 
--- what holds of a query that is read: fewer than 2^26 formulas and fewer than 2^24 texts stand in it
+-- what holds of a query that is read: the names in its head are names, and fewer than 2^26 formulas and fewer than 2^24 texts stand in it
 pub record IsLawful (q : RawQuestion) : Type 0 where
+  pub names : AreNamed (map column_of q.head)
   pub sizes : FitsRaw q.body
   pub depth : IsShallow q.body 64
   pub formulas : formulas_in q.body < 67108864
