@@ -1,4 +1,5 @@
 // What words ask for.
+use thiserror::Error;
 
 /// A command with its values, whose texts are borrowed from the words.
 ///
@@ -39,5 +40,6 @@ pub enum Command<'a> {
 }
 
 /// The words spell no command.
-#[derive(Clone, Copy, Debug, PartialEq, Eq)]
+#[derive(Clone, Copy, Debug, PartialEq, Eq, Error)]
+#[error("usage")]
 pub struct Usage;
