@@ -1,7 +1,7 @@
 -- The columns of a well-sorted query can be those of a relation, where their names are names.
 use Rattle.std.proofs.Common.{◌≡◌, ◌≢◌, ◌≤◌, ◌+◌, ℕ, Bool, true, false, ◌||◌, List, [], ◌∷◌, ◌++◌, map, refl, sym, arith, codes}
 use Rattle.std.specs.Prelude.{◌==◌, not, if◌then◌else◌, reverse}
-use Rattle.std.specs.List.{AllByRecursion, list_any}
+use Rattle.std.specs.List.{AllByRecursion}
 use Rattle.std.specs.Str.{bytes_eq}
 use Rattle.std.specs.Cmp.Lexicographic.{bytes_decides}
 use Rattle.std.proofs.lemmas.Bool.Decides.{nat_tests}
@@ -17,7 +17,6 @@ use Rattle.lrp_model.specs.Checked.{plain_question}
 use Rattle.lrp_model.specs.Sorting.{Binders, fault, binder_faults, sort_faults, head_faults, form_faults, widened, IsWellSorted}
 use Rattle.lrp_model.specs.declared.relations.Relation.{Relation}
 use Rattle.lrp_model.specs.declared.raw.RawColumn.{RawColumn}
-use Rattle.lrp_model.specs.declared.faults.QueryFault.{QueryFault}
 use Rattle.lrp_model.specs.declared.faults.QueryKind.TheVariants.{Wide, Rebound}
 use Rattle.lrp_print.specs.Kept.{Differ, times_in, texts_in}
 use Rattle.lrp_list.specs.Answering.{AreAnswerColumns}

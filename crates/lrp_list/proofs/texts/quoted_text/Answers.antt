@@ -1,4 +1,4 @@
-use Rattle.std.proofs.Common.{◌≡◌, ◌∙◌, ap, string_bytes, subst}
+use Rattle.std.proofs.Common.{◌≡◌, ◌∙◌, ap, string_bytes}
 use Rattle.json.specs.Print.{quoted as json_quoted}
 use Rattle.serde_json.specs.Written.{has_float, compact_text}
 use Rattle.lrp_model.specs.Printed.{quoted}
