@@ -8,6 +8,7 @@ ghost use Rattle.lrp_zone.specs.Pieces.{broken_by};
 
 use crate::bounds::{Table, at, free, narrow, put, wide};
 use crate::tuples::value;
+use lrp_matrix::Matrix;
 use lrp_point::numbers::tighten;
 
 /// The greatest bound of the right residue that is at most a bound.
@@ -70,6 +71,31 @@ pub fn all_tightened(bounds: &Table, residues: &[i64], period: u64) -> Table
                 i,
                 j,
                 tightened(at(bounds, i, j), residues, i, j, period),
+            );
+        }
+    }
+    out
+}
+
+/// The bounds of a matrix, tightened.
+pub fn all_tightest(bounds: &Matrix, residues: &[i64], period: u64) -> Table
+    requires columns { length residues.now ≤ 8 }
+    requires count { bounds.now.columns ≡ length residues.now }
+    requires low { 0 < period }
+    requires high { period ≤ 2 ^ 62 }
+    requires residues { (i : ℕ) → i ≤ length residues.now → IsResidue period (node residues.now i) }
+    requires fits { (i j : ℕ) (a : ℤ) → i ≤ length residues.now → j ≤ length residues.now → entry bounds.now.cells i j ≡ Some a → HasRoom (pos period) (node residues.now i -ℤ node residues.now j) a }
+    ensures { AreStored (pos period) residues.now bounds.now.cells (length residues.now + 1) result }
+{
+    let mut out = free();
+    let nodes = residues.len() + 1;
+    for i in 0..nodes {
+        for j in 0..nodes {
+            put(
+                &mut out,
+                i,
+                j,
+                tightened(narrow(bounds.get(i, j)), residues, i, j, period),
             );
         }
     }
