@@ -1,6 +1,8 @@
--- The lemmas: residues that are left, residues that are tried, pieces of cells, and how they make up the solutions.
+-- The lemmas: bounds that come together, residues that are left and tried, orders, pieces of cells, and how they make up the solutions.
+pub mod Branches
+pub mod CellPieces
+pub mod Joining
+pub mod Orders
+pub mod Placing
 pub mod Ranges
 pub mod Remaining
-pub mod CellPieces
-pub mod Branches
-pub mod Placing

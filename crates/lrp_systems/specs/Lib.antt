@@ -1,5 +1,7 @@
 -- What systems of zones stand for, and which residues are tried for their solutions.
 pub mod Choices
+pub mod Frames
+pub mod Joint
 pub mod Parts
 pub mod Pieces
 pub mod Residues

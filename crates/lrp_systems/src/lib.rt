@@ -2,6 +2,9 @@
 #![tactic(auto)]
 
 mod choice;
+mod frame;
+mod joint;
+mod order;
 mod part;
 mod piece;
 mod residue;
