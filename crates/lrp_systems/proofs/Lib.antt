@@ -3,6 +3,5 @@ pub mod Branches
 pub mod CellPieces
 pub mod Joining
 pub mod Orders
-pub mod Placing
 pub mod Ranges
 pub mod Remaining
