@@ -11,9 +11,10 @@ use Rattle.lrp_store.specs.declared.store.StoreFault.{StoreFault}
 use Rattle.lrp_store.specs.declared.store.StoreFault.TheVariants.{TooManyCells}
 use Rattle.lrp_store.proofs.Grown.{grown_same, grown_on, added, refused}
 use Rattle.lrp_tables.proofs.Adding.{IsZoneOf}
-use Rattle.lrp_minus.specs.Differences.{IsDifference, greatest_reach}
+use Rattle.lrp_minus.specs.Differences.{greatest_reach}
 use Rattle.lrp_minus.specs.Filling.{IsLeft}
-use Rattle.lrp_minus.proofs.Lists.{in_either, in_nothing, reach_below, this_has}
+use Rattle.lrp_minus.specs.Leaving.{AreLeftOf}
+use Rattle.lrp_minus.proofs.Lists.{in_either, in_nothing, in_this, this_has}
 
 -- the first pieces were added
 pub record AreFilled (z : ZoneView) (cutters : List ZoneView) (named : List ℕ) (cap high : ℕ) (old now : StoreView) (done : List ZoneView) : Type 0 where
@@ -25,7 +26,7 @@ module _ (z : ZoneView) (cutters : List ZoneView) (named : List ℕ) (cap high :
   filled_none is = record { grown = grown_same cap high _ old is; held = λ xs s. absurd (in_nothing xs s) }
 
   -- one piece more
-  module _ (pieces : List ZoneView) (gap : IsDifference z cutters pieces) (small : greatest_reach pieces ≤ high) (period : z.period ≡ old.period) (cell : Cell) (residues : z.residues ≡ take old.shape.times cell.residues) (texts : IsPadded 0 old.shape.texts cell.texts) (times : IsPadded (pos 0) old.shape.times cell.residues)
+  module _ (pieces : List ZoneView) (gap : AreLeftOf z (z ∷ []) cutters high pieces) (period : z.period ≡ old.period) (cell : Cell) (residues : z.residues ≡ take old.shape.times cell.residues) (texts : IsPadded 0 old.shape.texts cell.texts) (times : IsPadded (pos 0) old.shape.times cell.residues)
       (is_named : named ≡ take old.shape.texts cell.texts) (now : StoreView) (done : List ZoneView) (f : AreFilled z cutters named cap high old now done) (p : ZoneView) (here : Contains pieces p) (valid : IsZone p) where
     pub piece_period : p.period ≡ now.period
     piece_period = (gap.zones p here).1.period ∙ period ∙ sym f.grown.period
@@ -43,10 +44,10 @@ module _ (z : ZoneView) (cutters : List ZoneView) (named : List ℕ) (cap high :
     same_texts = is_named ∙ ap (λ q. take q.texts cell.texts) (sym f.grown.shape)
 
     is_left : (xs : List ℤ) → IsMember p xs → IsLeft z cutters named xs (take now.shape.texts cell.texts)
-    is_left xs m = let t = gap.to xs (record { zone = p; listed = here; inside = m }) in record { member = t.0; none = t.1; same = same_texts }
+    is_left xs m = let t = gap.to xs (record { zone = p; listed = here; inside = m }) in record { member = this_has z xs t.0; none = t.1; same = same_texts }
 
     low : greatest_of p.bounds ≤ high
-    low = let r : reach_of p ≤ greatest_reach pieces = reach_below pieces p here in omega arith
+    low = gap.reach p here
 
     module _ {T : Type 0} (new : StoreView) (is : IsStore new) (rest : new ≡ record now { tables = new.tables; spare = new.spare }) (r : Result T StoreFault) (exact : (r ≡ Err TooManyCells) ↔ ((finite.get now.tables cell ≡ None) × (cap ≤ finite.len now.tables))) where
       pub filled_more : OnOk r (new.tables ≡ finite.insert now.tables cell (tables_at now cell ++ p.bounds ∷ [])) → OnOk r (AreFilled z cutters named cap high old new (done ++ p ∷ []))
@@ -68,10 +69,10 @@ module _ (z : ZoneView) (cutters : List ZoneView) (named : List ℕ) (cap high :
           record { grown = grown_on cap high _ _ old now new (λ xs ns m. m) f.grown h.grown; more = h.more }
 
   -- all pieces were added
-  pub filled_all : (pieces : List ZoneView) → IsDifference z cutters pieces → (now : StoreView) → AreFilled z cutters named cap high old now pieces → IsAdded (IsLeft z cutters named) cap high old now
+  pub filled_all : (pieces : List ZoneView) → AreLeftOf z (z ∷ []) cutters high pieces → (now : StoreView) → AreFilled z cutters named cap high old now pieces → IsAdded (IsLeft z cutters named) cap high old now
   filled_all pieces gap now f = record {
     grown = f.grown;
-    whole = record { each = λ xs ns l. subst (λ ms. InStore now xs ms) l.same (f.held xs (gap.from xs l.member l.none)) };
+    whole = record { each = λ xs ns l. subst (λ ms. InStore now xs ms) l.same (f.held xs (gap.from xs (in_this z xs l.member) l.none)) };
   }
 
 -- ---- nothing is taken away

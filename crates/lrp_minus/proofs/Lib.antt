@@ -12,6 +12,7 @@ pub mod Gathering
 pub mod HalfLaws
 pub mod HullLaws
 pub mod IntervalLaws
+pub mod LeavingLaws
 pub mod LineLaws
 pub mod Lists
 pub mod Membership

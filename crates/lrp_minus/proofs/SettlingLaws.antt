@@ -8,12 +8,13 @@ use Rattle.lrp_zone.specs.Zones.{ZoneView, IsZone, IsMember, columns_of, reach_o
 use Rattle.lrp_zone.specs.Pairs.{IsOfCell, IsWithin}
 use Rattle.lrp_zone.proofs.Reaches.{small_reach}
 use Rattle.lrp_store.specs.Settled.{InSome, IsOneZone}
-use Rattle.lrp_minus.specs.Cutting.{IsWithinOne}
-use Rattle.lrp_minus.specs.Differences.{AreOfCell, IsDifference, greatest_reach}
+use Rattle.lrp_minus.specs.Cutting.{IsWithinOne, side_reach}
+use Rattle.lrp_minus.specs.Differences.{AreOfCell, greatest_reach}
 use Rattle.lrp_minus.specs.Hulls.{IsHull}
+use Rattle.lrp_minus.specs.Leaving.{HasGap}
 use Rattle.lrp_minus.specs.Settling.{IsSmallZone, IsSettlement, IsThinned}
 use Rattle.lrp_minus.proofs.LineLaws.{small_zone}
-use Rattle.lrp_minus.proofs.Lists.{below_or, head_in, in_cons, in_none, in_one, in_left, in_right, in_this, in_nothing, later, one_in, one_of, some_in, reach_below, this_has}
+use Rattle.lrp_minus.proofs.Lists.{below_or, head_in, in_cons, in_none, in_one, in_left, in_right, in_this, in_nothing, later, one_in, one_of, reach_below, this_has}
 use Rattle.lrp_minus.proofs.Membership.{decided_some}
 
 -- ---- cells
@@ -103,8 +104,8 @@ greatest_room f zones cells some room =
 times_more : (n a : ℕ) → 0 < n → a ≤ n * a
 times_more n a l = grind arith
 
-pub pieces_room : (f h : ZoneView) (zones : List ZoneView) → 1 < columns_of f → IsOfCell f h → reach_of h ≤ columns_of f * greatest_reach zones → columns_of f * greatest_reach zones + f.period ≤ 2 ^ 62 → greatest_reach (h ∷ zones) + h.period ≤ 2 ^ 62
-pieces_room f h zones more c small room =
+pub gap_room : (f h : ZoneView) (zones : List ZoneView) → 1 < columns_of f → IsOfCell f h → columns_of f * greatest_reach zones + f.period ≤ 2 ^ 62 → side_reach h.period zones ≤ 2 ^ 62
+gap_room f h zones more c room =
     let t : greatest_reach zones ≤ columns_of f * greatest_reach zones = times_more (columns_of f) _ (omega arith) in
     let p : h.period ≡ f.period = c.period in
     omega arith
@@ -117,14 +118,14 @@ line_room f z c one room =
 pub hull_cells : (f : ZoneView) (zones : List ZoneView) (h : ZoneView) → AreOfCell f zones → IsHull f zones h → AreOfCell h zones
 hull_cells f zones h cells hull = record { each = λ w l. same_cell f h w hull.cell (cells.each w l) }
 
-module _ (f : ZoneView) (zones : List ZoneView) (h : ZoneView) (cells : AreOfCell f zones) (more : 1 < columns_of f) (valid : (z : ZoneView) → Contains zones z → IsZone z) (hull : IsHull f zones h) (missing : List ZoneView) (gap : IsDifference h zones missing) where
+module _ (f : ZoneView) (zones : List ZoneView) (h : ZoneView) (cells : AreOfCell f zones) (more : 1 < columns_of f) (valid : (z : ZoneView) → Contains zones z → IsZone z) (hull : IsHull f zones h) where
   -- the hull is the set
-  pub settled_hull : length missing ≡ 0 → IsSmallZone h (columns_of f * greatest_reach zones) → IsSettlement f zones (h ∷ [])
+  pub settled_hull : (HasGap h zones → ⊥) → IsSmallZone h (columns_of f * greatest_reach zones) → IsSettlement f zones (h ∷ [])
   settled_hull none small = record {
     zones = λ w l. subst (λ y. IsZone y × IsOfCell f y) (in_one h w l) (hull.valid, hull.cell);
     to = λ xs s. elim (decided_some zones xs) [
       | inl k ↦ k
-      | inr out ↦ absurd (in_nothing xs (subst (λ ms. InSome ms xs) (nil_from_length missing none) (gap.from xs (this_has h xs s) out)))
+      | inr out ↦ absurd (none (record { tuple = xs; inside = this_has h xs s; none = out }))
     ];
     from = λ xs s. in_this h xs (hull.holds xs s);
     settled = record {
@@ -140,15 +141,12 @@ module _ (f : ZoneView) (zones : List ZoneView) (h : ZoneView) (cells : AreOfCel
     made_to : (xs : List ℤ) → InSome made xs → InSome zones xs
     made_to xs s = record { zone = s.zone; listed = (thin.kept s.zone s.listed).0; inside = s.inside }
 
-    not_one : 0 < length missing → (w : ZoneView) → IsOfCell f w → IsOneZone made w → ⊥
-    not_one some w c o =
-        let p : (p : ZoneView) × Contains missing p = some_in missing some in
-        let is : IsZone p.0 = (gap.zones p.0 p.1).0 in
-        let t : IsMember h is.some.member × (InSome zones is.some.member → ⊥) = gap.to is.some.member (record { zone = p.0; listed = p.1; inside = is.some.is }) in
+    not_one : HasGap h zones → (w : ZoneView) → IsOfCell f w → IsOneZone made w → ⊥
+    not_one gap w c o =
         let inside : IsWithin h w = hull.least w o.is c (λ xs s. o.within xs (thin.whole xs s)) in
-        t.1 (made_to is.some.member (o.whole is.some.member (inside.each is.some.member t.0)))
+        gap.none (made_to gap.tuple (o.whole gap.tuple (inside.each gap.tuple gap.inside)))
 
-    pub settled_thinned : 0 < length missing → IsSettlement f zones made
+    pub settled_thinned : HasGap h zones → IsSettlement f zones made
     settled_thinned some = record {
       zones = λ w l. ((thin.kept w l).1, cells.each w (thin.kept w l).0);
       to = made_to;
@@ -177,7 +175,11 @@ module _ (f : ZoneView) (zones : List ZoneView) (h : ZoneView) (cells : AreOfCel
           subst (λ k. IsSmallZone w (k * greatest_reach zones)) n (small_zone w (greatest_reach zones) (thin.kept w l).1 r (subst (λ k. reach_of w ≤ k * greatest_reach zones) (sym n) (omega arith)));
     }
 
--- ---- zones that lie within no other
+-- ---- zones that lie within no neighbour
+-- what lies within one of a part of a list lies within one of the list
+pub within_more : (z : ZoneView) (part whole : List ZoneView) → ((w : ZoneView) → Contains part w → Contains whole w) → IsWithinOne z part → IsWithinOne z whole
+within_more z part whole inside one = record { cutter = one.cutter; listed = inside one.cutter one.listed; within = one.within }
+
 -- what is left to be looked at, and what is kept
 pub record AreThinning (zones left kept : List ZoneView) : Type 0 where
   pub left_in : (w : ZoneView) → Contains left w → Contains zones w

@@ -166,7 +166,7 @@ other_tight k a x y d = Divides-is (pos k) (neg_ℤ (a -ℤ (x -ℤ y)) -ℤ pos
 
 module _ (z : ZoneView) (c : ZoneView) (cell : IsOfCell z c) (valid : IsZone c) (h : ℕ) (low : reach_of c + z.period ≤ h) (high : h ≤ 2 ^ 62) where
   -- a stored bound of a cutter, and its other side
-  own_stored : (i j : ℕ) (a : ℤ) → i ≤ columns_of z → j ≤ columns_of z → (i ≡ j → ⊥) → entry c.bounds i j ≡ Some a → CanBeStored z (bound i j a) × CanBeStored z (other_side z.period (bound i j a)) × (nat_abs a ≤ h) × (nat_abs (neg_ℤ a -ℤ pos z.period) ≤ h)
+  pub own_stored : (i j : ℕ) (a : ℤ) → i ≤ columns_of z → j ≤ columns_of z → (i ≡ j → ⊥) → entry c.bounds i j ≡ Some a → CanBeStored z (bound i j a) × CanBeStored z (other_side z.period (bound i j a)) × (nat_abs a ≤ h) × (nat_abs (neg_ℤ a -ℤ pos z.period) ≤ h)
   own_stored i j a il jl ne q =
       let ic : i ≤ columns_of c = rw cell.residues il in
       let jc : j ≤ columns_of c = rw cell.residues jl in

@@ -9,5 +9,6 @@ pub mod Filling
 pub mod Halves
 pub mod Hulls
 pub mod Intervals
+pub mod Leaving
 pub mod Settling
 pub mod Thresholds

@@ -5,7 +5,7 @@ ghost use Rattle.lrp_store.specs.Stores.{IsPadded};
 ghost use Rattle.lrp_minus.specs.Differences.{AreOfCell, greatest_reach};
 ghost use Rattle.lrp_minus.specs.Filling.{IsLeft};
 
-use crate::cutting::pieces;
+use crate::leaving::left_over;
 use lrp_model::{Cell, List};
 use lrp_store::{Store, StoreFault};
 use lrp_zone::Zone;
@@ -36,7 +36,7 @@ pub(crate) fn add_left(
         zone.columns();
         return store.add(cell, zone, cap);
     }
-    let left = pieces(alloc, zone, cutters)?;
+    let left = left_over(alloc, zone, cutters)?;
     for piece in left.as_slice() {
         piece.columns();
         store.add(cell, piece, cap)?;

@@ -12,10 +12,12 @@ mod filling;
 mod half;
 mod hull;
 mod intervals;
+mod leaving;
 mod pairs;
 mod settling;
 mod split;
 mod standing;
+mod stored;
 mod thresholds;
 
 pub use complements::complement;

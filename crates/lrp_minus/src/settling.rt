@@ -6,18 +6,21 @@ ghost use Rattle.lrp_minus.specs.Cutting.{IsWithinOne};
 ghost use Rattle.lrp_minus.specs.Differences.{AreOfCell};
 ghost use Rattle.lrp_minus.specs.Settling.{IsSettlement, IsThinned};
 
-use crate::cutting::pieces;
 use crate::hull::hull;
 use crate::intervals::maximal;
+use crate::leaving::has_gap;
 use lrp_model::{List, Memory};
 use lrp_zone::Zone;
 use std::alloc::Global;
+
+// How many zones before and behind one in a list are its neighbours.
+const NEIGHBOURS: usize = 8;
 
 /// The same set of tuples in settled zones of the cell: one zone where there is no column, the maximal intervals where there
 /// is one, and else one zone exactly where the set is that of one zone of the cell.
 ///
 /// With two columns or more that zone can only be the hull, the least one that holds the set. Where a piece of the hull is
-/// in none of the zones, they are given as they came, without those that lie within another one.
+/// in none of the zones, they are given as they came, without those that lie within a neighbour.
 pub fn settle(alloc: Global, zones: &List<Zone>) -> Result<List<Zone>, Memory>
     requires some { 0 < length zones.now }
     requires cell { (z : ZoneView) → Contains zones.now z → AreOfCell z zones.now }
@@ -40,12 +43,12 @@ fn fewest(alloc: Global, cell: &Zone, zones: &List<Zone>) -> Result<List<Zone>, 
     requires reach { (z : ZoneView) → Contains zones.now z → columns_of z * reach_of z + z.period ≤ 2 ^ 62 }
     ensures { IfOk result (λ made. IsSettlement cell.now zones.now made) }
 {
-    let hull = hull(alloc, cell, zones.as_slice())?;
-    let missing = pieces(alloc, &hull, zones)?;
-    if missing.len() == 0 {
-        one(alloc, hull)
+    let all = zones.as_slice();
+    let hull = hull(alloc, cell, all)?;
+    if has_gap(alloc, &hull, all)? {
+        thinned(alloc, all)
     } else {
-        uncovered(alloc, zones.as_slice())
+        one(alloc, hull)
     }
 }
 
@@ -58,21 +61,35 @@ fn one(alloc: Global, zone: Zone) -> Result<List<Zone>, Memory>
     Ok(made)
 }
 
-// The zones without those that lie within another one. Of equal ones the last stays.
-fn uncovered(alloc: Global, zones: &[Zone]) -> Result<List<Zone>, Memory>
+// The zones without those that lie within a neighbour in the list. Of equal neighbours the last stays.
+fn thinned(alloc: Global, zones: &[Zone]) -> Result<List<Zone>, Memory>
     requires { (z : ZoneView) → Contains zones.now z → AreOfCell z zones.now }
     ensures { IfOk result (λ made. IsThinned zones.now made) }
 {
     let mut kept = List::new(alloc);
     let mut left = zones;
     while let Some((zone, rest)) = left.split_first() {
-        if !is_covered(zone, rest) && !is_covered(zone, kept.as_slice()) {
+        if !is_covered(zone, first_of(rest)) && !is_covered(zone, last_of(kept.as_slice())) {
             zone.columns();
             kept.push(*zone)?;
         }
         left = rest;
     }
     Ok(kept)
+}
+
+// The first zones, as many as are compared.
+fn first_of(zones: &[Zone]) -> &[Zone]
+    ensures { (z : ZoneView) → Contains result.now z → Contains zones.now z }
+{
+    &zones[..zones.len().min(NEIGHBOURS)]
+}
+
+// The last zones, as many as are compared.
+fn last_of(zones: &[Zone]) -> &[Zone]
+    ensures { (z : ZoneView) → Contains result.now z → Contains zones.now z }
+{
+    &zones[zones.len() - zones.len().min(NEIGHBOURS)..]
 }
 
 // Whether a zone lies within another one.

@@ -36,8 +36,8 @@ pub(crate) fn standing_of(zone: &Zone, cutters: &[Zone]) -> Standing
     found
 }
 
-// Whether two zones of one cell have a tuple in common.
-fn have_common(zone: &Zone, other: &Zone) -> bool
+/// Whether two zones of one cell have a tuple in common.
+pub(crate) fn have_common(zone: &Zone, other: &Zone) -> bool
     requires { IsOfCell zone.now other.now }
     ensures { IsTrue result ↔ HaveCommon zone.now other.now }
 {

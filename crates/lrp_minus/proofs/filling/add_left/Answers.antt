@@ -14,34 +14,34 @@ loop-piece-init c = filled_none c.args.zone.now c.args.cutters.now _ c.args.cap 
 
 pub add-requires-in-loop-piece-clause-period : goal.add-requires-in-loop-piece-clause-period
 add-requires-in-loop-piece-clause-period c = piece_period c.args.zone.now c.args.cutters.now (take c.args.store.now.shape.texts c.args.cell.now.texts) c.args.cap (greatest_reach (c.args.zone.now ∷ c.args.cutters.now) + c.args.zone.now.period) c.args.store.now
-    c.in_ok-left.left c.in_ok-left.ensures.difference c.in_ok-left.ensures.reach c.requires.period c.args.cell.now c.requires.residues c.requires.texts c.requires.times refl c.loop-piece.store _ c.loop-piece.invariant c.piece-item.result
+    c.in_ok-left.left c.in_ok-left.ensures c.requires.period c.args.cell.now c.requires.residues c.requires.texts c.requires.times refl c.loop-piece.store _ c.loop-piece.invariant c.piece-item.result
     (subst (λ l. Contains l c.piece-item.result) c.as_slice-piece-items.ensures (read _ _ _ c.loop-piece-test.true c.piece-item.is)) c.columns-in-loop-piece.ensures.valid
 
 pub add-requires-in-loop-piece-clause-residues : goal.add-requires-in-loop-piece-clause-residues
 add-requires-in-loop-piece-clause-residues c = piece_residues c.args.zone.now c.args.cutters.now (take c.args.store.now.shape.texts c.args.cell.now.texts) c.args.cap (greatest_reach (c.args.zone.now ∷ c.args.cutters.now) + c.args.zone.now.period) c.args.store.now
-    c.in_ok-left.left c.in_ok-left.ensures.difference c.in_ok-left.ensures.reach c.requires.period c.args.cell.now c.requires.residues c.requires.texts c.requires.times refl c.loop-piece.store _ c.loop-piece.invariant c.piece-item.result
+    c.in_ok-left.left c.in_ok-left.ensures c.requires.period c.args.cell.now c.requires.residues c.requires.texts c.requires.times refl c.loop-piece.store _ c.loop-piece.invariant c.piece-item.result
     (subst (λ l. Contains l c.piece-item.result) c.as_slice-piece-items.ensures (read _ _ _ c.loop-piece-test.true c.piece-item.is)) c.columns-in-loop-piece.ensures.valid
 
 pub add-requires-in-loop-piece-clause-texts : goal.add-requires-in-loop-piece-clause-texts
 add-requires-in-loop-piece-clause-texts c = piece_texts c.args.zone.now c.args.cutters.now (take c.args.store.now.shape.texts c.args.cell.now.texts) c.args.cap (greatest_reach (c.args.zone.now ∷ c.args.cutters.now) + c.args.zone.now.period) c.args.store.now
-    c.in_ok-left.left c.in_ok-left.ensures.difference c.in_ok-left.ensures.reach c.requires.period c.args.cell.now c.requires.residues c.requires.texts c.requires.times refl c.loop-piece.store _ c.loop-piece.invariant c.piece-item.result
+    c.in_ok-left.left c.in_ok-left.ensures c.requires.period c.args.cell.now c.requires.residues c.requires.texts c.requires.times refl c.loop-piece.store _ c.loop-piece.invariant c.piece-item.result
     (subst (λ l. Contains l c.piece-item.result) c.as_slice-piece-items.ensures (read _ _ _ c.loop-piece-test.true c.piece-item.is)) c.columns-in-loop-piece.ensures.valid
 
 pub add-requires-in-loop-piece-clause-times : goal.add-requires-in-loop-piece-clause-times
 add-requires-in-loop-piece-clause-times c = piece_times c.args.zone.now c.args.cutters.now (take c.args.store.now.shape.texts c.args.cell.now.texts) c.args.cap (greatest_reach (c.args.zone.now ∷ c.args.cutters.now) + c.args.zone.now.period) c.args.store.now
-    c.in_ok-left.left c.in_ok-left.ensures.difference c.in_ok-left.ensures.reach c.requires.period c.args.cell.now c.requires.residues c.requires.texts c.requires.times refl c.loop-piece.store _ c.loop-piece.invariant c.piece-item.result
+    c.in_ok-left.left c.in_ok-left.ensures c.requires.period c.args.cell.now c.requires.residues c.requires.texts c.requires.times refl c.loop-piece.store _ c.loop-piece.invariant c.piece-item.result
     (subst (λ l. Contains l c.piece-item.result) c.as_slice-piece-items.ensures (read _ _ _ c.loop-piece-test.true c.piece-item.is)) c.columns-in-loop-piece.ensures.valid
 
 pub returns-in_err-add-clause-refused : goal.returns-in_err-add-clause-refused
 returns-in_err-add-clause-refused c = λ e. let p = err_from_is_err_and c.from_residual-in_err-add.result c.from_residual-in_err-add.ensures.1 in filled_refused c.args.zone.now c.args.cutters.now (take c.args.store.now.shape.texts c.args.cell.now.texts) c.args.cap (greatest_reach (c.args.zone.now ∷ c.args.cutters.now) + c.args.zone.now.period) c.args.store.now
-    c.in_ok-left.left c.in_ok-left.ensures.difference c.in_ok-left.ensures.reach c.requires.period c.args.cell.now c.requires.residues c.requires.texts c.requires.times refl c.loop-piece.store _ c.loop-piece.invariant c.piece-item.result
+    c.in_ok-left.left c.in_ok-left.ensures c.requires.period c.args.cell.now c.requires.residues c.requires.texts c.requires.times refl c.loop-piece.store _ c.loop-piece.invariant c.piece-item.result
     (subst (λ l. Contains l c.piece-item.result) c.as_slice-piece-items.ensures (read _ _ _ c.loop-piece-test.true c.piece-item.is)) c.columns-in-loop-piece.ensures.valid
     c.add-in-loop-piece.new.self c.add-in-loop-piece.ensures.valid c.add-in-loop-piece.ensures.rest c.add-in-loop-piece.result c.add-in-loop-piece.ensures.too_many c.add-in-loop-piece.ensures.err (cc (e, c.in_err-add.was, p.1, p.2))
 
 pub loop-piece-preserved : goal.loop-piece-preserved
 loop-piece-preserved c = rw (front_more _ _ _ c.loop-piece-test.true c.piece-item.is)
     (rw c.in_ok-add.was at (filled_more c.args.zone.now c.args.cutters.now (take c.args.store.now.shape.texts c.args.cell.now.texts) c.args.cap (greatest_reach (c.args.zone.now ∷ c.args.cutters.now) + c.args.zone.now.period) c.args.store.now
-    c.in_ok-left.left c.in_ok-left.ensures.difference c.in_ok-left.ensures.reach c.requires.period c.args.cell.now c.requires.residues c.requires.texts c.requires.times refl c.loop-piece.store _ c.loop-piece.invariant c.piece-item.result
+    c.in_ok-left.left c.in_ok-left.ensures c.requires.period c.args.cell.now c.requires.residues c.requires.texts c.requires.times refl c.loop-piece.store _ c.loop-piece.invariant c.piece-item.result
     (subst (λ l. Contains l c.piece-item.result) c.as_slice-piece-items.ensures (read _ _ _ c.loop-piece-test.true c.piece-item.is)) c.columns-in-loop-piece.ensures.valid
     c.add-in-loop-piece.new.self c.add-in-loop-piece.ensures.valid c.add-in-loop-piece.ensures.rest c.add-in-loop-piece.result c.add-in-loop-piece.ensures.too_many c.add-in-loop-piece.ensures.ok))
 
@@ -49,7 +49,7 @@ pub returns-clause-ok : goal.returns-clause-ok
 returns-clause-ok c =
     let all : c.loop-piece.piece-index ≡ length c.as_slice-piece-items.result.now = omega (arith, c.loop-piece.auto.piece-index-end, c.loop-piece-test.false) in
     let done : take c.loop-piece.piece-index c.as_slice-piece-items.result.now ≡ c.in_ok-left.left = ap (λ n. take n c.as_slice-piece-items.result.now) all ∙ take-length c.as_slice-piece-items.result.now ∙ c.as_slice-piece-items.ensures in
-    filled_all c.args.zone.now c.args.cutters.now _ c.args.cap _ c.args.store.now c.in_ok-left.left c.in_ok-left.ensures.difference c.loop-piece.store
+    filled_all c.args.zone.now c.args.cutters.now _ c.args.cap _ c.args.store.now c.in_ok-left.left c.in_ok-left.ensures c.loop-piece.store
     (subst (λ l. AreFilled c.args.zone.now c.args.cutters.now (take c.args.store.now.shape.texts c.args.cell.now.texts) c.args.cap (greatest_reach (c.args.zone.now ∷ c.args.cutters.now) + c.args.zone.now.period) c.args.store.now c.loop-piece.store l) done c.loop-piece.invariant)
 
 pub returns-then-len-eq0-clause-ok : goal.returns-then-len-eq0-clause-ok

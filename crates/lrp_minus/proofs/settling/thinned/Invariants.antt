@@ -1,7 +1,7 @@
 -- Some zones are left to be looked at, fewer each time.
 use Rattle.std.proofs.Common.{length}
 use Rattle.lrp_minus.proofs.SettlingLaws.{AreThinning}
-use Rattle.lrp_minus.proofs.settling.uncovered.Given as goal
+use Rattle.lrp_minus.proofs.settling.thinned.Given as goal
 
 abbrev pub invariant-loop-zone : goal.invariant-loop-zone
 invariant-loop-zone l = AreThinning l.zones l.left l.kept

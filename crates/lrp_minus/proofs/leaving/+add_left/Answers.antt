@@ -1,0 +1,74 @@
+-- What is left of one more side is appended.
+use Rattle.std.proofs.Common.{◌≡◌, ◌+◌, ◌<◌, ◌≤◌, ◌^◌, ◌++◌, ◌∷◌, [], length, take, max, arith, ap, sym, subst, ◌∙◌}
+use Rattle.std.specs.Prelude.{Contains}
+use Rattle.std.proofs.Math.Seq.{take-length}
+use Rattle.std.proofs.lemmas.Bool.{eqb-true}
+use Rattle.lrp_zone.specs.Zones.{reach_of}
+use Rattle.lrp_minus.specs.Cutting.{side_reach}
+use Rattle.lrp_minus.specs.Differences.{AreOfCell, greatest_reach}
+use Rattle.lrp_minus.specs.Leaving.{AppendsLeft}
+use Rattle.lrp_minus.proofs.CutLaws.{cells_moved}
+use Rattle.lrp_minus.proofs.Lists.{front_more, on_ok, reach_below, read}
+use Rattle.lrp_minus.proofs.LeavingLaws.{cells_met, left_all, left_more, left_start, left_whole, meets_fewer, reach_met}
+use Rattle.lrp_minus.proofs.leaving.+add_left.Goals as goal
+
+pub returns-then-is_empty : goal.returns-then-is_empty
+returns-then-is_empty t c =
+    let none : length c.args.cutters.now ≡ 0 = eqb-true (length c.args.cutters.now) 0 (sym c.is_empty.ensures ∙ c.if-is_empty.true) in
+    on_ok (c.push.new.self ≡ c.args.made.now ++ c.args.part.now ∷ []) _ c.push.result
+    (λ e h small high. subst (λ l. AppendsLeft c.args.part.now (c.args.part.now ∷ []) c.args.cutters.now h c.args.made.now l) (sym e) (left_whole c.args.part.now c.args.cutters.now h c.args.made.now c.columns.ensures.valid none small)) c.push.ensures.ok
+
+pub outside-requires-clause-cell : goal.outside-requires-clause-cell
+outside-requires-clause-cell t c = c.requires.cell.each c.middle.result.now c.middle.ensures
+
+pub outside-requires-clause-reach : goal.outside-requires-clause-reach
+outside-requires-clause-reach t c =
+    let low : reach_of c.middle.result.now ≤ greatest_reach c.args.cutters.now = reach_below c.args.cutters.now c.middle.result.now c.middle.ensures in
+    let room : greatest_reach c.args.cutters.now + c.args.part.now.period ≤ 2 ^ 62 = c.requires.reach in
+    omega arith
+
+pub meeting-requires : goal.meeting-requires
+meeting-requires t c =
+    let l : Contains c.in_ok-sides.sides c.side-item.result = subst (λ x. Contains x c.side-item.result) c.as_slice-side-items.ensures (read _ _ _ c.loop-side-test.true c.side-item.is) in
+    record { cell = cells_moved c.args.part.now c.side-item.result c.args.cutters.now (c.in_ok-sides.ensures.zones c.side-item.result l).1 c.requires.cell }
+
+pub add_left-requires : goal.add_left-requires
+add_left-requires t c =
+    let l : Contains c.in_ok-sides.sides c.side-item.result = subst (λ x. Contains x c.side-item.result) c.as_slice-side-items.ensures (read _ _ _ c.loop-side-test.true c.side-item.is) in
+    let fewer : length c.in_ok-met.met < length c.args.cutters.now = meets_fewer c.args.part.now c.middle.result.now _ c.in_ok-sides.sides c.args.cutters.now c.middle.ensures c.in_ok-sides.ensures c.side-item.result l c.in_ok-met.met c.in_ok-met.ensures in
+    let same : length c.as_slice.result.now ≡ length c.in_ok-met.met = ap (λ x. length x) c.as_slice.ensures in
+    let less : greatest_reach c.in_ok-met.met ≤ greatest_reach c.args.cutters.now = reach_met c.args.part.now c.middle.result.now _ c.in_ok-sides.sides c.args.cutters.now c.middle.ensures c.in_ok-sides.ensures c.side-item.result l c.in_ok-met.met c.in_ok-met.ensures in
+    let period : c.side-item.result.period ≡ c.args.part.now.period = (c.in_ok-sides.ensures.zones c.side-item.result l).1.period in
+    let room : greatest_reach c.args.cutters.now + c.args.part.now.period ≤ 2 ^ 62 = c.requires.reach in (
+      omega (arith, c.decreases, fewer, same),
+      (
+        subst (λ x. AreOfCell c.side-item.result x) (sym c.as_slice.ensures)
+            (cells_met c.args.part.now c.middle.result.now _ c.in_ok-sides.sides c.args.cutters.now c.middle.ensures c.in_ok-sides.ensures c.side-item.result l c.in_ok-met.met c.in_ok-met.ensures c.requires.cell),
+        subst (λ x. side_reach c.side-item.result.period x ≤ 2 ^ 62) (sym c.as_slice.ensures) (omega (arith, less, period, room)),
+      ),
+    )
+
+pub loop-side-init : goal.loop-side-init
+loop-side-init t c = λ h small high. left_start c.args.part.now c.args.cutters.now h c.args.made.now
+
+pub loop-side-preserved : goal.loop-side-preserved
+loop-side-preserved t c = λ h small high.
+    let l : Contains c.in_ok-sides.sides c.side-item.result = subst (λ x. Contains x c.side-item.result) c.as_slice-side-items.ensures (read _ _ _ c.loop-side-test.true c.side-item.is) in
+    let more : take (c.loop-side.side-index + 1) c.as_slice-side-items.result.now ≡ take c.loop-side.side-index c.as_slice-side-items.result.now ++ c.side-item.result ∷ [] = front_more _ _ _ c.loop-side-test.true c.side-item.is in
+    let less : greatest_reach c.in_ok-met.met ≤ greatest_reach c.args.cutters.now = reach_met c.args.part.now c.middle.result.now _ c.in_ok-sides.sides c.args.cutters.now c.middle.ensures c.in_ok-sides.ensures c.side-item.result l c.in_ok-met.met c.in_ok-met.ensures in
+    let low : reach_of c.middle.result.now ≤ greatest_reach c.args.cutters.now = reach_below c.args.cutters.now c.middle.result.now c.middle.ensures in
+    let side : reach_of c.side-item.result ≤ max (reach_of c.args.part.now) (reach_of c.middle.result.now + c.args.part.now.period) = c.in_ok-sides.ensures.reach c.side-item.result l in
+    let period : c.side-item.result.period ≡ c.args.part.now.period = (c.in_ok-sides.ensures.zones c.side-item.result l).1.period in
+    let top : greatest_reach c.args.cutters.now + c.args.part.now.period ≤ h = high in
+    let part : reach_of c.args.part.now ≤ h = small in
+    subst (λ x. AppendsLeft c.args.part.now x c.args.cutters.now h c.args.made.now c.add_left.new.made) (sym more)
+    (left_more c.args.part.now c.side-item.result _ c.args.cutters.now c.in_ok-met.met h c.args.made.now c.loop-side.made c.add_left.new.made (c.in_ok-sides.ensures.zones c.side-item.result l).1 c.in_ok-met.ensures (c.loop-side.invariant h small high)
+    (subst (λ x. AppendsLeft c.side-item.result (c.side-item.result ∷ []) x h c.loop-side.made c.add_left.new.made) c.as_slice.ensures
+    (c.in_ok-add_left.ensures h (omega (arith, low, side, top, part)) (subst (λ x. side_reach c.side-item.result.period x ≤ h) (sym c.as_slice.ensures) (omega (arith, less, period, top))))))
+
+pub returns : goal.returns
+returns t c = λ h small high.
+    let all : c.loop-side.side-index ≡ length c.as_slice-side-items.result.now = omega (arith, c.loop-side.auto.side-index-end, c.loop-side-test.false) in
+    let whole : take c.loop-side.side-index c.as_slice-side-items.result.now ≡ c.in_ok-sides.sides = ap (λ n. take n c.as_slice-side-items.result.now) all ∙ take-length c.as_slice-side-items.result.now ∙ c.as_slice-side-items.ensures in
+    left_all c.args.part.now c.middle.result.now _ h c.in_ok-sides.sides c.args.cutters.now c.args.made.now c.loop-side.made c.middle.ensures c.in_ok-sides.ensures
+    (subst (λ x. AppendsLeft c.args.part.now x c.args.cutters.now h c.args.made.now c.loop-side.made) whole (c.loop-side.invariant h small high))

@@ -1,0 +1,76 @@
+-- One more side is searched.
+use Rattle.std.proofs.Common.{◌≡◌, ◌+◌, ◌<◌, ◌≤◌, ◌^◌, ◌++◌, ◌∷◌, [], inl, inr, length, take, arith, refl, ap, sym, subst, ◌∙◌}
+use Rattle.std.specs.Prelude.{Contains}
+use Rattle.std.proofs.Math.Seq.{take-length}
+use Rattle.std.proofs.lemmas.Bool.{eqb-true}
+use Rattle.std.proofs.lemmas.List.Elements.{Contains-append_cases}
+use Rattle.lrp_zone.specs.Zones.{reach_of}
+use Rattle.lrp_minus.specs.Cutting.{side_reach}
+use Rattle.lrp_minus.specs.Differences.{AreOfCell, greatest_reach}
+use Rattle.lrp_minus.specs.Leaving.{HasGap}
+use Rattle.lrp_minus.proofs.CutLaws.{cells_moved}
+use Rattle.lrp_minus.proofs.Lists.{front_more, in_one, reach_below, read}
+use Rattle.lrp_minus.proofs.LeavingLaws.{all_gap, cells_met, gap_found, meets_fewer, no_gap, no_gap_left, reach_met}
+use Rattle.lrp_minus.proofs.leaving.+has_gap.Goals as goal
+
+pub returns-then-is_empty : goal.returns-then-is_empty
+returns-then-is_empty t c =
+    let none : length c.args.cutters.now ≡ 0 = eqb-true (length c.args.cutters.now) 0 (sym c.is_empty.ensures ∙ c.if-is_empty.true) in
+    (λ x. all_gap c.args.part.now c.args.cutters.now c.columns.ensures.valid none, λ g. refl)
+
+pub outside-requires-clause-cell : goal.outside-requires-clause-cell
+outside-requires-clause-cell t c = c.requires.cell.each c.middle.result.now c.middle.ensures
+
+pub outside-requires-clause-reach : goal.outside-requires-clause-reach
+outside-requires-clause-reach t c =
+    let low : reach_of c.middle.result.now ≤ greatest_reach c.args.cutters.now = reach_below c.args.cutters.now c.middle.result.now c.middle.ensures in
+    let room : greatest_reach c.args.cutters.now + c.args.part.now.period ≤ 2 ^ 62 = c.requires.reach in
+    omega arith
+
+pub meeting-requires : goal.meeting-requires
+meeting-requires t c =
+    let l : Contains c.in_ok-sides.sides c.side-item.result = subst (λ x. Contains x c.side-item.result) c.as_slice-side-items.ensures (read _ _ _ c.loop-side-test.true c.side-item.is) in
+    record { cell = cells_moved c.args.part.now c.side-item.result c.args.cutters.now (c.in_ok-sides.ensures.zones c.side-item.result l).1 c.requires.cell }
+
+pub has_gap-requires : goal.has_gap-requires
+has_gap-requires t c =
+    let l : Contains c.in_ok-sides.sides c.side-item.result = subst (λ x. Contains x c.side-item.result) c.as_slice-side-items.ensures (read _ _ _ c.loop-side-test.true c.side-item.is) in
+    let fewer : length c.in_ok-met.met < length c.args.cutters.now = meets_fewer c.args.part.now c.middle.result.now _ c.in_ok-sides.sides c.args.cutters.now c.middle.ensures c.in_ok-sides.ensures c.side-item.result l c.in_ok-met.met c.in_ok-met.ensures in
+    let same : length c.as_slice.result.now ≡ length c.in_ok-met.met = ap (λ x. length x) c.as_slice.ensures in
+    let less : greatest_reach c.in_ok-met.met ≤ greatest_reach c.args.cutters.now = reach_met c.args.part.now c.middle.result.now _ c.in_ok-sides.sides c.args.cutters.now c.middle.ensures c.in_ok-sides.ensures c.side-item.result l c.in_ok-met.met c.in_ok-met.ensures in
+    let period : c.side-item.result.period ≡ c.args.part.now.period = (c.in_ok-sides.ensures.zones c.side-item.result l).1.period in
+    let room : greatest_reach c.args.cutters.now + c.args.part.now.period ≤ 2 ^ 62 = c.requires.reach in (
+      omega (arith, c.decreases, fewer, same),
+      (
+        subst (λ x. AreOfCell c.side-item.result x) (sym c.as_slice.ensures)
+            (cells_met c.args.part.now c.middle.result.now _ c.in_ok-sides.sides c.args.cutters.now c.middle.ensures c.in_ok-sides.ensures c.side-item.result l c.in_ok-met.met c.in_ok-met.ensures c.requires.cell),
+        subst (λ x. side_reach c.side-item.result.period x ≤ 2 ^ 62) (sym c.as_slice.ensures) (omega (arith, less, period, room)),
+      ),
+    )
+
+pub returns-then-branch : goal.returns-then-branch
+returns-then-branch t c =
+    let l : Contains c.in_ok-sides.sides c.side-item.result = subst (λ x. Contains x c.side-item.result) c.as_slice-side-items.ensures (read _ _ _ c.loop-side-test.true c.side-item.is) in
+    let g : HasGap c.side-item.result c.in_ok-met.met = subst (λ x. HasGap c.side-item.result x) c.as_slice.ensures (c.in_ok-has_gap.ensures.0 c.if-branch.true) in (
+      λ x. gap_found c.args.part.now c.middle.result.now _ c.in_ok-sides.sides c.args.cutters.now c.middle.ensures c.in_ok-sides.ensures c.side-item.result l c.in_ok-met.met c.in_ok-met.ensures g,
+      λ x. refl,
+    )
+
+pub loop-side-preserved : goal.loop-side-preserved
+loop-side-preserved t c = λ w k g.
+    let l : Contains c.in_ok-sides.sides c.side-item.result = subst (λ x. Contains x c.side-item.result) c.as_slice-side-items.ensures (read _ _ _ c.loop-side-test.true c.side-item.is) in
+    let more : take (c.loop-side.side-index + 1) c.as_slice-side-items.result.now ≡ take c.loop-side.side-index c.as_slice-side-items.result.now ++ c.side-item.result ∷ [] = front_more _ _ _ c.loop-side-test.true c.side-item.is in
+    elim (Contains-append_cases (take c.loop-side.side-index c.as_slice-side-items.result.now) (c.side-item.result ∷ []) w (subst (λ x. Contains x w) more k)) [
+      | inl a ↦ c.loop-side.invariant w a g
+      | inr a ↦ no_gap c.args.part.now c.middle.result.now _ c.in_ok-sides.sides c.args.cutters.now c.middle.ensures c.in_ok-sides.ensures c.side-item.result l c.in_ok-met.met c.in_ok-met.ensures
+          (λ x. cc (c.in_ok-has_gap.ensures.1 (subst (λ y. HasGap c.side-item.result y) (sym c.as_slice.ensures) x), c.if-branch.false))
+          (subst (λ y. HasGap y c.args.cutters.now) (sym (in_one c.side-item.result w a)) g)
+    ]
+
+pub returns : goal.returns
+returns t c =
+    let all : c.loop-side.side-index ≡ length c.as_slice-side-items.result.now = omega (arith, c.loop-side.auto.side-index-end, c.loop-side-test.false) in
+    let whole : take c.loop-side.side-index c.as_slice-side-items.result.now ≡ c.in_ok-sides.sides = ap (λ n. take n c.as_slice-side-items.result.now) all ∙ take-length c.as_slice-side-items.result.now ∙ c.as_slice-side-items.ensures in (
+      λ x. absurd (cc x),
+      λ g. absurd (no_gap_left c.args.part.now c.middle.result.now _ c.in_ok-sides.sides c.args.cutters.now c.middle.ensures c.in_ok-sides.ensures (λ w k. c.loop-side.invariant w (subst (λ x. Contains x w) (sym whole) k)) g),
+    )
