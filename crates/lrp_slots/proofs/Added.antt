@@ -1,11 +1,13 @@
 -- What a chain has once a slot joined it.
-use Rattle.std.proofs.Common.{◌≡◌, ◌≢◌, ℕ, suc, ◌+◌, ◌-◌, List, [], ◌∷◌, ◌++◌, Option, Some, None, IsSome, refl, sym, ap, subst, ◌∙◌, arith}
+use Rattle.std.proofs.Common.{◌≡◌, ◌≢◌, ℕ, zero, suc, ◌+◌, ◌-◌, ◌<◌, ◌≤◌, ◌⊎◌, inl, inr, Bool, true, false, add-zero, List, [], ◌∷◌, ◌++◌, Option, Some, None, IsSome, refl, sym, ap, subst, ◌∙◌, arith}
+use Rattle.std.specs.Prelude.{◌==◌, if◌then◌else◌}
+use Rattle.std.proofs.lemmas.Bool.{eqb-true}
 use Rattle.std.specs.List.{AllByRecursion}
 use Rattle.slab.specs.Slab.{Slab, get}
 use Rattle.lrp_slots.specs.declared.chains.Link.{Link}
 use Rattle.lrp_slots.specs.declared.chains.Chain.{Chain}
 use Rattle.lrp_slots.specs.Links.{next_of, value_at, keys_from, key_after, values_at, chain_keys, chain_values, extended, IsWhole, AreApart, AreHeld, Pushes}
-use Rattle.lrp_slots.proofs.Keys.{all_so, all_both, all_front, all_joined, apart_before, AreApart-push, keys_from-add, key_after-suc, same_walk, same_values, values_at-append, held_of, still_held}
+use Rattle.lrp_slots.proofs.Keys.{all_so, all_both, all_front, all_joined, apart_before, AreApart-push, below_or, keys_from-add, key_after-suc, same_end, same_walk, same_values, values_at-append, held_of, still_held}
 
 module _ {V : Type 0} where
   -- a key with a value is not the key of a slot with none
@@ -33,10 +35,15 @@ module _ {V : Type 0} where
       held = (held_of (get new old.vacant_key) value pushes.added, tt);
       apart = (tt, tt);
       last = refl;
+      line = λ e i within. one_line i within;
     };
     keys_are = refl;
     values_are = ap (λ xs. xs ++ []) pushes.added;
   }
+    where
+      one_line : (i : ℕ) → i < 1 → key_after (get new) i old.vacant_key ≡ old.vacant_key + i
+      one_line zero within = sym (add-zero old.vacant_key)
+      one_line (suc i) within = absurd (omega arith)
 
 module _ {V : Type 0} (old new : Slab (Link V)) (chain : Chain) (value : V) (whole : IsWhole (get old) chain) (pushes : Pushes old new (Some chain) value) where
   -- the key of the new slot
@@ -116,6 +123,7 @@ module _ {V : Type 0} (old new : Slab (Link V)) (chain : Chain) (value : V) (who
       held = subst (AreHeld (get new)) (sym keys_more) all_held;
       apart = subst AreApart (sym keys_more) (AreApart-push keys key whole.apart unlike_key);
       last = ap (λ k. key_after (get new) k chain.first) last_count ∙ end_is;
+      line = λ e i within. line_more e i within (below_or i chain.count);
     };
     keys_are = keys_more;
     values_are =
@@ -126,3 +134,19 @@ module _ {V : Type 0} (old new : Slab (Link V)) (chain : Chain) (value : V) (who
     where
       last_count : chain.count + 1 - 1 ≡ suc n
       last_count = omega (arith, count_is)
+
+      -- where the key is behind the last one, the slots stay in line
+      follows : (line : Bool) → (if line then chain.last + 1 == key else false) ≡ true → (line ≡ true) × (chain.last + 1 ≡ key)
+      follows true e = (refl, eqb-true (chain.last + 1) key e)
+      follows false e = cc
+
+      before_end : (i : ℕ) → i < chain.count → key_after (get new) i chain.first ≡ key_after (get old) i chain.first
+      before_end i within = same_end (get old) (get new) n i chain.first (omega (arith, count_is)) front_same
+
+      line_more : (if chain.in_line then chain.last + 1 == key else false) ≡ true → (i : ℕ) → i < chain.count + 1 → (i < chain.count) ⊎ (chain.count ≤ i) → key_after (get new) i chain.first ≡ chain.first + i
+      line_more e i within (inl before) = before_end i before ∙ whole.line (follows chain.in_line e).0 i before
+      line_more e i within (inr behind) =
+          let here : i ≡ suc n = omega (arith, count_is) in
+          let at_last : chain.last ≡ chain.first + n = sym whole.last ∙ whole.line (follows chain.in_line e).0 n (omega (arith, count_is)) in
+          let next : chain.last + 1 ≡ key = (follows chain.in_line e).1 in
+          ap (λ k. key_after (get new) k chain.first) here ∙ end_is ∙ omega arith

@@ -1,8 +1,13 @@
 -- Following links: what a walk comes to, and what it still comes to after some slots changed.
-use Rattle.std.proofs.Common.{◌≡◌, ◌≢◌, ℕ, zero, suc, ◌+◌, ◌<◌, ◌≤◌, List, [], ◌∷◌, ◌++◌, length, Option, Some, None, IsSome, refl, sym, ap, ◌∙◌, arith}
+use Rattle.std.proofs.Common.{◌≡◌, ◌≢◌, ℕ, zero, suc, ◌+◌, ◌<◌, ◌≤◌, ◌⊎◌, List, [], ◌∷◌, ◌++◌, length, Option, Some, None, IsSome, refl, sym, ap, ◌∙◌, arith}
+use Rattle.std.specs.Prelude.{slice_get}
 use Rattle.std.specs.List.{AllByRecursion}
 use Rattle.lrp_slots.specs.declared.chains.Link.{Link}
 use Rattle.lrp_slots.specs.Links.{next_of, value_at, keys_from, key_after, values_at, AreHeld, AreApart}
+
+-- one number is below another, or is not
+pub below_or : (m n : ℕ) → (m < n) ⊎ (n ≤ m)
+below_or m n = grind arith
 
 -- what holds of each, where each of it gives the other
 pub all_so : {X : Type 0} (P Q : X → Type 0) (xs : List X) → ((x : X) → P x → Q x) → AllByRecursion P xs → AllByRecursion Q xs
@@ -142,3 +147,18 @@ module _ {V : Type 0} where
   pub still_held : (o p : Option (Link V)) → value_at p ≡ value_at o → IsSome o → IsSome p
   still_held None p e held = cc
   still_held (Some link) p e held = held_of p link.value e
+
+  -- the value under the key at a place of a walk
+  pub value_at_place : (slots : ℕ → Option (Link V)) (n i key : ℕ) (link : Link V) → i < n → AreHeld slots (keys_from slots n key) → slots (key_after slots i key) ≡ Some link → slice_get (values_at slots (keys_from slots n key)) i ≡ Some link.value
+  value_at_place slots zero i key link within held e = absurd (omega arith)
+  value_at_place slots (suc n) zero key link within held e = first_value (slots key) (values_at slots (keys_from slots n (next_of (slots key)))) link e
+    where
+      first_value : (o : Option (Link V)) (rest : List V) (link : Link V) → o ≡ Some link → slice_get (value_at o ++ rest) 0 ≡ Some link.value
+      first_value None rest link e = cc
+      first_value (Some other) rest link e = let same : other ≡ link = cc in ap (λ (l : Link V). Some l.value) same
+  value_at_place slots (suc n) (suc i) key link within held e = later_value (slots key) (values_at slots (keys_from slots n (next_of (slots key)))) i held.0
+      ∙ value_at_place slots n i (next_of (slots key)) link (omega arith) held.1 e
+    where
+      later_value : (o : Option (Link V)) (rest : List V) (i : ℕ) → IsSome o → slice_get (value_at o ++ rest) (suc i) ≡ slice_get rest i
+      later_value None rest i held = cc
+      later_value (Some other) rest i held = refl

@@ -45,6 +45,7 @@ module _ {V : Type 0} where
           held = subst (AreHeld new) (sym keys) held;
           apart = subst AreApart (sym keys) whole.apart;
           last = same_end old new chain.count (chain.count - 1) chain.first (omega arith) next ∙ whole.last;
+          line = λ e i within. same_end old new chain.count i chain.first (omega arith) next ∙ whole.line e i within;
         };
         keys = keys;
         values = ap (values_at new) keys ∙ same_values old new (chain_keys old chain) (all_so (λ k. new k ≡ old k) (λ k. value_at (new k) ≡ value_at (old k)) _ (λ k e. ap value_at e) same);

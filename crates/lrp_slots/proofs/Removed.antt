@@ -1,5 +1,5 @@
 -- What a chain has once a slot left it.
-use Rattle.std.proofs.Common.{◌≡◌, ◌≢◌, ℕ, zero, suc, ◌+◌, ◌-◌, ◌<◌, List, [], ◌∷◌, ◌++◌, Some, None, IsSome, refl, sym, ap, subst, ◌∙◌, arith, append_assoc}
+use Rattle.std.proofs.Common.{◌≡◌, ◌≢◌, ℕ, zero, suc, ◌+◌, ◌-◌, ◌<◌, Bool, false, List, [], ◌∷◌, ◌++◌, Some, None, IsSome, refl, sym, ap, subst, ◌∙◌, arith, append_assoc}
 use Rattle.std.specs.List.{AllByRecursion}
 use Rattle.slab.specs.Slab.{Slab, get, slab_len, HasRoomFor, Updates}
 use Rattle.lrp_slots.specs.declared.chains.Link.{Link}
@@ -8,24 +8,24 @@ use Rattle.lrp_slots.specs.Links.{next_of, value_at, keys_from, key_after, chain
 use Rattle.lrp_slots.proofs.Keys.{all_so, all_both, all_back, all_front, apart_before, apart_after, keys_from-add, key_after-add, key_after-suc, length-keys_from, on_the_way, same_walk, same_end}
 
 -- what holds of each chain with at least one slot, by the number of the others
-pub by_count : (P : Chain → Type 0) → ((first last n : ℕ) → P (record { first = first; last = last; count = suc n })) → (chain : Chain) → 0 < chain.count → P chain
-by_count P each chain some = counted chain.first chain.last chain.count some
+pub by_count : (P : Chain → Type 0) → ((first last n : ℕ) (line : Bool) → P (record { first = first; last = last; count = suc n; in_line = line })) → (chain : Chain) → 0 < chain.count → P chain
+by_count P each chain some = counted chain.first chain.last chain.count chain.in_line some
   where
-    counted : (first last count : ℕ) → 0 < count → P (record { first = first; last = last; count = count })
-    counted first last zero some = absurd (omega arith)
-    counted first last (suc n) some = each first last n
+    counted : (first last count : ℕ) (line : Bool) → 0 < count → P (record { first = first; last = last; count = count; in_line = line })
+    counted first last zero line some = absurd (omega arith)
+    counted first last (suc n) line some = each first last n line
 
 module _ {V : Type 0} where
   -- the first slot left
   pub first_out : (old new : Slab (Link V)) (chain : Chain) (link : Link V) → IsWhole (get old) chain → get old chain.first ≡ Some link → Updates old new chain.first None
       → slab_len new + 1 ≡ slab_len old → HasRoomFor new 1 → new.capacity ≡ old.capacity
-      → TakesOut old new chain 0 link.value (record { first = link.next; last = chain.last; count = chain.count - 1 })
+      → TakesOut old new chain 0 link.value (record { first = link.next; last = chain.last; count = chain.count - 1; in_line = false })
   first_out old new chain link whole found updates len room capacity =
-      by_count (λ chain. IsWhole (get old) chain → get old chain.first ≡ Some link → Updates old new chain.first None → TakesOut old new chain 0 link.value (record { first = link.next; last = chain.last; count = chain.count - 1 }))
+      by_count (λ chain. IsWhole (get old) chain → get old chain.first ≡ Some link → Updates old new chain.first None → TakesOut old new chain 0 link.value (record { first = link.next; last = chain.last; count = chain.count - 1; in_line = false }))
       each chain whole.some whole found updates
     where
-      each : (first last n : ℕ) → IsWhole (get old) (record { first = first; last = last; count = suc n }) → get old first ≡ Some link → Updates old new first None → TakesOut old new (record { first = first; last = last; count = suc n }) 0 link.value (record { first = link.next; last = last; count = suc n - 1 })
-      each first last n whole found updates =
+      each : (first last n : ℕ) (line : Bool) → IsWhole (get old) (record { first = first; last = last; count = suc n; in_line = line }) → get old first ≡ Some link → Updates old new first None → TakesOut old new (record { first = first; last = last; count = suc n; in_line = line }) 0 link.value (record { first = link.next; last = last; count = suc n - 1; in_line = false })
+      each first last n line whole found updates =
           let fewer : suc n - 1 ≡ n = omega arith in
           let next : next_of (get old first) ≡ link.next = ap next_of found in
           let apart : AllByRecursion (λ other. other ≢ first) (keys_from (get old) n link.next) = subst (λ k. AllByRecursion (λ other. other ≢ first) (keys_from (get old) n k)) next whole.apart.0 in
@@ -40,6 +40,7 @@ module _ {V : Type 0} where
             are = ap (λ k. keys_from (get new) k link.next) fewer ∙ (same_walk (get old) (get new) n link.next same).1;
             count = omega arith;
             last = λ some. last_of n (omega arith) same (rw fewer at whole.last);
+            broken = refl;
             was = ap value_at found;
             gone = updates.changed;
             values = λ k differs. ap value_at (updates.others k differs);
@@ -175,7 +176,7 @@ module _ {V : Type 0} (old mid new : Slab (Link V)) (chain : Chain) (i m key : �
 
   -- a slot after the first left
   pub later_out : (last : ℕ) → (m ≡ 0 → last ≡ before) → (0 < m → last ≡ chain.last) → slab_len mid + 1 ≡ slab_len old → HasRoomFor mid 1 → mid.capacity ≡ old.capacity
-      → TakesOut old new chain (suc i) link.value (record { first = chain.first; last = last; count = chain.count - 1 })
+      → TakesOut old new chain (suc i) link.value (record { first = chain.first; last = last; count = chain.count - 1; in_line = false })
   later_out last if_end if_more len room capacity = record {
     front = front;
     key = key;
@@ -185,6 +186,7 @@ module _ {V : Type 0} (old mid new : Slab (Link V)) (chain : Chain) (i m key : �
     are = keys_left (chain.count - 1) (omega (arith, parts.count));
     count = omega (arith, parts.count);
     last = λ some. last_left last m (chain.count - 1) (omega (arith, parts.count)) refl if_end if_more;
+    broken = refl;
     was = ap value_at parts.found;
     gone = joins.others key (apart_from_before old chain i m key link parts) ∙ updates.changed;
     values = λ k differs. joins.values k ∙ ap value_at (updates.others k differs);
@@ -238,7 +240,7 @@ module _ {V : Type 0} where
       → Updates old mid to.next None → Joins mid new before link.next
       → (place + 1 ≡ chain.count → last ≡ before) → (place + 1 ≢ chain.count → last ≡ chain.last)
       → slab_len mid + 1 ≡ slab_len old → HasRoomFor mid 1 → mid.capacity ≡ old.capacity
-      → TakesOut old new chain place link.value (record { first = chain.first; last = last; count = chain.count - 1 })
+      → TakesOut old new chain place link.value (record { first = chain.first; last = last; count = chain.count - 1; in_line = false })
   taken_out old mid new chain zero before last to link r found updates joins at_end inside len room capacity = absurd (r.later refl)
   taken_out old mid new chain (suc i) before last to link r found updates joins at_end inside len room capacity =
       let fewer : suc i - 1 ≡ i = omega arith in

@@ -1,5 +1,5 @@
 -- All chains together, after a value was taken out.
-use Rattle.std.proofs.Common.{◌≡◌, ◌≢◌, ℕ, zero, suc, ◌+◌, ◌<◌, cond, ◌⊎◌, List, [], ◌∷◌, ◌++◌, length, Option, Some, option_map, IsSome, refl, sym, ap, subst, ◌∙◌, arith, inl, inr}
+use Rattle.std.proofs.Common.{◌≡◌, ◌≢◌, ℕ, zero, suc, ◌+◌, ◌<◌, Bool, cond, ◌⊎◌, List, [], ◌∷◌, ◌++◌, length, Option, Some, option_map, IsSome, refl, sym, ap, subst, ◌∙◌, arith, inl, inr}
 use Rattle.std.proofs.Math.Dec.{eqb-suc-zero}
 use Rattle.std.specs.Prelude.{slice_get}
 use Rattle.std.specs.List.{AllByRecursion, remove}
@@ -28,27 +28,27 @@ read_middle (x ∷ xs) y ys = read_middle xs y ys
 
 -- what is left of a chain has a slot
 pub some_left : (rest chain : Chain) → if_some rest ≡ Some chain → (0 < rest.count) × (rest ≡ chain)
-some_left rest chain e = by_slots rest.first rest.last rest.count e
+some_left rest chain e = by_slots rest.first rest.last rest.count rest.in_line e
   where
-    by_slots : (first last count : ℕ) → if_some (record { first = first; last = last; count = count }) ≡ Some chain → (0 < count) × (record { first = first; last = last; count = count } ≡ chain)
-    by_slots first last zero e = cc
-    by_slots first last (suc n) e =
-        let left : Some (record { first = first; last = last; count = suc n }) ≡ Some chain = rw (eqb-suc-zero n) at e in
+    by_slots : (first last count : ℕ) (line : Bool) → if_some (record { first = first; last = last; count = count; in_line = line }) ≡ Some chain → (0 < count) × (record { first = first; last = last; count = count; in_line = line } ≡ chain)
+    by_slots first last zero line e = cc
+    by_slots first last (suc n) line e =
+        let left : Some (record { first = first; last = last; count = suc n; in_line = line }) ≡ Some chain = rw (eqb-suc-zero n) at e in
         (omega arith, cc)
 
 module _ {V : Type 0} where
   -- the list of what is left
   pub list_left : (slots : ℕ → Option (Link V)) (rest : Chain) → length (chain_values slots rest) ≡ rest.count → option_map (chain_values slots) (if_some rest) ≡ some_list (chain_values slots rest)
-  list_left slots rest many = by_slots rest.first rest.last rest.count many
+  list_left slots rest many = by_slots rest.first rest.last rest.count rest.in_line many
     where
       filled : (xs : List V) (n : ℕ) → length xs ≡ suc n → Some xs ≡ some_list xs
       filled [] n e = absurd (omega arith)
       filled (x ∷ xs) n e = refl
 
-      by_slots : (first last count : ℕ) → length (chain_values slots (record { first = first; last = last; count = count })) ≡ count
-          → option_map (chain_values slots) (if_some (record { first = first; last = last; count = count })) ≡ some_list (chain_values slots (record { first = first; last = last; count = count }))
-      by_slots first last zero many = refl
-      by_slots first last (suc n) many = rw (eqb-suc-zero n) (filled (chain_values slots (record { first = first; last = last; count = suc n })) n many)
+      by_slots : (first last count : ℕ) (line : Bool) → length (chain_values slots (record { first = first; last = last; count = count; in_line = line })) ≡ count
+          → option_map (chain_values slots) (if_some (record { first = first; last = last; count = count; in_line = line })) ≡ some_list (chain_values slots (record { first = first; last = last; count = count; in_line = line }))
+      by_slots first last zero line many = refl
+      by_slots first last (suc n) line many = rw (eqb-suc-zero n) (filled (chain_values slots (record { first = first; last = last; count = suc n; in_line = line })) n many)
 
 -- what `remove` did to the slots and to the map
 pub record Removal {V : Type 0} (old new : Slab (Link V)) (es fs : List (Cell × Chain)) (c : Cell) (chain : Chain) (place : ℕ) (value : V) (rest : Chain) : Type 0 where
@@ -113,6 +113,7 @@ module _ {V : Type 0} (old new : Slab (Link V)) (es fs : List (Cell × Chain)) (
     held = subst (AreHeld (get new)) (sym taken.are) still;
     apart = subst AreApart (sym taken.are) (AreApart-without taken.front taken.key taken.back were_apart);
     last = taken.last some;
+    line = λ e. absurd (cc (e, taken.broken));
   }
 
   -- and is the cell's

@@ -1,5 +1,5 @@
 -- How lists stand in slots: each slot has the key of the slot that follows. No public clause cites this module.
-use Rattle.std.specs.Prelude.{◌≡◌, ◌≢◌, ℕ, zero, suc, ◌+◌, ◌-◌, ◌<◌, ◌≤◌, ◌==◌, List, [], ◌∷◌, ◌++◌, Option, Some, None, map, length, sum_by, IsSome, if◌then◌else◌}
+use Rattle.std.specs.Prelude.{◌≡◌, ◌≢◌, ℕ, zero, suc, ◌+◌, ◌-◌, ◌<◌, ◌≤◌, ◌==◌, List, [], ◌∷◌, ◌++◌, Option, Some, None, true, false, map, length, sum_by, IsSome, if◌then◌else◌}
 use Rattle.std.specs.List.{AllByRecursion}
 use Rattle.std.specs.List.Sorted.{IsStrictlySortedBy}
 use Rattle.std.specs.Map.{lookup, keys_of, values_of}
@@ -25,8 +25,8 @@ if_some chain = if chain.count == 0 then None else Some chain
 
 -- the chain with one slot more at its end
 abbrev pub extended : Option Chain → ℕ → Chain
-extended None key = record { first = key; last = key; count = 1 }
-extended (Some chain) key = record { first = chain.first; last = key; count = chain.count + 1 }
+extended None key = record { first = key; last = key; count = 1; in_line = true }
+extended (Some chain) key = record { first = chain.first; last = key; count = chain.count + 1; in_line = if chain.in_line then chain.last + 1 == key else false }
 
 -- the slot is the last one of a chain
 abbrev pub IsLast : Option Chain → ℕ → Type 0
@@ -81,12 +81,13 @@ module _ {V : Type 0} where
   abbrev pub AreHeld : (ℕ → Option (Link V)) → List ℕ → Type 0
   AreHeld slots keys = AllByRecursion (λ key. IsSome (slots key)) keys
 
-  -- a chain has at least one slot, comes to each slot once, and ends where it says
+  -- a chain has at least one slot, comes to each slot once, ends where it says, and has its slots in line where it says so
   pub record IsWhole (slots : ℕ → Option (Link V)) (chain : Chain) : Type 0 where
     pub some : 0 < chain.count
     pub held : AreHeld slots (chain_keys slots chain)
     pub apart : AreApart (chain_keys slots chain)
     pub last : key_after slots (chain.count - 1) chain.first ≡ chain.last
+    pub line : chain.in_line ≡ true → (i : ℕ) → i < chain.count → key_after slots i chain.first ≡ chain.first + i
 
   -- the lists of the cells
   abbrev pub lists_of : (ℕ → Option (Link V)) → List (Cell × Chain) → finite.FinMap cell_cmp (List V)
@@ -130,6 +131,7 @@ module _ {V : Type 0} where
     pub are : chain_keys (get new) rest ≡ front ++ back
     pub count : rest.count + 1 ≡ chain.count
     pub last : 0 < rest.count → key_after (get new) (rest.count - 1) rest.first ≡ rest.last
+    pub broken : rest.in_line ≡ false
     pub was : value_at (get old key) ≡ value ∷ []
     pub gone : get new key ≡ None
     pub values : (k : ℕ) → k ≢ key → value_at (get new k) ≡ value_at (get old k)

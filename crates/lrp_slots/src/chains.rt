@@ -1,5 +1,5 @@
 // Chains of slots: each slot has the key of the slot that follows in its list.
-ghost use Rattle.std.specs.Prelude.{◌≡◌, ◌+◌, ◌^◌, ◌<◌, ◌≤◌, Some, Ok, OnOk, IfOk, IfSome};
+ghost use Rattle.std.specs.Prelude.{◌≡◌, ◌+◌, ◌==◌, ◌^◌, ◌<◌, ◌≤◌, Some, Ok, OnOk, IfOk, IfSome};
 ghost use Rattle.std.specs.BTreeMap.{Updates, IsOrdered, ContainsKey};
 ghost use Rattle.slab.specs.Slab.{get, ContainsKey as HasValue, slab_len, HasRoomFor};
 ghost use Rattle.lrp_slots.specs.Lists.{cell_cmp};
@@ -16,12 +16,13 @@ pub(crate) struct Link<V> {
     pub(crate) next: usize,
 }
 
-// Where a list stands: its first slot, its last one, and how many it has.
+// Where a list stands: its first slot, its last one, how many it has, and whether each follows the one before it in the vector.
 #[derive(Clone, Copy)]
 pub(crate) struct Chain {
     pub(crate) first: usize,
     pub(crate) last: usize,
     pub(crate) count: usize,
+    pub(crate) in_line: bool,
 }
 
 // The key that is so many links after one.
@@ -34,6 +35,19 @@ fn key_after<V>(links: &Slab<Link<V>>, first: usize, places: usize) -> usize
         key = links[key].next;
     }
     key
+}
+
+// The key at a place of a chain.
+pub(crate) fn key_at<V>(links: &Slab<Link<V>>, chain: Chain, place: usize) -> usize
+    requires whole { IsWhole (get links.now) chain }
+    requires within { place < chain.count }
+    ensures { result ≡ key_after (get links.now) place chain.first }
+{
+    if chain.in_line {
+        chain.last - (chain.count - 1 - place)
+    } else {
+        key_after(links, chain.first, place)
+    }
 }
 
 // Makes one slot follow another.
@@ -59,6 +73,16 @@ pub(crate) fn vacant_key<V>(links: &mut Slab<Link<V>>) -> Result<usize, Memory>
     Ok(links.vacant_key())
 }
 
+// Whether a key is the one behind another.
+fn is_next(last: usize, key: usize) -> bool
+    ensures { result ≡ (last + 1 == key) }
+{
+    match last.checked_add(1) {
+        Some(next) => next == key,
+        None => false,
+    }
+}
+
 // The chain with one slot more at its end.
 pub(crate) fn extended(held: Option<Chain>, key: usize) -> Chain
     requires { IfSome held (λ chain. chain.count + 1 < 2 ^ 64) }
@@ -69,11 +93,13 @@ pub(crate) fn extended(held: Option<Chain>, key: usize) -> Chain
             first: chain.first,
             last: key,
             count: chain.count + 1,
+            in_line: chain.in_line && is_next(chain.last, key),
         },
         None => Chain {
             first: key,
             last: key,
             count: 1,
+            in_line: true,
         },
     }
 }
@@ -103,6 +129,7 @@ pub(crate) fn take_out<V: Drop>(links: &mut Slab<Link<V>>, chain: Chain, place: 
             first: next,
             last: chain.last,
             count: chain.count - 1,
+            in_line: false,
         };
         return (value, rest);
     }
@@ -118,6 +145,7 @@ pub(crate) fn take_out<V: Drop>(links: &mut Slab<Link<V>>, chain: Chain, place: 
             chain.last
         },
         count: chain.count - 1,
+        in_line: false,
     };
     (value, rest)
 }

@@ -5,7 +5,7 @@ ghost use Rattle.std.specs.FinMap as finite;
 ghost use Rattle.lrp_slots.specs.Lists.{list_at, set_list, append_all};
 ghost use Rattle.lrp_model.specs.declared.tuples.Cell.{Cell as CellValue};
 
-use crate::chains::{Chain, Link, extended, keep_rest, push, take_out, vacant_key};
+use crate::chains::{Chain, Link, extended, keep_rest, key_at, push, take_out, vacant_key};
 use crate::iterators::{Cells, Values};
 use lrp_model::{Cell, Copies, Memory};
 use slab::Slab;
@@ -17,7 +17,8 @@ use std::marker::Model;
 ///
 /// A slot has the key of the slot that follows in its list, or of the next slot that is free, so one
 /// that a cell gives up serves every other (Donald Knuth, "The Art of Computer Programming", volume 1,
-/// section 2.2.3, "Linked Allocation", 1968). Reaching the value at place i costs i steps.
+/// section 2.2.3, "Linked Allocation", 1968). A list whose slots follow one another in the vector, as those of lists that are
+/// filled one after another, is read at any place in one step; in another one place i costs i steps.
 #[derive(Drop)]
 pub struct Slots<V> {
     alloc: Global,
@@ -122,7 +123,12 @@ impl<V: Drop> Slots<V> {
     pub fn get(&self, cell: &Cell, i: usize) -> Option<&V>
         ensures { option_copied result ≡ slice_get (list_at self.now.lists cell.now) i }
     {
-        self.iter(cell).nth(i)
+        let chain = *self.chains.get(cell)?;
+        if i >= chain.count {
+            return None;
+        }
+        let key = key_at(&self.links, chain, i);
+        Some(&self.links[key].value)
     }
 
     /// Takes the value at a place out of a cell's list. The cell goes with its last value.

@@ -1,4 +1,4 @@
-use Rattle.std.proofs.Common.{◌-◌, sym, subst, IsSome, arith}
+use Rattle.std.proofs.Common.{◌-◌, false, sym, subst, IsSome, arith}
 use Rattle.slab.specs.Slab.{get}
 use Rattle.lrp_slots.specs.Links.{TakesOut}
 use Rattle.lrp_slots.proofs.Keys.{all_on_the_way, on_the_way}
@@ -8,7 +8,7 @@ use Rattle.lrp_slots.proofs.chains.take_out.Goals.{then-place-chain, else-place-
 
 pub returns-then-place-eq0 : goal.returns-then-place-eq0
 returns-then-place-eq0 g c =
-    subst (λ place. TakesOut c.args.links.now c.remove-value.new.self c.args.chain place c.remove-value.result.value (record { first = c.remove-value.result.next; last = c.args.chain.last; count = c.args.chain.count - 1 }))
+    subst (λ place. TakesOut c.args.links.now c.remove-value.new.self c.args.chain place c.remove-value.result.value (record { first = c.remove-value.result.next; last = c.args.chain.last; count = c.args.chain.count - 1; in_line = false }))
     (sym c.if-place-eq0.true)
     (first_out c.args.links.now c.remove-value.new.self c.args.chain c.remove-value.result c.requires.whole c.remove-value.ensures.value c.remove-value.ensures.updates c.remove-value.ensures.len c.remove-value.ensures.room c.remove-value.ensures.capacity)
 
