@@ -3,7 +3,7 @@ use Rattle.std.proofs.Common.{◌≡◌, ℕ, ◌+◌, ◌<◌, ◌≤◌, lengt
 use Rattle.std.specs.Prelude.{ℤ, pos, Contains}
 use Rattle.std.specs.FinMap as finite
 use Rattle.lrp_model.specs.declared.tuples.Cell.{Cell}
-use Rattle.lrp_zone.specs.Zones.{ZoneView, IsZone, IsMember, greatest_of, reach_of}
+use Rattle.lrp_zone.specs.Zones.{ZoneView, IsZone, IsMember, greatest_of}
 use Rattle.lrp_store.specs.Stores.{StoreView, IsStore, IsPadded, InStore, tables_at}
 use Rattle.lrp_store.specs.Growing.{IsGrown, IsAdded, IsRefused}
 use Rattle.lrp_store.specs.Settled.{InSome}

@@ -1,21 +1,20 @@
 -- A cutter is taken away from a zone, bound after bound, and cutters are taken away one after another.
 use Rattle.std.proofs.Common.{◌≡◌, ℕ, ◌+◌, ◌<◌, ◌≤◌, ◌⊎◌, ◌^◌, inl, inr, List, [], ◌∷◌, ◌++◌, Option, Some, None, length, get_or, arith, refl, sym, subst, ◌∙◌, ap, max, append_assoc, length-append, to_z, of_z, w64}
-use Rattle.std.specs.Prelude.{ℤ, pos, nat_abs, neg_ℤ, ◌-ℤ◌, ◌≤ℤ◌, Contains}
+use Rattle.std.specs.Prelude.{ℤ, pos, nat_abs, neg_ℤ, ◌-ℤ◌, Contains}
 use Rattle.std.proofs.lemmas.Int.{ints}
-use Rattle.std.proofs.lemmas.List.{append-nil, nil_from_length}
+use Rattle.std.proofs.lemmas.List.{append-nil}
 use Rattle.std.proofs.lemmas.List.Elements.{Contains-get_or, Contains-append_cases, Contains-append_left, Contains-append_right}
 use Rattle.lrp_theory.specs.Bounds.{Within}
 use Rattle.lrp_theory.specs.Entries.{entry, node, AtMost}
 use Rattle.lrp_model.specs.declared.relations.Bound.{Bound}
 use Rattle.lrp_zone.specs.Zones.{ZoneView, IsZone, IsMember, IsTight, columns_of, reach_of}
-use Rattle.lrp_zone.specs.Pairs.{IsOfCell, IsWithin, HaveNoCommon}
+use Rattle.lrp_zone.specs.Pairs.{IsOfCell, IsWithin}
 use Rattle.lrp_store.specs.Settled.{InSome}
-use Rattle.lrp_minus.specs.Cutting.{HaveCommon, side_reach}
+use Rattle.lrp_minus.specs.Cutting.{HaveCommon}
 use Rattle.lrp_minus.specs.Differences.{AreOfCell, greatest_reach}
 use Rattle.lrp_minus.specs.Halves.{MeetsBound, CanBeStored, IsHalf, HasNoHalf, other_side}
 use Rattle.lrp_minus.specs.Leaving.{IsBoundOf, AreBoundsOf, AreFromRow, HasGap, AreLeftOf, AppendsLeft, AreMeeting}
 use Rattle.lrp_minus.proofs.CutLaws.{cells_moved}
-use Rattle.lrp_minus.proofs.HalfLaws.{stored_moved}
 use Rattle.lrp_minus.proofs.Lists.{below_or, greatest_below, in_either, in_left, in_none, in_nothing, in_one, in_right, in_this, one_in, reach_below, this_has}
 use Rattle.lrp_minus.proofs.SplitLaws.{either_side}
 use Rattle.lrp_minus.proofs.ThresholdLaws.{own_stored}

@@ -1,5 +1,5 @@
 -- What is appended to nothing is all that is left.
-use Rattle.std.proofs.Common.{◌+◌, ◌∷◌, [], arith, subst, sym}
+use Rattle.std.proofs.Common.{◌+◌, ◌∷◌, [], arith, subst}
 use Rattle.lrp_minus.specs.Differences.{greatest_reach}
 use Rattle.lrp_minus.specs.Leaving.{AppendsLeft}
 use Rattle.lrp_minus.proofs.LeavingLaws.{left_alone}

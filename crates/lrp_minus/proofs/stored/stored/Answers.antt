@@ -1,5 +1,5 @@
 -- One more row is listed.
-use Rattle.std.proofs.Common.{◌≡◌, ◌+◌, ◌<◌, ◌≤◌, inl, inr, arith}
+use Rattle.std.proofs.Common.{◌≤◌, inl, inr, arith}
 use Rattle.lrp_zone.specs.Zones.{columns_of}
 use Rattle.lrp_minus.proofs.Lists.{below_or}
 use Rattle.lrp_minus.proofs.stored.stored.Goals as goal
