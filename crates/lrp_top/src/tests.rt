@@ -39,11 +39,24 @@ fn words_of(alloc: Global, command: &str) -> Result<Vec<String>, Fail> {
     Ok(words)
 }
 
-// How a command ends where the shelf fails at these calls, and what it writes.
-fn ended(alloc: Global, command: &str, failing: &[u32], out: &mut MemSink) -> Result<Status, Fail> {
+// How a command ends where the shelf fails at these calls, and what the sink has then.
+fn ended(
+    alloc: Global,
+    command: &str,
+    failing: &[u32],
+    sink: MemSink,
+) -> Result<(Status, Vec<u8>), Fail> {
     let mut shelf = MemShelf::new(files(alloc)?, List::from_vec(failing.to_vec(alloc)?));
+    let mut out = sink;
     let words = words_of(alloc, command)?;
-    Ok(run(alloc, words.as_slice(), &mut shelf, out))
+    let status = run(alloc, words.as_slice(), &mut shelf, &mut out);
+    Ok((status, out.written().to_vec(alloc)?))
+}
+
+// How a command ends in a sink with room for so many bytes, and what the sink has then.
+fn within(alloc: Global, command: &str, room: usize) -> Result<(Status, Vec<u8>), Fail> {
+    let sink = MemSink::stop_after(alloc, room.min(1_048_576), 4)?;
+    ended(alloc, command, &[], sink)
 }
 
 // Stops the test unless a sink with room for so many bytes of the text has these, and the command ends so where it has all.
@@ -51,20 +64,17 @@ fn assert_fronts(
     rt: &impl Abort,
     alloc: Global,
     command: &str,
-    text: &str,
+    text: &[u8],
     status: Status,
 ) -> Result<(), Fail> {
-    let text = text.as_bytes();
-    for room in 0..text.len() + 1 {
-        let mut out = MemSink::stop_after(alloc, room.min(1_048_576), 4)?;
-        let found = ended(alloc, command, &[], &mut out)?;
-        if room < text.len() {
-            assert_eq!(rt; found, Status::Write, "room for {room}");
-        } else {
-            assert_eq!(rt; found, status);
-        }
-        assert_eq!(rt; out.written(), &text[..room]);
+    for room in 0..text.len() {
+        let (found, written) = within(alloc, command, room)?;
+        assert_eq!(rt; found, Status::Write, "room for {room}");
+        assert_eq!(rt; written.as_slice(), &text[..room]);
     }
+    let (found, written) = within(alloc, command, text.len())?;
+    assert_eq!(rt; found, status);
+    assert_eq!(rt; written.as_slice(), text);
     Ok(())
 }
 
@@ -90,7 +100,7 @@ fn short_sinks_hold_a_front(rt: HostRuntime) -> Result<(), Fail> {
         ),
         ("ask db=d db=d query=q", "refused: usage\n", Status::Usage),
     ] {
-        assert_fronts(&rt, alloc, command, text, status)?;
+        assert_fronts(&rt, alloc, command, text.as_bytes(), status)?;
     }
     Ok(())
 }
@@ -100,10 +110,10 @@ fn a_sink_that_fails_once_has_what_came_before(rt: HostRuntime) -> Result<(), Fa
     let alloc = rt.alloc();
     let mut calls = List::new(alloc);
     calls.push(2)?;
-    let mut out = MemSink::new(alloc, calls, 4)?;
-    let status = ended(alloc, ASK, &[], &mut out)?;
+    let sink = MemSink::new(alloc, calls, 4)?;
+    let (status, written) = ended(alloc, ASK, &[], sink)?;
     assert_eq!(rt; status, Status::Write);
-    assert_eq!(rt; out.written(), b"rela".as_slice());
+    assert_eq!(rt; written.as_slice(), b"rela".as_slice());
     Ok(())
 }
 
@@ -112,15 +122,15 @@ fn failed_reads_name_their_file(rt: HostRuntime) -> Result<(), Fail> {
     // For each file there is a start, a read of its bytes, and one of its end.
     let alloc = rt.alloc();
     for call in 1..7 {
-        let mut out = MemSink::new(alloc, List::new(alloc), 4)?;
-        let status = ended(alloc, ASK, &[call], &mut out)?;
+        let sink = MemSink::new(alloc, List::new(alloc), 4)?;
+        let (status, written) = ended(alloc, ASK, &[call], sink)?;
         assert_eq!(rt; status, Status::Read, "call {call}");
         let want = if call < 4 {
             b"refused: read of database\n".as_slice()
         } else {
             b"refused: read of query\n".as_slice()
         };
-        assert_eq!(rt; out.written(), want);
+        assert_eq!(rt; written.as_slice(), want);
     }
     Ok(())
 }
