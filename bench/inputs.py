@@ -1,0 +1,509 @@
+"""The inputs of the benchmark: families of a database, a query and a command, each at several sizes.
+
+A family is a function of the size that gives a Case. Its smallest sizes have an output that is worked
+out here, without the program: by going over a window, as long as the relations' periods ask for.
+"""
+
+import hashlib
+import itertools
+import math
+from dataclasses import dataclass
+from typing import Callable, Optional
+
+WEEK = 10080
+DAY = 1440
+LIMIT = 1 << 62
+
+
+@dataclass
+class Case:
+    """One run: what the two files hold, the words, and how many units of result the run is measured by."""
+
+    words: list
+    database: str
+    query: str = ""
+    units: Optional[int] = None  # cells that the largest step inhabits, where that is known; else lines are counted
+    unit: str = "cells"
+    output: Optional[str] = None  # worked out apart, where the size is small
+    status: int = 0
+
+
+@dataclass
+class Family:
+    name: str
+    table: str
+    sizes: tuple
+    make: Callable
+    about: str
+    needs_ask: bool = False
+    by_units: bool = False  # growth is taken by the units of result, where the size is an exponent
+
+
+FAMILIES = []
+
+
+def family(name, table, sizes, about, **how):
+    def keep(make):
+        FAMILIES.append(Family(name, table, sizes, make, about, **how))
+        return make
+
+    return keep
+
+
+# Texts
+
+def relation(name, columns, rows):
+    return "relation %s(%s) {\n%s}\n" % (name, ", ".join(columns), "".join("  %s;\n" % row for row in rows))
+
+
+def times(*names):
+    return ["%s: time" % name for name in names]
+
+
+def query(head, body):
+    return "{ %s | %s }\n" % (", ".join(head), body)
+
+
+def listed(start, end, limit=1000000):
+    return ["list", "from=%d" % start, "to=%d" % end, "limit=%d" % limit]
+
+
+def lines_of(answers):
+    """The plain lines of tuples of integers and of texts, in their order."""
+    show = lambda value: str(value) if isinstance(value, int) else '"%s"' % value
+    return "".join("%s\n" % (", ".join(map(show, answer)) or "()") for answer in answers)
+
+
+def whole_page(answers):
+    return lines_of(sorted(answers)) + "end\n"
+
+
+def token(database, text, answer):
+    """The token behind the line of an answer without texts."""
+    half = lambda bytes_of: hashlib.sha256(bytes_of.encode()).digest()
+    return "T2/%s/%s/" % (hashlib.sha256(half(database) + half(text)).hexdigest(), ",".join(map(str, answer)))
+
+
+def page(database, text, answers, limit):
+    """The page of a sorted list of answers in times alone, with its last line."""
+    if len(answers) <= limit:
+        return lines_of(answers) + "end\n"
+    return lines_of(answers[:limit]) + "more %s\n" % token(database, text, answers[limit - 1])
+
+
+def ranked(reach):
+    """0, 1, -1, 2, -2 and so on."""
+    return [0] + [value for step in range(1, reach + 1) for value in (step, -step)]
+
+
+def nearest(columns, holds, reach=12):
+    """What decide writes, where some answer has all its times within the reach."""
+    found = next((answer for answer in itertools.product(ranked(reach), repeat=columns) if holds(*answer)), None)
+    return "Empty\n" if found is None else "Nonempty\n" + lines_of([found])
+
+
+def scattered(count):
+    """Different minutes of the week at uneven distances: a walk that comes to each minute once."""
+    return list(itertools.islice(itertools.accumulate(itertools.repeat(3571), lambda at, step: (421 * at + step) % WEEK), count))
+
+
+# Steps, part one
+
+def timetable(copies):
+    """A week's rides by way of each copy's own station, seven minutes later in each further copy."""
+    rides = []
+    for copy in range(copies):
+        late, via = 7 * copy, "Main %d" % copy
+        rides.append((5 + late, 60, 25, "Airport", via))
+        rides += [(60 * hour + 40 + late, DAY, 35, via, "Zoo") for hour in range(5, 23)]
+        rides += [
+            (DAY * day + 1385 + 15 * boat + late, WEEK, 20, via, "Port") for day in range(7) for boat in range(3)
+        ]
+    return [(leave % period, period, length, start, goal) for leave, period, length, start, goal in rides]
+
+
+@family("connections", "one", (1, 10, 100), "connections of a week with one change, N copies of the timetable")
+def connections(size):
+    rides = timetable(size)
+    rows = [
+        '(%d+%dn, %d+%dn, "%s", "%s") where arr = dep + %d' % (leave, period, (leave + length) % period, period, start, goal, length)
+        for leave, period, length, start, goal in rides
+    ]
+    database = relation("trip", times("dep", "arr") + ["start: data", "goal: data"], rows)
+    text = query(
+        times("d", "a"),
+        'exists b: time exists c: time exists h: data (trip(d, b, "Airport", h) and trip(c, a, h, "Zoo") and c >= b + 5 and c <= b + 30)',
+    )
+    return Case(listed(0, WEEK - 1), database, text, output=whole_page(connected(rides)) if size <= 10 else None)
+
+
+def connected(rides):
+    """Each departure from the airport and arrival at the zoo, within the week."""
+    found = set()
+    for leave, period, length, start, via in rides:
+        for late, other, more, change, goal in rides:
+            if start != "Airport" or goal != "Zoo" or via != change:
+                continue
+            for dep in range(leave, WEEK, period):
+                for change_at in range(dep + length + 5, dep + length + 31):
+                    if (change_at - late) % other == 0 and change_at + more < WEEK:
+                        found.add((dep, change_at + more))
+    return found
+
+
+@family("unconnected", "one", (20, 100, 500), "departures of N trips a day after whose arrival none leaves within 15 minutes")
+def unconnected(size):
+    trips = [((37 * i) % DAY, 10 + i % 50, "L%d" % (i % 10)) for i in range(size)]
+    rows = [
+        '(%d+1440n, %d+1440n, "%s") where arr = dep + %d' % (leave, (leave + length) % DAY, line, length)
+        for leave, length, line in trips
+    ]
+    database = relation("trip", times("dep", "arr") + ["line: data"], rows)
+    text = query(
+        times("t") + ["l: data"],
+        "exists u: time (trip(t, u, l) and not exists v: time exists w: time exists k: data (trip(v, w, k) and v >= u and v <= u + 15))",
+    )
+    departures = {leave for leave, _, _ in trips}
+    found = {
+        (leave, line)
+        for leave, length, line in trips
+        if not any((leave + length + wait) % DAY in departures for wait in range(16))
+    }
+    return Case(listed(0, DAY - 1), database, text, output=whole_page(found) if size <= 100 else None)
+
+
+@family("fixed difference", "one", (630, 2520, 10080, 100000), "a fixed difference of period 1 joined to a period of N by an or")
+def fixed_difference(size):
+    database = relation("d", times("a", "b"), ["(0+1n, 0+1n) where b = a + 25"]) + relation("w", times("t"), ["(0+%dn)" % size])
+    text = query(times("x", "y"), "(d(x, y) or (w(x) and w(y)))")
+    holds = lambda x, y: y == x + 25 or x % size == 0 and y % size == 0
+    return Case(["decide"], database, text, units=size + 1, output=nearest(2, holds) if size <= 2520 else None)
+
+
+def gap_of(starts):
+    """The greatest distance from one start to the next, round the week."""
+    starts = sorted(starts)
+    return max(after - before for before, after in zip(starts, starts[1:] + [starts[0] + WEEK]))
+
+
+@family("gap", "one", (1, 10, 60), "for each minute a departure within the week's greatest gap, N uneven departures a week")
+def gap(size):
+    starts = scattered(size)
+    database = relation("bus", times("t"), ["(%d+10080n)" % start for start in starts])
+    within = gap_of(starts) - 1
+    text = query([], "forall t: time exists u: time (bus(u) and u >= t and u <= t + %d)" % within)
+    departures = set(starts)
+    holds = all(any((t + wait) % WEEK in departures for wait in range(within + 1)) for t in range(WEEK))
+    return Case(["decide"], database, text, output="Nonempty\n()\n" if holds else "Empty\n")
+
+
+@family("gap of rides", "one", (1, 10, 60), "after each arrival a departure within that gap, N uneven rides a week of two columns")
+def gap_of_rides(size):
+    starts = scattered(size)
+    rides = [(start, 5 + 11 * i % 90) for i, start in enumerate(starts)]
+    rows = ["(%d+10080n, %d+10080n) where arr = dep + %d" % (start, (start + length) % WEEK, length) for start, length in rides]
+    database = relation("ride", times("dep", "arr"), rows)
+    within = gap_of(starts) - 1
+    text = query(
+        [],
+        "forall d: time forall a: time (ride(d, a) implies exists e: time exists f: time (ride(e, f) and e >= a and e <= a + %d))" % within,
+    )
+    departures = set(starts)
+    holds = all(any((start + length + wait) % WEEK in departures for wait in range(within + 1)) for start, length in rides)
+    return Case(["decide"], database, text, output="Nonempty\n()\n" if holds else "Empty\n")
+
+
+@family("long period", "one", (10**3, 10**6, 10**9, 10**12), "a column within a minute of one of period N: two cells")
+def long_period(size):
+    database = relation("a", times("t"), ["(0+%dn)" % size])
+    text = query(times("t", "u"), "(a(t) and u >= t and u <= t + 1)")
+    found = [(k * size, k * size + late) for k in range(11) for late in (0, 1) if k * size + late <= 10 * size]
+    return Case(listed(0, 10 * size), database, text, units=2, output=whole_page(found))
+
+
+@family("follower", "one", (1, 4, 15, 60), "a column that follows another one of period 10,080 by 0 to N minutes")
+def follower(size):
+    database = relation("a", times("t"), ["(0+10080n)"])
+    text = query(times("t", "u"), "(a(t) and u >= t and u <= t + %d)" % size)
+    found = [(start, start + late) for start in (0, WEEK) for late in range(size + 1)]
+    return Case(listed(0, 2 * WEEK - 1), database, text, units=size + 1, output=whole_page(found))
+
+
+@family("chain", "one", (2, 4, 8), "N columns, each within a minute of the one before, modulo 10^9", by_units=True)
+def chain(size):
+    names = ["t%d" % i for i in range(size)]
+    database = relation("a", times("t"), ["(0+1000000000n)"])
+    steps = ["%s >= %s and %s <= %s + 1" % (after, before, after, before) for before, after in zip(names, names[1:])]
+    text = query(times(*names), "(a(t0) and %s)" % " and ".join(steps))
+    found = [tuple(itertools.accumulate(late, initial=0)) for late in itertools.product((0, 1), repeat=size - 1)]
+    return Case(listed(0, 10**9 - 1), database, text, units=1 << size - 1, output=whole_page(found))
+
+
+@family("join on texts", "one", (63, 250, 1000), "N rows joined with N over a shared text")
+def join_on_texts(size):
+    first = [(7 * i % DAY, "x%d" % i) for i in range(size)]
+    second = [(11 * i % DAY, "x%d" % i) for i in range(size)]
+    rows = lambda pairs: ['(%d+1440n, "%s")' % pair for pair in pairs]
+    database = relation("r", ["t: time", "d: data"], rows(first)) + relation("s", ["t: time", "d: data"], rows(second))
+    text = query(times("t", "u") + ["d: data"], "(r(t, d) and s(u, d))")
+    found = [(t, u, d) for (t, d), (u, _) in zip(first, second)]
+    return Case(listed(0, DAY - 1), database, text, units=size, output=whole_page(found))
+
+
+@family("join on residues", "one", (63, 250, 1000), "N rows joined with N over a shared time of period 10,080")
+def join_on_residues(size):
+    starts = scattered(2 * size)
+    first, second = starts[:size], starts[size // 2 : size // 2 + size]
+    rows = lambda column, late, these: ["(%d+10080n, %d+10080n) where %s = t + %d" % (start, (start + late) % WEEK, column, late) for start in these]
+    database = relation("r", times("t", "u"), rows("u", 5, first)) + relation("s", times("t", "v"), rows("v", 9, second))
+    text = query(times("t", "u", "v"), "(r(t, u) and s(t, v))")
+    found = [(start, start + 5, start + 9) for start in set(first) & set(second) if start + 9 < WEEK]
+    return Case(listed(0, WEEK - 1), database, text, units=len(set(first) & set(second)), output=whole_page(found))
+
+
+@family("join on nothing", "one", (63, 250, 1000), "N rows joined with N over no column, by a test on their distance")
+def join_on_nothing(size):
+    starts = scattered(2 * size)
+    first, second = starts[:size], starts[size:]
+    points = lambda these: ["(%d+10080n)" % start for start in these]
+    database = relation("r", times("t"), points(first)) + relation("s", times("t"), points(second))
+    text = query(times("t", "u"), "(r(t) and s(u) and u >= t + 1 and u <= t + 2)")
+    late = set(second)
+    pairs = [(t, t + wait) for t in first for wait in (1, 2) if (t + wait) % WEEK in late]
+    found = [(t, u) for t, u in pairs if u < WEEK]
+    return Case(listed(0, WEEK - 1), database, text, units=len(pairs), output=whole_page(found))
+
+
+# Steps of eight columns with one cell
+
+EIGHT = tuple("abcdefgh")
+
+
+def eight_rows(size, width):
+    """Bounds that rise from column to column, and let the last one be no more than a number behind the first."""
+    rising = ["%s >= %s" % (after, before) for before, after in zip(EIGHT, EIGHT[1:])]
+    return [
+        "(%s) where %s" % (", ".join(["0+1n"] * 8), ", ".join(rising + ["h <= a + %d" % (width + i), "a >= %d" % (-i * i)]))
+        for i in range(size)
+    ]
+
+
+def eight(body, holds, size, head=EIGHT):
+    database = relation("r", times(*EIGHT), eight_rows(size, 10)) + relation("s", times(*EIGHT), eight_rows(size, 5))
+    return Case(["decide"], database, query(times(*head), body), units=1, output=nearest(len(head), holds) if size == 1 else None)
+
+
+def is_rising(values, width):
+    return all(a <= b for a, b in zip(values, values[1:])) and values[-1] - values[0] <= width and values[0] >= 0
+
+
+ALL = ", ".join(EIGHT)
+EIGHTS = {
+    "scan": ("r(%s)" % ALL, lambda *x: is_rising(x, 10), EIGHT),
+    "join": ("(r(%s) and s(%s))" % (ALL, ALL), lambda *x: is_rising(x, 5), EIGHT),
+    "join with tests": ("(r(%s) and s(%s) and d >= c + 1 and g <= f + 2)" % (ALL, ALL), lambda *x: is_rising(x, 5) and x[3] > x[2] and x[6] <= x[5] + 2, EIGHT),
+    "select": ("(r(%s) and h >= g + 3)" % ALL, lambda *x: is_rising(x, 10) and x[7] >= x[6] + 3, EIGHT),
+    "union": ("(r(%s) or s(%s))" % (ALL, ALL), lambda *x: is_rising(x, 10), EIGHT),
+    "minus": ("(r(%s) and not s(%s))" % (ALL, ALL), lambda *x: is_rising(x, 10) and not is_rising(x, 5), EIGHT),
+    "complement": ("not r(%s)" % ALL, lambda *x: not is_rising(x, 10), EIGHT),
+    "drop": ("exists h: time r(%s)" % ALL, lambda *x: is_rising(x, 10), EIGHT[:7]),
+    "extend": ("exists b: time exists c: time exists d: time exists e: time exists f: time exists g: time r(%s)" % ALL, lambda a, h: is_rising((a, h), 10), ("a", "h")),
+}
+
+
+def add_eights():
+    for name, (body, holds, head) in EIGHTS.items():
+        make = lambda size, body=body, holds=holds, head=head: eight(body, holds, size, head)
+        family("eight columns, %s" % name, "one", (1, 4), "%s of eight time columns: one cell, N zones in each relation" % name)(make)
+
+
+add_eights()
+
+
+# Steps, part two
+
+CYCLES = (7, 11, 13, 17, 19)
+
+
+@family("cycles", "two", (2, 3, 4, 5), "instants never covered by N cycles of the periods 7, 11, 13, 17, 19, on for two thirds of each", by_units=True)
+def cycles(size):
+    periods = CYCLES[:size]
+    rows = ["(%d+%dn)" % (start, period) for period in periods for start in range(2 * period // 3)]
+    whole = math.prod(periods)
+    database = relation("cycle", times("t"), rows)
+    text = query(times("t"), "not cycle(t)")
+    left = [(t,) for t in range(whole) if all(t % period >= 2 * period // 3 for period in periods)]
+    output = whole_page(left) if size <= 4 else None
+    return Case(listed(0, whole - 1), database, text, units=whole - len(left), output=output)
+
+
+@family("cycles as intervals", "two", (2, 3, 4), "the same, each cycle given as intervals with a first and a last column", by_units=True)
+def cycles_as_intervals(size):
+    periods = CYCLES[:size]
+    rows = ["(0+%dn, %d+%dn) where till = begin + %d" % (period, 2 * period // 3, period, 2 * period // 3) for period in periods]
+    whole = math.prod(periods)
+    database = relation("on", times("begin", "till"), rows)
+    text = query(times("t"), "not exists f: time exists e: time (on(f, e) and f <= t and t < e)")
+    left = [(t,) for t in range(whole) if all(t % period >= 2 * period // 3 for period in periods)]
+    output = whole_page(left) if size <= 3 else None
+    return Case(listed(0, whole - 1), database, text, units=whole, output=output)
+
+
+def bounded(size, periods):
+    """Rows with an offset, a period and both ends."""
+    return [(7 * i % periods[i % len(periods)], periods[i % len(periods)], 37 * i % (20 * size), 37 * i % (20 * size) + 600) for i in range(size)]
+
+
+def bounded_rows(rows):
+    return ["(%d+%dn) where t >= %d, t <= %d" % row for row in rows]
+
+
+def covered(rows, start, end):
+    found = set()
+    for offset, period, least, most in rows:
+        first = max(least, start)
+        found.update(range(first + (offset - first) % period, min(most, end) + 1, period))
+    return found
+
+
+@family("union of rows", "two", (20, 100, 1000, 100000), "the first 1,000 instants of N bounded rows of period 60")
+def union_of_rows(size):
+    rows = bounded(size, (60,))
+    database = relation("r", times("t"), bounded_rows(rows))
+    text = query(times("t"), "r(t)")
+    found = [(t,) for t in sorted(covered(rows, 0, LIMIT))] if size <= 1000 else []
+    output = page(database, text, found, 1000) if size <= 1000 else None
+    return Case(listed(0, LIMIT, 1000), database, text, output=output)
+
+
+@family("outside of rows", "two", (20, 100, 1000, 10000), "the first 1,000 instants outside of N bounded rows of mixed periods")
+def outside_of_rows(size):
+    rows = bounded(size, (2, 3, 4, 5, 6, 10, 12))
+    database = relation("r", times("t"), bounded_rows(rows))
+    text = query(times("t"), "not r(t)")
+    end = 20 * size + 5000
+    inside = covered(rows, -10, end)
+    found = [(t,) for t in range(-10, end) if t not in inside]
+    output = page(database, text, found, 1000) if len(found) > 1000 and size <= 1000 else None
+    return Case(listed(-10, LIMIT, 1000), database, text, output=output)
+
+
+@family("difference", "two", (4, 12, 40, 400), "the difference of two relations of two columns with N rows each")
+def difference(size):
+    first = [(i % 10, 3 * i % 10, 20 * i, i % 7) for i in range(size)]
+    rows = ["(%d+10n, %d+10n) where u >= t + %d, u <= t + 50, t >= %d, t <= %d" % (a, b, late, start, start + 100) for a, b, start, late in first]
+    less = ["(%d+10n, %d+10n) where u >= t + 10, u <= t + 20, t >= %d, t <= %d" % (a, b, start + 15, start + 60) for a, b, start, _ in first]
+    database = relation("r", times("t", "u"), rows) + relation("s", times("t", "u"), less)
+    text = query(times("t", "u"), "(r(t, u) and not s(t, u))")
+    output = None
+    end = 20 * size + 200
+    if size <= 40:
+        inside = lambda t, u: any(t % 10 == a and u % 10 == b and t + late <= u <= t + 50 and start <= t <= start + 100 for a, b, start, late in first)
+        outside = lambda t, u: any(t % 10 == a and u % 10 == b and t + 10 <= u <= t + 20 and start + 15 <= t <= start + 60 for a, b, start, _ in first)
+        found = [(t, u) for t in range(end) for u in range(t, min(t + 51, end + 1)) if inside(t, u) and not outside(t, u)]
+        output = whole_page(found)
+    return Case(listed(0, end), database, text, output=output)
+
+
+@family("since", "two", (10, 60), "instants since which one thing held without a break from another one on, within a period of N")
+def since(size):
+    begin, on = {0, size // 2 + 1}, set(range(2 * size // 3))
+    points = lambda these: ["(%d+%dn)" % (start, size) for start in sorted(these)]
+    database = relation("p", times("t"), points(on)) + relation("q", times("t"), points(begin))
+    text = query(times("t"), "exists u: time (q(u) and u <= t and forall v: time (v <= u or t < v or p(v)))")
+    holds = lambda t: any(u % size in begin and all(v % size in on for v in range(u + 1, t + 1)) for u in range(t - 2 * size, t + 1))
+    found = [(t,) for t in range(3 * size) if holds(t)]
+    return Case(listed(0, 3 * size - 1), database, text, units=size * size, output=whole_page(found))
+
+
+def instants(size):
+    """Even numbers, each once, where the file's limit leaves room for them; else numbers of at most five letters, again and again."""
+    if size <= 900000:
+        return [2 * i for i in range(size)]
+    return [i % 109000 - 9000 for i in range(size)]
+
+
+def instants_case(size, words, output=None, text=query(times("t"), "r(t)")):
+    database = "relation r(t: time) {" + "".join("(%d);" % at for at in instants(size)) + "}"
+    return Case(words, database, text, units=size, unit="rows", output=output)
+
+
+INSTANTS = (875, 3500, 14000, 56000, 225000, 900000, 2000000)
+
+
+@family("instants checked", "two", INSTANTS, "N instants of one column, written by check")
+def instants_checked(size):
+    rows = ["  (0+1n) where t <= %d, t >= %d;\n" % (at, at) for at in instants(size)] if size <= 14000 else []
+    return instants_case(size, ["check"], "relation r(t: time) {\n%s}\n" % "".join(rows) if rows else None, text="")
+
+
+@family("instants listed", "two", INSTANTS, "N instants of one column, listed in one page of up to 1,000,000")
+def instants_listed(size):
+    found = sorted(set(instants(size))) if size <= 14000 else []
+    output = lines_of([(at,) for at in found]) + "end\n" if found else None
+    return instants_case(size, listed(-LIMIT, LIMIT), output)
+
+
+@family("instants asked for", "two", INSTANTS, "N instants of one column, written by ask", needs_ask=True)
+def instants_asked(size):
+    rows = ["  (0+1n) where t <= %d, t >= %d;\n" % (at, at) for at in instants(size)] if size <= 14000 else []
+    rows = [row.replace("where t <= %d, t >= %d" % (at, at), "where t >= %d, t <= %d" % (at, at)) for row, at in zip(rows, instants(size))]
+    return instants_case(size, ["ask"], "relation answer(t: time) {\n%s}\n" % "".join(rows) if rows else None)
+
+
+@family("pairs listed", "two", (10, 40, 160, 625, 2500, 10000), "N rows of two instants each, listed")
+def pairs_listed(size):
+    pairs = [(480 + 7 * i, 505 + 7 * i + i % 3) for i in range(size)]
+    database = relation("r", times("t", "u"), ["(%d, %d)" % pair for pair in pairs])
+    text = query(times("t", "u"), "r(t, u)")
+    return Case(listed(0, LIMIT), database, text, units=size, unit="rows", output=whole_page(pairs))
+
+
+@family("many cells", "two", (1000, 4000, 15625, 62500, 250000, 1000000), "N - 1 cells of one zone: what is no multiple of N")
+def many_cells(size):
+    text = query(times("t"), "not t in 0+%dn" % size)
+    return Case(["decide"], "", text, units=size - 1, output="Nonempty\n1\n")
+
+
+def page_case(after):
+    database = relation("bus", times("t"), ["(5+60n)"])
+    text = query(times("t"), "bus(t)")
+    first = after + 1 + (4 - after) % 60
+    found = [(first + 60 * i,) for i in range(1001)]
+    words = listed(0, 10**17, 1000) + ["after=T1/%d/" % after]
+    return Case(words, database, text, units=1000, output=page(database, text, found, 1000))
+
+
+@family("page", "two", (1, 10**15), "a page of 1,000 behind a token of the instant N")
+def far_page(size):
+    return page_case(size)
+
+
+@family("equal rows", "two", (4, 16, 64), "a relation whose one row stands N times, named three times")
+def equal_rows(size):
+    database = relation("r", [], ["()"] * size)
+    return Case(["decide"], database, query([], "(r() and r() and r())"), units=1, output="Nonempty\n()\n")
+
+
+@family("nested drops", "two", (4, 8, 12, 16, 32, 62), "N quantifiers within one another over a sort of two texts")
+def nested_drops(size):
+    database = relation("l", ["d: line"], ['("a")', '("b")'])
+    text = query([], "".join("exists d%d: line " % i for i in range(size)) + "0 < 1")
+    return Case(["decide"], database, text, units=2, output="Nonempty\n()\n")
+
+
+@family("cap told", "two", (10, 100, 1000), "a difference of periods N and N + 1 in three columns, refused for its cells from N = 100 on", by_units=True)
+def cap_told(size):
+    free = lambda period: ["(%s)" % ", ".join(["0+%dn" % period] * 3)]
+    database = relation("a", times("t", "u", "v"), free(size)) + relation("b", times("t", "u", "v"), free(size + 1))
+    text = query(times("t", "u", "v"), "(a(t, u, v) and not b(t, u, v))")
+    cells = (size + 1) ** 3 - 1
+    if cells > 1000000:
+        return Case(["decide"], database, text, units=cells, output="refused: more than 1000000 cells at step 3\n", status=5)
+    holds = lambda *x: all(at % size == 0 for at in x) and not all(at % (size + 1) == 0 for at in x)
+    return Case(["decide"], database, text, units=cells, output=nearest(3, holds) if size == 10 else "Nonempty\n0, 0, %d\n" % size)
+
+
+@family("start", "two", (1,), "the empty database, and a query without an answer")
+def start(size):
+    return Case(["decide"], "", query([], "0 < 0"), units=1, output="Empty\n")
