@@ -1,0 +1,54 @@
+"""The stack that the deepest queries take, in kilobytes: each is read, planned and decided under ever smaller limits."""
+
+import resource
+
+from plan import Plan
+from language import read_database, read_query
+
+DATABASE = b"relation r(t: time, l: line) { (0+2n, \"a\"); }"
+ENOUGH = 1024
+LEAST = (1024, 512, 256, 192, 128, 96, 64)
+
+
+def nested(front, back, inner, depth=64, width=1):
+    """A formula whose innermost part has the greatest depth."""
+    turns = (depth - 1) // width
+    opened = b"".join(front % i if b"%d" in front else front for i in range(turns))
+    return b"{ | " + opened + inner + back * turns + b" }"
+
+
+def shapes():
+    yield "not", nested(b"not ", b"", b"0 < 1")
+    yield "brackets", nested(b"(", b")", b"0 < 1")
+    yield "and", nested(b"(0 < 1 and ", b")", b"0 < 1")
+    yield "or", nested(b"(0 < 1 or ", b")", b"0 < 1")
+    yield "and, or", nested(b"(0 < 1 and (0 < 1 or ", b"))", b"0 < 1", width=2)
+    yield "implies", nested(b"(0 < 1 implies ", b")", b"0 < 1")
+    yield "implies, on the left", nested(b"(", b" implies 0 < 1)", b"0 < 1")
+    yield "not and", nested(b"not (0 < 1 and ", b")", b"0 < 1", width=2)
+    yield "exists a text", nested(b"exists d%d: line ", b"", b"0 < 1")
+    yield "forall and not", nested(b"not forall d%d: line ", b"", b"0 < 1", width=2)
+    yield "atoms", nested(b"exists d%d: line (r(1, \"a\") and ", b")", b"r(2, \"a\")", width=2)
+    yield "exists a time", nested(b"exists t%d: time ", b"", b"0 < 1", depth=56)
+    yield "forall a time", nested(b"forall t%d: time not ", b"", b"0 < 1", depth=40, width=2)
+
+
+def stack(program, tally):
+    """Counts whether a megabyte is enough, and shows what is."""
+    needed = {}
+    relations = read_database(DATABASE)
+    for name, query in shapes():
+        wanted = Plan(relations, read_query(query, relations)).text().encode()
+        program.expect(wanted, 0, "explain", database=DATABASE, query=query)
+        for command in ("explain", "decide"):
+            whole = program.run(command, database=DATABASE, query=query)
+            for kilobytes in LEAST:
+                limit = lambda size=kilobytes << 10: resource.setrlimit(resource.RLIMIT_STACK, (size, size))
+                got = program.run(command, database=DATABASE, query=query, statuses=range(-255, 256), preexec_fn=limit)
+                if kilobytes == ENOUGH:
+                    tally.check(got == whole, "%s, %s under %d KB of stack: status %s" % (command, name, kilobytes, got[0]), query)
+                if got != whole:
+                    break
+                needed[command, name] = kilobytes
+    most = max(needed.values())
+    print("    the most that a query takes: %d KB, as %s" % (most, ", ".join("%s %s" % it for it, size in needed.items() if size == most)))

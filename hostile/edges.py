@@ -1,0 +1,161 @@
+"""Each magnitude at its last value and one past it, for each command that has it. All outputs are worked out by hand."""
+
+from common import digest, token
+from language import LIMIT
+
+BUS = b"relation bus(t: time) { (5+60n); }"
+DEPARTURES = b"{ t: time | bus(t) }"
+USAGE = b"refused: usage\n"
+FORM, SHAPE, STALE = (b"refused: token %s\n" % it for it in (b"form", b"shape", b"stale"))
+BOUND = b"refused: bound above 4611686018427387904\n"
+PERIOD = b"refused: period above 4611686018427387904\n"
+PLANNED = ("explain", "decide", "list from=0 to=0")
+
+
+def lines(*numbers):
+    return b"".join(b"%d\n" % it for it in numbers)
+
+
+class Table:
+    def __init__(self, program):
+        self.program = program
+
+    def bus(self, words, wanted, status=0, after=None):
+        behind = [] if after is None else ["after=" + after]
+        self.program.expect(wanted, status, *words.split(" "), *behind, database=BUS, query=DEPARTURES)
+
+    def token(self, after, wanted, status=0):
+        self.bus("list from=0 to=130", wanted, status, after)
+
+    def usage(self, words):
+        self.program.expect(USAGE, 2, *words.split(" "))
+
+    def refused(self, wanted, database, query):
+        for words in PLANNED:
+            self.program.expect(wanted, 5, *words.split(" "), database=database, query=query)
+
+    def is_planned(self, reach, database, query):
+        """The query is not refused, and the last step has this reach."""
+        status, text = self.program.run("explain", database=database, query=query)
+        is_right = status == 0 and text.endswith(b"reach %d]\n" % reach)
+        self.program.tally.check(is_right, "reach %d" % reach, database, query, text)
+
+
+def magnitudes(program, tally):
+    table = Table(program)
+    for part in (windows, counts, tokens, periods, reaches, quantifiers, far_values):
+        part(table)
+
+
+def windows(table):
+    first, last = -LIMIT + 9, LIMIT - 59  # the first and the last departure in -LIMIT..LIMIT
+    table.bus("list from=%d to=%d" % (LIMIT - 100, LIMIT), lines(last) + b"end\n")
+    table.bus("list from=%d to=%d" % (-LIMIT, -LIMIT + 100), lines(first, first + 60) + b"end\n")
+    table.bus("list from=%d to=%d" % (LIMIT, LIMIT), b"end\n")
+    table.bus("list from=%d to=%d" % (last, last), lines(last) + b"end\n")
+    table.bus("list from=%d to=%d limit=1" % (-LIMIT, LIMIT), lines(first) + b"more T2/%s/%d/\n" % (digest(BUS, DEPARTURES).encode(), first))
+    for end in (LIMIT + 1, 2**63 - 1, 2**63, 2**64, 2**64 + 5, 10**40):
+        table.usage("list db=a query=b from=0 to=%d" % end)
+        table.usage("list db=a query=b from=%d to=0" % -end)
+        table.usage("list db=a query=b from=%d to=%d" % (-end, end))
+    for spelled in ("-0", "00", "+1", "01", "-01", "", "-", "1.", "1e3", "0x1", "١", "1_0", "--1", "1-"):
+        table.usage("list db=a query=b from=%s to=9" % spelled)
+        table.usage("list db=a query=b from=0 to=%s" % spelled)
+
+
+def counts(table):
+    table.bus("list from=0 to=130 limit=1000000 cap=1000000000", lines(5, 65, 125) + b"end\n")
+    table.bus("list from=0 to=130 limit=3 cap=1", lines(5, 65, 125) + b"end\n")
+    table.bus("decide cap=1000000000", b"Nonempty\n5\n")
+    for key, least, most in (("limit", 1, 1000000), ("cap", 1, 1000000000)):
+        for number in (least - 1, most + 1, -1, 2**32, 2**32 + 1, 2**64, 2**64 + 1, 10**30):
+            table.usage("list db=a query=b from=0 to=9 %s=%d" % (key, number))
+    for number in (0, 1000000001, 2**32 + 1):
+        for command in ("ask", "decide"):
+            table.usage("%s db=a query=b cap=%d" % (command, number))
+    for words in ("seed=1000001 size=1", "seed=0 size=0", "seed=0 size=501", "seed=-1 size=1", "seed=0", "size=1", "seed=4294967296 size=1"):
+        table.usage("sample " + words)
+
+
+def tokens(table):
+    all_three, end = lines(5, 65, 125) + b"end\n", b"end\n"
+    files = digest(BUS, DEPARTURES)
+    for time, wanted in ((-LIMIT, all_three), (LIMIT, end), (4, all_three), (5, lines(65, 125) + end), (124, lines(125) + end), (125, end)):
+        table.token(token([time], []), wanted)
+        table.token(token([time], [], files), wanted)
+        table.token(token([time], [], "0" * 64), STALE, 4)
+    for spelled in (LIMIT + 1, -LIMIT - 1, 2**63, 2**64 + 5, 10**40, "-0", "00", "05", "+5", " 5", "5 ", "5,", ",5", "5,,5", "x", "-", "5\n"):
+        table.token("T1/%s/" % spelled, FORM, 4)
+        table.token("T2/%s/%s/" % (files, spelled), FORM, 4)
+    for count in (0, 2, 8, 9, 1000):
+        table.token(token([5] * count, []), SHAPE, 4)
+        table.token(token([5] * count, [], "0" * 64), SHAPE, 4)
+    for text in (b"a", b"", b"A" * 255, "Zürich".encode()):
+        table.token(token([5], [text]), SHAPE, 4)
+    for hexed in ("41" * 256, "00", "1f", "7f", "ff", "c3", "eda080", "4", "4G", "C3BC", "é"):
+        table.token("T1/5/x" + hexed, FORM, 4)
+    for spelled in ("", "T1", "T1/", "T1/5", "T1/5//", "T1/5/x41,", "T1/5/41", "T0/5/", "T3/5/", "t1/5/", "T1//5", "T2/5/", "T1/5/ ", " T1/5/", "T1/5/\n",
+                    "T2/%s/5/" % files[:63], "T2/%s0/5/" % files, "T2/%s/5/" % files.upper(), "T2/%s/5" % files, "T2//5/"):
+        table.token(spelled, FORM, 4)
+
+
+def periods(table):
+    a = lambda period: b"relation a(t: time) { (1+%dn); }" % period
+    both = lambda first, second: b"relation a(t: time) { (0+%dn); } relation b(t: time) { (0+%dn); }" % (first, second)
+    query, pair = b"{ t: time | a(t) }", b"{ t: time | (a(t) and b(t)) }"
+    greatest = 1 << 60
+    table.is_planned(greatest, a(greatest), query)
+    table.refused(BOUND, a(greatest + 1), query)
+    table.refused(BOUND, a(LIMIT), query)
+    table.refused(PERIOD, both(LIMIT, 3), pair)
+    table.refused(PERIOD, both(1 << 31, (1 << 31) + 1), pair)
+    table.refused(BOUND, both(1 << 31, (1 << 31) - 1), pair)
+    table.refused(PERIOD, BUS, b"{ t: time | (t in 0+%dn or t in 0+%dn) }" % (LIMIT - 1, LIMIT - 3))
+    table.refused(BOUND, BUS, b"{ t: time | t in 0+%dn }" % LIMIT)
+    table.program.expect(b"Nonempty\n1\n", 0, "decide", database=a(greatest), query=query)
+    far = [1 + greatest * it for it in range(-4, 4)]
+    table.program.expect(lines(*far) + b"end\n", 0, "list", "from=%d" % -LIMIT, "to=%d" % LIMIT, database=a(greatest), query=query)
+
+
+def reaches(table):
+    """A scan has the greatest bound, twice the greatest offset and the period; each time column of the head doubles."""
+    least = b"relation a(t: time) { (0+1n) where t >= %d; }"
+    query = b"{ t: time | a(t) }"
+    most = (1 << 60) - 1
+    table.is_planned(most + 1, least % most, query)
+    table.refused(BOUND, least % (most + 1), query)
+    table.program.expect(b"Nonempty\n%d\n" % most, 0, "decide", database=least % most, query=query)
+    table.program.expect(b"Nonempty\n%d\n" % -most, 0, "decide", database=b"relation a(t: time) { (0+1n) where t <= %d; }" % -most, query=query)
+    shifted, far = b"{ t: time | bus(t + %d) }", (1 << 59) - 30
+    table.is_planned(1 << 60, BUS, shifted % far)
+    table.refused(BOUND, BUS, shifted % (far + 1))
+    nearest = min((it for it in range(-60, 60) if (it + far - 5) % 60 == 0), key=lambda it: (abs(it), it < 0))
+    table.program.expect(b"Nonempty\n%d\n" % nearest, 0, "decide", database=BUS, query=shifted % far)
+    eight = b", ".join(b"c%d: time" % it for it in range(8))
+    compared = b"{ " + eight + b" | c0 >= c7 + %d }"
+    greatest = (1 << 53) - 1
+    table.is_planned(1 << 53, b"", compared % greatest)
+    table.refused(BOUND, b"", compared % (greatest + 1))
+    table.program.expect(b"Nonempty\n0, 0, 0, 0, 0, 0, 0, %d\n" % -greatest, 0, "decide", database=b"", query=compared % greatest)
+    sides = b"{ | exists t: time (t - %d < t + %d) }"
+    half = (1 << 59) - 1
+    table.is_planned(1 << 61, b"", sides % (half + 1, half))
+    table.refused(BOUND, b"", sides % (half + 1, half + 1))
+
+
+def quantifiers(table):
+    nested = lambda count: b"{ | " + b"".join(b"exists x%d: time " % it for it in range(count)) + b"0 <= 0 }"
+    table.is_planned(1 << 61, b"", nested(61))
+    table.refused(BOUND, b"", nested(62))
+
+
+def far_values(table):
+    far = b"relation r(t: time) { (%d); (%d); }" % (LIMIT, -LIMIT)
+    table.program.expect(b"relation r(t: time) {\n  (0+1n) where t <= %d, t >= %d;\n  (0+1n) where t <= %d, t >= %d;\n}\n" % (LIMIT, LIMIT, -LIMIT, -LIMIT),
+                         0, "check", database=far)
+    table.refused(BOUND, far, b"{ t: time | r(t) }")
+    text = b"relation r(t: time) { (%d+7n); (-%d+7n); }" % (LIMIT, LIMIT)
+    table.program.expect(b"relation r(t: time) {\n  (%d+7n);\n  (%d+7n);\n}\n" % (LIMIT % 7, -LIMIT % 7), 0, "check", database=text)
+    instant = (1 << 60) - 1
+    table.program.expect(lines(instant) + b"end\n", 0, "list", "from=0", "to=%d" % LIMIT,
+                         database=b"relation r(t: time) { (%d); }" % instant, query=b"{ t: time | r(t) }")

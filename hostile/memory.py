@@ -1,0 +1,86 @@
+"""Each request for memory refused in turn: a run then says that memory was refused, or gives its whole output all the same.
+
+Where memory for the program's words is refused it ends with the same status, and writes nothing.
+"""
+
+import os
+import subprocess
+
+from common import EXAMPLES, HERE, SECONDS
+
+REFUSED = b"refused: memory\n"
+BUS = b"relation bus(t: time) { (5+60n); }"
+ZURICH = 'relation tram(t: time, city: data) { (5+60n, "Zürich"); }'.encode()
+SORTS = b'relation trip(t: time, l: line, c: city) { (5+60n, "7", "Port"); } relation lines(l: line) { ("9"); }'
+
+
+def example(name, query):
+    with open(os.path.join(EXAMPLES, name, name + ".lrp"), "rb") as base, open(os.path.join(EXAMPLES, name, query + ".lrq"), "rb") as file:
+        return base.read(), file.read()
+
+
+def runs():
+    departures, instants = b"{ t: time | bus(t) }", b"relation r(t: time) { (480); }"
+    outside = b"{ t: time | not r(t) }"
+    left = b"{ l: line | not exists t: time exists c: city trip(t, l, c) }"
+    for command in ("ask", "decide"):
+        yield [command], BUS, departures
+        yield [command], instants, outside
+        yield [command], SORTS, left
+    yield ["list", "from=0", "to=130", "limit=2"], BUS, departures
+    yield ["list", "from=0", "to=130", "after=T1/65/"], BUS, departures
+    yield ["list", "from=0", "to=130", "after=T1/05/"], BUS, departures
+    yield ["list", "from=0", "to=130", "limit=1", "form=json"], ZURICH, b"{ c: data, t: time | tram(t, c) }"
+    yield ["list", "from=0", "to=1439"], *example("week", "connections")
+    yield ["explain"], SORTS, left
+    yield ["explain"], *example("guard", "always")
+    yield ["check"], example("week", "connections")[0], None
+    yield ["check"], b"relation r(t: time) { (5+60n", None
+    yield ["decide", "cap=1"], SORTS, left
+    yield ["sample", "seed=0", "size=20"], None, None
+    yield ["check", "check"], None, None
+
+
+def build(folder):
+    """The library that refuses, or none where there is no C compiler."""
+    made = os.path.join(folder, "refuse.so")
+    words = ["cc", "-O1", "-shared", "-fPIC", "-o", made, os.path.join(HERE, "refuse.c"), "-ldl"]
+    try:
+        subprocess.run(words, check=True, capture_output=True)
+    except (OSError, subprocess.CalledProcessError):
+        return None
+    return made
+
+
+def refused_run(program, library, words, number, to_the_end):
+    """The status and the output, and whether a request was refused."""
+    told, tell = os.pipe()
+    env = {"LD_PRELOAD": library, "REFUSE": str(number), "REFUSE_TELL": str(tell), **({"REFUSE_ON": "1"} if to_the_end else {})}
+    ran = subprocess.run([program.path, *words], cwd=program.folder, env=env, pass_fds=[tell], stdin=subprocess.DEVNULL, capture_output=True, timeout=SECONDS)
+    os.close(tell)
+    was_refused = os.read(told, 1) != b""
+    os.close(told)
+    return (ran.returncode, ran.stdout + ran.stderr), was_refused
+
+
+def memory(program, tally, most):
+    """The first requests one by one, then ever larger steps."""
+    library = build(program.room)
+    if library is None:
+        print("memory: there is no C compiler here, so no request is refused")
+        return
+    for words, database, query in runs():
+        whole = program.run(*words, database=database, query=query, statuses=range(10))
+        if whole[0] == 9:
+            continue  # not built yet
+        words = words + [word for word, file in (("db=db", database), ("query=query", query)) if file is not None]
+        number, words_are_read = 1, False
+        while True:
+            results = [refused_run(program, library, words, number, to_the_end) for to_the_end in (False, True)]
+            if not any(was_refused for _, was_refused in results):
+                break
+            for got, _ in results:
+                is_early = got == (8, b"") and not words_are_read
+                tally.check(is_early or got in ((8, REFUSED), whole), "%s, request %d refused: status %d" % (words, number, got[0]), got[1])
+            words_are_read |= results[0][0] == (8, REFUSED)
+            number += max(1, number // most)

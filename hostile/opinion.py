@@ -1,0 +1,146 @@
+"""Compares the program with the second evaluator on random databases and queries."""
+
+import random
+
+from answers import answer_fault
+from common import digest, token
+from invent import Inventor
+from language import quoted, read_database, read_query
+from meaning import Meaning, TooHard
+from mistakes import mistakes
+from plan import Plan
+from shifted import database_text, query_text
+
+FAR = 10**15
+
+
+def plain(answer):
+    return ", ".join(str(it) if isinstance(it, int) else quoted(it) for it in answer) or "()"
+
+
+def as_json(answer):
+    return "[%s]" % ",".join(str(it) if isinstance(it, int) else quoted(it) for it in answer)
+
+
+class Case:
+    """One random database and query, with what the program has to answer."""
+
+    def __init__(self, seed, budget):
+        self.chance = random.Random(seed)
+        inventor = Inventor(self.chance)
+        self.database, self.query = inventor.database().encode(), inventor.query().encode()
+        self.relations = read_database(self.database)
+        self.parsed = read_query(self.query, self.relations)
+        self.budget = budget
+        self.files = {"database": self.database, "query": self.query}
+
+    def meaning(self):
+        return Meaning(self.relations, self.parsed, self.budget)
+
+    def split(self, answer):
+        return [it for it in answer if isinstance(it, int)], [it for it in answer if not isinstance(it, int)]
+
+    def key(self, answer):
+        return tuple(map(tuple, self.split(answer)))
+
+    def page(self, answers, limit, form="plain"):
+        """The text of a page of these answers in order, the first of what is left."""
+        show = plain if form == "plain" else as_json
+        lines = [show(it) for it in answers[:limit]]
+        more = None if len(answers) <= limit else token(*self.split(answers[limit - 1]), digest(self.database, self.query))
+        if form == "json":
+            last = '{"more":%s}' % ("null" if more is None else '"%s"' % more)
+        else:
+            last = "end" if more is None else "more " + more
+        return "".join(line + "\n" for line in [*lines, last]).encode()
+
+
+def decide(program, case):
+    least = case.meaning().least()
+    wanted = "Empty\n" if least is None else "Nonempty\n%s\n" % plain(least)
+    program.expect(wanted.encode(), 0, "decide", **case.files)
+
+
+def window(case):
+    times = sum(it.is_time for it in case.parsed.head)
+    width = {0: 3, 1: 40, 2: 14, 3: 6}[times]
+    start = case.chance.choice((0, 0, -width // 2, -width, -3, FAR, -FAR))
+    return start, start + width - case.chance.choice((0, 0, 1, width + 1))
+
+
+def listing(program, case):
+    """One whole window, its pages one after another, its JSON, and a page behind a tuple that need not be an answer."""
+    start, end = window(case)
+    meaning = case.meaning()
+    answers = [meaning.tuple_of(env) for env in meaning.answers(start, end)]
+    ends = ["from=%d" % start, "to=%d" % end]
+    program.expect(case.page(answers, 1000), 0, "list", *ends, **case.files)
+    if answers:
+        limit = case.chance.randint(1, len(answers))
+        skipped = case.chance.randrange(len(answers))
+        behind = token(*case.split(answers[skipped]), case.chance.choice((None, digest(case.database, case.query))))
+        left = answers[skipped + 1 :]
+        for form in ("plain", "json"):
+            program.expect(case.page(left, limit, form), 0, "list", *ends, "limit=%d" % limit, "after=" + behind, "form=" + form, **case.files)
+    times = [number + case.chance.randint(-2, 2) for number in case.chance.choices((start, (start + end) // 2, end), k=len(meaning.columns()[0]))]
+    texts = [case.chance.choice((b"", b"a", b"aa", b"b", "é".encode(), b"new")) for _ in meaning.columns()[1]]
+    left = [it for it in answers if case.key(it) > (tuple(times), tuple(texts))]
+    program.expect(case.page(left, 1000), 0, "list", *ends, "after=" + token(times, texts), **case.files)
+
+
+def moved(program, case):
+    """A window of the same case, moved as far from zero as the reach allows."""
+    start, end = window(case)
+    meaning = case.meaning()
+    answers = [meaning.tuple_of(env) for env in meaning.answers(start, end)]
+    by = case.chance.choice((1, -1)) * (2**60 - case.chance.randint(0, 1000))
+    while True:
+        database, query = database_text(case.relations, by).encode(), query_text(case.parsed, by).encode()
+        relations = read_database(database)
+        if not Plan(relations, read_query(query, relations)).refusal():
+            break
+        by = by // 2
+    far = [tuple(it + by if isinstance(it, int) else it for it in answer) for answer in answers]
+    text = "".join(plain(answer) + "\n" for answer in far) + "end\n"
+    program.expect(text.encode(), 0, "list", "from=%d" % (start + by), "to=%d" % (end + by), "limit=1000000", database=database, query=query)
+
+
+def explain(program, case):
+    plan = Plan(case.relations, case.parsed)
+    refused = plan.refusal()
+    program.expect((refused or plan.text()).encode(), 5 if refused else 0, "explain", **case.files)
+
+
+def cap(program, case):
+    """The cap at the greatest number of cells, and one below: then the first step with as many is named."""
+    plan = Plan(case.relations, case.parsed, case.budget)
+    cells = [plan.cells(number) for number in range(1, len(plan.steps) + 1)]
+    most = max(cells)
+    status, text = program.run("decide", "cap=%d" % max(most, 1), **case.files)
+    program.tally.check(status == 0, "decide cap=%d: status %s, though the steps have %s cells" % (most, status, cells), case.database, case.query, text)
+    for less in {most - 1, case.chance.randint(0, max(most - 1, 0))} - {0, -1}:
+        step = next(i for i, count in enumerate(cells, 1) if count > less)
+        program.expect(b"refused: more than %d cells at step %d\n" % (less, step), 5, "decide", "cap=%d" % less, **case.files)
+
+
+def ask(program, case):
+    status, text = program.run("ask", **case.files)
+    fault = answer_fault(text, case.meaning()) if status == 0 else "status %s" % status
+    program.tally.check(fault is None, "ask: %s" % fault, case.database, case.query, text)
+
+
+def faults(program, tally, seeds):
+    """The fault that is named in random texts with random mistakes."""
+    for seed in seeds:
+        mistakes(program, Case(seed, 0))
+
+
+def opinion(program, tally, seeds, budget):
+    parts = [explain, decide, listing, moved, cap] + ([ask] if program.has_ask() else [])
+    for seed in seeds:
+        case = Case(seed, budget)
+        for part in parts:
+            try:
+                part(program, case)
+            except TooHard:
+                tally.too_hard()

@@ -1,0 +1,159 @@
+"""Files of up to 16,777,216 bytes that ask for much: each has to be refused, or to begin its output, within ten processor seconds."""
+
+import itertools
+import os
+import resource
+import signal
+import subprocess
+
+from common import LONGEST
+
+SECONDS = 10
+SMALL = b"relation r() { (); }\nrelation s(t: time) { (0+2n); }\nrelation l(x: line) { (\"a\"); }\n"
+
+
+def filled(front, pieces, back=b"", room=LONGEST, least=1):
+    """The front, pieces for as long as they fit, and the back. A piece with a %d is numbered."""
+    room -= len(front) + len(back)
+    if b"%d" not in pieces:
+        return front + pieces * (room // len(pieces)) + back
+    found, size = [], 0
+    for number in itertools.count(least):
+        piece = pieces.replace(b"%d", b"%d" % number)
+        size += len(piece)
+        if size > room:
+            return front + b"".join(found) + back
+        found.append(piece)
+
+
+def joined(front, piece, word, back):
+    """Pieces with a word between them."""
+    return filled(front + piece, word + piece, back)
+
+
+def databases():
+    yield "blanks and a bad byte", b" " * (LONGEST - 1) + b"!"
+    yield "line feeds and a bad byte", b"\n" * (LONGEST - 1) + b"!"
+    yield "a comment without an end", b"#" * LONGEST
+    yield "comments", b"#\n" * (LONGEST // 2)
+    yield "bytes that are no UTF-8", b"#" + b"\xc3\xa9" * (LONGEST // 2 - 1) + b"\xff"
+    yield "one name", filled(b"relation ", b"a")
+    yield "one number", filled(b"relation r(t: time) { (", b"9", b"); }")
+    yield "one zero", filled(b"relation r(t: time) { (", b"0", b"); }")
+    yield "one text", filled(b'relation r(d: data) { ("', b"A", b'"); }')
+    yield "one text of escapes", filled(b'relation r(d: data) { ("', b"\\\\", b'"); }')
+    yield "relations", filled(b"", b"relation r%d(){}")
+    yield "relations of one name", filled(b"", b"relation r(){}")
+    yield "relations of one sort each", filled(b"", b"relation r%d(a:s%d){}")
+    yield "time columns", filled(b"relation r(a:time", b",a%d:time", b"){}")
+    yield "columns of a sort each", filled(b"relation r(a:time", b",a%d:s%d", b"){}")
+    yield "columns of one name", filled(b"relation r(a:time", b",a:time", b"){}")
+    yield "rows", filled(b"relation r(){", b"();", b"}")
+    yield "rows of a zero", filled(b"relation r(t:time){", b"(0);", b"}")
+    yield "instants", filled(b"relation r(t:time){", b"(%d);", b"}")
+    yield "points", filled(b"relation r(t:time){", b"(0+1n);", b"}")
+    yield "points of period 0", filled(b"relation r(t:time){", b"(0+0n);", b"}")
+    yield "bounds", filled(b"relation r(t:time){(0+1n)where t<=0", b",t<=0", b";}")
+    yield "bounds of no column", filled(b"relation r(t:time){(0+1n)where t<=0", b",u<=u", b";}")
+    yield "texts", filled(b"relation r(d:data){", b'("%d");', b"}")
+    yield "texts of two sorts", filled(b"relation r(d:data,l:line){", b'("%d","%d");', b"}")
+    yield "equal texts", filled(b"relation r(d:data){", b'("");', b"}")
+    yield "values", filled(b"relation r(t:time){(0", b",0", b");}")
+    yield "values of another sort", filled(b"relation r(t:time){", b'("");', b"}")
+    yield "open brackets", filled(b"relation r", b"(")
+
+
+def queries():
+    yield "not", filled(b"{ | ", b"not ", b"0=0}")
+    yield "open brackets", filled(b"{ | ", b"(")
+    yield "and", joined(b"{ | (", b"0<1", b" and ", b")}")
+    yield "or", joined(b"{ | (", b"0<1", b" or ", b")}")
+    yield "and of different tests", filled(b"{ t: time | (0<1", b" and t<%d", b")}")
+    yield "and of atoms", joined(b"{ | (", b"r()", b" and ", b")}")
+    yield "and of negations", joined(b"{ | (", b"not r()", b" and ", b")}")
+    yield "or of atoms", joined(b"{ t: time | (", b"s(t)", b" or ", b")}")
+    yield "and of texts", filled(b'{ | (""=""', b' and "%d"="%d"', b")}")
+    yield "texts of a named sort", filled(b'{ | (l("")', b' or l("%d")', b")}")
+    yield "points", filled(b"{ | (0 in 0+1n", b" and 0 in %d+1n", b")}")
+    yield "points of a period each", filled(b"{ | (0 in 0+1n", b" and 0 in 0+%dn", b")}")
+    yield "quantifiers one after another", joined(b"{ | (", b"exists t:time s(t)", b" and ", b")}")
+    yield "quantifiers over a named sort", joined(b"{ | (", b"forall x:line l(x)", b" and ", b")}")
+    yield "deep and wide", filled(b"{ | " + b"not " * 60 + b"(0<1", b" and 0<1", b")}")
+    yield "quantifiers, deep and wide", filled(b"{ | " + b"".join(b"exists t%d:time " % it for it in range(8)) + b"(0<1", b" and t1<t2", b")}")
+    yield "groups within one another", filled(b"{ | " + b"(" * 30 + b"0<1", b" and (((0<1)))", b")" * 30 + b"}")
+    yield "terms", filled(b"{ | r(0", b",0", b")}")
+    yield "terms without a binder", filled(b"{ | s(x", b",x%d", b")}")
+    yield "atoms of no relation", filled(b"{ | (r()", b" and x%d()", b")}")
+    yield "columns", filled(b"{ a:time", b",a%d:time", b"|0=0}")
+    yield "columns of unknown sorts", filled(b"{ a:time", b",a%d:s%d", b"|0=0}")
+    yield "one name", filled(b"{ ", b"a")
+    yield "one number", filled(b"{ | 0=", b"9", b"}")
+    yield "minus signs", filled(b"{ | 0=", b"-", b"}")
+
+
+class Clock:
+    """Runs the program until its first byte or its end, and counts whether that comes in time."""
+
+    def __init__(self, program, tally):
+        self.program, self.tally, self.slowest = program, tally, []
+
+    def run(self, name, *words):
+        child = subprocess.Popen([self.program.path, *words], cwd=self.program.folder, stdin=subprocess.DEVNULL, stdout=subprocess.PIPE,
+                                 stderr=subprocess.DEVNULL, preexec_fn=lambda: resource.setrlimit(resource.RLIMIT_CPU, (2 * SECONDS, 2 * SECONDS)))
+        first = child.stdout.read(1)
+        text = first + os.read(child.stdout.fileno(), 60) if first else b""
+        os.kill(child.pid, signal.SIGKILL)
+        child.stdout.close()
+        _, status, used = os.wait4(child.pid, 0)
+        child.returncode = 0
+        took, size = used.ru_utime + used.ru_stime, used.ru_maxrss / 1024
+        self.slowest.append((took, size, "%s, %s" % (words[0], name)))
+        is_right = took <= SECONDS and text != b"refused: memory\n"
+        self.tally.check(is_right, "%s, %s: %.1f s, %.0f MB" % (words[0], name, took, size), text)
+
+    def report(self):
+        for took, size, name in sorted(self.slowest, reverse=True)[:5]:
+            print("    %s: %.2f s, %.0f MB" % (name, took, size))
+
+
+def reading(program, tally):
+    """Each database is checked; each query is explained."""
+    clock = Clock(program, tally)
+    for name, text in databases():
+        program.write("db", text)
+        clock.run(name, "check", "db=db")
+    program.write("db", SMALL)
+    for name, text in queries():
+        program.write("query", text)
+        clock.run(name, "explain", "db=db", "query=query")
+    clock.report()
+
+
+# What the relation of each database that is one has, as a head and terms.
+COLUMNS = {
+    "rows": ("", ""),
+    "rows of a zero": ("t: time", "t"),
+    "instants": ("t: time", "t"),
+    "points": ("t: time", "t"),
+    "bounds": ("t: time", "t"),
+    "texts": ("d: data", "d"),
+    "texts of two sorts": ("d: data, l: line", "d, l"),
+    "equal texts": ("d: data", "d"),
+}
+
+
+def evaluating(program, tally):
+    """Each query is decided, and of each database whether a relation, and what it leaves, is empty. Few of the steps have more than a cell."""
+    clock = Clock(program, tally)
+    program.write("db", SMALL)
+    for name, text in queries():
+        program.write("query", text)
+        clock.run(name, "decide", "db=db", "query=query")
+    for name, text in databases():
+        if name in COLUMNS:
+            program.write("db", text)
+            head, terms = COLUMNS[name]
+            for body in ("r(%s)" % terms, "not r(%s)" % terms):
+                program.write("query", ("{ %s | %s }" % (head, body)).encode())
+                clock.run("%s, %s" % (name, body), "decide", "db=db", "query=query")
+    clock.report()
