@@ -10,7 +10,7 @@ import time
 
 HERE = os.path.dirname(os.path.realpath(__file__))
 EXAMPLES = os.path.join(HERE, "..", "examples")
-BUILT = os.path.join(HERE, "..", "crates", "lrp_main", "out", "lrp_main")
+BUILT = os.environ.get("FIZHEDUL_PROGRAM") or os.path.join(HERE, "..", "crates", "lrp_main", "out", "lrp_main")
 STATUSES = {0, 2, 3, 4, 5, 6, 7, 8}
 LONGEST = 16777216
 SECONDS = 120

@@ -186,7 +186,7 @@ class Plan:
         universe = self.meaning.near(env.keys(), sees, env)
         if len(times) == 1:
             held = self.meaning.held(step.formula, times[0], env, universe)
-            return {(residue,) for residue in range(step.period) if held & universe.point(residue, step.period)}
+            return {(number % step.period,) for number in universe.members(held)}
         found = set()
         for number in universe.numbers():
             self.meaning.spend()

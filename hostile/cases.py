@@ -1,0 +1,119 @@
+"""The cases of the examples, compared with the second opinion: the files under expected/ are held to it as well."""
+
+import glob
+import os
+import shlex
+
+from answers import answer_fault
+from common import EXAMPLES, digest, token
+from language import Fault, read_database, read_query, relation_text
+from meaning import Meaning, TooHard
+from opinion import as_json, plain
+from plan import Plan
+from words import is_command
+
+
+def content(folder, name):
+    path = os.path.join(folder, name)
+    if not os.path.isfile(path):
+        return None
+    with open(path, "rb") as file:
+        return file.read()
+
+
+def every_case():
+    for path in sorted(glob.glob(os.path.join(EXAMPLES, "*", "cases"))):
+        folder = os.path.dirname(path)
+        with open(path) as file:
+            for line in file:
+                parts = shlex.split(line, comments=True)
+                if parts:
+                    yield folder, parts[0], int(parts[1]), parts[2:]
+
+
+class Judge:
+    """What the second opinion says of one case, in the order in which refusals are given. None: it says nothing.
+
+    It says nothing of samples, of pages behind tokens, and of files that a script of the example makes.
+    """
+
+    def __init__(self, folder, words, budget):
+        self.folder, self.words, self.budget = folder, words, budget
+        self.keys = dict(word.partition("=")[::2] for word in words[1:])
+
+    def judge(self, text):
+        """The status and the output that are wanted; where the output is of a free form, the given text if that is right."""
+        if not is_command(self.words):
+            return 2, b"refused: usage\n"
+        if self.words[0] == "sample":
+            return None
+        is_made = os.path.exists(os.path.join(self.folder, "make"))
+        database = content(self.folder, self.keys["db"])
+        if database is None and is_made:
+            return None
+        if database is None:
+            return 6, b"refused: read of database\n"
+        try:
+            relations = read_database(database)
+        except Fault as fault:
+            return 3, ("refused: database %s\n" % fault).encode()
+        if self.words[0] == "check":
+            return 0, "".join(map(relation_text, relations.values())).encode()
+        query = content(self.folder, self.keys["query"])
+        if query is None and is_made:
+            return None
+        if query is None:
+            return 6, b"refused: read of query\n"
+        try:
+            parsed = read_query(query, relations)
+        except Fault as fault:
+            return 4, ("refused: query %s\n" % fault).encode()
+        return self.planned(relations, parsed, digest(database, query), text)
+
+    def planned(self, relations, parsed, files, text):
+        plan = Plan(relations, parsed, self.budget)
+        refused = plan.refusal()
+        if refused:
+            return 5, refused.encode()
+        if self.words[0] == "explain":
+            return 0, plan.text().encode()
+        if "cap" in self.keys:
+            cells = (plan.cells(number) for number in range(1, len(plan.steps) + 1))
+            step = next((number for number, count in enumerate(cells, 1) if count > int(self.keys["cap"])), None)
+            if step is not None and "after" not in self.keys:
+                return 5, b"refused: more than %d cells at step %d\n" % (int(self.keys["cap"]), step)
+        meaning = Meaning(relations, parsed, self.budget)
+        if self.words[0] == "ask":
+            fault = answer_fault(text, meaning)
+            return 0, text if fault is None else fault.encode()
+        if self.words[0] == "decide":
+            least = meaning.least()
+            return 0, b"Empty\n" if least is None else ("Nonempty\n%s\n" % plain(least)).encode()
+        return None if "after" in self.keys else (0, self.page(meaning, files))
+
+    def page(self, meaning, files):
+        limit, show = int(self.keys.get("limit", 1000)), as_json if self.keys.get("form") == "json" else plain
+        start, end = int(self.keys["from"]), int(self.keys["to"])
+        if end - start > 100000:
+            raise TooHard
+        answers = [meaning.tuple_of(env) for env in meaning.answers(start, end)]
+        parts = ([it for it in answers[limit - 1] if isinstance(it, int)], [it for it in answers[limit - 1] if not isinstance(it, int)]) if len(answers) > limit else None
+        more = None if parts is None else token(*parts, files)
+        if show is as_json:
+            last = '{"more":%s}' % ("null" if more is None else '"%s"' % more)
+        else:
+            last = "end" if more is None else "more " + more
+        return "".join(line + "\n" for line in [*map(show, answers[:limit]), last]).encode()
+
+
+def examples(program, tally, budget):
+    """Each expected output, against the second opinion. The program is not run: it is held to these files elsewhere."""
+    for folder, name, status, words in every_case():
+        expected = content(folder, os.path.join("expected", name))
+        try:
+            wanted = Judge(folder, words, budget).judge(expected)
+        except TooHard:
+            tally.too_hard()
+            continue
+        if wanted is not None:
+            tally.check(wanted == (status, expected), "%s: %s" % (os.path.basename(folder), name), " ".join(words), expected, "second opinion: %d" % wanted[0], wanted[1])
