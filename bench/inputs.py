@@ -52,6 +52,7 @@ def family(name, table, sizes, about, **how):
 
 # Texts
 
+
 def relation(name, columns, rows):
     return "relation %s(%s) {\n%s}\n" % (name, ", ".join(columns), "".join("  %s;\n" % row for row in rows))
 
@@ -104,10 +105,13 @@ def nearest(columns, holds, reach=12):
 
 def scattered(count):
     """Different minutes of the week at uneven distances: a walk that comes to each minute once."""
-    return list(itertools.islice(itertools.accumulate(itertools.repeat(3571), lambda at, step: (421 * at + step) % WEEK), count))
+    return list(
+        itertools.islice(itertools.accumulate(itertools.repeat(3571), lambda at, step: (421 * at + step) % WEEK), count)
+    )
 
 
 # Steps, part one
+
 
 def timetable(copies):
     """A week's rides by way of each copy's own station, seven minutes later in each further copy."""
@@ -116,9 +120,7 @@ def timetable(copies):
         late, via = 7 * copy, "Main %d" % copy
         rides.append((5 + late, 60, 25, "Airport", via))
         rides += [(60 * hour + 40 + late, DAY, 35, via, "Zoo") for hour in range(5, 23)]
-        rides += [
-            (DAY * day + 1385 + 15 * boat + late, WEEK, 20, via, "Port") for day in range(7) for boat in range(3)
-        ]
+        rides += [(DAY * day + 1385 + 15 * boat + late, WEEK, 20, via, "Port") for day in range(7) for boat in range(3)]
     return [(leave % period, period, length, start, goal) for leave, period, length, start, goal in rides]
 
 
@@ -126,7 +128,8 @@ def timetable(copies):
 def connections(size):
     rides = timetable(size)
     rows = [
-        '(%d+%dn, %d+%dn, "%s", "%s") where arr = dep + %d' % (leave, period, (leave + length) % period, period, start, goal, length)
+        '(%d+%dn, %d+%dn, "%s", "%s") where arr = dep + %d'
+        % (leave, period, (leave + length) % period, period, start, goal, length)
         for leave, period, length, start, goal in rides
     ]
     database = relation("trip", times("dep", "arr") + ["start: data", "goal: data"], rows)
@@ -151,7 +154,12 @@ def connected(rides):
     return found
 
 
-@family("unconnected", "one", (20, 100, 500), "departures of N trips a day after whose arrival none leaves within 15 minutes")
+@family(
+    "unconnected",
+    "one",
+    (20, 100, 500),
+    "departures of N trips a day after whose arrival none leaves within 15 minutes",
+)
 def unconnected(size):
     trips = [((37 * i) % DAY, 10 + i % 50, "L%d" % (i % 10)) for i in range(size)]
     rows = [
@@ -172,9 +180,16 @@ def unconnected(size):
     return Case(listed(0, DAY - 1), database, text, output=whole_page(found) if size <= 100 else None)
 
 
-@family("fixed difference", "one", (630, 2520, 10080, 100000), "a fixed difference of period 1 joined to a period of N by an or")
+@family(
+    "fixed difference",
+    "one",
+    (630, 2520, 10080, 100000),
+    "a fixed difference of period 1 joined to a period of N by an or",
+)
 def fixed_difference(size):
-    database = relation("d", times("a", "b"), ["(0+1n, 0+1n) where b = a + 25"]) + relation("w", times("t"), ["(0+%dn)" % size])
+    database = relation("d", times("a", "b"), ["(0+1n, 0+1n) where b = a + 25"]) + relation(
+        "w", times("t"), ["(0+%dn)" % size]
+    )
     text = query(times("x", "y"), "(d(x, y) or (w(x) and w(y)))")
     holds = lambda x, y: y == x + 25 or x % size == 0 and y % size == 0
     return Case(["decide"], database, text, units=size + 1, output=nearest(2, holds) if size <= 2520 else None)
@@ -186,7 +201,9 @@ def gap_of(starts):
     return max(after - before for before, after in zip(starts, starts[1:] + [starts[0] + WEEK]))
 
 
-@family("gap", "one", (1, 10, 60), "for each minute a departure within the week's greatest gap, N uneven departures a week")
+@family(
+    "gap", "one", (1, 10, 60), "for each minute a departure within the week's greatest gap, N uneven departures a week"
+)
 def gap(size):
     starts = scattered(size)
     database = relation("bus", times("t"), ["(%d+10080n)" % start for start in starts])
@@ -197,23 +214,39 @@ def gap(size):
     return Case(["decide"], database, text, output="Nonempty\n()\n" if holds else "Empty\n")
 
 
-@family("gap of rides", "one", (1, 10, 60), "after each arrival a departure within that gap, N uneven rides a week of two columns")
+@family(
+    "gap of rides",
+    "one",
+    (1, 10, 60),
+    "after each arrival a departure within that gap, N uneven rides a week of two columns",
+)
 def gap_of_rides(size):
     starts = scattered(size)
     rides = [(start, 5 + 11 * i % 90) for i, start in enumerate(starts)]
-    rows = ["(%d+10080n, %d+10080n) where arr = dep + %d" % (start, (start + length) % WEEK, length) for start, length in rides]
+    rows = [
+        "(%d+10080n, %d+10080n) where arr = dep + %d" % (start, (start + length) % WEEK, length)
+        for start, length in rides
+    ]
     database = relation("ride", times("dep", "arr"), rows)
     within = gap_of(starts) - 1
     text = query(
         [],
-        "forall d: time forall a: time (ride(d, a) implies exists e: time exists f: time (ride(e, f) and e >= a and e <= a + %d))" % within,
+        "forall d: time forall a: time (ride(d, a) implies exists e: time exists f: time (ride(e, f) and e >= a and e <= a + %d))"
+        % within,
     )
     departures = set(starts)
-    holds = all(any((start + length + wait) % WEEK in departures for wait in range(within + 1)) for start, length in rides)
+    holds = all(
+        any((start + length + wait) % WEEK in departures for wait in range(within + 1)) for start, length in rides
+    )
     return Case(["decide"], database, text, output="Nonempty\n()\n" if holds else "Empty\n")
 
 
-@family("long period", "one", (10**3, 10**6, 10**9, 10**12), "a column within a minute of one of period N: two cells")
+@family(
+    "long period",
+    "one",
+    (10**3, 10**6, 10**9, 10**12),
+    "a column within a minute of one of period N: two cells",
+)
 def long_period(size):
     database = relation("a", times("t"), ["(0+%dn)" % size])
     text = query(times("t", "u"), "(a(t) and u >= t and u <= t + 1)")
@@ -254,8 +287,12 @@ def join_on_texts(size):
 def join_on_residues(size):
     starts = scattered(2 * size)
     first, second = starts[:size], starts[size // 2 : size // 2 + size]
-    rows = lambda column, late, these: ["(%d+10080n, %d+10080n) where %s = t + %d" % (start, (start + late) % WEEK, column, late) for start in these]
-    database = relation("r", times("t", "u"), rows("u", 5, first)) + relation("s", times("t", "v"), rows("v", 9, second))
+    rows = lambda column, late, these: [
+        "(%d+10080n, %d+10080n) where %s = t + %d" % (start, (start + late) % WEEK, column, late) for start in these
+    ]
+    database = relation("r", times("t", "u"), rows("u", 5, first)) + relation(
+        "s", times("t", "v"), rows("v", 9, second)
+    )
     text = query(times("t", "u", "v"), "(r(t, u) and s(t, v))")
     found = [(start, start + 5, start + 9) for start in set(first) & set(second) if start + 9 < WEEK]
     return Case(listed(0, WEEK - 1), database, text, units=len(set(first) & set(second)), output=whole_page(found))
@@ -283,14 +320,21 @@ def eight_rows(size, width):
     """Bounds that rise from column to column, and let the last one be no more than a number behind the first."""
     rising = ["%s >= %s" % (after, before) for before, after in zip(EIGHT, EIGHT[1:])]
     return [
-        "(%s) where %s" % (", ".join(["0+1n"] * 8), ", ".join(rising + ["h <= a + %d" % (width + i), "a >= %d" % (-i * i)]))
+        "(%s) where %s"
+        % (", ".join(["0+1n"] * 8), ", ".join(rising + ["h <= a + %d" % (width + i), "a >= %d" % (-i * i)]))
         for i in range(size)
     ]
 
 
 def eight(body, holds, size, head=EIGHT):
     database = relation("r", times(*EIGHT), eight_rows(size, 10)) + relation("s", times(*EIGHT), eight_rows(size, 5))
-    return Case(["decide"], database, query(times(*head), body), units=1, output=nearest(len(head), holds) if size == 1 else None)
+    return Case(
+        ["decide"],
+        database,
+        query(times(*head), body),
+        units=1,
+        output=nearest(len(head), holds) if size == 1 else None,
+    )
 
 
 def is_rising(values, width):
@@ -301,20 +345,33 @@ ALL = ", ".join(EIGHT)
 EIGHTS = {
     "scan": ("r(%s)" % ALL, lambda *x: is_rising(x, 10), EIGHT),
     "join": ("(r(%s) and s(%s))" % (ALL, ALL), lambda *x: is_rising(x, 5), EIGHT),
-    "join with tests": ("(r(%s) and s(%s) and d >= c + 1 and g <= f + 2)" % (ALL, ALL), lambda *x: is_rising(x, 5) and x[3] > x[2] and x[6] <= x[5] + 2, EIGHT),
+    "join with tests": (
+        "(r(%s) and s(%s) and d >= c + 1 and g <= f + 2)" % (ALL, ALL),
+        lambda *x: is_rising(x, 5) and x[3] > x[2] and x[6] <= x[5] + 2,
+        EIGHT,
+    ),
     "select": ("(r(%s) and h >= g + 3)" % ALL, lambda *x: is_rising(x, 10) and x[7] >= x[6] + 3, EIGHT),
     "union": ("(r(%s) or s(%s))" % (ALL, ALL), lambda *x: is_rising(x, 10), EIGHT),
     "minus": ("(r(%s) and not s(%s))" % (ALL, ALL), lambda *x: is_rising(x, 10) and not is_rising(x, 5), EIGHT),
     "complement": ("not r(%s)" % ALL, lambda *x: not is_rising(x, 10), EIGHT),
     "drop": ("exists h: time r(%s)" % ALL, lambda *x: is_rising(x, 10), EIGHT[:7]),
-    "extend": ("exists b: time exists c: time exists d: time exists e: time exists f: time exists g: time r(%s)" % ALL, lambda a, h: is_rising((a, h), 10), ("a", "h")),
+    "extend": (
+        "exists b: time exists c: time exists d: time exists e: time exists f: time exists g: time r(%s)" % ALL,
+        lambda a, h: is_rising((a, h), 10),
+        ("a", "h"),
+    ),
 }
 
 
 def add_eights():
     for name, (body, holds, head) in EIGHTS.items():
         make = lambda size, body=body, holds=holds, head=head: eight(body, holds, size, head)
-        family("eight columns, %s" % name, "one", (1, 4), "%s of eight time columns: one cell, N zones in each relation" % name)(make)
+        family(
+            "eight columns, %s" % name,
+            "one",
+            (1, 4),
+            "%s of eight time columns: one cell, N zones in each relation" % name,
+        )(make)
 
 
 add_eights()
@@ -325,7 +382,13 @@ add_eights()
 CYCLES = (7, 11, 13, 17, 19)
 
 
-@family("cycles", "two", (2, 3, 4, 5), "instants never covered by N cycles of the periods 7, 11, 13, 17, 19, on for two thirds of each", by_units=True)
+@family(
+    "cycles",
+    "two",
+    (2, 3, 4, 5),
+    "instants never covered by N cycles of the periods 7, 11, 13, 17, 19, on for two thirds of each",
+    by_units=True,
+)
 def cycles(size):
     periods = CYCLES[:size]
     rows = ["(%d+%dn)" % (start, period) for period in periods for start in range(2 * period // 3)]
@@ -337,10 +400,19 @@ def cycles(size):
     return Case(listed(0, whole - 1), database, text, units=whole - len(left), output=output)
 
 
-@family("cycles as intervals", "two", (2, 3, 4), "the same, each cycle given as intervals with a first and a last column", by_units=True)
+@family(
+    "cycles as intervals",
+    "two",
+    (2, 3, 4),
+    "the same, each cycle given as intervals with a first and a last column",
+    by_units=True,
+)
 def cycles_as_intervals(size):
     periods = CYCLES[:size]
-    rows = ["(0+%dn, %d+%dn) where till = begin + %d" % (period, 2 * period // 3, period, 2 * period // 3) for period in periods]
+    rows = [
+        "(0+%dn, %d+%dn) where till = begin + %d" % (period, 2 * period // 3, period, 2 * period // 3)
+        for period in periods
+    ]
     whole = math.prod(periods)
     database = relation("on", times("begin", "till"), rows)
     text = query(times("t"), "not exists f: time exists e: time (on(f, e) and f <= t and t < e)")
@@ -351,7 +423,10 @@ def cycles_as_intervals(size):
 
 def bounded(size, periods):
     """Rows with an offset, a period and both ends."""
-    return [(7 * i % periods[i % len(periods)], periods[i % len(periods)], 37 * i % (20 * size), 37 * i % (20 * size) + 600) for i in range(size)]
+    return [
+        (7 * i % periods[i % len(periods)], periods[i % len(periods)], 37 * i % (20 * size), 37 * i % (20 * size) + 600)
+        for i in range(size)
+    ]
 
 
 def bounded_rows(rows):
@@ -376,7 +451,12 @@ def union_of_rows(size):
     return Case(listed(0, LIMIT, 1000), database, text, output=output)
 
 
-@family("outside of rows", "two", (20, 100, 1000, 10000), "the first 1,000 instants outside of N bounded rows of mixed periods")
+@family(
+    "outside of rows",
+    "two",
+    (20, 100, 1000, 10000),
+    "the first 1,000 instants outside of N bounded rows of mixed periods",
+)
 def outside_of_rows(size):
     rows = bounded(size, (2, 3, 4, 5, 6, 10, 12))
     database = relation("r", times("t"), bounded_rows(rows))
@@ -391,27 +471,48 @@ def outside_of_rows(size):
 @family("difference", "two", (4, 12, 40, 400), "the difference of two relations of two columns with N rows each")
 def difference(size):
     first = [(i % 10, 3 * i % 10, 20 * i, i % 7) for i in range(size)]
-    rows = ["(%d+10n, %d+10n) where u >= t + %d, u <= t + 50, t >= %d, t <= %d" % (a, b, late, start, start + 100) for a, b, start, late in first]
-    less = ["(%d+10n, %d+10n) where u >= t + 10, u <= t + 20, t >= %d, t <= %d" % (a, b, start + 15, start + 60) for a, b, start, _ in first]
+    rows = [
+        "(%d+10n, %d+10n) where u >= t + %d, u <= t + 50, t >= %d, t <= %d" % (a, b, late, start, start + 100)
+        for a, b, start, late in first
+    ]
+    less = [
+        "(%d+10n, %d+10n) where u >= t + 10, u <= t + 20, t >= %d, t <= %d" % (a, b, start + 15, start + 60)
+        for a, b, start, _ in first
+    ]
     database = relation("r", times("t", "u"), rows) + relation("s", times("t", "u"), less)
     text = query(times("t", "u"), "(r(t, u) and not s(t, u))")
     output = None
     end = 20 * size + 200
     if size <= 40:
-        inside = lambda t, u: any(t % 10 == a and u % 10 == b and t + late <= u <= t + 50 and start <= t <= start + 100 for a, b, start, late in first)
-        outside = lambda t, u: any(t % 10 == a and u % 10 == b and t + 10 <= u <= t + 20 and start + 15 <= t <= start + 60 for a, b, start, _ in first)
-        found = [(t, u) for t in range(end) for u in range(t, min(t + 51, end + 1)) if inside(t, u) and not outside(t, u)]
+        inside = lambda t, u: any(
+            t % 10 == a and u % 10 == b and t + late <= u <= t + 50 and start <= t <= start + 100
+            for a, b, start, late in first
+        )
+        outside = lambda t, u: any(
+            t % 10 == a and u % 10 == b and t + 10 <= u <= t + 20 and start + 15 <= t <= start + 60
+            for a, b, start, _ in first
+        )
+        found = [
+            (t, u) for t in range(end) for u in range(t, min(t + 51, end + 1)) if inside(t, u) and not outside(t, u)
+        ]
         output = whole_page(found)
     return Case(listed(0, end), database, text, output=output)
 
 
-@family("since", "two", (10, 60), "instants since which one thing held without a break from another one on, within a period of N")
+@family(
+    "since",
+    "two",
+    (10, 60),
+    "instants since which one thing held without a break from another one on, within a period of N",
+)
 def since(size):
     begin, on = {0, size // 2 + 1}, set(range(2 * size // 3))
     points = lambda these: ["(%d+%dn)" % (start, size) for start in sorted(these)]
     database = relation("p", times("t"), points(on)) + relation("q", times("t"), points(begin))
     text = query(times("t"), "exists u: time (q(u) and u <= t and forall v: time (v <= u or t < v or p(v)))")
-    holds = lambda t: any(u % size in begin and all(v % size in on for v in range(u + 1, t + 1)) for u in range(t - 2 * size, t + 1))
+    holds = lambda t: any(
+        u % size in begin and all(v % size in on for v in range(u + 1, t + 1)) for u in range(t - 2 * size, t + 1)
+    )
     found = [(t,) for t in range(3 * size) if holds(t)]
     return Case(listed(0, 3 * size - 1), database, text, units=size * size, output=whole_page(found))
 
@@ -447,7 +548,10 @@ def instants_listed(size):
 @family("instants asked for", "two", INSTANTS, "N instants of one column, written by ask", needs_ask=True)
 def instants_asked(size):
     rows = ["  (0+1n) where t <= %d, t >= %d;\n" % (at, at) for at in instants(size)] if size <= 14000 else []
-    rows = [row.replace("where t <= %d, t >= %d" % (at, at), "where t >= %d, t <= %d" % (at, at)) for row, at in zip(rows, instants(size))]
+    rows = [
+        row.replace("where t <= %d, t >= %d" % (at, at), "where t >= %d, t <= %d" % (at, at))
+        for row, at in zip(rows, instants(size))
+    ]
     return instants_case(size, ["ask"], "relation answer(t: time) {\n%s}\n" % "".join(rows) if rows else None)
 
 
@@ -459,7 +563,12 @@ def pairs_listed(size):
     return Case(listed(0, LIMIT), database, text, units=size, unit="rows", output=whole_page(pairs))
 
 
-@family("many cells", "two", (1000, 4000, 15625, 62500, 250000, 1000000), "N - 1 cells of one zone: what is no multiple of N")
+@family(
+    "many cells",
+    "two",
+    (1000, 4000, 15625, 62500, 250000, 1000000),
+    "N - 1 cells of one zone: what is no multiple of N",
+)
 def many_cells(size):
     text = query(times("t"), "not t in 0+%dn" % size)
     return Case(["decide"], "", text, units=size - 1, output="Nonempty\n1\n")
@@ -492,16 +601,30 @@ def nested_drops(size):
     return Case(["decide"], database, text, units=2, output="Nonempty\n()\n")
 
 
-@family("cap told", "two", (10, 100, 1000), "a difference of periods N and N + 1 in three columns, refused for its cells from N = 100 on", by_units=True)
+@family(
+    "cap told",
+    "two",
+    (10, 100, 1000),
+    "a difference of periods N and N + 1 in three columns, refused for its cells from N = 100 on",
+    by_units=True,
+)
 def cap_told(size):
     free = lambda period: ["(%s)" % ", ".join(["0+%dn" % period] * 3)]
     database = relation("a", times("t", "u", "v"), free(size)) + relation("b", times("t", "u", "v"), free(size + 1))
     text = query(times("t", "u", "v"), "(a(t, u, v) and not b(t, u, v))")
     cells = (size + 1) ** 3 - 1
     if cells > 1000000:
-        return Case(["decide"], database, text, units=cells, output="refused: more than 1000000 cells at step 3\n", status=5)
+        return Case(
+            ["decide"], database, text, units=cells, output="refused: more than 1000000 cells at step 3\n", status=5
+        )
     holds = lambda *x: all(at % size == 0 for at in x) and not all(at % (size + 1) == 0 for at in x)
-    return Case(["decide"], database, text, units=cells, output=nearest(3, holds) if size == 10 else "Nonempty\n0, 0, %d\n" % size)
+    return Case(
+        ["decide"],
+        database,
+        text,
+        units=cells,
+        output=nearest(3, holds) if size == 10 else "Nonempty\n0, 0, %d\n" % size,
+    )
 
 
 @family("start", "two", (1,), "the empty database, and a query without an answer")

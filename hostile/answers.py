@@ -97,7 +97,13 @@ def is_covered(hull, rows, times):
     columns = [Column("t%d" % i, "time") for i in range(times)]
     terms = [Term("var", it.name) for it in columns]
     relations = {"hull": Relation("hull", columns, [hull]), "rows": Relation("rows", columns, rows)}
-    outside = Formula("and", parts=[Formula("atom", terms=terms, name="hull"), Formula("not", parts=[Formula("atom", terms=terms, name="rows")])])
+    outside = Formula(
+        "and",
+        parts=[
+            Formula("atom", terms=terms, name="hull"),
+            Formula("not", parts=[Formula("atom", terms=terms, name="rows")]),
+        ],
+    )
     try:
         return not Meaning(relations, Query(columns, outside), budget=30000).completes(0, {})
     except TooHard:

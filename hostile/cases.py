@@ -97,7 +97,14 @@ class Judge:
         if end - start > 100000:
             raise TooHard
         answers = [meaning.tuple_of(env) for env in meaning.answers(start, end)]
-        parts = ([it for it in answers[limit - 1] if isinstance(it, int)], [it for it in answers[limit - 1] if not isinstance(it, int)]) if len(answers) > limit else None
+        parts = (
+            (
+                [it for it in answers[limit - 1] if isinstance(it, int)],
+                [it for it in answers[limit - 1] if not isinstance(it, int)],
+            )
+            if len(answers) > limit
+            else None
+        )
         more = None if parts is None else token(*parts, files)
         if show is as_json:
             last = '{"more":%s}' % ("null" if more is None else '"%s"' % more)
@@ -116,4 +123,11 @@ def examples(program, tally, budget):
             tally.too_hard()
             continue
         if wanted is not None:
-            tally.check(wanted == (status, expected), "%s: %s" % (os.path.basename(folder), name), " ".join(words), expected, "second opinion: %d" % wanted[0], wanted[1])
+            tally.check(
+                wanted == (status, expected),
+                "%s: %s" % (os.path.basename(folder), name),
+                " ".join(words),
+                expected,
+                "second opinion: %d" % wanted[0],
+                wanted[1],
+            )

@@ -33,7 +33,11 @@ class Tally:
         if self.group:
             passed, failed, hard = self.groups[self.group]
             beyond = ", %d beyond the evaluator" % hard if hard else ""
-            print("%s: %d passed, %d failed%s, %.1f s" % (self.group, passed, failed, beyond, time.monotonic() - self.began), flush=True)
+            print(
+                "%s: %d passed, %d failed%s, %.1f s"
+                % (self.group, passed, failed, beyond, time.monotonic() - self.began),
+                flush=True,
+            )
         self.group = None
 
     def check(self, is_right, what, *details):
@@ -85,26 +89,47 @@ class Program:
             if data is not None:
                 self.write(name, data)
                 words.append("%s=%s" % (key, name))
-        how = {"cwd": self.folder, "stdin": subprocess.DEVNULL, "stdout": subprocess.PIPE, "stderr": subprocess.PIPE, "timeout": SECONDS, **how}
+        how = {
+            "cwd": self.folder,
+            "stdin": subprocess.DEVNULL,
+            "stdout": subprocess.PIPE,
+            "stderr": subprocess.PIPE,
+            "timeout": SECONDS,
+            **how,
+        }
         try:
             ran = subprocess.run([self.path, *words], **how)
         except subprocess.TimeoutExpired:
             self.tally.check(False, "no end within %d s: %s" % (SECONDS, words), database, query)
             return None, b""
         if ran.returncode not in statuses or ran.stderr:
-            self.tally.check(False, "status %s: %s" % (ran.returncode, words), database or b"", query or b"", ran.stderr or b"")
+            self.tally.check(
+                False, "status %s: %s" % (ran.returncode, words), database or b"", query or b"", ran.stderr or b""
+            )
         return ran.returncode, ran.stdout or b""
 
     def expect(self, wanted, status, *words, **how):
         """Counts whether a run ends with this output and status."""
         got = self.run(*words, **how)
         files = [it for it in (how.get("database"), how.get("query")) if it is not None]
-        self.tally.check(got == (status, wanted), " ".join(words)[:300], *files, b"wanted %d " % status + wanted, "got %s " % got[0], got[1])
+        self.tally.check(
+            got == (status, wanted),
+            " ".join(words)[:300],
+            *files,
+            b"wanted %d " % status + wanted,
+            "got %s " % got[0],
+            got[1]
+        )
         return got
 
     def has_ask(self):
         """Whether ask is built: a relation of two columns is asked for."""
-        got = self.run("ask", database=b"relation r(t: time, u: time) { (0+2n, 1+2n); }", query=b"{ t: time, u: time | r(t, u) }", statuses=range(10))
+        got = self.run(
+            "ask",
+            database=b"relation r(t: time, u: time) { (0+2n, 1+2n); }",
+            query=b"{ t: time, u: time | r(t, u) }",
+            statuses=range(10),
+        )
         return got == (0, b"relation answer(t: time, u: time) {\n  (0+2n, 1+2n);\n}\n")
 
 
@@ -127,8 +152,17 @@ def main(about, groups, seeds):
     """Runs the groups, each a function of a program, a tally and seeds, on the program that is named, or on the built one."""
     words = argparse.ArgumentParser(description=about)
     words.add_argument("program", nargs="?", default=BUILT)
-    words.add_argument("--only", nargs="+", metavar="WORD", default=[""], help="groups whose name holds one of these words")
-    words.add_argument("--seeds", nargs=2, type=int, metavar=("FIRST", "END"), default=seeds, help="the random cases from FIRST up to END (%d %d)" % seeds)
+    words.add_argument(
+        "--only", nargs="+", metavar="WORD", default=[""], help="groups whose name holds one of these words"
+    )
+    words.add_argument(
+        "--seeds",
+        nargs=2,
+        type=int,
+        metavar=("FIRST", "END"),
+        default=seeds,
+        help="the random cases from FIRST up to END (%d %d)" % seeds,
+    )
     options = words.parse_args()
     if not os.access(options.program, os.X_OK):
         words.exit(2, "hostile: there is no program at %s\n" % options.program)

@@ -9,7 +9,7 @@ from common import EXAMPLES, LONGEST, refusal
 from language import Fault, LIMIT, QUERY_KINDS, Lexer, read_database, read_query, relation_text
 from plan import Plan
 
-NASTY = b"\x00\x7f\x80\xc3\xff\"\\#\n{(9n-+=<|,;:_"
+NASTY = b'\x00\x7f\x80\xc3\xff"\\#\n{(9n-+=<|,;:_'
 BUS = b"relation bus(t: time) { (5+60n); }"
 SMALL = b"""relation bus(dep: time, arr: time, line: data) { (5+60n, 30+60n, "7\\"") where arr = dep + 25, dep >= -3; (-4, 6, ""); }
 # two
@@ -125,7 +125,9 @@ def exchanged(program, tally, few=False):
         whole = database if query is None else query
         pairs = list(itertools.combinations(spans(whole), 2))
         for (a, b), (c, d) in chance.sample(pairs, min(len(pairs), 300 if few else 2500)):
-            check(program, *changed(database, query, lambda text: text[:a] + text[c:d] + text[b:c] + text[a:b] + text[d:]))
+            check(
+                program, *changed(database, query, lambda text: text[:a] + text[c:d] + text[b:c] + text[a:b] + text[d:])
+            )
 
 
 def left_out(program, tally, few=False):
@@ -139,12 +141,23 @@ def left_out(program, tally, few=False):
 
 def deep(program, tally, few=False):
     """Formulas of the greatest depth, one more, and as deep as a file is long."""
-    for front, back in ((b"not ", b""), (b"(", b")"), (b"exists a: time ", b""), (b"(0 < 1 and ", b")"), (b"(0 < 1 implies ", b")"), (b"(not ", b")")):
+    for front, back in (
+        (b"not ", b""),
+        (b"(", b")"),
+        (b"exists a: time ", b""),
+        (b"(0 < 1 and ", b")"),
+        (b"(0 < 1 implies ", b")"),
+        (b"(not ", b")"),
+    ):
         per_turn = 2 if front == b"(not " else 1
         for depth in (62, 63, 64, 65, 66, 1000, 100000) + (() if few else (2000000,)):
             if len(front + back) * depth <= LONGEST - 100:
                 names = front.replace(b"a", b"a%d") if b"exists" in front else front
-                opened = b"".join(b"exists a%d: time " % i for i in range(depth)) if names != front else front * (depth // per_turn)
+                opened = (
+                    b"".join(b"exists a%d: time " % i for i in range(depth))
+                    if names != front
+                    else front * (depth // per_turn)
+                )
                 text = b"{ | " + opened + b"0 <= 0" + back * (depth // per_turn) + b" }"
                 if len(text) <= LONGEST:
                     deep_one(program, text, depth)
@@ -158,17 +171,62 @@ def deep_one(program, text, depth):
         program.expect(at_65, 4, "explain", database=b"", query=text)
 
 
-NO_UTF_8 = (b"\x80", b"\xbf", b"\xc0\x80", b"\xc1\xbf", b"\xc3", b"\xc3(", b"\xe0\x80\x80", b"\xe0\x9f\xbf", b"\xe2\x82", b"\xe2(\xa1", b"\xed\xa0\x80", b"\xed\xbf\xbf",
-            b"\xf0\x80\x80\x80", b"\xf0\x8f\xbf\xbf", b"\xf0\x9f\x98", b"\xf4\x90\x80\x80", b"\xf5\x80\x80\x80", b"\xfe", b"\xff", b"\xef\xbf")
-UTF_8 = (b"\xc2\x80", b"\xdf\xbf", b"\xe0\xa0\x80", b"\xed\x9f\xbf", b"\xee\x80\x80", b"\xef\xbb\xbf", b"\xef\xbf\xbf", b"\xf0\x90\x80\x80", b"\xf4\x8f\xbf\xbf", b"\xc2\x85", b"\xe2\x80\xa8")
+NO_UTF_8 = (
+    b"\x80",
+    b"\xbf",
+    b"\xc0\x80",
+    b"\xc1\xbf",
+    b"\xc3",
+    b"\xc3(",
+    b"\xe0\x80\x80",
+    b"\xe0\x9f\xbf",
+    b"\xe2\x82",
+    b"\xe2(\xa1",
+    b"\xed\xa0\x80",
+    b"\xed\xbf\xbf",
+    b"\xf0\x80\x80\x80",
+    b"\xf0\x8f\xbf\xbf",
+    b"\xf0\x9f\x98",
+    b"\xf4\x90\x80\x80",
+    b"\xf5\x80\x80\x80",
+    b"\xfe",
+    b"\xff",
+    b"\xef\xbf",
+)
+UTF_8 = (
+    b"\xc2\x80",
+    b"\xdf\xbf",
+    b"\xe0\xa0\x80",
+    b"\xed\x9f\xbf",
+    b"\xee\x80\x80",
+    b"\xef\xbb\xbf",
+    b"\xef\xbf\xbf",
+    b"\xf0\x90\x80\x80",
+    b"\xf4\x8f\xbf\xbf",
+    b"\xc2\x85",
+    b"\xe2\x80\xa8",
+)
 
 
 def encodings(program, tally, few=False):
     """The first and the last sequences of UTF-8 of each length, and what is next to them, in texts, in comments and elsewhere."""
     for bytes_of in NO_UTF_8 + UTF_8:
-        for front, back in ((b"", b""), (b"# ", b""), (b"# ", b"\n"), (b'relation r(d: data) { ("', b'"); }'), (b'relation r(d: data) { ("\\', b'"); }'), (b"relation r(", b": time) {}"), (b"relation!\n", b"")):
+        for front, back in (
+            (b"", b""),
+            (b"# ", b""),
+            (b"# ", b"\n"),
+            (b'relation r(d: data) { ("', b'"); }'),
+            (b'relation r(d: data) { ("\\', b'"); }'),
+            (b"relation r(", b": time) {}"),
+            (b"relation!\n", b""),
+        ):
             check_database(program, front + bytes_of + back)
-        for front, back in ((b"{ | # ", b"\n0 < 1 }"), (b'{ | "', b'" = "a" }'), (b"{ | ", b"0 < 1 }"), (b"{ | 0 < 1 }", b"")):
+        for front, back in (
+            (b"{ | # ", b"\n0 < 1 }"),
+            (b'{ | "', b'" = "a" }'),
+            (b"{ | ", b"0 < 1 }"),
+            (b"{ | 0 < 1 }", b""),
+        ):
             check_query(program, BUS, front + bytes_of + back)
 
 
@@ -176,11 +234,24 @@ def large(program, tally, few=False):
     """Names, texts and numbers of the greatest length and size, and one more."""
     for length in (1, 255, 4096, 1000000):
         name = b"a" * length
-        check_database(program, b"relation " + name + b"(" + name + b": " + name + b") { (\"x\"); }")
-        check_query(program, b"relation " + name + b"(t: time) { (0+2n); }", b"{ " + name + b": time | " + name + b"(" + name + b") }")
-    for text in (b"A" * 255, b"A" * 256, b"\xc3\xa9" * 127, b"\xc3\xa9" * 128, b'\\"' * 255, b'\\"' * 256, b"\\\\" * 255, b"A" * 1000000):
+        check_database(program, b"relation " + name + b"(" + name + b": " + name + b') { ("x"); }')
+        check_query(
+            program,
+            b"relation " + name + b"(t: time) { (0+2n); }",
+            b"{ " + name + b": time | " + name + b"(" + name + b") }",
+        )
+    for text in (
+        b"A" * 255,
+        b"A" * 256,
+        b"\xc3\xa9" * 127,
+        b"\xc3\xa9" * 128,
+        b'\\"' * 255,
+        b'\\"' * 256,
+        b"\\\\" * 255,
+        b"A" * 1000000,
+    ):
         check_database(program, b'relation r(d: data) { ("' + text + b'"); }')
-        check_query(program, b'relation r(d: data) { }', b'{ | r("' + text + b'") }')
+        check_query(program, b"relation r(d: data) { }", b'{ | r("' + text + b'") }')
         check_database(program, b'relation r(d: data) { ("' + text)
     for number in (LIMIT - 1, LIMIT, LIMIT + 1, 2**63 - 1, 2**63, 2**64, 2**64 + 1, 10**38, 10**50):
         for spelled in (b"%d" % number, b"000%d" % number, b"-%d" % number):
@@ -190,9 +261,18 @@ def large(program, tally, few=False):
             check_query(program, BUS, b"{ t: time | t <= " + spelled + b" }")
             check_query(program, BUS, b"{ t: time | t in " + spelled + b"+2n }")
             check_query(program, BUS, b"{ t: time | bus(" + spelled + b") }")
-        for database in (b"relation r(t: time) { (0+%dn); }", b"relation r(t: time) { (0+1n) where t = t - %d; }", b"relation r(t: time) { (0+1n) where t >= t + %d; }"):
+        for database in (
+            b"relation r(t: time) { (0+%dn); }",
+            b"relation r(t: time) { (0+1n) where t = t - %d; }",
+            b"relation r(t: time) { (0+1n) where t >= t + %d; }",
+        ):
             check_database(program, database % number)
-        for query in (b"{ t: time | t in 0+%dn }", b"{ t: time | bus(t + %d) }", b"{ t: time | t - %d < t }", b"{ t: time | t + %d = 1 }"):
+        for query in (
+            b"{ t: time | t in 0+%dn }",
+            b"{ t: time | bus(t + %d) }",
+            b"{ t: time | t - %d < t }",
+            b"{ t: time | t + %d = 1 }",
+        ):
             check_query(program, BUS, query % number)
     wide(program)
 
@@ -201,7 +281,9 @@ def wide(program):
     """Eight columns or variables of times, of one data sort and of two, and one or two more; and eight of each kind beside nine."""
     for times, texts in ((8, 0), (9, 0), (10, 0), (0, 8), (0, 9), (8, 8), (8, 9), (9, 8)):
         for sorts in (["data"], ["line"], ["data", "line"]):
-            columns = [("t%d" % i, "time") for i in range(times)] + [("d%d" % i, sorts[i % len(sorts)]) for i in range(texts)]
+            columns = [("t%d" % i, "time") for i in range(times)] + [
+                ("d%d" % i, sorts[i % len(sorts)]) for i in range(texts)
+            ]
             spelled = ["%s: %s" % it for it in columns]
             same = " and ".join("%s = %s" % (name, name) for name, _ in columns)
             listing, bound = ", ".join(spelled), " ".join("exists " + it for it in spelled)

@@ -5,7 +5,7 @@ import resource
 from plan import Plan
 from language import read_database, read_query
 
-DATABASE = b"relation r(t: time, l: line) { (0+2n, \"a\"); }"
+DATABASE = b'relation r(t: time, l: line) { (0+2n, "a"); }'
 ENOUGH = 1024
 LEAST = (1024, 512, 256, 192, 128, 96, 64)
 
@@ -28,7 +28,7 @@ def shapes():
     yield "not and", nested(b"not (0 < 1 and ", b")", b"0 < 1", width=2)
     yield "exists a text", nested(b"exists d%d: line ", b"", b"0 < 1")
     yield "forall and not", nested(b"not forall d%d: line ", b"", b"0 < 1", width=2)
-    yield "atoms", nested(b"exists d%d: line (r(1, \"a\") and ", b")", b"r(2, \"a\")", width=2)
+    yield "atoms", nested(b'exists d%d: line (r(1, "a") and ', b")", b'r(2, "a")', width=2)
     yield "exists a time", nested(b"exists t%d: time ", b"", b"0 < 1", depth=56)
     yield "forall a time", nested(b"forall t%d: time not ", b"", b"0 < 1", depth=40, width=2)
 
@@ -46,9 +46,16 @@ def stack(program, tally):
                 limit = lambda size=kilobytes << 10: resource.setrlimit(resource.RLIMIT_STACK, (size, size))
                 got = program.run(command, database=DATABASE, query=query, statuses=range(-255, 256), preexec_fn=limit)
                 if kilobytes == ENOUGH:
-                    tally.check(got == whole, "%s, %s under %d KB of stack: status %s" % (command, name, kilobytes, got[0]), query)
+                    tally.check(
+                        got == whole,
+                        "%s, %s under %d KB of stack: status %s" % (command, name, kilobytes, got[0]),
+                        query,
+                    )
                 if got != whole:
                     break
                 needed[command, name] = kilobytes
     most = max(needed.values())
-    print("    the most that a query takes: %d KB, as %s" % (most, ", ".join("%s %s" % it for it, size in needed.items() if size == most)))
+    print(
+        "    the most that a query takes: %d KB, as %s"
+        % (most, ", ".join("%s %s" % it for it, size in needed.items() if size == most))
+    )

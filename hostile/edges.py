@@ -53,7 +53,10 @@ def windows(table):
     table.bus("list from=%d to=%d" % (-LIMIT, -LIMIT + 100), lines(first, first + 60) + b"end\n")
     table.bus("list from=%d to=%d" % (LIMIT, LIMIT), b"end\n")
     table.bus("list from=%d to=%d" % (last, last), lines(last) + b"end\n")
-    table.bus("list from=%d to=%d limit=1" % (-LIMIT, LIMIT), lines(first) + b"more T2/%s/%d/\n" % (digest(BUS, DEPARTURES).encode(), first))
+    table.bus(
+        "list from=%d to=%d limit=1" % (-LIMIT, LIMIT),
+        lines(first) + b"more T2/%s/%d/\n" % (digest(BUS, DEPARTURES).encode(), first),
+    )
     for end in (LIMIT + 1, 2**63 - 1, 2**63, 2**64, 2**64 + 5, 10**40):
         table.usage("list db=a query=b from=0 to=%d" % end)
         table.usage("list db=a query=b from=%d to=0" % -end)
@@ -73,18 +76,51 @@ def counts(table):
     for number in (0, 1000000001, 2**32 + 1):
         for command in ("ask", "decide"):
             table.usage("%s db=a query=b cap=%d" % (command, number))
-    for words in ("seed=1000001 size=1", "seed=0 size=0", "seed=0 size=501", "seed=-1 size=1", "seed=0", "size=1", "seed=4294967296 size=1"):
+    for words in (
+        "seed=1000001 size=1",
+        "seed=0 size=0",
+        "seed=0 size=501",
+        "seed=-1 size=1",
+        "seed=0",
+        "size=1",
+        "seed=4294967296 size=1",
+    ):
         table.usage("sample " + words)
 
 
 def tokens(table):
     all_three, end = lines(5, 65, 125) + b"end\n", b"end\n"
     files = digest(BUS, DEPARTURES)
-    for time, wanted in ((-LIMIT, all_three), (LIMIT, end), (4, all_three), (5, lines(65, 125) + end), (124, lines(125) + end), (125, end)):
+    for time, wanted in (
+        (-LIMIT, all_three),
+        (LIMIT, end),
+        (4, all_three),
+        (5, lines(65, 125) + end),
+        (124, lines(125) + end),
+        (125, end),
+    ):
         table.token(token([time], []), wanted)
         table.token(token([time], [], files), wanted)
         table.token(token([time], [], "0" * 64), STALE, 4)
-    for spelled in (LIMIT + 1, -LIMIT - 1, 2**63, 2**64 + 5, 10**40, "-0", "00", "05", "+5", " 5", "5 ", "5,", ",5", "5,,5", "x", "-", "5\n"):
+    for spelled in (
+        LIMIT + 1,
+        -LIMIT - 1,
+        2**63,
+        2**64 + 5,
+        10**40,
+        "-0",
+        "00",
+        "05",
+        "+5",
+        " 5",
+        "5 ",
+        "5,",
+        ",5",
+        "5,,5",
+        "x",
+        "-",
+        "5\n",
+    ):
         table.token("T1/%s/" % spelled, FORM, 4)
         table.token("T2/%s/%s/" % (files, spelled), FORM, 4)
     for count in (0, 2, 8, 9, 1000):
@@ -94,8 +130,28 @@ def tokens(table):
         table.token(token([5], [text]), SHAPE, 4)
     for hexed in ("41" * 256, "00", "1f", "7f", "ff", "c3", "eda080", "4", "4G", "C3BC", "é"):
         table.token("T1/5/x" + hexed, FORM, 4)
-    for spelled in ("", "T1", "T1/", "T1/5", "T1/5//", "T1/5/x41,", "T1/5/41", "T0/5/", "T3/5/", "t1/5/", "T1//5", "T2/5/", "T1/5/ ", " T1/5/", "T1/5/\n",
-                    "T2/%s/5/" % files[:63], "T2/%s0/5/" % files, "T2/%s/5/" % files.upper(), "T2/%s/5" % files, "T2//5/"):
+    for spelled in (
+        "",
+        "T1",
+        "T1/",
+        "T1/5",
+        "T1/5//",
+        "T1/5/x41,",
+        "T1/5/41",
+        "T0/5/",
+        "T3/5/",
+        "t1/5/",
+        "T1//5",
+        "T2/5/",
+        "T1/5/ ",
+        " T1/5/",
+        "T1/5/\n",
+        "T2/%s/5/" % files[:63],
+        "T2/%s0/5/" % files,
+        "T2/%s/5/" % files.upper(),
+        "T2/%s/5" % files,
+        "T2//5/",
+    ):
         table.token(spelled, FORM, 4)
 
 
@@ -114,7 +170,9 @@ def periods(table):
     table.refused(BOUND, BUS, b"{ t: time | t in 0+%dn }" % LIMIT)
     table.program.expect(b"Nonempty\n1\n", 0, "decide", database=a(greatest), query=query)
     far = [1 + greatest * it for it in range(-4, 4)]
-    table.program.expect(lines(*far) + b"end\n", 0, "list", "from=%d" % -LIMIT, "to=%d" % LIMIT, database=a(greatest), query=query)
+    table.program.expect(
+        lines(*far) + b"end\n", 0, "list", "from=%d" % -LIMIT, "to=%d" % LIMIT, database=a(greatest), query=query
+    )
 
 
 def reaches(table):
@@ -125,7 +183,13 @@ def reaches(table):
     table.is_planned(most + 1, least % most, query)
     table.refused(BOUND, least % (most + 1), query)
     table.program.expect(b"Nonempty\n%d\n" % most, 0, "decide", database=least % most, query=query)
-    table.program.expect(b"Nonempty\n%d\n" % -most, 0, "decide", database=b"relation a(t: time) { (0+1n) where t <= %d; }" % -most, query=query)
+    table.program.expect(
+        b"Nonempty\n%d\n" % -most,
+        0,
+        "decide",
+        database=b"relation a(t: time) { (0+1n) where t <= %d; }" % -most,
+        query=query,
+    )
     shifted, far = b"{ t: time | bus(t + %d) }", (1 << 59) - 30
     table.is_planned(1 << 60, BUS, shifted % far)
     table.refused(BOUND, BUS, shifted % (far + 1))
@@ -136,7 +200,9 @@ def reaches(table):
     greatest = (1 << 53) - 1
     table.is_planned(1 << 53, b"", compared % greatest)
     table.refused(BOUND, b"", compared % (greatest + 1))
-    table.program.expect(b"Nonempty\n0, 0, 0, 0, 0, 0, 0, %d\n" % -greatest, 0, "decide", database=b"", query=compared % greatest)
+    table.program.expect(
+        b"Nonempty\n0, 0, 0, 0, 0, 0, 0, %d\n" % -greatest, 0, "decide", database=b"", query=compared % greatest
+    )
     sides = b"{ | exists t: time (t - %d < t + %d) }"
     half = (1 << 59) - 1
     table.is_planned(1 << 61, b"", sides % (half + 1, half))
@@ -151,11 +217,25 @@ def quantifiers(table):
 
 def far_values(table):
     far = b"relation r(t: time) { (%d); (%d); }" % (LIMIT, -LIMIT)
-    table.program.expect(b"relation r(t: time) {\n  (0+1n) where t <= %d, t >= %d;\n  (0+1n) where t <= %d, t >= %d;\n}\n" % (LIMIT, LIMIT, -LIMIT, -LIMIT),
-                         0, "check", database=far)
+    table.program.expect(
+        b"relation r(t: time) {\n  (0+1n) where t <= %d, t >= %d;\n  (0+1n) where t <= %d, t >= %d;\n}\n"
+        % (LIMIT, LIMIT, -LIMIT, -LIMIT),
+        0,
+        "check",
+        database=far,
+    )
     table.refused(BOUND, far, b"{ t: time | r(t) }")
     text = b"relation r(t: time) { (%d+7n); (-%d+7n); }" % (LIMIT, LIMIT)
-    table.program.expect(b"relation r(t: time) {\n  (%d+7n);\n  (%d+7n);\n}\n" % (LIMIT % 7, -LIMIT % 7), 0, "check", database=text)
+    table.program.expect(
+        b"relation r(t: time) {\n  (%d+7n);\n  (%d+7n);\n}\n" % (LIMIT % 7, -LIMIT % 7), 0, "check", database=text
+    )
     instant = (1 << 60) - 1
-    table.program.expect(lines(instant) + b"end\n", 0, "list", "from=0", "to=%d" % LIMIT,
-                         database=b"relation r(t: time) { (%d); }" % instant, query=b"{ t: time | r(t) }")
+    table.program.expect(
+        lines(instant) + b"end\n",
+        0,
+        "list",
+        "from=0",
+        "to=%d" % LIMIT,
+        database=b"relation r(t: time) { (%d); }" % instant,
+        query=b"{ t: time | r(t) }",
+    )

@@ -1,7 +1,22 @@
 """Random databases and queries, well-sorted, from a seed. Numbers and periods are small, so that windows are."""
 
 TEXTS = ["a", "b", "c", "", "é", 'q"', "\\", "a b", "#", "Zürich", "ab"]
-PERIODS = ([1, 2], [2], [2, 3], [2, 4], [3, 6], [1, 2, 3], [5], [4, 6], [2, 3, 4], [7], [1, 5], [2, 10], [3, 4, 12], [8])
+PERIODS = (
+    [1, 2],
+    [2],
+    [2, 3],
+    [2, 4],
+    [3, 6],
+    [1, 2, 3],
+    [5],
+    [4, 6],
+    [2, 3, 4],
+    [7],
+    [1, 5],
+    [2, 10],
+    [3, 4, 12],
+    [8],
+)
 SORTS = (["data"], ["data"], ["data"], ["line"], ["data", "line"], ["line", "city"], ["data", "line", "city"])
 
 
@@ -29,16 +44,22 @@ class Inventor:
     # Databases
 
     def database(self):
-        parts = [self.relation(name) for name in self.chance.sample(("r", "s", "q", "_p1"), self.chance.choice((1, 2, 2, 3)))]
+        parts = [
+            self.relation(name) for name in self.chance.sample(("r", "s", "q", "_p1"), self.chance.choice((1, 2, 2, 3)))
+        ]
         return self.blank().join(parts) + self.blank()
 
     def relation(self, name):
         times = self.chance.choice((0, 1, 1, 1, 2, 2, 2, 3))
-        sorts = ["time"] * times + [self.chance.choice(self.sorts) for _ in range(self.chance.choice((0, 0, 0, 1, 1, 2)))]
+        sorts = ["time"] * times + [
+            self.chance.choice(self.sorts) for _ in range(self.chance.choice((0, 0, 0, 1, 1, 2)))
+        ]
         self.chance.shuffle(sorts)
         columns = [("c%d" % i, sort) for i, sort in enumerate(sorts)]
         self.relations[name] = columns
-        rows = "".join(" %s;%s" % (self.row(columns), self.blank()) for _ in range(self.chance.choice((0, 1, 1, 2, 2, 3, 4))))
+        rows = "".join(
+            " %s;%s" % (self.row(columns), self.blank()) for _ in range(self.chance.choice((0, 1, 1, 2, 2, 3, 4)))
+        )
         return "relation %s(%s) {%s}" % (name, ", ".join("%s: %s" % it for it in columns), rows)
 
     def value(self, sort):
@@ -52,7 +73,10 @@ class Inventor:
         names = [name for name, sort in columns if sort == "time"]
         count = self.chance.choice((0, 0, 1, 1, 2, 3)) if names else 0
         bounds = [self.bound(names) for _ in range(count)]
-        return "(%s)%s" % (", ".join(self.value(sort) for _, sort in columns), " where " + ", ".join(bounds) if bounds else "")
+        return "(%s)%s" % (
+            ", ".join(self.value(sort) for _, sort in columns),
+            " where " + ", ".join(bounds) if bounds else "",
+        )
 
     def bound(self, names):
         sign = self.chance.choice(("<=", ">=", "="))
@@ -113,7 +137,10 @@ class Inventor:
             self.fresh += 1
             deep -= 1
             inner["v%d" % self.fresh] = "time"
-            front += "%s v%d: time " % (self.chance.choice(("exists", "exists", "exists", "not exists", "forall")), self.fresh)
+            front += "%s v%d: time " % (
+                self.chance.choice(("exists", "exists", "exists", "not exists", "forall")),
+                self.fresh,
+            )
         names = [name for name, sort in inner.items() if sort == "time"]
         parts = [self.atom(inner) for _ in range(self.chance.choice((1, 2, 2, 3)))]
         if names:
@@ -130,7 +157,11 @@ class Inventor:
         return "%s(%s)" % (name, ", ".join(terms))
 
     def comparison(self, names):
-        return "%s %s %s" % (self.time_term(names), self.chance.choice(("<=", ">=", "<", ">", "=")), self.time_term(names))
+        return "%s %s %s" % (
+            self.time_term(names),
+            self.chance.choice(("<=", ">=", "<", ">", "=")),
+            self.time_term(names),
+        )
 
     def time_term(self, names):
         if not names or self.chance.random() < 0.12:

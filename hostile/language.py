@@ -10,9 +10,33 @@ LIMIT = 1 << 62
 RESERVED = {"relation", "where", "time", "data", "n", "exists", "forall", "not", "and", "or", "implies", "in"}
 SYMBOLS = ("<=", ">=", "(", ")", "{", "}", ",", ":", ";", "|", "+", "-", "<", ">", "=")
 COMPARISONS = ("<=", ">=", "<", ">", "=")
-DATABASE_KINDS = {"Utf8": 1, "Syntax": 2, "Number": 3, "Period": 4, "Name": 5, "Arity": 6, "Sort": 7, "Column": 8, "Wide": 9, "TextTooLong": 10}
-QUERY_KINDS = {"Utf8": 1, "Syntax": 2, "Number": 3, "Period": 4, "Deep": 5, "UnknownRelation": 6, "Arity": 7, "Sort": 8,
-               "Unbound": 9, "Rebound": 10, "Wide": 11, "TextTooLong": 12, "UnknownSort": 13}
+DATABASE_KINDS = {
+    "Utf8": 1,
+    "Syntax": 2,
+    "Number": 3,
+    "Period": 4,
+    "Name": 5,
+    "Arity": 6,
+    "Sort": 7,
+    "Column": 8,
+    "Wide": 9,
+    "TextTooLong": 10,
+}
+QUERY_KINDS = {
+    "Utf8": 1,
+    "Syntax": 2,
+    "Number": 3,
+    "Period": 4,
+    "Deep": 5,
+    "UnknownRelation": 6,
+    "Arity": 7,
+    "Sort": 8,
+    "Unbound": 9,
+    "Rebound": 10,
+    "Wide": 11,
+    "TextTooLong": 12,
+    "UnknownSort": 13,
+}
 
 
 class Fault(Exception):
@@ -222,6 +246,7 @@ class Relation:
 
 # Databases
 
+
 def read_database(data):
     lexer = Lexer(data, DATABASE_KINDS)
     said = []  # faults of what the text says
@@ -318,6 +343,7 @@ def column_faults(columns):
 
 
 # Queries
+
 
 @dataclass
 class Term:
@@ -518,6 +544,7 @@ def read_query(data, relations):
 
 
 # Texts of the program
+
 
 def quoted(text):
     return '"%s"' % text.decode().replace("\\", "\\\\").replace('"', '\\"')

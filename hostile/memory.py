@@ -15,7 +15,9 @@ SORTS = b'relation trip(t: time, l: line, c: city) { (5+60n, "7", "Port"); } rel
 
 
 def example(name, query):
-    with open(os.path.join(EXAMPLES, name, name + ".lrp"), "rb") as base, open(os.path.join(EXAMPLES, name, query + ".lrq"), "rb") as file:
+    with open(os.path.join(EXAMPLES, name, name + ".lrp"), "rb") as base, open(
+        os.path.join(EXAMPLES, name, query + ".lrq"), "rb"
+    ) as file:
         return base.read(), file.read()
 
 
@@ -55,8 +57,21 @@ def build(folder):
 def refused_run(program, library, words, number, to_the_end):
     """The status and the output, and whether a request was refused."""
     told, tell = os.pipe()
-    env = {"LD_PRELOAD": library, "REFUSE": str(number), "REFUSE_TELL": str(tell), **({"REFUSE_ON": "1"} if to_the_end else {})}
-    ran = subprocess.run([program.path, *words], cwd=program.folder, env=env, pass_fds=[tell], stdin=subprocess.DEVNULL, capture_output=True, timeout=SECONDS)
+    env = {
+        "LD_PRELOAD": library,
+        "REFUSE": str(number),
+        "REFUSE_TELL": str(tell),
+        **({"REFUSE_ON": "1"} if to_the_end else {}),
+    }
+    ran = subprocess.run(
+        [program.path, *words],
+        cwd=program.folder,
+        env=env,
+        pass_fds=[tell],
+        stdin=subprocess.DEVNULL,
+        capture_output=True,
+        timeout=SECONDS,
+    )
     os.close(tell)
     was_refused = os.read(told, 1) != b""
     os.close(told)
@@ -81,6 +96,10 @@ def memory(program, tally, most):
                 break
             for got, _ in results:
                 is_early = got == (8, b"") and not words_are_read
-                tally.check(is_early or got in ((8, REFUSED), whole), "%s, request %d refused: status %d" % (words, number, got[0]), got[1])
+                tally.check(
+                    is_early or got in ((8, REFUSED), whole),
+                    "%s, request %d refused: status %d" % (words, number, got[0]),
+                    got[1],
+                )
             words_are_read |= results[0][0] == (8, REFUSED)
             number += max(1, number // most)

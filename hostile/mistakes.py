@@ -3,9 +3,59 @@
 from damage import check_database, check_query, spans
 from language import Fault
 
-POOL = (b"t", b"h0", b"h1", b"v1", b"r", b"s", b"c0", b"time", b"data", b"line", b"city", b"n", b"in", b"and", b"or", b"not", b"implies", b"exists", b"forall",
-        b"where", b"relation", b"(", b")", b"{", b"}", b",", b":", b";", b"|", b"+", b"-", b"<=", b">=", b"<", b">", b"=", b"0", b"1", b"007",
-        b"4611686018427387904", b"4611686018427387905", b'""', b'"a"', b'"' + b"A" * 256 + b'"', b'"', b"\xff", b"exists z: time", b"exists h0: data", b"r()", b"h0 + 1", b"\\")
+POOL = (
+    b"t",
+    b"h0",
+    b"h1",
+    b"v1",
+    b"r",
+    b"s",
+    b"c0",
+    b"time",
+    b"data",
+    b"line",
+    b"city",
+    b"n",
+    b"in",
+    b"and",
+    b"or",
+    b"not",
+    b"implies",
+    b"exists",
+    b"forall",
+    b"where",
+    b"relation",
+    b"(",
+    b")",
+    b"{",
+    b"}",
+    b",",
+    b":",
+    b";",
+    b"|",
+    b"+",
+    b"-",
+    b"<=",
+    b">=",
+    b"<",
+    b">",
+    b"=",
+    b"0",
+    b"1",
+    b"007",
+    b"4611686018427387904",
+    b"4611686018427387905",
+    b'""',
+    b'"a"',
+    b'"' + b"A" * 256 + b'"',
+    b'"',
+    b"\xff",
+    b"exists z: time",
+    b"exists h0: data",
+    b"r()",
+    b"h0 + 1",
+    b"\\",
+)
 
 
 def mistaken(chance, text):
@@ -19,7 +69,9 @@ def mistaken(chance, text):
     c, d = chance.choice(places)
     kind = chance.random()
     if kind < 0.5:
-        return text[:a] + b" " * (chance.random() < 0.5) + chance.choice(POOL) + b" " * (chance.random() < 0.5) + text[b:]
+        return (
+            text[:a] + b" " * (chance.random() < 0.5) + chance.choice(POOL) + b" " * (chance.random() < 0.5) + text[b:]
+        )
     if kind < 0.65:
         return text[:a] + text[b:]
     if kind < 0.75:

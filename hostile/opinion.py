@@ -47,7 +47,9 @@ class Case:
         """The text of a page of these answers in order, the first of what is left."""
         show = plain if form == "plain" else as_json
         lines = [show(it) for it in answers[:limit]]
-        more = None if len(answers) <= limit else token(*self.split(answers[limit - 1]), digest(self.database, self.query))
+        more = (
+            None if len(answers) <= limit else token(*self.split(answers[limit - 1]), digest(self.database, self.query))
+        )
         if form == "json":
             last = '{"more":%s}' % ("null" if more is None else '"%s"' % more)
         else:
@@ -81,8 +83,20 @@ def listing(program, case):
         behind = token(*case.split(answers[skipped]), case.chance.choice((None, digest(case.database, case.query))))
         left = answers[skipped + 1 :]
         for form in ("plain", "json"):
-            program.expect(case.page(left, limit, form), 0, "list", *ends, "limit=%d" % limit, "after=" + behind, "form=" + form, **case.files)
-    times = [number + case.chance.randint(-2, 2) for number in case.chance.choices((start, (start + end) // 2, end), k=len(meaning.columns()[0]))]
+            program.expect(
+                case.page(left, limit, form),
+                0,
+                "list",
+                *ends,
+                "limit=%d" % limit,
+                "after=" + behind,
+                "form=" + form,
+                **case.files
+            )
+    times = [
+        number + case.chance.randint(-2, 2)
+        for number in case.chance.choices((start, (start + end) // 2, end), k=len(meaning.columns()[0]))
+    ]
     texts = [case.chance.choice((b"", b"a", b"aa", b"b", "é".encode(), b"new")) for _ in meaning.columns()[1]]
     left = [it for it in answers if case.key(it) > (tuple(times), tuple(texts))]
     program.expect(case.page(left, 1000), 0, "list", *ends, "after=" + token(times, texts), **case.files)
@@ -102,7 +116,16 @@ def moved(program, case):
         by = by // 2
     far = [tuple(it + by if isinstance(it, int) else it for it in answer) for answer in answers]
     text = "".join(plain(answer) + "\n" for answer in far) + "end\n"
-    program.expect(text.encode(), 0, "list", "from=%d" % (start + by), "to=%d" % (end + by), "limit=1000000", database=database, query=query)
+    program.expect(
+        text.encode(),
+        0,
+        "list",
+        "from=%d" % (start + by),
+        "to=%d" % (end + by),
+        "limit=1000000",
+        database=database,
+        query=query,
+    )
 
 
 def explain(program, case):
@@ -117,10 +140,18 @@ def cap(program, case):
     cells = [plan.cells(number) for number in range(1, len(plan.steps) + 1)]
     most = max(cells)
     status, text = program.run("decide", "cap=%d" % max(most, 1), **case.files)
-    program.tally.check(status == 0, "decide cap=%d: status %s, though the steps have %s cells" % (most, status, cells), case.database, case.query, text)
+    program.tally.check(
+        status == 0,
+        "decide cap=%d: status %s, though the steps have %s cells" % (most, status, cells),
+        case.database,
+        case.query,
+        text,
+    )
     for less in {most - 1, case.chance.randint(0, max(most - 1, 0))} - {0, -1}:
         step = next(i for i, count in enumerate(cells, 1) if count > less)
-        program.expect(b"refused: more than %d cells at step %d\n" % (less, step), 5, "decide", "cap=%d" % less, **case.files)
+        program.expect(
+            b"refused: more than %d cells at step %d\n" % (less, step), 5, "decide", "cap=%d" % less, **case.files
+        )
 
 
 def ask(program, case):

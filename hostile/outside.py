@@ -28,7 +28,23 @@ def files(program, tally):
 
 
 def missing_files(program, whole):
-    for name in ("none", "none/none", "bus/none", "departures/", ".", "..", "/", "/none", "a" * 300, "a" * 5000, "a/" * 3000, " ", "=", "db=bus", "é"):
+    for name in (
+        "none",
+        "none/none",
+        "bus/none",
+        "departures/",
+        ".",
+        "..",
+        "/",
+        "/none",
+        "a" * 300,
+        "a" * 5000,
+        "a/" * 3000,
+        " ",
+        "=",
+        "db=bus",
+        "é",
+    ):
         program.expect(READ["database"], 6, *whole(name, "departures"))
         program.expect(READ["query"], 6, *whole("bus", name))
         program.expect(READ["database"], 6, *whole(name, name))
@@ -122,12 +138,16 @@ def names_of_files(program):
     for name in ("x=y", "=", "db=db", "-", "--help", "a b", "\n", "é", "a" * 255):
         program.write(name, BUS)
         program.expect(b"relation bus(t: time) {\n  (5+60n);\n}\n", 0, "check", "db=" + name)
+        os.unlink(os.path.join(program.folder, name))
     for word in (b"db=\xff", b"\xff"):
         got = subprocess.run([program.path, "check", word], cwd=program.folder, capture_output=True, timeout=SECONDS)
-        program.tally.check((got.returncode, got.stdout, got.stderr) == (10, b"", b""), "a word that is no UTF-8", str(got))
+        program.tally.check(
+            (got.returncode, got.stdout, got.stderr) == (10, b"", b""), "a word that is no UTF-8", str(got)
+        )
 
 
 # Outputs
+
 
 def outputs(program, tally, few=False):
     program.write("bus", BUS)
@@ -165,14 +185,28 @@ def full_device(program, tally, name, words):
 
 
 def closed_output(program, tally, name, words):
-    ran = subprocess.run([program.path, *words], cwd=program.folder, stdin=subprocess.DEVNULL, stderr=subprocess.PIPE, timeout=SECONDS,
-                         preexec_fn=lambda: os.close(1))
-    tally.check(ran.returncode == 7 and not ran.stderr, "%s without an output: status %s" % (name, ran.returncode), ran.stderr)
+    ran = subprocess.run(
+        [program.path, *words],
+        cwd=program.folder,
+        stdin=subprocess.DEVNULL,
+        stderr=subprocess.PIPE,
+        timeout=SECONDS,
+        preexec_fn=lambda: os.close(1),
+    )
+    tally.check(
+        ran.returncode == 7 and not ran.stderr, "%s without an output: status %s" % (name, ran.returncode), ran.stderr
+    )
 
 
 def pipe_that_closes(program, tally, name, words, whole, count):
     """The reader takes some bytes and goes. What it took is a front of the output, and the status is that of a failed write or of the whole."""
-    child = subprocess.Popen([program.path, *words], cwd=program.folder, stdin=subprocess.DEVNULL, stdout=subprocess.PIPE, stderr=subprocess.PIPE)
+    child = subprocess.Popen(
+        [program.path, *words],
+        cwd=program.folder,
+        stdin=subprocess.DEVNULL,
+        stdout=subprocess.PIPE,
+        stderr=subprocess.PIPE,
+    )
     taken = b""
     while len(taken) < count:
         piece = os.read(child.stdout.fileno(), count - len(taken))
@@ -184,4 +218,9 @@ def pipe_that_closes(program, tally, name, words, whole, count):
     child.stderr.close()
     status = child.wait(SECONDS)
     is_front = whole[1].startswith(taken) and len(taken) == count
-    tally.check(is_front and status in (7, whole[0]) and not said, "%s to a pipe that closes after %d bytes: status %s" % (name, count, status), taken, said)
+    tally.check(
+        is_front and status in (7, whole[0]) and not said,
+        "%s to a pipe that closes after %d bytes: status %s" % (name, count, status),
+        taken,
+        said,
+    )

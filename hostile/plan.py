@@ -67,7 +67,11 @@ class CoreForm:
         if kind == "compare":
             left, right = it.terms
             if it.name != "=":
-                return compare(DENIED[it.name], right, left) if it.name in ("<=", "<") else compare(DENIED[it.name], left, right)
+                return (
+                    compare(DENIED[it.name], right, left)
+                    if it.name in ("<=", "<")
+                    else compare(DENIED[it.name], left, right)
+                )
             if self.is_time(left):
                 return Formula("or", parts=[compare("<", left, right), compare("<", right, left)])
             return no(Formula("equal", terms=it.terms))
@@ -157,7 +161,9 @@ class Plan:
         return None
 
     def text(self):
-        return "".join("%d %s [period %d, reach %d]\n" % (i, it.words, it.period, it.reach) for i, it in enumerate(self.steps, 1))
+        return "".join(
+            "%d %s [period %d, reach %d]\n" % (i, it.words, it.period, it.reach) for i, it in enumerate(self.steps, 1)
+        )
 
     def add(self, words, period, reach, formula):
         self.steps.append(Step(words, period, max(period, reach), formula))
@@ -192,7 +198,9 @@ class Plan:
             self.meaning.spend()
             if len(found) == step.period ** len(times):
                 break
-            found |= {(number % step.period, *rest) for rest in self.residues(step, times[1:], {**env, times[0]: number})}
+            found |= {
+                (number % step.period, *rest) for rest in self.residues(step, times[1:], {**env, times[0]: number})
+            }
         return found
 
     def leaf(self, it):
@@ -201,7 +209,9 @@ class Plan:
             most = max((abs(bound[2]) for row in rows for bound in row.bounds), default=0)
             offset = max((abs(offset_of(term)) for term in it.terms if term.kind in ("int", "shifted")), default=0)
             period = self.meaning.period_of(it)
-            return self.add("scan %s(%s)" % (it.name, ", ".join(map(term_text, it.terms))), period, most + 2 * offset + period, it)
+            return self.add(
+                "scan %s(%s)" % (it.name, ", ".join(map(term_text, it.terms))), period, most + 2 * offset + period, it
+            )
         if it.kind == "sort":
             return self.add("sort %s(%s)" % (it.name, it.terms[0].value), 1, 1, it)
         if it.kind == "compare":
@@ -287,7 +297,9 @@ class Conjunction:
             for test in tests:
                 step = self.plan.steps[self.made - 1]
                 reach = max(step.reach, test_reach(test)) + step.period
-                self.made = self.plan.add("select %d %s" % (self.made, test_text(test)), step.period, reach, self.together(test))
+                self.made = self.plan.add(
+                    "select %d %s" % (self.made, test_text(test)), step.period, reach, self.together(test)
+                )
         else:
             self.made = self.plan.of_two("join", self.made, made, self.together(it, *tests), tests)
 

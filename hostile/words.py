@@ -6,11 +6,61 @@ import re
 from common import refusal
 
 USAGE = b"refused: usage\n"
-REQUIRED = {"ask": {"db", "query"}, "decide": {"db", "query"}, "list": {"db", "query", "from", "to"}, "explain": {"db", "query"}, "check": {"db"}, "sample": {"seed", "size"}}
-FURTHER = {"ask": {"cap"}, "decide": {"cap"}, "list": {"limit", "after", "form", "cap"}, "explain": set(), "check": set(), "sample": set()}
-RANGES = {"cap": (1, 10**9), "limit": (1, 10**6), "seed": (0, 10**6), "size": (1, 500), "from": (-(2**62), 2**62), "to": (-(2**62), 2**62)}
-VALUES = ("", "none", "a=b", "0", "1", "-1", "-0", "00", "01", "+1", "500", "501", "1000000", "1000001", "1000000000", "1000000001", "4611686018427387904",
-          "-4611686018427387904", "4611686018427387905", "-4611686018427387905", "18446744073709551617", "plain", "json", "Plain", "T1/5/", " 5", "5 ", "é", "=")
+REQUIRED = {
+    "ask": {"db", "query"},
+    "decide": {"db", "query"},
+    "list": {"db", "query", "from", "to"},
+    "explain": {"db", "query"},
+    "check": {"db"},
+    "sample": {"seed", "size"},
+}
+FURTHER = {
+    "ask": {"cap"},
+    "decide": {"cap"},
+    "list": {"limit", "after", "form", "cap"},
+    "explain": set(),
+    "check": set(),
+    "sample": set(),
+}
+RANGES = {
+    "cap": (1, 10**9),
+    "limit": (1, 10**6),
+    "seed": (0, 10**6),
+    "size": (1, 500),
+    "from": (-(2**62), 2**62),
+    "to": (-(2**62), 2**62),
+}
+VALUES = (
+    "",
+    "none",
+    "a=b",
+    "0",
+    "1",
+    "-1",
+    "-0",
+    "00",
+    "01",
+    "+1",
+    "500",
+    "501",
+    "1000000",
+    "1000001",
+    "1000000000",
+    "1000000001",
+    "4611686018427387904",
+    "-4611686018427387904",
+    "4611686018427387905",
+    "-4611686018427387905",
+    "18446744073709551617",
+    "plain",
+    "json",
+    "Plain",
+    "T1/5/",
+    " 5",
+    "5 ",
+    "é",
+    "=",
+)
 ODD = ("", "=", "db", "query", "=none", "db none", "DB=none", "Ask", "help", "--help", "-", "ask", "list", "check")
 
 
@@ -56,7 +106,13 @@ def random_words(chance):
         elif kind < 0.9:
             del words[at]
         else:
-            words.append("%s=%s" % (chance.choice(("db", "cap", "limit", "form", "seed", "size", "after", "from", "x", "Db", "db ")), chance.choice(VALUES)))
+            words.append(
+                "%s=%s"
+                % (
+                    chance.choice(("db", "cap", "limit", "form", "seed", "size", "after", "from", "x", "Db", "db ")),
+                    chance.choice(VALUES),
+                )
+            )
         if not words:
             break
     return words
@@ -66,7 +122,9 @@ def good_value(chance, key):
     if key in RANGES:
         least, most = RANGES[key]
         return chance.choice((least, most, 1, chance.randint(least, most)))
-    return chance.choice({"form": ("plain", "json"), "after": ("", "T1/5/", "=", "none")}.get(key, ("none", "none", "a=b", "é")))
+    return chance.choice(
+        {"form": ("plain", "json"), "after": ("", "T1/5/", "=", "none")}.get(key, ("none", "none", "a=b", "é"))
+    )
 
 
 def words(program, tally, seeds):
@@ -82,7 +140,11 @@ def words(program, tally, seeds):
 def sample_lines(seed, size):
     trips = [((seed + 37 * i) % 1440, 10 + i % 50, "L%d" % (i % 10)) for i in range(size)]
     departures = {leave for leave, _, _ in trips}
-    found = {(leave, line) for leave, length, line in trips if not any((leave + length + wait) % 1440 in departures for wait in range(16))}
+    found = {
+        (leave, line)
+        for leave, length, line in trips
+        if not any((leave + length + wait) % 1440 in departures for wait in range(16))
+    }
     every = [(leave + day, line) for leave, line in found for day in (0, -1440)]
     first = min(every, key=lambda it: (abs(it[0]), it[0] < 0, it[1]), default=None)
     shown = "none" if first is None else '%d, "%s"' % first

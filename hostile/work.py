@@ -9,7 +9,7 @@ import subprocess
 from common import LONGEST
 
 SECONDS = 10
-SMALL = b"relation r() { (); }\nrelation s(t: time) { (0+2n); }\nrelation l(x: line) { (\"a\"); }\n"
+SMALL = b'relation r() { (); }\nrelation s(t: time) { (0+2n); }\nrelation l(x: line) { ("a"); }\n'
 
 
 def filled(front, pieces, back=b"", room=LONGEST, least=1):
@@ -79,7 +79,9 @@ def queries():
     yield "quantifiers one after another", joined(b"{ | (", b"exists t:time s(t)", b" and ", b")}")
     yield "quantifiers over a named sort", joined(b"{ | (", b"forall x:line l(x)", b" and ", b")}")
     yield "deep and wide", filled(b"{ | " + b"not " * 60 + b"(0<1", b" and 0<1", b")}")
-    yield "quantifiers, deep and wide", filled(b"{ | " + b"".join(b"exists t%d:time " % it for it in range(8)) + b"(0<1", b" and t1<t2", b")}")
+    yield "quantifiers, deep and wide", filled(
+        b"{ | " + b"".join(b"exists t%d:time " % it for it in range(8)) + b"(0<1", b" and t1<t2", b")}"
+    )
     yield "groups within one another", filled(b"{ | " + b"(" * 30 + b"0<1", b" and (((0<1)))", b")" * 30 + b"}")
     yield "terms", filled(b"{ | r(0", b",0", b")}")
     yield "terms without a binder", filled(b"{ | s(x", b",x%d", b")}")
@@ -98,8 +100,14 @@ class Clock:
         self.program, self.tally, self.slowest = program, tally, []
 
     def run(self, name, *words):
-        child = subprocess.Popen([self.program.path, *words], cwd=self.program.folder, stdin=subprocess.DEVNULL, stdout=subprocess.PIPE,
-                                 stderr=subprocess.DEVNULL, preexec_fn=lambda: resource.setrlimit(resource.RLIMIT_CPU, (2 * SECONDS, 2 * SECONDS)))
+        child = subprocess.Popen(
+            [self.program.path, *words],
+            cwd=self.program.folder,
+            stdin=subprocess.DEVNULL,
+            stdout=subprocess.PIPE,
+            stderr=subprocess.DEVNULL,
+            preexec_fn=lambda: resource.setrlimit(resource.RLIMIT_CPU, (2 * SECONDS, 2 * SECONDS)),
+        )
         first = child.stdout.read(1)
         text = first + os.read(child.stdout.fileno(), 60) if first else b""
         os.kill(child.pid, signal.SIGKILL)
