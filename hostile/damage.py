@@ -102,7 +102,7 @@ def replaced(program, tally, few=False):
     for database, query in texts_of(few):
         whole = database if query is None else query
         for at in range(len(whole)):
-            nasty = NASTY if not few and len(whole) <= 400 else chance.sample(NASTY, 2)
+            nasty = NASTY if database == SMALL and not few else chance.sample(NASTY, 2)
             for byte in nasty:
                 check(program, *changed(database, query, lambda text: text[:at] + bytes([byte]) + text[at + 1 :]))
 
@@ -124,7 +124,7 @@ def exchanged(program, tally, few=False):
     for database, query in texts_of(few):
         whole = database if query is None else query
         pairs = list(itertools.combinations(spans(whole), 2))
-        for (a, b), (c, d) in chance.sample(pairs, min(len(pairs), 300 if few else 2500)):
+        for (a, b), (c, d) in chance.sample(pairs, min(len(pairs), 300 if few else 400)):
             check(
                 program, *changed(database, query, lambda text: text[:a] + text[c:d] + text[b:c] + text[a:b] + text[d:])
             )
