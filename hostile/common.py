@@ -3,6 +3,7 @@
 import argparse
 import hashlib
 import os
+import resource
 import shutil
 import subprocess
 import tempfile
@@ -13,7 +14,8 @@ EXAMPLES = os.path.join(HERE, "..", "examples")
 BUILT = os.environ.get("FIZHEDUL_PROGRAM") or os.path.join(HERE, "..", "crates", "lrp_main", "out", "lrp_main")
 STATUSES = {0, 2, 3, 4, 5, 6, 7, 8}
 LONGEST = 16777216
-SECONDS = 120
+SECONDS = 60  # of the processor, for one run
+WAIT = 1800  # on the clock
 
 
 class Tally:
@@ -61,6 +63,17 @@ def shortened(it):
     return text if len(text) <= 600 else text[:600] + " .. (%d in all)" % len(text)
 
 
+def bounded(inner):
+    """What a child does before it runs: it bounds its processor time, and then what else is asked for."""
+
+    def before():
+        resource.setrlimit(resource.RLIMIT_CPU, (SECONDS, SECONDS))
+        if inner:
+            inner()
+
+    return before
+
+
 class Program:
     """The program under test. Each run has to end with a status of its table, and to write nothing to standard error."""
 
@@ -89,18 +102,19 @@ class Program:
             if data is not None:
                 self.write(name, data)
                 words.append("%s=%s" % (key, name))
+        how["preexec_fn"] = bounded(how.get("preexec_fn"))
         how = {
             "cwd": self.folder,
             "stdin": subprocess.DEVNULL,
             "stdout": subprocess.PIPE,
             "stderr": subprocess.PIPE,
-            "timeout": SECONDS,
+            "timeout": WAIT,
             **how,
         }
         try:
             ran = subprocess.run([self.path, *words], **how)
         except subprocess.TimeoutExpired:
-            self.tally.check(False, "no end within %d s: %s" % (SECONDS, words), database, query)
+            self.tally.check(False, "no end within %d s: %s" % (WAIT, words), database, query)
             return None, b""
         if ran.returncode not in statuses or ran.stderr:
             self.tally.check(

@@ -6,7 +6,7 @@ Where memory for the program's words is refused it ends with the same status, an
 import os
 import subprocess
 
-from common import EXAMPLES, HERE, SECONDS
+from common import EXAMPLES, HERE, WAIT
 
 REFUSED = b"refused: memory\n"
 BUS = b"relation bus(t: time) { (5+60n); }"
@@ -70,7 +70,7 @@ def refused_run(program, library, words, number, to_the_end):
         pass_fds=[tell],
         stdin=subprocess.DEVNULL,
         capture_output=True,
-        timeout=SECONDS,
+        timeout=WAIT,
     )
     os.close(tell)
     was_refused = os.read(told, 1) != b""

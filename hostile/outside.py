@@ -4,7 +4,7 @@ import os
 import subprocess
 import threading
 
-from common import LONGEST, SECONDS, refusal
+from common import LONGEST, WAIT, refusal
 
 BUS = b"relation bus(t: time) { (5+60n); }"
 DEPARTURES = b"{ t: time | bus(t) }"
@@ -140,7 +140,7 @@ def names_of_files(program):
         program.expect(b"relation bus(t: time) {\n  (5+60n);\n}\n", 0, "check", "db=" + name)
         os.unlink(os.path.join(program.folder, name))
     for word in (b"db=\xff", b"\xff"):
-        got = subprocess.run([program.path, "check", word], cwd=program.folder, capture_output=True, timeout=SECONDS)
+        got = subprocess.run([program.path, "check", word], cwd=program.folder, capture_output=True, timeout=WAIT)
         program.tally.check(
             (got.returncode, got.stdout, got.stderr) == (10, b"", b""), "a word that is no UTF-8", str(got)
         )
@@ -190,7 +190,7 @@ def closed_output(program, tally, name, words):
         cwd=program.folder,
         stdin=subprocess.DEVNULL,
         stderr=subprocess.PIPE,
-        timeout=SECONDS,
+        timeout=WAIT,
         preexec_fn=lambda: os.close(1),
     )
     tally.check(
@@ -216,7 +216,7 @@ def pipe_that_closes(program, tally, name, words, whole, count):
     child.stdout.close()
     said = child.stderr.read()
     child.stderr.close()
-    status = child.wait(SECONDS)
+    status = child.wait(WAIT)
     is_front = whole[1].startswith(taken) and len(taken) == count
     tally.check(
         is_front and status in (7, whole[0]) and not said,
