@@ -1,0 +1,121 @@
+"""The proved program: what it is asked, and what it wrote."""
+
+import json
+import os
+import re
+import subprocess
+from collections.abc import Iterator, Sequence
+from dataclasses import dataclass
+from pathlib import Path
+
+from .words import MISSING, Refused
+
+LAST_STEP = re.compile(r"\[period (\d+), reach \d+\]\s*\Z")
+
+Answer = list[int | str]
+
+
+@dataclass(frozen=True)
+class Output:
+    """What the program wrote, and its status."""
+
+    status: int
+    text: str
+
+    @property
+    def refusal(self) -> str | None:
+        """The refusal's line, or None where the output was written whole."""
+        return self.text.strip() if self.status else None
+
+
+@dataclass(frozen=True)
+class Page:
+    """Some answers in order, and the token by which the next page begins, or None at the end."""
+
+    answers: list[Answer]
+    more: str | None
+
+
+@dataclass(frozen=True)
+class Question:
+    """A query over a database, by their files, in a window of time."""
+
+    database: str
+    query: str
+    first: int
+    last: int
+    cap: int | None = None
+
+    def words(self, command: str) -> list[str]:
+        """The words of a command that has no window."""
+        cap = [f"cap={self.cap}"] if self.cap and command != "explain" else []
+        return [command, f"db={self.database}", f"query={self.query}", *cap]
+
+
+def program_path() -> str:
+    """The program that the variable FIZHEDUL_PROGRAM names, else the repository's launcher."""
+    named = os.environ.get("FIZHEDUL_PROGRAM")
+    if named:
+        return named
+    return str(Path(__file__).resolve().parents[3] / "fizhedul")
+
+
+def run_program(words: Sequence[str]) -> Output:
+    """Runs the program to its end; an interrupt ends it too, and is passed on."""
+    try:
+        process = subprocess.Popen([program_path(), *words], stdin=subprocess.DEVNULL, stdout=subprocess.PIPE)
+    except OSError as fault:
+        raise Refused(f"{program_path()}: {fault.strerror}", MISSING) from fault
+    try:
+        written, _ = process.communicate()
+    except KeyboardInterrupt:
+        process.kill()
+        process.communicate()
+        raise
+    return Output(process.returncode, written.decode())
+
+
+def answered(words: Sequence[str]) -> str:
+    """The program's output, where it was written whole; its refusal is passed on with its status."""
+    output = run_program(words)
+    if output.status:
+        line = output.text.strip() or f"the program ended with status {output.status}"
+        raise Refused(line.removeprefix("refused: "), abs(output.status))
+    return output.text
+
+
+def page_of(text: str) -> Page:
+    """The page that lines in JSON form hold."""
+    lines = text.splitlines()
+    answers: list[Answer] = [json.loads(line) for line in lines[:-1]]
+    more: str | None = json.loads(lines[-1])["more"]
+    return Page(answers, more)
+
+
+def page(question: Question, limit: int, after: str | None = None) -> Page:
+    """One page of the answers in the window."""
+    words = question.words("list")
+    words += [f"from={question.first}", f"to={question.last}", f"limit={limit}", "form=json"]
+    if after is not None:
+        words.append(f"after={after}")
+    return page_of(answered(words))
+
+
+def pages(question: Question, limit: int) -> Iterator[Page]:
+    """All pages of the window, one after another."""
+    after: str | None = None
+    while True:
+        found = page(question, limit, after)
+        yield found
+        after = found.more
+        if after is None:
+            return
+
+
+def period(question: Question) -> int:
+    """The query's period, as the last line of its plan has it."""
+    plan = answered(question.words("explain"))
+    found = LAST_STEP.search(plan)
+    if found is None:
+        raise Refused("the program's plan ends without a period")
+    return int(found.group(1))

@@ -1,0 +1,52 @@
+"""What the tests share: the tools as they are called, the program, and databases as Python reads them."""
+
+import os
+import re
+import subprocess
+import sys
+from pathlib import Path
+
+TOP = Path(__file__).resolve().parents[2]
+RUN = TOP / "workbench" / "run"
+PROGRAM = os.environ.get("FIZHEDUL_PROGRAM") or str(TOP / "crates" / "lrp_main" / "out" / "lrp_main")
+TIME = 110
+
+
+def environment(**more: str) -> dict[str, str]:
+    return {**os.environ, "FIZHEDUL_PROGRAM": PROGRAM, **more}
+
+
+def tool(*words: str, text: str = "", folder: Path | None = None) -> subprocess.CompletedProcess[str]:
+    """Runs a tool of the workbench."""
+    return subprocess.run(
+        [str(RUN), *words], input=text, capture_output=True, text=True, cwd=folder, env=environment(), timeout=TIME
+    )
+
+
+def program(*words: str) -> str:
+    """The output of the program, which has to be whole."""
+    done = subprocess.run([PROGRAM, *words], capture_output=True, text=True, timeout=TIME, stdin=subprocess.DEVNULL)
+    assert done.returncode == 0, done.stdout
+    return done.stdout
+
+
+def listed(database: Path, query: str, first: int, last: int) -> list[str]:
+    """The lines of all answers of a window."""
+    file = database.with_suffix(".lrq")
+    file.write_text(query)
+    words = ["list", f"db={database}", f"query={file}", f"from={first}", f"to={last}", "limit=1000000"]
+    lines = program(*words).splitlines()
+    assert lines[-1] == "end"
+    return lines[:-1]
+
+
+ROW = re.compile(r"  \((.*?)\)(?: where (.*))?;")
+BOUND = re.compile(r"(\w+) (<=|>=|=) (\w+)(?: ([+-]) (\d+))?")
+
+
+def sources() -> list[Path]:
+    return sorted((TOP / "workbench").rglob("*.py"))
+
+
+if __name__ == "__main__":
+    sys.exit("these are no tests of their own")
