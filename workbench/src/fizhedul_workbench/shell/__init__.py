@@ -1,0 +1,1 @@
+"""The shell: a prompt over one database."""

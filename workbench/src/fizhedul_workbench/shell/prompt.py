@@ -1,0 +1,88 @@
+"""The prompt on a terminal: history, completion, colours, and queries over several lines."""
+
+import os
+import re
+from collections.abc import Callable, Iterable, Iterator
+from pathlib import Path
+
+from prompt_toolkit import PromptSession
+from prompt_toolkit.completion import CompleteEvent, Completer, Completion
+from prompt_toolkit.document import Document
+from prompt_toolkit.history import FileHistory, History, InMemoryHistory
+from prompt_toolkit.key_binding import KeyBindings, KeyPressEvent
+from prompt_toolkit.lexers import PygmentsLexer
+
+from ..lexer import KEYWORDS, SORTS, LrpLexer
+from ..queries import variables
+from .session import Session
+
+WORD = re.compile(r"\.?[A-Za-z0-9_]*$")
+
+
+def history() -> History:
+    """The lines of earlier sessions, where a folder for them can be had."""
+    home = os.environ.get("XDG_STATE_HOME") or str(Path.home() / ".local" / "state")
+    try:
+        folder = Path(home) / "fizhedul"
+        folder.mkdir(parents=True, exist_ok=True)
+        (folder / "history").touch()
+    except OSError:
+        return InMemoryHistory()
+    return FileHistory(str(folder / "history"))
+
+
+class Words(Completer):
+    """Completes commands at the start of a line, and else relations, variables, sorts and keywords."""
+
+    def __init__(self, session: Session, commands: list[str]) -> None:
+        self.session = session
+        self.commands = commands
+
+    def get_completions(self, document: Document, complete_event: CompleteEvent) -> Iterable[Completion]:
+        text = document.text_before_cursor
+        begun = WORD.search(text)
+        word = begun.group(0) if begun else ""
+        if text.lstrip().startswith("."):
+            choices = self.commands if word.startswith(".") else []
+        else:
+            choices = [*self.session.names, *variables(document.text), *SORTS, *self.session.sorts, *KEYWORDS]
+        for choice in dict.fromkeys(choices):
+            if word and choice.startswith(word) and choice != word:
+                yield Completion(choice, start_position=-len(word))
+
+
+def keys(is_whole: Callable[[str], bool]) -> KeyBindings:
+    """Enter ends an entry, or begins another line of it while a bracket is open."""
+    bindings = KeyBindings()
+
+    @bindings.add("enter")
+    def _(event: KeyPressEvent) -> None:
+        buffer = event.current_buffer
+        if buffer.complete_state is not None and buffer.complete_state.current_completion is not None:
+            buffer.complete_state = None
+        elif is_whole(buffer.text):
+            buffer.validate_and_handle()
+        else:
+            buffer.insert_text("\n")
+
+    return bindings
+
+
+def prompted_entries(session: Session, commands: list[str], is_whole: Callable[[str], bool]) -> Iterator[str]:
+    """What is typed, entry by entry; an interrupt at the prompt drops what was typed."""
+    prompt: PromptSession[str] = PromptSession(
+        "fizhedul> ",
+        multiline=True,
+        prompt_continuation="      ... ",
+        lexer=PygmentsLexer(LrpLexer),
+        completer=Words(session, commands),
+        history=history(),
+        key_bindings=keys(is_whole),
+    )
+    while True:
+        try:
+            yield prompt.prompt()
+        except KeyboardInterrupt:
+            continue
+        except EOFError:
+            return

@@ -1,0 +1,205 @@
+"""What a session holds, and what its lines do; whatever is shown was written by the program."""
+
+from dataclasses import dataclass, field
+from pathlib import Path
+
+from ..lexer import coloured
+from ..lrp import LIMIT, put_file
+from ..program import Output, Page, Question, page_of, run_program
+from ..queries import head_of
+from ..words import Refused
+from .refusals import told
+from .table import names_in, relations, table
+
+
+@dataclass
+class Session:
+    """One database, a window, limits, and the last query with the token of its next page."""
+
+    database: str
+    folder: Path
+    first: int = 0
+    last: int = 10_079
+    limit: int = 20
+    cap: int = 1_000_000
+    is_colourful: bool = False
+    query: str = ""
+    more: str | None = None
+    status: int = 0
+    names: list[str] = field(default_factory=list)
+    sorts: list[str] = field(default_factory=list)
+
+    def question(self) -> Question:
+        return Question(self.database, str(self.folder / "query.lrq"), self.first, self.last, self.cap)
+
+
+def say(text: str) -> None:
+    print(text, flush=True)
+
+
+def say_code(session: Session, text: str) -> None:
+    """A text of either grammar, in colours where there are any."""
+    say(coloured(text) if session.is_colourful else text.rstrip("\n"))
+
+
+def say_refusal(session: Session, output: Output) -> None:
+    """A refusal, in its place in the query or in the database."""
+    line = output.refusal or ""
+    session.status = abs(output.status)
+    text = session.query.encode()
+    if line.startswith("refused: database"):
+        try:
+            text = Path(session.database).read_bytes()
+        except OSError:
+            text = b""
+    told_text = told(line, text) if line else f"the program ended with status {output.status}"
+    say(f"\x1b[31m{told_text}\x1b[0m" if session.is_colourful else told_text)
+
+
+def need_query(session: Session) -> bool:
+    if not session.query:
+        say("there is no query yet")
+    return bool(session.query)
+
+
+def show_page(session: Session, after: str | None) -> None:
+    """The next page of the query as a table."""
+    question = session.question()
+    words = question.words("list")
+    words += [f"from={session.first}", f"to={session.last}", f"limit={session.limit}", "form=json"]
+    output = run_program(words + ([f"after={after}"] if after else []))
+    session.more = None
+    if output.status:
+        say_refusal(session, output)
+        return
+    found = page_of(output.text)
+    session.more = found.more
+    if found.answers:
+        say_answers(session, found)
+    else:
+        say_nearest(session)
+
+
+def say_answers(session: Session, found: Page) -> None:
+    names = [name for name, _ in head_of(session.query)]
+    lines = table(names, found.answers) if names else ["()"]
+    if session.is_colourful and names:
+        lines[0] = f"\x1b[1m{lines[0]}\x1b[0m"
+    count = f"{len(found.answers)} answer{'s' if len(found.answers) > 1 else ''}"
+    rest = "more with .next" if found.more else f"the last from {session.first} to {session.last}"
+    say("\n".join([*lines, f"({count}; {rest})"]))
+
+
+def say_nearest(session: Session) -> None:
+    """What there is outside of a window without answers."""
+    output = run_program(session.question().words("decide"))
+    if output.status:
+        say_refusal(session, output)
+        return
+    lines = output.text.splitlines()
+    where = f"no answer from {session.first} to {session.last}"
+    if lines[0] == "Empty":
+        say(f"({where}, and none at any other time)")
+    else:
+        say(f"({where}; the least answer of all is {lines[1]})")
+
+
+def ask(session: Session, text: str) -> None:
+    """A new query: its first page."""
+    session.query = text
+    (session.folder / "query.lrq").write_bytes(text.encode())
+    show_page(session, None)
+
+
+def next_page(session: Session, _: str) -> None:
+    if session.more is None:
+        say("there is no next page")
+    else:
+        show_page(session, session.more)
+
+
+def write_output(session: Session, command: str) -> None:
+    """What a command of the program writes on the last query."""
+    if need_query(session):
+        output = run_program(session.question().words(command))
+        if output.status:
+            say_refusal(session, output)
+        else:
+            say_code(session, output.text)
+
+
+def set_window(session: Session, rest: str) -> None:
+    try:
+        first, last = (int(word) for word in rest.split())
+        if max(abs(first), abs(last)) > LIMIT:
+            raise ValueError
+    except ValueError:
+        say("a window is two whole numbers, as in .window 0 1439")
+        return
+    session.first, session.last, session.more = first, last, None
+    if session.query:
+        show_page(session, None)
+
+
+def set_cap(session: Session, rest: str) -> None:
+    if rest.isascii() and rest.isdigit() and 1 <= int(rest) <= 1_000_000_000:
+        session.cap = int(rest)
+    else:
+        say("a cap is a number from 1 to 1000000000")
+
+
+def read_names(session: Session) -> bool:
+    """The relations and sorts of the database, for completion; false where it is refused."""
+    output = run_program(["check", f"db={session.database}"])
+    session.names, session.sorts = ([], []) if output.status else names_in(output.text)
+    if output.status:
+        say_refusal(session, output)
+    return output.status == 0
+
+
+def show_tables(session: Session, _: str) -> None:
+    output = run_program(["check", f"db={session.database}"])
+    if output.status:
+        say_refusal(session, output)
+    else:
+        say("\n".join(table(["relation", "columns", "rows", "periods"], relations(output.text))))
+
+
+def open_database(session: Session, rest: str) -> None:
+    if not rest:
+        say("which file? as in .open bus.lrp")
+        return
+    session.database, session.more = rest, None
+    if read_names(session):
+        say(f"{rest}: {', '.join(session.names) or 'no relation'}")
+
+
+def save(session: Session, rest: str) -> None:
+    """The last query to a file; its whole answer, as a relation, where the file's name ends in .lrp."""
+    if not rest:
+        say("to which file? as in .save query.lrq, or .save answer.lrp")
+    elif need_query(session):
+        content = session.query
+        if rest.endswith(".lrp"):
+            output = run_program(session.question().words("ask"))
+            if output.status:
+                say_refusal(session, output)
+                return
+            content = "" if output.text == "Empty\n" else output.text
+        put_file(rest, content.rstrip("\n").encode() + b"\n")
+        say(f"saved: {rest}")
+
+
+def draw(session: Session, rest: str) -> None:
+    if need_query(session):
+        from ..draw.tool import Look, drawing
+
+        file = rest or "drawing.html"
+        form = "svg" if file.endswith(".svg") else "html"
+        put_file(file, drawing(session.question(), Look(form=form)))
+        say(f"drawn: {file}")
+
+
+def refuse(session: Session, refused: Refused) -> None:
+    session.status = refused.status
+    say(f"refused: {refused.reason}")
