@@ -192,7 +192,8 @@ def save(session: Session, rest: str) -> None:
 
 def draw(session: Session, rest: str) -> None:
     if need_query(session):
-        from ..draw.tool import Look, drawing
+        from ..draw.look import Look
+        from ..draw.tool import drawing
 
         file = rest or "drawing.html"
         form = "svg" if file.endswith(".svg") else "html"

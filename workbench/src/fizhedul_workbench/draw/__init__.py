@@ -1,0 +1,1 @@
+"""Pictures: the answers of a window as a timeline."""

@@ -1,0 +1,133 @@
+"""The picture itself, as SVG."""
+
+from html import escape
+from xml.sax.saxutils import quoteattr
+
+from ..program import Answer
+from .grid import label, lines, step_for
+from .look import Look
+from .marks import Mark, Picture
+
+WIDTH = 1200
+TOP = 34
+LEVEL = 14
+PAD = 10
+RIGHT = 60
+CHUNK = 200
+LETTER = 7
+MOST_LABEL = 36
+BAD = {0xFFFE: 0xFFFD, 0xFFFF: 0xFFFD}
+
+
+def safe(text: str) -> str:
+    """A text inside of markup."""
+    return escape(text.translate(BAD), quote=False)
+
+
+def shown(answer: Answer, columns: list[tuple[str, str]]) -> str:
+    """A tuple with the names of its columns."""
+    return ", ".join(f"{name} = {value}" for value, (name, _) in zip(answer, columns)) or "()"
+
+
+def gutter(picture: Picture) -> int:
+    """The room on the left for the names of the lanes."""
+    longest = max((len(lane) for lane in picture.lanes), default=0)
+    return 24 + LETTER * min(MOST_LABEL, longest)
+
+
+def lane_tops(picture: Picture) -> list[int]:
+    """The upper edge of each lane, and behind them the lower edge of the last."""
+    tops = [TOP]
+    for levels in picture.levels:
+        tops.append(tops[-1] + levels * LEVEL + PAD)
+    return tops
+
+
+def place(picture: Picture, time: int, width: int) -> float:
+    """Where a time stands, from 0 to the width."""
+    return (time - picture.question.first) * width / picture.span
+
+
+def mark_shape(picture: Picture, mark: Mark, top: int, width: int) -> str:
+    """A tick for one time, a bar from the first to the second for two; further times are ticks behind the bar."""
+    if not mark.times:
+        return ""
+    y = top + PAD // 2 + mark.level * LEVEL
+    at = [place(picture, time, width) for time in mark.times]
+    begin, end = min(at[:2]), max(at[:2])
+    title = f"<title>{safe(shown(mark.answer, picture.columns))}</title>"
+    names = f'class="mark" id="m{mark.number}" data-at="{begin:.3f}"'
+    ticks = "".join(f"M{x:.3f} {y}v{LEVEL - 3}" for x in (at if len(at) == 1 else at[2:]))
+    bar = f'x="{begin:.3f}" y="{y + 1}" width="{max(end - begin, 0.001):.3f}" height="{LEVEL - 5}"'
+    if len(at) == 1:
+        return f'<path {names} d="{ticks}">{title}</path>\n'
+    if len(at) == 2:
+        return f"<rect {names} {bar}>{title}</rect>\n"
+    return f'<g {names}>{title}<rect {bar}/><path d="{ticks}"/></g>\n'
+
+
+def chunks(picture: Picture, tops: list[int], width: int) -> str:
+    """The marks in groups, each with the places where it begins and ends; one out of view need not be drawn."""
+    groups = []
+    for begin in range(0, len(picture.marks), CHUNK):
+        part = picture.marks[begin : begin + CHUNK]
+        times = [time for mark in part for time in mark.times] or [picture.question.first]
+        edges = [place(picture, time, width) for time in (min(times), max(times))]
+        shapes = "".join(mark_shape(picture, mark, tops[mark.lane], width) for mark in part)
+        groups.append(f'<g data-begin="{edges[0]:.3f}" data-end="{edges[1]:.3f}">\n{shapes}</g>\n')
+    return "".join(groups)
+
+
+def grid_shapes(picture: Picture, look: Look, left: int, width: int, bottom: int) -> str:
+    """The lines of hours and days with their labels."""
+    question = picture.question
+    step = step_for(picture.span, look.hour)
+    shapes = []
+    for time in lines(question.first, question.last, step):
+        x = left + place(picture, time, width)
+        shapes.append(f'<line x1="{x:.2f}" y1="{TOP - 6}" x2="{x:.2f}" y2="{bottom}"/>')
+        shapes.append(f'<text x="{x:.2f}" y="{TOP - 14}">{label(time, look.hour, look.with_dates)}</text>')
+    return "".join(shapes)
+
+
+def lane_shapes(picture: Picture, tops: list[int]) -> str:
+    """A stripe and a name for each lane."""
+    shapes = []
+    for number, (lane, top, bottom) in enumerate(zip(picture.lanes, tops, tops[1:])):
+        name = lane if len(lane) <= MOST_LABEL else lane[: MOST_LABEL - 1] + "…"
+        if number % 2 == 0:
+            shapes.append(f'<rect class="stripe" x="0" y="{top}" width="{WIDTH}" height="{bottom - top}"/>')
+        middle = (top + bottom) // 2 + 4
+        shapes.append(f'<text class="lane" x="10" y="{middle}"><title>{safe(lane)}</title>{safe(name)}</text>')
+    return "\n".join(shapes)
+
+
+def summary(picture: Picture) -> str:
+    """One sentence on what the picture shows."""
+    count = len(picture.marks)
+    window = f"from {picture.question.first} to {picture.question.last}"
+    if not count:
+        return f"No answer {window}."
+    text = f"{count} answer{'s' if count > 1 else ''} {window}, in {len(picture.lanes)} lane"
+    text += "s." if len(picture.lanes) > 1 else "."
+    return text + (" More are left in the window." if picture.is_cut else " These are all in the window.")
+
+
+def svg_of(picture: Picture, look: Look, style: str) -> str:
+    """The picture; `style` holds the rules of its colours, where it stands alone."""
+    left = gutter(picture)
+    width = WIDTH - left - RIGHT
+    tops = lane_tops(picture)
+    bottom = tops[-1]
+    marks = chunks(picture, tops, width)
+    sheet = f"<style>{style}</style>" if style else ""
+    name = quoteattr(summary(picture).translate(BAD))
+    return (
+        f'<svg id="timeline" xmlns="http://www.w3.org/2000/svg" viewBox="0 0 {WIDTH} {bottom + 10}"'
+        f' role="group" aria-label={name} data-left="{left}" data-width="{width}" data-bottom="{bottom}">\n'
+        f"{sheet}<title>{safe(summary(picture))}</title><desc>{safe(picture.query.strip())}</desc>\n"
+        f'<rect class="ground" width="{WIDTH}" height="{bottom + 10}"/>\n{lane_shapes(picture, tops)}\n'
+        f'<clipPath id="inside"><rect x="{left - 4}" y="0" width="{width + 8}" height="{bottom + 10}"/></clipPath>\n'
+        f'<g id="grid">{grid_shapes(picture, look, left, width, bottom)}</g>\n'
+        f'<g clip-path="url(#inside)"><g transform="translate({left} 0)"><g id="marks">\n{marks}</g></g></g>\n</svg>\n'
+    )

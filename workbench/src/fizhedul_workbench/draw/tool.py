@@ -1,0 +1,51 @@
+"""The tool `draw`."""
+
+import re
+import sys
+from collections.abc import Sequence
+
+from ..lrp import LIMIT, put_file
+from ..program import Question
+from ..words import choice, keyed, whole
+from .look import Look
+from .marks import picture_of
+from .page import asset, page_of
+from .svg import svg_of
+
+KEYS = ["db", "query", "from", "to"]
+SIZE = re.compile(r'viewBox="0 0 (\d+) (\d+)"')
+MOST_MARKS = 1_000_000
+
+
+def drawing(question: Question, look: Look) -> bytes:
+    """The drawing of a window: a page, a picture, or an image of the picture."""
+    picture = picture_of(question, look.most)
+    if look.form == "html":
+        return page_of(picture, look).encode()
+    svg = svg_of(picture, look, asset("picture.css"))
+    if look.form == "svg":
+        return b'<?xml version="1.0" encoding="UTF-8"?>\n' + svg.encode()
+    from .browser import image_of
+
+    size = SIZE.search(svg)
+    width, height = (int(size.group(1)), int(size.group(2))) if size else (1200, 800)
+    return image_of(svg, width, height)
+
+
+def draw_tool(words: Sequence[str]) -> None:
+    """Draws a window of a query's answers, to a file or to standard output."""
+    found = keyed(words, [*KEYS, "format", "marks", "hour", "grid", "out", "cap"], KEYS)
+    look = Look(
+        choice(found, "format", "html", ["html", "svg", "png"]),
+        whole(found, "marks", 10_000, 1, MOST_MARKS),
+        whole(found, "hour", 60, 1, 3_600_000),
+        choice(found, "grid", "numbers", ["numbers", "dates"]) == "dates",
+    )
+    first, last = (whole(found, key, 0, -LIMIT, LIMIT) for key in ("from", "to"))
+    cap = whole(found, "cap", 1_000_000, 1, 1_000_000_000)
+    content = drawing(Question(found["db"], found["query"], first, last, cap), look)
+    if "out" in found:
+        put_file(found["out"], content)
+    else:
+        sys.stdout.buffer.write(content)
+        sys.stdout.buffer.flush()

@@ -1,0 +1,114 @@
+"""A browser without a window, spoken to over a pipe in the DevTools protocol."""
+
+import base64
+import json
+import os
+import subprocess
+import tempfile
+import time
+from collections.abc import Iterator
+from contextlib import contextmanager
+from typing import Any
+
+from fizhedul_workbench.draw.browser import browser_words
+
+SECONDS = 60
+
+
+class Tab:
+    """One page, and the errors that it told."""
+
+    def __init__(self, into: int, out_of: int) -> None:
+        self.into, self.out_of = into, out_of
+        self.number = 0
+        self.rest = b""
+        self.session: str | None = None
+        self.errors: list[str] = []
+
+    def read(self) -> dict[str, Any]:
+        while b"\0" not in self.rest:
+            piece = os.read(self.out_of, 1 << 16)
+            if not piece:
+                raise RuntimeError("the browser ended")
+            self.rest += piece
+        message, self.rest = self.rest.split(b"\0", 1)
+        found: dict[str, Any] = json.loads(message)
+        if found.get("method") == "Runtime.exceptionThrown":
+            self.errors.append(json.dumps(found["params"]["exceptionDetails"])[:500])
+        if found.get("method") == "Log.entryAdded" and found["params"]["entry"]["level"] == "error":
+            self.errors.append(found["params"]["entry"]["text"])
+        return found
+
+    def call(self, method: str, **parameters: Any) -> dict[str, Any]:
+        self.number += 1
+        message = {"id": self.number, "method": method, "params": parameters}
+        if self.session is not None:
+            message["sessionId"] = self.session
+        os.write(self.into, json.dumps(message).encode() + b"\0")
+        begin = time.monotonic()
+        while time.monotonic() - begin < SECONDS:
+            found = self.read()
+            if found.get("id") == self.number:
+                assert "error" not in found, found
+                result: dict[str, Any] = found["result"]
+                return result
+        raise RuntimeError(f"no answer to {method}")
+
+    def value(self, script: str) -> Any:
+        """The value of an expression in the page, awaited where it is a promise."""
+        found = self.call("Runtime.evaluate", expression=script, awaitPromise=True, returnByValue=True)
+        assert "exceptionDetails" not in found, found
+        return found["result"].get("value")
+
+    def open(self, address: str) -> None:
+        self.call("Page.navigate", url=address)
+        loaded = "new Promise((done) => document.readyState === 'complete' ? done(1) : addEventListener('load', done))"
+        self.value(f"{loaded}.then(() => new Promise(requestAnimationFrame)).then(() => 1)")
+
+    def key(self, key: str, text: str = "") -> None:
+        self.call("Input.dispatchKeyEvent", type="keyDown", key=key, text=text)
+        self.call("Input.dispatchKeyEvent", type="keyUp", key=key)
+
+    def move(self, x: float, y: float) -> None:
+        self.call("Input.dispatchMouseEvent", type="mouseMoved", x=x, y=y)
+
+    def screenshot(self) -> bytes:
+        return base64.b64decode(self.call("Page.captureScreenshot")["data"])
+
+
+@contextmanager
+def tab(width: int = 1300, height: int = 900) -> Iterator[Tab]:
+    """A page in a browser that ends with the block."""
+    to_browser, from_browser = os.pipe(), os.pipe()
+
+    def place() -> None:
+        ends = os.dup(to_browser[0]), os.dup(from_browser[1])
+        os.dup2(ends[0], 3)
+        os.dup2(ends[1], 4)
+
+    with tempfile.TemporaryDirectory(prefix="fizhedul-", ignore_cleanup_errors=True) as folder:
+        words = browser_words(folder) + ["--remote-debugging-pipe", f"--window-size={width},{height}"]
+        process = subprocess.Popen(
+            words,
+            preexec_fn=place,
+            close_fds=False,
+            stdin=subprocess.DEVNULL,
+            stdout=subprocess.DEVNULL,
+            stderr=subprocess.DEVNULL,
+        )
+        os.close(to_browser[0])
+        os.close(from_browser[1])
+        try:
+            page = Tab(to_browser[1], from_browser[0])
+            target = page.call("Target.createTarget", url="about:blank")["targetId"]
+            page.session = page.call("Target.attachToTarget", targetId=target, flatten=True)["sessionId"]
+            for domain in ("Page", "Runtime", "Log"):
+                page.call(f"{domain}.enable")
+            size = {"width": width, "height": height, "deviceScaleFactor": 1, "mobile": False}
+            page.call("Emulation.setDeviceMetricsOverride", **size)
+            yield page
+        finally:
+            process.terminate()
+            process.wait(20)
+            os.close(to_browser[1])
+            os.close(from_browser[0])
