@@ -18,6 +18,7 @@
   let shift = 0;
   let chosen = -1;
   let isAsked = false;
+  let rest = 0;
 
   function label(time) {
     if (!facts.dates) return String(time);
@@ -37,7 +38,7 @@
   // The grid is drawn anew: lines at the multiples of a step that fit what is in view.
   function drawGrid() {
     const seen = facts.span / zoom;
-    const step = BigInt(facts.steps.find((each) => seen <= each * 12) ?? facts.steps.at(-1));
+    const step = BigInt(facts.steps.find((each) => seen <= each * facts.lines) ?? facts.steps.at(-1));
     const begin = first + BigInt(Math.floor(-shift / zoom / width * facts.span));
     const shapes = [];
     let time = begin - ((begin % step) + step) % step;
@@ -65,6 +66,12 @@
   function show(newZoom, newShift) {
     zoom = Math.min(mostZoom, Math.max(1, newZoom));
     shift = Math.min(0, Math.max(width * (1 - zoom), newShift));
+    // Many marks are drawn without their edges while they move.
+    if (count > 2000) {
+      marks.classList.add("moving");
+      clearTimeout(rest);
+      rest = setTimeout(() => marks.classList.remove("moving"), 200);
+    }
     if (!isAsked) {
       isAsked = true;
       requestAnimationFrame(draw);

@@ -4,7 +4,7 @@ import json
 from importlib.resources import files
 
 from ..lexer import marked_up
-from .grid import steps
+from .grid import MOST_LINES, steps
 from .look import Look
 from .marks import Picture
 from .svg import BAD, safe, summary, svg_of
@@ -38,6 +38,7 @@ def facts(picture: Picture, look: Look) -> str:
         "span": picture.span,
         "hour": look.hour,
         "dates": look.with_dates,
+        "lines": MOST_LINES[look.with_dates],
         "steps": [step for step in steps(look.hour) if step < 2**53],
     }
     return json.dumps(found)

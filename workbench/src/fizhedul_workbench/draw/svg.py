@@ -81,7 +81,7 @@ def chunks(picture: Picture, tops: list[int], width: int) -> str:
 def grid_shapes(picture: Picture, look: Look, left: int, width: int, bottom: int) -> str:
     """The lines of hours and days with their labels."""
     question = picture.question
-    step = step_for(picture.span, look.hour)
+    step = step_for(picture.span, look.hour, look.with_dates)
     shapes = []
     for time in lines(question.first, question.last, step):
         x = left + place(picture, time, width)

@@ -1,0 +1,230 @@
+"""Pictures: counted against the program's answers, and used in a real browser where one is installed."""
+
+import re
+import subprocess
+import xml.etree.ElementTree as ElementTree
+from collections.abc import Iterator
+from pathlib import Path
+
+import pytest
+from devtools import Tab, tab
+from fizhedul_workbench.draw.browser import browser
+from fizhedul_workbench.draw.grid import label, lines, step_for, steps
+from tools import program, tool
+
+TOP = Path(__file__).resolve().parents[2]
+WEEK = TOP / "examples" / "week" / "week.lrp"
+TRIPS = "{ dep: time, arr: time, start: data, goal: data | trip(dep, arr, start, goal) }"
+
+
+def can_browse() -> bool:
+    found = browser()
+    return found is not None and subprocess.run([found, "--version"], capture_output=True).returncode == 0
+
+
+needs_browser = pytest.mark.skipif(not can_browse(), reason="no browser is installed")
+
+
+def question(folder: Path, query: str, first: int, last: int, database: Path = WEEK) -> list[str]:
+    (folder / "query.lrq").write_text(query)
+    return [f"db={database}", f"query={folder / 'query.lrq'}", f"from={first}", f"to={last}"]
+
+
+def titles(picture: str) -> list[str]:
+    """The titles of the marks in a picture."""
+    tree = ElementTree.fromstring(picture)
+    space = "{http://www.w3.org/2000/svg}"
+    marks = [each for each in tree.iter() if each.get("class") == "mark"]
+    return [each.findtext(f"{space}title") or "" for each in marks]
+
+
+def test_a_picture_has_a_mark_for_each_answer(tmp_path: Path) -> None:
+    words = question(tmp_path, TRIPS, 0, 2880)
+    done = tool("draw", *words, "format=svg")
+    assert done.returncode == 0, done.stderr
+    wanted = []
+    for line in program("list", *words).splitlines()[:-1]:
+        dep, arr, start, goal = line.replace('"', "").split(", ")
+        wanted.append(f"dep = {dep}, arr = {arr}, start = {start}, goal = {goal}")
+    assert titles(done.stdout) == wanted and len(wanted) == 90
+    assert "90 answers from 0 to 2880, in 3 lanes. These are all in the window." in done.stdout
+
+
+def test_a_bar_stands_where_its_times_are(tmp_path: Path) -> None:
+    database = tmp_path / "one.lrp"
+    database.write_text("relation r(a: time, b: time) { (25, 75); (100, 50); }")
+    done = tool("draw", *question(tmp_path, "{ a: time, b: time | r(a, b) }", 0, 100, database), "format=svg")
+    width = int(re.findall(r'data-width="(\d+)"', done.stdout)[0])
+    bars = re.findall(r'<rect class="mark"[^>]* x="([\d.]+)" y="(\d+)" width="([\d.]+)"', done.stdout)
+    found = [(float(x) / width * 100, float(wide) / width * 100) for x, _, wide in bars]
+    assert found == [pytest.approx((25, 50), abs=0.01), pytest.approx((50, 50), abs=0.01)]
+    assert bars[0][1] != bars[1][1]
+
+
+def test_a_picture_says_when_more_are_left(tmp_path: Path) -> None:
+    done = tool("draw", *question(tmp_path, TRIPS, 0, 2880), "format=svg", "marks=7")
+    assert len(titles(done.stdout)) == 7 and "More are left in the window." in done.stdout
+    empty = tool("draw", *question(tmp_path, TRIPS, 1, 2), "format=svg")
+    assert "No answer from 1 to 2." in empty.stdout and titles(empty.stdout) == []
+
+
+def test_texts_are_no_markup(tmp_path: Path) -> None:
+    database = tmp_path / "odd.lrp"
+    database.write_text('relation r(t: time, d: data) { (5, "<b>&\\"]]></script>"); }')
+    words = question(tmp_path, "{ t: time, d: data | r(t, d) }", 0, 10, database)
+    picture = tool("draw", *words, "format=svg").stdout
+    assert titles(picture) == ['t = 5, d = <b>&"]]></script>']
+    page = tool("draw", *words).stdout
+    assert "<b>" not in page and page.count("</script>") == 2
+    assert "http" not in page.replace("http://www.w3.org/2000/svg", "").replace("http-equiv", "")
+
+
+def test_the_page_has_query_period_and_table(tmp_path: Path) -> None:
+    page = tool("draw", *question(tmp_path, TRIPS, 0, 100)).stdout
+    assert "The query's period is 10080." in page and '<span class="nf">trip</span>' in page
+    assert page.count('<tr id="r') == 2 and '<td>5</td><td>30</td><td class="text">Airport</td>' in page
+
+
+def test_refusals_are_passed_on(tmp_path: Path) -> None:
+    out = tmp_path / "page.html"
+    done = tool("draw", *question(tmp_path, "{ t: time | bus(t) }", 0, 9), f"out={out}")
+    assert done.returncode == 4 and done.stderr == "refused: query UnknownRelation at 1:13\n" and not out.exists()
+    done = tool("draw", *question(tmp_path, TRIPS, 0, 9), "format=gif")
+    assert done.returncode == 2 and "format=gif is none of html, svg, png" in done.stderr
+
+
+def test_the_grid_has_hours_and_days() -> None:
+    assert steps(60)[:10] == [1, 5, 15, 30, 60, 120, 240, 360, 720, 1440]
+    assert step_for(2880, 60, False) == 240 and step_for(2880, 60, True) == 360
+    assert step_for(12, 60, False) == 1 and step_for(2000, 1, False) == 168
+    assert lines(-7, 12, 5) == [-5, 0, 5, 10]
+    assert label(29459520, 60, True) == "2026-01-05" and label(29459585, 60, True) == "2026-01-05 01:05"
+    assert label(2**62, 60, True) == str(2**62) and label(-1440, 60, True) == "1969-12-31"
+
+
+@pytest.fixture(scope="module")
+def page(tmp_path_factory: pytest.TempPathFactory) -> Iterator[Tab]:
+    """A page with 10,000 marks in 20 lanes."""
+    folder = tmp_path_factory.mktemp("page")
+    rows = [f'({3 * n}+60n, {4 * n + 20}+60n, "Line {n:02}") where arr = dep + {n + 20};' for n in range(20)]
+    (folder / "bus.lrp").write_text("relation bus(dep: time, arr: time, line: line) {" + "\n".join(rows) + "}")
+    query = "{ d: time, a: time, l: line | bus(d, a, l) }"
+    words = question(folder, query, 0, 40_000, folder / "bus.lrp")
+    assert tool("draw", *words, f"out={folder / 'page.html'}").returncode == 0
+    with tab() as found:
+        found.open((folder / "page.html").as_uri())
+        yield found
+
+
+@needs_browser
+def test_the_browser_shows_every_mark(page: Tab) -> None:
+    assert page.value("document.querySelectorAll('#marks .mark').length") == 10_000
+    assert page.value("document.querySelectorAll('tbody tr').length") == 10_000
+    assert page.value("document.getElementById('timeline').dataset.zoom") == "1"
+    assert page.value("performance.getEntriesByType('resource').length") == 0
+    assert page.errors == []
+
+
+@needs_browser
+def test_a_mark_under_the_pointer_tells_its_tuple(page: Tab) -> None:
+    box = page.value(
+        "(() => { const b = document.getElementById('m20').getBoundingClientRect();"
+        " return [b.x + b.width / 2, b.y + b.height / 2]; })()"
+    )
+    page.move(*box)
+    told = page.value("document.getElementById('told').textContent")
+    assert re.fullmatch(r"d = \d+, a = \d+, l = Line \d\d", told)
+    assert page.value("document.querySelector('#marks .chosen title').textContent") == told
+    assert page.value("[...document.querySelector('tr.chosen').cells].map((c) => c.textContent).join(' ')") == (
+        re.sub(r"[dal] = |,", "", told)
+    )
+
+
+@needs_browser
+def test_keys_zoom_move_and_go_from_mark_to_mark(page: Tab) -> None:
+    page.value("document.getElementById('frame').focus()")
+    frame = "new Promise((done) => requestAnimationFrame(() => requestAnimationFrame(done)))"
+    for key in ("+", "+", "ArrowRight"):
+        page.key(key, key if len(key) == 1 else "")
+    page.value(frame)
+    assert float(page.value("document.getElementById('timeline').dataset.zoom")) == pytest.approx(2.56)
+    move = page.value("document.getElementById('marks').getAttribute('transform')")
+    assert re.fullmatch(r"translate\(-\d[\d.]* 0\) scale\(2\.56\d* 1\)", move)
+    before = page.value("document.querySelector('#marks .chosen').id")
+    page.key("n", "n")
+    assert page.value("document.querySelector('#marks .chosen').id") == f"m{int(before[1:]) + 1}"
+    page.key("0", "0")
+    page.value(frame)
+    assert page.value("document.getElementById('timeline').dataset.zoom") == "1"
+    assert page.errors == []
+
+
+FRAMES = """(async () => {
+  const frame = document.getElementById("frame");
+  const box = frame.getBoundingClientRect();
+  const times = [];
+  let last = performance.now();
+  for (let turn = 0; turn < 24; turn += 1) {
+    const deltaY = turn < 12 ? -60 : 60;
+    const at = { deltaY, clientX: box.left + 600, clientY: box.top + 60, cancelable: true, bubbles: true };
+    frame.dispatchEvent(new WheelEvent("wheel", at));
+    await new Promise(requestAnimationFrame);
+    times.push(performance.now() - last);
+    last = performance.now();
+  }
+  return times.sort((a, b) => a - b)[12];
+})()"""
+
+
+@needs_browser
+def test_ten_thousand_marks_are_fluent(page: Tab) -> None:
+    # The middle frame of a zoom in and out, the best of four; a machine that does other work is slow at times.
+    assert min(page.value(FRAMES) for _ in range(4)) < 150
+    assert page.errors == []
+
+
+def colours(page: Tab) -> tuple[list[int], list[int]]:
+    """The colours of the text and of the ground."""
+    script = "(() => { const s = getComputedStyle(document.body); return [s.color, s.backgroundColor]; })()"
+    ink, ground = (list(map(int, re.findall(r"\d+", each)[:3])) for each in page.value(script))
+    return ink, ground
+
+
+def contrast(one: list[int], two: list[int]) -> float:
+    """The contrast of two colours, as the Web Content Accessibility Guidelines count it."""
+
+    def light(colour: list[int]) -> float:
+        parts = [c / 255 / 12.92 if c / 255 <= 0.04045 else ((c / 255 + 0.055) / 1.055) ** 2.4 for c in colour]
+        return 0.2126 * parts[0] + 0.7152 * parts[1] + 0.0722 * parts[2]
+
+    high, low = sorted((light(one), light(two)), reverse=True)
+    return (high + 0.05) / (low + 0.05)
+
+
+@needs_browser
+def test_light_and_dark_have_contrast(page: Tab) -> None:
+    grounds = []
+    for scheme in ("light", "dark"):
+        page.call("Emulation.setEmulatedMedia", features=[{"name": "prefers-color-scheme", "value": scheme}])
+        ink, ground = colours(page)
+        assert contrast(ink, ground) > 7
+        mark = page.value("getComputedStyle(document.querySelector('#marks .mark')).color")
+        assert contrast(list(map(int, re.findall(r"\d+", mark)[:3])), ground) > 4.5
+        grounds.append(ground)
+    assert grounds[0] == [255, 255, 255] and sum(grounds[1]) < 100
+
+
+@needs_browser
+def test_an_image_is_a_png(tmp_path: Path) -> None:
+    out = tmp_path / "week.png"
+    done = tool("draw", *question(tmp_path, TRIPS, 0, 1440), "format=png", f"out={out}")
+    assert done.returncode == 0, done.stderr
+    content = out.read_bytes()
+    assert content[:8] == b"\x89PNG\r\n\x1a\n" and int.from_bytes(content[16:20], "big") == 1200
+
+
+def test_a_missing_browser_is_named(tmp_path: Path, monkeypatch: pytest.MonkeyPatch) -> None:
+    monkeypatch.setenv("FIZHEDUL_BROWSER", "no-such-browser")
+    done = tool("draw", *question(tmp_path, TRIPS, 0, 1440), "format=png")
+    assert done.returncode == 1 and done.stdout == ""
+    assert done.stderr == "refused: the Debian package chromium is missing (apt-get install chromium)\n"
