@@ -9,7 +9,7 @@ from pathlib import Path
 import pytest
 from devtools import Tab, tab
 from fizhedul_workbench.draw.browser import browser
-from fizhedul_workbench.draw.grid import label, lines, step_for, steps
+from fizhedul_workbench.draw.grid import grid_of, label, lines, step_for, steps
 from tools import program, tool
 
 TOP = Path(__file__).resolve().parents[2]
@@ -99,6 +99,9 @@ def test_the_grid_has_hours_and_days() -> None:
     assert step_for(12, 60, False) == 1 and step_for(2000, 1, False) == 168
     assert lines(-7, 12, 5) == [-5, 0, 5, 10]
     assert label(29459520, 60, True) == "2026-01-05" and label(29459585, 60, True) == "2026-01-05 01:05"
+    years = grid_of(29453760, 34712640, 60, True)
+    assert [label(time, 60, True) for time in years] == [f"{year}-01-01" for year in range(2026, 2037, 2)]
+    assert 1 < len(grid_of(2**61, 2**62, 60, True)) < 12
     assert label(2**62, 60, True) == str(2**62) and label(-1440, 60, True) == "1969-12-31"
 
 
@@ -181,6 +184,22 @@ def test_ten_thousand_marks_are_fluent(page: Tab) -> None:
     # The middle frame of a zoom in and out, the best of four; a machine that does other work is slow at times.
     assert min(page.value(FRAMES) for _ in range(4)) < 150
     assert page.errors == []
+
+
+@needs_browser
+def test_the_page_has_the_grid_of_the_picture(tmp_path: Path) -> None:
+    database = tmp_path / "one.lrp"
+    database.write_text("relation r(t: time) { (29453760); }")
+    for first, last, grid in ((0, 2880, "numbers"), (-500, 3000, "dates"), (29453760, 34712640, "dates")):
+        words = question(tmp_path, "{ t: time | r(t) }", first, last, database)
+        svg = tool("draw", *words, f"grid={grid}", "format=svg").stdout
+        drawn = re.findall(r'<text x="[\d.]+" y="20">([^<]*)</text>', svg)
+        tool("draw", *words, f"grid={grid}", f"out={tmp_path / 'page.html'}")
+        with tab() as page:
+            page.open((tmp_path / "page.html").as_uri())
+            script = "[...document.querySelectorAll('#grid text')].map((each) => each.textContent)"
+            assert page.value(script) == drawn and len(drawn) > 3
+            assert page.errors == []
 
 
 def colours(page: Tab) -> tuple[list[int], list[int]]:

@@ -4,6 +4,9 @@ from datetime import datetime, timedelta
 
 EPOCH = datetime(1970, 1, 1)
 MOST_LINES = {False: 12, True: 8}
+# The distances in months that are tried where weeks are too short.
+MONTHS = [1, 3, 6, 12, 24, 60, 120, 300, 600, 1200, 6000]
+DAYS_OF_MONTH = 28
 
 
 def steps(hour: int) -> list[int]:
@@ -25,6 +28,35 @@ def lines(first: int, last: int, step: int) -> list[int]:
     """The multiples of a step in a window."""
     begin = -(-first // step) * step
     return list(range(begin, last + 1, step))
+
+
+def month_lines(first: int, last: int, hour: int) -> list[int]:
+    """The beginnings of months or years in a window, few of them; none where dates do not reach."""
+    day = 24 * hour
+    try:
+        start = EPOCH + timedelta(days=first // day)
+        EPOCH + timedelta(days=last // day + 1)
+    except OverflowError:
+        return []
+    wanted = (last - first) / (DAYS_OF_MONTH * day * MOST_LINES[True])
+    step = next((months for months in MONTHS if wanted <= months), MONTHS[-1])
+    month = (12 * start.year + start.month - 1) // step * step
+    found: list[int] = []
+    while month // 12 <= 9999:
+        if month >= 12:
+            time = (datetime(month // 12, month % 12 + 1, 1) - EPOCH).days * day
+            if time > last:
+                break
+            found += [time] if time >= first else []
+        month += step
+    return found
+
+
+def grid_of(first: int, last: int, hour: int, with_dates: bool) -> list[int]:
+    """The times at which a window has lines."""
+    step = step_for(max(1, last - first), hour, with_dates)
+    found = month_lines(first, last, hour) if with_dates and step > 168 * hour else []
+    return found or lines(first, last, step)
 
 
 def label(time: int, hour: int, with_dates: bool) -> str:

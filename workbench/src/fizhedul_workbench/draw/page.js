@@ -35,17 +35,34 @@
     return made;
   }
 
-  // The grid is drawn anew: lines at the multiples of a step that fit what is in view.
+  // The multiples of a step in view.
+  function stepTimes(begin, seen) {
+    const step = BigInt(facts.steps.find((each) => seen <= each * facts.lines) ?? facts.steps.at(-1));
+    const start = begin - ((begin % step) + step) % step;
+    return Array.from({ length: 40 }, (_, number) => start + BigInt(number) * step);
+  }
+
+  // The beginnings of months or years in view; none where dates do not reach.
+  function monthTimes(begin, seen) {
+    const hours = 3600000 / facts.hour;
+    const start = new Date(Number(begin) * hours);
+    if (Number.isNaN(start.getTime()) || start.getUTCFullYear() < 101) return [];
+    const step = facts.months.find((each) => seen <= each * facts.month * facts.lines) ?? facts.months.at(-1);
+    const month = Math.floor((12 * start.getUTCFullYear() + start.getUTCMonth()) / step) * step;
+    const times = Array.from({ length: 40 }, (_, number) => Date.UTC(2000, month + number * step - 24000, 1) / hours);
+    return times.filter((time) => Number.isSafeInteger(time)).map((time) => BigInt(time));
+  }
+
+  // The grid is drawn anew for what is in view.
   function drawGrid() {
     const seen = facts.span / zoom;
-    const step = BigInt(facts.steps.find((each) => seen <= each * facts.lines) ?? facts.steps.at(-1));
     const begin = first + BigInt(Math.floor(-shift / zoom / width * facts.span));
+    const isLong = facts.dates && seen > 168 * facts.hour * facts.lines;
+    const months = isLong ? monthTimes(begin, seen) : [];
     const shapes = [];
-    let time = begin - ((begin % step) + step) % step;
-    for (let number = 0; number < 40; number += 1, time += step) {
+    for (const time of months.length ? months : stepTimes(begin, seen)) {
       const x = left + shift + Number(time - first) / facts.span * width * zoom;
-      if (x > left + width + 1) break;
-      if (x < left - 1) continue;
+      if (x < left - 1 || x > left + width + 1) continue;
       shapes.push(shape("line", { x1: x, x2: x, y1: 28, y2: bottom }));
       shapes.push(shape("text", { x, y: 20 }, label(time)));
     }

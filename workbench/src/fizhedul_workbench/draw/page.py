@@ -4,7 +4,7 @@ import json
 from importlib.resources import files
 
 from ..lexer import marked_up
-from .grid import MOST_LINES, steps
+from .grid import DAYS_OF_MONTH, MONTHS, MOST_LINES, steps
 from .look import Look
 from .marks import Picture
 from .svg import BAD, safe, summary, svg_of
@@ -39,6 +39,8 @@ def facts(picture: Picture, look: Look) -> str:
         "hour": look.hour,
         "dates": look.with_dates,
         "lines": MOST_LINES[look.with_dates],
+        "months": MONTHS,
+        "month": DAYS_OF_MONTH * 24 * look.hour,
         "steps": [step for step in steps(look.hour) if step < 2**53],
     }
     return json.dumps(found)

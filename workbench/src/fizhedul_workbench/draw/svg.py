@@ -4,7 +4,7 @@ from html import escape
 from xml.sax.saxutils import quoteattr
 
 from ..program import Answer
-from .grid import label, lines, step_for
+from .grid import grid_of, label
 from .look import Look
 from .marks import Mark, Picture
 
@@ -81,9 +81,8 @@ def chunks(picture: Picture, tops: list[int], width: int) -> str:
 def grid_shapes(picture: Picture, look: Look, left: int, width: int, bottom: int) -> str:
     """The lines of hours and days with their labels."""
     question = picture.question
-    step = step_for(picture.span, look.hour, look.with_dates)
     shapes = []
-    for time in lines(question.first, question.last, step):
+    for time in grid_of(question.first, question.last, look.hour, look.with_dates):
         x = left + place(picture, time, width)
         shapes.append(f'<line x1="{x:.2f}" y1="{TOP - 6}" x2="{x:.2f}" y2="{bottom}"/>')
         shapes.append(f'<text x="{x:.2f}" y="{TOP - 14}">{label(time, look.hour, look.with_dates)}</text>')
