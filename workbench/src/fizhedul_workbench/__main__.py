@@ -1,10 +1,11 @@
 """The first word names the tool; what a tool refuses is one line on standard error, and a status."""
 
+import io
 import os
 import sys
 from collections.abc import Callable, Sequence
 
-from .words import FAILED_WRITE, MISSING, Refused, usage
+from .words import FAILED_WRITE, INTERRUPTED, MISSING, NO_MEMORY, Refused, usage
 
 PACKAGES = {
     "dateutil": "python3-dateutil",
@@ -48,6 +49,9 @@ TOOLS: dict[str, Callable[[Sequence[str]], None]] = {
 
 def main(words: Sequence[str]) -> int:
     """Runs one tool, and gives the status."""
+    for stream in (sys.stdin, sys.stdout, sys.stderr):
+        if isinstance(stream, io.TextIOWrapper):
+            stream.reconfigure(encoding="utf-8", errors="replace")
     try:
         if not words or words[0] not in TOOLS:
             raise usage(f"the first word is one of {', '.join(TOOLS)}")
@@ -67,8 +71,14 @@ def main(words: Sequence[str]) -> int:
     except BrokenPipeError:
         os.dup2(os.open(os.devnull, os.O_WRONLY), sys.stdout.fileno())
         return FAILED_WRITE
+    except OSError as fault:
+        print(f"refused: the output could not be written: {fault.strerror}", file=sys.stderr)
+        return FAILED_WRITE
+    except MemoryError:
+        print("refused: memory", file=sys.stderr)
+        return NO_MEMORY
     except KeyboardInterrupt:
-        return 130
+        return INTERRUPTED
     return 0
 
 

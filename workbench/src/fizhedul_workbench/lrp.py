@@ -5,6 +5,7 @@ import re
 import tempfile
 from collections.abc import Iterable, Sequence
 from dataclasses import dataclass
+from unicodedata import combining, east_asian_width
 
 from .words import FAILED_WRITE, Refused
 
@@ -118,6 +119,11 @@ def written_database(remarks: Iterable[str], relations: Iterable[Relation]) -> s
 def shown(text: str) -> str:
     """A text of somebody else's on one line, without control characters."""
     return "".join(letter if letter.isprintable() else "\N{REPLACEMENT CHARACTER}" for letter in text)
+
+
+def width(text: str) -> int:
+    """The columns that a text takes in letters of one width."""
+    return sum(0 if combining(letter) else 1 + (east_asian_width(letter) in "WF") for letter in text)
 
 
 def put_file(path: str, content: bytes) -> None:

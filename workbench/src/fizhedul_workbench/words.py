@@ -6,7 +6,9 @@ USAGE = 2
 BAD_INPUT = 3
 FAILED_READ = 6
 FAILED_WRITE = 7
+NO_MEMORY = 8
 MISSING = 1
+INTERRUPTED = 130
 
 
 class Refused(Exception):

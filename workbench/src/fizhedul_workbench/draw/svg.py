@@ -3,6 +3,7 @@
 from html import escape
 from xml.sax.saxutils import quoteattr
 
+from ..lrp import width
 from ..program import Answer
 from .grid import grid_of, label
 from .look import Look
@@ -29,9 +30,15 @@ def shown(answer: Answer, columns: list[tuple[str, str]]) -> str:
     return ", ".join(f"{name} = {value}" for value, (name, _) in zip(answer, columns)) or "()"
 
 
+def shortened(lane: str) -> str:
+    """The front of a name that fits beside its lane."""
+    end = next(end for end in range(len(lane)) if width(lane[: end + 1]) > MOST_LABEL - 1)
+    return lane[:end] + "…"
+
+
 def gutter(picture: Picture) -> int:
     """The room on the left for the names of the lanes."""
-    longest = max((len(lane) for lane in picture.lanes), default=0)
+    longest = max((width(lane) for lane in picture.lanes), default=0)
     return 24 + LETTER * min(MOST_LABEL, longest)
 
 
@@ -43,17 +50,17 @@ def lane_tops(picture: Picture) -> list[int]:
     return tops
 
 
-def place(picture: Picture, time: int, width: int) -> float:
-    """Where a time stands, from 0 to the width."""
-    return (time - picture.question.first) * width / picture.span
+def place(picture: Picture, time: int, room: int) -> float:
+    """Where a time stands, from 0 to the room."""
+    return (time - picture.question.first) * room / picture.span
 
 
-def mark_shape(picture: Picture, mark: Mark, top: int, width: int) -> str:
+def mark_shape(picture: Picture, mark: Mark, top: int, room: int) -> str:
     """A tick for one time, a bar from the first to the second for two; further times are ticks behind the bar."""
     if not mark.times:
         return ""
     y = top + PAD // 2 + mark.level * LEVEL
-    at = [place(picture, time, width) for time in mark.times]
+    at = [place(picture, time, room) for time in mark.times]
     begin, end = min(at[:2]), max(at[:2])
     title = f"<title>{safe(shown(mark.answer, picture.columns))}</title>"
     names = f'class="mark" id="m{mark.number}" data-at="{begin:.3f}"'
@@ -66,24 +73,24 @@ def mark_shape(picture: Picture, mark: Mark, top: int, width: int) -> str:
     return f'<g {names}>{title}<rect {bar}/><path d="{ticks}"/></g>\n'
 
 
-def chunks(picture: Picture, tops: list[int], width: int) -> str:
+def chunks(picture: Picture, tops: list[int], room: int) -> str:
     """The marks in groups, each with the places where it begins and ends; one out of view need not be drawn."""
     groups = []
     for begin in range(0, len(picture.marks), CHUNK):
         part = picture.marks[begin : begin + CHUNK]
         times = [time for mark in part for time in mark.times] or [picture.question.first]
-        edges = [place(picture, time, width) for time in (min(times), max(times))]
-        shapes = "".join(mark_shape(picture, mark, tops[mark.lane], width) for mark in part)
+        edges = [place(picture, time, room) for time in (min(times), max(times))]
+        shapes = "".join(mark_shape(picture, mark, tops[mark.lane], room) for mark in part)
         groups.append(f'<g data-begin="{edges[0]:.3f}" data-end="{edges[1]:.3f}">\n{shapes}</g>\n')
     return "".join(groups)
 
 
-def grid_shapes(picture: Picture, look: Look, left: int, width: int, bottom: int) -> str:
+def grid_shapes(picture: Picture, look: Look, left: int, room: int, bottom: int) -> str:
     """The lines of hours and days with their labels."""
     question = picture.question
     shapes = []
     for time in grid_of(question.first, question.last, look.hour, look.with_dates):
-        x = left + place(picture, time, width)
+        x = left + place(picture, time, room)
         shapes.append(f'<line x1="{x:.2f}" y1="{TOP - 6}" x2="{x:.2f}" y2="{bottom}"/>')
         shapes.append(f'<text x="{x:.2f}" y="{TOP - 14}">{label(time, look.hour, look.with_dates)}</text>')
     return "".join(shapes)
@@ -93,7 +100,7 @@ def lane_shapes(picture: Picture, tops: list[int]) -> str:
     """A stripe and a name for each lane."""
     shapes = []
     for number, (lane, top, bottom) in enumerate(zip(picture.lanes, tops, tops[1:])):
-        name = lane if len(lane) <= MOST_LABEL else lane[: MOST_LABEL - 1] + "…"
+        name = lane if width(lane) <= MOST_LABEL else shortened(lane)
         if number % 2 == 0:
             shapes.append(f'<rect class="stripe" x="0" y="{top}" width="{WIDTH}" height="{bottom - top}"/>')
         middle = (top + bottom) // 2 + 4
@@ -115,18 +122,18 @@ def summary(picture: Picture) -> str:
 def svg_of(picture: Picture, look: Look, style: str) -> str:
     """The picture; `style` holds the rules of its colours, where it stands alone."""
     left = gutter(picture)
-    width = WIDTH - left - RIGHT
+    room = WIDTH - left - RIGHT
     tops = lane_tops(picture)
     bottom = tops[-1]
-    marks = chunks(picture, tops, width)
+    marks = chunks(picture, tops, room)
     sheet = f"<style>{style}</style>" if style else ""
     name = quoteattr(summary(picture).translate(BAD))
     return (
         f'<svg id="timeline" xmlns="http://www.w3.org/2000/svg" viewBox="0 0 {WIDTH} {bottom + 10}"'
-        f' role="group" aria-label={name} data-left="{left}" data-width="{width}" data-bottom="{bottom}">\n'
+        f' role="group" aria-label={name} data-left="{left}" data-width="{room}" data-bottom="{bottom}">\n'
         f"{sheet}<title>{safe(summary(picture))}</title><desc>{safe(picture.query.strip())}</desc>\n"
         f'<rect class="ground" width="{WIDTH}" height="{bottom + 10}"/>\n{lane_shapes(picture, tops)}\n'
-        f'<clipPath id="inside"><rect x="{left - 4}" y="0" width="{width + 8}" height="{bottom + 10}"/></clipPath>\n'
-        f'<g id="grid">{grid_shapes(picture, look, left, width, bottom)}</g>\n'
+        f'<clipPath id="inside"><rect x="{left - 4}" y="0" width="{room + 8}" height="{bottom + 10}"/></clipPath>\n'
+        f'<g id="grid">{grid_shapes(picture, look, left, room, bottom)}</g>\n'
         f'<g clip-path="url(#inside)"><g transform="translate({left} 0)"><g id="marks">\n{marks}</g></g></g>\n</svg>\n'
     )

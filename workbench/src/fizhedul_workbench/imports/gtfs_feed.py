@@ -2,12 +2,14 @@
 
 import os
 import zipfile
+import zlib
 from dataclasses import dataclass, field
 
 from ..words import FAILED_READ, Refused
 from .tables import Table, read_table
 
 MOST_FILE_BYTES = 2**30
+BAD_ARCHIVE = (zipfile.BadZipFile, zipfile.LargeZipFile, zlib.error, EOFError, NotImplementedError, RuntimeError)
 
 REQUIRED = {
     "agency.txt": ["agency_timezone"],
@@ -92,7 +94,7 @@ def files_of(path: str) -> dict[str, bytes]:
         return files_of_folder(path) if os.path.isdir(path) else files_of_archive(path)
     except OSError as fault:
         raise Refused(f"{path}: {fault.strerror}", FAILED_READ) from fault
-    except (zipfile.BadZipFile, zipfile.LargeZipFile, NotImplementedError, RuntimeError) as fault:
+    except BAD_ARCHIVE as fault:
         raise Refused(f"{path}: it is no folder and no ZIP archive that can be read: {fault}") from fault
 
 

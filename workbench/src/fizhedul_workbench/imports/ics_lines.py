@@ -65,7 +65,7 @@ def unfolded(file: str, content: bytes) -> Iterator[tuple[int, str]]:
 def property_of(file: str, line: int, text: str) -> Property:
     try:
         name, parameters, value = Contentline(text).parts()
-    except ValueError as fault:
+    except (TypeError, ValueError) as fault:
         raise refused_at(file, line, "the line is no property NAME:VALUE") from fault
     flat = {key.upper(): each if isinstance(each, str) else ",".join(each) for key, each in parameters.items()}
     return Property(file, line, name.upper(), flat, value)

@@ -2,18 +2,13 @@
 
 import re
 from collections.abc import Sequence
-from unicodedata import combining, east_asian_width
 
+from ..lrp import width
 from ..program import Answer
 
 HEAD = re.compile(r"relation (\w+)\((.*)\) \{")
 TEXT = re.compile(r'"(?:[^"\\]|\\.)*"')
 POINT = re.compile(r"\d+\+(\d+)n")
-
-
-def width(text: str) -> int:
-    """The columns that a text takes on a terminal."""
-    return sum(0 if combining(letter) else 1 + (east_asian_width(letter) in "WF") for letter in text)
 
 
 def padded(text: str, columns: int, to_right: bool) -> str:
