@@ -8,6 +8,7 @@ import tempfile
 import time
 from collections.abc import Iterator
 from contextlib import contextmanager
+from pathlib import Path
 from typing import Any
 
 from fizhedul_workbench.draw.browser import browser_words
@@ -18,8 +19,8 @@ SECONDS = 60
 class Tab:
     """One page, and the errors that it told."""
 
-    def __init__(self, into: int, out_of: int) -> None:
-        self.into, self.out_of = into, out_of
+    def __init__(self, into: int, out_of: int, process: int) -> None:
+        self.into, self.out_of, self.process = into, out_of, process
         self.number = 0
         self.rest = b""
         self.session: str | None = None
@@ -72,6 +73,18 @@ class Tab:
     def move(self, x: float, y: float) -> None:
         self.call("Input.dispatchMouseEvent", type="mouseMoved", x=x, y=y)
 
+    def work(self) -> float:
+        """The seconds of a processor that all processes of the browser have taken."""
+        ticks = 0
+        for file in Path("/proc").glob("[0-9]*/stat"):
+            try:
+                parts = file.read_text().rsplit(")", 1)[1].split()
+            except OSError:
+                continue
+            if int(parts[3]) == self.process:
+                ticks += int(parts[11]) + int(parts[12])
+        return ticks / os.sysconf("SC_CLK_TCK")
+
     def screenshot(self) -> bytes:
         return base64.b64decode(self.call("Page.captureScreenshot")["data"])
 
@@ -92,6 +105,7 @@ def tab(width: int = 1300, height: int = 900) -> Iterator[Tab]:
             words,
             preexec_fn=place,
             close_fds=False,
+            start_new_session=True,
             stdin=subprocess.DEVNULL,
             stdout=subprocess.DEVNULL,
             stderr=subprocess.DEVNULL,
@@ -99,7 +113,7 @@ def tab(width: int = 1300, height: int = 900) -> Iterator[Tab]:
         os.close(to_browser[0])
         os.close(from_browser[1])
         try:
-            page = Tab(to_browser[1], from_browser[0])
+            page = Tab(to_browser[1], from_browser[0], process.pid)
             target = page.call("Target.createTarget", url="about:blank")["targetId"]
             page.session = page.call("Target.attachToTarget", targetId=target, flatten=True)["sessionId"]
             for domain in ("Page", "Runtime", "Log"):

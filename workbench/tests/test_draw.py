@@ -102,6 +102,7 @@ def test_the_grid_has_hours_and_days() -> None:
     years = grid_of(29453760, 34712640, 60, True)
     assert [label(time, 60, True) for time in years] == [f"{year}-01-01" for year in range(2026, 2037, 2)]
     assert 1 < len(grid_of(2**61, 2**62, 60, True)) < 12
+    assert label(-719_162 * 1440, 60, True) == "0001-01-01"
     assert label(2**62, 60, True) == str(2**62) and label(-1440, 60, True) == "1969-12-31"
 
 
@@ -165,24 +166,22 @@ def test_keys_zoom_move_and_go_from_mark_to_mark(page: Tab) -> None:
 FRAMES = """(async () => {
   const frame = document.getElementById("frame");
   const box = frame.getBoundingClientRect();
-  const times = [];
-  let last = performance.now();
   for (let turn = 0; turn < 24; turn += 1) {
     const deltaY = turn < 12 ? -60 : 60;
     const at = { deltaY, clientX: box.left + 600, clientY: box.top + 60, cancelable: true, bubbles: true };
     frame.dispatchEvent(new WheelEvent("wheel", at));
     await new Promise(requestAnimationFrame);
-    times.push(performance.now() - last);
-    last = performance.now();
   }
-  return times.sort((a, b) => a - b)[12];
 })()"""
 
 
 @needs_browser
 def test_ten_thousand_marks_are_fluent(page: Tab) -> None:
-    # The middle frame of a zoom in and out, the best of four; a machine that does other work is slow at times.
-    assert min(page.value(FRAMES) for _ in range(4)) < 150
+    # What a frame of a zoom in and out costs all of the browser, which draws without a graphics card here; the time
+    # on a clock would hang on what else the machine does.
+    begin = page.work()
+    page.value(FRAMES)
+    assert 0 < (page.work() - begin) / 24 < 0.2
     assert page.errors == []
 
 
@@ -190,16 +189,17 @@ def test_ten_thousand_marks_are_fluent(page: Tab) -> None:
 def test_the_page_has_the_grid_of_the_picture(tmp_path: Path) -> None:
     database = tmp_path / "one.lrp"
     database.write_text("relation r(t: time) { (29453760); }")
-    for first, last, grid in ((0, 2880, "numbers"), (-500, 3000, "dates"), (29453760, 34712640, "dates")):
-        words = question(tmp_path, "{ t: time | r(t) }", first, last, database)
-        svg = tool("draw", *words, f"grid={grid}", "format=svg").stdout
-        drawn = re.findall(r'<text x="[\d.]+" y="20">([^<]*)</text>', svg)
-        tool("draw", *words, f"grid={grid}", f"out={tmp_path / 'page.html'}")
-        with tab() as page:
+    windows = ((0, 2880, "numbers"), (-500, 3000, "dates"), (29453760, 34712640, "dates"))
+    with tab() as page:
+        for first, last, grid in windows:
+            words = question(tmp_path, "{ t: time | r(t) }", first, last, database)
+            svg = tool("draw", *words, f"grid={grid}", "format=svg").stdout
+            drawn = re.findall(r'<text x="[\d.]+" y="20">([^<]*)</text>', svg)
+            tool("draw", *words, f"grid={grid}", f"out={tmp_path / 'page.html'}")
             page.open((tmp_path / "page.html").as_uri())
             script = "[...document.querySelectorAll('#grid text')].map((each) => each.textContent)"
             assert page.value(script) == drawn and len(drawn) > 3
-            assert page.errors == []
+        assert page.errors == []
 
 
 def colours(page: Tab) -> tuple[list[int], list[int]]:

@@ -1,6 +1,7 @@
 """Feeds, against a reading of their files that goes day by day in plain Python."""
 
 import csv
+import re
 import shutil
 import zipfile
 from collections.abc import Iterator
@@ -108,6 +109,27 @@ def test_a_window_is_what_the_days_say(
         assert listed(made, text, begin, end) == lines_wanted
 
 
+ROW = re.compile(
+    r'  \("(.*)", "(.*)", (-?\d+)(?:\+(\d+)n)?, (-?\d+)(?:\+\d+n)?\)(?: where arr >= (\d+), arr <= (\d+), .*)?;'
+)
+
+
+def tuples(made: Path, begin: int, end: int) -> list[str]:
+    """The lines of `stop` in a window, as Python reads the rows."""
+    found = set()
+    for line in made.read_text().splitlines():
+        row = ROW.fullmatch(line)
+        if row is None:
+            continue
+        trip, stop, (arr, period, dep, least, most) = row[1], row[2], (int(each or 0) for each in row.groups()[2:])
+        wait = (dep - arr) % period if period else dep - arr
+        first = max(begin, least) if period else arr
+        first += (arr - first) % period if period else 0
+        last = min(end, most) if period else arr
+        found.update((a, a + wait, trip, stop) for a in range(first, last + 1, period or 1) if begin <= a <= end - wait)
+    return [f'"{trip}", "{stop}", {a}, {d}' for a, d, trip, stop in sorted(found)]
+
+
 def test_the_whole_feed_says_what_to_choose(feed: Path, tmp_path: Path) -> None:
     made = tmp_path / "whole.lrp"
     done = tool("import", "gtfs", str(feed), f"out={made}")
@@ -117,6 +139,10 @@ def test_the_whole_feed_says_what_to_choose(feed: Path, tmp_path: Path) -> None:
     done = tool("import", "gtfs", str(feed), f"out={made}", "relation=stop,runs")
     assert done.returncode == 0, done.stderr
     assert program("check", f"db={made}").count("\n") > 100_000
+    services = {"school", "free", "saturday", "sunday", "night"}
+    for first in (date(2026, 8, 8), date(2026, 12, 23), date(2027, 8, 5)):
+        stops, _, begin, end = expected(feed, ALL_LINES, services, first, 6)
+        assert tuples(made, begin, end) == stops and len(stops) > 5_000
 
 
 def test_an_archive_is_read_as_its_folder(feed: Path, tmp_path: Path) -> None:

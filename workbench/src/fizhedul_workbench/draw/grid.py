@@ -3,6 +3,7 @@
 from datetime import datetime, timedelta
 
 EPOCH = datetime(1970, 1, 1)
+MICROSECONDS = 3_600_000_000
 MOST_LINES = {False: 12, True: 8}
 # The distances in months that are tried where weeks are too short.
 MONTHS = [1, 3, 6, 12, 24, 60, 120, 300, 600, 1200, 6000]
@@ -64,7 +65,7 @@ def label(time: int, hour: int, with_dates: bool) -> str:
     if not with_dates:
         return str(time)
     try:
-        moment = EPOCH + timedelta(hours=time / hour)
+        moment = EPOCH + timedelta(microseconds=time * MICROSECONDS // hour)
     except OverflowError:
         return str(time)
-    return moment.strftime("%Y-%m-%d %H:%M" if (moment.hour or moment.minute) else "%Y-%m-%d")
+    return moment.isoformat(" ", "minutes").removesuffix(" 00:00")

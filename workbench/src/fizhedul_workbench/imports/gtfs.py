@@ -21,6 +21,7 @@ from ..zones import zone_of
 from .gtfs_feed import Feed, read_feed
 from .gtfs_services import service_days
 from .gtfs_trips import Trip, feed_trips
+from .imported import Imported
 
 COLUMNS: dict[str, list[tuple[str, str]]] = {
     "stop": [("trip", "trip"), ("stop", "stop"), ("arr", "time"), ("dep", "time")],
@@ -46,15 +47,6 @@ class Wanted:
     services: frozenset[str] = frozenset()
     relations: frozenset[str] = frozenset()
     local: bool = False
-
-
-@dataclass(frozen=True)
-class Imported:
-    """What an import gives: remarks that go before the relations, what is not carried over, the relations."""
-
-    remarks: list[str]
-    left: list[str]
-    relations: list[Relation]
 
 
 def timed(run: Run, minutes: list[int], names: list[str]) -> tuple[list[Value], list[str]]:

@@ -9,10 +9,10 @@ from icalendar.windows_to_olson import WINDOWS_TO_OLSON
 from ..lrp import MOST_BYTES, Point, Relation, Row, Value, distance, shown, written_row
 from ..words import FAILED_READ, Refused
 from ..zones import Zone, zone_of
-from .gtfs import Imported
 from .ics_events import Event, local_shift, read_event, starts_of
 from .ics_lines import Component, read_components
 from .ics_rules import Progression
+from .imported import Imported
 
 COLUMNS = [("start", "time"), ("end", "time"), ("uid", "event"), ("name", "name")]
 OFFSET = re.compile(r"([+-])(\d{2})(\d{2})", re.ASCII)

@@ -10,7 +10,7 @@ from ..lrp import LIMIT, MOST_COLUMNS, Point, Relation, Row, Value, fault_of_tex
 from ..program import Question, pages
 from ..queries import head_of
 from ..words import FAILED_READ, Refused, refused_at
-from .gtfs import Imported
+from .imported import Imported
 from .tables import decoded, lines_of
 
 BOUNDS = "where"

@@ -6,9 +6,9 @@ from collections.abc import Sequence
 from ..lrp import LIMIT, MOST_BYTES, put_file, shown, written_database
 from ..program import Question
 from ..words import Refused, choice, keyed, several, usage, whole
-from .gtfs import Imported
 from .gtfs import Wanted as WantedOfFeed
 from .gtfs import read_gtfs
+from .imported import Imported
 from .plain_csv import csv_pieces, read_csv
 
 IMPORTS = """fizhedul import gtfs FOLDER-or-ZIP [out=FILE] [local=yes] [line=ID,..] [service=ID,..] [relation=NAME,..]
