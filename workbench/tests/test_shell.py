@@ -5,7 +5,6 @@ import os
 import pty
 import re
 import select
-import signal
 import subprocess
 import termios
 import time
@@ -115,9 +114,33 @@ def test_heads_brackets_and_variables_are_read() -> None:
     assert open_brackets(query) == 0 and open_brackets("{ t: time | (") == 2 and open_brackets("}{") == -1
 
 
+class Terminal:
+    """The other end of a terminal, and what it has shown that nobody has read yet."""
+
+    def __init__(self, end: int) -> None:
+        self.end = end
+        self.shown = b""
+
+    def type(self, keys: bytes) -> None:
+        os.write(self.end, keys)
+
+    def read_until(self, wanted: str, seconds: float = 60) -> str:
+        """What is shown up to a text; what comes behind it is kept."""
+        begin = time.monotonic()
+        while wanted.encode() not in self.shown:
+            left = begin + seconds - time.monotonic()
+            assert left > 0 and select.select([self.end], [], [], left)[0], self.shown[-2000:]
+            piece = os.read(self.end, 65_536)
+            if b"\x1b[6n" in piece:
+                self.type(b"\x1b[1;1R")
+            self.shown += piece
+        found, self.shown = self.shown.split(wanted.encode(), 1)
+        return found.decode(errors="replace") + wanted
+
+
 @contextmanager
-def terminal(folder: Path, **more: str) -> Iterator[int]:
-    """A shell on a terminal, as its other end."""
+def terminal(folder: Path, **more: str) -> Iterator[Terminal]:
+    """A shell on a terminal."""
     here, there = pty.openpty()
     variables = environment(TERM="xterm-256color", XDG_STATE_HOME=str(folder / "state"), **more)
     process = subprocess.Popen(
@@ -132,9 +155,9 @@ def terminal(folder: Path, **more: str) -> Iterator[int]:
     )
     os.close(there)
     try:
-        yield here
+        yield Terminal(here)
     finally:
-        process.send_signal(signal.SIGKILL)
+        process.kill()
         process.wait()
         os.close(here)
 
@@ -144,38 +167,26 @@ def take_terminal(end: int) -> None:
     fcntl.ioctl(end, termios.TIOCSCTTY, 0)
 
 
-def read_until(end: int, wanted: str, seconds: float = 25) -> str:
-    """What the terminal shows up to a text."""
-    found = b""
-    begin = time.monotonic()
-    while wanted.encode() not in found:
-        left = begin + seconds - time.monotonic()
-        assert left > 0 and select.select([end], [], [], left)[0], found.decode(errors="replace")[-2000:]
-        piece = os.read(end, 65_536)
-        if b"\x1b[6n" in piece:
-            os.write(end, b"\x1b[1;1R")
-        found += piece
-    return found.decode(errors="replace")
-
-
 def test_a_terminal_has_colours_several_lines_and_a_history(bus: Path) -> None:
     with terminal(bus) as end:
-        read_until(end, "fizhedul>")
-        os.write(end, b"{ t: time, l: line |\r")
-        read_until(end, "...")
-        os.write(end, b"bus(t, l) }\r")
-        shown = read_until(end, "the last from 0 to 60)")
+        end.read_until("fizhedul>")
+        end.type(b"{ t: time, l: line |\r")
+        end.read_until("...")
+        end.type(b"bus(t, l) }\r")
+        shown = end.read_until("the last from 0 to 60)")
         assert "\x1b[1m t  l\x1b[0m" in shown
-        read_until(end, "fizhedul>")
-        os.write(end, b".explain\r")
-        assert "scan" in read_until(end, "head")
-        read_until(end, "fizhedul>")
-        os.write(end, b"{ t: time | bus(t) }\r")
-        assert "\x1b[31m" in read_until(end, "another number of columns")
-        read_until(end, "fizhedul>")
-        os.write(end, b"{ t: time, l: li\t")
-        read_until(end, "line")
-        os.write(end, b"\x03\x04")
+        end.read_until("fizhedul>")
+        end.type(b".explain\r")
+        assert "scan" in end.read_until("head")
+        end.read_until("fizhedul>")
+        end.type(b"{ t: time | bus(t) }\r")
+        assert "\x1b[31m" in end.read_until("another number of columns")
+        end.read_until("fizhedul>")
+        end.type(b"{ t: time, l: li\t")
+        end.read_until("line")
+        end.type(b"\x03")
+        end.read_until("fizhedul>")
+        end.type(b"\x04")
     text = (bus / "state" / "fizhedul" / "history").read_text()
     assert "+{ t: time, l: line |\n+bus(t, l) }" in text and "+.explain" in text
 
@@ -185,13 +196,13 @@ def test_an_interrupt_ends_the_query_and_not_the_shell(bus: Path) -> None:
     slow.write_text('#!/bin/sh\n[ "$1" = list ] && { echo started >&2; sleep 60; }\nexit 0\n')
     slow.chmod(0o755)
     with terminal(bus, FIZHEDUL_PROGRAM=str(slow)) as end:
-        read_until(end, "fizhedul>")
-        os.write(end, b"{ t: time | bus(t) }\r")
-        read_until(end, "started")
+        end.read_until("fizhedul>")
+        end.type(b"{ t: time | bus(t) }\r")
+        end.read_until("started")
         begin = time.monotonic()
-        os.write(end, b"\x03")
-        read_until(end, "interrupted")
+        end.type(b"\x03")
+        end.read_until("interrupted")
         assert time.monotonic() - begin < 30
-        read_until(end, "fizhedul>")
-        os.write(end, b".help\r")
-        assert re.search(r"\.window A B", read_until(end, ".quit"))
+        end.read_until("fizhedul>")
+        end.type(b".help\r")
+        assert re.search(r"\.window A B", end.read_until(".quit"))

@@ -3,6 +3,7 @@
 import json
 import os
 import re
+import signal
 import subprocess
 from collections.abc import Iterator, Sequence
 from dataclasses import dataclass
@@ -63,13 +64,21 @@ def program_path() -> str:
 def run_program(words: Sequence[str]) -> Output:
     """Runs the program to its end; an interrupt ends it too, and is passed on."""
     try:
-        process = subprocess.Popen([program_path(), *words], stdin=subprocess.DEVNULL, stdout=subprocess.PIPE)
+        process = subprocess.Popen(
+            [program_path(), *words],
+            stdin=subprocess.DEVNULL,
+            stdout=subprocess.PIPE,
+            # In a group of its own, so that an interrupt ends all that it started.
+            process_group=0,
+            # The tools explain refusals themselves.
+            env={**os.environ, "FIZHEDUL_EXPLAIN": "never"},
+        )
     except OSError as fault:
         raise Refused(f"{program_path()}: {fault.strerror}", MISSING) from fault
     try:
         written, _ = process.communicate()
     except KeyboardInterrupt:
-        process.kill()
+        os.killpg(process.pid, signal.SIGKILL)
         process.communicate()
         raise
     return Output(process.returncode, written.decode())
