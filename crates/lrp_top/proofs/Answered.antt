@@ -1,35 +1,30 @@
 -- What the answers of a query leave room for, and what is told of them.
-use Rattle.std.proofs.Common.{◌≡◌, ◌↔◌, inl, inr, ◌≤◌, ◌<◌, ◌+◌, ◌*◌, ◌^◌, ℕ, zero, suc, List, [], ◌∷◌, ◌++◌, length, take, Option, Some, None, unwrap_or, option_map, Bool, refl, sym, ap, subst, ◌∙◌, arith}
+use Rattle.std.proofs.Common.{◌≡◌, ◌↔◌, inl, inr, ⊎_elim, map, ◌≤◌, ◌<◌, ◌+◌, ◌*◌, ◌^◌, ℕ, zero, suc, List, [], ◌∷◌, ◌++◌, length, take, Option, Some, None, unwrap_or, option_map, Bool, refl, sym, ap, subst, ◌∙◌, arith}
 use Rattle.std.proofs.Math.Nat.{pow-succ', mul-le-mul_right}
-use Rattle.std.specs.Prelude.{ℤ, pos, codes, slice_get, IfNone, IfSome}
+use Rattle.std.specs.Prelude.{ℤ, pos, codes, slice_get, Contains, IfNone, IfSome, MatchOption}
 use Rattle.std.specs.List.{AllByRecursion}
 use Rattle.lrp_theory.proofs.Through.{AtMost-more}
+use Rattle.lrp_model.proofs.Decided.{cons_cases, contains_first, contains_later, contains_none}
 use Rattle.lrp_model.specs.Texts.{Text}
-use Rattle.lrp_model.specs.Core.{guarded, has_named_sort}
 use Rattle.lrp_model.specs.Formulas.{Question}
 use Rattle.lrp_model.specs.Pages.{IsDue, IsPage, Tuple}
 use Rattle.lrp_model.specs.PrintedPages.{plain_line}
-use Rattle.lrp_model.specs.Plans.{plan, core_steps, query_reach, time_columns}
-use Rattle.lrp_model.specs.Satisfaction.{structure}
-use Rattle.lrp_model.specs.Steps.{PlanStep, step_behind}
-use Rattle.lrp_model.specs.declared.plans.Plan.{Plan}
-use Rattle.lrp_model.specs.declared.plans.StepKind.TheVariants.{Extend}
+use Rattle.lrp_model.specs.Plans.{plan, query_reach, scaled_reach, time_columns}
+use Rattle.lrp_model.specs.Steps.{PlanStep, step_at}
+use Rattle.lrp_model.specs.declared.tuples.Cell.{Cell}
 use Rattle.lrp_model.specs.declared.relations.Relation.{Relation}
 use Rattle.lrp_model.specs.declared.tuples.Spot.{Spot}
-use Rattle.lrp_plan_laws.specs.Rising.{period_at}
-use Rattle.lrp_plan_laws.proofs.Elements.{step_made}
-use Rattle.lrp_plan_laws.proofs.SettledLaws.{sound}
+use Rattle.lrp_plan_laws.specs.Rising.{Rises, period_at}
 use Rattle.lrp_zone.specs.Zones.{columns_of}
 use Rattle.lrp_store.specs.Least.{HasRoom, IsLeastSpot, StandsFor}
-use Rattle.lrp_store.specs.Stores.{IsStore, tables_at, zone_of}
+use Rattle.lrp_store.specs.Stores.{IsStore, StoreView, tables_at, zone_of}
 use Rattle.lrp_store.specs.Tables.{AreTexts, InAnswer}
 use Rattle.lrp_store.specs.declared.answer.Answer.{Answer}
 use Rattle.lrp_list.proofs.HeadOrder.{spot_tuple_is}
 use Rattle.lrp_eval.specs.Answered.{IsAnswerOf}
-use Rattle.lrp_eval.proofs.SettleLaws.{zone_in}
-use Rattle.lrp_eval.specs.Planned.{IsPlanOf}
 use Rattle.lrp_top.specs.Known.{HasTexts}
-use Rattle.lrp_top.specs.Witnesses.{TellsWitness, spot_text}
+use Rattle.lrp_top.specs.Outputs.{spot_text}
+use Rattle.lrp_top.specs.Telling.{TellsWitness}
 
 -- ---- numbers
 
@@ -63,19 +58,23 @@ fewer (suc n) (x ∷ xs) = let r : length (take n xs) ≤ n = fewer n xs in omeg
 
 -- ---- room for the least answer
 
-module _ (db : List Relation) (q : Question) (p : Plan) (h : IsPlanOf db q p) (cap : ℕ) (a : Answer) (is : IsAnswerOf db q cap a) where
-  last : PlanStep
-  last = step_behind (structure db q) (Extend (length (core_steps db q))) (guarded (has_named_sort db) q.head q.body) (core_steps db q)
+-- the last step of a plan is no wider than its reach, since each step is
+pub last_wide : (db : List Relation) (q : Question) (Is : PlanStep → Type 0) → ((s : ℕ) (step : PlanStep) → step_at (plan db q) s ≡ Some step → Rises db q s step) → MatchOption (step_at (plan db q) (length (plan db q))) ⊥ Is
+    → period_at (plan db q) (length (plan db q)) ≤ query_reach db q
+last_wide db q Is rises last = by (step_at (plan db q) (length (plan db q))) refl last
+  where
+    by : (o : Option PlanStep) → step_at (plan db q) (length (plan db q)) ≡ o → MatchOption o ⊥ Is → unwrap_or (option_map (λ step. step.period) o) 1 ≤ unwrap_or (option_map (λ step. step.reach) o) 0
+    by None e m = absurd m
+    by (Some step) e m = (rises (length (plan db q)) step e).wide
 
-  wide : period_at (plan db q) (length (plan db q)) ≤ query_reach db q
-  unfolding last
-  wide =
-      let at_last = step_made (structure db q) (Extend (length (core_steps db q))) (guarded (has_named_sort db) q.head q.body) (core_steps db q) in
-      let w = ((sound db q h.settled).steps (length (plan db q)) last at_last).rises.wide in
-      let k : period_at (plan db q) (length (plan db q)) ≡ last.period = ap (λ o. unwrap_or (option_map (λ step. step.period) o) 1) at_last in
-      let r : query_reach db q ≡ last.reach = ap (λ o. unwrap_or (option_map (λ step. step.reach) o) 0) at_last in
-      omega (arith, w, k, r)
+-- a zone of a cell, by its table
+zone_in : (s : StoreView) (cell : Cell) (tables : List (List (Option ℤ))) (table : List (Option ℤ)) → Contains tables table → Contains (map (zone_of s cell) tables) (zone_of s cell table)
+zone_in s cell [] table c = absurd (contains_none table c)
+zone_in s cell (u ∷ us) table c =
+    ⊎_elim (λ e. subst (λ w. Contains (zone_of s cell u ∷ map (zone_of s cell) us) (zone_of s cell w)) e (contains_first (zone_of s cell u) (map (zone_of s cell) us)))
+    (λ d. contains_later (zone_of s cell u) (zone_of s cell table) (map (zone_of s cell) us) (zone_in s cell us table d)) (cons_cases u table us c)
 
+module _ (db : List Relation) (q : Question) (cap : ℕ) (a : Answer) (is : IsAnswerOf db q cap a) (reach : scaled_reach db q ≤ 2 ^ 62) (wide : period_at (plan db q) (length (plan db q)) ≤ query_reach db q) where
   pub has_room : IsStore a.store → HasRoom a.store
   has_room valid = record {
     each = λ cell table held.
@@ -88,7 +87,7 @@ module _ (db : List Relation) (q : Question) (p : Plan) (h : IsPlanOf db q p) (c
         let small = is.small cell z (zone_in a.store cell (tables_at a.store cell) table held) in (
           (m + 1) * R,
           record {
-            room = scaled (columns_of z) m R c h.reach;
+            room = scaled (columns_of z) m R c reach;
             period = let w : period_at (plan db q) (length (plan db q)) ≤ R = wide in let one : 1 * R ≤ (m + 1) * R = mul-le-mul_right R (omega arith) in omega arith;
             closed = λ n closed same. record { each = λ i j il jl ne. AtMost-more (m * R) ((m + 1) * R) _ (mul-le-mul_right R (omega arith)) ((small.closed n closed same).each i j il jl ne) };
           },

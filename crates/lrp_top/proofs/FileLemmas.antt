@@ -1,12 +1,15 @@
 -- Bytes that may be those of a file, and why there are none.
-use Rattle.std.proofs.Common.{◌≡◌, ℕ, zero, suc, ◌<◌, ◌≤◌, List, [], ◌∷◌, length, true, Option, Some, None, Err, arith, refl, ap}
+use Rattle.std.proofs.Common.{◌≡◌, ℕ, zero, suc, ◌<◌, ◌≤◌, List, [], ◌∷◌, length, true, Option, Some, None, Result, Err, arith, refl, ap}
 use Rattle.lrp_io.specs.Causes.{Rose}
 use Rattle.lrp_io.specs.Files.{content_of}
 use Rattle.lrp_io.specs.declared.shelf.File.{File}
+use Rattle.lrp_model.specs.Formulas.{Question}
 use Rattle.lrp_model.specs.Texts.{Identifier}
 use Rattle.lrp_model.specs.declared.relations.Relation.{Relation}
-use Rattle.lrp_top.specs.Due.{IsRead, IsAsked}
-use Rattle.lrp_top.specs.Seen.{Seen, IsOverrun}
+use Rattle.lrp_top.specs.Due.{IsAsked, IsAskedOf, IsRead, IsReadOf}
+use Rattle.lrp_top.specs.Seen.{Seen, AreBytesOf, IsOverrun}
+use Rattle.lrp_top.specs.Sources.{Source}
+use Rattle.lrp_top.specs.declared.outcome.Refusal.{Refusal}
 use Rattle.lrp_top.specs.declared.outcome.Refusal.TheVariants.{ReadDatabase, LongDatabase, ReadQuery, LongQuery, Memory}
 
 -- the bytes of a file of files, where these are told
@@ -36,6 +39,13 @@ long_bytes : (files : Option (List File)) (name : Identifier) → ((held : List 
 long_bytes None name h = let r = of_length 16777217 in (r.0, λ held e. absurd (none_held held e), (let e : length r.0 ≡ 16777217 = r.1 in omega arith))
 long_bytes (Some held) name h = (content_of held name, (λ other e. ap (λ k. content_of k name) (same_held held other e)), h held refl)
 
+-- what is so of bytes, whatever is seen, is so of those of a file
+pub read_of : (seen : Seen) (name : Identifier) (bytes : List ℕ) (result : Result (Source (List Relation)) Refusal) → AreBytesOf seen name bytes → ((s : Seen) (n : Identifier) → IsReadOf s n bytes result) → IsRead seen name result
+read_of seen name bytes result told each = record { bytes = bytes; told = told; is = each seen name }
+
+pub asked_of : (db : List Relation) (seen : Seen) (name : Identifier) (bytes : List ℕ) (result : Result (Source Question) Refusal) → AreBytesOf seen name bytes → ((s : Seen) (n : Identifier) → IsAskedOf db s n bytes result) → IsAsked db seen name result
+asked_of db seen name bytes result told each = record { bytes = bytes; told = told; is = each seen name }
+
 -- a database or a query that is too long
 pub long_database : (seen : Seen) (name : Identifier) → ((held : List File) → seen.files ≡ Some held → 16777216 < length (content_of held name)) → seen.may_be name ≡ true → 16777216 < seen.given → IsRead seen name (Err LongDatabase)
 long_database seen name h named many = let l = long_bytes seen.files name h in record { bytes = l.0; told = l.1; is = (l.2, record { named = named; many = many }) }
@@ -44,19 +54,19 @@ pub long_query : (relations : List Relation) (seen : Seen) (name : Identifier) �
 long_query relations seen name h named many = let l = long_bytes seen.files name h in record { bytes = l.0; told = l.1; is = (l.2, record { named = named; many = many }) }
 
 -- a file that was not read, and want of memory
-pub unread_database : (seen : Seen) (name : Identifier) → Rose (seen.before name) (seen.now name) → IsRead seen name (Err ReadDatabase)
+pub unread_database : (seen : Seen) (name : Identifier) → Rose (seen.faults_before name) (seen.faults name) → IsRead seen name (Err ReadDatabase)
 unread_database seen name rose = let b = some_bytes seen.files name in record { bytes = b.0; told = b.1; is = rose }
 
 pub no_memory : (seen : Seen) (name : Identifier) → IsRead seen name (Err Memory)
 no_memory seen name = let b = some_bytes seen.files name in record { bytes = b.0; told = b.1; is = tt }
 
 -- the same of a query
-pub unread_query : (relations : List Relation) (seen : Seen) (name : Identifier) → Rose (seen.before name) (seen.now name) → IsAsked relations seen name (Err ReadQuery)
+pub unread_query : (relations : List Relation) (seen : Seen) (name : Identifier) → Rose (seen.faults_before name) (seen.faults name) → IsAsked relations seen name (Err ReadQuery)
 unread_query relations seen name rose = let b = some_bytes seen.files name in record { bytes = b.0; told = b.1; is = rose }
 
 pub no_query_memory : (relations : List Relation) (seen : Seen) (name : Identifier) → IsAsked relations seen name (Err Memory)
 no_query_memory relations seen name = let b = some_bytes seen.files name in record { bytes = b.0; told = b.1; is = tt }
 
 -- a file whose given bytes are few is not overrun
-pub few_given : {P : Type 0} (seen : Seen) (name : Identifier) → seen.given ≤ 16777216 → IsOverrun seen name → P
-few_given seen name few over = let many : 16777216 < seen.given = over.many in absurd (omega arith)
+pub few_given : {P : Type 0} (seen : Seen) (name : Identifier) → IsOverrun seen name → seen.given ≤ 16777216 → P
+few_given seen name over few = let many : 16777216 < seen.given = over.many in absurd (omega arith)

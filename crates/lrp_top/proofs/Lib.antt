@@ -8,7 +8,6 @@ pub mod Listed
 pub mod Plannable
 pub mod QuestionLemmas
 pub mod ResumeLemmas
-pub mod RowLines
-pub mod Sorting
+pub mod RoomLemmas
 pub mod StepLemmas
 pub mod WordEnds

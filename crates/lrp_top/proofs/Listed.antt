@@ -1,5 +1,5 @@
 -- Spots that follow one another, and the text of their page.
-use Rattle.std.proofs.Common.{◌≡◌, ◌≤◌, ◌+◌, ◌-◌, ◌^◌, ℕ, zero, suc, List, [], ◌∷◌, ◌++◌, length, take, map, Option, Some, None, Bool, true, false, not, cond, filter, refl, sym, ap, ap₂, subst, ◌∙◌, arith, to_z, of_z, w64}
+use Rattle.std.proofs.Common.{◌≡◌, ◌≤◌, ◌+◌, ◌-◌, ◌^◌, ℕ, suc, List, [], ◌∷◌, ◌++◌, length, take, map, Option, Some, None, Bool, true, false, not, cond, filter, refl, sym, ap, ap₂, subst, ◌∙◌, arith, to_z, of_z, w64}
 use Rattle.std.specs.Prelude.{ℤ, pos, negsuc, neg_ℤ, ◌≤ℤ◌, nat_abs, slice_get, flat_map, ◌↔◌, IsTrue, IfSome}
 use Rattle.std.specs.Borrow.{Bor}
 use Rattle.std.specs.List.{AllByRecursion}
@@ -27,12 +27,12 @@ use Rattle.lrp_list.specs.Giving.{Gives, IsFirst}
 use Rattle.lrp_list.specs.Lines.{is_json, texts_at}
 use Rattle.lrp_list.specs.Listing.{AreEnds, HasNoneLeft, HasShapeOf, IsFirstLeft, IsLeft, WindowView, tuple_at, window_of}
 use Rattle.lrp_list.proofs.HeadOrder.{head_is}
-use Rattle.lrp_list.proofs.Paging.{page_is}
 use Rattle.lrp_token.specs.Reading.{HasCounts}
 use Rattle.lrp_token.specs.Spots.{spot_token}
 use Rattle.lrp_top.specs.Known.{HasTimes, IsKnown, IsStanding, tuple_of}
-use Rattle.lrp_top.specs.Listings.{TellsPage, page_text}
+use Rattle.lrp_top.specs.Outputs.{page_text}
 use Rattle.lrp_top.specs.Resuming.{data_columns, shape_of}
+use Rattle.lrp_top.specs.Telling.{TellsPage}
 use Rattle.lrp_top.specs.declared.page.Page.{Page}
 use Rattle.lrp_top.proofs.Answered.{same_page, texts_known}
 
@@ -66,10 +66,15 @@ standing_more w v e spots spot same h f =
 pub none_left : (w v : WindowView) (p e : Option Tuple) → v ≡ w → e ≡ p → HasNoneLeft v p → (t : Tuple) → IsLeft w e t → ⊥
 none_left w v p e vw ep none t left = none t (subst (λ o. IsLeft v o t) ep (subst (λ (x : WindowView). IsLeft x e t) (sym vw) left))
 
+-- what a listing gives up to a limit, with the flag that something is left, is a page
+abbrev pub AreGivenPages : Type 0
+AreGivenPages = (w : WindowView) (after end : Option Tuple) (limit : ℕ) (page : List Tuple) (more : Bool) → Gives w after page end → length page ≤ limit → (IsTrue more → length page ≡ limit) → (IsTrue more ↔ ((t : Tuple) × IsLeft w end t))
+    → IsPage (InAnswer w.columns w.domain w.store) w.from w.to after limit page more
+
 -- what was given is a page
-pub page_given : (w v u : WindowView) (p after end : Option Tuple) (spots : List Spot) (limit : ℕ) (more : Bool) → v ≡ w → u ≡ v → p ≡ after → Gives v p (map (tuple_at v) spots) end → length spots ≤ limit
+pub page_given : AreGivenPages → (w v u : WindowView) (p after end : Option Tuple) (spots : List Spot) (limit : ℕ) (more : Bool) → v ≡ w → u ≡ v → p ≡ after → Gives v p (map (tuple_at v) spots) end → length spots ≤ limit
     → ((t : Tuple) → IsLeft v end t → length spots ≡ limit) → (IsTrue more ↔ ((t : Tuple) × IsLeft u end t)) → IsPage (InAnswer w.columns w.domain w.store) w.from w.to after limit (map (tuple_at w) spots) more
-page_given w v u p after end spots limit more vw uv pa g few full is =
+page_given page_is w v u p after end spots limit more vw uv pa g few full is =
     let n : length (map (tuple_at w) spots) ≡ length spots = length-map spots (tuple_at w) in
     let given : Gives w after (map (tuple_at w) spots) end = subst (λ (x : WindowView). Gives x after (map (tuple_at x) spots) end) vw (subst (λ o. Gives v o (map (tuple_at v) spots) end) pa g) in
     let left : IsTrue more ↔ ((t : Tuple) × IsLeft w end t) = subst (λ (x : WindowView). IsTrue more ↔ ((t : Tuple) × IsLeft x end t)) (uv ∙ vw) is in
@@ -108,21 +113,6 @@ last_mapped f (x ∷ y ∷ ys) last e =
     let k : length (x ∷ y ∷ ys) - 1 ≡ suc (length (y ∷ ys) - 1) = omega arith in
     last_mapped f (y ∷ ys) last (subst (λ n. slice_get (x ∷ y ∷ ys) n ≡ Some last) k e)
 
-pub none_mapped : (f : Spot → Tuple) (spots : List Spot) → slice_get spots (length spots - 1) ≡ None → last_of (map f spots) ≡ None
-none_mapped f [] e = refl
-none_mapped f (x ∷ xs) e = absurd (some xs x e)
-  where
-    some : (xs : List Spot) (x : Spot) → slice_get (x ∷ xs) (length (x ∷ xs) - 1) ≡ None → ⊥
-    some [] x e = cc
-    some (y ∷ ys) x e =
-        let k : length (x ∷ y ∷ ys) - 1 ≡ suc (length (y ∷ ys) - 1) = omega arith in
-        some ys y (subst (λ n. slice_get (x ∷ y ∷ ys) n ≡ None) k e)
-
-pub known_last : (P : Spot → Type 0) (spots : List Spot) (n : ℕ) (last : Spot) → slice_get spots n ≡ Some last → AllByRecursion P spots → P last
-known_last P [] n last e h = cc
-known_last P (x ∷ xs) zero last e h = let s : x ≡ last = cc in subst P s h.0
-known_last P (x ∷ xs) (suc n) last e h = known_last P xs n last e h.1
-
 -- ---- tokens
 
 pub token_is : (a : Answer) (files : List ℕ) (spot : Spot) → IsStore a.store → length spot.times ≡ 8 → length spot.texts ≡ 8 → spot_token a.store.shape a.domain files spot ≡ token_of files (tuple_of a spot)
@@ -141,14 +131,6 @@ token_is a files spot valid times texts =
 pub lines_mapped : (json : Bool) (f : Spot → Tuple) (spots : List Spot) → flat_map (λ spot. answer_line json (f spot)) spots ≡ flat_map (answer_line json) (map f spots)
 lines_mapped json f [] = refl
 lines_mapped json f (x ∷ xs) = ap (λ bytes. answer_line json (f x) ++ bytes) (lines_mapped json f xs)
-
--- a page that isn't followed has no token behind it
-pub no_token_behind : (files : List ℕ) (more : Bool) (last : Option Tuple) → last ≡ None → token_behind files more last ≡ None
-no_token_behind files false last e = refl
-no_token_behind files true last e = ap (token_behind files true) e
-
-pub not_more : (files : List ℕ) (more : Bool) (last : Option Tuple) → more ≡ false → token_behind files more last ≡ None
-not_more files more last e = ap (λ m. token_behind files m last) e
 
 pub is_more : (files : List ℕ) (more : Bool) (last : Option Tuple) (tuple : Tuple) → more ≡ true → last ≡ Some tuple → token_behind files more last ≡ Some (token_of files tuple)
 is_more files more last tuple e f = ap₂ (token_behind files) e f

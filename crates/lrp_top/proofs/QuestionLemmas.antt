@@ -1,5 +1,5 @@
 -- Questions: what is refused first, and what is due behind that.
-use Rattle.std.proofs.Common.{◌≡◌, ℕ, ◌≤◌, List, Bool, Option, Result, Ok, Err, arith, refl, sym, ◌∙◌, subst}
+use Rattle.std.proofs.Common.{◌≡◌, ℕ, ◌≤◌, List, Option, Result, Ok, Err, arith, refl, sym, ◌∙◌, subst}
 use Rattle.lrp_io.specs.Causes.{Rose}
 use Rattle.lrp_io.specs.declared.shelf.File.{File}
 use Rattle.lrp_model.specs.Formulas.{Question as Queried}
@@ -8,48 +8,50 @@ use Rattle.lrp_model.specs.declared.plans.Plan.{Plan}
 use Rattle.lrp_model.specs.declared.relations.Relation.{Relation}
 use Rattle.lrp_top.specs.Due.{IsRead, IsAskedOf, IsAsked, IsPlanned, IsQuestion}
 use Rattle.lrp_top.specs.Questions.{IsMadeOf, database_source, query_source}
-use Rattle.lrp_top.specs.Seen.{Seen, seen_of}
+use Rattle.lrp_top.specs.Seen.{Seen}
 use Rattle.lrp_top.specs.Sources.{Source}
 use Rattle.lrp_top.specs.Steps.{Then}
 use Rattle.lrp_top.proofs.StepLemmas.{mapped, no_refusal, same_refusal}
 use Rattle.lrp_top.specs.declared.outcome.Refusal.{Refusal}
 use Rattle.lrp_top.specs.declared.outcome.Refusal.TheVariants.{Usage, ReadDatabase, LongDatabase, Database, ReadQuery, LongQuery, Query, PeriodLimit, BoundLimit, TokenForm, TokenShape, TokenStale, Cells, Memory, Unbuilt}
-use Rattle.lrp_top.specs.declared.questions.Question.{Question}
+use Rattle.lrp_top.specs.declared.question.Question.{Question}
 
 -- a count that rose later rose
 rose_later : (a b c : ℕ) → a ≤ b → Rose b c → Rose a c
 rose_later a b c l r = omega arith
 
 -- a database that was read is read, whatever is seen afterwards
-pub read_before : (middle seen : Seen) (name : Identifier) (database : Source (List Relation)) → seen.files ≡ middle.files → IsRead middle name (Ok database) → IsRead seen name (Ok database)
-read_before middle seen name database e h = record { bytes = h.bytes; told = λ held f. h.told held (sym e ∙ f); is = h.is }
+pub read_before : (middle seen : Seen) (name : Identifier) (database : Source (List Relation)) → IsRead middle name (Ok database) → seen.files ≡ middle.files → IsRead seen name (Ok database)
+read_before middle seen name database h e = record { bytes = h.bytes; told = λ held f. h.told held (sym e ∙ f); is = h.is }
+
+-- what is seen where other files are told and other counts of faults stood before
+abbrev pub since : Option (List File) → (Identifier → ℕ) → Seen → Seen
+since files before seen = record { files = files; faults_before = before; faults = seen.faults; given = seen.given; may_be = seen.may_be }
 
 -- what holds from a later count on holds from an earlier one on
-asked_of : (relations : List Relation) (files told : Option (List File)) (before middle now : Identifier → ℕ) (given : ℕ) (may_be : Identifier → Bool) (name : Identifier) (bytes : List ℕ) (result : Result (Source Queried) Refusal) → before name ≤ middle name
-    → IsAskedOf relations (seen_of told middle now given may_be) name bytes result → IsAskedOf relations (seen_of files before now given may_be) name bytes result
-asked_of relations files told before middle now given may_be name bytes (Ok q) l h = h
-asked_of relations files told before middle now given may_be name bytes (Err Usage) l h = h
-asked_of relations files told before middle now given may_be name bytes (Err ReadDatabase) l h = h
-asked_of relations files told before middle now given may_be name bytes (Err LongDatabase) l h = h
-asked_of relations files told before middle now given may_be name bytes (Err (Database fault)) l h = h
-asked_of relations files told before middle now given may_be name bytes (Err ReadQuery) l h = rose_later (before name) (middle name) (now name) l h
-asked_of relations files told before middle now given may_be name bytes (Err LongQuery) l h = (h.0, record { named = h.1.named; many = h.1.many })
-asked_of relations files told before middle now given may_be name bytes (Err (Query fault)) l h = h
-asked_of relations files told before middle now given may_be name bytes (Err PeriodLimit) l h = h
-asked_of relations files told before middle now given may_be name bytes (Err BoundLimit) l h = h
-asked_of relations files told before middle now given may_be name bytes (Err TokenForm) l h = h
-asked_of relations files told before middle now given may_be name bytes (Err TokenShape) l h = h
-asked_of relations files told before middle now given may_be name bytes (Err TokenStale) l h = h
-asked_of relations files told before middle now given may_be name bytes (Err (Cells cap step)) l h = h
-asked_of relations files told before middle now given may_be name bytes (Err Memory) l h = h
-asked_of relations files told before middle now given may_be name bytes (Err Unbuilt) l h = h
+asked_of : (db : List Relation) (seen : Seen) (files : Option (List File)) (before : Identifier → ℕ) (name : Identifier) (bytes : List ℕ) (result : Result (Source Queried) Refusal) → before name ≤ seen.faults_before name → IsAskedOf db seen name bytes result → IsAskedOf db (since files before seen) name bytes result
+asked_of db seen files before name bytes (Ok q) l h = h
+asked_of db seen files before name bytes (Err Usage) l h = h
+asked_of db seen files before name bytes (Err ReadDatabase) l h = h
+asked_of db seen files before name bytes (Err LongDatabase) l h = h
+asked_of db seen files before name bytes (Err (Database fault)) l h = h
+asked_of db seen files before name bytes (Err ReadQuery) l h = rose_later (before name) (seen.faults_before name) (seen.faults name) l h
+asked_of db seen files before name bytes (Err LongQuery) l h = (h.0, record { named = h.1.named; many = h.1.many })
+asked_of db seen files before name bytes (Err (Query fault)) l h = h
+asked_of db seen files before name bytes (Err PeriodLimit) l h = h
+asked_of db seen files before name bytes (Err BoundLimit) l h = h
+asked_of db seen files before name bytes (Err TokenForm) l h = h
+asked_of db seen files before name bytes (Err TokenShape) l h = h
+asked_of db seen files before name bytes (Err TokenStale) l h = h
+asked_of db seen files before name bytes (Err (Cells cap step)) l h = h
+asked_of db seen files before name bytes (Err Memory) l h = h
+asked_of db seen files before name bytes (Err Unbuilt) l h = h
 
-pub asked_since : (relations : List Relation) (files told : Option (List File)) (before middle now : Identifier → ℕ) (given : ℕ) (may_be : Identifier → Bool) (name : Identifier) (result : Result (Source Queried) Refusal) → files ≡ told → before name ≤ middle name
-    → IsAsked relations (seen_of told middle now given may_be) name result → IsAsked relations (seen_of files before now given may_be) name result
-asked_since relations files told before middle now given may_be name result e l h = record {
+pub asked_since : (db : List Relation) (seen : Seen) (files : Option (List File)) (before : Identifier → ℕ) (name : Identifier) (result : Result (Source Queried) Refusal) → IsAsked db seen name result → files ≡ seen.files → before name ≤ seen.faults_before name → IsAsked db (since files before seen) name result
+asked_since db seen files before name result h e l = record {
   bytes = h.bytes;
   told = λ held f. h.told held (sym e ∙ f);
-  is = asked_of relations files told before middle now given may_be name h.bytes result l h.is;
+  is = asked_of db seen files before name h.bytes result l h.is;
 }
 
 -- where a database and a query over it were read, and the query was planned, the rest is due of them
@@ -66,10 +68,6 @@ plan_refused seen database query d q refusal Next r a planned = record { first =
 pub query_refused : {B : Type 0} (seen : Seen) (database query : Identifier) (d : Source (List Relation)) (refusal : Refusal) (Next : Source (List Relation) → Source Queried → Plan → Result B Refusal → Type 0)
     → IsRead seen database (Ok d) → IsAsked d.says seen query (Err refusal) → IsQuestion seen database query Next (Err refusal)
 query_refused seen database query d refusal Next r a = record { first = Ok d; is = r; next = record { first = Err refusal; is = a; next = refl } }
-
--- a refused database is refused first
-pub database_refused : {B : Type 0} (seen : Seen) (database query : Identifier) (refusal : Refusal) (Next : Source (List Relation) → Source Queried → Plan → Result B Refusal → Type 0) → IsRead seen database (Err refusal) → IsQuestion seen database query Next (Err refusal)
-database_refused seen database query refusal Next r = record { first = Err refusal; is = r; next = refl }
 
 -- what is due of a plan is due of the question that was made of it
 pub question_due : {B : Type 0} (seen : Seen) (database query : Identifier) (question : Question) (Next : Source (List Relation) → Source Queried → Plan → Result B Refusal → Type 0) (result : Result B Refusal)

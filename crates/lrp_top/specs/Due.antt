@@ -1,14 +1,16 @@
--- What is due for words: the first refusal that applies, or the output.
-use Rattle.std.specs.Prelude.{◌≡◌, ◌⊎◌, ℕ, ℤ, Bool, ◌<◌, ◌≤◌, List, [], ◌∷◌, length, map, Option, Some, None, Result, Ok, Err, String, string_bytes}
+-- What is due for words: step by step, what comes of it and why it is refused; the first refusal stands.
+use Rattle.std.specs.Prelude.{◌≡◌, ◌⊎◌, ℕ, ℤ, Bool, ◌<◌, ◌≤◌, ◌^◌, List, [], ◌∷◌, length, map, Option, Some, None, Result, Ok, Err, String, string_bytes}
 use Rattle.std.specs.List.{AllByRecursion}
 use Rattle.std.specs.declared.alloc.Global.{Global}
-use Rattle.lrp_io.specs.Causes.{Rose}
 use Rattle.lrp_words.specs.Commands.{Task, command}
 use Rattle.lrp_words.specs.Commands.Task.{ask, decide, list, explain, check, sample}
+use Rattle.lrp_model.specs.AnswerTexts.{IsAnswerText}
+use Rattle.lrp_model.specs.Caps.{IsFirstMany, ManyAt}
 use Rattle.lrp_model.specs.Checked.{plain_question}
 use Rattle.lrp_model.specs.DatabaseReading.{IsDatabase, IsDatabaseFault}
 use Rattle.lrp_model.specs.Formulas.{Question}
-use Rattle.lrp_model.specs.Plans.{IsPlan}
+use Rattle.lrp_model.specs.Periods.{period}
+use Rattle.lrp_model.specs.Plans.{IsPlan, scaled_reach}
 use Rattle.lrp_model.specs.QueryReading.{IsQuery, IsQueryFault}
 use Rattle.lrp_model.specs.RawQueries.{RawQuestion}
 use Rattle.lrp_model.specs.Sorting.{IsWellSorted, IsSortFault}
@@ -16,142 +18,114 @@ use Rattle.lrp_model.specs.Texts.{Identifier, Text}
 use Rattle.lrp_model.specs.declared.faults.QueryFault.{QueryFault}
 use Rattle.lrp_model.specs.declared.plans.Plan.{Plan}
 use Rattle.lrp_model.specs.declared.relations.Relation.{Relation}
-use Rattle.lrp_print.specs.ReadBack.{ReadsBack}
+use Rattle.lrp_plan.specs.Planning.{IsWithinLimits}
 use Rattle.lrp_token.specs.Files.{files_digest}
-use Rattle.lrp_plan.specs.Planning.{IsWithinLimits, HasCause}
-use Rattle.lrp_plan.specs.declared.planning.PlanFault.TheVariants as plan_fault
-use Rattle.lrp_top.specs.Counting.{IsCounted}
-use Rattle.lrp_top.specs.Listings.{TellsPage, page_text}
-use Rattle.lrp_top.specs.Outcomes.{Outcome}
+use Rattle.lrp_top.specs.Outcomes.{Outcome, Ends}
 use Rattle.lrp_top.specs.Resuming.{IsResumed}
-use Rattle.lrp_top.specs.Seen.{Seen, AreBytesOf, IsOverrun}
-use Rattle.lrp_top.specs.Sources.{Source}
+use Rattle.lrp_top.specs.Seen.{Seen, Taken, HasFailed, IsOverrun}
+use Rattle.lrp_top.specs.Sources.{Source, FromFile}
 use Rattle.lrp_top.specs.Steps.{Then}
-use Rattle.lrp_top.specs.ThinAnswers.{IsThinAnswer}
-use Rattle.lrp_top.specs.Witnesses.{TellsWitness, witness_text}
-use Rattle.lrp_top.specs.declared.outcome.Output.TheVariants.{Text as text_output, Relations, Plan as plan_output, Witness, Page}
+use Rattle.lrp_top.specs.Telling.{TellsPage, TellsPlan, TellsRelations, TellsWitness}
 use Rattle.lrp_top.specs.declared.outcome.Refusal.{Refusal}
-use Rattle.lrp_top.specs.declared.outcome.Refusal.TheVariants.{Usage, ReadDatabase, LongDatabase, Database, ReadQuery, LongQuery, Query, PeriodLimit, BoundLimit, Memory, Unbuilt}
+use Rattle.lrp_top.specs.declared.outcome.Refusal.TheVariants.{Usage, ReadDatabase, LongDatabase, Database, ReadQuery, LongQuery, Query, PeriodLimit, BoundLimit, Cells, Memory, Unbuilt}
+use Rattle.lrp_top.specs.declared.status.Status.{Status}
 
--- ---- a database
+-- ---- the steps
 
--- why bytes are no database: the count of faults of their file rose, they are too many, or their text has a fault; or want of memory
-abbrev pub IsNoDatabase : Seen → Identifier → List ℕ → Refusal → Type 0
-IsNoDatabase seen name bytes ReadDatabase = Rose (seen.before name) (seen.now name)
-IsNoDatabase seen name bytes LongDatabase = (16777216 < length bytes) × IsOverrun seen name
-IsNoDatabase seen name bytes (Database fault) = (length bytes ≤ 16777216) × IsDatabaseFault bytes fault
-IsNoDatabase seen name bytes Memory = Unit {0}
-IsNoDatabase seen name bytes _ = ⊥
-
--- the relations of bytes, or why there are none
+-- the file of the database is read. Ok: its bytes, and the relations that they mean. Refused: its count of faults rose, it is too long, or its text has a fault; or want of memory
 abbrev pub IsReadOf : Seen → Identifier → List ℕ → Result (Source (List Relation)) Refusal → Type 0
 IsReadOf seen name bytes (Ok database) = (database.bytes ≡ bytes) × (length bytes ≤ 16777216) × IsDatabase bytes database.says
-IsReadOf seen name bytes (Err refusal) = IsNoDatabase seen name bytes refusal
+IsReadOf seen name bytes (Err ReadDatabase) = HasFailed seen name
+IsReadOf seen name bytes (Err LongDatabase) = (16777216 < length bytes) × IsOverrun seen name
+IsReadOf seen name bytes (Err (Database fault)) = (length bytes ≤ 16777216) × IsDatabaseFault bytes fault
+IsReadOf seen name bytes (Err Memory) = Unit {0}
+IsReadOf seen name bytes (Err _) = ⊥
 
--- those of a file
-pub record IsRead (seen : Seen) (name : Identifier) (result : Result (Source (List Relation)) Refusal) : Type 0 where
-  pub bytes : List ℕ
-  pub told : AreBytesOf seen name bytes
-  pub is : IsReadOf seen name bytes result
-
--- ---- a query over its relations
+abbrev pub IsRead : Seen → Identifier → Result (Source (List Relation)) Refusal → Type 0
+IsRead seen name = FromFile seen name (IsReadOf seen name)
 
 -- the bytes are a query that is well-sorted over the relations, and without its places it is this one
-pub record IsSorted (relations : List Relation) (bytes : List ℕ) (q : Question) : Type 0 where
+pub record IsSorted (db : List Relation) (bytes : List ℕ) (q : Question) : Type 0 where
   pub raw : RawQuestion
   pub query : IsQuery bytes raw
-  pub sorted : IsWellSorted relations raw
+  pub sorted : IsWellSorted db raw
   pub plain : q ≡ plain_question raw
 
 -- the bytes are a query that has this sort fault over the relations
-pub record IsUnsortedBy (relations : List Relation) (bytes : List ℕ) (fault : QueryFault) : Type 0 where
+pub record IsUnsortedBy (db : List Relation) (bytes : List ℕ) (fault : QueryFault) : Type 0 where
   pub raw : RawQuestion
   pub query : IsQuery bytes raw
-  pub unsorted : IsSortFault relations raw fault
+  pub unsorted : IsSortFault db raw fault
 
--- why bytes are no well-sorted query over the relations: the count of faults of their file rose, they are too many, or their text or its sorts have a fault; or want of memory
-abbrev pub IsNoQuery : List Relation → Seen → Identifier → List ℕ → Refusal → Type 0
-IsNoQuery relations seen name bytes ReadQuery = Rose (seen.before name) (seen.now name)
-IsNoQuery relations seen name bytes LongQuery = (16777216 < length bytes) × IsOverrun seen name
-IsNoQuery relations seen name bytes (Query fault) = (length bytes ≤ 16777216) × (IsQueryFault bytes fault ⊎ IsUnsortedBy relations bytes fault)
-IsNoQuery relations seen name bytes Memory = Unit {0}
-IsNoQuery relations seen name bytes _ = ⊥
-
--- the query of bytes, or why there is none
+-- the file of the query is read. Ok: its bytes, and the query that they say, well-sorted over the relations. Refused: its count of faults rose, it is too long, or its text or its sorts have a fault; or want of memory
 abbrev pub IsAskedOf : List Relation → Seen → Identifier → List ℕ → Result (Source Question) Refusal → Type 0
-IsAskedOf relations seen name bytes (Ok query) = (query.bytes ≡ bytes) × (length bytes ≤ 16777216) × IsSorted relations bytes query.says
-IsAskedOf relations seen name bytes (Err refusal) = IsNoQuery relations seen name bytes refusal
+IsAskedOf db seen name bytes (Ok query) = (query.bytes ≡ bytes) × (length bytes ≤ 16777216) × IsSorted db bytes query.says
+IsAskedOf db seen name bytes (Err ReadQuery) = HasFailed seen name
+IsAskedOf db seen name bytes (Err LongQuery) = (16777216 < length bytes) × IsOverrun seen name
+IsAskedOf db seen name bytes (Err (Query fault)) = (length bytes ≤ 16777216) × (IsQueryFault bytes fault ⊎ IsUnsortedBy db bytes fault)
+IsAskedOf db seen name bytes (Err Memory) = Unit {0}
+IsAskedOf db seen name bytes (Err _) = ⊥
 
--- that of a file
-pub record IsAsked (relations : List Relation) (seen : Seen) (name : Identifier) (result : Result (Source Question) Refusal) : Type 0 where
-  pub bytes : List ℕ
-  pub told : AreBytesOf seen name bytes
-  pub is : IsAskedOf relations seen name bytes result
+abbrev pub IsAsked : List Relation → Seen → Identifier → Result (Source Question) Refusal → Type 0
+IsAsked db seen name = FromFile seen name (IsAskedOf db seen name)
 
--- ---- its plan
-
--- why a query has no plan: its period or its scaled reach is above the limit; or want of memory
-abbrev pub IsNoPlan : List Relation → Question → Refusal → Type 0
-IsNoPlan relations q PeriodLimit = HasCause plan_fault.PeriodLimit relations q
-IsNoPlan relations q BoundLimit = HasCause plan_fault.BoundLimit relations q
-IsNoPlan relations q Memory = Unit {0}
-IsNoPlan relations q _ = ⊥
-
--- the plan of a query over relations, or why it has none
+-- the query is planned. Ok: its plan. Refused: its period is above 2^62, or that is not but its reach is, doubled once and once more for each time column of the head; or want of memory
 abbrev pub IsPlanned : List Relation → Question → Result Plan Refusal → Type 0
-IsPlanned relations q (Ok p) = IsPlan p relations q × IsWithinLimits relations q
-IsPlanned relations q (Err refusal) = IsNoPlan relations q refusal
+IsPlanned db q (Ok p) = IsPlan p db q × IsWithinLimits db q
+IsPlanned db q (Err PeriodLimit) = 2 ^ 62 < period db q.body
+IsPlanned db q (Err BoundLimit) = (period db q.body ≤ 2 ^ 62) × (2 ^ 62 < scaled_reach db q)
+IsPlanned db q (Err Memory) = Unit {0}
+IsPlanned db q (Err _) = ⊥
 
--- ---- a task
+-- the cells of the plan's steps are counted. Ok: no step has more than cap. Refused: the first that has is told; or want of memory
+abbrev pub IsCounted : List Relation → Question → ℕ → Result (Unit {0}) Refusal → Type 0
+IsCounted db q cap (Ok done) = (s : ℕ) → ManyAt db q cap s → ⊥
+IsCounted db q cap (Err (Cells most step)) = (most ≡ cap) × IsFirstMany db q cap step
+IsCounted db q cap (Err Memory) = Unit {0}
+IsCounted db q cap (Err _) = ⊥
 
--- the relations that were read are written, and what is written reads back as relations that hold the same
-abbrev pub IsWrittenAgain : Source (List Relation) → Outcome → Type 0
-IsWrittenAgain database outcome = (outcome ≡ Ok (Relations database.says)) × ReadsBack database.says
+-- the output is written. Ok: bytes that tell what is due. Refused: want of memory alone
+abbrev pub IsOutput : (List ℕ → Type 0) → Outcome → Type 0
+IsOutput Tells (Ok bytes) = Tells bytes
+IsOutput Tells (Err Memory) = Unit {0}
+IsOutput Tells (Err _) = ⊥
 
--- the plan is written
-abbrev pub IsExplained : Plan → Outcome → Type 0
-IsExplained p outcome = outcome ≡ Ok (plan_output p)
+-- ---- what is due behind a plan
 
--- a query is answered by one of these texts, or its answer is not built yet; or want of memory
-abbrev pub IsAnswered : (List ℕ → Type 0) → Outcome → Type 0
-IsAnswered Answers (Ok (text_output bytes)) = Answers bytes
-IsAnswered Answers (Err Memory) = Unit {0}
-IsAnswered Answers (Err Unbuilt) = Unit {0}
-IsAnswered Answers _ = ⊥
+-- the plan is told
+abbrev pub IsExplained : Source (List Relation) → Source Question → Plan → Outcome → Type 0
+IsExplained d q p = IsOutput (TellsPlan p)
+
+-- the cells are counted, and then all answers are told
+abbrev pub IsAnswered : ℕ → Source (List Relation) → Source Question → Plan → Outcome → Type 0
+IsAnswered cap d q p = Then (IsCounted d.says q.says cap) (λ done. IsOutput (IsAnswerText d.says q.says))
+
+-- the cells are counted, and then the least answer is told, or that there is none
+abbrev pub IsDecided : ℕ → Source (List Relation) → Source Question → Plan → Outcome → Type 0
+IsDecided cap d q p = Then (IsCounted d.says q.says cap) (λ done. IsOutput (TellsWitness d.says q.says))
+
+-- the page begins where its token says, the cells are counted, and then the page of the window is told
+abbrev pub IsListed : ℤ → ℤ → ℕ → Option Text → Bool → ℕ → Source (List Relation) → Source Question → Plan → Outcome → Type 0
+IsListed from to limit after json cap d q p =
+    let files = files_digest d.bytes q.bytes in
+    Then (IsResumed files q.says.head after) (λ tuple. Then (IsCounted d.says q.says cap) (λ done. IsOutput (TellsPage d.says q.says from to tuple limit json files)))
+
+-- ---- what is due for a task
 
 -- a database is read, then a query over its relations, then the query is planned, and then this is due
 abbrev pub IsQuestion : {B : Type 0} → Seen → Identifier → Identifier → (Source (List Relation) → Source Question → Plan → Result B Refusal → Type 0) → Result B Refusal → Type 0
 IsQuestion seen database query Next result = Then (IsRead seen database) (λ d. Then (IsAsked d.says seen query) (λ q. Then (IsPlanned d.says q.says) (Next d q))) result
 
--- the least answer is written, or that there is none
-abbrev pub IsWitnessed : List Relation → Question → Outcome → Type 0
-IsWitnessed db q (Ok (Witness w)) = TellsWitness db q (witness_text w)
-IsWitnessed db q _ = ⊥
-
--- no step has more than cap cells, and then the least answer is due
-abbrev pub IsDecided : ℕ → Source (List Relation) → Source Question → Plan → Outcome → Type 0
-IsDecided cap d q p = Then (IsCounted d.says q.says cap) (λ done. IsWitnessed d.says q.says)
-
--- a page is written that is told so; or want of memory
-abbrev pub IsPaged : (List ℕ → Type 0) → Outcome → Type 0
-IsPaged Tells (Ok (Page page)) = Tells (page_text page)
-IsPaged Tells (Err Memory) = Unit {0}
-IsPaged Tells _ = ⊥
-
--- a page begins where its token says, no step has more than cap cells, and then the page of the window is due
-abbrev pub IsListed : ℤ → ℤ → ℕ → Option Text → Bool → ℕ → Source (List Relation) → Source Question → Plan → Outcome → Type 0
-IsListed from to limit after json cap d q p =
-    let files = files_digest d.bytes q.bytes in
-    Then (IsResumed files q.says.head after) (λ tuple. Then (IsCounted d.says q.says cap) (λ done. IsPaged (TellsPage d.says q.says from to tuple limit json files)))
-
--- what is due for a task; `sample` and most answers of `ask` are not built yet
+-- each task; `sample` is not built yet
 abbrev pub IsDueOf : Task → Seen → Outcome → Type 0
-IsDueOf (ask database query cap) seen outcome = IsQuestion seen database query (λ d q p. IsAnswered IsThinAnswer) outcome
+IsDueOf (ask database query cap) seen outcome = IsQuestion seen database query (IsAnswered cap) outcome
 IsDueOf (decide database query cap) seen outcome = IsQuestion seen database query (IsDecided cap) outcome
 IsDueOf (list database query from to limit after json cap) seen outcome = IsQuestion seen database query (IsListed from to limit after json cap) outcome
-IsDueOf (explain database query) seen outcome = IsQuestion seen database query (λ d q. IsExplained) outcome
-IsDueOf (check database) seen outcome = Then (IsRead seen database) IsWrittenAgain outcome
+IsDueOf (explain database query) seen outcome = IsQuestion seen database query IsExplained outcome
+IsDueOf (check database) seen outcome = Then (IsRead seen database) (λ d. IsOutput (TellsRelations d.says)) outcome
 IsDueOf (sample seed size) seen outcome = outcome ≡ Err Unbuilt
+
+-- ---- the lengths of files
 
 -- the names of the files that a task reads
 abbrev pub files_of : Task → List Identifier
@@ -181,6 +155,8 @@ IsTooLong _ = ⊥
 abbrev pub TellsLength : {B : Type 0} → Seen → Result B Refusal → Type 0
 TellsLength seen result = (name : Identifier) → IsOverrun seen name → IsTooLong result
 
+-- ---- what is due for words, and the run
+
 -- for words that spell no task it is the refusal of usage; for a task it is what is due, and where one of its files may have been overrun, a file is too long
 abbrev pub IsDueFor : Option Task → Seen → Outcome → Type 0
 IsDueFor None seen outcome = outcome ≡ Err Usage
@@ -189,3 +165,9 @@ IsDueFor (Some task) seen outcome = IsDueOf task seen outcome × AllByRecursion 
 -- what is due for words
 abbrev pub IsDue : List (String Global) → Seen → Outcome → Type 0
 IsDue words seen outcome = IsDueFor (command (map string_bytes words)) seen outcome
+
+-- a run of these words: what is due for them is what it ends with
+pub record IsRun (words : List (String Global)) (seen : Seen) (taken : Taken) (ended : Status) : Type 0 where
+  pub outcome : Outcome
+  pub due : IsDue words seen outcome
+  pub ends : Ends outcome taken ended

@@ -1,16 +1,16 @@
--- What contracts say of words, outcomes and texts.
+-- What contracts say of words, outcomes and texts: first what a run is, and then the program's own values.
+pub mod Seen
 pub mod Statuses
 pub mod Outcomes
-pub mod ThinAnswers
-pub mod Seen
-pub mod Steps
 pub mod Sources
+pub mod Steps
 pub mod Resuming
-pub mod Counting
-pub mod Known
-pub mod Witnesses
-pub mod Listings
-pub mod Windows
+pub mod Telling
 pub mod Due
-pub mod Questions
+pub mod Windows
+pub mod Known
+pub mod Rooms
 pub mod WritablePlans
+pub mod Refusals
+pub mod Outputs
+pub mod Questions

@@ -1,24 +1,13 @@
--- What a run may end with: each output and each refusal has its text and its status.
-use Rattle.std.specs.Prelude.{◌≡◌, ◌≢◌, ℕ, List, ◌++◌, Option, Result, Ok, Err, codes}
-use Rattle.std.specs.List.{AllByRecursion}
+-- What a run ends with: the bytes of an output, or a refusal; each has its text and its status.
+use Rattle.std.specs.Prelude.{◌≡◌, ◌≢◌, ℕ, List, ◌++◌, Result, Ok, Err, codes}
 use Rattle.std.specs.Fmt.{decimal}
 use Rattle.lrp_io.specs.Bytes.{appended, AppendsFront}
 use Rattle.lrp_io.specs.Causes.{Rose}
 use Rattle.lrp_model.specs.Kinds.{database_word, query_word}
-use Rattle.lrp_model.specs.Printed.{database_bytes}
-use Rattle.lrp_model.specs.PrintedPlans.{plan_bytes}
-use Rattle.lrp_model.specs.declared.faults.QueryRead.{QueryRead}
-use Rattle.lrp_model.specs.declared.faults.QueryRead.TheVariants.{Fault, Memory as memory}
 use Rattle.lrp_model.specs.declared.tokens.Place.{Place}
-use Rattle.lrp_plan.specs.declared.planning.PlanFault.{PlanFault}
-use Rattle.lrp_plan.specs.declared.planning.PlanFault.TheVariants as plan_fault
-use Rattle.lrp_plan_text.specs.Writable.{HasPeriods}
-use Rattle.lrp_top.specs.Listings.{page_text}
-use Rattle.lrp_top.specs.Witnesses.{witness_text}
+use Rattle.lrp_top.specs.Seen.{Taken}
 use Rattle.lrp_top.specs.declared.status.Status.{Status}
 use Rattle.lrp_top.specs.declared.status.Status.TheVariants as status
-use Rattle.lrp_top.specs.declared.outcome.Output.{Output}
-use Rattle.lrp_top.specs.declared.outcome.Output.TheVariants.{Text, Relations, Plan, Witness, Page}
 use Rattle.lrp_top.specs.declared.outcome.Refusal.{Refusal}
 use Rattle.lrp_top.specs.declared.outcome.Refusal.TheVariants.{Usage, ReadDatabase, LongDatabase, Database, ReadQuery, LongQuery, Query, PeriodLimit, BoundLimit, TokenForm, TokenShape, TokenStale, Cells, Memory, Unbuilt}
 
@@ -66,43 +55,23 @@ refused_with (Cells cap step) = status.Limit
 refused_with Memory = status.Memory
 refused_with Unbuilt = status.Unbuilt
 
--- the refusal of a query that was not read, or not sorted
-abbrev pub refused_by : QueryRead → Refusal
-refused_by (Fault fault) = Query fault
-refused_by memory = Memory
-
--- the refusal of a query that has no plan
-abbrev pub limited_by : PlanFault → Refusal
-limited_by plan_fault.PeriodLimit = PeriodLimit
-limited_by plan_fault.BoundLimit = BoundLimit
-limited_by plan_fault.Memory = Memory
-
--- what is decided: an output or a refusal
+-- the bytes of an output, or a refusal
 abbrev pub Outcome : Type 0
-Outcome = Result Output Refusal
+Outcome = Result (List ℕ) Refusal
 
--- its text
-abbrev pub text_of : Outcome → List ℕ
-text_of (Ok (Text bytes)) = bytes
-text_of (Ok (Relations relations)) = database_bytes relations
-text_of (Ok (Plan p)) = plan_bytes p
-text_of (Ok (Witness w)) = witness_text w
-text_of (Ok (Page page)) = page_text page
-text_of (Err refusal) = line_of refusal
+-- what is written of it: the output, or the refusal's line
+abbrev pub written_of : Outcome → List ℕ
+written_of (Ok bytes) = bytes
+written_of (Err refusal) = line_of refusal
 
--- a plan can be written where the points of its `in` tests have periods
-abbrev pub CanBeWritten : Outcome → Type 0
-CanBeWritten (Ok (Plan p)) = AllByRecursion HasPeriods p.steps
-CanBeWritten _ = Unit {0}
-
--- its status
+-- the status that it has
 abbrev pub status_of : Outcome → Status
-status_of (Ok _) = status.Done
+status_of (Ok bytes) = status.Done
 status_of (Err refusal) = refused_with refusal
 
--- an outcome's text is written whole, and the run ends with its status; or a front of it is written, and the sink's count of faults rose
-pub record Ends (outcome : Outcome) (old new : Option (List ℕ)) (before now : ℕ) (ended : Status) : Type 0 where
-  pub whole : ended ≢ status.Write → new ≡ appended old (text_of outcome)
+-- it is written whole, and the run ends with its status; or a front of it is written, and the sink's count of faults rose
+pub record Ends (outcome : Outcome) (taken : Taken) (ended : Status) : Type 0 where
+  pub whole : ended ≢ status.Write → taken.bytes ≡ appended taken.bytes_before (written_of outcome)
   pub own_status : ended ≢ status.Write → ended ≡ status_of outcome
-  pub front : ended ≡ status.Write → AppendsFront old new (text_of outcome)
-  pub cause : ended ≡ status.Write → Rose before now
+  pub front : ended ≡ status.Write → AppendsFront taken.bytes_before taken.bytes (written_of outcome)
+  pub cause : ended ≡ status.Write → Rose taken.faults_before taken.faults

@@ -1,13 +1,29 @@
--- The program's files and questions, against those that are due.
-use Rattle.std.specs.Prelude.{◌≡◌, List, Result, Ok, Err}
-use Rattle.lrp_model.specs.Formulas.{Question as Queried, question_of}
+-- The program's files, questions and purposes, against those that are due.
+use Rattle.std.specs.Prelude.{◌≡◌, ◌≤ℤ◌, pos, List, Option, Some, None, Result, Ok, Err}
+use Rattle.std.specs.List.{AllByRecursion}
+use Rattle.lrp_model.specs.Formulas.{Question as Queried, form_of, question_of}
+use Rattle.lrp_model.specs.Pages.{Tuple}
+use Rattle.lrp_model.specs.TestPoints.{points}
+use Rattle.lrp_model.specs.Tuples.{in_head_order}
 use Rattle.lrp_model.specs.declared.plans.Plan.{Plan}
+use Rattle.lrp_model.specs.declared.relations.Column.{Column}
 use Rattle.lrp_model.specs.declared.relations.Relation.{Relation}
+use Rattle.lrp_model.specs.declared.tuples.Tuple.{Tuple as ToldTuple}
+use Rattle.lrp_plan_laws.specs.Settled.{IsSettled}
+use Rattle.lrp_plan_text.specs.Writable.{HasPeriods}
+use Rattle.lrp_eval.specs.Planned.{IsPlanOf}
+use Rattle.lrp_words.specs.Commands.{text_of}
+use Rattle.lrp_list.specs.Answering.{AreAnswerColumns}
+use Rattle.lrp_list.specs.Listing.{AreEnds}
+use Rattle.lrp_top.specs.Due.{IsAnswered, IsDecided, IsExplained, IsListed}
+use Rattle.lrp_top.specs.Outcomes.{Outcome}
 use Rattle.lrp_top.specs.Sources.{Source}
 use Rattle.lrp_top.specs.declared.files.DatabaseFile.{DatabaseFile}
 use Rattle.lrp_top.specs.declared.files.QueryFile.{QueryFile}
 use Rattle.lrp_top.specs.declared.outcome.Refusal.{Refusal}
-use Rattle.lrp_top.specs.declared.questions.Question.{Question}
+use Rattle.lrp_top.specs.declared.purpose.Purpose.{Purpose}
+use Rattle.lrp_top.specs.declared.purpose.Purpose.TheVariants as purpose
+use Rattle.lrp_top.specs.declared.question.Question.{Question}
 
 -- what a file says
 abbrev pub database_source : DatabaseFile → Source (List Relation)
@@ -26,7 +42,42 @@ abbrev pub asked_as : Result QueryFile Refusal → Result (Source Queried) Refus
 asked_as (Ok file) = Ok (query_source file)
 asked_as (Err refusal) = Err refusal
 
+-- what holds of a query that was read over a database: it is settled, the points of its tests have periods, and its head can be that of a relation that is read
+pub record IsFit (db : List Relation) (file : QueryFile) : Type 0 where
+  pub settled : IsSettled db (question_of file.query)
+  pub points : AllByRecursion (λ at. pos 1 ≤ℤ at.period) (points (form_of file.query.body))
+  pub head : AreAnswerColumns file.query.head.columns
+
+-- what holds of a question: its plan is that of its query, which is within the limits, and can be written; and its head can be that of a relation that is read
+pub record IsReady (question : Question) : Type 0 where
+  pub planned : IsPlanOf question.database.relations (question_of question.query.query) question.plan
+  pub writable : AllByRecursion HasPeriods question.plan.steps
+  pub head : AreAnswerColumns question.query.query.head.columns
+
 -- the question is made of this database, this query and this plan
 abbrev pub IsMadeOf : Source (List Relation) → Source Queried → Plan → Result Question Refusal → Type 0
 IsMadeOf d q p (Ok question) = (database_source question.database ≡ d) × (query_source question.query ≡ q) × (question.plan ≡ p)
 IsMadeOf d q p (Err refusal) = ⊥
+
+-- the values in head order of a tuple that is told by its times and its texts, where one is
+abbrev pub resumed_as : List Column → Result (Option ToldTuple) Refusal → Result (Option Tuple) Refusal
+resumed_as head (Ok None) = Ok None
+resumed_as head (Ok (Some tuple)) = Ok (Some (in_head_order head tuple.times tuple.texts))
+resumed_as head (Err refusal) = Err refusal
+
+-- that a step came to its end, without what it gave
+abbrev pub done_as : {A : Type 0} → Result A Refusal → Result (Unit {0}) Refusal
+done_as (Ok a) = Ok tt
+done_as (Err refusal) = Err refusal
+
+-- what is due for a purpose
+abbrev pub IsServed : Purpose → Source (List Relation) → Source Queried → Plan → Outcome → Type 0
+IsServed purpose.Plan = IsExplained
+IsServed (purpose.Answer cap) = IsAnswered cap
+IsServed (purpose.Witness cap) = IsDecided cap
+IsServed (purpose.Page paging) = IsListed paging.from paging.to paging.limit (text_of paging.after) paging.json paging.cap
+
+-- the ends of its window, where it has one, have a magnitude of at most 2^62
+abbrev pub HasWindow : Purpose → Type 0
+HasWindow (purpose.Page paging) = AreEnds paging.from paging.to
+HasWindow _ = Unit {0}

@@ -8,10 +8,7 @@ use Rattle.lrp_model.specs.Sorts.{is_data}
 use Rattle.lrp_model.specs.Tuples.{in_head_order}
 use Rattle.lrp_model.specs.declared.relations.Column.{Column}
 use Rattle.lrp_model.specs.declared.tuples.Shape.{Shape}
-use Rattle.lrp_model.specs.declared.tuples.Tuple.{Tuple as ToldTuple}
 use Rattle.lrp_token.specs.Reading.{HasCounts, HasOtherCounts, IsNoToken}
-use Rattle.lrp_token.specs.declared.resume.TokenFault.{TokenFault}
-use Rattle.lrp_token.specs.declared.resume.TokenFault.TheVariants as token_fault
 use Rattle.lrp_top.specs.declared.outcome.Refusal.{Refusal}
 use Rattle.lrp_top.specs.declared.outcome.Refusal.TheVariants.{TokenForm, TokenShape, TokenStale, Memory}
 
@@ -47,29 +44,13 @@ pub record IsStale (files : List ℕ) (head : List Column) (text : Text) : Type 
   pub counts : HasCounts (shape_of head) times texts
   pub other : digest ≢ files
 
--- why a text is refused: it is no token, or one with other counts than the head's, or one of other files; or want of memory
-abbrev pub IsNoResume : List ℕ → List Column → Text → Refusal → Type 0
-IsNoResume files head text TokenForm = IsNoToken text
-IsNoResume files head text TokenShape = HasOtherCounts text (shape_of head)
-IsNoResume files head text TokenStale = IsStale files head text
-IsNoResume files head text Memory = Unit {0}
-IsNoResume files head text _ = ⊥
-
--- the tuple behind which a page begins: none without a token, and else the token's; or why the token is refused
+-- where a page begins. Without a token: nowhere. Ok: behind the tuple of the token. Refused: why the text is no such token
 abbrev pub IsResumed : List ℕ → List Column → Option Text → Result (Option Tuple) Refusal → Type 0
 IsResumed files head None result = result ≡ Ok None
 IsResumed files head (Some text) (Ok None) = ⊥
 IsResumed files head (Some text) (Ok (Some tuple)) = IsTokenOf files head text tuple
-IsResumed files head (Some text) (Err refusal) = IsNoResume files head text refusal
-
--- the refusal of a token that was not read
-abbrev pub token_refused : TokenFault → Refusal
-token_refused token_fault.Form = TokenForm
-token_refused token_fault.Shape = TokenShape
-token_refused token_fault.Memory = Memory
-
--- the values in head order of a tuple that is told by its times and its texts, where one is
-abbrev pub resumed_as : List Column → Result (Option ToldTuple) Refusal → Result (Option Tuple) Refusal
-resumed_as head (Ok None) = Ok None
-resumed_as head (Ok (Some tuple)) = Ok (Some (in_head_order head tuple.times tuple.texts))
-resumed_as head (Err refusal) = Err refusal
+IsResumed files head (Some text) (Err TokenForm) = IsNoToken text
+IsResumed files head (Some text) (Err TokenShape) = HasOtherCounts text (shape_of head)
+IsResumed files head (Some text) (Err TokenStale) = IsStale files head text
+IsResumed files head (Some text) (Err Memory) = Unit {0}
+IsResumed files head (Some text) (Err _) = ⊥

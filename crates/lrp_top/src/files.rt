@@ -1,16 +1,13 @@
 // The files of a command, or why there are none.
-ghost use Rattle.std.specs.Prelude.{◌≡◌, ◌≤◌, ◌≤ℤ◌, IfOk, List as ListOf, ℕ, length, pos};
-ghost use Rattle.std.specs.List.{AllByRecursion};
-ghost use Rattle.lrp_model.specs.Core.{HasElements};
-ghost use Rattle.lrp_model.specs.Formulas.{form_of, question_of};
-ghost use Rattle.lrp_model.specs.TestPoints.{points};
-ghost use Rattle.lrp_plan_laws.specs.Settled.{IsSettled};
+ghost use Rattle.std.specs.Prelude.{◌≡◌, ◌≤◌, IfOk, List as ListOf, ℕ, length};
 ghost use Rattle.lrp_top.specs.Due.{IsAsked, IsAskedOf, IsRead, IsReadOf, TellsLength};
-ghost use Rattle.lrp_top.specs.Questions.{asked_as, read_as};
-ghost use Rattle.lrp_top.specs.Seen.{Seen, seen_of};
+ghost use Rattle.lrp_top.specs.Questions.{IsFit, asked_as, read_as};
+ghost use Rattle.lrp_top.specs.Seen.{Seen};
 
 use crate::outcome::Refusal;
+use crate::seeing::Watched;
 use lrp_io::{LoadFault, Shelf, load};
+use lrp_list::heads_are_columns;
 use lrp_model::{List, Query};
 use lrp_plan_laws::{periods_are_least, sorted_queries_are_settled};
 use lrp_query::read_query;
@@ -38,8 +35,8 @@ pub fn database_of<F: Shelf>(
     name: &str,
     shelf: &mut F,
 ) -> Result<DatabaseFile, Refusal>
-    ensures read { IsRead (seen_of (F.files shelf.old) (F.faults shelf.old) (F.faults shelf.new) (F.given shelf.new) (F.may_be shelf.new)) name.now (read_as result) }
-    ensures long { TellsLength (seen_of (F.files shelf.old) (F.faults shelf.old) (F.faults shelf.new) (F.given shelf.new) (F.may_be shelf.new)) result }
+    ensures read { IsRead (⟦<F as Watched>⟧.seen shelf.old shelf.new) name.now (read_as result) }
+    ensures long { TellsLength (⟦<F as Watched>⟧.seen shelf.old shelf.new) result }
     ensures files { F.files shelf.new ≡ F.files shelf.old }
     ensures later { (other : ListOf ℕ) → F.faults shelf.old other ≤ F.faults shelf.new other }
 {
@@ -70,10 +67,9 @@ pub fn query_of<F: Shelf>(
     name: &str,
     shelf: &mut F,
 ) -> Result<QueryFile, Refusal>
-    ensures asked { IsAsked database.now (seen_of (F.files shelf.old) (F.faults shelf.old) (F.faults shelf.new) (F.given shelf.new) (F.may_be shelf.new)) name.now (asked_as result) }
-    ensures long { TellsLength (seen_of (F.files shelf.old) (F.faults shelf.old) (F.faults shelf.new) (F.given shelf.new) (F.may_be shelf.new)) result }
-    ensures settled { IfOk result (λ file. IsSettled database.now (question_of file.query)) }
-    ensures points { IfOk result (λ file. AllByRecursion (λ at. pos 1 ≤ℤ at.period) (points (form_of file.query.body))) }
+    ensures asked { IsAsked database.now (⟦<F as Watched>⟧.seen shelf.old shelf.new) name.now (asked_as result) }
+    ensures long { TellsLength (⟦<F as Watched>⟧.seen shelf.old shelf.new) result }
+    ensures fit { IfOk result (λ file. IsFit database.now file) }
 {
     match load(alloc, shelf, name) {
         Ok(bytes) => sorted(alloc, database, bytes),
@@ -87,12 +83,12 @@ pub fn query_of<F: Shelf>(
 fn sorted(alloc: Global, database: &Database, bytes: List<u8>) -> Result<QueryFile, Refusal>
     requires { length bytes ≤ 16777216 }
     ensures asked { (seen : Seen) (name : ListOf ℕ) → IsAskedOf database.now seen name bytes (asked_as result) }
-    ensures settled { IfOk result (λ file. IsSettled database.now (question_of file.query)) }
-    ensures points { IfOk result (λ file. AllByRecursion (λ at. pos 1 ≤ℤ at.period) (points (form_of file.query.body))) }
+    ensures fit { IfOk result (λ file. IsFit database.now file) }
 {
     let raw = read_query(alloc, bytes.as_slice())?;
     let query = check(alloc, &raw, database)?;
     database.relations();
+    heads_are_columns();
     periods_are_least();
     sorted_queries_are_settled();
     Ok(QueryFile { bytes, query })

@@ -1,13 +1,15 @@
 // What a run decides before its first byte is written: an output, or a refusal.
 ghost use Rattle.std.specs.Prelude.{◌≡◌};
-ghost use Rattle.lrp_top.specs.Outcomes.{limited_by, refused_by, refused_with};
-ghost use Rattle.lrp_top.specs.Resuming.{token_refused};
+ghost use Rattle.lrp_top.specs.Outcomes.{refused_with};
+ghost use Rattle.lrp_top.specs.Refusals.{limited_by, refused_by, token_refused};
 ghost use Rattle.lrp_top.specs.declared.outcome.Refusal.TheVariants.{Memory as memory};
 
 use crate::Status;
+use crate::answer::WholeAnswer;
 use crate::page::Page;
+use crate::plan::WritablePlan;
 use crate::witness::Witness;
-use lrp_model::{DbFault, List, Plan, QueryFault, QueryRead};
+use lrp_model::{DbFault, QueryFault, QueryRead};
 use lrp_plan::PlanFault;
 use lrp_rel::Database;
 use lrp_token::TokenFault;
@@ -15,12 +17,12 @@ use lrp_token::TokenFault;
 /// What a command writes.
 #[derive(Drop)]
 pub enum Output {
-    /// A text that was made whole beforehand.
-    Text(List<u8>),
     /// The relations of a database, in order.
     Relations(Database),
     /// The plan of a query.
-    Plan(Plan),
+    Plan(WritablePlan),
+    /// All answers of a query.
+    Answer(WholeAnswer),
     /// The least answer of a query.
     Witness(Witness),
     /// A page of answers of a query.
@@ -58,7 +60,7 @@ pub enum Refusal {
     Cells { cap: u32, step: u32 },
     /// Memory was refused.
     Memory,
-    /// The command, or the form of its files, is not built yet.
+    /// The command is not built yet.
     Unbuilt,
 }
 

@@ -3,7 +3,7 @@ ghost use Rattle.std.specs.List.{AllByRecursion};
 ghost use Rattle.lrp_list.specs.Lines.{IsFormOf};
 ghost use Rattle.lrp_top.specs.Known.{IsKnown, form_prop, spots_prop};
 
-use crate::page_lines::write_page;
+use crate::lines::write_page;
 use lrp_io::{Failed, Sink, Text};
 use lrp_list::Form;
 use lrp_model::{List, Spot};
@@ -24,7 +24,7 @@ pub struct Page {
 }
 
 impl Text for Page {
-    ghost use Rattle.lrp_top.specs.Listings.{page_text};
+    ghost use Rattle.lrp_top.specs.Outputs.{page_text};
 
     ghost text = { λ page. page_text page };
 

@@ -4,7 +4,8 @@ ghost use Rattle.lrp_list.specs.Listing.{HasShapeOf};
 ghost use Rattle.lrp_model.specs.Plans.{time_columns};
 ghost use Rattle.lrp_model.specs.Sorts.{is_data, is_time};
 ghost use Rattle.lrp_words.specs.Commands.{text_of};
-ghost use Rattle.lrp_top.specs.Resuming.{IsResumed, data_columns, resumed_as, shape_of as shape_of_head};
+ghost use Rattle.lrp_top.specs.Questions.{resumed_as};
+ghost use Rattle.lrp_top.specs.Resuming.{IsResumed, data_columns, shape_of as shape_of_head};
 
 use crate::outcome::Refusal;
 use lrp_model::{Column, Shape, Tuple};

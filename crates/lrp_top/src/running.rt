@@ -1,12 +1,13 @@
 // A run: one decision, and then one writer.
 ghost use Rattle.std.specs.Prelude.{◌≡◌, []};
-ghost use Rattle.lrp_top.specs.Due.{IsDue, files_named};
-ghost use Rattle.lrp_top.specs.Outcomes.{Outcome, status_of, Ends};
-ghost use Rattle.lrp_top.specs.Seen.{seen_of};
+ghost use Rattle.lrp_top.specs.Due.{IsRun, files_named};
+ghost use Rattle.lrp_top.specs.Outcomes.{status_of};
+ghost use Rattle.lrp_top.specs.Outputs.{told};
 
 use crate::Status;
 use crate::deciding::decide;
 use crate::outcome::{Output, Refusal};
+use crate::seeing::{Filled, Watched};
 use crate::writing::write_outcome;
 use lrp_io::{Failed, Shelf, Sink};
 use std::alloc::Global;
@@ -16,7 +17,7 @@ use std::alloc::Global;
 /// No memory is taken once the first byte is written, so a run that has begun to write ends with
 /// its outcome's status, or with `Write`.
 pub fn run<F: Shelf, S: Sink>(alloc: Global, words: &[String], shelf: &mut F, out: &mut S) -> Status
-    ensures due { (outcome : Outcome) × IsDue words.now (seen_of (F.files shelf.old) (F.faults shelf.old) (F.faults shelf.new) (F.given shelf.new) (F.may_be shelf.new)) outcome × Ends outcome (S.written out.old) (S.written out.new) (S.faults out.old) (S.faults out.new) result }
+    ensures run { IsRun words.now (⟦<F as Watched>⟧.seen shelf.old shelf.new) (⟦<S as Filled>⟧.taken out.old out.new) result }
 
     // Where the words name no file, none is read.
     ensures unread { files_named words.now ≡ [] → shelf.new ≡ shelf.old }
@@ -30,7 +31,7 @@ pub fn run<F: Shelf, S: Sink>(alloc: Global, words: &[String], shelf: &mut F, ou
 
 /// The status once an outcome's text was written whole.
 fn status_after(outcome: &Result<Output, Refusal>) -> Status
-    ensures { result ≡ status_of outcome.now }
+    ensures { result ≡ status_of (told outcome.now) }
 {
     match outcome {
         Ok(_) => Status::Done,

@@ -17,7 +17,7 @@ pub struct Witness {
 }
 
 impl Text for Witness {
-    ghost use Rattle.lrp_top.specs.Witnesses.{witness_text};
+    ghost use Rattle.lrp_top.specs.Outputs.{witness_text};
 
     ghost text = { λ w. witness_text w };
 

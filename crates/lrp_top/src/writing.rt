@@ -1,30 +1,26 @@
 // The text of an outcome, piece by piece: no memory is taken.
-ghost use Rattle.std.specs.Prelude.{◌≡◌};
-ghost use Rattle.std.specs.List.{flat_map, AllByRecursion};
+ghost use Rattle.std.specs.List.{flat_map};
 ghost use Rattle.lrp_io.specs.Causes.{HasCause};
 ghost use Rattle.lrp_io.specs.Pieces.{IsWritten};
-ghost use Rattle.lrp_plan_text.specs.Writable.{HasPeriods};
-ghost use Rattle.lrp_top.specs.WritablePlans.{steps_prop};
-ghost use Rattle.lrp_top.specs.Outcomes.{CanBeWritten, cells_line, fault_line, line_of, text_of};
+ghost use Rattle.lrp_top.specs.Outcomes.{cells_line, fault_line, line_of, written_of};
+ghost use Rattle.lrp_top.specs.Outputs.{told};
 
 use crate::outcome::{Output, Refusal};
 use itoa::Buffer;
 use lrp_io::{Failed, Sink, Text, write_buffered};
-use lrp_model::{Place, Plan};
-use lrp_plan_text::write_plan;
+use lrp_model::Place;
 use lrp_print::write_bytes;
 use lrp_rel::{Database, write_database};
 
 /// Writes an outcome's text, or a front of it where the sink fails.
 pub fn write_outcome<S: Sink>(out: &mut S, outcome: &Result<Output, Refusal>) -> Result<(), Failed>
-    requires { CanBeWritten outcome.now }
-    ensures text { IsWritten (S.written out.old) (S.written out.new) (text_of outcome.now) result }
+    ensures text { IsWritten (S.written out.old) (S.written out.new) (written_of (told outcome.now)) result }
     ensures cause { HasCause (S.faults out.old) (S.faults out.new) result }
 {
     match outcome {
-        Ok(Output::Text(text)) => write_bytes(out, text.as_slice()),
+        Ok(Output::Answer(answer)) => write_buffered(out, answer),
         Ok(Output::Relations(database)) => write_buffered(out, &DatabaseText { database }),
-        Ok(Output::Plan(plan)) => write_buffered(out, &PlanText { plan }),
+        Ok(Output::Plan(plan)) => write_buffered(out, plan),
         Ok(Output::Witness(witness)) => write_buffered(out, witness),
         Ok(Output::Page(page)) => write_buffered(out, page),
         Err(refusal) => write_refusal(out, refusal),
@@ -44,23 +40,6 @@ impl Text for DatabaseText<'_> {
 
     fn write_to<S: Sink>(&self, out: &mut S) -> Result<(), Failed> {
         write_database(out, self.database)
-    }
-}
-
-/// The text of a plan, of which each line is made of many small pieces.
-#[derive(Drop)]
-struct PlanText<'a> {
-    plan: &'a Plan,
-    ghost writable: { AllByRecursion HasPeriods plan.now.steps } by { steps_prop plan.now.steps },
-}
-
-impl Text for PlanText<'_> {
-    ghost use Rattle.lrp_model.specs.PrintedPlans.{plan_bytes};
-
-    ghost text = { λ s. plan_bytes s.plan.now };
-
-    fn write_to<S: Sink>(&self, out: &mut S) -> Result<(), Failed> {
-        write_plan(out, self.plan)
     }
 }
 

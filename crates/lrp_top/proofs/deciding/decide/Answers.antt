@@ -5,5 +5,5 @@ use Rattle.lrp_words.specs.Commands.{task_of}
 use Rattle.lrp_top.proofs.WordEnds.{task_ends}
 use Rattle.lrp_top.proofs.deciding.decide.Goals as goal
 
-pub decide_command-requires : goal.decide_command-requires
-decide_command-requires g c = record { ends = task_ends (map string_bytes c.args.words.now) (task_of c.in-Ok.command) c.in-Ok.ensures }
+pub carry_out-requires : goal.carry_out-requires
+carry_out-requires g c = record { ends = task_ends (map string_bytes c.args.words.now) (task_of c.in-Ok.command) c.in-Ok.ensures }

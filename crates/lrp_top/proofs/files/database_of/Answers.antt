@@ -1,30 +1,21 @@
 -- The bytes that were read, or why none were.
 use Rattle.std.proofs.Common.{Err, ap, arith}
-use Rattle.lrp_top.proofs.FileLemmas.{few_given, long_database, no_memory, unread_database}
-use Rattle.lrp_top.specs.Seen.{seen_of}
+use Rattle.lrp_top.proofs.FileLemmas.{few_given, long_database, no_memory, read_of, unread_database}
 use Rattle.lrp_top.proofs.files.database_of.Goals as goal
 
 pub returns-in-Ok-clause-read : goal.returns-in-Ok-clause-read
-returns-in-Ok-clause-read g c =
-    let seen = seen_of (g.F.Shelf.files c.args.shelf.now) (g.F.Shelf.faults c.args.shelf.now) (g.F.Shelf.faults c.load.new.shelf) (g.F.Shelf.given c.load.new.shelf) (g.F.Shelf.may_be c.load.new.shelf) in
-    record {
-      bytes = c.in-Ok.bytes;
-      told = λ held e. c.in-Ok.ensures.whole held e;
-      is = c.read.ensures seen c.args.name.now;
-    }
+returns-in-Ok-clause-read g c = read_of _ c.args.name.now c.in-Ok.bytes _ (λ held e. c.in-Ok.ensures.whole held e) c.read.ensures
 
 pub returns-in-Ok-clause-long : goal.returns-in-Ok-clause-long
 returns-in-Ok-clause-long g c =
-    let seen = seen_of (g.F.Shelf.files c.args.shelf.now) (g.F.Shelf.faults c.args.shelf.now) (g.F.Shelf.faults c.load.new.shelf) (g.F.Shelf.given c.load.new.shelf) (g.F.Shelf.may_be c.load.new.shelf) in
-    λ name over. few_given seen name (omega (arith, c.in-Ok.ensures.count, c.in-Ok.ensures.short)) over
+    λ name over. few_given _ name over (omega (arith, c.in-Ok.ensures.count, c.in-Ok.ensures.short))
 
 pub returns-in-Err-Failed-clause-read : goal.returns-in-Err-Failed-clause-read
 returns-in-Err-Failed-clause-read g c = unread_database _ c.args.name.now (c.in-Err-Failed.ensures.failed (ap Err c.in-Err-Failed.field-0-is))
 
 pub returns-in-Err-Failed-clause-long : goal.returns-in-Err-Failed-clause-long
 returns-in-Err-Failed-clause-long g c =
-    let seen = seen_of (g.F.Shelf.files c.args.shelf.now) (g.F.Shelf.faults c.args.shelf.now) (g.F.Shelf.faults c.load.new.shelf) (g.F.Shelf.given c.load.new.shelf) (g.F.Shelf.may_be c.load.new.shelf) in
-    λ name over. few_given seen name (c.in-Err-Failed.ensures.failed_short name (ap Err c.in-Err-Failed.field-0-is) over.named) over
+    λ name over. few_given _ name over (c.in-Err-Failed.ensures.failed_short name (ap Err c.in-Err-Failed.field-0-is) over.named)
 
 pub returns-in-Err-TooLong-clause-read : goal.returns-in-Err-TooLong-clause-read
 returns-in-Err-TooLong-clause-read g c =

@@ -1,30 +1,21 @@
 -- The bytes that were read, or why none were.
 use Rattle.std.proofs.Common.{Err, ap, arith}
-use Rattle.lrp_top.proofs.FileLemmas.{few_given, long_query, no_query_memory, unread_query}
-use Rattle.lrp_top.specs.Seen.{seen_of}
+use Rattle.lrp_top.proofs.FileLemmas.{asked_of, few_given, long_query, no_query_memory, unread_query}
 use Rattle.lrp_top.proofs.files.query_of.Goals as goal
 
 pub returns-in-Ok-clause-asked : goal.returns-in-Ok-clause-asked
-returns-in-Ok-clause-asked g c =
-    let seen = seen_of (g.F.Shelf.files c.args.shelf.now) (g.F.Shelf.faults c.args.shelf.now) (g.F.Shelf.faults c.load.new.shelf) (g.F.Shelf.given c.load.new.shelf) (g.F.Shelf.may_be c.load.new.shelf) in
-    record {
-      bytes = c.in-Ok.bytes;
-      told = λ held e. c.in-Ok.ensures.whole held e;
-      is = c.sorted.ensures.asked seen c.args.name.now;
-    }
+returns-in-Ok-clause-asked g c = asked_of c.args.database.now _ c.args.name.now c.in-Ok.bytes _ (λ held e. c.in-Ok.ensures.whole held e) c.sorted.ensures.asked
 
 pub returns-in-Ok-clause-long : goal.returns-in-Ok-clause-long
 returns-in-Ok-clause-long g c =
-    let seen = seen_of (g.F.Shelf.files c.args.shelf.now) (g.F.Shelf.faults c.args.shelf.now) (g.F.Shelf.faults c.load.new.shelf) (g.F.Shelf.given c.load.new.shelf) (g.F.Shelf.may_be c.load.new.shelf) in
-    λ name over. few_given seen name (omega (arith, c.in-Ok.ensures.count, c.in-Ok.ensures.short)) over
+    λ name over. few_given _ name over (omega (arith, c.in-Ok.ensures.count, c.in-Ok.ensures.short))
 
 pub returns-in-Err-Failed-clause-asked : goal.returns-in-Err-Failed-clause-asked
 returns-in-Err-Failed-clause-asked g c = unread_query c.args.database.now _ c.args.name.now (c.in-Err-Failed.ensures.failed (ap Err c.in-Err-Failed.field-0-is))
 
 pub returns-in-Err-Failed-clause-long : goal.returns-in-Err-Failed-clause-long
 returns-in-Err-Failed-clause-long g c =
-    let seen = seen_of (g.F.Shelf.files c.args.shelf.now) (g.F.Shelf.faults c.args.shelf.now) (g.F.Shelf.faults c.load.new.shelf) (g.F.Shelf.given c.load.new.shelf) (g.F.Shelf.may_be c.load.new.shelf) in
-    λ name over. few_given seen name (c.in-Err-Failed.ensures.failed_short name (ap Err c.in-Err-Failed.field-0-is) over.named) over
+    λ name over. few_given _ name over (c.in-Err-Failed.ensures.failed_short name (ap Err c.in-Err-Failed.field-0-is) over.named)
 
 pub returns-in-Err-TooLong-clause-asked : goal.returns-in-Err-TooLong-clause-asked
 returns-in-Err-TooLong-clause-asked g c =

@@ -8,52 +8,57 @@ use Rattle.lrp_model.specs.Plans.{time_columns}
 use Rattle.lrp_model.specs.declared.relations.Column.{Column}
 use Rattle.lrp_token.specs.Files.{files_digest}
 use Rattle.lrp_words.specs.Commands.{text_of}
-use Rattle.lrp_top.specs.Counting.{IsCounted}
-use Rattle.lrp_top.specs.Due.{IsPaged}
-use Rattle.lrp_top.specs.Listings.{TellsPage}
+use Rattle.lrp_top.specs.Due.{IsCounted, IsOutput}
+use Rattle.lrp_top.specs.Telling.{TellsPage}
 use Rattle.lrp_top.specs.Outcomes.{Outcome}
-use Rattle.lrp_top.specs.Resuming.{IsResumed, data_columns, resumed_as, shape_of}
+use Rattle.lrp_top.specs.Resuming.{IsResumed, data_columns, shape_of}
+use Rattle.lrp_top.specs.Outputs.{told}
+use Rattle.lrp_top.specs.Questions.{resumed_as}
 use Rattle.lrp_top.specs.Steps.{Behind, Then}
 use Rattle.lrp_top.proofs.HeadCounts.{few_texts, few_times}
 use Rattle.lrp_top.proofs.ResumeLemmas.{behind_resumed, lent}
 use Rattle.lrp_top.proofs.listing.page.Goals as goal
 
 pub resumed-requires-clause-times : goal.resumed-requires-clause-times
-resumed-requires-clause-times c = subst (λ head. time_columns head ≤ 8) (sym c.as_slice-head.ensures) (few_times c.args.question.now.database.relations (question_of c.args.question.now.query.query) c.requires.planned.settled)
+resumed-requires-clause-times c = subst (λ head. time_columns head ≤ 8) (sym c.as_slice-head.ensures) (few_times c.args.question.now.database.relations (question_of c.args.question.now.query.query) c.requires.ready.planned.settled)
 
 pub resumed-requires-clause-texts : goal.resumed-requires-clause-texts
-resumed-requires-clause-texts c = subst (λ head. data_columns head ≤ 8) (sym c.as_slice-head.ensures) (few_texts c.args.question.now.database.relations (question_of c.args.question.now.query.query) c.requires.planned.settled)
+resumed-requires-clause-texts c = subst (λ head. data_columns head ≤ 8) (sym c.as_slice-head.ensures) (few_texts c.args.question.now.database.relations (question_of c.args.question.now.query.query) c.requires.ready.planned.settled)
 
 pub page_behind-requires-clause-after : goal.page_behind-requires-clause-after
 page_behind-requires-clause-after c =
     let head = c.args.question.now.query.query.head.columns in
     lent (HasShapeOf (shape_of head)) c.in-Ok.after c.as_ref.result c.as_ref.ensures.value (subst (λ h. IfSome c.in-Ok.after (HasShapeOf (shape_of h))) c.as_slice-head.ensures c.in-Ok.ensures.shape)
 
-pub returns-in-Ok-clause-page : goal.returns-in-Ok-clause-page
-returns-in-Ok-clause-page c =
+pub returns-in-Ok : goal.returns-in-Ok
+returns-in-Ok c =
     let question = c.args.question.now in
     let head = question.query.query.head.columns in
     let p = c.args.paging.now in
-    let told : c.digest-files.result ≡ files_digest question.database.bytes question.query.bytes = c.digest-files.ensures ∙ ap₂ files_digest c.as_slice.ensures c.as_slice-2.ensures in
+    let spelled : c.digest-files.result ≡ files_digest question.database.bytes question.query.bytes = c.digest-files.ensures ∙ ap₂ files_digest c.as_slice.ensures c.as_slice-2.ensures in
     let Next : List ℕ → Option Tuple → Outcome → Type 0 = λ files tuple.
-    Then (IsCounted question.database.relations (question_of question.query.query) p.cap) (λ done. IsPaged (TellsPage question.database.relations (question_of question.query.query) p.from p.to tuple p.limit p.json files)) in
+    Then (IsCounted question.database.relations (question_of question.query.query) p.cap) (λ done. IsOutput (TellsPage question.database.relations (question_of question.query.query) p.from p.to tuple p.limit p.json files)) in
     record {
-      first = resumed_as head (Ok c.in-Ok.after);
-      is = subst (λ files. IsResumed files head (text_of p.after) (resumed_as head (Ok c.in-Ok.after))) told
-          (subst (λ (h : List Column). IsResumed c.digest-files.result h (text_of p.after) (resumed_as h (Ok c.in-Ok.after))) c.as_slice-head.ensures c.in-Ok.ensures.resumed);
-      next = subst (λ files. Behind (resumed_as head (Ok c.in-Ok.after)) (Next files) c.page_behind.result) told
-          (behind_resumed head c.in-Ok.after c.as_ref.result (Next c.digest-files.result) c.page_behind.result c.as_ref.ensures.value c.page_behind.ensures.page);
+      page = record {
+        first = resumed_as head (Ok c.in-Ok.after);
+        is = subst (λ files. IsResumed files head (text_of p.after) (resumed_as head (Ok c.in-Ok.after))) spelled
+            (subst (λ (h : List Column). IsResumed c.digest-files.result h (text_of p.after) (resumed_as h (Ok c.in-Ok.after))) c.as_slice-head.ensures c.in-Ok.ensures.resumed);
+        next = subst (λ files. Behind (resumed_as head (Ok c.in-Ok.after)) (Next files) (told c.page_behind.result)) spelled
+            (behind_resumed head c.in-Ok.after c.as_ref.result (Next c.digest-files.result) (told c.page_behind.result) c.as_ref.ensures.value c.page_behind.ensures.page);
+      };
     }
 
-pub returns-in-Err-clause-page : goal.returns-in-Err-clause-page
-returns-in-Err-clause-page c =
+pub returns-in-Err : goal.returns-in-Err
+returns-in-Err c =
     let question = c.args.question.now in
     let head = question.query.query.head.columns in
     let p = c.args.paging.now in
-    let told : c.digest-files.result ≡ files_digest question.database.bytes question.query.bytes = c.digest-files.ensures ∙ ap₂ files_digest c.as_slice.ensures c.as_slice-2.ensures in
+    let spelled : c.digest-files.result ≡ files_digest question.database.bytes question.query.bytes = c.digest-files.ensures ∙ ap₂ files_digest c.as_slice.ensures c.as_slice-2.ensures in
     record {
-      first = Err c.in-Err.refusal;
-      is = subst (λ files. IsResumed files head (text_of p.after) (Err c.in-Err.refusal)) told
-          (subst (λ (h : List Column). IsResumed c.digest-files.result h (text_of p.after) (Err c.in-Err.refusal)) c.as_slice-head.ensures c.in-Err.ensures.resumed);
-      next = refl;
+      page = record {
+        first = Err c.in-Err.refusal;
+        is = subst (λ files. IsResumed files head (text_of p.after) (Err c.in-Err.refusal)) spelled
+            (subst (λ (h : List Column). IsResumed c.digest-files.result h (text_of p.after) (Err c.in-Err.refusal)) c.as_slice-head.ensures c.in-Err.ensures.resumed);
+        next = refl;
+      };
     }

@@ -11,14 +11,16 @@ use Rattle.lrp_top.proofs.listing.page_behind.Goals as goal
 pub page_of-requires-clause-after : goal.page_of-requires-clause-after
 page_of-requires-clause-after c = some_shape c.in-Ok.answer c.args.question.now.query.query.head.columns c.args.after c.in-Ok.ensures.answers.head c.requires.after
 
-pub returns-in-Ok-page_of-clause-page : goal.returns-in-Ok-page_of-clause-page
-returns-in-Ok-page_of-clause-page c =
+pub returns-in-Ok-page_of : goal.returns-in-Ok-page_of
+returns-in-Ok-page_of c =
     let question = c.args.question.now in
     let p = c.args.paging.now in
     let begins : List Column → Option Tuple = λ columns. option_map (λ t. told_tuple columns t.now) c.args.after in
     record {
-      first = Ok tt;
-      is = c.in-Ok.ensures.counted;
-      next = told_page question.database.relations (question_of question.query.query) p.cap c.in-Ok.answer p.from p.to begins p.limit p.json c.args.files c.in-Ok-page_of.page
-          c.in-Ok.ensures.answers c.in-Ok-page_of.ensures.answer c.in-Ok-page_of.ensures.form c.in-Ok-page_of.ensures.files c.in-Ok-page_of.ensures.page;
+      page = record {
+        first = Ok tt;
+        is = c.in-Ok.ensures.counted;
+        next = told_page question.database.relations (question_of question.query.query) p.cap c.in-Ok.answer p.from p.to begins p.limit p.json c.args.files c.in-Ok-page_of.page
+            c.in-Ok.ensures.answers c.in-Ok-page_of.ensures.answer c.in-Ok-page_of.ensures.form c.in-Ok-page_of.ensures.files c.in-Ok-page_of.ensures.page;
+      };
     }

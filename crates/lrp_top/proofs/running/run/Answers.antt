@@ -1,6 +1,18 @@
--- The text was written whole.
-use Rattle.lrp_top.proofs.LineLemmas.{ends_whole}
+-- The text was written whole, or a front of it.
+use Rattle.lrp_top.specs.Outputs.{told}
+use Rattle.lrp_top.proofs.LineLemmas.{ends_cut, ends_whole}
 use Rattle.lrp_top.proofs.running.run.Goals as goal
 
-pub returns-in-Ok-clause-due : goal.returns-in-Ok-clause-due
-returns-in-Ok-clause-due g c = (c.decide-outcome.result, c.decide-outcome.ensures.due, ends_whole c.decide-outcome.result _ _ _ _ _ c.in-Ok.ensures.text c.status_after.ensures)
+pub returns-in-Ok-clause-run : goal.returns-in-Ok-clause-run
+returns-in-Ok-clause-run g c = record {
+  outcome = told c.decide-outcome.result;
+  due = c.decide-outcome.ensures.due;
+  ends = ends_whole (told c.decide-outcome.result) _ _ c.in-Ok.ensures.text c.status_after.ensures;
+}
+
+pub returns-clause-run : goal.returns-clause-run
+returns-clause-run g c = record {
+  outcome = told c.decide-outcome.result;
+  due = c.decide-outcome.ensures.due;
+  ends = ends_cut (told c.decide-outcome.result) _ c.in-Err.ensures.text (c.in-Err.ensures.cause.failed);
+}

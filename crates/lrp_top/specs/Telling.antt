@@ -1,0 +1,42 @@
+-- What the text of each command tells.
+use Rattle.std.specs.Prelude.{◌≡◌, ◌⊎◌, ℕ, ℤ, Bool, List, ◌++◌, Option, codes}
+use Rattle.lrp_model.specs.Formulas.{Question}
+use Rattle.lrp_model.specs.Order.{IsLeast}
+use Rattle.lrp_model.specs.Pages.{IsPage, Tuple}
+use Rattle.lrp_model.specs.Printed.{database_bytes}
+use Rattle.lrp_model.specs.PrintedPages.{page_bytes, plain_line}
+use Rattle.lrp_model.specs.PrintedPlans.{plan_bytes}
+use Rattle.lrp_model.specs.Satisfaction.{IsAnswer}
+use Rattle.lrp_model.specs.declared.plans.Plan.{Plan}
+use Rattle.lrp_model.specs.declared.relations.Relation.{Relation}
+use Rattle.lrp_print.specs.ReadBack.{ReadsBack}
+
+-- the text is that of the relations, and reads back as relations that hold the same
+abbrev pub TellsRelations : List Relation → List ℕ → Type 0
+TellsRelations db bytes = (bytes ≡ database_bytes db) × ReadsBack db
+
+-- the text is that of the plan
+abbrev pub TellsPlan : Plan → List ℕ → Type 0
+TellsPlan p bytes = bytes ≡ plan_bytes p
+
+-- the query has no answer, and the text says so
+pub record TellsNone (db : List Relation) (q : Question) (bytes : List ℕ) : Type 0 where
+  pub none : (tuple : Tuple) → IsAnswer db q tuple → ⊥
+  pub spelled : bytes ≡ codes "Empty\n"
+
+-- the text has the line of the query's least answer
+pub record TellsLeast (db : List Relation) (q : Question) (bytes : List ℕ) : Type 0 where
+  pub tuple : Tuple
+  pub least : IsLeast (IsAnswer db q) tuple
+  pub spelled : bytes ≡ codes "Nonempty\n" ++ plain_line tuple
+
+-- the one or the other
+abbrev pub TellsWitness : List Relation → Question → List ℕ → Type 0
+TellsWitness db q bytes = TellsNone db q bytes ⊎ TellsLeast db q bytes
+
+-- the text is that of the page of the query's answers in the window behind a tuple, with tokens of the files' digest
+pub record TellsPage (db : List Relation) (q : Question) (from to : ℤ) (after : Option Tuple) (limit : ℕ) (json : Bool) (files : List ℕ) (bytes : List ℕ) : Type 0 where
+  pub page : List Tuple
+  pub more : Bool
+  pub is : IsPage (IsAnswer db q) from to after limit page more
+  pub spelled : bytes ≡ page_bytes json files page more

@@ -1,0 +1,68 @@
+// Questions: a database, a well-sorted query over it and its plan, or the first refusal.
+ghost use Rattle.std.specs.Prelude.{◌≡◌, ◌≤ℤ◌, IfOk, pos};
+ghost use Rattle.std.specs.List.{AllByRecursion};
+ghost use Rattle.lrp_model.specs.Formulas.{form_of, question_of as queried};
+ghost use Rattle.lrp_model.specs.TestPoints.{points};
+ghost use Rattle.lrp_plan_laws.specs.Settled.{IsSettled};
+ghost use Rattle.lrp_plan_text.specs.Writable.{HasPeriods};
+ghost use Rattle.lrp_top.specs.Due.{IsPlanned, IsQuestion, TellsLength};
+ghost use Rattle.lrp_top.specs.Questions.{IsMadeOf, IsReady};
+
+use crate::files::{DatabaseFile, QueryFile, database_of, query_of};
+use crate::outcome::Refusal;
+use crate::seeing::Watched;
+use lrp_io::Shelf;
+use lrp_model::{Plan, Query};
+use lrp_plan::plan;
+use lrp_rel::Database;
+use std::alloc::Global;
+
+/// A database, a query that is well-sorted over it, and its plan.
+#[derive(Drop)]
+pub struct Question {
+    pub database: DatabaseFile,
+    pub query: QueryFile,
+    pub plan: Plan,
+}
+
+impl Question {
+    /// Its plan alone.
+    pub fn into_plan(self) -> Plan
+        ensures { result ≡ self.plan }
+    {
+        let Question { plan, .. } = self;
+        plan
+    }
+}
+
+/// The question of a database's file and a query's file, or the first refusal of either, or of the plan.
+pub fn question_of<F: Shelf>(
+    alloc: Global,
+    database: &str,
+    query: &str,
+    shelf: &mut F,
+) -> Result<Question, Refusal>
+    ensures question { IsQuestion (⟦<F as Watched>⟧.seen shelf.old shelf.new) database.now query.now IsMadeOf result }
+    ensures long { TellsLength (⟦<F as Watched>⟧.seen shelf.old shelf.new) result }
+    ensures ready { IfOk result (λ question. IsReady question) }
+{
+    let database = database_of(alloc, database, shelf)?;
+    let query = query_of(alloc, &database.relations, query, shelf)?;
+    let plan = plan_of(alloc, &database.relations, &query.query)?;
+    Ok(Question {
+        database,
+        query,
+        plan,
+    })
+}
+
+/// The plan of a query over a database, or the limit that it passes.
+fn plan_of(alloc: Global, database: &Database, query: &Query) -> Result<Plan, Refusal>
+    requires settled { IsSettled database.now (queried query.now) }
+    requires points { AllByRecursion (λ at. pos 1 ≤ℤ at.period) (points (form_of query.now.body)) }
+    ensures planned { IsPlanned database.now (queried query.now) result }
+    ensures writable { IfOk result (λ p. AllByRecursion HasPeriods p.steps) }
+{
+    let planned = plan(alloc, query, database)?;
+    Ok(planned)
+}

@@ -1,0 +1,95 @@
+// What a question is asked for: its plan, its answers, its least answer or a page.
+ghost use Rattle.std.specs.Prelude.{IfOk, List, ℕ};
+ghost use Rattle.lrp_eval.specs.Answered.{IsAnswerOf};
+ghost use Rattle.lrp_model.specs.Formulas.{Question as Queried, question_of};
+ghost use Rattle.lrp_model.specs.declared.relations.Relation.{Relation};
+ghost use Rattle.lrp_store.specs.Least.{HasRoom};
+ghost use Rattle.lrp_top.specs.Due.{IsAnswered, IsCounted, IsDecided};
+ghost use Rattle.lrp_top.specs.Outputs.{told, witness_text};
+ghost use Rattle.lrp_top.specs.Questions.{HasWindow, IsReady, IsServed, database_source, done_as, query_source};
+ghost use Rattle.lrp_top.specs.Telling.{TellsWitness};
+
+use crate::answer::WholeAnswer;
+use crate::listing::page;
+use crate::outcome::{Output, Refusal};
+use crate::plan::WritablePlan;
+use crate::purpose::Purpose;
+use crate::question::Question;
+use crate::witness::Witness;
+use lrp_eval::{EvalFault, answer};
+use lrp_list::answers_are_texts;
+use lrp_plan_laws::{plan_rises, steps_are_made};
+use lrp_store::Answer;
+use std::alloc::Global;
+
+/// What is told of a question for a purpose, or the first refusal behind its plan.
+pub fn serve(alloc: Global, question: Question, purpose: &Purpose<'_>) -> Result<Output, Refusal>
+    requires ready { IsReady question }
+    requires window { HasWindow purpose.now }
+    ensures served { IsServed purpose.now (database_source question.database) (query_source question.query) question.plan (told result) }
+{
+    match purpose {
+        Purpose::Plan => Ok(Output::Plan(WritablePlan {
+            plan: question.into_plan(),
+        })),
+        Purpose::Answer { cap } => whole_answer(alloc, &question, *cap),
+        Purpose::Witness { cap } => witness(alloc, &question, *cap),
+        Purpose::Page { paging } => page(alloc, &question, paging),
+    }
+}
+
+/// The answers of a question. It is refused at the first step whose formula is inhabited in more than `cap` cells.
+pub fn answers(alloc: Global, question: &Question, cap: u32) -> Result<Answer, Refusal>
+    requires ready { IsReady question.now }
+    ensures counted { IsCounted question.now.database.relations (question_of question.now.query.query) cap (done_as result) }
+    ensures answers { IfOk result (λ made. IsAnswerOf question.now.database.relations (question_of question.now.query.query) cap made) }
+    ensures room { IfOk result (λ made. HasRoom made.store) }
+{
+    match answer(alloc, &question.plan, &question.database.relations, cap) {
+        Ok(answer) => {
+            answer.store.shape();
+            plan_rises();
+            steps_are_made();
+            Ok(answer)
+        }
+        Err(EvalFault::TooManyCells { step }) => Err(Refusal::Cells { cap, step }),
+        Err(EvalFault::Memory) => Err(Refusal::Memory),
+    }
+}
+
+/// All answers of a question, or the first step with too many cells.
+fn whole_answer(alloc: Global, question: &Question, cap: u32) -> Result<Output, Refusal>
+    requires ready { IsReady question.now }
+    ensures due { IsAnswered cap (database_source question.now.database) (query_source question.now.query) question.now.plan (told result) }
+{
+    match answers(alloc, question, cap) {
+        Ok(answer) => {
+            answer.store.shape();
+            answer.domain.len();
+            plan_rises();
+            answers_are_texts();
+            Ok(Output::Answer(WholeAnswer { answer }))
+        }
+        Err(refusal) => Err(refusal),
+    }
+}
+
+/// The least answer of a question, or the first step with too many cells.
+fn witness(alloc: Global, question: &Question, cap: u32) -> Result<Output, Refusal>
+    requires ready { IsReady question.now }
+    ensures due { IsDecided cap (database_source question.now.database) (query_source question.now.query) question.now.plan (told result) }
+{
+    match answers(alloc, question, cap) {
+        Ok(answer) => Ok(Output::Witness(least_of(answer))),
+        Err(refusal) => Err(refusal),
+    }
+}
+
+/// The least of these answers.
+fn least_of(answer: Answer) -> Witness
+    requires room { HasRoom answer.store }
+    ensures least { (db : List Relation) (q : Queried) (cap : ℕ) → IsAnswerOf db q cap answer → TellsWitness db q (witness_text result) }
+{
+    let least = answer.least();
+    Witness { answer, least }
+}
