@@ -1,6 +1,11 @@
 //! The program: the words, real files and standard output.
 #![tactic(auto)]
 
+#[cfg(test)]
+mod copies;
+#[cfg(test)]
+mod tests;
+
 ghost use Rattle.std.specs.Prelude.{◌≡◌};
 ghost use Rattle.std.specs.Process.{exit_status};
 ghost use Rattle.lrp_top.specs.Statuses.{number_of as number_of_status};

@@ -52,7 +52,7 @@ abbrev pub HasPeriod : ℕ → Value → Type 0
 HasPeriod K (Const t) = Unit {0}
 HasPeriod K (Point p) = (p.period ≡ pos K) × (pos 0 ≤ℤ p.offset) × (p.offset <ℤ pos K)
 
--- the number is at most time column i minus time column j, which some member of the row attains and none exceeds
+-- time column i minus time column j is at most the number in each member of the row, and some member attains it
 pub record IsLeastBound (row : Row) (i j : ℕ) (a : ℤ) : Type 0 where
   pub met : (tuple : List Datum) → IsInRow row tuple → (time_at (times_of tuple) i -ℤ time_at (times_of tuple) j) ≤ℤ a
   pub attained : (tuple : List Datum) × IsInRow row tuple × (time_at (times_of tuple) i -ℤ time_at (times_of tuple) j ≡ a)
@@ -94,7 +94,7 @@ MayStandBeside answers K (suc (suc m)) r s = IsOneZone answers r → ⊥
 
 -- ---- the text
 
--- the relation `answer` of a query that has answers: it has the head's columns and holds exactly the answers, cell by cell
+-- the relation `answer` of a query: it has the head's columns and holds exactly the answers, cell by cell
 pub record IsAnswerRelation (db : List Relation) (q : Question) (answer : Relation) : Type 0 where
   pub name : answer.name ≡ codes "answer"
   pub columns : answer.columns ≡ q.head

@@ -14,8 +14,6 @@ mod plans;
 mod raw;
 mod raw_copies;
 mod relations;
-#[cfg(test)]
-mod tests;
 mod tokens;
 mod tuples;
 mod written;

@@ -4,8 +4,6 @@
 mod chains;
 mod iterators;
 mod slots;
-#[cfg(test)]
-mod tests;
 
 pub use iterators::{Cells, Values};
 pub use slots::Slots;

@@ -12,7 +12,7 @@ pub record HasCounts (shape : Shape) (times : List ℤ) (texts : List Text) : Ty
   pub of_times : length times ≡ shape.times
   pub of_texts : length texts ≡ shape.texts
 
--- the text is a token of no digest, times and texts
+-- the text is a token of no tuple, neither with a digest nor without one
 abbrev pub IsNoToken : List ℕ → Type 0
 IsNoToken text = (digest : Option (List ℕ)) (times : List ℤ) (texts : List Text) → IsToken text digest times texts → ⊥
 

@@ -6,8 +6,6 @@ mod files;
 mod parts;
 mod reading;
 mod resume;
-#[cfg(test)]
-mod tests;
 mod writing;
 
 pub use files::digest;

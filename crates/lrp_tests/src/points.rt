@@ -2,8 +2,8 @@
 
 ghost use Rattle.std.specs.Prelude.{◌≡◌, ◌^◌, ◌≤ℤ◌, pos};
 
-use super::*;
 use lrp_model::LIMIT;
+use lrp_point::{BadPeriod, PeriodLimit, Point, common, tighten};
 use std::process::Abort;
 
 /// The point of an offset and a period that is in range.

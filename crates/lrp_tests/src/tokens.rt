@@ -1,7 +1,7 @@
 // Tokens by example: digests worked out with another program, what is read, and what is written.
-use crate::{Resume, digest, read_token, write_token};
 use lrp_io::MemSink;
 use lrp_model::{Copies, DataText, Domain, List, Shape, Spot};
+use lrp_token::{Resume, digest, read_token, write_token};
 use std::alloc::Global;
 use std::process::Abort;
 use std::test::Fail;

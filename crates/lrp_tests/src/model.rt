@@ -1,5 +1,5 @@
 // What no clause says: that calls succeed, that copies are alike field by field, and what the limits on texts mean.
-use crate::*;
+use lrp_model::*;
 use std::alloc::Global;
 use std::fmt::Debug;
 use std::process::Abort;

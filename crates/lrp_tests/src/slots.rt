@@ -1,6 +1,6 @@
 // Slots that one cell gives up serve another, a cell goes with its last value, and cells come in order.
-use crate::Slots;
 use lrp_model::{Cell, Copies, Memory};
+use lrp_slots::Slots;
 use std::alloc::Global;
 use std::test::Fail;
 
