@@ -18,12 +18,12 @@ use Rattle.lrp_plan.specs.Elements.{CanPlan}
 use Rattle.lrp_plan.specs.Multiples.{IsCommon, IsPeriod, IsLeastOf}
 use Rattle.lrp_plan.specs.Sources.{AreSources}
 
--- neither the period nor the reach, doubled for the answers, is above 2^62
+-- neither the period nor the reach, doubled once and once more for each time column of the head, is above 2^62
 pub record IsWithinLimits (db : List Relation) (q : Question) : Type 0 where
   pub period : period db q.body ≤ 2 ^ 62
   pub reach : scaled_reach db q ≤ 2 ^ 62
 
--- the period is above 2^62; or else the reach is; or memory ran out
+-- the period is above 2^62; or it is not and the reach, doubled so, is; or memory ran out
 abbrev pub HasCause : PlanFault → List Relation → Question → Type 0
 HasCause PeriodLimit db q = 2 ^ 62 < period db q.body
 HasCause BoundLimit db q = (period db q.body ≤ 2 ^ 62) × (2 ^ 62 < scaled_reach db q)
