@@ -14,7 +14,7 @@ use Rattle.lrp_text.proofs.IntegerRule.{integer_local}
 use Rattle.lrp_query.specs.declared.starts.Start.{Start}
 use Rattle.lrp_query.specs.declared.starts.Start.TheVariants.{Not as by_not, Exists as by_exists, Forall as by_forall, Open as by_open, Name as by_name, Term as by_term}
 use Rattle.lrp_text.specs.IntegerRule.{integer}
-use Rattle.lrp_query.specs.Rules.{Trees, offset, named_term, unnamed_term, bare_term, term, op_of, point, comparing, test, atom_terms, named, unnamed, negated, existing, holding, implying, conjoined, disjoined, behind_first, enclosed, start_of, is_hole_token, started, formula_over, formula, query}
+use Rattle.lrp_query.specs.Rules.{Trees, offset, named_term, unnamed_term, bare_term, term, op_of, point, comparing, tested, atom_terms, named, unnamed, negated, existing, holding, implying, conjoined, disjoined, behind_first, enclosed, start_of, is_hole_token, started, formula_over, formula, query}
 
 -- an offset depends on its tokens and on the next one alone
 pub offset_local : Local offset
@@ -70,8 +70,8 @@ module _ {K T F Q : Type 0} (make : Trees K T F Q) where
       bind_local (term make) _ term_local (λ right. pure_local _))
 
   -- what stands behind a first term depends on its tokens and on the next one alone
-  pub test_local : (left : T) → Local (test make left)
-  unfolding test
+  pub test_local : (left : T) → Local (tested make left)
+  unfolding tested
   test_local left =
       bind_local (eat (is_word In)) _ (eat_local _) (λ inside.
       if_local inside _ _ (point_local left) (comparing_local left))

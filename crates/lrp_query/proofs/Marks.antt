@@ -24,7 +24,7 @@ use Rattle.lrp_text.proofs.ColumnRule.{column_local}
 use Rattle.lrp_query.specs.declared.starts.Start.{Start}
 use Rattle.lrp_query.specs.declared.starts.Start.TheVariants.{Not as by_not, Exists as by_exists, Forall as by_forall, Open as by_open, Name as by_name, Term as by_term}
 use Rattle.lrp_text.specs.IntegerRule.{integer}
-use Rattle.lrp_query.specs.Rules.{Trees, unmoved, moved_by, offset, named_term, unnamed_term, bare_term, term, op_of, point, comparing, test, atom_terms, named, unnamed, negated, existing, holding, implying, conjoined, disjoined, behind_first, enclosed, start_of, is_hole_token, started, formula_over, formula, query}
+use Rattle.lrp_query.specs.Rules.{Trees, unmoved, moved_by, offset, named_term, unnamed_term, bare_term, term, op_of, point, comparing, tested, atom_terms, named, unnamed, negated, existing, holding, implying, conjoined, disjoined, behind_first, enclosed, start_of, is_hole_token, started, formula_over, formula, query}
 use Rattle.lrp_text.proofs.IntegerRule.{integer_local}
 use Rattle.lrp_query.proofs.LocalRules.{offset_local, named_term_local, unnamed_term_local, bare_term_local, term_local, formula_local}
 
@@ -477,8 +477,8 @@ unfolding comparing
 comparing_told l = accept_then (λ t. op_of t.token) _ (λ t. op_leaf t.token) (λ op. bind_then false (term marking) _ (sooner true _ term_told) (term_local marking) (λ r. done true))
 
 -- what stands behind a first term
-test_told : (l : Unit {0}) → Tells true (test marking l)
-unfolding test
+test_told : (l : Unit {0}) → Tells true (tested marking l)
+unfolding tested
 test_told l = eat_then (is_word In) _ (word_clean In) (sooner true _ (point_told l)) (comparing_told l)
 
 -- the terms of an atom

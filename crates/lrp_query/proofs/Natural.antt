@@ -19,7 +19,7 @@ use Rattle.lrp_text.proofs.Sound.{bind_ok}
 use Rattle.lrp_query.specs.declared.starts.Start.{Start}
 use Rattle.lrp_query.specs.declared.starts.Start.TheVariants.{Not as by_not, Exists as by_exists, Forall as by_forall, Open as by_open, Name as by_name, Term as by_term}
 use Rattle.lrp_text.specs.IntegerRule.{integer}
-use Rattle.lrp_query.specs.Rules.{Trees, offset, with_offset, named_term, unnamed_term, bare_term, term, op_of, point, comparing, test, atom_terms, named, unnamed, negated, existing, holding, implying, conjoined, disjoined, behind_first, enclosed, start_of, is_hole_token, started, formula_over, formula, query}
+use Rattle.lrp_query.specs.Rules.{Trees, offset, with_offset, named_term, unnamed_term, bare_term, term, op_of, point, comparing, tested, atom_terms, named, unnamed, negated, existing, holding, implying, conjoined, disjoined, behind_first, enclosed, start_of, is_hole_token, started, formula_over, formula, query}
 
 -- ---- outcomes
 
@@ -180,13 +180,13 @@ module _ {K T F Q L U G R : Type 0} (E : Type 0) (one : Trees K T F Q) (two : Tr
       bind E one.cut (term one us) (term two us) m.term _ _ m.formula (term_same us) (λ r vs e. made E one.cut m.formula (one.comparison l op r) (two.comparison (m.term l) op (m.term r)) vs (m.comparison_is l op r)))
 
   -- what stands behind a first term
-  test_same : (l : T) (ts : Tokens) → Same E one.cut m.formula (test one l ts) (test two (m.term l) ts)
-  unfolding test
+  test_same : (l : T) (ts : Tokens) → Same E one.cut m.formula (tested one l ts) (tested two (m.term l) ts)
+  unfolding tested
   test_same l ts = leaf E one.cut (eat (is_word In) ts) _ _ m.formula (λ inside us. choice E one.cut inside _ _ _ _ m.formula us (point_same l us) (comparing_same l us))
 
   -- a term of this kind and what stands behind it
-  kind_test_same : (p : Place) (k : K) (ts : Tokens) → Same E one.cut m.formula (test one (one.term_at p k) ts) (test two (two.term_at p (m.kind k)) ts)
-  kind_test_same p k ts = subst (λ t. Same E one.cut m.formula (test one (one.term_at p k) ts) (test two t ts)) (sym (m.term_is p k)) (test_same (one.term_at p k) ts)
+  kind_test_same : (p : Place) (k : K) (ts : Tokens) → Same E one.cut m.formula (tested one (one.term_at p k) ts) (tested two (two.term_at p (m.kind k)) ts)
+  kind_test_same p k ts = subst (λ t. Same E one.cut m.formula (tested one (one.term_at p k) ts) (tested two t ts)) (sym (m.term_is p k)) (test_same (one.term_at p k) ts)
 
   -- the terms of an atom
   atom_terms_same : (turns : ℕ) (n : Identifier) (p : Place) (ts : Tokens) → Same E one.cut m.formula (atom_terms one turns n p ts) (atom_terms two turns n p ts)

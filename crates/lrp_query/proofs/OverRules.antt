@@ -29,7 +29,7 @@ use Rattle.lrp_text.proofs.Sound.{takes_split, takes_shorter}
 use Rattle.lrp_text.proofs.TokenTests.{word_seen, word_required, expect_seen}
 use Rattle.lrp_text.proofs.LocatedRule.{takes_from}
 use Rattle.lrp_text.proofs.ColumnRule.{column_back}
-use Rattle.lrp_query.specs.Rules.{written, further, unmoved, moved_by, unnamed_term, test, unnamed, negated, existing, holding, implying, conjoined, disjoined, behind_first, enclosed, start_of, is_hole_token, started, formula_over}
+use Rattle.lrp_query.specs.Rules.{written, further, unmoved, moved_by, unnamed_term, tested, unnamed, negated, existing, holding, implying, conjoined, disjoined, behind_first, enclosed, start_of, is_hole_token, started, formula_over}
 use Rattle.lrp_query.proofs.TermRules.{NoShift, quoted_back, integer_term_back, term_leads, placed_text}
 use Rattle.lrp_query.proofs.Below.{separated_below}
 use Rattle.lrp_query.proofs.TestRules.{FitsAt, symbol_at, point_text, test_point_back, test_compared_back, Ends, named_test_back, atom_back, zero_term, zero_tokens}
@@ -273,7 +273,7 @@ module _ (inner : Parser WrittenFormula) (d turns : ℕ) (inner_back : (w : Writ
       enclosed_answers p f (word_token Or) (members ++ any (symbol_token Close) ∷ []) w (FitsAt (suc d) w) (word_ends Or) (λ l. (l.0.0, l.1.0)) ts left lt spelled (λ vs less k. any_of_answers p f g gs vs left less k)
 
   -- a text or an integer at its place, and what stands behind it
-  unnamed_answers : (p : Place) (item : WrittenTerm) (ps : List Part) (f : WrittenFormula) (L : Type 0) → (L → FitsTerm item) → ReadsBack (unnamed_term written) (term_text item) item (FitsTerm item) Anything → ReadsBack (test written (record { place = p; item = item })) ps f L NoShift → (ts left : Tokens) → Takes (placed_text (record { place = p; item = item }) ++ ps) ts left → NoShift left → Answers (unnamed written p ts) f left L
+  unnamed_answers : (p : Place) (item : WrittenTerm) (ps : List Part) (f : WrittenFormula) (L : Type 0) → (L → FitsTerm item) → ReadsBack (unnamed_term written) (term_text item) item (FitsTerm item) Anything → ReadsBack (tested written (record { place = p; item = item })) ps f L NoShift → (ts left : Tokens) → Takes (placed_text (record { place = p; item = item }) ++ ps) ts left → NoShift left → Answers (unnamed written p ts) f left L
   unfolding unnamed
   unnamed_answers p item ps f L fit item_back back ts left h g =
       let l : Located WrittenTerm = record { place = p; item = item } in
@@ -289,7 +289,7 @@ module _ (inner : Parser WrittenFormula) (d turns : ℕ) (inner_back : (w : Writ
   integer_answers p false n ps f L (t ∷ us) left h a = started_as inner turns t us (number_token n) p f left L h.0.0 h.0.1 refl a
 
   -- a formula that begins with a term is read back
-  side_answers : (p : Place) (item : WrittenTerm) (k : Token) (ps : List Part) (f : WrittenFormula) (L : Type 0) → Ends k → (L → FitsTerm item) → ReadsBack (test written (record { place = p; item = item })) (any k ∷ ps) f L NoShift → (ts left : Tokens) → Takes (placed_text (record { place = p; item = item }) ++ any k ∷ ps) ts left → NoShift left → Answers (formula_over written inner turns ts) f left L
+  side_answers : (p : Place) (item : WrittenTerm) (k : Token) (ps : List Part) (f : WrittenFormula) (L : Type 0) → Ends k → (L → FitsTerm item) → ReadsBack (tested written (record { place = p; item = item })) (any k ∷ ps) f L NoShift → (ts left : Tokens) → Takes (placed_text (record { place = p; item = item }) ++ any k ∷ ps) ts left → NoShift left → Answers (formula_over written inner turns ts) f left L
   side_answers p (variable n) k ps f L e fit back [] left h g = absurd h
   side_answers p (shifted n down j) k ps f L e fit back [] left h g = absurd h
   side_answers p (quoted s) k ps f L e fit back [] left h g = absurd h

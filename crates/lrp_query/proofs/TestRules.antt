@@ -30,7 +30,7 @@ use Rattle.lrp_text.proofs.Viable.{Viable, One, TestStops, accept_viable, bind_e
 use Rattle.lrp_text.proofs.TokenTests.{symbol_told, symbol_seen, word_told, word_seen, word_expected, word_required, word_stops, expect_told, expect_seen, expect_stops, number_part, period_told, period_fits, period_stops, period_tells, name_part, name_told, name_seen, name_stops}
 use Rattle.lrp_text.proofs.LocatedRule.{Leads, from_place, takes_from}
 use Rattle.lrp_text.specs.IntegerRule.{integer}
-use Rattle.lrp_query.specs.Rules.{written, Offset, unmoved, moved_by, offset, with_offset, named_term, unnamed_term, term, op_of, point, comparing, test, atom_terms, named, unnamed}
+use Rattle.lrp_query.specs.Rules.{written, Offset, unmoved, moved_by, offset, with_offset, named_term, unnamed_term, term, op_of, point, comparing, tested, atom_terms, named, unnamed}
 use Rattle.lrp_text.proofs.IntegerRule.{integer_back, integer_sound, integer_viable}
 use Rattle.lrp_query.proofs.TermRules.{NoShift, offset_text, FitsOffset, offset_back, offset_sound, offset_viable, with_offset_fits, unnamed_term_sound, unnamed_term_viable, term_leads, placed_text, FitsPlaced, term_back, term_sound, term_viable}
 
@@ -141,13 +141,13 @@ comparing_back l op r =
     (last_back (term written) (λ x. compared l op x) (placed_text r) r L NoShift (back_as (FitsPlaced r) L (λ f. f.1) (term_back r)))
 
 -- behind a term, `in` and a point are read back
-pub test_point_back : (l : Located WrittenTerm) (i : Integer) (k : ℕ) → ReadsBack (test written l) (any (word_token In) ∷ point_text i k) (member l i k) (FitsSizes (member l i k)) NoShift
-unfolding test
+pub test_point_back : (l : Located WrittenTerm) (i : Integer) (k : ℕ) → ReadsBack (tested written l) (any (word_token In) ∷ point_text i k) (member l i k) (FitsSizes (member l i k)) NoShift
+unfolding tested
 test_point_back l i k = then_back _ (eat_back (is_word In) (any (word_token In)) (FitsSizes (member l i k)) (word_seen In)) (point_back l i k)
 
 -- behind a term, a comparison and a term are read back
-pub test_compared_back : (l : Located WrittenTerm) (op : Op) (r : Located WrittenTerm) → ReadsBack (test written l) (op_part op ∷ placed_text r) (compared l op r) (FitsSizes (compared l op r)) NoShift
-unfolding test
+pub test_compared_back : (l : Located WrittenTerm) (op : Op) (r : Located WrittenTerm) → ReadsBack (tested written l) (op_part op ∷ placed_text r) (compared l op r) (FitsSizes (compared l op r)) NoShift
+unfolding tested
 test_compared_back l op r = bind_back _ {G = NoShift} (eat_none (is_word In) (FitsSizes (compared l op r))) (comparing_back l op r) (λ ts left h g. first_is_not (is_word_token In) (symbol_token (op_symbol op)) (placed_text r) ts left refl h)
 
 -- ---- what begins with a name: complete
@@ -169,7 +169,7 @@ no_open (moved_by true n) k ps ts left e h = first_is_not (is_symbol_token Open)
 no_open (moved_by false n) k ps ts left e h = first_is_not (is_symbol_token Open) (symbol_token Plus) (any (number_token n) ∷ any k ∷ ps) ts left refl h
 
 -- a name with or without an offset, and what stands behind it
-pub named_test_back : (turns : ℕ) (p : Place) (n : Identifier) (o : Offset) (k : Token) (ps : List Part) (f : WrittenFormula) (L : Type 0) → Ends k → (L → FitsOffset o) → ReadsBack (test written (record { place = p; item = with_offset n o })) (any k ∷ ps) f L NoShift → ReadsBack (named written turns) (at p (name_token n) ∷ (offset_text o ++ any k ∷ ps)) f L NoShift
+pub named_test_back : (turns : ℕ) (p : Place) (n : Identifier) (o : Offset) (k : Token) (ps : List Part) (f : WrittenFormula) (L : Type 0) → Ends k → (L → FitsOffset o) → ReadsBack (tested written (record { place = p; item = with_offset n o })) (any k ∷ ps) f L NoShift → ReadsBack (named written turns) (at p (name_token n) ∷ (offset_text o ++ any k ∷ ps)) f L NoShift
 unfolding named named_term
 named_test_back turns p n o k ps f L ends fit back =
     then_back _ (accepts_back (λ t. with_place t.place (name_of t.token)) (at p (name_token n)) (n, p) L (name_seen (n, p)))
@@ -282,8 +282,8 @@ either_sound d l true ts us vs q one fit eaten e = point_sound d l ts us vs q on
 either_sound d l false ts us vs q one fit eaten e = comparing_sound d l ts vs q (subst (λ x. Takes (placed_text l) ts x) eaten one) fit e
 
 -- a first term and what is read behind it are spelled so, and lawful
-pub test_sound : (d : ℕ) (l : Located WrittenTerm) (ts us : Tokens) (q : WrittenFormula × Tokens) → Takes (placed_text l) ts us → FitsPlaced l → test written l us ≡ Ok q → Takes (formula_text q.0) ts q.1 × FitsAt (suc d) q.0
-unfolding test
+pub test_sound : (d : ℕ) (l : Located WrittenTerm) (ts us : Tokens) (q : WrittenFormula × Tokens) → Takes (placed_text l) ts us → FitsPlaced l → tested written l us ≡ Ok q → Takes (formula_text q.0) ts q.1 × FitsAt (suc d) q.0
+unfolding tested
 test_sound d l ts us q one fit e =
     let i = bind_ok (eat (is_word In) us) _ q e in
     either_sound d l i.0.0 ts us i.0.1 q one fit (eat_sound (is_word In) (any (word_token In)) (word_told In) us i.0 i.1) i.2
@@ -298,7 +298,7 @@ placed_offset p n unmoved = refl
 placed_offset p n (moved_by down k) = refl
 
 -- behind a name, with or without a parenthesis
-after_name_sound : (d turns : ℕ) (n : Identifier) (p : Place) (opens : Bool) (ts us vs : Tokens) (q : WrittenFormula × Tokens) → Takes (at p (name_token n) ∷ []) ts us → Takes (eaten_parts (any (symbol_token Open)) opens) us vs → (if opens then atom_terms written turns n p else (named_term written n >>= (λ k. test written (record { place = p; item = k })))) vs ≡ Ok q → IsFormula (suc d) ts q
+after_name_sound : (d turns : ℕ) (n : Identifier) (p : Place) (opens : Bool) (ts us vs : Tokens) (q : WrittenFormula × Tokens) → Takes (at p (name_token n) ∷ []) ts us → Takes (eaten_parts (any (symbol_token Open)) opens) us vs → (if opens then atom_terms written turns n p else (named_term written n >>= (λ k. tested written (record { place = p; item = k })))) vs ≡ Ok q → IsFormula (suc d) ts q
 unfolding atom_terms named_term
 after_name_sound d turns n p true ts us vs q one eaten e =
     let l = bind_ok (listed (term written) (is_symbol Comma) (is_symbol Close) turns vs) _ q e in
@@ -318,7 +318,7 @@ after_name_sound d turns n p false ts us vs q one eaten e =
     let read = offset_sound vs o.0 o.1 in
     let left : Located WrittenTerm = record { place = p; item = with_offset n o.0.0 } in
     let named_left : Takes (placed_text left) ts o.0.1 = subst (λ ps. Takes ps ts o.0.1) (sym (placed_offset p n o.0.0)) (takes_join (at p (name_token n) ∷ []) (offset_text o.0.0) ts vs o.0.1 (subst (λ x. Takes (at p (name_token n) ∷ []) ts x) eaten one) read.0) in
-    let R : WrittenTerm × Tokens → Type 0 = λ y. test written (record { place = p; item = y.0 }) y.1 ≡ Ok q in
+    let R : WrittenTerm × Tokens → Type 0 = λ y. tested written (record { place = p; item = y.0 }) y.1 ≡ Ok q in
     test_sound d left ts o.0.1 q named_left (with_offset_fits n o.0.0 read.1) (subst R (sym h) k.2)
 
 -- what begins with a name and is read is spelled so, and is lawful
@@ -386,8 +386,8 @@ comparing_stops d l head us e one fit h =
     (λ r h2 ws s2 f2 d2. absurd cc))
 
 -- the tokens before a fault behind a first term begin a formula with it
-pub test_stops : (d : ℕ) (l : Located WrittenTerm) (head us : Tokens) (e : Fault × Tokens) → Spells (placed_text l) head → FitsPlaced l → test written l us ≡ Err e → Stops (λ c x. Formulas (suc d) c (head ++ x)) us e
-unfolding test
+pub test_stops : (d : ℕ) (l : Located WrittenTerm) (head us : Tokens) (e : Fault × Tokens) → Spells (placed_text l) head → FitsPlaced l → tested written l us ≡ Err e → Stops (λ c x. Formulas (suc d) c (head ++ x)) us e
+unfolding tested
 test_stops d l head us e one fit h =
     eat_step (is_word In) _ (λ c x. Formulas (suc d) c (head ++ x)) us e h
     (λ t vs told k. point_stops d l head t vs e one fit (word_told In t told) k)
@@ -423,7 +423,7 @@ named_stops d turns ts e lt h =
     (λ c n x spelled fits. (no_terms, (atom n.1 n.0 [], always (FitsAt (suc d) (atom n.1 n.0 [])) c (tt, tt), spells_join (One name_part n) (any (symbol_token Open) ∷ any (symbol_token Close) ∷ []) x no_terms spelled (refl, (refl, refl)))))
     (λ n h1 us s1 f1 l1 d1. eat_short (is_symbol Open) _ (λ c x. R c (h1 ++ x)) us e d1
     (λ t vs told less d2. atom_stops d turns n.0 n.1 h1 t vs e s1 (symbol_told Open t told) (omega arith) d2)
-    (λ d2. sub_step offset _ offset_text FitsOffset (λ c x. R c (h1 ++ x)) us e offset_sound offset_viable (sym (through_pure (offset us) (λ o. with_offset n.0 o) (λ k. test written (record { place = n.1; item = k }))) ∙ d2)
+    (λ d2. sub_step offset _ offset_text FitsOffset (λ c x. R c (h1 ++ x)) us e offset_sound offset_viable (sym (through_pure (offset us) (λ o. with_offset n.0 o) (λ k. tested written (record { place = n.1; item = k }))) ∙ d2)
     (λ c o x spelled fits. (
       symbol_at Equals ∷ zero_tokens,
       (

@@ -206,8 +206,8 @@ comparing make left = do
   pure (make.comparison left op right)
 
 -- what stands behind the first term of a comparison or an `in`
-unfoldable pub test : {K T F Q : Type 0} → Trees K T F Q → T → Parser F
-test make left = do
+unfoldable pub tested : {K T F Q : Type 0} → Trees K T F Q → T → Parser F
+tested make left = do
   inside ← eat (is_word In)
   if inside then point make left else comparing make left
 
@@ -225,13 +225,13 @@ named make turns = do
   opens ← eat (is_symbol Open)
   if opens then atom_terms make turns n.0 n.1 else (do
     k ← named_term make n.0
-    test make (make.term_at n.1 k))
+    tested make (make.term_at n.1 k))
 
 -- a formula that begins with a term other than a name, at its place
 unfoldable pub unnamed : {K T F Q : Type 0} → Trees K T F Q → Place → Parser F
 unnamed make p = do
   k ← unnamed_term make
-  test make (make.term_at p k)
+  tested make (make.term_at p k)
 
 -- ---- formulas over others
 

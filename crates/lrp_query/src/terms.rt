@@ -5,7 +5,7 @@ ghost use Rattle.lrp_model.specs.DatabaseMeaning.{signed as signed_number};
 ghost use Rattle.lrp_text.specs.Parsers.{Reads, accept, separated_from, listed};
 ghost use Rattle.lrp_text.specs.Taking.{is_symbol};
 ghost use Rattle.lrp_query.specs.Reading.{ReadsFormula, shown_op};
-ghost use Rattle.lrp_query.specs.Rules.{meant, named_term, unnamed_term, bare_term, term, op_of as op_rule, point, comparing, test, atom_terms, named, unnamed};
+ghost use Rattle.lrp_query.specs.Rules.{meant, named_term, unnamed_term, bare_term, term, op_of as op_rule, point, comparing, tested, atom_terms, named, unnamed};
 
 use lrp_model::{
     Fault, List, Memory, Name, Op, Place, RawFormula, RawKind, RawTerm, RawTermKind, RowPoint,
@@ -142,9 +142,9 @@ fn read_comparison(
 }
 
 // What stands behind the first term of a comparison or of an `in`.
-#[tactic(auto, unfolding(crate::specs::Rules::test))]
+#[tactic(auto, unfolding(crate::specs::Rules::tested))]
 fn read_test(alloc: Global, tokens: &mut Cursor<'_>, left: RawTerm) -> Result<RawFormula, Fault>
-    ensures value { ReadsFormula (test meant left tokens.old) result tokens.new }
+    ensures value { ReadsFormula (tested meant left tokens.old) result tokens.new }
     ensures fewer { IfOk result (λ _. length tokens.new < length tokens.old) }
 {
     if tokens.eat_word(Word::In) {
