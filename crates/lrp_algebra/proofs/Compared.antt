@@ -13,7 +13,7 @@ use Rattle.lrp_model.specs.declared.relations.Bound.{Bound}
 use Rattle.lrp_model.specs.declared.formulas.Op.{Op}
 use Rattle.lrp_model.specs.declared.formulas.Op.TheVariants.{Le, Lt, Ge, Gt, Eq}
 use Rattle.lrp_zone.specs.Zones.{ZoneView, IsResidue}
-use Rattle.lrp_zone.specs.Given.{bound_at, IsOf, HasNone, AreGiven, MeetsGiven}
+use Rattle.lrp_zone.specs.Given.{bound_at, IsGivenZone, HasNone, AreGiven, MeetsGiven}
 use Rattle.lrp_algebra.specs.declared.comparisons.Side.{Side}
 use Rattle.lrp_algebra.specs.Comparisons.{side_value, AreBounds, IsCompared, HasNoCompared}
 
@@ -123,7 +123,7 @@ module _ (l r : Side) (op : Op) (columns : ℕ) (few : columns ≤ 8) (ll : l.co
   pub compare_none : HasNone (pos 1) rs bounds → HasNoCompared l op r columns
   compare_none none = record { none = λ xs e h. none.none xs (met xs e h) }
 
-  pub compare_some : (z : ZoneView) → IsOf (pos 1) rs bounds z → IsCompared l op r columns z
+  pub compare_some : (z : ZoneView) → IsGivenZone (pos 1) rs bounds z → IsCompared l op r columns z
   compare_some z of = record {
     period = one_is z.period of.period;
     count = ap length of.residues ∙ count;

@@ -24,7 +24,7 @@ use Rattle.lrp_store.proofs.Grown.{Set}
 use Rattle.lrp_systems.specs.Parts.{Fits, system_reach}
 use Rattle.lrp_tables.specs.Calls.{test_period}
 use Rattle.lrp_tables.specs.Caps.{InhabitsMoreThan}
-use Rattle.lrp_tables.specs.Columns.{joint, names_of_time, names_of_data, times_of_test, texts_of_test, test_times, test_texts}
+use Rattle.lrp_tables.specs.Columns.{joint, names_of_time, names_of_data, times_of_test, texts_of_test, test_times, test_names}
 use Rattle.lrp_tables.specs.Tables.{IsTested, IsTableOf}
 use Rattle.lrp_tables.proofs.CellsNamed.{AreTuplesOf}
 use Rattle.lrp_tables.proofs.HeadNames.{pairs_apart}
@@ -68,23 +68,23 @@ two_texts (Equal left right) = let a = one_text left in let b = one_text right i
 pub test_few_times : (test : Test) → length (test_times test) ≤ 8
 test_few_times test = let a : length (joint [] (times_of_test test)) ≤ 0 + length (times_of_test test) = joint_short [] (times_of_test test) in let b = two_times test in omega (arith, a, b)
 
-pub test_few_texts : (test : Test) → length (test_texts test) ≤ 8
+pub test_few_texts : (test : Test) → length (test_names test) ≤ 8
 test_few_texts test = let a : length (joint [] (texts_of_test test)) ≤ 0 + length (texts_of_test test) = joint_short [] (texts_of_test test) in let b = two_texts test in omega (arith, a, b)
 
 differ_times : (test : Test) → AllPairs ◌≢◌ (test_times test)
 differ_times test = joint_differs [] (times_of_test test) (λ i j d low high. absurd (omega arith))
 
-differ_texts : (test : Test) → AllPairs ◌≢◌ (test_texts test)
+differ_texts : (test : Test) → AllPairs ◌≢◌ (test_names test)
 differ_texts test = joint_differs [] (texts_of_test test) (λ i j d low high. absurd (omega arith))
 
 -- a test has variables of one kind
-one_kind : (test : Test) (name : Identifier) → Contains (test_times test) name → Contains (test_texts test) name → ⊥
+one_kind : (test : Test) (name : Identifier) → Contains (test_times test) name → Contains (test_names test) name → ⊥
 one_kind (Compare left op right) name a b = let low : b.0 < 0 = b.1 in omega (arith, low)
 one_kind (Member term point) name a b = let low : b.0 < 0 = b.1 in omega (arith, low)
 one_kind (Equal left right) name a b = let low : a.0 < 0 = a.1 in omega (arith, low)
 
-pub test_names_differ : (test : Test) → AllPairs ◌≢◌ (test_times test ++ test_texts test)
-test_names_differ test = pairs_apart (test_times test) (test_texts test) (differ_times test) (differ_texts test) (one_kind test)
+pub test_names_differ : (test : Test) → AllPairs ◌≢◌ (test_times test ++ test_names test)
+test_names_differ test = pairs_apart (test_times test) (test_names test) (differ_times test) (differ_texts test) (one_kind test)
 
 -- ---- its period
 
@@ -106,12 +106,12 @@ word_high k low high = omega (arith, ints)
 -- ---- the step
 
 module _ (domain : List Text) (ascends : Ascends domain) (test : Test) (one : pos 1 ≤ℤ test_period test) (old : Pattern) (none : old ≡ free) (size : ℕ) (es : size ≡ length domain) (cap : ℕ)
-    (start : StoreView) (fresh : start ≡ empty_store (test_times test) (test_texts test) (nat_abs (test_period test))) where
+    (start : StoreView) (fresh : start ≡ empty_store (test_times test) (test_names test) (nat_abs (test_period test))) where
   abbrev times : List Identifier
   times = test_times test
 
   abbrev texts : List Identifier
-  texts = test_texts test
+  texts = test_names test
 
   abbrev k : ℕ
   k = nat_abs (test_period test)

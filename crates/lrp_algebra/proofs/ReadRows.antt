@@ -32,13 +32,13 @@ use Rattle.lrp_tables.proofs.Joining.{at_place}
 use Rattle.lrp_systems.specs.Parts.{PartView, Fits, part_reach, system_reach}
 use Rattle.lrp_tables.specs.Calls.{test_period}
 use Rattle.lrp_zone.specs.Zones.{ZoneView, IsMember as InZone, reach_of}
-use Rattle.lrp_zone.specs.Given.{bound_at, IsOf as IsZoneOf, HasNone, AreGiven, MeetsGiven}
+use Rattle.lrp_zone.specs.Given.{bound_at, IsGivenZone as IsZoneOf, HasNone, AreGiven, MeetsGiven}
 use Rattle.lrp_algebra.specs.declared.comparisons.Side.{Side}
 use Rattle.lrp_algebra.specs.declared.pattern.Pattern.{Pattern}
 use Rattle.lrp_algebra.specs.Comparisons.{side_value}
 use Rattle.lrp_algebra.specs.Conditions.{condition_reach, IsWithTest, HasNoTest, IsWithZone}
 use Rattle.lrp_algebra.specs.Patterns.{parts_of}
-use Rattle.lrp_algebra.specs.Rows.{IsIn, HasPeriod, HasSmallPeriod, times_in, offsets_reach, bounds_reach, IsShifted, AreMet, IsBounded, HasNoBounded, IsWithBounds, HasNoBounds, IsWithValue, HasNoValue, IsWithValues, HasNoValues, IsOfRow, HasNoRow}
+use Rattle.lrp_algebra.specs.Rows.{IsOfValue, DividesPeriod, HasSmallPeriod, term_times, offsets_reach, bounds_reach, IsShifted, MeetsEach, IsBounded, HasNoBounded, IsWithBounds, HasNoBounds, IsWithValue, HasNoValue, IsWithValues, HasNoValues, IsOfRow, HasNoRow}
 use Rattle.lrp_algebra.proofs.Compared.{one_divides}
 use Rattle.lrp_algebra.proofs.Conditioned.{zone_to, zone_from, all_places, all_values}
 use Rattle.lrp_algebra.proofs.Found.{all_one, reach_more}
@@ -48,9 +48,9 @@ use Rattle.std.proofs.lemmas.List.Elements.{All-append, Contains-append_left, Co
 -- ---- the value of a term
 
 module _ (domain : List Text) (times texts : List Identifier) (value : Value) (term : Term) (test : Test) (old new : Pattern)
-    (to : (env : Assignment) → Passes env test → IsIn value (term_value env term)) (from : (env : Assignment) → IsIn value (term_value env term) → Passes env test) where
+    (to : (env : Assignment) → Passes env test → IsOfValue value (term_value env term)) (from : (env : Assignment) → IsOfValue value (term_value env term) → Passes env test) where
   -- a value that a test asks for
-  pub value_by : condition_reach test ≡ 0 → ((k : ℕ) → HasPeriod (pos k) value → Divides (test_period test) (pos k)) → IsWithTest domain times texts test old new → IsWithValue domain times texts value term old new
+  pub value_by : condition_reach test ≡ 0 → ((k : ℕ) → DividesPeriod (pos k) value → Divides (test_period test) (pos k)) → IsWithTest domain times texts test old new → IsWithValue domain times texts value term old new
   value_by none divides w = record {
     size = w.size;
     to = λ env ns a h. let g = w.to env ns a h in (g.0, to env g.1);
@@ -78,19 +78,19 @@ in_flat f (v ∷ vs) (suc i) x y low is h = Contains-append_right (f v) (flat_ma
 -- a point for a time, and a constant for a text
 module _ (domain : List Text) (times texts : List Identifier) (value : Value) (term : Term) (old : Pattern) where
   pub point_found : (at : RowPoint) (t : TimeTerm) → value ≡ Point at → term ≡ time_term t → (found : Option Pattern) → MatchOption found (HasNoTest domain times texts (Member t at) old) (IsWithTest domain times texts (Member t at) old) → MatchOption found (HasNoValue domain times texts value term old) (IsWithValue domain times texts value term old)
-  point_found at t ev et None h = value_none domain times texts value term (Member t at) old old (λ env i. subst (λ v. IsIn v (term_value env term)) (sym ev) (subst (λ u. IsIn (Point at) (term_value env u)) (sym et) i)) (λ env i. subst (λ u. IsIn (Point at) (term_value env u)) et (subst (λ v. IsIn v (term_value env term)) ev i)) h
-  point_found at t ev et (Some new) h = value_by domain times texts value term (Member t at) old new (λ env i. subst (λ v. IsIn v (term_value env term)) (sym ev) (subst (λ u. IsIn (Point at) (term_value env u)) (sym et) i)) (λ env i. subst (λ u. IsIn (Point at) (term_value env u)) et (subst (λ v. IsIn v (term_value env term)) ev i)) refl (λ k p. (subst (HasPeriod (pos k)) ev p).1) h
+  point_found at t ev et None h = value_none domain times texts value term (Member t at) old old (λ env i. subst (λ v. IsOfValue v (term_value env term)) (sym ev) (subst (λ u. IsOfValue (Point at) (term_value env u)) (sym et) i)) (λ env i. subst (λ u. IsOfValue (Point at) (term_value env u)) et (subst (λ v. IsOfValue v (term_value env term)) ev i)) h
+  point_found at t ev et (Some new) h = value_by domain times texts value term (Member t at) old new (λ env i. subst (λ v. IsOfValue v (term_value env term)) (sym ev) (subst (λ u. IsOfValue (Point at) (term_value env u)) (sym et) i)) (λ env i. subst (λ u. IsOfValue (Point at) (term_value env u)) et (subst (λ v. IsOfValue v (term_value env term)) ev i)) refl (λ k p. (subst (DividesPeriod (pos k)) ev p).1) h
 
   pub constant_found : (t : Text) (d : DataTerm) → value ≡ Const t → term ≡ data_term d → (found : Option Pattern) → MatchOption found (HasNoTest domain times texts (Equal d (data_const t)) old) (IsWithTest domain times texts (Equal d (data_const t)) old) → MatchOption found (HasNoValue domain times texts value term old) (IsWithValue domain times texts value term old)
-  constant_found t d ev et None h = value_none domain times texts value term (Equal d (data_const t)) old old (λ env i. subst (λ v. IsIn v (term_value env term)) (sym ev) (subst (λ u. IsIn (Const t) (term_value env u)) (sym et) i)) (λ env i. subst (λ u. IsIn (Const t) (term_value env u)) et (subst (λ v. IsIn v (term_value env term)) ev i)) h
-  constant_found t d ev et (Some new) h = value_by domain times texts value term (Equal d (data_const t)) old new (λ env i. subst (λ v. IsIn v (term_value env term)) (sym ev) (subst (λ u. IsIn (Const t) (term_value env u)) (sym et) i)) (λ env i. subst (λ u. IsIn (Const t) (term_value env u)) et (subst (λ v. IsIn v (term_value env term)) ev i)) refl (λ k p. one_divides (pos k)) h
+  constant_found t d ev et None h = value_none domain times texts value term (Equal d (data_const t)) old old (λ env i. subst (λ v. IsOfValue v (term_value env term)) (sym ev) (subst (λ u. IsOfValue (Const t) (term_value env u)) (sym et) i)) (λ env i. subst (λ u. IsOfValue (Const t) (term_value env u)) et (subst (λ v. IsOfValue v (term_value env term)) ev i)) h
+  constant_found t d ev et (Some new) h = value_by domain times texts value term (Equal d (data_const t)) old new (λ env i. subst (λ v. IsOfValue v (term_value env term)) (sym ev) (subst (λ u. IsOfValue (Const t) (term_value env u)) (sym et) i)) (λ env i. subst (λ u. IsOfValue (Const t) (term_value env u)) et (subst (λ v. IsOfValue v (term_value env term)) ev i)) refl (λ k p. one_divides (pos k)) h
 
   -- no text is in a point, and no time is a constant
   pub no_text : (at : RowPoint) (d : DataTerm) → value ≡ Point at → term ≡ data_term d → HasNoValue domain times texts value term old
-  no_text at d ev et = record { none = λ env ns a h i. subst (λ u. IsIn (Point at) (term_value env u)) et (subst (λ v. IsIn v (term_value env term)) ev i) }
+  no_text at d ev et = record { none = λ env ns a h i. subst (λ u. IsOfValue (Point at) (term_value env u)) et (subst (λ v. IsOfValue v (term_value env term)) ev i) }
 
   pub no_time : (c : Text) (t : TimeTerm) → value ≡ Const c → term ≡ time_term t → HasNoValue domain times texts value term old
-  no_time c t ev et = record { none = λ env ns a h i. subst (λ u. IsIn (Const c) (term_value env u)) et (subst (λ v. IsIn v (term_value env term)) ev i) }
+  no_time c t ev et = record { none = λ env ns a h i. subst (λ u. IsOfValue (Const c) (term_value env u)) et (subst (λ v. IsOfValue v (term_value env term)) ev i) }
 
 -- the elements before one of them, and that one
 pub front_get : {X : Type 0} (xs : List X) (i : ℕ) (x : X) → slice_get xs i ≡ Some x → take (i + 1) xs ≡ take i xs ++ x ∷ []
@@ -109,10 +109,10 @@ period_get values i value e all = all_at HasSmallPeriod values value all (at_pla
 -- ---- the values of all terms
 
 -- lists of one length, one more
-values_more : (values : List Value) (tuple : List Datum) (value : Value) (datum : Datum) → length values ≡ length tuple → (IsOf values tuple × IsIn value datum → IsOf (values ++ value ∷ []) (tuple ++ datum ∷ [])) × (IsOf (values ++ value ∷ []) (tuple ++ datum ∷ []) → IsOf values tuple × IsIn value datum)
+values_more : (values : List Value) (tuple : List Datum) (value : Value) (datum : Datum) → length values ≡ length tuple → (IsOf values tuple × IsOfValue value datum → IsOf (values ++ value ∷ []) (tuple ++ datum ∷ [])) × (IsOf (values ++ value ∷ []) (tuple ++ datum ∷ []) → IsOf values tuple × IsOfValue value datum)
 values_more [] [] value datum e = one value datum
   where
-    one : (value : Value) (datum : Datum) → (Unit {0} × IsIn value datum → IsOf (value ∷ []) (datum ∷ [])) × (IsOf (value ∷ []) (datum ∷ []) → Unit {0} × IsIn value datum)
+    one : (value : Value) (datum : Datum) → (Unit {0} × IsOfValue value datum → IsOf (value ∷ []) (datum ∷ [])) × (IsOf (value ∷ []) (datum ∷ []) → Unit {0} × IsOfValue value datum)
     one (Point at) (time x) = ((λ h. (h.1, tt)), λ h. (tt, h.0))
     one (Point at) (text t) = ((λ h. h.1), λ h. absurd h)
     one (Const c) (time x) = ((λ h. h.1), λ h. absurd h)
@@ -140,10 +140,10 @@ module _ (domain : List Text) (times texts : List Identifier) where
   }
 
   module _ (values : List Value) (terms : List Term) (value : Value) (term : Term) (count : length values ≡ length terms) (old : Pattern) (w : IsWithValues domain times texts values terms old) where
-    split : (env : Assignment) → IsOf (values ++ value ∷ []) (map (term_value env) (terms ++ term ∷ [])) → IsOf values (map (term_value env) terms) × IsIn value (term_value env term)
+    split : (env : Assignment) → IsOf (values ++ value ∷ []) (map (term_value env) (terms ++ term ∷ [])) → IsOf values (map (term_value env) terms) × IsOfValue value (term_value env term)
     split env h = (values_more values (map (term_value env) terms) value (term_value env term) (count ∙ sym (length-map terms (term_value env)))).1 (subst (IsOf (values ++ value ∷ [])) (map_push env terms term) h)
 
-    both : (env : Assignment) → IsOf values (map (term_value env) terms) → IsIn value (term_value env term) → IsOf (values ++ value ∷ []) (map (term_value env) (terms ++ term ∷ []))
+    both : (env : Assignment) → IsOf values (map (term_value env) terms) → IsOfValue value (term_value env term) → IsOf (values ++ value ∷ []) (map (term_value env) (terms ++ term ∷ []))
     both env h i = subst (IsOf (values ++ value ∷ [])) (sym (map_push env terms term)) ((values_more values (map (term_value env) terms) value (term_value env term) (count ∙ sym (length-map terms (term_value env)))).0 (h, i))
 
     -- one more is
@@ -152,7 +152,7 @@ module _ (domain : List Text) (times texts : List Identifier) where
       size = v.size;
       to = λ env ns a h. let g = v.to env ns a h in both env (w.to env ns a g.0) g.1;
       from = λ env ns a h. let g = split env h in v.from env ns a (w.from env ns a g.0) g.1;
-      fits = λ k p high. let g = (all_append (HasPeriod (pos k)) values (value ∷ [])).0 p in v.fits k g.1.0 high (w.fits k g.0 high);
+      fits = λ k p high. let g = (all_append (DividesPeriod (pos k)) values (value ∷ [])).0 p in v.fits k g.1.0 high (w.fits k g.0 high);
       reach = λ k high le. v.reach k high le (w.reach k high le);
     }
 
@@ -197,18 +197,18 @@ next_of : (terms : List Term) (i : ℕ) (item : Term) → i < length terms → i
 next_of terms i item low is = drop_more terms i item low ∙ ap (λ u. u ∷ drop (i + 1) terms) (sym is)
 
 -- the first time among the terms that are left
-pub first_left : (env : Assignment) (terms : List Term) (i : ℕ) (item : Term) (t : TimeTerm) (n : ℕ) → i < length terms → item ≡ get_or terms i item → item ≡ time_term t → n ≡ 1 → time_at (times_in env (drop i terms)) n ≡ time_value env t
-first_left env terms i item t n low is e en = ap (λ l. time_at (times_in env l) n) (next_of terms i item low is ∙ ap (λ u. u ∷ drop (i + 1) terms) e) ∙ ap (time_at (time_value env t ∷ times_in env (drop (i + 1) terms))) en
+pub first_left : (env : Assignment) (terms : List Term) (i : ℕ) (item : Term) (t : TimeTerm) (n : ℕ) → i < length terms → item ≡ get_or terms i item → item ≡ time_term t → n ≡ 1 → time_at (term_times env (drop i terms)) n ≡ time_value env t
+first_left env terms i item t n low is e en = ap (λ l. time_at (term_times env l) n) (next_of terms i item low is ∙ ap (λ u. u ∷ drop (i + 1) terms) e) ∙ ap (time_at (time_value env t ∷ term_times env (drop (i + 1) terms))) en
 
 -- a later one, behind a time
-pub later_left : (env : Assignment) (terms : List Term) (i : ℕ) (item : Term) (t : TimeTerm) (n next : ℕ) → i < length terms → item ≡ get_or terms i item → item ≡ time_term t → n ≢ 1 → next ≡ n - 1 → time_at (times_in env (drop i terms)) n ≡ time_at (times_in env (drop (i + 1) terms)) next
-later_left env terms i item t n next low is e other en = ap (λ l. time_at (times_in env l) n) (next_of terms i item low is ∙ ap (λ u. u ∷ drop (i + 1) terms) e) ∙ behind (time_value env t) (times_in env (drop (i + 1) terms)) n other ∙ ap (time_at (times_in env (drop (i + 1) terms))) (sym en)
+pub later_left : (env : Assignment) (terms : List Term) (i : ℕ) (item : Term) (t : TimeTerm) (n next : ℕ) → i < length terms → item ≡ get_or terms i item → item ≡ time_term t → n ≢ 1 → next ≡ n - 1 → time_at (term_times env (drop i terms)) n ≡ time_at (term_times env (drop (i + 1) terms)) next
+later_left env terms i item t n next low is e other en = ap (λ l. time_at (term_times env l) n) (next_of terms i item low is ∙ ap (λ u. u ∷ drop (i + 1) terms) e) ∙ behind (time_value env t) (term_times env (drop (i + 1) terms)) n other ∙ ap (time_at (term_times env (drop (i + 1) terms))) (sym en)
 
 -- a text is not counted
-pub text_left : (env : Assignment) (terms : List Term) (i : ℕ) (item : Term) (n next : ℕ) → i < length terms → item ≡ get_or terms i item → ((t : TimeTerm) → item ≡ time_term t → ⊥) → next ≡ n → time_at (times_in env (drop i terms)) n ≡ time_at (times_in env (drop (i + 1) terms)) next
-text_left env terms i item n next low is none en = ap (λ l. time_at (times_in env l) n) (next_of terms i item low is) ∙ by item none ∙ ap (time_at (times_in env (drop (i + 1) terms))) (sym en)
+pub text_left : (env : Assignment) (terms : List Term) (i : ℕ) (item : Term) (n next : ℕ) → i < length terms → item ≡ get_or terms i item → ((t : TimeTerm) → item ≡ time_term t → ⊥) → next ≡ n → time_at (term_times env (drop i terms)) n ≡ time_at (term_times env (drop (i + 1) terms)) next
+text_left env terms i item n next low is none en = ap (λ l. time_at (term_times env l) n) (next_of terms i item low is) ∙ by item none ∙ ap (time_at (term_times env (drop (i + 1) terms))) (sym en)
   where
-    by : (u : Term) → ((t : TimeTerm) → u ≡ time_term t → ⊥) → time_at (times_in env (u ∷ drop (i + 1) terms)) n ≡ time_at (times_in env (drop (i + 1) terms)) n
+    by : (u : Term) → ((t : TimeTerm) → u ≡ time_term t → ⊥) → time_at (term_times env (u ∷ drop (i + 1) terms)) n ≡ time_at (term_times env (drop (i + 1) terms)) n
     by (time_term t) h = absurd (h t refl)
     by (data_term t) h = refl
 
@@ -243,14 +243,14 @@ zip_to_all P Q (x ∷ xs) (y ∷ ys) e f h zero d low = f 0 x y (omega arith) h.
 zip_to_all P Q (x ∷ xs) (y ∷ ys) e f h (suc k) d low = zip_to_all P Q xs ys (omega (arith, e)) (λ i a b l. f (suc i) a b (omega (arith, l))) h.1 k d (omega (arith, low))
 
 -- a bound of sides, as one of their columns
-pub shift_bound : (times : List Identifier) (terms : List Term) (bound new : Bound) (l r : Side) → ((env : Assignment) → side_value l (map env.times times) ≡ time_at (times_in env terms) bound.left) → ((env : Assignment) → side_value r (map env.times times) ≡ time_at (times_in env terms) bound.right)
+pub shift_bound : (times : List Identifier) (terms : List Term) (bound new : Bound) (l r : Side) → ((env : Assignment) → side_value l (map env.times times) ≡ time_at (term_times env terms) bound.left) → ((env : Assignment) → side_value r (map env.times times) ≡ time_at (term_times env terms) bound.right)
     → l.column ≤ length times → r.column ≤ length times → nat_abs l.plus ≤ greatest (flat_map term_magnitudes terms) → nat_abs r.plus ≤ greatest (flat_map term_magnitudes terms) → new.left ≡ l.column → new.right ≡ r.column → new.most ≡ (bound.most -ℤ l.plus) +ℤ r.plus → IsShifted times terms bound new
 shift_bound times terms bound new l r lv rv lc rc ls rs el er em = record {
   left = subst (λ n. n ≤ length times) (sym el) lc;
   right = subst (λ n. n ≤ length times) (sym er) rc;
   small = size (nat_abs new.most) (greatest (flat_map term_magnitudes terms)) new.most bound.most l.plus r.plus em ls rs refl;
-  to = λ env h. to_it new.most bound.most l.plus r.plus (node (map env.times times) l.column) (node (map env.times times) r.column) (time_at (times_in env terms) bound.left) (time_at (times_in env terms) bound.right) em (lv env) (rv env) (subst (λ n. (node (map env.times times) n -ℤ node (map env.times times) r.column) ≤ℤ new.most) el (subst (λ n. (node (map env.times times) new.left -ℤ node (map env.times times) n) ≤ℤ new.most) er h));
-  from = λ env h. subst (λ n. (node (map env.times times) n -ℤ node (map env.times times) new.right) ≤ℤ new.most) (sym el) (subst (λ n. (node (map env.times times) l.column -ℤ node (map env.times times) n) ≤ℤ new.most) (sym er) (from_it new.most bound.most l.plus r.plus (node (map env.times times) l.column) (node (map env.times times) r.column) (time_at (times_in env terms) bound.left) (time_at (times_in env terms) bound.right) em (lv env) (rv env) h));
+  to = λ env h. to_it new.most bound.most l.plus r.plus (node (map env.times times) l.column) (node (map env.times times) r.column) (time_at (term_times env terms) bound.left) (time_at (term_times env terms) bound.right) em (lv env) (rv env) (subst (λ n. (node (map env.times times) n -ℤ node (map env.times times) r.column) ≤ℤ new.most) el (subst (λ n. (node (map env.times times) new.left -ℤ node (map env.times times) n) ≤ℤ new.most) er h));
+  from = λ env h. subst (λ n. (node (map env.times times) n -ℤ node (map env.times times) new.right) ≤ℤ new.most) (sym el) (subst (λ n. (node (map env.times times) l.column -ℤ node (map env.times times) n) ≤ℤ new.most) (sym er) (from_it new.most bound.most l.plus r.plus (node (map env.times times) l.column) (node (map env.times times) r.column) (time_at (term_times env terms) bound.left) (time_at (term_times env terms) bound.right) em (lv env) (rv env) h));
 }
   where
     size : (a g : ℕ) (m b p q : ℤ) → m ≡ (b -ℤ p) +ℤ q → nat_abs p ≤ g → nat_abs q ≤ g → a ≡ nat_abs m → a ≤ nat_abs b + 2 * g
@@ -288,7 +288,7 @@ module _ (bounds : List Bound) (columns : ℕ) (rs : List ℤ) (count : length r
     };
   }
 
-  met_given : (xs : List ℤ) → length xs ≡ columns → AreMet bounds xs → MeetsGiven (pos 1) rs bounds xs
+  met_given : (xs : List ℤ) → length xs ≡ columns → MeetsEach bounds xs → MeetsGiven (pos 1) rs bounds xs
   met_given xs e h = record { count = e ∙ sym count; residues = record { each = λ p low. one_divides _ }; meets = λ i low. h i none_at low }
 
   pub bounded_none : HasNone (pos 1) rs bounds → HasNoBounded bounds columns
@@ -351,11 +351,11 @@ bound_room bounds terms i d room low = by (nat_abs (get_or bounds i d).most) (gr
 
 module _ (times : List Identifier) (terms : List Term) (old new : List Bound) (are : AreShifted times terms old new) where
   -- the shifted bounds are met where the others are
-  pub shifted_to : (env : Assignment) → AreMet new (map env.times times) → AllByRecursion (Meets (times_in env terms)) old
-  shifted_to env = all_to_zip (λ (b : Bound). (node (map env.times times) b.left -ℤ node (map env.times times) b.right) ≤ℤ b.most) (Meets (times_in env terms)) new old are.count (λ i x y low. (are.each i x y low).to env)
+  pub shifted_to : (env : Assignment) → MeetsEach new (map env.times times) → AllByRecursion (Meets (term_times env terms)) old
+  shifted_to env = all_to_zip (λ (b : Bound). (node (map env.times times) b.left -ℤ node (map env.times times) b.right) ≤ℤ b.most) (Meets (term_times env terms)) new old are.count (λ i x y low. (are.each i x y low).to env)
 
-  pub shifted_from : (env : Assignment) → AllByRecursion (Meets (times_in env terms)) old → AreMet new (map env.times times)
-  shifted_from env = zip_to_all (λ (b : Bound). (node (map env.times times) b.left -ℤ node (map env.times times) b.right) ≤ℤ b.most) (Meets (times_in env terms)) new old are.count (λ i x y low. (are.each i x y low).from env)
+  pub shifted_from : (env : Assignment) → AllByRecursion (Meets (term_times env terms)) old → MeetsEach new (map env.times times)
+  shifted_from env = zip_to_all (λ (b : Bound). (node (map env.times times) b.left -ℤ node (map env.times times) b.right) ≤ℤ b.most) (Meets (term_times env terms)) new old are.count (λ i x y low. (are.each i x y low).from env)
 
   pub shifted_between : All (λ (b : Bound). (b.left ≤ length times) × (b.right ≤ length times)) new
   shifted_between k d low = let s = are.each k d d low in (s.left, s.right)

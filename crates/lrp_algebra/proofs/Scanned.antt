@@ -13,7 +13,7 @@ use Rattle.lrp_theory.proofs.Modulo.{small_multiple}
 use Rattle.lrp_model.specs.Reach.{greatest, scan_reach}
 use Rattle.lrp_model.specs.Rows.{time, text, IsInRow}
 use Rattle.lrp_model.specs.Satisfaction.{Assignment, term_value}
-use Rattle.lrp_model.specs.Sorts.{is_time, is_data}
+use Rattle.lrp_model.specs.Sorts.{is_time, is_data, FitsColumn as FitsIn, time_count, text_count}
 use Rattle.lrp_model.specs.Texts.{Text, Identifier, Ascends}
 use Rattle.lrp_model.specs.declared.formulas.DataTerm.TheVariants.{Var as data_var, Const as data_const}
 use Rattle.lrp_model.specs.declared.formulas.Term.{Term}
@@ -33,7 +33,7 @@ use Rattle.lrp_store.specs.Stores.{StoreView, IsStore, HasReach}
 use Rattle.lrp_store.specs.Tables.{AreTexts}
 use Rattle.lrp_store.specs.declared.table.Table.{Table}
 use Rattle.lrp_store.proofs.Grown.{Set}
-use Rattle.lrp_tables.specs.Calls.{CanScan, CanBeRow, CanStand, Suits as FitsIn, time_count, text_count}
+use Rattle.lrp_tables.specs.Calls.{CanScan, CanBeRow, CanStand}
 use Rattle.lrp_tables.specs.Caps.{InhabitsMoreThan}
 use Rattle.lrp_tables.specs.Columns.{scan_times, scan_texts, texts_of_term, times_of_term}
 use Rattle.lrp_tables.specs.Tables.{AreNamesAmong, HasTexts, IsScanned, IsTableOf}
@@ -42,7 +42,7 @@ use Rattle.lrp_tables.proofs.HeadNames.{pairs_apart}
 use Rattle.lrp_tables.proofs.Joining.{joint_differs, in_joint_right}
 use Rattle.lrp_tables.proofs.Named.{some_is}
 use Rattle.lrp_algebra.specs.Patterns.{IsOver, Suits}
-use Rattle.lrp_algebra.specs.Rows.{bounds_reach, offsets_reach, CanBeRead, HasPeriod, HasSmallPeriod, HasNoRow, IsOfRow, IsRowTuple}
+use Rattle.lrp_algebra.specs.Rows.{bounds_reach, offsets_reach, CanBeRead, DividesPeriod, HasSmallPeriod, HasNoRow, IsOfRow, IsRowTuple}
 use Rattle.lrp_algebra.specs.declared.pattern.Pattern.{Pattern}
 use Rattle.lrp_algebra.proofs.Leaves.{joint_short}
 use Rattle.lrp_algebra.proofs.Parts.{IsGathering, gathering_none, gathering_more, gathering_refused, gathered}
@@ -158,13 +158,13 @@ module _ (domain : List Text) (period : ℤ) (one : pos 1 ≤ℤ period) (top : 
       by (Point at) s = (s.1, (let l : at.period ≤ℤ period = divisor_low at.period period s.1 one s.2 in omega (arith, ints, l, top)))
       by (Const t) s = tt
 
-  values_divide : (k : ℤ) → period ≡ k → (columns : List Column) (values : List Value) → AllZip (CanStand domain period) columns values → AllByRecursion (HasPeriod k) values
+  values_divide : (k : ℤ) → period ≡ k → (columns : List Column) (values : List Value) → AllZip (CanStand domain period) columns values → AllByRecursion (DividesPeriod k) values
   values_divide k e [] [] a = tt
   values_divide k e [] (v ∷ vs) a = absurd a
   values_divide k e (c ∷ cs) [] a = absurd a
   values_divide k e (c ∷ cs) (v ∷ vs) a = (by v a.0, values_divide k e cs vs a.1)
     where
-      by : (v : Value) → CanStand domain period c v → HasPeriod k v
+      by : (v : Value) → CanStand domain period c v → DividesPeriod k v
       by (Point at) s = (s.1, subst (Divides at.period) e s.2)
       by (Const t) s = tt
 
@@ -335,8 +335,8 @@ module _ (domain : List Text) (ascends : Ascends domain) (relation : Relation) (
       pub row_texts : length texts ≡ out.shape.texts
       row_texts = ap (λ (q : Shape). q.texts) (sym (same_shape ∙ start_shape))
 
-      pub row_periods : AllByRecursion (HasPeriod (pos out.period)) row.values
-      row_periods = subst (λ n. AllByRecursion (HasPeriod (pos n)) row.values) (sym out_period) (values_divide domain period one top (pos k) (sym (abs_is period one)) relation.columns row.values row_can.values)
+      pub row_periods : AllByRecursion (DividesPeriod (pos out.period)) row.values
+      row_periods = subst (λ n. AllByRecursion (DividesPeriod (pos n)) row.values) (sym out_period) (values_divide domain period one top (pos k) (sym (abs_is period one)) relation.columns row.values row_can.values)
 
       pub row_room : bounds_reach row.bounds terms + out.period ≤ 2 ^ 62
       row_room = subst (λ n. bounds_reach row.bounds terms + n ≤ 2 ^ 62) (sym out_period) (by (bounds_reach row.bounds terms + k) high row_high room)

@@ -6,7 +6,7 @@ use Rattle.std.specs.FinMap as finite
 use Rattle.std.proofs.lemmas.List.{length-take-le, length-map, get_or-take}
 use Rattle.std.proofs.lemmas.Option.{slice_get-get_or, slice_get_within}
 use Rattle.std.proofs.lemmas.List.Elements.{Contains-get_or}
-use Rattle.lrp_model.specs.Texts.{Text, Identifier}
+use Rattle.lrp_model.specs.Texts.{Text, Identifier, without}
 use Rattle.lrp_model.specs.Rows.{text}
 use Rattle.lrp_model.specs.Satisfaction.{Assignment, with_value}
 use Rattle.lrp_zone.specs.Zones.{IsZone, IsMember, reach_of}
@@ -17,9 +17,8 @@ use Rattle.lrp_store.specs.declared.table.Table.{Table}
 use Rattle.lrp_store.proofs.Grown.{grown_same}
 use Rattle.lrp_store.proofs.Aligning.{nothing_held}
 use Rattle.lrp_algebra.specs.Columns.{IsCut}
-use Rattle.lrp_tables.specs.Columns.{others}
 use Rattle.lrp_tables.specs.Pieces.{InPiece, Fits}
-use Rattle.lrp_tables.specs.Passes.{IsMade}
+use Rattle.lrp_tables.specs.Passes.{IsMadeFrom}
 use Rattle.lrp_algebra.specs.Tuples.{IsWithoutText, IsStoreWithoutText}
 use Rattle.lrp_tables.specs.Tables.{Has}
 use Rattle.lrp_algebra.specs.Tables.{IsTextDropped}
@@ -36,7 +35,7 @@ use Rattle.lrp_algebra.proofs.TimeDropped.{spare_same, same_spare}
 module _ (piece : Piece) (place size : ℕ) (s : StoreView) (is : IsStore s) (low : place ≤ s.shape.texts) (short : s.shape.texts < 8) (fits : Fits (record { times = s.shape.times; texts = s.shape.texts + 1 }) s.period piece) where
   -- what is left of the tuples of the zone
   abbrev pub Left : List ℤ → List ℕ → Type 0
-  Left = IsMade (IsWithoutText place size) (InPiece (s.shape.texts + 1) piece)
+  Left = IsMadeFrom (IsWithoutText place size) (InPiece (s.shape.texts + 1) piece)
 
   -- all the numbers of the cell
   abbrev numbers : List ℕ
@@ -112,10 +111,10 @@ pub number_text : (domain : List Text) (n : ℕ) → n < length domain → (t : 
 number_text domain n h = (get_or domain n [], Contains-get_or domain n [] h, slice_get-get_or domain n [] h)
 
 -- a table without one data column, or its copy or no assignment where there is none of the name
-module _ (domain : List Text) (name : Identifier) (old new : Table) (times : new.vars.times ≡ old.vars.times) (texts : new.vars.texts ≡ others name old.vars.texts) (differ : AllPairs ◌≢◌ (old.vars.times ++ old.vars.texts)) (is_old : IsStore old.store) (is_new : IsStore new.store) where
+module _ (domain : List Text) (name : Identifier) (old new : Table) (times : new.vars.times ≡ old.vars.times) (texts : new.vars.texts ≡ without name old.vars.texts) (differ : AllPairs ◌≢◌ (old.vars.times ++ old.vars.texts)) (is_old : IsStore old.store) (is_new : IsStore new.store) where
   -- the columns of the new table
   abbrev Old : Assignment → Type 0
-  Old env = InTable domain old.vars.times (others name old.vars.texts) new.store env
+  Old env = InTable domain old.vars.times (without name old.vars.texts) new.store env
 
   to_old : (env : Assignment) → Has new domain env → Old env
   to_old env h = subst (λ ts. InTable domain old.vars.times ts new.store env) texts (subst (λ vs. InTable domain vs new.vars.texts new.store env) times h)
@@ -129,14 +128,14 @@ module _ (domain : List Text) (name : Identifier) (old new : Table) (times : new
     differ_texts = pairs_right ◌≢◌ old.vars.times old.vars.texts differ
 
     -- the texts with one for the name
-    values : (env : Assignment) (t : Text) → map (with_value name (text t) env).texts old.vars.texts ≡ insert (map env.texts (others name old.vars.texts)) place t
+    values : (env : Assignment) (t : Text) → map (with_value name (text t) env).texts old.vars.texts ≡ insert (map env.texts (without name old.vars.texts)) place t
     values env t = inserted env.texts name t old.vars.texts place differ_texts at
 
-    room : (env : Assignment) → place ≤ length (map env.texts (others name old.vars.texts))
+    room : (env : Assignment) → place ≤ length (map env.texts (without name old.vars.texts))
     room env =
-        let a : length (others name old.vars.texts) + 1 ≡ length old.vars.texts = others_fewer name old.vars.texts place differ_texts at in
+        let a : length (without name old.vars.texts) + 1 ≡ length old.vars.texts = others_fewer name old.vars.texts place differ_texts at in
         let b : place < length old.vars.texts = slice_get_within old.vars.texts place name at in
-        let c : length (map env.texts (others name old.vars.texts)) ≡ length (others name old.vars.texts) = length-map (others name old.vars.texts) env.texts in omega arith
+        let c : length (map env.texts (without name old.vars.texts)) ≡ length (without name old.vars.texts) = length-map (without name old.vars.texts) env.texts in omega arith
 
     to_dropped : (env : Assignment) → Old env → (t : Text) × Contains domain t × Has old domain (with_value name (text t) env)
     to_dropped env h =
@@ -146,14 +145,14 @@ module _ (domain : List Text) (name : Identifier) (old new : Table) (times : new
           t.1,
           (
             insert h.0 place g.made.value,
-            subst (λ ts. AreTexts domain (insert h.0 place g.made.value) ts) (sym (values env t.0)) (zip_insert (λ n u. slice_get domain n ≡ Some u) h.0 (map env.texts (others name old.vars.texts)) place g.made.value t.0 (room env) h.1 t.2),
+            subst (λ ts. AreTexts domain (insert h.0 place g.made.value) ts) (sym (values env t.0)) (zip_insert (λ n u. slice_get domain n ≡ Some u) h.0 (map env.texts (without name old.vars.texts)) place g.made.value t.0 (room env) h.1 t.2),
             subst (λ ns. InStore old.store (map env.times old.vars.times) ns) g.made.texts_are (subst (λ xs. InStore old.store xs g.old_texts) g.made.times_are g.is),
           ),
         )
 
     of_dropped : (env : Assignment) (t : Text) → Has old domain (with_value name (text t) env) → Old env
     of_dropped env t h =
-        let g = zip_removed (λ n u. slice_get domain n ≡ Some u) h.0 (map env.texts (others name old.vars.texts)) place t (room env) (subst (λ ts. AreTexts domain h.0 ts) (values env t) h.1) in (
+        let g = zip_removed (λ n u. slice_get domain n ≡ Some u) h.0 (map env.texts (without name old.vars.texts)) place t (room env) (subst (λ ts. AreTexts domain h.0 ts) (values env t) h.1) in (
           g.rest,
           g.pairs,
           m.made.same.whole (map env.times old.vars.times) g.rest (record {
@@ -178,7 +177,7 @@ module _ (domain : List Text) (name : Identifier) (old new : Table) (times : new
 
   -- no column has the name
   module _ (none : Contains old.vars.texts name → ⊥) where
-    kept : (env : Assignment) (t : Text) → map (with_value name (text t) env).texts old.vars.texts ≡ map env.texts (others name old.vars.texts)
+    kept : (env : Assignment) (t : Text) → map (with_value name (text t) env).texts old.vars.texts ≡ map env.texts (without name old.vars.texts)
     kept env t = unchanged env.texts name t old.vars.texts none ∙ ap (map env.texts) (sym (others_all name old.vars.texts none))
 
     module _ (same : new.store ≡ record old.store { spare = new.store.spare }) (some : 0 < length domain) where
@@ -221,7 +220,7 @@ StoreOf domain name old new =
 
 module _ (domain : List Text) (name : Identifier) (old : Table) (differ : AllPairs ◌≢◌ (old.vars.times ++ old.vars.texts)) where
   -- each has what is left of the assignments
-  pub either_dropped : (new : Table) → new.vars.times ≡ old.vars.times → new.vars.texts ≡ others name old.vars.texts → StoreOf domain name old new.store → IsStore old.store → IsStore new.store → IsTextDropped domain name old new
+  pub either_dropped : (new : Table) → new.vars.times ≡ old.vars.times → new.vars.texts ≡ without name old.vars.texts → StoreOf domain name old new.store → IsStore old.store → IsStore new.store → IsTextDropped domain name old new
   either_dropped new times texts h is_old is_new = elim h [
     | inl g ↦ texts_dropped domain name old new times texts differ is_old is_new g.0 g.1 (length domain) refl g.2
     | inr g ↦ elim g.1 [
@@ -231,10 +230,10 @@ module _ (domain : List Text) (name : Identifier) (old : Table) (differ : AllPai
   ]
 
   -- a column for each name
-  pub either_texts : (new : StoreView) → length old.vars.texts ≡ old.store.shape.texts → StoreOf domain name old new → length (others name old.vars.texts) ≡ new.shape.texts
+  pub either_texts : (new : StoreView) → length old.vars.texts ≡ old.store.shape.texts → StoreOf domain name old new → length (without name old.vars.texts) ≡ new.shape.texts
   either_texts new named h = elim h [
     | inl g ↦ (
-        let a : length (others name old.vars.texts) + 1 ≡ length old.vars.texts = others_fewer name old.vars.texts g.0 (pairs_right ◌≢◌ old.vars.times old.vars.texts differ) g.1 in
+        let a : length (without name old.vars.texts) + 1 ≡ length old.vars.texts = others_fewer name old.vars.texts g.0 (pairs_right ◌≢◌ old.vars.times old.vars.texts differ) g.1 in
         let b : new.shape.texts + 1 ≡ old.store.shape.texts = g.2.texts in omega arith
         )
     | inr g ↦ elim g.1 [

@@ -4,7 +4,7 @@ use Rattle.std.specs.Prelude.{ℤ, pos, All, AllPairs, ◌≢◌, slice_get}
 use Rattle.std.specs.List.{insert, remove}
 use Rattle.std.proofs.lemmas.List.{length-take-le}
 use Rattle.std.proofs.lemmas.List.Edits.{length-remove}
-use Rattle.lrp_model.specs.Texts.{Text, Identifier}
+use Rattle.lrp_model.specs.Texts.{Text, Identifier, without}
 use Rattle.lrp_model.specs.Rows.{time}
 use Rattle.lrp_model.specs.Satisfaction.{Assignment, with_value}
 use Rattle.lrp_zone.specs.Zones.{ZoneView, IsZone, IsMember, columns_of, reach_of}
@@ -13,9 +13,8 @@ use Rattle.lrp_store.specs.Stores.{StoreView, IsStore, InStore, HasReach, zone_o
 use Rattle.lrp_store.specs.Tables.{InTable, AreNumbered}
 use Rattle.lrp_store.specs.declared.table.Table.{Table}
 use Rattle.lrp_algebra.specs.Columns.{IsCut}
-use Rattle.lrp_tables.specs.Columns.{others}
 use Rattle.lrp_tables.specs.Pieces.{InPiece, Fits}
-use Rattle.lrp_tables.specs.Passes.{IsMade}
+use Rattle.lrp_tables.specs.Passes.{IsMadeFrom}
 use Rattle.lrp_algebra.specs.Tuples.{IsWithoutTime, IsStoreWithoutTime}
 use Rattle.lrp_tables.specs.Tables.{Has}
 use Rattle.lrp_algebra.specs.Tables.{IsTimeDropped}
@@ -43,7 +42,7 @@ module _ (piece : Piece) (place : ℕ) (s : StoreView) (is : IsStore s) (low : p
       taken : length (take (s.shape.times + 1) piece.cell.residues) ≡ s.shape.times + 1
       taken = length-take-le (s.shape.times + 1) piece.cell.residues (let e : length piece.cell.residues ≡ 8 = fits.cell.residues.size in omega arith)
 
-  to_made : (xs : List ℤ) → IsMember w xs → IsMade (IsWithoutTime place) (InPiece s.shape.texts piece) xs (take s.shape.texts piece.cell.texts)
+  to_made : (xs : List ℤ) → IsMember w xs → IsMadeFrom (IsWithoutTime place) (InPiece s.shape.texts piece) xs (take s.shape.texts piece.cell.texts)
   to_made xs m =
       let v = d.to xs m in
       record {
@@ -53,14 +52,14 @@ module _ (piece : Piece) (place : ℕ) (s : StoreView) (is : IsStore s) (low : p
         made = record { value = v.0; times_are = refl; texts_are = refl };
       }
 
-  from_made : (xs : List ℤ) (ns : List ℕ) → IsMade (IsWithoutTime place) (InPiece s.shape.texts piece) xs ns → IsMember w xs × (take s.shape.texts piece.cell.texts ≡ ns)
+  from_made : (xs : List ℤ) (ns : List ℕ) → IsMadeFrom (IsWithoutTime place) (InPiece s.shape.texts piece) xs ns → IsMember w xs × (take s.shape.texts piece.cell.texts ≡ ns)
   from_made xs ns h =
       let inside : IsMember piece.zone (insert xs place h.made.value) = subst (λ l. IsMember piece.zone l) h.made.times_are h.is.member in
       let count : length (insert xs place h.made.value) ≡ columns_of piece.zone = inside.cell.count in
       let longer = length_insert xs place h.made.value in
       (d.from xs h.made.value (omega (arith, count, longer, columns)) (subst (λ i. IsMember piece.zone (insert xs i h.made.value)) (sym before) inside), h.is.same ∙ h.made.texts_are)
 
-  pub time_dropped : IsZoneOf (IsMade (IsWithoutTime place) (InPiece s.shape.texts piece)) s (record { texts = piece.cell.texts; residues = residues }) w (2 * reach_of piece.zone)
+  pub time_dropped : IsZoneOf (IsMadeFrom (IsWithoutTime place) (InPiece s.shape.texts piece)) s (record { texts = piece.cell.texts; residues = residues }) w (2 * reach_of piece.zone)
   time_dropped = record {
     zone = zone;
     period = d.period ∙ fits.period_is;
@@ -92,34 +91,34 @@ fits_longer s out place low shape period piece fits =
     (subst (λ m. Fits (record { times = out.shape.times + 1; texts = m }) s.period piece) (sym (ap (λ h. h.texts) shape)) (subst (λ n. Fits (record { times = n; texts = s.shape.texts }) s.period piece) times fits))
 
 -- a table without one time column, or its copy where there is none of the name
-module _ (name : Identifier) (old new : Table) (times : new.vars.times ≡ others name old.vars.times) (texts : new.vars.texts ≡ old.vars.texts) (differ : AllPairs ◌≢◌ (old.vars.times ++ old.vars.texts)) (is_old : IsStore old.store) (is_new : IsStore new.store) where
+module _ (name : Identifier) (old new : Table) (times : new.vars.times ≡ without name old.vars.times) (texts : new.vars.texts ≡ old.vars.texts) (differ : AllPairs ◌≢◌ (old.vars.times ++ old.vars.texts)) (is_old : IsStore old.store) (is_new : IsStore new.store) where
   -- the columns of the new table
   abbrev Old : List Text → Assignment → Type 0
-  Old domain env = InTable domain (others name old.vars.times) old.vars.texts new.store env
+  Old domain env = InTable domain (without name old.vars.times) old.vars.texts new.store env
 
   to_old : (domain : List Text) (env : Assignment) → Has new domain env → Old domain env
-  to_old domain env h = subst (λ ts. InTable domain (others name old.vars.times) ts new.store env) texts (subst (λ vs. InTable domain vs new.vars.texts new.store env) times h)
+  to_old domain env h = subst (λ ts. InTable domain (without name old.vars.times) ts new.store env) texts (subst (λ vs. InTable domain vs new.vars.texts new.store env) times h)
 
   of_old : (domain : List Text) (env : Assignment) → Old domain env → Has new domain env
-  of_old domain env h = subst (λ vs. InTable domain vs new.vars.texts new.store env) (sym times) (subst (λ ts. InTable domain (others name old.vars.times) ts new.store env) (sym texts) h)
+  of_old domain env h = subst (λ vs. InTable domain vs new.vars.texts new.store env) (sym times) (subst (λ ts. InTable domain (without name old.vars.times) ts new.store env) (sym texts) h)
 
   -- the name is that of a column
   module _ (place : ℕ) (at : slice_get old.vars.times place ≡ Some name) (m : IsStoreWithoutTime place old.store new.store) where
     -- the times with a value for the name
-    values : (env : Assignment) (x : ℤ) → map (with_value name (time x) env).times old.vars.times ≡ insert (map env.times (others name old.vars.times)) place x
+    values : (env : Assignment) (x : ℤ) → map (with_value name (time x) env).times old.vars.times ≡ insert (map env.times (without name old.vars.times)) place x
     values env x = inserted env.times name x old.vars.times place (pairs_left ◌≢◌ old.vars.times old.vars.texts differ) at
 
     to_dropped : (domain : List Text) (env : Assignment) → Old domain env → (x : ℤ) × Has old domain (with_value name (time x) env)
     to_dropped domain env h =
-        let g = m.made.same.sound (map env.times (others name old.vars.times)) h.0 h.2 in
+        let g = m.made.same.sound (map env.times (without name old.vars.times)) h.0 h.2 in
         (g.made.value, (h.0, h.1, subst (λ ns. InStore old.store (map (with_value name (time g.made.value) env).times old.vars.times) ns) g.made.texts_are (subst (λ xs. InStore old.store xs g.old_texts) (g.made.times_are ∙ sym (values env g.made.value)) g.is)))
 
     of_dropped : (domain : List Text) (env : Assignment) (x : ℤ) → Has old domain (with_value name (time x) env) → Old domain env
     of_dropped domain env x h = (
       h.0,
       h.1,
-      m.made.same.whole (map env.times (others name old.vars.times)) h.0 (record {
-        old_times = insert (map env.times (others name old.vars.times)) place x;
+      m.made.same.whole (map env.times (without name old.vars.times)) h.0 (record {
+        old_times = insert (map env.times (without name old.vars.times)) place x;
         old_texts = h.0;
         is = subst (λ xs. InStore old.store xs h.0) (values env x) h.2;
         made = record { value = x; times_are = refl; texts_are = refl };
@@ -139,14 +138,14 @@ module _ (name : Identifier) (old new : Table) (times : new.vars.times ≡ other
 
   -- no column has the name
   module _ (none : Contains old.vars.times name → ⊥) (same : new.store ≡ record old.store { spare = new.store.spare }) where
-    kept : (env : Assignment) (x : ℤ) → map (with_value name (time x) env).times old.vars.times ≡ map env.times (others name old.vars.times)
+    kept : (env : Assignment) (x : ℤ) → map (with_value name (time x) env).times old.vars.times ≡ map env.times (without name old.vars.times)
     kept env x = unchanged env.times name x old.vars.times none ∙ ap (map env.times) (sym (others_all name old.vars.times none))
 
     to_kept : (domain : List Text) (env : Assignment) → Old domain env → (x : ℤ) × Has old domain (with_value name (time x) env)
-    to_kept domain env h = (pos 0, (h.0, h.1, subst (λ xs. InStore old.store xs h.0) (sym (kept env (pos 0))) (same_spare old.store new.store.spare _ h.0 (subst (λ s. InStore s (map env.times (others name old.vars.times)) h.0) same h.2))))
+    to_kept domain env h = (pos 0, (h.0, h.1, subst (λ xs. InStore old.store xs h.0) (sym (kept env (pos 0))) (same_spare old.store new.store.spare _ h.0 (subst (λ s. InStore s (map env.times (without name old.vars.times)) h.0) same h.2))))
 
     of_kept : (domain : List Text) (env : Assignment) (x : ℤ) → Has old domain (with_value name (time x) env) → Old domain env
-    of_kept domain env x h = (h.0, h.1, subst (λ s. InStore s (map env.times (others name old.vars.times)) h.0) (sym same) (spare_same old.store new.store.spare _ h.0 (subst (λ xs. InStore old.store xs h.0) (kept env x) h.2)))
+    of_kept domain env x h = (h.0, h.1, subst (λ s. InStore s (map env.times (without name old.vars.times)) h.0) (sym same) (spare_same old.store new.store.spare _ h.0 (subst (λ xs. InStore old.store xs h.0) (kept env x) h.2)))
 
     pub table_copied : IsTimeDropped name old new
     table_copied = record {
@@ -165,17 +164,17 @@ StoreOf name old new = ((place : ℕ) × (slice_get old.vars.times place ≡ Som
 
 module _ (name : Identifier) (old : Table) (differ : AllPairs ◌≢◌ (old.vars.times ++ old.vars.texts)) where
   -- either has what is left of the assignments
-  pub either_dropped : (new : Table) → new.vars.times ≡ others name old.vars.times → new.vars.texts ≡ old.vars.texts → StoreOf name old new.store → IsStore old.store → IsStore new.store → IsTimeDropped name old new
+  pub either_dropped : (new : Table) → new.vars.times ≡ without name old.vars.times → new.vars.texts ≡ old.vars.texts → StoreOf name old new.store → IsStore old.store → IsStore new.store → IsTimeDropped name old new
   either_dropped new times texts h is_old is_new = elim h [
     | inl g ↦ table_dropped name old new times texts differ is_old is_new g.0 g.1 g.2
     | inr g ↦ table_copied name old new times texts differ is_old is_new g.0 g.1
   ]
 
   -- a column for each name
-  pub either_times : (new : StoreView) → length old.vars.times ≡ old.store.shape.times → StoreOf name old new → length (others name old.vars.times) ≡ new.shape.times
+  pub either_times : (new : StoreView) → length old.vars.times ≡ old.store.shape.times → StoreOf name old new → length (without name old.vars.times) ≡ new.shape.times
   either_times new named h = elim h [
     | inl g ↦ (
-        let a : length (others name old.vars.times) + 1 ≡ length old.vars.times = others_fewer name old.vars.times g.0 (pairs_left ◌≢◌ old.vars.times old.vars.texts differ) g.1 in
+        let a : length (without name old.vars.times) + 1 ≡ length old.vars.times = others_fewer name old.vars.times g.0 (pairs_left ◌≢◌ old.vars.times old.vars.texts differ) g.1 in
         let b : new.shape.times + 1 ≡ old.store.shape.times = g.2.times in omega arith
         )
     | inr g ↦ ap length (others_all name old.vars.times g.0) ∙ named ∙ ap (λ s. s.shape.times) (sym g.1)

@@ -1,9 +1,8 @@
 -- What the rows of a relation ask of the values of an atom's terms.
 use Rattle.std.specs.Prelude.{◌≡◌, ℕ, ℤ, ◌+◌, ◌*◌, ◌<◌, ◌≤◌, ◌^◌, ◌≤ℤ◌, ◌-ℤ◌, pos, nat_abs, List, All, map, flat_map, length}
 use Rattle.std.specs.List.{AllByRecursion}
-use Rattle.lrp_theory.specs.Divides.{Divides}
+use Rattle.lrp_theory.specs.Divides.{Divides, IsMember}
 use Rattle.lrp_theory.specs.Entries.{node}
-use Rattle.lrp_model.specs.Points.{IsMember}
 use Rattle.lrp_model.specs.Reach.{greatest, term_magnitudes}
 use Rattle.lrp_model.specs.Rows.{Datum, time, text, times_of, IsOf, IsInRow, Meets}
 use Rattle.lrp_model.specs.Satisfaction.{Assignment, term_value}
@@ -21,19 +20,19 @@ use Rattle.lrp_algebra.specs.Patterns.{parts_of, Suits}
 use Rattle.lrp_algebra.specs.declared.pattern.Pattern.{Pattern}
 
 -- the datum is of the value: a member of the point, or the constant
-abbrev pub IsIn : Value → Datum → Type 0
-IsIn (Point at) (time x) = IsMember at.offset at.period x
-IsIn (Const constant) (text t) = t ≡ constant
-IsIn _ _ = ⊥
+abbrev pub IsOfValue : Value → Datum → Type 0
+IsOfValue (Point at) (time x) = IsMember at.offset at.period x
+IsOfValue (Const constant) (text t) = t ≡ constant
+IsOfValue _ _ = ⊥
 
 -- a point's period is at least 1 and divides k
-abbrev pub HasPeriod : ℤ → Value → Type 0
-HasPeriod k (Point at) = (pos 1 ≤ℤ at.period) × Divides at.period k
-HasPeriod k (Const t) = Unit {0}
+abbrev pub DividesPeriod : ℤ → Value → Type 0
+DividesPeriod k (Point at) = (pos 1 ≤ℤ at.period) × Divides at.period k
+DividesPeriod k (Const t) = Unit {0}
 
 -- the times among the values of the terms, in order
-abbrev pub times_in : Assignment → List Term → List ℤ
-times_in env terms = times_of (map (term_value env) terms)
+abbrev pub term_times : Assignment → List Term → List ℤ
+term_times env terms = times_of (map (term_value env) terms)
 
 -- twice the greatest magnitude of an offset of the terms
 abbrev pub offsets_reach : List Term → ℕ
@@ -50,57 +49,57 @@ pub record IsShifted (times : List Identifier) (terms : List Term) (old new : Bo
   pub left : new.left ≤ length times
   pub right : new.right ≤ length times
   pub small : nat_abs new.most ≤ nat_abs old.most + offsets_reach terms
-  pub to : (env : Assignment) → (node (map env.times times) new.left -ℤ node (map env.times times) new.right) ≤ℤ new.most → Meets (times_in env terms) old
-  pub from : (env : Assignment) → Meets (times_in env terms) old → (node (map env.times times) new.left -ℤ node (map env.times times) new.right) ≤ℤ new.most
+  pub to : (env : Assignment) → (node (map env.times times) new.left -ℤ node (map env.times times) new.right) ≤ℤ new.most → Meets (term_times env terms) old
+  pub from : (env : Assignment) → Meets (term_times env terms) old → (node (map env.times times) new.left -ℤ node (map env.times times) new.right) ≤ℤ new.most
 
 -- the tuple meets each of the bounds
-abbrev pub AreMet : List Bound → List ℤ → Type 0
-AreMet bounds xs = All (λ b. (node xs b.left -ℤ node xs b.right) ≤ℤ b.most) bounds
+abbrev pub MeetsEach : List Bound → List ℤ → Type 0
+MeetsEach bounds xs = All (λ b. (node xs b.left -ℤ node xs b.right) ≤ℤ b.most) bounds
 
 -- the zone holds the tuples of so many times that meet the bounds
 pub record IsBounded (bounds : List Bound) (columns : ℕ) (z : ZoneView) : Type 0 where
   pub period : z.period ≡ 1
   pub count : columns_of z ≡ columns
-  pub to : (xs : List ℤ) → InZone z xs → AreMet bounds xs
-  pub from : (xs : List ℤ) → length xs ≡ columns → AreMet bounds xs → InZone z xs
+  pub to : (xs : List ℤ) → InZone z xs → MeetsEach bounds xs
+  pub from : (xs : List ℤ) → length xs ≡ columns → MeetsEach bounds xs → InZone z xs
   pub reach : (high : ℕ) → All (λ b. nat_abs b.most ≤ high) bounds → reach_of z ≤ high
 
 -- no tuple of so many times meets the bounds
 pub record HasNoBounded (bounds : List Bound) (columns : ℕ) : Type 0 where
-  pub none : (xs : List ℤ) → length xs ≡ columns → AreMet bounds xs → ⊥
+  pub none : (xs : List ℤ) → length xs ≡ columns → MeetsEach bounds xs → ⊥
 
 -- new asks what old asks, and that the times of the terms meet the bounds
 pub record IsWithBounds (times : List Identifier) (terms : List Term) (bounds : List Bound) (old new : Pattern) : Type 0 where
   pub size : length new.texts ≡ 8
-  pub to : (env : Assignment) (ns : List ℕ) → Suits new (map env.times times) ns → Suits old (map env.times times) ns × AllByRecursion (Meets (times_in env terms)) bounds
-  pub from : (env : Assignment) (ns : List ℕ) → Suits old (map env.times times) ns → AllByRecursion (Meets (times_in env terms)) bounds → Suits new (map env.times times) ns
+  pub to : (env : Assignment) (ns : List ℕ) → Suits new (map env.times times) ns → Suits old (map env.times times) ns × AllByRecursion (Meets (term_times env terms)) bounds
+  pub from : (env : Assignment) (ns : List ℕ) → Suits old (map env.times times) ns → AllByRecursion (Meets (term_times env terms)) bounds → Suits new (map env.times times) ns
   pub fits : (k : ℕ) → 0 < k → bounds_reach bounds terms + k ≤ 2 ^ 62 → All (Fits (length times) k) (parts_of old) → All (Fits (length times) k) (parts_of new)
   pub reach : (k high : ℕ) → 0 < k → bounds_reach bounds terms + k ≤ high → system_reach k (parts_of old) ≤ high → system_reach k (parts_of new) ≤ high
 
 -- the times of the terms never meet the bounds
 pub record HasNoBounds (times : List Identifier) (terms : List Term) (bounds : List Bound) : Type 0 where
-  pub none : (env : Assignment) → AllByRecursion (Meets (times_in env terms)) bounds → ⊥
+  pub none : (env : Assignment) → AllByRecursion (Meets (term_times env terms)) bounds → ⊥
 
 -- ---- values
 
 -- new asks what old asks, and that what the term stands for is of the value
 pub record IsWithValue (domain : List Text) (times texts : List Identifier) (value : Value) (term : Term) (old new : Pattern) : Type 0 where
   pub size : length new.texts ≡ 8
-  pub to : (env : Assignment) (ns : List ℕ) → AreTexts domain ns (map env.texts texts) → Suits new (map env.times times) ns → Suits old (map env.times times) ns × IsIn value (term_value env term)
-  pub from : (env : Assignment) (ns : List ℕ) → AreTexts domain ns (map env.texts texts) → Suits old (map env.times times) ns → IsIn value (term_value env term) → Suits new (map env.times times) ns
-  pub fits : (k : ℕ) → HasPeriod (pos k) value → k ≤ 2 ^ 62 → All (Fits (length times) k) (parts_of old) → All (Fits (length times) k) (parts_of new)
+  pub to : (env : Assignment) (ns : List ℕ) → AreTexts domain ns (map env.texts texts) → Suits new (map env.times times) ns → Suits old (map env.times times) ns × IsOfValue value (term_value env term)
+  pub from : (env : Assignment) (ns : List ℕ) → AreTexts domain ns (map env.texts texts) → Suits old (map env.times times) ns → IsOfValue value (term_value env term) → Suits new (map env.times times) ns
+  pub fits : (k : ℕ) → DividesPeriod (pos k) value → k ≤ 2 ^ 62 → All (Fits (length times) k) (parts_of old) → All (Fits (length times) k) (parts_of new)
   pub reach : (k high : ℕ) → k ≤ high → system_reach k (parts_of old) ≤ high → system_reach k (parts_of new) ≤ high
 
 -- nothing that the pattern asks for has a value of the term that is of this one
 pub record HasNoValue (domain : List Text) (times texts : List Identifier) (value : Value) (term : Term) (old : Pattern) : Type 0 where
-  pub none : (env : Assignment) (ns : List ℕ) → AreTexts domain ns (map env.texts texts) → Suits old (map env.times times) ns → IsIn value (term_value env term) → ⊥
+  pub none : (env : Assignment) (ns : List ℕ) → AreTexts domain ns (map env.texts texts) → Suits old (map env.times times) ns → IsOfValue value (term_value env term) → ⊥
 
 -- the pattern asks that what the terms stand for is of the values
 pub record IsWithValues (domain : List Text) (times texts : List Identifier) (values : List Value) (terms : List Term) (new : Pattern) : Type 0 where
   pub size : length new.texts ≡ 8
   pub to : (env : Assignment) (ns : List ℕ) → AreTexts domain ns (map env.texts texts) → Suits new (map env.times times) ns → IsOf values (map (term_value env) terms)
   pub from : (env : Assignment) (ns : List ℕ) → AreTexts domain ns (map env.texts texts) → IsOf values (map (term_value env) terms) → Suits new (map env.times times) ns
-  pub fits : (k : ℕ) → AllByRecursion (HasPeriod (pos k)) values → k ≤ 2 ^ 62 → All (Fits (length times) k) (parts_of new)
+  pub fits : (k : ℕ) → AllByRecursion (DividesPeriod (pos k)) values → k ≤ 2 ^ 62 → All (Fits (length times) k) (parts_of new)
   pub reach : (k high : ℕ) → k ≤ high → system_reach k (parts_of new) ≤ high
 
 -- what the terms stand for is never of the values
@@ -114,7 +113,7 @@ pub record IsOfRow (domain : List Text) (times texts : List Identifier) (terms :
   pub size : length new.texts ≡ 8
   pub to : (env : Assignment) (ns : List ℕ) → AreTexts domain ns (map env.texts texts) → Suits new (map env.times times) ns → IsInRow row (map (term_value env) terms)
   pub from : (env : Assignment) (ns : List ℕ) → AreTexts domain ns (map env.texts texts) → IsInRow row (map (term_value env) terms) → Suits new (map env.times times) ns
-  pub fits : (k : ℕ) → 0 < k → AllByRecursion (HasPeriod (pos k)) row.values → bounds_reach row.bounds terms + k ≤ 2 ^ 62 → All (Fits (length times) k) (parts_of new)
+  pub fits : (k : ℕ) → 0 < k → AllByRecursion (DividesPeriod (pos k)) row.values → bounds_reach row.bounds terms + k ≤ 2 ^ 62 → All (Fits (length times) k) (parts_of new)
   pub reach : (k high : ℕ) → 0 < k → bounds_reach row.bounds terms + k ≤ high → system_reach k (parts_of new) ≤ high
 
 -- the values of the terms are never a member of the row

@@ -1,17 +1,16 @@
 -- What the operations on tables do, said of the assignments that the tables stand for.
 use Rattle.std.specs.Prelude.{◌≡◌, ℕ, ℤ, ◌*◌, List, Contains}
-use Rattle.lrp_model.specs.Texts.{Text, Identifier}
+use Rattle.lrp_model.specs.Texts.{Text, Identifier, without}
 use Rattle.lrp_model.specs.Rows.{time, text}
 use Rattle.lrp_model.specs.Satisfaction.{Assignment, with_value}
 use Rattle.lrp_store.specs.Stores.{HasReach}
 use Rattle.lrp_store.specs.Tables.{AreNumbered}
 use Rattle.lrp_store.specs.declared.table.Table.{Table}
-use Rattle.lrp_tables.specs.Columns.{others}
 use Rattle.lrp_tables.specs.Tables.{Has}
 
 -- the assignments of old that some integer for the time variable completes; numbers of texts stay numbers of a domain
 pub record IsTimeDropped (name : Identifier) (old new : Table) : Type 0 where
-  pub times : new.vars.times ≡ others name old.vars.times
+  pub times : new.vars.times ≡ without name old.vars.times
   pub texts : new.vars.texts ≡ old.vars.texts
   pub period : new.store.period ≡ old.store.period
   pub to : (domain : List Text) (env : Assignment) → Has new domain env → (x : ℤ) × Has old domain (with_value name (time x) env)
@@ -22,7 +21,7 @@ pub record IsTimeDropped (name : Identifier) (old new : Table) : Type 0 where
 -- the assignments of old that some text of the domain for the data variable completes; numbers of texts stay numbers of the domain
 pub record IsTextDropped (domain : List Text) (name : Identifier) (old new : Table) : Type 0 where
   pub times : new.vars.times ≡ old.vars.times
-  pub texts : new.vars.texts ≡ others name old.vars.texts
+  pub texts : new.vars.texts ≡ without name old.vars.texts
   pub period : new.store.period ≡ old.store.period
   pub to : (env : Assignment) → Has new domain env → (t : Text) × Contains domain t × Has old domain (with_value name (text t) env)
   pub from : (env : Assignment) (t : Text) → Contains domain t → Has old domain (with_value name (text t) env) → Has new domain env

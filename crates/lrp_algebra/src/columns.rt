@@ -1,7 +1,7 @@
 // The columns that steps make.
 ghost use Rattle.std.specs.Prelude.{◌≡◌, ◌≤◌, ◌^◌, ◌++◌, ◌≤ℤ◌, pos, nat_abs, length, flat_map, IfOk, OnOk};
 ghost use Rattle.std.specs.FinMap as finite;
-ghost use Rattle.lrp_tables.specs.Columns.{head_times, head_texts, joint, names_of_time, names_of_data, times_of_test, texts_of_test, test_times, test_texts, times_of_term, texts_of_term, scan_times, scan_texts};
+ghost use Rattle.lrp_tables.specs.Columns.{head_times, head_texts, joint, names_of_time, names_of_data, times_of_test, texts_of_test, test_times, test_names, times_of_term, texts_of_term, scan_times, scan_texts};
 
 use lrp_model::{DataTerm, Head, List, Memory, Name, Shape, Term, Test, TimeTerm};
 use lrp_store::Store;
@@ -72,7 +72,7 @@ pub fn store_over(alloc: Global, vars: &Vars, period: i64) -> Store
 /// The time variables of a test and its data variables, each once.
 pub fn test_vars(alloc: Global, test: &Test) -> Result<Vars, Memory>
     ensures times { IfOk result (λ made. made.times ≡ test_times test.now) }
-    ensures texts { IfOk result (λ made. made.texts ≡ test_texts test.now) }
+    ensures texts { IfOk result (λ made. made.texts ≡ test_names test.now) }
 {
     let none = List::new(alloc);
     let times = times_in(alloc, test)?;

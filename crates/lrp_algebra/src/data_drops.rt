@@ -1,9 +1,9 @@
 // One data column fewer: some text of the domain completes what is left.
-ghost use Rattle.std.specs.Prelude.{◌≡◌, ◌+◌, ◌-◌, ◌<◌, ◌≤◌, ◌^◌, ℕ, OnOk, IfOk};
+ghost use Rattle.std.specs.Prelude.{◌≡◌, ◌+◌, ◌-◌, ◌<◌, ◌≤◌, ◌^◌, OnOk, IfOk};
 ghost use Rattle.lrp_zone.specs.Zones.{reach_of};
 ghost use Rattle.lrp_store.specs.Growing.{IsAdded};
 ghost use Rattle.lrp_tables.specs.Pieces.{Fits, InPiece};
-ghost use Rattle.lrp_tables.specs.Passes.{IsMade};
+ghost use Rattle.lrp_tables.specs.Passes.{IsMadeFrom};
 ghost use Rattle.lrp_algebra.specs.Tuples.{IsWithoutText, IsStoreWithoutText};
 ghost use Rattle.lrp_algebra.specs.Tables.{IsTextDropped};
 
@@ -72,7 +72,7 @@ fn add_without_text(
     requires place { place ≤ out.old.shape.texts }
     requires wide { out.old.shape.texts < 8 }
     requires fits { Fits (record { times = out.old.shape.times; texts = out.old.shape.texts + 1 }) out.old.period piece.now }
-    ensures ok { OnOk result (IsAdded (IsMade (IsWithoutText place size) (InPiece (out.old.shape.texts + 1) piece.now)) (2 ^ 32 - 1) (reach_of piece.now.zone) out.old out.new) }
+    ensures ok { OnOk result (IsAdded (IsMadeFrom (IsWithoutText place size) (InPiece (out.old.shape.texts + 1) piece.now)) (2 ^ 32 - 1) (reach_of piece.now.zone) out.old out.new) }
 {
     out.shape();
     piece.zone.columns();

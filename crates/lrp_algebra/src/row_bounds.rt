@@ -1,13 +1,12 @@
 // The bounds of a row, as bounds of the columns of a longer tuple.
 ghost use Rattle.std.specs.Prelude.{◌≡◌, ◌+◌, ◌<◌, ◌≤◌, ◌^◌, ◌-ℤ◌, ◌≤ℤ◌, nat_abs, length, map, flat_map, All, IfOk, IfSome, IfNone, MatchOption};
-ghost use Rattle.std.specs.List.{AllByRecursion, AllZip};
 ghost use Rattle.lrp_model.specs.Reach.{greatest, term_magnitudes};
 ghost use Rattle.lrp_model.specs.Rows.{time_at};
 ghost use Rattle.lrp_model.specs.Satisfaction.{Assignment};
 ghost use Rattle.lrp_tables.specs.Columns.{times_of_term};
 ghost use Rattle.lrp_tables.specs.Tables.{AreNamesAmong};
 ghost use Rattle.lrp_algebra.specs.Comparisons.{side_value};
-ghost use Rattle.lrp_algebra.specs.Rows.{times_in, offsets_reach, bounds_reach, IsShifted, IsBounded, HasNoBounded, IsWithBounds, HasNoBounds};
+ghost use Rattle.lrp_algebra.specs.Rows.{term_times, offsets_reach, bounds_reach, IsShifted, IsBounded, HasNoBounded, IsWithBounds, HasNoBounds};
 
 use crate::comparisons::Side;
 use crate::conditions::counted;
@@ -79,7 +78,7 @@ fn shifted_bound(bound: &Bound, terms: &List<Term>, times: &List<Name>) -> Bound
 fn side_at(terms: &List<Term>, place: u8, times: &List<Name>) -> Side
     requires few { length times.now ≤ 8 }
     requires names { AreNamesAmong (flat_map times_of_term terms.now) times.now }
-    ensures value { (env : Assignment) → side_value result (map env.times times.now) ≡ time_at (times_in env terms.now) place }
+    ensures value { (env : Assignment) → side_value result (map env.times times.now) ≡ time_at (term_times env terms.now) place }
     ensures column { result.column ≤ length times.now }
     ensures small { nat_abs result.plus ≤ greatest (flat_map term_magnitudes terms.now) }
 {

@@ -9,7 +9,7 @@ ghost use Rattle.lrp_tables.specs.Caps.{InhabitsMoreThan};
 ghost use Rattle.lrp_tables.specs.Columns.{scan_times, scan_texts, texts_of_term, times_of_term};
 ghost use Rattle.lrp_tables.specs.Tables.{AreNamesAmong, IsScanned, IsTableOf};
 ghost use Rattle.lrp_algebra.specs.Patterns.{IsOver};
-ghost use Rattle.lrp_algebra.specs.Rows.{bounds_reach, CanBeRead, HasPeriod, IsRowTuple};
+ghost use Rattle.lrp_algebra.specs.Rows.{bounds_reach, CanBeRead, DividesPeriod, IsRowTuple};
 
 use crate::columns::{scan_vars, store_over};
 use crate::filling::add_pattern;
@@ -70,7 +70,7 @@ fn add_row(
     requires times_count { length vars.now.times ≡ out.old.shape.times }
     requires texts_count { length vars.now.texts ≡ out.old.shape.texts }
     requires row { CanBeRead terms.now row.now }
-    requires periods { AllByRecursion (HasPeriod (pos out.old.period)) row.now.values }
+    requires periods { AllByRecursion (DividesPeriod (pos out.old.period)) row.now.values }
     requires room { bounds_reach row.now.bounds terms.now + out.old.period ≤ 2 ^ 62 }
     ensures ok { OnOk result (IsAdded (IsOver out.old.shape (length domain.now) (IsRowTuple domain.now vars.now.times vars.now.texts terms.now row.now)) cap (bounds_reach row.now.bounds terms.now + out.old.period) out.old out.new) }
     ensures too_many { result ≡ Err StoreFault.TooManyCells → IsRefused (IsOver out.old.shape (length domain.now) (IsRowTuple domain.now vars.now.times vars.now.texts terms.now row.now)) cap (bounds_reach row.now.bounds terms.now + out.old.period) out.old out.new }

@@ -1,10 +1,10 @@
 // One time column fewer: some integer completes what is left.
-ghost use Rattle.std.specs.Prelude.{◌≡◌, ◌+◌, ◌*◌, ◌-◌, ◌<◌, ◌≤◌, ◌^◌, ℕ, OnOk, IfOk};
+ghost use Rattle.std.specs.Prelude.{◌≡◌, ◌+◌, ◌*◌, ◌-◌, ◌<◌, ◌≤◌, ◌^◌, OnOk, IfOk};
 ghost use Rattle.lrp_zone.specs.Zones.{reach_of};
-ghost use Rattle.lrp_store.specs.Stores.{InStore, HasReach, HoldsJust};
-ghost use Rattle.lrp_store.specs.Growing.{IsAdded, IsRefused};
+ghost use Rattle.lrp_store.specs.Stores.{HasReach};
+ghost use Rattle.lrp_store.specs.Growing.{IsAdded};
 ghost use Rattle.lrp_tables.specs.Pieces.{Fits, InPiece};
-ghost use Rattle.lrp_tables.specs.Passes.{IsMade};
+ghost use Rattle.lrp_tables.specs.Passes.{IsMadeFrom};
 ghost use Rattle.lrp_algebra.specs.Tuples.{IsWithoutTime, IsStoreWithoutTime};
 ghost use Rattle.lrp_algebra.specs.Tables.{IsTimeDropped};
 
@@ -64,7 +64,7 @@ fn add_without_time(piece: &Piece, place: usize, out: &mut Store) -> Result<(), 
     requires wide { out.old.shape.times < 8 }
     requires fits { Fits (record { times = out.old.shape.times + 1; texts = out.old.shape.texts }) out.old.period piece.now }
     requires reach { 2 * reach_of piece.now.zone ≤ 2 ^ 62 }
-    ensures ok { OnOk result (IsAdded (IsMade (IsWithoutTime place) (InPiece out.old.shape.texts piece.now)) (2 ^ 32 - 1) (2 * reach_of piece.now.zone) out.old out.new) }
+    ensures ok { OnOk result (IsAdded (IsMadeFrom (IsWithoutTime place) (InPiece out.old.shape.texts piece.now)) (2 ^ 32 - 1) (2 * reach_of piece.now.zone) out.old out.new) }
 {
     out.shape();
     piece.zone.columns();

@@ -1,8 +1,8 @@
 // The data texts of a query, each with its sort.
 ghost use Rattle.std.specs.Prelude.{◌≡◌, List, [], ◌∷◌, ◌++◌, drop, false, slice_get, IfOk, OnOk};
-ghost use Rattle.lrp_model.specs.Formulas.{form_of, forms_of, conjunction};
-ghost use Rattle.lrp_model.specs.Rows.{relation_named};
-ghost use Rattle.lrp_model.specs.Domains.{term_texts, columns_of, sort_beside, text_beside, test_texts, form_texts, forms_texts};
+ghost use Rattle.lrp_model.specs.Formulas.{form_of, forms_of};
+ghost use Rattle.lrp_model.specs.Rows.{relation_named, columns_in};
+ghost use Rattle.lrp_model.specs.Domains.{term_texts, sort_beside, text_beside, test_texts, form_texts, forms_texts};
 ghost use Rattle.lrp_model.specs.declared.relations.Sort.{Sort as SortOf};
 ghost use Rattle.lrp_model.specs.declared.relations.Column.{Column as ColumnOf};
 ghost use Rattle.lrp_core.specs.Literals.{AddsTexts, one_text, one_in};
@@ -107,7 +107,7 @@ fn add_atom(
     terms: &[Term],
     all: &mut Vec<(Sort, DataText)>,
 ) -> Result<(), Memory>
-    ensures { OnOk result (all.new.items ≡ all.old.items ++ term_texts (columns_of (relation_named database.now relation.now)) terms.now) }
+    ensures { OnOk result (all.new.items ≡ all.old.items ++ term_texts (columns_in (relation_named database.now relation.now)) terms.now) }
 {
     if !has_text(terms) {
         return Ok(());

@@ -18,7 +18,7 @@ use Rattle.lrp_model.specs.declared.plans.Plan.{Plan}
 use Rattle.lrp_model.specs.declared.plans.StepKind.TheVariants.{Extend}
 use Rattle.lrp_store.specs.Tables.{StoreHolds}
 use Rattle.lrp_store.specs.declared.table.Table.{Table}
-use Rattle.lrp_tables.specs.Columns.{time_name, text_name, head_times, head_texts}
+use Rattle.lrp_tables.specs.Columns.{with_time_name, text_name, head_times, head_texts}
 use Rattle.lrp_tables.specs.Tables.{Has}
 use Rattle.lrp_tables.proofs.Numbers.{texts_known, all_mapped}
 use Rattle.lrp_plan_laws.specs.Settled.{IsSoundPlan}
@@ -60,7 +60,7 @@ keeps_text [] (d ∷ ds) env w h = refl
 keeps_text (c ∷ cs) [] env w h = refl
 keeps_text (c ∷ cs) (d ∷ ds) env w h = keeps_text cs ds (with_value c.name d env) w h.1 ∙ other_text c.name w d env h.0
 
-first_time : (s : Sort) (v : Identifier) (d : Datum) (ds : List Datum) (env last : Assignment) (names : List Identifier) → IsOfKind s d → last.times v ≡ (with_value v d env).times v → map last.times names ≡ times_of ds → map last.times (time_name s v names) ≡ times_of (d ∷ ds)
+first_time : (s : Sort) (v : Identifier) (d : Datum) (ds : List Datum) (env last : Assignment) (names : List Identifier) → IsOfKind s d → last.times v ≡ (with_value v d env).times v → map last.times names ≡ times_of ds → map last.times (with_time_name s v names) ≡ times_of (d ∷ ds)
 first_time Time v (time x) ds env last names k e r = ap₂ (λ a l. a ∷ l) (e ∙ own v x (env.times v)) r
 first_time Time v (text t) ds env last names k e r = absurd k
 first_time Data v (time x) ds env last names k e r = absurd k

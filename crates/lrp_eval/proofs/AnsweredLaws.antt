@@ -28,7 +28,7 @@ use Rattle.lrp_store.specs.Settled.{AreSettled, InSome}
 use Rattle.lrp_store.specs.Tables.{AreNumbered, InAnswer}
 use Rattle.lrp_store.specs.declared.table.Table.{Table}
 use Rattle.lrp_store.specs.declared.answer.Answer.{Answer}
-use Rattle.lrp_tables.specs.Columns.{time_name, text_name, head_times, head_texts}
+use Rattle.lrp_tables.specs.Columns.{with_time_name, text_name, head_times, head_texts}
 use Rattle.lrp_minus.specs.Settling.{IsSettlement, IsSmallZone}
 use Rattle.lrp_minus.specs.Differences.{greatest_reach}
 use Rattle.lrp_minus.proofs.Lists.{greatest_below}
@@ -42,7 +42,7 @@ use Rattle.lrp_eval.proofs.SettleLaws.{table_of, zone_in}
 
 -- ---- columns of a head
 
-one_time : (s : Sort) (c : Column) (fs : List Column) (v : Identifier) (ns : List Identifier) → length fs ≡ length ns → length (cond (same_sort s Time) (c ∷ fs) fs) ≡ length (time_name s v ns)
+one_time : (s : Sort) (c : Column) (fs : List Column) (v : Identifier) (ns : List Identifier) → length fs ≡ length ns → length (cond (same_sort s Time) (c ∷ fs) fs) ≡ length (with_time_name s v ns)
 one_time Time c fs v ns e = ap suc e
 one_time Data c fs v ns e = e
 one_time (Named name) c fs v ns e = e
@@ -51,7 +51,7 @@ pub times_counted : (cs : List Column) → time_columns cs ≡ length (head_time
 times_counted [] = refl
 times_counted (c ∷ cs) = one_time c.sort c (filter (λ d. same_sort d.sort Time) cs) c.name (head_times cs) (times_counted cs)
 
-one_column : (s : Sort) (n : ℕ) (v : Identifier) (ns ms : List Identifier) → n ≡ length ns + length ms → suc n ≡ length (time_name s v ns) + length (text_name s v ms)
+one_column : (s : Sort) (n : ℕ) (v : Identifier) (ns ms : List Identifier) → n ≡ length ns + length ms → suc n ≡ length (with_time_name s v ns) + length (text_name s v ms)
 one_column Time n v ns ms e = omega arith
 one_column Data n v ns ms e = omega arith
 one_column (Named name) n v ns ms e = omega arith

@@ -1,7 +1,7 @@
 -- The steps that drop a variable: each has no more cells than the table that it reads.
 use Rattle.std.proofs.Common.{◌≡◌, ◌^◌, ℕ, suc, List, length, sym, subst, ◌∙◌, arith}
 use Rattle.std.specs.Prelude.{ℤ}
-use Rattle.lrp_model.specs.Texts.{Text, Identifier, Ascends}
+use Rattle.lrp_model.specs.Texts.{Text, Identifier, Ascends, without as other_names}
 use Rattle.lrp_model.specs.Formulas.{Question, exists}
 use Rattle.lrp_model.specs.Variables.{time_variable, data_variable}
 use Rattle.lrp_model.specs.Satisfaction.{structure}
@@ -15,14 +15,13 @@ use Rattle.lrp_model.specs.declared.plans.StepKind.TheVariants.{DropTime, DropDa
 use Rattle.lrp_store.specs.Stores.{IsStore, HasReach}
 use Rattle.lrp_store.specs.declared.table.Table.{Table}
 use Rattle.lrp_tables.specs.Caps.{InhabitsMoreThan}
-use Rattle.lrp_tables.specs.Columns.{others as other_names}
 use Rattle.lrp_tables.specs.Tables.{Has, named_variables}
 use Rattle.lrp_tables.proofs.TableLaws.{decided_table}
 use Rattle.lrp_tables.proofs.DropCounts.{drop_time_counts, drop_data_counts}
 use Rattle.lrp_algebra.specs.Tables.{IsTimeDropped, IsTextDropped}
 use Rattle.lrp_plan_laws.specs.Made.{IsEarlier, IsDataSort}
 use Rattle.lrp_plan_laws.specs.Guards.{IsGuarded}
-use Rattle.lrp_eval.specs.Running.{SameVariables, variables_of, IsRun, IsOperand, IsNext}
+use Rattle.lrp_eval.specs.Running.{SameVariables, variables_of, IsStepTable, IsOperand, IsNext}
 use Rattle.lrp_eval.proofs.Denotes.{Denotes, IsDecided, IsDropData, others, drop_time_keeps, drop_data_keeps, drop_named_keeps}
 use Rattle.lrp_eval.proofs.Named.{time_dropped, text_dropped}
 use Rattle.lrp_eval.proofs.Nexts.{formula_kind, reach_kind, keeps_kind, denotes_of, sound_step, meant, run, run_of, many_read, ascends, no_order, IsMeant}
@@ -61,7 +60,7 @@ module _ {db : List Relation} {q : Question} {cap : ℕ} {domain : List Text} {t
         (subst (λ c. InhabitsMoreThan cap c table.store.period table.vars.times table.vars.texts (Has table c)) n.domain_is
         (drop_time_counts domain table.store.period o.valid.period_low table.vars.times table.vars.texts name (Has made domain) (Has table domain) (λ env m. d.to domain env m) cap h)))
 
-    pub drop_time_run : IsRun db q cap (suc (length tables)) made
+    pub drop_time_run : IsStepTable db q cap (suc (length tables)) made
     drop_time_run =
         run n _ _ (Has made domain) table.store.period is_meant same_period made
         (record { times_are = d.times; texts_are = d.texts; period_is = d.period; sound = λ env h. h; whole = λ env h. h; numbered = d.numbered domain (numbered n o before) })
@@ -111,7 +110,7 @@ module _ {db : List Relation} {q : Question} {cap : ℕ} {domain : List Text} {t
         (subst (λ c. InhabitsMoreThan cap c table.store.period table.vars.times table.vars.texts (Has table c)) n.domain_is
         (drop_data_counts domain table.store.period o.valid.period_low table.vars.times table.vars.texts name (Has made domain) (Has table domain) (λ env m. d.to env m) cap h)))
 
-    pub drop_data_run : IsRun db q cap (suc (length tables)) made
+    pub drop_data_run : IsStepTable db q cap (suc (length tables)) made
     drop_data_run =
         run n _ _ (Has made domain) table.store.period text_meant text_period made
         (record { times_are = d.times; texts_are = d.texts; period_is = d.period; sound = λ env h. h; whole = λ env h. h; numbered = d.numbered (numbered n o text_before) })

@@ -24,7 +24,7 @@ use Rattle.lrp_plan_laws.specs.Made.{IsEarlier}
 use Rattle.lrp_plan_laws.specs.Scopes.{IsNarrow}
 use Rattle.lrp_plan_laws.proofs.Elements.{formula_front, formula_made}
 use Rattle.lrp_plan_laws.proofs.PlanSound.{steps_say}
-use Rattle.lrp_eval.specs.Running.{HasConstants, variables_of, IsRun, IsOperand, IsNext}
+use Rattle.lrp_eval.specs.Running.{HasConstants, variables_of, IsStepTable, IsOperand, IsNext}
 use Rattle.lrp_eval.proofs.Denotes.{in_left, in_one}
 use Rattle.lrp_eval.proofs.Named.{all_by, head_columns, times_in_head, texts_in_head, time_named, data_named, are_texts}
 use Rattle.lrp_eval.proofs.Nexts.{formula_kind, reach_kind, keeps_kind, denotes_of, sound_plan, too_many, run, run_of, IsMeant}
@@ -97,7 +97,7 @@ module _ {db : List Relation} {q : Question} {cap : ℕ} {domain : List Text} {t
 
   pub head_run : (made : Table) → IsTableOf domain (head_times q.head) (head_texts q.head) table.store.period (IsExtended domain q.head table) made
       → ((high : ℕ) → HasReach table.store high → HasReach made.store high)
-      → (InhabitsMoreThan cap domain table.store.period (head_times q.head) (head_texts q.head) (IsExtended domain q.head table) → ⊥) → IsRun db q cap (suc (length tables)) made
+      → (InhabitsMoreThan cap domain table.store.period (head_times q.head) (head_texts q.head) (IsExtended domain q.head table) → ⊥) → IsStepTable db q cap (suc (length tables)) made
   head_run made is reach few =
       run n _ _ _ _ is_meant same_period made is
       (subst (λ r. HasReach made.store r) (sym (reach_kind n)) (reach (reach_at (plan db q) of) (reach_within n o before (reach_at (plan db q) of) (omega arith))))

@@ -18,8 +18,8 @@ use Rattle.lrp_store.specs.declared.table.Table.{Table}
 use Rattle.lrp_plan_laws.proofs.Elements.{length_made}
 use Rattle.lrp_eval.specs.declared.evaluation.EvalFault.{EvalFault}
 use Rattle.lrp_eval.specs.declared.evaluation.EvalFault.TheVariants.{TooManyCells, Memory}
-use Rattle.lrp_eval.specs.Planned.{IsPlanOf, IsCause}
-use Rattle.lrp_eval.specs.Running.{IsRun, AreRun, IsNext, IsLastRun}
+use Rattle.lrp_eval.specs.Planned.{IsPlanOf, IsEvalCause}
+use Rattle.lrp_eval.specs.Running.{IsStepTable, AreRun, IsNext, IsLastRun}
 use Rattle.lrp_eval.proofs.Nexts.{element, inside}
 
 zip_at : (xs : List Step) (ys : List PlanStep) (i : ℕ) (x : Step) → AllZip IsStep xs ys → i < length xs → x ≡ get_or xs i x → (y : PlanStep) × (slice_get ys i ≡ Some y) × IsStep x y
@@ -64,9 +64,9 @@ module _ (db : List Relation) (q : Question) (cap : ℕ) where
       }
 
   -- one table more
-  pub more_run : (tables new : List Table) (t : Table) → new ≡ tables ++ t ∷ [] → AreRun db q cap tables → IsRun db q cap (suc (length tables)) t → AreRun db q cap new
+  pub more_run : (tables new : List Table) (t : Table) → new ≡ tables ++ t ∷ [] → AreRun db q cap tables → IsStepTable db q cap (suc (length tables)) t → AreRun db q cap new
   more_run tables new t same run r i table e =
-      ⊎_elim (λ l. run i table l) (λ x. subst (λ n. IsRun db q cap (suc n) table) (sym x.0) (subst (λ u. IsRun db q cap (suc (length tables)) u) x.1 r)) (at_push tables t table i (subst (λ l. slice_get l i ≡ Some table) same e))
+      ⊎_elim (λ l. run i table l) (λ x. subst (λ n. IsStepTable db q cap (suc n) table) (sym x.0) (subst (λ u. IsStepTable db q cap (suc (length tables)) u) x.1 r)) (at_push tables t table i (subst (λ l. slice_get l i ≡ Some table) same e))
 
   pub none_run : (tables : List Table) → tables ≡ [] → AreRun db q cap tables
   none_run tables none i table e = let n : slice_get [] i ≡ Some table = subst (λ l. slice_get l i ≡ Some table) none e in cc
@@ -101,11 +101,11 @@ module _ (db : List Relation) (q : Question) (cap : ℕ) where
       let b : length tables ≡ length front + 1 = ap length same ∙ more_count front t (length front) refl in
       let c : suc (length front) ≡ length (plan db q) = omega arith in
       record {
-        run = subst (λ n. IsRun db q cap n t) c (run (length front) t (subst (λ l. slice_get l (length front) ≡ Some t) (sym same) (at_last front t)));
+        run = subst (λ n. IsStepTable db q cap n t) c (run (length front) t (subst (λ l. slice_get l (length front) ≡ Some t) (sym same) (at_last front t)));
         few = few_all tables run (omega arith);
       }
 
 -- a fault is its own cause where it has too many cells only at the first step that has
-pub cause : (db : List Relation) (p : Plan) (cap : ℕ) (r : EvalFault) → ((step : ℕ) → r ≡ TooManyCells step → (q : Question) → IsPlanOf db q p → IsFirstMany db q cap step) → IsCause db p cap r
+pub cause : (db : List Relation) (p : Plan) (cap : ℕ) (r : EvalFault) → ((step : ℕ) → r ≡ TooManyCells step → (q : Question) → IsPlanOf db q p → IsFirstMany db q cap step) → IsEvalCause db p cap r
 cause db p cap (TooManyCells step) f = f step refl
 cause db p cap Memory f = tt

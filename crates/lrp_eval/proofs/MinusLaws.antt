@@ -19,7 +19,7 @@ use Rattle.lrp_tables.specs.Calls.{AreVariablesOf}
 use Rattle.lrp_tables.specs.Caps.{InhabitsMoreThan}
 use Rattle.lrp_tables.specs.Tables.{Has, IsTableOf, IsLess, IsMissing}
 use Rattle.lrp_plan_laws.specs.Made.{IsEarlier, AreAmong}
-use Rattle.lrp_eval.specs.Running.{variables_of, IsRun, IsOperand, IsNext}
+use Rattle.lrp_eval.specs.Running.{variables_of, IsStepTable, IsOperand, IsNext}
 use Rattle.lrp_eval.proofs.Denotes.{Denotes, minus_keeps, complement_keeps}
 use Rattle.lrp_eval.proofs.Named.{time_named, data_named, texts_are, are_texts}
 use Rattle.lrp_eval.proofs.Nexts.{formula_kind, variables_kind, reach_kind, keeps_kind, period_nat, denotes_of, meant, too_many, run, run_of, ascends, no_order, IsMeant}
@@ -77,7 +77,7 @@ module _ {db : List Relation} {q : Question} {cap : ℕ} {domain : List Text} {t
 
   pub minus_run : (made : Table) → ((d : List Text) → Ascends d → AreNumbered d lt.store → IsTableOf d lt.vars.times lt.vars.texts (nat_abs period) (IsLess d lt rt) made)
       → ((high : ℕ) → HasReach lt.store high → HasReach rt.store high → HasReach made.store (high + 2 * nat_abs period))
-      → ((d : List Text) → Ascends d → AreNumbered d lt.store → InhabitsMoreThan cap d (nat_abs period) lt.vars.times lt.vars.texts (IsLess d lt rt) → ⊥) → IsRun db q cap (suc (length tables)) made
+      → ((d : List Text) → Ascends d → AreNumbered d lt.store → InhabitsMoreThan cap d (nat_abs period) lt.vars.times lt.vars.texts (IsLess d lt rt) → ⊥) → IsStepTable db q cap (suc (length tables)) made
   minus_run made is reach few =
       let high : ℕ = max (reach_at (plan db q) left) (reach_at (plan db q) right) in
       run n _ _ _ _ is_meant (period_nat n) made (is domain (ascends n) (numbered n lo le))
@@ -120,7 +120,7 @@ module _ {db : List Relation} {q : Question} {cap : ℕ} {domain : List Text} {t
 
   pub complement_run : (made : Table) → IsTableOf domain table.vars.times table.vars.texts table.store.period (IsMissing domain table) made
       → ((high : ℕ) → HasReach table.store high → HasReach made.store (high + 2 * table.store.period))
-      → (InhabitsMoreThan cap domain table.store.period table.vars.times table.vars.texts (IsMissing domain table) → ⊥) → IsRun db q cap (suc (length tables)) made
+      → (InhabitsMoreThan cap domain table.store.period table.vars.times table.vars.texts (IsMissing domain table) → ⊥) → IsStepTable db q cap (suc (length tables)) made
   complement_run made is reach few =
       let high : ℕ = reach_at (plan db q) of in
       run n _ _ _ _ missing_meant same_period made is

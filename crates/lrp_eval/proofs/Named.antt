@@ -3,7 +3,7 @@ use Rattle.std.proofs.Common.{◌≡◌, ◌↔◌, ◌⊎◌, ◌||◌, inl, in
 use Rattle.std.specs.Prelude.{flat_map}
 use Rattle.std.specs.List.{AllByRecursion, list_any}
 use Rattle.std.specs.Cmp.Lexicographic.{bytes_decides}
-use Rattle.lrp_model.specs.Texts.{Text, Identifier}
+use Rattle.lrp_model.specs.Texts.{Text, Identifier, without as other_names}
 use Rattle.lrp_model.specs.Variables.{Variable, time_variable, data_variable, bound_by, variables_of_time, variables_of_data, variables_of_term, variables_of_test, head_variables, free, same_variable}
 use Rattle.lrp_model.specs.Satisfaction.{Assignment}
 use Rattle.lrp_model.specs.Formulas.{atom}
@@ -19,7 +19,7 @@ use Rattle.lrp_model.specs.declared.formulas.Term.TheVariants.{Time as time_term
 use Rattle.lrp_model.specs.declared.formulas.Test.{Test}
 use Rattle.lrp_model.specs.declared.formulas.Test.TheVariants.{Compare, Member, Equal}
 use Rattle.lrp_model.proofs.Decided.{cons_cases, contains_first, contains_later, contains_none}
-use Rattle.lrp_tables.specs.Columns.{others as other_names, joint, names_of_time, names_of_data, times_of_term, texts_of_term, scan_times, scan_texts, times_of_test, texts_of_test, test_times, test_texts, time_name, text_name, head_times, head_texts}
+use Rattle.lrp_tables.specs.Columns.{joint, names_of_time, names_of_data, times_of_term, texts_of_term, scan_times, scan_texts, times_of_test, texts_of_test, test_times, test_names, with_time_name, text_name, head_times, head_texts}
 use Rattle.lrp_tables.specs.Tables.{named_variables, HasTexts}
 use Rattle.lrp_eval.specs.Running.{HasConstants, SameVariables}
 use Rattle.lrp_eval.proofs.Denotes.{in_left, in_right, in_one, in_filter, of_filter, others}
@@ -206,10 +206,10 @@ texts_in_test (Compare left op right) v =
     no_such (λ c. contains_none v c) (λ c. ⊎_elim (λ l. data_in_time left v l) (λ r. data_in_time right v r) (in_one (variables_of_time left) (variables_of_time right) (data_variable v) c))
 
 -- the columns of a test's table are its variables
-pub test_variables : (t : Test) → SameVariables (named_variables (test_times t) (test_texts t)) (variables_of_test t)
-test_variables t = same_by_kind (named_variables (test_times t) (test_texts t)) (variables_of_test t)
-    (λ v. chain (chain (time_named (test_times t) (test_texts t) v) (joint_none (times_of_test t) v)) (times_in_test t v))
-    (λ v. chain (chain (data_named (test_times t) (test_texts t) v) (joint_none (texts_of_test t) v)) (texts_in_test t v))
+pub test_variables : (t : Test) → SameVariables (named_variables (test_times t) (test_names t)) (variables_of_test t)
+test_variables t = same_by_kind (named_variables (test_times t) (test_names t)) (variables_of_test t)
+    (λ v. chain (chain (time_named (test_times t) (test_names t) v) (joint_none (times_of_test t) v)) (times_in_test t v))
+    (λ v. chain (chain (data_named (test_times t) (test_names t) v) (joint_none (texts_of_test t) v)) (texts_in_test t v))
 
 times_in_term : (t : Term) (v : Identifier) → Contains (times_of_term t) v ↔ Contains (variables_of_term t) (time_variable v)
 times_in_term (time_term t) v = time_in_time t v
@@ -240,7 +240,7 @@ scan_variables name ts = same_by_kind (named_variables (scan_times ts) (scan_tex
 in_cons : {X : Type 0} (x : X) (xs : List X) (y : X) → Contains (x ∷ xs) y ↔ ((x ≡ y) ⊎ Contains xs y)
 in_cons x xs y = ((λ c. cons_cases x y xs c), λ h. ⊎_elim (λ e. subst (λ z. Contains (x ∷ xs) z) e (contains_first x xs)) (λ d. contains_later x y xs d) h)
 
-more_time : (s : Sort) (n v : Identifier) (ns : List Identifier) (vs : List Variable) → Contains ns v ↔ Contains vs (time_variable v) → Contains (time_name s n ns) v ↔ Contains (bound_by s n ∷ vs) (time_variable v)
+more_time : (s : Sort) (n v : Identifier) (ns : List Identifier) (vs : List Variable) → Contains ns v ↔ Contains vs (time_variable v) → Contains (with_time_name s n ns) v ↔ Contains (bound_by s n ∷ vs) (time_variable v)
 more_time Time n v ns vs h = chain (chain (in_cons n ns v) (both ((λ e. ap time_variable e), λ e. cc) h)) (back (in_cons (time_variable n) vs (time_variable v)))
 more_time Data n v ns vs h = ((λ c. contains_later (data_variable n) (time_variable v) vs (h.0 c)), λ c. ⊎_elim (λ e. cc) (λ d. h.1 d) (cons_cases (data_variable n) (time_variable v) vs c))
 more_time (Named name) n v ns vs h = ((λ c. contains_later (data_variable n) (time_variable v) vs (h.0 c)), λ c. ⊎_elim (λ e. cc) (λ d. h.1 d) (cons_cases (data_variable n) (time_variable v) vs c))

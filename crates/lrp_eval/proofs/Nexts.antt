@@ -26,13 +26,13 @@ use Rattle.lrp_store.specs.declared.table.Table.{Table}
 use Rattle.lrp_tables.specs.Caps.{Inhabits, InhabitsMoreThan}
 use Rattle.lrp_tables.specs.Tables.{Has, IsTableOf, named_variables}
 use Rattle.lrp_plan_laws.specs.Made.{IsEarlier, IsMade, IsFormula, HasVariables, operands, head_step}
-use Rattle.lrp_plan_laws.specs.Rising.{Rises, KeepsPeriod, period_at}
+use Rattle.lrp_plan_laws.specs.Rising.{IsRising, KeepsPeriod, period_at}
 use Rattle.lrp_plan_laws.specs.Scopes.{IsNarrow}
 use Rattle.lrp_plan_laws.specs.Settled.{IsSoundPlan, IsSoundStep}
 use Rattle.lrp_plan_laws.proofs.SettledLaws.{sound}
 use Rattle.lrp_plan_laws.proofs.Elements.{length_made}
 use Rattle.lrp_plan_laws.proofs.NarrowLaws.{no_other_head}
-use Rattle.lrp_eval.specs.Running.{HasConstants, SameVariables, variables_of, variables_at, IsRun, IsOperand, IsNext, IsInOrder}
+use Rattle.lrp_eval.specs.Running.{HasConstants, SameVariables, variables_of, variables_at, IsStepTable, IsOperand, IsNext, IsInOrder}
 use Rattle.lrp_eval.proofs.Denotes.{Set, Denotes}
 use Rattle.lrp_eval.proofs.Counted.{many_at}
 
@@ -91,7 +91,7 @@ module _ {db : List Relation} {q : Question} {cap : ℕ} {domain : List Text} {t
   pub sound_step : IsSoundStep db q (suc (length tables)) n.step
   sound_step = sound_plan.steps (suc (length tables)) n.step n.at
 
-  pub rises : Rises db q (suc (length tables)) n.step
+  pub rises : IsRising db q (suc (length tables)) n.step
   rises = sound_step.rises
 
   pub made : IsMade (structure db q) (head_step db q) (plan db q) (suc (length tables)) n.step
@@ -123,8 +123,8 @@ module _ {db : List Relation} {q : Question} {cap : ℕ} {domain : List Text} {t
 
   -- ---- the tables that it reads
 
-  pub run_of : (l : ℕ) (t : Table) → 0 < l → IsOperand tables l t → IsRun db q cap l t
-  run_of l t low o = subst (λ s. IsRun db q cap s t) (suc_pred l low) (n.before (l - 1) t o.at)
+  pub run_of : (l : ℕ) (t : Table) → 0 < l → IsOperand tables l t → IsStepTable db q cap l t
+  run_of l t low o = subst (λ s. IsStepTable db q cap s t) (suc_pred l low) (n.before (l - 1) t o.at)
 
   pub within : (l : ℕ) → IsEarlier (suc (length tables)) l → l ≤ length tables
   within l e = let b : l < suc (length tables) = e.1 in omega arith
@@ -147,7 +147,7 @@ module _ {db : List Relation} {q : Question} {cap : ℕ} {domain : List Text} {t
   -- a table that is read stands for its step's formula
   pub denotes_of : (l : ℕ) (t : Table) → IsEarlier (suc (length tables)) l → IsOperand tables l t → Denotes (constants db q) (structure db q) (variables_of t) (Has t (constants db q)) (formula_at (plan db q) l)
   denotes_of l t e o =
-      let r : IsRun db q cap l t = run_of l t e.0 o in
+      let r : IsStepTable db q cap l t = run_of l t e.0 o in
       let x : (step : PlanStep) × (step_at (plan db q) l ≡ Some step) = step_before l e in
       let own : variables_at db q l ≡ free (formula_at (plan db q) l) =
       ap (λ p. unwrap_or (option_map (step_variables q.head) p) []) x.1 ∙ own_variables x.0.kind q.head (free x.0.formula) (not_head l e x.0 x.1)
@@ -158,7 +158,7 @@ module _ {db : List Relation} {q : Question} {cap : ℕ} {domain : List Text} {t
   pub many_read : (l : ℕ) (t : Table) → IsEarlier (suc (length tables)) l → IsOperand tables l t → (K : ℕ) → K ≡ period_at (plan db q) l
       → Many (Differ (variables_of t)) (Inhabits (constants db q) K (variables_of t) (Has t (constants db q))) cap → ManyAt db q cap l
   many_read l t e o K same m =
-      let r : IsRun db q cap l t = run_of l t e.0 o in
+      let r : IsStepTable db q cap l t = run_of l t e.0 o in
       let x : (step : PlanStep) × (step_at (plan db q) l ≡ Some step) = step_before l e in
       let k : K ≡ x.0.period = same ∙ ap (λ p. unwrap_or (option_map (λ step. step.period) p) 1) x.1 in
       (many_at db q (variables_of t) (Has t (constants db q)) x.0 l cap x.1
@@ -206,7 +206,7 @@ module _ {db : List Relation} {q : Question} {cap : ℕ} {domain : List Text} {t
     too_many h = cap_of.0 h
 
     -- a table of the set is the step's table
-    pub run : (t : Table) → IsTableOf domain times texts K set t → HasReach t.store n.step.reach → (InhabitsMoreThan cap domain K times texts set → ⊥) → IsInOrder db q (suc (length tables)) t → IsRun db q cap (suc (length tables)) t
+    pub run : (t : Table) → IsTableOf domain times texts K set t → HasReach t.store n.step.reach → (InhabitsMoreThan cap domain K times texts set → ⊥) → IsInOrder db q (suc (length tables)) t → IsStepTable db q cap (suc (length tables)) t
     run t is reach few order =
         let d : IsTableOf (constants db q) times texts K set t = subst (λ c. IsTableOf c times texts K set t) n.domain_is is in
         let vs : variables_of t ≡ named_variables times texts = ap₂ named_variables d.times_are d.texts_are in

@@ -5,7 +5,7 @@ use Rattle.std.specs.List.{AllByRecursion, list_any}
 use Rattle.std.specs.Cmp.Lexicographic.{bytes_decides}
 use Rattle.std.proofs.lemmas.Int.{ints}
 use Rattle.lrp_theory.specs.Divides.{Divides}
-use Rattle.lrp_model.specs.Texts.{Text, Identifier}
+use Rattle.lrp_model.specs.Texts.{Text, Identifier, AreDistinct}
 use Rattle.lrp_model.specs.Formulas.{Question}
 use Rattle.lrp_model.specs.Variables.{Variable, time_variable, data_variable, variables_of_test, free}
 use Rattle.lrp_model.specs.Periods.{IsMultiple, test_periods}
@@ -25,7 +25,7 @@ use Rattle.lrp_tables.specs.Tables.{named_variables}
 use Rattle.lrp_plan_laws.specs.Made.{IsEarlier, operands, AreAmong}
 use Rattle.lrp_plan_laws.specs.Points.{step_points}
 use Rattle.lrp_plan_laws.specs.Rising.{period_at, named_periods}
-use Rattle.lrp_plan_laws.specs.Scopes.{AreDifferent, IsNarrow}
+use Rattle.lrp_plan_laws.specs.Scopes.{IsNarrow}
 use Rattle.lrp_plan_laws.proofs.PointLaws.{points_known}
 use Rattle.lrp_eval.specs.Running.{variables_of, IsOperand, IsNext}
 use Rattle.lrp_eval.proofs.Denotes.{in_left, in_right}
@@ -59,15 +59,15 @@ front_all : {X : Type 0} (p : X → Type 0) (xs ys : List X) → AllByRecursion 
 front_all p [] ys h = tt
 front_all p (x ∷ xs) ys h = (h.0, front_all p xs ys h.1)
 
-pub first_differ : (ns ms : List Identifier) → AllPairs ◌≢◌ (ns ++ ms) → AreDifferent ns
+pub first_differ : (ns ms : List Identifier) → AllPairs ◌≢◌ (ns ++ ms) → AreDistinct ns
 first_differ [] ms h = tt
 first_differ (n ∷ ns) ms h = (front_all (λ m. n ≢ m) ns ms (first_apart n (ns ++ ms) h), first_differ ns ms (rest_apart n (ns ++ ms) h))
 
-all_differ : (ms : List Identifier) → AllPairs ◌≢◌ ms → AreDifferent ms
+all_differ : (ms : List Identifier) → AllPairs ◌≢◌ ms → AreDistinct ms
 all_differ [] h = tt
 all_differ (m ∷ ms) h = (first_apart m ms h, all_differ ms (rest_apart m ms h))
 
-pub second_differ : (ns ms : List Identifier) → AllPairs ◌≢◌ (ns ++ ms) → AreDifferent ms
+pub second_differ : (ns ms : List Identifier) → AllPairs ◌≢◌ (ns ++ ms) → AreDistinct ms
 second_differ [] ms h = all_differ ms h
 second_differ (n ∷ ns) ms h = second_differ ns ms (rest_apart n (ns ++ ms) h)
 
@@ -83,15 +83,15 @@ all_behind : (p : Identifier → Type 0) (ns : List Identifier) (n : Identifier)
 all_behind p [] n h k = (k, tt)
 all_behind p (m ∷ ms) n h k = (h.0, all_behind p ms n h.1 k)
 
-one_behind : (ns : List Identifier) (n : Identifier) → AreDifferent ns → AllByRecursion (λ m. m ≢ n) ns → AreDifferent (ns ++ n ∷ [])
+one_behind : (ns : List Identifier) (n : Identifier) → AreDistinct ns → AllByRecursion (λ m. m ≢ n) ns → AreDistinct (ns ++ n ∷ [])
 one_behind [] n d h = (tt, tt)
 one_behind (m ∷ ms) n d h = (all_behind (λ k. m ≢ k) ms n d.0 h.0, one_behind ms n d.1 h.1)
 
-pub joint_differ : (ns more : List Identifier) → AreDifferent ns → AreDifferent (joint ns more)
+pub joint_differ : (ns more : List Identifier) → AreDistinct ns → AreDistinct (joint ns more)
 joint_differ ns [] d = d
 joint_differ ns (n ∷ more) d = joint_differ (cond (list_any (bytes_eq n) ns) ns (ns ++ n ∷ [])) more (taken (list_any (bytes_eq n) ns) (any_of n ns))
   where
-    taken : (b : Bool) → (b ≡ false → AllByRecursion (λ m. m ≢ n) ns) → AreDifferent (cond b ns (ns ++ n ∷ []))
+    taken : (b : Bool) → (b ≡ false → AllByRecursion (λ m. m ≢ n) ns) → AreDistinct (cond b ns (ns ++ n ∷ []))
     taken true h = d
     taken false h = one_behind ns n d (h refl)
 

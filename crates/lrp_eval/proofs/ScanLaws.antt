@@ -5,7 +5,7 @@ use Rattle.std.specs.List.{AllByRecursion, AllZip}
 use Rattle.lrp_theory.specs.Divides.{Divides}
 use Rattle.lrp_model.specs.Texts.{Text, Identifier}
 use Rattle.lrp_model.specs.Formulas.{Question, atom}
-use Rattle.lrp_model.specs.Sorts.{is_data}
+use Rattle.lrp_model.specs.Sorts.{is_data, FitsColumn, time_count, text_count}
 use Rattle.lrp_model.specs.Rows.{text, IsInRow, rows_of, rows_in, relation_named}
 use Rattle.lrp_model.specs.Variables.{time_variable, data_variable, free}
 use Rattle.lrp_model.specs.Satisfaction.{structure}
@@ -28,14 +28,14 @@ use Rattle.lrp_model.proofs.Decided.{cons_cases, contains_first, contains_later,
 use Rattle.lrp_model.proofs.Logic.{all_append}
 use Rattle.lrp_store.specs.Stores.{HasReach}
 use Rattle.lrp_store.specs.declared.table.Table.{Table}
-use Rattle.lrp_tables.specs.Calls.{CanScan, CanBeRow, CanStand, IsBetween, HasText, Suits, time_count, text_count}
+use Rattle.lrp_tables.specs.Calls.{CanScan, CanBeRow, CanStand, IsColumnBound, HasText}
 use Rattle.lrp_tables.specs.Caps.{InhabitsMoreThan}
 use Rattle.lrp_tables.specs.Columns.{scan_times, scan_texts}
 use Rattle.lrp_tables.specs.Tables.{IsTableOf, IsScanned, named_variables}
-use Rattle.lrp_print.specs.Kept.{IsKept, IsRowOf, IsBoundOf, AreValuesOf, times_in}
-use Rattle.lrp_plan_laws.specs.Atoms.{FitsColumn, IsKnownScan, texts_among}
+use Rattle.lrp_print.specs.Kept.{IsKept, IsRowOf, IsBoundOf, AreValuesOf}
+use Rattle.lrp_plan_laws.specs.Atoms.{IsKnownScan, texts_among}
 use Rattle.lrp_plan_laws.specs.Scopes.{IsNarrow}
-use Rattle.lrp_eval.specs.Running.{IsRun, IsNext, text_row, text_column}
+use Rattle.lrp_eval.specs.Running.{IsStepTable, IsNext, text_row, text_column}
 use Rattle.lrp_eval.proofs.Denotes.{Denotes, scan_keeps, sort_keeps}
 use Rattle.lrp_eval.proofs.Named.{all_of, all_by, scan_variables, time_named, data_named, texts_are, are_texts}
 use Rattle.lrp_eval.proofs.Nexts.{formula_kind, reach_kind, keeps_kind, period_nat, own_variables, sound_plan, sound_step, meant, too_many, run, no_order, to_divides, IsMeant}
@@ -51,7 +51,7 @@ stands domain K (c ∷ cs) (Point at ∷ vs) h p t =
     ((h.0.0, h.0.1, subst (λ z. Divides z (pos K)) (natural at.period h.0.1) (to_divides (nat_abs at.period) K p.0.1)), stands domain K cs vs h.1 p.1 t)
 stands domain K (c ∷ cs) (Const x ∷ vs) h p t = ((ap not h.0.0, t.0), stands domain K cs vs h.1 p t.1)
 
-between : (times : ℕ) (bs : List Bound) → AllByRecursion (IsBoundOf times) bs → AllByRecursion (IsBetween times) bs
+between : (times : ℕ) (bs : List Bound) → AllByRecursion (IsBoundOf times) bs → AllByRecursion (IsColumnBound times) bs
 between times [] h = tt
 between times (b ∷ bs) h = (record { left = h.0.left; right = h.0.right }, between times bs h.1)
 
@@ -61,14 +61,14 @@ rows_can domain K cs [] h p t = tt
 rows_can domain K cs (row ∷ rows) h p t =
     let a = (all_append (λ k. (1 ≤ k) × IsMultiple k K) (flat_map value_periods row.values) (flat_map (λ row. flat_map value_periods row.values) rows)).0 p in
     let b = (all_append (λ entry. Contains domain entry.1) (row_texts cs row.values) (flat_map (λ row. row_texts cs row.values) rows)).0 t in
-    (record { values = stands domain K cs row.values h.0.values a.0 b.0; bounds = between (times_in cs) row.bounds h.0.bounds }, rows_can domain K cs rows h.1 a.1 b.1)
+    (record { values = stands domain K cs row.values h.0.values a.0 b.0; bounds = between (time_count cs) row.bounds h.0.bounds }, rows_can domain K cs rows h.1 a.1 b.1)
 
 -- the texts of a relation of the database
 one_found : (b : Bool) (r found : Relation) (rest : Option Relation) (p : Relation → Type 0) → p r → (rest ≡ Some found → p found) → cond b (Some r) rest ≡ Some found → p found
 one_found true r found rest p h k e = let same : r ≡ found = cc in subst p same h
 one_found false r found rest p h k e = k e
 
-suits : (cs : List Column) (ts : List Term) → AllZip FitsColumn cs ts → AllZip Suits cs ts
+suits : (cs : List Column) (ts : List Term) → AllZip FitsColumn cs ts → AllZip FitsColumn cs ts
 suits [] [] h = tt
 suits [] (t ∷ ts) h = absurd h
 suits (c ∷ cs) [] h = absurd h
@@ -143,7 +143,7 @@ module _ {db : List Relation} {q : Question} {cap : ℕ} {domain : List Text} {t
     scan_many = too_many n _ _ _ _ is_meant (period_nat n)
 
     pub scan_run : (made : Table) → IsTableOf domain (scan_times terms) (scan_texts terms) (nat_abs period) (IsScanned domain relation terms) made → HasReach made.store (scan_reach relation.rows terms (nat_abs period))
-        → (InhabitsMoreThan cap domain (nat_abs period) (scan_times terms) (scan_texts terms) (IsScanned domain relation terms) → ⊥) → IsRun db q cap (suc (length tables)) made
+        → (InhabitsMoreThan cap domain (nat_abs period) (scan_times terms) (scan_texts terms) (IsScanned domain relation terms) → ⊥) → IsStepTable db q cap (suc (length tables)) made
     scan_run made is reach few = run n _ _ _ _ is_meant (period_nat n) made is (subst (λ r. HasReach made.store r) (sym reach_is) reach) few (no_order n other made)
 
 -- ---- the texts of a sort
@@ -181,7 +181,7 @@ module _ {db : List Relation} {q : Question} {cap : ℕ} {domain : List Text} {t
     times = subst (λ cs. time_count cs ≤ 8) (sym columns) (omega arith);
     texts = subst (λ cs. text_count cs ≤ 8) (sym columns) (omega arith);
     rows = subst (λ cs. AllByRecursion (CanBeRow domain (pos 1) cs) relation.rows) (sym columns) (subst (λ rs. AllByRecursion (CanBeRow domain (pos 1) (text_column column ∷ [])) rs) (sym rows) (texts_can domain (text_column column) texts refl known));
-    terms_fit = subst (λ cs. AllZip Suits cs (variable_term name)) (sym columns) (refl, tt);
+    terms_fit = subst (λ cs. AllZip FitsColumn cs (variable_term name)) (sym columns) (refl, tt);
     terms_known = (tt, tt);
     apart = λ v a b. contains_none v a;
   }
@@ -213,5 +213,5 @@ module _ {db : List Relation} {q : Question} {cap : ℕ} {domain : List Text} {t
   sort_many = too_many n (scan_times (variable_term name)) (scan_texts (variable_term name)) _ _ sort_meant (sym (keeps_kind n))
 
   pub sort_run : (made : Table) → IsTableOf domain (scan_times (variable_term name)) (scan_texts (variable_term name)) 1 (IsScanned domain relation (variable_term name)) made → HasReach made.store (scan_reach relation.rows (variable_term name) 1)
-      → (InhabitsMoreThan cap domain 1 (scan_times (variable_term name)) (scan_texts (variable_term name)) (IsScanned domain relation (variable_term name)) → ⊥) → IsRun db q cap (suc (length tables)) made
+      → (InhabitsMoreThan cap domain 1 (scan_times (variable_term name)) (scan_texts (variable_term name)) (IsScanned domain relation (variable_term name)) → ⊥) → IsStepTable db q cap (suc (length tables)) made
   sort_run made is reach few = run n (scan_times (variable_term name)) (scan_texts (variable_term name)) _ _ sort_meant (sym (keeps_kind n)) made is (subst (λ r. HasReach made.store r) (reach_one ∙ sym (reach_kind n)) reach) few (no_order n sort_other made)

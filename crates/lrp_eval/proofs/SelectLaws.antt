@@ -21,11 +21,11 @@ use Rattle.lrp_store.specs.Tables.{AreNumbered}
 use Rattle.lrp_store.specs.declared.table.Table.{Table}
 use Rattle.lrp_tables.specs.Calls.{CanBeCarried, test_period}
 use Rattle.lrp_tables.specs.Caps.{InhabitsMoreThan}
-use Rattle.lrp_tables.specs.Columns.{test_times, test_texts}
+use Rattle.lrp_tables.specs.Columns.{test_times, test_names}
 use Rattle.lrp_tables.specs.Tables.{Has, IsTableOf, IsTested, IsSelected, named_variables}
 use Rattle.lrp_plan_laws.specs.Made.{IsEarlier, AreAmong}
 use Rattle.lrp_plan_laws.specs.Rising.{test_period as period_of}
-use Rattle.lrp_eval.specs.Running.{variables_of, IsRun, IsOperand, IsNext}
+use Rattle.lrp_eval.specs.Running.{variables_of, IsStepTable, IsOperand, IsNext}
 use Rattle.lrp_eval.proofs.Denotes.{Denotes, in_one, leaf_keeps, select_keeps}
 use Rattle.lrp_eval.proofs.Named.{test_variables, texts_are, are_texts}
 use Rattle.lrp_eval.proofs.Nexts.{formula_kind, variables_kind, reach_kind, keeps_kind, period_nat, denotes_of, meant, too_many, run, no_order, IsMeant}
@@ -46,24 +46,24 @@ module _ {db : List Relation} {q : Question} {cap : ℕ} {domain : List Text} {t
   leaf_period : nat_abs (test_period t) ≡ n.step.period
   leaf_period = same_period t ∙ sym (keeps_kind n)
 
-  leaf_denotes : Denotes (constants db q) (structure db q) (named_variables (test_times t) (test_texts t)) (IsTested domain t) n.step.formula
+  leaf_denotes : Denotes (constants db q) (structure db q) (named_variables (test_times t) (test_names t)) (IsTested domain t) n.step.formula
   leaf_denotes =
-      subst (Denotes (constants db q) (structure db q) (named_variables (test_times t) (test_texts t)) (IsTested domain t)) (sym (formula_kind n))
-      (subst (λ d. Denotes (constants db q) (structure db q) (named_variables (test_times t) (test_texts t)) (IsTested d t) (test t)) (sym n.domain_is)
-      (leaf_keeps (constants db q) (structure db q) (named_variables (test_times t) (test_texts t)) t (IsTested (constants db q) t) (test_variables t)
-      (λ env. ((λ h. (texts_are (constants db q) (test_times t) (test_texts t) env h.known, h.passes)), λ h. record { known = are_texts (constants db q) (test_times t) (test_texts t) env h.0; passes = h.1 }))))
+      subst (Denotes (constants db q) (structure db q) (named_variables (test_times t) (test_names t)) (IsTested domain t)) (sym (formula_kind n))
+      (subst (λ d. Denotes (constants db q) (structure db q) (named_variables (test_times t) (test_names t)) (IsTested d t) (test t)) (sym n.domain_is)
+      (leaf_keeps (constants db q) (structure db q) (named_variables (test_times t) (test_names t)) t (IsTested (constants db q) t) (test_variables t)
+      (λ env. ((λ h. (texts_are (constants db q) (test_times t) (test_names t) env h.known, h.passes)), λ h. record { known = are_texts (constants db q) (test_times t) (test_names t) env h.0; passes = h.1 }))))
 
   leaf_other : (of : ℕ) → Leaf t ≡ Extend of → ⊥
   leaf_other of e = cc
 
-  leaf_meant : IsMeant n (named_variables (test_times t) (test_texts t)) (IsTested domain t)
+  leaf_meant : IsMeant n (named_variables (test_times t) (test_names t)) (IsTested domain t)
   leaf_meant = meant n _ _ leaf_other leaf_denotes
 
-  pub leaf_many : InhabitsMoreThan cap domain (nat_abs (test_period t)) (test_times t) (test_texts t) (IsTested domain t) → ManyAt db q cap (suc (length tables))
+  pub leaf_many : InhabitsMoreThan cap domain (nat_abs (test_period t)) (test_times t) (test_names t) (IsTested domain t) → ManyAt db q cap (suc (length tables))
   leaf_many = too_many n _ _ _ _ leaf_meant leaf_period
 
-  pub leaf_run : (made : Table) → IsTableOf domain (test_times t) (test_texts t) (nat_abs (test_period t)) (IsTested domain t) made → HasReach made.store (test_reach t)
-      → (InhabitsMoreThan cap domain (nat_abs (test_period t)) (test_times t) (test_texts t) (IsTested domain t) → ⊥) → IsRun db q cap (suc (length tables)) made
+  pub leaf_run : (made : Table) → IsTableOf domain (test_times t) (test_names t) (nat_abs (test_period t)) (IsTested domain t) made → HasReach made.store (test_reach t)
+      → (InhabitsMoreThan cap domain (nat_abs (test_period t)) (test_times t) (test_names t) (IsTested domain t) → ⊥) → IsStepTable db q cap (suc (length tables)) made
   leaf_run made is reach few = run n _ _ _ _ leaf_meant leaf_period made is (subst (λ r. HasReach made.store r) (sym (reach_kind n)) reach) few (no_order n leaf_other made)
 
 -- what the call of a selection asks
@@ -109,7 +109,7 @@ module _ {db : List Relation} {q : Question} {cap : ℕ} {domain : List Text} {t
 
   pub select_run : (made : Table) → IsTableOf domain table.vars.times table.vars.texts (nat_abs period) (IsSelected domain table t) made
       → ((high : ℕ) → HasReach table.store high → test_reach t ≤ high → HasReach made.store (high + nat_abs period))
-      → (InhabitsMoreThan cap domain (nat_abs period) table.vars.times table.vars.texts (IsSelected domain table t) → ⊥) → IsRun db q cap (suc (length tables)) made
+      → (InhabitsMoreThan cap domain (nat_abs period) table.vars.times table.vars.texts (IsSelected domain table t) → ⊥) → IsStepTable db q cap (suc (length tables)) made
   select_run made is reach few =
       let high : ℕ = max (reach_at (plan db q) of) (test_reach t) in
       run n _ _ _ _ is_meant (period_nat n) made is

@@ -21,7 +21,7 @@ use Rattle.lrp_tables.specs.Columns.{joint}
 use Rattle.lrp_tables.specs.Tables.{Has, HasTexts, IsTableOf, IsUnited, named_variables}
 use Rattle.lrp_tables.proofs.TableLaws.{decided_table}
 use Rattle.lrp_plan_laws.specs.Made.{IsEarlier}
-use Rattle.lrp_eval.specs.Running.{variables_of, IsRun, IsOperand, IsNext}
+use Rattle.lrp_eval.specs.Running.{variables_of, IsStepTable, IsOperand, IsNext}
 use Rattle.lrp_eval.proofs.Denotes.{Denotes, union_keeps}
 use Rattle.lrp_eval.proofs.Named.{joint_variables, texts_are, are_texts}
 use Rattle.lrp_eval.proofs.Nexts.{formula_kind, reach_kind, narrow_kind, period_nat, denotes_of, meant, too_many, run, ascends, no_order, IsMeant}
@@ -91,7 +91,7 @@ module _ {db : List Relation} {q : Question} {cap : ℕ} {domain : List Text} {t
 
   pub union_run : (made : Table) → IsTableOf domain (joint lt.vars.times rt.vars.times) (joint lt.vars.texts rt.vars.texts) (nat_abs period) (IsUnited domain lt rt) made
       → ((high : ℕ) → HasReach lt.store high → HasReach rt.store high → HasReach made.store (high + nat_abs period))
-      → (InhabitsMoreThan cap domain (nat_abs period) (joint lt.vars.times rt.vars.times) (joint lt.vars.texts rt.vars.texts) (IsUnited domain lt rt) → ⊥) → IsRun db q cap (suc (length tables)) made
+      → (InhabitsMoreThan cap domain (nat_abs period) (joint lt.vars.times rt.vars.times) (joint lt.vars.texts rt.vars.texts) (IsUnited domain lt rt) → ⊥) → IsStepTable db q cap (suc (length tables)) made
   union_run made is reach few =
       let high : ℕ = max (reach_at (plan db q) left) (reach_at (plan db q) right) in
       run n _ _ _ _ is_meant (period_nat n) made is

@@ -34,9 +34,9 @@ pub record IsSomePlan (db : List Relation) (p : Plan) : Type 0 where
   pub is : IsPlanOf db query p
 
 -- the first step with too many cells, in each query that has the plan; or no memory
-abbrev pub IsCause : List Relation → Plan → ℕ → EvalFault → Type 0
-IsCause db p cap (TooManyCells step) = (q : Question) → IsPlanOf db q p → IsFirstMany db q cap step
-IsCause db p cap Memory = Unit {0}
+abbrev pub IsEvalCause : List Relation → Plan → ℕ → EvalFault → Type 0
+IsEvalCause db p cap (TooManyCells step) = (q : Question) → IsPlanOf db q p → IsFirstMany db q cap step
+IsEvalCause db p cap Memory = Unit {0}
 
 -- the table has just the answers of the query, in the columns of its head; it has the period of the last step and no more than its reach, and no step has more than cap cells
 pub record HasAnswers (db : List Relation) (q : Question) (cap : ℕ) (table : Table) : Type 0 where

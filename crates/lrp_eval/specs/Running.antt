@@ -46,7 +46,7 @@ IsInOrder db q s table =
     (step : PlanStep) (of : ℕ) → step_at (plan db q) s ≡ Some step → step.kind ≡ Extend of → (table.vars.times ≡ head_times q.head) × (table.vars.texts ≡ head_texts q.head)
 
 -- the table has just the assignments that satisfy the formula of step s, over its variables; it has the step's period, and no more than its reach and cap cells
-pub record IsRun (db : List Relation) (q : Question) (cap s : ℕ) (table : Table) : Type 0 where
+pub record IsStepTable (db : List Relation) (q : Question) (cap s : ℕ) (table : Table) : Type 0 where
   pub variables : SameVariables (variables_of table) (variables_at db q s)
   pub means : (env : Assignment) → HasConstants (constants db q) (variables_of table) env → Has table (constants db q) env ↔ Satisfies (formula_at (plan db q) s) (structure db q) env
   pub numbered : AreNumbered (constants db q) table.store
@@ -65,7 +65,7 @@ pub record IsOperand (tables : List Table) (number : ℕ) (table : Table) : Type
 
 -- the tables are those of the first steps
 abbrev pub AreRun : List Relation → Question → ℕ → List Table → Type 0
-AreRun db q cap tables = (i : ℕ) (table : Table) → slice_get tables i ≡ Some table → IsRun db q cap (suc i) table
+AreRun db q cap tables = (i : ℕ) (table : Table) → slice_get tables i ≡ Some table → IsStepTable db q cap (suc i) table
 
 -- the step behind these tables has this kind and period
 pub record IsNext (db : List Relation) (q : Question) (cap : ℕ) (domain : List Text) (tables : List Table) (kind : StepKind) (period : ℤ) : Type 0 where
@@ -85,7 +85,7 @@ pub record IsSomeNext (cap : ℕ) (domain : List Text) (tables : List Table) (ki
 
 -- the table is that of the next step, in each database and query that has it
 abbrev pub IsNextTable : ℕ → List Text → List Table → StepKind → ℤ → Table → Type 0
-IsNextTable cap domain tables kind period made = (db : List Relation) (q : Question) → IsNext db q cap domain tables kind period → IsRun db q cap (suc (length tables)) made
+IsNextTable cap domain tables kind period made = (db : List Relation) (q : Question) → IsNext db q cap domain tables kind period → IsStepTable db q cap (suc (length tables)) made
 
 -- the next step has more than cap cells, in each database and query that has it
 abbrev pub HasTooMany : ℕ → List Text → List Table → StepKind → ℤ → Type 0
@@ -100,7 +100,7 @@ pub record IsSomeLast (cap : ℕ) (domain : List Text) (tables : List Table) (of
 
 -- the table is that of the step `head`, and the step has too many cells, in each database and query that has it next
 abbrev pub IsLastTable : ℕ → List Text → List Table → ℕ → List Column → ℤ → Table → Type 0
-IsLastTable cap domain tables of columns period made = (db : List Relation) (q : Question) → columns ≡ q.head → IsNext db q cap domain tables (Extend of) period → IsRun db q cap (suc (length tables)) made
+IsLastTable cap domain tables of columns period made = (db : List Relation) (q : Question) → columns ≡ q.head → IsNext db q cap domain tables (Extend of) period → IsStepTable db q cap (suc (length tables)) made
 
 abbrev pub HasTooManyLast : ℕ → List Text → List Table → ℕ → List Column → ℤ → Type 0
 HasTooManyLast cap domain tables of columns period = (db : List Relation) (q : Question) → columns ≡ q.head → IsNext db q cap domain tables (Extend of) period → ManyAt db q cap (suc (length tables))
@@ -119,5 +119,5 @@ text_column name = record { name = name; sort = Data }
 
 -- the table is that of the last step, and no step has more than cap cells
 pub record IsLastRun (db : List Relation) (q : Question) (cap : ℕ) (table : Table) : Type 0 where
-  pub run : IsRun db q cap (length (plan db q)) table
+  pub run : IsStepTable db q cap (length (plan db q)) table
   pub few : (s : ℕ) → ManyAt db q cap s → ⊥

@@ -2,7 +2,7 @@
 ghost use Rattle.std.specs.Prelude.{IfOk, IfErr};
 ghost use Rattle.lrp_model.specs.Formulas.{Question};
 ghost use Rattle.lrp_eval.specs.Answered.{IsAnswerOf};
-ghost use Rattle.lrp_eval.specs.Planned.{IsCause, IsPlanOf, IsSomePlan};
+ghost use Rattle.lrp_eval.specs.Planned.{IsEvalCause, IsPlanOf, IsSomePlan};
 
 use crate::evaluation::{EvalFault, run_steps};
 use crate::settling::settled;
@@ -22,7 +22,7 @@ pub fn answer(
 ) -> Result<Answer, EvalFault>
     requires plan { IsSomePlan database.now plan.now }
     ensures answer { IfOk result (λ made. (q : Question) → IsPlanOf database.now q plan.now → IsAnswerOf database.now q cap made) }
-    ensures fault { IfErr result (λ fault. IsCause database.now plan.now cap fault) }
+    ensures fault { IfErr result (λ fault. IsEvalCause database.now plan.now cap fault) }
 {
     let table = run_steps(alloc, plan, database, cap)?;
     table.store.shape();

@@ -2,7 +2,7 @@
 ghost use Rattle.std.specs.Prelude.{◌≡◌, ℕ, suc, IfOk, IfErr};
 ghost use Rattle.lrp_model.specs.Formulas.{Question};
 ghost use Rattle.lrp_store.specs.declared.table.StepFault.TheVariants.{TooManyCells as too_many};
-ghost use Rattle.lrp_eval.specs.Planned.{HasAnswers, IsCause, IsPlanOf, IsSomePlan};
+ghost use Rattle.lrp_eval.specs.Planned.{HasAnswers, IsEvalCause, IsPlanOf, IsSomePlan};
 
 use crate::running::{Setting, run_step};
 use lrp_model::{List, Memory, Plan};
@@ -40,7 +40,7 @@ pub fn run_steps(
 ) -> Result<Table, EvalFault>
     requires plan { IsSomePlan database.now plan.now }
     ensures table { IfOk result (λ made. (q : Question) → IsPlanOf database.now q plan.now → HasAnswers database.now q cap made) }
-    ensures fault { IfErr result (λ fault. IsCause database.now plan.now cap fault) }
+    ensures fault { IfErr result (λ fault. IsEvalCause database.now plan.now cap fault) }
 {
     let setting = Setting {
         alloc,

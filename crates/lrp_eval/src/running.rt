@@ -2,7 +2,7 @@
 ghost use Rattle.std.specs.Prelude.{◌≡◌, ◌<◌, ◌≤◌, suc, length, IfOk, Err};
 ghost use Rattle.lrp_model.specs.Caps.{ManyAt};
 ghost use Rattle.lrp_model.specs.Formulas.{Question};
-ghost use Rattle.lrp_eval.specs.Running.{IsNext, IsOperand, IsRun};
+ghost use Rattle.lrp_eval.specs.Running.{IsNext, IsOperand, IsStepTable};
 
 use crate::dropping::{without_text, without_time};
 use crate::joining::joined;
@@ -43,7 +43,7 @@ pub(crate) fn run_step(
     step: &Step,
 ) -> Result<Table, StepFault>
     requires next { (q : Question) × (head.now.columns ≡ q.head) × IsNext database.now q setting.now.cap setting.now.domain.now tables.now step.now.kind step.now.period }
-    ensures table { IfOk result (λ made. (q : Question) → head.now.columns ≡ q.head → IsNext database.now q setting.now.cap setting.now.domain.now tables.now step.now.kind step.now.period → IsRun database.now q setting.now.cap (suc (length tables.now)) made) }
+    ensures table { IfOk result (λ made. (q : Question) → head.now.columns ≡ q.head → IsNext database.now q setting.now.cap setting.now.domain.now tables.now step.now.kind step.now.period → IsStepTable database.now q setting.now.cap (suc (length tables.now)) made) }
     ensures many { result ≡ Err StepFault.TooManyCells → (q : Question) → head.now.columns ≡ q.head → IsNext database.now q setting.now.cap setting.now.domain.now tables.now step.now.kind step.now.period → ManyAt database.now q setting.now.cap (suc (length tables.now)) }
 {
     let period = step.period;

@@ -7,7 +7,7 @@ ghost use Rattle.lrp_model.specs.declared.formulas.Term.TheVariants.{Data as dat
 ghost use Rattle.lrp_model.specs.Formulas.{Question};
 ghost use Rattle.lrp_model.specs.Caps.{ManyAt};
 ghost use Rattle.lrp_store.specs.declared.table.Table.{Table as TableOf};
-ghost use Rattle.lrp_eval.specs.Running.{IsSomeNext, IsNext, IsRun, IsNextTable, HasTooMany, text_column, text_row};
+ghost use Rattle.lrp_eval.specs.Running.{IsSomeNext, IsNext, IsStepTable, IsNextTable, HasTooMany, text_column, text_row};
 
 use crate::running::Setting;
 use lrp_algebra::scan;
@@ -27,7 +27,7 @@ pub(crate) fn scanned(
     period: i64,
 ) -> Result<Table, StepFault>
     requires next { (tables : Items TableOf) × (q : Question) × IsNext database.now q setting.now.cap setting.now.domain.now tables (Scan relation.now terms.now) period }
-    ensures table { IfOk result (λ made. (tables : Items TableOf) (q : Question) → IsNext database.now q setting.now.cap setting.now.domain.now tables (Scan relation.now terms.now) period → IsRun database.now q setting.now.cap (suc (length tables)) made) }
+    ensures table { IfOk result (λ made. (tables : Items TableOf) (q : Question) → IsNext database.now q setting.now.cap setting.now.domain.now tables (Scan relation.now terms.now) period → IsStepTable database.now q setting.now.cap (suc (length tables)) made) }
     ensures many { result ≡ Err StepFault.TooManyCells → (tables : Items TableOf) (q : Question) → IsNext database.now q setting.now.cap setting.now.domain.now tables (Scan relation.now terms.now) period → ManyAt database.now q setting.now.cap (suc (length tables)) }
 {
     let Some(relation) = database.relation(relation) else {

@@ -17,8 +17,8 @@ use Rattle.lrp_model.specs.declared.tuples.Cell.{Cell}
 use Rattle.lrp_zone.specs.Zones.{ZoneView, IsZone, IsInCell, IsMember, columns_of}
 use Rattle.lrp_zone.specs.Pairs.{IsOfCell}
 use Rattle.lrp_store.specs.Least.{HasRoom, IsRoom}
-use Rattle.lrp_store.specs.Settled.{AreSettled, InSome, IsOneZone}
-use Rattle.lrp_store.specs.Stores.{IsStore, LiesIn, StoreView, tables_at, zone_of, zones_at}
+use Rattle.lrp_store.specs.Settled.{AreSettled, InSome, AreOneZone}
+use Rattle.lrp_store.specs.Stores.{IsStore, LiesInCell, StoreView, tables_at, zone_of, zones_at}
 use Rattle.lrp_store.specs.Tables.{AreTexts, InAnswer}
 use Rattle.lrp_store.specs.declared.answer.Answer.{Answer}
 use Rattle.lrp_store.proofs.Counted.{lies_in, one_cell}
@@ -99,12 +99,12 @@ module _ (a : Answer) (store : IsStore a.store) (ascends : Ascends a.domain) (ro
         let numbers = take a.store.shape.texts cell.texts in
         let n = columns_are a store ascends cell table held in
         let named : numbers ≡ h.held.0 = one_numbers a.domain ascends numbers h.held.0 (row_texts a store ascends cell table held) (texts_of tuple) (numbered_texts (window_of a (pos 0) (pos 0)) (known a store ascends cell table held) cell table held) h.held.1 texts in
-        let here : LiesIn a.store.shape a.store.period cell (times_of tuple) h.held.0 = lies a.store (times_of tuple) numbers h.held.0 times n named in
+        let here : LiesInCell a.store.shape a.store.period cell (times_of tuple) h.held.0 = lies a.store (times_of tuple) numbers h.held.0 times n named in
         let e : i.cell ≡ cell = one_cell a.store.shape a.store.period i.cell cell (times_of tuple) h.held.0 (cell_held a.store store i.cell i.table i.held) (cell_held a.store store cell table held) (lies_in a.store store (times_of tuple) h.held.0 i) here in
         let there : Contains (zones_at a.store i.cell) (zone_of a.store i.cell i.table) = in_map (zone_of a.store i.cell) (tables_at a.store i.cell) i.table i.held in
         subst (λ c. InSome (zones_at a.store c) (times_of tuple)) e (record { zone = zone_of a.store i.cell i.table; listed = there; inside = i.inside })
       where
-        lies : (s : StoreView) (xs : List ℤ) (numbers ns : List ℕ) → IsInCell (zone_of s cell table) xs → columns_of (zone_of s cell table) ≡ s.shape.times → take s.shape.texts cell.texts ≡ ns → LiesIn s.shape s.period cell xs ns
+        lies : (s : StoreView) (xs : List ℤ) (numbers ns : List ℕ) → IsInCell (zone_of s cell table) xs → columns_of (zone_of s cell table) ≡ s.shape.times → take s.shape.texts cell.texts ≡ ns → LiesInCell s.shape s.period cell xs ns
         lies s xs numbers ns times n named = record {
           count = times.count ∙ n;
           residues = λ i low. subst (λ r. Divides (pos s.period) (node xs i -ℤ r)) (node_take s.shape.times cell.residues i low) (times.each i (omega (arith, n, low)));
@@ -149,16 +149,16 @@ module _ (a : Answer) (store : IsStore a.store) (ascends : Ascends a.domain) (ro
           let answer : InAnswer a.head.columns a.domain a.store tuple = (same tuple).1 ((h.same tuple values).1 (record { values = values; bounds = bounds })) in
           subst (λ zs. InSome zs xs) e (subst (InSome zones) t.times (in_some tuple answer times t.texts))
 
-      made_one : (w : ZoneView) × IsOfCell (zone a store ascends cell table held) w × IsOneZone zones w
+      made_one : (w : ZoneView) × IsOfCell (zone a store ascends cell table held) w × AreOneZone zones w
       made_one =
           let w = is_one z ys valid cells space whole in
-          (w.0, record { period = w.1.period ∙ sym (ap (λ v. v.period) first_listed.2); residues = w.1.residues ∙ sym (ap (λ v. v.residues) first_listed.2) }, subst (λ zs. IsOneZone zs w.0) (sym e) w.2)
+          (w.0, record { period = w.1.period ∙ sym (ap (λ v. v.period) first_listed.2); residues = w.1.residues ∙ sym (ap (λ v. v.residues) first_listed.2) }, subst (λ zs. AreOneZone zs w.0) (sym e) w.2)
 
     -- where the cell's answers are those of one row, its zones are one
-    one_zone : IsOneZoneOf answers (row_of a.head.columns a.domain a.store cell table) → (w : ZoneView) × IsOfCell (zone a store ascends cell table held) w × IsOneZone zones w
+    one_zone : IsOneZoneOf answers (row_of a.head.columns a.domain a.store cell table) → (w : ZoneView) × IsOfCell (zone a store ascends cell table held) w × AreOneZone zones w
     one_zone h = by zones refl
       where
-        by : (zs : List ZoneView) → zones ≡ zs → (w : ZoneView) × IsOfCell (zone a store ascends cell table held) w × IsOneZone zones w
+        by : (zs : List ZoneView) → zones ≡ zs → (w : ZoneView) × IsOfCell (zone a store ascends cell table held) w × AreOneZone zones w
         by [] e = absurd (in_none (zone_of a.store cell table) (subst (λ zs. Contains zs (zone_of a.store cell table)) e (zone_listed table held)))
         by (z ∷ ys) e = made_one h z ys e
 

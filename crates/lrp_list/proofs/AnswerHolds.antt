@@ -7,7 +7,7 @@ use Rattle.std.specs.Ordering.{nat_cmp, int_cmp, ordering_then}
 use Rattle.std.specs.List.{AllByRecursion}
 use Rattle.std.proofs.lemmas.Cmp.{tied_itself}
 use Rattle.std.proofs.lemmas.List.Elements.{Contains-get_or}
-use Rattle.lrp_model.specs.AnswerTexts.{InOrder, IsAnswerRow, row_residues, row_texts, cell_cmp as row_cmp}
+use Rattle.lrp_model.specs.AnswerTexts.{InOrder, IsAnswerRow, value_residues, value_texts, row_cell_cmp as row_cmp}
 use Rattle.lrp_model.specs.Rows.{Datum, time, text, times_of, texts_of, IsInRow, Holds, rows_in, rows_of as named_rows}
 use Rattle.lrp_model.specs.Texts.{Ascends, text_cmp}
 use Rattle.lrp_model.specs.declared.relations.Relation.{Relation}
@@ -22,25 +22,25 @@ use Rattle.lrp_store.specs.declared.answer.Answer.{Answer}
 use Rattle.lrp_store.proofs.Aligning.{key_of}
 use Rattle.lrp_store.proofs.Held.{cell_held}
 use Rattle.lrp_list.specs.AnswerText.{answer_relation, cell_rows, row_of, rows_of, value_of}
-use Rattle.lrp_list.specs.Lines.{texts_at}
 use Rattle.lrp_list.specs.Listing.{window_of}
 use Rattle.lrp_list.proofs.AnswerRows.{cell_texts, first, from_row, head, known, row, row_is, to_row}
 use Rattle.lrp_list.proofs.HeadOrder.{texts_are}
 use Rattle.lrp_list.proofs.Lists.{all_in, cells_ascend, from_flat, from_map, in_flat, in_map, pairs_flat}
 use Rattle.lrp_list.proofs.Orders.{equal_greater, front_cmp, less_greater, numbers_cmp}
 use Rattle.lrp_list.proofs.Placed.{cell_texts as numbered_texts}
+use Rattle.lrp_model.specs.Tuples.{texts_at}
 
 -- a relation by its own name
 own_rows : (r : Relation) → named_rows (r ∷ []) r.name ≡ r.rows
 own_rows r = ap (λ b. rows_in (cond b (Some r) None)) ((bytes_decides r.name r.name).1 refl)
 
 -- the texts and the residues of values in head order
-texts_in_order : (k : ℤ) (tuple : List Datum) → row_texts (map (value_of k) tuple) ≡ texts_of tuple
+texts_in_order : (k : ℤ) (tuple : List Datum) → value_texts (map (value_of k) tuple) ≡ texts_of tuple
 texts_in_order k [] = refl
 texts_in_order k (time x ∷ tuple) = texts_in_order k tuple
 texts_in_order k (text t ∷ tuple) = ap (λ ts. t ∷ ts) (texts_in_order k tuple)
 
-residues_in_order : (k : ℤ) (tuple : List Datum) → row_residues (map (value_of k) tuple) ≡ times_of tuple
+residues_in_order : (k : ℤ) (tuple : List Datum) → value_residues (map (value_of k) tuple) ≡ times_of tuple
 residues_in_order k [] = refl
 residues_in_order k (time x ∷ tuple) = ap (λ xs. x ∷ xs) (residues_in_order k tuple)
 residues_in_order k (text t ∷ tuple) = residues_in_order k tuple
@@ -111,11 +111,11 @@ module _ (a : Answer) (store : IsStore a.store) (ascends : Ascends a.domain) whe
       let pd : IsCellOf a.store.shape a.store.period d = cell_held a.store store d u hu in
       let hc = head a store ascends c t ht in
       let hd = head a store ascends d u hu in
-      let texts : slice_cmp text_cmp (row_texts (row_of a.head.columns a.domain a.store c t).values) (row_texts (row_of a.head.columns a.domain a.store d u).values) ≡ slice_cmp nat_cmp c.texts d.texts =
+      let texts : slice_cmp text_cmp (value_texts (row_of a.head.columns a.domain a.store c t).values) (value_texts (row_of a.head.columns a.domain a.store d u).values) ≡ slice_cmp nat_cmp c.texts d.texts =
       ap₂ (slice_cmp text_cmp) (texts_in_order k (first a store ascends c t ht) ∙ hc.texts) (texts_in_order k (first a store ascends d u hu) ∙ hd.texts)
       ∙ sym (numbers_cmp a.domain ascends (take n c.texts) (take n d.texts) _ _ (numbered_texts (window_of a (pos 0) (pos 0)) (known a store ascends c t ht) c t ht) (numbered_texts (window_of a (pos 0) (pos 0)) (known a store ascends d u hu) d u hu))
       ∙ sym (front_cmp nat_cmp 0 refl n c.texts d.texts (pc.texts.size ∙ sym pd.texts.size) pc.texts.zeros pd.texts.zeros) in
-      let residues : slice_cmp int_cmp (row_residues (row_of a.head.columns a.domain a.store c t).values) (row_residues (row_of a.head.columns a.domain a.store d u).values) ≡ slice_cmp int_cmp c.residues d.residues =
+      let residues : slice_cmp int_cmp (value_residues (row_of a.head.columns a.domain a.store c t).values) (value_residues (row_of a.head.columns a.domain a.store d u).values) ≡ slice_cmp int_cmp c.residues d.residues =
       ap₂ (slice_cmp int_cmp) (residues_in_order k (first a store ascends c t ht) ∙ hc.times) (residues_in_order k (first a store ascends d u hu) ∙ hd.times)
       ∙ sym (front_cmp int_cmp (pos 0) refl m c.residues d.residues (pc.residues.size ∙ sym pd.residues.size) pc.residues.zeros pd.residues.zeros) in
       ap₂ ordering_then texts residues

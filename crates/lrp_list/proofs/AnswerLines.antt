@@ -5,14 +5,13 @@ use Rattle.std.specs.List.{flat_map, range_with_len}
 use Rattle.lrp_model.specs.Texts.{Text}
 use Rattle.lrp_model.specs.Sorts.{is_time}
 use Rattle.lrp_model.specs.Printed.{joined_by, point_bytes, quoted, value_bytes}
-use Rattle.lrp_model.specs.Tuples.{in_head_order}
+use Rattle.lrp_model.specs.Tuples.{in_head_order, text_at, texts_at}
 use Rattle.lrp_model.specs.declared.relations.Column.{Column}
 use Rattle.lrp_model.specs.declared.relations.Value.{Value}
 use Rattle.lrp_model.specs.declared.tuples.Cell.{Cell}
 use Rattle.lrp_model.specs.declared.tuples.Shape.{Shape}
 use Rattle.lrp_store.specs.Stores.{StoreView}
 use Rattle.lrp_list.specs.AnswerText.{cell_values, value_of, values_behind}
-use Rattle.lrp_list.specs.Lines.{text_at, texts_at}
 use Rattle.lrp_list.proofs.LineLaws.{rest_is, time_put, text_put}
 
 -- ---- values

@@ -12,16 +12,16 @@ use Rattle.lrp_text.proofs.Sound.{takes_join}
 use Rattle.lrp_model.specs.AnswerTexts.{HasPeriod as HasPeriodOf, IsAnswerRow}
 use Rattle.lrp_model.specs.DatabaseReading.{IsDatabase}
 use Rattle.lrp_model.specs.Databases.{relation_text, database_text}
-use Rattle.lrp_model.specs.Lexing.{limit, after, start, tokens, tokens_from, skip, scan}
+use Rattle.lrp_model.specs.Lexing.{greatest_number, after, start, tokens, tokens_from, skip, scan}
 use Rattle.lrp_model.specs.Plans.{time_columns}
 use Rattle.lrp_model.specs.Printed.{relation_bytes, database_bytes}
 use Rattle.lrp_model.specs.Rows.{Datum, time, text, texts_of}
 use Rattle.lrp_model.specs.Satisfaction.{HasShape, IsOfKind}
-use Rattle.lrp_model.specs.Sorts.{is_time}
+use Rattle.lrp_model.specs.Sorts.{is_time, time_count}
 use Rattle.lrp_model.specs.Domains.{same_sort}
 use Rattle.lrp_model.specs.Texts.{Text, Ascends}
 use Rattle.lrp_model.specs.DataTexts.{IsDataText}
-use Rattle.lrp_model.specs.Tokens.{Takes, Spells, joined}
+use Rattle.lrp_model.specs.Tokens.{Takes, Spells, joined_parts}
 use Rattle.lrp_model.specs.Tokens.Part.{any}
 use Rattle.lrp_model.specs.Tokens.Token.{end_token}
 use Rattle.lrp_model.specs.declared.relations.Column.{Column}
@@ -34,7 +34,7 @@ use Rattle.lrp_model.specs.declared.relations.Value.TheVariants.{Point, Const}
 use Rattle.lrp_model.specs.declared.tokens.Place.{Place}
 use Rattle.lrp_model.specs.declared.tuples.Cell.{Cell}
 use Rattle.lrp_model.specs.declared.written.RawRelation.{RawRelation}
-use Rattle.lrp_print.specs.Kept.{AreKept, AreValuesOf, IsBoundOf, IsKept, IsRowOf, times_in}
+use Rattle.lrp_print.specs.Kept.{AreKept, AreValuesOf, IsBoundOf, IsKept, IsRowOf}
 use Rattle.lrp_print.proofs.Faultless.{relations_fit, relations_sound}
 use Rattle.lrp_print.proofs.Meant.{reduced, reduced_row, reduced_value, relations_mean}
 use Rattle.lrp_print.proofs.PieceLaws.{trees, behind}
@@ -70,9 +70,9 @@ database_tree = trees (behind relation_bytes) relation_tree start
 database_spelled : (rs : List Relation) → AllByRecursion IsKept rs → Spells (database_text (database_tree rs)) (tokens (database_bytes rs))
 database_spelled rs k =
     let bytes = flat_map relation_bytes rs in
-    let whole : Takes (joined relation_text (database_tree rs)) (tokens_at start (bytes ++ [])) (tokens_at (after start bytes) []) = (relations_spelled rs start [] k).takes in
+    let whole : Takes (joined_parts relation_text (database_tree rs)) (tokens_at start (bytes ++ [])) (tokens_at (after start bytes) []) = (relations_spelled rs start [] k).takes in
     let P : List ℕ → Type 0 = λ bs. Spells (database_text (database_tree rs)) (tokens_at start bs) in
-    subst P (append-nil bytes) (takes_join (joined relation_text (database_tree rs)) (any end_token ∷ []) (tokens_at start (bytes ++ [])) (tokens_at (after start bytes) []) [] whole (the_end (after start bytes)))
+    subst P (append-nil bytes) (takes_join (joined_parts relation_text (database_tree rs)) (any end_token ∷ []) (tokens_at start (bytes ++ [])) (tokens_at (after start bytes) []) [] whole (the_end (after start bytes)))
 
 -- a relation reads back with each offset taken modulo its period
 read_reduced : (r : Relation) → IsKept r → IsDatabase (relation_bytes r) (reduced r ∷ [])
@@ -131,7 +131,7 @@ text_sort Time t h = absurd h
 text_sort Data t h = refl
 text_sort (Named name) t h = refl
 
-values_kept : (k : ℕ) (cs : List Column) (tuple : List Datum) → 0 < k → k ≤ limit → HasShape cs tuple → AllByRecursion IsDataText (texts_of tuple) → AreValuesOf cs (map (value_of (pos k)) tuple)
+values_kept : (k : ℕ) (cs : List Column) (tuple : List Datum) → 0 < k → k ≤ greatest_number → HasShape cs tuple → AllByRecursion IsDataText (texts_of tuple) → AreValuesOf cs (map (value_of (pos k)) tuple)
 values_kept k [] [] some few s h = tt
 values_kept k [] (d ∷ tuple) some few s h = absurd s
 values_kept k (c ∷ cs) [] some few s h = absurd s
@@ -145,11 +145,11 @@ texts_kept domain (n ∷ ns) [] h all = absurd h
 texts_kept domain (n ∷ ns) (t ∷ ts) h all = (in_all IsDataText domain all t (Contains-from_get domain n t h.0), texts_kept domain ns ts h.1 all)
 
 -- time columns by their count
-times_same : (cs : List Column) → times_in cs ≡ time_columns cs
+times_same : (cs : List Column) → time_count cs ≡ time_columns cs
 times_same [] = refl
 times_same (c ∷ cs) = times_cons c cs ∙ by (is_time c.sort) (times_same cs)
   where
-    by : (b : Bool) → times_in cs ≡ time_columns cs → (if b then 1 else 0) + times_in cs ≡ length (cond b (c ∷ filter (λ d. same_sort d.sort Time) cs) (filter (λ d. same_sort d.sort Time) cs))
+    by : (b : Bool) → time_count cs ≡ time_columns cs → (if b then 1 else 0) + time_count cs ≡ length (cond b (c ∷ filter (λ d. same_sort d.sort Time) cs) (filter (λ d. same_sort d.sort Time) cs))
     by true e = omega (arith, e)
     by false e = omega (arith, e)
 
@@ -159,12 +159,12 @@ module _ (a : Answer) (store : IsStore a.store) (ascends : Ascends a.domain) (ro
       let z = zone a store ascends cell table held in
       let is = zone_is a store ascends cell table held in
       let h = head a store ascends cell table held in
-      let n : times_in a.head.columns ≡ columns_of z = times_same a.head.columns ∙ a.times_are ∙ sym (columns_are a store ascends cell table held) in
+      let n : time_count a.head.columns ≡ columns_of z = times_same a.head.columns ∙ a.times_are ∙ sym (columns_are a store ascends cell table held) in
       let space = room.each cell table held in
       record {
         values = values_kept a.store.period a.head.columns (first a store ascends cell table held) store.period_low store.period_high h.shape
             (subst (AllByRecursion IsDataText) (sym h.texts) (texts_kept a.domain (take a.store.shape.texts cell.texts) _ (cell_texts (window_of a (pos 0) (pos 0)) (known a store ascends cell table held) cell table held) texts));
-        bounds = all_in (IsBoundOf (times_in a.head.columns)) (closed_bounds z) (λ b m.
+        bounds = all_in (IsBoundOf (time_count a.head.columns)) (closed_bounds z) (λ b m.
             let l = from_bounds (columns_of z + 1) (closed_at z is) b m in
             let small : AtMost (2 ^ 62) (Some b.most) = subst (λ e. AtMost (2 ^ 62) e) l.most (closed_small z is space.0 space.1 b.left b.right (less l.left) (less l.right) l.apart) in
             record { left = subst (λ k. b.left ≤ k) (sym n) (less l.left); right = subst (λ k. b.right ≤ k) (sym n) (less l.right); some = other b.left b.right l.apart; low = small.0; high = small.1 });

@@ -13,7 +13,7 @@ use Rattle.lrp_model.specs.AnswerTexts.{HasPeriod, IsLeastBound, IsOwnBound, IsA
 use Rattle.lrp_model.specs.Rows.{Datum, time, text, times_of, texts_of, time_at, IsOf, IsInRow, Meets}
 use Rattle.lrp_model.specs.Satisfaction.{HasShape, IsOfKind}
 use Rattle.lrp_model.specs.Texts.{Text, Ascends}
-use Rattle.lrp_model.specs.Tuples.{in_head_order}
+use Rattle.lrp_model.specs.Tuples.{in_head_order, texts_at}
 use Rattle.lrp_model.specs.declared.relations.Column.{Column}
 use Rattle.lrp_model.specs.declared.relations.Row.{Row}
 use Rattle.lrp_model.specs.declared.relations.Sort.{Sort}
@@ -24,7 +24,6 @@ use Rattle.lrp_store.specs.Stores.{IsStore, zone_of, tables_at}
 use Rattle.lrp_store.specs.declared.answer.Answer.{Answer}
 use Rattle.lrp_store.proofs.Held.{zone_held}
 use Rattle.lrp_list.specs.AnswerText.{closed_bounds, row_of, value_of}
-use Rattle.lrp_list.specs.Lines.{texts_at}
 use Rattle.lrp_list.specs.Listing.{window_of}
 use Rattle.lrp_list.proofs.Closed.{bounds_ordered, closed_at, closed_attained, closed_met, closed_reached, closed_whole, from_bounds, in_bounds}
 use Rattle.lrp_list.proofs.HeadOrder.{IsHeadOf, head_is}

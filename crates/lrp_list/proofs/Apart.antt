@@ -9,7 +9,7 @@ use Rattle.lrp_theory.proofs.Modulo.{Divides--, Divides-is, Divides-self, small_
 use Rattle.lrp_zone.specs.Zones.{ZoneView, IsZone, IsInCell, IsMember, IsTight, columns_of}
 use Rattle.lrp_zone.specs.Pairs.{IsOfCell}
 use Rattle.lrp_store.specs.Least.{IsRoom}
-use Rattle.lrp_store.specs.Settled.{AreIntervals, InSome, IsBelow}
+use Rattle.lrp_store.specs.Settled.{AreIntervals, InSome, LiesBelow}
 use Rattle.lrp_list.proofs.Closed.{closed_at, closed_attained, closed_met, closed_reached, closed_small}
 use Rattle.lrp_list.proofs.Made.{made, made_cell, made_is, from_made, to_made}
 
@@ -80,8 +80,8 @@ module _ (z : ZoneView) (is : IsZone z) (one : columns_of z ≡ 1) where
 -- two of the zones, which are maximal intervals in ascending order
 module _ (zones : List ZoneView) (intervals : AreIntervals zones) (v w : ZoneView) (i j : ℕ) (il : i < j) (jl : j < length zones) (v_at : (d : ZoneView) → get_or zones i d ≡ v) (w_at : (d : ZoneView) → get_or zones j d ≡ w)
     (v_is : IsZone v) (w_is : IsZone w) (one : columns_of v ≡ 1) (other : columns_of w ≡ 1) (cell : IsOfCell v w) (h k : ℕ) (v_room : IsRoom v h) (w_room : IsRoom w k) where
-  in_order : IsBelow v w
-  in_order = let b = intervals.ascending i j v il jl in subst (λ y. IsBelow v y) (w_at v) (subst (λ x. IsBelow x (get_or zones j v)) (v_at v) b)
+  in_order : LiesBelow v w
+  in_order = let b = intervals.ascending i j v il jl in subst (λ y. LiesBelow v y) (w_at v) (subst (λ x. LiesBelow x (get_or zones j v)) (v_at v) b)
 
   v_in : Contains zones v
   v_in = (i, omega arith, v_at v)
@@ -204,10 +204,10 @@ module _ (zones : List ZoneView) (intervals : AreIntervals zones) (v w : ZoneVie
         let ux : IsMember u.0 (x ∷ []) = u.2.each (x ∷ []) x_in in
         let uy : IsMember u.0 (y ∷ []) = u.2.each (y ∷ []) y_in in
         elim (number_or at.0 i) [
-          | inl less ↦ (let b = intervals.ascending at.0 i u.0 less (omega arith) in let c : x <ℤ x = (subst (λ z. IsBelow z v) at.2 (subst (λ z. IsBelow (get_or zones at.0 u.0) z) (v_at u.0) b)) x x ux hx in absurd (omega (arith, ints)))
+          | inl less ↦ (let b = intervals.ascending at.0 i u.0 less (omega arith) in let c : x <ℤ x = (subst (λ z. LiesBelow z v) at.2 (subst (λ z. LiesBelow (get_or zones at.0 u.0) z) (v_at u.0) b)) x x ux hx in absurd (omega (arith, ints)))
           | inr more ↦ elim more [
             | inl same ↦ (let e : u.0 ≡ v = sym at.2 ∙ ap (λ n. get_or zones n u.0) same ∙ v_at u.0 in let c : y <ℤ y = in_order y y (subst (λ z. IsMember z (y ∷ [])) e uy) hy in absurd (omega (arith, ints)))
-            | inr above ↦ (let b = intervals.ascending i at.0 u.0 above at.1 in let c : x <ℤ x = (subst (λ z. IsBelow v z) at.2 (subst (λ z. IsBelow z (get_or zones at.0 u.0)) (v_at u.0) b)) x x hx ux in absurd (omega (arith, ints)))
+            | inr above ↦ (let b = intervals.ascending i at.0 u.0 above at.1 in let c : x <ℤ x = (subst (λ z. LiesBelow v z) at.2 (subst (λ z. LiesBelow z (get_or zones at.0 u.0)) (v_at u.0) b)) x x hx ux in absurd (omega (arith, ints)))
           ]
         ]
       where

@@ -19,7 +19,7 @@ use Rattle.lrp_store.proofs.Aligning.{key_of}
 use Rattle.lrp_store.proofs.Held.{Contains-from_get}
 use Rattle.lrp_list.specs.Cursors.{cell_of, is_in, cursors_in, stands_at, standing_at}
 use Rattle.lrp_list.specs.Listing.{WindowView, AreCursors}
-use Rattle.lrp_list.specs.Progress.{AreApart}
+use Rattle.lrp_list.specs.Progress.{ComeOnce}
 use Rattle.lrp_list.specs.declared.cursor.Cursor.{Cursor}
 use Rattle.lrp_list.proofs.Filling.{cells_apart}
 
@@ -139,7 +139,7 @@ module _ {V : Type 0} where
       by true t = absurd (apart (subst (Contains (map (λ f. f.0) es)) (same_cell k e.0 t) c))
       by false t = ap (λ b. length (unwrap_or (cond b (Some e.1) (find cell_cmp k es)) [])) t
 
-  sizes : (es : List (Cell × List V)) → AreApart (map (λ f. f.0) es) → sum_by (size_in es) (map (λ f. f.0) es) ≡ sum_by (λ vs. length vs) (map (λ f. f.1) es)
+  sizes : (es : List (Cell × List V)) → ComeOnce (map (λ f. f.0) es) → sum_by (size_in es) (map (λ f. f.0) es) ≡ sum_by (λ vs. length vs) (map (λ f. f.1) es)
   sizes [] apart = refl
   sizes (e ∷ es) apart =
       sum_by-cons (size_in (e ∷ es)) e.0 (map (λ f. f.0) es)

@@ -14,7 +14,7 @@ use Rattle.lrp_zone.specs.Zones.{ZoneView, IsZone, IsInCell, IsMember, IsTight, 
 use Rattle.lrp_zone.specs.Pairs.{IsOfCell}
 use Rattle.lrp_zone.proofs.Cases.{eq_or}
 use Rattle.lrp_store.specs.Least.{IsRoom}
-use Rattle.lrp_store.specs.Settled.{InSome, IsOneZone}
+use Rattle.lrp_store.specs.Settled.{InSome, AreOneZone}
 use Rattle.lrp_list.specs.AnswerText.{shortest}
 use Rattle.lrp_list.proofs.AnswerRows.{difference_is}
 use Rattle.lrp_list.proofs.Closed.{closed_at, closed_attained, closed_met, closed_reached, closed_small}
@@ -134,7 +134,7 @@ module _ (z : ZoneView) (ys : List ZoneView) (valid : (y : ZoneView) → Contain
   hull_is = made_is z z_is (widest z ys) tight z_is.some.member (in_hull z (head_in z ys) z_is.some.member z_is.some.is)
 
   -- where all of it is in the zones, they are one zone
-  pub is_one : ((xs : List ℤ) → IsMember hull xs → InSome (z ∷ ys) xs) → (w : ZoneView) × IsOfCell z w × IsOneZone (z ∷ ys) w
+  pub is_one : ((xs : List ℤ) → IsMember hull xs → InSome (z ∷ ys) xs) → (w : ZoneView) × IsOfCell z w × AreOneZone (z ∷ ys) w
   is_one whole = (hull, made_cell z z_is (widest z ys) tight, record { is = hull_is; within = λ xs s. in_hull s.zone s.listed xs s.inside; whole = whole })
 
   -- ---- bounds that all tuples of the zones meet

@@ -9,13 +9,13 @@ use Rattle.lrp_model.specs.Pages.{Tuple}
 use Rattle.lrp_model.specs.Sorts.{is_time}
 use Rattle.lrp_model.specs.Printed.{joined_by, quoted}
 use Rattle.lrp_model.specs.PrintedPages.{datum_bytes, json_line, plain_line}
-use Rattle.lrp_model.specs.Tuples.{put_first, in_head_order}
+use Rattle.lrp_model.specs.Tuples.{put_first, in_head_order, text_at, texts_at}
 use Rattle.lrp_model.specs.declared.relations.Sort.{Sort}
 use Rattle.lrp_model.specs.declared.relations.Sort.TheVariants.{Time, Data, Named}
 use Rattle.lrp_model.specs.declared.relations.Column.{Column}
 use Rattle.lrp_model.specs.Plans.{time_columns}
 use Rattle.lrp_model.specs.Satisfaction.{HasShape}
-use Rattle.lrp_list.specs.Lines.{text_at, texts_at, behind}
+use Rattle.lrp_list.specs.Lines.{behind}
 use Rattle.lrp_list.proofs.HeadOrder.{head_is}
 
 -- what is left of a list behind its first element

@@ -4,7 +4,7 @@ use Rattle.std.specs.Prelude.{slice_get}
 use Rattle.std.specs.Ordering.{nat_cmp, ordering_then}
 use Rattle.std.specs.Cmp.Lexicographic.{slice_cmp}
 use Rattle.lrp_model.specs.Texts.{Text, text_cmp}
-use Rattle.lrp_list.specs.Lines.{text_at, texts_at}
+use Rattle.lrp_model.specs.Tuples.{text_at, texts_at}
 
 -- some texts come behind none
 pub no_numbers : (domain : List Text) (ts : List Text) (ns : List ℕ) → 1 ≤ length ts → length ns ≡ 0 → Greater ≡ slice_cmp text_cmp ts (texts_at domain ns)

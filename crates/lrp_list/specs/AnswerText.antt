@@ -8,7 +8,7 @@ use Rattle.lrp_theory.specs.Entries.{entry}
 use Rattle.lrp_model.specs.Texts.{Text}
 use Rattle.lrp_model.specs.Rows.{Datum, time, text}
 use Rattle.lrp_model.specs.Printed.{relation_bytes, value_bytes}
-use Rattle.lrp_model.specs.Tuples.{in_head_order}
+use Rattle.lrp_model.specs.Tuples.{in_head_order, texts_at}
 use Rattle.lrp_model.specs.declared.relations.Bound.{Bound}
 use Rattle.lrp_model.specs.declared.relations.Column.{Column}
 use Rattle.lrp_model.specs.declared.relations.Relation.{Relation}
@@ -19,7 +19,6 @@ use Rattle.lrp_model.specs.declared.tuples.Cell.{Cell}
 use Rattle.lrp_zone.specs.Zones.{ZoneView, columns_of}
 use Rattle.lrp_store.specs.Stores.{StoreView, zone_of, tables_at}
 use Rattle.lrp_store.specs.declared.answer.Answer.{Answer}
-use Rattle.lrp_list.specs.Lines.{texts_at}
 
 -- the lesser of two bounds
 abbrev pub lesser : Option ℤ → Option ℤ → Option ℤ

@@ -1,23 +1,15 @@
 -- The tuple that a spot stands for, and the form of its line.
-use Rattle.std.specs.Prelude.{◌≡◌, ℕ, Bool, true, false, List, [], ◌∷◌, ◌++◌, map, take, slice_index_or}
+use Rattle.std.specs.Prelude.{◌≡◌, ℕ, Bool, true, false, List, [], ◌∷◌, ◌++◌, map, take}
 use Rattle.lrp_model.specs.Texts.{Text}
 use Rattle.lrp_model.specs.Pages.{Tuple}
 use Rattle.lrp_model.specs.Printed.{quoted}
 use Rattle.lrp_model.specs.PrintedPages.{datum_bytes}
-use Rattle.lrp_model.specs.Tuples.{in_head_order}
+use Rattle.lrp_model.specs.Tuples.{in_head_order, texts_at}
 use Rattle.lrp_model.specs.declared.relations.Column.{Column}
 use Rattle.lrp_model.specs.declared.tuples.Shape.{Shape}
 use Rattle.lrp_model.specs.declared.tuples.Spot.{Spot}
 use Rattle.lrp_list.specs.declared.texts.Form.{Form}
 use Rattle.lrp_list.specs.declared.texts.Form.TheVariants.{Plain, Json}
-
--- the text of a domain by its number
-abbrev pub text_at : List Text → ℕ → Text
-text_at domain number = slice_index_or domain number []
-
--- the texts of a domain by their numbers
-abbrev pub texts_at : List Text → List ℕ → List Text
-texts_at domain numbers = map (text_at domain) numbers
 
 -- the times and the texts in the shape's places of a spot, in head order
 abbrev pub spot_tuple : List Column → Shape → List Text → Spot → Tuple

@@ -4,11 +4,10 @@ ghost use Rattle.std.specs.List.{AllByRecursion, flat_map};
 ghost use Rattle.lrp_io.specs.Causes.{HasCause};
 ghost use Rattle.lrp_io.specs.Pieces.{IsWritten};
 ghost use Rattle.lrp_model.specs.Printed.{joined_by, point_bytes, quoted, row_line, value_bytes};
-ghost use Rattle.lrp_model.specs.Tuples.{in_head_order};
+ghost use Rattle.lrp_model.specs.Tuples.{in_head_order, text_at, texts_at};
 ghost use Rattle.lrp_store.specs.Least.{HasRoom, IsRoom};
 ghost use Rattle.lrp_store.specs.Stores.{tables_at};
 ghost use Rattle.lrp_list.specs.AnswerText.{answer_text, cell_rows, cell_values, closed_bounds, row_of, rows_of, value_of, values_behind};
-ghost use Rattle.lrp_list.specs.Lines.{text_at, texts_at};
 
 use crate::closures::closed_bounds;
 use lrp_io::{Failed, Sink};

@@ -2,7 +2,7 @@
 ghost use Rattle.std.specs.Prelude.{◌≡◌, ◌<◌, ◌≤◌, ◌+◌, ◌^◌, ◌≤ℤ◌, ◌++◌, ◌∷◌, [], ℕ, length, pos, neg_ℤ};
 ghost use Rattle.std.specs.List.{AllByRecursion};
 ghost use Rattle.lrp_theory.specs.Entries.{entry, IsSmallClosure};
-ghost use Rattle.lrp_model.specs.Lexing.{limit};
+ghost use Rattle.lrp_model.specs.Lexing.{greatest_number};
 ghost use Rattle.lrp_store.specs.Least.{IsRoom};
 ghost use Rattle.lrp_list.specs.AnswerText.{bound_between, bounds_in_row, closed_bounds};
 
@@ -66,7 +66,7 @@ impl Bounds {
 pub fn closed_bounds(zone: &Zone) -> Bounds
     requires room { (h : ℕ) × IsRoom zone.now h }
     ensures bounds { result ≡ closed_bounds zone.now }
-    ensures small { AllByRecursion (λ b. neg_ℤ (pos limit) ≤ℤ b.most) result }
+    ensures small { AllByRecursion (λ b. neg_ℤ (pos greatest_number) ≤ℤ b.most) result }
 {
     zone.columns();
     let closed = zone.closed();
@@ -86,7 +86,7 @@ fn push_row(bounds: &mut Bounds, closed: &Matrix, row: u8, nodes: u8)
     requires small { IsSmallClosure nodes (2 ^ 62) closed.now.cells }
     ensures bounds { bounds.new ≡ bounds.old ++ bounds_in_row nodes (entry closed.now.cells) row }
     ensures few { length bounds.new ≤ length bounds.old + nodes }
-    ensures small { AllByRecursion (λ b. neg_ℤ (pos limit) ≤ℤ b.most) bounds.old → AllByRecursion (λ b. neg_ℤ (pos limit) ≤ℤ b.most) bounds.new }
+    ensures small { AllByRecursion (λ b. neg_ℤ (pos greatest_number) ≤ℤ b.most) bounds.old → AllByRecursion (λ b. neg_ℤ (pos greatest_number) ≤ℤ b.most) bounds.new }
 {
     closed.columns();
     for column in 0..nodes {
@@ -102,7 +102,7 @@ fn push_bound(bounds: &mut Bounds, closed: &Matrix, left: u8, right: u8)
     requires small { IsSmallClosure (closed.now.columns + 1) (2 ^ 62) closed.now.cells }
     ensures bounds { bounds.new ≡ bounds.old ++ bound_between left right (entry closed.now.cells left right) }
     ensures few { length bounds.new ≤ length bounds.old + 1 }
-    ensures small { AllByRecursion (λ b. neg_ℤ (pos limit) ≤ℤ b.most) bounds.old → AllByRecursion (λ b. neg_ℤ (pos limit) ≤ℤ b.most) bounds.new }
+    ensures small { AllByRecursion (λ b. neg_ℤ (pos greatest_number) ≤ℤ b.most) bounds.old → AllByRecursion (λ b. neg_ℤ (pos greatest_number) ≤ℤ b.most) bounds.new }
 {
     if left == right {
         return;

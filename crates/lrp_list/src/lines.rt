@@ -9,9 +9,9 @@ ghost use Rattle.lrp_model.specs.Plans.{time_columns};
 ghost use Rattle.lrp_model.specs.Printed.{quoted};
 ghost use Rattle.lrp_model.specs.PrintedPages.{answer_line, json_line, plain_line};
 ghost use Rattle.lrp_model.specs.Satisfaction.{HasShape};
-ghost use Rattle.lrp_model.specs.Tuples.{in_head_order};
+ghost use Rattle.lrp_model.specs.Tuples.{in_head_order, text_at, texts_at};
 ghost use Rattle.lrp_store.specs.Least.{StandsFor};
-ghost use Rattle.lrp_list.specs.Lines.{IsFormOf, behind, is_json, spot_tuple, text_at, texts_at};
+ghost use Rattle.lrp_list.specs.Lines.{IsFormOf, behind, is_json, spot_tuple};
 
 use crate::texts::Form;
 use lrp_io::{Failed, Sink};

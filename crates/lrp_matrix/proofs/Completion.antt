@@ -11,7 +11,7 @@ use Rattle.lrp_theory.proofs.Extend.{completed}
 use Rattle.lrp_theory.proofs.Lattice.{Anything, any_integer}
 use Rattle.lrp_theory.proofs.Lists.{listed, length-values, node-listed, difference}
 use Rattle.lrp_matrix.specs.Matrices.{MatrixView, MeetsBounds, IsClosed}
-use Rattle.lrp_matrix.specs.Ranges.{Above, AreEnds, IsGreatestOf, IsLeastOf, MayHave, MeetsBefore}
+use Rattle.lrp_matrix.specs.Ranges.{Above, AreEndsOf, IsGreatestOf, IsLeastWith, MayHave, MeetsBefore}
 
 -- the bounds with zero on the diagonal
 abbrev pub with_zero : List (Option ℤ) → ℕ → ℕ → Option ℤ
@@ -146,7 +146,7 @@ module _ (m : MatrixView) (closed : IsClosed m) where
     meets_highs : (v : ℤ) → MayHave m i prefix v → (p : ℕ) → p < i → Within (v -ℤ node prefix p) (entry m.cells i p)
     meets_highs v h p pl = rw (← h.before p pl, ← h.here) (h.meet.each i p high (omega arith))
 
-    module _ (least most : Option ℤ) (ends : AreEnds m.cells i prefix least most) where
+    module _ (least most : Option ℤ) (ends : AreEndsOf m.cells i prefix least most) where
       -- what lies between the ends is possible, and what is possible lies between them
       pub between_possible : (v : ℤ) → Above v least → Within v most → MayHave m i prefix v
       between_possible v a w = possible v (ends.above v a) (ends.below v w)
@@ -162,7 +162,7 @@ module _ (m : MatrixView) (closed : IsClosed m) where
       above_more x y (Some a) l h = omega (arith, ints)
 
       -- so the ends are reached: by d itself, or by some possible integer beyond it
-      pub least_is : IsLeastOf (MayHave m i prefix) least
+      pub least_is : IsLeastWith (MayHave m i prefix) least
       least_is = record {
         met = above_least;
         reached = λ d h.
@@ -179,8 +179,8 @@ module _ (m : MatrixView) (closed : IsClosed m) where
       }
 
 -- the same for a matrix m that is the array of a call
-pub range_is : (m v : MatrixView) → v ≡ m → IsClosed m → (i : ℕ) (prefix : List ℤ) → 0 < i → i ≤ m.columns → MeetsBefore m i prefix → (least most : Option ℤ) → AreEnds v.cells i prefix least most
-    → IsLeastOf (MayHave m i prefix) least × IsGreatestOf (MayHave m i prefix) most × ((w : ℤ) → Above w least → Within w most → MayHave m i prefix w)
+pub range_is : (m v : MatrixView) → v ≡ m → IsClosed m → (i : ℕ) (prefix : List ℤ) → 0 < i → i ≤ m.columns → MeetsBefore m i prefix → (least most : Option ℤ) → AreEndsOf v.cells i prefix least most
+    → IsLeastWith (MayHave m i prefix) least × IsGreatestOf (MayHave m i prefix) most × ((w : ℤ) → Above w least → Within w most → MayHave m i prefix w)
 range_is m v e closed i prefix low high before least most ends =
-    let known : AreEnds m.cells i prefix least most = subst (λ w. AreEnds w.cells i prefix least most) e ends in
+    let known : AreEndsOf m.cells i prefix least most = subst (λ w. AreEndsOf w.cells i prefix least most) e ends in
     (least_is m closed i prefix low high before least most known, most_is m closed i prefix low high before least most known, between_possible m closed i prefix low high before least most known)

@@ -8,7 +8,8 @@ use Rattle.lrp_theory.specs.Divides.{Divides}
 use Rattle.lrp_theory.proofs.Modulo.{Divides--, Divides-neg, Divides-is, rem_divides, rem_between, multiple_below, tight_is, tight_greatest}
 use Rattle.lrp_theory.proofs.Below.{within_less}
 use Rattle.lrp_matrix.specs.Ranges.{Above}
-use Rattle.lrp_matrix.specs.Nearest.{rank, IsBetween, IsNearest, IsStart, IsLastStart, IsFirstFromZero, IsLastBelowZero}
+use Rattle.lrp_matrix.specs.Nearest.{IsBetween, IsNearest, IsStart, IsLastStart, IsFirstFromZero, IsLastBelowZero}
+use Rattle.lrp_theory.specs.Residues.{rank}
 
 -- a greater number is above the end too
 pub above_more : (x y : ℤ) (e : Option ℤ) → x ≤ℤ y → Above x e → Above y e

@@ -4,7 +4,7 @@ use Rattle.std.specs.Prelude.{ℤ, ◌-ℤ◌, neg_ℤ}
 use Rattle.std.proofs.lemmas.Int.{ints}
 use Rattle.lrp_theory.specs.Bounds.{Within, plus}
 use Rattle.lrp_theory.specs.Entries.{entry, node, AtMost, IsLesser}
-use Rattle.lrp_matrix.specs.Ranges.{Above, AreEnds, negation}
+use Rattle.lrp_matrix.specs.Ranges.{Above, AreEndsOf, negation}
 
 -- f v is within the end e exactly where v has each of the first n properties
 pub record Gives (property : ℕ → ℤ → Type 0) (f : ℤ → ℤ) (n : ℕ) (e : Option ℤ) : Type 0 where
@@ -66,7 +66,7 @@ FromHigh cells i prefix q v = Within (v -ℤ node prefix q) (entry cells i q)
 
 -- after all columns before i
 pub ends_are : (cells : List (Option ℤ)) (i : ℕ) (prefix : List ℤ) (low high : Option ℤ) → Gives (FromLow cells i prefix) neg_ℤ i low → Gives (FromHigh cells i prefix) (λ v. v) i high
-    → AreEnds cells i prefix (negation low) high
+    → AreEndsOf cells i prefix (negation low) high
 ends_are cells i prefix low high lows highs = record {
   above = λ v h. lows.to v (above_negation v low h);
   from_above = λ v h. negation_above v low (lows.from v h);

@@ -1,14 +1,9 @@
 -- The integer nearest to zero in an interval, among those of a residue.
-use Rattle.std.specs.Prelude.{ℕ, ℤ, zero, suc, pos, negsuc, ◌*◌, ◌-◌, ◌≤◌, ◌≤ℤ◌, ◌<ℤ◌, Option}
+use Rattle.std.specs.Prelude.{ℤ, pos, ◌*◌, ◌-◌, ◌≤◌, ◌≤ℤ◌, ◌<ℤ◌, Option}
 use Rattle.lrp_theory.specs.Bounds.{Within}
 use Rattle.lrp_theory.specs.Divides.{IsMember}
 use Rattle.lrp_matrix.specs.Ranges.{Above}
-
--- the place in the order 0, 1, -1, 2, -2 and so on
-abbrev pub rank : ℤ → ℕ
-rank (pos zero) = 0
-rank (pos (suc n)) = 2 * suc n - 1
-rank (negsuc n) = 2 * suc n
+use Rattle.lrp_theory.specs.Residues.{rank}
 
 -- x lies between the ends, where there are such, and has the residue r modulo k
 pub record IsBetween (least most : Option ℤ) (r k x : ℤ) : Type 0 where

@@ -30,7 +30,7 @@ pub record MayHave (m : MatrixView) (i : ℕ) (prefix : List ℤ) (v : ℤ) : Ty
   pub here : node integers i ≡ v
 
 -- e is the least integer of those with the property, and None where they have no least one
-pub record IsLeastOf (p : ℤ → Type 0) (e : Option ℤ) : Type 0 where
+pub record IsLeastWith (p : ℤ → Type 0) (e : Option ℤ) : Type 0 where
   pub met : (v : ℤ) → p v → Above v e
   pub reached : (d : ℤ) → Above d e → (v : ℤ) × p v × (v ≤ℤ d)
 
@@ -40,7 +40,7 @@ pub record IsGreatestOf (p : ℤ → Type 0) (e : Option ℤ) : Type 0 where
   pub reached : (d : ℤ) → Within d e → (v : ℤ) × p v × (d ≤ℤ v)
 
 -- low and high are the ends that the bounds to the columns before i give column i
-pub record AreEnds (cells : List (Option ℤ)) (i : ℕ) (prefix : List ℤ) (low high : Option ℤ) : Type 0 where
+pub record AreEndsOf (cells : List (Option ℤ)) (i : ℕ) (prefix : List ℤ) (low high : Option ℤ) : Type 0 where
   pub above : (v : ℤ) → Above v low → (p : ℕ) → p < i → Within (node prefix p -ℤ v) (entry cells p i)
   pub from_above : (v : ℤ) → ((p : ℕ) → p < i → Within (node prefix p -ℤ v) (entry cells p i)) → Above v low
   pub below : (v : ℤ) → Within v high → (p : ℕ) → p < i → Within (v -ℤ node prefix p) (entry cells i p)

@@ -1,8 +1,8 @@
 //! The ends that the bounds to earlier columns give a column.
 
-ghost use Rattle.std.specs.Prelude.{◌≡◌, ◌<◌, ◌≤◌, ◌^◌, ◌*◌, ◌+◌, ℕ, length, Some};
+ghost use Rattle.std.specs.Prelude.{◌≡◌, ◌<◌, ◌≤◌, ◌^◌, ◌*◌, ◌+◌, length, Some};
 ghost use Rattle.lrp_theory.specs.Entries.{AtMost, IsSmallClosure, node};
-ghost use Rattle.lrp_matrix.specs.Ranges.{AreEnds, AreSmall, negation};
+ghost use Rattle.lrp_matrix.specs.Ranges.{AreEndsOf, AreSmall, negation};
 
 use crate::cells::{at, lesser, sum};
 
@@ -34,7 +34,7 @@ pub fn ends(cells: &[Option<i128>; 81], i: usize, prefix: &[i64]) -> (Option<i12
     requires count { length prefix.now + 1 ≡ i }
     requires closed { IsSmallClosure (i + 1) (8 * 2 ^ 62) cells.now }
     requires small { AreSmall (2 ^ 62) prefix.now }
-    ensures ends { AreEnds cells.now i prefix.now result.0 result.1 }
+    ensures ends { AreEndsOf cells.now i prefix.now result.0 result.1 }
     ensures low_small { AtMost (9 * 2 ^ 62) result.0 }
     ensures high_small { AtMost (9 * 2 ^ 62) result.1 }
 {

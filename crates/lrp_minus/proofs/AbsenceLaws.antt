@@ -12,15 +12,15 @@ use Rattle.lrp_theory.proofs.Modulo.{Divides-is, Divides-zero, rem_divides, rem_
 use Rattle.lrp_model.specs.declared.tuples.Cell.{Cell}
 use Rattle.lrp_model.specs.declared.tuples.Shape.{Shape}
 use Rattle.lrp_zone.specs.Zones.{ZoneView, IsMember, IsResidue, reach_of}
-use Rattle.lrp_store.specs.Stores.{StoreView, IsStore, IsPadded, IsCellOf, LiesIn, HasReach, zones_at, zone_of, tables_at}
+use Rattle.lrp_store.specs.Stores.{StoreView, IsStore, IsPadded, IsCellOf, LiesInCell, HasReach, zones_at, zone_of, tables_at, AreChosenTexts}
 use Rattle.lrp_store.specs.Growing.{IsAdded, IsRefused}
-use Rattle.lrp_zone.specs.Given.{HasNone, IsOf, MeetsGiven}
+use Rattle.lrp_zone.specs.Given.{HasNone, IsGivenZone, MeetsGiven}
 use Rattle.lrp_zone.specs.Pairs.{IsOfCell}
 use Rattle.lrp_store.proofs.Held.{node_take, cell_held}
 use Rattle.lrp_store.proofs.Counted.{one_cell, lies_in}
-use Rattle.lrp_minus.specs.Absences.{AreChosen, CanBeTurned, IsAbsent, IsAbsentAt, IsChosenTo}
+use Rattle.lrp_minus.specs.Absences.{CanBeTurned, IsAbsent, IsAbsentAt, IsChosenTo}
 use Rattle.lrp_minus.specs.Differences.{AreOfCell, greatest_reach}
-use Rattle.lrp_minus.specs.Filling.{IsLeft}
+use Rattle.lrp_minus.specs.Filling.{IsUncut}
 use Rattle.lrp_minus.proofs.Gathering.{IsGathering, gathering_more, gathering_refused, gathered, added_as, refused_as}
 use Rattle.lrp_minus.proofs.Lists.{greatest_below}
 
@@ -67,7 +67,7 @@ module _ (s : StoreView) (is : IsStore s) where
       (e, subst (λ (t : ℤ). pos 0 ≤ℤ t) (sym e) (omega (arith, ints)))
 
   -- ---- texts
-  module _ (size column : ℕ) (chosen : List ℕ) (c : AreChosen size column chosen) where
+  module _ (size column : ℕ) (chosen : List ℕ) (c : AreChosenTexts size column chosen) where
     -- all texts are chosen
     module _ (all : column ≡ s.shape.texts) (residues : List ℤ) (zeros : IsPadded (pos 0) 0 residues) where
       -- the cell with these texts and no residue yet
@@ -122,7 +122,7 @@ module _ (s : StoreView) (is : IsStore s) where
       here : get_or (set chosen column number) column 0 ≡ number
       here = get_or-set_same chosen column number 0 (let e : length chosen ≡ 8 = c.padded.size in let l : s.shape.texts ≤ 8 = is.texts in omega arith)
 
-      pub chosen_more : number < size → AreChosen size (column + 1) (set chosen column number)
+      pub chosen_more : number < size → AreChosenTexts size (column + 1) (set chosen column number)
       chosen_more below = record {
         padded = record {
           size = length-set chosen column number ∙ c.padded.size;
@@ -274,7 +274,7 @@ module _ (s : StoreView) (is : IsStore s) where
         meets = λ i l. absurd (omega arith);
       })
 
-      module _ (z : ZoneView) (o : IsOf k (take n cell.residues) [] z) where
+      module _ (z : ZoneView) (o : IsGivenZone k (take n cell.residues) [] z) where
         pub free_period : z.period ≡ s.period
         free_period = let e : pos z.period ≡ pos s.period = o.period ∙ ek in omega (arith, ints)
 
@@ -300,7 +300,7 @@ module _ (s : StoreView) (is : IsStore s) where
             let h : 2 * s.period ≤ 2 ^ 62 = t.period in
             omega arith
 
-        lies : (xs : List ℤ) → IsMember z xs → LiesIn s.shape s.period cell xs (take s.shape.texts cell.texts)
+        lies : (xs : List ℤ) → IsMember z xs → LiesInCell s.shape s.period cell xs (take s.shape.texts cell.texts)
         lies xs m =
             let count : length xs ≡ s.shape.times = m.cell.count ∙ ap length free_residues ∙ front_count in
             let columns : length z.residues ≡ s.shape.times = ap length free_residues ∙ front_count in
@@ -311,7 +311,7 @@ module _ (s : StoreView) (is : IsStore s) where
               named = refl;
             }
 
-        left_to : (xs : List ℤ) (ns : List ℕ) → IsLeft z (zones_at s cell) (take s.shape.texts cell.texts) xs ns → IsAbsentAt s s.shape.times cell xs ns
+        left_to : (xs : List ℤ) (ns : List ℕ) → IsUncut z (zones_at s cell) (take s.shape.texts cell.texts) xs ns → IsAbsentAt s s.shape.times cell xs ns
         left_to xs ns h =
             let i = lies xs h.member in
             record {
@@ -327,7 +327,7 @@ module _ (s : StoreView) (is : IsStore s) where
                   });
             }
 
-        left_from : (xs : List ℤ) (ns : List ℕ) → IsAbsentAt s s.shape.times cell xs ns → IsLeft z (zones_at s cell) (take s.shape.texts cell.texts) xs ns
+        left_from : (xs : List ℤ) (ns : List ℕ) → IsAbsentAt s s.shape.times cell xs ns → IsUncut z (zones_at s cell) (take s.shape.texts cell.texts) xs ns
         left_from xs ns h = record {
           member = o.from xs (subst (λ rs. MeetsGiven k rs [] xs) (ap (λ m. take m cell.residues) (sym en)) (record {
             count = h.count ∙ sym front_count;
@@ -344,12 +344,12 @@ module _ (s : StoreView) (is : IsStore s) where
         }
 
         module _ (cap : ℕ) (cutters : List ZoneView) (are : cutters ≡ zones_at s cell) (start out : StoreView) (valid : IsStore start) (shape : start.shape ≡ s.shape) (high : ℕ) (r : HasReach s high) where
-          pub cell_added : IsAdded (IsLeft z cutters (take start.shape.texts cell.texts)) cap (greatest_reach (z ∷ cutters) + z.period) start out → IsAdded (IsAbsentAt s s.shape.times cell) cap (high + 2 * s.period) start out
-          cell_added a = added_as cap (IsLeft z (zones_at s cell) (take s.shape.texts cell.texts)) (IsAbsentAt s s.shape.times cell) (greatest_reach (z ∷ zones_at s cell) + z.period) (high + 2 * s.period) (free_reach high r) start out valid left_to left_from
-              (subst (λ (q : Shape). IsAdded (IsLeft z (zones_at s cell) (take q.texts cell.texts)) cap (greatest_reach (z ∷ zones_at s cell) + z.period) start out) shape
-              (subst (λ ws. IsAdded (IsLeft z ws (take start.shape.texts cell.texts)) cap (greatest_reach (z ∷ ws) + z.period) start out) are a))
+          pub cell_added : IsAdded (IsUncut z cutters (take start.shape.texts cell.texts)) cap (greatest_reach (z ∷ cutters) + z.period) start out → IsAdded (IsAbsentAt s s.shape.times cell) cap (high + 2 * s.period) start out
+          cell_added a = added_as cap (IsUncut z (zones_at s cell) (take s.shape.texts cell.texts)) (IsAbsentAt s s.shape.times cell) (greatest_reach (z ∷ zones_at s cell) + z.period) (high + 2 * s.period) (free_reach high r) start out valid left_to left_from
+              (subst (λ (q : Shape). IsAdded (IsUncut z (zones_at s cell) (take q.texts cell.texts)) cap (greatest_reach (z ∷ zones_at s cell) + z.period) start out) shape
+              (subst (λ ws. IsAdded (IsUncut z ws (take start.shape.texts cell.texts)) cap (greatest_reach (z ∷ ws) + z.period) start out) are a))
 
-          pub cell_refused : IsRefused (IsLeft z cutters (take start.shape.texts cell.texts)) cap (greatest_reach (z ∷ cutters) + z.period) start out → IsRefused (IsAbsentAt s s.shape.times cell) cap (high + 2 * s.period) start out
-          cell_refused a = refused_as cap (IsLeft z (zones_at s cell) (take s.shape.texts cell.texts)) (IsAbsentAt s s.shape.times cell) (greatest_reach (z ∷ zones_at s cell) + z.period) (high + 2 * s.period) (free_reach high r) start out valid left_to
-              (subst (λ (q : Shape). IsRefused (IsLeft z (zones_at s cell) (take q.texts cell.texts)) cap (greatest_reach (z ∷ zones_at s cell) + z.period) start out) shape
-              (subst (λ ws. IsRefused (IsLeft z ws (take start.shape.texts cell.texts)) cap (greatest_reach (z ∷ ws) + z.period) start out) are a))
+          pub cell_refused : IsRefused (IsUncut z cutters (take start.shape.texts cell.texts)) cap (greatest_reach (z ∷ cutters) + z.period) start out → IsRefused (IsAbsentAt s s.shape.times cell) cap (high + 2 * s.period) start out
+          cell_refused a = refused_as cap (IsUncut z (zones_at s cell) (take s.shape.texts cell.texts)) (IsAbsentAt s s.shape.times cell) (greatest_reach (z ∷ zones_at s cell) + z.period) (high + 2 * s.period) (free_reach high r) start out valid left_to
+              (subst (λ (q : Shape). IsRefused (IsUncut z (zones_at s cell) (take q.texts cell.texts)) cap (greatest_reach (z ∷ zones_at s cell) + z.period) start out) shape
+              (subst (λ ws. IsRefused (IsUncut z ws (take start.shape.texts cell.texts)) cap (greatest_reach (z ∷ ws) + z.period) start out) are a))

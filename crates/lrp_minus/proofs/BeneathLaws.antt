@@ -11,7 +11,7 @@ use Rattle.lrp_model.specs.declared.tuples.Cell.{Cell}
 use Rattle.lrp_zone.specs.Spread.{target}
 use Rattle.lrp_zone.specs.Zones.{IsResidue}
 use Rattle.lrp_store.specs.Stores.{StoreView, IsStore, IsPadded}
-use Rattle.lrp_minus.specs.Beneath.{AreAmong, AreNumbersAt, AreResiduesAt, IsCellBeneath, number_at}
+use Rattle.lrp_minus.specs.Beneath.{ArePlacesFor, AreNumbersAt, AreResiduesAt, IsCellBeneath, number_at}
 use Rattle.lrp_minus.specs.declared.beneath.Places.{Places}
 
 -- ---- values that are put one after another
@@ -143,7 +143,7 @@ numbers_front n numbers places low =
     let up : get_or places i 0 ≤ n = p.1 in
     get_or-map (number_at (take n numbers)) places i 0 0 l ∙ get_or-take n numbers (get_or places i 0 - 1) 0 (omega arith) ∙ sym (get_or-map (number_at numbers) places i 0 0 l))
 
-pub beneath_is : (places : Places) (s : StoreView) → IsStore s → (cell : Cell) → AreAmong 8 8 s places → (own : List ℤ) → AreResiduesAt places.times cell.residues own → (numbers : List ℕ) → AreNumbersAt places.texts cell.texts numbers
+pub beneath_is : (places : Places) (s : StoreView) → IsStore s → (cell : Cell) → ArePlacesFor 8 8 s places → (own : List ℤ) → AreResiduesAt places.times cell.residues own → (numbers : List ℕ) → AreNumbersAt places.texts cell.texts numbers
     → (k : ℤ) → k ≡ pos s.period → (rs : List ℤ) → rs ≡ map (λ r. int_rem_euclid r k) own → IsCellBeneath places s cell (record { texts = numbers; residues = rs })
 beneath_is places s is cell among own residues numbers texts k ek rs ers =
     subst (λ (l : List ℤ). IsCellBeneath places s cell (record { texts = numbers; residues = l })) (sym (ers ∙ ap (λ (d : ℤ). map (λ r. int_rem_euclid r d) own) ek)) (record {
@@ -169,7 +169,7 @@ beneath_is places s is cell among own residues numbers texts k ek rs ers =
     count = length-map places.texts (number_at cell.texts) ∙ among.texts_count
 
 -- places among fewer columns are places among eight
-pub among_eight : (times texts : ℕ) (s : StoreView) (places : Places) → times ≤ 8 → texts ≤ 8 → AreAmong times texts s places → AreAmong 8 8 s places
+pub among_eight : (times texts : ℕ) (s : StoreView) (places : Places) → times ≤ 8 → texts ≤ 8 → ArePlacesFor times texts s places → ArePlacesFor 8 8 s places
 among_eight times texts s places few_times few_texts a = record {
   times_count = a.times_count;
   texts_count = a.texts_count;

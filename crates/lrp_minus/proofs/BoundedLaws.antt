@@ -10,7 +10,7 @@ use Rattle.lrp_theory.proofs.Through.{AtMost-more}
 use Rattle.lrp_model.specs.declared.relations.Bound.{Bound}
 use Rattle.lrp_zone.specs.Zones.{ZoneView, IsZone, columns_of}
 use Rattle.lrp_zone.specs.Pairs.{IsOfCell}
-use Rattle.lrp_zone.specs.Given.{bound_at, AreGiven, MeetsGiven, IsKept, IsOf, HasNone}
+use Rattle.lrp_zone.specs.Given.{bound_at, AreGiven, MeetsGiven, IsStoredFor, IsGivenZone, HasNone}
 use Rattle.lrp_zone.proofs.Floors.{stored_own}
 use Rattle.lrp_zone.proofs.Reaches.{small_reach}
 use Rattle.lrp_minus.specs.Halves.{MeetsBound, CanBeStored}
@@ -44,18 +44,18 @@ module _ (z : ZoneView) (bs : List Bound) (can : AllCanBeStored z bs) (k : ℤ) 
   pub none_meets : HasNone k rs bs → (xs : List ℤ) → MeetsAll z bs xs → ⊥
   none_meets h xs m = h.none xs (meets_given xs m)
 
-  module _ (w : ZoneView) (of : IsOf k rs bs w) (valid : IsZone w) where
+  module _ (w : ZoneView) (of : IsGivenZone k rs bs w) (valid : IsZone w) where
     cell_of : IsOfCell z w
     cell_of = let p : pos w.period ≡ pos z.period = of.period ∙ e in record { period = cc; residues = of.residues ∙ f }
 
     meets_each : (xs : List ℤ) → MeetsGiven k rs bs xs → (b : Bound) → Contains bs b → MeetsBound b xs
     meets_each xs g b l = subst (λ x. MeetsBound x xs) (get_or_default bs l.0 _ b l.1 ∙ l.2) (g.meets l.0 l.1)
 
-    kept_small : (h : ℕ) → ((b : Bound) → Contains bs b → nat_abs b.most ≤ h) → (n : ℕ) (o : Option ℤ) → n < length bs → IsKept k rs (bound_at bs n) o → AtMost h o
+    kept_small : (h : ℕ) → ((b : Bound) → Contains bs b → nat_abs b.most ≤ h) → (n : ℕ) (o : Option ℤ) → n < length bs → IsStoredFor k rs (bound_at bs n) o → AtMost h o
     kept_small h small n o l kept =
         let c : CanBeStored z (bound_at bs n) = can.each _ (at_in n l) in
         let b : Bound = bound_at bs n in
-        let own : IsKept (pos z.period) z.residues b o = subst (λ r. IsKept (pos z.period) r b o) f (subst (λ x. IsKept x rs b o) e kept) in
+        let own : IsStoredFor (pos z.period) z.residues b o = subst (λ r. IsStoredFor (pos z.period) r b o) f (subst (λ x. IsStoredFor x rs b o) e kept) in
         subst (λ x. AtMost h x) (sym (stored_own (pos z.period) (node z.residues b.left -ℤ node z.residues b.right) b.most o c.tight (own.apart c.apart))) (AtMost-more (nat_abs b.most) h (Some b.most) (small b (at_in n l)) (own_small b.most))
 
     pub bounded_of : IsBounded z bs w

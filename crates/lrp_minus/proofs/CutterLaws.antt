@@ -15,7 +15,7 @@ use Rattle.lrp_zone.specs.Spread.{ArePlaces, IsSpread, target}
 use Rattle.lrp_zone.specs.Zones.{ZoneView, IsZone, IsMember, IsResidue, columns_of, reach_of}
 use Rattle.lrp_zone.proofs.Placed.{node_map}
 use Rattle.lrp_store.specs.Settled.{InSome}
-use Rattle.lrp_store.specs.Stores.{StoreView, IsStore, InStore, IsCellOf, HasReach, LiesIn, zone_of, tables_at, zones_at}
+use Rattle.lrp_store.specs.Stores.{StoreView, IsStore, InStore, IsCellOf, HasReach, LiesInCell, zone_of, tables_at, zones_at}
 use Rattle.lrp_store.proofs.Counted.{lies_in, one_cell}
 use Rattle.lrp_store.proofs.Held.{Table, cell_held, node_take}
 use Rattle.lrp_minus.specs.Beneath.{AgreesAt, AreResiduesAt, IsCellBeneath, number_at}
@@ -201,7 +201,7 @@ module _ (places : Places) (left : StoreView) (left_is : IsStore left) (cell : C
   numbers_are = numbers_front left.shape.texts cell.texts places.texts can.among.in_texts
 
   -- what a tuple of the cell has at the places lies in the cell beneath
-  lies : (xs : List ℤ) → HasResidues (pos left.period) (take left.shape.times cell.residues) xs → LiesIn right.shape right.period below (map (node xs) places.times) (map (number_at (take left.shape.texts cell.texts)) places.texts)
+  lies : (xs : List ℤ) → HasResidues (pos left.period) (take left.shape.times cell.residues) xs → LiesInCell right.shape right.period below (map (node xs) places.times) (map (number_at (take left.shape.texts cell.texts)) places.texts)
   lies xs h = record {
     count = length-map places.times (node xs) ∙ can.among.times_count;
     residues = λ i l.

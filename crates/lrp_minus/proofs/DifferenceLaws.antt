@@ -26,7 +26,7 @@ use Rattle.lrp_tables.proofs.Named.{pairs_left}
 use Rattle.lrp_tables.proofs.TableLaws.{table_texts}
 use Rattle.lrp_tables.proofs.TableMade.{held_times, held_texts, held_known, tuples_of}
 use Rattle.lrp_tables.proofs.Wider.{IsWider, less_tuples, same_tuples, wider_tuples}
-use Rattle.lrp_minus.specs.Beneath.{AreAmong}
+use Rattle.lrp_minus.specs.Beneath.{ArePlacesFor}
 use Rattle.lrp_minus.specs.Cutters.{CanTake, HaveReach, IsSpared}
 use Rattle.lrp_minus.specs.declared.beneath.Places.{Places}
 
@@ -74,7 +74,7 @@ module _ (left right : Table) (right_is : IsStore right.store) (places : Places)
       let t = texts_are in
       subst (λ p. (0 < p) × (p ≤ aligned.shape.texts)) (get_or_default places.texts i 0 d h) (low, omega arith)
 
-  among : AreAmong aligned.shape.times aligned.shape.texts right.store places
+  among : ArePlacesFor aligned.shape.times aligned.shape.texts right.store places
   among = record {
     times_count = places_count right.vars.times left.vars.times places.times times_at ∙ right.times_named;
     texts_count = places_count right.vars.texts left.vars.texts places.texts texts_at ∙ right.texts_named;

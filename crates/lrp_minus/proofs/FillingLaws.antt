@@ -12,13 +12,13 @@ use Rattle.lrp_store.specs.declared.store.StoreFault.TheVariants.{TooManyCells}
 use Rattle.lrp_store.proofs.Grown.{grown_same, grown_on, added, refused}
 use Rattle.lrp_tables.proofs.Adding.{IsZoneOf}
 use Rattle.lrp_minus.specs.Differences.{greatest_reach}
-use Rattle.lrp_minus.specs.Filling.{IsLeft}
+use Rattle.lrp_minus.specs.Filling.{IsUncut}
 use Rattle.lrp_minus.specs.Leaving.{AreLeftOf}
 use Rattle.lrp_minus.proofs.Lists.{in_either, in_nothing, in_this, this_has}
 
 -- the first pieces were added
 pub record AreFilled (z : ZoneView) (cutters : List ZoneView) (named : List ℕ) (cap high : ℕ) (old now : StoreView) (done : List ZoneView) : Type 0 where
-  pub grown : IsGrown (IsLeft z cutters named) cap high old now
+  pub grown : IsGrown (IsUncut z cutters named) cap high old now
   pub held : (xs : List ℤ) → InSome done xs → InStore now xs named
 
 module _ (z : ZoneView) (cutters : List ZoneView) (named : List ℕ) (cap high : ℕ) (old : StoreView) where
@@ -43,7 +43,7 @@ module _ (z : ZoneView) (cutters : List ZoneView) (named : List ℕ) (cap high :
     same_texts : named ≡ take now.shape.texts cell.texts
     same_texts = is_named ∙ ap (λ q. take q.texts cell.texts) (sym f.grown.shape)
 
-    is_left : (xs : List ℤ) → IsMember p xs → IsLeft z cutters named xs (take now.shape.texts cell.texts)
+    is_left : (xs : List ℤ) → IsMember p xs → IsUncut z cutters named xs (take now.shape.texts cell.texts)
     is_left xs m = let t = gap.to xs (record { zone = p; listed = here; inside = m }) in record { member = this_has z xs t.0; none = t.1; same = same_texts }
 
     low : greatest_of p.bounds ≤ high
@@ -51,9 +51,9 @@ module _ (z : ZoneView) (cutters : List ZoneView) (named : List ℕ) (cap high :
 
     module _ {T : Type 0} (new : StoreView) (is : IsStore new) (rest : new ≡ record now { tables = new.tables; spare = new.spare }) (r : Result T StoreFault) (exact : (r ≡ Err TooManyCells) ↔ ((finite.get now.tables cell ≡ None) × (cap ≤ finite.len now.tables))) where
       pub filled_more : OnOk r (new.tables ≡ finite.insert now.tables cell (tables_at now cell ++ p.bounds ∷ [])) → OnOk r (AreFilled z cutters named cap high old new (done ++ p ∷ []))
-      filled_more ok = on_ok r (added now f.grown.valid cell p valid piece_period piece_residues piece_texts piece_times cap high (IsLeft z cutters named) is_left low new is rest r exact ok)
+      filled_more ok = on_ok r (added now f.grown.valid cell p valid piece_period piece_residues piece_texts piece_times cap high (IsUncut z cutters named) is_left low new is rest r exact ok)
         where
-          on_ok : (o : Result T StoreFault) → OnOk o (IsGrown (IsLeft z cutters named) cap high now new × ((xs : List ℤ) → IsMember p xs → InStore new xs (take now.shape.texts cell.texts))) → OnOk o (AreFilled z cutters named cap high old new (done ++ p ∷ []))
+          on_ok : (o : Result T StoreFault) → OnOk o (IsGrown (IsUncut z cutters named) cap high now new × ((xs : List ℤ) → IsMember p xs → InStore new xs (take now.shape.texts cell.texts))) → OnOk o (AreFilled z cutters named cap high old new (done ++ p ∷ []))
           on_ok (Ok x) h = record {
             grown = grown_on cap high _ _ old now new (λ xs ns m. m) f.grown h.0;
             held = λ xs s. elim (in_either done (p ∷ []) xs s) [
@@ -63,13 +63,13 @@ module _ (z : ZoneView) (cutters : List ZoneView) (named : List ℕ) (cap high :
           }
           on_ok (Err x) h = tt
 
-      pub filled_refused : OnErr r (new.tables ≡ now.tables) → r ≡ Err TooManyCells → IsRefused (IsLeft z cutters named) cap high old new
+      pub filled_refused : OnErr r (new.tables ≡ now.tables) → r ≡ Err TooManyCells → IsRefused (IsUncut z cutters named) cap high old new
       filled_refused err e =
-          let h : IsRefused (IsLeft z cutters named) cap high now new = refused now f.grown.valid cell p valid piece_period piece_residues piece_texts piece_times cap high (IsLeft z cutters named) is_left low new is rest r exact err e in
+          let h : IsRefused (IsUncut z cutters named) cap high now new = refused now f.grown.valid cell p valid piece_period piece_residues piece_texts piece_times cap high (IsUncut z cutters named) is_left low new is rest r exact err e in
           record { grown = grown_on cap high _ _ old now new (λ xs ns m. m) f.grown h.grown; more = h.more }
 
   -- all pieces were added
-  pub filled_all : (pieces : List ZoneView) → AreLeftOf z (z ∷ []) cutters high pieces → (now : StoreView) → AreFilled z cutters named cap high old now pieces → IsAdded (IsLeft z cutters named) cap high old now
+  pub filled_all : (pieces : List ZoneView) → AreLeftOf z (z ∷ []) cutters high pieces → (now : StoreView) → AreFilled z cutters named cap high old now pieces → IsAdded (IsUncut z cutters named) cap high old now
   filled_all pieces gap now f = record {
     grown = f.grown;
     whole = record { each = λ xs ns l. subst (λ ms. InStore now xs ms) l.same (f.held xs (gap.from xs (in_this z xs l.member) l.none)) };
@@ -79,7 +79,7 @@ module _ (z : ZoneView) (cutters : List ZoneView) (named : List ℕ) (cap high :
 
 -- without cutters the zone is left as it is
 pub all_left : (z : ZoneView) (cutters : List ZoneView) → length cutters ≡ 0 → IsZone z → (old : StoreView) → z.period ≡ old.period → (cell : Cell) → z.residues ≡ take old.shape.times cell.residues → IsPadded 0 old.shape.texts cell.texts → IsPadded (pos 0) old.shape.times cell.residues
-    → IsZoneOf (IsLeft z cutters (take old.shape.texts cell.texts)) old cell z (greatest_reach (z ∷ cutters) + z.period)
+    → IsZoneOf (IsUncut z cutters (take old.shape.texts cell.texts)) old cell z (greatest_reach (z ∷ cutters) + z.period)
 all_left z cutters none valid old period cell residues texts times = record {
   zone = valid;
   period = period;

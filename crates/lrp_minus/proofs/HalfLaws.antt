@@ -6,7 +6,7 @@ use Rattle.lrp_theory.specs.Entries.{entry, node, AtMost}
 use Rattle.lrp_model.specs.declared.relations.Bound.{Bound}
 use Rattle.lrp_zone.specs.Zones.{ZoneView, IsZone, IsMember, columns_of, reach_of}
 use Rattle.lrp_zone.specs.Pairs.{IsOfCell, IsMeet, HaveNoCommon}
-use Rattle.lrp_zone.specs.Given.{bound_at, AreGiven, IsGiven, MeetsGiven, IsKept, IsOf, HasNone}
+use Rattle.lrp_zone.specs.Given.{bound_at, AreGiven, IsGiven, MeetsGiven, IsStoredFor, IsGivenZone, HasNone}
 use Rattle.lrp_zone.proofs.Floors.{stored_own}
 use Rattle.lrp_zone.proofs.Reaches.{small_reach}
 use Rattle.lrp_minus.specs.Halves.{MeetsBound, CanBeStored, IsHalf, HasNoHalf}
@@ -34,7 +34,7 @@ module _ (z : ZoneView) (b : Bound) (can : CanBeStored z b) where
   pub none_given : HasNone (pos z.period) z.residues (b ∷ []) → HasNoHalf z b
   none_given h = record { none = λ xs m k. h.none xs (meets_given xs m k) }
 
-  module _ (side : ZoneView) (of : IsOf (pos z.period) z.residues (b ∷ []) side) where
+  module _ (side : ZoneView) (of : IsGivenZone (pos z.period) z.residues (b ∷ []) side) where
     pub side_cell : IsOfCell z side
     side_cell = let p : pos side.period ≡ pos z.period = of.period in record { period = cc; residues = of.residues }
 
@@ -42,9 +42,9 @@ module _ (z : ZoneView) (b : Bound) (can : CanBeStored z b) where
     none_common h = record { none = λ xs m k. h.none xs m (of.from xs (meets_given xs m k)) }
 
     -- a stored bound is b's
-    kept_small : (n p q : ℕ) (e : Option ℤ) → n < length (b ∷ []) → IsKept (pos z.period) z.residues (bound_at (b ∷ []) n) e → AtMost (nat_abs b.most) e
+    kept_small : (n p q : ℕ) (e : Option ℤ) → n < length (b ∷ []) → IsStoredFor (pos z.period) z.residues (bound_at (b ∷ []) n) e → AtMost (nat_abs b.most) e
     kept_small n p q e l k =
-        let own : IsKept (pos z.period) z.residues b e = subst (λ x. IsKept (pos z.period) z.residues x e) (one_at b n l) k in
+        let own : IsStoredFor (pos z.period) z.residues b e = subst (λ x. IsStoredFor (pos z.period) z.residues x e) (one_at b n l) k in
         subst (λ x. AtMost (nat_abs b.most) x) (sym (stored_own (pos z.period) (node z.residues b.left -ℤ node z.residues b.right) b.most e can.tight (own.apart can.apart))) (own_small b.most)
 
     side_small : (valid : IsZone side) → reach_of side ≤ nat_abs b.most
@@ -77,8 +77,8 @@ module _ (z : ZoneView) (b : Bound) (can : CanBeStored z b) (k : ℤ) (rs : List
   pub none_given_as : HasNone k rs (b ∷ []) → HasNoHalf z b
   none_given_as h = none_given z b can (subst (λ r. HasNone (pos z.period) r (b ∷ [])) f (subst (λ x. HasNone x rs (b ∷ [])) e h))
 
-  pub of_as : (side : ZoneView) → IsOf k rs (b ∷ []) side → IsOf (pos z.period) z.residues (b ∷ []) side
-  of_as side h = subst (λ r. IsOf (pos z.period) r (b ∷ []) side) f (subst (λ x. IsOf x rs (b ∷ []) side) e h)
+  pub of_as : (side : ZoneView) → IsGivenZone k rs (b ∷ []) side → IsGivenZone (pos z.period) z.residues (b ∷ []) side
+  of_as side h = subst (λ r. IsGivenZone (pos z.period) r (b ∷ []) side) f (subst (λ x. IsGivenZone x rs (b ∷ []) side) e h)
 
 -- what can be stored in a zone can be in each of its cell
 pub stored_moved : (z w : ZoneView) (b : Bound) → IsOfCell z w → CanBeStored z b → CanBeStored w b

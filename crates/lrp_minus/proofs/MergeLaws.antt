@@ -11,7 +11,7 @@ use Rattle.lrp_zone.specs.Zones.{ZoneView, IsZone, IsMember, reach_of}
 use Rattle.lrp_zone.specs.Pairs.{IsOfCell}
 use Rattle.lrp_store.specs.Settled.{InSome}
 use Rattle.lrp_minus.specs.declared.intervals.Interval.{Interval}
-use Rattle.lrp_minus.specs.Intervals.{IsEnd, IsNumber, IsInterval, HasSmallEnds, BeginsBy, IsApart, IsJoined, IsSpan, InInterval, IsFarBelow, AreMerged}
+use Rattle.lrp_minus.specs.Intervals.{IsEnd, IsNumber, IsInterval, HasSmallEnds, BeginsBy, LiesApart, IsJoined, IsSpan, InInterval, IsFarBelow, AreMerged}
 use Rattle.lrp_minus.proofs.Lists.{before, head_in, later, in_none, in_one, one_in, pairs_append, pairs_one, pairs_none, in_left, in_right, in_either, in_this, this_has, in_nothing}
 
 -- the intervals so far, of which the last may still grow
@@ -118,7 +118,7 @@ module _ (z : ZoneView) (vs : List Interval) (made : List ZoneView) (last next :
     ]
 
     -- the next one lies apart
-    pub merging_apart : IsApart z.period last next → ((u : Interval) → Contains vs u → BeginsBy u next) → IsInterval z next → AreMerging z (vs ++ next ∷ []) (made ++ w ∷ []) next
+    pub merging_apart : LiesApart z.period last next → ((u : Interval) → Contains vs u → BeginsBy u next) → IsInterval z next → AreMerging z (vs ++ next ∷ []) (made ++ w ∷ []) next
     merging_apart apart begins i = record {
       valid = valid_more;
       far = far_more;

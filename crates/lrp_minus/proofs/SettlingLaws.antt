@@ -7,7 +7,7 @@ use Rattle.lrp_theory.specs.Entries.{AtMost}
 use Rattle.lrp_zone.specs.Zones.{ZoneView, IsZone, IsMember, columns_of, reach_of}
 use Rattle.lrp_zone.specs.Pairs.{IsOfCell, IsWithin}
 use Rattle.lrp_zone.proofs.Reaches.{small_reach}
-use Rattle.lrp_store.specs.Settled.{InSome, IsOneZone}
+use Rattle.lrp_store.specs.Settled.{InSome, AreOneZone}
 use Rattle.lrp_minus.specs.Cutting.{IsWithinOne, side_reach}
 use Rattle.lrp_minus.specs.Differences.{AreOfCell, greatest_reach}
 use Rattle.lrp_minus.specs.Hulls.{IsHull}
@@ -39,7 +39,7 @@ settlement_moved f z old new c s =
         none = λ e. s.settled.none (sym n ∙ e);
         one = λ e. s.settled.one (sym n ∙ e);
         more = λ l. (
-          (λ e. let r : (w : ZoneView) × IsOfCell f w × IsOneZone new w = (s.settled.more (subst (λ k. 1 < k) n l)).0 e in (r.0, same_cell f z r.0 c r.1, r.2)),
+          (λ e. let r : (w : ZoneView) × IsOfCell f w × AreOneZone new w = (s.settled.more (subst (λ k. 1 < k) n l)).0 e in (r.0, same_cell f z r.0 c r.1, r.2)),
           (λ r. (s.settled.more (subst (λ k. 1 < k) n l)).1 (r.0, same_cell z f r.0 (same_cell f z f c (record { period = refl; residues = refl })) r.1, r.2)),
         );
       };
@@ -141,7 +141,7 @@ module _ (f : ZoneView) (zones : List ZoneView) (h : ZoneView) (cells : AreOfCel
     made_to : (xs : List ℤ) → InSome made xs → InSome zones xs
     made_to xs s = record { zone = s.zone; listed = (thin.kept s.zone s.listed).0; inside = s.inside }
 
-    not_one : HasGap h zones → (w : ZoneView) → IsOfCell f w → IsOneZone made w → ⊥
+    not_one : HasGap h zones → (w : ZoneView) → IsOfCell f w → AreOneZone made w → ⊥
     not_one gap w c o =
         let inside : IsWithin h w = hull.least w o.is c (λ xs s. o.within xs (thin.whole xs s)) in
         gap.none (made_to gap.tuple (o.whole gap.tuple (inside.each gap.tuple gap.inside)))

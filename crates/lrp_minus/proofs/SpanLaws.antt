@@ -17,7 +17,7 @@ use Rattle.lrp_minus.specs.declared.intervals.Interval.{Interval}
 use Rattle.lrp_minus.specs.Bounded.{AllCanBeStored, MeetsAll, IsBounded}
 use Rattle.lrp_minus.specs.Halves.{MeetsBound, CanBeStored}
 use Rattle.lrp_minus.specs.Hulls.{IsWider}
-use Rattle.lrp_minus.specs.Intervals.{span_of, ends_of, IsNumber, IsEnd, IsInterval, HasSmallEnds, BeginsBy, IsApart, IsJoined, IsSpan}
+use Rattle.lrp_minus.specs.Intervals.{span_of, ends_of, IsNumber, IsEnd, IsInterval, HasSmallEnds, BeginsBy, LiesApart, IsJoined, IsSpan}
 use Rattle.lrp_minus.specs.Thresholds.{bound_there}
 use Rattle.lrp_minus.proofs.IntervalLaws.{in_line, line_cell, line_high, line_low}
 use Rattle.lrp_minus.proofs.Lists.{in_none, in_one, one_in}
@@ -204,7 +204,7 @@ next_number k r a x one da dx l = by_lt_z x (a +ℤ k)
     let le : (x -ℤ a) ≤ℤ pos 0 = multiple_below k (x -ℤ a) d one (omega (arith, ints)) in absurd (omega (arith, ints)))
     (λ le. le)
 
-module _ (z : ZoneView) (v w : Interval) (low : pos 1 ≤ℤ pos z.period) (vi : IsInterval z v) (begins : BeginsBy v w) (near : IsApart z.period v w → ⊥) where
+module _ (z : ZoneView) (v w : Interval) (low : pos 1 ≤ℤ pos z.period) (vi : IsInterval z v) (begins : BeginsBy v w) (near : LiesApart z.period v w → ⊥) where
   -- what lies behind the first lies behind the start of the second
   behind : (x : ℤ) (e f : Option ℤ) → v.most ≡ e → w.least ≡ f → Divides (pos z.period) (x -ℤ node z.residues 1) → (Within x e → ⊥) → Above x f
   behind x None f q p d out = absurd (out tt)

@@ -20,7 +20,7 @@ use Rattle.lrp_minus.specs.Absences.{IsLike}
 use Rattle.lrp_minus.specs.Beneath.{HasBeneath}
 use Rattle.lrp_minus.specs.Cutters.{AreCutters, CanTake, HaveReach, IsSpared, IsSparedIn}
 use Rattle.lrp_minus.specs.Differences.{AreOfCell, greatest_reach}
-use Rattle.lrp_minus.specs.Filling.{IsLeft}
+use Rattle.lrp_minus.specs.Filling.{IsUncut}
 use Rattle.lrp_minus.specs.declared.beneath.Places.{Places}
 use Rattle.lrp_minus.proofs.CutterLaws.{read_at, read_period, read_residues, read_columns, read_reach}
 use Rattle.lrp_minus.proofs.Gathering.{IsGathering, gathering_none, gathering_more, gathering_refused, gathered}
@@ -91,7 +91,7 @@ module _ (places : Places) (left : StoreView) (left_is : IsStore left) (cell : C
     like_times = subst (λ (q : Shape). IsPadded (pos 0) q.times cell.residues) (sym like.shape) proper.residues
 
   abbrev Left : List ℤ → List ℕ → Type 0
-  Left = IsLeft z cutters (take left.shape.texts cell.texts)
+  Left = IsUncut z cutters (take left.shape.texts cell.texts)
 
   has_residues : (xs : List ℤ) → IsMember z xs → HasResidues (pos left.period) (take left.shape.times cell.residues) xs
   has_residues xs m = record {
@@ -99,7 +99,7 @@ module _ (places : Places) (left : StoreView) (left_is : IsStore left) (cell : C
         (subst (λ (rs : List ℤ). Divides (pos z.period) (node xs p -ℤ node rs p)) z_residues (m.cell.each p (subst (λ (rs : List ℤ). p ≤ length rs) (sym z_residues) l)));
   }
 
-  left_to : (xs : List ℤ) (ns : List ℕ) → IsLeft z cutters (take left.shape.texts cell.texts) xs ns → IsSparedIn places left cell right xs ns
+  left_to : (xs : List ℤ) (ns : List ℕ) → IsUncut z cutters (take left.shape.texts cell.texts) xs ns → IsSparedIn places left cell right xs ns
   left_to xs ns h =
       let t = read_at left left_is cell i z e in
       record {
@@ -110,7 +110,7 @@ module _ (places : Places) (left : StoreView) (left_is : IsStore left) (cell : C
   next_is : drop i (zones_at left cell) ≡ z ∷ drop (i + 1) (zones_at left cell)
   next_is = drop_more (zones_at left cell) i z (slice_get_within (zones_at left cell) i z e) ∙ ap (λ w. w ∷ drop (i + 1) (zones_at left cell)) (get_or_from_slice_get (zones_at left cell) i z z e)
 
-  left_from : (xs : List ℤ) (ns : List ℕ) → IsSparedIn places left cell right xs ns → InSome (drop i (zones_at left cell)) xs → IsLeft z cutters (take left.shape.texts cell.texts) xs ns ⊎ InSome (drop (i + 1) (zones_at left cell)) xs
+  left_from : (xs : List ℤ) (ns : List ℕ) → IsSparedIn places left cell right xs ns → InSome (drop i (zones_at left cell)) xs → IsUncut z cutters (take left.shape.texts cell.texts) xs ns ⊎ InSome (drop (i + 1) (zones_at left cell)) xs
   left_from xs ns h b =
       let s = subst (λ l. InSome l xs) next_is b in
       elim (in_cons z (drop (i + 1) (zones_at left cell)) s.zone s.listed) [
@@ -119,15 +119,15 @@ module _ (places : Places) (left : StoreView) (left_is : IsStore left) (cell : C
       ]
 
   module _ (cap high : ℕ) (reach : HaveReach left right high) (start out new : StoreView) (shape : out.shape ≡ left.shape) (g : IsGathering (IsSparedIn places left cell right) (IsBehindZone (zones_at left cell) i) cap (high + 2 * left.period) start out) where
-    pub spared_more : IsAdded (IsLeft z cutters (take out.shape.texts cell.texts)) cap (greatest_reach (z ∷ cutters) + z.period) out new → IsGathering (IsSparedIn places left cell right) (IsBehindZone (zones_at left cell) (i + 1)) cap (high + 2 * left.period) start new
+    pub spared_more : IsAdded (IsUncut z cutters (take out.shape.texts cell.texts)) cap (greatest_reach (z ∷ cutters) + z.period) out new → IsGathering (IsSparedIn places left cell right) (IsBehindZone (zones_at left cell) (i + 1)) cap (high + 2 * left.period) start new
     spared_more a =
-        gathering_more (IsSparedIn places left cell right) cap (high + 2 * left.period) start (IsBehindZone (zones_at left cell) i) (IsBehindZone (zones_at left cell) (i + 1)) (IsLeft z cutters (take left.shape.texts cell.texts)) (greatest_reach (z ∷ cutters) + z.period) out new g (left_reach high reach) left_to left_from
-        (subst (λ (q : Shape). IsAdded (IsLeft z cutters (take q.texts cell.texts)) cap (greatest_reach (z ∷ cutters) + z.period) out new) shape a)
+        gathering_more (IsSparedIn places left cell right) cap (high + 2 * left.period) start (IsBehindZone (zones_at left cell) i) (IsBehindZone (zones_at left cell) (i + 1)) (IsUncut z cutters (take left.shape.texts cell.texts)) (greatest_reach (z ∷ cutters) + z.period) out new g (left_reach high reach) left_to left_from
+        (subst (λ (q : Shape). IsAdded (IsUncut z cutters (take q.texts cell.texts)) cap (greatest_reach (z ∷ cutters) + z.period) out new) shape a)
 
-    pub spared_refused : IsRefused (IsLeft z cutters (take out.shape.texts cell.texts)) cap (greatest_reach (z ∷ cutters) + z.period) out new → IsRefused (IsSparedIn places left cell right) cap (high + 2 * left.period) start new
+    pub spared_refused : IsRefused (IsUncut z cutters (take out.shape.texts cell.texts)) cap (greatest_reach (z ∷ cutters) + z.period) out new → IsRefused (IsSparedIn places left cell right) cap (high + 2 * left.period) start new
     spared_refused a =
-        gathering_refused (IsSparedIn places left cell right) cap (high + 2 * left.period) start (IsBehindZone (zones_at left cell) i) (IsLeft z cutters (take left.shape.texts cell.texts)) (greatest_reach (z ∷ cutters) + z.period) out new g (left_reach high reach) left_to
-        (subst (λ (q : Shape). IsRefused (IsLeft z cutters (take q.texts cell.texts)) cap (greatest_reach (z ∷ cutters) + z.period) out new) shape a)
+        gathering_refused (IsSparedIn places left cell right) cap (high + 2 * left.period) start (IsBehindZone (zones_at left cell) i) (IsUncut z cutters (take left.shape.texts cell.texts)) (greatest_reach (z ∷ cutters) + z.period) out new g (left_reach high reach) left_to
+        (subst (λ (q : Shape). IsRefused (IsUncut z cutters (take q.texts cell.texts)) cap (greatest_reach (z ∷ cutters) + z.period) out new) shape a)
 
 -- ---- the cells of a store
 

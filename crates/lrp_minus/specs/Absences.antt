@@ -21,11 +21,6 @@ pub record IsAbsentAt (s : StoreView) (column : ℕ) (cell : Cell) (times : List
   pub named : take s.shape.texts cell.texts ≡ texts
   pub none : InStore s times texts → ⊥
 
--- the numbers before a column are below the size, and zeros stand behind them
-pub record AreChosen (size column : ℕ) (texts : List ℕ) : Type 0 where
-  pub padded : IsPadded 0 column texts
-  pub low : (i : ℕ) → i < column → slice_index texts i < size
-
 -- the cell has a text for each column of the store, residues before a column, and zeros behind them
 pub record IsChosenTo (s : StoreView) (column : ℕ) (cell : Cell) : Type 0 where
   pub texts : IsPadded 0 s.shape.texts cell.texts

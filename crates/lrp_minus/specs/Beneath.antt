@@ -26,7 +26,7 @@ pub record AreNumbersAt (places numbers own : List ℕ) : Type 0 where
   pub each : (i : ℕ) → i < length places → slice_index_or own i 0 ≡ number_at numbers (slice_index_or places i 0)
 
 -- there is a place for each column of the store: different ones among so many times, and some among so many texts
-pub record AreAmong (times texts : ℕ) (s : StoreView) (places : Places) : Type 0 where
+pub record ArePlacesFor (times texts : ℕ) (s : StoreView) (places : Places) : Type 0 where
   pub times_count : length places.times ≡ s.shape.times
   pub texts_count : length places.texts ≡ s.shape.texts
   pub in_times : ArePlaces places.times times

@@ -8,7 +8,7 @@ use Rattle.lrp_zone.specs.Zones.{ZoneView, IsMember, reach_of}
 use Rattle.lrp_store.specs.Aligned.{InCell}
 use Rattle.lrp_store.specs.Settled.{InSome}
 use Rattle.lrp_store.specs.Stores.{StoreView, InStore, HasReach}
-use Rattle.lrp_minus.specs.Beneath.{AreAmong, HasBeneath}
+use Rattle.lrp_minus.specs.Beneath.{ArePlacesFor, HasBeneath}
 use Rattle.lrp_minus.specs.Differences.{greatest_reach}
 use Rattle.lrp_minus.specs.declared.beneath.Places.{Places}
 
@@ -29,7 +29,7 @@ pub record HaveReach (left right : StoreView) (high : ℕ) : Type 0 where
 
 -- the right store's columns have places among those of the left one, whose period is a multiple, and bounds of both can be turned
 pub record CanTake (places : Places) (left right : StoreView) : Type 0 where
-  pub among : AreAmong left.shape.times left.shape.texts right places
+  pub among : ArePlacesFor left.shape.times left.shape.texts right places
   pub multiple : Divides (pos right.period) (pos left.period)
   pub period : 2 * left.period ≤ 2 ^ 62
   pub reach : HaveReach left right (2 ^ 62 - 2 * left.period)

@@ -4,7 +4,7 @@ use Rattle.lrp_zone.specs.Zones.{ZoneView, IsMember}
 use Rattle.lrp_store.specs.Settled.{InSome}
 
 -- the times are in the zone and in no cutter, and the texts are these
-pub record IsLeft (z : ZoneView) (cutters : List ZoneView) (named : List ℕ) (times : List ℤ) (texts : List ℕ) : Type 0 where
+pub record IsUncut (z : ZoneView) (cutters : List ZoneView) (named : List ℕ) (times : List ℤ) (texts : List ℕ) : Type 0 where
   pub member : IsMember z times
   pub none : InSome cutters times → ⊥
   pub same : named ≡ texts

@@ -47,7 +47,7 @@ pub record BeginsBy (v w : Interval) : Type 0 where
   pub each : (x : ℤ) → Above x w.least → Above x v.least
 
 -- the second interval begins more than a period behind the end of the first: a number of the cell lies between them
-pub record IsApart (k : ℕ) (v w : Interval) : Type 0 where
+pub record LiesApart (k : ℕ) (v w : Interval) : Type 0 where
   pub end : ℤ
   pub ends : v.most ≡ Some end
   pub start : ℤ

@@ -3,7 +3,7 @@ ghost use Rattle.std.specs.Prelude.{◌≡◌, ◌+◌, ◌≤◌, ◌^◌, ◌�
 ghost use Rattle.lrp_store.specs.Growing.{IsAdded, IsRefused};
 ghost use Rattle.lrp_store.specs.Stores.{IsPadded};
 ghost use Rattle.lrp_minus.specs.Differences.{AreOfCell, greatest_reach};
-ghost use Rattle.lrp_minus.specs.Filling.{IsLeft};
+ghost use Rattle.lrp_minus.specs.Filling.{IsUncut};
 
 use crate::leaving::left_over;
 use lrp_model::{Cell, List};
@@ -28,8 +28,8 @@ pub(crate) fn add_left(
     requires times { IsPadded (pos 0) store.old.shape.times cell.now.residues }
     requires cutters { AreOfCell zone.now cutters.now }
     requires reach { greatest_reach (zone.now ∷ cutters.now) + zone.now.period ≤ 2 ^ 62 }
-    ensures ok { OnOk result (IsAdded (IsLeft zone.now cutters.now (take store.old.shape.texts cell.now.texts)) cap (greatest_reach (zone.now ∷ cutters.now) + zone.now.period) store.old store.new) }
-    ensures refused { result ≡ Err StoreFault.TooManyCells → IsRefused (IsLeft zone.now cutters.now (take store.old.shape.texts cell.now.texts)) cap (greatest_reach (zone.now ∷ cutters.now) + zone.now.period) store.old store.new }
+    ensures ok { OnOk result (IsAdded (IsUncut zone.now cutters.now (take store.old.shape.texts cell.now.texts)) cap (greatest_reach (zone.now ∷ cutters.now) + zone.now.period) store.old store.new) }
+    ensures refused { result ≡ Err StoreFault.TooManyCells → IsRefused (IsUncut zone.now cutters.now (take store.old.shape.texts cell.now.texts)) cap (greatest_reach (zone.now ∷ cutters.now) + zone.now.period) store.old store.new }
 {
     store.shape();
     if cutters.len() == 0 {

@@ -2,7 +2,7 @@
 ghost use Rattle.std.specs.Prelude.{◌≡◌, ◌+◌, ◌<◌, ◌≤◌, ◌^◌, ◌↔◌, ◌∷◌, ℕ, All, AllPairs, Contains, IfOk, IfSome, IsTrue, length, map, nat_abs, pos};
 ghost use Rattle.lrp_zone.specs.Zones.{ZoneView, IsZone, columns_of, reach_of};
 ghost use Rattle.lrp_minus.specs.Differences.{AreOfCell};
-ghost use Rattle.lrp_minus.specs.Intervals.{AreMerged, BeginsBy, IsApart, IsInterval, IsJoined, IsSpan, ends_of, span_of};
+ghost use Rattle.lrp_minus.specs.Intervals.{AreMerged, BeginsBy, LiesApart, IsInterval, IsJoined, IsSpan, ends_of, span_of};
 ghost use Rattle.lrp_minus.specs.Settling.{IsSettlement};
 
 use crate::bounded::bounded;
@@ -97,7 +97,7 @@ fn merged(
 // Whether some number of the cell lies between an interval and the next one.
 fn is_apart(last: Interval, next: Interval, period: i64) -> bool
     requires { IfSome last.most (λ most. nat_abs most + nat_abs period ≤ 2 ^ 62) }
-    ensures { (k : ℕ) → period ≡ pos k → IsTrue result ↔ IsApart k last next }
+    ensures { (k : ℕ) → period ≡ pos k → IsTrue result ↔ LiesApart k last next }
 {
     match (last.most, next.least) {
         (Some(most), Some(least)) => most + period < least,
@@ -107,7 +107,7 @@ fn is_apart(last: Interval, next: Interval, period: i64) -> bool
 
 // An interval and one that begins no sooner, with no number of the cell between them.
 fn joined(last: Interval, next: Interval) -> Interval
-    ensures { (z : ZoneView) → 0 < z.period → IsInterval z last → IsInterval z next → BeginsBy last next → (IsApart z.period last next → ⊥) → IsJoined z last next result }
+    ensures { (z : ZoneView) → 0 < z.period → IsInterval z last → IsInterval z next → BeginsBy last next → (LiesApart z.period last next → ⊥) → IsJoined z last next result }
 {
     Interval {
         least: last.least,

@@ -27,8 +27,8 @@ use Rattle.lrp_model.specs.Refused.{TextOf}
 use Rattle.lrp_model.specs.Databases.{database_text, FitsDatabase}
 use Rattle.lrp_model.specs.DatabaseReading.{IsDatabase, IsNoDatabaseText, HasDatabaseFault}
 use Rattle.lrp_model.specs.Queries.{WrittenTerm, WrittenQuery}
-use Rattle.lrp_model.specs.Queries.WrittenTerm.{variable, quoted}
-use Rattle.lrp_model.specs.Queries.WrittenFormula.{atom, compared, all_of, some}
+use Rattle.lrp_model.specs.Queries.WrittenTerm.{variable, text_term}
+use Rattle.lrp_model.specs.Queries.WrittenFormula.{atom_formula, compared, all_of, some}
 use Rattle.lrp_model.specs.Queries.FurtherMembers.{last}
 use Rattle.lrp_model.specs.QueryMeaning.{raw_question}
 use Rattle.lrp_model.specs.QueryReading.{IsQueryText}
@@ -166,7 +166,7 @@ name at n = here at (variable n)
 pub sort_of_a_term : HasSortFault bus (codes "{ d: data | (bus(d) and tram(d)) }") WrongSort (place 18)
 unfolding tokens_from after skip run behind_run value_from word_or_name text_from symbol_from scan lib.Utf8.encode
 sort_of_a_term = record {
-  tree = record { head = column (codes "d") 3 Data 6 ∷ []; body = all_of (place 13) (atom (place 14) (codes "bus") (name 18 (codes "d") ∷ [])) (last (atom (place 25) (codes "tram") (name 30 (codes "d") ∷ []))) };
+  tree = record { head = column (codes "d") 3 Data 6 ∷ []; body = all_of (place 13) (atom_formula (place 14) (codes "bus") (name 18 (codes "d") ∷ [])) (last (atom_formula (place 25) (codes "tram") (name 30 (codes "d") ∷ []))) };
   text = record { utf8 = (codes "{ d: data | (bus(d) and tram(d)) }", (refl, refl)); spelled = (refl, ((refl, refl), (refl, ((refl, refl), (refl, ((refl, refl), ((refl, refl), (refl, ((refl, refl), (refl, (refl, ((refl, refl), (refl, ((refl, refl), (refl, (refl, (refl, (refl, refl)))))))))))))))))); lawful = record { sizes = ((tt, tt), (tt, tt)); depth = (tt, tt) } };
   found = refl;
 }
@@ -175,7 +175,7 @@ sort_of_a_term = record {
 pub bound_twice : HasSortFault bus (codes "{ t: time | exists t: time bus(t, t) }") Rebound (place 20)
 unfolding tokens_from after skip run behind_run value_from word_or_name text_from symbol_from scan lib.Utf8.encode
 bound_twice = record {
-  tree = record { head = column (codes "t") 3 Time 6 ∷ []; body = some (place 13) (column (codes "t") 20 Time 23) (atom (place 28) (codes "bus") (name 32 (codes "t") ∷ name 35 (codes "t") ∷ [])) };
+  tree = record { head = column (codes "t") 3 Time 6 ∷ []; body = some (place 13) (column (codes "t") 20 Time 23) (atom_formula (place 28) (codes "bus") (name 32 (codes "t") ∷ name 35 (codes "t") ∷ [])) };
   text = record { utf8 = (codes "{ t: time | exists t: time bus(t, t) }", (refl, refl)); spelled = (refl, ((refl, refl), (refl, ((refl, refl), (refl, ((refl, refl), ((refl, refl), (refl, ((refl, refl), ((refl, refl), (refl, ((refl, refl), (refl, ((refl, refl), (refl, (refl, (refl, refl))))))))))))))))); lawful = record { sizes = (tt, (tt, tt)); depth = tt } };
   found = refl;
 }
@@ -184,7 +184,7 @@ bound_twice = record {
 pub terms_too_many : HasSortFault bus (codes "{ t: time | bus(t, x) }") Arity (place 13)
 unfolding tokens_from after skip run behind_run value_from word_or_name text_from symbol_from scan lib.Utf8.encode
 terms_too_many = record {
-  tree = record { head = column (codes "t") 3 Time 6 ∷ []; body = atom (place 13) (codes "bus") (name 17 (codes "t") ∷ name 20 (codes "x") ∷ []) };
+  tree = record { head = column (codes "t") 3 Time 6 ∷ []; body = atom_formula (place 13) (codes "bus") (name 17 (codes "t") ∷ name 20 (codes "x") ∷ []) };
   text = record { utf8 = (codes "{ t: time | bus(t, x) }", (refl, refl)); spelled = (refl, ((refl, refl), (refl, ((refl, refl), (refl, ((refl, refl), (refl, ((refl, refl), (refl, ((refl, refl), (refl, (refl, (refl, refl))))))))))))); lawful = record { sizes = (tt, (tt, tt)); depth = tt } };
   found = refl;
 }
@@ -193,7 +193,7 @@ terms_too_many = record {
 pub lines_and_cities : HasSortFault trip (codes "{ l: line | exists t: time trip(t, \"x\", l) }") WrongSort (place 41)
 unfolding tokens_from after skip run behind_run value_from word_or_name text_from symbol_from scan lib.Utf8.encode
 lines_and_cities = record {
-  tree = record { head = column (codes "l") 3 (Named (codes "line")) 6 ∷ []; body = some (place 13) (column (codes "t") 20 Time 23) (atom (place 28) (codes "trip") (name 33 (codes "t") ∷ here 36 (quoted (codes "x")) ∷ name 41 (codes "l") ∷ [])) };
+  tree = record { head = column (codes "l") 3 (Named (codes "line")) 6 ∷ []; body = some (place 13) (column (codes "t") 20 Time 23) (atom_formula (place 28) (codes "trip") (name 33 (codes "t") ∷ here 36 (text_term (codes "x")) ∷ name 41 (codes "l") ∷ [])) };
   text = record { utf8 = (codes "{ l: line | exists t: time trip(t, \"x\", l) }", (refl, refl)); spelled = (refl, ((refl, refl), (refl, ((refl, refl), (refl, ((refl, refl), ((refl, refl), (refl, ((refl, refl), ((refl, refl), (refl, ((refl, refl), (refl, ((refl, refl), (refl, ((refl, refl), (refl, (refl, (refl, refl))))))))))))))))))); lawful = record { sizes = (tt, (omega arith, (tt, tt))); depth = tt } };
   found = refl;
 }

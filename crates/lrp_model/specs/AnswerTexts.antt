@@ -22,28 +22,28 @@ use Rattle.lrp_model.specs.declared.relations.Relation.{Relation}
 -- ---- the cell of a row
 
 -- the texts of a row, in head order
-abbrev pub row_texts : List Value → List Text
-row_texts [] = []
-row_texts (Point p ∷ values) = row_texts values
-row_texts (Const t ∷ values) = t ∷ row_texts values
+abbrev pub value_texts : List Value → List Text
+value_texts [] = []
+value_texts (Point p ∷ values) = value_texts values
+value_texts (Const t ∷ values) = t ∷ value_texts values
 
 -- its residues, in head order
-abbrev pub row_residues : List Value → List ℤ
-row_residues [] = []
-row_residues (Point p ∷ values) = p.offset ∷ row_residues values
-row_residues (Const t ∷ values) = row_residues values
+abbrev pub value_residues : List Value → List ℤ
+value_residues [] = []
+value_residues (Point p ∷ values) = p.offset ∷ value_residues values
+value_residues (Const t ∷ values) = value_residues values
 
 -- the order of cells: by the texts, and then by the residues
-abbrev pub cell_cmp : Row → Row → Ordering
-cell_cmp r s = ordering_then (slice_cmp text_cmp (row_texts r.values) (row_texts s.values)) (slice_cmp int_cmp (row_residues r.values) (row_residues s.values))
+abbrev pub row_cell_cmp : Row → Row → Ordering
+row_cell_cmp r s = ordering_then (slice_cmp text_cmp (value_texts r.values) (value_texts s.values)) (slice_cmp int_cmp (value_residues r.values) (value_residues s.values))
 
 -- two rows are of one cell
 abbrev pub OfOneCell : Row → Row → Type 0
-OfOneCell r s = cell_cmp r s ≡ Equal
+OfOneCell r s = row_cell_cmp r s ≡ Equal
 
 -- the cell of the first row is not behind that of the second
 abbrev pub InOrder : Row → Row → Type 0
-InOrder r s = cell_cmp r s ≢ Greater
+InOrder r s = row_cell_cmp r s ≢ Greater
 
 -- ---- a row by itself
 

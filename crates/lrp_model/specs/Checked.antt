@@ -36,17 +36,17 @@ data_of (Shifted n plus) = data_const []
 abbrev pub term_of : Binders → RawTerm → Term
 term_of bs t = if is_data_term (term_sort bs t) then data_term (data_of t.kind) else time_term (time_of t.kind)
 
-abbrev pub is_equals : Op → Bool
-is_equals Eq = true
-is_equals Le = false
-is_equals Lt = false
-is_equals Ge = false
-is_equals Gt = false
+abbrev pub is_equality : Op → Bool
+is_equality Eq = true
+is_equality Le = false
+is_equality Lt = false
+is_equality Ge = false
+is_equality Gt = false
 
 -- an `=` of two data terms is an equality, and every other comparison is one of times
 abbrev pub compare_of : Binders → RawTerm → Op → RawTerm → Test
 compare_of bs l op r =
-    if is_equals op && is_data_term (term_sort bs l) && is_data_term (term_sort bs r) then Equal (data_of l.kind) (data_of r.kind)
+    if is_equality op && is_data_term (term_sort bs l) && is_data_term (term_sort bs r) then Equal (data_of l.kind) (data_of r.kind)
     else Compare (time_of l.kind) op (time_of r.kind)
 
 -- the formula within binders; one in parentheses is the formula itself

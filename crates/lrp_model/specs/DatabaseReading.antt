@@ -15,7 +15,7 @@ use Rattle.lrp_model.specs.declared.faults.DbKind.TheVariants.{Utf8, Syntax, Num
 use Rattle.lrp_model.specs.declared.written.RawRelation.{RawRelation}
 use Rattle.lrp_model.specs.Databases.{database_text, FitsDatabase}
 use Rattle.lrp_model.specs.DatabaseMeaning.{database_of}
-use Rattle.lrp_model.specs.DatabaseFaults.{stands, faults}
+use Rattle.lrp_model.specs.DatabaseFaults.{database_standing, database_faults}
 
 -- the bytes are a lawful text of the grammar, of this written tree
 pub record IsDatabaseText (bytes : List ℕ) (tree : List RawRelation) : Type 0 where
@@ -27,7 +27,7 @@ pub record IsDatabaseText (bytes : List ℕ) (tree : List RawRelation) : Type 0 
 pub record IsDatabase (bytes : List ℕ) (db : List Relation) : Type 0 where
   pub tree : List RawRelation
   pub text : IsDatabaseText bytes tree
-  pub sound : faults tree ≡ []
+  pub sound : database_faults tree ≡ []
   pub meant : db ≡ database_of tree
 
 -- the bytes are no UTF-8; the place is behind their longest front that is
@@ -48,7 +48,7 @@ pub record IsNoDatabaseText (bytes : List ℕ) (k : Fault) (place : Place) : Typ
 pub record HasDatabaseFault (bytes : List ℕ) (fault : DbFault) : Type 0 where
   pub tree : List RawRelation
   pub text : IsDatabaseText bytes tree
-  pub found : first stands (faults tree) ≡ Some fault
+  pub found : first database_standing (database_faults tree) ≡ Some fault
 
 -- the one fault that is reported: of the bytes, else of the grammar, else of the tree; no database names a relation that is not its own
 abbrev pub IsDatabaseFaultOf : List ℕ → DbKind → DbFault → Type 0

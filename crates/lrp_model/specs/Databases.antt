@@ -16,10 +16,10 @@ use Rattle.lrp_model.specs.declared.written.Side.TheVariants.{Alone, Column, Shi
 use Rattle.lrp_model.specs.declared.written.RawBound.{RawBound}
 use Rattle.lrp_model.specs.declared.written.RawRow.{RawRow}
 use Rattle.lrp_model.specs.declared.written.RawRelation.{RawRelation}
-use Rattle.lrp_model.specs.Tokens.{Part, located_text, joined, separated}
+use Rattle.lrp_model.specs.Tokens.{Part, located_text, joined_parts, separated}
 use Rattle.lrp_model.specs.Tokens.Token.{name_token, word_token, number_token, text_token, symbol_token, end_token}
 use Rattle.lrp_model.specs.Tokens.Part.{at, any}
-use Rattle.lrp_model.specs.Lexing.{limit}
+use Rattle.lrp_model.specs.Lexing.{greatest_number}
 use Rattle.lrp_model.specs.Columns.{column_text}
 
 -- ---- what spells a tree
@@ -80,23 +80,23 @@ row_text r = any (symbol_token Open) ∷ (separated comma (located_text value_te
 abbrev pub relation_text : RawRelation → List Part
 relation_text r =
     any (word_token Relation) ∷ name_part r.name ∷ any (symbol_token Open) ∷ (separated comma column_text r.columns ++
-    any (symbol_token Close) ∷ any (symbol_token OpenBrace) ∷ (joined (located_text row_text) r.rows ++ any (symbol_token CloseBrace) ∷ []))
+    any (symbol_token Close) ∷ any (symbol_token OpenBrace) ∷ (joined_parts (located_text row_text) r.rows ++ any (symbol_token CloseBrace) ∷ []))
 
 -- database = { relation }, and behind it the end
 abbrev pub database_text : List RawRelation → List Part
-database_text rs = joined relation_text rs ++ any end_token ∷ []
+database_text rs = joined_parts relation_text rs ++ any end_token ∷ []
 
 -- ---- what makes a tree lawful beyond the grammar: the sizes of numbers and texts, and periods that are not 0
 
 abbrev pub FitsValue : WrittenValue → Type 0
 FitsValue (Constant t) = length t ≤ 255
-FitsValue (Instant i) = i.size ≤ limit
-FitsValue (Point i k) = (i.size ≤ limit) × (1 ≤ k) × (k ≤ limit)
+FitsValue (Instant i) = i.size ≤ greatest_number
+FitsValue (Point i k) = (i.size ≤ greatest_number) × (1 ≤ k) × (k ≤ greatest_number)
 
 abbrev pub FitsSide : Side → Type 0
-FitsSide (Alone i) = i.size ≤ limit
+FitsSide (Alone i) = i.size ≤ greatest_number
 FitsSide (Column n) = Unit {0}
-FitsSide (Shifted n down k) = k ≤ limit
+FitsSide (Shifted n down k) = k ≤ greatest_number
 
 abbrev pub FitsBound : RawBound → Type 0
 FitsBound b = FitsSide b.side

@@ -9,8 +9,8 @@ use Rattle.lrp_model.specs.Tokens.{Token, Tokens}
 use Rattle.lrp_model.specs.Tokens.Token.{name_token, word_token, number_token, text_token, symbol_token, end_token, bad_token}
 
 -- the greatest number that a text may have: 2 ^ 62
-abbrev pub limit : ℕ
-limit = 4611686018427387904
+abbrev pub greatest_number : ℕ
+greatest_number = 4611686018427387904
 
 abbrev pub is_between : ℕ → ℕ → ℕ → Bool
 is_between low high b = nat_le low b && nat_le b high
@@ -92,30 +92,30 @@ word_or_name n =
     name_token n
 
 -- the text behind an opening quote, the bytes up to and with the closing one, and those behind
-pub record Text : Type 0 where
+pub record QuotedText : Type 0 where
   pub meant : List ℕ
   pub taken : List ℕ
   pub left : List ℕ
 
-abbrev pub longer : ℕ → ℕ → Result Text Scanned → Result Text Scanned
+abbrev pub longer : ℕ → ℕ → Result QuotedText Scanned → Result QuotedText Scanned
 longer written b (Ok t) = Ok (record { meant = b ∷ t.meant; taken = written ∷ t.taken; left = t.left })
 longer written b (Err s) = Err (record { token = bad_token; taken = written ∷ s.taken; left = s.left })
 
-abbrev pub more_taken : ℕ → Result Text Scanned → Result Text Scanned
+abbrev pub more_taken : ℕ → Result QuotedText Scanned → Result QuotedText Scanned
 more_taken b (Ok t) = Ok (record { meant = t.meant; taken = b ∷ t.taken; left = t.left })
 more_taken b (Err s) = Err (record { token = bad_token; taken = b ∷ s.taken; left = s.left })
 
-abbrev pub bad_at : List ℕ → Result Text Scanned
+abbrev pub bad_at : List ℕ → Result QuotedText Scanned
 bad_at bs = Err (record { token = bad_token; taken = []; left = bs })
 
 -- reads a text; the flag says that a backslash came before
-unfoldable pub text_from : Bool → List ℕ → Result Text Scanned
+unfoldable pub text_from : Bool → List ℕ → Result QuotedText Scanned
 text_from true [] = bad_at (92 ∷ [])
 text_from true (b ∷ bs) = if (b == 34) || (b == 92) then more_taken 92 (longer b b (text_from false bs)) else bad_at (92 ∷ b ∷ bs)
 text_from false [] = bad_at []
 text_from false (b ∷ bs) = if b == 34 then Ok (record { meant = []; taken = b ∷ []; left = bs }) else if b == 92 then text_from true bs else if is_forbidden b then bad_at (b ∷ bs) else longer b b (text_from false bs)
 
-abbrev pub text_scanned : Result Text Scanned → Scanned
+abbrev pub text_scanned : Result QuotedText Scanned → Scanned
 text_scanned (Ok t) = record { token = text_token t.meant; taken = 34 ∷ t.taken; left = t.left }
 text_scanned (Err s) = record { token = bad_token; taken = 34 ∷ s.taken; left = s.left }
 

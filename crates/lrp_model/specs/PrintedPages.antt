@@ -6,7 +6,7 @@ use Rattle.lrp_model.specs.Texts.{Text}
 use Rattle.lrp_model.specs.DataTexts.{IsDataText}
 use Rattle.lrp_model.specs.Rows.{Datum, time, text, times_of, texts_of}
 use Rattle.lrp_model.specs.Pages.{Tuple, last_of}
-use Rattle.lrp_model.specs.Lexing.{limit}
+use Rattle.lrp_model.specs.Lexing.{greatest_number}
 use Rattle.lrp_model.specs.Printed.{joined_by, quoted}
 
 -- ---- lines
@@ -66,7 +66,7 @@ MayBeDigest (Some digest) = IsDigest digest
 pub record IsToken (token : List ℕ) (digest : Option (List ℕ)) (times : List ℤ) (texts : List Text) : Type 0 where
   pub spelled : token ≡ token_text digest times texts
   pub digest_is : MayBeDigest digest
-  pub small : AllByRecursion (λ x. nat_abs x ≤ limit) times
+  pub small : AllByRecursion (λ x. nat_abs x ≤ greatest_number) times
   pub whole : AllByRecursion IsDataText texts
 
 -- ---- pages

@@ -16,7 +16,7 @@ use Rattle.lrp_model.specs.declared.formulas.Op.TheVariants.{Le, Lt, Ge, Gt, Eq}
 use Rattle.lrp_model.specs.Tokens.{Part, located_text, separated}
 use Rattle.lrp_model.specs.Tokens.Token.{name_token, word_token, number_token, text_token, symbol_token, end_token, hole_token}
 use Rattle.lrp_model.specs.Tokens.Part.{at, any}
-use Rattle.lrp_model.specs.Lexing.{limit}
+use Rattle.lrp_model.specs.Lexing.{greatest_number}
 use Rattle.lrp_model.specs.Columns.{column_text}
 use Rattle.lrp_model.specs.Databases.{integer_text, shift, comma}
 
@@ -25,14 +25,14 @@ use Rattle.lrp_model.specs.Databases.{integer_text, shift, comma}
 -- an integer, a text, a name, or a name with an offset upwards or downwards
 pub data WrittenTerm : Type 0 where
   integer : Integer → WrittenTerm
-  quoted : Text → WrittenTerm
+  text_term : Text → WrittenTerm
   variable : Identifier → WrittenTerm
   shifted : Identifier → Bool → ℕ → WrittenTerm
 
 -- a formula with the place of its first token, where no term has it; the members of an `and` or `or` are two at least
 mutual
   pub data WrittenFormula : Type 0 where
-    atom : Place → Identifier → List (Located WrittenTerm) → WrittenFormula
+    atom_formula : Place → Identifier → List (Located WrittenTerm) → WrittenFormula
     compared : Located WrittenTerm → Op → Located WrittenTerm → WrittenFormula
     member : Located WrittenTerm → Integer → ℕ → WrittenFormula
     denied : Place → WrittenFormula → WrittenFormula
@@ -58,7 +58,7 @@ pub record WrittenQuery : Type 0 where
 -- term = integer | text | name [ ( "+" | "-" ) number ]
 abbrev pub term_text : WrittenTerm → List Part
 term_text (integer i) = integer_text i
-term_text (quoted t) = any (text_token t) ∷ []
+term_text (text_term t) = any (text_token t) ∷ []
 term_text (variable n) = any (name_token n) ∷ []
 term_text (shifted n down k) = any (name_token n) ∷ any (symbol_token (shift down)) ∷ any (number_token k) ∷ []
 
@@ -73,7 +73,7 @@ op_symbol Eq = Equals
 abbrev mutual
   pub formula_text : WrittenFormula → List Part
   -- name "(" [ term { "," term } ] ")"
-  formula_text (atom p n ts) = at p (name_token n) ∷ any (symbol_token Open) ∷ (separated comma (located_text term_text) ts ++ any (symbol_token Close) ∷ [])
+  formula_text (atom_formula p n ts) = at p (name_token n) ∷ any (symbol_token Open) ∷ (separated comma (located_text term_text) ts ++ any (symbol_token Close) ∷ [])
   -- term ( "<=" | ">=" | "<" | ">" | "=" ) term
   formula_text (compared l op r) = located_text term_text l ++ any (symbol_token (op_symbol op)) ∷ located_text term_text r
   -- term "in" integer "+" number "n"
@@ -112,7 +112,7 @@ IsZero (suc n) = ⊥
 -- at most this deep, the formula itself counted; holes stand just below
 abbrev mutual
   pub FitsDepth : WrittenFormula → ℕ → Type 0
-  FitsDepth (atom p n ts) d = Deeper d (λ m. Unit {0})
+  FitsDepth (atom_formula p n ts) d = Deeper d (λ m. Unit {0})
   FitsDepth (compared l op r) d = Deeper d (λ m. Unit {0})
   FitsDepth (member t i k) d = Deeper d (λ m. Unit {0})
   FitsDepth (denied p f) d = Deeper d (FitsDepth f)
@@ -129,17 +129,17 @@ abbrev mutual
   FitDepth (more f fs) d = FitsDepth f d × FitDepth fs d
 
 abbrev pub FitsTerm : WrittenTerm → Type 0
-FitsTerm (integer i) = i.size ≤ limit
-FitsTerm (quoted t) = length t ≤ 255
+FitsTerm (integer i) = i.size ≤ greatest_number
+FitsTerm (text_term t) = length t ≤ 255
 FitsTerm (variable n) = Unit {0}
-FitsTerm (shifted n down k) = k ≤ limit
+FitsTerm (shifted n down k) = k ≤ greatest_number
 
 -- the sizes of numbers and texts, and periods that are not 0
 abbrev mutual
   pub FitsSizes : WrittenFormula → Type 0
-  FitsSizes (atom p n ts) = AllByRecursion (λ t. FitsTerm t.item) ts
+  FitsSizes (atom_formula p n ts) = AllByRecursion (λ t. FitsTerm t.item) ts
   FitsSizes (compared l op r) = FitsTerm l.item × FitsTerm r.item
-  FitsSizes (member t i k) = FitsTerm t.item × (i.size ≤ limit) × (1 ≤ k) × (k ≤ limit)
+  FitsSizes (member t i k) = FitsTerm t.item × (i.size ≤ greatest_number) × (1 ≤ k) × (k ≤ greatest_number)
   FitsSizes (denied p f) = FitsSizes f
   FitsSizes (all_of p f fs) = FitsSizes f × FitSizes fs
   FitsSizes (any_of p f fs) = FitsSizes f × FitSizes fs

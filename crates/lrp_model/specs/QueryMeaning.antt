@@ -2,8 +2,8 @@
 use Rattle.std.specs.Prelude.{pos, map}
 use Rattle.lrp_model.specs.DatabaseMeaning.{signed, integer_of}
 use Rattle.lrp_model.specs.Queries.{WrittenTerm, WrittenFormula, FurtherMembers, WrittenQuery}
-use Rattle.lrp_model.specs.Queries.WrittenTerm.{integer, quoted, variable, shifted}
-use Rattle.lrp_model.specs.Queries.WrittenFormula.{atom, compared, member, denied, all_of, any_of, implied, group, some, every, hole}
+use Rattle.lrp_model.specs.Queries.WrittenTerm.{integer, text_term, variable, shifted}
+use Rattle.lrp_model.specs.Queries.WrittenFormula.{atom_formula, compared, member, denied, all_of, any_of, implied, group, some, every, hole}
 use Rattle.lrp_model.specs.Queries.FurtherMembers.{last, more}
 use Rattle.lrp_model.specs.RawQueries.{RawForm, RawForms, RawQuestion, raw_atom, raw_compare, raw_member, raw_not, raw_and, raw_or, raw_implies, raw_group, raw_exists, raw_forall, no_raws, raw}
 use Rattle.lrp_model.specs.declared.written.Located.{Located}
@@ -14,7 +14,7 @@ use Rattle.lrp_model.specs.declared.raw.RawTermKind.TheVariants.{Int, Text, Var,
 -- a term; an offset downwards is a negative one
 abbrev pub term_kind : WrittenTerm → RawTermKind
 term_kind (integer i) = Int (integer_of i)
-term_kind (quoted t) = Text t
+term_kind (text_term t) = Text t
 term_kind (variable n) = Var n
 term_kind (shifted n down k) = Shifted n (signed down k)
 
@@ -24,7 +24,7 @@ raw_term t = record { kind = term_kind t.item; place = t.place }
 -- a formula; one that begins with a term has the term's place, and a hole, which no bytes spell, is an `or` of nothing
 abbrev mutual
   pub raw_form : WrittenFormula → RawForm
-  raw_form (atom p n ts) = raw_atom p n (map raw_term ts)
+  raw_form (atom_formula p n ts) = raw_atom p n (map raw_term ts)
   raw_form (compared l op r) = raw_compare l.place (raw_term l) op (raw_term r)
   raw_form (member t i k) = raw_member t.place (raw_term t) (record { offset = integer_of i; period = pos k })
   raw_form (denied p f) = raw_not p (raw_form f)

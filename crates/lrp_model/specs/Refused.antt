@@ -4,11 +4,11 @@ use Rattle.lrp_model.specs.declared.tokens.Fault.{Fault}
 use Rattle.lrp_model.specs.declared.tokens.Fault.TheVariants.{Syntax, Number, TextTooLong, Period, Deep, Memory}
 use Rattle.lrp_model.specs.Tokens.{Token, Placed, Tokens, Part, Spells}
 use Rattle.lrp_model.specs.Tokens.Token.{number_token, text_token}
-use Rattle.lrp_model.specs.Lexing.{limit}
+use Rattle.lrp_model.specs.Lexing.{greatest_number}
 
 -- what a token shows of a fault that is no syntax fault
 abbrev pub IsCause : Fault → Token → Type 0
-IsCause Number (number_token n) = limit < n
+IsCause Number (number_token n) = greatest_number < n
 IsCause TextTooLong (text_token t) = 255 < length t
 IsCause Period (number_token n) = n ≡ 0
 IsCause Syntax t = Unit {0}

@@ -1,8 +1,8 @@
 -- The sort faults of a raw query over a database, and the first of them.
-use Rattle.std.specs.Prelude.{◌≡◌, ◌+◌, ◌==◌, ◌||◌, not, nat_lt, ℕ, Bool, true, false, List, [], ◌∷◌, ◌++◌, map, reverse, filter, flat_map, find, length, if◌then◌else◌, Option, Some, None, option_map}
+use Rattle.std.specs.Prelude.{◌≡◌, ◌+◌, ◌==◌, ◌||◌, not, nat_lt, ℕ, Bool, true, false, List, [], ◌∷◌, ◌++◌, map, reverse, flat_map, find, length, if◌then◌else◌, Option, Some, None, option_map}
 use Rattle.std.specs.List.{list_any}
 use Rattle.std.specs.Str.{bytes_eq}
-use Rattle.lrp_model.specs.Texts.{Identifier}
+use Rattle.lrp_model.specs.Texts.{Identifier, without}
 use Rattle.lrp_model.specs.Rows.{relation_named}
 use Rattle.lrp_model.specs.Sorts.{same_sort, is_time, is_data}
 use Rattle.lrp_model.specs.Faults.{standing, first, fault_if, is_named_in, ninth}
@@ -23,12 +23,12 @@ use Rattle.lrp_model.specs.declared.faults.QueryKind.{QueryKind}
 use Rattle.lrp_model.specs.declared.faults.QueryKind.TheVariants.{UnknownRelation, Arity, Sort as WrongSort, Unbound, Rebound, Wide, UnknownSort}
 use Rattle.lrp_model.specs.RawQueries.{RawForm, RawForms, RawQuestion, raw_atom, raw_compare, raw_member, raw_not, raw_and, raw_or, raw_implies, raw_group, raw_exists, raw_forall, no_raws, raw}
 
-abbrev pub fault : QueryKind → Place → QueryFault
-fault k p = record { kind = k; place = p }
+abbrev pub query_fault : QueryKind → Place → QueryFault
+query_fault k p = record { kind = k; place = p }
 
 -- what faults of queries are ordered by
-abbrev pub stands : QueryFault → List ℕ
-stands f = standing f.place (query_number f.kind)
+abbrev pub query_standing : QueryFault → List ℕ
+query_standing f = standing f.place (query_number f.kind)
 
 -- ---- binders and the sorts of terms
 
@@ -88,9 +88,9 @@ unlike unsorted other = false
 
 -- Unbound: a variable without a binder; Sort: an offset on a variable of a data sort; at the term
 abbrev pub variable_faults : Option Sort → Bool → Place → List QueryFault
-variable_faults None shifted p = fault Unbound p ∷ []
+variable_faults None shifted p = query_fault Unbound p ∷ []
 variable_faults (Some s) false p = []
-variable_faults (Some s) true p = fault_if (is_data s) (fault WrongSort p)
+variable_faults (Some s) true p = fault_if (is_data s) (query_fault WrongSort p)
 
 abbrev pub kind_faults : Binders → RawTermKind → Place → List QueryFault
 kind_faults bs (Int x) p = []
@@ -103,21 +103,21 @@ term_faults bs t = kind_faults bs t.kind t.place
 
 -- Sort: a term whose sort is not that of its column
 abbrev pub column_faults : Binders → List RawTerm → List Column → List QueryFault
-column_faults bs (t ∷ ts) (c ∷ cs) = fault_if (differs (term_sort bs t) c.sort) (fault WrongSort t.place) ++ column_faults bs ts cs
+column_faults bs (t ∷ ts) (c ∷ cs) = fault_if (differs (term_sort bs t) c.sort) (query_fault WrongSort t.place) ++ column_faults bs ts cs
 column_faults bs _ _ = []
 
 -- UnknownRelation: an atom whose name is no relation; Arity: one whose terms are not as many as the columns; at the name
 abbrev pub atom_faults : Binders → Place → List RawTerm → Option Relation → List QueryFault
-atom_faults bs p ts None = fault UnknownRelation p ∷ []
-atom_faults bs p ts (Some r) = fault_if (not (length ts == length r.columns)) (fault Arity p) ++ column_faults bs ts r.columns
+atom_faults bs p ts None = query_fault UnknownRelation p ∷ []
+atom_faults bs p ts (Some r) = fault_if (not (length ts == length r.columns)) (query_fault Arity p) ++ column_faults bs ts r.columns
 
 -- Sort: a term of a data sort, where a time term is wanted
 abbrev pub time_faults : Binders → RawTerm → List QueryFault
-time_faults bs t = fault_if (is_data_term (term_sort bs t)) (fault WrongSort t.place)
+time_faults bs t = fault_if (is_data_term (term_sort bs t)) (query_fault WrongSort t.place)
 
 -- Sort: a side of a comparison other than `=` that is of a data sort; the right side of an `=` whose sides have different sorts
 abbrev pub compare_faults : Binders → RawTerm → Op → RawTerm → List QueryFault
-compare_faults bs l Eq r = fault_if (unlike (term_sort bs l) (term_sort bs r)) (fault WrongSort r.place)
+compare_faults bs l Eq r = fault_if (unlike (term_sort bs l) (term_sort bs r)) (query_fault WrongSort r.place)
 compare_faults bs l Le r = time_faults bs l ++ time_faults bs r
 compare_faults bs l Lt r = time_faults bs l ++ time_faults bs r
 compare_faults bs l Ge r = time_faults bs l ++ time_faults bs r
@@ -133,11 +133,11 @@ has_sort db s = list_any (λ r. list_any (λ c. same_sort c.sort s) r.columns) d
 abbrev pub sort_faults : List Relation → Sort → Place → List QueryFault
 sort_faults db Time p = []
 sort_faults db Data p = []
-sort_faults db (Named n) p = fault_if (not (has_sort db (Named n))) (fault UnknownSort p)
+sort_faults db (Named n) p = fault_if (not (has_sort db (Named n))) (query_fault UnknownSort p)
 
 -- Rebound: a binder whose name is bound around it; at its name
 abbrev pub binder_faults : List Relation → Binders → RawColumn → List QueryFault
-binder_faults db bs c = fault_if (is_named_in (map (λ b. b.name) bs) c.name) (fault Rebound c.place) ++ sort_faults db c.sort c.sort_place
+binder_faults db bs c = fault_if (is_named_in (map (λ b. b.name) bs) c.name) (query_fault Rebound c.place) ++ sort_faults db c.sort c.sort_place
 
 -- ---- too many free variables
 
@@ -149,9 +149,6 @@ term_names t = kind_names t.kind
     kind_names (Text u) = []
     kind_names (Var n) = n ∷ []
     kind_names (Shifted n plus) = n ∷ []
-
-abbrev pub without : Identifier → List Identifier → List Identifier
-without n names = filter (λ m. not (bytes_eq n m)) names
 
 -- the names that occur free in a formula, some more than once
 abbrev mutual
@@ -198,7 +195,7 @@ place_of (raw_forall p c f) = p
 
 -- Wide: a formula with too many free variables, these names counted beside its own; at its first token, before the faults inside it
 abbrev pub widened : Binders → List Identifier → RawForm → List QueryFault → List QueryFault
-widened bs bound f inside = fault_if (too_many bs (bound ++ free_names f)) (fault Wide (place_of f)) ++ inside
+widened bs bound f inside = fault_if (too_many bs (bound ++ free_names f)) (query_fault Wide (place_of f)) ++ inside
 
 -- ---- faults of formulas and queries
 
@@ -226,13 +223,13 @@ head_faults db bs [] = []
 head_faults db bs (c ∷ cs) = binder_faults db bs c ++ head_faults db (c ∷ bs) cs
 
 -- all sort faults of a query; Wide is also a ninth time column of the head, or a ninth among those of all data sorts
-abbrev pub faults : List Relation → RawQuestion → List QueryFault
-faults db q = head_faults db [] q.head ++ ninth (fault Wide) 0 0 q.head ++ widened (reverse q.head) [] q.body (form_faults q.body db (reverse q.head))
+abbrev pub query_faults : List Relation → RawQuestion → List QueryFault
+query_faults db q = head_faults db [] q.head ++ ninth (query_fault Wide) 0 0 q.head ++ widened (reverse q.head) [] q.body (form_faults q.body db (reverse q.head))
 
 -- there is none
 abbrev pub IsWellSorted : List Relation → RawQuestion → Type 0
-IsWellSorted db q = faults db q ≡ []
+IsWellSorted db q = query_faults db q ≡ []
 
 -- the sort fault that is reported
 abbrev pub IsSortFault : List Relation → RawQuestion → QueryFault → Type 0
-IsSortFault db q f = first stands (faults db q) ≡ Some f
+IsSortFault db q f = first query_standing (query_faults db q) ≡ Some f

@@ -8,7 +8,7 @@ use Rattle.lrp_model.specs.Satisfaction.{Structure}
 use Rattle.lrp_model.specs.Sorts.{is_time}
 use Rattle.lrp_model.specs.Periods.{periods, test_periods}
 use Rattle.lrp_model.specs.Reach.{greatest, test_reach, term_magnitudes}
-use Rattle.lrp_model.specs.Steps.{scan, leaf, sort_texts, join, select, union, minus, complement, drop_of}
+use Rattle.lrp_model.specs.Steps.{scan_of, leaf, sort_texts, join, select, union, minus, complement, drop_of}
 use Rattle.lrp_model.specs.declared.relations.Sort.{Sort}
 use Rattle.lrp_model.specs.declared.formulas.Term.{Term}
 use Rattle.lrp_model.specs.declared.formulas.Test.{Test}
@@ -23,7 +23,7 @@ use Rattle.lrp_plan.specs.Drafts.{AddsStep, AreTests, Extends, ExtendsBoth, head
 use Rattle.lrp_plan.proofs.Made.{scan_follows, leaf_follows, sort_follows, join_follows, select_follows, union_follows, minus_follows, complement_follows, drop_time_follows, drop_data_follows, head_follows}
 
 pub scans : {T E : Type 0} (r : Result T E) (facts : Facts) (name : Identifier) (terms : List Term) (k d offset reach : ℕ) (old new : Draft) → k ≡ unwrap_or (option_map (λ p. p.number) facts.period) d → offset ≡ greatest (flat_map term_magnitudes terms) → reach ≡ facts.bound + 2 * offset + k
-    → OnOk r (AddsStep (Scan name terms) k (capped reach) old new) → OnOk r ((M : Structure) (K : ℕ) → AreFacts (rows_of M.relations name) facts → IsCommon (periods (atom name terms) M.relations) K → Extends M K (scan name terms) old new)
+    → OnOk r (AddsStep (Scan name terms) k (capped reach) old new) → OnOk r ((M : Structure) (K : ℕ) → AreFacts (rows_of M.relations name) facts → IsCommon (periods (atom name terms) M.relations) K → Extends M K (scan_of name terms) old new)
 scans (Ok x) facts name terms k d offset reach old new e f g a = λ M K h c. record { follows = λ planned draft. scan_follows M K facts name terms k d offset reach old new planned draft a h c e f g }
 scans (Err x) facts name terms k d offset reach old new e f g a = tt
 

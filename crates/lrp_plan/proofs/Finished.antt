@@ -7,7 +7,7 @@ use Rattle.lrp_model.specs.Steps.{PlanStep, Steps}
 use Rattle.lrp_model.specs.Plans.{plan, query_reach, IsStep}
 use Rattle.lrp_model.specs.declared.relations.Relation.{Relation}
 use Rattle.lrp_model.specs.declared.plans.Step.{Step}
-use Rattle.lrp_plan_laws.specs.Rising.{HasPeriods, Rises}
+use Rattle.lrp_plan_laws.specs.Rising.{HasPeriods, IsRising}
 use Rattle.lrp_plan_laws.proofs.RisingLaws.{rises}
 use Rattle.lrp_plan.specs.declared.drafts.Draft.{Draft}
 use Rattle.lrp_plan.specs.Capped.{capped}
@@ -25,4 +25,4 @@ exact (s ∷ ss) (p ∷ ps) h low =
 
 -- the steps of a draft of the whole plan, where the query's reach is at most 2^62
 pub finished : (db : List Relation) (q : Question) (K : ℕ) (draft : Draft) → HasElements q.body → HasPeriods db q → query_reach db q ≤ 2 ^ 62 → IsDraft db K draft (plan db q) → AllZip IsStep draft.steps (plan db q)
-finished db q K draft h low le d = exact draft.steps (plan db q) d.steps (λ i p e. let r : Rises db q (suc i) p = rises db q h low (suc i) p e in let b : p.reach ≤ query_reach db q = r.below in omega arith)
+finished db q K draft h low le d = exact draft.steps (plan db q) d.steps (λ i p e. let r : IsRising db q (suc i) p = rises db q h low (suc i) p e in let b : p.reach ≤ query_reach db q = r.below in omega arith)

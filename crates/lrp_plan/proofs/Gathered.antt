@@ -20,7 +20,7 @@ use Rattle.lrp_model.proofs.Decided.{cons_cases, contains_first, contains_later,
 use Rattle.lrp_model.proofs.Ascending.{same_ascending}
 use Rattle.lrp_model.proofs.DomainLaws.{contains_in_order, in_order_ascends}
 use Rattle.lrp_rel.specs.Once.{put_once, once, texts_among, texts_with}
-use Rattle.lrp_plan.specs.Domains.{HasTexts, AreDomains, Gathers, TakesIn, gathered}
+use Rattle.lrp_plan.specs.Domains.{IsTextSet, AreDomains, Gathers, TakesIn, gathered}
 use Rattle.lrp_model.specs.Satisfaction.{Structure}
 use Rattle.lrp_model.specs.Domains.{database_texts}
 use Rattle.lrp_plan.specs.Sources.{AreSources}
@@ -120,16 +120,16 @@ end_none [] = refl
 end_none (x ∷ xs) = ap (λ r. x ∷ r) (end_none xs)
 
 -- a text of another sort
-other_sort : (db before : List (Sort × Text)) (k s : Sort) (t : Text) (o : Option (BTreeSet Text)) → same_sort k s ≡ false → HasTexts db before s o → HasTexts db (before ++ (k, t) ∷ []) s o
+other_sort : (db before : List (Sort × Text)) (k s : Sort) (t : Text) (o : Option (BTreeSet Text)) → same_sort k s ≡ false → IsTextSet db before s o → IsTextSet db (before ++ (k, t) ∷ []) s o
 other_sort db before k s t (Some set) e h = h ∙ ap in_order (sym (with_three s db before ((k, t) ∷ []) ∙ ap (λ ys. texts_with s (db ++ before) ++ ys) (with_one s k t false e) ∙ end_none (texts_with s (db ++ before))))
 other_sort db before k s t None e h = with_both s before ((k, t) ∷ []) ∙ ap (λ ys. texts_with s before ++ ys) (with_one s k t false e) ∙ end_none (texts_with s before) ∙ h
 
 -- a text of the sort
-same_sorted : (db before : List (Sort × Text)) (k s : Sort) (t : Text) (old new : BTreeSet Text) → same_sort k s ≡ true → HasTexts db before s (Some old) → TakesIn t (keys old) (keys new) → HasTexts db (before ++ (k, t) ∷ []) s (Some new)
+same_sorted : (db before : List (Sort × Text)) (k s : Sort) (t : Text) (old new : BTreeSet Text) → same_sort k s ≡ true → IsTextSet db before s (Some old) → TakesIn t (keys old) (keys new) → IsTextSet db (before ++ (k, t) ∷ []) s (Some new)
 same_sorted db before k s t old new e h see = see (texts_with s (db ++ before)) h ∙ ap in_order (sym (with_three s db before ((k, t) ∷ []) ∙ ap (λ ys. texts_with s (db ++ before) ++ ys) (with_one s k t true e)))
 
 -- the first text of the sort
-first_sorted : (db before : List (Sort × Text)) (k s : Sort) (t : Text) (old new : BTreeSet Text) → same_sort k s ≡ true → HasTexts db before s None → keys old ≡ in_order (once (texts_with s db)) → TakesIn t (keys old) (keys new) → HasTexts db (before ++ (k, t) ∷ []) s (Some new)
+first_sorted : (db before : List (Sort × Text)) (k s : Sort) (t : Text) (old new : BTreeSet Text) → same_sort k s ≡ true → IsTextSet db before s None → keys old ≡ in_order (once (texts_with s db)) → TakesIn t (keys old) (keys new) → IsTextSet db (before ++ (k, t) ∷ []) s (Some new)
 first_sorted db before k s t old new e h o see =
     let one : texts_with s (before ++ (k, t) ∷ []) ≡ t ∷ [] = with_both s before ((k, t) ∷ []) ∙ ap (λ ys. ys ++ texts_with s ((k, t) ∷ [])) h ∙ with_one s k t true e in
     see (once (texts_with s db)) o ∙ ap (λ ys. in_order (once (texts_with s db) ++ ys)) (sym one) ∙ same_texts s db (before ++ (k, t) ∷ [])
@@ -151,13 +151,13 @@ same_self Data = refl
 same_self (Named n) = (bytes_decides n n).1 refl
 
 -- the texts of the sort take in the text, and those of other sorts stay
-gathers : (db : List (Sort × Text)) (s : Sort) (t : Text) (old new : Domains) → ((before : List (Sort × Text)) → HasTexts db before s (gathered old s) → HasTexts db (before ++ (s, t) ∷ []) s (gathered new s))
+gathers : (db : List (Sort × Text)) (s : Sort) (t : Text) (old new : Domains) → ((before : List (Sort × Text)) → IsTextSet db before s (gathered old s) → IsTextSet db (before ++ (s, t) ∷ []) s (gathered new s))
     → ((k : Sort) → same_sort s k ≡ false → gathered new k ≡ gathered old k) → Gathers db s t old new
 gathers db s t old new own others = λ before are k. at before are k (same_sort s k) refl
   where
-    at : (before : List (Sort × Text)) → AreDomains db before old → (k : Sort) (b : Bool) → same_sort s k ≡ b → HasTexts db (before ++ (s, t) ∷ []) k (gathered new k)
-    at before are k true e = subst (λ z. HasTexts db (before ++ (s, t) ∷ []) z (gathered new z)) (same_is s k e) (own before (are s))
-    at before are k false e = subst (HasTexts db (before ++ (s, t) ∷ []) k) (sym (others k e)) (other_sort db before s k t (gathered old k) e (are k))
+    at : (before : List (Sort × Text)) → AreDomains db before old → (k : Sort) (b : Bool) → same_sort s k ≡ b → IsTextSet db (before ++ (s, t) ∷ []) k (gathered new k)
+    at before are k true e = subst (λ z. IsTextSet db (before ++ (s, t) ∷ []) z (gathered new z)) (same_is s k e) (own before (are s))
+    at before are k false e = subst (IsTextSet db (before ++ (s, t) ∷ []) k) (sym (others k e)) (other_sort db before s k t (gathered old k) e (are k))
 
 pub timed_gathers : {T E : Type 0} (r : Result T E) (db : List (Sort × Text)) (s : Sort) (t : Text) (old new : Domains) → s ≡ Time → new.unnamed ≡ old.unnamed → new.named ≡ old.named
     → OnOk r (TakesIn t (keys old.timed) (keys new.timed)) → OnOk r (Gathers db s t old new)
@@ -182,9 +182,9 @@ unnamed_gathers (Ok x) db s t old new e u n h = subst (λ z. Gathers db z t old 
 -- the map has this set at the name, and else what it had
 named_by : (db : List (Sort × Text)) (name : Identifier) (t : Text) (old new : Domains) (set : BTreeSet Text) → new.timed ≡ old.timed → new.unnamed ≡ old.unnamed
     → ((m : Identifier) → get bytes_eq new.named m ≡ cond (bytes_eq name m) (Some set) (get bytes_eq old.named m))
-    → ((before : List (Sort × Text)) → HasTexts db before (Named name) (get bytes_eq old.named name) → HasTexts db (before ++ (Named name, t) ∷ []) (Named name) (Some set)) → Gathers db (Named name) t old new
+    → ((before : List (Sort × Text)) → IsTextSet db before (Named name) (get bytes_eq old.named name) → IsTextSet db (before ++ (Named name, t) ∷ []) (Named name) (Some set)) → Gathers db (Named name) t old new
 named_by db name t old new set a u put own =
-    gathers db (Named name) t old new (λ before are. subst (HasTexts db (before ++ (Named name, t) ∷ []) (Named name)) (sym (put name ∙ ap (λ b. cond b (Some set) (get bytes_eq old.named name)) (same_self (Named name)))) (own before are)) others
+    gathers db (Named name) t old new (λ before are. subst (IsTextSet db (before ++ (Named name, t) ∷ []) (Named name)) (sym (put name ∙ ap (λ b. cond b (Some set) (get bytes_eq old.named name)) (same_self (Named name)))) (own before are)) others
   where
     others : (k : Sort) → same_sort (Named name) k ≡ false → gathered new k ≡ gathered old k
     others Time f = ap Some a
@@ -195,12 +195,12 @@ pub named_gathers : {T E : Type 0} (r : Result T E) (db : List (Sort × Text)) (
     → ((m : Identifier) → get bytes_eq new.named m ≡ cond (bytes_eq name m) (Some set) (get bytes_eq old.named m)) → OnOk r (TakesIn t (keys had) (keys set)) → OnOk r (Gathers db s t old new)
 named_gathers (Err x) db s name t old new had set e g a u put h = tt
 named_gathers (Ok x) db s name t old new had set e g a u put h =
-    subst (λ z. Gathers db z t old new) (sym e) (named_by db name t old new set a u put (λ before are. same_sorted db before (Named name) (Named name) t had set (same_self (Named name)) (subst (HasTexts db before (Named name)) g are) h))
+    subst (λ z. Gathers db z t old new) (sym e) (named_by db name t old new set a u put (λ before are. same_sorted db before (Named name) (Named name) t had set (same_self (Named name)) (subst (IsTextSet db before (Named name)) g are) h))
 
 pub first_gathers : (db : List (Sort × Text)) (s : Sort) (name : Identifier) (t : Text) (old new : Domains) (had set : BTreeSet Text) → s ≡ Named name → get bytes_eq old.named name ≡ None → new.timed ≡ old.timed → new.unnamed ≡ old.unnamed
     → ((m : Identifier) → get bytes_eq new.named m ≡ cond (bytes_eq name m) (Some set) (get bytes_eq old.named m)) → keys had ≡ in_order (once (texts_with s db)) → TakesIn t (keys had) (keys set) → Gathers db s t old new
 first_gathers db s name t old new had set e g a u put o h =
-    subst (λ z. Gathers db z t old new) (sym e) (named_by db name t old new set a u put (λ before are. first_sorted db before (Named name) (Named name) t had set (same_self (Named name)) (subst (HasTexts db before (Named name)) g are) (subst (λ z. keys had ≡ in_order (once (texts_with z db))) e o) h))
+    subst (λ z. Gathers db z t old new) (sym e) (named_by db name t old new set a u put (λ before are. first_sorted db before (Named name) (Named name) t had set (same_self (Named name)) (subst (IsTextSet db before (Named name)) g are) (subst (λ z. keys had ≡ in_order (once (texts_with z db))) e o) h))
 
 -- those of the database alone
 begins : (db : List (Sort × Text)) (s : Sort) (us : List Text) → us ≡ in_order (once (texts_with s db)) → us ≡ in_order (texts_with s (db ++ []))
@@ -209,12 +209,12 @@ begins db s us h = h ∙ ap in_order (sym (end_none (once (texts_with s db)))) �
 -- ---- what was gathered, or else what the database has
 
 pub has_domain : (M : Structure) (sources : Sources) (s : Sort) (set : BTreeSet Text) → gathered sources.domains s ≡ Some set → AreSources M sources → keys set ≡ M.domain s
-has_domain M sources s set g src = subst (HasTexts (database_texts sources.database.now) sources.texts.items s) g (src.domains_are s) ∙ sym (src.texts_are s)
+has_domain M sources s set g src = subst (IsTextSet (database_texts sources.database.now) sources.texts.items s) g (src.domains_are s) ∙ sym (src.texts_are s)
 
 pub no_domain : (M : Structure) (sources : Sources) (s : Sort) → gathered sources.domains s ≡ None → AreSources M sources → in_order (once (texts_with s (database_texts sources.database.now))) ≡ M.domain s
 no_domain M sources s g src =
     let db : List (Sort × Text) = database_texts sources.database.now in
-    let none : texts_with s sources.texts.items ≡ [] = subst (HasTexts db sources.texts.items s) g (src.domains_are s) in
+    let none : texts_with s sources.texts.items ≡ [] = subst (IsTextSet db sources.texts.items s) g (src.domains_are s) in
     ap in_order (sym (end_none (once (texts_with s db)))) ∙ ap (λ ys. in_order (once (texts_with s db) ++ ys)) (sym none) ∙ same_texts s db sources.texts.items ∙ sym (src.texts_are s)
 
 pub no_domain_count : (M : Structure) (sources : Sources) (s : Sort) → gathered sources.domains s ≡ None → AreSources M sources → length (once (texts_with s (database_texts sources.database.now))) ≡ length (M.domain s)
@@ -241,4 +241,4 @@ copied_all out left all h l = sym (end_none out) ∙ ap (λ ys. out ++ ys) (sym 
 pub begins_all : (db : List (Sort × Text)) (domains : Domains) → keys domains.timed ≡ in_order (once (texts_with Time db)) → keys domains.unnamed ≡ in_order (once (texts_with Data db)) → ((m : Identifier) → get bytes_eq domains.named m ≡ None) → AreDomains db [] domains
 begins_all db domains a u n Time = begins db Time (keys domains.timed) a
 begins_all db domains a u n Data = begins db Data (keys domains.unnamed) u
-begins_all db domains a u n (Named m) = subst (HasTexts db [] (Named m)) (sym (n m)) refl
+begins_all db domains a u n (Named m) = subst (IsTextSet db [] (Named m)) (sym (n m)) refl

@@ -7,7 +7,7 @@ use Rattle.lrp_model.specs.Rows.{rows_of}
 use Rattle.lrp_model.specs.Satisfaction.{Structure}
 use Rattle.lrp_model.specs.Periods.{period, periods, periods_each, test_periods}
 use Rattle.lrp_model.specs.Reach.{greatest, reach_of, test_reach, term_magnitudes}
-use Rattle.lrp_model.specs.Steps.{Steps, formula_at, reach_at, made, step_behind, tests_as_forms, scan, leaf, sort_texts, join, select, union, minus, complement, drop_of}
+use Rattle.lrp_model.specs.Steps.{Steps, formula_at, reach_at, made, step_behind, tests_as_forms, scan_of, leaf, sort_texts, join, select, union, minus, complement, drop_of}
 use Rattle.lrp_model.specs.Conjunctions.{is_test}
 use Rattle.lrp_model.specs.declared.relations.Relation.{Relation}
 use Rattle.lrp_model.specs.Sorts.{is_time}
@@ -127,7 +127,7 @@ stated ks K d (Some k) h p c = h
 
 pub scan_follows : (M : Structure) (K : ℕ) (facts : Facts) (name : Identifier) (terms : List Term) (k d offset reach : ℕ) (old new : Draft) (planned : Steps) → IsDraft M.relations K old planned → AddsStep (Scan name terms) k (capped reach) old new
     → AreFacts (rows_of M.relations name) facts → IsCommon (periods (atom name terms) M.relations) K → k ≡ unwrap_or (option_map (λ p. p.number) facts.period) d → offset ≡ greatest (flat_map term_magnitudes terms) → reach ≡ facts.bound + 2 * offset + k
-    → IsDraft M.relations K new (scan name terms M planned)
+    → IsDraft M.relations K new (scan_of name terms M planned)
 scan_follows M K facts name terms k d offset reach old new planned draft a h c e g r =
     made_follows M K (Scan name terms) (Scan name terms) (atom name terms) k (capped reach) old new planned draft a refl
     (subst (IsLeastOf (periods (atom name terms) M.relations)) (sym e) (stated (periods (atom name terms) M.relations) K d (option_map (λ p. p.number) facts.period) h.period draft.whole c)) c

@@ -12,7 +12,7 @@ use Rattle.lrp_model.specs.Variables.{is_among}
 use Rattle.lrp_model.specs.Satisfaction.{Structure}
 use Rattle.lrp_model.specs.Core.{AreCore}
 use Rattle.lrp_model.specs.Periods.{periods, periods_each, test_periods}
-use Rattle.lrp_model.specs.Steps.{scan, leaf, sort_texts, complement, drop_of}
+use Rattle.lrp_model.specs.Steps.{scan_of, leaf, sort_texts, complement, drop_of}
 use Rattle.lrp_model.specs.Conjunctions.{is_test, tests_in, ranked, nothing_taken, take_positives, take_tests, take_negations, State}
 use Rattle.lrp_model.specs.Plans.{plan_of, positives_in, negations_in}
 use Rattle.lrp_model.specs.declared.relations.Sort.{Sort}
@@ -27,7 +27,7 @@ use Rattle.lrp_plan.specs.declared.taking.Taking.{Taking}
 use Rattle.lrp_plan.specs.Multiples.{IsCommon}
 use Rattle.lrp_plan.specs.Facts.{AreFacts}
 use Rattle.lrp_plan.specs.Drafts.{IsDraft, Extends, AreTests}
-use Rattle.lrp_plan.specs.Taking.{IsResult}
+use Rattle.lrp_plan.specs.Taking.{IsSoFar}
 use Rattle.lrp_core.specs.declared.variable_trees.VariableTree.{VariableTree}
 use Rattle.lrp_plan.specs.Elements.{AreInner, CanPlan, EachCanPlan, IsElement, IsDenied, IsAt, IsSplitOf, TakesTests, TakesEach, DeniesEach}
 use Rattle.lrp_plan.specs.Sources.{AreSources}
@@ -40,7 +40,7 @@ abbrev pub Planned : {T E : Type 0} → Result T E → Sources → List Variable
 Planned r sources trees f old new = OnOk r ((M : Structure) (K : ℕ) → AreSources M sources → AreInner trees f → CanPlan M K f → Extends M K (plan_of f) old new)
 
 pub atom_planned : {T E : Type 0} (r : Result T E) (sources : Sources) (trees : List VariableTree) (f : Form) (name own : Identifier) (terms copies : List Term) (facts : Facts) (old new : Draft) → f ≡ atom name terms → own ≡ name → copies ≡ terms → ((M : Structure) → AreSources M sources → AreFacts (rows_of M.relations name) facts)
-    → OnOk r ((M : Structure) (K : ℕ) → AreFacts (rows_of M.relations own) facts → IsCommon (periods (atom own copies) M.relations) K → Extends M K (scan own copies) old new) → Planned r sources trees f old new
+    → OnOk r ((M : Structure) (K : ℕ) → AreFacts (rows_of M.relations own) facts → IsCommon (periods (atom own copies) M.relations) K → Extends M K (scan_of own copies) old new) → Planned r sources trees f old new
 atom_planned (Ok x) sources trees f name own terms copies facts old new e g k facts_are h = λ M K s known c.
     let i : atom own copies ≡ f = ap (λ n. atom n copies) g ∙ ap (atom name) k ∙ sym e in
     subst (λ y. Extends M K (plan_of y) old new) i (h M K (subst (λ n. AreFacts (rows_of M.relations n) facts) (sym g) (facts_are M s)) (subst (λ y. IsCommon (periods y M.relations) K) (sym i) c.divides))
@@ -131,7 +131,7 @@ all_planned (Ok x) sources trees fs split first second third fourth old a b new 
       let s0 : State = record { steps = planned; taken = nothing_taken; positives = ranked M (positives_in (cores_of fs)); tests = tests_in (cores_of fs); negations = negations_in (cores_of fs) } in
       let at : IsAt M K fs old split.positives.items split.negations.items first s0 = record {
         made = d;
-        took = record { result = subst (λ o. IsResult M.relations K planned o nothing_taken) (sym e) refl; variables = record { each = λ w. ap (λ vs. is_among vs w) v }; remain = t ∙ split_is.checks; tests = subst AreTests (sym (t ∙ split_is.checks)) (tests_are_tests (cores_of fs)); settled = λ y. absurd (false≢true (sym u ∙ y)) };
+        took = record { result = subst (λ o. IsSoFar M.relations K planned o nothing_taken) (sym e) refl; variables = record { each = λ w. ap (λ vs. is_among vs w) v }; remain = t ∙ split_is.checks; tests = subst AreTests (sym (t ∙ split_is.checks)) (tests_are_tests (cores_of fs)); settled = λ y. absurd (false≢true (sym u ∙ y)) };
         positives = split_is.ranks;
         negations = split_is.denials;
       } in

@@ -7,7 +7,7 @@ use Rattle.lrp_model.specs.Core.{core_form, has_named_sort, HasElements}
 use Rattle.lrp_model.specs.Domains.{database_texts, all_texts}
 use Rattle.lrp_model.specs.Satisfaction.{structure}
 use Rattle.lrp_model.specs.Steps.{PlanStep, Steps}
-use Rattle.lrp_model.specs.Plans.{plan, IsStep, IsPlan}
+use Rattle.lrp_model.specs.Plans.{plan, IsStep, IsPlan, IsWithinLimits}
 use Rattle.lrp_model.specs.declared.relations.Relation.{Relation}
 use Rattle.lrp_model.specs.declared.relations.RowPoint.{RowPoint}
 use Rattle.lrp_model.specs.declared.formulas.Test.{Test}
@@ -27,9 +27,9 @@ use Rattle.lrp_plan_laws.specs.Settled.{IsSettled, IsSoundPlan}
 use Rattle.lrp_plan_laws.proofs.SettledLaws.{sound}
 use Rattle.lrp_plan.specs.declared.planning.PlanFault.{PlanFault}
 use Rattle.lrp_plan.specs.declared.sources.Sources.{Sources}
-use Rattle.lrp_plan.specs.Planning.{IsWithinLimits, HasCause, AreGathered, IsOutcome}
+use Rattle.lrp_plan.specs.Planning.{IsPastLimits, AreGathered, IsOutcome}
 use Rattle.lrp_plan.specs.Sources.{AreSources}
-use Rattle.lrp_plan_text.specs.Writable.{HasPeriod, KindHasPeriods, HasPeriods as IsWritable}
+use Rattle.lrp_plan_text.specs.Writable.{TestHasPeriod, KindHasPeriods, StepHasPeriods as IsWritable}
 use Rattle.lrp_plan.proofs.KeptPeriods.{low}
 
 -- the period of a point is at least 1
@@ -41,13 +41,13 @@ pub query_low : (db : List Relation) (q : Question) → AllByRecursion (λ k. 1 
 query_low db q rows ps = named_from (λ k. 1 ≤ k) q.body db rows (all_map Low (λ at. 1 ≤ nat_abs at.period) (points q.body) (λ at h. low at.period h) ps)
 
 -- a test whose points have periods
-test_low : (t : Test) → AllByRecursion Low (test_points t) → HasPeriod t
+test_low : (t : Test) → AllByRecursion Low (test_points t) → TestHasPeriod t
 test_low (Compare left op right) h = tt
 test_low (Member term point) h = h.0
 test_low (Equal left right) h = tt
 
 -- and tests
-tests_low : (ts : List Test) → AllByRecursion Low (flat_map test_points ts) → AllByRecursion HasPeriod ts
+tests_low : (ts : List Test) → AllByRecursion Low (flat_map test_points ts) → AllByRecursion TestHasPeriod ts
 tests_low [] h = tt
 tests_low (t ∷ ts) h = let two = (all_append Low (test_points t) (flat_map test_points ts)).0 h in (test_low t two.0, tests_low ts two.1)
 
@@ -104,6 +104,6 @@ outcome_sound db q (Ok p) = λ h. sound db q h
 outcome_sound db q (Err e) = tt
 
 -- or why there is none
-pub outcome_fault : (db : List Relation) (q : Question) (r : Result Plan PlanFault) → IsOutcome db q r → IfErr r (λ e. HasCause e db q)
+pub outcome_fault : (db : List Relation) (q : Question) (r : Result Plan PlanFault) → IsOutcome db q r → IfErr r (λ e. IsPastLimits e db q)
 outcome_fault db q (Ok p) h = tt
 outcome_fault db q (Err e) h = h

@@ -20,7 +20,7 @@ use Rattle.lrp_plan.specs.declared.taking.Taking.{Taking}
 use Rattle.lrp_plan.specs.Capped.{capped}
 use Rattle.lrp_plan.specs.Multiples.{IsCommon, IsLeastOf}
 use Rattle.lrp_plan.specs.Drafts.{IsOperand, IsDraft, AreTests, Extends, ExtendsBoth}
-use Rattle.lrp_plan.specs.Taking.{covers, AreUncovered, HaveSame, IsResult, IsTaking, carrying, Carries, Splits, TakesIn, TakesTest, taking_off, Subtracts, without, taken_with, TakesOff}
+use Rattle.lrp_plan.specs.Taking.{covers, AreUncovered, HaveSame, IsSoFar, IsTaking, carrying, Carries, Splits, TakesIn, TakesTest, taking_off, Subtracts, after_negation, taken_with, TakesOff}
 use Rattle.lrp_plan.proofs.Members.{are_among_same, more_same}
 use Rattle.lrp_plan.proofs.Settled.{left_fail, still_uncovered}
 
@@ -46,7 +46,7 @@ operand_grows db K steps more i o h =
       divides = subst (λ g. IsCommon (periods g db) K) (sym f) h.divides;
     }
 
-result_grows : (db : List Relation) (K : ℕ) (steps more : Steps) (o : Option Operand) (taken : Taken) → IsResult db K steps o taken → IsResult db K (steps ++ more) o taken
+result_grows : (db : List Relation) (K : ℕ) (steps more : Steps) (o : Option Operand) (taken : Taken) → IsSoFar db K steps o taken → IsSoFar db K (steps ++ more) o taken
 result_grows db K steps more None taken h = h
 result_grows db K steps more (Some o) taken h = (h.0, operand_grows db K steps more taken.result o h.1)
 
@@ -76,7 +76,7 @@ select_more ts t old mid new h k M K a = record {
 pub carry_some : {T E : Type 0} (r : Result T E) (result : Option Operand) (o : Operand) (tests : List Test) (old new : Draft) → result ≡ Some o → OnOk r ((M : Structure) (K : ℕ) → AreTests tests → ExtendsBoth M K o (λ n. join n tests) old new) → OnOk r (Carries result tests old new)
 carry_some (Ok x) result o tests old new e h = record {
   follows = λ M K steps taken a d w.
-      let v : IsResult M.relations K steps (Some o) taken = subst (λ z. IsResult M.relations K steps z taken) e w in
+      let v : IsSoFar M.relations K steps (Some o) taken = subst (λ z. IsSoFar M.relations K steps z taken) e w in
       subst (λ b. IsDraft M.relations K new (cond b (join taken.result tests M steps) (select_each tests M steps))) (sym v.0) ((h M K a).follows steps taken.result d v.1);
 }
 carry_some (Err x) result o tests old new e h = tt
@@ -84,7 +84,7 @@ carry_some (Err x) result o tests old new e h = tt
 pub carry_none : {T E : Type 0} (r : Result T E) (result : Option Operand) (tests : List Test) (old new : Draft) → result ≡ None → OnOk r ((M : Structure) (K : ℕ) → AreTests tests → Extends M K (select_each tests) old new) → OnOk r (Carries result tests old new)
 carry_none (Ok x) result tests old new e h = record {
   follows = λ M K steps taken a d w.
-      let v : taken.some ≡ false = subst (λ z. IsResult M.relations K steps z taken) e w in
+      let v : taken.some ≡ false = subst (λ z. IsSoFar M.relations K steps z taken) e w in
       subst (λ b. IsDraft M.relations K new (cond b (join taken.result tests M steps) (select_each tests M steps))) (sym v) ((h M K a).follows steps d);
 }
 carry_none (Err x) result tests old new e h = tt
@@ -107,7 +107,7 @@ takes_in vs old new before after carried settled s e split r h = record {
       record {
         made = d'';
         took = record {
-          result = subst (λ o. IsResult M.relations K (take_in M f steps state).steps o (take_in M f steps state).taken) (sym r) (refl, d''.last);
+          result = subst (λ o. IsSoFar M.relations K (take_in M f steps state).steps o (take_in M f steps state).taken) (sym r) (refl, d''.last);
           variables = have;
           remain = ls;
           tests = subst AreTests (sym l) both.1;
@@ -134,7 +134,7 @@ takes_test t vs old new before mid after same h k = record {
 pub subtract_covered : {T E : Type 0} (r : Result T E) (result : Option Operand) (o : Operand) (covered : Bool) (old new : Draft) → result ≡ Some o → covered ≡ true → OnOk r ((M : Structure) (K : ℕ) → ExtendsBoth M K o minus old new) → OnOk r (Subtracts result covered old new)
 subtract_covered (Ok x) result o covered old new e c h = record {
   follows = λ M K steps taken d w.
-      let v : IsResult M.relations K steps (Some o) taken = subst (λ z. IsResult M.relations K steps z taken) e w in
+      let v : IsSoFar M.relations K steps (Some o) taken = subst (λ z. IsSoFar M.relations K steps z taken) e w in
       subst (λ b. IsDraft M.relations K new (cond (b && covered) (minus taken.result M steps) (cond b (join taken.result [] M (complement M steps)) (complement M steps)))) (sym v.0)
       (subst (λ b. IsDraft M.relations K new (cond b (minus taken.result M steps) (join taken.result [] M (complement M steps)))) (sym c) ((h M K).follows steps taken.result d v.1));
 }
@@ -144,7 +144,7 @@ pub subtract_joined : {T E : Type 0} (r : Result T E) (result : Option Operand) 
     → OnOk r ((M : Structure) (K : ℕ) → AreTests none → ExtendsBoth M K o (λ n. join n none) mid new) → OnOk r (Subtracts result covered old new)
 subtract_joined (Ok x) result o covered none old mid new e c n g h = record {
   follows = λ M K steps taken d w.
-      let v : IsResult M.relations K steps (Some o) taken = subst (λ z. IsResult M.relations K steps z taken) e w in
+      let v : IsSoFar M.relations K steps (Some o) taken = subst (λ z. IsSoFar M.relations K steps z taken) e w in
       let j : IsDraft M.relations K new (join taken.result none M (complement M steps)) = (h M K (subst AreTests (sym n) tt)).follows (complement M steps) taken.result ((g M K).follows steps d) (operand_grows M.relations K steps (step_behind M _ _ steps ∷ []) taken.result o v.1) in
       subst (λ b. IsDraft M.relations K new (cond (b && covered) (minus taken.result M steps) (cond b (join taken.result [] M (complement M steps)) (complement M steps)))) (sym v.0)
       (subst (λ b. IsDraft M.relations K new (cond b (minus taken.result M steps) (join taken.result [] M (complement M steps)))) (sym c) (subst (λ us. IsDraft M.relations K new (join taken.result us M (complement M steps))) n j));
@@ -154,7 +154,7 @@ subtract_joined (Err x) result o covered none old mid new e c n g h = tt
 pub subtract_first : {T E : Type 0} (r : Result T E) (result : Option Operand) (covered : Bool) (old new : Draft) → result ≡ None → OnOk r ((M : Structure) (K : ℕ) → Extends M K complement old new) → OnOk r (Subtracts result covered old new)
 subtract_first (Ok x) result covered old new e h = record {
   follows = λ M K steps taken d w.
-      let v : taken.some ≡ false = subst (λ z. IsResult M.relations K steps z taken) e w in
+      let v : taken.some ≡ false = subst (λ z. IsSoFar M.relations K steps z taken) e w in
       subst (λ b. IsDraft M.relations K new (cond (b && covered) (minus taken.result M steps) (cond b (join taken.result [] M (complement M steps)) (complement M steps)))) (sym v) ((h M K).follows steps d);
 }
 subtract_first (Err x) result covered old new e h = tt
@@ -164,10 +164,10 @@ pub takes_off : (vs : List Variable) (old new : Taking) (before after : Draft) (
 takes_off vs old new before after covered c e l u r h = record {
   follows = λ M K f steps taken tests same d t.
       let b : covered ≡ are_among (free f) taken.variables = c ∙ are_among_same vs (free f) (map variable_of old.variables) taken.variables same t.variables in
-      let d' : IsDraft M.relations K after (without taken f M steps) = subst (λ x. IsDraft M.relations K after (taking_off taken x M steps)) b (h.follows M K steps taken d t.result) in (
+      let d' : IsDraft M.relations K after (after_negation taken f M steps) = subst (λ x. IsDraft M.relations K after (taking_off taken x M steps)) b (h.follows M K steps taken d t.result) in (
         d',
         record {
-          result = subst (λ o. IsResult M.relations K (without taken f M steps) o (taken_with taken f (without taken f M steps))) (sym r) (refl, d'.last);
+          result = subst (λ o. IsSoFar M.relations K (after_negation taken f M steps) o (taken_with taken f (after_negation taken f M steps))) (sym r) (refl, d'.last);
           variables = subst (λ us. HaveSame us (taken.variables ++ free f)) (sym e) (more_same (map variable_of old.variables) taken.variables vs (free f) t.variables same);
           remain = l ∙ t.remain;
           tests = subst AreTests (sym l) t.tests;

@@ -20,7 +20,7 @@ use Rattle.lrp_plan.specs.declared.drafts.Operand.{Operand}
 use Rattle.lrp_plan.specs.declared.drafts.Draft.{Draft}
 use Rattle.lrp_plan.specs.declared.taking.Taking.{Taking}
 use Rattle.lrp_plan.specs.Drafts.{IsDraft, Extends, AreTests}
-use Rattle.lrp_plan.specs.Taking.{AreUncovered, HaveSame, NextTest, IsResult, IsTaking, IsIn, TakesIn, TakesTest, TakesOff}
+use Rattle.lrp_plan.specs.Taking.{AreUncovered, HaveSame, NextTest, IsSoFar, IsTaking, IsTakenState, TakesIn, TakesTest, TakesOff}
 use Rattle.lrp_plan.specs.Elements.{element_variables, element_inner, AreInner, TakesAt, IsElement, IsDenied, IsAt, CanPlan, EachCanPlan, TakesPositives, TakesTests, TakesNegations, TurnsPositive, TurnsTest, TurnsNegation}
 use Rattle.lrp_plan.proofs.Members.{are_among_same, meet_same}
 use Rattle.lrp_plan.proofs.Takes.{taking_grows}
@@ -70,7 +70,7 @@ got p (y ∷ ys) zero x h e = let d : y ≡ x = cc in subst p d h.0
 got p (y ∷ ys) (suc i) x h e = got p ys i x h.1 e
 
 -- whether there is a result is what the rules keep
-some_is : (M : Structure) (K : ℕ) (steps : Steps) (o : Option Operand) (taken : Taken) → IsResult M.relations K steps o taken → is_some o ≡ taken.some
+some_is : (M : Structure) (K : ℕ) (steps : Steps) (o : Option Operand) (taken : Taken) → IsSoFar M.relations K steps o taken → is_some o ≡ taken.some
 some_is M K steps None taken h = sym h
 some_is M K steps (Some o) taken h = sym h.0
 
@@ -93,7 +93,7 @@ positive_turn M K fs draft mid after ps qs ns e old new s i at can first there l
     let d2 : IsDraft M.relations K mid (p.rule M s.steps) = subst (λ r. IsDraft M.relations K mid (r M s.steps)) (sym el.rule) (subst (λ f. IsDraft M.relations K mid (plan_of f M s.steps)) (sym el.formula) d1) in
     let grown : p.rule M s.steps ≡ s.steps ++ m.more = ap (λ (r : Rule). r M s.steps) el.rule ∙ m.is in
     let t : IsTaking M.relations K (p.rule M s.steps) old s.taken s.tests = subst (λ st. IsTaking M.relations K st old s.taken s.tests) (sym grown) (taking_grows M.relations K s.steps m.more old s.taken s.tests at.took) in
-    let r : IsIn M.relations K after new (take_in M p.formula (p.rule M s.steps) (record s { positives = remove s.positives i })) = takes.follows M K p.formula (p.rule M s.steps) (record s { positives = remove s.positives i }) el.variables d2 t in
+    let r : IsTakenState M.relations K after new (take_in M p.formula (p.rule M s.steps) (record s { positives = remove s.positives i })) = takes.follows M K p.formula (p.rule M s.steps) (record s { positives = remove s.positives i }) el.variables d2 t in
     let x : IsAt M K fs after qs ns new (take_positive M i (Some p) s) = record {
       made = r.made;
       took = r.took;
@@ -220,8 +220,8 @@ tests_more turns before mid after t old now next new h n takes = record {
       let e : st.tests ≡ t ∷ next.tests = sym a.took.remain ∙ n.0 in
       let ok : AreTests (t ∷ next.tests) = subst AreTests n.0 a.took.tests in
       let uncovered : next.settled ≡ true → AreUncovered (map variable_of next.variables) (t ∷ next.tests) = λ y. subst (AreUncovered (map variable_of next.variables)) n.0 (subst (λ vs. AreUncovered (map variable_of vs) now.tests) (sym n.2) (a.took.settled (sym n.3 ∙ y))) in
-      let w : IsTaking M.relations K st.steps next st.taken next.tests = record { result = subst (λ o. IsResult M.relations K st.steps o st.taken) (sym n.1) a.took.result; variables = subst (λ vs. HaveSame (map variable_of vs) st.taken.variables) (sym n.2) a.took.variables; remain = refl; tests = ok.1; settled = λ y. (uncovered y).1 } in
-      let r : IsIn M.relations K after new (take_test M (t ∷ next.tests) (record st { tests = t ∷ next.tests })) = takes.follows M K st next.tests a.made w (ok.0, tt) in
+      let w : IsTaking M.relations K st.steps next st.taken next.tests = record { result = subst (λ o. IsSoFar M.relations K st.steps o st.taken) (sym n.1) a.took.result; variables = subst (λ vs. HaveSame (map variable_of vs) st.taken.variables) (sym n.2) a.took.variables; remain = refl; tests = ok.1; settled = λ y. (uncovered y).1 } in
+      let r : IsTakenState M.relations K after new (take_test M (t ∷ next.tests) (record st { tests = t ∷ next.tests })) = takes.follows M K st next.tests a.made w (ok.0, tt) in
       let x : IsAt M K fs after ps ns new (take_test M (t ∷ next.tests) (record st { tests = t ∷ next.tests })) = record { made = r.made; took = r.took; positives = a.positives; negations = a.negations } in
       subst (λ k. IsAt M K fs after ps ns new (take_tests k M s)) (sym (add_one turns)) (subst (IsAt M K fs after ps ns new) (sym (more_tests turns M s)) (subst (λ ts. IsAt M K fs after ps ns new (take_test M ts st)) (sym e) x));
 }

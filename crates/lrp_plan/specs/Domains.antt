@@ -16,13 +16,13 @@ gathered domains Data = Some domains.unnamed
 gathered domains (Named name) = get bytes_eq domains.named name
 
 -- all texts of a sort, each once, in order; where none were gathered, the query has none
-abbrev pub HasTexts : List (Sort × Text) → List (Sort × Text) → Sort → Option (BTreeSet Text) → Type 0
-HasTexts db texts s (Some set) = keys set ≡ in_order (texts_with s (db ++ texts))
-HasTexts db texts s None = texts_with s texts ≡ []
+abbrev pub IsTextSet : List (Sort × Text) → List (Sort × Text) → Sort → Option (BTreeSet Text) → Type 0
+IsTextSet db texts s (Some set) = keys set ≡ in_order (texts_with s (db ++ texts))
+IsTextSet db texts s None = texts_with s texts ≡ []
 
 -- the texts of each sort, in a database and a query
 abbrev pub AreDomains : List (Sort × Text) → List (Sort × Text) → Domains → Type 0
-AreDomains db texts domains = (s : Sort) → HasTexts db texts s (gathered domains s)
+AreDomains db texts domains = (s : Sort) → IsTextSet db texts s (gathered domains s)
 
 -- a further text of a sort is among them
 abbrev pub Gathers : List (Sort × Text) → Sort → Text → Domains → Domains → Type 0

@@ -5,7 +5,7 @@ use Rattle.lrp_model.specs.Satisfaction.{Structure, structure}
 use Rattle.lrp_model.specs.Core.{core_form, has_named_sort, HasElements}
 use Rattle.lrp_model.specs.Domains.{database_texts, all_texts}
 use Rattle.lrp_model.specs.Periods.{periods, period}
-use Rattle.lrp_model.specs.Plans.{plan_of, scaled_reach, IsPlan}
+use Rattle.lrp_model.specs.Plans.{plan_of, scaled_reach, IsPlan, IsWithinLimits}
 use Rattle.lrp_model.specs.declared.plans.Plan.{Plan}
 use Rattle.lrp_model.specs.declared.relations.Relation.{Relation}
 use Rattle.lrp_plan_laws.specs.Rising.{HasPeriods}
@@ -18,16 +18,11 @@ use Rattle.lrp_plan.specs.Elements.{CanPlan}
 use Rattle.lrp_plan.specs.Multiples.{IsCommon, IsPeriod, IsLeastOf}
 use Rattle.lrp_plan.specs.Sources.{AreSources}
 
--- neither the period nor the reach, doubled once and once more for each time column of the head, is above 2^62
-pub record IsWithinLimits (db : List Relation) (q : Question) : Type 0 where
-  pub period : period db q.body ≤ 2 ^ 62
-  pub reach : scaled_reach db q ≤ 2 ^ 62
-
 -- the period is above 2^62; or it is not and the reach, doubled so, is; or memory ran out
-abbrev pub HasCause : PlanFault → List Relation → Question → Type 0
-HasCause PeriodLimit db q = 2 ^ 62 < period db q.body
-HasCause BoundLimit db q = (period db q.body ≤ 2 ^ 62) × (2 ^ 62 < scaled_reach db q)
-HasCause Memory db q = Unit {0}
+abbrev pub IsPastLimits : PlanFault → List Relation → Question → Type 0
+IsPastLimits PeriodLimit db q = 2 ^ 62 < period db q.body
+IsPastLimits BoundLimit db q = (period db q.body ≤ 2 ^ 62) × (2 ^ 62 < scaled_reach db q)
+IsPastLimits Memory db q = Unit {0}
 
 -- the steps of a core form, and then the last one, of a formula with this period
 pub record IsWholeDraft (sources : Sources) (f : Form) (k : ℕ) (draft : Draft) : Type 0 where
@@ -44,4 +39,4 @@ pub record AreGathered (db : List Relation) (q : Question) (sources : Sources) (
 -- the plan within the limits, or the cause why there is none
 abbrev pub IsOutcome : List Relation → Question → Result Plan PlanFault → Type 0
 IsOutcome db q (Ok p) = IsPlan p db q × IsWithinLimits db q
-IsOutcome db q (Err e) = HasCause e db q
+IsOutcome db q (Err e) = IsPastLimits e db q

@@ -27,20 +27,20 @@ pub record HaveSame (vs ws : List Variable) : Type 0 where
   pub each : (v : Variable) → is_among vs v ≡ is_among ws v
 
 -- the result so far, if there is one
-abbrev pub IsResult : List Relation → ℕ → Steps → Option Operand → Taken → Type 0
-IsResult db K steps None taken = taken.some ≡ false
-IsResult db K steps (Some o) taken = (taken.some ≡ true) × IsOperand db K steps taken.result o
+abbrev pub IsSoFar : List Relation → ℕ → Steps → Option Operand → Taken → Type 0
+IsSoFar db K steps None taken = taken.some ≡ false
+IsSoFar db K steps (Some o) taken = (taken.some ≡ true) × IsOperand db K steps taken.result o
 
 -- what was taken in, and the tests that remain, none of which is covered where they are settled
 pub record IsTaking (db : List Relation) (K : ℕ) (steps : Steps) (taking : Taking) (taken : Taken) (remaining : List Test) : Type 0 where
-  pub result : IsResult db K steps taking.result taken
+  pub result : IsSoFar db K steps taking.result taken
   pub variables : HaveSame (map variable_of taking.variables) taken.variables
   pub remain : taking.tests ≡ remaining
   pub tests : AreTests taking.tests
   pub settled : taking.settled ≡ true → AreUncovered (map variable_of taking.variables) taking.tests
 
 -- the steps and what was taken in are those of a state
-pub record IsIn (db : List Relation) (K : ℕ) (draft : Draft) (taking : Taking) (state : State) : Type 0 where
+pub record IsTakenState (db : List Relation) (K : ℕ) (draft : Draft) (taking : Taking) (state : State) : Type 0 where
   pub made : IsDraft db K draft state.steps
   pub took : IsTaking db K state.steps taking state.taken state.tests
 
@@ -50,7 +50,7 @@ carrying taken tests M steps = cond taken.some (join taken.result tests M steps)
 
 -- these tests were carried
 pub record Carries (result : Option Operand) (tests : List Test) (before after : Draft) : Type 0 where
-  pub follows : (M : Structure) (K : ℕ) (steps : Steps) (taken : Taken) → AreTests tests → IsDraft M.relations K before steps → IsResult M.relations K steps result taken → IsDraft M.relations K after (carrying taken tests M steps)
+  pub follows : (M : Structure) (K : ℕ) (steps : Steps) (taken : Taken) → AreTests tests → IsDraft M.relations K before steps → IsSoFar M.relations K steps result taken → IsDraft M.relations K after (carrying taken tests M steps)
 
 -- the tests that these variables cover were split from the others, where it is true that settled ones are not covered
 pub record Splits (settled : Bool) (vs : List Variable) (tests carried left : List Test) : Type 0 where
@@ -60,16 +60,12 @@ pub record Splits (settled : Bool) (vs : List Variable) (tests carried left : Li
 -- an element of these variables was taken in, whose steps had just been made
 pub record TakesIn (vs : List Variable) (old new : Taking) (before after : Draft) : Type 0 where
   pub follows : (M : Structure) (K : ℕ) (f : Form) (steps : Steps) (state : State) → HaveSame vs (free f) → IsDraft M.relations K before steps → IsTaking M.relations K steps old state.taken state.tests
-      → IsIn M.relations K after new (take_in M f steps state)
+      → IsTakenState M.relations K after new (take_in M f steps state)
 
 -- a test was made and taken in, the first that remained
 pub record TakesTest (t : Test) (old new : Taking) (before after : Draft) : Type 0 where
   pub follows : (M : Structure) (K : ℕ) (state : State) (ts : List Test) → IsDraft M.relations K before state.steps → IsTaking M.relations K state.steps old state.taken ts → AreTests (t ∷ [])
-      → IsIn M.relations K after new (take_test M (t ∷ ts) (record state { tests = t ∷ ts }))
-
--- the last step taken off the result so far, or its complement joined with it
-abbrev pub subtracted : Bool → ℕ → Rule
-subtracted covered left M steps = cond covered (minus left M steps) (join left [] M (complement M steps))
+      → IsTakenState M.relations K after new (take_test M (t ∷ ts) (record state { tests = t ∷ ts }))
 
 -- the steps once a negation's formula, whose steps were just made, is taken off, whether covered or not
 abbrev pub taking_off : Taken → Bool → Rule
@@ -77,11 +73,11 @@ taking_off taken covered M steps = cond (taken.some && covered) (minus taken.res
 
 -- the last step was taken off
 pub record Subtracts (result : Option Operand) (covered : Bool) (before after : Draft) : Type 0 where
-  pub follows : (M : Structure) (K : ℕ) (steps : Steps) (taken : Taken) → IsDraft M.relations K before steps → IsResult M.relations K steps result taken → IsDraft M.relations K after (taking_off taken covered M steps)
+  pub follows : (M : Structure) (K : ℕ) (steps : Steps) (taken : Taken) → IsDraft M.relations K before steps → IsSoFar M.relations K steps result taken → IsDraft M.relations K after (taking_off taken covered M steps)
 
 -- the steps after a negation, and what is then taken in
-abbrev pub without : Taken → Form → Rule
-without taken f = taking_off taken (are_among (free f) taken.variables)
+abbrev pub after_negation : Taken → Form → Rule
+after_negation taken f = taking_off taken (are_among (free f) taken.variables)
 
 abbrev pub taken_with : Taken → Form → Steps → Taken
 taken_with taken f after = record { some = true; result = length after; variables = taken.variables ++ free f }
@@ -89,7 +85,7 @@ taken_with taken f after = record { some = true; result = length after; variable
 -- a negation's formula of these variables was taken off
 pub record TakesOff (vs : List Variable) (old new : Taking) (before after : Draft) : Type 0 where
   pub follows : (M : Structure) (K : ℕ) (f : Form) (steps : Steps) (taken : Taken) (tests : List Test) → HaveSame vs (free f) → IsDraft M.relations K before steps → IsTaking M.relations K steps old taken tests
-      → IsDraft M.relations K after (without taken f M steps) × IsTaking M.relations K (without taken f M steps) new (taken_with taken f (without taken f M steps)) tests
+      → IsDraft M.relations K after (after_negation taken f M steps) × IsTaking M.relations K (after_negation taken f M steps) new (taken_with taken f (after_negation taken f M steps)) tests
 
 -- the first of the tests that remain was taken out, if there is one
 abbrev pub NextTest : Taking → Taking → Option Test → Type 0

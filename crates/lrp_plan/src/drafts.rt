@@ -1,11 +1,10 @@
 // The steps made so far, and the rules that make one more.
 ghost use Rattle.std.specs.Prelude.{◌≡◌, ℕ, [], ◌∷◌, OnOk};
-ghost use Rattle.std.specs.List.{AllByRecursion};
 ghost use Rattle.lrp_model.specs.Formulas.{Form, atom, test as test_form};
 ghost use Rattle.lrp_model.specs.Rows.{rows_of};
 ghost use Rattle.lrp_model.specs.Periods.{periods, test_periods};
 ghost use Rattle.lrp_model.specs.Satisfaction.{Structure};
-ghost use Rattle.lrp_model.specs.Steps.{scan as scanned, leaf as tested, sort_texts, join as joined, select as selected, union as united, minus as taken_off, complement as complemented, drop_of};
+ghost use Rattle.lrp_model.specs.Steps.{scan_of as scanned, leaf as tested, sort_texts, join as joined, select as selected, union as united, minus as taken_off, complement as complemented, drop_of};
 ghost use Rattle.lrp_plan.specs.Capped.{capped as capped_at};
 ghost use Rattle.lrp_plan.specs.Drafts.{AddsStep, Extends, ExtendsBoth, AreTests, headed};
 ghost use Rattle.lrp_plan.specs.Facts.{AreFacts};

@@ -7,16 +7,16 @@ ghost use Rattle.lrp_model.specs.Formulas.{form_of, question_of};
 ghost use Rattle.lrp_model.specs.Core.{HasElements};
 ghost use Rattle.lrp_model.specs.Domains.{all_texts, database_texts};
 ghost use Rattle.lrp_model.specs.Periods.{periods};
-ghost use Rattle.lrp_model.specs.Plans.{IsPlan};
+ghost use Rattle.lrp_model.specs.Plans.{IsPlan, IsWithinLimits};
 ghost use Rattle.lrp_model.specs.Satisfaction.{Structure, structure};
 ghost use Rattle.lrp_model.specs.Texts.{in_order};
 ghost use Rattle.lrp_model.specs.declared.relations.Relation.{Relation as RelationOf};
 ghost use Rattle.lrp_model.specs.TestPoints.{points};
 ghost use Rattle.lrp_plan_laws.specs.Rising.{row_periods};
 ghost use Rattle.lrp_plan_laws.specs.Settled.{IsSettled, IsSoundPlan};
-ghost use Rattle.lrp_plan_text.specs.Writable.{HasPeriods};
+ghost use Rattle.lrp_plan_text.specs.Writable.{StepHasPeriods};
 ghost use Rattle.lrp_plan.specs.Multiples.{IsPeriodOf};
-ghost use Rattle.lrp_plan.specs.Planning.{IsWithinLimits, HasCause, IsWholeDraft, AreGathered, IsOutcome};
+ghost use Rattle.lrp_plan.specs.Planning.{IsPastLimits, IsWholeDraft, AreGathered, IsOutcome};
 ghost use Rattle.lrp_plan.specs.Sources.{AreSources};
 ghost use Rattle.lrp_rel.specs.Once.{texts_among};
 
@@ -68,9 +68,9 @@ pub fn plan(alloc: Global, query: &Query, database: &Database) -> Result<Plan, P
     requires points { AllByRecursion (λ at. pos 1 ≤ℤ at.period) (points (form_of query.now.body)) }
     ensures ok { IfOk result (λ p. IsPlan p database.now (question_of query.now)) }
     ensures limits { IfOk result (λ p. IsWithinLimits database.now (question_of query.now)) }
-    ensures writable { IfOk result (λ p. AllByRecursion HasPeriods p.steps) }
+    ensures writable { IfOk result (λ p. AllByRecursion StepHasPeriods p.steps) }
     ensures sound { IfOk result (λ _. IsSettled database.now (question_of query.now) → IsSoundPlan database.now (question_of query.now)) }
-    ensures fault { IfErr result (λ e. HasCause e database.now (question_of query.now)) }
+    ensures fault { IfErr result (λ e. IsPastLimits e database.now (question_of query.now)) }
 {
     let core = core_form(alloc, query, has_named_sort(database))?;
     let sources = gather(alloc, query, database)?;

@@ -22,7 +22,7 @@ use Rattle.lrp_model.specs.declared.plans.StepKind.TheVariants.{Scan, Leaf, Sort
 use Rattle.lrp_model.proofs.Logic.{all_append}
 use Rattle.lrp_plan_laws.specs.Made.{HeadStep, IsEarlier, operands, IsFormula, IsMade, head_step}
 use Rattle.lrp_plan_laws.specs.Scopes.{EachScope, EachOfScope}
-use Rattle.lrp_plan_laws.specs.Rising.{period_at, HasPeriods, named_periods, test_period, KeepsPeriod, Rises}
+use Rattle.lrp_plan_laws.specs.Rising.{period_at, HasPeriods, named_periods, test_period, KeepsPeriod, IsRising}
 use Rattle.lrp_plan_laws.proofs.Elements.{found, within, formula_front, step_made, reach_made, period_made}
 use Rattle.lrp_plan_laws.proofs.Names.{Names, names_self}
 use Rattle.lrp_plan_laws.proofs.Marks.{Mark, marks, marked_periods}
@@ -375,7 +375,7 @@ module _ (db : List Relation) (q : Question) (some : HasElements q.body) (low : 
       (subst (λ K. step.reach ≡ reach_of db (reach_at (plan db q)) K step.kind) m.period m.reach)
 
   -- periods and reaches rise along a plan
-  pub rises : (s : ℕ) (step : PlanStep) → step_at (plan db q) s ≡ Some step → Rises db q s step
+  pub rises : (s : ℕ) (step : PlanStep) → step_at (plan db q) s ≡ Some step → IsRising db q s step
   rises s step e =
       let m : IsMade (structure db q) (head_step db q) (plan db q) s step = plan_made db q some s step e in
       let u : IsUnder db (query_reach db q) (marks q.body db) step.formula step.reach = all_step (λ x. IsUnder db (query_reach db q) (marks q.body db) x.formula x.reach) (plan db q) s step e (plan_under db q some) in

@@ -3,10 +3,10 @@ use Rattle.std.proofs.Common.{◌≡◌, ⊎_elim, ℕ, List, [], ◌∷◌, ◌
 use Rattle.std.specs.Prelude.{MatchOption}
 use Rattle.std.specs.List.{AllByRecursion, AllZip}
 use Rattle.lrp_model.specs.Texts.{Text, Identifier}
-use Rattle.lrp_model.specs.Rows.{relation_named}
+use Rattle.lrp_model.specs.Rows.{relation_named, columns_in}
 use Rattle.lrp_model.specs.Formulas.{Form, Forms, Question, atom, test, sorted, negation, conjunction, disjunction, implication, exists, forall, no_forms, form}
 use Rattle.lrp_model.specs.Satisfaction.{structure}
-use Rattle.lrp_model.specs.Domains.{database_texts, term_texts, columns_of, form_texts, forms_texts, all_texts, constants}
+use Rattle.lrp_model.specs.Domains.{database_texts, term_texts, form_texts, forms_texts, all_texts, constants}
 use Rattle.lrp_model.specs.Core.{HasElements}
 use Rattle.lrp_model.specs.Steps.{PlanStep, step_at, formula_at}
 use Rattle.lrp_model.specs.Plans.{plan}
@@ -20,16 +20,17 @@ use Rattle.lrp_model.specs.declared.plans.StepKind.TheVariants.{Scan}
 use Rattle.lrp_model.proofs.Decided.{cons_cases, contains_first, contains_later, contains_none}
 use Rattle.lrp_model.proofs.DomainLaws.{contains_in_order}
 use Rattle.lrp_plan_laws.specs.Made.{IsFormula, IsMade, head_step}
-use Rattle.lrp_plan_laws.specs.Atoms.{Atom, atoms, atoms_each, FitsColumn, FitsRelation, texts_among, IsKnownScan}
+use Rattle.lrp_plan_laws.specs.Atoms.{Atom, atoms, atoms_each, FitsRelation, texts_among, IsKnownScan}
 use Rattle.lrp_plan_laws.proofs.Members.{all_of, all_by, all_self, all_map, in_left, in_right, in_one}
 use Rattle.lrp_plan_laws.proofs.Marks.{marks, marked_atom}
 use Rattle.lrp_plan_laws.proofs.RisingLaws.{plan_made, step_marks}
+use Rattle.lrp_model.specs.Sorts.{FitsColumn}
 
 -- ---- the texts of an atom are the body's
 
 -- the texts of an atom's terms, each with its sort
 abbrev atom_texts : List Relation → Atom → List (Sort × Text)
-atom_texts db a = term_texts (columns_of (relation_named db a.name)) a.terms
+atom_texts db a = term_texts (columns_in (relation_named db a.name)) a.terms
 
 -- what is in one list is in that list before or behind another
 all_before : (xs ys : List (Sort × Text)) (zs : List (Sort × Text)) → AllByRecursion (Contains xs) zs → AllByRecursion (Contains (xs ++ ys)) zs
@@ -87,7 +88,7 @@ among_known ds (c ∷ cs) (data_term (data_var v) ∷ ts) z h = among_known ds c
 among_known ds (c ∷ cs) (time_term t ∷ ts) z h = among_known ds cs ts z.1 h
 
 -- the texts among the terms of an atom that fits
-atom_known : (db : List Relation) (q : Question) (a : Atom) (o : Option Relation) → MatchOption o ⊥ (λ r. AllZip FitsColumn r.columns a.terms) → AllByRecursion (λ entry. Contains (constants db q) entry.1) (term_texts (columns_of o) a.terms) → AllByRecursion (Contains (constants db q)) (texts_among a.terms)
+atom_known : (db : List Relation) (q : Question) (a : Atom) (o : Option Relation) → MatchOption o ⊥ (λ r. AllZip FitsColumn r.columns a.terms) → AllByRecursion (λ entry. Contains (constants db q) entry.1) (term_texts (columns_in o) a.terms) → AllByRecursion (Contains (constants db q)) (texts_among a.terms)
 atom_known db q a None f h = absurd f
 atom_known db q a (Some r) f h = among_known (constants db q) r.columns a.terms f h
 

@@ -7,7 +7,7 @@ use Rattle.lrp_model.specs.Sorting.{IsWellSorted}
 use Rattle.lrp_model.specs.Checked.{plain_question}
 use Rattle.lrp_model.specs.declared.relations.Relation.{Relation}
 use Rattle.lrp_plan_laws.specs.Rising.{HasPeriods}
-use Rattle.lrp_plan_laws.specs.Settled.{HasTexts, IsSettled, IsSoundPlan}
+use Rattle.lrp_plan_laws.specs.Settled.{HasSortedTexts, IsSettled, IsSoundPlan}
 use Rattle.lrp_plan_laws.proofs.HeadLaws.{last_is}
 use Rattle.lrp_plan_laws.proofs.RisingLaws.{plan_made, rises}
 use Rattle.lrp_plan_laws.proofs.NarrowLaws.{narrow_steps, last_bound, core_bound}
@@ -18,7 +18,7 @@ use Rattle.lrp_plan_laws.proofs.SortedScopes.{head_names, body_in_head, narrow_h
 use Rattle.lrp_plan_laws.proofs.SortedTexts.{plain_query}
 
 -- a well-sorted query is settled
-pub settled : (db : List Relation) (q : RawQuestion) → IsWellSorted db q → HasTexts db → HasElements (plain_question q).body → HasPeriods db (plain_question q) → IsSettled db (plain_question q)
+pub settled : (db : List Relation) (q : RawQuestion) → IsWellSorted db q → HasSortedTexts db → HasElements (plain_question q).body → HasPeriods db (plain_question q) → IsSettled db (plain_question q)
 settled db q sorted texts some low = record {
   elements = some;
   periods = low;

@@ -3,7 +3,7 @@ use Rattle.std.proofs.Common.{◌≡◌, Bool, true, false, not, List, [], ◌�
 use Rattle.std.specs.Prelude.{◌==◌, if◌then◌else◌, reverse, MatchOption}
 use Rattle.std.specs.List.{AllByRecursion, AllZip}
 use Rattle.std.proofs.lemmas.Bool.{eqb-true}
-use Rattle.lrp_model.specs.Sorts.{same_sort, is_time, is_data}
+use Rattle.lrp_model.specs.Sorts.{same_sort, is_time, is_data, FitsColumn}
 use Rattle.lrp_model.specs.Rows.{relation_named}
 use Rattle.lrp_model.specs.Faults.{fault_if}
 use Rattle.lrp_model.specs.RawQueries.{RawForm, RawForms, RawQuestion, raw_atom, raw_compare, raw_member, raw_not, raw_and, raw_or, raw_implies, raw_group, raw_exists, raw_forall, no_raws, raw}
@@ -21,7 +21,7 @@ use Rattle.lrp_model.specs.declared.raw.RawTerm.{RawTerm}
 use Rattle.lrp_model.specs.declared.raw.RawTermKind.{RawTermKind}
 use Rattle.lrp_model.specs.declared.raw.RawTermKind.TheVariants.{Int, Text, Var, Shifted}
 use Rattle.lrp_model.proofs.Logic.{all_append}
-use Rattle.lrp_plan_laws.specs.Atoms.{atoms, atoms_each, FitsColumn, FitsRelation}
+use Rattle.lrp_plan_laws.specs.Atoms.{atoms, atoms_each, FitsRelation}
 use Rattle.lrp_plan_laws.proofs.SortedNames.{both_none, none_if, not_false, not_wide, not_wide_inside, same_kind, no_time}
 use Rattle.lrp_plan_laws.proofs.SortedScopes.{parts_sorted}
 

@@ -4,16 +4,16 @@ use Rattle.std.specs.Prelude.{if◌then◌else◌, nat_lt}
 use Rattle.std.specs.List.{AllByRecursion}
 use Rattle.std.specs.Cmp.Lexicographic.{bytes_decides}
 use Rattle.std.proofs.lemmas.Bool.{ltb-false}
-use Rattle.lrp_model.specs.Texts.{Identifier}
+use Rattle.lrp_model.specs.Texts.{Identifier, without, AreDistinct}
 use Rattle.lrp_model.specs.Sorts.{is_time, is_data}
 use Rattle.lrp_model.specs.Faults.{is_named_in}
 use Rattle.lrp_model.specs.Variables.{Variable, time_variable, data_variable}
-use Rattle.lrp_model.specs.Sorting.{Binders, binder_sort, without, counted, count, too_many}
+use Rattle.lrp_model.specs.Sorting.{Binders, binder_sort, counted, count, too_many}
 use Rattle.lrp_model.specs.declared.relations.Sort.{Sort}
 use Rattle.lrp_model.specs.declared.relations.Sort.TheVariants.{Time, Data, Named}
 use Rattle.lrp_model.proofs.Decided.{cons_cases, contains_first, contains_later, contains_none}
 use Rattle.lrp_plan_laws.specs.Made.{IsDataSort}
-use Rattle.lrp_plan_laws.specs.Scopes.{AreDifferent, IsNarrow}
+use Rattle.lrp_plan_laws.specs.Scopes.{IsNarrow}
 use Rattle.lrp_plan_laws.proofs.Members.{all_of, all_map}
 use Rattle.lrp_plan_laws.proofs.SortedNames.{Occurs, same_name}
 
@@ -33,7 +33,7 @@ keep_all m (n ∷ ns) h = at_name (bytes_eq m n) refl (keep_all m ns h.1)
     at_name false e le = omega arith
 
 -- of different names one at most is m
-one_less : (m : Identifier) (ns : List Identifier) → AreDifferent ns → length ns ≤ suc (length (without m ns))
+one_less : (m : Identifier) (ns : List Identifier) → AreDistinct ns → length ns ≤ suc (length (without m ns))
 one_less m [] h = omega arith
 one_less m (n ∷ ns) h = at_name (bytes_eq m n) refl (one_less m ns h.1)
   where
@@ -55,11 +55,11 @@ without_all : (p : Identifier → Type 0) (m : Identifier) (ns : List Identifier
 without_all p m ns h = all_map (λ n. p n × (m ≢ n)) p (without m ns) (λ n x. x.0) (left_over p m ns h)
 
 -- different names stay different without m
-different_left : (m : Identifier) (ns : List Identifier) → AreDifferent ns → AreDifferent (without m ns)
+different_left : (m : Identifier) (ns : List Identifier) → AreDistinct ns → AreDistinct (without m ns)
 different_left m [] h = tt
 different_left m (n ∷ ns) h = at_name (bytes_eq m n) (different_left m ns h.1)
   where
-    at_name : (b : Bool) → AreDifferent (without m ns) → AreDifferent (cond (not b) (n ∷ without m ns) (without m ns))
+    at_name : (b : Bool) → AreDistinct (without m ns) → AreDistinct (cond (not b) (n ∷ without m ns) (without m ns))
     at_name true rest = rest
     at_name false rest = (without_all (λ k. n ≢ k) m ns h.0, rest)
 
@@ -70,7 +70,7 @@ other_member : (m n : Identifier) (ms : List Identifier) → Contains (m ∷ ms)
 other_member m n ms c ne = ⊎_elim (λ e. absurd (ne e)) (λ d. d) (cons_cases m n ms c)
 
 -- different names among others are no more than these
-pub no_more : (all names : List Identifier) → AreDifferent names → AllByRecursion (Contains all) names → length names ≤ length all
+pub no_more : (all names : List Identifier) → AreDistinct names → AllByRecursion (Contains all) names → length names ≤ length all
 no_more [] [] d h = omega arith
 no_more [] (n ∷ ns) d h = absurd (contains_none n h.0)
 no_more (m ∷ ms) names d h =
@@ -147,7 +147,7 @@ module _ (passes : Sort → Bool) (bs : Binders) where
       by_named false h (inr d) rest = past_chosen (binder_sort bs m) m n (tally passes bs ms) (rest d)
 
   -- different names of such a sort are no more than are counted
-  few : (ns names : List Identifier) → AreDifferent names → AllByRecursion (λ n. Contains ns n × ((s : Sort) × (binder_sort bs n ≡ Some s) × (passes s ≡ true))) names → length names ≤ count passes bs ns
+  few : (ns names : List Identifier) → AreDistinct names → AllByRecursion (λ n. Contains ns n × ((s : Sort) × (binder_sort bs n ≡ Some s) × (passes s ≡ true))) names → length names ≤ count passes bs ns
   few ns names d h =
       let k : length (tally passes bs ns) ≡ count passes bs ns = tally_counts ns in
       let l : length names ≤ length (tally passes bs ns) = no_more (tally passes bs ns) names d (all_map (λ n. Contains ns n × ((s : Sort) × (binder_sort bs n ≡ Some s) × (passes s ≡ true))) (Contains (tally passes bs ns)) names (λ n x. in_tally ns n x.1.0 x.0 x.1.1 x.1.2) h) in

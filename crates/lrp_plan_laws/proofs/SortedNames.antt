@@ -3,12 +3,12 @@ use Rattle.std.proofs.Common.{◌≡◌, ◌⊎◌, inl, inr, Bool, true, false,
 use Rattle.std.specs.Prelude.{option_map, find, if◌then◌else◌}
 use Rattle.std.specs.List.{AllByRecursion}
 use Rattle.std.specs.Cmp.Lexicographic.{bytes_decides}
-use Rattle.lrp_model.specs.Texts.{Identifier}
+use Rattle.lrp_model.specs.Texts.{Identifier, without}
 use Rattle.lrp_model.specs.Sorts.{same_sort, is_time, is_data}
 use Rattle.lrp_model.specs.Faults.{fault_if}
 use Rattle.lrp_model.specs.Variables.{Variable, time_variable, data_variable, bound_by, same_variable, variables_of_time, variables_of_data, variables_of_term, variables_of_test, free, free_each}
 use Rattle.lrp_model.specs.RawQueries.{RawForm, RawForms, raw_atom, raw_compare, raw_member, raw_not, raw_and, raw_or, raw_implies, raw_group, raw_exists, raw_forall, no_raws, raw}
-use Rattle.lrp_model.specs.Sorting.{Binders, binder_sort, TermSort, of_sort, any_data, unsorted, alone_sort, shifted_sort, kind_sort, term_sort, is_data_term, unlike, variable_faults, kind_faults, term_faults, time_faults, compare_faults, binder_faults, term_names, without, free_names, free_names_each, widened, form_faults, forms_faults, too_many, place_of, fault}
+use Rattle.lrp_model.specs.Sorting.{Binders, binder_sort, TermSort, of_sort, any_data, unsorted, alone_sort, shifted_sort, kind_sort, term_sort, is_data_term, unlike, variable_faults, kind_faults, term_faults, time_faults, compare_faults, binder_faults, term_names, free_names, free_names_each, widened, form_faults, forms_faults, too_many, place_of, query_fault}
 use Rattle.lrp_model.specs.Checked.{time_of, data_of, term_of, compare_of, plain, plain_each}
 use Rattle.lrp_model.specs.declared.tokens.Place.{Place}
 use Rattle.lrp_model.specs.declared.relations.Sort.{Sort}
@@ -289,8 +289,8 @@ under c bs names (v ∷ vs) h = at_variable (same_variable (bound_by c.sort c.na
 -- a formula with no fault is not too wide, and has none inside
 pub not_wide : (bs : Binders) (bound : List Identifier) (f : RawForm) (inside : List QueryFault) → widened bs bound f inside ≡ [] → (too_many bs (bound ++ free_names f) ≡ false) × (inside ≡ [])
 not_wide bs bound f inside e =
-    let x = both_none (fault_if (too_many bs (bound ++ free_names f)) (fault Wide (place_of f))) inside e in
-    (none_if (too_many bs (bound ++ free_names f)) (fault Wide (place_of f)) x.0, x.1)
+    let x = both_none (fault_if (too_many bs (bound ++ free_names f)) (query_fault Wide (place_of f))) inside e in
+    (none_if (too_many bs (bound ++ free_names f)) (query_fault Wide (place_of f)) x.0, x.1)
 
 -- and so is the formula of a quantifier, with the quantifier's variable
 pub not_wide_inside : (db : List Relation) (bs : Binders) (c : RawColumn) (f : RawForm) (inside : List QueryFault) → binder_faults db bs c ++ widened (c ∷ bs) (c.name ∷ []) f inside ≡ [] → (too_many (c ∷ bs) (c.name ∷ free_names f) ≡ false) × (inside ≡ [])

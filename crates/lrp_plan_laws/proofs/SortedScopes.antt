@@ -11,7 +11,7 @@ use Rattle.lrp_model.specs.Faults.{fault_if, is_named_in, ninth}
 use Rattle.lrp_model.specs.Variables.{Variable, time_variable, data_variable, bound_by, free, head_variables}
 use Rattle.lrp_model.specs.Satisfaction.{HaveNames}
 use Rattle.lrp_model.specs.RawQueries.{RawForm, RawForms, RawQuestion, raw_atom, raw_compare, raw_member, raw_not, raw_and, raw_or, raw_implies, raw_group, raw_exists, raw_forall, no_raws, raw}
-use Rattle.lrp_model.specs.Sorting.{Binders, binder_sort, binder_faults, sort_faults, head_faults, free_names, widened, form_faults, forms_faults, fault, IsWellSorted}
+use Rattle.lrp_model.specs.Sorting.{Binders, binder_sort, binder_faults, sort_faults, head_faults, free_names, widened, form_faults, forms_faults, query_fault, IsWellSorted}
 use Rattle.lrp_model.specs.DatabaseMeaning.{column_of}
 use Rattle.lrp_model.specs.Checked.{plain, plain_each, plain_question}
 use Rattle.lrp_model.specs.declared.relations.Sort.{Sort}
@@ -116,8 +116,8 @@ module _ (db : List Relation) where
   pub head_first : (bs : Binders) (c : RawColumn) (cs : List RawColumn) → head_faults db bs (c ∷ cs) ≡ [] → AllByRecursion (λ m. m ≢ c.name) (names_in bs) × ((sort_faults db c.sort c.sort_place ≡ []) × (head_faults db (c ∷ bs) cs ≡ []))
   head_first bs c cs e =
       let x = both_none (binder_faults db bs c) (head_faults db (c ∷ bs) cs) e in
-      let y = both_none (fault_if (is_named_in (names_in bs) c.name) (fault Rebound c.place)) (sort_faults db c.sort c.sort_place) x.0 in
-      (not_named (names_in bs) c.name (none_if (is_named_in (names_in bs) c.name) (fault Rebound c.place) y.0), (y.1, x.1))
+      let y = both_none (fault_if (is_named_in (names_in bs) c.name) (query_fault Rebound c.place)) (sort_faults db c.sort c.sort_place) x.0 in
+      (not_named (names_in bs) c.name (none_if (is_named_in (names_in bs) c.name) (query_fault Rebound c.place) y.0), (y.1, x.1))
 
   -- a name that is bound before a head is no name of the head
   apart_from : (n : Identifier) (bs : Binders) (cs : List RawColumn) → head_faults db bs cs ≡ [] → Contains (names_in bs) n → AllByRecursion (λ d. n ≢ d.name) (map column_of cs)
@@ -223,23 +223,23 @@ in_texts (d ∷ ds) n c = by_sort d.sort (cons_cases (bound_by d.sort d.name) (d
     by_sort (Named m) (inr k) rest = contains_later d.name n (texts_in ds) (rest k)
 
 -- without a ninth column there are at most eight of each kind
-few_columns : (t u : ℕ) (cs : List RawColumn) → ninth (fault Wide) t u cs ≡ [] → t ≤ 8 → u ≤ 8 → (t + length (times_in cs) ≤ 8) × (u + length (texts_in cs) ≤ 8)
+few_columns : (t u : ℕ) (cs : List RawColumn) → ninth (query_fault Wide) t u cs ≡ [] → t ≤ 8 → u ≤ 8 → (t + length (times_in cs) ≤ 8) × (u + length (texts_in cs) ≤ 8)
 few_columns t u [] e h k = (omega arith, omega arith)
 few_columns t u (c ∷ cs) e h k = by_time (is_time c.sort) e (few_columns (t + 1) u cs) (few_columns t (u + 1) cs)
   where
-    by_time : (b : Bool) → (if b then fault_if (t == 8) (fault Wide c.place) ++ ninth (fault Wide) (t + 1) u cs else fault_if (u == 8) (fault Wide c.place) ++ ninth (fault Wide) t (u + 1) cs) ≡ []
-        → (ninth (fault Wide) (t + 1) u cs ≡ [] → t + 1 ≤ 8 → u ≤ 8 → (t + 1 + length (times_in cs) ≤ 8) × (u + length (texts_in cs) ≤ 8))
-        → (ninth (fault Wide) t (u + 1) cs ≡ [] → t ≤ 8 → u + 1 ≤ 8 → (t + length (times_in cs) ≤ 8) × (u + 1 + length (texts_in cs) ≤ 8))
+    by_time : (b : Bool) → (if b then fault_if (t == 8) (query_fault Wide c.place) ++ ninth (query_fault Wide) (t + 1) u cs else fault_if (u == 8) (query_fault Wide c.place) ++ ninth (query_fault Wide) t (u + 1) cs) ≡ []
+        → (ninth (query_fault Wide) (t + 1) u cs ≡ [] → t + 1 ≤ 8 → u ≤ 8 → (t + 1 + length (times_in cs) ≤ 8) × (u + length (texts_in cs) ≤ 8))
+        → (ninth (query_fault Wide) t (u + 1) cs ≡ [] → t ≤ 8 → u + 1 ≤ 8 → (t + length (times_in cs) ≤ 8) × (u + 1 + length (texts_in cs) ≤ 8))
         → (t + length (cond b (c.name ∷ times_in cs) (times_in cs)) ≤ 8) × (u + length (cond b (texts_in cs) (c.name ∷ texts_in cs)) ≤ 8)
     by_time true f one two =
-        let x = both_none (fault_if (t == 8) (fault Wide c.place)) (ninth (fault Wide) (t + 1) u cs) f in
-        let ne : t ≢ 8 = eqb-false t 8 (none_if (t == 8) (fault Wide c.place) x.0) in
+        let x = both_none (fault_if (t == 8) (query_fault Wide c.place)) (ninth (query_fault Wide) (t + 1) u cs) f in
+        let ne : t ≢ 8 = eqb-false t 8 (none_if (t == 8) (query_fault Wide c.place) x.0) in
         let r = one x.1 (omega arith) k in
         let r0 : t + 1 + length (times_in cs) ≤ 8 = r.0 in
         (omega arith, r.1)
     by_time false f one two =
-        let x = both_none (fault_if (u == 8) (fault Wide c.place)) (ninth (fault Wide) t (u + 1) cs) f in
-        let ne : u ≢ 8 = eqb-false u 8 (none_if (u == 8) (fault Wide c.place) x.0) in
+        let x = both_none (fault_if (u == 8) (query_fault Wide c.place)) (ninth (query_fault Wide) t (u + 1) cs) f in
+        let ne : u ≢ 8 = eqb-false u 8 (none_if (u == 8) (query_fault Wide c.place) x.0) in
         let r = two x.1 h (omega arith) in
         let r1 : u + 1 + length (texts_in cs) ≤ 8 = r.1 in
         (r.0, omega arith)
@@ -263,10 +263,10 @@ narrow_bound cs vs h k all = record {
 
 module _ (db : List Relation) (q : RawQuestion) (sorted : IsWellSorted db q) where
   -- no fault in the head, none of its width, and none in the body
-  pub parts_sorted : (head_faults db [] q.head ≡ []) × ((ninth (fault Wide) 0 0 q.head ≡ []) × (widened (reverse q.head) [] q.body (form_faults q.body db (reverse q.head)) ≡ []))
+  pub parts_sorted : (head_faults db [] q.head ≡ []) × ((ninth (query_fault Wide) 0 0 q.head ≡ []) × (widened (reverse q.head) [] q.body (form_faults q.body db (reverse q.head)) ≡ []))
   parts_sorted =
-      let x = both_none (head_faults db [] q.head ++ ninth (fault Wide) 0 0 q.head) (widened (reverse q.head) [] q.body (form_faults q.body db (reverse q.head))) sorted in
-      let y = both_none (head_faults db [] q.head) (ninth (fault Wide) 0 0 q.head) x.0 in
+      let x = both_none (head_faults db [] q.head ++ ninth (query_fault Wide) 0 0 q.head) (widened (reverse q.head) [] q.body (form_faults q.body db (reverse q.head))) sorted in
+      let y = both_none (head_faults db [] q.head) (ninth (query_fault Wide) 0 0 q.head) x.0 in
       (y.0, (y.1, x.1))
 
   -- the head's names differ

@@ -3,16 +3,16 @@ use Rattle.std.proofs.Common.{◌≡◌, Bool, true, false, cond, not, ◌&&◌,
 use Rattle.std.specs.Prelude.{◌==◌, if◌then◌else◌, reverse, option_map, find}
 use Rattle.std.specs.List.{AllByRecursion, list_any}
 use Rattle.lrp_model.specs.Texts.{Identifier}
-use Rattle.lrp_model.specs.Rows.{relation_named}
+use Rattle.lrp_model.specs.Rows.{relation_named, columns_in}
 use Rattle.lrp_model.specs.Sorts.{same_sort, is_time, is_data}
 use Rattle.lrp_model.specs.Faults.{fault_if}
 use Rattle.lrp_model.specs.Core.{is_named, has_named_sort}
-use Rattle.lrp_model.specs.Domains.{row_texts, database_texts, term_texts, columns_of, sort_beside, text_beside, test_texts, form_texts, forms_texts}
+use Rattle.lrp_model.specs.Domains.{row_texts, database_texts, term_texts, sort_beside, text_beside, test_texts, form_texts, forms_texts}
 use Rattle.lrp_model.specs.Plans.{IsPlain}
 use Rattle.lrp_model.specs.RawQueries.{RawForm, RawForms, RawQuestion, raw_atom, raw_compare, raw_member, raw_not, raw_and, raw_or, raw_implies, raw_group, raw_exists, raw_forall, no_raws, raw}
 use Rattle.lrp_model.specs.Sorting.{Binders, binder_sort, alone_sort, shifted_sort, kind_sort, term_sort, is_data_term, differs, term_faults, column_faults, atom_faults, has_sort, sort_faults, binder_faults, head_faults, widened, form_faults, forms_faults, IsWellSorted}
 use Rattle.lrp_model.specs.DatabaseMeaning.{column_of}
-use Rattle.lrp_model.specs.Checked.{time_of, data_of, term_of, is_equals, compare_of, plain, plain_each, plain_question}
+use Rattle.lrp_model.specs.Checked.{time_of, data_of, term_of, is_equality, compare_of, plain, plain_each, plain_question}
 use Rattle.lrp_model.specs.declared.tokens.Place.{Place}
 use Rattle.lrp_model.specs.declared.relations.Sort.{Sort}
 use Rattle.lrp_model.specs.declared.relations.Sort.TheVariants.{Time, Data, Named}
@@ -33,7 +33,7 @@ use Rattle.lrp_model.specs.declared.raw.RawTermKind.TheVariants.{Int, Text as Te
 use Rattle.lrp_model.proofs.Decided.{contains_first}
 use Rattle.lrp_model.proofs.Logic.{all_append}
 use Rattle.lrp_plan_laws.specs.Guards.{BindsPlainly, BindPlainly}
-use Rattle.lrp_plan_laws.specs.Settled.{HasTexts}
+use Rattle.lrp_plan_laws.specs.Settled.{HasSortedTexts}
 use Rattle.lrp_plan_laws.proofs.Members.{all_map}
 use Rattle.lrp_plan_laws.proofs.SortedNames.{bound_here, bound_further, same_name, both_none, none_if, not_false, not_wide, not_wide_inside}
 use Rattle.lrp_plan_laws.proofs.SortedScopes.{names_in, head_first, still, turned_more, parts_sorted}
@@ -165,7 +165,7 @@ row_unnamed (c ∷ cs) (Const t ∷ vs) h = (h.0, row_unnamed cs vs h.1)
 row_unnamed (c ∷ cs) (Point at ∷ vs) h = row_unnamed cs vs h.1
 
 -- each text of the database has sort `data`
-database_data : (db : List Relation) → has_named_sort db ≡ false → HasTexts db → AllByRecursion (λ entry. entry.0 ≡ Data) (database_texts db)
+database_data : (db : List Relation) → has_named_sort db ≡ false → HasSortedTexts db → AllByRecursion (λ entry. entry.0 ≡ Data) (database_texts db)
 database_data db none texts =
     all_two (λ entry. is_named entry.0 ≡ false) (λ entry. is_data entry.0 ≡ true) (λ entry. entry.0 ≡ Data) (database_texts db) (λ entry n d. plain_sort entry.0 n d)
     (all_flat (λ entry. is_named entry.0 ≡ false) (λ r. flat_map (λ row. row_texts r.columns row.values) r.rows) db
@@ -203,7 +203,7 @@ terms_data bs (t ∷ ts) (c ∷ cs) e h =
 
 -- an atom without a fault
 atom_data : (db : List Relation) (bs : Binders) (p : Place) (ts : List RawTerm) (o : Option Relation) → ((r : Relation) → o ≡ Some r → AllByRecursion (λ c. is_named c.sort ≡ false) r.columns) → atom_faults bs p ts o ≡ []
-    → AllByRecursion (λ entry. entry.0 ≡ Data) (term_texts (columns_of o) (map (term_of bs) ts))
+    → AllByRecursion (λ entry. entry.0 ≡ Data) (term_texts (columns_in o) (map (term_of bs) ts))
 atom_data db bs p ts None h e = cc
 atom_data db bs p ts (Some r) h e = terms_data bs ts r.columns (both_none (fault_if (not (length ts == length r.columns)) _) (column_faults bs ts r.columns) e).1 (h r refl)
 
@@ -263,7 +263,7 @@ module _ (columns : List Column) (bs : Binders) (binds : Binds columns bs) (unna
 
   -- the texts of a comparison
   compare_data : (l r : RawTerm) (op : Op) → AllByRecursion (λ entry. entry.0 ≡ Data) (test_texts columns (compare_of bs l op r))
-  compare_data l r op = equal_data l r op (is_equals op) (is_data_term (term_sort bs l)) (is_data_term (term_sort bs r)) refl refl
+  compare_data l r op = equal_data l r op (is_equality op) (is_data_term (term_sort bs l)) (is_data_term (term_sort bs r)) refl refl
 
 mutual
   -- each text of a formula without a fault has sort `data`
@@ -341,7 +341,7 @@ pick_unnamed (c ∷ cs) n s h e = by_name (bytes_eq c.name n) e (pick_unnamed cs
     by_name true q rest = subst (λ t. is_named t ≡ false) (some_is c.sort q) h.0
     by_name false q rest = rest q
 
-module _ (db : List Relation) (q : RawQuestion) (sorted : IsWellSorted db q) (texts : HasTexts db) (none : has_named_sort db ≡ false) where
+module _ (db : List Relation) (q : RawQuestion) (sorted : IsWellSorted db q) (texts : HasSortedTexts db) (none : has_named_sort db ≡ false) where
   -- the head as binders
   turned : (n : Identifier) → binder_sort (reverse q.head) n ≡ pick q.head n None
   turned n = ap (λ l. binder_sort l n) (sym (append-nil (reverse q.head))) ∙ turned_pick db q.head [] n (parts_sorted db q sorted).0

@@ -1,16 +1,15 @@
 -- The atoms of a formula, and which of them fit a database.
-use Rattle.std.specs.Prelude.{◌≡◌, true, List, [], ◌∷◌, ◌++◌, Contains, MatchOption}
+use Rattle.std.specs.Prelude.{◌≡◌, List, [], ◌∷◌, ◌++◌, Contains, MatchOption}
 use Rattle.std.specs.List.{AllByRecursion, AllZip}
 use Rattle.lrp_model.specs.Texts.{Text, Identifier}
-use Rattle.lrp_model.specs.Sorts.{is_time, is_data}
+use Rattle.lrp_model.specs.Sorts.{FitsColumn}
 use Rattle.lrp_model.specs.Rows.{relation_named}
 use Rattle.lrp_model.specs.Formulas.{Form, Forms, Question, atom, test, sorted, negation, conjunction, disjunction, implication, exists, forall, no_forms, form}
 use Rattle.lrp_model.specs.Domains.{constants}
-use Rattle.lrp_model.specs.declared.relations.Column.{Column}
 use Rattle.lrp_model.specs.declared.relations.Relation.{Relation}
 use Rattle.lrp_model.specs.declared.formulas.DataTerm.TheVariants.{Const as data_const}
 use Rattle.lrp_model.specs.declared.formulas.Term.{Term}
-use Rattle.lrp_model.specs.declared.formulas.Term.TheVariants.{Time as time_term, Data as data_term}
+use Rattle.lrp_model.specs.declared.formulas.Term.TheVariants.{Data as data_term}
 
 -- the relation that an atom names, and its terms
 pub record Atom : Type 0 where
@@ -33,11 +32,6 @@ abbrev mutual
   pub atoms_each : Forms → List Atom
   atoms_each no_forms = []
   atoms_each (form f fs) = atoms f ++ atoms_each fs
-
--- a time term in a column of times, a data term in one of a data sort
-abbrev pub FitsColumn : Column → Term → Type 0
-FitsColumn c (time_term t) = is_time c.sort ≡ true
-FitsColumn c (data_term t) = is_data c.sort ≡ true
 
 -- the database has the relation, and the terms are one for each column and fit them
 abbrev pub FitsRelation : List Relation → Atom → Type 0

@@ -50,7 +50,7 @@ abbrev pub row_periods : List Relation → List ℕ
 row_periods relations = flat_map (λ relation. flat_map (λ row. flat_map value_periods row.values) relation.rows) relations
 
 -- step s of a plan reads earlier steps, its reach is at least its period and their reaches, its period is a multiple of theirs and of those that it names, and neither is above the query's
-pub record Rises (db : List Relation) (q : Question) (s : ℕ) (step : PlanStep) : Type 0 where
+pub record IsRising (db : List Relation) (q : Question) (s : ℕ) (step : PlanStep) : Type 0 where
   pub earlier : AllByRecursion (IsEarlier s) (operands step.kind)
   pub positive : 1 ≤ step.period
   pub wide : step.period ≤ step.reach

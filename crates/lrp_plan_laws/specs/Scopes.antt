@@ -1,7 +1,7 @@
 -- The variables that occur together in one part of a formula.
 use Rattle.std.specs.Prelude.{◌≢◌, ◌≤◌, List, [], ◌∷◌, length, flat_map, Contains}
 use Rattle.std.specs.List.{AllByRecursion}
-use Rattle.lrp_model.specs.Texts.{Identifier}
+use Rattle.lrp_model.specs.Texts.{Identifier, AreDistinct}
 use Rattle.lrp_model.specs.Formulas.{Form, Forms, Question, atom, test, sorted, negation, conjunction, disjunction, implication, exists, forall, no_forms, form}
 use Rattle.lrp_model.specs.Variables.{Variable, time_variable, data_variable, bound_by, free}
 use Rattle.lrp_model.specs.Steps.{PlanStep, Steps, formula_at}
@@ -10,14 +10,9 @@ use Rattle.lrp_model.specs.Caps.{step_variables}
 use Rattle.lrp_model.specs.declared.relations.Relation.{Relation}
 use Rattle.lrp_plan_laws.specs.Made.{operands}
 
--- no two of the names are the same
-abbrev pub AreDifferent : List Identifier → Type 0
-AreDifferent [] = Unit {0}
-AreDifferent (n ∷ ns) = AllByRecursion (λ m. n ≢ m) ns × AreDifferent ns
-
 -- at most 8 different names are such
 abbrev pub AtMostEight : (Identifier → Type 0) → Type 0
-AtMostEight is = (names : List Identifier) → AreDifferent names → AllByRecursion is names → length names ≤ 8
+AtMostEight is = (names : List Identifier) → AreDistinct names → AllByRecursion is names → length names ≤ 8
 
 -- at most 8 variables for integers and at most 8 for texts, and none of one name
 pub record IsNarrow (vs : List Variable) : Type 0 where

@@ -17,13 +17,13 @@ use Rattle.lrp_model.specs.declared.formulas.Term.{Term}
 use Rattle.lrp_model.specs.declared.plans.StepKind.TheVariants.{Scan, DropData}
 use Rattle.lrp_plan_laws.specs.Atoms.{atoms, FitsRelation, IsKnownScan}
 use Rattle.lrp_plan_laws.specs.Made.{AreAmong, IsDataSort, IsMade, head_step}
-use Rattle.lrp_plan_laws.specs.Rising.{HasPeriods, Rises}
+use Rattle.lrp_plan_laws.specs.Rising.{HasPeriods, IsRising}
 use Rattle.lrp_plan_laws.specs.Scopes.{EachScope, IsNarrow, IsNarrowStep}
 use Rattle.lrp_plan_laws.specs.Guards.{IsGuarded, BindsPlainly}
 
 -- each text of the database stands in a column of a data sort, as in every database that is read
-abbrev pub HasTexts : List Relation → Type 0
-HasTexts db = AllByRecursion (λ entry. is_data entry.0 ≡ true) (database_texts db)
+abbrev pub HasSortedTexts : List Relation → Type 0
+HasSortedTexts db = AllByRecursion (λ entry. is_data entry.0 ≡ true) (database_texts db)
 
 -- each `and` and `or` has an element, and each period is at least 1; the head's names differ, and the body's variables are the head's; few variables occur together; each atom fits the database; and where no sort is named, all texts are of one sort
 pub record IsSettled (db : List Relation) (q : Question) : Type 0 where
@@ -44,7 +44,7 @@ IsGuardedDrop db q step =
 -- step s is made of earlier ones, periods and reaches rise, its variables are few, its drop is guarded, and its scan is of an atom that fits
 pub record IsSoundStep (db : List Relation) (q : Question) (s : ℕ) (step : PlanStep) : Type 0 where
   pub made : IsMade (structure db q) (head_step db q) (plan db q) s step
-  pub rises : Rises db q s step
+  pub rises : IsRising db q s step
   pub narrow : IsNarrowStep db q step
   pub guarded : IsGuardedDrop db q step
   pub scans : (name : Identifier) (terms : List Term) → step.kind ≡ Scan name terms → IsKnownScan db q (record { name = name; terms = terms })

@@ -21,8 +21,8 @@ ghost use Rattle.lrp_plan_laws.specs.Guards.{BindsPlainly};
 ghost use Rattle.lrp_plan_laws.specs.Made.{AreAmong, operands, IsMade, head_step};
 ghost use Rattle.lrp_model.specs.TestPoints.{points};
 ghost use Rattle.lrp_plan_laws.specs.Points.{step_points};
-ghost use Rattle.lrp_plan_laws.specs.Rising.{HasPeriods, Rises, period_at, row_periods};
-ghost use Rattle.lrp_plan_laws.specs.Settled.{HasTexts, IsGuardedDrop, IsSettled, IsSoundPlan};
+ghost use Rattle.lrp_plan_laws.specs.Rising.{HasPeriods, IsRising, period_at, row_periods};
+ghost use Rattle.lrp_plan_laws.specs.Settled.{HasSortedTexts, IsGuardedDrop, IsSettled, IsSoundPlan};
 ghost use Rattle.lrp_plan_laws.specs.Scopes.{EachScope, IsNarrow, IsNarrowStep};
 
 /// The core form of a formula says what the formula says, and the core form of its negation denies it.
@@ -48,7 +48,7 @@ pub fn periods_are_least()
 
 /// Along the steps of a plan periods and reaches rise, up to those of the query. The last step has the period of the query, and a step's reach is no less where those of the steps that it reads are no less.
 pub fn plan_rises()
-    ensures steps { (db : List Relation) (q : Question) → HasElements q.body → HasPeriods db q → (s : ℕ) (step : PlanStep) → step_at (plan db q) s ≡ Some step → Rises db q s step }
+    ensures steps { (db : List Relation) (q : Question) → HasElements q.body → HasPeriods db q → (s : ℕ) (step : PlanStep) → step_at (plan db q) s ≡ Some step → IsRising db q s step }
     ensures last { (db : List Relation) (q : Question) → period_at (plan db q) (length (plan db q)) ≡ period db q.body }
     ensures grows { (db : List Relation) (at more : ℕ → ℕ) (K : ℕ) (kind : StepKind) → AllByRecursion (λ l. at l ≤ more l) (operands kind) → reach_of db at K kind ≤ reach_of db more K kind }
 {}
@@ -76,7 +76,7 @@ pub fn drops_are_guarded()
 
 /// A well-sorted query over a database is settled, where each `and` and `or` of it has an element, each period is at least 1 and each text of the database stands in a data column.
 pub fn sorted_queries_are_settled()
-    ensures { (db : List Relation) (q : RawQuestion) → IsWellSorted db q → HasTexts db → HasElements (plain_question q).body → HasPeriods db (plain_question q) → IsSettled db (plain_question q) }
+    ensures { (db : List Relation) (q : RawQuestion) → IsWellSorted db q → HasSortedTexts db → HasElements (plain_question q).body → HasPeriods db (plain_question q) → IsSettled db (plain_question q) }
 {}
 
 /// All that the laws above say of the plan of a settled query.

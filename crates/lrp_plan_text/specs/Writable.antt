@@ -8,18 +8,18 @@ use Rattle.lrp_model.specs.declared.plans.StepKind.TheVariants.{Scan, Leaf, Sort
 use Rattle.lrp_model.specs.declared.plans.Step.{Step}
 
 -- the period of an `in` test's point is at least 1
-abbrev pub HasPeriod : Test → Type 0
-HasPeriod (Compare left op right) = Unit {0}
-HasPeriod (Member term point) = pos 1 ≤ℤ point.period
-HasPeriod (Equal left right) = Unit {0}
+abbrev pub TestHasPeriod : Test → Type 0
+TestHasPeriod (Compare left op right) = Unit {0}
+TestHasPeriod (Member term point) = pos 1 ≤ℤ point.period
+TestHasPeriod (Equal left right) = Unit {0}
 
 -- each test of a step has its period
 abbrev pub KindHasPeriods : StepKind → Type 0
 KindHasPeriods (Scan name terms) = Unit {0}
-KindHasPeriods (Leaf t) = HasPeriod t
+KindHasPeriods (Leaf t) = TestHasPeriod t
 KindHasPeriods (Sort v s texts) = Unit {0}
-KindHasPeriods (Join left right tests) = AllByRecursion HasPeriod tests
-KindHasPeriods (Select of t) = HasPeriod t
+KindHasPeriods (Join left right tests) = AllByRecursion TestHasPeriod tests
+KindHasPeriods (Select of t) = TestHasPeriod t
 KindHasPeriods (Union left right) = Unit {0}
 KindHasPeriods (Minus left right) = Unit {0}
 KindHasPeriods (Complement of) = Unit {0}
@@ -27,5 +27,5 @@ KindHasPeriods (DropTime of v) = Unit {0}
 KindHasPeriods (DropData of v) = Unit {0}
 KindHasPeriods (Extend of) = Unit {0}
 
-abbrev pub HasPeriods : Step → Type 0
-HasPeriods s = KindHasPeriods s.kind
+abbrev pub StepHasPeriods : Step → Type 0
+StepHasPeriods s = KindHasPeriods s.kind

@@ -1,12 +1,12 @@
 // The lines of a plan's steps.
 ghost use Rattle.std.specs.Prelude.{◌≡◌, ◌++◌, codes};
 ghost use Rattle.std.specs.List.{AllByRecursion};
-ghost use Rattle.std.specs.Fmt.{decimal, signed_decimal};
+ghost use Rattle.std.specs.Fmt.{decimal};
 ghost use Rattle.lrp_io.specs.Causes.{HasCause};
 ghost use Rattle.lrp_io.specs.Pieces.{IsWritten};
 ghost use Rattle.lrp_model.specs.Printed.{joined_by, sort_bytes};
 ghost use Rattle.lrp_model.specs.PrintedPlans.{term_bytes, test_bytes, leaf_word as word_of_leaf, two_steps, carried_bytes, drop_bytes, kind_bytes, step_line, step_lines, plan_bytes};
-ghost use Rattle.lrp_plan_text.specs.Writable.{HasPeriod, HasPeriods, KindHasPeriods};
+ghost use Rattle.lrp_plan_text.specs.Writable.{TestHasPeriod, StepHasPeriods, KindHasPeriods};
 
 use crate::terms::{leaf_word, write_carried, write_terms, write_test};
 use lrp_io::{Failed, Sink};
@@ -15,7 +15,7 @@ use lrp_print::{write_bytes, write_count, write_integer, write_number, write_sor
 
 /// Writes a plan: for each step a line with its number, its word and operands, its period and its reach. After a failure a front of the text was written.
 pub fn write_plan<S: Sink>(out: &mut S, plan: &Plan) -> Result<(), Failed>
-    requires { AllByRecursion HasPeriods plan.now.steps }
+    requires { AllByRecursion StepHasPeriods plan.now.steps }
     ensures text { IsWritten (S.written out.old) (S.written out.new) (plan_bytes plan.now) result }
     ensures cause { HasCause (S.faults out.old) (S.faults out.new) result }
 {
@@ -23,7 +23,7 @@ pub fn write_plan<S: Sink>(out: &mut S, plan: &Plan) -> Result<(), Failed>
 }
 
 fn write_steps<S: Sink>(out: &mut S, steps: &[Step]) -> Result<(), Failed>
-    requires { AllByRecursion HasPeriods steps.now }
+    requires { AllByRecursion StepHasPeriods steps.now }
     ensures text { IsWritten (S.written out.old) (S.written out.new) (step_lines 1 steps.now) result }
     ensures cause { HasCause (S.faults out.old) (S.faults out.new) result }
 {
@@ -36,7 +36,7 @@ fn write_steps<S: Sink>(out: &mut S, steps: &[Step]) -> Result<(), Failed>
 }
 
 fn write_step<S: Sink>(out: &mut S, number: u64, step: &Step) -> Result<(), Failed>
-    requires { HasPeriods step.now }
+    requires { StepHasPeriods step.now }
     ensures text { IsWritten (S.written out.old) (S.written out.new) (step_line number step.now) result }
     ensures cause { HasCause (S.faults out.old) (S.faults out.new) result }
 {
@@ -85,7 +85,7 @@ fn write_scan<S: Sink>(out: &mut S, relation: &Name, terms: &[Term]) -> Result<(
 
 // A test as a step of its own.
 fn write_leaf<S: Sink>(out: &mut S, test: &Test) -> Result<(), Failed>
-    requires { HasPeriod test.now }
+    requires { TestHasPeriod test.now }
     ensures text { IsWritten (S.written out.old) (S.written out.new) (word_of_leaf test.now ++ test_bytes test.now) result }
     ensures cause { HasCause (S.faults out.old) (S.faults out.new) result }
 {
@@ -107,7 +107,7 @@ fn write_element<S: Sink>(out: &mut S, name: &Name, sort: &Sort) -> Result<(), F
 
 // `join I J`, with the tests that it carries.
 fn write_join<S: Sink>(out: &mut S, left: u32, right: u32, tests: &[Test]) -> Result<(), Failed>
-    requires { AllByRecursion HasPeriod tests.now }
+    requires { AllByRecursion TestHasPeriod tests.now }
     ensures text { IsWritten (S.written out.old) (S.written out.new) (two_steps (codes "join ") left right ++ carried_bytes tests.now) result }
     ensures cause { HasCause (S.faults out.old) (S.faults out.new) result }
 {
@@ -117,7 +117,7 @@ fn write_join<S: Sink>(out: &mut S, left: u32, right: u32, tests: &[Test]) -> Re
 
 // `select I T OP T`.
 fn write_select<S: Sink>(out: &mut S, of: u32, test: &Test) -> Result<(), Failed>
-    requires { HasPeriod test.now }
+    requires { TestHasPeriod test.now }
     ensures text { IsWritten (S.written out.old) (S.written out.new) (codes "select " ++ (decimal of ++ (codes " " ++ test_bytes test.now))) result }
     ensures cause { HasCause (S.faults out.old) (S.faults out.new) result }
 {

@@ -5,7 +5,7 @@ ghost use Rattle.lrp_io.specs.Causes.{HasCause};
 ghost use Rattle.lrp_io.specs.Pieces.{IsWritten};
 ghost use Rattle.lrp_model.specs.Printed.{joined_by, point_bytes, offset_bytes};
 ghost use Rattle.lrp_model.specs.PrintedPlans.{time_bytes, data_bytes, term_bytes, op_bytes, test_bytes, leaf_word as word_of_leaf, carried_bytes};
-ghost use Rattle.lrp_plan_text.specs.Writable.{HasPeriod};
+ghost use Rattle.lrp_plan_text.specs.Writable.{TestHasPeriod};
 
 use lrp_io::{Failed, Sink};
 use lrp_model::{DataTerm, Name, Op, RowPoint, Term, Test, TimeTerm};
@@ -103,7 +103,7 @@ fn write_equality<S: Sink>(out: &mut S, left: &DataTerm, right: &DataTerm) -> Re
 
 /// A test.
 pub(crate) fn write_test<S: Sink>(out: &mut S, test: &Test) -> Result<(), Failed>
-    requires { HasPeriod test.now }
+    requires { TestHasPeriod test.now }
     ensures text { IsWritten (S.written out.old) (S.written out.new) (test_bytes test.now) result }
     ensures cause { HasCause (S.faults out.old) (S.faults out.new) result }
 {
@@ -159,7 +159,7 @@ pub(crate) fn write_terms<S: Sink>(out: &mut S, terms: &[Term]) -> Result<(), Fa
 }
 
 fn write_next_test<S: Sink>(out: &mut S, test: &Test) -> Result<(), Failed>
-    requires { HasPeriod test.now }
+    requires { TestHasPeriod test.now }
     ensures text { IsWritten (S.written out.old) (S.written out.new) (codes ", " ++ test_bytes test.now) result }
     ensures cause { HasCause (S.faults out.old) (S.faults out.new) result }
 {
@@ -169,7 +169,7 @@ fn write_next_test<S: Sink>(out: &mut S, test: &Test) -> Result<(), Failed>
 
 // Tests, with a comma before each.
 fn write_further_tests<S: Sink>(out: &mut S, tests: &[Test]) -> Result<(), Failed>
-    requires { AllByRecursion HasPeriod tests.now }
+    requires { AllByRecursion TestHasPeriod tests.now }
     ensures text { IsWritten (S.written out.old) (S.written out.new) (flat_map (λ x. codes ", " ++ test_bytes x) tests.now) result }
     ensures cause { HasCause (S.faults out.old) (S.faults out.new) result }
 {
@@ -181,7 +181,7 @@ fn write_further_tests<S: Sink>(out: &mut S, tests: &[Test]) -> Result<(), Faile
 
 // Tests, with commas between.
 fn write_tests<S: Sink>(out: &mut S, tests: &[Test]) -> Result<(), Failed>
-    requires { AllByRecursion HasPeriod tests.now }
+    requires { AllByRecursion TestHasPeriod tests.now }
     ensures text { IsWritten (S.written out.old) (S.written out.new) (joined_by (codes ", ") test_bytes tests.now) result }
     ensures cause { HasCause (S.faults out.old) (S.faults out.new) result }
 {
@@ -196,7 +196,7 @@ fn write_tests<S: Sink>(out: &mut S, tests: &[Test]) -> Result<(), Failed>
 
 /// ` where ` and the tests, if there are any.
 pub(crate) fn write_carried<S: Sink>(out: &mut S, tests: &[Test]) -> Result<(), Failed>
-    requires { AllByRecursion HasPeriod tests.now }
+    requires { AllByRecursion TestHasPeriod tests.now }
     ensures text { IsWritten (S.written out.old) (S.written out.new) (carried_bytes tests.now) result }
     ensures cause { HasCause (S.faults out.old) (S.faults out.new) result }
 {

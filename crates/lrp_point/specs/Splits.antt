@@ -8,7 +8,7 @@ split_points zero next step period = []
 split_points (suc left) next step period = point next period ∷ split_points left (next + step) step period
 
 -- what the iterator keeps: the offsets stay below the period
-pub record AreBelow (left next step period : ℕ) : Type 0 where
+pub record StaysBelow (left next step period : ℕ) : Type 0 where
   pub below : (i : ℕ) → i < left → next + i * step < period
   pub step_high : step ≤ 2 ^ 62
   pub period_high : period ≤ 2 ^ 62

@@ -2,7 +2,7 @@
 
 ghost use Rattle.std.specs.Prelude.{◌≡◌, ◌<◌, ◌≤◌, ◌^◌, ◌%◌, ◌↔◌, pos, nat_abs, IfNone, IfSome, IfOk, IsErr, ◌≤ℤ◌, ◌-ℤ◌, ◌*ℤ◌};
 ghost use Rattle.lrp_theory.specs.Divides.{Divides, IsLcm};
-ghost use Rattle.lrp_point.specs.Points.{AreApart, IsMeet, IsLcmAbove, point};
+ghost use Rattle.lrp_point.specs.Points.{AreApart, IsCommonPoint, IsLcmAbove, point};
 
 use crate::point::PeriodLimit;
 use lrp_model::LIMIT;
@@ -43,7 +43,7 @@ pub(crate) fn crossing(c1: u128, k1: u128, c2: u128, k2: u128) -> Option<(u128, 
     requires first_high { k1 ≤ 2 ^ 62 }
     requires second_high { k2 ≤ 2 ^ 62 }
     ensures none { IfNone result (AreApart (point c1 k1) (point c2 k2)) }
-    ensures some { IfSome result (λ r. IsMeet (point c1 k1) (point c2 k2) (point r.0 r.1)) }
+    ensures some { IfSome result (λ r. IsCommonPoint (point c1 k1) (point c2 k2) (point r.0 r.1)) }
 {
     let (g, s) = bezout(k1, k2);
     let apart = (c2 + (k2 - c1 % k2)) % k2;

@@ -21,14 +21,14 @@ use Rattle.lrp_model.specs.declared.written.Located.{Located}
 use Rattle.lrp_model.specs.declared.written.RawBound.{RawBound}
 use Rattle.lrp_model.specs.declared.faults.DbFault.{DbFault}
 use Rattle.lrp_model.specs.declared.faults.DbKind.TheVariants.{Name, Arity, Sort, Column as column_kind, Wide}
-use Rattle.lrp_model.specs.Texts.{Identifier}
-use Rattle.lrp_model.specs.Sorts.{is_time, is_data}
+use Rattle.lrp_model.specs.Texts.{Identifier, AreDistinct}
+use Rattle.lrp_model.specs.Sorts.{is_time, is_data, time_count, text_count}
 use Rattle.lrp_model.specs.Databases.{FitsValue, FitsSide, FitsBound, FitsRow, FitsRelation, FitsDatabase}
 use Rattle.lrp_model.specs.Faults.{fault_if, repeated, ninth, is_named_in}
-use Rattle.lrp_model.specs.DatabaseFaults.{fault, wrong_sorts, unknown, side_faults, row_faults, named_at, relation_faults, faults}
+use Rattle.lrp_model.specs.DatabaseFaults.{database_fault, wrong_sorts, unknown, side_faults, row_faults, named_at, relation_faults, database_faults}
 use Rattle.lrp_model.specs.DatabaseMeaning.{column_of, time_number}
 use Rattle.lrp_model.specs.Printed.{time_name, value_bytes, bound_bytes, column_bytes, row_line, relation_bytes}
-use Rattle.lrp_print.specs.Kept.{AreValuesOf, IsBoundOf, IsRowOf, IsKept, AreKept, Differ, times_in, texts_in}
+use Rattle.lrp_print.specs.Kept.{AreValuesOf, IsBoundOf, IsRowOf, IsKept, AreKept}
 use Rattle.lrp_print.proofs.PieceLaws.{IsShort, short, trees, behind_comma, behind}
 use Rattle.lrp_print.proofs.Trees.{value_at, IsReadable, values_readable, times_cons, side_tree, lower_tree, upper_tree, between_tree, bound_tree, row_tree, row_at, relation_tree}
 use Rattle.lrp_print.proofs.Meant.{trees_all, columns_mean, not_equal, numbered_as, above, period_is}
@@ -53,7 +53,7 @@ side_fits p n (pos (suc a)) h = h
 side_fits p n (negsuc a) h = h
 
 -- a bound is lawful
-bound_fits : (cs : List Column) (b : Bound) (p : Place) → IsBoundOf (times_in cs) b → FitsBound (bound_tree cs p b)
+bound_fits : (cs : List Column) (b : Bound) (p : Place) → IsBoundOf (time_count cs) b → FitsBound (bound_tree cs p b)
 bound_fits cs b p h = by (b.left == 0) (b.right == 0)
   where
     by : (x y : Bool) → FitsBound (if x then lower_tree p (time_name cs b.right) (neg_ℤ b.most) else if y then upper_tree p (time_name cs b.left) b.most else between_tree p (time_name cs b.left) (time_name cs b.right) b.most)
@@ -65,7 +65,7 @@ bound_fits cs b p h = by (b.left == 0) (b.right == 0)
 row_fits : (cs : List Column) (r : Row) (p : Place) → IsRowOf cs r → FitsRow (row_at cs p r).item
 row_fits cs r p h = (
   trees_all (behind_comma value_bytes) value_at IsReadable (λ v. FitsValue v.item) value_fits r.values _ (values_readable cs r.values h.values),
-  trees_all (behind_comma (bound_bytes cs)) (bound_tree cs) (IsBoundOf (times_in cs)) FitsBound (bound_fits cs) r.bounds _ h.bounds,
+  trees_all (behind_comma (bound_bytes cs)) (bound_tree cs) (IsBoundOf (time_count cs)) FitsBound (bound_fits cs) r.bounds _ h.bounds,
 )
 
 -- a relation is lawful
@@ -94,7 +94,7 @@ apart_rest [] n names h = tt
 apart_rest (b ∷ before) n names h = (h.0.1, apart_rest before n names h.1)
 
 -- names that differ are no fault
-none_repeated : (f : Place → DbFault) (before : List Identifier) (ns : List (Located Identifier)) → Apart before (map (λ n. n.item) ns) → Differ (map (λ n. n.item) ns) → repeated f before ns ≡ []
+none_repeated : (f : Place → DbFault) (before : List Identifier) (ns : List (Located Identifier)) → Apart before (map (λ n. n.item) ns) → AreDistinct (map (λ n. n.item) ns) → repeated f before ns ≡ []
 none_repeated f before [] h d = refl
 none_repeated f before (n ∷ ns) h d =
     let names = map (λ k. k.item) ns in
@@ -113,7 +113,7 @@ relation_names next (r ∷ rs) p = ap (λ l. r.name ∷ l) (relation_names next 
 -- ---- few columns
 
 -- at most eight are no fault
-none_ninth : (f : Place → DbFault) (times texts : ℕ) (cs : List RawColumn) → times + times_in (map column_of cs) ≤ 8 → texts + texts_in (map column_of cs) ≤ 8 → ninth f times texts cs ≡ []
+none_ninth : (f : Place → DbFault) (times texts : ℕ) (cs : List RawColumn) → times + time_count (map column_of cs) ≤ 8 → texts + text_count (map column_of cs) ≤ 8 → ninth f times texts cs ≡ []
 none_ninth f times texts [] le less = refl
 none_ninth f times texts (c ∷ cs) le less = by (is_time c.sort) refl (λ m n. none_ninth f m n cs)
   where
@@ -123,20 +123,20 @@ none_ninth f times texts (c ∷ cs) le less = by (is_time c.sort) refl (λ m n. 
     ds : List Column
     ds = map column_of cs
 
-    more_times : times_in (column_of c ∷ ds) ≡ (if is_time c.sort then 1 else 0) + times_in ds
+    more_times : time_count (column_of c ∷ ds) ≡ (if is_time c.sort then 1 else 0) + time_count ds
     more_times = times_cons (column_of c) ds
 
-    more_texts : texts_in (column_of c ∷ ds) ≡ (if not (is_time c.sort) then 1 else 0) + texts_in ds
+    more_texts : text_count (column_of c ∷ ds) ≡ (if not (is_time c.sort) then 1 else 0) + text_count ds
     more_texts = sum_by-cons (λ x. if is_data x.sort then 1 else 0) (column_of c) ds
 
-    by : (x : Bool) → is_time c.sort ≡ x → ((m n : ℕ) → m + times_in ds ≤ 8 → n + texts_in ds ≤ 8 → ninth f m n cs ≡ []) → (if x then fault_if (times == 8) (f c.place) ++ ninth f (times + 1) texts cs else fault_if (texts == 8) (f c.place) ++ ninth f times (texts + 1) cs) ≡ []
+    by : (x : Bool) → is_time c.sort ≡ x → ((m n : ℕ) → m + time_count ds ≤ 8 → n + text_count ds ≤ 8 → ninth f m n cs ≡ []) → (if x then fault_if (times == 8) (f c.place) ++ ninth f (times + 1) texts cs else fault_if (texts == 8) (f c.place) ++ ninth f times (texts + 1) cs) ≡ []
     by true e again =
-        let one : times_in (column_of c ∷ ds) ≡ 1 + times_in ds = more_times ∙ ap (λ b. (if b then 1 else 0) + times_in ds) e in
-        let two : texts_in (column_of c ∷ ds) ≡ 0 + texts_in ds = more_texts ∙ ap (λ b. (if not b then 1 else 0) + texts_in ds) e in
+        let one : time_count (column_of c ∷ ds) ≡ 1 + time_count ds = more_times ∙ ap (λ b. (if b then 1 else 0) + time_count ds) e in
+        let two : text_count (column_of c ∷ ds) ≡ 0 + text_count ds = more_texts ∙ ap (λ b. (if not b then 1 else 0) + text_count ds) e in
         ap (λ b. fault_if b (f c.place) ++ ninth f (times + 1) texts cs) (not_eight times (omega (arith, one, le))) ∙ again (times + 1) texts (omega (arith, one, le)) (omega (arith, two, less))
     by false e again =
-        let one : times_in (column_of c ∷ ds) ≡ 0 + times_in ds = more_times ∙ ap (λ b. (if b then 1 else 0) + times_in ds) e in
-        let two : texts_in (column_of c ∷ ds) ≡ 1 + texts_in ds = more_texts ∙ ap (λ b. (if not b then 1 else 0) + texts_in ds) e in
+        let one : time_count (column_of c ∷ ds) ≡ 0 + time_count ds = more_times ∙ ap (λ b. (if b then 1 else 0) + time_count ds) e in
+        let two : text_count (column_of c ∷ ds) ≡ 1 + text_count ds = more_texts ∙ ap (λ b. (if not b then 1 else 0) + text_count ds) e in
         ap (λ b. fault_if b (f c.place) ++ ninth f times (texts + 1) cs) (not_eight texts (omega (arith, two, less))) ∙ again times (texts + 1) (omega (arith, one, le)) (omega (arith, two, less))
 
 -- ---- rows
@@ -153,10 +153,10 @@ none_wrong next [] (v ∷ vs) p h = absurd h
 none_wrong next (c ∷ cs) [] p h = absurd h
 none_wrong next (c ∷ cs) (Point at ∷ vs) p h =
     let q = next p (Point at) in
-    ap (λ b. fault_if (not b) (fault Sort p) ++ wrong_sorts cs (trees next value_at q vs)) h.0.0 ∙ none_wrong next cs vs q h.1
+    ap (λ b. fault_if (not b) (database_fault Sort p) ++ wrong_sorts cs (trees next value_at q vs)) h.0.0 ∙ none_wrong next cs vs q h.1
 none_wrong next (c ∷ cs) (Const t ∷ vs) p h =
     let q = next p (Const t) in
-    ap (λ b. fault_if (not (not b)) (fault Sort p) ++ wrong_sorts cs (trees next value_at q vs)) h.0.0 ∙ none_wrong next cs vs q h.1
+    ap (λ b. fault_if (not (not b)) (database_fault Sort p) ++ wrong_sorts cs (trees next value_at q vs)) h.0.0 ∙ none_wrong next cs vs q h.1
 
 -- there are as many values as columns
 as_many : (next : Place → Value → Place) (cs : List RawColumn) (vs : List Value) (p : Place) → AreValuesOf (map column_of cs) vs → length (trees next value_at p vs) ≡ length cs
@@ -172,7 +172,7 @@ same_number n m e = grind (arith, nat_tests)
 
 -- a column with a number is known
 known : (raw : List RawColumn) (n : Located Identifier) (i : ℕ) → time_number 0 raw n.item ≡ i → 0 < i → unknown raw n ≡ []
-known raw n i e some = ap (λ b. fault_if b (fault column_kind n.place)) (not_zero (time_number 0 raw n.item) (omega (arith, e)))
+known raw n i e some = ap (λ b. fault_if b (database_fault column_kind n.place)) (not_zero (time_number 0 raw n.item) (omega (arith, e)))
   where
     not_zero : (k : ℕ) → 0 < k → (k == 0) ≡ false
     not_zero k h = grind (arith, nat_tests)
@@ -184,7 +184,7 @@ side_known raw p n (pos (suc a)) i e some = known raw (record { place = p; item 
 side_known raw p n (negsuc a) i e some = known raw (record { place = p; item = n }) i e some
 
 -- a bound has no fault
-bound_known : (raw : List RawColumn) (cs : List Column) → map column_of raw ≡ cs → Differ (map (λ c. c.name) cs) → (b : Bound) (p : Place) → IsBoundOf (times_in cs) b → unknown raw (bound_tree cs p b).left ++ side_faults raw (bound_tree cs p b).side ≡ []
+bound_known : (raw : List RawColumn) (cs : List Column) → map column_of raw ≡ cs → AreDistinct (map (λ c. c.name) cs) → (b : Bound) (p : Place) → IsBoundOf (time_count cs) b → unknown raw (bound_tree cs p b).left ++ side_faults raw (bound_tree cs p b).side ≡ []
 bound_known raw cs e differ b p h = by (b.left == 0) (b.right == 0) refl refl
   where
     some : 0 < b.left + b.right
@@ -210,7 +210,7 @@ bound_known raw cs e differ b p h = by (b.left == 0) (b.right == 0) refl refl
         ∙ side_known raw _ (time_name cs b.right) b.most b.right (numbered_as raw cs b.right e differ right h.right) right
 
 -- a row has no fault
-row_sound : (raw : List RawColumn) (cs : List Column) → map column_of raw ≡ cs → Differ (map (λ c. c.name) cs) → (r : Row) (p : Place) → IsRowOf cs r → row_faults raw (row_at cs p r) ≡ []
+row_sound : (raw : List RawColumn) (cs : List Column) → map column_of raw ≡ cs → AreDistinct (map (λ c. c.name) cs) → (r : Row) (p : Place) → IsRowOf cs r → row_faults raw (row_at cs p r) ≡ []
 row_sound raw cs e differ r p h =
     let tree = row_tree cs p r in
     let P : List Column → Type 0 = λ ds. AreValuesOf ds r.values in
@@ -218,8 +218,8 @@ row_sound raw cs e differ r p h =
     let sorts = wrong_sorts raw tree.values in
     let names = flat_map (λ b. unknown raw b.left ++ side_faults raw b.side) tree.bounds in
     let arity : (length tree.values == length raw) ≡ true = same_number (length tree.values) (length raw) (as_many (behind_comma value_bytes) raw r.values _ values) in
-    ap (λ b. fault_if (not b) (fault Arity (row_at cs p r).place) ++ sorts ++ names) arity ∙ ap (λ l. l ++ names) (none_wrong (behind_comma value_bytes) raw r.values _ values)
-    ∙ none_together (behind_comma (bound_bytes cs)) (bound_tree cs) (λ b. unknown raw b.left ++ side_faults raw b.side) (IsBoundOf (times_in cs)) (bound_known raw cs e differ) r.bounds _ h.bounds
+    ap (λ b. fault_if (not b) (database_fault Arity (row_at cs p r).place) ++ sorts ++ names) arity ∙ ap (λ l. l ++ names) (none_wrong (behind_comma value_bytes) raw r.values _ values)
+    ∙ none_together (behind_comma (bound_bytes cs)) (bound_tree cs) (λ b. unknown raw b.left ++ side_faults raw b.side) (IsBoundOf (time_count cs)) (bound_known raw cs e differ) r.bounds _ h.bounds
 
 -- ---- relations
 
@@ -228,18 +228,18 @@ relation_sound : (r : Relation) (p : Place) → IsKept r → relation_faults (re
 relation_sound r p k =
     let tree = relation_tree p r in
     let columns : map column_of tree.columns ≡ r.columns = columns_mean (behind_comma column_bytes) r.columns _ in
-    let wide = ninth (fault Wide) 0 0 tree.columns in
+    let wide = ninth (database_fault Wide) 0 0 tree.columns in
     let rows = flat_map (row_faults tree.columns) tree.rows in
     let names : map (λ n. n.item) (map named_at tree.columns) ≡ map (λ c. c.name) r.columns = column_names tree.columns ∙ ap (map (λ c. c.name)) columns in
-    let few : (times_in (map column_of tree.columns) ≤ 8) × (texts_in (map column_of tree.columns) ≤ 8) = subst (λ ds. (times_in ds ≤ 8) × (texts_in ds ≤ 8)) (sym columns) (k.times, k.texts) in
-    ap (λ l. l ++ wide ++ rows) (none_repeated (fault Name) [] (map named_at tree.columns) tt (subst Differ (sym names) k.differ))
-    ∙ ap (λ l. l ++ rows) (none_ninth (fault Wide) 0 0 tree.columns (omega (arith, few.0)) (omega (arith, few.1)))
+    let few : (time_count (map column_of tree.columns) ≤ 8) × (text_count (map column_of tree.columns) ≤ 8) = subst (λ ds. (time_count ds ≤ 8) × (text_count ds ≤ 8)) (sym columns) (k.times, k.texts) in
+    ap (λ l. l ++ wide ++ rows) (none_repeated (database_fault Name) [] (map named_at tree.columns) tt (subst AreDistinct (sym names) k.differ))
+    ∙ ap (λ l. l ++ rows) (none_ninth (database_fault Wide) 0 0 tree.columns (omega (arith, few.0)) (omega (arith, few.1)))
     ∙ none_together (behind (row_line r.columns)) (row_at r.columns) (row_faults tree.columns) (IsRowOf r.columns) (row_sound tree.columns r.columns columns k.differ) r.rows _ k.rows
 
 -- relations whose names differ have no fault
-pub relations_sound : (rs : List Relation) (p : Place) → AreKept rs → faults (trees (behind relation_bytes) relation_tree p rs) ≡ []
+pub relations_sound : (rs : List Relation) (p : Place) → AreKept rs → database_faults (trees (behind relation_bytes) relation_tree p rs) ≡ []
 relations_sound rs p k =
     let all = trees (behind relation_bytes) relation_tree p rs in
     let names : map (λ n. n.item) (map (λ r. r.name) all) ≡ map (λ r. r.name) rs = relation_names (behind relation_bytes) rs p in
-    ap (λ l. l ++ flat_map relation_faults all) (none_repeated (fault Name) [] (map (λ r. r.name) all) tt (subst Differ (sym names) k.differ))
+    ap (λ l. l ++ flat_map relation_faults all) (none_repeated (database_fault Name) [] (map (λ r. r.name) all) tt (subst AreDistinct (sym names) k.differ))
     ∙ none_together (behind relation_bytes) relation_tree relation_faults IsKept relation_sound rs p k.each

@@ -17,11 +17,11 @@ use Rattle.lrp_model.specs.declared.relations.Row.{Row}
 use Rattle.lrp_model.specs.declared.relations.Relation.{Relation}
 use Rattle.lrp_model.specs.declared.raw.RawColumn.{RawColumn}
 use Rattle.lrp_model.specs.declared.written.BoundOp.TheVariants.{AtMost}
-use Rattle.lrp_model.specs.Texts.{Identifier}
-use Rattle.lrp_model.specs.Sorts.{is_time}
+use Rattle.lrp_model.specs.Texts.{Identifier, AreDistinct}
+use Rattle.lrp_model.specs.Sorts.{is_time, time_count}
 use Rattle.lrp_model.specs.Printed.{time_name, value_bytes, bound_bytes, column_bytes, row_line, relation_bytes}
 use Rattle.lrp_model.specs.DatabaseMeaning.{integer_of, column_of, time_number, value_of, bound_of, instant_bounds, side_bounds, kept_bounds, row_of, relation_of, database_of}
-use Rattle.lrp_print.specs.Kept.{IsBoundOf, IsRowOf, IsKept, Differ, times_in}
+use Rattle.lrp_print.specs.Kept.{IsBoundOf, IsRowOf, IsKept}
 use Rattle.lrp_print.proofs.PieceLaws.{written, trees, behind_comma, behind}
 use Rattle.lrp_print.proofs.Trees.{value_at, IsReadable, values_readable, column_tree, times_cons, side_tree, lower_tree, upper_tree, between_tree, bound_tree, bound_trees, row_tree, row_at, relation_tree}
 
@@ -87,21 +87,21 @@ not_one : (i : ℕ) → (i == 1) ≡ false → i ≢ 1
 not_one i e = grind (arith, nat_tests)
 
 -- a name that differs from those of all columns differs from that of a time column
-other_name : (n : Identifier) (cs : List Column) (i : ℕ) → AllByRecursion (λ m. n ≢ m) (map (λ c. c.name) cs) → 0 < i → i ≤ times_in cs → n ≢ time_name cs i
+other_name : (n : Identifier) (cs : List Column) (i : ℕ) → AllByRecursion (λ m. n ≢ m) (map (λ c. c.name) cs) → 0 < i → i ≤ time_count cs → n ≢ time_name cs i
 other_name n [] i h some le = absurd (omega arith)
 other_name n (c ∷ cs) i h some le = by (is_time c.sort) (i == 1) refl refl (λ k more_than few. other_name n cs k h.1 more_than few)
   where
-    more : times_in (c ∷ cs) ≡ (if is_time c.sort then 1 else 0) + times_in cs
+    more : time_count (c ∷ cs) ≡ (if is_time c.sort then 1 else 0) + time_count cs
     more = times_cons c cs
 
-    by : (x y : Bool) → is_time c.sort ≡ x → (i == 1) ≡ y → ((k : ℕ) → 0 < k → k ≤ times_in cs → n ≢ time_name cs k) → n ≢ (if x then (if y then c.name else time_name cs (i - 1)) else time_name cs i)
+    by : (x y : Bool) → is_time c.sort ≡ x → (i == 1) ≡ y → ((k : ℕ) → 0 < k → k ≤ time_count cs → n ≢ time_name cs k) → n ≢ (if x then (if y then c.name else time_name cs (i - 1)) else time_name cs i)
     by true true e d again = h.0
     by true false e d again =
         let one = not_one i d in
-        let size : times_in (c ∷ cs) ≡ 1 + times_in cs = more ∙ ap (λ b. (if b then 1 else 0) + times_in cs) e in
+        let size : time_count (c ∷ cs) ≡ 1 + time_count cs = more ∙ ap (λ b. (if b then 1 else 0) + time_count cs) e in
         again (i - 1) (omega (arith, one, some)) (omega (arith, size, le, some))
     by false y e d again =
-        let size : times_in (c ∷ cs) ≡ 0 + times_in cs = more ∙ ap (λ b. (if b then 1 else 0) + times_in cs) e in
+        let size : time_count (c ∷ cs) ≡ 0 + time_count cs = more ∙ ap (λ b. (if b then 1 else 0) + time_count cs) e in
         again i some (omega (arith, size, le))
 
 -- two names that differ
@@ -113,14 +113,14 @@ not_equal n m ne = by (bytes_eq n m) refl
     by false e = e
 
 -- the name of a time column has its number
-numbered : (cs : List RawColumn) (before i : ℕ) → Differ (map (λ c. c.name) (map column_of cs)) → 0 < i → i ≤ times_in (map column_of cs) → time_number before cs (time_name (map column_of cs) i) ≡ before + i
+numbered : (cs : List RawColumn) (before i : ℕ) → AreDistinct (map (λ c. c.name) (map column_of cs)) → 0 < i → i ≤ time_count (map column_of cs) → time_number before cs (time_name (map column_of cs) i) ≡ before + i
 numbered [] before i h some le = absurd (omega arith)
 numbered (c ∷ cs) before i h some le = by (is_time c.sort) (i == 1) refl refl (λ from k more_than few. numbered cs from k h.1 more_than few)
   where
-    more : times_in (map column_of (c ∷ cs)) ≡ (if is_time c.sort then 1 else 0) + times_in (map column_of cs)
+    more : time_count (map column_of (c ∷ cs)) ≡ (if is_time c.sort then 1 else 0) + time_count (map column_of cs)
     more = times_cons (column_of c) (map column_of cs)
 
-    by : (x y : Bool) → is_time c.sort ≡ x → (i == 1) ≡ y → ((from k : ℕ) → 0 < k → k ≤ times_in (map column_of cs) → time_number from cs (time_name (map column_of cs) k) ≡ from + k)
+    by : (x y : Bool) → is_time c.sort ≡ x → (i == 1) ≡ y → ((from k : ℕ) → 0 < k → k ≤ time_count (map column_of cs) → time_number from cs (time_name (map column_of cs) k) ≡ from + k)
         → (let n = if x then (if y then c.name else time_name (map column_of cs) (i - 1)) else time_name (map column_of cs) i in (if x then (if bytes_eq c.name n then before + 1 else time_number (before + 1) cs n) else time_number before cs n) ≡ before + i)
     by true true e d again =
         let one : i ≡ 1 = eqb-true i 1 d in
@@ -128,18 +128,18 @@ numbered (c ∷ cs) before i h some le = by (is_time c.sort) (i == 1) refl refl 
     by true false e d again =
         let one = not_one i d in
         let n = time_name (map column_of cs) (i - 1) in
-        let size : times_in (map column_of (c ∷ cs)) ≡ 1 + times_in (map column_of cs) = more ∙ ap (λ b. (if b then 1 else 0) + times_in (map column_of cs)) e in
+        let size : time_count (map column_of (c ∷ cs)) ≡ 1 + time_count (map column_of cs) = more ∙ ap (λ b. (if b then 1 else 0) + time_count (map column_of cs)) e in
         let another : c.name ≢ n = other_name c.name (map column_of cs) (i - 1) h.0 (omega (arith, one, some)) (omega (arith, size, le, some)) in
         let rest = again (before + 1) (i - 1) (omega (arith, one, some)) (omega (arith, size, le, some)) in
         ap (λ b. if b then before + 1 else time_number (before + 1) cs n) (not_equal c.name n another) ∙ rest ∙ omega (arith, some)
     by false y e d again =
-        let size : times_in (map column_of (c ∷ cs)) ≡ 0 + times_in (map column_of cs) = more ∙ ap (λ b. (if b then 1 else 0) + times_in (map column_of cs)) e in
+        let size : time_count (map column_of (c ∷ cs)) ≡ 0 + time_count (map column_of cs) = more ∙ ap (λ b. (if b then 1 else 0) + time_count (map column_of cs)) e in
         again before i some (omega (arith, size, le))
 
 -- the same by the columns that are meant
-pub numbered_as : (raw : List RawColumn) (cs : List Column) (i : ℕ) → map column_of raw ≡ cs → Differ (map (λ c. c.name) cs) → 0 < i → i ≤ times_in cs → time_number 0 raw (time_name cs i) ≡ i
+pub numbered_as : (raw : List RawColumn) (cs : List Column) (i : ℕ) → map column_of raw ≡ cs → AreDistinct (map (λ c. c.name) cs) → 0 < i → i ≤ time_count cs → time_number 0 raw (time_name cs i) ≡ i
 numbered_as raw cs i e =
-    let P : List Column → Type 0 = λ ds. Differ (map (λ c. c.name) ds) → 0 < i → i ≤ times_in ds → time_number 0 raw (time_name ds i) ≡ i in
+    let P : List Column → Type 0 = λ ds. AreDistinct (map (λ c. c.name) ds) → 0 < i → i ≤ time_count ds → time_number 0 raw (time_name ds i) ≡ i in
     subst P e (λ d some le. numbered raw 0 i d some le ∙ omega arith)
 
 -- ---- bounds
@@ -159,7 +159,7 @@ pub above : (i : ℕ) → (i == 0) ≡ false → 0 < i
 above i e = grind (arith, nat_tests)
 
 -- a bound
-bound_means : (raw : List RawColumn) (cs : List Column) → map column_of raw ≡ cs → Differ (map (λ c. c.name) cs) → (b : Bound) (p : Place) → IsBoundOf (times_in cs) b → kept_bounds raw (bound_tree cs p b) ≡ b ∷ []
+bound_means : (raw : List RawColumn) (cs : List Column) → map column_of raw ≡ cs → AreDistinct (map (λ c. c.name) cs) → (b : Bound) (p : Place) → IsBoundOf (time_count cs) b → kept_bounds raw (bound_tree cs p b) ≡ b ∷ []
 bound_means raw cs e differ b p h = by (b.left == 0) (b.right == 0) refl refl
   where
     some : 0 < b.left + b.right
@@ -182,7 +182,7 @@ bound_means raw cs e differ b p h = by (b.left == 0) (b.right == 0) refl refl
         side_means raw _ _ _ b.most ∙ ap (λ x. x ∷ []) (bound_is b _ _ b.most left right refl)
 
 -- bounds
-bounds_mean : (raw : List RawColumn) (cs : List Column) → map column_of raw ≡ cs → Differ (map (λ c. c.name) cs) → (bs : List Bound) (p : Place) → AllByRecursion (IsBoundOf (times_in cs)) bs → flat_map (kept_bounds raw) (bound_trees cs p bs) ≡ bs
+bounds_mean : (raw : List RawColumn) (cs : List Column) → map column_of raw ≡ cs → AreDistinct (map (λ c. c.name) cs) → (bs : List Bound) (p : Place) → AllByRecursion (IsBoundOf (time_count cs)) bs → flat_map (kept_bounds raw) (bound_trees cs p bs) ≡ bs
 bounds_mean raw cs e differ [] p h = refl
 bounds_mean raw cs e differ (b ∷ bs) p h =
     let q = behind_comma (bound_bytes cs) p b in
@@ -191,7 +191,7 @@ bounds_mean raw cs e differ (b ∷ bs) p h =
 -- ---- rows and relations
 
 -- a row
-row_means : (raw : List RawColumn) (cs : List Column) → map column_of raw ≡ cs → Differ (map (λ c. c.name) cs) → (r : Row) (p : Place) → IsRowOf cs r → row_of raw (row_at cs p r).item ≡ reduced_row r
+row_means : (raw : List RawColumn) (cs : List Column) → map column_of raw ≡ cs → AreDistinct (map (λ c. c.name) cs) → (r : Row) (p : Place) → IsRowOf cs r → row_of raw (row_at cs p r).item ≡ reduced_row r
 row_means raw cs e differ r p h =
     let tree = row_tree cs p r in
     let values : map (λ v. value_of v.item) tree.values ≡ map reduced_value r.values = trees_map (behind_comma value_bytes) value_at (λ v. value_of v.item) reduced_value IsReadable value_means r.values _ (values_readable cs r.values h.values) in

@@ -11,11 +11,11 @@ use Rattle.lrp_model.specs.declared.tokens.Word.{Word}
 use Rattle.lrp_model.specs.declared.tokens.Word.TheVariants.{Relation, Where, Time, Data, Letter}
 use Rattle.lrp_model.specs.declared.written.Integer.{Integer}
 use Rattle.lrp_model.specs.Texts.{Identifier}
-use Rattle.lrp_model.specs.Tokens.{Token, Part, from, joined, separated}
+use Rattle.lrp_model.specs.Tokens.{Token, Part, from, joined_parts, separated}
 use Rattle.lrp_model.specs.Tokens.Token.{name_token, word_token, number_token, text_token, symbol_token}
 use Rattle.lrp_model.specs.Tokens.Part.{at, any}
 use Rattle.lrp_model.specs.Databases.{comma, integer_text}
-use Rattle.lrp_model.specs.Lexing.{limit, is_letter, is_digit, is_name_byte, run, value_from, word_or_name, scan, symbol_from, after}
+use Rattle.lrp_model.specs.Lexing.{greatest_number, is_letter, is_digit, is_name_byte, run, value_from, word_or_name, scan, symbol_from, after}
 use Rattle.lrp_model.specs.Printed.{joined_by, quoted, escaped}
 use Rattle.lrp_model.specs.Names.{IsName}
 use Rattle.lrp_print.proofs.Spelling.{Spelled, Begins, took, nothing, both, token_at, token_any, blank}
@@ -157,10 +157,10 @@ written (negsuc n) = record { negative = true; size = suc n }
 
 -- an integer of a magnitude of at most 2 ^ 62
 abbrev pub IsShort : ℤ → Type 0
-IsShort z = (written z).size ≤ limit
+IsShort z = (written z).size ≤ greatest_number
 
 -- between the limits an integer is short
-pub short : (z : ℤ) → neg_ℤ (pos limit) ≤ℤ z → z ≤ℤ pos limit → IsShort z
+pub short : (z : ℤ) → neg_ℤ (pos greatest_number) ≤ℤ z → z ≤ℤ pos greatest_number → IsShort z
 short (pos n) low high = omega (arith, ints)
 short (negsuc n) low high = omega (arith, ints)
 
@@ -209,7 +209,7 @@ separated_spelled text tree bytes P one (a ∷ b ∷ all) p rest h s =
 -- elements one after the other
 pub joined_spelled : {A B : Type 0} (text : B → List Part) (tree : Place → A → B) (bytes : A → List ℕ) (P : A → Type 0)
     → ((a : A) (p : Place) (rest : List ℕ) → P a → Spelled (text (tree p a)) p (bytes a) rest)
-    → (all : List A) (p : Place) (rest : List ℕ) → AllByRecursion P all → Spelled (joined text (trees (behind bytes) tree p all)) p (flat_map bytes all) rest
+    → (all : List A) (p : Place) (rest : List ℕ) → AllByRecursion P all → Spelled (joined_parts text (trees (behind bytes) tree p all)) p (flat_map bytes all) rest
 joined_spelled text tree bytes P one [] p rest h = nothing p rest
 joined_spelled text tree bytes P one (a ∷ all) p rest h =
     both (one a p (flat_map bytes all ++ rest) h.0) (joined_spelled text tree bytes P one all (after p (bytes a)) rest h.1)

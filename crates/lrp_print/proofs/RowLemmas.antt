@@ -3,15 +3,16 @@ use Rattle.std.proofs.Common.{◌≡◌, ◌≤◌, codes, length, arith, List, 
 use Rattle.std.specs.Prelude.{◌≤ℤ◌, pos, neg_ℤ}
 use Rattle.std.specs.List.{flat_map, AllByRecursion}
 use Rattle.lrp_model.specs.Printed.{joined_by, row_line, bound_bytes, bounds_bytes}
-use Rattle.lrp_model.specs.Lexing.{limit}
+use Rattle.lrp_model.specs.Lexing.{greatest_number}
 use Rattle.lrp_model.specs.declared.relations.Bound.{Bound}
 use Rattle.lrp_model.specs.declared.relations.Column.{Column}
 use Rattle.lrp_model.specs.declared.relations.Value.{Value}
 use Rattle.lrp_model.specs.declared.relations.Value.TheVariants.{Point, Const}
 use Rattle.lrp_model.specs.declared.relations.Row.{Row}
 use Rattle.lrp_model.specs.declared.relations.Relation.{Relation}
-use Rattle.lrp_print.specs.Kept.{HasPeriod, IsWritable, AreValuesOf, IsBoundOf, IsRowOf, IsKept, times_in}
+use Rattle.lrp_print.specs.Kept.{HasLowPeriod, IsWritable, AreValuesOf, IsBoundOf, IsRowOf, IsKept}
 use Rattle.lrp_print.proofs.Lines.{all_as}
+use Rattle.lrp_model.specs.Sorts.{time_count}
 
 -- the lines of rows that are spelled in another way
 pub rows_as : (cs ds : List Column) (rs ss : List Row) → cs ≡ ds → rs ≡ ss → flat_map (row_line cs) rs ≡ flat_map (row_line ds) ss
@@ -23,7 +24,7 @@ some_conditions cs [] lt = absurd (omega arith)
 some_conditions cs (b ∷ bs) lt = refl
 
 -- values of columns have periods
-periods : (cs : List Column) (vs : List Value) → AreValuesOf cs vs → AllByRecursion HasPeriod vs
+periods : (cs : List Column) (vs : List Value) → AreValuesOf cs vs → AllByRecursion HasLowPeriod vs
 periods [] [] h = tt
 periods [] (v ∷ vs) h = absurd h
 periods (c ∷ cs) [] h = absurd h
@@ -32,7 +33,7 @@ periods (c ∷ cs) (Const t ∷ vs) h = (tt, periods cs vs h.1)
 
 -- the rows that are kept can be written
 pub kept_writable : (r : Relation) → IsKept r → AllByRecursion IsWritable r.rows
-kept_writable r k = all_as (IsRowOf r.columns) IsWritable (λ row h. record { values = periods r.columns row.values h.values; bounds = all_as (IsBoundOf (times_in r.columns)) (λ b. neg_ℤ (pos limit) ≤ℤ b.most) (λ b g. g.low) row.bounds h.bounds }) r.rows k.rows
+kept_writable r k = all_as (IsRowOf r.columns) IsWritable (λ row h. record { values = periods r.columns row.values h.values; bounds = all_as (IsBoundOf (time_count r.columns)) (λ b. neg_ℤ (pos greatest_number) ≤ℤ b.most) (λ b g. g.low) row.bounds h.bounds }) r.rows k.rows
 
 -- what a read past the end of a list of bounds gives
 abbrev pub no_bound : Bound

@@ -14,7 +14,7 @@ use Rattle.lrp_model.specs.Texts.{Identifier}
 use Rattle.lrp_model.specs.Tokens.{Token}
 use Rattle.lrp_model.specs.Tokens.Token.{name_token, number_token, text_token}
 use Rattle.lrp_model.specs.Printed.{escaped, quoted}
-use Rattle.lrp_model.specs.Lexing.{is_letter, is_digit, is_name_byte, is_forbidden, run, behind_run, value_from, word_or_name, Scanned, Text as TextRead, text_from, text_scanned, one, one_or_two, symbol_from, scan}
+use Rattle.lrp_model.specs.Lexing.{is_letter, is_digit, is_name_byte, is_forbidden, run, behind_run, value_from, word_or_name, Scanned, QuotedText as TextRead, text_from, text_scanned, one, one_or_two, symbol_from, scan}
 use Rattle.lrp_text.proofs.Scans.{chosen}
 use Rattle.lrp_model.specs.Names.{IsName}
 use Rattle.lrp_print.proofs.Spelling.{took, Begins}

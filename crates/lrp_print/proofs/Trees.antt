@@ -32,16 +32,16 @@ use Rattle.lrp_model.specs.declared.written.RawRow.{RawRow}
 use Rattle.lrp_model.specs.declared.written.RawRelation.{RawRelation}
 use Rattle.lrp_model.specs.Texts.{Identifier}
 use Rattle.lrp_model.specs.DataTexts.{IsDataText}
-use Rattle.lrp_model.specs.Sorts.{is_time}
-use Rattle.lrp_model.specs.Tokens.{from, located_text, joined}
+use Rattle.lrp_model.specs.Sorts.{is_time, time_count}
+use Rattle.lrp_model.specs.Tokens.{from, located_text, joined_parts}
 use Rattle.lrp_model.specs.Tokens.Token.{word_token, number_token, symbol_token}
 use Rattle.lrp_model.specs.Tokens.Part.{at, any}
 use Rattle.lrp_model.specs.Columns.{column_text, sort_token}
 use Rattle.lrp_model.specs.Databases.{value_text, side_text, bound_text, bounds_text, row_text, relation_text}
-use Rattle.lrp_model.specs.Lexing.{limit, is_letter, is_digit, is_name_byte, after}
+use Rattle.lrp_model.specs.Lexing.{greatest_number, is_letter, is_digit, is_name_byte, after}
 use Rattle.lrp_model.specs.Printed.{joined_by, value_bytes, column_bytes, sort_bytes, time_name, offset_bytes, bound_bytes, bounds_bytes, row_line, relation_bytes}
 use Rattle.lrp_model.specs.Names.{IsName, IsNamedSort, AreNamed}
-use Rattle.lrp_print.specs.Kept.{AreValuesOf, IsBoundOf, IsRowOf, IsKept, times_in}
+use Rattle.lrp_print.specs.Kept.{AreValuesOf, IsBoundOf, IsRowOf, IsKept}
 use Rattle.lrp_print.proofs.Spelling.{Spelled, nothing, both}
 use Rattle.lrp_print.proofs.Scanned.{Stops, IsPlain}
 use Rattle.lrp_print.proofs.PieceLaws.{space, feed, open_at, open_any, close, open_brace, close_brace, colon, semicolon, plus, minus, at_most, at_least, relation_word, where_word, letter_word, time_at, data_at, name_at, number_any, written, IsShort, short, integer_any, integer_at, text_at, trees, behind_comma, behind, separated_spelled, joined_spelled}
@@ -59,7 +59,7 @@ value_at p v = record { place = p; item = value_tree v }
 
 -- a point whose period is from 1 to 2 ^ 62, or a data text
 abbrev pub IsReadable : Value → Type 0
-IsReadable (Point p) = (pos 1 ≤ℤ p.period) × (p.period ≤ℤ pos limit)
+IsReadable (Point p) = (pos 1 ≤ℤ p.period) × (p.period ≤ℤ pos greatest_number)
 IsReadable (Const t) = IsDataText t
 
 -- bytes of a text are plain
@@ -80,7 +80,7 @@ digit_stops (b ∷ rest) s = by (is_letter b) (is_digit b) s
     by true y e = absurd cc
 
 -- the period of a point
-period_spelled : (k : ℤ) (p : Place) (rest : List ℕ) → pos 1 ≤ℤ k → k ≤ℤ pos limit → Stops is_name_byte rest
+period_spelled : (k : ℤ) (p : Place) (rest : List ℕ) → pos 1 ≤ℤ k → k ≤ℤ pos greatest_number → Stops is_name_byte rest
     → Spelled (any (symbol_token Plus) ∷ any (number_token (unsigned_abs k)) ∷ any (word_token Letter) ∷ []) p (codes "+" ++ (signed_decimal k ++ codes "n")) rest
 period_spelled (pos k) p rest low high s =
     let q = after p (codes "+") in
@@ -88,7 +88,7 @@ period_spelled (pos k) p rest low high s =
 period_spelled (negsuc k) p rest low high s = absurd (omega (arith, ints))
 
 -- a point
-point_spelled : (z k : ℤ) (p : Place) (rest : List ℕ) → IsShort z → pos 1 ≤ℤ k → k ≤ℤ pos limit → Stops is_name_byte rest
+point_spelled : (z k : ℤ) (p : Place) (rest : List ℕ) → IsShort z → pos 1 ≤ℤ k → k ≤ℤ pos greatest_number → Stops is_name_byte rest
     → Spelled (from p (value_text (written_point (written z) (unsigned_abs k)))) p (signed_decimal z ++ (codes "+" ++ (signed_decimal k ++ codes "n"))) rest
 point_spelled (pos n) k p rest h low high s =
     both (integer_at (pos n) p (codes "+" ++ ((signed_decimal k ++ codes "n") ++ rest)) h refl) (period_spelled k (after p (signed_decimal (pos n))) rest low high s)
@@ -171,32 +171,32 @@ most_spelled p rest =
     both (space p (60 ∷ 61 ∷ 32 ∷ rest)) (both (at_most q (32 ∷ rest)) (space (after q (60 ∷ 61 ∷ [])) rest))
 
 -- one time column more, or none
-pub times_cons : (c : Column) (cs : List Column) → times_in (c ∷ cs) ≡ (if is_time c.sort then 1 else 0) + times_in cs
+pub times_cons : (c : Column) (cs : List Column) → time_count (c ∷ cs) ≡ (if is_time c.sort then 1 else 0) + time_count cs
 times_cons c cs = sum_by-cons (λ x. if is_time x.sort then 1 else 0) c cs
 
 -- a time column of a number has a name
-time_named : (cs : List Column) (i : ℕ) → AreNamed cs → 0 < i → i ≤ times_in cs → IsName (time_name cs i)
+time_named : (cs : List Column) (i : ℕ) → AreNamed cs → 0 < i → i ≤ time_count cs → IsName (time_name cs i)
 time_named [] i h some le = absurd (omega arith)
 time_named (c ∷ cs) i h some le = by (is_time c.sort) (i == 1) refl refl (λ k more_than few. time_named cs k h.1 more_than few)
   where
-    more : times_in (c ∷ cs) ≡ (if is_time c.sort then 1 else 0) + times_in cs
+    more : time_count (c ∷ cs) ≡ (if is_time c.sort then 1 else 0) + time_count cs
     more = times_cons c cs
 
     other : (i : ℕ) → (i == 1) ≡ false → i ≡ 1 → ⊥
     other i d e = grind (arith, nat_tests)
 
-    by : (x y : Bool) → is_time c.sort ≡ x → (i == 1) ≡ y → ((k : ℕ) → 0 < k → k ≤ times_in cs → IsName (time_name cs k)) → IsName (if x then (if y then c.name else time_name cs (i - 1)) else time_name cs i)
+    by : (x y : Bool) → is_time c.sort ≡ x → (i == 1) ≡ y → ((k : ℕ) → 0 < k → k ≤ time_count cs → IsName (time_name cs k)) → IsName (if x then (if y then c.name else time_name cs (i - 1)) else time_name cs i)
     by true true e d again = h.0.0
     by true false e d again =
         let one = other i d in
-        let size : times_in (c ∷ cs) ≡ 1 + times_in cs = more ∙ ap (λ b. (if b then 1 else 0) + times_in cs) e in
+        let size : time_count (c ∷ cs) ≡ 1 + time_count cs = more ∙ ap (λ b. (if b then 1 else 0) + time_count cs) e in
         again (i - 1) (omega (arith, one, some)) (omega (arith, size, le, some))
     by false y e d again =
-        let size : times_in (c ∷ cs) ≡ 0 + times_in cs = more ∙ ap (λ b. (if b then 1 else 0) + times_in cs) e in
+        let size : time_count (c ∷ cs) ≡ 0 + time_count cs = more ∙ ap (λ b. (if b then 1 else 0) + time_count cs) e in
         again i some (omega (arith, size, le))
 
 -- a bound
-bound_spelled : (cs : List Column) → AreNamed cs → (b : Bound) (p : Place) (rest : List ℕ) → IsBoundOf (times_in cs) b → Stops is_name_byte rest → Spelled (bound_text (bound_tree cs p b)) p (bound_bytes cs b) rest
+bound_spelled : (cs : List Column) → AreNamed cs → (b : Bound) (p : Place) (rest : List ℕ) → IsBoundOf (time_count cs) b → Stops is_name_byte rest → Spelled (bound_text (bound_tree cs p b)) p (bound_bytes cs b) rest
 bound_spelled cs names b p rest h s = by (b.left == 0) (b.right == 0) refl refl
   where
     low : IsShort (neg_ℤ b.most)
@@ -251,14 +251,14 @@ abbrev pub row_at : List Column → Place → Row → Located RawRow
 row_at cs p r = record { place = after (after p (32 ∷ [])) (32 ∷ []); item = row_tree cs p r }
 
 -- the bounds behind `where`
-bounds_spelled : (cs : List Column) → AreNamed cs → (bs : List Bound) (p : Place) (rest : List ℕ) → AllByRecursion (IsBoundOf (times_in cs)) bs → Stops is_name_byte rest
+bounds_spelled : (cs : List Column) → AreNamed cs → (bs : List Bound) (p : Place) (rest : List ℕ) → AllByRecursion (IsBoundOf (time_count cs)) bs → Stops is_name_byte rest
     → Spelled (bounds_text (bound_trees cs (after p (codes " where ")) bs)) p (bounds_bytes cs bs) rest
 bounds_spelled cs names [] p rest h s = nothing p rest
 bounds_spelled cs names (b ∷ bs) p rest h s =
     let tail = joined_by (codes ", ") (bound_bytes cs) (b ∷ bs) ++ rest in
     let q = after p (32 ∷ []) in
     both (both (space p (codes "where" ++ (32 ∷ tail))) (both (where_word q (32 ∷ tail) refl) (space (after q (codes "where")) tail)))
-    (separated_spelled bound_text (bound_tree cs) (bound_bytes cs) (IsBoundOf (times_in cs)) (bound_spelled cs names) (b ∷ bs) (after p (codes " where ")) rest h s)
+    (separated_spelled bound_text (bound_tree cs) (bound_bytes cs) (IsBoundOf (time_count cs)) (bound_spelled cs names) (b ∷ bs) (after p (codes " where ")) rest h s)
 
 -- values of columns can be read
 pub values_readable : (cs : List Column) (vs : List Value) → AreValuesOf cs vs → AllByRecursion IsReadable vs
@@ -327,5 +327,5 @@ relation_spelled r p rest k =
     (both (close_brace ended (10 ∷ rest)) (feed (after ended (125 ∷ [])) rest)))))))
 
 -- relations, one after the other
-pub relations_spelled : (rs : List Relation) (p : Place) (rest : List ℕ) → AllByRecursion IsKept rs → Spelled (joined relation_text (trees (behind relation_bytes) relation_tree p rs)) p (flat_map relation_bytes rs) rest
+pub relations_spelled : (rs : List Relation) (p : Place) (rest : List ℕ) → AllByRecursion IsKept rs → Spelled (joined_parts relation_text (trees (behind relation_bytes) relation_tree p rs)) p (flat_map relation_bytes rs) rest
 relations_spelled = joined_spelled relation_text relation_tree relation_bytes IsKept relation_spelled

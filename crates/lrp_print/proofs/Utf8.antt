@@ -22,11 +22,11 @@ use Rattle.lrp_model.specs.declared.relations.Value.TheVariants.{Point, Const}
 use Rattle.lrp_model.specs.declared.relations.Row.{Row}
 use Rattle.lrp_model.specs.declared.relations.Relation.{Relation}
 use Rattle.lrp_model.specs.Texts.{Identifier}
-use Rattle.lrp_model.specs.Sorts.{is_time}
+use Rattle.lrp_model.specs.Sorts.{is_time, time_count}
 use Rattle.lrp_model.specs.Lexing.{is_name_byte, run}
 use Rattle.lrp_model.specs.Printed.{joined_by, escaped, quoted, value_bytes, sort_bytes, column_bytes, time_name, offset_bytes, bound_bytes, bounds_bytes, row_line, relation_bytes}
 use Rattle.lrp_model.specs.Names.{IsName, IsNamedSort, AreNamed}
-use Rattle.lrp_print.specs.Kept.{IsBoundOf, IsRowOf, IsKept, times_in}
+use Rattle.lrp_print.specs.Kept.{IsBoundOf, IsRowOf, IsKept}
 use Rattle.lrp_print.proofs.Scanned.{name_word}
 use Rattle.lrp_print.proofs.PieceLaws.{IsShort, short}
 use Rattle.lrp_print.proofs.Trees.{IsReadable, values_readable}
@@ -170,7 +170,7 @@ offset_utf8 (pos (suc a)) h = IsUtf8-append (codes " + ") (decimal (suc a)) (pla
 offset_utf8 (negsuc a) h = IsUtf8-append (codes " - ") (decimal (suc a)) (plain_utf8 (codes " - ") refl) (IsUtf8-from_ascii (decimal (suc a)) (IsAscii-decimal (suc a) (omega (arith, h))))
 
 -- a bound
-bound_utf8 : (cs : List Column) → AreNamed cs → (b : Bound) → IsBoundOf (times_in cs) b → IsUtf8 (bound_bytes cs b)
+bound_utf8 : (cs : List Column) → AreNamed cs → (b : Bound) → IsBoundOf (time_count cs) b → IsUtf8 (bound_bytes cs b)
 bound_utf8 cs names b h = by (b.left == 0) (b.right == 0)
   where
     low : IsShort (neg_ℤ b.most)
@@ -193,10 +193,10 @@ bound_utf8 cs names b h = by (b.left == 0) (b.right == 0)
         (IsUtf8-append (codes " <= ") (time_name cs b.right ++ offset_bytes b.most) most (IsUtf8-append (time_name cs b.right) (offset_bytes b.most) (time_name_utf8 cs b.right names) (offset_utf8 b.most high)))
 
 -- the bounds of a row
-bounds_utf8 : (cs : List Column) → AreNamed cs → (bs : List Bound) → AllByRecursion (IsBoundOf (times_in cs)) bs → IsUtf8 (bounds_bytes cs bs)
+bounds_utf8 : (cs : List Column) → AreNamed cs → (bs : List Bound) → AllByRecursion (IsBoundOf (time_count cs)) bs → IsUtf8 (bounds_bytes cs bs)
 bounds_utf8 cs names [] h = IsUtf8-nil
 bounds_utf8 cs names (b ∷ bs) h =
-    IsUtf8-append (codes " where ") (joined_by (codes ", ") (bound_bytes cs) (b ∷ bs)) (plain_utf8 (codes " where ") refl) (joined_utf8 (bound_bytes cs) (IsBoundOf (times_in cs)) (bound_utf8 cs names) (b ∷ bs) h)
+    IsUtf8-append (codes " where ") (joined_by (codes ", ") (bound_bytes cs) (b ∷ bs)) (plain_utf8 (codes " where ") refl) (joined_utf8 (bound_bytes cs) (IsBoundOf (time_count cs)) (bound_utf8 cs names) (b ∷ bs) h)
 
 -- a row
 row_utf8 : (cs : List Column) → AreNamed cs → (r : Row) → IsRowOf cs r → IsUtf8 (row_line cs r)

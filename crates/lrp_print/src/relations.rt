@@ -5,8 +5,8 @@ ghost use Rattle.std.specs.Fmt.{signed_decimal};
 ghost use Rattle.lrp_io.specs.Causes.{HasCause};
 ghost use Rattle.lrp_io.specs.Pieces.{IsWritten};
 ghost use Rattle.lrp_model.specs.Printed.{column_bytes, value_bytes, time_name, offset_bytes, bound_bytes, bounds_bytes, row_line, relation_bytes, database_bytes, joined_by};
-ghost use Rattle.lrp_model.specs.Lexing.{limit};
-ghost use Rattle.lrp_print.specs.Kept.{HasPeriod, IsKept, IsWritable};
+ghost use Rattle.lrp_model.specs.Lexing.{greatest_number};
+ghost use Rattle.lrp_print.specs.Kept.{HasLowPeriod, IsKept, IsWritable};
 ghost use Rattle.lrp_print.specs.ReadBack.{ReadsBack};
 
 use crate::pieces::{
@@ -26,7 +26,7 @@ fn write_column<S: Sink>(out: &mut S, column: &Column) -> Result<(), Failed>
 }
 
 fn write_value<S: Sink>(out: &mut S, value: &Value) -> Result<(), Failed>
-    requires { HasPeriod value.now }
+    requires { HasLowPeriod value.now }
     ensures text { IsWritten (S.written out.old) (S.written out.new) (value_bytes value.now) result }
     ensures cause { HasCause (S.faults out.old) (S.faults out.new) result }
 {
@@ -54,7 +54,7 @@ fn name_of_time(columns: &[Column], number: u8) -> &[u8]
 
 // The number of a bound with the other sign.
 fn write_negated<S: Sink>(out: &mut S, bound: &Bound) -> Result<(), Failed>
-    requires { neg_ℤ (pos limit) ≤ℤ bound.now.most }
+    requires { neg_ℤ (pos greatest_number) ≤ℤ bound.now.most }
     ensures text { IsWritten (S.written out.old) (S.written out.new) (signed_decimal (neg_ℤ bound.now.most)) result }
     ensures cause { HasCause (S.faults out.old) (S.faults out.new) result }
 {
@@ -63,7 +63,7 @@ fn write_negated<S: Sink>(out: &mut S, bound: &Bound) -> Result<(), Failed>
 
 // `X >= b`.
 fn write_lower<S: Sink>(out: &mut S, columns: &[Column], bound: &Bound) -> Result<(), Failed>
-    requires { neg_ℤ (pos limit) ≤ℤ bound.now.most }
+    requires { neg_ℤ (pos greatest_number) ≤ℤ bound.now.most }
     ensures text { IsWritten (S.written out.old) (S.written out.new) (time_name columns.now bound.now.right ++ (codes " >= " ++ signed_decimal (neg_ℤ bound.now.most))) result }
     ensures cause { HasCause (S.faults out.old) (S.faults out.new) result }
 {
@@ -84,7 +84,7 @@ fn write_upper<S: Sink>(out: &mut S, columns: &[Column], bound: &Bound) -> Resul
 
 // `X <= Y`, with an offset.
 fn write_between<S: Sink>(out: &mut S, columns: &[Column], bound: &Bound) -> Result<(), Failed>
-    requires { neg_ℤ (pos limit) ≤ℤ bound.now.most }
+    requires { neg_ℤ (pos greatest_number) ≤ℤ bound.now.most }
     ensures text { IsWritten (S.written out.old) (S.written out.new) (time_name columns.now bound.now.left ++ (codes " <= " ++ (time_name columns.now bound.now.right ++ offset_bytes bound.now.most))) result }
     ensures cause { HasCause (S.faults out.old) (S.faults out.new) result }
 {
@@ -95,7 +95,7 @@ fn write_between<S: Sink>(out: &mut S, columns: &[Column], bound: &Bound) -> Res
 }
 
 fn write_bound<S: Sink>(out: &mut S, columns: &[Column], bound: &Bound) -> Result<(), Failed>
-    requires { neg_ℤ (pos limit) ≤ℤ bound.now.most }
+    requires { neg_ℤ (pos greatest_number) ≤ℤ bound.now.most }
     ensures text { IsWritten (S.written out.old) (S.written out.new) (bound_bytes columns.now bound.now) result }
     ensures cause { HasCause (S.faults out.old) (S.faults out.new) result }
 {
@@ -142,7 +142,7 @@ pub fn write_columns<S: Sink>(out: &mut S, columns: &[Column]) -> Result<(), Fai
 }
 
 fn write_next_value<S: Sink>(out: &mut S, value: &Value) -> Result<(), Failed>
-    requires { HasPeriod value.now }
+    requires { HasLowPeriod value.now }
     ensures text { IsWritten (S.written out.old) (S.written out.new) (codes ", " ++ value_bytes value.now) result }
     ensures cause { HasCause (S.faults out.old) (S.faults out.new) result }
 {
@@ -152,7 +152,7 @@ fn write_next_value<S: Sink>(out: &mut S, value: &Value) -> Result<(), Failed>
 
 // Values, with a comma before each.
 fn write_further_values<S: Sink>(out: &mut S, values: &[Value]) -> Result<(), Failed>
-    requires { AllByRecursion HasPeriod values.now }
+    requires { AllByRecursion HasLowPeriod values.now }
     ensures text { IsWritten (S.written out.old) (S.written out.new) (flat_map (λ x. codes ", " ++ value_bytes x) values.now) result }
     ensures cause { HasCause (S.faults out.old) (S.faults out.new) result }
 {
@@ -164,7 +164,7 @@ fn write_further_values<S: Sink>(out: &mut S, values: &[Value]) -> Result<(), Fa
 
 // Values, with commas between.
 fn write_values<S: Sink>(out: &mut S, values: &[Value]) -> Result<(), Failed>
-    requires { AllByRecursion HasPeriod values.now }
+    requires { AllByRecursion HasLowPeriod values.now }
     ensures text { IsWritten (S.written out.old) (S.written out.new) (joined_by (codes ", ") value_bytes values.now) result }
     ensures cause { HasCause (S.faults out.old) (S.faults out.new) result }
 {
@@ -178,7 +178,7 @@ fn write_values<S: Sink>(out: &mut S, values: &[Value]) -> Result<(), Failed>
 }
 
 fn write_next_bound<S: Sink>(out: &mut S, columns: &[Column], bound: &Bound) -> Result<(), Failed>
-    requires { neg_ℤ (pos limit) ≤ℤ bound.now.most }
+    requires { neg_ℤ (pos greatest_number) ≤ℤ bound.now.most }
     ensures text { IsWritten (S.written out.old) (S.written out.new) (codes ", " ++ bound_bytes columns.now bound.now) result }
     ensures cause { HasCause (S.faults out.old) (S.faults out.new) result }
 {
@@ -192,7 +192,7 @@ fn write_further_bounds<S: Sink>(
     columns: &[Column],
     bounds: &[Bound],
 ) -> Result<(), Failed>
-    requires { AllByRecursion (λ b. neg_ℤ (pos limit) ≤ℤ b.most) bounds.now }
+    requires { AllByRecursion (λ b. neg_ℤ (pos greatest_number) ≤ℤ b.most) bounds.now }
     ensures text { IsWritten (S.written out.old) (S.written out.new) (flat_map (λ x. codes ", " ++ bound_bytes columns.now x) bounds.now) result }
     ensures cause { HasCause (S.faults out.old) (S.faults out.new) result }
 {
@@ -204,7 +204,7 @@ fn write_further_bounds<S: Sink>(
 
 // Bounds, with commas between.
 fn write_bounds<S: Sink>(out: &mut S, columns: &[Column], bounds: &[Bound]) -> Result<(), Failed>
-    requires { AllByRecursion (λ b. neg_ℤ (pos limit) ≤ℤ b.most) bounds.now }
+    requires { AllByRecursion (λ b. neg_ℤ (pos greatest_number) ≤ℤ b.most) bounds.now }
     ensures text { IsWritten (S.written out.old) (S.written out.new) (joined_by (codes ", ") (bound_bytes columns.now) bounds.now) result }
     ensures cause { HasCause (S.faults out.old) (S.faults out.new) result }
 {
@@ -223,7 +223,7 @@ pub fn write_conditions<S: Sink>(
     columns: &[Column],
     bounds: &[Bound],
 ) -> Result<(), Failed>
-    requires { AllByRecursion (λ b. neg_ℤ (pos limit) ≤ℤ b.most) bounds.now }
+    requires { AllByRecursion (λ b. neg_ℤ (pos greatest_number) ≤ℤ b.most) bounds.now }
     ensures text { IsWritten (S.written out.old) (S.written out.new) (bounds_bytes columns.now bounds.now) result }
     ensures cause { HasCause (S.faults out.old) (S.faults out.new) result }
 {

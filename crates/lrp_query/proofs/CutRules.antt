@@ -14,12 +14,12 @@ use Rattle.lrp_model.specs.declared.formulas.Op.TheVariants.{Eq}
 use Rattle.lrp_model.specs.Tokens.{Token, Placed, Tokens, Part, Takes, Spells, from}
 use Rattle.lrp_model.specs.Tokens.Token.{name_token, word_token, number_token, text_token, symbol_token, end_token, bad_token, hole_token}
 use Rattle.lrp_model.specs.Tokens.Part.{at, any}
-use Rattle.lrp_model.specs.Lexing.{limit, start}
+use Rattle.lrp_model.specs.Lexing.{greatest_number, start}
 use Rattle.lrp_model.specs.Databases.{sign}
 use Rattle.lrp_model.specs.Refused.{GoesThrough, Through, Stops}
 use Rattle.lrp_model.specs.Queries.{WrittenTerm, WrittenFormula, term_text, formula_text}
-use Rattle.lrp_model.specs.Queries.WrittenTerm.{integer as integer_term, quoted, variable, shifted}
-use Rattle.lrp_model.specs.Queries.WrittenFormula.{atom, compared, member, denied, all_of, any_of, implied, group, some, every, hole}
+use Rattle.lrp_model.specs.Queries.WrittenTerm.{integer as integer_term, text_term, variable, shifted}
+use Rattle.lrp_model.specs.Queries.WrittenFormula.{atom_formula, compared, member, denied, all_of, any_of, implied, group, some, every, hole}
 use Rattle.lrp_text.specs.Parsers.{Parser, accept, taken}
 use Rattle.lrp_text.proofs.Complete.{Answers, accepts_back}
 use Rattle.lrp_text.proofs.Sound.{Sound, accept_ok}
@@ -74,17 +74,17 @@ side_cut : (p : Place) (item : WrittenTerm) (ps : List Part) (w : WrittenFormula
 side_cut p (integer_term i) ps w bad ts left h = integer_cut p i.negative i.size ps w bad ts left h
 side_cut p (variable n) ps w bad [] left h = absurd h
 side_cut p (shifted n down j) ps w bad [] left h = absurd h
-side_cut p (quoted s) ps w bad [] left h = absurd h
+side_cut p (text_term s) ps w bad [] left h = absurd h
 side_cut p (variable n) ps w bad (t ∷ us) left h = refused_cut t us left (name_token n) w (FitsAt 0 w) h.0.0 refl (λ e. absurd cc) bad
 side_cut p (shifted n down j) ps w bad (t ∷ us) left h = refused_cut t us left (name_token n) w (FitsAt 0 w) h.0.0 refl (λ e. absurd cc) bad
-side_cut p (quoted s) ps w bad (t ∷ us) left h = refused_cut t us left (text_token s) w (FitsAt 0 w) h.0.0 refl (λ e. absurd cc) bad
+side_cut p (text_term s) ps w bad (t ∷ us) left h = refused_cut t us left (text_token s) w (FitsAt 0 w) h.0.0 refl (λ e. absurd cc) bad
 
 -- a hole is read back, and each formula is refused for another cause than syntax
 pub cut_answers : (w : WrittenFormula) (ts left : Tokens) → Takes (formula_text w) ts left → Answers (cut_rule ts) w left (FitsAt 0 w)
 cut_answers (compared l op r) ts left h = side_cut l.place l.item _ (compared l op r) (λ l. l.1) ts left h
 cut_answers (member l i k) ts left h = side_cut l.place l.item _ (member l i k) (λ l. l.1) ts left h
 cut_answers (hole p) ts left h = (accepts_back written.cut (at p hole_token) (hole p) (FitsAt 0 (hole p)) (λ t r. rw (r.0, r.1) refl)).reads ts left h tt
-cut_answers (atom p n all) [] left h = absurd h
+cut_answers (atom_formula p n all) [] left h = absurd h
 cut_answers (denied p f) [] left h = absurd h
 cut_answers (all_of p f fs) [] left h = absurd h
 cut_answers (any_of p f fs) [] left h = absurd h
@@ -92,7 +92,7 @@ cut_answers (implied p f q) [] left h = absurd h
 cut_answers (group p f) [] left h = absurd h
 cut_answers (some p c f) [] left h = absurd h
 cut_answers (every p c f) [] left h = absurd h
-cut_answers (atom p n all) (t ∷ us) left h = refused_cut t us left (name_token n) (atom p n all) (FitsAt 0 (atom p n all)) h.0.0 refl (λ e. absurd cc) (λ l. l.1)
+cut_answers (atom_formula p n all) (t ∷ us) left h = refused_cut t us left (name_token n) (atom_formula p n all) (FitsAt 0 (atom_formula p n all)) h.0.0 refl (λ e. absurd cc) (λ l. l.1)
 cut_answers (denied p f) (t ∷ us) left h = refused_cut t us left (word_token Not) (denied p f) (FitsAt 0 (denied p f)) h.0.0 refl (λ e. absurd cc) (λ l. l.1)
 cut_answers (all_of p f fs) (t ∷ us) left h = refused_cut t us left (symbol_token Open) (all_of p f fs) (FitsAt 0 (all_of p f fs)) h.0.0 refl (λ e. absurd cc) (λ l. l.1)
 cut_answers (any_of p f fs) (t ∷ us) left h = refused_cut t us left (symbol_token Open) (any_of p f fs) (FitsAt 0 (any_of p f fs)) h.0.0 refl (λ e. absurd cc) (λ l. l.1)
@@ -143,7 +143,7 @@ deep_through k p us more w h = record { token = record { token = k; place = p };
 -- a number there
 number_cut : (n : ℕ) (p : Place) (us : Tokens) (b : Bool) → nat_le n 4611686018427387904 ≡ b → Through (Formulas 0 false) [] (deep_or_number b) (record { token = number_token n; place = p } ∷ us)
 number_cut n p us true e = deep_through (number_token n) p us equals_zero (compared (record { place = p; item = integer_term (record { negative = false; size = n }) }) Eq zero_term) ((refl, refl), (refl, ((refl, refl), refl)))
-number_cut n p us false e = record { token = record { token = number_token n; place = p }; cause = leb-false n limit e; tail = us; at = refl; more = equals_zero; begins = (compared (record { place = p; item = integer_term (record { negative = false; size = n }) }) Eq zero_term, tt, ((refl, refl), (refl, ((refl, refl), refl)))) }
+number_cut n p us false e = record { token = record { token = number_token n; place = p }; cause = leb-false n greatest_number e; tail = us; at = refl; more = equals_zero; begins = (compared (record { place = p; item = integer_term (record { negative = false; size = n }) }) Eq zero_term, tt, ((refl, refl), (refl, ((refl, refl), refl)))) }
 
 -- the tokens before a fault at depth 0 begin a hole
 token_cut : (k : Token) (p : Place) (us : Tokens) (e : Fault × Tokens) → cut_rule (record { token = k; place = p } ∷ us) ≡ Err e → Stops (Formulas 0) (record { token = k; place = p } ∷ us) e
@@ -151,7 +151,7 @@ unfolding accept
 token_cut hole_token p us e h = absurd cc
 token_cut (number_token n) p us e h = cut_through (number_token n) p us e (deep_or_number (nat_le n 4611686018427387904)) (cc) (number_cut n p us (nat_le n 4611686018427387904) refl)
 token_cut (name_token n) p us e h = cut_through (name_token n) p us e Deep (cc) (deep_through (name_token n) p us equals_zero (compared (record { place = p; item = variable n }) Eq zero_term) ((refl, refl), (refl, ((refl, refl), refl))))
-token_cut (text_token t) p us e h = cut_through (text_token t) p us e Deep (cc) (deep_through (text_token t) p us equals_zero (compared (record { place = p; item = quoted t }) Eq zero_term) ((refl, refl), (refl, ((refl, refl), refl))))
+token_cut (text_token t) p us e h = cut_through (text_token t) p us e Deep (cc) (deep_through (text_token t) p us equals_zero (compared (record { place = p; item = text_term t }) Eq zero_term) ((refl, refl), (refl, ((refl, refl), refl))))
 token_cut (word_token Not) p us e h = cut_through (word_token Not) p us e Deep (cc) (deep_through (word_token Not) p us zero_is_zero (denied p zero_equal) ((refl, refl), ((refl, refl), (refl, ((refl, refl), refl)))))
 token_cut (word_token Exists) p us e h = cut_through (word_token Exists) p us e Deep (cc) (deep_through (word_token Exists) p us bound_tokens (some p some_binder zero_equal) ((refl, refl), ((refl, refl), (refl, ((refl, refl), ((refl, refl), (refl, ((refl, refl), refl))))))))
 token_cut (word_token Forall) p us e h = cut_through (word_token Forall) p us e Deep (cc) (deep_through (word_token Forall) p us bound_tokens (every p some_binder zero_equal) ((refl, refl), ((refl, refl), (refl, ((refl, refl), ((refl, refl), (refl, ((refl, refl), refl))))))))

@@ -6,7 +6,7 @@ use Rattle.lrp_model.specs.declared.tokens.Symbol.TheVariants.{Open, Close, Open
 use Rattle.lrp_model.specs.declared.tokens.Place.{Place}
 use Rattle.lrp_model.specs.Tokens.{Token, Tokens}
 use Rattle.lrp_model.specs.Tokens.Token.{name_token, word_token, number_token, text_token, symbol_token, end_token, bad_token, hole_token}
-use Rattle.lrp_model.specs.Lexing.{is_letter, is_digit, is_name_byte, run, behind_run, value_from, word_or_name, Scanned, Text as TextRead, text_from, text_scanned, one, one_or_two, symbol_from, scan, after, skip, start, headed, tokens_from, tokens}
+use Rattle.lrp_model.specs.Lexing.{is_letter, is_digit, is_name_byte, run, behind_run, value_from, word_or_name, Scanned, QuotedText as TextRead, text_from, text_scanned, one, one_or_two, symbol_from, scan, after, skip, start, headed, tokens_from, tokens}
 use Rattle.lrp_query.specs.Rules.{is_hole_token}
 use Rattle.lrp_query.proofs.Marks.{NoHoles}
 

@@ -14,14 +14,14 @@ use Rattle.lrp_model.specs.declared.written.Located.{Located}
 use Rattle.lrp_model.specs.Tokens.{Token, Placed, Tokens, Part, Takes, Spells, from, separated}
 use Rattle.lrp_model.specs.Tokens.Token.{number_token, symbol_token, word_token, name_token, text_token, end_token, bad_token, hole_token}
 use Rattle.lrp_model.specs.Tokens.Part.{any}
-use Rattle.lrp_model.specs.Lexing.{limit, start, Scanned, scan, skip, after, headed, tokens_from, tokens}
+use Rattle.lrp_model.specs.Lexing.{greatest_number, start, Scanned, scan, skip, after, headed, tokens_from, tokens}
 use Rattle.lrp_model.specs.Columns.{column_text}
 use Rattle.lrp_model.specs.Databases.{sign, integer_text, comma}
 use Rattle.lrp_model.specs.DatabaseMeaning.{signed, column_of}
 use Rattle.lrp_model.specs.Names.{AreNamed}
 use Rattle.lrp_model.specs.Queries.{WrittenTerm, WrittenFormula, FurtherMembers, WrittenQuery, term_text, op_symbol, formula_text, members_text, query_text, FitsTerm, FitsSizes, FitSizes, FitsDepth, FitDepth}
-use Rattle.lrp_model.specs.Queries.WrittenTerm.{integer as integer_term, quoted, variable, shifted}
-use Rattle.lrp_model.specs.Queries.WrittenFormula.{atom, compared, member, denied, all_of, any_of, implied, group, some, every, hole}
+use Rattle.lrp_model.specs.Queries.WrittenTerm.{integer as integer_term, text_term, variable, shifted}
+use Rattle.lrp_model.specs.Queries.WrittenFormula.{atom_formula, compared, member, denied, all_of, any_of, implied, group, some, every, hole}
 use Rattle.lrp_model.specs.Queries.FurtherMembers.{last, more}
 use Rattle.lrp_model.specs.QueryMeaning.{term_kind, raw_term, raw_form, raw_forms, raw_question}
 use Rattle.lrp_model.specs.RawQueries.{RawForm, RawQuestion, raw, raw_question_of}
@@ -30,7 +30,7 @@ use Rattle.lrp_text.proofs.Sound.{takes_split, takes_front, takes_shorter}
 use Rattle.lrp_text.proofs.Complete.{separated_long}
 use Rattle.lrp_text.proofs.NameTokens.{NamedPart, all_front, all_tail, columns_named, spelled_named}
 use Rattle.lrp_query.specs.Rules.{is_hole_token}
-use Rattle.lrp_query.specs.Lawful.{IsWithin, FitsRawTerm, HasTwo, FitsRaw, FitRaws, IsShallow, AreShallow, formulas_in, formulas_of, is_raw_text, texts_among, texts_in, texts_of, IsLawful}
+use Rattle.lrp_query.specs.Lawful.{HasMagnitude, FitsRawTerm, HasTwo, FitsRaw, FitRaws, IsShallow, AreShallow, formulas_in, formulas_of, is_raw_text, text_total, formula_texts, texts_of, IsLawful}
 use Rattle.lrp_query.proofs.Marks.{NoHoles}
 use Rattle.lrp_query.proofs.HoleFree.{tokens_clean}
 use Rattle.lrp_query.proofs.TermRules.{placed_text}
@@ -40,7 +40,7 @@ use Rattle.lrp_query.proofs.TermRules.{placed_text}
 -- no hole stands in the formula
 abbrev mutual
   Whole : WrittenFormula → Type 0
-  Whole (atom p n ts) = Unit {0}
+  Whole (atom_formula p n ts) = Unit {0}
   Whole (compared l op r) = Unit {0}
   Whole (member t i k) = Unit {0}
   Whole (denied p f) = Whole f
@@ -72,7 +72,7 @@ no_hole k e n = let h : true ≡ false = sym (ap is_hole_token e) ∙ n in absur
 mutual
   -- tokens without holes spell a formula without them
   whole : (w : WrittenFormula) (ts left : Tokens) → Takes (formula_text w) ts left → NoHoles ts → Whole w
-  whole (atom p n all) ts left h c = tt
+  whole (atom_formula p n all) ts left h c = tt
   whole (compared l op r) ts left h c = tt
   whole (member l i k) ts left h c = tt
   whole (denied p f) [] left h c = absurd h
@@ -112,14 +112,14 @@ mutual
 -- ---- sizes
 
 -- a size within the limit, with any sign
-within : (b : Bool) (n : ℕ) → n ≤ limit → IsWithin (signed b n)
+within : (b : Bool) (n : ℕ) → n ≤ greatest_number → HasMagnitude (signed b n)
 within true n h = (omega (arith, ints), omega (arith, ints))
 within false n h = (omega (arith, ints), omega (arith, ints))
 
 -- a term
 term_fits : (t : WrittenTerm) → FitsTerm t → FitsRawTerm (term_kind t)
 term_fits (integer_term i) h = within i.negative i.size h
-term_fits (quoted t) h = tt
+term_fits (text_term t) h = tt
 term_fits (variable n) h = tt
 term_fits (shifted n down k) h = within down k h
 
@@ -134,13 +134,13 @@ two f (last g) = tt
 two f (more g gs) = tt
 
 -- a period from 1 to the limit
-period_fits : (k : ℕ) → 1 ≤ k → k ≤ limit → (pos 1 ≤ℤ pos k) × (pos k ≤ℤ pos limit)
+period_fits : (k : ℕ) → 1 ≤ k → k ≤ greatest_number → (pos 1 ≤ℤ pos k) × (pos k ≤ℤ pos greatest_number)
 period_fits k one most = (omega (arith, ints), omega (arith, ints))
 
 mutual
   -- a formula
   fits_raw : (w : WrittenFormula) → Whole w → FitsSizes w → FitsRaw (raw_form w)
-  fits_raw (atom p n ts) o h = terms_fit ts h
+  fits_raw (atom_formula p n ts) o h = terms_fit ts h
   fits_raw (compared l op r) o h = (term_fits l.item h.0, term_fits r.item h.1)
   fits_raw (member t i k) o h = let p = period_fits k h.2 h.3 in let w = within i.negative i.size h.1 in (term_fits t.item h.0, ((w.0, w.1), p.0, p.1))
   fits_raw (denied p f) o h = fits_raw f o h
@@ -162,7 +162,7 @@ mutual
 mutual
   -- a formula
   shallow : (w : WrittenFormula) (d : ℕ) → Whole w → FitsDepth w d → IsShallow (raw_form w) d
-  shallow (atom p n ts) d o h = h
+  shallow (atom_formula p n ts) d o h = h
   shallow (compared l op r) d o h = h
   shallow (member t i k) d o h = h
   shallow (denied p f) zero o h = absurd h
@@ -201,7 +201,7 @@ sign_some p false n = omega arith
 -- so has each term
 term_some : (p : Place) (k : WrittenTerm) → 0 < length (from p (term_text k))
 term_some p (integer_term i) = sign_some p i.negative i.size
-term_some p (quoted t) = omega arith
+term_some p (text_term t) = omega arith
 term_some p (variable n) = omega arith
 term_some p (shifted n down k) = omega arith
 
@@ -211,21 +211,21 @@ Counted formulas texts ps = (formulas ≤ length ps) × (texts ≤ length ps)
 
 mutual
   -- of a formula
-  counted : (w : WrittenFormula) → Counted (formulas_in (raw_form w)) (texts_in (raw_form w)) (formula_text w)
-  counted (atom p n ts) =
-      let texts : texts_among (map raw_term ts) ≤ length (map raw_term ts) = count_by-le-length (λ t. is_raw_text t.kind) (map raw_term ts) in
+  counted : (w : WrittenFormula) → Counted (formulas_in (raw_form w)) (formula_texts (raw_form w)) (formula_text w)
+  counted (atom_formula p n ts) =
+      let texts : text_total (map raw_term ts) ≤ length (map raw_term ts) = count_by-le-length (λ t. is_raw_text t.kind) (map raw_term ts) in
       let all : List Part = separated comma placed_text ts in
       let size : length (all ++ any (symbol_token Close) ∷ []) ≡ length all + length {A = Part} (any (symbol_token Close) ∷ []) = length-append all (any (symbol_token Close) ∷ []) in
       let long : length ts ≤ length all + 1 = separated_long comma placed_text ts in
       (omega (arith, size), omega (arith, texts, map_length ts, size, long))
   counted (compared l op r) =
-      let texts : texts_among (raw_term l ∷ raw_term r ∷ []) ≤ length (raw_term l ∷ raw_term r ∷ []) = count_by-le-length (λ t. is_raw_text t.kind) (raw_term l ∷ raw_term r ∷ []) in
+      let texts : text_total (raw_term l ∷ raw_term r ∷ []) ≤ length (raw_term l ∷ raw_term r ∷ []) = count_by-le-length (λ t. is_raw_text t.kind) (raw_term l ∷ raw_term r ∷ []) in
       let size : length (placed_text l ++ any (symbol_token (op_symbol op)) ∷ placed_text r) ≡ length (placed_text l) + length (any (symbol_token (op_symbol op)) ∷ placed_text r) = length-append (placed_text l) (any (symbol_token (op_symbol op)) ∷ placed_text r) in
       let left = term_some l.place l.item in
       let right = term_some r.place r.item in
       (omega (arith, size, left, right), omega (arith, texts, size, left, right))
   counted (member t i k) =
-      let texts : texts_among (raw_term t ∷ []) ≤ length (raw_term t ∷ []) = count_by-le-length (λ t. is_raw_text t.kind) (raw_term t ∷ []) in
+      let texts : text_total (raw_term t ∷ []) ≤ length (raw_term t ∷ []) = count_by-le-length (λ t. is_raw_text t.kind) (raw_term t ∷ []) in
       let rest : List Part = integer_text i ++ any (symbol_token Plus) ∷ any (number_token k) ∷ any (word_token Letter) ∷ [] in
       let size : length (placed_text t ++ any (word_token In) ∷ rest) ≡ length (placed_text t) + length (any (word_token In) ∷ rest) = length-append (placed_text t) (any (word_token In) ∷ rest) in
       let left = term_some t.place t.item in

@@ -11,7 +11,7 @@ use Rattle.lrp_model.specs.declared.formulas.Op.{Op}
 use Rattle.lrp_model.specs.declared.written.Integer.{Integer}
 use Rattle.lrp_model.specs.Tokens.{Placed, Tokens}
 use Rattle.lrp_model.specs.Queries.{WrittenTerm}
-use Rattle.lrp_model.specs.Queries.WrittenTerm.{integer as integer_term, quoted}
+use Rattle.lrp_model.specs.Queries.WrittenTerm.{integer as integer_term, text_term}
 use Rattle.lrp_text.specs.Parsers.{Outcome, Parser, and_then, pure, accept, look, eat, listed, separated_from, taken}
 use Rattle.lrp_text.specs.Taking.{is_symbol, is_word, expect, expect_word, name, period, text, is_text, is_name, expect_end, here}
 use Rattle.lrp_text.specs.ColumnRule.{column}
@@ -146,7 +146,7 @@ module _ {K T F Q L U G R : Type 0} (E : Type 0) (one : Trees K T F Q) (two : Tr
   unnamed_term_same ts =
       leaf E one.cut (look false is_text ts) _ _ m.kind (λ text_next us.
       choice E one.cut text_next _ _ _ _ m.kind us
-      (leaf E one.cut (text us) _ _ m.kind (λ t vs. made E one.cut m.kind (one.kind_of (quoted t)) (two.kind_of (quoted t)) vs (m.kind_is (quoted t))))
+      (leaf E one.cut (text us) _ _ m.kind (λ t vs. made E one.cut m.kind (one.kind_of (text_term t)) (two.kind_of (text_term t)) vs (m.kind_is (text_term t))))
       (leaf E one.cut (integer us) _ _ m.kind (λ i vs. made E one.cut m.kind (one.kind_of (integer_term i)) (two.kind_of (integer_term i)) vs (m.kind_is (integer_term i)))))
 
   -- a term without its place

@@ -18,8 +18,8 @@ use Rattle.lrp_model.specs.Lexing.{start}
 use Rattle.lrp_model.specs.Columns.{column_text}
 use Rattle.lrp_model.specs.Databases.{sign, comma}
 use Rattle.lrp_model.specs.Queries.{WrittenTerm, WrittenFormula, FurtherMembers, term_text, op_symbol, formula_text, members_text, FitsTerm, FitsSizes, FitSizes, FitDepth}
-use Rattle.lrp_model.specs.Queries.WrittenTerm.{integer as integer_term, quoted, variable, shifted}
-use Rattle.lrp_model.specs.Queries.WrittenFormula.{atom, compared, member, denied, all_of, any_of, implied, group, some, every, hole}
+use Rattle.lrp_model.specs.Queries.WrittenTerm.{integer as integer_term, text_term, variable, shifted}
+use Rattle.lrp_model.specs.Queries.WrittenFormula.{atom_formula, compared, member, denied, all_of, any_of, implied, group, some, every, hole}
 use Rattle.lrp_model.specs.Queries.FurtherMembers.{last, more}
 use Rattle.lrp_text.specs.Parsers.{Parser, look, eat, separated_from}
 use Rattle.lrp_text.specs.Taking.{is_symbol_token, is_word, is_word_token, expect, expect_word}
@@ -292,14 +292,14 @@ module _ (inner : Parser WrittenFormula) (d turns : ℕ) (inner_back : (w : Writ
   side_answers : (p : Place) (item : WrittenTerm) (k : Token) (ps : List Part) (f : WrittenFormula) (L : Type 0) → Ends k → (L → FitsTerm item) → ReadsBack (tested written (record { place = p; item = item })) (any k ∷ ps) f L NoShift → (ts left : Tokens) → Takes (placed_text (record { place = p; item = item }) ++ any k ∷ ps) ts left → NoShift left → Answers (formula_over written inner turns ts) f left L
   side_answers p (variable n) k ps f L e fit back [] left h g = absurd h
   side_answers p (shifted n down j) k ps f L e fit back [] left h g = absurd h
-  side_answers p (quoted s) k ps f L e fit back [] left h g = absurd h
+  side_answers p (text_term s) k ps f L e fit back [] left h g = absurd h
   side_answers p (integer_term i) k ps f L e fit back ts left h g = integer_answers p i.negative i.size (any k ∷ ps) f L ts left h (unnamed_answers p (integer_term i) (any k ∷ ps) f L fit (integer_term_back i) back ts left h g)
   side_answers p (variable n) k ps f L e fit back (t ∷ us) left h g = started_as inner turns t us (name_token n) p f left L h.0.0 h.0.1 refl ((named_test_back turns p n unmoved k ps f L e fit back).reads (t ∷ us) left h g)
   side_answers p (shifted n down j) k ps f L e fit back (t ∷ us) left h g = started_as inner turns t us (name_token n) p f left L h.0.0 h.0.1 refl ((named_test_back turns p n (moved_by down j) k ps f L e fit back).reads (t ∷ us) left h g)
-  side_answers p (quoted s) k ps f L e fit back (t ∷ us) left h g = started_as inner turns t us (text_token s) p f left L h.0.0 h.0.1 refl (unnamed_answers p (quoted s) (any k ∷ ps) f L fit (quoted_back s) back (t ∷ us) left h g)
+  side_answers p (text_term s) k ps f L e fit back (t ∷ us) left h g = started_as inner turns t us (text_token s) p f left L h.0.0 h.0.1 refl (unnamed_answers p (text_term s) (any k ∷ ps) f L fit (quoted_back s) back (t ∷ us) left h g)
 
   -- an atom has fewer terms than tokens
-  few_terms : (p : Place) (n : Identifier) (all : List (Located WrittenTerm)) (ts left : Tokens) → length ts < turns → Takes (formula_text (atom p n all)) ts left → length all ≤ turns
+  few_terms : (p : Place) (n : Identifier) (all : List (Located WrittenTerm)) (ts left : Tokens) → length ts < turns → Takes (formula_text (atom_formula p n all)) ts left → length all ≤ turns
   few_terms p n all ts left lt h =
       let k = takes_split (at p (name_token n) ∷ any (symbol_token Open) ∷ []) (separated comma placed_text all ++ any (symbol_token Close) ∷ []) ts left h in
       let m = takes_split (separated comma placed_text all) (any (symbol_token Close) ∷ []) k.0 left k.2 in
@@ -313,7 +313,7 @@ module _ (inner : Parser WrittenFormula) (d turns : ℕ) (inner_back : (w : Writ
   unfolding formula_over look
   over_answers (compared l op r) ts left lt h g = side_answers l.place l.item (symbol_token (op_symbol op)) (placed_text r) (compared l op r) (FitsAt (suc d) (compared l op r)) (op_ends op) (λ f. f.0.0) (back_as (FitsSizes (compared l op r)) (FitsAt (suc d) (compared l op r)) (λ f. f.0) (test_compared_back l op r)) ts left h g
   over_answers (member l i k) ts left lt h g = side_answers l.place l.item (word_token In) (point_text i k) (member l i k) (FitsAt (suc d) (member l i k)) (word_ends In) (λ f. f.0.0) (back_as (FitsSizes (member l i k)) (FitsAt (suc d) (member l i k)) (λ f. f.0) (test_point_back l i k)) ts left h g
-  over_answers (atom p n all) [] left lt h g = absurd h
+  over_answers (atom_formula p n all) [] left lt h g = absurd h
   over_answers (denied p f) [] left lt h g = absurd h
   over_answers (all_of p f fs) [] left lt h g = absurd h
   over_answers (any_of p f fs) [] left lt h g = absurd h
@@ -322,7 +322,7 @@ module _ (inner : Parser WrittenFormula) (d turns : ℕ) (inner_back : (w : Writ
   over_answers (some p c f) [] left lt h g = absurd h
   over_answers (every p c f) [] left lt h g = absurd h
   over_answers (hole p) [] left lt h g = absurd h
-  over_answers (atom p n all) (t ∷ us) left lt h g = started_as inner turns t us (name_token n) p (atom p n all) left (FitsAt (suc d) (atom p n all)) h.0.0 h.0.1 refl (answers_as _ (atom p n all) left (FitsSizes (atom p n all)) (FitsAt (suc d) (atom p n all)) (λ f. f.0) ((atom_back turns p n all (few_terms p n all (t ∷ us) left lt h)).reads (t ∷ us) left h g))
+  over_answers (atom_formula p n all) (t ∷ us) left lt h g = started_as inner turns t us (name_token n) p (atom_formula p n all) left (FitsAt (suc d) (atom_formula p n all)) h.0.0 h.0.1 refl (answers_as _ (atom_formula p n all) left (FitsSizes (atom_formula p n all)) (FitsAt (suc d) (atom_formula p n all)) (λ f. f.0) ((atom_back turns p n all (few_terms p n all (t ∷ us) left lt h)).reads (t ∷ us) left h g))
   over_answers (denied p f) (t ∷ us) left lt h g = started_as inner turns t us (word_token Not) p (denied p f) left (FitsAt (suc d) (denied p f)) h.0.0 h.0.1 refl (negated_answers p f (t ∷ us) left lt h g)
   over_answers (some p c f) (t ∷ us) left lt h g = started_as inner turns t us (word_token Exists) p (some p c f) left (FitsAt (suc d) (some p c f)) h.0.0 h.0.1 refl (existing_answers p c f (t ∷ us) left lt h g)
   over_answers (every p c f) (t ∷ us) left lt h g = started_as inner turns t us (word_token Forall) p (every p c f) left (FitsAt (suc d) (every p c f)) h.0.0 h.0.1 refl (holding_answers p c f (t ∷ us) left lt h g)

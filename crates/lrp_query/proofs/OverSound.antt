@@ -16,7 +16,7 @@ use Rattle.lrp_text.proofs.Sound.{Sound, bind_ok, eat_sound, eaten_parts, takes_
 use Rattle.lrp_text.proofs.TokenTests.{word_told}
 use Rattle.lrp_text.proofs.ColumnRule.{column_sound}
 use Rattle.lrp_text.specs.IntegerRule.{integer}
-use Rattle.lrp_query.specs.Rules.{written, further, gathered, unnamed_term, unnamed, negated, existing, holding, implying, conjoined, disjoined, behind_first, enclosed, formula_over}
+use Rattle.lrp_query.specs.Rules.{written, further, many_members, unnamed_term, unnamed, negated, existing, holding, implying, conjoined, disjoined, behind_first, enclosed, formula_over}
 use Rattle.lrp_query.proofs.TestRules.{FitsAt, symbol_sound, named_sound, unnamed_sound}
 use Rattle.lrp_query.proofs.OverRules.{members_spell, members_fit}
 
@@ -55,8 +55,8 @@ module _ (inner : Parser WrittenFormula) (d turns : ℕ) (inner_sound : Sound in
       let fs = bind_ok (separated_from inner (is_word And) turns (f ∷ []) ws) _ q e in
       let c = bind_ok (expect Close fs.0.1) _ q fs.2 in
       let s = separated_sound inner formula_text (FitsAt d) (any (word_token And)) (is_word And) (word_told And) inner_sound turns (f ∷ []) ws fs.0 fs.1 in
-      let made : (gathered all_of p fs.0.0, c.0.1) ≡ q = cc in
-      let h : (all_of p f (further s.0 s.1), c.0.1) ≡ q = ap (λ l. (gathered all_of p l, c.0.1)) (sym s.2) ∙ made in
+      let made : (many_members all_of p fs.0.0, c.0.1) ≡ q = cc in
+      let h : (all_of p f (further s.0 s.1), c.0.1) ≡ q = ap (λ l. (many_members all_of p l, c.0.1)) (sym s.2) ∙ made in
       let text : List Part = separated (any (word_token And)) formula_text (s.0 ∷ s.1) in
       let members : Takes (members_text And (further s.0 s.1)) vs fs.0.1 = subst (λ ps. Takes ps vs fs.0.1) (sym (members_spell And s.0 s.1)) (takes_join (any (word_token And) ∷ []) text vs ws fs.0.1 eaten s.3) in
       let fits = members_fit d s.0 s.1 s.4 in
@@ -76,8 +76,8 @@ module _ (inner : Parser WrittenFormula) (d turns : ℕ) (inner_sound : Sound in
       let fs = bind_ok (separated_from inner (is_word Or) turns (f ∷ []) ws) _ q e in
       let c = bind_ok (expect Close fs.0.1) _ q fs.2 in
       let s = separated_sound inner formula_text (FitsAt d) (any (word_token Or)) (is_word Or) (word_told Or) inner_sound turns (f ∷ []) ws fs.0 fs.1 in
-      let made : (gathered any_of p fs.0.0, c.0.1) ≡ q = cc in
-      let h : (any_of p f (further s.0 s.1), c.0.1) ≡ q = ap (λ l. (gathered any_of p l, c.0.1)) (sym s.2) ∙ made in
+      let made : (many_members any_of p fs.0.0, c.0.1) ≡ q = cc in
+      let h : (any_of p f (further s.0 s.1), c.0.1) ≡ q = ap (λ l. (many_members any_of p l, c.0.1)) (sym s.2) ∙ made in
       let text : List Part = separated (any (word_token Or)) formula_text (s.0 ∷ s.1) in
       let members : Takes (members_text Or (further s.0 s.1)) vs fs.0.1 = subst (λ ps. Takes ps vs fs.0.1) (sym (members_spell Or s.0 s.1)) (takes_join (any (word_token Or) ∷ []) text vs ws fs.0.1 eaten s.3) in
       let fits = members_fit d s.0 s.1 s.4 in

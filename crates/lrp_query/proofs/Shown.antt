@@ -11,7 +11,7 @@ use Rattle.lrp_model.specs.declared.tokens.Fault.{Fault}
 use Rattle.lrp_model.specs.declared.tokens.Fault.TheVariants.{Syntax, Number as TooLarge}
 use Rattle.lrp_model.specs.Tokens.{Token, Placed, Tokens}
 use Rattle.lrp_model.specs.Tokens.Token.{name_token, word_token, number_token, text_token, symbol_token, end_token, bad_token, hole_token}
-use Rattle.lrp_model.specs.Lexing.{limit}
+use Rattle.lrp_model.specs.Lexing.{greatest_number}
 use Rattle.lrp_model.specs.RawQueries.{RawForm}
 use Rattle.lrp_text.specs.Parsers.{accept, look, Reads}
 use Rattle.lrp_text.specs.declared.lexemes.Lexeme.{Lexeme}
@@ -145,7 +145,7 @@ deep_symbol Minus = refl
 deep_symbol _ = refl
 
 -- a number above the limit there
-pub large_at : (n : ℕ) (b : Bool) → nat_le n 4611686018427387904 ≡ b → limit < n → deep_or_number b ≡ TooLarge
+pub large_at : (n : ℕ) (b : Bool) → nat_le n 4611686018427387904 ≡ b → greatest_number < n → deep_or_number b ≡ TooLarge
 large_at n true e h = let k : n ≤ 4611686018427387904 = leb-true n 4611686018427387904 e in absurd (omega arith)
 large_at n false e h = refl
 

@@ -9,11 +9,11 @@ use Rattle.lrp_model.specs.declared.written.Integer.{Integer}
 use Rattle.lrp_model.specs.Tokens.{Placed, Tokens, Part, IsPart, Takes, Spells, located_text}
 use Rattle.lrp_model.specs.Tokens.Token.{name_token, number_token, text_token, symbol_token}
 use Rattle.lrp_model.specs.Tokens.Part.{at, any}
-use Rattle.lrp_model.specs.Lexing.{limit}
+use Rattle.lrp_model.specs.Lexing.{greatest_number}
 use Rattle.lrp_model.specs.Refused.{Stops, TextOf, Fitting}
 use Rattle.lrp_model.specs.Databases.{integer_text, shift}
 use Rattle.lrp_model.specs.Queries.{WrittenTerm, term_text, FitsTerm}
-use Rattle.lrp_model.specs.Queries.WrittenTerm.{integer as integer_term, quoted, variable, shifted}
+use Rattle.lrp_model.specs.Queries.WrittenTerm.{integer as integer_term, text_term, variable, shifted}
 use Rattle.lrp_text.specs.Parsers.{◌>>=◌, pure, look, eat}
 use Rattle.lrp_text.specs.Taking.{is_text, is_name, is_symbol, is_symbol_token, number, text, text_of, is_text_token, is_name_token, name, name_of, with_place}
 use Rattle.lrp_text.proofs.Complete.{ReadsBack, Answers, Anything, IsNot, bind_back, then_back, pure_back, accept_back, accepts_back, eat_back, eat_none, look_back, first_sees_any, first_sees_at, first_is_not, last_back, same_next}
@@ -39,7 +39,7 @@ offset_text (moved_by down k) = any (symbol_token (shift down)) ∷ any (number_
 -- an offset is at most the limit
 abbrev pub FitsOffset : Offset → Type 0
 FitsOffset unmoved = Unit {0}
-FitsOffset (moved_by down k) = k ≤ limit
+FitsOffset (moved_by down k) = k ≤ greatest_number
 
 -- a term with an offset is spelled by its name and the offset
 pub with_offset_text : (n : Identifier) (o : Offset) → term_text (with_offset n o) ≡ any (name_token n) ∷ offset_text o
@@ -63,12 +63,12 @@ offset_back unmoved =
     (bind_back _ {G = NoShift} (eat_none (is_symbol Minus) (Unit {0})) (pure_back unmoved (Unit {0}) NoShift) (λ ts left h g. (same_next NoShift ts left h g).1))
     (λ ts left h g. (same_next NoShift ts left h g).0)
 offset_back (moved_by false k) =
-    then_back _ (eat_back (is_symbol Plus) (any (symbol_token Plus)) (k ≤ limit) (symbol_seen Plus))
-    (then_back _ (number_back k (k ≤ limit) (λ l. l)) (pure_back _ _ NoShift))
+    then_back _ (eat_back (is_symbol Plus) (any (symbol_token Plus)) (k ≤ greatest_number) (symbol_seen Plus))
+    (then_back _ (number_back k (k ≤ greatest_number) (λ l. l)) (pure_back _ _ NoShift))
 offset_back (moved_by true k) =
-    bind_back _ (eat_none (is_symbol Plus) (k ≤ limit))
-    (then_back _ (eat_back (is_symbol Minus) (any (symbol_token Minus)) (k ≤ limit) (symbol_seen Minus))
-    (then_back _ (number_back k (k ≤ limit) (λ l. l)) (pure_back _ _ NoShift)))
+    bind_back _ (eat_none (is_symbol Plus) (k ≤ greatest_number))
+    (then_back _ (eat_back (is_symbol Minus) (any (symbol_token Minus)) (k ≤ greatest_number) (symbol_seen Minus))
+    (then_back _ (number_back k (k ≤ greatest_number) (λ l. l)) (pure_back _ _ NoShift)))
     (λ ts left h g. first_is_not (is_symbol_token Plus) (symbol_token Minus) (number_part k ∷ []) ts left refl h)
 
 -- a number behind a sign
@@ -104,7 +104,7 @@ offset_sound ts q e =
 -- behind a sign stands a number
 shift_viable : (is_down : Bool) (t : Placed) (vs : Tokens) (e : Fault × Tokens) → IsPart (any (symbol_token (shift is_down))) t → (number >>= (λ k. pure (moved_by is_down k))) vs ≡ Err e → Stops (λ c x. TextOf offset_text FitsOffset c (t ∷ x)) vs e
 shift_viable is_down t vs e is d =
-    sub_step number _ (One number_part) (λ k. k ≤ limit) (λ c x. TextOf offset_text FitsOffset c (t ∷ x)) vs e number_sound number_viable d
+    sub_step number _ (One number_part) (λ k. k ≤ greatest_number) (λ c x. TextOf offset_text FitsOffset c (t ∷ x)) vs e number_sound number_viable d
     (λ c k x spelled fit. ([], (moved_by is_down k, fit, (is, spells_join (One number_part k) [] x [] spelled refl))))
     (λ k h3 ws s3 f3 d3. absurd cc)
 
@@ -122,26 +122,26 @@ offset_viable ts e h =
 -- ---- terms without names
 
 -- the tokens of a text are read back
-pub quoted_back : (t : List ℕ) → ReadsBack (unnamed_term written) (term_text (quoted t)) (quoted t) (FitsTerm (quoted t)) Anything
+pub quoted_back : (t : List ℕ) → ReadsBack (unnamed_term written) (term_text (text_term t)) (text_term t) (FitsTerm (text_term t)) Anything
 unfolding unnamed_term
 quoted_back t =
     bind_back _ (look_back false is_text true (length t ≤ 255))
-    (then_back _ (accept_back (λ t. text_of t.token) (any (text_token t)) t (length t ≤ 255) (λ u h. text_tells u t (length t ≤ 255) (λ l. l) h)) (pure_back (quoted t) _ Anything))
+    (then_back _ (accept_back (λ t. text_of t.token) (any (text_token t)) t (length t ≤ 255) (λ u h. text_tells u t (length t ≤ 255) (λ l. l) h)) (pure_back (text_term t) _ Anything))
     (λ ts left h g. first_sees_any false is_text_token (text_token t) [] ts left h)
 
 -- the tokens of an integer are read back as a term
 pub integer_term_back : (i : Integer) → ReadsBack (unnamed_term written) (term_text (integer_term i)) (integer_term i) (FitsTerm (integer_term i)) Anything
 unfolding unnamed_term
 integer_term_back i =
-    bind_back _ {G = Anything} (look_back false is_text false (i.size ≤ limit))
-    (last_back integer integer_term (integer_text i) i (i.size ≤ limit) Anything (integer_back i))
+    bind_back _ {G = Anything} (look_back false is_text false (i.size ≤ greatest_number))
+    (last_back integer integer_term (integer_text i) i (i.size ≤ greatest_number) Anything (integer_back i))
     (λ ts left h g. no_quote i ts left h)
 
 -- a text or an integer is spelled so
-either_sound : (text_next : Bool) → Sound (if text_next then (text >>= (λ t. pure (quoted t))) else (integer >>= (λ i. pure (integer_term i)))) term_text FitsTerm
+either_sound : (text_next : Bool) → Sound (if text_next then (text >>= (λ t. pure (text_term t))) else (integer >>= (λ i. pure (integer_term i)))) term_text FitsTerm
 either_sound true = λ ts q e.
     let t = bind_ok (text ts) _ q e in
-    let h : (quoted t.0.0, t.0.1) ≡ q = cc in
+    let h : (text_term t.0.0, t.0.1) ≡ q = cc in
     subst (λ y. Takes (term_text y.0) ts y.1 × FitsTerm y.0) h (accept_gives _ text_part (λ u. length u ≤ 255) text_told text_fits ts t.0 t.1)
 either_sound false = λ ts q e.
     let i = bind_ok (integer ts) _ q e in
@@ -156,13 +156,13 @@ unnamed_term_sound ts q e =
     subst (λ x. Takes (term_text q.0) x q.1 × FitsTerm q.0) (sym (look_ok false is_text ts s.0 s.1)) (either_sound s.0.0 s.0.1 q s.2)
 
 -- a text or an integer stops where it says
-either_viable : (text_next : Bool) → Viable (if text_next then (text >>= (λ t. pure (quoted t))) else (integer >>= (λ i. pure (integer_term i)))) term_text FitsTerm
+either_viable : (text_next : Bool) → Viable (if text_next then (text >>= (λ t. pure (text_term t))) else (integer >>= (λ i. pure (integer_term i)))) term_text FitsTerm
 either_viable true = λ ts e h.
     sub_step text _ (One text_part) (λ u. length u ≤ 255) (TextOf term_text FitsTerm) ts e (accept_gives _ text_part (λ u. length u ≤ 255) text_told text_fits) (accept_viable _ text_part (λ u. length u ≤ 255) text_stops) h
-    (λ c t x spelled fit. ([], (quoted t, fit, subst (λ y. Spells (One text_part t) y) (sym (append-nil x)) spelled)))
+    (λ c t x spelled fit. ([], (text_term t, fit, subst (λ y. Spells (One text_part t) y) (sym (append-nil x)) spelled)))
     (λ t h2 us s2 f2 d2. absurd cc)
 either_viable false = λ ts e h.
-    sub_step integer _ integer_text (λ i. i.size ≤ limit) (TextOf term_text FitsTerm) ts e integer_sound integer_viable h
+    sub_step integer _ integer_text (λ i. i.size ≤ greatest_number) (TextOf term_text FitsTerm) ts e integer_sound integer_viable h
     (λ c i x spelled fit. ([], (integer_term i, fit, subst (λ y. Spells (integer_text i) y) (sym (append-nil x)) spelled)))
     (λ i h2 us s2 f2 d2. absurd cc)
 
@@ -197,11 +197,11 @@ pub bare_term_back : (k : WrittenTerm) → ReadsBack (bare_term written) (term_t
 unfolding bare_term
 bare_term_back (variable n) = record { reads = λ ts left h g. name_reads n unmoved ts left h g }
 bare_term_back (shifted n down k) = record { reads = λ ts left h g. name_reads n (moved_by down k) ts left h g }
-bare_term_back (quoted t) =
+bare_term_back (text_term t) =
     bind_back _ {G = NoShift} (look_back false is_name false (length t ≤ 255)) (record { reads = λ ts left h g. (quoted_back t).reads ts left h tt })
     (λ ts left h g. first_sees_any false is_name_token (text_token t) [] ts left h)
 bare_term_back (integer_term i) =
-    bind_back _ {G = NoShift} (look_back false is_name false (i.size ≤ limit)) (record { reads = λ ts left h g. (integer_term_back i).reads ts left h tt })
+    bind_back _ {G = NoShift} (look_back false is_name false (i.size ≤ greatest_number)) (record { reads = λ ts left h g. (integer_term_back i).reads ts left h tt })
     (λ ts left h g. no_name i.negative i.size ts left h)
 
 -- a name with or without an offset is spelled so
@@ -259,7 +259,7 @@ bare_term_viable ts e h = look_step false is_name _ (TextOf term_text FitsTerm) 
 pub term_leads : (k : WrittenTerm) → Leads (term_text k)
 term_leads (variable n) = tt
 term_leads (shifted n down k) = tt
-term_leads (quoted t) = tt
+term_leads (text_term t) = tt
 term_leads (integer_term i) = integer_leads i
 
 -- what spells a term with its place

@@ -16,12 +16,12 @@ use Rattle.lrp_model.specs.declared.written.Integer.{Integer}
 use Rattle.lrp_model.specs.Tokens.{Token, Placed, Tokens, Part, IsPart, Takes, Spells, separated}
 use Rattle.lrp_model.specs.Tokens.Token.{name_token, word_token, number_token, text_token, symbol_token}
 use Rattle.lrp_model.specs.Tokens.Part.{at, any}
-use Rattle.lrp_model.specs.Lexing.{limit, start}
+use Rattle.lrp_model.specs.Lexing.{greatest_number, start}
 use Rattle.lrp_model.specs.Refused.{Stops, TextOf, Fitting}
 use Rattle.lrp_model.specs.Databases.{sign, integer_text, shift, comma}
 use Rattle.lrp_model.specs.Queries.{WrittenTerm, WrittenFormula, term_text, op_symbol, formula_text, FitsTerm, FitsSizes, FitsDepth}
-use Rattle.lrp_model.specs.Queries.WrittenTerm.{integer as integer_term, quoted, variable, shifted}
-use Rattle.lrp_model.specs.Queries.WrittenFormula.{atom, compared, member}
+use Rattle.lrp_model.specs.Queries.WrittenTerm.{integer as integer_term, text_term, variable, shifted}
+use Rattle.lrp_model.specs.Queries.WrittenFormula.{atom_formula, compared, member}
 use Rattle.lrp_text.specs.Parsers.{Parser, Outcome, and_then, ◌>>=◌, pure, accept, eat, listed}
 use Rattle.lrp_text.specs.Taking.{is_symbol, is_symbol_token, is_word, is_word_token, expect, expect_word, required, period, period_of, name, name_of, with_place, IsPeriod}
 use Rattle.lrp_text.proofs.Complete.{ReadsBack, back_as, IsNot, Sees, bind_back, then_back, pure_back, accept_back, accepts_back, eat_back, eat_none, first_sees_any, first_is_not, last_back, MemberBack, FollowsList, listed_back}
@@ -127,7 +127,7 @@ point_back : (l : Located WrittenTerm) (i : Integer) (k : ℕ) → ReadsBack (po
 unfolding point
 point_back l i k =
     let L : Type 0 = FitsSizes (member l i k) in
-    then_back _ (back_as (i.size ≤ limit) L (λ f. f.1) (integer_back i))
+    then_back _ (back_as (i.size ≤ greatest_number) L (λ f. f.1) (integer_back i))
     (then_back _ (accepts_back _ (any (symbol_token Plus)) tt L (expect_seen Plus))
     (then_back _ (accept_back (λ t. period_of t.token) (any (number_token k)) k L (λ t h. period_tells t k L (λ f. (f.2, f.3)) h))
     (then_back _ (accepts_back _ (any (word_token Letter)) tt L (word_required Letter)) (pure_back _ _ NoShift))))
@@ -198,7 +198,7 @@ sign_sees false n ts left h = first_sees_any false (is_symbol_token Close) (numb
 bare_sees : (k : WrittenTerm) (ts left : Tokens) → Takes (term_text k) ts left → Sees false (is_symbol Close) false ts
 bare_sees (variable n) ts left h = first_sees_any false (is_symbol_token Close) (name_token n) [] ts left h
 bare_sees (shifted n down k) ts left h = first_sees_any false (is_symbol_token Close) (name_token n) (any (symbol_token (shift down)) ∷ any (number_token k) ∷ []) ts left h
-bare_sees (quoted t) ts left h = first_sees_any false (is_symbol_token Close) (text_token t) [] ts left h
+bare_sees (text_term t) ts left h = first_sees_any false (is_symbol_token Close) (text_token t) [] ts left h
 bare_sees (integer_term i) ts left h = sign_sees i.negative i.size ts left h
 
 -- the same of a term with its place
@@ -220,19 +220,19 @@ closes ps ts left h = (
 )
 
 -- the terms of an atom are read back
-atom_terms_back : (turns : ℕ) (p : Place) (n : Identifier) (ts : List (Located WrittenTerm)) → length ts ≤ turns → ReadsBack (atom_terms written turns n p) (separated comma placed_text ts ++ any (symbol_token Close) ∷ []) (atom p n ts) (FitsSizes (atom p n ts)) NoShift
+atom_terms_back : (turns : ℕ) (p : Place) (n : Identifier) (ts : List (Located WrittenTerm)) → length ts ≤ turns → ReadsBack (atom_terms written turns n p) (separated comma placed_text ts ++ any (symbol_token Close) ∷ []) (atom_formula p n ts) (FitsSizes (atom_formula p n ts)) NoShift
 unfolding atom_terms
 atom_terms_back turns p n ts few =
-    let L : Type 0 = FitsSizes (atom p n ts) in
+    let L : Type 0 = FitsSizes (atom_formula p n ts) in
     bind_back _ {P = separated comma placed_text ts} {a = ts} {F = Closes} (record { reads = λ us left h g. listed_back terms_member (is_symbol Close) term_sees turns ts few us left h g.0 g.1 })
-    (then_back _ (accepts_back _ (any (symbol_token Close)) tt L (expect_seen Close)) (pure_back (atom p n ts) L NoShift))
+    (then_back _ (accepts_back _ (any (symbol_token Close)) tt L (expect_seen Close)) (pure_back (atom_formula p n ts) L NoShift))
     (λ us left h g. closes [] us left h)
 
 -- an atom is read back
-pub atom_back : (turns : ℕ) (p : Place) (n : Identifier) (ts : List (Located WrittenTerm)) → length ts ≤ turns → ReadsBack (named written turns) (formula_text (atom p n ts)) (atom p n ts) (FitsSizes (atom p n ts)) NoShift
+pub atom_back : (turns : ℕ) (p : Place) (n : Identifier) (ts : List (Located WrittenTerm)) → length ts ≤ turns → ReadsBack (named written turns) (formula_text (atom_formula p n ts)) (atom_formula p n ts) (FitsSizes (atom_formula p n ts)) NoShift
 unfolding named
 atom_back turns p n ts few =
-    let L : Type 0 = FitsSizes (atom p n ts) in
+    let L : Type 0 = FitsSizes (atom_formula p n ts) in
     then_back _ (accepts_back (λ t. with_place t.place (name_of t.token)) (at p (name_token n)) (n, p) L (name_seen (n, p)))
     (then_back _ (eat_back (is_symbol Open) (any (symbol_token Open)) L (symbol_seen Open)) (atom_terms_back turns p n ts few))
 
@@ -303,7 +303,7 @@ unfolding atom_terms named_term
 after_name_sound d turns n p true ts us vs q one eaten e =
     let l = bind_ok (listed (term written) (is_symbol Comma) (is_symbol Close) turns vs) _ q e in
     let c = bind_ok (expect Close l.0.1) _ q l.2 in
-    let h : (atom p n l.0.0, c.0.1) ≡ q = cc in
+    let h : (atom_formula p n l.0.0, c.0.1) ≡ q = cc in
     let all = terms_sound turns vs l.0 l.1 in
     subst (λ y. IsFormula (suc d) ts y) h (
       takes_join (at p (name_token n) ∷ []) (any (symbol_token Open) ∷ (separated comma placed_text l.0.0 ++ any (symbol_token Close) ∷ [])) ts us c.0.1 one
@@ -352,8 +352,8 @@ point_stops : (d : ℕ) (l : Located WrittenTerm) (head : Tokens) (t : Placed) (
 unfolding point
 point_stops d l head t us e one fit is h =
     let R : Bool → Tokens → Type 0 = λ c x. Formulas (suc d) c (head ++ t ∷ x) in
-    sub_step integer _ integer_text (λ i. i.size ≤ limit) R us e integer_sound integer_viable h
-    (λ c i x spelled small. (symbol_at Plus ∷ one_more, (member l i 1, fits_as (i.size ≤ limit) (FitsAt (suc d) (member l i 1)) c (λ s. ((fit, s, omega arith, omega arith), tt)) small, member_spelled l i 1 head t x (symbol_at Plus ∷ one_more) one is spelled (refl, (refl, (refl, refl))))))
+    sub_step integer _ integer_text (λ i. i.size ≤ greatest_number) R us e integer_sound integer_viable h
+    (λ c i x spelled small. (symbol_at Plus ∷ one_more, (member l i 1, fits_as (i.size ≤ greatest_number) (FitsAt (suc d) (member l i 1)) c (λ s. ((fit, s, omega arith, omega arith), tt)) small, member_spelled l i 1 head t x (symbol_at Plus ∷ one_more) one is spelled (refl, (refl, (refl, refl))))))
     (λ i h1 vs s1 f1 d1. sub_step (expect Plus) _ (One (sym_part Plus)) (λ u. Unit {0}) (λ c x. R c (h1 ++ x)) vs e (symbol_sound Plus) (symbol_viable Plus) d1
     (λ c u x spelled fits. (one_more, (member l i 1, always (FitsAt (suc d) (member l i 1)) c ((fit, f1, omega arith, omega arith), tt), member_spelled l i 1 head t h1 (x ++ one_more) one is s1 (spells_join (One (sym_part Plus) u) (any (number_token 1) ∷ any (word_token Letter) ∷ []) x one_more spelled (refl, (refl, refl))))))
     (λ u h2 ws s2 f2 d2. sub_step period _ (One number_part) IsPeriod (λ c x. R c (h1 ++ (h2 ++ x))) ws e (accept_gives _ number_part IsPeriod period_told period_fits) (accept_viable _ number_part IsPeriod period_stops) d2
@@ -404,9 +404,9 @@ atom_stops d turns n p head t us e one is lt h =
     let R : Bool → Tokens → Type 0 = λ c x. Formulas (suc d) c (head ++ t ∷ x) in
     let All : List (Located WrittenTerm) → Type 0 = AllByRecursion FitsPlaced in
     sub_short (listed (term written) (is_symbol Comma) (is_symbol Close) turns) _ (separated comma placed_text) All R us e (terms_sound turns) (λ k. listed_viable (term written) placed_text FitsPlaced comma (is_symbol Comma) (is_symbol Close) (symbol_told Comma) term_sound term_viable turns us e lt k) h
-    (λ c ts x spelled fits. (symbol_at Close ∷ [], (atom p n ts, fits_as (All ts) (FitsAt (suc d) (atom p n ts)) c (λ f. (f, tt)) fits, spells_join (at p (name_token n) ∷ []) (any (symbol_token Open) ∷ (separated comma placed_text ts ++ any (symbol_token Close) ∷ [])) head (t ∷ (x ++ symbol_at Close ∷ [])) one (is, spells_join (separated comma placed_text ts) (any (symbol_token Close) ∷ []) x (symbol_at Close ∷ []) spelled (refl, refl)))))
+    (λ c ts x spelled fits. (symbol_at Close ∷ [], (atom_formula p n ts, fits_as (All ts) (FitsAt (suc d) (atom_formula p n ts)) c (λ f. (f, tt)) fits, spells_join (at p (name_token n) ∷ []) (any (symbol_token Open) ∷ (separated comma placed_text ts ++ any (symbol_token Close) ∷ [])) head (t ∷ (x ++ symbol_at Close ∷ [])) one (is, spells_join (separated comma placed_text ts) (any (symbol_token Close) ∷ []) x (symbol_at Close ∷ []) spelled (refl, refl)))))
     (λ ts h1 vs s1 f1 l1 d1. sub_step (expect Close) _ (One (sym_part Close)) (λ u. Unit {0}) (λ c x. R c (h1 ++ x)) vs e (symbol_sound Close) (symbol_viable Close) d1
-    (λ c u x spelled fits. ([], (atom p n ts, always (FitsAt (suc d) (atom p n ts)) c (f1, tt), spells_join (at p (name_token n) ∷ []) (any (symbol_token Open) ∷ (separated comma placed_text ts ++ any (symbol_token Close) ∷ [])) head (t ∷ (h1 ++ (x ++ []))) one (is, spells_join (separated comma placed_text ts) (any (symbol_token Close) ∷ []) h1 (x ++ []) s1 (subst (λ y. Spells (One (sym_part Close) u) y) (sym (append-nil x)) spelled)))))
+    (λ c u x spelled fits. ([], (atom_formula p n ts, always (FitsAt (suc d) (atom_formula p n ts)) c (f1, tt), spells_join (at p (name_token n) ∷ []) (any (symbol_token Open) ∷ (separated comma placed_text ts ++ any (symbol_token Close) ∷ [])) head (t ∷ (h1 ++ (x ++ []))) one (is, spells_join (separated comma placed_text ts) (any (symbol_token Close) ∷ []) h1 (x ++ []) s1 (subst (λ y. Spells (One (sym_part Close) u) y) (sym (append-nil x)) spelled)))))
     (λ u h2 ws s2 f2 d2. absurd cc))
 
 -- what is put together of what was read, and read on
@@ -420,7 +420,7 @@ unfolding named named_term
 named_stops d turns ts e lt h =
     let R : Bool → Tokens → Type 0 = Formulas (suc d) in
     sub_short name _ (One name_part) (λ n. Unit {0}) R ts e (λ us q k. (accept_sound _ name_part name_told us q k, tt)) (accept_viable _ name_part (λ n. Unit {0}) name_stops ts e) h
-    (λ c n x spelled fits. (no_terms, (atom n.1 n.0 [], always (FitsAt (suc d) (atom n.1 n.0 [])) c (tt, tt), spells_join (One name_part n) (any (symbol_token Open) ∷ any (symbol_token Close) ∷ []) x no_terms spelled (refl, (refl, refl)))))
+    (λ c n x spelled fits. (no_terms, (atom_formula n.1 n.0 [], always (FitsAt (suc d) (atom_formula n.1 n.0 [])) c (tt, tt), spells_join (One name_part n) (any (symbol_token Open) ∷ any (symbol_token Close) ∷ []) x no_terms spelled (refl, (refl, refl)))))
     (λ n h1 us s1 f1 l1 d1. eat_short (is_symbol Open) _ (λ c x. R c (h1 ++ x)) us e d1
     (λ t vs told less d2. atom_stops d turns n.0 n.1 h1 t vs e s1 (symbol_told Open t told) (omega arith) d2)
     (λ d2. sub_step offset _ offset_text FitsOffset (λ c x. R c (h1 ++ x)) us e offset_sound offset_viable (sym (through_pure (offset us) (λ o. with_offset n.0 o) (λ k. tested written (record { place = n.1; item = k }))) ∙ d2)

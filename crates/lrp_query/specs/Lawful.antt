@@ -1,7 +1,7 @@
 -- What holds of each query that is read: numbers within the limit, formulas that are not too deep, and bounds on how many there are.
 use Rattle.std.specs.Prelude.{◌<◌, ◌+◌, ◌≤ℤ◌, ℕ, ℤ, pos, neg_ℤ, Bool, true, false, List, [], ◌∷◌, map, count_by}
 use Rattle.std.specs.List.{AllByRecursion}
-use Rattle.lrp_model.specs.Lexing.{limit}
+use Rattle.lrp_model.specs.Lexing.{greatest_number}
 use Rattle.lrp_model.specs.Names.{AreNamed}
 use Rattle.lrp_model.specs.DatabaseMeaning.{column_of}
 use Rattle.lrp_model.specs.Queries.{Deeper}
@@ -12,19 +12,19 @@ use Rattle.lrp_model.specs.declared.raw.RawTermKind.{RawTermKind}
 use Rattle.lrp_model.specs.declared.raw.RawTermKind.TheVariants.{Int, Text, Var, Shifted}
 
 -- a magnitude of at most 2^62
-abbrev pub IsWithin : ℤ → Type 0
-IsWithin z = (neg_ℤ (pos limit) ≤ℤ z) × (z ≤ℤ pos limit)
+abbrev pub HasMagnitude : ℤ → Type 0
+HasMagnitude z = (neg_ℤ (pos greatest_number) ≤ℤ z) × (z ≤ℤ pos greatest_number)
 
 -- an integer or an offset within the limit
 abbrev pub FitsRawTerm : RawTermKind → Type 0
-FitsRawTerm (Int z) = IsWithin z
-FitsRawTerm (Shifted n z) = IsWithin z
+FitsRawTerm (Int z) = HasMagnitude z
+FitsRawTerm (Shifted n z) = HasMagnitude z
 FitsRawTerm (Text t) = Unit {0}
 FitsRawTerm (Var n) = Unit {0}
 
 -- an offset within the limit, and a period from 1 to the limit
 abbrev pub FitsRawPoint : RowPoint → Type 0
-FitsRawPoint p = IsWithin p.offset × (pos 1 ≤ℤ p.period) × (p.period ≤ℤ pos limit)
+FitsRawPoint p = HasMagnitude p.offset × (pos 1 ≤ℤ p.period) × (p.period ≤ℤ pos greatest_number)
 
 -- two members at least
 abbrev pub HasTwo : RawForms → Type 0
@@ -91,26 +91,26 @@ is_raw_text (Text t) = true
 is_raw_text _ = false
 
 -- how many of the terms are texts
-abbrev pub texts_among : List RawTerm → ℕ
-texts_among = count_by (λ t. is_raw_text t.kind)
+abbrev pub text_total : List RawTerm → ℕ
+text_total = count_by (λ t. is_raw_text t.kind)
 
 -- how many texts stand in a formula
 abbrev mutual
-  pub texts_in : RawForm → ℕ
-  texts_in (raw_atom p n ts) = texts_among ts
-  texts_in (raw_compare p l op r) = texts_among (l ∷ r ∷ [])
-  texts_in (raw_member p t q) = texts_among (t ∷ [])
-  texts_in (raw_not p f) = texts_in f
-  texts_in (raw_and p fs) = texts_of fs
-  texts_in (raw_or p fs) = texts_of fs
-  texts_in (raw_implies p f g) = texts_in f + texts_in g
-  texts_in (raw_group p f) = texts_in f
-  texts_in (raw_exists p c f) = texts_in f
-  texts_in (raw_forall p c f) = texts_in f
+  pub formula_texts : RawForm → ℕ
+  formula_texts (raw_atom p n ts) = text_total ts
+  formula_texts (raw_compare p l op r) = text_total (l ∷ r ∷ [])
+  formula_texts (raw_member p t q) = text_total (t ∷ [])
+  formula_texts (raw_not p f) = formula_texts f
+  formula_texts (raw_and p fs) = texts_of fs
+  formula_texts (raw_or p fs) = texts_of fs
+  formula_texts (raw_implies p f g) = formula_texts f + formula_texts g
+  formula_texts (raw_group p f) = formula_texts f
+  formula_texts (raw_exists p c f) = formula_texts f
+  formula_texts (raw_forall p c f) = formula_texts f
 
   pub texts_of : RawForms → ℕ
   texts_of no_raws = 0
-  texts_of (raw f fs) = texts_in f + texts_of fs
+  texts_of (raw f fs) = formula_texts f + texts_of fs
 
 -- what holds of a query that is read: the names in its head are names, and fewer than 2^26 formulas and fewer than 2^24 texts stand in it
 pub record IsLawful (q : RawQuestion) : Type 0 where
@@ -118,4 +118,4 @@ pub record IsLawful (q : RawQuestion) : Type 0 where
   pub sizes : FitsRaw q.body
   pub depth : IsShallow q.body 64
   pub formulas : formulas_in q.body < 67108864
-  pub texts : texts_in q.body < 16777216
+  pub texts : formula_texts q.body < 16777216

@@ -17,8 +17,8 @@ use Rattle.lrp_model.specs.Tokens.{Token, Placed}
 use Rattle.lrp_model.specs.Tokens.Token.{name_token, word_token, number_token, text_token, symbol_token, hole_token}
 use Rattle.lrp_model.specs.DatabaseMeaning.{integer_of}
 use Rattle.lrp_model.specs.Queries.{WrittenTerm, WrittenFormula, FurtherMembers, WrittenQuery}
-use Rattle.lrp_model.specs.Queries.WrittenTerm.{integer as integer_term, quoted, variable, shifted}
-use Rattle.lrp_model.specs.Queries.WrittenFormula.{atom, compared, member, denied, all_of, any_of, implied, group, some, every, hole}
+use Rattle.lrp_model.specs.Queries.WrittenTerm.{integer as integer_term, text_term, variable, shifted}
+use Rattle.lrp_model.specs.Queries.WrittenFormula.{atom_formula, compared, member, denied, all_of, any_of, implied, group, some, every, hole}
 use Rattle.lrp_model.specs.Queries.FurtherMembers.{last, more}
 use Rattle.lrp_model.specs.QueryMeaning.{term_kind}
 use Rattle.lrp_model.specs.RawQueries.{RawForm, RawForms, RawQuestion, raw_atom, raw_compare, raw_member, raw_not, raw_and, raw_or, raw_implies, raw_group, raw_exists, raw_forall, no_raws, raw}
@@ -76,21 +76,21 @@ further f [] = last f
 further f (g ∷ gs) = more f (further g gs)
 
 -- two members or more
-abbrev pub gathered : (Place → WrittenFormula → FurtherMembers → WrittenFormula) → Place → List WrittenFormula → WrittenFormula
-gathered make p (f ∷ g ∷ gs) = make p f (further g gs)
-gathered make p _ = hole p
+abbrev pub many_members : (Place → WrittenFormula → FurtherMembers → WrittenFormula) → Place → List WrittenFormula → WrittenFormula
+many_members make p (f ∷ g ∷ gs) = make p f (further g gs)
+many_members make p _ = hole p
 
 -- the tree as it is written
 abbrev pub written : Trees WrittenTerm (Located WrittenTerm) WrittenFormula WrittenQuery
 written = record {
   kind_of = λ t. t;
   term_at = λ p t. record { place = p; item = t };
-  atom_of = atom;
+  atom_of = atom_formula;
   comparison = compared;
   membership = member;
   negation = denied;
-  conjunction = gathered all_of;
-  disjunction = gathered any_of;
+  conjunction = many_members all_of;
+  disjunction = many_members any_of;
   implication = implied;
   parenthesis = group;
   existential = some;
@@ -159,7 +159,7 @@ unnamed_term make = do
   text_next ← look false is_text
   if text_next then (do
     t ← text
-    pure (make.kind_of (quoted t))) else (do
+    pure (make.kind_of (text_term t))) else (do
       i ← integer
       pure (make.kind_of (integer_term i)))
 

@@ -1,6 +1,6 @@
 // Terms, and formulas with no others inside, read from their tokens.
 ghost use Rattle.std.specs.Prelude.{◌≡◌, ◌≤◌, ◌<◌, ℕ, [], length, IfOk};
-ghost use Rattle.lrp_model.specs.Lexing.{limit};
+ghost use Rattle.lrp_model.specs.Lexing.{greatest_number};
 ghost use Rattle.lrp_model.specs.DatabaseMeaning.{signed as signed_number};
 ghost use Rattle.lrp_text.specs.Parsers.{Reads, accept, separated_from, listed};
 ghost use Rattle.lrp_text.specs.Taking.{is_symbol};
@@ -16,7 +16,7 @@ use std::alloc::Global;
 
 // The number of this size, negative with the flag.
 fn signed(negative: bool, size: u64) -> i64
-    requires { size ≤ limit }
+    requires { size ≤ greatest_number }
     ensures { result ≡ signed_number negative size }
 {
     let size = size as i64;

@@ -15,7 +15,7 @@ use Rattle.lrp_model.specs.Tokens.Token.{name_token, number_token, symbol_token}
 use Rattle.lrp_model.specs.Tokens.Part.{any}
 use Rattle.lrp_text.specs.Parsers.{◌>>=◌, pure, accept, look, eat}
 use Rattle.lrp_model.specs.Refused.{Stops, TextOf}
-use Rattle.lrp_model.specs.Lexing.{limit}
+use Rattle.lrp_model.specs.Lexing.{greatest_number}
 use Rattle.lrp_text.specs.Taking.{is_name, is_symbol, is_symbol_token, number, is_name_token}
 use Rattle.lrp_text.proofs.Complete.{ReadsBack, IsNot, bind_back, then_back, pure_back, accepts_back, eat_back, eat_none, look_back, first_sees_at, first_is_not, last_back, same_next}
 use Rattle.lrp_text.proofs.Sound.{Sound, bind_ok, accept_sound, eat_sound, eaten_parts, takes_join, look_ok}
@@ -42,31 +42,31 @@ column_side_back n =
     (λ ts left h g. (same_next NoShift ts left h g).0))
 
 -- the tokens of a column with an offset are read back
-pub shifted_side_back : (n : Located Identifier) (down : Bool) (k : ℕ) → ReadsBack named_side (side_text (Shifted n down k)) (Shifted n down k) (k ≤ limit) NoShift
+pub shifted_side_back : (n : Located Identifier) (down : Bool) (k : ℕ) → ReadsBack named_side (side_text (Shifted n down k)) (Shifted n down k) (k ≤ greatest_number) NoShift
 unfolding named_side
 shifted_side_back n false k =
-    then_back _ (label_back n (k ≤ limit))
-    (then_back _ (eat_back (is_symbol Plus) (any (symbol_token Plus)) (k ≤ limit) (symbol_seen Plus))
-    (then_back _ (number_back k (k ≤ limit) (λ l. l)) (pure_back _ _ NoShift)))
+    then_back _ (label_back n (k ≤ greatest_number))
+    (then_back _ (eat_back (is_symbol Plus) (any (symbol_token Plus)) (k ≤ greatest_number) (symbol_seen Plus))
+    (then_back _ (number_back k (k ≤ greatest_number) (λ l. l)) (pure_back _ _ NoShift)))
 shifted_side_back n true k =
-    then_back _ (label_back n (k ≤ limit))
-    (bind_back _ (eat_none (is_symbol Plus) (k ≤ limit))
-    (then_back _ (eat_back (is_symbol Minus) (any (symbol_token Minus)) (k ≤ limit) (symbol_seen Minus))
-    (then_back _ (number_back k (k ≤ limit) (λ l. l)) (pure_back _ _ NoShift)))
+    then_back _ (label_back n (k ≤ greatest_number))
+    (bind_back _ (eat_none (is_symbol Plus) (k ≤ greatest_number))
+    (then_back _ (eat_back (is_symbol Minus) (any (symbol_token Minus)) (k ≤ greatest_number) (symbol_seen Minus))
+    (then_back _ (number_back k (k ≤ greatest_number) (λ l. l)) (pure_back _ _ NoShift)))
     (λ ts left h g. first_is_not (is_symbol_token Plus) (symbol_token Minus) (number_part k ∷ []) ts left refl h))
 
 -- the tokens of a side are read back
 pub side_back : (s : Side) → ReadsBack side (side_text s) s (FitsSide s) NoShift
 unfolding side
 side_back (Alone i) =
-    bind_back _ {G = NoShift} (look_back false is_name false (i.size ≤ limit))
-    (last_back integer Alone (integer_text i) i (i.size ≤ limit) NoShift (record { reads = λ ts left h g. (integer_back i).reads ts left h tt }))
+    bind_back _ {G = NoShift} (look_back false is_name false (i.size ≤ greatest_number))
+    (last_back integer Alone (integer_text i) i (i.size ≤ greatest_number) NoShift (record { reads = λ ts left h g. (integer_back i).reads ts left h tt }))
     (λ ts left h g. no_name i.negative i.size ts left h)
 side_back (Column n) =
     bind_back _ {G = NoShift} (look_back false is_name true (Unit {0})) (column_side_back n)
     (λ ts left h g. first_sees_at false is_name_token n.place (name_token n.item) [] ts left h)
 side_back (Shifted n down k) =
-    bind_back _ {G = NoShift} (look_back false is_name true (k ≤ limit)) (shifted_side_back n down k)
+    bind_back _ {G = NoShift} (look_back false is_name true (k ≤ greatest_number)) (shifted_side_back n down k)
     (λ ts left h g. first_sees_at false is_name_token n.place (name_token n.item) (any (symbol_token (shift down)) ∷ number_part k ∷ []) ts left h)
 
 -- the symbols of bounds
@@ -181,7 +181,7 @@ Sides = TextOf side_text FitsSide
 -- behind a name and a sign stands a number
 sides_shift : (n : Located Identifier) (is_down : Bool) (head : Tokens) (t : Placed) (vs : Tokens) (e : Fault × Tokens) → Spells (name_part n ∷ []) head → IsPart (any (symbol_token (shift is_down))) t → (number >>= (λ k. pure (Shifted n is_down k))) vs ≡ Err e → Stops (λ c x. Sides c (head ++ t ∷ x)) vs e
 sides_shift n is_down head t vs e one is d =
-    sub_step number _ (One number_part) (λ k. k ≤ limit) (λ c x. Sides c (head ++ t ∷ x)) vs e number_sound number_viable d
+    sub_step number _ (One number_part) (λ k. k ≤ greatest_number) (λ c x. Sides c (head ++ t ∷ x)) vs e number_sound number_viable d
     (λ c k x spelled fit. ([], (Shifted n is_down k, fit, spells_join (name_part n ∷ []) (any (symbol_token (shift is_down)) ∷ number_part k ∷ []) head (t ∷ (x ++ [])) one (is, spells_join (One number_part k) [] x [] spelled refl))))
     (λ k h3 ws s3 f3 d3. absurd cc)
 
@@ -201,7 +201,7 @@ named_side_viable ts e h =
 either_side_viable : (named : Bool) → Viable (if named then named_side else (integer >>= (λ i. pure (Alone i)))) side_text FitsSide
 either_side_viable true = named_side_viable
 either_side_viable false = λ ts e h.
-    sub_step integer _ integer_text (λ i. i.size ≤ limit) Sides ts e integer_sound integer_viable h
+    sub_step integer _ integer_text (λ i. i.size ≤ greatest_number) Sides ts e integer_sound integer_viable h
     (λ c i x spelled fit. ([], (Alone i, fit, subst (λ y. Spells (integer_text i) y) (sym (append-nil x)) spelled)))
     (λ i h2 us s2 f2 d2. absurd cc)
 
@@ -228,9 +228,9 @@ unfolding bound
 bound_viable ts e h =
     let R : Bool → Tokens → Type 0 = TextOf bound_text FitsBound in
     sub_step label _ (One name_part) (λ n. Unit {0}) R ts e label_sound label_viable h
-    (λ c n x spelled fit. (least_tokens, (record { left = n; op = AtMost; side = zero_side }, always (0 ≤ limit) c (omega arith), spells_join (One name_part n) (op_part AtMost ∷ side_text zero_side) x least_tokens spelled (refl, (refl, refl)))))
+    (λ c n x spelled fit. (least_tokens, (record { left = n; op = AtMost; side = zero_side }, always (0 ≤ greatest_number) c (omega arith), spells_join (One name_part n) (op_part AtMost ∷ side_text zero_side) x least_tokens spelled (refl, (refl, refl)))))
     (λ n h1 us s1 f1 d1. sub_step (accept (λ t. op_of t.token)) _ (One op_part) (λ op. Unit {0}) (λ c x. R c (h1 ++ x)) us e (λ vs q r. (accept_sound _ op_part op_told vs q r, tt)) (accept_viable _ op_part (λ op. Unit {0}) op_stops) d1
-    (λ c op x spelled fit. (zero_tokens, (record { left = n; op = op; side = zero_side }, always (0 ≤ limit) c (omega arith), spells_join (One name_part n) (op_part op ∷ side_text zero_side) h1 (x ++ zero_tokens) s1 (spells_join (One op_part op) (side_text zero_side) x zero_tokens spelled (refl, refl)))))
+    (λ c op x spelled fit. (zero_tokens, (record { left = n; op = op; side = zero_side }, always (0 ≤ greatest_number) c (omega arith), spells_join (One name_part n) (op_part op ∷ side_text zero_side) h1 (x ++ zero_tokens) s1 (spells_join (One op_part op) (side_text zero_side) x zero_tokens spelled (refl, refl)))))
     (λ op h2 vs s2 f2 d2. sub_step side _ side_text FitsSide (λ c x. R c (h1 ++ (h2 ++ x))) vs e side_sound side_viable d2
     (λ c s x spelled fit. ([], (record { left = n; op = op; side = s }, fit, spells_join (One name_part n) (op_part op ∷ side_text s) h1 (h2 ++ (x ++ [])) s1 (spells_join (One op_part op) (side_text s) h2 (x ++ []) s2 (subst (λ y. Spells (side_text s) y) (sym (append-nil x)) spelled)))))
     (λ s h3 ws s3 f3 d3. absurd cc)))

@@ -5,13 +5,13 @@ use Rattle.std.proofs.lemmas.Int.{ints}
 use Rattle.std.specs.List.{flat_map, AllByRecursion}
 use Rattle.std.specs.Str.{bytes_eq}
 use Rattle.std.proofs.lemmas.Bool.Decides.{nat_tests}
-use Rattle.lrp_model.specs.Texts.{Identifier}
-use Rattle.lrp_model.specs.Lexing.{limit}
-use Rattle.lrp_model.specs.Sorts.{is_time}
+use Rattle.lrp_model.specs.Texts.{Identifier, AreDistinct}
+use Rattle.lrp_model.specs.Lexing.{greatest_number}
+use Rattle.lrp_model.specs.Sorts.{is_time, time_count}
 use Rattle.lrp_model.specs.Databases.{FitsValue, FitsSide, FitsBound, FitsRow, FitsDatabase}
 use Rattle.lrp_model.specs.Faults.{fault_if, repeated}
 use Rattle.lrp_model.specs.DatabaseMeaning.{signed, integer_of, column_of, time_number, value_of, kept, value_bounds, instant_bounds, side_bounds, kept_bounds, row_of, relation_of, database_of}
-use Rattle.lrp_model.specs.DatabaseFaults.{fault, suits, wrong_sorts, unknown, side_faults, row_faults, relation_faults, faults}
+use Rattle.lrp_model.specs.DatabaseFaults.{database_fault, suits, wrong_sorts, unknown, side_faults, row_faults, relation_faults, database_faults}
 use Rattle.lrp_model.specs.declared.raw.RawColumn.{RawColumn}
 use Rattle.lrp_model.specs.declared.relations.Bound.{Bound}
 use Rattle.lrp_model.specs.declared.written.Located.{Located}
@@ -25,7 +25,7 @@ use Rattle.lrp_model.specs.declared.written.RawBound.{RawBound}
 use Rattle.lrp_model.specs.declared.written.RawRow.{RawRow}
 use Rattle.lrp_model.specs.declared.written.RawRelation.{RawRelation}
 use Rattle.lrp_model.specs.declared.faults.DbKind.TheVariants.{Name, Arity, Sort, Column as column_kind}
-use Rattle.lrp_print.specs.Kept.{IsValueOf, AreValuesOf, IsBoundOf, IsRowOf, IsKept, AreKept, Differ, times_in}
+use Rattle.lrp_print.specs.Kept.{IsValueOf, AreValuesOf, IsBoundOf, IsRowOf, IsKept, AreKept}
 use Rattle.lrp_rel.specs.Times.{points_in, point_count, HasMeaning}
 use Rattle.lrp_rel.proofs.FaultWalks.{bound_faults}
 use Rattle.lrp_rel.proofs.NameLemmas.{IsNamedRelation}
@@ -50,20 +50,20 @@ values_kept [] [] same e fits texts = tt
 values_kept [] (v ∷ vs) same e fits texts = absurd (omega (arith, same))
 values_kept (c ∷ cs) [] same e fits texts = absurd (omega (arith, same))
 values_kept (c ∷ cs) (v ∷ vs) same e fits texts =
-    let here = fault_if (not (suits v.item c)) (fault Sort v.place) in (
-      one_kept v.item c (turned_false (suits v.item c) (no_fault_if (not (suits v.item c)) (fault Sort v.place) (first_empty here (wrong_sorts cs vs) e))) fits.0 texts.0,
+    let here = fault_if (not (suits v.item c)) (database_fault Sort v.place) in (
+      one_kept v.item c (turned_false (suits v.item c) (no_fault_if (not (suits v.item c)) (database_fault Sort v.place) (first_empty here (wrong_sorts cs vs) e))) fits.0 texts.0,
       values_kept cs vs (omega (arith, same)) (second_empty here (wrong_sorts cs vs) e) fits.1 texts.1,
     )
 
 -- ---- bounds
 
 -- a lawful number with its sign
-signed_within : (b : Bool) (n : ℕ) → n ≤ limit → (neg_ℤ (pos limit) ≤ℤ signed b n) × (signed b n ≤ℤ pos limit)
+signed_within : (b : Bool) (n : ℕ) → n ≤ greatest_number → (neg_ℤ (pos greatest_number) ≤ℤ signed b n) × (signed b n ≤ℤ pos greatest_number)
 signed_within true n le = (omega (arith, ints, le), omega (arith, ints, le))
 signed_within false n le = (omega (arith, ints, le), omega (arith, ints, le))
 
 -- what a comparison means is kept
-kept_within : (times x y : ℕ) (a : ℤ) (op : BoundOp) → x ≤ times → y ≤ times → 0 < x + y → neg_ℤ (pos limit) ≤ℤ a → a ≤ℤ pos limit → AllByRecursion (IsBoundOf times) (kept op x y a)
+kept_within : (times x y : ℕ) (a : ℤ) (op : BoundOp) → x ≤ times → y ≤ times → 0 < x + y → neg_ℤ (pos greatest_number) ≤ℤ a → a ≤ℤ pos greatest_number → AllByRecursion (IsBoundOf times) (kept op x y a)
 kept_within times x y a AtMost le less some low high = (record { left = le; right = less; some = some; low = low; high = high }, tt)
 kept_within times x y a AtLeast le less some low high = (record { left = less; right = le; some = omega (arith, some); low = omega (arith, ints, high); high = omega (arith, ints, low) }, tt)
 kept_within times x y a Equal le less some low high =
@@ -89,49 +89,49 @@ instants_within times before (v ∷ vs) le fits =
     value_within times before v.item (instant_bounds vs) (omega (arith, le)) fits.0 (λ k e. instants_within times k vs (omega (arith, le, e)) fits.1)
 
 -- the number of a time column is at most that of all
-number_within : (before : ℕ) (cs : List RawColumn) (n : Identifier) → time_number before cs n ≤ before + times_in (map column_of cs)
+number_within : (before : ℕ) (cs : List RawColumn) (n : Identifier) → time_number before cs n ≤ before + time_count (map column_of cs)
 number_within before [] n = omega arith
 number_within before (c ∷ cs) n =
     let t = times_more c cs in
     let r = by (is_time c.sort) (number_within (before + 1) cs n) (number_within before cs n) in
     omega (arith, r, t)
   where
-    named : (b : Bool) → time_number (before + 1) cs n ≤ before + 1 + times_in (map column_of cs) → (if b then before + 1 else time_number (before + 1) cs n) ≤ before + (1 + times_in (map column_of cs))
+    named : (b : Bool) → time_number (before + 1) cs n ≤ before + 1 + time_count (map column_of cs) → (if b then before + 1 else time_number (before + 1) cs n) ≤ before + (1 + time_count (map column_of cs))
     named true h = omega arith
     named false h = omega (arith, h)
 
-    by : (b : Bool) → time_number (before + 1) cs n ≤ before + 1 + times_in (map column_of cs) → time_number before cs n ≤ before + times_in (map column_of cs)
-        → (if b then (if bytes_eq c.name n then before + 1 else time_number (before + 1) cs n) else time_number before cs n) ≤ before + ((if b then 1 else 0) + times_in (map column_of cs))
+    by : (b : Bool) → time_number (before + 1) cs n ≤ before + 1 + time_count (map column_of cs) → time_number before cs n ≤ before + time_count (map column_of cs)
+        → (if b then (if bytes_eq c.name n then before + 1 else time_number (before + 1) cs n) else time_number before cs n) ≤ before + ((if b then 1 else 0) + time_count (map column_of cs))
     by true h k = named (bytes_eq c.name n) h
     by false h k = omega (arith, k)
 
 -- a name without a fault has a number
 number_some : (cs : List RawColumn) (n : Located Identifier) → unknown cs n ≡ [] → 0 < time_number 0 cs n.item
-number_some cs n e = above (time_number 0 cs n.item) (no_fault_if (time_number 0 cs n.item == 0) (fault column_kind n.place) e)
+number_some cs n e = above (time_number 0 cs n.item) (no_fault_if (time_number 0 cs n.item == 0) (database_fault column_kind n.place) e)
   where
     above : (k : ℕ) → (k == 0) ≡ false → 0 < k
     above k h = grind (arith, nat_tests)
 
 -- what a bound means is kept
-side_within : (cs : List RawColumn) (x : ℕ) (op : BoundOp) (s : Side) → 0 < x → x ≤ times_in (map column_of cs) → side_faults cs s ≡ [] → FitsSide s → AllByRecursion (IsBoundOf (times_in (map column_of cs))) (side_bounds cs op x s)
+side_within : (cs : List RawColumn) (x : ℕ) (op : BoundOp) (s : Side) → 0 < x → x ≤ time_count (map column_of cs) → side_faults cs s ≡ [] → FitsSide s → AllByRecursion (IsBoundOf (time_count (map column_of cs))) (side_bounds cs op x s)
 side_within cs x op (Alone i) some le e fits =
     let size = signed_within i.negative i.size fits in
-    kept_within (times_in (map column_of cs)) x 0 (integer_of i) op le (omega arith) (omega (arith, some)) size.0 size.1
+    kept_within (time_count (map column_of cs)) x 0 (integer_of i) op le (omega arith) (omega (arith, some)) size.0 size.1
 side_within cs x op (side_column n) some le e fits =
     let y = number_within 0 cs n.item in
-    kept_within (times_in (map column_of cs)) x (time_number 0 cs n.item) (pos 0) op le (omega (arith, y)) (omega (arith, some)) (omega (arith, ints)) (omega (arith, ints))
+    kept_within (time_count (map column_of cs)) x (time_number 0 cs n.item) (pos 0) op le (omega (arith, y)) (omega (arith, some)) (omega (arith, ints)) (omega (arith, ints))
 side_within cs x op (Shifted n down k) some le e fits =
     let y = number_within 0 cs n.item in
     let size = signed_within down k fits in
-    kept_within (times_in (map column_of cs)) x (time_number 0 cs n.item) (signed down k) op le (omega (arith, y)) (omega (arith, some)) size.0 size.1
+    kept_within (time_count (map column_of cs)) x (time_number 0 cs n.item) (signed down k) op le (omega (arith, y)) (omega (arith, some)) size.0 size.1
 
 -- what the bounds of a row mean is kept
-bounds_within : (cs : List RawColumn) (bs : List RawBound) → AllByRecursion (λ b. bound_faults cs b ≡ []) bs → AllByRecursion FitsBound bs → AllByRecursion (IsBoundOf (times_in (map column_of cs))) (flat_map (kept_bounds cs) bs)
+bounds_within : (cs : List RawColumn) (bs : List RawBound) → AllByRecursion (λ b. bound_faults cs b ≡ []) bs → AllByRecursion FitsBound bs → AllByRecursion (IsBoundOf (time_count (map column_of cs))) (flat_map (kept_bounds cs) bs)
 bounds_within cs [] e fits = tt
 bounds_within cs (b ∷ bs) e fits =
     let x = number_within 0 cs b.left.item in
     let some = number_some cs b.left (first_empty (unknown cs b.left) (side_faults cs b.side) e.0) in
-    all_join (IsBoundOf (times_in (map column_of cs))) (kept_bounds cs b) (flat_map (kept_bounds cs) bs)
+    all_join (IsBoundOf (time_count (map column_of cs))) (kept_bounds cs b) (flat_map (kept_bounds cs) bs)
     (side_within cs (time_number 0 cs b.left.item) b.op b.side some (omega (arith, x)) (second_empty (unknown cs b.left) (side_faults cs b.side) e.0) fits.0)
     (bounds_within cs bs e.1 fits.1)
 
@@ -140,14 +140,14 @@ bounds_within cs (b ∷ bs) e fits =
 -- a row without faults is kept
 row_kept : (cs : List RawColumn) (row : Located RawRow) → row_faults cs row ≡ [] → FitsRow row.item → RowHasTexts row → IsRowOf (map column_of cs) (row_of cs row.item)
 row_kept cs row e fits texts =
-    let arity = fault_if (not (length row.item.values == length cs)) (fault Arity row.place) in
+    let arity = fault_if (not (length row.item.values == length cs)) (database_fault Arity row.place) in
     let sorts = wrong_sorts cs row.item.values in
     let names = flat_map (bound_faults cs) row.item.bounds in
     let many = points_many cs row.item.values (row_many cs row e) (row_suits cs row e) in
     record {
       values = values_kept cs row.item.values (row_many cs row e) (row_suits cs row e) fits.0 texts;
-      bounds = all_join (IsBoundOf (times_in (map column_of cs))) (instant_bounds row.item.values 0) (flat_map (kept_bounds cs) row.item.bounds)
-          (instants_within (times_in (map column_of cs)) 0 row.item.values (omega (arith, many)) fits.0)
+      bounds = all_join (IsBoundOf (time_count (map column_of cs))) (instant_bounds row.item.values 0) (flat_map (kept_bounds cs) row.item.bounds)
+          (instants_within (time_count (map column_of cs)) 0 row.item.values (omega (arith, many)) fits.0)
           (bounds_within cs row.item.bounds (each_empty (bound_faults cs) row.item.bounds (second_empty (arity ++ sorts) names e)) fits.1);
     }
 
@@ -168,7 +168,7 @@ relation_kept r h named texts =
     record {
       name = named.name;
       columns = named.columns;
-      differ = subst Differ (plain_names r.columns) (columns_differ r h.sound);
+      differ = subst AreDistinct (plain_names r.columns) (columns_differ r h.sound);
       times = few.0;
       texts = few.1;
       rows = rows_kept r.columns r.rows (rows_sound r h.sound) h.fits texts;
@@ -185,16 +185,16 @@ relation_names [] = refl
 relation_names (r ∷ rs) = ap (λ l. r.name.item ∷ l) (relation_names rs)
 
 -- a lawful tree without faults has a meaning
-pub tree_means : (rs : List RawRelation) → FitsDatabase rs → faults rs ≡ [] → AllByRecursion HasMeaning rs
-tree_means rs fits e = both rs fits (each_empty relation_faults rs (second_empty (repeated (fault Name) [] (map (λ r. r.name) rs)) (flat_map relation_faults rs) e))
+pub tree_means : (rs : List RawRelation) → FitsDatabase rs → database_faults rs ≡ [] → AllByRecursion HasMeaning rs
+tree_means rs fits e = both rs fits (each_empty relation_faults rs (second_empty (repeated (database_fault Name) [] (map (λ r. r.name) rs)) (flat_map relation_faults rs) e))
   where
     both : (ss : List RawRelation) → FitsDatabase ss → AllByRecursion (λ r. relation_faults r ≡ []) ss → AllByRecursion HasMeaning ss
     both [] f s = tt
     both (r ∷ ss) f s = (record { fits = f.0; sound = s.0 }, both ss f.1 s.1)
 
 -- and the relations that it means are kept
-pub tree_kept : (rs : List RawRelation) → FitsDatabase rs → faults rs ≡ [] → AllByRecursion IsNamedRelation rs → AllByRecursion HasTexts rs → AreKept (database_of rs)
+pub tree_kept : (rs : List RawRelation) → FitsDatabase rs → database_faults rs ≡ [] → AllByRecursion IsNamedRelation rs → AllByRecursion HasTexts rs → AreKept (database_of rs)
 tree_kept rs fits e named texts = record {
   each = relations_kept rs (tree_means rs fits e) named texts;
-  differ = subst Differ (relation_names rs) (differ (fault Name) (map (λ r. r.name) rs) (first_empty (repeated (fault Name) [] (map (λ r. r.name) rs)) (flat_map relation_faults rs) e));
+  differ = subst AreDistinct (relation_names rs) (differ (database_fault Name) (map (λ r. r.name) rs) (first_empty (repeated (database_fault Name) [] (map (λ r. r.name) rs)) (flat_map relation_faults rs) e));
 }

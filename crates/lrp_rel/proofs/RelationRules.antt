@@ -13,7 +13,7 @@ use Rattle.lrp_model.specs.declared.written.RawRow.{RawRow}
 use Rattle.lrp_model.specs.declared.written.RawRelation.{RawRelation}
 use Rattle.lrp_model.specs.Texts.{Identifier}
 use Rattle.lrp_model.specs.Lexing.{start}
-use Rattle.lrp_model.specs.Tokens.{Placed, Tokens, Part, Takes, Spells, located_text, joined, separated}
+use Rattle.lrp_model.specs.Tokens.{Placed, Tokens, Part, Takes, Spells, located_text, joined_parts, separated}
 use Rattle.lrp_model.specs.Tokens.Token.{name_token, symbol_token, word_token}
 use Rattle.lrp_model.specs.Tokens.Part.{at, any}
 use Rattle.lrp_model.specs.Refused.{Stops, TextOf}
@@ -71,7 +71,7 @@ row_leads r = tt
 
 -- what spells the rows of a relation
 abbrev pub rows_text : List (Located RawRow) → List Part
-rows_text = joined (located_text row_text)
+rows_text = joined_parts (located_text row_text)
 
 -- a row as a member of a list
 rows_member : (n : ℕ) → MemberUntil (located (row n)) (located_text row_text) (λ r. FitsRow r.item) Anything (is_symbol CloseBrace) n

@@ -6,11 +6,11 @@ use Rattle.std.specs.Cmp.Lexicographic.{bytes_decides}
 use Rattle.std.proofs.lemmas.Cmp.{nat_list_eq_equiv}
 use Rattle.std.proofs.lemmas.Bool.Decides.{nat_tests}
 use Rattle.std.proofs.lemmas.List.Sums.{sum_by-cons}
-use Rattle.lrp_model.specs.Texts.{Identifier}
-use Rattle.lrp_model.specs.Sorts.{is_time, is_data}
+use Rattle.lrp_model.specs.Texts.{Identifier, AreDistinct}
+use Rattle.lrp_model.specs.Sorts.{is_time, is_data, time_count, text_count}
 use Rattle.lrp_model.specs.Faults.{fault_if, repeated, ninth, is_named_in}
 use Rattle.lrp_model.specs.DatabaseMeaning.{time_number, column_of}
-use Rattle.lrp_model.specs.DatabaseFaults.{fault, suits, wrong_sorts, named_at, row_faults, relation_faults}
+use Rattle.lrp_model.specs.DatabaseFaults.{database_fault, suits, wrong_sorts, named_at, row_faults, relation_faults}
 use Rattle.lrp_model.specs.declared.tokens.Place.{Place}
 use Rattle.lrp_model.specs.declared.raw.RawColumn.{RawColumn}
 use Rattle.lrp_model.specs.declared.written.Located.{Located}
@@ -20,9 +20,8 @@ use Rattle.lrp_model.specs.declared.written.RawRow.{RawRow}
 use Rattle.lrp_model.specs.declared.written.RawRelation.{RawRelation}
 use Rattle.lrp_model.specs.declared.faults.DbFault.{DbFault}
 use Rattle.lrp_model.specs.declared.faults.DbKind.TheVariants.{Name, Arity, Sort, Wide}
-use Rattle.lrp_print.specs.Kept.{Differ, times_in, texts_in}
 use Rattle.lrp_rel.specs.Once.{once, put_once}
-use Rattle.lrp_rel.specs.Times.{time_names, AreTimesOf, AreNumbered, place_from, points_in, point_count}
+use Rattle.lrp_rel.specs.Times.{time_names, AreTimesOf, AreTimePlaces, place_from, points_in, point_count}
 use Rattle.lrp_rel.proofs.SeenLemmas.{IsFirst, neither}
 use Rattle.lrp_rel.proofs.FaultWalks.{any_more, bound_faults}
 
@@ -62,7 +61,7 @@ none_back : (n m : Identifier) → m ≢ n → n ≢ m
 none_back n m apart e = apart (sym e)
 
 -- names behind others differ from these, and from one another
-differ_behind : (f : Place → DbFault) (before : List Identifier) (ns : List (Located Identifier)) → repeated f before ns ≡ [] → AllByRecursion (λ n. AllByRecursion (λ m. n.item ≢ m) before) ns × Differ (map (λ n. n.item) ns)
+differ_behind : (f : Place → DbFault) (before : List Identifier) (ns : List (Located Identifier)) → repeated f before ns ≡ [] → AllByRecursion (λ n. AllByRecursion (λ m. n.item ≢ m) before) ns × AreDistinct (map (λ n. n.item) ns)
 differ_behind f before [] e = (tt, tt)
 differ_behind f before (n ∷ ns) e =
     let new : is_named_in before n.item ≡ false = no_fault_if (is_named_in before n.item) (f n.place) (first_empty (fault_if (is_named_in before n.item) (f n.place)) (repeated f (n.item ∷ before) ns) e) in
@@ -78,20 +77,20 @@ differ_behind f before (n ∷ ns) e =
     heads (m ∷ ms) h = (none_back n.item m.item h.0.0, heads ms h.1)
 
 -- names without a second one differ
-pub differ : (f : Place → DbFault) (ns : List (Located Identifier)) → repeated f [] ns ≡ [] → Differ (map (λ n. n.item) ns)
+pub differ : (f : Place → DbFault) (ns : List (Located Identifier)) → repeated f [] ns ≡ [] → AreDistinct (map (λ n. n.item) ns)
 differ f ns e = (differ_behind f [] ns e).1
 
 -- ---- few columns
 
 -- a column more is counted where it is a time column, and else among those of data sorts
-pub times_more : (c : RawColumn) (cs : List RawColumn) → times_in (map column_of (c ∷ cs)) ≡ (if is_time c.sort then 1 else 0) + times_in (map column_of cs)
+pub times_more : (c : RawColumn) (cs : List RawColumn) → time_count (map column_of (c ∷ cs)) ≡ (if is_time c.sort then 1 else 0) + time_count (map column_of cs)
 times_more c cs = sum_by-cons (λ x. if is_time x.sort then 1 else 0) (column_of c) (map column_of cs)
 
-texts_more : (c : RawColumn) (cs : List RawColumn) → texts_in (map column_of (c ∷ cs)) ≡ (if not (is_time c.sort) then 1 else 0) + texts_in (map column_of cs)
+texts_more : (c : RawColumn) (cs : List RawColumn) → text_count (map column_of (c ∷ cs)) ≡ (if not (is_time c.sort) then 1 else 0) + text_count (map column_of cs)
 texts_more c cs = sum_by-cons (λ x. if is_data x.sort then 1 else 0) (column_of c) (map column_of cs)
 
 -- not more than 8, where there is no ninth
-pub few_columns : (f : Place → DbFault) (times texts : ℕ) (cs : List RawColumn) → times ≤ 8 → texts ≤ 8 → ninth f times texts cs ≡ [] → (times + times_in (map column_of cs) ≤ 8) × (texts + texts_in (map column_of cs) ≤ 8)
+pub few_columns : (f : Place → DbFault) (times texts : ℕ) (cs : List RawColumn) → times ≤ 8 → texts ≤ 8 → ninth f times texts cs ≡ [] → (times + time_count (map column_of cs) ≤ 8) × (texts + text_count (map column_of cs) ≤ 8)
 few_columns f times texts [] le less e = (omega (arith, le), omega (arith, less))
 few_columns f times texts (c ∷ cs) le less e =
     let r = by (is_time c.sort) e (few_columns f (times + 1) texts cs) (few_columns f times (texts + 1) cs) in
@@ -103,9 +102,9 @@ few_columns f times texts (c ∷ cs) le less e =
     eight n h t = grind (arith, nat_tests)
 
     by : (b : Bool) → (if b then fault_if (times == 8) (f c.place) ++ ninth f (times + 1) texts cs else fault_if (texts == 8) (f c.place) ++ ninth f times (texts + 1) cs) ≡ []
-        → (times + 1 ≤ 8 → texts ≤ 8 → ninth f (times + 1) texts cs ≡ [] → (times + 1 + times_in (map column_of cs) ≤ 8) × (texts + texts_in (map column_of cs) ≤ 8))
-        → (times ≤ 8 → texts + 1 ≤ 8 → ninth f times (texts + 1) cs ≡ [] → (times + times_in (map column_of cs) ≤ 8) × (texts + 1 + texts_in (map column_of cs) ≤ 8))
-        → (times + ((if b then 1 else 0) + times_in (map column_of cs)) ≤ 8) × (texts + ((if not b then 1 else 0) + texts_in (map column_of cs)) ≤ 8)
+        → (times + 1 ≤ 8 → texts ≤ 8 → ninth f (times + 1) texts cs ≡ [] → (times + 1 + time_count (map column_of cs) ≤ 8) × (texts + text_count (map column_of cs) ≤ 8))
+        → (times ≤ 8 → texts + 1 ≤ 8 → ninth f times (texts + 1) cs ≡ [] → (times + time_count (map column_of cs) ≤ 8) × (texts + 1 + text_count (map column_of cs) ≤ 8))
+        → (times + ((if b then 1 else 0) + time_count (map column_of cs)) ≤ 8) × (texts + ((if not b then 1 else 0) + text_count (map column_of cs)) ≤ 8)
     by true h one two =
         let r = one (eight times le (no_fault_if (times == 8) (f c.place) (first_empty (fault_if (times == 8) (f c.place)) (ninth f (times + 1) texts cs) h))) less (second_empty (fault_if (times == 8) (f c.place)) (ninth f (times + 1) texts cs) h) in
         (omega (arith, r.0), omega (arith, r.1))
@@ -142,7 +141,7 @@ numbers_of before (c ∷ cs) n = by (is_time c.sort) (numbers_of (before + 1) cs
     by false more same = same
 
 -- names that differ, and are none of those before, go behind these one by one
-once_behind : (before ns : List Identifier) → AllByRecursion (λ n. list_any (bytes_eq n) before ≡ false) ns → Differ ns → fold put_once before ns ≡ before ++ ns
+once_behind : (before ns : List Identifier) → AllByRecursion (λ n. list_any (bytes_eq n) before ≡ false) ns → AreDistinct ns → fold put_once before ns ≡ before ++ ns
 once_behind before [] new d = sym (append-nil before)
 once_behind before (n ∷ ns) new d =
     ap (λ b. fold put_once (if b then before else before ++ n ∷ []) ns) new.0 ∙ once_behind (before ++ n ∷ []) ns (still ns new.1 d.0) d.1 ∙ append_assoc before (n ∷ []) ns
@@ -156,7 +155,7 @@ once_behind before (n ∷ ns) new d =
     still (m ∷ ms) h k = (any_more (bytes_eq m) before n ∙ ap (λ b. b || list_any (bytes_eq m) before) (other m (bytes_eq m n) refl k.0) ∙ h.0, still ms h.1 k.1)
 
 -- names that differ are each once among themselves
-once_differ : (ns : List Identifier) → Differ ns → once ns ≡ ns
+once_differ : (ns : List Identifier) → AreDistinct ns → once ns ≡ ns
 once_differ ns d = once_behind [] ns (all_false ns) d
   where
     all_false : (ms : List Identifier) → AllByRecursion (λ n. list_any (bytes_eq n) [] ≡ false) ms
@@ -173,20 +172,20 @@ all_times P (c ∷ cs) h = by (is_time c.sort) (all_times P cs h.1)
     by false r = r
 
 -- names of time columns differ where names of columns do
-differ_times : (cs : List RawColumn) → Differ (map (λ c. c.name) cs) → Differ (time_names cs)
+differ_times : (cs : List RawColumn) → AreDistinct (map (λ c. c.name) cs) → AreDistinct (time_names cs)
 differ_times [] d = tt
 differ_times (c ∷ cs) d = by (is_time c.sort) (all_times (λ m. c.name ≢ m) cs d.0) (differ_times cs d.1)
   where
-    by : (b : Bool) → AllByRecursion (λ m. c.name ≢ m) (time_names cs) → Differ (time_names cs) → Differ (map (λ x. x.name) (if b then c ∷ filter (λ x. is_time x.sort) cs else filter (λ x. is_time x.sort) cs))
+    by : (b : Bool) → AllByRecursion (λ m. c.name ≢ m) (time_names cs) → AreDistinct (time_names cs) → AreDistinct (map (λ x. x.name) (if b then c ∷ filter (λ x. is_time x.sort) cs else filter (λ x. is_time x.sort) cs))
     by true a r = (a, r)
     by false a r = r
 
 -- there are as many names of time columns as time columns
-times_many : (cs : List RawColumn) → length (time_names cs) ≡ times_in (map column_of cs)
+times_many : (cs : List RawColumn) → length (time_names cs) ≡ time_count (map column_of cs)
 times_many [] = refl
 times_many (c ∷ cs) = by (is_time c.sort) (times_many cs) ∙ sym (times_more c cs)
   where
-    by : (b : Bool) → length (time_names cs) ≡ times_in (map column_of cs) → length (map (λ x. x.name) (if b then c ∷ filter (λ x. is_time x.sort) cs else filter (λ x. is_time x.sort) cs)) ≡ (if b then 1 else 0) + times_in (map column_of cs)
+    by : (b : Bool) → length (time_names cs) ≡ time_count (map column_of cs) → length (map (λ x. x.name) (if b then c ∷ filter (λ x. is_time x.sort) cs else filter (λ x. is_time x.sort) cs)) ≡ (if b then 1 else 0) + time_count (map column_of cs)
     by true h = omega (arith, h)
     by false h = omega (arith, h)
 
@@ -196,27 +195,27 @@ named_columns [] = refl
 named_columns (c ∷ cs) = ap (λ l. c.name ∷ l) (named_columns cs)
 
 -- the names of the columns of a relation without faults differ
-pub columns_differ : (r : RawRelation) → relation_faults r ≡ [] → Differ (map (λ c. c.name) r.columns)
+pub columns_differ : (r : RawRelation) → relation_faults r ≡ [] → AreDistinct (map (λ c. c.name) r.columns)
 columns_differ r e =
-    let names = repeated (fault Name) [] (map named_at r.columns) in
-    let wide = ninth (fault Wide) 0 0 r.columns in
+    let names = repeated (database_fault Name) [] (map named_at r.columns) in
+    let wide = ninth (database_fault Wide) 0 0 r.columns in
     let rows = flat_map (row_faults r.columns) r.rows in
-    subst Differ (named_columns r.columns) (differ (fault Name) (map named_at r.columns) (first_empty names wide (first_empty (names ++ wide) rows e)))
+    subst AreDistinct (named_columns r.columns) (differ (database_fault Name) (map named_at r.columns) (first_empty names wide (first_empty (names ++ wide) rows e)))
 
 -- it has at most 8 time columns, and at most 8 of data sorts
-pub columns_few : (r : RawRelation) → relation_faults r ≡ [] → (times_in (map column_of r.columns) ≤ 8) × (texts_in (map column_of r.columns) ≤ 8)
+pub columns_few : (r : RawRelation) → relation_faults r ≡ [] → (time_count (map column_of r.columns) ≤ 8) × (text_count (map column_of r.columns) ≤ 8)
 columns_few r e =
-    let names = repeated (fault Name) [] (map named_at r.columns) in
-    let wide = ninth (fault Wide) 0 0 r.columns in
+    let names = repeated (database_fault Name) [] (map named_at r.columns) in
+    let wide = ninth (database_fault Wide) 0 0 r.columns in
     let rows = flat_map (row_faults r.columns) r.rows in
-    let few = few_columns (fault Wide) 0 0 r.columns (omega arith) (omega arith) (second_empty names wide (first_empty (names ++ wide) rows e)) in
+    let few = few_columns (database_fault Wide) 0 0 r.columns (omega arith) (omega arith) (second_empty names wide (first_empty (names ++ wide) rows e)) in
     (omega (arith, few.0), omega (arith, few.1))
 
 -- its rows have no faults
 pub rows_sound : (r : RawRelation) → relation_faults r ≡ [] → AllByRecursion (λ row. row_faults r.columns row ≡ []) r.rows
 rows_sound r e =
-    let names = repeated (fault Name) [] (map named_at r.columns) in
-    let wide = ninth (fault Wide) 0 0 r.columns in
+    let names = repeated (database_fault Name) [] (map named_at r.columns) in
+    let wide = ninth (database_fault Wide) 0 0 r.columns in
     each_empty (row_faults r.columns) r.rows (second_empty (names ++ wide) (flat_map (row_faults r.columns) r.rows) e)
 
 -- the names of its time columns, each once, are all of them
@@ -226,11 +225,11 @@ times_once r names e are = are ∙ once_differ (time_names r.columns) (differ_ti
 -- so there are at most 8, and their places are the numbers
 pub times_few : (r : RawRelation) (names : List Identifier) → relation_faults r ≡ [] → AreTimesOf r.columns names → length names ≤ 8
 times_few r names e are =
-    let many : length names ≡ times_in (map column_of r.columns) = ap length (times_once r names e are) ∙ times_many r.columns in
+    let many : length names ≡ time_count (map column_of r.columns) = ap length (times_once r names e are) ∙ times_many r.columns in
     let few = columns_few r e in
     omega (arith, many, few.0)
 
-pub times_numbered : (r : RawRelation) (names : List Identifier) → relation_faults r ≡ [] → AreTimesOf r.columns names → AreNumbered r.columns names
+pub times_numbered : (r : RawRelation) (names : List Identifier) → relation_faults r ≡ [] → AreTimesOf r.columns names → AreTimePlaces r.columns names
 times_numbered r names e are n = ap (λ l. place_from 0 l n) (times_once r names e are) ∙ numbers_of 0 r.columns n
 
 -- ---- rows
@@ -255,28 +254,28 @@ one_suits (Instant i) c e = sym (ap (λ b. if b then 1 else 0) e)
 one_suits (Point i k) c e = sym (ap (λ b. if b then 1 else 0) e)
 
 -- values that suit their columns take as many time columns as there are
-pub points_many : (cs : List RawColumn) (vs : List (Located WrittenValue)) → length vs ≡ length cs → wrong_sorts cs vs ≡ [] → points_in vs ≡ times_in (map column_of cs)
+pub points_many : (cs : List RawColumn) (vs : List (Located WrittenValue)) → length vs ≡ length cs → wrong_sorts cs vs ≡ [] → points_in vs ≡ time_count (map column_of cs)
 points_many [] [] same e = refl
 points_many [] (v ∷ vs) same e = absurd (omega (arith, same))
 points_many (c ∷ cs) [] same e = absurd (omega (arith, same))
 points_many (c ∷ cs) (v ∷ vs) same e =
-    let here = fault_if (not (suits v.item c)) (fault Sort v.place) in
-    let one = one_suits v.item c (turned_false (suits v.item c) (no_fault_if (not (suits v.item c)) (fault Sort v.place) (first_empty here (wrong_sorts cs vs) e))) in
+    let here = fault_if (not (suits v.item c)) (database_fault Sort v.place) in
+    let one = one_suits v.item c (turned_false (suits v.item c) (no_fault_if (not (suits v.item c)) (database_fault Sort v.place) (first_empty here (wrong_sorts cs vs) e))) in
     let rest = points_many cs vs (omega (arith, same)) (second_empty here (wrong_sorts cs vs) e) in
     ap (λ k. k + points_in vs) one ∙ ap (λ k. (if is_time c.sort then 1 else 0) + k) rest ∙ sym (times_more c cs)
 
 -- a row without faults has a value for each column
 pub row_many : (cs : List RawColumn) (row : Located RawRow) → row_faults cs row ≡ [] → length row.item.values ≡ length cs
 row_many cs row e =
-    let arity = fault_if (not (length row.item.values == length cs)) (fault Arity row.place) in
+    let arity = fault_if (not (length row.item.values == length cs)) (database_fault Arity row.place) in
     let sorts = wrong_sorts cs row.item.values in
     let names = flat_map (bound_faults cs) row.item.bounds in
-    same_number (length row.item.values) (length cs) (no_fault_if (not (length row.item.values == length cs)) (fault Arity row.place) (first_empty arity sorts (first_empty (arity ++ sorts) names e)))
+    same_number (length row.item.values) (length cs) (no_fault_if (not (length row.item.values == length cs)) (database_fault Arity row.place) (first_empty arity sorts (first_empty (arity ++ sorts) names e)))
 
 -- and each suits its column
 pub row_suits : (cs : List RawColumn) (row : Located RawRow) → row_faults cs row ≡ [] → wrong_sorts cs row.item.values ≡ []
 row_suits cs row e =
-    let arity = fault_if (not (length row.item.values == length cs)) (fault Arity row.place) in
+    let arity = fault_if (not (length row.item.values == length cs)) (database_fault Arity row.place) in
     let sorts = wrong_sorts cs row.item.values in
     let names = flat_map (bound_faults cs) row.item.bounds in
     second_empty arity sorts (first_empty (arity ++ sorts) names e)

@@ -8,7 +8,7 @@ use Rattle.std.proofs.lemmas.List.Elements.{filter-append}
 use Rattle.std.proofs.lemmas.Option.{get_or_from_slice_get, slice_get_within}
 use Rattle.std.proofs.Math.Seq.{take-suc}
 use Rattle.indexmap.specs.IndexSet.{insert_key}
-use Rattle.lrp_model.specs.Texts.{Text, Identifier}
+use Rattle.lrp_model.specs.Texts.{Text, Identifier, AreDistinct}
 use Rattle.lrp_model.specs.Sorts.{same_sort}
 use Rattle.lrp_model.specs.Domains.{row_texts, database_texts}
 use Rattle.lrp_model.specs.declared.relations.Sort.{Sort}
@@ -17,7 +17,7 @@ use Rattle.lrp_model.specs.declared.relations.Column.{Column}
 use Rattle.lrp_model.specs.declared.relations.Value.{Value}
 use Rattle.lrp_model.specs.declared.relations.Value.TheVariants.{Point, Const}
 use Rattle.lrp_model.specs.declared.relations.Relation.{Relation}
-use Rattle.lrp_print.specs.Kept.{AreValuesOf, IsRowOf, IsKept, Differ}
+use Rattle.lrp_print.specs.Kept.{AreValuesOf, IsRowOf, IsKept}
 use Rattle.lrp_print.proofs.Lines.{all_at, all_as}
 use Rattle.lrp_rel.proofs.SeenLemmas.{IsFirst, neither}
 
@@ -53,7 +53,7 @@ apart m n true e differ = absurd (differ (sym ((bytes_decides n m).0 e)))
 apart m n false e differ = refl
 
 -- a name does not stand among those before it
-not_before : (ns : List Identifier) (i : ℕ) (n : Identifier) → Differ ns → i < length ns → n ≡ get_or ns i n → list_any (bytes_eq n) (take i ns) ≡ false
+not_before : (ns : List Identifier) (i : ℕ) (n : Identifier) → AreDistinct ns → i < length ns → n ≡ get_or ns i n → list_any (bytes_eq n) (take i ns) ≡ false
 not_before [] i n d lt e = absurd (omega (arith, lt))
 not_before (m ∷ ns) zero n d lt e = refl
 not_before (m ∷ ns) (suc i) n d lt e =
@@ -61,7 +61,7 @@ not_before (m ∷ ns) (suc i) n d lt e =
     ap (λ b. b || list_any (bytes_eq n) (take i ns)) (apart m n (bytes_eq n m) refl other) ∙ not_before ns i n d.1 (omega (arith, lt)) e
 
 -- the next name goes behind those before it
-pub next_name : (ns : List Identifier) (i : ℕ) (n : Identifier) → Differ ns → i < length ns → n ≡ get_or ns i n → insert_key bytes_eq (take i ns) n ≡ take (i + 1) ns
+pub next_name : (ns : List Identifier) (i : ℕ) (n : Identifier) → AreDistinct ns → i < length ns → n ≡ get_or ns i n → insert_key bytes_eq (take i ns) n ≡ take (i + 1) ns
 next_name ns i n d lt e =
     ap (λ b. if b then take i ns else take i ns ++ n ∷ []) (not_before ns i n d lt e)
     ∙ ap (λ m. take i ns ++ m ∷ []) e ∙ sym (take-suc ns i n lt) ∙ ap (λ k. take k ns) (sym (add-one i))

@@ -14,7 +14,7 @@ use Rattle.lrp_model.specs.Tokens.Token.{number_token, text_token, symbol_token,
 use Rattle.lrp_model.specs.Tokens.Part.{any}
 use Rattle.lrp_text.specs.Parsers.{◌>>=◌, pure, look, eat}
 use Rattle.lrp_model.specs.Refused.{TextOf}
-use Rattle.lrp_model.specs.Lexing.{limit}
+use Rattle.lrp_model.specs.Lexing.{greatest_number}
 use Rattle.lrp_text.specs.Taking.{is_text, is_symbol, expect_word, number, period, period_of, text, text_of, is_text_token}
 use Rattle.lrp_text.proofs.Complete.{ReadsBack, back_as, IsNot, bind_back, then_back, pure_back, accept_back, accepts_back, eat_back, eat_none, look_back, first_sees_any, same_next}
 use Rattle.lrp_text.proofs.Sound.{Sound, bind_ok, accept_gives, accept_sound, eat_sound, eaten_parts, takes_join, look_ok}
@@ -31,18 +31,18 @@ abbrev pub NoPlus : Tokens → Type 0
 NoPlus = IsNot (is_symbol Plus)
 
 -- the tokens of an instant are read back
-pub instant_back : (i : Integer) → ReadsBack numeric (integer_text i) (Instant i) (i.size ≤ limit) NoPlus
+pub instant_back : (i : Integer) → ReadsBack numeric (integer_text i) (Instant i) (i.size ≤ greatest_number) NoPlus
 unfolding numeric
 instant_back i = record {
   reads = λ ts left h g.
-      (bind_back _ {Q = []} (integer_back i) (bind_back _ {Q = []} (eat_none (is_symbol Plus) (i.size ≤ limit)) (pure_back (Instant i) (i.size ≤ limit) NoPlus) (same_next NoPlus)) (λ us vs e d. tt)).reads ts left (subst (λ x. Takes x ts left) (sym (append-nil (integer_text i))) h) g;
+      (bind_back _ {Q = []} (integer_back i) (bind_back _ {Q = []} (eat_none (is_symbol Plus) (i.size ≤ greatest_number)) (pure_back (Instant i) (i.size ≤ greatest_number) NoPlus) (same_next NoPlus)) (λ us vs e d. tt)).reads ts left (subst (λ x. Takes x ts left) (sym (append-nil (integer_text i))) h) g;
 }
 
 -- the tokens of a point are read back
 pub point_back : (i : Integer) (k : ℕ) → ReadsBack numeric (value_text (Point i k)) (Point i k) (FitsValue (Point i k)) NoPlus
 unfolding numeric
 point_back i k =
-    then_back _ (back_as (i.size ≤ limit) (FitsValue (Point i k)) (λ l. l.0) (integer_back i))
+    then_back _ (back_as (i.size ≤ greatest_number) (FitsValue (Point i k)) (λ l. l.0) (integer_back i))
     (then_back _ (eat_back (is_symbol Plus) (any (symbol_token Plus)) (FitsValue (Point i k)) (symbol_seen Plus))
     (then_back _ (accept_back (λ t. period_of t.token) (any (number_token k)) k (FitsValue (Point i k)) (λ t h. period_tells t k (FitsValue (Point i k)) (λ l. (l.1, l.2)) h))
     (then_back _ (accepts_back _ (any (word_token Letter)) tt (FitsValue (Point i k)) (word_required Letter)) (pure_back _ _ NoPlus))))
@@ -55,7 +55,7 @@ bare_value_back (Constant t) =
     (then_back _ (accept_back (λ t. text_of t.token) (any (text_token t)) t (length t ≤ 255) (λ u h. text_tells u t (length t ≤ 255) (λ l. l) h)) (pure_back (Constant t) _ NoPlus))
     (λ ts left h g. first_sees_any false is_text_token (text_token t) [] ts left h)
 bare_value_back (Instant i) =
-    bind_back _ (look_back false is_text false (i.size ≤ limit)) (instant_back i)
+    bind_back _ (look_back false is_text false (i.size ≤ greatest_number)) (instant_back i)
     (λ ts left h g. no_quote i ts left h)
 bare_value_back (Point i k) =
     bind_back _ (look_back false is_text false (FitsValue (Point i k))) (point_back i k)
@@ -72,7 +72,7 @@ pub value_back : (v : Located WrittenValue) → ReadsBack value ((located_text v
 value_back v = located_back bare_value value_text v (FitsValue v.item) NoPlus (bare_value_leads v.item) (bare_value_back v.item)
 
 -- behind an integer, with or without a period
-after_plus_sound : (i : Integer) (more : Bool) (ts us vs : Tokens) (q : WrittenValue × Tokens) → (if more then (period >>= (λ k. expect_word Letter >>= (λ u. pure (Point i k)))) else pure (Instant i)) vs ≡ Ok q → Takes (integer_text i) ts us → i.size ≤ limit → Takes (eaten_parts (any (symbol_token Plus)) more) us vs → Takes (value_text q.0) ts q.1 × FitsValue q.0
+after_plus_sound : (i : Integer) (more : Bool) (ts us vs : Tokens) (q : WrittenValue × Tokens) → (if more then (period >>= (λ k. expect_word Letter >>= (λ u. pure (Point i k)))) else pure (Instant i)) vs ≡ Ok q → Takes (integer_text i) ts us → i.size ≤ greatest_number → Takes (eaten_parts (any (symbol_token Plus)) more) us vs → Takes (value_text q.0) ts q.1 × FitsValue q.0
 after_plus_sound i false ts us vs q e one fit eaten =
     let h : (Instant i, vs) ≡ q = cc in
     subst (λ y. Takes (value_text y.0) ts y.1 × FitsValue y.0) h (subst (λ x. Takes (integer_text i) ts x) eaten one, fit)
@@ -139,7 +139,7 @@ pub numeric_viable : Viable numeric value_text FitsValue
 unfolding numeric
 numeric_viable ts e h =
     let R : Bool → Tokens → Type 0 = TextOf value_text FitsValue in
-    sub_step integer _ integer_text (λ i. i.size ≤ limit) R ts e integer_sound integer_viable h
+    sub_step integer _ integer_text (λ i. i.size ≤ greatest_number) R ts e integer_sound integer_viable h
     (λ c i x spelled fit. ([], (Instant i, fit, subst (λ y. Spells (integer_text i) y) (sym (append-nil x)) spelled)))
     (λ i head us one fit d. eat_step (is_symbol Plus) _ (λ c x. R c (head ++ x)) us e d
     (λ t vs told d2. sub_step period _ (One number_part) IsPeriod (λ c x. R c (head ++ t ∷ x)) vs e (accept_gives _ number_part IsPeriod period_told period_fits) (accept_viable _ number_part IsPeriod period_stops) d2

@@ -10,7 +10,7 @@ use Rattle.lrp_model.specs.Sorts.{is_time}
 use Rattle.lrp_model.specs.Lexing.{tokens}
 use Rattle.lrp_model.specs.Faults.{first, earlier, fault_if, repeated, ninth}
 use Rattle.lrp_model.specs.DatabaseMeaning.{database_of}
-use Rattle.lrp_model.specs.DatabaseFaults.{stands, fault, wrong_sorts, suits, unknown, side_faults, row_faults, named_at, relation_faults, faults}
+use Rattle.lrp_model.specs.DatabaseFaults.{database_standing, database_fault, wrong_sorts, suits, unknown, side_faults, row_faults, named_at, relation_faults, database_faults}
 use Rattle.lrp_model.specs.DatabaseReading.{IsDatabaseText, IsDatabase, HasDatabaseFault, IsDatabaseFault, IsDatabaseFaultOf}
 use Rattle.lrp_model.specs.declared.raw.RawColumn.{RawColumn}
 use Rattle.lrp_model.specs.declared.relations.Relation.{Relation}
@@ -26,7 +26,7 @@ use Rattle.lrp_model.specs.declared.faults.DbKind.{DbKind}
 use Rattle.lrp_model.specs.declared.faults.DbKind.TheVariants.{Utf8, Syntax, Number, Period, TextTooLong, Name, Arity, Sort, Column, Wide, UnknownRelation}
 use Rattle.lrp_rel.specs.declared.trees.ReadFault.{ReadFault}
 use Rattle.lrp_rel.specs.declared.trees.ReadFault.TheVariants.{Fault, Memory}
-use Rattle.lrp_rel.specs.Reading.{IsTextFault, IsTextFaultOf, IsRefused, IsTreeRefusal, IsUnread, IsOrMemory, IsFaultOrMemory}
+use Rattle.lrp_rel.specs.Reading.{IsTextFault, IsTextFaultOf, IsRefusedBy, IsTreeRefusal, IsUnread, IsOrMemory, IsFaultOrMemory}
 use Rattle.lrp_rel.proofs.DatabaseRules.{one_tree}
 use Rattle.lrp_rel.proofs.TextLaws.{no_fault}
 use Rattle.lrp_rel.proofs.OneFault.{fault_once}
@@ -63,67 +63,67 @@ if_of true f h = (h, tt)
 if_of false f h = tt
 
 -- names that stand twice
-repeated_of : (before : List Identifier) (ns : List (Located Identifier)) → OfTree (repeated (fault Name) before ns)
+repeated_of : (before : List Identifier) (ns : List (Located Identifier)) → OfTree (repeated (database_fault Name) before ns)
 repeated_of before [] = tt
-repeated_of before (n ∷ ns) = both_of (fault_if _ (fault Name n.place)) (repeated (fault Name) (n.item ∷ before) ns) (if_of _ (fault Name n.place) tt) (repeated_of (n.item ∷ before) ns)
+repeated_of before (n ∷ ns) = both_of (fault_if _ (database_fault Name n.place)) (repeated (database_fault Name) (n.item ∷ before) ns) (if_of _ (database_fault Name n.place) tt) (repeated_of (n.item ∷ before) ns)
 
 -- too many columns
-ninth_of : (times texts : ℕ) (cs : List RawColumn) → OfTree (ninth (fault Wide) times texts cs)
+ninth_of : (times texts : ℕ) (cs : List RawColumn) → OfTree (ninth (database_fault Wide) times texts cs)
 ninth_of times texts [] = tt
 ninth_of times texts (c ∷ cs) = by (is_time c.sort) (λ t x. ninth_of t x cs)
   where
-    by : (b : Bool) → ((t x : ℕ) → OfTree (ninth (fault Wide) t x cs)) → OfTree (if b then fault_if (times == 8) (fault Wide c.place) ++ ninth (fault Wide) (times + 1) texts cs else fault_if (texts == 8) (fault Wide c.place) ++ ninth (fault Wide) times (texts + 1) cs)
-    by true h = both_of (fault_if (times == 8) (fault Wide c.place)) (ninth (fault Wide) (times + 1) texts cs) (if_of (times == 8) (fault Wide c.place) tt) (h (times + 1) texts)
-    by false h = both_of (fault_if (texts == 8) (fault Wide c.place)) (ninth (fault Wide) times (texts + 1) cs) (if_of (texts == 8) (fault Wide c.place) tt) (h times (texts + 1))
+    by : (b : Bool) → ((t x : ℕ) → OfTree (ninth (database_fault Wide) t x cs)) → OfTree (if b then fault_if (times == 8) (database_fault Wide c.place) ++ ninth (database_fault Wide) (times + 1) texts cs else fault_if (texts == 8) (database_fault Wide c.place) ++ ninth (database_fault Wide) times (texts + 1) cs)
+    by true h = both_of (fault_if (times == 8) (database_fault Wide c.place)) (ninth (database_fault Wide) (times + 1) texts cs) (if_of (times == 8) (database_fault Wide c.place) tt) (h (times + 1) texts)
+    by false h = both_of (fault_if (texts == 8) (database_fault Wide c.place)) (ninth (database_fault Wide) times (texts + 1) cs) (if_of (texts == 8) (database_fault Wide c.place) tt) (h times (texts + 1))
 
 -- values that do not suit their columns
 sorts_of : (cs : List RawColumn) (vs : List (Located WrittenValue)) → OfTree (wrong_sorts cs vs)
 sorts_of [] vs = tt
 sorts_of (c ∷ cs) [] = tt
-sorts_of (c ∷ cs) (v ∷ vs) = both_of (fault_if (not (suits v.item c)) (fault Sort v.place)) (wrong_sorts cs vs) (if_of (not (suits v.item c)) (fault Sort v.place) tt) (sorts_of cs vs)
+sorts_of (c ∷ cs) (v ∷ vs) = both_of (fault_if (not (suits v.item c)) (database_fault Sort v.place)) (wrong_sorts cs vs) (if_of (not (suits v.item c)) (database_fault Sort v.place) tt) (sorts_of cs vs)
 
 -- names that are no time columns
 side_of : (cs : List RawColumn) (s : Side) → OfTree (side_faults cs s)
 side_of cs (Alone i) = tt
-side_of cs (side_column n) = if_of _ (fault Column n.place) tt
-side_of cs (Shifted n down k) = if_of _ (fault Column n.place) tt
+side_of cs (side_column n) = if_of _ (database_fault Column n.place) tt
+side_of cs (Shifted n down k) = if_of _ (database_fault Column n.place) tt
 
 bound_of : (cs : List RawColumn) (b : RawBound) → OfTree (bound_faults cs b)
-bound_of cs b = both_of (unknown cs b.left) (side_faults cs b.side) (if_of _ (fault Column b.left.place) tt) (side_of cs b.side)
+bound_of cs b = both_of (unknown cs b.left) (side_faults cs b.side) (if_of _ (database_fault Column b.left.place) tt) (side_of cs b.side)
 
 row_of_tree : (cs : List RawColumn) (r : Located RawRow) → OfTree (row_faults cs r)
 row_of_tree cs r =
-    let arity = fault_if (not (length r.item.values == length cs)) (fault Arity r.place) in
+    let arity = fault_if (not (length r.item.values == length cs)) (database_fault Arity r.place) in
     let sorts = wrong_sorts cs r.item.values in
-    both_of (arity ++ sorts) (flat_map (bound_faults cs) r.item.bounds) (both_of arity sorts (if_of (not (length r.item.values == length cs)) (fault Arity r.place) tt) (sorts_of cs r.item.values)) (flat_of (bound_faults cs) (bound_of cs) r.item.bounds)
+    both_of (arity ++ sorts) (flat_map (bound_faults cs) r.item.bounds) (both_of arity sorts (if_of (not (length r.item.values == length cs)) (database_fault Arity r.place) tt) (sorts_of cs r.item.values)) (flat_of (bound_faults cs) (bound_of cs) r.item.bounds)
 
 relation_of_tree : (r : RawRelation) → OfTree (relation_faults r)
 relation_of_tree r =
-    let names = repeated (fault Name) [] (map named_at r.columns) in
-    let wide = ninth (fault Wide) 0 0 r.columns in
+    let names = repeated (database_fault Name) [] (map named_at r.columns) in
+    let wide = ninth (database_fault Wide) 0 0 r.columns in
     both_of (names ++ wide) (flat_map (row_faults r.columns) r.rows) (both_of names wide (repeated_of [] (map named_at r.columns)) (ninth_of 0 0 r.columns)) (flat_of (row_faults r.columns) (row_of_tree r.columns) r.rows)
 
 -- all faults of a tree
-tree_of : (rs : List RawRelation) → OfTree (faults rs)
-tree_of rs = both_of (repeated (fault Name) [] (map (λ r. r.name) rs)) (flat_map relation_faults rs) (repeated_of [] (map (λ r. r.name) rs)) (flat_of relation_faults relation_of_tree rs)
+tree_of : (rs : List RawRelation) → OfTree (database_faults rs)
+tree_of rs = both_of (repeated (database_fault Name) [] (map (λ r. r.name) rs)) (flat_map relation_faults rs) (repeated_of [] (map (λ r. r.name) rs)) (flat_of relation_faults relation_of_tree rs)
 
 -- the first of such faults
 abbrev OneOfTree : Option DbFault → Type 0
 OneOfTree None = Unit {0}
 OneOfTree (Some f) = IsOfTree f.kind
 
-earlier_of : (f : DbFault) (g : Option DbFault) → IsOfTree f.kind → OneOfTree g → OneOfTree (earlier stands f g)
+earlier_of : (f : DbFault) (g : Option DbFault) → IsOfTree f.kind → OneOfTree g → OneOfTree (earlier database_standing f g)
 earlier_of f None h k = h
-earlier_of f (Some g) h k = by (slice_cmp nat_cmp (stands g) (stands f))
+earlier_of f (Some g) h k = by (slice_cmp nat_cmp (database_standing g) (database_standing f))
   where
     by : (o : Ordering) → OneOfTree (match_ordering o (Some g) (Some f) (Some f))
     by Less = k
     by Equal = h
     by Greater = h
 
-first_of : (fs : List DbFault) → OfTree fs → OneOfTree (first stands fs)
+first_of : (fs : List DbFault) → OfTree fs → OneOfTree (first database_standing fs)
 first_of [] h = tt
-first_of (f ∷ fs) h = earlier_of f (first stands fs) h.0 (first_of fs h.1)
+first_of (f ∷ fs) h = earlier_of f (first database_standing fs) h.0 (first_of fs h.1)
 
 -- a fault of the tree is one of the text
 as_fault : (bytes : List ℕ) (k : DbKind) (f : DbFault) → IsOfTree k → HasDatabaseFault bytes f → IsDatabaseFaultOf bytes k f
@@ -154,14 +154,14 @@ as_text_fault bytes Wide f h = absurd h
 as_text_fault bytes UnknownRelation f h = absurd h
 
 -- why there was no tree is why there is no database
-pub unread_refused : (bytes : List ℕ) (r : ReadFault) → IsUnread bytes r → IsRefused bytes r
+pub unread_refused : (bytes : List ℕ) (r : ReadFault) → IsUnread bytes r → IsRefusedBy bytes r
 unread_refused bytes (Fault f) h = as_text_fault bytes f.kind f h
 unread_refused bytes Memory h = tt
 
 -- and so is why the tree had no meaning
-pub tree_refused : (bytes : List ℕ) (tree : List RawRelation) (r : ReadFault) → IsDatabaseText bytes tree → IsTreeRefusal tree r → IsRefused bytes r
+pub tree_refused : (bytes : List ℕ) (tree : List RawRelation) (r : ReadFault) → IsDatabaseText bytes tree → IsTreeRefusal tree r → IsRefusedBy bytes r
 tree_refused bytes tree (Fault f) t h =
-    as_fault bytes f.kind f (let P : Option DbFault → Type 0 = OneOfTree in subst P h (first_of (faults tree) (tree_of tree))) (record { tree = tree; text = t; found = h })
+    as_fault bytes f.kind f (let P : Option DbFault → Type 0 = OneOfTree in subst P h (first_of (database_faults tree) (tree_of tree))) (record { tree = tree; text = t; found = h })
 tree_refused bytes tree Memory t h = tt
 
 -- ---- each at most once
@@ -198,23 +198,23 @@ both_same bytes f g (of_text a) (of_text b) = fault_once bytes g f b a
 both_same bytes f g (of_text a) (of_tree b) = absurd (no_fault bytes b.tree f.kind f b.text a)
 both_same bytes f g (of_tree a) (of_text b) = absurd (no_fault bytes a.tree g.kind g a.text b)
 both_same bytes f g (of_tree a) (of_tree b) =
-    some_same g f (sym b.found ∙ ap (λ t. first stands (faults t)) (same_tree bytes b.tree a.tree b.text a.text) ∙ a.found)
+    some_same g f (sym b.found ∙ ap (λ t. first database_standing (database_faults t)) (same_tree bytes b.tree a.tree b.text a.text) ∙ a.found)
 
 -- a database has no fault
 none_split : (bytes : List ℕ) (db : List Relation) (f : DbFault) → IsDatabase bytes db → Split bytes f → ⊥
 none_split bytes db f d (of_text a) = no_fault bytes d.tree f.kind f d.text a
 none_split bytes db f d (of_tree a) =
-    let h : None ≡ Some f = sym (ap (first stands) (ap faults (same_tree bytes a.tree d.tree a.text d.text) ∙ d.sound)) ∙ a.found in
+    let h : None ≡ Some f = sym (ap (first database_standing) (ap database_faults (same_tree bytes a.tree d.tree a.text d.text) ∙ d.sound)) ∙ a.found in
     cc
 
 -- each database is read as its relations
-pub every_database : (bytes : List ℕ) (r : Result (List Relation) ReadFault) → IfOk r (IsDatabase bytes) → IfErr r (IsRefused bytes) → (db : List Relation) → IsDatabase bytes db → IsOrMemory db r
+pub every_database : (bytes : List ℕ) (r : Result (List Relation) ReadFault) → IfOk r (IsDatabase bytes) → IfErr r (IsRefusedBy bytes) → (db : List Relation) → IsDatabase bytes db → IsOrMemory db r
 every_database bytes (Ok other) ok err db d = ok.meant ∙ ap database_of (same_tree bytes ok.tree d.tree ok.text d.text) ∙ sym d.meant
 every_database bytes (Err Memory) ok err db d = tt
 every_database bytes (Err (Fault f)) ok err db d = none_split bytes db f d (split_of bytes f.kind f refl err)
 
 -- each other text is refused for its fault
-pub every_fault : (bytes : List ℕ) (r : Result (List Relation) ReadFault) → IfOk r (IsDatabase bytes) → IfErr r (IsRefused bytes) → (f : DbFault) → IsDatabaseFault bytes f → IsFaultOrMemory f r
+pub every_fault : (bytes : List ℕ) (r : Result (List Relation) ReadFault) → IfOk r (IsDatabase bytes) → IfErr r (IsRefusedBy bytes) → (f : DbFault) → IsDatabaseFault bytes f → IsFaultOrMemory f r
 every_fault bytes (Ok db) ok err f h = none_split bytes db f ok (split_of bytes f.kind f refl h)
 every_fault bytes (Err Memory) ok err f h = tt
 every_fault bytes (Err (Fault g)) ok err f h = both_same bytes f g (split_of bytes f.kind f refl h) (split_of bytes g.kind g refl err)

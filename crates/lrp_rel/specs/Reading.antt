@@ -8,7 +8,7 @@ use Rattle.lrp_model.specs.declared.faults.DbKind.{DbKind}
 use Rattle.lrp_model.specs.declared.faults.DbKind.TheVariants.{Utf8, Syntax, Number, Period, TextTooLong, Name, Arity, Sort, Column, Wide, UnknownRelation}
 use Rattle.lrp_model.specs.Faults.{first}
 use Rattle.lrp_model.specs.DatabaseMeaning.{database_of}
-use Rattle.lrp_model.specs.DatabaseFaults.{stands, faults}
+use Rattle.lrp_model.specs.DatabaseFaults.{database_standing, database_faults}
 use Rattle.lrp_model.specs.DatabaseReading.{IsNoUtf8, IsNoDatabaseText, IsDatabaseText, IsDatabaseFault}
 use Rattle.lrp_model.specs.declared.relations.Relation.{Relation}
 use Rattle.lrp_model.specs.declared.written.RawRelation.{RawRelation}
@@ -41,9 +41,9 @@ IsUnread bytes (Fault f) = IsTextFault bytes f
 IsUnread bytes Memory = Unit {0}
 
 -- why there is no database: its one fault, or want of memory
-abbrev pub IsRefused : List ℕ → ReadFault → Type 0
-IsRefused bytes (Fault f) = IsDatabaseFault bytes f
-IsRefused bytes Memory = Unit {0}
+abbrev pub IsRefusedBy : List ℕ → ReadFault → Type 0
+IsRefusedBy bytes (Fault f) = IsDatabaseFault bytes f
+IsRefusedBy bytes Memory = Unit {0}
 
 -- the bytes are a text of the grammar, and what is gathered is what its tree says
 pub record IsGatheredFrom (bytes : List ℕ) (gathered : Gathered) : Type 0 where
@@ -59,12 +59,12 @@ pub record IsGatheredFromText (gathered : Gathered) : Type 0 where
 
 -- the relations that a tree without faults means
 pub record IsSoundTree (tree : List RawRelation) (db : List Relation) : Type 0 where
-  pub sound : faults tree ≡ []
+  pub sound : database_faults tree ≡ []
   pub meant : db ≡ database_of tree
 
 -- why a tree has no meaning: its first fault, or want of memory
 abbrev pub IsTreeRefusal : List RawRelation → ReadFault → Type 0
-IsTreeRefusal tree (Fault f) = first stands (faults tree) ≡ Some f
+IsTreeRefusal tree (Fault f) = first database_standing (database_faults tree) ≡ Some f
 IsTreeRefusal tree Memory = Unit {0}
 
 -- this value, unless memory ran out

@@ -28,8 +28,8 @@ place_from before [] n = 0
 place_from before (m ∷ ms) n = if bytes_eq n m then before + 1 else place_from (before + 1) ms n
 
 -- the places of names are the numbers of time columns
-abbrev pub AreNumbered : List RawColumn → List Identifier → Type 0
-AreNumbered cs names = (n : Identifier) → place_from 0 names n ≡ time_number 0 cs n
+abbrev pub AreTimePlaces : List RawColumn → List Identifier → Type 0
+AreTimePlaces cs names = (n : Identifier) → place_from 0 names n ≡ time_number 0 cs n
 
 -- how many time columns a value takes
 abbrev pub point_count : WrittenValue → ℕ

@@ -5,9 +5,10 @@ ghost use Rattle.indexmap.specs.IndexSet.{keys};
 ghost use Rattle.lrp_model.specs.Rows.{relation_named};
 ghost use Rattle.lrp_model.specs.Domains.{database_texts};
 ghost use Rattle.lrp_model.specs.Sorts.{is_time};
-ghost use Rattle.lrp_print.specs.Kept.{AreKept, IsKept, Differ};
+ghost use Rattle.lrp_print.specs.Kept.{AreKept, IsKept};
 ghost use Rattle.lrp_rel.specs.Once.{once, texts_among, texts_with};
 ghost use Rattle.lrp_rel.specs.Stored.{HasFewTexts};
+ghost use Rattle.lrp_model.specs.Texts.{AreDistinct};
 
 use crate::texts::Texts;
 use indexmap::IndexSet;
@@ -40,7 +41,7 @@ impl Model for Database {
 
 // The names of relations, in order.
 fn names_of(alloc: Global, relations: &[Relation]) -> Result<IndexSet<Name>, Memory>
-    requires { Differ (map (λ r. r.name) relations.now) }
+    requires { AreDistinct (map (λ r. r.name) relations.now) }
     ensures { IfOk result (λ made. keys made ≡ map (λ r. r.name) relations.now) }
 {
     let mut names = IndexSet::new(alloc);

@@ -2,7 +2,7 @@
 ghost use Rattle.std.specs.Prelude.{◌≡◌, ◌∷◌, ◌++◌, [], List as ListOf, IfOk, OnOk};
 ghost use Rattle.lrp_model.specs.Databases.{FitsRow};
 ghost use Rattle.lrp_model.specs.Faults.{first};
-ghost use Rattle.lrp_model.specs.DatabaseFaults.{stands, faults};
+ghost use Rattle.lrp_model.specs.DatabaseFaults.{database_standing, database_faults};
 ghost use Rattle.lrp_model.specs.declared.written.Located.{Located as LocatedOf};
 ghost use Rattle.lrp_model.specs.declared.written.RawRow.{RawRow as RawRowOf};
 ghost use Rattle.lrp_model.specs.declared.written.RawRelation.{RawRelation as Tree};
@@ -150,7 +150,7 @@ impl Gathered {
 
     // The first fault of all.
     pub fn fault(&self) -> Option<DbFault>
-        ensures { (tree : ListOf Tree) → AreGathered tree self.now → result ≡ first stands (faults tree) }
+        ensures { (tree : ListOf Tree) → AreGathered tree self.now → result ≡ first database_standing (database_faults tree) }
     {
         sooner_of(self.repeated, self.within)
     }

@@ -2,12 +2,12 @@
 ghost use Rattle.std.specs.Prelude.{◌≡◌, ◌∷◌, ◌++◌, ◌≤◌, ◌≤ℤ◌, ◌+◌, [], ℕ, pos, neg_ℤ, List as ListOf, map, length, IfOk, OnOk};
 ghost use Rattle.std.specs.List.{flat_map, AllByRecursion};
 ghost use Rattle.indexmap.specs.IndexSet.{keys};
-ghost use Rattle.lrp_model.specs.Lexing.{limit};
+ghost use Rattle.lrp_model.specs.Lexing.{greatest_number};
 ghost use Rattle.lrp_model.specs.Databases.{FitsValue, FitsSide, FitsBound};
 ghost use Rattle.lrp_model.specs.DatabaseMeaning.{signed, value_of, kept, value_bounds, instant_bounds, side_bounds, kept_bounds, row_of, column_of};
 ghost use Rattle.lrp_model.specs.declared.raw.RawColumn.{RawColumn as ColumnOf};
 ghost use Rattle.lrp_model.specs.declared.relations.Bound.{Bound as BoundOf};
-ghost use Rattle.lrp_rel.specs.Times.{AreNumbered, HasRowMeaning, place_from, point_count, points_in};
+ghost use Rattle.lrp_rel.specs.Times.{AreTimePlaces, HasRowMeaning, place_from, point_count, points_in};
 
 use indexmap::IndexSet;
 use lrp_model::{
@@ -18,10 +18,10 @@ use std::alloc::Global;
 
 // A number, or with the flag its negative.
 fn signed_number(negative: bool, size: u64) -> i64
-    requires { size ≤ limit }
+    requires { size ≤ greatest_number }
     ensures value { result ≡ signed negative size }
-    ensures low { neg_ℤ (pos limit) ≤ℤ result }
-    ensures high { result ≤ℤ pos limit }
+    ensures low { neg_ℤ (pos greatest_number) ≤ℤ result }
+    ensures high { result ≤ℤ pos greatest_number }
 {
     let size = size as i64;
     if negative { -size } else { size }
@@ -69,7 +69,7 @@ fn keep_bound(
     right: u8,
     most: i64,
 ) -> Result<(), Memory>
-    requires low { neg_ℤ (pos limit) ≤ℤ most }
+    requires low { neg_ℤ (pos greatest_number) ≤ℤ most }
     ensures { OnOk result (bounds.new ≡ bounds.old ++ kept op left right most) }
 {
     let upper = Bound { left, right, most };
@@ -140,7 +140,7 @@ fn keep_side(
 ) -> Result<(), Memory>
     requires times { length (keys times.now) ≤ 8 }
     requires fits { FitsSide side.now }
-    ensures { OnOk result ((columns : ListOf ColumnOf) → AreNumbered columns (keys times.now) → bounds.new ≡ bounds.old ++ side_bounds columns op left side.now) }
+    ensures { OnOk result ((columns : ListOf ColumnOf) → AreTimePlaces columns (keys times.now) → bounds.new ≡ bounds.old ++ side_bounds columns op left side.now) }
 {
     match side {
         Side::Alone { value } => {
@@ -163,7 +163,7 @@ fn keep_bounds(
 ) -> Result<(), Memory>
     requires times { length (keys times.now) ≤ 8 }
     requires fits { AllByRecursion FitsBound written.now }
-    ensures { OnOk result ((columns : ListOf ColumnOf) → AreNumbered columns (keys times.now) → bounds.new ≡ bounds.old ++ flat_map (kept_bounds columns) written.now) }
+    ensures { OnOk result ((columns : ListOf ColumnOf) → AreTimePlaces columns (keys times.now) → bounds.new ≡ bounds.old ++ flat_map (kept_bounds columns) written.now) }
 {
     for bound in written {
         let left = number_of(times, &bound.left.item);
@@ -185,7 +185,7 @@ fn with_exact_room(bounds: List<Bound>) -> List<Bound>
 pub fn meant_row(alloc: Global, times: &IndexSet<Name>, row: RawRow) -> Result<Row, Memory>
     requires times { length (keys times.now) ≤ 8 }
     requires lawful { HasRowMeaning row }
-    ensures { IfOk result (λ made. (columns : ListOf ColumnOf) → AreNumbered columns (keys times.now) → made ≡ row_of columns row) }
+    ensures { IfOk result (λ made. (columns : ListOf ColumnOf) → AreTimePlaces columns (keys times.now) → made ≡ row_of columns row) }
 {
     let mut bounds = List::new(alloc);
     keep_values(&mut bounds, row.values.as_slice())?;

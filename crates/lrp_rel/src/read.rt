@@ -5,7 +5,7 @@ ghost use Rattle.lrp_model.specs.declared.faults.DbFault.{DbFault as FaultOf};
 ghost use Rattle.lrp_model.specs.declared.relations.Relation.{Relation as RelationOf};
 ghost use Rattle.lrp_model.specs.declared.written.RawRelation.{RawRelation as Tree};
 ghost use Rattle.lrp_rel.specs.Gathered.{AreGathered};
-ghost use Rattle.lrp_rel.specs.Reading.{IsOrMemory, IsFaultOrMemory, IsRefused, IsSoundTree, IsGatheredFromText, IsTreeRefusal};
+ghost use Rattle.lrp_rel.specs.Reading.{IsOrMemory, IsFaultOrMemory, IsRefusedBy, IsSoundTree, IsGatheredFromText, IsTreeRefusal};
 
 use crate::database::Database;
 use crate::gathering::Gathered;
@@ -28,7 +28,7 @@ fn database_of(alloc: Global, gathered: Gathered) -> Result<Database, ReadFault>
 fn database_of_bytes(alloc: Global, bytes: &[u8]) -> Result<Database, ReadFault>
     requires { length bytes.now ≤ 16777216 }
     ensures read { IfOk result (IsDatabase bytes.now) }
-    ensures refused { IfErr result (IsRefused bytes.now) }
+    ensures refused { IfErr result (IsRefusedBy bytes.now) }
 {
     let gathered = read_bytes(alloc, bytes)?;
     database_of(alloc, gathered)
@@ -39,7 +39,7 @@ fn database_of_bytes(alloc: Global, bytes: &[u8]) -> Result<Database, ReadFault>
 pub fn read_database(alloc: Global, bytes: &[u8]) -> Result<Database, ReadFault>
     requires { length bytes.now ≤ 16777216 }
     ensures read { IfOk result (IsDatabase bytes.now) }
-    ensures refused { IfErr result (IsRefused bytes.now) }
+    ensures refused { IfErr result (IsRefusedBy bytes.now) }
 
     // Each database is read, and each other text is refused for its one fault.
     ensures every_database { (db : ListOf RelationOf) → IsDatabase bytes.now db → IsOrMemory db result }

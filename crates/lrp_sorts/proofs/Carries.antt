@@ -1,7 +1,7 @@
 -- What is carried over from a raw query to the query that it is.
 use Rattle.std.proofs.Common.{◌≡◌, Bool, true, false, cond, [], ◌∷◌, ◌++◌, refl, ap, ◌∙◌, ◌&&◌}
 use Rattle.lrp_model.specs.Core.{HasElement, HasElements, HaveElements}
-use Rattle.lrp_model.specs.Checked.{plain, plain_each, compare_of, is_equals}
+use Rattle.lrp_model.specs.Checked.{plain, plain_each, compare_of, is_equality}
 use Rattle.lrp_model.specs.RawQueries.{RawForm, RawForms, raw_atom, raw_compare, raw_member, raw_not, raw_and, raw_or, raw_implies, raw_group, raw_exists, raw_forall, no_raws, raw}
 use Rattle.lrp_model.specs.Sorting.{Binders, term_sort, is_data_term}
 use Rattle.lrp_model.specs.declared.formulas.Op.{Op}
@@ -41,7 +41,7 @@ no_points false x y e f = f
 
 -- the kind of a comparison does not matter
 compared_points : (bs : Binders) (l : RawTerm) (op : Op) (r : RawTerm) → test_points (compare_of bs l op r) ≡ []
-compared_points bs l op r = no_points (is_equals op && is_data_term (term_sort bs l) && is_data_term (term_sort bs r)) _ _ refl refl
+compared_points bs l op r = no_points (is_equality op && is_data_term (term_sort bs l) && is_data_term (term_sort bs r)) _ _ refl refl
 
 -- the points are those of the raw formula
 mutual

@@ -4,7 +4,7 @@ use Rattle.std.specs.List.{HoldsAt}
 use Rattle.std.proofs.lemmas.List.{append-nil}
 use Rattle.std.proofs.lemmas.Option.{slice_get_past, slice_get_read}
 use Rattle.lrp_model.specs.Faults.{first}
-use Rattle.lrp_model.specs.Sorting.{Binders, stands, fault, term_sort, column_faults, atom_faults}
+use Rattle.lrp_model.specs.Sorting.{Binders, query_standing, query_fault, term_sort, column_faults, atom_faults}
 use Rattle.lrp_model.specs.declared.faults.QueryKind.TheVariants.{UnknownRelation}
 use Rattle.lrp_model.specs.declared.tokens.Place.{Place}
 use Rattle.lrp_model.specs.declared.raw.RawTerm.{RawTerm}
@@ -12,7 +12,8 @@ use Rattle.lrp_model.specs.declared.relations.Column.{Column}
 use Rattle.lrp_model.specs.declared.relations.Relation.{Relation}
 use Rattle.lrp_rel.specs.Sooner.{sooner}
 use Rattle.lrp_rel.proofs.FirstFault.{first_of_both}
-use Rattle.lrp_sorts.specs.Terms.{misfits, relation_faults, columns_in}
+use Rattle.lrp_sorts.specs.Terms.{misfits, atom_head_faults}
+use Rattle.lrp_model.specs.Rows.{columns_in}
 
 -- no column, no fault
 no_columns : (bs : Binders) (ts : List RawTerm) → column_faults bs ts [] ≡ []
@@ -39,12 +40,12 @@ one_beside bs (u ∷ ts) (c ∷ cs) (suc i) t lt is =
 
 -- the first fault, one term further
 pub column_further : (bs : Binders) (ts : List RawTerm) (cs : List Column) (i : ℕ) (t : RawTerm) → i < length ts → t ≡ get_or ts i t
-    → sooner stands (first stands (column_faults bs (take i ts) cs)) (first stands (misfits (term_sort bs t) t.place (slice_get cs i))) ≡ first stands (column_faults bs (take (i + 1) ts) cs)
+    → sooner query_standing (first query_standing (column_faults bs (take i ts) cs)) (first query_standing (misfits (term_sort bs t) t.place (slice_get cs i))) ≡ first query_standing (column_faults bs (take (i + 1) ts) cs)
 column_further bs ts cs i t lt is =
     let on : suc i ≡ i + 1 = omega arith in
-    sym (first_of_both stands (column_faults bs (take i ts) cs) (misfits (term_sort bs t) t.place (slice_get cs i)))
-    ∙ ap (first stands) (one_beside bs ts cs i t lt is)
-    ∙ ap (λ n. first stands (column_faults bs (take n ts) cs)) on
+    sym (first_of_both query_standing (column_faults bs (take i ts) cs) (misfits (term_sort bs t) t.place (slice_get cs i)))
+    ∙ ap (first query_standing) (one_beside bs ts cs i t lt is)
+    ∙ ap (λ n. first query_standing (column_faults bs (take n ts) cs)) on
 
 -- the column that stands at an index, if there is one
 pub column_at : (cs : List Column) (i : ℕ) (r : Option (Bor Column)) → IfSome r (λ x. x.now ≡ get_or cs i x.now) → MatchOption r (length cs ≤ i) (λ x. (i < length cs) × HoldsAt (λ y. x.now ≡ y) cs i) → option_map (λ x. x.now) r ≡ slice_get cs i
@@ -52,11 +53,11 @@ column_at cs i None same there = sym (slice_get_past cs i there)
 column_at cs i (Some x) same there = sym (slice_get_read cs (length cs) i x.now refl there.0 same)
 
 -- the faults of an atom: its relation's, and those of its terms beside the columns
-both_parts : (bs : Binders) (p : Place) (ts : List RawTerm) (r : Option Relation) → relation_faults p (length ts) r ++ column_faults bs ts (columns_in r) ≡ atom_faults bs p ts r
-both_parts bs p ts None = ap (λ l. fault UnknownRelation p ∷ l) (no_columns bs ts)
+both_parts : (bs : Binders) (p : Place) (ts : List RawTerm) (r : Option Relation) → atom_head_faults p (length ts) r ++ column_faults bs ts (columns_in r) ≡ atom_faults bs p ts r
+both_parts bs p ts None = ap (λ l. query_fault UnknownRelation p ∷ l) (no_columns bs ts)
 both_parts bs p ts (Some r) = refl
 
 -- the first of them
 pub atom_shows : (bs : Binders) (p : Place) (ts : List RawTerm) (r : Option Relation)
-    → sooner stands (first stands (relation_faults p (length ts) r)) (first stands (column_faults bs ts (columns_in r))) ≡ first stands (atom_faults bs p ts r)
-atom_shows bs p ts r = sym (first_of_both stands (relation_faults p (length ts) r) (column_faults bs ts (columns_in r))) ∙ ap (first stands) (both_parts bs p ts r)
+    → sooner query_standing (first query_standing (atom_head_faults p (length ts) r)) (first query_standing (column_faults bs ts (columns_in r))) ≡ first query_standing (atom_faults bs p ts r)
+atom_shows bs p ts r = sym (first_of_both query_standing (atom_head_faults p (length ts) r) (column_faults bs ts (columns_in r))) ∙ ap (first query_standing) (both_parts bs p ts r)

@@ -2,9 +2,9 @@
 use Rattle.std.proofs.Common.{◌≡◌, ℕ, suc, ◌+◌, ◌≤◌, Bool, true, false, not, cond, ◌&&◌, ◌||◌, List, [], ◌∷◌, ◌++◌, length, Option, Some, None, refl, ap, sym, ◌∙◌, arith, bytes_eq, subst}
 use Rattle.std.proofs.lemmas.List.Folds.{list_any-append}
 use Rattle.std.proofs.lemmas.Slice.Eq.{bytes_eq-Decides}
-use Rattle.lrp_model.specs.Texts.{Identifier}
+use Rattle.lrp_model.specs.Texts.{Identifier, without}
 use Rattle.lrp_model.specs.Faults.{is_named_in}
-use Rattle.lrp_model.specs.Sorting.{Binders, binder_sort, count, counted, without}
+use Rattle.lrp_model.specs.Sorting.{Binders, binder_sort, count, counted}
 use Rattle.lrp_model.specs.declared.relations.Sort.{Sort}
 use Rattle.lrp_sorts.specs.Widths.{passing}
 

@@ -3,12 +3,12 @@ use Rattle.std.proofs.Common.{◌≡◌, ℕ, suc, ◌+◌, ◌≤◌, Bool, tru
 use Rattle.std.specs.List.{find}
 use Rattle.std.proofs.lemmas.List.Folds.{list_any-append}
 use Rattle.std.proofs.lemmas.Bool.Decides.{nat_tests}
-use Rattle.lrp_model.specs.Texts.{Identifier}
+use Rattle.lrp_model.specs.Texts.{Identifier, without}
 use Rattle.lrp_model.specs.Faults.{is_named_in}
-use Rattle.lrp_model.specs.Sorting.{Binders, binder_sort, count, counted, without}
+use Rattle.lrp_model.specs.Sorting.{Binders, binder_sort, count, counted}
 use Rattle.lrp_model.specs.declared.relations.Sort.{Sort}
 use Rattle.lrp_model.specs.declared.raw.RawColumn.{RawColumn}
-use Rattle.lrp_sorts.specs.Widths.{passing, IsKept}
+use Rattle.lrp_sorts.specs.Widths.{passing, AreKeptNames}
 use Rattle.lrp_sorts.proofs.Counting.{or_true, or_false, and_both, same_name, own_name, stays, left_apart, within, at_most, pushed, counted_most}
 
 -- a name is in two lists where it is in one of them
@@ -43,21 +43,21 @@ not_above : (n : ℕ) → n ≤ 8 → nat_lt 8 n ≡ false
 not_above n h = grind (arith, nat_tests)
 
 -- nothing is kept of no names
-pub none_kept : (passes : Sort → Bool) (bs : Binders) (q : ℕ) → IsKept passes bs q [] []
+pub none_kept : (passes : Sort → Bool) (bs : Binders) (q : ℕ) → AreKeptNames passes bs q [] []
 none_kept passes bs q = record { once = refl; among = λ n h. absurd cc; every = λ l n h p. h }
 
 module _ (passes : Sort → Bool) (bs : Binders) (q : ℕ) where
   -- another list of the same names
-  pub same_kept : (names others kept : List Identifier) → ((n : Identifier) → is_named_in names n ≡ is_named_in others n) → IsKept passes bs q names kept → IsKept passes bs q others kept
+  pub same_kept : (names others kept : List Identifier) → ((n : Identifier) → is_named_in names n ≡ is_named_in others n) → AreKeptNames passes bs q names kept → AreKeptNames passes bs q others kept
   same_kept names others kept e k = record {
     once = k.once;
     among = λ n h. sym (ap (λ t. t && passing passes (binder_sort bs n)) (e n)) ∙ k.among n h;
     every = λ l n h p. k.every l n (e n ∙ h) p;
   }
 
-  module _ (names kept : List Identifier) (n : Identifier) (k : IsKept passes bs q names kept) where
+  module _ (names kept : List Identifier) (n : Identifier) (k : AreKeptNames passes bs q names kept) where
     -- a name that need not be kept, or is already
-    pub as_is : (length kept ≤ 8 + q → passing passes (binder_sort bs n) ≡ true → is_named_in kept n ≡ true) → IsKept passes bs q (names ++ n ∷ []) kept
+    pub as_is : (length kept ≤ 8 + q → passing passes (binder_sort bs n) ≡ true → is_named_in kept n ≡ true) → AreKeptNames passes bs q (names ++ n ∷ []) kept
     as_is f = record {
       once = k.once;
       among = λ m h. let p = and_both (is_named_in names m) _ (k.among m h) in both_hold _ _ (in_front names n m p.0) p.1;
@@ -65,11 +65,11 @@ module _ (passes : Sort → Bool) (bs : Binders) (q : ℕ) where
     }
 
     -- a name of another kind
-    pub not_kept : passing passes (binder_sort bs n) ≡ false → IsKept passes bs q (names ++ n ∷ []) kept
+    pub not_kept : passing passes (binder_sort bs n) ≡ false → AreKeptNames passes bs q (names ++ n ∷ []) kept
     not_kept h = as_is (λ l p. absurd (cc (h, p)))
 
     -- a name that is kept from then on
-    pub kept_too : is_named_in kept n ≡ false → passing passes (binder_sort bs n) ≡ true → IsKept passes bs q (names ++ n ∷ []) (kept ++ n ∷ [])
+    pub kept_too : is_named_in kept n ≡ false → passing passes (binder_sort bs n) ≡ true → AreKeptNames passes bs q (names ++ n ∷ []) (kept ++ n ∷ [])
     kept_too f p =
         let long : length (kept ++ n ∷ []) ≡ length kept + 1 = length-append kept (n ∷ []) in
         record {
@@ -84,7 +84,7 @@ module _ (passes : Sort → Bool) (bs : Binders) (q : ℕ) where
 
   -- ---- whether they are too many
 
-  wide_at : (names kept : List Identifier) (b : Bool) → nat_lt 8 (length kept) ≡ b → IsKept passes bs q names kept → nat_lt 8 (count passes bs names) ≡ b
+  wide_at : (names kept : List Identifier) (b : Bool) → nat_lt 8 (length kept) ≡ b → AreKeptNames passes bs q names kept → nat_lt 8 (count passes bs names) ≡ b
   wide_at names kept true e k =
       let less : count passes bs kept ≤ count passes bs names = within passes bs kept names (λ m h p. (and_both (is_named_in names m) _ (k.among m h)).0) in
       above (length kept) (count passes bs kept) (count passes bs names) k.once less e
@@ -95,13 +95,13 @@ module _ (passes : Sort → Bool) (bs : Binders) (q : ℕ) where
       not_above (count passes bs names) (omega (arith, short, less, same))
 
   -- so many are kept as it takes to tell whether they are more than 8
-  pub wide_kept : (names kept : List Identifier) → IsKept passes bs q names kept → nat_lt 8 (length kept) ≡ nat_lt 8 (count passes bs names)
+  pub wide_kept : (names kept : List Identifier) → AreKeptNames passes bs q names kept → nat_lt 8 (length kept) ≡ nat_lt 8 (count passes bs names)
   wide_kept names kept k = sym (wide_at names kept (nat_lt 8 (length kept)) refl k)
 
   -- ---- two lists joined
 
   -- the names that were kept of a list serve for the list
-  pub joined : (before names more kept : List Identifier) → IsKept passes bs q (before ++ more) kept → IsKept passes bs q names more → IsKept passes bs q (before ++ names) kept
+  pub joined : (before names more kept : List Identifier) → AreKeptNames passes bs q (before ++ more) kept → AreKeptNames passes bs q names more → AreKeptNames passes bs q (before ++ names) kept
   joined before names more kept k j = record {
     once = k.once;
     among = λ m h.
@@ -182,7 +182,7 @@ module _ (passes : Sort → Bool) where
         outer_at x xs (bytes_eq c.name x) refl f (outer_once xs f.others)
 
     -- what is kept inside serves outside, without the quantifier's own
-    pub kept_outside : (q : ℕ) (names kept : List Identifier) → IsKept passes (c ∷ bs) (suc q) names kept → IsKept passes bs q (without c.name names) (without c.name kept)
+    pub kept_outside : (q : ℕ) (names kept : List Identifier) → AreKeptNames passes (c ∷ bs) (suc q) names kept → AreKeptNames passes bs q (without c.name names) (without c.name kept)
     kept_outside q names kept k =
         let o = outer_once kept k.once in
         let less : length kept ≤ suc (length (without c.name kept)) = o.1 in

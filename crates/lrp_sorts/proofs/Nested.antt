@@ -7,7 +7,7 @@ use Rattle.lrp_model.specs.Sorting.{Binders, binder_sort}
 use Rattle.lrp_model.specs.declared.relations.Sort.{Sort}
 use Rattle.lrp_model.specs.declared.raw.RawColumn.{RawColumn}
 use Rattle.lrp_sorts.specs.Scopes.{kept_at}
-use Rattle.lrp_sorts.specs.Nesting.{bound_by, IsNested}
+use Rattle.lrp_sorts.specs.Nesting.{binders_with, IsNested}
 use Rattle.lrp_sorts.specs.declared.scope.Quantifier.{Quantifier}
 use Rattle.lrp_sorts.proofs.Binding.{map_reverse}
 use Rattle.lrp_sorts.proofs.Counting.{same_name}
@@ -15,7 +15,7 @@ use Rattle.lrp_sorts.proofs.Heads.{sort_choice}
 use Rattle.lrp_sorts.proofs.Tallies.{own_binder}
 
 -- the binders of a scope, from its quantifiers
-pub bound_around : (qs : List Quantifier) (head : Binders) (n : Identifier) → binder_sort (bound_by (reverse qs) head) n ≡ binder_sort (reverse (map (λ (q : Quantifier). q.binder.now) qs) ++ head) n
+pub bound_around : (qs : List Quantifier) (head : Binders) (n : Identifier) → binder_sort (binders_with (reverse qs) head) n ≡ binder_sort (reverse (map (λ (q : Quantifier). q.binder.now) qs) ++ head) n
 bound_around qs head n = ap (λ l. binder_sort (l ++ head) n) (map_reverse (λ (q : Quantifier). q.binder.now) qs)
 
 -- a head alone
@@ -24,20 +24,20 @@ nested_head m head h = record { sorts = h; outer = tt }
 
 module _ {S : Type 0} (m n : HashMap (Bor (List ℕ)) (Bor Sort) S) (q : Quantifier) (qs : List Quantifier) (head : Binders) where
   -- one quantifier further in
-  pub entered : IsNested m qs head → option_map (λ (s : Bor Sort). s.now) q.outer ≡ binder_sort (bound_by qs head) q.binder.now.name
+  pub entered : IsNested m qs head → option_map (λ (s : Bor Sort). s.now) q.outer ≡ binder_sort (binders_with qs head) q.binder.now.name
       → ((name : Identifier) → kept_at n name ≡ cond (bytes_eq q.binder.now.name name) (Some q.binder.now.sort) (kept_at m name)) → IsNested n (q ∷ qs) head
   entered k o u = record {
     sorts = λ name.
         u name ∙ ap (cond (bytes_eq q.binder.now.name name) (Some q.binder.now.sort)) (k.sorts name)
-        ∙ sort_choice (bytes_eq q.binder.now.name name) q.binder.now (find (λ (b : RawColumn). bytes_eq b.name name) (bound_by qs head));
+        ∙ sort_choice (bytes_eq q.binder.now.name name) q.binder.now (find (λ (b : RawColumn). bytes_eq b.name name) (binders_with qs head));
     outer = (o, k.outer);
   }
 
   left_at : (name : Identifier) (b : Bool) → bytes_eq q.binder.now.name name ≡ b → IsNested m (q ∷ qs) head
-      → cond b (option_map (λ (s : Bor Sort). s.now) q.outer) (kept_at m name) ≡ binder_sort (bound_by qs head) name
-  left_at name true e k = k.outer.0 ∙ ap (binder_sort (bound_by qs head)) (same_name q.binder.now.name name e)
+      → cond b (option_map (λ (s : Bor Sort). s.now) q.outer) (kept_at m name) ≡ binder_sort (binders_with qs head) name
+  left_at name true e k = k.outer.0 ∙ ap (binder_sort (binders_with qs head)) (same_name q.binder.now.name name e)
   left_at name false e k =
-      k.sorts name ∙ ap (λ t. option_map (λ (x : RawColumn). x.sort) (cond t (Some q.binder.now) (find (λ x. bytes_eq x.name name) (bound_by qs head)))) e
+      k.sorts name ∙ ap (λ t. option_map (λ (x : RawColumn). x.sort) (cond t (Some q.binder.now) (find (λ x. bytes_eq x.name name) (binders_with qs head)))) e
 
   -- and out of it again
   pub left : IsNested m (q ∷ qs) head → ((name : Identifier) → kept_at n name ≡ cond (bytes_eq q.binder.now.name name) (option_map (λ (s : Bor Sort). s.now) q.outer) (kept_at m name)) → IsNested n qs head
@@ -45,4 +45,4 @@ module _ {S : Type 0} (m n : HashMap (Bor (List ℕ)) (Bor Sort) S) (q : Quantif
 
 -- the name of the innermost quantifier is there
 pub own_kept : {S : Type 0} (m : HashMap (Bor (List ℕ)) (Bor Sort) S) (q : Quantifier) (qs : List Quantifier) (head : Binders) → IsNested m (q ∷ qs) head → kept_at m q.binder.now.name ≡ Some q.binder.now.sort
-own_kept m q qs head k = k.sorts q.binder.now.name ∙ own_binder q.binder.now (bound_by qs head)
+own_kept m q qs head k = k.sorts q.binder.now.name ∙ own_binder q.binder.now (binders_with qs head)

@@ -3,13 +3,13 @@ use Rattle.std.proofs.Common.{◌≡◌, ℕ, suc, ◌<◌, Bool, true, false, n
 use Rattle.std.specs.List.{list_any, find}
 use Rattle.std.proofs.lemmas.List.{length-map}
 use Rattle.std.proofs.lemmas.List.Folds.{list_any-append}
-use Rattle.lrp_model.specs.Texts.{Identifier}
+use Rattle.lrp_model.specs.Texts.{Identifier, without}
 use Rattle.lrp_model.specs.Sorts.{is_time, is_data}
 use Rattle.lrp_model.specs.Faults.{is_named_in}
-use Rattle.lrp_model.specs.Sorting.{Binders, binder_sort, count, too_many, without}
+use Rattle.lrp_model.specs.Sorting.{Binders, binder_sort, count, too_many}
 use Rattle.lrp_model.specs.declared.relations.Sort.{Sort}
 use Rattle.lrp_model.specs.declared.raw.RawColumn.{RawColumn}
-use Rattle.lrp_sorts.specs.Widths.{passing, IsKept, IsTally, names_behind}
+use Rattle.lrp_sorts.specs.Widths.{passing, AreKeptNames, IsTally, names_behind}
 use Rattle.lrp_sorts.specs.declared.width.Tally.{Tally}
 use Rattle.lrp_sorts.proofs.Counting.{own_name, or_true}
 use Rattle.lrp_sorts.proofs.Kept.{none_kept, same_kept, not_kept, wide_kept, kept_outside}
@@ -59,8 +59,8 @@ data_not_time (Some s) e = flipped (is_time s) e
 -- the tally of no names
 pub none_counted : (bs : Binders) (q : ℕ) (t : Tally) → t.times.items ≡ [] → t.texts.items ≡ [] → IsTally bs q [] t
 none_counted bs q t e f = record {
-  times = subst (λ ns. IsKept is_time bs q [] (names_behind ns)) (sym e) (none_kept is_time bs q);
-  texts = subst (λ ns. IsKept is_data bs q [] (names_behind ns)) (sym f) (none_kept is_data bs q);
+  times = subst (λ ns. AreKeptNames is_time bs q [] (names_behind ns)) (sym e) (none_kept is_time bs q);
+  texts = subst (λ ns. AreKeptNames is_data bs q [] (names_behind ns)) (sym f) (none_kept is_data bs q);
 }
 
 module _ (bs : Binders) (q : ℕ) (names : List Identifier) (old : Tally) (n : Identifier) (t : IsTally bs q names old) where
@@ -73,23 +73,23 @@ module _ (bs : Binders) (q : ℕ) (names : List Identifier) (old : Tally) (n : I
 
   -- a variable of sort time
   pub time_counted : (new : Tally) (s : Sort) → binder_sort bs n ≡ Some s → is_time s ≡ true
-      → (passing is_time (binder_sort bs n) ≡ true → IsKept is_time bs q names (names_behind old.times.items) → IsKept is_time bs q (names ++ n ∷ []) (names_behind new.times.items))
+      → (passing is_time (binder_sort bs n) ≡ true → AreKeptNames is_time bs q names (names_behind old.times.items) → AreKeptNames is_time bs q (names ++ n ∷ []) (names_behind new.times.items))
       → new.texts ≡ old.texts → IsTally bs q (names ++ n ∷ []) new
   time_counted new s h p f e =
       let b : passing is_time (binder_sort bs n) ≡ true = ap (passing is_time) h ∙ p in
       record {
         times = f b t.times;
-        texts = subst (λ v. IsKept is_data bs q (names ++ n ∷ []) (names_behind v.items)) (sym e) (not_kept is_data bs q names (names_behind old.texts.items) n t.texts (time_not_data (binder_sort bs n) b));
+        texts = subst (λ v. AreKeptNames is_data bs q (names ++ n ∷ []) (names_behind v.items)) (sym e) (not_kept is_data bs q names (names_behind old.texts.items) n t.texts (time_not_data (binder_sort bs n) b));
       }
 
   -- a variable of a data sort
   pub text_counted : (new : Tally) (s : Sort) → binder_sort bs n ≡ Some s → is_time s ≡ false
-      → (passing is_data (binder_sort bs n) ≡ true → IsKept is_data bs q names (names_behind old.texts.items) → IsKept is_data bs q (names ++ n ∷ []) (names_behind new.texts.items))
+      → (passing is_data (binder_sort bs n) ≡ true → AreKeptNames is_data bs q names (names_behind old.texts.items) → AreKeptNames is_data bs q (names ++ n ∷ []) (names_behind new.texts.items))
       → new.times ≡ old.times → IsTally bs q (names ++ n ∷ []) new
   text_counted new s h p f e =
       let b : passing is_data (binder_sort bs n) ≡ true = ap (passing is_data) h ∙ ap not p in
       record {
-        times = subst (λ v. IsKept is_time bs q (names ++ n ∷ []) (names_behind v.items)) (sym e) (not_kept is_time bs q names (names_behind old.times.items) n t.times (data_not_time (binder_sort bs n) b));
+        times = subst (λ v. AreKeptNames is_time bs q (names ++ n ∷ []) (names_behind v.items)) (sym e) (not_kept is_time bs q names (names_behind old.times.items) n t.times (data_not_time (binder_sort bs n) b));
         texts = f b t.texts;
       }
 
@@ -115,7 +115,7 @@ or_turned false true = refl
 or_turned false false = refl
 
 -- what is kept of two lists does not depend on which comes first
-pub turned_kept : (passes : Sort → Bool) (bs : Binders) (q : ℕ) (names more kept : List Identifier) → IsKept passes bs q (more ++ names) kept → IsKept passes bs q (names ++ more) kept
+pub turned_kept : (passes : Sort → Bool) (bs : Binders) (q : ℕ) (names more kept : List Identifier) → AreKeptNames passes bs q (more ++ names) kept → AreKeptNames passes bs q (names ++ more) kept
 turned_kept passes bs q names more kept k =
     same_kept passes bs q (more ++ names) (names ++ more) kept
     (λ m. list_any-append (bytes_eq m) more names ∙ or_turned (is_named_in more m) (is_named_in names m) ∙ sym (list_any-append (bytes_eq m) names more)) k
@@ -142,10 +142,10 @@ pub outside_counted : (c : RawColumn) (bs : Binders) (q : ℕ) (names : List Ide
     → names_behind new.times.items ≡ without n (names_behind old.times.items) → names_behind new.texts.items ≡ without n (names_behind old.texts.items) → IsTally bs q (without n names) new
 outside_counted c bs q names n old new e k t d =
     record {
-      times = subst (λ m. IsKept is_time bs q (without m names) (names_behind new.times.items)) e
-          (subst (λ l. IsKept is_time bs q (without c.name names) l) (sym (t ∙ ap (λ m. without m (names_behind old.times.items)) (sym e))) (kept_outside is_time c bs q names (names_behind old.times.items) k.times));
-      texts = subst (λ m. IsKept is_data bs q (without m names) (names_behind new.texts.items)) e
-          (subst (λ l. IsKept is_data bs q (without c.name names) l) (sym (d ∙ ap (λ m. without m (names_behind old.texts.items)) (sym e))) (kept_outside is_data c bs q names (names_behind old.texts.items) k.texts));
+      times = subst (λ m. AreKeptNames is_time bs q (without m names) (names_behind new.times.items)) e
+          (subst (λ l. AreKeptNames is_time bs q (without c.name names) l) (sym (t ∙ ap (λ m. without m (names_behind old.times.items)) (sym e))) (kept_outside is_time c bs q names (names_behind old.times.items) k.times));
+      texts = subst (λ m. AreKeptNames is_data bs q (without m names) (names_behind new.texts.items)) e
+          (subst (λ l. AreKeptNames is_data bs q (without c.name names) l) (sym (d ∙ ap (λ m. without m (names_behind old.texts.items)) (sym e))) (kept_outside is_data c bs q names (names_behind old.texts.items) k.texts));
     }
 
 -- ---- binders

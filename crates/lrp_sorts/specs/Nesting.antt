@@ -9,15 +9,15 @@ use Rattle.lrp_sorts.specs.Scopes.{kept_at}
 use Rattle.lrp_sorts.specs.declared.scope.Quantifier.{Quantifier}
 
 -- the binders of quantifiers, the innermost first, and those of a head behind them
-abbrev pub bound_by : List Quantifier → Binders → Binders
-bound_by qs bs = map (λ (q : Quantifier). q.binder.now) qs ++ bs
+abbrev pub binders_with : List Quantifier → Binders → Binders
+binders_with qs bs = map (λ (q : Quantifier). q.binder.now) qs ++ bs
 
 -- each quantifier has the sort that its name has outside
 abbrev pub Remember : List Quantifier → Binders → Type 0
 Remember [] bs = Unit {0}
-Remember (q ∷ qs) bs = (option_map (λ s. s.now) q.outer ≡ binder_sort (bound_by qs bs) q.binder.now.name) × Remember qs bs
+Remember (q ∷ qs) bs = (option_map (λ s. s.now) q.outer ≡ binder_sort (binders_with qs bs) q.binder.now.name) × Remember qs bs
 
 -- the map has the sort of each name's innermost binder
 pub record IsNested {S : Type 0} (kept : HashMap (Bor (List ℕ)) (Bor Sort) S) (quantifiers : List Quantifier) (head : Binders) : Type 0 where
-  pub sorts : (n : Identifier) → kept_at kept n ≡ binder_sort (bound_by quantifiers head) n
+  pub sorts : (n : Identifier) → kept_at kept n ≡ binder_sort (binders_with quantifiers head) n
   pub outer : Remember quantifiers head

@@ -1,7 +1,7 @@
 -- The sort of a term, as the checker keeps it.
 use Rattle.std.specs.Prelude.{◌≡◌, ◌==◌, not, ℕ, true, false, List, [], ◌∷◌, length, Option, None, Some}
 use Rattle.lrp_model.specs.Faults.{fault_if}
-use Rattle.lrp_model.specs.Sorting.{Binders, TermSort, of_sort, any_data, unsorted, binder_sort, term_sort, term_faults, variable_faults, differs, fault}
+use Rattle.lrp_model.specs.Sorting.{Binders, TermSort, of_sort, any_data, unsorted, binder_sort, term_sort, term_faults, variable_faults, differs, query_fault}
 use Rattle.lrp_model.specs.declared.tokens.Place.{Place}
 use Rattle.lrp_model.specs.declared.faults.QueryFault.{QueryFault}
 use Rattle.lrp_model.specs.declared.faults.QueryKind.TheVariants.{UnknownRelation, Arity, Sort as WrongSort}
@@ -55,14 +55,9 @@ pub record IsSeen (bs : Binders) (t : RawTerm) (sorted : Sorted) : Type 0 where
 -- a term of this sort at this place that is not of the sort of the column beside it
 abbrev pub misfits : TermSort → Place → Option Column → List QueryFault
 misfits s p None = []
-misfits s p (Some c) = fault_if (differs s c.sort) (fault WrongSort p)
+misfits s p (Some c) = fault_if (differs s c.sort) (query_fault WrongSort p)
 
 -- UnknownRelation: an atom whose name is no relation; Arity: one whose terms are not as many as the columns
-abbrev pub relation_faults : Place → ℕ → Option Relation → List QueryFault
-relation_faults p terms None = fault UnknownRelation p ∷ []
-relation_faults p terms (Some r) = fault_if (not (terms == length r.columns)) (fault Arity p)
-
--- the columns of a relation, where there is one
-abbrev pub columns_in : Option Relation → List Column
-columns_in None = []
-columns_in (Some r) = r.columns
+abbrev pub atom_head_faults : Place → ℕ → Option Relation → List QueryFault
+atom_head_faults p terms None = query_fault UnknownRelation p ∷ []
+atom_head_faults p terms (Some r) = fault_if (not (terms == length r.columns)) (query_fault Arity p)

@@ -15,7 +15,7 @@ passing passes None = false
 passing passes (Some s) = passes s
 
 -- names of a list, each once, whose binder's sort passes: all of them, unless they are more than 8 and so many quantifiers
-pub record IsKept (passes : Sort → Bool) (bs : Binders) (quantifiers : ℕ) (names kept : List Identifier) : Type 0 where
+pub record AreKeptNames (passes : Sort → Bool) (bs : Binders) (quantifiers : ℕ) (names kept : List Identifier) : Type 0 where
   pub once : count passes bs kept ≡ length kept
   pub among : (n : Identifier) → is_named_in kept n ≡ true → (is_named_in names n && passing passes (binder_sort bs n)) ≡ true
   pub every : length kept ≤ 8 + quantifiers → (n : Identifier) → is_named_in names n ≡ true → passing passes (binder_sort bs n) ≡ true → is_named_in kept n ≡ true
@@ -26,8 +26,8 @@ names_behind = map (λ n. n.now)
 
 -- the tally of a list of names
 pub record IsTally (bs : Binders) (quantifiers : ℕ) (names : List Identifier) (tally : Tally) : Type 0 where
-  pub times : IsKept is_time bs quantifiers names (names_behind tally.times.items)
-  pub texts : IsKept is_data bs quantifiers names (names_behind tally.texts.items)
+  pub times : AreKeptNames is_time bs quantifiers names (names_behind tally.times.items)
+  pub texts : AreKeptNames is_data bs quantifiers names (names_behind tally.texts.items)
 
 -- the tally of the names that occur free within the binders of a scope
 abbrev pub IsCounted : Around → List Identifier → Tally → Type 0

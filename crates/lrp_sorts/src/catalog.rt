@@ -4,7 +4,7 @@ ghost use Rattle.std.specs.List.{list_any};
 ghost use Rattle.lrp_model.specs.Sorts.{same_sort};
 ghost use Rattle.lrp_model.specs.Faults.{first};
 ghost use Rattle.lrp_model.specs.Rows.{relation_named};
-ghost use Rattle.lrp_model.specs.Sorting.{stands, has_sort, sort_faults};
+ghost use Rattle.lrp_model.specs.Sorting.{query_standing, has_sort, sort_faults};
 ghost use Rattle.lrp_model.specs.declared.relations.Sort.TheVariants.{Named};
 ghost use Rattle.lrp_model.specs.Texts.{Identifier};
 ghost use Rattle.lrp_sorts.specs.Scopes.{holds};
@@ -57,7 +57,7 @@ impl<'a> Catalog<'a> {
 
     // A named sort that no column has.
     pub fn sort_fault(&self, sort: &Sort, place: Place) -> Option<QueryFault>
-        ensures { result ≡ first stands (sort_faults self.now sort.now place) }
+        ensures { result ≡ first query_standing (sort_faults self.now sort.now place) }
     {
         match sort {
             Sort::Time | Sort::Data => None,

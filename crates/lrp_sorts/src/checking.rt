@@ -5,7 +5,7 @@ ghost use Rattle.lrp_model.specs.Faults.{first};
 ghost use Rattle.lrp_model.specs.Core.{HasElements};
 ghost use Rattle.lrp_model.specs.Formulas.{form_of, question_of};
 ghost use Rattle.lrp_model.specs.RawQueries.{raw_form_of, raw_question_of};
-ghost use Rattle.lrp_model.specs.Sorting.{stands, faults, IsWellSorted, IsSortFault};
+ghost use Rattle.lrp_model.specs.Sorting.{query_standing, query_faults, IsWellSorted, IsSortFault};
 ghost use Rattle.lrp_model.specs.declared.faults.QueryFault.{QueryFault};
 ghost use Rattle.lrp_model.specs.TestPoints.{points};
 ghost use Rattle.lrp_sorts.specs.Carried.{HasMembers, raw_points};
@@ -24,7 +24,7 @@ use std::alloc::Global;
 
 // The first sort fault of a query, and the binders of its head.
 fn survey<'a>(alloc: Global, raw: &'a RawQuery, db: &Database) -> Result<Opening<'a>, Memory>
-    ensures fault { IfOk result (λ made. made.fault ≡ first stands (faults db.now (raw_question_of raw.now))) }
+    ensures fault { IfOk result (λ made. made.fault ≡ first query_standing (query_faults db.now (raw_question_of raw.now))) }
     ensures scope { IfOk result (λ made. made.scope ≡ record { quantifiers = []; head = raw.now.head }) }
 {
     let catalog = Catalog::new(alloc, db)?;

@@ -1,6 +1,6 @@
 // The earlier of two faults.
 ghost use Rattle.std.specs.Prelude.{◌≡◌, Some};
-ghost use Rattle.lrp_model.specs.Sorting.{stands, fault};
+ghost use Rattle.lrp_model.specs.Sorting.{query_standing, query_fault};
 ghost use Rattle.lrp_model.specs.Faults.{earlier, first, fault_if};
 ghost use Rattle.lrp_rel.specs.Sooner.{sooner};
 
@@ -8,7 +8,7 @@ use lrp_model::{Place, QueryFault, QueryKind};
 
 // What faults are ordered by: the line, the column, and the number of the kind.
 fn standing(fault: QueryFault) -> [u32; 3]
-    ensures { result ≡ stands fault }
+    ensures { result ≡ query_standing fault }
 {
     [
         fault.place.line,
@@ -19,7 +19,7 @@ fn standing(fault: QueryFault) -> [u32; 3]
 
 // The earlier of two faults, or the one that there is; of two that stand alike, the first.
 pub fn sooner_of(first: Option<QueryFault>, second: Option<QueryFault>) -> Option<QueryFault>
-    ensures { result ≡ sooner stands first second }
+    ensures { result ≡ sooner query_standing first second }
 {
     match (first, second) {
         (Some(f), Some(g)) => Some(earlier_of(f, g)),
@@ -29,14 +29,14 @@ pub fn sooner_of(first: Option<QueryFault>, second: Option<QueryFault>) -> Optio
 }
 
 fn earlier_of(f: QueryFault, g: QueryFault) -> QueryFault
-    ensures { Some result ≡ earlier stands f (Some g) }
+    ensures { Some result ≡ earlier query_standing f (Some g) }
 {
     if standing(g) < standing(f) { g } else { f }
 }
 
 // The fault, where the test is true.
 pub fn fault_where(holds: bool, kind: QueryKind, place: Place) -> Option<QueryFault>
-    ensures { result ≡ first stands (fault_if holds (fault kind place)) }
+    ensures { result ≡ first query_standing (fault_if holds (query_fault kind place)) }
 {
     holds.then_some(QueryFault { kind, place })
 }

@@ -1,14 +1,15 @@
 // What the checker finds in a formula.
 ghost use Rattle.std.specs.Prelude.{◌≡◌, ◌∷◌, ◌++◌, List, ℕ, flat_map, IfOk, OnOk, option_map};
-ghost use Rattle.lrp_model.specs.Texts.{Identifier};
+ghost use Rattle.lrp_model.specs.Texts.{Identifier, without};
 ghost use Rattle.lrp_model.specs.Faults.{first, fault_if};
-ghost use Rattle.lrp_model.specs.Sorting.{Binders, stands, fault, too_many, sort_faults, binder_faults, form_faults, free_names, without, term_names, term_faults, column_faults, time_faults, compare_faults};
+ghost use Rattle.lrp_model.specs.Sorting.{Binders, query_standing, query_fault, too_many, sort_faults, binder_faults, form_faults, free_names, term_names, term_faults, column_faults, time_faults, compare_faults};
 ghost use Rattle.lrp_model.specs.RawQueries.{raw_atom};
 ghost use Rattle.lrp_model.specs.declared.faults.QueryKind.TheVariants.{Wide as wide, Rebound as rebound};
 ghost use Rattle.lrp_rel.specs.Sooner.{sooner};
 ghost use Rattle.lrp_sorts.specs.Scopes.{Around, binders};
-ghost use Rattle.lrp_sorts.specs.Terms.{IsSeen, columns_in};
+ghost use Rattle.lrp_sorts.specs.Terms.{IsSeen};
 ghost use Rattle.lrp_sorts.specs.Widths.{IsTally, IsCounted, added};
+ghost use Rattle.lrp_model.specs.Rows.{columns_in};
 
 use crate::catalog::Catalog;
 use crate::earliest::{fault_where, sooner_of};
@@ -44,7 +45,7 @@ pub fn both<'a>(
     left: Finding<'a>,
     right: Finding<'a>,
 ) -> Result<Finding<'a>, Memory>
-    ensures fault { IfOk result (λ made. made.fault ≡ sooner stands left.entry.fault right.entry.fault) }
+    ensures fault { IfOk result (λ made. made.fault ≡ sooner query_standing left.entry.fault right.entry.fault) }
     ensures free { IfOk result (λ made. (bs : Binders) (names others : List Identifier) → IsTally bs quantifiers names left.entry.free → IsTally bs quantifiers others right.entry.free → IsTally bs quantifiers (names ++ others) made.free) }
 {
     Ok(Finding {
@@ -55,7 +56,7 @@ pub fn both<'a>(
 
 // What a formula shows, its own width among it.
 pub fn with_width<'a>(place: Place, inside: Finding<'a>) -> Finding<'a>
-    ensures fault { (bs : Binders) (quantifiers : ℕ) (names : List Identifier) → IsTally bs quantifiers names inside.entry.free → result.fault ≡ sooner stands (first stands (fault_if (too_many bs names) (fault wide place))) inside.entry.fault }
+    ensures fault { (bs : Binders) (quantifiers : ℕ) (names : List Identifier) → IsTally bs quantifiers names inside.entry.free → result.fault ≡ sooner query_standing (first query_standing (fault_if (too_many bs names) (query_fault wide place))) inside.entry.fault }
     ensures free { result.free ≡ inside.entry.free }
 {
     let own = fault_where(inside.free.is_wide(), QueryKind::Wide, place);
@@ -67,7 +68,7 @@ pub fn with_width<'a>(place: Place, inside: Finding<'a>) -> Finding<'a>
 
 // The first fault of a binder, whose name is bound around it or not.
 pub fn binder_fault(catalog: &Catalog<'_>, bound: bool, binder: &RawColumn) -> Option<QueryFault>
-    ensures { result ≡ sooner stands (first stands (fault_if bound (fault rebound binder.now.place))) (first stands (sort_faults catalog.now binder.now.sort binder.now.sort_place)) }
+    ensures { result ≡ sooner query_standing (first query_standing (fault_if bound (query_fault rebound binder.now.place))) (first query_standing (sort_faults catalog.now binder.now.sort binder.now.sort_place)) }
 {
     let own = fault_where(bound, QueryKind::Rebound, binder.place);
     sooner_of(own, catalog.sort_fault(&binder.sort, binder.sort_place))
@@ -79,7 +80,7 @@ pub fn bind<'a>(
     scope: &mut Scope<'a>,
     binder: &'a RawColumn,
 ) -> Result<Option<QueryFault>, Memory>
-    ensures fault { IfOk result (λ own. own ≡ first stands (binder_faults catalog.now (binders scope.old) binder.now)) }
+    ensures fault { IfOk result (λ own. own ≡ first query_standing (binder_faults catalog.now (binders scope.old) binder.now)) }
     ensures scope { OnOk result (scope.new ≡ record scope.old { quantifiers = binder.now ∷ scope.old.quantifiers }) }
 {
     let own = binder_fault(catalog, scope.sort_of(&binder.name).is_some(), binder);
@@ -95,7 +96,7 @@ pub fn unbind<'a>(
     place: Place,
     inside: Finding<'a>,
 ) -> Result<Finding<'a>, Memory>
-    ensures fault { (outer : Around) (names : List Identifier) → scope.old ≡ record outer { quantifiers = binder.now ∷ outer.quantifiers } → IsCounted scope.old names inside.entry.free → IfOk result (λ made. made.fault ≡ sooner stands own (sooner stands (first stands (fault_if (too_many (binders scope.old) (binder.now.name ∷ names)) (fault wide place))) inside.entry.fault)) }
+    ensures fault { (outer : Around) (names : List Identifier) → scope.old ≡ record outer { quantifiers = binder.now ∷ outer.quantifiers } → IsCounted scope.old names inside.entry.free → IfOk result (λ made. made.fault ≡ sooner query_standing own (sooner query_standing (first query_standing (fault_if (too_many (binders scope.old) (binder.now.name ∷ names)) (query_fault wide place))) inside.entry.fault)) }
     ensures free { (outer : Around) (names : List Identifier) → scope.old ≡ record outer { quantifiers = binder.now ∷ outer.quantifiers } → IsCounted scope.old names inside.entry.free → IfOk result (λ made. IsCounted outer (without binder.now.name names) made.free) }
     ensures scope { OnOk result ((outer : Around) → scope.old ≡ record outer { quantifiers = binder.now ∷ outer.quantifiers } → scope.new ≡ outer) }
 {
@@ -149,8 +150,8 @@ fn terms_shown<'a>(
     terms: &'a [RawTerm],
     columns: &[Column],
 ) -> Result<Shown<'a>, Memory>
-    ensures fault { IfOk result (λ made. made.fault ≡ first stands (flat_map (term_faults (binders scope.now)) terms.now)) }
-    ensures misfit { IfOk result (λ made. made.misfit ≡ first stands (column_faults (binders scope.now) terms.now columns.now)) }
+    ensures fault { IfOk result (λ made. made.fault ≡ first query_standing (flat_map (term_faults (binders scope.now)) terms.now)) }
+    ensures misfit { IfOk result (λ made. made.misfit ≡ first query_standing (column_faults (binders scope.now) terms.now columns.now)) }
     ensures free { IfOk result (λ made. IsCounted scope.now (flat_map term_names terms.now) made.free) }
 {
     let quantifiers = scope.quantifiers();
@@ -189,7 +190,7 @@ pub fn atom<'a>(
     name: &Name,
     terms: &'a [RawTerm],
 ) -> Result<Finding<'a>, Memory>
-    ensures fault { IfOk result (λ made. made.fault ≡ first stands (form_faults (raw_atom place name.now terms.now) catalog.now (binders scope.now))) }
+    ensures fault { IfOk result (λ made. made.fault ≡ first query_standing (form_faults (raw_atom place name.now terms.now) catalog.now (binders scope.now))) }
     ensures free { IfOk result (λ made. IsCounted scope.now (free_names (raw_atom place name.now terms.now)) made.free) }
 {
     let relation = catalog.relation(name);
@@ -213,7 +214,7 @@ pub fn comparison<'a>(
     op: Op,
     right: &'a RawTerm,
 ) -> Result<Finding<'a>, Memory>
-    ensures fault { IfOk result (λ made. made.fault ≡ first stands (term_faults (binders scope.now) left.now ++ term_faults (binders scope.now) right.now ++ compare_faults (binders scope.now) left.now op right.now)) }
+    ensures fault { IfOk result (λ made. made.fault ≡ first query_standing (term_faults (binders scope.now) left.now ++ term_faults (binders scope.now) right.now ++ compare_faults (binders scope.now) left.now op right.now)) }
     ensures free { IfOk result (λ made. IsCounted scope.now (term_names left.now ++ term_names right.now) made.free) }
 {
     let one = term_sort(scope, left);
@@ -234,7 +235,7 @@ pub fn membership<'a>(
     scope: &Scope<'_>,
     term: &'a RawTerm,
 ) -> Result<Finding<'a>, Memory>
-    ensures fault { IfOk result (λ made. made.fault ≡ first stands (term_faults (binders scope.now) term.now ++ time_faults (binders scope.now) term.now)) }
+    ensures fault { IfOk result (λ made. made.fault ≡ first query_standing (term_faults (binders scope.now) term.now ++ time_faults (binders scope.now) term.now)) }
     ensures free { IfOk result (λ made. IsCounted scope.now (term_names term.now) made.free) }
 {
     let sorted = term_sort(scope, term);

@@ -2,9 +2,8 @@
 ghost use Rattle.std.specs.Prelude.{◌≡◌, ◌<◌, ◌+◌, ◌==◌, [], IfOk, if◌then◌else◌};
 ghost use Rattle.lrp_model.specs.Sorts.{is_time};
 ghost use Rattle.lrp_model.specs.Faults.{first, ninth};
-ghost use Rattle.lrp_model.specs.Sorting.{stands, fault, head_faults};
+ghost use Rattle.lrp_model.specs.Sorting.{query_standing, query_fault, head_faults};
 ghost use Rattle.lrp_model.specs.declared.faults.QueryKind.TheVariants.{Wide as wide};
-ghost use Rattle.lrp_sorts.specs.Scopes.{Around};
 
 use crate::catalog::Catalog;
 use crate::earliest::{fault_where, sooner_of};
@@ -30,7 +29,7 @@ pub fn open<'a>(
     catalog: &Catalog<'_>,
     columns: &'a [RawColumn],
 ) -> Result<Opening<'a>, Memory>
-    ensures fault { IfOk result (λ made. made.fault ≡ first stands (head_faults catalog.now [] columns.now)) }
+    ensures fault { IfOk result (λ made. made.fault ≡ first query_standing (head_faults catalog.now [] columns.now)) }
     ensures scope { IfOk result (λ made. made.scope ≡ record { quantifiers = []; head = columns.now }) }
 {
     let mut sorts: HashMap<&'a [u8], &'a Sort> = HashMap::new(alloc);
@@ -86,7 +85,7 @@ impl Before {
 
 // A ninth time column, or a ninth column among those of all data sorts.
 pub fn head_width(columns: &[RawColumn]) -> Option<QueryFault>
-    ensures { result ≡ first stands (ninth (fault wide) 0 0 columns.now) }
+    ensures { result ≡ first query_standing (ninth (query_fault wide) 0 0 columns.now) }
 {
     let mut found = None;
     let mut before = Before { times: 0, texts: 0 };

@@ -1,9 +1,9 @@
 // The first fault of a formula and its free names, by one walk over it.
 ghost use Rattle.std.specs.Prelude.{◌≡◌, ◌∷◌, ◌++◌, [], List, IfOk, OnOk};
-ghost use Rattle.lrp_model.specs.Texts.{Identifier};
+ghost use Rattle.lrp_model.specs.Texts.{Identifier, without};
 ghost use Rattle.lrp_model.specs.Faults.{first};
 ghost use Rattle.lrp_model.specs.RawQueries.{raw_form_of, raw_forms_of};
-ghost use Rattle.lrp_model.specs.Sorting.{stands, widened, binder_faults, form_faults, forms_faults, free_names, free_names_each, without};
+ghost use Rattle.lrp_model.specs.Sorting.{query_standing, widened, binder_faults, form_faults, forms_faults, free_names, free_names_each};
 ghost use Rattle.lrp_rel.specs.Sooner.{sooner};
 ghost use Rattle.lrp_sorts.specs.Scopes.{binders};
 ghost use Rattle.lrp_sorts.specs.Widths.{IsCounted};
@@ -26,7 +26,7 @@ pub fn inspect<'a>(
     scope: &mut Scope<'a>,
     f: &'a RawFormula,
 ) -> Result<Finding<'a>, Memory>
-    ensures fault { IfOk result (λ made. made.fault ≡ first stands (form_faults (raw_form_of f.now) catalog.now (binders scope.old))) }
+    ensures fault { IfOk result (λ made. made.fault ≡ first query_standing (form_faults (raw_form_of f.now) catalog.now (binders scope.old))) }
     ensures free { IfOk result (λ made. IsCounted scope.old (free_names (raw_form_of f.now)) made.free) }
     ensures scope { OnOk result (scope.new ≡ scope.old) }
 {
@@ -57,7 +57,7 @@ pub fn inspect_whole<'a>(
     scope: &mut Scope<'a>,
     f: &'a RawFormula,
 ) -> Result<Finding<'a>, Memory>
-    ensures fault { IfOk result (λ made. made.fault ≡ first stands (widened (binders scope.old) [] (raw_form_of f.now) (form_faults (raw_form_of f.now) catalog.now (binders scope.old)))) }
+    ensures fault { IfOk result (λ made. made.fault ≡ first query_standing (widened (binders scope.old) [] (raw_form_of f.now) (form_faults (raw_form_of f.now) catalog.now (binders scope.old)))) }
     ensures free { IfOk result (λ made. IsCounted scope.old (free_names (raw_form_of f.now)) made.free) }
     ensures scope { OnOk result (scope.new ≡ scope.old) }
 {
@@ -74,7 +74,7 @@ fn inspect_behind<'a>(
     before: Finding<'a>,
     f: &'a RawFormula,
 ) -> Result<Finding<'a>, Memory>
-    ensures fault { IfOk result (λ made. made.fault ≡ sooner stands before.entry.fault (first stands (widened (binders scope.old) [] (raw_form_of f.now) (form_faults (raw_form_of f.now) catalog.now (binders scope.old))))) }
+    ensures fault { IfOk result (λ made. made.fault ≡ sooner query_standing before.entry.fault (first query_standing (widened (binders scope.old) [] (raw_form_of f.now) (form_faults (raw_form_of f.now) catalog.now (binders scope.old))))) }
     ensures free { IfOk result (λ made. (names : List Identifier) → IsCounted scope.old names before.entry.free → IsCounted scope.old (names ++ free_names (raw_form_of f.now)) made.free) }
     ensures scope { OnOk result (scope.new ≡ scope.old) }
 {
@@ -91,7 +91,7 @@ fn inspect_bound<'a>(
     binder: &'a RawColumn,
     f: &'a RawFormula,
 ) -> Result<Finding<'a>, Memory>
-    ensures fault { IfOk result (λ made. made.fault ≡ sooner stands (first stands (binder_faults catalog.now (binders scope.old) binder.now)) (first stands (widened (binder.now ∷ binders scope.old) (binder.now.name ∷ []) (raw_form_of f.now) (form_faults (raw_form_of f.now) catalog.now (binder.now ∷ binders scope.old))))) }
+    ensures fault { IfOk result (λ made. made.fault ≡ sooner query_standing (first query_standing (binder_faults catalog.now (binders scope.old) binder.now)) (first query_standing (widened (binder.now ∷ binders scope.old) (binder.now.name ∷ []) (raw_form_of f.now) (form_faults (raw_form_of f.now) catalog.now (binder.now ∷ binders scope.old))))) }
     ensures free { IfOk result (λ made. IsCounted scope.old (without binder.now.name (free_names (raw_form_of f.now))) made.free) }
     ensures scope { OnOk result (scope.new ≡ scope.old) }
 {
@@ -108,7 +108,7 @@ fn inspect_each<'a>(
     scope: &mut Scope<'a>,
     fs: &'a [RawFormula],
 ) -> Result<Finding<'a>, Memory>
-    ensures fault { IfOk result (λ made. made.fault ≡ first stands (forms_faults (raw_forms_of fs.now) catalog.now (binders scope.old))) }
+    ensures fault { IfOk result (λ made. made.fault ≡ first query_standing (forms_faults (raw_forms_of fs.now) catalog.now (binders scope.old))) }
     ensures free { IfOk result (λ made. IsCounted scope.old (free_names_each (raw_forms_of fs.now)) made.free) }
     ensures scope { OnOk result (scope.new ≡ scope.old) }
 {

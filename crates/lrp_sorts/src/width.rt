@@ -1,11 +1,11 @@
 // The variables that occur free in a formula, as they are counted.
 ghost use Rattle.std.specs.Prelude.{◌≡◌, ◌∷◌, ◌++◌, [], List, ℕ, Bool, true, suc, not, bytes_eq, Some, IfOk, OnOk};
-ghost use Rattle.lrp_model.specs.Texts.{Identifier};
+ghost use Rattle.lrp_model.specs.Texts.{Identifier, without};
 ghost use Rattle.lrp_model.specs.Faults.{is_named_in};
-ghost use Rattle.lrp_model.specs.Sorting.{Binders, binder_sort, too_many, without};
+ghost use Rattle.lrp_model.specs.Sorting.{Binders, binder_sort, too_many};
 ghost use Rattle.lrp_model.specs.declared.raw.RawColumn.{RawColumn};
 ghost use Rattle.lrp_model.specs.declared.relations.Sort.{Sort as SortOf};
-ghost use Rattle.lrp_sorts.specs.Widths.{IsKept, IsTally, names_behind, passing};
+ghost use Rattle.lrp_sorts.specs.Widths.{AreKeptNames, IsTally, names_behind, passing};
 
 use lrp_model::{Memory, Name, Sort};
 use std::alloc::Global;
@@ -83,7 +83,7 @@ fn is_among(names: &[&Name], name: &Name) -> bool
 
 // A name among others of its kind, unless they are too many anyway.
 fn keep<'a>(kept: &mut Vec<&'a Name>, quantifiers: usize, name: &'a Name) -> Result<(), Memory>
-    ensures { OnOk result ((passes : SortOf → Bool) (bs : Binders) (names : List Identifier) → passing passes (binder_sort bs name.now) ≡ true → IsKept passes bs quantifiers names (names_behind kept.old.items) → IsKept passes bs quantifiers (names ++ name.now ∷ []) (names_behind kept.new.items)) }
+    ensures { OnOk result ((passes : SortOf → Bool) (bs : Binders) (names : List Identifier) → passing passes (binder_sort bs name.now) ≡ true → AreKeptNames passes bs quantifiers names (names_behind kept.old.items) → AreKeptNames passes bs quantifiers (names ++ name.now ∷ []) (names_behind kept.new.items)) }
 {
     let more = kept.len().saturating_sub(MOST);
     if more <= quantifiers && !is_among(kept, name) {
@@ -98,7 +98,7 @@ fn merged<'a>(
     left: Vec<&'a Name>,
     right: Vec<&'a Name>,
 ) -> Result<Vec<&'a Name>, Memory>
-    ensures { IfOk result (λ made. (passes : SortOf → Bool) (bs : Binders) (names more : List Identifier) → IsKept passes bs quantifiers names (names_behind left.entry.items) → IsKept passes bs quantifiers more (names_behind right.entry.items) → IsKept passes bs quantifiers (names ++ more) (names_behind made.items)) }
+    ensures { IfOk result (λ made. (passes : SortOf → Bool) (bs : Binders) (names more : List Identifier) → AreKeptNames passes bs quantifiers names (names_behind left.entry.items) → AreKeptNames passes bs quantifiers more (names_behind right.entry.items) → AreKeptNames passes bs quantifiers (names ++ more) (names_behind made.items)) }
 {
     if left.len() < right.len() {
         appended(quantifiers, right, &left)
@@ -113,7 +113,7 @@ fn appended<'a>(
     names: Vec<&'a Name>,
     others: &[&'a Name],
 ) -> Result<Vec<&'a Name>, Memory>
-    ensures { IfOk result (λ made. (passes : SortOf → Bool) (bs : Binders) (some more : List Identifier) → IsKept passes bs quantifiers some (names_behind names.entry.items) → IsKept passes bs quantifiers more (names_behind others.now) → IsKept passes bs quantifiers (some ++ more) (names_behind made.items)) }
+    ensures { IfOk result (λ made. (passes : SortOf → Bool) (bs : Binders) (some more : List Identifier) → AreKeptNames passes bs quantifiers some (names_behind names.entry.items) → AreKeptNames passes bs quantifiers more (names_behind others.now) → AreKeptNames passes bs quantifiers (some ++ more) (names_behind made.items)) }
 {
     let mut kept = names;
     keep_each(&mut kept, quantifiers, others)?;
@@ -126,7 +126,7 @@ fn keep_each<'a>(
     quantifiers: usize,
     others: &[&'a Name],
 ) -> Result<(), Memory>
-    ensures { OnOk result ((passes : SortOf → Bool) (bs : Binders) (names more : List Identifier) → IsKept passes bs quantifiers names (names_behind kept.old.items) → IsKept passes bs quantifiers more (names_behind others.now) → IsKept passes bs quantifiers (names ++ more) (names_behind kept.new.items)) }
+    ensures { OnOk result ((passes : SortOf → Bool) (bs : Binders) (names more : List Identifier) → AreKeptNames passes bs quantifiers names (names_behind kept.old.items) → AreKeptNames passes bs quantifiers more (names_behind others.now) → AreKeptNames passes bs quantifiers (names ++ more) (names_behind kept.new.items)) }
 {
     for name in others {
         keep(kept, quantifiers, *name)?;

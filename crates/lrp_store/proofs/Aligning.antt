@@ -12,7 +12,7 @@ use Rattle.lrp_store.specs.Stores.{StoreView, IsStore, InStore, HasReach, zone_o
 use Rattle.lrp_store.specs.Growing.{IsGrown, IsAdded, IsRefused, IsTupleOf, InhabitsMany}
 use Rattle.lrp_store.specs.declared.store.StoreFault.{StoreFault}
 use Rattle.lrp_store.specs.declared.store.StoreFault.TheVariants.{TooManyCells}
-use Rattle.lrp_store.specs.Choices.{IsPart}
+use Rattle.lrp_store.specs.Choices.{IsPartOf}
 use Rattle.lrp_store.specs.Aligned.{InCell, IsAligned}
 use Rattle.lrp_store.proofs.Held.{Table, held_of, zone_held}
 use Rattle.lrp_store.proofs.Grown.{Set, grown_same, grown_on, grown_within, one_more_of}
@@ -22,30 +22,30 @@ use Rattle.lrp_store.proofs.Splitting.{whole_part}
 -- the parts of a zone that have no residue chosen are its tuples with the texts of the cell
 module _ (z : ZoneView) (k : ℕ) (s : StoreView) (is : IsStore s) (c : Cell) (texts : List ℕ) (et : c.texts ≡ texts) (cap high : ℕ) (u : StoreView) where
   -- a tuple of the part is one of the zone
-  to_tuple : (xs : List ℤ) (ns : List ℕ) → IsPart z k s.shape.texts c 0 xs ns → IsTupleOf z (take s.shape.texts texts) xs ns
+  to_tuple : (xs : List ℤ) (ns : List ℕ) → IsPartOf z k s.shape.texts c 0 xs ns → IsTupleOf z (take s.shape.texts texts) xs ns
   to_tuple xs ns p = record { member = p.member; same = ap (take s.shape.texts) (sym et) ∙ p.named }
 
   -- where the part was added, the zone was
-  pub split_added : IsAdded (IsPart z k s.shape.texts c 0) cap high s u → IsAdded (IsTupleOf z (take s.shape.texts texts)) cap high s u
+  pub split_added : IsAdded (IsPartOf z k s.shape.texts c 0) cap high s u → IsAdded (IsTupleOf z (take s.shape.texts texts)) cap high s u
   split_added a = record {
     grown = grown_on cap high _ _ s s u to_tuple (grown_same cap high _ s is) a.grown;
     whole = record { each = λ xs ns t. a.whole.each xs ns (whole_part z k s.shape.texts c xs ns t.member (ap (take s.shape.texts) et ∙ t.same)) };
   }
 
   -- where the part was refused, the zone was
-  pub split_refused : IsRefused (IsPart z k s.shape.texts c 0) cap high s u → IsRefused (IsTupleOf z (take s.shape.texts texts)) cap high s u
+  pub split_refused : IsRefused (IsPartOf z k s.shape.texts c 0) cap high s u → IsRefused (IsTupleOf z (take s.shape.texts texts)) cap high s u
   split_refused r = record { grown = grown_on cap high _ _ s s u to_tuple (grown_same cap high _ s is) r.grown; more = one_more_of cap _ _ u to_tuple r.more }
 
 -- the same of what a call answers
 pub split_ok : {T : Type 0} (z : ZoneView) (k : ℕ) (s : StoreView) (is : IsStore s) (c : Cell) (texts : List ℕ) (cap : ℕ) (u : StoreView) (r : Result T StoreFault)
-    → OnOk r (IsAdded (IsPart z k s.shape.texts c 0) cap (reach_of z + (k - 1)) s u) → c.texts ≡ texts → k ≡ s.period → OnOk r (IsAdded (IsTupleOf z (take s.shape.texts texts)) cap (reach_of z + (s.period - 1)) s u)
-split_ok z k s is c texts cap u (Ok x) h et ek = split_added z s.period s is c texts et cap (reach_of z + (s.period - 1)) u (subst (λ n. IsAdded (IsPart z n s.shape.texts c 0) cap (reach_of z + (n - 1)) s u) ek h)
+    → OnOk r (IsAdded (IsPartOf z k s.shape.texts c 0) cap (reach_of z + (k - 1)) s u) → c.texts ≡ texts → k ≡ s.period → OnOk r (IsAdded (IsTupleOf z (take s.shape.texts texts)) cap (reach_of z + (s.period - 1)) s u)
+split_ok z k s is c texts cap u (Ok x) h et ek = split_added z s.period s is c texts et cap (reach_of z + (s.period - 1)) u (subst (λ n. IsAdded (IsPartOf z n s.shape.texts c 0) cap (reach_of z + (n - 1)) s u) ek h)
 split_ok z k s is c texts cap u (Err e) h et ek = tt
 
 -- the same of a refusal
 pub split_many : {T : Type 0} (z : ZoneView) (k : ℕ) (s : StoreView) (is : IsStore s) (c : Cell) (texts : List ℕ) (cap : ℕ) (u : StoreView) (r : Result T StoreFault)
-    → (r ≡ Err TooManyCells → IsRefused (IsPart z k s.shape.texts c 0) cap (reach_of z + (k - 1)) s u) → c.texts ≡ texts → k ≡ s.period → r ≡ Err TooManyCells → IsRefused (IsTupleOf z (take s.shape.texts texts)) cap (reach_of z + (s.period - 1)) s u
-split_many z k s is c texts cap u r h et ek e = split_refused z s.period s is c texts et cap (reach_of z + (s.period - 1)) u (subst (λ n. IsRefused (IsPart z n s.shape.texts c 0) cap (reach_of z + (n - 1)) s u) ek (h e))
+    → (r ≡ Err TooManyCells → IsRefused (IsPartOf z k s.shape.texts c 0) cap (reach_of z + (k - 1)) s u) → c.texts ≡ texts → k ≡ s.period → r ≡ Err TooManyCells → IsRefused (IsTupleOf z (take s.shape.texts texts)) cap (reach_of z + (s.period - 1)) s u
+split_many z k s is c texts cap u r h et ek e = split_refused z s.period s is c texts et cap (reach_of z + (s.period - 1)) u (subst (λ n. IsRefused (IsPartOf z n s.shape.texts c 0) cap (reach_of z + (n - 1)) s u) ek (h e))
 
 -- the zone of a table, as it is read and as it is seen
 pub zone_read : (s now : StoreView) → s ≡ now → (c : Cell) (t : Table) (times : ℕ) (z : ZoneView) → times ≡ s.shape.times → z ≡ record { period = s.period; residues = take times c.residues; bounds = t } → z ≡ zone_of now c t

@@ -24,7 +24,7 @@ use Rattle.lrp_slots.specs.Lists.{cell_cmp}
 use Rattle.lrp_slots.proofs.Tables.{cells_total, same_cell}
 use Rattle.lrp_slots.proofs.Copying.{keys_ascend}
 use Rattle.lrp_zone.specs.Zones.{IsResidue}
-use Rattle.lrp_store.specs.Stores.{StoreView, IsStore, IsCellOf, IsPadded, InStore, IsInhabited, LiesIn, tables_at}
+use Rattle.lrp_store.specs.Stores.{StoreView, IsStore, IsCellOf, IsPadded, InStore, IsInhabitedCell, LiesInCell, tables_at}
 use Rattle.lrp_store.specs.Growing.{IsWhole, HasOneMore, InhabitsMany}
 use Rattle.lrp_store.proofs.Held.{Table, cell_or, node_take, held_of, zone_held, cell_held}
 use Rattle.lrp_store.proofs.Grown.{Set}
@@ -47,7 +47,7 @@ same_padded nought n xs ys p q same = ext_get_or nought xs ys (p.size ∙ sym q.
 ])
 
 -- a tuple lies in one cell only
-pub one_cell : (shape : Shape) (k : ℕ) (c d : Cell) (xs : List ℤ) (ns : List ℕ) → IsCellOf shape k c → IsCellOf shape k d → LiesIn shape k c xs ns → LiesIn shape k d xs ns → c ≡ d
+pub one_cell : (shape : Shape) (k : ℕ) (c d : Cell) (xs : List ℤ) (ns : List ℕ) → IsCellOf shape k c → IsCellOf shape k d → LiesInCell shape k c xs ns → LiesInCell shape k d xs ns → c ≡ d
 one_cell shape k c d xs ns pc pd lc ld =
     let texts : c.texts ≡ d.texts = same_padded 0 shape.texts c.texts d.texts pc.texts pd.texts (λ i h. sym (get_or-take shape.texts c.texts i 0 h) ∙ ap (λ ms. get_or ms i 0) (lc.named ∙ sym ld.named) ∙ get_or-take shape.texts d.texts i 0 h) in
     let residues : c.residues ≡ d.residues = same_padded (pos 0) shape.times c.residues d.residues pc.residues pd.residues (λ i h.
@@ -56,7 +56,7 @@ one_cell shape k c d xs ns pc pd lc ld =
 
 module _ (s : StoreView) (is : IsStore s) where
   -- a tuple that is held lies in the cell of its zone
-  pub lies_in : (xs : List ℤ) (ns : List ℕ) → (h : InStore s xs ns) → LiesIn s.shape s.period h.cell xs ns
+  pub lies_in : (xs : List ℤ) (ns : List ℕ) → (h : InStore s xs ns) → LiesInCell s.shape s.period h.cell xs ns
   lies_in xs ns h =
       let proper = cell_held s is h.cell h.table h.held in
       let columns : length (take s.shape.times h.cell.residues) ≡ s.shape.times =
@@ -68,7 +68,7 @@ module _ (s : StoreView) (is : IsStore s) where
       }
 
   -- a held cell is inhabited by what the store holds
-  pub held_inhabited : (set : Set) → ((xs : List ℤ) (ns : List ℕ) → InStore s xs ns → set xs ns) → (c : Cell) (t : Table) → Contains (tables_at s c) t → IsInhabited s.shape s.period set c
+  pub held_inhabited : (set : Set) → ((xs : List ℤ) (ns : List ℕ) → InStore s xs ns → set xs ns) → (c : Cell) (t : Table) → Contains (tables_at s c) t → IsInhabitedCell s.shape s.period set c
   held_inhabited set sound c t h =
       let some = (zone_held s is c t h).some in
       let in_store : InStore s some.member (take s.shape.texts c.texts) = record { cell = c; table = t; held = h; named = refl; inside = some.is } in
@@ -81,7 +81,7 @@ module _ (s : StoreView) (is : IsStore s) where
       }
 
   -- a cell that is inhabited by what the store holds is held
-  pub inhabited_held : (set : Set) → IsWhole set s → (c : Cell) → IsInhabited s.shape s.period set c → IsSome (get s.tables c)
+  pub inhabited_held : (set : Set) → IsWhole set s → (c : Cell) → IsInhabitedCell s.shape s.period set c → IsSome (get s.tables c)
   inhabited_held set whole c i =
       let h = whole.each i.times i.texts i.is in
       let e : h.cell ≡ c = one_cell s.shape s.period h.cell c i.times i.texts (cell_held s is h.cell h.table h.held) i.proper (lies_in i.times i.texts h) i.inside in
@@ -168,7 +168,7 @@ module _ (s : StoreView) (is : IsStore s) (set : Set) (cap : ℕ) where
   key_held c h = some_of (get s.tables c) (contains_key-keys s.tables c ∙ any_of (keys s.tables) c h)
 
   -- a cell among the keys is inhabited
-  key_inhabited : ((xs : List ℤ) (ns : List ℕ) → InStore s xs ns → set xs ns) → (c : Cell) → Contains (keys s.tables) c → IsInhabited s.shape s.period set c
+  key_inhabited : ((xs : List ℤ) (ns : List ℕ) → InStore s xs ns → set xs ns) → (c : Cell) → Contains (keys s.tables) c → IsInhabitedCell s.shape s.period set c
   key_inhabited sound c h =
       let list = key_held c h in
       let table = first_of list.0 (is.cells c list.0 list.1).some in
@@ -189,7 +189,7 @@ module _ (s : StoreView) (is : IsStore s) (set : Set) (cap : ℕ) where
     cells = more.cell ∷ take cap (keys s.tables);
     count = let l : length (take cap (keys s.tables)) ≡ cap = length-take-le cap (keys s.tables) (subst (λ n. cap ≤ n) (len-entries s.tables ∙ sym (length-map (entries s.tables) _)) more.full) in omega arith;
     apart = AllPairs-cons ◌≢◌ more.cell (take cap (keys s.tables)) (not_key more.cell more.apart) (AllPairs-take ◌≢◌ cap (keys s.tables) (AllPairs-from_IsDistinct decided (keys s.tables) (IsDistinct-from_sorted cell_cmp (keys s.tables) (keys_ascend s.tables))));
-    each = (more.inhabited, all_listed (IsInhabited s.shape s.period set) (take cap (keys s.tables)) (λ c h. key_inhabited sound c (Contains-take cap (keys s.tables) c h)));
+    each = (more.inhabited, all_listed (IsInhabitedCell s.shape s.period set) (take cap (keys s.tables)) (λ c h. key_inhabited sound c (Contains-take cap (keys s.tables) c h)));
   }
 
   -- where all of the set is held in at most cap cells, it inhabits no more
@@ -197,6 +197,6 @@ module _ (s : StoreView) (is : IsStore s) (set : Set) (cap : ℕ) where
   not_many whole few more =
       let n : length more.cells ≡ cap + 1 = more.count in
       let l : length more.cells ≤ length (entries s.tables) = length-le_from_keys (eq_by_cmp_equiv cells_total) more.cells (entries s.tables) (IsDistinct-from_AllPairs decided more.cells more.apart)
-      (λ c h. subst (λ o. IsSome o) (get-entries s.tables c ∙ find_is (entries s.tables) c) (inhabited_held s is set whole c (one_of_all (IsInhabited s.shape s.period set) more.cells c more.each h))) in
+      (λ c h. subst (λ o. IsSome o) (get-entries s.tables c ∙ find_is (entries s.tables) c) (inhabited_held s is set whole c (one_of_all (IsInhabitedCell s.shape s.period set) more.cells c more.each h))) in
       let e : len s.tables ≡ length (entries s.tables) = len-entries s.tables in
       absurd (omega arith)

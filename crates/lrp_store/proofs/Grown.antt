@@ -10,7 +10,7 @@ use Rattle.std.specs.FinMap.{get, len}
 use Rattle.std.proofs.lemmas.List.Elements.{Contains-append_left, Contains-push, Contains-push_cases}
 use Rattle.lrp_model.specs.declared.tuples.Cell.{Cell}
 use Rattle.lrp_zone.specs.Zones.{ZoneView, IsZone, IsMember, greatest_of}
-use Rattle.lrp_store.specs.Stores.{StoreView, IsStore, IsCellOf, IsPadded, InStore, IsInhabited, zone_of, tables_at}
+use Rattle.lrp_store.specs.Stores.{StoreView, IsStore, IsCellOf, IsPadded, InStore, IsInhabitedCell, zone_of, tables_at}
 use Rattle.lrp_store.specs.Growing.{IsGrown, HasOneMore, IsRefused}
 use Rattle.lrp_store.specs.declared.store.StoreFault.{StoreFault}
 use Rattle.lrp_store.specs.declared.store.StoreFault.TheVariants.{TooManyCells}
@@ -50,7 +50,7 @@ grown_within cap low high set s t le g = record {
 }
 
 -- a cell that a part inhabits is inhabited by the set
-pub inhabited_more : (p q : Set) (s : StoreView) (c : Cell) → ((xs : List ℤ) (ns : List ℕ) → p xs ns → q xs ns) → IsInhabited s.shape s.period p c → IsInhabited s.shape s.period q c
+pub inhabited_more : (p q : Set) (s : StoreView) (c : Cell) → ((xs : List ℤ) (ns : List ℕ) → p xs ns → q xs ns) → IsInhabitedCell s.shape s.period p c → IsInhabitedCell s.shape s.period q c
 inhabited_more p q s c f i = record { proper = i.proper; times = i.times; texts = i.texts; is = f i.times i.texts i.is; inside = i.inside }
 
 -- one cell too many for a part is one too many for the set
@@ -114,7 +114,7 @@ module _ (s : StoreView) (is : IsStore s) (c : Cell) (z : ZoneView) (zone : IsZo
       member xs q t e f m = subst (λ w. IsMember w xs) (ap (λ d. zone_of s d t) e ∙ ap (zone_of s c) (sym f) ∙ is_seen) m
 
   -- and the set inhabits the cell
-  pub inhabited_by : (set : Set) → ((xs : List ℤ) → IsMember z xs → set xs (take s.shape.texts c.texts)) → IsInhabited s.shape s.period set c
+  pub inhabited_by : (set : Set) → ((xs : List ℤ) → IsMember z xs → set xs (take s.shape.texts c.texts)) → IsInhabitedCell s.shape s.period set c
   inhabited_by set f = record {
     proper = proper;
     times = zone.some.member;

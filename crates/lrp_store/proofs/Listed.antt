@@ -13,40 +13,40 @@ use Rattle.lrp_theory.specs.Entries.{entry, node, AtMost}
 use Rattle.lrp_zone.specs.Given.{bound_at, IsGiven, AreGiven, AreOwn}
 use Rattle.lrp_zone.specs.Zones.{ZoneView, IsZone, IsTight, columns_of}
 use Rattle.lrp_store.specs.declared.stored.Entry.{Entry}
-use Rattle.lrp_store.specs.Stored.{bounds_of, place_of, listed_at, table_of, AreListed, count_of}
+use Rattle.lrp_store.specs.Stored.{bounds_of, table_place, listed_at, table_of, AreListed, count_of}
 
 -- the list has just the bounds of the first n places
 pub record AreOf (table : List (Option ℤ)) (n : ℕ) (bs : List Bound) : Type 0 where
   pub left : (i : ℕ) → i < length bs → (bound_at bs i).left < 9
   pub right : (i : ℕ) → i < length bs → (bound_at bs i).right < 9
-  pub from : (i : ℕ) → i < length bs → slice_index_or table (place_of (bound_at bs i)) None ≡ Some (bound_at bs i).most
-  pub all : (p : ℕ) (a : ℤ) → p < n → slice_index_or table p None ≡ Some a → (i : ℕ) × (i < length bs) × (place_of (bound_at bs i) ≡ p)
+  pub from : (i : ℕ) → i < length bs → slice_index_or table (table_place (bound_at bs i)) None ≡ Some (bound_at bs i).most
+  pub all : (p : ℕ) (a : ℤ) → p < n → slice_index_or table p None ≡ Some a → (i : ℕ) × (i < length bs) × (table_place (bound_at bs i) ≡ p)
   pub count : length bs ≡ count_of (take n table)
 
 -- a bound among the later ones
-later : (b : Bound) (bs : List Bound) (p : ℕ) → place_of b ≢ p → (i : ℕ) → i < length (b ∷ bs) → place_of (bound_at (b ∷ bs) i) ≡ p → (j : ℕ) × (j < length bs) × (place_of (bound_at bs j) ≡ p)
+later : (b : Bound) (bs : List Bound) (p : ℕ) → table_place b ≢ p → (i : ℕ) → i < length (b ∷ bs) → table_place (bound_at (b ∷ bs) i) ≡ p → (j : ℕ) × (j < length bs) × (table_place (bound_at bs j) ≡ p)
 later b bs p apart zero h e = absurd (apart e)
 later b bs p apart (suc i) h e = (i, omega arith, e)
 
 -- what the bounds for a place say is listed there
-pub listed : (bs : List Bound) (p : ℕ) (e : Option ℤ) → ((i : ℕ) → i < length bs → place_of (bound_at bs i) ≡ p → e ≡ Some (bound_at bs i).most)
-    → ((a : ℤ) → e ≡ Some a → (i : ℕ) × (i < length bs) × (place_of (bound_at bs i) ≡ p)) → listed_at bs p ≡ e
+pub listed : (bs : List Bound) (p : ℕ) (e : Option ℤ) → ((i : ℕ) → i < length bs → table_place (bound_at bs i) ≡ p → e ≡ Some (bound_at bs i).most)
+    → ((a : ℤ) → e ≡ Some a → (i : ℕ) × (i < length bs) × (table_place (bound_at bs i) ≡ p)) → listed_at bs p ≡ e
 listed [] p None from all = refl
 listed [] p (Some a) from all = let i = all a refl in let h : i.0 < 0 = i.1 in absurd (omega arith)
 listed (b ∷ bs) p e from all =
-    elim (eqb (place_of b) p) as (λ t. eqb (place_of b) p ≡ t → cond t (Some b.most) (listed_at bs p) ≡ e) [
+    elim (eqb (table_place b) p) as (λ t. eqb (table_place b) p ≡ t → cond t (Some b.most) (listed_at bs p) ≡ e) [
       | true ↦ λ is. sym (from 0 (omega arith) (eqb-true _ _ is))
       | false ↦ λ is. listed bs p e (λ i h same. from (suc i) (omega arith) same) (λ a some. let w = all a some in later b bs p (eqb-false _ _ is) w.0 w.1 w.2)
     ] refl
 
 -- what is listed for a place is the bound of some listed one
-pub some_listed : (bs : List Bound) (p : ℕ) (a : ℤ) → listed_at bs p ≡ Some a → (i : ℕ) × (i < length bs) × (place_of (bound_at bs i) ≡ p)
+pub some_listed : (bs : List Bound) (p : ℕ) (a : ℤ) → listed_at bs p ≡ Some a → (i : ℕ) × (i < length bs) × (table_place (bound_at bs i) ≡ p)
 some_listed [] p a is = absurd (none_some a is)
   where
     none_some : (a : ℤ) → None ≡ Some a → ⊥
     none_some a e = cc
 some_listed (b ∷ bs) p a is =
-    elim (eqb (place_of b) p) as (λ t. eqb (place_of b) p ≡ t → cond t (Some b.most) (listed_at bs p) ≡ Some a → (i : ℕ) × (i < length (b ∷ bs)) × (place_of (bound_at (b ∷ bs) i) ≡ p)) [
+    elim (eqb (table_place b) p) as (λ t. eqb (table_place b) p ≡ t → cond t (Some b.most) (listed_at bs p) ≡ Some a → (i : ℕ) × (i < length (b ∷ bs)) × (table_place (bound_at (b ∷ bs) i) ≡ p)) [
       | true ↦ λ same e. (0, omega arith, eqb-true _ _ same)
       | false ↦ λ same e. let w = some_listed bs p a e in let h : w.0 < length bs = w.1 in (suc w.0, omega arith, w.2)
     ] refl is
@@ -79,16 +79,16 @@ module _ (table : List (Option ℤ)) (size : length table ≡ 81) where
       nothing i n e = omega arith
 
   -- the bound of the next place is listed
-  pub one_of : (n : ℕ) (bs : List Bound) (b : Bound) → b.left < 9 → b.right < 9 → place_of b ≡ n → get_or table n None ≡ Some b.most → n < 81 → AreOf table n bs → AreOf table (n + 1) (bs ++ b ∷ [])
+  pub one_of : (n : ℕ) (bs : List Bound) (b : Bound) → b.left < 9 → b.right < 9 → table_place b ≡ n → get_or table n None ≡ Some b.most → n < 81 → AreOf table n bs → AreOf table (n + 1) (bs ++ b ∷ [])
   one_of n bs b left right place is low of = record {
     left = one_more n bs b (λ x. x.left < 9) of.left left;
     right = one_more n bs b (λ x. x.right < 9) of.right right;
-    from = one_more n bs b (λ x. slice_index_or table (place_of x) None ≡ Some x.most) of.from (ap (λ p. get_or table p None) place ∙ is);
+    from = one_more n bs b (λ x. slice_index_or table (table_place x) None ≡ Some x.most) of.from (ap (λ p. get_or table p None) place ∙ is);
     all = λ p a h e.
         let l : length (bs ++ b ∷ []) ≡ length bs + 1 = length-append bs (b ∷ []) in
         elim (cases_lt p n) [
-          | inl less ↦ let w = of.all p a less e in let wl : w.0 < length bs = w.1 in (w.0, omega arith, ap place_of (get_or_append_left bs (b ∷ []) _ w.0 w.1) ∙ w.2)
-          | inr more ↦ let same : n ≡ p = omega arith in (length bs, omega arith, ap place_of (get_or-append_right bs (b ∷ []) (length bs) (length bs) _ refl (omega arith) ∙ ap (λ k. bound_at (b ∷ []) k) (itself (length bs))) ∙ place ∙ same)
+          | inl less ↦ let w = of.all p a less e in let wl : w.0 < length bs = w.1 in (w.0, omega arith, ap table_place (get_or_append_left bs (b ∷ []) _ w.0 w.1) ∙ w.2)
+          | inr more ↦ let same : n ≡ p = omega arith in (length bs, omega arith, ap table_place (get_or-append_right bs (b ∷ []) (length bs) (length bs) _ refl (omega arith) ∙ ap (λ k. bound_at (b ∷ []) k) (itself (length bs))) ∙ place ∙ same)
         ];
     count =
         let l : length (bs ++ b ∷ []) ≡ length bs + 1 = length-append bs (b ∷ []) in
@@ -133,19 +133,19 @@ module _ (table : List (Option ℤ)) (size : length table ≡ 81) where
       left = of.left;
       right = of.right;
       few = let c : length bs ≡ count_of (take 81 table) = of.count in let m : count_of (take 81 table) ≤ length (take 81 table) = count_by-le-length is_some (take 81 table) in let l : length (take 81 table) ≡ 81 = ap length (take_all 81 table (omega arith)) ∙ size in omega arith;
-      one = λ i h. listed_there (place_of (bound_at bs i)) (within (bound_at bs i) (of.left i h) (of.right i h)) ∙ of.from i h;
+      one = λ i h. listed_there (table_place (bound_at bs i)) (within (bound_at bs i) (of.left i h) (of.right i h)) ∙ of.from i h;
     }
       where
-        within : (b : Bound) → b.left < 9 → b.right < 9 → place_of b < 81
+        within : (b : Bound) → b.left < 9 → b.right < 9 → table_place b < 81
         within b l r = omega arith
 
 -- the bounds of a zone's table are the zone's own
 module _ (z : ZoneView) (valid : IsZone z) (bs : List Bound) (are : AreListed bs) (is : table_of bs ≡ z.bounds) where
   -- each listed bound stands in the table
   stands : (i : ℕ) → i < length bs → entry z.bounds (bound_at bs i).left (bound_at bs i).right ≡ Some (bound_at bs i).most
-  stands i h = ap (λ t. get_or t (place_of (bound_at bs i)) None) (sym is) ∙ get_or-table_of bs (place_of (bound_at bs i)) (within (bound_at bs i) (are.left i h) (are.right i h)) ∙ are.one i h
+  stands i h = ap (λ t. get_or t (table_place (bound_at bs i)) None) (sym is) ∙ get_or-table_of bs (table_place (bound_at bs i)) (within (bound_at bs i) (are.left i h) (are.right i h)) ∙ are.one i h
     where
-      within : (b : Bound) → b.left < 9 → b.right < 9 → place_of b < 81
+      within : (b : Bound) → b.left < 9 → b.right < 9 → table_place b < 81
       within b l r = omega arith
 
   -- a bound is not none
@@ -176,7 +176,7 @@ module _ (z : ZoneView) (valid : IsZone z) (bs : List Bound) (are : AreListed bs
         let c : columns_of z ≤ 8 = valid.shape.columns in
         let w = some_listed bs (9 * p + q) a (sym (get_or-table_of bs (9 * p + q) (omega arith)) ∙ ap (λ t. get_or t (9 * p + q) None) is ∙ e) in
         let r : (bound_at bs w.0).right < 9 = are.right w.0 w.1 in
-        let same : place_of (bound_at bs w.0) ≡ 9 * p + q = w.2 in
+        let same : table_place (bound_at bs w.0) ≡ 9 * p + q = w.2 in
         (w.0, w.1, omega arith, omega arith);
   }
 

@@ -6,7 +6,6 @@ use Rattle.std.specs.Cmp.{IsTotalOrder}
 use Rattle.std.specs.Cmp.Lexicographic.{slice_cmp}
 use Rattle.std.proofs.lemmas.Cmp.{ranked, by_ranked, tied_itself, nat_cmp_total, nat_list_cmp_total, on_total, then_total, lists_total, upto}
 use Rattle.std.proofs.lemmas.List.{get_or-take, length-take-le, ext_get_or}
-use Rattle.lrp_model.specs.Order.{rank}
 use Rattle.lrp_model.specs.declared.tuples.Spot.{Spot}
 use Rattle.lrp_zone.specs.Zones.{IsMember, columns_of}
 use Rattle.lrp_zone.specs.Order.{at}
@@ -16,6 +15,7 @@ use Rattle.lrp_store.specs.Stores.{StoreView, IsStore, InStore, zone_of, tables_
 use Rattle.lrp_store.specs.Aligned.{InCell}
 use Rattle.lrp_store.proofs.Aligning.{tail_in}
 use Rattle.lrp_store.specs.Least.{IsNotNearer, IsNearestTo, held_cmp, IsSpotOf, IsFound, IsNotAfter}
+use Rattle.lrp_theory.specs.Residues.{rank}
 
 -- times by their ranks
 abbrev pub times_cmp : List ℤ → List ℤ → Ordering

@@ -13,10 +13,9 @@ use Rattle.lrp_theory.proofs.Below.{within_less}
 use Rattle.lrp_theory.proofs.Floor.{floor, floor_fits, floor_kept, floors_meet, reached_in_cell}
 use Rattle.lrp_theory.proofs.Lists.{listed, node-listed, difference}
 use Rattle.lrp_theory.proofs.Through.{AtMost-more}
-use Rattle.lrp_model.specs.Order.{rank}
 use Rattle.lrp_model.proofs.TupleLaws.{rank_differs}
 use Rattle.lrp_matrix.specs.Matrices.{MatrixView, MeetsBounds, IsClosed, HaveSameIntegers}
-use Rattle.lrp_matrix.specs.Ranges.{Above, AreSmall, MeetsBefore, MayHave, IsLeastOf, IsGreatestOf}
+use Rattle.lrp_matrix.specs.Ranges.{Above, AreSmall, MeetsBefore, MayHave, IsLeastWith, IsGreatestOf}
 use Rattle.lrp_matrix.specs.Nearest as nearest
 use Rattle.lrp_matrix.specs.Nearest.{IsBetween, IsNearest}
 use Rattle.lrp_matrix.proofs.Completion.{possible}
@@ -26,6 +25,7 @@ use Rattle.lrp_zone.proofs.Members.{tight_all, period_one, list_member}
 use Rattle.lrp_store.specs.Least.{matrix_of, IsRoom, IsNotNearer, IsNearestTo}
 use Rattle.lrp_store.proofs.Held.{node_take}
 use Rattle.lrp_store.proofs.Ranges.{word64_node}
+use Rattle.lrp_theory.specs.Residues.{rank}
 
 -- the two ranks are one
 same_rank : (x : ℤ) → nearest.rank x ≡ rank x
@@ -134,7 +134,7 @@ module _ (z : ZoneView) (is : IsZone z) (m : MatrixView) (closed : IsClosed m) (
     may_have : (ys : List ℤ) → IsMember z ys → ((p : ℕ) → p < i → at ys p ≡ at xs p) → MayHave m (suc i) prefix (at ys i)
     may_have ys h e = record { integers = ys; meet = met ys h; before = agree ys e; here = refl }
 
-    module _ (least most : Option ℤ) (first : IsLeastOf (MayHave m (suc i) prefix) least) (last : IsGreatestOf (MayHave m (suc i) prefix) most) (between : (v : ℤ) → Above v least → Within v most → MayHave m (suc i) prefix v) where
+    module _ (least most : Option ℤ) (first : IsLeastWith (MayHave m (suc i) prefix) least) (last : IsGreatestOf (MayHave m (suc i) prefix) most) (between : (v : ℤ) → Above v least → Within v most → MayHave m (suc i) prefix v) where
       -- a possible value of its residue is one to choose from
       choice : (v : ℤ) → MayHave m (suc i) prefix v → Divides K (v -ℤ node z.residues (suc i)) → IsBetween least most (node z.residues (suc i)) K v
       choice v h d = record { low = first.met v h; high = last.met v h; residue = d }
@@ -359,18 +359,18 @@ module _ (z : ZoneView) (is : IsZone z) (m : MatrixView) (closed : IsClosed m) (
         subst (λ v. AtMost (2 ^ 62) (Some v)) (sym (node_take i xs p (omega arith))) (AtMost-more (i * h) (2 ^ 62) (Some (node xs p)) (within_room h i room (omega arith)) (begun.near h room p (omega arith)));
   }
 
-  module _ (least most : Option ℤ) (first : IsLeastOf (MayHave m c (take i xs)) least) (last : IsGreatestOf (MayHave m c (take i xs)) most) (between : (v : ℤ) → Above v least → Within v most → MayHave m c (take i xs) v) (r k : ℤ) (residue : r ≡ node z.residues c) (period : k ≡ pos z.period) where
+  module _ (least most : Option ℤ) (first : IsLeastWith (MayHave m c (take i xs)) least) (last : IsGreatestOf (MayHave m c (take i xs)) most) (between : (v : ℤ) → Above v least → Within v most → MayHave m c (take i xs) v) (r k : ℤ) (residue : r ≡ node z.residues c) (period : k ≡ pos z.period) where
     -- some value is left
     pub some_next : ((v : ℤ) → IsBetween least most r k v → ⊥) → ⊥
     some_next none =
-        some_choice z is m closed same i low xs begun least most (subst (λ j. IsLeastOf (MayHave m j (take i xs)) least) e first) (subst (λ j. IsGreatestOf (MayHave m j (take i xs)) most) e last) (subst (λ j. (v : ℤ) → Above v least → Within v most → MayHave m j (take i xs) v) e between)
+        some_choice z is m closed same i low xs begun least most (subst (λ j. IsLeastWith (MayHave m j (take i xs)) least) e first) (subst (λ j. IsGreatestOf (MayHave m j (take i xs)) most) e last) (subst (λ j. (v : ℤ) → Above v least → Within v most → MayHave m j (take i xs) v) e between)
         (λ v b. none v (subst (λ j. IsBetween least most j k v) (sym (residue ∙ ap (node z.residues) e)) (subst (λ j. IsBetween least most (node z.residues (suc i)) j v) (sym period) b)))
 
     -- the nearest one is the next
     pub next_value : (x : ℤ) → IsNearest least most r k x → (out : List ℤ) → out ≡ set xs i x → IsNearestTo z c out
     next_value x near out o =
         subst (λ j. IsNearestTo z j out) (sym e)
-        (next_is z is m closed same i low xs begun least most (subst (λ j. IsLeastOf (MayHave m j (take i xs)) least) e first) (subst (λ j. IsGreatestOf (MayHave m j (take i xs)) most) e last) (subst (λ j. (v : ℤ) → Above v least → Within v most → MayHave m j (take i xs) v) e between) x
+        (next_is z is m closed same i low xs begun least most (subst (λ j. IsLeastWith (MayHave m j (take i xs)) least) e first) (subst (λ j. IsGreatestOf (MayHave m j (take i xs)) most) e last) (subst (λ j. (v : ℤ) → Above v least → Within v most → MayHave m j (take i xs) v) e between) x
         (subst (λ j. IsNearest least most j (pos z.period) x) (residue ∙ ap (node z.residues) e) (subst (λ j. IsNearest least most r j x) period near)) out o)
 
     -- and small

@@ -45,7 +45,7 @@ pub record IsRange (step k : ℕ) (chosen above below : ℤ) (old new : Choice) 
   pub fewer : new.count ≤ old.count
 
 -- the tuples of z that have the residues of the cell up to column p, with the first n texts of the cell
-pub record IsPart (z : ZoneView) (k n : ℕ) (cell : Cell) (p : ℕ) (times : List ℤ) (texts : List ℕ) : Type 0 where
+pub record IsPartOf (z : ZoneView) (k n : ℕ) (cell : Cell) (p : ℕ) (times : List ℤ) (texts : List ℕ) : Type 0 where
   pub member : IsMember z times
   pub agrees : AgreesTo k cell.residues p times
   pub named : take n cell.texts ≡ texts

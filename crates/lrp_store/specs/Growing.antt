@@ -5,7 +5,7 @@ use Rattle.lrp_model.specs.Cells.{Many}
 use Rattle.lrp_model.specs.declared.tuples.Cell.{Cell}
 use Rattle.lrp_model.specs.declared.tuples.Shape.{Shape}
 use Rattle.lrp_zone.specs.Zones.{ZoneView, IsMember, greatest_of}
-use Rattle.lrp_store.specs.Stores.{StoreView, IsStore, InStore, IsInhabited, tables_at}
+use Rattle.lrp_store.specs.Stores.{StoreView, IsStore, InStore, IsInhabitedCell, tables_at}
 
 -- new is a store that has what old has, and besides only tuples of the set, in zones of at most this reach; it has not more than cap cells where old had not
 pub record IsGrown (set : List ℤ → List ℕ → Type 0) (cap high : ℕ) (old new : StoreView) : Type 0 where
@@ -24,7 +24,7 @@ pub record IsWhole (set : List ℤ → List ℕ → Type 0) (s : StoreView) : Ty
 -- the store has cap cells or more, and the set inhabits one that it has not
 pub record HasOneMore (set : List ℤ → List ℕ → Type 0) (cap : ℕ) (s : StoreView) : Type 0 where
   pub cell : Cell
-  pub inhabited : IsInhabited s.shape s.period set cell
+  pub inhabited : IsInhabitedCell s.shape s.period set cell
   pub apart : finite.get s.tables cell ≡ None
   pub full : cap ≤ finite.len s.tables
 
@@ -45,4 +45,4 @@ pub record IsTupleOf (z : ZoneView) (named : List ℕ) (times : List ℤ) (texts
 
 -- the set inhabits more than cap cells of this shape and period
 abbrev pub InhabitsMany : Shape → ℕ → (List ℤ → List ℕ → Type 0) → ℕ → Type 0
-InhabitsMany shape period set cap = Many ◌≢◌ (IsInhabited shape period set) cap
+InhabitsMany shape period set cap = Many ◌≢◌ (IsInhabitedCell shape period set) cap

@@ -8,7 +8,7 @@ use Rattle.lrp_theory.specs.Entries.{node, AtMost, IsSmallClosure}
 use Rattle.lrp_matrix.specs.Matrices.{MatrixView, IsClosed, HaveSameIntegers}
 use Rattle.lrp_zone.specs.Zones.{ZoneView, IsMember, columns_of}
 use Rattle.lrp_zone.specs.Order.{at}
-use Rattle.lrp_model.specs.Order.{rank, IsLeast}
+use Rattle.lrp_model.specs.Order.{IsLeast}
 use Rattle.lrp_model.specs.Rows.{Datum, times_of, texts_of}
 use Rattle.lrp_model.specs.Texts.{Text}
 use Rattle.lrp_model.specs.declared.relations.Column.{Column}
@@ -17,6 +17,7 @@ use Rattle.lrp_model.specs.declared.tuples.Shape.{Shape}
 use Rattle.lrp_model.specs.declared.tuples.Spot.{Spot}
 use Rattle.lrp_store.specs.Stores.{StoreView, InStore, IsPadded, zone_of, tables_at}
 use Rattle.lrp_store.specs.Tables.{AreTexts, InAnswer}
+use Rattle.lrp_theory.specs.Residues.{rank}
 
 -- the bounds of a zone without its residues
 abbrev pub matrix_of : ZoneView → MatrixView

@@ -1,5 +1,5 @@
 -- When the zones of a cell are settled: each set of tuples of one cell has them in one way where it has at most one column.
-use Rattle.std.specs.Prelude.{◌≡◌, ℕ, ℤ, ◌<◌, ◌↔◌, List, [], ◌∷◌, length, Contains, AllPairs, ◌<ℤ◌}
+use Rattle.std.specs.Prelude.{◌≡◌, ℤ, ◌<◌, ◌↔◌, List, [], ◌∷◌, length, Contains, AllPairs, ◌<ℤ◌}
 use Rattle.lrp_zone.specs.Zones.{ZoneView, IsZone, IsMember, columns_of}
 use Rattle.lrp_zone.specs.Pairs.{IsOfCell, IsWithin}
 
@@ -10,22 +10,22 @@ pub record InSome (zones : List ZoneView) (xs : List ℤ) : Type 0 where
   pub inside : IsMember zone xs
 
 -- the zones together hold just the tuples of this one
-pub record IsOneZone (zones : List ZoneView) (z : ZoneView) : Type 0 where
+pub record AreOneZone (zones : List ZoneView) (z : ZoneView) : Type 0 where
   pub is : IsZone z
   pub within : (xs : List ℤ) → InSome zones xs → IsMember z xs
   pub whole : (xs : List ℤ) → IsMember z xs → InSome zones xs
 
 -- each number of v is below each of w
-abbrev pub IsBelow : ZoneView → ZoneView → Type 0
-IsBelow v w = (x y : ℤ) → IsMember v (x ∷ []) → IsMember w (y ∷ []) → x <ℤ y
+abbrev pub LiesBelow : ZoneView → ZoneView → Type 0
+LiesBelow v w = (x y : ℤ) → IsMember v (x ∷ []) → IsMember w (y ∷ []) → x <ℤ y
 
 -- the zones are the maximal intervals of their set, ascending: a zone of their cell that lies within the set lies within one of them
 pub record AreIntervals (zones : List ZoneView) : Type 0 where
-  pub ascending : AllPairs IsBelow zones
+  pub ascending : AllPairs LiesBelow zones
   pub maximal : (w v : ZoneView) → Contains zones v → IsZone w → IsOfCell v w → ((xs : List ℤ) → IsMember w xs → InSome zones xs) → (u : ZoneView) × Contains zones u × IsWithin w u
 
 -- the zones of the cell of z are one where there is no column, the maximal intervals where there is one, and else one exactly where the set is that of one zone of the cell
 pub record AreSettled (z : ZoneView) (zones : List ZoneView) : Type 0 where
   pub none : columns_of z ≡ 0 → length zones ≡ 1
   pub one : columns_of z ≡ 1 → AreIntervals zones
-  pub more : 1 < columns_of z → ((length zones ≡ 1) ↔ ((w : ZoneView) × IsOfCell z w × IsOneZone zones w))
+  pub more : 1 < columns_of z → ((length zones ≡ 1) ↔ ((w : ZoneView) × IsOfCell z w × AreOneZone zones w))

@@ -10,13 +10,13 @@ abbrev pub bounds_of : List Entry → List Bound
 bounds_of entries = map (λ e. record { left = e.left; right = e.right; most = e.most }) entries
 
 -- the place of a bound in the table, which has nine rows of nine
-abbrev pub place_of : Bound → ℕ
-place_of b = 9 * b.left + b.right
+abbrev pub table_place : Bound → ℕ
+table_place b = 9 * b.left + b.right
 
 -- the bound that is listed for a place
 abbrev pub listed_at : List Bound → ℕ → Option ℤ
 listed_at [] place = None
-listed_at (b ∷ bs) place = if place_of b == place then Some b.most else listed_at bs place
+listed_at (b ∷ bs) place = if table_place b == place then Some b.most else listed_at bs place
 
 -- the table of the listed bounds
 unfoldable pub table_of : List Bound → List (Option ℤ)
@@ -27,7 +27,7 @@ pub record AreListed (bs : List Bound) : Type 0 where
   pub left : (i : ℕ) → i < length bs → (bound_at bs i).left < 9
   pub right : (i : ℕ) → i < length bs → (bound_at bs i).right < 9
   pub few : length bs ≤ 81
-  pub one : (i : ℕ) → i < length bs → listed_at bs (place_of (bound_at bs i)) ≡ Some (bound_at bs i).most
+  pub one : (i : ℕ) → i < length bs → listed_at bs (table_place (bound_at bs i)) ≡ Some (bound_at bs i).most
 
 -- how many bounds a table has
 abbrev pub count_of : List (Option ℤ) → ℕ

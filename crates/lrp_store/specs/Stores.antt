@@ -1,5 +1,5 @@
 -- What a store stands for: tuples of times and of numbers of texts, in cells that have zones.
-use Rattle.std.specs.Prelude.{◌≡◌, ◌≢◌, ℕ, ℤ, pos, ◌^◌, ◌<◌, ◌≤◌, List, [], map, length, take, Option, Some, All, Contains, slice_index_or, ◌-ℤ◌}
+use Rattle.std.specs.Prelude.{◌≡◌, ◌≢◌, ℕ, ℤ, pos, ◌^◌, ◌<◌, ◌≤◌, List, [], map, length, take, Option, Some, All, Contains, slice_index, slice_index_or, ◌-ℤ◌}
 use Rattle.std.specs.FinMap as finite
 use Rattle.lrp_theory.specs.Divides.{Divides}
 use Rattle.lrp_theory.specs.Entries.{node}
@@ -66,20 +66,25 @@ pub record HasReach (s : StoreView) (reach : ℕ) : Type 0 where
   pub each : (cell : Cell) (table : List (Option ℤ)) → Contains (tables_at s cell) table → reach_of (zone_of s cell table) ≤ reach
 
 -- the tuple lies in the cell: its times have the residues, and its texts are the cell's
-pub record LiesIn (shape : Shape) (period : ℕ) (cell : Cell) (times : List ℤ) (texts : List ℕ) : Type 0 where
+pub record LiesInCell (shape : Shape) (period : ℕ) (cell : Cell) (times : List ℤ) (texts : List ℕ) : Type 0 where
   pub count : length times ≡ shape.times
   pub residues : (i : ℕ) → i ≤ shape.times → Divides (pos period) (node times i -ℤ node cell.residues i)
   pub named : take shape.texts cell.texts ≡ texts
 
 -- a cell in which some tuple of the set lies
-pub record IsInhabited (shape : Shape) (period : ℕ) (set : List ℤ → List ℕ → Type 0) (cell : Cell) : Type 0 where
+pub record IsInhabitedCell (shape : Shape) (period : ℕ) (set : List ℤ → List ℕ → Type 0) (cell : Cell) : Type 0 where
   pub proper : IsCellOf shape period cell
   pub times : List ℤ
   pub texts : List ℕ
   pub is : set times texts
-  pub inside : LiesIn shape period cell times texts
+  pub inside : LiesInCell shape period cell times texts
 
 -- the store holds just the tuples of the set
 pub record HoldsJust (set : List ℤ → List ℕ → Type 0) (s : StoreView) : Type 0 where
   pub sound : (times : List ℤ) (texts : List ℕ) → InStore s times texts → set times texts
   pub whole : (times : List ℤ) (texts : List ℕ) → set times texts → InStore s times texts
+
+-- the numbers before a column are below the size; behind them are zeros
+pub record AreChosenTexts (size column : ℕ) (texts : List ℕ) : Type 0 where
+  pub padded : IsPadded 0 column texts
+  pub low : (i : ℕ) → i < column → slice_index texts i < size

@@ -1,10 +1,10 @@
 // The first tuple of a store: by the ranks of its times, and then by the numbers of its texts.
 ghost use Rattle.std.specs.Prelude.{◌≡◌, ◌≢◌, ◌⊎◌, ◌↔◌, ℕ, ℤ, List, map, Some, IsTrue, IfSome, IfNone};
 ghost use Rattle.std.specs.declared.cmp.Ordering.TheVariants.{Less, Greater};
-ghost use Rattle.lrp_model.specs.Order.{rank};
 ghost use Rattle.lrp_store.specs.Aligned.{InCell};
 ghost use Rattle.lrp_store.specs.Least.{HasRoom, IsFound, IsNotAfter, held_cmp};
 ghost use Rattle.lrp_store.specs.Stores.{InStore};
+ghost use Rattle.lrp_theory.specs.Residues.{rank};
 
 use crate::nearest::nearest;
 use crate::store::Store;

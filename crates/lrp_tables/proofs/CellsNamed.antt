@@ -17,7 +17,7 @@ use Rattle.lrp_model.proofs.Decided.{contains_first, contains_later}
 use Rattle.lrp_model.specs.declared.tuples.Cell.{Cell}
 use Rattle.lrp_model.specs.declared.tuples.Shape.{Shape}
 use Rattle.lrp_zone.specs.Zones.{IsResidue}
-use Rattle.lrp_store.specs.Stores.{IsPadded, IsInhabited}
+use Rattle.lrp_store.specs.Stores.{IsPadded, IsInhabitedCell}
 use Rattle.lrp_store.specs.Growing.{InhabitsMany}
 use Rattle.lrp_store.specs.Tables.{AreTexts}
 use Rattle.lrp_tables.specs.Tables.{named_variables}
@@ -125,15 +125,15 @@ module _ (domain : List Text) (ascends : Ascends domain) (times texts : List Ide
     abbrev pub named : Cell → FormCell
     named c = record { residues = value_at (pos 0) times c.residues; texts = λ v. text_at domain (value_at 0 texts c.texts v) }
 
-    cell_number : (c : Cell) → (h : IsInhabited shape period tuples c) → (i : ℕ) → i < length texts → get_or c.texts i 0 ≡ get_or h.texts i 0
+    cell_number : (c : Cell) → (h : IsInhabitedCell shape period tuples c) → (i : ℕ) → i < length texts → get_or c.texts i 0 ≡ get_or h.texts i 0
     cell_number c h i low = sym (get_or-take shape.texts c.texts i 0 (omega arith)) ∙ ap (λ l. get_or l i 0) h.inside.named
 
-    number_known : (c : Cell) → IsInhabited shape period tuples c → (i : ℕ) → i < length texts → get_or c.texts i 0 < length domain
+    number_known : (c : Cell) → IsInhabitedCell shape period tuples c → (i : ℕ) → i < length texts → get_or c.texts i 0 < length domain
     number_known c h i low =
         let e : length h.texts ≡ length texts = are.texts_count h.times h.texts h.is in
         subst (λ n. n < length domain) (sym (cell_number c h i low)) (are.known h.times h.texts h.is i 0 (omega arith))
 
-    named_inhabits : (c : Cell) → IsInhabited shape period tuples c → Inhabits domain period variables set (named c)
+    named_inhabits : (c : Cell) → IsInhabitedCell shape period tuples c → Inhabits domain period variables set (named c)
     named_inhabits c h = record {
       witness = env_of h.times h.texts;
       inside = (all_variables (LiesIn period domain (env_of h.times h.texts) (named c)) times texts).1 (in_time, in_text);
@@ -153,7 +153,7 @@ module _ (domain : List Text) (ascends : Ascends domain) (times texts : List Ide
             let n : get_or c.texts (number_of texts v) 0 < length domain = number_known c h (number_of texts v) low in
             (at_place domain (get_or c.texts (number_of texts v) 0) _ (slice_get-get_or domain (get_or c.texts (number_of texts v) 0) [] n), ap (text_at domain) (sym (cell_number c h (number_of texts v) low)))
 
-    same_named : (a b : Cell) → IsInhabited shape period tuples a → IsInhabited shape period tuples b → AllByRecursion (Agree (named a) (named b)) variables → a ≡ b
+    same_named : (a b : Cell) → IsInhabitedCell shape period tuples a → IsInhabitedCell shape period tuples b → AllByRecursion (Agree (named a) (named b)) variables → a ≡ b
     same_named a b h k agree =
         ap (λ ns. record { texts = ns; residues = a.residues }) (same_padded 0 shape.texts a.texts b.texts h.proper.texts k.proper.texts number)
         ∙ ap (λ rs. record { texts = b.texts; residues = rs }) (same_padded (pos 0) shape.times a.residues b.residues h.proper.residues k.proper.residues residue)
@@ -174,7 +174,7 @@ module _ (domain : List Text) (ascends : Ascends domain) (times texts : List Ide
     -- as many cells by names as by places
     pub many_named : (cap : ℕ) → InhabitsMany shape period tuples cap → InhabitsMoreThan cap domain period times texts set
     many_named cap =
-        many_map named ◌≢◌ (Differ variables) (IsInhabited shape period tuples) (Inhabits domain period variables set) named_inhabits (λ a b h k n agree. n (same_named a b h k agree)) cap
+        many_map named ◌≢◌ (Differ variables) (IsInhabitedCell shape period tuples) (Inhabits domain period variables set) named_inhabits (λ a b h k n agree. n (same_named a b h k agree)) cap
 
     -- ---- from names to places
 
@@ -195,7 +195,7 @@ module _ (domain : List Text) (ascends : Ascends domain) (times texts : List Ide
     numbers_of c env [] same = refl
     numbers_of c env (v ∷ vs) same = ap₂ (λ n ns. n ∷ ns) (ap (number_of domain) (sym (same v (contains_first v vs)))) (numbers_of c env vs (λ w m. same w (contains_later v w vs m)))
 
-    placed_inhabits : (c : FormCell) → Inhabits domain period variables set c → IsInhabited shape period tuples (placed c)
+    placed_inhabits : (c : FormCell) → Inhabits domain period variables set c → IsInhabitedCell shape period tuples (placed c)
     placed_inhabits c h = record {
       proper = record {
         texts = subst (λ n. IsPadded 0 n (placed c).texts) (length-map texts _ ∙ sym texts_are) (padded_is 0 (map (λ v. number_of domain (c.texts v)) texts) (let e : length (map (λ v. number_of domain (c.texts v)) texts) ≡ length texts = length-map texts (λ v. number_of domain (c.texts v)) in omega arith));
@@ -251,7 +251,7 @@ module _ (domain : List Text) (ascends : Ascends domain) (times texts : List Ide
     -- as many cells by places as by names
     pub many_placed : (cap : ℕ) → InhabitsMoreThan cap domain period times texts set → InhabitsMany shape period tuples cap
     many_placed cap =
-        many_map placed (Differ variables) ◌≢◌ (Inhabits domain period variables set) (IsInhabited shape period tuples) placed_inhabits (λ a b h k n e. n (placed_agree a b h k e)) cap
+        many_map placed (Differ variables) ◌≢◌ (Inhabits domain period variables set) (IsInhabitedCell shape period tuples) placed_inhabits (λ a b h k n e. n (placed_agree a b h k e)) cap
 
     -- so where the set of tuples does not inhabit more, the set of assignments does not
     pub few_named : (cap : ℕ) → (InhabitsMany shape period tuples cap → ⊥) → InhabitsMoreThan cap domain period times texts set → ⊥

@@ -10,11 +10,11 @@ use Rattle.lrp_model.specs.declared.relations.Sort.TheVariants.{Time, Data, Name
 use Rattle.lrp_model.specs.declared.relations.Column.{Column}
 use Rattle.lrp_model.proofs.Ascending.{all_at}
 use Rattle.lrp_model.proofs.Decided.{cons_cases, contains_first, contains_later, contains_none}
-use Rattle.lrp_tables.specs.Columns.{head_times, head_texts, time_name, text_name}
+use Rattle.lrp_tables.specs.Columns.{head_times, head_texts, with_time_name, text_name}
 use Rattle.lrp_tables.proofs.Named.{pairs_left, pairs_right, pairs_tail}
 
 -- a name of a list that has this one first or not
-of_time_name : (s : Sort) (v name : Identifier) (rest : List Identifier) → Contains (time_name s v rest) name → (v ≡ name) ⊎ Contains rest name
+of_time_name : (s : Sort) (v name : Identifier) (rest : List Identifier) → Contains (with_time_name s v rest) name → (v ≡ name) ⊎ Contains rest name
 of_time_name Time v name rest c = cons_cases v name rest c
 of_time_name Data v name rest c = inr c
 of_time_name (Named n) v name rest c = inr c
@@ -61,7 +61,7 @@ head_names_differ (c ∷ cs) h = by_sort c.sort (head_names_differ cs h.1)
     new m = ⊎_elim (λ l. let r = of_head_times cs c.name l in all_at (λ d. c.name ≢ d.name) cs r.0 h.0 r.1 (sym r.2)) (λ t. let r = of_head_texts cs c.name t in all_at (λ d. c.name ≢ d.name) cs r.0 h.0 r.1 (sym r.2))
         (Contains-append_cases (head_times cs) (head_texts cs) c.name m)
 
-    by_sort : (s : Sort) → AllPairs ◌≢◌ (head_times cs ++ head_texts cs) → AllPairs ◌≢◌ (time_name s c.name (head_times cs) ++ text_name s c.name (head_texts cs))
+    by_sort : (s : Sort) → AllPairs ◌≢◌ (head_times cs ++ head_texts cs) → AllPairs ◌≢◌ (with_time_name s c.name (head_times cs) ++ text_name s c.name (head_texts cs))
     by_sort Time rest = pairs_cons c.name (head_times cs ++ head_texts cs) new rest
     by_sort Data rest = pairs_between (head_times cs) c.name (head_texts cs) new rest
     by_sort (Named n) rest = pairs_between (head_times cs) c.name (head_texts cs) new rest

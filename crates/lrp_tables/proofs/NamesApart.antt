@@ -7,7 +7,7 @@ use Rattle.lrp_model.specs.declared.formulas.Term.{Term}
 use Rattle.lrp_model.specs.declared.formulas.Test.{Test}
 use Rattle.lrp_model.specs.declared.formulas.Test.TheVariants.{Compare, Member, Equal}
 use Rattle.lrp_model.proofs.Decided.{contains_none}
-use Rattle.lrp_tables.specs.Columns.{joint, times_of_term, texts_of_term, scan_times, scan_texts, times_of_test, texts_of_test, test_times, test_texts}
+use Rattle.lrp_tables.specs.Columns.{joint, times_of_term, texts_of_term, scan_times, scan_texts, times_of_test, texts_of_test, test_times, test_names}
 use Rattle.lrp_tables.specs.Tables.{HaveNoName}
 use Rattle.lrp_tables.proofs.HeadNames.{pairs_apart}
 use Rattle.lrp_tables.proofs.Joining.{of_joint, joint_differs}
@@ -45,10 +45,10 @@ pub scan_names_differ : (terms : List Term) → HaveNoName (scan_times terms) (s
 scan_names_differ terms apart = pairs_apart (scan_times terms) (scan_texts terms) (joint_differs [] (flat_map times_of_term terms) no_pairs) (joint_differs [] (flat_map texts_of_term terms) no_pairs) apart
 
 -- those of a test
-pub test_names_differ : (test : Test) → AllPairs ◌≢◌ (test_times test ++ test_texts test)
-test_names_differ test = pairs_apart (test_times test) (test_texts test) (joint_differs [] (times_of_test test) no_pairs) (joint_differs [] (texts_of_test test) no_pairs) (apart test)
+pub test_names_differ : (test : Test) → AllPairs ◌≢◌ (test_times test ++ test_names test)
+test_names_differ test = pairs_apart (test_times test) (test_names test) (joint_differs [] (times_of_test test) no_pairs) (joint_differs [] (texts_of_test test) no_pairs) (apart test)
   where
-    apart : (t : Test) → HaveNoName (test_times t) (test_texts t)
+    apart : (t : Test) → HaveNoName (test_times t) (test_names t)
     apart (Compare left op right) name c d = contains_none name d
     apart (Member term point) name c d = contains_none name d
     apart (Equal left right) name c d = contains_none name c

@@ -13,7 +13,7 @@ use Rattle.lrp_store.proofs.Grown.{grown_same, grown_on, grown_within, one_more_
 use Rattle.lrp_store.proofs.Aligning.{head_in, tail_in, nothing_held}
 use Rattle.lrp_store.proofs.Counted.{many, not_many}
 use Rattle.lrp_tables.specs.Pieces.{IsPieceOf, InPiece, InPieces, ArePieces}
-use Rattle.lrp_tables.specs.Passes.{IsMade, IsResult}
+use Rattle.lrp_tables.specs.Passes.{IsMadeFrom, IsResult}
 use Rattle.lrp_tables.specs.declared.pieces.Piece.{Piece}
 use Rattle.lrp_tables.proofs.Pieced.{in_store, piece_reach}
 
@@ -30,7 +30,7 @@ Makes = List ℤ → List ℕ → List ℤ → List ℕ → Type 0
 -- what is made of the tuples of all zones but these was added
 pub record IsPassing (makes : Makes) (reach : ℕ → ℕ) (cap : ℕ) (s start out : StoreView) (rest : List Piece) : Type 0 where
   pub each : (piece : Piece) → Contains rest piece → IsPieceOf s piece
-  pub grown : (high : ℕ) → HasReach s high → IsGrown (IsMade makes (InStore s)) cap (reach high) start out
+  pub grown : (high : ℕ) → HasReach s high → IsGrown (IsMadeFrom makes (InStore s)) cap (reach high) start out
   pub behind : (xs : List ℤ) (ns : List ℕ) → InStore s xs ns → ((ys : List ℤ) (ms : List ℕ) → makes xs ns ys ms → InStore out ys ms) ⊎ InPieces s.shape.texts rest xs ns
 
 module _ (makes : Makes) (reach : ℕ → ℕ) (cap : ℕ) (s start : StoreView) where
@@ -39,7 +39,7 @@ module _ (makes : Makes) (reach : ℕ → ℕ) (cap : ℕ) (s start : StoreView)
   passing_none is pieces are = record { each = are.each; grown = λ high r. grown_same cap (reach high) _ start is; behind = λ xs ns h. inr (are.all xs ns h) }
 
   -- what is made of a zone's tuples is made of the store's
-  made_more : (n : ℕ) → n ≡ s.shape.texts → (piece : Piece) → IsPieceOf s piece → (ys : List ℤ) (ms : List ℕ) → IsMade makes (InPiece n piece) ys ms → IsMade makes (InStore s) ys ms
+  made_more : (n : ℕ) → n ≡ s.shape.texts → (piece : Piece) → IsPieceOf s piece → (ys : List ℤ) (ms : List ℕ) → IsMadeFrom makes (InPiece n piece) ys ms → IsMadeFrom makes (InStore s) ys ms
   made_more n e piece is ys ms h = record { old_times = h.old_times; old_texts = h.old_texts; is = in_store s piece is h.old_times h.old_texts (subst (λ k. InPiece k piece h.old_times h.old_texts) e h.is); made = h.made }
 
   module _ (out new : StoreView) (list rest : List Piece) (piece : Piece) (el : list ≡ piece ∷ rest) (p : IsPassing makes reach cap s start out list) where
@@ -49,12 +49,12 @@ module _ (makes : Makes) (reach : ℕ → ℕ) (cap : ℕ) (s start : StoreView)
 
     module _ (n : ℕ) (texts : n ≡ s.shape.texts) (more : (low high : ℕ) → low ≤ high → reach low ≤ reach high) where
       -- a part was added
-      grown_more : IsGrown (IsMade makes (InPiece n piece)) cap (reach (reach_of piece.zone)) out new → (high : ℕ) → HasReach s high → IsGrown (IsMade makes (InStore s)) cap (reach high) start new
+      grown_more : IsGrown (IsMadeFrom makes (InPiece n piece)) cap (reach (reach_of piece.zone)) out new → (high : ℕ) → HasReach s high → IsGrown (IsMadeFrom makes (InStore s)) cap (reach high) start new
       grown_more g high r = grown_on cap (reach high) _ _ start out new (made_more n texts piece next_is) (p.grown high r)
           (grown_within cap (reach (reach_of piece.zone)) (reach high) _ out new (more (reach_of piece.zone) high (piece_reach s piece next_is high r)) g)
 
       -- one zone more is behind
-      pub passing_more : IsAdded (IsMade makes (InPiece n piece)) cap (reach (reach_of piece.zone)) out new → IsPassing makes reach cap s start new rest
+      pub passing_more : IsAdded (IsMadeFrom makes (InPiece n piece)) cap (reach (reach_of piece.zone)) out new → IsPassing makes reach cap s start new rest
       passing_more a = record {
         each = λ q h. p.each q (tail_in piece rest list el q h);
         grown = grown_more a.grown;
@@ -69,15 +69,15 @@ module _ (makes : Makes) (reach : ℕ → ℕ) (cap : ℕ) (s start : StoreView)
           by_place xs ns j (suc k, l, e) = inr (record { piece = j.piece; listed = (k, omega arith, e); inside = j.inside })
 
       -- or a cell is one too many for all that is made
-      pub passing_refused : (high : ℕ) → HasReach s high → start.tables ≡ finite.empty → IsRefused (IsMade makes (InPiece n piece)) cap (reach (reach_of piece.zone)) out new → InhabitsMany start.shape start.period (IsMade makes (InStore s)) cap
+      pub passing_refused : (high : ℕ) → HasReach s high → start.tables ≡ finite.empty → IsRefused (IsMadeFrom makes (InPiece n piece)) cap (reach (reach_of piece.zone)) out new → InhabitsMany start.shape start.period (IsMadeFrom makes (InStore s)) cap
       passing_refused high r empty h =
           let all = grown_more h.grown high r in
-          subst (λ q. InhabitsMany q start.period (IsMade makes (InStore s)) cap) all.shape (subst (λ k. InhabitsMany new.shape k (IsMade makes (InStore s)) cap) all.period
-          (many new all.valid (IsMade makes (InStore s)) cap (λ xs ns i. elim (all.sound xs ns i) [ inl j ↦ absurd (nothing_held start empty xs ns j) | inr j ↦ j ]) (one_more_of cap _ _ new (made_more n texts piece next_is) h.more)))
+          subst (λ q. InhabitsMany q start.period (IsMadeFrom makes (InStore s)) cap) all.shape (subst (λ k. InhabitsMany new.shape k (IsMadeFrom makes (InStore s)) cap) all.period
+          (many new all.valid (IsMadeFrom makes (InStore s)) cap (λ xs ns i. elim (all.sound xs ns i) [ inl j ↦ absurd (nothing_held start empty xs ns j) | inr j ↦ j ]) (one_more_of cap _ _ new (made_more n texts piece next_is) h.more)))
 
   module _ (out : StoreView) (p : IsPassing makes reach cap s start out []) (empty : start.tables ≡ finite.empty) (h0 : ℕ) (r0 : HasReach s h0) where
     -- all that is made is held
-    all_made : (ys : List ℤ) (ms : List ℕ) → IsMade makes (InStore s) ys ms → InStore out ys ms
+    all_made : (ys : List ℤ) (ms : List ℕ) → IsMadeFrom makes (InStore s) ys ms → InStore out ys ms
     all_made ys ms h = elim (p.behind h.old_times h.old_texts h.is) [
       | inl j ↦ j ys ms h.made
       | inr j ↦ (let l : j.listed.0 < 0 = j.listed.1 in absurd (omega arith))
@@ -97,8 +97,8 @@ module _ (makes : Makes) (reach : ℕ → ℕ) (cap : ℕ) (s start : StoreView)
     }
 
     -- and what is made inhabits no more than cap cells
-    pub passed_few : InhabitsMany start.shape start.period (IsMade makes (InStore s)) cap → ⊥
+    pub passed_few : InhabitsMany start.shape start.period (IsMadeFrom makes (InStore s)) cap → ⊥
     passed_few more =
         let g = p.grown h0 r0 in
-        not_many out g.valid (IsMade makes (InStore s)) cap (record { each = all_made }) (g.few (let e : finite.len start.tables ≡ 0 = ap finite.len empty ∙ len-empty cell_cmp (List Table) in omega arith))
-        (subst (λ q. InhabitsMany q out.period (IsMade makes (InStore s)) cap) (sym g.shape) (subst (λ k. InhabitsMany start.shape k (IsMade makes (InStore s)) cap) (sym g.period) more))
+        not_many out g.valid (IsMadeFrom makes (InStore s)) cap (record { each = all_made }) (g.few (let e : finite.len start.tables ≡ 0 = ap finite.len empty ∙ len-empty cell_cmp (List Table) in omega arith))
+        (subst (λ q. InhabitsMany q out.period (IsMadeFrom makes (InStore s)) cap) (sym g.shape) (subst (λ k. InhabitsMany start.shape k (IsMadeFrom makes (InStore s)) cap) (sym g.period) more))

@@ -14,7 +14,7 @@ use Rattle.lrp_model.specs.Satisfaction.{Assignment}
 use Rattle.lrp_model.specs.declared.tuples.Cell.{Cell}
 use Rattle.lrp_model.proofs.Decided.{Decided, decided_both, decided_iff, decided_divides, decided_all, decided_contains, decided_some}
 use Rattle.lrp_zone.specs.Zones.{ZoneView, IsMember, IsResidue, columns_of}
-use Rattle.lrp_store.specs.Stores.{StoreView, IsStore, IsCellOf, IsPadded, LiesIn, zone_of, tables_at}
+use Rattle.lrp_store.specs.Stores.{StoreView, IsStore, IsCellOf, IsPadded, LiesInCell, zone_of, tables_at}
 use Rattle.lrp_store.specs.Tables.{StoreHolds}
 use Rattle.lrp_store.specs.declared.table.Table.{Table}
 use Rattle.lrp_store.proofs.Held.{cell_held}
@@ -97,7 +97,7 @@ module _ (domain : List Text) (ascends : Ascends domain) (s : StoreView) (is : I
   spot_named = ap (λ n. take n spot.texts) (sym wide ∙ sym (length-map texts (number_of domain))) ∙ padded_front 0 (map (number_of domain) texts)
 
   -- the times and the texts lie there
-  lies_there : LiesIn s.shape s.period spot times (map (number_of domain) texts)
+  lies_there : LiesInCell s.shape s.period spot times (map (number_of domain) texts)
   lies_there = record { count = long; residues = residue; named = spot_named }
     where
       residue : (i : ℕ) → i ≤ s.shape.times → Divides (pos s.period) (node times i -ℤ node spot.residues i)
@@ -110,7 +110,7 @@ module _ (domain : List Text) (ascends : Ascends domain) (s : StoreView) (is : I
   at_spot : (h : StoreHolds domain s times texts) → h.2.cell ≡ spot
   at_spot h =
       let e : h.0 ≡ map (number_of domain) texts = numbers_are domain (domain_differs domain ascends) h.0 texts h.1 in
-      one_cell s.shape s.period h.2.cell spot times h.0 (cell_held s is h.2.cell h.2.table h.2.held) spot_is (lies_in s is times h.0 h.2) (subst (λ ns. LiesIn s.shape s.period spot times ns) (sym e) lies_there)
+      one_cell s.shape s.period h.2.cell spot times h.0 (cell_held s is h.2.cell h.2.table h.2.held) spot_is (lies_in s is times h.0 h.2) (subst (λ ns. LiesInCell s.shape s.period spot times ns) (sym e) lies_there)
 
   -- so one look-up decides it
   pub decided_store : Decided (StoreHolds domain s times texts)

@@ -5,7 +5,7 @@ use Rattle.std.specs.FinMap as finite
 use Rattle.std.proofs.lemmas.List.{length-take-le, get_or-take, get_or_default}
 use Rattle.lrp_model.specs.Texts.{Text, Identifier}
 use Rattle.lrp_model.specs.Satisfaction.{Assignment}
-use Rattle.lrp_store.specs.Stores.{StoreView, IsStore, InStore, HoldsJust, IsInhabited}
+use Rattle.lrp_store.specs.Stores.{StoreView, IsStore, InStore, HoldsJust, IsInhabitedCell}
 use Rattle.lrp_store.specs.Tables.{AreTexts, AreNumbered}
 use Rattle.lrp_store.specs.declared.table.Table.{Table}
 use Rattle.lrp_store.proofs.Held.{Table as Bounds, held_of, cell_held}
@@ -43,7 +43,7 @@ module _ (s : StoreView) (is : IsStore s) where
           nothing h = cc
       by_lookup (Some list) e some =
           let first = first_of list (is.cells cell list e).some in
-          let c : IsInhabited s.shape s.period (InStore s) cell = held_inhabited s is (InStore s) (λ xs ns h. h) cell first.0 (subst (λ l. Contains l first.0) (sym (ap (λ o. unwrap_or o []) e)) first.1) in
+          let c : IsInhabitedCell s.shape s.period (InStore s) cell = held_inhabited s is (InStore s) (λ xs ns h. h) cell first.0 (subst (λ l. Contains l first.0) (sym (ap (λ o. unwrap_or o []) e)) first.1) in
           let n : length c.texts ≡ s.shape.texts = held_texts c.times c.texts c.is in
           subst (λ k. k < length domain) (ap (λ l. get_or l i 0) (sym c.inside.named) ∙ get_or-take s.shape.texts cell.texts i 0 low) (known c.times c.texts c.is i 0 (omega arith))
 

@@ -1,9 +1,9 @@
 -- What the steps of a plan ask of the tables, terms and tests that they are given.
-use Rattle.std.specs.Prelude.{◌≡◌, ◌≤◌, ◌≤ℤ◌, ℕ, ℤ, pos, true, List, length, map, count_by, Contains}
+use Rattle.std.specs.Prelude.{◌≡◌, ◌≤◌, ◌≤ℤ◌, ℕ, ℤ, pos, true, List, length, map, Contains}
 use Rattle.std.specs.List.{AllByRecursion, AllZip}
 use Rattle.lrp_theory.specs.Divides.{Divides}
 use Rattle.lrp_model.specs.Texts.{Text, Identifier}
-use Rattle.lrp_model.specs.Sorts.{is_time, is_data}
+use Rattle.lrp_model.specs.Sorts.{is_time, is_data, FitsColumn, time_count, text_count}
 use Rattle.lrp_model.specs.Reach.{greatest, test_reach}
 use Rattle.lrp_model.specs.Satisfaction.{HaveNames}
 use Rattle.lrp_model.specs.declared.relations.Column.{Column}
@@ -66,31 +66,20 @@ pub record CanExtend (columns : List Column) (table : Table) : Type 0 where
 
 -- ---- relations
 
--- a time term in a column of times, a data term in one of a data sort
-abbrev pub Suits : Column → Term → Type 0
-Suits c (time_term t) = is_time c.sort ≡ true
-Suits c (data_term t) = is_data c.sort ≡ true
-
 -- in a column of times a point whose period is at least 1 and divides the step's, and in one of a data sort a text of the domain
 abbrev pub CanStand : List Text → ℤ → Column → Value → Type 0
 CanStand domain period c (Point at) = (is_time c.sort ≡ true) × (pos 1 ≤ℤ at.period) × Divides at.period period
 CanStand domain period c (Const t) = (is_data c.sort ≡ true) × Contains domain t
 
 -- a bound between two of so many time columns, or one of them and zero
-pub record IsBetween (times : ℕ) (bound : Bound) : Type 0 where
+pub record IsColumnBound (times : ℕ) (bound : Bound) : Type 0 where
   pub left : bound.left ≤ times
   pub right : bound.right ≤ times
-
-abbrev pub time_count : List Column → ℕ
-time_count = count_by (λ c. is_time c.sort)
-
-abbrev pub text_count : List Column → ℕ
-text_count = count_by (λ c. is_data c.sort)
 
 -- a row with one value for each column, and bounds on its time columns
 pub record CanBeRow (domain : List Text) (period : ℤ) (columns : List Column) (row : Row) : Type 0 where
   pub values : AllZip (CanStand domain period) columns row.values
-  pub bounds : AllByRecursion (IsBetween (time_count columns)) row.bounds
+  pub bounds : AllByRecursion (IsColumnBound (time_count columns)) row.bounds
 
 -- the text of a data term, where it is one, is of the domain
 abbrev pub HasText : List Text → Term → Type 0
@@ -103,6 +92,6 @@ pub record CanScan (domain : List Text) (period : ℤ) (relation : Relation) (te
   pub times : time_count relation.columns ≤ 8
   pub texts : text_count relation.columns ≤ 8
   pub rows : AllByRecursion (CanBeRow domain period relation.columns) relation.rows
-  pub terms_fit : AllZip Suits relation.columns terms
+  pub terms_fit : AllZip FitsColumn relation.columns terms
   pub terms_known : AllByRecursion (HasText domain) terms
   pub apart : HaveNoName (scan_times terms) (scan_texts terms)

@@ -1,5 +1,5 @@
 -- Columns by their names.
-use Rattle.std.specs.Prelude.{◌≡◌, ℕ, ◌-◌, ◌<◌, not, cond, List, [], ◌∷◌, ◌++◌, Some, filter, flat_map, slice_get}
+use Rattle.std.specs.Prelude.{◌≡◌, ℕ, ◌-◌, ◌<◌, cond, List, [], ◌∷◌, ◌++◌, Some, flat_map, slice_get}
 use Rattle.std.specs.Str.{bytes_eq}
 use Rattle.std.specs.List.{list_any, AllZip}
 use Rattle.lrp_model.specs.Texts.{Identifier}
@@ -14,10 +14,6 @@ use Rattle.lrp_model.specs.declared.formulas.Term.{Term}
 use Rattle.lrp_model.specs.declared.formulas.Term.TheVariants.{Time as time_term, Data as data_term}
 use Rattle.lrp_model.specs.declared.formulas.Test.{Test}
 use Rattle.lrp_model.specs.declared.formulas.Test.TheVariants.{Compare, Member, Equal}
-
--- the names but this one, in order
-abbrev pub others : Identifier → List Identifier → List Identifier
-others name names = filter (λ other. not (bytes_eq name other)) names
 
 -- the names, and behind them those of the second list that are new, each once
 abbrev pub joint : List Identifier → List Identifier → List Identifier
@@ -71,14 +67,14 @@ texts_of_test (Equal left right) = names_of_data left ++ names_of_data right
 abbrev pub test_times : Test → List Identifier
 test_times test = joint [] (times_of_test test)
 
-abbrev pub test_texts : Test → List Identifier
-test_texts test = joint [] (texts_of_test test)
+abbrev pub test_names : Test → List Identifier
+test_names test = joint [] (texts_of_test test)
 
 -- a name among the times, and a name among the texts, by the sort of its column
-abbrev pub time_name : Sort → Identifier → List Identifier → List Identifier
-time_name Time v rest = v ∷ rest
-time_name Data v rest = rest
-time_name (Named name) v rest = rest
+abbrev pub with_time_name : Sort → Identifier → List Identifier → List Identifier
+with_time_name Time v rest = v ∷ rest
+with_time_name Data v rest = rest
+with_time_name (Named name) v rest = rest
 
 abbrev pub text_name : Sort → Identifier → List Identifier → List Identifier
 text_name Time v rest = rest
@@ -88,7 +84,7 @@ text_name (Named name) v rest = v ∷ rest
 -- the names of the time columns of a head, and those of its data columns, in head order
 abbrev pub head_times : List Column → List Identifier
 head_times [] = []
-head_times (c ∷ cs) = time_name c.sort c.name (head_times cs)
+head_times (c ∷ cs) = with_time_name c.sort c.name (head_times cs)
 
 abbrev pub head_texts : List Column → List Identifier
 head_texts [] = []

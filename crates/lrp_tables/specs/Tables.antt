@@ -12,7 +12,7 @@ use Rattle.lrp_model.specs.declared.formulas.Term.{Term}
 use Rattle.lrp_model.specs.declared.formulas.Test.{Test}
 use Rattle.lrp_store.specs.Tables.{InTable, AreNumbered}
 use Rattle.lrp_store.specs.declared.table.Table.{Table}
-use Rattle.lrp_tables.specs.Columns.{joint, scan_texts, test_texts, head_texts}
+use Rattle.lrp_tables.specs.Columns.{joint, scan_texts, test_names, head_texts}
 
 -- the table has the assignment, where the numbers of its texts are those of the domain
 abbrev pub Has : Table → List Text → Assignment → Type 0
@@ -54,7 +54,7 @@ pub record IsScanned (domain : List Text) (relation : Relation) (terms : List Te
 
 -- a test
 pub record IsTested (domain : List Text) (test : Test) (env : Assignment) : Type 0 where
-  pub known : HasTexts domain (test_texts test) env
+  pub known : HasTexts domain (test_names test) env
   pub passes : Passes env test
 
 -- a join: both tables have the assignment, and it passes each test

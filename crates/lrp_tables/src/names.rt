@@ -1,7 +1,8 @@
 // Columns by their names.
 ghost use Rattle.std.specs.Prelude.{◌≡◌, Some, slice_get, IfOk, IfSome, IfNone, Contains};
-ghost use Rattle.lrp_tables.specs.Columns.{others, joint, IsPlace, ArePlacesOf};
+ghost use Rattle.lrp_tables.specs.Columns.{joint, IsPlace, ArePlacesOf};
 ghost use Rattle.lrp_tables.specs.Tables.{AreNamesAmong};
+ghost use Rattle.lrp_model.specs.Texts.{without};
 
 use lrp_model::{List, Memory, Name};
 use std::alloc::Global;
@@ -21,7 +22,7 @@ pub fn place_of(names: &List<Name>, name: &Name) -> Option<usize>
 
 /// The names but this one, in order.
 pub fn without(alloc: Global, names: &List<Name>, name: &Name) -> Result<List<Name>, Memory>
-    ensures { IfOk result (λ made. made ≡ others name.now names.now) }
+    ensures { IfOk result (λ made. made ≡ without name.now names.now) }
 {
     let mut kept = List::new(alloc);
     for other in names.as_slice() {

@@ -6,7 +6,7 @@ use Rattle.lrp_model.specs.declared.written.Integer.{Integer}
 use Rattle.lrp_model.specs.Tokens.{Tokens, Part, Takes, Spells}
 use Rattle.lrp_model.specs.Tokens.Token.{number_token, symbol_token}
 use Rattle.lrp_model.specs.Tokens.Part.{any}
-use Rattle.lrp_model.specs.Lexing.{limit}
+use Rattle.lrp_model.specs.Lexing.{greatest_number}
 use Rattle.lrp_model.specs.Refused.{Stops, TextOf}
 use Rattle.lrp_model.specs.Databases.{sign, integer_text}
 use Rattle.lrp_text.specs.Parsers.{◌>>=◌, pure, eat}
@@ -22,16 +22,16 @@ use Rattle.lrp_text.proofs.LocatedRule.{Leads}
 -- ---- numbers
 
 -- the tokens of a number are read back
-pub number_back : (n : ℕ) (L : Type 0) → (L → n ≤ limit) → ReadsBack number (any (number_token n) ∷ []) n L Anything
+pub number_back : (n : ℕ) (L : Type 0) → (L → n ≤ greatest_number) → ReadsBack number (any (number_token n) ∷ []) n L Anything
 number_back n L f = accept_back (λ t. number_of t.token) (any (number_token n)) n L (λ t h. number_tells t n L f h)
 
 -- a number that is read is spelled so, and is lawful
-pub number_sound : Sound number (One number_part) (λ n. n ≤ limit)
-number_sound = accept_gives (λ t. number_of t.token) number_part (λ n. n ≤ limit) number_told number_fits
+pub number_sound : Sound number (One number_part) (λ n. n ≤ greatest_number)
+number_sound = accept_gives (λ t. number_of t.token) number_part (λ n. n ≤ greatest_number) number_told number_fits
 
 -- the tokens before a fault of a number begin one
-pub number_viable : Viable number (One number_part) (λ n. n ≤ limit)
-number_viable = accept_viable (λ t. number_of t.token) number_part (λ n. n ≤ limit) number_stops
+pub number_viable : Viable number (One number_part) (λ n. n ≤ greatest_number)
+number_viable = accept_viable (λ t. number_of t.token) number_part (λ n. n ≤ greatest_number) number_stops
 
 -- ---- integers
 
@@ -43,18 +43,18 @@ integer_local =
     bind_local number _ (accept_local _) (λ n. pure_local _))
 
 -- a number with or without a minus is read back
-signed_back : (negative : Bool) (n : ℕ) → ReadsBack integer (sign negative ++ any (number_token n) ∷ []) (record { negative = negative; size = n }) (n ≤ limit) Anything
+signed_back : (negative : Bool) (n : ℕ) → ReadsBack integer (sign negative ++ any (number_token n) ∷ []) (record { negative = negative; size = n }) (n ≤ greatest_number) Anything
 unfolding integer
 signed_back true n =
-    then_back _ (eat_back (is_symbol Minus) (any (symbol_token Minus)) (n ≤ limit) (symbol_seen Minus))
-    (then_back _ (number_back n (n ≤ limit) (λ l. l)) (pure_back _ _ Anything))
+    then_back _ (eat_back (is_symbol Minus) (any (symbol_token Minus)) (n ≤ greatest_number) (symbol_seen Minus))
+    (then_back _ (number_back n (n ≤ greatest_number) (λ l. l)) (pure_back _ _ Anything))
 signed_back false n =
-    bind_back _ (eat_none (is_symbol Minus) (n ≤ limit))
-    (then_back _ (number_back n (n ≤ limit) (λ l. l)) (pure_back _ _ Anything))
+    bind_back _ (eat_none (is_symbol Minus) (n ≤ greatest_number))
+    (then_back _ (number_back n (n ≤ greatest_number) (λ l. l)) (pure_back _ _ Anything))
     (λ ts left h g. first_is_not (is_symbol_token Minus) (number_token n) [] ts left refl h)
 
 -- the tokens of an integer are read back
-pub integer_back : (i : Integer) → ReadsBack integer (integer_text i) i (i.size ≤ limit) Anything
+pub integer_back : (i : Integer) → ReadsBack integer (integer_text i) i (i.size ≤ greatest_number) Anything
 integer_back i = signed_back i.negative i.size
 
 -- a minus that was eaten is the sign
@@ -63,7 +63,7 @@ eaten_sign true = refl
 eaten_sign false = refl
 
 -- an integer that is read is spelled so, and is lawful
-pub integer_sound : Sound integer integer_text (λ i. i.size ≤ limit)
+pub integer_sound : Sound integer integer_text (λ i. i.size ≤ greatest_number)
 unfolding integer
 integer_sound ts q e =
     let a = bind_ok (eat (is_symbol Minus) ts) _ q e in
@@ -72,20 +72,20 @@ integer_sound ts q e =
     let h : (made, n.0.1) ≡ q = cc in
     let signed : Takes (sign a.0.0) ts a.0.1 = subst (λ x. Takes x ts a.0.1) (eaten_sign a.0.0) (eat_sound (is_symbol Minus) (any (symbol_token Minus)) (symbol_told Minus) ts a.0 a.1) in
     let sized = number_sound a.0.1 n.0 n.1 in
-    subst (λ y. Takes (integer_text y.0) ts y.1 × (y.0.size ≤ limit)) h (takes_join (sign a.0.0) (any (number_token n.0.0) ∷ []) ts a.0.1 n.0.1 signed sized.0, sized.1)
+    subst (λ y. Takes (integer_text y.0) ts y.1 × (y.0.size ≤ greatest_number)) h (takes_join (sign a.0.0) (any (number_token n.0.0) ∷ []) ts a.0.1 n.0.1 signed sized.0, sized.1)
 
 -- behind a sign stands a number
-after_sign : (negative : Bool) (head vs : Tokens) (e : Fault × Tokens) → Spells (sign negative) head → (number >>= (λ n. let i : Integer = record { negative = negative; size = n } in pure i)) vs ≡ Err e → Stops (λ c x. TextOf integer_text (λ i. i.size ≤ limit) c (head ++ x)) vs e
+after_sign : (negative : Bool) (head vs : Tokens) (e : Fault × Tokens) → Spells (sign negative) head → (number >>= (λ n. let i : Integer = record { negative = negative; size = n } in pure i)) vs ≡ Err e → Stops (λ c x. TextOf integer_text (λ i. i.size ≤ greatest_number) c (head ++ x)) vs e
 after_sign negative head vs e signed h =
-    sub_step number _ (One number_part) (λ n. n ≤ limit) (λ c x. TextOf integer_text (λ i. i.size ≤ limit) c (head ++ x)) vs e number_sound number_viable h
+    sub_step number _ (One number_part) (λ n. n ≤ greatest_number) (λ c x. TextOf integer_text (λ i. i.size ≤ greatest_number) c (head ++ x)) vs e number_sound number_viable h
     (λ c n x spelled fit. ([], (record { negative = negative; size = n }, fit, spells_join (sign negative) (One number_part n) head (x ++ []) signed (spells_join (One number_part n) [] x [] spelled refl))))
     (λ n h2 us s2 f2 d2. absurd cc)
 
 -- the tokens before a fault of an integer begin one
-pub integer_viable : Viable integer integer_text (λ i. i.size ≤ limit)
+pub integer_viable : Viable integer integer_text (λ i. i.size ≤ greatest_number)
 unfolding integer
 integer_viable ts e h =
-    eat_step (is_symbol Minus) _ (TextOf integer_text (λ i. i.size ≤ limit)) ts e h
+    eat_step (is_symbol Minus) _ (TextOf integer_text (λ i. i.size ≤ greatest_number)) ts e h
     (λ t vs told d. after_sign true (t ∷ []) vs e (symbol_told Minus t told, refl) d)
     (λ d. after_sign false [] ts e refl d)
 

@@ -8,7 +8,7 @@ use Rattle.lrp_model.specs.declared.tokens.Fault.{Fault}
 use Rattle.lrp_model.specs.declared.tokens.Fault.TheVariants.{Syntax, TextTooLong, Number as TooLarge, Period, Deep, Memory}
 use Rattle.lrp_model.specs.Tokens.{Token, Placed, Tokens}
 use Rattle.lrp_model.specs.Tokens.Token.{name_token, word_token, number_token, text_token, symbol_token, end_token, bad_token, hole_token}
-use Rattle.lrp_model.specs.Lexing.{limit, start, scan}
+use Rattle.lrp_model.specs.Lexing.{greatest_number, start, scan}
 use Rattle.lrp_model.specs.declared.relations.Sort.{Sort}
 use Rattle.lrp_model.specs.declared.tokens.Word.TheVariants.{Time, Data}
 use Rattle.lrp_text.specs.Parsers.{Outcome, accept, taken, look, eat, eaten, Reads, IsOrMemory}
@@ -80,12 +80,12 @@ end_said End slice k e = ap is_end_token e
 end_said Bad slice k e = ap is_end_token e
 
 -- a number that is found at most the limit or not
-above_at : (n : ℕ) (b : Bool) → nat_le n 4611686018427387904 ≡ b → limit < n → b ≡ false
+above_at : (n : ℕ) (b : Bool) → nat_le n 4611686018427387904 ≡ b → greatest_number < n → b ≡ false
 above_at n true e h = let k : n ≤ 4611686018427387904 = leb-true n 4611686018427387904 e in absurd (omega arith)
 above_at n false e h = refl
 
 -- a number above the limit
-above : (n : ℕ) → limit < n → nat_le n 4611686018427387904 ≡ false
+above : (n : ℕ) → greatest_number < n → nat_le n 4611686018427387904 ≡ false
 above n h = above_at n (nat_le n 4611686018427387904) refl h
 
 -- so is a number
@@ -101,12 +101,12 @@ number_said End slice k e = ap number_of e
 number_said Bad slice k e = ap number_of e
 
 -- a period within the limit, and one above it
-counted_low : (n : ℕ) (b : Bool) → n ≤ limit → counted n b ≡ (if b then Err Period else Ok n)
+counted_low : (n : ℕ) (b : Bool) → n ≤ greatest_number → counted n b ≡ (if b then Err Period else Ok n)
 counted_low n true h = refl
 counted_low n false h = ap (limited n TooLarge) (le-leb n 4611686018427387904 h)
 
 -- a number above the limit is no period
-counted_high : (n : ℕ) (b : Bool) → (n == 0) ≡ b → limit < n → counted n b ≡ Err TooLarge
+counted_high : (n : ℕ) (b : Bool) → (n == 0) ≡ b → greatest_number < n → counted n b ≡ Err TooLarge
 counted_high n true e h = let z : n ≡ 0 = eqb-true n 0 e in absurd (omega arith)
 counted_high n false e h = ap (limited n TooLarge) (above n h)
 

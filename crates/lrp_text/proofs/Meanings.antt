@@ -11,7 +11,7 @@ use Rattle.std.specs.Str.{IsUtf8, IsCharBoundary}
 use Rattle.std.proofs.lemmas.Str.{IsUtf8-append, IsUtf8-take, IsUtf8-drop, IsCharBoundary-before_ascii, IsCharBoundary-after_ascii}
 use Rattle.lrp_model.specs.Texts.{FitsText}
 use Rattle.lrp_model.specs.Tokens.Token.{text_token, number_token}
-use Rattle.lrp_model.specs.Lexing.{is_letter, is_digit, is_name_byte, is_forbidden, run, behind_run, value_from, word_or_name, Scanned, Text as TextRead, longer, more_taken, bad_at, text_from, text_scanned, symbol_from, scan}
+use Rattle.lrp_model.specs.Lexing.{is_letter, is_digit, is_name_byte, is_forbidden, run, behind_run, value_from, word_or_name, Scanned, QuotedText as TextRead, longer, more_taken, bad_at, text_from, text_scanned, symbol_from, scan}
 use Rattle.lrp_text.specs.Lexemes.{read_of, text_read, ended}
 use Rattle.lrp_text.proofs.Scans.{chosen}
 use Rattle.lrp_text.proofs.Alone.{NoText, word_no_text, symbol_no_text}

@@ -11,7 +11,7 @@ use Rattle.lrp_model.specs.Tokens.{Token, Placed, Part, IsPart}
 use Rattle.lrp_model.specs.Tokens.Token.{name_token, word_token, number_token, text_token, symbol_token, end_token}
 use Rattle.lrp_model.specs.Tokens.Part.{at, any}
 use Rattle.lrp_text.specs.Taking.{same_symbol, same_word, is_symbol_token, is_symbol, is_word_token, is_word, is_end_token, is_end, required, name_of, number_of, limited, text_of, short_enough, period_of, counted, IsPeriod, with_place}
-use Rattle.lrp_model.specs.Lexing.{limit, start}
+use Rattle.lrp_model.specs.Lexing.{greatest_number, start}
 use Rattle.std.proofs.lemmas.Bool.{leb-true, le-leb, eqb-true}
 use borrow.Author.Tests.{leb-false}
 use Rattle.lrp_model.specs.Refused.{IsCause}
@@ -214,10 +214,10 @@ limited_is n k true m e = let h : n ≡ m = cc in (h, refl)
 limited_is n k false m e = absurd cc
 
 -- what a number was read from
-number_is : (k : Token) (n : ℕ) → number_of k ≡ Ok n → (k ≡ number_token n) × (n ≤ limit)
+number_is : (k : Token) (n : ℕ) → number_of k ≡ Ok n → (k ≡ number_token n) × (n ≤ greatest_number)
 number_is (number_token m) n e =
     let h = limited_is m Number (nat_le m 4611686018427387904) n e in
-    (ap number_token h.0, subst (λ x. x ≤ limit) h.0 (leb-true m 4611686018427387904 h.1))
+    (ap number_token h.0, subst (λ x. x ≤ greatest_number) h.0 (leb-true m 4611686018427387904 h.1))
 number_is _ n e = absurd cc
 
 -- the part that a number is
@@ -229,7 +229,7 @@ pub number_told : (t : Placed) (n : ℕ) → number_of t.token ≡ Ok n → IsPa
 number_told t n e = (number_is t.token n e).0
 
 -- and is at most the limit
-pub number_fits : (t : Placed) (n : ℕ) → number_of t.token ≡ Ok n → n ≤ limit
+pub number_fits : (t : Placed) (n : ℕ) → number_of t.token ≡ Ok n → n ≤ greatest_number
 number_fits t n e = (number_is t.token n e).1
 
 -- a number above the limit is the cause of its fault
@@ -243,7 +243,7 @@ number_err (number_token m) k e = inr (m, refl, limited_err m (nat_le m 46116860
 number_err _ k e = inl cc
 
 -- a number stops for its syntax or its size
-pub number_stops : TestStops (λ t. number_of t.token) number_part (λ n. n ≤ limit)
+pub number_stops : TestStops (λ t. number_of t.token) number_part (λ n. n ≤ greatest_number)
 number_stops = record { token = record { token = number_token 1; place = start }; value = 1; fits = omega arith; is = refl; fault = λ t k e. number_err t.token k e }
 
 -- a number within the limit is told
@@ -252,7 +252,7 @@ limited_tells n true L f = inl refl
 limited_tells n false L f = inr ((λ l. let h : false ≡ true = f l in absurd cc), Number, refl, (λ e. absurd cc))
 
 -- a number that stands there is taken where it is lawful
-pub number_tells : (t : Placed) (n : ℕ) (L : Type 0) → (L → n ≤ limit) → t.token ≡ number_token n → Tells (number_of t.token) n L
+pub number_tells : (t : Placed) (n : ℕ) (L : Type 0) → (L → n ≤ greatest_number) → t.token ≡ number_token n → Tells (number_of t.token) n L
 number_tells t n L f e = subst (λ x. Tells (number_of x) n L) (sym e) (limited_tells n (nat_le n 4611686018427387904) L (λ l. le-leb n 4611686018427387904 (f l)))
 
 -- periods
@@ -297,7 +297,7 @@ pub period_stops : TestStops (λ t. period_of t.token) number_part IsPeriod
 period_stops = record { token = record { token = number_token 1; place = start }; value = 1; fits = (omega arith, omega arith); is = refl; fault = λ t k e. period_err t.token k e }
 
 -- a lawful period is told
-counted_tells : (n : ℕ) (b : Bool) (L : Type 0) → (L → b ≡ false) → (L → n ≤ limit) → Tells (counted n b) n L
+counted_tells : (n : ℕ) (b : Bool) (L : Type 0) → (L → b ≡ false) → (L → n ≤ greatest_number) → Tells (counted n b) n L
 counted_tells n true L f g = inr ((λ l. let h : true ≡ false = f l in absurd cc), Period, refl, (λ e. absurd cc))
 counted_tells n false L f g = limited_tells n (nat_le n 4611686018427387904) L (λ l. le-leb n 4611686018427387904 (g l))
 

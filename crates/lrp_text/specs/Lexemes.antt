@@ -7,7 +7,7 @@ use Rattle.lrp_model.specs.declared.tokens.Fault.{Fault}
 use Rattle.lrp_model.specs.declared.tokens.Fault.TheVariants.{Syntax, Period, Number as TooLarge}
 use Rattle.lrp_model.specs.Tokens.{Token}
 use Rattle.lrp_model.specs.Tokens.Token.{name_token, word_token, number_token, text_token, symbol_token, end_token, bad_token}
-use Rattle.lrp_model.specs.Lexing.{Scanned, Text as TextRead, word_or_name, text_from, limit}
+use Rattle.lrp_model.specs.Lexing.{Scanned, QuotedText as TextRead, word_or_name, text_from, greatest_number}
 use Rattle.lrp_text.specs.Taking.{same_symbol, same_word}
 use Rattle.lrp_text.specs.declared.lexemes.Lexeme.{Lexeme}
 use Rattle.lrp_text.specs.declared.lexemes.Lexeme.TheVariants.{Name, Word, Number, LargeNumber, Text, LongText, Symbol, End, Bad}
@@ -16,8 +16,8 @@ use Rattle.lrp_text.specs.declared.lexemes.Lexeme.TheVariants.{Name, Word, Numbe
 abbrev pub IsSaid : Lexeme → List ℕ → Token → Type 0
 IsSaid Name slice k = k ≡ name_token slice
 IsSaid (Word w) slice k = k ≡ word_token w
-IsSaid (Number n) slice k = (k ≡ number_token n) × (n ≤ limit)
-IsSaid LargeNumber slice k = (n : ℕ) × (k ≡ number_token n) × (limit < n)
+IsSaid (Number n) slice k = (k ≡ number_token n) × (n ≤ greatest_number)
+IsSaid LargeNumber slice k = (n : ℕ) × (k ≡ number_token n) × (greatest_number < n)
 IsSaid Text slice k = (t : List ℕ) × (k ≡ text_token t) × (length t ≤ 255)
 IsSaid LongText slice k = (t : List ℕ) × (k ≡ text_token t) × (255 < length t)
 IsSaid (Symbol s) slice k = k ≡ symbol_token s
@@ -33,8 +33,8 @@ abbrev pub IsNamed : Lexeme → List ℕ → Type 0
 IsNamed l name = IsSaid l name (word_or_name name)
 
 -- a lexeme for a number
-abbrev pub IsNumber : Lexeme → ℕ → Type 0
-IsNumber l n = IsSaid l [] (number_token n)
+abbrev pub IsNumberLexeme : Lexeme → ℕ → Type 0
+IsNumberLexeme l n = IsSaid l [] (number_token n)
 
 -- no symbol begins so
 abbrev pub bad_symbol : ℕ → List ℕ → Scanned

@@ -9,7 +9,7 @@ use Rattle.lrp_model.specs.declared.tokens.LexKind.TheVariants.{Number as LargeN
 use Rattle.lrp_model.specs.declared.tokens.LexFault.{LexFault}
 use Rattle.lrp_model.specs.Tokens.{Token, Tokens}
 use Rattle.lrp_model.specs.Tokens.Token.{name_token, word_token, number_token, text_token, symbol_token, end_token, bad_token}
-use Rattle.lrp_model.specs.Lexing.{At, after, scan, limit}
+use Rattle.lrp_model.specs.Lexing.{At, after, scan, greatest_number}
 use Rattle.lrp_text.specs.declared.lexemes.Lexeme.{Lexeme}
 use Rattle.lrp_text.specs.declared.lexemes.Lexeme.TheVariants.{Name as NameSeen, Word as WordSeen, Number as NumberSeen, LargeNumber as LargeNumberSeen, Text as TextSeen, LongText as LongTextSeen, Symbol as SymbolSeen, End as EndSeen, Bad as BadSeen}
 use Rattle.lrp_text.specs.Sources.{next_at, next_of, behind_next}
@@ -18,7 +18,7 @@ use Rattle.lrp_text.specs.Sources.{next_at, next_of, behind_next}
 abbrev pub IsOfKind : TokenKind → Token → Type 0
 IsOfKind Name (name_token n) = Unit {0}
 IsOfKind Word (word_token w) = Unit {0}
-IsOfKind Number (number_token n) = n ≤ limit
+IsOfKind Number (number_token n) = n ≤ greatest_number
 IsOfKind Text (text_token t) = length t ≤ 255
 IsOfKind Symbol (symbol_token s) = Unit {0}
 IsOfKind End end_token = Unit {0}
@@ -26,7 +26,7 @@ IsOfKind _ _ = ⊥
 
 -- a token with this fault
 abbrev pub IsFaulty : LexKind → Token → Type 0
-IsFaulty LargeNumber (number_token n) = limit < n
+IsFaulty LargeNumber (number_token n) = greatest_number < n
 IsFaulty TextTooLong (text_token t) = 255 < length t
 IsFaulty BadByte bad_token = Unit {0}
 IsFaulty _ _ = ⊥
@@ -72,9 +72,9 @@ FaultFirst BadByte place ts us = (ts ≡ record { token = bad_token; place = pla
 FaultFirst kind place ts us = (k : Token) × IsFaulty kind k × (ts ≡ record { token = k; place = place } ∷ us)
 
 -- the first of the tokens that were left, and those that are left behind it; the end and a bad byte come again for ever
-abbrev pub IsFirst : Result SourceToken LexFault → Tokens → Tokens → Type 0
-IsFirst (Ok t) ts us = TokenFirst t.kind t.place ts us
-IsFirst (Err f) ts us = FaultFirst f.kind f.place ts us
+abbrev pub IsNextToken : Result SourceToken LexFault → Tokens → Tokens → Type 0
+IsNextToken (Ok t) ts us = TokenFirst t.kind t.place ts us
+IsNextToken (Err f) ts us = FaultFirst f.kind f.place ts us
 
 -- the kind of a lexeme, or its fault
 abbrev pub kind_of : Lexeme → Result TokenKind LexKind

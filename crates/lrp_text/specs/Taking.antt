@@ -10,7 +10,7 @@ use Rattle.lrp_model.specs.declared.tokens.Fault.TheVariants.{Syntax, Number, Te
 use Rattle.lrp_model.specs.declared.written.Located.{Located}
 use Rattle.lrp_model.specs.Tokens.{Token, Placed, Tokens}
 use Rattle.lrp_model.specs.Tokens.Token.{name_token, word_token, number_token, text_token, symbol_token, end_token}
-use Rattle.lrp_model.specs.Lexing.{start, limit}
+use Rattle.lrp_model.specs.Lexing.{start, greatest_number}
 use Rattle.lrp_text.specs.Parsers.{Parser, accept, look, pure, ◌>>=◌}
 
 -- whether two symbols are one
@@ -144,7 +144,7 @@ period_of _ = Err Syntax
 
 -- a period is from 1 to 2 ^ 62
 abbrev pub IsPeriod : ℕ → Type 0
-IsPeriod n = (1 ≤ n) × (n ≤ limit)
+IsPeriod n = (1 ≤ n) × (n ≤ greatest_number)
 
 -- takes a period
 abbrev pub period : Parser ℕ

@@ -29,7 +29,7 @@ impl<'a> Model for Cursor<'a> {
 impl<'a> Cursor<'a> {
     ghost use Rattle.std.specs.Prelude.{◌≡◌, ◌≢◌, ◌≤◌, ◌<◌, ◌∷◌, true, false, length, Ok, Err, IfOk};
     ghost use Rattle.lrp_model.specs.Tokens.{Placed};
-    ghost use Rattle.lrp_model.specs.Lexing.{tokens, limit};
+    ghost use Rattle.lrp_model.specs.Lexing.{tokens, greatest_number};
     ghost use Rattle.lrp_text.specs.Parsers.{Reads, look, eat};
     ghost use Rattle.lrp_text.specs.Taking.{here, is_symbol, is_word, is_name, is_text, is_end, expect, expect_word, expect_end, behind_end, number, period, IsPeriod, name, text};
     ghost use Rattle.lrp_text.specs.Sources.{Stands, Goes};
@@ -173,7 +173,7 @@ impl<'a> Cursor<'a> {
         ensures shorter { length self.new ≤ length self.old }
         ensures fewer { IfOk result (λ _. length self.new < length self.old) }
         ensures takes_no_memory { result ≢ Err Fault.Memory }
-        ensures fits { IfOk result (λ n. n ≤ limit) }
+        ensures fits { IfOk result (λ n. n ≤ greatest_number) }
     {
         let number = self.peek().lexeme.number()?;
         self.advance();

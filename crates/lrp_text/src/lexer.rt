@@ -25,7 +25,7 @@ impl<'a> Lexer<'a> {
     ghost use Rattle.std.specs.Prelude.{◌≡◌, ◌≤◌, length, IfOk};
     ghost use Rattle.lrp_model.specs.Lexing.{start};
     ghost use Rattle.lrp_text.specs.Sources.{IsFound, tokens_left};
-    ghost use Rattle.lrp_text.specs.Stream.{Gives, IsFirst, IsSliceOf, IsNextText};
+    ghost use Rattle.lrp_text.specs.Stream.{Gives, IsNextToken, IsSliceOf, IsNextText};
 
     /// The lexer of a text of at most 16,777,216 bytes.
     pub fn new(text: &'a str) -> Self
@@ -54,7 +54,7 @@ impl<'a> Lexer<'a> {
     /// at one that may not stand in a text, or at the end inside a text, and comes again for ever, as the end does.
     pub fn next(&mut self) -> Result<Token<'a>, LexFault>
         ensures step { Gives self.old self.new result }
-        ensures order { IsFirst result (tokens_left self.old) (tokens_left self.new) }
+        ensures order { IsNextToken result (tokens_left self.old) (tokens_left self.new) }
         ensures slice { IfOk result (λ t. IsSliceOf self.old t.slice.now t.place self.new) }
         // What the slice of a text means is what `text_of` gives of it.
         ensures text { IfOk result (λ t. t.kind ≡ TokenKind.Text → IsNextText self.old t.slice.now) }

@@ -2,7 +2,7 @@
 ghost use Rattle.std.specs.Prelude.{◌≢◌, ◌≤◌, ◌<◌, ℕ, [], length, Err, IfOk};
 ghost use Rattle.lrp_text.specs.Parsers.{separated_from, listed, Reads, IsOrMemory};
 ghost use Rattle.lrp_text.specs.Taking.{is_symbol};
-ghost use Rattle.lrp_model.specs.Lexing.{limit};
+ghost use Rattle.lrp_model.specs.Lexing.{greatest_number};
 ghost use Rattle.lrp_text.specs.ColumnRule.{shown_sort, sort as sort_rule, column as column_rule};
 ghost use Rattle.lrp_text.specs.IntegerRule.{integer as integer_rule};
 
@@ -17,7 +17,7 @@ pub fn integer(tokens: &mut Cursor<'_>) -> Result<Integer, Fault>
     ensures value { Reads (integer_rule tokens.old) result tokens.new }
     ensures fewer { IfOk result (λ _. length tokens.new < length tokens.old) }
     ensures takes_no_memory { result ≢ Err Fault.Memory }
-    ensures fits { IfOk result (λ i. i.size ≤ limit) }
+    ensures fits { IfOk result (λ i. i.size ≤ greatest_number) }
 {
     let negative = tokens.eat(Symbol::Minus);
     let size = tokens.number()?;

@@ -1,9 +1,9 @@
 // The token that bytes begin with.
-ghost use Rattle.std.specs.Prelude.{◌≡◌, ◌<◌, [], ◌∷◌, MatchOption, IfSome, length, false};
+ghost use Rattle.std.specs.Prelude.{◌≡◌, ◌<◌, [], ◌∷◌, MatchOption, IfSome, length};
 ghost use Rattle.std.specs.Option.{option_map};
 ghost use Rattle.lrp_model.specs.Lexing.{symbol_from, word_or_name, run, behind_run, value_from, is_name_byte, is_digit as is_digit_byte, scan as scan_rule};
 ghost use Rattle.lrp_model.specs.Tokens.Token.{symbol_token};
-ghost use Rattle.lrp_text.specs.Lexemes.{IsLexeme, IsNamed, IsNumber, bad_symbol, text_read, behind_bytes, ended};
+ghost use Rattle.lrp_text.specs.Lexemes.{IsLexeme, IsNamed, IsNumberLexeme, bad_symbol, text_read, behind_bytes, ended};
 
 use crate::bytes::{behind_name, is_digit, is_forbidden, is_letter, number};
 use crate::lexemes::Lexeme;
@@ -74,7 +74,7 @@ fn name(bytes: &[u8]) -> (Lexeme, &[u8])
 
 // The number that digits make, and what stands behind it.
 fn limited_number(bytes: &[u8]) -> (Lexeme, &[u8])
-    ensures lexeme { IsNumber result.0 (value_from 0 (run is_digit_byte bytes.now)) }
+    ensures lexeme { IsNumberLexeme result.0 (value_from 0 (run is_digit_byte bytes.now)) }
     ensures rest { result.1.now ≡ behind_run is_digit_byte bytes.now }
 {
     let (value, rest) = number(bytes);

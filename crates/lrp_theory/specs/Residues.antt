@@ -1,5 +1,5 @@
 -- Numbers of a residue, and bounds that are tight for residues.
-use Rattle.std.specs.Prelude.{ℕ, ℤ, ◌<◌, ◌≤ℤ◌, ◌-ℤ◌, Option, Some, None}
+use Rattle.std.specs.Prelude.{ℕ, ℤ, zero, suc, pos, negsuc, ◌*◌, ◌-◌, ◌<◌, ◌≤ℤ◌, ◌-ℤ◌, Option, Some, None}
 use Rattle.lrp_theory.specs.Divides.{Divides, IsMember}
 
 -- the bound, where there is one, has the residue w modulo k
@@ -20,3 +20,9 @@ pub record IsFloor (k r x f : ℤ) : Type 0 where
 -- each node below n has a number of its residue
 abbrev pub HaveResidues : ℕ → ℤ → (ℕ → ℤ) → (ℕ → ℤ) → Type 0
 HaveResidues n k r x = (i : ℕ) → i < n → IsMember (r i) k (x i)
+
+-- the place in the order 0, 1, -1, 2, -2 and so on
+abbrev pub rank : ℤ → ℕ
+rank (pos zero) = 0
+rank (pos (suc n)) = 2 * suc n - 1
+rank (negsuc n) = 2 * suc n

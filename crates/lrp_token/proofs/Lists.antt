@@ -7,7 +7,7 @@ use Rattle.std.proofs.lemmas.List.Elements.{All-from_recursion}
 use mathlib.Core.List.{map-append}
 use Rattle.lrp_model.specs.Printed.{joined_by}
 use Rattle.lrp_model.proofs.Logic.{all_append}
-use Rattle.lrp_token.specs.Parts.{IsListOf, Spells}
+use Rattle.lrp_token.specs.Parts.{IsListOf, IsSpelling}
 
 -- ---- bytes that a list lacks
 
@@ -40,7 +40,7 @@ joined_pieces f (a ∷ []) = refl
 joined_pieces f (a ∷ b ∷ all) = ap (λ z. f a ++ 44 ∷ z) (joined_pieces f (b ∷ all))
 
 -- an element of a list that is spelled out
-at_map : {A : Type 0} (P : A → Type 0) (f : A → List ℕ) (all : List A) → AllByRecursion P all → (n : ℕ) (part : List ℕ) → n < length (map f all) → part ≡ get_or (map f all) n part → (a : A) × Spells P f part a
+at_map : {A : Type 0} (P : A → Type 0) (f : A → List ℕ) (all : List A) → AllByRecursion P all → (n : ℕ) (part : List ℕ) → n < length (map f all) → part ≡ get_or (map f all) n part → (a : A) × IsSpelling P f part a
 at_map P f [] h n part lt e = absurd (omega arith)
 at_map P f (a ∷ all) h zero part lt e = (a, record { fits = h.0; spelled = e })
 at_map P f (a ∷ all) h (suc n) part lt e = at_map P f all h.1 n part (omega arith) e
@@ -53,7 +53,7 @@ module _ {A : Type 0} (P : A → Type 0) (f : A → List ℕ) (free : (a : A) �
       ∙ ap (λ z. f a ∷ z) (pieces_of b all h.1)
 
   -- where a piece of a text spells nothing, the text spells no list
-  pub no_list : (text : List ℕ) → (text ≡ [] → ⊥) → (n : ℕ) (part : List ℕ) → n < length (slice_split is_comma text) → part ≡ get_or (slice_split is_comma text) n part → ((a : A) → Spells P f part a → ⊥) → (all : List A) → IsListOf P f text all → ⊥
+  pub no_list : (text : List ℕ) → (text ≡ [] → ⊥) → (n : ℕ) (part : List ℕ) → n < length (slice_split is_comma text) → part ≡ get_or (slice_split is_comma text) n part → ((a : A) → IsSpelling P f part a → ⊥) → (all : List A) → IsListOf P f text all → ⊥
   no_list text some n part lt e none [] h = some h.spelled
   no_list text some n part lt e none (a ∷ all) h =
       let pieces : slice_split is_comma text ≡ map f (a ∷ all) = ap (slice_split is_comma) h.spelled ∙ pieces_of a all h.fit in

@@ -7,7 +7,7 @@ use Rattle.std.specs.Str.Parse.{ParsesSigned, digits_value}
 use Rattle.std.specs.Int.{IsInRange}
 use Rattle.std.proofs.lemmas.Fmt.{digits_decimal, parse-signed_decimal}
 use Rattle.std.proofs.lemmas.Str.Parse.{IsNumeralModel, numerals_by_value, tells_by_index}
-use Rattle.lrp_token.specs.Parts.{IsSmall, Spells}
+use Rattle.lrp_token.specs.Parts.{IsSmall, IsSpelling}
 use Rattle.lrp_token.proofs.Lists.{Lacks}
 
 -- digits by their places
@@ -31,7 +31,7 @@ number_lacks c lt ne (negsuc n) h = (ne, decimal_lacks c (suc n) lt (omega (arit
 -- ---- what is parsed
 
 -- the integer that a text spells is what `parse` gives
-pub parsed : {E : Type 0} (text : List ℕ) (r : Result ℤ E) (x : ℤ) → ParsesSigned w64 10 text r → Spells IsSmall signed_decimal text x → r ≡ Ok x
+pub parsed : {E : Type 0} (text : List ℕ) (r : Result ℤ E) (x : ℤ) → ParsesSigned w64 10 text r → IsSpelling IsSmall signed_decimal text x → r ≡ Ok x
 parsed text r (pos n) h s = parse-signed_decimal w64 (pos n) text r (omega (arith, s.fits)) (omega (arith, s.fits)) s.spelled h
 parsed text r (negsuc n) h s = parse-signed_decimal w64 (negsuc n) text r (omega (arith, s.fits)) (omega (arith, s.fits)) s.spelled h
 

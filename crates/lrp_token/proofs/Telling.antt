@@ -8,7 +8,7 @@ use Rattle.lrp_model.proofs.TokenLaws.{one_token}
 use Rattle.lrp_token.specs.declared.resume.Resume.{Resume}
 use Rattle.lrp_token.specs.declared.resume.TokenFault.{TokenFault}
 use Rattle.lrp_token.specs.declared.resume.TokenFault.TheVariants.{Form, Shape as OtherShape, Memory}
-use Rattle.lrp_token.specs.Parts.{IsRead}
+use Rattle.lrp_token.specs.Parts.{IsPartRead}
 use Rattle.lrp_token.specs.Reading.{HasCounts, Tells}
 use Rattle.lrp_token.proofs.Refusals.{same_err}
 
@@ -16,13 +16,13 @@ use Rattle.lrp_token.proofs.Refusals.{same_err}
 abbrev pub IsResume : List ℕ → Resume → Type 0
 IsResume text resume = IsToken text resume.digest resume.tuple.times resume.tuple.texts
 
-told : (text : List ℕ) (shape : Shape) (e : TokenFault) → IsRead {A = Resume} (IsResume text) (Err e) → Tells text shape (Err e)
+told : (text : List ℕ) (shape : Shape) (e : TokenFault) → IsPartRead {A = Resume} (IsResume text) (Err e) → Tells text shape (Err e)
 told text shape Form h = λ digest times texts t. h (record { tuple = record { times = times; texts = texts }; digest = digest }) t
 told text shape OtherShape h = absurd h
 told text shape Memory h = tt
 
 -- a text that is not read is told of
-pub told_err : (text : List ℕ) (shape : Shape) (r : Result Resume TokenFault) (e : TokenFault) → IsErrAnd r (λ x. x ≡ e) → IsRead {A = Resume} (IsResume text) (Err e) → Tells text shape r
+pub told_err : (text : List ℕ) (shape : Shape) (r : Result Resume TokenFault) (e : TokenFault) → IsErrAnd r (λ x. x ≡ e) → IsPartRead {A = Resume} (IsResume text) (Err e) → Tells text shape r
 told_err text shape r e h k = subst (Tells text shape) (sym (same_err r e h)) (told text shape e k)
 
 module _ (text : List ℕ) (shape : Shape) (digest : Option (List ℕ)) (times : List ℤ) (texts : List Text) (token : IsToken text digest times texts) where

@@ -3,25 +3,25 @@ use Rattle.std.specs.Prelude.{◌≡◌, ◌<◌, ◌≤◌, ◌++◌, ℕ, ℤ,
 use Rattle.std.specs.List.{AllByRecursion}
 use Rattle.lrp_model.specs.Texts.{Text}
 use Rattle.lrp_model.specs.DataTexts.{IsDataText}
-use Rattle.lrp_model.specs.Lexing.{limit}
+use Rattle.lrp_model.specs.Lexing.{greatest_number}
 use Rattle.lrp_model.specs.Printed.{joined_by}
 use Rattle.lrp_model.specs.PrintedPages.{hex, tuple_text, IsDigest}
 use Rattle.lrp_token.specs.declared.resume.TokenFault.{TokenFault}
 use Rattle.lrp_token.specs.declared.resume.TokenFault.TheVariants.{Form, Shape, Memory}
 
 -- what is read is so; of a text that is refused for its form nothing is so; no part has a shape; memory may be refused
-abbrev pub IsRead : {A : Type 0} → (A → Type 0) → Result A TokenFault → Type 0
-IsRead {A} Is (Ok a) = Is a
-IsRead {A} Is (Err Form) = (a : A) → Is a → ⊥
-IsRead {A} Is (Err Shape) = ⊥
-IsRead {A} Is (Err Memory) = Unit {0}
+abbrev pub IsPartRead : {A : Type 0} → (A → Type 0) → Result A TokenFault → Type 0
+IsPartRead {A} Is (Ok a) = Is a
+IsPartRead {A} Is (Err Form) = (a : A) → Is a → ⊥
+IsPartRead {A} Is (Err Shape) = ⊥
+IsPartRead {A} Is (Err Memory) = Unit {0}
 
 -- a number that a token may have
 abbrev pub IsSmall : ℤ → Type 0
-IsSmall x = nat_abs x ≤ limit
+IsSmall x = nat_abs x ≤ greatest_number
 
 -- the text is that of this value, which is one that a token may have
-pub record Spells {A : Type 0} (Fits : A → Type 0) (spelling : A → List ℕ) (text : List ℕ) (value : A) : Type 0 where
+pub record IsSpelling {A : Type 0} (Fits : A → Type 0) (spelling : A → List ℕ) (text : List ℕ) (value : A) : Type 0 where
   pub fits : Fits value
   pub spelled : text ≡ spelling value
 

@@ -1,20 +1,14 @@
 -- The times and texts of a spot, and its token.
-use Rattle.std.specs.Prelude.{ℕ, ℤ, List, [], Some, take, map, slice_index_or}
+use Rattle.std.specs.Prelude.{ℕ, ℤ, List, [], Some, take}
 use Rattle.lrp_model.specs.Texts.{Text}
 use Rattle.lrp_model.specs.PrintedPages.{token_text}
 use Rattle.lrp_model.specs.declared.tuples.Shape.{Shape}
 use Rattle.lrp_model.specs.declared.tuples.Spot.{Spot}
+use Rattle.lrp_model.specs.Tuples.{texts_at}
 
 -- the times in the shape's places
 abbrev pub times_in : Shape → Spot → List ℤ
 times_in shape spot = take shape.times spot.times
-
--- the text of a domain by its number
-abbrev pub text_at : List Text → ℕ → Text
-text_at domain number = slice_index_or domain number []
-
-abbrev pub texts_at : List Text → List ℕ → List Text
-texts_at domain numbers = map (text_at domain) numbers
 
 -- the texts of the numbers in the shape's places
 abbrev pub texts_in : Shape → List Text → Spot → List Text

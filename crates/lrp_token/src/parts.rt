@@ -3,7 +3,7 @@ ghost use Rattle.std.specs.Prelude.{◌≡◌, ◌↔◌, ℕ, ℤ, List, IsTrue
 ghost use Rattle.std.specs.Fmt.{signed_decimal};
 ghost use Rattle.lrp_model.specs.PrintedPages.{IsDigest, hex, text_part};
 ghost use Rattle.lrp_model.specs.DataTexts.{IsDataText};
-ghost use Rattle.lrp_token.specs.Parts.{IsRead, IsSmall, Spells};
+ghost use Rattle.lrp_token.specs.Parts.{IsPartRead, IsSmall, IsSpelling};
 
 use crate::TokenFault;
 use crate::digits::{MOST_BYTES, decode};
@@ -14,7 +14,7 @@ use std::str::from_utf8;
 
 /// The integer that a text spells as integers are written, where its magnitude is at most 2^62.
 pub(crate) fn time_of(text: &str) -> Option<i64>
-    ensures { MatchOption result ((x : ℤ) → Spells IsSmall signed_decimal text.now x → ⊥) (Spells IsSmall signed_decimal text.now) }
+    ensures { MatchOption result ((x : ℤ) → IsSpelling IsSmall signed_decimal text.now x → ⊥) (IsSpelling IsSmall signed_decimal text.now) }
 {
     let Ok(time) = text.parse::<i64>() else {
         return None;
@@ -35,7 +35,7 @@ fn is_written(value: i64, text: &str) -> bool
 
 /// The data text that a part spells: `x`, and two lower-case hex digits for each of its bytes.
 pub(crate) fn text_of(alloc: Global, part: &str) -> Result<DataText, TokenFault>
-    ensures { IsRead (Spells IsDataText text_part part.now) result }
+    ensures { IsPartRead (IsSpelling IsDataText text_part part.now) result }
 {
     let Some(digits) = part.strip_prefix('x') else {
         return Err(TokenFault::Form);
@@ -54,7 +54,7 @@ pub(crate) fn text_of(alloc: Global, part: &str) -> Result<DataText, TokenFault>
 
 // The data text of some bytes.
 fn data_text(alloc: Global, bytes: &[u8]) -> Result<DataText, TokenFault>
-    ensures { IsRead (λ t. IsDataText t × (t ≡ bytes.now)) result }
+    ensures { IsPartRead (λ t. IsDataText t × (t ≡ bytes.now)) result }
 {
     match from_utf8(bytes) {
         Ok(text) if DataText::fits(text) => Ok(DataText::new(alloc, text)?),
@@ -64,7 +64,7 @@ fn data_text(alloc: Global, bytes: &[u8]) -> Result<DataText, TokenFault>
 
 /// The digest that 64 lower-case hex digits spell.
 pub(crate) fn digest_of(digits: &str) -> Option<[u8; 32]>
-    ensures { MatchOption result ((digest : List ℕ) → Spells IsDigest hex digits.now digest → ⊥) (Spells IsDigest hex digits.now) }
+    ensures { MatchOption result ((digest : List ℕ) → IsSpelling IsDigest hex digits.now digest → ⊥) (IsSpelling IsDigest hex digits.now) }
 {
     if digits.len() != 64 {
         return None;

@@ -4,7 +4,7 @@ ghost use Rattle.std.specs.Fmt.{signed_decimal};
 ghost use Rattle.lrp_model.specs.Texts.{Text};
 ghost use Rattle.lrp_model.specs.DataTexts.{IsDataText};
 ghost use Rattle.lrp_model.specs.PrintedPages.{IsToken, text_part};
-ghost use Rattle.lrp_token.specs.Parts.{IsRead, HasDigest, IsListOf, IsSmall, IsTuple};
+ghost use Rattle.lrp_token.specs.Parts.{IsPartRead, HasDigest, IsListOf, IsSmall, IsTuple};
 ghost use Rattle.lrp_token.specs.Reading.{HasCounts, IsNoToken, Tells};
 
 use crate::parts::{digest_of, text_of, time_of};
@@ -43,7 +43,7 @@ fn has_counts(tuple: &Tuple, shape: Shape) -> bool
 
 // What a token of any shape spells.
 fn read_any(alloc: Global, text: &str) -> Result<Resume, TokenFault>
-    ensures { IsRead (λ r. IsToken text.now r.digest r.tuple.times r.tuple.texts) result }
+    ensures { IsPartRead (λ r. IsToken text.now r.digest r.tuple.times r.tuple.texts) result }
 {
     let Some((version, rest)) = text.split_once('/') else {
         return Err(TokenFault::Form);
@@ -57,7 +57,7 @@ fn read_any(alloc: Global, text: &str) -> Result<Resume, TokenFault>
 
 // A tuple alone.
 fn read_alone(alloc: Global, text: &str) -> Result<Resume, TokenFault>
-    ensures { IsRead (λ r. (r.digest ≡ None) × IsTuple text.now r.tuple.times r.tuple.texts) result }
+    ensures { IsPartRead (λ r. (r.digest ≡ None) × IsTuple text.now r.tuple.times r.tuple.texts) result }
 {
     let tuple = read_tuple(alloc, text)?;
     Ok(Resume {
@@ -68,7 +68,7 @@ fn read_alone(alloc: Global, text: &str) -> Result<Resume, TokenFault>
 
 // A digest, a slash, and a tuple.
 fn read_both(alloc: Global, text: &str) -> Result<Resume, TokenFault>
-    ensures { IsRead (λ r. HasDigest text.now r.digest r.tuple.times r.tuple.texts) result }
+    ensures { IsPartRead (λ r. HasDigest text.now r.digest r.tuple.times r.tuple.texts) result }
 {
     let Some((digits, rest)) = text.split_once('/') else {
         return Err(TokenFault::Form);
@@ -85,7 +85,7 @@ fn read_both(alloc: Global, text: &str) -> Result<Resume, TokenFault>
 
 // Times, a slash, and texts.
 fn read_tuple(alloc: Global, text: &str) -> Result<Tuple, TokenFault>
-    ensures { IsRead (λ t. IsTuple text.now t.times t.texts) result }
+    ensures { IsPartRead (λ t. IsTuple text.now t.times t.texts) result }
 {
     let Some((times, texts)) = text.split_once('/') else {
         return Err(TokenFault::Form);
@@ -97,7 +97,7 @@ fn read_tuple(alloc: Global, text: &str) -> Result<Tuple, TokenFault>
 
 // Times with commas between.
 fn read_times(alloc: Global, text: &str) -> Result<List<i64>, TokenFault>
-    ensures { IsRead (IsListOf IsSmall signed_decimal text.now) result }
+    ensures { IsPartRead (IsListOf IsSmall signed_decimal text.now) result }
 {
     let mut times = List::new(alloc);
     if text.is_empty() {
@@ -114,7 +114,7 @@ fn read_times(alloc: Global, text: &str) -> Result<List<i64>, TokenFault>
 
 // Data texts with commas between.
 fn read_texts(alloc: Global, text: &str) -> Result<List<DataText>, TokenFault>
-    ensures { IsRead (IsListOf IsDataText text_part text.now) result }
+    ensures { IsPartRead (IsListOf IsDataText text_part text.now) result }
 {
     let mut texts = List::new(alloc);
     if text.is_empty() {

@@ -7,14 +7,14 @@ use Rattle.lrp_theory.proofs.Through.{AtMost-more}
 use Rattle.lrp_model.proofs.Decided.{cons_cases, contains_first, contains_later, contains_none}
 use Rattle.lrp_model.specs.Texts.{Text}
 use Rattle.lrp_model.specs.Formulas.{Question}
-use Rattle.lrp_model.specs.Pages.{IsDue, IsPage, Tuple}
+use Rattle.lrp_model.specs.Pages.{IsAhead, IsPage, Tuple}
 use Rattle.lrp_model.specs.PrintedPages.{plain_line}
 use Rattle.lrp_model.specs.Plans.{plan, query_reach, scaled_reach, time_columns}
 use Rattle.lrp_model.specs.Steps.{PlanStep, step_at}
 use Rattle.lrp_model.specs.declared.tuples.Cell.{Cell}
 use Rattle.lrp_model.specs.declared.relations.Relation.{Relation}
 use Rattle.lrp_model.specs.declared.tuples.Spot.{Spot}
-use Rattle.lrp_plan_laws.specs.Rising.{Rises, period_at}
+use Rattle.lrp_plan_laws.specs.Rising.{IsRising, period_at}
 use Rattle.lrp_zone.specs.Zones.{columns_of}
 use Rattle.lrp_store.specs.Least.{HasRoom, IsLeastSpot, StandsFor}
 use Rattle.lrp_store.specs.Stores.{IsStore, StoreView, tables_at, zone_of}
@@ -22,7 +22,7 @@ use Rattle.lrp_store.specs.Tables.{AreTexts, InAnswer}
 use Rattle.lrp_store.specs.declared.answer.Answer.{Answer}
 use Rattle.lrp_list.proofs.HeadOrder.{spot_tuple_is}
 use Rattle.lrp_eval.specs.Answered.{IsAnswerOf}
-use Rattle.lrp_top.specs.Known.{HasTexts}
+use Rattle.lrp_top.specs.Known.{HasKnownTexts}
 use Rattle.lrp_top.specs.Outputs.{spot_text}
 use Rattle.lrp_top.specs.Telling.{TellsWitness}
 
@@ -59,7 +59,7 @@ fewer (suc n) (x ∷ xs) = let r : length (take n xs) ≤ n = fewer n xs in omeg
 -- ---- room for the least answer
 
 -- the last step of a plan is no wider than its reach, since each step is
-pub last_wide : (db : List Relation) (q : Question) (Is : PlanStep → Type 0) → ((s : ℕ) (step : PlanStep) → step_at (plan db q) s ≡ Some step → Rises db q s step) → MatchOption (step_at (plan db q) (length (plan db q))) ⊥ Is
+pub last_wide : (db : List Relation) (q : Question) (Is : PlanStep → Type 0) → ((s : ℕ) (step : PlanStep) → step_at (plan db q) s ≡ Some step → IsRising db q s step) → MatchOption (step_at (plan db q) (length (plan db q))) ⊥ Is
     → period_at (plan db q) (length (plan db q)) ≤ query_reach db q
 last_wide db q Is rises last = by (step_at (plan db q) (length (plan db q))) refl last
   where
@@ -124,23 +124,23 @@ texts_below domain (n ∷ ns) [] h = absurd h
 texts_below domain (n ∷ ns) (t ∷ ts) h = (below domain n t h.0, texts_below domain ns ts h.1)
 
 -- a spot that stands for a tuple has numbers of the domain
-pub texts_known : (a : Answer) (spot : Spot) (tuple : Tuple) → StandsFor a.store.shape a.domain spot tuple → HasTexts a spot
+pub texts_known : (a : Answer) (spot : Spot) (tuple : Tuple) → StandsFor a.store.shape a.domain spot tuple → HasKnownTexts a spot
 texts_known a spot tuple s = texts_below a.domain (take a.store.shape.texts spot.texts) _ s.texts
 
-pub known_least : (a : Answer) (o : Option Spot) → IfSome o (λ spot. IsLeastSpot a.head.columns a.domain a.store spot) → IfSome o (HasTexts a)
+pub known_least : (a : Answer) (o : Option Spot) → IfSome o (λ spot. IsLeastSpot a.head.columns a.domain a.store spot) → IfSome o (HasKnownTexts a)
 known_least a None h = tt
 known_least a (Some spot) h = texts_known a spot h.tuple h.stands
 
 -- ---- pages
 
 module _ (P Q : Tuple → Type 0) (same : (t : Tuple) → P t ↔ Q t) (from to : ℤ) (after : Option Tuple) where
-  due_to : (t : Tuple) → IsDue P from to after t → IsDue Q from to after t
+  due_to : (t : Tuple) → IsAhead P from to after t → IsAhead Q from to after t
   due_to t d = record { is = (same t).0 d.is; inside = d.inside; later = d.later }
 
-  due_from : (t : Tuple) → IsDue Q from to after t → IsDue P from to after t
+  due_from : (t : Tuple) → IsAhead Q from to after t → IsAhead P from to after t
   due_from t d = record { is = (same t).1 d.is; inside = d.inside; later = d.later }
 
-  all_due : (ts : List Tuple) → AllByRecursion (IsDue P from to after) ts → AllByRecursion (IsDue Q from to after) ts
+  all_due : (ts : List Tuple) → AllByRecursion (IsAhead P from to after) ts → AllByRecursion (IsAhead Q from to after) ts
   all_due [] h = tt
   all_due (t ∷ ts) h = (due_to t h.0, all_due ts h.1)
 

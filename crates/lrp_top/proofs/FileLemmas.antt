@@ -6,8 +6,8 @@ use Rattle.lrp_io.specs.declared.shelf.File.{File}
 use Rattle.lrp_model.specs.Formulas.{Question}
 use Rattle.lrp_model.specs.Texts.{Identifier}
 use Rattle.lrp_model.specs.declared.relations.Relation.{Relation}
-use Rattle.lrp_top.specs.Due.{IsAsked, IsAskedOf, IsRead, IsReadOf}
-use Rattle.lrp_top.specs.Seen.{Seen, AreBytesOf, IsOverrun}
+use Rattle.lrp_top.specs.Due.{IsQueryRead, IsQueryReadOf, IsDatabaseRead, IsDatabaseReadOf}
+use Rattle.lrp_top.specs.Seen.{ShelfSeen, AreBytesOf, IsOverrun}
 use Rattle.lrp_top.specs.Sources.{Source}
 use Rattle.lrp_top.specs.declared.outcome.Refusal.{Refusal}
 use Rattle.lrp_top.specs.declared.outcome.Refusal.TheVariants.{ReadDatabase, LongDatabase, ReadQuery, LongQuery, Memory}
@@ -40,33 +40,33 @@ long_bytes None name h = let r = of_length 16777217 in (r.0, λ held e. absurd (
 long_bytes (Some held) name h = (content_of held name, (λ other e. ap (λ k. content_of k name) (same_held held other e)), h held refl)
 
 -- what is so of bytes, whatever is seen, is so of those of a file
-pub read_of : (seen : Seen) (name : Identifier) (bytes : List ℕ) (result : Result (Source (List Relation)) Refusal) → AreBytesOf seen name bytes → ((s : Seen) (n : Identifier) → IsReadOf s n bytes result) → IsRead seen name result
+pub read_of : (seen : ShelfSeen) (name : Identifier) (bytes : List ℕ) (result : Result (Source (List Relation)) Refusal) → AreBytesOf seen name bytes → ((s : ShelfSeen) (n : Identifier) → IsDatabaseReadOf s n bytes result) → IsDatabaseRead seen name result
 read_of seen name bytes result told each = record { bytes = bytes; told = told; is = each seen name }
 
-pub asked_of : (db : List Relation) (seen : Seen) (name : Identifier) (bytes : List ℕ) (result : Result (Source Question) Refusal) → AreBytesOf seen name bytes → ((s : Seen) (n : Identifier) → IsAskedOf db s n bytes result) → IsAsked db seen name result
+pub asked_of : (db : List Relation) (seen : ShelfSeen) (name : Identifier) (bytes : List ℕ) (result : Result (Source Question) Refusal) → AreBytesOf seen name bytes → ((s : ShelfSeen) (n : Identifier) → IsQueryReadOf db s n bytes result) → IsQueryRead db seen name result
 asked_of db seen name bytes result told each = record { bytes = bytes; told = told; is = each seen name }
 
 -- a database or a query that is too long
-pub long_database : (seen : Seen) (name : Identifier) → ((held : List File) → seen.files ≡ Some held → 16777216 < length (content_of held name)) → seen.may_be name ≡ true → 16777216 < seen.given → IsRead seen name (Err LongDatabase)
+pub long_database : (seen : ShelfSeen) (name : Identifier) → ((held : List File) → seen.files ≡ Some held → 16777216 < length (content_of held name)) → seen.may_be name ≡ true → 16777216 < seen.given → IsDatabaseRead seen name (Err LongDatabase)
 long_database seen name h named many = let l = long_bytes seen.files name h in record { bytes = l.0; told = l.1; is = (l.2, record { named = named; many = many }) }
 
-pub long_query : (relations : List Relation) (seen : Seen) (name : Identifier) → ((held : List File) → seen.files ≡ Some held → 16777216 < length (content_of held name)) → seen.may_be name ≡ true → 16777216 < seen.given → IsAsked relations seen name (Err LongQuery)
+pub long_query : (relations : List Relation) (seen : ShelfSeen) (name : Identifier) → ((held : List File) → seen.files ≡ Some held → 16777216 < length (content_of held name)) → seen.may_be name ≡ true → 16777216 < seen.given → IsQueryRead relations seen name (Err LongQuery)
 long_query relations seen name h named many = let l = long_bytes seen.files name h in record { bytes = l.0; told = l.1; is = (l.2, record { named = named; many = many }) }
 
 -- a file that was not read, and want of memory
-pub unread_database : (seen : Seen) (name : Identifier) → Rose (seen.faults_before name) (seen.faults name) → IsRead seen name (Err ReadDatabase)
+pub unread_database : (seen : ShelfSeen) (name : Identifier) → Rose (seen.faults_before name) (seen.faults name) → IsDatabaseRead seen name (Err ReadDatabase)
 unread_database seen name rose = let b = some_bytes seen.files name in record { bytes = b.0; told = b.1; is = rose }
 
-pub no_memory : (seen : Seen) (name : Identifier) → IsRead seen name (Err Memory)
+pub no_memory : (seen : ShelfSeen) (name : Identifier) → IsDatabaseRead seen name (Err Memory)
 no_memory seen name = let b = some_bytes seen.files name in record { bytes = b.0; told = b.1; is = tt }
 
 -- the same of a query
-pub unread_query : (relations : List Relation) (seen : Seen) (name : Identifier) → Rose (seen.faults_before name) (seen.faults name) → IsAsked relations seen name (Err ReadQuery)
+pub unread_query : (relations : List Relation) (seen : ShelfSeen) (name : Identifier) → Rose (seen.faults_before name) (seen.faults name) → IsQueryRead relations seen name (Err ReadQuery)
 unread_query relations seen name rose = let b = some_bytes seen.files name in record { bytes = b.0; told = b.1; is = rose }
 
-pub no_query_memory : (relations : List Relation) (seen : Seen) (name : Identifier) → IsAsked relations seen name (Err Memory)
+pub no_query_memory : (relations : List Relation) (seen : ShelfSeen) (name : Identifier) → IsQueryRead relations seen name (Err Memory)
 no_query_memory relations seen name = let b = some_bytes seen.files name in record { bytes = b.0; told = b.1; is = tt }
 
 -- a file whose given bytes are few is not overrun
-pub few_given : {P : Type 0} (seen : Seen) (name : Identifier) → IsOverrun seen name → seen.given ≤ 16777216 → P
+pub few_given : {P : Type 0} (seen : ShelfSeen) (name : Identifier) → IsOverrun seen name → seen.given ≤ 16777216 → P
 few_given seen name over few = let many : 16777216 < seen.given = over.many in absurd (omega arith)

@@ -2,7 +2,7 @@
 use Rattle.std.proofs.Common.{◌≡◌, ◌≢◌, ◌≤◌, suc, Bool, true, false, cond, List, [], ◌∷◌, ◌++◌, length, map, filter, Contains, refl, ap, subst}
 use Rattle.std.specs.List.{AllByRecursion}
 use Rattle.std.proofs.lemmas.List.Elements.{Contains-append_left}
-use Rattle.lrp_model.specs.Texts.{Identifier}
+use Rattle.lrp_model.specs.Texts.{Identifier, AreDistinct}
 use Rattle.lrp_model.specs.Formulas.{Question}
 use Rattle.lrp_model.specs.Plans.{time_columns}
 use Rattle.lrp_model.specs.Satisfaction.{HaveNames}
@@ -13,7 +13,6 @@ use Rattle.lrp_model.specs.declared.relations.Sort.TheVariants.{Time, Data, Name
 use Rattle.lrp_model.specs.declared.relations.Column.{Column}
 use Rattle.lrp_model.specs.declared.relations.Relation.{Relation}
 use Rattle.lrp_model.proofs.Decided.{contains_first, contains_later}
-use Rattle.lrp_plan_laws.specs.Scopes.{AreDifferent}
 use Rattle.lrp_plan_laws.specs.Settled.{IsSettled}
 use Rattle.lrp_top.specs.Resuming.{data_columns}
 
@@ -26,11 +25,11 @@ module _ (p : Column → Bool) where
       by true rest = (h.0, rest)
       by false rest = rest
 
-  names_differ : (cs : List Column) → HaveNames cs → AreDifferent (map (λ c. c.name) (filter p cs))
+  names_differ : (cs : List Column) → HaveNames cs → AreDistinct (map (λ c. c.name) (filter p cs))
   names_differ [] h = tt
   names_differ (c ∷ cs) h = by (p c) (names_differ cs h.1)
     where
-      by : (b : Bool) → AreDifferent (map (λ d. d.name) (filter p cs)) → AreDifferent (map (λ d. d.name) (cond b (c ∷ filter p cs) (filter p cs)))
+      by : (b : Bool) → AreDistinct (map (λ d. d.name) (filter p cs)) → AreDistinct (map (λ d. d.name) (cond b (c ∷ filter p cs) (filter p cs)))
       by true rest = (names_apart c.name cs h.0, rest)
       by false rest = rest
 

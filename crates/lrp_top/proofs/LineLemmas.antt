@@ -9,7 +9,7 @@ use Rattle.lrp_io.specs.Causes.{Rose}
 use Rattle.lrp_model.specs.declared.tokens.Place.{Place}
 use Rattle.lrp_print.proofs.Lines.{item_front}
 use Rattle.lrp_top.specs.Outcomes.{Outcome, cells_line, fault_line, refused_with, status_of, written_of, Ends}
-use Rattle.lrp_top.specs.Seen.{Taken}
+use Rattle.lrp_top.specs.Seen.{SinkSeen}
 use Rattle.lrp_top.specs.declared.status.Status.{Status}
 use Rattle.lrp_top.specs.declared.status.Status.TheVariants as status
 use Rattle.lrp_top.specs.declared.outcome.Refusal.{Refusal}
@@ -58,7 +58,7 @@ not_write (Ok bytes) e = cc
 not_write (Err refusal) e = refused_whole refusal e
 
 -- a text that was written whole ends with its status
-pub ends_whole : (outcome : Outcome) (taken : Taken) (ended : Status) → taken.bytes ≡ appended taken.bytes_before (written_of outcome) → ended ≡ status_of outcome → Ends outcome taken ended
+pub ends_whole : (outcome : Outcome) (taken : SinkSeen) (ended : Status) → taken.bytes ≡ appended taken.bytes_before (written_of outcome) → ended ≡ status_of outcome → Ends outcome taken ended
 ends_whole outcome taken ended text own = record {
   whole = λ other. text;
   own_status = λ other. own;
@@ -67,7 +67,7 @@ ends_whole outcome taken ended text own = record {
 }
 
 -- a text of which a front was written ends with the status of a failed write
-pub ends_cut : (outcome : Outcome) (taken : Taken) → AppendsFront taken.bytes_before taken.bytes (written_of outcome) → Rose taken.faults_before taken.faults → Ends outcome taken status.Write
+pub ends_cut : (outcome : Outcome) (taken : SinkSeen) → AppendsFront taken.bytes_before taken.bytes (written_of outcome) → Rose taken.faults_before taken.faults → Ends outcome taken status.Write
 ends_cut outcome taken front rose = record {
   whole = λ other. absurd (other refl);
   own_status = λ other. absurd (other refl);

@@ -5,7 +5,7 @@ use Rattle.std.specs.Borrow.{Bor}
 use Rattle.std.specs.List.{AllByRecursion}
 use Rattle.std.proofs.lemmas.Int.{ints}
 use Rattle.std.proofs.lemmas.List.{length-map, length-take-le, map-append}
-use Rattle.lrp_model.specs.Lexing.{limit}
+use Rattle.lrp_model.specs.Lexing.{greatest_number}
 use Rattle.lrp_model.specs.Formulas.{Question}
 use Rattle.lrp_model.specs.Pages.{IsPage, Tuple, last_of}
 use Rattle.lrp_model.specs.Plans.{time_columns}
@@ -24,7 +24,7 @@ use Rattle.lrp_store.specs.declared.answer.Answer.{Answer}
 use Rattle.lrp_eval.specs.Answered.{IsAnswerOf}
 use Rattle.lrp_store.specs.Tables.{InAnswer}
 use Rattle.lrp_list.specs.Giving.{Gives, IsFirst}
-use Rattle.lrp_list.specs.Lines.{is_json, texts_at}
+use Rattle.lrp_list.specs.Lines.{is_json}
 use Rattle.lrp_list.specs.Listing.{AreEnds, HasNoneLeft, HasShapeOf, IsFirstLeft, IsLeft, WindowView, tuple_at, window_of}
 use Rattle.lrp_list.proofs.HeadOrder.{head_is}
 use Rattle.lrp_token.specs.Reading.{HasCounts}
@@ -35,6 +35,7 @@ use Rattle.lrp_top.specs.Resuming.{data_columns, shape_of}
 use Rattle.lrp_top.specs.Telling.{TellsPage}
 use Rattle.lrp_top.specs.declared.page.Page.{Page}
 use Rattle.lrp_top.proofs.Answered.{same_page, texts_known}
+use Rattle.lrp_model.specs.Tuples.{texts_at}
 
 -- ---- one more
 
@@ -68,18 +69,18 @@ none_left w v p e vw ep none t left = none t (subst (λ o. IsLeft v o t) ep (sub
 
 -- what a listing gives up to a limit, with the flag that something is left, is a page
 abbrev pub AreGivenPages : Type 0
-AreGivenPages = (w : WindowView) (after end : Option Tuple) (limit : ℕ) (page : List Tuple) (more : Bool) → Gives w after page end → length page ≤ limit → (IsTrue more → length page ≡ limit) → (IsTrue more ↔ ((t : Tuple) × IsLeft w end t))
-    → IsPage (InAnswer w.columns w.domain w.store) w.from w.to after limit page more
+AreGivenPages = (w : WindowView) (after end : Option Tuple) (greatest_number : ℕ) (page : List Tuple) (more : Bool) → Gives w after page end → length page ≤ greatest_number → (IsTrue more → length page ≡ greatest_number) → (IsTrue more ↔ ((t : Tuple) × IsLeft w end t))
+    → IsPage (InAnswer w.columns w.domain w.store) w.from w.to after greatest_number page more
 
 -- what was given is a page
-pub page_given : AreGivenPages → (w v u : WindowView) (p after end : Option Tuple) (spots : List Spot) (limit : ℕ) (more : Bool) → v ≡ w → u ≡ v → p ≡ after → Gives v p (map (tuple_at v) spots) end → length spots ≤ limit
-    → ((t : Tuple) → IsLeft v end t → length spots ≡ limit) → (IsTrue more ↔ ((t : Tuple) × IsLeft u end t)) → IsPage (InAnswer w.columns w.domain w.store) w.from w.to after limit (map (tuple_at w) spots) more
-page_given page_is w v u p after end spots limit more vw uv pa g few full is =
+pub page_given : AreGivenPages → (w v u : WindowView) (p after end : Option Tuple) (spots : List Spot) (greatest_number : ℕ) (more : Bool) → v ≡ w → u ≡ v → p ≡ after → Gives v p (map (tuple_at v) spots) end → length spots ≤ greatest_number
+    → ((t : Tuple) → IsLeft v end t → length spots ≡ greatest_number) → (IsTrue more ↔ ((t : Tuple) × IsLeft u end t)) → IsPage (InAnswer w.columns w.domain w.store) w.from w.to after greatest_number (map (tuple_at w) spots) more
+page_given page_is w v u p after end spots greatest_number more vw uv pa g few full is =
     let n : length (map (tuple_at w) spots) ≡ length spots = length-map spots (tuple_at w) in
     let given : Gives w after (map (tuple_at w) spots) end = subst (λ (x : WindowView). Gives x after (map (tuple_at x) spots) end) vw (subst (λ o. Gives v o (map (tuple_at v) spots) end) pa g) in
     let left : IsTrue more ↔ ((t : Tuple) × IsLeft w end t) = subst (λ (x : WindowView). IsTrue more ↔ ((t : Tuple) × IsLeft x end t)) (uv ∙ vw) is in
-    let whole : (t : Tuple) → IsLeft w end t → length spots ≡ limit = subst (λ (x : WindowView). (t : Tuple) → IsLeft x end t → length spots ≡ limit) vw full in
-    page_is w after end limit (map (tuple_at w) spots) more given (omega arith) (λ m. let t = left.0 m in n ∙ whole t.0 t.1) left
+    let whole : (t : Tuple) → IsLeft w end t → length spots ≡ greatest_number = subst (λ (x : WindowView). (t : Tuple) → IsLeft x end t → length spots ≡ greatest_number) vw full in
+    page_is w after end greatest_number (map (tuple_at w) spots) more given (omega arith) (λ m. let t = left.0 m in n ∙ whole t.0 t.1) left
 
 -- an end of a window is its word
 pub word : (z : ℤ) → neg_ℤ (pos (2 ^ 62)) ≤ℤ z → z ≤ℤ pos (2 ^ 62) → to_z w64 (of_z w64 z) ≡ z
@@ -87,17 +88,17 @@ word z l h = omega (arith, ints)
 
 -- ---- what is known of spots in a window
 
-magnitude : (from to x : ℤ) → AreEnds from to → from ≤ℤ x → x ≤ℤ to → nat_abs x ≤ limit
-magnitude from to (pos n) e l h = let a : to ≤ℤ pos (2 ^ 62) = e.to_high in let r : n ≤ limit = omega (arith, ints) in r
-magnitude from to (negsuc n) e l h = let a : neg_ℤ (pos (2 ^ 62)) ≤ℤ from = e.from_low in let r : suc n ≤ limit = omega (arith, ints) in r
+magnitude : (from to x : ℤ) → AreEnds from to → from ≤ℤ x → x ≤ℤ to → nat_abs x ≤ greatest_number
+magnitude from to (pos n) e l h = let a : to ≤ℤ pos (2 ^ 62) = e.to_high in let r : n ≤ greatest_number = omega (arith, ints) in r
+magnitude from to (negsuc n) e l h = let a : neg_ℤ (pos (2 ^ 62)) ≤ℤ from = e.from_low in let r : suc n ≤ greatest_number = omega (arith, ints) in r
 
-magnitudes : (from to : ℤ) (xs : List ℤ) → AreEnds from to → AllByRecursion (λ x. (from ≤ℤ x) × (x ≤ℤ to)) xs → AllByRecursion (λ x. nat_abs x ≤ limit) xs
+magnitudes : (from to : ℤ) (xs : List ℤ) → AreEnds from to → AllByRecursion (λ x. (from ≤ℤ x) × (x ≤ℤ to)) xs → AllByRecursion (λ x. nat_abs x ≤ greatest_number) xs
 magnitudes from to [] e h = tt
 magnitudes from to (x ∷ xs) e h = (magnitude from to x e h.0.0 h.0.1, magnitudes from to xs e h.1)
 
 known_at : (a : Answer) (from to : ℤ) (spot : Spot) → AreEnds from to → IsStanding (window_of a from to) spot → IsKnown a spot
 known_at a from to spot e s =
-    let times : HasTimes a spot = subst (λ xs. AllByRecursion (λ x. nat_abs x ≤ limit) xs) (sym s.stands.times) (magnitudes from to (times_of (tuple_of a spot)) e s.inside) in
+    let times : HasTimes a spot = subst (λ xs. AllByRecursion (λ x. nat_abs x ≤ greatest_number) xs) (sym s.stands.times) (magnitudes from to (times_of (tuple_of a spot)) e s.inside) in
     ((texts_known a spot (tuple_of a spot) s.stands, times), (s.stands.times_padded.size, s.stands.texts_padded.size))
 
 pub known_all : (a : Answer) (from to : ℤ) (spots : List Spot) → AreEnds from to → AllByRecursion (IsStanding (window_of a from to)) spots → AllByRecursion (IsKnown a) spots
@@ -138,15 +139,15 @@ is_more files more last tuple e f = ap₂ (token_behind files) e f
 -- ---- the page that is told
 
 -- the page of the answers is the query's
-pub told_page : (db : List Relation) (q : Question) (cap : ℕ) (a : Answer) (from to : ℤ) (begins : List Column → Option Tuple) (limit : ℕ) (json : Bool) (files : List ℕ) (page : Page)
+pub told_page : (db : List Relation) (q : Question) (cap : ℕ) (a : Answer) (from to : ℤ) (begins : List Column → Option Tuple) (greatest_number : ℕ) (json : Bool) (files : List ℕ) (page : Page)
     → IsAnswerOf db q cap a → page.answer ≡ a → is_json page.form ≡ json → page.files ≡ files
-    → IsPage (InAnswer a.head.columns a.domain a.store) from to (begins a.head.columns) limit (map (tuple_of a) page.spots) page.more
-    → TellsPage db q from to (begins q.head) limit json files (page_text page)
-told_page db q cap a from to begins limit json files page is same form digest h = record {
+    → IsPage (InAnswer a.head.columns a.domain a.store) from to (begins a.head.columns) greatest_number (map (tuple_of a) page.spots) page.more
+    → TellsPage db q from to (begins q.head) greatest_number json files (page_text page)
+told_page db q cap a from to begins greatest_number json files page is same form digest h = record {
   page = map (tuple_of a) page.spots;
   more = page.more;
-  is = subst (λ columns. IsPage (IsAnswer db q) from to (begins columns) limit (map (tuple_of a) page.spots) page.more) is.head
-      (same_page (InAnswer a.head.columns a.domain a.store) (IsAnswer db q) is.answers from to (begins a.head.columns) limit (map (tuple_of a) page.spots) page.more h);
+  is = subst (λ columns. IsPage (IsAnswer db q) from to (begins columns) greatest_number (map (tuple_of a) page.spots) page.more) is.head
+      (same_page (InAnswer a.head.columns a.domain a.store) (IsAnswer db q) is.answers from to (begins a.head.columns) greatest_number (map (tuple_of a) page.spots) page.more h);
   spelled = ap (λ j. page_bytes j page.files (map (tuple_of page.answer) page.spots) page.more) form ∙ ap (λ d. page_bytes json d (map (tuple_of page.answer) page.spots) page.more) digest ∙ ap (λ b. page_bytes json files (map (tuple_of b) page.spots) page.more) same;
 }
 
@@ -174,21 +175,21 @@ some_shape a head None e h = tt
 some_shape a head (Some t) e h = same_shape a head t.now e h
 
 -- a tuple of a token has the shape
-pub token_shape : (shape : Shape) (t : ToldTuple) → HasCounts shape t.times t.texts → AllByRecursion (λ x. nat_abs x ≤ limit) t.times → HasShapeOf shape t
+pub token_shape : (shape : Shape) (t : ToldTuple) → HasCounts shape t.times t.texts → AllByRecursion (λ x. nat_abs x ≤ greatest_number) t.times → HasShapeOf shape t
 token_shape shape t c small = record { times = c.of_times; texts = c.of_texts; low = lows t.times small; high = highs t.times small }
   where
-    low : (x : ℤ) → nat_abs x ≤ limit → neg_ℤ (pos (2 ^ 62)) ≤ℤ x
+    low : (x : ℤ) → nat_abs x ≤ greatest_number → neg_ℤ (pos (2 ^ 62)) ≤ℤ x
     low (pos n) h = omega (arith, ints)
-    low (negsuc n) h = let k : suc n ≤ limit = h in omega (arith, ints)
+    low (negsuc n) h = let k : suc n ≤ greatest_number = h in omega (arith, ints)
 
-    high : (x : ℤ) → nat_abs x ≤ limit → x ≤ℤ pos (2 ^ 62)
-    high (pos n) h = let k : n ≤ limit = h in omega (arith, ints)
+    high : (x : ℤ) → nat_abs x ≤ greatest_number → x ≤ℤ pos (2 ^ 62)
+    high (pos n) h = let k : n ≤ greatest_number = h in omega (arith, ints)
     high (negsuc n) h = omega (arith, ints)
 
-    lows : (xs : List ℤ) → AllByRecursion (λ x. nat_abs x ≤ limit) xs → AllByRecursion (λ x. neg_ℤ (pos (2 ^ 62)) ≤ℤ x) xs
+    lows : (xs : List ℤ) → AllByRecursion (λ x. nat_abs x ≤ greatest_number) xs → AllByRecursion (λ x. neg_ℤ (pos (2 ^ 62)) ≤ℤ x) xs
     lows [] h = tt
     lows (x ∷ xs) h = (low x h.0, lows xs h.1)
 
-    highs : (xs : List ℤ) → AllByRecursion (λ x. nat_abs x ≤ limit) xs → AllByRecursion (λ x. x ≤ℤ pos (2 ^ 62)) xs
+    highs : (xs : List ℤ) → AllByRecursion (λ x. nat_abs x ≤ greatest_number) xs → AllByRecursion (λ x. x ≤ℤ pos (2 ^ 62)) xs
     highs [] h = tt
     highs (x ∷ xs) h = (high x h.0, highs xs h.1)

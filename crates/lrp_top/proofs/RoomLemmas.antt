@@ -7,24 +7,24 @@ use Rattle.lrp_theory.specs.Entries.{AtMost, entry}
 use Rattle.lrp_zone.specs.Zones.{columns_of}
 use Rattle.lrp_store.specs.Least.{HasRoom}
 use Rattle.lrp_store.specs.Stores.{StoreView, zone_of}
-use Rattle.lrp_top.specs.Rooms.{IsRoomy, greatest, greatest_in}
+use Rattle.lrp_top.specs.Rooms.{IsRoomy, greatest_share, greatest_in}
 
 -- so many of the greatest number are at most 2^62
-few_greatest : (n period : ℕ) → n * greatest n period ≤ 2 ^ 62
+few_greatest : (n period : ℕ) → n * greatest_share n period ≤ 2 ^ 62
 few_greatest zero period = omega arith
 few_greatest (suc n) period = mul-div-le (2 ^ 62) (suc n)
 
 -- each number of which so many are at most 2^62 is below it
-below_greatest : (n period h : ℕ) → suc n * h ≤ 2 ^ 62 → h ≤ greatest (suc n) period
+below_greatest : (n period h : ℕ) → suc n * h ≤ 2 ^ 62 → h ≤ greatest_share (suc n) period
 below_greatest n period h room = (le-div_iff_mul-le {k = suc n} {x = h} {y = 2 ^ 62} (omega arith)).1 (let r : suc n * h ≤ 2 ^ 62 = room in let e : h * suc n ≡ suc n * h = omega arith in omega arith)
 
-period_below : (n period h : ℕ) → n * h ≤ 2 ^ 62 → period ≤ h → period ≤ greatest n period
+period_below : (n period h : ℕ) → n * h ≤ 2 ^ 62 → period ≤ h → period ≤ greatest_share n period
 period_below zero period h room low = omega arith
-period_below (suc n) period h room low = let b : h ≤ greatest (suc n) period = below_greatest n period h room in omega arith
+period_below (suc n) period h room low = let b : h ≤ greatest_share (suc n) period = below_greatest n period h room in omega arith
 
-grown : (n period h : ℕ) (f : Option ℤ) (i j : ℕ) → n * h ≤ 2 ^ 62 → i < n + 1 → j < n + 1 → i ≢ j → AtMost h f → AtMost (greatest n period) f
+grown : (n period h : ℕ) (f : Option ℤ) (i j : ℕ) → n * h ≤ 2 ^ 62 → i < n + 1 → j < n + 1 → i ≢ j → AtMost h f → AtMost (greatest_share n period) f
 grown zero period h f i j room il jl ne a = absurd (ne (omega arith))
-grown (suc n) period h f i j room il jl ne a = AtMost-more h (greatest (suc n) period) f (below_greatest n period h room) a
+grown (suc n) period h f i j room il jl ne a = AtMost-more h (greatest_share (suc n) period) f (below_greatest n period h room) a
 
 pub roomy : (s : StoreView) → HasRoom s → IsRoomy s
 roomy s has = λ cell table held.

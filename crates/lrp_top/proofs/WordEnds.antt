@@ -4,8 +4,8 @@ use Rattle.std.proofs.lemmas.Int.{ints}
 use Rattle.std.specs.Prelude.{ℤ, pos, neg_ℤ, ◌≤ℤ◌, IfSome, option_map, if◌then◌else◌, codes, nat_eq}
 use Rattle.std.specs.Str.{bytes_eq}
 use Rattle.lrp_model.specs.Texts.{Text}
-use Rattle.lrp_words.specs.Commands.{Task, command, with_some, over, ask_of, decide_of, list_of, explain_of, check_of, sample_of, end_of, limit_of, cap_of, is_json, database_of, query_of, number}
-use Rattle.lrp_words.specs.Entries.{value, are_given}
+use Rattle.lrp_words.specs.Commands.{Task, command, with_some, over, ask_of, decide_of, list_of, explain_of, check_of, sample_of, end_of, limit_of, cap_of, json_of, database_name, query_name, number_in}
+use Rattle.lrp_words.specs.Entries.{value_for, are_given}
 use Rattle.lrp_words.specs.Numbers.{natural, within}
 use Rattle.lrp_words.specs.declared.keys.Key.{Key}
 use Rattle.lrp_words.specs.declared.keys.Key.TheVariants.{Db, Query, Cap, From, To, Limit, After, Form, Seed, Size}
@@ -56,26 +56,26 @@ given keys ws o h = either HasEnds (are_given keys ws) o None h tt
 
 list_ends : (ws : List Text) → IfSome (list_of ws) HasEnds
 list_ends ws =
-    followed (database_of ws) _ (λ db d. followed (query_of ws) _ (λ query q. followed (end_of (value From ws)) _ (λ from f. followed (end_of (value To ws)) _ (λ to t.
-    followed (limit_of ws) _ (λ limit l. followed (is_json (value Form ws)) _ (λ json j. followed (cap_of ws) _ (λ cap c.
-    let a = from_some IsEnd (end_of (value From ws)) from f (ends_at (value From ws)) in
-    let b = from_some IsEnd (end_of (value To ws)) to t (ends_at (value To ws)) in
+    followed (database_name ws) _ (λ db d. followed (query_name ws) _ (λ query q. followed (end_of (value_for From ws)) _ (λ from f. followed (end_of (value_for To ws)) _ (λ to t.
+    followed (limit_of ws) _ (λ limit l. followed (json_of (value_for Form ws)) _ (λ json j. followed (cap_of ws) _ (λ cap c.
+    let a = from_some IsEnd (end_of (value_for From ws)) from f (ends_at (value_for From ws)) in
+    let b = from_some IsEnd (end_of (value_for To ws)) to t (ends_at (value_for To ws)) in
     record { from_low = a.0; from_high = a.1; to_low = b.0; to_high = b.1 })))))))
 
 ask_ends : (ws : List Text) → IfSome (ask_of ws) HasEnds
-ask_ends ws = followed (database_of ws) _ (λ db d. followed (query_of ws) _ (λ query q. followed (cap_of ws) _ (λ cap c. tt)))
+ask_ends ws = followed (database_name ws) _ (λ db d. followed (query_name ws) _ (λ query q. followed (cap_of ws) _ (λ cap c. tt)))
 
 decide_ends : (ws : List Text) → IfSome (decide_of ws) HasEnds
-decide_ends ws = followed (database_of ws) _ (λ db d. followed (query_of ws) _ (λ query q. followed (cap_of ws) _ (λ cap c. tt)))
+decide_ends ws = followed (database_name ws) _ (λ db d. followed (query_name ws) _ (λ query q. followed (cap_of ws) _ (λ cap c. tt)))
 
 explain_ends : (ws : List Text) → IfSome (explain_of ws) HasEnds
-explain_ends ws = followed (database_of ws) _ (λ db d. followed (query_of ws) _ (λ query q. tt))
+explain_ends ws = followed (database_name ws) _ (λ db d. followed (query_name ws) _ (λ query q. tt))
 
 check_ends : (ws : List Text) → IfSome (check_of ws) HasEnds
-check_ends ws = followed (database_of ws) _ (λ db d. tt)
+check_ends ws = followed (database_name ws) _ (λ db d. tt)
 
 sample_ends : (ws : List Text) → IfSome (sample_of ws) HasEnds
-sample_ends ws = followed (number 0 1000000 (value Seed ws)) _ (λ seed s. followed (number 1 500 (value Size ws)) _ (λ size z. tt))
+sample_ends ws = followed (number_in 0 1000000 (value_for Seed ws)) _ (λ seed s. followed (number_in 1 500 (value_for Size ws)) _ (λ size z. tt))
 
 words_ends : (ws : List Text) → IfSome (command ws) HasEnds
 words_ends [] = tt

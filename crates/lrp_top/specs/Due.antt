@@ -10,7 +10,7 @@ use Rattle.lrp_model.specs.Checked.{plain_question}
 use Rattle.lrp_model.specs.DatabaseReading.{IsDatabase, IsDatabaseFault}
 use Rattle.lrp_model.specs.Formulas.{Question}
 use Rattle.lrp_model.specs.Periods.{period}
-use Rattle.lrp_model.specs.Plans.{IsPlan, scaled_reach}
+use Rattle.lrp_model.specs.Plans.{IsPlan, scaled_reach, IsWithinLimits}
 use Rattle.lrp_model.specs.QueryReading.{IsQuery, IsQueryFault}
 use Rattle.lrp_model.specs.RawQueries.{RawQuestion}
 use Rattle.lrp_model.specs.Sorting.{IsWellSorted, IsSortFault}
@@ -18,11 +18,10 @@ use Rattle.lrp_model.specs.Texts.{Identifier, Text}
 use Rattle.lrp_model.specs.declared.faults.QueryFault.{QueryFault}
 use Rattle.lrp_model.specs.declared.plans.Plan.{Plan}
 use Rattle.lrp_model.specs.declared.relations.Relation.{Relation}
-use Rattle.lrp_plan.specs.Planning.{IsWithinLimits}
 use Rattle.lrp_token.specs.Files.{files_digest}
 use Rattle.lrp_top.specs.Outcomes.{Outcome, Ends}
 use Rattle.lrp_top.specs.Resuming.{IsResumed}
-use Rattle.lrp_top.specs.Seen.{Seen, Taken, HasFailed, IsOverrun}
+use Rattle.lrp_top.specs.Seen.{ShelfSeen, SinkSeen, HasFailed, IsOverrun}
 use Rattle.lrp_top.specs.Sources.{Source, FromFile}
 use Rattle.lrp_top.specs.Steps.{Then}
 use Rattle.lrp_top.specs.Telling.{TellsPage, TellsPlan, TellsRelations, TellsWitness}
@@ -33,16 +32,16 @@ use Rattle.lrp_top.specs.declared.status.Status.{Status}
 -- ---- the steps
 
 -- the file of the database is read. Ok: its bytes, and the relations that they mean. Refused: its count of faults rose, it is too long, or its text has a fault; or want of memory
-abbrev pub IsReadOf : Seen → Identifier → List ℕ → Result (Source (List Relation)) Refusal → Type 0
-IsReadOf seen name bytes (Ok database) = (database.bytes ≡ bytes) × (length bytes ≤ 16777216) × IsDatabase bytes database.says
-IsReadOf seen name bytes (Err ReadDatabase) = HasFailed seen name
-IsReadOf seen name bytes (Err LongDatabase) = (16777216 < length bytes) × IsOverrun seen name
-IsReadOf seen name bytes (Err (Database fault)) = (length bytes ≤ 16777216) × IsDatabaseFault bytes fault
-IsReadOf seen name bytes (Err Memory) = Unit {0}
-IsReadOf seen name bytes (Err _) = ⊥
+abbrev pub IsDatabaseReadOf : ShelfSeen → Identifier → List ℕ → Result (Source (List Relation)) Refusal → Type 0
+IsDatabaseReadOf seen name bytes (Ok database) = (database.bytes ≡ bytes) × (length bytes ≤ 16777216) × IsDatabase bytes database.says
+IsDatabaseReadOf seen name bytes (Err ReadDatabase) = HasFailed seen name
+IsDatabaseReadOf seen name bytes (Err LongDatabase) = (16777216 < length bytes) × IsOverrun seen name
+IsDatabaseReadOf seen name bytes (Err (Database fault)) = (length bytes ≤ 16777216) × IsDatabaseFault bytes fault
+IsDatabaseReadOf seen name bytes (Err Memory) = Unit {0}
+IsDatabaseReadOf seen name bytes (Err _) = ⊥
 
-abbrev pub IsRead : Seen → Identifier → Result (Source (List Relation)) Refusal → Type 0
-IsRead seen name = FromFile seen name (IsReadOf seen name)
+abbrev pub IsDatabaseRead : ShelfSeen → Identifier → Result (Source (List Relation)) Refusal → Type 0
+IsDatabaseRead seen name = FromFile seen name (IsDatabaseReadOf seen name)
 
 -- the bytes are a query that is well-sorted over the relations, and without its places it is this one
 pub record IsSorted (db : List Relation) (bytes : List ℕ) (q : Question) : Type 0 where
@@ -58,16 +57,16 @@ pub record IsUnsortedBy (db : List Relation) (bytes : List ℕ) (fault : QueryFa
   pub unsorted : IsSortFault db raw fault
 
 -- the file of the query is read. Ok: its bytes, and the query that they say, well-sorted over the relations. Refused: its count of faults rose, it is too long, or its text or its sorts have a fault; or want of memory
-abbrev pub IsAskedOf : List Relation → Seen → Identifier → List ℕ → Result (Source Question) Refusal → Type 0
-IsAskedOf db seen name bytes (Ok query) = (query.bytes ≡ bytes) × (length bytes ≤ 16777216) × IsSorted db bytes query.says
-IsAskedOf db seen name bytes (Err ReadQuery) = HasFailed seen name
-IsAskedOf db seen name bytes (Err LongQuery) = (16777216 < length bytes) × IsOverrun seen name
-IsAskedOf db seen name bytes (Err (Query fault)) = (length bytes ≤ 16777216) × (IsQueryFault bytes fault ⊎ IsUnsortedBy db bytes fault)
-IsAskedOf db seen name bytes (Err Memory) = Unit {0}
-IsAskedOf db seen name bytes (Err _) = ⊥
+abbrev pub IsQueryReadOf : List Relation → ShelfSeen → Identifier → List ℕ → Result (Source Question) Refusal → Type 0
+IsQueryReadOf db seen name bytes (Ok query) = (query.bytes ≡ bytes) × (length bytes ≤ 16777216) × IsSorted db bytes query.says
+IsQueryReadOf db seen name bytes (Err ReadQuery) = HasFailed seen name
+IsQueryReadOf db seen name bytes (Err LongQuery) = (16777216 < length bytes) × IsOverrun seen name
+IsQueryReadOf db seen name bytes (Err (Query fault)) = (length bytes ≤ 16777216) × (IsQueryFault bytes fault ⊎ IsUnsortedBy db bytes fault)
+IsQueryReadOf db seen name bytes (Err Memory) = Unit {0}
+IsQueryReadOf db seen name bytes (Err _) = ⊥
 
-abbrev pub IsAsked : List Relation → Seen → Identifier → Result (Source Question) Refusal → Type 0
-IsAsked db seen name = FromFile seen name (IsAskedOf db seen name)
+abbrev pub IsQueryRead : List Relation → ShelfSeen → Identifier → Result (Source Question) Refusal → Type 0
+IsQueryRead db seen name = FromFile seen name (IsQueryReadOf db seen name)
 
 -- the query is planned. Ok: its plan. Refused: its period is above 2^62, or that is not but its reach is, doubled once and once more for each time column of the head; or want of memory
 abbrev pub IsPlanned : List Relation → Question → Result Plan Refusal → Type 0
@@ -113,16 +112,16 @@ IsListed from to limit after json cap d q p =
 -- ---- what is due for a task
 
 -- a database is read, then a query over its relations, then the query is planned, and then this is due
-abbrev pub IsQuestion : {B : Type 0} → Seen → Identifier → Identifier → (Source (List Relation) → Source Question → Plan → Result B Refusal → Type 0) → Result B Refusal → Type 0
-IsQuestion seen database query Next result = Then (IsRead seen database) (λ d. Then (IsAsked d.says seen query) (λ q. Then (IsPlanned d.says q.says) (Next d q))) result
+abbrev pub IsPlannedFor : {B : Type 0} → ShelfSeen → Identifier → Identifier → (Source (List Relation) → Source Question → Plan → Result B Refusal → Type 0) → Result B Refusal → Type 0
+IsPlannedFor seen database query Next result = Then (IsDatabaseRead seen database) (λ d. Then (IsQueryRead d.says seen query) (λ q. Then (IsPlanned d.says q.says) (Next d q))) result
 
 -- each task; `sample` is not built yet
-abbrev pub IsDueOf : Task → Seen → Outcome → Type 0
-IsDueOf (ask database query cap) seen outcome = IsQuestion seen database query (IsAnswered cap) outcome
-IsDueOf (decide database query cap) seen outcome = IsQuestion seen database query (IsDecided cap) outcome
-IsDueOf (list database query from to limit after json cap) seen outcome = IsQuestion seen database query (IsListed from to limit after json cap) outcome
-IsDueOf (explain database query) seen outcome = IsQuestion seen database query IsExplained outcome
-IsDueOf (check database) seen outcome = Then (IsRead seen database) (λ d. IsOutput (TellsRelations d.says)) outcome
+abbrev pub IsDueOf : Task → ShelfSeen → Outcome → Type 0
+IsDueOf (ask database query cap) seen outcome = IsPlannedFor seen database query (IsAnswered cap) outcome
+IsDueOf (decide database query cap) seen outcome = IsPlannedFor seen database query (IsDecided cap) outcome
+IsDueOf (list database query from to limit after json cap) seen outcome = IsPlannedFor seen database query (IsListed from to limit after json cap) outcome
+IsDueOf (explain database query) seen outcome = IsPlannedFor seen database query IsExplained outcome
+IsDueOf (check database) seen outcome = Then (IsDatabaseRead seen database) (λ d. IsOutput (TellsRelations d.says)) outcome
 IsDueOf (sample seed size) seen outcome = outcome ≡ Err Unbuilt
 
 -- ---- the lengths of files
@@ -152,22 +151,22 @@ IsTooLong (Err Memory) = Unit {0}
 IsTooLong _ = ⊥
 
 -- where the started file may have been overrun, whatever its name, a file is too long
-abbrev pub TellsLength : {B : Type 0} → Seen → Result B Refusal → Type 0
+abbrev pub TellsLength : {B : Type 0} → ShelfSeen → Result B Refusal → Type 0
 TellsLength seen result = (name : Identifier) → IsOverrun seen name → IsTooLong result
 
 -- ---- what is due for words, and the run
 
 -- for words that spell no task it is the refusal of usage; for a task it is what is due, and where one of its files may have been overrun, a file is too long
-abbrev pub IsDueFor : Option Task → Seen → Outcome → Type 0
+abbrev pub IsDueFor : Option Task → ShelfSeen → Outcome → Type 0
 IsDueFor None seen outcome = outcome ≡ Err Usage
 IsDueFor (Some task) seen outcome = IsDueOf task seen outcome × AllByRecursion (λ name. IsOverrun seen name → IsTooLong outcome) (files_of task)
 
 -- what is due for words
-abbrev pub IsDue : List (String Global) → Seen → Outcome → Type 0
+abbrev pub IsDue : List (String Global) → ShelfSeen → Outcome → Type 0
 IsDue words seen outcome = IsDueFor (command (map string_bytes words)) seen outcome
 
 -- a run of these words: what is due for them is what it ends with
-pub record IsRun (words : List (String Global)) (seen : Seen) (taken : Taken) (ended : Status) : Type 0 where
+pub record IsRun (words : List (String Global)) (seen : ShelfSeen) (taken : SinkSeen) (ended : Status) : Type 0 where
   pub outcome : Outcome
   pub due : IsDue words seen outcome
   pub ends : Ends outcome taken ended

@@ -2,7 +2,7 @@
 use Rattle.std.specs.Prelude.{◌≡◌, ◌<◌, ◌≤◌, ℕ, ℤ, nat_abs, List, [], ◌∷◌, length, take, map, Option, Some, None, IfSome}
 use Rattle.std.specs.List.{AllByRecursion}
 use Rattle.std.specs.Coded.{×_prop, Unit-prop, le_prop, Coded-set, coded_list, coded_ℕ}
-use Rattle.lrp_model.specs.Lexing.{limit}
+use Rattle.lrp_model.specs.Lexing.{greatest_number}
 use Rattle.lrp_model.specs.Order.{InWindow}
 use Rattle.lrp_model.specs.Pages.{Tuple}
 use Rattle.lrp_model.specs.Printed.{quoted}
@@ -20,12 +20,12 @@ abbrev pub tuple_of : Answer → Spot → Tuple
 tuple_of a spot = spot_tuple a.head.columns a.store.shape a.domain spot
 
 -- the numbers of its texts are numbers of the domain
-abbrev pub HasTexts : Answer → Spot → Type 0
-HasTexts a spot = AllByRecursion (λ n. n < length a.domain) (take a.store.shape.texts spot.texts)
+abbrev pub HasKnownTexts : Answer → Spot → Type 0
+HasKnownTexts a spot = AllByRecursion (λ n. n < length a.domain) (take a.store.shape.texts spot.texts)
 
 -- its times have a magnitude of at most 2^62
 abbrev pub HasTimes : Answer → Spot → Type 0
-HasTimes a spot = AllByRecursion (λ x. nat_abs x ≤ limit) (take a.store.shape.times spot.times)
+HasTimes a spot = AllByRecursion (λ x. nat_abs x ≤ greatest_number) (take a.store.shape.times spot.times)
 
 -- the spot stands for its tuple, which is in the window
 pub record IsStanding (w : WindowView) (spot : Spot) : Type 0 where
@@ -38,7 +38,7 @@ HasPlaces spot = (length spot.times ≡ 8) × (length spot.texts ≡ 8)
 
 -- the line of the spot and its token can be written
 abbrev pub IsKnown : Answer → Spot → Type 0
-IsKnown a spot = (HasTexts a spot × HasTimes a spot) × HasPlaces spot
+IsKnown a spot = (HasKnownTexts a spot × HasTimes a spot) × HasPlaces spot
 
 -- ---- these facts hold in at most one way
 
@@ -46,11 +46,11 @@ less_prop : (bound : ℕ) (ns : List ℕ) → IsProp (AllByRecursion (λ n. n < 
 less_prop bound [] = Unit-prop
 less_prop bound (n ∷ ns) = ×_prop (Prim.hlevel (le_prop)) (less_prop bound ns)
 
-small_prop : (xs : List ℤ) → IsProp (AllByRecursion (λ x. nat_abs x ≤ limit) xs)
+small_prop : (xs : List ℤ) → IsProp (AllByRecursion (λ x. nat_abs x ≤ greatest_number) xs)
 small_prop [] = Unit-prop
 small_prop (x ∷ xs) = ×_prop (Prim.hlevel (le_prop)) (small_prop xs)
 
-pub spot_prop : (a : Answer) (spot : Option Spot) → IsProp (IfSome spot (HasTexts a))
+pub spot_prop : (a : Answer) (spot : Option Spot) → IsProp (IfSome spot (HasKnownTexts a))
 spot_prop a None = Unit-prop
 spot_prop a (Some spot) = less_prop (length a.domain) (take a.store.shape.texts spot.texts)
 

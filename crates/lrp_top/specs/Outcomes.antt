@@ -5,7 +5,7 @@ use Rattle.lrp_io.specs.Bytes.{appended, AppendsFront}
 use Rattle.lrp_io.specs.Causes.{Rose}
 use Rattle.lrp_model.specs.Kinds.{database_word, query_word}
 use Rattle.lrp_model.specs.declared.tokens.Place.{Place}
-use Rattle.lrp_top.specs.Seen.{Taken}
+use Rattle.lrp_top.specs.Seen.{SinkSeen}
 use Rattle.lrp_top.specs.declared.status.Status.{Status}
 use Rattle.lrp_top.specs.declared.status.Status.TheVariants as status
 use Rattle.lrp_top.specs.declared.outcome.Refusal.{Refusal}
@@ -70,7 +70,7 @@ status_of (Ok bytes) = status.Done
 status_of (Err refusal) = refused_with refusal
 
 -- it is written whole, and the run ends with its status; or a front of it is written, and the sink's count of faults rose
-pub record Ends (outcome : Outcome) (taken : Taken) (ended : Status) : Type 0 where
+pub record Ends (outcome : Outcome) (taken : SinkSeen) (ended : Status) : Type 0 where
   pub whole : ended ≢ status.Write → taken.bytes ≡ appended taken.bytes_before (written_of outcome)
   pub own_status : ended ≢ status.Write → ended ≡ status_of outcome
   pub front : ended ≡ status.Write → AppendsFront taken.bytes_before taken.bytes (written_of outcome)

@@ -10,9 +10,9 @@ use Rattle.lrp_model.specs.declared.relations.Column.{Column}
 use Rattle.lrp_model.specs.declared.relations.Relation.{Relation}
 use Rattle.lrp_model.specs.declared.tuples.Tuple.{Tuple as ToldTuple}
 use Rattle.lrp_plan_laws.specs.Settled.{IsSettled}
-use Rattle.lrp_plan_text.specs.Writable.{HasPeriods}
+use Rattle.lrp_plan_text.specs.Writable.{StepHasPeriods}
 use Rattle.lrp_eval.specs.Planned.{IsPlanOf}
-use Rattle.lrp_words.specs.Commands.{text_of}
+use Rattle.lrp_words.specs.Commands.{after_text}
 use Rattle.lrp_list.specs.Answering.{AreAnswerColumns}
 use Rattle.lrp_list.specs.Listing.{AreEnds}
 use Rattle.lrp_top.specs.Due.{IsAnswered, IsDecided, IsExplained, IsListed}
@@ -51,7 +51,7 @@ pub record IsFit (db : List Relation) (file : QueryFile) : Type 0 where
 -- what holds of a question: its plan is that of its query, which is within the limits, and can be written; and its head can be that of a relation that is read
 pub record IsReady (question : Question) : Type 0 where
   pub planned : IsPlanOf question.database.relations (question_of question.query.query) question.plan
-  pub writable : AllByRecursion HasPeriods question.plan.steps
+  pub writable : AllByRecursion StepHasPeriods question.plan.steps
   pub head : AreAnswerColumns question.query.query.head.columns
 
 -- the question is made of this database, this query and this plan
@@ -75,7 +75,7 @@ abbrev pub IsServed : Purpose → Source (List Relation) → Source Queried → 
 IsServed purpose.Plan = IsExplained
 IsServed (purpose.Answer cap) = IsAnswered cap
 IsServed (purpose.Witness cap) = IsDecided cap
-IsServed (purpose.Page paging) = IsListed paging.from paging.to paging.limit (text_of paging.after) paging.json paging.cap
+IsServed (purpose.Page paging) = IsListed paging.from paging.to paging.limit (after_text paging.after) paging.json paging.cap
 
 -- the ends of its window, where it has one, have a magnitude of at most 2^62
 abbrev pub HasWindow : Purpose → Type 0

@@ -10,27 +10,27 @@ use Rattle.lrp_store.specs.Least.{matrix_of}
 use Rattle.lrp_store.specs.Stores.{StoreView, tables_at, zone_of}
 
 -- the greatest number of which so many are at most 2^62; with none of them, this one
-abbrev pub greatest : ℕ → ℕ → ℕ
-greatest zero period = period
-greatest (suc n) period = 2 ^ 62 / suc n
+abbrev pub greatest_share : ℕ → ℕ → ℕ
+greatest_share zero period = period
+greatest_share (suc n) period = 2 ^ 62 / suc n
 
 -- that of a zone's columns
 abbrev pub greatest_in : ZoneView → ℕ
-greatest_in z = greatest (columns_of z) z.period
+greatest_in z = greatest_share (columns_of z) z.period
 
 -- the bounds that all integers within the zone's bounds meet are at most h
-abbrev pub AreSmall : ZoneView → ℕ → Type 0
-AreSmall z h = (m : MatrixView) → IsClosed m → HaveSameIntegers (matrix_of z) m → (i j : ℕ) → i < columns_of z + 1 → j < columns_of z + 1 → i ≢ j → AtMost h (entry m.cells i j)
+abbrev pub HasSmallBounds : ZoneView → ℕ → Type 0
+HasSmallBounds z h = (m : MatrixView) → IsClosed m → HaveSameIntegers (matrix_of z) m → (i j : ℕ) → i < columns_of z + 1 → j < columns_of z + 1 → i ≢ j → AtMost h (entry m.cells i j)
 
 -- the period and the bounds of each zone are at most that number
 abbrev pub IsRoomy : StoreView → Type 0
-IsRoomy s = (cell : Cell) (table : List (Option ℤ)) → Contains (tables_at s cell) table → ((zone_of s cell table).period ≤ greatest_in (zone_of s cell table)) × AreSmall (zone_of s cell table) (greatest_in (zone_of s cell table))
+IsRoomy s = (cell : Cell) (table : List (Option ℤ)) → Contains (tables_at s cell) table → ((zone_of s cell table).period ≤ greatest_in (zone_of s cell table)) × HasSmallBounds (zone_of s cell table) (greatest_in (zone_of s cell table))
 
 at_most_prop : (h : ℕ) (o : Option ℤ) → IsProp (AtMost h o)
 at_most_prop h None = Unit-prop
 at_most_prop h (Some a) = ×_prop (Prim.hlevel (T_prop)) (Prim.hlevel (T_prop))
 
-small_prop : (z : ZoneView) (h : ℕ) → IsProp (AreSmall z h)
+small_prop : (z : ZoneView) (h : ℕ) → IsProp (HasSmallBounds z h)
 small_prop z h = Π_prop (λ m. Π_prop (λ closed. Π_prop (λ same. Π_prop (λ i. Π_prop (λ j. Π_prop (λ il. Π_prop (λ jl. Π_prop (λ ne. at_most_prop h (entry m.cells i j)))))))))
 
 pub roomy_prop : (s : StoreView) → IsProp (IsRoomy s)

@@ -4,13 +4,13 @@ use Rattle.lrp_top.specs.declared.status.Status.{Status}
 use Rattle.lrp_top.specs.declared.status.Status.TheVariants.{Done, Usage, Database, Query, Limit, Read, Write, Memory, Unbuilt}
 
 -- the number of a status
-abbrev pub number_of : Status → ℕ
-number_of Done = 0
-number_of Usage = 2
-number_of Database = 3
-number_of Query = 4
-number_of Limit = 5
-number_of Read = 6
-number_of Write = 7
-number_of Memory = 8
-number_of Unbuilt = 9
+abbrev pub status_number : Status → ℕ
+status_number Done = 0
+status_number Usage = 2
+status_number Database = 3
+status_number Query = 4
+status_number Limit = 5
+status_number Read = 6
+status_number Write = 7
+status_number Memory = 8
+status_number Unbuilt = 9

@@ -8,14 +8,14 @@ use Rattle.lrp_model.specs.declared.formulas.Test.TheVariants.{Compare, Member, 
 use Rattle.lrp_model.specs.declared.plans.Step.{Step}
 use Rattle.lrp_model.specs.declared.plans.StepKind.{StepKind}
 use Rattle.lrp_model.specs.declared.plans.StepKind.TheVariants.{Scan, Leaf, Sort, Join, Select, Union, Minus, Complement, DropTime, DropData, Extend}
-use Rattle.lrp_plan_text.specs.Writable.{HasPeriod, KindHasPeriods, HasPeriods}
+use Rattle.lrp_plan_text.specs.Writable.{TestHasPeriod, KindHasPeriods, StepHasPeriods}
 
-test_prop : (t : Test) → IsProp (HasPeriod t)
+test_prop : (t : Test) → IsProp (TestHasPeriod t)
 test_prop (Compare left op right) = Unit-prop
 test_prop (Member term point) = Prim.hlevel (T_prop)
 test_prop (Equal left right) = Unit-prop
 
-tests_prop : (ts : List Test) → IsProp (AllByRecursion HasPeriod ts)
+tests_prop : (ts : List Test) → IsProp (AllByRecursion TestHasPeriod ts)
 tests_prop [] = Unit-prop
 tests_prop (t ∷ ts) = ×_prop (test_prop t) (tests_prop ts)
 
@@ -32,6 +32,6 @@ kind_prop (DropTime of v) = Unit-prop
 kind_prop (DropData of v) = Unit-prop
 kind_prop (Extend of) = Unit-prop
 
-pub steps_prop : (steps : List Step) → IsProp (AllByRecursion HasPeriods steps)
+pub steps_prop : (steps : List Step) → IsProp (AllByRecursion StepHasPeriods steps)
 steps_prop [] = Unit-prop
 steps_prop (s ∷ ss) = ×_prop (kind_prop s.kind) (steps_prop ss)

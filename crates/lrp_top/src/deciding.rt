@@ -1,7 +1,7 @@
 // The decision: what the words ask for, before the first byte is written.
 ghost use Rattle.std.specs.Prelude.{◌≡◌, []};
 ghost use Rattle.std.specs.List.{AllByRecursion};
-ghost use Rattle.lrp_top.specs.Due.{IsDue, IsDueOf, IsOutput, IsQuestion, IsRead, IsTooLong, TellsLength, files_named, files_of};
+ghost use Rattle.lrp_top.specs.Due.{IsDue, IsDueOf, IsOutput, IsPlannedFor, IsDatabaseRead, IsTooLong, TellsLength, files_named, files_of};
 ghost use Rattle.lrp_top.specs.Outputs.{told};
 ghost use Rattle.lrp_top.specs.Questions.{HasWindow, IsServed};
 ghost use Rattle.lrp_top.specs.Seen.{IsOverrun};
@@ -76,7 +76,7 @@ fn carry_out<F: Shelf>(
 
 /// The relations of a database.
 fn check<F: Shelf>(alloc: Global, database: &str, shelf: &mut F) -> Result<Output, Refusal>
-    ensures due { Then (IsRead (⟦<F as Watched>⟧.seen shelf.old shelf.new) database.now) (λ d. IsOutput (TellsRelations d.says)) (told result) }
+    ensures due { Then (IsDatabaseRead (⟦<F as Watched>⟧.seen shelf.old shelf.new) database.now) (λ d. IsOutput (TellsRelations d.says)) (told result) }
     ensures long { TellsLength (⟦<F as Watched>⟧.seen shelf.old shelf.new) (told result) }
 {
     match database_of(alloc, database, shelf) {
@@ -97,7 +97,7 @@ fn ask<F: Shelf>(
     shelf: &mut F,
 ) -> Result<Output, Refusal>
     requires window { HasWindow purpose.now }
-    ensures due { IsQuestion (⟦<F as Watched>⟧.seen shelf.old shelf.new) database.now query.now (IsServed purpose.now) (told result) }
+    ensures due { IsPlannedFor (⟦<F as Watched>⟧.seen shelf.old shelf.new) database.now query.now (IsServed purpose.now) (told result) }
     ensures long { TellsLength (⟦<F as Watched>⟧.seen shelf.old shelf.new) (told result) }
 {
     match question_of(alloc, database, query, shelf) {

@@ -1,8 +1,8 @@
 // The files of a command, or why there are none.
 ghost use Rattle.std.specs.Prelude.{◌≡◌, ◌≤◌, IfOk, List as ListOf, ℕ, length};
-ghost use Rattle.lrp_top.specs.Due.{IsAsked, IsAskedOf, IsRead, IsReadOf, TellsLength};
+ghost use Rattle.lrp_top.specs.Due.{IsQueryRead, IsQueryReadOf, IsDatabaseRead, IsDatabaseReadOf, TellsLength};
 ghost use Rattle.lrp_top.specs.Questions.{IsFit, asked_as, read_as};
-ghost use Rattle.lrp_top.specs.Seen.{Seen};
+ghost use Rattle.lrp_top.specs.Seen.{ShelfSeen};
 
 use crate::outcome::Refusal;
 use crate::seeing::Watched;
@@ -35,7 +35,7 @@ pub fn database_of<F: Shelf>(
     name: &str,
     shelf: &mut F,
 ) -> Result<DatabaseFile, Refusal>
-    ensures read { IsRead (⟦<F as Watched>⟧.seen shelf.old shelf.new) name.now (read_as result) }
+    ensures read { IsDatabaseRead (⟦<F as Watched>⟧.seen shelf.old shelf.new) name.now (read_as result) }
     ensures long { TellsLength (⟦<F as Watched>⟧.seen shelf.old shelf.new) result }
     ensures files { F.files shelf.new ≡ F.files shelf.old }
     ensures later { (other : ListOf ℕ) → F.faults shelf.old other ≤ F.faults shelf.new other }
@@ -51,7 +51,7 @@ pub fn database_of<F: Shelf>(
 /// The database of its bytes.
 fn read(alloc: Global, bytes: List<u8>) -> Result<DatabaseFile, Refusal>
     requires { length bytes ≤ 16777216 }
-    ensures { (seen : Seen) (name : ListOf ℕ) → IsReadOf seen name bytes (read_as result) }
+    ensures { (seen : ShelfSeen) (name : ListOf ℕ) → IsDatabaseReadOf seen name bytes (read_as result) }
 {
     match read_database(alloc, bytes.as_slice()) {
         Ok(relations) => Ok(DatabaseFile { bytes, relations }),
@@ -67,7 +67,7 @@ pub fn query_of<F: Shelf>(
     name: &str,
     shelf: &mut F,
 ) -> Result<QueryFile, Refusal>
-    ensures asked { IsAsked database.now (⟦<F as Watched>⟧.seen shelf.old shelf.new) name.now (asked_as result) }
+    ensures asked { IsQueryRead database.now (⟦<F as Watched>⟧.seen shelf.old shelf.new) name.now (asked_as result) }
     ensures long { TellsLength (⟦<F as Watched>⟧.seen shelf.old shelf.new) result }
     ensures fit { IfOk result (λ file. IsFit database.now file) }
 {
@@ -82,7 +82,7 @@ pub fn query_of<F: Shelf>(
 /// The well-sorted query of its bytes, over a database.
 fn sorted(alloc: Global, database: &Database, bytes: List<u8>) -> Result<QueryFile, Refusal>
     requires { length bytes ≤ 16777216 }
-    ensures asked { (seen : Seen) (name : ListOf ℕ) → IsAskedOf database.now seen name bytes (asked_as result) }
+    ensures asked { (seen : ShelfSeen) (name : ListOf ℕ) → IsQueryReadOf database.now seen name bytes (asked_as result) }
     ensures fit { IfOk result (λ file. IsFit database.now file) }
 {
     let raw = read_query(alloc, bytes.as_slice())?;

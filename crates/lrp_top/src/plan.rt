@@ -1,6 +1,6 @@
 // The plan of a question as it is written.
 ghost use Rattle.std.specs.List.{AllByRecursion};
-ghost use Rattle.lrp_plan_text.specs.Writable.{HasPeriods};
+ghost use Rattle.lrp_plan_text.specs.Writable.{StepHasPeriods};
 ghost use Rattle.lrp_top.specs.WritablePlans.{steps_prop};
 
 use lrp_io::{Failed, Sink, Text};
@@ -11,7 +11,7 @@ use lrp_plan_text::write_plan;
 #[derive(Drop)]
 pub struct WritablePlan {
     pub plan: Plan,
-    ghost writable: { AllByRecursion HasPeriods plan.steps } by { steps_prop plan.steps },
+    ghost writable: { AllByRecursion StepHasPeriods plan.steps } by { steps_prop plan.steps },
 }
 
 impl Text for WritablePlan {

@@ -4,8 +4,8 @@ ghost use Rattle.std.specs.List.{AllByRecursion};
 ghost use Rattle.lrp_model.specs.Formulas.{form_of, question_of as queried};
 ghost use Rattle.lrp_model.specs.TestPoints.{points};
 ghost use Rattle.lrp_plan_laws.specs.Settled.{IsSettled};
-ghost use Rattle.lrp_plan_text.specs.Writable.{HasPeriods};
-ghost use Rattle.lrp_top.specs.Due.{IsPlanned, IsQuestion, TellsLength};
+ghost use Rattle.lrp_plan_text.specs.Writable.{StepHasPeriods};
+ghost use Rattle.lrp_top.specs.Due.{IsPlanned, IsPlannedFor, TellsLength};
 ghost use Rattle.lrp_top.specs.Questions.{IsMadeOf, IsReady};
 
 use crate::files::{DatabaseFile, QueryFile, database_of, query_of};
@@ -42,7 +42,7 @@ pub fn question_of<F: Shelf>(
     query: &str,
     shelf: &mut F,
 ) -> Result<Question, Refusal>
-    ensures question { IsQuestion (⟦<F as Watched>⟧.seen shelf.old shelf.new) database.now query.now IsMadeOf result }
+    ensures question { IsPlannedFor (⟦<F as Watched>⟧.seen shelf.old shelf.new) database.now query.now IsMadeOf result }
     ensures long { TellsLength (⟦<F as Watched>⟧.seen shelf.old shelf.new) result }
     ensures ready { IfOk result (λ question. IsReady question) }
 {
@@ -61,7 +61,7 @@ fn plan_of(alloc: Global, database: &Database, query: &Query) -> Result<Plan, Re
     requires settled { IsSettled database.now (queried query.now) }
     requires points { AllByRecursion (λ at. pos 1 ≤ℤ at.period) (points (form_of query.now.body)) }
     ensures planned { IsPlanned database.now (queried query.now) result }
-    ensures writable { IfOk result (λ p. AllByRecursion HasPeriods p.steps) }
+    ensures writable { IfOk result (λ p. AllByRecursion StepHasPeriods p.steps) }
 {
     let planned = plan(alloc, query, database)?;
     Ok(planned)

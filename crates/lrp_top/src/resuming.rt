@@ -3,7 +3,7 @@ ghost use Rattle.std.specs.Prelude.{◌≡◌, ◌≤◌, IfOk, IfSome, count_by
 ghost use Rattle.lrp_list.specs.Listing.{HasShapeOf};
 ghost use Rattle.lrp_model.specs.Plans.{time_columns};
 ghost use Rattle.lrp_model.specs.Sorts.{is_data, is_time};
-ghost use Rattle.lrp_words.specs.Commands.{text_of};
+ghost use Rattle.lrp_words.specs.Commands.{after_text};
 ghost use Rattle.lrp_top.specs.Questions.{resumed_as};
 ghost use Rattle.lrp_top.specs.Resuming.{IsResumed, data_columns, shape_of as shape_of_head};
 
@@ -22,7 +22,7 @@ pub fn resumed(
     requires times { time_columns head.now ≤ 8 }
     requires texts { data_columns head.now ≤ 8 }
     ensures shape { IfOk result (λ tuple. IfSome tuple (HasShapeOf (shape_of_head head.now))) }
-    ensures resumed { IsResumed digest.now head.now (text_of after.entry) (resumed_as head.now result) }
+    ensures resumed { IsResumed digest.now head.now (after_text after.entry) (resumed_as head.now result) }
 {
     let Some(token) = after else {
         return Ok(None);

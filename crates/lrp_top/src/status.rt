@@ -1,6 +1,6 @@
 // How a run ends.
 ghost use Rattle.std.specs.Prelude.{◌≡◌};
-ghost use Rattle.lrp_top.specs.Statuses.{number_of};
+ghost use Rattle.lrp_top.specs.Statuses.{status_number};
 
 /// How a run ended. The program ends with the status's number.
 #[derive(Clone, Copy, Debug, PartialEq, Eq)]
@@ -28,7 +28,7 @@ pub enum Status {
 impl Status {
     /// The number with which the program ends.
     pub fn code(&self) -> u8
-        ensures { result ≡ number_of self.now }
+        ensures { result ≡ status_number self.now }
     {
         match self {
             Status::Done => 0,

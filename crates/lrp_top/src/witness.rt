@@ -1,6 +1,6 @@
 // The least answer as it is written.
 ghost use Rattle.std.specs.Prelude.{IfSome};
-ghost use Rattle.lrp_top.specs.Known.{HasTexts, spot_prop};
+ghost use Rattle.lrp_top.specs.Known.{HasKnownTexts, spot_prop};
 
 use lrp_io::{Failed, Sink, Text};
 use lrp_list::{Form, write_line};
@@ -13,7 +13,7 @@ use lrp_store::Answer;
 pub struct Witness {
     pub answer: Answer,
     pub least: Option<Spot>,
-    ghost known: { IfSome least (HasTexts answer) } by { spot_prop answer least },
+    ghost known: { IfSome least (HasKnownTexts answer) } by { spot_prop answer least },
 }
 
 impl Text for Witness {

@@ -6,18 +6,18 @@ use Rattle.std.proofs.lemmas.List.Sums.{sum_by-cons}
 use Rattle.std.specs.List.{list_all, list_any}
 use Rattle.lrp_model.specs.Texts.{Text}
 use Rattle.lrp_words.specs.declared.keys.Key.{Key}
-use Rattle.lrp_words.specs.Entries.{given, gives, value, unless, are_given}
+use Rattle.lrp_words.specs.Entries.{given, gives, value_for, unless, are_given}
 
 -- with no value before it, the value is that of this word, if it has one
-pub value_here : (key : Key) (words : List (String Global)) (i : ℕ) (w : String Global) → i < length words → w ≡ get_or words i w → value key (map string_bytes (take i words)) ≡ None
-    → (rest : List Text) × (value key (map string_bytes words) ≡ unless (given key (string_bytes w)) (value key rest))
+pub value_here : (key : Key) (words : List (String Global)) (i : ℕ) (w : String Global) → i < length words → w ≡ get_or words i w → value_for key (map string_bytes (take i words)) ≡ None
+    → (rest : List Text) × (value_for key (map string_bytes words) ≡ unless (given key (string_bytes w)) (value_for key rest))
 value_here key [] i w l e none = absurd (omega arith)
-value_here key (x ∷ xs) zero w l e none = (map string_bytes xs, ap (λ y. unless (given key (string_bytes y)) (value key (map string_bytes xs))) (sym e))
+value_here key (x ∷ xs) zero w l e none = (map string_bytes xs, ap (λ y. unless (given key (string_bytes y)) (value_for key (map string_bytes xs))) (sym e))
 value_here key (x ∷ xs) (suc i) w l e none = by (given key (string_bytes x)) none (value_here key xs i w (omega arith) e)
   where
-    by : (o : Option Text) → unless o (value key (map string_bytes (take i xs))) ≡ None
-        → (value key (map string_bytes (take i xs)) ≡ None → (rest : List Text) × (value key (map string_bytes xs) ≡ unless (given key (string_bytes w)) (value key rest)))
-        → (rest : List Text) × (unless o (value key (map string_bytes xs)) ≡ unless (given key (string_bytes w)) (value key rest))
+    by : (o : Option Text) → unless o (value_for key (map string_bytes (take i xs))) ≡ None
+        → (value_for key (map string_bytes (take i xs)) ≡ None → (rest : List Text) × (value_for key (map string_bytes xs) ≡ unless (given key (string_bytes w)) (value_for key rest)))
+        → (rest : List Text) × (unless o (value_for key (map string_bytes xs)) ≡ unless (given key (string_bytes w)) (value_for key rest))
     by None h rec = rec h
     by (Some t) h rec = absurd (some_none h)
       where
@@ -25,15 +25,15 @@ value_here key (x ∷ xs) (suc i) w l e none = by (given key (string_bytes x)) n
         some_none e = cc
 
 -- so there is no value before the next word where it has none
-pub none_more : (key : Key) (words : List (String Global)) (i j : ℕ) (w : String Global) → j ≡ suc i → i < length words → w ≡ get_or words i w → value key (map string_bytes (take i words)) ≡ None → given key (string_bytes w) ≡ None → value key (map string_bytes (take j words)) ≡ None
-none_more key words i j w e l g none here = subst (λ k. value key (map string_bytes (take k words)) ≡ None) (sym e) (by words i l g none)
+pub none_more : (key : Key) (words : List (String Global)) (i j : ℕ) (w : String Global) → j ≡ suc i → i < length words → w ≡ get_or words i w → value_for key (map string_bytes (take i words)) ≡ None → given key (string_bytes w) ≡ None → value_for key (map string_bytes (take j words)) ≡ None
+none_more key words i j w e l g none here = subst (λ k. value_for key (map string_bytes (take k words)) ≡ None) (sym e) (by words i l g none)
   where
-    by : (words : List (String Global)) (i : ℕ) → i < length words → w ≡ get_or words i w → value key (map string_bytes (take i words)) ≡ None → value key (map string_bytes (take (suc i) words)) ≡ None
+    by : (words : List (String Global)) (i : ℕ) → i < length words → w ≡ get_or words i w → value_for key (map string_bytes (take i words)) ≡ None → value_for key (map string_bytes (take (suc i) words)) ≡ None
     by [] i l g none = absurd (omega arith)
     by (x ∷ xs) zero l g none = ap (λ o. unless o None) (ap (λ y. given key (string_bytes y)) (sym g) ∙ here)
     by (x ∷ xs) (suc i) l g none = rest (given key (string_bytes x)) none (by xs i (omega arith) g)
       where
-        rest : (o : Option Text) → unless o (value key (map string_bytes (take i xs))) ≡ None → (value key (map string_bytes (take i xs)) ≡ None → value key (map string_bytes (take (suc i) xs)) ≡ None) → unless o (value key (map string_bytes (take (suc i) xs))) ≡ None
+        rest : (o : Option Text) → unless o (value_for key (map string_bytes (take i xs))) ≡ None → (value_for key (map string_bytes (take i xs)) ≡ None → value_for key (map string_bytes (take (suc i) xs)) ≡ None) → unless o (value_for key (map string_bytes (take (suc i) xs))) ≡ None
         rest None h rec = rec h
         rest (Some t) h rec = h
 

@@ -9,7 +9,7 @@ use Rattle.std.proofs.lemmas.Bool.{eqb-true}
 use Rattle.std.proofs.lemmas.Bool.Decides.{nat_tests}
 use Rattle.std.proofs.lemmas.Str.Parse.{IsNumeralModel, numerals_by_value, parse_digits}
 use Rattle.lrp_model.specs.Texts.{Text}
-use Rattle.lrp_words.specs.Numbers.{is_numeral, natural, within, integer}
+use Rattle.lrp_words.specs.Numbers.{is_numeral, natural, within, integer_up_to}
 
 -- a test for digits
 digits : IsNumeralModel (λ ds. list_all is_ascii_digit ds ≡ true) (digits_value 10)
@@ -64,10 +64,10 @@ within_high low high (Some n) = by (nat_le low n && nat_le n high) refl
     by false e = tt
 
 -- with a `-` in front, and without
-pub with_minus : (limit : ℕ) (bs ds : Text) → bs ≡ 45 ∷ ds → integer limit bs ≡ option_map (λ n. neg_ℤ (pos n)) (within 1 limit (natural ds))
-with_minus limit bs ds e = ap (integer limit) e
+pub with_minus : (limit : ℕ) (bs ds : Text) → bs ≡ 45 ∷ ds → integer_up_to limit bs ≡ option_map (λ n. neg_ℤ (pos n)) (within 1 limit (natural ds))
+with_minus limit bs ds e = ap (integer_up_to limit) e
 
-pub without_minus : (limit : ℕ) (bs : Text) → ((rest : Text) → bs ≢ 45 ∷ rest) → integer limit bs ≡ option_map (λ n. pos n) (within 0 limit (natural bs))
+pub without_minus : (limit : ℕ) (bs : Text) → ((rest : Text) → bs ≢ 45 ∷ rest) → integer_up_to limit bs ≡ option_map (λ n. pos n) (within 0 limit (natural bs))
 without_minus limit [] h = refl
 without_minus limit (b ∷ bs) h = by (nat_eq b 45) refl
   where

@@ -7,8 +7,8 @@ use Rattle.lrp_words.specs.declared.keys.Key.{Key}
 use Rattle.lrp_words.specs.declared.keys.Key.TheVariants.{Db, Query, Cap, From, To, Limit, After, Form, Seed, Size}
 use Rattle.lrp_words.specs.declared.command.Command.{Command}
 use Rattle.lrp_words.specs.declared.command.Command.TheVariants.{Ask, Decide, List as Page, Explain, Check, Sample}
-use Rattle.lrp_words.specs.Entries.{value, are_given}
-use Rattle.lrp_words.specs.Numbers.{natural, within, integer}
+use Rattle.lrp_words.specs.Entries.{value_for, are_given}
+use Rattle.lrp_words.specs.Numbers.{natural, within, integer_up_to}
 
 -- what is asked: files by their names, caps and limits, a window, a token, whether the page is in JSON, a seed and a size
 pub data Task : Type 0 where
@@ -20,15 +20,15 @@ pub data Task : Type 0 where
   sample : ℕ → ℕ → Task
 
 -- a text that may be left out
-abbrev pub text_of : Option (Bor Text) → Option Text
-text_of None = None
-text_of (Some text) = Some text.now
+abbrev pub after_text : Option (Bor Text) → Option Text
+after_text None = None
+after_text (Some text) = Some text.now
 
 -- what a command asks
 abbrev pub task_of : Command → Task
 task_of (Ask db query cap) = ask db.now query.now cap
 task_of (Decide db query cap) = decide db.now query.now cap
-task_of (Page db query from to limit after json cap) = list db.now query.now from to limit (text_of after) json cap
+task_of (Page db query from to limit after json cap) = list db.now query.now from to limit (after_text after) json cap
 task_of (Explain db query) = explain db.now query.now
 task_of (Check db) = check db.now
 task_of (Sample seed size) = sample seed size
@@ -50,9 +50,9 @@ file (Some []) = None
 file (Some (b ∷ bs)) = Some (b ∷ bs)
 
 -- a number from low to high
-abbrev pub number : ℕ → ℕ → Option Text → Option ℕ
-number low high None = None
-number low high (Some text) = within low high (natural text)
+abbrev pub number_in : ℕ → ℕ → Option Text → Option ℕ
+number_in low high None = None
+number_in low high (Some text) = within low high (natural text)
 
 -- the same, with a default where the key is not given
 abbrev pub number_or : ℕ → ℕ → ℕ → Option Text → Option ℕ
@@ -62,49 +62,49 @@ number_or default low high (Some text) = within low high (natural text)
 -- an integer whose magnitude is at most 2^62
 abbrev pub end_of : Option Text → Option ℤ
 end_of None = None
-end_of (Some text) = integer (2 ^ 62) text
+end_of (Some text) = integer_up_to (2 ^ 62) text
 
 -- whether the form is JSON; it is plain where it is not given
-abbrev pub is_json : Option Text → Option Bool
-is_json None = Some false
-is_json (Some text) = if bytes_eq text (codes "plain") then Some false else if bytes_eq text (codes "json") then Some true else None
+abbrev pub json_of : Option Text → Option Bool
+json_of None = Some false
+json_of (Some text) = if bytes_eq text (codes "plain") then Some false else if bytes_eq text (codes "json") then Some true else None
 
 -- a billion cells at most, and a million by default
 abbrev pub cap_of : List Text → Option ℕ
-cap_of words = number_or 1000000 1 1000000000 (value Cap words)
+cap_of words = number_or 1000000 1 1000000000 (value_for Cap words)
 
 -- a million lines at most, and a thousand by default
 abbrev pub limit_of : List Text → Option ℕ
-limit_of words = number_or 1000 1 1000000 (value Limit words)
+limit_of words = number_or 1000 1 1000000 (value_for Limit words)
 
 -- the files of a database and a query
-abbrev pub database_of : List Text → Option Text
-database_of words = file (value Db words)
+abbrev pub database_name : List Text → Option Text
+database_name words = file (value_for Db words)
 
-abbrev pub query_of : List Text → Option Text
-query_of words = file (value Query words)
+abbrev pub query_name : List Text → Option Text
+query_name words = file (value_for Query words)
 
 -- ---- each command from the words behind its name
 
 abbrev pub ask_of : List Text → Option Task
-ask_of words = with_some (database_of words) (λ db. with_some (query_of words) (λ query. with_some (cap_of words) (λ cap. Some (ask db query cap))))
+ask_of words = with_some (database_name words) (λ db. with_some (query_name words) (λ query. with_some (cap_of words) (λ cap. Some (ask db query cap))))
 
 abbrev pub decide_of : List Text → Option Task
-decide_of words = with_some (database_of words) (λ db. with_some (query_of words) (λ query. with_some (cap_of words) (λ cap. Some (decide db query cap))))
+decide_of words = with_some (database_name words) (λ db. with_some (query_name words) (λ query. with_some (cap_of words) (λ cap. Some (decide db query cap))))
 
 abbrev pub list_of : List Text → Option Task
 list_of words =
-    with_some (database_of words) (λ db. with_some (query_of words) (λ query. with_some (end_of (value From words)) (λ from. with_some (end_of (value To words)) (λ to.
-    with_some (limit_of words) (λ limit. with_some (is_json (value Form words)) (λ json. with_some (cap_of words) (λ cap. Some (list db query from to limit (value After words) json cap))))))))
+    with_some (database_name words) (λ db. with_some (query_name words) (λ query. with_some (end_of (value_for From words)) (λ from. with_some (end_of (value_for To words)) (λ to.
+    with_some (limit_of words) (λ limit. with_some (json_of (value_for Form words)) (λ json. with_some (cap_of words) (λ cap. Some (list db query from to limit (value_for After words) json cap))))))))
 
 abbrev pub explain_of : List Text → Option Task
-explain_of words = with_some (database_of words) (λ db. with_some (query_of words) (λ query. Some (explain db query)))
+explain_of words = with_some (database_name words) (λ db. with_some (query_name words) (λ query. Some (explain db query)))
 
 abbrev pub check_of : List Text → Option Task
-check_of words = with_some (database_of words) (λ db. Some (check db))
+check_of words = with_some (database_name words) (λ db. Some (check db))
 
 abbrev pub sample_of : List Text → Option Task
-sample_of words = with_some (number 0 1000000 (value Seed words)) (λ seed. with_some (number 1 500 (value Size words)) (λ size. Some (sample seed size)))
+sample_of words = with_some (number_in 0 1000000 (value_for Seed words)) (λ seed. with_some (number_in 1 500 (value_for Size words)) (λ size. Some (sample seed size)))
 
 -- a task, where the words give its keys alone, each at most once
 abbrev pub over : List Key → List Text → Option Task → Option Task

@@ -7,17 +7,17 @@ use Rattle.lrp_words.specs.declared.keys.Key.{Key}
 use Rattle.lrp_words.specs.declared.keys.Key.TheVariants.{Db, Query, Cap, From, To, Limit, After, Form, Seed, Size}
 
 -- how a key is spelled
-abbrev pub name_of : Key → Text
-name_of Db = codes "db"
-name_of Query = codes "query"
-name_of Cap = codes "cap"
-name_of From = codes "from"
-name_of To = codes "to"
-name_of Limit = codes "limit"
-name_of After = codes "after"
-name_of Form = codes "form"
-name_of Seed = codes "seed"
-name_of Size = codes "size"
+abbrev pub key_name : Key → Text
+key_name Db = codes "db"
+key_name Query = codes "query"
+key_name Cap = codes "cap"
+key_name From = codes "from"
+key_name To = codes "to"
+key_name Limit = codes "limit"
+key_name After = codes "after"
+key_name Form = codes "form"
+key_name Seed = codes "seed"
+key_name Size = codes "size"
 
 -- the byte `=`
 abbrev pub is_equals : ℕ → Bool
@@ -30,7 +30,7 @@ parts word = if list_any is_equals word then Some (before_first is_equals word, 
 -- the value that parts give a key: the second part, where the first is the key
 abbrev pub value_in : Key → Option (Text × Text) → Option Text
 value_in key None = None
-value_in key (Some p) = if bytes_eq p.0 (name_of key) then Some p.1 else None
+value_in key (Some p) = if bytes_eq p.0 (key_name key) then Some p.1 else None
 
 -- the value that a word gives a key
 abbrev pub given : Key → Text → Option Text
@@ -46,9 +46,9 @@ unless None other = other
 unless (Some text) other = Some text
 
 -- the value of a key: that of the first word that gives it one
-abbrev pub value : Key → List Text → Option Text
-value key [] = None
-value key (word ∷ words) = unless (given key word) (value key words)
+abbrev pub value_for : Key → List Text → Option Text
+value_for key [] = None
+value_for key (word ∷ words) = unless (given key word) (value_for key words)
 
 -- each word gives one of the keys a value, and no two words give one key values
 abbrev pub are_given : List Key → List Text → Bool

@@ -20,6 +20,6 @@ within low high None = None
 within low high (Some n) = if nat_le low n && nat_le n high then Some n else None
 
 -- the integer that a text spells, of a magnitude of at most the limit: a number, or a `-` before a number that is not 0
-abbrev pub integer : ℕ → Text → Option ℤ
-integer limit [] = None
-integer limit (b ∷ bs) = if b == 45 then option_map (λ n. neg_ℤ (pos n)) (within 1 limit (natural bs)) else option_map (λ n. pos n) (within 0 limit (natural (b ∷ bs)))
+abbrev pub integer_up_to : ℕ → Text → Option ℤ
+integer_up_to limit [] = None
+integer_up_to limit (b ∷ bs) = if b == 45 then option_map (λ n. neg_ℤ (pos n)) (within 1 limit (natural bs)) else option_map (λ n. pos n) (within 0 limit (natural (b ∷ bs)))

@@ -1,14 +1,14 @@
 // Words of the form `key=value`.
 ghost use Rattle.std.specs.Prelude.{◌≡◌, map, count_by, nat_le, string_bytes};
 ghost use Rattle.std.specs.List.{list_all, list_any};
-ghost use Rattle.lrp_words.specs.Commands.{text_of};
-ghost use Rattle.lrp_words.specs.Entries.{are_given as are_given_by, given as given_by, gives as gives_by, value as value_by};
+ghost use Rattle.lrp_words.specs.Commands.{after_text};
+ghost use Rattle.lrp_words.specs.Entries.{are_given as are_given_by, given as given_by, gives as gives_by, value_for as value_by};
 
 use crate::keys::Key;
 
 /// The value that a word gives a key. The word is cut at its first `=`.
 fn given(key: Key, word: &str) -> Option<&str>
-    ensures { text_of result ≡ given_by key word.now }
+    ensures { after_text result ≡ given_by key word.now }
 {
     let (name, value) = word.split_once('=')?;
     if name == key.name() {
@@ -27,7 +27,7 @@ fn gives(key: Key, word: &String) -> bool
 
 /// The value of a key.
 pub fn value(key: Key, words: &[String]) -> Option<&str>
-    ensures { text_of result ≡ value_by key (map string_bytes words.now) }
+    ensures { after_text result ≡ value_by key (map string_bytes words.now) }
 {
     for word in words {
         let value = given(key, word.as_str());

@@ -1,6 +1,6 @@
 // The keys of all commands.
 ghost use Rattle.std.specs.Prelude.{◌≡◌};
-ghost use Rattle.lrp_words.specs.Entries.{name_of};
+ghost use Rattle.lrp_words.specs.Entries.{key_name};
 
 /// A key of some command.
 #[derive(Clone, Copy, Debug, PartialEq, Eq)]
@@ -20,7 +20,7 @@ pub enum Key {
 impl Key {
     /// How the key is spelled.
     pub fn name(self) -> &'static str
-        ensures { result.now ≡ name_of self }
+        ensures { result.now ≡ key_name self }
     {
         match self {
             Key::Db => "db",

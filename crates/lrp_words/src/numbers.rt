@@ -2,7 +2,7 @@
 ghost use Rattle.std.specs.Prelude.{◌≡◌, ◌≤◌, ◌^◌, pos, neg_ℤ, option_map, Some, IfSome};
 ghost use Rattle.std.specs.Char.{is_ascii_digit};
 ghost use Rattle.std.specs.List.{list_all};
-ghost use Rattle.lrp_words.specs.Numbers.{integer as integer_by, is_numeral as is_numeral_by, natural, within as within_by};
+ghost use Rattle.lrp_words.specs.Numbers.{integer_up_to as integer_by, is_numeral as is_numeral_by, natural, within as within_by};
 
 use lrp_model::LIMIT;
 

@@ -1,7 +1,7 @@
 // Words as a command: its name, and then the values of its keys.
 ghost use Rattle.std.specs.Prelude.{◌≡◌, ◌<◌, ◌^◌, [], ◌∷◌, map, string_bytes, Some, None, MatchResult};
-ghost use Rattle.lrp_words.specs.Commands.{ask_of, cap_of, check_of, command, decide_of, end_of, explain_of, file as file_by, is_json as is_json_by, limit_of, list_of, number as number_by, number_or as number_or_by, over, sample_of, task_of, tasks_of, text_of};
-ghost use Rattle.lrp_words.specs.Entries.{value as value_by};
+ghost use Rattle.lrp_words.specs.Commands.{ask_of, cap_of, check_of, command, decide_of, end_of, explain_of, file as file_by, json_of as is_json_by, limit_of, list_of, number_in as number_by, number_or as number_or_by, over, sample_of, task_of, tasks_of, after_text};
+ghost use Rattle.lrp_words.specs.Entries.{value_for as value_by};
 
 use crate::command::{Command, Usage};
 use crate::entries::{are_given, value};
@@ -129,7 +129,7 @@ fn sample(words: &[String]) -> Option<Command<'_>>
 
 /// The name of a file, which is not empty.
 fn file(key: Key, words: &[String]) -> Option<&str>
-    ensures { text_of result ≡ file_by (value_by key (map string_bytes words.now)) }
+    ensures { after_text result ≡ file_by (value_by key (map string_bytes words.now)) }
 {
     let name = value(key, words)?;
     if name.is_empty() { None } else { Some(name) }

@@ -11,7 +11,7 @@ use Rattle.lrp_theory.proofs.Floor.{Agrees, IsTightAll, reached_in_cell}
 use Rattle.lrp_zone.specs.Zones.{ZoneView, IsShape, IsMember, columns_of}
 use Rattle.lrp_zone.specs.Order.{at}
 use Rattle.lrp_zone.specs.Tight.{IsTightened}
-use Rattle.lrp_zone.specs.Windows.{ends, IsWindowAt, IsWindow, IsInBox, IsBoxEmpty, IsBoxLeast, IsLowEnd, AreEnds}
+use Rattle.lrp_zone.specs.Windows.{ends, IsWindowAt, IsWindow, IsInBox, IsBoxEmpty, IsBoxLeast, IsLowEnd, AreWindowEnds}
 use Rattle.lrp_zone.proofs.Inclusion.{lesser_met}
 use Rattle.lrp_zone.proofs.Floors.{tightened_below, below_tightened, tightened_agrees}
 use Rattle.lrp_zone.proofs.Members.{tight_all, period_one}
@@ -71,7 +71,7 @@ module _ (z : ZoneView) (s : IsShape z) (low high : List ℤ) (out least : List 
   pub box_none : (HasSolution (columns_of z + 1) (entry out) → ⊥) → IsBoxEmpty z low high
   box_none none = record { none = λ xs m b. none (record { some = (node xs, box_meets xs m b) }) }
 
-  module _ (cl : IsClosure (columns_of z + 1) (entry out) (entry least)) (are : AreEnds (columns_of z) low high) where
+  module _ (cl : IsClosure (columns_of z + 1) (entry out) (entry least)) (are : AreWindowEnds (columns_of z) low high) where
     -- the closed bound of zero minus a column is the least one
     bound_of : (i : ℕ) → i < columns_of z → IsLeastBound (columns_of z + 1) (entry out) 0 (suc i) (entry least 0 (suc i))
     bound_of i h = cl.least 0 (suc i) (omega arith) (omega arith) (omega arith)

@@ -8,11 +8,11 @@ use Rattle.lrp_theory.proofs.Modulo.{Divides--, Divides-is}
 use Rattle.lrp_matrix.specs.Matrices.{MatrixView, MeetsBounds}
 use Rattle.lrp_zone.specs.Zones.{ZoneView, IsShape, IsMember, HasMember, IsResidue}
 use Rattle.lrp_zone.specs.Residues.{HasResidues, IsCut, HasNoCut}
-use Rattle.lrp_zone.specs.Tight.{HasRoom, IsTightened, AreStored}
+use Rattle.lrp_zone.specs.Tight.{CanTighten, IsTightened, AreStored}
 use Rattle.lrp_zone.proofs.Floors.{stored_tight, tightened_below, below_tightened}
 
 -- a bound that has room is within the limit
-pub roomy : (k w : ℤ) (e : Option ℤ) → ((a : ℤ) → e ≡ Some a → HasRoom k w a) → AtMost (2 ^ 62) e
+pub roomy : (k w : ℤ) (e : Option ℤ) → ((a : ℤ) → e ≡ Some a → CanTighten k w a) → AtMost (2 ^ 62) e
 roomy k w None fits = tt
 roomy k w (Some a) fits = size (fits a refl).room
   where

@@ -18,7 +18,7 @@ use Rattle.lrp_theory.proofs.Lists.{listed}
 use Rattle.std.specs.List.{remove}
 use Rattle.std.proofs.lemmas.List.Edits.{length-remove}
 use Rattle.lrp_zone.specs.Zones.{ZoneView, IsTight, IsShape, IsZone, IsMember, HasMember, columns_of, reach_of}
-use Rattle.lrp_zone.specs.Columns.{past, with_value, IsWithout, IsDropped}
+use Rattle.lrp_zone.specs.Columns.{past, with_column_value, IsWithout, IsDropped}
 use Rattle.lrp_zone.proofs.Members.{list_member, member_meets, agrees_of}
 use Rattle.lrp_zone.proofs.Cases.{eq_or}
 use Rattle.lrp_zone.proofs.Inclusion.{lesser_tight, lesser_met}
@@ -110,12 +110,12 @@ module _ (z : ZoneView) (valid : IsZone z) (k : ℕ) (low : 0 < k) (high : k ≤
   node_fits xs m p pl = rw (residues p pl) (m.cell.each (past k p) (past_below k p (columns_of z) pl))
 
   -- a tuple that a value completes is in the rest
-  pub from_member : (xs : List ℤ) (v : ℤ) → length xs ≡ length rs → IsMember z (with_value k v xs) → IsMember rest xs
+  pub from_member : (xs : List ℤ) (v : ℤ) → length xs ≡ length rs → IsMember z (with_column_value k v xs) → IsMember rest xs
   from_member xs v counted m =
-      let at : (p : ℕ) → node (with_value k v xs) (past k p) ≡ node xs p = λ p. node_past_at k p v xs low (let c : length xs ≡ length rs = counted in omega (arith, count)) in
+      let at : (p : ℕ) → node (with_column_value k v xs) (past k p) ≡ node xs p = λ p. node_past_at k p v xs low (let c : length xs ≡ length rs = counted in omega (arith, count)) in
       record {
-        cell = record { count = counted; each = λ p pl. subst (λ y. Divides (pos z.period) (y -ℤ node rs p)) (at p) (node_fits (with_value k v xs) m p (omega (arith, count))) };
-        meets = λ p q pl ql. rw (← at p, ← at q) (dropped_meets (node (with_value k v xs)) (member_meets z (with_value k v xs) m) p q (omega (arith, count)) (omega (arith, count)));
+        cell = record { count = counted; each = λ p pl. subst (λ y. Divides (pos z.period) (y -ℤ node rs p)) (at p) (node_fits (with_column_value k v xs) m p (omega (arith, count))) };
+        meets = λ p q pl ql. rw (← at p, ← at q) (dropped_meets (node (with_column_value k v xs)) (member_meets z (with_column_value k v xs) m) p q (omega (arith, count)) (omega (arith, count)));
       }
 
   -- the rest keeps a zone's parts
@@ -174,16 +174,16 @@ module _ (z : ZoneView) (valid : IsZone z) (k : ℕ) (low : 0 < k) (high : k ≤
     enough = let c : length xs ≡ length rs = m.cell.count in omega (arith, count)
 
     -- another column's value is one of the tuple
-    same_other : (v : ℤ) (i : ℕ) → i ≤ columns_of z → i ≢ k → (p : ℕ) × (past k p ≡ i) × (p < columns_of z) × (node (with_value k v xs) i ≡ node xs p)
+    same_other : (v : ℤ) (i : ℕ) → i ≤ columns_of z → i ≢ k → (p : ℕ) × (past k p ≡ i) × (p < columns_of z) × (node (with_column_value k v xs) i ≡ node xs p)
     same_other v i il ne =
         let r : (p : ℕ) × (past k p ≡ i) × (p < columns_of z) = from_past k i (columns_of z) ne il high in
-        (r.0, r.1, r.2, subst (λ j. node (with_value k v xs) j ≡ node xs r.0) r.1 (node_past_at k r.0 v xs low enough))
+        (r.0, r.1, r.2, subst (λ j. node (with_column_value k v xs) j ≡ node xs r.0) r.1 (node_past_at k r.0 v xs low enough))
 
     -- and it has the residue
-    other_fits : (v : ℤ) (i : ℕ) → i ≤ columns_of z → i ≢ k → Divides (pos z.period) (node (with_value k v xs) i -ℤ node z.residues i)
+    other_fits : (v : ℤ) (i : ℕ) → i ≤ columns_of z → i ≢ k → Divides (pos z.period) (node (with_column_value k v xs) i -ℤ node z.residues i)
     other_fits v i il ne =
         let r = same_other v i il ne in
-        let e : node (with_value k v xs) i ≡ node xs r.0 = r.3 in
+        let e : node (with_column_value k v xs) i ≡ node xs r.0 = r.3 in
         let f : node rs r.0 ≡ node z.residues i = residues r.0 r.2 ∙ ap (node z.residues) r.1 in
         rw (e, ← f) (m.cell.each r.0 (below r.2))
       where
@@ -200,22 +200,22 @@ module _ (z : ZoneView) (valid : IsZone z) (k : ℕ) (low : 0 < k) (high : k ≤
     through_pair p q pl ql (inr ne) = (((made.each p q pl ql).lesser ne).below _ (m.meets p q (omega (arith, count)) (omega (arith, count)))).1
 
     -- the same by the old numbers of the columns
-    through_other : (i j : ℕ) → i ≤ columns_of z → j ≤ columns_of z → i ≢ k → j ≢ k → Within (node (with_value k (pos 0) xs) i -ℤ node (with_value k (pos 0) xs) j) (plus (entry z.bounds i k) (entry z.bounds k j))
+    through_other : (i j : ℕ) → i ≤ columns_of z → j ≤ columns_of z → i ≢ k → j ≢ k → Within (node (with_column_value k (pos 0) xs) i -ℤ node (with_column_value k (pos 0) xs) j) (plus (entry z.bounds i k) (entry z.bounds k j))
     through_other i j il jl ni nj =
         let r = same_other (pos 0) i il ni in
         let s = same_other (pos 0) j jl nj in
-        let e : node (with_value k (pos 0) xs) i ≡ node xs r.0 = r.3 in
-        let f : node (with_value k (pos 0) xs) j ≡ node xs s.0 = s.3 in
+        let e : node (with_column_value k (pos 0) xs) i ≡ node xs r.0 = r.3 in
+        let f : node (with_column_value k (pos 0) xs) j ≡ node xs s.0 = s.3 in
         rw (e, f) (subst (λ a. Within (node xs r.0 -ℤ node xs s.0) (plus (entry z.bounds a k) (entry z.bounds k j))) r.1
         (subst (λ b. Within (node xs r.0 -ℤ node xs s.0) (plus (entry z.bounds (past k r.0) k) (entry z.bounds k b))) s.1 (through_pair r.0 s.0 r.2 s.2 (eq_or r.0 s.0))))
 
     -- two other columns meet their stored bound
-    old_pair : (v : ℤ) (i j : ℕ) → i ≤ columns_of z → j ≤ columns_of z → i ≢ k → j ≢ k → Within (node (with_value k v xs) i -ℤ node (with_value k v xs) j) (entry z.bounds i j)
+    old_pair : (v : ℤ) (i j : ℕ) → i ≤ columns_of z → j ≤ columns_of z → i ≢ k → j ≢ k → Within (node (with_column_value k v xs) i -ℤ node (with_column_value k v xs) j) (entry z.bounds i j)
     old_pair v i j il jl ni nj =
         let r = same_other v i il ni in
         let s = same_other v j jl nj in
-        let e : node (with_value k v xs) i ≡ node xs r.0 = r.3 in
-        let f : node (with_value k v xs) j ≡ node xs s.0 = s.3 in
+        let e : node (with_column_value k v xs) i ≡ node xs r.0 = r.3 in
+        let f : node (with_column_value k v xs) j ≡ node xs s.0 = s.3 in
         rw (e, f) (subst (λ a. Within (node xs r.0 -ℤ node xs s.0) (entry z.bounds a j)) r.1
         (subst (λ b. Within (node xs r.0 -ℤ node xs s.0) (entry z.bounds (past k r.0) b)) s.1 (place r.0 s.0 r.2 s.2 (eq_or r.0 s.0))))
       where
@@ -224,33 +224,33 @@ module _ (z : ZoneView) (valid : IsZone z) (k : ℕ) (low : 0 < k) (high : k ≤
         place p q pl ql (inr ne) = (((made.each p q pl ql).lesser ne).below _ (m.meets p q (omega (arith, count)) (omega (arith, count)))).0
 
     -- some value for column k completes a tuple of the rest
-    pub to_member : (v : ℤ) × IsMember z (with_value k v xs)
+    pub to_member : (v : ℤ) × IsMember z (with_column_value k v xs)
     to_member =
-        let y : ℕ → ℤ = node (with_value k (pos 0) xs) in
+        let y : ℕ → ℤ = node (with_column_value k (pos 0) xs) in
         let s : ℕ → Bool = λ i. cond (eqb i k) false true in
         let r : (v : ℤ) × Fits (pos z.period) (node z.residues) k v × ((i : ℕ) → i < columns_of z + 1 → s i ≡ true → Within (y i -ℤ v) (entry z.bounds i k)) × ((j : ℕ) → j < columns_of z + 1 → s j ≡ true → Within (v -ℤ y j) (entry z.bounds k j)) =
         value_through (columns_of z + 1) (entry z.bounds) (Fits (pos z.period) (node z.residues)) (lattice_of z valid.shape) s y k (omega (arith, count))
         (λ i il si. other_fits (pos 0) i (omega (arith, count)) (apart i si))
         (λ i j il jl si sj. through_other i j (omega (arith, count)) (omega (arith, count)) (apart i si) (apart j sj)) in
         let v : ℤ = r.0 in
-        let here : node (with_value k v xs) k ≡ v = node_at k v xs low enough in (
+        let here : node (with_column_value k v xs) k ≡ v = node_at k v xs low enough in (
           v,
           record {
             cell = record {
               count = length_with k v xs low enough ∙ (let c : length xs ≡ length rs = m.cell.count in omega (arith, count));
               each = λ i il. elim (eq_or i k) [
-                | inl e ↦ subst (λ j. Divides (pos z.period) (node (with_value k v xs) j -ℤ node z.residues j)) (sym e) (subst (λ u. Divides (pos z.period) (u -ℤ node z.residues k)) (sym here) r.1)
+                | inl e ↦ subst (λ j. Divides (pos z.period) (node (with_column_value k v xs) j -ℤ node z.residues j)) (sym e) (subst (λ u. Divides (pos z.period) (u -ℤ node z.residues k)) (sym here) r.1)
                 | inr ne ↦ other_fits v i il ne
               ];
             };
             meets = λ i j il jl. elim (eq_or i k) [
               | inl e ↦ elim (eq_or j k) [
-                | inl f ↦ subst (λ g. Within (node (with_value k v xs) i -ℤ node (with_value k v xs) j) g) (sym (subst (λ a. entry z.bounds a j ≡ None) (sym e) (subst (λ b. entry z.bounds k b ≡ None) (sym f) (valid.shape.diagonal k high)))) tt
-                | inr nj ↦ subst (λ a. Within (node (with_value k v xs) a -ℤ node (with_value k v xs) j) (entry z.bounds a j)) (sym e)
+                | inl f ↦ subst (λ g. Within (node (with_column_value k v xs) i -ℤ node (with_column_value k v xs) j) g) (sym (subst (λ a. entry z.bounds a j ≡ None) (sym e) (subst (λ b. entry z.bounds k b ≡ None) (sym f) (valid.shape.diagonal k high)))) tt
+                | inr nj ↦ subst (λ a. Within (node (with_column_value k v xs) a -ℤ node (with_column_value k v xs) j) (entry z.bounds a j)) (sym e)
                     (rw (here, same_both v j jl nj) (r.3 j (omega (arith, count)) (picked j nj)))
               ]
               | inr ni ↦ elim (eq_or j k) [
-                | inl f ↦ subst (λ b. Within (node (with_value k v xs) i -ℤ node (with_value k v xs) b) (entry z.bounds i b)) (sym f)
+                | inl f ↦ subst (λ b. Within (node (with_column_value k v xs) i -ℤ node (with_column_value k v xs) b) (entry z.bounds i b)) (sym f)
                     (rw (here, same_both v i il ni) (r.2 i (omega (arith, count)) (picked i ni)))
                 | inr nj ↦ old_pair v i j il jl ni nj
               ]
@@ -264,10 +264,10 @@ module _ (z : ZoneView) (valid : IsZone z) (k : ℕ) (low : 0 < k) (high : k ≤
         picked : (i : ℕ) → i ≢ k → cond (eqb i k) false true ≡ true
         picked i h = grind (arith, nat_tests)
 
-        same_both : (v : ℤ) (i : ℕ) → i ≤ columns_of z → i ≢ k → node (with_value k v xs) i ≡ node (with_value k (pos 0) xs) i
+        same_both : (v : ℤ) (i : ℕ) → i ≤ columns_of z → i ≢ k → node (with_column_value k v xs) i ≡ node (with_column_value k (pos 0) xs) i
         same_both v i il ne =
             let r : (p : ℕ) × (past k p ≡ i) × (p < columns_of z) = from_past k i (columns_of z) ne il high in
-            subst (λ j. node (with_value k v xs) j ≡ node (with_value k (pos 0) xs) j) r.1 (node_past_at k r.0 v xs low enough ∙ sym (node_past_at k r.0 (pos 0) xs low enough))
+            subst (λ j. node (with_column_value k v xs) j ≡ node (with_column_value k (pos 0) xs) j) r.1 (node_past_at k r.0 v xs low enough ∙ sym (node_past_at k r.0 (pos 0) xs low enough))
 
   -- the rest holds the tuples that some value completes
   dropped : length bs ≡ 81 → IsDropped z k rest

@@ -9,7 +9,7 @@ use Rattle.lrp_theory.specs.Entries.{AtMost}
 use Rattle.lrp_theory.proofs.Modulo.{Divides-+, Divides-is, Divides-self}
 use Rattle.lrp_theory.proofs.Floor.{Agrees}
 use Rattle.lrp_zone.specs.Zones.{IsTight}
-use Rattle.lrp_zone.specs.Tight.{HasRoom, IsFloor, IsTightened, IsStored}
+use Rattle.lrp_zone.specs.Tight.{CanTighten, IsFloor, IsTightened, IsStored}
 
 -- what tightening a number gives is its floor
 pub floor_of : (k w a r l u b : ℤ) → r ≤ℤ b → Divides l (r -ℤ u) → ((c : ℤ) → c ≤ℤ b → Divides l (c -ℤ u) → c ≤ℤ r) → l ≡ k → u ≡ w → b ≡ a → IsFloor k w a r
@@ -78,7 +78,7 @@ tightened_small h k w (Some a) f low t s =
         (omega (arith, ints), omega (arith, ints))
 
 -- a bound that has room stays within the limit
-pub room_small : (k : ℕ) (w : ℤ) (e f : Option ℤ) → 0 < k → k ≤ 2 ^ 62 → ((a : ℤ) → e ≡ Some a → HasRoom (pos k) w a) → IsTightened (pos k) w e f → AtMost (2 ^ 62) f
+pub room_small : (k : ℕ) (w : ℤ) (e f : Option ℤ) → 0 < k → k ≤ 2 ^ 62 → ((a : ℤ) → e ≡ Some a → CanTighten (pos k) w a) → IsTightened (pos k) w e f → AtMost (2 ^ 62) f
 room_small k w None f low high fits t = subst (λ y. AtMost (2 ^ 62) y) (sym (t.none refl)) tt
 room_small k w (Some a) f low high fits t =
     let r : (v : ℤ) × (f ≡ Some v) × IsFloor (pos k) w a v = t.some a refl in

@@ -11,7 +11,7 @@ use Rattle.lrp_theory.proofs.Below.{none_above}
 use Rattle.lrp_model.specs.declared.relations.Bound.{Bound}
 use Rattle.lrp_zone.specs.Zones.{ZoneView, IsShape, IsZone, IsMember, HasMember, IsTight, IsResidue, columns_of, reach_of}
 use Rattle.lrp_zone.specs.Tight.{IsStored}
-use Rattle.lrp_zone.specs.Given.{bound_at, HasNegative, IsGiven, AreGiven, IsKept, IsWith, IsGathered, MeetsGiven, IsOf, HasNone, AreOwn}
+use Rattle.lrp_zone.specs.Given.{bound_at, HasNegative, IsGiven, AreGiven, IsStoredFor, IsWith, IsGathered, MeetsGiven, IsGivenZone, HasNone, AreOwn}
 use Rattle.lrp_zone.proofs.Cases.{eq_or, place_or}
 use Rattle.lrp_zone.proofs.Floors.{stored_tight, stored_own, tightened_below, below_tightened, tightened_small}
 use Rattle.lrp_zone.proofs.Reaches.{small_reach}
@@ -23,7 +23,7 @@ pub record IsStoredFrom (k : ℤ) (rs : List ℤ) (bs : List Bound) (n p q : ℕ
   pub low : place < n
   pub left : (bound_at bs place).left ≡ p
   pub right : (bound_at bs place).right ≡ q
-  pub kept : IsKept k rs (bound_at bs place) e
+  pub kept : IsStoredFor k rs (bound_at bs place) e
 
 -- a free table has gathered no bounds
 pub gathered_none : (k : ℤ) (rs : List ℤ) (bs : List Bound) (out : List (Option ℤ)) → out ≡ replicate 81 None → IsGathered k rs bs 0 out
@@ -42,25 +42,25 @@ module _ (k : ℤ) (rs : List ℤ) (bs : List Bound) (n : ℕ) (old new : List (
   ]
 
   -- each of the first n + 1 bounds is kept
-  step_below : (i : ℕ) → i < n + 1 → (e : Option ℤ) × IsKept k rs (bound_at bs i) e × IsBelow (entry new (bound_at bs i).left (bound_at bs i).right) e
-  step_below = below_more (λ i. (e : Option ℤ) × IsKept k rs (bound_at bs i) e × IsBelow (entry new (bound_at bs i).left (bound_at bs i).right) e) n
+  step_below : (i : ℕ) → i < n + 1 → (e : Option ℤ) × IsStoredFor k rs (bound_at bs i) e × IsBelow (entry new (bound_at bs i).left (bound_at bs i).right) e
+  step_below = below_more (λ i. (e : Option ℤ) × IsStoredFor k rs (bound_at bs i) e × IsBelow (entry new (bound_at bs i).left (bound_at bs i).right) e) n
       (λ i h.
-      let o : (e : Option ℤ) × IsKept k rs (bound_at bs i) e × IsBelow (entry old (bound_at bs i).left (bound_at bs i).right) e = before.below i h in
+      let o : (e : Option ℤ) × IsStoredFor k rs (bound_at bs i) e × IsBelow (entry old (bound_at bs i).left (bound_at bs i).right) e = before.below i h in
       (o.0, o.1, record { below = λ d w. o.2.below d ((below_old (bound_at bs i).left (bound_at bs i).right (inside i h)).below d w) }))
       (rw here (step.here.0, step.here.1, record { below = λ d w. (step.here.2.below d w).1 }))
 
   -- an entry that was stored for one of the first n bounds
-  more : (p q : ℕ) (e f : Option ℤ) → f ≡ e → (e ≡ None) ⊎ ((i : ℕ) × (i < n) × ((bound_at bs i).left ≡ p) × ((bound_at bs i).right ≡ q) × IsKept k rs (bound_at bs i) e)
-      → (f ≡ None) ⊎ ((i : ℕ) × (i < n + 1) × ((bound_at bs i).left ≡ p) × ((bound_at bs i).right ≡ q) × IsKept k rs (bound_at bs i) f)
+  more : (p q : ℕ) (e f : Option ℤ) → f ≡ e → (e ≡ None) ⊎ ((i : ℕ) × (i < n) × ((bound_at bs i).left ≡ p) × ((bound_at bs i).right ≡ q) × IsStoredFor k rs (bound_at bs i) e)
+      → (f ≡ None) ⊎ ((i : ℕ) × (i < n + 1) × ((bound_at bs i).left ≡ p) × ((bound_at bs i).right ≡ q) × IsStoredFor k rs (bound_at bs i) f)
   more p q e f eq (inl o) = inl (eq ∙ o)
-  more p q e f eq (inr o) = inr (o.0, lt o.1, o.2, o.3, subst (λ y. IsKept k rs (bound_at bs o.0) y) (sym eq) o.4)
+  more p q e f eq (inr o) = inr (o.0, lt o.1, o.2, o.3, subst (λ y. IsStoredFor k rs (bound_at bs o.0) y) (sym eq) o.4)
     where
       lt : {i : ℕ} → i < n → i < n + 1
       lt h = omega arith
 
   -- the entry at the place of the new bound
   one_here : (p q : ℕ) → p < 9 → q < 9 → p ≡ b.left → q ≡ b.right → (entry new b.left b.right ≡ entry old b.left b.right) ⊎ (entry new b.left b.right ≡ step.here.0)
-      → (entry new p q ≡ None) ⊎ ((i : ℕ) × (i < n + 1) × ((bound_at bs i).left ≡ p) × ((bound_at bs i).right ≡ q) × IsKept k rs (bound_at bs i) (entry new p q))
+      → (entry new p q ≡ None) ⊎ ((i : ℕ) × (i < n + 1) × ((bound_at bs i).left ≡ p) × ((bound_at bs i).right ≡ q) × IsStoredFor k rs (bound_at bs i) (entry new p q))
   one_here p q pl ql e f (inl o) = more p q (entry old p q) (entry new p q) (rw (e, f) o) (before.one p q pl ql)
   one_here p q pl ql e f (inr o) = inr (n, (omega arith), rw here (sym e), rw here (sym f), rw (here, e, f, o) step.here.1)
 
@@ -109,7 +109,7 @@ module _ (k : ℕ) (n : ℤ) (rs : List ℤ) (bs : List Bound) (out : List (Opti
       (subst (λ r. r ≤ length rs) f.left b.left, subst (λ r. r ≤ length rs) f.right b.right)
 
   -- what is stored for the bound with the number i at two different columns
-  stored_at : (p q i : ℕ) (e : Option ℤ) → (bound_at bs i).left ≡ p → (bound_at bs i).right ≡ q → IsKept (pos k) rs (bound_at bs i) e → p ≢ q → IsStored (pos k) (node rs p -ℤ node rs q) (Some (bound_at bs i).most) e
+  stored_at : (p q i : ℕ) (e : Option ℤ) → (bound_at bs i).left ≡ p → (bound_at bs i).right ≡ q → IsStoredFor (pos k) rs (bound_at bs i) e → p ≢ q → IsStored (pos k) (node rs p -ℤ node rs q) (Some (bound_at bs i).most) e
   stored_at p q i e l r kept ne = rw (← l, ← r) (kept.apart (λ s. ne (sym l ∙ s ∙ r)))
 
   -- nothing is stored on the diagonal
@@ -154,7 +154,7 @@ module _ (k : ℕ) (n : ℤ) (rs : List ℤ) (bs : List Bound) (out : List (Opti
     count = m.cell.count;
     residues = record { each = λ p pl. rw (← g.period) (m.cell.each p pl) };
     meets = λ i il.
-        let o : (e : Option ℤ) × IsKept (pos k) rs (bound_at bs i) e × IsBelow (entry out (bound_at bs i).left (bound_at bs i).right) e = g.made.below i il in
+        let o : (e : Option ℤ) × IsStoredFor (pos k) rs (bound_at bs i) e × IsBelow (entry out (bound_at bs i).left (bound_at bs i).right) e = g.made.below i il in
         let b : IsGiven n rs (bound_at bs i) = g.bounds.each i il in
         elim (eq_or (bound_at bs i).left (bound_at bs i).right) [
           | inl s ↦ by_lt_z (bound_at bs i).most (pos 0)
@@ -193,7 +193,7 @@ module _ (k : ℕ) (n : ℤ) (rs : List ℤ) (bs : List Bound) (out : List (Opti
       })
 
   -- it is the zone of the given bounds
-  of_is : length out ≡ 81 → IsOf n rs bs made_zone
+  of_is : length out ≡ 81 → IsGivenZone n rs bs made_zone
   of_is size = record {
     period = g.period;
     residues = refl;
@@ -204,7 +204,7 @@ module _ (k : ℕ) (n : ℤ) (rs : List ℤ) (bs : List Bound) (out : List (Opti
   }
 
   -- the same for the result of a call
-  pub of_some : length out ≡ 81 → (o : Option ZoneView) → IfSome o (λ y. y ≡ made_zone) → IfSome o (λ y. IsOf n rs bs y)
+  pub of_some : length out ≡ 81 → (o : Option ZoneView) → IfSome o (λ y. y ≡ made_zone) → IfSome o (λ y. IsGivenZone n rs bs y)
   of_some size None h = tt
   of_some size (Some y) h = rw h (of_is size)
 
@@ -256,7 +256,7 @@ module _ (k : ℕ) (n : ℤ) (rs : List ℤ) (bs : List Bound) (out : List (Opti
         by (inl u) (inr w) = absurd (not_none (valid.shape.outside.none p q pl ql (inr w)))
         by (inl u) (inl v) =
             let f : (i : ℕ) × (i < length bs) × ((bound_at bs i).left ≡ p) × ((bound_at bs i).right ≡ q) = own.all p q a u v h in
-            let b : (e : Option ℤ) × IsKept (pos k) rs (bound_at bs f.0) e × IsBelow (entry out (bound_at bs f.0).left (bound_at bs f.0).right) e = g.made.below f.0 f.1 in
+            let b : (e : Option ℤ) × IsStoredFor (pos k) rs (bound_at bs f.0) e × IsBelow (entry out (bound_at bs f.0).left (bound_at bs f.0).right) e = g.made.below f.0 f.1 in
             let ne : (bound_at bs f.0).left ≢ (bound_at bs f.0).right = (λ s. not_none (let d : p ≡ q = sym f.2 ∙ s ∙ f.3 in subst (λ r. entry z.bounds p r ≡ None) d (valid.shape.diagonal p u))) in
             absurd (below_none f.0 b.0 f.1 f.2 f.3 (kept_own f.0 b.0 f.1 (b.1.apart ne)) b.2)
 

@@ -6,7 +6,7 @@ use Rattle.std.specs.List.{insert, remove}
 use Rattle.std.proofs.lemmas.List.{get_or-take, length-take-le, ext_get_or}
 use Rattle.std.proofs.lemmas.List.Edits.{get_or-insert_at, get_or-insert_below, get_or-insert_above, length-insert, get_or-remove_below, get_or-remove_above, length-remove}
 use Rattle.lrp_theory.specs.Entries.{node}
-use Rattle.lrp_zone.specs.Columns.{past, with_value}
+use Rattle.lrp_zone.specs.Columns.{past, with_column_value}
 
 -- a node before k keeps its number
 past-low : (k p : ℕ) → p < k → past k p ≡ p
@@ -34,7 +34,7 @@ from_past k (suc m) n ne ml kl =
     ]
 
 -- the value that was put in stands at its node
-pub node_at : (k : ℕ) (v : ℤ) (xs : List ℤ) → 0 < k → k ≤ length xs + 1 → node (with_value k v xs) k ≡ v
+pub node_at : (k : ℕ) (v : ℤ) (xs : List ℤ) → 0 < k → k ≤ length xs + 1 → node (with_column_value k v xs) k ≡ v
 node_at zero v xs h l = absurd (omega arith)
 node_at (suc j) v xs h l = let e : suc j - 1 ≡ j = omega arith in subst (λ i. get_or (insert xs i v) j (pos 0) ≡ v) (sym e) (get_or-insert_at xs j v (pos 0) (omega arith))
 
@@ -48,12 +48,12 @@ node_past j (suc p) v xs h =
     ]
 
 -- the other nodes keep their values
-pub node_past_at : (k p : ℕ) (v : ℤ) (xs : List ℤ) → 0 < k → k ≤ length xs + 1 → node (with_value k v xs) (past k p) ≡ node xs p
+pub node_past_at : (k p : ℕ) (v : ℤ) (xs : List ℤ) → 0 < k → k ≤ length xs + 1 → node (with_column_value k v xs) (past k p) ≡ node xs p
 node_past_at zero p v xs h l = absurd (omega arith)
 node_past_at (suc j) p v xs h l = let e : suc j - 1 ≡ j = omega arith in subst (λ i. node (insert xs i v) (past (suc j) p) ≡ node xs p) (sym e) (node_past j p v xs (omega arith))
 
 -- the tuple is one longer
-pub length_with : (k : ℕ) (v : ℤ) (xs : List ℤ) → 0 < k → k ≤ length xs + 1 → length (with_value k v xs) ≡ length xs + 1
+pub length_with : (k : ℕ) (v : ℤ) (xs : List ℤ) → 0 < k → k ≤ length xs + 1 → length (with_column_value k v xs) ≡ length xs + 1
 length_with k v xs h l = length-insert xs (k - 1) v (omega arith)
 
 -- the values without that of node k

@@ -8,12 +8,12 @@ use Rattle.lrp_theory.proofs.Modulo.{Divides-+, Divides--, Divides-is}
 use Rattle.lrp_theory.proofs.Multiples.{Divides-trans}
 use Rattle.lrp_zone.specs.Zones.{ZoneView, IsShape, IsZone, IsMember, HasMember, IsResidue, columns_of, reach_of}
 use Rattle.lrp_zone.specs.Residues.{HasResidues, IsRefined, HasNoRefined}
-use Rattle.lrp_zone.specs.Tight.{HasRoom, AreStored}
+use Rattle.lrp_zone.specs.Tight.{CanTighten, AreStored}
 use Rattle.lrp_zone.proofs.Floors.{stored_tight, tightened_below, below_tightened, tightened_small}
 use Rattle.lrp_zone.proofs.Reaches.{reach_small, small_reach}
 
 -- a bound of a zone whose reach leaves room for k
-pub room_of : (z : ZoneView) (k : ℕ) (w a : ℤ) (i j : ℕ) → reach_of z + k ≤ 2 ^ 62 → i ≤ columns_of z → j ≤ columns_of z → entry z.bounds i j ≡ Some a → HasRoom (pos k) w a
+pub room_of : (z : ZoneView) (k : ℕ) (w a : ℤ) (i j : ℕ) → reach_of z + k ≤ 2 ^ 62 → i ≤ columns_of z → j ≤ columns_of z → entry z.bounds i j ≡ Some a → CanTighten (pos k) w a
 room_of z k w a i j small il jl e =
     let s : (neg_ℤ (pos (reach_of z)) ≤ℤ a) × (a ≤ℤ pos (reach_of z)) = subst (λ f. AtMost (reach_of z) f) e ((reach_small z (reach_of z) (omega arith)).each i j (omega arith) (omega arith)) in
     let s0 : neg_ℤ (pos (reach_of z)) ≤ℤ a = s.0 in

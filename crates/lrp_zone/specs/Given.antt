@@ -5,7 +5,7 @@ use Rattle.lrp_theory.specs.Entries.{entry, node, IsBelow, IsLesser}
 use Rattle.lrp_model.specs.declared.relations.Bound.{Bound}
 use Rattle.lrp_zone.specs.Zones.{ZoneView, IsMember, columns_of, reach_of}
 use Rattle.lrp_zone.specs.Residues.{HasResidues}
-use Rattle.lrp_zone.specs.Tight.{HasRoom, IsStored}
+use Rattle.lrp_zone.specs.Tight.{CanTighten, IsStored}
 
 -- the given bound with the number i
 abbrev pub bound_at : List Bound → ℕ → Bound
@@ -15,7 +15,7 @@ bound_at bs i = slice_index_or bs i (record { left = 0; right = 0; most = pos 0 
 pub record IsGiven (k : ℤ) (rs : List ℤ) (b : Bound) : Type 0 where
   pub left : b.left ≤ length rs
   pub right : b.right ≤ length rs
-  pub fits : HasRoom k (node rs b.left -ℤ node rs b.right) b.most
+  pub fits : CanTighten k (node rs b.left -ℤ node rs b.right) b.most
 
 -- each bound is such
 pub record AreGiven (k : ℤ) (rs : List ℤ) (bs : List Bound) : Type 0 where
@@ -28,17 +28,17 @@ pub record MeetsGiven (k : ℤ) (rs : List ℤ) (bs : List Bound) (xs : List ℤ
   pub meets : (i : ℕ) → i < length bs → (node xs (bound_at bs i).left -ℤ node xs (bound_at bs i).right) ≤ℤ (bound_at bs i).most
 
 -- what is stored for the bound b: nothing on the diagonal, else the tightened bound
-pub record IsKept (k : ℤ) (rs : List ℤ) (b : Bound) (e : Option ℤ) : Type 0 where
+pub record IsStoredFor (k : ℤ) (rs : List ℤ) (b : Bound) (e : Option ℤ) : Type 0 where
   pub same : b.left ≡ b.right → e ≡ None
   pub apart : b.left ≢ b.right → IsStored k (node rs b.left -ℤ node rs b.right) (Some b.most) e
 
 -- at each place stands the least of what is stored for the first n bounds
 pub record IsGathered (k : ℤ) (rs : List ℤ) (bs : List Bound) (n : ℕ) (out : List (Option ℤ)) : Type 0 where
-  pub below : (i : ℕ) → i < n → (e : Option ℤ) × IsKept k rs (bound_at bs i) e × IsBelow (entry out (bound_at bs i).left (bound_at bs i).right) e
-  pub one : (p q : ℕ) → p < 9 → q < 9 → (entry out p q ≡ None) ⊎ ((i : ℕ) × (i < n) × ((bound_at bs i).left ≡ p) × ((bound_at bs i).right ≡ q) × IsKept k rs (bound_at bs i) (entry out p q))
+  pub below : (i : ℕ) → i < n → (e : Option ℤ) × IsStoredFor k rs (bound_at bs i) e × IsBelow (entry out (bound_at bs i).left (bound_at bs i).right) e
+  pub one : (p q : ℕ) → p < 9 → q < 9 → (entry out p q ≡ None) ⊎ ((i : ℕ) × (i < n) × ((bound_at bs i).left ≡ p) × ((bound_at bs i).right ≡ q) × IsStoredFor k rs (bound_at bs i) (entry out p q))
 
 -- z holds the tuples that have the residues and meet the bounds
-pub record IsOf (k : ℤ) (rs : List ℤ) (bs : List Bound) (z : ZoneView) : Type 0 where
+pub record IsGivenZone (k : ℤ) (rs : List ℤ) (bs : List Bound) (z : ZoneView) : Type 0 where
   pub period : pos z.period ≡ k
   pub residues : z.residues ≡ rs
   pub to : (xs : List ℤ) → IsMember z xs → MeetsGiven k rs bs xs
@@ -66,5 +66,5 @@ pub record HasNegative (bs : List Bound) : Type 0 where
 
 -- the bounds new are the bounds old with what is stored for b
 pub record IsWith (k : ℤ) (rs : List ℤ) (b : Bound) (old new : List (Option ℤ)) : Type 0 where
-  pub here : (e : Option ℤ) × IsKept k rs b e × IsLesser (entry new b.left b.right) (entry old b.left b.right) e
+  pub here : (e : Option ℤ) × IsStoredFor k rs b e × IsLesser (entry new b.left b.right) (entry old b.left b.right) e
   pub others : (p q : ℕ) → q < 9 → (p ≡ b.left → q ≡ b.right → ⊥) → entry new p q ≡ entry old p q

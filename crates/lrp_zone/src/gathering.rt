@@ -1,9 +1,9 @@
 //! The stored bounds of a list of given bounds.
 
-ghost use Rattle.std.specs.Prelude.{◌≡◌, ◌<◌, ◌≤◌, ◌^◌, ℕ, List, IsTrue, ◌↔◌, length, pos};
+ghost use Rattle.std.specs.Prelude.{◌≡◌, ◌<◌, ◌≤◌, ◌^◌, ℕ, IsTrue, ◌↔◌, length, pos};
 ghost use Rattle.lrp_theory.specs.Entries.{node};
 ghost use Rattle.lrp_zone.specs.Zones.{IsResidue};
-ghost use Rattle.lrp_zone.specs.Given.{HasNegative, IsGiven, IsKept, IsWith, AreGiven, IsGathered};
+ghost use Rattle.lrp_zone.specs.Given.{HasNegative, IsGiven, IsStoredFor, IsWith, AreGiven, IsGathered};
 
 use crate::bounds::{Table, at, free, lesser, put};
 use crate::tightening::tightened;
@@ -28,7 +28,7 @@ fn kept(bound: &Bound, residues: &[i64], period: u64) -> Option<i64>
     requires given { IsGiven (pos period) residues.now bound.now }
     requires left { IsResidue period (node residues.now bound.now.left) }
     requires right { IsResidue period (node residues.now bound.now.right) }
-    ensures { IsKept (pos period) residues.now bound.now result }
+    ensures { IsStoredFor (pos period) residues.now bound.now result }
 {
     let (i, j) = (usize::from(bound.left), usize::from(bound.right));
     if i == j {

@@ -1,9 +1,9 @@
 //! Bounds that are tightened to the residues of their nodes.
 
-ghost use Rattle.std.specs.Prelude.{◌≡◌, ◌<◌, ◌≤◌, ◌^◌, ◌+◌, ◌-◌, ℕ, ℤ, List, Some, length, pos, ◌-ℤ◌};
+ghost use Rattle.std.specs.Prelude.{◌≡◌, ◌<◌, ◌≤◌, ◌^◌, ◌+◌, ◌-◌, ℕ, ℤ, Some, length, pos, ◌-ℤ◌};
 ghost use Rattle.lrp_theory.specs.Entries.{entry, node, AtMost};
 ghost use Rattle.lrp_zone.specs.Zones.{IsResidue};
-ghost use Rattle.lrp_zone.specs.Tight.{HasRoom, IsTightened, IsStored, AreStored};
+ghost use Rattle.lrp_zone.specs.Tight.{CanTighten, IsTightened, IsStored, AreStored};
 ghost use Rattle.lrp_zone.specs.Pieces.{broken_by};
 
 use crate::bounds::{Table, at, free, narrow, put, wide};
@@ -47,7 +47,7 @@ pub fn tightened(
     requires high { period ≤ 2 ^ 62 }
     requires left { IsResidue period (node residues.now i) }
     requires right { IsResidue period (node residues.now j) }
-    requires fits { (a : ℤ) → bound ≡ Some a → HasRoom (pos period) (node residues.now i -ℤ node residues.now j) a }
+    requires fits { (a : ℤ) → bound ≡ Some a → CanTighten (pos period) (node residues.now i -ℤ node residues.now j) a }
     ensures { IsStored (pos period) (node residues.now i -ℤ node residues.now j) bound result }
 {
     narrow(tightest(wide(bound), residues, i, j, period))
@@ -59,7 +59,7 @@ pub fn all_tightened(bounds: &Table, residues: &[i64], period: u64) -> Table
     requires low { 0 < period }
     requires high { period ≤ 2 ^ 62 }
     requires residues { (i : ℕ) → i ≤ length residues.now → IsResidue period (node residues.now i) }
-    requires fits { (i j : ℕ) (a : ℤ) → i ≤ length residues.now → j ≤ length residues.now → entry bounds.now i j ≡ Some a → HasRoom (pos period) (node residues.now i -ℤ node residues.now j) a }
+    requires fits { (i j : ℕ) (a : ℤ) → i ≤ length residues.now → j ≤ length residues.now → entry bounds.now i j ≡ Some a → CanTighten (pos period) (node residues.now i -ℤ node residues.now j) a }
     ensures { AreStored (pos period) residues.now bounds.now (length residues.now + 1) result }
 {
     let mut out = free();
@@ -84,7 +84,7 @@ pub fn all_tightest(bounds: &Matrix, residues: &[i64], period: u64) -> Table
     requires low { 0 < period }
     requires high { period ≤ 2 ^ 62 }
     requires residues { (i : ℕ) → i ≤ length residues.now → IsResidue period (node residues.now i) }
-    requires fits { (i j : ℕ) (a : ℤ) → i ≤ length residues.now → j ≤ length residues.now → entry bounds.now.cells i j ≡ Some a → HasRoom (pos period) (node residues.now i -ℤ node residues.now j) a }
+    requires fits { (i j : ℕ) (a : ℤ) → i ≤ length residues.now → j ≤ length residues.now → entry bounds.now.cells i j ≡ Some a → CanTighten (pos period) (node residues.now i -ℤ node residues.now j) a }
     ensures { AreStored (pos period) residues.now bounds.now.cells (length residues.now + 1) result }
 {
     let mut out = free();

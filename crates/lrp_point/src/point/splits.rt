@@ -17,13 +17,13 @@ pub struct Splits {
 impl Model for Splits {
     ghost use Rattle.std.specs.Prelude.{List};
     ghost use Rattle.lrp_point.specs.Points.{PointView};
-    ghost use Rattle.lrp_point.specs.Splits.{split_points, AreBelow};
+    ghost use Rattle.lrp_point.specs.Splits.{split_points, StaysBelow};
 
     ghost Value = { List PointView };
 
     ghost view = { λ s. split_points s.left s.next s.step s.period };
 
-    ghost invariant = { λ s. AreBelow s.left s.next s.step s.period };
+    ghost invariant = { λ s. StaysBelow s.left s.next s.step s.period };
 }
 
 impl Iterator for Splits {

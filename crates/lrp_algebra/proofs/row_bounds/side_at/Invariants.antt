@@ -2,8 +2,8 @@
 use Rattle.std.proofs.Common.{◌≡◌, drop}
 use Rattle.lrp_model.specs.Rows.{time_at}
 use Rattle.lrp_model.specs.Satisfaction.{Assignment}
-use Rattle.lrp_algebra.specs.Rows.{times_in}
+use Rattle.lrp_algebra.specs.Rows.{term_times}
 use Rattle.lrp_algebra.proofs.row_bounds.side_at.Given as goal
 
 abbrev pub invariant-loop-term : goal.invariant-loop-term
-invariant-loop-term l = (env : Assignment) → time_at (times_in env l.terms) l.place ≡ time_at (times_in env (drop l.term-index l.terms)) l.left
+invariant-loop-term l = (env : Assignment) → time_at (term_times env l.terms) l.place ≡ time_at (term_times env (drop l.term-index l.terms)) l.left

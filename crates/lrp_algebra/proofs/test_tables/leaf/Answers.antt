@@ -6,7 +6,7 @@ use Rattle.lrp_model.specs.Reach.{test_reach}
 use Rattle.lrp_model.specs.declared.tuples.Shape.{Shape}
 use Rattle.lrp_store.specs.Stores.{StoreView}
 use Rattle.lrp_tables.specs.Calls.{test_period}
-use Rattle.lrp_tables.specs.Columns.{times_of_test, texts_of_test, test_times, test_texts}
+use Rattle.lrp_tables.specs.Columns.{times_of_test, texts_of_test, test_times, test_names}
 use Rattle.lrp_tables.specs.Tables.{AreNamesAmong}
 use Rattle.lrp_tables.proofs.Joining.{in_joint_right}
 use Rattle.lrp_algebra.specs.Conditions.{IsWithTest, HasNoTest}
@@ -38,8 +38,8 @@ with_test-requires c =
 
 pub add_pattern-requires : goal.add_pattern-requires
 add_pattern-requires c =
-    let fresh = fresh_by c.store_over-out.result c.in_ok-vars.vars.times (test_times c.args.test.now) c.in_ok-vars.vars.texts (test_texts c.args.test.now) (nat_abs (to_z w64 (of_z w64 c.period_of.result))) (nat_abs (test_period c.args.test.now)) c.store_over-out.ensures c.in_ok-vars.ensures.times c.in_ok-vars.ensures.texts (test_word c.args.test.now c.period_of.result c.requires.low c.requires.reach c.period_of.ensures) in
-    let w : IsWithTest c.args.domain.now (test_times c.args.test.now) (test_texts c.args.test.now) c.args.test.now c.new-all.result c.in-Some.pattern = subst (λ l. IsWithTest c.args.domain.now l (test_texts c.args.test.now) c.args.test.now c.new-all.result c.in-Some.pattern) c.in_ok-vars.ensures.times (subst (λ l. IsWithTest c.args.domain.now c.in_ok-vars.vars.times l c.args.test.now c.new-all.result c.in-Some.pattern) c.in_ok-vars.ensures.texts (subst (λ o. MatchOption o (HasNoTest c.args.domain.now c.in_ok-vars.vars.times c.in_ok-vars.vars.texts c.args.test.now c.new-all.result) (IsWithTest c.args.domain.now c.in_ok-vars.vars.times c.in_ok-vars.vars.texts c.args.test.now c.new-all.result)) c.in-Some.is c.in_ok-pattern.ensures)) in
+    let fresh = fresh_by c.store_over-out.result c.in_ok-vars.vars.times (test_times c.args.test.now) c.in_ok-vars.vars.texts (test_names c.args.test.now) (nat_abs (to_z w64 (of_z w64 c.period_of.result))) (nat_abs (test_period c.args.test.now)) c.store_over-out.ensures c.in_ok-vars.ensures.times c.in_ok-vars.ensures.texts (test_word c.args.test.now c.period_of.result c.requires.low c.requires.reach c.period_of.ensures) in
+    let w : IsWithTest c.args.domain.now (test_times c.args.test.now) (test_names c.args.test.now) c.args.test.now c.new-all.result c.in-Some.pattern = subst (λ l. IsWithTest c.args.domain.now l (test_names c.args.test.now) c.args.test.now c.new-all.result c.in-Some.pattern) c.in_ok-vars.ensures.times (subst (λ l. IsWithTest c.args.domain.now c.in_ok-vars.vars.times l c.args.test.now c.new-all.result c.in-Some.pattern) c.in_ok-vars.ensures.texts (subst (λ o. MatchOption o (HasNoTest c.args.domain.now c.in_ok-vars.vars.times c.in_ok-vars.vars.texts c.args.test.now c.new-all.result) (IsWithTest c.args.domain.now c.in_ok-vars.vars.times c.in_ok-vars.vars.texts c.args.test.now c.new-all.result)) c.in-Some.is c.in_ok-pattern.ensures)) in
     record { fits = leaf_fits c.args.domain.now c.len-size.ensures.ascending c.args.test.now c.requires.low c.new-all.result c.new-all.ensures c.len-size.result c.len-size.ensures.count c.args.cap c.store_over-out.result fresh c.in-Some.pattern w; known = w.size }
 
 pub invariant_of-result : goal.invariant_of-result
@@ -52,8 +52,8 @@ invariant_of-result c =
 
 pub invariant_of-result-in-Ok : goal.invariant_of-result-in-Ok
 invariant_of-result-in-Ok c =
-    let fresh = fresh_by c.store_over-out.result c.in_ok-vars.vars.times (test_times c.args.test.now) c.in_ok-vars.vars.texts (test_texts c.args.test.now) (nat_abs (to_z w64 (of_z w64 c.period_of.result))) (nat_abs (test_period c.args.test.now)) c.store_over-out.ensures c.in_ok-vars.ensures.times c.in_ok-vars.ensures.texts (test_word c.args.test.now c.period_of.result c.requires.low c.requires.reach c.period_of.ensures) in
-    let w : IsWithTest c.args.domain.now (test_times c.args.test.now) (test_texts c.args.test.now) c.args.test.now c.new-all.result c.in-Some.pattern = subst (λ l. IsWithTest c.args.domain.now l (test_texts c.args.test.now) c.args.test.now c.new-all.result c.in-Some.pattern) c.in_ok-vars.ensures.times (subst (λ l. IsWithTest c.args.domain.now c.in_ok-vars.vars.times l c.args.test.now c.new-all.result c.in-Some.pattern) c.in_ok-vars.ensures.texts (subst (λ o. MatchOption o (HasNoTest c.args.domain.now c.in_ok-vars.vars.times c.in_ok-vars.vars.texts c.args.test.now c.new-all.result) (IsWithTest c.args.domain.now c.in_ok-vars.vars.times c.in_ok-vars.vars.texts c.args.test.now c.new-all.result)) c.in-Some.is c.in_ok-pattern.ensures)) in
+    let fresh = fresh_by c.store_over-out.result c.in_ok-vars.vars.times (test_times c.args.test.now) c.in_ok-vars.vars.texts (test_names c.args.test.now) (nat_abs (to_z w64 (of_z w64 c.period_of.result))) (nat_abs (test_period c.args.test.now)) c.store_over-out.ensures c.in_ok-vars.ensures.times c.in_ok-vars.ensures.texts (test_word c.args.test.now c.period_of.result c.requires.low c.requires.reach c.period_of.ensures) in
+    let w : IsWithTest c.args.domain.now (test_times c.args.test.now) (test_names c.args.test.now) c.args.test.now c.new-all.result c.in-Some.pattern = subst (λ l. IsWithTest c.args.domain.now l (test_names c.args.test.now) c.args.test.now c.new-all.result c.in-Some.pattern) c.in_ok-vars.ensures.times (subst (λ l. IsWithTest c.args.domain.now c.in_ok-vars.vars.times l c.args.test.now c.new-all.result c.in-Some.pattern) c.in_ok-vars.ensures.texts (subst (λ o. MatchOption o (HasNoTest c.args.domain.now c.in_ok-vars.vars.times c.in_ok-vars.vars.texts c.args.test.now c.new-all.result) (IsWithTest c.args.domain.now c.in_ok-vars.vars.times c.in_ok-vars.vars.texts c.args.test.now c.new-all.result)) c.in-Some.is c.in_ok-pattern.ensures)) in
     let shape = leaf_shape c.args.domain.now c.len-size.ensures.ascending c.args.test.now c.requires.low c.new-all.result c.new-all.ensures c.len-size.result c.len-size.ensures.count c.args.cap c.store_over-out.result fresh c.in-Some.pattern w c.add_pattern.new.out c.in-Ok.ensures.ok in
     record {
       times_named = ap length c.in_ok-vars.ensures.times ∙ sym (ap (λ (q : Shape). q.times) shape);
@@ -63,32 +63,32 @@ invariant_of-result-in-Ok c =
 
 pub returns-in-Ok-clause-table : goal.returns-in-Ok-clause-table
 returns-in-Ok-clause-table c =
-    let fresh = fresh_by c.store_over-out.result c.in_ok-vars.vars.times (test_times c.args.test.now) c.in_ok-vars.vars.texts (test_texts c.args.test.now) (nat_abs (to_z w64 (of_z w64 c.period_of.result))) (nat_abs (test_period c.args.test.now)) c.store_over-out.ensures c.in_ok-vars.ensures.times c.in_ok-vars.ensures.texts (test_word c.args.test.now c.period_of.result c.requires.low c.requires.reach c.period_of.ensures) in
-    let w : IsWithTest c.args.domain.now (test_times c.args.test.now) (test_texts c.args.test.now) c.args.test.now c.new-all.result c.in-Some.pattern = subst (λ l. IsWithTest c.args.domain.now l (test_texts c.args.test.now) c.args.test.now c.new-all.result c.in-Some.pattern) c.in_ok-vars.ensures.times (subst (λ l. IsWithTest c.args.domain.now c.in_ok-vars.vars.times l c.args.test.now c.new-all.result c.in-Some.pattern) c.in_ok-vars.ensures.texts (subst (λ o. MatchOption o (HasNoTest c.args.domain.now c.in_ok-vars.vars.times c.in_ok-vars.vars.texts c.args.test.now c.new-all.result) (IsWithTest c.args.domain.now c.in_ok-vars.vars.times c.in_ok-vars.vars.texts c.args.test.now c.new-all.result)) c.in-Some.is c.in_ok-pattern.ensures)) in
+    let fresh = fresh_by c.store_over-out.result c.in_ok-vars.vars.times (test_times c.args.test.now) c.in_ok-vars.vars.texts (test_names c.args.test.now) (nat_abs (to_z w64 (of_z w64 c.period_of.result))) (nat_abs (test_period c.args.test.now)) c.store_over-out.ensures c.in_ok-vars.ensures.times c.in_ok-vars.ensures.texts (test_word c.args.test.now c.period_of.result c.requires.low c.requires.reach c.period_of.ensures) in
+    let w : IsWithTest c.args.domain.now (test_times c.args.test.now) (test_names c.args.test.now) c.args.test.now c.new-all.result c.in-Some.pattern = subst (λ l. IsWithTest c.args.domain.now l (test_names c.args.test.now) c.args.test.now c.new-all.result c.in-Some.pattern) c.in_ok-vars.ensures.times (subst (λ l. IsWithTest c.args.domain.now c.in_ok-vars.vars.times l c.args.test.now c.new-all.result c.in-Some.pattern) c.in_ok-vars.ensures.texts (subst (λ o. MatchOption o (HasNoTest c.args.domain.now c.in_ok-vars.vars.times c.in_ok-vars.vars.texts c.args.test.now c.new-all.result) (IsWithTest c.args.domain.now c.in_ok-vars.vars.times c.in_ok-vars.vars.texts c.args.test.now c.new-all.result)) c.in-Some.is c.in_ok-pattern.ensures)) in
     leaf_table c.args.domain.now c.len-size.ensures.ascending c.args.test.now c.requires.low c.new-all.result c.new-all.ensures c.len-size.result c.len-size.ensures.count c.args.cap c.store_over-out.result fresh c.in-Some.pattern w c.add_pattern.new.out c.in-Ok.ensures.ok _ c.in_ok-vars.ensures.times c.in_ok-vars.ensures.texts refl
 
 pub returns-in-Ok-clause-reach : goal.returns-in-Ok-clause-reach
 returns-in-Ok-clause-reach c =
-    let fresh = fresh_by c.store_over-out.result c.in_ok-vars.vars.times (test_times c.args.test.now) c.in_ok-vars.vars.texts (test_texts c.args.test.now) (nat_abs (to_z w64 (of_z w64 c.period_of.result))) (nat_abs (test_period c.args.test.now)) c.store_over-out.ensures c.in_ok-vars.ensures.times c.in_ok-vars.ensures.texts (test_word c.args.test.now c.period_of.result c.requires.low c.requires.reach c.period_of.ensures) in
-    let w : IsWithTest c.args.domain.now (test_times c.args.test.now) (test_texts c.args.test.now) c.args.test.now c.new-all.result c.in-Some.pattern = subst (λ l. IsWithTest c.args.domain.now l (test_texts c.args.test.now) c.args.test.now c.new-all.result c.in-Some.pattern) c.in_ok-vars.ensures.times (subst (λ l. IsWithTest c.args.domain.now c.in_ok-vars.vars.times l c.args.test.now c.new-all.result c.in-Some.pattern) c.in_ok-vars.ensures.texts (subst (λ o. MatchOption o (HasNoTest c.args.domain.now c.in_ok-vars.vars.times c.in_ok-vars.vars.texts c.args.test.now c.new-all.result) (IsWithTest c.args.domain.now c.in_ok-vars.vars.times c.in_ok-vars.vars.texts c.args.test.now c.new-all.result)) c.in-Some.is c.in_ok-pattern.ensures)) in
+    let fresh = fresh_by c.store_over-out.result c.in_ok-vars.vars.times (test_times c.args.test.now) c.in_ok-vars.vars.texts (test_names c.args.test.now) (nat_abs (to_z w64 (of_z w64 c.period_of.result))) (nat_abs (test_period c.args.test.now)) c.store_over-out.ensures c.in_ok-vars.ensures.times c.in_ok-vars.ensures.texts (test_word c.args.test.now c.period_of.result c.requires.low c.requires.reach c.period_of.ensures) in
+    let w : IsWithTest c.args.domain.now (test_times c.args.test.now) (test_names c.args.test.now) c.args.test.now c.new-all.result c.in-Some.pattern = subst (λ l. IsWithTest c.args.domain.now l (test_names c.args.test.now) c.args.test.now c.new-all.result c.in-Some.pattern) c.in_ok-vars.ensures.times (subst (λ l. IsWithTest c.args.domain.now c.in_ok-vars.vars.times l c.args.test.now c.new-all.result c.in-Some.pattern) c.in_ok-vars.ensures.texts (subst (λ o. MatchOption o (HasNoTest c.args.domain.now c.in_ok-vars.vars.times c.in_ok-vars.vars.texts c.args.test.now c.new-all.result) (IsWithTest c.args.domain.now c.in_ok-vars.vars.times c.in_ok-vars.vars.texts c.args.test.now c.new-all.result)) c.in-Some.is c.in_ok-pattern.ensures)) in
     leaf_reach c.args.domain.now c.len-size.ensures.ascending c.args.test.now c.requires.low c.new-all.result c.new-all.ensures c.len-size.result c.len-size.ensures.count c.args.cap c.store_over-out.result fresh c.in-Some.pattern w c.add_pattern.new.out c.in-Ok.ensures.ok
 
 pub returns-in-Ok-clause-few : goal.returns-in-Ok-clause-few
 returns-in-Ok-clause-few c =
-    let fresh = fresh_by c.store_over-out.result c.in_ok-vars.vars.times (test_times c.args.test.now) c.in_ok-vars.vars.texts (test_texts c.args.test.now) (nat_abs (to_z w64 (of_z w64 c.period_of.result))) (nat_abs (test_period c.args.test.now)) c.store_over-out.ensures c.in_ok-vars.ensures.times c.in_ok-vars.ensures.texts (test_word c.args.test.now c.period_of.result c.requires.low c.requires.reach c.period_of.ensures) in
-    let w : IsWithTest c.args.domain.now (test_times c.args.test.now) (test_texts c.args.test.now) c.args.test.now c.new-all.result c.in-Some.pattern = subst (λ l. IsWithTest c.args.domain.now l (test_texts c.args.test.now) c.args.test.now c.new-all.result c.in-Some.pattern) c.in_ok-vars.ensures.times (subst (λ l. IsWithTest c.args.domain.now c.in_ok-vars.vars.times l c.args.test.now c.new-all.result c.in-Some.pattern) c.in_ok-vars.ensures.texts (subst (λ o. MatchOption o (HasNoTest c.args.domain.now c.in_ok-vars.vars.times c.in_ok-vars.vars.texts c.args.test.now c.new-all.result) (IsWithTest c.args.domain.now c.in_ok-vars.vars.times c.in_ok-vars.vars.texts c.args.test.now c.new-all.result)) c.in-Some.is c.in_ok-pattern.ensures)) in
+    let fresh = fresh_by c.store_over-out.result c.in_ok-vars.vars.times (test_times c.args.test.now) c.in_ok-vars.vars.texts (test_names c.args.test.now) (nat_abs (to_z w64 (of_z w64 c.period_of.result))) (nat_abs (test_period c.args.test.now)) c.store_over-out.ensures c.in_ok-vars.ensures.times c.in_ok-vars.ensures.texts (test_word c.args.test.now c.period_of.result c.requires.low c.requires.reach c.period_of.ensures) in
+    let w : IsWithTest c.args.domain.now (test_times c.args.test.now) (test_names c.args.test.now) c.args.test.now c.new-all.result c.in-Some.pattern = subst (λ l. IsWithTest c.args.domain.now l (test_names c.args.test.now) c.args.test.now c.new-all.result c.in-Some.pattern) c.in_ok-vars.ensures.times (subst (λ l. IsWithTest c.args.domain.now c.in_ok-vars.vars.times l c.args.test.now c.new-all.result c.in-Some.pattern) c.in_ok-vars.ensures.texts (subst (λ o. MatchOption o (HasNoTest c.args.domain.now c.in_ok-vars.vars.times c.in_ok-vars.vars.texts c.args.test.now c.new-all.result) (IsWithTest c.args.domain.now c.in_ok-vars.vars.times c.in_ok-vars.vars.texts c.args.test.now c.new-all.result)) c.in-Some.is c.in_ok-pattern.ensures)) in
     leaf_few c.args.domain.now c.len-size.ensures.ascending c.args.test.now c.requires.low c.new-all.result c.new-all.ensures c.len-size.result c.len-size.ensures.count c.args.cap c.store_over-out.result fresh c.in-Some.pattern w c.add_pattern.new.out c.in-Ok.ensures.ok
 
 pub returns-in-Err-TooManyCells-clause-many : goal.returns-in-Err-TooManyCells-clause-many
 returns-in-Err-TooManyCells-clause-many c =
-    let fresh = fresh_by c.store_over-out.result c.in_ok-vars.vars.times (test_times c.args.test.now) c.in_ok-vars.vars.texts (test_texts c.args.test.now) (nat_abs (to_z w64 (of_z w64 c.period_of.result))) (nat_abs (test_period c.args.test.now)) c.store_over-out.ensures c.in_ok-vars.ensures.times c.in_ok-vars.ensures.texts (test_word c.args.test.now c.period_of.result c.requires.low c.requires.reach c.period_of.ensures) in
-    let w : IsWithTest c.args.domain.now (test_times c.args.test.now) (test_texts c.args.test.now) c.args.test.now c.new-all.result c.in-Some.pattern = subst (λ l. IsWithTest c.args.domain.now l (test_texts c.args.test.now) c.args.test.now c.new-all.result c.in-Some.pattern) c.in_ok-vars.ensures.times (subst (λ l. IsWithTest c.args.domain.now c.in_ok-vars.vars.times l c.args.test.now c.new-all.result c.in-Some.pattern) c.in_ok-vars.ensures.texts (subst (λ o. MatchOption o (HasNoTest c.args.domain.now c.in_ok-vars.vars.times c.in_ok-vars.vars.texts c.args.test.now c.new-all.result) (IsWithTest c.args.domain.now c.in_ok-vars.vars.times c.in_ok-vars.vars.texts c.args.test.now c.new-all.result)) c.in-Some.is c.in_ok-pattern.ensures)) in
+    let fresh = fresh_by c.store_over-out.result c.in_ok-vars.vars.times (test_times c.args.test.now) c.in_ok-vars.vars.texts (test_names c.args.test.now) (nat_abs (to_z w64 (of_z w64 c.period_of.result))) (nat_abs (test_period c.args.test.now)) c.store_over-out.ensures c.in_ok-vars.ensures.times c.in_ok-vars.ensures.texts (test_word c.args.test.now c.period_of.result c.requires.low c.requires.reach c.period_of.ensures) in
+    let w : IsWithTest c.args.domain.now (test_times c.args.test.now) (test_names c.args.test.now) c.args.test.now c.new-all.result c.in-Some.pattern = subst (λ l. IsWithTest c.args.domain.now l (test_names c.args.test.now) c.args.test.now c.new-all.result c.in-Some.pattern) c.in_ok-vars.ensures.times (subst (λ l. IsWithTest c.args.domain.now c.in_ok-vars.vars.times l c.args.test.now c.new-all.result c.in-Some.pattern) c.in_ok-vars.ensures.texts (subst (λ o. MatchOption o (HasNoTest c.args.domain.now c.in_ok-vars.vars.times c.in_ok-vars.vars.texts c.args.test.now c.new-all.result) (IsWithTest c.args.domain.now c.in_ok-vars.vars.times c.in_ok-vars.vars.texts c.args.test.now c.new-all.result)) c.in-Some.is c.in_ok-pattern.ensures)) in
     λ e. leaf_many c.args.domain.now c.len-size.ensures.ascending c.args.test.now c.requires.low c.new-all.result c.new-all.ensures c.len-size.result c.len-size.ensures.count c.args.cap c.store_over-out.result fresh c.in-Some.pattern w c.add_pattern.new.out (c.add_pattern.ensures.too_many (c.in-Err-TooManyCells.is ∙ ap Err c.in-Err-TooManyCells.field-0-is))
 
 pub returns-in_default : goal.returns-in_default
 returns-in_default c =
-    let fresh = fresh_by c.store_over-out.result c.in_ok-vars.vars.times (test_times c.args.test.now) c.in_ok-vars.vars.texts (test_texts c.args.test.now) (nat_abs (to_z w64 (of_z w64 c.period_of.result))) (nat_abs (test_period c.args.test.now)) c.store_over-out.ensures c.in_ok-vars.ensures.times c.in_ok-vars.ensures.texts (test_word c.args.test.now c.period_of.result c.requires.low c.requires.reach c.period_of.ensures) in
-    let no : HasNoTest c.args.domain.now (test_times c.args.test.now) (test_texts c.args.test.now) c.args.test.now c.new-all.result = subst (λ l. HasNoTest c.args.domain.now l (test_texts c.args.test.now) c.args.test.now c.new-all.result) c.in_ok-vars.ensures.times (subst (λ l. HasNoTest c.args.domain.now c.in_ok-vars.vars.times l c.args.test.now c.new-all.result) c.in_ok-vars.ensures.texts (subst (λ o. MatchOption o (HasNoTest c.args.domain.now c.in_ok-vars.vars.times c.in_ok-vars.vars.texts c.args.test.now c.new-all.result) (IsWithTest c.args.domain.now c.in_ok-vars.vars.times c.in_ok-vars.vars.texts c.args.test.now c.new-all.result)) c.in_default.is c.in_ok-pattern.ensures)) in
+    let fresh = fresh_by c.store_over-out.result c.in_ok-vars.vars.times (test_times c.args.test.now) c.in_ok-vars.vars.texts (test_names c.args.test.now) (nat_abs (to_z w64 (of_z w64 c.period_of.result))) (nat_abs (test_period c.args.test.now)) c.store_over-out.ensures c.in_ok-vars.ensures.times c.in_ok-vars.ensures.texts (test_word c.args.test.now c.period_of.result c.requires.low c.requires.reach c.period_of.ensures) in
+    let no : HasNoTest c.args.domain.now (test_times c.args.test.now) (test_names c.args.test.now) c.args.test.now c.new-all.result = subst (λ l. HasNoTest c.args.domain.now l (test_names c.args.test.now) c.args.test.now c.new-all.result) c.in_ok-vars.ensures.times (subst (λ l. HasNoTest c.args.domain.now c.in_ok-vars.vars.times l c.args.test.now c.new-all.result) c.in_ok-vars.ensures.texts (subst (λ o. MatchOption o (HasNoTest c.args.domain.now c.in_ok-vars.vars.times c.in_ok-vars.vars.texts c.args.test.now c.new-all.result) (IsWithTest c.args.domain.now c.in_ok-vars.vars.times c.in_ok-vars.vars.texts c.args.test.now c.new-all.result)) c.in_default.is c.in_ok-pattern.ensures)) in
     record {
       table = no_table c.args.domain.now c.len-size.ensures.ascending c.args.test.now c.requires.low c.new-all.result c.new-all.ensures c.len-size.result c.len-size.ensures.count c.args.cap c.store_over-out.result fresh no c.shape.ensures.valid _ c.in_ok-vars.ensures.times c.in_ok-vars.ensures.texts refl;
       reach = no_reach c.args.domain.now c.len-size.ensures.ascending c.args.test.now c.requires.low c.new-all.result c.new-all.ensures c.len-size.result c.len-size.ensures.count c.args.cap c.store_over-out.result fresh no c.shape.ensures.valid (test_reach c.args.test.now);

@@ -2,12 +2,12 @@
 use Rattle.std.proofs.Common.{◌≡◌, inl, inr, sym, ap, subst, ◌∙◌, length, ◌++◌}
 use Rattle.std.specs.Prelude.{AllPairs, ◌≢◌}
 use Rattle.lrp_store.specs.Stores.{StoreView}
-use Rattle.lrp_tables.specs.Columns.{others}
 use Rattle.lrp_algebra.specs.Tuples.{IsStoreWithoutTime}
 use Rattle.lrp_tables.proofs.Named.{others_differ}
 use Rattle.lrp_algebra.proofs.TimeDropped.{StoreOf, either_dropped, either_times, either_texts}
 use Rattle.lrp_algebra.proofs.time_drops.drop_time.Goals as goal
 use Rattle.lrp_algebra.proofs.time_drops.drop_time.Goals.{in-Some+in_ok-store-in-Some, in-None+in_ok-store-in-None}
+use Rattle.lrp_model.specs.Texts.{without}
 
 pub invariant_of-result : goal.invariant_of-result
 invariant_of-result c =
@@ -18,7 +18,7 @@ invariant_of-result c =
     record {
       times_named = ap length c.in_ok-without.ensures ∙ either_times c.args.name.now c.args.table.now c.args.table.now.names_differ c.match-place_of.store c.args.table.now.times_named store;
       texts_named = ap length c.in_ok-copy.ensures ∙ c.args.table.now.texts_named ∙ sym (either_texts c.args.name.now c.args.table.now c.args.table.now.names_differ c.match-place_of.store store);
-      names_differ = subst (λ l. AllPairs ◌≢◌ (l ++ c.in_ok-copy.field-0)) (sym c.in_ok-without.ensures) (subst (λ l. AllPairs ◌≢◌ (others c.args.name.now c.args.table.now.vars.times ++ l)) (sym c.in_ok-copy.ensures) (others_differ c.args.name.now c.args.table.now.vars.times c.args.table.now.vars.texts c.args.table.now.names_differ));
+      names_differ = subst (λ l. AllPairs ◌≢◌ (l ++ c.in_ok-copy.field-0)) (sym c.in_ok-without.ensures) (subst (λ l. AllPairs ◌≢◌ (without c.args.name.now c.args.table.now.vars.times ++ l)) (sym c.in_ok-copy.ensures) (others_differ c.args.name.now c.args.table.now.vars.times c.args.table.now.vars.texts c.args.table.now.names_differ));
     }
 
 pub returns : goal.returns

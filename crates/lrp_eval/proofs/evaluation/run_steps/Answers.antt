@@ -2,7 +2,7 @@
 use Rattle.std.proofs.Common.{◌≡◌, ◌<◌, Err, vec_len, List, suc, length, sym, ap, subst, ◌∙◌, arith}
 use Rattle.lrp_model.specs.Caps.{ManyAt, IsFirstMany}
 use Rattle.lrp_store.specs.declared.table.Table.{Table}
-use Rattle.lrp_eval.specs.Running.{IsNext, IsRun}
+use Rattle.lrp_eval.specs.Running.{IsNext, IsStepTable}
 use Rattle.lrp_eval.proofs.AnswerLaws.{has_answers}
 use Rattle.lrp_eval.proofs.LoopLaws.{next_step, more_count, more_run, first_many, some_step, last_run, cause}
 use Rattle.lrp_eval.proofs.evaluation.run_steps.Goals as goal
@@ -35,7 +35,7 @@ loop-step-preserved c = record {
   count = ap (λ (ts : List Table). length ts) c.in_ok-push-in-Ok.ensures.ok ∙ more_count c.loop-step.tables c.in-Ok.table c.loop-step.step-index c.loop-step.invariant.count;
   run = λ q h.
       more_run c.args.database.now q c.args.cap c.loop-step.tables c.push.new.self c.in-Ok.table c.in_ok-push-in-Ok.ensures.ok (c.loop-step.invariant.run q h)
-      (subst (λ (ts : List Table). IsRun c.args.database.now q c.args.cap (suc (length ts)) c.in-Ok.table) c.as_slice.ensures
+      (subst (λ (ts : List Table). IsStepTable c.args.database.now q c.args.cap (suc (length ts)) c.in-Ok.table) c.as_slice.ensures
       (c.in-Ok.ensures.table q h.is.head (subst (λ (ts : List Table). IsNext c.args.database.now q c.args.cap c.args.plan.now.domain ts c.step-item.result.kind c.step-item.result.period) (sym c.as_slice.ensures)
       (next_step c.args.database.now q c.args.cap c.args.plan.now c.loop-step.tables c.loop-step.step-index c.step-item.result c.as_slice-step-items.result.now h c.as_slice-step-items.ensures c.loop-step-test.true c.step-item.is c.loop-step.invariant.count (c.loop-step.invariant.run q h)))));
 }

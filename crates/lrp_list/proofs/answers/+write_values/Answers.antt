@@ -4,9 +4,9 @@ use Rattle.std.proofs.lemmas.Result.{err_from_is_err_and}
 use Rattle.lrp_model.specs.Printed.{point_bytes, quoted}
 use Rattle.lrp_io.proofs.PieceLemmas.{written_behind, written_err, front_before}
 use Rattle.lrp_print.proofs.Lines.{written_as, front_as}
-use Rattle.lrp_list.specs.Lines.{text_at, texts_at}
 use Rattle.lrp_list.proofs.AnswerLines.{behind_of, point_first, constant_first}
 use Rattle.lrp_list.proofs.answers.+write_values.Goals as goal
+use Rattle.lrp_model.specs.Tuples.{text_at, texts_at}
 
 pub returns-in_err-write_residue-clause-text : goal.returns-in_err-write_residue-clause-text
 returns-in_err-write_residue-clause-text g t c =

@@ -3,10 +3,10 @@ use Rattle.std.specs.Prelude.{pos}
 use Rattle.std.specs.Fmt.{signed_decimal}
 use Rattle.std.proofs.lemmas.Result.{err_from_is_err_and}
 use Rattle.lrp_model.specs.Printed.{quoted}
-use Rattle.lrp_model.specs.Tuples.{in_head_order}
+use Rattle.lrp_model.specs.Tuples.{in_head_order, text_at, texts_at}
 use Rattle.lrp_io.proofs.PieceLemmas.{written_behind, written_err, front_before}
 use Rattle.lrp_print.proofs.Lines.{written_as, front_as}
-use Rattle.lrp_list.specs.Lines.{behind, text_at, texts_at}
+use Rattle.lrp_list.specs.Lines.{behind}
 use Rattle.lrp_list.proofs.LineLaws.{time_first, text_first}
 use Rattle.lrp_list.proofs.lines.+write_values.Goals as goal
 

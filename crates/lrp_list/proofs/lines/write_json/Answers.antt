@@ -1,10 +1,10 @@
 use Rattle.std.proofs.Common.{◌++◌, codes}
 use Rattle.std.proofs.lemmas.Result.{err_from_is_err_and}
 use Rattle.lrp_model.specs.PrintedPages.{json_line}
-use Rattle.lrp_model.specs.Tuples.{in_head_order}
+use Rattle.lrp_model.specs.Tuples.{in_head_order, texts_at}
 use Rattle.lrp_io.proofs.PieceLemmas.{written_behind, written_err, front_before, front_behind}
 use Rattle.lrp_print.proofs.Lines.{written_as, front_as}
-use Rattle.lrp_list.specs.Lines.{behind, texts_at}
+use Rattle.lrp_list.specs.Lines.{behind}
 use Rattle.lrp_list.proofs.LineLaws.{json_line_is}
 use Rattle.lrp_list.proofs.lines.write_json.Goals as goal
 

@@ -1,7 +1,7 @@
 use Rattle.std.proofs.Common.{arith, ◌^◌, Some, subst, sym}
 use Rattle.std.specs.Prelude.{neg_ℤ}
 use Rattle.lrp_theory.specs.Entries.{entry, node, AtMost}
-use Rattle.lrp_matrix.specs.Ranges.{AreEnds}
+use Rattle.lrp_matrix.specs.Ranges.{AreEndsOf}
 use Rattle.lrp_matrix.proofs.RangeLemmas.{low_sum, high_sum, low_step, high_step, small_step, ends_are, AtMost-negation, Gives, FromLow, FromHigh}
 use Rattle.lrp_matrix.proofs.ranges.ends.Goals as goal
 
@@ -23,7 +23,7 @@ loop-p-preserved c =
 
 pub returns-clause-ends : goal.returns-clause-ends
 returns-clause-ends c =
-    subst (λ e. AreEnds c.args.cells.now c.args.i c.args.prefix.now e c.loop-p.high) (sym c.negated-2.ensures)
+    subst (λ e. AreEndsOf c.args.cells.now c.args.i c.args.prefix.now e c.loop-p.high) (sym c.negated-2.ensures)
     (ends_are c.args.cells.now c.args.i c.args.prefix.now c.loop-p.low c.loop-p.high
     (subst (λ n. Gives (FromLow c.args.cells.now c.args.i c.args.prefix.now) neg_ℤ n c.loop-p.low) (omega arith) c.loop-p.invariant.low)
     (subst (λ n. Gives (FromHigh c.args.cells.now c.args.i c.args.prefix.now) (λ v. v) n c.loop-p.high) (omega arith) c.loop-p.invariant.high))

@@ -1,11 +1,12 @@
 -- The numbers of a column make up all of its tuples.
 use Rattle.std.proofs.Common.{◌≡◌, ◌+◌, ◌*◌, ◌<◌, ◌≤◌, ℕ, List, sym, ap, subst, ◌∙◌, arith, get_or, replicate}
 use Rattle.std.specs.Prelude.{ℤ, pos}
-use Rattle.lrp_minus.specs.Absences.{IsAbsent, AreChosen}
+use Rattle.lrp_minus.specs.Absences.{IsAbsent}
 use Rattle.lrp_minus.proofs.AbsenceLaws.{noughts, texts_added, texts_refused, chosen_more, text_more, text_refused}
 use Rattle.lrp_minus.proofs.Gathering.{gathering_none}
 use Rattle.lrp_minus.proofs.Lists.{on_ok}
 use Rattle.lrp_minus.proofs.absences.+fill_texts.Goals as goal
+use Rattle.lrp_store.specs.Stores.{AreChosenTexts}
 
 pub returns-then-column-columns-clause-ok : goal.returns-then-column-columns-clause-ok
 returns-then-column-columns-clause-ok t c =
@@ -33,7 +34,7 @@ fill_texts-requires t c =
           c.requires.turned,
           (
             omega arith,
-            subst (λ (d : List ℕ). AreChosen c.args.size (c.args.column + 1) d) (sym c.with_text-next.ensures)
+            subst (λ (d : List ℕ). AreChosenTexts c.args.size (c.args.column + 1) d) (sym c.with_text-next.ensures)
                 (chosen_more c.args.store.now c.shape-2.ensures.valid c.args.size c.args.column c.args.texts.now c.requires.chosen low c.loop-number.number c.loop-number-test.true),
           ),
         ),

@@ -2,12 +2,12 @@
 use Rattle.std.proofs.Common.{◌≡◌, drop, map, []}
 use Rattle.indexmap.specs.IndexSet.{keys}
 use Rattle.lrp_model.specs.Faults.{first, repeated}
-use Rattle.lrp_model.specs.DatabaseFaults.{stands, fault, named_at}
+use Rattle.lrp_model.specs.DatabaseFaults.{database_standing, database_fault, named_at}
 use Rattle.lrp_model.specs.declared.faults.DbKind.TheVariants.{Name}
 use Rattle.lrp_rel.specs.Sooner.{sooner}
 use Rattle.lrp_rel.proofs.faults.repeated_column.Given as goal
 
 abbrev pub invariant-loop-column : goal.invariant-loop-column
 invariant-loop-column l =
-    sooner stands l.best (first stands (repeated (fault Name) (keys l.names) (map named_at (drop l.column-index l.columns))))
-    ≡ first stands (repeated (fault Name) [] (map named_at l.columns))
+    sooner database_standing l.best (first database_standing (repeated (database_fault Name) (keys l.names) (map named_at (drop l.column-index l.columns))))
+    ≡ first database_standing (repeated (database_fault Name) [] (map named_at l.columns))

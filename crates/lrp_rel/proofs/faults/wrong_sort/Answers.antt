@@ -1,7 +1,7 @@
 -- One value more, up to the last column or value.
 use Rattle.std.proofs.Common.{◌<◌, ◌≤◌, ◌∙◌, ap, sym, length, min, arith}
 use Rattle.lrp_model.specs.Faults.{first}
-use Rattle.lrp_model.specs.DatabaseFaults.{stands}
+use Rattle.lrp_model.specs.DatabaseFaults.{database_standing}
 use Rattle.lrp_rel.specs.Sooner.{sooner}
 use Rattle.lrp_rel.proofs.FirstFault.{sooner_than_none}
 use Rattle.lrp_rel.proofs.FaultWalks.{sorts_walk, sorts_end}
@@ -23,4 +23,4 @@ returns c =
     let values = c.args.values.now in
     let i = c.loop-i.i in
     let past : min (length columns) (length values) ≤ i = omega (arith, c.loop-i-test.false, c.min-i-end.ensures) in
-    sym (sooner_than_none stands c.loop-i.best) ∙ ap (λ l. sooner stands c.loop-i.best (first stands l)) (sym (sorts_end columns values i past)) ∙ c.loop-i.invariant
+    sym (sooner_than_none database_standing c.loop-i.best) ∙ ap (λ l. sooner database_standing c.loop-i.best (first database_standing l)) (sym (sorts_end columns values i past)) ∙ c.loop-i.invariant

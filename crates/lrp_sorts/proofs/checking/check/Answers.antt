@@ -3,14 +3,14 @@ use Rattle.lrp_model.specs.Checked.{plain}
 use Rattle.lrp_model.specs.Core.{HasElements}
 use Rattle.lrp_model.specs.Formulas.{form_of}
 use Rattle.lrp_model.specs.RawQueries.{raw_form_of, raw_question_of}
-use Rattle.lrp_model.specs.Sorting.{stands, faults}
+use Rattle.lrp_model.specs.Sorting.{query_standing, query_faults}
 use Rattle.lrp_rel.proofs.FirstFault.{none_is_empty}
 use Rattle.lrp_model.specs.TestPoints.{points}
 use Rattle.lrp_sorts.proofs.Carries.{members_stay, points_stay}
 use Rattle.lrp_sorts.proofs.checking.check.Goals as goal
 
 pub returns-in-Ok-plain_query-clause-sorted : goal.returns-in-Ok-plain_query-clause-sorted
-returns-in-Ok-plain_query-clause-sorted c = none_is_empty stands (faults c.args.db.now (raw_question_of c.args.raw.now)) (sym c.in-Ok.ensures.fault ∙ c.in_default-fault.is)
+returns-in-Ok-plain_query-clause-sorted c = none_is_empty query_standing (query_faults c.args.db.now (raw_question_of c.args.raw.now)) (sym c.in-Ok.ensures.fault ∙ c.in_default-fault.is)
 
 pub returns-in-Ok-plain_query-clause-members : goal.returns-in-Ok-plain_query-clause-members
 returns-in-Ok-plain_query-clause-members c = λ h.

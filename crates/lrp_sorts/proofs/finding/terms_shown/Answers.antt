@@ -1,7 +1,7 @@
 use Rattle.std.proofs.Common.{◌≡◌, ap, sym, ◌∙◌, refl, subst, flat_map, take, length, option_map, arith}
 use Rattle.std.proofs.Math.Seq.{take-length}
 use Rattle.lrp_model.specs.Faults.{first}
-use Rattle.lrp_model.specs.Sorting.{stands, term_sort, term_names, term_faults, column_faults}
+use Rattle.lrp_model.specs.Sorting.{query_standing, term_sort, term_names, term_faults, column_faults}
 use Rattle.lrp_rel.specs.Sooner.{sooner}
 use Rattle.lrp_sorts.specs.Scopes.{binders}
 use Rattle.lrp_sorts.specs.Terms.{misfits}
@@ -14,7 +14,7 @@ use Rattle.lrp_sorts.proofs.finding.terms_shown.Goals as goal
 pub loop-i-init : goal.loop-i-init
 loop-i-init c = record {
   fault = refl;
-  misfit = ap (first stands) (sym (no_terms (binders c.args.scope.now) c.args.columns.now));
+  misfit = ap (first query_standing) (sym (no_terms (binders c.args.scope.now) c.args.columns.now));
   free = c.new-free.ensures (binders c.args.scope.now) c.quantifiers-quantifiers.result;
 }
 
@@ -26,11 +26,11 @@ loop-i-preserved c =
     let seen = c.term_sort-sorted.ensures in
     record {
       fault =
-          c.sooner_of-fault.ensures ∙ ap (λ f. sooner stands f c.fault.result) kept.fault ∙ ap (sooner stands _) (c.fault.ensures ∙ ap (first stands) seen.faults)
-          ∙ one_more stands (term_faults bs) c.args.terms.now c.loop-i.i t c.loop-i-test.true c.index-terms-i.is;
+          c.sooner_of-fault.ensures ∙ ap (λ f. sooner query_standing f c.fault.result) kept.fault ∙ ap (sooner query_standing _) (c.fault.ensures ∙ ap (first query_standing) seen.faults)
+          ∙ one_more query_standing (term_faults bs) c.args.terms.now c.loop-i.i t c.loop-i-test.true c.index-terms-i.is;
       misfit =
-          c.sooner_of-misfit.ensures ∙ ap (λ f. sooner stands f c.misfit.result) kept.misfit
-          ∙ ap (sooner stands _) (c.misfit.ensures ∙ ap (λ s. first stands (misfits s t.place (option_map (λ x. x.now) c.get.result))) seen.sort ∙ ap (λ k. first stands (misfits (term_sort bs t) t.place k)) (column_at c.args.columns.now c.loop-i.i c.get.result c.get.ensures.lookup.1 c.get.ensures.lookup.3))
+          c.sooner_of-misfit.ensures ∙ ap (λ f. sooner query_standing f c.misfit.result) kept.misfit
+          ∙ ap (sooner query_standing _) (c.misfit.ensures ∙ ap (λ s. first query_standing (misfits s t.place (option_map (λ x. x.now) c.get.result))) seen.sort ∙ ap (λ k. first query_standing (misfits (term_sort bs t) t.place k)) (column_at c.args.columns.now c.loop-i.i c.get.result c.get.ensures.lookup.1 c.get.ensures.lookup.3))
           ∙ column_further bs c.args.terms.now c.args.columns.now c.loop-i.i t c.loop-i-test.true c.index-terms-i.is;
       free =
           subst (λ ns. IsTally bs c.quantifiers-quantifiers.result ns c.add_variable.new.variables) (one_further term_names c.args.terms.now c.loop-i.i t c.loop-i-test.true c.index-terms-i.is)
@@ -45,11 +45,11 @@ all_terms c =
 
 pub returns-clause-fault : goal.returns-clause-fault
 returns-clause-fault c =
-    c.loop-i.invariant.fault ∙ ap (λ ts. first stands (flat_map (term_faults (binders c.args.scope.now)) ts)) (all_terms c)
+    c.loop-i.invariant.fault ∙ ap (λ ts. first query_standing (flat_map (term_faults (binders c.args.scope.now)) ts)) (all_terms c)
 
 pub returns-clause-misfit : goal.returns-clause-misfit
 returns-clause-misfit c =
-    c.loop-i.invariant.misfit ∙ ap (λ ts. first stands (column_faults (binders c.args.scope.now) ts c.args.columns.now)) (all_terms c)
+    c.loop-i.invariant.misfit ∙ ap (λ ts. first query_standing (column_faults (binders c.args.scope.now) ts c.args.columns.now)) (all_terms c)
 
 pub returns-clause-free : goal.returns-clause-free
 returns-clause-free c =

@@ -2,7 +2,7 @@ use Rattle.std.proofs.Common.{◌≡◌, ◌∷◌, ◌++◌, [], List, Some, re
 use Rattle.lrp_model.specs.Texts.{Identifier}
 use Rattle.lrp_model.specs.Sorting.{binder_sort}
 use Rattle.lrp_rel.specs.Sooner.{sooner}
-use Rattle.lrp_model.specs.Sorting.{stands}
+use Rattle.lrp_model.specs.Sorting.{query_standing}
 use Rattle.lrp_sorts.specs.Scopes.{Around, binders}
 use Rattle.lrp_sorts.specs.Widths.{IsTally, IsCounted}
 use Rattle.lrp_sorts.proofs.Tallies.{first_counted, own_binder, own_gone}
@@ -25,7 +25,7 @@ returns-clause-scope c = λ outer e. c.leave.ensures c.args.binder.now outer e
 pub returns-clause-fault : goal.returns-clause-fault
 returns-clause-fault c = λ outer names e k.
     c.sooner_of.ensures
-    ∙ ap (sooner stands c.args.own) (c.with_width-within.ensures.fault (binders c.args.scope.now) (length c.args.scope.now.quantifiers) (c.args.binder.now.name ∷ names) (own_counted (goal.at.returns-clause-fault c).After-leave-2 outer names e k))
+    ∙ ap (sooner query_standing c.args.own) (c.with_width-within.ensures.fault (binders c.args.scope.now) (length c.args.scope.now.quantifiers) (c.args.binder.now.name ∷ names) (own_counted (goal.at.returns-clause-fault c).After-leave-2 outer names e k))
 
 pub returns-clause-free : goal.returns-clause-free
 returns-clause-free c = λ outer names e k.

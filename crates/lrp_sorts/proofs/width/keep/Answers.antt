@@ -1,7 +1,7 @@
 use Rattle.std.proofs.Common.{◌≡◌, ◌∷◌, [], ◌++◌, false, ap, sym, ◌∙◌, subst, length, arith}
 use Rattle.std.proofs.lemmas.List.{map-append, length-map}
 use Rattle.lrp_model.specs.Faults.{is_named_in}
-use Rattle.lrp_sorts.specs.Widths.{IsKept, names_behind}
+use Rattle.lrp_sorts.specs.Widths.{AreKeptNames, names_behind}
 use Rattle.lrp_sorts.proofs.Kept.{as_is, kept_too}
 use Rattle.lrp_sorts.proofs.width.keep.Goals.{else-more-quantifiers-via-then-more-quantifiers+else-not-is_among, else-more-quantifiers-via-else-more-quantifiers}
 use Rattle.lrp_sorts.proofs.width.keep.Goals as goal
@@ -10,7 +10,7 @@ pub returns-in_ok-push : goal.returns-in_ok-push
 returns-in_ok-push c = λ passes bs names p k.
     let new : is_named_in (names_behind c.args.kept.now.items) c.args.name.now ≡ false =
     ap (λ ns. is_named_in (names_behind ns) c.args.name.now) (sym c.deref.ensures.value) ∙ sym c.is_among.ensures ∙ c.if-not-is_among.true in
-    subst (λ l. IsKept passes bs c.args.quantifiers (names ++ c.args.name.now ∷ []) l)
+    subst (λ l. AreKeptNames passes bs c.args.quantifiers (names ++ c.args.name.now ∷ []) l)
     (sym (ap names_behind c.in_ok-push.ensures.items ∙ map-append (λ n. n.now) c.args.kept.now.items (c.args.name ∷ [])))
     (kept_too passes bs c.args.quantifiers names (names_behind c.args.kept.now.items) c.args.name.now k new p)
 

@@ -3,7 +3,7 @@ use Rattle.std.proofs.Math.Seq.{take-length}
 use Rattle.std.proofs.lemmas.List.{map-append, take_more}
 use Rattle.lrp_model.specs.Texts.{Identifier}
 use Rattle.lrp_model.specs.Faults.{is_named_in}
-use Rattle.lrp_sorts.specs.Widths.{IsKept, names_behind}
+use Rattle.lrp_sorts.specs.Widths.{AreKeptNames, names_behind}
 use Rattle.lrp_sorts.proofs.Counting.{and_both}
 use Rattle.lrp_sorts.proofs.Kept.{joined}
 use Rattle.lrp_sorts.proofs.Tallies.{item_behind}
@@ -17,7 +17,7 @@ loop-name-preserved c = λ passes bs names k all.
     let whole : (names ++ names_behind (take i others)) ++ one.now ∷ [] ≡ names ++ names_behind (take (i + 1) others) =
     append_assoc names (names_behind (take i others)) (one.now ∷ [])
     ∙ ap (λ l. names ++ l) (sym (map-append (λ n. n.now) (take i others) (one ∷ [])) ∙ ap (λ x. names_behind (take i others ++ x ∷ [])) c.name-item.is ∙ ap names_behind (sym (take_more others i one c.loop-name-test.true))) in
-    subst (λ l. IsKept passes bs c.args.quantifiers l (names_behind c.keep.new.kept.items)) whole
+    subst (λ l. AreKeptNames passes bs c.args.quantifiers l (names_behind c.keep.new.kept.items)) whole
     (c.in_ok-keep.ensures passes bs (names ++ names_behind (take i others)) (all one.now (item_behind others i one c.loop-name-test.true c.name-item.is)) (c.loop-name.invariant passes bs names k all))
 
 pub returns : goal.returns
@@ -26,5 +26,5 @@ returns c = λ passes bs names more k j.
     let last : c.loop-name.name-index ≡ length c.args.others.now = omega arith in
     ap (λ i. take i c.args.others.now) last ∙ take-length c.args.others.now in
     joined passes bs c.args.quantifiers names more (names_behind c.args.others.now) (names_behind c.loop-name.kept.items)
-    (subst (λ l. IsKept passes bs c.args.quantifiers (names ++ names_behind l) (names_behind c.loop-name.kept.items)) whole
+    (subst (λ l. AreKeptNames passes bs c.args.quantifiers (names ++ names_behind l) (names_behind c.loop-name.kept.items)) whole
     (c.loop-name.invariant passes bs names k (λ n h. (and_both (is_named_in more n) _ (j.among n h)).1))) j

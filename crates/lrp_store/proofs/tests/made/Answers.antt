@@ -4,10 +4,10 @@ use Rattle.std.specs.Prelude.{ℤ, pos, nat_abs, ◌≤ℤ◌, IfSome}
 use Rattle.std.proofs.lemmas.Int.{ints}
 use Rattle.lrp_model.specs.declared.relations.Bound.{Bound}
 use Rattle.lrp_zone.specs.Zones.{ZoneView, reach_of}
-use Rattle.lrp_zone.specs.Given.{bound_at, IsOf}
+use Rattle.lrp_zone.specs.Given.{bound_at, IsGivenZone}
 use Rattle.lrp_store.proofs.tests.made.Goals as goal
 
-small_reach : (k : ℤ) (rs : List ℤ) (bs : List Bound) → k ≤ℤ pos (2 ^ 53) → ((i : ℕ) → i < length bs → nat_abs (bound_at bs i).most ≤ 2 ^ 53) → (o : Option ZoneView) → IfSome o (λ z. IsOf k rs bs z) → IfSome o (λ z. reach_of z + z.period ≤ 2 ^ 55)
+small_reach : (k : ℤ) (rs : List ℤ) (bs : List Bound) → k ≤ℤ pos (2 ^ 53) → ((i : ℕ) → i < length bs → nat_abs (bound_at bs i).most ≤ 2 ^ 53) → (o : Option ZoneView) → IfSome o (λ z. IsGivenZone k rs bs z) → IfSome o (λ z. reach_of z + z.period ≤ 2 ^ 55)
 small_reach k rs bs high small None h = tt
 small_reach k rs bs high small (Some z) h =
     let r : reach_of z ≤ 2 ^ 53 + (z.period - 1) = h.reach (2 ^ 53) small in

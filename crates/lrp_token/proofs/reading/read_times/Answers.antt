@@ -1,7 +1,7 @@
 -- Each piece is read in turn.
 use Rattle.std.proofs.Common.{◌≡◌, ◌∙◌, [], ◌∷◌, ◌++◌, length, ap, lit<, arith}
 use Rattle.std.specs.Fmt.{signed_decimal}
-use Rattle.lrp_token.specs.Parts.{IsSmall, Spells}
+use Rattle.lrp_token.specs.Parts.{IsSmall, IsSpelling}
 use Rattle.lrp_token.proofs.Numbers.{number_lacks, through_word}
 use Rattle.std.proofs.lemmas.Iterator.Consumers.{YieldsList-turn, YieldsList-end}
 use Rattle.std.proofs.lemmas.Iterator.Splits.{YieldsList-from_str_split}
@@ -17,7 +17,7 @@ returns-in_default c =
 
 pub loop-part-preserved : goal.loop-part-preserved
 loop-part-preserved c =
-    let spells : Spells IsSmall signed_decimal c.in-Some.part.now c.in-Some-time_of.time = c.in-Some-time_of.ensures in
+    let spells : IsSpelling IsSmall signed_decimal c.in-Some.part.now c.in-Some-time_of.time = c.in-Some-time_of.ensures in
     let more : c.push.new.self ≡ c.loop-part.times ++ c.in-Some-time_of.time ∷ [] = c.in_ok-push.ensures.ok ∙ ap (λ x. c.loop-part.times ++ x ∷ []) (through_word c.in-Some-time_of.time spells.fits) in
     record {
       can = tt;

@@ -1,10 +1,10 @@
 use Rattle.std.proofs.Common.{◌++◌, codes}
 use Rattle.std.specs.List.{flat_map}
 use Rattle.lrp_model.specs.PrintedPages.{text_part}
-use Rattle.lrp_token.specs.Spots.{text_at}
 use Rattle.std.proofs.lemmas.Result.{err_from_is_err_and}
 use Rattle.lrp_io.proofs.PieceLemmas.{written_err, each_front}
 use Rattle.lrp_token.proofs.writing.write_further_texts.Goals as goal
+use Rattle.lrp_model.specs.Tuples.{text_at}
 
 pub returns-in_err-write_next_text-clause-text : goal.returns-in_err-write_next_text-clause-text
 returns-in_err-write_next_text-clause-text g c =

@@ -1,9 +1,9 @@
 use Rattle.std.proofs.Common.{◌≡◌, ◌≤◌, ◌++◌, codes, take}
 use Rattle.std.specs.List.{flat_map}
 use Rattle.lrp_model.specs.PrintedPages.{text_part}
-use Rattle.lrp_token.specs.Spots.{text_at}
 use Rattle.lrp_io.specs.Bytes.{appended}
 use Rattle.lrp_token.proofs.writing.write_further_texts.Given as goal
+use Rattle.lrp_model.specs.Tuples.{text_at}
 
 -- those so far were written
 abbrev pub invariant-loop-number : goal.invariant-loop-number

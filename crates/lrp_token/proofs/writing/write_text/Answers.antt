@@ -1,10 +1,10 @@
 use Rattle.std.proofs.Common.{[], codes, ap, sym, ◌∙◌}
 use Rattle.std.proofs.lemmas.Option.{get_or_from_slice_get}
 use Rattle.lrp_model.specs.PrintedPages.{hex}
-use Rattle.lrp_token.specs.Spots.{text_at}
 use Rattle.lrp_io.proofs.PieceLemmas.{written_behind}
 use Rattle.lrp_print.proofs.Lines.{written_as}
 use Rattle.lrp_token.proofs.writing.write_text.Goals as goal
+use Rattle.lrp_model.specs.Tuples.{text_at}
 
 pub returns-clause-text : goal.returns-clause-text
 returns-clause-text g c =

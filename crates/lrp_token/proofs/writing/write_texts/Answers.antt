@@ -1,12 +1,12 @@
 use Rattle.std.proofs.Common.{ℕ, List, ◌++◌, ◌-◌, codes, take, drop, length, get_or}
 use Rattle.std.specs.List.{flat_map}
 use Rattle.lrp_model.specs.PrintedPages.{text_part}
-use Rattle.lrp_token.specs.Spots.{text_at}
 use Rattle.std.proofs.lemmas.Result.{err_from_is_err_and}
 use Rattle.lrp_model.specs.Printed.{joined_by}
 use Rattle.lrp_io.proofs.PieceLemmas.{written_behind, written_err, front_before}
 use Rattle.lrp_print.proofs.Lines.{first_of, front_as, joined_rest, written_as}
 use Rattle.lrp_token.proofs.writing.write_texts.Goals as goal
+use Rattle.lrp_model.specs.Tuples.{text_at}
 
 pub returns-in_err-write_text-in-len1-up-clause-text : goal.returns-in_err-write_text-in-len1-up-clause-text
 returns-in_err-write_text-in-len1-up-clause-text g c =

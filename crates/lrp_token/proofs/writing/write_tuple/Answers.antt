@@ -5,9 +5,10 @@ use Rattle.lrp_model.specs.Printed.{joined_by}
 use Rattle.lrp_model.specs.PrintedPages.{text_part}
 use Rattle.lrp_io.proofs.PieceLemmas.{written_behind, written_err, front_behind, front_before}
 use Rattle.lrp_print.proofs.Lines.{written_as}
-use Rattle.lrp_token.specs.Spots.{times_in, text_at, texts_in}
+use Rattle.lrp_token.specs.Spots.{times_in, texts_in}
 use Rattle.lrp_token.proofs.Lists.{joined_map}
 use Rattle.lrp_token.proofs.writing.write_tuple.Goals as goal
+use Rattle.lrp_model.specs.Tuples.{text_at}
 
 pub returns-in_err-write_bytes-clause-text : goal.returns-in_err-write_bytes-clause-text
 returns-in_err-write_bytes-clause-text g c =

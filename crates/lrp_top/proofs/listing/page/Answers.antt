@@ -7,7 +7,7 @@ use Rattle.lrp_model.specs.Pages.{Tuple}
 use Rattle.lrp_model.specs.Plans.{time_columns}
 use Rattle.lrp_model.specs.declared.relations.Column.{Column}
 use Rattle.lrp_token.specs.Files.{files_digest}
-use Rattle.lrp_words.specs.Commands.{text_of}
+use Rattle.lrp_words.specs.Commands.{after_text}
 use Rattle.lrp_top.specs.Due.{IsCounted, IsOutput}
 use Rattle.lrp_top.specs.Telling.{TellsPage}
 use Rattle.lrp_top.specs.Outcomes.{Outcome}
@@ -41,8 +41,8 @@ returns-in-Ok c =
     record {
       page = record {
         first = resumed_as head (Ok c.in-Ok.after);
-        is = subst (λ files. IsResumed files head (text_of p.after) (resumed_as head (Ok c.in-Ok.after))) spelled
-            (subst (λ (h : List Column). IsResumed c.digest-files.result h (text_of p.after) (resumed_as h (Ok c.in-Ok.after))) c.as_slice-head.ensures c.in-Ok.ensures.resumed);
+        is = subst (λ files. IsResumed files head (after_text p.after) (resumed_as head (Ok c.in-Ok.after))) spelled
+            (subst (λ (h : List Column). IsResumed c.digest-files.result h (after_text p.after) (resumed_as h (Ok c.in-Ok.after))) c.as_slice-head.ensures c.in-Ok.ensures.resumed);
         next = subst (λ files. Behind (resumed_as head (Ok c.in-Ok.after)) (Next files) (told c.page_behind.result)) spelled
             (behind_resumed head c.in-Ok.after c.as_ref.result (Next c.digest-files.result) (told c.page_behind.result) c.as_ref.ensures.value c.page_behind.ensures.page);
       };
@@ -57,8 +57,8 @@ returns-in-Err c =
     record {
       page = record {
         first = Err c.in-Err.refusal;
-        is = subst (λ files. IsResumed files head (text_of p.after) (Err c.in-Err.refusal)) spelled
-            (subst (λ (h : List Column). IsResumed c.digest-files.result h (text_of p.after) (Err c.in-Err.refusal)) c.as_slice-head.ensures c.in-Err.ensures.resumed);
+        is = subst (λ files. IsResumed files head (after_text p.after) (Err c.in-Err.refusal)) spelled
+            (subst (λ (h : List Column). IsResumed c.digest-files.result h (after_text p.after) (Err c.in-Err.refusal)) c.as_slice-head.ensures c.in-Err.ensures.resumed);
         next = refl;
       };
     }

@@ -1,6 +1,6 @@
 -- What the evaluation tells of the question's plan.
 use Rattle.std.proofs.Common.{refl, subst}
-use Rattle.lrp_eval.specs.Planned.{IsCause}
+use Rattle.lrp_eval.specs.Planned.{IsEvalCause}
 use Rattle.lrp_model.specs.Formulas.{question_of}
 use Rattle.lrp_top.proofs.Answered.{has_room, last_wide}
 use Rattle.lrp_top.proofs.serving.answers.Goals as goal
@@ -17,7 +17,7 @@ returns-in-Ok-clause-answers c = c.in-Ok.ensures.answer (question_of c.args.ques
 pub returns-in-Err-TooManyCells-clause-counted : goal.returns-in-Err-TooManyCells-clause-counted
 returns-in-Err-TooManyCells-clause-counted c =
     let question = c.args.question.now in
-    (refl, (subst (λ fault. IsCause question.database.relations question.plan c.args.cap fault) c.in-Err-TooManyCells.field-0-is c.in-Err-TooManyCells.ensures.fault) (question_of question.query.query) c.requires.ready.planned)
+    (refl, (subst (λ fault. IsEvalCause question.database.relations question.plan c.args.cap fault) c.in-Err-TooManyCells.field-0-is c.in-Err-TooManyCells.ensures.fault) (question_of question.query.query) c.requires.ready.planned)
 
 pub returns-in-Ok-clause-room : goal.returns-in-Ok-clause-room
 returns-in-Ok-clause-room c =

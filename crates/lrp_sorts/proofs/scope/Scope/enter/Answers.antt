@@ -3,7 +3,7 @@ use Rattle.std.proofs.lemmas.List.{reverse-append}
 use Rattle.lrp_model.specs.Texts.{Identifier}
 use Rattle.lrp_model.specs.Sorting.{binder_sort}
 use Rattle.lrp_sorts.specs.Scopes.{binders, kept_at}
-use Rattle.lrp_sorts.specs.Nesting.{bound_by, IsNested}
+use Rattle.lrp_sorts.specs.Nesting.{binders_with, IsNested}
 use Rattle.lrp_sorts.specs.declared.scope.Quantifier.{Quantifier}
 use Rattle.lrp_sorts.proofs.Nested.{bound_around, entered}
 use Rattle.lrp_sorts.proofs.scope.Scope.enter.Goals as goal
@@ -14,7 +14,7 @@ invariant_of-self-in-Ok c =
     let head = reverse c.self.inside.columns.now in
     let binder = c.args.binder.now in
     let one : Quantifier = record { binder = c.args.binder; outer = c.sort_of-outer.result } in
-    let outside : option_map (λ s. s.now) one.outer ≡ binder_sort (bound_by (reverse before) head) binder.name =
+    let outside : option_map (λ s. s.now) one.outer ≡ binder_sort (binders_with (reverse before) head) binder.name =
     c.sort_of-outer.ensures ∙ ap (λ a. binder_sort (binders a) binder.name) (sym c.self.view_is) ∙ sym (bound_around before head binder.name) in
     subst (λ qs. IsNested c.bind_name.new.sorts qs head) (sym (ap reverse c.in_ok-push.ensures.items ∙ reverse-append before (one ∷ [])))
     (entered c.self.inside.sorts c.bind_name.new.sorts one (reverse before) head c.self.invariant outside

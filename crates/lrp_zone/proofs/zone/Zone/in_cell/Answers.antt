@@ -4,7 +4,7 @@ use Rattle.std.specs.Prelude.{nat_abs, pos, ◌-ℤ◌}
 use Rattle.std.specs.Int.{w64}
 use Rattle.std.proofs.lemmas.Int.{ints}
 use Rattle.lrp_theory.specs.Entries.{node}
-use Rattle.lrp_zone.specs.Tight.{HasRoom}
+use Rattle.lrp_zone.specs.Tight.{CanTighten}
 use Rattle.lrp_zone.proofs.Cut.{Cutting, shape_cut, cut_some, cut_none}
 use Rattle.lrp_zone.proofs.zone.Zone.in_cell.Goals as goal
 
@@ -35,7 +35,7 @@ made c = record {
 pub all_tightest-table-requires-clause-fits : goal.all_tightest-table-requires-clause-fits
 all_tightest-table-requires-clause-fits c = λ i j a il jl e.
     let p : c.args.period ≡ pos (nat_abs (to_z w64 (of_z w64 c.args.period))) = omega (arith, ints, c.requires.low, c.requires.high) in
-    subst (λ y. HasRoom y (node c.args.residues.now i -ℤ node c.args.residues.now j) a) p (c.requires.room i j a il jl e)
+    subst (λ y. CanTighten y (node c.args.residues.now i -ℤ node c.args.residues.now j) a) p (c.requires.room i j a il jl e)
 
 pub of_parts-requires : goal.of_parts-requires
 of_parts-requires c = shape_cut _ _ _ _ _ (cutting c)
