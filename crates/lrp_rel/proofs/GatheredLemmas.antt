@@ -85,7 +85,7 @@ none_or_some o f e d = absurd cc
 pub body_more : (heading : Heading) (rows : List (Located RawRow)) (row : Located RawRow) (old new : Body) (found : Option DbFault) → IsBodyOf heading rows old → found ≡ first database_standing (row_faults heading.columns row) → new.fault ≡ sooner database_standing old.fault found
     → (heading.fault ≡ None → new.fault ≡ None → new.rows ≡ old.rows ++ row_of heading.columns row.item ∷ []) → IsBodyOf heading (rows ++ row ∷ []) new
 body_more heading rows row old new found h e is kept = record {
-  database_fault = first_more (row_faults heading.columns) rows row old.fault new.fault found h.fault e is;
+  fault = first_more (row_faults heading.columns) rows row old.fault new.fault found h.fault e is;
   meant = λ sound none.
       let before = none_of_both database_standing old.fault found (sym is ∙ none) in
       kept sound none ∙ ap (λ l. l ++ row_of heading.columns row.item ∷ []) (h.meant sound before.0) ∙ sym (map-append (λ r. row_of heading.columns r.item) rows (row ∷ []));
@@ -116,7 +116,7 @@ pub meaning_of : (n : Located Identifier) (heading : Heading) (rows : List (Loca
 meaning_of n heading rows body columns f is h e d = record {
   place = refl;
   name = refl;
-  database_fault = meaning_fault n heading rows body f is h e;
+  fault = meaning_fault n heading rows body f is h e;
   meant = λ none.
       let both = none_of_both database_standing heading.fault body.fault (sym e ∙ none) in
       ap (λ cs. meant_with n.item cs body.rows) d ∙ ap (meant_with n.item (map column_of heading.columns)) (h.meant both.0 both.1);
