@@ -16,7 +16,6 @@ use Rattle.lrp_theory.proofs.Through.{AtMost-more}
 use Rattle.lrp_model.proofs.TupleLaws.{rank_differs}
 use Rattle.lrp_matrix.specs.Matrices.{MatrixView, MeetsBounds, IsClosed, HaveSameIntegers}
 use Rattle.lrp_matrix.specs.Ranges.{Above, AreSmall, MeetsBefore, MayHave, IsLeastWith, IsGreatestOf}
-use Rattle.lrp_matrix.specs.Nearest as nearest
 use Rattle.lrp_matrix.specs.Nearest.{IsBetween, IsNearest}
 use Rattle.lrp_matrix.proofs.Completion.{possible}
 use Rattle.lrp_zone.specs.Zones.{ZoneView, IsZone, IsMember, columns_of}
@@ -26,12 +25,6 @@ use Rattle.lrp_store.specs.Least.{matrix_of, IsRoom, IsNotNearer, IsNearestTo}
 use Rattle.lrp_store.proofs.Held.{node_take}
 use Rattle.lrp_store.proofs.Ranges.{word64_node}
 use Rattle.lrp_theory.specs.Residues.{rank}
-
--- the two ranks are one
-same_rank : (x : ℤ) → nearest.rank x ≡ rank x
-same_rank (pos zero) = refl
-same_rank (pos (suc n)) = refl
-same_rank (negsuc n) = refl
 
 -- of numbers above zero the lesser one has the lesser rank
 rank_above : (x v : ℤ) → pos 0 <ℤ v → v <ℤ x → rank v < rank x
@@ -172,9 +165,7 @@ module _ (z : ZoneView) (is : IsZone z) (m : MatrixView) (closed : IsClosed m) (
 
         -- another possible value of the residue is not nearer
         not_nearer : (v : ℤ) → MayHave m (suc i) prefix v → Divides K (v -ℤ node z.residues (suc i)) → rank x ≤ rank v
-        not_nearer v h d = let l : nearest.rank x ≤ nearest.rank v = near.first v (choice v h d) in
-            let e : nearest.rank x ≡ rank x = same_rank x in
-            let f : nearest.rank v ≡ rank v = same_rank v in omega arith
+        not_nearer v h d = near.first v (choice v h d)
 
         -- ---- its magnitude is at most that of the values before and one bound
 
