@@ -1,0 +1,14 @@
+-- A text is of one database at most, and one that is has no fault.
+use Rattle.std.proofs.Common.{◌≡◌, ℕ, List, Ok, sym}
+use Rattle.lrp_model.specs.DatabaseReading.{IsDatabase, IsDatabaseFault}
+use Rattle.lrp_model.specs.declared.faults.DbFault.{DbFault}
+use Rattle.lrp_model.specs.declared.relations.Relation.{Relation}
+use Rattle.lrp_rel.proofs.WholeFault.{every_database, every_fault}
+
+-- what is read of a text is each database that the text is of
+pub one_database : (bytes : List ℕ) (db other : List Relation) → IsDatabase bytes db → IsDatabase bytes other → db ≡ other
+one_database bytes db other a b = every_database bytes (Ok db) a tt other b
+
+-- and where it has a fault, nothing is read
+pub no_database_fault : (bytes : List ℕ) (db : List Relation) (fault : DbFault) → IsDatabase bytes db → IsDatabaseFault bytes fault → ⊥
+no_database_fault bytes db fault a f = every_fault bytes (Ok db) a tt fault f

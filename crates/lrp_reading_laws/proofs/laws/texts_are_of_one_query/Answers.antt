@@ -1,0 +1,5 @@
+use Rattle.lrp_reading_laws.proofs.Queries.{one_query}
+use Rattle.lrp_reading_laws.proofs.laws.texts_are_of_one_query.Goals as goal
+
+pub returns : goal.returns
+returns c = λ bytes q other a b. one_query bytes q other a b

@@ -1,0 +1,39 @@
+// What the texts of databases and queries say, they say in one way.
+ghost use Rattle.std.specs.Prelude.{◌≡◌, ℕ, List};
+ghost use Rattle.lrp_model.specs.DatabaseReading.{IsDatabase, IsDatabaseFault};
+ghost use Rattle.lrp_model.specs.QueryReading.{IsQuery, IsQueryFault};
+ghost use Rattle.lrp_model.specs.RawQueries.{RawQuestion};
+ghost use Rattle.lrp_model.specs.Sorting.{IsWellSorted, IsSortFault};
+ghost use Rattle.lrp_model.specs.declared.faults.DbFault.{DbFault};
+ghost use Rattle.lrp_model.specs.declared.faults.QueryFault.{QueryFault};
+ghost use Rattle.lrp_model.specs.declared.relations.Relation.{Relation};
+
+/// A text is of one database at most.
+pub fn texts_are_of_one_database()
+    ensures { (bytes : List ℕ) (relations other : List Relation)
+        → IsDatabase bytes relations → IsDatabase bytes other → relations ≡ other }
+{}
+
+/// The text of a database has no fault.
+pub fn databases_have_no_fault()
+    ensures { (bytes : List ℕ) (relations : List Relation) (fault : DbFault)
+        → IsDatabase bytes relations → IsDatabaseFault bytes fault → ⊥ }
+{}
+
+/// A text is of one query at most.
+pub fn texts_are_of_one_query()
+    ensures { (bytes : List ℕ) (q other : RawQuestion)
+        → IsQuery bytes q → IsQuery bytes other → q ≡ other }
+{}
+
+/// The text of a query has no fault.
+pub fn queries_have_no_fault()
+    ensures { (bytes : List ℕ) (q : RawQuestion) (fault : QueryFault)
+        → IsQuery bytes q → IsQueryFault bytes fault → ⊥ }
+{}
+
+/// A query that is well-sorted for a database has no sort fault.
+pub fn well_sorted_queries_have_no_fault()
+    ensures { (relations : List Relation) (q : RawQuestion) (fault : QueryFault)
+        → IsWellSorted relations q → IsSortFault relations q fault → ⊥ }
+{}
