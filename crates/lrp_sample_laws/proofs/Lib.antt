@@ -1,0 +1,5 @@
+pub mod Few
+pub mod FormCells
+pub mod Days
+pub mod TripCells
+pub mod PlanCells
