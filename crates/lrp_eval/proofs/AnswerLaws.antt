@@ -1,14 +1,15 @@
 -- The last table has exactly the answers.
-use Rattle.std.proofs.Common.{◌≡◌, ◌↔◌, ◌≢◌, Bool, true, false, cond, ℕ, List, [], ◌∷◌, length, Contains, refl, sym, ap, ap₂, subst, ◌∙◌, map, bytes_eq}
+use Rattle.std.proofs.Common.{◌≡◌, ◌↔◌, ◌≢◌, ◌<◌, Bool, true, false, cond, ℕ, List, [], ◌∷◌, length, Some, Contains, unwrap_or, option_map, refl, sym, ap, ap₂, subst, ◌∙◌, map, bytes_eq}
 use Rattle.std.specs.List.{AllByRecursion, AllZip}
 use Rattle.std.specs.Cmp.Lexicographic.{bytes_decides}
+use Rattle.std.specs.FinMap as finite
 use Rattle.lrp_model.specs.Texts.{Text, Identifier}
 use Rattle.lrp_model.specs.Rows.{Datum, time, text, times_of, texts_of}
-use Rattle.lrp_model.specs.Formulas.{Question}
+use Rattle.lrp_model.specs.Formulas.{Question, conjunction, no_forms}
 use Rattle.lrp_model.specs.Core.{guarded, has_named_sort}
-use Rattle.lrp_model.specs.Domains.{constants}
+use Rattle.lrp_model.specs.Domains.{constants, all_texts}
 use Rattle.lrp_model.specs.Satisfaction.{Assignment, Satisfies, structure, IsOfKind, IsOfSort, IsAnswer, HasShape, HaveNames, assign, assignment, with_value}
-use Rattle.lrp_model.specs.Steps.{step_behind, formula_at}
+use Rattle.lrp_model.specs.Steps.{PlanStep, step_behind, step_at, formula_at}
 use Rattle.lrp_model.specs.Plans.{plan, core_steps}
 use Rattle.lrp_model.specs.declared.relations.Sort.{Sort}
 use Rattle.lrp_model.specs.declared.relations.Sort.TheVariants.{Time, Data, Named}
@@ -16,16 +17,23 @@ use Rattle.lrp_model.specs.declared.relations.Column.{Column}
 use Rattle.lrp_model.specs.declared.relations.Relation.{Relation}
 use Rattle.lrp_model.specs.declared.plans.Plan.{Plan}
 use Rattle.lrp_model.specs.declared.plans.StepKind.TheVariants.{Extend}
+use Rattle.lrp_model.specs.Caps.{ManyAt, step_variables}
+use Rattle.lrp_model.proofs.DomainLaws.{in_order_ascends}
+use Rattle.lrp_store.specs.Stores.{IsStore}
 use Rattle.lrp_store.specs.Tables.{StoreHolds}
 use Rattle.lrp_store.specs.declared.table.Table.{Table}
 use Rattle.lrp_tables.specs.Columns.{with_time_name, text_name, head_times, head_texts}
+use Rattle.lrp_tables.specs.Caps.{InhabitsMoreThan}
 use Rattle.lrp_tables.specs.Tables.{Has}
 use Rattle.lrp_tables.proofs.Numbers.{texts_known, all_mapped}
 use Rattle.lrp_plan_laws.specs.Settled.{IsSoundPlan}
 use Rattle.lrp_plan_laws.proofs.Elements.{step_made}
 use Rattle.lrp_plan_laws.proofs.SettledLaws.{sound}
 use Rattle.lrp_eval.specs.Planned.{IsPlanOf, HasAnswers}
-use Rattle.lrp_eval.specs.Running.{HasConstants, variables_of, IsLastRun}
+use Rattle.lrp_eval.specs.Counts.{HasCells}
+use Rattle.lrp_eval.specs.Running.{HasConstants, SameVariables, variables_of, IsLastRun}
+use Rattle.lrp_eval.proofs.Counted.{many_at}
+use Rattle.lrp_eval.proofs.CellCounts.{table_cells}
 use Rattle.lrp_eval.proofs.Named.{texts_are}
 
 -- ---- a tuple's values are those of its assignment
@@ -122,9 +130,14 @@ module _ (db : List Relation) (q : Question) (p : Plan) (h : IsPlanOf db q p) (c
   sound_plan : IsSoundPlan db q
   sound_plan = sound db q h.settled
 
+  abbrev last : PlanStep
+  last = step_behind (structure db q) (Extend (length (core_steps db q))) (guarded (has_named_sort db) q.head q.body) (core_steps db q)
+
+  at_last : step_at (plan db q) (length (plan db q)) ≡ Some last
+  at_last = step_made (structure db q) (Extend (length (core_steps db q))) (guarded (has_named_sort db) q.head q.body) (core_steps db q)
+
   ordered : (table.vars.times ≡ head_times q.head) × (table.vars.texts ≡ head_texts q.head)
-  ordered = r.run.order (step_behind (structure db q) (Extend (length (core_steps db q))) (guarded (has_named_sort db) q.head q.body) (core_steps db q)) (length (core_steps db q))
-      (step_made (structure db q) (Extend (length (core_steps db q))) (guarded (has_named_sort db) q.head q.body) (core_steps db q)) refl
+  ordered = r.run.order last (length (core_steps db q)) at_last refl
 
   is_table : (tuple : List Datum) → HasShape q.head tuple → Has table (constants db q) (assignment q.head tuple) ↔ StoreHolds (constants db q) table.store (times_of tuple) (texts_of tuple)
   is_table tuple k =
@@ -147,8 +160,23 @@ module _ (db : List Relation) (q : Question) (p : Plan) (h : IsPlanOf db q p) (c
       let a : Satisfies (formula_at (plan db q) (length (plan db q))) (structure db q) (assignment q.head tuple) ↔ IsAnswer db q tuple = sound_plan.answers tuple k c in
       ((λ x. a.0 (m.0 (t.1 x))), λ x. t.0 (m.1 (a.1 x)))
 
-  pub has_answers : HasAnswers db q cap table
-  has_answers = record {
+  -- the last step has more cells than a number exactly where the last table's set inhabits more
+  many_last : (count : ℕ) → InhabitsMoreThan count (constants db q) last.period table.vars.times table.vars.texts (Has table (constants db q)) ↔ ManyAt db q count (length (plan db q))
+  many_last count = many_at db q (variables_of table) (Has table (constants db q)) last (length (plan db q)) count at_last
+      (subst (λ vs. SameVariables (variables_of table) vs) (ap (λ o. unwrap_or (option_map (step_variables q.head) o) []) at_last) r.run.variables)
+      (λ env c. subst (λ f. Has table (constants db q) env ↔ Satisfies f (structure db q) env) (ap (λ o. unwrap_or (option_map (λ step. step.formula) o) (conjunction no_forms)) at_last) (r.run.means env c))
+
+  -- so it has as many cells as the last table
+  cells_are : IsStore table.store → HasCells db q (length (plan db q)) (finite.len table.store.tables)
+  cells_are is count =
+      let period : table.store.period ≡ last.period = r.run.period ∙ ap (λ o. unwrap_or (option_map (λ step. step.period) o) 1) at_last in
+      let many = many_last count in
+      let held = subst (λ k. InhabitsMoreThan count (constants db q) k table.vars.times table.vars.texts (Has table (constants db q)) ↔ (count < finite.len table.store.tables)) period
+      (table_cells (constants db q) (in_order_ascends (map (λ entry. entry.1) (all_texts db q))) table is r.run.numbered count) in
+      ((λ m. held.0 (many.1 m)), λ l. many.0 (held.1 l))
+
+  pub has_answers : IsStore table.store → HasAnswers db q cap table
+  has_answers is = record {
     times = ordered.0;
     texts = ordered.1;
     answers = λ tuple. (
@@ -158,5 +186,6 @@ module _ (db : List Relation) (q : Question) (p : Plan) (h : IsPlanOf db q p) (c
     numbered = r.run.numbered;
     period = r.run.period;
     reach = r.run.reach;
+    cells = cells_are is;
     few = r.few;
   }

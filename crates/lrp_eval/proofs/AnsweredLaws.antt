@@ -23,7 +23,7 @@ use Rattle.lrp_model.specs.declared.tuples.Cell.{Cell}
 use Rattle.lrp_model.proofs.Decided.{contains_first, contains_none}
 use Rattle.lrp_zone.specs.Zones.{ZoneView, IsMember, columns_of, reach_of}
 use Rattle.lrp_zone.specs.Pairs.{IsOfCell}
-use Rattle.lrp_store.specs.Stores.{StoreView, InStore, HasReach, zone_of, tables_at, zones_at}
+use Rattle.lrp_store.specs.Stores.{StoreView, IsStore, InStore, HasReach, zone_of, tables_at, zones_at}
 use Rattle.lrp_store.specs.Settled.{AreSettled, InSome}
 use Rattle.lrp_store.specs.Tables.{AreNumbered, InAnswer}
 use Rattle.lrp_store.specs.declared.table.Table.{Table}
@@ -35,9 +35,11 @@ use Rattle.lrp_minus.proofs.Lists.{greatest_below}
 use Rattle.lrp_plan_laws.specs.Rising.{period_at}
 use Rattle.lrp_plan_laws.proofs.Elements.{step_made}
 use Rattle.lrp_plan_laws.proofs.SettledLaws.{sound}
+use Rattle.lrp_eval.specs.Counts.{HasCells}
 use Rattle.lrp_eval.specs.Planned.{IsPlanOf, HasAnswers}
 use Rattle.lrp_eval.specs.Settling.{CanSettle, IsSettledStore}
 use Rattle.lrp_eval.specs.Answered.{IsAnswerOf}
+use Rattle.lrp_eval.proofs.CellCounts.{no_fewer}
 use Rattle.lrp_eval.proofs.SettleLaws.{table_of, zone_in}
 
 -- ---- columns of a head
@@ -133,6 +135,13 @@ module _ (old new : StoreView) (h : IsSettledStore old new) where
     λ a. record { shape = a.shape; held = (a.held.0, a.held.1, to_new (times_of tuple) a.held.0 a.held.2) },
   )
 
+  -- settled cells are as many as they were
+  pub same_count : IsStore old → finite.len old.tables ≡ finite.len new.tables
+  same_count is =
+      let low : finite.len old.tables ≤ finite.len new.tables = no_fewer old new is h.valid h.shape h.period_is to_new in
+      let high : finite.len new.tables ≤ finite.len old.tables = no_fewer new old h.valid is (sym h.shape) (sym h.period_is) to_old in
+      omega arith
+
   held_in_old : (cell : Cell) (o p : Option (List (List (Option ℤ)))) → finite.get new.tables cell ≡ o → finite.get old.tables cell ≡ p → IsSome o → IsSome p
   held_in_old cell None p e f s = cc
   held_in_old cell (Some ts) (Some us) e f s = refl
@@ -191,8 +200,8 @@ module _ (db : List Relation) (q : Question) (p : Plan) (h : IsPlanOf db q p) (c
     pub numbered_store : AreNumbered p.domain store
     numbered_store = subst (λ d. AreNumbered d store) (sym h.is.domain) (numbered_new table.store store s (constants db q) a.numbered)
 
-    pub answer_of : (made : Answer) → made.head.columns ≡ q.head → made.domain ≡ constants db q → made.period ≡ pos store.period → made.store ≡ store → IsAnswerOf db q cap made
-    answer_of made head domain period same = record {
+    pub answer_of : IsStore table.store → (made : Answer) → made.head.columns ≡ q.head → made.domain ≡ constants db q → made.period ≡ pos store.period → made.store ≡ store → IsAnswerOf db q cap made
+    answer_of is made head domain period same = record {
       head = head;
       domain = domain;
       period = period ∙ ap pos (s.period_is ∙ a.period);
@@ -200,6 +209,7 @@ module _ (db : List Relation) (q : Question) (p : Plan) (h : IsPlanOf db q p) (c
           subst (λ st. InAnswer made.head.columns made.domain st tuple ↔ IsAnswer db q tuple) (sym same)
           (subst (λ cs. InAnswer cs made.domain store tuple ↔ IsAnswer db q tuple) (sym head) (subst (λ d. InAnswer q.head d store tuple ↔ IsAnswer db q tuple) (sym domain)
           (let x = same_answers table.store store s q.head (constants db q) tuple in let y = a.answers tuple in ((λ i. y.0 (x.0 i)), λ i. x.1 (y.1 i)))));
+      cells = subst (λ st. HasCells db q (length (plan db q)) (finite.len st.tables)) (sym same) (subst (HasCells db q (length (plan db q))) (same_count table.store store s is) a.cells);
       settled = subst (λ st. (cell : Cell) (z : ZoneView) → Contains (zones_at st cell) z → AreSettled z (zones_at st cell)) (sym same) (settled_new table.store store s);
       small = subst (λ st. (cell : Cell) (z : ZoneView) → Contains (zones_at st cell) z → IsSmallZone z (time_columns q.head * query_reach db q)) (sym same)
           (small_new table.store store s (time_columns q.head) (query_reach db q) (sym times_are) a.reach);

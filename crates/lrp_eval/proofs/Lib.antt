@@ -2,6 +2,7 @@
 pub mod Denotes
 pub mod Named
 pub mod Counted
+pub mod CellCounts
 pub mod Nexts
 pub mod Reading
 pub mod AnswerLaws

@@ -185,7 +185,7 @@ never_none s cell i lt e =
 pub all_zones : (s : StoreView) (cell : Cell) (i : ℕ) → length (tables_at s cell) ≤ i → take i (zones_at s cell) ≡ zones_at s cell
 all_zones s cell i le = let n : length (zones_at s cell) ≡ length (tables_at s cell) = length-map (tables_at s cell) (zone_of s cell) in take_whole (zones_at s cell) i (omega arith)
 
-is_decided : (c d : Cell) → Decides (eq_by_cmp cell_cmp c d) (c ≡ d)
+pub is_decided : (c d : Cell) → Decides (eq_by_cmp cell_cmp c d) (c ≡ d)
 is_decided c d = elim (cell_or c d) [
   | inl e ↦ ((λ h. e.0), λ h. e.1)
   | inr e ↦ ((λ h. same_cell c d h), λ h. absurd (e.0 h))

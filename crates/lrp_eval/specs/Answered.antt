@@ -1,5 +1,6 @@
 -- What the answer of a plan is.
 use Rattle.std.specs.Prelude.{◌≡◌, ◌↔◌, ℕ, ◌*◌, pos, List, length, Contains}
+use Rattle.std.specs.FinMap as finite
 use Rattle.lrp_model.specs.Rows.{Datum}
 use Rattle.lrp_model.specs.Formulas.{Question}
 use Rattle.lrp_model.specs.Satisfaction.{IsAnswer}
@@ -15,13 +16,15 @@ use Rattle.lrp_store.specs.Tables.{InAnswer}
 use Rattle.lrp_store.specs.declared.answer.Answer.{Answer}
 use Rattle.lrp_minus.specs.Settling.{IsSmallZone}
 use Rattle.lrp_plan_laws.specs.Rising.{period_at}
+use Rattle.lrp_eval.specs.Counts.{HasCells}
 
--- the answer has the head, the constants and the answers of the query, and the period of the last step; its cells are settled, no bound of theirs is above the last reach times the head's time columns, and no step has more than cap cells
+-- the answer has the head, the constants and the answers of the query, and the period and the number of cells of the last step; its cells are settled, no bound of theirs is above the last reach times the head's time columns, and no step has more than cap cells
 pub record IsAnswerOf (db : List Relation) (q : Question) (cap : ℕ) (a : Answer) : Type 0 where
   pub head : a.head.columns ≡ q.head
   pub domain : a.domain ≡ constants db q
   pub period : a.period ≡ pos (period_at (plan db q) (length (plan db q)))
   pub answers : (tuple : List Datum) → InAnswer a.head.columns a.domain a.store tuple ↔ IsAnswer db q tuple
+  pub cells : HasCells db q (length (plan db q)) (finite.len a.store.tables)
   pub settled : (cell : Cell) (z : ZoneView) → Contains (zones_at a.store cell) z → AreSettled z (zones_at a.store cell)
   pub small : (cell : Cell) (z : ZoneView) → Contains (zones_at a.store cell) z → IsSmallZone z (time_columns q.head * query_reach db q)
   pub few : (s : ℕ) → ManyAt db q cap s → ⊥

@@ -1,5 +1,6 @@
 -- Which plans are run.
 use Rattle.std.specs.Prelude.{◌≡◌, ◌↔◌, length, ℕ, ◌≤◌, ◌^◌, ◌≤ℤ◌, pos, List}
+use Rattle.std.specs.FinMap as finite
 use Rattle.std.specs.List.{AllByRecursion}
 use Rattle.lrp_model.specs.Formulas.{Question}
 use Rattle.lrp_model.specs.Caps.{IsFirstMany, ManyAt}
@@ -17,6 +18,7 @@ use Rattle.lrp_store.specs.declared.table.Table.{Table}
 use Rattle.lrp_tables.specs.Columns.{head_times, head_texts}
 use Rattle.lrp_plan_laws.specs.Rising.{period_at}
 use Rattle.lrp_plan_laws.specs.Settled.{IsSettled}
+use Rattle.lrp_eval.specs.Counts.{HasCells}
 use Rattle.lrp_eval.specs.declared.evaluation.EvalFault.{EvalFault}
 use Rattle.lrp_eval.specs.declared.evaluation.EvalFault.TheVariants.{TooManyCells, Memory}
 
@@ -38,7 +40,7 @@ abbrev pub IsEvalCause : List Relation → Plan → ℕ → EvalFault → Type 0
 IsEvalCause db p cap (TooManyCells step) = (q : Question) → IsPlanOf db q p → IsFirstMany db q cap step
 IsEvalCause db p cap Memory = Unit {0}
 
--- the table has just the answers of the query, in the columns of its head; it has the period of the last step and no more than its reach, and no step has more than cap cells
+-- the table has just the answers of the query, in the columns of its head; it has the period and the number of cells of the last step and no more than its reach, and no step has more than cap cells
 pub record HasAnswers (db : List Relation) (q : Question) (cap : ℕ) (table : Table) : Type 0 where
   pub times : table.vars.times ≡ head_times q.head
   pub texts : table.vars.texts ≡ head_texts q.head
@@ -46,4 +48,5 @@ pub record HasAnswers (db : List Relation) (q : Question) (cap : ℕ) (table : T
   pub numbered : AreNumbered (constants db q) table.store
   pub period : table.store.period ≡ period_at (plan db q) (length (plan db q))
   pub reach : HasReach table.store (query_reach db q)
+  pub cells : HasCells db q (length (plan db q)) (finite.len table.store.tables)
   pub few : (s : ℕ) → ManyAt db q cap s → ⊥

@@ -55,7 +55,10 @@ pub fn run_steps(
         }
     }
     match tables.into_vec().pop() {
-        Some(table) => Ok(table),
+        Some(table) => {
+            table.store.shape();
+            Ok(table)
+        }
         None => unreachable!(),
     }
 }

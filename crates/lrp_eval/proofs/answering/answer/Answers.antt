@@ -32,5 +32,5 @@ invariant_of-result-clause-numbered c = subst (λ d. AreNumbered d c.in_ok-store
 
 pub returns-clause-answer : goal.returns-clause-answer
 returns-clause-answer c = λ q h. answer_of c.args.database.now q c.args.plan.now h c.args.cap c.in_ok-table.table (c.in_ok-table.ensures.table q h) c.in_ok-table.table.times_named c.in_ok-table.table.texts_named
-    c.in_ok-store.store c.in_ok-store.ensures _ (ap (λ (x : Head). x.columns) c.in_ok-head.ensures ∙ h.is.head) (c.in_ok-domain.ensures ∙ h.is.domain)
+    c.in_ok-store.store c.in_ok-store.ensures c.shape.ensures.valid _ (ap (λ (x : Head). x.columns) c.in_ok-head.ensures ∙ h.is.head) (c.in_ok-domain.ensures ∙ h.is.domain)
     (word_is c.in_ok-store.store.period c.period-period.result c.period-period.ensures c.in_ok-store.ensures.valid.period_high) refl

@@ -56,3 +56,4 @@ returns-clause-table c = λ q h.
     (let same : length c.as_slice-step-items.result.now ≡ length c.args.plan.now.steps = ap (λ l. length l) c.as_slice-step-items.ensures in omega (arith, c.loop-step-test.false, c.loop-step.invariant.count))
     (let same : length c.as_slice-step-items.result.now ≡ length c.args.plan.now.steps = ap (λ l. length l) c.as_slice-step-items.ensures in omega (arith, c.loop-step.auto.step-index-end, c.loop-step.invariant.count))
     (c.loop-step.invariant.run q h) (sym c.into_vec.ensures ∙ c.in-Some.ensures.items))
+    c.shape.ensures.valid
