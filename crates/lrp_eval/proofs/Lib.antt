@@ -3,6 +3,7 @@ pub mod Denotes
 pub mod Named
 pub mod Counted
 pub mod CellCounts
+pub mod AnswerCounts
 pub mod Nexts
 pub mod Reading
 pub mod AnswerLaws

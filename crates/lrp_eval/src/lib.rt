@@ -5,6 +5,7 @@ mod answering;
 mod dropping;
 mod evaluation;
 mod joining;
+mod laws;
 mod running;
 mod scanning;
 mod selecting;
@@ -14,3 +15,4 @@ mod uniting;
 
 pub use answering::answer;
 pub use evaluation::{EvalFault, run_steps};
+pub use laws::{counts_are_unique, whole_pages_count_answers};
