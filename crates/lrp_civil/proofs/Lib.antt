@@ -1,0 +1,16 @@
+pub mod Counts
+pub mod DateLemmas
+pub mod MomentLemmas
+pub mod Meanings
+pub mod PartLemmas
+pub mod Numbers
+pub mod MinuteLemmas
+pub mod Weekdays
+pub mod ValueLemmas
+pub mod Spelled
+pub mod TokenLemmas
+pub mod PlainLemmas
+pub mod PlainSizes
+pub mod Places
+pub mod PushLemmas
+pub mod CivilLineLaws

@@ -1,0 +1,63 @@
+-- Civil values: how they are spelled, what they stand for, and when they fall.
+use Rattle.std.specs.Prelude.{◌≡◌, ℕ, ℤ, pos, ◌+◌, ◌-◌, ◌*◌, ◌%◌, nat_lt, Bool, ◌&&◌, List, [], ◌∷◌, ◌++◌, length, replicate, slice_index_or, codes}
+use Rattle.std.specs.Fmt.{signed_decimal}
+use Rattle.jiff_core.specs.Calendar.{weekday_number}
+use Rattle.lrp_theory.specs.Divides.{IsMember}
+use Rattle.lrp_model.specs.Printed.{point_bytes}
+use Rattle.lrp_model.specs.declared.relations.RowPoint.{RowPoint}
+use Rattle.lrp_civil.specs.declared.values.CivilValue.{CivilValue}
+use Rattle.lrp_civil.specs.declared.values.CivilValue.TheVariants.{Daily, Weekly, On}
+use Rattle.lrp_civil.specs.Dates.{is_date, day_number}
+use Rattle.lrp_civil.specs.Moments.{day_of, time_of_day, minute_at, is_time, clock_bytes, date_bytes}
+
+-- the number of a weekday, from 0 for Monday
+abbrev pub is_weekday : ℕ → Bool
+is_weekday day = nat_lt day 7
+
+-- its numbers are those of a weekday, a date and a time of day
+abbrev pub is_civil : CivilValue → Bool
+is_civil (Daily time) = is_time time
+is_civil (Weekly day time) = is_weekday day && is_time time
+is_civil (On date time) = is_date date && is_time time
+
+-- the names of the weekdays
+abbrev pub day_names : List (List ℕ)
+day_names = codes "mon" ∷ codes "tue" ∷ codes "wed" ∷ codes "thu" ∷ codes "fri" ∷ codes "sat" ∷ codes "sun" ∷ []
+
+abbrev pub day_name : ℕ → List ℕ
+day_name day = slice_index_or day_names day []
+
+-- how it is spelled: `daily HH:MM`, `weekly DAY HH:MM` or `on YYYY-MM-DD HH:MM`
+abbrev pub spelled : CivilValue → List ℕ
+spelled (Daily time) = codes "daily " ++ clock_bytes time
+spelled (Weekly day time) = codes "weekly " ++ (day_name day ++ (codes " " ++ clock_bytes time))
+spelled (On date time) = codes "on " ++ (date_bytes date ++ (codes " " ++ clock_bytes time))
+
+-- the point of a daily value, and that of a weekly one: day 0 was a Thursday, so day 4 was a Monday
+abbrev pub daily_point : ℕ → RowPoint
+daily_point time = record { offset = pos time; period = pos 1440 }
+
+abbrev pub weekly_point : ℕ → ℕ → RowPoint
+weekly_point day time = record { offset = pos (1440 * ((day + 4) % 7) + time); period = pos 10080 }
+
+-- the minutes that it stands for: those of its point, or one instant
+abbrev pub StandsFor : CivilValue → ℤ → Type 0
+StandsFor (Daily time) x = IsMember (daily_point time).offset (daily_point time).period x
+StandsFor (Weekly day time) x = IsMember (weekly_point day time).offset (weekly_point day time).period x
+StandsFor (On date time) x = x ≡ minute_at date time
+
+-- when it falls: at its time of day, on each day, on each such weekday, or on its date
+abbrev pub FallsAt : CivilValue → ℤ → Type 0
+FallsAt (Daily time) x = time_of_day x ≡ time
+FallsAt (Weekly day time) x = (weekday_number (day_of x) ≡ day) × (time_of_day x ≡ time)
+FallsAt (On date time) x = (day_of x ≡ day_number date) × (time_of_day x ≡ time)
+
+-- its plain value: the point, or the number of the instant
+abbrev pub plain_bytes : CivilValue → List ℕ
+plain_bytes (Daily time) = point_bytes (daily_point time)
+plain_bytes (Weekly day time) = point_bytes (weekly_point day time)
+plain_bytes (On date time) = signed_decimal (minute_at date time)
+
+-- the plain value with blanks behind it, as long as the civil value
+abbrev pub padded_bytes : CivilValue → List ℕ
+padded_bytes value = plain_bytes value ++ replicate (length (spelled value) - length (plain_bytes value)) 32

@@ -1,0 +1,27 @@
+-- Minutes as they are written in words: YYYY-MM-DDTHH:MM.
+use Rattle.std.specs.Prelude.{◌≡◌, ℕ, ℤ, true, ◌&&◌, List, ◌++◌, drop, Option, Some, None, if◌then◌else◌, codes}
+use Rattle.std.specs.Str.{bytes_eq}
+use Rattle.lrp_civil.specs.declared.dates.Date.{Date}
+use Rattle.lrp_civil.specs.Dates.{is_date}
+use Rattle.lrp_civil.specs.Moments.{minute_at, is_time, clock_bytes, date_bytes}
+use Rattle.lrp_civil.specs.PlainText.{date_in, time_in}
+
+-- a date and a time of day in words
+abbrev pub word_bytes : Date → ℕ → List ℕ
+word_bytes date time = date_bytes date ++ (codes "T" ++ clock_bytes time)
+
+-- the minute of a word: the date and the time with the numbers at their places, where these spell the word
+unfoldable pub minute_by : List ℕ → Option ℤ
+minute_by word =
+    let date = date_in word in
+    let time = time_in (drop 11 word) in
+    if is_date date && is_time time && bytes_eq word (word_bytes date time) then Some (minute_at date time) else None
+
+-- the word spells the minute: that of a date and a time of day
+pub record SpellsMinute (word : List ℕ) (x : ℤ) : Type 0 where
+  pub date : Date
+  pub time : ℕ
+  pub real : is_date date ≡ true
+  pub in_day : is_time time ≡ true
+  pub word_is : word ≡ word_bytes date time
+  pub minute_is : x ≡ minute_at date time

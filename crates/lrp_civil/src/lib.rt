@@ -1,0 +1,15 @@
+//! Civil times: minutes from 1970-01-01 00:00 on as dates and times of day, in databases, in words and in lines.
+#![tactic(auto)]
+
+mod dates;
+mod lines;
+mod minutes;
+mod moments;
+mod parts;
+mod plain;
+mod tokens;
+mod values;
+
+pub use lines::write_civil_line;
+pub use minutes::minute_of;
+pub use plain::plain_text;

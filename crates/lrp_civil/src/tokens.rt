@@ -1,0 +1,147 @@
+// Where tokens begin and end.
+ghost use Rattle.std.specs.Prelude.{◌≡◌, ◌≤◌, ◌<◌, MatchOption, IfSome, length, true, false};
+ghost use Rattle.std.specs.Option.{option_map};
+ghost use Rattle.lrp_model.specs.Lexing.{behind_run, is_blank as is_blank_byte, is_digit, is_forbidden as is_forbidden_byte, is_letter as is_letter_byte, is_name_byte as is_byte_of_names, scan, symbol_from, text_from};
+ghost use Rattle.lrp_civil.specs.Tokens.{IsBehindSymbol, IsBehindToken, behind_blanks as behind_blanks_of, behind_equals as behind_equals_of, behind_quote, behind_text as behind_text_of, is_last};
+
+fn is_letter(b: u8) -> bool
+    ensures { result ≡ is_letter_byte b }
+{
+    b.is_ascii_alphabetic() || b == b'_'
+}
+
+fn is_name_byte(b: u8) -> bool
+    ensures { result ≡ is_byte_of_names b }
+{
+    is_letter(b) || b.is_ascii_digit()
+}
+
+fn is_blank(b: u8) -> bool
+    ensures { result ≡ is_blank_byte b }
+{
+    matches!(b, b' ' | b'\t' | b'\r' | b'\n')
+}
+
+fn is_forbidden(b: u8) -> bool
+    ensures { result ≡ is_forbidden_byte b }
+{
+    b <= 31 || b == 127
+}
+
+/// What stands behind the blanks and comments that come first.
+#[tactic(auto, unfolding(lrp_model::specs::Lexing::skip), using(crate::proofs::TokenLemmas::skip_place))]
+pub fn behind_blanks(bytes: &[u8]) -> &[u8]
+    ensures rest { result.now ≡ behind_blanks_of bytes.now }
+    ensures shorter { length result.now ≤ length bytes.now }
+{
+    let mut rest = bytes;
+    let mut comment = false;
+    while let [b, tail @ ..] = rest {
+        if comment {
+            comment = *b != b'\n';
+        } else if *b == b'#' {
+            comment = true;
+        } else if !is_blank(*b) {
+            return rest;
+        }
+        rest = tail;
+    }
+    rest
+}
+
+// What stands behind the letters, digits and underscores that come first.
+#[tactic(auto, unfolding(lrp_model::specs::Lexing::behind_run))]
+fn behind_name(bytes: &[u8]) -> &[u8]
+    ensures { result.now ≡ behind_run is_byte_of_names bytes.now }
+{
+    let mut rest = bytes;
+    while let [b, tail @ ..] = rest {
+        if !is_name_byte(*b) {
+            return rest;
+        }
+        rest = tail;
+    }
+    rest
+}
+
+// What stands behind the digits that come first.
+#[tactic(auto, unfolding(lrp_model::specs::Lexing::behind_run))]
+fn behind_digits(bytes: &[u8]) -> &[u8]
+    ensures { result.now ≡ behind_run is_digit bytes.now }
+{
+    let mut rest = bytes;
+    while let [b, tail @ ..] = rest {
+        if !b.is_ascii_digit() {
+            return rest;
+        }
+        rest = tail;
+    }
+    rest
+}
+
+// What stands behind the next byte of a text; none at a quote, and at what may not stand in a text.
+#[tactic(auto, unfolding(lrp_model::specs::Lexing::text_from))]
+fn behind_character(bytes: &[u8]) -> Option<&[u8]>
+    ensures text { MatchOption result (behind_text_of (text_from false bytes.now) ≡ behind_quote bytes.now) (λ tail. behind_text_of (text_from false bytes.now) ≡ behind_text_of (text_from false tail.now)) }
+    ensures shorter { IfSome result (λ tail. length tail.now < length bytes.now) }
+{
+    match bytes {
+        [b'"', ..] => None,
+        [b'\\', tail @ ..] => match tail {
+            [b, rest @ ..] if *b == b'"' || *b == b'\\' => Some(rest),
+            _ => None,
+        },
+        [b, rest @ ..] if !is_forbidden(*b) => Some(rest),
+        _ => None,
+    }
+}
+
+// What stands behind the rest of a text and its closing quote; none where it has no such end.
+fn behind_text(bytes: &[u8]) -> Option<&[u8]>
+    ensures { option_map (λ behind. behind.now) result ≡ behind_text_of (text_from false bytes.now) }
+{
+    let mut rest = bytes;
+    while let Some(tail) = behind_character(rest) {
+        rest = tail;
+    }
+    match rest {
+        [b'"', tail @ ..] => Some(tail),
+        _ => None,
+    }
+}
+
+// What stands behind the symbol that a byte and those behind it begin with.
+#[tactic(auto, unfolding(lrp_model::specs::Lexing::symbol_from))]
+fn behind_symbol(first: u8, rest: &[u8]) -> Option<&[u8]>
+    ensures { MatchOption result (is_last (symbol_from first rest.now).token ≡ true) (λ behind. IsBehindSymbol first rest.now behind.now) }
+{
+    match first {
+        b'<' | b'>' => Some(behind_equals(rest)),
+        b'(' | b')' | b'{' | b'}' | b',' | b':' | b';' | b'|' | b'+' | b'-' | b'=' => Some(rest),
+        _ => None,
+    }
+}
+
+// What stands behind an equals sign, if one comes first.
+fn behind_equals(bytes: &[u8]) -> &[u8]
+    ensures { result.now ≡ behind_equals_of bytes.now }
+{
+    match bytes {
+        [b'=', tail @ ..] => tail,
+        _ => bytes,
+    }
+}
+
+/// What stands behind the token that the bytes begin with; none at the end and at a byte that begins no token.
+#[tactic(auto, unfolding(lrp_model::specs::Lexing::scan))]
+pub fn behind_token(bytes: &[u8]) -> Option<&[u8]>
+    ensures { MatchOption result (is_last (scan bytes.now).token ≡ true) (λ behind. IsBehindToken bytes.now behind.now) }
+{
+    match bytes {
+        [] => None,
+        [b, ..] if is_letter(*b) => Some(behind_name(bytes)),
+        [b, ..] if b.is_ascii_digit() => Some(behind_digits(bytes)),
+        [b'"', tail @ ..] => behind_text(tail),
+        [b, tail @ ..] => behind_symbol(*b, tail),
+    }
+}
