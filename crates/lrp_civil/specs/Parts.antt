@@ -1,5 +1,6 @@
 -- What stands at the front of some bytes.
-use Rattle.std.specs.Prelude.{◌≡◌, ℕ, Bool, true, false, List, [], ◌∷◌, ◌++◌}
+use Rattle.std.specs.Prelude.{◌≡◌, ℕ, Bool, true, false, List, [], ◌∷◌, ◌++◌, Option, MatchOption}
+use Rattle.std.specs.Borrow.{Bor}
 use Rattle.lrp_model.specs.Lexing.{is_digit}
 
 -- the bytes are the text of a value with the test, and others behind it
@@ -10,6 +11,10 @@ pub record IsReadAs {A : Type 0} (test : A → Bool) (text : A → List ℕ) (by
 -- they begin with the text of no such value
 abbrev pub HasNone : {A : Type 0} → (A → Bool) → (A → List ℕ) → List ℕ → Type 0
 HasNone {A} test text bytes = (value : A) (behind : List ℕ) → IsReadAs test text bytes value behind → ⊥
+
+-- what is found at their front: such a value and the bytes behind it, or none
+abbrev pub Finds : {A : Type 0} → (A → Bool) → (A → List ℕ) → List ℕ → Option (A × Bor (List ℕ)) → Type 0
+Finds test text bytes found = MatchOption found (HasNone test text bytes) (λ part. IsReadAs test text bytes part.0 part.1.now)
 
 -- the first byte is a digit
 abbrev pub goes_on : List ℕ → Bool
@@ -22,6 +27,10 @@ pub record IsReadLast {A : Type 0} (test : A → Bool) (text : A → List ℕ) (
   pub read : IsReadAs test text bytes value behind
   pub ends : goes_on behind ≡ false
 
--- they begin with the text of no such value
+-- they begin with the text of no such value, or a number goes on behind it
 abbrev pub HasNoLast : {A : Type 0} → (A → Bool) → (A → List ℕ) → List ℕ → Type 0
 HasNoLast {A} test text bytes = (value : A) → IsReadLast test text bytes value → ⊥
+
+-- what is found at their front with no number going on behind it
+abbrev pub FindsLast : {A : Type 0} → (A → Bool) → (A → List ℕ) → List ℕ → Option A → Type 0
+FindsLast test text bytes found = MatchOption found (HasNoLast test text bytes) (IsReadLast test text bytes)

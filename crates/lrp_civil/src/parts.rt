@@ -3,13 +3,13 @@ ghost use Rattle.std.specs.Prelude.{◌≡◌, ℕ, true, List, ◌∷◌, Match
 ghost use Rattle.lrp_civil.specs.CivilValues.{day_name, is_weekday};
 ghost use Rattle.lrp_civil.specs.Dates.{is_date};
 ghost use Rattle.lrp_civil.specs.Moments.{clock_bytes, date_bytes, is_short, is_time, two_digits};
-ghost use Rattle.lrp_civil.specs.Parts.{HasNone, IsReadAs};
+ghost use Rattle.lrp_civil.specs.Parts.{Finds};
 
 use crate::dates::Date;
 
 // A number in two digits.
 fn two_digits_at(bytes: &[u8]) -> Option<(u8, &[u8])>
-    ensures { MatchOption result (HasNone is_short two_digits bytes.now) (λ r. IsReadAs is_short two_digits bytes.now r.0 r.1.now) }
+    ensures { Finds is_short two_digits bytes.now result }
 {
     match bytes {
         [tens, ones, behind @ ..] if tens.is_ascii_digit() && ones.is_ascii_digit() => {
@@ -31,7 +31,7 @@ pub fn behind_byte(bytes: &[u8], byte: u8) -> Option<&[u8]>
 
 /// `HH:MM`, in minutes from midnight.
 pub fn time_at(bytes: &[u8]) -> Option<(u16, &[u8])>
-    ensures { MatchOption result (HasNone is_time clock_bytes bytes.now) (λ r. IsReadAs is_time clock_bytes bytes.now r.0 r.1.now) }
+    ensures { Finds is_time clock_bytes bytes.now result }
 {
     let (hours, behind) = two_digits_at(bytes)?;
     let behind = behind_byte(behind, b':')?;
@@ -45,7 +45,7 @@ pub fn time_at(bytes: &[u8]) -> Option<(u16, &[u8])>
 
 /// `YYYY-MM-DD`.
 pub fn date_at(bytes: &[u8]) -> Option<(Date, &[u8])>
-    ensures { MatchOption result (HasNone is_date date_bytes bytes.now) (λ r. IsReadAs is_date date_bytes bytes.now r.0 r.1.now) }
+    ensures { Finds is_date date_bytes bytes.now result }
 {
     let (century, behind) = two_digits_at(bytes)?;
     let (year, behind) = two_digits_at(behind)?;
@@ -84,7 +84,7 @@ fn weekday(name: &[u8]) -> Option<u8>
 
 /// The name of a weekday, as its number from 0 for Monday.
 pub fn weekday_at(bytes: &[u8]) -> Option<(u8, &[u8])>
-    ensures { MatchOption result (HasNone is_weekday day_name bytes.now) (λ r. IsReadAs is_weekday day_name bytes.now r.0 r.1.now) }
+    ensures { Finds is_weekday day_name bytes.now result }
 {
     let (name, behind) = bytes.split_at_checked(3)?;
     Some((weekday(name)?, behind))

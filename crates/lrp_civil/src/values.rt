@@ -1,7 +1,7 @@
 // Civil values as they are spelled in databases.
 ghost use Rattle.std.specs.Prelude.{◌≡◌, ℕ, List, ◌++◌, IsTrue, MatchOption, length};
 ghost use Rattle.lrp_civil.specs.Moments.{clock_bytes, is_time};
-ghost use Rattle.lrp_civil.specs.Parts.{HasNoLast, IsReadLast};
+ghost use Rattle.lrp_civil.specs.Parts.{FindsLast};
 
 use crate::dates::Date;
 use crate::parts::{behind_byte, date_at, time_at, weekday_at};
@@ -22,7 +22,7 @@ impl CivilValue {
 
     /// The civil value that the bytes begin with, where no number goes on behind it.
     pub fn at(bytes: &[u8]) -> Option<CivilValue>
-        ensures { MatchOption result ((value : CivilValue) → IsSpelledAt bytes.now value → ⊥) (IsSpelledAt bytes.now) }
+        ensures { FindsLast is_civil spelled bytes.now result }
     {
         match bytes {
             [b'd', ..] => CivilValue::daily(bytes),
@@ -85,7 +85,7 @@ fn behind_prefix<'a>(bytes: &'a [u8], prefix: &[u8]) -> Option<&'a [u8]>
 
 // `HH:MM`, where no number goes on behind it.
 fn last_time_at(bytes: &[u8]) -> Option<u16>
-    ensures { MatchOption result (HasNoLast is_time clock_bytes bytes.now) (IsReadLast is_time clock_bytes bytes.now) }
+    ensures { FindsLast is_time clock_bytes bytes.now result }
 {
     let (time, behind) = time_at(bytes)?;
     match behind {
