@@ -5,6 +5,7 @@ import os
 import shlex
 
 from answers import answer_fault
+from civil import minute_of, plain_text, shown
 from common import EXAMPLES, digest, token
 from language import Fault, read_database, read_query, relation_text
 from meaning import Meaning, TooHard
@@ -40,6 +41,7 @@ class Judge:
     def __init__(self, folder, words, budget):
         self.folder, self.words, self.budget = folder, words, budget
         self.keys = dict(word.partition("=")[::2] for word in words[1:])
+        self.is_civil = self.keys.get("civil") == "yes"
 
     def judge(self, text):
         """The status and the output that are wanted; where the output is of a free form, the given text if that is right."""
@@ -54,7 +56,7 @@ class Judge:
         if database is None:
             return 6, b"refused: read of database\n"
         try:
-            relations = read_database(database)
+            relations = read_database(plain_text(database) if self.is_civil else database)
         except Fault as fault:
             return 3, ("refused: database %s\n" % fault).encode()
         if self.words[0] == "check":
@@ -93,7 +95,7 @@ class Judge:
 
     def page(self, meaning, files):
         limit, show = int(self.keys.get("limit", 1000)), as_json if self.keys.get("form") == "json" else plain
-        start, end = int(self.keys["from"]), int(self.keys["to"])
+        start, end = map(minute_of if self.is_civil else int, (self.keys["from"], self.keys["to"]))
         if end - start > 100000:
             raise TooHard
         answers = [meaning.tuple_of(env) for env in meaning.answers(start, end)]
@@ -110,7 +112,14 @@ class Judge:
             last = '{"more":%s}' % ("null" if more is None else '"%s"' % more)
         else:
             last = "end" if more is None else "more " + more
-        return "".join(line + "\n" for line in [*map(show, answers[:limit]), last]).encode()
+        lines = [show(it, self.written) for it in answers[:limit]]
+        return "".join(line + "\n" for line in [*lines, last]).encode()
+
+    def written(self, time):
+        """A time as it stands in a line."""
+        if not self.is_civil:
+            return str(time)
+        return '"%s"' % shown(time) if self.keys.get("form") == "json" else shown(time)
 
 
 def examples(program, tally, budget):

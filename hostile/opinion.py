@@ -14,12 +14,12 @@ from shifted import database_text, query_text
 FAR = 10**15
 
 
-def plain(answer):
-    return ", ".join(str(it) if isinstance(it, int) else quoted(it) for it in answer) or "()"
+def plain(answer, time=str):
+    return ", ".join(time(it) if isinstance(it, int) else quoted(it) for it in answer) or "()"
 
 
-def as_json(answer):
-    return "[%s]" % ",".join(str(it) if isinstance(it, int) else quoted(it) for it in answer)
+def as_json(answer, time=str):
+    return "[%s]" % ",".join(time(it) if isinstance(it, int) else quoted(it) for it in answer)
 
 
 class Case:

@@ -3,6 +3,7 @@
 import random
 import re
 
+from civil import minute_of
 from common import refusal
 
 USAGE = b"refused: usage\n"
@@ -15,11 +16,11 @@ REQUIRED = {
     "sample": {"seed", "size"},
 }
 FURTHER = {
-    "ask": {"cap"},
-    "decide": {"cap"},
-    "list": {"limit", "after", "form", "cap"},
-    "explain": set(),
-    "check": set(),
+    "ask": {"cap", "civil"},
+    "decide": {"cap", "civil"},
+    "list": {"limit", "after", "form", "cap", "civil"},
+    "explain": {"civil"},
+    "check": {"civil"},
     "sample": set(),
 }
 RANGES = {
@@ -55,16 +56,29 @@ VALUES = (
     "plain",
     "json",
     "Plain",
+    "yes",
+    "no",
+    "Yes",
+    "0001-01-01T00:00",
+    "9999-12-31T23:59",
+    "2024-02-29T00:00",
+    "2024-02-30T00:00",
+    "0000-01-01T00:00",
+    "2024-02-29T24:00",
+    "2024-02-29 00:00",
     "T1/5/",
     " 5",
     "5 ",
     "é",
     "=",
 )
+KEYS = ("db", "cap", "limit", "form", "civil", "seed", "size", "after", "from", "x", "Db", "db ")
 ODD = ("", "=", "db", "query", "=none", "db none", "DB=none", "Ask", "help", "--help", "-", "ask", "list", "check")
 
 
-def is_value(key, value):
+def is_value(key, value, civil):
+    if civil and key in ("from", "to"):
+        return minute_of(value) is not None
     if key in RANGES:
         if not re.fullmatch(r"0|-?[1-9][0-9]*" if key in ("from", "to") else r"0|[1-9][0-9]*", value):
             return False
@@ -72,6 +86,8 @@ def is_value(key, value):
         return least <= int(value) <= most
     if key == "form":
         return value in ("plain", "json")
+    if key == "civil":
+        return value in ("yes", "no")
     return key == "after" or value != ""
 
 
@@ -79,10 +95,10 @@ def is_command(words):
     if not words or words[0] not in REQUIRED:
         return False
     required, known = REQUIRED[words[0]], REQUIRED[words[0]] | FURTHER[words[0]]
-    seen = set()
+    seen, civil = set(), "civil=yes" in words
     for word in words[1:]:
         key, found, value = word.partition("=")
-        if not found or key not in known or key in seen or not is_value(key, value):
+        if not found or key not in known or key in seen or not is_value(key, value, civil):
             return False
         seen.add(key)
     return required <= seen
@@ -91,7 +107,8 @@ def is_command(words):
 def random_words(chance):
     command = chance.choice(sorted(REQUIRED))
     keys = sorted(REQUIRED[command]) + [key for key in sorted(FURTHER[command]) if chance.random() < 0.4]
-    words = ["%s=%s" % (key, good_value(chance, key)) for key in keys]
+    civil = "civil" in keys and chance.random() < 0.5
+    words = ["%s=%s" % (key, good_value(chance, key, civil)) for key in keys]
     chance.shuffle(words)
     words.insert(0, command)
     for _ in range(chance.choice((0, 0, 1, 1, 2))):
@@ -109,7 +126,7 @@ def random_words(chance):
             words.append(
                 "%s=%s"
                 % (
-                    chance.choice(("db", "cap", "limit", "form", "seed", "size", "after", "from", "x", "Db", "db ")),
+                    chance.choice(KEYS),
                     chance.choice(VALUES),
                 )
             )
@@ -118,7 +135,11 @@ def random_words(chance):
     return words
 
 
-def good_value(chance, key):
+def good_value(chance, key, civil):
+    if key == "civil":
+        return "yes" if civil else "no"
+    if civil and key in ("from", "to"):
+        return chance.choice(("0001-01-01T00:00", "1970-01-01T00:00", "2024-02-29T23:59", "9999-12-31T23:59"))
     if key in RANGES:
         least, most = RANGES[key]
         return chance.choice((least, most, 1, chance.randint(least, most)))
