@@ -1,5 +1,5 @@
 -- Civil values: how they are spelled, what they stand for, and when they fall.
-use Rattle.std.specs.Prelude.{◌≡◌, ℕ, ℤ, pos, ◌+◌, ◌-◌, ◌*◌, ◌%◌, nat_lt, Bool, ◌&&◌, List, [], ◌∷◌, ◌++◌, length, replicate, slice_index_or, codes}
+use Rattle.std.specs.Prelude.{◌≡◌, ℕ, ℤ, pos, ◌+◌, ◌-◌, ◌*◌, ◌%◌, nat_lt, Bool, true, ◌&&◌, List, [], ◌∷◌, ◌++◌, Option, MatchOption, length, replicate, slice_index_or, codes}
 use Rattle.std.specs.Fmt.{signed_decimal}
 use Rattle.jiff_core.specs.Calendar.{weekday_number}
 use Rattle.lrp_theory.specs.Divides.{IsMember}
@@ -26,6 +26,10 @@ day_names = codes "mon" ∷ codes "tue" ∷ codes "wed" ∷ codes "thu" ∷ code
 
 abbrev pub day_name : ℕ → List ℕ
 day_name day = slice_index_or day_names day []
+
+-- the weekday of a name, or none
+abbrev pub FindsWeekday : List ℕ → Option ℕ → Type 0
+FindsWeekday name found = MatchOption found ((day : ℕ) → is_weekday day ≡ true → name ≡ day_name day → ⊥) (λ day. (is_weekday day ≡ true) × (name ≡ day_name day))
 
 -- how it is spelled: `daily HH:MM`, `weekly DAY HH:MM` or `on YYYY-MM-DD HH:MM`
 abbrev pub spelled : CivilValue → List ℕ

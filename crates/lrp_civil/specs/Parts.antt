@@ -16,6 +16,10 @@ HasNone {A} test text bytes = (value : A) (behind : List ℕ) → IsReadAs test 
 abbrev pub Finds : {A : Type 0} → (A → Bool) → (A → List ℕ) → List ℕ → Option (A × Bor (List ℕ)) → Type 0
 Finds test text bytes found = MatchOption found (HasNone test text bytes) (λ part. IsReadAs test text bytes part.0 part.1.now)
 
+-- what stands behind these bytes at their front, or none where they don't begin so
+abbrev pub FindsBehind : List ℕ → List ℕ → Option (Bor (List ℕ)) → Type 0
+FindsBehind front bytes found = MatchOption found ((behind : List ℕ) → bytes ≡ front ++ behind → ⊥) (λ behind. bytes ≡ front ++ behind.now)
+
 -- the first byte is a digit
 abbrev pub goes_on : List ℕ → Bool
 goes_on [] = false

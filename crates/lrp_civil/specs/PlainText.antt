@@ -1,9 +1,10 @@
 -- A database text with plain values in place of its civil values.
-use Rattle.std.specs.Prelude.{◌≡◌, ℕ, zero, suc, ◌+◌, ◌-◌, ◌*◌, nat_eq, find, Bool, not, ◌&&◌, IsTrue, List, [], ◌∷◌, ◌++◌, length, take, drop, Option, Some, None, if◌then◌else◌}
+use Rattle.std.specs.Prelude.{◌≡◌, ℕ, zero, suc, ◌+◌, ◌-◌, ◌*◌, nat_eq, find, Bool, not, ◌&&◌, IsTrue, List, [], ◌∷◌, ◌++◌, length, take, drop, Option, Some, None, MatchOption, if◌then◌else◌}
 use Rattle.std.specs.List.{starts_with}
 use Rattle.std.specs.Str.{is_utf8}
 use Rattle.lrp_model.specs.Lexing.{Scanned, after, scan, start, value_from}
 use Rattle.lrp_civil.specs.declared.dates.Date.{Date}
+use Rattle.lrp_civil.specs.declared.plain.Found.{Found}
 use Rattle.lrp_civil.specs.declared.values.CivilValue.{CivilValue}
 use Rattle.lrp_civil.specs.declared.values.CivilValue.TheVariants.{Daily, Weekly, On}
 use Rattle.lrp_civil.specs.CivilValues.{is_civil, spelled, padded_bytes}
@@ -30,6 +31,16 @@ begins bytes value = is_civil value && starts_with nat_eq bytes (spelled value) 
 -- the same as a relation
 abbrev pub IsSpelledAt : List ℕ → CivilValue → Type 0
 IsSpelledAt = IsReadLast is_civil spelled
+
+-- the value of one kind at the front of the bytes, or none
+abbrev pub FindsDaily : List ℕ → Option CivilValue → Type 0
+FindsDaily bytes found = MatchOption found ((time : ℕ) → IsSpelledAt bytes (Daily time) → ⊥) (IsSpelledAt bytes)
+
+abbrev pub FindsWeekly : List ℕ → Option CivilValue → Type 0
+FindsWeekly bytes found = MatchOption found ((day time : ℕ) → IsSpelledAt bytes (Weekly day time) → ⊥) (IsSpelledAt bytes)
+
+abbrev pub FindsOn : List ℕ → Option CivilValue → Type 0
+FindsOn bytes found = MatchOption found ((date : Date) (time : ℕ) → IsSpelledAt bytes (On date time) → ⊥) (IsSpelledAt bytes)
 
 -- the values that could stand there, with the numbers that stand at their places
 abbrev pub possible : List ℕ → List CivilValue
@@ -70,6 +81,10 @@ plain bytes = plain_from (suc (length bytes)) bytes
 pub record IsFirstValue (bytes before : List ℕ) (value : CivilValue) (behind : List ℕ) : Type 0 where
   pub civil : IsTrue (is_civil value)
   pub is : plain bytes ≡ before ++ (padded_bytes value ++ plain behind)
+
+-- the first value of the bytes, or none where all stays
+abbrev pub FindsFirst : List ℕ → Option Found → Type 0
+FindsFirst bytes found = MatchOption found (plain bytes ≡ bytes) (λ first. IsFirstValue bytes first.before.now first.value first.behind.now)
 
 -- the plain text of a file; bytes that are no UTF-8 stay
 unfoldable pub plain_of : List ℕ → List ℕ

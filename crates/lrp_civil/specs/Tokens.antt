@@ -1,8 +1,9 @@
 -- What stands behind blanks and comments, and behind a token.
-use Rattle.std.specs.Prelude.{◌≡◌, ℕ, Bool, true, false, ◌==◌, List, [], ◌∷◌, Option, Some, None, Result, Ok, Err, if◌then◌else◌}
+use Rattle.std.specs.Prelude.{◌≡◌, ℕ, Bool, true, false, ◌==◌, List, [], ◌∷◌, Option, Some, None, MatchOption, Result, Ok, Err, if◌then◌else◌}
+use Rattle.std.specs.Borrow.{Bor}
 use Rattle.lrp_model.specs.Tokens.{Token}
 use Rattle.lrp_model.specs.Tokens.Token.{end_token, bad_token}
-use Rattle.lrp_model.specs.Lexing.{QuotedText, Scanned, scan, skip, start, symbol_from}
+use Rattle.lrp_model.specs.Lexing.{QuotedText, Scanned, scan, skip, start, symbol_from, text_from}
 
 -- the bytes behind the blanks and comments that come first
 abbrev pub behind_blanks : List ℕ → List ℕ
@@ -24,6 +25,14 @@ pub record IsBehindSymbol (first : ℕ) (rest behind : List ℕ) : Type 0 where
   pub goes_on : is_last (symbol_from first rest).token ≡ false
   pub left : (symbol_from first rest).left ≡ behind
 
+-- what stands behind the token at the front of the bytes, or none where no token follows it
+abbrev pub FindsToken : List ℕ → Option (Bor (List ℕ)) → Type 0
+FindsToken bytes found = MatchOption found (is_last (scan bytes).token ≡ true) (λ behind. IsBehindToken bytes behind.now)
+
+-- the same of a symbol
+abbrev pub FindsSymbol : ℕ → List ℕ → Option (Bor (List ℕ)) → Type 0
+FindsSymbol first rest found = MatchOption found (is_last (symbol_from first rest).token ≡ true) (λ behind. IsBehindSymbol first rest behind.now)
+
 -- the bytes behind a text and its closing quote, if it has one
 abbrev pub behind_text : Result QuotedText Scanned → Option (List ℕ)
 behind_text (Ok t) = Some t.left
@@ -33,6 +42,12 @@ behind_text (Err s) = None
 abbrev pub behind_quote : List ℕ → Option (List ℕ)
 behind_quote [] = None
 behind_quote (b ∷ bytes) = if b == 34 then Some bytes else None
+
+-- what stands behind a byte of a text, or none where the text ends
+abbrev pub FindsCharacter : List ℕ → Option (Bor (List ℕ)) → Type 0
+FindsCharacter bytes found =
+    let left = behind_text (text_from false bytes) in
+    MatchOption found (left ≡ behind_quote bytes) (λ behind. left ≡ behind_text (text_from false behind.now))
 
 -- the bytes behind an equals sign, or all
 abbrev pub behind_equals : List ℕ → List ℕ

@@ -1,9 +1,9 @@
 // Times of day, dates and weekdays at the front of some bytes, and the bytes behind them.
-ghost use Rattle.std.specs.Prelude.{◌≡◌, ℕ, true, List, ◌∷◌, MatchOption};
-ghost use Rattle.lrp_civil.specs.CivilValues.{day_name, is_weekday};
+ghost use Rattle.std.specs.Prelude.{[], ◌∷◌};
+ghost use Rattle.lrp_civil.specs.CivilValues.{FindsWeekday, day_name, is_weekday};
 ghost use Rattle.lrp_civil.specs.Dates.{is_date};
 ghost use Rattle.lrp_civil.specs.Moments.{clock_bytes, date_bytes, is_short, is_time, two_digits};
-ghost use Rattle.lrp_civil.specs.Parts.{Finds};
+ghost use Rattle.lrp_civil.specs.Parts.{Finds, FindsBehind};
 
 use crate::dates::Date;
 
@@ -21,7 +21,7 @@ fn two_digits_at(bytes: &[u8]) -> Option<(u8, &[u8])>
 
 // What stands behind a byte.
 pub fn behind_byte(bytes: &[u8], byte: u8) -> Option<&[u8]>
-    ensures { MatchOption result ((behind : List ℕ) → bytes.now ≡ byte ∷ behind → ⊥) (λ behind. bytes.now ≡ byte ∷ behind.now) }
+    ensures { FindsBehind (byte ∷ []) bytes.now result }
 {
     match bytes {
         [first, behind @ ..] if *first == byte => Some(behind),
@@ -67,7 +67,7 @@ pub fn date_at(bytes: &[u8]) -> Option<(Date, &[u8])>
 
 // The number of a weekday, from 0 for Monday.
 fn weekday(name: &[u8]) -> Option<u8>
-    ensures { MatchOption result ((day : ℕ) → is_weekday day ≡ true → name.now ≡ day_name day → ⊥) (λ day. (is_weekday day ≡ true) × (name.now ≡ day_name day)) }
+    ensures { FindsWeekday name.now result }
 {
     let day = match name {
         b"mon" => 0,

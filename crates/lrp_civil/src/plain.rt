@@ -1,9 +1,8 @@
 // Database texts without civil values.
-ghost use Rattle.std.specs.Prelude.{◌≡◌, ◌↔◌, ◌<◌, ◌++◌, ◌+◌, ℕ, ℤ, pos, IsTrue, IfOk, IfSome, MatchOption, OnOk, List as ListOf, Some, length, take};
+ghost use Rattle.std.specs.Prelude.{◌≡◌, ◌↔◌, ◌<◌, ◌++◌, ℕ, ℤ, pos, IsTrue, IfOk, IfSome, OnOk, List as ListOf, Some, length};
 ghost use Rattle.lrp_model.specs.Printed.{point_bytes};
-ghost use Rattle.lrp_model.specs.declared.relations.RowPoint.{RowPoint};
-ghost use Rattle.lrp_civil.specs.CivilValues.{FallsAt, StandsFor, is_civil, padded_bytes, plain_bytes, spelled};
-ghost use Rattle.lrp_civil.specs.PlainText.{HasSamePlaces, IsFirstValue, IsSpelledAt, plain, plain_of, value_at};
+ghost use Rattle.lrp_civil.specs.CivilValues.{FallsAt, StandsFor, is_civil, padded_bytes, plain_bytes};
+ghost use Rattle.lrp_civil.specs.PlainText.{FindsFirst, HasSamePlaces, IsSpelledAt, plain, plain_of, value_at};
 ghost use Rattle.lrp_civil.specs.declared.values.CivilValue.{CivilValue as CivilValueOf};
 
 use crate::moments::minute_at;
@@ -65,7 +64,7 @@ struct Found<'a> {
 
 // The first civil value of bytes that begin behind a token.
 fn first_value(bytes: &[u8]) -> Option<Found<'_>>
-    ensures first { MatchOption result (plain bytes.now ≡ bytes.now) (λ found. IsFirstValue bytes.now found.before.now found.value found.behind.now) }
+    ensures first { FindsFirst bytes.now result }
     ensures shorter { IfSome result (λ found. length found.behind.now < length bytes.now) }
 {
     let mut rest = bytes;

@@ -1,8 +1,8 @@
 // Where tokens begin and end.
-ghost use Rattle.std.specs.Prelude.{◌≡◌, ◌≤◌, ◌<◌, MatchOption, IfSome, length, true, false};
+ghost use Rattle.std.specs.Prelude.{◌≡◌, ◌≤◌, ◌<◌, IfSome, length, false};
 ghost use Rattle.std.specs.Option.{option_map};
-ghost use Rattle.lrp_model.specs.Lexing.{behind_run, is_blank as is_blank_byte, is_digit, is_forbidden as is_forbidden_byte, is_letter as is_letter_byte, is_name_byte as is_byte_of_names, scan, symbol_from, text_from};
-ghost use Rattle.lrp_civil.specs.Tokens.{IsBehindSymbol, IsBehindToken, behind_blanks as behind_blanks_of, behind_equals as behind_equals_of, behind_quote, behind_text as behind_text_of, is_last};
+ghost use Rattle.lrp_model.specs.Lexing.{behind_run, is_blank as is_blank_byte, is_digit, is_forbidden as is_forbidden_byte, is_letter as is_letter_byte, is_name_byte as is_byte_of_names, text_from};
+ghost use Rattle.lrp_civil.specs.Tokens.{FindsCharacter, FindsSymbol, FindsToken, behind_blanks as behind_blanks_of, behind_equals as behind_equals_of, behind_text as behind_text_of};
 
 fn is_letter(b: u8) -> bool
     ensures { result ≡ is_letter_byte b }
@@ -82,7 +82,7 @@ fn behind_digits(bytes: &[u8]) -> &[u8]
 // What stands behind the next byte of a text; none at a quote, and at what may not stand in a text.
 #[tactic(auto, unfolding(lrp_model::specs::Lexing::text_from))]
 fn behind_character(bytes: &[u8]) -> Option<&[u8]>
-    ensures text { MatchOption result (behind_text_of (text_from false bytes.now) ≡ behind_quote bytes.now) (λ tail. behind_text_of (text_from false bytes.now) ≡ behind_text_of (text_from false tail.now)) }
+    ensures text { FindsCharacter bytes.now result }
     ensures shorter { IfSome result (λ tail. length tail.now < length bytes.now) }
 {
     match bytes {
@@ -113,7 +113,7 @@ fn behind_text(bytes: &[u8]) -> Option<&[u8]>
 // What stands behind the symbol that a byte and those behind it begin with.
 #[tactic(auto, unfolding(lrp_model::specs::Lexing::symbol_from))]
 fn behind_symbol(first: u8, rest: &[u8]) -> Option<&[u8]>
-    ensures { MatchOption result (is_last (symbol_from first rest.now).token ≡ true) (λ behind. IsBehindSymbol first rest.now behind.now) }
+    ensures { FindsSymbol first rest.now result }
 {
     match first {
         b'<' | b'>' => Some(behind_equals(rest)),
@@ -135,7 +135,7 @@ fn behind_equals(bytes: &[u8]) -> &[u8]
 /// What stands behind the token that the bytes begin with; none at the end and at a byte that begins no token.
 #[tactic(auto, unfolding(lrp_model::specs::Lexing::scan))]
 pub fn behind_token(bytes: &[u8]) -> Option<&[u8]>
-    ensures { MatchOption result (is_last (scan bytes.now).token ≡ true) (λ behind. IsBehindToken bytes.now behind.now) }
+    ensures { FindsToken bytes.now result }
 {
     match bytes {
         [] => None,

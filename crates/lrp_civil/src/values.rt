@@ -1,7 +1,7 @@
 // Civil values as they are spelled in databases.
-ghost use Rattle.std.specs.Prelude.{◌≡◌, ℕ, List, ◌++◌, IsTrue, MatchOption, length};
+ghost use Rattle.std.specs.Prelude.{◌≡◌, IsTrue, length};
 ghost use Rattle.lrp_civil.specs.Moments.{clock_bytes, is_time};
-ghost use Rattle.lrp_civil.specs.Parts.{FindsLast};
+ghost use Rattle.lrp_civil.specs.Parts.{FindsBehind, FindsLast};
 
 use crate::dates::Date;
 use crate::parts::{behind_byte, date_at, time_at, weekday_at};
@@ -15,10 +15,8 @@ pub enum CivilValue {
 }
 
 impl CivilValue {
-    ghost use Rattle.lrp_civil.specs.declared.values.CivilValue.{CivilValue};
-    ghost use Rattle.lrp_civil.specs.declared.dates.Date.{Date as CivilDate};
     ghost use Rattle.lrp_civil.specs.CivilValues.{is_civil, spelled};
-    ghost use Rattle.lrp_civil.specs.PlainText.{IsSpelledAt};
+    ghost use Rattle.lrp_civil.specs.PlainText.{FindsDaily, FindsOn, FindsWeekly};
 
     /// The civil value that the bytes begin with, where no number goes on behind it.
     pub fn at(bytes: &[u8]) -> Option<CivilValue>
@@ -34,7 +32,7 @@ impl CivilValue {
 
     // `daily HH:MM`
     fn daily(bytes: &[u8]) -> Option<CivilValue>
-        ensures { MatchOption result ((time : ℕ) → IsSpelledAt bytes.now (CivilValue.Daily time) → ⊥) (IsSpelledAt bytes.now) }
+        ensures { FindsDaily bytes.now result }
     {
         let behind = behind_prefix(bytes, b"daily ")?;
         let time = last_time_at(behind)?;
@@ -43,7 +41,7 @@ impl CivilValue {
 
     // `weekly DAY HH:MM`
     fn weekly(bytes: &[u8]) -> Option<CivilValue>
-        ensures { MatchOption result ((day time : ℕ) → IsSpelledAt bytes.now (CivilValue.Weekly day time) → ⊥) (IsSpelledAt bytes.now) }
+        ensures { FindsWeekly bytes.now result }
     {
         let behind = behind_prefix(bytes, b"weekly ")?;
         let (day, behind) = weekday_at(behind)?;
@@ -54,7 +52,7 @@ impl CivilValue {
 
     // `on YYYY-MM-DD HH:MM`
     fn on(bytes: &[u8]) -> Option<CivilValue>
-        ensures { MatchOption result ((date : CivilDate) (time : ℕ) → IsSpelledAt bytes.now (CivilValue.On date time) → ⊥) (IsSpelledAt bytes.now) }
+        ensures { FindsOn bytes.now result }
     {
         let behind = behind_prefix(bytes, b"on ")?;
         let (date, behind) = date_at(behind)?;
@@ -78,7 +76,7 @@ impl CivilValue {
 
 // What stands behind a prefix.
 fn behind_prefix<'a>(bytes: &'a [u8], prefix: &[u8]) -> Option<&'a [u8]>
-    ensures { MatchOption result ((behind : List ℕ) → bytes.now ≡ prefix.now ++ behind → ⊥) (λ behind. bytes.now ≡ prefix.now ++ behind.now) }
+    ensures { FindsBehind prefix.now bytes.now result }
 {
     bytes.strip_prefix(prefix)
 }
