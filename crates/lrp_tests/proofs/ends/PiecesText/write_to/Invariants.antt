@@ -2,7 +2,7 @@
 use Rattle.std.proofs.Common.{◌≡◌, ◌≤◌, take}
 use Rattle.std.specs.List.{flat_map}
 use Rattle.lrp_io.specs.Bytes.{appended}
-use Rattle.lrp_io.proofs.tests.PiecesText.write_to.Given as goal
+use Rattle.lrp_tests.proofs.ends.PiecesText.write_to.Given as goal
 
 abbrev pub invariant-loop-piece : goal.invariant-loop-piece
 invariant-loop-piece g l =

@@ -2,7 +2,7 @@
 use Rattle.std.specs.List.{flat_map}
 use Rattle.std.proofs.lemmas.Result.{err_from_is_err_and}
 use Rattle.lrp_io.proofs.PieceLemmas.{written_err, each_front}
-use Rattle.lrp_io.proofs.tests.PiecesText.write_to.Goals as goal
+use Rattle.lrp_tests.proofs.ends.PiecesText.write_to.Goals as goal
 
 pub returns-in_err-put_all-clause-text : goal.returns-in_err-put_all-clause-text
 returns-in_err-put_all-clause-text g c =

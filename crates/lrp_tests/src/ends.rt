@@ -1,9 +1,9 @@
-// What no clause says: that calls succeed, how large the pieces are that a sink is handed, and what
+// Shelves and sinks, of which no clause says that calls succeed, how large the pieces are that a sink is handed, and what
 // real files and standard output do.
-ghost use Rattle.std.specs.Prelude.{◌≡◌, ℕ, List};
-ghost use Rattle.std.specs.List.{flat_map};
-
-use super::*;
+use lrp_io::{
+    Failed, File, LoadFault, MemShelf, MemSink, RealShelf, RealSink, Sink, SureShelf, SureSink,
+    Text, load, put_all, write_buffered,
+};
 use lrp_model::{List, Name};
 use std::alloc::Global;
 use std::fs;
@@ -220,7 +220,7 @@ fn sure_ends_never_fail(rt: HostRuntime) -> Result<(), Fail> {
 #[test]
 fn real_files_are_read(rt: HostRuntime) -> Result<(), Fail> {
     let alloc = rt.alloc();
-    let path = "/tmp/fizhedul_lrp_io_test";
+    let path = "/tmp/fizhedul_lrp_tests_file";
     fs::write(&rt, path, "relation\n")?;
     let mut shelf = RealShelf::new(&rt);
     let bytes = load(alloc, &mut shelf, path);
