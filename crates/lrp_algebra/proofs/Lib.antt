@@ -13,7 +13,6 @@ pub mod Inserts
 pub mod Joined
 pub mod Scanned
 pub mod Selected
-pub mod SharedTables
 pub mod Steps
 pub mod AllTests
 pub mod TextDropped

@@ -18,13 +18,9 @@ mod row_bounds;
 mod rows;
 mod scans;
 mod selections;
-#[cfg(test)]
-mod shared_tests;
 mod sides;
 mod test_tables;
 mod tested;
-#[cfg(test)]
-mod tests;
 mod time_drops;
 mod unions;
 

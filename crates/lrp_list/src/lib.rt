@@ -9,8 +9,6 @@ mod laws;
 mod lines;
 mod lister;
 mod steps;
-#[cfg(test)]
-mod tests;
 mod texts;
 mod window;
 

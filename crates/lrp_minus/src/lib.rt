@@ -24,6 +24,3 @@ pub use complements::complement;
 pub use cutting::pieces;
 pub use differences::minus;
 pub use settling::settle;
-
-#[cfg(test)]
-mod tests;

@@ -15,6 +15,3 @@ mod walk;
 pub use answer::Answer;
 pub use store::{Store, StoreFault};
 pub use table::{StepFault, Table, Vars};
-
-#[cfg(test)]
-mod tests;

@@ -1,0 +1,3 @@
+-- Heads column by column, and tables of one time.
+mod Heads
+mod PointTables
