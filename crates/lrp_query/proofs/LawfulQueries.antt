@@ -62,11 +62,11 @@ clean_back [] back c = c
 clean_back (x ∷ front) back c = clean_back front back c.1
 
 -- those behind some parts
-clean_rest : (ps : List Part) (ts us : Tokens) → Takes ps ts us → NoHoles ts → NoHoles us
+pub clean_rest : (ps : List Part) (ts us : Tokens) → Takes ps ts us → NoHoles ts → NoHoles us
 clean_rest ps ts us h c = let k = takes_front ps ts us h in clean_back k.head us (subst NoHoles k.whole c)
 
 -- a hole shows itself
-no_hole : (k : Token) → k ≡ hole_token → is_hole_token k ≡ false → ⊥
+pub no_hole : (k : Token) → k ≡ hole_token → is_hole_token k ≡ false → ⊥
 no_hole k e n = let h : true ≡ false = sym (ap is_hole_token e) ∙ n in absurd cc
 
 mutual
@@ -112,19 +112,19 @@ mutual
 -- ---- sizes
 
 -- a size within the limit, with any sign
-within : (b : Bool) (n : ℕ) → n ≤ greatest_number → HasMagnitude (signed b n)
+pub within : (b : Bool) (n : ℕ) → n ≤ greatest_number → HasMagnitude (signed b n)
 within true n h = (omega (arith, ints), omega (arith, ints))
 within false n h = (omega (arith, ints), omega (arith, ints))
 
 -- a term
-term_fits : (t : WrittenTerm) → FitsTerm t → FitsRawTerm (term_kind t)
+pub term_fits : (t : WrittenTerm) → FitsTerm t → FitsRawTerm (term_kind t)
 term_fits (integer_term i) h = within i.negative i.size h
 term_fits (text_term t) h = tt
 term_fits (variable n) h = tt
 term_fits (shifted n down k) h = within down k h
 
 -- several
-terms_fit : (ts : List (Located WrittenTerm)) → AllByRecursion (λ t. FitsTerm t.item) ts → AllByRecursion (λ t. FitsRawTerm t.kind) (map raw_term ts)
+pub terms_fit : (ts : List (Located WrittenTerm)) → AllByRecursion (λ t. FitsTerm t.item) ts → AllByRecursion (λ t. FitsRawTerm t.kind) (map raw_term ts)
 terms_fit [] h = tt
 terms_fit (t ∷ ts) h = (term_fits t.item h.0, terms_fit ts h.1)
 
@@ -134,7 +134,7 @@ two f (last g) = tt
 two f (more g gs) = tt
 
 -- a period from 1 to the limit
-period_fits : (k : ℕ) → 1 ≤ k → k ≤ greatest_number → (pos 1 ≤ℤ pos k) × (pos k ≤ℤ pos greatest_number)
+pub period_fits : (k : ℕ) → 1 ≤ k → k ≤ greatest_number → (pos 1 ≤ℤ pos k) × (pos k ≤ℤ pos greatest_number)
 period_fits k one most = (omega (arith, ints), omega (arith, ints))
 
 mutual
@@ -189,7 +189,7 @@ mutual
 -- ---- how many
 
 -- as many terms as are written
-map_length : (ts : List (Located WrittenTerm)) → length (map raw_term ts) ≡ length ts
+pub map_length : (ts : List (Located WrittenTerm)) → length (map raw_term ts) ≡ length ts
 map_length [] = refl
 map_length (t ∷ ts) = let k = map_length ts in omega (arith, k)
 
@@ -199,7 +199,7 @@ sign_some p true n = omega arith
 sign_some p false n = omega arith
 
 -- so has each term
-term_some : (p : Place) (k : WrittenTerm) → 0 < length (from p (term_text k))
+pub term_some : (p : Place) (k : WrittenTerm) → 0 < length (from p (term_text k))
 term_some p (integer_term i) = sign_some p i.negative i.size
 term_some p (text_term t) = omega arith
 term_some p (variable n) = omega arith
@@ -299,7 +299,7 @@ from_long (suc n) p bs =
     omega (arith, k, m)
 
 -- a text has at most a token more than bytes
-tokens_long : (bytes : List ℕ) → length (tokens bytes) ≤ suc (length bytes)
+pub tokens_long : (bytes : List ℕ) → length (tokens bytes) ≤ suc (length bytes)
 tokens_long bytes = from_long (suc (length bytes)) start bytes
 
 -- ---- queries

@@ -1,19 +1,23 @@
 pub mod Shown
 pub mod Started
-mod LocalRules
-mod TermRules
+pub mod LocalRules
+pub mod TermRules
 mod Below
-mod TestRules
-mod OverRules
+pub mod Layers
+pub mod TestRules
+pub mod OverRules
 mod OverSound
 mod OverViable
-pub mod CutRules
+mod CutRules
 pub mod QueryRules
-mod Natural
-mod Meant
-mod Marks
-mod HoleFree
+pub mod Natural
+pub mod Marks
+pub mod Readers
+pub mod HoleFree
 mod Ranks
 pub mod TextLaws
 pub mod OneFault
+mod PlainGrammar
+mod Meant
+pub mod PlainTexts
 pub mod LawfulQueries

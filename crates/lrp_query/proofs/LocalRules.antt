@@ -14,7 +14,7 @@ use Rattle.lrp_text.proofs.IntegerRule.{integer_local}
 use Rattle.lrp_query.specs.declared.starts.Start.{Start}
 use Rattle.lrp_query.specs.declared.starts.Start.TheVariants.{Not as by_not, Exists as by_exists, Forall as by_forall, Open as by_open, Name as by_name, Term as by_term}
 use Rattle.lrp_text.specs.IntegerRule.{integer}
-use Rattle.lrp_query.specs.Rules.{Trees, offset, named_term, unnamed_term, bare_term, term, op_of, point, comparing, tested, atom_terms, named, unnamed, negated, existing, holding, implying, conjoined, disjoined, behind_first, enclosed, start_of, is_hole_token, started, formula_over, formula, query}
+use Rattle.lrp_query.specs.Rules.{TermTrees, Trees, BehindName, offset, named_term, unnamed_term, bare_term, term, op_of, point, comparing, tested, atom_terms, behind_name, named, unnamed, negated, existing, holding, implying, conjoined, disjoined, behind_first, enclosed, start_of, is_hole_token, started, formula_over, formula_with, query_with}
 
 -- an offset depends on its tokens and on the next one alone
 pub offset_local : Local offset
@@ -25,7 +25,7 @@ offset_local =
     (bind_local (eat (is_symbol Minus)) _ (eat_local _) (λ down.
     if_local down _ _ (bind_local number _ (accept_local _) (λ k. pure_local _)) (pure_local _))))
 
-module _ {K T F Q : Type 0} (make : Trees K T F Q) where
+module _ {K T : Type 0} (make : TermTrees K T) where
   -- a name with or without an offset depends on its tokens and on the next one alone
   pub named_term_local : (n : Identifier) → Local (named_term make n)
   unfolding named_term
@@ -53,6 +53,7 @@ module _ {K T F Q : Type 0} (make : Trees K T F Q) where
       bind_local here _ (look_local _ _) (λ p.
       bind_local (bare_term make) _ bare_term_local (λ k. pure_local _))
 
+module _ {K T F Q : Type 0} (make : Trees K T F Q) where
   -- a point depends on its tokens and on the next one alone
   pub point_local : (left : T) → Local (point make left)
   unfolding point
@@ -67,7 +68,7 @@ module _ {K T F Q : Type 0} (make : Trees K T F Q) where
   unfolding comparing
   comparing_local left =
       bind_local (accept (λ t. op_of t.token)) _ (accept_local _) (λ op.
-      bind_local (term make) _ term_local (λ right. pure_local _))
+      bind_local (term make.terms) _ (term_local make.terms) (λ right. pure_local _))
 
   -- what stands behind a first term depends on its tokens and on the next one alone
   pub test_local : (left : T) → Local (tested make left)
@@ -80,24 +81,28 @@ module _ {K T F Q : Type 0} (make : Trees K T F Q) where
   pub atom_terms_local : (turns : ℕ) (n : Identifier) (p : Place) → Local (atom_terms make turns n p)
   unfolding atom_terms
   atom_terms_local turns n p =
-      bind_local (listed (term make) (is_symbol Comma) (is_symbol Close) turns) _ (listed_local (term make) _ _ term_local turns) (λ ts.
+      bind_local (listed (term make.terms) (is_symbol Comma) (is_symbol Close) turns) _ (listed_local (term make.terms) _ _ (term_local make.terms) turns) (λ ts.
       bind_local (expect Close) _ (accept_local _) (λ u. pure_local _))
 
-  -- what begins with a name depends on its tokens and on the next one alone
-  pub named_local : (turns : ℕ) → Local (named make turns)
-  unfolding named
-  named_local turns =
-      bind_local name _ (accept_local _) (λ n.
+  -- what stands behind a name depends on its tokens and on the next one alone
+  pub behind_name_local : (turns : ℕ) (n : Identifier) (p : Place) → Local (behind_name make turns n p)
+  unfolding behind_name
+  behind_name_local turns n p =
       bind_local (eat (is_symbol Open)) _ (eat_local _) (λ opens.
-      if_local opens _ _ (atom_terms_local turns n.0 n.1)
-      (bind_local (named_term make n.0) _ (named_term_local n.0) (λ k. test_local _))))
+      if_local opens _ _ (atom_terms_local turns n p)
+      (bind_local (named_term make.terms n) _ (named_term_local make.terms n) (λ k. test_local _)))
+
+  -- what begins with a name depends on its tokens and on the next one alone
+  pub named_local : (behind : Identifier → Place → Parser F) → ((n : Identifier) (p : Place) → Local (behind n p)) → Local (named behind)
+  unfolding named
+  named_local behind local = bind_local name _ (accept_local _) (λ n. local n.0 n.1)
 
   -- what begins with another term depends on its tokens and on the next one alone
   pub unnamed_local : (p : Place) → Local (unnamed make p)
   unfolding unnamed
-  unnamed_local p = bind_local (unnamed_term make) _ unnamed_term_local (λ k. test_local _)
+  unnamed_local p = bind_local (unnamed_term make.terms) _ (unnamed_term_local make.terms) (λ k. test_local _)
 
-  module _ (inner : Parser F) (local : Local inner) (turns : ℕ) where
+  module _ (inner : Parser F) (local : Local inner) (behind : Identifier → Place → Parser F) (behind_local : (n : Identifier) (p : Place) → Local (behind n p)) (turns : ℕ) where
     -- a denied formula depends on its tokens and on the next one alone
     negated_local : (p : Place) → Local (negated make inner p)
     unfolding negated
@@ -162,16 +167,16 @@ module _ {K T F Q : Type 0} (make : Trees K T F Q) where
         bind_local inner _ local (λ f. behind_first_local p f))
 
     -- a formula that begins so depends on its tokens and on the next one alone
-    started_local : (p : Place) (s : Start) → Local (started make inner turns p s)
+    started_local : (p : Place) (s : Start) → Local (started make behind inner turns p s)
     started_local p by_not = negated_local p
     started_local p by_exists = existing_local p
     started_local p by_forall = holding_local p
     started_local p by_open = enclosed_local p
-    started_local p by_name = named_local turns
+    started_local p by_name = named_local behind behind_local
     started_local p by_term = unnamed_local p
 
     -- a formula depends on its tokens and on the next one alone
-    formula_over_local : Local (formula_over make inner turns)
+    formula_over_local : Local (formula_over make behind inner turns)
     unfolding formula_over
     formula_over_local =
         bind_local (look false (λ t. is_hole_token t.token)) _ (look_local _ _) (λ hole.
@@ -179,19 +184,20 @@ module _ {K T F Q : Type 0} (make : Trees K T F Q) where
         (bind_local here _ (look_local _ _) (λ p.
         bind_local (look by_term (λ t. start_of t.token)) _ (look_local _ _) (λ s. started_local p s))))
 
-  -- a formula of any depth depends on its tokens and on the next one alone
-  pub formula_local : (depth turns : ℕ) → Local (formula make depth turns)
-  unfolding formula
-  formula_local zero turns = accept_local make.cut
-  formula_local (suc depth) turns = formula_over_local (formula make depth turns) (formula_local depth turns) turns
+  module _ (behind : BehindName F) (behind_local : (inner : Parser F) → Local inner → (turns : ℕ) (n : Identifier) (p : Place) → Local (behind inner turns n p)) where
+    -- a formula of any depth depends on its tokens and on the next one alone
+    pub formula_local : (depth turns : ℕ) → Local (formula_with make behind depth turns)
+    unfolding formula_with
+    formula_local zero turns = accept_local make.cut
+    formula_local (suc depth) turns = formula_over_local (formula_with make behind depth turns) (formula_local depth turns) (behind (formula_with make behind depth turns) turns) (behind_local (formula_with make behind depth turns) (formula_local depth turns) turns) turns
 
-  -- a query depends on its tokens and on the next one alone
-  pub query_local : (turns : ℕ) → Local (query make turns)
-  unfolding query
-  query_local turns =
-      bind_local (expect OpenBrace) _ (accept_local _) (λ u.
-      bind_local (listed column (is_symbol Comma) (is_symbol Bar) turns) _ (listed_local _ _ _ column_local turns) (λ cs.
-      bind_local (expect Bar) _ (accept_local _) (λ v.
-      bind_local (formula make 64 turns) _ (formula_local 64 turns) (λ f.
-      bind_local (expect CloseBrace) _ (accept_local _) (λ w.
-      bind_local expect_end _ (accept_local _) (λ x. pure_local _))))))
+    -- a query depends on its tokens and on the next one alone
+    pub query_local : (turns : ℕ) → Local (query_with make behind turns)
+    unfolding query_with
+    query_local turns =
+        bind_local (expect OpenBrace) _ (accept_local _) (λ u.
+        bind_local (listed column (is_symbol Comma) (is_symbol Bar) turns) _ (listed_local _ _ _ column_local turns) (λ cs.
+        bind_local (expect Bar) _ (accept_local _) (λ v.
+        bind_local (formula_with make behind 64 turns) _ (formula_local 64 turns) (λ f.
+        bind_local (expect CloseBrace) _ (accept_local _) (λ w.
+        bind_local expect_end _ (accept_local _) (λ x. pure_local _))))))

@@ -24,15 +24,14 @@ use Rattle.lrp_text.proofs.ColumnRule.{column_local}
 use Rattle.lrp_query.specs.declared.starts.Start.{Start}
 use Rattle.lrp_query.specs.declared.starts.Start.TheVariants.{Not as by_not, Exists as by_exists, Forall as by_forall, Open as by_open, Name as by_name, Term as by_term}
 use Rattle.lrp_text.specs.IntegerRule.{integer}
-use Rattle.lrp_query.specs.Rules.{Trees, unmoved, moved_by, offset, named_term, unnamed_term, bare_term, term, op_of, point, comparing, tested, atom_terms, named, unnamed, negated, existing, holding, implying, conjoined, disjoined, behind_first, enclosed, start_of, is_hole_token, started, formula_over, formula, query}
+use Rattle.lrp_query.specs.Rules.{Trees, BehindName, unmoved, moved_by, offset, named_term, unnamed_term, bare_term, term, op_of, point, comparing, tested, atom_terms, behind_name, named, unnamed, negated, existing, holding, implying, conjoined, disjoined, behind_first, enclosed, start_of, is_hole_token, started, formula_over, formula_with, query_with}
 use Rattle.lrp_text.proofs.IntegerRule.{integer_local}
 use Rattle.lrp_query.proofs.LocalRules.{offset_local, named_term_local, unnamed_term_local, bare_term_local, term_local, formula_local}
 
 -- trees of which nothing is kept, where each token is marked at which a formula would be too deep
 abbrev pub marking : Trees (Unit {0}) (Unit {0}) (Unit {0}) (Unit {0})
 marking = record {
-  kind_of = λ t. tt;
-  term_at = λ p k. tt;
+  terms = record { kind_of = λ t. tt; term_at = λ p k. tt };
   atom_of = λ p n ts. tt;
   comparison = λ l op r. tt;
   membership = λ l i k. tt;
@@ -110,11 +109,11 @@ pure_told : {A : Type 0} (late : Bool) (a : A) → Tells late (pure a)
 pure_told late a ts = record { front = []; whole = refl; clean = tt }
 
 -- nothing is kept
-done : (late : Bool) → Tells late (pure {A = Unit {0}} tt)
+pub done : (late : Bool) → Tells late (pure {A = Unit {0}} tt)
 done late = pure_told {A = Unit {0}} late tt
 
 -- a syntax fault
-fail_told : {A : Type 0} (late : Bool) → Tells late (fail {A = A} Syntax)
+pub fail_told : {A : Type 0} (late : Bool) → Tells late (fail {A = A} Syntax)
 fail_told late ts = plain tt
 
 -- a mark behind some token is a mark
@@ -129,7 +128,7 @@ told_sooner p ts (Ok q) t = t
 told_sooner p ts (Err e) w = why_sooner p ts e w
 
 -- the same of all tokens, whatever the flag
-sooner : {A : Type 0} (late : Bool) (p : Parser A) → Tells late p → Tells false p
+pub sooner : {A : Type 0} (late : Bool) (p : Parser A) → Tells late p → Tells false p
 sooner true p t ts = told_sooner p ts (p ts) (t ts)
 sooner false p t ts = t ts
 
@@ -175,7 +174,7 @@ accept_at test f next t ts (Ok a) is l = behind_token (f a) (accept test >>= f) 
 accept_at test f next t ts (Err k) is l = plain l
 
 -- behind a token of a test
-accept_then : {A B : Type 0} (test : Placed → Result A Fault) (f : A → Parser B) → ((t : Placed) → LeafAt t.token (test t)) → ((a : A) → Tells false (f a)) → Tells true (accept test >>= f)
+pub accept_then : {A B : Type 0} (test : Placed → Result A Fault) (f : A → Parser B) → ((t : Placed) → LeafAt t.token (test t)) → ((a : A) → Tells false (f a)) → Tells true (accept test >>= f)
 unfolding accept
 accept_then test f leaf next [] = plain tt
 accept_then test f leaf next (t ∷ ts) = accept_at test f next t ts (test t) refl (leaf t)
@@ -187,13 +186,13 @@ eat_at test f clean some none t ts true is = behind_token (f true) (eat test >>=
 eat_at test f clean some none t ts false is = same_first (f false) (eat test >>= f) t ts (f false (t ∷ ts)) (λ us. ap (λ r. and_then (eaten r t us) f) is) (none (t ∷ ts))
 
 -- behind a token that may be eaten
-eat_then : {B : Type 0} (test : Placed → Bool) (f : Bool → Parser B) → ((t : Placed) → test t ≡ true → is_hole_token t.token ≡ false) → Tells false (f true) → Tells true (f false) → Tells true (eat test >>= f)
+pub eat_then : {B : Type 0} (test : Placed → Bool) (f : Bool → Parser B) → ((t : Placed) → test t ≡ true → is_hole_token t.token ≡ false) → Tells false (f true) → Tells true (f false) → Tells true (eat test >>= f)
 unfolding eat
 eat_then test f clean some none [] = empty_first (f false) (eat test >>= f) (f false []) (none [])
 eat_then test f clean some none (t ∷ ts) = eat_at test f clean some none t ts (test t) refl
 
 -- behind a token that is looked at
-look_then : {A B : Type 0} (none : A) (test : Placed → A) (f : A → Parser B) → ((a : A) → Tells true (f a)) → Tells true (look none test >>= f)
+pub look_then : {A B : Type 0} (none : A) (test : Placed → A) (f : A → Parser B) → ((a : A) → Tells true (f a)) → Tells true (look none test >>= f)
 unfolding look
 look_then none test f next [] = empty_first (f none) (look none test >>= f) (f none []) (next none [])
 look_then none test f next (t ∷ ts) = same_first (f (test t)) (look none test >>= f) t ts (f (test t) (t ∷ ts)) (λ us. refl) (next (test t) (t ∷ ts))
@@ -219,11 +218,11 @@ bind_at late p f ts (Err e) is (at_hole t us d w k) l next = at_hole t us d w k
 bind_at late p f ts (Err e) is (mark front ne w clean k all) l next = mark front ne w clean k (λ b y. ap (λ x. and_then x f) (all b y))
 
 -- the same of all tokens
-bind_then : {A B : Type 0} (late : Bool) (p : Parser A) (f : A → Parser B) → Tells late p → Local p → ((a : A) → Tells true (f a)) → Tells late (p >>= f)
+pub bind_then : {A B : Type 0} (late : Bool) (p : Parser A) (f : A → Parser B) → Tells late p → Local p → ((a : A) → Tells true (f a)) → Tells late (p >>= f)
 bind_then late p f told local next ts = bind_at late p f ts (p ts) refl (told ts) (local ts) next
 
 -- one of two
-choice_told : {A : Type 0} (late b : Bool) (p q : Parser A) → Tells late p → Tells late q → Tells late (if b then p else q)
+pub choice_told : {A : Type 0} (late b : Bool) (p q : Parser A) → Tells late p → Tells late q → Tells late (if b then p else q)
 choice_told late true p q one two = one
 choice_told late false p q one two = two
 
@@ -243,19 +242,19 @@ listed_told {A} p comma stop clean told local n = look_then false stop _ (λ non
 -- ---- readers whose answer hangs on the tokens that they take alone
 
 -- what is read, whatever stands behind
-record Fixed {A : Type 0} (p : Parser A) (ts : Tokens) (q : A × Tokens) : Type 0 where
-  front : Tokens
-  whole : ts ≡ front ++ q.1
-  clean : NoHoles front
-  same : (y : Tokens) → p (front ++ y) ≡ Ok (q.0, y)
+pub record Fixed {A : Type 0} (p : Parser A) (ts : Tokens) (q : A × Tokens) : Type 0 where
+  pub front : Tokens
+  pub whole : ts ≡ front ++ q.1
+  pub clean : NoHoles front
+  pub same : (y : Tokens) → p (front ++ y) ≡ Ok (q.0, y)
 
 -- the same by the outcome
-abbrev FixedAt : {A : Type 0} → Parser A → Tokens → Outcome A → Type 0
+abbrev pub FixedAt : {A : Type 0} → Parser A → Tokens → Outcome A → Type 0
 FixedAt p ts (Ok q) = Fixed p ts q
 FixedAt p ts (Err e) = IsPlain e.0
 
 -- the same of all tokens
-abbrev IsFixed : {A : Type 0} → Parser A → Type 0
+abbrev pub IsFixed : {A : Type 0} → Parser A → Type 0
 IsFixed p = (ts : Tokens) → FixedAt p ts (p ts)
 
 -- a token
@@ -265,7 +264,7 @@ fixed_at test t ts (Ok a) is l = record { front = t ∷ []; whole = refl; clean 
 fixed_at test t ts (Err k) is l = l
 
 -- the same of all tokens
-fixed_accept : {A : Type 0} (test : Placed → Result A Fault) → ((t : Placed) → LeafAt t.token (test t)) → IsFixed (accept test)
+pub fixed_accept : {A : Type 0} (test : Placed → Result A Fault) → ((t : Placed) → LeafAt t.token (test t)) → IsFixed (accept test)
 unfolding accept
 fixed_accept test leaf [] = tt
 fixed_accept test leaf (t ∷ ts) = fixed_at test t ts (test t) refl (leaf t)
@@ -286,11 +285,11 @@ fixed_first p f ts (Ok q) a next = fixed_second p f ts q a (f q.0 q.1) (next q.0
 fixed_first p f ts (Err e) a next = a
 
 -- the same of all tokens
-fixed_bind : {A B : Type 0} (p : Parser A) (f : A → Parser B) → IsFixed p → ((a : A) → IsFixed (f a)) → IsFixed (p >>= f)
+pub fixed_bind : {A B : Type 0} (p : Parser A) (f : A → Parser B) → IsFixed p → ((a : A) → IsFixed (f a)) → IsFixed (p >>= f)
 fixed_bind p f one next ts = fixed_first p f ts (p ts) (one ts) next
 
 -- nothing is read
-fixed_pure : {A : Type 0} (a : A) → IsFixed (pure a)
+pub fixed_pure : {A : Type 0} (a : A) → IsFixed (pure a)
 fixed_pure a ts = record { front = []; whole = refl; clean = tt; same = λ y. refl }
 
 -- it tells by its outcome
@@ -311,7 +310,7 @@ fixed_then_at p f ts (Ok q) a next = behind_fixed p f ts q a (f q.0 q.1) (next q
 fixed_then_at p f ts (Err e) a next = plain a
 
 -- the same of all tokens
-fixed_then : {A B : Type 0} (p : Parser A) (f : A → Parser B) → IsFixed p → ((a : A) → Tells false (f a)) → Tells false (p >>= f)
+pub fixed_then : {A B : Type 0} (p : Parser A) (f : A → Parser B) → IsFixed p → ((a : A) → Tells false (f a)) → Tells false (p >>= f)
 fixed_then p f one next ts = fixed_then_at p f ts (p ts) (one ts) next
 
 -- ---- the tests of tokens
@@ -322,7 +321,7 @@ required_at k true n = n
 required_at k false n = tt
 
 -- a symbol
-symbol_leaf : (s : Symbol) (k : Token) → LeafAt k (required (is_symbol_token s k))
+pub symbol_leaf : (s : Symbol) (k : Token) → LeafAt k (required (is_symbol_token s k))
 symbol_leaf s (symbol_token y) = required_at (symbol_token y) (same_symbol y s) refl
 symbol_leaf s _ = tt
 
@@ -388,7 +387,7 @@ sort_leaf p (name_token n) = refl
 sort_leaf p _ = tt
 
 -- a symbol that is eaten is no hole
-symbol_clean : (s : Symbol) (t : Placed) → is_symbol s t ≡ true → is_hole_token t.token ≡ false
+pub symbol_clean : (s : Symbol) (t : Placed) → is_symbol s t ≡ true → is_hole_token t.token ≡ false
 symbol_clean s t e = ap is_hole_token (symbol_told s t e)
 
 -- nor is a reserved word
@@ -396,7 +395,7 @@ word_clean : (w : Word) (t : Placed) → is_word w t ≡ true → is_hole_token 
 word_clean w t e = ap is_hole_token (word_told w t e)
 
 -- behind a symbol that is expected
-symbol_then : {B : Type 0} (s : Symbol) (f : Unit {0} → Parser B) → Tells false (f tt) → Tells true (expect s >>= f)
+pub symbol_then : {B : Type 0} (s : Symbol) (f : Unit {0} → Parser B) → Tells false (f tt) → Tells true (expect s >>= f)
 symbol_then s f next = accept_then (λ t. required (is_symbol s t)) f (λ t. symbol_leaf s t.token) (λ u. next)
 
 -- behind a reserved word that is expected
@@ -404,7 +403,7 @@ word_then : {B : Type 0} (w : Word) (f : Unit {0} → Parser B) → Tells false 
 word_then w f next = accept_then (λ t. required (is_word w t)) f (λ t. word_leaf w t.token) (λ u. next)
 
 -- behind a name
-name_then : {B : Type 0} (f : Identifier × Place → Parser B) → ((n : Identifier × Place) → Tells false (f n)) → Tells true (name >>= f)
+pub name_then : {B : Type 0} (f : Identifier × Place → Parser B) → ((n : Identifier × Place) → Tells false (f n)) → Tells true (name >>= f)
 name_then f next = accept_then (λ t. with_place t.place (name_of t.token)) f (λ t. name_leaf t.place t.token) next
 
 -- behind a number
@@ -429,8 +428,33 @@ column_told ts = fixed_told true column ts (column ts) (column_fixed ts)
 abbrev signed : Bool → ℕ → Integer
 signed b n = record { negative = b; size = n }
 
+-- an integer without a minus, or the fault of its number
+digits_at : (t : Placed) (ts : Tokens) (r : Result ℕ Fault) → is_symbol Minus t ≡ false → number_of t.token ≡ r → LeafAt t.token r → FixedAt integer (t ∷ ts) (integer (t ∷ ts))
+unfolding integer eat accept
+digits_at t ts (Ok n) none w leaf = rw (none, w) (record { front = t ∷ []; whole = refl; clean = (leaf, tt); same = λ y. rw (none, w) refl })
+digits_at t ts (Err k) none w leaf = rw (none, w) leaf
+
+-- one with a minus
+minus_at : (t u : Placed) (us : Tokens) (r : Result ℕ Fault) → is_symbol Minus t ≡ true → number_of u.token ≡ r → LeafAt u.token r → FixedAt integer (t ∷ u ∷ us) (integer (t ∷ u ∷ us))
+unfolding integer eat accept
+minus_at t u us (Ok n) minus w leaf = rw (minus, w) (record { front = t ∷ u ∷ []; whole = refl; clean = (symbol_clean Minus t minus, (leaf, tt)); same = λ y. rw (minus, w) refl })
+minus_at t u us (Err k) minus w leaf = rw (minus, w) leaf
+
+-- one or the other
+either_at : (t : Placed) (ts : Tokens) (b : Bool) → is_symbol Minus t ≡ b → FixedAt integer (t ∷ ts) (integer (t ∷ ts))
+unfolding integer eat accept
+either_at t ts false is = digits_at t ts (number_of t.token) is refl (number_leaf t.token)
+either_at t (u ∷ us) true is = minus_at t u us (number_of u.token) is refl (number_leaf u.token)
+either_at t [] true is = rw is tt
+
+-- what an integer is hangs on its tokens alone
+pub integer_fixed : IsFixed integer
+unfolding integer eat accept
+integer_fixed [] = tt
+integer_fixed (t ∷ ts) = either_at t ts (is_symbol Minus t) refl
+
 -- an integer
-integer_told : Tells true integer
+pub integer_told : Tells true integer
 unfolding integer
 integer_told = eat_then (is_symbol Minus) _ (symbol_clean Minus) (sooner true _ (number_then _ (λ n. pure_told false (signed true n)))) (number_then _ (λ n. pure_told false (signed false n)))
 
@@ -442,12 +466,12 @@ offset_told =
     (eat_then (is_symbol Minus) _ (symbol_clean Minus) (sooner true _ (number_then _ (λ k. pure_told false (moved_by true k)))) (pure_told true unmoved))
 
 -- a name with or without an offset
-named_term_told : (n : Identifier) → Tells true (named_term marking n)
+named_term_told : (n : Identifier) → Tells true (named_term marking.terms n)
 unfolding named_term
 named_term_told n = bind_then true offset _ offset_told offset_local (λ o. done true)
 
 -- a text or an integer
-unnamed_term_told : Tells true (unnamed_term marking)
+unnamed_term_told : Tells true (unnamed_term marking.terms)
 unfolding unnamed_term
 unnamed_term_told =
     look_then false is_text _ (λ text_next. choice_told true text_next _ _
@@ -455,14 +479,14 @@ unnamed_term_told =
     (bind_then true integer _ integer_told integer_local (λ i. done true)))
 
 -- a term without its place
-bare_term_told : Tells true (bare_term marking)
+bare_term_told : Tells true (bare_term marking.terms)
 unfolding bare_term
 bare_term_told = look_then false is_name _ (λ name_next. choice_told true name_next _ _ (name_then _ (λ n. sooner true _ (named_term_told n.0))) unnamed_term_told)
 
 -- a term
-term_told : Tells true (term marking)
+term_told : Tells true (term marking.terms)
 unfolding term
-term_told = look_then _ _ _ (λ p. bind_then true (bare_term marking) _ bare_term_told (bare_term_local marking) (λ k. done true))
+term_told = look_then _ _ _ (λ p. bind_then true (bare_term marking.terms) _ bare_term_told (bare_term_local marking.terms) (λ k. done true))
 
 -- a point
 point_told : (l : Unit {0}) → Tells true (point marking l)
@@ -474,7 +498,7 @@ point_told l =
 -- a comparison
 comparing_told : (l : Unit {0}) → Tells true (comparing marking l)
 unfolding comparing
-comparing_told l = accept_then (λ t. op_of t.token) _ (λ t. op_leaf t.token) (λ op. bind_then false (term marking) _ (sooner true _ term_told) (term_local marking) (λ r. done true))
+comparing_told l = accept_then (λ t. op_of t.token) _ (λ t. op_leaf t.token) (λ op. bind_then false (term marking.terms) _ (sooner true _ term_told) (term_local marking.terms) (λ r. done true))
 
 -- what stands behind a first term
 test_told : (l : Unit {0}) → Tells true (tested marking l)
@@ -485,22 +509,22 @@ test_told l = eat_then (is_word In) _ (word_clean In) (sooner true _ (point_told
 atom_terms_told : (turns : ℕ) (n : Identifier) (p : Place) → Tells true (atom_terms marking turns n p)
 unfolding atom_terms
 atom_terms_told turns n p =
-    bind_then true (listed (term marking) (is_symbol Comma) (is_symbol Close) turns) _ (listed_told (term marking) (is_symbol Comma) (is_symbol Close) (symbol_clean Comma) term_told (term_local marking) turns) (listed_local (term marking) _ _ (term_local marking) turns) (λ ts.
+    bind_then true (listed (term marking.terms) (is_symbol Comma) (is_symbol Close) turns) _ (listed_told (term marking.terms) (is_symbol Comma) (is_symbol Close) (symbol_clean Comma) term_told (term_local marking.terms) turns) (listed_local (term marking.terms) _ _ (term_local marking.terms) turns) (λ ts.
     symbol_then Close _ (done false))
 
--- what begins with a name
-named_told : (turns : ℕ) → Tells true (named marking turns)
-unfolding named
-named_told turns =
-    name_then _ (λ n. sooner true _ (eat_then (is_symbol Open) _ (symbol_clean Open) (sooner true _ (atom_terms_told turns n.0 n.1))
-    (bind_then true (named_term marking n.0) _ (named_term_told n.0) (named_term_local marking n.0) (λ k. test_told tt))))
+-- what stands behind a name
+pub behind_name_told : (turns : ℕ) (n : Identifier) (p : Place) → Tells true (behind_name marking turns n p)
+unfolding behind_name
+behind_name_told turns n p =
+    eat_then (is_symbol Open) _ (symbol_clean Open) (sooner true _ (atom_terms_told turns n p))
+    (bind_then true (named_term marking.terms n) _ (named_term_told n) (named_term_local marking.terms n) (λ k. test_told tt))
 
 -- what begins with another term
 unnamed_told : (p : Place) → Tells true (unnamed marking p)
 unfolding unnamed
-unnamed_told p = bind_then true (unnamed_term marking) _ unnamed_term_told (unnamed_term_local marking) (λ k. test_told tt)
+unnamed_told p = bind_then true (unnamed_term marking.terms) _ unnamed_term_told (unnamed_term_local marking.terms) (λ k. test_told tt)
 
-module _ (inner : Parser (Unit {0})) (told : Tells false inner) (local : Local inner) (turns : ℕ) where
+module _ (inner : Parser (Unit {0})) (told : Tells false inner) (local : Local inner) (behind : Identifier → Place → Parser (Unit {0})) (behind_told : (n : Identifier) (p : Place) → Tells true (behind n p)) (turns : ℕ) where
   -- a denied formula
   negated_told : (p : Place) → Tells true (negated marking inner p)
   unfolding negated
@@ -544,46 +568,60 @@ module _ (inner : Parser (Unit {0})) (told : Tells false inner) (local : Local i
   unfolding enclosed
   enclosed_told p = symbol_then Open _ (bind_then false inner _ told local (λ f. behind_first_told p f))
 
+  -- what begins with a name
+  named_told : Tells true (named behind)
+  unfolding named
+  named_told = name_then _ (λ n. sooner true _ (behind_told n.0 n.1))
+
   -- a formula that begins so
-  started_told : (p : Place) (s : Start) → Tells true (started marking inner turns p s)
+  started_told : (p : Place) (s : Start) → Tells true (started marking behind inner turns p s)
   started_told p by_not = negated_told p
   started_told p by_exists = existing_told p
   started_told p by_forall = holding_told p
   started_told p by_open = enclosed_told p
-  started_told p by_name = named_told turns
+  started_told p by_name = named_told
   started_told p by_term = unnamed_told p
 
   -- a formula that does not begin with a hole
   abbrev body : Parser (Unit {0})
-  body = here >>= (λ p. look by_term (λ t. start_of t.token) >>= (λ s. started marking inner turns p s))
+  body = here >>= (λ p. look by_term (λ t. start_of t.token) >>= (λ s. started marking behind inner turns p s))
 
   -- the same
   body_told : Tells true body
   body_told = look_then _ _ _ (λ p. look_then _ _ _ (λ s. started_told p s))
 
   -- a formula by its first token
-  over_at : (t : Placed) (ts : Tokens) (b : Bool) → is_hole_token t.token ≡ b → Told true (formula_over marking inner turns) (t ∷ ts) ((if b then fail Deep else body) (t ∷ ts))
+  over_at : (t : Placed) (ts : Tokens) (b : Bool) → is_hole_token t.token ≡ b → Told true (formula_over marking behind inner turns) (t ∷ ts) ((if b then fail Deep else body) (t ∷ ts))
   unfolding formula_over look
   over_at t ts true is = at_hole t ts refl refl is
-  over_at t ts false is = same_first body (formula_over marking inner turns) t ts (body (t ∷ ts)) (λ us. rw is refl) (body_told (t ∷ ts))
+  over_at t ts false is = same_first body (formula_over marking behind inner turns) t ts (body (t ∷ ts)) (λ us. rw is refl) (body_told (t ∷ ts))
 
   -- a formula
-  over_told : Tells true (formula_over marking inner turns)
+  over_told : Tells true (formula_over marking behind inner turns)
   unfolding formula_over look
-  over_told [] = empty_first body (formula_over marking inner turns) (body []) (body_told [])
+  over_told [] = empty_first body (formula_over marking behind inner turns) (body []) (body_told [])
   over_told (t ∷ ts) = over_at t ts (is_hole_token t.token) refl
 
--- a formula of any depth
-formula_told : (depth turns : ℕ) → Tells false (formula marking depth turns)
-unfolding formula accept
-formula_told zero turns [] = plain tt
-formula_told zero turns (t ∷ ts) = mark [] tt refl tt refl (λ b y. refl)
-formula_told (suc depth) turns ts = sooner true (formula_over marking (formula marking depth turns) turns) (over_told (formula marking depth turns) (formula_told depth turns) (formula_local marking depth turns) turns) ts
+-- what a grammar has behind a name tells so
+pub record BehindTells (behind : BehindName (Unit {0})) : Type 0 where
+  pub local : (inner : Parser (Unit {0})) → Local inner → (turns : ℕ) (n : Identifier) (p : Place) → Local (behind inner turns n p)
+  pub told : (inner : Parser (Unit {0})) → Tells false inner → Local inner → (turns : ℕ) (n : Identifier) (p : Place) → Tells true (behind inner turns n p)
 
--- a query
-pub query_told : (turns : ℕ) → Tells true (query marking turns)
-unfolding query
-query_told turns =
-    symbol_then OpenBrace _ (sooner true _ (bind_then true (listed column (is_symbol Comma) (is_symbol Bar) turns) _ (listed_told column (is_symbol Comma) (is_symbol Bar) (symbol_clean Comma) column_told column_local turns) (listed_local column _ _ column_local turns) (λ cs.
-    symbol_then Bar _ (bind_then false (formula marking 64 turns) _ (formula_told 64 turns) (formula_local marking 64 turns) (λ f.
-    symbol_then CloseBrace _ (sooner true _ (accept_then (λ t. required (is_end t)) _ (λ t. end_leaf t.token) (λ u. done false))))))))
+module _ (behind : BehindName (Unit {0})) (b : BehindTells behind) where
+  -- a formula of any depth
+  formula_told : (depth turns : ℕ) → Tells false (formula_with marking behind depth turns)
+  unfolding formula_with accept
+  formula_told zero turns [] = plain tt
+  formula_told zero turns (t ∷ ts) = mark [] tt refl tt refl (λ b y. refl)
+  formula_told (suc depth) turns ts =
+      let inner : Parser (Unit {0}) = formula_with marking behind depth turns in
+      let local : Local inner = formula_local marking behind b.local depth turns in
+      sooner true (formula_over marking (behind inner turns) inner turns) (over_told inner (formula_told depth turns) local (behind inner turns) (b.told inner (formula_told depth turns) local turns) turns) ts
+
+  -- a query
+  pub query_told : (turns : ℕ) → Tells true (query_with marking behind turns)
+  unfolding query_with
+  query_told turns =
+      symbol_then OpenBrace _ (sooner true _ (bind_then true (listed column (is_symbol Comma) (is_symbol Bar) turns) _ (listed_told column (is_symbol Comma) (is_symbol Bar) (symbol_clean Comma) column_told column_local turns) (listed_local column _ _ column_local turns) (λ cs.
+      symbol_then Bar _ (bind_then false (formula_with marking behind 64 turns) _ (formula_told 64 turns) (formula_local marking behind b.local 64 turns) (λ f.
+      symbol_then CloseBrace _ (sooner true _ (accept_then (λ t. required (is_end t)) _ (λ t. end_leaf t.token) (λ u. done false))))))))

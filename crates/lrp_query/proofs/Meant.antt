@@ -8,8 +8,10 @@ use Rattle.lrp_model.specs.Queries.WrittenFormula.{hole}
 use Rattle.lrp_model.specs.QueryMeaning.{term_kind, raw_term, raw_form, raw_forms, raw_question}
 use Rattle.lrp_model.specs.RawQueries.{raw, no_raws, raw_and, raw_or}
 use Rattle.lrp_text.specs.Parsers.{Outcome}
-use Rattle.lrp_query.specs.Rules.{written, meant, raws, further, cut_at, query}
-use Rattle.lrp_query.proofs.Natural.{mapped, result_map, Same, Mapping, query_same}
+use Rattle.lrp_query.specs.Rules.{meant, raws, cut_at, query}
+use Rattle.lrp_query.proofs.Layers.{trees}
+use Rattle.lrp_query.proofs.PlainGrammar.{further, plain}
+use Rattle.lrp_query.proofs.Natural.{mapped, result_map, Same, Mapping, plain_same}
 
 -- the further members as a list
 further_raws : (g : WrittenFormula) (gs : List WrittenFormula) → raws (map raw_form (g ∷ gs)) ≡ raw_forms (further g gs)
@@ -28,7 +30,7 @@ cut_meant p end_token = refl
 cut_meant p bad_token = refl
 
 -- raw queries are made from written ones
-meaning : Mapping ⊥ written meant
+meaning : Mapping ⊥ (trees plain) meant
 meaning = record {
   kind = term_kind;
   term = raw_term;
@@ -51,11 +53,11 @@ meaning = record {
 }
 
 -- no token is marked
-unmarked : (o : Outcome WrittenQuery) (turns : ℕ) (ts : Tokens) → Same ⊥ written.cut raw_question o (query meant turns ts) → query meant turns ts ≡ mapped raw_question o
+unmarked : (o : Outcome WrittenQuery) (turns : ℕ) (ts : Tokens) → Same ⊥ (trees plain).cut raw_question o (query meant turns ts) → query meant turns ts ≡ mapped raw_question o
 unmarked o turns ts (inl e) = e
 unmarked o turns ts (inr m) = absurd m.allowed
 
 -- a query is read as the raw one that it means
-pub query_meant : (turns : ℕ) (ts : Tokens) → query meant turns ts ≡ mapped raw_question (query written turns ts)
+pub query_meant : (turns : ℕ) (ts : Tokens) → query meant turns ts ≡ mapped raw_question (query (trees plain) turns ts)
 unfolding meaning
-query_meant turns ts = unmarked (query written turns ts) turns ts (query_same ⊥ written meant meaning turns ts)
+query_meant turns ts = unmarked (query (trees plain) turns ts) turns ts (plain_same ⊥ (trees plain) meant meaning turns ts)

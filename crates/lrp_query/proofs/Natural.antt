@@ -19,7 +19,7 @@ use Rattle.lrp_text.proofs.Sound.{bind_ok}
 use Rattle.lrp_query.specs.declared.starts.Start.{Start}
 use Rattle.lrp_query.specs.declared.starts.Start.TheVariants.{Not as by_not, Exists as by_exists, Forall as by_forall, Open as by_open, Name as by_name, Term as by_term}
 use Rattle.lrp_text.specs.IntegerRule.{integer}
-use Rattle.lrp_query.specs.Rules.{Trees, offset, with_offset, named_term, unnamed_term, bare_term, term, op_of, point, comparing, tested, atom_terms, named, unnamed, negated, existing, holding, implying, conjoined, disjoined, behind_first, enclosed, start_of, is_hole_token, started, formula_over, formula, query}
+use Rattle.lrp_query.specs.Rules.{Trees, BehindName, offset, with_offset, named_term, unnamed_term, bare_term, term, op_of, point, comparing, tested, atom_terms, behind_name, named, unnamed, negated, existing, holding, implying, conjoined, disjoined, behind_first, enclosed, start_of, is_hole_token, started, formula_over, formula_with, query_with, plainly, query}
 
 -- ---- outcomes
 
@@ -51,8 +51,8 @@ pub record Mapping {K T F Q L U G R : Type 0} (E : Type 0) (one : Trees K T F Q)
   pub term : T → U
   pub formula : F → G
   pub question : Q → R
-  pub kind_is : (t : WrittenTerm) → two.kind_of t ≡ kind (one.kind_of t)
-  pub term_is : (p : Place) (k : K) → two.term_at p (kind k) ≡ term (one.term_at p k)
+  pub kind_is : (t : WrittenTerm) → two.terms.kind_of t ≡ kind (one.terms.kind_of t)
+  pub term_is : (p : Place) (k : K) → two.terms.term_at p (kind k) ≡ term (one.terms.term_at p k)
   pub atom_is : (p : Place) (n : Identifier) (ts : List T) → two.atom_of p n (map term ts) ≡ formula (one.atom_of p n ts)
   pub comparison_is : (l : T) (op : Op) (r : T) → two.comparison (term l) op (term r) ≡ formula (one.comparison l op r)
   pub membership_is : (l : T) (i : Integer) (k : ℕ) → two.membership (term l) i k ≡ formula (one.membership l i k)
@@ -91,31 +91,31 @@ some_read p comma (suc n) found ts q e =
 
 module _ {F : Type 0} (E : Type 0) (cut : Placed → Result F Fault) where
   -- behind something that both read alike
-  leaf : {A B C : Type 0} (o : Outcome A) (f : A → Parser B) (g : A → Parser C) (h : B → C) → ((a : A) (us : Tokens) → Same E cut h (f a us) (g a us)) → Same E cut h (and_then o f) (and_then o g)
+  pub leaf : {A B C : Type 0} (o : Outcome A) (f : A → Parser B) (g : A → Parser C) (h : B → C) → ((a : A) (us : Tokens) → Same E cut h (f a us) (g a us)) → Same E cut h (and_then o f) (and_then o g)
   leaf (Ok q) f g h onward = onward q.0 q.1
   leaf (Err e) f g h onward = inl refl
 
   -- behind something that one reads as the other does
-  bind_at : {A B C D : Type 0} (o : Outcome A) (p : Outcome B) (k : A → B) (f : A → Parser C) (g : B → Parser D) (h : C → D) → p ≡ mapped k o → ((a : A) (us : Tokens) → o ≡ Ok (a, us) → Same E cut h (f a us) (g (k a) us)) → Same E cut h (and_then o f) (and_then p g)
+  pub bind_at : {A B C D : Type 0} (o : Outcome A) (p : Outcome B) (k : A → B) (f : A → Parser C) (g : B → Parser D) (h : C → D) → p ≡ mapped k o → ((a : A) (us : Tokens) → o ≡ Ok (a, us) → Same E cut h (f a us) (g (k a) us)) → Same E cut h (and_then o f) (and_then p g)
   bind_at (Ok q) p k f g h e onward = subst (λ x. Same E cut h (f q.0 q.1) (and_then x g)) (sym e) (onward q.0 q.1 refl)
   bind_at (Err x) p k f g h e onward = inl (ap (λ y. and_then y g) e)
 
   -- the same, where the first one may be marked
-  bind : {A B C D : Type 0} (o : Outcome A) (p : Outcome B) (k : A → B) (f : A → Parser C) (g : B → Parser D) (h : C → D) → Same E cut k o p → ((a : A) (us : Tokens) → o ≡ Ok (a, us) → Same E cut h (f a us) (g (k a) us)) → Same E cut h (and_then o f) (and_then p g)
+  pub bind : {A B C D : Type 0} (o : Outcome A) (p : Outcome B) (k : A → B) (f : A → Parser C) (g : B → Parser D) (h : C → D) → Same E cut k o p → ((a : A) (us : Tokens) → o ≡ Ok (a, us) → Same E cut h (f a us) (g (k a) us)) → Same E cut h (and_then o f) (and_then p g)
   bind o p k f g h (inl e) onward = bind_at o p k f g h e onward
   bind o p k f g h (inr m) onward = inr (record { allowed = m.allowed; token = m.token; rest = m.rest; marked = ap (λ x. and_then x g) m.marked; cause = λ j c. ap (λ x. and_then x f) (m.cause j c) })
 
   -- one of two
-  choice : {A B : Type 0} (b : Bool) (p q : Parser A) (r s : Parser B) (h : A → B) (ts : Tokens) → Same E cut h (p ts) (r ts) → Same E cut h (q ts) (s ts) → Same E cut h ((if b then p else q) ts) ((if b then r else s) ts)
+  pub choice : {A B : Type 0} (b : Bool) (p q : Parser A) (r s : Parser B) (h : A → B) (ts : Tokens) → Same E cut h (p ts) (r ts) → Same E cut h (q ts) (s ts) → Same E cut h ((if b then p else q) ts) ((if b then r else s) ts)
   choice true p q r s h ts one two = one
   choice false p q r s h ts one two = two
 
   -- a value that is put together
-  made : {A B : Type 0} (h : A → B) (a : A) (b : B) (ts : Tokens) → b ≡ h a → Same E cut h (Ok (a, ts)) (Ok (b, ts))
+  pub made : {A B : Type 0} (h : A → B) (a : A) (b : B) (ts : Tokens) → b ≡ h a → Same E cut h (Ok (a, ts)) (Ok (b, ts))
   made h a b ts e = inl (ap (λ x. Ok (x, ts)) e)
 
   -- a list with separators
-  separated_same : {A B : Type 0} (p : Parser A) (q : Parser B) (h : A → B) (comma : Placed → Bool) → ((ts : Tokens) → Same E cut h (p ts) (q ts)) → (n : ℕ) (found : List A) (ts : Tokens) → Same E cut (map h) (separated_from p comma n found ts) (separated_from q comma n (map h found) ts)
+  pub separated_same : {A B : Type 0} (p : Parser A) (q : Parser B) (h : A → B) (comma : Placed → Bool) → ((ts : Tokens) → Same E cut h (p ts) (q ts)) → (n : ℕ) (found : List A) (ts : Tokens) → Same E cut (map h) (separated_from p comma n found ts) (separated_from q comma n (map h found) ts)
   unfolding separated_from
   separated_same p q h comma same zero found ts = inl refl
   separated_same {A} {B} p q h comma same (suc n) found ts =
@@ -136,32 +136,32 @@ module _ {F : Type 0} (E : Type 0) (cut : Placed → Result F Fault) where
 
 module _ {K T F Q L U G R : Type 0} (E : Type 0) (one : Trees K T F Q) (two : Trees L U G R) (m : Mapping E one two) where
   -- a name with or without an offset
-  named_term_same : (n : Identifier) (ts : Tokens) → Same E one.cut m.kind (named_term one n ts) (named_term two n ts)
+  named_term_same : (n : Identifier) (ts : Tokens) → Same E one.cut m.kind (named_term one.terms n ts) (named_term two.terms n ts)
   unfolding named_term
-  named_term_same n ts = leaf E one.cut (offset ts) _ _ m.kind (λ o us. made E one.cut m.kind (one.kind_of (with_offset n o)) (two.kind_of (with_offset n o)) us (m.kind_is (with_offset n o)))
+  named_term_same n ts = leaf E one.cut (offset ts) _ _ m.kind (λ o us. made E one.cut m.kind (one.terms.kind_of (with_offset n o)) (two.terms.kind_of (with_offset n o)) us (m.kind_is (with_offset n o)))
 
   -- a text or an integer
-  unnamed_term_same : (ts : Tokens) → Same E one.cut m.kind (unnamed_term one ts) (unnamed_term two ts)
+  unnamed_term_same : (ts : Tokens) → Same E one.cut m.kind (unnamed_term one.terms ts) (unnamed_term two.terms ts)
   unfolding unnamed_term
   unnamed_term_same ts =
       leaf E one.cut (look false is_text ts) _ _ m.kind (λ text_next us.
       choice E one.cut text_next _ _ _ _ m.kind us
-      (leaf E one.cut (text us) _ _ m.kind (λ t vs. made E one.cut m.kind (one.kind_of (text_term t)) (two.kind_of (text_term t)) vs (m.kind_is (text_term t))))
-      (leaf E one.cut (integer us) _ _ m.kind (λ i vs. made E one.cut m.kind (one.kind_of (integer_term i)) (two.kind_of (integer_term i)) vs (m.kind_is (integer_term i)))))
+      (leaf E one.cut (text us) _ _ m.kind (λ t vs. made E one.cut m.kind (one.terms.kind_of (text_term t)) (two.terms.kind_of (text_term t)) vs (m.kind_is (text_term t))))
+      (leaf E one.cut (integer us) _ _ m.kind (λ i vs. made E one.cut m.kind (one.terms.kind_of (integer_term i)) (two.terms.kind_of (integer_term i)) vs (m.kind_is (integer_term i)))))
 
   -- a term without its place
-  bare_term_same : (ts : Tokens) → Same E one.cut m.kind (bare_term one ts) (bare_term two ts)
+  bare_term_same : (ts : Tokens) → Same E one.cut m.kind (bare_term one.terms ts) (bare_term two.terms ts)
   unfolding bare_term
   bare_term_same ts =
       leaf E one.cut (look false is_name ts) _ _ m.kind (λ name_next us.
       choice E one.cut name_next _ _ _ _ m.kind us (leaf E one.cut (name us) _ _ m.kind (λ n vs. named_term_same n.0 vs)) (unnamed_term_same us))
 
   -- a term
-  term_same : (ts : Tokens) → Same E one.cut m.term (term one ts) (term two ts)
+  term_same : (ts : Tokens) → Same E one.cut m.term (term one.terms ts) (term two.terms ts)
   unfolding term
   term_same ts =
       leaf E one.cut (here ts) _ _ m.term (λ p us.
-      bind E one.cut (bare_term one us) (bare_term two us) m.kind _ _ m.term (bare_term_same us) (λ k vs e. made E one.cut m.term (one.term_at p k) (two.term_at p (m.kind k)) vs (m.term_is p k)))
+      bind E one.cut (bare_term one.terms us) (bare_term two.terms us) m.kind _ _ m.term (bare_term_same us) (λ k vs e. made E one.cut m.term (one.terms.term_at p k) (two.terms.term_at p (m.kind k)) vs (m.term_is p k)))
 
   -- a point
   point_same : (l : T) (ts : Tokens) → Same E one.cut m.formula (point one l ts) (point two (m.term l) ts)
@@ -177,7 +177,7 @@ module _ {K T F Q L U G R : Type 0} (E : Type 0) (one : Trees K T F Q) (two : Tr
   unfolding comparing
   comparing_same l ts =
       leaf E one.cut (accept (λ t. op_of t.token) ts) _ _ m.formula (λ op us.
-      bind E one.cut (term one us) (term two us) m.term _ _ m.formula (term_same us) (λ r vs e. made E one.cut m.formula (one.comparison l op r) (two.comparison (m.term l) op (m.term r)) vs (m.comparison_is l op r)))
+      bind E one.cut (term one.terms us) (term two.terms us) m.term _ _ m.formula (term_same us) (λ r vs e. made E one.cut m.formula (one.comparison l op r) (two.comparison (m.term l) op (m.term r)) vs (m.comparison_is l op r)))
 
   -- what stands behind a first term
   test_same : (l : T) (ts : Tokens) → Same E one.cut m.formula (tested one l ts) (tested two (m.term l) ts)
@@ -185,31 +185,30 @@ module _ {K T F Q L U G R : Type 0} (E : Type 0) (one : Trees K T F Q) (two : Tr
   test_same l ts = leaf E one.cut (eat (is_word In) ts) _ _ m.formula (λ inside us. choice E one.cut inside _ _ _ _ m.formula us (point_same l us) (comparing_same l us))
 
   -- a term of this kind and what stands behind it
-  kind_test_same : (p : Place) (k : K) (ts : Tokens) → Same E one.cut m.formula (tested one (one.term_at p k) ts) (tested two (two.term_at p (m.kind k)) ts)
-  kind_test_same p k ts = subst (λ t. Same E one.cut m.formula (tested one (one.term_at p k) ts) (tested two t ts)) (sym (m.term_is p k)) (test_same (one.term_at p k) ts)
+  kind_test_same : (p : Place) (k : K) (ts : Tokens) → Same E one.cut m.formula (tested one (one.terms.term_at p k) ts) (tested two (two.terms.term_at p (m.kind k)) ts)
+  kind_test_same p k ts = subst (λ t. Same E one.cut m.formula (tested one (one.terms.term_at p k) ts) (tested two t ts)) (sym (m.term_is p k)) (test_same (one.terms.term_at p k) ts)
 
   -- the terms of an atom
   atom_terms_same : (turns : ℕ) (n : Identifier) (p : Place) (ts : Tokens) → Same E one.cut m.formula (atom_terms one turns n p ts) (atom_terms two turns n p ts)
   unfolding atom_terms
   atom_terms_same turns n p ts =
-      bind E one.cut (listed (term one) (is_symbol Comma) (is_symbol Close) turns ts) (listed (term two) (is_symbol Comma) (is_symbol Close) turns ts) (map m.term) _ _ m.formula (listed_same E one.cut (term one) (term two) m.term (is_symbol Comma) (is_symbol Close) term_same turns ts) (λ all us e.
+      bind E one.cut (listed (term one.terms) (is_symbol Comma) (is_symbol Close) turns ts) (listed (term two.terms) (is_symbol Comma) (is_symbol Close) turns ts) (map m.term) _ _ m.formula (listed_same E one.cut (term one.terms) (term two.terms) m.term (is_symbol Comma) (is_symbol Close) term_same turns ts) (λ all us e.
       leaf E one.cut (expect Close us) _ _ m.formula (λ a vs. made E one.cut m.formula (one.atom_of p n all) (two.atom_of p n (map m.term all)) vs (m.atom_is p n all)))
 
-  -- what begins with a name
-  named_same : (turns : ℕ) (ts : Tokens) → Same E one.cut m.formula (named one turns ts) (named two turns ts)
-  unfolding named
-  named_same turns ts =
-      leaf E one.cut (name ts) _ _ m.formula (λ n us.
-      leaf E one.cut (eat (is_symbol Open) us) _ _ m.formula (λ opens vs.
-      choice E one.cut opens _ _ _ _ m.formula vs (atom_terms_same turns n.0 n.1 vs)
-      (bind E one.cut (named_term one n.0 vs) (named_term two n.0 vs) m.kind _ _ m.formula (named_term_same n.0 vs) (λ k ws e. kind_test_same n.1 k ws))))
+  -- what stands behind a name
+  pub behind_name_same : (turns : ℕ) (n : Identifier) (p : Place) (ts : Tokens) → Same E one.cut m.formula (behind_name one turns n p ts) (behind_name two turns n p ts)
+  unfolding behind_name
+  behind_name_same turns n p ts =
+      leaf E one.cut (eat (is_symbol Open) ts) _ _ m.formula (λ opens vs.
+      choice E one.cut opens _ _ _ _ m.formula vs (atom_terms_same turns n p vs)
+      (bind E one.cut (named_term one.terms n vs) (named_term two.terms n vs) m.kind _ _ m.formula (named_term_same n vs) (λ k ws e. kind_test_same p k ws)))
 
   -- what begins with another term
-  unnamed_same : (p : Place) (ts : Tokens) → Same E one.cut m.formula (unnamed one p ts) (unnamed two p ts)
+  pub unnamed_same : (p : Place) (ts : Tokens) → Same E one.cut m.formula (unnamed one p ts) (unnamed two p ts)
   unfolding unnamed
-  unnamed_same p ts = bind E one.cut (unnamed_term one ts) (unnamed_term two ts) m.kind _ _ m.formula (unnamed_term_same ts) (λ k us e. kind_test_same p k us)
+  unnamed_same p ts = bind E one.cut (unnamed_term one.terms ts) (unnamed_term two.terms ts) m.kind _ _ m.formula (unnamed_term_same ts) (λ k us e. kind_test_same p k us)
 
-  module _ (inner : Parser F) (other : Parser G) (same : (ts : Tokens) → Same E one.cut m.formula (inner ts) (other ts)) (turns : ℕ) where
+  module _ (inner : Parser F) (other : Parser G) (same : (ts : Tokens) → Same E one.cut m.formula (inner ts) (other ts)) (behind : Identifier → Place → Parser F) (beyond : Identifier → Place → Parser G) (behind_same : (n : Identifier) (p : Place) (ts : Tokens) → Same E one.cut m.formula (behind n p ts) (beyond n p ts)) (turns : ℕ) where
     -- a denied formula
     negated_same : (p : Place) (ts : Tokens) → Same E one.cut m.formula (negated one inner p ts) (negated two other p ts)
     unfolding negated
@@ -277,17 +276,22 @@ module _ {K T F Q L U G R : Type 0} (E : Type 0) (one : Trees K T F Q) (two : Tr
         leaf E one.cut (expect Open ts) _ _ m.formula (λ a us.
         bind E one.cut (inner us) (other us) m.formula _ _ m.formula (same us) (λ f vs e. behind_first_same p f vs))
 
+    -- what begins with a name
+    named_same : (ts : Tokens) → Same E one.cut m.formula (named behind ts) (named beyond ts)
+    unfolding named
+    named_same ts = leaf E one.cut (name ts) _ _ m.formula (λ n us. behind_same n.0 n.1 us)
+
     -- a formula that begins so
-    started_same : (p : Place) (s : Start) (ts : Tokens) → Same E one.cut m.formula (started one inner turns p s ts) (started two other turns p s ts)
+    started_same : (p : Place) (s : Start) (ts : Tokens) → Same E one.cut m.formula (started one behind inner turns p s ts) (started two beyond other turns p s ts)
     started_same p by_not ts = negated_same p ts
     started_same p by_exists ts = existing_same p ts
     started_same p by_forall ts = holding_same p ts
     started_same p by_open ts = enclosed_same p ts
-    started_same p by_name ts = named_same turns ts
+    started_same p by_name ts = named_same ts
     started_same p by_term ts = unnamed_same p ts
 
     -- a formula
-    formula_over_same : (ts : Tokens) → Same E one.cut m.formula (formula_over one inner turns ts) (formula_over two other turns ts)
+    formula_over_same : (ts : Tokens) → Same E one.cut m.formula (formula_over one behind inner turns ts) (formula_over two beyond other turns ts)
     unfolding formula_over
     formula_over_same ts =
         leaf E one.cut (look false (λ t. is_hole_token t.token) ts) _ _ m.formula (λ hole us.
@@ -301,20 +305,28 @@ module _ {K T F Q L U G R : Type 0} (E : Type 0) (one : Trees K T F Q) (two : Tr
   cut_at_same t ts (Err k) is (inl e) = inl (ap (λ x. taken x t ts) e)
   cut_at_same t ts r is (inr e) = inr (record { allowed = e.0; token = t; rest = ts; marked = ap (λ x. taken x t ts) e.1; cause = λ k c. ap (λ x. taken x t ts) (sym is ∙ c) })
 
-  -- a formula of any depth
-  pub formula_same : (depth turns : ℕ) (ts : Tokens) → Same E one.cut m.formula (formula one depth turns ts) (formula two depth turns ts)
-  unfolding formula accept
-  formula_same zero turns [] = inl refl
-  formula_same zero turns (t ∷ ts) = cut_at_same t ts (one.cut t) refl (m.cut_is t)
-  formula_same (suc depth) turns ts = formula_over_same (formula one depth turns) (formula two depth turns) (formula_same depth turns) turns ts
+  module _ (behind : BehindName F) (beyond : BehindName G)
+      (behind_same : (inner : Parser F) (other : Parser G) → ((ts : Tokens) → Same E one.cut m.formula (inner ts) (other ts)) → (turns : ℕ) (n : Identifier) (p : Place) (ts : Tokens) → Same E one.cut m.formula (behind inner turns n p ts) (beyond other turns n p ts)) where
+    -- a formula of any depth
+    pub formula_same : (depth turns : ℕ) (ts : Tokens) → Same E one.cut m.formula (formula_with one behind depth turns ts) (formula_with two beyond depth turns ts)
+    unfolding formula_with accept
+    formula_same zero turns [] = inl refl
+    formula_same zero turns (t ∷ ts) = cut_at_same t ts (one.cut t) refl (m.cut_is t)
+    formula_same (suc depth) turns ts =
+        formula_over_same (formula_with one behind depth turns) (formula_with two beyond depth turns) (formula_same depth turns)
+        (behind (formula_with one behind depth turns) turns) (beyond (formula_with two beyond depth turns) turns) (behind_same (formula_with one behind depth turns) (formula_with two beyond depth turns) (formula_same depth turns) turns) turns ts
 
-  -- a query
-  pub query_same : (turns : ℕ) (ts : Tokens) → Same E one.cut m.question (query one turns ts) (query two turns ts)
-  unfolding query
-  query_same turns ts =
-      leaf E one.cut (expect OpenBrace ts) _ _ m.question (λ a us.
-      leaf E one.cut (listed column (is_symbol Comma) (is_symbol Bar) turns us) _ _ m.question (λ cs vs.
-      leaf E one.cut (expect Bar vs) _ _ m.question (λ b ws.
-      bind E one.cut (formula one 64 turns ws) (formula two 64 turns ws) m.formula _ _ m.question (formula_same 64 turns ws) (λ f xs e.
-      leaf E one.cut (expect CloseBrace xs) _ _ m.question (λ c ys.
-      leaf E one.cut (expect_end ys) _ _ m.question (λ d zs. made E one.cut m.question (one.question cs f) (two.question cs (m.formula f)) zs (m.question_is cs f)))))))
+    -- a query
+    pub query_same : (turns : ℕ) (ts : Tokens) → Same E one.cut m.question (query_with one behind turns ts) (query_with two beyond turns ts)
+    unfolding query_with
+    query_same turns ts =
+        leaf E one.cut (expect OpenBrace ts) _ _ m.question (λ a us.
+        leaf E one.cut (listed column (is_symbol Comma) (is_symbol Bar) turns us) _ _ m.question (λ cs vs.
+        leaf E one.cut (expect Bar vs) _ _ m.question (λ b ws.
+        bind E one.cut (formula_with one behind 64 turns ws) (formula_with two beyond 64 turns ws) m.formula _ _ m.question (formula_same 64 turns ws) (λ f xs e.
+        leaf E one.cut (expect CloseBrace xs) _ _ m.question (λ c ys.
+        leaf E one.cut (expect_end ys) _ _ m.question (λ d zs. made E one.cut m.question (one.question cs f) (two.question cs (m.formula f)) zs (m.question_is cs f)))))))
+
+  -- the same of the grammar of queries
+  pub plain_same : (turns : ℕ) (ts : Tokens) → Same E one.cut m.question (query one turns ts) (query two turns ts)
+  plain_same turns ts = query_same (plainly one) (plainly two) (λ inner other same n. behind_name_same n) turns ts

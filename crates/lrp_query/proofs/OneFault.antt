@@ -1,27 +1,21 @@
--- A text has at most one fault of its bytes or of the grammar.
-use Rattle.std.proofs.Common.{◌≡◌, ◌⊎◌, inl, inr, ℕ, List, refl, ap, ◌∙◌, sym, subst, Result, Ok, Err, IfOk, IfErr}
+-- Bytes have at most one fault by themselves or by a grammar.
+use Rattle.std.proofs.Common.{◌≡◌, ◌⊎◌, inl, inr, ℕ, List, refl, ap, ◌∙◌, sym, subst}
 use Rattle.lrp_model.specs.declared.tokens.Place.{Place}
 use Rattle.lrp_model.specs.declared.tokens.Fault.{Fault as TokenFault}
 use Rattle.lrp_model.specs.declared.tokens.Fault.TheVariants.{Syntax as syntax, Number as number, TextTooLong as text_too_long, Period as period, Deep as deep, Memory as memory}
 use Rattle.lrp_model.specs.declared.faults.QueryFault.{QueryFault}
-use Rattle.lrp_model.specs.declared.faults.QueryRead.{QueryRead}
-use Rattle.lrp_model.specs.declared.faults.QueryRead.TheVariants.{Fault, Memory}
 use Rattle.lrp_model.specs.declared.faults.QueryKind.{QueryKind}
 use Rattle.lrp_model.specs.declared.faults.QueryKind.TheVariants.{Utf8, Syntax, Number, Period, Deep, UnknownRelation, Arity, Sort, Unbound, Rebound, Wide, TextTooLong, UnknownSort}
-use Rattle.lrp_model.specs.declared.raw.RawQuery.{RawQuery}
 use Rattle.lrp_model.specs.Tokens.{Placed, Tokens}
 use Rattle.lrp_model.specs.Lexing.{tokens}
 use Rattle.lrp_model.specs.Refused.{IsCause}
 use Rattle.lrp_model.specs.DatabaseReading.{IsNoUtf8}
-use Rattle.lrp_model.specs.RawQueries.{raw_question_of}
-use Rattle.lrp_model.specs.QueryReading.{IsQuery, Texts, IsRanked, IsNoQueryText, IsQueryFault, IsQueryFaultOf}
 use Rattle.lrp_text.proofs.OneCause.{same_token, same_front, second_cause, for_syntax, IsShown, apart_syntax, same_kind}
 use Rattle.lrp_text.proofs.LongestFront.{not_cut, same_cut}
-use Rattle.lrp_query.specs.Reading.{IsUnread, IsFaultOrMemory}
-use Rattle.lrp_query.proofs.TextLaws.{no_fault}
+use Rattle.lrp_query.specs.Refusals.{Grammatical, IsRankedIn, IsNoTextOf, IsTextFault, IsTextFaultOf}
 
 -- two refusals of one text
-module _ (bytes : List ℕ) (k l : TokenFault) (p q : Place) (r : IsNoQueryText bytes k p) (s : IsNoQueryText bytes l q) where
+module _ (Texts : Grammatical) (bytes : List ℕ) (k l : TokenFault) (p q : Place) (r : IsNoTextOf Texts bytes k p) (s : IsNoTextOf Texts bytes l q) where
   -- they stand at one token
   at_token : r.bad ≡ s.bad
   at_token = same_token Texts (tokens bytes) k l r.bad s.bad r.tail s.tail r.refused s.refused
@@ -35,18 +29,18 @@ module _ (bytes : List ℕ) (k l : TokenFault) (p q : Place) (r : IsNoQueryText 
   behind_front = same_front Texts (tokens bytes) k l r.bad s.bad r.tail s.tail r.refused s.refused
 
   -- the second one's rank, at the token of the first
-  second_rank : IsRanked l r.refused.front r.bad.token
+  second_rank : IsRankedIn Texts l r.refused.front r.bad.token
   second_rank =
-      let P : Placed → Type 0 = λ t. IsRanked l s.refused.front t.token in
-      let Q : Tokens → Type 0 = λ f. IsRanked l f r.bad.token in
+      let P : Placed → Type 0 = λ t. IsRankedIn Texts l s.refused.front t.token in
+      let Q : Tokens → Type 0 = λ f. IsRankedIn Texts l f r.bad.token in
       subst Q (sym behind_front) (subst P (sym at_token) s.ranked)
 
   -- two ranks that exclude each other
-  pub ranks : (IsRanked k r.refused.front r.bad.token → IsRanked l r.refused.front r.bad.token → ⊥) → ⊥
+  pub ranks : (IsRankedIn Texts k r.refused.front r.bad.token → IsRankedIn Texts l r.refused.front r.bad.token → ⊥) → ⊥
   ranks a = a r.ranked second_rank
 
   -- a rank of the first that excludes a cause of the second
-  pub rank_or_cause : (IsRanked k r.refused.front r.bad.token → IsCause l r.bad.token → ⊥) → ⊥
+  pub rank_or_cause : (IsRankedIn Texts k r.refused.front r.bad.token → IsCause l r.bad.token → ⊥) → ⊥
   rank_or_cause a = a r.ranked (second_cause Texts (tokens bytes) k l r.bad s.bad r.tail s.tail r.refused s.refused)
 
   -- where one is for the syntax, so is the other
@@ -80,65 +74,60 @@ met_kind text_too_long m = inr tt
 met_kind period m = inr tt
 met_kind memory m = absurd m
 
--- of two refusals none is for the depth alone
-never_alone : (bytes : List ℕ) (l : TokenFault) (p q : Place) → IsNoQueryText bytes deep p → IsNoQueryText bytes l q → IsShown l → ⊥
-never_alone bytes syntax p q r s n = both_syntax bytes syntax deep q p s r refl (apart_syntax deep tt)
-never_alone bytes number p q r s n = rank_or_cause bytes deep number p q r s (λ a b. a.1 b)
-never_alone bytes period p q r s n = ranks bytes deep period p q r s (λ a b. b a.0)
-never_alone bytes text_too_long p q r s n = ranks bytes deep text_too_long p q r s (λ a b. b a.0)
-never_alone bytes _ p q r s n = n
-
--- two refusals of one text are for one kind, where each is for the depth or a token shows it
-either_kind : (bytes : List ℕ) (k l : TokenFault) (p q : Place) → IsNoQueryText bytes k p → IsNoQueryText bytes l q → (k ≡ deep) ⊎ IsShown k → (l ≡ deep) ⊎ IsShown l → k ≡ l
-either_kind bytes k l p q r s (inl e) (inl d) = e ∙ sym d
-either_kind bytes k l p q r s (inr m) (inr n) = shown_kind bytes k l p q r s m n
-either_kind bytes k l p q r s (inl e) (inr n) = let P : TokenFault → Type 0 = λ j. IsNoQueryText bytes j p in absurd (never_alone bytes l p q (subst P e r) s n)
-either_kind bytes k l p q r s (inr m) (inl d) = let P : TokenFault → Type 0 = λ j. IsNoQueryText bytes j q in absurd (never_alone bytes k q p (subst P d s) r m)
-
--- two refusals of one text are for one kind
-one_kind : (bytes : List ℕ) (k l : TokenFault) (p q : Place) → IsNoQueryText bytes k p → IsNoQueryText bytes l q → IsMet k → IsMet l → k ≡ l
-one_kind bytes k l p q r s m n = either_kind bytes k l p q r s (met_kind k m) (met_kind l n)
-
--- a fault is one of the bytes, or one that was met
-data Group (bytes : List ℕ) (k : QueryKind) (p : Place) : Type 0 where
-  cut : k ≡ Utf8 → IsNoUtf8 bytes p → Group bytes k p
-  met : (j : TokenFault) → IsMet j → k ≡ kind_met j → IsNoQueryText bytes j p → Group bytes k p
-
--- which of both
-group_of : (bytes : List ℕ) (k : QueryKind) (f : QueryFault) → IsQueryFaultOf bytes k f → Group bytes k f.place
-group_of bytes Utf8 f r = cut refl r
-group_of bytes Syntax f r = met syntax tt refl r
-group_of bytes Number f r = met number tt refl r
-group_of bytes TextTooLong f r = met text_too_long tt refl r
-group_of bytes Period f r = met period tt refl r
-group_of bytes Deep f r = met deep tt refl r
-group_of bytes UnknownRelation f r = absurd r
-group_of bytes Arity f r = absurd r
-group_of bytes Sort f r = absurd r
-group_of bytes Unbound f r = absurd r
-group_of bytes Rebound f r = absurd r
-group_of bytes Wide f r = absurd r
-group_of bytes UnknownSort f r = absurd r
-
--- two faults are one
-both_once : (bytes : List ℕ) (k l : QueryKind) (p q : Place) → Group bytes k p → Group bytes l q → (k ≡ l) × (p ≡ q)
-both_once bytes k l p q (cut e a) (cut d b) = (e ∙ sym d, same_cut bytes p q a b)
-both_once bytes k l p q (cut e a) (met j m d s) = absurd (not_cut bytes p s.utf8 a)
-both_once bytes k l p q (met j m e r) (cut d b) = absurd (not_cut bytes q r.utf8 b)
-both_once bytes k l p q (met j m e r) (met i n d s) = (e ∙ ap kind_met (one_kind bytes j i p q r s m n) ∙ sym d, same_place bytes j i p q r s)
-
 -- a fault by its kind and place
 abbrev fault_of : QueryKind → Place → QueryFault
 fault_of k p = record { kind = k; place = p }
 
--- a text has at most one fault
-pub fault_once : (bytes : List ℕ) (f g : QueryFault) → IsQueryFault bytes f → IsQueryFault bytes g → f ≡ g
-fault_once bytes f g a b =
-    let h = both_once bytes f.kind g.kind f.place g.place (group_of bytes f.kind f a) (group_of bytes g.kind g b) in
-    ap (λ k. fault_of k f.place) h.0 ∙ ap (fault_of g.kind) h.1
+module _ (Texts : Grammatical) where
+  -- of two refusals none is for the depth alone
+  never_alone : (bytes : List ℕ) (l : TokenFault) (p q : Place) → IsNoTextOf Texts bytes deep p → IsNoTextOf Texts bytes l q → IsShown l → ⊥
+  never_alone bytes syntax p q r s n = both_syntax Texts bytes syntax deep q p s r refl (apart_syntax deep tt)
+  never_alone bytes number p q r s n = rank_or_cause Texts bytes deep number p q r s (λ a b. a.1 b)
+  never_alone bytes period p q r s n = ranks Texts bytes deep period p q r s (λ a b. b a.0)
+  never_alone bytes text_too_long p q r s n = ranks Texts bytes deep text_too_long p q r s (λ a b. b a.0)
+  never_alone bytes _ p q r s n = n
 
--- each text with a fault is refused for it
-pub every_fault : (bytes : List ℕ) (r : Result RawQuery QueryRead) → IfOk r (λ q. IsQuery bytes (raw_question_of q)) → IfErr r (IsUnread bytes) → (f : QueryFault) → IsQueryFault bytes f → IsFaultOrMemory f r
-every_fault bytes (Ok q) ok err f t = no_fault bytes ok.tree f.kind f ok.text t
-every_fault bytes (Err Memory) ok err f t = tt
-every_fault bytes (Err (Fault g)) ok err f t = fault_once bytes g f err t
+  -- two refusals of one text are for one kind, where each is for the depth or a token shows it
+  either_kind : (bytes : List ℕ) (k l : TokenFault) (p q : Place) → IsNoTextOf Texts bytes k p → IsNoTextOf Texts bytes l q → (k ≡ deep) ⊎ IsShown k → (l ≡ deep) ⊎ IsShown l → k ≡ l
+  either_kind bytes k l p q r s (inl e) (inl d) = e ∙ sym d
+  either_kind bytes k l p q r s (inr m) (inr n) = shown_kind Texts bytes k l p q r s m n
+  either_kind bytes k l p q r s (inl e) (inr n) = let P : TokenFault → Type 0 = λ j. IsNoTextOf Texts bytes j p in absurd (never_alone bytes l p q (subst P e r) s n)
+  either_kind bytes k l p q r s (inr m) (inl d) = let P : TokenFault → Type 0 = λ j. IsNoTextOf Texts bytes j q in absurd (never_alone bytes k q p (subst P d s) r m)
+
+  -- two refusals of one text are for one kind
+  one_kind : (bytes : List ℕ) (k l : TokenFault) (p q : Place) → IsNoTextOf Texts bytes k p → IsNoTextOf Texts bytes l q → IsMet k → IsMet l → k ≡ l
+  one_kind bytes k l p q r s m n = either_kind bytes k l p q r s (met_kind k m) (met_kind l n)
+
+  -- a fault is one of the bytes, or one that was met
+  data Group (bytes : List ℕ) (k : QueryKind) (p : Place) : Type 0 where
+    cut : k ≡ Utf8 → IsNoUtf8 bytes p → Group bytes k p
+    met : (j : TokenFault) → IsMet j → k ≡ kind_met j → IsNoTextOf Texts bytes j p → Group bytes k p
+
+  -- which of both
+  group_of : (bytes : List ℕ) (k : QueryKind) (f : QueryFault) → IsTextFaultOf Texts bytes k f → Group bytes k f.place
+  group_of bytes Utf8 f r = cut refl r
+  group_of bytes Syntax f r = met syntax tt refl r
+  group_of bytes Number f r = met number tt refl r
+  group_of bytes TextTooLong f r = met text_too_long tt refl r
+  group_of bytes Period f r = met period tt refl r
+  group_of bytes Deep f r = met deep tt refl r
+  group_of bytes UnknownRelation f r = absurd r
+  group_of bytes Arity f r = absurd r
+  group_of bytes Sort f r = absurd r
+  group_of bytes Unbound f r = absurd r
+  group_of bytes Rebound f r = absurd r
+  group_of bytes Wide f r = absurd r
+  group_of bytes UnknownSort f r = absurd r
+
+  -- two faults are one
+  both_once : (bytes : List ℕ) (k l : QueryKind) (p q : Place) → Group bytes k p → Group bytes l q → (k ≡ l) × (p ≡ q)
+  both_once bytes k l p q (cut e a) (cut d b) = (e ∙ sym d, same_cut bytes p q a b)
+  both_once bytes k l p q (cut e a) (met j m d s) = absurd (not_cut bytes p s.utf8 a)
+  both_once bytes k l p q (met j m e r) (cut d b) = absurd (not_cut bytes q r.utf8 b)
+  both_once bytes k l p q (met j m e r) (met i n d s) = (e ∙ ap kind_met (one_kind bytes j i p q r s m n) ∙ sym d, same_place Texts bytes j i p q r s)
+
+  -- a text has at most one fault
+  pub fault_once : (bytes : List ℕ) (f g : QueryFault) → IsTextFault Texts bytes f → IsTextFault Texts bytes g → f ≡ g
+  fault_once bytes f g a b =
+      let h = both_once bytes f.kind g.kind f.place g.place (group_of bytes f.kind f a) (group_of bytes g.kind g b) in
+      ap (λ k. fault_of k f.place) h.0 ∙ ap (fault_of g.kind) h.1

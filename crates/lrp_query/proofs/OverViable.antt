@@ -11,8 +11,7 @@ use Rattle.lrp_model.specs.Tokens.Token.{name_token, word_token, symbol_token, h
 use Rattle.lrp_model.specs.Tokens.Part.{any}
 use Rattle.lrp_model.specs.Columns.{column_text}
 use Rattle.lrp_model.specs.Refused.{Stops}
-use Rattle.lrp_model.specs.Queries.{WrittenFormula, formula_text, members_text}
-use Rattle.lrp_model.specs.Queries.WrittenFormula.{denied, all_of, any_of, implied, group, some, every, hole}
+use Rattle.lrp_model.specs.Texts.{Identifier}
 use Rattle.lrp_text.specs.Parsers.{Parser, accept, look, eat, separated_from}
 use Rattle.lrp_text.specs.Taking.{is_word, expect}
 use Rattle.lrp_text.specs.ColumnRule.{column}
@@ -21,82 +20,81 @@ use Rattle.lrp_text.proofs.Viable.{ViableBelow, One, SomeText, bind_err, behind,
 use Rattle.lrp_text.proofs.TokenTests.{word_told}
 use Rattle.lrp_text.proofs.ColumnRule.{column_sound, column_viable}
 use Rattle.lrp_text.specs.IntegerRule.{integer}
-use Rattle.lrp_query.specs.Rules.{written, further, unnamed_term, unnamed, negated, existing, holding, implying, conjoined, disjoined, behind_first, enclosed, formula_over}
+use Rattle.lrp_query.specs.Rules.{unnamed_term, unnamed, named, negated, existing, holding, implying, conjoined, disjoined, behind_first, enclosed, formula_over}
+use Rattle.lrp_query.proofs.Layers.{denied, all_of, any_of, implied, group, some, every, hole, Grammar, trees, text_of, FitsLayer, LayerTexts, FormulaTexts, rolled_stops, BehindRules}
 use Rattle.lrp_query.proofs.Below.{separated_stops}
-use Rattle.lrp_query.proofs.TestRules.{FitsAt, Formulas, sym_part, symbol_sound, symbol_viable, symbol_at, named_stops, unnamed_stops}
-use Rattle.lrp_query.proofs.OverRules.{members_spell, members_fit, some_formula, some_tokens, some_spelled, some_fits}
+use Rattle.lrp_query.proofs.TestRules.{sym_part, symbol_sound, symbol_viable, symbol_at, unnamed_stops}
+use Rattle.lrp_query.proofs.OverRules.{some_formula, some_tokens, some_spelled, some_fits, spelled_as}
 
 -- the token that closes
 abbrev close : Tokens
 close = symbol_at Close ∷ []
 
-module _ (inner : Parser WrittenFormula) (d turns : ℕ) (inner_sound : Sound inner formula_text (FitsAt d)) (inner_viable : ViableBelow turns inner formula_text (FitsAt d)) where
+module _ {F X Q : Type 0} (grammar : Grammar F X Q) (inner : Parser F) (behind_it : Identifier → Place → Parser F) (d turns : ℕ) (after : BehindRules grammar d turns behind_it) (inner_sound : Sound inner grammar.text (grammar.Fits d)) (inner_viable : ViableBelow turns inner grammar.text (grammar.Fits d)) where
   -- a parenthesis at its place
   abbrev opening : Place → Placed
   opening p = record { token = symbol_token Open; place = p }
 
   -- behind a parenthesis and a formula
   abbrev Behind : Place → Tokens → Bool → Tokens → Type 0
-  Behind p head c x = Formulas (suc d) c (opening p ∷ (head ++ x))
+  Behind p head c x = LayerTexts grammar d c (opening p ∷ (head ++ x))
 
   -- behind `implies`
-  implying_stops : (p : Place) (f : WrittenFormula) (head : Tokens) (t : Placed) (ws : Tokens) (e : Fault × Tokens) → Spells (formula_text f) head → FitsAt d f → IsPart (any (word_token Implies)) t → length ws < turns → implying written inner p f ws ≡ Err e → Stops (λ c x. Behind p head c (t ∷ x)) ws e
+  implying_stops : (p : Place) (f : F) (head : Tokens) (t : Placed) (ws : Tokens) (e : Fault × Tokens) → Spells (grammar.text f) head → grammar.Fits d f → IsPart (any (word_token Implies)) t → length ws < turns → implying (trees grammar) inner p f ws ≡ Err e → Stops (λ c x. Behind p head c (t ∷ x)) ws e
   unfolding implying
   implying_stops p f head t ws e one fit is lt h =
       let R : Bool → Tokens → Type 0 = λ c x. Behind p head c (t ∷ x) in
-      let spell : (g : WrittenFormula) (x y : Tokens) → Spells (formula_text g) x → Spells (any (symbol_token Close) ∷ []) y → Spells (formula_text (implied p f g)) (opening p ∷ (head ++ t ∷ (x ++ y))) = λ g x y s c. ((refl, refl), spells_join (formula_text f) (any (word_token Implies) ∷ (formula_text g ++ any (symbol_token Close) ∷ [])) head (t ∷ (x ++ y)) one (is, spells_join (formula_text g) (any (symbol_token Close) ∷ []) x y s c)) in
-      sub_short inner _ formula_text (FitsAt d) R ws e inner_sound (inner_viable ws e lt) h
-      (λ c g x spelled fits. (close, (implied p f g, fits_as (FitsAt d g) (FitsAt (suc d) (implied p f g)) c (λ k. ((fit.0, k.0), (fit.1, k.1))) fits, spell g x close spelled (refl, refl))))
+      let spell : (g : F) (x y : Tokens) → Spells (grammar.text g) x → Spells (any (symbol_token Close) ∷ []) y → Spells (text_of grammar (implied p f g)) (opening p ∷ (head ++ t ∷ (x ++ y))) = λ g x y s c. ((refl, refl), spells_join (grammar.text f) (any (word_token Implies) ∷ (grammar.text g ++ any (symbol_token Close) ∷ [])) head (t ∷ (x ++ y)) one (is, spells_join (grammar.text g) (any (symbol_token Close) ∷ []) x y s c)) in
+      sub_short inner _ grammar.text (grammar.Fits d) R ws e inner_sound (inner_viable ws e lt) h
+      (λ c g x spelled fits. (close, (implied p f g, fits_as (grammar.Fits d g) (FitsLayer grammar d (implied p f g)) c (λ k. (fit, k)) fits, spell g x close spelled (refl, refl))))
       (λ g h1 xs s1 f1 l1 d1. sub_short (expect Close) _ (One (sym_part Close)) (λ u. Unit {0}) (λ c x. R c (h1 ++ x)) xs e (symbol_sound Close) (symbol_viable Close xs e) d1
-      (λ c u x spelled fits. ([], (implied p f g, always (FitsAt (suc d) (implied p f g)) c ((fit.0, f1.0), (fit.1, f1.1)), spell g h1 (x ++ []) s1 (subst (λ y. Spells (One (sym_part Close) u) y) (sym (append-nil x)) spelled))))
+      (λ c u x spelled fits. ([], (implied p f g, always (FitsLayer grammar d (implied p f g)) c (fit, f1), spell g h1 (x ++ []) s1 (subst (λ y. Spells (One (sym_part Close) u) y) (sym (append-nil x)) spelled))))
       (λ u h2 ys s2 f2 l2 d2. absurd cc))
 
   -- behind `and`
-  conjoined_stops : (p : Place) (f : WrittenFormula) (head : Tokens) (t : Placed) (ws : Tokens) (e : Fault × Tokens) → Spells (formula_text f) head → FitsAt d f → IsPart (any (word_token And)) t → length ws < turns → conjoined written inner turns p f ws ≡ Err e → Stops (λ c x. Behind p head c (t ∷ x)) ws e
+  conjoined_stops : (p : Place) (f : F) (head : Tokens) (t : Placed) (ws : Tokens) (e : Fault × Tokens) → Spells (grammar.text f) head → grammar.Fits d f → IsPart (any (word_token And)) t → length ws < turns → conjoined (trees grammar) inner turns p f ws ≡ Err e → Stops (λ c x. Behind p head c (t ∷ x)) ws e
   unfolding conjoined
   conjoined_stops p f head t ws e one fit is lt h =
       let R : Bool → Tokens → Type 0 = λ c x. Behind p head c (t ∷ x) in
-      let Some : Bool → Tokens → Type 0 = SomeText (any (word_token And)) formula_text (FitsAt d) in
-      let spell : (g : WrittenFormula) (gs : List WrittenFormula) (x y : Tokens) → Spells (separated (any (word_token And)) formula_text (g ∷ gs)) x → Spells (any (symbol_token Close) ∷ []) y → Spells (formula_text (all_of p f (further g gs))) (opening p ∷ (head ++ t ∷ (x ++ y))) = λ g gs x y s c.
-      ((refl, refl), spells_join (formula_text f) (members_text And (further g gs) ++ any (symbol_token Close) ∷ []) head (t ∷ (x ++ y)) one (subst (λ ps. Spells (ps ++ any (symbol_token Close) ∷ []) (t ∷ (x ++ y))) (sym (members_spell And g gs)) (is, spells_join (separated (any (word_token And)) formula_text (g ∷ gs)) (any (symbol_token Close) ∷ []) x y s c))) in
+      let Some : Bool → Tokens → Type 0 = SomeText (any (word_token And)) grammar.text (grammar.Fits d) in
+      let spell : (g : F) (gs : List F) (x y : Tokens) → Spells (separated (any (word_token And)) grammar.text (g ∷ gs)) x → Spells (any (symbol_token Close) ∷ []) y → Spells (text_of grammar (all_of p f g gs)) (opening p ∷ (head ++ t ∷ (x ++ y))) = λ g gs x y s c.
+      ((refl, refl), spells_join (grammar.text f) (any (word_token And) ∷ (separated (any (word_token And)) grammar.text (g ∷ gs) ++ any (symbol_token Close) ∷ [])) head (t ∷ (x ++ y)) one (is, spells_join (separated (any (word_token And)) grammar.text (g ∷ gs)) (any (symbol_token Close) ∷ []) x y s c)) in
       elim (bind_err (separated_from inner (is_word And) turns (f ∷ []) ws) _ e h) [
         | inl k ↦
-            before Some R ws e (λ c x s. (close, (all_of p f (further s.0 s.1), fits_as (AllByRecursion (FitsAt d) (s.0 ∷ s.1)) (FitsAt (suc d) (all_of p f (further s.0 s.1))) c (λ a. let m = members_fit d s.0 s.1 a in ((fit.0, m.0), (fit.1, m.1))) s.2, spell s.0 s.1 x close s.3 (refl, refl))))
-            (separated_stops inner formula_text (FitsAt d) (any (word_token And)) (is_word And) turns (word_told And) inner_sound inner_viable turns (f ∷ []) ws e lt lt k)
+            before Some R ws e (λ c x s. (close, (all_of p f s.0 s.1, fits_as (AllByRecursion (grammar.Fits d) (s.0 ∷ s.1)) (FitsLayer grammar d (all_of p f s.0 s.1)) c (λ a. (fit, a)) s.2, spell s.0 s.1 x close s.3 (refl, refl))))
+            (separated_stops inner grammar.text (grammar.Fits d) (any (word_token And)) (is_word And) turns (word_told And) inner_sound inner_viable turns (f ∷ []) ws e lt lt k)
         | inr fs ↦
-            let s = separated_sound inner formula_text (FitsAt d) (any (word_token And)) (is_word And) (word_told And) inner_sound turns (f ∷ []) ws fs.0 fs.1 in
-            let front = takes_front (separated (any (word_token And)) formula_text (s.0 ∷ s.1)) ws fs.0.1 s.3 in
-            let m = members_fit d s.0 s.1 s.4 in
+            let s = separated_sound inner grammar.text (grammar.Fits d) (any (word_token And)) (is_word And) (word_told And) inner_sound turns (f ∷ []) ws fs.0 fs.1 in
+            let front = takes_front (separated (any (word_token And)) grammar.text (s.0 ∷ s.1)) ws fs.0.1 s.3 in
             behind (λ c x. R c (front.head ++ x)) R front.head ws fs.0.1 e front.whole (λ c x r. r)
             (sub_short (expect Close) _ (One (sym_part Close)) (λ u. Unit {0}) (λ c x. R c (front.head ++ x)) fs.0.1 e (symbol_sound Close) (symbol_viable Close fs.0.1 e) fs.2
-            (λ c u x spelled fits. ([], (all_of p f (further s.0 s.1), always (FitsAt (suc d) (all_of p f (further s.0 s.1))) c ((fit.0, m.0), (fit.1, m.1)), spell s.0 s.1 front.head (x ++ []) front.spelled (subst (λ y. Spells (One (sym_part Close) u) y) (sym (append-nil x)) spelled))))
+            (λ c u x spelled fits. ([], (all_of p f s.0 s.1, always (FitsLayer grammar d (all_of p f s.0 s.1)) c (fit, s.4), spell s.0 s.1 front.head (x ++ []) front.spelled (subst (λ y. Spells (One (sym_part Close) u) y) (sym (append-nil x)) spelled))))
             (λ u h2 ys s2 f2 l2 d2. absurd cc))
       ]
 
   -- behind `or`
-  disjoined_stops : (p : Place) (f : WrittenFormula) (head : Tokens) (t : Placed) (ws : Tokens) (e : Fault × Tokens) → Spells (formula_text f) head → FitsAt d f → IsPart (any (word_token Or)) t → length ws < turns → disjoined written inner turns p f ws ≡ Err e → Stops (λ c x. Behind p head c (t ∷ x)) ws e
+  disjoined_stops : (p : Place) (f : F) (head : Tokens) (t : Placed) (ws : Tokens) (e : Fault × Tokens) → Spells (grammar.text f) head → grammar.Fits d f → IsPart (any (word_token Or)) t → length ws < turns → disjoined (trees grammar) inner turns p f ws ≡ Err e → Stops (λ c x. Behind p head c (t ∷ x)) ws e
   unfolding disjoined
   disjoined_stops p f head t ws e one fit is lt h =
       let R : Bool → Tokens → Type 0 = λ c x. Behind p head c (t ∷ x) in
-      let Some : Bool → Tokens → Type 0 = SomeText (any (word_token Or)) formula_text (FitsAt d) in
-      let spell : (g : WrittenFormula) (gs : List WrittenFormula) (x y : Tokens) → Spells (separated (any (word_token Or)) formula_text (g ∷ gs)) x → Spells (any (symbol_token Close) ∷ []) y → Spells (formula_text (any_of p f (further g gs))) (opening p ∷ (head ++ t ∷ (x ++ y))) = λ g gs x y s c.
-      ((refl, refl), spells_join (formula_text f) (members_text Or (further g gs) ++ any (symbol_token Close) ∷ []) head (t ∷ (x ++ y)) one (subst (λ ps. Spells (ps ++ any (symbol_token Close) ∷ []) (t ∷ (x ++ y))) (sym (members_spell Or g gs)) (is, spells_join (separated (any (word_token Or)) formula_text (g ∷ gs)) (any (symbol_token Close) ∷ []) x y s c))) in
+      let Some : Bool → Tokens → Type 0 = SomeText (any (word_token Or)) grammar.text (grammar.Fits d) in
+      let spell : (g : F) (gs : List F) (x y : Tokens) → Spells (separated (any (word_token Or)) grammar.text (g ∷ gs)) x → Spells (any (symbol_token Close) ∷ []) y → Spells (text_of grammar (any_of p f g gs)) (opening p ∷ (head ++ t ∷ (x ++ y))) = λ g gs x y s c.
+      ((refl, refl), spells_join (grammar.text f) (any (word_token Or) ∷ (separated (any (word_token Or)) grammar.text (g ∷ gs) ++ any (symbol_token Close) ∷ [])) head (t ∷ (x ++ y)) one (is, spells_join (separated (any (word_token Or)) grammar.text (g ∷ gs)) (any (symbol_token Close) ∷ []) x y s c)) in
       elim (bind_err (separated_from inner (is_word Or) turns (f ∷ []) ws) _ e h) [
         | inl k ↦
-            before Some R ws e (λ c x s. (close, (any_of p f (further s.0 s.1), fits_as (AllByRecursion (FitsAt d) (s.0 ∷ s.1)) (FitsAt (suc d) (any_of p f (further s.0 s.1))) c (λ a. let m = members_fit d s.0 s.1 a in ((fit.0, m.0), (fit.1, m.1))) s.2, spell s.0 s.1 x close s.3 (refl, refl))))
-            (separated_stops inner formula_text (FitsAt d) (any (word_token Or)) (is_word Or) turns (word_told Or) inner_sound inner_viable turns (f ∷ []) ws e lt lt k)
+            before Some R ws e (λ c x s. (close, (any_of p f s.0 s.1, fits_as (AllByRecursion (grammar.Fits d) (s.0 ∷ s.1)) (FitsLayer grammar d (any_of p f s.0 s.1)) c (λ a. (fit, a)) s.2, spell s.0 s.1 x close s.3 (refl, refl))))
+            (separated_stops inner grammar.text (grammar.Fits d) (any (word_token Or)) (is_word Or) turns (word_told Or) inner_sound inner_viable turns (f ∷ []) ws e lt lt k)
         | inr fs ↦
-            let s = separated_sound inner formula_text (FitsAt d) (any (word_token Or)) (is_word Or) (word_told Or) inner_sound turns (f ∷ []) ws fs.0 fs.1 in
-            let front = takes_front (separated (any (word_token Or)) formula_text (s.0 ∷ s.1)) ws fs.0.1 s.3 in
-            let m = members_fit d s.0 s.1 s.4 in
+            let s = separated_sound inner grammar.text (grammar.Fits d) (any (word_token Or)) (is_word Or) (word_told Or) inner_sound turns (f ∷ []) ws fs.0 fs.1 in
+            let front = takes_front (separated (any (word_token Or)) grammar.text (s.0 ∷ s.1)) ws fs.0.1 s.3 in
             behind (λ c x. R c (front.head ++ x)) R front.head ws fs.0.1 e front.whole (λ c x r. r)
             (sub_short (expect Close) _ (One (sym_part Close)) (λ u. Unit {0}) (λ c x. R c (front.head ++ x)) fs.0.1 e (symbol_sound Close) (symbol_viable Close fs.0.1 e) fs.2
-            (λ c u x spelled fits. ([], (any_of p f (further s.0 s.1), always (FitsAt (suc d) (any_of p f (further s.0 s.1))) c ((fit.0, m.0), (fit.1, m.1)), spell s.0 s.1 front.head (x ++ []) front.spelled (subst (λ y. Spells (One (sym_part Close) u) y) (sym (append-nil x)) spelled))))
+            (λ c u x spelled fits. ([], (any_of p f s.0 s.1, always (FitsLayer grammar d (any_of p f s.0 s.1)) c (fit, s.4), spell s.0 s.1 front.head (x ++ []) front.spelled (subst (λ y. Spells (One (sym_part Close) u) y) (sym (append-nil x)) spelled))))
             (λ u h2 ys s2 f2 l2 d2. absurd cc))
       ]
 
   -- behind a formula in parentheses
-  behind_stops : (p : Place) (f : WrittenFormula) (head vs : Tokens) (e : Fault × Tokens) → Spells (formula_text f) head → FitsAt d f → length vs < turns → behind_first written inner turns p f vs ≡ Err e → Stops (Behind p head) vs e
+  behind_stops : (p : Place) (f : F) (head vs : Tokens) (e : Fault × Tokens) → Spells (grammar.text f) head → grammar.Fits d f → length vs < turns → behind_first (trees grammar) inner turns p f vs ≡ Err e → Stops (Behind p head) vs e
   unfolding behind_first
   behind_stops p f head vs e one fit lt h =
       eat_short (is_word Implies) _ (Behind p head) vs e h
@@ -106,78 +104,80 @@ module _ (inner : Parser WrittenFormula) (d turns : ℕ) (inner_sound : Sound in
       (λ b. eat_short (is_word Or) _ (Behind p head) vs e b
       (λ t ws told less k. disjoined_stops p f head t ws e one fit (word_told Or t told) (omega arith) k)
       (λ k. sub_short (expect Close) _ (One (sym_part Close)) (λ u. Unit {0}) (Behind p head) vs e (symbol_sound Close) (symbol_viable Close vs e) k
-      (λ c u x spelled fits. ([], (group p f, always (FitsAt (suc d) (group p f)) c fit, ((refl, refl), spells_join (formula_text f) (any (symbol_token Close) ∷ []) head (x ++ []) one (subst (λ y. Spells (One (sym_part Close) u) y) (sym (append-nil x)) spelled)))))
+      (λ c u x spelled fits. ([], (group p f, always (FitsLayer grammar d (group p f)) c fit, ((refl, refl), spells_join (grammar.text f) (any (symbol_token Close) ∷ []) head (x ++ []) one (subst (λ y. Spells (One (sym_part Close) u) y) (sym (append-nil x)) spelled)))))
       (λ u h2 ys s2 f2 l2 d2. absurd cc))))
 
   -- behind a parenthesis
-  enclosed_stops : (p : Place) (us : Tokens) (e : Fault × Tokens) → length us < turns → enclosed written inner turns p (opening p ∷ us) ≡ Err e → Stops (Formulas (suc d)) (opening p ∷ us) e
+  enclosed_stops : (p : Place) (us : Tokens) (e : Fault × Tokens) → length us < turns → enclosed (trees grammar) inner turns p (opening p ∷ us) ≡ Err e → Stops (LayerTexts grammar d) (opening p ∷ us) e
   unfolding enclosed accept
   enclosed_stops p us e lt h =
-      let R : Bool → Tokens → Type 0 = λ c x. Formulas (suc d) c (opening p ∷ x) in
-      behind R (Formulas (suc d)) (opening p ∷ []) (opening p ∷ us) us e refl (λ c x r. r)
-      (sub_short inner _ formula_text (FitsAt d) R us e inner_sound (inner_viable us e lt) h
-      (λ c f x spelled fits. (close, (group p f, fits, ((refl, refl), spells_join (formula_text f) (any (symbol_token Close) ∷ []) x close spelled (refl, refl)))))
+      let R : Bool → Tokens → Type 0 = λ c x. LayerTexts grammar d c (opening p ∷ x) in
+      behind R (LayerTexts grammar d) (opening p ∷ []) (opening p ∷ us) us e refl (λ c x r. r)
+      (sub_short inner _ grammar.text (grammar.Fits d) R us e inner_sound (inner_viable us e lt) h
+      (λ c f x spelled fits. (close, (group p f, fits, ((refl, refl), spells_join (grammar.text f) (any (symbol_token Close) ∷ []) x close spelled (refl, refl)))))
       (λ f h1 vs s1 f1 l1 d1. behind_stops p f h1 vs e s1 f1 (omega arith) d1))
 
   -- behind `not`
-  negated_stops : (p : Place) (us : Tokens) (e : Fault × Tokens) → length us < turns → negated written inner p (record { token = word_token Not; place = p } ∷ us) ≡ Err e → Stops (Formulas (suc d)) (record { token = word_token Not; place = p } ∷ us) e
+  negated_stops : (p : Place) (us : Tokens) (e : Fault × Tokens) → length us < turns → negated (trees grammar) inner p (record { token = word_token Not; place = p } ∷ us) ≡ Err e → Stops (LayerTexts grammar d) (record { token = word_token Not; place = p } ∷ us) e
   unfolding negated accept
   negated_stops p us e lt h =
       let t : Placed = record { token = word_token Not; place = p } in
-      let R : Bool → Tokens → Type 0 = λ c x. Formulas (suc d) c (t ∷ x) in
-      behind R (Formulas (suc d)) (t ∷ []) (t ∷ us) us e refl (λ c x r. r)
-      (sub_short inner _ formula_text (FitsAt d) R us e inner_sound (inner_viable us e lt) h
-      (λ c f x spelled fits. ([], (denied p f, fits, ((refl, refl), subst (λ y. Spells (formula_text f) y) (sym (append-nil x)) spelled))))
+      let R : Bool → Tokens → Type 0 = λ c x. LayerTexts grammar d c (t ∷ x) in
+      behind R (LayerTexts grammar d) (t ∷ []) (t ∷ us) us e refl (λ c x r. r)
+      (sub_short inner _ grammar.text (grammar.Fits d) R us e inner_sound (inner_viable us e lt) h
+      (λ c f x spelled fits. ([], (denied p f, fits, ((refl, refl), subst (λ y. Spells (grammar.text f) y) (sym (append-nil x)) spelled))))
       (λ f h1 vs s1 f1 l1 d1. absurd cc))
 
   -- behind `exists`
-  existing_stops : (p : Place) (us : Tokens) (e : Fault × Tokens) → length us < turns → existing written inner p (record { token = word_token Exists; place = p } ∷ us) ≡ Err e → Stops (Formulas (suc d)) (record { token = word_token Exists; place = p } ∷ us) e
+  existing_stops : (p : Place) (us : Tokens) (e : Fault × Tokens) → length us < turns → existing (trees grammar) inner p (record { token = word_token Exists; place = p } ∷ us) ≡ Err e → Stops (LayerTexts grammar d) (record { token = word_token Exists; place = p } ∷ us) e
   unfolding existing accept
   existing_stops p us e lt h =
       let t : Placed = record { token = word_token Exists; place = p } in
-      let R : Bool → Tokens → Type 0 = λ c x. Formulas (suc d) c (t ∷ x) in
-      behind R (Formulas (suc d)) (t ∷ []) (t ∷ us) us e refl (λ c x r. r)
+      let R : Bool → Tokens → Type 0 = λ c x. LayerTexts grammar d c (t ∷ x) in
+      behind R (LayerTexts grammar d) (t ∷ []) (t ∷ us) us e refl (λ c x r. r)
       (sub_short column _ column_text (λ k. Unit {0}) R us e column_sound (column_viable us e) h
-      (λ c k x spelled fits. (some_tokens d, (some p k (some_formula d), always (FitsAt d (some_formula d)) c (some_fits d), ((refl, refl), spells_join (column_text k) (formula_text (some_formula d)) x (some_tokens d) spelled (some_spelled d)))))
-      (λ k h1 vs s1 f1 l1 d1. sub_short inner _ formula_text (FitsAt d) (λ c x. R c (h1 ++ x)) vs e inner_sound (inner_viable vs e (omega arith)) d1
-      (λ c f x spelled fits. ([], (some p k f, fits, ((refl, refl), spells_join (column_text k) (formula_text f) h1 (x ++ []) s1 (subst (λ y. Spells (formula_text f) y) (sym (append-nil x)) spelled)))))
+      (λ c k x spelled fits. (some_tokens grammar d, (some p k (some_formula grammar d), always (grammar.Fits d (some_formula grammar d)) c (some_fits grammar d), ((refl, refl), spells_join (column_text k) (grammar.text (some_formula grammar d)) x (some_tokens grammar d) spelled (some_spelled grammar d)))))
+      (λ k h1 vs s1 f1 l1 d1. sub_short inner _ grammar.text (grammar.Fits d) (λ c x. R c (h1 ++ x)) vs e inner_sound (inner_viable vs e (omega arith)) d1
+      (λ c f x spelled fits. ([], (some p k f, fits, ((refl, refl), spells_join (column_text k) (grammar.text f) h1 (x ++ []) s1 (subst (λ y. Spells (grammar.text f) y) (sym (append-nil x)) spelled)))))
       (λ f h2 ws s2 f2 l2 d2. absurd cc)))
 
   -- behind `forall`
-  holding_stops : (p : Place) (us : Tokens) (e : Fault × Tokens) → length us < turns → holding written inner p (record { token = word_token Forall; place = p } ∷ us) ≡ Err e → Stops (Formulas (suc d)) (record { token = word_token Forall; place = p } ∷ us) e
+  holding_stops : (p : Place) (us : Tokens) (e : Fault × Tokens) → length us < turns → holding (trees grammar) inner p (record { token = word_token Forall; place = p } ∷ us) ≡ Err e → Stops (LayerTexts grammar d) (record { token = word_token Forall; place = p } ∷ us) e
   unfolding holding accept
   holding_stops p us e lt h =
       let t : Placed = record { token = word_token Forall; place = p } in
-      let R : Bool → Tokens → Type 0 = λ c x. Formulas (suc d) c (t ∷ x) in
-      behind R (Formulas (suc d)) (t ∷ []) (t ∷ us) us e refl (λ c x r. r)
+      let R : Bool → Tokens → Type 0 = λ c x. LayerTexts grammar d c (t ∷ x) in
+      behind R (LayerTexts grammar d) (t ∷ []) (t ∷ us) us e refl (λ c x r. r)
       (sub_short column _ column_text (λ k. Unit {0}) R us e column_sound (column_viable us e) h
-      (λ c k x spelled fits. (some_tokens d, (every p k (some_formula d), always (FitsAt d (some_formula d)) c (some_fits d), ((refl, refl), spells_join (column_text k) (formula_text (some_formula d)) x (some_tokens d) spelled (some_spelled d)))))
-      (λ k h1 vs s1 f1 l1 d1. sub_short inner _ formula_text (FitsAt d) (λ c x. R c (h1 ++ x)) vs e inner_sound (inner_viable vs e (omega arith)) d1
-      (λ c f x spelled fits. ([], (every p k f, fits, ((refl, refl), spells_join (column_text k) (formula_text f) h1 (x ++ []) s1 (subst (λ y. Spells (formula_text f) y) (sym (append-nil x)) spelled)))))
+      (λ c k x spelled fits. (some_tokens grammar d, (every p k (some_formula grammar d), always (grammar.Fits d (some_formula grammar d)) c (some_fits grammar d), ((refl, refl), spells_join (column_text k) (grammar.text (some_formula grammar d)) x (some_tokens grammar d) spelled (some_spelled grammar d)))))
+      (λ k h1 vs s1 f1 l1 d1. sub_short inner _ grammar.text (grammar.Fits d) (λ c x. R c (h1 ++ x)) vs e inner_sound (inner_viable vs e (omega arith)) d1
+      (λ c f x spelled fits. ([], (every p k f, fits, ((refl, refl), spells_join (column_text k) (grammar.text f) h1 (x ++ []) s1 (subst (λ y. Spells (grammar.text f) y) (sym (append-nil x)) spelled)))))
       (λ f h2 ws s2 f2 l2 d2. absurd cc)))
 
   -- a formula by its first token
-  token_stops : (k : Token) (p : Place) (us : Tokens) (e : Fault × Tokens) → suc (length us) < turns → formula_over written inner turns (record { token = k; place = p } ∷ us) ≡ Err e → Stops (Formulas (suc d)) (record { token = k; place = p } ∷ us) e
-  unfolding formula_over look
+  token_stops : (k : Token) (p : Place) (us : Tokens) (e : Fault × Tokens) → suc (length us) < turns → formula_over (trees grammar) behind_it inner turns (record { token = k; place = p } ∷ us) ≡ Err e → Stops (FormulaTexts grammar (suc d)) (record { token = k; place = p } ∷ us) e
+  unfolding formula_over look named accept
   token_stops hole_token p us e lt h =
       let t : Placed = record { token = hole_token; place = p } in
       let k : (Deep, t ∷ us) ≡ e = cc in
-      subst (λ x. Stops (Formulas (suc d)) (t ∷ us) x) k (record {
+      subst (λ x. Stops (FormulaTexts grammar (suc d)) (t ∷ us) x) k (record {
         front = [];
         whole = refl;
-        more = some_tokens (suc d);
-        begins = (some_formula (suc d), some_fits (suc d), some_spelled (suc d));
-        through = record { token = t; cause = tt; tail = us; at = refl; more = []; begins = (hole p, tt, ((refl, refl), refl)) };
+        more = some_tokens grammar (suc d);
+        begins = (some_formula grammar (suc d), some_fits grammar (suc d), some_spelled grammar (suc d));
+        through = record { token = t; cause = tt; tail = us; at = refl; more = []; begins = (grammar.roll (hole p), tt, spelled_as grammar (hole p) (t ∷ []) ((refl, refl), refl)) };
       })
-  token_stops (word_token Not) p us e lt h = negated_stops p us e (omega arith) h
-  token_stops (word_token Exists) p us e lt h = existing_stops p us e (omega arith) h
-  token_stops (word_token Forall) p us e lt h = holding_stops p us e (omega arith) h
-  token_stops (symbol_token Open) p us e lt h = enclosed_stops p us e (omega arith) h
-  token_stops (name_token n) p us e lt h = named_stops d turns (record { token = name_token n; place = p } ∷ us) e lt h
-  token_stops k p us e lt h = unnamed_stops d (record { token = k; place = p }) us e h
+  token_stops (word_token Not) p us e lt h = rolled_stops grammar d [] (record { token = word_token Not; place = p } ∷ us) e (negated_stops p us e (omega arith) h)
+  token_stops (word_token Exists) p us e lt h = rolled_stops grammar d [] (record { token = word_token Exists; place = p } ∷ us) e (existing_stops p us e (omega arith) h)
+  token_stops (word_token Forall) p us e lt h = rolled_stops grammar d [] (record { token = word_token Forall; place = p } ∷ us) e (holding_stops p us e (omega arith) h)
+  token_stops (symbol_token Open) p us e lt h = rolled_stops grammar d [] (record { token = symbol_token Open; place = p } ∷ us) e (enclosed_stops p us e (omega arith) h)
+  token_stops (name_token n) p us e lt h =
+      let t : Placed = record { token = name_token n; place = p } in
+      behind (λ c x. FormulaTexts grammar (suc d) c (t ∷ x)) (FormulaTexts grammar (suc d)) (t ∷ []) (t ∷ us) us e refl (λ c x r. r) (after.viable n p us e (omega arith) h)
+  token_stops k p us e lt h = rolled_stops grammar d [] (record { token = k; place = p } ∷ us) e (unnamed_stops grammar d (record { token = k; place = p }) us e h)
 
   -- the tokens before a fault of a formula begin one
-  pub over_stops : ViableBelow turns (formula_over written inner turns) formula_text (FitsAt (suc d))
-  unfolding formula_over look unnamed unnamed_term integer eat accept
-  over_stops [] e lt h = let k : (Syntax, []) ≡ e = cc in subst (λ x. Stops (Formulas (suc d)) [] x) k (at_once (Formulas (suc d)) [] (some_tokens (suc d)) (some_formula (suc d), some_fits (suc d), some_spelled (suc d)))
+  pub over_stops : ViableBelow turns (formula_over (trees grammar) behind_it inner turns) grammar.text (grammar.Fits (suc d))
+  unfolding formula_over look named unnamed unnamed_term integer eat accept
+  over_stops [] e lt h = let k : (Syntax, []) ≡ e = cc in subst (λ x. Stops (FormulaTexts grammar (suc d)) [] x) k (at_once (FormulaTexts grammar (suc d)) [] (some_tokens grammar (suc d)) (some_formula grammar (suc d), some_fits grammar (suc d), some_spelled grammar (suc d)))
   over_stops (t ∷ us) e lt h = token_stops t.token t.place us e lt h

@@ -12,7 +12,6 @@ use Rattle.lrp_model.specs.declared.tokens.Fault.TheVariants.{Syntax, Number as 
 use Rattle.lrp_model.specs.Tokens.{Token, Placed, Tokens}
 use Rattle.lrp_model.specs.Tokens.Token.{name_token, word_token, number_token, text_token, symbol_token, end_token, bad_token, hole_token}
 use Rattle.lrp_model.specs.Lexing.{greatest_number}
-use Rattle.lrp_model.specs.RawQueries.{RawForm}
 use Rattle.lrp_text.specs.Parsers.{accept, look, Reads}
 use Rattle.lrp_text.specs.declared.lexemes.Lexeme.{Lexeme}
 use Rattle.lrp_text.specs.declared.lexemes.Lexeme.TheVariants.{Name, Word, Number, LargeNumber, Text, LongText, Symbol, End, Bad}
@@ -20,7 +19,7 @@ use Rattle.lrp_text.specs.Lexemes.{IsSaid}
 use Rattle.lrp_text.specs.Sources.{Stands, Goes}
 use Rattle.lrp_text.proofs.Looking.{goes, goes_shown, look_shown, accepts_next, refuses_next}
 use Rattle.lrp_query.specs.declared.starts.Start.TheVariants.{Term as by_term}
-use Rattle.lrp_query.specs.Rules.{meant, op_of, start_of, is_hole_token, too_deep, deep_or_number, cut_at}
+use Rattle.lrp_query.specs.Rules.{op_of, start_of, is_hole_token, too_deep, deep_or_number, cut_at}
 use Rattle.lrp_query.specs.Reading.{symbol_op, shown_op, word_start, symbol_start, shown_start, word_too_deep, symbol_too_deep, shown_too_deep}
 
 -- ---- comparisons
@@ -172,6 +171,6 @@ cut_told f (symbol_token s) e = refl
 cut_told f end_token e = refl
 cut_told f bad_token e = refl
 
--- what stands next is refused where a formula would be too deep
-pub cut_refused : (ts : Tokens) (l : Lexeme) (slice : List ℕ) (place : Place) → Stands ts l slice place → accept {A = RawForm} meant.cut ts ≡ Err (shown_too_deep l, ts)
-cut_refused ts l slice place st = refuses_next meant.cut ts (record { token = st.token; place = place }) st.left (shown_too_deep l) st.whole (cut_told _ st.token (hole_said l slice st.token st.said) ∙ ap Err (deep_said l slice st.token st.said))
+-- what is told there of what stands next
+pub look_deep : (ts : Tokens) (l : Lexeme) (slice : List ℕ) (place : Place) → Stands ts l slice place → look Syntax (λ t. too_deep t.token) ts ≡ Ok (shown_too_deep l, ts)
+look_deep ts l slice place st = look_shown Syntax too_deep ts l slice place st (shown_too_deep l) (deep_said l slice st.token st.said)

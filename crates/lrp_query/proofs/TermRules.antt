@@ -23,7 +23,11 @@ use Rattle.lrp_text.proofs.TokenTests.{symbol_told, symbol_seen, number_part, te
 use Rattle.lrp_text.proofs.IntegerRule.{number_back, number_sound, number_viable, integer_back, integer_sound, integer_viable, no_quote, no_name, integer_leads}
 use Rattle.lrp_text.proofs.LocatedRule.{Leads, located_back, located_sound, located_viable}
 use Rattle.lrp_text.specs.IntegerRule.{integer}
-use Rattle.lrp_query.specs.Rules.{written, Offset, unmoved, moved_by, offset, with_offset, named_term, unnamed_term, bare_term, term}
+use Rattle.lrp_query.specs.Rules.{TermTrees, Offset, unmoved, moved_by, offset, with_offset, named_term, unnamed_term, bare_term, term}
+
+-- terms as they are written
+abbrev pub written_terms : TermTrees WrittenTerm (Located WrittenTerm)
+written_terms = record { kind_of = λ t. t; term_at = λ p t. record { place = p; item = t } }
 
 -- neither a plus nor a minus comes next
 abbrev pub NoShift : Tokens → Type 0
@@ -122,7 +126,7 @@ offset_viable ts e h =
 -- ---- terms without names
 
 -- the tokens of a text are read back
-pub quoted_back : (t : List ℕ) → ReadsBack (unnamed_term written) (term_text (text_term t)) (text_term t) (FitsTerm (text_term t)) Anything
+pub quoted_back : (t : List ℕ) → ReadsBack (unnamed_term written_terms) (term_text (text_term t)) (text_term t) (FitsTerm (text_term t)) Anything
 unfolding unnamed_term
 quoted_back t =
     bind_back _ (look_back false is_text true (length t ≤ 255))
@@ -130,7 +134,7 @@ quoted_back t =
     (λ ts left h g. first_sees_any false is_text_token (text_token t) [] ts left h)
 
 -- the tokens of an integer are read back as a term
-pub integer_term_back : (i : Integer) → ReadsBack (unnamed_term written) (term_text (integer_term i)) (integer_term i) (FitsTerm (integer_term i)) Anything
+pub integer_term_back : (i : Integer) → ReadsBack (unnamed_term written_terms) (term_text (integer_term i)) (integer_term i) (FitsTerm (integer_term i)) Anything
 unfolding unnamed_term
 integer_term_back i =
     bind_back _ {G = Anything} (look_back false is_text false (i.size ≤ greatest_number))
@@ -149,7 +153,7 @@ either_sound false = λ ts q e.
     subst (λ y. Takes (term_text y.0) ts y.1 × FitsTerm y.0) h (integer_sound ts i.0 i.1)
 
 -- a text or an integer that is read is spelled so, and is lawful
-pub unnamed_term_sound : Sound (unnamed_term written) term_text FitsTerm
+pub unnamed_term_sound : Sound (unnamed_term written_terms) term_text FitsTerm
 unfolding unnamed_term
 unnamed_term_sound ts q e =
     let s = bind_ok (look false is_text ts) _ q e in
@@ -167,7 +171,7 @@ either_viable false = λ ts e h.
     (λ i h2 us s2 f2 d2. absurd cc)
 
 -- the tokens before a fault of a text or an integer begin one
-pub unnamed_term_viable : Viable (unnamed_term written) term_text FitsTerm
+pub unnamed_term_viable : Viable (unnamed_term written_terms) term_text FitsTerm
 unfolding unnamed_term
 unnamed_term_viable ts e h = look_step false is_text _ (TextOf term_text FitsTerm) ts e h (λ text_next seen d. either_viable text_next ts e d)
 
@@ -179,7 +183,7 @@ any_place p n ps [] left h = h
 any_place p n ps (t ∷ ts) left h = (h.0.0, h.1)
 
 -- the tokens of a name with or without an offset are read back
-name_reads : (n : Identifier) (o : Offset) (ts left : Tokens) → Takes (any (name_token n) ∷ offset_text o) ts left → NoShift left → Answers (bare_term written ts) (with_offset n o) left (FitsOffset o)
+name_reads : (n : Identifier) (o : Offset) (ts left : Tokens) → Takes (any (name_token n) ∷ offset_text o) ts left → NoShift left → Answers (bare_term written_terms ts) (with_offset n o) left (FitsOffset o)
 unfolding bare_term named_term
 name_reads n o [] left h g = absurd h
 name_reads n o (t ∷ ts) left h g =
@@ -193,7 +197,7 @@ pub more_follows : (ts : Tokens) → NoShift ts → Anything ts
 more_follows ts g = tt
 
 -- the tokens of a term without its place are read back
-pub bare_term_back : (k : WrittenTerm) → ReadsBack (bare_term written) (term_text k) k (FitsTerm k) NoShift
+pub bare_term_back : (k : WrittenTerm) → ReadsBack (bare_term written_terms) (term_text k) k (FitsTerm k) NoShift
 unfolding bare_term
 bare_term_back (variable n) = record { reads = λ ts left h g. name_reads n unmoved ts left h g }
 bare_term_back (shifted n down k) = record { reads = λ ts left h g. name_reads n (moved_by down k) ts left h g }
@@ -205,7 +209,7 @@ bare_term_back (integer_term i) =
     (λ ts left h g. no_name i.negative i.size ts left h)
 
 -- a name with or without an offset is spelled so
-name_then_sound : Sound (name >>= (λ n. named_term written n.0)) term_text FitsTerm
+name_then_sound : Sound (name >>= (λ n. named_term written_terms n.0)) term_text FitsTerm
 unfolding named_term
 name_then_sound ts q e =
     let n = bind_ok (name ts) _ q e in
@@ -219,12 +223,12 @@ name_then_sound ts q e =
     )
 
 -- a term with or without a name is spelled so
-either_named_sound : (name_next : Bool) → Sound (if name_next then (name >>= (λ n. named_term written n.0)) else unnamed_term written) term_text FitsTerm
+either_named_sound : (name_next : Bool) → Sound (if name_next then (name >>= (λ n. named_term written_terms n.0)) else unnamed_term written_terms) term_text FitsTerm
 either_named_sound true = name_then_sound
 either_named_sound false = unnamed_term_sound
 
 -- a term without its place that is read is spelled so, and is lawful
-pub bare_term_sound : Sound (bare_term written) term_text FitsTerm
+pub bare_term_sound : Sound (bare_term written_terms) term_text FitsTerm
 unfolding bare_term
 bare_term_sound ts q e =
     let s = bind_ok (look false is_name ts) _ q e in
@@ -235,7 +239,7 @@ pub name_spelled : (p : Place) (n : Identifier) (o : Offset) (head x : Tokens) �
 name_spelled p n o head x one two = subst (λ ps. Spells ps (head ++ x)) (sym (with_offset_text n o)) (any_place p n (offset_text o) (head ++ x) [] (spells_join (at p (name_token n) ∷ []) (offset_text o) head x one two))
 
 -- a name with or without an offset stops where it says
-name_then_viable : Viable (name >>= (λ n. named_term written n.0)) term_text FitsTerm
+name_then_viable : Viable (name >>= (λ n. named_term written_terms n.0)) term_text FitsTerm
 unfolding named_term
 name_then_viable ts e h =
     let R : Bool → Tokens → Type 0 = TextOf term_text FitsTerm in
@@ -246,12 +250,12 @@ name_then_viable ts e h =
     (λ o h2 vs s2 f2 d2. absurd cc))
 
 -- a term with or without a name stops where it says
-either_named_viable : (name_next : Bool) → Viable (if name_next then (name >>= (λ n. named_term written n.0)) else unnamed_term written) term_text FitsTerm
+either_named_viable : (name_next : Bool) → Viable (if name_next then (name >>= (λ n. named_term written_terms n.0)) else unnamed_term written_terms) term_text FitsTerm
 either_named_viable true = name_then_viable
 either_named_viable false = unnamed_term_viable
 
 -- the tokens before a fault of a term without its place begin one
-pub bare_term_viable : Viable (bare_term written) term_text FitsTerm
+pub bare_term_viable : Viable (bare_term written_terms) term_text FitsTerm
 unfolding bare_term
 bare_term_viable ts e h = look_step false is_name _ (TextOf term_text FitsTerm) ts e h (λ name_next seen d. either_named_viable name_next ts e d)
 
@@ -271,16 +275,16 @@ abbrev pub FitsPlaced : Located WrittenTerm → Type 0
 FitsPlaced l = FitsTerm l.item
 
 -- the tokens of a term are read back
-pub term_back : (l : Located WrittenTerm) → ReadsBack (term written) (placed_text l) l (FitsPlaced l) NoShift
+pub term_back : (l : Located WrittenTerm) → ReadsBack (term written_terms) (placed_text l) l (FitsPlaced l) NoShift
 unfolding term
-term_back l = located_back (bare_term written) term_text l (FitsTerm l.item) NoShift (term_leads l.item) (bare_term_back l.item)
+term_back l = located_back (bare_term written_terms) term_text l (FitsTerm l.item) NoShift (term_leads l.item) (bare_term_back l.item)
 
 -- a term that is read is spelled so, and is lawful
-pub term_sound : Sound (term written) placed_text FitsPlaced
+pub term_sound : Sound (term written_terms) placed_text FitsPlaced
 unfolding term
-term_sound = located_sound (bare_term written) term_text FitsTerm term_leads bare_term_sound
+term_sound = located_sound (bare_term written_terms) term_text FitsTerm term_leads bare_term_sound
 
 -- the tokens before a fault of a term begin one
-pub term_viable : Viable (term written) placed_text FitsPlaced
+pub term_viable : Viable (term written_terms) placed_text FitsPlaced
 unfolding term
-term_viable = located_viable (bare_term written) term_text FitsTerm term_leads bare_term_viable
+term_viable = located_viable (bare_term written_terms) term_text FitsTerm term_leads bare_term_viable

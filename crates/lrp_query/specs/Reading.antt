@@ -10,6 +10,7 @@ use Rattle.lrp_model.specs.declared.faults.QueryRead.TheVariants.{Fault, Memory}
 use Rattle.lrp_model.specs.declared.faults.QueryKind.TheVariants.{Syntax, Number, Period, Deep, TextTooLong}
 use Rattle.lrp_model.specs.declared.raw.RawFormula.{RawFormula}
 use Rattle.lrp_model.specs.declared.raw.RawQuery.{RawQuery}
+use Rattle.lrp_model.specs.declared.raw.RawKind.{RawKind, Atom, Compare, Member}
 use Rattle.lrp_model.specs.declared.tokens.Word.{Word as WordOf}
 use Rattle.lrp_model.specs.declared.tokens.Word.TheVariants.{Not as not_word, Exists as exists_word, Forall as forall_word}
 use Rattle.lrp_model.specs.declared.tokens.Symbol.{Symbol as SymbolOf}
@@ -39,6 +40,13 @@ ReadsFormulas outcome (Err k) new = Reads outcome (Err k) new
 abbrev pub ReadsQuery : Outcome RawQuestion → Result RawQuery TokenFault → Tokens → Type 0
 ReadsQuery outcome (Ok q) new = outcome ≡ Ok (raw_question_of q, new)
 ReadsQuery outcome (Err k) new = Reads outcome (Err k) new
+
+-- an atom, a comparison or an `in`, with no other formula inside
+abbrev pub IsAlone : RawKind → Type 0
+IsAlone (Atom n ts) = Unit {0}
+IsAlone (Compare l op r) = Unit {0}
+IsAlone (Member t point) = Unit {0}
+IsAlone _ = ⊥
 
 -- the comparison that a symbol stands for
 abbrev pub symbol_op : SymbolOf → Result Op TokenFault
@@ -115,7 +123,7 @@ IsQueryOrMemory q (Err Memory) = Unit {0}
 IsQueryOrMemory q (Err (Fault f)) = ⊥
 
 -- this fault, unless memory ran out
-abbrev pub IsFaultOrMemory : QueryFault → Result RawQuery QueryRead → Type 0
+abbrev pub IsFaultOrMemory : {A : Type 0} → QueryFault → Result A QueryRead → Type 0
 IsFaultOrMemory f (Ok r) = ⊥
 IsFaultOrMemory f (Err Memory) = Unit {0}
 IsFaultOrMemory f (Err (Fault g)) = g ≡ f

@@ -6,7 +6,6 @@ use Rattle.lrp_model.specs.declared.tokens.Word.TheVariants.{Letter, Exists, For
 use Rattle.lrp_model.specs.declared.tokens.Place.{Place}
 use Rattle.lrp_model.specs.declared.tokens.Fault.{Fault}
 use Rattle.lrp_model.specs.declared.tokens.Fault.TheVariants.{Syntax, Number, Deep}
-use Rattle.lrp_model.specs.declared.written.Located.{Located}
 use Rattle.lrp_model.specs.declared.written.Integer.{Integer}
 use Rattle.lrp_model.specs.declared.formulas.Op.{Op}
 use Rattle.lrp_model.specs.declared.formulas.Op.TheVariants.{Le, Lt, Ge, Gt, Eq}
@@ -16,10 +15,8 @@ use Rattle.lrp_model.specs.declared.raw.RawTermKind.{RawTermKind}
 use Rattle.lrp_model.specs.Tokens.{Token, Placed}
 use Rattle.lrp_model.specs.Tokens.Token.{name_token, word_token, number_token, text_token, symbol_token, hole_token}
 use Rattle.lrp_model.specs.DatabaseMeaning.{integer_of}
-use Rattle.lrp_model.specs.Queries.{WrittenTerm, WrittenFormula, FurtherMembers, WrittenQuery}
+use Rattle.lrp_model.specs.Queries.{WrittenTerm}
 use Rattle.lrp_model.specs.Queries.WrittenTerm.{integer as integer_term, text_term, variable, shifted}
-use Rattle.lrp_model.specs.Queries.WrittenFormula.{atom_formula, compared, member, denied, all_of, any_of, implied, group, some, every, hole}
-use Rattle.lrp_model.specs.Queries.FurtherMembers.{last, more}
 use Rattle.lrp_model.specs.QueryMeaning.{term_kind}
 use Rattle.lrp_model.specs.RawQueries.{RawForm, RawForms, RawQuestion, raw_atom, raw_compare, raw_member, raw_not, raw_and, raw_or, raw_implies, raw_group, raw_exists, raw_forall, no_raws, raw}
 use Rattle.lrp_text.specs.Parsers.{Parser, ◌>>=◌, ◌>>◌, pure, fail, accept, look, eat, listed, separated_from}
@@ -31,10 +28,14 @@ use Rattle.lrp_query.specs.declared.starts.Start.TheVariants.{Not as by_not, Exi
 
 -- ---- what the parsers make
 
--- how what is read is put together, from the kinds of terms to the query; `cut` says what a token gives where a formula would be too deep
-pub record Trees (K T F Q : Type 0) : Type 0 where
+-- how terms are put together
+pub record TermTrees (K T : Type 0) : Type 0 where
   pub kind_of : WrittenTerm → K
   pub term_at : Place → K → T
+
+-- how what is read is put together, from the terms to the query; `cut` says what a token gives where a formula would be too deep
+pub record Trees (K T F Q : Type 0) : Type 0 where
+  pub terms : TermTrees K T
   pub atom_of : Place → Identifier → List T → F
   pub comparison : T → Op → T → F
   pub membership : T → Integer → ℕ → F
@@ -70,35 +71,6 @@ abbrev pub cut_at : {F : Type 0} → F → Token → Result F Fault
 cut_at f hole_token = Ok f
 cut_at f t = Err (too_deep t)
 
--- the members behind the first one
-abbrev pub further : WrittenFormula → List WrittenFormula → FurtherMembers
-further f [] = last f
-further f (g ∷ gs) = more f (further g gs)
-
--- two members or more
-abbrev pub many_members : (Place → WrittenFormula → FurtherMembers → WrittenFormula) → Place → List WrittenFormula → WrittenFormula
-many_members make p (f ∷ g ∷ gs) = make p f (further g gs)
-many_members make p _ = hole p
-
--- the tree as it is written
-abbrev pub written : Trees WrittenTerm (Located WrittenTerm) WrittenFormula WrittenQuery
-written = record {
-  kind_of = λ t. t;
-  term_at = λ p t. record { place = p; item = t };
-  atom_of = atom_formula;
-  comparison = compared;
-  membership = member;
-  negation = denied;
-  conjunction = many_members all_of;
-  disjunction = many_members any_of;
-  implication = implied;
-  parenthesis = group;
-  existential = some;
-  universal = every;
-  cut = λ t. cut_at (hole t.place) t.token;
-  question = λ cs f. record { head = cs; body = f };
-}
-
 -- the raw formulas of a list
 abbrev pub raws : List RawForm → RawForms
 raws [] = no_raws
@@ -107,8 +79,7 @@ raws (f ∷ fs) = raw f (raws fs)
 -- the raw query that the tree means
 abbrev pub meant : Trees RawTermKind RawTerm RawForm RawQuestion
 meant = record {
-  kind_of = term_kind;
-  term_at = λ p k. record { kind = k; place = p };
+  terms = record { kind_of = term_kind; term_at = λ p k. record { kind = k; place = p } };
   atom_of = raw_atom;
   comparison = λ l op r. raw_compare l.place l op r;
   membership = λ t i k. raw_member t.place t (record { offset = integer_of i; period = pos k });
@@ -148,13 +119,13 @@ with_offset n unmoved = variable n
 with_offset n (moved_by down k) = shifted n down k
 
 -- a name that was read, alone or with an offset
-unfoldable pub named_term : {K T F Q : Type 0} → Trees K T F Q → Identifier → Parser K
+unfoldable pub named_term : {K T : Type 0} → TermTrees K T → Identifier → Parser K
 named_term make n = do
   o ← offset
   pure (make.kind_of (with_offset n o))
 
 -- a text or an integer
-unfoldable pub unnamed_term : {K T F Q : Type 0} → Trees K T F Q → Parser K
+unfoldable pub unnamed_term : {K T : Type 0} → TermTrees K T → Parser K
 unnamed_term make = do
   text_next ← look false is_text
   if text_next then (do
@@ -164,7 +135,7 @@ unnamed_term make = do
       pure (make.kind_of (integer_term i)))
 
 -- a term without its place
-unfoldable pub bare_term : {K T F Q : Type 0} → Trees K T F Q → Parser K
+unfoldable pub bare_term : {K T : Type 0} → TermTrees K T → Parser K
 bare_term make = do
   name_next ← look false is_name
   if name_next then (do
@@ -172,7 +143,7 @@ bare_term make = do
     named_term make n.0) else unnamed_term make
 
 -- a term and its place
-unfoldable pub term : {K T F Q : Type 0} → Trees K T F Q → Parser T
+unfoldable pub term : {K T : Type 0} → TermTrees K T → Parser T
 term make = do
   p ← here
   k ← bare_term make
@@ -202,7 +173,7 @@ point make left = do
 unfoldable pub comparing : {K T F Q : Type 0} → Trees K T F Q → T → Parser F
 comparing make left = do
   op ← accept (λ t. op_of t.token)
-  right ← term make
+  right ← term make.terms
   pure (make.comparison left op right)
 
 -- what stands behind the first term of a comparison or an `in`
@@ -214,24 +185,29 @@ tested make left = do
 -- the terms of an atom, behind its name and its parenthesis
 unfoldable pub atom_terms : {K T F Q : Type 0} → Trees K T F Q → ℕ → Identifier → Place → Parser F
 atom_terms make turns n p = do
-  ts ← listed (term make) (is_symbol Comma) (is_symbol Close) turns
+  ts ← listed (term make.terms) (is_symbol Comma) (is_symbol Close) turns
   expect Close
   pure (make.atom_of p n ts)
 
--- a name begins an atom where a parenthesis follows, and else a term
-unfoldable pub named : {K T F Q : Type 0} → Trees K T F Q → ℕ → Parser F
-named make turns = do
-  n ← name
+-- behind a name that begins a formula: an atom where a parenthesis follows, and else a term
+unfoldable pub behind_name : {K T F Q : Type 0} → Trees K T F Q → ℕ → Identifier → Place → Parser F
+behind_name make turns n p = do
   opens ← eat (is_symbol Open)
-  if opens then atom_terms make turns n.0 n.1 else (do
-    k ← named_term make n.0
-    tested make (make.term_at n.1 k))
+  if opens then atom_terms make turns n p else (do
+    k ← named_term make.terms n
+    tested make (make.terms.term_at p k))
+
+-- a formula that begins with a name, and what stands behind it
+unfoldable pub named : {F : Type 0} → (Identifier → Place → Parser F) → Parser F
+named behind = do
+  n ← name
+  behind n.0 n.1
 
 -- a formula that begins with a term other than a name, at its place
 unfoldable pub unnamed : {K T F Q : Type 0} → Trees K T F Q → Place → Parser F
 unnamed make p = do
-  k ← unnamed_term make
-  tested make (make.term_at p k)
+  k ← unnamed_term make.terms
+  tested make (make.terms.term_at p k)
 
 -- ---- formulas over others
 
@@ -318,36 +294,52 @@ abbrev pub is_hole_token : Token → Bool
 is_hole_token hole_token = true
 is_hole_token _ = false
 
--- a formula that begins so, with others inside that are read so
-abbrev pub started : {K T F Q : Type 0} → Trees K T F Q → Parser F → ℕ → Place → Start → Parser F
-started make inner turns p by_not = negated make inner p
-started make inner turns p by_exists = existing make inner p
-started make inner turns p by_forall = holding make inner p
-started make inner turns p by_open = enclosed make inner turns p
-started make inner turns p by_name = named make turns
-started make inner turns p by_term = unnamed make p
+-- a formula that begins so, with others inside that are read so, and what stands behind a name
+abbrev pub started : {K T F Q : Type 0} → Trees K T F Q → (Identifier → Place → Parser F) → Parser F → ℕ → Place → Start → Parser F
+started make behind inner turns p by_not = negated make inner p
+started make behind inner turns p by_exists = existing make inner p
+started make behind inner turns p by_forall = holding make inner p
+started make behind inner turns p by_open = enclosed make inner turns p
+started make behind inner turns p by_name = named behind
+started make behind inner turns p by_term = unnamed make p
 
--- a formula with others inside that are read so; a hole stands for none
-unfoldable pub formula_over : {K T F Q : Type 0} → Trees K T F Q → Parser F → ℕ → Parser F
-formula_over make inner turns = do
+-- the same by its first token; a hole stands for none
+unfoldable pub formula_over : {K T F Q : Type 0} → Trees K T F Q → (Identifier → Place → Parser F) → Parser F → ℕ → Parser F
+formula_over make behind inner turns = do
   is_hole ← look false (λ t. is_hole_token t.token)
   if is_hole then fail Deep else (do
     p ← here
     s ← look by_term (λ t. start_of t.token)
-    started make inner turns p s)
+    started make behind inner turns p s)
+
+-- what a grammar has behind a name that begins a formula, from the parser of the formulas inside and a bound on the turns of each list
+abbrev pub BehindName : Type 0 → Type 0
+BehindName F = Parser F → ℕ → Identifier → Place → Parser F
 
 -- a formula of at most this depth; the second number bounds the turns of each list
-unfoldable pub formula : {K T F Q : Type 0} → Trees K T F Q → ℕ → ℕ → Parser F
-formula make zero turns = accept make.cut
-formula make (suc depth) turns = formula_over make (formula make depth turns) turns
+unfoldable pub formula_with : {K T F Q : Type 0} → Trees K T F Q → BehindName F → ℕ → ℕ → Parser F
+formula_with make behind zero turns = accept make.cut
+formula_with make behind (suc depth) turns = formula_over make (behind (formula_with make behind depth turns) turns) (formula_with make behind depth turns) turns
 
--- a query, and then the end
-unfoldable pub query : {K T F Q : Type 0} → Trees K T F Q → ℕ → Parser Q
-query make turns = do
+-- a query of such formulas, and then the end
+unfoldable pub query_with : {K T F Q : Type 0} → Trees K T F Q → BehindName F → ℕ → Parser Q
+query_with make behind turns = do
   expect OpenBrace
   cs ← listed column (is_symbol Comma) (is_symbol Bar) turns
   expect Bar
-  f ← formula make 64 turns
+  f ← formula_with make behind 64 turns
   expect CloseBrace
   expect_end
   pure (make.question cs f)
+
+-- behind a name nothing stands but an atom or a term
+abbrev pub plainly : {K T F Q : Type 0} → Trees K T F Q → BehindName F
+plainly make inner turns = behind_name make turns
+
+-- a formula of the grammar of queries
+abbrev pub formula : {K T F Q : Type 0} → Trees K T F Q → ℕ → ℕ → Parser F
+formula make = formula_with make (plainly make)
+
+-- a query, and then the end
+abbrev pub query : {K T F Q : Type 0} → Trees K T F Q → ℕ → Parser Q
+query make = query_with make (plainly make)

@@ -4,10 +4,10 @@ ghost use Rattle.lrp_model.specs.RawQueries.{raw_form_of, raw_not, raw_and, raw_
 ghost use Rattle.lrp_text.specs.Parsers.{separated_from};
 ghost use Rattle.lrp_text.specs.Taking.{is_word};
 ghost use Rattle.lrp_query.specs.Reading.{ReadsFormula, ReadsFormulas};
-ghost use Rattle.lrp_query.specs.Rules.{meant, raws, formula, negated, existing, holding, enclosed, behind_first, alone, implying, conjoined, disjoined};
+ghost use Rattle.lrp_query.specs.Rules.{meant, raws, formula, behind_name, named, negated, existing, holding, enclosed, behind_first, alone, implying, conjoined, disjoined};
 
 use crate::starts::{Start, start_of, too_deep};
-use crate::terms::{read_named, read_unnamed};
+use crate::terms::{read_behind_name, read_unnamed};
 use lrp_model::{Fault, Memory, Place, RawColumn, RawFormula, RawKind, Symbol, Word};
 use lrp_text::{Cursor, column};
 use std::alloc::Global;
@@ -124,6 +124,16 @@ fn add(all: &mut Vec<RawFormula>, one: RawFormula) -> Result<(), Memory>
     ensures { IfOk result (λ _. map raw_form_of all.new.items ≡ map raw_form_of all.old.items ++ raw_form_of one ∷ []) }
 {
     Ok(all.push(one)?)
+}
+
+// A formula that begins with a name.
+#[tactic(auto, unfolding(crate::specs::Rules::named))]
+fn read_named(alloc: Global, tokens: &mut Cursor<'_>) -> Result<RawFormula, Fault>
+    ensures value { (turns : ℕ) → length tokens.old < turns → ReadsFormula (named (behind_name meant turns) tokens.old) result tokens.new }
+    ensures fewer { IfOk result (λ _. length tokens.new < length tokens.old) }
+{
+    let (name, place) = tokens.name(alloc)?;
+    read_behind_name(alloc, tokens, name, place)
 }
 
 /// Reads a formula that is at most so deep.

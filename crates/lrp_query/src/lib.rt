@@ -12,4 +12,6 @@ pub use lrp_model::{
     QueryFault, QueryKind, QueryRead, RawColumn, RawFormula, RawKind, RawQuery, RawTerm,
     RawTermKind,
 };
-pub use queries::read_query;
+pub use queries::{read_query, refusal};
+pub use starts::{Start, start_of, too_deep};
+pub use terms::{read_behind_name, read_unnamed};

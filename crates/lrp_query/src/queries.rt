@@ -16,8 +16,8 @@ use std::str::from_utf8;
 // How deep formulas may stand; the body has depth 1.
 const DEPTH: u32 = 64;
 
-// The fault of a text, from what was met at a place.
-fn refusal(kind: Fault, place: Place) -> QueryRead
+/// The fault of a text, from what was met at a place.
+pub fn refusal(kind: Fault, place: Place) -> QueryRead
     ensures { result ≡ refusal_of kind place }
 {
     let kind = match kind {
@@ -34,7 +34,7 @@ fn refusal(kind: Fault, place: Place) -> QueryRead
 }
 
 // The query of some tokens, and the end behind it.
-#[tactic(auto, unfolding(crate::specs::Rules::query))]
+#[tactic(auto, unfolding(crate::specs::Rules::query_with))]
 fn read_tokens(alloc: Global, tokens: &mut Cursor<'_>) -> Result<RawQuery, Fault>
     ensures { (turns : ℕ) → length tokens.old < turns → ReadsQuery (query meant turns tokens.old) result (left_behind result tokens.new) }
 {

@@ -1,9 +1,8 @@
 // How a formula begins, and what is told where one would be too deep.
 ghost use Rattle.std.specs.Prelude.{◌≡◌, ◌≢◌, false, Ok, Err};
-ghost use Rattle.lrp_model.specs.RawQueries.{RawForm};
-ghost use Rattle.lrp_text.specs.Parsers.{look, accept};
+ghost use Rattle.lrp_text.specs.Parsers.{look};
 ghost use Rattle.lrp_query.specs.Reading.{shown_start, shown_too_deep};
-ghost use Rattle.lrp_query.specs.Rules.{meant, start_of as start_rule, is_hole_token};
+ghost use Rattle.lrp_query.specs.Rules.{start_of as start_rule, too_deep as too_deep_rule, is_hole_token};
 
 use lrp_model::{Fault, Symbol, Word};
 use lrp_text::{Cursor, Lexeme};
@@ -55,7 +54,8 @@ pub fn start_of(tokens: &Cursor<'_>) -> Start
 
 /// The fault at the next token, where a formula would be too deep.
 pub fn too_deep(tokens: &Cursor<'_>) -> Fault
-    ensures value { accept {A = RawForm} meant.cut tokens.now ≡ Err (result, tokens.now) }
+    ensures value { look Fault.Syntax (λ t. too_deep_rule t.token) tokens.now ≡ Ok (result, tokens.now) }
+    ensures no_hole { look false (λ t. is_hole_token t.token) tokens.now ≡ Ok (false, tokens.now) }
     ensures takes_no_memory { result ≢ Fault.Memory }
 {
     told(tokens.peek().lexeme)

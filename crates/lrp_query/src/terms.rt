@@ -4,8 +4,8 @@ ghost use Rattle.lrp_model.specs.Lexing.{greatest_number};
 ghost use Rattle.lrp_model.specs.DatabaseMeaning.{signed as signed_number};
 ghost use Rattle.lrp_text.specs.Parsers.{Reads, accept, separated_from, listed};
 ghost use Rattle.lrp_text.specs.Taking.{is_symbol};
-ghost use Rattle.lrp_query.specs.Reading.{ReadsFormula, shown_op};
-ghost use Rattle.lrp_query.specs.Rules.{meant, named_term, unnamed_term, bare_term, term, op_of as op_rule, point, comparing, tested, atom_terms, named, unnamed};
+ghost use Rattle.lrp_query.specs.Reading.{IsAlone, ReadsFormula, shown_op};
+ghost use Rattle.lrp_query.specs.Rules.{meant, named_term, unnamed_term, bare_term, term, op_of as op_rule, point, comparing, tested, atom_terms, behind_name, unnamed};
 
 use lrp_model::{
     Fault, List, Memory, Name, Op, Place, RawFormula, RawKind, RawTerm, RawTermKind, RowPoint,
@@ -26,7 +26,7 @@ fn signed(negative: bool, size: u64) -> i64
 // A name, alone or with an offset.
 #[tactic(auto, unfolding(crate::specs::Rules::named_term, crate::specs::Rules::offset))]
 fn read_named_term(name: Name, tokens: &mut Cursor<'_>) -> Result<RawTermKind, Fault>
-    ensures value { Reads (named_term meant name tokens.old) result tokens.new }
+    ensures value { Reads (named_term meant.terms name tokens.old) result tokens.new }
     ensures shorter { IfOk result (λ _. length tokens.new ≤ length tokens.old) }
 {
     if tokens.eat(Symbol::Plus) {
@@ -43,7 +43,7 @@ fn read_named_term(name: Name, tokens: &mut Cursor<'_>) -> Result<RawTermKind, F
 // A text or an integer.
 #[tactic(auto, unfolding(crate::specs::Rules::unnamed_term))]
 fn read_unnamed_term(alloc: Global, tokens: &mut Cursor<'_>) -> Result<RawTermKind, Fault>
-    ensures value { Reads (unnamed_term meant tokens.old) result tokens.new }
+    ensures value { Reads (unnamed_term meant.terms tokens.old) result tokens.new }
     ensures fewer { IfOk result (λ _. length tokens.new < length tokens.old) }
 {
     if tokens.sees_text() {
@@ -57,7 +57,7 @@ fn read_unnamed_term(alloc: Global, tokens: &mut Cursor<'_>) -> Result<RawTermKi
 
 #[tactic(auto, unfolding(crate::specs::Rules::bare_term))]
 fn read_bare_term(alloc: Global, tokens: &mut Cursor<'_>) -> Result<RawTermKind, Fault>
-    ensures value { Reads (bare_term meant tokens.old) result tokens.new }
+    ensures value { Reads (bare_term meant.terms tokens.old) result tokens.new }
     ensures fewer { IfOk result (λ _. length tokens.new < length tokens.old) }
 {
     if tokens.sees_name() {
@@ -70,7 +70,7 @@ fn read_bare_term(alloc: Global, tokens: &mut Cursor<'_>) -> Result<RawTermKind,
 
 #[tactic(auto, unfolding(crate::specs::Rules::term))]
 fn read_term(alloc: Global, tokens: &mut Cursor<'_>) -> Result<RawTerm, Fault>
-    ensures value { Reads (term meant tokens.old) result tokens.new }
+    ensures value { Reads (term meant.terms tokens.old) result tokens.new }
     ensures fewer { IfOk result (λ _. length tokens.new < length tokens.old) }
 {
     let place = tokens.place();
@@ -106,6 +106,7 @@ fn read_op(tokens: &mut Cursor<'_>) -> Result<Op, Fault>
 fn read_point(tokens: &mut Cursor<'_>, term: RawTerm) -> Result<RawFormula, Fault>
     ensures value { ReadsFormula (point meant term tokens.old) result tokens.new }
     ensures fewer { IfOk result (λ _. length tokens.new < length tokens.old) }
+    ensures alone { IfOk result (λ read. IsAlone read.kind) }
 {
     let offset = integer(tokens)?;
     tokens.expect(Symbol::Plus)?;
@@ -131,6 +132,7 @@ fn read_comparison(
 ) -> Result<RawFormula, Fault>
     ensures value { ReadsFormula (comparing meant left tokens.old) result tokens.new }
     ensures fewer { IfOk result (λ _. length tokens.new < length tokens.old) }
+    ensures alone { IfOk result (λ read. IsAlone read.kind) }
 {
     let op = read_op(tokens)?;
     let right = read_term(alloc, tokens)?;
@@ -146,6 +148,7 @@ fn read_comparison(
 fn read_test(alloc: Global, tokens: &mut Cursor<'_>, left: RawTerm) -> Result<RawFormula, Fault>
     ensures value { ReadsFormula (tested meant left tokens.old) result tokens.new }
     ensures fewer { IfOk result (λ _. length tokens.new < length tokens.old) }
+    ensures alone { IfOk result (λ read. IsAlone read.kind) }
 {
     if tokens.eat_word(Word::In) {
         read_point(tokens, left)
@@ -172,7 +175,7 @@ fn no_terms(alloc: Global) -> Result<List<RawTerm>, Memory>
 
 // One term or more, with commas between.
 fn read_some_terms(alloc: Global, tokens: &mut Cursor<'_>) -> Result<List<RawTerm>, Fault>
-    ensures value { (n : ℕ) → length tokens.old < n → Reads (separated_from (term meant) (is_symbol Symbol.Comma) n [] tokens.old) result tokens.new }
+    ensures value { (n : ℕ) → length tokens.old < n → Reads (separated_from (term meant.terms) (is_symbol Symbol.Comma) n [] tokens.old) result tokens.new }
     ensures shorter { IfOk result (λ _. length tokens.new ≤ length tokens.old) }
 {
     let mut found = no_terms(alloc)?;
@@ -188,7 +191,7 @@ fn read_some_terms(alloc: Global, tokens: &mut Cursor<'_>) -> Result<List<RawTer
 // The terms of an atom, up to the parenthesis that ends them.
 #[tactic(auto, unfolding(lrp_text::specs::Parsers::listed))]
 fn read_terms(alloc: Global, tokens: &mut Cursor<'_>) -> Result<List<RawTerm>, Fault>
-    ensures value { (n : ℕ) → length tokens.old < n → Reads (listed (term meant) (is_symbol Symbol.Comma) (is_symbol Symbol.Close) n tokens.old) result tokens.new }
+    ensures value { (n : ℕ) → length tokens.old < n → Reads (listed (term meant.terms) (is_symbol Symbol.Comma) (is_symbol Symbol.Close) n tokens.old) result tokens.new }
     ensures shorter { IfOk result (λ _. length tokens.new ≤ length tokens.old) }
 {
     if tokens.sees(Symbol::Close) {
@@ -207,6 +210,7 @@ fn read_atom(
 ) -> Result<RawFormula, Fault>
     ensures value { (n : ℕ) → length tokens.old < n → ReadsFormula (atom_terms meant n relation place tokens.old) result tokens.new }
     ensures fewer { IfOk result (λ _. length tokens.new < length tokens.old) }
+    ensures alone { IfOk result (λ read. IsAlone read.kind) }
 {
     let terms = read_terms(alloc, tokens)?;
     tokens.expect(Symbol::Close)?;
@@ -216,13 +220,18 @@ fn read_atom(
     })
 }
 
-/// Reads a formula that begins with a name: an atom, a comparison or an `in`.
-#[tactic(auto, unfolding(crate::specs::Rules::named))]
-pub fn read_named(alloc: Global, tokens: &mut Cursor<'_>) -> Result<RawFormula, Fault>
-    ensures value { (n : ℕ) → length tokens.old < n → ReadsFormula (named meant n tokens.old) result tokens.new }
-    ensures fewer { IfOk result (λ _. length tokens.new < length tokens.old) }
+/// Reads what stands behind a name that begins a formula, the name being given: an atom, a comparison or an `in`.
+#[tactic(auto, unfolding(crate::specs::Rules::behind_name))]
+pub fn read_behind_name(
+    alloc: Global,
+    tokens: &mut Cursor<'_>,
+    name: Name,
+    place: Place,
+) -> Result<RawFormula, Fault>
+    ensures value { (n : ℕ) → length tokens.old < n → ReadsFormula (behind_name meant n name place tokens.old) result tokens.new }
+    ensures shorter { IfOk result (λ _. length tokens.new ≤ length tokens.old) }
+    ensures alone { IfOk result (λ read. IsAlone read.kind) }
 {
-    let (name, place) = tokens.name(alloc)?;
     if tokens.eat(Symbol::Open) {
         return read_atom(alloc, tokens, name, place);
     }
@@ -239,6 +248,7 @@ pub fn read_unnamed(
 ) -> Result<RawFormula, Fault>
     ensures value { ReadsFormula (unnamed meant place tokens.old) result tokens.new }
     ensures fewer { IfOk result (λ _. length tokens.new < length tokens.old) }
+    ensures alone { IfOk result (λ read. IsAlone read.kind) }
 {
     let kind = read_unnamed_term(alloc, tokens)?;
     read_test(alloc, tokens, RawTerm { kind, place })

@@ -1,2 +1,2 @@
 pub mod Databases
-pub mod Queries
+pub mod DataTextLemmas

@@ -1,5 +1,9 @@
 // What the texts of databases and queries say, they say in one way.
 ghost use Rattle.std.specs.Prelude.{◌≡◌, ℕ, List};
+ghost use Rattle.std.specs.List.{AllByRecursion};
+ghost use Rattle.lrp_model.specs.Checked.{plain_question};
+ghost use Rattle.lrp_model.specs.DataTexts.{IsDataText};
+ghost use Rattle.lrp_model.specs.Domains.{all_texts};
 ghost use Rattle.lrp_model.specs.DatabaseReading.{IsDatabase, IsDatabaseFault};
 ghost use Rattle.lrp_model.specs.QueryReading.{IsQuery, IsQueryFault};
 ghost use Rattle.lrp_model.specs.RawQueries.{RawQuestion};
@@ -20,6 +24,12 @@ pub fn databases_have_no_fault()
         → IsDatabase bytes relations → IsDatabaseFault bytes fault → ⊥ }
 {}
 
+/// A text has one fault of a database at most.
+pub fn databases_have_one_fault()
+    ensures { (bytes : List ℕ) (fault other : DbFault)
+        → IsDatabaseFault bytes fault → IsDatabaseFault bytes other → fault ≡ other }
+{}
+
 /// A text is of one query at most.
 pub fn texts_are_of_one_query()
     ensures { (bytes : List ℕ) (q other : RawQuestion)
@@ -30,6 +40,20 @@ pub fn texts_are_of_one_query()
 pub fn queries_have_no_fault()
     ensures { (bytes : List ℕ) (q : RawQuestion) (fault : QueryFault)
         → IsQuery bytes q → IsQueryFault bytes fault → ⊥ }
+{}
+
+/// A text has one fault of a query at most.
+pub fn queries_have_one_fault()
+    ensures { (bytes : List ℕ) (fault other : QueryFault)
+        → IsQueryFault bytes fault → IsQueryFault bytes other → fault ≡ other }
+{}
+
+/// The texts of a database and of a query over it are data texts.
+pub fn read_texts_are_data_texts()
+    ensures { (database query : List ℕ) (relations : List Relation) (q : RawQuestion)
+        → IsDatabase database relations
+        → IsQuery query q
+        → AllByRecursion (λ entry. IsDataText entry.1) (all_texts relations (plain_question q)) }
 {}
 
 /// A query that is well-sorted for a database has no sort fault.

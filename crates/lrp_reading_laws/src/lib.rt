@@ -1,10 +1,11 @@
-//! Laws of reading: a text is of one database or query at most, and then it has no fault. Each law is the contract of a
-//! function that does nothing.
+//! Laws of reading: a text is of one database or query at most, and then it has no fault; and it has one fault at most.
+//! Each law is the contract of a function that does nothing.
 #![tactic(auto)]
 
 mod laws;
 
 pub use laws::{
-    databases_have_no_fault, queries_have_no_fault, texts_are_of_one_database,
+    databases_have_no_fault, databases_have_one_fault, queries_have_no_fault,
+    queries_have_one_fault, read_texts_are_data_texts, texts_are_of_one_database,
     texts_are_of_one_query, well_sorted_queries_have_no_fault,
 };

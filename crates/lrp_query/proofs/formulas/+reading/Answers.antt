@@ -1,42 +1,42 @@
 use Rattle.std.proofs.Common.{◌≡◌, ◌<◌, ◌∷◌, [], map, ◌∙◌, sym, ap, subst, refl, arith, length, Ok, true, false}
 use Rattle.std.proofs.lemmas.Result.{err_from_is_err_and}
 use Rattle.lrp_model.specs.declared.tokens.Word.TheVariants.{And, Or}
-use Rattle.lrp_model.specs.RawQueries.{raw_form_of}
+use Rattle.lrp_model.specs.RawQueries.{raw_form_of, raw_or, no_raws}
 use Rattle.lrp_text.specs.Parsers.{eat, separated_from}
 use Rattle.lrp_text.specs.Taking.{is_word}
 use Rattle.lrp_text.proofs.Turns.{more_below, last_below, none_below, lifts}
 use Rattle.lrp_query.specs.declared.starts.Start.TheVariants.{Not as by_not, Exists as by_exists, Forall as by_forall, Open as by_open, Name as by_name, Term as by_term}
-use Rattle.lrp_query.specs.Rules.{meant, formula, negated, existing, holding, enclosed, implying, conjoined, disjoined}
+use Rattle.lrp_query.specs.Rules.{meant, plainly, formula, negated, existing, holding, enclosed, implying, conjoined, disjoined}
 use Rattle.lrp_query.specs.Reading.{ReadsFormula}
 use Rattle.lrp_query.proofs.Started.{formula_started, formula_cut}
 use Rattle.lrp_query.proofs.formulas.+reading.Goals as goal
 
 pub read_formula-returns-then-depth-eq0-clause-value : goal.read_formula-returns-then-depth-eq0-clause-value
-read_formula-returns-then-depth-eq0-clause-value t c = λ turns lt. formula_cut c.args.depth turns c.args.tokens.now c.too_deep.result c.args.tokens.now c.if-depth-eq0.true c.too_deep.ensures.value
+read_formula-returns-then-depth-eq0-clause-value t c = λ turns lt. formula_cut meant (plainly meant) (λ p. raw_or p no_raws) (λ t. refl) c.args.depth turns c.args.tokens.now c.too_deep.result c.if-depth-eq0.true c.too_deep.ensures.value c.too_deep.ensures.no_hole
 
 pub read_formula-returns-in-Not-clause-value : goal.read_formula-returns-in-Not-clause-value
 read_formula-returns-in-Not-clause-value t c = λ turns lt.
-    subst (λ o. ReadsFormula o c.read_negation.result c.read_negation.new.tokens) (sym (formula_started c.args.depth turns c.args.tokens.now c.place-place.result by_not c.if-depth-eq0.false c.in-Not.ensures.no_hole c.place-place.ensures c.in-Not.ensures.value)) (c.read_negation.ensures.value turns lt)
+    subst (λ o. ReadsFormula o c.read_negation.result c.read_negation.new.tokens) (sym (formula_started meant (plainly meant) c.args.depth turns c.args.tokens.now c.place-place.result by_not c.if-depth-eq0.false c.in-Not.ensures.no_hole c.place-place.ensures c.in-Not.ensures.value)) (c.read_negation.ensures.value turns lt)
 
 pub read_formula-returns-in-Exists-clause-value : goal.read_formula-returns-in-Exists-clause-value
 read_formula-returns-in-Exists-clause-value t c = λ turns lt.
-    subst (λ o. ReadsFormula o c.read_existential.result c.read_existential.new.tokens) (sym (formula_started c.args.depth turns c.args.tokens.now c.place-place.result by_exists c.if-depth-eq0.false c.in-Exists.ensures.no_hole c.place-place.ensures c.in-Exists.ensures.value)) (c.read_existential.ensures.value turns lt)
+    subst (λ o. ReadsFormula o c.read_existential.result c.read_existential.new.tokens) (sym (formula_started meant (plainly meant) c.args.depth turns c.args.tokens.now c.place-place.result by_exists c.if-depth-eq0.false c.in-Exists.ensures.no_hole c.place-place.ensures c.in-Exists.ensures.value)) (c.read_existential.ensures.value turns lt)
 
 pub read_formula-returns-in-Forall-clause-value : goal.read_formula-returns-in-Forall-clause-value
 read_formula-returns-in-Forall-clause-value t c = λ turns lt.
-    subst (λ o. ReadsFormula o c.read_universal.result c.read_universal.new.tokens) (sym (formula_started c.args.depth turns c.args.tokens.now c.place-place.result by_forall c.if-depth-eq0.false c.in-Forall.ensures.no_hole c.place-place.ensures c.in-Forall.ensures.value)) (c.read_universal.ensures.value turns lt)
+    subst (λ o. ReadsFormula o c.read_universal.result c.read_universal.new.tokens) (sym (formula_started meant (plainly meant) c.args.depth turns c.args.tokens.now c.place-place.result by_forall c.if-depth-eq0.false c.in-Forall.ensures.no_hole c.place-place.ensures c.in-Forall.ensures.value)) (c.read_universal.ensures.value turns lt)
 
 pub read_formula-returns-in-Open-clause-value : goal.read_formula-returns-in-Open-clause-value
 read_formula-returns-in-Open-clause-value t c = λ turns lt.
-    subst (λ o. ReadsFormula o c.read_enclosed.result c.read_enclosed.new.tokens) (sym (formula_started c.args.depth turns c.args.tokens.now c.place-place.result by_open c.if-depth-eq0.false c.in-Open.ensures.no_hole c.place-place.ensures c.in-Open.ensures.value)) (c.read_enclosed.ensures.value turns lt)
+    subst (λ o. ReadsFormula o c.read_enclosed.result c.read_enclosed.new.tokens) (sym (formula_started meant (plainly meant) c.args.depth turns c.args.tokens.now c.place-place.result by_open c.if-depth-eq0.false c.in-Open.ensures.no_hole c.place-place.ensures c.in-Open.ensures.value)) (c.read_enclosed.ensures.value turns lt)
 
 pub read_formula-returns-in-Name-clause-value : goal.read_formula-returns-in-Name-clause-value
 read_formula-returns-in-Name-clause-value t c = λ turns lt.
-    subst (λ o. ReadsFormula o c.read_named.result c.read_named.new.tokens) (sym (formula_started c.args.depth turns c.args.tokens.now c.place-place.result by_name c.if-depth-eq0.false c.in-Name.ensures.no_hole c.place-place.ensures c.in-Name.ensures.value)) (c.read_named.ensures.value turns lt)
+    subst (λ o. ReadsFormula o c.read_named.result c.read_named.new.tokens) (sym (formula_started meant (plainly meant) c.args.depth turns c.args.tokens.now c.place-place.result by_name c.if-depth-eq0.false c.in-Name.ensures.no_hole c.place-place.ensures c.in-Name.ensures.value)) (c.read_named.ensures.value turns lt)
 
 pub read_formula-returns-in-Term-clause-value : goal.read_formula-returns-in-Term-clause-value
 read_formula-returns-in-Term-clause-value t c = λ turns lt.
-    subst (λ o. ReadsFormula o c.read_unnamed.result c.read_unnamed.new.tokens) (sym (formula_started c.args.depth turns c.args.tokens.now c.place-place.result by_term c.if-depth-eq0.false c.in-Term.ensures.no_hole c.place-place.ensures c.in-Term.ensures.value)) c.read_unnamed.ensures.value
+    subst (λ o. ReadsFormula o c.read_unnamed.result c.read_unnamed.new.tokens) (sym (formula_started meant (plainly meant) c.args.depth turns c.args.tokens.now c.place-place.result by_term c.if-depth-eq0.false c.in-Term.ensures.no_hole c.place-place.ensures c.in-Term.ensures.value)) c.read_unnamed.ensures.value
 
 pub read_negation-returns-in_err-of-clause-value : goal.read_negation-returns-in_err-of-clause-value
 unfolding negated

@@ -1,5 +1,4 @@
-use Rattle.lrp_query.proofs.TextLaws.{every_query}
-use Rattle.lrp_query.proofs.OneFault.{every_fault}
+use Rattle.lrp_query.proofs.PlainTexts.{every_query, every_fault}
 use Rattle.lrp_query.proofs.LawfulQueries.{lawful_read}
 use Rattle.lrp_query.proofs.queries.read_query.Goals as goal
 

@@ -1,7 +1,7 @@
 use Rattle.std.proofs.Common.{subst, sym}
 use Rattle.lrp_model.specs.RawQueries.{raw_question_of}
 use Rattle.lrp_query.specs.Reading.{IsUnread}
-use Rattle.lrp_query.proofs.TextLaws.{query_read, text_refused}
+use Rattle.lrp_query.proofs.PlainTexts.{query_read, text_refused}
 use Rattle.lrp_query.proofs.queries.read_text.Goals as goal
 
 pub returns-in-Ok-clause-query : goal.returns-in-Ok-clause-query

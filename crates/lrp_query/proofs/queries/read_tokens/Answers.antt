@@ -5,11 +5,11 @@ use Rattle.lrp_text.specs.Parsers.{listed}
 use Rattle.lrp_text.specs.Taking.{is_symbol, expect, expect_end}
 use Rattle.lrp_text.specs.ColumnRule.{column}
 use Rattle.lrp_text.proofs.Turns.{lifts}
-use Rattle.lrp_query.specs.Rules.{meant, formula, query}
+use Rattle.lrp_query.specs.Rules.{meant, formula, query, query_with}
 use Rattle.lrp_query.proofs.queries.read_tokens.Goals as goal
 
 pub returns-in_err-head : goal.returns-in_err-head
-unfolding query
+unfolding query_with
 returns-in_err-head c = λ n lt.
     let p = err_from_is_err_and c.from_residual-in_err-head.result c.from_residual-in_err-head.ensures.1 in
     let fewer : length c.expect.new.self < n = omega (arith, c.in_ok-expect.ensures.fewer, lt) in
@@ -17,7 +17,7 @@ returns-in_err-head c = λ n lt.
     (λ j e. rw (c.in_ok-expect.ensures.value, e) refl) (c.in_err-head.ensures.value n fewer))
 
 pub returns-in_err-body : goal.returns-in_err-body
-unfolding query
+unfolding query_with
 returns-in_err-body c = λ n lt.
     let p = err_from_is_err_and c.from_residual-in_err-body.result c.from_residual-in_err-body.ensures.1 in
     let fewer : length c.expect.new.self < n = omega (arith, c.in_ok-expect.ensures.fewer, lt) in
@@ -26,7 +26,7 @@ returns-in_err-body c = λ n lt.
     (λ j e. rw (c.in_ok-expect.ensures.value, c.in_ok-head.ensures.value n fewer, c.in_ok-expect-2.ensures.value, e) refl) (c.in_err-body.ensures.value n less))
 
 pub returns-in_err-expect-2 : goal.returns-in_err-expect-2
-unfolding query
+unfolding query_with
 returns-in_err-expect-2 c = λ n lt.
     let p = err_from_is_err_and c.from_residual-in_err-expect-2.result c.from_residual-in_err-expect-2.ensures.1 in
     let fewer : length c.expect.new.self < n = omega (arith, c.in_ok-expect.ensures.fewer, lt) in
@@ -34,7 +34,7 @@ returns-in_err-expect-2 c = λ n lt.
     (λ j e. rw (c.in_ok-expect.ensures.value, c.in_ok-head.ensures.value n fewer, e) refl) c.in_err-expect-2.ensures.value)
 
 pub returns-in_err-expect-3 : goal.returns-in_err-expect-3
-unfolding query
+unfolding query_with
 returns-in_err-expect-3 c = λ n lt.
     let p = err_from_is_err_and c.from_residual-in_err-expect-3.result c.from_residual-in_err-expect-3.ensures.1 in
     let fewer : length c.expect.new.self < n = omega (arith, c.in_ok-expect.ensures.fewer, lt) in
@@ -43,7 +43,7 @@ returns-in_err-expect-3 c = λ n lt.
     (λ j e. rw (c.in_ok-expect.ensures.value, c.in_ok-head.ensures.value n fewer, c.in_ok-expect-2.ensures.value, c.in_ok-body.ensures.value n less, e) refl) c.in_err-expect-3.ensures.value)
 
 pub returns-in_err-expect_end : goal.returns-in_err-expect_end
-unfolding query
+unfolding query_with
 returns-in_err-expect_end c = λ n lt.
     let p = err_from_is_err_and c.from_residual-in_err-expect_end.result c.from_residual-in_err-expect_end.ensures.1 in
     let fewer : length c.expect.new.self < n = omega (arith, c.in_ok-expect.ensures.fewer, lt) in

@@ -1,4 +1,4 @@
-use Rattle.lrp_reading_laws.proofs.Queries.{one_query}
+use Rattle.lrp_query.proofs.PlainTexts.{one_query}
 use Rattle.lrp_reading_laws.proofs.laws.texts_are_of_one_query.Goals as goal
 
 pub returns : goal.returns

@@ -1,0 +1,255 @@
+-- The texts of a database and of a query are data texts.
+use Rattle.std.proofs.Common.{◌≡◌, ◌≤◌, ◌-◌, ◌&&◌, ℕ, zero, suc, Bool, true, false, List, [], ◌∷◌, ◌++◌, length, map, flat_map, reverse, refl, sym, subst, if◌then◌else◌, arith}
+use Rattle.std.specs.List.{AllByRecursion}
+use Rattle.std.specs.Str.{IsUtf8}
+use Rattle.std.proofs.lemmas.Str.{IsUtf8-drop}
+use Rattle.lrp_model.specs.Checked.{data_of, is_equality, plain, plain_each, plain_question, term_of, time_of}
+use Rattle.lrp_model.specs.Columns.{column_text}
+use Rattle.lrp_model.specs.DatabaseMeaning.{column_of}
+use Rattle.lrp_model.specs.DatabaseReading.{IsDatabase}
+use Rattle.lrp_model.specs.DataTexts.{IsDataText}
+use Rattle.lrp_model.specs.Databases.{comma}
+use Rattle.lrp_model.specs.Domains.{all_texts, database_texts, form_texts, forms_texts, row_texts, term_texts, test_texts, text_beside}
+use Rattle.lrp_model.specs.Rows.{columns_in, relation_named}
+use Rattle.lrp_model.specs.Lexing.{Scanned, scan, skip, after, headed, tokens_from, tokens, start}
+use Rattle.lrp_model.specs.Queries.{WrittenFormula, FurtherMembers, WrittenTerm, FitsSizes, FitSizes, FitsTerm, formula_text, members_text, op_symbol, query_text, term_text}
+use Rattle.lrp_model.specs.Queries.WrittenTerm.{integer, text_term, variable, shifted}
+use Rattle.lrp_model.specs.Queries.WrittenFormula.{atom_formula, compared, member, denied, all_of, any_of, implied, group, some, every, hole}
+use Rattle.lrp_model.specs.Queries.FurtherMembers.{last, more}
+use Rattle.lrp_model.specs.QueryMeaning.{raw_form, raw_forms, raw_term, term_kind}
+use Rattle.lrp_model.specs.QueryReading.{IsQuery}
+use Rattle.lrp_model.specs.RawQueries.{RawQuestion}
+use Rattle.lrp_model.specs.Sorting.{Binders, is_data_term, term_sort}
+use Rattle.lrp_model.specs.Texts.{FitsText, Text}
+use Rattle.lrp_model.specs.Tokens.{Token, Tokens, Part, Takes, separated, from, located_text}
+use Rattle.lrp_model.specs.Tokens.Token.{name_token, word_token, number_token, text_token, symbol_token, end_token, bad_token, hole_token}
+use Rattle.lrp_model.specs.Tokens.Part.{at, any}
+use Rattle.lrp_model.specs.declared.formulas.DataTerm.{DataTerm}
+use Rattle.lrp_model.specs.declared.formulas.DataTerm.TheVariants.{Var as data_var, Const as data_const}
+use Rattle.lrp_model.specs.declared.formulas.Op.{Op}
+use Rattle.lrp_model.specs.declared.formulas.Term.{Term}
+use Rattle.lrp_model.specs.declared.formulas.Term.TheVariants.{Time as time_term, Data as data_term}
+use Rattle.lrp_model.specs.declared.formulas.Test.TheVariants.{Compare, Equal}
+use Rattle.lrp_model.specs.declared.formulas.TimeTerm.{TimeTerm}
+use Rattle.lrp_model.specs.declared.relations.Column.{Column}
+use Rattle.lrp_model.specs.declared.relations.Relation.{Relation}
+use Rattle.lrp_model.specs.declared.relations.Row.{Row}
+use Rattle.lrp_model.specs.declared.relations.Sort.{Sort}
+use Rattle.lrp_model.specs.declared.relations.Value.{Value}
+use Rattle.lrp_model.specs.declared.relations.Value.TheVariants.{Point, Const}
+use Rattle.lrp_print.specs.Kept.{AreKept, AreValuesOf, IsKept, IsRowOf}
+use Rattle.lrp_rel.proofs.MeaningKept.{tree_kept}
+use Rattle.lrp_rel.proofs.NameLemmas.{tree_named}
+use Rattle.lrp_rel.proofs.TreeTexts.{tree_texted}
+use Rattle.lrp_model.specs.declared.tokens.Place.{Place}
+use Rattle.lrp_model.specs.declared.tokens.Symbol.TheVariants.{Close, Bar, CloseBrace}
+use Rattle.lrp_model.specs.declared.tokens.Word.{Word}
+use Rattle.lrp_model.specs.declared.tokens.Word.TheVariants.{And, Or, Implies}
+use Rattle.lrp_model.specs.declared.written.Located.{Located}
+use Rattle.lrp_text.proofs.Cuts.{skip_cut, skip_rest, scan_cut, scan_rest}
+use Rattle.lrp_text.proofs.Meanings.{slice_fits, slice_utf8}
+use Rattle.lrp_text.proofs.NameTokens.{all_front, all_behind, all_tail}
+
+-- ---- the tokens of a text of UTF-8
+
+-- a token of a text has a data text, if it is short enough
+abbrev TextToken : Token → Type 0
+TextToken (text_token t) = IsUtf8 t × (length t ≤ 255 → FitsText t)
+TextToken _ = Unit {0}
+
+-- the first token of bytes of UTF-8
+scan_texted : (bs : List ℕ) → IsUtf8 bs → TextToken (scan bs).token
+scan_texted bs u = by (scan bs).token refl
+  where
+    by : (k : Token) → (scan bs).token ≡ k → TextToken k
+    by (text_token t) e = (slice_utf8 bs t e u, slice_fits bs t e)
+    by (name_token n) e = tt
+    by (word_token w) e = tt
+    by (number_token n) e = tt
+    by (symbol_token s) e = tt
+    by end_token e = tt
+    by bad_token e = tt
+    by hole_token e = tt
+
+-- a token with those behind it
+headed_texted : (p : Place) (s : Scanned) (k : Token) (rest : Tokens) → TextToken k → AllByRecursion (λ t. TextToken t.token) rest → AllByRecursion (λ t. TextToken t.token) (headed p s k rest)
+headed_texted p s (name_token n) rest h r = (h, r)
+headed_texted p s (word_token w) rest h r = (tt, r)
+headed_texted p s (number_token n) rest h r = (tt, r)
+headed_texted p s (text_token t) rest h r = (h, r)
+headed_texted p s (symbol_token x) rest h r = (tt, r)
+headed_texted p s end_token rest h r = (tt, tt)
+headed_texted p s bad_token rest h r = (tt, tt)
+headed_texted p s hole_token rest h r = (tt, r)
+
+-- all tokens of bytes of UTF-8
+tokens_texted : (n : ℕ) (p : Place) (bs : List ℕ) → IsUtf8 bs → AllByRecursion (λ t. TextToken t.token) (tokens_from n p bs)
+unfolding tokens_from
+tokens_texted zero p bs u = tt
+tokens_texted (suc n) p bs u =
+    let a = skip false p bs in
+    let s = scan a.bytes in
+    let here : IsUtf8 a.bytes = subst IsUtf8 (skip_rest p bs) (IsUtf8-drop bs (length bs - length a.bytes) u (skip_cut p bs u)) in
+    let behind : IsUtf8 s.left = subst IsUtf8 (scan_rest a.bytes) (IsUtf8-drop a.bytes (length a.bytes - length s.left) here (scan_cut a.bytes here)) in
+    headed_texted a.place s s.token (tokens_from n (after a.place s.taken) s.left) (scan_texted a.bytes here) (tokens_texted n (after a.place s.taken) s.left behind)
+
+-- a part of a tree's text has a data text, if it is one
+abbrev TextPart : Part → Type 0
+TextPart (at p k) = TextToken k
+TextPart (any k) = TextToken k
+
+-- parts that are spelled by such tokens
+takes_texted : (ps : List Part) (ts left : Tokens) → Takes ps ts left → AllByRecursion (λ t. TextToken t.token) ts → AllByRecursion TextPart ps
+takes_texted [] ts left h texted = tt
+takes_texted (p ∷ ps) [] left h texted = absurd h
+takes_texted (at p k ∷ ps) (t ∷ ts) left h texted = (subst TextToken h.0.0 texted.0, takes_texted ps ts left h.1 texted.1)
+takes_texted (any k ∷ ps) (t ∷ ts) left h texted = (subst TextToken h.0 texted.0, takes_texted ps ts left h.1 texted.1)
+
+-- ---- terms
+
+-- a text among the written terms is a data text
+abbrev IsGood : WrittenTerm → Type 0
+IsGood (text_term t) = IsDataText t
+IsGood (integer i) = Unit {0}
+IsGood (variable n) = Unit {0}
+IsGood (shifted n down k) = Unit {0}
+
+term_good : (p : Place) (t : WrittenTerm) → AllByRecursion TextPart (from p (term_text t)) → FitsTerm t → IsGood t
+term_good p (text_term t) h short = record { fits = h.0.1 short; utf8 = h.0.0 }
+term_good p (integer i) h short = tt
+term_good p (variable n) h short = tt
+term_good p (shifted n down k) h short = tt
+
+terms_good : (ts : List (Located WrittenTerm)) → AllByRecursion TextPart (separated comma (located_text term_text) ts) → AllByRecursion (λ t. FitsTerm t.item) ts → AllByRecursion (λ t. IsGood t.item) ts
+terms_good [] h short = tt
+terms_good (t ∷ []) h short = (term_good t.place t.item h short.0, tt)
+terms_good (t ∷ u ∷ us) h short =
+    let first = located_text term_text t in
+    let rest = separated comma (located_text term_text) (u ∷ us) in
+    (term_good t.place t.item (all_front TextPart first (comma ∷ rest) h) short.0, terms_good (u ∷ us) (all_tail TextPart comma rest (all_behind TextPart first (comma ∷ rest) h)) short.1)
+
+-- a text among the data terms is one
+abbrev IsGoodData : DataTerm → Type 0
+IsGoodData (data_const t) = IsDataText t
+IsGoodData (data_var v) = Unit {0}
+
+nothing_good : IsDataText []
+nothing_good = record { fits = record { short = omega arith; plain = λ i below. absurd (omega arith) }; utf8 = ([], (refl, refl)) }
+
+data_good : (t : WrittenTerm) → IsGood t → IsGoodData (data_of (term_kind t))
+data_good (text_term t) h = h
+data_good (integer i) h = nothing_good
+data_good (variable n) h = tt
+data_good (shifted n down k) h = nothing_good
+
+-- ---- the entries of the domain
+
+-- a data text with a sort
+abbrev IsEntry : Sort × Text → Type 0
+IsEntry entry = IsDataText entry.1
+
+both : (xs ys : List (Sort × Text)) → AllByRecursion IsEntry xs → AllByRecursion IsEntry ys → AllByRecursion IsEntry (xs ++ ys)
+both [] ys h k = k
+both (x ∷ xs) ys h k = (h.0, both xs ys h.1 k)
+
+term_entry : (b : Bool) (d : DataTerm) (t : TimeTerm) (c : Column) (cs : List Column) (rest : List Term) → IsGoodData d → AllByRecursion IsEntry (term_texts cs rest) → AllByRecursion IsEntry (term_texts (c ∷ cs) ((if b then data_term d else time_term t) ∷ rest))
+term_entry true (data_const x) t c cs rest h k = (h, k)
+term_entry true (data_var v) t c cs rest h k = k
+term_entry false d t c cs rest h k = k
+
+term_entries : (cs : List Column) (bs : Binders) (ts : List (Located WrittenTerm)) → AllByRecursion (λ t. IsGood t.item) ts → AllByRecursion IsEntry (term_texts cs (map (term_of bs) (map raw_term ts)))
+term_entries [] bs [] h = tt
+term_entries [] bs (t ∷ ts) h = tt
+term_entries (c ∷ cs) bs [] h = tt
+term_entries (c ∷ cs) bs (t ∷ ts) h =
+    term_entry (is_data_term (term_sort bs (raw_term t))) (data_of (term_kind t.item)) (time_of (term_kind t.item)) c cs (map (term_of bs) (map raw_term ts)) (data_good t.item h.0) (term_entries cs bs ts h.1)
+
+beside_entry : (binders : List Column) (other d : DataTerm) → IsGoodData d → AllByRecursion IsEntry (text_beside binders other d)
+beside_entry binders other (data_const t) h = (h, tt)
+beside_entry binders other (data_var v) h = tt
+
+test_entries : (b : Bool) (binders : List Column) (d e : DataTerm) (x y : TimeTerm) (op : Op) → IsGoodData d → IsGoodData e → AllByRecursion IsEntry (test_texts binders (if b then Equal d e else Compare x op y))
+test_entries true binders d e x y op h k = both (text_beside binders e d) (text_beside binders d e) (beside_entry binders e d h) (beside_entry binders d e k)
+test_entries false binders d e x y op h k = tt
+
+-- ---- formulas
+
+mutual
+  form_entries : (f : WrittenFormula) → AllByRecursion TextPart (formula_text f) → FitsSizes f → (bs : Binders) (db : List Relation) (binders : List Column) → AllByRecursion IsEntry (form_texts (plain (raw_form f) bs) db binders)
+  form_entries (atom_formula p n ts) h short bs db binders =
+      term_entries (columns_in (relation_named db n)) bs ts (terms_good ts (all_front TextPart (separated comma (located_text term_text) ts) (any (symbol_token Close) ∷ []) h.1.1) short)
+  form_entries (compared l op r) h short bs db binders =
+      test_entries (is_equality op && is_data_term (term_sort bs (raw_term l)) && is_data_term (term_sort bs (raw_term r))) binders (data_of (term_kind l.item)) (data_of (term_kind r.item)) (time_of (term_kind l.item)) (time_of (term_kind r.item)) op
+      (data_good l.item (term_good l.place l.item (all_front TextPart (located_text term_text l) (any (symbol_token (op_symbol op)) ∷ located_text term_text r) h) short.0))
+      (data_good r.item (term_good r.place r.item (all_behind TextPart (located_text term_text l) (any (symbol_token (op_symbol op)) ∷ located_text term_text r) h).1 short.1))
+  form_entries (member t i k) h short bs db binders = tt
+  form_entries (denied p f) h short bs db binders = form_entries f h.1 short bs db binders
+  form_entries (all_of p f fs) h short bs db binders =
+      let behind = members_text And fs ++ any (symbol_token Close) ∷ [] in
+      both (form_texts (plain (raw_form f) bs) db binders) (forms_texts (plain_each (raw_forms fs) bs) db binders)
+      (form_entries f (all_front TextPart (formula_text f) behind h.1) short.0 bs db binders)
+      (forms_entries fs And (all_front TextPart (members_text And fs) (any (symbol_token Close) ∷ []) (all_behind TextPart (formula_text f) behind h.1)) short.1 bs db binders)
+  form_entries (any_of p f fs) h short bs db binders =
+      let behind = members_text Or fs ++ any (symbol_token Close) ∷ [] in
+      both (form_texts (plain (raw_form f) bs) db binders) (forms_texts (plain_each (raw_forms fs) bs) db binders)
+      (form_entries f (all_front TextPart (formula_text f) behind h.1) short.0 bs db binders)
+      (forms_entries fs Or (all_front TextPart (members_text Or fs) (any (symbol_token Close) ∷ []) (all_behind TextPart (formula_text f) behind h.1)) short.1 bs db binders)
+  form_entries (implied p f g) h short bs db binders =
+      let last = any (symbol_token Close) ∷ [] in
+      let behind = any (word_token Implies) ∷ (formula_text g ++ last) in
+      both (form_texts (plain (raw_form f) bs) db binders) (form_texts (plain (raw_form g) bs) db binders)
+      (form_entries f (all_front TextPart (formula_text f) behind h.1) short.0 bs db binders)
+      (form_entries g (all_front TextPart (formula_text g) last (all_behind TextPart (formula_text f) behind h.1).1) short.1 bs db binders)
+  form_entries (group p f) h short bs db binders = form_entries f (all_front TextPart (formula_text f) (any (symbol_token Close) ∷ []) h.1) short bs db binders
+  form_entries (some p c f) h short bs db binders = form_entries f (all_behind TextPart (column_text c) (formula_text f) h.1) short (c ∷ bs) db (record { name = c.name; sort = c.sort } ∷ binders)
+  form_entries (every p c f) h short bs db binders = form_entries f (all_behind TextPart (column_text c) (formula_text f) h.1) short (c ∷ bs) db (record { name = c.name; sort = c.sort } ∷ binders)
+  form_entries (hole p) h short bs db binders = tt
+
+  forms_entries : (fs : FurtherMembers) (w : Word) → AllByRecursion TextPart (members_text w fs) → FitSizes fs → (bs : Binders) (db : List Relation) (binders : List Column) → AllByRecursion IsEntry (forms_texts (plain_each (raw_forms fs) bs) db binders)
+  forms_entries (last f) w h short bs db binders = both (form_texts (plain (raw_form f) bs) db binders) [] (form_entries f h.1 short bs db binders) tt
+  forms_entries (more f fs) w h short bs db binders =
+      both (form_texts (plain (raw_form f) bs) db binders) (forms_texts (plain_each (raw_forms fs) bs) db binders)
+      (form_entries f (all_front TextPart (formula_text f) (members_text w fs) h.1) short.0 bs db binders)
+      (forms_entries fs w (all_behind TextPart (formula_text f) (members_text w fs) h.1) short.1 bs db binders)
+
+-- ---- a query
+
+-- the texts of a query's body are data texts
+pub query_entries : (bytes : List ℕ) (q : RawQuestion) → IsQuery bytes q → (db : List Relation) → AllByRecursion IsEntry (form_texts (plain_question q).body db (plain_question q).head)
+query_entries bytes q is db =
+    let tree = is.tree in
+    let body = formula_text tree.body in
+    let last = any (symbol_token CloseBrace) ∷ any end_token ∷ [] in
+    let columns = separated comma column_text tree.head in
+    let parts = takes_texted (query_text tree) (tokens bytes) [] is.text.spelled (tokens_texted (suc (length bytes)) start bytes is.text.utf8) in
+    let inside = all_behind TextPart columns (any (symbol_token Bar) ∷ (body ++ last)) parts.1 in
+    let entries = form_entries tree.body (all_front TextPart body last inside.1) is.text.lawful.sizes (reverse tree.head) db (map column_of tree.head) in
+    subst (λ r. AllByRecursion IsEntry (form_texts (plain_question r).body db (plain_question r).head)) (sym is.meant) entries
+
+-- ---- a database
+
+values_entries : (cs : List Column) (vs : List Value) → AreValuesOf cs vs → AllByRecursion IsEntry (row_texts cs vs)
+values_entries [] [] h = tt
+values_entries [] (v ∷ vs) h = absurd h
+values_entries (c ∷ cs) [] h = tt
+values_entries (c ∷ cs) (Point p ∷ vs) h = values_entries cs vs h.1
+values_entries (c ∷ cs) (Const t ∷ vs) h = (h.0.1, values_entries cs vs h.1)
+
+rows_entries : (cs : List Column) (rows : List Row) → AllByRecursion (IsRowOf cs) rows → AllByRecursion IsEntry (flat_map (λ row. row_texts cs row.values) rows)
+rows_entries cs [] h = tt
+rows_entries cs (row ∷ rows) h = both (row_texts cs row.values) (flat_map (λ r. row_texts cs r.values) rows) (values_entries cs row.values h.0.values) (rows_entries cs rows h.1)
+
+relations_entries : (db : List Relation) → AllByRecursion IsKept db → AllByRecursion IsEntry (database_texts db)
+relations_entries [] h = tt
+relations_entries (r ∷ rs) h =
+    both (flat_map (λ row. row_texts r.columns row.values) r.rows) (flat_map (λ s. flat_map (λ row. row_texts s.columns row.values) s.rows) rs) (rows_entries r.columns r.rows h.0.rows) (relations_entries rs h.1)
+
+-- the texts of a database are data texts
+database_entries : (bytes : List ℕ) (db : List Relation) → IsDatabase bytes db → AllByRecursion IsEntry (database_texts db)
+database_entries bytes db d =
+    let kept : AreKept db = subst AreKept (sym d.meant) (tree_kept d.tree d.text.lawful d.sound (tree_named bytes d.tree d.text.spelled) (tree_texted bytes d.tree d.text.utf8 d.text.spelled)) in
+    relations_entries db kept.each
+
+-- and so are those of both
+pub all_entries : (bytes query : List ℕ) (db : List Relation) (q : RawQuestion) → IsDatabase bytes db → IsQuery query q → AllByRecursion IsEntry (all_texts db (plain_question q))
+all_entries bytes query db q d is = both (database_texts db) (form_texts (plain_question q).body db (plain_question q).head) (database_entries bytes db d) (query_entries query q is db)
