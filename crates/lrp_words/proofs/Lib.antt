@@ -1,3 +1,4 @@
 -- Lemmas on words and their entries.
 pub mod EntryLemmas
+pub mod MinuteLemmas
 pub mod NumberLemmas

@@ -3,20 +3,21 @@ use Rattle.std.specs.Prelude.{ℕ, ℤ, ◌^◌, List, [], ◌∷◌, Bool, true
 use Rattle.std.specs.Borrow.{Bor}
 use Rattle.std.specs.Str.{bytes_eq}
 use Rattle.lrp_model.specs.Texts.{Text}
+use Rattle.lrp_civil.specs.Minutes.{minute_by}
 use Rattle.lrp_words.specs.declared.keys.Key.{Key}
-use Rattle.lrp_words.specs.declared.keys.Key.TheVariants.{Db, Query, Cap, From, To, Limit, After, Form, Seed, Size}
+use Rattle.lrp_words.specs.declared.keys.Key.TheVariants.{Db, Query, Cap, From, To, Limit, After, Form, Civil, Seed, Size}
 use Rattle.lrp_words.specs.declared.command.Command.{Command}
 use Rattle.lrp_words.specs.declared.command.Command.TheVariants.{Ask, Decide, List as Page, Explain, Check, Sample}
 use Rattle.lrp_words.specs.Entries.{value_for, are_given}
 use Rattle.lrp_words.specs.Numbers.{natural, within, integer_up_to}
 
--- what is asked: files by their names, caps and limits, a window, a token, whether the page is in JSON, a seed and a size
+-- what is asked: files by their names, caps and limits, a window, a token, whether the page is in JSON, a seed and a size; and last, whether times are civil ones
 pub data Task : Type 0 where
-  ask : Text → Text → ℕ → Task
-  decide : Text → Text → ℕ → Task
-  list : Text → Text → ℤ → ℤ → ℕ → Option Text → Bool → ℕ → Task
-  explain : Text → Text → Task
-  check : Text → Task
+  ask : Text → Text → ℕ → Bool → Task
+  decide : Text → Text → ℕ → Bool → Task
+  list : Text → Text → ℤ → ℤ → ℕ → Option Text → Bool → ℕ → Bool → Task
+  explain : Text → Text → Bool → Task
+  check : Text → Bool → Task
   sample : ℕ → ℕ → Task
 
 -- a text that may be left out
@@ -26,11 +27,11 @@ after_text (Some text) = Some text.now
 
 -- what a command asks
 abbrev pub task_of : Command → Task
-task_of (Ask db query cap) = ask db.now query.now cap
-task_of (Decide db query cap) = decide db.now query.now cap
-task_of (Page db query from to limit after json cap) = list db.now query.now from to limit (after_text after) json cap
-task_of (Explain db query) = explain db.now query.now
-task_of (Check db) = check db.now
+task_of (Ask db query cap civil) = ask db.now query.now cap civil
+task_of (Decide db query cap civil) = decide db.now query.now cap civil
+task_of (Page db query from to limit after json cap civil) = list db.now query.now from to limit (after_text after) json cap civil
+task_of (Explain db query civil) = explain db.now query.now civil
+task_of (Check db civil) = check db.now civil
 task_of (Sample seed size) = sample seed size
 
 -- and what may be a command
@@ -59,10 +60,16 @@ abbrev pub number_or : ℕ → ℕ → ℕ → Option Text → Option ℕ
 number_or default low high None = Some default
 number_or default low high (Some text) = within low high (natural text)
 
--- an integer whose magnitude is at most 2^62
-abbrev pub end_of : Option Text → Option ℤ
-end_of None = None
-end_of (Some text) = integer_up_to (2 ^ 62) text
+-- an end of a window: an integer whose magnitude is at most 2^62, or where times are civil ones the minute of a date
+abbrev pub end_of : Bool → Option Text → Option ℤ
+end_of civil None = None
+end_of false (Some text) = integer_up_to (2 ^ 62) text
+end_of true (Some text) = minute_by text
+
+-- whether a value is `yes`; it is `no` where it is not given
+abbrev pub flag_of : Option Text → Option Bool
+flag_of None = Some false
+flag_of (Some text) = if bytes_eq text (codes "yes") then Some true else if bytes_eq text (codes "no") then Some false else None
 
 -- whether the form is JSON; it is plain where it is not given
 abbrev pub json_of : Option Text → Option Bool
@@ -84,27 +91,55 @@ database_name words = file (value_for Db words)
 abbrev pub query_name : List Text → Option Text
 query_name words = file (value_for Query words)
 
--- ---- each command from the words behind its name
+-- whether times are civil ones
+abbrev pub civil_of : List Text → Option Bool
+civil_of words = flag_of (value_for Civil words)
+
+-- ---- each command from the words behind its name, and its keys
 
 abbrev pub ask_of : List Text → Option Task
-ask_of words = with_some (database_name words) (λ db. with_some (query_name words) (λ query. with_some (cap_of words) (λ cap. Some (ask db query cap))))
+ask_of words =
+    with_some (database_name words) (λ db. with_some (query_name words) (λ query. with_some (cap_of words) (λ cap.
+    with_some (civil_of words) (λ civil. Some (ask db query cap civil)))))
+
+abbrev pub ask_keys : List Key
+ask_keys = Db ∷ Query ∷ Cap ∷ Civil ∷ []
 
 abbrev pub decide_of : List Text → Option Task
-decide_of words = with_some (database_name words) (λ db. with_some (query_name words) (λ query. with_some (cap_of words) (λ cap. Some (decide db query cap))))
+decide_of words =
+    with_some (database_name words) (λ db. with_some (query_name words) (λ query. with_some (cap_of words) (λ cap.
+    with_some (civil_of words) (λ civil. Some (decide db query cap civil)))))
+
+abbrev pub decide_keys : List Key
+decide_keys = Db ∷ Query ∷ Cap ∷ Civil ∷ []
 
 abbrev pub list_of : List Text → Option Task
 list_of words =
-    with_some (database_name words) (λ db. with_some (query_name words) (λ query. with_some (end_of (value_for From words)) (λ from. with_some (end_of (value_for To words)) (λ to.
-    with_some (limit_of words) (λ limit. with_some (json_of (value_for Form words)) (λ json. with_some (cap_of words) (λ cap. Some (list db query from to limit (value_for After words) json cap))))))))
+    with_some (civil_of words) (λ civil.
+    with_some (database_name words) (λ db. with_some (query_name words) (λ query. with_some (end_of civil (value_for From words)) (λ from. with_some (end_of civil (value_for To words)) (λ to.
+    with_some (limit_of words) (λ limit. with_some (json_of (value_for Form words)) (λ json. with_some (cap_of words) (λ cap. Some (list db query from to limit (value_for After words) json cap civil)))))))))
+
+abbrev pub list_keys : List Key
+list_keys = Db ∷ Query ∷ From ∷ To ∷ Limit ∷ After ∷ Form ∷ Cap ∷ Civil ∷ []
 
 abbrev pub explain_of : List Text → Option Task
-explain_of words = with_some (database_name words) (λ db. with_some (query_name words) (λ query. Some (explain db query)))
+explain_of words =
+    with_some (database_name words) (λ db. with_some (query_name words) (λ query. with_some (civil_of words) (λ civil. Some (explain db query civil))))
+
+abbrev pub explain_keys : List Key
+explain_keys = Db ∷ Query ∷ Civil ∷ []
 
 abbrev pub check_of : List Text → Option Task
-check_of words = with_some (database_name words) (λ db. Some (check db))
+check_of words = with_some (database_name words) (λ db. with_some (civil_of words) (λ civil. Some (check db civil)))
+
+abbrev pub check_keys : List Key
+check_keys = Db ∷ Civil ∷ []
 
 abbrev pub sample_of : List Text → Option Task
 sample_of words = with_some (number_in 0 1000000 (value_for Seed words)) (λ seed. with_some (number_in 1 500 (value_for Size words)) (λ size. Some (sample seed size)))
+
+abbrev pub sample_keys : List Key
+sample_keys = Seed ∷ Size ∷ []
 
 -- a task, where the words give its keys alone, each at most once
 abbrev pub over : List Key → List Text → Option Task → Option Task
@@ -114,9 +149,9 @@ over keys words task = if are_given keys words then task else None
 abbrev pub command : List Text → Option Task
 command [] = None
 command (name ∷ words) =
-    if bytes_eq name (codes "ask") then over (Db ∷ Query ∷ Cap ∷ []) words (ask_of words) else
-    if bytes_eq name (codes "decide") then over (Db ∷ Query ∷ Cap ∷ []) words (decide_of words) else
-    if bytes_eq name (codes "list") then over (Db ∷ Query ∷ From ∷ To ∷ Limit ∷ After ∷ Form ∷ Cap ∷ []) words (list_of words) else
-    if bytes_eq name (codes "explain") then over (Db ∷ Query ∷ []) words (explain_of words) else
-    if bytes_eq name (codes "check") then over (Db ∷ []) words (check_of words) else
-    if bytes_eq name (codes "sample") then over (Seed ∷ Size ∷ []) words (sample_of words) else None
+    if bytes_eq name (codes "ask") then over ask_keys words (ask_of words) else
+    if bytes_eq name (codes "decide") then over decide_keys words (decide_of words) else
+    if bytes_eq name (codes "list") then over list_keys words (list_of words) else
+    if bytes_eq name (codes "explain") then over explain_keys words (explain_of words) else
+    if bytes_eq name (codes "check") then over check_keys words (check_of words) else
+    if bytes_eq name (codes "sample") then over sample_keys words (sample_of words) else None

@@ -13,6 +13,7 @@ pub enum Key {
     Limit,
     After,
     Form,
+    Civil,
     Seed,
     Size,
 }
@@ -31,6 +32,7 @@ impl Key {
             Key::Limit => "limit",
             Key::After => "after",
             Key::Form => "form",
+            Key::Civil => "civil",
             Key::Seed => "seed",
             Key::Size => "size",
         }

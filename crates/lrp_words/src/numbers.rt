@@ -1,5 +1,5 @@
 // Whole numbers in words.
-ghost use Rattle.std.specs.Prelude.{◌≡◌, ◌≤◌, ◌^◌, pos, neg_ℤ, option_map, Some, IfSome};
+ghost use Rattle.std.specs.Prelude.{◌≡◌, ◌≤◌, ◌≤ℤ◌, ◌^◌, pos, neg_ℤ, option_map, Some, IfSome};
 ghost use Rattle.std.specs.Char.{is_ascii_digit};
 ghost use Rattle.std.specs.List.{list_all};
 ghost use Rattle.lrp_words.specs.Numbers.{integer_up_to as integer_by, is_numeral as is_numeral_by, natural, within as within_by};
@@ -29,7 +29,8 @@ fn are_digits(bytes: &[u8]) -> bool
 
 /// The number that a text spells, where it is one from low to high.
 pub fn within(text: &str, low: u64, high: u64) -> Option<u64>
-    ensures { result ≡ within_by low high (natural text.now) }
+    ensures value { result ≡ within_by low high (natural text.now) }
+    ensures range { IfSome result (λ n. (low ≤ n) × (n ≤ high)) }
 {
     if !is_numeral(text.as_bytes()) {
         return None;
@@ -42,7 +43,8 @@ pub fn within(text: &str, low: u64, high: u64) -> Option<u64>
 
 /// The number, where it is one from low to high.
 fn between(number: u64, low: u64, high: u64) -> Option<u64>
-    ensures { result ≡ within_by low high (Some number) }
+    ensures value { result ≡ within_by low high (Some number) }
+    ensures range { IfSome result (λ n. (low ≤ n) × (n ≤ high)) }
 {
     if low <= number && number <= high {
         Some(number)
@@ -53,7 +55,9 @@ fn between(number: u64, low: u64, high: u64) -> Option<u64>
 
 /// The integer that a text spells, with a `-` where it is negative, where its magnitude is at most 2^62.
 pub fn integer(text: &str) -> Option<i64>
-    ensures { result ≡ integer_by (2 ^ 62) text.now }
+    ensures value { result ≡ integer_by (2 ^ 62) text.now }
+    ensures low { IfSome result (λ x. neg_ℤ (pos (2 ^ 62)) ≤ℤ x) }
+    ensures high { IfSome result (λ x. x ≤ℤ pos (2 ^ 62)) }
 {
     match text.strip_prefix('-') {
         Some(digits) => negative(within(digits, 1, LIMIT as u64)),
@@ -64,7 +68,9 @@ pub fn integer(text: &str) -> Option<i64>
 /// The number as an integer.
 fn positive(number: Option<u64>) -> Option<i64>
     requires { IfSome number (λ n. n ≤ 2 ^ 62) }
-    ensures { result ≡ option_map (λ n. pos n) number }
+    ensures value { result ≡ option_map (λ n. pos n) number }
+    ensures low { IfSome result (λ x. neg_ℤ (pos (2 ^ 62)) ≤ℤ x) }
+    ensures high { IfSome result (λ x. x ≤ℤ pos (2 ^ 62)) }
 {
     match number {
         Some(n) => Some(n as i64),
@@ -75,7 +81,9 @@ fn positive(number: Option<u64>) -> Option<i64>
 /// Its negative.
 fn negative(number: Option<u64>) -> Option<i64>
     requires { IfSome number (λ n. n ≤ 2 ^ 62) }
-    ensures { result ≡ option_map (λ n. neg_ℤ (pos n)) number }
+    ensures value { result ≡ option_map (λ n. neg_ℤ (pos n)) number }
+    ensures low { IfSome result (λ x. neg_ℤ (pos (2 ^ 62)) ≤ℤ x) }
+    ensures high { IfSome result (λ x. x ≤ℤ pos (2 ^ 62)) }
 {
     match number {
         Some(n) => Some(-(n as i64)),

@@ -1,18 +1,21 @@
 // Words as a command: its name, and then the values of its keys.
-ghost use Rattle.std.specs.Prelude.{◌≡◌, ◌<◌, ◌^◌, [], ◌∷◌, map, string_bytes, Some, None, MatchResult};
-ghost use Rattle.lrp_words.specs.Commands.{ask_of, cap_of, check_of, command, decide_of, end_of, explain_of, file as file_by, json_of as is_json_by, limit_of, list_of, number_in as number_by, number_or as number_or_by, over, sample_of, task_of, tasks_of, after_text};
+ghost use Rattle.std.specs.Prelude.{◌≡◌, ◌<◌, ◌≤◌, ◌^◌, [], ◌∷◌, map, string_bytes, Some, None, IfOk, IfSome, MatchResult};
+ghost use Rattle.lrp_words.specs.Commands.{ask_keys, ask_of, cap_of, check_keys, check_of, civil_of, command, decide_keys, decide_of, end_of, explain_keys, explain_of, flag_of, file as file_by, json_of as is_json_by, limit_of, list_keys, list_of, number_in as number_by, number_or as number_or_by, over, sample_keys, sample_of, task_of, tasks_of, after_text};
 ghost use Rattle.lrp_words.specs.Entries.{value_for as value_by};
+ghost use Rattle.lrp_words.specs.Ranges.{IsInRange, IsEnd};
 
 use crate::command::{Command, Usage};
 use crate::entries::{are_given, value};
 use crate::keys::Key;
 use crate::numbers::{integer, within};
+use lrp_civil::minute_of;
 
 /// The command that the words after the program's name spell, or `Usage` where they spell none.
 ///
 /// The first word is the command's name. Every other is `key=value`, cut at its first `=`, in any order; each key is one of the command's, and stands at most once.
 pub fn read_words(words: &[String]) -> Result<Command<'_>, Usage>
-    ensures { MatchResult result (λ found. command (map string_bytes words.now) ≡ Some (task_of found)) (λ _. command (map string_bytes words.now) ≡ None) }
+    ensures command { MatchResult result (λ found. command (map string_bytes words.now) ≡ Some (task_of found)) (λ _. command (map string_bytes words.now) ≡ None) }
+    ensures range { IfOk result (λ found. IsInRange (task_of found)) }
 {
     let [name, words @ ..] = words else {
         return Err(Usage);
@@ -25,7 +28,8 @@ pub fn read_words(words: &[String]) -> Result<Command<'_>, Usage>
 
 /// The command of a name from the words behind it.
 fn named<'a>(name: &str, words: &'a [String]) -> Option<Command<'a>>
-    ensures { tasks_of result ≡ command (name.now ∷ map string_bytes words.now) }
+    ensures task { tasks_of result ≡ command (name.now ∷ map string_bytes words.now) }
+    ensures range { IfSome result (λ found. IsInRange (task_of found)) }
 {
     match name {
         "ask" => ask(words),
@@ -39,33 +43,38 @@ fn named<'a>(name: &str, words: &'a [String]) -> Option<Command<'a>>
 }
 
 fn ask(words: &[String]) -> Option<Command<'_>>
-    ensures { tasks_of result ≡ over (Key.Db ∷ Key.Query ∷ Key.Cap ∷ []) (map string_bytes words.now) (ask_of (map string_bytes words.now)) }
+    ensures task { tasks_of result ≡ over ask_keys (map string_bytes words.now) (ask_of (map string_bytes words.now)) }
+    ensures range { IfSome result (λ found. IsInRange (task_of found)) }
 {
-    if !are_given(&[Key::Db, Key::Query, Key::Cap], words) {
+    if !are_given(&[Key::Db, Key::Query, Key::Cap, Key::Civil], words) {
         return None;
     }
     Some(Command::Ask {
         db: file(Key::Db, words)?,
         query: file(Key::Query, words)?,
         cap: cap(words)?,
+        civil: civil(words)?,
     })
 }
 
 fn decide(words: &[String]) -> Option<Command<'_>>
-    ensures { tasks_of result ≡ over (Key.Db ∷ Key.Query ∷ Key.Cap ∷ []) (map string_bytes words.now) (decide_of (map string_bytes words.now)) }
+    ensures task { tasks_of result ≡ over decide_keys (map string_bytes words.now) (decide_of (map string_bytes words.now)) }
+    ensures range { IfSome result (λ found. IsInRange (task_of found)) }
 {
-    if !are_given(&[Key::Db, Key::Query, Key::Cap], words) {
+    if !are_given(&[Key::Db, Key::Query, Key::Cap, Key::Civil], words) {
         return None;
     }
     Some(Command::Decide {
         db: file(Key::Db, words)?,
         query: file(Key::Query, words)?,
         cap: cap(words)?,
+        civil: civil(words)?,
     })
 }
 
 fn list(words: &[String]) -> Option<Command<'_>>
-    ensures { tasks_of result ≡ over (Key.Db ∷ Key.Query ∷ Key.From ∷ Key.To ∷ Key.Limit ∷ Key.After ∷ Key.Form ∷ Key.Cap ∷ []) (map string_bytes words.now) (list_of (map string_bytes words.now)) }
+    ensures task { tasks_of result ≡ over list_keys (map string_bytes words.now) (list_of (map string_bytes words.now)) }
+    ensures range { IfSome result (λ found. IsInRange (task_of found)) }
 {
     let keys = [
         Key::Db,
@@ -76,47 +85,55 @@ fn list(words: &[String]) -> Option<Command<'_>>
         Key::After,
         Key::Form,
         Key::Cap,
+        Key::Civil,
     ];
     if !are_given(&keys, words) {
         return None;
     }
+    let civil = civil(words)?;
     Some(Command::List {
         db: file(Key::Db, words)?,
         query: file(Key::Query, words)?,
-        from: end(Key::From, words)?,
-        to: end(Key::To, words)?,
+        from: end(Key::From, civil, words)?,
+        to: end(Key::To, civil, words)?,
         limit: limit(words)?,
         after: value(Key::After, words),
         json: is_json(words)?,
         cap: cap(words)?,
+        civil,
     })
 }
 
 fn explain(words: &[String]) -> Option<Command<'_>>
-    ensures { tasks_of result ≡ over (Key.Db ∷ Key.Query ∷ []) (map string_bytes words.now) (explain_of (map string_bytes words.now)) }
+    ensures task { tasks_of result ≡ over explain_keys (map string_bytes words.now) (explain_of (map string_bytes words.now)) }
+    ensures range { IfSome result (λ found. IsInRange (task_of found)) }
 {
-    if !are_given(&[Key::Db, Key::Query], words) {
+    if !are_given(&[Key::Db, Key::Query, Key::Civil], words) {
         return None;
     }
     Some(Command::Explain {
         db: file(Key::Db, words)?,
         query: file(Key::Query, words)?,
+        civil: civil(words)?,
     })
 }
 
 fn check(words: &[String]) -> Option<Command<'_>>
-    ensures { tasks_of result ≡ over (Key.Db ∷ []) (map string_bytes words.now) (check_of (map string_bytes words.now)) }
+    ensures task { tasks_of result ≡ over check_keys (map string_bytes words.now) (check_of (map string_bytes words.now)) }
+    ensures range { IfSome result (λ found. IsInRange (task_of found)) }
 {
-    if !are_given(&[Key::Db], words) {
+    if !are_given(&[Key::Db, Key::Civil], words) {
         return None;
     }
     Some(Command::Check {
         db: file(Key::Db, words)?,
+        civil: civil(words)?,
     })
 }
 
 fn sample(words: &[String]) -> Option<Command<'_>>
-    ensures { tasks_of result ≡ over (Key.Seed ∷ Key.Size ∷ []) (map string_bytes words.now) (sample_of (map string_bytes words.now)) }
+    ensures task { tasks_of result ≡ over sample_keys (map string_bytes words.now) (sample_of (map string_bytes words.now)) }
+    ensures range { IfSome result (λ found. IsInRange (task_of found)) }
 {
     if !are_given(&[Key::Seed, Key::Size], words) {
         return None;
@@ -137,7 +154,8 @@ fn file(key: Key, words: &[String]) -> Option<&str>
 
 /// A number from low to high.
 fn number(key: Key, words: &[String], low: u32, high: u32) -> Option<u32>
-    ensures { result ≡ number_by low high (value_by key (map string_bytes words.now)) }
+    ensures value { result ≡ number_by low high (value_by key (map string_bytes words.now)) }
+    ensures range { IfSome result (λ n. (low ≤ n) × (n ≤ high)) }
 {
     let text = value(key, words)?;
     let number = within(text, u64::from(low), u64::from(high))?;
@@ -168,12 +186,36 @@ fn limit(words: &[String]) -> Option<u32>
     number_or(Key::Limit, words, 1000, 1, 1_000_000)
 }
 
-/// An end of the window.
-fn end(key: Key, words: &[String]) -> Option<i64>
-    ensures { result ≡ end_of (value_by key (map string_bytes words.now)) }
+/// An end of the window: a number, or a date where times are civil ones.
+fn end(key: Key, civil: bool, words: &[String]) -> Option<i64>
+    ensures value { result ≡ end_of civil (value_by key (map string_bytes words.now)) }
+    ensures end { IfSome result (IsEnd civil) }
 {
     let text = value(key, words)?;
-    integer(text)
+    if civil {
+        minute_of(text)
+    } else {
+        integer(text)
+    }
+}
+
+/// Whether times are civil ones.
+fn civil(words: &[String]) -> Option<bool>
+    ensures { result ≡ civil_of (map string_bytes words.now) }
+{
+    flag(Key::Civil, words)
+}
+
+/// Whether the value of a key is `yes`.
+fn flag(key: Key, words: &[String]) -> Option<bool>
+    ensures { result ≡ flag_of (value_by key (map string_bytes words.now)) }
+{
+    match value(key, words) {
+        None => Some(false),
+        Some("no") => Some(false),
+        Some("yes") => Some(true),
+        Some(_) => None,
+    }
 }
 
 /// Whether the page is to be in JSON.

@@ -4,6 +4,6 @@ use Rattle.std.specs.Prelude.{pos, option_map}
 use Rattle.lrp_words.proofs.NumberLemmas.{without_minus}
 use Rattle.lrp_words.proofs.numbers.integer.Goals as goal
 
-pub returns-in-None : goal.returns-in-None
+pub returns-in-None-clause-value : goal.returns-in-None-clause-value
 unfolding lib.Utf8.encode
-returns-in-None c = c.positive.ensures ∙ ap (option_map (λ n. pos n)) c.within-in-None.ensures ∙ sym (without_minus (2 ^ 62) c.args.text.now c.in-None.ensures.cases)
+returns-in-None-clause-value c = c.positive.ensures.value ∙ ap (option_map (λ n. pos n)) c.within-in-None.ensures.value ∙ sym (without_minus (2 ^ 62) c.args.text.now c.in-None.ensures.cases)

@@ -1,0 +1,22 @@
+-- The numbers of tasks, within their ranges.
+use Rattle.std.specs.Prelude.{◌≤◌, ◌≤ℤ◌, ◌^◌, ℤ, pos, neg_ℤ, Bool, true, false}
+use Rattle.lrp_civil.specs.Moments.{IsCivilMinute}
+use Rattle.lrp_words.specs.Commands.{Task}
+use Rattle.lrp_words.specs.Commands.Task.{list, sample}
+
+-- where times are civil ones, a minute of the years 1 to 9999
+abbrev pub IsMinuteWhere : Bool → ℤ → Type 0
+IsMinuteWhere false x = Unit {0}
+IsMinuteWhere true x = IsCivilMinute x
+
+-- an end of a window: its magnitude is at most 2^62, and where times are civil ones it is a minute of the years 1 to 9999
+pub record IsEnd (civil : Bool) (x : ℤ) : Type 0 where
+  pub low : neg_ℤ (pos (2 ^ 62)) ≤ℤ x
+  pub high : x ≤ℤ pos (2 ^ 62)
+  pub minute : IsMinuteWhere civil x
+
+-- the numbers of a task that has a window, a seed or a size
+abbrev pub IsInRange : Task → Type 0
+IsInRange (list database query from to limit after json cap civil) = IsEnd civil from × IsEnd civil to
+IsInRange (sample seed size) = (seed ≤ 1000000) × (1 ≤ size) × (size ≤ 500)
+IsInRange _ = Unit {0}
