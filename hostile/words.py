@@ -173,9 +173,6 @@ def sample_lines(seed, size):
 
 
 def samples(program, tally, few=False):
-    if program.run("sample", "seed=0", "size=1", statuses=range(10))[0] == 9:
-        print("sample: it is not built")
-        return
     chance = random.Random(3)
     sizes = (1, 2, 3, 10, 20) if few else (1, 2, 3, 4, 5, 7, 10, 13, 20, 30, 40, 60, 100, 500)
     for size in sizes:

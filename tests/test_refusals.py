@@ -154,7 +154,7 @@ class Explained(unittest.TestCase):
 
     def test_no_kind_is_left_out(self):
         tested = {heading_of(case.line) for case in DATABASE + QUERY + OTHERS}
-        others = {"refused: usage", "refused: memory", "refused: unbuilt", "no line, status 7"}
+        others = {"refused: usage", "refused: memory", "no line, status 7"}
         self.assertEqual(tested | others, {entry.heading for entry in read_catalogue()})
 
     def test_each_entry_is_one_sentence_and_what_to_do(self):
@@ -164,11 +164,10 @@ class Explained(unittest.TestCase):
 
     def test_what_a_program_may_say_of_the_machine(self):
         with tempfile.TemporaryDirectory() as name:
-            for line, status in (("refused: memory", 8), ("refused: unbuilt", 9)):
-                program = fake(Path(name), f"echo '{line}'\nexit {status}\n")
-                told = run("check", "db=a", explain="always", FIZHEDUL_PROGRAM=str(program))
-                self.assertEqual((told.status, told.out), (status, line + "\n"))
-                self.assertIn(sentences_of(line)[0], " ".join(told.err.split()))
+            program = fake(Path(name), "echo 'refused: memory'\nexit 8\n")
+            told = run("check", "db=a", explain="always", FIZHEDUL_PROGRAM=str(program))
+            self.assertEqual((told.status, told.out), (8, "refused: memory\n"))
+            self.assertIn(sentences_of("refused: memory")[0], " ".join(told.err.split()))
 
     def test_an_output_that_can_not_be_written(self):
         words = [support.LAUNCHER, "check", "db=examples/bus/bus.lrp"]

@@ -158,7 +158,6 @@ fn statuses_have_their_numbers(rt: HostRuntime) {
         (Status::Read, 6),
         (Status::Write, 7),
         (Status::Memory, 8),
-        (Status::Unbuilt, 9),
     ];
     for (status, number) in table {
         assert_eq!(rt; status.code(), number, "{status:?}");

@@ -30,7 +30,7 @@ LieIn M K n cell vs f = (env : Assignment) → Satisfies f M env → HasSome (Li
 
 -- ---- cells in which one assignment lies are one
 
-one_residue : (K : ℕ) (r s x : ℤ) → pos 0 ≤ℤ r → r <ℤ pos K → pos 0 ≤ℤ s → s <ℤ pos K → IsMember r (pos K) x → IsMember s (pos K) x → r ≡ s
+pub one_residue : (K : ℕ) (r s x : ℤ) → pos 0 ≤ℤ r → r <ℤ pos K → pos 0 ≤ℤ s → s <ℤ pos K → IsMember r (pos K) x → IsMember s (pos K) x → r ≡ s
 one_residue K r s x rl rh sl sh rm sm =
     let d : Divides (pos K) (r -ℤ s) = Divides-is (pos K) ((x -ℤ s) -ℤ (x -ℤ r)) (r -ℤ s) (omega (arith, ints)) (Divides-- (pos K) (x -ℤ s) (x -ℤ r) sm rm) in
     let z : r -ℤ s ≡ pos 0 = small_multiple K (r -ℤ s) d (omega (arith, ints)) (omega (arith, ints)) in

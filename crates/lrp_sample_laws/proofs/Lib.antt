@@ -3,3 +3,4 @@ pub mod FormCells
 pub mod Days
 pub mod TripCells
 pub mod PlanCells
+pub mod FirstDay

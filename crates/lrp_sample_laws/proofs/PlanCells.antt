@@ -67,10 +67,10 @@ module _ (seed size : ℕ) where
   u_lies f = dropped (world seed size) 1440 (16 * size) (numbered (own_cell seed)) (codes "u") Time less_variables (less f) (less_lies f)
 
   -- the body, over the head's variables and then its own, which are the same
-  abbrev twice : List Variable
+  abbrev pub twice : List Variable
   twice = time_variable (codes "t") ∷ data_variable (codes "l") ∷ time_variable (codes "t") ∷ data_variable (codes "l") ∷ []
 
-  head_lies : LiesByTrip own_cell seed size twice sample_question.body
+  pub head_lies : LiesByTrip own_cell seed size twice sample_question.body
   head_lies =
       widened (world seed size) 1440 (16 * size) (numbered (own_cell seed)) (head_variables sample_question.head) twice sample_question.body (λ env c h. (h.0, (h.1.0, (h.0, (h.1.0, tt)))))
       (u_lies some_leaves)

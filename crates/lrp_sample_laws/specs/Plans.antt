@@ -1,9 +1,12 @@
 -- The plan of the sample: its steps, and how much they need.
-use Rattle.std.specs.Prelude.{ℕ, ◌≤◌, List, [], ◌∷◌, map, codes}
+use Rattle.std.specs.Prelude.{ℕ, ◌≤◌, pos, List, [], ◌∷◌, map, codes}
 use Rattle.lrp_model.specs.Texts.{Identifier}
 use Rattle.lrp_model.specs.Periods.{period}
 use Rattle.lrp_model.specs.Plans.{plan, scaled_reach, IsWithinLimits}
 use Rattle.lrp_model.specs.Caps.{ManyAt}
+use Rattle.lrp_model.specs.Order.{InWindow}
+use Rattle.lrp_model.specs.Pages.{Tuple}
+use Rattle.lrp_model.specs.Satisfaction.{IsAnswer}
 use Rattle.lrp_model.specs.declared.formulas.Op.TheVariants.{Le}
 use Rattle.lrp_model.specs.declared.formulas.DataTerm.TheVariants.{Var as data_var}
 use Rattle.lrp_model.specs.declared.formulas.Term.TheVariants.{Time as time_term, Data as data_term}
@@ -54,3 +57,8 @@ IsSampleWithinLimits seed size = IsWithinLimits (sample_relations seed size) sam
 -- no step of the plan has more inhabited cells than the cap
 abbrev pub HasAtMostCells : ℕ → ℕ → ℕ → Type 0
 HasAtMostCells seed size cap = (s : ℕ) → ManyAt (sample_relations seed size) sample_question cap s → ⊥
+
+-- an answer of the sample within the minutes 0 to 1439
+pub record IsOfFirstDay (seed size : ℕ) (tuple : Tuple) : Type 0 where
+  pub is : IsAnswer (sample_relations seed size) sample_question tuple
+  pub inside : InWindow (pos 0) (pos 1439) tuple

@@ -1,6 +1,8 @@
 // What holds of the sample's plan: each law is the contract of a function that does nothing.
-ghost use Rattle.std.specs.Prelude.{◌≡◌, ◌≤◌, ◌*◌, ℕ};
-ghost use Rattle.lrp_sample_laws.specs.Plans.{IsSampleSize, planned_kinds, sample_kinds, sample_period, sample_reach, IsSampleWithinLimits, HasAtMostCells};
+ghost use Rattle.std.specs.Prelude.{◌≡◌, ◌≤◌, ◌*◌, ℕ, List, length};
+ghost use Rattle.std.specs.List.{AllByRecursion};
+ghost use Rattle.lrp_model.specs.Pages.{Rises, Tuple};
+ghost use Rattle.lrp_sample_laws.specs.Plans.{IsSampleSize, planned_kinds, sample_kinds, sample_period, sample_reach, IsOfFirstDay, IsSampleWithinLimits, HasAtMostCells};
 
 /// The plan has the same steps for all trips. Its period is a day, and so it is within the limits.
 pub fn sample_is_within_limits()
@@ -14,4 +16,11 @@ pub fn sample_is_within_limits()
 pub fn sample_has_few_cells()
     ensures few { (seed size : ℕ) → IsSampleSize size → HasAtMostCells seed size (16 * size) }
     ensures default { (seed size : ℕ) → IsSampleSize size → HasAtMostCells seed size 1000000 }
+{}
+
+/// An answer of a day is the departure of a trip with its line. So no list of answers of the first day that rises is longer
+/// than 16 for each trip.
+pub fn sample_has_few_answers()
+    ensures { (seed size : ℕ) (page : List Tuple)
+        → Rises page → AllByRecursion (IsOfFirstDay seed size) page → length page ≤ 16 * size }
 {}

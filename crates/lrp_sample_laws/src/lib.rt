@@ -3,4 +3,4 @@
 
 mod laws;
 
-pub use laws::{sample_has_few_cells, sample_is_within_limits};
+pub use laws::{sample_has_few_answers, sample_has_few_cells, sample_is_within_limits};

@@ -1,5 +1,5 @@
 -- Bytes that may be those of a file, and why there are none.
-use Rattle.std.proofs.Common.{◌≡◌, ℕ, zero, suc, ◌<◌, ◌≤◌, List, [], ◌∷◌, length, true, Option, Some, None, Result, Err, arith, refl, ap}
+use Rattle.std.proofs.Common.{◌≡◌, ℕ, zero, suc, ◌<◌, ◌≤◌, List, [], ◌∷◌, length, Bool, true, Option, Some, None, Result, Err, arith, refl, ap}
 use Rattle.lrp_io.specs.Causes.{Rose}
 use Rattle.lrp_io.specs.Files.{content_of}
 use Rattle.lrp_io.specs.declared.shelf.File.{File}
@@ -40,25 +40,25 @@ long_bytes None name h = let r = of_length 16777217 in (r.0, λ held e. absurd (
 long_bytes (Some held) name h = (content_of held name, (λ other e. ap (λ k. content_of k name) (same_held held other e)), h held refl)
 
 -- what is so of bytes, whatever is seen, is so of those of a file
-pub read_of : (seen : ShelfSeen) (name : Identifier) (bytes : List ℕ) (result : Result (Source (List Relation)) Refusal) → AreBytesOf seen name bytes → ((s : ShelfSeen) (n : Identifier) → IsDatabaseReadOf s n bytes result) → IsDatabaseRead seen name result
-read_of seen name bytes result told each = record { bytes = bytes; told = told; is = each seen name }
+pub read_of : (civil : Bool) (seen : ShelfSeen) (name : Identifier) (bytes : List ℕ) (result : Result (Source (List Relation)) Refusal) → AreBytesOf seen name bytes → ((s : ShelfSeen) (n : Identifier) → IsDatabaseReadOf civil s n bytes result) → IsDatabaseRead civil seen name result
+read_of civil seen name bytes result told each = record { bytes = bytes; told = told; is = each seen name }
 
 pub asked_of : (db : List Relation) (seen : ShelfSeen) (name : Identifier) (bytes : List ℕ) (result : Result (Source Question) Refusal) → AreBytesOf seen name bytes → ((s : ShelfSeen) (n : Identifier) → IsQueryReadOf db s n bytes result) → IsQueryRead db seen name result
 asked_of db seen name bytes result told each = record { bytes = bytes; told = told; is = each seen name }
 
 -- a database or a query that is too long
-pub long_database : (seen : ShelfSeen) (name : Identifier) → ((held : List File) → seen.files ≡ Some held → 16777216 < length (content_of held name)) → seen.may_be name ≡ true → 16777216 < seen.given → IsDatabaseRead seen name (Err LongDatabase)
-long_database seen name h named many = let l = long_bytes seen.files name h in record { bytes = l.0; told = l.1; is = (l.2, record { named = named; many = many }) }
+pub long_database : (civil : Bool) (seen : ShelfSeen) (name : Identifier) → ((held : List File) → seen.files ≡ Some held → 16777216 < length (content_of held name)) → seen.may_be name ≡ true → 16777216 < seen.given → IsDatabaseRead civil seen name (Err LongDatabase)
+long_database civil seen name h named many = let l = long_bytes seen.files name h in record { bytes = l.0; told = l.1; is = (l.2, record { named = named; many = many }) }
 
 pub long_query : (relations : List Relation) (seen : ShelfSeen) (name : Identifier) → ((held : List File) → seen.files ≡ Some held → 16777216 < length (content_of held name)) → seen.may_be name ≡ true → 16777216 < seen.given → IsQueryRead relations seen name (Err LongQuery)
 long_query relations seen name h named many = let l = long_bytes seen.files name h in record { bytes = l.0; told = l.1; is = (l.2, record { named = named; many = many }) }
 
 -- a file that was not read, and want of memory
-pub unread_database : (seen : ShelfSeen) (name : Identifier) → Rose (seen.faults_before name) (seen.faults name) → IsDatabaseRead seen name (Err ReadDatabase)
-unread_database seen name rose = let b = some_bytes seen.files name in record { bytes = b.0; told = b.1; is = rose }
+pub unread_database : (civil : Bool) (seen : ShelfSeen) (name : Identifier) → Rose (seen.faults_before name) (seen.faults name) → IsDatabaseRead civil seen name (Err ReadDatabase)
+unread_database civil seen name rose = let b = some_bytes seen.files name in record { bytes = b.0; told = b.1; is = rose }
 
-pub no_memory : (seen : ShelfSeen) (name : Identifier) → IsDatabaseRead seen name (Err Memory)
-no_memory seen name = let b = some_bytes seen.files name in record { bytes = b.0; told = b.1; is = tt }
+pub no_memory : (civil : Bool) (seen : ShelfSeen) (name : Identifier) → IsDatabaseRead civil seen name (Err Memory)
+no_memory civil seen name = let b = some_bytes seen.files name in record { bytes = b.0; told = b.1; is = tt }
 
 -- the same of a query
 pub unread_query : (relations : List Relation) (seen : ShelfSeen) (name : Identifier) → Rose (seen.faults_before name) (seen.faults name) → IsQueryRead relations seen name (Err ReadQuery)

@@ -1,5 +1,6 @@
 -- Lemmas on texts, on files, on steps, on questions, on what can be planned and on sorted numbers.
 pub mod Answered
+pub mod CivilSpots
 pub mod FileLemmas
 pub mod HeadCounts
 pub mod KeptTexts
@@ -7,7 +8,8 @@ pub mod LineLemmas
 pub mod Listed
 pub mod Plannable
 pub mod QuestionLemmas
+pub mod ReadingLemmas
 pub mod ResumeLemmas
 pub mod RoomLemmas
+pub mod SampleLemmas
 pub mod StepLemmas
-pub mod WordEnds

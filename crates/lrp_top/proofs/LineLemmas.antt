@@ -13,7 +13,7 @@ use Rattle.lrp_top.specs.Seen.{SinkSeen}
 use Rattle.lrp_top.specs.declared.status.Status.{Status}
 use Rattle.lrp_top.specs.declared.status.Status.TheVariants as status
 use Rattle.lrp_top.specs.declared.outcome.Refusal.{Refusal}
-use Rattle.lrp_top.specs.declared.outcome.Refusal.TheVariants.{Usage, ReadDatabase, LongDatabase, Database, ReadQuery, LongQuery, Query, PeriodLimit, BoundLimit, TokenForm, TokenShape, TokenStale, Cells, Memory, Unbuilt}
+use Rattle.lrp_top.specs.declared.outcome.Refusal.TheVariants.{Usage, ReadDatabase, LongDatabase, Database, ReadQuery, LongQuery, Query, PeriodLimit, BoundLimit, TokenForm, TokenShape, TokenStale, Cells, Memory}
 
 -- the seven pieces of the line of a fault
 pub fault_pieces : (whose kind : List ℕ) (place : Place) (a b c d e g h : List ℕ) → a ≡ whose → b ≡ kind → c ≡ codes " at " → d ≡ decimal place.line → e ≡ codes ":" → g ≡ decimal place.column → h ≡ codes "\n"
@@ -50,7 +50,6 @@ refused_whole TokenShape e = cc
 refused_whole TokenStale e = cc
 refused_whole (Cells cap step) e = cc
 refused_whole Memory e = cc
-refused_whole Unbuilt e = cc
 
 -- nor has any outcome
 not_write : (outcome : Outcome) → status_of outcome ≡ status.Write → ⊥

@@ -9,7 +9,7 @@ use Rattle.lrp_model.specs.Lexing.{greatest_number}
 use Rattle.lrp_model.specs.Formulas.{Question}
 use Rattle.lrp_model.specs.Pages.{IsPage, Tuple, last_of}
 use Rattle.lrp_model.specs.Plans.{time_columns}
-use Rattle.lrp_model.specs.PrintedPages.{answer_line, page_bytes, token_behind, token_of, token_text}
+use Rattle.lrp_model.specs.PrintedPages.{token_behind, token_of, token_text}
 use Rattle.lrp_model.specs.Rows.{times_of}
 use Rattle.lrp_model.specs.Satisfaction.{IsAnswer}
 use Rattle.lrp_model.specs.Sorts.{same_sort, is_data}
@@ -32,7 +32,7 @@ use Rattle.lrp_token.specs.Spots.{spot_token}
 use Rattle.lrp_top.specs.Known.{HasTimes, IsKnown, IsStanding, tuple_of}
 use Rattle.lrp_top.specs.Outputs.{page_text}
 use Rattle.lrp_top.specs.Resuming.{data_columns, shape_of}
-use Rattle.lrp_top.specs.Telling.{TellsPage}
+use Rattle.lrp_top.specs.Telling.{TellsPage, line_as, listed_bytes}
 use Rattle.lrp_top.specs.declared.page.Page.{Page}
 use Rattle.lrp_top.proofs.Answered.{same_page, texts_known}
 use Rattle.lrp_model.specs.Tuples.{texts_at}
@@ -129,9 +129,9 @@ token_is a files spot valid times texts =
 
 -- ---- lines
 
-pub lines_mapped : (json : Bool) (f : Spot → Tuple) (spots : List Spot) → flat_map (λ spot. answer_line json (f spot)) spots ≡ flat_map (answer_line json) (map f spots)
-lines_mapped json f [] = refl
-lines_mapped json f (x ∷ xs) = ap (λ bytes. answer_line json (f x) ++ bytes) (lines_mapped json f xs)
+pub lines_mapped : (civil json : Bool) (f : Spot → Tuple) (spots : List Spot) → flat_map (λ spot. line_as civil json (f spot)) spots ≡ flat_map (line_as civil json) (map f spots)
+lines_mapped civil json f [] = refl
+lines_mapped civil json f (x ∷ xs) = ap (λ bytes. line_as civil json (f x) ++ bytes) (lines_mapped civil json f xs)
 
 pub is_more : (files : List ℕ) (more : Bool) (last : Option Tuple) (tuple : Tuple) → more ≡ true → last ≡ Some tuple → token_behind files more last ≡ Some (token_of files tuple)
 is_more files more last tuple e f = ap₂ (token_behind files) e f
@@ -139,16 +139,17 @@ is_more files more last tuple e f = ap₂ (token_behind files) e f
 -- ---- the page that is told
 
 -- the page of the answers is the query's
-pub told_page : (db : List Relation) (q : Question) (cap : ℕ) (a : Answer) (from to : ℤ) (begins : List Column → Option Tuple) (greatest_number : ℕ) (json : Bool) (files : List ℕ) (page : Page)
-    → IsAnswerOf db q cap a → page.answer ≡ a → is_json page.form ≡ json → page.files ≡ files
-    → IsPage (InAnswer a.head.columns a.domain a.store) from to (begins a.head.columns) greatest_number (map (tuple_of a) page.spots) page.more
-    → TellsPage db q from to (begins q.head) greatest_number json files (page_text page)
-told_page db q cap a from to begins greatest_number json files page is same form digest h = record {
+pub told_page : (db : List Relation) (q : Question) (cap : ℕ) (a : Answer) (from to : ℤ) (begins : List Column → Option Tuple) (limit : ℕ) (civil json : Bool) (files : List ℕ) (page : Page)
+    → IsAnswerOf db q cap a → page.answer ≡ a → page.civil ≡ civil → is_json page.form ≡ json → page.files ≡ files
+    → IsPage (InAnswer a.head.columns a.domain a.store) from to (begins a.head.columns) limit (map (tuple_of a) page.spots) page.more
+    → TellsPage db q from to (begins q.head) limit civil json files (page_text page)
+told_page db q cap a from to begins limit civil json files page is same dates form digest h = record {
   page = map (tuple_of a) page.spots;
   more = page.more;
-  is = subst (λ columns. IsPage (IsAnswer db q) from to (begins columns) greatest_number (map (tuple_of a) page.spots) page.more) is.head
-      (same_page (InAnswer a.head.columns a.domain a.store) (IsAnswer db q) is.answers from to (begins a.head.columns) greatest_number (map (tuple_of a) page.spots) page.more h);
-  spelled = ap (λ j. page_bytes j page.files (map (tuple_of page.answer) page.spots) page.more) form ∙ ap (λ d. page_bytes json d (map (tuple_of page.answer) page.spots) page.more) digest ∙ ap (λ b. page_bytes json files (map (tuple_of b) page.spots) page.more) same;
+  is = subst (λ columns. IsPage (IsAnswer db q) from to (begins columns) limit (map (tuple_of a) page.spots) page.more) is.head
+      (same_page (InAnswer a.head.columns a.domain a.store) (IsAnswer db q) is.answers from to (begins a.head.columns) limit (map (tuple_of a) page.spots) page.more h);
+  spelled = ap (λ c. listed_bytes c (is_json page.form) page.files (map (tuple_of page.answer) page.spots) page.more) dates ∙ ap (λ j. listed_bytes civil j page.files (map (tuple_of page.answer) page.spots) page.more) form
+      ∙ ap (λ d. listed_bytes civil json d (map (tuple_of page.answer) page.spots) page.more) digest ∙ ap (λ b. listed_bytes civil json files (map (tuple_of b) page.spots) page.more) same;
 }
 
 -- ---- counts of columns

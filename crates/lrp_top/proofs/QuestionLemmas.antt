@@ -1,5 +1,5 @@
 -- Questions: what is refused first, and what is due behind that.
-use Rattle.std.proofs.Common.{◌≡◌, ℕ, ◌≤◌, List, Option, Result, Ok, Err, arith, refl, sym, ◌∙◌, subst}
+use Rattle.std.proofs.Common.{◌≡◌, ℕ, ◌≤◌, Bool, List, Option, Result, Ok, Err, arith, refl, sym, ◌∙◌, subst}
 use Rattle.lrp_io.specs.Causes.{Rose}
 use Rattle.lrp_io.specs.declared.shelf.File.{File}
 use Rattle.lrp_model.specs.Formulas.{Question as Queried}
@@ -13,7 +13,7 @@ use Rattle.lrp_top.specs.Sources.{Source}
 use Rattle.lrp_top.specs.Steps.{Then}
 use Rattle.lrp_top.proofs.StepLemmas.{mapped, no_refusal, same_refusal}
 use Rattle.lrp_top.specs.declared.outcome.Refusal.{Refusal}
-use Rattle.lrp_top.specs.declared.outcome.Refusal.TheVariants.{Usage, ReadDatabase, LongDatabase, Database, ReadQuery, LongQuery, Query, PeriodLimit, BoundLimit, TokenForm, TokenShape, TokenStale, Cells, Memory, Unbuilt}
+use Rattle.lrp_top.specs.declared.outcome.Refusal.TheVariants.{Usage, ReadDatabase, LongDatabase, Database, ReadQuery, LongQuery, Query, PeriodLimit, BoundLimit, TokenForm, TokenShape, TokenStale, Cells, Memory}
 use Rattle.lrp_top.specs.declared.question.Question.{Question}
 
 -- a count that rose later rose
@@ -21,8 +21,8 @@ rose_later : (a b c : ℕ) → a ≤ b → Rose b c → Rose a c
 rose_later a b c l r = omega arith
 
 -- a database that was read is read, whatever is seen afterwards
-pub read_before : (middle seen : ShelfSeen) (name : Identifier) (database : Source (List Relation)) → IsDatabaseRead middle name (Ok database) → seen.files ≡ middle.files → IsDatabaseRead seen name (Ok database)
-read_before middle seen name database h e = record { bytes = h.bytes; told = λ held f. h.told held (sym e ∙ f); is = h.is }
+pub read_before : (civil : Bool) (middle seen : ShelfSeen) (name : Identifier) (database : Source (List Relation)) → IsDatabaseRead civil middle name (Ok database) → seen.files ≡ middle.files → IsDatabaseRead civil seen name (Ok database)
+read_before civil middle seen name database h e = record { bytes = h.bytes; told = λ held f. h.told held (sym e ∙ f); is = h.is }
 
 -- what is seen where other files are told and other counts of faults stood before
 abbrev pub since : Option (List File) → (Identifier → ℕ) → ShelfSeen → ShelfSeen
@@ -45,7 +45,6 @@ asked_of db seen files before name bytes (Err TokenShape) l h = h
 asked_of db seen files before name bytes (Err TokenStale) l h = h
 asked_of db seen files before name bytes (Err (Cells cap step)) l h = h
 asked_of db seen files before name bytes (Err Memory) l h = h
-asked_of db seen files before name bytes (Err Unbuilt) l h = h
 
 pub asked_since : (db : List Relation) (seen : ShelfSeen) (files : Option (List File)) (before : Identifier → ℕ) (name : Identifier) (result : Result (Source Queried) Refusal) → IsQueryRead db seen name result → files ≡ seen.files → before name ≤ seen.faults_before name → IsQueryRead db (since files before seen) name result
 asked_since db seen files before name result h e l = record {
@@ -55,25 +54,25 @@ asked_since db seen files before name result h e l = record {
 }
 
 -- where a database and a query over it were read, and the query was planned, the rest is due of them
-pub question_read : {B : Type 0} (seen : ShelfSeen) (database query : Identifier) (d : Source (List Relation)) (q : Source Queried) (p : Plan) (Next : Source (List Relation) → Source Queried → Plan → Result B Refusal → Type 0) (result : Result B Refusal)
-    → IsDatabaseRead seen database (Ok d) → IsQueryRead d.says seen query (Ok q) → IsPlanned d.says q.says (Ok p) → Next d q p result → IsPlannedFor seen database query Next result
-question_read seen database query d q p Next result r a planned n = record { first = Ok d; is = r; next = record { first = Ok q; is = a; next = record { first = Ok p; is = planned; next = n } } }
+pub question_read : {B : Type 0} (civil : Bool) (seen : ShelfSeen) (database query : Identifier) (d : Source (List Relation)) (q : Source Queried) (p : Plan) (Next : Source (List Relation) → Source Queried → Plan → Result B Refusal → Type 0) (result : Result B Refusal)
+    → IsDatabaseRead civil seen database (Ok d) → IsQueryRead d.says seen query (Ok q) → IsPlanned d.says q.says (Ok p) → Next d q p result → IsPlannedFor civil seen database query Next result
+question_read civil seen database query d q p Next result r a planned n = record { first = Ok d; is = r; next = record { first = Ok q; is = a; next = record { first = Ok p; is = planned; next = n } } }
 
 -- a query that was not planned is refused behind its database and its text
-pub plan_refused : {B : Type 0} (seen : ShelfSeen) (database query : Identifier) (d : Source (List Relation)) (q : Source Queried) (refusal : Refusal) (Next : Source (List Relation) → Source Queried → Plan → Result B Refusal → Type 0)
-    → IsDatabaseRead seen database (Ok d) → IsQueryRead d.says seen query (Ok q) → IsPlanned d.says q.says (Err refusal) → IsPlannedFor seen database query Next (Err refusal)
-plan_refused seen database query d q refusal Next r a planned = record { first = Ok d; is = r; next = record { first = Ok q; is = a; next = record { first = Err refusal; is = planned; next = refl } } }
+pub plan_refused : {B : Type 0} (civil : Bool) (seen : ShelfSeen) (database query : Identifier) (d : Source (List Relation)) (q : Source Queried) (refusal : Refusal) (Next : Source (List Relation) → Source Queried → Plan → Result B Refusal → Type 0)
+    → IsDatabaseRead civil seen database (Ok d) → IsQueryRead d.says seen query (Ok q) → IsPlanned d.says q.says (Err refusal) → IsPlannedFor civil seen database query Next (Err refusal)
+plan_refused civil seen database query d q refusal Next r a planned = record { first = Ok d; is = r; next = record { first = Ok q; is = a; next = record { first = Err refusal; is = planned; next = refl } } }
 
 -- a refused query is refused behind its database
-pub query_refused : {B : Type 0} (seen : ShelfSeen) (database query : Identifier) (d : Source (List Relation)) (refusal : Refusal) (Next : Source (List Relation) → Source Queried → Plan → Result B Refusal → Type 0)
-    → IsDatabaseRead seen database (Ok d) → IsQueryRead d.says seen query (Err refusal) → IsPlannedFor seen database query Next (Err refusal)
-query_refused seen database query d refusal Next r a = record { first = Ok d; is = r; next = record { first = Err refusal; is = a; next = refl } }
+pub query_refused : {B : Type 0} (civil : Bool) (seen : ShelfSeen) (database query : Identifier) (d : Source (List Relation)) (refusal : Refusal) (Next : Source (List Relation) → Source Queried → Plan → Result B Refusal → Type 0)
+    → IsDatabaseRead civil seen database (Ok d) → IsQueryRead d.says seen query (Err refusal) → IsPlannedFor civil seen database query Next (Err refusal)
+query_refused civil seen database query d refusal Next r a = record { first = Ok d; is = r; next = record { first = Err refusal; is = a; next = refl } }
 
 -- what is due of a plan is due of the question that was made of it
-pub question_due : {B : Type 0} (seen : ShelfSeen) (database query : Identifier) (question : Question) (Next : Source (List Relation) → Source Queried → Plan → Result B Refusal → Type 0) (result : Result B Refusal)
-    → IsPlannedFor seen database query IsMadeOf (Ok question) → Next (database_source question.database) (query_source question.query) question.plan result → IsPlannedFor seen database query Next result
-question_due {B} seen database query question Next result h n =
-    mapped (IsDatabaseRead seen database) (λ d. Then (IsQueryRead d.says seen query) (λ q. Then (IsPlanned d.says q.says) (IsMadeOf d q))) (λ d. Then (IsQueryRead d.says seen query) (λ q. Then (IsPlanned d.says q.says) (Next d q))) (Ok question) result
+pub question_due : {B : Type 0} (civil : Bool) (seen : ShelfSeen) (database query : Identifier) (question : Question) (Next : Source (List Relation) → Source Queried → Plan → Result B Refusal → Type 0) (result : Result B Refusal)
+    → IsPlannedFor civil seen database query IsMadeOf (Ok question) → Next (database_source question.database) (query_source question.query) question.plan result → IsPlannedFor civil seen database query Next result
+question_due {B} civil seen database query question Next result h n =
+    mapped (IsDatabaseRead civil seen database) (λ d. Then (IsQueryRead d.says seen query) (λ q. Then (IsPlanned d.says q.says) (IsMadeOf d q))) (λ d. Then (IsQueryRead d.says seen query) (λ q. Then (IsPlanned d.says q.says) (Next d q))) (Ok question) result
     (λ d. mapped (IsQueryRead d.says seen query) (λ q. Then (IsPlanned d.says q.says) (IsMadeOf d q)) (λ q. Then (IsPlanned d.says q.says) (Next d q)) (Ok question) result
     (λ q. mapped (IsPlanned d.says q.says) (IsMadeOf d q) (Next d q) (Ok question) result
     (λ p made.
@@ -86,9 +85,9 @@ question_due {B} seen database query question Next result h n =
     (λ refusal e. no_refusal question refusal e) h
 
 -- the refusal of a question is that of what is due
-pub refusal_due : {B : Type 0} (seen : ShelfSeen) (database query : Identifier) (refusal : Refusal) (Next : Source (List Relation) → Source Queried → Plan → Result B Refusal → Type 0) → IsPlannedFor seen database query IsMadeOf (Err refusal) → IsPlannedFor seen database query Next (Err refusal)
-refusal_due {B} seen database query refusal Next h =
-    mapped (IsDatabaseRead seen database) (λ d. Then (IsQueryRead d.says seen query) (λ q. Then (IsPlanned d.says q.says) (IsMadeOf d q))) (λ d. Then (IsQueryRead d.says seen query) (λ q. Then (IsPlanned d.says q.says) (Next d q))) (Err refusal) (Err refusal)
+pub refusal_due : {B : Type 0} (civil : Bool) (seen : ShelfSeen) (database query : Identifier) (refusal : Refusal) (Next : Source (List Relation) → Source Queried → Plan → Result B Refusal → Type 0) → IsPlannedFor civil seen database query IsMadeOf (Err refusal) → IsPlannedFor civil seen database query Next (Err refusal)
+refusal_due {B} civil seen database query refusal Next h =
+    mapped (IsDatabaseRead civil seen database) (λ d. Then (IsQueryRead d.says seen query) (λ q. Then (IsPlanned d.says q.says) (IsMadeOf d q))) (λ d. Then (IsQueryRead d.says seen query) (λ q. Then (IsPlanned d.says q.says) (Next d q))) (Err refusal) (Err refusal)
     (λ d. mapped (IsQueryRead d.says seen query) (λ q. Then (IsPlanned d.says q.says) (IsMadeOf d q)) (λ q. Then (IsPlanned d.says q.says) (Next d q)) (Err refusal) (Err refusal)
     (λ q. mapped (IsPlanned d.says q.says) (IsMadeOf d q) (Next d q) (Err refusal) (Err refusal) (λ p none. absurd none) (λ other e. same_refusal refusal other e))
     (λ other e. same_refusal refusal other e))

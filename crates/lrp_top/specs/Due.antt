@@ -1,67 +1,51 @@
 -- What is due for words: step by step, what comes of it and why it is refused; the first refusal stands.
-use Rattle.std.specs.Prelude.{◌≡◌, ◌⊎◌, ℕ, ℤ, Bool, ◌<◌, ◌≤◌, ◌^◌, List, [], ◌∷◌, length, map, Option, Some, None, Result, Ok, Err, String, string_bytes}
+use Rattle.std.specs.Prelude.{◌≡◌, ℕ, ℤ, Bool, ◌<◌, ◌≤◌, ◌^◌, List, [], ◌∷◌, length, map, Option, Some, None, Result, Ok, Err, String, string_bytes}
 use Rattle.std.specs.List.{AllByRecursion}
 use Rattle.std.specs.declared.alloc.Global.{Global}
 use Rattle.lrp_words.specs.Commands.{Task, command}
 use Rattle.lrp_words.specs.Commands.Task.{ask, decide, list, explain, check, sample}
 use Rattle.lrp_model.specs.AnswerTexts.{IsAnswerText}
 use Rattle.lrp_model.specs.Caps.{IsFirstMany, ManyAt}
-use Rattle.lrp_model.specs.Checked.{plain_question}
 use Rattle.lrp_model.specs.DatabaseReading.{IsDatabase, IsDatabaseFault}
 use Rattle.lrp_model.specs.Formulas.{Question}
 use Rattle.lrp_model.specs.Periods.{period}
 use Rattle.lrp_model.specs.Plans.{IsPlan, scaled_reach, IsWithinLimits}
-use Rattle.lrp_model.specs.QueryReading.{IsQuery, IsQueryFault}
-use Rattle.lrp_model.specs.RawQueries.{RawQuestion}
-use Rattle.lrp_model.specs.Sorting.{IsWellSorted, IsSortFault}
 use Rattle.lrp_model.specs.Texts.{Identifier, Text}
-use Rattle.lrp_model.specs.declared.faults.QueryFault.{QueryFault}
 use Rattle.lrp_model.specs.declared.plans.Plan.{Plan}
 use Rattle.lrp_model.specs.declared.relations.Relation.{Relation}
 use Rattle.lrp_token.specs.Files.{files_digest}
 use Rattle.lrp_top.specs.Outcomes.{Outcome, Ends}
 use Rattle.lrp_top.specs.Resuming.{IsResumed}
+use Rattle.lrp_top.specs.Sampled.{TellsSample}
 use Rattle.lrp_top.specs.Seen.{ShelfSeen, SinkSeen, HasFailed, IsOverrun}
 use Rattle.lrp_top.specs.Sources.{Source, FromFile}
 use Rattle.lrp_top.specs.Steps.{Then}
 use Rattle.lrp_top.specs.Telling.{TellsPage, TellsPlan, TellsRelations, TellsWitness}
+use Rattle.lrp_top.specs.Written.{IsFaulty, IsSorted, plain_if}
 use Rattle.lrp_top.specs.declared.outcome.Refusal.{Refusal}
-use Rattle.lrp_top.specs.declared.outcome.Refusal.TheVariants.{Usage, ReadDatabase, LongDatabase, Database, ReadQuery, LongQuery, Query, PeriodLimit, BoundLimit, Cells, Memory, Unbuilt}
+use Rattle.lrp_top.specs.declared.outcome.Refusal.TheVariants.{Usage, ReadDatabase, LongDatabase, Database, ReadQuery, LongQuery, Query, PeriodLimit, BoundLimit, Cells, Memory}
 use Rattle.lrp_top.specs.declared.status.Status.{Status}
 
 -- ---- the steps
 
--- the file of the database is read. Ok: its bytes, and the relations that they mean. Refused: its count of faults rose, it is too long, or its text has a fault; or want of memory
-abbrev pub IsDatabaseReadOf : ShelfSeen → Identifier → List ℕ → Result (Source (List Relation)) Refusal → Type 0
-IsDatabaseReadOf seen name bytes (Ok database) = (database.bytes ≡ bytes) × (length bytes ≤ 16777216) × IsDatabase bytes database.says
-IsDatabaseReadOf seen name bytes (Err ReadDatabase) = HasFailed seen name
-IsDatabaseReadOf seen name bytes (Err LongDatabase) = (16777216 < length bytes) × IsOverrun seen name
-IsDatabaseReadOf seen name bytes (Err (Database fault)) = (length bytes ≤ 16777216) × IsDatabaseFault bytes fault
-IsDatabaseReadOf seen name bytes (Err Memory) = Unit {0}
-IsDatabaseReadOf seen name bytes (Err _) = ⊥
+-- the file of the database is read. Ok: its bytes, and the relations that its text means. Refused: its count of faults rose, it is too long, or its text has a fault; or want of memory
+abbrev pub IsDatabaseReadOf : Bool → ShelfSeen → Identifier → List ℕ → Result (Source (List Relation)) Refusal → Type 0
+IsDatabaseReadOf civil seen name bytes (Ok database) = (database.bytes ≡ bytes) × (length bytes ≤ 16777216) × IsDatabase (plain_if civil bytes) database.says
+IsDatabaseReadOf civil seen name bytes (Err ReadDatabase) = HasFailed seen name
+IsDatabaseReadOf civil seen name bytes (Err LongDatabase) = (16777216 < length bytes) × IsOverrun seen name
+IsDatabaseReadOf civil seen name bytes (Err (Database fault)) = (length bytes ≤ 16777216) × IsDatabaseFault (plain_if civil bytes) fault
+IsDatabaseReadOf civil seen name bytes (Err Memory) = Unit {0}
+IsDatabaseReadOf civil seen name bytes (Err _) = ⊥
 
-abbrev pub IsDatabaseRead : ShelfSeen → Identifier → Result (Source (List Relation)) Refusal → Type 0
-IsDatabaseRead seen name = FromFile seen name (IsDatabaseReadOf seen name)
-
--- the bytes are a query that is well-sorted over the relations, and without its places it is this one
-pub record IsSorted (db : List Relation) (bytes : List ℕ) (q : Question) : Type 0 where
-  pub raw : RawQuestion
-  pub query : IsQuery bytes raw
-  pub sorted : IsWellSorted db raw
-  pub plain : q ≡ plain_question raw
-
--- the bytes are a query that has this sort fault over the relations
-pub record IsUnsortedBy (db : List Relation) (bytes : List ℕ) (fault : QueryFault) : Type 0 where
-  pub raw : RawQuestion
-  pub query : IsQuery bytes raw
-  pub unsorted : IsSortFault db raw fault
+abbrev pub IsDatabaseRead : Bool → ShelfSeen → Identifier → Result (Source (List Relation)) Refusal → Type 0
+IsDatabaseRead civil seen name = FromFile seen name (IsDatabaseReadOf civil seen name)
 
 -- the file of the query is read. Ok: its bytes, and the query that they say, well-sorted over the relations. Refused: its count of faults rose, it is too long, or its text or its sorts have a fault; or want of memory
 abbrev pub IsQueryReadOf : List Relation → ShelfSeen → Identifier → List ℕ → Result (Source Question) Refusal → Type 0
 IsQueryReadOf db seen name bytes (Ok query) = (query.bytes ≡ bytes) × (length bytes ≤ 16777216) × IsSorted db bytes query.says
 IsQueryReadOf db seen name bytes (Err ReadQuery) = HasFailed seen name
 IsQueryReadOf db seen name bytes (Err LongQuery) = (16777216 < length bytes) × IsOverrun seen name
-IsQueryReadOf db seen name bytes (Err (Query fault)) = (length bytes ≤ 16777216) × (IsQueryFault bytes fault ⊎ IsUnsortedBy db bytes fault)
+IsQueryReadOf db seen name bytes (Err (Query fault)) = (length bytes ≤ 16777216) × IsFaulty db bytes fault
 IsQueryReadOf db seen name bytes (Err Memory) = Unit {0}
 IsQueryReadOf db seen name bytes (Err _) = ⊥
 
@@ -104,35 +88,37 @@ abbrev pub IsDecided : ℕ → Source (List Relation) → Source Question → Pl
 IsDecided cap d q p = Then (IsCounted d.says q.says cap) (λ done. IsOutput (TellsWitness d.says q.says))
 
 -- the page begins where its token says, the cells are counted, and then the page of the window is told
-abbrev pub IsListed : ℤ → ℤ → ℕ → Option Text → Bool → ℕ → Source (List Relation) → Source Question → Plan → Outcome → Type 0
-IsListed from to limit after json cap d q p =
+abbrev pub IsListed : Bool → ℤ → ℤ → ℕ → Option Text → Bool → ℕ → Source (List Relation) → Source Question → Plan → Outcome → Type 0
+IsListed civil from to limit after json cap d q p =
     let files = files_digest d.bytes q.bytes in
-    Then (IsResumed files q.says.head after) (λ tuple. Then (IsCounted d.says q.says cap) (λ done. IsOutput (TellsPage d.says q.says from to tuple limit json files)))
+    Then (IsResumed files q.says.head after) (λ tuple. Then (IsCounted d.says q.says cap) (λ done. IsOutput (TellsPage d.says q.says from to tuple limit civil json files)))
 
 -- ---- what is due for a task
 
 -- a database is read, then a query over its relations, then the query is planned, and then this is due
-abbrev pub IsPlannedFor : {B : Type 0} → ShelfSeen → Identifier → Identifier → (Source (List Relation) → Source Question → Plan → Result B Refusal → Type 0) → Result B Refusal → Type 0
-IsPlannedFor seen database query Next result = Then (IsDatabaseRead seen database) (λ d. Then (IsQueryRead d.says seen query) (λ q. Then (IsPlanned d.says q.says) (Next d q))) result
+abbrev pub IsPlannedFor : {B : Type 0} → Bool → ShelfSeen → Identifier → Identifier → (Source (List Relation) → Source Question → Plan → Result B Refusal → Type 0) → Result B Refusal → Type 0
+IsPlannedFor civil seen database query Next result =
+    Then (IsDatabaseRead civil seen database) (λ d. Then (IsQueryRead d.says seen query) (λ q. Then (IsPlanned d.says q.says) (Next d q))) result
 
--- each task; `sample` is not built yet
+-- each task; the sample makes its own texts, and is refused for want of memory alone
 abbrev pub IsDueOf : Task → ShelfSeen → Outcome → Type 0
-IsDueOf (ask database query cap) seen outcome = IsPlannedFor seen database query (IsAnswered cap) outcome
-IsDueOf (decide database query cap) seen outcome = IsPlannedFor seen database query (IsDecided cap) outcome
-IsDueOf (list database query from to limit after json cap) seen outcome = IsPlannedFor seen database query (IsListed from to limit after json cap) outcome
-IsDueOf (explain database query) seen outcome = IsPlannedFor seen database query IsExplained outcome
-IsDueOf (check database) seen outcome = Then (IsDatabaseRead seen database) (λ d. IsOutput (TellsRelations d.says)) outcome
-IsDueOf (sample seed size) seen outcome = outcome ≡ Err Unbuilt
+IsDueOf (ask database query cap civil) seen outcome = IsPlannedFor civil seen database query (IsAnswered cap) outcome
+IsDueOf (decide database query cap civil) seen outcome = IsPlannedFor civil seen database query (IsDecided cap) outcome
+IsDueOf (list database query from to limit after json cap civil) seen outcome =
+    IsPlannedFor civil seen database query (IsListed civil from to limit after json cap) outcome
+IsDueOf (explain database query civil) seen outcome = IsPlannedFor civil seen database query IsExplained outcome
+IsDueOf (check database civil) seen outcome = Then (IsDatabaseRead civil seen database) (λ d. IsOutput (TellsRelations d.says)) outcome
+IsDueOf (sample seed size) seen outcome = IsOutput (TellsSample seed size) outcome
 
 -- ---- the lengths of files
 
 -- the names of the files that a task reads
 abbrev pub files_of : Task → List Identifier
-files_of (ask database query cap) = database ∷ query ∷ []
-files_of (decide database query cap) = database ∷ query ∷ []
-files_of (list database query from to limit after json cap) = database ∷ query ∷ []
-files_of (explain database query) = database ∷ query ∷ []
-files_of (check database) = database ∷ []
+files_of (ask database query cap civil) = database ∷ query ∷ []
+files_of (decide database query cap civil) = database ∷ query ∷ []
+files_of (list database query from to limit after json cap civil) = database ∷ query ∷ []
+files_of (explain database query civil) = database ∷ query ∷ []
+files_of (check database civil) = database ∷ []
 files_of (sample seed size) = []
 
 -- the names of the files that words name: none where they spell no task

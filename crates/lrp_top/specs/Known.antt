@@ -1,7 +1,9 @@
 -- Spots of an answer that can be written: their texts are known, and their times have a magnitude of at most 2^62.
-use Rattle.std.specs.Prelude.{◌≡◌, ◌<◌, ◌≤◌, ℕ, ℤ, nat_abs, List, [], ◌∷◌, length, take, map, Option, Some, None, IfSome}
+use Rattle.std.specs.Prelude.{◌≡◌, ◌<◌, ◌≤◌, ℕ, ℤ, nat_abs, Bool, true, false, List, [], ◌∷◌, length, take, map, Option, Some, None, IfSome}
 use Rattle.std.specs.List.{AllByRecursion}
 use Rattle.std.specs.Coded.{×_prop, Unit-prop, le_prop, Coded-set, coded_list, coded_ℕ}
+use Rattle.std.proofs.Math.Dec.{T_prop}
+use Rattle.lrp_civil.specs.Moments.{IsCivilMinute}
 use Rattle.lrp_model.specs.Lexing.{greatest_number}
 use Rattle.lrp_model.specs.Order.{InWindow}
 use Rattle.lrp_model.specs.Pages.{Tuple}
@@ -40,6 +42,14 @@ HasPlaces spot = (length spot.times ≡ 8) × (length spot.texts ≡ 8)
 abbrev pub IsKnown : Answer → Spot → Type 0
 IsKnown a spot = (HasKnownTexts a spot × HasTimes a spot) × HasPlaces spot
 
+-- where times are civil ones, those of the spots are minutes of the years 1 to 9999
+abbrev pub HasCivilTimes : Answer → Spot → Type 0
+HasCivilTimes a spot = AllByRecursion IsCivilMinute (take a.store.shape.times spot.times)
+
+abbrev pub HaveCivilTimes : Bool → Answer → List Spot → Type 0
+HaveCivilTimes false a spots = Unit {0}
+HaveCivilTimes true a spots = AllByRecursion (HasCivilTimes a) spots
+
 -- ---- these facts hold in at most one way
 
 less_prop : (bound : ℕ) (ns : List ℕ) → IsProp (AllByRecursion (λ n. n < bound) ns)
@@ -60,6 +70,18 @@ known_prop a spot = ×_prop (×_prop (less_prop (length a.domain) (take a.store.
 pub spots_prop : (a : Answer) (spots : List Spot) → IsProp (AllByRecursion (IsKnown a) spots)
 spots_prop a [] = Unit-prop
 spots_prop a (spot ∷ spots) = ×_prop (known_prop a spot) (spots_prop a spots)
+
+minutes_prop : (xs : List ℤ) → IsProp (AllByRecursion IsCivilMinute xs)
+minutes_prop [] = Unit-prop
+minutes_prop (x ∷ xs) = ×_prop (×_prop (Prim.hlevel (T_prop)) (Prim.hlevel (T_prop))) (minutes_prop xs)
+
+all_civil_prop : (a : Answer) (spots : List Spot) → IsProp (AllByRecursion (HasCivilTimes a) spots)
+all_civil_prop a [] = Unit-prop
+all_civil_prop a (spot ∷ spots) = ×_prop (minutes_prop (take a.store.shape.times spot.times)) (all_civil_prop a spots)
+
+pub civil_prop : (civil : Bool) (a : Answer) (spots : List Spot) → IsProp (HaveCivilTimes civil a spots)
+civil_prop false a spots = Unit-prop
+civil_prop true a spots = all_civil_prop a spots
 
 pub form_prop : (domain : List Text) (form : Form) → IsProp (IsFormOf domain form)
 form_prop domain Plain = Unit-prop

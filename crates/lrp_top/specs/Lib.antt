@@ -6,11 +6,13 @@ pub mod Sources
 pub mod Steps
 pub mod Resuming
 pub mod Telling
+pub mod Written
+pub mod Sampled
 pub mod Due
-pub mod Windows
 pub mod Known
 pub mod Rooms
 pub mod WritablePlans
 pub mod Refusals
 pub mod Outputs
 pub mod Questions
+pub mod Samples

@@ -9,7 +9,7 @@ use Rattle.lrp_top.specs.Seen.{SinkSeen}
 use Rattle.lrp_top.specs.declared.status.Status.{Status}
 use Rattle.lrp_top.specs.declared.status.Status.TheVariants as status
 use Rattle.lrp_top.specs.declared.outcome.Refusal.{Refusal}
-use Rattle.lrp_top.specs.declared.outcome.Refusal.TheVariants.{Usage, ReadDatabase, LongDatabase, Database, ReadQuery, LongQuery, Query, PeriodLimit, BoundLimit, TokenForm, TokenShape, TokenStale, Cells, Memory, Unbuilt}
+use Rattle.lrp_top.specs.declared.outcome.Refusal.TheVariants.{Usage, ReadDatabase, LongDatabase, Database, ReadQuery, LongQuery, Query, PeriodLimit, BoundLimit, TokenForm, TokenShape, TokenStale, Cells, Memory}
 
 -- the line of a fault: whose it is, its kind, its line and its column
 abbrev pub fault_line : List ℕ → List ℕ → Place → List ℕ
@@ -35,7 +35,6 @@ line_of TokenShape = codes "refused: token shape\n"
 line_of TokenStale = codes "refused: token stale\n"
 line_of (Cells cap step) = cells_line cap step
 line_of Memory = codes "refused: memory\n"
-line_of Unbuilt = codes "refused: unbuilt\n"
 
 -- the status of a refusal
 abbrev pub refused_with : Refusal → Status
@@ -53,7 +52,6 @@ refused_with TokenShape = status.Query
 refused_with TokenStale = status.Query
 refused_with (Cells cap step) = status.Limit
 refused_with Memory = status.Memory
-refused_with Unbuilt = status.Unbuilt
 
 -- the bytes of an output, or a refusal
 abbrev pub Outcome : Type 0

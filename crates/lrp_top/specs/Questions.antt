@@ -13,14 +13,17 @@ use Rattle.lrp_plan_laws.specs.Settled.{IsSettled}
 use Rattle.lrp_plan_text.specs.Writable.{StepHasPeriods}
 use Rattle.lrp_eval.specs.Planned.{IsPlanOf}
 use Rattle.lrp_words.specs.Commands.{after_text}
+use Rattle.lrp_words.specs.Ranges.{IsEnd}
 use Rattle.lrp_list.specs.Answering.{AreAnswerColumns}
-use Rattle.lrp_list.specs.Listing.{AreEnds}
-use Rattle.lrp_top.specs.Due.{IsAnswered, IsDecided, IsExplained, IsListed}
+use Rattle.lrp_top.specs.Due.{IsAnswered, IsDecided, IsExplained, IsListed, IsPlannedFor}
 use Rattle.lrp_top.specs.Outcomes.{Outcome}
+use Rattle.lrp_top.specs.Seen.{ShelfSeen}
 use Rattle.lrp_top.specs.Sources.{Source}
 use Rattle.lrp_top.specs.declared.files.DatabaseFile.{DatabaseFile}
+use Rattle.lrp_top.specs.declared.files.Files.{Files}
 use Rattle.lrp_top.specs.declared.files.QueryFile.{QueryFile}
 use Rattle.lrp_top.specs.declared.outcome.Refusal.{Refusal}
+use Rattle.lrp_top.specs.declared.outcome.Refusal.TheVariants.{Memory}
 use Rattle.lrp_top.specs.declared.purpose.Purpose.{Purpose}
 use Rattle.lrp_top.specs.declared.purpose.Purpose.TheVariants as purpose
 use Rattle.lrp_top.specs.declared.question.Question.{Question}
@@ -31,6 +34,21 @@ database_source file = record { bytes = file.bytes; says = file.relations }
 
 abbrev pub query_source : QueryFile → Source Queried
 query_source file = record { bytes = file.bytes; says = question_of file.query }
+
+-- the refusal is want of memory
+abbrev pub IsMemory : Refusal → Type 0
+IsMemory Memory = Unit {0}
+IsMemory _ = ⊥
+
+-- these relations, unless memory ran out
+abbrev pub IsDatabaseOrMemory : List Relation → Result DatabaseFile Refusal → Type 0
+IsDatabaseOrMemory db (Ok file) = file.relations ≡ db
+IsDatabaseOrMemory db (Err refusal) = IsMemory refusal
+
+-- this query, unless memory ran out
+abbrev pub IsQueryOrMemory : Queried → Result QueryFile Refusal → Type 0
+IsQueryOrMemory q (Ok file) = question_of file.query ≡ q
+IsQueryOrMemory q (Err refusal) = IsMemory refusal
 
 -- the database that was read, where one was
 abbrev pub read_as : Result DatabaseFile Refusal → Result (Source (List Relation)) Refusal
@@ -59,6 +77,10 @@ abbrev pub IsMadeOf : Source (List Relation) → Source Queried → Plan → Res
 IsMadeOf d q p (Ok question) = (database_source question.database ≡ d) × (query_source question.query ≡ q) × (question.plan ≡ p)
 IsMadeOf d q p (Err refusal) = ⊥
 
+-- what is due behind the plan of the query in these files
+abbrev pub IsAsked : {B : Type 0} → Files → ShelfSeen → (Source (List Relation) → Source Queried → Plan → Result B Refusal → Type 0) → Result B Refusal → Type 0
+IsAsked files seen = IsPlannedFor files.civil seen files.database.now files.query.now
+
 -- the values in head order of a tuple that is told by its times and its texts, where one is
 abbrev pub resumed_as : List Column → Result (Option ToldTuple) Refusal → Result (Option Tuple) Refusal
 resumed_as head (Ok None) = Ok None
@@ -75,9 +97,9 @@ abbrev pub IsServed : Purpose → Source (List Relation) → Source Queried → 
 IsServed purpose.Plan = IsExplained
 IsServed (purpose.Answer cap) = IsAnswered cap
 IsServed (purpose.Witness cap) = IsDecided cap
-IsServed (purpose.Page paging) = IsListed paging.from paging.to paging.limit (after_text paging.after) paging.json paging.cap
+IsServed (purpose.Page paging) = IsListed paging.civil paging.from paging.to paging.limit (after_text paging.after) paging.json paging.cap
 
--- the ends of its window, where it has one, have a magnitude of at most 2^62
+-- the ends of its window, where it has one
 abbrev pub HasWindow : Purpose → Type 0
-HasWindow (purpose.Page paging) = AreEnds paging.from paging.to
+HasWindow (purpose.Page paging) = IsEnd paging.civil paging.from × IsEnd paging.civil paging.to
 HasWindow _ = Unit {0}

@@ -1,7 +1,7 @@
 -- The numbers with which the program ends.
 use Rattle.std.specs.Prelude.{ℕ}
 use Rattle.lrp_top.specs.declared.status.Status.{Status}
-use Rattle.lrp_top.specs.declared.status.Status.TheVariants.{Done, Usage, Database, Query, Limit, Read, Write, Memory, Unbuilt}
+use Rattle.lrp_top.specs.declared.status.Status.TheVariants.{Done, Usage, Database, Query, Limit, Read, Write, Memory}
 
 -- the number of a status
 abbrev pub status_number : Status → ℕ
@@ -13,4 +13,3 @@ status_number Limit = 5
 status_number Read = 6
 status_number Write = 7
 status_number Memory = 8
-status_number Unbuilt = 9

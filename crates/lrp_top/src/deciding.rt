@@ -1,19 +1,20 @@
 // The decision: what the words ask for, before the first byte is written.
 ghost use Rattle.std.specs.Prelude.{◌≡◌, []};
 ghost use Rattle.std.specs.List.{AllByRecursion};
-ghost use Rattle.lrp_top.specs.Due.{IsDue, IsDueOf, IsOutput, IsPlannedFor, IsDatabaseRead, IsTooLong, TellsLength, files_named, files_of};
+ghost use Rattle.lrp_top.specs.Due.{IsDue, IsDueOf, IsDatabaseRead, IsOutput, IsTooLong, TellsLength, files_named, files_of};
 ghost use Rattle.lrp_top.specs.Outputs.{told};
-ghost use Rattle.lrp_top.specs.Questions.{HasWindow, IsServed};
+ghost use Rattle.lrp_top.specs.Questions.{HasWindow, IsAsked, IsServed};
 ghost use Rattle.lrp_top.specs.Seen.{IsOverrun};
 ghost use Rattle.lrp_top.specs.Steps.{Then};
 ghost use Rattle.lrp_top.specs.Telling.{TellsRelations};
-ghost use Rattle.lrp_top.specs.Windows.{HasEnds};
 ghost use Rattle.lrp_words.specs.Commands.{task_of};
+ghost use Rattle.lrp_words.specs.Ranges.{IsInRange};
 
-use crate::files::database_of;
+use crate::files::{Files, database_of};
 use crate::outcome::{Output, Refusal};
 use crate::purpose::{Paging, Purpose};
 use crate::question::question_of;
+use crate::sampling::sample;
 use crate::seeing::Watched;
 use crate::serving::serve;
 use lrp_io::Shelf;
@@ -38,15 +39,29 @@ fn carry_out<F: Shelf>(
     command: Command<'_>,
     shelf: &mut F,
 ) -> Result<Output, Refusal>
-    requires ends { HasEnds (task_of command) }
+    requires range { IsInRange (task_of command) }
     ensures due { IsDueOf (task_of command.entry) (⟦<F as Watched>⟧.seen shelf.old shelf.new) (told result) }
     ensures long { AllByRecursion (λ name. IsOverrun (⟦<F as Watched>⟧.seen shelf.old shelf.new) name → IsTooLong (told result)) (files_of (task_of command.entry)) }
     ensures unread { files_of (task_of command.entry) ≡ [] → shelf.new ≡ shelf.old }
 {
     match command {
-        Command::Ask { db, query, cap } => ask(alloc, db, query, &Purpose::Answer { cap }, shelf),
-        Command::Decide { db, query, cap } => {
-            ask(alloc, db, query, &Purpose::Witness { cap }, shelf)
+        Command::Ask {
+            db,
+            query,
+            cap,
+            civil,
+        } => {
+            let files = Files::new(db, query, civil);
+            ask(alloc, &files, &Purpose::Answer { cap }, shelf)
+        }
+        Command::Decide {
+            db,
+            query,
+            cap,
+            civil,
+        } => {
+            let files = Files::new(db, query, civil);
+            ask(alloc, &files, &Purpose::Witness { cap }, shelf)
         }
         Command::List {
             db,
@@ -57,7 +72,9 @@ fn carry_out<F: Shelf>(
             after,
             json,
             cap,
+            civil,
         } => {
+            let files = Files::new(db, query, civil);
             let paging = Paging {
                 from,
                 to,
@@ -65,21 +82,30 @@ fn carry_out<F: Shelf>(
                 after,
                 json,
                 cap,
+                civil,
             };
-            ask(alloc, db, query, &Purpose::Page { paging }, shelf)
+            ask(alloc, &files, &Purpose::Page { paging }, shelf)
         }
-        Command::Explain { db, query } => ask(alloc, db, query, &Purpose::Plan, shelf),
-        Command::Check { db } => check(alloc, db, shelf),
-        Command::Sample { .. } => Err(Refusal::Unbuilt),
+        Command::Explain { db, query, civil } => {
+            let files = Files::new(db, query, civil);
+            ask(alloc, &files, &Purpose::Plan, shelf)
+        }
+        Command::Check { db, civil } => check(alloc, db, civil, shelf),
+        Command::Sample { seed, size } => sample(alloc, seed, size),
     }
 }
 
 /// The relations of a database.
-fn check<F: Shelf>(alloc: Global, database: &str, shelf: &mut F) -> Result<Output, Refusal>
-    ensures due { Then (IsDatabaseRead (⟦<F as Watched>⟧.seen shelf.old shelf.new) database.now) (λ d. IsOutput (TellsRelations d.says)) (told result) }
+fn check<F: Shelf>(
+    alloc: Global,
+    database: &str,
+    civil: bool,
+    shelf: &mut F,
+) -> Result<Output, Refusal>
+    ensures due { Then (IsDatabaseRead civil (⟦<F as Watched>⟧.seen shelf.old shelf.new) database.now) (λ d. IsOutput (TellsRelations d.says)) (told result) }
     ensures long { TellsLength (⟦<F as Watched>⟧.seen shelf.old shelf.new) (told result) }
 {
-    match database_of(alloc, database, shelf) {
+    match database_of(alloc, database, civil, shelf) {
         Ok(file) => {
             databases_read_back();
             Ok(Output::Relations(file.relations))
@@ -91,16 +117,15 @@ fn check<F: Shelf>(alloc: Global, database: &str, shelf: &mut F) -> Result<Outpu
 /// What is told of a query over a database for a purpose.
 fn ask<F: Shelf>(
     alloc: Global,
-    database: &str,
-    query: &str,
+    files: &Files<'_>,
     purpose: &Purpose<'_>,
     shelf: &mut F,
 ) -> Result<Output, Refusal>
     requires window { HasWindow purpose.now }
-    ensures due { IsPlannedFor (⟦<F as Watched>⟧.seen shelf.old shelf.new) database.now query.now (IsServed purpose.now) (told result) }
+    ensures due { IsAsked files.now (⟦<F as Watched>⟧.seen shelf.old shelf.new) (IsServed purpose.now) (told result) }
     ensures long { TellsLength (⟦<F as Watched>⟧.seen shelf.old shelf.new) (told result) }
 {
-    match question_of(alloc, database, query, shelf) {
+    match question_of(alloc, files, shelf) {
         Ok(question) => serve(alloc, question, purpose),
         Err(refusal) => Err(refusal),
     }

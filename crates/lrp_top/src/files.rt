@@ -1,19 +1,37 @@
 // The files of a command, or why there are none.
-ghost use Rattle.std.specs.Prelude.{◌≡◌, ◌≤◌, IfOk, List as ListOf, ℕ, length};
-ghost use Rattle.lrp_top.specs.Due.{IsQueryRead, IsQueryReadOf, IsDatabaseRead, IsDatabaseReadOf, TellsLength};
+ghost use Rattle.std.specs.Prelude.{◌≡◌, ◌≤◌, IfOk, List as ListOf, ℕ};
+ghost use Rattle.lrp_top.specs.Due.{IsDatabaseRead, IsQueryRead, TellsLength};
 ghost use Rattle.lrp_top.specs.Questions.{IsFit, asked_as, read_as};
-ghost use Rattle.lrp_top.specs.Seen.{ShelfSeen};
 
 use crate::outcome::Refusal;
+use crate::reading::{database_in, query_in};
 use crate::seeing::Watched;
 use lrp_io::{LoadFault, Shelf, load};
-use lrp_list::heads_are_columns;
 use lrp_model::{List, Query};
-use lrp_plan_laws::{periods_are_least, sorted_queries_are_settled};
-use lrp_query::read_query;
-use lrp_rel::{Database, ReadFault, read_database};
-use lrp_sorts::check;
+use lrp_rel::Database;
 use std::alloc::Global;
+
+/// The files of a question by their names. With `civil` the database may have
+/// civil values.
+#[derive(Clone, Copy)]
+pub struct Files<'a> {
+    pub database: &'a str,
+    pub query: &'a str,
+    pub civil: bool,
+}
+
+impl<'a> Files<'a> {
+    /// The files of these names.
+    pub fn new(database: &'a str, query: &'a str, civil: bool) -> Self
+        ensures { result ≡ record { database = database.entry; query = query.entry; civil = civil } }
+    {
+        Files {
+            database,
+            query,
+            civil,
+        }
+    }
+}
 
 /// The bytes of a database's file, and the relations that they mean.
 #[derive(Drop)]
@@ -33,30 +51,19 @@ pub struct QueryFile {
 pub fn database_of<F: Shelf>(
     alloc: Global,
     name: &str,
+    civil: bool,
     shelf: &mut F,
 ) -> Result<DatabaseFile, Refusal>
-    ensures read { IsDatabaseRead (⟦<F as Watched>⟧.seen shelf.old shelf.new) name.now (read_as result) }
+    ensures read { IsDatabaseRead civil (⟦<F as Watched>⟧.seen shelf.old shelf.new) name.now (read_as result) }
     ensures long { TellsLength (⟦<F as Watched>⟧.seen shelf.old shelf.new) result }
     ensures files { F.files shelf.new ≡ F.files shelf.old }
     ensures later { (other : ListOf ℕ) → F.faults shelf.old other ≤ F.faults shelf.new other }
 {
     match load(alloc, shelf, name) {
-        Ok(bytes) => read(alloc, bytes),
+        Ok(bytes) => database_in(alloc, bytes, civil),
         Err(LoadFault::Failed) => Err(Refusal::ReadDatabase),
         Err(LoadFault::TooLong) => Err(Refusal::LongDatabase),
         Err(LoadFault::Memory) => Err(Refusal::Memory),
-    }
-}
-
-/// The database of its bytes.
-fn read(alloc: Global, bytes: List<u8>) -> Result<DatabaseFile, Refusal>
-    requires { length bytes ≤ 16777216 }
-    ensures { (seen : ShelfSeen) (name : ListOf ℕ) → IsDatabaseReadOf seen name bytes (read_as result) }
-{
-    match read_database(alloc, bytes.as_slice()) {
-        Ok(relations) => Ok(DatabaseFile { bytes, relations }),
-        Err(ReadFault::Fault { fault }) => Err(Refusal::Database(fault)),
-        Err(ReadFault::Memory) => Err(Refusal::Memory),
     }
 }
 
@@ -72,24 +79,9 @@ pub fn query_of<F: Shelf>(
     ensures fit { IfOk result (λ file. IsFit database.now file) }
 {
     match load(alloc, shelf, name) {
-        Ok(bytes) => sorted(alloc, database, bytes),
+        Ok(bytes) => query_in(alloc, database, bytes),
         Err(LoadFault::Failed) => Err(Refusal::ReadQuery),
         Err(LoadFault::TooLong) => Err(Refusal::LongQuery),
         Err(LoadFault::Memory) => Err(Refusal::Memory),
     }
-}
-
-/// The well-sorted query of its bytes, over a database.
-fn sorted(alloc: Global, database: &Database, bytes: List<u8>) -> Result<QueryFile, Refusal>
-    requires { length bytes ≤ 16777216 }
-    ensures asked { (seen : ShelfSeen) (name : ListOf ℕ) → IsQueryReadOf database.now seen name bytes (asked_as result) }
-    ensures fit { IfOk result (λ file. IsFit database.now file) }
-{
-    let raw = read_query(alloc, bytes.as_slice())?;
-    let query = check(alloc, &raw, database)?;
-    database.relations();
-    heads_are_columns();
-    periods_are_least();
-    sorted_queries_are_settled();
-    Ok(QueryFile { bytes, query })
 }

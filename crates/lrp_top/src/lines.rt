@@ -1,15 +1,17 @@
 // The text of a page: its lines, and the line behind them.
-ghost use Rattle.std.specs.Prelude.{◌++◌, map, None, Some};
+ghost use Rattle.std.specs.Prelude.{[], ◌∷◌, ◌++◌, map, None, Some};
 ghost use Rattle.std.specs.List.{flat_map};
 ghost use Rattle.lrp_io.specs.Causes.{HasCause};
 ghost use Rattle.lrp_io.specs.Pieces.{IsWritten};
 ghost use Rattle.lrp_list.specs.Lines.{is_json};
 ghost use Rattle.lrp_model.specs.Pages.{last_of};
-ghost use Rattle.lrp_model.specs.PrintedPages.{answer_line, end_line, token_behind, token_of};
-ghost use Rattle.lrp_top.specs.Known.{IsKnown, tuple_of};
+ghost use Rattle.lrp_model.specs.PrintedPages.{end_line, token_behind, token_of};
+ghost use Rattle.lrp_top.specs.Known.{HaveCivilTimes, IsKnown, tuple_of};
 ghost use Rattle.lrp_top.specs.Outputs.{page_text};
+ghost use Rattle.lrp_top.specs.Telling.{line_as};
 
 use crate::page::Page;
+use lrp_civil::write_civil_line;
 use lrp_io::{Failed, Sink};
 use lrp_list::{Form, write_line};
 use lrp_model::Spot;
@@ -27,14 +29,28 @@ pub fn write_page<S: Sink>(out: &mut S, page: &Page) -> Result<(), Failed>
 
 /// The line of each spot.
 fn write_lines<S: Sink>(out: &mut S, page: &Page) -> Result<(), Failed>
-    ensures text { IsWritten (S.written out.old) (S.written out.new) (flat_map (λ spot. answer_line (is_json page.now.form) (tuple_of page.now.answer spot)) page.now.spots) result }
+    ensures text { IsWritten (S.written out.old) (S.written out.new) (flat_map (λ spot. line_as page.now.civil (is_json page.now.form) (tuple_of page.now.answer spot)) page.now.spots) result }
     ensures cause { HasCause (S.faults out.old) (S.faults out.new) result }
 {
     let spots = page.spots.as_slice();
     for spot in spots {
-        write_line(out, &page.answer, spot, &page.form)?;
+        write_spot(out, page, spot)?;
     }
     Ok(())
+}
+
+/// The line of a spot, with its times as dates where they are civil ones.
+fn write_spot<S: Sink>(out: &mut S, page: &Page, spot: &Spot) -> Result<(), Failed>
+    requires known { IsKnown page.now.answer spot.now }
+    requires dates { HaveCivilTimes page.now.civil page.now.answer (spot.now ∷ []) }
+    ensures text { IsWritten (S.written out.old) (S.written out.new) (line_as page.now.civil (is_json page.now.form) (tuple_of page.now.answer spot.now)) result }
+    ensures cause { HasCause (S.faults out.old) (S.faults out.new) result }
+{
+    if page.civil {
+        write_civil_line(out, &page.answer, spot, &page.form)
+    } else {
+        write_line(out, &page.answer, spot, &page.form)
+    }
 }
 
 /// The line behind those of the spots: whether more come, with a token.

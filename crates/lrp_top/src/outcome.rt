@@ -8,6 +8,7 @@ use crate::Status;
 use crate::answer::WholeAnswer;
 use crate::page::Page;
 use crate::plan::WritablePlan;
+use crate::report::Report;
 use crate::witness::Witness;
 use lrp_model::{DbFault, QueryFault, QueryRead};
 use lrp_plan::PlanFault;
@@ -27,6 +28,8 @@ pub enum Output {
     Witness(Witness),
     /// A page of answers of a query.
     Page(Page),
+    /// What is told of the sample.
+    Sample(Report),
 }
 
 /// Why a command is refused.
@@ -60,8 +63,6 @@ pub enum Refusal {
     Cells { cap: u32, step: u32 },
     /// Memory was refused.
     Memory,
-    /// The command is not built yet.
-    Unbuilt,
 }
 
 impl Refusal {
@@ -80,7 +81,6 @@ impl Refusal {
             | Refusal::TokenStale => Status::Query,
             Refusal::PeriodLimit | Refusal::BoundLimit | Refusal::Cells { .. } => Status::Limit,
             Refusal::Memory => Status::Memory,
-            Refusal::Unbuilt => Status::Unbuilt,
         }
     }
 }

@@ -13,8 +13,8 @@ pub enum Purpose<'a> {
     Page { paging: Paging<'a> },
 }
 
-/// What a page is asked for: a window, at most how many lines, a token behind which it begins, its form, and a cap on the
-/// cells of each step.
+/// What a page is asked for: a window, at most how many lines, a token behind which it begins, its form, a cap on the
+/// cells of each step, and whether its times are shown as dates.
 #[derive(Clone, Copy)]
 pub struct Paging<'a> {
     pub from: i64,
@@ -23,4 +23,5 @@ pub struct Paging<'a> {
     pub after: Option<&'a str>,
     pub json: bool,
     pub cap: u32,
+    pub civil: bool,
 }

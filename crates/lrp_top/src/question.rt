@@ -5,10 +5,10 @@ ghost use Rattle.lrp_model.specs.Formulas.{form_of, question_of as queried};
 ghost use Rattle.lrp_model.specs.TestPoints.{points};
 ghost use Rattle.lrp_plan_laws.specs.Settled.{IsSettled};
 ghost use Rattle.lrp_plan_text.specs.Writable.{StepHasPeriods};
-ghost use Rattle.lrp_top.specs.Due.{IsPlanned, IsPlannedFor, TellsLength};
-ghost use Rattle.lrp_top.specs.Questions.{IsMadeOf, IsReady};
+ghost use Rattle.lrp_top.specs.Due.{IsPlanned, TellsLength};
+ghost use Rattle.lrp_top.specs.Questions.{IsAsked, IsMadeOf, IsReady};
 
-use crate::files::{DatabaseFile, QueryFile, database_of, query_of};
+use crate::files::{DatabaseFile, Files, QueryFile, database_of, query_of};
 use crate::outcome::Refusal;
 use crate::seeing::Watched;
 use lrp_io::Shelf;
@@ -38,16 +38,15 @@ impl Question {
 /// The question of a database's file and a query's file, or the first refusal of either, or of the plan.
 pub fn question_of<F: Shelf>(
     alloc: Global,
-    database: &str,
-    query: &str,
+    files: &Files<'_>,
     shelf: &mut F,
 ) -> Result<Question, Refusal>
-    ensures question { IsPlannedFor (⟦<F as Watched>⟧.seen shelf.old shelf.new) database.now query.now IsMadeOf result }
+    ensures question { IsAsked files.now (⟦<F as Watched>⟧.seen shelf.old shelf.new) IsMadeOf result }
     ensures long { TellsLength (⟦<F as Watched>⟧.seen shelf.old shelf.new) result }
     ensures ready { IfOk result (λ question. IsReady question) }
 {
-    let database = database_of(alloc, database, shelf)?;
-    let query = query_of(alloc, &database.relations, query, shelf)?;
+    let database = database_of(alloc, files.database, files.civil, shelf)?;
+    let query = query_of(alloc, &database.relations, files.query, shelf)?;
     let plan = plan_of(alloc, &database.relations, &query.query)?;
     Ok(Question {
         database,
@@ -57,7 +56,7 @@ pub fn question_of<F: Shelf>(
 }
 
 /// The plan of a query over a database, or the limit that it passes.
-fn plan_of(alloc: Global, database: &Database, query: &Query) -> Result<Plan, Refusal>
+pub fn plan_of(alloc: Global, database: &Database, query: &Query) -> Result<Plan, Refusal>
     requires settled { IsSettled database.now (queried query.now) }
     requires points { AllByRecursion (λ at. pos 1 ≤ℤ at.period) (points (form_of query.now.body)) }
     ensures planned { IsPlanned database.now (queried query.now) result }

@@ -5,8 +5,9 @@ ghost use Rattle.lrp_model.specs.Formulas.{Question as Queried, question_of};
 ghost use Rattle.lrp_model.specs.declared.relations.Relation.{Relation};
 ghost use Rattle.lrp_store.specs.Least.{HasRoom};
 ghost use Rattle.lrp_top.specs.Due.{IsAnswered, IsCounted, IsDecided};
-ghost use Rattle.lrp_top.specs.Outputs.{told, witness_text};
+ghost use Rattle.lrp_top.specs.Outputs.{least_of as least_tuple, told, witness_text};
 ghost use Rattle.lrp_top.specs.Questions.{HasWindow, IsReady, IsServed, database_source, done_as, query_source};
+ghost use Rattle.lrp_top.specs.Sampled.{IsFirst};
 ghost use Rattle.lrp_top.specs.Telling.{TellsWitness};
 
 use crate::answer::WholeAnswer;
@@ -86,9 +87,10 @@ fn witness(alloc: Global, question: &Question, cap: u32) -> Result<Output, Refus
 }
 
 /// The least of these answers.
-fn least_of(answer: Answer) -> Witness
+pub fn least_of(answer: Answer) -> Witness
     requires room { HasRoom answer.store }
     ensures least { (db : List Relation) (q : Queried) (cap : ℕ) → IsAnswerOf db q cap answer → TellsWitness db q (witness_text result) }
+    ensures first { (db : List Relation) (q : Queried) (cap : ℕ) → IsAnswerOf db q cap answer → IsFirst db q (least_tuple result) }
 {
     let least = answer.least();
     Witness { answer, least }

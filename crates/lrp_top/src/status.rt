@@ -21,8 +21,6 @@ pub enum Status {
     Write,
     /// Memory was refused.
     Memory,
-    /// The command is not built yet.
-    Unbuilt,
 }
 
 impl Status {
@@ -39,7 +37,6 @@ impl Status {
             Status::Read => 6,
             Status::Write => 7,
             Status::Memory => 8,
-            Status::Unbuilt => 9,
         }
     }
 }

@@ -23,6 +23,7 @@ pub fn write_outcome<S: Sink>(out: &mut S, outcome: &Result<Output, Refusal>) ->
         Ok(Output::Plan(plan)) => write_buffered(out, plan),
         Ok(Output::Witness(witness)) => write_buffered(out, witness),
         Ok(Output::Page(page)) => write_buffered(out, page),
+        Ok(Output::Sample(report)) => write_buffered(out, report),
         Err(refusal) => write_refusal(out, refusal),
     }
 }
@@ -69,7 +70,6 @@ fn write_refusal<S: Sink>(out: &mut S, refusal: &Refusal) -> Result<(), Failed>
         Refusal::TokenStale => write_bytes(out, b"refused: token stale\n"),
         Refusal::Cells { cap, step } => write_cells(out, *cap, *step),
         Refusal::Memory => write_bytes(out, b"refused: memory\n"),
-        Refusal::Unbuilt => write_bytes(out, b"refused: unbuilt\n"),
     }
 }
 
@@ -110,7 +110,7 @@ fn write_cells<S: Sink>(out: &mut S, cap: u32, step: u32) -> Result<(), Failed>
 }
 
 /// Writes pieces, one after the other.
-fn write_pieces<S: Sink>(out: &mut S, pieces: &[&[u8]]) -> Result<(), Failed>
+pub fn write_pieces<S: Sink>(out: &mut S, pieces: &[&[u8]]) -> Result<(), Failed>
     ensures text { IsWritten (S.written out.old) (S.written out.new) (flat_map (λ piece. piece.now) pieces.now) result }
     ensures cause { HasCause (S.faults out.old) (S.faults out.new) result }
 {

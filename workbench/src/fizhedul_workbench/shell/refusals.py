@@ -36,7 +36,6 @@ OTHERS = {
     "refused: read of query": "the query could not be read",
     "refused: memory": "there is not enough memory",
     "refused: usage": "the program does not know these words",
-    "refused: unbuilt": "this part of the program is not built yet",
 }
 
 

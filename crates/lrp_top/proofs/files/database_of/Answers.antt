@@ -4,14 +4,14 @@ use Rattle.lrp_top.proofs.FileLemmas.{few_given, long_database, no_memory, read_
 use Rattle.lrp_top.proofs.files.database_of.Goals as goal
 
 pub returns-in-Ok-clause-read : goal.returns-in-Ok-clause-read
-returns-in-Ok-clause-read g c = read_of _ c.args.name.now c.in-Ok.bytes _ (λ held e. c.in-Ok.ensures.whole held e) c.read.ensures
+returns-in-Ok-clause-read g c = read_of c.args.civil _ c.args.name.now c.in-Ok.bytes _ (λ held e. c.in-Ok.ensures.whole held e) c.database_in.ensures.read
 
 pub returns-in-Ok-clause-long : goal.returns-in-Ok-clause-long
 returns-in-Ok-clause-long g c =
     λ name over. few_given _ name over (omega (arith, c.in-Ok.ensures.count, c.in-Ok.ensures.short))
 
 pub returns-in-Err-Failed-clause-read : goal.returns-in-Err-Failed-clause-read
-returns-in-Err-Failed-clause-read g c = unread_database _ c.args.name.now (c.in-Err-Failed.ensures.failed (ap Err c.in-Err-Failed.field-0-is))
+returns-in-Err-Failed-clause-read g c = unread_database c.args.civil _ c.args.name.now (c.in-Err-Failed.ensures.failed (ap Err c.in-Err-Failed.field-0-is))
 
 pub returns-in-Err-Failed-clause-long : goal.returns-in-Err-Failed-clause-long
 returns-in-Err-Failed-clause-long g c =
@@ -20,7 +20,7 @@ returns-in-Err-Failed-clause-long g c =
 pub returns-in-Err-TooLong-clause-read : goal.returns-in-Err-TooLong-clause-read
 returns-in-Err-TooLong-clause-read g c =
     let e = ap Err c.in-Err-TooLong.field-0-is in
-    long_database _ c.args.name.now (λ held f. c.in-Err-TooLong.ensures.too_long_told held f e) (c.in-Err-TooLong.ensures.too_long_named e) (c.in-Err-TooLong.ensures.too_long e)
+    long_database c.args.civil _ c.args.name.now (λ held f. c.in-Err-TooLong.ensures.too_long_told held f e) (c.in-Err-TooLong.ensures.too_long_named e) (c.in-Err-TooLong.ensures.too_long e)
 
 pub returns-in-Err-Memory-clause-read : goal.returns-in-Err-Memory-clause-read
-returns-in-Err-Memory-clause-read g c = no_memory _ c.args.name.now
+returns-in-Err-Memory-clause-read g c = no_memory c.args.civil _ c.args.name.now

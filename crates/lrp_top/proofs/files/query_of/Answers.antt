@@ -4,7 +4,7 @@ use Rattle.lrp_top.proofs.FileLemmas.{asked_of, few_given, long_query, no_query_
 use Rattle.lrp_top.proofs.files.query_of.Goals as goal
 
 pub returns-in-Ok-clause-asked : goal.returns-in-Ok-clause-asked
-returns-in-Ok-clause-asked g c = asked_of c.args.database.now _ c.args.name.now c.in-Ok.bytes _ (λ held e. c.in-Ok.ensures.whole held e) c.sorted.ensures.asked
+returns-in-Ok-clause-asked g c = asked_of c.args.database.now _ c.args.name.now c.in-Ok.bytes _ (λ held e. c.in-Ok.ensures.whole held e) c.query_in.ensures.asked
 
 pub returns-in-Ok-clause-long : goal.returns-in-Ok-clause-long
 returns-in-Ok-clause-long g c =

@@ -1,9 +1,13 @@
 -- The least answer of a query is that of its answers.
 use Rattle.lrp_top.proofs.Answered.{known_least, told_least}
+use Rattle.lrp_top.proofs.SampleLemmas.{least_is}
 use Rattle.lrp_top.proofs.serving.least_of.Goals as goal
 
 pub invariant_of-result : goal.invariant_of-result
 invariant_of-result c = record { known = known_least c.args.answer c.least-least.result c.least-least.ensures.some }
 
 pub returns : goal.returns
-returns c = record { least = λ db q cap is. told_least db q cap c.args.answer is c.least-least.result c.least-least.ensures.none c.least-least.ensures.some }
+returns c = record {
+  least = λ db q cap is. told_least db q cap c.args.answer is c.least-least.result c.least-least.ensures.none c.least-least.ensures.some;
+  first = λ db q cap is. least_is db q cap c.args.answer c.least-least.result is c.least-least.ensures.none c.least-least.ensures.some;
+}

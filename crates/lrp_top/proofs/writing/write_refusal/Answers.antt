@@ -20,8 +20,5 @@ returns-in-LongQuery-clause-text g c = written_as _ _ _ _ c.write_bytes-in-LongQ
 pub returns-in-Memory-clause-text : goal.returns-in-Memory-clause-text
 returns-in-Memory-clause-text g c = written_as _ _ _ _ c.write_bytes-in-Memory.result (sym (ap line_of c.in-Memory.is)) c.write_bytes-in-Memory.ensures.text
 
-pub returns-in-Unbuilt-clause-text : goal.returns-in-Unbuilt-clause-text
-returns-in-Unbuilt-clause-text g c = written_as _ _ _ _ c.write_bytes-in-Unbuilt.result (sym (ap line_of c.in-Unbuilt.is)) c.write_bytes-in-Unbuilt.ensures.text
-
 pub returns-in-Cells-clause-text : goal.returns-in-Cells-clause-text
 returns-in-Cells-clause-text g c = written_as _ _ _ _ c.write_cells.result (sym (ap line_of c.in-Cells.is)) c.write_cells.ensures.text

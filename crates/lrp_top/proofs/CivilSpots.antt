@@ -1,0 +1,50 @@
+-- Spots in a window of civil times have civil times.
+use Rattle.std.proofs.Common.{◌≡◌, ◌<◌, ℕ, zero, suc, List, [], ◌∷◌, length, get_or, take, Bool, true, false, sym, subst, arith}
+use Rattle.std.specs.Prelude.{ℤ, ◌≤ℤ◌}
+use Rattle.std.specs.List.{AllByRecursion}
+use Rattle.std.proofs.lemmas.Int.{ints}
+use Rattle.lrp_civil.specs.Moments.{IsCivilMinute}
+use Rattle.lrp_list.specs.Listing.{AreEnds, window_of}
+use Rattle.lrp_model.specs.Rows.{times_of}
+use Rattle.lrp_model.specs.declared.tuples.Spot.{Spot}
+use Rattle.lrp_store.specs.declared.answer.Answer.{Answer}
+use Rattle.lrp_words.specs.Ranges.{IsEnd}
+use Rattle.lrp_top.specs.Known.{HasCivilTimes, HaveCivilTimes, IsStanding, tuple_of}
+
+-- the ends of a window
+pub are_ends : (civil : Bool) (from to : ℤ) → IsEnd civil from → IsEnd civil to → AreEnds from to
+are_ends civil from to f t = record { from_low = f.low; from_high = f.high; to_low = t.low; to_high = t.high }
+
+-- what lies between civil minutes is one
+module _ (from to : ℤ) (f : IsCivilMinute from) (t : IsCivilMinute to) where
+  between : (x : ℤ) → (from ≤ℤ x) × (x ≤ℤ to) → IsCivilMinute x
+  between x h = (omega (arith, ints, f.0, h.0), omega (arith, ints, t.1, h.1))
+
+  all_between : (xs : List ℤ) → AllByRecursion (λ x. (from ≤ℤ x) × (x ≤ℤ to)) xs → AllByRecursion IsCivilMinute xs
+  all_between [] h = tt
+  all_between (x ∷ xs) h = (between x h.0, all_between xs h.1)
+
+  spots_between : (a : Answer) (spots : List Spot) → AllByRecursion (IsStanding (window_of a from to)) spots → AllByRecursion (HasCivilTimes a) spots
+  spots_between a [] h = tt
+  spots_between a (spot ∷ spots) h =
+      (subst (AllByRecursion IsCivilMinute) (sym h.0.stands.times) (all_between (times_of (tuple_of a spot)) h.0.inside), spots_between a spots h.1)
+
+-- the spots of a page
+pub page_dates : (civil : Bool) (a : Answer) (from to : ℤ) (spots : List Spot) → IsEnd civil from → IsEnd civil to → AllByRecursion (IsStanding (window_of a from to)) spots → HaveCivilTimes civil a spots
+page_dates false a from to spots f t h = tt
+page_dates true a from to spots f t h = spots_between from to f.minute t.minute a spots h
+
+-- one of them
+each_date : (a : Answer) (spots : List Spot) (i : ℕ) (spot : Spot) → AllByRecursion (HasCivilTimes a) spots → i < length spots → spot ≡ get_or spots i spot → HasCivilTimes a spot
+each_date a [] i spot h l e = absurd (omega arith)
+each_date a (s ∷ spots) zero spot h l e = subst (HasCivilTimes a) (sym e) h.0
+each_date a (s ∷ spots) (suc i) spot h l e = each_date a spots i spot h.1 (omega arith) e
+
+pub spot_dates : (civil : Bool) (a : Answer) (spots : List Spot) (i : ℕ) (spot : Spot) → HaveCivilTimes civil a spots → i < length spots → spot ≡ get_or spots i spot → HaveCivilTimes civil a (spot ∷ [])
+spot_dates false a spots i spot h l e = tt
+spot_dates true a spots i spot h l e = (each_date a spots i spot h l e, tt)
+
+-- and its times, where they are civil ones
+pub own_dates : (civil : Bool) (a : Answer) (spot : Spot) → civil ≡ true → HaveCivilTimes civil a (spot ∷ []) → AllByRecursion IsCivilMinute (take a.store.shape.times spot.times)
+own_dates false a spot e h = cc
+own_dates true a spot e h = h.0

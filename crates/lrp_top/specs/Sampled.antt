@@ -1,0 +1,51 @@
+-- What the sample tells.
+use Rattle.std.specs.Prelude.{◌≡◌, ℕ, pos, List, ◌++◌, length, Option, Some, None, codes}
+use Rattle.std.specs.Fmt.{decimal}
+use Rattle.lrp_model.specs.DatabaseReading.{IsDatabase}
+use Rattle.lrp_model.specs.Formulas.{Question}
+use Rattle.lrp_model.specs.Order.{IsLeast}
+use Rattle.lrp_model.specs.Pages.{Tuple}
+use Rattle.lrp_model.specs.Plans.{plan}
+use Rattle.lrp_model.specs.PrintedPages.{plain_line}
+use Rattle.lrp_model.specs.Satisfaction.{IsAnswer}
+use Rattle.lrp_model.specs.declared.relations.Relation.{Relation}
+use Rattle.lrp_eval.specs.Counts.{HasAnswerCount, HasCells}
+use Rattle.lrp_sample.specs.Texts.{sample_database, sample_query}
+use Rattle.lrp_top.specs.Written.{IsSorted}
+
+-- the least answer, where there is one
+abbrev pub IsFirst : List Relation → Question → Option Tuple → Type 0
+IsFirst db q None = (tuple : Tuple) → IsAnswer db q tuple → ⊥
+IsFirst db q (Some tuple) = IsLeast (IsAnswer db q) tuple
+
+-- ---- the four lines
+
+-- the numbers of rows and of cells, and the word before the least answer
+abbrev pub counts_text : ℕ → ℕ → List ℕ
+counts_text rows cells = codes "rows " ++ (decimal rows ++ (codes "\ncells " ++ (decimal cells ++ codes "\nfirst ")))
+
+-- the line of the least answer
+abbrev pub first_line : Option Tuple → List ℕ
+first_line None = codes "none\n"
+first_line (Some tuple) = plain_line tuple
+
+-- the number of answers in the window
+abbrev pub window_line : ℕ → List ℕ
+window_line count = codes "window " ++ (decimal count ++ codes "\n")
+
+abbrev pub sample_lines : ℕ → ℕ → Option Tuple → ℕ → List ℕ
+sample_lines rows cells first count = counts_text rows cells ++ (first_line first ++ window_line count)
+
+-- the text tells of the relations and the query that the sample's two texts mean: how many rows there are, how many cells the last step of the plan inhabits, the least answer, and how many answers lie in the minutes 0 to 1439
+pub record TellsSample (seed size : ℕ) (bytes : List ℕ) : Type 0 where
+  pub db : List Relation
+  pub q : Question
+  pub database : IsDatabase (sample_database seed size) db
+  pub query : IsSorted db sample_query q
+  pub cells : ℕ
+  pub counted : HasCells db q (length (plan db q)) cells
+  pub first : Option Tuple
+  pub least : IsFirst db q first
+  pub window : ℕ
+  pub answers : HasAnswerCount db q (pos 0) (pos 1439) window
+  pub spelled : bytes ≡ sample_lines size cells first window

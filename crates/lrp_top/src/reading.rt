@@ -1,0 +1,69 @@
+// What the bytes of files say: a database, and a well-sorted query over it.
+ghost use Rattle.std.specs.Prelude.{◌≤◌, IfErr, IfOk, List as ListOf, ℕ, length};
+ghost use Rattle.lrp_model.specs.DatabaseReading.{IsDatabase};
+ghost use Rattle.lrp_model.specs.Checked.{plain_question};
+ghost use Rattle.lrp_model.specs.QueryReading.{IsQuery};
+ghost use Rattle.lrp_model.specs.RawQueries.{RawQuestion};
+ghost use Rattle.lrp_model.specs.Sorting.{IsWellSorted};
+ghost use Rattle.lrp_model.specs.declared.relations.Relation.{Relation as RelationOf};
+ghost use Rattle.lrp_rel.specs.Reading.{IsOrMemory, IsRefusedBy};
+ghost use Rattle.lrp_top.specs.Due.{IsDatabaseReadOf, IsQueryReadOf};
+ghost use Rattle.lrp_top.specs.Questions.{IsDatabaseOrMemory, IsFit, IsQueryOrMemory, asked_as, read_as};
+ghost use Rattle.lrp_top.specs.Seen.{ShelfSeen};
+ghost use Rattle.lrp_top.specs.Written.{plain_if};
+
+use crate::files::{DatabaseFile, QueryFile};
+use crate::outcome::Refusal;
+use lrp_civil::plain_text;
+use lrp_list::heads_are_columns;
+use lrp_model::{List, Memory};
+use lrp_plan_laws::{periods_are_least, sorted_queries_are_settled};
+use lrp_query::read_query;
+use lrp_rel::{Database, ReadFault, read_database};
+use lrp_sorts::check;
+use std::alloc::Global;
+
+/// The database of a file's bytes.
+pub fn database_in(alloc: Global, bytes: List<u8>, civil: bool) -> Result<DatabaseFile, Refusal>
+    requires { length bytes ≤ 16777216 }
+    ensures read { (seen : ShelfSeen) (name : ListOf ℕ) → IsDatabaseReadOf civil seen name bytes (read_as result) }
+    ensures every { (db : ListOf RelationOf) → IsDatabase (plain_if civil bytes) db → IsDatabaseOrMemory db result }
+{
+    match relations_of(alloc, bytes.as_slice(), civil) {
+        Ok(relations) => Ok(DatabaseFile { bytes, relations }),
+        Err(ReadFault::Fault { fault }) => Err(Refusal::Database(fault)),
+        Err(ReadFault::Memory) => Err(Refusal::Memory),
+    }
+}
+
+/// The relations of a text, or of its plain text where times are civil ones.
+fn relations_of(alloc: Global, bytes: &[u8], civil: bool) -> Result<Database, ReadFault>
+    requires { length bytes.now ≤ 16777216 }
+    ensures read { IfOk result (IsDatabase (plain_if civil bytes.now)) }
+    ensures refused { IfErr result (IsRefusedBy (plain_if civil bytes.now)) }
+    ensures every { (db : ListOf RelationOf) → IsDatabase (plain_if civil bytes.now) db → IsOrMemory db result }
+{
+    if !civil {
+        return read_database(alloc, bytes);
+    }
+    match plain_text(alloc, bytes) {
+        Ok(plain) => read_database(alloc, plain.as_slice()),
+        Err(Memory) => Err(ReadFault::Memory),
+    }
+}
+
+/// The well-sorted query of a file's bytes, over a database.
+pub fn query_in(alloc: Global, database: &Database, bytes: List<u8>) -> Result<QueryFile, Refusal>
+    requires { length bytes ≤ 16777216 }
+    ensures asked { (seen : ShelfSeen) (name : ListOf ℕ) → IsQueryReadOf database.now seen name bytes (asked_as result) }
+    ensures fit { IfOk result (λ file. IsFit database.now file) }
+    ensures every { (raw : RawQuestion) → IsQuery bytes raw → IsWellSorted database.now raw → IsQueryOrMemory (plain_question raw) result }
+{
+    let raw = read_query(alloc, bytes.as_slice())?;
+    let query = check(alloc, &raw, database)?;
+    database.relations();
+    heads_are_columns();
+    periods_are_least();
+    sorted_queries_are_settled();
+    Ok(QueryFile { bytes, query })
+}

@@ -1,0 +1,89 @@
+// The sample: a database and a query that are made, read, planned and answered, and what is told of them.
+ghost use Rattle.std.specs.Prelude.{◌≡◌, ◌≤◌, IfOk, List as ListOf, ℕ};
+ghost use Rattle.lrp_eval.specs.Answered.{IsAnswerOf};
+ghost use Rattle.lrp_sample.specs.Trees.{sample_question, sample_relations};
+ghost use Rattle.lrp_sample_laws.specs.Plans.{IsSampleSize};
+ghost use Rattle.lrp_store.specs.Least.{HasRoom};
+ghost use Rattle.lrp_top.specs.Due.{IsOutput};
+ghost use Rattle.lrp_top.specs.Outputs.{sample_text, told};
+ghost use Rattle.lrp_top.specs.Sampled.{TellsSample};
+ghost use Rattle.lrp_top.specs.Samples.{IsSampleOrMemory};
+
+use crate::listing::gather;
+use crate::outcome::{Output, Refusal};
+use crate::purpose::Paging;
+use crate::question::{Question, plan_of};
+use crate::reading::{database_in, query_in};
+use crate::report::Report;
+use crate::serving::{answers, least_of};
+use lrp_eval::whole_pages_count_answers;
+use lrp_model::Memory;
+use lrp_sample::{Texts, sample_query_is_well_sorted, sample_texts, sample_texts_are_read};
+use lrp_sample_laws::{sample_has_few_answers, sample_has_few_cells, sample_is_within_limits};
+use lrp_store::Answer;
+use std::alloc::Global;
+
+/// The most cells of a step, as where no cap is given.
+const CAP: u32 = 1_000_000;
+
+/// What is told of the sample that a seed and a size give. It is refused for want of memory alone.
+pub fn sample(alloc: Global, seed: u32, size: u32) -> Result<Output, Refusal>
+    requires seed { seed ≤ 1000000 }
+    requires size { IsSampleSize size }
+    ensures { IsOutput (TellsSample seed size) (told result) }
+{
+    let question = question_of(alloc, seed, size)?;
+    sample_has_few_cells();
+    let answer = answers(alloc, &question, CAP)?;
+    let report = report_of(alloc, answer, size)?;
+    Ok(Output::Sample(report))
+}
+
+/// The database and the query of the sample's texts, and the plan.
+fn question_of(alloc: Global, seed: u32, size: u32) -> Result<Question, Refusal>
+    requires seed { seed ≤ 1000000 }
+    requires size { IsSampleSize size }
+    ensures { IsSampleOrMemory seed size result }
+{
+    let Texts { database, query } = sample_texts(alloc, seed, size)?;
+    sample_texts_are_read();
+    sample_query_is_well_sorted();
+    sample_is_within_limits();
+    let database = database_in(alloc, database, false)?;
+    let query = query_in(alloc, &database.relations, query)?;
+    let plan = plan_of(alloc, &database.relations, &query.query)?;
+    Ok(Question {
+        database,
+        query,
+        plan,
+    })
+}
+
+/// What is told of the sample's answers.
+fn report_of(alloc: Global, answer: Answer, size: u32) -> Result<Report, Memory>
+    requires size { IsSampleSize size }
+    requires room { HasRoom answer.store }
+    ensures { IfOk result (λ report. (seed cap : ℕ) → IsAnswerOf (sample_relations seed size) sample_question cap answer → TellsSample seed size (sample_text report)) }
+{
+    sample_texts_are_read();
+    sample_query_is_well_sorted();
+    sample_has_few_answers();
+    whole_pages_count_answers();
+    let day = Paging {
+        from: 0,
+        to: 1439,
+        limit: 1_000_000,
+        after: None,
+        json: false,
+        cap: CAP,
+        civil: false,
+    };
+    let found = gather(alloc, &answer, &day, None)?;
+    let cells = answer.store.len();
+    Ok(Report {
+        rows: size,
+        cells,
+        first: least_of(answer),
+        window: found.spots.len() as u64,
+    })
+}
