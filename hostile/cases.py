@@ -4,12 +4,12 @@ import glob
 import os
 import shlex
 
+import civil
 from answers import answer_fault
-from civil import minute_of, plain_text, shown
-from common import EXAMPLES, digest, token
+from common import EXAMPLES, digest
 from language import Fault, read_database, read_query, relation_text
 from meaning import Meaning, TooHard
-from opinion import as_json, plain
+from opinion import page, plain
 from plan import Plan
 from words import is_command
 
@@ -56,7 +56,7 @@ class Judge:
         if database is None:
             return 6, b"refused: read of database\n"
         try:
-            relations = read_database(plain_text(database) if self.is_civil else database)
+            relations = read_database(civil.plain_text(database) if self.is_civil else database)
         except Fault as fault:
             return 3, ("refused: database %s\n" % fault).encode()
         if self.words[0] == "check":
@@ -94,32 +94,11 @@ class Judge:
         return None if "after" in self.keys else (0, self.page(meaning, files))
 
     def page(self, meaning, files):
-        limit, show = int(self.keys.get("limit", 1000)), as_json if self.keys.get("form") == "json" else plain
-        start, end = map(minute_of if self.is_civil else int, (self.keys["from"], self.keys["to"]))
+        start, end = (civil.minute_of(self.keys[it]) if self.is_civil else int(self.keys[it]) for it in ("from", "to"))
         if end - start > 100000:
             raise TooHard
         answers = [meaning.tuple_of(env) for env in meaning.answers(start, end)]
-        parts = (
-            (
-                [it for it in answers[limit - 1] if isinstance(it, int)],
-                [it for it in answers[limit - 1] if not isinstance(it, int)],
-            )
-            if len(answers) > limit
-            else None
-        )
-        more = None if parts is None else token(*parts, files)
-        if show is as_json:
-            last = '{"more":%s}' % ("null" if more is None else '"%s"' % more)
-        else:
-            last = "end" if more is None else "more " + more
-        lines = [show(it, self.written) for it in answers[:limit]]
-        return "".join(line + "\n" for line in [*lines, last]).encode()
-
-    def written(self, time):
-        """A time as it stands in a line."""
-        if not self.is_civil:
-            return str(time)
-        return '"%s"' % shown(time) if self.keys.get("form") == "json" else shown(time)
+        return page(answers, int(self.keys.get("limit", 1000)), files, self.keys.get("form", "plain"), self.is_civil)
 
 
 def examples(program, tally, budget):

@@ -1,63 +1,95 @@
-"""Civil times by a second reader: the civil values of a database, minutes in words, and times as dates."""
+"""Civil times read by Python's calendar, and the group that tries them.
+
+With `civil=yes` a database may say `daily HH:MM`, `weekly DAY HH:MM` and `on YYYY-MM-DD HH:MM`; times are minutes since
+1970-01-01 00:00, windows are given and pages written by dates.
+"""
 
 import datetime
 import re
 
+from language import DATABASE_KINDS, Fault, Lexer
+
+EPOCH = datetime.datetime(1970, 1, 1)
+MINUTE = datetime.timedelta(minutes=1)
+FIRST = (datetime.datetime.min - EPOCH) // MINUTE
+LAST = (datetime.datetime.max - EPOCH) // MINUTE
 DAYS = ("mon", "tue", "wed", "thu", "fri", "sat", "sun")
-START = datetime.datetime(1970, 1, 1)
-PIECE = re.compile(
-    r"[ \t\r\n]+|#[^\n]*|(?P<name>[A-Za-z_][A-Za-z0-9_]*)|[0-9]+"
-    r'|"(?:[^"\\\x00-\x1f\x7f]|\\["\\])*"|<=|>=|[(){},:;|+<>=-]'
-)
 VALUE = re.compile(
-    r"(?:(?P<daily>daily)|weekly (?P<day>%s)|on (?P<date>[0-9]{4}-[0-9]{2}-[0-9]{2})) "
-    r"(?P<time>[0-9]{2}:[0-9]{2})(?![0-9])" % "|".join(DAYS)
+    rb"(?:daily|weekly (?P<day>%s)|on (?P<date>[0-9]{4}-[0-9]{2}-[0-9]{2})) (?P<hour>[0-9]{2}):(?P<minute>[0-9]{2})"
+    % "|".join(DAYS).encode()
 )
+WINDOW_END = re.compile(r"[0-9]{4}-[0-9]{2}-[0-9]{2}T[0-9]{2}:[0-9]{2}")
 
 
-def minute(date, time):
-    """The minute of YYYY-MM-DD and HH:MM, or None where there is no such day or time."""
+def moment(number):
+    return EPOCH + number * MINUTE
+
+
+def shown(number):
+    """A time as a page has it."""
+    return moment(number).isoformat(" ", "minutes")
+
+
+def as_end(number):
+    """A time as the end of a window."""
+    return moment(number).isoformat("T", "minutes")
+
+
+def minute_of(text):
+    """The time of an end of a window, or none where the text is no date."""
+    if not WINDOW_END.fullmatch(text):
+        return None
     try:
-        return (datetime.datetime.strptime(date + time, "%Y-%m-%d%H:%M") - START) // datetime.timedelta(minutes=1)
+        return (datetime.datetime.fromisoformat(text) - EPOCH) // MINUTE
     except ValueError:
         return None
 
 
-def minute_of(word):
-    found = re.fullmatch(r"([0-9]{4}-[0-9]{2}-[0-9]{2})T([0-9]{2}:[0-9]{2})", word, re.ASCII)
-    return minute(*found.groups()) if found else None
-
-
-def shown(time):
-    moment = START + datetime.timedelta(minutes=time)
-    return "%04d-%02d-%02d %02d:%02d" % (moment.year, moment.month, moment.day, moment.hour, moment.minute)
-
-
-def plain_value(found):
-    """The plain text of a civil value that VALUE found, or None where its numbers are out of range."""
-    if found["date"]:
-        once = minute(found["date"], found["time"])
-        return None if once is None else str(once)
-    time = minute("1970-01-01", found["time"])
-    if time is None:
+def plain_value(match):
+    """The plain value of what is spelled like a civil one, or none where its numbers are no date or no time of day."""
+    hour, minute = int(match["hour"]), int(match["minute"])
+    try:
+        time = datetime.time(hour, minute)
+        date = datetime.date.fromisoformat(match["date"].decode()) if match["date"] else EPOCH.date()
+    except ValueError:
         return None
-    if found["daily"]:
-        return "%d+1440n" % time
-    days = next(it for it in range(7) if (START + datetime.timedelta(days=it)).weekday() == DAYS.index(found["day"]))
-    return "%d+10080n" % (1440 * days + time)
+    number = (datetime.datetime.combine(date, time) - EPOCH) // MINUTE
+    if match["date"]:
+        return b"%d" % number
+    if match["day"] is None:
+        return b"%d+1440n" % number
+    days = next(it for it in range(7) if DAYS[moment(1440 * it).weekday()] == match["day"].decode())
+    return b"%d+10080n" % (number + 1440 * days)
+
+
+def token_bounds(data):
+    """Where the names of a text begin, and where its tokens end, up to the first character that begins none."""
+    lexer = Lexer(data, DATABASE_KINDS)
+    names, ends = [], set()
+    while lexer.token.kind not in ("end", "bad"):
+        if lexer.token.kind == "name":
+            names.append(lexer.start + lexer.token.place[1] - 1)
+        ends.add(lexer.at)
+        lexer.token = lexer.next()
+    return names, ends
 
 
 def plain_text(data):
-    """The database text with plain values in place of its civil values, each filled up with blanks."""
+    """The text with each civil value as its plain one, and blanks behind it, so that every place stays."""
     try:
-        text = data.decode()
-    except UnicodeDecodeError:
+        names, ends = token_bounds(data)
+    except Fault:
         return data
-    pieces, at = [], 0
-    while piece := PIECE.match(text, at):
-        value = VALUE.match(text, at) if piece["name"] else None
-        plain = value and plain_value(value)
-        end = (value if plain else piece).end()
-        pieces.append(plain.ljust(end - at) if plain else piece[0])
-        at = end
-    return ("".join(pieces) + text[at:]).encode()
+    found, done = [], 0
+    for start in names:
+        match = VALUE.match(data, start)
+        plain = plain_value(match) if match and match.end() in ends else None
+        if plain is not None:
+            found += [data[done:start], plain.ljust(match.end() - start)]
+            done = match.end()
+    return b"".join(found) + data[done:]
+
+
+def spelled(number, chance):
+    """A time as an instant of a database: by its date, or now and then as the number."""
+    return "on " + shown(number) if FIRST <= number <= LAST and chance.random() < 0.8 else str(number)

@@ -5,6 +5,7 @@ import itertools
 import os
 import random
 
+from civil import plain_text
 from common import EXAMPLES, LONGEST, refusal
 from language import Fault, LIMIT, QUERY_KINDS, Lexer, read_database, read_query, relation_text
 from plan import Plan
@@ -14,14 +15,21 @@ BUS = b"relation bus(t: time) { (5+60n); }"
 SMALL = b"""relation bus(dep: time, arr: time, line: data) { (5+60n, 30+60n, "7\\"") where arr = dep + 25, dep >= -3; (-4, 6, ""); }
 # two
 relation on(t: time, l: line) { }"""
+DATED = b"""relation on(on: time, daily: time, line: data) { (on 1969-12-31 08:15, -1, "daily 08:15"); # daily 08:15
+ (weekly sun 23:59, daily 00:00, "") where on >= on 2024-02-29 00:00, daily = on - 5; } relation daily() { }"""
 ASKED = b"""{ t: time, k: line | (exists u: time (bus(t, u + 1, "7") and u <= t - 2 and not t in -1+4n) # x
  or forall l: line (on(t, l) implies l = k) or 3 < t) }"""
 
 
-def of_database(text):
+def relations_of(text, keys):
+    """The relations of a database, which has civil values where the keys say so."""
+    return read_database(plain_text(text) if "civil=yes" in keys else text)
+
+
+def of_database(text, *keys):
     """What check has to end with, by the second reader."""
     try:
-        return 0, "".join(map(relation_text, read_database(text).values())).encode()
+        return 0, "".join(map(relation_text, relations_of(text, keys).values())).encode()
     except Fault as fault:
         return 3, refusal("database", fault)
 
@@ -36,23 +44,24 @@ def of_query(relations, text):
     return (5, refused.encode()) if refused else (0, plan.text().encode())
 
 
-def check_database(program, text):
-    status, wanted = of_database(text)
-    program.expect(wanted, status, "check", database=text)
+def check_database(program, text, *keys):
+    status, wanted = of_database(text, *keys)
+    program.expect(wanted, status, "check", *keys, database=text)
 
 
-def check_query(program, database, text):
-    status, wanted = of_query(read_database(database), text)
-    program.expect(wanted, status, "explain", database=database, query=text)
+def check_query(program, database, text, *keys):
+    status, wanted = of_query(relations_of(database, keys), text)
+    program.expect(wanted, status, "explain", *keys, database=database, query=text)
 
 
 def examples():
-    """The databases of the examples of use, which have a page of their own, and each query with its database."""
+    """The databases of the examples of use, which have a page of their own, and each query with its database, and their keys."""
     seen = set()
     for page in sorted(glob.glob(os.path.join(EXAMPLES, "*", "README.md"))):
         for case in cases_of(os.path.dirname(page)):
+            keys = [key + "=yes" for key in ("civil",) if case.get(key) == "yes"]
             for pair in ((case.get("db"), None), (case.get("db"), case.get("query"))):
-                texts = tuple(content(page, name) for name in pair)
+                texts = (*(content(page, name) for name in pair), *keys)
                 if texts[0] is not None and texts not in seen:
                     seen.add(texts)
                     yield texts
@@ -75,15 +84,16 @@ def content(page, name):
 
 
 def texts_of(few):
-    """Small texts of every construct, and where not few the examples too."""
-    return [(SMALL, None), (SMALL, ASKED)] + ([] if few else list(examples()))
+    """Small texts of every construct, and where not few the examples too: a database, a query or none, and keys."""
+    texts = [] if few else list(examples())
+    return [(SMALL, None), (SMALL, ASKED), *texts, (DATED, None, "civil=yes")]
 
 
-def check(program, database, query):
+def check(program, database, query, *keys):
     if query is None:
-        check_database(program, database)
+        check_database(program, database, *keys)
     else:
-        check_query(program, database, query)
+        check_query(program, database, query, *keys)
 
 
 def changed(database, query, change):
@@ -91,20 +101,22 @@ def changed(database, query, change):
 
 
 def cuts(program, tally, few=False):
-    for database, query in texts_of(few):
+    for database, query, *keys in texts_of(few):
         whole = database if query is None else query
         for length in range(len(whole) + 1):
-            check(program, *changed(database, query, lambda text: text[:length]))
+            check(program, *changed(database, query, lambda text: text[:length]), *keys)
 
 
 def replaced(program, tally, few=False):
     chance = random.Random(1)
-    for database, query in texts_of(few):
+    for database, query, *keys in texts_of(few):
         whole = database if query is None else query
         for at in range(len(whole)):
-            nasty = NASTY if database == SMALL and not few else chance.sample(NASTY, 2)
+            nasty = NASTY if database in (SMALL, DATED) and not few else chance.sample(NASTY, 2)
             for byte in nasty:
-                check(program, *changed(database, query, lambda text: text[:at] + bytes([byte]) + text[at + 1 :]))
+                check(
+                    program, *changed(database, query, lambda text: text[:at] + bytes([byte]) + text[at + 1 :]), *keys
+                )
 
 
 def spans(text):
@@ -121,22 +133,21 @@ def spans(text):
 
 def exchanged(program, tally, few=False):
     chance = random.Random(2)
-    for database, query in texts_of(few):
+    for database, query, *keys in texts_of(few):
         whole = database if query is None else query
         pairs = list(itertools.combinations(spans(whole), 2))
         for (a, b), (c, d) in chance.sample(pairs, min(len(pairs), 300 if few else 400)):
-            check(
-                program, *changed(database, query, lambda text: text[:a] + text[c:d] + text[b:c] + text[a:b] + text[d:])
-            )
+            exchange = lambda text: text[:a] + text[c:d] + text[b:c] + text[a:b] + text[d:]
+            check(program, *changed(database, query, exchange), *keys)
 
 
 def left_out(program, tally, few=False):
     """Each token left out, and each one twice."""
-    for database, query in texts_of(few):
+    for database, query, *keys in texts_of(few):
         whole = database if query is None else query
         for a, b in spans(whole):
-            check(program, *changed(database, query, lambda text: text[:a] + text[b:]))
-            check(program, *changed(database, query, lambda text: text[:b] + b" " + text[a:]))
+            check(program, *changed(database, query, lambda text: text[:a] + text[b:]), *keys)
+            check(program, *changed(database, query, lambda text: text[:b] + b" " + text[a:]), *keys)
 
 
 def deep(program, tally, few=False):

@@ -1,5 +1,7 @@
 """Random databases and queries, well-sorted, from a seed. Numbers and periods are small, so that windows are."""
 
+from civil import spelled
+
 TEXTS = ["a", "b", "c", "", "é", 'q"', "\\", "a b", "#", "Zürich", "ab"]
 PERIODS = (
     [1, 2],
@@ -25,8 +27,10 @@ def quoted(text):
 
 
 class Inventor:
-    def __init__(self, chance):
-        self.chance = chance
+    """Invents a database and queries over it; a civil database has dates for many of its instants."""
+
+    def __init__(self, chance, is_civil=False):
+        self.chance, self.is_civil = chance, is_civil
         self.periods = chance.choice(PERIODS)
         self.sorts = chance.choice(SORTS)
         self.reach = chance.choice((3, 6, 6, 12))
@@ -37,6 +41,9 @@ class Inventor:
     def number(self, reach=None):
         reach = reach or self.reach
         return self.chance.randint(-reach, reach)
+
+    def instant(self):
+        return spelled(self.number(), self.chance) if self.is_civil else str(self.number())
 
     def blank(self):
         return self.chance.choice(("", "", "", " ", "\n", "\t", " # x\n", "\r\n"))
@@ -55,7 +62,8 @@ class Inventor:
             self.chance.choice(self.sorts) for _ in range(self.chance.choice((0, 0, 0, 1, 1, 2)))
         ]
         self.chance.shuffle(sorts)
-        columns = [("c%d" % i, sort) for i, sort in enumerate(sorts)]
+        names = ("on", "daily", "c2", "weekly", "mon") if self.is_civil else ("c0", "c1", "c2", "c3", "c4")
+        columns = list(zip(names, sorts))
         self.relations[name] = columns
         rows = "".join(
             " %s;%s" % (self.row(columns), self.blank()) for _ in range(self.chance.choice((0, 1, 1, 2, 2, 3, 4)))
@@ -65,8 +73,8 @@ class Inventor:
     def value(self, sort):
         if sort != "time":
             return quoted(self.chance.choice(self.texts))
-        if self.chance.random() < 0.15:
-            return str(self.number())
+        if self.chance.random() < (0.4 if self.is_civil else 0.15):
+            return self.instant()
         return "%d%s+%s%dn" % (self.number(), self.blank(), self.blank(), self.chance.choice(self.periods))
 
     def row(self, columns):
@@ -81,7 +89,7 @@ class Inventor:
     def bound(self, names):
         sign = self.chance.choice(("<=", ">=", "="))
         if self.chance.random() < 0.5:
-            return "%s %s %d" % (self.chance.choice(names), sign, self.number())
+            return "%s %s %s" % (self.chance.choice(names), sign, self.instant())
         offset = self.chance.choice(("", " + %d" % abs(self.number()), " - %d" % abs(self.number())))
         return "%s %s %s%s" % (self.chance.choice(names), sign, self.chance.choice(names), offset)
 

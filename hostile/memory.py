@@ -38,6 +38,9 @@ def runs():
     yield ["explain"], *example("guard", "always")
     yield ["check"], example("week", "connections")[0], None
     yield ["check"], b"relation r(t: time) { (5+60n", None
+    yield ["check", "civil=yes"], b"relation r(t: time) { (daily 08:15); (on 2024-02-29 08:15); }", None
+    dated = ["list", "from=2024-02-26T00:00", "to=2024-03-10T23:59", "civil=yes"]
+    yield dated, b"relation bus(t: time) { (weekly mon 08:15); }", departures
     yield ["decide", "cap=1"], SORTS, left
     yield ["sample", "seed=0", "size=20"], None, None
     yield ["check", "check"], None, None

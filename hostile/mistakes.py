@@ -56,9 +56,14 @@ POOL = (
     b"h0 + 1",
     b"\\",
 )
+CIVIL_POOL = (
+    *(b"daily 08:15", b"daily 24:00", b"daily  08:15", b"daily 08:155", b"daily"),
+    *(b"weekly mon 08:15", b"weekly Mon 08:15", b"weekly", b"mon", b"08", b":15"),
+    *(b"on 1970-01-01 00:05", b"on 2023-02-29 00:00", b"on 2024-02-29", b"on", b"2024-02-29"),
+)
 
 
-def mistaken(chance, text):
+def mistaken(chance, text, pool=POOL):
     try:
         places = spans(text)
     except Fault:
@@ -70,7 +75,7 @@ def mistaken(chance, text):
     kind = chance.random()
     if kind < 0.5:
         return (
-            text[:a] + b" " * (chance.random() < 0.5) + chance.choice(POOL) + b" " * (chance.random() < 0.5) + text[b:]
+            text[:a] + b" " * (chance.random() < 0.5) + chance.choice(pool) + b" " * (chance.random() < 0.5) + text[b:]
         )
     if kind < 0.65:
         return text[:a] + text[b:]
@@ -84,3 +89,10 @@ def mistakes(program, case, count=3):
         check_database(program, mistaken(case.chance, case.database))
         check_query(program, case.database, mistaken(case.chance, case.query))
         check_query(program, case.database, mistaken(case.chance, mistaken(case.chance, case.query)))
+
+
+def civil_mistakes(program, case, count=3):
+    for _ in range(count):
+        once = mistaken(case.chance, case.database, POOL + 3 * CIVIL_POOL)
+        check_database(program, once, "civil=yes")
+        check_database(program, mistaken(case.chance, once, POOL + 3 * CIVIL_POOL), "civil=yes")

@@ -2,34 +2,54 @@
 
 import random
 
+import civil
 from answers import answer_fault
 from common import digest, token
 from invent import Inventor
-from language import quoted, read_database, read_query
+from language import quoted, read_database, read_query, relation_text
 from meaning import Meaning, TooHard
-from mistakes import mistakes
+from mistakes import civil_mistakes, mistakes
 from plan import Plan
 from shifted import database_text, query_text
 
 FAR = 10**15
 
 
-def plain(answer, time=str):
-    return ", ".join(time(it) if isinstance(it, int) else quoted(it) for it in answer) or "()"
+def plain(answer, show=str):
+    return ", ".join(show(it) if isinstance(it, int) else quoted(it) for it in answer) or "()"
 
 
-def as_json(answer, time=str):
-    return "[%s]" % ",".join(time(it) if isinstance(it, int) else quoted(it) for it in answer)
+def as_json(answer, show=str):
+    return "[%s]" % ",".join(show(it) if isinstance(it, int) else quoted(it) for it in answer)
+
+
+def page(answers, limit, files, form="plain", is_civil=False):
+    """The text of a page of these answers in order, the first of what is left."""
+    if form == "json":
+        lines = [as_json(it, (lambda time: '"%s"' % civil.shown(time)) if is_civil else str) for it in answers[:limit]]
+    else:
+        lines = [plain(it, civil.shown if is_civil else str) for it in answers[:limit]]
+    more = None if len(answers) <= limit else token(*split(answers[limit - 1]), files)
+    if form == "json":
+        last = '{"more":%s}' % ("null" if more is None else '"%s"' % more)
+    else:
+        last = "end" if more is None else "more " + more
+    return "".join(line + "\n" for line in [*lines, last]).encode()
+
+
+def split(answer):
+    return [it for it in answer if isinstance(it, int)], [it for it in answer if not isinstance(it, int)]
 
 
 class Case:
     """One random database and query, with what the program has to answer."""
 
-    def __init__(self, seed, budget):
-        self.chance = random.Random(seed)
-        inventor = Inventor(self.chance)
+    def __init__(self, seed, budget, is_civil=False):
+        self.chance = random.Random("civil %d" % seed if is_civil else seed)
+        self.is_civil = is_civil
+        inventor = Inventor(self.chance, is_civil)
         self.database, self.query = inventor.database().encode(), inventor.query().encode()
-        self.relations = read_database(self.database)
+        self.relations = read_database(civil.plain_text(self.database) if is_civil else self.database)
         self.parsed = read_query(self.query, self.relations)
         self.budget = budget
         self.files = {"database": self.database, "query": self.query}
@@ -37,36 +57,34 @@ class Case:
     def meaning(self):
         return Meaning(self.relations, self.parsed, self.budget)
 
-    def split(self, answer):
-        return [it for it in answer if isinstance(it, int)], [it for it in answer if not isinstance(it, int)]
+    def keys(self, command):
+        """The keys of a run. Where no civil value stands, civil=yes changes only how a page shows its times."""
+        if self.is_civil:
+            return ["civil=yes"]
+        return self.chance.choice(([], [], ["civil=no"], [] if command == "list" else ["civil=yes"]))
+
+    def ends(self, start, end):
+        show = civil.as_end if self.is_civil else str
+        return ["from=" + show(start), "to=" + show(end)]
 
     def key(self, answer):
-        return tuple(map(tuple, self.split(answer)))
+        return tuple(map(tuple, split(answer)))
 
     def page(self, answers, limit, form="plain"):
-        """The text of a page of these answers in order, the first of what is left."""
-        show = plain if form == "plain" else as_json
-        lines = [show(it) for it in answers[:limit]]
-        more = (
-            None if len(answers) <= limit else token(*self.split(answers[limit - 1]), digest(self.database, self.query))
-        )
-        if form == "json":
-            last = '{"more":%s}' % ("null" if more is None else '"%s"' % more)
-        else:
-            last = "end" if more is None else "more " + more
-        return "".join(line + "\n" for line in [*lines, last]).encode()
+        return page(answers, limit, digest(self.database, self.query), form, self.is_civil)
 
 
 def decide(program, case):
     least = case.meaning().least()
     wanted = "Empty\n" if least is None else "Nonempty\n%s\n" % plain(least)
-    program.expect(wanted.encode(), 0, "decide", **case.files)
+    program.expect(wanted.encode(), 0, "decide", *case.keys("decide"), **case.files)
 
 
 def window(case):
     times = sum(it.is_time for it in case.parsed.head)
     width = {0: 3, 1: 40, 2: 14, 3: 6}[times]
-    start = case.chance.choice((0, 0, -width // 2, -width, -3, FAR, -FAR))
+    far = (civil.FIRST + 1, civil.LAST - width) if case.is_civil else (FAR, -FAR)
+    start = case.chance.choice((0, 0, -width // 2, -width, -3, *far))
     return start, start + width - case.chance.choice((0, 0, 1, width + 1))
 
 
@@ -75,12 +93,12 @@ def listing(program, case):
     start, end = window(case)
     meaning = case.meaning()
     answers = [meaning.tuple_of(env) for env in meaning.answers(start, end)]
-    ends = ["from=%d" % start, "to=%d" % end]
+    ends = [*case.ends(start, end), *case.keys("list")]
     program.expect(case.page(answers, 1000), 0, "list", *ends, **case.files)
     if answers:
         limit = case.chance.randint(1, len(answers))
         skipped = case.chance.randrange(len(answers))
-        behind = token(*case.split(answers[skipped]), case.chance.choice((None, digest(case.database, case.query))))
+        behind = token(*split(answers[skipped]), case.chance.choice((None, digest(case.database, case.query))))
         left = answers[skipped + 1 :]
         for form in ("plain", "json"):
             program.expect(
@@ -131,7 +149,9 @@ def moved(program, case):
 def explain(program, case):
     plan = Plan(case.relations, case.parsed)
     refused = plan.refusal()
-    program.expect((refused or plan.text()).encode(), 5 if refused else 0, "explain", **case.files)
+    program.expect(
+        (refused or plan.text()).encode(), 5 if refused else 0, "explain", *case.keys("explain"), **case.files
+    )
 
 
 def cap(program, case):
@@ -139,7 +159,8 @@ def cap(program, case):
     plan = Plan(case.relations, case.parsed, case.budget)
     cells = [plan.cells(number) for number in range(1, len(plan.steps) + 1)]
     most = max(cells)
-    status, text = program.run("decide", "cap=%d" % max(most, 1), **case.files)
+    keys = case.keys("decide")
+    status, text = program.run("decide", "cap=%d" % max(most, 1), *keys, **case.files)
     program.tally.check(
         status == 0,
         "decide cap=%d: status %s, though the steps have %s cells" % (most, status, cells),
@@ -149,13 +170,12 @@ def cap(program, case):
     )
     for less in {most - 1, case.chance.randint(0, max(most - 1, 0))} - {0, -1}:
         step = next(i for i, count in enumerate(cells, 1) if count > less)
-        program.expect(
-            b"refused: more than %d cells at step %d\n" % (less, step), 5, "decide", "cap=%d" % less, **case.files
-        )
+        wanted = b"refused: more than %d cells at step %d\n" % (less, step)
+        program.expect(wanted, 5, "decide", "cap=%d" % less, *keys, **case.files)
 
 
 def ask(program, case):
-    status, text = program.run("ask", **case.files)
+    status, text = program.run("ask", *case.keys("ask"), **case.files)
     fault = answer_fault(text, case.meaning()) if status == 0 else "status %s" % status
     program.tally.check(fault is None, "ask: %s" % fault, case.database, case.query, text)
 
@@ -166,12 +186,36 @@ def faults(program, tally, seeds):
         mistakes(program, Case(seed, 0))
 
 
-def opinion(program, tally, seeds, budget):
-    parts = [explain, decide, listing, moved, cap] + ([ask] if program.has_ask() else [])
+def civil_faults(program, tally, seeds):
+    """The same in databases with civil values."""
     for seed in seeds:
-        case = Case(seed, budget)
+        civil_mistakes(program, Case(seed, 0, is_civil=True))
+
+
+def compare(program, tally, cases, parts):
+    for case in cases:
         for part in parts:
             try:
                 part(program, case)
             except TooHard:
                 tally.too_hard()
+
+
+def opinion(program, tally, seeds, budget):
+    parts = [explain, decide, listing, moved, cap] + ([ask] if program.has_ask() else [])
+    compare(program, tally, (Case(seed, budget) for seed in seeds), parts)
+
+
+def check(program, case):
+    wanted = "".join(map(relation_text, case.relations.values()))
+    program.expect(wanted.encode(), 0, "check", *case.keys("check"), database=case.database)
+
+
+def civil_opinion(program, tally, seeds, budget):
+    """Databases that have dates for instants, near the first minute of 1970, with all commands."""
+    compare(
+        program,
+        tally,
+        (Case(seed, budget, is_civil=True) for seed in seeds),
+        [check, explain, decide, listing, cap, ask],
+    )

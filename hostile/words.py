@@ -3,7 +3,7 @@
 import random
 import re
 
-from civil import minute_of
+import civil
 from common import refusal
 
 USAGE = b"refused: usage\n"
@@ -31,6 +31,7 @@ RANGES = {
     "from": (-(2**62), 2**62),
     "to": (-(2**62), 2**62),
 }
+CHOICES = {"form": ("plain", "json"), "civil": ("yes", "no")}
 VALUES = (
     "",
     "none",
@@ -59,35 +60,28 @@ VALUES = (
     "yes",
     "no",
     "Yes",
-    "0001-01-01T00:00",
-    "9999-12-31T23:59",
-    "2024-02-29T00:00",
-    "2024-02-30T00:00",
-    "0000-01-01T00:00",
-    "2024-02-29T24:00",
-    "2024-02-29 00:00",
+    "2024-02-29T08:15",
+    "2023-02-29T08:15",
+    "2024-02-29 08:15",
     "T1/5/",
     " 5",
     "5 ",
     "é",
     "=",
 )
-KEYS = ("db", "cap", "limit", "form", "civil", "seed", "size", "after", "from", "x", "Db", "db ")
 ODD = ("", "=", "db", "query", "=none", "db none", "DB=none", "Ask", "help", "--help", "-", "ask", "list", "check")
 
 
-def is_value(key, value, civil):
-    if civil and key in ("from", "to"):
-        return minute_of(value) is not None
+def is_value(key, value, is_civil):
+    if key in ("from", "to") and is_civil:
+        return civil.minute_of(value) is not None
     if key in RANGES:
         if not re.fullmatch(r"0|-?[1-9][0-9]*" if key in ("from", "to") else r"0|[1-9][0-9]*", value):
             return False
         least, most = RANGES[key]
         return least <= int(value) <= most
-    if key == "form":
-        return value in ("plain", "json")
-    if key == "civil":
-        return value in ("yes", "no")
+    if key in CHOICES:
+        return value in CHOICES[key]
     return key == "after" or value != ""
 
 
@@ -95,10 +89,10 @@ def is_command(words):
     if not words or words[0] not in REQUIRED:
         return False
     required, known = REQUIRED[words[0]], REQUIRED[words[0]] | FURTHER[words[0]]
-    seen, civil = set(), "civil=yes" in words
+    seen = set()
     for word in words[1:]:
         key, found, value = word.partition("=")
-        if not found or key not in known or key in seen or not is_value(key, value, civil):
+        if not found or key not in known or key in seen or not is_value(key, value, "civil=yes" in words[1:]):
             return False
         seen.add(key)
     return required <= seen
@@ -107,8 +101,9 @@ def is_command(words):
 def random_words(chance):
     command = chance.choice(sorted(REQUIRED))
     keys = sorted(REQUIRED[command]) + [key for key in sorted(FURTHER[command]) if chance.random() < 0.4]
-    civil = "civil" in keys and chance.random() < 0.5
-    words = ["%s=%s" % (key, good_value(chance, key, civil)) for key in keys]
+    words = ["%s=%s" % (key, good_value(chance, key)) for key in keys]
+    if "civil=yes" in words and chance.random() < 0.8:
+        words = [good_end(chance, word) for word in words]
     chance.shuffle(words)
     words.insert(0, command)
     for _ in range(chance.choice((0, 0, 1, 1, 2))):
@@ -126,7 +121,9 @@ def random_words(chance):
             words.append(
                 "%s=%s"
                 % (
-                    chance.choice(KEYS),
+                    chance.choice(
+                        ("db", "cap", "limit", "form", "seed", "size", "after", "from", "civil", "x", "Db", "db ")
+                    ),
                     chance.choice(VALUES),
                 )
             )
@@ -135,17 +132,19 @@ def random_words(chance):
     return words
 
 
-def good_value(chance, key, civil):
-    if key == "civil":
-        return "yes" if civil else "no"
-    if civil and key in ("from", "to"):
-        return chance.choice(("0001-01-01T00:00", "1970-01-01T00:00", "2024-02-29T23:59", "9999-12-31T23:59"))
+def good_value(chance, key):
     if key in RANGES:
         least, most = RANGES[key]
         return chance.choice((least, most, 1, chance.randint(least, most)))
-    return chance.choice(
-        {"form": ("plain", "json"), "after": ("", "T1/5/", "=", "none")}.get(key, ("none", "none", "a=b", "é"))
-    )
+    of_key = {**CHOICES, "after": ("", "T1/5/", "=", "none")}
+    return chance.choice(of_key.get(key, ("none", "none", "a=b", "é")))
+
+
+def good_end(chance, word):
+    """The word, or where it is an end of a window, one by a date."""
+    key = word.partition("=")[0]
+    number = chance.choice((civil.FIRST, civil.LAST, 0, chance.randint(civil.FIRST, civil.LAST)))
+    return "%s=%s" % (key, civil.as_end(number)) if key in ("from", "to") else word
 
 
 def words(program, tally, seeds):

@@ -63,6 +63,19 @@ def databases():
     yield "open brackets", filled(b"relation r", b"(")
 
 
+def dated_databases():
+    yield "daily", filled(b"relation r(t:time){", b"(daily 08:15);", b"}")
+    yield "weekly", filled(b"relation r(t:time){", b"(weekly mon 08:15);", b"}")
+    yield "on", filled(b"relation r(t:time){", b"(on 2024-02-29 08:15);", b"}")
+    yield "names that are no values", filled(b"", b"daily ")
+    yield "weekdays that are no values", filled(b"", b"weekly mon ")
+    yield "dates that are no values", filled(b"", b"on 2024-02-30 08:15 ")
+    yield "values in one comment", filled(b"#", b" daily 08:15")
+    yield "values in texts", filled(b"relation r(d:data){", b'("daily 08:15");', b"}")
+    yield "values and no UTF-8", filled(b"", b"daily 08:15 ", b"\xff")
+    yield "blanks", b" " * LONGEST
+
+
 def queries():
     yield "not", filled(b"{ | ", b"not ", b"0=0}")
     yield "open brackets", filled(b"{ | ", b"(")
@@ -130,6 +143,9 @@ def reading(program, tally):
     for name, text in databases():
         program.write("db", text)
         clock.run(name, "check", "db=db")
+    for name, text in dated_databases():
+        program.write("db", text)
+        clock.run(name, "check", "db=db", "civil=yes")
     program.write("db", SMALL)
     for name, text in queries():
         program.write("query", text)
