@@ -2,9 +2,13 @@
 
 import unittest
 
-from recounts import EXAMPLES, FOLDERS
+from recounts import EXAMPLES
+from recounts import FOLDERS as BY_NUMBERS
+from recounts_by_dates import dates
+
+FOLDERS = {**BY_NUMBERS, "dates": dates}
 # Plans, refusals and normal forms, which follow from the rules of the formats and not from a count.
-NOT_COUNTED = {"maintenance": {"unattended", "far", "far_asked", "few_cells"}, "guide": {"check", "costly"}}
+NOT_COUNTED = {"dates": {"rides", "unread", "boat_plan", "no_such_day"}, "maintenance": {"unattended", "far", "far_asked", "few_cells"}, "guide": {"check", "dates", "costly"}}
 
 
 def names_of(folder: str) -> set[str]:
