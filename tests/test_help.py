@@ -83,6 +83,20 @@ class Help(unittest.TestCase):
             self.assertEqual((answer.status, answer.out), (0, 'Nonempty\n485, "7"\n'))
 
 
+    def test_the_civil_times_of_the_language_page_mean_what_it_says(self):
+        page = (TOP / "share/help/language.txt").read_text()
+        values = re.findall(r"^((?:daily|weekly|on) [a-z0-9: -]+?)  +\S", page, re.MULTILINE)
+        self.assertEqual(values, ["daily 08:15", "weekly mon 08:15", "on 2024-02-26 08:15"])
+        with tempfile.TemporaryDirectory() as name:
+            folder = Path(name)
+            (folder / "bus.lrp").write_text("relation bus(t: time) { %s }" % " ".join(f"({value});" for value in values))
+            (folder / "all.lrq").write_text("{ t: time | bus(t) }")
+            self.assertIn("(495+1440n);", run("check", "db=bus.lrp", "civil=yes", folder=folder).out)
+            window = "from=2024-02-26T00:00", "to=2024-02-27T23:59"
+            listed = run("list", "db=bus.lrp", "query=all.lrq", *window, "civil=yes", folder=folder)
+            self.assertEqual(listed.out, "2024-02-26 08:15\n2024-02-27 08:15\nend\n")
+
+
 class Version(unittest.TestCase):
     """One version for all that shows one."""
 

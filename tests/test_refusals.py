@@ -94,6 +94,13 @@ USAGE = [
     (("list", "db=a", "query=b", "from=0", "to=" + BIG), "to=", f"'{BIG}' is no value of 'to'.", "whole number"),
     (("list", "db=a", "query=b", "from=0", "to=9", "limit=1e3"), "limit=1e3", "'1e3' is no value", "whole number"),
     (("list", "db=a", "query=b", "from=0", "to=9", "form=xml"), "form=xml", "'xml' is no value", "plain or json"),
+    (("check", "db=a", "civil=true"), "civil=true", "'true' is no value of 'civil'.", "no or yes"),
+    (("ask", "db=a", "query=b", "cvil=yes"), "cvil=yes", "'ask' has no key 'cvil'.", "'civil'"),
+    (("list", "civil=yes", "db=a", "query=b", "from=5"), "from=5", "'5' is no value of 'from'.", "civil=no beside a number"),
+    (("list", "db=a", "query=b", "from=2023-02-29T00:00", "civil=yes"), "from=2023", "no value", "a date and a time of day"),
+    (("list", "db=a", "query=b", "from=2024-02-29T00:00"), "from=2024", "no value", "civil=yes beside a date"),
+    (("list", "db=a", "query=b", "from=2024-02-29T00:00", "to=2024-02-29 08:15", "civil=yes"), "to=2024", "no value",
+     "as 2024-02-26T08:15"),
     (("list", "db=a", "query=b", "from=0"), "", "'list' needs the key 'to'.", "to=NUMBER"),
     (("ask", "db=a"), "", "'ask' needs the key 'query'.", "query=FILE.lrq"),
 ]
@@ -218,6 +225,44 @@ class Explained(unittest.TestCase):
         told = run("decide", "db=maintenance.lrp", "query=unattended.lrq", "cap=5", folder=folder, explain="always")
         self.assertIn("'2 scan due(t, m) [period 1008, reach 1008]'", " ".join(told.err.split()))
 
+    def test_details_of_civil_values(self):
+        for row, wanted in (
+                ("weekly mon 24:00", "Hours are 00 to 23, and minutes 00 to 59."),
+                ("daily 08:60", "Hours are 00 to 23, and minutes 00 to 59."),
+                ("weekly monday 08:15", "'monday' is no day of the week: they are mon, tue, wed, thu, fri, sat, sun."),
+                ("on 2023-02-29 08:15", "There is no day 2023-02-29."),
+                ("on 2024-13-01 08:15", "There is no day 2024-13-01."),
+                ("daily  08:15", "with one blank where one is shown."),
+                ("daily 8:15", "A civil value is 'daily HH:MM'"),
+                ("on 24-02-29 08:15", "A civil value is 'daily HH:MM'"),
+                ("daily 08:155", "A civil value is 'daily HH:MM'"),
+                ("5 daily 08:15", "'daily 08:15' is read as 495+1440n, which can't stand here."),
+                ("daily", "Here may stand: ')' or a value."),
+                ("daily 08:15 5", "Here may stand: ',' or ')'.")):
+            with self.subTest(row), tempfile.TemporaryDirectory() as name:
+                Path(name, "a.lrp").write_text(f'relation r(t: time) {{ # daily 08:15, "\n  ({row}); }}')
+                told = run("check", "db=a.lrp", "civil=yes", folder=Path(name), explain="always")
+                self.assertRegex(told.out, r"^refused: database Syntax at 2:\d+\n$")
+                self.assertIn(wanted, " ".join(told.err.split()))
+        with tempfile.TemporaryDirectory() as name:
+            Path(name, "a.lrp").write_text("relation r(t: time) { (0+1n) where t <= daily 08:15; }")
+            for keys, place, wanted in (([], 47, "Civil values, as 'daily 08:15', are read with civil=yes."),
+                                        (["civil=yes"], 44, "'daily 08:15' is read as 495+1440n, which can't stand here.")):
+                told = run("check", "db=a.lrp", *keys, folder=Path(name), explain="always")
+                self.assertEqual(told.out, f"refused: database Syntax at 1:{place}\n")
+                self.assertIn(wanted, " ".join(told.err.split()))
+
+    def test_the_step_and_the_numbers_of_a_civil_database(self):
+        folder = TOP / "examples/dates"
+        words = ["decide", "db=rides.lrp", "query=connections.lrq", "civil=yes"]
+        told = run(*words, "cap=20", folder=folder, explain="always")
+        self.assertRegex(" ".join(told.err.split()), r"The step is '1 scan trip\(d, b, \"Airport\", h\) ")
+        with tempfile.TemporaryDirectory() as name:
+            Path(name, "a.lrp").write_text("relation r(t: time) { (daily 08:15); (0+4611686018427387903n); }")
+            Path(name, "b.lrq").write_text(ASK.replace("bus", "r"))
+            told = run("decide", "db=a.lrp", "query=b.lrq", "civil=yes", folder=Path(name), explain="always")
+            self.assertIn("The greatest periods in both files are 4611686018427387903, 1440.", " ".join(told.err.split()))
+
     def test_a_file_that_is_read_once_has_its_sentences(self):
         for words in ("db=<(echo relation)", "db=/dev/stdin < <(echo relation)"):
             told = support.shell(f"fizhedul check {words}", explain="always")
@@ -246,7 +291,9 @@ class Usage(unittest.TestCase):
     def test_words_that_spell_a_command_have_no_fault(self):
         for words in ("check db=a", "ask query=b db=a", "ask db=a query=b cap=1000000000", "list db=a query=b to=0 from=-5",
                       "list db=a query=b from=0 to=0 limit=1000000 after= form=json cap=1", "decide db=a=b query=b",
-                      "list db=a query=b from=-4611686018427387904 to=4611686018427387904"):
+                      "list db=a query=b from=-4611686018427387904 to=4611686018427387904",
+                      "list db=a query=b from=0001-01-01T00:00 to=9999-12-31T23:59 civil=yes", "check civil=no db=a",
+                      "list db=a query=b civil=yes from=2024-02-29T23:59 to=1969-12-31T00:00", "explain db=a query=b civil=yes"):
             self.assertIsNone(find_fault(words.split()), words)
             self.assertNotEqual(run(*words.split()).out, "refused: usage\n", words)
 

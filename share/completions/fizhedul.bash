@@ -4,13 +4,13 @@
 _fizhedul_keys() {
     local keys=
     case $1 in
-        ask) keys='db query cap' ;;
-        decide) keys='db query cap' ;;
-        list) keys='db query from to limit after form cap' ;;
-        explain) keys='db query' ;;
-        check) keys='db' ;;
-        shell) keys='db' ;;
-        draw) keys='db query from to format grid marks hour out cap' ;;
+        ask) keys='db query cap civil' ;;
+        decide) keys='db query cap civil' ;;
+        list) keys='db query from to limit after form cap civil' ;;
+        explain) keys='db query civil' ;;
+        check) keys='db civil' ;;
+        shell) keys='db civil' ;;
+        draw) keys='db query from to format grid marks hour out cap civil' ;;
     esac
     echo "$keys"
 }
@@ -33,6 +33,7 @@ _fizhedul_values() {
     case $1 in
         db) endings='lrp' ;;
         query) endings='lrq' ;;
+        civil) values='no yes' ;;
         form) values='plain json' ;;
         format) values='html svg png' ;;
         grid) values='numbers dates' ;;

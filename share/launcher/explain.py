@@ -9,6 +9,7 @@ from collections.abc import Callable
 from pathlib import Path
 
 from catalogue import Entry, find_entry
+from civil import fault_of_civil, plain_text
 from grammar import fault_of_syntax
 from places import WORD, Place, caret_line, clean, read_lines, show_place
 from usage import find_fault
@@ -67,10 +68,10 @@ def wrap(text: str, width: int) -> str:
 
 
 def detail_of(program: str, files: dict[str, str], line: str, numbers: dict[str, str]) -> str:
-    """What the files say about this refusal; empty where they say nothing."""
+    """What the files say about this refusal; empty where they say nothing. They come with the other keys."""
     details: list[tuple[str, Callable[[], str]]] = [
-        ("refused: database Syntax", lambda: syntax_of(files.get("db", ""), numbers, False)),
-        ("refused: query Syntax", lambda: syntax_of(files.get("query", ""), numbers, True)),
+        ("refused: database Syntax", lambda: syntax_of_database(files, numbers)),
+        ("refused: query Syntax", lambda: syntax_of_query(files, numbers)),
         ("refused: read of database", lambda: why_unread(files.get("db", ""))),
         ("refused: read of query", lambda: why_unread(files.get("query", ""))),
         ("refused: query UnknownRelation", lambda: relations_of(files.get("db", ""))),
@@ -99,15 +100,31 @@ def why_unread(file: str) -> str:
     return ""
 
 
-def syntax_of(file: str, numbers: dict[str, str], query: bool) -> str:
-    """What may stand where a file has its fault of syntax."""
+def syntax_of_database(files: dict[str, str], numbers: dict[str, str]) -> str:
+    """What may stand where a database has its fault of syntax, or what is wrong with a civil value there."""
+    text, place = text_to(files.get("db", ""), numbers)
+    is_civil = files.get("civil") == "yes"
+    if place is None:
+        return ""
+    plain = plain_text(text) if is_civil else text
+    return fault_of_civil(text, place, is_civil) or fault_of_syntax(plain, place, False)
+
+
+def syntax_of_query(files: dict[str, str], numbers: dict[str, str]) -> str:
+    """What may stand where a query has its fault of syntax."""
+    text, place = text_to(files.get("query", ""), numbers)
+    return "" if place is None else fault_of_syntax(text, place, True)
+
+
+def text_to(file: str, numbers: dict[str, str]) -> tuple[str, int | None]:
+    """A file up to the end of the line of a fault, and the fault's place in it; none where it can't be read again."""
     lines = read_lines(file)
     line, column = int(numbers["line"]), int(numbers["column"])
     if lines is None or line > len(lines):
-        return ""
+        return "", None
     front = b"\n".join([*lines[:line - 1], lines[line - 1][:column - 1]]).decode(errors="replace")
     rest = lines[line - 1][column - 1:].decode(errors="replace")
-    return fault_of_syntax(front + rest, len(front), query)
+    return front + rest, len(front)
 
 
 def relations_of(file: str) -> str:
@@ -128,7 +145,8 @@ def sorts_of(file: str) -> str:
 
 def numbers_of(files: dict[str, str], what: str, pattern: re.Pattern[str]) -> str:
     """The greatest of some numbers in both files."""
-    texts = (text_of(files.get(key, "")) for key in ("db", "query"))
+    database = text_of(files.get("db", ""))
+    texts = (plain_text(database) if files.get("civil") == "yes" else database, text_of(files.get("query", "")))
     found = {int(number) for text in texts for number in pattern.findall(text) if len(number) < 25}
     greatest = [str(number) for number in sorted(found, reverse=True)[:4]]
     return f"The greatest {what} in both files are " + ", ".join(greatest) + "." if len(greatest) > 1 else ""
@@ -147,7 +165,7 @@ def step_of(program: str, files: dict[str, str], step: str) -> str:
     """The line of the plan for a step, which the program's own `explain` gives without computing anything."""
     if not all(os.path.isfile(files.get(key, "")) for key in ("db", "query")):
         return ""
-    words = [program, "explain", "db=" + files["db"], "query=" + files["query"]]
+    words = [program, "explain", *(f"{key}={files[key]}" for key in ("db", "query", "civil") if key in files)]
     try:
         done = subprocess.run(words, stdin=subprocess.DEVNULL, capture_output=True, text=True, timeout=5, check=False)
     except (OSError, subprocess.SubprocessError):

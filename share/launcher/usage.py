@@ -4,10 +4,12 @@ import difflib
 import re
 from typing import NamedTuple
 
+from civil import is_window_end
 from table import LIMIT, Key, read_table
 
 WHOLE = re.compile(r"0|[1-9][0-9]*")
 SIGNED = re.compile(r"0|-?[1-9][0-9]*")
+DATE = "a date and a time of day from 0001-01-01T00:00 to 9999-12-31T23:59, as 2024-02-26T08:15"
 
 
 class Fault(NamedTuple):
@@ -27,8 +29,9 @@ def find_fault(words: list[str]) -> Fault | None:
     if command not in table:
         return Fault(0, f"'{command}' is no command.", nearest(command, list(table), "command"))
     seen: set[str] = set()
+    is_civil = "civil=yes" in pairs
     for number, word in enumerate(pairs, 1):
-        fault = fault_of_word(table[command], word, seen)
+        fault = fault_of_word(table[command], word, seen, is_civil)
         if fault:
             return Fault(number, *fault)
     for key in table[command].values():
@@ -37,7 +40,7 @@ def find_fault(words: list[str]) -> Fault | None:
     return None
 
 
-def fault_of_word(keys: dict[str, Key], word: str, seen: set[str]) -> tuple[str, str] | None:
+def fault_of_word(keys: dict[str, Key], word: str, seen: set[str], is_civil: bool) -> tuple[str, str] | None:
     """What is wrong with one word behind the command, with what to do. Its key joins those that were seen."""
     command = next(iter(keys.values())).command
     name, sign, value = word.partition("=")
@@ -48,7 +51,7 @@ def fault_of_word(keys: dict[str, Key], word: str, seen: set[str]) -> tuple[str,
     if name in seen:
         return f"The key '{name}' stands twice.", "Take out one of the two."
     seen.add(name)
-    wanted = fault_of_value(keys[name], value)
+    wanted = fault_of_value(keys[name], value, is_civil)
     if wanted is None:
         return None
     shown = f"'{value}' is no value of '{name}'." if value else f"'{name}' has no value."
@@ -70,14 +73,12 @@ def fault_of_bare_word(keys: dict[str, Key], word: str, seen: set[str]) -> tuple
     return means, "Write each word behind the command as KEY=VALUE; the keys are " + ", ".join(keys) + "."
 
 
-def fault_of_value(key: Key, value: str) -> str | None:
+def fault_of_value(key: Key, value: str, is_civil: bool) -> str | None:
     """What is wanted of the value of a key, or none where the value is one."""
     if key.kind == "file":
         return None if value else "the name of a file, as " + sample(key)
     if key.kind == "time":
-        if SIGNED.fullmatch(value) and len(value) < 25 and abs(int(value)) <= LIMIT:
-            return None
-        return f"a whole number from -{LIMIT} to {LIMIT}, without leading zeros"
+        return fault_of_date(value) if is_civil else fault_of_time(value)
     if key.kind == "number":
         low, high = int(key.of[0]), int(key.of[1])
         if WHOLE.fullmatch(value) and len(value) < 25 and low <= int(value) <= high:
@@ -86,6 +87,21 @@ def fault_of_value(key: Key, value: str) -> str | None:
     if key.kind == "one":
         return None if value in key.of else " or ".join(key.of)
     return None
+
+
+def fault_of_time(value: str) -> str | None:
+    """What is wanted of an end of a window that is a number."""
+    if SIGNED.fullmatch(value) and len(value) < 25 and abs(int(value)) <= LIMIT:
+        return None
+    hint = ", or civil=yes beside a date" if is_window_end(value.replace(" ", "T")) else ""
+    return f"a whole number from -{LIMIT} to {LIMIT}, without leading zeros{hint}"
+
+
+def fault_of_date(value: str) -> str | None:
+    """What is wanted of an end of a window that is a date."""
+    if is_window_end(value):
+        return None
+    return "civil=no beside a number, or " + DATE if SIGNED.fullmatch(value) else DATE
 
 
 def nearest(word: str, names: list[str], what: str) -> str:
