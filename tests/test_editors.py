@@ -16,12 +16,17 @@ from support import TOP, environment, need
 RESERVED = ["relation", "where", "exists", "forall", "implies", "not", "and", "or", "in"]
 # The tokens of the language, each with its class; a name's class also hangs on what stands around it.
 TOKENS = re.compile(r"""
-    (?P<comment>\#[^\n]*) | (?P<text>"(?:[^"\\\n]|\\.)*") | (?P<name>[A-Za-z_]\w*) | (?P<number>[0-9]+)
+    (?P<comment>\#[^\n]*) | (?P<text>"(?:[^"\\\n]|\\.)*") | (?P<number>(?:daily|weekly\ (?:mon|tue|wed|thu|fri|sat|sun)
+    |on\ \d{4}-(?:0[1-9]|1[0-2])-(?:0[1-9]|[12]\d|3[01]))\ (?:[01]\d|2[0-3]):[0-5]\d(?!\d)|[0-9]+) | (?P<name>[A-Za-z_]\w*)
     | (?P<operator><=|>=|[-<>=+]) | (?P<delimiter>[(){},:;|]) | (?P<blank>[ \t\r]+) | (?P<error>".*|.)""",
                     re.VERBOSE | re.ASCII)
 # What can't stand in a text, beside the escapes of quotes and backslashes, which are whole.
 IN_TEXT = re.compile(r'(?P<escape>\\["\\])|(?P<error>\\.|[\x00-\x1f\x7f])')
 FAULTY = 'relation r(t: time, d: data) {\n  (5+0n, "a\\x") where t ! 5;\n  (6, "b) ;\n  (7n, "\\"ü\\\\");\n}\n'
+CIVIL = 'relation on(daily: time) { # daily 08:15\n' + "".join(f"  ({value});\n" for value in (
+    "daily 08:15", "daily 24:00", "daily  08:15", "daily 08:155", "_daily 08:15", "-weekly sun 23:59", "weekly mon 8:15",
+    "weekly Mon 08:15", "on 2024-02-29 00:00", "on 2024-13-01 00:00", "on 2024-01-00 00:00", "on 24-01-01 00:00",
+    "on 2024-12-31 23:59n", '"daily 08:15"')) + "}\n"
 VIM = {"comment": "fizhedulComment", "text": "fizhedulText", "number": "fizhedulNumber", "operator": "fizhedulOperator",
        "delimiter": "fizhedulDelimiter", "keyword": "fizhedulKeyword", "type": "fizhedulType", "point": "fizhedulPoint",
        "sort": "fizhedulSort", "relation": "fizhedulRelation", "variable": "fizhedulName", "escape": "fizhedulEscape",
@@ -146,16 +151,17 @@ class Editors(unittest.TestCase):
     def test_vim(self):
         vim = need("vim", "+syntax")
         with tempfile.TemporaryDirectory() as name:
-            faulty, dump = Path(name, "faulty.lrp"), Path(name, "dump.vim")
+            faulty, civil, dump = Path(name, "faulty.lrp"), Path(name, "civil.lrp"), Path(name, "dump.vim")
             listed, dumped = Path(name, "listed"), Path(name, "dumped")
             faulty.write_text(FAULTY)
+            civil.write_text(CIVIL)
             dump.write_text(DUMP)
-            listed.write_text("".join(f"{path}\n" for path in [*self.files, faulty]))
+            listed.write_text("".join(f"{path}\n" for path in [*self.files, faulty, civil]))
             words = [vim, "-es", "-N", "-u", "NONE", "-i", "NONE", "--cmd", f"set rtp^={TOP}/editors/vim enc=utf-8", "-S", dump]
             subprocess.run(words, stdin=subprocess.DEVNULL, capture_output=True, check=False, timeout=60,
                            env=environment(LISTED=str(listed), DUMPED=str(dumped), HOME=name))
             classes = {Path(path): rows for path, rows in json.loads(dumped.read_text()).items()}
-            for path in [*self.files, faulty]:
+            for path in [*self.files, faulty, civil]:
                 self.check_tokens(path, classes[path], VIM)
 
     def test_vim_goes_to_the_place_of_a_fault(self):
@@ -175,9 +181,10 @@ class Editors(unittest.TestCase):
         folder = TOP / "editors/vscode"
         grammar = json.loads((folder / "syntaxes/fizhedul.tmLanguage.json").read_text())
         with tempfile.TemporaryDirectory() as name:
-            faulty = Path(name, "faulty.lrp")
+            faulty, civil = Path(name, "faulty.lrp"), Path(name, "civil.lrp")
             faulty.write_text(FAULTY)
-            for path in [*self.files, faulty]:
+            civil.write_text(CIVIL)
+            for path in [*self.files, faulty, civil]:
                 self.check_tokens(path, scopes_of(grammar, text_of(path)), CODE)
 
     def test_the_engine_of_such_editors_reads_the_patterns_as_they_are_read_here(self):

@@ -5,8 +5,8 @@ endif
 let b:did_ftplugin = 1
 
 setlocal commentstring=#\ %s comments=:# formatoptions-=t
-" :make checks a database, and goes to the place of its fault.
-setlocal makeprg=fizhedul\ check\ db=%:S
+" :make checks a database, and goes to the place of its fault. Without civil values civil=yes changes nothing.
+setlocal makeprg=fizhedul\ check\ db=%:S\ civil=yes
 setlocal errorformat=refused:\ database\ %m\ at\ %l:%c
 
 let b:undo_ftplugin = 'setlocal commentstring< comments< formatoptions< makeprg< errorformat<'

@@ -13,6 +13,10 @@ syntax match fizhedulType /\(time\|data\)\w\@!/
 syntax match fizhedulPoint /n\w\@!/
 syntax match fizhedulKeyword /\(relation\|where\|exists\|forall\|implies\|not\|and\|or\|in\)\w\@!/
 syntax match fizhedulNumber /\d\+/
+" Civil values.
+syntax match fizhedulNumber /daily \([01]\d\|2[0-3]\):[0-5]\d\d\@!/
+syntax match fizhedulNumber /weekly \(mon\|tue\|wed\|thu\|fri\|sat\|sun\) \([01]\d\|2[0-3]\):[0-5]\d\d\@!/
+syntax match fizhedulNumber /on \d\{4}-\(0[1-9]\|1[0-2]\)-\(0[1-9]\|[12]\d\|3[01]\) \([01]\d\|2[0-3]\):[0-5]\d\d\@!/
 syntax match fizhedulOperator /<=\|>=\|[-<>=+]/
 syntax match fizhedulDelimiter /[(){},:;|]/
 syntax match fizhedulError /".*$/
