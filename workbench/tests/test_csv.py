@@ -49,7 +49,7 @@ def test_an_exported_window_is_a_table_that_is_imported_again(tmp_path: Path) ->
         ("t\n5\n", ":1: 't' is no column NAME: SORT"),
         ("t: time,t: data\n", ":1: the column 't' stands twice"),
         ("not: time\n", ":1: 'not: time' is no column"),
-        ("t: time\n5\nfive\n", ":3: the t 'five' is no number and no point c+kn"),
+        ("t: time\n5\nfive\n", ":3: the t 'five' is no number, no date and no point c+kn"),
         ("t: time\n5+0n\n", ":2: the t '5+0n' has the period 0"),
         ("t: time\n4611686018427387905\n", "is above 4611686018427387904"),
         ("t: time,l: line\n5\n", ":2: there are 1 fields, and 2 columns"),

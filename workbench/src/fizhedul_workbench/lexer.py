@@ -18,6 +18,7 @@ class LrpLexer(RegexLexer):  # type: ignore[misc]
             (r"\s+", Text),
             (r"#[^\n]*", Comment.Single),
             (r'"(?:[^"\\]|\\.)*"?', String),
+            (r"\b(?:daily|weekly [a-z]{3}|on \d{4}-\d\d-\d\d) \d\d:\d\d\b", Number),
             (r"-?\d+\s*\+\s*\d+\s*n\b", Number),
             (r"\d+", Number),
             (r"\b(?:" + "|".join(KEYWORDS) + r")\b", Keyword),

@@ -3,7 +3,7 @@
 import os
 import re
 import tempfile
-from collections.abc import Iterable, Sequence
+from collections.abc import Callable, Iterable, Sequence
 from dataclasses import dataclass
 from unicodedata import combining, east_asian_width
 
@@ -90,8 +90,8 @@ def written_value(value: Value) -> str:
     return str(value)
 
 
-def written_row(row: Row) -> str:
-    values = ", ".join(written_value(value) for value in row.values)
+def written_row(row: Row, written: Callable[[Value], str] = written_value) -> str:
+    values = ", ".join(written(value) for value in row.values)
     bounds = " where " + ", ".join(row.bounds) if row.bounds else ""
     return f"  ({values}){bounds};\n"
 
@@ -104,16 +104,18 @@ def distance(later: str, earlier: str, minutes: int) -> str:
     return f"{later} = {earlier} {sign} {abs(minutes)}"
 
 
-def written_relation(relation: Relation) -> str:
+def written_relation(relation: Relation, written: Callable[[Value], str]) -> str:
     columns = ", ".join(f"{name}: {sort}" for name, sort in relation.columns)
-    rows = "".join(written_row(row) for row in relation.rows)
+    rows = "".join(written_row(row, written) for row in relation.rows)
     return f"relation {relation.name}({columns}) {{\n{rows}}}\n"
 
 
-def written_database(remarks: Iterable[str], relations: Iterable[Relation]) -> str:
-    """A database's text, with remarks as comments before its relations."""
+def written_database(
+    remarks: Iterable[str], relations: Iterable[Relation], written: Callable[[Value], str] = written_value
+) -> str:
+    """A database's text, with remarks as comments before its relations; its values may have a spelling of their own."""
     lines = "".join(f"# {shown(remark)}\n" for remark in remarks)
-    return lines + "\n".join(written_relation(relation) for relation in relations)
+    return lines + "\n".join(written_relation(relation, written) for relation in relations)
 
 
 def shown(text: str) -> str:

@@ -9,10 +9,12 @@ from collections.abc import Iterator, Sequence
 from dataclasses import dataclass
 from pathlib import Path
 
+from .civil import window_end
 from .words import MISSING, Refused
 
 LAST_STEP = re.compile(r"\[period (\d+), reach \d+\]\s*\Z")
 
+# The times of an answer are numbers, or with civil times dates.
 Answer = list[int | str]
 
 
@@ -39,18 +41,26 @@ class Page:
 
 @dataclass(frozen=True)
 class Question:
-    """A query over a database, by their files, in a window of time."""
+    """A query over a database, by their files, in a window of time; with civil times, which have dates, or without."""
 
     database: str
     query: str
     first: int
     last: int
     cap: int | None = None
+    is_civil: bool = False
 
     def words(self, command: str) -> list[str]:
-        """The words of a command that has no window."""
+        """The words of a command without a window."""
         cap = [f"cap={self.cap}"] if self.cap and command != "explain" else []
-        return [command, f"db={self.database}", f"query={self.query}", *cap]
+        civil = ["civil=yes"] if self.is_civil else []
+        return [command, f"db={self.database}", f"query={self.query}", *cap, *civil]
+
+    def listing(self, limit: int, after: str | None) -> list[str]:
+        """The words that list a page of the window, in JSON form."""
+        first, last = (window_end(end) if self.is_civil else str(end) for end in (self.first, self.last))
+        words = [*self.words("list"), f"from={first}", f"to={last}", f"limit={limit}", "form=json"]
+        return words if after is None else [*words, f"after={after}"]
 
 
 def program_path() -> str:
@@ -103,11 +113,7 @@ def page_of(text: str) -> Page:
 
 def page(question: Question, limit: int, after: str | None = None) -> Page:
     """One page of the answers in the window."""
-    words = question.words("list")
-    words += [f"from={question.first}", f"to={question.last}", f"limit={limit}", "form=json"]
-    if after is not None:
-        words.append(f"after={after}")
-    return page_of(answered(words))
+    return page_of(answered(question.listing(limit, after)))
 
 
 def pages(question: Question, limit: int) -> Iterator[Page]:

@@ -3,6 +3,7 @@
 from dataclasses import dataclass
 from pathlib import Path
 
+from ..civil import minute_of
 from ..program import Answer, Question, page, period
 from ..queries import head_of
 
@@ -70,6 +71,13 @@ def level_of(ends: list[int], begin: int, end: int) -> int:
     return len(ends) - 1
 
 
+def times_of(answer: Answer, is_time: list[bool]) -> list[int]:
+    """The times of an answer as numbers, also where they are shown as dates."""
+    values = [value for value, time in zip(answer, is_time) if time]
+    numbers = [minute_of(value) if isinstance(value, str) else value for value in values]
+    return [number for number in numbers if number is not None]
+
+
 def picture_of(question: Question, most: int) -> Picture:
     """Asks the program for the answers, and puts each into its lane."""
     answers, is_cut = answers_of(question, most)
@@ -81,7 +89,7 @@ def picture_of(question: Question, most: int) -> Picture:
     ends: list[list[int]] = [[] for _ in order]
     marks = []
     for number, (answer, key) in enumerate(zip(answers, keys)):
-        times = [value for value in answer if isinstance(value, int)]
+        times = times_of(answer, is_time)
         lane = order[key]
         level = level_of(ends[lane], min(times), max(times)) if times else 0
         marks.append(Mark(number, answer, times, lane, level))

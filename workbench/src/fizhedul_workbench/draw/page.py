@@ -20,8 +20,8 @@ def table_of(picture: Picture) -> str:
     rows = []
     for mark in picture.marks:
         cells = "".join(
-            f"<td>{value}</td>" if isinstance(value, int) else f'<td class="text">{safe(value)}</td>'
-            for value in mark.answer
+            f"<td>{value}</td>" if sort == "time" else f'<td class="text">{safe(str(value))}</td>'
+            for value, (_, sort) in zip(mark.answer, picture.columns)
         )
         rows.append(f'<tr id="r{mark.number}">{cells}</tr>')
     body = "\n".join(rows)

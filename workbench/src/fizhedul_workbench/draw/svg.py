@@ -3,6 +3,7 @@
 from html import escape
 from xml.sax.saxutils import quoteattr
 
+from ..civil import dated
 from ..lrp import width
 from ..program import Answer
 from .grid import grid_of, label
@@ -111,7 +112,10 @@ def lane_shapes(picture: Picture, tops: list[int]) -> str:
 def summary(picture: Picture) -> str:
     """One sentence on what the picture shows."""
     count = len(picture.marks)
-    window = f"from {picture.question.first} to {picture.question.last}"
+    first, last = (
+        dated(end) if picture.question.is_civil else end for end in (picture.question.first, picture.question.last)
+    )
+    window = f"from {first} to {last}"
     if not count:
         return f"No answer {window}."
     text = f"{count} answer{'s' if count > 1 else ''} {window}, in {len(picture.lanes)} lane"

@@ -4,9 +4,10 @@ import re
 import sys
 from collections.abc import Sequence
 
-from ..lrp import LIMIT, put_file
+from ..civil import is_chosen, read_window
+from ..lrp import put_file
 from ..program import Question
-from ..words import choice, keyed, whole
+from ..words import choice, keyed, usage, whole
 from .look import Look
 from .marks import picture_of
 from .page import asset, page_of
@@ -34,16 +35,19 @@ def drawing(question: Question, look: Look) -> bytes:
 
 def draw_tool(words: Sequence[str]) -> None:
     """Draws a window of a query's answers, to a file or to standard output."""
-    found = keyed(words, [*KEYS, "format", "marks", "hour", "grid", "out", "cap"], KEYS)
+    found = keyed(words, [*KEYS, "format", "marks", "hour", "grid", "out", "cap", "civil"], KEYS)
+    is_civil = is_chosen(found, "civil")
     look = Look(
         choice(found, "format", "html", ["html", "svg", "png"]),
         whole(found, "marks", 10_000, 1, MOST_MARKS),
         whole(found, "hour", 60, 1, 3_600_000),
-        choice(found, "grid", "numbers", ["numbers", "dates"]) == "dates",
+        choice(found, "grid", "dates" if is_civil else "numbers", ["numbers", "dates"]) == "dates",
     )
-    first, last = (whole(found, key, 0, -LIMIT, LIMIT) for key in ("from", "to"))
+    if is_civil and look.hour != 60:
+        raise usage("with civil=yes an hour has 60 steps of time")
+    first, last = read_window(found, 0, 0, is_civil)
     cap = whole(found, "cap", 1_000_000, 1, 1_000_000_000)
-    content = drawing(Question(found["db"], found["query"], first, last, cap), look)
+    content = drawing(Question(found["db"], found["query"], first, last, cap, is_civil), look)
     if "out" in found:
         put_file(found["out"], content)
     else:

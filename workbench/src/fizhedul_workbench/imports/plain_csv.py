@@ -6,6 +6,7 @@ import os
 import re
 from collections.abc import Iterator
 
+from ..civil import minute_of
 from ..lrp import LIMIT, MOST_COLUMNS, Point, Relation, Row, Value, fault_of_text, is_name
 from ..program import Question, pages
 from ..queries import head_of
@@ -57,9 +58,12 @@ def read_value(file: str, line: int, column: tuple[str, str], text: str) -> Valu
         return text
     if NUMBER.fullmatch(text.strip()):
         return in_range(file, line, text.strip())
+    minute = minute_of(text.strip())
+    if minute is not None:
+        return minute
     point = POINT.fullmatch(text.strip())
     if point is None:
-        raise refused_at(file, line, f"the {name} {text[:40]!r} is no number and no point c+kn")
+        raise refused_at(file, line, f"the {name} {text[:40]!r} is no number, no date and no point c+kn")
     offset, period = (in_range(file, line, part) for part in point.groups())
     if period == 0:
         raise refused_at(file, line, f"the {name} {text[:40]!r} has the period 0")

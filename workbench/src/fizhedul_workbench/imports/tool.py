@@ -3,9 +3,11 @@
 import sys
 from collections.abc import Sequence
 
-from ..lrp import LIMIT, MOST_BYTES, put_file, shown, written_database
+from ..civil import is_chosen, read_window
+from ..lrp import MOST_BYTES, put_file, shown, written_database, written_value
 from ..program import Question
 from ..words import Refused, choice, keyed, several, usage, whole
+from .civil_values import written_civil
 from .gtfs import Wanted as WantedOfFeed
 from .gtfs import read_gtfs
 from .imported import Imported
@@ -13,8 +15,9 @@ from .plain_csv import csv_pieces, read_csv
 
 IMPORTS = """fizhedul import gtfs FOLDER-or-ZIP [out=FILE] [local=yes] [line=ID,..] [service=ID,..] [relation=NAME,..]
 fizhedul import ics FILE [out=FILE] [local=yes] [zone=NAME] [uid=UID,..]
-fizhedul import csv FILE [out=FILE] [name=NAME]"""
-EXPORTS = "fizhedul export csv db=FILE query=FILE from=A to=B [out=FILE] [cap=N]"
+fizhedul import csv FILE [out=FILE] [name=NAME]
+each with civil=yes, if wanted, for civil values"""
+EXPORTS = "fizhedul export csv db=FILE query=FILE from=A to=B [out=FILE] [cap=N] [civil=yes]"
 
 
 def import_gtfs(source: str, words: Sequence[str]) -> tuple[Imported, str | None]:
@@ -57,9 +60,13 @@ def import_tool(words: Sequence[str]) -> None:
     kinds = {"gtfs": import_gtfs, "ics": import_ics, "csv": import_csv}
     if len(words) < 2 or words[0] not in kinds:
         raise usage("an import is one of\n" + IMPORTS)
-    imported, out = kinds[words[0]](words[1], words[2:])
+    is_civil = is_chosen(keyed([word for word in words if word.startswith("civil=")], ["civil"]), "civil")
+    others = [word for word in words[2:] if not word.startswith("civil=")]
+    imported, out = kinds[words[0]](words[1], others)
     left = [f"Not carried over: {each}." for each in imported.left]
-    content = written_database([*imported.remarks, *left], imported.relations)
+    dates = ["To be read with civil=yes."] if is_civil else []
+    written = written_civil if is_civil else written_value
+    content = written_database([*dates, *imported.remarks, *left], imported.relations, written)
     size = len(content.encode())
     if size > MOST_BYTES:
         raise Refused(f"the database would have {size} bytes, and {MOST_BYTES} are allowed")
@@ -75,8 +82,9 @@ def export_tool(words: Sequence[str]) -> None:
     if not words or words[0] != "csv":
         raise usage("an export is\n" + EXPORTS)
     keys = ["db", "query", "from", "to"]
-    found = keyed(words[1:], [*keys, "out", "cap"], keys)
-    first, last = (whole(found, key, 0, -LIMIT, LIMIT) for key in ("from", "to"))
+    found = keyed(words[1:], [*keys, "out", "cap", "civil"], keys)
+    is_civil = is_chosen(found, "civil")
+    first, last = read_window(found, 0, 0, is_civil)
     cap = whole(found, "cap", 1_000_000, 1, 1_000_000_000)
-    pieces = csv_pieces(Question(found["db"], found["query"], first, last, cap))
+    pieces = csv_pieces(Question(found["db"], found["query"], first, last, cap, is_civil))
     put("".join(pieces), found.get("out"))

@@ -1,10 +1,12 @@
 """What a session holds, and what its lines do; whatever is shown was written by the program."""
 
+import json
 from dataclasses import dataclass, field
 from pathlib import Path
 
+from ..civil import dated, has_date, minute_of
 from ..lexer import coloured
-from ..lrp import LIMIT, put_file
+from ..lrp import LIMIT, put_file, written_value
 from ..program import Output, Page, Question, page_of, run_program
 from ..queries import head_of
 from ..words import Refused
@@ -22,6 +24,7 @@ class Session:
     last: int = 10_079
     limit: int = 20
     cap: int = 1_000_000
+    is_civil: bool = False
     is_colourful: bool = False
     query: str = ""
     more: str | None = None
@@ -30,7 +33,18 @@ class Session:
     sorts: list[str] = field(default_factory=list)
 
     def question(self) -> Question:
-        return Question(self.database, str(self.folder / "query.lrq"), self.first, self.last, self.cap)
+        query = str(self.folder / "query.lrq")
+        return Question(self.database, query, self.first, self.last, self.cap, self.is_civil)
+
+    def check_words(self) -> list[str]:
+        return ["check", f"db={self.database}", *(["civil=yes"] if self.is_civil else [])]
+
+    def shown_time(self, time: int) -> str:
+        """A time as the session shows it: a number, or its date."""
+        return dated(time) if self.is_civil else str(time)
+
+    def shown_window(self) -> str:
+        return f"from {self.shown_time(self.first)} to {self.shown_time(self.last)}"
 
 
 def say(text: str) -> None:
@@ -64,10 +78,7 @@ def need_query(session: Session) -> bool:
 
 def show_page(session: Session, after: str | None) -> None:
     """The next page of the query as a table."""
-    question = session.question()
-    words = question.words("list")
-    words += [f"from={session.first}", f"to={session.last}", f"limit={session.limit}", "form=json"]
-    output = run_program(words + ([f"after={after}"] if after else []))
+    output = run_program(session.question().listing(session.limit, after))
     session.more = None
     if output.status:
         say_refusal(session, output)
@@ -86,7 +97,7 @@ def say_answers(session: Session, found: Page) -> None:
     if session.is_colourful and names:
         lines[0] = f"\x1b[1m{lines[0]}\x1b[0m"
     count = f"{len(found.answers)} answer{'s' if len(found.answers) > 1 else ''}"
-    rest = "more with .next" if found.more else f"the last from {session.first} to {session.last}"
+    rest = "more with .next" if found.more else f"the last {session.shown_window()}"
     say("\n".join([*lines, f"({count}; {rest})"]))
 
 
@@ -97,11 +108,19 @@ def say_nearest(session: Session) -> None:
         say_refusal(session, output)
         return
     lines = output.text.splitlines()
-    where = f"no answer from {session.first} to {session.last}"
+    where = f"no answer {session.shown_window()}"
     if lines[0] == "Empty":
         say(f"({where}, and none at any other time)")
     else:
-        say(f"({where}; the least answer of all is {lines[1]})")
+        say(f"({where}; the least answer of all is {shown_line(session, lines[1])})")
+
+
+def shown_line(session: Session, line: str) -> str:
+    """A line of an answer, whose times are shown as dates where the session has civil times."""
+    if not session.is_civil or line == "()":
+        return line
+    values = json.loads(f"[{line}]")
+    return ", ".join(session.shown_time(each) if isinstance(each, int) else written_value(each) for each in values)
 
 
 def ask(session: Session, text: str) -> None:
@@ -124,21 +143,43 @@ def write_output(session: Session, command: str) -> None:
         output = run_program(session.question().words(command))
         if output.status:
             say_refusal(session, output)
+        elif command == "decide":
+            word, *witness = output.text.splitlines()
+            say_code(session, "\n".join([word, *(shown_line(session, line) for line in witness)]))
         else:
             say_code(session, output.text)
 
 
 def set_window(session: Session, rest: str) -> None:
     try:
-        first, last = (int(word) for word in rest.split())
-        if max(abs(first), abs(last)) > LIMIT:
-            raise ValueError
+        first, last = (end_of(session, word) for word in rest.split())
     except ValueError:
-        say("a window is two whole numbers, as in .window 0 1439")
+        dates = "two dates, as in .window 2024-02-26T00:00 2024-02-26T23:59"
+        say("a window is " + (dates if session.is_civil else "two whole numbers, as in .window 0 1439"))
         return
     session.first, session.last, session.more = first, last, None
     if session.query:
         show_page(session, None)
+
+
+def end_of(session: Session, word: str) -> int:
+    """An end of a window: a number, or with civil times a date."""
+    end = minute_of(word) if session.is_civil else int(word)
+    if end is None or abs(end) > LIMIT:
+        raise ValueError
+    return end
+
+
+def set_civil(session: Session, rest: str) -> None:
+    """Civil times, or numbers: how the database is read, and how times are shown."""
+    if rest not in ("on", "off"):
+        say(f"civil times are {'on' if session.is_civil else 'off'}; .civil on and .civil off change that")
+    elif rest == "on" and not (has_date(session.first) and has_date(session.last)):
+        say("the window is not within the years 1 to 9999; .window A B gives another one")
+    else:
+        session.is_civil, session.more = rest == "on", None
+        if read_names(session) and session.query:
+            show_page(session, None)
 
 
 def set_cap(session: Session, rest: str) -> None:
@@ -150,7 +191,7 @@ def set_cap(session: Session, rest: str) -> None:
 
 def read_names(session: Session) -> bool:
     """The relations and sorts of the database, for completion; false where it is refused."""
-    output = run_program(["check", f"db={session.database}"])
+    output = run_program(session.check_words())
     session.names, session.sorts = ([], []) if output.status else names_in(output.text)
     if output.status:
         say_refusal(session, output)
@@ -158,7 +199,7 @@ def read_names(session: Session) -> bool:
 
 
 def show_tables(session: Session, _: str) -> None:
-    output = run_program(["check", f"db={session.database}"])
+    output = run_program(session.check_words())
     if output.status:
         say_refusal(session, output)
     else:
@@ -197,7 +238,7 @@ def draw(session: Session, rest: str) -> None:
 
         file = rest or "drawing.html"
         form = "svg" if file.endswith(".svg") else "html"
-        put_file(file, drawing(session.question(), Look(form=form)))
+        put_file(file, drawing(session.question(), Look(form=form, with_dates=session.is_civil)))
         say(f"drawn: {file}")
 
 

@@ -5,7 +5,7 @@ import tempfile
 from collections.abc import Callable, Iterator, Sequence
 from pathlib import Path
 
-from ..lrp import LIMIT
+from ..civil import is_chosen, read_window
 from ..queries import open_brackets
 from ..words import Refused, keyed, whole
 from . import session as acts
@@ -14,6 +14,7 @@ from .session import Session, say
 HELP = """A line is a query, as { t: time | bus(t) }; it goes on while a bracket is open.
 .next           the next page
 .window A B     the times that are shown, from A to B
+.civil on|off   whether times are minutes since 1970 and shown as dates
 .decide         the least answer of all, or Empty
 .ask            the whole answer, as a relation
 .explain        the plan of the query
@@ -32,6 +33,7 @@ COMMANDS: dict[str, Act] = {
     ".decide": lambda session, _: acts.write_output(session, "decide"),
     ".ask": lambda session, _: acts.write_output(session, "ask"),
     ".explain": lambda session, _: acts.write_output(session, "explain"),
+    ".civil": acts.set_civil,
     ".cap": acts.set_cap,
     ".tables": acts.show_tables,
     ".open": acts.open_database,
@@ -90,11 +92,11 @@ def loop(session: Session, entries: Iterator[str]) -> None:
 
 def shell_tool(words: Sequence[str]) -> None:
     """A session over one database; piped input is read without prompts and colours."""
-    found = keyed(words, ["db", "from", "to", "limit", "cap"], ["db"])
+    found = keyed(words, ["db", "from", "to", "limit", "cap", "civil"], ["db"])
     with tempfile.TemporaryDirectory(prefix="fizhedul-") as folder:
         session = Session(found["db"], Path(folder))
-        session.first = whole(found, "from", session.first, -LIMIT, LIMIT)
-        session.last = whole(found, "to", session.last, -LIMIT, LIMIT)
+        session.is_civil = is_chosen(found, "civil")
+        session.first, session.last = read_window(found, session.first, session.last, session.is_civil)
         session.limit = whole(found, "limit", session.limit, 1, 1_000_000)
         session.cap = whole(found, "cap", session.cap, 1, 1_000_000_000)
         is_terminal = sys.stdin.isatty() and sys.stdout.isatty()
