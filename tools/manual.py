@@ -45,6 +45,8 @@ def page_of_markdown(text: str) -> list[str]:
     for part in re.split(r"\n\n+", text.strip("\n")):
         if part.startswith("## "):
             out.append(".Sh " + part[3:].upper())
+        elif part.startswith("### "):
+            out.append(".Ss " + part[4:])
         elif part.startswith("    "):
             out += display(part.split("\n"))
         elif part.startswith("|"):
@@ -55,7 +57,7 @@ def page_of_markdown(text: str) -> list[str]:
         elif not part.startswith("# "):
             out += [".Pp", *paragraph(part)]
     # A paragraph's break has no meaning behind a heading.
-    return [line for before, line in zip(["", *out], out) if not (line == ".Pp" and before.startswith(".Sh"))]
+    return [line for before, line in zip(["", *out], out) if not (line == ".Pp" and before.startswith((".Sh", ".Ss")))]
 
 
 def table(lines: list[str]) -> list[str]:
