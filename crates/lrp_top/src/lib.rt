@@ -22,6 +22,7 @@ mod status;
 mod witness;
 mod writing;
 
+pub use lrp_sample::{Texts, sample_texts};
 pub use lrp_words::{Command, Usage, read_words};
 pub use running::run;
 pub use status::Status;
