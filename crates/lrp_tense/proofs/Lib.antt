@@ -1,0 +1,18 @@
+mod FreshNames
+mod Scoping
+mod Numbering
+mod Timely
+mod Terms
+mod Iff
+mod Law
+mod Unchanged
+pub mod TenseGrammar
+pub mod Operators
+pub mod TenseReader
+pub mod TenseMeant
+pub mod TenseTexts
+pub mod TenseViews
+mod Behind
+pub mod TokenPlaces
+pub mod LawfulTense
+pub mod WithoutOperators

@@ -1,0 +1,10 @@
+pub mod Trees
+pub mod Meaning
+pub mod Expanding
+pub mod Laws
+pub mod Lawful
+pub mod TenseQueries
+pub mod TenseReading
+pub mod Rules
+pub mod Parts
+pub mod Reading

@@ -1,0 +1,17 @@
+//! Queries with temporal operators: what they mean, how they are read, and the query without operators that says the same.
+#![tactic(auto)]
+
+mod building;
+mod formulas;
+mod laws;
+mod queries;
+mod tree;
+mod words;
+
+pub use laws::{
+    expansion_keeps_meaning, expansion_leaves_plain_queries, plain_texts_are_read_alike,
+    texts_are_one_query,
+};
+pub use queries::read_tense;
+pub use tree::{TenseFormula, TenseKind, TenseQuery};
+pub use words::{Leading, Paired, Ranged, word_of};
