@@ -12,3 +12,4 @@ pub mod Tidying
 pub mod Rooms
 pub mod StoreFirst
 pub mod ZoneFirst
+pub mod ZonesRead

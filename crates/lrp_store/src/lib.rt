@@ -6,6 +6,7 @@ mod answer;
 mod choice;
 mod least;
 mod nearest;
+mod reading;
 mod store;
 mod stored;
 mod table;
