@@ -8,7 +8,7 @@ use Rattle.lrp_zone.specs.Tight.{CanTighten}
 use Rattle.lrp_zone.proofs.Cut.{Cutting, shape_cut, cut_some, cut_none}
 use Rattle.lrp_zone.proofs.zone.Zone.in_cell.Goals as goal
 
-cutting : (c : goal.After-all_tightest-table) → Cutting (nat_abs (to_z w64 (of_z w64 c.args.period))) c.args.period c.args.residues.now c.args.bounds.now c.all_tightest-table.result
+cutting : (c : goal.After-table-1) → Cutting (nat_abs (to_z w64 (of_z w64 c.args.period))) c.args.period c.args.residues.now c.args.bounds.now c.all_tightest-table.result
 cutting c = record {
   period = omega (arith, ints);
   low = c.requires.low;
