@@ -1,5 +1,6 @@
 pub mod Added
 pub mod Keys
+pub mod Lengthened
 pub mod Linked
 pub mod Removed
 pub mod Tables

@@ -1,9 +1,9 @@
 -- How lists stand in slots: each slot has the key of the slot that follows. No public clause cites this module.
-use Rattle.std.specs.Prelude.{◌≡◌, ◌≢◌, ℕ, zero, suc, ◌+◌, ◌-◌, ◌<◌, ◌≤◌, ◌==◌, List, [], ◌∷◌, ◌++◌, Option, Some, None, true, false, map, length, sum_by, IsSome, if◌then◌else◌}
+use Rattle.std.specs.Prelude.{◌≡◌, ◌≢◌, ℕ, zero, suc, ◌+◌, ◌-◌, ◌<◌, ◌≤◌, ◌==◌, List, [], ◌∷◌, ◌++◌, Option, Some, None, true, false, map, length, sum_by, IsSome, cond, if◌then◌else◌}
 use Rattle.std.specs.List.{AllByRecursion}
 use Rattle.std.specs.List.Sorted.{IsStrictlySortedBy}
 use Rattle.std.specs.Map.{lookup, keys_of, values_of}
-use Rattle.std.specs.BTreeMap.{is_at}
+use Rattle.std.specs.BTreeMap.{is_at, insert_entry}
 use Rattle.std.specs.FinMap as finite
 use Rattle.slab.specs.Slab.{Slab, get, slab_len, HasRoomFor}
 use Rattle.lrp_model.specs.declared.tuples.Cell.{Cell}
@@ -27,6 +27,12 @@ if_some chain = if chain.count == 0 then None else Some chain
 abbrev pub extended : Option Chain → ℕ → Chain
 extended None key = record { first = key; last = key; count = 1; in_line = true }
 extended (Some chain) key = record { first = chain.first; last = key; count = chain.count + 1; in_line = if chain.in_line then chain.last + 1 == key else false }
+
+-- the chain stands at the cell, and the chains of the other cells are as they were; the cells ascend
+pub record IsLengthened (old new : List (Cell × Chain)) (cell : Cell) (chain : Chain) : Type 0 where
+  pub inserted : new ≡ insert_entry cell_cmp old cell chain
+  pub updates : (other : Cell) → chain_at new other ≡ cond (is_at (cell_cmp cell) other) (Some chain) (chain_at old other)
+  pub ascending : IsStrictlySortedBy cell_cmp (keys_of new)
 
 -- the slot is the last one of a chain
 abbrev pub IsLast : Option Chain → ℕ → Type 0

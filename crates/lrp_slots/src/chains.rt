@@ -1,9 +1,9 @@
 // Chains of slots: each slot has the key of the slot that follows in its list.
-ghost use Rattle.std.specs.Prelude.{◌≡◌, ◌+◌, ◌==◌, ◌^◌, ◌<◌, ◌≤◌, Some, Ok, OnOk, IfOk, IfSome};
-ghost use Rattle.std.specs.BTreeMap.{Updates, IsOrdered, ContainsKey};
+ghost use Rattle.std.specs.Prelude.{◌≡◌, ◌+◌, ◌==◌, ◌^◌, ◌<◌, ◌≤◌, None, Some, Ok, OnOk, OnErr, IfOk, IfSome};
+ghost use Rattle.std.specs.BTreeMap.{Updates, IsOrdered, ContainsKey, insert_entry};
 ghost use Rattle.slab.specs.Slab.{get, ContainsKey as HasValue, slab_len, HasRoomFor};
 ghost use Rattle.lrp_slots.specs.Lists.{cell_cmp};
-ghost use Rattle.lrp_slots.specs.Links.{key_after, keys_from, chain_at, slots_of, AreHeld, IsWhole, Joins, Pushes, TakesOut, extended, if_some};
+ghost use Rattle.lrp_slots.specs.Links.{key_after, keys_from, chain_at, slots_of, AreHeld, IsLengthened, IsWhole, Joins, Pushes, TakesOut, extended, if_some};
 
 use lrp_model::{Cell, Memory};
 use slab::Slab;
@@ -102,6 +102,41 @@ pub(crate) fn extended(held: Option<Chain>, key: usize) -> Chain
             in_line: true,
         },
     }
+}
+
+// Puts another chain in the place of a held cell's.
+fn replace(chains: &mut BTreeMap<Cell, Chain>, cell: &Cell, chain: Chain)
+    requires { ContainsKey cell_cmp chains.old cell.now }
+    ensures updates { Updates cell_cmp chains.old chains.new cell.now (Some chain) }
+    ensures inserted { chains.new.entries ≡ insert_entry cell_cmp chains.old.entries cell.now chain }
+    ensures ordered { IsOrdered cell_cmp chains.new }
+{
+    match chains.insert(*cell, chain) {
+        Ok(_) => {}
+        Err(_) => unreachable!(),
+    }
+}
+
+// Puts one slot more at the end of a cell's chain, and gives the chain as it was, if there was one.
+//
+// A cell that was not held is looked up once.
+pub(crate) fn lengthen(
+    chains: &mut BTreeMap<Cell, Chain>,
+    cell: &Cell,
+    key: usize,
+) -> Result<Option<Chain>, Memory>
+    requires { IfSome (chain_at chains.old.entries cell.now) (λ chain. chain.count + 1 < 2 ^ 64) }
+    ensures held { IfOk result (λ held. held ≡ chain_at chains.old.entries cell.now) }
+    ensures lengthened { IfOk result (λ held. IsLengthened chains.old.entries chains.new.entries cell.now (extended held key)) }
+    ensures absent { OnErr result (chain_at chains.old.entries cell.now ≡ None) }
+    ensures err { OnErr result (chains.new.entries ≡ chains.old.entries) }
+{
+    let held = chains.insert(*cell, extended(None, key))?;
+    if held.is_none() {
+        return Ok(None);
+    }
+    replace(chains, cell, extended(held, key));
+    Ok(held)
 }
 
 // Puts a value into the vacant slot, at the end of a chain or alone.

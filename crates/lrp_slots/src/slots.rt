@@ -5,7 +5,7 @@ ghost use Rattle.std.specs.FinMap as finite;
 ghost use Rattle.lrp_slots.specs.Lists.{list_at, set_list, append_all};
 ghost use Rattle.lrp_model.specs.declared.tuples.Cell.{Cell as CellValue};
 
-use crate::chains::{Chain, Link, extended, keep_rest, key_at, push, take_out, vacant_key};
+use crate::chains::{Chain, Link, keep_rest, key_at, lengthen, push, take_out, vacant_key};
 use crate::iterators::{Cells, Values};
 use lrp_model::{Cell, Copies, Memory};
 use slab::Slab;
@@ -102,8 +102,7 @@ impl<V: Drop> Slots<V> {
         ensures kept { OnErr result (self.old.spare ≤ self.new.spare) }
     {
         let key = vacant_key(&mut self.links)?;
-        let held = self.chains.get(cell).copied();
-        self.chains.insert(*cell, extended(held, key))?;
+        let held = lengthen(&mut self.chains, cell, key)?;
         push(&mut self.links, held, value);
         Ok(())
     }
