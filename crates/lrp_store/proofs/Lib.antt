@@ -13,3 +13,4 @@ pub mod Rooms
 pub mod StoreFirst
 pub mod ZoneFirst
 pub mod ZonesRead
+pub mod Written

@@ -1,5 +1,5 @@
 -- A list of bounds that was made of a table stands for that table.
-use Rattle.std.proofs.Common.{◌≡◌, ◌≢◌, ℕ, zero, suc, ◌+◌, ◌*◌, ◌<◌, ◌≤◌, inl, inr, List, [], ◌∷◌, ◌++◌, length, take, Option, Some, None, true, false, cond, eqb, refl, sym, ap, subst, ◌∙◌, arith, get_or, to_z, of_z, ◌/◌, ◌%◌}
+use Rattle.std.proofs.Common.{◌≡◌, ◌≢◌, ℕ, zero, suc, ◌+◌, ◌*◌, ◌<◌, ◌≤◌, ◌⊎◌, inl, inr, List, [], ◌∷◌, ◌++◌, length, take, Option, Some, None, true, false, cond, eqb, refl, sym, ap, subst, ◌∙◌, arith, get_or, to_z, of_z, ◌/◌, ◌%◌}
 use Rattle.std.proofs.lemmas.Int.{ints}
 use Rattle.std.specs.Prelude.{ℤ, nat_abs, ◌^◌, ◌-◌, ◌≤ℤ◌, ◌-ℤ◌, neg_ℤ, pos, slice_index_or, is_some}
 use Rattle.std.specs.Int.{w64}
@@ -139,59 +139,39 @@ module _ (table : List (Option ℤ)) (size : length table ≡ 81) where
         within : (b : Bound) → b.left < 9 → b.right < 9 → table_place b < 81
         within b l r = omega arith
 
--- the bounds of a zone's table are the zone's own
-module _ (z : ZoneView) (valid : IsZone z) (bs : List Bound) (are : AreListed bs) (is : table_of bs ≡ z.bounds) where
-  -- each listed bound stands in the table
-  stands : (i : ℕ) → i < length bs → entry z.bounds (bound_at bs i).left (bound_at bs i).right ≡ Some (bound_at bs i).most
-  stands i h = ap (λ t. get_or t (table_place (bound_at bs i)) None) (sym is) ∙ get_or-table_of bs (table_place (bound_at bs i)) (within (bound_at bs i) (are.left i h) (are.right i h)) ∙ are.one i h
+-- a tight bound is small
+pub tight_is_small : (k w : ℤ) (e f : Option ℤ) → f ≡ e → IsTight k w e → AtMost (2 ^ 62) f
+tight_is_small k w None f same h = subst (λ y. AtMost (2 ^ 62) y) (sym same) tt
+tight_is_small k w (Some a) f same h = subst (λ y. AtMost (2 ^ 62) y) (sym same) h.1
+
+-- behind some place no bound stands
+rest_empty : (table : List (Option ℤ)) → length table ≡ 81 → (m n : ℕ) (bs : List Bound) → n + m ≡ 81 → ((p : ℕ) → n ≤ p → p < 81 → get_or table p None ≡ None) → AreOf table n bs → AreOf table 81 bs
+rest_empty table size zero n bs e none of = subst (λ k. AreOf table k bs) (omega arith) of
+rest_empty table size (suc m) n bs e none of = rest_empty table size m (n + 1) bs (omega arith) (λ p low high. none p (omega arith) high) (none_more table size n bs (none n (omega arith) (omega arith)) (omega arith) of)
+
+-- a place of the table of a zone
+module _ (z : ZoneView) (valid : IsZone z) where
+  -- a row and a column are a place
+  at_place : (p : ℕ) → entry z.bounds (p / 9) (p % 9) ≡ get_or z.bounds p None
+  at_place p = let e : 9 * (p / 9) + p % 9 ≡ p = omega arith in ap (λ q. get_or z.bounds q None) e
+
+  -- the bounds of the rows of the columns are all bounds
+  pub all_rows : (n : ℕ) (bs : List Bound) → n ≡ 9 * (columns_of z + 1) → AreOf z.bounds n bs → AreOf z.bounds 81 bs
+  all_rows n bs e of =
+      let c : columns_of z ≤ 8 = valid.shape.columns in
+      rest_empty z.bounds valid.size (81 - n) n bs (omega arith) (λ p low high. sym (at_place p) ∙ valid.shape.outside.none (p / 9) (p % 9) (omega arith) (omega arith) (inl (omega arith))) of
+
+  -- a tight bound is small, and none stands past the columns
+  pub place_small : (p : ℕ) (f : Option ℤ) → p < 81 → f ≡ get_or z.bounds p None → AtMost (2 ^ 62) f
+  place_small p f low is = by (cases_lt (columns_of z) (p / 9)) (cases_lt (columns_of z) (p % 9))
     where
-      within : (b : Bound) → b.left < 9 → b.right < 9 → table_place b < 81
-      within b l r = omega arith
+      outside : (columns_of z + 1 ≤ p / 9) ⊎ (columns_of z + 1 ≤ p % 9) → AtMost (2 ^ 62) f
+      outside o = subst (λ y. AtMost (2 ^ 62) y) (sym (is ∙ sym (at_place p) ∙ valid.shape.outside.none (p / 9) (p % 9) (omega arith) (omega arith) o)) tt
 
-  -- a bound is not none
-  some_none : (e : Option ℤ) (a : ℤ) → e ≡ Some a → e ≡ None → ⊥
-  some_none e a f g = cc
-
-  -- it is on the columns
-  left_within : (i : ℕ) → i < length bs → (bound_at bs i).left ≤ columns_of z
-  left_within i h = elim (cases_lt (columns_of z) (bound_at bs i).left) [
-    | inl past ↦ absurd (some_none _ _ (stands i h) (valid.shape.outside.none (bound_at bs i).left (bound_at bs i).right (are.left i h) (are.right i h) (inl (omega arith))))
-    | inr low ↦ low
-  ]
-
-  -- on both sides
-  right_within : (i : ℕ) → i < length bs → (bound_at bs i).right ≤ columns_of z
-  right_within i h = elim (cases_lt (columns_of z) (bound_at bs i).right) [
-    | inl past ↦ absurd (some_none _ _ (stands i h) (valid.shape.outside.none (bound_at bs i).left (bound_at bs i).right (are.left i h) (are.right i h) (inr (omega arith))))
-    | inr low ↦ low
-  ]
-
-  -- the listed bounds are those of the zone
-  pub own : (k : ℤ) (rs : List ℤ) → k ≡ pos z.period → rs ≡ z.residues → AreOwn z k rs bs
-  own k rs ek er = record {
-    period = ek;
-    residues = er;
-    stored = λ i h. (left_within i h, right_within i h, stands i h);
-    all = λ p q a pl ql e.
-        let c : columns_of z ≤ 8 = valid.shape.columns in
-        let w = some_listed bs (9 * p + q) a (sym (get_or-table_of bs (9 * p + q) (omega arith)) ∙ ap (λ t. get_or t (9 * p + q) None) is ∙ e) in
-        let r : (bound_at bs w.0).right < 9 = are.right w.0 w.1 in
-        let same : table_place (bound_at bs w.0) ≡ 9 * p + q = w.2 in
-        (w.0, w.1, omega arith, omega arith);
-  }
-
-  -- each is tight
-  given_at : (b : Bound) → b.left ≤ columns_of z → b.right ≤ columns_of z → entry z.bounds b.left b.right ≡ Some b.most → IsGiven (pos z.period) z.residues b
-  given_at b l r e =
-      let t = subst (IsTight (pos z.period) (node z.residues b.left -ℤ node z.residues b.right)) e (valid.shape.tight b.left b.right l r) in
-      let low : neg_ℤ (pos (2 ^ 62)) ≤ℤ b.most = t.1.0 in
-      let high : b.most ≤ℤ pos (2 ^ 62) = t.1.1 in
-      record { left = l; right = r; fits = record { room = inl (t.0, omega (arith, ints)) } }
-
-  -- so they can be given
-  pub given : (k : ℤ) (rs : List ℤ) → k ≡ pos z.period → rs ≡ z.residues → AreGiven k rs bs
-  given k rs ek er =
-      subst (λ y. AreGiven y rs bs) (sym ek) (subst (λ y. AreGiven (pos z.period) y bs) (sym er) (record { each = λ i h. given_at (bound_at bs i) (left_within i h) (right_within i h) (stands i h) }))
+      by : (columns_of z < p / 9) ⊎ (p / 9 ≤ columns_of z) → (columns_of z < p % 9) ⊎ (p % 9 ≤ columns_of z) → AtMost (2 ^ 62) f
+      by (inl past) r = outside (inl (omega arith))
+      by (inr l) (inl past) = outside (inr (omega arith))
+      by (inr l) (inr r) = tight_is_small (pos z.period) (node z.residues (p / 9) -ℤ node z.residues (p % 9)) (entry z.bounds (p / 9) (p % 9)) f (is ∙ sym (at_place p)) (valid.shape.tight (p / 9) (p % 9) l r)
 
 -- the bounds of the entries with one more
 map_push : (es : List Entry) (e : Entry) → bounds_of (es ++ e ∷ []) ≡ bounds_of es ++ (record { left = e.left; right = e.right; most = e.most }) ∷ []
@@ -203,43 +183,28 @@ taken_count : (table : List (Option ℤ)) (n : ℕ) → count_of (take n table) 
 taken_count table n = sum_by-take-le (λ e. cond (is_some e) 1 0) table n
 
 module _ (table : List (Option ℤ)) (size : length table ≡ 81) (n : ℕ) (low : n < 81) (old : List Entry) (of : AreOf table n (bounds_of old)) where
-  -- a row and a column are a place
-  at_place : entry table (n / 9) (n % 9) ≡ get_or table n None
-  at_place = let e : 9 * (n / 9) + n % 9 ≡ n = omega arith in ap (λ p. get_or table p None) e
-
   -- the bound of the next place was pushed
-  pub pushed : (a v : ℤ) (new : List Entry) → entry table (n / 9) (n % 9) ≡ Some a → v ≡ a → new ≡ old ++ (record { left = n / 9; right = n % 9; most = v }) ∷ [] → AreOf table (n + 1) (bounds_of new)
+  pub pushed : (a v : ℤ) (new : List Entry) → get_or table n None ≡ Some a → v ≡ a → new ≡ old ++ (record { left = n / 9; right = n % 9; most = v }) ∷ [] → AreOf table (n + 1) (bounds_of new)
   pushed a v new is same e =
       subst (λ bs. AreOf table (n + 1) bs) (sym (ap bounds_of e ∙ ap (λ y. bounds_of (old ++ (record { left = n / 9; right = n % 9; most = y }) ∷ [])) same ∙ map_push old (record { left = n / 9; right = n % 9; most = a })))
-      (one_of table size n (bounds_of old) (record { left = n / 9; right = n % 9; most = a }) (omega arith) (omega arith) (omega arith) (sym at_place ∙ is) low of)
+      (one_of table size n (bounds_of old) (record { left = n / 9; right = n % 9; most = a }) (omega arith) (omega arith) (omega arith) is low of)
 
   -- nothing is stored there
-  pub passed : entry table (n / 9) (n % 9) ≡ None → AreOf table (n + 1) (bounds_of old)
-  passed is = none_more table size n (bounds_of old) (sym at_place ∙ is) low of
+  pub passed : get_or table n None ≡ None → AreOf table (n + 1) (bounds_of old)
+  passed is = none_more table size n (bounds_of old) is low of
 
   -- there is room for the next bound where eight are enough for all
-  pub has_room : (a : ℤ) (capacity : ℕ) → entry table (n / 9) (n % 9) ≡ Some a → count_of table ≤ 8 → 8 ≤ capacity → length old + 1 ≤ capacity
+  pub has_room : (a : ℤ) (capacity : ℕ) → get_or table n None ≡ Some a → count_of table ≤ 8 → 8 ≤ capacity → length old + 1 ≤ capacity
   has_room a capacity is few room =
-      let m : count_of (take (n + 1) table) ≡ count_of (take n table) + 1 = count_by_more_yes is_some table n None (omega arith) (ap is_some (sym at_place ∙ is)) in
+      let m : count_of (take (n + 1) table) ≡ count_of (take n table) + 1 = count_by_more_yes is_some table n None (omega arith) (ap is_some is) in
       let t : count_of (take (n + 1) table) ≤ count_of table = taken_count table (n + 1) in
       let c : length (bounds_of old) ≡ count_of (take n table) = of.count in
       let l : length (bounds_of old) ≡ length old = length-map old _ in
       omega arith
 
--- what stands in front of the array are the bounds of the entries
-pub taken : (count : ℕ) (out : List Bound) (now items : List Entry) → count ≡ length items → now ≡ items → take (length now) out ≡ bounds_of now → bounds_of items ≡ take count out
-taken count out now items ec en e = sym (ap (λ k. take k out) (ec ∙ ap length (sym en)) ∙ e ∙ ap bounds_of en)
-
 -- a period is the same in a word with a sign
 pub word_period : (k : ℕ) → k ≤ 2 ^ 62 → to_z w64 k ≡ pos k
 word_period k h = omega (arith, ints)
-
--- a zone that is made of its own bounds
-pub read_back : (z : ZoneView) → IsZone z → (bs items : List Bound) → items ≡ bs → AreListed items → table_of items ≡ z.bounds → (k : ℤ) (rs : List ℤ) → k ≡ pos z.period → rs ≡ z.residues → AreGiven k rs bs × AreOwn z k rs bs
-read_back z valid bs items same are is k rs ek er =
-    let a : AreListed bs = subst (λ l. AreListed l) same are in
-    let t : table_of bs ≡ z.bounds = subst (λ l. table_of l ≡ z.bounds) same is in
-    (given z valid bs a t k rs ek er, own z valid bs a t k rs ek er)
 
 -- so is a bound
 pub word_bound : (a : ℤ) → AtMost (2 ^ 62) (Some a) → to_z w64 (of_z w64 a) ≡ a
@@ -247,11 +212,6 @@ word_bound a h = within a h.0 h.1
   where
     within : (a : ℤ) → neg_ℤ (pos (2 ^ 62)) ≤ℤ a → a ≤ℤ pos (2 ^ 62) → to_z w64 (of_z w64 a) ≡ a
     within a low high = omega (arith, ints)
-
--- a tight bound is small
-pub tight_is_small : (k w : ℤ) (e f : Option ℤ) → f ≡ e → IsTight k w e → AtMost (2 ^ 62) f
-tight_is_small k w None f same h = subst (λ y. AtMost (2 ^ 62) y) (sym same) tt
-tight_is_small k w (Some a) f same h = subst (λ y. AtMost (2 ^ 62) y) (sym same) h.1
 
 -- and its magnitude
 pub word_abs : (a : ℤ) → pos 1 ≤ℤ a → a ≤ℤ pos (2 ^ 62) → nat_abs (to_z w64 (of_z w64 a)) ≡ nat_abs a

@@ -1,6 +1,7 @@
 -- The stored bounds of a zone as a list, and the table that they stand for.
-use Rattle.std.specs.Prelude.{◌≡◌, ℕ, ℤ, ◌+◌, ◌*◌, ◌<◌, ◌≤◌, ◌==◌, List, [], ◌∷◌, length, map, Option, Some, None, is_some, count_by, if◌then◌else◌}
+use Rattle.std.specs.Prelude.{◌≡◌, ℕ, ℤ, ◌+◌, ◌*◌, ◌<◌, ◌≤◌, ◌^◌, ◌==◌, List, [], ◌∷◌, length, map, Option, Some, None, is_some, count_by, if◌then◌else◌}
 use Rattle.std.specs.List.{range_with_len}
+use Rattle.lrp_theory.specs.Entries.{AtMost}
 use Rattle.lrp_model.specs.declared.relations.Bound.{Bound}
 use Rattle.lrp_zone.specs.Given.{bound_at}
 use Rattle.lrp_store.specs.declared.stored.Entry.{Entry}
@@ -28,6 +29,10 @@ pub record AreListed (bs : List Bound) : Type 0 where
   pub right : (i : ℕ) → i < length bs → (bound_at bs i).right < 9
   pub few : length bs ≤ 81
   pub one : (i : ℕ) → i < length bs → listed_at bs (table_place (bound_at bs i)) ≡ Some (bound_at bs i).most
+
+-- the magnitude of each listed bound is at most the limit
+pub record AreSmall (bs : List Bound) : Type 0 where
+  pub each : (i : ℕ) → i < length bs → AtMost (2 ^ 62) (Some (bound_at bs i).most)
 
 -- how many bounds a table has
 abbrev pub count_of : List (Option ℤ) → ℕ

@@ -130,7 +130,7 @@ impl Store {
         ensures kept { OnErr result (self.old.spare ≤ self.new.spare) }
     {
         zone.columns();
-        if self.slots.count(cell) == 0 && self.slots.len() >= cap as usize {
+        if self.slots.len() >= cap as usize && self.slots.count(cell) == 0 {
             return Err(StoreFault::TooManyCells);
         }
         let bounds = StoredBounds::of(self.alloc, zone)?;

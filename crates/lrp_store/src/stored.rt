@@ -1,11 +1,11 @@
 // The stored bounds of one zone, up to eight of them in place.
-ghost use Rattle.std.specs.Prelude.{◌≡◌, ◌<◌, ◌≤◌, ◌^◌, IfOk, IsOk, pos, length, take};
-ghost use Rattle.lrp_theory.specs.Entries.{entry, AtMost};
-ghost use Rattle.lrp_zone.specs.Zones.{IsZone};
-ghost use Rattle.lrp_store.specs.Stored.{bounds_of, count_of};
+ghost use Rattle.std.specs.Prelude.{◌≡◌, ◌+◌, ◌*◌, ◌<◌, ◌≤◌, ◌^◌, IfOk, IsOk, None, slice_index_or};
+ghost use Rattle.lrp_theory.specs.Entries.{AtMost};
+ghost use Rattle.lrp_zone.specs.Zones.{IsZone, columns_of};
+ghost use Rattle.lrp_store.specs.Stored.{bounds_of, count_of, table_of, AreListed, AreSmall};
 
-use lrp_model::{Bound, Copies, Memory};
-use lrp_zone::Zone;
+use lrp_model::{Copies, Memory};
+use lrp_zone::{Table, Zone};
 use smallvec::SmallVec;
 use std::alloc::Global;
 use std::marker::Model;
@@ -43,9 +43,10 @@ impl StoredBounds {
     {
         let mut entries = SmallVec::new(alloc);
         zone.columns();
-        for place in 0..81u8 {
+        let places = places_of(zone);
+        for place in 0..places {
             let (left, right) = (place / 9, place % 9);
-            if let Some(most) = bound_of(zone, left, right) {
+            if let Some(most) = bound_of(zone, place) {
                 entries.push(Entry { left, right, most })?;
             }
         }
@@ -57,12 +58,7 @@ impl StoredBounds {
         requires { IsZone (record { period = period; residues = residues.now; bounds = self.now }) }
         ensures { result ≡ record { period = period; residues = residues.now; bounds = self.now } }
     {
-        let count = self.entries.len();
-        let bounds = bounds_of_entries(self.entries.as_slice());
-        match Zone::of(period as i64, residues, &bounds[..count]) {
-            Some(zone) => zone,
-            None => unreachable!(),
-        }
+        Zone::of_table(period, residues, &written(self.entries.as_slice()))
     }
 }
 
@@ -74,37 +70,33 @@ impl Copies for StoredBounds {
     }
 }
 
-// The stored bound at a place, where none stands past the columns.
-fn bound_of(zone: &Zone, i: u8, j: u8) -> Option<i64>
-    requires row { i < 9 }
-    requires column { j < 9 }
-    ensures value { result ≡ entry zone.now.bounds i j }
-    ensures small { AtMost (2 ^ 62) result }
+// How many places of the table are in the rows of the columns and of the number zero.
+fn places_of(zone: &Zone) -> u8
+    ensures value { result ≡ 9 * (columns_of zone.now + 1) }
+    ensures high { result ≤ 81 }
 {
-    let (i, j) = (usize::from(i), usize::from(j));
-    if i > zone.columns() || j > zone.columns() {
-        return None;
-    }
-    zone.bound(i, j)
+    9 * (zone.columns() as u8 + 1)
 }
 
-// The bounds of the entries, and others behind them.
-fn bounds_of_entries(entries: &[Entry]) -> [Bound; 81]
-    requires { length entries.now ≤ 81 }
-    ensures { take (length entries.now) result ≡ bounds_of entries.now }
+// The stored bound at a place of the table.
+fn bound_of(zone: &Zone, place: u8) -> Option<i64>
+    requires { place < 81 }
+    ensures value { result ≡ slice_index_or zone.now.bounds place None }
+    ensures small { AtMost (2 ^ 62) result }
 {
-    let nothing = Bound {
-        left: 0,
-        right: 0,
-        most: 0,
-    };
-    let mut bounds = [nothing; 81];
-    for (i, entry) in entries.iter().enumerate() {
-        bounds[i] = Bound {
-            left: entry.left,
-            right: entry.right,
-            most: entry.most,
-        };
+    zone.bounds()[usize::from(place)]
+}
+
+// The table of the bounds of the entries.
+fn written(entries: &[Entry]) -> Table
+    requires listed { AreListed (bounds_of entries.now) }
+    requires small { AreSmall (bounds_of entries.now) }
+    ensures { result ≡ table_of (bounds_of entries.now) }
+{
+    let mut table = [None; 81];
+    for entry in entries {
+        let place = 9 * usize::from(entry.left) + usize::from(entry.right);
+        table[place] = Some(entry.most);
     }
-    bounds
+    table
 }

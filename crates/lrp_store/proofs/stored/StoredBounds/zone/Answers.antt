@@ -1,24 +1,19 @@
--- A zone is made again of its own bounds.
-use Rattle.std.proofs.Common.{refl}
-use Rattle.lrp_store.specs.Stored.{bounds_of}
-use Rattle.lrp_store.proofs.Listed.{read_back, taken, word_period}
+-- A zone is made again of its table.
+use Rattle.std.proofs.Common.{sym, ap, subst, ◌∙◌}
+use Rattle.lrp_zone.specs.Zones.{IsZone}
+use Rattle.lrp_store.specs.Stored.{bounds_of, AreListed}
+use Rattle.lrp_store.proofs.Written.{shown_table, with_table, zone_small}
 use Rattle.lrp_store.proofs.stored.StoredBounds.zone.Goals as goal
 
-pub of-requires-clause-given : goal.of-requires-clause-given
-of-requires-clause-given c =
-    (read_back (record { period = c.args.period; residues = c.args.residues.now; bounds = c.args.self.now }) c.requires _ (bounds_of c.self.inside.entries.items)
-    (taken c.len-count.result c.bounds_of_entries-bounds.result c.as_slice.result.now c.self.inside.entries.items c.len-count.ensures.value c.as_slice.ensures c.bounds_of_entries-bounds.ensures) c.self.invariant c.self.view_is _ c.args.residues.now (word_period c.args.period c.requires.shape.period_high) refl).0
+pub written-requires-clause-listed : goal.written-requires-clause-listed
+written-requires-clause-listed c = subst (λ es. AreListed (bounds_of es)) (sym c.as_slice.ensures) c.self.invariant
 
-pub unreachable-requires : goal.unreachable-requires
-unreachable-requires c =
-    let own = c.of.ensures.own (record { period = c.args.period; residues = c.args.residues.now; bounds = c.args.self.now }) c.requires
-    ((read_back (record { period = c.args.period; residues = c.args.residues.now; bounds = c.args.self.now }) c.requires _ (bounds_of c.self.inside.entries.items)
-    (taken c.len-count.result c.bounds_of_entries-bounds.result c.as_slice.result.now c.self.inside.entries.items c.len-count.ensures.value c.as_slice.ensures c.bounds_of_entries-bounds.ensures) c.self.invariant c.self.view_is _ c.args.residues.now (word_period c.args.period c.requires.shape.period_high) refl).1) in
-    cc (own, c.in-None.is)
+pub written-requires-clause-small : goal.written-requires-clause-small
+written-requires-clause-small c = zone_small c.args.period c.args.residues.now c.args.self.now c.self.inside.entries.items c.as_slice.result.now c.as_slice.ensures c.self.invariant c.self.view_is c.requires
+
+pub of_table-requires : goal.of_table-requires
+of_table-requires c =
+    subst (λ t. IsZone (with_table c.args.period c.args.residues.now t)) (sym (shown_table c.written.result c.args.self.now c.self.inside.entries.items c.as_slice.result.now c.as_slice.ensures c.written.ensures c.self.view_is)) c.requires
 
 pub returns : goal.returns
-returns c =
-    let own = c.of.ensures.own (record { period = c.args.period; residues = c.args.residues.now; bounds = c.args.self.now }) c.requires
-    ((read_back (record { period = c.args.period; residues = c.args.residues.now; bounds = c.args.self.now }) c.requires _ (bounds_of c.self.inside.entries.items)
-    (taken c.len-count.result c.bounds_of_entries-bounds.result c.as_slice.result.now c.self.inside.entries.items c.len-count.ensures.value c.as_slice.ensures c.bounds_of_entries-bounds.ensures) c.self.invariant c.self.view_is _ c.args.residues.now (word_period c.args.period c.requires.shape.period_high) refl).1) in
-    cc (own, c.in-Some.is)
+returns c = c.of_table.ensures ∙ ap (with_table c.args.period c.args.residues.now) (shown_table c.written.result c.args.self.now c.self.inside.entries.items c.as_slice.result.now c.as_slice.ensures c.written.ensures c.self.view_is)
