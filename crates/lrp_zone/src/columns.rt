@@ -3,6 +3,7 @@
 ghost use Rattle.std.specs.Prelude.{◌≡◌, ◌<◌, ◌≤◌, ◌^◌, ◌+◌, ℕ, List, length};
 ghost use Rattle.lrp_theory.specs.Entries.{entry, node, AtMost, AllSmall};
 ghost use Rattle.lrp_zone.specs.Columns.{past, IsPath, IsWithout};
+ghost use Rattle.lrp_zone.specs.Numbers.{CanStand};
 ghost use Rattle.lrp_zone.specs.Spread.{target, ArePlaces, IsSpreadTo};
 
 use crate::bounds::{Table, at, free, lesser, put, sum};
@@ -22,7 +23,8 @@ fn path(bounds: &Table, k: usize, p: usize, q: usize) -> Option<i64>
     requires column { q < 8 }
     requires left { AtMost (2 ^ 61) (entry bounds.now (past k p) k) }
     requires right { AtMost (2 ^ 61) (entry bounds.now k (past k q)) }
-    ensures { IsPath bounds.now k p q result }
+    ensures value { IsPath bounds.now k p q result }
+    ensures stands { CanStand result }
 {
     if p == q {
         return None;

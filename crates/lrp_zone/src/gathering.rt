@@ -2,6 +2,7 @@
 
 ghost use Rattle.std.specs.Prelude.{◌≡◌, ◌<◌, ◌≤◌, ◌^◌, ℕ, IsTrue, ◌↔◌, length, pos};
 ghost use Rattle.lrp_theory.specs.Entries.{node};
+ghost use Rattle.lrp_zone.specs.Numbers.{CanStand};
 ghost use Rattle.lrp_zone.specs.Zones.{IsResidue};
 ghost use Rattle.lrp_zone.specs.Given.{HasNegative, IsGiven, IsStoredFor, IsWith, AreGiven, IsGathered};
 
@@ -28,7 +29,8 @@ fn kept(bound: &Bound, residues: &[i64], period: u64) -> Option<i64>
     requires given { IsGiven (pos period) residues.now bound.now }
     requires left { IsResidue period (node residues.now bound.now.left) }
     requires right { IsResidue period (node residues.now bound.now.right) }
-    ensures { IsStoredFor (pos period) residues.now bound.now result }
+    ensures value { IsStoredFor (pos period) residues.now bound.now result }
+    ensures stands { CanStand result }
 {
     let (i, j) = (usize::from(bound.left), usize::from(bound.right));
     if i == j {

@@ -17,7 +17,7 @@ loop-q-preserved c = record {
   above = λ r s rl sl. kept _ _ r s _ _ (c.put.ensures.others r s (omega arith) (λ e f. omega arith)) (c.loop-q.invariant.above r s rl sl);
   here = below_more (λ s. IsPath c.args.bounds.now c.args.k c.loop-p.p s (entry c.put.new.bounds c.loop-p.p s)) _
       (λ s sl. kept _ _ c.loop-p.p s _ _ (c.put.ensures.others c.loop-p.p s (omega arith) (λ e f. omega arith)) (c.loop-q.invariant.here s sl))
-      (kept _ _ _ _ _ _ c.put.ensures.here c.path.ensures);
+      (kept _ _ _ _ _ _ c.put.ensures.here c.path.ensures.value);
   outside = empty_put _ c.loop-p.p c.loop-q.q c.loop-q.out c.put.new.bounds c.loop-p-test.true c.loop-q-test.true c.put.ensures.others c.loop-q.invariant.outside;
 }
 

@@ -4,6 +4,7 @@ use Rattle.lrp_theory.proofs.Through.{rows_more}
 use Rattle.lrp_theory.specs.Entries.{entry, node}
 use Rattle.lrp_zone.specs.Tight.{IsStored}
 use Rattle.lrp_zone.proofs.Tables.{empty_free, empty_put}
+use Rattle.lrp_zone.proofs.Stands.{stands_small}
 use Rattle.lrp_zone.proofs.tightening.all_tightened.Goals as goal
 
 kept : (k w : ℤ) (a b e f : Option ℤ) → b ≡ a → f ≡ e → IsStored k w a e → IsStored k w b f
@@ -17,7 +18,7 @@ loop-j-preserved c = record {
   above = λ r s rl sl. kept _ _ _ _ _ _ refl (c.put.ensures.others r s (omega arith) (λ e f. omega arith)) (c.loop-j.invariant.above r s rl sl);
   here = below_more (λ s. IsStored (pos c.args.period) (node c.args.residues.now c.loop-i.i -ℤ node c.args.residues.now s) (entry c.args.bounds.now c.loop-i.i s) (entry c.put.new.bounds c.loop-i.i s)) _
       (λ s sl. kept _ _ _ _ _ _ refl (c.put.ensures.others c.loop-i.i s (omega arith) (λ e f. omega arith)) (c.loop-j.invariant.here s sl))
-      (kept _ _ _ _ _ _ (sym c.at.ensures) c.put.ensures.here c.tightened.ensures);
+      (kept _ _ _ _ _ _ (sym c.at.ensures.value) c.put.ensures.here c.tightened.ensures);
   outside = empty_put _ c.loop-i.i c.loop-j.j c.loop-j.out c.put.new.bounds c.loop-i-test.true c.loop-j-test.true c.put.ensures.others c.loop-j.invariant.outside;
 }
 
@@ -28,7 +29,10 @@ loop-i-preserved c = record {
 }
 
 pub tightened-requires-clause-fits : goal.tightened-requires-clause-fits
-tightened-requires-clause-fits c = λ a e. c.requires.fits c.loop-i.i c.loop-j.j a (omega arith) (omega arith) (sym c.at.ensures ∙ e)
+tightened-requires-clause-fits c = λ a e. c.requires.fits c.loop-i.i c.loop-j.j a (omega arith) (omega arith) (sym c.at.ensures.value ∙ e)
 
 pub returns : goal.returns
 returns c = record { each = λ i j il jl. c.loop-i.invariant.above i j (omega arith) (omega arith); outside = c.loop-i.invariant.outside }
+
+pub put-requires-clause-stands : goal.put-requires-clause-stands
+put-requires-clause-stands c = stands_small _ c.tightened.ensures.small

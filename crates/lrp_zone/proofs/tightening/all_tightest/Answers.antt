@@ -5,6 +5,7 @@ use Rattle.lrp_theory.specs.Entries.{entry, node, AtMost}
 use Rattle.lrp_zone.specs.Tight.{IsStored}
 use Rattle.lrp_zone.proofs.Cut.{roomy}
 use Rattle.lrp_zone.proofs.Tables.{empty_free, empty_put}
+use Rattle.lrp_zone.proofs.Stands.{stands_small}
 use Rattle.lrp_zone.proofs.tightening.all_tightest.Goals as goal
 
 kept : (k w : ℤ) (a b e f : Option ℤ) → b ≡ a → f ≡ e → IsStored k w a e → IsStored k w b f
@@ -36,3 +37,6 @@ returns c = record { each = λ i j il jl. c.loop-i.invariant.above i j (omega ar
 
 pub narrow-requires : goal.narrow-requires
 narrow-requires c = subst (λ e. AtMost (2 ^ 62) e) (sym c.get.ensures) (roomy (pos c.args.period) _ _ (λ a e. c.requires.fits c.loop-i.i c.loop-j.j a (omega arith) (omega arith) e))
+
+pub put-requires-clause-stands : goal.put-requires-clause-stands
+put-requires-clause-stands c = stands_small _ c.tightened.ensures.small
