@@ -84,7 +84,7 @@ fn bound_of(zone: &Zone, place: u8) -> Option<i64>
     ensures value { result ≡ slice_index_or zone.now.bounds place None }
     ensures small { AtMost (2 ^ 62) result }
 {
-    zone.bounds()[usize::from(place)]
+    zone.bounds().get(usize::from(place))
 }
 
 // The table of the bounds of the entries.
@@ -93,10 +93,10 @@ fn written(entries: &[Entry]) -> Table
     requires small { AreSmall (bounds_of entries.now) }
     ensures { result ≡ table_of (bounds_of entries.now) }
 {
-    let mut table = [None; 81];
+    let mut table = Table::free();
     for entry in entries {
         let place = 9 * usize::from(entry.left) + usize::from(entry.right);
-        table[place] = Some(entry.most);
+        table.set(place, Some(entry.most));
     }
     table
 }
