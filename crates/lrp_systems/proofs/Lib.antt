@@ -1,6 +1,7 @@
 -- The lemmas: bounds that come together, residues that are left and tried, orders, pieces of cells, and how they make up the solutions.
 pub mod Branches
 pub mod CellPieces
+pub mod InWindows
 pub mod Joining
 pub mod Orders
 pub mod Ranges

@@ -6,3 +6,4 @@ pub mod Parts
 pub mod Pieces
 pub mod Residues
 pub mod Systems
+pub mod Windows

@@ -2,6 +2,7 @@
 #![tactic(auto)]
 
 mod choice;
+mod divisor;
 mod frame;
 mod joint;
 mod order;
@@ -9,6 +10,11 @@ mod part;
 mod piece;
 mod residue;
 mod system;
+mod window;
+mod windows;
 
+pub use divisor::common_divisor;
 pub use part::Part;
 pub use system::add_system;
+pub use window::Window;
+pub use windows::{Windows, windows_of};

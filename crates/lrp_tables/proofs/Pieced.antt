@@ -18,25 +18,25 @@ use Rattle.lrp_tables.specs.Pieces.{piece_of, pieces_at, pieces_left, HaveZones,
 use Rattle.lrp_tables.specs.declared.pieces.Piece.{Piece}
 
 -- what a part of a list has, the list has
-in_drop : {X : Type 0} (n : ℕ) (xs : List X) (x : X) → Contains (drop n xs) x → Contains xs x
+pub in_drop : {X : Type 0} (n : ℕ) (xs : List X) (x : X) → Contains (drop n xs) x → Contains xs x
 in_drop zero xs x h = h
 in_drop (suc n) [] x h = h
 in_drop (suc n) (y ∷ xs) x h = let g = in_drop n xs x h in let l : g.0 < length xs = g.1 in (suc g.0, omega arith, g.2)
 
 -- an element of a mapped list is made of one
-of_map : {X Y : Type 0} (f : X → Y) (xs : List X) (y : Y) → Contains (map f xs) y → (x : X) × Contains xs x × (f x ≡ y)
+pub of_map : {X Y : Type 0} (f : X → Y) (xs : List X) (y : Y) → Contains (map f xs) y → (x : X) × Contains xs x × (f x ≡ y)
 of_map f [] y h = let l : h.0 < 0 = h.1 in absurd (omega arith)
 of_map f (x ∷ xs) y (zero, l, e) = (x, (0, omega arith, refl), e)
 of_map f (x ∷ xs) y (suc k, l, e) = let g = of_map f xs y (k, omega arith, e) in let m : g.1.0 < length xs = g.1.1 in (g.0, (suc g.1.0, omega arith, g.1.2), g.2)
 
 -- and the other way about
-in_map : {X Y : Type 0} (f : X → Y) (xs : List X) (x : X) → Contains xs x → Contains (map f xs) (f x)
+pub in_map : {X Y : Type 0} (f : X → Y) (xs : List X) (x : X) → Contains xs x → Contains (map f xs) (f x)
 in_map f [] x h = let l : h.0 < 0 = h.1 in absurd (omega arith)
 in_map f (w ∷ xs) x (zero, l, e) = (0, omega arith, ap f e)
 in_map f (w ∷ xs) x (suc k, l, e) = let g = in_map f xs x (k, omega arith, e) in let m : g.0 < length (map f xs) = g.1 in (suc g.0, omega arith, g.2)
 
 -- an element of joined lists is in one of them
-of_flat : {X Y : Type 0} (f : X → List Y) (xs : List X) (y : Y) → Contains (flat_map f xs) y → (x : X) × Contains xs x × Contains (f x) y
+pub of_flat : {X Y : Type 0} (f : X → List Y) (xs : List X) (y : Y) → Contains (flat_map f xs) y → (x : X) × Contains xs x × Contains (f x) y
 of_flat f [] y h = let l : h.0 < 0 = h.1 in absurd (omega arith)
 of_flat f (x ∷ xs) y h = elim (Contains-append_cases (f x) (flat_map f xs) y h) [
   | inl i ↦ (x, (0, omega arith, refl), i)
@@ -44,14 +44,14 @@ of_flat f (x ∷ xs) y h = elim (Contains-append_cases (f x) (flat_map f xs) y h
 ]
 
 -- and the other way about
-in_flat : {X Y : Type 0} (f : X → List Y) (xs : List X) (x : X) (y : Y) → Contains xs x → Contains (f x) y → Contains (flat_map f xs) y
+pub in_flat : {X Y : Type 0} (f : X → List Y) (xs : List X) (x : X) (y : Y) → Contains xs x → Contains (f x) y → Contains (flat_map f xs) y
 in_flat f [] x y h i = let l : h.0 < 0 = h.1 in absurd (omega arith)
 in_flat f (w ∷ xs) x y (zero, l, e) i = Contains-append_left (f w) (flat_map f xs) y (subst (λ v. Contains (f v) y) (sym e) i)
 in_flat f (w ∷ xs) x y (suc k, l, e) i = Contains-append_right (f w) (flat_map f xs) y (in_flat f xs x y (k, omega arith, e) i)
 
 module _ (s : StoreView) where
   -- the zones of a cell are zones of the store
-  of_cell : (cell : Cell) (piece : Piece) → Contains (pieces_at s cell) piece → IsPieceOf s piece
+  pub of_cell : (cell : Cell) (piece : Piece) → Contains (pieces_at s cell) piece → IsPieceOf s piece
   of_cell cell piece h =
       let g = of_map (piece_of s cell) (tables_at s cell) piece h in
       subst (λ p. IsPieceOf s p) g.2 (record { table = g.0; held = g.1; zone = refl })
