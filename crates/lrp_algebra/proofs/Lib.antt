@@ -5,10 +5,12 @@ pub mod Cuts
 pub mod Extended
 pub mod Filled
 pub mod Found
+pub mod Grouped
 pub mod Leaves
 pub mod BothFound
 pub mod Parts
 pub mod ReadRows
+pub mod Indexed
 pub mod Inserts
 pub mod Joined
 pub mod Scanned

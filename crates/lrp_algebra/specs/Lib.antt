@@ -4,6 +4,7 @@ pub mod Comparisons
 pub mod Conditions
 pub mod Fillings
 pub mod Gathered
+pub mod Indexes
 pub mod Patterns
 pub mod Rows
 pub mod Tables

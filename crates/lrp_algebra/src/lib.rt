@@ -8,6 +8,8 @@ mod data_drops;
 mod equalities;
 mod filling;
 mod gathering;
+mod groups;
+mod index;
 mod joins;
 mod layout;
 mod meeting;

@@ -1,5 +1,5 @@
 -- What divides two numbers divides the remainder of the one by the other, and the other way about.
-use Rattle.std.proofs.Common.{◌≡◌, ◌<◌, arith, sym, subst}
+use Rattle.std.proofs.Common.{◌≡◌, arith, sym, subst}
 use Rattle.std.specs.Prelude.{pos}
 use Rattle.lrp_theory.specs.Divides.{Divides}
 use Rattle.lrp_theory.proofs.Modulo.{Divides-self, Divides-zero}
