@@ -8,6 +8,7 @@ pub mod CutLaws
 pub mod CutterLaws
 pub mod DifferenceLaws
 pub mod FillingLaws
+pub mod GapLaws
 pub mod Gathering
 pub mod HalfLaws
 pub mod HullLaws
@@ -22,5 +23,6 @@ pub mod SettlingLaws
 pub mod SpanLaws
 pub mod SparedLaws
 pub mod SplitLaws
+pub mod SweepLaws
 pub mod ThresholdLaws
 pub mod WidestLaws

@@ -81,7 +81,7 @@ module _ (z : ZoneView) (one : columns_of z ≡ 1) (zones : List ZoneView) (cell
       let s : (w : ZoneView) × Contains zones w × (span_of w ≡ get_or vs k d) = span_in (get_or vs k d) (Contains-get_or vs k d l) in
       subst (IsInterval z) s.2 (interval_moved z s.0 (span_of s.0) (cells.each s.0 s.1) (span_interval s.0 (zone_is s.0 s.1) (has_one s.0 s.1) (room s.0 s.1)))
 
-  number_to : (x : ℤ) → InInterval z vs x → InSome zones (x ∷ [])
+  pub number_to : (x : ℤ) → InInterval z vs x → InSome zones (x ∷ [])
   number_to x n =
       let s : (w : ZoneView) × Contains zones w × (span_of w ≡ n.interval) = span_in n.interval n.listed in
       record {
@@ -90,14 +90,14 @@ module _ (z : ZoneView) (one : columns_of z ≡ 1) (zones : List ZoneView) (cell
         inside = span_from s.0 (zone_is s.0 s.1) (has_one s.0 s.1) x (number_back z s.0 (span_of s.0) x (cells.each s.0 s.1) (subst (λ v. IsNumber z v x) (sym s.2) n.is));
       }
 
-  number_from : (x : ℤ) → InSome zones (x ∷ []) → InInterval z vs x
+  pub number_from : (x : ℤ) → InSome zones (x ∷ []) → InInterval z vs x
   number_from x s = record {
     interval = span_of s.zone;
     listed = in_span s.zone s.listed;
     is = number_moved z s.zone (span_of s.zone) x (cells.each s.zone s.listed) (span_to s.zone (zone_is s.zone s.listed) (has_one s.zone s.listed) x s.inside);
   }
 
-  ends_small : (v : Interval) → Contains vs v → HasSmallEnds (greatest_reach zones) v
+  pub ends_small : (v : Interval) → Contains vs v → HasSmallEnds (greatest_reach zones) v
   ends_small v l =
       let s : (w : ZoneView) × Contains zones w × (span_of w ≡ v) = span_in v l in
       subst (HasSmallEnds (greatest_reach zones)) s.2 (span_small s.0 (zone_is s.0 s.1) (has_one s.0 s.1) (greatest_reach zones) (reach_below zones s.0 s.1))

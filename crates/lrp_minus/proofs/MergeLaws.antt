@@ -29,13 +29,13 @@ pub record AreMerging (z : ZoneView) (vs : List Interval) (made : List ZoneView)
   pub reach : (h : ℕ) → ((v : Interval) → Contains vs v → HasSmallEnds h v) → ((w : ZoneView) → Contains made w → reach_of w ≤ h) × HasSmallEnds h last
 
 -- a number of the intervals is one of more of them
-interval_left : (z : ZoneView) (vs ws : List Interval) (x : ℤ) → InInterval z vs x → InInterval z (vs ++ ws) x
+pub interval_left : (z : ZoneView) (vs ws : List Interval) (x : ℤ) → InInterval z vs x → InInterval z (vs ++ ws) x
 interval_left z vs ws x i = record { interval = i.interval; listed = Contains-append_left vs ws i.interval i.listed; is = i.is }
 
-interval_new : (z : ZoneView) (vs : List Interval) (v : Interval) (x : ℤ) → IsNumber z v x → InInterval z (vs ++ v ∷ []) x
+pub interval_new : (z : ZoneView) (vs : List Interval) (v : Interval) (x : ℤ) → IsNumber z v x → InInterval z (vs ++ v ∷ []) x
 interval_new z vs v x n = record { interval = v; listed = Contains-append_right vs (v ∷ []) v (one_in v); is = n }
 
-interval_either : (z : ZoneView) (vs : List Interval) (v : Interval) (x : ℤ) → InInterval z (vs ++ v ∷ []) x → InInterval z vs x ⊎ IsNumber z v x
+pub interval_either : (z : ZoneView) (vs : List Interval) (v : Interval) (x : ℤ) → InInterval z (vs ++ v ∷ []) x → InInterval z vs x ⊎ IsNumber z v x
 interval_either z vs v x i = elim (Contains-append_cases vs (v ∷ []) i.interval i.listed) [
   | inl k ↦ inl (record { interval = i.interval; listed = k; is = i.is })
   | inr k ↦ inr (subst (λ y. IsNumber z y x) (sym (in_one v i.interval k)) i.is)

@@ -17,7 +17,7 @@ use Rattle.lrp_minus.specs.declared.intervals.Interval.{Interval}
 use Rattle.lrp_minus.specs.Bounded.{AllCanBeStored, MeetsAll, IsBounded}
 use Rattle.lrp_minus.specs.Halves.{MeetsBound, CanBeStored}
 use Rattle.lrp_minus.specs.Hulls.{IsWider}
-use Rattle.lrp_minus.specs.Intervals.{span_of, ends_of, IsNumber, IsEnd, IsInterval, HasSmallEnds, BeginsBy, LiesApart, IsJoined, IsSpan}
+use Rattle.lrp_minus.specs.Intervals.{span_of, ends_of, IsNumber, IsEnd, IsInterval, HasSmallEnds, BeginsBy, LiesApart, IsJoined, IsSpan, IsStoredEnd, IsStoredInterval}
 use Rattle.lrp_minus.specs.Thresholds.{bound_there}
 use Rattle.lrp_minus.proofs.IntervalLaws.{in_line, line_cell, line_high, line_low}
 use Rattle.lrp_minus.proofs.Lists.{in_none, in_one, one_in}
@@ -110,6 +110,14 @@ interval_moved z w v c i = record {
   is = number_moved z w v i.number c i.is;
 }
 
+-- an end that leaves room for a period can be stored
+end_stored : (z : ZoneView) (e : Option ℤ) → IsEnd z e → IsStoredEnd z e
+end_stored z None h = tt
+end_stored z (Some a) h = (h.0, (let l : nat_abs a + z.period ≤ 2 ^ 62 = h.1 in omega arith))
+
+pub interval_stored : (z : ZoneView) (v : Interval) → IsInterval z v → IsStoredInterval z v
+interval_stored z v i = record { least = end_stored z v.least i.least; most = end_stored z v.most i.most; number = i.number; is = i.is }
+
 -- ---- the bounds of an interval
 there_each : (P : Bound → Type 0) (i j : ℕ) (e : Option ℤ) → ((a : ℤ) → e ≡ Some a → P (record { left = i; right = j; most = a })) → (b : Bound) → Contains (bound_there i j e) b → P b
 there_each P i j None f b l = absurd (in_none b l)
@@ -159,11 +167,11 @@ module _ (z : ZoneView) (v : Interval) (one : columns_of z ≡ 1) where
   pub ends_met : (x : ℤ) → MeetsAll z (ends_of v) (x ∷ []) → IsNumber z v x
   ends_met x m = record { residue = m.cell.each 1 (omega (arith, one)); low = low_met x v.least refl m; high = high_met x v.most refl m }
 
-  pub ends_stored : IsInterval z v → AllCanBeStored z (ends_of v)
+  pub ends_stored : IsStoredInterval z v → AllCanBeStored z (ends_of v)
   ends_stored i = record {
     each = ends_each (CanBeStored z) v
-        (λ a q. let e : Divides (pos z.period) (a -ℤ node z.residues 1) × (nat_abs a + z.period ≤ 2 ^ 62) = subst (λ o. IsEnd z o) q i.least in
-        let high : nat_abs a + z.period ≤ 2 ^ 62 = e.1 in
+        (λ a q. let e : Divides (pos z.period) (a -ℤ node z.residues 1) × (nat_abs a ≤ 2 ^ 62) = subst (λ o. IsStoredEnd z o) q i.least in
+        let high : nat_abs a ≤ 2 ^ 62 = e.1 in
         record {
           left = omega (arith, one);
           right = omega (arith, one);
@@ -171,8 +179,8 @@ module _ (z : ZoneView) (v : Interval) (one : columns_of z ≡ 1) where
           tight = Divides-is (pos z.period) (neg_ℤ (a -ℤ node z.residues 1)) _ (omega (arith, ints)) (Divides-neg (pos z.period) _ e.0);
           small = omega (arith, ints);
         })
-        (λ a q. let e : Divides (pos z.period) (a -ℤ node z.residues 1) × (nat_abs a + z.period ≤ 2 ^ 62) = subst (λ o. IsEnd z o) q i.most in
-        let high : nat_abs a + z.period ≤ 2 ^ 62 = e.1 in
+        (λ a q. let e : Divides (pos z.period) (a -ℤ node z.residues 1) × (nat_abs a ≤ 2 ^ 62) = subst (λ o. IsStoredEnd z o) q i.most in
+        let high : nat_abs a ≤ 2 ^ 62 = e.1 in
         record {
           left = omega (arith, one);
           right = omega (arith, one);
@@ -198,7 +206,7 @@ module _ (z : ZoneView) (v : Interval) (one : columns_of z ≡ 1) where
 
 -- ---- two intervals with no number between them
 -- a number of the cell behind another one is a period behind it
-next_number : (k r a x : ℤ) → pos 1 ≤ℤ k → Divides k (a -ℤ r) → Divides k (x -ℤ r) → a <ℤ x → (a +ℤ k) ≤ℤ x
+pub next_number : (k r a x : ℤ) → pos 1 ≤ℤ k → Divides k (a -ℤ r) → Divides k (x -ℤ r) → a <ℤ x → (a +ℤ k) ≤ℤ x
 next_number k r a x one da dx l = by_lt_z x (a +ℤ k)
     (λ lt. let d : Divides k (x -ℤ a) = Divides-is k ((x -ℤ r) -ℤ (a -ℤ r)) _ (omega (arith, ints)) (Divides-- k _ _ dx da) in
     let le : (x -ℤ a) ≤ℤ pos 0 = multiple_below k (x -ℤ a) d one (omega (arith, ints)) in absurd (omega (arith, ints)))

@@ -37,6 +37,18 @@ pub record IsInterval (z : ZoneView) (v : Interval) : Type 0 where
   pub number : ℤ
   pub is : IsNumber z v number
 
+-- an end is a number of the cell, and can be stored
+abbrev pub IsStoredEnd : ZoneView → Option ℤ → Type 0
+IsStoredEnd z None = Unit {0}
+IsStoredEnd z (Some a) = Divides (pos z.period) (a -ℤ node z.residues 1) × (nat_abs a ≤ 2 ^ 62)
+
+-- both ends are such, and some number lies between them
+pub record IsStoredInterval (z : ZoneView) (v : Interval) : Type 0 where
+  pub least : IsStoredEnd z v.least
+  pub most : IsStoredEnd z v.most
+  pub number : ℤ
+  pub is : IsNumber z v number
+
 -- the magnitudes of the ends are at most h
 pub record HasSmallEnds (h : ℕ) (v : Interval) : Type 0 where
   pub least : AtMost h v.least

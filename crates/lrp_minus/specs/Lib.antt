@@ -6,6 +6,7 @@ pub mod Cutters
 pub mod Cutting
 pub mod Differences
 pub mod Filling
+pub mod Gaps
 pub mod Halves
 pub mod Hulls
 pub mod Intervals

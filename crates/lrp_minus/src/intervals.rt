@@ -2,7 +2,7 @@
 ghost use Rattle.std.specs.Prelude.{◌≡◌, ◌+◌, ◌<◌, ◌≤◌, ◌^◌, ◌↔◌, ◌∷◌, ℕ, All, AllPairs, Contains, IfOk, IfSome, IsTrue, length, map, nat_abs, pos};
 ghost use Rattle.lrp_zone.specs.Zones.{ZoneView, IsZone, columns_of, reach_of};
 ghost use Rattle.lrp_minus.specs.Differences.{AreOfCell};
-ghost use Rattle.lrp_minus.specs.Intervals.{AreMerged, BeginsBy, LiesApart, IsInterval, IsJoined, IsSpan, ends_of, span_of};
+ghost use Rattle.lrp_minus.specs.Intervals.{AreMerged, BeginsBy, LiesApart, IsInterval, IsJoined, IsSpan, IsStoredInterval, ends_of, span_of};
 ghost use Rattle.lrp_minus.specs.Settling.{IsSettlement};
 
 use crate::bounded::bounded;
@@ -16,8 +16,8 @@ use std::alloc::Global;
 /// Intervals are in order of their least numbers, those without a least one first.
 #[derive(Clone, Copy, PartialEq, Eq, PartialOrd, Ord)]
 pub struct Interval {
-    least: Option<i64>,
-    most: Option<i64>,
+    pub(crate) least: Option<i64>,
+    pub(crate) most: Option<i64>,
 }
 
 /// The maximal intervals of the numbers of zones with one column, ascending.
@@ -36,8 +36,8 @@ pub(crate) fn maximal(alloc: Global, cell: &Zone, zones: &[Zone]) -> Result<List
     merged(alloc, cell, *first, rest)
 }
 
-// The intervals of zones with one column.
-fn intervals_of(alloc: Global, cell: &Zone, zones: &[Zone]) -> Result<Vec<Interval>, Memory>
+/// The intervals of zones with one column.
+pub(crate) fn intervals_of(alloc: Global, cell: &Zone, zones: &[Zone]) -> Result<Vec<Interval>, Memory>
     requires column { columns_of cell.now ≡ 1 }
     requires cell { AreOfCell cell.now zones.now }
     ensures intervals { IfOk result (λ made. made.items ≡ map span_of zones.now) }
@@ -50,8 +50,8 @@ fn intervals_of(alloc: Global, cell: &Zone, zones: &[Zone]) -> Result<Vec<Interv
     Ok(made)
 }
 
-// The interval of a zone with one column. Its stored bounds are reached.
-fn interval_of(zone: &Zone) -> Interval
+/// The interval of a zone with one column. Its stored bounds are reached.
+pub(crate) fn interval_of(zone: &Zone) -> Interval
     requires { columns_of zone.now ≡ 1 }
     ensures interval { result ≡ span_of zone.now }
     ensures valid { IsZone zone.now }
@@ -115,10 +115,10 @@ fn joined(last: Interval, next: Interval) -> Interval
     }
 }
 
-// The zone of an interval of the cell.
-fn zone_of(alloc: Global, cell: &Zone, interval: Interval) -> Result<Zone, Memory>
+/// The zone of an interval of the cell.
+pub(crate) fn zone_of(alloc: Global, cell: &Zone, interval: Interval) -> Result<Zone, Memory>
     requires column { columns_of cell.now ≡ 1 }
-    requires interval { IsInterval cell.now interval }
+    requires interval { IsStoredInterval cell.now interval }
     ensures { IfOk result (λ w. IsSpan cell.now interval w) }
 {
     let bounds = bounds_of(alloc, interval)?;

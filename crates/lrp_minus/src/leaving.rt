@@ -6,6 +6,7 @@ ghost use Rattle.lrp_minus.specs.Cutting.{side_reach};
 ghost use Rattle.lrp_minus.specs.Differences.{AreOfCell, greatest_reach};
 ghost use Rattle.lrp_minus.specs.Leaving.{AppendsLeft, AreLeftOf, AreMeeting, HasGap};
 
+use crate::gaps::gaps;
 use crate::half::{half, turned};
 use crate::standing::have_common;
 use crate::stored::stored;
@@ -92,6 +93,9 @@ pub(crate) fn left_over(
     requires reach { greatest_reach (zone.now ∷ cutters.now) + zone.now.period ≤ 2 ^ 62 }
     ensures { IfOk result (λ made. AreLeftOf zone.now (zone.now ∷ []) cutters.now (greatest_reach (zone.now ∷ cutters.now) + zone.now.period) made) }
 {
+    if zone.columns() == 1 {
+        return gaps(alloc, zone, cutters.as_slice());
+    }
     let mut made = List::new(alloc);
     add_left(alloc, zone, cutters.as_slice(), &mut made)?;
     Ok(made)

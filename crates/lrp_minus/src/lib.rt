@@ -9,6 +9,7 @@ mod cutters;
 mod cutting;
 mod differences;
 mod filling;
+mod gaps;
 mod half;
 mod hull;
 mod intervals;

@@ -5,11 +5,18 @@ use Rattle.std.proofs.lemmas.Int.{ints}
 use Rattle.lrp_minus.specs.declared.intervals.Interval.{Interval}
 use Rattle.lrp_minus.specs.Intervals.{BeginsBy, IsInterval, AreMerged}
 use Rattle.lrp_minus.proofs.MergeLaws.{AreMerging, merging_start, merging_apart, merging_joined, merging_end, last_begins, before_next, more_taken, all_taken, next_is, first_is}
+use Rattle.lrp_minus.proofs.SpanLaws.{interval_stored}
 use Rattle.lrp_minus.proofs.intervals.merged.Goals.{then-is_apart+in_ok-zone_of+in_ok-push, else-is_apart}
 use Rattle.lrp_minus.proofs.intervals.merged.Goals as goal
 
 pub loop-next-init : goal.loop-next-init
 loop-next-init c = rw c.new-made.ensures (merging_start c.args.cell.now c.args.first (first_is c.args.cell.now c.args.first c.args.rest.now c.requires.intervals))
+
+pub zone_of-requires-clause-interval : goal.zone_of-requires-clause-interval
+zone_of-requires-clause-interval c = interval_stored c.args.cell.now c.loop-next.last c.loop-next.invariant.interval
+
+pub zone_of-requires-2-clause-interval : goal.zone_of-requires-2-clause-interval
+zone_of-requires-2-clause-interval c = interval_stored c.args.cell.now c.loop-next.last c.loop-next.invariant.interval
 
 pub loop-next-preserved : goal.loop-next-preserved
 loop-next-preserved c =

@@ -8,5 +8,5 @@ use Rattle.lrp_minus.proofs.leaving.left_over.Goals as goal
 pub returns : goal.returns
 returns c =
     left_alone c.args.zone.now (c.args.zone.now ∷ []) c.args.cutters.now _ c.new-made.result c.add_left.new.made c.new-made.ensures
-    (subst (λ l. AppendsLeft c.args.zone.now (c.args.zone.now ∷ []) l (greatest_reach (c.args.zone.now ∷ c.args.cutters.now) + c.args.zone.now.period) c.new-made.result c.add_left.new.made) c.as_slice.ensures
-    (c.in_ok-add_left.ensures (greatest_reach (c.args.zone.now ∷ c.args.cutters.now) + c.args.zone.now.period) (omega arith) (rw c.as_slice.ensures (omega arith))))
+    (subst (λ l. AppendsLeft c.args.zone.now (c.args.zone.now ∷ []) l (greatest_reach (c.args.zone.now ∷ c.args.cutters.now) + c.args.zone.now.period) c.new-made.result c.add_left.new.made) c.as_slice-2.ensures
+    (c.in_ok-add_left.ensures (greatest_reach (c.args.zone.now ∷ c.args.cutters.now) + c.args.zone.now.period) (omega arith) (rw c.as_slice-2.ensures (omega arith))))
