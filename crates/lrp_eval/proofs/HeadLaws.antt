@@ -1,5 +1,5 @@
 -- The step `head`.
-use Rattle.std.proofs.Common.{◌≡◌, ◌↔◌, ⊎_elim, ℕ, suc, List, ◌++◌, length, Contains, sym, ap, subst, ◌∙◌, arith}
+use Rattle.std.proofs.Common.{◌≡◌, ◌↔◌, ⊎_elim, ℕ, suc, List, ◌++◌, length, Contains, refl, sym, ap, ap₂, subst, ◌∙◌, arith}
 use Rattle.std.specs.Prelude.{ℤ}
 use Rattle.lrp_model.specs.Texts.{Text}
 use Rattle.lrp_model.specs.Formulas.{Question}
@@ -7,6 +7,7 @@ use Rattle.lrp_model.specs.Core.{guarded, has_named_sort}
 use Rattle.lrp_model.specs.Variables.{Variable, time_variable, data_variable, free, head_variables}
 use Rattle.lrp_model.specs.Satisfaction.{Assignment, Satisfies, structure}
 use Rattle.lrp_model.specs.Domains.{constants}
+use Rattle.lrp_model.specs.Cells.{Differ, Many}
 use Rattle.lrp_model.specs.Caps.{ManyAt, step_variables, variables_with}
 use Rattle.lrp_model.specs.Steps.{formula_at, reach_at}
 use Rattle.lrp_model.specs.Plans.{plan, core_steps}
@@ -16,18 +17,20 @@ use Rattle.lrp_store.specs.Stores.{HasReach}
 use Rattle.lrp_store.specs.Tables.{AreNumbered}
 use Rattle.lrp_store.specs.declared.table.Table.{Table}
 use Rattle.lrp_tables.specs.Calls.{CanExtend}
-use Rattle.lrp_tables.specs.Caps.{InhabitsMoreThan}
+use Rattle.lrp_tables.specs.Caps.{Inhabits, InhabitsMoreThan}
 use Rattle.lrp_tables.specs.Columns.{head_times, head_texts}
-use Rattle.lrp_tables.specs.Tables.{Has, IsTableOf, IsExtended, named_variables}
+use Rattle.lrp_tables.specs.Tables.{Has, HasTexts, IsTableOf, IsExtended, named_variables}
 use Rattle.lrp_tables.proofs.HeadNames.{head_names_differ}
+use Rattle.lrp_tables.proofs.TableLaws.{table_texts}
 use Rattle.lrp_plan_laws.specs.Made.{IsEarlier}
 use Rattle.lrp_plan_laws.specs.Scopes.{IsNarrow}
 use Rattle.lrp_plan_laws.proofs.Elements.{formula_front, formula_made}
 use Rattle.lrp_plan_laws.proofs.PlanSound.{steps_say}
 use Rattle.lrp_eval.specs.Running.{HasConstants, variables_of, IsStepTable, IsOperand, IsNext}
+use Rattle.lrp_eval.proofs.Counted.{many_map}
 use Rattle.lrp_eval.proofs.Denotes.{in_left, in_one}
 use Rattle.lrp_eval.proofs.Named.{all_by, head_columns, times_in_head, texts_in_head, time_named, data_named, are_texts}
-use Rattle.lrp_eval.proofs.Nexts.{formula_kind, reach_kind, keeps_kind, denotes_of, sound_plan, too_many, run, run_of, IsMeant}
+use Rattle.lrp_eval.proofs.Nexts.{formula_kind, reach_kind, keeps_kind, denotes_of, many_read, sound_plan, too_many, run, run_of, IsMeant}
 use Rattle.lrp_eval.proofs.Reading.{earlier, reach_within, numbered, first_differ, second_differ}
 
 module _ {db : List Relation} {q : Question} {cap : ℕ} {domain : List Text} {tables : List Table} {of : ℕ} {period : ℤ} (n : IsNext db q cap domain tables (Extend of) period) {table : Table} (o : IsOperand tables of table) where
@@ -102,3 +105,29 @@ module _ {db : List Relation} {q : Question} {cap : ℕ} {domain : List Text} {t
       run n _ _ _ _ is_meant same_period made is
       (subst (λ r. HasReach made.store r) (sym (reach_kind n)) (reach (reach_at (plan db q) of) (reach_within n o before (reach_at (plan db q) of) (omega arith))))
       few (λ step l at kind. (is.times_are, is.texts_are))
+
+  -- a table that has the head's columns already is that of the step
+  module _ (times : table.vars.times ≡ head_times q.head) (texts : table.vars.texts ≡ head_texts q.head) where
+    as_it_is : IsTableOf domain (head_times q.head) (head_texts q.head) table.store.period (IsExtended domain q.head table) table
+    as_it_is = record {
+      times_are = times;
+      texts_are = texts;
+      period_is = refl;
+      sound = λ env h. record { known = subst (λ ns. HasTexts domain ns env) texts (table_texts domain table env h); has = h };
+      whole = λ env h. h.has;
+      numbered = head_numbered;
+    }
+
+    no_more : InhabitsMoreThan cap domain table.store.period (head_times q.head) (head_texts q.head) (IsExtended domain q.head table) → ⊥
+    no_more m =
+        let own : Many (Differ names) (Inhabits domain table.store.period names (Has table domain)) cap =
+        many_map (λ c. c) (Differ names) (Differ names) (Inhabits domain table.store.period names (IsExtended domain q.head table)) (Inhabits domain table.store.period names (Has table domain))
+        (λ c h. record { witness = h.witness; inside = h.inside; member = h.member.has }) (λ a b h k d. d) cap m in
+        let same : names ≡ variables_of table = sym (ap₂ named_variables times texts) in
+        let told : Many (Differ (variables_of table)) (Inhabits (constants db q) table.store.period (variables_of table) (Has table (constants db q))) cap =
+        subst (λ d. Many (Differ (variables_of table)) (Inhabits d table.store.period (variables_of table) (Has table d)) cap) n.domain_is
+        (subst (λ vs. Many (Differ vs) (Inhabits domain table.store.period vs (Has table domain)) cap) same own) in
+        (run_of n of table before.0 o).few (many_read n of table before o table.store.period (run_of n of table before.0 o).period told)
+
+    pub head_stands : IsStepTable db q cap (suc (length tables)) table
+    head_stands = head_run table as_it_is (λ high r. r) no_more

@@ -8,10 +8,12 @@ pub mod Nexts
 pub mod Reading
 pub mod AnswerLaws
 pub mod SettleLaws
+pub mod SingleLaws
 pub mod AnsweredLaws
 pub mod JoinLaws
 pub mod LoopLaws
 pub mod HeadLaws
+pub mod HeadedLaws
 pub mod ScanLaws
 pub mod UnionLaws
 pub mod DropLaws

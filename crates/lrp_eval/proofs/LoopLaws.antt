@@ -28,7 +28,7 @@ zip_at (z ∷ zs) [] i x h lt e = absurd h
 zip_at (z ∷ zs) (y ∷ ys) zero x h lt e = (y, refl, subst (λ s. IsStep s y) (sym e) h.0)
 zip_at (z ∷ zs) (y ∷ ys) (suc i) x h lt e = zip_at zs ys i x h.1 (omega arith) e
 
-zip_length : (xs : List Step) (ys : List PlanStep) → AllZip IsStep xs ys → length xs ≡ length ys
+pub zip_length : (xs : List Step) (ys : List PlanStep) → AllZip IsStep xs ys → length xs ≡ length ys
 zip_length [] [] h = refl
 zip_length [] (y ∷ ys) h = absurd h
 zip_length (x ∷ xs) [] h = absurd h
@@ -40,7 +40,7 @@ at_push [] x y (suc i) e = cc
 at_push (z ∷ zs) x y zero e = inl e
 at_push (z ∷ zs) x y (suc i) e = ⊎_elim (λ l. inl l) (λ r. inr (ap suc r.0, r.1)) (at_push zs x y i e)
 
-at_last : {X : Type 0} (xs : List X) (x : X) → slice_get (xs ++ x ∷ []) (length xs) ≡ Some x
+pub at_last : {X : Type 0} (xs : List X) (x : X) → slice_get (xs ++ x ∷ []) (length xs) ≡ Some x
 at_last [] x = refl
 at_last (z ∷ zs) x = at_last zs x
 

@@ -116,10 +116,10 @@ pub record IsSettling (old new : StoreView) (left : List Cell) : Type 0 where
   pub differ : AllPairs ◌≢◌ left
   pub held : (cell : Cell) → Contains left cell → (z : ZoneView) × Contains (zones_at old cell) z
 
-first_differs : (c : Cell) (cs : List Cell) → AllPairs ◌≢◌ (c ∷ cs) → (d : Cell) → Contains cs d → d ≢ c
+pub first_differs : (c : Cell) (cs : List Cell) → AllPairs ◌≢◌ (c ∷ cs) → (d : Cell) → Contains cs d → d ≢ c
 first_differs c cs h d k e = h zero (suc k.0) d (omega arith) (omega (arith, k.1)) (sym (k.2 ∙ e))
 
-rest_differ : (c : Cell) (cs : List Cell) → AllPairs ◌≢◌ (c ∷ cs) → AllPairs ◌≢◌ cs
+pub rest_differ : (c : Cell) (cs : List Cell) → AllPairs ◌≢◌ (c ∷ cs) → AllPairs ◌≢◌ cs
 rest_differ c cs h i j d lt below = h (suc i) (suc j) d (omega arith) (omega arith)
 
 -- one cell more
@@ -191,12 +191,19 @@ is_decided c d = elim (cell_or c d) [
   | inr e ↦ ((λ h. same_cell c d h), λ h. absurd (e.0 h))
 ]
 
-key_is : (s : StoreView) (cell : Cell) (t : List (Option ℤ)) → Contains (tables_at s cell) t → Contains (finite.keys s.tables) cell
+pub key_is : (s : StoreView) (cell : Cell) (t : List (Option ℤ)) → Contains (tables_at s cell) t → Contains (finite.keys s.tables) cell
 key_is s cell t c = Contains-from_any same_cell cell (finite.keys s.tables) (sym (contains_key-keys s.tables cell) ∙ ap is_some (held_of s.tables cell t c))
 
-some_table : (s : StoreView) → IsStore s → (cell : Cell) (ts : List (List (Option ℤ))) → finite.get s.tables cell ≡ Some ts → (z : ZoneView) × Contains (zones_at s cell) z
+pub some_table : (s : StoreView) → IsStore s → (cell : Cell) (ts : List (List (Option ℤ))) → finite.get s.tables cell ≡ Some ts → (z : ZoneView) × Contains (zones_at s cell) z
 some_table s is cell [] e = absurd ((is.cells cell [] e).some refl)
 some_table s is cell (t ∷ ts) e = (zone_of s cell t, zone_in s cell (tables_at s cell) t (subst (λ l. Contains l t) (sym (ap (λ o. unwrap_or o []) e)) (contains_first t ts)))
+
+-- the cells of a store are different, and each has a zone
+pub keys_differ : (s : StoreView) → AllPairs ◌≢◌ (finite.keys s.tables)
+keys_differ s = AllPairs-from_IsDistinct is_decided (finite.keys s.tables) (IsDistinct-from_sorted cell_cmp (finite.keys s.tables) (keys_ascend s.tables))
+
+pub key_zone : (s : StoreView) → IsStore s → (cell : Cell) → Contains (finite.keys s.tables) cell → (z : ZoneView) × Contains (zones_at s cell) z
+key_zone s is cell k = let h = key_held s is (λ xs ns. Unit {0}) 0 cell k in some_table s is cell h.0 h.1
 
 pub settling_none : (s new : StoreView) (left : List Cell) → IsStore s → IsStore new → new.shape ≡ s.shape → new.period ≡ s.period → new.tables ≡ finite.empty → left ≡ finite.keys s.tables → IsSettling s new left
 settling_none s new left is valid shape period empty keys = record {
@@ -206,8 +213,8 @@ settling_none s new left is valid shape period empty keys = record {
   cells = λ cell z k. let t = table_of s cell (tables_at s cell) z k in inl (subst (λ cs. Contains cs cell) (sym keys) (key_is s cell t.0 t.1));
   only = λ cell none. nothing cell;
   fresh = λ cell k. nothing cell;
-  differ = subst (λ cs. AllPairs ◌≢◌ cs) (sym keys) (AllPairs-from_IsDistinct is_decided (finite.keys s.tables) (IsDistinct-from_sorted cell_cmp (finite.keys s.tables) (keys_ascend s.tables)));
-  held = λ cell k. let h = key_held s is (λ xs ns. Unit {0}) 0 cell (subst (λ cs. Contains cs cell) keys k) in some_table s is cell h.0 h.1;
+  differ = subst (λ cs. AllPairs ◌≢◌ cs) (sym keys) (keys_differ s);
+  held = λ cell k. key_zone s is cell (subst (λ cs. Contains cs cell) keys k);
 }
   where
     nothing : (cell : Cell) → tables_at new cell ≡ []

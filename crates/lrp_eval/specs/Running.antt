@@ -105,6 +105,14 @@ IsLastTable cap domain tables of columns period made = (db : List Relation) (q :
 abbrev pub HasTooManyLast : ℕ → List Text → List Table → ℕ → List Column → ℤ → Type 0
 HasTooManyLast cap domain tables of columns period = (db : List Relation) (q : Question) → columns ≡ q.head → IsNext db q cap domain tables (Extend of) period → ManyAt db q cap (suc (length tables))
 
+-- the step is the step `head` of the last table, whose columns are these, in order
+pub record StandsAtHead (columns : List Column) (tables : List Table) (kind : StepKind) : Type 0 where
+  pub kind_is : kind ≡ Extend (length tables)
+  pub table : Table
+  pub last : IsOperand tables (length tables) table
+  pub times : table.vars.times ≡ head_times columns
+  pub texts : table.vars.texts ≡ head_texts columns
+
 -- ---- the texts of a sort as a relation
 
 -- the row of one text

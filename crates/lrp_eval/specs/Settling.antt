@@ -1,5 +1,5 @@
 -- Stores whose cells are settled.
-use Rattle.std.specs.Prelude.{◌≡◌, ◌≢◌, ◌+◌, ◌*◌, ◌≤◌, ◌^◌, List, [], ◌++◌, map, Contains}
+use Rattle.std.specs.Prelude.{◌≡◌, ◌≢◌, ◌+◌, ◌*◌, ◌≤◌, ◌^◌, List, [], ◌++◌, length, map, Contains}
 use Rattle.lrp_model.specs.declared.tuples.Cell.{Cell}
 use Rattle.lrp_zone.specs.Zones.{ZoneView, columns_of, reach_of}
 use Rattle.lrp_store.specs.Stores.{StoreView, IsStore, tables_at, zones_at}
@@ -15,6 +15,11 @@ pub record AddsZones (cell : Cell) (zones : List ZoneView) (old new : StoreView)
 -- each zone has room for the bounds of a settlement
 abbrev pub CanSettle : StoreView → Type 0
 CanSettle s = (cell : Cell) (z : ZoneView) → Contains (zones_at s cell) z → columns_of z * reach_of z + z.period ≤ 2 ^ 62
+
+-- each cell has at most one zone, and a zone at most one column
+pub record HasSingleZones (s : StoreView) : Type 0 where
+  pub columns : s.shape.times ≤ 1
+  pub each : (cell : Cell) → length (tables_at s cell) ≤ 1
 
 -- the zones of each cell are a settlement of the old ones, and no other cell is held
 pub record IsSettledStore (old new : StoreView) : Type 0 where

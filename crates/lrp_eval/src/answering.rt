@@ -26,7 +26,7 @@ pub fn answer(
 {
     let table = run_steps(alloc, plan, database, cap)?;
     table.store.shape();
-    let store = settled(alloc, &table.store)?;
+    let store = settled(alloc, table.store)?;
     let head = plan.head.copy(alloc)?;
     let domain = plan.domain.copy(alloc)?;
     let period = store.period();

@@ -1,9 +1,12 @@
 // The steps of a plan, one after another.
-ghost use Rattle.std.specs.Prelude.{◌≡◌, ℕ, suc, IfOk, IfErr};
+ghost use Rattle.std.specs.Prelude.{◌≡◌, ◌<◌, ◌++◌, ◌∷◌, [], ℕ, suc, length, List as ListOf, IfOk, IfErr};
+ghost use Rattle.lrp_store.specs.Stores.{IsStore};
+ghost use Rattle.lrp_store.specs.declared.table.Table.{Table as TableOf};
 ghost use Rattle.lrp_model.specs.Formulas.{Question};
 ghost use Rattle.lrp_store.specs.declared.table.StepFault.TheVariants.{TooManyCells as too_many};
 ghost use Rattle.lrp_eval.specs.Planned.{HasAnswers, IsEvalCause, IsPlanOf, IsSomePlan};
 
+use crate::heading::is_headed;
 use crate::running::{Setting, run_step};
 use lrp_model::{List, Memory, Plan};
 use lrp_rel::Database;
@@ -49,15 +52,27 @@ pub fn run_steps(
     };
     let mut tables = List::new(alloc);
     for step in plan.steps.as_slice() {
+        if is_headed(tables.as_slice(), &plan.head, step) {
+            return Ok(last_of(tables));
+        }
         match run_step(&setting, database, &plan.head, tables.as_slice(), step) {
             Ok(table) => tables.push(table)?,
             Err(fault) => return Err(fault_behind(tables.len(), fault)),
         }
     }
+    Ok(last_of(tables))
+}
+
+// The last of the tables.
+fn last_of(tables: List<Table>) -> Table
+    requires { 0 < length tables }
+    ensures last { (front : ListOf TableOf) × (tables ≡ front ++ result ∷ []) }
+    ensures valid { IsStore result.store }
+{
     match tables.into_vec().pop() {
         Some(table) => {
             table.store.shape();
-            Ok(table)
+            table
         }
         None => unreachable!(),
     }

@@ -1,8 +1,8 @@
 // Stores whose cells are settled.
-ghost use Rattle.std.specs.Prelude.{◌≡◌, IfOk, OnOk, Contains, take, pos};
+ghost use Rattle.std.specs.Prelude.{◌≡◌, IfOk, OnOk, IsTrue, Contains, take, pos};
 ghost use Rattle.lrp_zone.specs.Zones.{ZoneView};
-ghost use Rattle.lrp_store.specs.Stores.{IsPadded, zones_at};
-ghost use Rattle.lrp_eval.specs.Settling.{AddsZones, CanSettle, IsSettledStore};
+ghost use Rattle.lrp_store.specs.Stores.{IsPadded, IsStore, zones_at};
+ghost use Rattle.lrp_eval.specs.Settling.{AddsZones, CanSettle, HasSingleZones, IsSettledStore};
 
 use lrp_minus::settle;
 use lrp_model::{Cell, List, Memory};
@@ -10,8 +10,27 @@ use lrp_store::Store;
 use lrp_zone::Zone;
 use std::alloc::Global;
 
-/// The same tuples, in zones that are settled cell by cell.
-pub(crate) fn settled(alloc: Global, store: &Store) -> Result<Store, Memory>
+/// The same tuples, in zones that are settled cell by cell. A store of single zones is given back as it is.
+pub(crate) fn settled(alloc: Global, store: Store) -> Result<Store, Memory>
+    requires room { CanSettle store }
+    ensures { IfOk result (λ made. IsSettledStore store made) }
+{
+    if has_single_zones(&store) {
+        return Ok(store);
+    }
+    settled_cells(alloc, &store)
+}
+
+// Whether each cell has one zone, of one column or of none.
+fn has_single_zones(store: &Store) -> bool
+    ensures single { IsTrue result → HasSingleZones store.now }
+    ensures valid { IsStore store.now }
+{
+    store.shape().times <= 1 && store.zones() == store.len() as usize
+}
+
+// The same tuples in a new store, in which each cell is settled.
+fn settled_cells(alloc: Global, store: &Store) -> Result<Store, Memory>
     requires room { CanSettle store.now }
     ensures { IfOk result (λ made. IsSettledStore store.now made) }
 {

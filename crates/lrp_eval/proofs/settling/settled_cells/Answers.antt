@@ -9,7 +9,7 @@ use Rattle.lrp_eval.specs.Settling.{AddsZones}
 use Rattle.lrp_minus.specs.Differences.{AreOfCell}
 use Rattle.std.specs.Prelude.{Contains}
 use Rattle.lrp_eval.proofs.SettleLaws.{settling_none, settling_more, settled_all, one_cell, cell_of, proper_cell, some_zone}
-use Rattle.lrp_eval.proofs.settling.settled.Goals as goal
+use Rattle.lrp_eval.proofs.settling.settled_cells.Goals as goal
 
 -- a period of 63 bits is its word
 word_is : (p : ℕ) (z : ℤ) → z ≡ pos p → p ≤ 2 ^ 62 → nat_abs (to_z w64 (of_z w64 z)) ≡ p
