@@ -1,5 +1,5 @@
 -- Differences of stores as those of the tables whose columns they have.
-use Rattle.std.proofs.Common.{◌≡◌, ◌≢◌, ℕ, ◌+◌, ◌*◌, ◌-◌, ◌<◌, ◌≤◌, ◌^◌, List, [], length, sym, ap, subst, ◌∙◌, arith, get_or, to_z, of_z}
+use Rattle.std.proofs.Common.{◌≡◌, ◌≢◌, ℕ, ◌+◌, ◌*◌, ◌-◌, ◌<◌, ◌≤◌, ◌^◌, List, [], length, refl, sym, ap, subst, ◌∙◌, arith, get_or, to_z, of_z}
 use Rattle.std.specs.Prelude.{ℤ, pos, All, nat_abs, ◌≤ℤ◌}
 use Rattle.std.specs.Int.{w64}
 use Rattle.std.specs.FinMap as finite
@@ -26,9 +26,11 @@ use Rattle.lrp_tables.proofs.Named.{pairs_left}
 use Rattle.lrp_tables.proofs.TableLaws.{table_texts}
 use Rattle.lrp_tables.proofs.TableMade.{held_times, held_texts, held_known, tuples_of}
 use Rattle.lrp_tables.proofs.Wider.{IsWider, less_tuples, same_tuples, wider_tuples}
+use Rattle.lrp_minus.specs.Absences.{IsLike}
 use Rattle.lrp_minus.specs.Beneath.{ArePlacesFor}
-use Rattle.lrp_minus.specs.Cutters.{CanTake, HaveReach, IsSpared}
+use Rattle.lrp_minus.specs.Cutters.{CanSubtract, CanTake, HaveReach, IsSpared}
 use Rattle.lrp_minus.specs.declared.beneath.Places.{Places}
+use Rattle.lrp_minus.proofs.Gathering.{added_as, refused_as}
 
 -- a period as it is passed
 pub passed_is : (k : ℤ) → pos 1 ≤ℤ k → 2 * nat_abs k ≤ 2 ^ 62 → to_z w64 (of_z w64 k) ≡ k
@@ -40,13 +42,25 @@ passed_abs k low high = ap nat_abs (passed_is k low high)
 pub passed_pos : (k : ℤ) → pos 1 ≤ℤ k → k ≡ pos (nat_abs k)
 passed_pos k low = omega (arith, ints)
 
+-- the period of a store as it is passed
+pub word_abs : (z : ℤ) (k : ℕ) → z ≡ pos k → k ≤ 2 ^ 62 → nat_abs (to_z w64 (of_z w64 z)) ≡ k
+word_abs z k e h = omega (arith, ints)
+
+pub word_pos : (z : ℤ) (k : ℕ) → z ≡ pos k → k ≤ 2 ^ 62 → to_z w64 (of_z w64 z) ≡ pos k
+word_pos z k e h = omega (arith, ints)
+
+pub same_word : (a b : ℤ) (j k : ℕ) → a ≡ pos j → b ≡ pos k → j ≤ 2 ^ 62 → k ≤ 2 ^ 62 → of_z w64 a ≡ of_z w64 b → j ≡ k
+same_word a b j k ea eb hj hk h =
+    let e : pos j ≡ pos k = sym (word_pos a j ea hj) ∙ ap (to_z w64) h ∙ word_pos b k eb hk in
+    omega (arith, ints, e)
+
 -- a farther reach
 pub farther : (s : StoreView) (low high : ℕ) → low ≤ high → HasReach s low → HasReach s high
 farther s low high le r = record { each = λ c t h. let l : reach_of (zone_of s c t) ≤ low = r.each c t h in omega arith }
 
 -- that of a store that is aligned
-pub align_reach : (s : StoreView) (k : ℤ) → pos 1 ≤ℤ k → 2 * nat_abs k ≤ 2 ^ 62 → HasReach s (2 ^ 62 - 2 * nat_abs k) → HasReach s (2 ^ 62 - nat_abs (to_z w64 (of_z w64 k)))
-align_reach s k low high r = subst (λ (n : ℕ). HasReach s (2 ^ 62 - n)) (sym (passed_abs k low high)) (farther s (2 ^ 62 - 2 * nat_abs k) (2 ^ 62 - nat_abs k) (omega arith) r)
+pub align_reach : (s : StoreView) (z : ℤ) (k : ℕ) → z ≡ pos k → 2 * k ≤ 2 ^ 62 → HasReach s (2 ^ 62 - 2 * k) → HasReach s (2 ^ 62 - nat_abs (to_z w64 (of_z w64 z)))
+align_reach s z k e h r = subst (λ (n : ℕ). HasReach s (2 ^ 62 - n)) (sym (word_abs z k e (omega arith))) (farther s (2 ^ 62 - 2 * k) (2 ^ 62 - k) (omega arith) r)
 
 -- a store without cells of a shape and a period
 abbrev pub without_cells : Shape → ℕ → StoreView
@@ -55,44 +69,70 @@ without_cells q k = record { shape = q; period = k; tables = finite.empty; spare
 pub started : (start : StoreView) (q r : Shape) (j k : ℕ) → start ≡ without_cells q j → q ≡ r → j ≡ k → start ≡ without_cells r k
 started start q r j k e eq ek = e ∙ ap (λ (p : Shape). without_cells p j) eq ∙ ap (λ (n : ℕ). without_cells r n) ek
 
+-- ---- the left store in cells of a multiple of its period
+module _ (places : Places) (left right : StoreView) (k : ℕ) (can : CanSubtract places left right k) (aligned : StoreView) (is : IsAligned left k aligned) where
+  -- both reach no farther than tables may
+  pub both_reach : (high : ℕ) → HasReach left high → HasReach right high → HaveReach aligned right high
+  both_reach high l r = record { in_left = subst (λ (n : ℕ). HasReach aligned (high + (n - 1))) (sym is.period_is) (is.reach high l); in_right = r }
+
+  pub can_take : CanTake places aligned right
+  can_take = record {
+    among = subst (λ (q : Shape). ArePlacesFor q.times q.texts right places) (sym is.shape) can.among;
+    multiple = subst (λ (n : ℕ). Divides (pos right.period) (pos n)) (sym is.period_is) can.right_multiple;
+    period = let e : aligned.period ≡ k = is.period_is in let h : 2 * k ≤ 2 ^ 62 = can.period in omega arith;
+    reach = subst (λ (n : ℕ). HaveReach aligned right (2 ^ 62 - 2 * n)) (sym is.period_is) (both_reach (2 ^ 62 - 2 * k) can.left_reach can.right_reach);
+  }
+
+  pub is_like : (out : StoreView) → out.shape ≡ left.shape → out.period ≡ k → IsLike aligned out
+  is_like out shape period = record { shape = shape ∙ sym is.shape; period = period ∙ sym is.period_is }
+
+  to_left : (xs : List ℤ) (ns : List ℕ) → IsSpared places aligned right xs ns → IsSpared places left right xs ns
+  to_left xs ns h = record { held = is.same.sound xs ns h.held; none = h.none }
+
+  from_left : (xs : List ℤ) (ns : List ℕ) → IsSpared places left right xs ns → IsSpared places aligned right xs ns
+  from_left xs ns h = record { held = is.same.whole xs ns h.held; none = h.none }
+
+  no_farther : (high : ℕ) → high + 2 * aligned.period ≤ high + 2 * k
+  no_farther high = let e : aligned.period ≡ k = is.period_is in omega arith
+
+  pub spared_added : (cap high : ℕ) (start out : StoreView) → IsStore start → IsAdded (IsSpared places aligned right) cap (high + 2 * aligned.period) start out → IsAdded (IsSpared places left right) cap (high + 2 * k) start out
+  spared_added cap high start out valid = added_as cap (IsSpared places aligned right) (IsSpared places left right) (high + 2 * aligned.period) (high + 2 * k) (no_farther high) start out valid to_left from_left
+
+  pub spared_not_added : (cap high : ℕ) (start out : StoreView) → IsStore start → IsRefused (IsSpared places aligned right) cap (high + 2 * aligned.period) start out → IsRefused (IsSpared places left right) cap (high + 2 * k) start out
+  spared_not_added cap high start out valid = refused_as cap (IsSpared places aligned right) (IsSpared places left right) (high + 2 * aligned.period) (high + 2 * k) (no_farther high) start out valid to_left
+
+-- a store of the period itself stays as it is
+pub itself_aligned : (left : StoreView) (k : ℕ) → left.period ≡ k → IsAligned left k left
+itself_aligned left k e = record {
+  shape = refl;
+  period_is = e;
+  same = record { sound = λ xs ns h. h; whole = λ xs ns h. h };
+  reach = λ high r. farther left high (high + (k - 1)) (omega arith) r;
+}
+
 module _ (left right : Table) (right_is : IsStore right.store) (places : Places) (times_at : ArePlacesOf right.vars.times left.vars.times places.times) (texts_at : ArePlacesOf right.vars.texts left.vars.texts places.texts)
-    (k : ℕ) (aligned : StoreView) (is : IsAligned left.store k aligned) where
+    (k : ℕ) where
   -- ---- the right store stands beneath the left one
 
-  times_are : length left.vars.times ≡ aligned.shape.times
-  times_are = left.times_named ∙ ap (λ (q : Shape). q.times) (sym is.shape)
-
-  texts_are : length left.vars.texts ≡ aligned.shape.texts
-  texts_are = left.texts_named ∙ ap (λ (q : Shape). q.texts) (sym is.shape)
-
-  text_place : All (λ p. (0 < p) × (p ≤ aligned.shape.texts)) places.texts
+  text_place : All (λ p. (0 < p) × (p ≤ left.store.shape.texts)) places.texts
   text_place i d h =
       let c : length places.texts ≡ length right.vars.texts = places_count right.vars.texts left.vars.texts places.texts texts_at in
       let at : IsPlace left.vars.texts (get_or places.texts i 0) (get_or right.vars.texts i []) = place_is right.vars.texts left.vars.texts places.texts texts_at i (get_or right.vars.texts i []) (slice_get-get_or right.vars.texts i [] (omega arith)) in
       let low : 0 < get_or places.texts i 0 = at.0 in
       let within : get_or places.texts i 0 - 1 < length left.vars.texts = slice_get_within left.vars.texts (get_or places.texts i 0 - 1) (get_or right.vars.texts i []) at.1 in
-      let t = texts_are in
-      subst (λ p. (0 < p) × (p ≤ aligned.shape.texts)) (get_or_default places.texts i 0 d h) (low, omega arith)
+      let t = left.texts_named in
+      subst (λ p. (0 < p) × (p ≤ left.store.shape.texts)) (get_or_default places.texts i 0 d h) (low, omega arith)
 
-  among : ArePlacesFor aligned.shape.times aligned.shape.texts right.store places
+  among : ArePlacesFor left.store.shape.times left.store.shape.texts right.store places
   among = record {
     times_count = places_count right.vars.times left.vars.times places.times times_at ∙ right.times_named;
     texts_count = places_count right.vars.texts left.vars.texts places.texts texts_at ∙ right.texts_named;
-    in_times = subst (ArePlaces places.times) times_are (places_are right.vars.times left.vars.times places.times times_at (pairs_left ◌≢◌ right.vars.times right.vars.texts right.names_differ));
+    in_times = subst (ArePlaces places.times) left.times_named (places_are right.vars.times left.vars.times places.times times_at (pairs_left ◌≢◌ right.vars.times right.vars.texts right.names_differ));
     in_texts = text_place;
   }
 
-  -- both reach no farther than tables may
-  pub both_reach : (high : ℕ) → HasReach left.store high → HasReach right.store high → HaveReach aligned right.store high
-  both_reach high l r = record { in_left = subst (λ (n : ℕ). HasReach aligned (high + (n - 1))) (sym is.period_is) (is.reach high l); in_right = r }
-
-  pub can_take : Divides (pos right.store.period) (pos k) → 2 * k ≤ 2 ^ 62 → HasReach left.store (2 ^ 62 - 2 * k) → HasReach right.store (2 ^ 62 - 2 * k) → CanTake places aligned right.store
-  can_take divides small l r = record {
-    among = among;
-    multiple = subst (λ (n : ℕ). Divides (pos right.store.period) (pos n)) (sym is.period_is) divides;
-    period = let e : aligned.period ≡ k = is.period_is in omega arith;
-    reach = subst (λ (n : ℕ). HaveReach aligned right.store (2 ^ 62 - 2 * n)) (sym is.period_is) (both_reach (2 ^ 62 - 2 * k) l r);
-  }
+  pub can_subtract : Divides (pos left.store.period) (pos k) → Divides (pos right.store.period) (pos k) → 2 * k ≤ 2 ^ 62 → HasReach left.store (2 ^ 62 - 2 * k) → HasReach right.store (2 ^ 62 - 2 * k) → CanSubtract places left.store right.store k
+  can_subtract own other small l r = record { among = among; left_multiple = own; right_multiple = other; period = small; left_reach = l; right_reach = r }
 
   -- ---- tuples that are spared are those of the assignments of the difference
 
@@ -100,12 +140,12 @@ module _ (left right : Table) (right_is : IsStore right.store) (places : Places)
     abbrev Wide : List ℤ → List ℕ → Type 0
     Wide = IsWider (length domain) (length left.vars.times) (length left.vars.texts) places.times places.texts right.store
 
-    are : AreTuplesOf domain left.vars.times left.vars.texts (IsSpared places aligned right.store) (IsLess domain left right)
-    are = same_tuples domain left.vars.times left.vars.texts (λ xs ns. InStore left.store xs ns × (Wide xs ns → ⊥)) (IsSpared places aligned right.store)
+    are : AreTuplesOf domain left.vars.times left.vars.texts (IsSpared places left.store right.store) (IsLess domain left right)
+    are = same_tuples domain left.vars.times left.vars.texts (λ xs ns. InStore left.store xs ns × (Wide xs ns → ⊥)) (IsSpared places left.store right.store)
         (λ env. Has left domain env × (HasTexts domain left.vars.texts env × Has right domain env → ⊥)) (IsLess domain left right)
         (λ xs ns. (
           λ h. record {
-            held = is.same.whole xs ns h.0;
+            held = h.0;
             none = λ b. h.1 (record {
               times_count = held_times left.store left_is xs ns h.0 ∙ sym left.times_named;
               texts_count = held_texts left.store left_is xs ns h.0 ∙ sym left.texts_named;
@@ -113,7 +153,7 @@ module _ (left right : Table) (right_is : IsStore right.store) (places : Places)
               held = b;
             });
           },
-          λ h. (is.same.sound xs ns h.held, λ w. h.none w.held),
+          λ h. (h.held, λ w. h.none w.held),
         ))
         (λ env. (λ h. record { has = h.0; none = λ r. h.1 (table_texts domain left env h.0, r) }, λ h. (h.has, λ p. h.none p.1)))
         (less_tuples domain ascends left.vars.times left.vars.texts (InStore left.store) Wide (Has left domain) (λ env. HasTexts domain left.vars.texts env × Has right domain env) (tuples_of domain left left_is numbered)
@@ -133,19 +173,18 @@ module _ (left right : Table) (right_is : IsStore right.store) (places : Places)
         empty = ap (λ (s : StoreView). s.tables) fresh;
       }
 
-      module _ (high : ℕ) (a : IsAdded (IsSpared places aligned right.store) cap high start out) where
+      module _ (high : ℕ) (a : IsAdded (IsSpared places left.store right.store) cap high start out) where
         pub minus_table : (made : Table) → made.vars.times ≡ left.vars.times → made.vars.texts ≡ left.vars.texts → made.store ≡ out → IsTableOf domain left.vars.times left.vars.texts k (IsLess domain left right) made
         minus_table made et ex eo = subst (λ (n : ℕ). IsTableOf domain left.vars.times left.vars.texts n (IsLess domain left right) made) period_is
-            (step_table domain left.vars.times left.vars.texts start start_is (IsSpared places aligned right.store) (IsLess domain left right) are cap high out a made et ex eo)
+            (step_table domain left.vars.times left.vars.texts start start_is (IsSpared places left.store right.store) (IsLess domain left right) are cap high out a made et ex eo)
 
         pub minus_few : InhabitsMoreThan cap domain k left.vars.times left.vars.texts (IsLess domain left right) → ⊥
-        minus_few more = step_few domain left.vars.times left.vars.texts start start_is (IsSpared places aligned right.store) (IsLess domain left right) are cap high out a
+        minus_few more = step_few domain left.vars.times left.vars.texts start start_is (IsSpared places left.store right.store) (IsLess domain left right) are cap high out a
             (subst (λ (n : ℕ). InhabitsMoreThan cap domain n left.vars.times left.vars.texts (IsLess domain left right)) (sym period_is) more)
 
-      pub minus_many : (high : ℕ) → IsRefused (IsSpared places aligned right.store) cap high start out → InhabitsMoreThan cap domain k left.vars.times left.vars.texts (IsLess domain left right)
+      pub minus_many : (high : ℕ) → IsRefused (IsSpared places left.store right.store) cap high start out → InhabitsMoreThan cap domain k left.vars.times left.vars.texts (IsLess domain left right)
       minus_many high r = subst (λ (n : ℕ). InhabitsMoreThan cap domain n left.vars.times left.vars.texts (IsLess domain left right)) period_is
-          (step_many domain left.vars.times left.vars.texts start start_is (IsSpared places aligned right.store) (IsLess domain left right) are cap high out r)
+          (step_many domain left.vars.times left.vars.texts start start_is (IsSpared places left.store right.store) (IsLess domain left right) are cap high out r)
 
-  pub minus_reach : (cap : ℕ) (start out : StoreView) → start ≡ without_cells left.store.shape k → (high : ℕ) → IsAdded (IsSpared places aligned right.store) cap (high + 2 * aligned.period) start out → HasReach out (high + 2 * k)
-  minus_reach cap start out fresh high a =
-      subst (λ (n : ℕ). HasReach out (high + 2 * n)) is.period_is (reach_held (IsSpared places aligned right.store) cap (high + 2 * aligned.period) start out (ap (λ (s : StoreView). s.tables) fresh) a.grown)
+  pub minus_reach : (cap : ℕ) (start out : StoreView) → start ≡ without_cells left.store.shape k → (high : ℕ) → IsAdded (IsSpared places left.store right.store) cap (high + 2 * k) start out → HasReach out (high + 2 * k)
+  minus_reach cap start out fresh high a = reach_held (IsSpared places left.store right.store) cap (high + 2 * k) start out (ap (λ (s : StoreView). s.tables) fresh) a.grown

@@ -34,6 +34,15 @@ pub record CanTake (places : Places) (left right : StoreView) : Type 0 where
   pub period : 2 * left.period ≤ 2 ^ 62
   pub reach : HaveReach left right (2 ^ 62 - 2 * left.period)
 
+-- the right store's columns have places among those of the left one, k is a multiple of both periods, and bounds of both can be turned in it
+pub record CanSubtract (places : Places) (left right : StoreView) (k : ℕ) : Type 0 where
+  pub among : ArePlacesFor left.shape.times left.shape.texts right places
+  pub left_multiple : Divides (pos left.period) (pos k)
+  pub right_multiple : Divides (pos right.period) (pos k)
+  pub period : 2 * k ≤ 2 ^ 62
+  pub left_reach : HasReach left (2 ^ 62 - 2 * k)
+  pub right_reach : HasReach right (2 ^ 62 - 2 * k)
+
 -- w holds the tuples with the residues rs modulo k that have one of z at the places
 pub record IsCutter (z : ZoneView) (places : List ℕ) (k : ℤ) (rs : List ℤ) (w : ZoneView) : Type 0 where
   pub period : pos w.period ≡ k

@@ -9,7 +9,7 @@ ghost use Rattle.lrp_tables.specs.Calls.{AreVariablesOf};
 ghost use Rattle.lrp_tables.specs.Caps.{InhabitsMoreThan};
 ghost use Rattle.lrp_tables.specs.Tables.{IsLess, IsTableOf};
 ghost use Rattle.lrp_minus.specs.Absences.{IsLike};
-ghost use Rattle.lrp_minus.specs.Cutters.{CanTake, HaveReach, IsSpared, IsSparedIn};
+ghost use Rattle.lrp_minus.specs.Cutters.{CanSubtract, CanTake, HaveReach, IsSpared, IsSparedIn};
 
 use crate::beneath::{Places, places_of};
 use crate::cutters::cutters_of;
@@ -47,20 +47,43 @@ pub fn minus(
         texts: left.vars.texts.copy(alloc)?,
     };
     let places = places_of(alloc, &right.vars, &left.vars)?;
+    left.store.shape();
     right.store.shape();
-
-    // Only what is left counts against the cap, so the left side may have more cells.
-    let Ok(aligned) = left.store.align(period, u32::MAX) else {
-        return Err(StepFault::Memory);
-    };
-    aligned.shape();
     let mut out = Store::new(alloc, left.store.shape(), period);
     out.shape();
-    match add_spared(alloc, &aligned, &right.store, &places, cap, &mut out) {
+    match add_less(alloc, &left.store, &right.store, &places, cap, &mut out) {
         Ok(()) => Ok(Table { vars, store: out }),
         Err(StoreFault::TooManyCells) => Err(StepFault::TooManyCells),
         Err(StoreFault::Memory) => Err(StepFault::Memory),
     }
+}
+
+// Adds the tuples of the left store that have none of the right one at the places, in cells of the period of `out`.
+fn add_less(
+    alloc: Global,
+    left: &Store,
+    right: &Store,
+    places: &Places,
+    cap: u32,
+    out: &mut Store,
+) -> Result<(), StoreFault>
+    requires shape { out.old.shape ≡ left.now.shape }
+    requires subtract { CanSubtract places.now left.now right.now out.old.period }
+    ensures ok { OnOk result ((high : ℕ) → HasReach left.now high → HasReach right.now high → IsAdded (IsSpared places.now left.now right.now) cap (high + 2 * out.old.period) out.old out.new) }
+    ensures refused { result ≡ Err StoreFault.TooManyCells → (high : ℕ) → HasReach left.now high → HasReach right.now high → IsRefused (IsSpared places.now left.now right.now) cap (high + 2 * out.old.period) out.old out.new }
+{
+    left.shape();
+    out.shape();
+    if left.period() == out.period() {
+        return add_spared(alloc, left, right, places, cap, out);
+    }
+
+    // Only what is left counts against the cap, so the left side may have more cells.
+    let Ok(aligned) = left.align(out.period(), u32::MAX) else {
+        return Err(StoreFault::Memory);
+    };
+    aligned.shape();
+    add_spared(alloc, &aligned, right, places, cap, out)
 }
 
 // Adds the tuples of the left store that have none of the right one at the places.

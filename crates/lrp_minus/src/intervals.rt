@@ -37,7 +37,11 @@ pub(crate) fn maximal(alloc: Global, cell: &Zone, zones: &[Zone]) -> Result<List
 }
 
 /// The intervals of zones with one column.
-pub(crate) fn intervals_of(alloc: Global, cell: &Zone, zones: &[Zone]) -> Result<Vec<Interval>, Memory>
+pub(crate) fn intervals_of(
+    alloc: Global,
+    cell: &Zone,
+    zones: &[Zone],
+) -> Result<Vec<Interval>, Memory>
     requires column { columns_of cell.now ≡ 1 }
     requires cell { AreOfCell cell.now zones.now }
     ensures intervals { IfOk result (λ made. made.items ≡ map span_of zones.now) }
