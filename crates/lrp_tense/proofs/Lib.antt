@@ -16,3 +16,5 @@ mod Behind
 pub mod TokenPlaces
 pub mod LawfulTense
 pub mod WithoutOperators
+pub mod Positions
+pub mod Steps

@@ -8,3 +8,7 @@ pub mod TenseReading
 pub mod Rules
 pub mod Parts
 pub mod Reading
+pub mod Named
+pub mod Counting
+pub mod Opening
+pub mod Scopes

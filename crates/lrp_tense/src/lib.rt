@@ -2,12 +2,18 @@
 #![tactic(auto)]
 
 mod building;
+mod counting;
+mod expansion;
 mod formulas;
 mod laws;
 mod queries;
+mod renaming;
+mod scope;
 mod tree;
 mod words;
+mod written_out;
 
+pub use expansion::expand;
 pub use laws::{
     expansion_keeps_meaning, expansion_leaves_plain_queries, plain_texts_are_read_alike,
     texts_are_one_query,
