@@ -7,10 +7,11 @@ import shlex
 import civil
 from answers import answer_fault
 from common import EXAMPLES, digest
-from language import Fault, read_database, read_query, relation_text
+from language import Fault, read_database, relation_text
 from meaning import Meaning, TooHard
 from opinion import page, plain
 from plan import Plan
+from tense import read_tense
 from words import is_command
 
 
@@ -42,6 +43,7 @@ class Judge:
         self.folder, self.words, self.budget = folder, words, budget
         self.keys = dict(word.partition("=")[::2] for word in words[1:])
         self.is_civil = self.keys.get("civil") == "yes"
+        self.is_tense = self.keys.get("tense") == "yes"
 
     def judge(self, text):
         """The status and the output that are wanted; where the output is of a free form, the given text if that is right."""
@@ -67,13 +69,13 @@ class Judge:
         if query is None:
             return 6, b"refused: read of query\n"
         try:
-            parsed = read_query(query, relations)
+            parsed, plain = read_tense(query, relations, self.is_tense)
         except Fault as fault:
             return 4, ("refused: query %s\n" % fault).encode()
-        return self.planned(relations, parsed, digest(database, query), text)
+        plan = Plan(relations, plain, self.budget)
+        return self.planned(plan, Meaning(relations, parsed, self.budget), digest(database, query), text)
 
-    def planned(self, relations, parsed, files, text):
-        plan = Plan(relations, parsed, self.budget)
+    def planned(self, plan, meaning, files, text):
         refused = plan.refusal()
         if refused:
             return 5, refused.encode()
@@ -84,7 +86,6 @@ class Judge:
             step = next((number for number, count in enumerate(cells, 1) if count > int(self.keys["cap"])), None)
             if step is not None and "after" not in self.keys:
                 return 5, b"refused: more than %d cells at step %d\n" % (int(self.keys["cap"]), step)
-        meaning = Meaning(relations, parsed, self.budget)
         if self.words[0] == "ask":
             fault = answer_fault(text, meaning)
             return 0, text if fault is None else fault.encode()

@@ -1,11 +1,15 @@
 """What the groups share: the program, run with files in a folder of its own, and the count of what passed."""
 
 import argparse
+import contextlib
 import hashlib
+import io
+import multiprocessing
 import os
 import resource
 import shutil
 import subprocess
+import sys
 import tempfile
 import time
 
@@ -162,7 +166,26 @@ def refusal(what, fault):
     return ("refused: %s %s\n" % (what, fault)).encode()
 
 
-def main(about, groups, seeds):
+CHOSEN = []  # the groups of this run, each with its name, the program and the seeds
+
+
+def run_group(number):
+    """Runs one of the chosen groups with a copy of the program of its own: what it said, and its counts."""
+    name, group, path, seeds = CHOSEN[number]
+    said = io.StringIO()
+    with contextlib.redirect_stdout(said):
+        tally = Tally()
+        program = Program(path, tally)
+        try:
+            tally.begin(name)
+            group(program, tally, seeds)
+            tally.finish()
+        finally:
+            program.close()
+    return said.getvalue(), tally.groups
+
+
+def main(about, groups, seeds, jobs):
     """Runs the groups, each a function of a program, a tally and seeds, on the program that is named, or on the built one."""
     words = argparse.ArgumentParser(description=about)
     words.add_argument("program", nargs="?", default=BUILT)
@@ -177,16 +200,18 @@ def main(about, groups, seeds):
         default=seeds,
         help="the random cases from FIRST up to END (%d %d)" % seeds,
     )
+    words.add_argument("--jobs", type=int, default=jobs, help="so many groups side by side (%d)" % jobs)
     options = words.parse_args()
     if not os.access(options.program, os.X_OK):
         words.exit(2, "hostile: there is no program at %s\n" % options.program)
+    sys.setrecursionlimit(20000)  # formulas may stand deep in one another
+    for name, group in groups:
+        if any(word in name for word in options.only):
+            CHOSEN.append((name, group, options.program, range(*options.seeds)))
     tally = Tally()
-    program = Program(options.program, tally)
-    try:
-        for name, group in groups:
-            if any(word in name for word in options.only):
-                tally.begin(name)
-                group(program, tally, range(*options.seeds))
-        return tally.end()
-    finally:
-        program.close()
+    # Forked, since the groups are functions without names.
+    with multiprocessing.get_context("fork").Pool(options.jobs) as pool:
+        for said, counts in pool.imap(run_group, range(len(CHOSEN)), 1):
+            print(said, end="", flush=True)
+            tally.groups.update(counts)
+    return tally.end()

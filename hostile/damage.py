@@ -7,8 +7,9 @@ import random
 
 from civil import plain_text
 from common import EXAMPLES, LONGEST, refusal
-from language import Fault, LIMIT, QUERY_KINDS, Lexer, read_database, read_query, relation_text
+from language import Fault, LIMIT, QUERY_KINDS, Lexer, read_database, relation_text
 from plan import Plan
+from tense import read_tense
 
 NASTY = b'\x00\x7f\x80\xc3\xff"\\#\n{(9n-+=<|,;:_'
 BUS = b"relation bus(t: time) { (5+60n); }"
@@ -19,6 +20,9 @@ DATED = b"""relation on(on: time, daily: time, line: data) { (on 1969-12-31 08:1
  (weekly sun 23:59, daily 00:00, "") where on >= on 2024-02-29 00:00, daily = on - 5; } relation daily() { }"""
 ASKED = b"""{ t: time, k: line | (exists u: time (bus(t, u + 1, "7") and u <= t - 2 and not t in -1+4n) # x
  or forall l: line (on(t, l) implies l = k) or 3 < t) }"""
+
+TENSED = b"""{ t: time, k: line | (once t (-10, 0) always t ( 2,-1) on(t, k) # x
+ and since t (not until t (0 < 1, t in 3+4n), exists u: time once u (4, 4) bus(u, t, "7")) or once = 3) }"""
 
 
 def relations_of(text, keys):
@@ -34,10 +38,10 @@ def of_database(text, *keys):
         return 3, refusal("database", fault)
 
 
-def of_query(relations, text):
+def of_query(relations, text, *keys):
     """What explain has to end with, by the second reader and planner."""
     try:
-        plan = Plan(relations, read_query(text, relations))
+        plan = Plan(relations, read_tense(text, relations, "tense=yes" in keys)[1])
     except Fault as fault:
         return 4, refusal("query", fault)
     refused = plan.refusal()
@@ -50,7 +54,7 @@ def check_database(program, text, *keys):
 
 
 def check_query(program, database, text, *keys):
-    status, wanted = of_query(relations_of(database, keys), text)
+    status, wanted = of_query(relations_of(database, keys), text, *keys)
     program.expect(wanted, status, "explain", *keys, database=database, query=text)
 
 
@@ -59,9 +63,12 @@ def examples():
     seen = set()
     for page in sorted(glob.glob(os.path.join(EXAMPLES, "*", "README.md"))):
         for case in cases_of(os.path.dirname(page)):
-            keys = [key + "=yes" for key in ("civil",) if case.get(key) == "yes"]
+            keys = [key + "=yes" for key in ("civil", "tense") if case.get(key) == "yes"]
             for pair in ((case.get("db"), None), (case.get("db"), case.get("query"))):
-                texts = (*(content(page, name) for name in pair), *keys)
+                texts = (
+                    *(content(page, name) for name in pair),
+                    *(key for key in keys if pair[1] or key == "civil=yes"),
+                )
                 if texts[0] is not None and texts not in seen:
                     seen.add(texts)
                     yield texts
@@ -86,7 +93,7 @@ def content(page, name):
 def texts_of(few):
     """Small texts of every construct, and where not few the examples too: a database, a query or none, and keys."""
     texts = [] if few else list(examples())
-    return [(SMALL, None), (SMALL, ASKED), *texts, (DATED, None, "civil=yes")]
+    return [(SMALL, None), (SMALL, ASKED), *texts, (DATED, None, "civil=yes"), (SMALL, TENSED, "tense=yes")]
 
 
 def check(program, database, query, *keys):
@@ -159,7 +166,12 @@ def deep(program, tally, few=False):
         (b"(0 < 1 and ", b")"),
         (b"(0 < 1 implies ", b")"),
         (b"(not ", b")"),
+        (b"once t (0, 0) ", b""),
+        (b"since t (0 < 1, ", b")"),
+        (b"until t (", b", 0 < 1)"),
     ):
+        is_tense = b" t (" in front
+        head = b"{ t: time | " if is_tense else b"{ | "
         per_turn = 2 if front == b"(not " else 1
         for depth in (62, 63, 64, 65, 66, 1000, 100000) + (() if few else (2000000,)):
             if len(front + back) * depth <= LONGEST - 100:
@@ -169,17 +181,17 @@ def deep(program, tally, few=False):
                     if names != front
                     else front * (depth // per_turn)
                 )
-                text = b"{ | " + opened + b"0 <= 0" + back * (depth // per_turn) + b" }"
+                text = head + opened + b"0 <= 0" + back * (depth // per_turn) + b" }"
                 if len(text) <= LONGEST:
-                    deep_one(program, text, depth)
+                    deep_one(program, text, depth, *(["tense=yes"] if is_tense else []))
 
 
-def deep_one(program, text, depth):
+def deep_one(program, text, depth, *keys):
     if depth <= 1000:
-        check_query(program, b"", text)
+        check_query(program, b"", text, *keys)
     else:  # the fault at depth 65 is the same
-        at_65 = of_query({}, text[:4000])[1]
-        program.expect(at_65, 4, "explain", database=b"", query=text)
+        at_65 = of_query({}, text[:4000], *keys)[1]
+        program.expect(at_65, 4, "explain", *keys, database=b"", query=text)
 
 
 NO_UTF_8 = (

@@ -3,18 +3,19 @@
 import resource
 
 from plan import Plan
-from language import read_database, read_query
+from language import read_database
+from tense import read_tense
 
 DATABASE = b'relation r(t: time, l: line) { (0+2n, "a"); }'
 ENOUGH = 1024
 LEAST = (1024, 512, 256, 192, 128, 96, 64)
 
 
-def nested(front, back, inner, depth=64, width=1):
+def nested(front, back, inner, depth=64, width=1, head=b"{ | "):
     """A formula whose innermost part has the greatest depth."""
     turns = (depth - 1) // width
     opened = b"".join(front % i if b"%d" in front else front for i in range(turns))
-    return b"{ | " + opened + inner + back * turns + b" }"
+    return head + opened + inner + back * turns + b" }"
 
 
 def shapes():
@@ -30,6 +31,10 @@ def shapes():
     yield "forall and not", nested(b"not forall d%d: line ", b"", b"0 < 1", width=2)
     yield "atoms", nested(b'exists d%d: line (r(1, "a") and ', b")", b'r(2, "a")', width=2)
     yield "exists a time", nested(b"exists t%d: time ", b"", b"0 < 1", depth=56)
+    yield "once", nested(b"once t (0, 0) ", b"", b'r(t, "a")', depth=40, head=b"{ t: time | ")
+    yield "once and not", nested(b"not once t (0, 0) ", b"", b'r(t, "a")', depth=40, width=2, head=b"{ t: time | ")
+    yield "since, on the left", nested(b"since t (", b", 0 < 1)", b"0 < 1", depth=16, head=b"{ t: time | ")
+    yield "until, on the right", nested(b"until t (0 < 1, ", b")", b'r(t, "a")', depth=10, head=b"{ t: time | ")
     yield "forall a time", nested(b"forall t%d: time not ", b"", b"0 < 1", depth=40, width=2)
 
 
@@ -38,13 +43,15 @@ def stack(program, tally):
     needed = {}
     relations = read_database(DATABASE)
     for name, query in shapes():
-        wanted = Plan(relations, read_query(query, relations)).text().encode()
-        program.expect(wanted, 0, "explain", database=DATABASE, query=query)
+        keys = ["tense=yes"] if b" t (" in query else []
+        wanted = Plan(relations, read_tense(query, relations, bool(keys))[1]).text().encode()
+        program.expect(wanted, 0, "explain", *keys, database=DATABASE, query=query)
         for command in ("explain", "decide"):
-            whole = program.run(command, database=DATABASE, query=query)
+            whole = program.run(command, *keys, database=DATABASE, query=query)
             for kilobytes in LEAST:
                 limit = lambda size=kilobytes << 10: resource.setrlimit(resource.RLIMIT_STACK, (size, size))
-                got = program.run(command, database=DATABASE, query=query, statuses=range(-255, 256), preexec_fn=limit)
+                how = {"statuses": range(-255, 256), "preexec_fn": limit}
+                got = program.run(command, *keys, database=DATABASE, query=query, **how)
                 if kilobytes == ENOUGH:
                     tally.check(
                         got == whole,

@@ -43,7 +43,7 @@ class Table:
 
 def magnitudes(program, tally):
     table = Table(program)
-    for part in (windows, counts, tokens, periods, reaches, quantifiers, far_values):
+    for part in (windows, counts, tokens, periods, reaches, quantifiers, far_values, operators):
         part(table)
 
 
@@ -213,6 +213,39 @@ def quantifiers(table):
     nested = lambda count: b"{ | " + b"".join(b"exists x%d: time " % it for it in range(count)) + b"0 <= 0 }"
     table.is_planned(1 << 61, b"", nested(61))
     table.refused(BOUND, b"", nested(62))
+
+
+def operators(table):
+    """The ends of operators: a comparison has its offset, and one more; the drop of the operator's variable doubles."""
+    expect, bus = table.program.expect, {"database": BUS}
+    once = b"{ t: time | once t (%d, %d) bus(t) }"
+    far = (1 << 59) - 61
+    status, text = table.program.run("explain", "tense=yes", query=once % (-far, 0), **bus)
+    table.program.tally.check(status == 0 and text.endswith(b"reach %d]\n" % (1 << 60)), "once at its last value", text)
+    for query in (once % (-far - 1, 0), once % (0, far + 1), once % (LIMIT, LIMIT), once % (-LIMIT, -LIMIT)):
+        for words in PLANNED:
+            expect(BOUND, 5, *words.split(" "), "tense=yes", query=query, **bus)
+    for by in (far, -far):
+        nearest = min((it for it in range(-60, 60) if (it + by - 5) % 60 == 0), key=lambda it: (abs(it), it < 0))
+        expect(b"Nonempty\n%d\n" % nearest, 0, "decide", "tense=yes", query=once % (by, by), **bus)
+    expect(lines(*range(130)) + b"end\n", 0, "list", "from=0", "to=129", "tense=yes", query=once % (-far, 0), **bus)
+    for ends, column in (((LIMIT + 1, 0), 21), ((-LIMIT - 1, 0), 22), ((0, LIMIT + 1), 24), ((0, 2**64), 24)):
+        fault = b"refused: query Number at 1:%d\n" % column
+        expect(fault, 4, "decide", "tense=yes", query=once % ends, **bus)
+    expect(b"Empty\n", 0, "decide", "tense=yes", query=once % (1, 0), **bus)
+    always = b"{ t: time | always t (%d, %d) bus(t) }"
+    expect(b"Nonempty\n0\n", 0, "decide", "tense=yes", query=always % (1, 0), **bus)
+    expect(b"Nonempty\n0\n", 0, "decide", "tense=yes", query=always % (far // 4, -far // 4), **bus)
+    expect(b"Nonempty\n4\n", 0, "decide", "tense=yes", query=always % (1, 1), **bus)
+    expect(b"Empty\n", 0, "decide", "tense=yes", query=always % (1, 2), **bus)
+    for command in ("ask", "decide", "list", "explain"):
+        words = [command, "db=none", "query=none"] + ["from=0", "to=5"] * (command == "list")
+        for value in ("", "Yes", "true", "1", "y", "yes "):
+            table.program.expect(USAGE, 2, *words, "tense=" + value)
+        table.program.expect(USAGE, 2, *words, "tense=no", "tense=no")
+        table.program.expect(b"refused: read of database\n", 6, *words, "tense=no")
+    table.usage("check db=none tense=no")
+    table.usage("sample seed=0 size=1 tense=no")
 
 
 def far_values(table):

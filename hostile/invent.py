@@ -27,10 +27,10 @@ def quoted(text):
 
 
 class Inventor:
-    """Invents a database and queries over it; a civil database has dates for many of its instants."""
+    """Invents a database and queries over it; a civil database has dates for many of its instants, a tense query operators."""
 
-    def __init__(self, chance, is_civil=False):
-        self.chance, self.is_civil = chance, is_civil
+    def __init__(self, chance, is_civil=False, is_tense=False):
+        self.chance, self.is_civil, self.is_tense = chance, is_civil, is_tense
         self.periods = chance.choice(PERIODS)
         self.sorts = chance.choice(SORTS)
         self.reach = chance.choice((3, 6, 6, 12))
@@ -51,9 +51,8 @@ class Inventor:
     # Databases
 
     def database(self):
-        parts = [
-            self.relation(name) for name in self.chance.sample(("r", "s", "q", "_p1"), self.chance.choice((1, 2, 2, 3)))
-        ]
+        names = ("r", "once", "since", "s") if self.is_tense else ("r", "s", "q", "_p1")
+        parts = [self.relation(name) for name in self.chance.sample(names, self.chance.choice((1, 2, 2, 3)))]
         return self.blank().join(parts) + self.blank()
 
     def relation(self, name):
@@ -96,12 +95,13 @@ class Inventor:
     # Queries
 
     def query(self, times=None):
-        count = self.chance.choice((0, 1, 1, 1, 2, 2, 3)) if times is None else times
+        counts = (0, 1, 1, 1, 2) if self.is_tense else (0, 1, 1, 1, 2, 2, 3)
+        count = self.chance.choice(counts) if times is None else times
         head = ["time"] * count + [self.sort() for _ in range(self.chance.choice((0, 0, 0, 1, 1, 2)))]
         self.chance.shuffle(head)
         scope = {}
         for i, sort in enumerate(head):
-            scope["h%d" % i] = sort
+            scope[("always", "until", "h2", "h3")[i] if self.is_tense else "h%d" % i] = sort
         deep = {0: 3, 1: 2, 2: 1, 3: 0}[min(count, 3)]
         body = self.compound(self.chance.choice((2, 3, 3, 4)), scope, deep)
         return "{ %s | %s }%s" % (", ".join("%s: %s" % it for it in scope.items()), body, self.blank())
@@ -116,6 +116,8 @@ class Inventor:
         return self.compound(size, scope, deep)
 
     def compound(self, size, scope, deep):
+        if self.is_tense and deep and "time" in scope.values() and self.chance.random() < 0.5:
+            return self.operator(size, scope, deep)
         kind = self.chance.random()
         if kind < 0.14:
             return "not " + self.formula(size - 1, scope, deep)
@@ -129,6 +131,17 @@ class Inventor:
         if kind < 0.69:
             return "(%s implies %s)" % (self.formula(size - 1, scope, deep), self.formula(size - 1, scope, deep))
         return self.quantified(size, scope, deep)
+
+    def operator(self, size, scope, deep):
+        """A temporal operator over a variable, perhaps one that another operator around it has."""
+        name = self.chance.choice([name for name, sort in scope.items() if sort == "time"])
+        word = self.chance.choice(("once", "always", "since", "until"))
+        inner = lambda: self.formula(size - 1, scope, deep - 1)
+        if word in ("since", "until"):
+            return "%s %s%s(%s, %s)" % (word, name, self.blank(), inner(), inner())
+        start = self.number()
+        end = start + self.chance.choice((-1, 0, 0, 1, 2, 3, 5, 12))
+        return "%s %s%s(%d,%s%d) %s" % (word, name, self.blank(), start, self.blank(), end, inner())
 
     def quantified(self, size, scope, deep):
         sort = "time" if deep and self.chance.random() < 0.65 else self.sort()

@@ -10,6 +10,7 @@ LIMIT = 1 << 62
 RESERVED = {"relation", "where", "time", "data", "n", "exists", "forall", "not", "and", "or", "implies", "in"}
 SYMBOLS = ("<=", ">=", "(", ")", "{", "}", ",", ":", ";", "|", "+", "-", "<", ">", "=")
 COMPARISONS = ("<=", ">=", "<", ">", "=")
+OPERATORS = ("once", "always", "since", "until")
 DATABASE_KINDS = {
     "Utf8": 1,
     "Syntax": 2,
@@ -355,13 +356,14 @@ class Term:
 
 @dataclass
 class Formula:
-    kind: str  # atom, compare, member, not, and, or, implies, group, exists, forall
+    kind: str  # atom, compare, member, not, and, or, implies, group, exists, forall, or one of the operators
     place: tuple = (0, 0)
     parts: list = field(default_factory=list)  # formulas
-    terms: list = field(default_factory=list)
+    terms: list = field(default_factory=list)  # of an operator its variable
     name: str = ""  # of an atom's relation, or a comparison's sign
     binder: Optional[Column] = None
     point: Optional[tuple] = None
+    ends: Optional[tuple] = None  # of once and always
 
 
 @dataclass
@@ -370,7 +372,7 @@ class Query:
     body: Formula
 
 
-def parse_query(data):
+def parse_query(data, is_tense=False):
     lexer = Lexer(data, QUERY_KINDS)
 
     def query():
@@ -398,6 +400,8 @@ def parse_query(data):
             return bracket(place, depth)
         if lexer.sees("name"):
             name = lexer.take("name")
+            if is_tense and name.text in OPERATORS and lexer.sees("name"):
+                return operator(name, depth)
             if lexer.sees("symbol", "("):
                 lexer.symbol("(")
                 terms = lexer.listing(begins_term, term)
@@ -405,6 +409,22 @@ def parse_query(data):
                 return Formula("atom", place, terms=terms, name=name.text)
             return test(place, variable(name))
         return test(place, term())
+
+    def operator(word, depth):
+        named = lexer.take("name")
+        variable = Term("var", named.text, place=named.place)
+        lexer.symbol("(")
+        if word.text in ("since", "until"):
+            parts = [formula(depth + 1)]
+            lexer.symbol(",")
+            parts.append(formula(depth + 1))
+            lexer.symbol(")")
+            return Formula(word.text, word.place, parts, [variable])
+        start = lexer.integer()
+        lexer.symbol(",")
+        end = lexer.integer()
+        lexer.symbol(")")
+        return Formula(word.text, word.place, [formula(depth + 1)], [variable], ends=(start, end))
 
     def bracket(place, depth):
         lexer.symbol("(")
@@ -533,13 +553,17 @@ class Sorts:
                 self.fault("Sort", it.terms[1].place)
 
 
-def read_query(data, relations):
-    query = parse_query(data)
+def check_sorts(query, relations):
     sorts = Sorts(relations)
     sorts.query(query)
     if sorts.faults:
         place, _, kind = min(sorts.faults)
         raise Fault(kind, place)
+
+
+def read_query(data, relations):
+    query = parse_query(data)
+    check_sorts(query, relations)
     return query
 
 

@@ -37,6 +37,8 @@ def runs():
     yield ["explain"], SORTS, left
     yield ["explain"], *example("guard", "always")
     yield ["check"], example("week", "connections")[0], None
+    yield ["decide", "tense=yes"], BUS, b"{ t: time | since t (not bus(t), once t (-3, 4) bus(t)) }"
+    yield ["explain", "tense=yes"], SORTS, b"{ t: time, l: line | always t (0, 9) exists c: city trip(t, l, c) }"
     yield ["check"], b"relation r(t: time) { (5+60n", None
     yield ["check", "civil=yes"], b"relation r(t: time) { (daily 08:15); (on 2024-02-29 08:15); }", None
     dated = ["list", "from=2024-02-26T00:00", "to=2024-03-10T23:59", "civil=yes"]

@@ -63,6 +63,13 @@ CIVIL_POOL = (
 )
 
 
+TENSE_POOL = (
+    *(b"once", b"always", b"since", b"until", b"once always (0, 1)", b"since always (0 < 1, 0 < 1)", b"until until ("),
+    *(b"once (", b"once in 0+1n", b"always =", b"once exists", b"(0, 1)", b"(-1,", b"(0, 0)", b"always until (2, 1)"),
+    *(b"once always (4611686018427387905, 0)", b'once "a"', b"since always (once(0), 0 < 1)", b"(0+1, 2)", b"once n"),
+)
+
+
 def mistaken(chance, text, pool=POOL):
     try:
         places = spans(text)
@@ -89,6 +96,14 @@ def mistakes(program, case, count=3):
         check_database(program, mistaken(case.chance, case.database))
         check_query(program, case.database, mistaken(case.chance, case.query))
         check_query(program, case.database, mistaken(case.chance, mistaken(case.chance, case.query)))
+
+
+def tense_mistakes(program, case, count=3):
+    for _ in range(count):
+        once = mistaken(case.chance, case.query, POOL + 2 * TENSE_POOL)
+        check_query(program, case.database, once, "tense=yes")
+        check_query(program, case.database, mistaken(case.chance, once, POOL + 2 * TENSE_POOL), "tense=yes")
+        check_query(program, case.database, once)
 
 
 def civil_mistakes(program, case, count=3):

@@ -6,11 +6,12 @@ import civil
 from answers import answer_fault
 from common import digest, token
 from invent import Inventor
-from language import quoted, read_database, read_query, relation_text
+from language import quoted, read_database, relation_text
 from meaning import Meaning, TooHard
-from mistakes import civil_mistakes, mistakes
+from mistakes import civil_mistakes, mistakes, tense_mistakes
 from plan import Plan
 from shifted import database_text, query_text
+from tense import read_tense
 
 FAR = 10**15
 
@@ -44,13 +45,13 @@ def split(answer):
 class Case:
     """One random database and query, with what the program has to answer."""
 
-    def __init__(self, seed, budget, is_civil=False):
-        self.chance = random.Random("civil %d" % seed if is_civil else seed)
-        self.is_civil = is_civil
-        inventor = Inventor(self.chance, is_civil)
+    def __init__(self, seed, budget, is_civil=False, is_tense=False):
+        self.chance = random.Random("%s%s%d" % ("civil " * is_civil, "tense " * is_tense, seed))
+        self.is_civil, self.is_tense = is_civil, is_tense
+        inventor = Inventor(self.chance, is_civil, is_tense)
         self.database, self.query = inventor.database().encode(), inventor.query().encode()
         self.relations = read_database(civil.plain_text(self.database) if is_civil else self.database)
-        self.parsed = read_query(self.query, self.relations)
+        self.parsed, self.plain = read_tense(self.query, self.relations, is_tense)
         self.budget = budget
         self.files = {"database": self.database, "query": self.query}
 
@@ -58,10 +59,12 @@ class Case:
         return Meaning(self.relations, self.parsed, self.budget)
 
     def keys(self, command):
-        """The keys of a run. Where no civil value stands, civil=yes changes only how a page shows its times."""
-        if self.is_civil:
-            return ["civil=yes"]
-        return self.chance.choice(([], [], ["civil=no"], [] if command == "list" else ["civil=yes"]))
+        """The keys of a run. Where no civil value stands, civil=yes changes only how a page shows its times; where no
+        operator stands, tense=yes changes nothing."""
+        wider = [] if command == "list" else ["civil=yes"]
+        civil_keys = ["civil=yes"] if self.is_civil else self.chance.choice(([], [], ["civil=no"], wider))
+        tense_keys = ["tense=yes"] if self.is_tense else self.chance.choice(([], ["tense=no"], ["tense=yes"]))
+        return civil_keys + (tense_keys if command != "check" else [])
 
     def ends(self, start, end):
         show = civil.as_end if self.is_civil else str
@@ -109,7 +112,7 @@ def listing(program, case):
                 "limit=%d" % limit,
                 "after=" + behind,
                 "form=" + form,
-                **case.files
+                **case.files,
             )
     times = [
         number + case.chance.randint(-2, 2)
@@ -129,7 +132,7 @@ def moved(program, case):
     while True:
         database, query = database_text(case.relations, by).encode(), query_text(case.parsed, by).encode()
         relations = read_database(database)
-        if not Plan(relations, read_query(query, relations)).refusal():
+        if not Plan(relations, read_tense(query, relations, case.is_tense)[1]).refusal():
             break
         by = by // 2
     far = [tuple(it + by if isinstance(it, int) else it for it in answer) for answer in answers]
@@ -141,13 +144,14 @@ def moved(program, case):
         "from=%d" % (start + by),
         "to=%d" % (end + by),
         "limit=1000000",
+        *(["tense=yes"] if case.is_tense else []),
         database=database,
         query=query,
     )
 
 
 def explain(program, case):
-    plan = Plan(case.relations, case.parsed)
+    plan = Plan(case.relations, case.plain)
     refused = plan.refusal()
     program.expect(
         (refused or plan.text()).encode(), 5 if refused else 0, "explain", *case.keys("explain"), **case.files
@@ -156,7 +160,7 @@ def explain(program, case):
 
 def cap(program, case):
     """The cap at the greatest number of cells, and one below: then the first step with as many is named."""
-    plan = Plan(case.relations, case.parsed, case.budget)
+    plan = Plan(case.relations, case.plain, case.budget)
     cells = [plan.cells(number) for number in range(1, len(plan.steps) + 1)]
     most = max(cells)
     keys = case.keys("decide")
@@ -192,6 +196,12 @@ def civil_faults(program, tally, seeds):
         civil_mistakes(program, Case(seed, 0, is_civil=True))
 
 
+def tense_faults(program, tally, seeds):
+    """The same in queries with operators."""
+    for seed in seeds:
+        tense_mistakes(program, Case(seed, 0, is_tense=True))
+
+
 def compare(program, tally, cases, parts):
     for case in cases:
         for part in parts:
@@ -204,6 +214,14 @@ def compare(program, tally, cases, parts):
 def opinion(program, tally, seeds, budget):
     parts = [explain, decide, listing, moved, cap] + ([ask] if program.has_ask() else [])
     compare(program, tally, (Case(seed, budget) for seed in seeds), parts)
+
+
+def tense_opinion(program, tally, seeds, budget):
+    """Queries with temporal operators, by all commands; some of them over databases that have dates."""
+    cases = (Case(seed, budget, is_civil=seed % 6 == 0, is_tense=True) for seed in seeds)
+    compare(program, tally, cases, [explain, decide, listing, cap, ask])
+    plain = (Case(seed, budget, is_tense=True) for seed in seeds)
+    compare(program, tally, plain, [moved])
 
 
 def check(program, case):

@@ -35,6 +35,10 @@ def formula_text(it, by):
         return "%s %s %s" % (terms[0], it.name, terms[1])
     if it.kind == "member":
         return "%s in %d+%dn" % (terms[0], it.point[0] + by, it.point[1])
+    if it.ends:  # distances stay
+        return "%s %s (%d, %d) %s" % (it.kind, terms[0], *it.ends, parts[0])
+    if it.kind in ("since", "until"):
+        return "%s %s (%s, %s)" % (it.kind, terms[0], *parts)
     if it.kind == "not":
         return "not " + parts[0]
     if it.binder:

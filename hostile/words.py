@@ -16,10 +16,10 @@ REQUIRED = {
     "sample": {"seed", "size"},
 }
 FURTHER = {
-    "ask": {"cap", "civil"},
-    "decide": {"cap", "civil"},
-    "list": {"limit", "after", "form", "cap", "civil"},
-    "explain": {"civil"},
+    "ask": {"cap", "civil", "tense"},
+    "decide": {"cap", "civil", "tense"},
+    "list": {"limit", "after", "form", "cap", "civil", "tense"},
+    "explain": {"civil", "tense"},
     "check": {"civil"},
     "sample": set(),
 }
@@ -31,7 +31,7 @@ RANGES = {
     "from": (-(2**62), 2**62),
     "to": (-(2**62), 2**62),
 }
-CHOICES = {"form": ("plain", "json"), "civil": ("yes", "no")}
+CHOICES = {"form": ("plain", "json"), "civil": ("yes", "no"), "tense": ("yes", "no")}
 VALUES = (
     "",
     "none",
@@ -122,7 +122,21 @@ def random_words(chance):
                 "%s=%s"
                 % (
                     chance.choice(
-                        ("db", "cap", "limit", "form", "seed", "size", "after", "from", "civil", "x", "Db", "db ")
+                        (
+                            "db",
+                            "cap",
+                            "limit",
+                            "form",
+                            "seed",
+                            "size",
+                            "after",
+                            "from",
+                            "civil",
+                            "tense",
+                            "x",
+                            "Db",
+                            "db ",
+                        )
                     ),
                     chance.choice(VALUES),
                 )

@@ -106,6 +106,16 @@ def queries():
     yield "minus signs", filled(b"{ | 0=", b"-", b"}")
 
 
+def tense_queries():
+    yield "once", joined(b"{ t: time | (", b"once t (0,1) s(t)", b" and ", b")}")
+    yield "since", joined(b"{ t: time | (", b"since t (s(t),s(t))", b" and ", b")}")
+    yield "once within one another", filled(b"{ t: time | ", b"once t (0,1) ", b"s(t)}")
+    yield "since within one another", filled(b"{ t: time | ", b"since t (", b"")
+    yield "names of operators", joined(b"{ once: time | (", b"once<=once", b" and ", b")}")
+    yield "operators without a binder", joined(b"{ | (", b"once t (0,1) s(t)", b" and ", b")}")
+    yield "deep operators", filled(b"{ t: time | " + b"once t (0,1) " * 60 + b"(s(t)", b" and s(t)", b")}")
+
+
 class Clock:
     """Runs the program until its first byte or its end, and counts whether that comes in time."""
 
@@ -150,6 +160,9 @@ def reading(program, tally):
     for name, text in queries():
         program.write("query", text)
         clock.run(name, "explain", "db=db", "query=query")
+    for name, text in tense_queries():
+        program.write("query", text)
+        clock.run(name, "explain", "db=db", "query=query", "tense=yes")
     clock.report()
 
 
