@@ -53,7 +53,8 @@ class Guide(unittest.TestCase):
                 with self.subTest(named[0]):
                     self.assertEqual((FOLDER / named[0]).read_text(), block)
                     files.add(named[0])
-        self.assertEqual(files, {"line.lrp", "departures.lrq", "uncovered.lrq", "hourly.lrq", "trips.lrq", "costly.lrq", "dates.lrp", "shifts.lrq"})
+        self.assertEqual(files, {"line.lrp", "departures.lrq", "uncovered.lrq", "hourly.lrq", "trips.lrq", "costly.lrq", "within.lrq",
+                                 "pause.lrq", "road.lrq", "dates.lrp", "shifts.lrq"})
 
 
 BUS = "relation bus(dep: time, arr: time) { (5+60n, 30+60n)%s; }"

@@ -14,6 +14,9 @@ from pathlib import Path
 from support import TOP, environment, need
 
 RESERVED = ["relation", "where", "exists", "forall", "implies", "not", "and", "or", "in"]
+# What stands behind the word of a temporal operator: a name.
+OPERATORS = ["once", "always", "since", "until"]
+BEFORE_NAME = rf"\s+(?!(?:{'|'.join([*RESERVED, 'time', 'data', 'n'])})\b)[A-Za-z_]"
 # The tokens of the language, each with its class; a name's class also hangs on what stands around it.
 TOKENS = re.compile(r"""
     (?P<comment>\#[^\n]*) | (?P<text>"(?:[^"\\\n]|\\.)*") | (?P<number>(?:daily|weekly\ (?:mon|tue|wed|thu|fri|sat|sun)
@@ -27,6 +30,9 @@ CIVIL = 'relation on(daily: time) { # daily 08:15\n' + "".join(f"  ({value});\n"
     "daily 08:15", "daily 24:00", "daily  08:15", "daily 08:155", "_daily 08:15", "-weekly sun 23:59", "weekly mon 8:15",
     "weekly Mon 08:15", "on 2024-02-29 00:00", "on 2024-13-01 00:00", "on 2024-01-00 00:00", "on 24-01-01 00:00",
     "on 2024-12-31 23:59n", '"daily 08:15"')) + "}\n"
+TENSE = """{ always: time | (once always (-5, 0) always always (0, 58) r(always) or since always (not until always (s(), always = 1), s())
+ or once(always) or once in 1+2n or once + 1 < 3 or exists u: once bus(u) or exists since: time once since (0, 0) s()) } # once x
+"""
 VIM = {"comment": "fizhedulComment", "text": "fizhedulText", "number": "fizhedulNumber", "operator": "fizhedulOperator",
        "delimiter": "fizhedulDelimiter", "keyword": "fizhedulKeyword", "type": "fizhedulType", "point": "fizhedulPoint",
        "sort": "fizhedulSort", "relation": "fizhedulRelation", "variable": "fizhedulName", "escape": "fizhedulEscape",
@@ -95,6 +101,8 @@ def class_of_name(name: str, before: str, after: str) -> str:
         return "point"
     if before.rstrip().endswith(":"):
         return "sort"
+    if name in OPERATORS and re.match(BEFORE_NAME, after, re.ASCII):
+        return "keyword"
     return "relation" if after.lstrip().startswith("(") else "variable"
 
 
@@ -136,6 +144,14 @@ def is_text(path: Path) -> bool:
         return False
 
 
+def more_files(folder: Path) -> list[Path]:
+    """Files beside the examples: with faults, with civil values and what is nearly one, with temporal operators."""
+    files = {"faulty.lrp": FAULTY, "civil.lrp": CIVIL, "tense.lrq": TENSE}
+    for name, text in files.items():
+        (folder / name).write_text(text)
+    return [folder / name for name in files]
+
+
 class Editors(unittest.TestCase):
     """Both editors."""
 
@@ -151,17 +167,15 @@ class Editors(unittest.TestCase):
     def test_vim(self):
         vim = need("vim", "+syntax")
         with tempfile.TemporaryDirectory() as name:
-            faulty, civil, dump = Path(name, "faulty.lrp"), Path(name, "civil.lrp"), Path(name, "dump.vim")
+            more, dump = more_files(Path(name)), Path(name, "dump.vim")
             listed, dumped = Path(name, "listed"), Path(name, "dumped")
-            faulty.write_text(FAULTY)
-            civil.write_text(CIVIL)
             dump.write_text(DUMP)
-            listed.write_text("".join(f"{path}\n" for path in [*self.files, faulty, civil]))
+            listed.write_text("".join(f"{path}\n" for path in [*self.files, *more]))
             words = [vim, "-es", "-N", "-u", "NONE", "-i", "NONE", "--cmd", f"set rtp^={TOP}/editors/vim enc=utf-8", "-S", dump]
             subprocess.run(words, stdin=subprocess.DEVNULL, capture_output=True, check=False, timeout=60,
                            env=environment(LISTED=str(listed), DUMPED=str(dumped), HOME=name))
             classes = {Path(path): rows for path, rows in json.loads(dumped.read_text()).items()}
-            for path in [*self.files, faulty, civil]:
+            for path in [*self.files, *more]:
                 self.check_tokens(path, classes[path], VIM)
 
     def test_vim_goes_to_the_place_of_a_fault(self):
@@ -181,10 +195,7 @@ class Editors(unittest.TestCase):
         folder = TOP / "editors/vscode"
         grammar = json.loads((folder / "syntaxes/fizhedul.tmLanguage.json").read_text())
         with tempfile.TemporaryDirectory() as name:
-            faulty, civil = Path(name, "faulty.lrp"), Path(name, "civil.lrp")
-            faulty.write_text(FAULTY)
-            civil.write_text(CIVIL)
-            for path in [*self.files, faulty, civil]:
+            for path in [*self.files, *more_files(Path(name))]:
                 self.check_tokens(path, scopes_of(grammar, text_of(path)), CODE)
 
     def test_the_engine_of_such_editors_reads_the_patterns_as_they_are_read_here(self):

@@ -11,6 +11,8 @@ from support import PROGRAM
 
 DATABASE = 'relation r(t: time, d: line) { (5, "7") where t <= t + 5, t = -1; (-5+60n, "8"); } relation s() { (); }'
 QUERY = '{ t: time, d: line | (r(t, d) and not (t < 5 - 1 implies exists u: time u in -5+60n) and ("7" = d or s() or t + 1 >= -3)) }'
+TENSE = ('{ t: time | (once t (-5, 0) always t (0, 58) not r(t, "7") or since t (not until t (s(), t = 1), once once (0, -1) s())'
+         ' or once(t) or once in 1+2n or once + 1 < 3 or exists u: once s()) }')
 # Token by token what may follow; what begins a formula, a term, a value or a sort.
 SAMPLES = ["x", "7", '"a"', *RESERVED, *"(){},:;|+-<>=", "<=", ">="]
 BEGINS = {
@@ -20,14 +22,14 @@ BEGINS = {
 }
 
 
-def taken(front: str, query: bool, folder: Path) -> set[str]:
+def taken(front: str, query: bool, folder: Path, *keys: str) -> set[str]:
     """Which of the samples the program takes behind the front of a text: its fault stands behind the sample."""
     found = set()
     for sample in SAMPLES:
         text = f"{front} {sample} ?"
         (folder / "a.lrp").write_text(DATABASE if query else text)
         (folder / "b.lrq").write_text(text)
-        words = ["explain", "db=a.lrp", "query=b.lrq"] if query else ["check", "db=a.lrp"]
+        words = ["explain", "db=a.lrp", "query=b.lrq", *keys] if query else ["check", "db=a.lrp"]
         line = subprocess.run([PROGRAM, *words], cwd=folder, capture_output=True, text=True, check=False).stdout
         fault = re.fullmatch(r"refused: (?:query|database) Syntax at 1:(\d+)\n", line)
         if fault is None:
@@ -40,20 +42,24 @@ def taken(front: str, query: bool, folder: Path) -> set[str]:
 class Wanted(unittest.TestCase):
     """At each token of a text."""
 
-    def check_text(self, text: str, query: bool) -> None:
+    def check_text(self, text: str, query: bool, *keys: str) -> None:
         """Cuts the text at each token, and tries every kind of token there."""
         with tempfile.TemporaryDirectory() as name:
             for token in TOKEN.finditer(text):
                 if token.lastgroup:
                     front = text[:token.start()]
-                    said = {sample for word in wanted_at(front, query) for sample in BEGINS.get(word, [word.strip("'")])}
-                    self.assertEqual(taken(front, query, Path(name)), said, front)
+                    wanted = wanted_at(front, query, bool(keys))
+                    said = {sample for word in wanted for sample in BEGINS.get(word, [word.strip("'")])}
+                    self.assertEqual(taken(front, query, Path(name), *keys), said, front)
 
     def test_databases(self):
         self.check_text(DATABASE, False)
 
     def test_queries(self):
         self.check_text(QUERY, True)
+
+    def test_queries_with_temporal_operators(self):
+        self.check_text(TENSE, True, "tense=yes")
 
 
 class Told(unittest.TestCase):

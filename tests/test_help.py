@@ -83,6 +83,20 @@ class Help(unittest.TestCase):
             self.assertEqual((answer.status, answer.out), (0, 'Nonempty\n485, "7"\n'))
 
 
+    def test_the_temporal_operators_of_the_language_page_mean_what_it_says(self):
+        page = (TOP / "share/help/language.txt").read_text()
+        forms = re.findall(r"^((?:once|always|since|until) v \(.*?\)(?: F)?)  +\S", page, re.MULTILINE)
+        self.assertEqual(len(forms), 4)
+        with tempfile.TemporaryDirectory() as name:
+            folder = Path(name)
+            (folder / "a.lrp").write_text("relation f(t: time) { (3+10n); (5+10n); } relation g(t: time) { (4+10n); }")
+            # F holds at 3 and 5 of each ten, G at 4.
+            for form, wanted in zip(forms, ("0 1 2 3 4 5 6 7 8 9", "", "4 5", "3 4")):
+                query = "{ v: time | %s }" % re.sub(r"\bG\b", "g(v)", re.sub(r"\bF\b", "f(v)", form))
+                (folder / "b.lrq").write_text(query)
+                listed = run("list", "db=a.lrp", "query=b.lrq", "from=0", "to=9", "tense=yes", folder=folder).out
+                self.assertEqual(listed.split()[:-1], wanted.split(), query)
+
     def test_the_civil_times_of_the_language_page_mean_what_it_says(self):
         page = (TOP / "share/help/language.txt").read_text()
         values = re.findall(r"^((?:daily|weekly|on) [a-z0-9: -]+?)  +\S", page, re.MULTILINE)

@@ -94,6 +94,8 @@ USAGE = [
     (("list", "db=a", "query=b", "from=0", "to=" + BIG), "to=", f"'{BIG}' is no value of 'to'.", "whole number"),
     (("list", "db=a", "query=b", "from=0", "to=9", "limit=1e3"), "limit=1e3", "'1e3' is no value", "whole number"),
     (("list", "db=a", "query=b", "from=0", "to=9", "form=xml"), "form=xml", "'xml' is no value", "plain or json"),
+    (("check", "db=a", "tense=yes"), "tense=yes", "'check' has no key 'tense'.", "db, civil"),
+    (("ask", "db=a", "query=b", "tense=on"), "tense=on", "'on' is no value of 'tense'.", "no or yes"),
     (("check", "db=a", "civil=true"), "civil=true", "'true' is no value of 'civil'.", "no or yes"),
     (("ask", "db=a", "query=b", "cvil=yes"), "cvil=yes", "'ask' has no key 'cvil'.", "'civil'"),
     (("list", "civil=yes", "db=a", "query=b", "from=5"), "from=5", "'5' is no value of 'from'.", "civil=no beside a number"),
@@ -252,6 +254,27 @@ class Explained(unittest.TestCase):
                 self.assertEqual(told.out, f"refused: database Syntax at 1:{place}\n")
                 self.assertIn(wanted, " ".join(told.err.split()))
 
+    def test_details_of_temporal_operators(self):
+        for formula, keys, wanted in (
+                ("once t (0, 5) bus(t)", [], "Temporal operators, as 'once t (-10, 0) ..', are read with tense=yes."),
+                ("not since t (bus(t), bus(t))", ["tense=no"], "are read with tense=yes."),
+                ("once t (0 5) bus(t)", ["tense=yes"], "Here may stand: ','."),
+                ("once t = 5", ["tense=yes"], "Here may stand: '('."),
+                ("since t (bus(t))", ["tense=yes"], "Here may stand: ','."),
+                ("until t (bus(t), 5)", ["tense=yes"], "Here may stand: 'in', '<=', '>=', '<', '>' or '='."),
+                ("once 5", ["tense=yes"], "Here may stand: a name, '(', '+', '-', 'in',")):
+            with self.subTest(formula), tempfile.TemporaryDirectory() as name:
+                Path(name, "a.lrp").write_text(BUS)
+                Path(name, "b.lrq").write_text(f"{{ t: time | {formula} }}")
+                told = run("explain", "db=a.lrp", "query=b.lrq", *keys, folder=Path(name), explain="always")
+                self.assertRegex(told.out, r"^refused: query Syntax at 1:\d+\n$")
+                self.assertIn(wanted, " ".join(told.err.split()))
+
+    def test_the_step_of_a_query_with_operators(self):
+        words = ["decide", "db=line.lrp", "query=pause.lrq", "tense=yes", "cap=5"]
+        told = run(*words, folder=TOP / "examples/guide", explain="always")
+        self.assertRegex(" ".join(told.err.split()), r"The step is '\d+ [^']*t~1")
+
     def test_the_step_and_the_numbers_of_a_civil_database(self):
         folder = TOP / "examples/dates"
         words = ["decide", "db=rides.lrp", "query=connections.lrq", "civil=yes"]
@@ -292,6 +315,7 @@ class Usage(unittest.TestCase):
         for words in ("check db=a", "ask query=b db=a", "ask db=a query=b cap=1000000000", "list db=a query=b to=0 from=-5",
                       "list db=a query=b from=0 to=0 limit=1000000 after= form=json cap=1", "decide db=a=b query=b",
                       "list db=a query=b from=-4611686018427387904 to=4611686018427387904",
+                      "ask db=a query=b tense=yes civil=no", "explain db=a query=b tense=no",
                       "list db=a query=b from=0001-01-01T00:00 to=9999-12-31T23:59 civil=yes", "check civil=no db=a",
                       "list db=a query=b civil=yes from=2024-02-29T23:59 to=1969-12-31T00:00", "explain db=a query=b civil=yes"):
             self.assertIsNone(find_fault(words.split()), words)

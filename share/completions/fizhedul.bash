@@ -4,13 +4,13 @@
 _fizhedul_keys() {
     local keys=
     case $1 in
-        ask) keys='db query cap civil' ;;
-        decide) keys='db query cap civil' ;;
-        list) keys='db query from to limit after form cap civil' ;;
-        explain) keys='db query civil' ;;
+        ask) keys='db query cap tense civil' ;;
+        decide) keys='db query cap tense civil' ;;
+        list) keys='db query from to limit after form cap tense civil' ;;
+        explain) keys='db query tense civil' ;;
         check) keys='db civil' ;;
-        shell) keys='db civil' ;;
-        draw) keys='db query from to format grid marks hour out cap civil' ;;
+        shell) keys='db tense civil' ;;
+        draw) keys='db query from to format grid marks hour out cap tense civil' ;;
     esac
     echo "$keys"
 }
@@ -33,6 +33,7 @@ _fizhedul_values() {
     case $1 in
         db) endings='lrp' ;;
         query) endings='lrq' ;;
+        tense) values='no yes' ;;
         civil) values='no yes' ;;
         form) values='plain json' ;;
         format) values='html svg png' ;;

@@ -113,7 +113,7 @@ def syntax_of_database(files: dict[str, str], numbers: dict[str, str]) -> str:
 def syntax_of_query(files: dict[str, str], numbers: dict[str, str]) -> str:
     """What may stand where a query has its fault of syntax."""
     text, place = text_to(files.get("query", ""), numbers)
-    return "" if place is None else fault_of_syntax(text, place, True)
+    return "" if place is None else fault_of_syntax(text, place, True, files.get("tense") == "yes")
 
 
 def text_to(file: str, numbers: dict[str, str]) -> tuple[str, int | None]:
@@ -165,7 +165,7 @@ def step_of(program: str, files: dict[str, str], step: str) -> str:
     """The line of the plan for a step, which the program's own `explain` gives without computing anything."""
     if not all(os.path.isfile(files.get(key, "")) for key in ("db", "query")):
         return ""
-    words = [program, "explain", *(f"{key}={files[key]}" for key in ("db", "query", "civil") if key in files)]
+    words = [program, "explain", *(f"{key}={files[key]}" for key in ("db", "query", "tense", "civil") if key in files)]
     try:
         done = subprocess.run(words, stdin=subprocess.DEVNULL, capture_output=True, text=True, timeout=5, check=False)
     except (OSError, subprocess.SubprocessError):

@@ -7,21 +7,24 @@ RESERVED = ("relation", "where", "time", "data", "n", "exists", "forall", "not",
 TOKEN = re.compile(r'[\s]+|#[^\n]*|(?P<name>[A-Za-z_][A-Za-z0-9_]*)|(?P<number>[0-9]+)|'
                    r'(?P<text>"(?:[^"\\\x00-\x1f\x7f]|\\["\\])*")|(?P<symbol><=|>=|[(){},:;|+<>=-])', re.ASCII)
 COMPARISONS = ("<=", ">=", "<", ">", "=")
+OPERATORS = ("once", "always", "since", "until")
 
 
 class Stop(Exception):
     """The place is reached."""
 
 
-def fault_of_syntax(text: str, place: int, query: bool) -> str:
-    """What is known of a fault of syntax at a place of a text."""
+def fault_of_syntax(text: str, place: int, query: bool, is_tense: bool = False) -> str:
+    """What is known of a fault of syntax at a place of a text; a query may have temporal operators."""
     inside = re.search(r'"(?:[^"\\\x00-\x1f\x7f]|\\["\\])*$', without_texts_and_comments(text[:place]))
     if inside:
         return "It stands inside a text, which ends at the next quote of its line; in it \\\" is a quote, \\\\ is a \\."
     found = TOKEN.match(text, place)
     if place < len(text) and found is None:
         return f"{text[place]!r} begins no token of the language."
-    wanted = wanted_at(text[:place], query)
+    if query and not is_tense and is_operator(text, place):
+        return "Temporal operators, as 'once t (-10, 0) ..', are read with tense=yes."
+    wanted = wanted_at(text[:place], query, is_tense)
     if found and "a name" in wanted and found.group() in RESERVED:
         return f"'{found.group()}' is a word of the language, and can't be a name."
     return "Here may stand: " + " or ".join(filter(None, [", ".join(wanted[:-1]), wanted[-1]])) + "." if wanted else ""
@@ -32,9 +35,17 @@ def without_texts_and_comments(text: str) -> str:
     return re.sub(r'"(?:[^"\\\x00-\x1f\x7f]|\\["\\])*"|#[^\n]*', " ", text)
 
 
-def wanted_at(front: str, query: bool) -> list[str]:
+def is_operator(text: str, place: int) -> bool:
+    """Whether the token at a place is the name behind the word of a temporal operator."""
+    before = [found.group() for found in TOKEN.finditer(text[:place]) if found.lastgroup]
+    name = TOKEN.match(text, place)
+    is_name = name is not None and name.lastgroup == "name" and name.group() not in RESERVED
+    return is_name and before[-1:] != [] and before[-1] in OPERATORS
+
+
+def wanted_at(front: str, query: bool, is_tense: bool = False) -> list[str]:
     """What may follow the front of a database or a query."""
-    reader = Reader([found for found in TOKEN.finditer(front) if found.lastgroup])
+    reader = Reader([found for found in TOKEN.finditer(front) if found.lastgroup], is_tense)
     try:
         if query:
             reader.query()
@@ -48,8 +59,9 @@ def wanted_at(front: str, query: bool) -> list[str]:
 class Reader:
     """Reads tokens by the grammar up to their end, and keeps what was looked for there."""
 
-    def __init__(self, tokens: list[re.Match[str]]):
+    def __init__(self, tokens: list[re.Match[str]], is_tense: bool):
         self.tokens = tokens
+        self.is_tense = is_tense
         self.next = 0
         self.wanted: list[str] = []
 
@@ -152,10 +164,25 @@ class Reader:
         elif self.at("("):
             self.group()
         elif self.at("a name"):
-            self.atom_or_test()
+            word = self.tokens[self.next - 1].group()
+            if self.is_tense and word in OPERATORS and self.at("a name"):
+                self.operator(word)
+            else:
+                self.atom_or_test()
         else:
             self.term()
             self.test()
+
+    def operator(self, word: str) -> None:
+        """What goes on behind a temporal operator and its variable."""
+        self.need("(")
+        item = self.formula if word in ("since", "until") else self.integer
+        item()
+        self.need(",")
+        item()
+        self.need(")")
+        if word in ("once", "always"):
+            self.formula()
 
     def group(self) -> None:
         """Formulas in parentheses, joined by one word."""
