@@ -8,6 +8,8 @@ syntax case match
 syntax match fizhedulError /[^ \t\r]/
 syntax match fizhedulName /\h\w*/
 syntax match fizhedulRelation /\h\w*\ze\s*(/
+" The word of a temporal operator stands before a name; behind a colon it is a sort.
+syntax match fizhedulKeyword /\(once\|always\|since\|until\)\ze\s\+\(\(relation\|where\|time\|data\|n\|exists\|forall\|implies\|not\|and\|or\|in\)\w\@!\)\@!\h/
 syntax match fizhedulSort /\(:\s*\)\@<=\h\w*/
 syntax match fizhedulType /\(time\|data\)\w\@!/
 syntax match fizhedulPoint /n\w\@!/
