@@ -4,6 +4,7 @@ from pygments.formatters import HtmlFormatter, TerminalFormatter
 from pygments.lexer import RegexLexer
 from pygments.token import Comment, Keyword, Name, Number, Operator, Punctuation, String, Text
 
+OPERATORS = ["once", "always", "since", "until"]
 KEYWORDS = ["relation", "where", "exists", "forall", "not", "and", "or", "implies", "in"]
 SORTS = ["time", "data"]
 
@@ -23,6 +24,8 @@ class LrpLexer(RegexLexer):  # type: ignore[misc]
             (r"\d+", Number),
             (r"\b(?:" + "|".join(KEYWORDS) + r")\b", Keyword),
             (r"\b(?:" + "|".join(SORTS) + r")\b", Keyword.Type),
+            # Of an operator a name comes next, and a bracket behind it.
+            (r"\b(?:" + "|".join(OPERATORS) + r")(?=\s+[A-Za-z_][A-Za-z0-9_]*\s*\()", Keyword),
             (r"[A-Za-z_][A-Za-z0-9_]*(?=\s*\()", Name.Function),
             (r"[A-Za-z_][A-Za-z0-9_]*", Name),
             (r"<=|>=|[<>=+-]", Operator),

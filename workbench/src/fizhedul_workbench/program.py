@@ -41,7 +41,8 @@ class Page:
 
 @dataclass(frozen=True)
 class Question:
-    """A query over a database, by their files, in a window of time; with civil times, which have dates, or without."""
+    """A query over a database, by their files, in a window of time; with or without civil times, which have dates, and
+    temporal operators."""
 
     database: str
     query: str
@@ -49,12 +50,13 @@ class Question:
     last: int
     cap: int | None = None
     is_civil: bool = False
+    is_tense: bool = False
 
     def words(self, command: str) -> list[str]:
         """The words of a command without a window."""
         cap = [f"cap={self.cap}"] if self.cap and command != "explain" else []
-        civil = ["civil=yes"] if self.is_civil else []
-        return [command, f"db={self.database}", f"query={self.query}", *cap, *civil]
+        keys = ["tense=yes"] * self.is_tense + ["civil=yes"] * self.is_civil
+        return [command, f"db={self.database}", f"query={self.query}", *cap, *keys]
 
     def listing(self, limit: int, after: str | None) -> list[str]:
         """The words that list a page of the window, in JSON form."""

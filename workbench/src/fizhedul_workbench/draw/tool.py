@@ -35,7 +35,7 @@ def drawing(question: Question, look: Look) -> bytes:
 
 def draw_tool(words: Sequence[str]) -> None:
     """Draws a window of a query's answers, to a file or to standard output."""
-    found = keyed(words, [*KEYS, "format", "marks", "hour", "grid", "out", "cap", "civil"], KEYS)
+    found = keyed(words, [*KEYS, "format", "marks", "hour", "grid", "out", "cap", "civil", "tense"], KEYS)
     is_civil = is_chosen(found, "civil")
     look = Look(
         choice(found, "format", "html", ["html", "svg", "png"]),
@@ -47,7 +47,8 @@ def draw_tool(words: Sequence[str]) -> None:
         raise usage("with civil=yes an hour has 60 steps of time")
     first, last = read_window(found, 0, 0, is_civil)
     cap = whole(found, "cap", 1_000_000, 1, 1_000_000_000)
-    content = drawing(Question(found["db"], found["query"], first, last, cap, is_civil), look)
+    question = Question(found["db"], found["query"], first, last, cap, is_civil, is_chosen(found, "tense"))
+    content = drawing(question, look)
     if "out" in found:
         put_file(found["out"], content)
     else:

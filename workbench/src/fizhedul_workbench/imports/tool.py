@@ -17,7 +17,7 @@ IMPORTS = """fizhedul import gtfs FOLDER-or-ZIP [out=FILE] [local=yes] [line=ID,
 fizhedul import ics FILE [out=FILE] [local=yes] [zone=NAME] [uid=UID,..]
 fizhedul import csv FILE [out=FILE] [name=NAME]
 each with civil=yes, if wanted, for civil values"""
-EXPORTS = "fizhedul export csv db=FILE query=FILE from=A to=B [out=FILE] [cap=N] [civil=yes]"
+EXPORTS = "fizhedul export csv db=FILE query=FILE from=A to=B [out=FILE] [cap=N] [tense=yes] [civil=yes]"
 
 
 def import_gtfs(source: str, words: Sequence[str]) -> tuple[Imported, str | None]:
@@ -82,9 +82,9 @@ def export_tool(words: Sequence[str]) -> None:
     if not words or words[0] != "csv":
         raise usage("an export is\n" + EXPORTS)
     keys = ["db", "query", "from", "to"]
-    found = keyed(words[1:], [*keys, "out", "cap", "civil"], keys)
+    found = keyed(words[1:], [*keys, "out", "cap", "civil", "tense"], keys)
     is_civil = is_chosen(found, "civil")
     first, last = read_window(found, 0, 0, is_civil)
     cap = whole(found, "cap", 1_000_000, 1, 1_000_000_000)
-    pieces = csv_pieces(Question(found["db"], found["query"], first, last, cap, is_civil))
-    put("".join(pieces), found.get("out"))
+    question = Question(found["db"], found["query"], first, last, cap, is_civil, is_chosen(found, "tense"))
+    put("".join(csv_pieces(question)), found.get("out"))

@@ -12,7 +12,7 @@ from prompt_toolkit.history import FileHistory, History, InMemoryHistory
 from prompt_toolkit.key_binding import KeyBindings, KeyPressEvent
 from prompt_toolkit.lexers import PygmentsLexer
 
-from ..lexer import KEYWORDS, SORTS, LrpLexer
+from ..lexer import KEYWORDS, OPERATORS, SORTS, LrpLexer
 from ..queries import variables
 from .session import Session
 
@@ -45,7 +45,9 @@ class Words(Completer):
         if text.lstrip().startswith("."):
             choices = self.commands if word.startswith(".") else []
         else:
-            choices = [*self.session.names, *variables(document.text), *SORTS, *self.session.sorts, *KEYWORDS]
+            operators = OPERATORS if self.session.is_tense else []
+            names = [*self.session.names, *variables(document.text)]
+            choices = [*names, *SORTS, *self.session.sorts, *KEYWORDS, *operators]
         for choice in dict.fromkeys(choices):
             if word and choice.startswith(word) and choice != word:
                 yield Completion(choice, start_position=-len(word))

@@ -25,6 +25,7 @@ class Session:
     limit: int = 20
     cap: int = 1_000_000
     is_civil: bool = False
+    is_tense: bool = False
     is_colourful: bool = False
     query: str = ""
     more: str | None = None
@@ -34,7 +35,7 @@ class Session:
 
     def question(self) -> Question:
         query = str(self.folder / "query.lrq")
-        return Question(self.database, query, self.first, self.last, self.cap, self.is_civil)
+        return Question(self.database, query, self.first, self.last, self.cap, self.is_civil, self.is_tense)
 
     def check_words(self) -> list[str]:
         return ["check", f"db={self.database}", *(["civil=yes"] if self.is_civil else [])]
@@ -180,6 +181,15 @@ def set_civil(session: Session, rest: str) -> None:
         session.is_civil, session.more = rest == "on", None
         if read_names(session) and session.query:
             show_page(session, None)
+
+
+def set_tense(session: Session, rest: str) -> None:
+    """Whether queries may have temporal operators."""
+    if rest in ("on", "off"):
+        session.is_tense, session.more = rest == "on", None
+    else:
+        now = "on" if session.is_tense else "off"
+        say(f"temporal operators are {now}; .tense on and .tense off change that")
 
 
 def set_cap(session: Session, rest: str) -> None:

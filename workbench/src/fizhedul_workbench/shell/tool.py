@@ -14,6 +14,7 @@ from .session import Session, say
 HELP = """A line is a query, as { t: time | bus(t) }; it goes on while a bracket is open.
 .next           the next page
 .window A B     the times that are shown, from A to B
+.tense on|off   whether queries may have temporal operators
 .civil on|off   whether times are minutes since 1970 and shown as dates
 .decide         the least answer of all, or Empty
 .ask            the whole answer, as a relation
@@ -34,6 +35,7 @@ COMMANDS: dict[str, Act] = {
     ".ask": lambda session, _: acts.write_output(session, "ask"),
     ".explain": lambda session, _: acts.write_output(session, "explain"),
     ".civil": acts.set_civil,
+    ".tense": acts.set_tense,
     ".cap": acts.set_cap,
     ".tables": acts.show_tables,
     ".open": acts.open_database,
@@ -92,10 +94,10 @@ def loop(session: Session, entries: Iterator[str]) -> None:
 
 def shell_tool(words: Sequence[str]) -> None:
     """A session over one database; piped input is read without prompts and colours."""
-    found = keyed(words, ["db", "from", "to", "limit", "cap", "civil"], ["db"])
+    found = keyed(words, ["db", "from", "to", "limit", "cap", "civil", "tense"], ["db"])
     with tempfile.TemporaryDirectory(prefix="fizhedul-") as folder:
         session = Session(found["db"], Path(folder))
-        session.is_civil = is_chosen(found, "civil")
+        session.is_civil, session.is_tense = is_chosen(found, "civil"), is_chosen(found, "tense")
         session.first, session.last = read_window(found, session.first, session.last, session.is_civil)
         session.limit = whole(found, "limit", session.limit, 1, 1_000_000)
         session.cap = whole(found, "cap", session.cap, 1, 1_000_000_000)
