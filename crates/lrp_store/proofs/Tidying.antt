@@ -1,10 +1,10 @@
 -- Zones that lie within another one are dropped from a list, one after the other.
-use Rattle.std.proofs.Common.{◌≡◌, ◌≢◌, ℕ, zero, suc, ◌+◌, ◌-◌, ◌<◌, ◌≤◌, ◌⊎◌, inl, inr, List, [], length, take, drop, Option, Some, None, option_map, OnSome, cond, ltb, refl, sym, ap, subst, ◌∙◌, arith, get_or}
+use Rattle.std.proofs.Common.{◌≡◌, ◌≢◌, ℕ, zero, suc, ◌+◌, ◌-◌, ◌<◌, ◌≤◌, ◌⊎◌, inl, inr, List, [], ◌∷◌, Contains, length, take, drop, Option, Some, None, option_map, OnSome, cond, ltb, refl, sym, ap, subst, ◌∙◌, arith, get_or}
 use Rattle.std.specs.Prelude.{slice_get, slice_index_or}
 use Rattle.std.specs.List.{remove}
 use Rattle.std.specs.FinMap as finite
 use Rattle.std.proofs.lemmas.Bool.{cases_lt, cases_eq, lt-ltb, le-ltb}
-use Rattle.std.proofs.lemmas.List.{length-append, length-take-le, length-drop, get_or_append_left, get_or-append_right, get_or-take, get_or-drop}
+use Rattle.std.proofs.lemmas.List.{length-append, length-take-le, length-drop, get_or_append_left, get_or-append_right, get_or-take, get_or-drop, drop_more}
 use Rattle.std.proofs.lemmas.Option.{slice_get-map, slice_get-get_or}
 use Rattle.lrp_model.specs.declared.tuples.Cell.{Cell}
 use Rattle.lrp_slots.specs.Lists.{set_list, list_at}
@@ -12,7 +12,8 @@ use Rattle.lrp_zone.specs.Zones.{ZoneView}
 use Rattle.lrp_zone.specs.Pairs.{IsWithin, IsOfCell}
 use Rattle.lrp_store.specs.Stores.{StoreView, zone_of, tables_at, zones_at}
 use Rattle.lrp_store.specs.Tidied.{nth_zone, IsCovered, IsTidied}
-use Rattle.lrp_store.proofs.Held.{Table, get_set, list_set}
+use Rattle.lrp_store.proofs.Held.{Table, get_set, list_set, Contains-from_get}
+use Rattle.lrp_store.proofs.Aligning.{zone_read}
 
 -- the old number of the element k once the element i is gone
 abbrev pub skip : ℕ → ℕ → ℕ
@@ -220,3 +221,26 @@ module _ (s now new : StoreView) (cell : Cell) (i : ℕ) (low : i < length (tabl
     -- it is one shorter
     pub length_then : length (tables_at new cell) + 1 ≡ length (tables_at now cell)
     length_then = ap (λ l. length l + 1) list_then ∙ length-remove (tables_at now cell) i low
+
+-- the table that is read next, and those behind it
+pub read_next : (ts left new : List Table) (j : ℕ) (t : Table) → left ≡ drop j ts → j < length ts → left ≡ t ∷ new → (t ≡ get_or ts j []) × (new ≡ drop (j + 1) ts)
+read_next ts left new j t e low s = both t (get_or ts j []) new (drop (j + 1) ts) (sym s ∙ e ∙ drop_more ts j [] low)
+  where
+    both : (x y : Table) (xs ys : List Table) → x ∷ xs ≡ y ∷ ys → (x ≡ y) × (xs ≡ ys)
+    both x y xs ys h = (cc, cc)
+
+-- there is one at each place
+pub none_left : (ts left : List Table) (j : ℕ) → left ≡ drop j ts → j < length ts → left ≡ [] → ⊥
+none_left ts left j e low s = empty (get_or ts j []) (drop (j + 1) ts) (sym s ∙ e ∙ drop_more ts j [] low)
+  where
+    empty : (x : Table) (xs : List Table) → [] ≡ x ∷ xs → ⊥
+    empty x xs h = cc
+
+-- it is one of the cell's
+pub next_held : (ts left new : List Table) (j : ℕ) (t : Table) → left ≡ drop j ts → j < length ts → left ≡ t ∷ new → Contains ts t
+next_held ts left new j t e low s = Contains-from_get ts j t (slice_get-get_or ts j [] low ∙ ap Some (sym (read_next ts left new j t e low s).0))
+
+-- and its zone is that with the number
+pub next_zone : (s now : StoreView) → s ≡ now → (c : Cell) (left new : List Table) (j : ℕ) (t : Table) (times : ℕ) (z : ZoneView) → left ≡ drop j (tables_at now c) → j < length (tables_at now c) → left ≡ t ∷ new → times ≡ s.shape.times
+    → z ≡ record { period = s.period; residues = take times c.residues; bounds = t } → z ≡ nth_zone now c (tables_at now c) j
+next_zone s now same c left new j t times z e low st et ez = zone_read s now same c t times z et ez ∙ ap (zone_of now c) (read_next (tables_at now c) left new j t e low st).0

@@ -31,16 +31,20 @@ impl Store {
         requires { i < length (tables_at self.now cell.now) }
         ensures { IsTrue result ↔ IsCovered self.now cell.now i }
     {
+        self.shape();
+        let times = usize::from(self.shape.times);
         let Some(zone) = self.zone(cell, i) else {
             return false;
         };
+        let mut rest = self.slots.iter(cell);
         for j in 0..self.count(cell) {
+            let Some(bounds) = rest.next() else {
+                unreachable!()
+            };
             if j == i {
                 continue;
             }
-            let Some(other) = self.zone(cell, j) else {
-                continue;
-            };
+            let other = bounds.zone(self.period, &cell.residues[..times]);
             if zone.within(&other) {
                 return true;
             }

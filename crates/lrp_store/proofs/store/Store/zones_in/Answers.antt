@@ -1,5 +1,4 @@
 -- One zone more is read.
-use Rattle.std.proofs.Common.{◌≡◌, sym, ◌∙◌}
 use Rattle.lrp_store.proofs.Aligning.{zone_read, zone_valid, head_in, tail_in}
 use Rattle.lrp_store.proofs.ZonesRead.{one_read, all_read}
 use Rattle.lrp_store.proofs.store.Store.zones_in.Goals as goal
