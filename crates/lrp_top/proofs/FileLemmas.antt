@@ -43,15 +43,15 @@ long_bytes (Some held) name h = (content_of held name, (λ other e. ap (λ k. co
 pub read_of : (civil : Bool) (seen : ShelfSeen) (name : Identifier) (bytes : List ℕ) (result : Result (Source (List Relation)) Refusal) → AreBytesOf seen name bytes → ((s : ShelfSeen) (n : Identifier) → IsDatabaseReadOf civil s n bytes result) → IsDatabaseRead civil seen name result
 read_of civil seen name bytes result told each = record { bytes = bytes; told = told; is = each seen name }
 
-pub asked_of : (db : List Relation) (seen : ShelfSeen) (name : Identifier) (bytes : List ℕ) (result : Result (Source Question) Refusal) → AreBytesOf seen name bytes → ((s : ShelfSeen) (n : Identifier) → IsQueryReadOf db s n bytes result) → IsQueryRead db seen name result
-asked_of db seen name bytes result told each = record { bytes = bytes; told = told; is = each seen name }
+pub asked_of : (tense : Bool) (db : List Relation) (seen : ShelfSeen) (name : Identifier) (bytes : List ℕ) (result : Result (Source Question) Refusal) → AreBytesOf seen name bytes → ((s : ShelfSeen) (n : Identifier) → IsQueryReadOf tense db s n bytes result) → IsQueryRead tense db seen name result
+asked_of tense db seen name bytes result told each = record { bytes = bytes; told = told; is = each seen name }
 
 -- a database or a query that is too long
 pub long_database : (civil : Bool) (seen : ShelfSeen) (name : Identifier) → ((held : List File) → seen.files ≡ Some held → 16777216 < length (content_of held name)) → seen.may_be name ≡ true → 16777216 < seen.given → IsDatabaseRead civil seen name (Err LongDatabase)
 long_database civil seen name h named many = let l = long_bytes seen.files name h in record { bytes = l.0; told = l.1; is = (l.2, record { named = named; many = many }) }
 
-pub long_query : (relations : List Relation) (seen : ShelfSeen) (name : Identifier) → ((held : List File) → seen.files ≡ Some held → 16777216 < length (content_of held name)) → seen.may_be name ≡ true → 16777216 < seen.given → IsQueryRead relations seen name (Err LongQuery)
-long_query relations seen name h named many = let l = long_bytes seen.files name h in record { bytes = l.0; told = l.1; is = (l.2, record { named = named; many = many }) }
+pub long_query : (tense : Bool) (relations : List Relation) (seen : ShelfSeen) (name : Identifier) → ((held : List File) → seen.files ≡ Some held → 16777216 < length (content_of held name)) → seen.may_be name ≡ true → 16777216 < seen.given → IsQueryRead tense relations seen name (Err LongQuery)
+long_query tense relations seen name h named many = let l = long_bytes seen.files name h in record { bytes = l.0; told = l.1; is = (l.2, record { named = named; many = many }) }
 
 -- a file that was not read, and want of memory
 pub unread_database : (civil : Bool) (seen : ShelfSeen) (name : Identifier) → Rose (seen.faults_before name) (seen.faults name) → IsDatabaseRead civil seen name (Err ReadDatabase)
@@ -61,11 +61,11 @@ pub no_memory : (civil : Bool) (seen : ShelfSeen) (name : Identifier) → IsData
 no_memory civil seen name = let b = some_bytes seen.files name in record { bytes = b.0; told = b.1; is = tt }
 
 -- the same of a query
-pub unread_query : (relations : List Relation) (seen : ShelfSeen) (name : Identifier) → Rose (seen.faults_before name) (seen.faults name) → IsQueryRead relations seen name (Err ReadQuery)
-unread_query relations seen name rose = let b = some_bytes seen.files name in record { bytes = b.0; told = b.1; is = rose }
+pub unread_query : (tense : Bool) (relations : List Relation) (seen : ShelfSeen) (name : Identifier) → Rose (seen.faults_before name) (seen.faults name) → IsQueryRead tense relations seen name (Err ReadQuery)
+unread_query tense relations seen name rose = let b = some_bytes seen.files name in record { bytes = b.0; told = b.1; is = rose }
 
-pub no_query_memory : (relations : List Relation) (seen : ShelfSeen) (name : Identifier) → IsQueryRead relations seen name (Err Memory)
-no_query_memory relations seen name = let b = some_bytes seen.files name in record { bytes = b.0; told = b.1; is = tt }
+pub no_query_memory : (tense : Bool) (relations : List Relation) (seen : ShelfSeen) (name : Identifier) → IsQueryRead tense relations seen name (Err Memory)
+no_query_memory tense relations seen name = let b = some_bytes seen.files name in record { bytes = b.0; told = b.1; is = tt }
 
 -- a file whose given bytes are few is not overrun
 pub few_given : {P : Type 0} (seen : ShelfSeen) (name : Identifier) → IsOverrun seen name → seen.given ≤ 16777216 → P

@@ -29,51 +29,51 @@ abbrev pub since : Option (List File) → (Identifier → ℕ) → ShelfSeen →
 since files before seen = record { files = files; faults_before = before; faults = seen.faults; given = seen.given; may_be = seen.may_be }
 
 -- what holds from a later count on holds from an earlier one on
-asked_of : (db : List Relation) (seen : ShelfSeen) (files : Option (List File)) (before : Identifier → ℕ) (name : Identifier) (bytes : List ℕ) (result : Result (Source Queried) Refusal) → before name ≤ seen.faults_before name → IsQueryReadOf db seen name bytes result → IsQueryReadOf db (since files before seen) name bytes result
-asked_of db seen files before name bytes (Ok q) l h = h
-asked_of db seen files before name bytes (Err Usage) l h = h
-asked_of db seen files before name bytes (Err ReadDatabase) l h = h
-asked_of db seen files before name bytes (Err LongDatabase) l h = h
-asked_of db seen files before name bytes (Err (Database fault)) l h = h
-asked_of db seen files before name bytes (Err ReadQuery) l h = rose_later (before name) (seen.faults_before name) (seen.faults name) l h
-asked_of db seen files before name bytes (Err LongQuery) l h = (h.0, record { named = h.1.named; many = h.1.many })
-asked_of db seen files before name bytes (Err (Query fault)) l h = h
-asked_of db seen files before name bytes (Err PeriodLimit) l h = h
-asked_of db seen files before name bytes (Err BoundLimit) l h = h
-asked_of db seen files before name bytes (Err TokenForm) l h = h
-asked_of db seen files before name bytes (Err TokenShape) l h = h
-asked_of db seen files before name bytes (Err TokenStale) l h = h
-asked_of db seen files before name bytes (Err (Cells cap step)) l h = h
-asked_of db seen files before name bytes (Err Memory) l h = h
+asked_of : (tense : Bool) (db : List Relation) (seen : ShelfSeen) (files : Option (List File)) (before : Identifier → ℕ) (name : Identifier) (bytes : List ℕ) (result : Result (Source Queried) Refusal) → before name ≤ seen.faults_before name → IsQueryReadOf tense db seen name bytes result → IsQueryReadOf tense db (since files before seen) name bytes result
+asked_of tense db seen files before name bytes (Ok q) l h = h
+asked_of tense db seen files before name bytes (Err Usage) l h = h
+asked_of tense db seen files before name bytes (Err ReadDatabase) l h = h
+asked_of tense db seen files before name bytes (Err LongDatabase) l h = h
+asked_of tense db seen files before name bytes (Err (Database fault)) l h = h
+asked_of tense db seen files before name bytes (Err ReadQuery) l h = rose_later (before name) (seen.faults_before name) (seen.faults name) l h
+asked_of tense db seen files before name bytes (Err LongQuery) l h = (h.0, record { named = h.1.named; many = h.1.many })
+asked_of tense db seen files before name bytes (Err (Query fault)) l h = h
+asked_of tense db seen files before name bytes (Err PeriodLimit) l h = h
+asked_of tense db seen files before name bytes (Err BoundLimit) l h = h
+asked_of tense db seen files before name bytes (Err TokenForm) l h = h
+asked_of tense db seen files before name bytes (Err TokenShape) l h = h
+asked_of tense db seen files before name bytes (Err TokenStale) l h = h
+asked_of tense db seen files before name bytes (Err (Cells cap step)) l h = h
+asked_of tense db seen files before name bytes (Err Memory) l h = h
 
-pub asked_since : (db : List Relation) (seen : ShelfSeen) (files : Option (List File)) (before : Identifier → ℕ) (name : Identifier) (result : Result (Source Queried) Refusal) → IsQueryRead db seen name result → files ≡ seen.files → before name ≤ seen.faults_before name → IsQueryRead db (since files before seen) name result
-asked_since db seen files before name result h e l = record {
+pub asked_since : (tense : Bool) (db : List Relation) (seen : ShelfSeen) (files : Option (List File)) (before : Identifier → ℕ) (name : Identifier) (result : Result (Source Queried) Refusal) → IsQueryRead tense db seen name result → files ≡ seen.files → before name ≤ seen.faults_before name → IsQueryRead tense db (since files before seen) name result
+asked_since tense db seen files before name result h e l = record {
   bytes = h.bytes;
   told = λ held f. h.told held (sym e ∙ f);
-  is = asked_of db seen files before name h.bytes result l h.is;
+  is = asked_of tense db seen files before name h.bytes result l h.is;
 }
 
 -- where a database and a query over it were read, and the query was planned, the rest is due of them
-pub question_read : {B : Type 0} (civil : Bool) (seen : ShelfSeen) (database query : Identifier) (d : Source (List Relation)) (q : Source Queried) (p : Plan) (Next : Source (List Relation) → Source Queried → Plan → Result B Refusal → Type 0) (result : Result B Refusal)
-    → IsDatabaseRead civil seen database (Ok d) → IsQueryRead d.says seen query (Ok q) → IsPlanned d.says q.says (Ok p) → Next d q p result → IsPlannedFor civil seen database query Next result
-question_read civil seen database query d q p Next result r a planned n = record { first = Ok d; is = r; next = record { first = Ok q; is = a; next = record { first = Ok p; is = planned; next = n } } }
+pub question_read : {B : Type 0} (tense civil : Bool) (seen : ShelfSeen) (database query : Identifier) (d : Source (List Relation)) (q : Source Queried) (p : Plan) (Next : Source (List Relation) → Source Queried → Plan → Result B Refusal → Type 0) (result : Result B Refusal)
+    → IsDatabaseRead civil seen database (Ok d) → IsQueryRead tense d.says seen query (Ok q) → IsPlanned d.says q.says (Ok p) → Next d q p result → IsPlannedFor tense civil seen database query Next result
+question_read tense civil seen database query d q p Next result r a planned n = record { first = Ok d; is = r; next = record { first = Ok q; is = a; next = record { first = Ok p; is = planned; next = n } } }
 
 -- a query that was not planned is refused behind its database and its text
-pub plan_refused : {B : Type 0} (civil : Bool) (seen : ShelfSeen) (database query : Identifier) (d : Source (List Relation)) (q : Source Queried) (refusal : Refusal) (Next : Source (List Relation) → Source Queried → Plan → Result B Refusal → Type 0)
-    → IsDatabaseRead civil seen database (Ok d) → IsQueryRead d.says seen query (Ok q) → IsPlanned d.says q.says (Err refusal) → IsPlannedFor civil seen database query Next (Err refusal)
-plan_refused civil seen database query d q refusal Next r a planned = record { first = Ok d; is = r; next = record { first = Ok q; is = a; next = record { first = Err refusal; is = planned; next = refl } } }
+pub plan_refused : {B : Type 0} (tense civil : Bool) (seen : ShelfSeen) (database query : Identifier) (d : Source (List Relation)) (q : Source Queried) (refusal : Refusal) (Next : Source (List Relation) → Source Queried → Plan → Result B Refusal → Type 0)
+    → IsDatabaseRead civil seen database (Ok d) → IsQueryRead tense d.says seen query (Ok q) → IsPlanned d.says q.says (Err refusal) → IsPlannedFor tense civil seen database query Next (Err refusal)
+plan_refused tense civil seen database query d q refusal Next r a planned = record { first = Ok d; is = r; next = record { first = Ok q; is = a; next = record { first = Err refusal; is = planned; next = refl } } }
 
 -- a refused query is refused behind its database
-pub query_refused : {B : Type 0} (civil : Bool) (seen : ShelfSeen) (database query : Identifier) (d : Source (List Relation)) (refusal : Refusal) (Next : Source (List Relation) → Source Queried → Plan → Result B Refusal → Type 0)
-    → IsDatabaseRead civil seen database (Ok d) → IsQueryRead d.says seen query (Err refusal) → IsPlannedFor civil seen database query Next (Err refusal)
-query_refused civil seen database query d refusal Next r a = record { first = Ok d; is = r; next = record { first = Err refusal; is = a; next = refl } }
+pub query_refused : {B : Type 0} (tense civil : Bool) (seen : ShelfSeen) (database query : Identifier) (d : Source (List Relation)) (refusal : Refusal) (Next : Source (List Relation) → Source Queried → Plan → Result B Refusal → Type 0)
+    → IsDatabaseRead civil seen database (Ok d) → IsQueryRead tense d.says seen query (Err refusal) → IsPlannedFor tense civil seen database query Next (Err refusal)
+query_refused tense civil seen database query d refusal Next r a = record { first = Ok d; is = r; next = record { first = Err refusal; is = a; next = refl } }
 
 -- what is due of a plan is due of the question that was made of it
-pub question_due : {B : Type 0} (civil : Bool) (seen : ShelfSeen) (database query : Identifier) (question : Question) (Next : Source (List Relation) → Source Queried → Plan → Result B Refusal → Type 0) (result : Result B Refusal)
-    → IsPlannedFor civil seen database query IsMadeOf (Ok question) → Next (database_source question.database) (query_source question.query) question.plan result → IsPlannedFor civil seen database query Next result
-question_due {B} civil seen database query question Next result h n =
-    mapped (IsDatabaseRead civil seen database) (λ d. Then (IsQueryRead d.says seen query) (λ q. Then (IsPlanned d.says q.says) (IsMadeOf d q))) (λ d. Then (IsQueryRead d.says seen query) (λ q. Then (IsPlanned d.says q.says) (Next d q))) (Ok question) result
-    (λ d. mapped (IsQueryRead d.says seen query) (λ q. Then (IsPlanned d.says q.says) (IsMadeOf d q)) (λ q. Then (IsPlanned d.says q.says) (Next d q)) (Ok question) result
+pub question_due : {B : Type 0} (tense civil : Bool) (seen : ShelfSeen) (database query : Identifier) (question : Question) (Next : Source (List Relation) → Source Queried → Plan → Result B Refusal → Type 0) (result : Result B Refusal)
+    → IsPlannedFor tense civil seen database query IsMadeOf (Ok question) → Next (database_source question.database) (query_source question.query) question.plan result → IsPlannedFor tense civil seen database query Next result
+question_due {B} tense civil seen database query question Next result h n =
+    mapped (IsDatabaseRead civil seen database) (λ d. Then (IsQueryRead tense d.says seen query) (λ q. Then (IsPlanned d.says q.says) (IsMadeOf d q))) (λ d. Then (IsQueryRead tense d.says seen query) (λ q. Then (IsPlanned d.says q.says) (Next d q))) (Ok question) result
+    (λ d. mapped (IsQueryRead tense d.says seen query) (λ q. Then (IsPlanned d.says q.says) (IsMadeOf d q)) (λ q. Then (IsPlanned d.says q.says) (Next d q)) (Ok question) result
     (λ q. mapped (IsPlanned d.says q.says) (IsMadeOf d q) (Next d q) (Ok question) result
     (λ p made.
     let P : Source (List Relation) → Type 0 = λ r. Next r q p result in
@@ -85,10 +85,10 @@ question_due {B} civil seen database query question Next result h n =
     (λ refusal e. no_refusal question refusal e) h
 
 -- the refusal of a question is that of what is due
-pub refusal_due : {B : Type 0} (civil : Bool) (seen : ShelfSeen) (database query : Identifier) (refusal : Refusal) (Next : Source (List Relation) → Source Queried → Plan → Result B Refusal → Type 0) → IsPlannedFor civil seen database query IsMadeOf (Err refusal) → IsPlannedFor civil seen database query Next (Err refusal)
-refusal_due {B} civil seen database query refusal Next h =
-    mapped (IsDatabaseRead civil seen database) (λ d. Then (IsQueryRead d.says seen query) (λ q. Then (IsPlanned d.says q.says) (IsMadeOf d q))) (λ d. Then (IsQueryRead d.says seen query) (λ q. Then (IsPlanned d.says q.says) (Next d q))) (Err refusal) (Err refusal)
-    (λ d. mapped (IsQueryRead d.says seen query) (λ q. Then (IsPlanned d.says q.says) (IsMadeOf d q)) (λ q. Then (IsPlanned d.says q.says) (Next d q)) (Err refusal) (Err refusal)
+pub refusal_due : {B : Type 0} (tense civil : Bool) (seen : ShelfSeen) (database query : Identifier) (refusal : Refusal) (Next : Source (List Relation) → Source Queried → Plan → Result B Refusal → Type 0) → IsPlannedFor tense civil seen database query IsMadeOf (Err refusal) → IsPlannedFor tense civil seen database query Next (Err refusal)
+refusal_due {B} tense civil seen database query refusal Next h =
+    mapped (IsDatabaseRead civil seen database) (λ d. Then (IsQueryRead tense d.says seen query) (λ q. Then (IsPlanned d.says q.says) (IsMadeOf d q))) (λ d. Then (IsQueryRead tense d.says seen query) (λ q. Then (IsPlanned d.says q.says) (Next d q))) (Err refusal) (Err refusal)
+    (λ d. mapped (IsQueryRead tense d.says seen query) (λ q. Then (IsPlanned d.says q.says) (IsMadeOf d q)) (λ q. Then (IsPlanned d.says q.says) (Next d q)) (Err refusal) (Err refusal)
     (λ q. mapped (IsPlanned d.says q.says) (IsMadeOf d q) (Next d q) (Err refusal) (Err refusal) (λ p none. absurd none) (λ other e. same_refusal refusal other e))
     (λ other e. same_refusal refusal other e))
     (λ other e. same_refusal refusal other e) h

@@ -21,7 +21,7 @@ use Rattle.lrp_top.specs.Seen.{ShelfSeen, SinkSeen, HasFailed, IsOverrun}
 use Rattle.lrp_top.specs.Sources.{Source, FromFile}
 use Rattle.lrp_top.specs.Steps.{Then}
 use Rattle.lrp_top.specs.Telling.{TellsPage, TellsPlan, TellsRelations, TellsWitness}
-use Rattle.lrp_top.specs.Written.{IsFaulty, IsSorted, plain_if}
+use Rattle.lrp_top.specs.Written.{IsFaultyAs, IsSortedAs, plain_if}
 use Rattle.lrp_top.specs.declared.outcome.Refusal.{Refusal}
 use Rattle.lrp_top.specs.declared.outcome.Refusal.TheVariants.{Usage, ReadDatabase, LongDatabase, Database, ReadQuery, LongQuery, Query, PeriodLimit, BoundLimit, Cells, Memory}
 use Rattle.lrp_top.specs.declared.status.Status.{Status}
@@ -41,16 +41,16 @@ abbrev pub IsDatabaseRead : Bool → ShelfSeen → Identifier → Result (Source
 IsDatabaseRead civil seen name = FromFile seen name (IsDatabaseReadOf civil seen name)
 
 -- the file of the query is read. Ok: its bytes, and the query that they say, well-sorted over the relations. Refused: its count of faults rose, it is too long, or its text or its sorts have a fault; or want of memory
-abbrev pub IsQueryReadOf : List Relation → ShelfSeen → Identifier → List ℕ → Result (Source Question) Refusal → Type 0
-IsQueryReadOf db seen name bytes (Ok query) = (query.bytes ≡ bytes) × (length bytes ≤ 16777216) × IsSorted db bytes query.says
-IsQueryReadOf db seen name bytes (Err ReadQuery) = HasFailed seen name
-IsQueryReadOf db seen name bytes (Err LongQuery) = (16777216 < length bytes) × IsOverrun seen name
-IsQueryReadOf db seen name bytes (Err (Query fault)) = (length bytes ≤ 16777216) × IsFaulty db bytes fault
-IsQueryReadOf db seen name bytes (Err Memory) = Unit {0}
-IsQueryReadOf db seen name bytes (Err _) = ⊥
+abbrev pub IsQueryReadOf : Bool → List Relation → ShelfSeen → Identifier → List ℕ → Result (Source Question) Refusal → Type 0
+IsQueryReadOf tense db seen name bytes (Ok query) = (query.bytes ≡ bytes) × (length bytes ≤ 16777216) × IsSortedAs tense db bytes query.says
+IsQueryReadOf tense db seen name bytes (Err ReadQuery) = HasFailed seen name
+IsQueryReadOf tense db seen name bytes (Err LongQuery) = (16777216 < length bytes) × IsOverrun seen name
+IsQueryReadOf tense db seen name bytes (Err (Query fault)) = (length bytes ≤ 16777216) × IsFaultyAs tense db bytes fault
+IsQueryReadOf tense db seen name bytes (Err Memory) = Unit {0}
+IsQueryReadOf tense db seen name bytes (Err _) = ⊥
 
-abbrev pub IsQueryRead : List Relation → ShelfSeen → Identifier → Result (Source Question) Refusal → Type 0
-IsQueryRead db seen name = FromFile seen name (IsQueryReadOf db seen name)
+abbrev pub IsQueryRead : Bool → List Relation → ShelfSeen → Identifier → Result (Source Question) Refusal → Type 0
+IsQueryRead tense db seen name = FromFile seen name (IsQueryReadOf tense db seen name)
 
 -- the query is planned. Ok: its plan. Refused: its period is above 2^62, or that is not but its reach is, doubled once and once more for each time column of the head; or want of memory
 abbrev pub IsPlanned : List Relation → Question → Result Plan Refusal → Type 0
@@ -96,17 +96,17 @@ IsListed civil from to limit after json cap d q p =
 -- ---- what is due for a task
 
 -- a database is read, then a query over its relations, then the query is planned, and then this is due
-abbrev pub IsPlannedFor : {B : Type 0} → Bool → ShelfSeen → Identifier → Identifier → (Source (List Relation) → Source Question → Plan → Result B Refusal → Type 0) → Result B Refusal → Type 0
-IsPlannedFor civil seen database query Next result =
-    Then (IsDatabaseRead civil seen database) (λ d. Then (IsQueryRead d.says seen query) (λ q. Then (IsPlanned d.says q.says) (Next d q))) result
+abbrev pub IsPlannedFor : {B : Type 0} → Bool → Bool → ShelfSeen → Identifier → Identifier → (Source (List Relation) → Source Question → Plan → Result B Refusal → Type 0) → Result B Refusal → Type 0
+IsPlannedFor tense civil seen database query Next result =
+    Then (IsDatabaseRead civil seen database) (λ d. Then (IsQueryRead tense d.says seen query) (λ q. Then (IsPlanned d.says q.says) (Next d q))) result
 
 -- each task; the sample makes its own texts, and is refused for want of memory alone
 abbrev pub IsDueOf : Task → ShelfSeen → Outcome → Type 0
-IsDueOf (ask database query cap civil) seen outcome = IsPlannedFor civil seen database query (IsAnswered cap) outcome
-IsDueOf (decide database query cap civil) seen outcome = IsPlannedFor civil seen database query (IsDecided cap) outcome
-IsDueOf (list database query from to limit after json cap civil) seen outcome =
-    IsPlannedFor civil seen database query (IsListed civil from to limit after json cap) outcome
-IsDueOf (explain database query civil) seen outcome = IsPlannedFor civil seen database query IsExplained outcome
+IsDueOf (ask database query cap tense civil) seen outcome = IsPlannedFor tense civil seen database query (IsAnswered cap) outcome
+IsDueOf (decide database query cap tense civil) seen outcome = IsPlannedFor tense civil seen database query (IsDecided cap) outcome
+IsDueOf (list database query from to limit after json cap tense civil) seen outcome =
+    IsPlannedFor tense civil seen database query (IsListed civil from to limit after json cap) outcome
+IsDueOf (explain database query tense civil) seen outcome = IsPlannedFor tense civil seen database query IsExplained outcome
 IsDueOf (check database civil) seen outcome = Then (IsDatabaseRead civil seen database) (λ d. IsOutput (TellsRelations d.says)) outcome
 IsDueOf (sample seed size) seen outcome = IsOutput (TellsSample seed size) outcome
 
@@ -114,10 +114,10 @@ IsDueOf (sample seed size) seen outcome = IsOutput (TellsSample seed size) outco
 
 -- the names of the files that a task reads
 abbrev pub files_of : Task → List Identifier
-files_of (ask database query cap civil) = database ∷ query ∷ []
-files_of (decide database query cap civil) = database ∷ query ∷ []
-files_of (list database query from to limit after json cap civil) = database ∷ query ∷ []
-files_of (explain database query civil) = database ∷ query ∷ []
+files_of (ask database query cap tense civil) = database ∷ query ∷ []
+files_of (decide database query cap tense civil) = database ∷ query ∷ []
+files_of (list database query from to limit after json cap tense civil) = database ∷ query ∷ []
+files_of (explain database query tense civil) = database ∷ query ∷ []
 files_of (check database civil) = database ∷ []
 files_of (sample seed size) = []
 

@@ -1,10 +1,13 @@
 -- The program's files, questions and purposes, against those that are due.
-use Rattle.std.specs.Prelude.{◌≡◌, ◌≤ℤ◌, pos, List, Option, Some, None, Result, Ok, Err}
+use Rattle.std.specs.Prelude.{◌≡◌, ◌≤ℤ◌, ℕ, pos, Bool, true, false, List, Option, Some, None, Result, Ok, Err}
 use Rattle.std.specs.List.{AllByRecursion}
 use Rattle.lrp_model.specs.Formulas.{Question as Queried, form_of, question_of}
 use Rattle.lrp_model.specs.Pages.{Tuple}
+use Rattle.lrp_model.specs.QueryReading.{IsQuery}
+use Rattle.lrp_model.specs.RawQueries.{RawQuestion}
 use Rattle.lrp_model.specs.TestPoints.{points}
 use Rattle.lrp_model.specs.Tuples.{in_head_order}
+use Rattle.lrp_model.specs.declared.faults.QueryRead.{QueryRead}
 use Rattle.lrp_model.specs.declared.plans.Plan.{Plan}
 use Rattle.lrp_model.specs.declared.relations.Column.{Column}
 use Rattle.lrp_model.specs.declared.relations.Relation.{Relation}
@@ -12,6 +15,12 @@ use Rattle.lrp_model.specs.declared.tuples.Tuple.{Tuple as ToldTuple}
 use Rattle.lrp_plan_laws.specs.Settled.{IsSettled}
 use Rattle.lrp_plan_text.specs.Writable.{StepHasPeriods}
 use Rattle.lrp_eval.specs.Planned.{IsPlanOf}
+use Rattle.lrp_query.specs.Reading.{IsUnread}
+use Rattle.lrp_tense.specs.Expanding.{expanded_question}
+use Rattle.lrp_tense.specs.Laws.{KeepsMeaning}
+use Rattle.lrp_tense.specs.Reading.{IsTenseUnread}
+use Rattle.lrp_tense.specs.TenseReading.{IsTenseQuery}
+use Rattle.lrp_tense.specs.Trees.{TenseQuestion}
 use Rattle.lrp_words.specs.Commands.{after_text}
 use Rattle.lrp_words.specs.Ranges.{IsEnd}
 use Rattle.lrp_list.specs.Answering.{AreAnswerColumns}
@@ -60,6 +69,23 @@ abbrev pub asked_as : Result QueryFile Refusal → Result (Source Queried) Refus
 asked_as (Ok file) = Ok (query_source file)
 asked_as (Err refusal) = Err refusal
 
+-- the bytes are a query with temporal operators, and this is its expansion, which means the same
+pub record IsExpansionOf (bytes : List ℕ) (raw : RawQuestion) : Type 0 where
+  pub written : TenseQuestion
+  pub query : IsTenseQuery bytes written
+  pub is : raw ≡ expanded_question written
+  pub keeps : KeepsMeaning written raw
+
+-- the bytes say this query with its places, in which temporal operators are written out where the flag allows them
+abbrev pub IsSaidBy : Bool → List ℕ → RawQuestion → Type 0
+IsSaidBy false = IsQuery
+IsSaidBy true = IsExpansionOf
+
+-- why the bytes say none
+abbrev pub IsUnreadAs : Bool → List ℕ → QueryRead → Type 0
+IsUnreadAs false = IsUnread
+IsUnreadAs true = IsTenseUnread
+
 -- what holds of a query that was read over a database: it is settled, the points of its tests have periods, and its head can be that of a relation that is read
 pub record IsFit (db : List Relation) (file : QueryFile) : Type 0 where
   pub settled : IsSettled db (question_of file.query)
@@ -79,7 +105,7 @@ IsMadeOf d q p (Err refusal) = ⊥
 
 -- what is due behind the plan of the query in these files
 abbrev pub IsAsked : {B : Type 0} → Files → ShelfSeen → (Source (List Relation) → Source Queried → Plan → Result B Refusal → Type 0) → Result B Refusal → Type 0
-IsAsked files seen = IsPlannedFor files.civil seen files.database.now files.query.now
+IsAsked files seen = IsPlannedFor files.tense files.civil seen files.database.now files.query.now
 
 -- the values in head order of a tuple that is told by its times and its texts, where one is
 abbrev pub resumed_as : List Column → Result (Option ToldTuple) Refusal → Result (Option Tuple) Refusal

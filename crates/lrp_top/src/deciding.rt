@@ -49,18 +49,20 @@ fn carry_out<F: Shelf>(
             db,
             query,
             cap,
+            tense,
             civil,
         } => {
-            let files = Files::new(db, query, civil);
+            let files = Files::new(db, query, tense, civil);
             ask(alloc, &files, &Purpose::Answer { cap }, shelf)
         }
         Command::Decide {
             db,
             query,
             cap,
+            tense,
             civil,
         } => {
-            let files = Files::new(db, query, civil);
+            let files = Files::new(db, query, tense, civil);
             ask(alloc, &files, &Purpose::Witness { cap }, shelf)
         }
         Command::List {
@@ -72,9 +74,10 @@ fn carry_out<F: Shelf>(
             after,
             json,
             cap,
+            tense,
             civil,
         } => {
-            let files = Files::new(db, query, civil);
+            let files = Files::new(db, query, tense, civil);
             let paging = Paging {
                 from,
                 to,
@@ -86,8 +89,13 @@ fn carry_out<F: Shelf>(
             };
             ask(alloc, &files, &Purpose::Page { paging }, shelf)
         }
-        Command::Explain { db, query, civil } => {
-            let files = Files::new(db, query, civil);
+        Command::Explain {
+            db,
+            query,
+            tense,
+            civil,
+        } => {
+            let files = Files::new(db, query, tense, civil);
             ask(alloc, &files, &Purpose::Plan, shelf)
         }
         Command::Check { db, civil } => check(alloc, db, civil, shelf),

@@ -11,23 +11,25 @@ use lrp_model::{List, Query};
 use lrp_rel::Database;
 use std::alloc::Global;
 
-/// The files of a question by their names. With `civil` the database may have
-/// civil values.
+/// The files of a question by their names. With `tense` the query may have temporal operators, and with `civil` the database
+/// may have civil values.
 #[derive(Clone, Copy)]
 pub struct Files<'a> {
     pub database: &'a str,
     pub query: &'a str,
+    pub tense: bool,
     pub civil: bool,
 }
 
 impl<'a> Files<'a> {
     /// The files of these names.
-    pub fn new(database: &'a str, query: &'a str, civil: bool) -> Self
-        ensures { result ≡ record { database = database.entry; query = query.entry; civil = civil } }
+    pub fn new(database: &'a str, query: &'a str, tense: bool, civil: bool) -> Self
+        ensures { result ≡ record { database = database.entry; query = query.entry; tense = tense; civil = civil } }
     {
         Files {
             database,
             query,
+            tense,
             civil,
         }
     }
@@ -72,14 +74,15 @@ pub fn query_of<F: Shelf>(
     alloc: Global,
     database: &Database,
     name: &str,
+    tense: bool,
     shelf: &mut F,
 ) -> Result<QueryFile, Refusal>
-    ensures asked { IsQueryRead database.now (⟦<F as Watched>⟧.seen shelf.old shelf.new) name.now (asked_as result) }
+    ensures asked { IsQueryRead tense database.now (⟦<F as Watched>⟧.seen shelf.old shelf.new) name.now (asked_as result) }
     ensures long { TellsLength (⟦<F as Watched>⟧.seen shelf.old shelf.new) result }
     ensures fit { IfOk result (λ file. IsFit database.now file) }
 {
     match load(alloc, shelf, name) {
-        Ok(bytes) => query_in(alloc, database, bytes),
+        Ok(bytes) => query_in(alloc, database, bytes, tense),
         Err(LoadFault::Failed) => Err(Refusal::ReadQuery),
         Err(LoadFault::TooLong) => Err(Refusal::LongQuery),
         Err(LoadFault::Memory) => Err(Refusal::Memory),

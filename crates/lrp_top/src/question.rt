@@ -46,7 +46,7 @@ pub fn question_of<F: Shelf>(
     ensures ready { IfOk result (λ question. IsReady question) }
 {
     let database = database_of(alloc, files.database, files.civil, shelf)?;
-    let query = query_of(alloc, &database.relations, files.query, shelf)?;
+    let query = query_of(alloc, &database.relations, files.query, files.tense, shelf)?;
     let plan = plan_of(alloc, &database.relations, &query.query)?;
     Ok(Question {
         database,

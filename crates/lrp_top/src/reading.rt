@@ -2,13 +2,14 @@
 ghost use Rattle.std.specs.Prelude.{◌≤◌, IfErr, IfOk, List as ListOf, ℕ, length};
 ghost use Rattle.lrp_model.specs.DatabaseReading.{IsDatabase};
 ghost use Rattle.lrp_model.specs.Checked.{plain_question};
-ghost use Rattle.lrp_model.specs.QueryReading.{IsQuery};
-ghost use Rattle.lrp_model.specs.RawQueries.{RawQuestion};
+ghost use Rattle.lrp_model.specs.RawQueries.{RawQuestion, raw_question_of};
 ghost use Rattle.lrp_model.specs.Sorting.{IsWellSorted};
 ghost use Rattle.lrp_model.specs.declared.relations.Relation.{Relation as RelationOf};
+ghost use Rattle.lrp_query.specs.Reading.{IsQueryOrMemory as IsRawOrMemory};
 ghost use Rattle.lrp_rel.specs.Reading.{IsOrMemory, IsRefusedBy};
+ghost use Rattle.lrp_tense.specs.Lawful.{IsLawfulExpansion};
 ghost use Rattle.lrp_top.specs.Due.{IsDatabaseReadOf, IsQueryReadOf};
-ghost use Rattle.lrp_top.specs.Questions.{IsDatabaseOrMemory, IsFit, IsQueryOrMemory, asked_as, read_as};
+ghost use Rattle.lrp_top.specs.Questions.{IsDatabaseOrMemory, IsFit, IsQueryOrMemory, IsSaidBy, IsUnreadAs, asked_as, read_as};
 ghost use Rattle.lrp_top.specs.Seen.{ShelfSeen};
 ghost use Rattle.lrp_top.specs.Written.{plain_if};
 
@@ -16,11 +17,12 @@ use crate::files::{DatabaseFile, QueryFile};
 use crate::outcome::Refusal;
 use lrp_civil::plain_text;
 use lrp_list::heads_are_columns;
-use lrp_model::{List, Memory};
+use lrp_model::{List, Memory, QueryRead, RawQuery};
 use lrp_plan_laws::{periods_are_least, sorted_queries_are_settled};
 use lrp_query::read_query;
 use lrp_rel::{Database, ReadFault, read_database};
 use lrp_sorts::check;
+use lrp_tense::{expand, read_tense};
 use std::alloc::Global;
 
 /// The database of a file's bytes.
@@ -53,17 +55,40 @@ fn relations_of(alloc: Global, bytes: &[u8], civil: bool) -> Result<Database, Re
 }
 
 /// The well-sorted query of a file's bytes, over a database.
-pub fn query_in(alloc: Global, database: &Database, bytes: List<u8>) -> Result<QueryFile, Refusal>
+pub fn query_in(
+    alloc: Global,
+    database: &Database,
+    bytes: List<u8>,
+    tense: bool,
+) -> Result<QueryFile, Refusal>
     requires { length bytes ≤ 16777216 }
-    ensures asked { (seen : ShelfSeen) (name : ListOf ℕ) → IsQueryReadOf database.now seen name bytes (asked_as result) }
+    ensures asked { (seen : ShelfSeen) (name : ListOf ℕ) → IsQueryReadOf tense database.now seen name bytes (asked_as result) }
     ensures fit { IfOk result (λ file. IsFit database.now file) }
-    ensures every { (raw : RawQuestion) → IsQuery bytes raw → IsWellSorted database.now raw → IsQueryOrMemory (plain_question raw) result }
+    ensures every { (raw : RawQuestion) → IsSaidBy tense bytes raw → IsWellSorted database.now raw → IsQueryOrMemory (plain_question raw) result }
 {
-    let raw = read_query(alloc, bytes.as_slice())?;
+    let raw = raw_of(alloc, bytes.as_slice(), tense)?;
     let query = check(alloc, &raw, database)?;
     database.relations();
     heads_are_columns();
     periods_are_least();
     sorted_queries_are_settled();
     Ok(QueryFile { bytes, query })
+}
+
+/// The query of a text with its places, in which temporal operators are written out.
+fn raw_of(alloc: Global, bytes: &[u8], tense: bool) -> Result<RawQuery, QueryRead>
+    requires { length bytes.now ≤ 16777216 }
+    ensures said { IfOk result (λ raw. IsSaidBy tense bytes.now (raw_question_of raw)) }
+    ensures lawful { IfOk result (λ raw. IsLawfulExpansion (raw_question_of raw)) }
+    ensures refused { IfErr result (IsUnreadAs tense bytes.now) }
+    ensures every { (raw : RawQuestion) → IsSaidBy tense bytes.now raw → IsRawOrMemory raw result }
+{
+    if !tense {
+        return read_query(alloc, bytes);
+    }
+    let written = read_tense(alloc, bytes)?;
+    match expand(alloc, &written) {
+        Ok(raw) => Ok(raw),
+        Err(Memory) => Err(QueryRead::Memory),
+    }
 }

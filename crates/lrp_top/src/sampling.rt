@@ -50,7 +50,7 @@ fn question_of(alloc: Global, seed: u32, size: u32) -> Result<Question, Refusal>
     sample_query_is_well_sorted();
     sample_is_within_limits();
     let database = database_in(alloc, database, false)?;
-    let query = query_in(alloc, &database.relations, query)?;
+    let query = query_in(alloc, &database.relations, query, false)?;
     let plan = plan_of(alloc, &database.relations, &query.query)?;
     Ok(Question {
         database,

@@ -5,18 +5,18 @@ use Rattle.std.specs.Str.{bytes_eq}
 use Rattle.lrp_model.specs.Texts.{Text}
 use Rattle.lrp_civil.specs.Minutes.{minute_by}
 use Rattle.lrp_words.specs.declared.keys.Key.{Key}
-use Rattle.lrp_words.specs.declared.keys.Key.TheVariants.{Db, Query, Cap, From, To, Limit, After, Form, Civil, Seed, Size}
+use Rattle.lrp_words.specs.declared.keys.Key.TheVariants.{Db, Query, Cap, From, To, Limit, After, Form, Tense, Civil, Seed, Size}
 use Rattle.lrp_words.specs.declared.command.Command.{Command}
 use Rattle.lrp_words.specs.declared.command.Command.TheVariants.{Ask, Decide, List as Page, Explain, Check, Sample}
 use Rattle.lrp_words.specs.Entries.{value_for, are_given}
 use Rattle.lrp_words.specs.Numbers.{natural, within, integer_up_to}
 
--- what is asked: files by their names, caps and limits, a window, a token, whether the page is in JSON, a seed and a size; and last, whether times are civil ones
+-- what is asked: files by their names, caps and limits, a window, a token, whether the page is in JSON, a seed and a size; and last, whether the query may have temporal operators and whether times are civil ones
 pub data Task : Type 0 where
-  ask : Text → Text → ℕ → Bool → Task
-  decide : Text → Text → ℕ → Bool → Task
-  list : Text → Text → ℤ → ℤ → ℕ → Option Text → Bool → ℕ → Bool → Task
-  explain : Text → Text → Bool → Task
+  ask : Text → Text → ℕ → Bool → Bool → Task
+  decide : Text → Text → ℕ → Bool → Bool → Task
+  list : Text → Text → ℤ → ℤ → ℕ → Option Text → Bool → ℕ → Bool → Bool → Task
+  explain : Text → Text → Bool → Bool → Task
   check : Text → Bool → Task
   sample : ℕ → ℕ → Task
 
@@ -27,10 +27,10 @@ after_text (Some text) = Some text.now
 
 -- what a command asks
 abbrev pub task_of : Command → Task
-task_of (Ask db query cap civil) = ask db.now query.now cap civil
-task_of (Decide db query cap civil) = decide db.now query.now cap civil
-task_of (Page db query from to limit after json cap civil) = list db.now query.now from to limit (after_text after) json cap civil
-task_of (Explain db query civil) = explain db.now query.now civil
+task_of (Ask db query cap tense civil) = ask db.now query.now cap tense civil
+task_of (Decide db query cap tense civil) = decide db.now query.now cap tense civil
+task_of (Page db query from to limit after json cap tense civil) = list db.now query.now from to limit (after_text after) json cap tense civil
+task_of (Explain db query tense civil) = explain db.now query.now tense civil
 task_of (Check db civil) = check db.now civil
 task_of (Sample seed size) = sample seed size
 
@@ -91,6 +91,10 @@ database_name words = file (value_for Db words)
 abbrev pub query_name : List Text → Option Text
 query_name words = file (value_for Query words)
 
+-- whether the query may have temporal operators
+abbrev pub tense_of : List Text → Option Bool
+tense_of words = flag_of (value_for Tense words)
+
 -- whether times are civil ones
 abbrev pub civil_of : List Text → Option Bool
 civil_of words = flag_of (value_for Civil words)
@@ -100,34 +104,34 @@ civil_of words = flag_of (value_for Civil words)
 abbrev pub ask_of : List Text → Option Task
 ask_of words =
     with_some (database_name words) (λ db. with_some (query_name words) (λ query. with_some (cap_of words) (λ cap.
-    with_some (civil_of words) (λ civil. Some (ask db query cap civil)))))
+    with_some (tense_of words) (λ tense. with_some (civil_of words) (λ civil. Some (ask db query cap tense civil))))))
 
 abbrev pub ask_keys : List Key
-ask_keys = Db ∷ Query ∷ Cap ∷ Civil ∷ []
+ask_keys = Db ∷ Query ∷ Cap ∷ Tense ∷ Civil ∷ []
 
 abbrev pub decide_of : List Text → Option Task
 decide_of words =
     with_some (database_name words) (λ db. with_some (query_name words) (λ query. with_some (cap_of words) (λ cap.
-    with_some (civil_of words) (λ civil. Some (decide db query cap civil)))))
+    with_some (tense_of words) (λ tense. with_some (civil_of words) (λ civil. Some (decide db query cap tense civil))))))
 
 abbrev pub decide_keys : List Key
-decide_keys = Db ∷ Query ∷ Cap ∷ Civil ∷ []
+decide_keys = Db ∷ Query ∷ Cap ∷ Tense ∷ Civil ∷ []
 
 abbrev pub list_of : List Text → Option Task
 list_of words =
-    with_some (civil_of words) (λ civil.
+    with_some (tense_of words) (λ tense. with_some (civil_of words) (λ civil.
     with_some (database_name words) (λ db. with_some (query_name words) (λ query. with_some (end_of civil (value_for From words)) (λ from. with_some (end_of civil (value_for To words)) (λ to.
-    with_some (limit_of words) (λ limit. with_some (json_of (value_for Form words)) (λ json. with_some (cap_of words) (λ cap. Some (list db query from to limit (value_for After words) json cap civil)))))))))
+    with_some (limit_of words) (λ limit. with_some (json_of (value_for Form words)) (λ json. with_some (cap_of words) (λ cap. Some (list db query from to limit (value_for After words) json cap tense civil))))))))))
 
 abbrev pub list_keys : List Key
-list_keys = Db ∷ Query ∷ From ∷ To ∷ Limit ∷ After ∷ Form ∷ Cap ∷ Civil ∷ []
+list_keys = Db ∷ Query ∷ From ∷ To ∷ Limit ∷ After ∷ Form ∷ Cap ∷ Tense ∷ Civil ∷ []
 
 abbrev pub explain_of : List Text → Option Task
 explain_of words =
-    with_some (database_name words) (λ db. with_some (query_name words) (λ query. with_some (civil_of words) (λ civil. Some (explain db query civil))))
+    with_some (database_name words) (λ db. with_some (query_name words) (λ query. with_some (tense_of words) (λ tense. with_some (civil_of words) (λ civil. Some (explain db query tense civil)))))
 
 abbrev pub explain_keys : List Key
-explain_keys = Db ∷ Query ∷ Civil ∷ []
+explain_keys = Db ∷ Query ∷ Tense ∷ Civil ∷ []
 
 abbrev pub check_of : List Text → Option Task
 check_of words = with_some (database_name words) (λ db. with_some (civil_of words) (λ civil. Some (check db civil)))

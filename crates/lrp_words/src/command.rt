@@ -4,19 +4,22 @@ use thiserror::Error;
 /// A command with its values, whose texts are borrowed from the words.
 ///
 /// `db` and `query` are names of files, and not empty. `from` and `to` have a magnitude of at most 2^62, and are minutes of
-/// the years 1 to 9999 where `civil` is set. `after` is any text; its form is judged later. With `civil` times are minutes since 1970-01-01 00:00, and databases may have civil values.
+/// the years 1 to 9999 where `civil` is set. `after` is any text; its form is judged later. With `tense` a query may have
+/// temporal operators, and with `civil` times are minutes since 1970-01-01 00:00, and databases may have civil values.
 #[derive(Clone, Copy)]
 pub enum Command<'a> {
     Ask {
         db: &'a str,
         query: &'a str,
         cap: u32,
+        tense: bool,
         civil: bool,
     },
     Decide {
         db: &'a str,
         query: &'a str,
         cap: u32,
+        tense: bool,
         civil: bool,
     },
     List {
@@ -28,11 +31,13 @@ pub enum Command<'a> {
         after: Option<&'a str>,
         json: bool,
         cap: u32,
+        tense: bool,
         civil: bool,
     },
     Explain {
         db: &'a str,
         query: &'a str,
+        tense: bool,
         civil: bool,
     },
     Check {

@@ -1,6 +1,6 @@
 // Words as a command: its name, and then the values of its keys.
 ghost use Rattle.std.specs.Prelude.{◌≡◌, ◌<◌, ◌≤◌, ◌^◌, [], ◌∷◌, map, string_bytes, Some, None, IfOk, IfSome, MatchResult};
-ghost use Rattle.lrp_words.specs.Commands.{ask_keys, ask_of, cap_of, check_keys, check_of, civil_of, command, decide_keys, decide_of, end_of, explain_keys, explain_of, flag_of, file as file_by, json_of as is_json_by, limit_of, list_keys, list_of, number_in as number_by, number_or as number_or_by, over, sample_keys, sample_of, task_of, tasks_of, after_text};
+ghost use Rattle.lrp_words.specs.Commands.{ask_keys, ask_of, cap_of, check_keys, check_of, civil_of, command, decide_keys, decide_of, end_of, explain_keys, explain_of, flag_of, file as file_by, json_of as is_json_by, limit_of, list_keys, list_of, number_in as number_by, number_or as number_or_by, over, sample_keys, sample_of, task_of, tasks_of, tense_of, after_text};
 ghost use Rattle.lrp_words.specs.Entries.{value_for as value_by};
 ghost use Rattle.lrp_words.specs.Ranges.{IsInRange, IsEnd};
 
@@ -46,13 +46,17 @@ fn ask(words: &[String]) -> Option<Command<'_>>
     ensures task { tasks_of result ≡ over ask_keys (map string_bytes words.now) (ask_of (map string_bytes words.now)) }
     ensures range { IfSome result (λ found. IsInRange (task_of found)) }
 {
-    if !are_given(&[Key::Db, Key::Query, Key::Cap, Key::Civil], words) {
+    if !are_given(
+        &[Key::Db, Key::Query, Key::Cap, Key::Tense, Key::Civil],
+        words,
+    ) {
         return None;
     }
     Some(Command::Ask {
         db: file(Key::Db, words)?,
         query: file(Key::Query, words)?,
         cap: cap(words)?,
+        tense: tense(words)?,
         civil: civil(words)?,
     })
 }
@@ -61,13 +65,17 @@ fn decide(words: &[String]) -> Option<Command<'_>>
     ensures task { tasks_of result ≡ over decide_keys (map string_bytes words.now) (decide_of (map string_bytes words.now)) }
     ensures range { IfSome result (λ found. IsInRange (task_of found)) }
 {
-    if !are_given(&[Key::Db, Key::Query, Key::Cap, Key::Civil], words) {
+    if !are_given(
+        &[Key::Db, Key::Query, Key::Cap, Key::Tense, Key::Civil],
+        words,
+    ) {
         return None;
     }
     Some(Command::Decide {
         db: file(Key::Db, words)?,
         query: file(Key::Query, words)?,
         cap: cap(words)?,
+        tense: tense(words)?,
         civil: civil(words)?,
     })
 }
@@ -85,11 +93,13 @@ fn list(words: &[String]) -> Option<Command<'_>>
         Key::After,
         Key::Form,
         Key::Cap,
+        Key::Tense,
         Key::Civil,
     ];
     if !are_given(&keys, words) {
         return None;
     }
+    let tense = tense(words)?;
     let civil = civil(words)?;
     Some(Command::List {
         db: file(Key::Db, words)?,
@@ -100,6 +110,7 @@ fn list(words: &[String]) -> Option<Command<'_>>
         after: value(Key::After, words),
         json: is_json(words)?,
         cap: cap(words)?,
+        tense,
         civil,
     })
 }
@@ -108,12 +119,13 @@ fn explain(words: &[String]) -> Option<Command<'_>>
     ensures task { tasks_of result ≡ over explain_keys (map string_bytes words.now) (explain_of (map string_bytes words.now)) }
     ensures range { IfSome result (λ found. IsInRange (task_of found)) }
 {
-    if !are_given(&[Key::Db, Key::Query, Key::Civil], words) {
+    if !are_given(&[Key::Db, Key::Query, Key::Tense, Key::Civil], words) {
         return None;
     }
     Some(Command::Explain {
         db: file(Key::Db, words)?,
         query: file(Key::Query, words)?,
+        tense: tense(words)?,
         civil: civil(words)?,
     })
 }
@@ -197,6 +209,13 @@ fn end(key: Key, civil: bool, words: &[String]) -> Option<i64>
     } else {
         integer(text)
     }
+}
+
+/// Whether the query may have temporal operators.
+fn tense(words: &[String]) -> Option<bool>
+    ensures { result ≡ tense_of (map string_bytes words.now) }
+{
+    flag(Key::Tense, words)
 }
 
 /// Whether times are civil ones.

@@ -9,8 +9,7 @@ use Rattle.lrp_list.specs.Answering.{AreAnswerColumns}
 use Rattle.lrp_plan.proofs.KeptPeriods.{kept_low}
 use Rattle.lrp_plan_laws.specs.Rising.{HasPeriods}
 use Rattle.lrp_plan_laws.specs.Settled.{IsSettled}
-use Rattle.lrp_query.specs.Reading.{IsUnread}
-use Rattle.lrp_model.specs.QueryReading.{IsQuery}
+use Rattle.lrp_top.specs.Questions.{IsSaidBy, IsUnreadAs}
 use Rattle.lrp_top.proofs.KeptTexts.{texts_placed}
 use Rattle.lrp_top.proofs.Plannable.{all_low, has_members, has_periods}
 use Rattle.lrp_top.proofs.ReadingLemmas.{sorted_as, unread_every, unread_refused, unsorted_every, unsorted_refused}
@@ -19,35 +18,35 @@ use Rattle.lrp_top.proofs.reading.query_in.Goals as goal
 pub returns-in_err-raw-clause-asked : goal.returns-in_err-raw-clause-asked
 returns-in_err-raw-clause-asked c =
     let p = err_from_is_err_and c.from_residual.result c.from_residual.ensures.1 in
-    let unread = subst (λ bytes. IsUnread bytes c.in_err-raw.field-0.0) c.as_slice.ensures c.in_err-raw.ensures.refused in
-    λ seen name. rw (p.1, p.2) (unread_refused c.args.database.now seen name c.args.bytes c.in_err-raw.field-0.0 c.requires unread)
+    let unread = subst (λ bytes. IsUnreadAs c.args.tense bytes c.in_err-raw.field-0.0) c.as_slice.ensures c.in_err-raw.ensures.refused in
+    λ seen name. rw (p.1, p.2) (unread_refused c.args.tense c.args.database.now seen name c.args.bytes c.in_err-raw.field-0.0 c.requires unread)
 
 pub returns-in_err-query-clause-asked : goal.returns-in_err-query-clause-asked
 returns-in_err-query-clause-asked c =
     let p = err_from_is_err_and c.from_residual-in_err-query.result c.from_residual-in_err-query.ensures.1 in
     let raw = raw_question_of c.in_ok-raw.raw in
-    let said = subst (λ bytes. IsQuery bytes raw) c.as_slice.ensures c.in_ok-raw.ensures.query in
-    λ seen name. rw (p.1, p.2) (unsorted_refused c.args.database.now seen name c.args.bytes raw c.in_err-query.field-0.0 c.requires said c.in_err-query.ensures.refused)
+    let said = subst (λ bytes. IsSaidBy c.args.tense bytes raw) c.as_slice.ensures c.in_ok-raw.ensures.said in
+    λ seen name. rw (p.1, p.2) (unsorted_refused c.args.tense c.args.database.now seen name c.args.bytes raw c.in_err-query.field-0.0 c.requires said c.in_err-query.ensures.refused)
 
 pub returns-clause-asked : goal.returns-clause-asked
 returns-clause-asked c =
     let raw = raw_question_of c.in_ok-raw.raw in
-    let said = subst (λ bytes. IsQuery bytes raw) c.as_slice.ensures c.in_ok-raw.ensures.query in
-    λ seen name. (refl, c.requires, sorted_as c.args.database.now c.args.bytes raw (question_of c.in_ok-query.query) said c.in_ok-query.ensures.sorted c.in_ok-query.ensures.query)
+    let said = subst (λ bytes. IsSaidBy c.args.tense bytes raw) c.as_slice.ensures c.in_ok-raw.ensures.said in
+    λ seen name. (refl, c.requires, sorted_as c.args.tense c.args.database.now c.args.bytes raw (question_of c.in_ok-query.query) said c.in_ok-query.ensures.sorted c.in_ok-query.ensures.query)
 
 pub returns-in_err-raw-clause-every : goal.returns-in_err-raw-clause-every
 returns-in_err-raw-clause-every c =
     let p = err_from_is_err_and c.from_residual.result c.from_residual.ensures.1 in
-    λ raw said sorted. rw (p.1, p.2) (unread_every raw c.in_err-raw.field-0.0 (c.in_err-raw.ensures.every_query raw (subst (λ bytes. IsQuery bytes raw) (sym c.as_slice.ensures) said)))
+    λ raw said sorted. rw (p.1, p.2) (unread_every raw c.in_err-raw.field-0.0 (c.in_err-raw.ensures.every raw (subst (λ bytes. IsSaidBy c.args.tense bytes raw) (sym c.as_slice.ensures) said)))
 
 pub returns-in_err-query-clause-every : goal.returns-in_err-query-clause-every
 returns-in_err-query-clause-every c =
     let p = err_from_is_err_and c.from_residual-in_err-query.result c.from_residual-in_err-query.ensures.1 in
     λ raw said sorted. rw (p.1, p.2) (unsorted_every c.args.database.now raw (raw_question_of c.in_ok-raw.raw) c.in_err-query.field-0.0
-    (c.in_ok-raw.ensures.every_query raw (subst (λ bytes. IsQuery bytes raw) (sym c.as_slice.ensures) said)) c.in_err-query.ensures.every_query sorted)
+    (c.in_ok-raw.ensures.every raw (subst (λ bytes. IsSaidBy c.args.tense bytes raw) (sym c.as_slice.ensures) said)) c.in_err-query.ensures.every_query sorted)
 
 pub returns-clause-every : goal.returns-clause-every
-returns-clause-every c = λ raw said sorted. c.in_ok-query.ensures.query ∙ ap plain_question (c.in_ok-raw.ensures.every_query raw (subst (λ bytes. IsQuery bytes raw) (sym c.as_slice.ensures) said))
+returns-clause-every c = λ raw said sorted. c.in_ok-query.ensures.query ∙ ap plain_question (c.in_ok-raw.ensures.every raw (subst (λ bytes. IsSaidBy c.args.tense bytes raw) (sym c.as_slice.ensures) said))
 
 pub returns-clause-fit : goal.returns-clause-fit
 returns-clause-fit c =
