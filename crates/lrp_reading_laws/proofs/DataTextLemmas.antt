@@ -53,7 +53,7 @@ use Rattle.lrp_text.proofs.NameTokens.{all_front, all_behind, all_tail}
 -- ---- the tokens of a text of UTF-8
 
 -- a token of a text has a data text, if it is short enough
-abbrev TextToken : Token → Type 0
+abbrev pub TextToken : Token → Type 0
 TextToken (text_token t) = IsUtf8 t × (length t ≤ 255 → FitsText t)
 TextToken _ = Unit {0}
 
@@ -83,7 +83,7 @@ headed_texted p s bad_token rest h r = (tt, tt)
 headed_texted p s hole_token rest h r = (tt, r)
 
 -- all tokens of bytes of UTF-8
-tokens_texted : (n : ℕ) (p : Place) (bs : List ℕ) → IsUtf8 bs → AllByRecursion (λ t. TextToken t.token) (tokens_from n p bs)
+pub tokens_texted : (n : ℕ) (p : Place) (bs : List ℕ) → IsUtf8 bs → AllByRecursion (λ t. TextToken t.token) (tokens_from n p bs)
 unfolding tokens_from
 tokens_texted zero p bs u = tt
 tokens_texted (suc n) p bs u =
@@ -94,12 +94,12 @@ tokens_texted (suc n) p bs u =
     headed_texted a.place s s.token (tokens_from n (after a.place s.taken) s.left) (scan_texted a.bytes here) (tokens_texted n (after a.place s.taken) s.left behind)
 
 -- a part of a tree's text has a data text, if it is one
-abbrev TextPart : Part → Type 0
+abbrev pub TextPart : Part → Type 0
 TextPart (at p k) = TextToken k
 TextPart (any k) = TextToken k
 
 -- parts that are spelled by such tokens
-takes_texted : (ps : List Part) (ts left : Tokens) → Takes ps ts left → AllByRecursion (λ t. TextToken t.token) ts → AllByRecursion TextPart ps
+pub takes_texted : (ps : List Part) (ts left : Tokens) → Takes ps ts left → AllByRecursion (λ t. TextToken t.token) ts → AllByRecursion TextPart ps
 takes_texted [] ts left h texted = tt
 takes_texted (p ∷ ps) [] left h texted = absurd h
 takes_texted (at p k ∷ ps) (t ∷ ts) left h texted = (subst TextToken h.0.0 texted.0, takes_texted ps ts left h.1 texted.1)
@@ -108,19 +108,19 @@ takes_texted (any k ∷ ps) (t ∷ ts) left h texted = (subst TextToken h.0 text
 -- ---- terms
 
 -- a text among the written terms is a data text
-abbrev IsGood : WrittenTerm → Type 0
+abbrev pub IsGood : WrittenTerm → Type 0
 IsGood (text_term t) = IsDataText t
 IsGood (integer i) = Unit {0}
 IsGood (variable n) = Unit {0}
 IsGood (shifted n down k) = Unit {0}
 
-term_good : (p : Place) (t : WrittenTerm) → AllByRecursion TextPart (from p (term_text t)) → FitsTerm t → IsGood t
+pub term_good : (p : Place) (t : WrittenTerm) → AllByRecursion TextPart (from p (term_text t)) → FitsTerm t → IsGood t
 term_good p (text_term t) h short = record { fits = h.0.1 short; utf8 = h.0.0 }
 term_good p (integer i) h short = tt
 term_good p (variable n) h short = tt
 term_good p (shifted n down k) h short = tt
 
-terms_good : (ts : List (Located WrittenTerm)) → AllByRecursion TextPart (separated comma (located_text term_text) ts) → AllByRecursion (λ t. FitsTerm t.item) ts → AllByRecursion (λ t. IsGood t.item) ts
+pub terms_good : (ts : List (Located WrittenTerm)) → AllByRecursion TextPart (separated comma (located_text term_text) ts) → AllByRecursion (λ t. FitsTerm t.item) ts → AllByRecursion (λ t. IsGood t.item) ts
 terms_good [] h short = tt
 terms_good (t ∷ []) h short = (term_good t.place t.item h short.0, tt)
 terms_good (t ∷ u ∷ us) h short =
@@ -129,11 +129,11 @@ terms_good (t ∷ u ∷ us) h short =
     (term_good t.place t.item (all_front TextPart first (comma ∷ rest) h) short.0, terms_good (u ∷ us) (all_tail TextPart comma rest (all_behind TextPart first (comma ∷ rest) h)) short.1)
 
 -- a text among the data terms is one
-abbrev IsGoodData : DataTerm → Type 0
+abbrev pub IsGoodData : DataTerm → Type 0
 IsGoodData (data_const t) = IsDataText t
 IsGoodData (data_var v) = Unit {0}
 
-nothing_good : IsDataText []
+pub nothing_good : IsDataText []
 nothing_good = record { fits = record { short = omega arith; plain = λ i below. absurd (omega arith) }; utf8 = ([], (refl, refl)) }
 
 data_good : (t : WrittenTerm) → IsGood t → IsGoodData (data_of (term_kind t))
@@ -145,14 +145,14 @@ data_good (shifted n down k) h = nothing_good
 -- ---- the entries of the domain
 
 -- a data text with a sort
-abbrev IsEntry : Sort × Text → Type 0
+abbrev pub IsEntry : Sort × Text → Type 0
 IsEntry entry = IsDataText entry.1
 
-both : (xs ys : List (Sort × Text)) → AllByRecursion IsEntry xs → AllByRecursion IsEntry ys → AllByRecursion IsEntry (xs ++ ys)
+pub both : (xs ys : List (Sort × Text)) → AllByRecursion IsEntry xs → AllByRecursion IsEntry ys → AllByRecursion IsEntry (xs ++ ys)
 both [] ys h k = k
 both (x ∷ xs) ys h k = (h.0, both xs ys h.1 k)
 
-term_entry : (b : Bool) (d : DataTerm) (t : TimeTerm) (c : Column) (cs : List Column) (rest : List Term) → IsGoodData d → AllByRecursion IsEntry (term_texts cs rest) → AllByRecursion IsEntry (term_texts (c ∷ cs) ((if b then data_term d else time_term t) ∷ rest))
+pub term_entry : (b : Bool) (d : DataTerm) (t : TimeTerm) (c : Column) (cs : List Column) (rest : List Term) → IsGoodData d → AllByRecursion IsEntry (term_texts cs rest) → AllByRecursion IsEntry (term_texts (c ∷ cs) ((if b then data_term d else time_term t) ∷ rest))
 term_entry true (data_const x) t c cs rest h k = (h, k)
 term_entry true (data_var v) t c cs rest h k = k
 term_entry false d t c cs rest h k = k
@@ -168,7 +168,7 @@ beside_entry : (binders : List Column) (other d : DataTerm) → IsGoodData d →
 beside_entry binders other (data_const t) h = (h, tt)
 beside_entry binders other (data_var v) h = tt
 
-test_entries : (b : Bool) (binders : List Column) (d e : DataTerm) (x y : TimeTerm) (op : Op) → IsGoodData d → IsGoodData e → AllByRecursion IsEntry (test_texts binders (if b then Equal d e else Compare x op y))
+pub test_entries : (b : Bool) (binders : List Column) (d e : DataTerm) (x y : TimeTerm) (op : Op) → IsGoodData d → IsGoodData e → AllByRecursion IsEntry (test_texts binders (if b then Equal d e else Compare x op y))
 test_entries true binders d e x y op h k = both (text_beside binders e d) (text_beside binders d e) (beside_entry binders e d h) (beside_entry binders d e k)
 test_entries false binders d e x y op h k = tt
 
@@ -245,7 +245,7 @@ relations_entries (r ∷ rs) h =
     both (flat_map (λ row. row_texts r.columns row.values) r.rows) (flat_map (λ s. flat_map (λ row. row_texts s.columns row.values) s.rows) rs) (rows_entries r.columns r.rows h.0.rows) (relations_entries rs h.1)
 
 -- the texts of a database are data texts
-database_entries : (bytes : List ℕ) (db : List Relation) → IsDatabase bytes db → AllByRecursion IsEntry (database_texts db)
+pub database_entries : (bytes : List ℕ) (db : List Relation) → IsDatabase bytes db → AllByRecursion IsEntry (database_texts db)
 database_entries bytes db d =
     let kept : AreKept db = subst AreKept (sym d.meant) (tree_kept d.tree d.text.lawful d.sound (tree_named bytes d.tree d.text.spelled) (tree_texted bytes d.tree d.text.utf8 d.text.spelled)) in
     relations_entries db kept.each

@@ -11,6 +11,9 @@ ghost use Rattle.lrp_model.specs.Sorting.{IsWellSorted, IsSortFault};
 ghost use Rattle.lrp_model.specs.declared.faults.DbFault.{DbFault};
 ghost use Rattle.lrp_model.specs.declared.faults.QueryFault.{QueryFault};
 ghost use Rattle.lrp_model.specs.declared.relations.Relation.{Relation};
+ghost use Rattle.lrp_tense.specs.Expanding.{expanded_question};
+ghost use Rattle.lrp_tense.specs.TenseReading.{IsTenseQuery, IsTenseQueryFault};
+ghost use Rattle.lrp_tense.specs.Trees.{TenseQuestion};
 
 /// A text is of one database at most.
 pub fn texts_are_of_one_database()
@@ -48,12 +51,32 @@ pub fn queries_have_one_fault()
         → IsQueryFault bytes fault → IsQueryFault bytes other → fault ≡ other }
 {}
 
+/// The text of a query with temporal operators has no fault.
+pub fn tense_queries_have_no_fault()
+    ensures { (bytes : List ℕ) (q : TenseQuestion) (fault : QueryFault)
+        → IsTenseQuery bytes q → IsTenseQueryFault bytes fault → ⊥ }
+{}
+
+/// A text has one fault of a query with temporal operators at most.
+pub fn tense_queries_have_one_fault()
+    ensures { (bytes : List ℕ) (fault other : QueryFault)
+        → IsTenseQueryFault bytes fault → IsTenseQueryFault bytes other → fault ≡ other }
+{}
+
 /// The texts of a database and of a query over it are data texts.
 pub fn read_texts_are_data_texts()
     ensures { (database query : List ℕ) (relations : List Relation) (q : RawQuestion)
         → IsDatabase database relations
         → IsQuery query q
         → AllByRecursion (λ entry. IsDataText entry.1) (all_texts relations (plain_question q)) }
+{}
+
+/// The texts of a database and of the expansion of a query with temporal operators are data texts.
+pub fn expanded_texts_are_data_texts()
+    ensures { (database query : List ℕ) (relations : List Relation) (q : TenseQuestion)
+        → IsDatabase database relations
+        → IsTenseQuery query q
+        → AllByRecursion (λ entry. IsDataText entry.1) (all_texts relations (plain_question (expanded_question q))) }
 {}
 
 /// A query that is well-sorted for a database has no sort fault.

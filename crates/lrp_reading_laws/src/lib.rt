@@ -5,7 +5,8 @@
 mod laws;
 
 pub use laws::{
-    databases_have_no_fault, databases_have_one_fault, queries_have_no_fault,
-    queries_have_one_fault, read_texts_are_data_texts, texts_are_of_one_database,
+    databases_have_no_fault, databases_have_one_fault, expanded_texts_are_data_texts,
+    queries_have_no_fault, queries_have_one_fault, read_texts_are_data_texts,
+    tense_queries_have_no_fault, tense_queries_have_one_fault, texts_are_of_one_database,
     texts_are_of_one_query, well_sorted_queries_have_no_fault,
 };

@@ -1,0 +1,235 @@
+-- The texts of a query with temporal operators are data texts, and those of its expansion are the same.
+use Rattle.std.proofs.Common.{◌&&◌, ℕ, suc, List, [], ◌∷◌, ◌++◌, length, map, reverse, sym, subst}
+use Rattle.std.specs.List.{AllByRecursion}
+use Rattle.lrp_model.specs.Checked.{data_of, is_equality, plain, plain_each, plain_question, term_of, time_of}
+use Rattle.lrp_model.specs.Columns.{column_text}
+use Rattle.lrp_model.specs.DatabaseMeaning.{column_of}
+use Rattle.lrp_model.specs.DatabaseReading.{IsDatabase}
+use Rattle.lrp_model.specs.DataTexts.{IsDataText}
+use Rattle.lrp_model.specs.Databases.{comma}
+use Rattle.lrp_model.specs.Domains.{all_texts, database_texts, form_texts, forms_texts, term_texts}
+use Rattle.lrp_model.specs.Rows.{columns_in, relation_named}
+use Rattle.lrp_model.specs.Lexing.{tokens, start}
+use Rattle.lrp_model.specs.Queries.{WrittenTerm, FitsTerm, op_symbol, term_text}
+use Rattle.lrp_model.specs.Queries.WrittenTerm.{integer, text_term, variable, shifted}
+use Rattle.lrp_model.specs.QueryMeaning.{raw_term, term_kind}
+use Rattle.lrp_model.specs.RawQueries.{RawForm, RawForms, raw_atom, raw_compare, raw_member, raw_not, raw_and, raw_or, raw_implies, raw_group, raw_exists, raw_forall, no_raws, raw}
+use Rattle.lrp_model.specs.Sorting.{Binders, is_data_term, term_sort}
+use Rattle.lrp_model.specs.Tokens.{located_text, separated}
+use Rattle.lrp_model.specs.Tokens.Token.{word_token, symbol_token, end_token}
+use Rattle.lrp_model.specs.Tokens.Part.{any}
+use Rattle.lrp_model.specs.declared.raw.RawTerm.{RawTerm}
+use Rattle.lrp_model.specs.declared.raw.RawTermKind.{RawTermKind}
+use Rattle.lrp_model.specs.declared.raw.RawTermKind.TheVariants.{Int, Text, Var, Shifted}
+use Rattle.lrp_model.specs.declared.relations.Column.{Column}
+use Rattle.lrp_model.specs.declared.relations.Relation.{Relation}
+use Rattle.lrp_model.specs.declared.tokens.Place.{Place}
+use Rattle.lrp_model.specs.declared.tokens.Symbol.TheVariants.{Close, Comma, Bar, CloseBrace}
+use Rattle.lrp_model.specs.declared.tokens.Word.{Word}
+use Rattle.lrp_model.specs.declared.tokens.Word.TheVariants.{And, Or, Implies}
+use Rattle.lrp_model.specs.declared.written.Located.{Located}
+use Rattle.lrp_tense.specs.Expanding.{Naming, renamed, renamed_kind, expanded, expanded_each, expanded_question, moment_of, between_of, renamed_to, number_of, operators}
+use Rattle.lrp_tense.specs.TenseQueries.{WrittenTense, FurtherTenses, FitsTenseSizes, FitTenseSizes, interval_text, tense_text, tenses_text, tense_query_text}
+use Rattle.lrp_tense.specs.TenseQueries.WrittenTense.{atom, compared, member, denied, all_of, any_of, implied, group, some, every, once_in, always_in, since_when, until_when, hole}
+use Rattle.lrp_tense.specs.TenseQueries.FurtherTenses.{last, more}
+use Rattle.lrp_tense.specs.TenseReading.{IsTenseQuery, tense_form, tense_forms}
+use Rattle.lrp_tense.specs.Trees.{TenseForm, TenseForms, TenseQuestion, tense_atom, tense_compare, tense_member, tense_not, tense_and, tense_or, tense_implies, tense_group, tense_exists, tense_forall, once, always, since, until, no_tenses, tense}
+use Rattle.lrp_text.proofs.NameTokens.{all_front, all_behind}
+use Rattle.lrp_reading_laws.proofs.DataTextLemmas.{TextPart, takes_texted, tokens_texted, IsGood, term_good, terms_good, IsGoodData, nothing_good, IsEntry, both, term_entry, test_entries, database_entries}
+
+-- ---- terms
+
+-- a text among the kinds of terms is a data text
+abbrev IsGoodKind : RawTermKind → Type 0
+IsGoodKind (Text t) = IsDataText t
+IsGoodKind (Int x) = Unit {0}
+IsGoodKind (Var v) = Unit {0}
+IsGoodKind (Shifted v plus) = Unit {0}
+
+abbrev IsGoodTerm : RawTerm → Type 0
+IsGoodTerm t = IsGoodKind t.kind
+
+kind_good : (t : WrittenTerm) → IsGood t → IsGoodKind (term_kind t)
+kind_good (text_term t) h = h
+kind_good (integer i) h = tt
+kind_good (variable n) h = tt
+kind_good (shifted n down k) h = tt
+
+kinds_good : (ts : List (Located WrittenTerm)) → AllByRecursion (λ t. IsGood t.item) ts → AllByRecursion IsGoodTerm (map raw_term ts)
+kinds_good [] h = tt
+kinds_good (t ∷ ts) h = (kind_good t.item h.0, kinds_good ts h.1)
+
+-- a written term stands with its place
+located_good : (t : Located WrittenTerm) → AllByRecursion TextPart (located_text term_text t) → FitsTerm t.item → IsGoodTerm (raw_term t)
+located_good t h short = kind_good t.item (term_good t.place t.item h short)
+
+renamed_good : (names : Naming) (k : RawTermKind) → IsGoodKind k → IsGoodKind (renamed_kind names k)
+renamed_good names (Text t) h = h
+renamed_good names (Int x) h = tt
+renamed_good names (Var v) h = tt
+renamed_good names (Shifted v plus) h = tt
+
+renamed_each : (names : Naming) (ts : List RawTerm) → AllByRecursion IsGoodTerm ts → AllByRecursion IsGoodTerm (map (renamed names) ts)
+renamed_each names [] h = tt
+renamed_each names (t ∷ ts) h = (renamed_good names t.kind h.0, renamed_each names ts h.1)
+
+data_good : (k : RawTermKind) → IsGoodKind k → IsGoodData (data_of k)
+data_good (Text t) h = h
+data_good (Int x) h = nothing_good
+data_good (Var v) h = tt
+data_good (Shifted v plus) h = nothing_good
+
+-- ---- formulas without operators
+
+abbrev mutual
+  HasGoodTexts : RawForm → Type 0
+  HasGoodTexts (raw_atom p n ts) = AllByRecursion IsGoodTerm ts
+  HasGoodTexts (raw_compare p l op r) = IsGoodTerm l × IsGoodTerm r
+  HasGoodTexts (raw_member p t point) = Unit {0}
+  HasGoodTexts (raw_not p f) = HasGoodTexts f
+  HasGoodTexts (raw_and p fs) = HaveGoodTexts fs
+  HasGoodTexts (raw_or p fs) = HaveGoodTexts fs
+  HasGoodTexts (raw_implies p f g) = HasGoodTexts f × HasGoodTexts g
+  HasGoodTexts (raw_group p f) = HasGoodTexts f
+  HasGoodTexts (raw_exists p c f) = HasGoodTexts f
+  HasGoodTexts (raw_forall p c f) = HasGoodTexts f
+
+  HaveGoodTexts : RawForms → Type 0
+  HaveGoodTexts no_raws = Unit {0}
+  HaveGoodTexts (raw f fs) = HasGoodTexts f × HaveGoodTexts fs
+
+raw_entries : (cs : List Column) (bs : Binders) (ts : List RawTerm) → AllByRecursion IsGoodTerm ts → AllByRecursion IsEntry (term_texts cs (map (term_of bs) ts))
+raw_entries [] bs [] h = tt
+raw_entries [] bs (t ∷ ts) h = tt
+raw_entries (c ∷ cs) bs [] h = tt
+raw_entries (c ∷ cs) bs (t ∷ ts) h =
+    term_entry (is_data_term (term_sort bs t)) (data_of t.kind) (time_of t.kind) c cs (map (term_of bs) ts) (data_good t.kind h.0) (raw_entries cs bs ts h.1)
+
+mutual
+  good_entries : (f : RawForm) → HasGoodTexts f → (bs : Binders) (db : List Relation) (binders : List Column) → AllByRecursion IsEntry (form_texts (plain f bs) db binders)
+  good_entries (raw_atom p n ts) h bs db binders = raw_entries (columns_in (relation_named db n)) bs ts h
+  good_entries (raw_compare p l op r) h bs db binders =
+      test_entries (is_equality op && is_data_term (term_sort bs l) && is_data_term (term_sort bs r)) binders (data_of l.kind) (data_of r.kind) (time_of l.kind) (time_of r.kind) op (data_good l.kind h.0) (data_good r.kind h.1)
+  good_entries (raw_member p t point) h bs db binders = tt
+  good_entries (raw_not p f) h bs db binders = good_entries f h bs db binders
+  good_entries (raw_and p fs) h bs db binders = each_entries fs h bs db binders
+  good_entries (raw_or p fs) h bs db binders = each_entries fs h bs db binders
+  good_entries (raw_implies p f g) h bs db binders =
+      both (form_texts (plain f bs) db binders) (form_texts (plain g bs) db binders) (good_entries f h.0 bs db binders) (good_entries g h.1 bs db binders)
+  good_entries (raw_group p f) h bs db binders = good_entries f h bs db binders
+  good_entries (raw_exists p c f) h bs db binders = good_entries f h (c ∷ bs) db (record { name = c.name; sort = c.sort } ∷ binders)
+  good_entries (raw_forall p c f) h bs db binders = good_entries f h (c ∷ bs) db (record { name = c.name; sort = c.sort } ∷ binders)
+
+  each_entries : (fs : RawForms) → HaveGoodTexts fs → (bs : Binders) (db : List Relation) (binders : List Column) → AllByRecursion IsEntry (forms_texts (plain_each fs bs) db binders)
+  each_entries no_raws h bs db binders = tt
+  each_entries (raw f fs) h bs db binders =
+      both (form_texts (plain f bs) db binders) (forms_texts (plain_each fs bs) db binders) (good_entries f h.0 bs db binders) (each_entries fs h.1 bs db binders)
+
+-- ---- formulas with operators
+
+abbrev mutual
+  HasTenseTexts : TenseForm → Type 0
+  HasTenseTexts (tense_atom p n ts) = AllByRecursion IsGoodTerm ts
+  HasTenseTexts (tense_compare p l op r) = IsGoodTerm l × IsGoodTerm r
+  HasTenseTexts (tense_member p t point) = Unit {0}
+  HasTenseTexts (tense_not p f) = HasTenseTexts f
+  HasTenseTexts (tense_and p fs) = HaveTenseTexts fs
+  HasTenseTexts (tense_or p fs) = HaveTenseTexts fs
+  HasTenseTexts (tense_implies p f g) = HasTenseTexts f × HasTenseTexts g
+  HasTenseTexts (tense_group p f) = HasTenseTexts f
+  HasTenseTexts (tense_exists p c f) = HasTenseTexts f
+  HasTenseTexts (tense_forall p c f) = HasTenseTexts f
+  HasTenseTexts (once o from to f) = HasTenseTexts f
+  HasTenseTexts (always o from to f) = HasTenseTexts f
+  HasTenseTexts (since o f g) = HasTenseTexts f × HasTenseTexts g
+  HasTenseTexts (until o f g) = HasTenseTexts f × HasTenseTexts g
+
+  HaveTenseTexts : TenseForms → Type 0
+  HaveTenseTexts no_tenses = Unit {0}
+  HaveTenseTexts (tense f fs) = HasTenseTexts f × HaveTenseTexts fs
+
+-- to write operators out brings no text
+mutual
+  expanded_good : (f : TenseForm) → HasTenseTexts f → (number : Place → ℕ) (names : Naming) → HasGoodTexts (expanded f number names)
+  expanded_good (tense_atom p n ts) h number names = renamed_each names ts h
+  expanded_good (tense_compare p l op r) h number names = (renamed_good names l.kind h.0, renamed_good names r.kind h.1)
+  expanded_good (tense_member p t point) h number names = tt
+  expanded_good (tense_not p f) h number names = expanded_good f h number names
+  expanded_good (tense_and p fs) h number names = each_good fs h number names
+  expanded_good (tense_or p fs) h number names = each_good fs h number names
+  expanded_good (tense_implies p f g) h number names = (expanded_good f h.0 number names, expanded_good g h.1 number names)
+  expanded_good (tense_group p f) h number names = expanded_good f h number names
+  expanded_good (tense_exists p c f) h number names = expanded_good f h number (renamed_to c.name c.name ∷ names)
+  expanded_good (tense_forall p c f) h number names = expanded_good f h number (renamed_to c.name c.name ∷ names)
+  expanded_good (once o from to f) h number names =
+      ((tt, tt), ((tt, tt), (expanded_good f h number (renamed_to o.name (moment_of number o) ∷ names), tt)))
+  expanded_good (always o from to f) h number names =
+      (((tt, tt), ((tt, tt), tt)), expanded_good f h number (renamed_to o.name (moment_of number o) ∷ names))
+  expanded_good (since o f g) h number names =
+      ((tt, tt), (expanded_good g h.1 number (renamed_to o.name (moment_of number o) ∷ names), ((((tt, tt), ((tt, tt), tt)), expanded_good f h.0 number (renamed_to o.name (between_of number o) ∷ names)), tt)))
+  expanded_good (until o f g) h number names =
+      ((tt, tt), (expanded_good g h.1 number (renamed_to o.name (moment_of number o) ∷ names), ((((tt, tt), ((tt, tt), tt)), expanded_good f h.0 number (renamed_to o.name (between_of number o) ∷ names)), tt)))
+
+  each_good : (fs : TenseForms) → HaveTenseTexts fs → (number : Place → ℕ) (names : Naming) → HaveGoodTexts (expanded_each fs number names)
+  each_good no_tenses h number names = tt
+  each_good (tense f fs) h number names = (expanded_good f h.0 number names, each_good fs h.1 number names)
+
+-- ---- what is written
+
+mutual
+  tense_good : (f : WrittenTense) → AllByRecursion TextPart (tense_text f) → FitsTenseSizes f → HasTenseTexts (tense_form f)
+  tense_good (atom p n ts) h short = kinds_good ts (terms_good ts (all_front TextPart (separated comma (located_text term_text) ts) (any (symbol_token Close) ∷ []) h.1.1) short)
+  tense_good (compared l op r) h short = (
+    located_good l (all_front TextPart (located_text term_text l) (any (symbol_token (op_symbol op)) ∷ located_text term_text r) h) short.0,
+    located_good r (all_behind TextPart (located_text term_text l) (any (symbol_token (op_symbol op)) ∷ located_text term_text r) h).1 short.1,
+  )
+  tense_good (member t i k) h short = tt
+  tense_good (denied p f) h short = tense_good f h.1 short
+  tense_good (all_of p f fs) h short =
+      let behind = tenses_text And fs ++ any (symbol_token Close) ∷ [] in
+      (tense_good f (all_front TextPart (tense_text f) behind h.1) short.0, tenses_good fs And (all_front TextPart (tenses_text And fs) (any (symbol_token Close) ∷ []) (all_behind TextPart (tense_text f) behind h.1)) short.1)
+  tense_good (any_of p f fs) h short =
+      let behind = tenses_text Or fs ++ any (symbol_token Close) ∷ [] in
+      (tense_good f (all_front TextPart (tense_text f) behind h.1) short.0, tenses_good fs Or (all_front TextPart (tenses_text Or fs) (any (symbol_token Close) ∷ []) (all_behind TextPart (tense_text f) behind h.1)) short.1)
+  tense_good (implied p f g) h short =
+      let end = any (symbol_token Close) ∷ [] in
+      let behind = any (word_token Implies) ∷ (tense_text g ++ end) in
+      (tense_good f (all_front TextPart (tense_text f) behind h.1) short.0, tense_good g (all_front TextPart (tense_text g) end (all_behind TextPart (tense_text f) behind h.1).1) short.1)
+  tense_good (group p f) h short = tense_good f (all_front TextPart (tense_text f) (any (symbol_token Close) ∷ []) h.1) short
+  tense_good (some p c f) h short = tense_good f (all_behind TextPart (column_text c) (tense_text f) h.1) short
+  tense_good (every p c f) h short = tense_good f (all_behind TextPart (column_text c) (tense_text f) h.1) short
+  tense_good (once_in o from to f) h short = tense_good f (all_behind TextPart (interval_text from to) (tense_text f) h.1.1.1) short.2
+  tense_good (always_in o from to f) h short = tense_good f (all_behind TextPart (interval_text from to) (tense_text f) h.1.1.1) short.2
+  tense_good (since_when o f g) h short =
+      let end = any (symbol_token Close) ∷ [] in
+      let behind = any (symbol_token Comma) ∷ (tense_text g ++ end) in
+      (tense_good f (all_front TextPart (tense_text f) behind h.1.1.1) short.0, tense_good g (all_front TextPart (tense_text g) end (all_behind TextPart (tense_text f) behind h.1.1.1).1) short.1)
+  tense_good (until_when o f g) h short =
+      let end = any (symbol_token Close) ∷ [] in
+      let behind = any (symbol_token Comma) ∷ (tense_text g ++ end) in
+      (tense_good f (all_front TextPart (tense_text f) behind h.1.1.1) short.0, tense_good g (all_front TextPart (tense_text g) end (all_behind TextPart (tense_text f) behind h.1.1.1).1) short.1)
+  tense_good (hole p) h short = tt
+
+  tenses_good : (fs : FurtherTenses) (w : Word) → AllByRecursion TextPart (tenses_text w fs) → FitTenseSizes fs → HaveTenseTexts (tense_forms fs)
+  tenses_good (last f) w h short = (tense_good f h.1 short, tt)
+  tenses_good (more f fs) w h short = (tense_good f (all_front TextPart (tense_text f) (tenses_text w fs) h.1) short.0, tenses_good fs w (all_behind TextPart (tense_text f) (tenses_text w fs) h.1) short.1)
+
+-- ---- a query
+
+-- the texts of the written query's body are data texts
+body_good : (bytes : List ℕ) (q : TenseQuestion) → IsTenseQuery bytes q → HasTenseTexts q.body
+body_good bytes q is =
+    let tree = is.tree in
+    let body = tense_text tree.body in
+    let end = any (symbol_token CloseBrace) ∷ any end_token ∷ [] in
+    let columns = separated comma column_text tree.head in
+    let parts = takes_texted (tense_query_text tree) (tokens bytes) [] is.text.spelled (tokens_texted (suc (length bytes)) start bytes is.text.utf8) in
+    let inside = all_behind TextPart columns (any (symbol_token Bar) ∷ (body ++ end)) parts.1 in
+    subst (λ (r : TenseQuestion). HasTenseTexts r.body) (sym is.meant) (tense_good tree.body (all_front TextPart body end inside.1) is.text.lawful.sizes)
+
+-- and those of a database and the expanded query
+pub tense_entries : (bytes query : List ℕ) (db : List Relation) (q : TenseQuestion) → IsDatabase bytes db → IsTenseQuery query q → AllByRecursion IsEntry (all_texts db (plain_question (expanded_question q)))
+tense_entries bytes query db q d is =
+    let good = expanded_good q.body (body_good query q is) (number_of (operators q.body)) [] in
+    both (database_texts db) (form_texts (plain_question (expanded_question q)).body db (plain_question (expanded_question q)).head) (database_entries bytes db d)
+    (good_entries (expanded_question q).body good (reverse q.head) db (map column_of q.head))
