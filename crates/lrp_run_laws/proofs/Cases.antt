@@ -1,0 +1,214 @@
+-- How a run can come to what is due for its task: each case with all that is known there.
+use Rattle.std.proofs.Common.{◌≡◌, ◌<◌, ◌≤◌, ◌^◌, ℕ, ℤ, Bool, List, [], length, refl, sym, ap, subst, Option, Some, None, Result, Ok, Err}
+use Rattle.lrp_io.specs.Files.{content_of}
+use Rattle.lrp_io.specs.declared.shelf.File.{File}
+use Rattle.lrp_model.specs.AnswerTexts.{IsAnswerText}
+use Rattle.lrp_model.specs.Caps.{IsFirstMany}
+use Rattle.lrp_model.specs.DatabaseReading.{IsDatabaseFault}
+use Rattle.lrp_model.specs.Formulas.{Question}
+use Rattle.lrp_model.specs.Pages.{Tuple}
+use Rattle.lrp_model.specs.Periods.{period}
+use Rattle.lrp_model.specs.Plans.{IsPlan, scaled_reach, IsWithinLimits}
+use Rattle.lrp_model.specs.Texts.{Identifier, Text}
+use Rattle.lrp_model.specs.declared.faults.DbFault.{DbFault}
+use Rattle.lrp_model.specs.declared.faults.QueryFault.{QueryFault}
+use Rattle.lrp_model.specs.declared.plans.Plan.{Plan}
+use Rattle.lrp_model.specs.declared.relations.Relation.{Relation}
+use Rattle.lrp_token.specs.Reading.{IsNoToken, HasOtherCounts}
+use Rattle.lrp_top.specs.Due.{IsDatabaseReadOf, IsQueryRead, IsQueryReadOf, IsPlanned, IsCounted, IsOutput, IsExplained, IsAnswered, IsDecided, IsListed, IsPlannedFor}
+use Rattle.lrp_run_laws.specs.Contents.{Contents, digest_of, SaysRelations, SaysQuestion}
+use Rattle.lrp_run_laws.specs.Tasks.{HasFewCells}
+use Rattle.lrp_top.specs.Outcomes.{Outcome}
+use Rattle.lrp_top.specs.Resuming.{IsResumed, IsStale, shape_of}
+use Rattle.lrp_top.specs.Seen.{ShelfSeen, AreBytesOf, HasFailed}
+use Rattle.lrp_top.specs.Sources.{Source}
+use Rattle.lrp_top.specs.Steps.{Then, Behind}
+use Rattle.lrp_top.specs.Telling.{TellsPage, TellsPlan, TellsWitness}
+use Rattle.lrp_top.specs.Written.{IsFaultyAs, plain_if}
+use Rattle.lrp_top.specs.declared.outcome.Refusal.{Refusal}
+use Rattle.lrp_top.specs.declared.outcome.Refusal.TheVariants.{ReadDatabase, LongDatabase, Database, ReadQuery, LongQuery, Query, PeriodLimit, BoundLimit, TokenForm, TokenShape, TokenStale, Cells, Memory}
+
+-- what a task asks of two files: how they are written and their names, the token of a page and the cap, where it has them
+pub record Asked : Type 0 where
+  pub tense : Bool
+  pub civil : Bool
+  pub database : Identifier
+  pub query : Identifier
+  pub after : Option Text
+  pub cap : Option ℕ
+
+-- no step has more cells than the cap, where there is one
+abbrev pub IsFew : Option ℕ → List Relation → Question → Type 0
+IsFew None db q = Unit {0}
+IsFew (Some cap) db q = HasFewCells cap db q
+
+-- what is told of a query: by the files' digest, its plan and the tuple of the token
+abbrev pub Telling : Type 1
+Telling = List ℕ → Plan → Option Tuple → List Relation → Question → List ℕ → Type 0
+
+-- ---- behind the plan
+
+pub data Onward (digest : List ℕ) (a : Asked) (db : List Relation) (q : Question) (Tells : Option Tuple → List ℕ → Type 0) : Outcome → Type 0 where
+  output : (tuple : Option Tuple) → IsResumed digest q.head a.after (Ok tuple) → IsFew a.cap db q → (bytes : List ℕ) → Tells tuple bytes → Onward digest a db q Tells (Ok bytes)
+  form : (text : Text) → a.after ≡ Some text → IsNoToken text → Onward digest a db q Tells (Err TokenForm)
+  other : (text : Text) → a.after ≡ Some text → HasOtherCounts text (shape_of q.head) → Onward digest a db q Tells (Err TokenShape)
+  stale : (text : Text) → a.after ≡ Some text → IsStale digest q.head text → Onward digest a db q Tells (Err TokenStale)
+  many : (cap step : ℕ) → a.cap ≡ Some cap → (tuple : Option Tuple) → IsResumed digest q.head a.after (Ok tuple) → IsFirstMany db q cap step → Onward digest a db q Tells (Err (Cells cap step))
+  want : Onward digest a db q Tells (Err Memory)
+
+-- ---- the whole of it
+
+pub data Case (seen : ShelfSeen) (a : Asked) (files : Contents) (Tells : Telling) : Outcome → Type 0 where
+  unread_database : HasFailed seen a.database → Case seen a files Tells (Err ReadDatabase)
+  long_database : 16777216 < length files.database → Case seen a files Tells (Err LongDatabase)
+  no_database : (fault : DbFault) → length files.database ≤ 16777216 → IsDatabaseFault (plain_if a.civil files.database) fault → Case seen a files Tells (Err (Database fault))
+  unread_query : (db : List Relation) → SaysRelations a.civil files db → HasFailed seen a.query → Case seen a files Tells (Err ReadQuery)
+  long_query : (db : List Relation) → SaysRelations a.civil files db → 16777216 < length files.query → Case seen a files Tells (Err LongQuery)
+  no_query : (db : List Relation) → SaysRelations a.civil files db → (fault : QueryFault) → length files.query ≤ 16777216 → IsFaultyAs a.tense db files.query fault → Case seen a files Tells (Err (Query fault))
+  above_period : (db : List Relation) → SaysRelations a.civil files db → (q : Question) → SaysQuestion a.tense files db q → 2 ^ 62 < period db q.body → Case seen a files Tells (Err PeriodLimit)
+  above_bound : (db : List Relation) → SaysRelations a.civil files db → (q : Question) → SaysQuestion a.tense files db q → period db q.body ≤ 2 ^ 62 → 2 ^ 62 < scaled_reach db q → Case seen a files Tells (Err BoundLimit)
+  planned : (db : List Relation) → SaysRelations a.civil files db → (q : Question) → SaysQuestion a.tense files db q → IsWithinLimits db q → (p : Plan) → IsPlan p db q → (outcome : Outcome) → Onward (digest_of files) a db q (λ tuple. Tells (digest_of files) p tuple db q) outcome → Case seen a files Tells outcome
+  wanted : Case seen a files Tells (Err Memory)
+
+-- ---- the bytes of files
+
+-- some bytes are those of a file of this name
+pub some_bytes : (files : Option (List File)) (name : Identifier) → (bytes : List ℕ) × ((held : List File) → files ≡ Some held → bytes ≡ content_of held name)
+some_bytes None name = ([], λ held e. absurd (none_some held e))
+  where
+    none_some : (held : List File) → ◌≡◌ {A = Option (List File)} None (Some held) → ⊥
+    none_some held e = cc
+some_bytes (Some files) name = (content_of files name, λ held e. ap (λ h. content_of h name) (same files held e))
+  where
+    same : (h k : List File) → Some h ≡ Some k → h ≡ k
+    same h k e = cc
+
+-- ---- each step
+
+-- the output is written, or memory is wanted
+written_as : (digest : List ℕ) (a : Asked) (db : List Relation) (q : Question) (Tells : Option Tuple → List ℕ → Type 0) (tuple : Option Tuple) → IsResumed digest q.head a.after (Ok tuple) → IsFew a.cap db q → (outcome : Outcome) → IsOutput (Tells tuple) outcome → Onward digest a db q Tells outcome
+written_as digest a db q Tells tuple resumed few (Ok bytes) told = output tuple resumed few bytes told
+written_as digest a db q Tells tuple resumed few (Err Memory) told = want
+written_as digest a db q Tells tuple resumed few (Err _) told = absurd told
+
+-- the cells are counted before
+counted_as : (digest : List ℕ) (a : Asked) (db : List Relation) (q : Question) (Tells : Option Tuple → List ℕ → Type 0) (tuple : Option Tuple) (cap : ℕ) → a.cap ≡ Some cap → IsResumed digest q.head a.after (Ok tuple)
+    → (outcome : Outcome) (counted : Result (Unit {0}) Refusal) → IsCounted db q cap counted → Behind counted (λ done. IsOutput (Tells tuple)) outcome → Onward digest a db q Tells outcome
+counted_as digest a db q Tells tuple cap e resumed outcome (Ok done) few next = written_as digest a db q Tells tuple resumed (subst (λ c. IsFew c db q) (sym e) few) outcome next
+counted_as digest a db q Tells tuple cap e resumed outcome (Err (Cells most step)) told next =
+    subst (Onward digest a db q Tells) (sym (next)) (subst (λ c. Onward digest a db q Tells (Err (Cells c step))) (sym told.0) (many cap step e tuple resumed told.1))
+counted_as digest a db q Tells tuple cap e resumed outcome (Err Memory) told next = subst (Onward digest a db q Tells) (sym next) want
+counted_as digest a db q Tells tuple cap e resumed outcome (Err _) told next = absurd told
+
+-- the page begins before that
+resumed_as : (digest : List ℕ) (a : Asked) (db : List Relation) (q : Question) (Tells : Option Tuple → List ℕ → Type 0) (cap : ℕ) → a.cap ≡ Some cap
+    → (outcome : Outcome) (after : Option Text) → a.after ≡ after → (resumed : Result (Option Tuple) Refusal) → IsResumed digest q.head after resumed → Behind resumed (λ tuple. Then (IsCounted db q cap) (λ done. IsOutput (Tells tuple))) outcome → Onward digest a db q Tells outcome
+resumed_as digest a db q Tells cap e outcome after is (Ok tuple) told next = counted_as digest a db q Tells tuple cap e (subst (λ t. IsResumed digest q.head t (Ok tuple)) (sym is) told) outcome next.first next.is next.next
+resumed_as digest a db q Tells cap e outcome None is (Err r) told next = absurd (err_ok r told)
+  where
+    err_ok : (refusal : Refusal) → ◌≡◌ {A = Result (Option Tuple) Refusal} (Err refusal) (Ok None) → ⊥
+    err_ok refusal h = cc
+resumed_as digest a db q Tells cap e outcome (Some text) is (Err TokenForm) told next = subst (Onward digest a db q Tells) (sym next) (form text is told)
+resumed_as digest a db q Tells cap e outcome (Some text) is (Err TokenShape) told next = subst (Onward digest a db q Tells) (sym next) (other text is told)
+resumed_as digest a db q Tells cap e outcome (Some text) is (Err TokenStale) told next = subst (Onward digest a db q Tells) (sym next) (stale text is told)
+resumed_as digest a db q Tells cap e outcome (Some text) is (Err Memory) told next = subst (Onward digest a db q Tells) (sym next) want
+resumed_as digest a db q Tells cap e outcome (Some text) is (Err _) told next = absurd told
+
+-- what is due behind a plan
+abbrev Next : Type 1
+Next = Source (List Relation) → Source Question → Plan → Outcome → Type 0
+
+-- what is due behind a plan comes so
+abbrev pub GoesOn : Asked → Telling → Next → Type 0
+GoesOn a Tells Due = (files : Contents) (db : List Relation) (q : Question) (p : Plan) (outcome : Outcome)
+    → Due (record { bytes = files.database; says = db }) (record { bytes = files.query; says = q }) p outcome → Onward (digest_of files) a db q (λ tuple. Tells (digest_of files) p tuple db q) outcome
+
+-- a case over the bytes of both files
+pub record Reached (seen : ShelfSeen) (a : Asked) (Tells : Telling) (outcome : Outcome) : Type 0 where
+  pub files : Contents
+  pub database : AreBytesOf seen a.database files.database
+  pub query : AreBytesOf seen a.query files.query
+  pub case : Case seen a files Tells outcome
+
+module _ (seen : ShelfSeen) (a : Asked) (Tells : Telling) (Due : Next) (goes_on : GoesOn a Tells Due) where
+  -- the query is planned
+  planned_as : (files : Contents) (db : List Relation) → SaysRelations a.civil files db → (q : Question) → SaysQuestion a.tense files db q
+      → (outcome : Outcome) (plan : Result Plan Refusal) → IsPlanned db q plan → Behind plan (Due (record { bytes = files.database; says = db }) (record { bytes = files.query; says = q })) outcome → Case seen a files Tells outcome
+  planned_as files db d q s outcome (Ok p) is next = planned db d q s is.1 p is.0 outcome (goes_on files db q p outcome next)
+  planned_as files db d q s outcome (Err PeriodLimit) is next = subst (Case seen a files Tells) (sym next) (above_period db d q s is)
+  planned_as files db d q s outcome (Err BoundLimit) is next = subst (Case seen a files Tells) (sym next) (above_bound db d q s is.0 is.1)
+  planned_as files db d q s outcome (Err Memory) is next = subst (Case seen a files Tells) (sym next) wanted
+  planned_as files db d q s outcome (Err _) is next = absurd is
+
+  -- what is due behind the query
+  abbrev AfterQuery : Source (List Relation) → Source Question → Outcome → Type 0
+  AfterQuery d q = Then (IsPlanned d.says q.says) (Due d q)
+
+  -- the query is read
+  queried_as : (files : Contents) (db : List Relation) → SaysRelations a.civil files db
+      → (outcome : Outcome) (query : Result (Source Question) Refusal) → IsQueryReadOf a.tense db seen a.query files.query query → Behind query (AfterQuery (record { bytes = files.database; says = db })) outcome → Case seen a files Tells outcome
+  queried_as files db d outcome (Ok q) is next =
+      let same : q ≡ record { bytes = files.query; says = q.says } = ap (λ bytes. ◌of◌ bytes q.says) is.0 in
+      let then : AfterQuery (record { bytes = files.database; says = db }) (record { bytes = files.query; says = q.says }) outcome = subst (λ s. AfterQuery (record { bytes = files.database; says = db }) s outcome) same next in
+      planned_as files db d q.says (record { short = is.1; is = is.2 }) outcome then.first then.is then.next
+    where
+      ◌of◌ : List ℕ → Question → Source Question
+      ◌of◌ bytes q = record { bytes = bytes; says = q }
+  queried_as files db d outcome (Err ReadQuery) is next = subst (Case seen a files Tells) (sym next) (unread_query db d is)
+  queried_as files db d outcome (Err LongQuery) is next = subst (Case seen a files Tells) (sym next) (long_query db d is.0)
+  queried_as files db d outcome (Err (Query fault)) is next = subst (Case seen a files Tells) (sym next) (no_query db d fault is.0 is.1)
+  queried_as files db d outcome (Err Memory) is next = subst (Case seen a files Tells) (sym next) wanted
+  queried_as files db d outcome (Err _) is next = absurd is
+
+  -- what is due behind the database
+  abbrev AfterDatabase : Source (List Relation) → Outcome → Type 0
+  AfterDatabase d = Then (IsQueryRead a.tense d.says seen a.query) (AfterQuery d)
+
+  -- the bytes of the query that nobody read
+  unread : (outcome : Outcome) (database : List ℕ) → AreBytesOf seen a.database database → ((query : List ℕ) → Case seen a (record { database = database; query = query }) Tells outcome) → Reached seen a Tells outcome
+  unread outcome database told case =
+      let some = some_bytes seen.files a.query in
+      record { files = record { database = database; query = some.0 }; database = told; query = some.1; case = case some.0 }
+
+  -- the database is read
+  read_as : (outcome : Outcome) (bytes : List ℕ) → AreBytesOf seen a.database bytes
+      → (database : Result (Source (List Relation)) Refusal) → IsDatabaseReadOf a.civil seen a.database bytes database → Behind database AfterDatabase outcome → Reached seen a Tells outcome
+  read_as outcome bytes told (Ok d) is next =
+      let same : d ≡ record { bytes = bytes; says = d.says } = ap (λ b. source b d.says) is.0 in
+      let then : AfterDatabase (record { bytes = bytes; says = d.says }) outcome = subst (λ s. AfterDatabase s outcome) same next in
+      record {
+        files = record { database = bytes; query = then.is.bytes };
+        database = told;
+        query = then.is.told;
+        case = queried_as (record { database = bytes; query = then.is.bytes }) d.says (record { short = is.1; is = is.2 }) outcome then.first then.is.is then.next;
+      }
+    where
+      source : List ℕ → List Relation → Source (List Relation)
+      source bytes db = record { bytes = bytes; says = db }
+  read_as outcome bytes told (Err ReadDatabase) is next = subst (Reached seen a Tells) (sym next) (unread (Err ReadDatabase) bytes told (λ query. unread_database is))
+  read_as outcome bytes told (Err LongDatabase) is next = subst (Reached seen a Tells) (sym next) (unread (Err LongDatabase) bytes told (λ query. long_database is.0))
+  read_as outcome bytes told (Err (Database fault)) is next = subst (Reached seen a Tells) (sym next) (unread (Err (Database fault)) bytes told (λ query. no_database fault is.0 is.1))
+  read_as outcome bytes told (Err Memory) is next = subst (Reached seen a Tells) (sym next) (unread (Err Memory) bytes told (λ query. wanted))
+  read_as outcome bytes told (Err _) is next = absurd is
+
+  -- what is due for a task that asks a query comes so
+  pub reached : (outcome : Outcome) → IsPlannedFor a.tense a.civil seen a.database a.query Due outcome → Reached seen a Tells outcome
+  reached outcome due = read_as outcome due.is.bytes due.is.told due.first due.is.is due.next
+
+-- ---- the commands
+
+pub answer_goes_on : (a : Asked) (cap : ℕ) → a.cap ≡ Some cap → a.after ≡ None → GoesOn a (λ digest p tuple. IsAnswerText) (IsAnswered cap)
+answer_goes_on a cap e n files db q p outcome due =
+    counted_as (digest_of files) a db q (λ tuple. IsAnswerText db q) None cap e (subst (λ t. IsResumed (digest_of files) q.head t (Ok None)) (sym n) refl) outcome due.first due.is due.next
+
+pub decide_goes_on : (a : Asked) (cap : ℕ) → a.cap ≡ Some cap → a.after ≡ None → GoesOn a (λ digest p tuple. TellsWitness) (IsDecided cap)
+decide_goes_on a cap e n files db q p outcome due =
+    counted_as (digest_of files) a db q (λ tuple. TellsWitness db q) None cap e (subst (λ t. IsResumed (digest_of files) q.head t (Ok None)) (sym n) refl) outcome due.first due.is due.next
+
+pub explain_goes_on : (a : Asked) → a.cap ≡ None → a.after ≡ None → GoesOn a (λ digest p tuple db q. TellsPlan p) IsExplained
+explain_goes_on a e n files db q p outcome due =
+    written_as (digest_of files) a db q (λ tuple. TellsPlan p) None (subst (λ t. IsResumed (digest_of files) q.head t (Ok None)) (sym n) refl) (subst (λ c. IsFew c db q) (sym e) tt) outcome due
+
+pub list_goes_on : (a : Asked) (cap : ℕ) (from to : ℤ) (limit : ℕ) (civil json : Bool) → a.cap ≡ Some cap → GoesOn a (λ digest p tuple db q. TellsPage db q from to tuple limit civil json digest) (IsListed civil from to limit a.after json cap)
+list_goes_on a cap from to limit civil json e files db q p outcome due =
+    resumed_as (digest_of files) a db q (λ tuple. TellsPage db q from to tuple limit civil json (digest_of files)) cap e outcome a.after refl due.first due.is due.next

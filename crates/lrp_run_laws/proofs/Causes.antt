@@ -1,0 +1,253 @@
+-- Why a run ended as it did: from each case of what was due.
+use Rattle.std.proofs.Common.{◌≡◌, ◌≢◌, ◌⊎◌, inl, inr, ℕ, Bool, List, [], refl, sym, ap, ap₂, subst, ◌∙◌, Option, Some, None, Result, Ok, Err}
+use Rattle.lrp_io.specs.Bytes.{appended}
+use Rattle.lrp_io.specs.declared.shelf.File.{File}
+use Rattle.lrp_words.specs.Commands.{Task}
+use Rattle.lrp_words.specs.Commands.Task.{ask, decide, list, explain, check, sample}
+use Rattle.lrp_model.specs.AnswerTexts.{IsAnswerText}
+use Rattle.lrp_model.specs.Formulas.{Question}
+use Rattle.lrp_model.specs.Pages.{Tuple}
+use Rattle.lrp_model.specs.Plans.{IsPlan}
+use Rattle.lrp_model.specs.Texts.{Identifier}
+use Rattle.lrp_model.specs.declared.plans.Plan.{Plan}
+use Rattle.lrp_model.specs.declared.relations.Relation.{Relation}
+use Rattle.lrp_top.specs.Due.{IsDueOf, IsDueFor, IsDatabaseReadOf, IsOutput, IsAnswered, IsDecided, IsExplained, IsListed}
+use Rattle.lrp_run_laws.specs.Contents.{Contents, contents_at, AreContentsFor, digest_of, OverDatabase, OverQuery, Asking, SaysRelations}
+use Rattle.lrp_run_laws.specs.Tasks.{IsOutputOf, TellsPlanOf, TellsPageBehind}
+use Rattle.lrp_run_laws.specs.Runs.{Run, WroteAll}
+use Rattle.lrp_run_laws.specs.Reasons.{IsNoDatabase, IsNoQuery, IsNoTokenOf, IsAbove, OfDatabase, IsQueryRefused, IsQueryAbove, HasFailedFile, HasFailedOneOf, IsReason, HasReasonFor, HasTaskReason, IsUsage}
+use Rattle.lrp_top.specs.Outcomes.{Outcome, Ends, refused_with, status_of, written_of, line_of}
+use Rattle.lrp_top.specs.Resuming.{IsResumed}
+use Rattle.lrp_top.specs.Sampled.{TellsSample}
+use Rattle.lrp_top.specs.Seen.{ShelfSeen, SinkSeen, AreBytesOf}
+use Rattle.lrp_top.specs.Sources.{Source}
+use Rattle.lrp_top.specs.Steps.{Behind}
+use Rattle.lrp_top.specs.Telling.{TellsPage, TellsPlan, TellsRelations, TellsWitness}
+use Rattle.lrp_top.specs.declared.outcome.Refusal.{Refusal}
+use Rattle.lrp_top.specs.declared.outcome.Refusal.TheVariants.{Usage, ReadDatabase, LongDatabase, Database, ReadQuery, LongQuery, Query, PeriodLimit, BoundLimit, TokenForm, TokenShape, TokenStale, Cells, Memory}
+use Rattle.lrp_top.specs.declared.status.Status.{Status}
+use Rattle.lrp_top.specs.declared.status.Status.TheVariants as status
+use Rattle.lrp_run_laws.proofs.Cases.{Asked, Telling, output, form, other, stale, many, want, Case, unread_database, long_database, no_database, unread_query, long_query, no_query, above_period, above_bound, planned, wanted, reached, answer_goes_on, decide_goes_on, explain_goes_on, list_goes_on}
+
+-- ---- a task that asks a query
+
+-- the query's refusals, and its limits
+abbrev RefusedFor : Asked → Contents → Type 0
+RefusedFor a files = OverDatabase a.civil files (λ db. IsNoQuery files a.tense db ⊎ OverQuery a.tense files (IsNoTokenOf (digest_of files) a.after) db)
+
+abbrev AboveFor : Asked → Contents → Type 0
+AboveFor a files = OverDatabase a.civil files (OverQuery a.tense files (IsAbove a.cap))
+
+-- why the task is refused with a status
+abbrev RefusalFor : Asked → Contents → ShelfSeen → Status → Type 0
+RefusalFor a files seen status.Database = IsNoDatabase files a.civil
+RefusalFor a files seen status.Query = RefusedFor a files
+RefusalFor a files seen status.Limit = AboveFor a files
+RefusalFor a files seen status.Read = HasFailedOneOf seen files a.civil a.database a.query
+RefusalFor a files seen status.Memory = Unit {0}
+RefusalFor a files seen _ = ⊥
+
+-- what is told as an output
+abbrev Shown : Type 1
+Shown = List ℕ → List ℕ → List Relation → Question → Type 0
+
+-- what holds of an outcome: an output is told, or there is a cause
+abbrev CauseFor : Asked → Contents → ShelfSeen → Shown → Outcome → Type 0
+CauseFor a files seen Shows (Ok bytes) = Asking a.tense a.civil files (Shows (digest_of files) bytes)
+CauseFor a files seen Shows (Err refusal) = RefusalFor a files seen (refused_with refusal)
+
+-- what is told of the query is what is shown
+abbrev Show : Asked → Telling → Shown → Type 0
+Show a Tells Shows = (digest : List ℕ) (p : Plan) (tuple : Option Tuple) (db : List Relation) (q : Question) (bytes : List ℕ) → IsPlan p db q → IsResumed digest q.head a.after (Ok tuple) → Tells digest p tuple db q bytes → Shows digest bytes db q
+
+module _ (seen : ShelfSeen) (a : Asked) (files : Contents) (Tells : Telling) (Shows : Shown) (show : Show a Tells Shows) where
+  cause_of : (outcome : Outcome) → Case seen a files Tells outcome → CauseFor a files seen Shows outcome
+  cause_of _ (unread_database failed) = inl failed
+  cause_of _ (long_database long) = inl long
+  cause_of _ (no_database fault short is) = inr (fault, is)
+  cause_of _ (unread_query db says failed) = inr (record { db = db; says = says; holds = failed })
+  cause_of _ (long_query db says long) = record { db = db; says = says; holds = inl (inl long) }
+  cause_of _ (no_query db says fault short is) = record { db = db; says = says; holds = inl (inr (fault, is)) }
+  cause_of _ (above_period db says q said above) = record { db = db; says = says; holds = record { q = q; says = said; holds = inl above } }
+  cause_of _ (above_bound db says q said period above) = record { db = db; says = says; holds = record { q = q; says = said; holds = inr (inl above) } }
+  cause_of _ (planned db says q said limits p plan _ (output tuple resumed few bytes told)) =
+      record { db = db; says = says; holds = record { q = q; says = said; holds = record { limits = limits; holds = show (digest_of files) p tuple db q bytes plan resumed told } } }
+  cause_of _ (planned db says q said limits p plan _ (form text is none)) =
+      record { db = db; says = says; holds = inr (record { q = q; says = said; holds = subst (λ t. IsNoTokenOf (digest_of files) t db q) (sym is) (inl none) }) }
+  cause_of _ (planned db says q said limits p plan _ (other text is counts)) =
+      record { db = db; says = says; holds = inr (record { q = q; says = said; holds = subst (λ t. IsNoTokenOf (digest_of files) t db q) (sym is) (inr (inl counts)) }) }
+  cause_of _ (planned db says q said limits p plan _ (stale text is old)) =
+      record { db = db; says = says; holds = inr (record { q = q; says = said; holds = subst (λ t. IsNoTokenOf (digest_of files) t db q) (sym is) (inr (inr old)) }) }
+  cause_of _ (planned db says q said limits p plan _ (many cells step is tuple resumed first)) =
+      record { db = db; says = says; holds = record { q = q; says = said; holds = subst (λ c. IsAbove c db q) (sym is) (inr (inr (step, first))) } }
+  cause_of _ (planned db says q said limits p plan _ want) = tt
+  cause_of _ wanted = tt
+
+-- ---- a task
+
+-- no other refusal has the status of want of memory
+is_memory : (r : Refusal) → refused_with r ≡ status.Memory → r ≡ Memory
+is_memory Memory e = refl
+is_memory Usage e = cc
+is_memory ReadDatabase e = cc
+is_memory LongDatabase e = cc
+is_memory (Database fault) e = cc
+is_memory ReadQuery e = cc
+is_memory LongQuery e = cc
+is_memory (Query fault) e = cc
+is_memory PeriodLimit e = cc
+is_memory BoundLimit e = cc
+is_memory TokenForm e = cc
+is_memory TokenShape e = cc
+is_memory TokenStale e = cc
+is_memory (Cells most step) e = cc
+
+-- what holds of a task's outcome over the bytes of its files: it is the output, or there is a cause
+abbrev OutcomeFor : Task → ShelfSeen → Contents → Outcome → Type 0
+OutcomeFor task seen files (Ok bytes) = IsOutputOf task files bytes
+OutcomeFor task seen files (Err refusal) = (taken : SinkSeen) → WroteAll taken (line_of refusal) → IsReason (refused_with refusal) task files seen taken
+
+pub record Explained (task : Task) (seen : ShelfSeen) (outcome : Outcome) : Type 0 where
+  pub files : Contents
+  pub told : AreContentsFor seen task files
+  pub is : OutcomeFor task seen files outcome
+
+-- the bytes of two files
+both_files : (seen : ShelfSeen) (files : Contents) (database query : Identifier) → AreBytesOf seen database files.database → AreBytesOf seen query files.query
+    → (held : List File) → seen.files ≡ Some held → files ≡ contents_at held database query
+both_files seen files database query d q held e = ap₂ contents (d held e) (q held e)
+  where
+    contents : List ℕ → List ℕ → Contents
+    contents d q = record { database = d; query = q }
+
+-- the causes of a task that asks a query
+module _ (a : Asked) (files : Contents) (seen : ShelfSeen) (task : Task) (no_database_for : IsNoDatabase files a.civil → OfDatabase (IsNoDatabase files) task) (refused : RefusedFor a files → IsQueryRefused files task) (above : AboveFor a files → IsQueryAbove files task) (failed : HasFailedOneOf seen files a.civil a.database a.query → HasFailedFile seen files task) where
+  cause_for : (s : Status) → RefusalFor a files seen s → (taken : SinkSeen) → (s ≡ status.Memory → WroteAll taken (line_of Memory)) → IsReason s task files seen taken
+  cause_for status.Database h taken line = no_database_for h
+  cause_for status.Query h taken line = refused h
+  cause_for status.Limit h taken line = above h
+  cause_for status.Read h taken line = failed h
+  cause_for status.Memory h taken line = line refl
+  cause_for status.Done h taken line = absurd h
+  cause_for status.Usage h taken line = absurd h
+  cause_for status.Write h taken line = absurd h
+
+  outcome_for : (Shows : Shown) → ((bytes : List ℕ) → Asking a.tense a.civil files (Shows (digest_of files) bytes) → IsOutputOf task files bytes) → (outcome : Outcome) → CauseFor a files seen Shows outcome → OutcomeFor task seen files outcome
+  outcome_for Shows shows (Ok bytes) h = shows bytes h
+  outcome_for Shows shows (Err refusal) h = λ taken line. cause_for (refused_with refusal) h taken (λ e. subst (λ r. WroteAll taken (line_of r)) (is_memory refusal e) line)
+
+-- `check`
+check_written : (civil : Bool) (files : Contents) (db : List Relation) → SaysRelations civil files db → (database : Identifier) (seen : ShelfSeen) → (outcome : Outcome) → IsOutput (TellsRelations db) outcome → OutcomeFor (check database civil) seen files outcome
+check_written civil files db says database seen (Ok bytes) told = record { db = db; says = says; holds = told }
+check_written civil files db says database seen (Err Memory) told = λ taken line. line
+check_written civil files db says database seen (Err _) told = absurd told
+
+check_read : (civil : Bool) (database : Identifier) (seen : ShelfSeen) (outcome : Outcome) (bytes : List ℕ) (d : Result (Source (List Relation)) Refusal) → IsDatabaseReadOf civil seen database bytes d → Behind d (λ d. IsOutput (TellsRelations d.says)) outcome
+    → OutcomeFor (check database civil) seen (record { database = bytes; query = [] }) outcome
+check_read civil database seen outcome bytes (Ok d) is next = check_written civil (record { database = bytes; query = [] }) d.says (record { short = is.1; is = is.2 }) database seen outcome next
+check_read civil database seen outcome bytes (Err ReadDatabase) is next = subst (OutcomeFor (check database civil) seen (record { database = bytes; query = [] })) (sym next) (λ taken line. is)
+check_read civil database seen outcome bytes (Err LongDatabase) is next = subst (OutcomeFor (check database civil) seen (record { database = bytes; query = [] })) (sym next) (λ taken line. inl is.0)
+check_read civil database seen outcome bytes (Err (Database fault)) is next = subst (OutcomeFor (check database civil) seen (record { database = bytes; query = [] })) (sym next) (λ taken line. inr (fault, is.1))
+check_read civil database seen outcome bytes (Err Memory) is next = subst (OutcomeFor (check database civil) seen (record { database = bytes; query = [] })) (sym next) (λ taken line. line)
+check_read civil database seen outcome bytes (Err _) is next = absurd is
+
+-- `sample`
+sample_written : (seed size : ℕ) (seen : ShelfSeen) (files : Contents) (outcome : Outcome) → IsOutput (TellsSample seed size) outcome → OutcomeFor (sample seed size) seen files outcome
+sample_written seed size seen files (Ok bytes) told = told
+sample_written seed size seen files (Err Memory) told = λ taken line. line
+sample_written seed size seen files (Err _) told = absurd told
+
+-- each task
+pub explained : (task : Task) (seen : ShelfSeen) (outcome : Outcome) → IsDueOf task seen outcome → Explained task seen outcome
+explained (ask database query cap tense civil) seen outcome due =
+    let a : Asked = record { tense = tense; civil = civil; database = database; query = query; after = None; cap = Some cap } in
+    let r = reached seen a (λ digest p tuple. IsAnswerText) (IsAnswered cap) (answer_goes_on a cap refl refl) outcome due in
+    record {
+      files = r.files;
+      told = both_files seen r.files database query r.database r.query;
+      is = outcome_for a r.files seen (ask database query cap tense civil) (λ h. h) (λ h. h) (λ h. h) (λ h. h) (λ digest bytes db q. IsAnswerText db q bytes) (λ bytes h. h) outcome
+          (cause_of seen a r.files (λ digest p tuple. IsAnswerText) (λ digest bytes db q. IsAnswerText db q bytes) (λ digest p tuple db q bytes plan resumed told. told) outcome r.case);
+    }
+explained (decide database query cap tense civil) seen outcome due =
+    let a : Asked = record { tense = tense; civil = civil; database = database; query = query; after = None; cap = Some cap } in
+    let r = reached seen a (λ digest p tuple. TellsWitness) (IsDecided cap) (decide_goes_on a cap refl refl) outcome due in
+    record {
+      files = r.files;
+      told = both_files seen r.files database query r.database r.query;
+      is = outcome_for a r.files seen (decide database query cap tense civil) (λ h. h) (λ h. h) (λ h. h) (λ h. h) (λ digest bytes db q. TellsWitness db q bytes) (λ bytes h. h) outcome
+          (cause_of seen a r.files (λ digest p tuple. TellsWitness) (λ digest bytes db q. TellsWitness db q bytes) (λ digest p tuple db q bytes plan resumed told. told) outcome r.case);
+    }
+explained (list database query from to limit after json cap tense civil) seen outcome due =
+    let a : Asked = record { tense = tense; civil = civil; database = database; query = query; after = after; cap = Some cap } in
+    let r = reached seen a (λ digest p tuple db q. TellsPage db q from to tuple limit civil json digest) (IsListed civil from to limit after json cap) (list_goes_on a cap from to limit civil json refl) outcome due in
+    record {
+      files = r.files;
+      told = both_files seen r.files database query r.database r.query;
+      is = outcome_for a r.files seen (list database query from to limit after json cap tense civil) (λ h. h) (λ h. h) (λ h. h) (λ h. h) (λ digest. TellsPageBehind from to limit after civil json digest) (λ bytes h. h) outcome
+          (cause_of seen a r.files (λ digest p tuple db q. TellsPage db q from to tuple limit civil json digest) (λ digest. TellsPageBehind from to limit after civil json digest) (λ digest p tuple db q bytes plan resumed told. record { tuple = tuple; resumed = resumed; page = told }) outcome r.case);
+    }
+explained (explain database query tense civil) seen outcome due =
+    let a : Asked = record { tense = tense; civil = civil; database = database; query = query; after = None; cap = None } in
+    let r = reached seen a (λ digest p tuple db q. TellsPlan p) IsExplained (explain_goes_on a refl refl) outcome due in
+    record {
+      files = r.files;
+      told = both_files seen r.files database query r.database r.query;
+      is = outcome_for a r.files seen (explain database query tense civil) (λ h. h) (λ h. h) (λ h. h) (λ h. h) (λ digest. TellsPlanOf) (λ bytes h. h) outcome
+          (cause_of seen a r.files (λ digest p tuple db q. TellsPlan p) (λ digest. TellsPlanOf) (λ digest p tuple db q bytes plan resumed told. record { plan = p; is = plan; told = told }) outcome r.case);
+    }
+explained (check database civil) seen outcome due = record {
+  files = record { database = due.is.bytes; query = [] };
+  told = λ held e. ap (λ (bytes : List ℕ). contents bytes) (due.is.told held e);
+  is = check_read civil database seen outcome due.is.bytes due.first due.is.is due.next;
+}
+  where
+    contents : List ℕ → Contents
+    contents bytes = record { database = bytes; query = [] }
+explained (sample seed size) seen outcome due = record {
+  files = record { database = []; query = [] };
+  told = λ held e. refl;
+  is = sample_written seed size seen (record { database = []; query = [] }) outcome due;
+}
+
+-- ---- a run
+
+-- a status is `Write`, or it is not
+write_or_not : (s : Status) → (s ≡ status.Write) ⊎ (s ≢ status.Write)
+write_or_not status.Write = inl refl
+write_or_not status.Done = inr (λ e. cc)
+write_or_not status.Usage = inr (λ e. cc)
+write_or_not status.Database = inr (λ e. cc)
+write_or_not status.Query = inr (λ e. cc)
+write_or_not status.Limit = inr (λ e. cc)
+write_or_not status.Read = inr (λ e. cc)
+write_or_not status.Memory = inr (λ e. cc)
+
+-- the cause of the status of an outcome that was written whole
+whole_cause : (task : Task) (files : Contents) (seen : ShelfSeen) (taken : SinkSeen) (outcome : Outcome) → OutcomeFor task seen files outcome → WroteAll taken (written_of outcome) → IsReason (status_of outcome) task files seen taken
+whole_cause task files seen taken (Ok bytes) is whole = record { output = bytes; is = is; whole = whole }
+whole_cause task files seen taken (Err refusal) is whole = is taken whole
+
+task_cause : (task : Task) (run : Run) (outcome : Outcome) → IsDueOf task run.seen outcome → Ends outcome run.taken run.ended → HasTaskReason task run
+task_cause task run outcome due ends =
+    let x = explained task run.seen outcome due in
+    record {
+      files = x.files;
+      told = x.told;
+      is =
+          elim (write_or_not run.ended) [
+            | inl write ↦ subst (λ s. IsReason s task x.files run.seen run.taken) (sym write) (ends.cause write)
+            | inr apart ↦ subst (λ s. IsReason s task x.files run.seen run.taken) (sym (ends.own_status apart)) (whole_cause task x.files run.seen run.taken outcome x.is (ends.whole apart))
+          ];
+    }
+
+usage_cause : (taken : SinkSeen) (ended : Status) (outcome : Outcome) → outcome ≡ Err Usage → Ends outcome taken ended → IsUsage ended taken
+usage_cause taken ended outcome e ends =
+    elim (write_or_not ended) [
+      | inl write ↦ subst (λ s. IsUsage s taken) (sym write) (ends.cause write)
+      | inr apart ↦ subst (λ s. IsUsage s taken) (sym (ends.own_status apart ∙ ap status_of e)) (ends.whole apart ∙ ap (λ o. appended taken.bytes_before (written_of o)) e)
+    ]
+
+-- why a run ended so
+pub run_cause : (task : Option Task) (run : Run) (outcome : Outcome) → IsDueFor task run.seen outcome → Ends outcome run.taken run.ended → HasReasonFor task run
+run_cause None run outcome due ends = usage_cause run.taken run.ended outcome due ends
+run_cause (Some task) run outcome due ends = task_cause task run outcome due.0 ends

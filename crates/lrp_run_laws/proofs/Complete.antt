@@ -1,0 +1,241 @@
+-- A lawful task comes to its output, or to want of memory.
+use Rattle.std.proofs.Common.{◌≡◌, ◌⊎◌, inl, inr, ◌<◌, ◌≤◌, ◌^◌, ◌∙◌, ℕ, ℤ, Bool, true, false, List, length, refl, sym, ap, subst, Option, Some, None, Ok, arith}
+use Rattle.lrp_io.specs.Causes.{Rose}
+use Rattle.lrp_io.specs.declared.shelf.File.{File}
+use Rattle.lrp_words.specs.Commands.{Task}
+use Rattle.lrp_words.specs.Commands.Task.{ask, decide, list, explain, check, sample}
+use Rattle.lrp_model.specs.Checked.{plain_question}
+use Rattle.lrp_model.specs.DatabaseReading.{IsDatabase, IsDatabaseFault}
+use Rattle.lrp_model.specs.Formulas.{Question}
+use Rattle.lrp_model.specs.Pages.{Tuple}
+use Rattle.lrp_model.specs.Periods.{period}
+use Rattle.lrp_model.specs.Plans.{scaled_reach, IsWithinLimits}
+use Rattle.lrp_model.specs.PrintedPages.{IsToken}
+use Rattle.lrp_model.specs.QueryReading.{IsQuery, IsQueryFault}
+use Rattle.lrp_model.specs.RawQueries.{RawQuestion}
+use Rattle.lrp_model.specs.Sorting.{IsWellSorted, IsSortFault}
+use Rattle.lrp_model.specs.Texts.{Identifier, Text}
+use Rattle.lrp_model.specs.declared.faults.DbFault.{DbFault}
+use Rattle.lrp_model.specs.declared.faults.QueryFault.{QueryFault}
+use Rattle.lrp_model.specs.declared.relations.Column.{Column}
+use Rattle.lrp_model.specs.declared.relations.Relation.{Relation}
+use Rattle.lrp_tense.specs.Expanding.{expanded_question}
+use Rattle.lrp_tense.specs.TenseReading.{IsTenseQuery, IsTenseQueryFault}
+use Rattle.lrp_tense.specs.Trees.{TenseQuestion}
+use Rattle.lrp_token.specs.Reading.{IsNoToken, HasOtherCounts}
+use Rattle.lrp_run_laws.specs.Contents.{Contents, digest_of, OverDatabase, OverQuery, Asking, SaysRelations, contents_of}
+use Rattle.lrp_run_laws.specs.Tasks.{IsLawfulTask, IsResumable, HasFewCells}
+use Rattle.lrp_run_laws.specs.Runs.{IsRunOf, IsComplete, EndsComplete, Run, task_asked, HaveStoodStill}
+use Rattle.lrp_run_laws.specs.Reasons.{IsReason, HasReasonFor, HasTaskReason, IsNoDatabase, IsNoQuery, IsNoTokenOf, HasMany, IsAbove, OfDatabase, IsQueryRefused, IsQueryAbove, HasFailedFile, HasFailedOneOf}
+use Rattle.lrp_top.specs.Resuming.{IsResumed, IsFresh, IsTokenOf, IsStale, shape_of}
+use Rattle.lrp_top.specs.Seen.{ShelfSeen, SinkSeen, HasFailed}
+use Rattle.lrp_top.specs.Written.{IsSortedAs, IsFaultyAs, plain_if}
+use Rattle.lrp_top.specs.declared.status.Status.{Status}
+use Rattle.lrp_top.specs.declared.status.Status.TheVariants as status
+use Rattle.lrp_run_laws.proofs.Cases.{IsFew}
+use Rattle.lrp_run_laws.proofs.Causes.{run_cause}
+
+-- ---- what is known of texts
+
+-- a text is of one database at most, and then has no fault
+pub record DatabaseTexts : Type 0 where
+  pub one : (bytes : List ℕ) (db other : List Relation) → IsDatabase bytes db → IsDatabase bytes other → db ≡ other
+  pub faultless : (bytes : List ℕ) (db : List Relation) (fault : DbFault) → IsDatabase bytes db → IsDatabaseFault bytes fault → ⊥
+
+-- a text is of one query at most over a database, and then has no fault
+pub record QueryTexts (tense : Bool) : Type 0 where
+  pub one : (db : List Relation) (bytes : List ℕ) (q other : Question) → IsSortedAs tense db bytes q → IsSortedAs tense db bytes other → q ≡ other
+  pub faultless : (db : List Relation) (bytes : List ℕ) (q : Question) (fault : QueryFault) → IsSortedAs tense db bytes q → IsFaultyAs tense db bytes fault → ⊥
+
+-- a text is of one token at most
+abbrev pub OneToken : Type 0
+OneToken = (token : List ℕ) (digest other : Option (List ℕ)) (times more : List ℤ) (texts further : List Text) → IsToken token digest times texts → IsToken token other more further → (digest ≡ other) × (times ≡ more) × (texts ≡ further)
+
+-- of queries without temporal operators
+pub plain_texts : ((bytes : List ℕ) (q other : RawQuestion) → IsQuery bytes q → IsQuery bytes other → q ≡ other)
+    → ((bytes : List ℕ) (q : RawQuestion) (fault : QueryFault) → IsQuery bytes q → IsQueryFault bytes fault → ⊥)
+    → ((db : List Relation) (q : RawQuestion) (fault : QueryFault) → IsWellSorted db q → IsSortFault db q fault → ⊥)
+    → QueryTexts false
+plain_texts one none sorted = record {
+  one = λ db bytes q r a b. a.plain ∙ ap plain_question (one bytes a.raw b.raw a.query b.query) ∙ sym b.plain;
+  faultless = λ db bytes q fault a f. elim f [
+    | inl text ↦ none bytes a.raw fault a.query text
+    | inr sorts ↦ sorted db a.raw fault a.sorted (subst (λ r. IsSortFault db r fault) (one bytes sorts.raw a.raw sorts.query a.query) sorts.unsorted)
+  ];
+}
+
+-- of queries with temporal operators
+pub tense_texts : ((bytes : List ℕ) (q other : TenseQuestion) → IsTenseQuery bytes q → IsTenseQuery bytes other → q ≡ other)
+    → ((bytes : List ℕ) (q : TenseQuestion) (fault : QueryFault) → IsTenseQuery bytes q → IsTenseQueryFault bytes fault → ⊥)
+    → ((db : List Relation) (q : RawQuestion) (fault : QueryFault) → IsWellSorted db q → IsSortFault db q fault → ⊥)
+    → QueryTexts true
+tense_texts one none sorted = record {
+  one = λ db bytes q r a b. a.plain ∙ ap (λ w. plain_question (expanded_question w)) (one bytes a.written b.written a.query b.query) ∙ sym b.plain;
+  faultless = λ db bytes q fault a f. elim f [
+    | inl text ↦ none bytes a.written fault a.query text
+    | inr sorts ↦ sorted db (expanded_question a.written) fault a.sorted (subst (λ w. IsSortFault db (expanded_question w) fault) (one bytes sorts.written a.written sorts.query a.query) sorts.unsorted)
+  ];
+}
+
+-- of both
+pub each_texts : QueryTexts false → QueryTexts true → (tense : Bool) → QueryTexts tense
+each_texts plain operators false = plain
+each_texts plain operators true = operators
+
+-- ---- tokens
+
+-- a token of these files with the head's counts is not refused
+module _ (one : OneToken) (digest : List ℕ) (head : List Column) (text : Text) (tuple : Tuple) (is : IsTokenOf digest head text tuple) where
+  pub not_formless : IsNoToken text → ⊥
+  not_formless none = none is.digest is.times is.texts is.token
+
+  pub not_other : HasOtherCounts text (shape_of head) → ⊥
+  not_other h =
+      let same = one text is.digest h.digest is.times h.times is.texts h.texts is.token h.token in
+      h.other (record { of_times = ap length (sym same.1) ∙ is.counts.of_times; of_texts = ap length (sym same.2) ∙ is.counts.of_texts })
+
+  pub not_stale : IsStale digest head text → ⊥
+  not_stale h =
+      let same = one text is.digest (Some h.digest) is.times h.times is.texts h.texts is.token h.token in
+      h.other (subst (IsFresh digest) same.0 is.fresh)
+
+-- ---- a task that asks a query
+
+-- where a page begins, and no step has too many cells
+pub record IsFree (cap : Option ℕ) (after : Option Text) (digest : List ℕ) (db : List Relation) (q : Question) : Type 0 where
+  pub tuple : Option Tuple
+  pub resumed : IsResumed digest q.head after (Ok tuple)
+  pub few : IsFew cap db q
+
+-- it has no token that is refused
+no_token : OneToken → (digest : List ℕ) (after : Option Text) (db : List Relation) (q : Question) (tuple : Option Tuple) → IsResumed digest q.head after (Ok tuple) → IsNoTokenOf digest after db q → ⊥
+no_token one digest None db q tuple resumed h = h
+no_token one digest (Some text) db q None resumed h = resumed
+no_token one digest (Some text) db q (Some tuple) resumed h = elim h [
+  | inl none ↦ not_formless one digest q.head text tuple resumed none
+  | inr more ↦ elim more [
+    | inl counts ↦ not_other one digest q.head text tuple resumed counts
+    | inr old ↦ not_stale one digest q.head text tuple resumed old
+  ]
+]
+
+-- and no step with too many cells
+no_many : (cap : Option ℕ) (db : List Relation) (q : Question) → IsFew cap db q → HasMany cap db q → ⊥
+no_many None db q few h = h
+no_many (Some cap) db q few h = few h.0 h.1.is
+
+no_above : (cap : Option ℕ) (db : List Relation) (q : Question) → IsWithinLimits db q → IsFew cap db q → IsAbove cap db q → ⊥
+no_above cap db q limits few h = elim h [
+  | inl above ↦ let within : period db q.body ≤ 2 ^ 62 = limits.period in omega arith
+  | inr more ↦ elim more [
+    | inl above ↦ let within : scaled_reach db q ≤ 2 ^ 62 = limits.reach in omega arith
+    | inr many ↦ no_many cap db q few many
+  ]
+]
+
+pub no_longer : (n : ℕ) → n ≤ 16777216 → 16777216 < n → ⊥
+no_longer n short long = omega arith
+
+module _ (texts : DatabaseTexts) (tense civil : Bool) (queries : QueryTexts tense) (one : OneToken) (files : Contents) (cap : Option ℕ) (after : Option Text) (free : Asking tense civil files (IsFree cap after (digest_of files))) where
+  same_database : (db : List Relation) → SaysRelations civil files db → db ≡ free.db
+  same_database db says = texts.one (plain_if civil files.database) db free.db says.is free.says.is
+
+  pub database_stands : IsNoDatabase files civil → ⊥
+  database_stands h = elim h [
+    | inl long ↦ no_longer (length files.database) free.says.short long
+    | inr fault ↦ texts.faultless (plain_if civil files.database) free.db fault.0 free.says.is fault.1
+  ]
+
+  -- over the database that was read
+  query_here : IsNoQuery files tense free.db ⊎ OverQuery tense files (IsNoTokenOf (digest_of files) after) free.db → ⊥
+  query_here h = elim h [
+    | inl none ↦ elim none [
+      | inl long ↦ no_longer (length files.query) free.holds.says.short long
+      | inr fault ↦ queries.faultless free.db files.query free.holds.q fault.0 free.holds.says.is fault.1
+    ]
+    | inr over ↦
+        let same : over.q ≡ free.holds.q = queries.one free.db files.query over.q free.holds.q over.says.is free.holds.says.is in
+        no_token one (digest_of files) after free.db free.holds.q free.holds.holds.holds.tuple free.holds.holds.holds.resumed (subst (λ q. IsNoTokenOf (digest_of files) after free.db q) same over.holds)
+  ]
+
+  pub query_stands : OverDatabase civil files (λ db. IsNoQuery files tense db ⊎ OverQuery tense files (IsNoTokenOf (digest_of files) after) db) → ⊥
+  query_stands h = query_here (subst (λ db. IsNoQuery files tense db ⊎ OverQuery tense files (IsNoTokenOf (digest_of files) after) db) (same_database h.db h.says) h.holds)
+
+  above_here : OverQuery tense files (IsAbove cap) free.db → ⊥
+  above_here over =
+      let same : over.q ≡ free.holds.q = queries.one free.db files.query over.q free.holds.q over.says.is free.holds.says.is in
+      no_above cap free.db free.holds.q free.holds.holds.limits free.holds.holds.holds.few (subst (λ q. IsAbove cap free.db q) same over.holds)
+
+  pub limits_stand : OverDatabase civil files (OverQuery tense files (IsAbove cap)) → ⊥
+  limits_stand h = above_here (subst (OverQuery tense files (IsAbove cap)) (same_database h.db h.says) h.holds)
+
+-- ---- a run
+
+module _ (task : Task) (files : Contents) (seen : ShelfSeen) (taken : SinkSeen) (no_database_for : OfDatabase (IsNoDatabase files) task → ⊥) (no_query_for : IsQueryRefused files task → ⊥) (none_above : IsQueryAbove files task → ⊥) (no_failed : HasFailedFile seen files task → ⊥) (no_rise : Rose taken.faults_before taken.faults → ⊥) where
+  comes_so : (ended : Status) → IsReason ended task files seen taken → EndsComplete ended task files taken
+  comes_so status.Done is = is
+  comes_so status.Usage is = is
+  comes_so status.Database is = no_database_for is
+  comes_so status.Query is = no_query_for is
+  comes_so status.Limit is = none_above is
+  comes_so status.Read is = no_failed is
+  comes_so status.Write is = no_rise is
+  comes_so status.Memory is = is
+
+-- a query without a token begins nowhere
+from_start : (tense civil : Bool) (files : Contents) (cap : Option ℕ) (Holds : List Relation → Question → Type 0) → ((db : List Relation) (q : Question) → Holds db q → IsFew cap db q) → Asking tense civil files Holds → Asking tense civil files (IsFree cap None (digest_of files))
+from_start tense civil files cap Holds few h = record {
+  db = h.db;
+  says = h.says;
+  holds = record { q = h.holds.q; says = h.holds.says; holds = record { limits = h.holds.holds.limits; holds = record { tuple = None; resumed = refl; few = few h.db h.holds.q h.holds.holds.holds } } };
+}
+
+from_token : (tense civil : Bool) (files : Contents) (cap : ℕ) (after : Option Text) → Asking tense civil files (IsResumable cap after (digest_of files)) → Asking tense civil files (IsFree (Some cap) after (digest_of files))
+from_token tense civil files cap after h = record {
+  db = h.db;
+  says = h.says;
+  holds = record { q = h.holds.q; says = h.holds.says; holds = record { limits = h.holds.holds.limits; holds = record { tuple = h.holds.holds.holds.tuple; resumed = h.holds.holds.holds.resumed; few = h.holds.holds.holds.few } } };
+}
+
+module _ (texts : DatabaseTexts) (queries : (tense : Bool) → QueryTexts tense) (one : OneToken) (files : Contents) (run : Run) where
+  -- neither file failed
+  none_failed : {civil : Bool} {database query : Identifier} → (HasFailed run.seen database → ⊥) → (HasFailed run.seen query → ⊥) → HasFailedOneOf run.seen files civil database query → ⊥
+  none_failed first second (inl failed) = first failed
+  none_failed first second (inr over) = second over.holds
+
+  asked_so : (task : Task) (tense civil : Bool) (cap : Option ℕ) (after : Option Text) → Asking tense civil files (IsFree cap after (digest_of files)) → HaveStoodStill task run
+      → (HasFailedFile run.seen files task → ⊥) → (OfDatabase (IsNoDatabase files) task → IsNoDatabase files civil) → (IsQueryRefused files task → OverDatabase civil files (λ db. IsNoQuery files tense db ⊎ OverQuery tense files (IsNoTokenOf (digest_of files) after) db))
+      → (IsQueryAbove files task → OverDatabase civil files (OverQuery tense files (IsAbove cap)))
+      → (ended : Status) → IsReason ended task files run.seen run.taken → EndsComplete ended task files run.taken
+  asked_so task tense civil cap after free still failed database query above =
+      comes_so task files run.seen run.taken
+      (λ h. database_stands texts tense civil (queries tense) one files cap after free (database h))
+      (λ h. query_stands texts tense civil (queries tense) one files cap after free (query h))
+      (λ h. limits_stand texts tense civil (queries tense) one files cap after free (above h))
+      failed still.sink
+
+  -- a run of a lawful task whose counts stood still is complete
+  pub complete : (task : Task) → IsLawfulTask task files → HaveStoodStill task run → (ended : Status) → IsReason ended task files run.seen run.taken → EndsComplete ended task files run.taken
+  complete (ask database query cap tense civil) lawful still =
+      asked_so (ask database query cap tense civil) tense civil (Some cap) None (from_start tense civil files (Some cap) (HasFewCells cap) (λ db q h. h) lawful) still (none_failed still.files.0 still.files.1.0) (λ h. h) (λ h. h) (λ h. h)
+  complete (decide database query cap tense civil) lawful still =
+      asked_so (decide database query cap tense civil) tense civil (Some cap) None (from_start tense civil files (Some cap) (HasFewCells cap) (λ db q h. h) lawful) still (none_failed still.files.0 still.files.1.0) (λ h. h) (λ h. h) (λ h. h)
+  complete (list database query from to limit after json cap tense civil) lawful still =
+      asked_so (list database query from to limit after json cap tense civil) tense civil (Some cap) after (from_token tense civil files cap after lawful) still (none_failed still.files.0 still.files.1.0) (λ h. h) (λ h. h) (λ h. h)
+  complete (explain database query tense civil) lawful still =
+      asked_so (explain database query tense civil) tense civil None None (from_start tense civil files None (λ db q. Unit {0}) (λ db q h. h) lawful) still (none_failed still.files.0 still.files.1.0) (λ h. h) (λ h. h) (λ h. h)
+  complete (check database civil) lawful still =
+      comes_so (check database civil) files run.seen run.taken
+      (λ h. elim h [
+        | inl long ↦ no_longer (length files.database) lawful.says.short long
+        | inr fault ↦ texts.faultless (plain_if civil files.database) lawful.db fault.0 lawful.says.is fault.1
+      ]) (λ h. h) (λ h. h)
+      (λ h. still.files.0 h) still.sink
+  complete (sample seed size) lawful still =
+      comes_so (sample seed size) files run.seen run.taken (λ h. h) (λ h. h) (λ h. h) (λ h. h) still.sink
+
+-- over a shelf that tells its files
+pub complete_run : DatabaseTexts → ((tense : Bool) → QueryTexts tense) → OneToken → (task : Task) (held : List File) (run : Run) → IsRunOf task held run → IsLawfulTask task (contents_of held task) → HaveStoodStill task run → IsComplete task (contents_of held task) run
+complete_run texts queries one task held run is lawful still =
+    let cause : HasTaskReason task run = subst (λ t. HasReasonFor t run) is.spelled (run_cause (task_asked run) run is.may_happen.outcome is.may_happen.due is.may_happen.ends) in
+    complete texts queries one (contents_of held task) run task lawful still run.ended (subst (λ files. IsReason run.ended task files run.seen run.taken) (cause.told held is.told) cause.is)

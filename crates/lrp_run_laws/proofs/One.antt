@@ -1,0 +1,272 @@
+-- Two runs of one task over the same bytes end alike: the tasks, and the runs.
+use Rattle.std.proofs.Common.{◌≡◌, ◌≢◌, inl, inr, ◌≤◌, ◌∙◌, ℕ, Bool, true, false, List, length, refl, sym, ap, subst, Option, Some, Ok, Err}
+use Rattle.lrp_io.specs.Files.{content_of}
+use Rattle.lrp_io.specs.declared.shelf.File.{File}
+use Rattle.lrp_words.specs.Commands.{Task}
+use Rattle.lrp_words.specs.Commands.Task.{ask, decide, list, explain, check, sample}
+use Rattle.lrp_model.specs.AnswerTexts.{IsAnswerText}
+use Rattle.lrp_model.specs.Formulas.{Question}
+use Rattle.lrp_model.specs.Pages.{Tuple}
+use Rattle.lrp_model.specs.Plans.{IsWithinLimits}
+use Rattle.lrp_model.specs.Texts.{Identifier, Text}
+use Rattle.lrp_model.specs.declared.plans.Plan.{Plan}
+use Rattle.lrp_model.specs.declared.relations.Relation.{Relation}
+use Rattle.lrp_token.specs.Files.{files_digest}
+use Rattle.lrp_model.specs.Printed.{database_bytes}
+use Rattle.lrp_model.specs.QueryReading.{IsQuery, IsQueryFault}
+use Rattle.lrp_model.specs.RawQueries.{RawQuestion}
+use Rattle.lrp_model.specs.Sorting.{IsSortFault}
+use Rattle.lrp_model.specs.declared.faults.QueryFault.{QueryFault}
+use Rattle.lrp_tense.specs.Expanding.{expanded_question}
+use Rattle.lrp_tense.specs.TenseReading.{IsTenseQuery, IsTenseQueryFault}
+use Rattle.lrp_tense.specs.Trees.{TenseQuestion}
+use Rattle.lrp_top.specs.Due.{IsDueOf, IsDueFor, IsDatabaseRead, IsQueryRead, IsPlanned, IsCounted, IsOutput, IsAnswered, IsDecided, IsExplained, IsListed, IsPlannedFor}
+use Rattle.lrp_run_laws.specs.Contents.{Contents, contents_at, contents_of, SaysRelations, SaysQuestion}
+use Rattle.lrp_run_laws.specs.Runs.{IsRunOf, Run, task_asked}
+use Rattle.lrp_run_laws.specs.Pairs.{AreOneOutput, AreOneText, EndedAlike, IsDecidedByFiles}
+use Rattle.lrp_top.specs.Outcomes.{Outcome, Ends, line_of, refused_with, status_of, written_of}
+use Rattle.lrp_top.specs.Resuming.{IsResumed}
+use Rattle.lrp_top.specs.Sampled.{TellsSample}
+use Rattle.lrp_top.specs.Seen.{ShelfSeen, AreBytesOf}
+use Rattle.lrp_top.specs.Sources.{Source}
+use Rattle.lrp_top.specs.Steps.{Then}
+use Rattle.lrp_top.specs.Telling.{TellsPage, TellsPlan, TellsRelations, TellsWitness}
+use Rattle.lrp_model.specs.DatabaseReading.{IsDatabase}
+use Rattle.lrp_top.specs.Written.{IsSortedAs, plain_if}
+use Rattle.lrp_top.specs.declared.outcome.Refusal.{Refusal}
+use Rattle.lrp_top.specs.declared.outcome.Refusal.TheVariants.{Usage, ReadDatabase, LongDatabase, Database, ReadQuery, LongQuery, Query, PeriodLimit, BoundLimit, TokenForm, TokenShape, TokenStale, Cells, Memory}
+use Rattle.lrp_top.specs.declared.status.Status.{Status}
+use Rattle.lrp_top.specs.declared.status.Status.TheVariants as status
+use Rattle.lrp_run_laws.proofs.Agree.{Lasting, Agree, then_agree, SameText, Counted, OneDatabaseFault, OneQueryFault, database_agree, query_agree, plan_agree, cells_agree, resumed_agree, output_agree}
+use Rattle.lrp_run_laws.proofs.Alike.{OneRank, WholeTuples, OnePage, OneCells, OneCount, one_witness, one_listing, one_sample}
+use Rattle.lrp_run_laws.proofs.Complete.{DatabaseTexts, QueryTexts, OneToken}
+
+-- what is known of texts, tokens, pages and counts
+pub record Known : Type 0 where
+  pub databases : DatabaseTexts
+  pub database_fault : OneDatabaseFault
+  pub queries : (tense : Bool) → QueryTexts tense
+  pub query_fault : (tense : Bool) → OneQueryFault tense
+  pub token : OneToken
+  pub page : OnePage
+  pub rank : OneRank
+  pub tuples : WholeTuples
+  pub cells : OneCells
+  pub count : OneCount
+
+-- a query has one sort fault at most
+one_unsorted : (db : List Relation) (raw other : RawQuestion) (f g : QueryFault) → raw ≡ other → IsSortFault db raw f → IsSortFault db other g → f ≡ g
+one_unsorted db raw other f g same a b = first_is f g (sym a ∙ subst (λ r. IsSortFault db r g) (sym same) b)
+  where
+    first_is : (f g : QueryFault) → Some f ≡ Some g → f ≡ g
+    first_is f g e = cc
+
+-- a query without temporal operators has one fault at most
+pub plain_faults : ((bytes : List ℕ) (q other : RawQuestion) → IsQuery bytes q → IsQuery bytes other → q ≡ other)
+    → ((bytes : List ℕ) (q : RawQuestion) (fault : QueryFault) → IsQuery bytes q → IsQueryFault bytes fault → ⊥)
+    → ((bytes : List ℕ) (fault other : QueryFault) → IsQueryFault bytes fault → IsQueryFault bytes other → fault ≡ other)
+    → OneQueryFault false
+plain_faults one none fault db bytes f g (inl a) (inl b) = fault bytes f g a b
+plain_faults one none fault db bytes f g (inl a) (inr b) = absurd (none bytes b.raw f b.query a)
+plain_faults one none fault db bytes f g (inr a) (inl b) = absurd (none bytes a.raw g a.query b)
+plain_faults one none fault db bytes f g (inr a) (inr b) = one_unsorted db a.raw b.raw f g (one bytes a.raw b.raw a.query b.query) a.unsorted b.unsorted
+
+-- and so has one with them
+pub tense_faults : ((bytes : List ℕ) (q other : TenseQuestion) → IsTenseQuery bytes q → IsTenseQuery bytes other → q ≡ other)
+    → ((bytes : List ℕ) (q : TenseQuestion) (fault : QueryFault) → IsTenseQuery bytes q → IsTenseQueryFault bytes fault → ⊥)
+    → ((bytes : List ℕ) (fault other : QueryFault) → IsTenseQueryFault bytes fault → IsTenseQueryFault bytes other → fault ≡ other)
+    → OneQueryFault true
+tense_faults one none fault db bytes f g (inl a) (inl b) = fault bytes f g a b
+tense_faults one none fault db bytes f g (inl a) (inr b) = absurd (none bytes b.written f b.query a)
+tense_faults one none fault db bytes f g (inr a) (inl b) = absurd (none bytes a.written g a.query b)
+tense_faults one none fault db bytes f g (inr a) (inr b) =
+    one_unsorted db (expanded_question a.written) (expanded_question b.written) f g (ap expanded_question (one bytes a.written b.written a.query b.query)) a.unsorted b.unsorted
+
+pub each_fault : OneQueryFault false → OneQueryFault true → (tense : Bool) → OneQueryFault tense
+each_fault plain operators false = plain
+each_fault plain operators true = operators
+
+-- the bytes that are read of a file are these
+abbrev ReadsOnly : ShelfSeen → Identifier → List ℕ → Type 0
+ReadsOnly seen name bytes = (read : List ℕ) → AreBytesOf seen name read → read ≡ bytes
+
+-- ---- a task that asks a query
+
+module _ (known : Known) (tense civil : Bool) (files : Contents) (seen further : ShelfSeen) (database query : Identifier)
+    (first : ReadsOnly seen database files.database) (second : ReadsOnly further database files.database) (third : ReadsOnly seen query files.query) (fourth : ReadsOnly further query files.query)
+    (S : List ℕ → List ℕ → Type 0) (Next Later : Source (List Relation) → Source Question → Plan → Outcome → Type 0) where
+  -- what is due behind two plans agrees
+  abbrev Finish : Type 0
+  Finish = (d : Source (List Relation)) (q : Source Question) → d.bytes ≡ files.database → q.bytes ≡ files.query → SaysRelations civil files d.says → SaysQuestion tense files d.says q.says → IsWithinLimits d.says q.says
+      → (p r : Plan) → SameText p r → (o v : Outcome) → Next d q p o → Later d q r v → Lasting o → Lasting v → Agree S o v
+
+  module _ (finish : Finish) where
+    abbrev Planned : Source (List Relation) → Source Question → Outcome → Type 0
+    Planned d q = Then (IsPlanned d.says q.says) (Next d q)
+
+    abbrev Replanned : Source (List Relation) → Source Question → Outcome → Type 0
+    Replanned d q = Then (IsPlanned d.says q.says) (Later d q)
+
+    behind_query : (d : Source (List Relation)) (q : Source Question) → d.bytes ≡ files.database → q.bytes ≡ files.query → SaysRelations civil files d.says → SaysQuestion tense files d.says q.says
+        → (o v : Outcome) → Planned d q o → Replanned d q v → Lasting o → Lasting v → Agree S o v
+    behind_query d q db qb says said = then_agree (IsPlanned d.says q.says) (IsPlanned d.says q.says) (Next d q) (Later d q) SameText S (plan_agree d.says q.says)
+        (λ p r i j same. finish d q db qb says said i.1 p r same)
+
+    queried : (d : Source (List Relation)) (q e : Source Question) → d.bytes ≡ files.database → SaysRelations civil files d.says → IsQueryRead tense d.says seen query (Ok q) → q ≡ e
+        → (o v : Outcome) → Planned d q o → Replanned d e v → Lasting o → Lasting v → Agree S o v
+    queried d q e db says i same o v n m lo lv =
+        let is = subst (λ (b : List ℕ). (q.bytes ≡ b) × (length b ≤ 16777216) × IsSortedAs tense d.says b q.says) (third i.bytes i.told) i.is in
+        behind_query d q db is.0 says (record { short = is.1; is = is.2 }) o v n (subst (λ x. Replanned d x v) (sym same) m) lo lv
+
+    behind_database : (d : Source (List Relation)) → d.bytes ≡ files.database → SaysRelations civil files d.says
+        → (o v : Outcome) → Then (IsQueryRead tense d.says seen query) (Planned d) o → Then (IsQueryRead tense d.says further query) (Replanned d) v → Lasting o → Lasting v → Agree S o v
+    behind_database d db says = then_agree (IsQueryRead tense d.says seen query) (IsQueryRead tense d.says further query) (Planned d) (Replanned d) (λ q e. q ≡ e) S
+        (query_agree tense (known.queries tense) (known.query_fault tense) d.says files.query seen further query third fourth)
+        (λ q e i j same. queried d q e db says i same)
+
+    databased : (d e : Source (List Relation)) → IsDatabaseRead civil seen database (Ok d) → d ≡ e
+        → (o v : Outcome) → Then (IsQueryRead tense d.says seen query) (Planned d) o → Then (IsQueryRead tense e.says further query) (Replanned e) v → Lasting o → Lasting v → Agree S o v
+    databased d e i same o v n m lo lv =
+        let is = subst (λ (b : List ℕ). (d.bytes ≡ b) × (length b ≤ 16777216) × IsDatabase (plain_if civil b) d.says) (first i.bytes i.told) i.is in
+        behind_database d is.0 (record { short = is.1; is = is.2 }) o v n (subst (λ (x : Source (List Relation)). Then (IsQueryRead tense x.says further query) (Replanned x) v) (sym same) m) lo lv
+
+    pub planned_agree : (o v : Outcome) → IsPlannedFor tense civil seen database query Next o → IsPlannedFor tense civil further database query Later v → Lasting o → Lasting v → Agree S o v
+    planned_agree = then_agree (IsDatabaseRead civil seen database) (IsDatabaseRead civil further database) (λ d. Then (IsQueryRead tense d.says seen query) (Planned d)) (λ d. Then (IsQueryRead tense d.says further query) (Replanned d)) (λ d e. d ≡ e) S
+        (database_agree known.databases known.database_fault civil files.database seen further database first second)
+        (λ d e i j same. databased d e i same)
+
+-- ---- what is due behind the plan
+
+-- the cells are counted, and then an output is told
+counted_agree : (db : List Relation) (q : Question) (cap : ℕ) (Tells : List ℕ → Type 0) (S : List ℕ → List ℕ → Type 0) → ((a b : List ℕ) → Tells a → Tells b → S a b)
+    → (o v : Outcome) → Then (IsCounted db q cap) (λ done. IsOutput Tells) o → Then (IsCounted db q cap) (λ done. IsOutput Tells) v → Lasting o → Lasting v → Agree S o v
+counted_agree db q cap Tells S same = then_agree (IsCounted db q cap) (IsCounted db q cap) (λ done. IsOutput Tells) (λ done. IsOutput Tells) Counted S (cells_agree db q cap)
+    (λ a b i j done. output_agree Tells Tells S same)
+
+-- the page begins before that
+listed_agree : (known : Known) (digest : List ℕ) (db : List Relation) (q : Question) (after : Option Text) (cap : ℕ) (Tells : Option Tuple → List ℕ → Type 0) → ((t : Option Tuple) (a b : List ℕ) → Tells t a → Tells t b → a ≡ b)
+    → (o v : Outcome) → Then (IsResumed digest q.head after) (λ t. Then (IsCounted db q cap) (λ done. IsOutput (Tells t))) o → Then (IsResumed digest q.head after) (λ t. Then (IsCounted db q cap) (λ done. IsOutput (Tells t))) v → Lasting o → Lasting v → Agree (λ a b. a ≡ b) o v
+listed_agree known digest db q after cap Tells same =
+    then_agree (IsResumed digest q.head after) (IsResumed digest q.head after) (λ t. Then (IsCounted db q cap) (λ done. IsOutput (Tells t))) (λ t. Then (IsCounted db q cap) (λ done. IsOutput (Tells t))) (λ t u. t ≡ u) (λ a b. a ≡ b)
+    (resumed_agree known.token digest q.head after)
+    (λ t u i j e o v n m. counted_agree db q cap (Tells t) (λ a b. a ≡ b) (same t) o v n (subst (λ x. Then (IsCounted db q cap) (λ done. IsOutput (Tells x)) v) (sym e) m))
+
+-- ---- the tasks
+
+-- a shelf that tells its files gives their bytes alone
+reads_only : (seen : ShelfSeen) (held : List File) (name : Identifier) (bytes : List ℕ) → seen.files ≡ Some held → bytes ≡ content_of held name → ReadsOnly seen name bytes
+reads_only seen held name bytes told e read is = is held told ∙ sym e
+
+module _ (known : Known) (seen further : ShelfSeen) (held more : List File) (told : seen.files ≡ Some held) (again : further.files ≡ Some more) where
+  abbrev Alike : Task → Type 0
+  Alike task = contents_of held task ≡ contents_of more task → (o v : Outcome) → IsDueOf task seen o → IsDueOf task further v → Lasting o → Lasting v → Agree (AreOneOutput task (contents_of held task)) o v
+
+  -- a task that asks a query
+  asked_alike : (tense civil : Bool) (database query : Identifier) (S : List ℕ → List ℕ → Type 0) (Next : Source (List Relation) → Source Question → Plan → Outcome → Type 0)
+      → contents_at held database query ≡ contents_at more database query
+      → ((d : Source (List Relation)) (q : Source Question) → d.bytes ≡ content_of held database → q.bytes ≡ content_of held query → SaysRelations civil (contents_at held database query) d.says → SaysQuestion tense (contents_at held database query) d.says q.says → IsWithinLimits d.says q.says
+      → (p r : Plan) → SameText p r → (o v : Outcome) → Next d q p o → Next d q r v → Lasting o → Lasting v → Agree S o v)
+      → (o v : Outcome) → IsPlannedFor tense civil seen database query Next o → IsPlannedFor tense civil further database query Next v → Lasting o → Lasting v → Agree S o v
+  asked_alike tense civil database query S Next same finish =
+      planned_agree known tense civil (contents_at held database query) seen further database query
+      (reads_only seen held database (content_of held database) told refl) (reads_only further more database (content_of held database) again (ap (λ (c : Contents). c.database) same))
+      (reads_only seen held query (content_of held query) told refl) (reads_only further more query (content_of held query) again (ap (λ (c : Contents). c.query) same))
+      S Next Next finish
+
+  due_alike : (task : Task) → Alike task
+  due_alike (ask database query cap tense civil) same =
+      asked_alike tense civil database query (AreOneOutput (ask database query cap tense civil) (contents_at held database query)) (IsAnswered cap) same
+      (λ d q db qb says said limits p r one. counted_agree d.says q.says cap (IsAnswerText d.says q.says) (AreOneOutput (ask database query cap tense civil) (contents_at held database query))
+      (λ a b x y. record { db = d.says; says = says; holds = record { q = q.says; says = said; holds = record { limits = limits; holds = (x, y) } } }))
+  due_alike (decide database query cap tense civil) same =
+      asked_alike tense civil database query (λ a b. a ≡ b) (IsDecided cap) same
+      (λ d q db qb says said limits p r one. counted_agree d.says q.says cap (TellsWitness d.says q.says) (λ a b. a ≡ b) (one_witness known.rank known.tuples d.says q.says))
+  due_alike (list database query from to limit after json cap tense civil) same =
+      asked_alike tense civil database query (λ a b. a ≡ b) (IsListed civil from to limit after json cap) same
+      (λ d q db qb says said limits p r one. listed_agree known (files_digest d.bytes q.bytes) d.says q.says after cap (λ t. TellsPage d.says q.says from to t limit civil json (files_digest d.bytes q.bytes))
+      (λ t a b. one_listing known.page d.says q.says from to t limit civil json (files_digest d.bytes q.bytes) a b))
+  due_alike (explain database query tense civil) same =
+      asked_alike tense civil database query (λ a b. a ≡ b) IsExplained same
+      (λ d q db qb says said limits p r one. output_agree (TellsPlan p) (TellsPlan r) (λ a b. a ≡ b) (λ a b x y. x ∙ one ∙ sym y))
+  due_alike (check database civil) same =
+      then_agree (IsDatabaseRead civil seen database) (IsDatabaseRead civil further database) (λ d. IsOutput (TellsRelations d.says)) (λ d. IsOutput (TellsRelations d.says)) (λ d e. d ≡ e) (λ a b. a ≡ b)
+      (database_agree known.databases known.database_fault civil (content_of held database) seen further database
+      (reads_only seen held database (content_of held database) told refl) (reads_only further more database (content_of held database) again (ap (λ (c : Contents). c.database) same)))
+      (λ d e i j one. output_agree (TellsRelations d.says) (TellsRelations e.says) (λ a b. a ≡ b) (λ a b x y. x.0 ∙ ap (λ (s : Source (List Relation)). database_bytes s.says) one ∙ sym y.0))
+  due_alike (sample seed size) same =
+      output_agree (TellsSample seed size) (TellsSample seed size) (λ a b. a ≡ b) (one_sample known.databases (known.queries false) known.rank known.tuples known.cells known.count seed size)
+
+-- ---- the runs
+
+-- a run with such a status has such an outcome
+lasting_of : (o : Outcome) → IsDecidedByFiles (status_of o) → Lasting o
+lasting_of (Ok bytes) h = tt
+lasting_of (Err Usage) h = tt
+lasting_of (Err ReadDatabase) h = h
+lasting_of (Err LongDatabase) h = tt
+lasting_of (Err (Database fault)) h = tt
+lasting_of (Err ReadQuery) h = h
+lasting_of (Err LongQuery) h = tt
+lasting_of (Err (Query fault)) h = tt
+lasting_of (Err PeriodLimit) h = tt
+lasting_of (Err BoundLimit) h = tt
+lasting_of (Err TokenForm) h = tt
+lasting_of (Err TokenShape) h = tt
+lasting_of (Err TokenStale) h = tt
+lasting_of (Err (Cells most step)) h = tt
+lasting_of (Err Memory) h = h
+
+-- it is not `Write`
+not_write : (s : Status) → IsDecidedByFiles s → s ≢ status.Write
+not_write s h e = subst IsDecidedByFiles e h
+
+-- the line of a refusal is one text
+one_line : (task : Task) (files : Contents) (e : Refusal) → AreOneText (refused_with e) task files (line_of e) (line_of e)
+one_line task files Usage = refl
+one_line task files ReadDatabase = refl
+one_line task files LongDatabase = refl
+one_line task files (Database fault) = refl
+one_line task files ReadQuery = refl
+one_line task files LongQuery = refl
+one_line task files (Query fault) = refl
+one_line task files PeriodLimit = refl
+one_line task files BoundLimit = refl
+one_line task files TokenForm = refl
+one_line task files TokenShape = refl
+one_line task files TokenStale = refl
+one_line task files (Cells most step) = refl
+one_line task files Memory = refl
+
+-- the texts of outcomes that agree
+one_text : (task : Task) (files : Contents) (o v : Outcome) → Agree (AreOneOutput task files) o v → (status_of o ≡ status_of v) × AreOneText (status_of o) task files (written_of o) (written_of v)
+one_text task files (Ok a) (Ok b) same = (refl, same)
+one_text task files (Ok a) (Err f) same = absurd same
+one_text task files (Err e) (Ok b) same = absurd same
+one_text task files (Err e) (Err f) same = (ap refused_with same, subst (λ x. AreOneText (refused_with e) task files (line_of e) (line_of x)) same (one_line task files e))
+
+alike : (task : Task) (files : Contents) (run other : Run) (o v : Outcome) → Ends o run.taken run.ended → Ends v other.taken other.ended → IsDecidedByFiles run.ended → IsDecidedByFiles other.ended
+    → (Lasting o → Lasting v → Agree (AreOneOutput task files) o v) → EndedAlike task files run other
+alike task files run other o v i j h k agree =
+    let left : run.ended ≡ status_of o = i.own_status (not_write run.ended h) in
+    let right : other.ended ≡ status_of v = j.own_status (not_write other.ended k) in
+    let same = one_text task files o v (agree (lasting_of o (subst IsDecidedByFiles left h)) (lasting_of v (subst IsDecidedByFiles right k))) in
+    record {
+      status = left ∙ same.0 ∙ sym right;
+      text = written_of o;
+      text_again = written_of v;
+      written = i.whole (not_write run.ended h);
+      written_again = j.whole (not_write other.ended k);
+      same = subst (λ s. AreOneText s task files (written_of o) (written_of v)) (sym left) same.1;
+    }
+
+-- what is due for the task that the words spell
+due_of : (task : Task) (run : Run) (outcome : Outcome) → task_asked run ≡ Some task → IsDueFor (task_asked run) run.seen outcome → IsDueOf task run.seen outcome
+due_of task run outcome spelled due = (subst (λ t. IsDueFor t run.seen outcome) spelled due).0
+
+pub runs_alike : Known → (task : Task) (held more : List File) (run other : Run)
+    → IsRunOf task held run → IsRunOf task more other → contents_of held task ≡ contents_of more task → IsDecidedByFiles run.ended → IsDecidedByFiles other.ended
+    → EndedAlike task (contents_of held task) run other
+runs_alike known task held more run other is again same h k =
+    alike task (contents_of held task) run other is.may_happen.outcome again.may_happen.outcome is.may_happen.ends again.may_happen.ends h k
+    (due_alike known run.seen other.seen held more is.told again.told task same is.may_happen.outcome again.may_happen.outcome
+    (due_of task run is.may_happen.outcome is.spelled is.may_happen.due) (due_of task other again.may_happen.outcome again.spelled again.may_happen.due))

@@ -1,0 +1,8 @@
+use Rattle.lrp_run_laws.proofs.Complete.{complete_run, each_texts, plain_texts, tense_texts}
+use Rattle.lrp_run_laws.proofs.laws.lawful_runs_are_complete.Goals as goal
+
+pub returns : goal.returns
+returns c = complete_run (record { one = c.texts_are_of_one_database.ensures; faultless = c.databases_have_no_fault.ensures })
+    (each_texts (plain_texts c.texts_are_of_one_query.ensures c.queries_have_no_fault.ensures c.well_sorted_queries_have_no_fault.ensures)
+    (tense_texts c.texts_are_one_query.ensures.one c.tense_queries_have_no_fault.ensures c.well_sorted_queries_have_no_fault.ensures))
+    c.tokens_spell_one_tuple.ensures

@@ -1,0 +1,19 @@
+use Rattle.lrp_run_laws.proofs.Complete.{each_texts, plain_texts, tense_texts}
+use Rattle.lrp_run_laws.proofs.One.{each_fault, plain_faults, runs_alike, tense_faults}
+use Rattle.lrp_run_laws.proofs.laws.runs_have_one_outcome.Goals as goal
+
+pub returns : goal.returns
+returns c = runs_alike (record {
+  databases = record { one = c.texts_are_of_one_database.ensures; faultless = c.databases_have_no_fault.ensures };
+  database_fault = c.databases_have_one_fault.ensures;
+  queries = each_texts (plain_texts c.texts_are_of_one_query.ensures c.queries_have_no_fault.ensures c.well_sorted_queries_have_no_fault.ensures)
+      (tense_texts c.texts_are_one_query.ensures.one c.tense_queries_have_no_fault.ensures c.well_sorted_queries_have_no_fault.ensures);
+  query_fault = each_fault (plain_faults c.texts_are_of_one_query.ensures c.queries_have_no_fault.ensures c.queries_have_one_fault.ensures)
+      (tense_faults c.texts_are_one_query.ensures.one c.tense_queries_have_no_fault.ensures c.tense_queries_have_one_fault.ensures);
+  token = c.tokens_spell_one_tuple.ensures;
+  page = c.pages_are_unique.ensures;
+  rank = c.ranks_differ.ensures;
+  tuples = c.tuples_are_times_and_texts.ensures;
+  cells = c.counts_are_unique.ensures.cells;
+  count = c.counts_are_unique.ensures.answers;
+})

@@ -1,0 +1,70 @@
+-- What the files of a task say.
+use Rattle.std.specs.Prelude.{◌≡◌, ℕ, ◌≤◌, Bool, List, [], length, Some}
+use Rattle.lrp_io.specs.Files.{content_of}
+use Rattle.lrp_io.specs.declared.shelf.File.{File}
+use Rattle.lrp_words.specs.Commands.{Task}
+use Rattle.lrp_words.specs.Commands.Task.{ask, decide, list, explain, check, sample}
+use Rattle.lrp_model.specs.DatabaseReading.{IsDatabase}
+use Rattle.lrp_model.specs.Formulas.{Question}
+use Rattle.lrp_model.specs.Plans.{IsWithinLimits}
+use Rattle.lrp_model.specs.Texts.{Identifier}
+use Rattle.lrp_model.specs.declared.relations.Relation.{Relation}
+use Rattle.lrp_token.specs.Files.{files_digest}
+use Rattle.lrp_top.specs.Seen.{ShelfSeen}
+use Rattle.lrp_top.specs.Written.{IsSortedAs, plain_if}
+
+-- the bytes of its files
+pub record Contents : Type 0 where
+  pub database : List ℕ
+  pub query : List ℕ
+
+abbrev pub contents_at : List File → Identifier → Identifier → Contents
+contents_at held database query = record { database = content_of held database; query = content_of held query }
+
+-- those that files hold; a task that reads no query has no bytes of one
+abbrev pub contents_of : List File → Task → Contents
+contents_of held (ask database query cap tense civil) = contents_at held database query
+contents_of held (decide database query cap tense civil) = contents_at held database query
+contents_of held (list database query from to limit after json cap tense civil) = contents_at held database query
+contents_of held (explain database query tense civil) = contents_at held database query
+contents_of held (check database civil) = record { database = content_of held database; query = [] }
+contents_of held (sample seed size) = record { database = []; query = [] }
+
+-- where the shelf tells its files, they are those that these hold
+abbrev pub AreContentsFor : ShelfSeen → Task → Contents → Type 0
+AreContentsFor seen task files = (held : List File) → seen.files ≡ Some held → files ≡ contents_of held task
+
+-- their digest, which the tokens of pages have
+abbrev pub digest_of : Contents → List ℕ
+digest_of files = files_digest files.database files.query
+
+-- the database's bytes are at most 16,777,216 and the text of these relations
+pub record SaysRelations (civil : Bool) (files : Contents) (db : List Relation) : Type 0 where
+  pub short : length files.database ≤ 16777216
+  pub is : IsDatabase (plain_if civil files.database) db
+
+-- the query's bytes are at most 16,777,216 and the text of this query, which is well-sorted over the relations
+pub record SaysQuestion (tense : Bool) (files : Contents) (db : List Relation) (q : Question) : Type 0 where
+  pub short : length files.query ≤ 16777216
+  pub is : IsSortedAs tense db files.query q
+
+-- there is a database, and of its relations this holds
+pub record OverDatabase (civil : Bool) (files : Contents) (Holds : List Relation → Type 0) : Type 0 where
+  pub db : List Relation
+  pub says : SaysRelations civil files db
+  pub holds : Holds db
+
+-- there is a query over the relations, and of it this holds
+pub record OverQuery (tense : Bool) (files : Contents) (Holds : List Relation → Question → Type 0) (db : List Relation) : Type 0 where
+  pub q : Question
+  pub says : SaysQuestion tense files db q
+  pub holds : Holds db q
+
+-- the query is within the limits, and of it this holds
+pub record WhereWithinLimits (Holds : List Relation → Question → Type 0) (db : List Relation) (q : Question) : Type 0 where
+  pub limits : IsWithinLimits db q
+  pub holds : Holds db q
+
+-- there are a database and a query over it within the limits, and of them this holds
+abbrev pub Asking : Bool → Bool → Contents → (List Relation → Question → Type 0) → Type 0
+Asking tense civil files Holds = OverDatabase civil files (OverQuery tense files (WhereWithinLimits Holds))

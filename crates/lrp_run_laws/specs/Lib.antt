@@ -1,0 +1,6 @@
+pub mod Contents
+pub mod Tasks
+pub mod Runs
+pub mod Reasons
+pub mod Pairs
+pub mod Following

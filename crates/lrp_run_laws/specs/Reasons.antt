@@ -1,0 +1,116 @@
+-- For each status why a run ended so.
+use Rattle.std.specs.Prelude.{◌⊎◌, ℕ, ◌<◌, ◌^◌, Bool, List, length, Option, Some, None}
+use Rattle.lrp_io.specs.Causes.{Rose}
+use Rattle.lrp_words.specs.Commands.{Task}
+use Rattle.lrp_words.specs.Commands.Task.{ask, decide, list, explain, check, sample}
+use Rattle.lrp_model.specs.Caps.{IsFirstMany}
+use Rattle.lrp_model.specs.DatabaseReading.{IsDatabaseFault}
+use Rattle.lrp_model.specs.Formulas.{Question}
+use Rattle.lrp_model.specs.Periods.{period}
+use Rattle.lrp_model.specs.Plans.{scaled_reach}
+use Rattle.lrp_model.specs.Texts.{Identifier, Text}
+use Rattle.lrp_model.specs.declared.faults.DbFault.{DbFault}
+use Rattle.lrp_model.specs.declared.faults.QueryFault.{QueryFault}
+use Rattle.lrp_model.specs.declared.relations.Relation.{Relation}
+use Rattle.lrp_token.specs.Reading.{IsNoToken, HasOtherCounts}
+use Rattle.lrp_top.specs.Outcomes.{line_of}
+use Rattle.lrp_top.specs.Resuming.{IsStale, shape_of}
+use Rattle.lrp_top.specs.Seen.{ShelfSeen, SinkSeen, HasFailed}
+use Rattle.lrp_top.specs.Written.{IsFaultyAs, plain_if}
+use Rattle.lrp_top.specs.declared.outcome.Refusal.TheVariants as refusal
+use Rattle.lrp_top.specs.declared.status.Status.{Status}
+use Rattle.lrp_top.specs.declared.status.Status.TheVariants as status
+use Rattle.lrp_run_laws.specs.Contents.{Contents, AreContentsFor, digest_of, OverDatabase, OverQuery}
+use Rattle.lrp_run_laws.specs.Runs.{Run, task_asked, WroteAll, WroteOutput}
+
+-- of a task that reads a database: this holds of whether times are civil ones
+abbrev pub OfDatabase : (Bool → Type 0) → Task → Type 0
+OfDatabase Holds (ask database query cap tense civil) = Holds civil
+OfDatabase Holds (decide database query cap tense civil) = Holds civil
+OfDatabase Holds (list database query from to limit after json cap tense civil) = Holds civil
+OfDatabase Holds (explain database query tense civil) = Holds civil
+OfDatabase Holds (check database civil) = Holds civil
+OfDatabase Holds (sample seed size) = ⊥
+
+-- of a task that asks a query: this holds of whether it may have temporal operators and times are civil ones, of the token and of the cap
+abbrev pub OfQuery : (Bool → Bool → Option Text → Option ℕ → Type 0) → Task → Type 0
+OfQuery Holds (ask database query cap tense civil) = Holds tense civil None (Some cap)
+OfQuery Holds (decide database query cap tense civil) = Holds tense civil None (Some cap)
+OfQuery Holds (list database query from to limit after json cap tense civil) = Holds tense civil after (Some cap)
+OfQuery Holds (explain database query tense civil) = Holds tense civil None None
+OfQuery Holds (check database civil) = ⊥
+OfQuery Holds (sample seed size) = ⊥
+
+-- the database's bytes are too many, or their text has a fault
+abbrev pub IsNoDatabase : Contents → Bool → Type 0
+IsNoDatabase files civil = (16777216 < length files.database) ⊎ ((fault : DbFault) × IsDatabaseFault (plain_if civil files.database) fault)
+
+-- the query's bytes are too many, or their text or its sorts have a fault
+abbrev pub IsNoQuery : Contents → Bool → List Relation → Type 0
+IsNoQuery files tense db = (16777216 < length files.query) ⊎ ((fault : QueryFault) × IsFaultyAs tense db files.query fault)
+
+-- the text is no token, is one with other counts than the head's, or is one of other files
+abbrev pub IsNoTokenOf : List ℕ → Option Text → List Relation → Question → Type 0
+IsNoTokenOf digest None db q = ⊥
+IsNoTokenOf digest (Some text) db q = IsNoToken text ⊎ HasOtherCounts text (shape_of q.head) ⊎ IsStale digest q.head text
+
+-- a step has more than cap cells; this is the first
+abbrev pub HasMany : Option ℕ → List Relation → Question → Type 0
+HasMany None db q = ⊥
+HasMany (Some cap) db q = (s : ℕ) × IsFirstMany db q cap s
+
+-- the period is above 2^62, the scaled reach is, or a step has more than cap cells
+abbrev pub IsAbove : Option ℕ → List Relation → Question → Type 0
+IsAbove cap db q = (2 ^ 62 < period db q.body) ⊎ (2 ^ 62 < scaled_reach db q) ⊎ HasMany cap db q
+
+-- there is no query over the database; or there is, and the token is refused
+abbrev pub IsQueryRefused : Contents → Task → Type 0
+IsQueryRefused files = OfQuery (λ tense civil after cap. OverDatabase civil files (λ db. IsNoQuery files tense db ⊎ OverQuery tense files (IsNoTokenOf (digest_of files) after) db))
+
+-- there is a query over the database, and it is above a limit
+abbrev pub IsQueryAbove : Contents → Task → Type 0
+IsQueryAbove files = OfQuery (λ tense civil after cap. OverDatabase civil files (OverQuery tense files (IsAbove cap)))
+
+-- the count of faults of the database's name rose; or there is a database, and that of the query's name rose
+abbrev pub HasFailedOneOf : ShelfSeen → Contents → Bool → Identifier → Identifier → Type 0
+HasFailedOneOf seen files civil database query = HasFailed seen database ⊎ OverDatabase civil files (λ db. HasFailed seen query)
+
+-- a file of the task failed
+abbrev pub HasFailedFile : ShelfSeen → Contents → Task → Type 0
+HasFailedFile seen files (ask database query cap tense civil) = HasFailedOneOf seen files civil database query
+HasFailedFile seen files (decide database query cap tense civil) = HasFailedOneOf seen files civil database query
+HasFailedFile seen files (list database query from to limit after json cap tense civil) = HasFailedOneOf seen files civil database query
+HasFailedFile seen files (explain database query tense civil) = HasFailedOneOf seen files civil database query
+HasFailedFile seen files (check database civil) = HasFailed seen database
+HasFailedFile seen files (sample seed size) = ⊥
+
+-- why a run of the task ended so; want of memory has no cause, and its line is written
+abbrev pub IsReason : Status → Task → Contents → ShelfSeen → SinkSeen → Type 0
+IsReason status.Done task files seen taken = WroteOutput task files taken
+IsReason status.Usage task files seen taken = ⊥
+IsReason status.Database task files seen taken = OfDatabase (IsNoDatabase files) task
+IsReason status.Query task files seen taken = IsQueryRefused files task
+IsReason status.Limit task files seen taken = IsQueryAbove files task
+IsReason status.Read task files seen taken = HasFailedFile seen files task
+IsReason status.Write task files seen taken = Rose taken.faults_before taken.faults
+IsReason status.Memory task files seen taken = WroteAll taken (line_of refusal.Memory)
+
+-- words that spell no task are refused as usage, unless the line could not be written
+abbrev pub IsUsage : Status → SinkSeen → Type 0
+IsUsage status.Usage taken = WroteAll taken (line_of refusal.Usage)
+IsUsage status.Write taken = Rose taken.faults_before taken.faults
+IsUsage _ taken = ⊥
+
+-- over the bytes of its files
+pub record HasTaskReason (task : Task) (run : Run) : Type 0 where
+  pub files : Contents
+  pub told : AreContentsFor run.seen task files
+  pub is : IsReason run.ended task files run.seen run.taken
+
+-- why the run ended so, where this is the task that its words spell, if they do
+abbrev pub HasReasonFor : Option Task → Run → Type 0
+HasReasonFor None run = IsUsage run.ended run.taken
+HasReasonFor (Some task) run = HasTaskReason task run
+
+abbrev pub HasReason : Run → Type 0
+HasReason run = HasReasonFor (task_asked run) run

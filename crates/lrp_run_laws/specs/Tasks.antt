@@ -1,0 +1,61 @@
+-- Tasks to which no refusal applies, and the output of a task.
+use Rattle.std.specs.Prelude.{ℕ, ℤ, Bool, List, Option, Ok}
+use Rattle.lrp_words.specs.Commands.{Task}
+use Rattle.lrp_words.specs.Commands.Task.{ask, decide, list, explain, check, sample}
+use Rattle.lrp_model.specs.AnswerTexts.{IsAnswerText}
+use Rattle.lrp_model.specs.Caps.{ManyAt}
+use Rattle.lrp_model.specs.Formulas.{Question}
+use Rattle.lrp_model.specs.Pages.{Tuple}
+use Rattle.lrp_model.specs.Plans.{IsPlan}
+use Rattle.lrp_model.specs.Texts.{Text}
+use Rattle.lrp_model.specs.declared.plans.Plan.{Plan}
+use Rattle.lrp_model.specs.declared.relations.Relation.{Relation}
+use Rattle.lrp_top.specs.Resuming.{IsResumed}
+use Rattle.lrp_top.specs.Sampled.{TellsSample}
+use Rattle.lrp_top.specs.Telling.{TellsPage, TellsPlan, TellsRelations, TellsWitness}
+use Rattle.lrp_run_laws.specs.Contents.{Contents, digest_of, OverDatabase, Asking}
+
+-- ---- lawful tasks
+
+-- no step has more than cap inhabited cells
+abbrev pub HasFewCells : ℕ → List Relation → Question → Type 0
+HasFewCells cap db q = (s : ℕ) → ManyAt db q cap s → ⊥
+
+-- there is no token, or it is one of these files with the head's counts; and no step has more than cap inhabited cells
+pub record IsResumable (cap : ℕ) (after : Option Text) (digest : List ℕ) (db : List Relation) (q : Question) : Type 0 where
+  pub tuple : Option Tuple
+  pub resumed : IsResumed digest q.head after (Ok tuple)
+  pub few : HasFewCells cap db q
+
+-- no refusal applies to the task; none ever does to the sample
+abbrev pub IsLawfulTask : Task → Contents → Type 0
+IsLawfulTask (ask database query cap tense civil) files = Asking tense civil files (HasFewCells cap)
+IsLawfulTask (decide database query cap tense civil) files = Asking tense civil files (HasFewCells cap)
+IsLawfulTask (list database query from to limit after json cap tense civil) files = Asking tense civil files (IsResumable cap after (digest_of files))
+IsLawfulTask (explain database query tense civil) files = Asking tense civil files (λ db q. Unit {0})
+IsLawfulTask (check database civil) files = OverDatabase civil files (λ db. Unit {0})
+IsLawfulTask (sample seed size) files = Unit {0}
+
+-- ---- the output of a task
+
+-- a page of the query's answers in the window, behind the tuple of the token where there is one
+pub record TellsPageBehind (from to : ℤ) (limit : ℕ) (after : Option Text) (civil json : Bool) (digest output : List ℕ) (db : List Relation) (q : Question) : Type 0 where
+  pub tuple : Option Tuple
+  pub resumed : IsResumed digest q.head after (Ok tuple)
+  pub page : TellsPage db q from to tuple limit civil json digest output
+
+-- the plan of the query
+pub record TellsPlanOf (output : List ℕ) (db : List Relation) (q : Question) : Type 0 where
+  pub plan : Plan
+  pub is : IsPlan plan db q
+  pub told : TellsPlan plan output
+
+-- the bytes are the task's output over the contents of its files
+abbrev pub IsOutputOf : Task → Contents → List ℕ → Type 0
+IsOutputOf (ask database query cap tense civil) files output = Asking tense civil files (λ db q. IsAnswerText db q output)
+IsOutputOf (decide database query cap tense civil) files output = Asking tense civil files (λ db q. TellsWitness db q output)
+IsOutputOf (list database query from to limit after json cap tense civil) files output =
+    Asking tense civil files (TellsPageBehind from to limit after civil json (digest_of files) output)
+IsOutputOf (explain database query tense civil) files output = Asking tense civil files (TellsPlanOf output)
+IsOutputOf (check database civil) files output = OverDatabase civil files (λ db. TellsRelations db output)
+IsOutputOf (sample seed size) files output = TellsSample seed size output

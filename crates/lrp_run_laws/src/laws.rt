@@ -1,0 +1,97 @@
+// What holds of whole runs: each law is the contract of a function that does nothing but call the laws that it rests on.
+ghost use Rattle.std.specs.Prelude.{◌≡◌, ℕ, ℤ, Bool, List, Option};
+ghost use Rattle.lrp_io.specs.declared.shelf.File.{File};
+ghost use Rattle.lrp_words.specs.Commands.{Task};
+ghost use Rattle.lrp_model.specs.Formulas.{Question};
+ghost use Rattle.lrp_model.specs.Pages.{Tuple};
+ghost use Rattle.lrp_model.specs.declared.relations.Relation.{Relation};
+ghost use Rattle.lrp_run_laws.specs.Contents.{Contents, contents_of, digest_of, SaysQuestion, SaysRelations};
+ghost use Rattle.lrp_run_laws.specs.Tasks.{IsLawfulTask};
+ghost use Rattle.lrp_run_laws.specs.Runs.{HaveStoodStill, IsComplete, IsRunOf, MayHappen, Run};
+ghost use Rattle.lrp_run_laws.specs.Reasons.{HasReason};
+ghost use Rattle.lrp_run_laws.specs.Pairs.{EndedAlike, IsDecidedByFiles};
+ghost use Rattle.lrp_run_laws.specs.Following.{IsFollowed, IsShortWindow, IsUnfinished};
+
+use lrp_eval::counts_are_unique;
+use lrp_model::{
+    pages_are_unique, pages_resume, ranks_differ, texts_in_order, tokens_spell_one_tuple,
+    tuples_are_times_and_texts,
+};
+use lrp_reading_laws::{
+    databases_have_no_fault, databases_have_one_fault, expanded_texts_are_data_texts,
+    queries_have_no_fault, queries_have_one_fault, read_texts_are_data_texts,
+    tense_queries_have_no_fault, tense_queries_have_one_fault, texts_are_of_one_database,
+    texts_are_of_one_query, well_sorted_queries_have_no_fault,
+};
+use lrp_tense::texts_are_one_query;
+
+/// A run ends with a status that has its cause.
+pub fn runs_have_causes()
+    ensures { (run : Run) → MayHappen run → HasReason run }
+{}
+
+/// A run of a lawful task, over files that are told and with counts of faults that stood still, writes the task's output, or
+/// runs out of memory and says so.
+pub fn lawful_runs_are_complete()
+    ensures { (task : Task) (held : List File) (run : Run)
+        → IsRunOf task held run
+        → IsLawfulTask task (contents_of held task)
+        → HaveStoodStill task run
+        → IsComplete task (contents_of held task) run }
+{
+    texts_are_of_one_database();
+    databases_have_no_fault();
+    texts_are_of_one_query();
+    queries_have_no_fault();
+    texts_are_one_query();
+    tense_queries_have_no_fault();
+    well_sorted_queries_have_no_fault();
+    tokens_spell_one_tuple();
+}
+
+/// Two runs of a task, over files of the same bytes, end alike, where neither ends for want of memory or for a failure of a
+/// file or of the sink.
+pub fn runs_have_one_outcome()
+    ensures { (task : Task) (held held_again : List File) (run other : Run)
+        → IsRunOf task held run
+        → IsRunOf task held_again other
+        → contents_of held task ≡ contents_of held_again task
+        → IsDecidedByFiles run.ended
+        → IsDecidedByFiles other.ended
+        → EndedAlike task (contents_of held task) run other }
+{
+    texts_are_of_one_database();
+    databases_have_no_fault();
+    databases_have_one_fault();
+    texts_are_of_one_query();
+    queries_have_no_fault();
+    queries_have_one_fault();
+    texts_are_one_query();
+    tense_queries_have_no_fault();
+    tense_queries_have_one_fault();
+    well_sorted_queries_have_no_fault();
+    tokens_spell_one_tuple();
+    pages_are_unique();
+    ranks_differ();
+    tuples_are_times_and_texts();
+    counts_are_unique();
+}
+
+/// Of a page of what two files ask, behind which more is to come, the token of the last tuple and of these files is resumed
+/// just behind that tuple, and a page that is told for it goes on with the page.
+pub fn pages_follow()
+    ensures { (tense civil : Bool) (files : Contents) (db : List Relation) (q : Question) (from to : ℤ)
+        (after : Option Tuple) (limit : ℕ) (page : List Tuple) (end : Tuple)
+        → SaysRelations civil files db
+        → SaysQuestion tense files db q
+        → IsShortWindow from to
+        → IsUnfinished db q from to after limit page end
+        → IsFollowed (digest_of files) db q from to after limit page end }
+{
+    read_texts_are_data_texts();
+    expanded_texts_are_data_texts();
+    texts_in_order();
+    tuples_are_times_and_texts();
+    tokens_spell_one_tuple();
+    pages_resume();
+}

@@ -1,0 +1,7 @@
+//! Laws of whole runs: causes, complete runs, runs that end alike, and pages that follow.
+//! Each law is the contract of a function that does nothing but call the laws that it rests on.
+#![tactic(auto)]
+
+mod laws;
+
+pub use laws::{lawful_runs_are_complete, pages_follow, runs_have_causes, runs_have_one_outcome};
