@@ -9,6 +9,7 @@ pub mod Reading
 pub mod AnswerLaws
 pub mod SettleLaws
 pub mod SingleLaws
+pub mod StandingLaws
 pub mod AnsweredLaws
 pub mod JoinLaws
 pub mod LoopLaws

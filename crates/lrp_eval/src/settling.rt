@@ -4,18 +4,21 @@ ghost use Rattle.lrp_zone.specs.Zones.{ZoneView};
 ghost use Rattle.lrp_store.specs.Stores.{IsPadded, IsStore, zones_at};
 ghost use Rattle.lrp_eval.specs.Settling.{AddsZones, CanSettle, HasSingleZones, IsSettledStore};
 
-use lrp_minus::settle;
+use lrp_minus::{is_settled, settle};
 use lrp_model::{Cell, List, Memory};
 use lrp_store::Store;
 use lrp_zone::Zone;
 use std::alloc::Global;
 
-/// The same tuples, in zones that are settled cell by cell. A store of single zones is given back as it is.
+/// The same tuples, in zones that are settled cell by cell. A store whose cells are settled is given back as it is.
 pub(crate) fn settled(alloc: Global, store: Store) -> Result<Store, Memory>
     requires room { CanSettle store }
     ensures { IfOk result (λ made. IsSettledStore store made) }
 {
     if has_single_zones(&store) {
+        return Ok(store);
+    }
+    if has_settled_cells(&store) {
         return Ok(store);
     }
     settled_cells(alloc, &store)
@@ -27,6 +30,22 @@ fn has_single_zones(store: &Store) -> bool
     ensures valid { IsStore store.now }
 {
     store.shape().times <= 1 && store.zones() == store.len() as usize
+}
+
+// Whether the zones have one column, and those of each cell are settled as they stand.
+fn has_settled_cells(store: &Store) -> bool
+    requires room { CanSettle store.now }
+    ensures { IsTrue result → IsSettledStore store.now store.now }
+{
+    if store.shape().times != 1 {
+        return false;
+    }
+    for cell in store.cells() {
+        if !is_settled(store, &cell) {
+            return false;
+        }
+    }
+    true
 }
 
 // The same tuples in a new store, in which each cell is settled.

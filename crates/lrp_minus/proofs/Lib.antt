@@ -19,6 +19,7 @@ pub mod Lists
 pub mod Membership
 pub mod MergeLaws
 pub mod PairLists
+pub mod SettledLaws
 pub mod SettlingLaws
 pub mod SpanLaws
 pub mod SparedLaws

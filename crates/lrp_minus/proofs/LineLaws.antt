@@ -58,7 +58,7 @@ begin_in_order vs sorted = pairs_by_steps vs (λ k d l. record { each = not_befo
 pub small_zone : (w : ZoneView) (h : ℕ) → IsZone w → reach_of w ≤ h → reach_of w ≤ columns_of w * h → IsSmallZone w (columns_of w * h)
 small_zone w h is reach stored = record { stored = stored; closed = λ m c s. record { each = λ i j il jl ne. closed_small w is m c s h reach i j il jl ne } }
 
-times_one : (n h r : ℕ) → n ≡ 1 → r ≤ h → r ≤ n * h
+pub times_one : (n h r : ℕ) → n ≡ 1 → r ≤ h → r ≤ n * h
 times_one n h r e l = rw e (omega arith)
 
 -- ---- the intervals of zones

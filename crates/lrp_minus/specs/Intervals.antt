@@ -1,5 +1,5 @@
 -- Zones of one column as intervals of the numbers of a cell.
-use Rattle.std.specs.Prelude.{◌≡◌, ℕ, ℤ, ◌+◌, ◌^◌, ◌≤◌, ◌⊎◌, List, [], ◌∷◌, ◌++◌, Option, Some, None, Contains, AllPairs, pos, nat_abs, ◌+ℤ◌, ◌-ℤ◌, ◌<ℤ◌}
+use Rattle.std.specs.Prelude.{◌≡◌, ℕ, ℤ, ◌+◌, ◌-◌, get_or, ◌^◌, ◌≤◌, ◌⊎◌, List, [], ◌∷◌, ◌++◌, Option, Some, None, Contains, AllPairs, pos, nat_abs, ◌+ℤ◌, ◌-ℤ◌, ◌<ℤ◌}
 use Rattle.lrp_theory.specs.Bounds.{Within}
 use Rattle.lrp_theory.specs.Divides.{Divides}
 use Rattle.lrp_theory.specs.Entries.{entry, node, AtMost}
@@ -91,6 +91,10 @@ pub record InInterval (z : ZoneView) (vs : List Interval) (x : ℤ) : Type 0 whe
 -- each number of u, and a period more, is below each of v
 pub record IsFarBelow (u v : ZoneView) : Type 0 where
   pub far : (x y : ℤ) → IsMember u (x ∷ []) → IsMember v (y ∷ []) → (x +ℤ pos u.period) <ℤ y
+
+-- each zone at place i is far behind the one before it
+abbrev pub AreFarAt : List ZoneView → ℕ → Type 0
+AreFarAt zones i = (d : ZoneView) → IsFarBelow (get_or zones (i - 1) d) (get_or zones i d)
 
 -- the zones hold the numbers of the intervals, ascending, and a number of the cell lies between each two
 pub record AreMerged (z : ZoneView) (vs : List Interval) (zones : List ZoneView) : Type 0 where

@@ -98,8 +98,8 @@ fn merged(
     Ok(made)
 }
 
-// Whether some number of the cell lies between an interval and the next one.
-fn is_apart(last: Interval, next: Interval, period: i64) -> bool
+/// Whether some number of the cell lies between an interval and the next one.
+pub(crate) fn is_apart(last: Interval, next: Interval, period: i64) -> bool
     requires { IfSome last.most (λ most. nat_abs most + nat_abs period ≤ 2 ^ 62) }
     ensures { (k : ℕ) → period ≡ pos k → IsTrue result ↔ LiesApart k last next }
 {
