@@ -1,12 +1,12 @@
 -- Numbers that stand for bounds.
-use Rattle.std.proofs.Common.{◌≡◌, ◌⊎◌, inl, inr, ℕ, ◌+◌, ◌*◌, ◌<◌, ◌≤◌, ◌^◌, ◌-◌, true, false, List, length, map, set, Option, Some, None, refl, sym, ap, subst, ◌∙◌, arith, get_or, get_or-set_same, get_or-set_other, length-set, below_more, if◌then◌else◌}
-use Rattle.std.specs.Prelude.{ℤ, pos, neg_ℤ, ◌≤ℤ◌, ◌<ℤ◌}
+use Rattle.std.proofs.Common.{◌≡◌, inl, inr, ℕ, ◌+◌, ◌<◌, ◌^◌, true, false, List, length, map, set, Option, Some, None, refl, sym, ap, subst, ◌∙◌, arith, get_or, get_or-set_same, get_or-set_other, below_more, if◌then◌else◌}
+use Rattle.std.specs.Prelude.{ℤ, pos, ◌≤ℤ◌, ◌<ℤ◌}
 use Rattle.std.specs.Ordering.{int_eq}
 use Rattle.std.specs.Cmp.{signed_Decides}
 use Rattle.std.proofs.lemmas.Int.{ints, by_lt_z}
 use Rattle.std.proofs.lemmas.List.{get_or-map, length-map, map-set}
 use Rattle.lrp_theory.specs.Bounds.{Within}
-use Rattle.lrp_theory.specs.Entries.{entry, AtMost, IsLesser}
+use Rattle.lrp_theory.specs.Entries.{AtMost, IsLesser}
 use Rattle.lrp_zone.specs.Numbers.{no_bound, bound_of, number_of, CanStand}
 
 -- a number below the greatest is a bound

@@ -1,5 +1,5 @@
 -- Bounds as numbers: the number of a bound, and the greatest one of its type for no bound.
-use Rattle.std.specs.Prelude.{◌≡◌, ℤ, ◌^◌, ◌-◌, ◌<ℤ◌, pos, List, [], ◌∷◌, map, Option, Some, None, Bool, true, false, if◌then◌else◌, refl}
+use Rattle.std.specs.Prelude.{◌≡◌, ℤ, ◌^◌, ◌-◌, ◌<ℤ◌, pos, List, [], ◌∷◌, map, Option, Some, None, true, false, if◌then◌else◌, refl}
 use Rattle.std.specs.Ordering.{int_eq}
 use Rattle.std.specs.Cmp.{signed_Decides}
 use Rattle.std.proofs.Common.{sym, ap, ◌∙◌}

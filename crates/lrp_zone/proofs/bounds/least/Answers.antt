@@ -1,5 +1,5 @@
 -- Each turn writes the lesser number at one more place.
-use Rattle.std.proofs.Common.{arith, rules, refl, ◌≡◌, ◌∙◌, length, length-set, get_or, pos, to_z, of_z}
+use Rattle.std.proofs.Common.{arith, rules, ◌≡◌, ◌∙◌, length-set, get_or, pos, to_z, of_z}
 use Rattle.std.specs.Int.{w64}
 use Rattle.lrp_zone.proofs.Stands.{number_more, numbers_all}
 use Rattle.lrp_zone.proofs.bounds.least.Goals as goal

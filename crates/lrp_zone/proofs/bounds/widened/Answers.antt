@@ -1,5 +1,5 @@
 -- Each turn copies one more bound.
-use Rattle.std.proofs.Common.{rules, arith, refl, ◌≡◌, ◌∙◌, length, get_or, pos, to_z, of_z}
+use Rattle.std.proofs.Common.{rules, arith, ◌≡◌, ◌∙◌, length, get_or, pos, to_z, of_z}
 use Rattle.std.specs.Int.{w64}
 use Rattle.lrp_zone.proofs.Stands.{read_bound, view_size}
 use Rattle.lrp_zone.proofs.Steps.{same_more, same_all, length_set}
