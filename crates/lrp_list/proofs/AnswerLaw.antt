@@ -1,15 +1,13 @@
 -- The text of a settled answer is an answer text of its query.
 use Rattle.std.proofs.Common.{◌≡◌, ◌∙◌, ℕ, List, [], ◌∷◌, Bool, true, false, refl, sym, ap, subst, arith}
-use Rattle.std.specs.Prelude.{pos, ◌==◌, codes, AllPairs, if◌then◌else◌}
+use Rattle.std.specs.Prelude.{◌==◌, codes, AllPairs, if◌then◌else◌}
 use Rattle.std.specs.FinMap as finite
 use Rattle.std.specs.FinMap.{empty_of_len}
 use Rattle.std.specs.List.{AllByRecursion}
-use Rattle.std.proofs.lemmas.Int.{ints}
 use Rattle.std.proofs.lemmas.Bool.Decides.{nat_tests}
-use Rattle.lrp_model.specs.AnswerTexts.{IsAnswerRelation, IsAnswerRow, IsAnswerText, MayStandBeside, OfOneCell}
+use Rattle.lrp_model.specs.AnswerTexts.{IsAnswerRelation, IsAnswerRow, IsAnswerTextOf, MayStandBeside, OfOneCell}
 use Rattle.lrp_model.specs.DatabaseReading.{IsDatabase}
 use Rattle.lrp_model.specs.Formulas.{Question}
-use Rattle.lrp_model.specs.Periods.{period}
 use Rattle.lrp_model.specs.Plans.{time_columns}
 use Rattle.lrp_model.specs.Printed.{relation_bytes}
 use Rattle.lrp_model.specs.Rows.{Datum, times_of}
@@ -27,21 +25,17 @@ use Rattle.lrp_list.proofs.AnswerRead.{answer_reads}
 use Rattle.lrp_list.proofs.AnswerRows.{row, row_tuple}
 
 module _ (db : List Relation) (q : Question) (a : Answer) (h : IsSettledAnswer db q a) where
-  period_same : a.store.period ≡ period db q.body
-  period_same = let e : pos a.store.period ≡ pos (period db q.body) = sym a.period_is ∙ h.period_is in omega (arith, ints)
-
   times_same : a.store.shape.times ≡ time_columns q.head
   times_same = sym a.times_are ∙ ap time_columns h.head
 
-  is_relation : IsAnswerRelation db q (answer_relation a)
+  is_relation : IsAnswerRelation a.store.period db q (answer_relation a)
   is_relation = record {
     name = refl;
     columns = h.head;
     holds = λ tuple. (λ w. (answer_holds a h.store h.ascends tuple).0 ((h.answers tuple).1 w), λ w. (h.answers tuple).0 ((answer_holds a h.store h.ascends tuple).1 w));
-    rows = subst (λ k. AllByRecursion (IsAnswerRow k (time_columns q.head)) (answer_relation a).rows) period_same (subst (λ m. AllByRecursion (IsAnswerRow a.store.period m) (answer_relation a).rows) times_same (rows_are a h.store h.ascends));
+    rows = subst (λ m. AllByRecursion (IsAnswerRow a.store.period m) (answer_relation a).rows) times_same (rows_are a h.store h.ascends);
     cells = cells_in_order a h.store h.ascends;
-    beside = subst (λ k. AllPairs (λ r s. OfOneCell r s → MayStandBeside (IsAnswer db q) k (time_columns q.head) r s) (answer_relation a).rows) period_same
-        (subst (λ m. AllPairs (λ r s. OfOneCell r s → MayStandBeside (IsAnswer db q) a.store.period m r s) (answer_relation a).rows) times_same (answer_beside a h.store h.ascends h.room (IsAnswer db q) h.answers h.settled));
+    beside = subst (λ m. AllPairs (λ r s. OfOneCell r s → MayStandBeside (IsAnswer db q) a.store.period m r s) (answer_relation a).rows) times_same (answer_beside a h.store h.ascends h.room (IsAnswer db q) h.answers h.settled);
   }
 
   kept : AreAnswerColumns a.head.columns
@@ -77,10 +71,10 @@ module _ (db : List Relation) (q : Question) (a : Answer) (h : IsSettledAnswer d
       let r = row_tuple a h.store h.ascends i.cell i.table i.held xs i.inside in
       none r.0 (in_answer a h.store h.ascends r.0 i.cell (row a h.store h.ascends i.cell i.table i.held) (record { table = i.table; held = i.held; is = refl }) r.1))
 
-  pub is_text : IsAnswerText db q (answer_text a)
+  pub is_text : IsAnswerTextOf a.store.period db q (answer_text a)
   is_text = by (finite.len a.store.tables == 0) refl
     where
-      by : (b : Bool) → (finite.len a.store.tables == 0) ≡ b → IsAnswerText db q (answer_text a)
+      by : (b : Bool) → (finite.len a.store.tables == 0) ≡ b → IsAnswerTextOf a.store.period db q (answer_text a)
       by true e = record { none = λ _. empty e; some = λ tuple w. absurd (none_held e tuple ((h.answers tuple).1 w)) }
       by false e = record {
         none = λ none. absurd (some_held e (λ tuple w. none tuple ((h.answers tuple).0 w)));

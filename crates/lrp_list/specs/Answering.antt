@@ -1,8 +1,7 @@
 -- When an answer is that of a query, settled, and can be read back.
-use Rattle.std.specs.Prelude.{◌≡◌, ◌↔◌, pos, List, [], Contains, codes}
+use Rattle.std.specs.Prelude.{◌≡◌, ◌↔◌, List, [], Contains, codes}
 use Rattle.std.specs.List.{AllByRecursion}
 use Rattle.lrp_model.specs.Formulas.{Question}
-use Rattle.lrp_model.specs.Periods.{period}
 use Rattle.lrp_model.specs.Rows.{Datum}
 use Rattle.lrp_model.specs.Satisfaction.{IsAnswer}
 use Rattle.lrp_model.specs.Texts.{Ascends}
@@ -22,12 +21,11 @@ use Rattle.lrp_store.specs.declared.answer.Answer.{Answer}
 abbrev pub AreAnswerColumns : List Column → Type 0
 AreAnswerColumns columns = IsKept (record { name = codes "answer"; columns = columns; rows = [] })
 
--- the answer has the head, the period and just the answers of the query; the zones of each cell are settled and have room; its texts are data texts, and the head's columns can be those of a relation that is read
+-- the answer has the head and just the answers of the query; the zones of each cell are settled and have room; its texts are data texts, and the head's columns can be those of a relation that is read
 pub record IsSettledAnswer (db : List Relation) (q : Question) (a : Answer) : Type 0 where
   pub store : IsStore a.store
   pub ascends : Ascends a.domain
   pub head : a.head.columns ≡ q.head
-  pub period_is : a.period ≡ pos (period db q.body)
   pub answers : (tuple : List Datum) → InAnswer a.head.columns a.domain a.store tuple ↔ IsAnswer db q tuple
   pub settled : (cell : Cell) (z : ZoneView) → Contains (zones_at a.store cell) z → AreSettled z (zones_at a.store cell)
   pub room : HasRoom a.store

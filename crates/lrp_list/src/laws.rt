@@ -4,7 +4,7 @@ ghost use Rattle.lrp_model.specs.Pages.{IsPage, Tuple};
 ghost use Rattle.lrp_store.specs.Tables.{InAnswer};
 ghost use Rattle.std.specs.FinMap as finite;
 ghost use Rattle.lrp_model.specs.declared.tuples.Spot.{Spot};
-ghost use Rattle.lrp_model.specs.AnswerTexts.{IsAnswerText};
+ghost use Rattle.lrp_model.specs.AnswerTexts.{IsAnswerTextOf};
 ghost use Rattle.lrp_model.specs.Formulas.{Question};
 ghost use Rattle.lrp_model.specs.declared.relations.Relation.{Relation};
 ghost use Rattle.lrp_store.specs.declared.answer.Answer.{Answer};
@@ -37,10 +37,10 @@ pub fn moves_are_few()
         → standing_at spot cursors ≤ sum_by (λ tables. length tables) (finite.values w.store.tables) }
 {}
 
-/// The text of a settled answer is an answer text of the query: `Empty` where nothing is an answer, and else a relation
-/// `answer` that holds just the answers, with closed bounds and in order, which reads back as it is.
+/// The text of a settled answer is an answer text of the query, in rows of the answer's period: `Empty` where nothing is an
+/// answer, and else a relation `answer` that holds just the answers, with closed bounds and in order, which reads back as it is.
 pub fn answers_are_texts()
-    ensures { (db : List Relation) (q : Question) (a : Answer) → IsSettledAnswer db q a → IsAnswerText db q (answer_text a) }
+    ensures { (db : List Relation) (q : Question) (a : Answer) → IsSettledAnswer db q a → IsAnswerTextOf a.store.period db q (answer_text a) }
 {}
 
 /// The head of a well-sorted query can be that of the relation `answer`, where its names are names: they differ, and it has

@@ -94,23 +94,27 @@ MayStandBeside answers K (suc (suc m)) r s = IsOneZone answers r → ⊥
 
 -- ---- the text
 
--- the relation `answer` of a query: it has the head's columns and holds exactly the answers, cell by cell
-pub record IsAnswerRelation (db : List Relation) (q : Question) (answer : Relation) : Type 0 where
+-- the relation `answer` of a query in rows of period K: it has the head's columns and holds exactly the answers, cell by cell
+pub record IsAnswerRelation (K : ℕ) (db : List Relation) (q : Question) (answer : Relation) : Type 0 where
   pub name : answer.name ≡ codes "answer"
   pub columns : answer.columns ≡ q.head
   pub holds : (tuple : List Datum) → IsAnswer db q tuple ↔ Holds (answer ∷ []) answer.name tuple
-  pub rows : AllByRecursion (IsAnswerRow (period db q.body) (time_columns q.head)) answer.rows
+  pub rows : AllByRecursion (IsAnswerRow K (time_columns q.head)) answer.rows
   pub cells : AllPairs InOrder answer.rows
-  pub beside : AllPairs (λ r s. OfOneCell r s → MayStandBeside (IsAnswer db q) (period db q.body) (time_columns q.head) r s) answer.rows
+  pub beside : AllPairs (λ r s. OfOneCell r s → MayStandBeside (IsAnswer db q) K (time_columns q.head) r s) answer.rows
 
 -- the text is such a relation as it is written out, and is read back as it
-pub record IsRelationText (db : List Relation) (q : Question) (bytes : List ℕ) : Type 0 where
+pub record IsRelationText (K : ℕ) (db : List Relation) (q : Question) (bytes : List ℕ) : Type 0 where
   pub answer : Relation
-  pub is : IsAnswerRelation db q answer
+  pub is : IsAnswerRelation K db q answer
   pub layout : bytes ≡ relation_bytes answer
   pub read : IsDatabase bytes (answer ∷ [])
 
--- the text of a query's answer: the line `Empty` where no tuple satisfies the query, and such a relation where one does
-pub record IsAnswerText (db : List Relation) (q : Question) (bytes : List ℕ) : Type 0 where
+-- the text of a query's answer in rows of period K: the line `Empty` where no tuple satisfies the query, and such a relation where one does
+pub record IsAnswerTextOf (K : ℕ) (db : List Relation) (q : Question) (bytes : List ℕ) : Type 0 where
   pub none : ((tuple : List Datum) → IsAnswer db q tuple → ⊥) → bytes ≡ codes "Empty\n"
-  pub some : (tuple : List Datum) → IsAnswer db q tuple → IsRelationText db q bytes
+  pub some : (tuple : List Datum) → IsAnswer db q tuple → IsRelationText K db q bytes
+
+-- in rows of the query's period
+abbrev pub IsAnswerText : List Relation → Question → List ℕ → Type 0
+IsAnswerText db q = IsAnswerTextOf (period db q.body) db q

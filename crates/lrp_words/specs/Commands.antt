@@ -5,15 +5,15 @@ use Rattle.std.specs.Str.{bytes_eq}
 use Rattle.lrp_model.specs.Texts.{Text}
 use Rattle.lrp_civil.specs.Minutes.{minute_by}
 use Rattle.lrp_words.specs.declared.keys.Key.{Key}
-use Rattle.lrp_words.specs.declared.keys.Key.TheVariants.{Db, Query, Cap, From, To, Limit, After, Form, Tense, Civil, Seed, Size}
+use Rattle.lrp_words.specs.declared.keys.Key.TheVariants.{Db, Query, Cap, From, To, Limit, After, Form, Tense, Canon, Civil, Seed, Size}
 use Rattle.lrp_words.specs.declared.command.Command.{Command}
 use Rattle.lrp_words.specs.declared.command.Command.TheVariants.{Ask, Decide, List as Page, Explain, Check, Sample}
 use Rattle.lrp_words.specs.Entries.{value_for, are_given}
 use Rattle.lrp_words.specs.Numbers.{natural, within, integer_up_to}
 
--- what is asked: files by their names, caps and limits, a window, a token, whether the page is in JSON, a seed and a size; and last, whether the query may have temporal operators and whether times are civil ones
+-- what is asked: files by their names, caps and limits, a window, a token, whether the page is in JSON, a seed and a size; and last, whether the query may have temporal operators, for `ask` whether its canonical answer is told, and whether times are civil ones
 pub data Task : Type 0 where
-  ask : Text → Text → ℕ → Bool → Bool → Task
+  ask : Text → Text → ℕ → Bool → Bool → Bool → Task
   decide : Text → Text → ℕ → Bool → Bool → Task
   list : Text → Text → ℤ → ℤ → ℕ → Option Text → Bool → ℕ → Bool → Bool → Task
   explain : Text → Text → Bool → Bool → Task
@@ -27,7 +27,7 @@ after_text (Some text) = Some text.now
 
 -- what a command asks
 abbrev pub task_of : Command → Task
-task_of (Ask db query cap tense civil) = ask db.now query.now cap tense civil
+task_of (Ask db query cap tense canon civil) = ask db.now query.now cap tense canon civil
 task_of (Decide db query cap tense civil) = decide db.now query.now cap tense civil
 task_of (Page db query from to limit after json cap tense civil) = list db.now query.now from to limit (after_text after) json cap tense civil
 task_of (Explain db query tense civil) = explain db.now query.now tense civil
@@ -95,6 +95,10 @@ query_name words = file (value_for Query words)
 abbrev pub tense_of : List Text → Option Bool
 tense_of words = flag_of (value_for Tense words)
 
+-- whether the canonical answer is told
+abbrev pub canon_of : List Text → Option Bool
+canon_of words = flag_of (value_for Canon words)
+
 -- whether times are civil ones
 abbrev pub civil_of : List Text → Option Bool
 civil_of words = flag_of (value_for Civil words)
@@ -104,10 +108,10 @@ civil_of words = flag_of (value_for Civil words)
 abbrev pub ask_of : List Text → Option Task
 ask_of words =
     with_some (database_name words) (λ db. with_some (query_name words) (λ query. with_some (cap_of words) (λ cap.
-    with_some (tense_of words) (λ tense. with_some (civil_of words) (λ civil. Some (ask db query cap tense civil))))))
+    with_some (tense_of words) (λ tense. with_some (canon_of words) (λ canon. with_some (civil_of words) (λ civil. Some (ask db query cap tense canon civil)))))))
 
 abbrev pub ask_keys : List Key
-ask_keys = Db ∷ Query ∷ Cap ∷ Tense ∷ Civil ∷ []
+ask_keys = Db ∷ Query ∷ Cap ∷ Tense ∷ Canon ∷ Civil ∷ []
 
 abbrev pub decide_of : List Text → Option Task
 decide_of words =

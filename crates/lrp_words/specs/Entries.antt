@@ -4,7 +4,7 @@ use Rattle.std.specs.List.{list_all, list_any, before_first, after_first}
 use Rattle.std.specs.Str.{bytes_eq}
 use Rattle.lrp_model.specs.Texts.{Text}
 use Rattle.lrp_words.specs.declared.keys.Key.{Key}
-use Rattle.lrp_words.specs.declared.keys.Key.TheVariants.{Db, Query, Cap, From, To, Limit, After, Form, Tense, Civil, Seed, Size}
+use Rattle.lrp_words.specs.declared.keys.Key.TheVariants.{Db, Query, Cap, From, To, Limit, After, Form, Tense, Canon, Civil, Seed, Size}
 
 -- how a key is spelled
 abbrev pub key_name : Key → Text
@@ -17,6 +17,7 @@ key_name Limit = codes "limit"
 key_name After = codes "after"
 key_name Form = codes "form"
 key_name Tense = codes "tense"
+key_name Canon = codes "canon"
 key_name Civil = codes "civil"
 key_name Seed = codes "seed"
 key_name Size = codes "size"

@@ -1,6 +1,6 @@
 // Words as a command: its name, and then the values of its keys.
 ghost use Rattle.std.specs.Prelude.{◌≡◌, ◌<◌, ◌≤◌, ◌^◌, [], ◌∷◌, map, string_bytes, Some, None, IfOk, IfSome, MatchResult};
-ghost use Rattle.lrp_words.specs.Commands.{ask_keys, ask_of, cap_of, check_keys, check_of, civil_of, command, decide_keys, decide_of, end_of, explain_keys, explain_of, flag_of, file as file_by, json_of as is_json_by, limit_of, list_keys, list_of, number_in as number_by, number_or as number_or_by, over, sample_keys, sample_of, task_of, tasks_of, tense_of, after_text};
+ghost use Rattle.lrp_words.specs.Commands.{ask_keys, ask_of, canon_of, cap_of, check_keys, check_of, civil_of, command, decide_keys, decide_of, end_of, explain_keys, explain_of, flag_of, file as file_by, json_of as is_json_by, limit_of, list_keys, list_of, number_in as number_by, number_or as number_or_by, over, sample_keys, sample_of, task_of, tasks_of, tense_of, after_text};
 ghost use Rattle.lrp_words.specs.Entries.{value_for as value_by};
 ghost use Rattle.lrp_words.specs.Ranges.{IsInRange, IsEnd};
 
@@ -46,10 +46,15 @@ fn ask(words: &[String]) -> Option<Command<'_>>
     ensures task { tasks_of result ≡ over ask_keys (map string_bytes words.now) (ask_of (map string_bytes words.now)) }
     ensures range { IfSome result (λ found. IsInRange (task_of found)) }
 {
-    if !are_given(
-        &[Key::Db, Key::Query, Key::Cap, Key::Tense, Key::Civil],
-        words,
-    ) {
+    let keys = [
+        Key::Db,
+        Key::Query,
+        Key::Cap,
+        Key::Tense,
+        Key::Canon,
+        Key::Civil,
+    ];
+    if !are_given(&keys, words) {
         return None;
     }
     Some(Command::Ask {
@@ -57,6 +62,7 @@ fn ask(words: &[String]) -> Option<Command<'_>>
         query: file(Key::Query, words)?,
         cap: cap(words)?,
         tense: tense(words)?,
+        canon: canon(words)?,
         civil: civil(words)?,
     })
 }
@@ -216,6 +222,13 @@ fn tense(words: &[String]) -> Option<bool>
     ensures { result ≡ tense_of (map string_bytes words.now) }
 {
     flag(Key::Tense, words)
+}
+
+/// Whether the canonical answer is told.
+fn canon(words: &[String]) -> Option<bool>
+    ensures { result ≡ canon_of (map string_bytes words.now) }
+{
+    flag(Key::Canon, words)
 }
 
 /// Whether times are civil ones.
