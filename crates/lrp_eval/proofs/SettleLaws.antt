@@ -11,7 +11,6 @@ use Rattle.std.proofs.lemmas.Map.Keys.{IsDistinct-from_sorted}
 use Rattle.lrp_slots.proofs.Tables.{same_cell}
 use Rattle.lrp_slots.proofs.Copying.{keys_ascend}
 use Rattle.lrp_store.proofs.Counted.{key_held}
-use Rattle.lrp_eval.proofs.Nexts.{element}
 use Rattle.std.specs.FinMap as finite
 use Rattle.lrp_model.specs.declared.tuples.Cell.{Cell}
 use Rattle.lrp_model.proofs.Decided.{cons_cases, contains_first, contains_later, contains_none}
@@ -175,15 +174,6 @@ settled_all s new left none h = record {
 }
 
 -- ---- before the first cell
-
-pub never_none : (s : StoreView) (cell : Cell) (i : ℕ) → i < length (tables_at s cell) → None ≡ slice_get (zones_at s cell) i → ⊥
-never_none s cell i lt e =
-    let n : length (zones_at s cell) ≡ length (tables_at s cell) = length-map (tables_at s cell) (zone_of s cell) in
-    let x : (z : ZoneView) × (slice_get (zones_at s cell) i ≡ Some z) = element (zones_at s cell) i (omega arith) in
-    cc (x.1, e)
-
-pub all_zones : (s : StoreView) (cell : Cell) (i : ℕ) → length (tables_at s cell) ≤ i → take i (zones_at s cell) ≡ zones_at s cell
-all_zones s cell i le = let n : length (zones_at s cell) ≡ length (tables_at s cell) = length-map (tables_at s cell) (zone_of s cell) in take_whole (zones_at s cell) i (omega arith)
 
 pub is_decided : (c d : Cell) → Decides (eq_by_cmp cell_cmp c d) (c ≡ d)
 is_decided c d = elim (cell_or c d) [

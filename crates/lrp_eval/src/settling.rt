@@ -1,11 +1,11 @@
 // Stores whose cells are settled.
 ghost use Rattle.std.specs.Prelude.{◌≡◌, IfOk, OnOk, IsTrue, Contains, take, pos};
 ghost use Rattle.lrp_zone.specs.Zones.{ZoneView};
-ghost use Rattle.lrp_store.specs.Stores.{IsPadded, IsStore, zones_at};
+ghost use Rattle.lrp_store.specs.Stores.{IsPadded, IsStore};
 ghost use Rattle.lrp_eval.specs.Settling.{AddsZones, CanSettle, HasSingleZones, IsSettledStore};
 
 use lrp_minus::{is_settled, settle};
-use lrp_model::{Cell, List, Memory};
+use lrp_model::{Cell, Memory};
 use lrp_store::Store;
 use lrp_zone::Zone;
 use std::alloc::Global;
@@ -56,26 +56,12 @@ fn settled_cells(alloc: Global, store: &Store) -> Result<Store, Memory>
     let mut made = Store::new(alloc, store.shape(), store.period());
     made.shape();
     for cell in store.cells() {
-        let zones = zones_of(alloc, store, &cell)?;
+        let zones = store.zones_in(alloc, &cell)?;
         let zones = settle(alloc, &zones)?;
         add_all(&mut made, &cell, zones.as_slice())?;
         made.shape();
     }
     Ok(made)
-}
-
-// The zones of a cell, in order.
-fn zones_of(alloc: Global, store: &Store, cell: &Cell) -> Result<List<Zone>, Memory>
-    ensures { IfOk result (λ made. made ≡ zones_at store.now cell.now) }
-{
-    let mut zones = List::new(alloc);
-    for i in 0..store.count(cell) {
-        match store.zone(cell, i) {
-            Some(zone) => zones.push(zone)?,
-            None => unreachable!(),
-        }
-    }
-    Ok(zones)
 }
 
 // Appends zones to a cell's list.
