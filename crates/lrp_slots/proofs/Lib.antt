@@ -6,3 +6,4 @@ pub mod Removed
 pub mod Tables
 pub mod Unlinked
 pub mod Copying
+pub mod Entries

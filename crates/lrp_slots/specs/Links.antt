@@ -1,5 +1,5 @@
 -- How lists stand in slots: each slot has the key of the slot that follows. No public clause cites this module.
-use Rattle.std.specs.Prelude.{◌≡◌, ◌≢◌, ℕ, zero, suc, ◌+◌, ◌-◌, ◌<◌, ◌≤◌, ◌==◌, List, [], ◌∷◌, ◌++◌, Option, Some, None, true, false, map, length, sum_by, IsSome, cond, if◌then◌else◌}
+use Rattle.std.specs.Prelude.{◌≡◌, ◌≢◌, ℕ, zero, suc, ◌+◌, ◌-◌, ◌<◌, ◌≤◌, ◌==◌, List, [], ◌∷◌, ◌++◌, Option, Some, None, true, false, map, length, sum_by, IsSome, All, cond, if◌then◌else◌}
 use Rattle.std.specs.List.{AllByRecursion}
 use Rattle.std.specs.List.Sorted.{IsStrictlySortedBy}
 use Rattle.std.specs.Map.{lookup, keys_of, values_of}
@@ -87,6 +87,14 @@ module _ {V : Type 0} where
   abbrev pub AreHeld : (ℕ → Option (Link V)) → List ℕ → Type 0
   AreHeld slots keys = AllByRecursion (λ key. IsSome (slots key)) keys
 
+  -- the cells, each with the values of its chain
+  abbrev pub values_of_chains : (ℕ → Option (Link V)) → List (Cell × Chain) → List (Cell × List V)
+  values_of_chains slots entries = map (λ e. (e.0, chain_values slots e.1)) entries
+
+  -- each key of each chain has a value
+  abbrev pub AreHeldChains : (ℕ → Option (Link V)) → List (Cell × Chain) → Type 0
+  AreHeldChains slots entries = All (λ e. AreHeld slots (chain_keys slots e.1)) entries
+
   -- a chain has at least one slot, comes to each slot once, ends where it says, and has its slots in line where it says so
   pub record IsWhole (slots : ℕ → Option (Link V)) (chain : Chain) : Type 0 where
     pub some : 0 < chain.count
@@ -97,7 +105,7 @@ module _ {V : Type 0} where
 
   -- the lists of the cells
   abbrev pub lists_of : (ℕ → Option (Link V)) → List (Cell × Chain) → finite.FinMap cell_cmp (List V)
-  lists_of slots entries = finite.from_entries (map (λ e. (e.0, chain_values slots e.1)) entries)
+  lists_of slots entries = finite.from_entries (values_of_chains slots entries)
 
   -- each slot with a value stands in one chain, at one place; the cells ascend
   pub record AreLinked (slab : Slab (Link V)) (entries : List (Cell × Chain)) : Type 0 where

@@ -7,7 +7,7 @@ ghost use Rattle.lrp_slots.specs.Links.{AreHeld, chain_keys, list_of};
 use crate::chains::{Chain, Link};
 use lrp_model::Cell;
 use slab::Slab;
-use std::collections::btree_map::Keys;
+use std::collections::btree_map::{Iter, Keys};
 use std::marker::Model;
 
 /// The cells that are held, ascending by texts and then by residues, seen as the list of those that are left.
@@ -35,6 +35,44 @@ impl<'a> Iterator for Cells<'a> {
     fn next(&mut self) -> Option<Cell> {
         let cell = self.left.next()?;
         Some(*cell)
+    }
+}
+
+/// The cells that are held, ascending, each with its values, seen as the list of those that are left.
+///
+/// No cell is looked up: one pass over the cells, and over the links of each.
+#[derive(Drop)]
+pub struct Lists<'a, V> {
+    pub(crate) links: &'a Slab<Link<V>>,
+    pub(crate) left: Iter<'a, Cell, Chain>,
+}
+
+impl<'a, V> Model for Lists<'a, V> {
+    ghost use Rattle.std.specs.Prelude.{List};
+    ghost use Rattle.slab.specs.Slab.{get};
+    ghost use Rattle.lrp_model.specs.declared.tuples.Cell.{Cell};
+
+    ghost Value = { List (Cell × List V) };
+
+    ghost use Rattle.lrp_slots.specs.Links.{values_of_chains, AreHeldChains};
+
+    ghost view = { λ a. values_of_chains (get a.links.now) a.left };
+
+    ghost invariant = { λ a. AreHeldChains (get a.links.now) a.left };
+}
+
+impl<'a, V> Iterator for Lists<'a, V> {
+    type Item = (Cell, Values<'a, V>);
+
+    ghost next_gives = { YieldsFirst (λ left. left) };
+
+    ghost remaining = { item_count (λ left. left) };
+
+    fn next(&mut self) -> Option<(Cell, Values<'a, V>)> {
+        let links = self.links;
+        let (cell, chain) = self.left.next()?;
+        let values = Values::along(links, Some(*chain));
+        Some((*cell, values))
     }
 }
 

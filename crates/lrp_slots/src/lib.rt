@@ -5,5 +5,5 @@ mod chains;
 mod iterators;
 mod slots;
 
-pub use iterators::{Cells, Values};
+pub use iterators::{Cells, Lists, Values};
 pub use slots::Slots;

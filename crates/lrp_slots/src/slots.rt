@@ -1,12 +1,12 @@
 // Lists of values by cell in slots of one vector.
-ghost use Rattle.std.specs.Prelude.{◌≡◌, ◌≢◌, ◌+◌, ◌<◌, ◌≤◌, ◌↔◌, Some, [], ◌∷◌, ◌++◌, length, sum_by, slice_get, IsSome, IsOk, IfOk, OnOk, OnErr, OnSome, IfNone, option_copied};
+ghost use Rattle.std.specs.Prelude.{◌≡◌, ◌≢◌, ◌+◌, ◌<◌, ◌≤◌, ◌↔◌, All, Some, [], ◌∷◌, ◌++◌, length, sum_by, slice_get, IsSome, IsOk, IfOk, OnOk, OnErr, OnSome, IfNone, option_copied};
 ghost use Rattle.std.specs.List.{remove};
 ghost use Rattle.std.specs.FinMap as finite;
 ghost use Rattle.lrp_slots.specs.Lists.{list_at, set_list, append_all};
 ghost use Rattle.lrp_model.specs.declared.tuples.Cell.{Cell as CellValue};
 
 use crate::chains::{Chain, Link, keep_rest, key_at, lengthen, push, take_out, vacant_key};
-use crate::iterators::{Cells, Values};
+use crate::iterators::{Cells, Lists, Values};
 use lrp_model::{Cell, Copies, Memory};
 use slab::Slab;
 use std::alloc::Global;
@@ -153,6 +153,17 @@ impl<V: Drop> Slots<V> {
     {
         Cells {
             left: self.chains.keys(),
+        }
+    }
+
+    /// The cells that are held, in order, each with its values.
+    pub fn lists(&self) -> Lists<'_, V>
+        ensures entries { result ≡ finite.entries self.now.lists }
+        ensures found { All (λ e. finite.get self.now.lists e.0 ≡ Some e.1) result }
+    {
+        Lists {
+            links: &self.links,
+            left: self.chains.iter(),
         }
     }
 
