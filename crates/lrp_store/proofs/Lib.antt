@@ -14,3 +14,4 @@ pub mod StoreFirst
 pub mod ZoneFirst
 pub mod ZonesRead
 pub mod Written
+pub mod EntriesRead

@@ -12,7 +12,9 @@ mod stored;
 mod table;
 mod tidy;
 mod walk;
+mod zones;
 
 pub use answer::Answer;
 pub use store::{Store, StoreFault};
 pub use table::{StepFault, Table, Vars};
+pub use zones::{Entries, Zones};
