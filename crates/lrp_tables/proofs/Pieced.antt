@@ -4,17 +4,17 @@ use Rattle.std.specs.Prelude.{ℤ, slice_get, unwrap_or}
 use Rattle.std.specs.List.{flat_map}
 use Rattle.std.specs.FinMap as finite
 use Rattle.std.proofs.lemmas.List.{drop_all, length-map}
-use Rattle.std.proofs.lemmas.Option.{slice_get_within}
-use Rattle.std.proofs.lemmas.List.Elements.{Contains-append_left, Contains-append_right, Contains-append_cases}
+use Rattle.std.proofs.lemmas.List.Elements.{All-head, All-map, All-nil, All-rest, All-same, All-weaker, All-contains_itself, Contains-append_left, Contains-append_right, Contains-append_cases}
 use Rattle.lrp_model.specs.declared.tuples.Cell.{Cell}
 use Rattle.lrp_theory.specs.Entries.{entry, AtMost}
 use Rattle.lrp_zone.specs.Zones.{ZoneView, IsMember, IsTight, reach_of}
 use Rattle.lrp_zone.proofs.Reaches.{small_reach}
 use Rattle.lrp_store.specs.Stores.{StoreView, IsStore, InStore, HasReach, zone_of, tables_at, zones_at}
 use Rattle.lrp_store.proofs.Held.{Table, cell_held, zone_held}
-use Rattle.lrp_store.proofs.Aligning.{key_of, tail_in}
+use Rattle.lrp_store.specs.Reading.{entries_of}
+use Rattle.lrp_store.proofs.Aligning.{key_of}
 use Rattle.lrp_store.proofs.Counted.{key_held}
-use Rattle.lrp_tables.specs.Pieces.{piece_of, pieces_at, pieces_left, HaveZones, IsPieceOf, InPiece, ArePieces, Fits}
+use Rattle.lrp_tables.specs.Pieces.{piece_of, pieces_at, pieces_left, pieces_in, pieces_from, HaveZones, IsPieceOf, InPiece, ArePieces, Fits}
 use Rattle.lrp_tables.specs.declared.pieces.Piece.{Piece}
 
 -- what a part of a list has, the list has
@@ -71,18 +71,54 @@ module _ (s : StoreView) where
     };
   }
 
+  -- no zone of the cell is left
+  pub none_left : (cell : Cell) (next : ℕ) (cells : List Cell) → length (tables_at s cell) ≤ next → pieces_left s cell next cells ≡ flat_map (pieces_at s) cells
+  none_left cell next cells h = ap (λ l. l ++ flat_map (pieces_at s) cells) (drop_all next (pieces_at s cell) (let e : length (pieces_at s cell) ≡ length (tables_at s cell) = length-map (tables_at s cell) (piece_of s cell) in omega arith))
+
+  -- the zones of a cell are its tables with the cell
+  in_cell : (cell : Cell) → pieces_in cell (zones_at s cell) ≡ pieces_at s cell
+  in_cell cell = each (tables_at s cell)
+    where
+      each : (tables : List Table) → pieces_in cell (map (zone_of s cell) tables) ≡ map (piece_of s cell) tables
+      each [] = refl
+      each (t ∷ tables) = ap (λ l. piece_of s cell t ∷ l) (each tables)
+
+  -- and those of cells
+  in_cells : (cells : List Cell) → flat_map (λ (e : Cell × List ZoneView). pieces_in e.0 e.1) (map (λ cell. (cell, zones_at s cell)) cells) ≡ flat_map (pieces_at s) cells
+  in_cells [] = refl
+  in_cells (c ∷ cells) = ap (λ l. l ++ flat_map (λ (e : Cell × List ZoneView). pieces_in e.0 e.1) (map (λ cell. (cell, zones_at s cell)) cells)) (in_cell c) ∙ ap (λ l. pieces_at s c ++ l) (in_cells cells)
+
+  -- the zones of all cells, behind those of a cell that may be listed twice, are the zones of the store
+  pub entries_are : IsStore s → (cell : Cell) (zones : List ZoneView) (entries : List (Cell × List ZoneView)) → zones ≡ zones_at s cell → entries ≡ entries_of s → ArePieces s (pieces_from cell zones entries)
+  entries_are is cell zones entries ez ee =
+      subst (ArePieces s)
+      (sym (ap (λ l. pieces_in cell l ++ flat_map (λ (e : Cell × List ZoneView). pieces_in e.0 e.1) entries) ez ∙ ap (λ l. l ++ flat_map (λ (e : Cell × List ZoneView). pieces_in e.0 e.1) entries) (in_cell cell) ∙ ap (λ l. pieces_at s cell ++ flat_map (λ (e : Cell × List ZoneView). pieces_in e.0 e.1) l) ee ∙ ap (λ l. pieces_at s cell ++ l) (in_cells (finite.keys s.tables))))
+      (pieces_are is cell 0 (finite.keys s.tables) refl)
+
+  -- the first cell is taken off
+  pub first_are : IsStore s → (cell : Cell) (zones : List ZoneView) (rest entries : List (Cell × List ZoneView)) → entries ≡ (cell, zones) ∷ rest → entries ≡ entries_of s → ArePieces s (pieces_from cell zones rest)
+  first_are is cell zones rest entries e ee =
+      let all : flat_map (pieces_at s) (finite.keys s.tables) ≡ pieces_from cell zones rest = sym (in_cells (finite.keys s.tables)) ∙ ap (flat_map (λ (e : Cell × List ZoneView). pieces_in e.0 e.1)) (sym ee ∙ e) in
+      subst (ArePieces s) (none_left cell (length (tables_at s cell)) (finite.keys s.tables) (omega arith) ∙ all)
+      (pieces_are is cell (length (tables_at s cell)) (finite.keys s.tables) refl)
+
   -- each cell has some zone
-  pub zones_at_keys : IsStore s → (cell : Cell) (next : ℕ) (cells : List Cell) → cells ≡ finite.keys s.tables → next ≡ length (tables_at s cell) → HaveZones s cell next cells
-  zones_at_keys is cell next cells e en = record {
-    low = omega arith;
-    some = λ other h.
-        let list = key_held s is (λ xs ns. Unit {0}) 0 other (subst (λ l. Contains l other) e h) in
-        subst (λ o. 0 < length (unwrap_or o [])) (sym list.1) (not_empty list.0 (is.cells other list.0 list.1).some);
-  }
+  pub entries_have : IsStore s → (entries : List (Cell × List ZoneView)) → entries ≡ entries_of s → HaveZones entries
+  entries_have is entries e =
+      All-same (λ (e : Cell × List ZoneView). 0 < length e.1) entries (entries_of s) e
+      (All-map (λ (e : Cell × List ZoneView). 0 < length e.1) (λ cell. (cell, zones_at s cell)) (finite.keys s.tables)
+      (All-weaker (Contains (finite.keys s.tables)) (λ cell. 0 < length (zones_at s cell)) some (finite.keys s.tables) (All-contains_itself (finite.keys s.tables))))
     where
       not_empty : (list : List Table) → list ≢ [] → 0 < length list
       not_empty [] some = absurd (some refl)
       not_empty (t ∷ list) some = omega arith
+
+      some : (cell : Cell) → Contains (finite.keys s.tables) cell → 0 < length (zones_at s cell)
+      some cell h =
+          let list = key_held s is (λ xs ns. Unit {0}) 0 cell h in
+          let more : 0 < length (tables_at s cell) = subst (λ o. 0 < length (unwrap_or o [])) (sym list.1) (not_empty list.0 (is.cells cell list.0 list.1).some) in
+          let same : length (zones_at s cell) ≡ length (tables_at s cell) = length-map (tables_at s cell) (zone_of s cell) in
+          omega arith
 
   -- one zone more
   pub one_left : (cell : Cell) (next : ℕ) (cells : List Cell) (z : ZoneView) → slice_get (zones_at s cell) next ≡ Some z → pieces_left s cell next cells ≡ record { cell = cell; zone = z } ∷ pieces_left s cell (next + 1) cells
@@ -99,24 +135,32 @@ module _ (s : StoreView) where
           same_some h = cc
       dropped (t ∷ tables) (suc n) e = dropped tables n e
 
-  -- no zone of the cell is left
-  pub none_left : (cell : Cell) (next : ℕ) (cells : List Cell) → length (tables_at s cell) ≤ next → pieces_left s cell next cells ≡ flat_map (pieces_at s) cells
-  none_left cell next cells h = ap (λ l. l ++ flat_map (pieces_at s) cells) (drop_all next (pieces_at s cell) (let e : length (pieces_at s cell) ≡ length (tables_at s cell) = length-map (tables_at s cell) (piece_of s cell) in omega arith))
+-- one zone of the cell is given
+pub one_given : (cell : Cell) (zone : ZoneView) (rest zones : List ZoneView) (entries : List (Cell × List ZoneView)) → zones ≡ zone ∷ rest → pieces_from cell zones entries ≡ record { cell = cell; zone = zone } ∷ pieces_from cell rest entries
+one_given cell zone rest zones entries e = ap (λ l. pieces_from cell l entries) e
 
-  -- the zones of the next cell follow
-  pub next_cell : (cell : Cell) (next : ℕ) (cells : List Cell) (other : Cell) (rest : List Cell) → next ≡ length (tables_at s cell) → cells ≡ other ∷ rest → pieces_left s cell next cells ≡ pieces_left s other 0 rest
-  next_cell cell next cells other rest en ec = none_left cell next cells (omega arith) ∙ ap (flat_map (pieces_at s)) ec
+-- none is left of it, and the zones of the next cell follow
+pub next_given : (cell other : Cell) (none zones : List ZoneView) (rest entries : List (Cell × List ZoneView)) → none ≡ [] → entries ≡ (other, zones) ∷ rest → pieces_from cell none entries ≡ pieces_from other zones rest
+next_given cell other none zones rest entries en e = ap (λ l. pieces_from cell l entries) en ∙ ap (flat_map (λ (e : Cell × List ZoneView). pieces_in e.0 e.1)) e
 
-  -- which has some
-  pub next_have : (cell : Cell) (next : ℕ) (cells : List Cell) (other : Cell) (rest : List Cell) → cells ≡ other ∷ rest → HaveZones s cell next cells → HaveZones s other 0 rest
-  next_have cell next cells other rest ec h = record { low = omega arith; some = λ c i. h.some c (tail_in other rest cells ec c i) }
+-- none is left of any
+pub none_given : (cell : Cell) (none : List ZoneView) (entries : List (Cell × List ZoneView)) → none ≡ [] → entries ≡ [] → pieces_from cell none entries ≡ []
+none_given cell none entries en e = ap (λ l. pieces_from cell l entries) en ∙ ap (flat_map (λ (e : Cell × List ZoneView). pieces_in e.0 e.1)) e
 
-  -- one zone more is behind
-  pub one_more : (cell : Cell) (next : ℕ) (cells : List Cell) (z : ZoneView) → slice_get (zones_at s cell) next ≡ Some z → HaveZones s cell next cells → HaveZones s cell (next + 1) cells
-  one_more cell next cells z e h = record {
-    low = let l : next < length (zones_at s cell) = slice_get_within (zones_at s cell) next z e in let m : length (zones_at s cell) ≡ length (tables_at s cell) = length-map (tables_at s cell) (zone_of s cell) in omega arith;
-    some = h.some;
-  }
+-- each of the other cells has some zone
+pub rest_have : (cell : Cell) (zones : List ZoneView) (rest entries : List (Cell × List ZoneView)) → entries ≡ (cell, zones) ∷ rest → HaveZones entries → HaveZones rest
+rest_have cell zones rest entries e have = All-rest (λ e. 0 < length e.1) (cell, zones) rest entries e have
+
+-- and so has the first
+pub first_has : (cell : Cell) (zones : List ZoneView) (rest entries : List (Cell × List ZoneView)) → entries ≡ (cell, zones) ∷ rest → HaveZones entries → zones ≡ [] → ⊥
+first_has cell zones rest entries e have none =
+    let some : 0 < length zones = All-head (λ e. 0 < length e.1) (cell, zones) rest (subst HaveZones e have) in
+    let empty : length zones ≡ 0 = ap length none in
+    omega arith
+
+-- no cell is left
+pub none_have : (entries : List (Cell × List ZoneView)) → entries ≡ [] → HaveZones entries
+none_have entries e = subst HaveZones (sym e) (All-nil (λ e. 0 < length e.1))
 
 -- the tuples of a zone are tuples of the store
 pub in_store : (s : StoreView) (piece : Piece) → IsPieceOf s piece → (xs : List ℤ) (ns : List ℕ) → InPiece s.shape.texts piece xs ns → InStore s xs ns

@@ -1,8 +1,9 @@
 -- The zones of a store, one after another, each with its cell.
-use Rattle.std.specs.Prelude.{◌≡◌, ℕ, ℤ, ◌<◌, ◌≤◌, List, ◌++◌, Option, map, drop, take, length, Contains}
+use Rattle.std.specs.Prelude.{◌≡◌, ℕ, ℤ, ◌<◌, List, ◌++◌, Option, map, drop, take, length, All, Contains}
 use Rattle.std.specs.List.{flat_map}
 use Rattle.lrp_model.specs.declared.tuples.Cell.{Cell}
 use Rattle.lrp_model.specs.declared.tuples.Shape.{Shape}
+use Rattle.lrp_zone.specs.Zones.{ZoneView}
 use Rattle.lrp_store.specs.Stores.{StoreView, InStore, IsCellOf, zone_of, tables_at}
 use Rattle.lrp_store.specs.Growing.{IsTupleOf}
 use Rattle.lrp_tables.specs.declared.pieces.Piece.{Piece}
@@ -19,10 +20,17 @@ pieces_at s cell = map (piece_of s cell) (tables_at s cell)
 abbrev pub pieces_left : StoreView → Cell → ℕ → List Cell → List Piece
 pieces_left s cell next cells = drop next (pieces_at s cell) ++ flat_map (pieces_at s) cells
 
--- there is such a place among the zones of the cell, and each other cell has some zone
-pub record HaveZones (s : StoreView) (cell : Cell) (next : ℕ) (cells : List Cell) : Type 0 where
-  pub low : next ≤ length (tables_at s cell)
-  pub some : (other : Cell) → Contains cells other → 0 < length (tables_at s other)
+-- zones of a cell, each with the cell
+abbrev pub pieces_in : Cell → List ZoneView → List Piece
+pieces_in cell zones = map (λ zone. record { cell = cell; zone = zone }) zones
+
+-- zones of a cell, and behind them those of other cells
+abbrev pub pieces_from : Cell → List ZoneView → List (Cell × List ZoneView) → List Piece
+pieces_from cell zones entries = pieces_in cell zones ++ flat_map (λ e. pieces_in e.0 e.1) entries
+
+-- each cell has some zone
+abbrev pub HaveZones : List (Cell × List ZoneView) → Type 0
+HaveZones entries = All (λ e. 0 < length e.1) entries
 
 -- the store has the zone in its cell
 pub record IsPieceOf (s : StoreView) (piece : Piece) : Type 0 where

@@ -2,8 +2,7 @@
 ghost use Rattle.std.specs.Prelude.{◌≡◌};
 
 use lrp_model::Cell;
-use lrp_slots::Cells;
-use lrp_store::Store;
+use lrp_store::{Entries, Store, Zones};
 use lrp_zone::Zone;
 use std::marker::Model;
 
@@ -14,25 +13,24 @@ pub struct Piece {
     pub zone: Zone,
 }
 
-/// The zones of a store in the order of their cells, seen as the list of those that are left.
+/// The zones of a store in the order of their cells, seen as the list of those that are left. No cell is looked up.
 #[derive(Drop)]
 pub struct Pieces<'a> {
-    store: &'a Store,
-    cells: Cells<'a>,
+    entries: Entries<'a>,
     cell: Cell,
-    next: usize,
+    zones: Zones<'a>,
 }
 
 impl<'a> Model for Pieces<'a> {
     ghost use Rattle.std.specs.Prelude.{List};
     ghost use Rattle.lrp_tables.specs.declared.pieces.Piece.{Piece};
-    ghost use Rattle.lrp_tables.specs.Pieces.{pieces_left, HaveZones};
+    ghost use Rattle.lrp_tables.specs.Pieces.{pieces_from, HaveZones};
 
     ghost Value = { List Piece };
 
-    ghost view = { λ a. pieces_left a.store.now a.cell a.next a.cells };
+    ghost view = { λ a. pieces_from a.cell a.zones a.entries };
 
-    ghost invariant = { λ a. HaveZones a.store.now a.cell a.next a.cells };
+    ghost invariant = { λ a. HaveZones a.entries };
 }
 
 impl<'a> Pieces<'a> {
@@ -43,15 +41,22 @@ impl<'a> Pieces<'a> {
         ensures { ArePieces store.now result }
     {
         store.shape();
+        let mut entries = store.entries();
+        if let Some((cell, zones)) = entries.next() {
+            return Pieces {
+                entries,
+                cell,
+                zones,
+            };
+        }
         let cell = Cell {
             texts: [0; 8],
             residues: [0; 8],
         };
         Pieces {
-            store,
-            cells: store.cells(),
+            entries,
             cell,
-            next: store.count(&cell),
+            zones: store.zones_of(&cell),
         }
     }
 }
@@ -66,15 +71,14 @@ impl<'a> Iterator for Pieces<'a> {
     ghost remaining = { item_count (λ left. left) };
 
     fn next(&mut self) -> Option<Piece> {
-        if self.next == self.store.count(&self.cell) {
-            self.cell = self.cells.next()?;
-            self.next = 0;
+        let cell = self.cell;
+        if let Some(zone) = self.zones.next() {
+            return Some(Piece { cell, zone });
         }
-        let zone = self.store.zone(&self.cell, self.next)?;
-        self.next += 1;
-        Some(Piece {
-            cell: self.cell,
-            zone,
-        })
+        let (cell, zones) = self.entries.next()?;
+        self.cell = cell;
+        self.zones = zones;
+        let zone = self.zones.next()?;
+        Some(Piece { cell, zone })
     }
 }
