@@ -1,15 +1,15 @@
 -- What two insertions at one key give, and how many slots a chain can have.
-use Rattle.std.proofs.Common.{◌≡◌, ℕ, ◌+◌, ◌<◌, ◌≤◌, ◌^◌, Bool, true, false, cond, List, [], ◌∷◌, Option, Some, None, Ordering, Less, Equal, Greater, refl, ap, ◌∙◌, arith}
+use Rattle.std.proofs.Common.{◌≡◌, ◌+◌, ◌<◌, ◌^◌, Bool, true, false, cond, List, [], ◌∷◌, Option, Some, None, Ordering, Less, Equal, Greater, refl, ap, ◌∙◌, arith}
 use Rattle.std.specs.Prelude.{IfSome}
 use Rattle.std.specs.Ordering.{match_ordering}
 use Rattle.std.specs.Cmp.{tied_itself}
-use Rattle.std.specs.BTreeMap.{is_at, insert_entry}
+use Rattle.std.specs.BTreeMap.{insert_entry}
 use Rattle.slab.specs.Slab.{Slab, slab_len}
 use Rattle.lrp_model.specs.declared.tuples.Cell.{Cell}
 use Rattle.lrp_slots.specs.declared.chains.Link.{Link}
 use Rattle.lrp_slots.specs.declared.chains.Chain.{Chain}
 use Rattle.lrp_slots.specs.Lists.{cell_cmp}
-use Rattle.lrp_slots.specs.Links.{chain_at, slots_of, AreLinked, IsLengthened}
+use Rattle.lrp_slots.specs.Links.{chain_at, slots_of, AreLinked}
 use Rattle.lrp_slots.proofs.Tables.{cells_total}
 use Rattle.lrp_slots.proofs.Linked.{slots_of-insert}
 

@@ -2,6 +2,7 @@ pub mod Added
 pub mod Keys
 pub mod Lengthened
 pub mod Linked
+pub mod Lines
 pub mod Removed
 pub mod Tables
 pub mod Unlinked

@@ -1,13 +1,15 @@
 // Chains of slots: each slot has the key of the slot that follows in its list.
-ghost use Rattle.std.specs.Prelude.{◌≡◌, ◌+◌, ◌==◌, ◌^◌, ◌<◌, ◌≤◌, None, Some, Ok, OnOk, OnErr, IfOk, IfSome};
-ghost use Rattle.std.specs.BTreeMap.{Updates, IsOrdered, ContainsKey, insert_entry};
+ghost use Rattle.std.specs.Prelude.{◌≡◌, ◌+◌, ◌==◌, ◌^◌, ◌<◌, ◌≤◌, None, Some, Ok, OnOk, OnErr, IfOk, IfSome, IsSome, cond};
+ghost use Rattle.std.specs.BTreeMap.{is_at};
 ghost use Rattle.slab.specs.Slab.{get, ContainsKey as HasValue, slab_len, HasRoomFor};
 ghost use Rattle.lrp_slots.specs.Lists.{cell_cmp};
+ghost use Rattle.lrp_model.specs.declared.tuples.Cell.{Cell as CellValue};
+ghost use Rattle.lrp_slots.specs.Lines.{IsLine};
 ghost use Rattle.lrp_slots.specs.Links.{key_after, keys_from, chain_at, slots_of, AreHeld, IsLengthened, IsWhole, Joins, Pushes, TakesOut, extended, if_some};
 
+use crate::held::Held;
 use lrp_model::{Cell, Memory};
 use slab::Slab;
-use std::collections::BTreeMap;
 
 // A value in its slot, and the key of the slot that follows.
 #[derive(Drop)]
@@ -105,13 +107,11 @@ pub(crate) fn extended(held: Option<Chain>, key: usize) -> Chain
 }
 
 // Puts another chain in the place of a held cell's.
-fn replace(chains: &mut BTreeMap<Cell, Chain>, cell: &Cell, chain: Chain)
-    requires { ContainsKey cell_cmp chains.old cell.now }
-    ensures updates { Updates cell_cmp chains.old chains.new cell.now (Some chain) }
-    ensures inserted { chains.new.entries ≡ insert_entry cell_cmp chains.old.entries cell.now chain }
-    ensures ordered { IsOrdered cell_cmp chains.new }
+fn replace(chains: &mut Held, cell: &Cell, chain: Chain)
+    requires { IsSome (chain_at chains.old cell.now) }
+    ensures { IsLengthened chains.old chains.new cell.now chain }
 {
-    match chains.insert(*cell, chain) {
+    match chains.insert(cell, chain) {
         Ok(_) => {}
         Err(_) => unreachable!(),
     }
@@ -120,18 +120,14 @@ fn replace(chains: &mut BTreeMap<Cell, Chain>, cell: &Cell, chain: Chain)
 // Puts one slot more at the end of a cell's chain, and gives the chain as it was, if there was one.
 //
 // A cell that was not held is looked up once.
-pub(crate) fn lengthen(
-    chains: &mut BTreeMap<Cell, Chain>,
-    cell: &Cell,
-    key: usize,
-) -> Result<Option<Chain>, Memory>
-    requires { IfSome (chain_at chains.old.entries cell.now) (λ chain. chain.count + 1 < 2 ^ 64) }
-    ensures held { IfOk result (λ held. held ≡ chain_at chains.old.entries cell.now) }
-    ensures lengthened { IfOk result (λ held. IsLengthened chains.old.entries chains.new.entries cell.now (extended held key)) }
-    ensures absent { OnErr result (chain_at chains.old.entries cell.now ≡ None) }
-    ensures err { OnErr result (chains.new.entries ≡ chains.old.entries) }
+pub(crate) fn lengthen(chains: &mut Held, cell: &Cell, key: usize) -> Result<Option<Chain>, Memory>
+    requires { IfSome (chain_at chains.old cell.now) (λ chain. chain.count + 1 < 2 ^ 64) }
+    ensures held { IfOk result (λ held. held ≡ chain_at chains.old cell.now) }
+    ensures lengthened { IfOk result (λ held. IsLengthened chains.old chains.new cell.now (extended held key)) }
+    ensures absent { OnErr result (chain_at chains.old cell.now ≡ None) }
+    ensures err { OnErr result (chains.new ≡ chains.old) }
 {
-    let held = chains.insert(*cell, extended(None, key))?;
+    let held = chains.insert(cell, extended(None, key))?;
     if held.is_none() {
         return Ok(None);
     }
@@ -186,18 +182,19 @@ pub(crate) fn take_out<V: Drop>(links: &mut Slab<Link<V>>, chain: Chain, place: 
 }
 
 // Keeps what is left of a held cell's chain; a cell with no slot goes.
-pub(crate) fn keep_rest(chains: &mut BTreeMap<Cell, Chain>, cell: &Cell, rest: Chain)
-    requires { ContainsKey cell_cmp chains.old cell.now }
-    ensures updates { Updates cell_cmp chains.old chains.new cell.now (if_some rest) }
-    ensures total { (chain : Chain) → chain_at chains.old.entries cell.now ≡ Some chain
-        → slots_of chains.new.entries + chain.count ≡ slots_of chains.old.entries + rest.count }
-    ensures ordered { IsOrdered cell_cmp chains.new }
+pub(crate) fn keep_rest(chains: &mut Held, cell: &Cell, rest: Chain)
+    requires { IsSome (chain_at chains.old cell.now) }
+    ensures updates { (other : CellValue) → chain_at chains.new other ≡ cond (is_at (cell_cmp cell.now) other) (if_some rest) (chain_at chains.old other) }
+    ensures total { (chain : Chain) → chain_at chains.old cell.now ≡ Some chain
+        → slots_of chains.new + chain.count ≡ slots_of chains.old + rest.count }
+    ensures ordered { IsLine chains.new }
 {
+    chains.len();
     if rest.count == 0 {
         chains.remove(cell);
         return;
     }
-    match chains.insert(*cell, rest) {
+    match chains.insert(cell, rest) {
         Ok(_) => {}
         Err(_) => unreachable!(),
     }

@@ -7,22 +7,57 @@ ghost use Rattle.lrp_slots.specs.Links.{AreHeld, chain_keys, list_of};
 use crate::chains::{Chain, Link};
 use lrp_model::Cell;
 use slab::Slab;
-use std::collections::btree_map::{Iter, Keys};
+use std::collections::btree_map;
 use std::marker::Model;
+
+/// The cells with their chains in order, seen as the list of those that are left.
+#[derive(Drop)]
+pub(crate) struct Entries<'a> {
+    pub(crate) line: &'a [(Cell, Chain)],
+    pub(crate) tree: btree_map::Iter<'a, Cell, Chain>,
+}
+
+impl<'a> Model for Entries<'a> {
+    ghost use Rattle.std.specs.Prelude.{List, ◌++◌};
+    ghost use Rattle.lrp_model.specs.declared.tuples.Cell.{Cell};
+    ghost use Rattle.lrp_slots.specs.declared.chains.Chain.{Chain};
+
+    ghost Value = { List (Cell × Chain) };
+
+    ghost view = { λ a. a.line.now ++ a.tree };
+}
+
+impl<'a> Iterator for Entries<'a> {
+    type Item = (Cell, Chain);
+
+    ghost next_gives = { YieldsFirst (λ left. left) };
+
+    ghost remaining = { item_count (λ left. left) };
+
+    fn next(&mut self) -> Option<(Cell, Chain)> {
+        if let Some((entry, rest)) = self.line.split_first() {
+            self.line = rest;
+            return Some(*entry);
+        }
+        let (cell, chain) = self.tree.next()?;
+        Some((*cell, *chain))
+    }
+}
 
 /// The cells that are held, ascending by texts and then by residues, seen as the list of those that are left.
 #[derive(Drop)]
 pub struct Cells<'a> {
-    pub(crate) left: Keys<'a, Cell, Chain>,
+    pub(crate) left: Entries<'a>,
 }
 
 impl<'a> Model for Cells<'a> {
     ghost use Rattle.std.specs.Prelude.{List};
     ghost use Rattle.lrp_model.specs.declared.tuples.Cell.{Cell};
+    ghost use Rattle.std.specs.Map.{keys_of};
 
     ghost Value = { List Cell };
 
-    ghost view = { λ a. a.left };
+    ghost view = { λ a. keys_of a.left };
 }
 
 impl<'a> Iterator for Cells<'a> {
@@ -33,8 +68,8 @@ impl<'a> Iterator for Cells<'a> {
     ghost remaining = { item_count (λ left. left) };
 
     fn next(&mut self) -> Option<Cell> {
-        let cell = self.left.next()?;
-        Some(*cell)
+        let (cell, _) = self.left.next()?;
+        Some(cell)
     }
 }
 
@@ -44,7 +79,7 @@ impl<'a> Iterator for Cells<'a> {
 #[derive(Drop)]
 pub struct Lists<'a, V> {
     pub(crate) links: &'a Slab<Link<V>>,
-    pub(crate) left: Iter<'a, Cell, Chain>,
+    pub(crate) left: Entries<'a>,
 }
 
 impl<'a, V> Model for Lists<'a, V> {
@@ -71,8 +106,8 @@ impl<'a, V> Iterator for Lists<'a, V> {
     fn next(&mut self) -> Option<(Cell, Values<'a, V>)> {
         let links = self.links;
         let (cell, chain) = self.left.next()?;
-        let values = Values::along(links, Some(*chain));
-        Some((*cell, values))
+        let values = Values::along(links, Some(chain));
+        Some((cell, values))
     }
 }
 

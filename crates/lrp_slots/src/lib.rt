@@ -2,6 +2,7 @@
 #![tactic(auto)]
 
 mod chains;
+mod held;
 mod iterators;
 mod slots;
 

@@ -6,11 +6,11 @@ ghost use Rattle.lrp_slots.specs.Lists.{list_at, set_list, append_all};
 ghost use Rattle.lrp_model.specs.declared.tuples.Cell.{Cell as CellValue};
 
 use crate::chains::{Chain, Link, keep_rest, key_at, lengthen, push, take_out, vacant_key};
+use crate::held::Held;
 use crate::iterators::{Cells, Lists, Values};
 use lrp_model::{Cell, Copies, Memory};
 use slab::Slab;
 use std::alloc::Global;
-use std::collections::BTreeMap;
 use std::marker::Model;
 
 /// Lists of values by cell, each value in a slot of one vector.
@@ -23,7 +23,7 @@ use std::marker::Model;
 pub struct Slots<V> {
     alloc: Global,
     links: Slab<Link<V>>,
-    chains: BTreeMap<Cell, Chain>,
+    chains: Held,
 }
 
 impl<V> Model for Slots<V> {
@@ -38,11 +38,11 @@ impl<V> Model for Slots<V> {
     ghost use Rattle.lrp_slots.specs.Links.{lists_of, AreLinked};
 
     ghost view = { λ s. record {
-      lists = lists_of (get s.links) s.chains.entries;
+      lists = lists_of (get s.links) s.chains;
       spare = s.links.capacity - slab_len s.links;
     } };
 
-    ghost invariant = { λ s. AreLinked s.links s.chains.entries };
+    ghost invariant = { λ s. AreLinked s.links s.chains };
 }
 
 impl<V: Drop> Slots<V> {
@@ -54,7 +54,7 @@ impl<V: Drop> Slots<V> {
         Slots {
             alloc,
             links: Slab::new(alloc),
-            chains: BTreeMap::new(alloc),
+            chains: Held::new(alloc),
         }
     }
 
@@ -152,7 +152,7 @@ impl<V: Drop> Slots<V> {
         ensures filled { (cell : CellValue) → finite.get self.now.lists cell ≢ Some [] }
     {
         Cells {
-            left: self.chains.keys(),
+            left: self.chains.iter(),
         }
     }
 

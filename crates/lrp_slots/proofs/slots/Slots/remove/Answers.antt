@@ -11,24 +11,24 @@ use Rattle.lrp_slots.proofs.slots.Slots.remove.Goals as goal
 
 pub returns-in_err-chain-clause-value : goal.returns-in_err-chain-clause-value
 returns-in_err-chain-clause-value g c =
-    c.from_residual.ensures ∙ ap (λ xs. slice_get xs c.args.i) (sym (list_absent (get c.self.inside.links) c.self.inside.chains.entries c.args.cell.now (sym c.in_err-chain.ensures.value)))
+    c.from_residual.ensures ∙ ap (λ xs. slice_get xs c.args.i) (sym (list_absent (get c.self.inside.links) c.self.inside.chains c.args.cell.now (sym c.in_err-chain.ensures.value)))
     ∙ ap (λ s. slice_get (list_at s.lists c.args.cell.now) c.args.i) c.self.view_is
 
 pub returns-then-i-chain-clause-value : goal.returns-then-i-chain-clause-value
 returns-then-i-chain-clause-value g c =
-    let many = length_at c.self.inside.links c.self.inside.chains.entries c.self.invariant c.args.cell.now c.in_ok-chain.field-0.now (sym c.in_ok-chain.ensures.value) in
+    let many = length_at c.self.inside.links c.self.inside.chains c.self.invariant c.args.cell.now c.in_ok-chain.field-0.now (sym c.in_ok-chain.ensures.value) in
     sym (slice_get_past _ c.args.i (omega (arith, many, c.if-i-chain.true))) ∙ ap (λ s. slice_get (list_at s.lists c.args.cell.now) c.args.i) c.self.view_is
 
 pub take_out-value-requires-clause-whole : goal.take_out-value-requires-clause-whole
 take_out-value-requires-clause-whole g c = c.self.invariant.whole c.args.cell.now c.in_ok-chain.field-0.now (sym c.in_ok-chain.ensures.value)
 
 removal : (g : _) (c : goal.After-keep_rest g)
-    → Removal c.self.inside.links c.take_out-value.new.links c.self.inside.chains.entries c.keep_rest.new.chains.entries c.args.cell.now c.in_ok-chain.field-0.now c.args.i c.take_out-value.result.0 c.take_out-value.result.1
+    → Removal c.self.inside.links c.take_out-value.new.links c.self.inside.chains c.keep_rest.new.chains c.args.cell.now c.in_ok-chain.field-0.now c.args.i c.take_out-value.result.0 c.take_out-value.result.1
 removal g c = record {
   linked = c.self.invariant;
   held = sym c.in_ok-chain.ensures.value;
   taken = c.take_out-value.ensures;
-  updates = c.keep_rest.ensures.updates.0;
+  updates = c.keep_rest.ensures.updates;
   total = c.keep_rest.ensures.total c.in_ok-chain.field-0.now (sym c.in_ok-chain.ensures.value);
   ascending = c.keep_rest.ensures.ordered;
 }

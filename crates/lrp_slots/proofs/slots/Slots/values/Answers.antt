@@ -6,4 +6,4 @@ use Rattle.lrp_slots.proofs.slots.Slots.values.Goals as goal
 
 pub returns : goal.returns
 returns g c =
-    c.len.ensures ∙ sym (values_counted c.self.inside.links c.self.inside.chains.entries c.self.invariant) ∙ ap (λ s. sum_by (λ xs. length xs) (finite.values s.lists)) c.self.view_is
+    c.len.ensures ∙ sym (values_counted c.self.inside.links c.self.inside.chains c.self.invariant) ∙ ap (λ s. sum_by (λ xs. length xs) (finite.values s.lists)) c.self.view_is

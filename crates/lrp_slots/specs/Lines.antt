@@ -1,0 +1,29 @@
+-- Cells with their chains in line, each cell behind the ones before it. No public clause cites this module.
+use Rattle.std.specs.Prelude.{◌≡◌, ◌⊎◌, ℕ, ◌<◌, List, [], ◌++◌, Some, length, slice_get}
+use Rattle.std.specs.List.{AllByRecursion}
+use Rattle.std.specs.List.Sorted.{IsStrictlySortedBy}
+use Rattle.std.specs.Map.{keys_of}
+use Rattle.std.specs.declared.cmp.Ordering.TheVariants.{Equal, Greater}
+use Rattle.lrp_model.specs.declared.tuples.Cell.{Cell}
+use Rattle.lrp_slots.specs.declared.chains.Chain.{Chain}
+use Rattle.lrp_slots.specs.Lists.{cell_cmp}
+
+-- the cells ascend
+abbrev pub IsLine : List (Cell × Chain) → Type 0
+IsLine line = IsStrictlySortedBy cell_cmp (keys_of line)
+
+-- the cell comes behind each cell of the line
+abbrev pub IsBehindAll : Cell → List (Cell × Chain) → Type 0
+IsBehindAll cell line = AllByRecursion (λ e. cell_cmp cell e.0 ≡ Greater) line
+
+-- the cell stands at this place of the line
+pub record StandsAt (line : List (Cell × Chain)) (cell : Cell) (place : ℕ) : Type 0 where
+  pub within : place < length line
+  pub entry : Cell × Chain
+  pub read : slice_get line place ≡ Some entry
+  pub same : cell_cmp cell entry.0 ≡ Equal
+
+-- the cells stand in the line or in the tree, in order
+pub record StandOnce (line tree : List (Cell × Chain)) : Type 0 where
+  pub one : (line ≡ []) ⊎ (tree ≡ [])
+  pub ordered : IsLine (line ++ tree)
