@@ -1,10 +1,10 @@
 -- The zones of a store as lists that are read one after another.
-use Rattle.std.proofs.Common.{◌≡◌, ℕ, ◌<◌, ◌≤◌, List, [], ◌∷◌, length, take, Option, Some, refl, sym, ap, subst, ◌∙◌, arith, Contains, unwrap_or}
+use Rattle.std.proofs.Common.{◌≡◌, ℕ, List, [], ◌∷◌, length, take, Some, refl, sym, ap, subst, ◌∙◌, arith, Contains, unwrap_or}
 use Rattle.std.specs.Prelude.{ℤ, All, map}
 use Rattle.std.specs.FinMap as finite
 use Rattle.std.proofs.lemmas.List.Elements.{All-map, All-weaker, All-contains_itself, All-head, All-tail}
 use Rattle.lrp_model.specs.declared.tuples.Cell.{Cell}
-use Rattle.lrp_zone.specs.Zones.{ZoneView, IsZone}
+use Rattle.lrp_zone.specs.Zones.{IsZone}
 use Rattle.lrp_store.specs.Stores.{StoreView, IsStore, zone_of, tables_at, zones_at}
 use Rattle.lrp_store.specs.Reading.{zones_with, entries_with, entries_of, AreZonesWith, AreEntriesWith}
 use Rattle.lrp_store.proofs.Held.{Table, zone_held}

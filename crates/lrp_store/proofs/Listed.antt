@@ -10,7 +10,7 @@ use Rattle.std.proofs.lemmas.List.FromFn.{get_or-map-range_with_len, length-rang
 use Rattle.std.proofs.lemmas.List.Sums.{count_by_more_no, count_by_more_yes, count_by-le-length, sum_by-take-le}
 use Rattle.lrp_model.specs.declared.relations.Bound.{Bound}
 use Rattle.lrp_theory.specs.Entries.{entry, node, AtMost}
-use Rattle.lrp_zone.specs.Given.{bound_at, IsGiven, AreGiven, AreOwn}
+use Rattle.lrp_zone.specs.Given.{bound_at}
 use Rattle.lrp_zone.specs.Zones.{ZoneView, IsZone, IsTight, columns_of}
 use Rattle.lrp_store.specs.declared.stored.Entry.{Entry}
 use Rattle.lrp_store.specs.Stored.{bounds_of, table_place, listed_at, table_of, AreListed, count_of}

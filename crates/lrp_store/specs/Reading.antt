@@ -1,5 +1,5 @@
 -- The zones of a store as lists that are read one after another.
-use Rattle.std.specs.Prelude.{◌≡◌, ℕ, ℤ, ◌≤◌, List, Option, map, take, length, All}
+use Rattle.std.specs.Prelude.{ℕ, ℤ, ◌≤◌, List, Option, map, take, length, All}
 use Rattle.std.specs.FinMap as finite
 use Rattle.lrp_model.specs.declared.tuples.Cell.{Cell}
 use Rattle.lrp_zone.specs.Zones.{ZoneView, IsZone}
