@@ -85,3 +85,23 @@ first_entry period times c tables rest lists e valid = All-head (λ e. AreZonesW
 -- and so are those of the rest
 pub rest_entries : (period times : ℕ) (c : Cell) (tables : List Table) (rest lists : List (Cell × List Table)) → lists ≡ (c, tables) ∷ rest → AreEntriesWith period times lists → AreEntriesWith period times rest
 rest_entries period times c tables rest lists e valid = All-tail (λ e. AreZonesWith period times e.0.residues e.1) (c, tables) rest (subst (AreEntriesWith period times) e valid)
+
+-- the cells of a list
+abbrev pub cells_of : List (Cell × List Table) → List Cell
+cells_of lists = map (λ e. e.0) lists
+
+-- the lists of a store as its fields make it are found
+pub lists_found : (s now : StoreView) → s ≡ now → (lists left : List (Cell × List Table)) → left ≡ lists → AreFound s lists → AreFound now left
+lists_found s now same lists left e found = subst (λ v. AreFound v left) same (subst (AreFound s) (sym e) found)
+
+-- and their cells are those that are held
+pub lists_cells : (s now : StoreView) → s ≡ now → (lists left : List (Cell × List Table)) → left ≡ lists → lists ≡ finite.entries s.tables → cells_of left ≡ finite.keys now.tables
+lists_cells s now same lists left e all = ap cells_of (e ∙ all) ∙ ap (λ v. finite.keys v.tables) same
+
+-- the tables of the first cell are those that are found there
+pub first_found : (s : StoreView) (c : Cell) (tables : List Table) (rest lists : List (Cell × List Table)) → lists ≡ (c, tables) ∷ rest → AreFound s lists → tables ≡ tables_at s c
+first_found s c tables rest lists e found = sym (ap (λ o. unwrap_or o []) (All-head (λ e. finite.get s.tables e.0 ≡ Some e.1) (c, tables) rest (subst (AreFound s) e found)))
+
+-- and so are those of the rest
+pub rest_found : (s : StoreView) (c : Cell) (tables : List Table) (rest lists : List (Cell × List Table)) → lists ≡ (c, tables) ∷ rest → AreFound s lists → AreFound s rest
+rest_found s c tables rest lists e found = All-tail (λ e. finite.get s.tables e.0 ≡ Some e.1) (c, tables) rest (subst (AreFound s) e found)

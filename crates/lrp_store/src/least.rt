@@ -3,12 +3,14 @@ ghost use Rattle.std.specs.Prelude.{◌≡◌, ◌≢◌, ◌⊎◌, ◌↔◌, 
 ghost use Rattle.std.specs.declared.cmp.Ordering.TheVariants.{Less, Greater};
 ghost use Rattle.lrp_store.specs.Aligned.{InCell};
 ghost use Rattle.lrp_store.specs.Least.{HasRoom, IsFound, IsNotAfter, held_cmp};
-ghost use Rattle.lrp_store.specs.Stores.{InStore};
+ghost use Rattle.lrp_store.specs.Stores.{InStore, tables_at};
 ghost use Rattle.lrp_theory.specs.Residues.{rank};
 
 use crate::nearest::nearest;
 use crate::store::Store;
+use crate::stored::StoredBounds;
 use lrp_model::{Cell, Spot};
+use lrp_slots::Values;
 
 /// What spots are compared by.
 #[derive(Clone, Copy, PartialEq, Eq, PartialOrd, Ord)]
@@ -69,14 +71,20 @@ impl Store {
     {
         self.shape();
         let mut found = None;
-        for cell in self.cells() {
-            found = self.first_of_cell(&cell, found);
+        for (cell, tables) in self.slots.lists() {
+            found = self.first_of_cell(&cell, tables, found);
         }
         found
     }
 
     // The first of what was found and of the tuples of one cell.
-    fn first_of_cell(&self, cell: &Cell, found: Option<Spot>) -> Option<Spot>
+    fn first_of_cell(
+        &self,
+        cell: &Cell,
+        tables: Values<'_, StoredBounds>,
+        found: Option<Spot>,
+    ) -> Option<Spot>
+        requires tables { tables ≡ tables_at self.now cell.now }
         requires room { HasRoom self.now }
         requires found { IsFound self.now found }
         ensures found { IsFound self.now result }
@@ -86,7 +94,7 @@ impl Store {
         self.shape();
         let times = usize::from(self.shape.times);
         let mut found = found;
-        for bounds in self.slots.iter(cell) {
+        for bounds in tables {
             let zone = bounds.zone(self.period, &cell.residues[..times]);
             let spot = Spot {
                 times: nearest(&zone),
