@@ -33,7 +33,7 @@ pub fn drop_data(
     let store = match place_of(&table.vars.texts, name) {
         Some(place) => without_text(alloc, &table.store, place, size)?,
         None if size == 0 => Store::new(alloc, shape, table.store.period()),
-        None => table.store.copy()?,
+        None => table.store.copy(alloc)?,
     };
     store.shape();
     Ok(Table { vars, store })

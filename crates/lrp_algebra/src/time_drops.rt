@@ -28,7 +28,7 @@ pub fn drop_time(alloc: Global, table: &Table, name: &Name) -> Result<Table, Mem
     table.store.shape();
     let store = match place_of(&table.vars.times, name) {
         Some(place) => without_time(alloc, &table.store, place)?,
-        None => table.store.copy()?,
+        None => table.store.copy(alloc)?,
     };
     store.shape();
     Ok(Table { vars, store })

@@ -177,13 +177,13 @@ impl<V: Drop> Slots<V> {
 
 impl<V: Copies + Drop> Slots<V> {
     /// Equal lists, in as many slots as they have values.
-    pub fn copy(&self) -> Result<Self, Memory>
+    pub fn copy(&self, alloc: Global) -> Result<Self, Memory>
         ensures { IfOk result (λ made. made.lists ≡ self.now.lists) }
     {
-        let mut made = Slots::new(self.alloc);
+        let mut made = Slots::new(alloc);
         made.reserve(self.values())?;
         for cell in self.cells() {
-            append_copies(self.alloc, &mut made, &cell, self.iter(&cell))?;
+            append_copies(alloc, &mut made, &cell, self.iter(&cell))?;
         }
         Ok(made)
     }

@@ -1,5 +1,5 @@
 -- What a store stands for: tuples of times and of numbers of texts, in cells that have zones.
-use Rattle.std.specs.Prelude.{◌≡◌, ◌≢◌, ℕ, ℤ, pos, ◌^◌, ◌<◌, ◌≤◌, List, [], map, length, take, Option, Some, All, Contains, slice_index, slice_index_or, ◌-ℤ◌}
+use Rattle.std.specs.Prelude.{◌≡◌, ◌≢◌, ℕ, ℤ, pos, ◌^◌, ◌<◌, ◌≤◌, List, [], map, length, take, Option, Some, All, Contains, slice_index, slice_index_or, sum_by, ◌-ℤ◌}
 use Rattle.std.specs.FinMap as finite
 use Rattle.lrp_theory.specs.Divides.{Divides}
 use Rattle.lrp_theory.specs.Entries.{node}
@@ -26,6 +26,10 @@ tables_at s cell = list_at s.tables cell
 -- a cell's zones, in order
 abbrev pub zones_at : StoreView → Cell → List ZoneView
 zones_at s cell = map (zone_of s cell) (tables_at s cell)
+
+-- the number of all zones
+abbrev pub zone_count : StoreView → ℕ
+zone_count s = sum_by (λ tables. length tables) (finite.values s.tables)
 
 -- some zone of a cell with these texts has the times
 pub record InStore (s : StoreView) (times : List ℤ) (texts : List ℕ) : Type 0 where

@@ -1,13 +1,14 @@
 // The answers of a query.
 ghost use Rattle.lrp_model.specs.Rows.{Datum};
-ghost use Rattle.std.specs.Prelude.{IfNone, IfSome, ◌≡◌, ◌↔◌, ◌+◌, ℕ, ℤ, List, length, pos, IsTrue};
+ghost use Rattle.std.specs.Prelude.{IfNone, IfOk, IfSome, ◌≡◌, ◌↔◌, ◌+◌, ℕ, ℤ, List, length, pos, IsTrue};
 ghost use Rattle.lrp_model.specs.Plans.{time_columns};
 ghost use Rattle.lrp_store.specs.Stores.{InStore};
 ghost use Rattle.lrp_store.specs.Least.{HasRoom, IsLeastSpot};
 ghost use Rattle.lrp_store.specs.Tables.{AreNumbered, InAnswer};
 
 use crate::store::Store;
-use lrp_model::{Domain, Head, Spot};
+use lrp_model::{Copies, Domain, Head, Memory, Spot};
+use std::alloc::Global;
 
 /// The tuples of a store, with a time or a text for each column of the head, in its order.
 ///
@@ -25,6 +26,24 @@ pub struct Answer {
 }
 
 impl Answer {
+    /// The same answers, in as many slots as there are zones.
+    pub fn copy(&self, alloc: Global) -> Result<Answer, Memory>
+        ensures head { IfOk result (λ made. made.head ≡ self.now.head) }
+        ensures period { IfOk result (λ made. made.period ≡ self.now.period) }
+        ensures domain { IfOk result (λ made. made.domain ≡ self.now.domain) }
+        ensures store { IfOk result (λ made. made.store ≡ record self.now.store { spare = made.store.spare }) }
+    {
+        let head = self.head.copy(alloc)?;
+        let domain = self.domain.copy(alloc)?;
+        let store = self.store.copy(alloc)?;
+        Ok(Answer {
+            head,
+            period: self.period,
+            domain,
+            store,
+        })
+    }
+
     /// Whether no tuple is an answer.
     pub fn is_empty(&self) -> bool
         ensures { IsTrue result ↔ ((times : List ℤ) (texts : List ℕ) → InStore self.now.store times texts → ⊥) }

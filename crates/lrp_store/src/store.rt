@@ -1,10 +1,10 @@
 // Zones by cell, each zone in a slot of one vector.
-ghost use Rattle.std.specs.Prelude.{◌≡◌, ◌≢◌, ◌+◌, ◌<◌, ◌≤◌, ◌^◌, ◌≤ℤ◌, ◌↔◌, ℕ, pos, take, nat_abs, Some, None, [], ◌∷◌, ◌++◌, length, map, sum_by, slice_get, IsSome, IsOk, IfOk, IfErr, OnOk, OnErr, OnSome, IfNone};
+ghost use Rattle.std.specs.Prelude.{◌≡◌, ◌≢◌, ◌+◌, ◌<◌, ◌≤◌, ◌^◌, ◌≤ℤ◌, ◌↔◌, ℕ, pos, take, nat_abs, Some, None, [], ◌∷◌, ◌++◌, length, map, slice_get, IsSome, IsOk, IfOk, IfErr, OnOk, OnErr, OnSome, IfNone};
 ghost use Rattle.std.specs.List.{remove};
 ghost use Rattle.std.specs.FinMap as finite;
 ghost use Rattle.lrp_slots.specs.Lists.{list_at, set_list};
 ghost use Rattle.lrp_store.specs.Stored.{count_of};
-ghost use Rattle.lrp_store.specs.Stores.{IsStore, IsPadded, tables_at, zones_at};
+ghost use Rattle.lrp_store.specs.Stores.{IsStore, IsPadded, tables_at, zone_count, zones_at};
 
 use crate::stored::StoredBounds;
 use lrp_model::{Cell, Copies, Memory, Shape};
@@ -85,7 +85,7 @@ impl Store {
 
     /// The number of all zones.
     pub fn zones(&self) -> usize
-        ensures { result ≡ sum_by (λ tables. length tables) (finite.values self.now.tables) }
+        ensures { result ≡ zone_count self.now }
     {
         self.slots.values()
     }
@@ -176,14 +176,14 @@ impl Store {
     }
 
     /// The same zones, in as many slots as there are zones.
-    pub fn copy(&self) -> Result<Store, Memory>
+    pub fn copy(&self, alloc: Global) -> Result<Store, Memory>
         ensures { IfOk result (λ made. made ≡ record self.now { spare = made.spare }) }
     {
         Ok(Store {
-            alloc: self.alloc,
+            alloc,
             shape: self.shape,
             period: self.period,
-            slots: self.slots.copy()?,
+            slots: self.slots.copy(alloc)?,
         })
     }
 }

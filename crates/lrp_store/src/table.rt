@@ -1,8 +1,9 @@
 // Stores whose columns are named by variables.
-ghost use Rattle.std.specs.Prelude.{◌≡◌, ◌≢◌, ◌++◌, length, AllPairs};
+ghost use Rattle.std.specs.Prelude.{◌≡◌, ◌≢◌, ◌++◌, length, AllPairs, IfOk};
 
 use crate::store::{Store, StoreFault};
-use lrp_model::{List, Memory, Name};
+use lrp_model::{Copies, List, Memory, Name};
+use std::alloc::Global;
 
 /// Why a step of a plan gave no table.
 #[derive(Clone, Copy, Debug, PartialEq, Eq)]
@@ -26,6 +27,27 @@ pub struct Table {
     ghost times_named: { length vars.times ≡ store.shape.times },
     ghost texts_named: { length vars.texts ≡ store.shape.texts },
     ghost names_differ: { AllPairs ◌≢◌ (vars.times ++ vars.texts) },
+}
+
+impl Copies for Vars {
+    fn copy(&self, alloc: Global) -> Result<Self, Memory> {
+        Ok(Vars {
+            times: self.times.copy(alloc)?,
+            texts: self.texts.copy(alloc)?,
+        })
+    }
+}
+
+impl Table {
+    /// The same assignments, in as many slots as there are zones.
+    pub fn copy(&self, alloc: Global) -> Result<Table, Memory>
+        ensures vars { IfOk result (λ made. made.vars ≡ self.now.vars) }
+        ensures store { IfOk result (λ made. made.store ≡ record self.now.store { spare = made.store.spare }) }
+    {
+        let vars = self.vars.copy(alloc)?;
+        let store = self.store.copy(alloc)?;
+        Ok(Table { vars, store })
+    }
 }
 
 impl From<StoreFault> for StepFault {

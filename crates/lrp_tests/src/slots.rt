@@ -66,7 +66,7 @@ fn cells_come_by_texts_then_by_residues(rt: HostRuntime) -> Result<(), Fail> {
     for (text, residue) in [(2, 0), (1, 7), (2, -4), (1, 6), (1, 7)] {
         slots.append(&cell(text, residue), Mark(0))?;
     }
-    let copy = slots.copy()?;
+    let copy = slots.copy(rt.alloc())?;
     let mut found = Vec::new(rt.alloc());
     for cell in copy.cells() {
         found.push((cell.texts[0], cell.residues[0], copy.count(&cell)))?;
