@@ -1,0 +1,7 @@
+-- The residues of the first spans.
+use Rattle.std.proofs.Common.{take}
+use Rattle.lrp_spans.specs.Spans.{AreOpenBelow}
+use Rattle.lrp_spans.proofs.ends.open_below.Given as goal
+
+abbrev pub invariant-loop-span : goal.invariant-loop-span
+invariant-loop-span l = AreOpenBelow (take l.span-index l.spans) l.made.items
