@@ -1,0 +1,23 @@
+-- What is proved of canonical answers, by topic.
+pub mod CanonLaws
+pub mod CountLaws
+pub mod EdgeLaws
+pub mod GroupCounts
+pub mod GroupEnds
+pub mod JoinedCounts
+pub mod LeastLaws
+pub mod Maximal
+pub mod Numbers
+pub mod PairLaws
+pub mod PushLaws
+pub mod RowLaws
+pub mod RowMaking
+pub mod SortLaws
+pub mod SpanDecisions
+pub mod StartLaws
+pub mod Stepping
+pub mod StoreRows
+pub mod TextLaws
+pub mod ZoneLaws
+pub mod ZoneRows
+pub mod ZoneSums

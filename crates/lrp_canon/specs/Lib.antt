@@ -1,0 +1,7 @@
+-- Sets of one time column as periodic rows, and the canonical answer of such a set.
+pub mod Canonical
+pub mod Counting
+pub mod Edges
+pub mod Making
+pub mod Pairing
+pub mod Rows

@@ -1,0 +1,76 @@
+// The canonical answer, and how many rows it has.
+ghost use Rattle.std.specs.Prelude.{◌≡◌, ◌≤◌, ◌<◌, IfOk, IfNone, IfSome};
+ghost use Rattle.lrp_store.specs.Stores.{IsStore};
+ghost use Rattle.lrp_spans.specs.Groups.{AreGroups};
+ghost use Rattle.lrp_spans.specs.Periods.{IsEndPeriod};
+ghost use Rattle.lrp_canon.specs.Canonical.{CanMakeCanonical, HasCanonicalRows, HasMoreRows, IsCanonicalOf};
+
+use crate::counting::rows_of;
+use crate::edges::Periods;
+use crate::storing::rows_in_store;
+use lrp_model::{Copies, Memory};
+use lrp_slots::Slots;
+use lrp_spans::{Span, groups_of, period_of};
+use lrp_store::{Answer, Store};
+use std::alloc::Global;
+
+/// The same answers over the least period with which finitely many rows give them, in maximal rows.
+///
+/// The bytes that are written of a canonical answer hang on its head and its answers alone. It takes memory and time in the
+/// number of its rows, which [`canonical_rows`] tells first.
+pub fn canonical(alloc: Global, answer: &Answer) -> Result<Answer, Memory>
+    requires { CanMakeCanonical answer.now.store }
+    ensures head { IfOk result (λ made. made.head ≡ answer.now.head) }
+    ensures domain { IfOk result (λ made. made.domain ≡ answer.now.domain) }
+    ensures store { IfOk result (λ made. IsCanonicalOf answer.now.store made.store) }
+{
+    let groups = groups_of(alloc, &answer.store)?;
+    let periods = periods_of(alloc, &answer.store, &groups)?;
+    let store = rows_in_store(alloc, &groups, periods, answer.store.shape())?;
+    Ok(Answer {
+        head: answer.head.copy(alloc)?,
+        period: periods.least as i64,
+        domain: answer.domain.copy(alloc)?,
+        store,
+    })
+}
+
+/// The number of rows of the canonical answer, or `None` where it has more than `most`.
+///
+/// No row is made: the cost hangs on the cells and zones of the answer, and not on the number of rows.
+pub fn canonical_rows(alloc: Global, answer: &Answer, most: u32) -> Result<Option<u32>, Memory>
+    requires { CanMakeCanonical answer.now.store }
+    ensures some { IfOk result (λ found. IfSome found (λ count. HasCanonicalRows answer.now.store count)) }
+    ensures few { IfOk result (λ found. IfSome found (λ count. count ≤ most)) }
+    ensures none { IfOk result (λ found. IfNone found (HasMoreRows answer.now.store most)) }
+{
+    let groups = groups_of(alloc, &answer.store)?;
+    let periods = periods_of(alloc, &answer.store, &groups)?;
+    let rows = rows_of(alloc, &groups, periods)?;
+    Ok(at_most(rows, most))
+}
+
+// The period of the store, and the least one of its groups.
+fn periods_of(alloc: Global, store: &Store, groups: &Slots<Span>) -> Result<Periods, Memory>
+    requires can { CanMakeCanonical store.now }
+    requires groups { AreGroups store.now groups.now.lists }
+    ensures whole { IfOk result (λ made. made.whole ≡ store.now.period) }
+    ensures least { IfOk result (λ made. IsEndPeriod store.now.period groups.now.lists made.least) }
+    ensures valid { IfOk result (λ _. IsStore store.now) }
+{
+    store.shape();
+    let whole = store.period() as u64;
+    let least = period_of(alloc, groups, whole)?;
+    Ok(Periods { whole, least })
+}
+
+// The number of rows, or `None` where there are more than `most`.
+fn at_most(rows: u64, most: u32) -> Option<u32>
+    ensures some { IfSome result (λ count. (count ≡ rows) × (count ≤ most)) }
+    ensures none { IfNone result (most < rows) }
+{
+    if rows > u64::from(most) {
+        return None;
+    }
+    Some(rows as u32)
+}

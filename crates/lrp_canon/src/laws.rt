@@ -1,0 +1,20 @@
+// What holds of canonical answers and their texts.
+ghost use Rattle.std.specs.Prelude.{◌≡◌, ◌↔◌, ℕ, List};
+ghost use Rattle.lrp_model.specs.AnswerTexts.{IsAnswerTextOf};
+ghost use Rattle.lrp_model.specs.Formulas.{Question};
+ghost use Rattle.lrp_model.specs.Plans.{time_columns};
+ghost use Rattle.lrp_model.specs.Rows.{Datum};
+ghost use Rattle.lrp_model.specs.Satisfaction.{IsAnswer};
+ghost use Rattle.lrp_model.specs.declared.relations.Relation.{Relation};
+
+/// Two queries with one time column, equal heads and equal answers have one answer text in rows of a period: the rows are the
+/// maximal intervals, their bounds are the least ones, and their order is fixed.
+pub fn answer_texts_are_unique()
+    ensures { (K : ℕ) (db other_db : List Relation) (q other : Question) (bytes others : List ℕ)
+        → q.head ≡ other.head
+        → time_columns q.head ≡ 1
+        → ((tuple : List Datum) → IsAnswer db q tuple ↔ IsAnswer other_db other tuple)
+        → IsAnswerTextOf K db q bytes
+        → IsAnswerTextOf K other_db other others
+        → bytes ≡ others }
+{}

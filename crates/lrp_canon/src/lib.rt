@@ -1,0 +1,12 @@
+//! Canonical answers of one time column: the least period with which finitely many rows give the set, and the maximal rows.
+#![tactic(auto)]
+
+mod answers;
+mod counting;
+mod edges;
+mod laws;
+mod rows;
+mod storing;
+
+pub use answers::{canonical, canonical_rows};
+pub use laws::answer_texts_are_unique;
