@@ -11,6 +11,7 @@ import unittest
 from pathlib import Path
 
 from support import TOP, environment, need
+from table import read_table
 
 COMPLETIONS = TOP / "share/completions"
 
@@ -19,6 +20,10 @@ CASES = [
     ("li", "list"),
     ("de", "decide"),
     ("ch", "check"),
+    ("sam", "sample"),
+    ("sample si", "sample size="),
+    ("sample size=5 s", "sample size=5 seed="),
+    ("help sam", "help sample"),
     ("--v", "--version"),
     ("help ref", "help refusals"),
     ("help expl", "help explain"),
@@ -38,6 +43,7 @@ CASES = [
     ("explain query=ask.lrq civil=yes d", "explain query=ask.lrq civil=yes db="),
     ("explain db=plan.lrp te", "explain db=plan.lrp tense="),
     ("decide tense=y", "decide tense=yes"),
+    ("shell db=x li", "shell db=x limit="),
     ("list from=0 to=9 db=x query=y limit=1 after=z cap=1 f", "list from=0 to=9 db=x query=y limit=1 after=z cap=1 form="),
     ("check db=pl", "check db=plan.lrp"),
     ("check db=fold", "check db=folder/"),
@@ -160,7 +166,7 @@ class Manual(unittest.TestCase):
         done = subprocess.run([mandoc, "-Tascii", "-Owidth=200", TOP / "share/man/fizhedul.1"], capture_output=True,
                               text=True, check=False)
         page = re.sub(".\x08", "", done.stdout)
-        for name in ("overview", "ask", "decide", "list", "explain", "check", "refusals"):
+        for name in ("overview", *read_table(), "refusals"):
             for line in (TOP / f"share/help/{name}.txt").read_text().splitlines():
                 if line.startswith("refused: ") or (line.startswith("  $ ") and name not in ("overview", "refusals")):
                     self.assertIn(line.strip(), page)

@@ -4,6 +4,7 @@ import os
 import re
 import shutil
 import tempfile
+import tomllib
 import unittest
 from pathlib import Path
 
@@ -37,8 +38,8 @@ class Help(unittest.TestCase):
 
     def test_the_overview_names_each_command(self):
         overview = run("help").out
-        for command in read_table():
-            self.assertRegex(overview, rf"(?m)^  {command} +db=FILE")
+        for command, keys in read_table().items():
+            self.assertRegex(overview, rf"(?m)^  {command} +{next(iter(keys))}=")
 
     def test_a_page_names_each_key_of_its_command(self):
         for command, keys in read_table().items():
@@ -128,6 +129,10 @@ class Version(unittest.TestCase):
         changes = (TOP / "CHANGELOG.md").read_text()
         self.assertEqual(re.findall(r"^## ([0-9.]+)", changes, re.MULTILINE)[0],
                          (TOP / "share/version").read_text().strip())
+
+    def test_the_workbench_has_the_version(self):
+        project = tomllib.loads((TOP / "workbench/pyproject.toml").read_text())["project"]
+        self.assertEqual(project["version"], (TOP / "share/version").read_text().strip())
 
 
 class Launcher(unittest.TestCase):

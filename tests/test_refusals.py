@@ -76,9 +76,14 @@ OTHERS = [
     Case("refused: token stale", BUS, more=("from=0", "to=9", "after=" + TOKEN), command="list"),
 ]
 USAGE = [
-    ((), "", "A command is missing.", "ask, decide, list, explain, check"),
+    ((), "", "A command is missing.", "ask, decide, list, explain, check, sample"),
     (("lst", "db=a"), "lst", "'lst' is no command.", "'list'"),
-    (("xyzzy",), "xyzzy", "'xyzzy' is no command.", "ask, decide, list, explain, check"),
+    (("xyzzy",), "xyzzy", "'xyzzy' is no command.", "ask, decide, list, explain, check, sample"),
+    (("smaple",), "smaple", "'smaple' is no command.", "'sample'"),
+    (("sample", "seed=1", "size=501"), "size=501", "'501' is no value of 'size'.", "from 1 to 500"),
+    (("sample", "seed=1000001", "size=1"), "seed=1", "'1000001' is no value of 'seed'.", "from 0 to 1000000"),
+    (("sample", "size=5"), "", "'sample' needs the key 'seed'.", "seed=1"),
+    (("sample", "seed=1", "size=5", "cap=1"), "cap=1", "'sample' has no key 'cap'.", "seed, size"),
     (("check", "a.lrp"), "a.lrp", "'a.lrp' is no KEY=VALUE.", "db=a.lrp"),
     (("check", "--help"), "--help", "'--help' is no KEY=VALUE.", "'fizhedul help check'"),
     (("check", "db", "=a"), "db", "'db' is no KEY=VALUE.", "without a blank"),
@@ -173,8 +178,10 @@ class Explained(unittest.TestCase):
 
     def test_what_a_program_may_say_of_the_machine(self):
         with tempfile.TemporaryDirectory() as name:
-            program = fake(Path(name), "echo 'refused: memory'\nexit 8\n")
-            told = run("check", "db=a", explain="always", FIZHEDUL_PROGRAM=str(program))
+            # The query fills six million cells, and the program gets 16 MB.
+            program = fake(Path(name), f"ulimit -v 16000\nexec '{support.PROGRAM}' \"$@\"\n")
+            told = run("decide", "db=line.lrp", "query=costly.lrq", "cap=1000000000", folder=TOP / "examples/guide",
+                       explain="always", FIZHEDUL_PROGRAM=str(program))
             self.assertEqual((told.status, told.out), (8, "refused: memory\n"))
             self.assertIn(sentences_of("refused: memory")[0], " ".join(told.err.split()))
 
@@ -317,7 +324,8 @@ class Usage(unittest.TestCase):
                       "list db=a query=b from=-4611686018427387904 to=4611686018427387904",
                       "ask db=a query=b tense=yes civil=no", "explain db=a query=b tense=no",
                       "list db=a query=b from=0001-01-01T00:00 to=9999-12-31T23:59 civil=yes", "check civil=no db=a",
-                      "list db=a query=b civil=yes from=2024-02-29T23:59 to=1969-12-31T00:00", "explain db=a query=b civil=yes"):
+                      "list db=a query=b civil=yes from=2024-02-29T23:59 to=1969-12-31T00:00", "explain db=a query=b civil=yes",
+                      "sample seed=0 size=1", "sample size=500 seed=1000000"):
             self.assertIsNone(find_fault(words.split()), words)
             self.assertNotEqual(run(*words.split()).out, "refused: usage\n", words)
 

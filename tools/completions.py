@@ -12,7 +12,7 @@ TOOLS = {"shell": "a prompt over one database", "draw": "a picture of a window",
 def help_of_commands() -> dict[str, str]:
     """What the overview says of each command."""
     overview = (SHARE / "help/overview.txt").read_text()
-    return dict(re.findall(r"^  ([a-z]+) +db=\S+(?: \S+=\S+)*  +(\S.*)$", overview, re.MULTILINE)) | TOOLS
+    return dict(re.findall(r"^  ([a-z]+) +[a-z]+=\S+(?: \S+=\S+)*  +(\S.*)$", overview, re.MULTILINE)) | TOOLS
 
 
 def help_of_keys(command: str) -> dict[str, str]:

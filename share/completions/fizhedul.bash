@@ -9,7 +9,8 @@ _fizhedul_keys() {
         list) keys='db query from to limit after form cap tense civil' ;;
         explain) keys='db query tense civil' ;;
         check) keys='db civil' ;;
-        shell) keys='db tense civil' ;;
+        sample) keys='seed size' ;;
+        shell) keys='db from to limit cap tense civil' ;;
         draw) keys='db query from to format grid marks hour out cap tense civil' ;;
     esac
     echo "$keys"
@@ -67,9 +68,9 @@ _fizhedul() {
     [[ $line == *[[:blank:]] ]] || { word=${words[-1]}; unset 'words[-1]'; }
     COMPREPLY=()
     if [ ${#words[@]} -le 1 ]; then
-        mapfile -t COMPREPLY < <(compgen -W 'check ask decide list explain shell draw import export help --version' -- "$word")
+        mapfile -t COMPREPLY < <(compgen -W 'check ask decide list explain sample shell draw import export help --version' -- "$word")
     elif [ "${words[1]}" = help ]; then
-        [ ${#words[@]} -gt 2 ] || mapfile -t COMPREPLY < <(compgen -W 'ask decide list explain check language refusals workbench' -- "$word")
+        [ ${#words[@]} -gt 2 ] || mapfile -t COMPREPLY < <(compgen -W 'ask decide list explain check sample language refusals workbench' -- "$word")
     elif [ "${words[1]}" = import ] || [ "${words[1]}" = export ]; then
         _fizhedul_kinds_or_files "${words[1]}" "$word" ${#words[@]}
     elif [[ $word == *=* ]]; then

@@ -115,5 +115,5 @@ def nearest(word: str, names: list[str], what: str) -> str:
 
 def sample(key: Key) -> str:
     """What the value of a key may look like."""
-    samples = {"file": "FILE." + "".join(key.of), "time": "NUMBER", "number": key.of[-1] if key.of else "1"}
+    samples = {"file": "FILE." + "".join(key.of), "time": "NUMBER", "number": key.of[-1] if len(key.of) == 3 else "1"}
     return samples.get(key.kind, key.of[0] if key.of else "TOKEN")
