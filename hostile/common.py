@@ -11,7 +11,6 @@ import shutil
 import subprocess
 import sys
 import tempfile
-import time
 
 HERE = os.path.dirname(os.path.realpath(__file__))
 EXAMPLES = os.path.join(HERE, "..", "examples")
@@ -20,6 +19,12 @@ STATUSES = {0, 2, 3, 4, 5, 6, 7, 8}
 LONGEST = 16777216
 SECONDS = 60  # of the processor, for one run
 WAIT = 1800  # on the clock
+
+
+def spent():
+    """The processor seconds of this process and of the programs that it ran."""
+    usages = map(resource.getrusage, (resource.RUSAGE_SELF, resource.RUSAGE_CHILDREN))
+    return sum(usage.ru_utime + usage.ru_stime for usage in usages)
 
 
 class Tally:
@@ -33,15 +38,15 @@ class Tally:
         self.finish()
         self.group = name
         self.groups[name] = [0, 0, 0]
-        self.began = time.monotonic()
+        self.began = spent()
 
     def finish(self):
         if self.group:
             passed, failed, hard = self.groups[self.group]
             beyond = ", %d beyond the evaluator" % hard if hard else ""
             print(
-                "%s: %d passed, %d failed%s, %.1f s"
-                % (self.group, passed, failed, beyond, time.monotonic() - self.began),
+                "%s: %d passed, %d failed%s, %.1f processor seconds"
+                % (self.group, passed, failed, beyond, spent() - self.began),
                 flush=True,
             )
         self.group = None

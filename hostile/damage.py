@@ -139,11 +139,13 @@ def spans(text):
 
 
 def exchanged(program, tally, few=False):
+    """Each pair of tokens of the small texts, and some pairs of the examples; where few, some pairs of each."""
     chance = random.Random(2)
     for database, query, *keys in texts_of(few):
         whole = database if query is None else query
         pairs = list(itertools.combinations(spans(whole), 2))
-        for (a, b), (c, d) in chance.sample(pairs, min(len(pairs), 300 if few else 400)):
+        most = len(pairs) if database in (SMALL, DATED) else 400
+        for (a, b), (c, d) in chance.sample(pairs, min(len(pairs), 300 if few else most)):
             exchange = lambda text: text[:a] + text[c:d] + text[b:c] + text[a:b] + text[d:]
             check(program, *changed(database, query, exchange), *keys)
 

@@ -29,6 +29,8 @@ def runs():
         yield [command], BUS, departures
         yield [command], instants, outside
         yield [command], SORTS, left
+    yield ["ask"], instants, b"{ t: time | r(t) }"
+    yield ["ask"], *example("week", "connections")
     yield ["list", "from=0", "to=130", "limit=2"], BUS, departures
     yield ["list", "from=0", "to=130", "after=T1/65/"], BUS, departures
     yield ["list", "from=0", "to=130", "after=T1/05/"], BUS, departures
@@ -37,6 +39,7 @@ def runs():
     yield ["explain"], SORTS, left
     yield ["explain"], *example("guard", "always")
     yield ["check"], example("week", "connections")[0], None
+    yield ["ask", "tense=yes"], BUS, b"{ t: time | until t (not bus(t), bus(t)) }"
     yield ["decide", "tense=yes"], BUS, b"{ t: time | since t (not bus(t), once t (-3, 4) bus(t)) }"
     yield ["explain", "tense=yes"], SORTS, b"{ t: time, l: line | always t (0, 9) exists c: city trip(t, l, c) }"
     yield ["check"], b"relation r(t: time) { (5+60n", None
@@ -83,8 +86,8 @@ def refused_run(program, library, words, number, to_the_end):
     return (ran.returncode, ran.stdout + ran.stderr), was_refused
 
 
-def memory(program, tally, most):
-    """The first requests one by one, then ever larger steps."""
+def memory(program, tally, most=None):
+    """Each request in turn; where a number is given, so many one by one, and then ever larger steps."""
     library = build(program.room)
     if library is None:
         print("memory: there is no C compiler here, so no request is refused")
@@ -105,4 +108,4 @@ def memory(program, tally, most):
                     got[1],
                 )
             words_are_read |= results[0][0] == (8, REFUSED)
-            number += max(1, number // most)
+            number += max(1, number // most) if most else 1

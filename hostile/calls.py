@@ -1,0 +1,123 @@
+"""Calls of the system that fail, one in turn, and calls that take few bytes: openings, reads and writes of the real program."""
+
+import errno
+import os
+import subprocess
+
+from common import HERE, WAIT
+from memory import BUS, SORTS
+
+DEPARTURES = b"{ t: time | bus(t) }"
+RUNS = (
+    (["ask"], BUS, DEPARTURES),
+    (["decide"], BUS, DEPARTURES),
+    (["decide", "tense=yes"], BUS, b"{ t: time | once t (-3, 4) bus(t) }"),
+    (["list", "from=0", "to=600", "limit=9"], BUS, DEPARTURES),
+    (["list", "from=0", "to=600", "form=json"], SORTS, b"{ l: line, t: time | exists c: city trip(t, l, c) }"),
+    (["explain"], SORTS, b"{ l: line | not exists t: time exists c: city trip(t, l, c) }"),
+    (["check"], SORTS, None),
+    (["check", "civil=yes"], b"relation r(t: time) { (daily 08:15); }", None),
+    (["sample", "seed=0", "size=20"], None, None),
+    (["check"], DEPARTURES, None),
+    (["ask"], BUS, b"{ t: time | tram(t) }"),
+    (["lst"], None, None),
+)
+ERRORS = (errno.EIO, errno.ENOSPC, errno.EINTR, errno.EAGAIN)
+
+
+def build(folder):
+    """The library that lets calls fail, or none where there is no C compiler."""
+    made = os.path.join(folder, "fail.so")
+    words = ["cc", "-O1", "-shared", "-fPIC", "-o", made, os.path.join(HERE, "fail.c"), "-ldl"]
+    try:
+        subprocess.run(words, check=True, capture_output=True)
+    except (OSError, subprocess.CalledProcessError):
+        return None
+    return made
+
+
+class Failing:
+    """The program with a library before the C library's calls."""
+
+    def __init__(self, program, library):
+        self.program, self.library = program, library
+
+    def run(self, words, most, call="none", number=0, error=0):
+        """The status and the output, and whether a call failed."""
+        told, tell = os.pipe()
+        keys = {"FAIL_CALL": call, "FAIL": number, "FAIL_ERROR": error, "FAIL_TELL": tell, "FAIL_MOST": most}
+        ran = subprocess.run(
+            [self.program.path, *words],
+            cwd=self.program.folder,
+            env={"LD_PRELOAD": self.library, **{key: str(value) for key, value in keys.items()}},
+            pass_fds=[tell],
+            stdin=subprocess.DEVNULL,
+            capture_output=True,
+            timeout=WAIT,
+        )
+        os.close(tell)
+        has_failed = os.read(told, 1) != b""
+        os.close(told)
+        return (ran.returncode, ran.stdout + ran.stderr), has_failed
+
+
+def calls(program, tally, few=False):
+    """Each call in turn, with an error each, and all calls of a run with one byte and with three."""
+    library = build(program.room)
+    if library is None:
+        print("calls: there is no C compiler here, so no call fails")
+        return
+    failing = Failing(program, library)
+    for words, database, query in RUNS:
+        whole = program.run(*words, database=database, query=query)
+        names = [("db", database), ("query", query)]
+        words = words + ["%s=%s" % (name, name) for name, text in names if text is not None]
+        for most in (1, 3):
+            got, _ = failing.run(words, most)
+            tally.check(got == whole, "%s, %d bytes a call" % (words, most), got)
+        for error in ERRORS[:1] if few else ERRORS:
+            texts = [text for _, text in names if text is not None]
+            opened(failing, tally, words, whole, error)
+            was_read(failing, tally, words, whole, error, texts)
+            written(failing, tally, words, whole, error)
+
+
+def is_allowed(got, wanted, whole, error):
+    """A call that was interrupted may be made again."""
+    return got == wanted or (error == errno.EINTR and got == whole)
+
+
+def refused(name):
+    return 6, b"refused: read of %s\n" % name
+
+
+def opened(failing, tally, words, whole, error):
+    for number, name in enumerate((b"database", b"query"), 1):
+        got, has_failed = failing.run(words, 0, "open", number, error)
+        wanted = refused(name) if has_failed else whole
+        tally.check(is_allowed(got, wanted, whole, error), "%s, opening %d, error %d" % (words, number, error), got)
+
+
+def was_read(failing, tally, words, whole, error, texts):
+    """Reads of three bytes: the database's come first, and each file has one more, which finds its end."""
+    number, counts = 1, [(len(text) + 2) // 3 + 1 for text in texts]
+    while True:
+        got, has_failed = failing.run(words, 3, "read", number, error)
+        wanted = refused(b"database" if number <= counts[0] else b"query") if has_failed else whole
+        tally.check(is_allowed(got, wanted, whole, error), "%s, read %d, error %d" % (words, number, error), got)
+        if not has_failed:
+            break
+        number += 1
+
+
+def written(failing, tally, words, whole, error):
+    """Writes of one byte: what stands before the one that fails is written, and nothing more."""
+    number = 1
+    while True:
+        got, has_failed = failing.run(words, 1, "write", number, error)
+        wanted = (7, whole[1][: number - 1]) if has_failed else whole
+        tally.check(is_allowed(got, wanted, whole, error), "%s, write %d, error %d" % (words, number, error), got)
+        if not has_failed:
+            tally.check(number == len(whole[1]) + 1, "%s: %d writes of a byte" % (words, number - 1), whole[1])
+            break
+        number += 1
