@@ -1,7 +1,6 @@
 """Feeds, against a reading of their files that goes day by day in plain Python."""
 
 import csv
-import re
 import shutil
 import zipfile
 from collections.abc import Iterator
@@ -109,40 +108,40 @@ def test_a_window_is_what_the_days_say(
         assert listed(made, text, begin, end) == lines_wanted
 
 
-ROW = re.compile(
-    r'  \("(.*)", "(.*)", (-?\d+)(?:\+(\d+)n)?, (-?\d+)(?:\+\d+n)?\)(?: where arr >= (\d+), arr <= (\d+), .*)?;'
-)
-
-
-def tuples(made: Path, begin: int, end: int) -> list[str]:
-    """The lines of `stop` in a window, as Python reads the rows."""
-    found = set()
-    for line in made.read_text().splitlines():
-        row = ROW.fullmatch(line)
-        if row is None:
-            continue
-        trip, stop, (arr, period, dep, least, most) = row[1], row[2], (int(each or 0) for each in row.groups()[2:])
-        wait = (dep - arr) % period if period else dep - arr
-        first = max(begin, least) if period else arr
-        first += (arr - first) % period if period else 0
-        last = min(end, most) if period else arr
-        found.update((a, a + wait, trip, stop) for a in range(first, last + 1, period or 1) if begin <= a <= end - wait)
-    return [f'"{trip}", "{stop}", {a}, {d}' for a, d, trip, stop in sorted(found)]
-
-
 def test_the_whole_feed_says_what_to_choose(feed: Path, tmp_path: Path) -> None:
     made = tmp_path / "whole.lrp"
     done = tool("import", "gtfs", str(feed), f"out={made}")
     assert done.returncode == 3 and not made.exists() and list(tmp_path.iterdir()) == []
     assert "16777216 are allowed; choose some of line=.. of" in done.stderr
     assert "L29 (" in done.stderr and "school (" in done.stderr
-    done = tool("import", "gtfs", str(feed), f"out={made}", "relation=stop,runs")
+
+
+ALL_SERVICES = {"school", "free", "saturday", "sunday", "night"}
+ALL_DAYS = (city.FIRST - timedelta(days=2), (city.LAST - city.FIRST).days + 5)
+
+
+@pytest.mark.parametrize(
+    "relation, query, windows",
+    [
+        ("stop", "{ trip: trip, stop: stop, arr: time, dep: time | stop(trip, stop, arr, dep) }", [ALL_DAYS]),
+        (
+            "ride",
+            "{ f: stop, t: stop, d: time, a: time, l: line | ride(f, t, d, a, l) }",
+            [(date(2026, 8, 8), 6), (date(2026, 12, 23), 10), (date(2027, 8, 5), 6)],
+        ),
+    ],
+)
+def test_the_whole_feed_is_what_the_days_say(
+    feed: Path, tmp_path: Path, relation: str, query: str, windows: list[tuple[date, int]]
+) -> None:
+    made = tmp_path / "whole.lrp"
+    done = tool("import", "gtfs", str(feed), f"out={made}", f"relation={relation},runs")
     assert done.returncode == 0, done.stderr
     assert program("check", f"db={made}").count("\n") > 100_000
-    services = {"school", "free", "saturday", "sunday", "night"}
-    for first in (date(2026, 8, 8), date(2026, 12, 23), date(2027, 8, 5)):
-        stops, _, begin, end = expected(feed, ALL_LINES, services, first, 6)
-        assert tuples(made, begin, end) == stops and len(stops) > 5_000
+    for first, count in windows:
+        stops, rides, begin, end = expected(feed, ALL_LINES, ALL_SERVICES, first, count)
+        wanted = stops if relation == "stop" else rides
+        assert listed(made, query, begin, end) == wanted and len(wanted) > 2_000 * (count - 4)
 
 
 def test_an_archive_is_read_as_its_folder(feed: Path, tmp_path: Path) -> None:

@@ -31,12 +31,16 @@ def program(*words: str) -> str:
 
 
 def listed(database: Path, query: str, first: int, last: int) -> list[str]:
-    """The lines of all answers of a window."""
+    """The lines of all answers of a window, page by page."""
     file = database.with_suffix(".lrq")
     file.write_text(query)
     words = ["list", f"db={database}", f"query={file}", f"from={first}", f"to={last}", "limit=1000000"]
-    lines = program(*words).splitlines()
-    assert lines[-1] == "end"
+    lines: list[str] = []
+    after: list[str] = []
+    while lines[-1:] != ["end"]:
+        lines += program(*words, *after).splitlines()
+        if lines[-1].startswith("more "):
+            after = ["after=" + lines.pop().removeprefix("more ")]
     return lines[:-1]
 
 
