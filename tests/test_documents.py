@@ -32,11 +32,12 @@ def commands_of(block: str) -> list[tuple[str, str]]:
 
 
 class Guide(unittest.TestCase):
-    """The planner's guide, and the first page."""
+    """The planner's guide, the first page, and those of the examples."""
 
     def test_each_command_writes_what_is_shown(self):
         count = 0
-        for document, folder in ((GUIDE, FOLDER), (TOP / "README.md", TOP)):
+        pages = [(page, page.parent) for page in sorted(TOP.glob("examples/*/README.md"))]
+        for document, folder in [(GUIDE, FOLDER), (TOP / "README.md", TOP), *pages]:
             for _, block in blocks_of(document):
                 for line, wanted in commands_of(block):
                     with self.subTest(line):
@@ -55,6 +56,22 @@ class Guide(unittest.TestCase):
                     files.add(named[0])
         self.assertEqual(files, {"line.lrp", "departures.lrq", "uncovered.lrq", "hourly.lrq", "trips.lrq", "costly.lrq", "within.lrq",
                                  "pause.lrq", "road.lrq", "dates.lrp", "shifts.lrq"})
+
+
+class Formats(unittest.TestCase):
+    """What the formats show of an answer."""
+
+    def test_the_canonical_answer_is_as_it_is_shown(self):
+        section = (TOP / "docs/formats.md").read_text().split("### Canonical answers")[1].split("## Words")[0]
+        database, wanted = re.findall(r"(?m)^    relation .*\n(?:    .*\n)+", section)
+        query = re.findall(r"(?m)^The query `(\{.*\})` over$", section)[0]
+        with tempfile.TemporaryDirectory() as name:
+            Path(name, "a.lrp").write_text(database)
+            Path(name, "b.lrq").write_text(query)
+            answer = run("ask", "db=a.lrp", "query=b.lrq", folder=Path(name)).out
+            self.assertEqual(len(re.findall(r"\+120n", answer)), 6)
+            answer = run("ask", "db=a.lrp", "query=b.lrq", "canon=yes", folder=Path(name)).out
+            self.assertEqual(answer, re.sub(r"(?m)^    ", "", wanted))
 
 
 BUS = "relation bus(dep: time, arr: time) { (5+60n, 30+60n)%s; }"

@@ -4,11 +4,14 @@ import unittest
 
 from recounts import EXAMPLES
 from recounts import FOLDERS as BY_NUMBERS
+from recounts import RULES
 from recounts_by_dates import dates
 
-FOLDERS = {**BY_NUMBERS, "dates": dates}
+PROBLEMS = {**BY_NUMBERS, "dates": dates}
+FOLDERS = {**PROBLEMS, **RULES}
 # Plans, refusals and normal forms, which follow from the rules of the formats and not from a count.
-NOT_COUNTED = {"dates": {"rides", "unread", "boat_plan", "no_such_day"}, "maintenance": {"unattended", "far", "far_asked", "few_cells"}, "guide": {"check", "dates", "costly"}}
+NOT_COUNTED = {"dates": {"rides", "unread", "boat_plan", "no_such_day"}, "maintenance": {"unattended", "far", "far_asked", "few_cells"}, "guide": {"check", "dates", "costly"},
+               "canon": {"two_rows", "a_million_rows", "one_cell", "three_cells", "needs_one", "no_file", "three_terms", "period", "bound", "a_pair"}}
 
 
 def names_of(folder: str) -> set[str]:
@@ -18,7 +21,7 @@ def names_of(folder: str) -> set[str]:
 
 
 class Examples(unittest.TestCase):
-    """Each folder of a planning problem."""
+    """Each folder of a planning problem, and those of rules that are counted too."""
 
     def test_expected_answers_are_counted_again(self):
         for folder, count in FOLDERS.items():
@@ -32,7 +35,7 @@ class Examples(unittest.TestCase):
             self.assertEqual(names_of(folder), set(count()) | NOT_COUNTED.get(folder, set()), folder)
 
     def test_each_folder_begins_with_a_page_that_names_its_cases(self):
-        for folder in FOLDERS:
+        for folder in PROBLEMS:
             page = (EXAMPLES / folder / "README.md").read_text()
             for query in (EXAMPLES / folder).glob("*.lrq"):
                 self.assertIn(query.name, page, folder)
