@@ -10,6 +10,7 @@ from memory import BUS, SORTS
 DEPARTURES = b"{ t: time | bus(t) }"
 RUNS = (
     (["ask"], BUS, DEPARTURES),
+    (["ask", "canon=yes"], b"relation bus(t: time) { (5+120n); (65+120n); }", DEPARTURES),
     (["decide"], BUS, DEPARTURES),
     (["decide", "tense=yes"], BUS, b"{ t: time | once t (-3, 4) bus(t) }"),
     (["list", "from=0", "to=600", "limit=9"], BUS, DEPARTURES),

@@ -6,6 +6,7 @@ import shlex
 
 import civil
 from answers import answer_fault
+from canon import NEEDS_ONE, canonical_rows, canonical_text, has_one
 from common import EXAMPLES, digest
 from language import Fault, read_database, relation_text
 from meaning import Meaning, TooHard
@@ -44,6 +45,7 @@ class Judge:
         self.keys = dict(word.partition("=")[::2] for word in words[1:])
         self.is_civil = self.keys.get("civil") == "yes"
         self.is_tense = self.keys.get("tense") == "yes"
+        self.is_canon = self.keys.get("canon") == "yes"
 
     def judge(self, text):
         """The status and the output that are wanted; where the output is of a free form, the given text if that is right."""
@@ -72,6 +74,8 @@ class Judge:
             parsed, plain = read_tense(query, relations, self.is_tense)
         except Fault as fault:
             return 4, ("refused: query %s\n" % fault).encode()
+        if self.is_canon and not has_one(parsed):
+            return 4, NEEDS_ONE
         plan = Plan(relations, plain, self.budget)
         return self.planned(plan, Meaning(relations, parsed, self.budget), digest(database, query), text)
 
@@ -86,6 +90,8 @@ class Judge:
             step = next((number for number, count in enumerate(cells, 1) if count > int(self.keys["cap"])), None)
             if step is not None and "after" not in self.keys:
                 return 5, b"refused: more than %d cells at step %d\n" % (int(self.keys["cap"]), step)
+        if self.is_canon:
+            return self.canonical(meaning)
         if self.words[0] == "ask":
             fault = answer_fault(text, meaning)
             return 0, text if fault is None else fault.encode()
@@ -93,6 +99,12 @@ class Judge:
             least = meaning.least()
             return 0, b"Empty\n" if least is None else ("Nonempty\n%s\n" % plain(least)).encode()
         return None if "after" in self.keys else (0, self.page(meaning, files))
+
+    def canonical(self, meaning):
+        rows, most = canonical_rows(meaning), int(self.keys.get("cap", 1000000))
+        if len(rows) > most:
+            return 5, b"refused: more than %d canonical rows\n" % most
+        return 0, canonical_text(meaning, rows)
 
     def page(self, meaning, files):
         start, end = (civil.minute_of(self.keys[it]) if self.is_civil else int(self.keys[it]) for it in ("from", "to"))

@@ -43,7 +43,7 @@ class Table:
 
 def magnitudes(program, tally):
     table = Table(program)
-    for part in (windows, counts, tokens, periods, reaches, quantifiers, far_values, operators):
+    for part in (windows, counts, tokens, periods, reaches, quantifiers, far_values, operators, canonical):
         part(table)
 
 
@@ -246,6 +246,58 @@ def operators(table):
         table.program.expect(b"refused: read of database\n", 6, *words, "tense=no")
     table.usage("check db=none tense=no")
     table.usage("sample seed=0 size=1 tense=no")
+
+
+def canonical(table):
+    """Great periods, bounds and numbers of rows in canonical answers, heads of every number of time columns, and the word."""
+    far, greatest = (1 << 60) - 1, 1 << 60
+    one = lambda *rows: b"relation answer(t: time) {\n%s}\n" % b"".join(b"  %s;\n" % row for row in rows)
+
+    def ask(wanted, rows, *words, status=0, query=b"{ t: time | r(t) }"):
+        words = ["ask", "canon=yes", *words]
+        table.program.expect(wanted, status, *words, database=b"relation r(t: time) { %s }" % rows, query=query)
+
+    ask(one(b"(1+%dn)" % greatest), b"(1+%dn);" % greatest)
+    ask(one(b"(0+%dn)" % (greatest - 93), b"(9+%dn)" % (greatest - 93)), b"(0+%dn); (9+%dn);" % ((greatest - 93,) * 2))
+    ask(one(b"(1+%dn)" % (greatest // 2)), b"(%d+%dn); (1+%dn);" % (1 + greatest // 2, greatest, greatest))
+    ask(one(b"(0+1n)"), b"".join(b"(%d+7n); " % it for it in (3, 0, 6, 1, 5, 2, 4)))
+    ask(one(*(b"(0+1n) where t >= %d, t <= %d" % (it, it) for it in (-far, far))), b"(%d); (%d);" % (far, -far))
+    ask(one(b"(0+1n) where t >= %d" % far), b"(0+1n) where t >= %d;" % far)
+    ask(one(b"(0+1n) where t <= %d" % -far), b"(0+1n) where t <= %d;" % -far)
+    whole = b"(0+%dn) where t >= %d, t <= %d;"
+    ask(one(b"(0+1n) where t >= %d, t <= %d" % (-far, far)), whole % (1, -far, far), "cap=1")
+    ask(BOUND, whole % (1, -far, far + 1), status=5)
+    more = lambda cap: b"refused: more than %d canonical rows\n" % cap
+    for rows in (1001, 2**32 - 1, 2**32, 2**32 + 1, 2**32 + 1001, 2**33 + 1, 2**58):
+        for cap in (1, 2, 1000):
+            ask(more(cap), whole % (2, 0, 2 * rows - 2), "cap=%d" % cap, status=5)
+    ask(more(1000000000), whole % (2, 1 - far, far - 1), "cap=1000000000", status=5)
+    ask(more(1000000), whole % (3, 0, 3000000), status=5)
+    many = one(*(b"(0+1n) where t >= %d, t <= %d" % (it, it) for it in range(0, 2000, 2)))
+    ask(many, whole % (2, 0, 1999), "cap=1000")
+    ask(more(999), whole % (2, 0, 1999), "cap=999", status=5)
+    canonical_heads(table)
+
+
+def canonical_heads(table):
+    times = lambda count: ["t%d: time" % it for it in range(count)]
+    texts = lambda count: ["d%d: data" % it for it in range(count)]
+    words = ["ask", "canon=yes"]
+    for head in ([], times(2), times(8), texts(1), texts(8), [*texts(3), *times(2)]):
+        query = ("{ %s | 0 = 0 }" % ", ".join(head)).encode()
+        table.program.expect(b"refused: canon needs one time column\n", 4, *words, database=BUS, query=query)
+    head = [*texts(4), "t0: time", *texts(8)[4:]]
+    query = ("{ %s | (%s) }" % (", ".join(head), " and ".join('d%d = "x"' % it for it in range(8)))).encode()
+    wanted = b"relation answer(%s) {\n  (%s, 0+1n, %s);\n}\n"
+    shown = wanted % (", ".join(head).encode(), b", ".join([b'"x"'] * 4), b", ".join([b'"x"'] * 4))
+    table.program.expect(shown, 0, *words, database=BUS, query=query)
+    for value in ("", "Yes", "true", "1", "y", "yes "):
+        table.program.expect(USAGE, 2, "ask", "db=none", "query=none", "canon=" + value)
+    table.usage("ask db=none query=none canon=no canon=no")
+    table.program.expect(b"refused: read of database\n", 6, "ask", "db=none", "query=none", "canon=no")
+    for line in ("decide db=a query=b", "list db=a query=b from=0 to=5", "explain db=a query=b", "check db=a"):
+        table.usage(line + " canon=no")
+    table.usage("sample seed=0 size=1 canon=no")
 
 
 def far_values(table):

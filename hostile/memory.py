@@ -31,6 +31,9 @@ def runs():
         yield [command], SORTS, left
     yield ["ask"], instants, b"{ t: time | r(t) }"
     yield ["ask"], *example("week", "connections")
+    yield ["ask", "canon=yes"], b"relation bus(t: time) { (5+120n); (65+120n); }", departures
+    yield ["ask", "canon=yes"], SORTS, b"{ l: line, t: time | (exists c: city trip(t, l, c) or t = 3) }"
+    yield ["ask", "canon=yes", "cap=1"], instants, outside
     yield ["list", "from=0", "to=130", "limit=2"], BUS, departures
     yield ["list", "from=0", "to=130", "after=T1/65/"], BUS, departures
     yield ["list", "from=0", "to=130", "after=T1/05/"], BUS, departures
@@ -39,7 +42,7 @@ def runs():
     yield ["explain"], SORTS, left
     yield ["explain"], *example("guard", "always")
     yield ["check"], example("week", "connections")[0], None
-    yield ["ask", "tense=yes"], BUS, b"{ t: time | until t (not bus(t), bus(t)) }"
+    yield ["ask", "tense=yes", "canon=yes"], BUS, b"{ t: time | until t (not bus(t), bus(t)) }"
     yield ["decide", "tense=yes"], BUS, b"{ t: time | since t (not bus(t), once t (-3, 4) bus(t)) }"
     yield ["explain", "tense=yes"], SORTS, b"{ t: time, l: line | always t (0, 9) exists c: city trip(t, l, c) }"
     yield ["check"], b"relation r(t: time) { (5+60n", None

@@ -45,11 +45,12 @@ def split(answer):
 class Case:
     """One random database and query, with what the program has to answer."""
 
-    def __init__(self, seed, budget, is_civil=False, is_tense=False):
-        self.chance = random.Random("%s%s%d" % ("civil " * is_civil, "tense " * is_tense, seed))
+    def __init__(self, seed, budget, is_civil=False, is_tense=False, times=None):
+        kinds = "civil " * is_civil + "tense " * is_tense + ("" if times is None else "times %d " % times)
+        self.chance = random.Random("%s%d" % (kinds, seed))
         self.is_civil, self.is_tense = is_civil, is_tense
         inventor = Inventor(self.chance, is_civil, is_tense)
-        self.database, self.query = inventor.database().encode(), inventor.query().encode()
+        self.database, self.query = inventor.database().encode(), inventor.query(times).encode()
         self.relations = read_database(civil.plain_text(self.database) if is_civil else self.database)
         self.parsed, self.plain = read_tense(self.query, self.relations, is_tense)
         self.budget = budget

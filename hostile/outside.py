@@ -10,6 +10,7 @@ BUS = b"relation bus(t: time) { (5+60n); }"
 DEPARTURES = b"{ t: time | bus(t) }"
 PAGE = ("list", "from=0", "to=6000", "limit=1000")
 WHOLE = "".join("%d\n" % it for it in range(5, 6001, 60)).encode() + b"end\n"
+ANSWER = b"relation answer(t: time) {\n  (5+60n);\n}\n"
 READ = {name: ("refused: read of %s\n" % name).encode() for name in ("database", "query")}
 LONG = {name: ("refused: %s longer than 16777216 bytes\n" % name).encode() for name in ("database", "query")}
 
@@ -158,6 +159,7 @@ def outputs(program, tally, few=False):
         "check": (["check", "db=bus"], None, 0),
         "explain": (["explain", "db=bus", "query=departures"], None, 0),
         "decide": (["decide", "db=bus", "query=departures"], b"Nonempty\n5\n", 0),
+        "canonical": (["ask", "db=bus", "query=departures", "canon=yes"], ANSWER, 0),
         "usage": ([], b"refused: usage\n", 2),
         "missing": (["check", "db=none"], READ["database"], 6),
         "fault": (["check", "db=departures"], refusal("database", "Syntax at 1:1"), 3),

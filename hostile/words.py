@@ -16,7 +16,7 @@ REQUIRED = {
     "sample": {"seed", "size"},
 }
 FURTHER = {
-    "ask": {"cap", "civil", "tense"},
+    "ask": {"cap", "civil", "tense", "canon"},
     "decide": {"cap", "civil", "tense"},
     "list": {"limit", "after", "form", "cap", "civil", "tense"},
     "explain": {"civil", "tense"},
@@ -31,7 +31,7 @@ RANGES = {
     "from": (-(2**62), 2**62),
     "to": (-(2**62), 2**62),
 }
-CHOICES = {"form": ("plain", "json"), "civil": ("yes", "no"), "tense": ("yes", "no")}
+CHOICES = {"form": ("plain", "json"), "civil": ("yes", "no"), "tense": ("yes", "no"), "canon": ("yes", "no")}
 VALUES = (
     "",
     "none",
@@ -133,6 +133,7 @@ def random_words(chance):
                             "from",
                             "civil",
                             "tense",
+                            "canon",
                             "x",
                             "Db",
                             "db ",

@@ -180,7 +180,8 @@ COLUMNS = {
 
 
 def evaluating(program, tally):
-    """Each query is decided, and of each database whether a relation, and what it leaves, is empty. Few of the steps have more than a cell."""
+    """Each query is decided, and of each database whether a relation, and what it leaves, is empty; where they are
+    sets of times, their canonical answers begin too. Few of the steps have more than a cell."""
     clock = Clock(program, tally)
     program.write("db", SMALL)
     for name, text in queries():
@@ -193,4 +194,6 @@ def evaluating(program, tally):
             for body in ("r(%s)" % terms, "not r(%s)" % terms):
                 program.write("query", ("{ %s | %s }" % (head, body)).encode())
                 clock.run("%s, %s" % (name, body), "decide", "db=db", "query=query")
+                if head == "t: time":
+                    clock.run("%s, %s" % (name, body), "ask", "db=db", "query=query", "canon=yes")
     clock.report()
