@@ -71,6 +71,10 @@ OTHERS = [
     Case("refused: bound above 4611686018427387904", BUS, "{ t: time | (bus(t) and t >= 4611686018427387904) }"),
     Case("refused: more than 1 cells at step 1", "relation r(t: time) { (0+4n); (1+4n); }", "{ t: time | r(t) }",
          more=("cap=1",)),
+    Case("refused: canon needs one time column", "relation r(t: time, u: time) { (0+7n, 0+7n); }",
+         "{ t: time, u: time | r(t, u) }", more=("canon=yes",), command="ask"),
+    Case("refused: more than 2 canonical rows", "relation r(t: time) { (0+2n) where t >= 0, t <= 4; }",
+         "{ t: time | r(t) }", more=("canon=yes", "cap=2"), command="ask"),
     Case("refused: token form", BUS, more=("from=0", "to=9", "after=5"), command="list"),
     Case("refused: token shape", BUS, more=("from=0", "to=9", "after=T1/5,6/"), command="list"),
     Case("refused: token stale", BUS, more=("from=0", "to=9", "after=" + TOKEN), command="list"),
@@ -101,6 +105,9 @@ USAGE = [
     (("list", "db=a", "query=b", "from=0", "to=9", "form=xml"), "form=xml", "'xml' is no value", "plain or json"),
     (("check", "db=a", "tense=yes"), "tense=yes", "'check' has no key 'tense'.", "db, civil"),
     (("ask", "db=a", "query=b", "tense=on"), "tense=on", "'on' is no value of 'tense'.", "no or yes"),
+    (("decide", "db=a", "query=b", "canon=yes"), "canon=yes", "'decide' has no key 'canon'.", "db, query, cap, tense, civil"),
+    (("ask", "db=a", "query=b", "canon=on"), "canon=on", "'on' is no value of 'canon'.", "no or yes"),
+    (("ask", "db=a", "query=b", "cannon=yes"), "cannon=yes", "'ask' has no key 'cannon'.", "'canon'"),
     (("check", "db=a", "civil=true"), "civil=true", "'true' is no value of 'civil'.", "no or yes"),
     (("ask", "db=a", "query=b", "cvil=yes"), "cvil=yes", "'ask' has no key 'cvil'.", "'civil'"),
     (("list", "civil=yes", "db=a", "query=b", "from=5"), "from=5", "'5' is no value of 'from'.", "civil=no beside a number"),
@@ -282,6 +289,15 @@ class Explained(unittest.TestCase):
         told = run(*words, folder=TOP / "examples/guide", explain="always")
         self.assertRegex(" ".join(told.err.split()), r"The step is '\d+ [^']*t~1")
 
+    def test_the_columns_of_a_head_without_a_canonical_form(self):
+        for head, wanted in (("d: data, t: time , u:time", ["Its columns of sort time are t, u."]), ("d: data", [])):
+            with self.subTest(head), tempfile.TemporaryDirectory() as name:
+                Path(name, "a.lrp").write_text("relation r() { (); }")
+                Path(name, "b.lrq").write_text("# { x: time |\n{ %s | (r() and not r()) }" % head)
+                told = run("ask", "db=a.lrp", "query=b.lrq", "canon=yes", folder=Path(name), explain="always")
+                self.assertEqual(told.out, "refused: canon needs one time column\n")
+                self.assertEqual(re.findall(r"Its columns [^.]*\.", " ".join(told.err.split())), wanted)
+
     def test_the_step_and_the_numbers_of_a_civil_database(self):
         folder = TOP / "examples/dates"
         words = ["decide", "db=rides.lrp", "query=connections.lrq", "civil=yes"]
@@ -322,7 +338,7 @@ class Usage(unittest.TestCase):
         for words in ("check db=a", "ask query=b db=a", "ask db=a query=b cap=1000000000", "list db=a query=b to=0 from=-5",
                       "list db=a query=b from=0 to=0 limit=1000000 after= form=json cap=1", "decide db=a=b query=b",
                       "list db=a query=b from=-4611686018427387904 to=4611686018427387904",
-                      "ask db=a query=b tense=yes civil=no", "explain db=a query=b tense=no",
+                      "ask db=a query=b tense=yes civil=no", "ask canon=yes db=a query=b cap=1", "ask db=a query=b canon=no", "explain db=a query=b tense=no",
                       "list db=a query=b from=0001-01-01T00:00 to=9999-12-31T23:59 civil=yes", "check civil=no db=a",
                       "list db=a query=b civil=yes from=2024-02-29T23:59 to=1969-12-31T00:00", "explain db=a query=b civil=yes",
                       "sample seed=0 size=1", "sample size=500 seed=1000000"):

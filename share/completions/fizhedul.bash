@@ -4,13 +4,13 @@
 _fizhedul_keys() {
     local keys=
     case $1 in
-        ask) keys='db query cap tense civil' ;;
+        ask) keys='db query cap tense canon civil' ;;
         decide) keys='db query cap tense civil' ;;
         list) keys='db query from to limit after form cap tense civil' ;;
         explain) keys='db query tense civil' ;;
         check) keys='db civil' ;;
         sample) keys='seed size' ;;
-        shell) keys='db from to limit cap tense civil' ;;
+        shell) keys='db from to limit cap tense canon civil' ;;
         draw) keys='db query from to format grid marks hour out cap tense civil' ;;
     esac
     echo "$keys"
@@ -35,6 +35,7 @@ _fizhedul_values() {
         db) endings='lrp' ;;
         query) endings='lrq' ;;
         tense) values='no yes' ;;
+        canon) values='no yes' ;;
         civil) values='no yes' ;;
         form) values='plain json' ;;
         format) values='html svg png' ;;

@@ -16,6 +16,9 @@ from usage import find_fault
 
 RELATION = re.compile(r"\brelation\s+([A-Za-z_]\w*)\s*\(([^)]*)\)", re.ASCII)
 
+HEAD = re.compile(r"\{([^|]*)\|")
+TIME = re.compile(r"\b([A-Za-z_]\w*)\s*:\s*time\b", re.ASCII)
+
 PERIOD = re.compile(r"\+\s*(\d+)\s*n\b", re.ASCII)
 NUMBER = re.compile(r"(?<![A-Za-z_0-9])(\d+)", re.ASCII)
 
@@ -78,6 +81,7 @@ def detail_of(program: str, files: dict[str, str], line: str, numbers: dict[str,
         ("refused: query Arity", lambda: relations_of(files.get("db", ""))),
         ("refused: query Sort", lambda: relations_of(files.get("db", ""))),
         ("refused: query UnknownSort", lambda: sorts_of(files.get("db", ""))),
+        ("refused: canon needs", lambda: times_of(files.get("query", ""))),
         ("refused: period", lambda: numbers_of(files, "periods", PERIOD)),
         ("refused: bound", lambda: numbers_of(files, "numbers", NUMBER)),
         ("refused: more than", lambda: step_of(program, files, numbers.get("step", ""))),
@@ -143,6 +147,15 @@ def sorts_of(file: str) -> str:
     return "Its sorts are " + ", ".join(dict.fromkeys(sorts)) + "." if sorts else ""
 
 
+def times_of(file: str) -> str:
+    """The columns of sort time that the head of a query has."""
+    head = HEAD.search(text_of(file))
+    names = TIME.findall(head.group(1)) if head else []
+    if not names:
+        return ""
+    return "Its columns of sort time are " + ", ".join(names) + "."
+
+
 def numbers_of(files: dict[str, str], what: str, pattern: re.Pattern[str]) -> str:
     """The greatest of some numbers in both files."""
     database = text_of(files.get("db", ""))
@@ -163,7 +176,7 @@ def text_of(file: str) -> str:
 
 def step_of(program: str, files: dict[str, str], step: str) -> str:
     """The line of the plan for a step, which the program's own `explain` gives without computing anything."""
-    if not all(os.path.isfile(files.get(key, "")) for key in ("db", "query")):
+    if not step or not all(os.path.isfile(files.get(key, "")) for key in ("db", "query")):
         return ""
     words = [program, "explain", *(f"{key}={files[key]}" for key in ("db", "query", "tense", "civil") if key in files)]
     try:
