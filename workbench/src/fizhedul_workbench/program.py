@@ -41,8 +41,8 @@ class Page:
 
 @dataclass(frozen=True)
 class Question:
-    """A query over a database, by their files, in a window of time; with or without civil times, which have dates, and
-    temporal operators."""
+    """A query over a database, by their files, in a window of time; with or without civil times, which have dates,
+    temporal operators, and whole answers in their one form."""
 
     database: str
     query: str
@@ -51,11 +51,13 @@ class Question:
     cap: int | None = None
     is_civil: bool = False
     is_tense: bool = False
+    is_canon: bool = False
 
     def words(self, command: str) -> list[str]:
         """The words of a command without a window."""
         cap = [f"cap={self.cap}"] if self.cap and command != "explain" else []
-        keys = ["tense=yes"] * self.is_tense + ["civil=yes"] * self.is_civil
+        canon = ["canon=yes"] if self.is_canon and command == "ask" else []
+        keys = ["tense=yes"] * self.is_tense + canon + ["civil=yes"] * self.is_civil
         return [command, f"db={self.database}", f"query={self.query}", *cap, *keys]
 
     def listing(self, limit: int, after: str | None) -> list[str]:

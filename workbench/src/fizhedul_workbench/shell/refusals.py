@@ -4,6 +4,7 @@ import re
 
 PLACED = re.compile(r"refused: (database|query) (\w+) at (\d+):(\d+)")
 CELLS = re.compile(r"refused: more than (\d+) cells at step (\d+)")
+ROWS = re.compile(r"refused: more than (\d+) canonical rows")
 
 DATABASE = {
     "Name": "this name stands already",
@@ -31,6 +32,7 @@ BOTH = {
     "TextTooLong": "a text has at most 255 bytes",
 }
 OTHERS = {
+    "refused: canon needs one time column": "the head has none or more than one; .canon off writes any answer",
     "refused: token stale": "the database or the query changed since the page before; ask the query again",
     "refused: read of database": "the file of the database could not be read",
     "refused: read of query": "the query could not be read",
@@ -48,6 +50,9 @@ def sentence_of(line: str) -> str:
     cells = CELLS.match(line)
     if cells is not None:
         return f"step {cells.group(2)} of the plan needs more than {cells.group(1)} cells; .cap N allows more"
+    rows = ROWS.match(line)
+    if rows is not None:
+        return f"the answer in its one form has more than {rows.group(1)} rows; .cap N allows more"
     if line.startswith("refused: period above"):
         return "the common period of all rows and points in the query is too large"
     if line.startswith("refused: bound above"):

@@ -26,6 +26,7 @@ class Session:
     cap: int = 1_000_000
     is_civil: bool = False
     is_tense: bool = False
+    is_canon: bool = False
     is_colourful: bool = False
     query: str = ""
     more: str | None = None
@@ -35,7 +36,8 @@ class Session:
 
     def question(self) -> Question:
         query = str(self.folder / "query.lrq")
-        return Question(self.database, query, self.first, self.last, self.cap, self.is_civil, self.is_tense)
+        keys = self.is_civil, self.is_tense, self.is_canon
+        return Question(self.database, query, self.first, self.last, self.cap, *keys)
 
     def check_words(self) -> list[str]:
         return ["check", f"db={self.database}", *(["civil=yes"] if self.is_civil else [])]
@@ -190,6 +192,15 @@ def set_tense(session: Session, rest: str) -> None:
     else:
         now = "on" if session.is_tense else "off"
         say(f"temporal operators are {now}; .tense on and .tense off change that")
+
+
+def set_canon(session: Session, rest: str) -> None:
+    """Whether whole answers are written in their one form."""
+    if rest in ("on", "off"):
+        session.is_canon = rest == "on"
+    else:
+        now = "on" if session.is_canon else "off"
+        say(f"canonical answers are {now}; .canon on and .canon off change that")
 
 
 def set_cap(session: Session, rest: str) -> None:

@@ -15,6 +15,7 @@ HELP = """A line is a query, as { t: time | bus(t) }; it goes on while a bracket
 .next           the next page
 .window A B     the times that are shown, from A to B
 .tense on|off   whether queries may have temporal operators
+.canon on|off   whether whole answers are written in their one form
 .civil on|off   whether times are minutes since 1970 and shown as dates
 .decide         the least answer of all, or Empty
 .ask            the whole answer, as a relation
@@ -36,6 +37,7 @@ COMMANDS: dict[str, Act] = {
     ".explain": lambda session, _: acts.write_output(session, "explain"),
     ".civil": acts.set_civil,
     ".tense": acts.set_tense,
+    ".canon": acts.set_canon,
     ".cap": acts.set_cap,
     ".tables": acts.show_tables,
     ".open": acts.open_database,
@@ -94,10 +96,11 @@ def loop(session: Session, entries: Iterator[str]) -> None:
 
 def shell_tool(words: Sequence[str]) -> None:
     """A session over one database; piped input is read without prompts and colours."""
-    found = keyed(words, ["db", "from", "to", "limit", "cap", "civil", "tense"], ["db"])
+    found = keyed(words, ["db", "from", "to", "limit", "cap", "civil", "tense", "canon"], ["db"])
     with tempfile.TemporaryDirectory(prefix="fizhedul-") as folder:
         session = Session(found["db"], Path(folder))
         session.is_civil, session.is_tense = is_chosen(found, "civil"), is_chosen(found, "tense")
+        session.is_canon = is_chosen(found, "canon")
         session.first, session.last = read_window(found, session.first, session.last, session.is_civil)
         session.limit = whole(found, "limit", session.limit, 1, 1_000_000)
         session.cap = whole(found, "cap", session.cap, 1, 1_000_000_000)
