@@ -574,6 +574,121 @@ def many_cells(size):
     return Case(["decide"], "", text, units=size - 1, output="Nonempty\n1\n")
 
 
+# Canonical answers
+
+
+def canonical_case(database, text, cells, rows):
+    """A query of one time column with so many cells, and its canonical rows where they are told."""
+    output = "relation answer(t: time) {\n%s}\n" % "".join("  %s;\n" % row for row in rows) if rows else None
+    return Case(["ask", "canon=yes"], database, text, units=cells, output=output)
+
+
+CELLS = (1000, 4000, 15625, 62500, 250000, 1000000)
+
+
+@family("canonical cells", "two", CELLS, "what is no multiple of N: N - 1 rows of period N stay", needs_ask=True)
+def canonical_cells(size):
+    text = query(times("t"), "not t in 0+%dn" % size)
+    rows = ["(%d+%dn)" % (at, size) for at in range(1, size)] if size <= 4000 else []
+    return canonical_case("", text, size - 1, rows)
+
+
+@family(
+    "canonical halves", "two", CELLS, "even times, told by N / 2 cells of period N: one row is left", needs_ask=True
+)
+def canonical_halves(size):
+    size += size % 2  # even
+    text = query(times("t"), "((t in 0+2n and not t in 0+%dn) or t in 0+%dn)" % (size, size))
+    return canonical_case("", text, size // 2, ["(0+2n)"])
+
+
+@family("canonical melting", "two", CELLS, "all times, told by N cells of period N: one row is left", needs_ask=True)
+def canonical_melting(size):
+    text = query(times("t"), "(t in 0+%dn or not t in 0+%dn)" % (size, size))
+    return canonical_case("", text, size, ["(0+1n)"])
+
+
+@family(
+    "canonical divisors",
+    "two",
+    (5040, 55440, 720720),
+    "a set of a period N of many divisors that none of them will do for: two neighbours of zero are changed",
+    needs_ask=True,
+)
+def canonical_divisors(size):
+    text = query(times("t"), "((t in 0+2n and not t in 0+%dn) or t in 1+%dn)" % (size, size))
+    rows = ["(1+%dn)" % size] + ["(%d+%dn)" % (at, size) for at in range(2, size, 2)]
+    return canonical_case("", text, size // 2, rows if size <= 5040 else [])
+
+
+@family(
+    "canonical long period",
+    "two",
+    (10**6, 10**9, 10**12, 10**15, 10**15 + 37, 2**60 - 93),
+    "ten cells of period N at uneven distances, whatever N is; the last two have no divisors",
+    needs_ask=True,
+)
+def canonical_long_period(size):
+    offsets = [at * at for at in range(10)]
+    database = relation("r", times("t"), ["(%d+%dn)" % (at, size) for at in offsets])
+    return canonical_case(database, query(times("t"), "r(t)"), 10, ["(%d+%dn)" % (at, size) for at in offsets])
+
+
+@family(
+    "canonical tenths",
+    "two",
+    (10**6, 10**9, 10**12, 10**15),
+    "ten cells of period N at even distances: one row is left",
+    needs_ask=True,
+)
+def canonical_tenths(size):
+    step = size // 10
+    database = relation("r", times("t"), ["(%d+%dn)" % (7 + step * at, size) for at in range(10)])
+    return canonical_case(database, query(times("t"), "r(t)"), 10, ["(7+%dn)" % step])
+
+
+@family(
+    "canonical texts",
+    "two",
+    (100, 1000, 10000),
+    "N texts with times of the periods 2, 3, 4, 6 and 12: rows of period 12",
+    needs_ask=True,
+)
+def canonical_texts(size):
+    periods = (2, 3, 4, 6, 12)
+    rows = [(i % periods[i % 5], periods[i % 5], "x%05d" % i) for i in range(size)]
+    database = relation("r", times("t") + ["d: data"], ['(%d+%dn, "%s")' % row for row in rows])
+    wanted = ['  (%d+12n, "%s");\n' % (at, text) for first, step, text in rows for at in range(first, 12, step)]
+    units = sum(12 // step for _, step, _ in rows)
+    output = "relation answer(t: time, d: data) {\n%s}\n" % "".join(wanted) if size <= 1000 else None
+    return Case(["ask", "canon=yes"], database, query(times("t") + ["d: data"], "r(t, d)"), units=units, output=output)
+
+
+@family("canonical instants", "two", INSTANTS, "N instants of one column, two apart: N rows", needs_ask=True)
+def canonical_instants(size):
+    rows = ["  (0+1n) where t >= %d, t <= %d;\n" % (at, at) for at in instants(size)] if size <= 14000 else []
+    output = "relation answer(t: time) {\n%s}\n" % "".join(rows) if rows else None
+    return instants_case(size, ["ask", "canon=yes"], output)
+
+
+@family(
+    "canonical stretch",
+    "two",
+    (1000, 31623, 1000000, 10**9, 10**17),
+    "one row of period 2 that begins and ends: N canonical rows, refused from N = 10^9 on",
+    needs_ask=True,
+)
+def canonical_stretch(size):
+    database = relation("r", times("t"), ["(0+2n) where t >= 0, t <= %d" % (2 * size - 2)])
+    text, words = query(times("t"), "r(t)"), ["ask", "canon=yes"]
+    if size > 1000000:
+        output = "refused: more than 1000000 canonical rows\n"
+        return Case(words, database, text, units=size, unit="rows", output=output, status=5)
+    rows = "".join("  (0+1n) where t >= %d, t <= %d;\n" % (at, at) for at in range(0, 2 * size, 2))
+    output = "relation answer(t: time) {\n%s}\n" % rows if size <= 31623 else None
+    return Case(words, database, text, units=size, unit="rows", output=output)
+
+
 def page_case(after):
     database = relation("bus", times("t"), ["(5+60n)"])
     text = query(times("t"), "bus(t)")
