@@ -117,31 +117,57 @@ def test_the_whole_feed_says_what_to_choose(feed: Path, tmp_path: Path) -> None:
 
 
 ALL_SERVICES = {"school", "free", "saturday", "sunday", "night"}
-ALL_DAYS = (city.FIRST - timedelta(days=2), (city.LAST - city.FIRST).days + 5)
 
 
-@pytest.mark.parametrize(
-    "relation, query, windows",
-    [
-        ("stop", "{ trip: trip, stop: stop, arr: time, dep: time | stop(trip, stop, arr, dep) }", [ALL_DAYS]),
-        (
-            "ride",
-            "{ f: stop, t: stop, d: time, a: time, l: line | ride(f, t, d, a, l) }",
-            [(date(2026, 8, 8), 6), (date(2026, 12, 23), 10), (date(2027, 8, 5), 6)],
-        ),
-    ],
-)
-def test_the_whole_feed_is_what_the_days_say(
-    feed: Path, tmp_path: Path, relation: str, query: str, windows: list[tuple[date, int]]
-) -> None:
-    made = tmp_path / "whole.lrp"
+def whole_feed(feed: Path, folder: Path, relation: str) -> Path:
+    """A relation of all lines and services."""
+    made = folder / f"{relation}.lrp"
     done = tool("import", "gtfs", str(feed), f"out={made}", f"relation={relation},runs")
     assert done.returncode == 0, done.stderr
     assert program("check", f"db={made}").count("\n") > 100_000
-    for first, count in windows:
-        stops, rides, begin, end = expected(feed, ALL_LINES, ALL_SERVICES, first, count)
-        wanted = stops if relation == "stop" else rides
-        assert listed(made, query, begin, end) == wanted and len(wanted) > 2_000 * (count - 4)
+    return made
+
+
+@pytest.fixture(scope="module")
+def stops_of_all(feed: Path, tmp_path_factory: pytest.TempPathFactory) -> Path:
+    return whole_feed(feed, tmp_path_factory.mktemp("whole"), "stop")
+
+
+def test_every_stop_of_the_year_is_what_the_days_say(feed: Path, stops_of_all: Path) -> None:
+    first, count = city.FIRST - timedelta(days=2), (city.LAST - city.FIRST).days + 5
+    stops, _, begin, end = expected(feed, ALL_LINES, ALL_SERVICES, first, count)
+    query = "{ trip: trip, stop: stop, arr: time, dep: time | stop(trip, stop, arr, dep) }"
+    assert listed(stops_of_all, query, begin, end) == stops and len(stops) > 1_000_000
+
+
+def test_the_rides_of_all_lines_are_what_the_days_say(feed: Path, tmp_path: Path) -> None:
+    made = whole_feed(feed, tmp_path, "ride")
+    query = "{ f: stop, t: stop, d: time, a: time, l: line | ride(f, t, d, a, l) }"
+    for first, count in ((date(2026, 8, 8), 6), (date(2026, 12, 23), 10), (date(2027, 8, 5), 6)):
+        _, rides, begin, end = expected(feed, ALL_LINES, ALL_SERVICES, first, count)
+        assert listed(made, query, begin, end) == rides and len(rides) > 5_000
+
+
+GAPS = """{ t: time | (t >= BEGIN and t <= END
+  and exists day: time (day in 0+1440n and t >= day + 360 and t <= day + 1320)
+  and not exists trip: trip exists a: time exists d: time exists b: time exists e: time
+    (stop(trip, "S0", a, d) and stop(trip, "S3", b, e) and d >= t and b <= t + 40 and b >= d)) }"""
+
+
+def test_a_connection_is_missed_where_the_days_miss_it(feed: Path, stops_of_all: Path) -> None:
+    first, count = date(2026, 9, 26), 10
+    begin = minute(first, "00:00:00")
+    end = begin + 1440 * count - 1
+    missed = {t for t in range(begin, end + 1) if 360 <= t % 1440 <= 1320}
+    for number in range(-2, count + 1):
+        day = first + timedelta(days=number)
+        for _, service, order in halts(feed, ALL_LINES, ALL_SERVICES & runs_on(feed, day)):
+            leaves = [minute(day, halt["departure_time"]) for halt in order if halt["stop_id"] == "S0"]
+            comes = [minute(day, halt["arrival_time"]) for halt in order if halt["stop_id"] == "S3"]
+            missed -= {t for d in leaves for b in comes if d <= b for t in range(b - 40, d + 1)}
+    query = GAPS.replace("BEGIN", str(begin)).replace("END", str(end))
+    assert listed(stops_of_all, query, begin, end) == [str(t) for t in sorted(missed)]
+    assert 0 < len(missed) < 960 * count
 
 
 def test_an_archive_is_read_as_its_folder(feed: Path, tmp_path: Path) -> None:
