@@ -14,8 +14,12 @@ from pathlib import Path
 
 import pytest
 from fizhedul_workbench.queries import head_of, open_brackets, variables
+from fizhedul_workbench.shell.prompt import Words
 from fizhedul_workbench.shell.refusals import told
+from fizhedul_workbench.shell.session import Session
 from fizhedul_workbench.shell.table import table
+from prompt_toolkit.completion import CompleteEvent
+from prompt_toolkit.document import Document
 from tools import RUN, environment, program, tool
 
 BUS = 'relation bus(dep: time, line: line) {\n  (5+60n, "7");\n  (20+30n, "Ä");\n}\n'
@@ -112,6 +116,24 @@ def test_heads_brackets_and_variables_are_read() -> None:
     assert head_of(query) == [("t", "time"), ("l", "line")] and head_of("{ | r() }") == []
     assert variables(query) == ["t", "l", "u"]
     assert open_brackets(query) == 0 and open_brackets("{ t: time | (") == 2 and open_brackets("}{") == -1
+
+
+def completed(session: Session, text: str) -> list[str]:
+    words = Words(session, [".next", ".ask", ".tables"])
+    return [found.text for found in words.get_completions(Document(text), CompleteEvent())]
+
+
+def test_relations_variables_sorts_and_keywords_are_completed(tmp_path: Path) -> None:
+    session = Session("bus.lrp", tmp_path, names=["bus", "exit"], sorts=["line"])
+    assert completed(session, ".") == [".next", ".ask", ".tables"] and completed(session, ".ta") == [".tables"]
+    assert completed(session, ".save b") == []
+    assert completed(session, "{ t: time | b") == ["bus"]
+    assert completed(session, "{ leave: time | exists later: time bus(l") == ["leave", "later", "line"]
+    assert completed(session, "{ t: ti") == ["time"] and completed(session, "{ t: da") == ["data"]
+    assert completed(session, "{ | ex") == ["exit", "exists"] and completed(session, "{ | ") == []
+    assert completed(session, "{ | sin") == []
+    session.is_tense = True
+    assert completed(session, "{ | sin") == ["since"]
 
 
 class Terminal:
