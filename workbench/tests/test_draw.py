@@ -3,6 +3,7 @@
 import re
 import subprocess
 import xml.etree.ElementTree as ElementTree
+import zlib
 from collections.abc import Iterator
 from pathlib import Path
 
@@ -10,6 +11,7 @@ import pytest
 from devtools import Tab, tab
 from fizhedul_workbench.draw.browser import browser
 from fizhedul_workbench.draw.grid import grid_of, label, lines, step_for, steps
+from fizhedul_workbench.draw.png import CHANNELS, bytes_of_row, chunks
 from tools import program, tool
 
 TOP = Path(__file__).resolve().parents[2]
@@ -233,13 +235,43 @@ def test_light_and_dark_have_contrast(page: Tab) -> None:
     assert grounds[0] == [255, 255, 255] and sum(grounds[1]) < 100
 
 
+def pixels(image: bytes) -> list[bytes]:
+    """The rows of an image in PNG, each undone by the one above it."""
+    parts = list(chunks(image))
+    header = dict(parts)[b"IHDR"]
+    told = zlib.decompress(b"".join(content for name, content in parts if name == b"IDAT"))
+    size, step = bytes_of_row(header), CHANNELS[header[9]]
+    rows: list[bytes] = []
+    above = bytes(size - 1)
+    for start in range(0, len(told), size):
+        row = bytearray(told[start + 1 : start + size])
+        for at in range(size - 1):
+            left, over = (row[at - step], above[at - step]) if at >= step else (0, 0)
+            guess = nearest(left, above[at], over)
+            row[at] = (row[at] + (0, left, above[at], (left + above[at]) // 2, guess)[told[start]]) % 256
+        above = bytes(row)
+        rows.append(above)
+    return rows
+
+
+def nearest(left: int, up: int, over: int) -> int:
+    """Of three neighbours the one that their plane comes nearest to."""
+    return min((left, up, over), key=lambda each: abs(left + up - over - each))
+
+
 @needs_browser
-def test_an_image_is_a_png(tmp_path: Path) -> None:
+def test_an_image_has_all_of_the_picture(tmp_path: Path) -> None:
+    words = question(tmp_path, TRIPS, 0, 1440)
     out = tmp_path / "week.png"
-    done = tool("draw", *question(tmp_path, TRIPS, 0, 1440), "format=png", f"out={out}")
+    done = tool("draw", *words, "format=png", f"out={out}")
     assert done.returncode == 0, done.stderr
-    content = out.read_bytes()
-    assert content[:8] == b"\x89PNG\r\n\x1a\n" and int.from_bytes(content[16:20], "big") == 1200
+    svg = tool("draw", *words, "format=svg").stdout
+    (height,) = re.findall(r'viewBox="0 0 1200 (\d+)"', svg)
+    rows = pixels(out.read_bytes())
+    assert len(rows) == int(height) and {len(row) for row in rows} == {3 * 1200}
+    middles = {int(y) + 4 for y in re.findall(r'<rect class="mark"[^>]* y="(\d+)"', svg)}
+    assert len(middles) > 2 and all(len(set(rows[y][x : x + 3] for x in range(0, 3600, 3))) > 2 for y in middles)
+    assert all(len(set(rows[y][x : x + 3] for x in range(0, 3600, 3))) == 1 for y in (0, len(rows) - 1))
 
 
 def test_a_missing_browser_is_named(tmp_path: Path, monkeypatch: pytest.MonkeyPatch) -> None:

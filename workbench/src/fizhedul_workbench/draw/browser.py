@@ -7,9 +7,12 @@ import tempfile
 from pathlib import Path
 
 from ..words import MISSING, Refused
+from .png import cut
 
 BROWSERS = ["chromium", "chromium-browser", "google-chrome", "google-chrome-stable"]
 SECONDS = 60
+# What a window has beside its page, and more: an image is of the window, and below the page it is blank.
+FRAME = 300
 
 
 def browser() -> str | None:
@@ -36,11 +39,11 @@ def image_of(svg: str, width: int, height: int) -> bytes:
         body = f'<!DOCTYPE html><meta charset="utf-8"><body style="margin:0">{svg}</body>'
         page.write_text(body, encoding="utf-8")
         words = browser_words(folder)
-        words += [f"--window-size={width},{height}", f"--screenshot={image}", page.as_uri()]
+        words += [f"--window-size={width},{height + FRAME}", f"--screenshot={image}", page.as_uri()]
         try:
             done = subprocess.run(words, capture_output=True, timeout=SECONDS, stdin=subprocess.DEVNULL)
         except subprocess.TimeoutExpired as fault:
             raise Refused(f"the browser gave no image within {SECONDS} seconds", MISSING) from fault
         if done.returncode or not image.exists():
             raise Refused("the browser gave no image", MISSING)
-        return image.read_bytes()
+        return cut(image.read_bytes(), height)
