@@ -9,7 +9,7 @@ from pathlib import Path
 TOP = Path(__file__).resolve().parents[2]
 RUN = TOP / "workbench" / "run"
 PROGRAM = os.environ.get("FIZHEDUL_PROGRAM") or str(TOP / "crates" / "lrp_main" / "out" / "lrp_main")
-TIME = 110
+TIME = 400
 
 
 def environment(**more: str) -> dict[str, str]:
