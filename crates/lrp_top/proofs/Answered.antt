@@ -9,18 +9,20 @@ use Rattle.lrp_model.specs.Texts.{Text}
 use Rattle.lrp_model.specs.Formulas.{Question}
 use Rattle.lrp_model.specs.Pages.{IsAhead, IsPage, Tuple}
 use Rattle.lrp_model.specs.PrintedPages.{plain_line}
+use Rattle.lrp_model.specs.Periods.{period}
 use Rattle.lrp_model.specs.Plans.{plan, query_reach, scaled_reach, time_columns}
 use Rattle.lrp_model.specs.Steps.{PlanStep, step_at}
 use Rattle.lrp_model.specs.declared.tuples.Cell.{Cell}
 use Rattle.lrp_model.specs.declared.relations.Relation.{Relation}
 use Rattle.lrp_model.specs.declared.tuples.Spot.{Spot}
 use Rattle.lrp_plan_laws.specs.Rising.{IsRising, period_at}
-use Rattle.lrp_zone.specs.Zones.{columns_of}
+use Rattle.lrp_zone.specs.Zones.{columns_of, reach_of}
 use Rattle.lrp_store.specs.Least.{HasRoom, IsLeastSpot, StandsFor}
 use Rattle.lrp_store.specs.Stores.{IsStore, StoreView, tables_at, zone_of}
 use Rattle.lrp_store.specs.Tables.{AreTexts, InAnswer}
 use Rattle.lrp_store.specs.declared.answer.Answer.{Answer}
 use Rattle.lrp_list.proofs.HeadOrder.{spot_tuple_is}
+use Rattle.lrp_canon.specs.Canonical.{CanMakeCanonical}
 use Rattle.lrp_eval.specs.Answered.{IsAnswerOf}
 use Rattle.lrp_top.specs.Known.{HasKnownTexts}
 use Rattle.lrp_top.specs.Outputs.{spot_text}
@@ -93,6 +95,34 @@ module _ (db : List Relation) (q : Question) (cap : ℕ) (a : Answer) (is : IsAn
           },
         );
   }
+
+-- ---- room for the canonical answer
+
+-- one time column of the head is one of the store
+pub one_column : (db : List Relation) (q : Question) (cap : ℕ) (a : Answer) → IsAnswerOf db q cap a → time_columns q.head ≡ 1 → a.store.shape.times ≡ 1
+one_column db q cap a is one = sym a.times_are ∙ ap time_columns is.head ∙ one
+
+module _ (db : List Relation) (q : Question) (cap : ℕ) (a : Answer) (is : IsAnswerOf db q cap a) (reach : scaled_reach db q ≤ 2 ^ 62) (wide : period_at (plan db q) (length (plan db q)) ≤ query_reach db q) (one : time_columns q.head ≡ 1) where
+  same_period : a.store.period ≡ period_at (plan db q) (length (plan db q))
+  same_period = let k : pos a.store.period ≡ pos (period_at (plan db q) (length (plan db q))) = sym a.period_is ∙ is.period in cc
+
+  pub can_be_canonical : CanMakeCanonical a.store
+  can_be_canonical = record {
+    column = one_column db q cap a is one;
+    reach = record {
+      each = λ cell table held.
+          let z = zone_of a.store cell table in
+          let small : reach_of z ≤ 1 * query_reach db q = subst (λ n. reach_of z ≤ n * query_reach db q) one (is.small cell z (zone_in a.store cell (tables_at a.store cell) table held)).stored in
+          let four : 2 ^ (1 + 1) * query_reach db q ≤ 2 ^ 62 = subst (λ n. 2 ^ (n + 1) * query_reach db q ≤ 2 ^ 62) one reach in
+          let low : a.store.period ≤ query_reach db q = subst (λ n. n ≤ query_reach db q) (sym same_period) wide in
+          omega arith;
+    };
+  }
+
+-- ---- the period
+
+pub period_of : (db : List Relation) (q : Question) (cap : ℕ) (a : Answer) → IsAnswerOf db q cap a → period_at (plan db q) (length (plan db q)) ≡ period db q.body → a.store.period ≡ period db q.body
+period_of db q cap a is last = let same : pos a.store.period ≡ pos (period db q.body) = sym a.period_is ∙ is.period ∙ ap pos last in cc
 
 -- ---- the least answer
 

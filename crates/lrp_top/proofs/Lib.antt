@@ -1,5 +1,7 @@
 -- Lemmas on texts, on files, on steps, on questions, on what can be planned and on sorted numbers.
 pub mod Answered
+pub mod CanonSets
+pub mod CanonTuples
 pub mod CivilSpots
 pub mod FileLemmas
 pub mod HeadCounts

@@ -8,12 +8,12 @@ use Rattle.lrp_io.specs.Bytes.{appended, AppendsFront}
 use Rattle.lrp_io.specs.Causes.{Rose}
 use Rattle.lrp_model.specs.declared.tokens.Place.{Place}
 use Rattle.lrp_print.proofs.Lines.{item_front}
-use Rattle.lrp_top.specs.Outcomes.{Outcome, cells_line, fault_line, refused_with, status_of, written_of, Ends}
+use Rattle.lrp_top.specs.Outcomes.{Outcome, cells_line, fault_line, rows_line, refused_with, status_of, written_of, Ends}
 use Rattle.lrp_top.specs.Seen.{SinkSeen}
 use Rattle.lrp_top.specs.declared.status.Status.{Status}
 use Rattle.lrp_top.specs.declared.status.Status.TheVariants as status
 use Rattle.lrp_top.specs.declared.outcome.Refusal.{Refusal}
-use Rattle.lrp_top.specs.declared.outcome.Refusal.TheVariants.{Usage, ReadDatabase, LongDatabase, Database, ReadQuery, LongQuery, Query, PeriodLimit, BoundLimit, TokenForm, TokenShape, TokenStale, Cells, Memory}
+use Rattle.lrp_top.specs.declared.outcome.Refusal.TheVariants.{Usage, ReadDatabase, LongDatabase, Database, ReadQuery, LongQuery, Query, PeriodLimit, BoundLimit, TokenForm, TokenShape, TokenStale, Cells, CanonHead, CanonRows, Memory}
 
 -- the seven pieces of the line of a fault
 pub fault_pieces : (whose kind : List ℕ) (place : Place) (a b c d e g h : List ℕ) → a ≡ whose → b ≡ kind → c ≡ codes " at " → d ≡ decimal place.line → e ≡ codes ":" → g ≡ decimal place.column → h ≡ codes "\n"
@@ -23,6 +23,10 @@ fault_pieces whose kind place a b c d e g h p q r s t u v = rw (p, q, r, s, t, u
 -- the five pieces of the line of a step with too many cells
 pub cells_pieces : (cap step : ℕ) (a b c d e : List ℕ) → a ≡ codes "refused: more than " → b ≡ decimal cap → c ≡ codes " cells at step " → d ≡ decimal step → e ≡ codes "\n" → a ++ (b ++ (c ++ (d ++ (e ++ [])))) ≡ cells_line cap step
 cells_pieces cap step a b c d e p q r s t = rw (p, q, r, s, t) refl
+
+-- the three pieces of the line of a canonical answer with too many rows
+pub rows_pieces : (cap : ℕ) (a b c : List ℕ) → a ≡ codes "refused: more than " → b ≡ decimal cap → c ≡ codes " canonical rows\n" → a ++ (b ++ (c ++ [])) ≡ rows_line cap
+rows_pieces cap a b c p q r = rw (p, q, r) refl
 
 -- an element is there, whatever stands for one that is not
 pub there : {A : Type 0} (xs : List A) (i : ℕ) (d : A) → i < length xs → get_or xs i d ≡ get_or xs i (get_or xs i d)
@@ -49,6 +53,8 @@ refused_whole TokenForm e = cc
 refused_whole TokenShape e = cc
 refused_whole TokenStale e = cc
 refused_whole (Cells cap step) e = cc
+refused_whole CanonHead e = cc
+refused_whole (CanonRows cap) e = cc
 refused_whole Memory e = cc
 
 -- nor has any outcome

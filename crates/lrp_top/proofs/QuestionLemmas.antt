@@ -1,19 +1,20 @@
 -- Questions: what is refused first, and what is due behind that.
-use Rattle.std.proofs.Common.{◌≡◌, ℕ, ◌≤◌, Bool, List, Option, Result, Ok, Err, arith, refl, sym, ◌∙◌, subst}
+use Rattle.std.proofs.Common.{◌≡◌, ℕ, ◌≤◌, Bool, true, false, List, Option, Result, Ok, Err, arith, refl, sym, ◌∙◌, subst}
 use Rattle.lrp_io.specs.Causes.{Rose}
 use Rattle.lrp_io.specs.declared.shelf.File.{File}
 use Rattle.lrp_model.specs.Formulas.{Question as Queried}
+use Rattle.lrp_model.specs.Plans.{time_columns}
 use Rattle.lrp_model.specs.Texts.{Identifier}
 use Rattle.lrp_model.specs.declared.plans.Plan.{Plan}
 use Rattle.lrp_model.specs.declared.relations.Relation.{Relation}
-use Rattle.lrp_top.specs.Due.{IsDatabaseRead, IsQueryReadOf, IsQueryRead, IsPlanned, IsPlannedFor}
-use Rattle.lrp_top.specs.Questions.{IsMadeOf, database_source, query_source}
+use Rattle.lrp_top.specs.Due.{IsDatabaseRead, IsQueryReadOf, IsHeadFit, IsQueryRead, IsPlanned, IsPlannedAs, IsPlannedFor}
+use Rattle.lrp_top.specs.Questions.{HasOneTime, IsMadeOf, database_source, query_source}
 use Rattle.lrp_top.specs.Seen.{ShelfSeen}
 use Rattle.lrp_top.specs.Sources.{Source}
-use Rattle.lrp_top.specs.Steps.{Then}
+use Rattle.lrp_top.specs.Steps.{Behind, Then}
 use Rattle.lrp_top.proofs.StepLemmas.{mapped, no_refusal, same_refusal}
 use Rattle.lrp_top.specs.declared.outcome.Refusal.{Refusal}
-use Rattle.lrp_top.specs.declared.outcome.Refusal.TheVariants.{Usage, ReadDatabase, LongDatabase, Database, ReadQuery, LongQuery, Query, PeriodLimit, BoundLimit, TokenForm, TokenShape, TokenStale, Cells, Memory}
+use Rattle.lrp_top.specs.declared.outcome.Refusal.TheVariants.{Usage, ReadDatabase, LongDatabase, Database, ReadQuery, LongQuery, Query, PeriodLimit, BoundLimit, TokenForm, TokenShape, TokenStale, Cells, CanonHead, CanonRows, Memory}
 use Rattle.lrp_top.specs.declared.question.Question.{Question}
 
 -- a count that rose later rose
@@ -44,6 +45,8 @@ asked_of tense db seen files before name bytes (Err TokenForm) l h = h
 asked_of tense db seen files before name bytes (Err TokenShape) l h = h
 asked_of tense db seen files before name bytes (Err TokenStale) l h = h
 asked_of tense db seen files before name bytes (Err (Cells cap step)) l h = h
+asked_of tense db seen files before name bytes (Err CanonHead) l h = h
+asked_of tense db seen files before name bytes (Err (CanonRows cap)) l h = h
 asked_of tense db seen files before name bytes (Err Memory) l h = h
 
 pub asked_since : (tense : Bool) (db : List Relation) (seen : ShelfSeen) (files : Option (List File)) (before : Identifier → ℕ) (name : Identifier) (result : Result (Source Queried) Refusal) → IsQueryRead tense db seen name result → files ≡ seen.files → before name ≤ seen.faults_before name → IsQueryRead tense db (since files before seen) name result
@@ -54,27 +57,27 @@ asked_since tense db seen files before name result h e l = record {
 }
 
 -- where a database and a query over it were read, and the query was planned, the rest is due of them
-pub question_read : {B : Type 0} (tense civil : Bool) (seen : ShelfSeen) (database query : Identifier) (d : Source (List Relation)) (q : Source Queried) (p : Plan) (Next : Source (List Relation) → Source Queried → Plan → Result B Refusal → Type 0) (result : Result B Refusal)
-    → IsDatabaseRead civil seen database (Ok d) → IsQueryRead tense d.says seen query (Ok q) → IsPlanned d.says q.says (Ok p) → Next d q p result → IsPlannedFor tense civil seen database query Next result
-question_read tense civil seen database query d q p Next result r a planned n = record { first = Ok d; is = r; next = record { first = Ok q; is = a; next = record { first = Ok p; is = planned; next = n } } }
+pub question_read : {B : Type 0} (canon tense civil : Bool) (seen : ShelfSeen) (database query : Identifier) (d : Source (List Relation)) (q : Source Queried) (p : Plan) (Next : Source (List Relation) → Source Queried → Plan → Result B Refusal → Type 0) (result : Result B Refusal)
+    → IsDatabaseRead civil seen database (Ok d) → IsQueryRead tense d.says seen query (Ok q) → IsPlannedAs canon d.says q.says (Ok p) → Next d q p result → IsPlannedFor canon tense civil seen database query Next result
+question_read canon tense civil seen database query d q p Next result r a planned n = record { first = Ok d; is = r; next = record { first = Ok q; is = a; next = record { first = Ok p; is = planned; next = n } } }
 
 -- a query that was not planned is refused behind its database and its text
-pub plan_refused : {B : Type 0} (tense civil : Bool) (seen : ShelfSeen) (database query : Identifier) (d : Source (List Relation)) (q : Source Queried) (refusal : Refusal) (Next : Source (List Relation) → Source Queried → Plan → Result B Refusal → Type 0)
-    → IsDatabaseRead civil seen database (Ok d) → IsQueryRead tense d.says seen query (Ok q) → IsPlanned d.says q.says (Err refusal) → IsPlannedFor tense civil seen database query Next (Err refusal)
-plan_refused tense civil seen database query d q refusal Next r a planned = record { first = Ok d; is = r; next = record { first = Ok q; is = a; next = record { first = Err refusal; is = planned; next = refl } } }
+pub plan_refused : {B : Type 0} (canon tense civil : Bool) (seen : ShelfSeen) (database query : Identifier) (d : Source (List Relation)) (q : Source Queried) (refusal : Refusal) (Next : Source (List Relation) → Source Queried → Plan → Result B Refusal → Type 0)
+    → IsDatabaseRead civil seen database (Ok d) → IsQueryRead tense d.says seen query (Ok q) → IsPlannedAs canon d.says q.says (Err refusal) → IsPlannedFor canon tense civil seen database query Next (Err refusal)
+plan_refused canon tense civil seen database query d q refusal Next r a planned = record { first = Ok d; is = r; next = record { first = Ok q; is = a; next = record { first = Err refusal; is = planned; next = refl } } }
 
 -- a refused query is refused behind its database
-pub query_refused : {B : Type 0} (tense civil : Bool) (seen : ShelfSeen) (database query : Identifier) (d : Source (List Relation)) (refusal : Refusal) (Next : Source (List Relation) → Source Queried → Plan → Result B Refusal → Type 0)
-    → IsDatabaseRead civil seen database (Ok d) → IsQueryRead tense d.says seen query (Err refusal) → IsPlannedFor tense civil seen database query Next (Err refusal)
-query_refused tense civil seen database query d refusal Next r a = record { first = Ok d; is = r; next = record { first = Err refusal; is = a; next = refl } }
+pub query_refused : {B : Type 0} (canon tense civil : Bool) (seen : ShelfSeen) (database query : Identifier) (d : Source (List Relation)) (refusal : Refusal) (Next : Source (List Relation) → Source Queried → Plan → Result B Refusal → Type 0)
+    → IsDatabaseRead civil seen database (Ok d) → IsQueryRead tense d.says seen query (Err refusal) → IsPlannedFor canon tense civil seen database query Next (Err refusal)
+query_refused canon tense civil seen database query d refusal Next r a = record { first = Ok d; is = r; next = record { first = Err refusal; is = a; next = refl } }
 
 -- what is due of a plan is due of the question that was made of it
-pub question_due : {B : Type 0} (tense civil : Bool) (seen : ShelfSeen) (database query : Identifier) (question : Question) (Next : Source (List Relation) → Source Queried → Plan → Result B Refusal → Type 0) (result : Result B Refusal)
-    → IsPlannedFor tense civil seen database query IsMadeOf (Ok question) → Next (database_source question.database) (query_source question.query) question.plan result → IsPlannedFor tense civil seen database query Next result
-question_due {B} tense civil seen database query question Next result h n =
-    mapped (IsDatabaseRead civil seen database) (λ d. Then (IsQueryRead tense d.says seen query) (λ q. Then (IsPlanned d.says q.says) (IsMadeOf d q))) (λ d. Then (IsQueryRead tense d.says seen query) (λ q. Then (IsPlanned d.says q.says) (Next d q))) (Ok question) result
-    (λ d. mapped (IsQueryRead tense d.says seen query) (λ q. Then (IsPlanned d.says q.says) (IsMadeOf d q)) (λ q. Then (IsPlanned d.says q.says) (Next d q)) (Ok question) result
-    (λ q. mapped (IsPlanned d.says q.says) (IsMadeOf d q) (Next d q) (Ok question) result
+pub question_due : {B : Type 0} (canon tense civil : Bool) (seen : ShelfSeen) (database query : Identifier) (question : Question) (Next : Source (List Relation) → Source Queried → Plan → Result B Refusal → Type 0) (result : Result B Refusal)
+    → IsPlannedFor canon tense civil seen database query IsMadeOf (Ok question) → Next (database_source question.database) (query_source question.query) question.plan result → IsPlannedFor canon tense civil seen database query Next result
+question_due {B} canon tense civil seen database query question Next result h n =
+    mapped (IsDatabaseRead civil seen database) (λ d. Then (IsQueryRead tense d.says seen query) (λ q. Then (IsPlannedAs canon d.says q.says) (IsMadeOf d q))) (λ d. Then (IsQueryRead tense d.says seen query) (λ q. Then (IsPlannedAs canon d.says q.says) (Next d q))) (Ok question) result
+    (λ d. mapped (IsQueryRead tense d.says seen query) (λ q. Then (IsPlannedAs canon d.says q.says) (IsMadeOf d q)) (λ q. Then (IsPlannedAs canon d.says q.says) (Next d q)) (Ok question) result
+    (λ q. mapped (IsPlannedAs canon d.says q.says) (IsMadeOf d q) (Next d q) (Ok question) result
     (λ p made.
     let P : Source (List Relation) → Type 0 = λ r. Next r q p result in
     let Q : Source Queried → Type 0 = λ a. Next (database_source question.database) a p result in
@@ -85,10 +88,38 @@ question_due {B} tense civil seen database query question Next result h n =
     (λ refusal e. no_refusal question refusal e) h
 
 -- the refusal of a question is that of what is due
-pub refusal_due : {B : Type 0} (tense civil : Bool) (seen : ShelfSeen) (database query : Identifier) (refusal : Refusal) (Next : Source (List Relation) → Source Queried → Plan → Result B Refusal → Type 0) → IsPlannedFor tense civil seen database query IsMadeOf (Err refusal) → IsPlannedFor tense civil seen database query Next (Err refusal)
-refusal_due {B} tense civil seen database query refusal Next h =
-    mapped (IsDatabaseRead civil seen database) (λ d. Then (IsQueryRead tense d.says seen query) (λ q. Then (IsPlanned d.says q.says) (IsMadeOf d q))) (λ d. Then (IsQueryRead tense d.says seen query) (λ q. Then (IsPlanned d.says q.says) (Next d q))) (Err refusal) (Err refusal)
-    (λ d. mapped (IsQueryRead tense d.says seen query) (λ q. Then (IsPlanned d.says q.says) (IsMadeOf d q)) (λ q. Then (IsPlanned d.says q.says) (Next d q)) (Err refusal) (Err refusal)
-    (λ q. mapped (IsPlanned d.says q.says) (IsMadeOf d q) (Next d q) (Err refusal) (Err refusal) (λ p none. absurd none) (λ other e. same_refusal refusal other e))
+pub refusal_due : {B : Type 0} (canon tense civil : Bool) (seen : ShelfSeen) (database query : Identifier) (refusal : Refusal) (Next : Source (List Relation) → Source Queried → Plan → Result B Refusal → Type 0) → IsPlannedFor canon tense civil seen database query IsMadeOf (Err refusal) → IsPlannedFor canon tense civil seen database query Next (Err refusal)
+refusal_due {B} canon tense civil seen database query refusal Next h =
+    mapped (IsDatabaseRead civil seen database) (λ d. Then (IsQueryRead tense d.says seen query) (λ q. Then (IsPlannedAs canon d.says q.says) (IsMadeOf d q))) (λ d. Then (IsQueryRead tense d.says seen query) (λ q. Then (IsPlannedAs canon d.says q.says) (Next d q))) (Err refusal) (Err refusal)
+    (λ d. mapped (IsQueryRead tense d.says seen query) (λ q. Then (IsPlannedAs canon d.says q.says) (IsMadeOf d q)) (λ q. Then (IsPlannedAs canon d.says q.says) (Next d q)) (Err refusal) (Err refusal)
+    (λ q. mapped (IsPlannedAs canon d.says q.says) (IsMadeOf d q) (Next d q) (Err refusal) (Err refusal) (λ p none. absurd none) (λ other e. same_refusal refusal other e))
     (λ other e. same_refusal refusal other e))
     (λ other e. same_refusal refusal other e) h
+
+-- what is due where a canonical answer is asked for or not, by another name of that flag
+pub asked_same : {B : Type 0} (asked canon tense civil : Bool) (seen : ShelfSeen) (database query : Identifier) (Next : Source (List Relation) → Source Queried → Plan → Result B Refusal → Type 0) (result : Result B Refusal) → asked ≡ canon
+    → IsPlannedFor asked tense civil seen database query Next result → IsPlannedFor canon tense civil seen database query Next result
+asked_same asked canon tense civil seen database query Next result e h = subst (λ flag. IsPlannedFor flag tense civil seen database query Next result) e h
+
+-- ---- plans whose head is looked at first
+
+-- a plan stands behind a head that fits
+pub planned_as : (canon : Bool) (db : List Relation) (q : Queried) (p : Plan) → IsPlannedAs canon db q (Ok p) → IsPlanned db q (Ok p)
+planned_as canon db q p h = behind_fit h.first h.next
+  where
+    behind_fit : (first : Result (Unit {0}) Refusal) → Behind first (λ fit. IsPlanned db q) (Ok p) → IsPlanned db q (Ok p)
+    behind_fit (Ok fit) next = next
+    behind_fit (Err refusal) next = no_refusal p refusal next
+
+-- a head fits where it has one time column, if one is asked for
+pub fits : (canon : Bool) (q : Queried) → HasOneTime canon q.head → IsHeadFit canon q (Ok tt)
+fits false q one = refl
+fits true q one = one refl
+
+-- and else does not
+pub no_fit : (canon : Bool) (q : Queried) → (HasOneTime canon q.head → ⊥) → IsHeadFit canon q (Err CanonHead)
+no_fit false q other = absurd (other unasked)
+  where
+    unasked : false ≡ true → time_columns q.head ≡ 1
+    unasked e = cc
+no_fit true q other = λ one. other (λ e. one)

@@ -1,5 +1,5 @@
 -- What is due for words: step by step, what comes of it and why it is refused; the first refusal stands.
-use Rattle.std.specs.Prelude.{◌≡◌, ℕ, ℤ, Bool, ◌<◌, ◌≤◌, ◌^◌, List, [], ◌∷◌, length, map, Option, Some, None, Result, Ok, Err, String, string_bytes}
+use Rattle.std.specs.Prelude.{◌≡◌, ◌≢◌, ℕ, ℤ, Bool, true, false, ◌<◌, ◌≤◌, ◌^◌, List, [], ◌∷◌, length, map, Option, Some, None, Result, Ok, Err, String, string_bytes}
 use Rattle.std.specs.List.{AllByRecursion}
 use Rattle.std.specs.declared.alloc.Global.{Global}
 use Rattle.lrp_words.specs.Commands.{Task, command}
@@ -9,11 +9,12 @@ use Rattle.lrp_model.specs.Caps.{IsFirstMany, ManyAt}
 use Rattle.lrp_model.specs.DatabaseReading.{IsDatabase, IsDatabaseFault}
 use Rattle.lrp_model.specs.Formulas.{Question}
 use Rattle.lrp_model.specs.Periods.{period}
-use Rattle.lrp_model.specs.Plans.{IsPlan, scaled_reach, IsWithinLimits}
+use Rattle.lrp_model.specs.Plans.{IsPlan, scaled_reach, IsWithinLimits, time_columns}
 use Rattle.lrp_model.specs.Texts.{Identifier, Text}
 use Rattle.lrp_model.specs.declared.plans.Plan.{Plan}
 use Rattle.lrp_model.specs.declared.relations.Relation.{Relation}
 use Rattle.lrp_token.specs.Files.{files_digest}
+use Rattle.lrp_top.specs.Canonical.{HasCanonicalRows, IsCanonicalText}
 use Rattle.lrp_top.specs.Outcomes.{Outcome, Ends}
 use Rattle.lrp_top.specs.Resuming.{IsResumed}
 use Rattle.lrp_top.specs.Sampled.{TellsSample}
@@ -23,7 +24,7 @@ use Rattle.lrp_top.specs.Steps.{Then}
 use Rattle.lrp_top.specs.Telling.{TellsPage, TellsPlan, TellsRelations, TellsWitness}
 use Rattle.lrp_top.specs.Written.{IsFaultyAs, IsSortedAs, plain_if}
 use Rattle.lrp_top.specs.declared.outcome.Refusal.{Refusal}
-use Rattle.lrp_top.specs.declared.outcome.Refusal.TheVariants.{Usage, ReadDatabase, LongDatabase, Database, ReadQuery, LongQuery, Query, PeriodLimit, BoundLimit, Cells, Memory}
+use Rattle.lrp_top.specs.declared.outcome.Refusal.TheVariants.{Usage, ReadDatabase, LongDatabase, Database, ReadQuery, LongQuery, Query, PeriodLimit, BoundLimit, Cells, CanonHead, CanonRows, Memory}
 use Rattle.lrp_top.specs.declared.status.Status.{Status}
 
 -- ---- the steps
@@ -52,6 +53,13 @@ IsQueryReadOf tense db seen name bytes (Err _) = ⊥
 abbrev pub IsQueryRead : Bool → List Relation → ShelfSeen → Identifier → Result (Source Question) Refusal → Type 0
 IsQueryRead tense db seen name = FromFile seen name (IsQueryReadOf tense db seen name)
 
+-- the head is looked at where a canonical answer is asked for. Ok: it has one time column, or none is asked for. Refused: it has another number of them
+abbrev pub IsHeadFit : Bool → Question → Result (Unit {0}) Refusal → Type 0
+IsHeadFit false q result = result ≡ Ok tt
+IsHeadFit true q (Ok fit) = time_columns q.head ≡ 1
+IsHeadFit true q (Err CanonHead) = time_columns q.head ≢ 1
+IsHeadFit true q (Err _) = ⊥
+
 -- the query is planned. Ok: its plan. Refused: its period is above 2^62, or that is not but its reach is, doubled once and once more for each time column of the head; or want of memory
 abbrev pub IsPlanned : List Relation → Question → Result Plan Refusal → Type 0
 IsPlanned db q (Ok p) = IsPlan p db q × IsWithinLimits db q
@@ -60,12 +68,23 @@ IsPlanned db q (Err BoundLimit) = (period db q.body ≤ 2 ^ 62) × (2 ^ 62 < sca
 IsPlanned db q (Err Memory) = Unit {0}
 IsPlanned db q (Err _) = ⊥
 
+-- the one and then the other; the flag says whether a canonical answer is asked for
+abbrev pub IsPlannedAs : Bool → List Relation → Question → Result Plan Refusal → Type 0
+IsPlannedAs canon db q = Then (IsHeadFit canon q) (λ fit. IsPlanned db q)
+
 -- the cells of the plan's steps are counted. Ok: no step has more than cap. Refused: the first that has is told; or want of memory
 abbrev pub IsCounted : List Relation → Question → ℕ → Result (Unit {0}) Refusal → Type 0
 IsCounted db q cap (Ok done) = (s : ℕ) → ManyAt db q cap s → ⊥
 IsCounted db q cap (Err (Cells most step)) = (most ≡ cap) × IsFirstMany db q cap step
 IsCounted db q cap (Err Memory) = Unit {0}
 IsCounted db q cap (Err _) = ⊥
+
+-- the rows of the canonical answer are counted. Ok: they are at most cap. Refused: they are more; or want of memory
+abbrev pub AreRowsCounted : List Relation → Question → ℕ → Result (Unit {0}) Refusal → Type 0
+AreRowsCounted db q cap (Ok done) = (n : ℕ) × HasCanonicalRows db q n × (n ≤ cap)
+AreRowsCounted db q cap (Err (CanonRows most)) = (most ≡ cap) × ((n : ℕ) × HasCanonicalRows db q n × (cap < n))
+AreRowsCounted db q cap (Err Memory) = Unit {0}
+AreRowsCounted db q cap (Err _) = ⊥
 
 -- the output is written. Ok: bytes that tell what is due. Refused: want of memory alone
 abbrev pub IsOutput : (List ℕ → Type 0) → Outcome → Type 0
@@ -79,9 +98,11 @@ IsOutput Tells (Err _) = ⊥
 abbrev pub IsExplained : Source (List Relation) → Source Question → Plan → Outcome → Type 0
 IsExplained d q p = IsOutput (TellsPlan p)
 
--- the cells are counted, and then all answers are told
-abbrev pub IsAnswered : ℕ → Source (List Relation) → Source Question → Plan → Outcome → Type 0
-IsAnswered cap d q p = Then (IsCounted d.says q.says cap) (λ done. IsOutput (IsAnswerText d.says q.says))
+-- the cells are counted, and then all answers are told; where the canonical answer is asked for, its rows are counted, and then it is told
+abbrev pub IsAnswered : Bool → ℕ → Source (List Relation) → Source Question → Plan → Outcome → Type 0
+IsAnswered false cap d q p = Then (IsCounted d.says q.says cap) (λ done. IsOutput (IsAnswerText d.says q.says))
+IsAnswered true cap d q p =
+    Then (IsCounted d.says q.says cap) (λ done. Then (AreRowsCounted d.says q.says cap) (λ counted. IsOutput (IsCanonicalText d.says q.says)))
 
 -- the cells are counted, and then the least answer is told, or that there is none
 abbrev pub IsDecided : ℕ → Source (List Relation) → Source Question → Plan → Outcome → Type 0
@@ -96,17 +117,17 @@ IsListed civil from to limit after json cap d q p =
 -- ---- what is due for a task
 
 -- a database is read, then a query over its relations, then the query is planned, and then this is due
-abbrev pub IsPlannedFor : {B : Type 0} → Bool → Bool → ShelfSeen → Identifier → Identifier → (Source (List Relation) → Source Question → Plan → Result B Refusal → Type 0) → Result B Refusal → Type 0
-IsPlannedFor tense civil seen database query Next result =
-    Then (IsDatabaseRead civil seen database) (λ d. Then (IsQueryRead tense d.says seen query) (λ q. Then (IsPlanned d.says q.says) (Next d q))) result
+abbrev pub IsPlannedFor : {B : Type 0} → Bool → Bool → Bool → ShelfSeen → Identifier → Identifier → (Source (List Relation) → Source Question → Plan → Result B Refusal → Type 0) → Result B Refusal → Type 0
+IsPlannedFor canon tense civil seen database query Next result =
+    Then (IsDatabaseRead civil seen database) (λ d. Then (IsQueryRead tense d.says seen query) (λ q. Then (IsPlannedAs canon d.says q.says) (Next d q))) result
 
 -- each task; the sample makes its own texts, and is refused for want of memory alone
 abbrev pub IsDueOf : Task → ShelfSeen → Outcome → Type 0
-IsDueOf (ask database query cap tense civil) seen outcome = IsPlannedFor tense civil seen database query (IsAnswered cap) outcome
-IsDueOf (decide database query cap tense civil) seen outcome = IsPlannedFor tense civil seen database query (IsDecided cap) outcome
+IsDueOf (ask database query cap tense canon civil) seen outcome = IsPlannedFor canon tense civil seen database query (IsAnswered canon cap) outcome
+IsDueOf (decide database query cap tense civil) seen outcome = IsPlannedFor false tense civil seen database query (IsDecided cap) outcome
 IsDueOf (list database query from to limit after json cap tense civil) seen outcome =
-    IsPlannedFor tense civil seen database query (IsListed civil from to limit after json cap) outcome
-IsDueOf (explain database query tense civil) seen outcome = IsPlannedFor tense civil seen database query IsExplained outcome
+    IsPlannedFor false tense civil seen database query (IsListed civil from to limit after json cap) outcome
+IsDueOf (explain database query tense civil) seen outcome = IsPlannedFor false tense civil seen database query IsExplained outcome
 IsDueOf (check database civil) seen outcome = Then (IsDatabaseRead civil seen database) (λ d. IsOutput (TellsRelations d.says)) outcome
 IsDueOf (sample seed size) seen outcome = IsOutput (TellsSample seed size) outcome
 
@@ -114,7 +135,7 @@ IsDueOf (sample seed size) seen outcome = IsOutput (TellsSample seed size) outco
 
 -- the names of the files that a task reads
 abbrev pub files_of : Task → List Identifier
-files_of (ask database query cap tense civil) = database ∷ query ∷ []
+files_of (ask database query cap tense canon civil) = database ∷ query ∷ []
 files_of (decide database query cap tense civil) = database ∷ query ∷ []
 files_of (list database query from to limit after json cap tense civil) = database ∷ query ∷ []
 files_of (explain database query tense civil) = database ∷ query ∷ []

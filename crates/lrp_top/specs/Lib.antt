@@ -8,6 +8,7 @@ pub mod Resuming
 pub mod Telling
 pub mod Written
 pub mod Sampled
+pub mod Canonical
 pub mod Due
 pub mod Known
 pub mod Rooms

@@ -9,7 +9,7 @@ use Rattle.lrp_top.specs.Seen.{SinkSeen}
 use Rattle.lrp_top.specs.declared.status.Status.{Status}
 use Rattle.lrp_top.specs.declared.status.Status.TheVariants as status
 use Rattle.lrp_top.specs.declared.outcome.Refusal.{Refusal}
-use Rattle.lrp_top.specs.declared.outcome.Refusal.TheVariants.{Usage, ReadDatabase, LongDatabase, Database, ReadQuery, LongQuery, Query, PeriodLimit, BoundLimit, TokenForm, TokenShape, TokenStale, Cells, Memory}
+use Rattle.lrp_top.specs.declared.outcome.Refusal.TheVariants.{Usage, ReadDatabase, LongDatabase, Database, ReadQuery, LongQuery, Query, PeriodLimit, BoundLimit, TokenForm, TokenShape, TokenStale, Cells, CanonHead, CanonRows, Memory}
 
 -- the line of a fault: whose it is, its kind, its line and its column
 abbrev pub fault_line : List ℕ → List ℕ → Place → List ℕ
@@ -18,6 +18,10 @@ fault_line whose kind place = whose ++ (kind ++ (codes " at " ++ (decimal place.
 -- the line of a step that has more than cap cells
 abbrev pub cells_line : ℕ → ℕ → List ℕ
 cells_line cap step = codes "refused: more than " ++ (decimal cap ++ (codes " cells at step " ++ (decimal step ++ codes "\n")))
+
+-- the line of a canonical answer that has more than cap rows
+abbrev pub rows_line : ℕ → List ℕ
+rows_line cap = codes "refused: more than " ++ (decimal cap ++ codes " canonical rows\n")
 
 -- the line of a refusal
 abbrev pub line_of : Refusal → List ℕ
@@ -34,6 +38,8 @@ line_of TokenForm = codes "refused: token form\n"
 line_of TokenShape = codes "refused: token shape\n"
 line_of TokenStale = codes "refused: token stale\n"
 line_of (Cells cap step) = cells_line cap step
+line_of CanonHead = codes "refused: canon needs one time column\n"
+line_of (CanonRows cap) = rows_line cap
 line_of Memory = codes "refused: memory\n"
 
 -- the status of a refusal
@@ -51,6 +57,8 @@ refused_with TokenForm = status.Query
 refused_with TokenShape = status.Query
 refused_with TokenStale = status.Query
 refused_with (Cells cap step) = status.Limit
+refused_with CanonHead = status.Query
+refused_with (CanonRows cap) = status.Limit
 refused_with Memory = status.Memory
 
 -- the bytes of an output, or a refusal

@@ -3,6 +3,7 @@ use Rattle.std.specs.Prelude.{◌≡◌, ◌≤ℤ◌, ℕ, pos, Bool, true, fal
 use Rattle.std.specs.List.{AllByRecursion}
 use Rattle.lrp_model.specs.Formulas.{Question as Queried, form_of, question_of}
 use Rattle.lrp_model.specs.Pages.{Tuple}
+use Rattle.lrp_model.specs.Plans.{time_columns}
 use Rattle.lrp_model.specs.QueryReading.{IsQuery}
 use Rattle.lrp_model.specs.RawQueries.{RawQuestion}
 use Rattle.lrp_model.specs.TestPoints.{points}
@@ -103,9 +104,9 @@ abbrev pub IsMadeOf : Source (List Relation) → Source Queried → Plan → Res
 IsMadeOf d q p (Ok question) = (database_source question.database ≡ d) × (query_source question.query ≡ q) × (question.plan ≡ p)
 IsMadeOf d q p (Err refusal) = ⊥
 
--- what is due behind the plan of the query in these files
-abbrev pub IsAsked : {B : Type 0} → Files → ShelfSeen → (Source (List Relation) → Source Queried → Plan → Result B Refusal → Type 0) → Result B Refusal → Type 0
-IsAsked files seen = IsPlannedFor files.tense files.civil seen files.database.now files.query.now
+-- what is due behind the plan of the query in these files; the flag says whether a canonical answer is asked for
+abbrev pub IsAsked : {B : Type 0} → Files → Bool → ShelfSeen → (Source (List Relation) → Source Queried → Plan → Result B Refusal → Type 0) → Result B Refusal → Type 0
+IsAsked files canon seen = IsPlannedFor canon files.tense files.civil seen files.database.now files.query.now
 
 -- the values in head order of a tuple that is told by its times and its texts, where one is
 abbrev pub resumed_as : List Column → Result (Option ToldTuple) Refusal → Result (Option Tuple) Refusal
@@ -121,9 +122,18 @@ done_as (Err refusal) = Err refusal
 -- what is due for a purpose
 abbrev pub IsServed : Purpose → Source (List Relation) → Source Queried → Plan → Outcome → Type 0
 IsServed purpose.Plan = IsExplained
-IsServed (purpose.Answer cap) = IsAnswered cap
+IsServed (purpose.Answer cap canon) = IsAnswered canon cap
 IsServed (purpose.Witness cap) = IsDecided cap
 IsServed (purpose.Page paging) = IsListed paging.civil paging.from paging.to paging.limit (after_text paging.after) paging.json paging.cap
+
+-- whether a purpose asks for a canonical answer
+abbrev pub is_canonical : Purpose → Bool
+is_canonical (purpose.Answer cap canon) = canon
+is_canonical _ = false
+
+-- where it does, the head of the question has one time column
+abbrev pub HasOneTime : Bool → List Column → Type 0
+HasOneTime canon head = canon ≡ true → time_columns head ≡ 1
 
 -- the ends of its window, where it has one
 abbrev pub HasWindow : Purpose → Type 0

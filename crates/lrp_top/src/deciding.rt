@@ -3,7 +3,7 @@ ghost use Rattle.std.specs.Prelude.{◌≡◌, []};
 ghost use Rattle.std.specs.List.{AllByRecursion};
 ghost use Rattle.lrp_top.specs.Due.{IsDue, IsDueOf, IsDatabaseRead, IsOutput, IsTooLong, TellsLength, files_named, files_of};
 ghost use Rattle.lrp_top.specs.Outputs.{told};
-ghost use Rattle.lrp_top.specs.Questions.{HasWindow, IsAsked, IsServed};
+ghost use Rattle.lrp_top.specs.Questions.{HasWindow, IsAsked, IsServed, is_canonical};
 ghost use Rattle.lrp_top.specs.Seen.{IsOverrun};
 ghost use Rattle.lrp_top.specs.Steps.{Then};
 ghost use Rattle.lrp_top.specs.Telling.{TellsRelations};
@@ -50,10 +50,11 @@ fn carry_out<F: Shelf>(
             query,
             cap,
             tense,
+            canon,
             civil,
         } => {
             let files = Files::new(db, query, tense, civil);
-            ask(alloc, &files, &Purpose::Answer { cap }, shelf)
+            ask(alloc, &files, &Purpose::Answer { cap, canon }, shelf)
         }
         Command::Decide {
             db,
@@ -130,10 +131,10 @@ fn ask<F: Shelf>(
     shelf: &mut F,
 ) -> Result<Output, Refusal>
     requires window { HasWindow purpose.now }
-    ensures due { IsAsked files.now (⟦<F as Watched>⟧.seen shelf.old shelf.new) (IsServed purpose.now) (told result) }
+    ensures due { IsAsked files.now (is_canonical purpose.now) (⟦<F as Watched>⟧.seen shelf.old shelf.new) (IsServed purpose.now) (told result) }
     ensures long { TellsLength (⟦<F as Watched>⟧.seen shelf.old shelf.new) (told result) }
 {
-    match question_of(alloc, files, shelf) {
+    match question_of(alloc, files, purpose.is_canonical(), shelf) {
         Ok(question) => serve(alloc, question, purpose),
         Err(refusal) => Err(refusal),
     }

@@ -61,6 +61,10 @@ pub enum Refusal {
     TokenStale,
     /// A step has more than `cap` inhabited cells; the first such step, from 1.
     Cells { cap: u32, step: u32 },
+    /// A canonical answer is asked for, and the head has another number of time columns than one.
+    CanonHead,
+    /// The canonical answer has more than `cap` rows.
+    CanonRows { cap: u32 },
     /// Memory was refused.
     Memory,
 }
@@ -78,8 +82,12 @@ impl Refusal {
             | Refusal::Query(_)
             | Refusal::TokenForm
             | Refusal::TokenShape
-            | Refusal::TokenStale => Status::Query,
-            Refusal::PeriodLimit | Refusal::BoundLimit | Refusal::Cells { .. } => Status::Limit,
+            | Refusal::TokenStale
+            | Refusal::CanonHead => Status::Query,
+            Refusal::PeriodLimit
+            | Refusal::BoundLimit
+            | Refusal::Cells { .. }
+            | Refusal::CanonRows { .. } => Status::Limit,
             Refusal::Memory => Status::Memory,
         }
     }

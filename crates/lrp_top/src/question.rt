@@ -1,15 +1,16 @@
 // Questions: a database, a well-sorted query over it and its plan, or the first refusal.
-ghost use Rattle.std.specs.Prelude.{◌≡◌, ◌≤ℤ◌, IfOk, pos};
+ghost use Rattle.std.specs.Prelude.{◌≡◌, ◌↔◌, ◌≤ℤ◌, IfOk, IsTrue, pos};
 ghost use Rattle.std.specs.List.{AllByRecursion};
 ghost use Rattle.lrp_model.specs.Formulas.{form_of, question_of as queried};
 ghost use Rattle.lrp_model.specs.TestPoints.{points};
 ghost use Rattle.lrp_plan_laws.specs.Settled.{IsSettled};
 ghost use Rattle.lrp_plan_text.specs.Writable.{StepHasPeriods};
-ghost use Rattle.lrp_top.specs.Due.{IsPlanned, TellsLength};
-ghost use Rattle.lrp_top.specs.Questions.{IsAsked, IsMadeOf, IsReady};
+ghost use Rattle.lrp_top.specs.Due.{IsPlanned, IsPlannedAs, TellsLength};
+ghost use Rattle.lrp_top.specs.Questions.{HasOneTime, IsAsked, IsMadeOf, IsReady};
 
 use crate::files::{DatabaseFile, Files, QueryFile, database_of, query_of};
 use crate::outcome::Refusal;
+use crate::resuming::times_of;
 use crate::seeing::Watched;
 use lrp_io::Shelf;
 use lrp_model::{Plan, Query};
@@ -35,24 +36,49 @@ impl Question {
     }
 }
 
-/// The question of a database's file and a query's file, or the first refusal of either, or of the plan.
+/// The question of a database's file and a query's file, or the first refusal of either, of the head where a canonical answer
+/// is asked for, or of the plan.
 pub fn question_of<F: Shelf>(
     alloc: Global,
     files: &Files<'_>,
+    canon: bool,
     shelf: &mut F,
 ) -> Result<Question, Refusal>
-    ensures question { IsAsked files.now (⟦<F as Watched>⟧.seen shelf.old shelf.new) IsMadeOf result }
+    ensures question { IsAsked files.now canon (⟦<F as Watched>⟧.seen shelf.old shelf.new) IsMadeOf result }
     ensures long { TellsLength (⟦<F as Watched>⟧.seen shelf.old shelf.new) result }
     ensures ready { IfOk result (λ question. IsReady question) }
+    ensures head { IfOk result (λ question. HasOneTime canon question.query.query.head.columns) }
 {
     let database = database_of(alloc, files.database, files.civil, shelf)?;
     let query = query_of(alloc, &database.relations, files.query, files.tense, shelf)?;
-    let plan = plan_of(alloc, &database.relations, &query.query)?;
+    let plan = fit_plan(alloc, &database.relations, &query.query, canon)?;
     Ok(Question {
         database,
         query,
         plan,
     })
+}
+
+/// The plan of a query over a database, whose head has one time column where a canonical answer is asked for.
+fn fit_plan(alloc: Global, database: &Database, query: &Query, canon: bool) -> Result<Plan, Refusal>
+    requires settled { IsSettled database.now (queried query.now) }
+    requires points { AllByRecursion (λ at. pos 1 ≤ℤ at.period) (points (form_of query.now.body)) }
+    ensures planned { IsPlannedAs canon database.now (queried query.now) result }
+    ensures writable { IfOk result (λ p. AllByRecursion StepHasPeriods p.steps) }
+    ensures head { IfOk result (λ _. HasOneTime canon query.now.head.columns) }
+{
+    if head_fits(query, canon) {
+        plan_of(alloc, database, query)
+    } else {
+        Err(Refusal::CanonHead)
+    }
+}
+
+/// Whether the head of a query has one time column, where a canonical answer is asked for.
+fn head_fits(query: &Query, canon: bool) -> bool
+    ensures { IsTrue result ↔ HasOneTime canon query.now.head.columns }
+{
+    !canon || times_of(query.head.columns.as_slice()) == 1
 }
 
 /// The plan of a query over a database, or the limit that it passes.

@@ -49,7 +49,7 @@ fn shape_of(head: &[Column]) -> Shape
 }
 
 /// How many time columns a head has.
-fn times_of(head: &[Column]) -> usize
+pub fn times_of(head: &[Column]) -> usize
     ensures { result ≡ count_by (λ column. is_time column.sort) head.now }
 {
     head.iter().filter(|column| column.sort.is_time()).count()

@@ -1,13 +1,16 @@
 // What a question is asked for: its plan, its answers, its least answer or a page.
-ghost use Rattle.std.specs.Prelude.{IfOk, List, ℕ};
+ghost use Rattle.std.specs.Prelude.{◌≡◌, false, true, IfOk, List, ℕ};
 ghost use Rattle.lrp_eval.specs.Answered.{IsAnswerOf};
 ghost use Rattle.lrp_model.specs.Formulas.{Question as Queried, question_of};
+ghost use Rattle.lrp_model.specs.Plans.{time_columns};
 ghost use Rattle.lrp_model.specs.declared.relations.Relation.{Relation};
 ghost use Rattle.lrp_store.specs.Least.{HasRoom};
-ghost use Rattle.lrp_top.specs.Due.{IsAnswered, IsCounted, IsDecided};
+ghost use Rattle.lrp_top.specs.Canonical.{IsCanonicalText};
+ghost use Rattle.lrp_top.specs.Due.{AreRowsCounted, IsAnswered, IsCounted, IsDecided, IsOutput};
 ghost use Rattle.lrp_top.specs.Outputs.{least_of as least_tuple, told, witness_text};
-ghost use Rattle.lrp_top.specs.Questions.{HasWindow, IsReady, IsServed, database_source, done_as, query_source};
+ghost use Rattle.lrp_top.specs.Questions.{HasOneTime, HasWindow, IsReady, IsServed, database_source, done_as, is_canonical, query_source};
 ghost use Rattle.lrp_top.specs.Sampled.{IsFirst};
+ghost use Rattle.lrp_top.specs.Steps.{Then};
 ghost use Rattle.lrp_top.specs.Telling.{TellsWitness};
 
 use crate::answer::WholeAnswer;
@@ -17,23 +20,27 @@ use crate::plan::WritablePlan;
 use crate::purpose::Purpose;
 use crate::question::Question;
 use crate::witness::Witness;
+use lrp_canon::{canonical, canonical_rows};
 use lrp_eval::{EvalFault, answer};
 use lrp_list::answers_are_texts;
+use lrp_model::Memory;
 use lrp_plan_laws::{plan_rises, steps_are_made};
 use lrp_store::Answer;
+use lrp_theory::floors_keep_bounds;
 use std::alloc::Global;
 
 /// What is told of a question for a purpose, or the first refusal behind its plan.
 pub fn serve(alloc: Global, question: Question, purpose: &Purpose<'_>) -> Result<Output, Refusal>
     requires ready { IsReady question }
     requires window { HasWindow purpose.now }
+    requires head { HasOneTime (is_canonical purpose.now) question.query.query.head.columns }
     ensures served { IsServed purpose.now (database_source question.database) (query_source question.query) question.plan (told result) }
 {
     match purpose {
         Purpose::Plan => Ok(Output::Plan(WritablePlan {
             plan: question.into_plan(),
         })),
-        Purpose::Answer { cap } => whole_answer(alloc, &question, *cap),
+        Purpose::Answer { cap, canon } => whole_answer(alloc, &question, *cap, *canon),
         Purpose::Witness { cap } => witness(alloc, &question, *cap),
         Purpose::Page { paging } => page(alloc, &question, paging),
     }
@@ -58,10 +65,28 @@ pub fn answers(alloc: Global, question: &Question, cap: u32) -> Result<Answer, R
     }
 }
 
-/// All answers of a question, or the first step with too many cells.
-fn whole_answer(alloc: Global, question: &Question, cap: u32) -> Result<Output, Refusal>
+/// All answers of a question, as they come or in canonical form, or the first refusal.
+fn whole_answer(
+    alloc: Global,
+    question: &Question,
+    cap: u32,
+    canon: bool,
+) -> Result<Output, Refusal>
     requires ready { IsReady question.now }
-    ensures due { IsAnswered cap (database_source question.now.database) (query_source question.now.query) question.now.plan (told result) }
+    requires head { HasOneTime canon question.now.query.query.head.columns }
+    ensures due { IsAnswered canon cap (database_source question.now.database) (query_source question.now.query) question.now.plan (told result) }
+{
+    if canon {
+        canonical_answer(alloc, question, cap)
+    } else {
+        all_answers(alloc, question, cap)
+    }
+}
+
+/// All answers of a question, or the first step with too many cells.
+fn all_answers(alloc: Global, question: &Question, cap: u32) -> Result<Output, Refusal>
+    requires ready { IsReady question.now }
+    ensures due { IsAnswered false cap (database_source question.now.database) (query_source question.now.query) question.now.plan (told result) }
 {
     match answers(alloc, question, cap) {
         Ok(answer) => {
@@ -72,6 +97,66 @@ fn whole_answer(alloc: Global, question: &Question, cap: u32) -> Result<Output, 
             Ok(Output::Answer(WholeAnswer { answer }))
         }
         Err(refusal) => Err(refusal),
+    }
+}
+
+/// The canonical answer of a question, or the first step with too many cells, or that it has too many rows.
+fn canonical_answer(alloc: Global, question: &Question, cap: u32) -> Result<Output, Refusal>
+    requires ready { IsReady question.now }
+    requires head { time_columns question.now.query.query.head.columns ≡ 1 }
+    ensures due { IsAnswered true cap (database_source question.now.database) (query_source question.now.query) question.now.plan (told result) }
+{
+    match answers(alloc, question, cap) {
+        Ok(answer) => counted_rows(alloc, question, &answer, cap),
+        Err(refusal) => Err(refusal),
+    }
+}
+
+/// The canonical answer of these answers, or that it has more than `cap` rows.
+fn counted_rows(
+    alloc: Global,
+    question: &Question,
+    answer: &Answer,
+    cap: u32,
+) -> Result<Output, Refusal>
+    requires ready { IsReady question.now }
+    requires head { time_columns question.now.query.query.head.columns ≡ 1 }
+    requires answers { IsAnswerOf question.now.database.relations (question_of question.now.query.query) cap answer.now }
+    ensures due { Then (AreRowsCounted question.now.database.relations (question_of question.now.query.query) cap)
+        (λ counted. IsOutput (IsCanonicalText question.now.database.relations (question_of question.now.query.query))) (told result) }
+{
+    answer.store.shape();
+    answer.domain.len();
+    plan_rises();
+    steps_are_made();
+    floors_keep_bounds();
+    match canonical_rows(alloc, answer, cap) {
+        Ok(Some(_)) => canonical_text(alloc, question, answer, cap),
+        Ok(None) => Err(Refusal::CanonRows { cap }),
+        Err(Memory) => Err(Refusal::Memory),
+    }
+}
+
+/// The canonical answer of these answers as it is written.
+fn canonical_text(
+    alloc: Global,
+    question: &Question,
+    answer: &Answer,
+    cap: u32,
+) -> Result<Output, Refusal>
+    requires ready { IsReady question.now }
+    requires head { time_columns question.now.query.query.head.columns ≡ 1 }
+    requires answers { IsAnswerOf question.now.database.relations (question_of question.now.query.query) cap answer.now }
+    ensures output { IsOutput (IsCanonicalText question.now.database.relations (question_of question.now.query.query)) (told result) }
+{
+    answer.store.shape();
+    answer.domain.len();
+    plan_rises();
+    steps_are_made();
+    answers_are_texts();
+    match canonical(alloc, answer) {
+        Ok(answer) => Ok(Output::Answer(WholeAnswer { answer })),
+        Err(Memory) => Err(Refusal::Memory),
     }
 }
 

@@ -2,7 +2,7 @@
 ghost use Rattle.std.specs.List.{flat_map};
 ghost use Rattle.lrp_io.specs.Causes.{HasCause};
 ghost use Rattle.lrp_io.specs.Pieces.{IsWritten};
-ghost use Rattle.lrp_top.specs.Outcomes.{cells_line, fault_line, line_of, written_of};
+ghost use Rattle.lrp_top.specs.Outcomes.{cells_line, fault_line, line_of, rows_line, written_of};
 ghost use Rattle.lrp_top.specs.Outputs.{told};
 
 use crate::outcome::{Output, Refusal};
@@ -69,6 +69,8 @@ fn write_refusal<S: Sink>(out: &mut S, refusal: &Refusal) -> Result<(), Failed>
         Refusal::TokenShape => write_bytes(out, b"refused: token shape\n"),
         Refusal::TokenStale => write_bytes(out, b"refused: token stale\n"),
         Refusal::Cells { cap, step } => write_cells(out, *cap, *step),
+        Refusal::CanonHead => write_bytes(out, b"refused: canon needs one time column\n"),
+        Refusal::CanonRows { cap } => write_rows(out, *cap),
         Refusal::Memory => write_bytes(out, b"refused: memory\n"),
     }
 }
@@ -105,6 +107,20 @@ fn write_cells<S: Sink>(out: &mut S, cap: u32, step: u32) -> Result<(), Failed>
         b" cells at step ".as_slice(),
         number.format(step).as_bytes(),
         b"\n".as_slice(),
+    ];
+    write_pieces(out, &pieces)
+}
+
+/// Writes the line of a canonical answer with too many rows.
+fn write_rows<S: Sink>(out: &mut S, cap: u32) -> Result<(), Failed>
+    ensures text { IsWritten (S.written out.old) (S.written out.new) (rows_line cap) result }
+    ensures cause { HasCause (S.faults out.old) (S.faults out.new) result }
+{
+    let mut most = Buffer::new();
+    let pieces = [
+        b"refused: more than ".as_slice(),
+        most.format(cap).as_bytes(),
+        b" canonical rows\n".as_slice(),
     ];
     write_pieces(out, &pieces)
 }

@@ -1,34 +1,16 @@
--- No step has too many cells, and then the text of all answers is told.
-use Rattle.std.proofs.Common.{Ok, Err, refl, ap, pos, ◌∙◌}
-use Rattle.lrp_model.specs.Formulas.{question_of}
-use Rattle.lrp_top.proofs.RoomLemmas.{roomy}
+-- In canonical form, or as they come.
+use Rattle.std.proofs.Common.{subst, sym}
+use Rattle.lrp_top.specs.Due.{IsAnswered}
+use Rattle.lrp_top.specs.Outputs.{told}
+use Rattle.lrp_top.specs.Questions.{database_source, query_source}
 use Rattle.lrp_top.proofs.serving.whole_answer.Goals as goal
 
-pub invariant_of-result : goal.invariant_of-result
-invariant_of-result c = record { room = roomy c.in-Ok.answer.store c.in-Ok.ensures.room }
+pub returns-then-canon : goal.returns-then-canon
+returns-then-canon c =
+    let question = c.args.question.now in
+    record { due = subst (λ canon. IsAnswered canon c.args.cap (database_source question.database) (query_source question.query) question.plan (told c.canonical_answer.result)) (sym c.if-canon.true) c.canonical_answer.ensures.due }
 
-pub returns-in-Ok : goal.returns-in-Ok
-returns-in-Ok c =
-    let db = c.args.question.now.database.relations in
-    let q = question_of c.args.question.now.query.query in
-    let answered = c.in-Ok.ensures.answers in
-    record {
-      due = record {
-        first = Ok tt;
-        is = c.in-Ok.ensures.counted;
-        next = c.answers_are_texts.ensures db q c.in-Ok.answer (record {
-          store = c.shape.ensures.valid;
-          ascends = c.len.ensures.ascending;
-          head = answered.head;
-          period_is = answered.period ∙ ap pos (c.plan_rises.ensures.last db q);
-          answers = answered.answers;
-          settled = answered.settled;
-          room = c.in-Ok.ensures.room;
-          texts = c.len.ensures.whole;
-          columns = c.requires.ready.head;
-        });
-      };
-    }
-
-pub returns-in-Err : goal.returns-in-Err
-returns-in-Err c = record { due = record { first = Err c.in-Err.refusal; is = c.in-Err.ensures.counted; next = refl } }
+pub returns-else-canon : goal.returns-else-canon
+returns-else-canon c =
+    let question = c.args.question.now in
+    record { due = subst (λ canon. IsAnswered canon c.args.cap (database_source question.database) (query_source question.query) question.plan (told c.all_answers.result)) (sym c.if-canon.false) c.all_answers.ensures.due }

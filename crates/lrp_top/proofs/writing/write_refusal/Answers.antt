@@ -22,3 +22,6 @@ returns-in-Memory-clause-text g c = written_as _ _ _ _ c.write_bytes-in-Memory.r
 
 pub returns-in-Cells-clause-text : goal.returns-in-Cells-clause-text
 returns-in-Cells-clause-text g c = written_as _ _ _ _ c.write_cells.result (sym (ap line_of c.in-Cells.is)) c.write_cells.ensures.text
+
+pub returns-in-CanonRows-clause-text : goal.returns-in-CanonRows-clause-text
+returns-in-CanonRows-clause-text g c = written_as _ _ _ _ c.write_rows.result (sym (ap line_of c.in-CanonRows.is)) c.write_rows.ensures.text

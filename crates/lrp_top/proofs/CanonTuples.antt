@@ -1,0 +1,239 @@
+-- What a store of answers holds with one time column: numbers with texts, which are the answers' own.
+use Rattle.std.proofs.Common.{◌≡◌, ℕ, zero, suc, ◌+◌, ◌<◌, ◌≤◌, List, [], ◌∷◌, length, map, take, Option, Some, None, true, false, cond, Bool, bytes_eq, Less, Equal, arith, refl, sym, ap, ap₂, subst, ◌∙◌, IsSome, filter, unwrap_or}
+use Rattle.std.specs.Prelude.{ℤ, ◌↔◌, Contains, slice_get, slice_index}
+use Rattle.std.specs.Cmp.Lexicographic.{bytes_decides}
+use Rattle.std.specs.FinMap as finite
+use Rattle.std.specs.List.{AllByRecursion}
+use Rattle.std.proofs.lemmas.Cmp.{tied_itself, nat_list_cmp_total}
+use Rattle.std.proofs.lemmas.List.{get_or-take, length-take-le}
+use Rattle.lrp_model.specs.Formulas.{Question}
+use Rattle.lrp_model.specs.Plans.{time_columns}
+use Rattle.lrp_model.specs.Rows.{Datum, time, text, times_of, texts_of}
+use Rattle.lrp_model.specs.Satisfaction.{HasShape, IsOfKind, IsAnswer}
+use Rattle.lrp_model.specs.Sorts.{same_sort}
+use Rattle.lrp_model.specs.Texts.{Text, Ascends, text_cmp}
+use Rattle.lrp_model.specs.declared.relations.Sort.{Sort}
+use Rattle.lrp_model.specs.declared.relations.Sort.TheVariants.{Time, Data, Named}
+use Rattle.lrp_model.specs.declared.relations.Column.{Column}
+use Rattle.lrp_model.specs.declared.relations.Relation.{Relation}
+use Rattle.lrp_model.specs.declared.tuples.Cell.{Cell}
+use Rattle.lrp_model.specs.declared.formulas.Head.{Head}
+use Rattle.lrp_store.specs.Stores.{StoreView, HoldsJust, IsStore, InStore, tables_at}
+use Rattle.lrp_store.specs.Tables.{AreTexts, InAnswer}
+use Rattle.lrp_store.specs.declared.answer.Answer.{Answer}
+use Rattle.lrp_spans.specs.Groups.{HoldsNumber}
+use Rattle.lrp_eval.specs.Answered.{IsAnswerOf}
+use Rattle.lrp_top.specs.Canonical.{HasNumber}
+use Rattle.lrp_top.proofs.CanonSets.{IsRenamed}
+
+-- ---- numbers of texts
+
+-- numbers of the domain have texts
+texts_exist : (domain : List Text) (ns : List ℕ) → ((i : ℕ) → i < length ns → slice_index ns i < length domain) → (ts : List Text) × AreTexts domain ns ts
+texts_exist domain [] h = ([], tt)
+texts_exist domain (n ∷ ns) h =
+    let r = texts_exist domain ns (λ i l. h (suc i) (omega arith)) in
+    let t = there domain n (h 0 (omega arith)) in
+    (t.0 ∷ r.0, (t.1, r.1))
+  where
+    there : (domain : List Text) (n : ℕ) → n < length domain → (t : Text) × (slice_get domain n ≡ Some t)
+    there [] n l = absurd (omega arith)
+    there (d ∷ ds) zero l = (d, refl)
+    there (d ∷ ds) (suc n) l = there ds n (omega arith)
+
+-- so many as there are numbers
+length_texts : (domain : List Text) (ns : List ℕ) (ts : List Text) → AreTexts domain ns ts → length ts ≡ length ns
+length_texts domain [] [] h = refl
+length_texts domain [] (t ∷ ts) h = absurd h
+length_texts domain (n ∷ ns) [] h = absurd h
+length_texts domain (n ∷ ns) (t ∷ ts) h = ap suc (length_texts domain ns ts h.1)
+
+-- the texts that numbers name
+abbrev text_at : List Text → ℕ → Text
+text_at domain n = unwrap_or (slice_get domain n) []
+
+abbrev texts_at : List Text → List ℕ → List Text
+texts_at domain ns = map (text_at domain) ns
+
+texts_named : (domain : List Text) (ns : List ℕ) (ts : List Text) → AreTexts domain ns ts → texts_at domain ns ≡ ts
+texts_named domain [] [] h = refl
+texts_named domain [] (t ∷ ts) h = absurd h
+texts_named domain (n ∷ ns) [] h = absurd h
+texts_named domain (n ∷ ns) (t ∷ ts) h = ap₂ (λ u us. u ∷ us) (ap (λ o. unwrap_or o []) h.0) (texts_named domain ns ts h.1)
+
+-- the numbers that texts have
+abbrev number_of : List Text → Text → ℕ
+number_of [] t = 0
+number_of (d ∷ ds) t = cond (bytes_eq d t) 0 (suc (number_of ds t))
+
+abbrev numbers_of : List Text → List Text → List ℕ
+numbers_of domain ts = map (number_of domain) ts
+
+-- a text comes before those behind it
+before_all : (d : Text) (ds : List Text) → AllByRecursion (λ u. text_cmp d u ≡ Less) ds → (m : ℕ) (t : Text) → slice_get ds m ≡ Some t → text_cmp d t ≡ Less
+before_all d [] h m t e = cc
+before_all d (u ∷ us) h zero t e = let same : u ≡ t = cc in subst (λ v. text_cmp d v ≡ Less) same h.0
+before_all d (u ∷ us) h (suc m) t e = before_all d us h.1 m t e
+
+-- and not before itself
+not_before : (d t : Text) → d ≡ t → text_cmp d t ≡ Less → ⊥
+not_before d t same less = let tied : text_cmp d t ≡ Equal = subst (λ v. text_cmp d v ≡ Equal) same (tied_itself nat_list_cmp_total d) in cc
+
+-- so a text stands at one place
+one_number : (domain : List Text) → Ascends domain → (n : ℕ) (t : Text) → slice_get domain n ≡ Some t → number_of domain t ≡ n
+one_number [] a n t e = cc
+one_number (d ∷ ds) a zero t e = let same : d ≡ t = cc in first (bytes_eq d t) ((bytes_decides d t).1 same)
+  where
+    first : (b : Bool) → b ≡ true → cond b 0 (suc (number_of ds t)) ≡ 0
+    first b e = ap (λ c. cond c 0 (suc (number_of ds t))) e
+one_number (d ∷ ds) a (suc n) t e = later (bytes_eq d t) refl (one_number ds a.1 n t e)
+  where
+    later : (b : Bool) → bytes_eq d t ≡ b → number_of ds t ≡ n → cond b 0 (suc (number_of ds t)) ≡ suc n
+    later true same rest = absurd (not_before d t ((bytes_decides d t).0 same) (before_all d ds a.0 n t e))
+    later false other rest = ap suc rest
+
+numbers_are : (domain : List Text) → Ascends domain → (ns : List ℕ) (ts : List Text) → AreTexts domain ns ts → numbers_of domain ts ≡ ns
+numbers_are domain a [] [] h = refl
+numbers_are domain a [] (t ∷ ts) h = absurd h
+numbers_are domain a (n ∷ ns) [] h = absurd h
+numbers_are domain a (n ∷ ns) (t ∷ ts) h = ap₂ (λ m ms. m ∷ ms) (one_number domain a n t h.0) (numbers_are domain a ns ts h.1)
+
+-- ---- a tuple in head order
+
+-- of these times and texts
+record IsTupleOf (cs : List Column) (xs : List ℤ) (ts : List Text) (tuple : List Datum) : Type 0 where
+  shape : HasShape cs tuple
+  times : times_of tuple ≡ xs
+  texts : texts_of tuple ≡ ts
+
+-- the columns of a kind with one more of it, or with another
+with_time : (c : Column) (cs : List Column) → c.sort ≡ Time → time_columns (c ∷ cs) ≡ suc (time_columns cs)
+with_time c cs e = ap (λ b. length (cond b (c ∷ filter (λ d. same_sort d.sort Time) cs) (filter (λ d. same_sort d.sort Time) cs))) (ap (λ s. same_sort s Time) e)
+
+with_text : (c : Column) (cs : List Column) → same_sort c.sort Time ≡ false → time_columns (c ∷ cs) ≡ time_columns cs
+with_text c cs e = ap (λ b. length (cond b (c ∷ filter (λ d. same_sort d.sort Time) cs) (filter (λ d. same_sort d.sort Time) cs))) e
+
+-- a first time, or a first text
+first_time : (c : Column) (cs : List Column) (xs : List ℤ) (ts : List Text) → c.sort ≡ Time → time_columns (c ∷ cs) ≡ length xs → length (c ∷ cs) ≡ length xs + length ts
+    → ((ys : List ℤ) → time_columns cs ≡ length ys → length cs ≡ length ys + length ts → (tuple : List Datum) × IsTupleOf cs ys ts tuple) → (tuple : List Datum) × IsTupleOf (c ∷ cs) xs ts tuple
+first_time c cs [] ts s e f rest = let n : time_columns (c ∷ cs) ≡ suc (time_columns cs) = with_time c cs s in absurd (omega arith)
+first_time c cs (x ∷ xs) ts s e f rest =
+    let n : time_columns (c ∷ cs) ≡ suc (time_columns cs) = with_time c cs s in
+    let r = rest xs (omega arith) (omega arith) in
+    (time x ∷ r.0, record { shape = (subst (λ k. IsOfKind k (time x)) (sym s) tt, r.1.shape); times = ap (λ ys. x ∷ ys) r.1.times; texts = r.1.texts })
+
+first_text : (c : Column) (cs : List Column) (xs : List ℤ) (ts : List Text) → same_sort c.sort Time ≡ false → ((t : Text) → IsOfKind c.sort (text t)) → time_columns cs ≤ length cs → time_columns (c ∷ cs) ≡ length xs → length (c ∷ cs) ≡ length xs + length ts
+    → ((us : List Text) → time_columns cs ≡ length xs → length cs ≡ length xs + length us → (tuple : List Datum) × IsTupleOf cs xs us tuple) → (tuple : List Datum) × IsTupleOf (c ∷ cs) xs ts tuple
+first_text c cs xs [] s kind le e f rest = let n : time_columns (c ∷ cs) ≡ time_columns cs = with_text c cs s in absurd (omega arith)
+first_text c cs xs (t ∷ ts) s kind le e f rest =
+    let n : time_columns (c ∷ cs) ≡ time_columns cs = with_text c cs s in
+    let r = rest ts (omega arith) (omega arith) in
+    (text t ∷ r.0, record { shape = (kind t, r.1.shape); times = r.1.times; texts = ap (λ us. t ∷ us) r.1.texts })
+
+-- some columns are time columns
+few_times : (cs : List Column) → time_columns cs ≤ length cs
+few_times [] = omega arith
+few_times (c ∷ cs) = let h : time_columns cs ≤ length cs = few_times cs in by (same_sort c.sort Time) h
+  where
+    by : (b : Bool) → time_columns cs ≤ length cs → length (cond b (c ∷ filter (λ d. same_sort d.sort Time) cs) (filter (λ d. same_sort d.sort Time) cs)) ≤ suc (length cs)
+    by true h = omega arith
+    by false h = omega arith
+
+-- there is one, where the head has so many columns of each kind
+tuple_of : (cs : List Column) (xs : List ℤ) (ts : List Text) → time_columns cs ≡ length xs → length cs ≡ length xs + length ts → (tuple : List Datum) × IsTupleOf cs xs ts tuple
+tuple_of [] [] [] e f = ([], record { shape = tt; times = refl; texts = refl })
+tuple_of [] [] (t ∷ ts) e f = absurd (omega arith)
+tuple_of [] (x ∷ xs) ts e f = absurd (omega arith)
+tuple_of (c ∷ cs) xs ts e f = by c.sort refl (λ ys. tuple_of cs ys)
+  where
+    by : (s : Sort) → c.sort ≡ s → ((ys : List ℤ) (us : List Text) → time_columns cs ≡ length ys → length cs ≡ length ys + length us → (tuple : List Datum) × IsTupleOf cs ys us tuple) → (tuple : List Datum) × IsTupleOf (c ∷ cs) xs ts tuple
+    by Time s rest = first_time c cs xs ts s e f (λ ys. rest ys ts)
+    by Data s rest = first_text c cs xs ts (ap (λ k. same_sort k Time) s) (λ t. subst (λ k. IsOfKind k (text t)) (sym s) tt) (few_times cs) e f (rest xs)
+    by (Named name) s rest = first_text c cs xs ts (ap (λ k. same_sort k Time) s) (λ t. subst (λ k. IsOfKind k (text t)) (sym s) tt) (few_times cs) e f (rest xs)
+
+-- ---- the numbers of a held cell
+
+-- a cell with some table is held, with tables
+held_some : (s : StoreView) (cell : Cell) (table : List (Option ℤ)) → Contains (tables_at s cell) table → (tables : List (List (Option ℤ))) × (finite.get s.tables cell ≡ Some tables)
+held_some s cell table held = by (finite.get s.tables cell) refl held
+  where
+    by : (o : Option (List (List (Option ℤ)))) → finite.get s.tables cell ≡ o → Contains (unwrap_or o []) table → (tables : List (List (Option ℤ))) × (finite.get s.tables cell ≡ Some tables)
+    by None e c = absurd (omega (arith, c.1))
+    by (Some tables) e c = (tables, e)
+
+module _ (db : List Relation) (q : Question) (cap : ℕ) (a : Answer) (answered : IsAnswerOf db q cap a) (valid : IsStore a.store) (ascends : Ascends a.domain) (column : a.store.shape.times ≡ 1) where
+  -- what the store holds has texts
+  held_texts : (x : ℤ) (ns : List ℕ) → HoldsNumber a.store x ns → (ts : List Text) × AreTexts a.domain ns ts
+  held_texts x ns h =
+      let s = a.store in
+      let found = held_some s h.cell h.table h.held in
+      let proper = (valid.cells h.cell found.0 found.1).proper in
+      let few : s.shape.texts ≤ 8 = valid.texts in
+      let size : length h.cell.texts ≡ 8 = proper.texts.size in
+      let counted : length (take s.shape.texts h.cell.texts) ≡ s.shape.texts = length-take-le s.shape.texts h.cell.texts (omega arith) in
+      let count : length ns ≡ s.shape.texts = ap length (sym h.named) ∙ counted in
+      let some : IsSome (finite.get s.tables h.cell) = subst (λ o. IsSome o) (sym found.1) refl in
+      texts_exist a.domain ns (λ i l.
+      let low : i < s.shape.texts = omega arith in
+      subst (λ n. n < length a.domain) (sym (get_or-take s.shape.texts h.cell.texts i 0 low) ∙ ap (λ ms. slice_index ms i) h.named) (a.numbered h.cell i some low))
+
+  held_count : (x : ℤ) (ns : List ℕ) → HoldsNumber a.store x ns → length ns ≡ a.store.shape.texts
+  held_count x ns h =
+      let s = a.store in
+      let found = held_some s h.cell h.table h.held in
+      let few : s.shape.texts ≤ 8 = valid.texts in
+      let size : length h.cell.texts ≡ 8 = (valid.cells h.cell found.0 found.1).proper.texts.size in
+      ap length (sym h.named) ∙ length-take-le s.shape.texts h.cell.texts (omega arith)
+
+  -- and is the number of an answer
+  number_to : (x : ℤ) (ns : List ℕ) → HoldsNumber a.store x ns → HasNumber db q x (texts_at a.domain ns)
+  number_to x ns h =
+      let texts = held_texts x ns h in
+      let many : length texts.0 ≡ length ns = length_texts a.domain ns texts.0 texts.1 in
+      let count : length ns ≡ a.store.shape.texts = held_count x ns h in
+      let columns : length a.head.columns ≡ a.store.shape.times + a.store.shape.texts = a.columns_are in
+      let made = tuple_of a.head.columns (x ∷ []) texts.0 (a.times_are ∙ column) (omega arith) in
+      record {
+        tuple = made.0;
+        is = (answered.answers made.0).0 (record {
+          shape = made.1.shape;
+          held = (ns, subst (AreTexts a.domain ns) (sym made.1.texts) texts.1, subst (λ xs. InStore a.store xs ns) (sym made.1.times) h);
+        });
+        time = made.1.times;
+        named = made.1.texts ∙ sym (texts_named a.domain ns texts.0 texts.1);
+      }
+
+  -- an answer has numbers that name its texts
+  held_numbers : (x : ℤ) (ts : List Text) → HasNumber db q x ts → (ns : List ℕ) × AreTexts a.domain ns ts × HoldsNumber a.store x ns
+  held_numbers x ts h =
+      let held = ((answered.answers h.tuple).1 h.is).held in
+      (held.0, subst (AreTexts a.domain held.0) h.named held.1, subst (λ xs. InStore a.store xs held.0) h.time held.2)
+
+  number_from : (x : ℤ) (ts : List Text) → HasNumber db q x ts → HoldsNumber a.store x (numbers_of a.domain ts)
+  number_from x ts h = let held = held_numbers x ts h in subst (HoldsNumber a.store x) (sym (numbers_are a.domain ascends held.0 ts held.1)) held.2
+
+  -- so the store's set is that of the answers, with numbers for texts
+  pub numbered : IsRenamed (HoldsNumber a.store) (HasNumber db q)
+  numbered = record {
+    named = texts_at a.domain;
+    back = numbers_of a.domain;
+    to = number_to;
+    from = number_from;
+    again = λ x ns h. let texts = held_texts x ns h in ap (numbers_of a.domain) (texts_named a.domain ns texts.0 texts.1) ∙ numbers_are a.domain ascends ns texts.0 texts.1;
+    there = λ x ts h. let held = held_numbers x ts h in ap (texts_at a.domain) (numbers_are a.domain ascends held.0 ts held.1) ∙ texts_named a.domain held.0 ts held.1;
+  }
+
+-- a store of the same set has the same answers
+pub answers_moved : (db : List Relation) (q : Question) (cap : ℕ) (a : Answer) → IsAnswerOf db q cap a → (made : Answer) → made.head ≡ a.head → made.domain ≡ a.domain → HoldsJust (InStore a.store) made.store → (tuple : List Datum) → InAnswer made.head.columns made.domain made.store tuple ↔ IsAnswer db q tuple
+answers_moved db q cap a answered made head domain same tuple = (
+  (λ h. (answered.answers tuple).0 (record {
+    shape = subst (λ (k : Head). HasShape k.columns tuple) head h.shape;
+    held = (h.held.0, subst (λ (d : List Text). AreTexts d h.held.0 (texts_of tuple)) domain h.held.1, same.sound (times_of tuple) h.held.0 h.held.2);
+  })),
+  (λ w.
+      let h = (answered.answers tuple).1 w in
+      record {
+        shape = subst (λ (k : Head). HasShape k.columns tuple) (sym head) h.shape;
+        held = (h.held.0, subst (λ (d : List Text). AreTexts d h.held.0 (texts_of tuple)) (sym domain) h.held.1, same.whole (times_of tuple) h.held.0 h.held.2);
+      }),
+)

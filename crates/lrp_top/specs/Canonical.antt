@@ -1,0 +1,29 @@
+-- The answers of a query with one time column as a set of numbers with texts, and the text of its canonical answer.
+use Rattle.std.specs.Prelude.{◌≡◌, ℕ, ℤ, List, [], ◌∷◌}
+use Rattle.lrp_model.specs.AnswerTexts.{IsAnswerTextOf}
+use Rattle.lrp_model.specs.Formulas.{Question}
+use Rattle.lrp_model.specs.Pages.{Tuple}
+use Rattle.lrp_model.specs.Plans.{time_columns}
+use Rattle.lrp_model.specs.Rows.{times_of, texts_of}
+use Rattle.lrp_model.specs.Satisfaction.{IsAnswer}
+use Rattle.lrp_model.specs.Texts.{Text}
+use Rattle.lrp_model.specs.declared.relations.Relation.{Relation}
+use Rattle.lrp_canon.specs.Rows.{HasRowCount, IsLeastPeriod}
+
+-- the number and the texts are the one time and the texts of an answer
+pub record HasNumber (db : List Relation) (q : Question) (x : ℤ) (texts : List Text) : Type 0 where
+  pub tuple : Tuple
+  pub is : IsAnswer db q tuple
+  pub time : times_of tuple ≡ x ∷ []
+  pub named : texts_of tuple ≡ texts
+
+-- the answers have so many maximal rows of their least period
+abbrev pub HasCanonicalRows : List Relation → Question → ℕ → Type 0
+HasCanonicalRows db q = HasRowCount (HasNumber db q)
+
+-- the text is that of the canonical answer: the head has one time column, and it is an answer text in rows of the least period with which finitely many rows give the answers
+pub record IsCanonicalText (db : List Relation) (q : Question) (bytes : List ℕ) : Type 0 where
+  pub column : time_columns q.head ≡ 1
+  pub period : ℕ
+  pub least : IsLeastPeriod (HasNumber db q) period
+  pub text : IsAnswerTextOf period db q bytes
