@@ -1,8 +1,8 @@
 // What is proved of listings and of whole answers, each law as the contract of a function that does nothing.
-ghost use Rattle.std.specs.Prelude.{◌≡◌, ◌≤◌, ◌↔◌, ℕ, Bool, IsTrue, List, length, Option, sum_by};
+ghost use Rattle.std.specs.Prelude.{◌≡◌, ◌≤◌, ◌↔◌, ℕ, Bool, IsTrue, List, length, Option};
 ghost use Rattle.lrp_model.specs.Pages.{IsPage, Tuple};
+ghost use Rattle.lrp_store.specs.Stores.{zone_count};
 ghost use Rattle.lrp_store.specs.Tables.{InAnswer};
-ghost use Rattle.std.specs.FinMap as finite;
 ghost use Rattle.lrp_model.specs.declared.tuples.Spot.{Spot};
 ghost use Rattle.lrp_model.specs.AnswerTexts.{IsAnswerTextOf};
 ghost use Rattle.lrp_model.specs.Formulas.{Question};
@@ -34,7 +34,7 @@ pub fn listings_are_pages()
 pub fn moves_are_few()
     ensures { (w : WindowView) (position : Option Tuple) (cursors : List Cursor) (spot : Spot)
         → AreCursors w position cursors
-        → standing_at spot cursors ≤ sum_by (λ tables. length tables) (finite.values w.store.tables) }
+        → standing_at spot cursors ≤ zone_count w.store }
 {}
 
 /// The text of a settled answer is an answer text of the query, in rows of the answer's period: `Empty` where nothing is an

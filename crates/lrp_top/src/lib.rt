@@ -24,5 +24,6 @@ mod writing;
 
 pub use lrp_sample::{Texts, sample_texts};
 pub use lrp_words::{Command, Usage, read_words};
+pub use outcome::Refusal;
 pub use running::run;
 pub use status::Status;

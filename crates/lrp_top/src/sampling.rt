@@ -22,6 +22,8 @@ use lrp_sample::{Texts, sample_query_is_well_sorted, sample_texts, sample_texts_
 use lrp_sample_laws::{sample_has_few_answers, sample_has_few_cells, sample_is_within_limits};
 use lrp_store::Answer;
 use std::alloc::Global;
+use std::marker::Brand;
+use std::sync::ledger::Blank;
 
 /// The most cells of a step, as where no cap is given.
 const CAP: u32 = 1_000_000;
@@ -78,7 +80,7 @@ fn report_of(alloc: Global, answer: Answer, size: u32) -> Result<Report, Memory>
         cap: CAP,
         civil: false,
     };
-    let found = gather(alloc, &answer, &day, None)?;
+    let found = gather::<Brand>(alloc, &answer, &day, None, Blank::new(1))?;
     let cells = answer.store.len();
     Ok(Report {
         rows: size,
