@@ -14,7 +14,7 @@ use Rattle.lrp_matrix.specs.Ranges.{negation}
 use Rattle.lrp_zone.specs.Pairs.{IsOfCell}
 use Rattle.lrp_zone.specs.Zones.{IsMember, IsResidue, IsTight, IsZone, ZoneView, columns_of}
 use Rattle.lrp_store.specs.Least.{HasRoom, IsRoom}
-use Rattle.lrp_store.specs.Stores.{IsCellOf, LiesInCell, StoreView, tables_at, zone_of, zones_at}
+use Rattle.lrp_store.specs.Stores.{IsCellOf, LiesInCell, StoreView, tables_at, zone_count, zone_of, zones_at}
 use Rattle.lrp_store.proofs.Aligning.{key_of}
 use Rattle.lrp_store.proofs.Counted.{one_cell}
 use Rattle.lrp_store.proofs.Held.{cell_held, node_take, zone_held}
@@ -24,7 +24,7 @@ use Rattle.lrp_spans.specs.Groups.{HoldsNumber}
 use Rattle.lrp_spans.proofs.GroupLaws.{zone_column, zone_period}
 use Rattle.lrp_spans.proofs.Lines.{in_line, line_cell, line_high, line_low}
 use Rattle.lrp_spans.proofs.Lists.{head_in, in_cons, in_map, in_none, in_one, later, map_in, one_in, pairs_none, pairs_one}
-use Rattle.lrp_canon.specs.Canonical.{IsCanonical, IsCanonicalOf, zones_of}
+use Rattle.lrp_canon.specs.Canonical.{IsCanonical, IsCanonicalOf}
 use Rattle.lrp_canon.specs.Rows.{AreJust, HasRowCount, IsOpenBelow, IsStart, Moment}
 use Rattle.lrp_canon.proofs.CountLaws.{count_moved, one_row_count}
 use Rattle.lrp_canon.proofs.RowMaking.{deep}
@@ -455,7 +455,7 @@ module _ (s : StoreView) (h : IsCanonical s) (room : HasRoom s) where
   cell_count c = flat_length (λ z. start_in (named c) (begin_of z)) (λ z. endless_in (named c) (node c.residues 1) (begin_of z)) (λ z. 1) (zones_at s c) (λ z. one_of_both (named c) (node c.residues 1) (begin_of z))
       ∙ sum_of_ones (zones_at s c) ∙ length-map (tables_at s c) (zone_of s c)
 
-  pub zone_row_count : HasRowCount (HoldsNumber s) (zones_of s)
+  pub zone_row_count : HasRowCount (HoldsNumber s) (zone_count s)
   unfolding all_starts all_endless
   zone_row_count = record {
     period = s.period;
@@ -468,6 +468,6 @@ module _ (s : StoreView) (h : IsCanonical s) (room : HasRoom s) where
   }
 
 -- each canonical store of a set has as many zones as the set has maximal rows
-pub canonical_zones : (s made : StoreView) (count : ℕ) → HasRowCount (HoldsNumber s) count → IsCanonicalOf s made → zones_of made ≡ count
-canonical_zones s made count rows is = one_row_count (HoldsNumber made) (zones_of made) count (zone_row_count made is.canonical is.room)
+pub canonical_zones : (s made : StoreView) (count : ℕ) → HasRowCount (HoldsNumber s) count → IsCanonicalOf s made → zone_count made ≡ count
+canonical_zones s made count rows is = one_row_count (HoldsNumber made) (zone_count made) count (zone_row_count made is.canonical is.room)
     (count_moved (HoldsNumber s) (HoldsNumber made) (λ x texts i. is.same.whole (x ∷ []) texts i) (λ x texts i. is.same.sound (x ∷ []) texts i) count rows)

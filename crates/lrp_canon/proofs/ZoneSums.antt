@@ -13,11 +13,10 @@ use Rattle.lrp_model.specs.declared.tuples.Cell.{Cell}
 use Rattle.lrp_slots.specs.Lists.{cell_cmp}
 use Rattle.lrp_slots.proofs.Copying.{keys_ascend}
 use Rattle.lrp_slots.proofs.Tables.{cells_total, same_cell}
-use Rattle.lrp_store.specs.Stores.{StoreView, tables_at}
+use Rattle.lrp_store.specs.Stores.{StoreView, tables_at, zone_count}
 use Rattle.lrp_store.proofs.Held.{cell_or}
 use Rattle.lrp_list.proofs.Lists.{from_flat}
 use Rattle.lrp_spans.proofs.Lists.{head_in, later, pairs_append, pairs_head, pairs_none, pairs_right}
-use Rattle.lrp_canon.specs.Canonical.{zones_of}
 
 -- ---- the cells of a store differ
 is_decided : (c d : Cell) → Decides (eq_by_cmp cell_cmp c d) (c ≡ d)
@@ -54,7 +53,7 @@ module _ {V : Type 0} where
       ∙ sizes es (pairs_right ◌≢◌ (e.0 ∷ []) (map (λ f. f.0) es) apart))
       ∙ sym (sum_by-cons (λ vs. length vs) e.1 (map (λ f. f.1) es))
 
-pub zones_by_cells : (s : StoreView) → sum_by (λ k. length (tables_at s k)) (finite.keys s.tables) ≡ zones_of s
+pub zones_by_cells : (s : StoreView) → sum_by (λ k. length (tables_at s k)) (finite.keys s.tables) ≡ zone_count s
 zones_by_cells s = same_sum (λ k. length (tables_at s k)) (size_in (entries s.tables)) (finite.keys s.tables) (λ k c. ap (λ o. length (unwrap_or o [])) (get-entries s.tables k)) ∙ sizes (entries s.tables) (keys_differ s)
 
 -- ---- lists that are put together

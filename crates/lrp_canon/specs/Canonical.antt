@@ -1,11 +1,10 @@
 -- The canonical store of a set of one time column.
-use Rattle.std.specs.Prelude.{◌≡◌, ℕ, ◌-◌, ◌^◌, ◌<◌, length, Contains, sum_by}
-use Rattle.std.specs.FinMap as finite
+use Rattle.std.specs.Prelude.{◌≡◌, ℕ, ◌-◌, ◌^◌, ◌<◌, Contains}
 use Rattle.lrp_model.specs.declared.tuples.Cell.{Cell}
 use Rattle.lrp_zone.specs.Zones.{ZoneView}
 use Rattle.lrp_store.specs.Least.{HasRoom}
 use Rattle.lrp_store.specs.Settled.{AreSettled}
-use Rattle.lrp_store.specs.Stores.{StoreView, IsStore, InStore, HasReach, HoldsJust, zones_at}
+use Rattle.lrp_store.specs.Stores.{StoreView, IsStore, InStore, HasReach, HoldsJust, zone_count, zones_at}
 use Rattle.lrp_spans.specs.Groups.{HoldsNumber}
 use Rattle.lrp_canon.specs.Rows.{IsLeastPeriod, HasRowCount}
 
@@ -13,10 +12,6 @@ use Rattle.lrp_canon.specs.Rows.{IsLeastPeriod, HasRowCount}
 pub record CanMakeCanonical (s : StoreView) : Type 0 where
   pub column : s.shape.times ≡ 1
   pub reach : HasReach s (2 ^ 62 - s.period)
-
--- the number of all zones
-abbrev pub zones_of : StoreView → ℕ
-zones_of s = sum_by (λ tables. length tables) (finite.values s.tables)
 
 -- the period is the least one of the set, and the zones of each cell are the maximal intervals, ascending
 pub record IsCanonical (s : StoreView) : Type 0 where
@@ -35,7 +30,7 @@ pub record IsCanonicalOf (s made : StoreView) : Type 0 where
 -- the canonical store has so many zones: the set has so many maximal rows, and each canonical store of it so many zones
 pub record HasCanonicalRows (s : StoreView) (count : ℕ) : Type 0 where
   pub rows : HasRowCount (HoldsNumber s) count
-  pub zones : (made : StoreView) → IsCanonicalOf s made → zones_of made ≡ count
+  pub zones : (made : StoreView) → IsCanonicalOf s made → zone_count made ≡ count
 
 -- the same with more than most of them
 abbrev pub HasMoreRows : StoreView → ℕ → Type 0

@@ -102,8 +102,8 @@ module _ (k high : ℕ) (spans : List Span) (low : 0 < k) (each : (s : Span) →
       ends = λ other positive d. (
         k * (high + 1),
         ends_repeat other
-          (repeats_multiple (HasOneOf k up) a other positive (Divides-trans (pos a) (pos made) (pos other) (Divides-trans (pos a) (pos first) (pos made) one.right two.left) d) la.is)
-          (repeats_multiple (HasOneOf k down) b other positive (Divides-trans (pos b) (pos made) (pos other) two.right d) lb.is),
+            (repeats_multiple (HasOneOf k up) a other positive (Divides-trans (pos a) (pos made) (pos other) (Divides-trans (pos a) (pos first) (pos made) one.right two.left) d) la.is)
+            (repeats_multiple (HasOneOf k down) b other positive (Divides-trans (pos b) (pos made) (pos other) two.right d) lb.is),
       );
       least = λ other positive d r. two.least (pos other)
           (one.least (pos other) d (la.least other (repeats_above k high spans up low each below above r.0 other positive r.1)))

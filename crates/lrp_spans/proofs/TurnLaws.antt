@@ -112,12 +112,15 @@ module _ (z : ZoneView) (valid : IsZone z) (one : columns_of z ≡ 1) (s : Span)
   turn_from x m =
       let d : Divides (pos z.period) (x -ℤ node z.residues 1) = line_cell z x one m in
       let i : x -ℤ node z.residues 1 ≡ pos z.period *ℤ d.times = d.is in
-      let e : x ≡ pos s.residue +ℤ (pos z.period *ℤ d.times) = omega (arith, ints) in
-      (d.times, e, record {
-        residue = refl;
-        low = low_from z.period (pos s.residue) d.times x valid.shape.period_low e (entry z.bounds 0 1) s.first first (line_low z x one m);
-        high = high_from z.period (pos s.residue) d.times x valid.shape.period_low e (entry z.bounds 1 0) s.last last (line_high z x one m);
-      })
+      let e : x ≡ pos s.residue +ℤ (pos z.period *ℤ d.times) = omega (arith, ints) in (
+        d.times,
+        e,
+        record {
+          residue = refl;
+          low = low_from z.period (pos s.residue) d.times x valid.shape.period_low e (entry z.bounds 0 1) s.first first (line_low z x one m);
+          high = high_from z.period (pos s.residue) d.times x valid.shape.period_low e (entry z.bounds 1 0) s.last last (line_high z x one m);
+        },
+      )
 
   some_turn : (xs : List ℤ) → IsMember z xs → (n : ℤ) × HasTurn s s.residue n
   some_turn [] m = absurd (let e : 0 ≡ columns_of z = m.cell.count in omega (arith, one))

@@ -13,12 +13,7 @@ use lrp_zone::Zone;
 use std::alloc::Global;
 
 /// The numbers that are a step greater than those of the spans, in order. The step is at most the period.
-pub fn shifted(
-    alloc: Global,
-    spans: &[Span],
-    step: u64,
-    period: u64,
-) -> Result<Vec<Span>, Memory>
+pub fn shifted(alloc: Global, spans: &[Span], step: u64, period: u64) -> Result<Vec<Span>, Memory>
     requires spans { AreOrdered (2 ^ 62) spans.now }
     requires below { AreBelow period spans.now }
     requires step { step ≤ period }

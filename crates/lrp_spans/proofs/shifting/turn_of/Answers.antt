@@ -27,12 +27,12 @@ pub returns-clause-turn : goal.returns-clause-turn
 returns-clause-turn c =
     let t = subst (IsTight c.args.period c.args.residue) c.in_ok-number.was c.requires.bound in
     let q = quotient c.args.period c.args.residue c.args.bound c.in_ok-number.number c.div_euclid.result (to_z w64 (of_z w64 (to_z w64 (of_z w64 c.in_ok-number.number) -ℤ to_z w64 (of_z w64 c.args.residue)))) (to_z w64 (of_z w64 c.args.period)) c.div_euclid.ensures c.in_ok-number.was c.requires.bound c.requires.period_low c.requires.residue_low c.requires.residue_high
-        (omega (arith, ints, c.requires.period_low, c.requires.period_high)) (difference c.in_ok-number.number c.args.residue t.1 c.requires.residue_low (omega (arith, ints, c.requires.residue_high, c.requires.period_high))) in
+    (omega (arith, ints, c.requires.period_low, c.requires.period_high)) (difference c.in_ok-number.number c.args.residue t.1 c.requires.residue_low (omega (arith, ints, c.requires.residue_high, c.requires.period_high))) in
     subst (λ w. IsTurnOf c.args.period c.args.residue c.args.bound (Some w)) (sym (word c.div_euclid.result q.1)) q.0
 
 pub returns-clause-small : goal.returns-clause-small
 returns-clause-small c =
     let t = subst (IsTight c.args.period c.args.residue) c.in_ok-number.was c.requires.bound in
     let q = quotient c.args.period c.args.residue c.args.bound c.in_ok-number.number c.div_euclid.result (to_z w64 (of_z w64 (to_z w64 (of_z w64 c.in_ok-number.number) -ℤ to_z w64 (of_z w64 c.args.residue)))) (to_z w64 (of_z w64 c.args.period)) c.div_euclid.ensures c.in_ok-number.was c.requires.bound c.requires.period_low c.requires.residue_low c.requires.residue_high
-        (omega (arith, ints, c.requires.period_low, c.requires.period_high)) (difference c.in_ok-number.number c.args.residue t.1 c.requires.residue_low (omega (arith, ints, c.requires.residue_high, c.requires.period_high))) in
+    (omega (arith, ints, c.requires.period_low, c.requires.period_high)) (difference c.in_ok-number.number c.args.residue t.1 c.requires.residue_low (omega (arith, ints, c.requires.residue_high, c.requires.period_high))) in
     subst (λ w. AtMost (2 ^ 62) (Some w)) (sym (word c.div_euclid.result q.1)) q.1
