@@ -1,12 +1,12 @@
 -- Two runs of one task over the same bytes come to one outcome: step by step.
-use Rattle.std.proofs.Common.{◌≡◌, ◌∷◌, ◌++◌, ◌+◌, ◌<◌, ◌≤◌, ◌^◌, ◌∙◌, ℕ, Bool, List, [], length, refl, sym, ap, ap₂, subst, Option, Some, None, Result, Ok, Err, arith}
+use Rattle.std.proofs.Common.{◌≡◌, ◌≢◌, ◌∷◌, ◌++◌, ◌+◌, ◌<◌, ◌≤◌, ◌^◌, ◌∙◌, ℕ, Bool, true, false, List, [], length, refl, sym, ap, ap₂, subst, Option, Some, None, Result, Ok, Err, arith}
 use Rattle.std.specs.List.{AllZip}
 use Rattle.lrp_model.specs.Caps.{IsFirstMany, ManyAt}
 use Rattle.lrp_model.specs.DatabaseReading.{IsDatabase, IsDatabaseFault}
 use Rattle.lrp_model.specs.Formulas.{Question}
 use Rattle.lrp_model.specs.Pages.{Tuple}
 use Rattle.lrp_model.specs.Periods.{period}
-use Rattle.lrp_model.specs.Plans.{IsStep, plan, scaled_reach, IsWithinLimits}
+use Rattle.lrp_model.specs.Plans.{IsStep, plan, scaled_reach, IsWithinLimits, time_columns}
 use Rattle.lrp_model.specs.PrintedPlans.{plan_bytes, step_line, step_lines}
 use Rattle.lrp_model.specs.Steps.{PlanStep}
 use Rattle.lrp_model.specs.Texts.{Identifier, Text}
@@ -18,7 +18,8 @@ use Rattle.lrp_model.specs.declared.plans.Step.{Step}
 use Rattle.lrp_model.specs.declared.relations.Column.{Column}
 use Rattle.lrp_model.specs.declared.relations.Relation.{Relation}
 use Rattle.lrp_token.specs.Reading.{IsNoToken, HasOtherCounts}
-use Rattle.lrp_top.specs.Due.{IsDatabaseRead, IsDatabaseReadOf, IsQueryRead, IsQueryReadOf, IsPlanned, IsCounted, IsOutput}
+use Rattle.lrp_top.specs.Canonical.{HasCanonicalRows}
+use Rattle.lrp_top.specs.Due.{IsDatabaseRead, IsDatabaseReadOf, IsQueryRead, IsQueryReadOf, IsHeadFit, IsPlanned, IsPlannedAs, IsCounted, AreRowsCounted, IsOutput}
 use Rattle.lrp_top.specs.Outcomes.{Outcome}
 use Rattle.lrp_top.specs.Resuming.{IsResumed, IsStale, shape_of}
 use Rattle.lrp_top.specs.Seen.{ShelfSeen, AreBytesOf}
@@ -26,7 +27,8 @@ use Rattle.lrp_top.specs.Sources.{Source}
 use Rattle.lrp_top.specs.Steps.{Then, Behind}
 use Rattle.lrp_top.specs.Written.{IsFaultyAs, IsSortedAs, plain_if}
 use Rattle.lrp_top.specs.declared.outcome.Refusal.{Refusal}
-use Rattle.lrp_top.specs.declared.outcome.Refusal.TheVariants.{ReadDatabase, LongDatabase, Database, ReadQuery, LongQuery, Query, PeriodLimit, BoundLimit, TokenForm, TokenShape, TokenStale, Cells, Memory}
+use Rattle.lrp_top.specs.declared.outcome.Refusal.TheVariants.{ReadDatabase, LongDatabase, Database, ReadQuery, LongQuery, Query, PeriodLimit, BoundLimit, TokenForm, TokenShape, TokenStale, Cells, CanonHead, CanonRows, Memory}
+use Rattle.lrp_run_laws.proofs.Canonical.{OneRowCount}
 use Rattle.lrp_run_laws.proofs.Complete.{DatabaseTexts, QueryTexts, OneToken, no_longer, not_formless, not_other, not_stale}
 
 -- ---- agreeing results
@@ -215,7 +217,7 @@ plan_refused_alike db q _ _ (period_above a) (reach_above low b) = absurd (not_b
 plan_refused_alike db q _ _ (reach_above low a) (period_above b) = absurd (not_both (period db q.body) low b)
 plan_refused_alike db q _ _ (reach_above low a) (reach_above more b) = refl
 
-pub plan_agree : (db : List Relation) (q : Question) (r s : Result Plan Refusal) → IsPlanned db q r → IsPlanned db q s → Lasting r → Lasting s → Agree SameText r s
+plan_agree : (db : List Relation) (q : Question) (r s : Result Plan Refusal) → IsPlanned db q r → IsPlanned db q s → Lasting r → Lasting s → Agree SameText r s
 plan_agree db q = by_parts (IsPlanned db q) (IsPlanned db q) SameText
     (λ p r i j. same_lines 1 p.steps r.steps (plan db q) i.0.steps j.0.steps)
     (λ p f i j l. plan_stands db q i.1 f (plan_refused db q f j l))
@@ -253,6 +255,55 @@ cells_agree db q cap = by_parts (IsCounted db q cap) (IsCounted db q cap) Counte
     (λ a f i j l. cells_stand db q cap i f (cells_refused db q cap f j l))
     (λ e a i j l. cells_stand db q cap j e (cells_refused db q cap e i l))
     (λ e f i j l m. cells_refused_alike db q cap e f (cells_refused db q cap e i l) (cells_refused db q cap f j m))
+
+-- ---- the head, and the rows of a canonical answer
+
+data HeadRefused (q : Question) : Refusal → Type 0 where
+  unfit : time_columns q.head ≢ 1 → HeadRefused q CanonHead
+
+head_refused : (q : Question) (e : Refusal) → IsHeadFit true q (Err e) → HeadRefused q e
+head_refused q CanonHead is = unfit is
+head_refused q _ is = absurd is
+
+head_stands : (q : Question) → time_columns q.head ≡ 1 → (e : Refusal) → HeadRefused q e → ⊥
+head_stands q one _ (unfit other) = other one
+
+head_refused_alike : (q : Question) (e f : Refusal) → HeadRefused q e → HeadRefused q f → e ≡ f
+head_refused_alike q _ _ (unfit a) (unfit b) = refl
+
+fit_agree : (canon : Bool) (q : Question) (r s : Result (Unit {0}) Refusal) → IsHeadFit canon q r → IsHeadFit canon q s → Lasting r → Lasting s → Agree Counted r s
+fit_agree false q r s i j l m = subst (λ x. Agree Counted x s) (sym i) (subst (λ y. Agree {A = Unit {0}} Counted (Ok tt) y) (sym j) tt)
+fit_agree true q r s i j l m =
+    by_parts (IsHeadFit true q) (IsHeadFit true q) Counted
+    (λ a b i j. tt)
+    (λ a f i j l. head_stands q i f (head_refused q f j))
+    (λ e a i j l. head_stands q j e (head_refused q e i))
+    (λ e f i j l m. head_refused_alike q e f (head_refused q e i) (head_refused q f j)) r s i j l m
+
+-- the plan stands behind the head
+pub planned_agree : (canon : Bool) (db : List Relation) (q : Question) (r s : Result Plan Refusal) → IsPlannedAs canon db q r → IsPlannedAs canon db q s → Lasting r → Lasting s → Agree SameText r s
+planned_agree canon db q = then_agree (IsHeadFit canon q) (IsHeadFit canon q) (λ fit. IsPlanned db q) (λ fit. IsPlanned db q) Counted SameText (fit_agree canon q) (λ a b i j done. plan_agree db q)
+
+data RowsRefused (db : List Relation) (q : Question) (cap : ℕ) : Refusal → Type 0 where
+  many_rows : (n : ℕ) → HasCanonicalRows db q n → cap < n → RowsRefused db q cap (CanonRows cap)
+
+rows_refused : (db : List Relation) (q : Question) (cap : ℕ) (e : Refusal) → AreRowsCounted db q cap (Err e) → Lasts e → RowsRefused db q cap e
+rows_refused db q cap (CanonRows most) is l = subst (λ c. RowsRefused db q cap (CanonRows c)) (sym is.0) (many_rows is.1.0 is.1.1 is.1.2)
+rows_refused db q cap Memory is l = absurd l
+rows_refused db q cap _ is l = absurd is
+
+rows_stand : OneRowCount → (db : List Relation) (q : Question) (cap n : ℕ) → HasCanonicalRows db q n → n ≤ cap → (e : Refusal) → RowsRefused db q cap e → ⊥
+rows_stand one db q cap n is few _ (many_rows m again above) = let same : n ≡ m = one db q n m is again in omega arith
+
+rows_refused_alike : (db : List Relation) (q : Question) (cap : ℕ) (e f : Refusal) → RowsRefused db q cap e → RowsRefused db q cap f → e ≡ f
+rows_refused_alike db q cap _ _ (many_rows n i a) (many_rows m j b) = refl
+
+pub rows_agree : OneRowCount → (db : List Relation) (q : Question) (cap : ℕ) (r s : Result (Unit {0}) Refusal) → AreRowsCounted db q cap r → AreRowsCounted db q cap s → Lasting r → Lasting s → Agree Counted r s
+rows_agree one db q cap = by_parts (AreRowsCounted db q cap) (AreRowsCounted db q cap) Counted
+    (λ a b i j. tt)
+    (λ a f i j l. rows_stand one db q cap i.0 i.1 i.2 f (rows_refused db q cap f j l))
+    (λ e a i j l. rows_stand one db q cap j.0 j.1 j.2 e (rows_refused db q cap e i l))
+    (λ e f i j l m. rows_refused_alike db q cap e f (rows_refused db q cap e i l) (rows_refused db q cap f j m))
 
 -- ---- where a page begins
 

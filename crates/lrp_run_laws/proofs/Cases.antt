@@ -1,5 +1,5 @@
 -- How a run can come to what is due for its task: each case with all that is known there.
-use Rattle.std.proofs.Common.{◌≡◌, ◌<◌, ◌≤◌, ◌^◌, ℕ, ℤ, Bool, List, [], length, refl, sym, ap, subst, Option, Some, None, Result, Ok, Err}
+use Rattle.std.proofs.Common.{◌≡◌, ◌≢◌, ◌⊎◌, inl, inr, ◌<◌, ◌≤◌, ◌^◌, ℕ, ℤ, Bool, true, false, List, [], length, refl, sym, ap, subst, Option, Some, None, Result, Ok, Err}
 use Rattle.lrp_io.specs.Files.{content_of}
 use Rattle.lrp_io.specs.declared.shelf.File.{File}
 use Rattle.lrp_model.specs.AnswerTexts.{IsAnswerText}
@@ -8,16 +8,17 @@ use Rattle.lrp_model.specs.DatabaseReading.{IsDatabaseFault}
 use Rattle.lrp_model.specs.Formulas.{Question}
 use Rattle.lrp_model.specs.Pages.{Tuple}
 use Rattle.lrp_model.specs.Periods.{period}
-use Rattle.lrp_model.specs.Plans.{IsPlan, scaled_reach, IsWithinLimits}
+use Rattle.lrp_model.specs.Plans.{IsPlan, scaled_reach, IsWithinLimits, time_columns}
 use Rattle.lrp_model.specs.Texts.{Identifier, Text}
 use Rattle.lrp_model.specs.declared.faults.DbFault.{DbFault}
 use Rattle.lrp_model.specs.declared.faults.QueryFault.{QueryFault}
 use Rattle.lrp_model.specs.declared.plans.Plan.{Plan}
 use Rattle.lrp_model.specs.declared.relations.Relation.{Relation}
 use Rattle.lrp_token.specs.Reading.{IsNoToken, HasOtherCounts}
-use Rattle.lrp_top.specs.Due.{IsDatabaseReadOf, IsQueryRead, IsQueryReadOf, IsPlanned, IsCounted, IsOutput, IsExplained, IsAnswered, IsDecided, IsListed, IsPlannedFor}
+use Rattle.lrp_top.specs.Due.{IsDatabaseReadOf, IsQueryRead, IsQueryReadOf, IsHeadFit, IsPlanned, IsPlannedAs, IsCounted, AreRowsCounted, IsOutput, IsExplained, IsAnswered, IsDecided, IsListed, IsPlannedFor}
 use Rattle.lrp_run_laws.specs.Contents.{Contents, digest_of, SaysRelations, SaysQuestion}
 use Rattle.lrp_run_laws.specs.Tasks.{HasFewCells}
+use Rattle.lrp_top.specs.Canonical.{HasCanonicalRows, IsCanonicalText}
 use Rattle.lrp_top.specs.Outcomes.{Outcome}
 use Rattle.lrp_top.specs.Resuming.{IsResumed, IsStale, shape_of}
 use Rattle.lrp_top.specs.Seen.{ShelfSeen, AreBytesOf, HasFailed}
@@ -26,10 +27,11 @@ use Rattle.lrp_top.specs.Steps.{Then, Behind}
 use Rattle.lrp_top.specs.Telling.{TellsPage, TellsPlan, TellsWitness}
 use Rattle.lrp_top.specs.Written.{IsFaultyAs, plain_if}
 use Rattle.lrp_top.specs.declared.outcome.Refusal.{Refusal}
-use Rattle.lrp_top.specs.declared.outcome.Refusal.TheVariants.{ReadDatabase, LongDatabase, Database, ReadQuery, LongQuery, Query, PeriodLimit, BoundLimit, TokenForm, TokenShape, TokenStale, Cells, Memory}
+use Rattle.lrp_top.specs.declared.outcome.Refusal.TheVariants.{ReadDatabase, LongDatabase, Database, ReadQuery, LongQuery, Query, PeriodLimit, BoundLimit, TokenForm, TokenShape, TokenStale, Cells, CanonHead, CanonRows, Memory}
 
--- what a task asks of two files: how they are written and their names, the token of a page and the cap, where it has them
+-- what a task asks of two files: whether for a canonical answer, how they are written and their names, the token of a page and the cap, where it has them
 pub record Asked : Type 0 where
+  pub canon : Bool
   pub tense : Bool
   pub civil : Bool
   pub database : Identifier
@@ -54,6 +56,7 @@ pub data Onward (digest : List ℕ) (a : Asked) (db : List Relation) (q : Questi
   other : (text : Text) → a.after ≡ Some text → HasOtherCounts text (shape_of q.head) → Onward digest a db q Tells (Err TokenShape)
   stale : (text : Text) → a.after ≡ Some text → IsStale digest q.head text → Onward digest a db q Tells (Err TokenStale)
   many : (cap step : ℕ) → a.cap ≡ Some cap → (tuple : Option Tuple) → IsResumed digest q.head a.after (Ok tuple) → IsFirstMany db q cap step → Onward digest a db q Tells (Err (Cells cap step))
+  rows : (cap n : ℕ) → a.canon ≡ true → a.cap ≡ Some cap → HasCanonicalRows db q n → cap < n → Onward digest a db q Tells (Err (CanonRows cap))
   want : Onward digest a db q Tells (Err Memory)
 
 -- ---- the whole of it
@@ -65,6 +68,7 @@ pub data Case (seen : ShelfSeen) (a : Asked) (files : Contents) (Tells : Telling
   unread_query : (db : List Relation) → SaysRelations a.civil files db → HasFailed seen a.query → Case seen a files Tells (Err ReadQuery)
   long_query : (db : List Relation) → SaysRelations a.civil files db → 16777216 < length files.query → Case seen a files Tells (Err LongQuery)
   no_query : (db : List Relation) → SaysRelations a.civil files db → (fault : QueryFault) → length files.query ≤ 16777216 → IsFaultyAs a.tense db files.query fault → Case seen a files Tells (Err (Query fault))
+  no_head : (db : List Relation) → SaysRelations a.civil files db → (q : Question) → SaysQuestion a.tense files db q → a.canon ≡ true → time_columns q.head ≢ 1 → Case seen a files Tells (Err CanonHead)
   above_period : (db : List Relation) → SaysRelations a.civil files db → (q : Question) → SaysQuestion a.tense files db q → 2 ^ 62 < period db q.body → Case seen a files Tells (Err PeriodLimit)
   above_bound : (db : List Relation) → SaysRelations a.civil files db → (q : Question) → SaysQuestion a.tense files db q → period db q.body ≤ 2 ^ 62 → 2 ^ 62 < scaled_reach db q → Case seen a files Tells (Err BoundLimit)
   planned : (db : List Relation) → SaysRelations a.civil files db → (q : Question) → SaysQuestion a.tense files db q → IsWithinLimits db q → (p : Plan) → IsPlan p db q → (outcome : Outcome) → Onward (digest_of files) a db q (λ tuple. Tells (digest_of files) p tuple db q) outcome → Case seen a files Tells outcome
@@ -140,9 +144,31 @@ module _ (seen : ShelfSeen) (a : Asked) (Tells : Telling) (Due : Next) (goes_on 
   planned_as files db d q s outcome (Err Memory) is next = subst (Case seen a files Tells) (sym next) wanted
   planned_as files db d q s outcome (Err _) is next = absurd is
 
+  -- what is due behind a head that fits
+  abbrev AfterHead : Contents → List Relation → Question → Plan → Outcome → Type 0
+  AfterHead files db q = Due (record { bytes = files.database; says = db }) (record { bytes = files.query; says = q })
+
+  -- a plan stands behind the head; where the head is refused, so is the plan
+  behind_head : (db : List Relation) (q : Question) (plan : Result Plan Refusal) (fit : Result (Unit {0}) Refusal) → IsHeadFit a.canon q fit → Behind fit (λ fit. IsPlanned db q) plan → IsPlanned db q plan ⊎ ((a.canon ≡ true) × (time_columns q.head ≢ 1) × (plan ≡ Err CanonHead))
+  behind_head db q plan (Ok fit) is next = inl next
+  behind_head db q plan (Err refusal) is next = inr (refused_head a.canon refusal refl is next)
+    where
+      refused_head : (canon : Bool) (refusal : Refusal) → a.canon ≡ canon → IsHeadFit canon q (Err refusal) → plan ≡ Err refusal → (a.canon ≡ true) × (time_columns q.head ≢ 1) × (plan ≡ Err CanonHead)
+      refused_head false refusal e is next = cc
+      refused_head true CanonHead e is next = (e, is, next)
+      refused_head true _ e is next = absurd is
+
+  fitted_as : (files : Contents) (db : List Relation) → SaysRelations a.civil files db → (q : Question) → SaysQuestion a.tense files db q
+      → (outcome : Outcome) (plan : Result Plan Refusal) → IsPlannedAs a.canon db q plan → Behind plan (AfterHead files db q) outcome → Case seen a files Tells outcome
+  fitted_as files db d q s outcome plan is next =
+      elim (behind_head db q plan is.first is.is is.next) [
+        | inl fit ↦ planned_as files db d q s outcome plan fit next
+        | inr unfit ↦ subst (Case seen a files Tells) (sym (subst (λ p. Behind p (AfterHead files db q) outcome) unfit.2 next)) (no_head db d q s unfit.0 unfit.1)
+      ]
+
   -- what is due behind the query
   abbrev AfterQuery : Source (List Relation) → Source Question → Outcome → Type 0
-  AfterQuery d q = Then (IsPlanned d.says q.says) (Due d q)
+  AfterQuery d q = Then (IsPlannedAs a.canon d.says q.says) (Due d q)
 
   -- the query is read
   queried_as : (files : Contents) (db : List Relation) → SaysRelations a.civil files db
@@ -150,7 +176,7 @@ module _ (seen : ShelfSeen) (a : Asked) (Tells : Telling) (Due : Next) (goes_on 
   queried_as files db d outcome (Ok q) is next =
       let same : q ≡ record { bytes = files.query; says = q.says } = ap (λ bytes. ◌of◌ bytes q.says) is.0 in
       let then : AfterQuery (record { bytes = files.database; says = db }) (record { bytes = files.query; says = q.says }) outcome = subst (λ s. AfterQuery (record { bytes = files.database; says = db }) s outcome) same next in
-      planned_as files db d q.says (record { short = is.1; is = is.2 }) outcome then.first then.is then.next
+      fitted_as files db d q.says (record { short = is.1; is = is.2 }) outcome then.first then.is then.next
     where
       ◌of◌ : List ℕ → Question → Source Question
       ◌of◌ bytes q = record { bytes = bytes; says = q }
@@ -192,14 +218,35 @@ module _ (seen : ShelfSeen) (a : Asked) (Tells : Telling) (Due : Next) (goes_on 
   read_as outcome bytes told (Err _) is next = absurd is
 
   -- what is due for a task that asks a query comes so
-  pub reached : (outcome : Outcome) → IsPlannedFor a.tense a.civil seen a.database a.query Due outcome → Reached seen a Tells outcome
+  pub reached : (outcome : Outcome) → IsPlannedFor a.canon a.tense a.civil seen a.database a.query Due outcome → Reached seen a Tells outcome
   reached outcome due = read_as outcome due.is.bytes due.is.told due.first due.is.is due.next
 
 -- ---- the commands
 
-pub answer_goes_on : (a : Asked) (cap : ℕ) → a.cap ≡ Some cap → a.after ≡ None → GoesOn a (λ digest p tuple. IsAnswerText) (IsAnswered cap)
+pub answer_goes_on : (a : Asked) (cap : ℕ) → a.cap ≡ Some cap → a.after ≡ None → GoesOn a (λ digest p tuple. IsAnswerText) (IsAnswered false cap)
 answer_goes_on a cap e n files db q p outcome due =
     counted_as (digest_of files) a db q (λ tuple. IsAnswerText db q) None cap e (subst (λ t. IsResumed (digest_of files) q.head t (Ok None)) (sym n) refl) outcome due.first due.is due.next
+
+-- the rows of the canonical answer are counted, and then it is told
+rows_as : (digest : List ℕ) (a : Asked) (db : List Relation) (q : Question) (Tells : Option Tuple → List ℕ → Type 0) (tuple : Option Tuple) (cap : ℕ) → a.canon ≡ true → a.cap ≡ Some cap → IsResumed digest q.head a.after (Ok tuple) → IsFew a.cap db q
+    → (outcome : Outcome) (counted : Result (Unit {0}) Refusal) → AreRowsCounted db q cap counted → Behind counted (λ done. IsOutput (Tells tuple)) outcome → Onward digest a db q Tells outcome
+rows_as digest a db q Tells tuple cap c e resumed few outcome (Ok done) told next = written_as digest a db q Tells tuple resumed few outcome next
+rows_as digest a db q Tells tuple cap c e resumed few outcome (Err (CanonRows most)) told next =
+    subst (Onward digest a db q Tells) (sym next) (subst (λ m. Onward digest a db q Tells (Err (CanonRows m))) (sym told.0) (rows cap told.1.0 c e told.1.1 told.1.2))
+rows_as digest a db q Tells tuple cap c e resumed few outcome (Err Memory) told next = subst (Onward digest a db q Tells) (sym next) want
+rows_as digest a db q Tells tuple cap c e resumed few outcome (Err _) told next = absurd told
+
+cells_as : (digest : List ℕ) (a : Asked) (db : List Relation) (q : Question) (Tells : Option Tuple → List ℕ → Type 0) (tuple : Option Tuple) (cap : ℕ) → a.canon ≡ true → a.cap ≡ Some cap → IsResumed digest q.head a.after (Ok tuple)
+    → (outcome : Outcome) (counted : Result (Unit {0}) Refusal) → IsCounted db q cap counted → Behind counted (λ done. Then (AreRowsCounted db q cap) (λ rows. IsOutput (Tells tuple))) outcome → Onward digest a db q Tells outcome
+cells_as digest a db q Tells tuple cap c e resumed outcome (Ok done) few next = rows_as digest a db q Tells tuple cap c e resumed (subst (λ m. IsFew m db q) (sym e) few) outcome next.first next.is next.next
+cells_as digest a db q Tells tuple cap c e resumed outcome (Err (Cells most step)) told next =
+    subst (Onward digest a db q Tells) (sym (next)) (subst (λ m. Onward digest a db q Tells (Err (Cells m step))) (sym told.0) (many cap step e tuple resumed told.1))
+cells_as digest a db q Tells tuple cap c e resumed outcome (Err Memory) told next = subst (Onward digest a db q Tells) (sym next) want
+cells_as digest a db q Tells tuple cap c e resumed outcome (Err _) told next = absurd told
+
+pub canonical_goes_on : (a : Asked) (cap : ℕ) → a.canon ≡ true → a.cap ≡ Some cap → a.after ≡ None → GoesOn a (λ digest p tuple. IsCanonicalText) (IsAnswered true cap)
+canonical_goes_on a cap c e n files db q p outcome due =
+    cells_as (digest_of files) a db q (λ tuple. IsCanonicalText db q) None cap c e (subst (λ t. IsResumed (digest_of files) q.head t (Ok None)) (sym n) refl) outcome due.first due.is due.next
 
 pub decide_goes_on : (a : Asked) (cap : ℕ) → a.cap ≡ Some cap → a.after ≡ None → GoesOn a (λ digest p tuple. TellsWitness) (IsDecided cap)
 decide_goes_on a cap e n files db q p outcome due =

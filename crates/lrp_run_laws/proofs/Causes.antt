@@ -1,5 +1,5 @@
 -- Why a run ended as it did: from each case of what was due.
-use Rattle.std.proofs.Common.{◌≡◌, ◌≢◌, ◌⊎◌, inl, inr, ℕ, Bool, List, [], refl, sym, ap, ap₂, subst, ◌∙◌, Option, Some, None, Result, Ok, Err}
+use Rattle.std.proofs.Common.{◌≡◌, ◌≢◌, ◌⊎◌, inl, inr, ℕ, Bool, true, false, List, [], refl, sym, ap, ap₂, subst, ◌∙◌, Option, Some, None, Result, Ok, Err}
 use Rattle.lrp_io.specs.Bytes.{appended}
 use Rattle.lrp_io.specs.declared.shelf.File.{File}
 use Rattle.lrp_words.specs.Commands.{Task}
@@ -15,7 +15,8 @@ use Rattle.lrp_top.specs.Due.{IsDueOf, IsDueFor, IsDatabaseReadOf, IsOutput, IsA
 use Rattle.lrp_run_laws.specs.Contents.{Contents, contents_at, AreContentsFor, digest_of, OverDatabase, OverQuery, Asking, SaysRelations}
 use Rattle.lrp_run_laws.specs.Tasks.{IsOutputOf, TellsPlanOf, TellsPageBehind}
 use Rattle.lrp_run_laws.specs.Runs.{Run, WroteAll}
-use Rattle.lrp_run_laws.specs.Reasons.{IsNoDatabase, IsNoQuery, IsNoTokenOf, IsAbove, OfDatabase, IsQueryRefused, IsQueryAbove, HasFailedFile, HasFailedOneOf, IsReason, HasReasonFor, HasTaskReason, IsUsage}
+use Rattle.lrp_run_laws.specs.Reasons.{IsRefusedBehind, HasMany, HasManyRows, IsNoDatabase, IsNoQuery, IsNoTokenOf, IsAbove, OfDatabase, IsQueryRefused, IsQueryAbove, HasFailedFile, HasFailedOneOf, IsReason, HasReasonFor, HasTaskReason, IsUsage}
+use Rattle.lrp_top.specs.Canonical.{IsCanonicalText}
 use Rattle.lrp_top.specs.Outcomes.{Outcome, Ends, refused_with, status_of, written_of, line_of}
 use Rattle.lrp_top.specs.Resuming.{IsResumed}
 use Rattle.lrp_top.specs.Sampled.{TellsSample}
@@ -24,19 +25,19 @@ use Rattle.lrp_top.specs.Sources.{Source}
 use Rattle.lrp_top.specs.Steps.{Behind}
 use Rattle.lrp_top.specs.Telling.{TellsPage, TellsPlan, TellsRelations, TellsWitness}
 use Rattle.lrp_top.specs.declared.outcome.Refusal.{Refusal}
-use Rattle.lrp_top.specs.declared.outcome.Refusal.TheVariants.{Usage, ReadDatabase, LongDatabase, Database, ReadQuery, LongQuery, Query, PeriodLimit, BoundLimit, TokenForm, TokenShape, TokenStale, Cells, Memory}
+use Rattle.lrp_top.specs.declared.outcome.Refusal.TheVariants.{Usage, ReadDatabase, LongDatabase, Database, ReadQuery, LongQuery, Query, PeriodLimit, BoundLimit, TokenForm, TokenShape, TokenStale, Cells, CanonHead, CanonRows, Memory}
 use Rattle.lrp_top.specs.declared.status.Status.{Status}
 use Rattle.lrp_top.specs.declared.status.Status.TheVariants as status
-use Rattle.lrp_run_laws.proofs.Cases.{Asked, Telling, output, form, other, stale, many, want, Case, unread_database, long_database, no_database, unread_query, long_query, no_query, above_period, above_bound, planned, wanted, reached, answer_goes_on, decide_goes_on, explain_goes_on, list_goes_on}
+use Rattle.lrp_run_laws.proofs.Cases.{Asked, Telling, output, form, other, stale, many, rows, want, Case, unread_database, long_database, no_database, unread_query, long_query, no_query, no_head, above_period, above_bound, planned, wanted, reached, answer_goes_on, canonical_goes_on, decide_goes_on, explain_goes_on, list_goes_on}
 
 -- ---- a task that asks a query
 
 -- the query's refusals, and its limits
 abbrev RefusedFor : Asked → Contents → Type 0
-RefusedFor a files = OverDatabase a.civil files (λ db. IsNoQuery files a.tense db ⊎ OverQuery a.tense files (IsNoTokenOf (digest_of files) a.after) db)
+RefusedFor a files = OverDatabase a.civil files (λ db. IsNoQuery files a.tense db ⊎ OverQuery a.tense files (IsRefusedBehind a.canon (digest_of files) a.after) db)
 
 abbrev AboveFor : Asked → Contents → Type 0
-AboveFor a files = OverDatabase a.civil files (OverQuery a.tense files (IsAbove a.cap))
+AboveFor a files = OverDatabase a.civil files (OverQuery a.tense files (IsAbove a.canon a.cap))
 
 -- why the task is refused with a status
 abbrev RefusalFor : Asked → Contents → ShelfSeen → Status → Type 0
@@ -68,18 +69,21 @@ module _ (seen : ShelfSeen) (a : Asked) (files : Contents) (Tells : Telling) (Sh
   cause_of _ (unread_query db says failed) = inr (record { db = db; says = says; holds = failed })
   cause_of _ (long_query db says long) = record { db = db; says = says; holds = inl (inl long) }
   cause_of _ (no_query db says fault short is) = record { db = db; says = says; holds = inl (inr (fault, is)) }
+  cause_of _ (no_head db says q said asked unfit) = record { db = db; says = says; holds = inr (record { q = q; says = said; holds = inl (asked, unfit) }) }
   cause_of _ (above_period db says q said above) = record { db = db; says = says; holds = record { q = q; says = said; holds = inl above } }
   cause_of _ (above_bound db says q said period above) = record { db = db; says = says; holds = record { q = q; says = said; holds = inr (inl above) } }
   cause_of _ (planned db says q said limits p plan _ (output tuple resumed few bytes told)) =
       record { db = db; says = says; holds = record { q = q; says = said; holds = record { limits = limits; holds = show (digest_of files) p tuple db q bytes plan resumed told } } }
   cause_of _ (planned db says q said limits p plan _ (form text is none)) =
-      record { db = db; says = says; holds = inr (record { q = q; says = said; holds = subst (λ t. IsNoTokenOf (digest_of files) t db q) (sym is) (inl none) }) }
+      record { db = db; says = says; holds = inr (record { q = q; says = said; holds = inr (subst (λ t. IsNoTokenOf (digest_of files) t db q) (sym is) (inl none)) }) }
   cause_of _ (planned db says q said limits p plan _ (other text is counts)) =
-      record { db = db; says = says; holds = inr (record { q = q; says = said; holds = subst (λ t. IsNoTokenOf (digest_of files) t db q) (sym is) (inr (inl counts)) }) }
+      record { db = db; says = says; holds = inr (record { q = q; says = said; holds = inr (subst (λ t. IsNoTokenOf (digest_of files) t db q) (sym is) (inr (inl counts))) }) }
   cause_of _ (planned db says q said limits p plan _ (stale text is old)) =
-      record { db = db; says = says; holds = inr (record { q = q; says = said; holds = subst (λ t. IsNoTokenOf (digest_of files) t db q) (sym is) (inr (inr old)) }) }
+      record { db = db; says = says; holds = inr (record { q = q; says = said; holds = inr (subst (λ t. IsNoTokenOf (digest_of files) t db q) (sym is) (inr (inr old))) }) }
   cause_of _ (planned db says q said limits p plan _ (many cells step is tuple resumed first)) =
-      record { db = db; says = says; holds = record { q = q; says = said; holds = subst (λ c. IsAbove c db q) (sym is) (inr (inr (step, first))) } }
+      record { db = db; says = says; holds = record { q = q; says = said; holds = inr (inr (inl (subst (λ c. HasMany c db q) (sym is) (step, first)))) } }
+  cause_of _ (planned db says q said limits p plan _ (rows most n asked is counted more)) =
+      record { db = db; says = says; holds = record { q = q; says = said; holds = inr (inr (inr (asked, subst (λ c. HasManyRows c db q) (sym is) (n, counted, more)))) } }
   cause_of _ (planned db says q said limits p plan _ want) = tt
   cause_of _ wanted = tt
 
@@ -101,6 +105,8 @@ is_memory TokenForm e = cc
 is_memory TokenShape e = cc
 is_memory TokenStale e = cc
 is_memory (Cells most step) e = cc
+is_memory CanonHead e = cc
+is_memory (CanonRows most) e = cc
 
 -- what holds of a task's outcome over the bytes of its files: it is the output, or there is a cause
 abbrev OutcomeFor : Task → ShelfSeen → Contents → Outcome → Type 0
@@ -159,17 +165,26 @@ sample_written seed size seen files (Err _) told = absurd told
 
 -- each task
 pub explained : (task : Task) (seen : ShelfSeen) (outcome : Outcome) → IsDueOf task seen outcome → Explained task seen outcome
-explained (ask database query cap tense civil) seen outcome due =
-    let a : Asked = record { tense = tense; civil = civil; database = database; query = query; after = None; cap = Some cap } in
-    let r = reached seen a (λ digest p tuple. IsAnswerText) (IsAnswered cap) (answer_goes_on a cap refl refl) outcome due in
+explained (ask database query cap tense false civil) seen outcome due =
+    let a : Asked = record { canon = false; tense = tense; civil = civil; database = database; query = query; after = None; cap = Some cap } in
+    let r = reached seen a (λ digest p tuple. IsAnswerText) (IsAnswered false cap) (answer_goes_on a cap refl refl) outcome due in
     record {
       files = r.files;
       told = both_files seen r.files database query r.database r.query;
-      is = outcome_for a r.files seen (ask database query cap tense civil) (λ h. h) (λ h. h) (λ h. h) (λ h. h) (λ digest bytes db q. IsAnswerText db q bytes) (λ bytes h. h) outcome
+      is = outcome_for a r.files seen (ask database query cap tense false civil) (λ h. h) (λ h. h) (λ h. h) (λ h. h) (λ digest bytes db q. IsAnswerText db q bytes) (λ bytes h. h) outcome
           (cause_of seen a r.files (λ digest p tuple. IsAnswerText) (λ digest bytes db q. IsAnswerText db q bytes) (λ digest p tuple db q bytes plan resumed told. told) outcome r.case);
     }
+explained (ask database query cap tense true civil) seen outcome due =
+    let a : Asked = record { canon = true; tense = tense; civil = civil; database = database; query = query; after = None; cap = Some cap } in
+    let r = reached seen a (λ digest p tuple. IsCanonicalText) (IsAnswered true cap) (canonical_goes_on a cap refl refl refl) outcome due in
+    record {
+      files = r.files;
+      told = both_files seen r.files database query r.database r.query;
+      is = outcome_for a r.files seen (ask database query cap tense true civil) (λ h. h) (λ h. h) (λ h. h) (λ h. h) (λ digest bytes db q. IsCanonicalText db q bytes) (λ bytes h. h) outcome
+          (cause_of seen a r.files (λ digest p tuple. IsCanonicalText) (λ digest bytes db q. IsCanonicalText db q bytes) (λ digest p tuple db q bytes plan resumed told. told) outcome r.case);
+    }
 explained (decide database query cap tense civil) seen outcome due =
-    let a : Asked = record { tense = tense; civil = civil; database = database; query = query; after = None; cap = Some cap } in
+    let a : Asked = record { canon = false; tense = tense; civil = civil; database = database; query = query; after = None; cap = Some cap } in
     let r = reached seen a (λ digest p tuple. TellsWitness) (IsDecided cap) (decide_goes_on a cap refl refl) outcome due in
     record {
       files = r.files;
@@ -178,7 +193,7 @@ explained (decide database query cap tense civil) seen outcome due =
           (cause_of seen a r.files (λ digest p tuple. TellsWitness) (λ digest bytes db q. TellsWitness db q bytes) (λ digest p tuple db q bytes plan resumed told. told) outcome r.case);
     }
 explained (list database query from to limit after json cap tense civil) seen outcome due =
-    let a : Asked = record { tense = tense; civil = civil; database = database; query = query; after = after; cap = Some cap } in
+    let a : Asked = record { canon = false; tense = tense; civil = civil; database = database; query = query; after = after; cap = Some cap } in
     let r = reached seen a (λ digest p tuple db q. TellsPage db q from to tuple limit civil json digest) (IsListed civil from to limit after json cap) (list_goes_on a cap from to limit civil json refl) outcome due in
     record {
       files = r.files;
@@ -187,7 +202,7 @@ explained (list database query from to limit after json cap tense civil) seen ou
           (cause_of seen a r.files (λ digest p tuple db q. TellsPage db q from to tuple limit civil json digest) (λ digest. TellsPageBehind from to limit after civil json digest) (λ digest p tuple db q bytes plan resumed told. record { tuple = tuple; resumed = resumed; page = told }) outcome r.case);
     }
 explained (explain database query tense civil) seen outcome due =
-    let a : Asked = record { tense = tense; civil = civil; database = database; query = query; after = None; cap = None } in
+    let a : Asked = record { canon = false; tense = tense; civil = civil; database = database; query = query; after = None; cap = None } in
     let r = reached seen a (λ digest p tuple db q. TellsPlan p) IsExplained (explain_goes_on a refl refl) outcome due in
     record {
       files = r.files;

@@ -24,14 +24,15 @@ use Rattle.lrp_tense.specs.TenseReading.{IsTenseQuery, IsTenseQueryFault}
 use Rattle.lrp_tense.specs.Trees.{TenseQuestion}
 use Rattle.lrp_token.specs.Reading.{IsNoToken, HasOtherCounts}
 use Rattle.lrp_run_laws.specs.Contents.{Contents, digest_of, OverDatabase, OverQuery, Asking, SaysRelations, contents_of}
-use Rattle.lrp_run_laws.specs.Tasks.{IsLawfulTask, IsResumable, HasFewCells}
+use Rattle.lrp_run_laws.specs.Tasks.{IsAnswerable, IsLawfulTask, IsResumable, HasFewCells}
 use Rattle.lrp_run_laws.specs.Runs.{IsRunOf, IsComplete, EndsComplete, Run, task_asked, HaveStoodStill}
-use Rattle.lrp_run_laws.specs.Reasons.{IsReason, HasReasonFor, HasTaskReason, IsNoDatabase, IsNoQuery, IsNoTokenOf, HasMany, IsAbove, OfDatabase, IsQueryRefused, IsQueryAbove, HasFailedFile, HasFailedOneOf}
+use Rattle.lrp_run_laws.specs.Reasons.{HasManyRows, HasOtherHead, IsRefusedBehind, IsReason, HasReasonFor, HasTaskReason, IsNoDatabase, IsNoQuery, IsNoTokenOf, HasMany, IsAbove, OfDatabase, IsQueryRefused, IsQueryAbove, HasFailedFile, HasFailedOneOf}
 use Rattle.lrp_top.specs.Resuming.{IsResumed, IsFresh, IsTokenOf, IsStale, shape_of}
 use Rattle.lrp_top.specs.Seen.{ShelfSeen, SinkSeen, HasFailed}
 use Rattle.lrp_top.specs.Written.{IsSortedAs, IsFaultyAs, plain_if}
 use Rattle.lrp_top.specs.declared.status.Status.{Status}
 use Rattle.lrp_top.specs.declared.status.Status.TheVariants as status
+use Rattle.lrp_run_laws.proofs.Canonical.{OneRowCount}
 use Rattle.lrp_run_laws.proofs.Cases.{IsFew}
 use Rattle.lrp_run_laws.proofs.Causes.{run_cause}
 
@@ -101,11 +102,16 @@ module _ (one : OneToken) (digest : List ℕ) (head : List Column) (text : Text)
 
 -- ---- a task that asks a query
 
--- where a page begins, and no step has too many cells
-pub record IsFree (cap : Option ℕ) (after : Option Text) (digest : List ℕ) (db : List Relation) (q : Question) : Type 0 where
+-- where a page begins, and no step has too many cells; and where a canonical answer is asked for, its head has one time column and its rows are not too many
+pub record IsFree (canon : Bool) (cap : Option ℕ) (after : Option Text) (digest : List ℕ) (db : List Relation) (q : Question) : Type 0 where
   pub tuple : Option Tuple
   pub resumed : IsResumed digest q.head after (Ok tuple)
   pub few : IsFew cap db q
+  pub head : HasOtherHead canon q → ⊥
+  pub rows : canon ≡ true → HasManyRows cap db q → ⊥
+
+unasked : false ≡ true → ⊥
+unasked e = cc
 
 -- it has no token that is refused
 no_token : OneToken → (digest : List ℕ) (after : Option Text) (db : List Relation) (q : Question) (tuple : Option Tuple) → IsResumed digest q.head after (Ok tuple) → IsNoTokenOf digest after db q → ⊥
@@ -119,24 +125,34 @@ no_token one digest (Some text) db q (Some tuple) resumed h = elim h [
   ]
 ]
 
+-- nor a head that is
+no_refused : OneToken → (canon : Bool) (cap : Option ℕ) (digest : List ℕ) (after : Option Text) (db : List Relation) (q : Question) → IsFree canon cap after digest db q → IsRefusedBehind canon digest after db q → ⊥
+no_refused one canon cap digest after db q free h = elim h [
+  | inl other ↦ free.head other
+  | inr token ↦ no_token one digest after db q free.tuple free.resumed token
+]
+
 -- and no step with too many cells
 no_many : (cap : Option ℕ) (db : List Relation) (q : Question) → IsFew cap db q → HasMany cap db q → ⊥
 no_many None db q few h = h
 no_many (Some cap) db q few h = few h.0 h.1.is
 
-no_above : (cap : Option ℕ) (db : List Relation) (q : Question) → IsWithinLimits db q → IsFew cap db q → IsAbove cap db q → ⊥
-no_above cap db q limits few h = elim h [
+no_above : (canon : Bool) (cap : Option ℕ) (digest : List ℕ) (after : Option Text) (db : List Relation) (q : Question) → IsWithinLimits db q → IsFree canon cap after digest db q → IsAbove canon cap db q → ⊥
+no_above canon cap digest after db q limits free h = elim h [
   | inl above ↦ let within : period db q.body ≤ 2 ^ 62 = limits.period in omega arith
   | inr more ↦ elim more [
     | inl above ↦ let within : scaled_reach db q ≤ 2 ^ 62 = limits.reach in omega arith
-    | inr many ↦ no_many cap db q few many
+    | inr last ↦ elim last [
+      | inl many ↦ no_many cap db q free.few many
+      | inr rows ↦ free.rows rows.0 rows.1
+    ]
   ]
 ]
 
 pub no_longer : (n : ℕ) → n ≤ 16777216 → 16777216 < n → ⊥
 no_longer n short long = omega arith
 
-module _ (texts : DatabaseTexts) (tense civil : Bool) (queries : QueryTexts tense) (one : OneToken) (files : Contents) (cap : Option ℕ) (after : Option Text) (free : Asking tense civil files (IsFree cap after (digest_of files))) where
+module _ (texts : DatabaseTexts) (canon tense civil : Bool) (queries : QueryTexts tense) (one : OneToken) (files : Contents) (cap : Option ℕ) (after : Option Text) (free : Asking tense civil files (IsFree canon cap after (digest_of files))) where
   same_database : (db : List Relation) → SaysRelations civil files db → db ≡ free.db
   same_database db says = texts.one (plain_if civil files.database) db free.db says.is free.says.is
 
@@ -147,7 +163,7 @@ module _ (texts : DatabaseTexts) (tense civil : Bool) (queries : QueryTexts tens
   ]
 
   -- over the database that was read
-  query_here : IsNoQuery files tense free.db ⊎ OverQuery tense files (IsNoTokenOf (digest_of files) after) free.db → ⊥
+  query_here : IsNoQuery files tense free.db ⊎ OverQuery tense files (IsRefusedBehind canon (digest_of files) after) free.db → ⊥
   query_here h = elim h [
     | inl none ↦ elim none [
       | inl long ↦ no_longer (length files.query) free.holds.says.short long
@@ -155,19 +171,19 @@ module _ (texts : DatabaseTexts) (tense civil : Bool) (queries : QueryTexts tens
     ]
     | inr over ↦
         let same : over.q ≡ free.holds.q = queries.one free.db files.query over.q free.holds.q over.says.is free.holds.says.is in
-        no_token one (digest_of files) after free.db free.holds.q free.holds.holds.holds.tuple free.holds.holds.holds.resumed (subst (λ q. IsNoTokenOf (digest_of files) after free.db q) same over.holds)
+        no_refused one canon cap (digest_of files) after free.db free.holds.q free.holds.holds.holds (subst (λ q. IsRefusedBehind canon (digest_of files) after free.db q) same over.holds)
   ]
 
-  pub query_stands : OverDatabase civil files (λ db. IsNoQuery files tense db ⊎ OverQuery tense files (IsNoTokenOf (digest_of files) after) db) → ⊥
-  query_stands h = query_here (subst (λ db. IsNoQuery files tense db ⊎ OverQuery tense files (IsNoTokenOf (digest_of files) after) db) (same_database h.db h.says) h.holds)
+  pub query_stands : OverDatabase civil files (λ db. IsNoQuery files tense db ⊎ OverQuery tense files (IsRefusedBehind canon (digest_of files) after) db) → ⊥
+  query_stands h = query_here (subst (λ db. IsNoQuery files tense db ⊎ OverQuery tense files (IsRefusedBehind canon (digest_of files) after) db) (same_database h.db h.says) h.holds)
 
-  above_here : OverQuery tense files (IsAbove cap) free.db → ⊥
+  above_here : OverQuery tense files (IsAbove canon cap) free.db → ⊥
   above_here over =
       let same : over.q ≡ free.holds.q = queries.one free.db files.query over.q free.holds.q over.says.is free.holds.says.is in
-      no_above cap free.db free.holds.q free.holds.holds.limits free.holds.holds.holds.few (subst (λ q. IsAbove cap free.db q) same over.holds)
+      no_above canon cap (digest_of files) after free.db free.holds.q free.holds.holds.limits free.holds.holds.holds (subst (λ q. IsAbove canon cap free.db q) same over.holds)
 
-  pub limits_stand : OverDatabase civil files (OverQuery tense files (IsAbove cap)) → ⊥
-  limits_stand h = above_here (subst (OverQuery tense files (IsAbove cap)) (same_database h.db h.says) h.holds)
+  pub limits_stand : OverDatabase civil files (OverQuery tense files (IsAbove canon cap)) → ⊥
+  limits_stand h = above_here (subst (OverQuery tense files (IsAbove canon cap)) (same_database h.db h.says) h.holds)
 
 -- ---- a run
 
@@ -182,48 +198,63 @@ module _ (task : Task) (files : Contents) (seen : ShelfSeen) (taken : SinkSeen) 
   comes_so status.Write is = no_rise is
   comes_so status.Memory is = is
 
--- a query without a token begins nowhere
-from_start : (tense civil : Bool) (files : Contents) (cap : Option ℕ) (Holds : List Relation → Question → Type 0) → ((db : List Relation) (q : Question) → Holds db q → IsFew cap db q) → Asking tense civil files Holds → Asking tense civil files (IsFree cap None (digest_of files))
-from_start tense civil files cap Holds few h = record {
+-- where no canonical answer is asked for, no more is needed than where a page begins and few cells
+free_plain : (cap : Option ℕ) (after : Option Text) (digest : List ℕ) (db : List Relation) (q : Question) (tuple : Option Tuple) → IsResumed digest q.head after (Ok tuple) → IsFew cap db q → IsFree false cap after digest db q
+free_plain cap after digest db q tuple resumed few = record { tuple = tuple; resumed = resumed; few = few; head = λ other. unasked other.0; rows = λ asked. absurd (unasked asked) }
+
+-- an answer has one number of rows, so where they are few they are not many
+free_answer : OneRowCount → (canon : Bool) (cap : ℕ) (digest : List ℕ) (db : List Relation) (q : Question) → IsAnswerable canon cap db q → IsFree canon (Some cap) None digest db q
+free_answer one false cap digest db q few = free_plain (Some cap) None digest db q None refl few
+free_answer one true cap digest db q h = record {
+  tuple = None;
+  resumed = refl;
+  few = h.0;
+  head = λ other. other.1 h.1;
+  rows = λ asked many. not_more h.2.0 many.0 cap (one db q h.2.0 many.0 h.2.1 many.1) h.2.2 many.2;
+}
+  where
+    not_more : (n m cap : ℕ) → n ≡ m → n ≤ cap → cap < m → ⊥
+    not_more n m cap same few many = omega arith
+
+-- what holds of the query of a task
+asking : (tense civil : Bool) (files : Contents) (Holds Keeps : List Relation → Question → Type 0) → ((db : List Relation) (q : Question) → Holds db q → Keeps db q) → Asking tense civil files Holds → Asking tense civil files Keeps
+asking tense civil files Holds Keeps keep h = record {
   db = h.db;
   says = h.says;
-  holds = record { q = h.holds.q; says = h.holds.says; holds = record { limits = h.holds.holds.limits; holds = record { tuple = None; resumed = refl; few = few h.db h.holds.q h.holds.holds.holds } } };
+  holds = record { q = h.holds.q; says = h.holds.says; holds = record { limits = h.holds.holds.limits; holds = keep h.db h.holds.q h.holds.holds.holds } };
 }
 
-from_token : (tense civil : Bool) (files : Contents) (cap : ℕ) (after : Option Text) → Asking tense civil files (IsResumable cap after (digest_of files)) → Asking tense civil files (IsFree (Some cap) after (digest_of files))
-from_token tense civil files cap after h = record {
-  db = h.db;
-  says = h.says;
-  holds = record { q = h.holds.q; says = h.holds.says; holds = record { limits = h.holds.holds.limits; holds = record { tuple = h.holds.holds.holds.tuple; resumed = h.holds.holds.holds.resumed; few = h.holds.holds.holds.few } } };
-}
-
-module _ (texts : DatabaseTexts) (queries : (tense : Bool) → QueryTexts tense) (one : OneToken) (files : Contents) (run : Run) where
+module _ (texts : DatabaseTexts) (queries : (tense : Bool) → QueryTexts tense) (one : OneToken) (rows : OneRowCount) (files : Contents) (run : Run) where
   -- neither file failed
   none_failed : {civil : Bool} {database query : Identifier} → (HasFailed run.seen database → ⊥) → (HasFailed run.seen query → ⊥) → HasFailedOneOf run.seen files civil database query → ⊥
   none_failed first second (inl failed) = first failed
   none_failed first second (inr over) = second over.holds
 
-  asked_so : (task : Task) (tense civil : Bool) (cap : Option ℕ) (after : Option Text) → Asking tense civil files (IsFree cap after (digest_of files)) → HaveStoodStill task run
-      → (HasFailedFile run.seen files task → ⊥) → (OfDatabase (IsNoDatabase files) task → IsNoDatabase files civil) → (IsQueryRefused files task → OverDatabase civil files (λ db. IsNoQuery files tense db ⊎ OverQuery tense files (IsNoTokenOf (digest_of files) after) db))
-      → (IsQueryAbove files task → OverDatabase civil files (OverQuery tense files (IsAbove cap)))
+  asked_so : (task : Task) (canon tense civil : Bool) (cap : Option ℕ) (after : Option Text) → Asking tense civil files (IsFree canon cap after (digest_of files)) → HaveStoodStill task run
+      → (HasFailedFile run.seen files task → ⊥) → (OfDatabase (IsNoDatabase files) task → IsNoDatabase files civil) → (IsQueryRefused files task → OverDatabase civil files (λ db. IsNoQuery files tense db ⊎ OverQuery tense files (IsRefusedBehind canon (digest_of files) after) db))
+      → (IsQueryAbove files task → OverDatabase civil files (OverQuery tense files (IsAbove canon cap)))
       → (ended : Status) → IsReason ended task files run.seen run.taken → EndsComplete ended task files run.taken
-  asked_so task tense civil cap after free still failed database query above =
+  asked_so task canon tense civil cap after free still failed database query above =
       comes_so task files run.seen run.taken
-      (λ h. database_stands texts tense civil (queries tense) one files cap after free (database h))
-      (λ h. query_stands texts tense civil (queries tense) one files cap after free (query h))
-      (λ h. limits_stand texts tense civil (queries tense) one files cap after free (above h))
+      (λ h. database_stands texts canon tense civil (queries tense) one files cap after free (database h))
+      (λ h. query_stands texts canon tense civil (queries tense) one files cap after free (query h))
+      (λ h. limits_stand texts canon tense civil (queries tense) one files cap after free (above h))
       failed still.sink
 
   -- a run of a lawful task whose counts stood still is complete
   pub complete : (task : Task) → IsLawfulTask task files → HaveStoodStill task run → (ended : Status) → IsReason ended task files run.seen run.taken → EndsComplete ended task files run.taken
-  complete (ask database query cap tense civil) lawful still =
-      asked_so (ask database query cap tense civil) tense civil (Some cap) None (from_start tense civil files (Some cap) (HasFewCells cap) (λ db q h. h) lawful) still (none_failed still.files.0 still.files.1.0) (λ h. h) (λ h. h) (λ h. h)
+  complete (ask database query cap tense canon civil) lawful still =
+      let free = asking tense civil files (IsAnswerable canon cap) (IsFree canon (Some cap) None (digest_of files)) (free_answer rows canon cap (digest_of files)) lawful in
+      asked_so (ask database query cap tense canon civil) canon tense civil (Some cap) None free still (none_failed still.files.0 still.files.1.0) (λ h. h) (λ h. h) (λ h. h)
   complete (decide database query cap tense civil) lawful still =
-      asked_so (decide database query cap tense civil) tense civil (Some cap) None (from_start tense civil files (Some cap) (HasFewCells cap) (λ db q h. h) lawful) still (none_failed still.files.0 still.files.1.0) (λ h. h) (λ h. h) (λ h. h)
+      let free = asking tense civil files (HasFewCells cap) (IsFree false (Some cap) None (digest_of files)) (λ db q few. free_plain (Some cap) None (digest_of files) db q None refl few) lawful in
+      asked_so (decide database query cap tense civil) false tense civil (Some cap) None free still (none_failed still.files.0 still.files.1.0) (λ h. h) (λ h. h) (λ h. h)
   complete (list database query from to limit after json cap tense civil) lawful still =
-      asked_so (list database query from to limit after json cap tense civil) tense civil (Some cap) after (from_token tense civil files cap after lawful) still (none_failed still.files.0 still.files.1.0) (λ h. h) (λ h. h) (λ h. h)
+      let free = asking tense civil files (IsResumable cap after (digest_of files)) (IsFree false (Some cap) after (digest_of files)) (λ db q h. free_plain (Some cap) after (digest_of files) db q h.tuple h.resumed h.few) lawful in
+      asked_so (list database query from to limit after json cap tense civil) false tense civil (Some cap) after free still (none_failed still.files.0 still.files.1.0) (λ h. h) (λ h. h) (λ h. h)
   complete (explain database query tense civil) lawful still =
-      asked_so (explain database query tense civil) tense civil None None (from_start tense civil files None (λ db q. Unit {0}) (λ db q h. h) lawful) still (none_failed still.files.0 still.files.1.0) (λ h. h) (λ h. h) (λ h. h)
+      let free = asking tense civil files (λ db q. Unit {0}) (IsFree false None None (digest_of files)) (λ db q h. free_plain None None (digest_of files) db q None refl tt) lawful in
+      asked_so (explain database query tense civil) false tense civil None None free still (none_failed still.files.0 still.files.1.0) (λ h. h) (λ h. h) (λ h. h)
   complete (check database civil) lawful still =
       comes_so (check database civil) files run.seen run.taken
       (λ h. elim h [
@@ -235,7 +266,7 @@ module _ (texts : DatabaseTexts) (queries : (tense : Bool) → QueryTexts tense)
       comes_so (sample seed size) files run.seen run.taken (λ h. h) (λ h. h) (λ h. h) (λ h. h) still.sink
 
 -- over a shelf that tells its files
-pub complete_run : DatabaseTexts → ((tense : Bool) → QueryTexts tense) → OneToken → (task : Task) (held : List File) (run : Run) → IsRunOf task held run → IsLawfulTask task (contents_of held task) → HaveStoodStill task run → IsComplete task (contents_of held task) run
-complete_run texts queries one task held run is lawful still =
+pub complete_run : DatabaseTexts → ((tense : Bool) → QueryTexts tense) → OneToken → OneRowCount → (task : Task) (held : List File) (run : Run) → IsRunOf task held run → IsLawfulTask task (contents_of held task) → HaveStoodStill task run → IsComplete task (contents_of held task) run
+complete_run texts queries one rows task held run is lawful still =
     let cause : HasTaskReason task run = subst (λ t. HasReasonFor t run) is.spelled (run_cause (task_asked run) run is.may_happen.outcome is.may_happen.due is.may_happen.ends) in
-    complete texts queries one (contents_of held task) run task lawful still run.ended (subst (λ files. IsReason run.ended task files run.seen run.taken) (cause.told held is.told) cause.is)
+    complete texts queries one rows (contents_of held task) run task lawful still run.ended (subst (λ files. IsReason run.ended task files run.seen run.taken) (cause.told held is.told) cause.is)

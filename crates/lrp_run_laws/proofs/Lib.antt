@@ -1,8 +1,10 @@
 mod Cases
 mod Causes
+mod Canonical
 mod Complete
 mod Agree
 mod Alike
 mod One
 mod Digest
 mod Follow
+mod Told

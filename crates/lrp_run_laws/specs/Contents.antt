@@ -23,7 +23,7 @@ contents_at held database query = record { database = content_of held database; 
 
 -- those that files hold; a task that reads no query has no bytes of one
 abbrev pub contents_of : List File → Task → Contents
-contents_of held (ask database query cap tense civil) = contents_at held database query
+contents_of held (ask database query cap tense canon civil) = contents_at held database query
 contents_of held (decide database query cap tense civil) = contents_at held database query
 contents_of held (list database query from to limit after json cap tense civil) = contents_at held database query
 contents_of held (explain database query tense civil) = contents_at held database query

@@ -1,5 +1,5 @@
 -- Pages that follow one another.
-use Rattle.std.specs.Prelude.{◌≡◌, ℕ, ℤ, pos, neg_ℤ, ◌+◌, ◌≤ℤ◌, ◌≤◌, ◌^◌, Bool, true, List, ◌++◌, Option, Some, Ok}
+use Rattle.std.specs.Prelude.{◌≡◌, ℕ, ℤ, pos, neg_ℤ, ◌+◌, ◌≤ℤ◌, ◌^◌, Bool, true, List, ◌++◌, Option, Some, Ok}
 use Rattle.lrp_model.specs.Formulas.{Question}
 use Rattle.lrp_model.specs.Pages.{IsPage, Tuple, last_of}
 use Rattle.lrp_model.specs.PrintedPages.{token_of}

@@ -4,3 +4,4 @@ pub mod Runs
 pub mod Reasons
 pub mod Pairs
 pub mod Following
+pub mod SameAnswers

@@ -1,5 +1,5 @@
 -- Two runs that end alike.
-use Rattle.std.specs.Prelude.{◌≡◌, ℕ, List}
+use Rattle.std.specs.Prelude.{◌≡◌, ℕ, false, List}
 use Rattle.lrp_words.specs.Commands.{Task}
 use Rattle.lrp_words.specs.Commands.Task.{ask}
 use Rattle.lrp_model.specs.AnswerTexts.{IsAnswerText}
@@ -15,9 +15,9 @@ IsDecidedByFiles status.Read = ⊥
 IsDecidedByFiles status.Write = ⊥
 IsDecidedByFiles _ = Unit {0}
 
--- two outputs are one: for `ask` both are answer texts of what the files ask, and for every other task they are equal
+-- two outputs are one: for `ask` without a canonical answer both are answer texts of what the files ask, and for every other task they are equal
 abbrev pub AreOneOutput : Task → Contents → List ℕ → List ℕ → Type 0
-AreOneOutput (ask database query cap tense civil) files text other = Asking tense civil files (λ db q. IsAnswerText db q text × IsAnswerText db q other)
+AreOneOutput (ask database query cap tense false civil) files text other = Asking tense civil files (λ db q. IsAnswerText db q text × IsAnswerText db q other)
 AreOneOutput _ files text other = text ≡ other
 
 -- the texts of two runs that ended with this status: refusals are equal

@@ -1,5 +1,5 @@
 -- For each status why a run ended so.
-use Rattle.std.specs.Prelude.{◌⊎◌, ℕ, ◌<◌, ◌^◌, Bool, List, length, Option, Some, None}
+use Rattle.std.specs.Prelude.{◌≡◌, ◌≢◌, ◌⊎◌, ℕ, ◌<◌, ◌^◌, Bool, true, false, List, length, Option, Some, None}
 use Rattle.lrp_io.specs.Causes.{Rose}
 use Rattle.lrp_words.specs.Commands.{Task}
 use Rattle.lrp_words.specs.Commands.Task.{ask, decide, list, explain, check, sample}
@@ -7,12 +7,13 @@ use Rattle.lrp_model.specs.Caps.{IsFirstMany}
 use Rattle.lrp_model.specs.DatabaseReading.{IsDatabaseFault}
 use Rattle.lrp_model.specs.Formulas.{Question}
 use Rattle.lrp_model.specs.Periods.{period}
-use Rattle.lrp_model.specs.Plans.{scaled_reach}
+use Rattle.lrp_model.specs.Plans.{scaled_reach, time_columns}
 use Rattle.lrp_model.specs.Texts.{Identifier, Text}
 use Rattle.lrp_model.specs.declared.faults.DbFault.{DbFault}
 use Rattle.lrp_model.specs.declared.faults.QueryFault.{QueryFault}
 use Rattle.lrp_model.specs.declared.relations.Relation.{Relation}
 use Rattle.lrp_token.specs.Reading.{IsNoToken, HasOtherCounts}
+use Rattle.lrp_top.specs.Canonical.{HasCanonicalRows}
 use Rattle.lrp_top.specs.Outcomes.{line_of}
 use Rattle.lrp_top.specs.Resuming.{IsStale, shape_of}
 use Rattle.lrp_top.specs.Seen.{ShelfSeen, SinkSeen, HasFailed}
@@ -25,19 +26,19 @@ use Rattle.lrp_run_laws.specs.Runs.{Run, task_asked, WroteAll, WroteOutput}
 
 -- of a task that reads a database: this holds of whether times are civil ones
 abbrev pub OfDatabase : (Bool → Type 0) → Task → Type 0
-OfDatabase Holds (ask database query cap tense civil) = Holds civil
+OfDatabase Holds (ask database query cap tense canon civil) = Holds civil
 OfDatabase Holds (decide database query cap tense civil) = Holds civil
 OfDatabase Holds (list database query from to limit after json cap tense civil) = Holds civil
 OfDatabase Holds (explain database query tense civil) = Holds civil
 OfDatabase Holds (check database civil) = Holds civil
 OfDatabase Holds (sample seed size) = ⊥
 
--- of a task that asks a query: this holds of whether it may have temporal operators and times are civil ones, of the token and of the cap
-abbrev pub OfQuery : (Bool → Bool → Option Text → Option ℕ → Type 0) → Task → Type 0
-OfQuery Holds (ask database query cap tense civil) = Holds tense civil None (Some cap)
-OfQuery Holds (decide database query cap tense civil) = Holds tense civil None (Some cap)
-OfQuery Holds (list database query from to limit after json cap tense civil) = Holds tense civil after (Some cap)
-OfQuery Holds (explain database query tense civil) = Holds tense civil None None
+-- of a task that asks a query: this holds of whether a canonical answer is asked for, of whether it may have temporal operators and times are civil ones, of the token and of the cap
+abbrev pub OfQuery : (Bool → Bool → Bool → Option Text → Option ℕ → Type 0) → Task → Type 0
+OfQuery Holds (ask database query cap tense canon civil) = Holds canon tense civil None (Some cap)
+OfQuery Holds (decide database query cap tense civil) = Holds false tense civil None (Some cap)
+OfQuery Holds (list database query from to limit after json cap tense civil) = Holds false tense civil after (Some cap)
+OfQuery Holds (explain database query tense civil) = Holds false tense civil None None
 OfQuery Holds (check database civil) = ⊥
 OfQuery Holds (sample seed size) = ⊥
 
@@ -54,22 +55,35 @@ abbrev pub IsNoTokenOf : List ℕ → Option Text → List Relation → Question
 IsNoTokenOf digest None db q = ⊥
 IsNoTokenOf digest (Some text) db q = IsNoToken text ⊎ HasOtherCounts text (shape_of q.head) ⊎ IsStale digest q.head text
 
+-- a canonical answer is asked for, and the head has another number of time columns than one
+abbrev pub HasOtherHead : Bool → Question → Type 0
+HasOtherHead canon q = (canon ≡ true) × (time_columns q.head ≢ 1)
+
+-- the head or the token is refused
+abbrev pub IsRefusedBehind : Bool → List ℕ → Option Text → List Relation → Question → Type 0
+IsRefusedBehind canon digest after db q = HasOtherHead canon q ⊎ IsNoTokenOf digest after db q
+
 -- a step has more than cap cells; this is the first
 abbrev pub HasMany : Option ℕ → List Relation → Question → Type 0
 HasMany None db q = ⊥
 HasMany (Some cap) db q = (s : ℕ) × IsFirstMany db q cap s
 
--- the period is above 2^62, the scaled reach is, or a step has more than cap cells
-abbrev pub IsAbove : Option ℕ → List Relation → Question → Type 0
-IsAbove cap db q = (2 ^ 62 < period db q.body) ⊎ (2 ^ 62 < scaled_reach db q) ⊎ HasMany cap db q
+-- the canonical answer has more than cap rows
+abbrev pub HasManyRows : Option ℕ → List Relation → Question → Type 0
+HasManyRows None db q = ⊥
+HasManyRows (Some cap) db q = (n : ℕ) × HasCanonicalRows db q n × (cap < n)
 
--- there is no query over the database; or there is, and the token is refused
+-- the period is above 2^62, the scaled reach is, a step has more than cap cells, or a canonical answer is asked for and has more than cap rows
+abbrev pub IsAbove : Bool → Option ℕ → List Relation → Question → Type 0
+IsAbove canon cap db q = (2 ^ 62 < period db q.body) ⊎ (2 ^ 62 < scaled_reach db q) ⊎ HasMany cap db q ⊎ ((canon ≡ true) × HasManyRows cap db q)
+
+-- there is no query over the database; or there is, and the head or the token is refused
 abbrev pub IsQueryRefused : Contents → Task → Type 0
-IsQueryRefused files = OfQuery (λ tense civil after cap. OverDatabase civil files (λ db. IsNoQuery files tense db ⊎ OverQuery tense files (IsNoTokenOf (digest_of files) after) db))
+IsQueryRefused files = OfQuery (λ canon tense civil after cap. OverDatabase civil files (λ db. IsNoQuery files tense db ⊎ OverQuery tense files (IsRefusedBehind canon (digest_of files) after) db))
 
 -- there is a query over the database, and it is above a limit
 abbrev pub IsQueryAbove : Contents → Task → Type 0
-IsQueryAbove files = OfQuery (λ tense civil after cap. OverDatabase civil files (OverQuery tense files (IsAbove cap)))
+IsQueryAbove files = OfQuery (λ canon tense civil after cap. OverDatabase civil files (OverQuery tense files (IsAbove canon cap)))
 
 -- the count of faults of the database's name rose; or there is a database, and that of the query's name rose
 abbrev pub HasFailedOneOf : ShelfSeen → Contents → Bool → Identifier → Identifier → Type 0
@@ -77,7 +91,7 @@ HasFailedOneOf seen files civil database query = HasFailed seen database ⊎ Ove
 
 -- a file of the task failed
 abbrev pub HasFailedFile : ShelfSeen → Contents → Task → Type 0
-HasFailedFile seen files (ask database query cap tense civil) = HasFailedOneOf seen files civil database query
+HasFailedFile seen files (ask database query cap tense canon civil) = HasFailedOneOf seen files civil database query
 HasFailedFile seen files (decide database query cap tense civil) = HasFailedOneOf seen files civil database query
 HasFailedFile seen files (list database query from to limit after json cap tense civil) = HasFailedOneOf seen files civil database query
 HasFailedFile seen files (explain database query tense civil) = HasFailedOneOf seen files civil database query

@@ -1,15 +1,16 @@
 -- Tasks to which no refusal applies, and the output of a task.
-use Rattle.std.specs.Prelude.{ℕ, ℤ, Bool, List, Option, Ok}
+use Rattle.std.specs.Prelude.{◌≡◌, ◌≤◌, ℕ, ℤ, Bool, true, false, List, Option, Ok}
 use Rattle.lrp_words.specs.Commands.{Task}
 use Rattle.lrp_words.specs.Commands.Task.{ask, decide, list, explain, check, sample}
 use Rattle.lrp_model.specs.AnswerTexts.{IsAnswerText}
 use Rattle.lrp_model.specs.Caps.{ManyAt}
 use Rattle.lrp_model.specs.Formulas.{Question}
 use Rattle.lrp_model.specs.Pages.{Tuple}
-use Rattle.lrp_model.specs.Plans.{IsPlan}
+use Rattle.lrp_model.specs.Plans.{IsPlan, time_columns}
 use Rattle.lrp_model.specs.Texts.{Text}
 use Rattle.lrp_model.specs.declared.plans.Plan.{Plan}
 use Rattle.lrp_model.specs.declared.relations.Relation.{Relation}
+use Rattle.lrp_top.specs.Canonical.{HasCanonicalRows, IsCanonicalText}
 use Rattle.lrp_top.specs.Resuming.{IsResumed}
 use Rattle.lrp_top.specs.Sampled.{TellsSample}
 use Rattle.lrp_top.specs.Telling.{TellsPage, TellsPlan, TellsRelations, TellsWitness}
@@ -27,9 +28,19 @@ pub record IsResumable (cap : ℕ) (after : Option Text) (digest : List ℕ) (db
   pub resumed : IsResumed digest q.head after (Ok tuple)
   pub few : HasFewCells cap db q
 
+-- no step has more than cap inhabited cells; and where a canonical answer is asked for, the head has one time column and the answer has at most cap rows
+abbrev pub IsAnswerable : Bool → ℕ → List Relation → Question → Type 0
+IsAnswerable false cap db q = HasFewCells cap db q
+IsAnswerable true cap db q = HasFewCells cap db q × (time_columns q.head ≡ 1) × ((n : ℕ) × HasCanonicalRows db q n × (n ≤ cap))
+
+-- the text is that of all answers, as they come or in canonical form
+abbrev pub IsTextFor : Bool → List Relation → Question → List ℕ → Type 0
+IsTextFor false = IsAnswerText
+IsTextFor true = IsCanonicalText
+
 -- no refusal applies to the task; none ever does to the sample
 abbrev pub IsLawfulTask : Task → Contents → Type 0
-IsLawfulTask (ask database query cap tense civil) files = Asking tense civil files (HasFewCells cap)
+IsLawfulTask (ask database query cap tense canon civil) files = Asking tense civil files (IsAnswerable canon cap)
 IsLawfulTask (decide database query cap tense civil) files = Asking tense civil files (HasFewCells cap)
 IsLawfulTask (list database query from to limit after json cap tense civil) files = Asking tense civil files (IsResumable cap after (digest_of files))
 IsLawfulTask (explain database query tense civil) files = Asking tense civil files (λ db q. Unit {0})
@@ -52,7 +63,7 @@ pub record TellsPlanOf (output : List ℕ) (db : List Relation) (q : Question) :
 
 -- the bytes are the task's output over the contents of its files
 abbrev pub IsOutputOf : Task → Contents → List ℕ → Type 0
-IsOutputOf (ask database query cap tense civil) files output = Asking tense civil files (λ db q. IsAnswerText db q output)
+IsOutputOf (ask database query cap tense canon civil) files output = Asking tense civil files (λ db q. IsTextFor canon db q output)
 IsOutputOf (decide database query cap tense civil) files output = Asking tense civil files (λ db q. TellsWitness db q output)
 IsOutputOf (list database query from to limit after json cap tense civil) files output =
     Asking tense civil files (TellsPageBehind from to limit after civil json (digest_of files) output)

@@ -10,8 +10,10 @@ ghost use Rattle.lrp_run_laws.specs.Tasks.{IsLawfulTask};
 ghost use Rattle.lrp_run_laws.specs.Runs.{HaveStoodStill, IsComplete, IsRunOf, MayHappen, Run};
 ghost use Rattle.lrp_run_laws.specs.Reasons.{HasReason};
 ghost use Rattle.lrp_run_laws.specs.Pairs.{EndedAlike, IsDecidedByFiles};
+ghost use Rattle.lrp_run_laws.specs.SameAnswers.{HasToldCanonical, HaveSameAnswers, WroteAlike};
 ghost use Rattle.lrp_run_laws.specs.Following.{IsFollowed, IsShortWindow, IsUnfinished};
 
+use lrp_canon::answer_texts_are_unique;
 use lrp_eval::counts_are_unique;
 use lrp_model::{
     pages_are_unique, pages_resume, ranks_differ, texts_in_order, tokens_spell_one_tuple,
@@ -75,6 +77,26 @@ pub fn runs_have_one_outcome()
     ranks_differ();
     tuples_are_times_and_texts();
     counts_are_unique();
+    answer_texts_are_unique();
+}
+
+/// Two runs that told the canonical answers of two queries, each over its own database, wrote the same bytes where the queries
+/// have one head and the same answers.
+pub fn equal_answers_equal_bytes()
+    ensures { (run other : Run) (db further : List Relation) (q r : Question)
+        → HasToldCanonical run db q
+        → HasToldCanonical other further r
+        → HaveSameAnswers db further q r
+        → WroteAlike run other }
+{
+    texts_are_of_one_database();
+    databases_have_no_fault();
+    texts_are_of_one_query();
+    queries_have_no_fault();
+    texts_are_one_query();
+    tense_queries_have_no_fault();
+    well_sorted_queries_have_no_fault();
+    answer_texts_are_unique();
 }
 
 /// Of a page of what two files ask, behind which more is to come, the token of the last tuple and of these files is resumed

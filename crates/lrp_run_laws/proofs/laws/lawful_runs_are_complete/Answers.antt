@@ -1,3 +1,5 @@
+use Rattle.lrp_canon.proofs.CountLaws.{one_row_count}
+use Rattle.lrp_top.specs.Canonical.{HasNumber}
 use Rattle.lrp_run_laws.proofs.Complete.{complete_run, each_texts, plain_texts, tense_texts}
 use Rattle.lrp_run_laws.proofs.laws.lawful_runs_are_complete.Goals as goal
 
@@ -5,4 +7,4 @@ pub returns : goal.returns
 returns c = complete_run (record { one = c.texts_are_of_one_database.ensures; faultless = c.databases_have_no_fault.ensures })
     (each_texts (plain_texts c.texts_are_of_one_query.ensures c.queries_have_no_fault.ensures c.well_sorted_queries_have_no_fault.ensures)
     (tense_texts c.texts_are_one_query.ensures.one c.tense_queries_have_no_fault.ensures c.well_sorted_queries_have_no_fault.ensures))
-    c.tokens_spell_one_tuple.ensures
+    c.tokens_spell_one_tuple.ensures (λ db q. one_row_count (HasNumber db q))

@@ -1,0 +1,36 @@
+-- Runs that told the canonical answers of two queries with the same answers.
+use Rattle.std.specs.Prelude.{◌≡◌, ◌↔◌, ℕ, Bool, true, List}
+use Rattle.lrp_io.specs.declared.shelf.File.{File}
+use Rattle.lrp_words.specs.Commands.Task.{ask}
+use Rattle.lrp_model.specs.Formulas.{Question}
+use Rattle.lrp_model.specs.Pages.{Tuple}
+use Rattle.lrp_model.specs.Satisfaction.{IsAnswer}
+use Rattle.lrp_model.specs.Texts.{Identifier}
+use Rattle.lrp_model.specs.declared.relations.Relation.{Relation}
+use Rattle.lrp_top.specs.declared.status.Status.TheVariants as status
+use Rattle.lrp_run_laws.specs.Contents.{contents_at, SaysQuestion, SaysRelations}
+use Rattle.lrp_run_laws.specs.Runs.{IsRunOf, Run, WroteAll}
+
+-- the queries, each over its relations, have one head and the same answers
+pub record HaveSameAnswers (db further : List Relation) (q r : Question) : Type 0 where
+  pub head : q.head ≡ r.head
+  pub answers : (tuple : Tuple) → IsAnswer db q tuple ↔ IsAnswer further r tuple
+
+-- a run that asks for the canonical answer, over files that say these relations and this query, ended with Done
+pub record HasToldCanonical (run : Run) (db : List Relation) (q : Question) : Type 0 where
+  pub database : Identifier
+  pub query : Identifier
+  pub cap : ℕ
+  pub tense : Bool
+  pub civil : Bool
+  pub held : List File
+  pub is : IsRunOf (ask database query cap tense true civil) held run
+  pub relations : SaysRelations civil (contents_at held database query) db
+  pub question : SaysQuestion tense (contents_at held database query) db q
+  pub done : run.ended ≡ status.Done
+
+-- both wrote the same bytes, and nothing else
+pub record WroteAlike (run other : Run) : Type 0 where
+  pub text : List ℕ
+  pub written : WroteAll run.taken text
+  pub written_again : WroteAll other.taken text
