@@ -12,11 +12,14 @@ use lrp_model::{List, Memory, Plan};
 use lrp_rel::Database;
 use lrp_tables::{StepFault, Table};
 use std::alloc::Global;
+use thiserror::Error;
 
 /// Why a plan has no answer: a step has too many cells, or memory was refused. Steps are numbered from 1.
-#[derive(Clone, Copy, Debug, PartialEq, Eq)]
+#[derive(Clone, Copy, Debug, PartialEq, Eq, Error)]
 pub enum EvalFault {
+    #[error("more cells than the cap at step {step}")]
     TooManyCells { step: u32 },
+    #[error("memory")]
     Memory,
 }
 

@@ -12,11 +12,14 @@ use lrp_slots::{Cells, Slots};
 use lrp_zone::Zone;
 use std::alloc::Global;
 use std::marker::Model;
+use thiserror::Error;
 
 /// Why nothing was added: the cell would be one too many, or memory was refused.
-#[derive(Clone, Copy, Debug, PartialEq, Eq)]
+#[derive(Clone, Copy, Debug, PartialEq, Eq, Error)]
 pub enum StoreFault {
+    #[error("more cells than the cap")]
     TooManyCells,
+    #[error("memory")]
     Memory,
 }
 

@@ -4,11 +4,14 @@ ghost use Rattle.std.specs.Prelude.{◌≡◌, ◌≢◌, ◌++◌, length, AllP
 use crate::store::{Store, StoreFault};
 use lrp_model::{Copies, List, Memory, Name};
 use std::alloc::Global;
+use thiserror::Error;
 
 /// Why a step of a plan gave no table.
-#[derive(Clone, Copy, Debug, PartialEq, Eq)]
+#[derive(Clone, Copy, Debug, PartialEq, Eq, Error)]
 pub enum StepFault {
+    #[error("more cells than the cap")]
     TooManyCells,
+    #[error("memory")]
     Memory,
 }
 

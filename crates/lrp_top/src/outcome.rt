@@ -10,10 +10,11 @@ use crate::page::Page;
 use crate::plan::WritablePlan;
 use crate::report::Report;
 use crate::witness::Witness;
-use lrp_model::{DbFault, QueryFault, QueryRead};
+use lrp_model::{DbFault, LIMIT, QueryFault, QueryRead};
 use lrp_plan::PlanFault;
 use lrp_rel::Database;
 use lrp_token::TokenFault;
+use thiserror::Error;
 
 /// What a command writes.
 #[derive(Drop)]
@@ -32,40 +33,56 @@ pub enum Output {
     Sample(Report),
 }
 
-/// Why a command is refused.
-#[derive(Clone, Copy, Debug, PartialEq, Eq)]
+/// Why a command is refused. Each is shown in the words of its line.
+#[derive(Clone, Copy, Debug, PartialEq, Eq, Error)]
 pub enum Refusal {
     /// The words are no command.
+    #[error("usage")]
     Usage,
     /// The database's file could not be read.
+    #[error("read of database")]
     ReadDatabase,
     /// The database's file has more bytes than a file may have.
+    #[error("database longer than 16777216 bytes")]
     LongDatabase,
     /// The database's text has a fault.
+    #[error("{0}")]
     Database(DbFault),
     /// The query's file could not be read.
+    #[error("read of query")]
     ReadQuery,
     /// The query's file has more bytes than a file may have.
+    #[error("query longer than 16777216 bytes")]
     LongQuery,
     /// The query's text has a fault, or its sorts over the database.
+    #[error("{0}")]
     Query(QueryFault),
     /// The query's period is above 2^62.
+    #[error("period above {LIMIT}")]
     PeriodLimit,
     /// The query's reach is above 2^62, doubled once and once more for each time column of the head.
+    #[error("bound above {LIMIT}")]
     BoundLimit,
     /// The token of a page is no token.
+    #[error("token form")]
     TokenForm,
     /// The token has other counts of times or texts than the head.
+    #[error("token shape")]
     TokenShape,
     /// The token is of other files.
+    #[error("token stale")]
     TokenStale,
     /// A step has more than `cap` inhabited cells; the first such step, from 1.
+    #[error("more than {cap} cells at step {step}")]
     Cells { cap: u32, step: u32 },
     /// A canonical answer is asked for, and the head has another number of time columns than one.
+    #[error("canon needs one time column")]
     CanonHead,
     /// The canonical answer has more than `cap` rows.
+    #[error("more than {cap} canonical rows")]
     CanonRows { cap: u32 },
     /// Memory was refused.
+    #[error("memory")]
     Memory,
 }
 
