@@ -1,3 +1,2 @@
--- Heads column by column, and tables of one time.
+-- Heads column by column.
 mod Heads
-mod PointTables

@@ -1,11 +1,10 @@
--- The three names differ, and the reach is small.
-use Rattle.std.proofs.Common.{◌≡◌, ◌≢◌, ℕ, [], ◌∷◌, ◌++◌, ◌^◌, length, sym, ap, subst, ◌∙◌, arith, get_or}
+-- The three names differ.
+use Rattle.std.proofs.Common.{◌≡◌, ◌≢◌, ℕ, [], ◌∷◌, ◌++◌, length, sym, ap, subst, ◌∙◌, arith, get_or}
 use Rattle.std.specs.Prelude.{AllPairs}
 use Rattle.std.proofs.lemmas.List.Elements.{All-cons, All-nil}
 use Rattle.std.proofs.lemmas.List.Kept.{AllPairs-cons}
 use Rattle.lrp_model.specs.Texts.{Identifier}
-use Rattle.lrp_minus.proofs.DifferenceLaws.{farther}
-use Rattle.lrp_table_tests.proofs.drops.table_of.Goals as goal
+use Rattle.lrp_table_tests.proofs.copies.table_of.Goals as goal
 
 letter_apart : (a b : ℕ) → a ≢ b → ◌≢◌ {A = Identifier} (a ∷ []) (b ∷ [])
 letter_apart a b n e = n (ap (λ l. get_or l 0 0) e)
@@ -23,6 +22,3 @@ invariant_of-result g c =
       texts_named = ap length texts ∙ sym c.store_of-store.ensures.texts;
       names_differ = subst (λ l. AllPairs {X = Identifier} ◌≢◌ (l ++ c.push-3.new.names)) (sym times) (subst (λ l. AllPairs {X = Identifier} ◌≢◌ ((120 ∷ []) ∷ (121 ∷ []) ∷ l)) (sym texts) three);
     }
-
-pub returns : goal.returns
-returns g c = farther c.store_of-store.result (2 ^ 55) (2 ^ 61) (omega arith) c.store_of-store.ensures.reach
