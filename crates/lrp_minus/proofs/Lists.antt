@@ -1,8 +1,8 @@
 -- Lists of zones: what is in them, and pairs of their elements.
-use Rattle.std.proofs.Common.{length-append, zero, suc, take, ap, ◌∙◌, add-zero, zero-add, ◌≡◌, ℕ, ◌+◌, ◌-◌, ◌<◌, ◌≤◌, ◌⊎◌, inl, inr, List, [], ◌∷◌, ◌++◌, length, get_or, arith, refl, sym, subst}
+use Rattle.std.proofs.Common.{length-append, zero, suc, take, drop, ap, ◌∙◌, add-zero, zero-add, ◌≡◌, ℕ, ◌+◌, ◌-◌, ◌<◌, ◌≤◌, ◌⊎◌, inl, inr, List, [], ◌∷◌, ◌++◌, length, get_or, arith, refl, sym, subst}
 use Rattle.std.specs.Prelude.{ℤ, pos, Contains, AllPairs, map, flat_map, slice_get, Some, Result, Ok, Err, IfOk, OnOk}
 use Rattle.std.specs.List.{range_with_len}
-use Rattle.std.proofs.lemmas.List.{get_or_append_left, get_or-append_right, take_more, get_or-take, get_or_default, length-take-le}
+use Rattle.std.proofs.lemmas.List.{get_or_append_left, get_or-append_right, take_more, get_or-take, get_or_default, length-drop, length-take-le}
 use Rattle.std.proofs.lemmas.List.Elements.{Contains-get_or, Contains-append_left, Contains-append_right, Contains-append_cases, Contains-push_cases}
 use Rattle.std.proofs.lemmas.List.FromFn.{length-range_with_len, get_or-range_with_len}
 use Rattle.std.proofs.lemmas.Option.{slice_get_within, get_or_from_slice_get}
@@ -215,3 +215,39 @@ one_of (x ∷ y ∷ ys) h = absurd (omega arith)
 -- what is read at a place is in the list
 pub got_in : {X : Type 0} (xs : List X) (i : ℕ) (x : X) → slice_get xs i ≡ Some x → Contains xs x
 got_in xs i x e = (i, slice_get_within xs i x e, get_or_from_slice_get xs i x x e)
+
+-- a list was read up to a place, of which something holds
+pub record IsReadTo {X : Type 0} (P : ℕ → Type 0) (all left : List X) : Type 0 where
+  pub place : ℕ
+  pub within : place ≤ length all
+  pub rest : left ≡ drop place all
+  pub holds : P place
+
+-- the place where reading begins
+pub read_begins : {X : Type 0} (P : ℕ → Type 0) (all left : List X) → left ≡ all → P 0 → IsReadTo P all left
+read_begins P all left e p = record { place = 0; within = omega arith; rest = e; holds = p }
+
+drop_next : {X : Type 0} (all : List X) (n : ℕ) (x : X) (rest : List X) → drop n all ≡ x ∷ rest → (slice_get all n ≡ Some x) × (n < length all) × (drop (n + 1) all ≡ rest)
+drop_next [] zero x rest e = cc
+drop_next [] (suc n) x rest e = cc
+drop_next (y ∷ all) zero x rest e = let same : y ≡ x = cc in let tail : all ≡ rest = cc in (ap Some same, omega arith, tail)
+drop_next (y ∷ all) (suc n) x rest e = let g = drop_next all n x rest e in let l : n < length all = g.1 in let later : suc n + 1 ≡ suc (n + 1) = omega arith in (g.0, omega arith, ap (λ m. drop m (y ∷ all)) later ∙ g.2)
+
+-- what stands there is read next
+pub read_next : {X : Type 0} (P : ℕ → Type 0) (all left : List X) (r : IsReadTo P all left) (x : X) (rest : List X) → left ≡ x ∷ rest → slice_get all r.place ≡ Some x
+read_next P all left r x rest e = (drop_next all r.place x rest (sym r.rest ∙ e)).0
+
+-- and the place behind it follows
+pub read_goes : {X : Type 0} (P Q : ℕ → Type 0) (all left : List X) (r : IsReadTo P all left) (x : X) (rest : List X) → left ≡ x ∷ rest → Q (r.place + 1) → IsReadTo Q all rest
+read_goes P Q all left r x rest e q =
+    let g = drop_next all r.place x rest (sym r.rest ∙ e) in
+    let l : r.place < length all = g.1 in
+    record { place = r.place + 1; within = omega arith; rest = sym g.2; holds = q }
+
+-- at the end all was read
+pub read_ends : {X : Type 0} (P : ℕ → Type 0) (all left : List X) (r : IsReadTo P all left) → left ≡ [] → r.place ≡ length all
+read_ends P all left r e =
+    let n : length (drop r.place all) ≡ 0 = ap length (sym r.rest ∙ e) in
+    let m : length (drop r.place all) ≡ length all - r.place = length-drop r.place all in
+    let w = r.within in
+    omega arith

@@ -1,11 +1,11 @@
 -- Zones of one column as intervals of the numbers of a cell.
-use Rattle.std.specs.Prelude.{◌≡◌, ℕ, ℤ, ◌+◌, ◌-◌, get_or, ◌^◌, ◌≤◌, ◌⊎◌, List, [], ◌∷◌, ◌++◌, Option, Some, None, Contains, AllPairs, pos, nat_abs, ◌+ℤ◌, ◌-ℤ◌, ◌<ℤ◌}
+use Rattle.std.specs.Prelude.{◌≡◌, ℕ, ℤ, ◌+◌, ◌^◌, ◌≤◌, ◌⊎◌, List, [], ◌∷◌, ◌++◌, Option, Some, None, Contains, AllPairs, pos, nat_abs, ◌+ℤ◌, ◌-ℤ◌, ◌<ℤ◌}
 use Rattle.lrp_theory.specs.Bounds.{Within}
 use Rattle.lrp_theory.specs.Divides.{Divides}
 use Rattle.lrp_theory.specs.Entries.{entry, node, AtMost}
 use Rattle.lrp_matrix.specs.Ranges.{Above, negation}
 use Rattle.lrp_model.specs.declared.relations.Bound.{Bound}
-use Rattle.lrp_zone.specs.Zones.{ZoneView, IsZone, IsMember, reach_of}
+use Rattle.lrp_zone.specs.Zones.{ZoneView, IsZone, IsMember, columns_of, reach_of}
 use Rattle.lrp_zone.specs.Pairs.{IsOfCell}
 use Rattle.lrp_store.specs.Settled.{InSome}
 use Rattle.lrp_minus.specs.declared.intervals.Interval.{Interval}
@@ -92,9 +92,17 @@ pub record InInterval (z : ZoneView) (vs : List Interval) (x : ℤ) : Type 0 whe
 pub record IsFarBelow (u v : ZoneView) : Type 0 where
   pub far : (x y : ℤ) → IsMember u (x ∷ []) → IsMember v (y ∷ []) → (x +ℤ pos u.period) <ℤ y
 
--- each zone at place i is far behind the one before it
-abbrev pub AreFarAt : List ZoneView → ℕ → Type 0
-AreFarAt zones i = (d : ZoneView) → IsFarBelow (get_or zones (i - 1) d) (get_or zones i d)
+-- each zone is far behind the one before it
+abbrev pub AreFarInTurn : ZoneView → List ZoneView → Type 0
+AreFarInTurn z [] = Unit {0}
+AreFarInTurn z (w ∷ ws) = IsFarBelow z w × AreFarInTurn w ws
+
+-- a zone of this period with one column, whose bounds leave room for the period
+pub record IsOnLine (period : ℤ) (z : ZoneView) : Type 0 where
+  pub valid : IsZone z
+  pub column : columns_of z ≡ 1
+  pub period_is : period ≡ pos z.period
+  pub room : reach_of z + z.period ≤ 2 ^ 62
 
 -- the zones hold the numbers of the intervals, ascending, and a number of the cell lies between each two
 pub record AreMerged (z : ZoneView) (vs : List Interval) (zones : List ZoneView) : Type 0 where

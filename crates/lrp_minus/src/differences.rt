@@ -130,10 +130,7 @@ fn add_cell(
     out.shape();
     left.shape();
     let cutters = cutters_of(alloc, left, cell, right, places)?;
-    for i in 0..left.count(cell) {
-        let Some(zone) = left.zone(cell, i) else {
-            unreachable!()
-        };
+    for zone in left.zones_of(cell) {
         match add_left(alloc, &zone, &cutters, cell, cap, out) {
             Ok(()) => {}
             Err(fault) => return Err(fault),

@@ -1,47 +1,32 @@
--- The two zones are of the cell, and their intervals lie apart.
-use Rattle.std.proofs.Common.{◌≡◌, ◌-◌, ◌+◌, ◌≤◌, ◌^◌, Some, sym, ap, subst, ◌∙◌, to_z, of_z, w64}
-use Rattle.std.specs.Prelude.{pos, nat_abs, slice_get, get_or, Contains, IfSome}
-use Rattle.std.proofs.lemmas.Option.{get_or_from_slice_get}
-use Rattle.lrp_store.specs.Stores.{zones_at}
-use Rattle.lrp_minus.specs.Intervals.{IsFarBelow, LiesApart, span_of}
-use Rattle.lrp_minus.proofs.CutterLaws.{read_period}
-use Rattle.lrp_minus.proofs.DifferenceLaws.{word_pos}
-use Rattle.lrp_minus.proofs.Lists.{got_in}
-use Rattle.lrp_minus.proofs.MergeLaws.{end_room}
-use Rattle.lrp_minus.proofs.SettledLaws.{far_of, zone_on_line}
-use Rattle.lrp_minus.proofs.SpanLaws.{span_interval}
+-- One zone more is far behind the one before it.
+use Rattle.std.proofs.Common.{◌≡◌, ◌∷◌, refl, sym, subst, arith, to_z, of_z, w64}
+use Rattle.std.specs.Prelude.{ℤ, Contains}
+use Rattle.std.proofs.lemmas.Int.{ints}
+use Rattle.lrp_zone.specs.Zones.{ZoneView}
+use Rattle.lrp_store.proofs.Aligning.{head_in}
+use Rattle.lrp_minus.specs.Intervals.{IsOnLine}
+use Rattle.lrp_minus.proofs.SettledLaws.{turn_begins, next_line, turn_goes, turn_ends, turn_room}
 use Rattle.lrp_minus.proofs.settled.are_apart.Goals as goal
 
-pub interval_of-requires : goal.interval_of-requires
-interval_of-requires c =
-    let read : slice_get (zones_at c.args.store.now c.args.cell.now) (c.args.i - 1) ≡ Some c.in-Some.last = sym c.zone.ensures ∙ c.in-Some.is in
-    (zone_on_line c.args.store.now c.shape.ensures.valid c.args.cell.now c.requires.column c.in-Some.last (got_in _ _ _ read)).1
+pub interval_of-last-requires : goal.interval_of-last-requires
+interval_of-last-requires c = (c.requires c.args.first.now (head_in c.args.first.now c.args.rest (c.args.first.now ∷ c.args.rest) refl)).column
 
-pub interval_of-requires-2 : goal.interval_of-requires-2
-interval_of-requires-2 c =
-    let read : slice_get (zones_at c.args.store.now c.args.cell.now) c.args.i ≡ Some c.in-Some-zone.next = sym c.zone-2.ensures ∙ c.in-Some-zone.is in
-    (zone_on_line c.args.store.now c.shape.ensures.valid c.args.cell.now c.requires.column c.in-Some-zone.next (got_in _ _ _ read)).1
+pub loop-zone-init : goal.loop-zone-init
+loop-zone-init c =
+    let w : to_z w64 (of_z w64 c.args.period) ≡ c.args.period = omega (arith, ints, c.ranges.period.sfits) in
+    turn_begins (to_z w64 (of_z w64 c.args.period)) c.args.first.now c.args.rest c.into_iter-zone-iterator.result c.interval_of-last.result c.interval_of-last.ensures.interval c.into_iter-zone-iterator.ensures.into_iter_gives
+    (subst (λ (k : ℤ). (z : ZoneView) → Contains (c.args.first.now ∷ c.args.rest) z → IsOnLine k z) (sym w) c.requires)
+
+pub interval_of-next-requires : goal.interval_of-next-requires
+interval_of-next-requires c = (next_line (to_z w64 (of_z w64 c.args.period)) c.in-Some.zone c.next.new.self c.loop-zone.zone-iterator c.in-Some.ensures.steps c.loop-zone.invariant.lines).column
 
 pub is_apart-requires : goal.is_apart-requires
-is_apart-requires c =
-    let read : slice_get (zones_at c.args.store.now c.args.cell.now) (c.args.i - 1) ≡ Some c.in-Some.last = sym c.zone.ensures ∙ c.in-Some.is in
-    let here : Contains (zones_at c.args.store.now c.args.cell.now) c.in-Some.last = got_in _ _ _ read in
-    let p : to_z w64 (of_z w64 c.period.result) ≡ pos c.in-Some.last.period = word_pos c.period.result c.args.store.now.period c.period.ensures c.shape.ensures.valid.period_high ∙ ap pos (sym (read_period c.args.store.now c.shape.ensures.valid c.args.cell.now (c.args.i - 1) c.in-Some.last read)) in
-    subst (λ v. IfSome v.most (λ most. nat_abs most + nat_abs (to_z w64 (of_z w64 c.period.result)) ≤ 2 ^ 62)) (sym c.interval_of.ensures.interval)
-    (end_room c.in-Some.last (span_of c.in-Some.last).most (to_z w64 (of_z w64 c.period.result)) p
-    (span_interval c.in-Some.last c.interval_of.ensures.valid (zone_on_line c.args.store.now c.shape.ensures.valid c.args.cell.now c.requires.column c.in-Some.last here).1 (c.requires.reach c.in-Some.last here)).most)
+is_apart-requires c = turn_room (to_z w64 (of_z w64 c.args.period)) c.args.first.now c.args.rest c.loop-zone.last c.loop-zone.zone-iterator (to_z w64 (of_z w64 c.args.period)) c.loop-zone.invariant refl
+
+pub loop-zone-preserved : goal.loop-zone-preserved
+loop-zone-preserved c =
+    turn_goes (to_z w64 (of_z w64 c.args.period)) c.args.first.now c.args.rest c.loop-zone.last c.interval_of-next.result c.in-Some.zone c.next.new.self c.loop-zone.zone-iterator c.loop-zone.invariant c.in-Some.ensures.steps c.interval_of-next.ensures.interval
+    ((c.is_apart.ensures c.loop-zone.invariant.zone.period c.loop-zone.invariant.line.period_is).0 c.if-not-is_apart.false)
 
 pub returns : goal.returns
-returns c = λ e d.
-    let read : slice_get (zones_at c.args.store.now c.args.cell.now) (c.args.i - 1) ≡ Some c.in-Some.last = sym c.zone.ensures ∙ c.in-Some.is in
-    let read_next : slice_get (zones_at c.args.store.now c.args.cell.now) c.args.i ≡ Some c.in-Some-zone.next = sym c.zone-2.ensures ∙ c.in-Some-zone.is in
-    let p : to_z w64 (of_z w64 c.period.result) ≡ pos c.in-Some.last.period = word_pos c.period.result c.args.store.now.period c.period.ensures c.shape.ensures.valid.period_high ∙ ap pos (sym (read_period c.args.store.now c.shape.ensures.valid c.args.cell.now (c.args.i - 1) c.in-Some.last read)) in
-    let apart : LiesApart c.in-Some.last.period (span_of c.in-Some.last) (span_of c.in-Some-zone.next) =
-    subst (λ v. LiesApart c.in-Some.last.period v (span_of c.in-Some-zone.next)) c.interval_of.ensures.interval
-    (subst (λ v. LiesApart c.in-Some.last.period c.interval_of.result v) c.interval_of-2.ensures.interval ((c.is_apart.ensures c.in-Some.last.period p).0 e)) in
-    let far : IsFarBelow c.in-Some.last c.in-Some-zone.next =
-    far_of c.in-Some.last c.in-Some-zone.next c.interval_of.ensures.valid c.interval_of-2.ensures.valid
-    (zone_on_line c.args.store.now c.shape.ensures.valid c.args.cell.now c.requires.column c.in-Some.last (got_in _ _ _ read)).1
-    (zone_on_line c.args.store.now c.shape.ensures.valid c.args.cell.now c.requires.column c.in-Some-zone.next (got_in _ _ _ read_next)).1 apart in
-    subst (λ w. IsFarBelow w (get_or (zones_at c.args.store.now c.args.cell.now) c.args.i d)) (sym (get_or_from_slice_get (zones_at c.args.store.now c.args.cell.now) (c.args.i - 1) c.in-Some.last d read))
-    (subst (λ w. IsFarBelow c.in-Some.last w) (sym (get_or_from_slice_get (zones_at c.args.store.now c.args.cell.now) c.args.i c.in-Some-zone.next d read_next)) far)
+returns c = λ e. turn_ends (to_z w64 (of_z w64 c.args.period)) c.args.first.now c.args.rest c.loop-zone.last c.loop-zone.zone-iterator c.loop-zone.invariant c.in-None.ensures.steps.0
