@@ -1,10 +1,8 @@
 -- What the answers of a query leave room for, and what is told of them.
-use Rattle.std.proofs.Common.{◌≡◌, ◌↔◌, inl, inr, ⊎_elim, map, ◌≤◌, ◌<◌, ◌+◌, ◌*◌, ◌^◌, ℕ, zero, suc, List, [], ◌∷◌, ◌++◌, length, take, Option, Some, None, unwrap_or, option_map, Bool, refl, sym, ap, subst, ◌∙◌, arith}
+use Rattle.std.proofs.Common.{◌≡◌, ◌↔◌, inl, inr, map, ◌≤◌, ◌<◌, ◌+◌, ◌*◌, ◌^◌, ℕ, zero, suc, List, [], ◌∷◌, ◌++◌, length, take, Option, Some, None, unwrap_or, option_map, Bool, refl, sym, ap, subst, ◌∙◌, arith}
 use Rattle.std.proofs.Math.Nat.{pow-succ', mul-le-mul_right}
 use Rattle.std.specs.Prelude.{ℤ, pos, codes, slice_get, Contains, IfNone, IfSome, MatchOption}
 use Rattle.std.specs.List.{AllByRecursion}
-use Rattle.lrp_theory.proofs.Through.{AtMost-more}
-use Rattle.lrp_model.proofs.Decided.{cons_cases, contains_first, contains_later, contains_none}
 use Rattle.lrp_model.specs.Texts.{Text}
 use Rattle.lrp_model.specs.Formulas.{Question}
 use Rattle.lrp_model.specs.Pages.{IsAhead, IsPage, Tuple}
@@ -24,6 +22,8 @@ use Rattle.lrp_store.specs.declared.answer.Answer.{Answer}
 use Rattle.lrp_list.proofs.HeadOrder.{spot_tuple_is}
 use Rattle.lrp_canon.specs.Canonical.{CanMakeCanonical}
 use Rattle.lrp_eval.specs.Answered.{IsAnswerOf}
+use Rattle.lrp_top.proofs.Lists.{in_map}
+use Rattle.lrp_top.proofs.RoomLemmas.{within_more}
 use Rattle.lrp_top.specs.Known.{HasKnownTexts}
 use Rattle.lrp_top.specs.Outputs.{spot_text}
 use Rattle.lrp_top.specs.Telling.{TellsWitness}
@@ -71,10 +71,7 @@ last_wide db q Is rises last = by (step_at (plan db q) (length (plan db q))) ref
 
 -- a zone of a cell, by its table
 zone_in : (s : StoreView) (cell : Cell) (tables : List (List (Option ℤ))) (table : List (Option ℤ)) → Contains tables table → Contains (map (zone_of s cell) tables) (zone_of s cell table)
-zone_in s cell [] table c = absurd (contains_none table c)
-zone_in s cell (u ∷ us) table c =
-    ⊎_elim (λ e. subst (λ w. Contains (zone_of s cell u ∷ map (zone_of s cell) us) (zone_of s cell w)) e (contains_first (zone_of s cell u) (map (zone_of s cell) us)))
-    (λ d. contains_later (zone_of s cell u) (zone_of s cell table) (map (zone_of s cell) us) (zone_in s cell us table d)) (cons_cases u table us c)
+zone_in s cell tables table held = in_map (zone_of s cell) tables table held
 
 module _ (db : List Relation) (q : Question) (cap : ℕ) (a : Answer) (is : IsAnswerOf db q cap a) (reach : scaled_reach db q ≤ 2 ^ 62) (wide : period_at (plan db q) (length (plan db q)) ≤ query_reach db q) where
   pub has_room : IsStore a.store → HasRoom a.store
@@ -91,7 +88,7 @@ module _ (db : List Relation) (q : Question) (cap : ℕ) (a : Answer) (is : IsAn
           record {
             room = scaled (columns_of z) m R c reach;
             period = let w : period_at (plan db q) (length (plan db q)) ≤ R = wide in let one : 1 * R ≤ (m + 1) * R = mul-le-mul_right R (omega arith) in omega arith;
-            closed = λ n closed same. record { each = λ i j il jl ne. AtMost-more (m * R) ((m + 1) * R) _ (mul-le-mul_right R (omega arith)) ((small.closed n closed same).each i j il jl ne) };
+            closed = λ n closed same. record { each = λ i j il jl ne. within_more (m * R) ((m + 1) * R) _ (mul-le-mul_right R (omega arith)) ((small.closed n closed same).each i j il jl ne) };
           },
         );
   }

@@ -1,39 +1,11 @@
 -- Sets of numbers with texts that are the same but for how texts are named: they have the same periods and as many rows.
-use Rattle.std.proofs.Common.{◌≡◌, ◌≢◌, ◌∙◌, ℕ, zero, suc, ◌+◌, ◌<◌, List, [], ◌∷◌, length, map, get_or, Contains, refl, sym, ap, ap₂, subst, arith}
-use Rattle.std.specs.Prelude.{ℤ, pos, ◌-ℤ◌, ◌≤ℤ◌, AllPairs}
-use Rattle.std.proofs.lemmas.List.{get_or-map, length-map}
+use Rattle.std.proofs.Common.{◌≡◌, ◌∙◌, ℕ, ◌+◌, ◌<◌, List, map, Contains, refl, sym, ap, ap₂, subst, arith}
+use Rattle.std.specs.Prelude.{ℤ, pos, ◌-ℤ◌, ◌≤ℤ◌}
+use Rattle.std.proofs.lemmas.List.{length-map}
 use Rattle.std.proofs.lemmas.Int.{ints}
 use Rattle.lrp_theory.specs.Residues.{IsFloor}
+use Rattle.lrp_top.proofs.Lists.{apart_map, in_map, of_map}
 use Rattle.lrp_canon.specs.Rows.{AreJust, HasRowCount, IsInRow, IsLeastPeriod, IsOpenBelow, IsSetOfRows, IsStart, PeriodicRow, Moment}
-
--- ---- lists of named elements
-
--- the element at a place
-element_at : {X : Type 0} (xs : List X) (k : ℕ) → k < length xs → (x : X) × ((d : X) → get_or xs k d ≡ x)
-element_at [] k l = absurd (omega arith)
-element_at (x ∷ xs) zero l = (x, λ d. refl)
-element_at (x ∷ xs) (suc k) l = element_at xs k (omega arith)
-
-in_map : {X Y : Type 0} (f : X → Y) (xs : List X) (x : X) → Contains xs x → Contains (map f xs) (f x)
-in_map f xs x c = (c.0, subst (λ n. c.0 < n) (sym (length-map xs f)) c.1, get_or-map f xs c.0 x (f x) c.1 ∙ ap f c.2)
-
-mapped_at : {X Y : Type 0} (f : X → Y) (xs : List X) (k : ℕ) (d : Y) (l : k < length xs) → get_or (map f xs) k d ≡ f (element_at xs k l).0
-mapped_at f xs k d l = let x = element_at xs k l in get_or-map f xs k x.0 d l ∙ ap f (x.1 x.0)
-
-of_map : {X Y : Type 0} (f : X → Y) (xs : List X) (y : Y) → Contains (map f xs) y → (x : X) × Contains xs x × (f x ≡ y)
-of_map f xs y c =
-    let l : c.0 < length xs = subst (λ n. c.0 < n) (length-map xs f) c.1 in
-    let x = element_at xs c.0 l in
-    (x.0, (c.0, l, x.1 x.0), sym (mapped_at f xs c.0 y l) ∙ c.2)
-
-apart_map : {X Y : Type 0} (f : X → Y) (xs : List X) → ((x z : X) → Contains xs x → Contains xs z → f x ≡ f z → x ≡ z) → AllPairs ◌≢◌ xs → AllPairs ◌≢◌ (map f xs)
-apart_map f xs one apart i j d below l same =
-    let jl : j < length xs = subst (λ n. j < n) (length-map xs f) l in
-    let il : i < length xs = omega arith in
-    let x = element_at xs i il in
-    let z = element_at xs j jl in
-    let e : x.0 ≡ z.0 = one x.0 z.0 (i, il, x.1 x.0) (j, jl, z.1 z.0) (sym (mapped_at f xs i d il) ∙ same ∙ mapped_at f xs j d jl) in
-    apart i j x.0 below jl (x.1 x.0 ∙ e ∙ sym (z.1 x.0))
 
 -- ---- sets with other names
 

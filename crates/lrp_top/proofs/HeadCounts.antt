@@ -12,7 +12,7 @@ use Rattle.lrp_model.specs.declared.relations.Sort.{Sort}
 use Rattle.lrp_model.specs.declared.relations.Sort.TheVariants.{Time, Data, Named}
 use Rattle.lrp_model.specs.declared.relations.Column.{Column}
 use Rattle.lrp_model.specs.declared.relations.Relation.{Relation}
-use Rattle.lrp_model.proofs.Decided.{contains_first, contains_later}
+use Rattle.lrp_top.proofs.Lists.{first_in, later_in}
 use Rattle.lrp_plan_laws.specs.Settled.{IsSettled}
 use Rattle.lrp_top.specs.Resuming.{data_columns}
 
@@ -50,7 +50,7 @@ module _ (p : Column → Bool) where
 -- elements of a front are elements of the whole
 all_in : (vs ws : List Variable) → ((v : Variable) → Contains vs v → Contains ws v) → AllByRecursion (Contains ws) vs
 all_in [] ws h = tt
-all_in (v ∷ vs) ws h = (h v (contains_first v vs), all_in vs ws (λ u c. h u (contains_later v u vs c)))
+all_in (v ∷ vs) ws h = (h v (first_in v vs), all_in vs ws (λ u c. h u (later_in v u vs c)))
 
 time_bound : (s : Sort) (name : Identifier) → same_sort s Time ≡ true → bound_by s name ≡ time_variable name
 time_bound Time name e = refl

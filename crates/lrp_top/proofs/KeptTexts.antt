@@ -10,7 +10,7 @@ use Rattle.lrp_model.specs.declared.relations.Value.{Value}
 use Rattle.lrp_model.specs.declared.relations.Value.TheVariants.{Point, Const}
 use Rattle.lrp_model.specs.declared.relations.Row.{Row}
 use Rattle.lrp_model.specs.declared.relations.Relation.{Relation}
-use Rattle.lrp_model.proofs.Logic.{all_append}
+use Rattle.lrp_top.proofs.Lists.{both_all}
 use Rattle.lrp_plan_laws.specs.Settled.{HasSortedTexts}
 use Rattle.lrp_print.specs.Kept.{AreValuesOf, IsKept, IsRowOf}
 
@@ -29,9 +29,9 @@ values_placed (c ∷ cs) (Const t ∷ vs) h = (ap not h.0.0, values_placed cs vs
 -- of rows
 rows_placed : (cs : List Column) (rows : List Row) → AllByRecursion (IsRowOf cs) rows → AllByRecursion IsPlaced (flat_map (λ row. row_texts cs row.values) rows)
 rows_placed cs [] h = tt
-rows_placed cs (row ∷ rows) h = (all_append IsPlaced (row_texts cs row.values) (flat_map (λ r. row_texts cs r.values) rows)).1 (values_placed cs row.values h.0.values, rows_placed cs rows h.1)
+rows_placed cs (row ∷ rows) h = both_all IsPlaced (row_texts cs row.values) (flat_map (λ r. row_texts cs r.values) rows) (values_placed cs row.values h.0.values) (rows_placed cs rows h.1)
 
 -- of relations
 pub texts_placed : (db : List Relation) → AllByRecursion IsKept db → HasSortedTexts db
 texts_placed [] h = tt
-texts_placed (r ∷ rs) h = (all_append IsPlaced (flat_map (λ row. row_texts r.columns row.values) r.rows) (flat_map (λ s. flat_map (λ row. row_texts s.columns row.values) s.rows) rs)).1 (rows_placed r.columns r.rows h.0.rows, texts_placed rs h.1)
+texts_placed (r ∷ rs) h = both_all IsPlaced (flat_map (λ row. row_texts r.columns row.values) r.rows) (flat_map (λ s. flat_map (λ row. row_texts s.columns row.values) s.rows) rs) (rows_placed r.columns r.rows h.0.rows) (texts_placed rs h.1)

@@ -8,6 +8,7 @@ pub mod HeadCounts
 pub mod KeptTexts
 pub mod LineLemmas
 pub mod Listed
+pub mod Lists
 pub mod Plannable
 pub mod QuestionLemmas
 pub mod ReadingLemmas

@@ -1,7 +1,7 @@
 -- A query that is read can be planned: each `and` and `or` has a member, and each point has a period.
 use Rattle.std.proofs.Common.{◌≡◌, ◌≤◌, pos, ◌≤ℤ◌, nat_abs, List, [], ◌∷◌, sym, subst}
 use Rattle.std.specs.List.{AllByRecursion}
-use Rattle.lrp_model.proofs.Logic.{all_append}
+use Rattle.lrp_top.proofs.Lists.{both_all}
 use Rattle.lrp_model.specs.Formulas.{Form}
 use Rattle.lrp_model.specs.TestPoints.{points}
 use Rattle.lrp_model.specs.RawQueries.{RawForm, RawForms, raw_atom, raw_compare, raw_member, raw_not, raw_and, raw_or, raw_implies, raw_group, raw_exists, raw_forall, no_raws, raw}
@@ -46,14 +46,14 @@ mutual
   points_repeat (raw_not p f) h = points_repeat f h
   points_repeat (raw_and p fs) h = each_repeats fs h.1
   points_repeat (raw_or p fs) h = each_repeats fs h.1
-  points_repeat (raw_implies p f g) h = (all_append Repeats (raw_points f) (raw_points g)).1 (points_repeat f h.0, points_repeat g h.1)
+  points_repeat (raw_implies p f g) h = both_all Repeats (raw_points f) (raw_points g) (points_repeat f h.0) (points_repeat g h.1)
   points_repeat (raw_group p f) h = points_repeat f h
   points_repeat (raw_exists p c f) h = points_repeat f h
   points_repeat (raw_forall p c f) h = points_repeat f h
 
   each_repeats : (fs : RawForms) → FitRaws fs → AllByRecursion Repeats (raw_points_each fs)
   each_repeats no_raws h = tt
-  each_repeats (raw f fs) h = (all_append Repeats (raw_points f) (raw_points_each fs)).1 (points_repeat f h.0, each_repeats fs h.1)
+  each_repeats (raw f fs) h = both_all Repeats (raw_points f) (raw_points_each fs) (points_repeat f h.0) (each_repeats fs h.1)
 
 -- a formula with the points of one that was read has points with periods
 pub has_periods : (f : Form) (from : RawForm) → FitsRaw from → points f ≡ raw_points from → AllByRecursion Repeats (points f)

@@ -1,13 +1,18 @@
 -- Room for the text of an answer, in both of its forms.
-use Rattle.std.proofs.Common.{◌≡◌, ◌≢◌, ℕ, zero, suc, ◌+◌, ◌*◌, ◌<◌, ◌^◌, ◌≤◌, Option, arith}
+use Rattle.std.proofs.Common.{◌≡◌, ◌≢◌, ℕ, zero, suc, ◌+◌, ◌*◌, ◌<◌, ◌^◌, ◌≤◌, Option, Some, None, arith}
 use Rattle.std.specs.Prelude.{ℤ}
 use Rattle.std.proofs.Math.Nat.{mul-div-le, le-div_iff_mul-le}
-use Rattle.lrp_theory.proofs.Through.{AtMost-more}
+use Rattle.std.proofs.lemmas.Int.{ints}
 use Rattle.lrp_theory.specs.Entries.{AtMost, entry}
 use Rattle.lrp_zone.specs.Zones.{columns_of}
 use Rattle.lrp_store.specs.Least.{HasRoom}
 use Rattle.lrp_store.specs.Stores.{StoreView, zone_of}
 use Rattle.lrp_top.specs.Rooms.{IsRoomy, greatest_share, greatest_in}
+
+-- a bound within a limit is within a greater one
+pub within_more : (h k : ℕ) (f : Option ℤ) → h ≤ k → AtMost h f → AtMost k f
+within_more h k None le a = tt
+within_more h k (Some x) le a = (omega (arith, ints), omega (arith, ints))
 
 -- so many of the greatest number are at most 2^62
 few_greatest : (n period : ℕ) → n * greatest_share n period ≤ 2 ^ 62
@@ -24,7 +29,7 @@ period_below (suc n) period h room low = let b : h ≤ greatest_share (suc n) pe
 
 grown : (n period h : ℕ) (f : Option ℤ) (i j : ℕ) → n * h ≤ 2 ^ 62 → i < n + 1 → j < n + 1 → i ≢ j → AtMost h f → AtMost (greatest_share n period) f
 grown zero period h f i j room il jl ne a = absurd (ne (omega arith))
-grown (suc n) period h f i j room il jl ne a = AtMost-more h (greatest_share (suc n) period) f (below_greatest n period h room) a
+grown (suc n) period h f i j room il jl ne a = within_more h (greatest_share (suc n) period) f (below_greatest n period h room) a
 
 pub roomy : (s : StoreView) → HasRoom s → IsRoomy s
 roomy s has = λ cell table held.
