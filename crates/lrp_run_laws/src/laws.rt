@@ -5,6 +5,7 @@ ghost use Rattle.lrp_words.specs.Commands.{Task};
 ghost use Rattle.lrp_model.specs.Formulas.{Question};
 ghost use Rattle.lrp_model.specs.Pages.{Tuple};
 ghost use Rattle.lrp_model.specs.declared.relations.Relation.{Relation};
+ghost use Rattle.lrp_top.specs.Canonical.{HasCanonicalRows};
 ghost use Rattle.lrp_run_laws.specs.Contents.{Contents, contents_of, digest_of, SaysQuestion, SaysRelations};
 ghost use Rattle.lrp_run_laws.specs.Tasks.{IsLawfulTask};
 ghost use Rattle.lrp_run_laws.specs.Runs.{HaveStoodStill, IsComplete, IsRunOf, MayHappen, Run};
@@ -49,6 +50,7 @@ pub fn lawful_runs_are_complete()
     tense_queries_have_no_fault();
     well_sorted_queries_have_no_fault();
     tokens_spell_one_tuple();
+    row_counts_are_unique();
 }
 
 /// Two runs of a task, over files of the same bytes, end alike, where neither ends for want of memory or for a failure of a
@@ -77,8 +79,17 @@ pub fn runs_have_one_outcome()
     ranks_differ();
     tuples_are_times_and_texts();
     counts_are_unique();
+    row_counts_are_unique();
     answer_texts_are_unique();
 }
+
+/// A query has one number of canonical rows.
+pub fn row_counts_are_unique()
+    ensures { (db : List Relation) (q : Question) (count other : ℕ)
+        → HasCanonicalRows db q count
+        → HasCanonicalRows db q other
+        → count ≡ other }
+{}
 
 /// Two runs that told the canonical answers of two queries, each over its own database, wrote the same bytes where the queries
 /// have one head and the same answers.

@@ -5,6 +5,6 @@
 mod laws;
 
 pub use laws::{
-    equal_answers_equal_bytes, lawful_runs_are_complete, pages_follow, runs_have_causes,
-    runs_have_one_outcome,
+    equal_answers_equal_bytes, lawful_runs_are_complete, pages_follow, row_counts_are_unique,
+    runs_have_causes, runs_have_one_outcome,
 };

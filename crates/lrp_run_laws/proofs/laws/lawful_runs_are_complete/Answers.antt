@@ -1,5 +1,3 @@
-use Rattle.lrp_canon.proofs.CountLaws.{one_row_count}
-use Rattle.lrp_top.specs.Canonical.{HasNumber}
 use Rattle.lrp_run_laws.proofs.Complete.{complete_run, each_texts, plain_texts, tense_texts}
 use Rattle.lrp_run_laws.proofs.laws.lawful_runs_are_complete.Goals as goal
 
@@ -7,4 +5,4 @@ pub returns : goal.returns
 returns c = complete_run (record { one = c.texts_are_of_one_database.ensures; faultless = c.databases_have_no_fault.ensures })
     (each_texts (plain_texts c.texts_are_of_one_query.ensures c.queries_have_no_fault.ensures c.well_sorted_queries_have_no_fault.ensures)
     (tense_texts c.texts_are_one_query.ensures.one c.tense_queries_have_no_fault.ensures c.well_sorted_queries_have_no_fault.ensures))
-    c.tokens_spell_one_tuple.ensures (λ db q. one_row_count (HasNumber db q))
+    c.tokens_spell_one_tuple.ensures c.row_counts_are_unique.ensures

@@ -1,5 +1,3 @@
-use Rattle.lrp_canon.proofs.CountLaws.{one_row_count}
-use Rattle.lrp_top.specs.Canonical.{HasNumber}
 use Rattle.lrp_run_laws.proofs.Complete.{each_texts, plain_texts, tense_texts}
 use Rattle.lrp_run_laws.proofs.One.{each_fault, plain_faults, runs_alike, tense_faults}
 use Rattle.lrp_run_laws.proofs.laws.runs_have_one_outcome.Goals as goal
@@ -18,6 +16,6 @@ returns c = runs_alike (record {
   tuples = c.tuples_are_times_and_texts.ensures;
   cells = c.counts_are_unique.ensures.cells;
   count = c.counts_are_unique.ensures.answers;
-  rows = λ db q. one_row_count (HasNumber db q);
+  rows = c.row_counts_are_unique.ensures;
   text = c.answer_texts_are_unique.ensures;
 })
