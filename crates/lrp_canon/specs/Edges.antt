@@ -24,7 +24,8 @@ pub record GoesDown (set : ℤ → Type 0) (period r : ℕ) : Type 0 where
   pub bound : ℤ
   pub all : (x : ℤ) → x ≤ℤ bound → Divides (pos period) (x -ℤ pos r) → set x
 
--- spans of one period, whose numbers repeat at both ends by a divisor of it, no farther than the limit from the period's room
+-- spans of the whole period in order, whose numbers repeat by the least one at both ends, from where a bound with room for the
+-- whole one may not stand any more
 pub record AreRepeating (periods : Periods) (spans : List Span) : Type 0 where
   pub ordered : AreOrdered (2 ^ 62) spans
   pub below : AreBelow periods.whole spans
