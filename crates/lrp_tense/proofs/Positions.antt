@@ -1,8 +1,9 @@
 -- Operators are counted by their positions as by their places.
-use Rattle.std.proofs.Common.{◌≡◌, inl, inr, ⊎_elim, ℕ, zero, suc, ◌<◌, ◌≤◌, ◌+◌, Bool, true, false, cond, get_or, List, [], ◌∷◌, ◌++◌, map, length, refl, sym, ap, ap₂, ◌∙◌, arith}
+use Rattle.std.proofs.Common.{◌≡◌, inl, inr, ⊎_elim, ℕ, zero, suc, ◌<◌, ◌≤◌, ◌+◌, ◌-◌, Bool, true, false, cond, get_or, List, [], ◌∷◌, ◌++◌, map, length, refl, sym, ap, ap₂, ◌∙◌, add-one, arith}
 use Rattle.std.specs.Prelude.{nat_lt, count_by, IsPermutation}
 use Rattle.std.specs.List.{AllByRecursion}
-use Rattle.std.proofs.lemmas.Bool.{ltb-true, ltb-false}
+use Rattle.std.specs.List.Sorted.{IsNonDecreasing}
+use Rattle.std.proofs.lemmas.Bool.{ltb-true, ltb-false, lt-ltb, le-ltb}
 use Rattle.std.proofs.lemmas.List.Sums.{length-filter, sum_by-cons}
 use Rattle.std.proofs.lemmas.List.Sorted.{sum_by-IsPermutation}
 use Rattle.lrp_model.specs.declared.tokens.Place.{Place}
@@ -15,7 +16,7 @@ use Rattle.lrp_model.specs.declared.raw.RawQuery.{RawQuery}
 use Rattle.lrp_tense.specs.declared.tree.TenseQuery.{TenseQuery}
 use Rattle.lrp_tense.specs.Trees.{tense_form_of, tense_question_of}
 use Rattle.lrp_tense.specs.Expanding.{expanded_question}
-use Rattle.lrp_tense.specs.Counting.{position_of, number_in, HasSmallColumn, AreNumbers}
+use Rattle.lrp_tense.specs.Counting.{position_of, number_in, IsFirstAt, HasSmallColumn, AreNumbers}
 use Rattle.lrp_tense.proofs.Numbering.{IsEarlier, earlier, before, trichotomy}
 
 -- ---- positions are in the order of places
@@ -60,6 +61,21 @@ count_point t (x ∷ xs) (suc i) le yes' no' =
     let rest : count_by t xs ≡ i = count_point t xs i (omega (arith, le)) (λ k lt. yes' (suc k) (omega (arith, lt))) (λ k low lt. no' (suc k) (omega (arith, low)) (omega (arith, lt))) in
     let first : t x ≡ true = yes' 0 (omega arith) in
     counted_first t x xs ∙ ap (λ b. cond b (suc (count_by t xs)) (count_by t xs)) first ∙ ap suc rest
+
+-- the first position that is not below one, where it is that very one, is how many are below it
+pub counted_to : (xs : List ℕ) (i here : ℕ) → IsNonDecreasing xs → IsFirstAt xs i here → count_by (λ q. nat_lt q here) xs ≡ i
+counted_to xs i here order f =
+    let within : i < length xs = f.within in
+    let found : get_or xs i 0 ≡ here = f.found in
+    count_point (λ q. nat_lt q here) xs i (omega arith)
+    (λ k lt. let rises : get_or xs k 0 ≤ get_or xs (i - 1) 0 = order k (i - 1) 0 (omega arith) (omega arith) in let low : get_or xs (i - 1) 0 < here = f.low (omega arith) in lt-ltb (get_or xs k 0) here (omega arith))
+    (λ k le lt. let rises : get_or xs i 0 ≤ get_or xs k 0 = order i k 0 le lt in le-ltb (get_or xs k 0) here (omega arith))
+
+-- so the operator there has the next number
+pub number_there : (xs : List ℕ) (i here : ℕ) (p : Place) → IsNonDecreasing xs → here ≡ position_of p → IsFirstAt xs i here → i + 1 ≡ number_in xs p
+number_there xs i here p order is f =
+    let count : count_by (λ q. nat_lt q here) xs ≡ i = counted_to xs i here order f in
+    add-one i ∙ ap suc (sym count ∙ ap (λ h. count_by (λ q. nat_lt q h) xs) is)
 
 -- permutations have the same counts
 same_count : {X : Type 0} (t : X → Bool) (xs ys : List X) → IsPermutation xs ys → count_by t ys ≡ count_by t xs

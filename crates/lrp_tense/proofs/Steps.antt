@@ -1,8 +1,8 @@
 -- Formulas one after another: gathered, and written out.
-use Rattle.std.proofs.Common.{◌≡◌, ◌+◌, ◌<◌, ℕ, cond, List, [], ◌∷◌, ◌++◌, map, Vec, Global, length, take, get_or, refl, ap, ap₂, sym, ◌∙◌, append_assoc, append-nil}
+use Rattle.std.proofs.Common.{◌≡◌, ◌+◌, ◌<◌, ℕ, suc, cond, arith, List, [], ◌∷◌, ◌++◌, map, Vec, Global, length, take, get_or, refl, ap, ap₂, sym, ◌∙◌, append_assoc, append-nil}
 use Rattle.std.specs.Prelude.{reverse, Result, Ok, Err, IfOk, OnOk}
 use Rattle.std.specs.Str.{bytes_eq}
-use Rattle.std.proofs.lemmas.List.{take_more, reverse-append}
+use Rattle.std.proofs.lemmas.List.{take_more, reverse-append, length-map, length-reverse}
 use Rattle.lrp_model.specs.Texts.{Identifier}
 use Rattle.lrp_model.specs.declared.tokens.Place.{Place}
 use Rattle.lrp_model.specs.declared.raw.RawFormula.{RawFormula}
@@ -13,6 +13,7 @@ use Rattle.lrp_tense.specs.declared.scope.Variable.{Variable}
 use Rattle.lrp_tense.specs.Trees.{TenseForms, tense_kind, tense_form_of, tense_forms_of, tense, no_tenses}
 use Rattle.lrp_tense.specs.Expanding.{Naming, renamed_to, present_name, operators, operators_each, expanded, expanded_each}
 use Rattle.lrp_tense.specs.Named.{renaming_of, naming_of}
+use Rattle.lrp_tense.specs.Scopes.{Around, within}
 use Rattle.lrp_tense.proofs.TenseViews.{tense_kind-And, tense_kind-Or}
 
 -- ---- members of a node
@@ -108,3 +109,11 @@ name_step vs i v w lt is =
 -- one variable more inside the others
 pub naming_inside : (vs : List Variable) (v : Variable) → naming_of (vs ++ v ∷ []) ≡ renamed_to v.written.now v.present ∷ naming_of vs
 naming_inside vs v = ap (map renaming_of) (reverse-append vs (v ∷ []))
+
+-- as many variables as names
+pub length-naming_of : (vs : List Variable) → length (naming_of vs) ≡ length vs
+length-naming_of vs = length-map (reverse vs) renaming_of ∙ length-reverse vs
+
+-- inside a variable there is one
+pub is_inside : (a b : Around) (v n : Identifier) → b ≡ within a v n → 0 < length b.names
+is_inside a b v n e = let one : length b.names ≡ suc (length a.names) = ap (λ c. length c.names) e in omega (arith, one)

@@ -10,5 +10,5 @@ pub mod Parts
 pub mod Reading
 pub mod Named
 pub mod Counting
-pub mod Opening
+pub mod Written
 pub mod Scopes

@@ -1,10 +1,10 @@
 // The operators of a query, numbered by the places where they begin.
-ghost use Rattle.std.specs.Prelude.{◌≡◌, ◌++◌, ◌<◌, ◌^◌, map, length, IfOk};
+ghost use Rattle.std.specs.Prelude.{◌≡◌, ◌++◌, ◌<◌, ◌^◌, map, length, count_by, nat_lt, IsTrue, IfOk};
 ghost use Rattle.std.specs.List.Sorted.{IsNonDecreasing};
 ghost use Rattle.std.specs.List.{AllByRecursion};
 ghost use Rattle.lrp_tense.specs.Trees.{tense_form_of, tense_forms_of};
 ghost use Rattle.lrp_tense.specs.Expanding.{operators, operators_each};
-ghost use Rattle.lrp_tense.specs.Counting.{position_of, number_in, HasSmallColumn, AreNumbers};
+ghost use Rattle.lrp_tense.specs.Counting.{position_of, number_in, IsFirstAt, HasSmallColumn, AreNumbers};
 
 use crate::{TenseFormula, TenseKind};
 use lrp_model::{Memory, Place};
@@ -42,14 +42,35 @@ pub fn numbers_of(alloc: Global, f: &TenseFormula) -> Result<Vec<u64>, Memory>
     Ok(positions)
 }
 
+// Whether the first position that is not below this one is the one at an index.
+fn stands_at(positions: &[u64], index: usize, here: u64) -> bool
+    ensures { IsTrue result → IsFirstAt positions.now index here }
+{
+    if index >= positions.len() || positions[index] != here {
+        return false;
+    }
+    index == 0 || positions[index - 1] < here
+}
+
+// How many positions are below this one.
+fn below(positions: &[u64], here: u64) -> usize
+    requires { IsNonDecreasing positions.now }
+    ensures { result ≡ count_by (λ q. nat_lt q here) positions.now }
+{
+    positions.partition_point(|other| *other < here)
+}
+
 /// The number of the operator at a place among those at these positions, counted from 1.
-pub fn number(positions: &[u64], place: Place) -> u64
+/// In a walk along a text it is one more than the number before, so that many positions are tried first.
+pub fn number(positions: &[u64], passed: usize, place: Place) -> u64
     requires { IsNonDecreasing positions.now }
     ensures { result ≡ number_in positions.now place }
 {
     let here = position(place);
-    let before = positions.partition_point(|other| *other < here);
-    before as u64 + 1
+    if stands_at(positions, passed, here) {
+        return passed as u64 + 1;
+    }
+    below(positions, here) as u64 + 1
 }
 
 #[cycle(gathering)]

@@ -1,28 +1,28 @@
 // The query without operators that stands for one with them: each operator is written out by quantifiers over time.
 ghost use Rattle.std.specs.Prelude.{◌≡◌, IfOk, OnOk};
 ghost use Rattle.lrp_model.specs.RawQueries.{raw_form_of, raw_forms_of, raw_question_of, raw_and, raw_or, raw_not, raw_group, raw_exists, raw_forall, raw_implies};
-ghost use Rattle.lrp_tense.specs.Trees.{tense_form_of, tense_forms_of, tense_question_of, once as once_tense, always as always_tense};
+ghost use Rattle.lrp_tense.specs.Trees.{operator_at, tense_form_of, tense_forms_of, tense_question_of, once as once_tense, always as always_tense};
 ghost use Rattle.lrp_tense.specs.Expanding.{IsExpandable, expanded_each, expanded_question, moment_of, between_of, since_form, until_form, present_name};
 ghost use Rattle.lrp_tense.specs.Laws.{KeepsMeaning};
-ghost use Rattle.lrp_tense.specs.Opening.{operator_of, opened_in};
+ghost use Rattle.lrp_tense.specs.Written.{operator_of, form_inside};
 ghost use Rattle.lrp_tense.specs.Scopes.{expanded_in, number_by, within};
 
 use crate::counting::numbers_of;
 use crate::renaming::{atom, comparison, membership};
-use crate::scope::{Scope, fresh_name};
+use crate::scope::Scope;
 use crate::written_out::{
-    Between, Opened, conjunction, denied, disjunction, every, grouped, implied, some,
+    Inside, Places, boxed, conjunction, denied, disjunction, every, grouped, implied, some,
 };
 use crate::{TenseFormula, TenseKind, TenseQuery};
 use lrp_model::{Copies, Memory, Name, Place, RawColumn, RawFormula, RawQuery};
 use std::alloc::Global;
 
-/// An operator as it is written: the place of its first token, and its variable with the place of the name.
+/// An operator as it is written: its number, where it stands, and its variable.
 #[derive(Clone, Copy)]
 pub struct Operator<'a> {
-    pub place: Place,
+    pub number: u64,
+    pub places: Places,
     pub name: &'a Name,
-    pub name_place: Place,
 }
 
 /// The query without operators that is satisfied exactly where this one is. The variables that it has beside the written ones have a `~` in their names.
@@ -33,30 +33,41 @@ pub fn expand(alloc: Global, query: &TenseQuery) -> Result<RawQuery, Memory>
 {
     let positions = numbers_of(alloc, &query.body)?;
     let mut scope = Scope::of(alloc, positions);
-    let body = expand_formula(alloc, &mut scope, &query.body)?;
+    let made = expand_formula(alloc, &mut scope, &query.body)?;
     let head = query.head.copy(alloc)?;
+    let body = Box::into_inner(made);
     Ok(RawQuery { head, body })
 }
 
-// The names that an operator has and brings, without those for moments between.
-fn opened(alloc: Global, scope: &Scope<'_>, at: Operator<'_>) -> Result<Opened, Memory>
-    ensures { IfOk result (λ made. made ≡ opened_in scope.now (operator_of at.entry)) }
+// An operator with its number.
+fn operator_with<'a>(
+    scope: &mut Scope<'_>,
+    place: Place,
+    name: &'a Name,
+    name_place: Place,
+) -> Operator<'a>
+    ensures operator { operator_of result ≡ operator_at place name.now name_place }
+    ensures number { result.number ≡ number_by scope.old place }
+    ensures scope { scope.new ≡ scope.old }
 {
-    let present = scope.present(alloc, at.name)?;
-    let moment = fresh_name(alloc, at.name, scope.number(at.place), "")?;
-    Ok(Opened {
-        place: at.place,
-        name_place: at.name_place,
-        present,
-        moment,
-    })
+    let number = scope.number(place);
+    Operator {
+        number,
+        places: Places { place, name_place },
+        name,
+    }
 }
 
-// The name of `since` or `until` for each moment between.
-fn between_name(alloc: Global, scope: &Scope<'_>, at: Operator<'_>) -> Result<Name, Memory>
-    ensures { IfOk result (λ made. made ≡ between_of (number_by scope.now) (operator_of at.entry)) }
+// A column whose name is given.
+fn renamed_column(alloc: Global, column: &RawColumn, name: Name) -> Result<RawColumn, Memory>
+    ensures { IfOk result (λ made. made ≡ record column.now { name = name }) }
 {
-    fresh_name(alloc, at.name, scope.number(at.place), "~")
+    Ok(RawColumn {
+        name,
+        place: column.place,
+        sort: column.sort.copy(alloc)?,
+        sort_place: column.sort_place,
+    })
 }
 
 // The formula inside the variables of the scope.
@@ -67,8 +78,8 @@ fn expand_formula<'a>(
     alloc: Global,
     scope: &mut Scope<'a>,
     f: &'a TenseFormula,
-) -> Result<RawFormula, Memory>
-    ensures tree { IfOk result (λ made. raw_form_of made ≡ expanded_in scope.old (tense_form_of f.now)) }
+) -> Result<Box<RawFormula>, Memory>
+    ensures tree { IfOk result (λ made. raw_form_of made.value ≡ expanded_in scope.old (tense_form_of f.now)) }
     ensures scope { OnOk result (scope.new ≡ scope.old) }
 {
     let place = f.place;
@@ -78,7 +89,7 @@ fn expand_formula<'a>(
         }
         TenseKind::Compare { left, op, right } => {
             let kind = comparison(alloc, scope, left, *op, right)?;
-            Ok(RawFormula { kind, place })
+            boxed(alloc, place, kind)
         }
         TenseKind::Member { term, point } => membership(alloc, scope, place, term, *point),
         TenseKind::Not { of } => expand_negation(alloc, scope, place, of),
@@ -98,11 +109,7 @@ fn expand_formula<'a>(
             to,
             of,
         } => {
-            let at = Operator {
-                place,
-                name,
-                name_place: *name_place,
-            };
+            let at = operator_with(scope, place, name, *name_place);
             expand_once(alloc, scope, at, (*from, *to), of)
         }
         TenseKind::Always {
@@ -112,11 +119,7 @@ fn expand_formula<'a>(
             to,
             of,
         } => {
-            let at = Operator {
-                place,
-                name,
-                name_place: *name_place,
-            };
+            let at = operator_with(scope, place, name, *name_place);
             expand_always(alloc, scope, at, (*from, *to), of)
         }
         TenseKind::Since {
@@ -125,11 +128,7 @@ fn expand_formula<'a>(
             left,
             right,
         } => {
-            let at = Operator {
-                place,
-                name,
-                name_place: *name_place,
-            };
+            let at = operator_with(scope, place, name, *name_place);
             let between = expand_between(alloc, scope, at, left)?;
             expand_since(alloc, scope, at, between, right)
         }
@@ -139,11 +138,7 @@ fn expand_formula<'a>(
             left,
             right,
         } => {
-            let at = Operator {
-                place,
-                name,
-                name_place: *name_place,
-            };
+            let at = operator_with(scope, place, name, *name_place);
             let between = expand_between(alloc, scope, at, left)?;
             expand_until(alloc, scope, at, between, right)
         }
@@ -156,8 +151,8 @@ fn expand_negation<'a>(
     scope: &mut Scope<'a>,
     place: Place,
     of: &'a TenseFormula,
-) -> Result<RawFormula, Memory>
-    ensures tree { IfOk result (λ made. raw_form_of made ≡ raw_not place (expanded_in scope.old (tense_form_of of.now))) }
+) -> Result<Box<RawFormula>, Memory>
+    ensures tree { IfOk result (λ made. raw_form_of made.value ≡ raw_not place (expanded_in scope.old (tense_form_of of.now))) }
     ensures scope { OnOk result (scope.new ≡ scope.old) }
 {
     let of = expand_formula(alloc, scope, of)?;
@@ -170,8 +165,8 @@ fn expand_group<'a>(
     scope: &mut Scope<'a>,
     place: Place,
     of: &'a TenseFormula,
-) -> Result<RawFormula, Memory>
-    ensures tree { IfOk result (λ made. raw_form_of made ≡ raw_group place (expanded_in scope.old (tense_form_of of.now))) }
+) -> Result<Box<RawFormula>, Memory>
+    ensures tree { IfOk result (λ made. raw_form_of made.value ≡ raw_group place (expanded_in scope.old (tense_form_of of.now))) }
     ensures scope { OnOk result (scope.new ≡ scope.old) }
 {
     let of = expand_formula(alloc, scope, of)?;
@@ -185,9 +180,9 @@ fn expand_implication<'a>(
     scope: &mut Scope<'a>,
     place: Place,
     right: &'a TenseFormula,
-    left: RawFormula,
-) -> Result<RawFormula, Memory>
-    ensures tree { IfOk result (λ made. raw_form_of made ≡ raw_implies place (raw_form_of left) (expanded_in scope.old (tense_form_of right.now))) }
+    left: Box<RawFormula>,
+) -> Result<Box<RawFormula>, Memory>
+    ensures tree { IfOk result (λ made. raw_form_of made.value ≡ raw_implies place (raw_form_of left.value) (expanded_in scope.old (tense_form_of right.now))) }
     ensures scope { OnOk result (scope.new ≡ scope.old) }
 {
     let right = expand_formula(alloc, scope, right)?;
@@ -200,12 +195,12 @@ fn expand_conjunction<'a>(
     scope: &mut Scope<'a>,
     place: Place,
     of: &'a [TenseFormula],
-) -> Result<RawFormula, Memory>
-    ensures tree { IfOk result (λ made. raw_form_of made ≡ raw_and place (expanded_each (tense_forms_of of.now) (number_by scope.old) scope.old.names)) }
+) -> Result<Box<RawFormula>, Memory>
+    ensures tree { IfOk result (λ made. raw_form_of made.value ≡ raw_and place (expanded_each (tense_forms_of of.now) (number_by scope.old) scope.old.names)) }
     ensures scope { OnOk result (scope.new ≡ scope.old) }
 {
     let of = expand_each(alloc, scope, of)?;
-    Ok(conjunction(place, of))
+    conjunction(alloc, place, of)
 }
 
 #[cycle(expanding)]
@@ -214,12 +209,12 @@ fn expand_disjunction<'a>(
     scope: &mut Scope<'a>,
     place: Place,
     of: &'a [TenseFormula],
-) -> Result<RawFormula, Memory>
-    ensures tree { IfOk result (λ made. raw_form_of made ≡ raw_or place (expanded_each (tense_forms_of of.now) (number_by scope.old) scope.old.names)) }
+) -> Result<Box<RawFormula>, Memory>
+    ensures tree { IfOk result (λ made. raw_form_of made.value ≡ raw_or place (expanded_each (tense_forms_of of.now) (number_by scope.old) scope.old.names)) }
     ensures scope { OnOk result (scope.new ≡ scope.old) }
 {
     let of = expand_each(alloc, scope, of)?;
-    Ok(disjunction(place, of))
+    disjunction(alloc, place, of)
 }
 
 #[cycle(expanding)]
@@ -233,7 +228,8 @@ fn expand_each<'a>(
 {
     let mut all = Vec::with_capacity(alloc, fs.len())?;
     for f in fs {
-        let g = expand_formula(alloc, scope, f)?;
+        let made = expand_formula(alloc, scope, f)?;
+        let g = Box::into_inner(made);
         all.push(g)?;
     }
     Ok(all)
@@ -246,14 +242,14 @@ fn expand_existential<'a>(
     place: Place,
     binder: &'a RawColumn,
     of: &'a TenseFormula,
-) -> Result<RawFormula, Memory>
-    ensures tree { IfOk result (λ made. raw_form_of made ≡ raw_exists place binder.now (expanded_in (within scope.old binder.now.name binder.now.name) (tense_form_of of.now))) }
+) -> Result<Box<RawFormula>, Memory>
+    ensures tree { IfOk result (λ made. raw_form_of made.value ≡ raw_exists place binder.now (expanded_in (within scope.old binder.now.name binder.now.name) (tense_form_of of.now))) }
     ensures scope { OnOk result (scope.new ≡ scope.old) }
 {
     let same = binder.name.copy(alloc)?;
-    let of = expand_inside(alloc, scope, &binder.name, same, of)?;
-    let binder = binder.copy(alloc)?;
-    some(alloc, place, binder, of)
+    let inside = expand_inside(alloc, scope, &binder.name, same, of)?;
+    let Inside { name, of } = inside;
+    some(alloc, place, renamed_column(alloc, binder, name)?, of)
 }
 
 #[cycle(expanding)]
@@ -263,14 +259,14 @@ fn expand_universal<'a>(
     place: Place,
     binder: &'a RawColumn,
     of: &'a TenseFormula,
-) -> Result<RawFormula, Memory>
-    ensures tree { IfOk result (λ made. raw_form_of made ≡ raw_forall place binder.now (expanded_in (within scope.old binder.now.name binder.now.name) (tense_form_of of.now))) }
+) -> Result<Box<RawFormula>, Memory>
+    ensures tree { IfOk result (λ made. raw_form_of made.value ≡ raw_forall place binder.now (expanded_in (within scope.old binder.now.name binder.now.name) (tense_form_of of.now))) }
     ensures scope { OnOk result (scope.new ≡ scope.old) }
 {
     let same = binder.name.copy(alloc)?;
-    let of = expand_inside(alloc, scope, &binder.name, same, of)?;
-    let binder = binder.copy(alloc)?;
-    every(alloc, place, binder, of)
+    let inside = expand_inside(alloc, scope, &binder.name, same, of)?;
+    let Inside { name, of } = inside;
+    every(alloc, place, renamed_column(alloc, binder, name)?, of)
 }
 
 // The formula inside one variable more.
@@ -281,62 +277,32 @@ fn expand_inside<'a>(
     written: &'a Name,
     present: Name,
     of: &'a TenseFormula,
-) -> Result<RawFormula, Memory>
-    ensures tree { IfOk result (λ made. raw_form_of made ≡ expanded_in (within scope.old written.now present) (tense_form_of of.now)) }
+) -> Result<Inside, Memory>
+    ensures name { IfOk result (λ made. made.name ≡ present) }
+    ensures tree { IfOk result (λ made. form_inside made ≡ expanded_in (within scope.old written.now present) (tense_form_of of.now)) }
     ensures scope { OnOk result (scope.new ≡ scope.old) }
 {
     scope.enter(written, present)?;
-    let made = expand_formula(alloc, scope, of)?;
-    scope.leave();
-    Ok(made)
+    let of = expand_formula(alloc, scope, of)?;
+    let name = scope.leave();
+    Ok(Inside { name, of })
 }
 
-// An operator's names, and its formula at its moment.
+// An operator's formula at its moment.
 #[cycle(expanding)]
 fn expand_at_moment<'a>(
     alloc: Global,
     scope: &mut Scope<'a>,
     at: Operator<'a>,
     of: &'a TenseFormula,
-) -> Result<(Opened, RawFormula), Memory>
-    ensures names { IfOk result (λ made. made.0 ≡ opened_in scope.old (operator_of at.entry)) }
-    ensures tree { IfOk result (λ made. raw_form_of made.1 ≡ expanded_in (within scope.old at.entry.name.now (moment_of (number_by scope.old) (operator_of at.entry))) (tense_form_of of.now)) }
+) -> Result<Inside, Memory>
+    requires { at.number ≡ number_by scope.old at.places.place }
+    ensures name { IfOk result (λ made. made.name ≡ moment_of (number_by scope.old) (operator_of at.entry)) }
+    ensures tree { IfOk result (λ made. form_inside made ≡ expanded_in (within scope.old at.entry.name.now (moment_of (number_by scope.old) (operator_of at.entry))) (tense_form_of of.now)) }
     ensures scope { OnOk result (scope.new ≡ scope.old) }
 {
-    let names = opened(alloc, scope, at)?;
-    let moment = names.moment.copy(alloc)?;
-    let of = expand_inside(alloc, scope, at.name, moment, of)?;
-    Ok((names, of))
-}
-
-#[cycle(expanding)]
-fn expand_once<'a>(
-    alloc: Global,
-    scope: &mut Scope<'a>,
-    at: Operator<'a>,
-    ends: (i64, i64),
-    of: &'a TenseFormula,
-) -> Result<RawFormula, Memory>
-    ensures tree { IfOk result (λ made. raw_form_of made ≡ expanded_in scope.old (once_tense (operator_of at.entry) ends.0 ends.1 (tense_form_of of.now))) }
-    ensures scope { OnOk result (scope.new ≡ scope.old) }
-{
-    let (names, of) = expand_at_moment(alloc, scope, at, of)?;
-    names.once(alloc, ends, of)
-}
-
-#[cycle(expanding)]
-fn expand_always<'a>(
-    alloc: Global,
-    scope: &mut Scope<'a>,
-    at: Operator<'a>,
-    ends: (i64, i64),
-    of: &'a TenseFormula,
-) -> Result<RawFormula, Memory>
-    ensures tree { IfOk result (λ made. raw_form_of made ≡ expanded_in scope.old (always_tense (operator_of at.entry) ends.0 ends.1 (tense_form_of of.now))) }
-    ensures scope { OnOk result (scope.new ≡ scope.old) }
-{
-    let (names, of) = expand_at_moment(alloc, scope, at, of)?;
-    names.always(alloc, ends, of)
+    let moment = scope.fresh(alloc, at.name, at.number, "")?;
+    expand_inside(alloc, scope, at.name, moment, of)
 }
 
 // The first formula of an operator, inside its variable for each moment between.
@@ -346,15 +312,46 @@ fn expand_between<'a>(
     scope: &mut Scope<'a>,
     at: Operator<'a>,
     of: &'a TenseFormula,
-) -> Result<Between, Memory>
+) -> Result<Inside, Memory>
+    requires { at.number ≡ number_by scope.old at.places.place }
     ensures name { IfOk result (λ made. made.name ≡ between_of (number_by scope.old) (operator_of at.entry)) }
-    ensures tree { IfOk result (λ made. raw_form_of made.of ≡ expanded_in (within scope.old at.entry.name.now (between_of (number_by scope.old) (operator_of at.entry))) (tense_form_of of.now)) }
+    ensures tree { IfOk result (λ made. form_inside made ≡ expanded_in (within scope.old at.entry.name.now (between_of (number_by scope.old) (operator_of at.entry))) (tense_form_of of.now)) }
     ensures scope { OnOk result (scope.new ≡ scope.old) }
 {
-    let name = between_name(alloc, scope, at)?;
-    let present = name.copy(alloc)?;
-    let of = expand_inside(alloc, scope, at.name, present, of)?;
-    Ok(Between { name, of })
+    let each = scope.fresh(alloc, at.name, at.number, "~")?;
+    expand_inside(alloc, scope, at.name, each, of)
+}
+
+#[cycle(expanding)]
+fn expand_once<'a>(
+    alloc: Global,
+    scope: &mut Scope<'a>,
+    at: Operator<'a>,
+    ends: (i64, i64),
+    of: &'a TenseFormula,
+) -> Result<Box<RawFormula>, Memory>
+    requires { at.number ≡ number_by scope.old at.places.place }
+    ensures tree { IfOk result (λ made. raw_form_of made.value ≡ expanded_in scope.old (once_tense (operator_of at.entry) ends.0 ends.1 (tense_form_of of.now))) }
+    ensures scope { OnOk result (scope.new ≡ scope.old) }
+{
+    let inside = expand_at_moment(alloc, scope, at, of)?;
+    at.places.once(alloc, scope.present(at.name), ends, inside)
+}
+
+#[cycle(expanding)]
+fn expand_always<'a>(
+    alloc: Global,
+    scope: &mut Scope<'a>,
+    at: Operator<'a>,
+    ends: (i64, i64),
+    of: &'a TenseFormula,
+) -> Result<Box<RawFormula>, Memory>
+    requires { at.number ≡ number_by scope.old at.places.place }
+    ensures tree { IfOk result (λ made. raw_form_of made.value ≡ expanded_in scope.old (always_tense (operator_of at.entry) ends.0 ends.1 (tense_form_of of.now))) }
+    ensures scope { OnOk result (scope.new ≡ scope.old) }
+{
+    let inside = expand_at_moment(alloc, scope, at, of)?;
+    at.places.always(alloc, scope.present(at.name), ends, inside)
 }
 
 // The operator whose first formula is expanded.
@@ -363,14 +360,15 @@ fn expand_since<'a>(
     alloc: Global,
     scope: &mut Scope<'a>,
     at: Operator<'a>,
-    between: Between,
+    between: Inside,
     of: &'a TenseFormula,
-) -> Result<RawFormula, Memory>
-    ensures tree { IfOk result (λ made. raw_form_of made ≡ since_form (operator_of at.entry) (moment_of (number_by scope.old) (operator_of at.entry)) between.name (present_name scope.old.names at.entry.name.now) (raw_form_of between.of) (expanded_in (within scope.old at.entry.name.now (moment_of (number_by scope.old) (operator_of at.entry))) (tense_form_of of.now))) }
+) -> Result<Box<RawFormula>, Memory>
+    requires { at.number ≡ number_by scope.old at.places.place }
+    ensures tree { IfOk result (λ made. raw_form_of made.value ≡ since_form (operator_of at.entry) (moment_of (number_by scope.old) (operator_of at.entry)) between.name (present_name scope.old.names at.entry.name.now) (form_inside between) (expanded_in (within scope.old at.entry.name.now (moment_of (number_by scope.old) (operator_of at.entry))) (tense_form_of of.now))) }
     ensures scope { OnOk result (scope.new ≡ scope.old) }
 {
-    let (names, of) = expand_at_moment(alloc, scope, at, of)?;
-    names.since(alloc, between, of)
+    let inside = expand_at_moment(alloc, scope, at, of)?;
+    at.places.since(alloc, scope.present(at.name), between, inside)
 }
 
 // The same for the other direction.
@@ -379,12 +377,13 @@ fn expand_until<'a>(
     alloc: Global,
     scope: &mut Scope<'a>,
     at: Operator<'a>,
-    between: Between,
+    between: Inside,
     of: &'a TenseFormula,
-) -> Result<RawFormula, Memory>
-    ensures tree { IfOk result (λ made. raw_form_of made ≡ until_form (operator_of at.entry) (moment_of (number_by scope.old) (operator_of at.entry)) between.name (present_name scope.old.names at.entry.name.now) (raw_form_of between.of) (expanded_in (within scope.old at.entry.name.now (moment_of (number_by scope.old) (operator_of at.entry))) (tense_form_of of.now))) }
+) -> Result<Box<RawFormula>, Memory>
+    requires { at.number ≡ number_by scope.old at.places.place }
+    ensures tree { IfOk result (λ made. raw_form_of made.value ≡ until_form (operator_of at.entry) (moment_of (number_by scope.old) (operator_of at.entry)) between.name (present_name scope.old.names at.entry.name.now) (form_inside between) (expanded_in (within scope.old at.entry.name.now (moment_of (number_by scope.old) (operator_of at.entry))) (tense_form_of of.now))) }
     ensures scope { OnOk result (scope.new ≡ scope.old) }
 {
-    let (names, of) = expand_at_moment(alloc, scope, at, of)?;
-    names.until(alloc, between, of)
+    let inside = expand_at_moment(alloc, scope, at, of)?;
+    at.places.until(alloc, scope.present(at.name), between, inside)
 }

@@ -5,6 +5,7 @@ ghost use Rattle.lrp_model.specs.declared.tokens.Place.{Place as PlaceOf};
 ghost use Rattle.lrp_tense.specs.Expanding.{renamed as renamed_term, renamed_kind as renamed_kind_of};
 
 use crate::scope::Scope;
+use crate::written_out::boxed;
 use lrp_model::{
     List, Memory, Name, Op, Place, RawFormula, RawKind, RawTerm, RawTermKind, RowPoint,
 };
@@ -20,11 +21,11 @@ fn renamed_kind(alloc: Global, scope: &Scope<'_>, kind: &RawTermKind) -> Result<
             Ok(RawTermKind::Text { text })
         }
         RawTermKind::Var { name } => {
-            let name = scope.present(alloc, name)?;
+            let name = scope.present(name).copy(alloc)?;
             Ok(RawTermKind::Var { name })
         }
         RawTermKind::Shifted { name, plus } => {
-            let name = scope.present(alloc, name)?;
+            let name = scope.present(name).copy(alloc)?;
             Ok(RawTermKind::Shifted { name, plus: *plus })
         }
     }
@@ -61,15 +62,12 @@ pub fn atom(
     place: Place,
     relation: &Name,
     terms: &[RawTerm],
-) -> Result<RawFormula, Memory>
-    ensures { IfOk result (λ made. raw_form_of made ≡ raw_atom place relation.now (map (renamed_term scope.now.names) terms.now)) }
+) -> Result<Box<RawFormula>, Memory>
+    ensures { IfOk result (λ made. raw_form_of made.value ≡ raw_atom place relation.now (map (renamed_term scope.now.names) terms.now)) }
 {
     let relation = relation.copy(alloc)?;
     let terms = renamed_each(alloc, scope, terms)?;
-    Ok(RawFormula {
-        kind: RawKind::Atom { relation, terms },
-        place,
-    })
+    boxed(alloc, place, RawKind::Atom { relation, terms })
 }
 
 /// What a comparison is, wherever it stands.
@@ -94,12 +92,9 @@ pub fn membership(
     place: Place,
     term: &RawTerm,
     point: RowPoint,
-) -> Result<RawFormula, Memory>
-    ensures { IfOk result (λ made. raw_form_of made ≡ raw_member place (renamed_term scope.now.names term.now) point) }
+) -> Result<Box<RawFormula>, Memory>
+    ensures { IfOk result (λ made. raw_form_of made.value ≡ raw_member place (renamed_term scope.now.names term.now) point) }
 {
     let term = renamed(alloc, scope, term)?;
-    Ok(RawFormula {
-        kind: RawKind::Member { term, point },
-        place,
-    })
+    boxed(alloc, place, RawKind::Member { term, point })
 }

@@ -1,8 +1,9 @@
 // What surrounds a formula while it is expanded: the numbers of the operators, and the variables that are bound.
-ghost use Rattle.std.specs.Prelude.{◌≡◌, ◌∷◌, [], ◌++◌, IfOk, OnOk};
+ghost use Rattle.std.specs.Prelude.{◌≡◌, ◌<◌, ◌∷◌, [], ◌++◌, length, IsTrue, string_bytes, bytes_eq, IfOk, OnOk};
+ghost use Rattle.lrp_model.specs.Texts.{Identifier};
 ghost use Rattle.std.specs.Fmt.{decimal};
 ghost use Rattle.std.specs.List.Sorted.{IsNonDecreasing};
-ghost use Rattle.lrp_tense.specs.Expanding.{Renaming, present_name};
+ghost use Rattle.lrp_tense.specs.Expanding.{present_name};
 ghost use Rattle.lrp_tense.specs.Named.{naming_of};
 ghost use Rattle.lrp_tense.specs.Scopes.{Around, within, number_by};
 
@@ -21,10 +22,13 @@ pub struct Variable<'a> {
 }
 
 /// The positions of all operators in order, and the variables around a formula, the innermost last.
+/// Beside them how many operators the walk has come by, and room for the text of a name.
 #[derive(Drop)]
 pub struct Scope<'a> {
     positions: Vec<u64>,
     variables: Vec<Variable<'a>>,
+    passed: usize,
+    text: String,
 }
 
 impl<'a> Model for Scope<'a> {
@@ -48,21 +52,41 @@ impl<'a> Scope<'a> {
         Scope {
             positions,
             variables: Vec::new(alloc),
+            passed: 0,
+            text: String::new(alloc),
         }
     }
 
     /// The number of the operator at a place, counted from 1.
-    pub fn number(&self, place: Place) -> u64
-        ensures { result ≡ number_by self.now place }
+    pub fn number(&mut self, place: Place) -> u64
+        ensures value { result ≡ number_by self.old place }
+        ensures scope { self.new ≡ self.old }
     {
-        number(self.positions.as_slice(), place)
+        let number = number(self.positions.as_slice(), self.passed, place);
+        self.passed = number as usize;
+        number
     }
 
     /// The name of a written variable here: what the innermost that binds it gives, and else its own.
-    pub fn present(&self, alloc: Global, written: &Name) -> Result<Name, Memory>
-        ensures { IfOk result (λ made. made ≡ present_name self.now.names written.now) }
+    pub fn present<'b>(&'b self, written: &'b Name) -> &'b Name
+        ensures { result.now ≡ present_name self.now.names written.now }
     {
-        present(alloc, self.variables.as_slice(), written)
+        present(self.variables.as_slice(), written)
+    }
+
+    /// The name with `~`, a number and this end behind it.
+    pub fn fresh(
+        &mut self,
+        alloc: Global,
+        name: &Name,
+        number: u64,
+        end: &str,
+    ) -> Result<Name, Memory>
+        ensures name { IfOk result (λ made. made ≡ name.now ++ 126 ∷ (decimal number ++ end.now)) }
+        ensures scope { OnOk result (self.new ≡ self.old) }
+    {
+        write_fresh(&mut self.text, name, number, end)?;
+        Name::new(alloc, self.text.as_str())
     }
 
     /// One variable further in.
@@ -73,44 +97,58 @@ impl<'a> Scope<'a> {
         Ok(())
     }
 
-    /// Out of the innermost variable.
-    pub fn leave(&mut self)
-        ensures { (inner : Renaming) (outer : Around) → self.old ≡ record outer { names = inner ∷ outer.names } → self.new ≡ outer }
+    /// Out of the innermost variable, whose name is given back.
+    pub fn leave(&mut self) -> Name
+        requires { 0 < length self.old.names }
+        ensures { (v present : Identifier) (outer : Around) → self.old ≡ within outer v present → (result ≡ present) × (self.new ≡ outer) }
     {
-        self.variables.pop();
+        let Variable { present, .. } = self.variables.take_last();
+        present
     }
 }
 
+// Whether two names have one length and end alike. Most names are told apart by it.
+fn looks_like(one: &[u8], other: &[u8]) -> bool
+    ensures { one.now ≡ other.now → IsTrue result }
+{
+    let length = one.len();
+    length == other.len() && (length == 0 || one[length - 1] == other[length - 1])
+}
+
+// Whether two names are the same.
+fn same(one: &Name, other: &Name) -> bool
+    ensures { result ≡ bytes_eq one.now other.now }
+{
+    looks_like(one.as_bytes(), other.as_bytes()) && *one == *other
+}
+
 // The name that the last of these variables which is so written gives, and else its own.
-fn present(alloc: Global, variables: &[Variable<'_>], written: &Name) -> Result<Name, Memory>
-    ensures { IfOk result (λ made. made ≡ present_name (naming_of variables.now) written.now) }
+fn present<'b>(variables: &'b [Variable<'_>], written: &'b Name) -> &'b Name
+    ensures { result.now ≡ present_name (naming_of variables.now) written.now }
 {
     let mut left = variables.len();
     while left > 0 {
         left -= 1;
         let around = &variables[left];
-        if *around.written == *written {
-            return around.present.copy(alloc);
+        if same(around.written, written) {
+            return &around.present;
         }
     }
-    written.copy(alloc)
+    written
 }
 
-// How many bytes `~`, a number of 64 bits and another `~` take at most.
-const LONGEST_END: usize = 22;
-
-/// The name with `~`, a number and this end behind it.
-pub fn fresh_name(alloc: Global, name: &Name, number: u64, end: &str) -> Result<Name, Memory>
-    ensures { IfOk result (λ made. made ≡ name.now ++ 126 ∷ (decimal number ++ end.now)) }
+// The name with `~`, a number and this end behind it, in place of what the text was.
+fn write_fresh(text: &mut String, name: &Name, number: u64, end: &str) -> Result<(), Memory>
+    ensures { OnOk result (string_bytes text.new ≡ name.now ++ 126 ∷ (decimal number ++ end.now)) }
 {
     // Names are made of texts alone, so they are UTF-8.
     let Ok(written) = from_utf8(name.as_bytes()) else {
         return Err(Memory);
     };
-    let mut text = String::with_capacity(alloc, written.len() + LONGEST_END)?;
+    text.clear();
     text.push_str(written)?;
     text.push('~')?;
     text.push_str(Buffer::new().format(number))?;
     text.push_str(end)?;
-    Name::new(alloc, text.as_str())
+    Ok(())
 }

@@ -1,311 +1,331 @@
 // What each operator stands for, by quantifiers over time.
+//
+// A formula is moved as rarely as can be: it stands in a box as soon as it is made, and what can fail is done before its parts are put together.
 ghost use Rattle.std.specs.Prelude.{◌≡◌, ◌∷◌, [], IfOk};
-ghost use Rattle.lrp_model.specs.RawQueries.{raw_form_of, raw_forms_of, raw_and, raw_or, raw_not, raw_group, raw_exists, raw_forall, raw_implies, raw_compare};
+ghost use Rattle.lrp_model.specs.RawQueries.{raw_kind, raw_form_of, raw_forms_of, raw_and, raw_or, raw_not, raw_group, raw_exists, raw_forall, raw_implies, raw_compare};
 ghost use Rattle.lrp_model.specs.declared.formulas.Op.TheVariants.{Le, Lt, Ge, Gt};
-ghost use Rattle.lrp_tense.specs.Trees.{operator_at};
-ghost use Rattle.lrp_tense.specs.Expanding.{time_binder, name_term, beside as beside_variable, beside_end as beside_end_of, beside_moment as beside_own, between_form, once_form, always_form, since_form, until_form};
+ghost use Rattle.lrp_tense.specs.Expanding.{time_binder as time_column, name_term, moved_term, beside as beside_variable, beside_end as beside_end_of, beside_moment as beside_own, between_form};
+ghost use Rattle.lrp_tense.specs.Written.{operator_there, form_inside, once_at, always_at, since_at, until_at};
 
 use lrp_model::{
     Memory, Name, Op, Place, RawColumn, RawFormula, RawKind, RawTerm, RawTermKind, Sort,
 };
 use std::alloc::Global;
 
-/// An operator that is written out: its place and that of its variable's name, the variable's present name, and the name of the operator's moment.
-#[derive(Debug, Drop)]
-pub struct Opened {
+/// Where an operator stands: the place of its first token, and that of its variable's name.
+#[derive(Clone, Copy)]
+pub struct Places {
     pub place: Place,
     pub name_place: Place,
-    pub present: Name,
-    pub moment: Name,
 }
 
-/// The first formula of `since` or `until`, expanded, and the variable that it has for each moment between.
+/// A formula, expanded, and the name of the variable that it stands inside.
 #[derive(Debug, Drop)]
-pub struct Between {
+pub struct Inside {
     pub name: Name,
-    pub of: RawFormula,
+    pub of: Box<RawFormula>,
 }
 
-fn named(alloc: Global, place: Place, name: &Name) -> Result<RawTerm, Memory>
-    ensures { IfOk result (λ made. made ≡ name_term place name.now) }
-{
-    let name = name.copy(alloc)?;
-    Ok(RawTerm {
-        kind: RawTermKind::Var { name },
-        place,
-    })
+// The names that are compared.
+#[derive(Debug, Drop)]
+struct Sides {
+    left: Name,
+    right: Name,
 }
 
-pub fn denied(alloc: Global, place: Place, of: RawFormula) -> Result<RawFormula, Memory>
-    ensures { IfOk result (λ made. raw_form_of made ≡ raw_not place (raw_form_of of)) }
+/// A formula in a box.
+pub fn boxed(alloc: Global, place: Place, kind: RawKind) -> Result<Box<RawFormula>, Memory>
+    ensures { IfOk result (λ made. raw_form_of made.value ≡ raw_kind kind place) }
 {
-    let of = Box::new(alloc, of)?;
-    Ok(RawFormula {
-        kind: RawKind::Not { of },
-        place,
-    })
+    Ok(Box::new(alloc, RawFormula { kind, place })?)
 }
 
-pub fn grouped(alloc: Global, place: Place, of: RawFormula) -> Result<RawFormula, Memory>
-    ensures { IfOk result (λ made. raw_form_of made ≡ raw_group place (raw_form_of of)) }
+pub fn denied(alloc: Global, place: Place, of: Box<RawFormula>) -> Result<Box<RawFormula>, Memory>
+    ensures { IfOk result (λ made. raw_form_of made.value ≡ raw_not place (raw_form_of of.value)) }
 {
-    let of = Box::new(alloc, of)?;
-    Ok(RawFormula {
-        kind: RawKind::Group { of },
-        place,
-    })
+    boxed(alloc, place, RawKind::Not { of })
+}
+
+pub fn grouped(alloc: Global, place: Place, of: Box<RawFormula>) -> Result<Box<RawFormula>, Memory>
+    ensures { IfOk result (λ made. raw_form_of made.value ≡ raw_group place (raw_form_of of.value)) }
+{
+    boxed(alloc, place, RawKind::Group { of })
 }
 
 pub fn implied(
     alloc: Global,
     place: Place,
-    left: RawFormula,
-    right: RawFormula,
-) -> Result<RawFormula, Memory>
-    ensures { IfOk result (λ made. raw_form_of made ≡ raw_implies place (raw_form_of left) (raw_form_of right)) }
+    left: Box<RawFormula>,
+    right: Box<RawFormula>,
+) -> Result<Box<RawFormula>, Memory>
+    ensures { IfOk result (λ made. raw_form_of made.value ≡ raw_implies place (raw_form_of left.value) (raw_form_of right.value)) }
 {
-    let left = Box::new(alloc, left)?;
-    let right = Box::new(alloc, right)?;
-    Ok(RawFormula {
-        kind: RawKind::Implies { left, right },
-        place,
-    })
+    boxed(alloc, place, RawKind::Implies { left, right })
 }
 
 pub fn some(
     alloc: Global,
     place: Place,
     binder: RawColumn,
-    of: RawFormula,
-) -> Result<RawFormula, Memory>
-    ensures { IfOk result (λ made. raw_form_of made ≡ raw_exists place binder (raw_form_of of)) }
+    of: Box<RawFormula>,
+) -> Result<Box<RawFormula>, Memory>
+    ensures { IfOk result (λ made. raw_form_of made.value ≡ raw_exists place binder (raw_form_of of.value)) }
 {
-    let of = Box::new(alloc, of)?;
-    Ok(RawFormula {
-        kind: RawKind::Exists { binder, of },
-        place,
-    })
+    boxed(alloc, place, RawKind::Exists { binder, of })
 }
 
 pub fn every(
     alloc: Global,
     place: Place,
     binder: RawColumn,
-    of: RawFormula,
-) -> Result<RawFormula, Memory>
-    ensures { IfOk result (λ made. raw_form_of made ≡ raw_forall place binder (raw_form_of of)) }
+    of: Box<RawFormula>,
+) -> Result<Box<RawFormula>, Memory>
+    ensures { IfOk result (λ made. raw_form_of made.value ≡ raw_forall place binder (raw_form_of of.value)) }
 {
-    let of = Box::new(alloc, of)?;
-    Ok(RawFormula {
-        kind: RawKind::Forall { binder, of },
-        place,
-    })
+    boxed(alloc, place, RawKind::Forall { binder, of })
 }
 
-pub fn conjunction(place: Place, of: Vec<RawFormula>) -> RawFormula
-    ensures { raw_form_of result ≡ raw_and place (raw_forms_of of.items) }
-{
-    RawFormula {
-        kind: RawKind::And { of },
-        place,
-    }
-}
-
-pub fn disjunction(place: Place, of: Vec<RawFormula>) -> RawFormula
-    ensures { raw_form_of result ≡ raw_or place (raw_forms_of of.items) }
-{
-    RawFormula {
-        kind: RawKind::Or { of },
-        place,
-    }
-}
-
-fn two(alloc: Global, first: RawFormula, second: RawFormula) -> Result<Vec<RawFormula>, Memory>
-    ensures { IfOk result (λ made. made.items ≡ first ∷ second ∷ []) }
-{
-    Ok(vec![in alloc; first, second]?)
-}
-
-fn three(
+pub fn conjunction(
     alloc: Global,
-    first: RawFormula,
-    second: RawFormula,
-    third: RawFormula,
-) -> Result<Vec<RawFormula>, Memory>
-    ensures { IfOk result (λ made. made.items ≡ first ∷ second ∷ third ∷ []) }
+    place: Place,
+    of: Vec<RawFormula>,
+) -> Result<Box<RawFormula>, Memory>
+    ensures { IfOk result (λ made. raw_form_of made.value ≡ raw_and place (raw_forms_of of.items)) }
 {
-    Ok(vec![in alloc; first, second, third]?)
+    boxed(alloc, place, RawKind::And { of })
+}
+
+pub fn disjunction(
+    alloc: Global,
+    place: Place,
+    of: Vec<RawFormula>,
+) -> Result<Box<RawFormula>, Memory>
+    ensures { IfOk result (λ made. raw_form_of made.value ≡ raw_or place (raw_forms_of of.items)) }
+{
+    boxed(alloc, place, RawKind::Or { of })
+}
+
+fn copied(alloc: Global, left: &Name, right: &Name) -> Result<Sides, Memory>
+    ensures { IfOk result (λ made. made ≡ record { left = left.now; right = right.now }) }
+{
+    let left = left.copy(alloc)?;
+    let right = right.copy(alloc)?;
+    Ok(Sides { left, right })
+}
+
+fn named(place: Place, name: Name) -> RawTerm
+    ensures { result ≡ name_term place name }
+{
+    RawTerm {
+        kind: RawTermKind::Var { name },
+        place,
+    }
+}
+
+fn time_binder(place: Place, name: Name) -> RawColumn
+    ensures { result ≡ time_column place name }
+{
+    RawColumn {
+        name,
+        place,
+        sort: Sort::Time,
+        sort_place: place,
+    }
 }
 
 // A name compared with another term.
-fn compared(
-    alloc: Global,
-    place: Place,
-    name: &Name,
-    op: Op,
-    right: RawTerm,
-) -> Result<RawFormula, Memory>
-    ensures { IfOk result (λ made. raw_form_of made ≡ raw_compare place (name_term place name.now) op right) }
+fn compared(place: Place, name: Name, op: Op, right: RawTerm) -> RawFormula
+    ensures { raw_form_of result ≡ raw_compare place (name_term place name) op right }
 {
-    let left = named(alloc, place, name)?;
-    Ok(RawFormula {
-        kind: RawKind::Compare { left, op, right },
+    RawFormula {
+        kind: RawKind::Compare {
+            left: named(place, name),
+            op,
+            right,
+        },
         place,
-    })
+    }
 }
 
-impl Opened {
+impl Places {
     // Compared with the operator's variable.
-    fn beside(&self, alloc: Global, name: &Name, op: Op) -> Result<RawFormula, Memory>
-        ensures { IfOk result (λ made. raw_form_of made ≡ beside_variable (operator_at self.now.place self.now.present self.now.name_place) name.now op self.now.present) }
+    fn beside(&self, op: Op, names: Sides) -> RawFormula
+        ensures { raw_form_of result ≡ beside_variable (operator_there self.now names.right) names.left op names.right }
     {
-        let right = named(alloc, self.name_place, &self.present)?;
-        compared(alloc, self.place, name, op, right)
+        let Sides { left, right } = names;
+        compared(self.place, left, op, named(self.name_place, right))
     }
 
-    // The moment compared with an end of the interval.
-    fn beside_end(&self, alloc: Global, op: Op, end: i64) -> Result<RawFormula, Memory>
-        ensures { IfOk result (λ made. raw_form_of made ≡ beside_end_of (operator_at self.now.place self.now.present self.now.name_place) self.now.moment op self.now.present end) }
+    // Compared with the operator's variable plus an end of the interval.
+    fn beside_end(&self, op: Op, names: Sides, end: i64) -> RawFormula
+        ensures { raw_form_of result ≡ beside_end_of (operator_there self.now names.right) names.left op names.right end }
     {
-        let name = self.present.copy(alloc)?;
+        let Sides { left, right } = names;
         let right = RawTerm {
-            kind: RawTermKind::Shifted { name, plus: end },
+            kind: RawTermKind::Shifted {
+                name: right,
+                plus: end,
+            },
             place: self.name_place,
         };
-        compared(alloc, self.place, &self.moment, op, right)
+        compared(self.place, left, op, right)
     }
 
-    // The moment compared with both ends of the interval.
-    fn beside_ends(
-        &self,
-        alloc: Global,
-        ends: (i64, i64),
-    ) -> Result<(RawFormula, RawFormula), Memory>
-        ensures low { IfOk result (λ made. raw_form_of made.0 ≡ beside_end_of (operator_at self.now.place self.now.present self.now.name_place) self.now.moment Ge self.now.present ends.0) }
-        ensures high { IfOk result (λ made. raw_form_of made.1 ≡ beside_end_of (operator_at self.now.place self.now.present self.now.name_place) self.now.moment Le self.now.present ends.1) }
+    // Two variables of the operator compared.
+    fn beside_moment(&self, op: Op, names: Sides) -> RawFormula
+        ensures { raw_form_of result ≡ beside_own (operator_there self.now names.right) names.left op names.right }
     {
-        let low = self.beside_end(alloc, Op::Ge, ends.0)?;
-        let high = self.beside_end(alloc, Op::Le, ends.1)?;
-        Ok((low, high))
-    }
-
-    // Another variable compared with the operator's moment.
-    fn beside_moment(&self, alloc: Global, name: &Name, op: Op) -> Result<RawFormula, Memory>
-        ensures { IfOk result (λ made. raw_form_of made ≡ beside_own (operator_at self.now.place self.now.present self.now.name_place) name.now op self.now.moment) }
-    {
-        let right = named(alloc, self.place, &self.moment)?;
-        compared(alloc, self.place, name, op, right)
-    }
-
-    fn binder(&self, alloc: Global, name: &Name) -> Result<RawColumn, Memory>
-        ensures { IfOk result (λ made. made ≡ time_binder self.now.place name.now) }
-    {
-        let name = name.copy(alloc)?;
-        Ok(RawColumn {
-            name,
-            place: self.place,
-            sort: Sort::Time,
-            sort_place: self.place,
-        })
+        let Sides { left, right } = names;
+        compared(self.place, left, op, named(self.place, right))
     }
 
     // Some moment for which all hold.
-    fn some_moment(&self, alloc: Global, all: Vec<RawFormula>) -> Result<RawFormula, Memory>
-        ensures { IfOk result (λ made. raw_form_of made ≡ raw_exists self.now.place (time_binder self.now.place self.now.moment) (raw_and self.now.place (raw_forms_of all.items))) }
+    fn some_moment(
+        &self,
+        alloc: Global,
+        name: Name,
+        all: Vec<RawFormula>,
+    ) -> Result<Box<RawFormula>, Memory>
+        ensures { IfOk result (λ made. raw_form_of made.value ≡ raw_exists self.now.place (time_column self.now.place name) (raw_and self.now.place (raw_forms_of all.items))) }
     {
-        let binder = self.binder(alloc, &self.moment)?;
-        some(alloc, self.place, binder, conjunction(self.place, all))
+        let all = conjunction(alloc, self.place, all)?;
+        some(alloc, self.place, time_binder(self.place, name), all)
     }
 
     // Each value for which both hold satisfies the formula.
     fn each_value(
         &self,
         alloc: Global,
-        name: &Name,
         both: Vec<RawFormula>,
-        of: RawFormula,
-    ) -> Result<RawFormula, Memory>
-        ensures { IfOk result (λ made. raw_form_of made ≡ raw_forall self.now.place (time_binder self.now.place name.now) (raw_implies self.now.place (raw_and self.now.place (raw_forms_of both.items)) (raw_form_of of))) }
+        inside: Inside,
+    ) -> Result<Box<RawFormula>, Memory>
+        ensures { IfOk result (λ made. raw_form_of made.value ≡ raw_forall self.now.place (time_column self.now.place inside.name) (raw_implies self.now.place (raw_and self.now.place (raw_forms_of both.items)) (form_inside inside))) }
     {
-        let binder = self.binder(alloc, name)?;
-        let within = conjunction(self.place, both);
+        let Inside { name, of } = inside;
+        let within = conjunction(alloc, self.place, both)?;
         let implication = implied(alloc, self.place, within, of)?;
-        every(alloc, self.place, binder, implication)
-    }
-
-    // forall y: time ((y > x and y <= v) implies f)
-    fn each_since(&self, alloc: Global, between: Between) -> Result<RawFormula, Memory>
-        ensures { IfOk result (λ made. raw_form_of made ≡ between_form (operator_at self.now.place self.now.present self.now.name_place) between.name (beside_own (operator_at self.now.place self.now.present self.now.name_place) between.name Gt self.now.moment) (beside_variable (operator_at self.now.place self.now.present self.now.name_place) between.name Le self.now.present) (raw_form_of between.of)) }
-    {
-        let low = self.beside_moment(alloc, &between.name, Op::Gt)?;
-        let high = self.beside(alloc, &between.name, Op::Le)?;
-        let both = two(alloc, low, high)?;
-        let Between { name, of } = between;
-        self.each_value(alloc, &name, both, of)
-    }
-
-    // forall y: time ((y >= v and y < x) implies f)
-    fn each_until(&self, alloc: Global, between: Between) -> Result<RawFormula, Memory>
-        ensures { IfOk result (λ made. raw_form_of made ≡ between_form (operator_at self.now.place self.now.present self.now.name_place) between.name (beside_variable (operator_at self.now.place self.now.present self.now.name_place) between.name Ge self.now.present) (beside_own (operator_at self.now.place self.now.present self.now.name_place) between.name Lt self.now.moment) (raw_form_of between.of)) }
-    {
-        let low = self.beside(alloc, &between.name, Op::Ge)?;
-        let high = self.beside_moment(alloc, &between.name, Op::Lt)?;
-        let both = two(alloc, low, high)?;
-        let Between { name, of } = between;
-        self.each_value(alloc, &name, both, of)
+        every(alloc, self.place, time_binder(self.place, name), implication)
     }
 
     /// exists x: time (x >= v + from and x <= v + to and f)
     pub fn once(
         &self,
         alloc: Global,
+        v: &Name,
         ends: (i64, i64),
-        of: RawFormula,
-    ) -> Result<RawFormula, Memory>
-        ensures { IfOk result (λ made. raw_form_of made ≡ once_form (operator_at self.now.place self.now.present self.now.name_place) self.now.moment self.now.present ends.0 ends.1 (raw_form_of of)) }
+        inside: Inside,
+    ) -> Result<Box<RawFormula>, Memory>
+        ensures { IfOk result (λ made. raw_form_of made.value ≡ once_at self.now v.now ends.0 ends.1 inside) }
     {
-        let (low, high) = self.beside_ends(alloc, ends)?;
-        self.some_moment(alloc, three(alloc, low, high, of)?)
+        let low = copied(alloc, &inside.name, v)?;
+        let high = copied(alloc, &inside.name, v)?;
+        let mut all = Vec::with_capacity(alloc, 3)?;
+        let Inside { name, of } = inside;
+        all.push_reserved(self.beside_end(Op::Ge, low, ends.0));
+        all.push_reserved(self.beside_end(Op::Le, high, ends.1));
+        all.push_reserved(Box::into_inner(of));
+        self.some_moment(alloc, name, all)
     }
 
     /// forall x: time ((x >= v + from and x <= v + to) implies f)
     pub fn always(
         &self,
         alloc: Global,
+        v: &Name,
         ends: (i64, i64),
-        of: RawFormula,
-    ) -> Result<RawFormula, Memory>
-        ensures { IfOk result (λ made. raw_form_of made ≡ always_form (operator_at self.now.place self.now.present self.now.name_place) self.now.moment self.now.present ends.0 ends.1 (raw_form_of of)) }
+        inside: Inside,
+    ) -> Result<Box<RawFormula>, Memory>
+        ensures { IfOk result (λ made. raw_form_of made.value ≡ always_at self.now v.now ends.0 ends.1 inside) }
     {
-        let (low, high) = self.beside_ends(alloc, ends)?;
-        self.each_value(alloc, &self.moment, two(alloc, low, high)?, of)
+        let low = copied(alloc, &inside.name, v)?;
+        let high = copied(alloc, &inside.name, v)?;
+        let mut both = Vec::with_capacity(alloc, 2)?;
+        both.push_reserved(self.beside_end(Op::Ge, low, ends.0));
+        both.push_reserved(self.beside_end(Op::Le, high, ends.1));
+        self.each_value(alloc, both, inside)
+    }
+
+    // forall y: time ((y > x and y <= v) implies f)
+    fn each_since(
+        &self,
+        alloc: Global,
+        v: &Name,
+        x: &Name,
+        between: Inside,
+    ) -> Result<Box<RawFormula>, Memory>
+        ensures { IfOk result (λ made. raw_form_of made.value ≡ between_form (operator_there self.now v.now) between.name (beside_own (operator_there self.now v.now) between.name Gt x.now) (beside_variable (operator_there self.now v.now) between.name Le v.now) (form_inside between)) }
+    {
+        let low = copied(alloc, &between.name, x)?;
+        let high = copied(alloc, &between.name, v)?;
+        let mut both = Vec::with_capacity(alloc, 2)?;
+        both.push_reserved(self.beside_moment(Op::Gt, low));
+        both.push_reserved(self.beside(Op::Le, high));
+        self.each_value(alloc, both, between)
+    }
+
+    // forall y: time ((y >= v and y < x) implies f)
+    fn each_until(
+        &self,
+        alloc: Global,
+        v: &Name,
+        x: &Name,
+        between: Inside,
+    ) -> Result<Box<RawFormula>, Memory>
+        ensures { IfOk result (λ made. raw_form_of made.value ≡ between_form (operator_there self.now v.now) between.name (beside_variable (operator_there self.now v.now) between.name Ge v.now) (beside_own (operator_there self.now v.now) between.name Lt x.now) (form_inside between)) }
+    {
+        let low = copied(alloc, &between.name, v)?;
+        let high = copied(alloc, &between.name, x)?;
+        let mut both = Vec::with_capacity(alloc, 2)?;
+        both.push_reserved(self.beside(Op::Ge, low));
+        both.push_reserved(self.beside_moment(Op::Lt, high));
+        self.each_value(alloc, both, between)
+    }
+
+    // exists x: time (x beside v and g and each)
+    fn far_end(
+        &self,
+        alloc: Global,
+        first: RawFormula,
+        inside: Inside,
+        each: Box<RawFormula>,
+    ) -> Result<Box<RawFormula>, Memory>
+        ensures { IfOk result (λ made. raw_form_of made.value ≡ raw_exists self.now.place (time_column self.now.place inside.name) (raw_and self.now.place (raw_forms_of (first ∷ inside.of.value ∷ each.value ∷ [])))) }
+    {
+        let mut all = Vec::with_capacity(alloc, 3)?;
+        let Inside { name, of } = inside;
+        all.push_reserved(first);
+        all.push_reserved(Box::into_inner(of));
+        all.push_reserved(Box::into_inner(each));
+        self.some_moment(alloc, name, all)
     }
 
     /// exists x: time (x <= v and g and forall y: time ((y > x and y <= v) implies f))
     pub fn since(
         &self,
         alloc: Global,
-        between: Between,
-        right: RawFormula,
-    ) -> Result<RawFormula, Memory>
-        ensures { IfOk result (λ made. raw_form_of made ≡ since_form (operator_at self.now.place self.now.present self.now.name_place) self.now.moment between.name self.now.present (raw_form_of between.of) (raw_form_of right)) }
+        v: &Name,
+        between: Inside,
+        inside: Inside,
+    ) -> Result<Box<RawFormula>, Memory>
+        ensures { IfOk result (λ made. raw_form_of made.value ≡ since_at self.now v.now between inside) }
     {
-        let between = self.each_since(alloc, between)?;
-        let first = self.beside(alloc, &self.moment, Op::Le)?;
-        self.some_moment(alloc, three(alloc, first, right, between)?)
+        let each = self.each_since(alloc, v, &inside.name, between)?;
+        let names = copied(alloc, &inside.name, v)?;
+        self.far_end(alloc, self.beside(Op::Le, names), inside, each)
     }
 
     /// exists x: time (x >= v and g and forall y: time ((y >= v and y < x) implies f))
     pub fn until(
         &self,
         alloc: Global,
-        between: Between,
-        right: RawFormula,
-    ) -> Result<RawFormula, Memory>
-        ensures { IfOk result (λ made. raw_form_of made ≡ until_form (operator_at self.now.place self.now.present self.now.name_place) self.now.moment between.name self.now.present (raw_form_of between.of) (raw_form_of right)) }
+        v: &Name,
+        between: Inside,
+        inside: Inside,
+    ) -> Result<Box<RawFormula>, Memory>
+        ensures { IfOk result (λ made. raw_form_of made.value ≡ until_at self.now v.now between inside) }
     {
-        let between = self.each_until(alloc, between)?;
-        let first = self.beside(alloc, &self.moment, Op::Ge)?;
-        self.some_moment(alloc, three(alloc, first, right, between)?)
+        let each = self.each_until(alloc, v, &inside.name, between)?;
+        let names = copied(alloc, &inside.name, v)?;
+        self.far_end(alloc, self.beside(Op::Ge, names), inside, each)
     }
 }

@@ -1,8 +1,8 @@
 use Rattle.std.proofs.Common.{ap, ◌∙◌}
+use Rattle.lrp_model.specs.RawQueries.{raw_form_of}
 use Rattle.lrp_tense.specs.Trees.{tense_form_of}
-use Rattle.lrp_tense.specs.Expanding.{renamed_to}
 use Rattle.lrp_tense.specs.Scopes.{number_by, expanded_in}
-use Rattle.lrp_tense.proofs.Steps.{and_node, or_node, if_ok_then, expand_step}
+use Rattle.lrp_tense.proofs.Steps.{and_node, or_node, if_ok_then, expand_step, is_inside}
 use Rattle.lrp_tense.proofs.expansion.+expanding.Goals as goal
 
 pub expand_formula-returns-in-And-clause-tree : goal.expand_formula-returns-in-And-clause-tree
@@ -15,14 +15,21 @@ expand_formula-returns-in-Or-clause-tree t c =
     if_ok_then c.expand_disjunction.result _ _ c.expand_disjunction.ensures.tree (λ made h.
     h ∙ or_node c.args.f.now c.in-Or.of c.deref-in-Or.result.now (number_by c.args.scope.now) c.args.scope.now.names c.in-Or.is c.deref-in-Or.ensures.value)
 
+pub expand_inside-leave-name-requires : goal.expand_inside-leave-name-requires
+expand_inside-leave-name-requires t c = is_inside c.args.scope.now _ c.args.written.now c.args.present (c.in_ok-of.ensures.scope ∙ c.in_ok-enter.ensures)
+
+pub expand_inside-returns-clause-name : goal.expand_inside-returns-clause-name
+expand_inside-returns-clause-name t c = (c.leave-name.ensures c.args.written.now c.args.present c.args.scope.now (c.in_ok-of.ensures.scope ∙ c.in_ok-enter.ensures)).0
+
 pub expand_inside-returns-clause-scope : goal.expand_inside-returns-clause-scope
-expand_inside-returns-clause-scope t c = c.leave.ensures (renamed_to c.args.written.now c.args.present) c.args.scope.now (c.in_ok-made.ensures.scope ∙ c.in_ok-enter.ensures)
+expand_inside-returns-clause-scope t c = (c.leave-name.ensures c.args.written.now c.args.present c.args.scope.now (c.in_ok-of.ensures.scope ∙ c.in_ok-enter.ensures)).1
 
 pub expand_each-loop-f-preserved : goal.expand_each-loop-f-preserved
 expand_each-loop-f-preserved t c =
     let kept = c.loop-f.invariant in
-    let k = c.in_ok-g.ensures in
+    let k = c.in_ok-made.ensures in
+    let g = c.into_inner-g.result in
     record {
-      trees = expand_step c.args.fs.now c.loop-f.all.items _ c.loop-f.f-index c.f-item.result c.in_ok-g.g (number_by c.args.scope.now) c.args.scope.now.names c.loop-f-test.true c.f-item.is c.in_ok-push.ensures.items kept.trees (k.tree ∙ ap (λ a. expanded_in a (tense_form_of c.f-item.result)) kept.scope);
+      trees = expand_step c.args.fs.now c.loop-f.all.items _ c.loop-f.f-index c.f-item.result g (number_by c.args.scope.now) c.args.scope.now.names c.loop-f-test.true c.f-item.is c.in_ok-push.ensures.items kept.trees (ap raw_form_of c.into_inner-g.ensures ∙ k.tree ∙ ap (λ a. expanded_in a (tense_form_of c.f-item.result)) kept.scope);
       scope = k.scope ∙ kept.scope;
     }

@@ -1,5 +1,5 @@
 use Rattle.std.proofs.Common.{◌≡◌, ap, sym, subst, ◌∙◌}
-use Rattle.lrp_model.specs.RawQueries.{raw_question_of}
+use Rattle.lrp_model.specs.RawQueries.{raw_form_of, raw_question_of}
 use Rattle.lrp_tense.specs.Trees.{tense_form_of, tense_question_of}
 use Rattle.lrp_tense.specs.Expanding.{expanded_question}
 use Rattle.lrp_tense.specs.Laws.{KeepsMeaning}
@@ -12,7 +12,7 @@ pub returns : goal.returns
 returns c =
     let numbers = c.in_ok-positions.ensures in
     let q = tense_question_of c.args.query.now in
-    let tree : raw_question_of (record { head = c.in_ok-head.head; body = c.in_ok-body.body }) ≡ expanded_question q =
+    let tree : raw_question_of (record { head = c.in_ok-head.head; body = c.into_inner-body.result }) ≡ expanded_question q =
     expanded_query c.args.query.now _ c.in_ok-positions.positions.items numbers c.in_ok-head.ensures
-    (c.in_ok-body.ensures.tree ∙ ap (λ a. expanded_in a (tense_form_of c.args.query.now.body)) c.of-scope.ensures) in
+    (ap raw_form_of c.into_inner-body.ensures ∙ c.in_ok-made.ensures.tree ∙ ap (λ a. expanded_in a (tense_form_of c.args.query.now.body)) c.of-scope.ensures) in
     record { tree = tree; meaning = subst (KeepsMeaning q) (sym tree) (kept_meaning q c.requires numbers.few) }
