@@ -351,7 +351,8 @@ fn expand_always<'a>(
     ensures scope { OnOk result (scope.new ≡ scope.old) }
 {
     let inside = expand_at_moment(alloc, scope, at, of)?;
-    at.places.always(alloc, scope.present(at.name), ends, inside)
+    at.places
+        .always(alloc, scope.present(at.name), ends, inside)
 }
 
 // The operator whose first formula is expanded.
@@ -368,7 +369,8 @@ fn expand_since<'a>(
     ensures scope { OnOk result (scope.new ≡ scope.old) }
 {
     let inside = expand_at_moment(alloc, scope, at, of)?;
-    at.places.since(alloc, scope.present(at.name), between, inside)
+    at.places
+        .since(alloc, scope.present(at.name), between, inside)
 }
 
 // The same for the other direction.
@@ -385,5 +387,6 @@ fn expand_until<'a>(
     ensures scope { OnOk result (scope.new ≡ scope.old) }
 {
     let inside = expand_at_moment(alloc, scope, at, of)?;
-    at.places.until(alloc, scope.present(at.name), between, inside)
+    at.places
+        .until(alloc, scope.present(at.name), between, inside)
 }

@@ -204,7 +204,12 @@ impl Places {
         let Inside { name, of } = inside;
         let within = conjunction(alloc, self.place, both)?;
         let implication = implied(alloc, self.place, within, of)?;
-        every(alloc, self.place, time_binder(self.place, name), implication)
+        every(
+            alloc,
+            self.place,
+            time_binder(self.place, name),
+            implication,
+        )
     }
 
     /// exists x: time (x >= v + from and x <= v + to and f)
