@@ -1,5 +1,5 @@
 -- Spans that are gathered by texts have just the numbers of the store with these texts.
-use Rattle.std.proofs.Common.{◌≡◌, ℕ, zero, suc, ◌^◌, replicate, ◌+◌, ◌<◌, ◌≤◌, ◌⊎◌, inl, inr, List, [], ◌∷◌, ◌++◌, Option, Some, None, cond, length, take, get_or, unwrap_or, arith, refl, sym, subst, ap, ◌∙◌}
+use Rattle.std.proofs.Common.{◌≡◌, ℕ, zero, suc, ◌^◌, replicate, ◌+◌, ◌<◌, ◌≤◌, ◌⊎◌, inl, inr, List, [], ◌∷◌, ◌++◌, Option, Some, None, cond, length, take, get_or, unwrap_or, arith, refl, sym, subst, ap, append_assoc, append-nil, ◌∙◌}
 use Rattle.std.specs.Prelude.{ℤ, pos, ◌+ℤ◌, Contains, is_some, slice_get}
 use Rattle.std.specs.FinMap as finite
 use Rattle.std.specs.FinMap.{contains_key-keys, get, get-empty, get-insert}
@@ -14,10 +14,11 @@ use Rattle.lrp_slots.proofs.Tables.{cells_total, same_cell}
 use Rattle.lrp_zone.specs.Zones.{IsMember, ZoneView, columns_of}
 use Rattle.lrp_store.specs.Stores.{IsCellOf, IsStore, StoreView, tables_at, zone_of, zones_at}
 use Rattle.lrp_store.proofs.Held.{cell_held, cell_or, held_of}
-use Rattle.lrp_spans.specs.Groups.{AddsSpans, AreGroups, AreNumbersOf, HasSpanFor, HoldsNumber, IsSpanIn, SpanLists, group_cell}
+use Rattle.lrp_store.specs.Reading.{entries_of}
+use Rattle.lrp_spans.specs.Groups.{AppendsSpans, AreGroups, AreNumbersOf, HasSpanAt, HoldsNumber, IsSpanAt, IsSpanIn, SpanLists, group_cell}
 use Rattle.lrp_spans.specs.Spans.{AreMerged, HasNumber, IsSpan, IsSpanOf}
 use Rattle.lrp_spans.specs.declared.spans.Span.{Span}
-use Rattle.lrp_spans.proofs.Lists.{below_or, in_cons, in_map, in_none, in_one, map_in, one_in}
+use Rattle.lrp_spans.proofs.Lists.{below_or, head_in, in_cons, in_map, in_none, in_one, later, map_in, one_in}
 
 -- the list of one cell was put in its place
 put : (lists : SpanLists) (c : Cell) (list : List Span) (q : Cell) → ((q ≡ c) × (list_at (finite.insert lists c list) q ≡ list)) ⊎ (list_at (finite.insert lists c list) q ≡ list_at lists q)
@@ -41,50 +42,39 @@ zone_column s is one cell z h =
 pub zone_period : (s : StoreView) (cell : Cell) (z : ZoneView) → Contains (zones_at s cell) z → z.period ≡ s.period
 zone_period s cell z h = let t = in_map (zone_of s cell) (tables_at s cell) z h in ap (λ v. v.period) (sym t.2)
 
-pub read_zone : (zones : List ZoneView) (i : ℕ) (z : ZoneView) → slice_get zones i ≡ Some z → Contains zones z
-read_zone zones i z e = (i, slice_get_within zones i z e, get_or_from_slice_get zones i z z e)
-
-pub never_none : (s : StoreView) (cell : Cell) (i : ℕ) → i < length (tables_at s cell) → None ≡ slice_get (zones_at s cell) i → ⊥
-never_none s cell i l e = at (zones_at s cell) i (let n : length (zones_at s cell) ≡ length (tables_at s cell) = length-map (tables_at s cell) (zone_of s cell) in omega (arith, l, n)) e
-  where
-    at : {X : Type 0} (xs : List X) (i : ℕ) → i < length xs → None ≡ slice_get xs i → ⊥
-    at [] i l e = absurd (omega arith)
-    at (x ∷ xs) zero l e = cc
-    at (x ∷ xs) (suc i) l e = at xs i (omega arith) e
-
-pub adds_none : (s : StoreView) (cell : Cell) (lists : SpanLists) → AddsSpans s cell [] lists lists
-adds_none s cell lists = record { to = λ g p h. inl h; kept = λ g p h. h; from = λ z h. absurd (in_none z h) }
+pub appends_none : (group : Cell) (lists : SpanLists) → AppendsSpans group [] lists lists
+appends_none group lists = record { to = λ g p h. inl h; kept = λ g p h. h; from = λ z h. absurd (in_none z h) }
 
 -- the span of one more zone
-module _ (s : StoreView) (cell : Cell) (i : ℕ) (z : ZoneView) (e : slice_get (zones_at s cell) i ≡ Some z) (span : Span) (is : IsSpanOf z span) (old now new : SpanLists)
-    (added : new ≡ finite.insert now (group_cell cell) (list_at now (group_cell cell) ++ span ∷ [])) where
+module _ (group : Cell) (done : List ZoneView) (z : ZoneView) (span : Span) (is : IsSpanOf z span) (old now new : SpanLists)
+    (added : new ≡ finite.insert now group (list_at now group ++ span ∷ [])) where
   keep : (g : Cell) (p : Span) → Contains (list_at now g) p → Contains (list_at new g) p
-  keep g p h = subst (λ m. Contains (list_at m g) p) (sym added) (elim (put now (group_cell cell) (list_at now (group_cell cell) ++ span ∷ []) g) [
-    | inl q ↦ subst (λ l. Contains l p) (sym q.1) (Contains-append_left (list_at now (group_cell cell)) (span ∷ []) p (subst (λ c. Contains (list_at now c) p) q.0 h))
+  keep g p h = subst (λ m. Contains (list_at m g) p) (sym added) (elim (put now group (list_at now group ++ span ∷ []) g) [
+    | inl q ↦ subst (λ l. Contains l p) (sym q.1) (Contains-append_left (list_at now group) (span ∷ []) p (subst (λ c. Contains (list_at now c) p) q.0 h))
     | inr q ↦ subst (λ l. Contains l p) (sym q) h
   ])
 
-  fresh : (g : Cell) (p : Span) → Contains (list_at new g) p → Contains (list_at now g) p ⊎ IsSpanIn s g p
-  fresh g p h = elim (put now (group_cell cell) (list_at now (group_cell cell) ++ span ∷ []) g) [
-    | inl q ↦ elim (Contains-append_cases (list_at now (group_cell cell)) (span ∷ []) p (subst (λ l. Contains l p) q.1 (subst (λ m. Contains (list_at m g) p) added h))) [
+  fresh : (g : Cell) (p : Span) → Contains (list_at new g) p → Contains (list_at now g) p ⊎ IsSpanAt group (done ++ z ∷ []) g p
+  fresh g p h = elim (put now group (list_at now group ++ span ∷ []) g) [
+    | inl q ↦ elim (Contains-append_cases (list_at now group) (span ∷ []) p (subst (λ l. Contains l p) q.1 (subst (λ m. Contains (list_at m g) p) added h))) [
       | inl a ↦ inl (subst (λ c. Contains (list_at now c) p) (sym q.0) a)
-      | inr a ↦ inr (record { cell = cell; zone = z; held = read_zone (zones_at s cell) i z e; grouped = q.0; is = subst (IsSpanOf z) (in_one span p a) is })
+      | inr a ↦ inr (record { grouped = q.0; zone = z; listed = Contains-append_right done (z ∷ []) z (one_in z); is = subst (IsSpanOf z) (in_one span p a) is })
     ]
     | inr q ↦ inl (subst (λ l. Contains l p) q (subst (λ m. Contains (list_at m g) p) added h))
   ]
 
-  here : Contains (list_at new (group_cell cell)) span
-  here = subst (λ m. Contains (list_at m (group_cell cell)) span) (sym added) (elim (put now (group_cell cell) (list_at now (group_cell cell) ++ span ∷ []) (group_cell cell)) [
-    | inl q ↦ subst (λ l. Contains l span) (sym q.1) (Contains-append_right (list_at now (group_cell cell)) (span ∷ []) span (one_in span))
+  here : Contains (list_at new group) span
+  here = subst (λ m. Contains (list_at m group) span) (sym added) (elim (put now group (list_at now group ++ span ∷ []) group) [
+    | inl q ↦ subst (λ l. Contains l span) (sym q.1) (Contains-append_right (list_at now group) (span ∷ []) span (one_in span))
     | inr q ↦ absurd (other q)
   ])
     where
-      other : list_at (finite.insert now (group_cell cell) (list_at now (group_cell cell) ++ span ∷ [])) (group_cell cell) ≡ list_at now (group_cell cell) → ⊥
-      other q = elim (put now (group_cell cell) (list_at now (group_cell cell) ++ span ∷ []) (group_cell cell)) [
-        | inl r ↦ longer (list_at now (group_cell cell)) (sym r.1 ∙ q)
-        | inr r ↦ elim (cell_or (group_cell cell) (group_cell cell)) [
-          | inl t ↦ longer (list_at now (group_cell cell)) (sym (ap (λ o. unwrap_or o []) (get-insert cells_total now (group_cell cell) (list_at now (group_cell cell) ++ span ∷ []) (group_cell cell)
-              ∙ ap (λ b. cond b (Some (list_at now (group_cell cell) ++ span ∷ [])) (get now (group_cell cell))) t.1)) ∙ q)
+      other : list_at (finite.insert now group (list_at now group ++ span ∷ [])) group ≡ list_at now group → ⊥
+      other q = elim (put now group (list_at now group ++ span ∷ []) group) [
+        | inl r ↦ longer (list_at now group) (sym r.1 ∙ q)
+        | inr r ↦ elim (cell_or group group) [
+          | inl t ↦ longer (list_at now group) (sym (ap (λ o. unwrap_or o []) (get-insert cells_total now group (list_at now group ++ span ∷ []) group
+              ∙ ap (λ b. cond b (Some (list_at now group ++ span ∷ [])) (get now group)) t.1)) ∙ q)
           | inr t ↦ t.0 refl
         ]
       ]
@@ -93,43 +83,86 @@ module _ (s : StoreView) (cell : Cell) (i : ℕ) (z : ZoneView) (e : slice_get (
           longer [] k = cc
           longer (x ∷ xs) k = longer xs (let l : xs ++ span ∷ [] ≡ xs = cc in l)
 
-  pub adds_more : AddsSpans s cell (take i (zones_at s cell)) old now → AddsSpans s cell (take (i + 1) (zones_at s cell)) old new
-  adds_more a = record {
-    to = λ g p h. elim (fresh g p h) [ inl b ↦ a.to g p b | inr b ↦ inr b ];
+  appends_more : AppendsSpans group done old now → AppendsSpans group (done ++ z ∷ []) old new
+  appends_more a = record {
+    to = λ g p h. elim (fresh g p h) [
+      | inl b ↦ elim (a.to g p b) [
+        | inl c ↦ inl c
+        | inr c ↦ inr (record { grouped = c.grouped; zone = c.zone; listed = Contains-append_left done (z ∷ []) c.zone c.listed; is = c.is })
+      ]
+      | inr b ↦ inr b
+    ];
     kept = λ g p h. keep g p (a.kept g p h);
-    from = λ w h. elim (Contains-append_cases (take i (zones_at s cell)) (z ∷ []) w (subst (λ l. Contains l w) more h)) [
-      | inl b ↦ (let f = a.from w b in record { span = f.span; listed = keep (group_cell cell) f.span f.listed; is = f.is })
+    from = λ w h. elim (Contains-append_cases done (z ∷ []) w h) [
+      | inl b ↦ (let f = a.from w b in record { span = f.span; listed = keep group f.span f.listed; is = f.is })
       | inr b ↦ record { span = span; listed = here; is = subst (λ v. IsSpanOf v span) (in_one z w b) is }
     ];
   }
-    where
-      more : take (i + 1) (zones_at s cell) ≡ take i (zones_at s cell) ++ z ∷ []
-      more = take_more (zones_at s cell) i z (slice_get_within (zones_at s cell) i z e) ∙ ap (λ v. take i (zones_at s cell) ++ v ∷ []) (get_or_from_slice_get (zones_at s cell) i z z e)
 
-pub adds_all : (s : StoreView) (cell : Cell) (i : ℕ) (old now : SpanLists) → length (tables_at s cell) ≤ i → AddsSpans s cell (take i (zones_at s cell)) old now → AddsSpans s cell (zones_at s cell) old now
-adds_all s cell i old now l a = subst (λ zs. AddsSpans s cell zs old now) (take_all i (zones_at s cell) (let n : length (zones_at s cell) ≡ length (tables_at s cell) = length-map (tables_at s cell) (zone_of s cell) in omega (arith, l, n))) a
+-- the spans of the zones that are not left
+pub record IsAppending (group : Cell) (zones left : List ZoneView) (old now : SpanLists) : Type 0 where
+  pub done : List ZoneView
+  pub whole : done ++ left ≡ zones
+  pub appended : AppendsSpans group done old now
 
--- the spans of the cells that are not left
-pub record AreGathering (s : StoreView) (left : List Cell) (lists : SpanLists) : Type 0 where
-  pub to : (group : Cell) (span : Span) → Contains (list_at lists group) span → IsSpanIn s group span
-  pub from : (cell : Cell) (zone : ZoneView) → Contains (zones_at s cell) zone → Contains left cell ⊎ HasSpanFor lists cell zone
+pub appending_none : (group : Cell) (zones left : List ZoneView) (lists : SpanLists) → left ≡ zones → IsAppending group zones left lists lists
+appending_none group zones left lists e = record { done = []; whole = e; appended = appends_none group lists }
 
-pub gathering_more : (s : StoreView) (cell : Cell) (rest left : List Cell) (now new : SpanLists) → left ≡ cell ∷ rest → AddsSpans s cell (zones_at s cell) now new → AreGathering s left now → AreGathering s rest new
-gathering_more s cell rest left now new e a g = record {
-  to = λ q p h. elim (a.to q p h) [ inl b ↦ g.to q p b | inr b ↦ b ];
-  from = λ c z h. elim (g.from c z h) [
-    | inl b ↦ elim (in_cons cell rest c (subst (λ l. Contains l c) e b)) [
-      | inl f ↦ inr (subst (λ d. HasSpanFor new d z) f (a.from z (subst (λ d. Contains (zones_at s d) z) (sym f) h)))
-      | inr f ↦ inl f
-    ]
-    | inr b ↦ inr (record { span = b.span; listed = a.kept (group_cell c) b.span b.listed; is = b.is })
-  ];
+pub appending_more : (group : Cell) (zones left : List ZoneView) (z : ZoneView) (rest : List ZoneView) → left ≡ z ∷ rest → (span : Span) → IsSpanOf z span → (old now new : SpanLists)
+    → new ≡ finite.insert now group (list_at now group ++ span ∷ []) → IsAppending group zones left old now → IsAppending group zones rest old new
+appending_more group zones left z rest e span is old now new added a = record {
+  done = a.done ++ z ∷ [];
+  whole = append_assoc a.done (z ∷ []) rest ∙ ap (λ l. a.done ++ l) (sym e) ∙ a.whole;
+  appended = appends_more group a.done z span is old now new added a.appended;
 }
 
-pub gathering_end : (s : StoreView) (left : List Cell) (lists : SpanLists) → left ≡ [] → AreGathering s left lists → AreGroups s lists
+pub appending_end : (group : Cell) (zones left : List ZoneView) (old now : SpanLists) → left ≡ [] → IsAppending group zones left old now → AppendsSpans group zones old now
+appending_end group zones left old now e a = subst (λ zs. AppendsSpans group zs old now) (sym (append-nil a.done) ∙ ap (λ l. a.done ++ l) (sym e) ∙ a.whole) a.appended
+
+-- a zone that is left is one of all
+pub left_zone : (group : Cell) (zones left : List ZoneView) (z : ZoneView) (rest : List ZoneView) → left ≡ z ∷ rest → (old now : SpanLists) → IsAppending group zones left old now → Contains zones z
+left_zone group zones left z rest e old now a = subst (λ zs. Contains zs z) (ap (λ l. a.done ++ l) (sym e) ∙ a.whole) (Contains-append_right a.done (z ∷ rest) z (head_in z rest))
+
+-- the spans of the cells that are not left
+pub record AreGathering (s : StoreView) (left : List (Cell × List ZoneView)) (lists : SpanLists) : Type 0 where
+  pub entries : (e : Cell × List ZoneView) → Contains left e → e.1 ≡ zones_at s e.0
+  pub to : (group : Cell) (span : Span) → Contains (list_at lists group) span → IsSpanIn s group span
+  pub from : (cell : Cell) (zone : ZoneView) → Contains (zones_at s cell) zone → Contains left (cell, zones_at s cell) ⊎ HasSpanAt lists (group_cell cell) zone
+
+-- the zones of a cell that is left
+pub entry_zones : (s : StoreView) (cell : Cell) (zones : List ZoneView) (rest left : List (Cell × List ZoneView)) (lists : SpanLists) → left ≡ (cell, zones) ∷ rest → AreGathering s left lists → zones ≡ zones_at s cell
+entry_zones s cell zones rest left lists e g = g.entries (cell, zones) (subst (λ l. Contains l (cell, zones)) (sym e) (head_in (cell, zones) rest))
+
+pub entry_columns : (s : StoreView) → IsStore s → s.shape.times ≡ 1 → (cell : Cell) (zones : List ZoneView) (rest left : List (Cell × List ZoneView)) (lists : SpanLists) → left ≡ (cell, zones) ∷ rest → AreGathering s left lists → (z : ZoneView) → Contains zones z → columns_of z ≡ 1
+entry_columns s is one cell zones rest left lists e g z h = zone_column s is one cell z (subst (λ zs. Contains zs z) (entry_zones s cell zones rest left lists e g) h)
+
+module _ (s : StoreView) (cell : Cell) (zones : List ZoneView) (rest left : List (Cell × List ZoneView)) (e : left ≡ (cell, zones) ∷ rest) (group : Cell) (named : group ≡ group_cell cell) (now new : SpanLists) (a : AppendsSpans group zones now new) (g : AreGathering s left now) where
+  same : zones ≡ zones_at s cell
+  same = entry_zones s cell zones rest left now e g
+
+  here_too : (c : Cell) → cell ≡ c → (z : ZoneView) → Contains (zones_at s c) z → HasSpanAt new (group_cell c) z
+  here_too c f z h = subst (λ d. HasSpanAt new d z) (named ∙ ap group_cell f) (a.from z (subst (λ zs. Contains zs z) (sym (same ∙ ap (zones_at s) f)) h))
+
+  pub gathering_more : AreGathering s rest new
+  gathering_more = record {
+    entries = λ d h. g.entries d (subst (λ l. Contains l d) (sym e) (later (cell, zones) rest d h));
+    to = λ q p h. elim (a.to q p h) [
+      | inl b ↦ g.to q p b
+      | inr b ↦ record { cell = cell; zone = b.zone; held = subst (λ zs. Contains zs b.zone) same b.listed; grouped = b.grouped ∙ named; is = b.is }
+    ];
+    from = λ c z h. elim (g.from c z h) [
+      | inl b ↦ elim (in_cons (cell, zones) rest (c, zones_at s c) (subst (λ l. Contains l (c, zones_at s c)) e b)) [
+        | inl f ↦ inr (here_too c (ap (λ d. d.0) f) z h)
+        | inr f ↦ inl f
+      ]
+      | inr b ↦ inr (record { span = b.span; listed = a.kept (group_cell c) b.span b.listed; is = b.is })
+    ];
+  }
+
+pub gathering_end : (s : StoreView) (left : List (Cell × List ZoneView)) (lists : SpanLists) → left ≡ [] → AreGathering s left lists → AreGroups s lists
 gathering_end s left lists e g = record {
   to = g.to;
-  from = λ c z h. elim (g.from c z h) [ inl b ↦ absurd (in_none c (subst (λ l. Contains l c) e b)) | inr b ↦ b ];
+  from = λ c z h. elim (g.from c z h) [ inl b ↦ absurd (in_none (c, zones_at s c) (subst (λ l. Contains l (c, zones_at s c)) e b)) | inr b ↦ b ];
 }
 
 -- ---- what the spans of a group are
@@ -195,8 +228,11 @@ held_key : (s : StoreView) (c : Cell) (t : List (Option ℤ)) → Contains (tabl
 held_key s c t h = Contains-from_any same_cell c (finite.keys s.tables) (sym (contains_key-keys s.tables c) ∙ ap is_some (held_of s.tables c t h))
 
 -- before the first cell
-pub gathering_none : (s : StoreView) (left : List Cell) (lists : SpanLists) → left ≡ finite.keys s.tables → lists ≡ finite.empty → AreGathering s left lists
+pub gathering_none : (s : StoreView) (left : List (Cell × List ZoneView)) (lists : SpanLists) → left ≡ entries_of s → lists ≡ finite.empty → AreGathering s left lists
 gathering_none s left lists all none = record {
+  entries = λ e h. (let t = in_map (λ c. (c, zones_at s c)) (finite.keys s.tables) e (subst (λ l. Contains l e) all h) in ap (λ d. d.1) (sym t.2) ∙ ap (λ (d : Cell × List ZoneView). zones_at s d.0) t.2);
   to = λ g p h. absurd (in_none p (subst (λ l. Contains l p) (ap (λ m. list_at m g) none ∙ ap (λ o. unwrap_or o []) (get-empty cell_cmp g)) h));
-  from = λ c z h. (let t = in_map (zone_of s c) (tables_at s c) z h in inl (subst (λ l. Contains l c) (sym all) (held_key s c t.0 t.1)));
+  from = λ c z h. (
+    let t = in_map (zone_of s c) (tables_at s c) z h in
+    inl (subst (λ l. Contains l (c, zones_at s c)) (sym all) (map_in (λ d. (d, zones_at s d)) (finite.keys s.tables) c (held_key s c t.0 t.1))));
 }

@@ -24,22 +24,29 @@ pub record IsSpanIn (s : StoreView) (group : Cell) (span : Span) : Type 0 where
   pub grouped : group ≡ group_cell cell
   pub is : IsSpanOf zone span
 
--- at the group of the cell stands the span of the zone
-pub record HasSpanFor (lists : SpanLists) (cell : Cell) (zone : ZoneView) : Type 0 where
+-- at the group stands the span of the zone
+pub record HasSpanAt (lists : SpanLists) (group : Cell) (zone : ZoneView) : Type 0 where
   pub span : Span
-  pub listed : Contains (list_at lists (group_cell cell)) span
+  pub listed : Contains (list_at lists group) span
   pub is : IsSpanOf zone span
 
 -- at each group stand the spans of the zones of all cells with its texts
 pub record AreGroups (s : StoreView) (lists : SpanLists) : Type 0 where
   pub to : (group : Cell) (span : Span) → Contains (list_at lists group) span → IsSpanIn s group span
-  pub from : (cell : Cell) (zone : ZoneView) → Contains (zones_at s cell) zone → HasSpanFor lists cell zone
+  pub from : (cell : Cell) (zone : ZoneView) → Contains (zones_at s cell) zone → HasSpanAt lists (group_cell cell) zone
 
--- the new lists have the spans of the old ones, and those of these zones of the cell
-pub record AddsSpans (s : StoreView) (cell : Cell) (zones : List ZoneView) (old new : SpanLists) : Type 0 where
-  pub to : (group : Cell) (span : Span) → Contains (list_at new group) span → Contains (list_at old group) span ⊎ IsSpanIn s group span
-  pub kept : (group : Cell) (span : Span) → Contains (list_at old group) span → Contains (list_at new group) span
-  pub from : (zone : ZoneView) → Contains zones zone → HasSpanFor new cell zone
+-- the span is that of one of the zones, and the cell is the group
+pub record IsSpanAt (group : Cell) (zones : List ZoneView) (cell : Cell) (span : Span) : Type 0 where
+  pub grouped : cell ≡ group
+  pub zone : ZoneView
+  pub listed : Contains zones zone
+  pub is : IsSpanOf zone span
+
+-- the new lists have the spans of the old ones, and at the group those of the zones
+pub record AppendsSpans (group : Cell) (zones : List ZoneView) (old new : SpanLists) : Type 0 where
+  pub to : (cell : Cell) (span : Span) → Contains (list_at new cell) span → Contains (list_at old cell) span ⊎ IsSpanAt group zones cell span
+  pub kept : (cell : Cell) (span : Span) → Contains (list_at old cell) span → Contains (list_at new cell) span
+  pub from : (zone : ZoneView) → Contains zones zone → HasSpanAt new group zone
 
 -- the store has one time column, and holds the number with these texts
 abbrev pub HoldsNumber : StoreView → ℤ → List ℕ → Type 0

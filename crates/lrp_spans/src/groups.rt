@@ -1,8 +1,8 @@
 // The spans of a store with one time column, by the texts of its cells.
-ghost use Rattle.std.specs.Prelude.{◌≡◌, IfOk, OnOk};
+ghost use Rattle.std.specs.Prelude.{◌≡◌, Contains, IfOk, OnOk};
 ghost use Rattle.lrp_slots.specs.Lists.{list_at};
-ghost use Rattle.lrp_store.specs.Stores.{zones_at};
-ghost use Rattle.lrp_spans.specs.Groups.{AddsSpans, AreGroups, group_cell};
+ghost use Rattle.lrp_zone.specs.Zones.{ZoneView, columns_of};
+ghost use Rattle.lrp_spans.specs.Groups.{AppendsSpans, AreGroups, group_cell};
 ghost use Rattle.lrp_spans.specs.Spans.{AreMerged};
 
 use crate::merging::merged;
@@ -10,7 +10,7 @@ use crate::shifting::span_of;
 use crate::spans::Span;
 use lrp_model::{Cell, Memory};
 use lrp_slots::Slots;
-use lrp_store::Store;
+use lrp_store::{Store, Zones};
 use std::alloc::Global;
 
 /// The spans of the zones, for the texts of each cell. They stand at the cell of these texts and the residue 0.
@@ -18,25 +18,21 @@ pub fn groups_of(alloc: Global, store: &Store) -> Result<Slots<Span>, Memory>
     requires { store.now.shape.times ≡ 1 }
     ensures { IfOk result (λ made. AreGroups store.now made.lists) }
 {
+    store.shape();
     let mut groups = Slots::new(alloc);
-    for cell in store.cells() {
-        push_cell(store, &cell, &mut groups)?;
+    for (cell, zones) in store.entries() {
+        push_spans(&group_of(&cell), zones, &mut groups)?;
     }
     Ok(groups)
 }
 
-// Appends the spans of a cell.
-fn push_cell(store: &Store, cell: &Cell, groups: &mut Slots<Span>) -> Result<(), Memory>
-    requires { store.now.shape.times ≡ 1 }
-    ensures { OnOk result (AddsSpans store.now cell.now (zones_at store.now cell.now) groups.old.lists groups.new.lists) }
+// Appends the spans of zones with one column to those of a group.
+fn push_spans(group: &Cell, zones: Zones<'_>, groups: &mut Slots<Span>) -> Result<(), Memory>
+    requires { (z : ZoneView) → Contains zones z → columns_of z ≡ 1 }
+    ensures { OnOk result (AppendsSpans group.now zones.entry groups.old.lists groups.new.lists) }
 {
-    store.shape();
-    let group = group_of(cell);
-    for i in 0..store.count(cell) {
-        match store.zone(cell, i) {
-            Some(zone) => groups.append(&group, span_of(&zone))?,
-            None => unreachable!(),
-        }
+    for zone in zones {
+        groups.append(group, span_of(&zone))?;
     }
     Ok(())
 }
