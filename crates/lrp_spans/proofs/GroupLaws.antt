@@ -1,11 +1,10 @@
 -- Spans that are gathered by texts have just the numbers of the store with these texts.
-use Rattle.std.proofs.Common.{◌≡◌, ℕ, zero, suc, ◌^◌, replicate, ◌+◌, ◌<◌, ◌≤◌, ◌⊎◌, inl, inr, List, [], ◌∷◌, ◌++◌, Option, Some, None, cond, length, take, get_or, unwrap_or, arith, refl, sym, subst, ap, append_assoc, append-nil, ◌∙◌}
-use Rattle.std.specs.Prelude.{ℤ, pos, ◌+ℤ◌, Contains, is_some, slice_get}
+use Rattle.std.proofs.Common.{◌≡◌, ℕ, ◌^◌, replicate, ◌<◌, ◌≤◌, ◌⊎◌, inl, inr, List, [], ◌∷◌, ◌++◌, Option, Some, cond, length, take, get_or, unwrap_or, arith, refl, sym, subst, ap, append_assoc, append-nil, ◌∙◌}
+use Rattle.std.specs.Prelude.{ℤ, pos, ◌+ℤ◌, Contains, is_some}
 use Rattle.std.specs.FinMap as finite
 use Rattle.std.specs.FinMap.{contains_key-keys, get, get-empty, get-insert}
 use Rattle.std.proofs.Math.IntN.{◌*ℤ◌}
-use Rattle.std.proofs.lemmas.List.{length-map, take_all, take_more, get_or-take, ext_get_or}
-use Rattle.std.proofs.lemmas.Option.{get_or_from_slice_get, slice_get_within}
+use Rattle.std.proofs.lemmas.List.{get_or-take, ext_get_or}
 use Rattle.std.proofs.lemmas.Map.Views.{Contains-from_any}
 use Rattle.std.proofs.lemmas.List.Elements.{Contains-append_cases, Contains-append_left, Contains-append_right}
 use Rattle.lrp_model.specs.declared.tuples.Cell.{Cell}
