@@ -1,5 +1,5 @@
 -- Spans in order, merged one after another.
-use Rattle.std.proofs.Common.{◌≡◌, ℕ, suc, get_or, take, ◌+◌, ◌<◌, ◌⊎◌, inl, inr, List, [], ◌∷◌, ◌++◌, Option, Some, None, length, arith, refl, sym, subst, ◌∙◌, ap}
+use Rattle.std.proofs.Common.{◌≡◌, ℕ, suc, get_or, take, ◌+◌, ◌-◌, ◌<◌, ◌≤◌, ◌⊎◌, inl, inr, List, [], ◌∷◌, ◌++◌, Option, Some, None, length, arith, refl, sym, subst, ◌∙◌, ap}
 use Rattle.std.specs.Prelude.{ℤ, pos, ◌-ℤ◌, ◌≤ℤ◌, ◌<ℤ◌, Contains, AllPairs}
 use Rattle.std.proofs.lemmas.Int.{ints}
 use Rattle.std.specs.List.Sorted.{IsPermutation}
@@ -10,8 +10,8 @@ use Rattle.std.proofs.lemmas.List.Sorted.{Contains-permutation, IsPermutation-sy
 use Rattle.lrp_theory.specs.Entries.{AtMost}
 use Rattle.lrp_matrix.specs.Ranges.{Above}
 use Rattle.lrp_spans.specs.declared.spans.Span.{Span}
-use Rattle.lrp_spans.specs.Spans.{AreMerged, BeginsBy, ComesBefore, HasTurn, InSpans, IsInOrder, IsJoined, IsSpan}
-use Rattle.lrp_spans.proofs.Lists.{before, in_none, in_one, one_in, pairs_append, pairs_left, pairs_one, pairs_none}
+use Rattle.lrp_spans.specs.Spans.{AreMerged, BeginsBy, ComesBefore, HasLessResidue, HasTurn, InSpans, IsInOrder, IsJoined, IsSpan}
+use Rattle.lrp_spans.proofs.Lists.{before, below_or, in_none, in_one, one_in, pairs_append, pairs_left, pairs_one, pairs_none}
 
 -- ---- turns in some span of a list
 pub in_left : (xs ys : List Span) (r : ℕ) (n : ℤ) → InSpans xs r n → InSpans (xs ++ ys) r n
@@ -197,3 +197,35 @@ merged_permutation old sorted new p m = record {
 
 pub merged_none : AreMerged [] []
 merged_none = record { to = λ r n h. h; from = λ r n h. h; apart = pairs_none ComesBefore; each = λ high all. all }
+
+-- ---- spans whose residues ascend
+-- the residues ascend below the place
+pub record AscendTo (end : ℕ) (spans : List Span) : Type 0 where
+  pub each : (i j : ℕ) (d : Span) → i < j → j < end → j < length spans → HasLessResidue (get_or spans i d) (get_or spans j d)
+
+pub ascend_one : (spans : List Span) → AscendTo 1 spans
+ascend_one spans = record { each = λ i j d il jl l. absurd (omega (arith, il, jl)) }
+
+pub ascend_more : (end : ℕ) (spans : List Span) (d : Span) → 0 < end → HasLessResidue (get_or spans (end - 1) d) (get_or spans end d) → AscendTo end spans → AscendTo (end + 1) spans
+ascend_more end spans d low next all = record { each = each }
+  where
+    each : (i j : ℕ) (e : Span) → i < j → j < end + 1 → j < length spans → HasLessResidue (get_or spans i e) (get_or spans j e)
+    each i j e il jl l = elim (below_or j end) [
+      | inl a ↦ all.each i j e il a l
+      | inr a ↦ (
+        let same : j ≡ end = omega (arith, jl, a) in
+        let here : get_or spans end d ≡ get_or spans end e = get_or_default spans end d e (omega (arith, l, same)) in
+        let before : get_or spans (end - 1) d ≡ get_or spans (end - 1) e = get_or_default spans (end - 1) d e (omega (arith, l, same)) in
+        let step : HasLessResidue (get_or spans (end - 1) e) (get_or spans end e) = subst (λ v. HasLessResidue v (get_or spans end e)) before (subst (HasLessResidue (get_or spans (end - 1) d)) here next) in
+        subst (λ k. HasLessResidue (get_or spans i e) (get_or spans k e)) (sym same) (elim (below_or i (end - 1)) [
+          | inl b ↦ (let f : HasLessResidue (get_or spans i e) (get_or spans (end - 1) e) = all.each i (end - 1) e b (omega (arith, low)) (omega (arith, l, same)) in omega (arith, f, step))
+          | inr b ↦ (let m : i ≡ end - 1 = omega (arith, il, same, b) in subst (λ k. HasLessResidue (get_or spans k e) (get_or spans end e)) (sym m) step)
+        ]))
+    ]
+
+pub ascend_all : (end : ℕ) (spans : List Span) → length spans ≤ end → AscendTo end spans → AllPairs HasLessResidue spans
+ascend_all end spans l all i j d il jl = all.each i j d il (omega (arith, l, jl)) jl
+
+-- they are merged as they are
+pub merged_already : (spans : List Span) → AllPairs HasLessResidue spans → AreMerged spans spans
+merged_already spans all = record { to = λ r n h. h; from = λ r n h. h; apart = λ i j d il jl. inl (all i j d il jl); each = λ high h. h }

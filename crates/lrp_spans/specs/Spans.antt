@@ -40,6 +40,10 @@ pub record EndsBefore (v w : Span) : Type 0 where
   pub starts : w.first ≡ Some start
   pub below : end <ℤ start
 
+-- v has the lesser residue
+abbrev pub HasLessResidue : Span → Span → Type 0
+HasLessResidue v w = v.residue < w.residue
+
 -- v has the lesser residue, or the same one in turns that are all below those of w
 abbrev pub ComesBefore : Span → Span → Type 0
 ComesBefore v w = (v.residue < w.residue) ⊎ ((v.residue ≡ w.residue) × EndsBefore v w)

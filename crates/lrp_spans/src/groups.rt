@@ -51,7 +51,7 @@ fn group_of(cell: &Cell) -> Cell
 pub fn spans_at(alloc: Global, groups: &Slots<Span>, group: &Cell) -> Result<Vec<Span>, Memory>
     ensures { IfOk result (λ made. AreMerged (list_at groups.now.lists group.now) made.items) }
 {
-    let mut spans = Vec::new(alloc);
+    let mut spans = Vec::with_capacity(alloc, groups.count(group))?;
     for span in groups.iter(group) {
         spans.push(*span)?;
     }
