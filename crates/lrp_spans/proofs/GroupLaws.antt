@@ -232,6 +232,6 @@ gathering_none s left lists all none = record {
   entries = λ e h. (let t = in_map (λ c. (c, zones_at s c)) (finite.keys s.tables) e (subst (λ l. Contains l e) all h) in ap (λ d. d.1) (sym t.2) ∙ ap (λ (d : Cell × List ZoneView). zones_at s d.0) t.2);
   to = λ g p h. absurd (in_none p (subst (λ l. Contains l p) (ap (λ m. list_at m g) none ∙ ap (λ o. unwrap_or o []) (get-empty cell_cmp g)) h));
   from = λ c z h. (
-    let t = in_map (zone_of s c) (tables_at s c) z h in
-    inl (subst (λ l. Contains l (c, zones_at s c)) (sym all) (map_in (λ d. (d, zones_at s d)) (finite.keys s.tables) c (held_key s c t.0 t.1))));
+      let t = in_map (zone_of s c) (tables_at s c) z h in
+      inl (subst (λ l. Contains l (c, zones_at s c)) (sym all) (map_in (λ d. (d, zones_at s d)) (finite.keys s.tables) c (held_key s c t.0 t.1))));
 }

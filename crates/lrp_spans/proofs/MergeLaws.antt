@@ -213,14 +213,14 @@ ascend_more end spans d low next all = record { each = each }
     each i j e il jl l = elim (below_or j end) [
       | inl a ↦ all.each i j e il a l
       | inr a ↦ (
-        let same : j ≡ end = omega (arith, jl, a) in
-        let here : get_or spans end d ≡ get_or spans end e = get_or_default spans end d e (omega (arith, l, same)) in
-        let before : get_or spans (end - 1) d ≡ get_or spans (end - 1) e = get_or_default spans (end - 1) d e (omega (arith, l, same)) in
-        let step : HasLessResidue (get_or spans (end - 1) e) (get_or spans end e) = subst (λ v. HasLessResidue v (get_or spans end e)) before (subst (HasLessResidue (get_or spans (end - 1) d)) here next) in
-        subst (λ k. HasLessResidue (get_or spans i e) (get_or spans k e)) (sym same) (elim (below_or i (end - 1)) [
-          | inl b ↦ (let f : HasLessResidue (get_or spans i e) (get_or spans (end - 1) e) = all.each i (end - 1) e b (omega (arith, low)) (omega (arith, l, same)) in omega (arith, f, step))
-          | inr b ↦ (let m : i ≡ end - 1 = omega (arith, il, same, b) in subst (λ k. HasLessResidue (get_or spans k e) (get_or spans end e)) (sym m) step)
-        ]))
+          let same : j ≡ end = omega (arith, jl, a) in
+          let here : get_or spans end d ≡ get_or spans end e = get_or_default spans end d e (omega (arith, l, same)) in
+          let before : get_or spans (end - 1) d ≡ get_or spans (end - 1) e = get_or_default spans (end - 1) d e (omega (arith, l, same)) in
+          let step : HasLessResidue (get_or spans (end - 1) e) (get_or spans end e) = subst (λ v. HasLessResidue v (get_or spans end e)) before (subst (HasLessResidue (get_or spans (end - 1) d)) here next) in
+          subst (λ k. HasLessResidue (get_or spans i e) (get_or spans k e)) (sym same) (elim (below_or i (end - 1)) [
+            | inl b ↦ (let f : HasLessResidue (get_or spans i e) (get_or spans (end - 1) e) = all.each i (end - 1) e b (omega (arith, low)) (omega (arith, l, same)) in omega (arith, f, step))
+            | inr b ↦ (let m : i ≡ end - 1 = omega (arith, il, same, b) in subst (λ k. HasLessResidue (get_or spans k e) (get_or spans end e)) (sym m) step)
+          ]))
     ]
 
 pub ascend_all : (end : ℕ) (spans : List Span) → length spans ≤ end → AscendTo end spans → AllPairs HasLessResidue spans
