@@ -3,6 +3,8 @@ pub mod Branches
 pub mod CellPieces
 pub mod InWindows
 pub mod Joining
+pub mod LoneZones
 pub mod Orders
 pub mod Ranges
 pub mod Remaining
+pub mod SoleCells

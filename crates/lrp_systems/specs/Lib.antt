@@ -5,5 +5,6 @@ pub mod Joint
 pub mod Parts
 pub mod Pieces
 pub mod Residues
+pub mod Sole
 pub mod Systems
 pub mod Windows

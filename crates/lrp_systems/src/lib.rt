@@ -1,6 +1,7 @@
 //! Systems of zones over joint columns: the tuples that lie in each of them, added to a store cell by cell.
 #![tactic(auto)]
 
+mod alone;
 mod choice;
 mod divisor;
 mod frame;
@@ -9,6 +10,7 @@ mod order;
 mod part;
 mod piece;
 mod residue;
+mod sole;
 mod system;
 mod window;
 mod windows;
