@@ -431,3 +431,14 @@ module _ (domain : List Text) (times texts : List Identifier) (terms : List Term
 
 pub row_none : (domain : List Text) (times texts : List Identifier) (terms : List Term) (row : Row) → HasNoValues domain times texts row.values terms → HasNoRow domain times texts terms row
 row_none domain times texts terms row fails = record { none = λ env ns a h. fails.none env ns a h.values }
+
+-- no bounds ask for nothing
+pub no_bounds : (times : List Identifier) (terms : List Term) (bounds : List Bound) → length bounds ≡ 0 → (old : Pattern) → length old.texts ≡ 8 → IsWithBounds times terms bounds old old
+no_bounds times terms [] e old known = record {
+  size = known;
+  to = λ env ns h. (h, tt);
+  from = λ env ns h m. h;
+  fits = λ k low room all. all;
+  reach = λ k high low h le. le;
+}
+no_bounds times terms (b ∷ bounds) e old known = absurd (omega (arith, e))

@@ -10,25 +10,23 @@ ghost use Rattle.lrp_algebra.specs.Conditions.{IsWithTest, HasNoTest};
 use crate::comparisons::{compared, shifted};
 use crate::pattern::Pattern;
 use crate::sides::side_of;
-use lrp_model::{Copies, List, Memory, Name, Op, RowPoint, TimeTerm};
+use lrp_model::{List, Memory, Name, Op, RowPoint, TimeTerm};
 use lrp_zone::Zone;
-use std::alloc::Global;
 
 /// The pattern and a comparison of times of these variables, or `None` where nothing that the pattern asks for passes.
 pub fn with_comparison(
-    alloc: Global,
-    pattern: &Pattern,
+    pattern: Pattern,
     left: &TimeTerm,
     op: Op,
     right: &TimeTerm,
     times: &List<Name>,
 ) -> Result<Option<Pattern>, Memory>
     requires few { length times.now ≤ 8 }
-    requires known { length pattern.now.texts ≡ 8 }
+    requires known { length pattern.texts ≡ 8 }
     requires left { AreNamesAmong (names_of_time left.now) times.now }
     requires right { AreNamesAmong (names_of_time right.now) times.now }
     requires reach { 1 + nat_abs (offset left.now -ℤ offset right.now) ≤ 2 ^ 62 }
-    ensures { IfOk result (λ found. (domain : ListOf Text) (texts : ListOf Identifier) → MatchOption found (HasNoTest domain times.now texts (Compare left.now op right.now) pattern.now) (IsWithTest domain times.now texts (Compare left.now op right.now) pattern.now)) }
+    ensures { IfOk result (λ found. (domain : ListOf Text) (texts : ListOf Identifier) → MatchOption found (HasNoTest domain times.now texts (Compare left.now op right.now) pattern) (IsWithTest domain times.now texts (Compare left.now op right.now) pattern)) }
 {
     let columns = times.len();
     let first = side_of(left, times);
@@ -36,7 +34,7 @@ pub fn with_comparison(
     match compared(&first, op, &second, columns) {
         Some(zone) => {
             let places = counted();
-            Ok(Some(pattern.with_zone(alloc, &zone, &places[..columns])?))
+            Ok(Some(pattern.with_zone(&zone, &places[..columns])?))
         }
         None => Ok(None),
     }
@@ -44,24 +42,26 @@ pub fn with_comparison(
 
 /// The pattern and a point for a time of these variables, or `None` where nothing that the pattern asks for passes.
 pub fn with_member(
-    alloc: Global,
-    pattern: &Pattern,
+    pattern: Pattern,
     term: &TimeTerm,
     point: RowPoint,
     times: &List<Name>,
 ) -> Result<Option<Pattern>, Memory>
     requires few { length times.now ≤ 8 }
-    requires known { length pattern.now.texts ≡ 8 }
+    requires known { length pattern.texts ≡ 8 }
     requires names { AreNamesAmong (names_of_time term.now) times.now }
     requires low { pos 1 ≤ℤ point.period }
     requires high { point.period ≤ℤ pos (2 ^ 62) }
-    ensures { IfOk result (λ found. (domain : ListOf Text) (texts : ListOf Identifier) → MatchOption found (HasNoTest domain times.now texts (Member term.now point) pattern.now) (IsWithTest domain times.now texts (Member term.now point) pattern.now)) }
+    ensures { IfOk result (λ found. (domain : ListOf Text) (texts : ListOf Identifier) → MatchOption found (HasNoTest domain times.now texts (Member term.now point) pattern) (IsWithTest domain times.now texts (Member term.now point) pattern)) }
 {
+    if point.period == 1 {
+        return Ok(Some(pattern));
+    }
     let side = side_of(term, times);
     let residue = shifted(point.offset, side.plus, point.period);
     if side.column == 0 {
         return if residue == 0 {
-            Ok(Some(pattern.copy(alloc)?))
+            Ok(Some(pattern))
         } else {
             Ok(None)
         };
@@ -69,7 +69,7 @@ pub fn with_member(
     match Zone::of(point.period, &[residue], &[]) {
         Some(zone) => {
             zone.columns();
-            Ok(Some(pattern.with_zone(alloc, &zone, &[side.column])?))
+            Ok(Some(pattern.with_zone(&zone, &[side.column])?))
         }
         None => Ok(None),
     }

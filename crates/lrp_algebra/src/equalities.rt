@@ -10,23 +10,21 @@ ghost use Rattle.lrp_algebra.specs.Conditions.{IsWithTest, HasNoTest, IsWithPair
 use crate::pair::Pair;
 use crate::pattern::{Pattern, known_at};
 use crate::sides::column_among;
-use lrp_model::{Copies, DataTerm, DataText, Domain, List, Memory, Name};
-use std::alloc::Global;
+use lrp_model::{DataTerm, DataText, Domain, List, Memory, Name};
 
 /// The pattern and an equality of texts of these variables, or `None` where nothing that the pattern asks for passes.
 pub fn with_equal(
-    alloc: Global,
-    pattern: &Pattern,
+    pattern: Pattern,
     left: &DataTerm,
     right: &DataTerm,
     texts: &List<Name>,
     domain: &Domain,
 ) -> Result<Option<Pattern>, Memory>
     requires few { length texts.now ≤ 8 }
-    requires known { length pattern.now.texts ≡ 8 }
+    requires known { length pattern.texts ≡ 8 }
     requires left { AreNamesAmong (names_of_data left.now) texts.now }
     requires right { AreNamesAmong (names_of_data right.now) texts.now }
-    ensures { IfOk result (λ found. (times : ListOf Identifier) → MatchOption found (HasNoTest domain.now times texts.now (Equal left.now right.now) pattern.now) (IsWithTest domain.now times texts.now (Equal left.now right.now) pattern.now)) }
+    ensures { IfOk result (λ found. (times : ListOf Identifier) → MatchOption found (HasNoTest domain.now times texts.now (Equal left.now right.now) pattern) (IsWithTest domain.now times texts.now (Equal left.now right.now) pattern)) }
 {
     domain.len();
     match left {
@@ -35,19 +33,19 @@ pub fn with_equal(
             match right {
                 DataTerm::Var { name: other } => {
                     let second = column_among(texts, other);
-                    Ok(Some(with_pair(alloc, pattern, column, second)?))
+                    Ok(Some(with_pair(pattern, column, second)?))
                 }
-                DataTerm::Const { text } => with_text(alloc, pattern, column, text, domain),
+                DataTerm::Const { text } => with_text(pattern, column, text, domain),
             }
         }
         DataTerm::Const { text } => match right {
             DataTerm::Var { name } => {
                 let column = column_among(texts, name);
-                with_text(alloc, pattern, column, text, domain)
+                with_text(pattern, column, text, domain)
             }
             DataTerm::Const { text: other } => {
                 if text == other {
-                    Ok(Some(pattern.copy(alloc)?))
+                    Ok(Some(pattern))
                 } else {
                     Ok(None)
                 }
@@ -58,27 +56,26 @@ pub fn with_equal(
 
 /// The pattern and that a data term of these variables is a text, or `None` where nothing that the pattern asks for passes.
 pub fn with_constant(
-    alloc: Global,
-    pattern: &Pattern,
+    pattern: Pattern,
     term: &DataTerm,
     text: &DataText,
     texts: &List<Name>,
     domain: &Domain,
 ) -> Result<Option<Pattern>, Memory>
     requires few { length texts.now ≤ 8 }
-    requires known { length pattern.now.texts ≡ 8 }
+    requires known { length pattern.texts ≡ 8 }
     requires names { AreNamesAmong (names_of_data term.now) texts.now }
-    ensures { IfOk result (λ found. (times : ListOf Identifier) → MatchOption found (HasNoTest domain.now times texts.now (Equal term.now (constant text.now)) pattern.now) (IsWithTest domain.now times texts.now (Equal term.now (constant text.now)) pattern.now)) }
+    ensures { IfOk result (λ found. (times : ListOf Identifier) → MatchOption found (HasNoTest domain.now times texts.now (Equal term.now (constant text.now)) pattern) (IsWithTest domain.now times texts.now (Equal term.now (constant text.now)) pattern)) }
 {
     domain.len();
     match term {
         DataTerm::Var { name } => {
             let column = column_among(texts, name);
-            with_text(alloc, pattern, column, text, domain)
+            with_text(pattern, column, text, domain)
         }
         DataTerm::Const { text: other } => {
             if other == text {
-                Ok(Some(pattern.copy(alloc)?))
+                Ok(Some(pattern))
             } else {
                 Ok(None)
             }
@@ -87,37 +84,37 @@ pub fn with_constant(
 }
 
 // The pattern and that two data columns, counted from 1, have one text.
-fn with_pair(alloc: Global, pattern: &Pattern, left: usize, right: usize) -> Result<Pattern, Memory>
+fn with_pair(pattern: Pattern, left: usize, right: usize) -> Result<Pattern, Memory>
     requires left_low { 0 < left }
     requires left_high { left ≤ 8 }
     requires right_low { 0 < right }
     requires right_high { right ≤ 8 }
-    ensures { IfOk result (IsWithPair pattern.now left right) }
+    ensures { IfOk result (IsWithPair pattern left right) }
 {
-    let mut equal = pattern.equal.copy(alloc)?;
+    let mut equal = pattern.equal;
     equal.push(Pair {
         left: left - 1,
         right: right - 1,
     })?;
+    let texts = pattern.texts;
     Ok(Pattern {
-        zones: pattern.zones.copy(alloc)?,
-        texts: pattern.texts,
+        zones: pattern.zones,
+        texts,
         equal,
     })
 }
 
 // The pattern and that a data column, counted from 1, has a text.
 fn with_text(
-    alloc: Global,
-    pattern: &Pattern,
+    pattern: Pattern,
     column: usize,
     text: &DataText,
     domain: &Domain,
 ) -> Result<Option<Pattern>, Memory>
     requires low { 0 < column }
     requires high { column ≤ 8 }
-    requires known { length pattern.now.texts ≡ 8 }
-    ensures { IfOk result (λ found. MatchOption found (HasNoText domain.now pattern.now column text.now) (IsWithText domain.now pattern.now column text.now)) }
+    requires known { length pattern.texts ≡ 8 }
+    ensures { IfOk result (λ found. MatchOption found (HasNoText domain.now pattern column text.now) (IsWithText domain.now pattern column text.now)) }
 {
     domain.len();
     let Some(number) = domain.find(text) else {
@@ -127,8 +124,8 @@ fn with_text(
         return Ok(None);
     };
     Ok(Some(Pattern {
-        zones: pattern.zones.copy(alloc)?,
+        zones: pattern.zones,
         texts,
-        equal: pattern.equal.copy(alloc)?,
+        equal: pattern.equal,
     }))
 }

@@ -21,17 +21,20 @@ use std::alloc::Global;
 /// The bounds make one zone, so that times at a fixed difference are seen as such.
 pub fn with_bounds(
     alloc: Global,
-    pattern: &Pattern,
+    pattern: Pattern,
     bounds: &List<Bound>,
     terms: &List<Term>,
     times: &List<Name>,
 ) -> Result<Option<Pattern>, Memory>
     requires few { length times.now ≤ 8 }
-    requires known { length pattern.now.texts ≡ 8 }
+    requires known { length pattern.texts ≡ 8 }
     requires names { AreNamesAmong (flat_map times_of_term terms.now) times.now }
     requires room { bounds_reach bounds.now terms.now < 2 ^ 62 }
-    ensures { IfOk result (λ found. MatchOption found (HasNoBounds times.now terms.now bounds.now) (IsWithBounds times.now terms.now bounds.now pattern.now)) }
+    ensures { IfOk result (λ found. MatchOption found (HasNoBounds times.now terms.now bounds.now) (IsWithBounds times.now terms.now bounds.now pattern)) }
 {
+    if bounds.len() == 0 {
+        return Ok(Some(pattern));
+    }
     let mut shifted = Vec::new(alloc);
     for bound in bounds.as_slice() {
         shifted.push(shifted_bound(bound, terms, times))?;
@@ -40,7 +43,7 @@ pub fn with_bounds(
     match bounded(&shifted, columns) {
         Some(zone) => {
             let places = counted();
-            Ok(Some(pattern.with_zone(alloc, &zone, &places[..columns])?))
+            Ok(Some(pattern.with_zone(&zone, &places[..columns])?))
         }
         None => Ok(None),
     }

@@ -29,7 +29,7 @@ pub fn row_pattern(
     ensures { IfOk result (λ found. MatchOption found (HasNoRow domain.now vars.now.times vars.now.texts terms.now row.now) (IsOfRow domain.now vars.now.times vars.now.texts terms.now row.now)) }
 {
     match with_values(alloc, &row.values, terms, vars, domain)? {
-        Some(pattern) => with_bounds(alloc, &pattern, &row.bounds, terms, &vars.times),
+        Some(pattern) => with_bounds(alloc, pattern, &row.bounds, terms, &vars.times),
         None => Ok(None),
     }
 }
@@ -52,7 +52,7 @@ fn with_values(
 {
     let mut pattern = Pattern::new(alloc);
     for i in 0..terms.len() {
-        match with_value(alloc, &pattern, values.at(i), terms.at(i), vars, domain)? {
+        match with_value(pattern, values.at(i), terms.at(i), vars, domain)? {
             Some(next) => pattern = next,
             None => return Ok(None),
         }
@@ -62,8 +62,7 @@ fn with_values(
 
 // The pattern and that what a term stands for is of a value, or `None` where nothing that the pattern asks for is so.
 fn with_value(
-    alloc: Global,
-    pattern: &Pattern,
+    pattern: Pattern,
     value: &Value,
     term: &Term,
     vars: &Vars,
@@ -71,20 +70,20 @@ fn with_value(
 ) -> Result<Option<Pattern>, Memory>
     requires few_times { length vars.now.times ≤ 8 }
     requires few_texts { length vars.now.texts ≤ 8 }
-    requires known { length pattern.now.texts ≡ 8 }
+    requires known { length pattern.texts ≡ 8 }
     requires times { AreNamesAmong (times_of_term term.now) vars.now.times }
     requires texts { AreNamesAmong (texts_of_term term.now) vars.now.texts }
     requires period { HasSmallPeriod value.now }
-    ensures { IfOk result (λ found. MatchOption found (HasNoValue domain.now vars.now.times vars.now.texts value.now term.now pattern.now) (IsWithValue domain.now vars.now.times vars.now.texts value.now term.now pattern.now)) }
+    ensures { IfOk result (λ found. MatchOption found (HasNoValue domain.now vars.now.times vars.now.texts value.now term.now pattern) (IsWithValue domain.now vars.now.times vars.now.texts value.now term.now pattern)) }
 {
     match value {
         Value::Point { at } => match term {
-            Term::Time { term } => with_member(alloc, pattern, term, *at, &vars.times),
+            Term::Time { term } => with_member(pattern, term, *at, &vars.times),
             Term::Data { .. } => Ok(None),
         },
         Value::Const { text } => match term {
             Term::Time { .. } => Ok(None),
-            Term::Data { term } => with_constant(alloc, pattern, term, text, &vars.texts, domain),
+            Term::Data { term } => with_constant(pattern, term, text, &vars.texts, domain),
         },
     }
 }

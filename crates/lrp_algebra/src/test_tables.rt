@@ -33,7 +33,7 @@ pub fn leaf(alloc: Global, test: &Test, domain: &Domain, cap: u32) -> Result<Tab
     out.shape();
     let size = domain.len();
     let all = Pattern::new(alloc);
-    let Some(pattern) = with_test(alloc, &all, test, &vars, domain)? else {
+    let Some(pattern) = with_test(all, test, &vars, domain)? else {
         return Ok(Table { vars, store: out });
     };
     match add_pattern(alloc, &pattern, size, &mut out, cap) {

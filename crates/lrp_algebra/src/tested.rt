@@ -16,29 +16,26 @@ use std::alloc::Global;
 
 /// The pattern and a test of these variables, or `None` where nothing that the pattern asks for passes.
 pub fn with_test(
-    alloc: Global,
-    pattern: &Pattern,
+    pattern: Pattern,
     test: &Test,
     vars: &Vars,
     domain: &Domain,
 ) -> Result<Option<Pattern>, Memory>
     requires few_times { length vars.now.times ≤ 8 }
     requires few_texts { length vars.now.texts ≤ 8 }
-    requires known { length pattern.now.texts ≡ 8 }
+    requires known { length pattern.texts ≡ 8 }
     requires times { AreNamesAmong (times_of_test test.now) vars.now.times }
     requires texts { AreNamesAmong (texts_of_test test.now) vars.now.texts }
     requires low { pos 1 ≤ℤ test_period test.now }
     requires reach { test_reach test.now ≤ 2 ^ 62 }
-    ensures { IfOk result (λ found. MatchOption found (HasNoTest domain.now vars.now.times vars.now.texts test.now pattern.now) (IsWithTest domain.now vars.now.times vars.now.texts test.now pattern.now)) }
+    ensures { IfOk result (λ found. MatchOption found (HasNoTest domain.now vars.now.times vars.now.texts test.now pattern) (IsWithTest domain.now vars.now.times vars.now.texts test.now pattern)) }
 {
     match test {
         Test::Compare { left, op, right } => {
-            with_comparison(alloc, pattern, left, *op, right, &vars.times)
+            with_comparison(pattern, left, *op, right, &vars.times)
         }
-        Test::Member { term, point } => with_member(alloc, pattern, term, *point, &vars.times),
-        Test::Equal { left, right } => {
-            with_equal(alloc, pattern, left, right, &vars.texts, domain)
-        }
+        Test::Member { term, point } => with_member(pattern, term, *point, &vars.times),
+        Test::Equal { left, right } => { with_equal(pattern, left, right, &vars.texts, domain) }
     }
 }
 
@@ -57,7 +54,7 @@ pub fn with_tests(
 {
     let mut pattern = Pattern::new(alloc);
     for test in tests.as_slice() {
-        match with_test(alloc, &pattern, test, vars, domain)? {
+        match with_test(pattern, test, vars, domain)? {
             Some(next) => pattern = next,
             None => return Ok(None),
         }

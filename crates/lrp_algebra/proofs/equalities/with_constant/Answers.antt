@@ -8,5 +8,5 @@ use Rattle.lrp_algebra.proofs.equalities.with_constant.Goals as goal
 
 pub returns-in-Var : goal.returns-in-Var
 returns-in-Var c = ok_map c.with_text.result _ _ (λ found h times.
-    text_found c.args.domain.now c.len.ensures.ascending times c.args.texts.now c.args.pattern.now c.requires.known c.in-Var.name c.column_among-column.result c.column_among-column.ensures.place c.args.text.now (Equal c.args.term.now (constant c.args.text.now))
+    text_found c.args.domain.now c.len.ensures.ascending times c.args.texts.now c.args.pattern c.requires.known c.in-Var.name c.column_among-column.result c.column_among-column.ensures.place c.args.text.now (Equal c.args.term.now (constant c.args.text.now))
     (λ env p. sym (ap (text_value env) c.in-Var.is) ∙ p) (λ env p. ap (text_value env) c.in-Var.is ∙ p) found h) c.with_text.ensures

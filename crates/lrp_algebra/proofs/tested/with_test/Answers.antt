@@ -21,10 +21,10 @@ pub with_equal-requires-clause-right : goal.with_equal-requires-clause-right
 with_equal-requires-clause-right c = λ name h. subst (λ t. AreNamesAmong (texts_of_test t) c.args.vars.now.texts) c.in-Equal.is c.requires.texts name (Contains-append_right (names_of_data c.in-Equal.left) (names_of_data c.in-Equal.right) name h)
 
 pub returns-in-Compare : goal.returns-in-Compare
-returns-in-Compare c = ok_map c.with_comparison.result _ _ (λ found h. subst (λ t. MatchOption found (HasNoTest c.args.domain.now c.args.vars.now.times c.args.vars.now.texts t c.args.pattern.now) (IsWithTest c.args.domain.now c.args.vars.now.times c.args.vars.now.texts t c.args.pattern.now)) (sym c.in-Compare.is) (h c.args.domain.now c.args.vars.now.texts)) c.with_comparison.ensures
+returns-in-Compare c = ok_map c.with_comparison.result _ _ (λ found h. subst (λ t. MatchOption found (HasNoTest c.args.domain.now c.args.vars.now.times c.args.vars.now.texts t c.args.pattern) (IsWithTest c.args.domain.now c.args.vars.now.times c.args.vars.now.texts t c.args.pattern)) (sym c.in-Compare.is) (h c.args.domain.now c.args.vars.now.texts)) c.with_comparison.ensures
 
 pub returns-in-Member : goal.returns-in-Member
-returns-in-Member c = ok_map c.with_member.result _ _ (λ found h. subst (λ t. MatchOption found (HasNoTest c.args.domain.now c.args.vars.now.times c.args.vars.now.texts t c.args.pattern.now) (IsWithTest c.args.domain.now c.args.vars.now.times c.args.vars.now.texts t c.args.pattern.now)) (sym c.in-Member.is) (h c.args.domain.now c.args.vars.now.texts)) c.with_member.ensures
+returns-in-Member c = ok_map c.with_member.result _ _ (λ found h. subst (λ t. MatchOption found (HasNoTest c.args.domain.now c.args.vars.now.times c.args.vars.now.texts t c.args.pattern) (IsWithTest c.args.domain.now c.args.vars.now.times c.args.vars.now.texts t c.args.pattern)) (sym c.in-Member.is) (h c.args.domain.now c.args.vars.now.texts)) c.with_member.ensures
 
 pub returns-in-Equal : goal.returns-in-Equal
-returns-in-Equal c = ok_map c.with_equal.result _ _ (λ found h. subst (λ t. MatchOption found (HasNoTest c.args.domain.now c.args.vars.now.times c.args.vars.now.texts t c.args.pattern.now) (IsWithTest c.args.domain.now c.args.vars.now.times c.args.vars.now.texts t c.args.pattern.now)) (sym c.in-Equal.is) (h c.args.vars.now.times)) c.with_equal.ensures
+returns-in-Equal c = ok_map c.with_equal.result _ _ (λ found h. subst (λ t. MatchOption found (HasNoTest c.args.domain.now c.args.vars.now.times c.args.vars.now.texts t c.args.pattern) (IsWithTest c.args.domain.now c.args.vars.now.times c.args.vars.now.texts t c.args.pattern)) (sym c.in-Equal.is) (h c.args.vars.now.times)) c.with_equal.ensures
