@@ -19,16 +19,16 @@ use Rattle.lrp_tables.specs.Tables.{Has, named_variables}
 use Rattle.lrp_tables.proofs.TableLaws.{decided_table}
 use Rattle.lrp_tables.proofs.DropCounts.{drop_time_counts, drop_data_counts}
 use Rattle.lrp_algebra.specs.Tables.{IsTimeDropped, IsTextDropped}
-use Rattle.lrp_plan_laws.specs.Made.{IsEarlier, IsDataSort}
+use Rattle.lrp_plan_laws.specs.Made.{IsDataSort}
 use Rattle.lrp_plan_laws.specs.Guards.{IsGuarded}
 use Rattle.lrp_eval.specs.Running.{SameVariables, variables_of, IsStepTable, IsOperand, IsNext}
 use Rattle.lrp_eval.proofs.Denotes.{Denotes, IsDecided, IsDropData, others, drop_time_keeps, drop_data_keeps, drop_named_keeps}
 use Rattle.lrp_eval.proofs.Named.{time_dropped, text_dropped}
-use Rattle.lrp_eval.proofs.Nexts.{formula_kind, reach_kind, keeps_kind, denotes_of, sound_step, meant, run, run_of, many_read, ascends, no_order, IsMeant}
+use Rattle.lrp_eval.proofs.Nexts.{IsRead, formula_kind, reach_kind, keeps_kind, denotes_of, sound_step, meant, run, run_of, many_read, ascends, no_order, IsMeant}
 use Rattle.lrp_eval.proofs.Reading.{step_small, earlier, reach_within, numbered}
 
 module _ {db : List Relation} {q : Question} {cap : ℕ} {domain : List Text} {tables : List Table} {of : ℕ} {name : Identifier} {period : ℤ} (n : IsNext db q cap domain tables (DropTime of name) period) {table : Table} (o : IsOperand tables of table) where
-  before : IsEarlier (suc (length tables)) of
+  before : IsRead n of
   before = (earlier n).0
 
   pub drop_time_reach : HasReach table.store (2 ^ 61)
@@ -53,10 +53,10 @@ module _ {db : List Relation} {q : Question} {cap : ℕ} {domain : List Text} {t
     is_meant = meant n _ _ other denotes
 
     same_period : table.store.period ≡ n.step.period
-    same_period = (run_of n of table before.0 o).period ∙ sym (keeps_kind n)
+    same_period = (run_of n of table before o).period ∙ sym (keeps_kind n)
 
     few : InhabitsMoreThan cap domain table.store.period (other_names name table.vars.times) table.vars.texts (Has made domain) → ⊥
-    few h = (run_of n of table before.0 o).few (many_read n of table before o table.store.period (run_of n of table before.0 o).period
+    few h = (run_of n of table before o).few (many_read n of table before o table.store.period (run_of n of table before o).period
         (subst (λ c. InhabitsMoreThan cap c table.store.period table.vars.times table.vars.texts (Has table c)) n.domain_is
         (drop_time_counts domain table.store.period o.valid.period_low table.vars.times table.vars.texts name (Has made domain) (Has table domain) (λ env m. d.to domain env m) cap h)))
 
@@ -67,7 +67,7 @@ module _ {db : List Relation} {q : Question} {cap : ℕ} {domain : List Text} {t
         (subst (λ r. HasReach made.store r) (sym (reach_kind n)) (d.reach (reach_at (plan db q) of) (reach_within n o before (reach_at (plan db q) of) (omega arith)))) few (no_order n other made)
 
 module _ {db : List Relation} {q : Question} {cap : ℕ} {domain : List Text} {tables : List Table} {of : ℕ} {name : Identifier} {period : ℤ} (n : IsNext db q cap domain tables (DropData of name) period) {table : Table} (o : IsOperand tables of table) where
-  text_before : IsEarlier (suc (length tables)) of
+  text_before : IsRead n of
   text_before = (earlier n).0
 
   text_other : (l : ℕ) → DropData of name ≡ Extend l → ⊥
@@ -103,10 +103,10 @@ module _ {db : List Relation} {q : Question} {cap : ℕ} {domain : List Text} {t
     text_meant = meant n _ _ text_other text_denotes
 
     text_period : table.store.period ≡ n.step.period
-    text_period = (run_of n of table text_before.0 o).period ∙ sym (keeps_kind n)
+    text_period = (run_of n of table text_before o).period ∙ sym (keeps_kind n)
 
     text_few : InhabitsMoreThan cap domain table.store.period table.vars.times (other_names name table.vars.texts) (Has made domain) → ⊥
-    text_few h = (run_of n of table text_before.0 o).few (many_read n of table text_before o table.store.period (run_of n of table text_before.0 o).period
+    text_few h = (run_of n of table text_before o).few (many_read n of table text_before o table.store.period (run_of n of table text_before o).period
         (subst (λ c. InhabitsMoreThan cap c table.store.period table.vars.times table.vars.texts (Has table c)) n.domain_is
         (drop_data_counts domain table.store.period o.valid.period_low table.vars.times table.vars.texts name (Has made domain) (Has table domain) (λ env m. d.to env m) cap h)))
 

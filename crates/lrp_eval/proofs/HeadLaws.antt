@@ -22,7 +22,6 @@ use Rattle.lrp_tables.specs.Columns.{head_times, head_texts}
 use Rattle.lrp_tables.specs.Tables.{Has, HasTexts, IsTableOf, IsExtended, named_variables}
 use Rattle.lrp_tables.proofs.HeadNames.{head_names_differ}
 use Rattle.lrp_tables.proofs.TableLaws.{table_texts}
-use Rattle.lrp_plan_laws.specs.Made.{IsEarlier}
 use Rattle.lrp_plan_laws.specs.Scopes.{IsNarrow}
 use Rattle.lrp_plan_laws.proofs.Elements.{formula_front, formula_made}
 use Rattle.lrp_plan_laws.proofs.PlanSound.{steps_say}
@@ -30,11 +29,11 @@ use Rattle.lrp_eval.specs.Running.{HasConstants, variables_of, IsStepTable, IsOp
 use Rattle.lrp_eval.proofs.Counted.{many_map}
 use Rattle.lrp_eval.proofs.Denotes.{in_left, in_one}
 use Rattle.lrp_eval.proofs.Named.{all_by, head_columns, times_in_head, texts_in_head, time_named, data_named, are_texts}
-use Rattle.lrp_eval.proofs.Nexts.{formula_kind, reach_kind, keeps_kind, denotes_of, many_read, sound_plan, too_many, run, run_of, IsMeant}
+use Rattle.lrp_eval.proofs.Nexts.{IsRead, formula_kind, reach_kind, keeps_kind, denotes_of, many_read, sound_plan, too_many, run, run_of, IsMeant}
 use Rattle.lrp_eval.proofs.Reading.{earlier, reach_within, numbered, first_differ, second_differ}
 
 module _ {db : List Relation} {q : Question} {cap : ℕ} {domain : List Text} {tables : List Table} {of : ℕ} {period : ℤ} (n : IsNext db q cap domain tables (Extend of) period) {table : Table} (o : IsOperand tables of table) where
-  before : IsEarlier (suc (length tables)) of
+  before : IsRead n of
   before = (earlier n).0
 
   abbrev names : List Variable
@@ -93,7 +92,7 @@ module _ {db : List Relation} {q : Question} {cap : ℕ} {domain : List Text} {t
   }
 
   same_period : table.store.period ≡ n.step.period
-  same_period = (run_of n of table before.0 o).period ∙ sym (keeps_kind n)
+  same_period = (run_of n of table before o).period ∙ sym (keeps_kind n)
 
   pub head_many : InhabitsMoreThan cap domain table.store.period (head_times q.head) (head_texts q.head) (IsExtended domain q.head table) → ManyAt db q cap (suc (length tables))
   head_many = too_many n _ _ _ _ is_meant same_period
@@ -127,7 +126,7 @@ module _ {db : List Relation} {q : Question} {cap : ℕ} {domain : List Text} {t
         let told : Many (Differ (variables_of table)) (Inhabits (constants db q) table.store.period (variables_of table) (Has table (constants db q))) cap =
         subst (λ d. Many (Differ (variables_of table)) (Inhabits d table.store.period (variables_of table) (Has table d)) cap) n.domain_is
         (subst (λ vs. Many (Differ vs) (Inhabits domain table.store.period vs (Has table domain)) cap) same own) in
-        (run_of n of table before.0 o).few (many_read n of table before o table.store.period (run_of n of table before.0 o).period told)
+        (run_of n of table before o).few (many_read n of table before o table.store.period (run_of n of table before o).period told)
 
     pub head_stands : IsStepTable db q cap (suc (length tables)) table
     head_stands = head_run table as_it_is (λ high r. r) no_more

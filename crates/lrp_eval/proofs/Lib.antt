@@ -12,6 +12,7 @@ pub mod SingleLaws
 pub mod StandingLaws
 pub mod AnsweredLaws
 pub mod JoinLaws
+pub mod FreeingLaws
 pub mod LoopLaws
 pub mod HeadLaws
 pub mod HeadedLaws

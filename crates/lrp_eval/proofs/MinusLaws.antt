@@ -18,11 +18,11 @@ use Rattle.lrp_store.specs.declared.table.Table.{Table}
 use Rattle.lrp_tables.specs.Calls.{AreVariablesOf}
 use Rattle.lrp_tables.specs.Caps.{InhabitsMoreThan}
 use Rattle.lrp_tables.specs.Tables.{Has, IsTableOf, IsLess, IsMissing}
-use Rattle.lrp_plan_laws.specs.Made.{IsEarlier, AreAmong}
+use Rattle.lrp_plan_laws.specs.Made.{AreAmong}
 use Rattle.lrp_eval.specs.Running.{variables_of, IsStepTable, IsOperand, IsNext}
 use Rattle.lrp_eval.proofs.Denotes.{Denotes, minus_keeps, complement_keeps}
 use Rattle.lrp_eval.proofs.Named.{time_named, data_named, texts_are, are_texts}
-use Rattle.lrp_eval.proofs.Nexts.{formula_kind, variables_kind, reach_kind, keeps_kind, period_nat, denotes_of, meant, too_many, run, run_of, ascends, no_order, IsMeant}
+use Rattle.lrp_eval.proofs.Nexts.{IsRead, formula_kind, variables_kind, reach_kind, keeps_kind, period_nat, denotes_of, meant, too_many, run, run_of, ascends, no_order, IsMeant}
 use Rattle.lrp_eval.proofs.Reading.{step_small, earlier, multiples, period_divides, reach_within, numbered, variables}
 
 -- what the call of a difference asks
@@ -36,10 +36,10 @@ pub record CanSubtract (domain : List Text) (lt rt : Table) (period : ℤ) : Typ
   pub numbers : AreNumbered domain lt.store
 
 module _ {db : List Relation} {q : Question} {cap : ℕ} {domain : List Text} {tables : List Table} {left right : ℕ} {period : ℤ} (n : IsNext db q cap domain tables (Minus left right) period) {lt rt : Table} (lo : IsOperand tables left lt) (ro : IsOperand tables right rt) where
-  le : IsEarlier (suc (length tables)) left
+  le : IsRead n left
   le = (earlier n).0
 
-  re : IsEarlier (suc (length tables)) right
+  re : IsRead n right
   re = (earlier n).1.0
 
   known : AreAmong (variables_of rt) (variables_of lt)
@@ -90,11 +90,11 @@ pub record CanComplement (table : Table) : Type 0 where
   pub reach : HasReach table.store (2 ^ 62 - 2 * table.store.period)
 
 module _ {db : List Relation} {q : Question} {cap : ℕ} {domain : List Text} {tables : List Table} {of : ℕ} {period : ℤ} (n : IsNext db q cap domain tables (Complement of) period) {table : Table} (o : IsOperand tables of table) where
-  before : IsEarlier (suc (length tables)) of
+  before : IsRead n of
   before = (earlier n).0
 
   same_period : table.store.period ≡ n.step.period
-  same_period = (run_of n of table before.0 o).period ∙ sym (keeps_kind n)
+  same_period = (run_of n of table before o).period ∙ sym (keeps_kind n)
 
   pub can_complement : CanComplement table
   can_complement = record {

@@ -2,7 +2,7 @@
 use Rattle.std.proofs.Common.{◌≡◌, ◌↔◌, ◌≤◌, ◌<◌, ◌+◌, ◌-◌, ◌*◌, ◌^◌, ℕ, zero, suc, List, [], ◌∷◌, length, Some, map, refl, sym, ap, ap₂, subst, ◌∙◌, arith, slice_get, unwrap_or, option_map}
 use Rattle.std.proofs.Common.{add-one, mul_assoc}
 use Rattle.std.proofs.Math.Nat.{pow-succ', mul-le-mul_right}
-use Rattle.std.specs.Prelude.{ℤ, pos, nat_abs, flat_map}
+use Rattle.std.specs.Prelude.{ℤ, pos, nat_abs, flat_map, Contains}
 use Rattle.lrp_theory.specs.Divides.{Divides}
 use Rattle.lrp_model.specs.Texts.{Text, Identifier, Ascends}
 use Rattle.lrp_model.specs.Formulas.{Question, conjunction, no_forms}
@@ -25,7 +25,7 @@ use Rattle.lrp_store.specs.Stores.{HasReach}
 use Rattle.lrp_store.specs.declared.table.Table.{Table}
 use Rattle.lrp_tables.specs.Caps.{Inhabits, InhabitsMoreThan}
 use Rattle.lrp_tables.specs.Tables.{Has, IsTableOf, named_variables}
-use Rattle.lrp_plan_laws.specs.Made.{IsEarlier, IsMade, IsFormula, HasVariables, operands, head_step}
+use Rattle.lrp_plan_laws.specs.Made.{IsMade, IsFormula, HasVariables, operands, head_step}
 use Rattle.lrp_plan_laws.specs.Rising.{IsRising, KeepsPeriod, period_at}
 use Rattle.lrp_plan_laws.specs.Scopes.{IsNarrow}
 use Rattle.lrp_plan_laws.specs.Settled.{IsSoundPlan, IsSoundStep}
@@ -123,13 +123,17 @@ module _ {db : List Relation} {q : Question} {cap : ℕ} {domain : List Text} {t
 
   -- ---- the tables that it reads
 
-  pub run_of : (l : ℕ) (t : Table) → 0 < l → IsOperand tables l t → IsStepTable db q cap l t
-  run_of l t low o = subst (λ s. IsStepTable db q cap s t) (suc_pred l low) (n.before (l - 1) t o.at)
+  -- the step reads this earlier one
+  abbrev pub IsRead : ℕ → Type 0
+  IsRead l = (0 < l) × (l < suc (length tables)) × Contains (operands kind) l
 
-  pub within : (l : ℕ) → IsEarlier (suc (length tables)) l → l ≤ length tables
+  pub run_of : (l : ℕ) (t : Table) → IsRead l → IsOperand tables l t → IsStepTable db q cap l t
+  run_of l t e o = subst (λ s. IsStepTable db q cap s t) (suc_pred l e.0) (n.before (l - 1) t o.at (subst (Contains (operands kind)) (sym (suc_pred l e.0)) e.2))
+
+  pub within : (l : ℕ) → IsRead l → l ≤ length tables
   within l e = let b : l < suc (length tables) = e.1 in omega arith
 
-  pub step_before : (l : ℕ) → IsEarlier (suc (length tables)) l → (step : PlanStep) × (step_at (plan db q) l ≡ Some step)
+  pub step_before : (l : ℕ) → IsRead l → (step : PlanStep) × (step_at (plan db q) l ≡ Some step)
   step_before l e =
       let lt : length tables < length (plan db q) = inside (plan db q) (length tables) n.step n.at in
       let b : l < suc (length tables) = e.1 in
@@ -137,7 +141,7 @@ module _ {db : List Relation} {q : Question} {cap : ℕ} {domain : List Text} {t
       let x : (step : PlanStep) × (slice_get (plan db q) (l - 1) ≡ Some step) = element (plan db q) (l - 1) (omega arith) in
       (x.0, subst (λ s. step_at (plan db q) s ≡ Some x.0) (suc_pred l low) x.1)
 
-  not_head : (l : ℕ) → IsEarlier (suc (length tables)) l → (step : PlanStep) → step_at (plan db q) l ≡ Some step → (of : ℕ) → step.kind ≡ Extend of → ⊥
+  not_head : (l : ℕ) → IsRead l → (step : PlanStep) → step_at (plan db q) l ≡ Some step → (of : ℕ) → step.kind ≡ Extend of → ⊥
   not_head l e step at of k =
       let lt : length tables < length (plan db q) = inside (plan db q) (length tables) n.step n.at in
       let b : l < suc (length tables) = e.1 in
@@ -145,9 +149,9 @@ module _ {db : List Relation} {q : Question} {cap : ℕ} {domain : List Text} {t
       no_other_head db q n.planned.1.settled.elements l step at (omega arith) of k
 
   -- a table that is read stands for its step's formula
-  pub denotes_of : (l : ℕ) (t : Table) → IsEarlier (suc (length tables)) l → IsOperand tables l t → Denotes (constants db q) (structure db q) (variables_of t) (Has t (constants db q)) (formula_at (plan db q) l)
+  pub denotes_of : (l : ℕ) (t : Table) → IsRead l → IsOperand tables l t → Denotes (constants db q) (structure db q) (variables_of t) (Has t (constants db q)) (formula_at (plan db q) l)
   denotes_of l t e o =
-      let r : IsStepTable db q cap l t = run_of l t e.0 o in
+      let r : IsStepTable db q cap l t = run_of l t e o in
       let x : (step : PlanStep) × (step_at (plan db q) l ≡ Some step) = step_before l e in
       let own : variables_at db q l ≡ free (formula_at (plan db q) l) =
       ap (λ p. unwrap_or (option_map (step_variables q.head) p) []) x.1 ∙ own_variables x.0.kind q.head (free x.0.formula) (not_head l e x.0 x.1)
@@ -155,10 +159,10 @@ module _ {db : List Relation} {q : Question} {cap : ℕ} {domain : List Text} {t
       record { variables = subst (λ vs. SameVariables (variables_of t) vs) own r.variables; means = r.means }
 
   -- a table that is read has no more cells than its step
-  pub many_read : (l : ℕ) (t : Table) → IsEarlier (suc (length tables)) l → IsOperand tables l t → (K : ℕ) → K ≡ period_at (plan db q) l
+  pub many_read : (l : ℕ) (t : Table) → IsRead l → IsOperand tables l t → (K : ℕ) → K ≡ period_at (plan db q) l
       → Many (Differ (variables_of t)) (Inhabits (constants db q) K (variables_of t) (Has t (constants db q))) cap → ManyAt db q cap l
   many_read l t e o K same m =
-      let r : IsStepTable db q cap l t = run_of l t e.0 o in
+      let r : IsStepTable db q cap l t = run_of l t e o in
       let x : (step : PlanStep) × (step_at (plan db q) l ≡ Some step) = step_before l e in
       let k : K ≡ x.0.period = same ∙ ap (λ p. unwrap_or (option_map (λ step. step.period) p) 1) x.1 in
       (many_at db q (variables_of t) (Has t (constants db q)) x.0 l cap x.1

@@ -30,7 +30,7 @@ use Rattle.lrp_plan_laws.proofs.PointLaws.{points_known}
 use Rattle.lrp_eval.specs.Running.{variables_of, IsOperand, IsNext}
 use Rattle.lrp_eval.proofs.Denotes.{in_left, in_right}
 use Rattle.lrp_eval.proofs.Named.{all_of, all_by, in_joint, time_named, data_named, times_in_test, texts_in_test}
-use Rattle.lrp_eval.proofs.Nexts.{of_kind, run_of, made, rises, reach_low, denotes_of, to_divides}
+use Rattle.lrp_eval.proofs.Nexts.{IsRead, of_kind, run_of, made, rises, reach_low, denotes_of, to_divides}
 
 -- ---- results
 
@@ -155,31 +155,33 @@ module _ {db : List Relation} {q : Question} {cap : ℕ} {domain : List Text} {t
   pub own_periods : AllByRecursion (λ k. (1 ≤ k) × IsMultiple k n.step.period) (named_periods db kind)
   own_periods = of_kind n (λ k. AllByRecursion (λ k. (1 ≤ k) × IsMultiple k n.step.period) (named_periods db k)) (rises n).points
 
-  pub earlier : AllByRecursion (IsEarlier (suc (length tables))) (operands kind)
-  earlier = of_kind n (λ k. AllByRecursion (IsEarlier (suc (length tables))) (operands k)) (made n).earlier
+  pub earlier : AllByRecursion (IsRead n) (operands kind)
+  earlier = all_by (IsRead n) (operands kind) (λ l c.
+      let e : IsEarlier (suc (length tables)) l = all_of (IsEarlier (suc (length tables))) (operands kind) l (of_kind n (λ k. AllByRecursion (IsEarlier (suc (length tables))) (operands k)) (made n).earlier) c in
+      (e.0, e.1, c))
 
   pub multiples : AllByRecursion (λ l. IsMultiple (period_at (plan db q) l) n.step.period) (operands kind)
   multiples = of_kind n (λ k. AllByRecursion (λ l. IsMultiple (period_at (plan db q) l) n.step.period) (operands k)) (rises n).multiple
 
   -- ---- a table that is read
 
-  module _ {l : ℕ} {t : Table} (o : IsOperand tables l t) (e : IsEarlier (suc (length tables)) l) where
+  module _ {l : ℕ} {t : Table} (o : IsOperand tables l t) (e : IsRead n l) where
     pub period_divides : IsMultiple (period_at (plan db q) l) n.step.period → Divides (pos t.store.period) period
     period_divides m =
-        subst (λ p. Divides (pos t.store.period) p) (sym n.period_is) (subst (λ k. Divides (pos k) (pos n.step.period)) (sym (run_of n l t e.0 o).period) (to_divides (period_at (plan db q) l) n.step.period m))
+        subst (λ p. Divides (pos t.store.period) p) (sym n.period_is) (subst (λ k. Divides (pos k) (pos n.step.period)) (sym (run_of n l t e o).period) (to_divides (period_at (plan db q) l) n.step.period m))
 
     pub reach_within : (high : ℕ) → reach_at (plan db q) l ≤ high → HasReach t.store high
-    reach_within high le = reach_up t.store (reach_at (plan db q) l) high le (run_of n l t e.0 o).reach
+    reach_within high le = reach_up t.store (reach_at (plan db q) l) high le (run_of n l t e o).reach
 
     pub numbered : AreNumbered domain t.store
-    numbered = subst (λ d. AreNumbered d t.store) (sym n.domain_is) (run_of n l t e.0 o).numbered
+    numbered = subst (λ d. AreNumbered d t.store) (sym n.domain_is) (run_of n l t e o).numbered
 
     pub variables : (v : Variable) → Contains (variables_of t) v ↔ Contains (free (formula_at (plan db q) l)) v
     variables = (denotes_of n l t e o).variables
 
   -- ---- two tables that are read
 
-  module _ {l r : ℕ} {lt rt : Table} (lo : IsOperand tables l lt) (ro : IsOperand tables r rt) (le : IsEarlier (suc (length tables)) l) (re : IsEarlier (suc (length tables)) r)
+  module _ {l r : ℕ} {lt rt : Table} (lo : IsOperand tables l lt) (ro : IsOperand tables r rt) (le : IsRead n l) (re : IsRead n r)
       (narrow : IsNarrow (free (formula_at (plan db q) l) ++ (free (formula_at (plan db q) r) ++ []))) where
     left_in : (v : Variable) → Contains (variables_of lt) v → Contains (free (formula_at (plan db q) l) ++ (free (formula_at (plan db q) r) ++ [])) v
     left_in v c = in_left (free (formula_at (plan db q) l)) (free (formula_at (plan db q) r) ++ []) v ((variables lo le v).0 c)

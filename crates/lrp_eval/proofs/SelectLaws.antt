@@ -23,12 +23,12 @@ use Rattle.lrp_tables.specs.Calls.{CanBeCarried, test_period}
 use Rattle.lrp_tables.specs.Caps.{InhabitsMoreThan}
 use Rattle.lrp_tables.specs.Columns.{test_times, test_names}
 use Rattle.lrp_tables.specs.Tables.{Has, IsTableOf, IsTested, IsSelected, named_variables}
-use Rattle.lrp_plan_laws.specs.Made.{IsEarlier, AreAmong}
+use Rattle.lrp_plan_laws.specs.Made.{AreAmong}
 use Rattle.lrp_plan_laws.specs.Rising.{test_period as period_of}
 use Rattle.lrp_eval.specs.Running.{variables_of, IsStepTable, IsOperand, IsNext}
 use Rattle.lrp_eval.proofs.Denotes.{Denotes, in_one, leaf_keeps, select_keeps}
 use Rattle.lrp_eval.proofs.Named.{test_variables, texts_are, are_texts}
-use Rattle.lrp_eval.proofs.Nexts.{formula_kind, variables_kind, reach_kind, keeps_kind, period_nat, denotes_of, meant, too_many, run, no_order, IsMeant}
+use Rattle.lrp_eval.proofs.Nexts.{IsRead, formula_kind, variables_kind, reach_kind, keeps_kind, period_nat, denotes_of, meant, too_many, run, no_order, IsMeant}
 use Rattle.lrp_eval.proofs.Reading.{step_small, point_periods, own_periods, earlier, multiples, period_divides, reach_within, numbered, variables, carried, low_period}
 
 same_period : (t : Test) → nat_abs (test_period t) ≡ period_of t
@@ -75,7 +75,7 @@ pub record CanSelect (domain : List Text) (table : Table) (t : Test) (period : �
   pub small : test_reach t + nat_abs period ≤ 2 ^ 62
 
 module _ {db : List Relation} {q : Question} {cap : ℕ} {domain : List Text} {tables : List Table} {of : ℕ} {t : Test} {period : ℤ} (n : IsNext db q cap domain tables (Select of t) period) {table : Table} (o : IsOperand tables of table) where
-  before : IsEarlier (suc (length tables)) of
+  before : IsRead n of
   before = (earlier n).0
 
   known : AreAmong (variables_of_test t) (variables_of table)

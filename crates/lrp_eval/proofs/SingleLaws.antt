@@ -1,27 +1,26 @@
--- A store with as many zones as cells has one in each, and is settled where these have one column or none.
+-- A store with as many zones as cells has one in each, and is settled.
 use Rattle.std.proofs.Common.{◌≡◌, ◌≢◌, inl, inr, ◌≤◌, ◌<◌, ◌+◌, ◌*◌, ℕ, zero, suc, List, [], ◌∷◌, length, map, Option, Some, Bool, true, false, cond, unwrap_or, Contains, refl, sym, ap, ap₂, subst, ◌∙◌, arith}
 use Rattle.std.specs.Prelude.{ℤ, AllPairs, sum_by}
 use Rattle.std.specs.FinMap as finite
 use Rattle.std.specs.FinMap.{entries, get-entries, len-entries, find}
 use Rattle.std.specs.Ordering.{is_eq, eq_by_cmp}
 use Rattle.std.proofs.lemmas.Cmp.{tied_itself}
-use Rattle.std.proofs.lemmas.List.{length-map, length-take}
+use Rattle.std.proofs.lemmas.List.{length-map}
 use Rattle.std.proofs.lemmas.List.Sums.{sum_by-cons}
 use Rattle.lrp_model.specs.declared.tuples.Cell.{Cell}
 use Rattle.lrp_model.proofs.Decided.{cons_cases, contains_first, contains_later, contains_none}
-use Rattle.lrp_zone.specs.Zones.{ZoneView, IsZone, columns_of, reach_of}
+use Rattle.lrp_zone.specs.Zones.{ZoneView, IsZone, columns_of}
 use Rattle.lrp_zone.specs.Pairs.{IsOfCell}
 use Rattle.lrp_slots.specs.Lists.{cell_cmp}
 use Rattle.lrp_slots.proofs.Tables.{cells_total, same_cell}
+use Rattle.lrp_store.specs.Settled.{AreSettled}
 use Rattle.lrp_store.specs.Stores.{StoreView, IsStore, zone_of, tables_at, zones_at}
 use Rattle.lrp_store.proofs.Held.{zone_held}
-use Rattle.lrp_minus.specs.Differences.{greatest_reach}
 use Rattle.lrp_minus.specs.Intervals.{IsFarBelow}
-use Rattle.lrp_minus.specs.Settling.{IsSettlement, IsSmallZone}
+use Rattle.lrp_minus.specs.Settling.{IsSettlement}
 use Rattle.lrp_minus.proofs.IntervalLaws.{intervals}
-use Rattle.lrp_minus.proofs.LineLaws.{small_zone}
-use Rattle.lrp_minus.proofs.Lists.{in_one, one_in, pairs_one, reach_below}
-use Rattle.lrp_minus.proofs.SettlingLaws.{settled_none}
+use Rattle.lrp_minus.proofs.Lists.{in_one, one_in, pairs_one}
+use Rattle.lrp_minus.proofs.SettlingLaws.{one_settled, settled_alone, settled_none}
 use Rattle.lrp_eval.specs.Settling.{HasSingleZones, IsSettledStore}
 use Rattle.lrp_eval.proofs.SettleLaws.{first_differs, key_is, key_zone, keys_differ, rest_differ, table_of}
 
@@ -99,33 +98,25 @@ only [] x l c = absurd (contains_none x c)
 only (y ∷ []) x l c = ap (λ z. z ∷ []) (in_one y x c)
 only (y ∷ z ∷ zs) x l c = absurd (omega arith)
 
-times_one : (n h : ℕ) → n ≡ 1 → h ≤ n * h
-times_one n h e = rw e (omega arith)
+module _ (z : ZoneView) (valid : IsZone z) where
+  own_cell : (w : ZoneView) → Contains (z ∷ []) w → IsOfCell z w
+  own_cell w l = subst (λ y. IsOfCell z y) (in_one z w l) (record { period = refl; residues = refl })
 
-on_line : (z : ZoneView) → IsZone z → columns_of z ≡ 1 → IsSettlement z (z ∷ []) (z ∷ [])
-on_line z valid one =
-    let own : reach_of z ≤ greatest_reach (z ∷ []) = reach_below (z ∷ []) z (one_in z) in
-    let room : greatest_reach (z ∷ []) ≤ columns_of z * greatest_reach (z ∷ []) = times_one (columns_of z) (greatest_reach (z ∷ [])) one in
-    record {
-      zones = λ w l. subst (λ y. IsZone y × IsOfCell z y) (in_one z w l) (valid, record { period = refl; residues = refl });
-      to = λ xs m. m;
-      from = λ xs m. m;
-      settled = record {
-        none = λ e. refl;
-        one = λ e. intervals (z ∷ []) (λ w l. subst (λ y. IsZone y × (columns_of y ≡ 1)) (in_one z w l) (valid, one)) (pairs_one IsFarBelow z)
-            (λ q v a b. subst (λ y. IsOfCell y v) (in_one z q a) (subst (λ y. IsOfCell z y) (in_one z v b) (record { period = refl; residues = refl })));
-        more = λ l. absurd (omega (arith, one));
-      };
-      small = λ w l. subst (λ y. IsSmallZone y (columns_of z * greatest_reach (z ∷ []))) (in_one z w l) (small_zone z (greatest_reach (z ∷ [])) valid own (omega arith));
-    }
+  on_line : columns_of z ≡ 1 → AreSettled z (z ∷ [])
+  on_line one = record {
+    none = λ e. refl;
+    one = λ e. intervals (z ∷ []) (λ w l. subst (λ y. IsZone y × (columns_of y ≡ 1)) (in_one z w l) (valid, one)) (pairs_one IsFarBelow z)
+        (λ q v a b. subst (λ y. IsOfCell y v) (in_one z q a) (own_cell v b));
+    more = λ l. absurd (omega (arith, one));
+  }
 
-alone : (z : ZoneView) → IsZone z → columns_of z ≤ 1 → IsSettlement z (z ∷ []) (z ∷ [])
-alone z valid few = by (columns_of z) refl
+alone : (z : ZoneView) → IsZone z → IsSettlement z (z ∷ []) (z ∷ [])
+alone z valid = by (columns_of z) refl
   where
     by : (n : ℕ) → columns_of z ≡ n → IsSettlement z (z ∷ []) (z ∷ [])
-    by zero e = settled_none z (z ∷ []) valid e (one_in z) (record { each = λ w l. subst (λ y. IsOfCell z y) (in_one z w l) (record { period = refl; residues = refl }) })
-    by (suc zero) e = on_line z valid e
-    by (suc (suc n)) e = absurd (omega (arith, e, few))
+    by zero e = settled_none z (z ∷ []) valid e (one_in z) (record { each = own_cell z valid })
+    by (suc zero) e = settled_alone z z valid (own_cell z valid z (one_in z)) (omega (arith, e)) (on_line z valid e)
+    by (suc (suc n)) e = settled_alone z z valid (own_cell z valid z (one_in z)) (omega (arith, e)) (one_settled z z valid (own_cell z valid z (one_in z)) (omega (arith, e)))
 
 pub singles_settled : (s : StoreView) → IsStore s → HasSingleZones s → IsSettledStore s s
 singles_settled s is h = record {
@@ -135,9 +126,8 @@ singles_settled s is h = record {
   cells = λ cell z c.
       let t : (t : List (Option ℤ)) × Contains (tables_at s cell) t × (zone_of s cell t ≡ z) = table_of s cell (tables_at s cell) z c in
       let valid : IsZone z = subst IsZone t.2 (zone_held s is cell t.0 t.1) in
-      let short : length (zones_at s cell) ≤ 1 = let n : length (zones_at s cell) ≡ length (tables_at s cell) = length-map (tables_at s cell) (zone_of s cell) in let l : length (tables_at s cell) ≤ 1 = h.each cell in omega arith in
+      let short : length (zones_at s cell) ≤ 1 = let n : length (zones_at s cell) ≡ length (tables_at s cell) = length-map (tables_at s cell) (zone_of s cell) in let l : length (tables_at s cell) ≤ 1 = h cell in omega arith in
       let one : zones_at s cell ≡ z ∷ [] = only (zones_at s cell) z short c in
-      let few : columns_of z ≤ 1 = (let e : columns_of (zone_of s cell t.0) ≡ columns_of z = ap (λ v. columns_of v) t.2 in let c1 : s.shape.times ≤ 1 = h.columns in omega (arith, e, c1, length-take s.shape.times cell.residues)) in
-      subst (λ zs. IsSettlement z zs zs) (sym one) (alone z valid few);
+      subst (λ zs. IsSettlement z zs zs) (sym one) (alone z valid);
   only = λ cell none. none;
 }

@@ -20,11 +20,10 @@ use Rattle.lrp_tables.specs.Caps.{InhabitsMoreThan}
 use Rattle.lrp_tables.specs.Columns.{joint}
 use Rattle.lrp_tables.specs.Tables.{Has, HasTexts, IsTableOf, IsUnited, named_variables}
 use Rattle.lrp_tables.proofs.TableLaws.{decided_table}
-use Rattle.lrp_plan_laws.specs.Made.{IsEarlier}
 use Rattle.lrp_eval.specs.Running.{variables_of, IsStepTable, IsOperand, IsNext}
 use Rattle.lrp_eval.proofs.Denotes.{Denotes, union_keeps}
 use Rattle.lrp_eval.proofs.Named.{joint_variables, texts_are, are_texts}
-use Rattle.lrp_eval.proofs.Nexts.{formula_kind, reach_kind, narrow_kind, period_nat, denotes_of, meant, too_many, run, ascends, no_order, IsMeant}
+use Rattle.lrp_eval.proofs.Nexts.{IsRead, formula_kind, reach_kind, narrow_kind, period_nat, denotes_of, meant, too_many, run, ascends, no_order, IsMeant}
 use Rattle.lrp_eval.proofs.Reading.{step_small, earlier, multiples, period_divides, reach_within, numbered, can_meet}
 
 -- what the call asks
@@ -50,10 +49,10 @@ decided_united domain a tables l r lt rt lo ro env =
     (decided_one (decided_table domain a lt lo.valid env) (decided_table domain a rt ro.valid env)))
 
 module _ {db : List Relation} {q : Question} {cap : ℕ} {domain : List Text} {tables : List Table} {left right : ℕ} {period : ℤ} (n : IsNext db q cap domain tables (Union left right) period) {lt rt : Table} (lo : IsOperand tables left lt) (ro : IsOperand tables right rt) where
-  le : IsEarlier (suc (length tables)) left
+  le : IsRead n left
   le = (earlier n).0
 
-  re : IsEarlier (suc (length tables)) right
+  re : IsRead n right
   re = (earlier n).1.0
 
   pub can_unite : CanUnite domain lt rt period

@@ -4,3 +4,4 @@ pub mod Counts
 pub mod Planned
 pub mod Running
 pub mod Settling
+pub mod Freeing

@@ -1,12 +1,12 @@
 -- What the tables of the steps of a plan stand for.
-use Rattle.std.specs.Prelude.{◌≡◌, ◌≢◌, ◌↔◌, ℕ, suc, ◌-◌, ℤ, pos, List, [], ◌∷◌, ◌++◌, length, AllPairs, Some, Contains, slice_get, unwrap_or, option_map}
+use Rattle.std.specs.Prelude.{◌≡◌, ◌≢◌, ◌↔◌, ◌<◌, ◌≤◌, ℕ, suc, ◌-◌, ℤ, pos, List, [], ◌∷◌, ◌++◌, length, AllPairs, Some, Contains, slice_get, unwrap_or, option_map}
 use Rattle.lrp_model.specs.Texts.{Text, Identifier}
 use Rattle.lrp_model.specs.Formulas.{Question}
 use Rattle.lrp_model.specs.Variables.{Variable, data_variable}
 use Rattle.lrp_model.specs.Satisfaction.{Assignment, Satisfies, structure}
 use Rattle.lrp_model.specs.Domains.{constants}
 use Rattle.lrp_model.specs.Caps.{ManyAt, step_variables}
-use Rattle.lrp_model.specs.Steps.{PlanStep, step_at, formula_at, reach_at}
+use Rattle.lrp_model.specs.Steps.{PlanStep, Steps, step_at, formula_at, reach_at}
 use Rattle.lrp_model.specs.Plans.{plan}
 use Rattle.lrp_model.specs.declared.relations.Sort.TheVariants.{Data}
 use Rattle.lrp_model.specs.declared.relations.Column.{Column}
@@ -21,6 +21,7 @@ use Rattle.lrp_store.specs.Tables.{AreNumbered}
 use Rattle.lrp_store.specs.declared.table.Table.{Table}
 use Rattle.lrp_tables.specs.Columns.{head_times, head_texts}
 use Rattle.lrp_tables.specs.Tables.{Has, named_variables}
+use Rattle.lrp_plan_laws.specs.Made.{operands}
 use Rattle.lrp_plan_laws.specs.Rising.{period_at}
 use Rattle.lrp_eval.specs.Planned.{IsPlanOf}
 
@@ -63,9 +64,23 @@ pub record IsOperand (tables : List Table) (number : ℕ) (table : Table) : Type
   pub texts_named : length table.vars.texts ≡ table.store.shape.texts
   pub differ : AllPairs ◌≢◌ (table.vars.times ++ table.vars.texts)
 
--- the tables are those of the first steps
-abbrev pub AreRun : List Relation → Question → ℕ → List Table → Type 0
-AreRun db q cap tables = (i : ℕ) (table : Table) → slice_get tables i ≡ Some table → IsStepTable db q cap (suc i) table
+-- a step behind the first `count` reads step s
+pub record IsReadBehind (steps : Steps) (count s : ℕ) : Type 0 where
+  pub number : ℕ
+  pub step : PlanStep
+  pub behind : count < number
+  pub at : step_at steps number ≡ Some step
+  pub reads : Contains (operands step.kind) s
+
+-- of the first steps, the last one and each that a later step reads have their tables, and none has more than cap cells
+pub record AreRun (db : List Relation) (q : Question) (cap : ℕ) (tables : List Table) : Type 0 where
+  pub read : (i : ℕ) (table : Table) → slice_get tables i ≡ Some table → IsReadBehind (plan db q) (length tables) (suc i) → IsStepTable db q cap (suc i) table
+  pub last : (i : ℕ) (table : Table) → slice_get tables i ≡ Some table → suc i ≡ length tables → IsStepTable db q cap (suc i) table
+  pub few : (s : ℕ) → s ≤ length tables → ManyAt db q cap s → ⊥
+
+-- the tables that a step of this kind reads are those of their steps
+abbrev pub AreReadBy : List Relation → Question → ℕ → List Table → StepKind → Type 0
+AreReadBy db q cap tables kind = (i : ℕ) (table : Table) → slice_get tables i ≡ Some table → Contains (operands kind) (suc i) → IsStepTable db q cap (suc i) table
 
 -- the step behind these tables has this kind and period
 pub record IsNext (db : List Relation) (q : Question) (cap : ℕ) (domain : List Text) (tables : List Table) (kind : StepKind) (period : ℤ) : Type 0 where
@@ -75,7 +90,7 @@ pub record IsNext (db : List Relation) (q : Question) (cap : ℕ) (domain : List
   pub kind_is : kind ≡ step.kind
   pub period_is : period ≡ pos step.period
   pub domain_is : domain ≡ constants db q
-  pub before : AreRun db q cap tables
+  pub before : AreReadBy db q cap tables kind
 
 -- some database and query have such a step
 pub record IsSomeNext (cap : ℕ) (domain : List Text) (tables : List Table) (kind : StepKind) (period : ℤ) : Type 0 where

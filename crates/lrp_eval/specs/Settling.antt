@@ -16,10 +16,9 @@ pub record AddsZones (cell : Cell) (zones : List ZoneView) (old new : StoreView)
 abbrev pub CanSettle : StoreView → Type 0
 CanSettle s = (cell : Cell) (z : ZoneView) → Contains (zones_at s cell) z → columns_of z * reach_of z + z.period ≤ 2 ^ 62
 
--- each cell has at most one zone, and a zone at most one column
-pub record HasSingleZones (s : StoreView) : Type 0 where
-  pub columns : s.shape.times ≤ 1
-  pub each : (cell : Cell) → length (tables_at s cell) ≤ 1
+-- each cell has at most one zone
+abbrev pub HasSingleZones : StoreView → Type 0
+HasSingleZones s = (cell : Cell) → length (tables_at s cell) ≤ 1
 
 -- the zones of each cell are a settlement of the old ones, and no other cell is held
 pub record IsSettledStore (old new : StoreView) : Type 0 where

@@ -6,6 +6,7 @@ ghost use Rattle.lrp_model.specs.Formulas.{Question};
 ghost use Rattle.lrp_store.specs.declared.table.StepFault.TheVariants.{TooManyCells as too_many};
 ghost use Rattle.lrp_eval.specs.Planned.{HasAnswers, IsEvalCause, IsPlanOf, IsSomePlan};
 
+use crate::freeing::{give_up, last_readers};
 use crate::heading::is_headed;
 use crate::running::{Setting, run_step};
 use lrp_model::{List, Memory, Plan};
@@ -36,7 +37,7 @@ impl From<Memory> for EvalFault {
 
 /// The table of the last step of a plan, which has just the answers of each settled query that has the plan.
 ///
-/// The steps are run one after another. `TooManyCells` comes at the first step whose formula is inhabited in more than `cap`
+/// The steps are run one after another, and a table is kept until the last step that reads it is done. `TooManyCells` comes at the first step whose formula is inhabited in more than `cap`
 /// cells of its period.
 pub fn run_steps(
     alloc: Global,
@@ -53,6 +54,7 @@ pub fn run_steps(
         domain: &plan.domain,
         cap,
     };
+    let readers = last_readers(alloc, plan.steps.as_slice())?;
     let mut tables = List::new(alloc);
     for step in plan.steps.as_slice() {
         if is_headed(tables.as_slice(), &plan.head, step) {
@@ -62,6 +64,7 @@ pub fn run_steps(
             Ok(table) => tables.push(table)?,
             Err(fault) => return Err(fault_behind(tables.len(), fault)),
         }
+        tables = give_up(alloc, &step.kind, &readers, tables);
     }
     Ok(last_of(tables))
 }

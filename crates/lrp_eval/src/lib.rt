@@ -4,6 +4,7 @@
 mod answering;
 mod dropping;
 mod evaluation;
+mod freeing;
 mod heading;
 mod joining;
 mod laws;

@@ -24,12 +24,13 @@ pub(crate) fn settled(alloc: Global, store: Store) -> Result<Store, Memory>
     settled_cells(alloc, &store)
 }
 
-// Whether each cell has one zone, of one column or of none.
+// Whether each cell has one zone.
 fn has_single_zones(store: &Store) -> bool
     ensures single { IsTrue result → HasSingleZones store.now }
     ensures valid { IsStore store.now }
 {
-    store.shape().times <= 1 && store.zones() == store.len() as usize
+    store.shape();
+    store.zones() == store.len() as usize
 }
 
 // Whether the zones have one column, and those of each cell are settled as they stand.

@@ -1,5 +1,5 @@
 -- Zones are settled: with no column by one of them, with more by their hull or by those that lie within no other.
-use Rattle.std.proofs.Common.{◌≡◌, ℕ, ◌+◌, ◌*◌, ◌<◌, ◌≤◌, ◌⊎◌, ◌^◌, inl, inr, List, [], ◌∷◌, ◌++◌, length, arith, refl, sym, subst, ◌∙◌, ap}
+use Rattle.std.proofs.Common.{◌≡◌, ℕ, ◌+◌, ◌*◌, ◌<◌, ◌≤◌, ◌⊎◌, ◌^◌, inl, inr, List, [], ◌∷◌, ◌++◌, length, get_or, arith, refl, sym, subst, ◌∙◌, ap}
 use Rattle.std.specs.Prelude.{ℤ, Contains}
 use Rattle.std.proofs.lemmas.List.{nil_from_length}
 use Rattle.std.proofs.lemmas.List.Elements.{Contains-append_cases}
@@ -7,7 +7,7 @@ use Rattle.lrp_theory.specs.Entries.{AtMost}
 use Rattle.lrp_zone.specs.Zones.{ZoneView, IsZone, IsMember, columns_of, reach_of}
 use Rattle.lrp_zone.specs.Pairs.{IsOfCell, IsWithin}
 use Rattle.lrp_zone.proofs.Reaches.{small_reach}
-use Rattle.lrp_store.specs.Settled.{InSome, AreOneZone}
+use Rattle.lrp_store.specs.Settled.{InSome, AreOneZone, AreSettled}
 use Rattle.lrp_minus.specs.Cutting.{IsWithinOne, side_reach}
 use Rattle.lrp_minus.specs.Differences.{AreOfCell, greatest_reach}
 use Rattle.lrp_minus.specs.Hulls.{IsHull}
@@ -113,6 +113,41 @@ gap_room f h zones more c room =
 pub line_room : (f z : ZoneView) → IsOfCell f z → columns_of f ≡ 1 → columns_of z * reach_of z + z.period ≤ 2 ^ 62 → reach_of z + z.period ≤ 2 ^ 62
 line_room f z c one room =
     let r : 1 * reach_of z + z.period ≤ 2 ^ 62 = subst (λ k. k * reach_of z + z.period ≤ 2 ^ 62) (ap length c.residues ∙ one) room in omega arith
+
+-- ---- one zone alone
+pub settled_alone : (f z : ZoneView) → IsZone z → IsOfCell f z → 0 < columns_of f → AreSettled f (z ∷ []) → IsSettlement f (z ∷ []) (z ∷ [])
+settled_alone f z valid cell some settled =
+    let n : columns_of z ≡ columns_of f = ap length cell.residues in
+    let own : reach_of z ≤ greatest_reach (z ∷ []) = reach_below (z ∷ []) z (one_in z) in
+    let room : greatest_reach (z ∷ []) ≤ columns_of f * greatest_reach (z ∷ []) = times_more (columns_of f) _ some in
+    let small : IsSmallZone z (columns_of z * greatest_reach (z ∷ [])) = small_zone z (greatest_reach (z ∷ [])) valid own (subst (λ k. reach_of z ≤ k * greatest_reach (z ∷ [])) (sym n) (omega arith)) in
+    record {
+      zones = λ w l. subst (λ y. IsZone y × IsOfCell f y) (in_one z w l) (valid, cell);
+      to = λ xs s. s;
+      from = λ xs s. s;
+      settled = settled;
+      small = λ w l. subst (λ y. IsSmallZone y (columns_of f * greatest_reach (z ∷ []))) (in_one z w l) (subst (λ k. IsSmallZone z (k * greatest_reach (z ∷ []))) n small);
+    }
+
+-- with two columns or more it is settled
+pub one_settled : (f z : ZoneView) → IsZone z → IsOfCell f z → 1 < columns_of f → AreSettled f (z ∷ [])
+one_settled f z valid cell more = record {
+  none = λ e. refl;
+  one = λ e. absurd (omega (arith, more));
+  more = λ l. ((λ e. (z, cell, record { is = valid; within = λ xs s. this_has z xs s; whole = λ xs m. in_this z xs m })), (λ r. refl));
+}
+
+-- the one zone of a list
+one_item : {X : Type 0} (xs : List X) (x : X) → 1 ≤ length xs → length xs < 2 → x ≡ get_or xs 0 x → xs ≡ x ∷ []
+one_item [] x low high e = absurd (omega arith)
+one_item (y ∷ []) x low high e = ap (λ z. z ∷ []) (sym e)
+one_item (y ∷ z ∷ zs) x low high e = absurd (omega arith)
+
+pub settled_one : (f z : ZoneView) (zones : List ZoneView) → AreOfCell f zones → 1 < columns_of f → IsZone z → 1 ≤ length zones → length zones < 2 → z ≡ get_or zones 0 z → IsSettlement f zones (z ∷ [])
+settled_one f z zones cells more valid low high at =
+    let one : zones ≡ z ∷ [] = one_item zones z low high at in
+    let cell : IsOfCell f z = cells.each z (subst (λ l. Contains l z) (sym one) (one_in z)) in
+    subst (λ l. IsSettlement f l (z ∷ [])) (sym one) (settled_alone f z valid cell (omega arith) (one_settled f z valid cell more))
 
 -- ---- more columns
 pub hull_cells : (f : ZoneView) (zones : List ZoneView) (h : ZoneView) → AreOfCell f zones → IsHull f zones h → AreOfCell h zones

@@ -44,6 +44,10 @@ fn fewest(alloc: Global, cell: &Zone, zones: &List<Zone>) -> Result<List<Zone>, 
     ensures { IfOk result (λ made. IsSettlement cell.now zones.now made) }
 {
     let all = zones.as_slice();
+    if let [zone] = all {
+        zone.columns();
+        return one(alloc, *zone);
+    }
     let hull = hull(alloc, cell, all)?;
     if has_gap(alloc, &hull, all)? {
         thinned(alloc, all)

@@ -1,12 +1,12 @@
--- The hull is the set, or the set is not that of one zone.
-use Rattle.std.proofs.Common.{◌≡◌, ◌+◌, ◌*◌, ◌≤◌, ◌^◌, ◌∷◌, [], arith, subst, sym}
+-- One zone stays; else the hull is the set, or the set is not that of one zone.
+use Rattle.std.proofs.Common.{◌≡◌, ◌+◌, ◌*◌, ◌<◌, ◌≤◌, ◌^◌, ◌∷◌, [], length, get_or, arith, subst, sym}
 use Rattle.lrp_zone.specs.Zones.{columns_of}
 use Rattle.lrp_minus.specs.Differences.{greatest_reach}
 use Rattle.lrp_minus.specs.Hulls.{IsHull}
 use Rattle.lrp_minus.specs.Leaving.{HasGap}
 use Rattle.lrp_minus.specs.Settling.{IsSettlement, IsSmallZone, IsThinned}
 use Rattle.lrp_minus.proofs.Lists.{if_ok}
-use Rattle.lrp_minus.proofs.SettlingLaws.{cells_each, gap_room, greatest_room, hull_cells, settled_hull, settled_thinned}
+use Rattle.lrp_minus.proofs.SettlingLaws.{cells_each, gap_room, greatest_room, hull_cells, settled_hull, settled_one, settled_thinned}
 use Rattle.lrp_minus.proofs.settling.fewest.Goals as goal
 
 pub hull-requires-clause-reach : goal.hull-requires-clause-reach
@@ -38,7 +38,15 @@ pub returns-else-branch : goal.returns-else-branch
 returns-else-branch c =
     let hull : IsHull c.args.cell.now c.args.zones.now c.in_ok-hull.hull = rw c.as_slice-all.ensures at c.in_ok-hull.ensures.hull in
     let small : IsSmallZone c.in_ok-hull.hull (columns_of c.args.cell.now * greatest_reach c.args.zones.now) = rw c.as_slice-all.ensures at c.in_ok-hull.ensures.small in
-    if_ok (λ made. made ≡ c.in_ok-hull.hull ∷ []) (IsSettlement c.args.cell.now c.args.zones.now) c.one.result
+    if_ok (λ made. made ≡ c.in_ok-hull.hull ∷ []) (IsSettlement c.args.cell.now c.args.zones.now) c.one-else-branch.result
     (λ made e. rw e (settled_hull c.args.cell.now c.args.zones.now c.in_ok-hull.hull c.requires.cell c.requires.columns (rw c.as_slice-all.ensures at c.in_ok-hull.ensures.valid) hull
     (λ g. cc (c.in_ok-has_gap.ensures.1 (subst (λ l. HasGap c.in_ok-hull.hull l) (sym c.as_slice-all.ensures) g), c.if-branch.false)) small))
+    c.one-else-branch.ensures
+
+pub returns-in-len1 : goal.returns-in-len1
+returns-in-len1 c =
+    if_ok (λ made. made ≡ c.zone-item.result ∷ []) (IsSettlement c.args.cell.now c.args.zones.now) c.one.result
+    (λ made e. rw e (settled_one c.args.cell.now c.zone-item.result c.args.zones.now c.requires.cell c.requires.columns c.columns.ensures.valid
+    (subst (λ l. 1 ≤ length l) c.as_slice-all.ensures c.in-len1.len_at_least) (subst (λ l. length l < 2) c.as_slice-all.ensures c.in-len1.len_below)
+    (subst (λ l. c.zone-item.result ≡ get_or l 0 c.zone-item.result) c.as_slice-all.ensures c.zone-item.is)))
     c.one.ensures
