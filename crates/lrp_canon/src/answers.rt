@@ -1,6 +1,6 @@
 // The canonical answer, and how many rows it has.
 ghost use Rattle.std.specs.Prelude.{◌≡◌, ◌≤◌, ◌<◌, IfOk, IfNone, IfSome};
-ghost use Rattle.lrp_store.specs.Stores.{IsStore};
+ghost use Rattle.lrp_store.specs.Stores.{IsStore, zone_count};
 ghost use Rattle.lrp_spans.specs.Groups.{AreGroups};
 ghost use Rattle.lrp_spans.specs.Periods.{IsEndPeriod};
 ghost use Rattle.lrp_canon.specs.Canonical.{CanMakeCanonical, HasCanonicalRows, HasMoreRows, IsCanonicalOf};
@@ -8,7 +8,7 @@ ghost use Rattle.lrp_canon.specs.Canonical.{CanMakeCanonical, HasCanonicalRows, 
 use crate::counting::rows_of;
 use crate::edges::Periods;
 use crate::storing::rows_in_store;
-use lrp_model::{Copies, Memory};
+use lrp_model::{Copies, Memory, Shape};
 use lrp_slots::Slots;
 use lrp_spans::{Span, groups_of, period_of};
 use lrp_store::{Answer, Store};
@@ -48,6 +48,69 @@ pub fn canonical_rows(alloc: Global, answer: &Answer, most: u32) -> Result<Optio
     let periods = periods_of(alloc, &answer.store, &groups)?;
     let rows = rows_of(alloc, &groups, periods)?;
     Ok(at_most(rows, most))
+}
+
+/// The canonical answer, or `None` where it has more than `most` rows, in one pass over the cells and zones of the answer.
+///
+/// The answer's store is let go before a row is made, so that not both are held.
+pub fn canonical_within(alloc: Global, answer: Answer, most: u32) -> Result<Option<Answer>, Memory>
+    requires { CanMakeCanonical answer.store }
+    ensures head { IfOk result (λ found. IfSome found (λ made. made.head ≡ answer.head)) }
+    ensures domain { IfOk result (λ found. IfSome found (λ made. made.domain ≡ answer.domain)) }
+    ensures store { IfOk result (λ found. IfSome found (λ made. IsCanonicalOf answer.store made.store)) }
+    ensures counted { IfOk result (λ found. IfSome found (λ made. HasCanonicalRows answer.store (zone_count made.store))) }
+    ensures few { IfOk result (λ found. IfSome found (λ made. zone_count made.store ≤ most)) }
+    ensures none { IfOk result (λ found. IfNone found (HasMoreRows answer.store most)) }
+{
+    let groups = groups_of(alloc, &answer.store)?;
+    let periods = periods_of(alloc, &answer.store, &groups)?;
+    let rows = rows_of(alloc, &groups, periods)?;
+    match at_most(rows, most) {
+        Some(_) => match of_groups(alloc, answer, &groups, periods) {
+            Ok(made) => Ok(Some(made)),
+            Err(Memory) => Err(Memory),
+        },
+        None => Ok(None),
+    }
+}
+
+// The canonical answer of the groups of an answer, whose store is let go first.
+fn of_groups(
+    alloc: Global,
+    answer: Answer,
+    groups: &Slots<Span>,
+    periods: Periods,
+) -> Result<Answer, Memory>
+    requires can { CanMakeCanonical answer.store }
+    requires valid { IsStore answer.store }
+    requires groups { AreGroups answer.store groups.now.lists }
+    requires whole { periods.whole ≡ answer.store.period }
+    requires least { IsEndPeriod answer.store.period groups.now.lists periods.least }
+    ensures head { IfOk result (λ made. made.head ≡ answer.head) }
+    ensures domain { IfOk result (λ made. made.domain ≡ answer.domain) }
+    ensures store { IfOk result (λ made. IsCanonicalOf answer.store made.store) }
+{
+    let Answer {
+        head,
+        domain,
+        store,
+        ..
+    } = answer;
+    let shape = shape_of(store);
+    let store = rows_in_store(alloc, groups, periods, shape)?;
+    Ok(Answer {
+        head,
+        period: periods.least as i64,
+        domain,
+        store,
+    })
+}
+
+// The shape of a store, which goes.
+fn shape_of(store: Store) -> Shape
+    ensures { result ≡ store.shape }
+{
+    store.shape()
 }
 
 // The period of the store, and the least one of its groups.

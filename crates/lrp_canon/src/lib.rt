@@ -8,5 +8,5 @@ mod laws;
 mod rows;
 mod storing;
 
-pub use answers::{canonical, canonical_rows};
+pub use answers::{canonical, canonical_rows, canonical_within};
 pub use laws::answer_texts_are_unique;

@@ -3,6 +3,7 @@ pub mod LineLaws
 pub mod Escapes
 pub mod AnswerLines
 pub mod Shortest
+pub mod OneColumn
 pub mod Rows
 pub mod Lists
 pub mod Closed

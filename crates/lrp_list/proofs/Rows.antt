@@ -1,5 +1,5 @@
 -- The rows of an answer, one zone after another and one cell after another.
-use Rattle.std.proofs.Common.{◌≡◌, ◌<◌, ◌∙◌, ℕ, zero, suc, List, [], ◌∷◌, ◌++◌, Option, Some, None, refl, sym, ap, subst, append_assoc, append-nil, arith, map, length, get_or, take, codes, Bool, true, false, ◌≢◌}
+use Rattle.std.proofs.Common.{◌≡◌, ◌<◌, ◌∙◌, ℕ, List, [], ◌∷◌, ◌++◌, Option, Some, None, refl, sym, ap, ap₂, subst, append_assoc, append-nil, arith, map, length, take, codes, Bool, true, false, ◌≢◌}
 use Rattle.std.specs.Prelude.{pos, slice_get, ◌==◌, if◌then◌else◌}
 use Rattle.std.specs.List.{flat_map, AllByRecursion}
 use Rattle.std.proofs.lemmas.Grind.{flat_map-append}
@@ -17,6 +17,7 @@ use Rattle.lrp_model.specs.declared.relations.Row.{Row}
 use Rattle.lrp_model.specs.declared.tuples.Cell.{Cell}
 use Rattle.lrp_zone.specs.Zones.{ZoneView}
 use Rattle.lrp_store.specs.Least.{HasRoom, IsRoom}
+use Rattle.lrp_store.specs.Reading.{entries_of}
 use Rattle.lrp_store.specs.Stores.{StoreView, IsStore, zone_of, zones_at, tables_at}
 use Rattle.lrp_store.specs.declared.answer.Answer.{Answer}
 use Rattle.lrp_store.proofs.Held.{Contains-from_get}
@@ -39,82 +40,99 @@ pub numbers_at : (answer : Answer) (cell : Cell) (i : ℕ) (z : ZoneView) → Is
 numbers_at answer cell i z store ascends read =
     numbers_known (window_of answer (pos 0) (pos 0)) (window_known answer (pos 0) (pos 0) store ascends (record { from_low = omega (arith, ints); from_high = omega (arith, ints); to_low = omega (arith, ints); to_high = omega (arith, ints) })) cell i z read
 
--- there is a zone for each number below their count
-pub zone_there : {A B : Type 0} (f : A → B) (xs : List A) (i : ℕ) → i < length xs → None ≡ slice_get (map f xs) i → ⊥
-zone_there f [] i l e = absurd (omega arith)
-zone_there f (x ∷ xs) zero l e = cc
-zone_there f (x ∷ xs) (suc i) l e = zone_there f xs i (omega arith) e
-
--- what is made of the element that was read
-made_at : {A B : Type 0} (f : A → B) (xs : List A) (i : ℕ) (x : A) (d : B) → slice_get xs i ≡ Some x → f x ≡ get_or (map f xs) i d
-made_at f [] i x d e = absurd (let g : None ≡ Some x = e in cc)
-made_at f (y ∷ ys) zero x d e = let g : Some y ≡ Some x = e in ap f (cc)
-made_at f (y ∷ ys) (suc i) x d e = made_at f ys i x d e
-
--- the row of the zone that was read
-pub row_read : (columns : List Column) (domain : List Text) (s : StoreView) (cell : Cell) (i : ℕ) (z : ZoneView) (d : Row) → Some z ≡ slice_get (zones_at s cell) i
-    → record { values = cell_values columns domain s cell; bounds = closed_bounds z } ≡ get_or (cell_rows columns domain s cell) i d
-row_read columns domain s cell i z d read =
-    let e = read_map (zone_of s cell) (tables_at s cell) i z read in
-    let values = cell_values columns domain s cell in
-    let same : closed_bounds z ≡ closed_bounds (zone_of s cell e.0) = ap closed_bounds e.2 in
-    let row : record { values = values; bounds = closed_bounds z } ≡ row_of columns domain s cell e.0 = ap (λ bs. record { values = values; bounds = bs }) same in
-    row ∙ made_at (row_of columns domain s cell) (tables_at s cell) i e.0 d e.1
-
 -- a row for each zone
 pub rows_count : (columns : List Column) (domain : List Text) (s : StoreView) (cell : Cell) → length (cell_rows columns domain s cell) ≡ length (tables_at s cell)
 rows_count columns domain s cell = length-map (tables_at s cell) (row_of columns domain s cell)
 
--- ---- the cells of an iterator
+-- ---- what an iterator gives
 
--- the bytes of the cells that are no longer left were appended
-pub record AreDone (f : Cell → List ℕ) (keys left : List Cell) (old now : Option (List ℕ)) : Type 0 where
-  pub done : List Cell
-  pub split : done ++ left ≡ keys
+-- the bytes of the elements that are no longer left were appended
+pub record AreDone {A : Type 0} (f : A → List ℕ) (all left : List A) (old now : Option (List ℕ)) : Type 0 where
+  pub done : List A
+  pub split : done ++ left ≡ all
   pub so_far : now ≡ appended old (flat_map f done)
 
 -- none at the start
-pub none_done : (f : Cell → List ℕ) (keys left : List Cell) (old : Option (List ℕ)) → left ≡ keys → AreDone f keys left old old
-none_done f keys left old e = record { done = []; split = e; so_far = nothing old }
+pub none_done : {A : Type 0} (f : A → List ℕ) (all left : List A) (old : Option (List ℕ)) → left ≡ all → AreDone f all left old old
+none_done f all left old e = record { done = []; split = e; so_far = nothing old }
   where
     nothing : (o : Option (List ℕ)) → o ≡ appended o []
     nothing None = refl
     nothing (Some bytes) = ap Some (sym (append-nil bytes))
 
-module _ (f : Cell → List ℕ) (keys : List Cell) (cell : Cell) (left : List Cell) (old now new : Option (List ℕ)) (h : AreDone f keys (cell ∷ left) old now) where
-  more : flat_map f (h.done ++ cell ∷ []) ≡ flat_map f h.done ++ f cell
-  more = flat_map-append f h.done (cell ∷ []) ∙ ap (λ bs. flat_map f h.done ++ bs) (append-nil (f cell))
+-- the place of the first that is left
+at_split : {A : Type 0} (done : List A) (x : A) (rest all : List A) → done ++ x ∷ rest ≡ all → Some x ≡ slice_get all (length done)
+at_split [] x rest all e = ap (λ l. slice_get l 0) e
+at_split (d ∷ done) x rest all e = at_split done x rest (done ++ x ∷ rest) refl ∙ ap (λ l. slice_get l (length (d ∷ done))) e
+
+module _ {A : Type 0} (f : A → List ℕ) (all : List A) (x : A) (left : List A) (old now new : Option (List ℕ)) (h : AreDone f all (x ∷ left) old now) where
+  more : flat_map f (h.done ++ x ∷ []) ≡ flat_map f h.done ++ f x
+  more = flat_map-append f h.done (x ∷ []) ∙ ap (λ bs. flat_map f h.done ++ bs) (append-nil (f x))
 
   -- one more
-  pub one_done : new ≡ appended now (f cell) → AreDone f keys left old new
+  pub one_done : new ≡ appended now (f x) → AreDone f all left old new
   one_done e = record {
-    done = h.done ++ cell ∷ [];
-    split = append_assoc h.done (cell ∷ []) left ∙ h.split;
-    so_far = e ∙ ap (λ o. appended o (f cell)) h.so_far ∙ appended_twice old (flat_map f h.done) (f cell) ∙ ap (appended old) (sym more);
+    done = h.done ++ x ∷ [];
+    split = append_assoc h.done (x ∷ []) left ∙ h.split;
+    so_far = e ∙ ap (λ o. appended o (f x)) h.so_far ∙ appended_twice old (flat_map f h.done) (f x) ∙ ap (appended old) (sym more);
   }
 
   -- a front of one more's
-  pub front_done : AppendsFront now new (f cell) → AppendsFront old new (flat_map f keys)
+  pub front_done : AppendsFront now new (f x) → AppendsFront old new (flat_map f all)
   front_done w =
-      let front : AppendsFront old new (flat_map f h.done ++ f cell) = front_behind old now new (flat_map f h.done) (f cell) h.so_far w in
-      let all : flat_map f keys ≡ (flat_map f h.done ++ f cell) ++ flat_map f left = ap (flat_map f) (sym h.split) ∙ flat_map-append f h.done (cell ∷ left) ∙ sym (append_assoc (flat_map f h.done) (f cell) (flat_map f left)) in
-      subst (λ bs. AppendsFront old new bs) (sym all) (front_before old new (flat_map f h.done ++ f cell) (flat_map f left) front)
+      let front : AppendsFront old new (flat_map f h.done ++ f x) = front_behind old now new (flat_map f h.done) (f x) h.so_far w in
+      let whole : flat_map f all ≡ (flat_map f h.done ++ f x) ++ flat_map f left = ap (flat_map f) (sym h.split) ∙ flat_map-append f h.done (x ∷ left) ∙ sym (append_assoc (flat_map f h.done) (f x) (flat_map f left)) in
+      subst (λ bs. AppendsFront old new bs) (sym whole) (front_before old new (flat_map f h.done ++ f x) (flat_map f left) front)
+
+  -- where it stands
+  pub next_at : (i : ℕ) × (Some x ≡ slice_get all i)
+  next_at = (length h.done, at_split h.done x left all h.split)
 
 -- all at the end
-pub all_done : (f : Cell → List ℕ) (keys left : List Cell) (old now : Option (List ℕ)) → left ≡ [] → AreDone f keys left old now → now ≡ appended old (flat_map f keys)
-all_done f keys left old now e h = h.so_far ∙ ap (λ cells. appended old (flat_map f cells)) (sym (append-nil h.done) ∙ ap (λ cells. h.done ++ cells) (sym e) ∙ h.split)
+pub all_done : {A : Type 0} (f : A → List ℕ) (all left : List A) (old now : Option (List ℕ)) → left ≡ [] → AreDone f all left old now → now ≡ appended old (flat_map f all)
+all_done f all left old now e h = h.so_far ∙ ap (λ xs. appended old (flat_map f xs)) (sym (append-nil h.done) ∙ ap (λ xs. h.done ++ xs) (sym e) ∙ h.split)
+
+-- what is made of a mapped list
+of_mapped : {A B C : Type 0} (f : B → List C) (g : A → B) (h : A → List C) → ((x : A) → f (g x) ≡ h x) → (xs : List A) → flat_map f (map g xs) ≡ flat_map h xs
+of_mapped f g h e [] = refl
+of_mapped f g h e (x ∷ xs) = ap₂ (λ a b. a ++ b) (e x) (of_mapped f g h e xs)
+
+-- ---- the zones of a cell
+
+-- the line of a zone
+abbrev pub zone_line : List Column → List Text → StoreView → Cell → ZoneView → List ℕ
+zone_line columns domain s cell z = row_line columns (record { values = cell_values columns domain s cell; bounds = closed_bounds z })
 
 -- the lines of a cell
 abbrev pub cell_lines : List Column → List Text → StoreView → Cell → List ℕ
 cell_lines columns domain s cell = flat_map (row_line columns) (cell_rows columns domain s cell)
+
+pub zone_lines : (columns : List Column) (domain : List Text) (s : StoreView) (cell : Cell) → flat_map (zone_line columns domain s cell) (zones_at s cell) ≡ cell_lines columns domain s cell
+zone_lines columns domain s cell =
+    of_mapped (zone_line columns domain s cell) (zone_of s cell) (λ t. row_line columns (row_of columns domain s cell t)) (λ t. refl) (tables_at s cell)
+    ∙ sym (of_mapped (row_line columns) (row_of columns domain s cell) (λ t. row_line columns (row_of columns domain s cell t)) (λ t. refl) (tables_at s cell))
+
+-- ---- the cells
+
+-- the lines of a cell that is given with its zones
+abbrev pub entry_lines : List Column → List Text → StoreView → Cell × List ZoneView → List ℕ
+entry_lines columns domain s e = cell_lines columns domain s e.0
+
+-- a cell is given with its own zones
+pub entry_at : (s : StoreView) (cell : Cell) (zones : List ZoneView) (i : ℕ) → Some (cell, zones) ≡ slice_get (entries_of s) i → zones ≡ zones_at s cell
+entry_at s cell zones i read =
+    let e = read_map (λ c. (c, zones_at s c)) (finite.keys s.tables) i (cell, zones) read in
+    ap (λ p. p.1) e.2 ∙ ap (λ p. zones_at s p.0) (sym e.2)
 
 -- the lines of all cells are those of all rows
 lines_of : (columns : List Column) (rows : Cell → List Row) (cells : List Cell) → flat_map (λ cell. flat_map (row_line columns) (rows cell)) cells ≡ flat_map (row_line columns) (flat_map rows cells)
 lines_of columns rows [] = refl
 lines_of columns rows (cell ∷ cells) = ap (λ bs. flat_map (row_line columns) (rows cell) ++ bs) (lines_of columns rows cells) ∙ sym (flat_map-append (row_line columns) (rows cell) (flat_map rows cells))
 
-pub all_lines : (columns : List Column) (domain : List Text) (s : StoreView) → flat_map (cell_lines columns domain s) (finite.keys s.tables) ≡ flat_map (row_line columns) (rows_of columns domain s)
-all_lines columns domain s = lines_of columns (cell_rows columns domain s) (finite.keys s.tables)
+pub all_lines : (columns : List Column) (domain : List Text) (s : StoreView) → flat_map (entry_lines columns domain s) (entries_of s) ≡ flat_map (row_line columns) (rows_of columns domain s)
+all_lines columns domain s =
+    of_mapped (entry_lines columns domain s) (λ cell. (cell, zones_at s cell)) (cell_lines columns domain s) (λ cell. refl) (finite.keys s.tables)
+    ∙ lines_of columns (cell_rows columns domain s) (finite.keys s.tables)
 
 -- ---- the whole text
 

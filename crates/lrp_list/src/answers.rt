@@ -1,19 +1,19 @@
 // The text of a whole answer.
-ghost use Rattle.std.specs.Prelude.{◌≡◌, ◌<◌, ◌≤ℤ◌, ◌++◌, [], ℕ, length, map, take, pos, codes, slice_index_or as get_or};
+ghost use Rattle.std.specs.Prelude.{◌≡◌, ◌<◌, ◌≤ℤ◌, ◌++◌, ℕ, length, map, take, pos, codes};
 ghost use Rattle.std.specs.List.{AllByRecursion, flat_map};
 ghost use Rattle.lrp_io.specs.Causes.{HasCause};
 ghost use Rattle.lrp_io.specs.Pieces.{IsWritten};
 ghost use Rattle.lrp_model.specs.Printed.{joined_by, point_bytes, quoted, row_line, value_bytes};
 ghost use Rattle.lrp_model.specs.Tuples.{in_head_order, text_at, texts_at};
 ghost use Rattle.lrp_store.specs.Least.{HasRoom, IsRoom};
-ghost use Rattle.lrp_store.specs.Stores.{tables_at};
-ghost use Rattle.lrp_list.specs.AnswerText.{answer_text, cell_rows, cell_values, closed_bounds, row_of, rows_of, value_of, values_behind};
+ghost use Rattle.lrp_store.specs.Stores.{zones_at};
+ghost use Rattle.lrp_list.specs.AnswerText.{answer_text, cell_rows, cell_values, closed_bounds, rows_of, value_of, values_behind};
 
 use crate::closures::closed_bounds;
 use lrp_io::{Failed, Sink};
 use lrp_model::{Cell, Column, Domain, RowPoint};
 use lrp_print::{write_bytes, write_columns, write_conditions, write_point, write_quoted};
-use lrp_store::Answer;
+use lrp_store::{Answer, Zones};
 use lrp_zone::Zone;
 
 /// Writes the text of a whole answer: the relation `answer`, or the line `Empty` where nothing is held.
@@ -35,51 +35,38 @@ pub fn write_answer<S: Sink>(out: &mut S, answer: &Answer) -> Result<(), Failed>
     write_bytes(out, b"}\n")
 }
 
-// The lines of all cells.
+// The lines of all cells. No cell is looked up.
 fn write_cells<S: Sink>(out: &mut S, answer: &Answer) -> Result<(), Failed>
     requires room { HasRoom answer.now.store }
     ensures text { IsWritten (S.written out.old) (S.written out.new)
         (flat_map (row_line answer.now.head.columns) (rows_of answer.now.head.columns answer.now.domain answer.now.store)) result }
     ensures cause { HasCause (S.faults out.old) (S.faults out.new) result }
 {
-    for cell in answer.store.cells() {
-        write_cell(out, answer, &cell)?;
+    for (cell, zones) in answer.store.entries() {
+        write_cell(out, answer, &cell, zones)?;
     }
     Ok(())
 }
 
 // The lines of the zones of a cell.
-fn write_cell<S: Sink>(out: &mut S, answer: &Answer, cell: &Cell) -> Result<(), Failed>
+fn write_cell<S: Sink>(
+    out: &mut S,
+    answer: &Answer,
+    cell: &Cell,
+    zones: Zones<'_>,
+) -> Result<(), Failed>
     requires room { HasRoom answer.now.store }
+    requires zones { zones ≡ zones_at answer.now.store cell.now }
     ensures text { IsWritten (S.written out.old) (S.written out.new)
         (flat_map (row_line answer.now.head.columns) (cell_rows answer.now.head.columns answer.now.domain answer.now.store cell.now)) result }
     ensures cause { HasCause (S.faults out.old) (S.faults out.new) result }
 {
-    for number in 0..answer.store.count(cell) {
-        write_zone(out, answer, cell, number)?;
-    }
-    Ok(())
-}
-
-// The line of one zone of a cell.
-fn write_zone<S: Sink>(
-    out: &mut S,
-    answer: &Answer,
-    cell: &Cell,
-    number: usize,
-) -> Result<(), Failed>
-    requires room { HasRoom answer.now.store }
-    requires zone { number < length (tables_at answer.now.store cell.now) }
-    ensures text { IsWritten (S.written out.old) (S.written out.new)
-        (row_line answer.now.head.columns (get_or (cell_rows answer.now.head.columns answer.now.domain answer.now.store cell.now) number (row_of answer.now.head.columns answer.now.domain answer.now.store cell.now []))) result }
-    ensures cause { HasCause (S.faults out.old) (S.faults out.new) result }
-{
     answer.store.shape();
     answer.domain.len();
-    match answer.store.zone(cell, number) {
-        Some(zone) => write_row(out, answer, cell, &zone),
-        None => unreachable!(),
+    for zone in zones {
+        write_row(out, answer, cell, &zone)?;
     }
+    Ok(())
 }
 
 // The line of a zone.

@@ -1,9 +1,10 @@
 // The closed bounds of a zone.
-ghost use Rattle.std.specs.Prelude.{◌≡◌, ◌<◌, ◌≤◌, ◌+◌, ◌^◌, ◌≤ℤ◌, ◌++◌, ◌∷◌, [], ℕ, length, pos, neg_ℤ};
+ghost use Rattle.std.specs.Prelude.{◌≡◌, ◌≢◌, ◌<◌, ◌≤◌, ◌+◌, ◌^◌, ◌≤ℤ◌, ◌++◌, ◌∷◌, [], ℕ, length, pos, neg_ℤ};
 ghost use Rattle.std.specs.List.{AllByRecursion};
-ghost use Rattle.lrp_theory.specs.Entries.{entry, IsSmallClosure};
+ghost use Rattle.lrp_theory.specs.Entries.{AtMost, entry, IsSmallClosure};
 ghost use Rattle.lrp_model.specs.Lexing.{greatest_number};
 ghost use Rattle.lrp_store.specs.Least.{IsRoom};
+ghost use Rattle.lrp_zone.specs.Zones.{columns_of};
 ghost use Rattle.lrp_list.specs.AnswerText.{bound_between, bounds_in_row, closed_bounds};
 
 use lrp_matrix::Matrix;
@@ -68,6 +69,33 @@ pub fn closed_bounds(zone: &Zone) -> Bounds
     ensures bounds { result ≡ closed_bounds zone.now }
     ensures small { AllByRecursion (λ b. neg_ℤ (pos greatest_number) ≤ℤ b.most) result }
 {
+    if zone.columns() == 1 {
+        bounds_of_one(zone)
+    } else {
+        bounds_of_all(zone)
+    }
+}
+
+// The closed bounds of a zone with one column: its stored ones, since no path leads from one of two nodes to the other but
+// the step itself.
+fn bounds_of_one(zone: &Zone) -> Bounds
+    requires column { columns_of zone.now ≡ 1 }
+    ensures bounds { result ≡ closed_bounds zone.now }
+    ensures small { AllByRecursion (λ b. neg_ℤ (pos greatest_number) ≤ℤ b.most) result }
+{
+    zone.columns();
+    let mut bounds = Bounds::new();
+    push_stored(&mut bounds, 0, 1, zone.bound(0, 1));
+    push_stored(&mut bounds, 1, 0, zone.bound(1, 0));
+    bounds
+}
+
+// The closed bounds of a zone, by a matrix.
+fn bounds_of_all(zone: &Zone) -> Bounds
+    requires room { (h : ℕ) × IsRoom zone.now h }
+    ensures bounds { result ≡ closed_bounds zone.now }
+    ensures small { AllByRecursion (λ b. neg_ℤ (pos greatest_number) ≤ℤ b.most) result }
+{
     zone.columns();
     let closed = zone.closed();
     let nodes = closed.columns() as u8 + 1;
@@ -76,6 +104,20 @@ pub fn closed_bounds(zone: &Zone) -> Bounds
         push_row(&mut bounds, &closed, row, nodes);
     }
     bounds
+}
+
+// A stored bound of one node minus another, where there is one.
+fn push_stored(bounds: &mut Bounds, left: u8, right: u8, most: Option<i64>)
+    requires apart { left ≢ right }
+    requires room { length bounds.old < 81 }
+    requires small { AtMost (2 ^ 62) most }
+    ensures bounds { bounds.new ≡ bounds.old ++ bound_between left right most }
+    ensures few { length bounds.new ≤ length bounds.old + 1 }
+    ensures small { AllByRecursion (λ b. neg_ℤ (pos greatest_number) ≤ℤ b.most) bounds.old → AllByRecursion (λ b. neg_ℤ (pos greatest_number) ≤ℤ b.most) bounds.new }
+{
+    if let Some(most) = most {
+        bounds.push(Bound { left, right, most });
+    }
 }
 
 // The bounds of one row.

@@ -25,7 +25,36 @@ pub fn least_period(residues: &[u64], period: u64) -> u64
 }
 
 // Whether the residues move so by so many places.
+//
+// The last one is tried first: where all but a few numbers are in the set, it mostly tells that they don't.
 fn moves(residues: &[u64], period: u64, places: usize) -> bool
+    requires residues { AreResidues period residues.now }
+    requires high { period ≤ 2 ^ 62 }
+    requires low { 0 < places }
+    requires inside { places < length residues.now }
+    ensures { IsTrue result ↔ Moves period residues.now places }
+{
+    last_moves(residues, period, places) && all_move(residues, period, places)
+}
+
+// Whether the last of the residues moves so.
+fn last_moves(residues: &[u64], period: u64, places: usize) -> bool
+    requires residues { AreResidues period residues.now }
+    requires high { period ≤ 2 ^ 62 }
+    requires low { 0 < places }
+    requires inside { places < length residues.now }
+    ensures { Moves period residues.now places → IsTrue result }
+{
+    let step = residues[places] - residues[0];
+    let last = residues.len() - 1;
+    if number_at(residues, period, last + places) != residues[last] + step {
+        return false;
+    }
+    true
+}
+
+// Whether each of the residues moves so.
+fn all_move(residues: &[u64], period: u64, places: usize) -> bool
     requires residues { AreResidues period residues.now }
     requires high { period ≤ 2 ^ 62 }
     requires low { 0 < places }

@@ -1,6 +1,6 @@
 use Rattle.std.proofs.Common.{◌≤◌}
-use Rattle.std.specs.FinMap as finite
-use Rattle.lrp_list.proofs.Rows.{AreDone, cell_lines}
+use Rattle.lrp_store.specs.Reading.{entries_of}
+use Rattle.lrp_list.proofs.Rows.{AreDone, entry_lines}
 use Rattle.lrp_list.proofs.answers.write_cells.Given as goal
 
 -- the lines of the cells so far were written
@@ -9,6 +9,6 @@ invariant-loop-cell g l =
     let written = g.S.Sink.written in
     let faults = g.S.Sink.faults in
     record {
-      so_far : AreDone (cell_lines l.answer.head.columns l.answer.domain l.answer.store) (finite.keys l.answer.store.tables) l.cell-iterator (written l.fn.out) (written l.out);
+      so_far : AreDone (entry_lines l.answer.head.columns l.answer.domain l.answer.store) (entries_of l.answer.store) l.cell-iterator (written l.fn.out) (written l.out);
       later : faults l.fn.out ≤ faults l.out;
     }

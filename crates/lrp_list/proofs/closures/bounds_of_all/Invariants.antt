@@ -4,7 +4,7 @@ use Rattle.std.specs.List.{AllByRecursion, flat_map, range_with_len}
 use Rattle.lrp_model.specs.Lexing.{greatest_number}
 use Rattle.lrp_theory.specs.Entries.{entry}
 use Rattle.lrp_list.specs.AnswerText.{bounds_in_row}
-use Rattle.lrp_list.proofs.closures.closed_bounds.Given as goal
+use Rattle.lrp_list.proofs.closures.bounds_of_all.Given as goal
 
 -- the bounds of the rows so far were pushed
 abbrev pub invariant-loop-row : goal.invariant-loop-row

@@ -2,7 +2,7 @@
 use Rattle.std.proofs.Common.{◌+◌, ◌<◌, ◌≡◌, arith, length, slice_index_or}
 use Rattle.lrp_spans.specs.Repeating.{nth}
 use Rattle.lrp_spans.proofs.Shifts.{first_more, move_holds, move_is}
-use Rattle.lrp_spans.proofs.residues.moves.Goals as goal
+use Rattle.lrp_spans.proofs.residues.all_move.Goals as goal
 
 pub returns-then-number_at-residues : goal.returns-then-number_at-residues
 returns-then-number_at-residues c =

@@ -4,7 +4,7 @@ use Rattle.lrp_theory.specs.Entries.{entry, IsSmallClosure}
 use Rattle.lrp_list.specs.AnswerText.{bounds_in, bounds_in_row}
 use Rattle.lrp_list.proofs.AnswerLines.{range_more}
 use Rattle.lrp_list.proofs.Shortest.{closed_entries, room_small}
-use Rattle.lrp_list.proofs.closures.closed_bounds.Goals as goal
+use Rattle.lrp_list.proofs.closures.bounds_of_all.Goals as goal
 
 pub push_row-requires-clause-small : goal.push_row-requires-clause-small
 push_row-requires-clause-small c =
