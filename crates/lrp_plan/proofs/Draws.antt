@@ -15,10 +15,10 @@ use Rattle.lrp_model.specs.declared.formulas.Test.{Test}
 use Rattle.lrp_model.specs.declared.plans.StepKind.TheVariants.{Scan, Leaf, Sort as SortStep, Join, Select, Union, Minus, Complement, DropTime, DropData, Extend}
 use Rattle.lrp_plan.specs.declared.drafts.Draft.{Draft}
 use Rattle.lrp_plan.specs.declared.drafts.Operand.{Operand}
-use Rattle.lrp_plan.specs.declared.facts.Facts.{Facts}
-use Rattle.lrp_plan.specs.Capped.{capped}
-use Rattle.lrp_plan.specs.Multiples.{IsCommon, IsPeriod, IsLeastOf, AlwaysJoins}
-use Rattle.lrp_plan.specs.Facts.{AreFacts}
+use Rattle.lrp_limits.specs.declared.facts.Facts.{Facts}
+use Rattle.lrp_limits.specs.Capped.{capped}
+use Rattle.lrp_limits.specs.Multiples.{IsCommon, IsPeriod, IsLeastOf, AlwaysJoins}
+use Rattle.lrp_limits.specs.Facts.{AreFacts}
 use Rattle.lrp_plan.specs.Drafts.{AddsStep, AreTests, Extends, ExtendsBoth, headed}
 use Rattle.lrp_plan.proofs.Made.{scan_follows, leaf_follows, sort_follows, join_follows, select_follows, union_follows, minus_follows, complement_follows, drop_time_follows, drop_data_follows, head_follows}
 

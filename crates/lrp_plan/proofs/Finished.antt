@@ -10,7 +10,7 @@ use Rattle.lrp_model.specs.declared.plans.Step.{Step}
 use Rattle.lrp_plan_laws.specs.Rising.{HasPeriods, IsRising}
 use Rattle.lrp_plan_laws.proofs.RisingLaws.{rises}
 use Rattle.lrp_plan.specs.declared.drafts.Draft.{Draft}
-use Rattle.lrp_plan.specs.Capped.{capped}
+use Rattle.lrp_limits.specs.Capped.{capped}
 use Rattle.lrp_plan.specs.Drafts.{IsDraft, IsDraftOf}
 
 -- each step whose reach is at most 2^62 is the step of the plan

@@ -1,6 +1,3 @@
-pub mod Multiples
-pub mod Greatest
-pub mod Keeping
 pub mod Made
 pub mod Draws
 pub mod Members
@@ -19,7 +16,6 @@ pub mod Sorting
 pub mod Sorted
 pub mod WholePeriods
 pub mod Names
-pub mod Scales
 pub mod NamedSorts
 pub mod Finished
 pub mod Whole

@@ -21,12 +21,12 @@ use Rattle.lrp_model.specs.declared.plans.StepKind.TheVariants.{Scan, Leaf, Sort
 use Rattle.lrp_plan_laws.proofs.Elements.{length_made, formula_made}
 use Rattle.lrp_plan.specs.declared.drafts.Draft.{Draft}
 use Rattle.lrp_plan.specs.declared.drafts.Operand.{Operand}
-use Rattle.lrp_plan.specs.declared.facts.Facts.{Facts}
-use Rattle.lrp_plan.specs.Capped.{capped}
-use Rattle.lrp_plan.specs.Multiples.{IsCommon, IsPeriod, IsLeastOf, IsPeriodOf, AlwaysJoins}
-use Rattle.lrp_plan.specs.Facts.{AreFacts, most_of_row}
+use Rattle.lrp_limits.specs.declared.facts.Facts.{Facts}
+use Rattle.lrp_limits.specs.Capped.{capped}
+use Rattle.lrp_limits.specs.Multiples.{IsCommon, IsPeriod, IsLeastOf, IsPeriodOf, AlwaysJoins}
+use Rattle.lrp_limits.specs.Facts.{AreFacts, most_of_row}
 use Rattle.lrp_plan.specs.Drafts.{AddsStep, IsOperand, IsDraftOf, IsDraft, AreTests, headed}
-use Rattle.lrp_plan.proofs.Keeping.{common_both, least_is, least_of_none}
+use Rattle.lrp_limits.proofs.Keeping.{common_both, least_is, least_of_none}
 
 -- ---- the last step
 

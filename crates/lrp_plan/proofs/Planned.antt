@@ -21,17 +21,17 @@ use Rattle.lrp_model.specs.declared.formulas.Test.{Test}
 use Rattle.lrp_plan.specs.declared.drafts.Draft.{Draft}
 use Rattle.lrp_plan.specs.declared.drafts.Operand.{Operand}
 use Rattle.lrp_plan.specs.declared.elements.Split.{Split}
-use Rattle.lrp_plan.specs.declared.facts.Facts.{Facts}
+use Rattle.lrp_limits.specs.declared.facts.Facts.{Facts}
 use Rattle.lrp_plan.specs.declared.sources.Sources.{Sources}
 use Rattle.lrp_plan.specs.declared.taking.Taking.{Taking}
-use Rattle.lrp_plan.specs.Multiples.{IsCommon}
-use Rattle.lrp_plan.specs.Facts.{AreFacts}
+use Rattle.lrp_limits.specs.Multiples.{IsCommon}
+use Rattle.lrp_limits.specs.Facts.{AreFacts}
 use Rattle.lrp_plan.specs.Drafts.{IsDraft, Extends, AreTests}
 use Rattle.lrp_plan.specs.Taking.{IsSoFar}
 use Rattle.lrp_core.specs.declared.variable_trees.VariableTree.{VariableTree}
 use Rattle.lrp_plan.specs.Elements.{AreInner, CanPlan, EachCanPlan, IsElement, IsDenied, IsAt, IsSplitOf, TakesTests, TakesEach, DeniesEach}
 use Rattle.lrp_plan.specs.Sources.{AreSources}
-use Rattle.lrp_plan.proofs.Keeping.{common_both}
+use Rattle.lrp_limits.proofs.Keeping.{common_both}
 use Rattle.lrp_plan.proofs.Turns.{zip_length}
 use Rattle.lrp_plan.proofs.Unions.{SomeSoFar}
 

@@ -17,10 +17,10 @@ use Rattle.lrp_model.specs.declared.relations.Sort.{Sort}
 use Rattle.lrp_model.specs.declared.formulas.Term.{Term}
 use Rattle.lrp_model.specs.declared.formulas.Test.{Test}
 use Rattle.lrp_plan.specs.declared.elements.Element.{Element}
-use Rattle.lrp_plan.specs.declared.facts.Facts.{Facts}
+use Rattle.lrp_limits.specs.declared.facts.Facts.{Facts}
 use Rattle.lrp_plan.specs.declared.sources.Sources.{Sources}
 use Rattle.lrp_plan.specs.declared.splits.Parts.{Parts}
-use Rattle.lrp_plan.specs.Facts.{AreFacts}
+use Rattle.lrp_limits.specs.Facts.{AreFacts}
 use Rattle.lrp_plan.specs.Taking.{HaveSame}
 use Rattle.lrp_plan.specs.Elements.{element_variables, element_inner, IsDenied}
 use Rattle.lrp_plan.specs.Sources.{AreSources}

@@ -17,8 +17,8 @@ use Rattle.lrp_core.specs.FreeVariables.{variable_of, with_variables}
 use Rattle.lrp_plan.specs.declared.drafts.Operand.{Operand}
 use Rattle.lrp_plan.specs.declared.drafts.Draft.{Draft}
 use Rattle.lrp_plan.specs.declared.taking.Taking.{Taking}
-use Rattle.lrp_plan.specs.Capped.{capped}
-use Rattle.lrp_plan.specs.Multiples.{IsCommon, IsLeastOf}
+use Rattle.lrp_limits.specs.Capped.{capped}
+use Rattle.lrp_limits.specs.Multiples.{IsCommon, IsLeastOf}
 use Rattle.lrp_plan.specs.Drafts.{IsOperand, IsDraft, AreTests, Extends, ExtendsBoth}
 use Rattle.lrp_plan.specs.Taking.{covers, AreUncovered, HaveSame, IsSoFar, IsTaking, carrying, Carries, Splits, TakesIn, TakesTest, taking_off, Subtracts, after_negation, taken_with, TakesOff}
 use Rattle.lrp_plan.proofs.Members.{are_among_same, more_same}

@@ -14,10 +14,10 @@ use Rattle.lrp_plan_laws.proofs.PlanLaws.{Makes}
 use Rattle.lrp_plan_laws.proofs.PlanSound.{makes}
 use Rattle.lrp_plan.specs.declared.drafts.Operand.{Operand}
 use Rattle.lrp_plan.specs.declared.drafts.Draft.{Draft}
-use Rattle.lrp_plan.specs.Multiples.{IsCommon}
+use Rattle.lrp_limits.specs.Multiples.{IsCommon}
 use Rattle.lrp_plan.specs.Drafts.{IsDraft, IsOperand, Extends, ExtendsBoth, Unites}
 use Rattle.lrp_plan.specs.Elements.{CanPlan}
-use Rattle.lrp_plan.proofs.Keeping.{common_both}
+use Rattle.lrp_limits.proofs.Keeping.{common_both}
 use Rattle.lrp_plan.proofs.Takes.{operand_grows}
 
 -- core forms whose periods divide K

@@ -22,7 +22,7 @@ use Rattle.lrp_model.proofs.Logic.{all_append}
 use Rattle.lrp_plan_laws.specs.Rising.{HasPeriods}
 use Rattle.lrp_plan_laws.proofs.Marks.{marks, marked_periods}
 use Rattle.lrp_plan_laws.proofs.Names.{names_self}
-use Rattle.lrp_plan_laws.proofs.Members.{all_from, all_self}
+use Rattle.lrp_plan_laws.proofs.Members.{all_self}
 use Rattle.lrp_plan_laws.proofs.CoreNames.{core_named, guarded_within, guarded_body}
 use Rattle.lrp_plan_laws.proofs.PeriodLaws.{lcm_all_is, lcm_positive}
 use Rattle.lrp_plan_laws.proofs.PlanSound.{core_of_query}
@@ -30,20 +30,21 @@ use Rattle.lrp_rel.specs.Once.{once, texts_among, texts_with}
 use Rattle.lrp_rel.proofs.OnceLaws.{once_in_order}
 use Rattle.lrp_plan.specs.declared.drafts.Draft.{Draft}
 use Rattle.lrp_plan.specs.declared.sources.Sources.{Sources}
-use Rattle.lrp_plan.specs.Capped.{capped}
+use Rattle.lrp_limits.specs.Capped.{capped}
 use Rattle.lrp_plan.specs.Drafts.{IsDraft, IsDraftOf, Extends, headed}
 use Rattle.lrp_plan.specs.Elements.{CanPlan}
-use Rattle.lrp_plan.specs.Facts.{KeepsPeriod}
-use Rattle.lrp_plan.specs.Multiples.{IsCommon, IsPeriod, IsLeastOf, IsPeriodOf}
+use Rattle.lrp_limits.specs.Facts.{KeepsPeriod}
+use Rattle.lrp_limits.specs.Multiples.{IsCommon, IsPeriod, IsLeastOf, IsPeriodOf}
 use Rattle.lrp_model.specs.declared.plans.Plan.{Plan}
-use Rattle.lrp_plan.specs.declared.periods.Period.{Period}
+use Rattle.lrp_limits.specs.declared.periods.Period.{Period}
 use Rattle.lrp_plan.specs.declared.planning.PlanFault.{PlanFault}
 use Rattle.lrp_plan.specs.declared.planning.PlanFault.TheVariants.{PeriodLimit, BoundLimit, Memory}
 use Rattle.lrp_plan.specs.Domains.{AreDomains}
 use Rattle.lrp_plan.specs.Planning.{IsWholeDraft, AreGathered, IsOutcome}
 use Rattle.lrp_plan.specs.Sources.{AreFactsOf, AreSources}
 use Rattle.lrp_plan.proofs.Finished.{finished}
-use Rattle.lrp_plan.proofs.Keeping.{least_is, least_of_none}
+use Rattle.lrp_limits.proofs.Keeping.{least_is, least_of_none}
+use Rattle.lrp_limits.proofs.Raised.{common_from, least_from}
 
 -- ---- what is read
 
@@ -87,14 +88,6 @@ head_in_core : (named : Bool) (q : Question) (db : List Relation) → AllByRecur
 head_in_core named q db =
     let f : Form = core_form named q in
     marked_periods (guarded named q.head q.body) f db ((core_named named q db (free f) (marks f db)).0 (names_self db f)).1
-
--- lists with the same members have the same common multiples
-common_from : (ks ls : List ℕ) (n : ℕ) → AllByRecursion (Contains ks) ls → IsCommon ks n → IsCommon ls n
-common_from ks ls n h c = all_from (λ k. IsMultiple k n) ks ls h c
-
--- and the same least one
-least_from : (ks ls : List ℕ) (k : ℕ) → AllByRecursion (Contains ks) ls → AllByRecursion (Contains ls) ks → IsLeastOf ks k → IsLeastOf ls k
-least_from ks ls k h g least = record { period = least.period; multiples = λ n. let m = least.multiples n in ((λ x. common_from ks ls n h (m.0 x)), λ c. m.1 (common_from ls ks n g c)) }
 
 -- the least common multiple is a common one
 common_self : (ks : List ℕ) (k : ℕ) → IsLeastOf ks k → IsCommon ks k

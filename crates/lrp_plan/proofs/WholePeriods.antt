@@ -10,14 +10,14 @@ use Rattle.lrp_model.specs.Rows.{rows_of}
 use Rattle.lrp_model.specs.Satisfaction.{Structure}
 use Rattle.lrp_model.specs.Periods.{periods, periods_each}
 use Rattle.lrp_model.specs.declared.relations.Relation.{Relation}
-use Rattle.lrp_plan.specs.declared.facts.Facts.{Facts}
-use Rattle.lrp_plan.specs.declared.periods.Period.{Period}
+use Rattle.lrp_limits.specs.declared.facts.Facts.{Facts}
+use Rattle.lrp_limits.specs.declared.periods.Period.{Period}
 use Rattle.lrp_plan.specs.declared.sources.Sources.{Sources}
-use Rattle.lrp_plan.specs.Multiples.{IsLeastOf, IsPeriodOf}
-use Rattle.lrp_plan.specs.Facts.{AreFacts, KeepsPeriod, KeepsRows, KeepsFacts, periods_of_row}
+use Rattle.lrp_limits.specs.Multiples.{IsLeastOf, IsPeriodOf}
+use Rattle.lrp_limits.specs.Facts.{AreFacts, KeepsPeriod, KeepsRows, KeepsFacts, periods_of_row}
 use Rattle.lrp_plan.specs.Sources.{AreSources}
 use Rattle.lrp_plan.proofs.Planned.{take_all_of}
-use Rattle.lrp_plan.proofs.Keeping.{common_both, keeps_more, keeps_as, none_stays, stands_for}
+use Rattle.lrp_limits.proofs.Keeping.{common_both, keeps_more, keeps_as, none_stays, stands_for}
 
 -- the least common multiple of two lists, the second one's being l
 rows_joined : (ks ls : List ℕ) (l : ℕ) (o : Option ℕ) → IsLeastOf ls l → IsPeriodOf (ks ++ l ∷ []) o → IsPeriodOf (ks ++ ls) o

@@ -13,8 +13,8 @@ use Rattle.lrp_model.specs.declared.plans.Step.{Step}
 use Rattle.lrp_model.specs.declared.relations.Relation.{Relation}
 use Rattle.lrp_plan.specs.declared.drafts.Operand.{Operand}
 use Rattle.lrp_plan.specs.declared.drafts.Draft.{Draft}
-use Rattle.lrp_plan.specs.Capped.{capped}
-use Rattle.lrp_plan.specs.Multiples.{IsCommon, IsPeriod, IsLeastOf}
+use Rattle.lrp_limits.specs.Capped.{capped}
+use Rattle.lrp_limits.specs.Multiples.{IsCommon, IsPeriod, IsLeastOf}
 
 -- one step more, of this kind, period and reach
 pub record AddsStep (kind : StepKind) (k reach : ℕ) (old new : Draft) : Type 0 where

@@ -1,6 +1,3 @@
-pub mod Multiples
-pub mod Capped
-pub mod Facts
 pub mod Drafts
 pub mod Taking
 pub mod Elements

@@ -15,7 +15,7 @@ use Rattle.lrp_plan.specs.declared.planning.PlanFault.TheVariants.{PeriodLimit, 
 use Rattle.lrp_plan.specs.declared.sources.Sources.{Sources}
 use Rattle.lrp_plan.specs.Drafts.{IsDraft, headed}
 use Rattle.lrp_plan.specs.Elements.{CanPlan}
-use Rattle.lrp_plan.specs.Multiples.{IsCommon, IsPeriod, IsLeastOf}
+use Rattle.lrp_limits.specs.Multiples.{IsCommon, IsPeriod, IsLeastOf}
 use Rattle.lrp_plan.specs.Sources.{AreSources}
 
 -- the period is above 2^62; or it is not and the reach, doubled so, is; or memory ran out

@@ -9,10 +9,10 @@ use Rattle.lrp_model.specs.Domains.{database_texts}
 use Rattle.lrp_model.specs.declared.relations.Row.{Row}
 use Rattle.lrp_model.specs.declared.relations.Sort.{Sort}
 use Rattle.lrp_rel.specs.Once.{texts_with}
-use Rattle.lrp_plan.specs.declared.facts.Facts.{Facts}
+use Rattle.lrp_limits.specs.declared.facts.Facts.{Facts}
 use Rattle.lrp_plan.specs.declared.sources.Sources.{Sources}
 use Rattle.lrp_plan.specs.Domains.{AreDomains}
-use Rattle.lrp_plan.specs.Facts.{AreFacts}
+use Rattle.lrp_limits.specs.Facts.{AreFacts}
 
 -- the facts of rows, or no rows where there are no facts
 abbrev pub AreFactsOf : List Row → Option Facts → Type 0

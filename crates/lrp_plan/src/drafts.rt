@@ -5,14 +5,14 @@ ghost use Rattle.lrp_model.specs.Rows.{rows_of};
 ghost use Rattle.lrp_model.specs.Periods.{periods, test_periods};
 ghost use Rattle.lrp_model.specs.Satisfaction.{Structure};
 ghost use Rattle.lrp_model.specs.Steps.{scan_of as scanned, leaf as tested, sort_texts, join as joined, select as selected, union as united, minus as taken_off, complement as complemented, drop_of};
-ghost use Rattle.lrp_plan.specs.Capped.{capped as capped_at};
+ghost use Rattle.lrp_limits.specs.Capped.{capped as capped_at};
 ghost use Rattle.lrp_plan.specs.Drafts.{AddsStep, Extends, ExtendsBoth, AreTests, headed};
-ghost use Rattle.lrp_plan.specs.Facts.{AreFacts};
-ghost use Rattle.lrp_plan.specs.Multiples.{IsCommon, IsPeriod, IsLeastOf};
+ghost use Rattle.lrp_limits.specs.Facts.{AreFacts};
+ghost use Rattle.lrp_limits.specs.Multiples.{IsCommon, IsPeriod, IsLeastOf};
 
-use crate::facts::Facts;
-use crate::periods::{Period, common_period, one};
-use crate::reaches::{
+use lrp_limits::facts::Facts;
+use lrp_limits::periods::{Period, common_period, one};
+use lrp_limits::reaches::{
     capped, doubled, greatest_offset, scan_reach, test_reach, tests_reach, with_period,
     with_two_periods,
 };

@@ -4,13 +4,9 @@
 mod domains;
 mod drafts;
 mod elements;
-mod facts;
 mod naming;
-mod periods;
 mod planner;
 mod planning;
-mod reaches;
-mod scaling;
 mod sorts;
 mod sources;
 mod splits;

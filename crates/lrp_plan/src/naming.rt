@@ -8,7 +8,7 @@ ghost use Rattle.lrp_plan_laws.specs.Rising.{row_periods};
 ghost use Rattle.lrp_plan.specs.Sources.{AreFactsOf};
 ghost use Rattle.lrp_plan.specs.Naming.{IsNamedAs};
 
-use crate::facts::{Facts, facts_of};
+use lrp_limits::facts::{Facts, facts_of};
 use lrp_model::{Memory, Name, Relation};
 use lrp_rel::Database;
 use std::alloc::Global;

@@ -2,11 +2,11 @@
 ghost use Rattle.std.specs.Prelude.{◌≡◌, length, IfOk};
 ghost use Rattle.lrp_model.specs.Rows.{rows_of};
 ghost use Rattle.lrp_model.specs.Satisfaction.{Structure};
-ghost use Rattle.lrp_plan.specs.Facts.{AreFacts};
+ghost use Rattle.lrp_limits.specs.Facts.{AreFacts};
 ghost use Rattle.lrp_plan.specs.Sources.{AreSources};
 
 use crate::domains::{Domains, list_of, set_of};
-use crate::facts::{Facts, facts_of};
+use lrp_limits::facts::{Facts, facts_of};
 use lrp_model::{DataText, List, Memory, Name, Sort};
 use lrp_rel::Database;
 use std::alloc::Global;

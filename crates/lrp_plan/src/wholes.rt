@@ -4,13 +4,13 @@ ghost use Rattle.lrp_core.specs.Cores.{core_of, cores_of, test_of};
 ghost use Rattle.lrp_model.specs.Formulas.{conjunction};
 ghost use Rattle.lrp_model.specs.Periods.{periods, test_periods};
 ghost use Rattle.lrp_model.specs.Satisfaction.{Structure};
-ghost use Rattle.lrp_plan.specs.Facts.{KeepsPeriod, KeepsFacts, KeepsRows};
+ghost use Rattle.lrp_limits.specs.Facts.{KeepsPeriod, KeepsFacts, KeepsRows};
 ghost use Rattle.lrp_plan.specs.Sources.{AreSources};
 
-use crate::facts::{Facts, with_point};
-use crate::periods::Period;
 use crate::sources::Sources;
 use lrp_core::{Core, TermTest};
+use lrp_limits::facts::{Facts, with_point};
+use lrp_limits::periods::Period;
 
 /// A period with those that a core form names, or `None` where the common one is above 2^62.
 #[cycle(periods)]

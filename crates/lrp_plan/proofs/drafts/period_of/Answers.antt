@@ -2,7 +2,7 @@ use Rattle.std.proofs.Common.{◌≡◌, ◌∷◌, [], true, option_map, rules}
 use Rattle.lrp_model.specs.Conjunctions.{is_test}
 use Rattle.lrp_model.specs.Periods.{test_periods}
 use Rattle.lrp_plan.proofs.Made.{member_period, no_test_period}
-use Rattle.lrp_plan.proofs.Keeping.{joined_number}
+use Rattle.lrp_limits.proofs.Keeping.{joined_number}
 use Rattle.lrp_plan.proofs.drafts.period_of.Goals as goal
 
 pub returns-in-Member : goal.returns-in-Member

@@ -2,7 +2,7 @@ use Rattle.std.proofs.Common.{◌≡◌, ℕ, List, true, false, cond, Some, sub
 use Rattle.std.specs.Option.{is_some}
 use Rattle.std.specs.Str.{bytes_eq}
 use Rattle.std.specs.HashMap.{get}
-use Rattle.lrp_plan.specs.Facts.{AreFacts}
+use Rattle.lrp_limits.specs.Facts.{AreFacts}
 use Rattle.lrp_plan.proofs.Names.{stays_named, is_named}
 use Rattle.lrp_plan.proofs.naming.name_one.Goals as goal
 

@@ -3,7 +3,7 @@ use Rattle.std.specs.Option.{option_map}
 use Rattle.lrp_core.specs.Cores.{cores_of}
 use Rattle.lrp_model.specs.Satisfaction.{Structure}
 use Rattle.lrp_model.specs.Periods.{periods_each}
-use Rattle.lrp_plan.specs.Facts.{KeepsPeriod}
+use Rattle.lrp_limits.specs.Facts.{KeepsPeriod}
 use Rattle.lrp_plan.specs.Sources.{AreSources}
 use Rattle.lrp_plan.proofs.wholes.+periods.Given as goal
 

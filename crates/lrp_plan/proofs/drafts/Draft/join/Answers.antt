@@ -1,6 +1,6 @@
 use Rattle.std.proofs.Common.{◌≡◌, ◌+◌, max, map, arith, rules}
 use Rattle.lrp_model.specs.Reach.{greatest, test_reach}
-use Rattle.lrp_plan.specs.Capped.{capped}
+use Rattle.lrp_limits.specs.Capped.{capped}
 use Rattle.lrp_plan.proofs.Draws.{joins}
 use Rattle.lrp_plan.proofs.drafts.Draft.join.Goals as goal
 

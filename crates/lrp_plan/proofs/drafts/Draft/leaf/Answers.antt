@@ -1,6 +1,6 @@
 use Rattle.std.proofs.Common.{◌≡◌, rules}
 use Rattle.lrp_model.specs.Reach.{test_reach}
-use Rattle.lrp_plan.specs.Capped.{capped}
+use Rattle.lrp_limits.specs.Capped.{capped}
 use Rattle.lrp_plan.proofs.Draws.{tests_alone}
 use Rattle.lrp_plan.proofs.drafts.Draft.leaf.Goals as goal
 

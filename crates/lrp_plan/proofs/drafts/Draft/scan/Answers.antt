@@ -1,7 +1,7 @@
 use Rattle.std.proofs.Common.{◌≡◌, flat_map, rules}
 use Rattle.lrp_model.specs.Reach.{greatest, term_magnitudes}
 use Rattle.lrp_plan.proofs.Draws.{scans}
-use Rattle.lrp_plan.proofs.Keeping.{joined_number}
+use Rattle.lrp_limits.proofs.Keeping.{joined_number}
 use Rattle.lrp_plan.proofs.drafts.Draft.scan.Goals as goal
 
 pub returns : goal.returns

@@ -2,7 +2,7 @@ use Rattle.std.proofs.Common.{◌≡◌, Some, None, sym, subst, rules}
 use Rattle.std.specs.Str.{bytes_eq}
 use Rattle.std.specs.HashMap.{get}
 use Rattle.lrp_model.specs.Rows.{rows_of}
-use Rattle.lrp_plan.specs.Facts.{AreFacts}
+use Rattle.lrp_limits.specs.Facts.{AreFacts}
 use Rattle.lrp_plan.specs.Sources.{AreFactsOf}
 use Rattle.lrp_plan.proofs.sources.Sources.facts.Goals as goal
 
