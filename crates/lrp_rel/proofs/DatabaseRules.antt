@@ -48,7 +48,7 @@ database_complete n rs ts lt h =
 -- ---- sound
 
 -- the part that the end is
-abbrev end_part : Unit {0} → Part
+abbrev pub end_part : Unit {0} → Part
 end_part u = any end_token
 
 -- the relations of a database that is read is spelled so, and is lawful
@@ -59,11 +59,11 @@ relations_sound n ts q e =
     subst R (sym k.made) (k.spelled, k.fits)
 
 -- the end that is read is spelled so, and is lawful
-end_sound : Sound expect_end (One end_part) (λ u. Unit {0})
+pub end_sound : Sound expect_end (One end_part) (λ u. Unit {0})
 end_sound ts q e = (accept_sound _ end_part end_expected ts q e, tt)
 
 -- the tokens before a fault of the end begin one
-end_viable : Viable expect_end (One end_part) (λ u. Unit {0})
+pub end_viable : Viable expect_end (One end_part) (λ u. Unit {0})
 end_viable = accept_viable _ end_part (λ u. Unit {0}) end_stops
 
 -- what is read as a database is lawful, and the tokens spell it
@@ -80,7 +80,7 @@ database_sound n ts q e =
 -- ---- viable
 
 -- the tokens that end it
-abbrev ending : Tokens
+abbrev pub ending : Tokens
 ending = record { token = end_token; place = start } ∷ []
 
 -- the tokens before a fault of a database begin one
@@ -107,11 +107,11 @@ database_refused = refused_at database database_text FitsDatabase database_rule
 -- ---- one tree
 
 -- a tree that took all tokens
-abbrev whole : List RawRelation → List RawRelation × Tokens
+abbrev whole : {A : Type 0} → A → A × Tokens
 whole a = (a, [])
 
 -- the same outcome gives one tree
-one_answer : (o : Outcome (List RawRelation)) (a b : List RawRelation) (L M : Type 0) → L → Answers o a [] L → Answers o b [] M → a ≡ b
+pub one_answer : {A : Type 0} (o : Outcome A) (a b : A) (L M : Type 0) → L → Answers o a [] L → Answers o b [] M → a ≡ b
 one_answer o a b L M l (inl e) (inl d) = let h : whole a ≡ whole b = cc in ap (λ p. p.0) h
 one_answer o a b L M l (inl e) (inr d) = cc d.is
 one_answer o a b L M l (inr e) d = absurd (e.unlawful l)

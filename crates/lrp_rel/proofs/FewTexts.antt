@@ -35,7 +35,7 @@ headed_count p s bad_token rest n h = omega arith
 headed_count p s hole_token rest n h = omega (arith, h)
 
 -- there are at most as many tokens as turns
-tokens_count : (n : ℕ) (p : Place) (bs : List ℕ) → length (tokens_from n p bs) ≤ n
+pub tokens_count : (n : ℕ) (p : Place) (bs : List ℕ) → length (tokens_from n p bs) ≤ n
 unfolding tokens_from
 tokens_count zero p bs = omega arith
 tokens_count (suc n) p bs =
@@ -44,7 +44,7 @@ tokens_count (suc n) p bs =
     headed_count a.place s s.token (tokens_from n (after a.place s.taken) s.left) n (tokens_count n (after a.place s.taken) s.left)
 
 -- parts are as many as the tokens that they are
-takes_count : (ps : List Part) (ts : Tokens) → Takes ps ts [] → length ps ≡ length ts
+pub takes_count : (ps : List Part) (ts : Tokens) → Takes ps ts [] → length ps ≡ length ts
 takes_count [] ts h = sym (ap length h)
 takes_count (p ∷ ps) [] h = absurd h
 takes_count (p ∷ ps) (t ∷ ts) h = ap suc (takes_count ps ts h.1)
@@ -86,18 +86,18 @@ texts_count (c ∷ cs) (point p ∷ vs) = let h = texts_count cs vs in omega (ar
 texts_count (c ∷ cs) (Const t ∷ vs) = let h = texts_count cs vs in omega (arith, h)
 
 -- a map has as many elements
-map_count : {A B : Type 0} (f : A → B) (xs : List A) → length (map f xs) ≡ length xs
+pub map_count : {A B : Type 0} (f : A → B) (xs : List A) → length (map f xs) ≡ length xs
 map_count f [] = refl
 map_count f (x ∷ xs) = ap suc (map_count f xs)
 
 -- a row has more parts than texts
-row_count : (cs : List RawColumn) (row : Located RawRow) → length (row_texts (map column_of cs) (row_of cs row.item).values) ≤ length (located_text row_text row)
-row_count cs row =
+pub row_count : (ks : List Column) (cs : List RawColumn) (row : Located RawRow) → length (row_texts ks (row_of cs row.item).values) ≤ length (located_text row_text row)
+row_count ks cs row =
     let r = row.item in
     let a = from_count row.place (row_text r) in
     let b = length-append (separated comma (located_text value_text) r.values) (any (symbol_token Close) ∷ (bounds_text r.bounds ++ any (symbol_token Semicolon) ∷ [])) in
     let c = values_count r.values in
-    let d = texts_count (map column_of cs) (map (λ v. value_of v.item) r.values) in
+    let d = texts_count ks (map (λ v. value_of v.item) r.values) in
     let e = map_count (λ v. value_of v.item) r.values in
     omega (arith, a, b, c, d, e)
 
@@ -107,7 +107,7 @@ rows_count cs [] = omega arith
 rows_count cs (row ∷ rows) =
     let a = length-append (row_texts (map column_of cs) (row_of cs row.item).values) (flat_map (λ x. row_texts (map column_of cs) x.values) (map (λ x. row_of cs x.item) rows)) in
     let b = length-append (located_text row_text row) (joined_parts (located_text row_text) rows) in
-    let c = row_count cs row in
+    let c = row_count (map column_of cs) cs row in
     let d = rows_count cs rows in
     omega (arith, a, b, c, d)
 

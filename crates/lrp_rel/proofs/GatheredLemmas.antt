@@ -35,7 +35,7 @@ use Rattle.lrp_rel.proofs.SoundLemmas.{second_empty, columns_few, times_few, tim
 -- ---- columns without faults
 
 -- the faults of columns
-abbrev column_faults : List RawColumn → List DbFault
+abbrev pub column_faults : List RawColumn → List DbFault
 column_faults cs = repeated (database_fault Name) [] (map named_at cs) ++ ninth (database_fault Wide) 0 0 cs
 
 -- columns with the names of their time columns and their first fault
@@ -73,7 +73,7 @@ row_means heading row is none sound fits =
     record { fits = fits; few = omega (arith, few.0, many) }
 
 -- the first fault of some things and one more
-first_more : {A : Type 0} (f : A → List DbFault) (xs : List A) (x : A) (old new found : Option DbFault) → old ≡ first database_standing (flat_map f xs) → found ≡ first database_standing (f x) → new ≡ sooner database_standing old found → new ≡ first database_standing (flat_map f (xs ++ x ∷ []))
+pub first_more : {A : Type 0} (f : A → List DbFault) (xs : List A) (x : A) (old new found : Option DbFault) → old ≡ first database_standing (flat_map f xs) → found ≡ first database_standing (f x) → new ≡ sooner database_standing old found → new ≡ first database_standing (flat_map f (xs ++ x ∷ []))
 first_more f xs x old new found e d is =
     is ∙ ap (λ y. sooner database_standing y found) e ∙ ap (sooner database_standing (first database_standing (flat_map f xs))) d ∙ sym (first_of_both database_standing (flat_map f xs) (f x)) ∙ ap (first database_standing) (flat_map_more f [] xs x)
 

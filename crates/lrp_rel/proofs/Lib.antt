@@ -7,6 +7,7 @@ pub mod NameLemmas
 pub mod TreeTexts
 pub mod MeaningKept
 pub mod FewTexts
+pub mod RowKinds
 pub mod WholeFault
 pub mod SeenLemmas
 pub mod StoredLemmas

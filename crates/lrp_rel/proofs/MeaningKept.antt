@@ -138,7 +138,7 @@ bounds_within cs (b ∷ bs) e fits =
 -- ---- rows and relations
 
 -- a row without faults is kept
-row_kept : (cs : List RawColumn) (row : Located RawRow) → row_faults cs row ≡ [] → FitsRow row.item → RowHasTexts row → IsRowOf (map column_of cs) (row_of cs row.item)
+pub row_kept : (cs : List RawColumn) (row : Located RawRow) → row_faults cs row ≡ [] → FitsRow row.item → RowHasTexts row → IsRowOf (map column_of cs) (row_of cs row.item)
 row_kept cs row e fits texts =
     let arity = fault_if (not (length row.item.values == length cs)) (database_fault Arity row.place) in
     let sorts = wrong_sorts cs row.item.values in

@@ -25,7 +25,7 @@ module _ (bytes : List ℕ) (k l : TokenFault) (p q : Place) (r : IsNoDatabaseTe
   one_kind = same_kind (TextOf database_text FitsDatabase) (tokens bytes) k l r.bad s.bad r.tail s.tail r.refused s.refused
 
 -- the kind of a fault, from the one that was met
-abbrev kind_met : TokenFault → DbKind
+abbrev pub kind_met : TokenFault → DbKind
 kind_met syntax = Syntax
 kind_met number = Number
 kind_met text_too_long = TextTooLong
@@ -58,7 +58,7 @@ both_once bytes k l p q (met j m e r) (cut d b) = absurd (not_cut bytes q r.utf8
 both_once bytes k l p q (met j m e r) (met i n d s) = (e ∙ ap kind_met (one_kind bytes j i p q r s m n) ∙ sym d, same_place bytes j i p q r s)
 
 -- a fault by its kind and place
-abbrev fault_of : DbKind → Place → DbFault
+abbrev pub fault_of : DbKind → Place → DbFault
 fault_of k p = record { kind = k; place = p }
 
 -- a text has at most one fault

@@ -66,7 +66,7 @@ ends_columns n cs ps ts left few h = record {
 }
 
 -- a row begins with a token at any place
-row_leads : (r : RawRow) → Leads (row_text r)
+pub row_leads : (r : RawRow) → Leads (row_text r)
 row_leads r = tt
 
 -- what spells the rows of a relation

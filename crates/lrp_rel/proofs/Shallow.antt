@@ -37,7 +37,7 @@ deep : (k : Fault) → k ≡ Deep → IsDeep k
 deep k e = subst IsDeep (sym e) tt
 
 -- reading nothing has no fault
-pure_shallow : {A : Type 0} (a : A) → Shallow (pure a)
+pub pure_shallow : {A : Type 0} (a : A) → Shallow (pure a)
 pure_shallow a ts us e = deep Syntax (ap kind_of e)
 
 -- a syntax fault is none of depth
@@ -45,14 +45,14 @@ fail_shallow : {A : Type 0} → Shallow (fail {A = A} Syntax)
 fail_shallow ts us e = deep Syntax (ap kind_of e)
 
 -- one parser after the other
-bind_shallow : {A B : Type 0} (p : Parser A) (f : A → Parser B) → Shallow p → ((a : A) → Shallow (f a)) → Shallow (p >>= f)
+pub bind_shallow : {A B : Type 0} (p : Parser A) (f : A → Parser B) → Shallow p → ((a : A) → Shallow (f a)) → Shallow (p >>= f)
 bind_shallow p f one two ts us e = elim (bind_err (p ts) f (Deep, us) e) [
   | inl d ↦ one ts us d
   | inr a ↦ two a.0.0 a.0.1 us a.2
 ]
 
 -- one of two parsers
-if_shallow : {A : Type 0} (b : Bool) (p q : Parser A) → Shallow p → Shallow q → Shallow (if b then p else q)
+pub if_shallow : {A : Type 0} (b : Bool) (p q : Parser A) → Shallow p → Shallow q → Shallow (if b then p else q)
 if_shallow true p q one two = one
 if_shallow false p q one two = two
 
@@ -61,7 +61,7 @@ look_shallow : {A : Type 0} (none : A) (test : Placed → A) → Shallow (look n
 look_shallow none test ts us e = look_err none test ts (Deep, us) e
 
 -- eating has no fault
-eat_shallow : (test : Placed → Bool) → Shallow (eat test)
+pub eat_shallow : (test : Placed → Bool) → Shallow (eat test)
 eat_shallow test ts us e = eat_err test ts (Deep, us) e
 
 -- a token whose test has no fault of depth
@@ -83,7 +83,7 @@ separated_shallow p comma one (suc n) found =
     bind_shallow p _ one (λ a. bind_shallow (eat comma) _ (eat_shallow comma) (λ more. if_shallow more _ _ (separated_shallow p comma one n (found ++ a ∷ [])) (pure_shallow _)))
 
 -- a list up to a token that ends it
-until_shallow : {A : Type 0} (p : Parser A) (stop : Placed → Bool) → Shallow p → (n : ℕ) (found : List A) → Shallow (until_from p stop n found)
+pub until_shallow : {A : Type 0} (p : Parser A) (stop : Placed → Bool) → Shallow p → (n : ℕ) (found : List A) → Shallow (until_from p stop n found)
 unfolding until_from
 until_shallow p stop one zero found = fail_shallow
 until_shallow p stop one (suc n) found =
@@ -96,7 +96,7 @@ listed_shallow p comma stop one n =
     bind_shallow (look false stop) _ (look_shallow false stop) (λ none. if_shallow none _ _ (pure_shallow []) (separated_shallow p comma one n []))
 
 -- a thing with its place
-located_shallow : {A : Type 0} (p : Parser A) → Shallow p → Shallow (located p)
+pub located_shallow : {A : Type 0} (p : Parser A) → Shallow p → Shallow (located p)
 located_shallow p one = bind_shallow here _ (look_shallow _ _) (λ place. bind_shallow p _ one (λ item. pure_shallow _))
 
 -- ---- the tests of tokens
@@ -168,7 +168,7 @@ sort_shallow _ e = deep Syntax (ap fault_of e)
 -- ---- the rules
 
 -- a token that is required
-expects : (test : Placed → Bool) → Shallow (accept (λ t. required (test t)))
+pub expects : (test : Placed → Bool) → Shallow (accept (λ t. required (test t)))
 expects test = accept_shallow _ (λ t. required_shallow (test t))
 
 -- taking a number
@@ -180,7 +180,7 @@ names : Shallow name
 names = accept_shallow _ (λ t. placed_shallow t.place (name_of t.token) (name_shallow t.token))
 
 -- a name with its place is not refused for depth
-label_shallow : Shallow label
+pub label_shallow : Shallow label
 unfolding label
 label_shallow = bind_shallow name _ names (λ n. pure_shallow _)
 
@@ -239,7 +239,7 @@ bounds_shallow n =
     if_shallow some _ _ (separated_shallow bound _ bound_shallow n []) (pure_shallow _))
 
 -- a row is not refused for depth
-row_shallow : (n : ℕ) → Shallow (row n)
+pub row_shallow : (n : ℕ) → Shallow (row n)
 unfolding row
 row_shallow n =
     bind_shallow (expect Open) _ (expects (is_symbol Open)) (λ u.

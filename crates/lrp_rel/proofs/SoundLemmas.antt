@@ -86,7 +86,7 @@ differ f ns e = (differ_behind f [] ns e).1
 pub times_more : (c : RawColumn) (cs : List RawColumn) → time_count (map column_of (c ∷ cs)) ≡ (if is_time c.sort then 1 else 0) + time_count (map column_of cs)
 times_more c cs = sum_by-cons (λ x. if is_time x.sort then 1 else 0) (column_of c) (map column_of cs)
 
-texts_more : (c : RawColumn) (cs : List RawColumn) → text_count (map column_of (c ∷ cs)) ≡ (if not (is_time c.sort) then 1 else 0) + text_count (map column_of cs)
+pub texts_more : (c : RawColumn) (cs : List RawColumn) → text_count (map column_of (c ∷ cs)) ≡ (if not (is_time c.sort) then 1 else 0) + text_count (map column_of cs)
 texts_more c cs = sum_by-cons (λ x. if is_data x.sort then 1 else 0) (column_of c) (map column_of cs)
 
 -- not more than 8, where there is no ninth

@@ -53,7 +53,7 @@ headed_texted p s bad_token rest h r = (tt, tt)
 headed_texted p s hole_token rest h r = (tt, r)
 
 -- all tokens of bytes of UTF-8
-tokens_texted : (n : ℕ) (p : Place) (bs : List ℕ) → IsUtf8 bs → AllByRecursion (λ t. TextToken t.token) (tokens_from n p bs)
+pub tokens_texted : (n : ℕ) (p : Place) (bs : List ℕ) → IsUtf8 bs → AllByRecursion (λ t. TextToken t.token) (tokens_from n p bs)
 unfolding tokens_from
 tokens_texted zero p bs u = tt
 tokens_texted (suc n) p bs u =
@@ -64,12 +64,12 @@ tokens_texted (suc n) p bs u =
     headed_texted a.place s s.token (tokens_from n (after a.place s.taken) s.left) (scan_texted a.bytes here) (tokens_texted n (after a.place s.taken) s.left behind)
 
 -- a part of a tree's text has a data text, if it is one
-abbrev TextPart : Part → Type 0
+abbrev pub TextPart : Part → Type 0
 TextPart (at p k) = TextToken k
 TextPart (any k) = TextToken k
 
 -- parts that are spelled by such tokens
-takes_texted : (ps : List Part) (ts left : Tokens) → Takes ps ts left → AllByRecursion (λ t. TextToken t.token) ts → AllByRecursion TextPart ps
+pub takes_texted : (ps : List Part) (ts left : Tokens) → Takes ps ts left → AllByRecursion (λ t. TextToken t.token) ts → AllByRecursion TextPart ps
 takes_texted [] ts left h texted = tt
 takes_texted (p ∷ ps) [] left h texted = absurd h
 takes_texted (at p k ∷ ps) (t ∷ ts) left h texted = (subst TextToken h.0.0 texted.0, takes_texted ps ts left h.1 texted.1)
@@ -99,7 +99,7 @@ values_texted (v ∷ w ∷ vs) h =
 abbrev pub RowHasTexts : Located RawRow → Type 0
 RowHasTexts row = AllByRecursion (λ v. HasText v.item) row.item.values
 
-row_texted : (row : Located RawRow) → AllByRecursion TextPart (located_text row_text row) → RowHasTexts row
+pub row_texted : (row : Located RawRow) → AllByRecursion TextPart (located_text row_text row) → RowHasTexts row
 row_texted row h =
     let values = separated comma (located_text value_text) row.item.values in
     let behind = any (symbol_token Close) ∷ (bounds_text row.item.bounds ++ any (symbol_token Semicolon) ∷ []) in

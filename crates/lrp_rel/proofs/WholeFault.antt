@@ -1,25 +1,16 @@
 -- A text has at most one fault in all, and a database has none.
-use Rattle.std.proofs.Common.{◌≡◌, ◌==◌, ◌+◌, not, if◌then◌else◌, length, ℕ, Bool, true, false, List, [], ◌∷◌, ◌++◌, map, refl, sym, ap, subst, ◌∙◌, Option, Some, None, Result, Ok, Err, IfOk, IfErr}
-use Rattle.std.specs.List.{flat_map, AllByRecursion}
-use Rattle.std.specs.declared.cmp.Ordering.{Ordering}
-use Rattle.std.specs.declared.cmp.Ordering.TheVariants.{Less, Equal, Greater}
-use Rattle.std.specs.Ordering.{nat_cmp, match_ordering}
-use Rattle.std.specs.Cmp.Lexicographic.{slice_cmp}
+use Rattle.std.proofs.Common.{◌≡◌, ◌==◌, ◌+◌, if◌then◌else◌, ℕ, Bool, true, false, List, [], ◌∷◌, ◌++◌, map, refl, sym, ap, subst, ◌∙◌, Option, Some, None, Result, Ok, Err, IfOk, IfErr}
+use Rattle.std.specs.List.{flat_map}
 use Rattle.lrp_model.specs.Texts.{Identifier}
 use Rattle.lrp_model.specs.Sorts.{is_time}
 use Rattle.lrp_model.specs.Lexing.{tokens}
-use Rattle.lrp_model.specs.Faults.{first, earlier, fault_if, repeated, ninth}
+use Rattle.lrp_model.specs.Faults.{first, fault_if, repeated, ninth}
 use Rattle.lrp_model.specs.DatabaseMeaning.{database_of}
-use Rattle.lrp_model.specs.DatabaseFaults.{database_standing, database_fault, wrong_sorts, suits, unknown, side_faults, row_faults, named_at, relation_faults, database_faults}
+use Rattle.lrp_model.specs.DatabaseFaults.{database_standing, database_fault, row_faults, named_at, relation_faults, database_faults}
 use Rattle.lrp_model.specs.DatabaseReading.{IsDatabaseText, IsDatabase, HasDatabaseFault, IsDatabaseFault, IsDatabaseFaultOf}
 use Rattle.lrp_model.specs.declared.raw.RawColumn.{RawColumn}
 use Rattle.lrp_model.specs.declared.relations.Relation.{Relation}
 use Rattle.lrp_model.specs.declared.written.Located.{Located}
-use Rattle.lrp_model.specs.declared.written.WrittenValue.{WrittenValue}
-use Rattle.lrp_model.specs.declared.written.Side.{Side}
-use Rattle.lrp_model.specs.declared.written.Side.TheVariants.{Alone, Column as side_column, Shifted}
-use Rattle.lrp_model.specs.declared.written.RawBound.{RawBound}
-use Rattle.lrp_model.specs.declared.written.RawRow.{RawRow}
 use Rattle.lrp_model.specs.declared.written.RawRelation.{RawRelation}
 use Rattle.lrp_model.specs.declared.faults.DbFault.{DbFault}
 use Rattle.lrp_model.specs.declared.faults.DbKind.{DbKind}
@@ -30,7 +21,7 @@ use Rattle.lrp_rel.specs.Reading.{IsTextFault, IsTextFaultOf, IsRefusedBy, IsTre
 use Rattle.lrp_rel.proofs.DatabaseRules.{one_tree}
 use Rattle.lrp_rel.proofs.TextLaws.{no_fault}
 use Rattle.lrp_rel.proofs.OneFault.{fault_once}
-use Rattle.lrp_rel.proofs.FaultWalks.{bound_faults}
+use Rattle.lrp_rel.proofs.RowKinds.{AreOf, IsOneOf, HasRowKinds, both_of, flat_of, if_of, row_kinds, first_of}
 
 -- ---- the kinds of a tree's faults
 
@@ -43,29 +34,18 @@ IsOfTree Column = Unit {0}
 IsOfTree Wide = Unit {0}
 IsOfTree _ = ⊥
 
+-- a row has such faults alone
+row_of_tree : HasRowKinds IsOfTree
+row_of_tree = record { arity = tt; sort = tt; column = tt }
+
 -- faults of such kinds
 abbrev OfTree : List DbFault → Type 0
-OfTree = AllByRecursion (λ f. IsOfTree f.kind)
-
--- of two lists of such faults
-both_of : (xs ys : List DbFault) → OfTree xs → OfTree ys → OfTree (xs ++ ys)
-both_of [] ys h k = k
-both_of (x ∷ xs) ys h k = (h.0, both_of xs ys h.1 k)
-
--- where each part has such faults, all have
-flat_of : {A : Type 0} (f : A → List DbFault) → ((a : A) → OfTree (f a)) → (xs : List A) → OfTree (flat_map f xs)
-flat_of f h [] = tt
-flat_of f h (x ∷ xs) = both_of (f x) (flat_map f xs) (h x) (flat_of f h xs)
-
--- a fault behind a test
-if_of : (b : Bool) (f : DbFault) → IsOfTree f.kind → OfTree (fault_if b f)
-if_of true f h = (h, tt)
-if_of false f h = tt
+OfTree = AreOf IsOfTree
 
 -- names that stand twice
 repeated_of : (before : List Identifier) (ns : List (Located Identifier)) → OfTree (repeated (database_fault Name) before ns)
 repeated_of before [] = tt
-repeated_of before (n ∷ ns) = both_of (fault_if _ (database_fault Name n.place)) (repeated (database_fault Name) (n.item ∷ before) ns) (if_of _ (database_fault Name n.place) tt) (repeated_of (n.item ∷ before) ns)
+repeated_of before (n ∷ ns) = both_of IsOfTree (fault_if _ (database_fault Name n.place)) (repeated (database_fault Name) (n.item ∷ before) ns) (if_of IsOfTree _ (database_fault Name n.place) tt) (repeated_of (n.item ∷ before) ns)
 
 -- too many columns
 ninth_of : (times texts : ℕ) (cs : List RawColumn) → OfTree (ninth (database_fault Wide) times texts cs)
@@ -73,57 +53,18 @@ ninth_of times texts [] = tt
 ninth_of times texts (c ∷ cs) = by (is_time c.sort) (λ t x. ninth_of t x cs)
   where
     by : (b : Bool) → ((t x : ℕ) → OfTree (ninth (database_fault Wide) t x cs)) → OfTree (if b then fault_if (times == 8) (database_fault Wide c.place) ++ ninth (database_fault Wide) (times + 1) texts cs else fault_if (texts == 8) (database_fault Wide c.place) ++ ninth (database_fault Wide) times (texts + 1) cs)
-    by true h = both_of (fault_if (times == 8) (database_fault Wide c.place)) (ninth (database_fault Wide) (times + 1) texts cs) (if_of (times == 8) (database_fault Wide c.place) tt) (h (times + 1) texts)
-    by false h = both_of (fault_if (texts == 8) (database_fault Wide c.place)) (ninth (database_fault Wide) times (texts + 1) cs) (if_of (texts == 8) (database_fault Wide c.place) tt) (h times (texts + 1))
-
--- values that do not suit their columns
-sorts_of : (cs : List RawColumn) (vs : List (Located WrittenValue)) → OfTree (wrong_sorts cs vs)
-sorts_of [] vs = tt
-sorts_of (c ∷ cs) [] = tt
-sorts_of (c ∷ cs) (v ∷ vs) = both_of (fault_if (not (suits v.item c)) (database_fault Sort v.place)) (wrong_sorts cs vs) (if_of (not (suits v.item c)) (database_fault Sort v.place) tt) (sorts_of cs vs)
-
--- names that are no time columns
-side_of : (cs : List RawColumn) (s : Side) → OfTree (side_faults cs s)
-side_of cs (Alone i) = tt
-side_of cs (side_column n) = if_of _ (database_fault Column n.place) tt
-side_of cs (Shifted n down k) = if_of _ (database_fault Column n.place) tt
-
-bound_of : (cs : List RawColumn) (b : RawBound) → OfTree (bound_faults cs b)
-bound_of cs b = both_of (unknown cs b.left) (side_faults cs b.side) (if_of _ (database_fault Column b.left.place) tt) (side_of cs b.side)
-
-row_of_tree : (cs : List RawColumn) (r : Located RawRow) → OfTree (row_faults cs r)
-row_of_tree cs r =
-    let arity = fault_if (not (length r.item.values == length cs)) (database_fault Arity r.place) in
-    let sorts = wrong_sorts cs r.item.values in
-    both_of (arity ++ sorts) (flat_map (bound_faults cs) r.item.bounds) (both_of arity sorts (if_of (not (length r.item.values == length cs)) (database_fault Arity r.place) tt) (sorts_of cs r.item.values)) (flat_of (bound_faults cs) (bound_of cs) r.item.bounds)
+    by true h = both_of IsOfTree (fault_if (times == 8) (database_fault Wide c.place)) (ninth (database_fault Wide) (times + 1) texts cs) (if_of IsOfTree (times == 8) (database_fault Wide c.place) tt) (h (times + 1) texts)
+    by false h = both_of IsOfTree (fault_if (texts == 8) (database_fault Wide c.place)) (ninth (database_fault Wide) times (texts + 1) cs) (if_of IsOfTree (texts == 8) (database_fault Wide c.place) tt) (h times (texts + 1))
 
 relation_of_tree : (r : RawRelation) → OfTree (relation_faults r)
 relation_of_tree r =
     let names = repeated (database_fault Name) [] (map named_at r.columns) in
     let wide = ninth (database_fault Wide) 0 0 r.columns in
-    both_of (names ++ wide) (flat_map (row_faults r.columns) r.rows) (both_of names wide (repeated_of [] (map named_at r.columns)) (ninth_of 0 0 r.columns)) (flat_of (row_faults r.columns) (row_of_tree r.columns) r.rows)
+    both_of IsOfTree (names ++ wide) (flat_map (row_faults r.columns) r.rows) (both_of IsOfTree names wide (repeated_of [] (map named_at r.columns)) (ninth_of 0 0 r.columns)) (flat_of IsOfTree (row_faults r.columns) (row_kinds IsOfTree row_of_tree r.columns) r.rows)
 
 -- all faults of a tree
 tree_of : (rs : List RawRelation) → OfTree (database_faults rs)
-tree_of rs = both_of (repeated (database_fault Name) [] (map (λ r. r.name) rs)) (flat_map relation_faults rs) (repeated_of [] (map (λ r. r.name) rs)) (flat_of relation_faults relation_of_tree rs)
-
--- the first of such faults
-abbrev OneOfTree : Option DbFault → Type 0
-OneOfTree None = Unit {0}
-OneOfTree (Some f) = IsOfTree f.kind
-
-earlier_of : (f : DbFault) (g : Option DbFault) → IsOfTree f.kind → OneOfTree g → OneOfTree (earlier database_standing f g)
-earlier_of f None h k = h
-earlier_of f (Some g) h k = by (slice_cmp nat_cmp (database_standing g) (database_standing f))
-  where
-    by : (o : Ordering) → OneOfTree (match_ordering o (Some g) (Some f) (Some f))
-    by Less = k
-    by Equal = h
-    by Greater = h
-
-first_of : (fs : List DbFault) → OfTree fs → OneOfTree (first database_standing fs)
-first_of [] h = tt
-first_of (f ∷ fs) h = earlier_of f (first database_standing fs) h.0 (first_of fs h.1)
+tree_of rs = both_of IsOfTree (repeated (database_fault Name) [] (map (λ r. r.name) rs)) (flat_map relation_faults rs) (repeated_of [] (map (λ r. r.name) rs)) (flat_of IsOfTree relation_faults relation_of_tree rs)
 
 -- a fault of the tree is one of the text
 as_fault : (bytes : List ℕ) (k : DbKind) (f : DbFault) → IsOfTree k → HasDatabaseFault bytes f → IsDatabaseFaultOf bytes k f
@@ -161,7 +102,7 @@ unread_refused bytes Memory h = tt
 -- and so is why the tree had no meaning
 pub tree_refused : (bytes : List ℕ) (tree : List RawRelation) (r : ReadFault) → IsDatabaseText bytes tree → IsTreeRefusal tree r → IsRefusedBy bytes r
 tree_refused bytes tree (Fault f) t h =
-    as_fault bytes f.kind f (let P : Option DbFault → Type 0 = OneOfTree in subst P h (first_of (database_faults tree) (tree_of tree))) (record { tree = tree; text = t; found = h })
+    as_fault bytes f.kind f (let P : Option DbFault → Type 0 = IsOneOf IsOfTree in subst P h (first_of IsOfTree (database_faults tree) (tree_of tree))) (record { tree = tree; text = t; found = h })
 tree_refused bytes tree Memory t h = tt
 
 -- ---- each at most once

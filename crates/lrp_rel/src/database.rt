@@ -1,6 +1,8 @@
 // Databases: relations by their names, and the texts of their rows by their sorts.
-ghost use Rattle.std.specs.Prelude.{◌≡◌, ◌<◌, [], Some, length, map, slice_get, IfOk, IfSome, true};
-ghost use Rattle.std.specs.Option.{option_copied};
+ghost use Rattle.std.specs.Prelude.{◌≡◌, ◌<◌, [], Some, length, map, position, slice_get, IfOk, IfSome, true};
+ghost use Rattle.std.specs.Option.{option_copied, is_some};
+ghost use Rattle.std.specs.List.{list_any};
+ghost use Rattle.std.specs.Str.{bytes_eq};
 ghost use Rattle.indexmap.specs.IndexSet.{keys};
 ghost use Rattle.lrp_model.specs.Rows.{relation_named};
 ghost use Rattle.lrp_model.specs.Domains.{database_texts};
@@ -67,8 +69,8 @@ impl Database {
         })
     }
 
-    // The relations, in order.
-    pub(crate) fn as_slice(&self) -> &[Relation]
+    /// The relations, in order of the text.
+    pub fn as_slice(&self) -> &[Relation]
         ensures same { result.now ≡ self.now }
         ensures kept { AreKept result.now }
     {
@@ -80,6 +82,14 @@ impl Database {
         ensures { IfOk result (λ made. made ≡ self.now) }
     {
         Database::of(alloc, self.relations.copy(alloc)?)
+    }
+
+    /// The index of the relation of this name, from 0, in order of the text, if there is one.
+    pub fn index_of(&self, name: &Name) -> Option<usize>
+        ensures index { result ≡ position (bytes_eq name.now) (map (λ r. r.name) self.now) }
+        ensures found { is_some result ≡ list_any (bytes_eq name.now) (map (λ r. r.name) self.now) }
+    {
+        self.names.get_index_of(name)
     }
 
     /// The relation of this name, if there is one.

@@ -38,7 +38,7 @@ fn earlier_of(left: DbFault, right: DbFault) -> DbFault
     }
 }
 
-// The earlier of two faults, or the one that there is.
+/// The earlier of two faults, or the one that there is; of two that stand alike, the first.
 pub fn sooner_of(left: Option<DbFault>, right: Option<DbFault>) -> Option<DbFault>
     ensures { result ≡ sooner database_standing left right }
 {

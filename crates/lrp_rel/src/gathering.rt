@@ -14,7 +14,7 @@ use indexmap::IndexSet;
 use lrp_model::{DbFault, List, Located, Memory, Name, Place, RawColumn, RawRow, Relation, Row};
 use std::alloc::Global;
 
-// The columns of a relation, the names of its time columns, and the first fault of the columns.
+/// The columns of a relation, the names of its time columns, and the first fault of the columns.
 #[derive(Drop)]
 pub struct Heading {
     pub columns: List<RawColumn>,
@@ -47,7 +47,7 @@ pub struct Gathered {
 }
 
 impl Heading {
-    // The heading that columns are.
+    /// The heading that columns are.
     pub fn of(alloc: Global, columns: List<RawColumn>) -> Result<Heading, Memory>
         ensures heading { IfOk result IsHeading }
         ensures columns { IfOk result (λ made. made.columns ≡ columns) }

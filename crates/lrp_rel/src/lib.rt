@@ -14,9 +14,13 @@ mod trees;
 mod written;
 
 pub use database::Database;
+pub use faults::{row_fault, sooner_of};
+pub use gathering::Heading;
 pub use laws::{database_texts_have_one_tree, databases_read_back};
 pub use lrp_model::{DbFault, DbKind};
 pub use lrp_print::write_relation;
+pub use meaning::meant_row;
 pub use read::read_database;
-pub use trees::ReadFault;
+pub use reading::{read_label, read_placed_row};
+pub use trees::{ReadFault, refusal};
 pub use written::write_database;

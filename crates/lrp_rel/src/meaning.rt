@@ -181,7 +181,7 @@ fn with_exact_room(bounds: List<Bound>) -> List<Bound>
     List::from_vec(items)
 }
 
-// The row that a written one means.
+/// The row that a written one means, by the names of the time columns of its relation.
 pub fn meant_row(alloc: Global, times: &IndexSet<Name>, row: RawRow) -> Result<Row, Memory>
     requires times { length (keys times.now) ≤ 8 }
     requires lawful { HasRowMeaning row }

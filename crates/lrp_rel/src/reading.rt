@@ -13,8 +13,9 @@ use lrp_model::{
 use lrp_text::{Cursor, columns, integer};
 use std::alloc::Global;
 
+/// A name that is no reserved word, with its place.
 #[tactic(auto, unfolding(crate::specs::Rules::label))]
-fn read_label(alloc: Global, tokens: &mut Cursor<'_>) -> Result<Located<Name>, Fault>
+pub fn read_label(alloc: Global, tokens: &mut Cursor<'_>) -> Result<Located<Name>, Fault>
     ensures value { Reads (label tokens.old) result tokens.new }
     ensures fewer { IfOk result (λ _. length tokens.new < length tokens.old) }
 {
@@ -194,7 +195,8 @@ fn read_row(alloc: Global, tokens: &mut Cursor<'_>) -> Result<RawRow, Fault>
     Ok(RawRow { values, bounds })
 }
 
-fn read_placed_row(alloc: Global, tokens: &mut Cursor<'_>) -> Result<Located<RawRow>, Fault>
+/// A written row, with the place of its parenthesis.
+pub fn read_placed_row(alloc: Global, tokens: &mut Cursor<'_>) -> Result<Located<RawRow>, Fault>
     ensures value { (n : ℕ) → length tokens.old < n → Reads (located (row n) tokens.old) result tokens.new }
     ensures fits { IfOk result (λ row. FitsRow row.item) }
     ensures fewer { IfOk result (λ _. length tokens.new < length tokens.old) }

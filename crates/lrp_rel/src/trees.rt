@@ -30,8 +30,8 @@ impl From<Memory> for ReadFault {
     }
 }
 
-// The fault of a text, from what was met at a place.
-fn refusal(kind: Fault, place: Place) -> ReadFault
+/// The fault of a text, from what was met at a place.
+pub fn refusal(kind: Fault, place: Place) -> ReadFault
     requires { kind ≢ Fault.Deep }
     ensures { result ≡ refusal_of kind place }
 {

@@ -1,0 +1,4 @@
+pub mod EditRuleLaws
+pub mod EditLemmas
+pub mod EditLaws
+pub mod EditRows
