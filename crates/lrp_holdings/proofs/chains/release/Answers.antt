@@ -1,0 +1,20 @@
+use Rattle.std.proofs.Common.{sym, ◌∙◌, arith}
+use Rattle.lrp_holdings.proofs.LetGo.{begins, begins_at_value, released_all, released_none, released_one}
+use Rattle.lrp_holdings.proofs.chains.release.Goals as goal
+
+pub loop-link-init : goal.loop-link-init
+loop-link-init g c = record { chained = c.requires; partly = released_none c.args.number c.args.slots.now }
+
+pub let_go-requires-clause-held : goal.let_go-requires-clause-held
+let_go-requires-clause-held g c = begins_at_value c.loop-link.slots c.loop-link.chains.items c.args.number c.in-Some.link c.loop-link.invariant.chained (sym c.first.ensures ∙ c.in-Some.is)
+
+pub loop-link-preserved : goal.loop-link-preserved
+loop-link-preserved g c =
+    let x = begins c.loop-link.slots c.loop-link.chains.items c.args.number c.in-Some.link c.loop-link.invariant.chained (sym c.first.ensures ∙ c.in-Some.is) in
+    record { chained = c.let_go.ensures.chained; partly = released_one c.args.number c.args.slots.now c.loop-link.slots c.let_go.new.slots c.in-Some.link x.0 c.loop-link.invariant.partly x.1 x.2 c.let_go.ensures.gone }
+
+pub loop-link-smaller : goal.loop-link-smaller
+loop-link-smaller g c = omega (arith, c.let_go.ensures.gone.len)
+
+pub returns-clause-released : goal.returns-clause-released
+returns-clause-released g c = released_all c.args.number c.args.slots.now c.loop-link.slots c.loop-link.chains.items c.loop-link.invariant.partly c.loop-link.invariant.chained (sym c.first.ensures ∙ c.in_default.is)

@@ -1,0 +1,43 @@
+use Rattle.lrp_holdings.proofs.Chained.{roomier, some_stands}
+use Rattle.lrp_holdings.proofs.LetGo.{not_chained_yet}
+use Rattle.lrp_holdings.proofs.Holding.{is_held_too, larger_held, loose_put, roomier_held, within_after}
+use Rattle.slab.specs.Slab.{get}
+use Rattle.lrp_holdings.specs.Chains.{owner_at}
+use Rattle.std.proofs.Common.{◌≡◌, Some}
+use Rattle.lrp_holdings.proofs.holdings.Holdings.hold.Goals as goal
+
+pub invariant_of-self : goal.invariant_of-self
+invariant_of-self g c = roomier_held c.self.inside.slots c.self.inside.chains.items c.make_room.new.chains.items c.make_room.ensures.same c.self.invariant
+
+pub invariant_of-self-in_err-owners : goal.invariant_of-self-in_err-owners
+invariant_of-self-in_err-owners g c = roomier_held c.self.inside.slots c.self.inside.chains.items c.make_room.new.chains.items c.make_room.ensures.same c.self.invariant
+
+pub invariant_of-self-in_err-slot : goal.invariant_of-self-in_err-slot
+invariant_of-self-in_err-slot g c =
+    larger_held c.self.inside.slots c.insert.new.self c.make_room.new.chains.items c.in_err-slot.ensures.err c.insert.ensures.capacity
+    (roomier_held c.self.inside.slots c.self.inside.chains.items c.make_room.new.chains.items c.make_room.ensures.same c.self.invariant)
+
+pub link_all-requires-clause-chained : goal.link_all-requires-clause-chained
+link_all-requires-clause-chained g c =
+    not_chained_yet c.self.inside.slots c.insert.new.self c.make_room.new.chains.items c.in_ok-slot.slot (record { value = c.args.value; owners = c.in_ok-owners.owners }) c.in_ok-slot.ensures.was_vacant c.in_ok-slot.ensures.updates
+    (roomier (λ m o. owner_at (get c.self.inside.slots) m ≡ Some o) c.self.inside.chains.items c.make_room.new.chains.items c.make_room.ensures.same c.self.invariant.chained)
+
+pub link_all-requires-clause-loose : goal.link_all-requires-clause-loose
+link_all-requires-clause-loose g c =
+    loose_put c.self.inside.slots c.insert.new.self c.insert.new.self c.self.inside.chains.items c.make_room.new.chains.items c.in_ok-slot.slot (record { value = c.args.value; owners = c.in_ok-owners.owners }) c.args.numbers.now c.in_ok-slot.ensures.was_vacant c.in_ok-slot.ensures.updates c.in_ok-owners.ensures
+    c.in_ok-make_room.ensures.room
+
+pub link_all-requires-clause-held : goal.link_all-requires-clause-held
+link_all-requires-clause-held g c = some_stands (get c.insert.new.self c.in_ok-slot.slot) (record { value = c.args.value; owners = c.in_ok-owners.owners }) c.in_ok-slot.ensures.updates.changed
+
+pub invariant_of-self-2 : goal.invariant_of-self-2
+invariant_of-self-2 g c = record {
+  chained = c.link_all.ensures.chained;
+  within = within_after c.self.inside.slots c.insert.new.self c.link_all.new.slots c.self.inside.chains.items c.make_room.new.chains.items c.in_ok-slot.slot (record { value = c.args.value; owners = c.in_ok-owners.owners }) c.args.numbers.now c.in_ok-slot.ensures.was_vacant c.in_ok-slot.ensures.updates c.in_ok-owners.ensures
+      c.self.invariant c.in_ok-slot.ensures.key_in_range c.insert.ensures.capacity c.link_all.ensures.same;
+}
+
+pub returns-clause-held : goal.returns-clause-held
+returns-clause-held g c =
+    is_held_too c.self.inside.slots c.insert.new.self c.link_all.new.slots c.self.inside.chains.items c.make_room.new.chains.items c.in_ok-slot.slot (record { value = c.args.value; owners = c.in_ok-owners.owners }) c.args.numbers.now c.in_ok-slot.ensures.was_vacant c.in_ok-slot.ensures.updates c.in_ok-owners.ensures
+    c.args.self.now c.self.view_is c.link_all.ensures.same

@@ -1,0 +1,11 @@
+use Rattle.lrp_holdings.proofs.Holding.{is_released, released_held}
+use Rattle.lrp_holdings.proofs.holdings.Holdings.release.Goals as goal
+
+pub invariant_of-self : goal.invariant_of-self
+invariant_of-self g c = released_held c.args.number c.self.inside.slots c.release.new.slots c.self.inside.chains.items c.release.new.chains.items c.self.invariant c.release.ensures.released c.release.ensures.chained
+
+pub returns : goal.returns
+returns g c = is_released c.args.number c.self.inside.slots c.release.new.slots c.args.self.now c.self.view_is c.release.ensures.released
+
+pub release-requires : goal.release-requires
+release-requires g c = c.self.invariant.chained

@@ -1,0 +1,3 @@
+-- Values held for owners: what is held, and the chains by which it is let go.
+pub mod Holdings
+pub mod Chains

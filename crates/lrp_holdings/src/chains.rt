@@ -1,0 +1,192 @@
+// Chains of the places at which owners of values stand, linked in both directions.
+ghost use Rattle.std.specs.Prelude.{◌≡◌, ◌+◌, ◌<◌, ◌≤◌, Some, None, OnOk, IsSome, IfSome, length, slice_set};
+ghost use Rattle.std.specs.List.{All};
+ghost use Rattle.slab.specs.Slab.{get};
+ghost use Rattle.lrp_holdings.specs.Chains.{AreAllChained, AreChainedBelow, AreChainedFrom, AreLoose, HasRoomForFirst, IsChanged, IsLedTo, IsLetGo, IsReleasedFrom, IsRelinked, IsSetAt, first_of, owner_at, with_before, with_next};
+
+use lrp_model::Memory;
+use slab::Slab;
+
+/// A place of a value's list of owners: the value's slot, and a number from 0.
+#[derive(Clone, Copy)]
+pub(crate) struct Link {
+    pub(crate) slot: usize,
+    pub(crate) place: usize,
+}
+
+/// An owner of a value, and the links before and after this one in the owner's chain.
+#[derive(Clone, Copy)]
+pub(crate) struct Owner {
+    pub(crate) number: usize,
+    pub(crate) before: Option<Link>,
+    pub(crate) next: Option<Link>,
+}
+
+/// A value with its owners.
+#[derive(Drop)]
+pub(crate) struct Holding<V> {
+    pub(crate) value: V,
+    pub(crate) owners: Vec<Owner>,
+}
+
+// The owner at a link.
+fn owner_of<V>(slots: &Slab<Holding<V>>, link: Link) -> Owner
+    requires { IsSome (owner_at (get slots.now) link) }
+    ensures { owner_at (get slots.now) link ≡ Some result }
+{
+    slots[link.slot].owners[link.place]
+}
+
+// How many owners the value in a slot has.
+fn owner_count<V>(slots: &Slab<Holding<V>>, slot: usize) -> usize
+    requires { IsSome (get slots.now slot) }
+    ensures { IfSome (get slots.now slot) (λ holding. result ≡ length holding.owners.items) }
+{
+    slots[slot].owners.len()
+}
+
+// Sets what is next after a link, if there is one.
+fn set_next<V>(slots: &mut Slab<Holding<V>>, link: Option<Link>, next: Option<Link>)
+    requires { IfSome link (λ at. IsSome (owner_at (get slots.old) at)) }
+    ensures { IsChanged (with_next next) slots.old slots.new link }
+{
+    if let Some(link) = link {
+        next_at(&mut slots[link.slot].owners, link.place, next);
+    }
+}
+
+fn next_at(owners: &mut Vec<Owner>, place: usize, next: Option<Link>)
+    requires { place < length owners.old.items }
+    ensures { IsSetAt (with_next next) owners.old.items owners.new.items place }
+{
+    owners[place].next = next;
+}
+
+// Sets what is before a link, if there is one.
+fn set_before<V>(slots: &mut Slab<Holding<V>>, link: Option<Link>, before: Option<Link>)
+    requires { IfSome link (λ at. IsSome (owner_at (get slots.old) at)) }
+    ensures { IsChanged (with_before before) slots.old slots.new link }
+{
+    if let Some(link) = link {
+        before_at(&mut slots[link.slot].owners, link.place, before);
+    }
+}
+
+fn before_at(owners: &mut Vec<Owner>, place: usize, before: Option<Link>)
+    requires { place < length owners.old.items }
+    ensures { IsSetAt (with_before before) owners.old.items owners.new.items place }
+{
+    owners[place].before = before;
+}
+
+// Lets a chain begin behind its first link.
+fn set_first(chains: &mut Vec<Option<Link>>, owner: Owner)
+    requires { owner.number < length chains.old.items }
+    ensures { IsLedTo owner chains.old.items chains.new.items }
+{
+    if owner.before.is_none() {
+        chains[owner.number] = owner.next;
+    }
+}
+
+// Takes a link out of its owner's chain: those before and after it are joined.
+fn unlink<V>(slots: &mut Slab<Holding<V>>, chains: &mut Vec<Option<Link>>, link: Link)
+    requires chained { AreChainedFrom slots.old chains.old.items link.slot link.place }
+    requires held { IsSome (owner_at (get slots.old) link) }
+    ensures chained { AreChainedFrom slots.new chains.new.items link.slot (link.place + 1) }
+    ensures same { IsRelinked slots.old slots.new }
+{
+    let owner = owner_of(slots, link);
+    set_next(slots, owner.before, owner.next);
+    set_before(slots, owner.next, owner.before);
+    set_first(chains, owner);
+}
+
+// Puts a link before the others of its owner's chain.
+fn put_first<V>(slots: &mut Slab<Holding<V>>, chains: &mut Vec<Option<Link>>, link: Link)
+    requires chained { AreChainedBelow slots.old chains.old.items link.slot link.place }
+    requires loose { AreLoose slots.old chains.old.items link.slot link.place }
+    requires held { IsSome (owner_at (get slots.old) link) }
+    ensures chained { AreChainedBelow slots.new chains.new.items link.slot (link.place + 1) }
+    ensures loose { AreLoose slots.new chains.new.items link.slot (link.place + 1) }
+    ensures same { IsRelinked slots.old slots.new }
+{
+    let owner = owner_of(slots, link);
+    let next = chains[owner.number];
+    set_next(slots, Some(link), next);
+    set_before(slots, next, Some(link));
+    chains[owner.number] = Some(link);
+}
+
+/// Puts the links of the value in a slot into the chains of its owners.
+pub(crate) fn link_all<V>(slots: &mut Slab<Holding<V>>, chains: &mut Vec<Option<Link>>, slot: usize)
+    requires chained { AreChainedBelow slots.old chains.old.items slot 0 }
+    requires loose { AreLoose slots.old chains.old.items slot 0 }
+    requires held { IsSome (get slots.old slot) }
+    ensures chained { AreAllChained slots.new chains.new.items }
+    ensures same { IsRelinked slots.old slots.new }
+{
+    for place in 0..owner_count(slots, slot) {
+        put_first(slots, chains, Link { slot, place });
+    }
+}
+
+// Takes the value of a slot out of the chains of its owners, and gives the slot up.
+fn let_go<V: Drop>(slots: &mut Slab<Holding<V>>, chains: &mut Vec<Option<Link>>, slot: usize)
+    requires chained { AreAllChained slots.old chains.old.items }
+    requires held { IsSome (get slots.old slot) }
+    ensures chained { AreAllChained slots.new chains.new.items }
+    ensures gone { IsLetGo slots.old slots.new slot }
+{
+    for place in 0..owner_count(slots, slot) {
+        unlink(slots, chains, Link { slot, place });
+    }
+    slots.try_remove(slot);
+}
+
+// The first link of an owner's chain.
+fn first(chains: &Vec<Option<Link>>, number: usize) -> Option<Link>
+    ensures { result ≡ first_of chains.now.items number }
+{
+    if number < chains.len() {
+        chains[number]
+    } else {
+        None
+    }
+}
+
+/// Lets go each value that the owner holds.
+pub(crate) fn release<V: Drop>(
+    slots: &mut Slab<Holding<V>>,
+    chains: &mut Vec<Option<Link>>,
+    number: usize,
+)
+    requires { AreAllChained slots.old chains.old.items }
+    ensures chained { AreAllChained slots.new chains.new.items }
+    ensures released { IsReleasedFrom number slots.old slots.new }
+{
+    while let Some(link) = first(chains, number) {
+        let_go(slots, chains, link.slot);
+    }
+}
+
+/// Makes room for the chains of these owners.
+pub(crate) fn make_room(chains: &mut Vec<Option<Link>>, numbers: &[usize]) -> Result<(), Memory>
+    ensures room { OnOk result (All (λ number. number < length chains.new.items) numbers.now) }
+    ensures same { HasRoomForFirst chains.old.items chains.new.items }
+{
+    for number in numbers {
+        make_room_for(chains, *number)?;
+    }
+    Ok(())
+}
+
+fn make_room_for(chains: &mut Vec<Option<Link>>, number: usize) -> Result<(), Memory>
+    ensures room { OnOk result (number < length chains.new.items) }
+    ensures same { HasRoomForFirst chains.old.items chains.new.items }
+{
+    while chains.len() <= number {
+        chains.push(None)?;
+    }
+    Ok(())
+}

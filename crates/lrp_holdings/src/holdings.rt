@@ -1,0 +1,123 @@
+// Values that are held by numbered owners: each is let go with the first of its owners.
+ghost use Rattle.std.specs.Prelude.{◌≡◌, ◌<◌, ℕ, IsSome, IfOk, IfSome, IfNone, OnOk, OnErr, [], None, map, option_copied};
+ghost use Rattle.std.specs.Option.{option_map};
+ghost use Rattle.lrp_holdings.specs.Chains.{loose_owner};
+ghost use Rattle.lrp_holdings.specs.Holdings.{IsHeldToo, IsReleased, held_at, owners_at};
+
+use crate::chains::{Holding, Link, Owner, link_all, make_room, release};
+use lrp_model::Memory;
+use slab::Slab;
+use std::alloc::Global;
+use std::marker::Model;
+
+/// Values in slots, each with a list of owners, which are numbers.
+///
+/// Each owner has a chain of the places where it stands, linked by index in both directions, so that a value leaves the
+/// chains of its other owners in one step for each (Donald Knuth, "The Art of Computer Programming", volume 1, section
+/// 2.2.5, "Doubly Linked Lists", 1968). A slot that is given up is used again.
+#[derive(Drop)]
+pub struct Holdings<V> {
+    alloc: Global,
+    slots: Slab<Holding<V>>,
+    chains: Vec<Option<Link>>,
+}
+
+impl<V> Model for Holdings<V> {
+    ghost use Rattle.lrp_holdings.specs.Holdings.{HoldingsView, holdings_code};
+
+    ghost Value = { HoldingsView V };
+
+    ghost coded = { holdings_code V.code };
+
+    ghost use Rattle.std.specs.Prelude.{map};
+    ghost use Rattle.lrp_holdings.specs.Chains.{IsHeldInChains, held_in};
+
+    ghost view = { λ h. record { slots = map held_in h.slots.slots } };
+
+    ghost invariant = { λ h. IsHeldInChains h.slots h.chains.items };
+}
+
+impl<V: Drop> Holdings<V> {
+    /// Nothing is held.
+    pub fn new(alloc: Global) -> Self
+        ensures { (slot : ℕ) → held_at result slot ≡ None }
+    {
+        Holdings {
+            alloc,
+            slots: Slab::new(alloc),
+            chains: Vec::new(alloc),
+        }
+    }
+
+    /// One more than the greatest slot that a value has, or more.
+    pub fn slots(&self) -> usize
+        ensures { (slot : ℕ) → IsSome (held_at self.now slot) → slot < result }
+    {
+        self.slots.capacity()
+    }
+
+    /// The value in a slot, if there is one.
+    pub fn value(&self, slot: usize) -> Option<&V>
+        ensures { option_copied result ≡ option_map (λ h. h.value) (held_at self.now slot) }
+    {
+        match self.slots.get(slot) {
+            Some(holding) => Some(&holding.value),
+            None => None,
+        }
+    }
+
+    /// The owners of the value in a slot, in order; none where the slot has no value.
+    pub fn owners(&self, alloc: Global, slot: usize) -> Result<Vec<usize>, Memory>
+        ensures { IfOk result (λ numbers. numbers.items ≡ owners_at self.now slot) }
+    {
+        match self.slots.get(slot) {
+            Some(holding) => numbers_of(alloc, &holding.owners),
+            None => Ok(Vec::new(alloc)),
+        }
+    }
+
+    /// Holds a value for these owners. Where memory is refused nothing more is held.
+    pub fn hold(&mut self, numbers: &[usize], value: V) -> Result<(), Memory>
+        ensures held { OnOk result (IsHeldToo numbers.now value self.old self.new) }
+        ensures same { OnErr result (self.new ≡ self.old) }
+    {
+        make_room(&mut self.chains, numbers)?;
+        let owners = loose(self.alloc, numbers)?;
+        let slot = self.slots.insert(Holding { value, owners })?;
+        link_all(&mut self.slots, &mut self.chains, slot);
+        Ok(())
+    }
+
+    /// Lets go each value that the owner holds.
+    pub fn release(&mut self, number: usize)
+        ensures { IsReleased number self.old self.new }
+    {
+        release(&mut self.slots, &mut self.chains, number);
+    }
+}
+
+// Owners that no chain has yet.
+fn loose(alloc: Global, numbers: &[usize]) -> Result<Vec<Owner>, Memory>
+    ensures { IfOk result (λ made. made.items ≡ map loose_owner numbers.now) }
+{
+    let mut owners = Vec::with_capacity(alloc, numbers.len())?;
+    for number in numbers {
+        owners.push(Owner {
+            number: *number,
+            before: None,
+            next: None,
+        })?;
+    }
+    Ok(owners)
+}
+
+// The numbers of owners.
+fn numbers_of(alloc: Global, owners: &Vec<Owner>) -> Result<Vec<usize>, Memory>
+    ensures { IfOk result (λ made. made.items ≡ map (λ o. o.number) owners.now.items) }
+{
+    let mut numbers = Vec::with_capacity(alloc, owners.len())?;
+    for owner in owners {
+        numbers.push(owner.number)?;
+    }
+    Ok(numbers)
+}
