@@ -26,11 +26,17 @@ mod tested;
 mod time_drops;
 mod unions;
 
+pub use columns::{head_vars, scan_vars, store_over};
 pub use data_drops::drop_data;
+pub use filling::add_pattern;
 pub use joins::join;
 pub use lrp_tables::{StepFault, Table, Vars};
+pub use pair::Pair;
+pub use pattern::{Known, Pattern, Placed, known_at};
+pub use rows::row_pattern;
 pub use scans::scan;
 pub use selections::select;
 pub use test_tables::leaf;
+pub use tested::with_tests;
 pub use time_drops::drop_time;
 pub use unions::{extend, union};

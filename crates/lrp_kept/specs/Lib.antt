@@ -1,0 +1,16 @@
+pub mod KeptForm
+pub mod Signs
+pub mod Asked
+pub mod EqualRows
+pub mod Keys
+pub mod SortedForms
+pub mod Spans
+pub mod Choices
+pub mod Disjuncts
+pub mod Drafts
+pub mod Outlines
+pub mod Limits
+pub mod Sizes
+pub mod Held
+pub mod Keyed
+pub mod Sketches

@@ -1,0 +1,21 @@
+//! Queries in kept form: their disjuncts, the rows that are held for them, and the limits.
+#![tactic(auto)]
+
+mod disjuncts;
+mod equal_rows;
+mod kept;
+mod laws;
+mod limits;
+mod looking;
+mod outlines;
+mod rows;
+mod signs;
+mod sketches;
+mod spans;
+
+pub use disjuncts::{Disjunct, JoinedAtom, disjuncts_of};
+pub use kept::is_kept;
+pub use laws::kept_queries_are_choices;
+pub use limits::{is_read, scaled_reach, tested_period, with_bounds, with_periods};
+pub use outlines::Outline;
+pub use rows::{HeldRelation, HeldRows, Sketch, Source};
