@@ -1,0 +1,79 @@
+-- What calls take that may fail: a value, a slot, the last level.
+use Rattle.std.proofs.Common.{◌≡◌, ◌<◌, ◌≤◌, ◌+◌, ◌-◌, ℕ, List, [], ◌∷◌, length, Option, inl, Result, Ok, Err, Some, None, refl, sym, ap, subst, ◌∙◌, arith}
+use Rattle.std.specs.Prelude.{ℤ, IsSome, MatchOption, OnOk, slice_get}
+use Rattle.std.specs.Option.{option_map}
+use Rattle.lrp_holdings.specs.Holdings.{Held, HoldingsView, Holds, held_at}
+use Rattle.lrp_store.specs.Stores.{IsStore, StoreView}
+use Rattle.lrp_parts.specs.Derivations.{HoldsIn, Levels}
+use Rattle.lrp_keep.specs.Taken.{AreAlike, HasTaken, HasTakenSome, HasTakenValue, IsAlike}
+use Rattle.lrp_keep.proofs.Lists.{none_some, some_same}
+use Rattle.lrp_keep.proofs.Taken.{HoldsBelow, all_below, last_level, nothing_taken, one_below, one_taken, skip_below}
+
+-- ---- a value
+
+pub taken_of : {X Y : Type 0} (o : Result X Y) (value : Option StoreView) (from old new : StoreView) → value ≡ Some from → OnOk o (HasTaken from old new) → OnOk o (HasTakenValue value old new)
+taken_of (Ok x) value from old new e h = subst (λ v. HasTakenValue v old new) (sym e) (one_taken from old new h)
+taken_of (Err x) value from old new e h = tt
+
+pub nothing_of : (value : Option StoreView) (old : StoreView) → value ≡ None → IsStore old → HasTakenValue value old old
+nothing_of value old e is = subst (λ v. HasTakenValue v old old) (sym e) (nothing_taken old is)
+
+-- ---- a slot
+
+-- where the slot has a value, it is held there for some keys
+held_there : (o : Option (Held (Option StoreView))) (value : Option StoreView) → Some value ≡ option_map (λ h. h.value) o → (x : Held (Option StoreView)) × (o ≡ Some x) × (x.value ≡ value)
+held_there None value e = absurd (none_some value (sym e))
+held_there (Some x) value e = (x, refl, some_same x.value value (sym e))
+
+pub alike_slot : (h : HoldingsView (Option StoreView)) (slot : ℕ) (value : Option StoreView) (out : StoreView) → Some value ≡ option_map (λ x. x.value) (held_at h slot) → AreAlike (h ∷ []) out → IsAlike value out
+alike_slot h slot value out e alike =
+    let x = held_there (held_at h slot) value e in
+    subst (λ v. IsAlike v out) x.2 (alike x.0.owners x.0.value (h, refl, (slot, x.1)))
+
+pub taken_slot : {X Y : Type 0} (o : Result X Y) (h : HoldingsView (Option StoreView)) (slot : ℕ) (value : Option StoreView) (old new : StoreView) → Some value ≡ option_map (λ x. x.value) (held_at h slot) → OnOk o (HasTakenValue value old new) → OnOk o (MatchOption (held_at h slot) (new ≡ old) (λ held. HasTakenValue held.value old new))
+taken_slot (Ok y) h slot value old new e t =
+    let x = held_there (held_at h slot) value e in
+    subst (λ o. MatchOption o (new ≡ old) (λ held. HasTakenValue held.value old new)) (sym x.1) (subst (λ v. HasTakenValue v old new) (sym x.2) t)
+taken_slot (Err y) h slot value old new e t = tt
+
+pub no_slot : (h : HoldingsView (Option StoreView)) (slot : ℕ) (old : StoreView) → None ≡ option_map (λ x. x.value) (held_at h slot) → MatchOption (held_at h slot) (old ≡ old) (λ held. HasTakenValue held.value old old)
+no_slot h slot old e = by (held_at h slot) e
+  where
+    by : (o : Option (Held (Option StoreView))) → None ≡ option_map (λ x. x.value) o → MatchOption o (old ≡ old) (λ held. HasTakenValue held.value old old)
+    by None e = refl
+    by (Some x) e = absurd (none_some x.value e)
+
+-- ---- slot after slot
+
+pub alike_still : (h : HoldingsView (Option StoreView)) (old now : StoreView) → now.shape ≡ old.shape → now.period ≡ old.period → AreAlike (h ∷ []) old → AreAlike (h ∷ []) now
+alike_still h old now shape period alike keys value held = record { shape = λ s e. shape ∙ (alike keys value held).shape s e; period = λ s e. period ∙ (alike keys value held).period s e }
+
+pub one_slot : (h : HoldingsView (Option StoreView)) (slot : ℕ) (old now new : StoreView) → HasTakenSome (HoldsBelow h slot) old now → MatchOption (held_at h slot) (new ≡ now) (λ held. HasTakenValue held.value now new) → HasTakenSome (HoldsBelow h (slot + 1)) old new
+one_slot h slot old now new t m = by (held_at h slot) refl m
+  where
+    by : (o : Option (Held (Option StoreView))) → held_at h slot ≡ o → MatchOption o (new ≡ now) (λ held. HasTakenValue held.value now new) → HasTakenSome (HoldsBelow h (slot + 1)) old new
+    by None e same = subst (λ s. HasTakenSome (HoldsBelow h (slot + 1)) old s) (sym same) (skip_below h slot old now e t)
+    by (Some x) e taken = one_below h slot old now new x e t taken
+
+pub slots_done : (h : HoldingsView (Option StoreView)) (count slots : ℕ) (old new : StoreView) → slots ≤ count → ((slot : ℕ) → IsSome (held_at h slot) → slot < slots) → HasTakenSome (HoldsBelow h count) old new → HasTakenSome (HoldsIn (h ∷ []) 0) old new
+slots_done h count slots old new le low t = all_below h count old new (λ slot is. let l : slot < slots = low slot is in omega (arith, l, le)) t
+
+-- ---- the last level
+
+pub last_alike : (levels : Levels) (h : HoldingsView (Option StoreView)) (out : StoreView) → Some h ≡ slice_get levels (length levels - 1) → AreAlike levels out → AreAlike (h ∷ []) out
+last_alike levels h out at alike keys value held = alike keys value (held.0, sym at ∙ held.1, held.2)
+
+pub last_taken : {X Y : Type 0} (o : Result X Y) (levels : Levels) (h : HoldingsView (Option StoreView)) (old new : StoreView) → Some h ≡ slice_get levels (length levels - 1) → OnOk o (HasTakenSome (HoldsIn (h ∷ []) 0) old new) → OnOk o (HasTakenSome (HoldsIn levels (length levels - 1)) old new)
+last_taken (Ok x) levels h old new at t = last_level levels h old new (sym at) t
+last_taken (Err x) levels h old new at t = tt
+
+pub no_level : (levels : Levels) (old : StoreView) → None ≡ slice_get levels (length levels - 1) → IsStore old → HasTakenSome (HoldsIn levels (length levels - 1)) old old
+no_level levels old none is = record {
+  valid = is;
+  shape = refl;
+  period = refl;
+  to = λ xs ns i. inl i;
+  kept = λ xs ns i. i;
+  from = λ xs ns i. absurd (none_some i.is.0 (none ∙ i.is.1));
+  within = λ high reach was. was;
+}
