@@ -27,7 +27,8 @@ use Rattle.lrp_top.specs.Sources.{Source}
 use Rattle.lrp_top.specs.Steps.{Then, Behind}
 use Rattle.lrp_top.specs.Written.{IsFaultyAs, IsSortedAs, plain_if}
 use Rattle.lrp_top.specs.declared.outcome.Refusal.{Refusal}
-use Rattle.lrp_top.specs.declared.outcome.Refusal.TheVariants.{ReadDatabase, LongDatabase, Database, ReadQuery, LongQuery, Query, PeriodLimit, BoundLimit, TokenForm, TokenShape, TokenStale, Cells, CanonHead, CanonRows, Memory}
+use Rattle.lrp_top.specs.declared.outcome.Refusal.TheVariants.{ReadDatabase, LongDatabase, Database, ReadQuery, LongQuery, Query, PeriodLimit, BoundLimit, TokenForm, TokenShape, TokenStale, Cells, CanonHead, CanonRows, Watch, Memory}
+use Rattle.lrp_top.specs.declared.watch_refusal.WatchRefusal.TheVariants as watch
 use Rattle.lrp_run_laws.proofs.Canonical.{OneRowCount}
 use Rattle.lrp_run_laws.proofs.Complete.{DatabaseTexts, QueryTexts, OneToken, no_longer, not_formless, not_other, not_stale}
 
@@ -37,6 +38,7 @@ use Rattle.lrp_run_laws.proofs.Complete.{DatabaseTexts, QueryTexts, OneToken, no
 abbrev pub Lasts : Refusal → Type 0
 Lasts ReadDatabase = ⊥
 Lasts ReadQuery = ⊥
+Lasts (Watch watch.Read) = ⊥
 Lasts Memory = ⊥
 Lasts _ = Unit {0}
 

@@ -23,7 +23,8 @@ use Rattle.lrp_model.specs.declared.relations.Relation.{Relation}
 use Rattle.lrp_model.specs.declared.relations.Sort.{Sort}
 use Rattle.lrp_model.specs.declared.relations.Sort.TheVariants.{Time, Data, Named}
 use Rattle.lrp_eval.specs.Counts.{HasAnswerCount, HasCells}
-use Rattle.lrp_top.specs.Sampled.{IsFirst, TellsSample, sample_lines}
+use Rattle.lrp_watch.specs.First.{IsFirst}
+use Rattle.lrp_top.specs.Sampled.{TellsSample, sample_lines}
 use Rattle.lrp_sample.specs.Texts.{sample_database, sample_query}
 use Rattle.lrp_top.specs.Written.{IsSorted}
 use Rattle.lrp_top.specs.Telling.{TellsPage, TellsWitness, listed_bytes}
@@ -86,7 +87,7 @@ module _ (one_rank : OneRank) (whole : WholeTuples) (db : List Relation) (q : Qu
   one_witness bytes other (inr some) (inl none) = absurd (none.none some.tuple some.least.is)
   one_witness bytes other (inr some) (inr more) = some.spelled ∙ ap (λ t. codes "Nonempty\n" ++ plain_line t) (one_least some.tuple more.tuple some.least more.least) ∙ sym more.spelled
 
-  one_start : (t u : Option Tuple) → IsFirst db q t → IsFirst db q u → t ≡ u
+  pub one_start : (t u : Option Tuple) → IsFirst db q t → IsFirst db q u → t ≡ u
   one_start None None a b = refl
   one_start None (Some u) a b = absurd (a u b.is)
   one_start (Some t) None a b = absurd (b t a.is)

@@ -16,7 +16,7 @@ use Rattle.lrp_model.specs.declared.plans.Plan.{Plan}
 use Rattle.lrp_model.specs.declared.relations.Relation.{Relation}
 use Rattle.lrp_token.specs.Reading.{IsNoToken, HasOtherCounts}
 use Rattle.lrp_top.specs.Due.{IsDatabaseReadOf, IsQueryRead, IsQueryReadOf, IsHeadFit, IsPlanned, IsPlannedAs, IsCounted, AreRowsCounted, IsOutput, IsExplained, IsAnswered, IsDecided, IsListed, IsPlannedFor}
-use Rattle.lrp_run_laws.specs.Contents.{Contents, digest_of, SaysRelations, SaysQuestion}
+use Rattle.lrp_run_laws.specs.Contents.{Contents, digest_of, SaysRelations, SaysQuestion, two_files}
 use Rattle.lrp_run_laws.specs.Tasks.{HasFewCells}
 use Rattle.lrp_top.specs.Canonical.{HasCanonicalRows, IsCanonicalText}
 use Rattle.lrp_top.specs.Outcomes.{Outcome}
@@ -130,6 +130,7 @@ GoesOn a Tells Due = (files : Contents) (db : List Relation) (q : Question) (p :
 -- a case over the bytes of both files
 pub record Reached (seen : ShelfSeen) (a : Asked) (Tells : Telling) (outcome : Outcome) : Type 0 where
   pub files : Contents
+  pub none : files.edits ≡ []
   pub database : AreBytesOf seen a.database files.database
   pub query : AreBytesOf seen a.query files.query
   pub case : Case seen a files Tells outcome
@@ -191,10 +192,10 @@ module _ (seen : ShelfSeen) (a : Asked) (Tells : Telling) (Due : Next) (goes_on 
   AfterDatabase d = Then (IsQueryRead a.tense d.says seen a.query) (AfterQuery d)
 
   -- the bytes of the query that nobody read
-  unread : (outcome : Outcome) (database : List ℕ) → AreBytesOf seen a.database database → ((query : List ℕ) → Case seen a (record { database = database; query = query }) Tells outcome) → Reached seen a Tells outcome
+  unread : (outcome : Outcome) (database : List ℕ) → AreBytesOf seen a.database database → ((query : List ℕ) → Case seen a (two_files database query) Tells outcome) → Reached seen a Tells outcome
   unread outcome database told case =
       let some = some_bytes seen.files a.query in
-      record { files = record { database = database; query = some.0 }; database = told; query = some.1; case = case some.0 }
+      record { files = two_files database some.0; none = refl; database = told; query = some.1; case = case some.0 }
 
   -- the database is read
   read_as : (outcome : Outcome) (bytes : List ℕ) → AreBytesOf seen a.database bytes
@@ -203,10 +204,11 @@ module _ (seen : ShelfSeen) (a : Asked) (Tells : Telling) (Due : Next) (goes_on 
       let same : d ≡ record { bytes = bytes; says = d.says } = ap (λ b. source b d.says) is.0 in
       let then : AfterDatabase (record { bytes = bytes; says = d.says }) outcome = subst (λ s. AfterDatabase s outcome) same next in
       record {
-        files = record { database = bytes; query = then.is.bytes };
+        files = two_files bytes then.is.bytes;
+        none = refl;
         database = told;
         query = then.is.told;
-        case = queried_as (record { database = bytes; query = then.is.bytes }) d.says (record { short = is.1; is = is.2 }) outcome then.first then.is.is then.next;
+        case = queried_as (two_files bytes then.is.bytes) d.says (record { short = is.1; is = is.2 }) outcome then.first then.is.is then.next;
       }
     where
       source : List ℕ → List Relation → Source (List Relation)

@@ -3,7 +3,7 @@ use Rattle.std.proofs.Common.{◌≡◌, ◌≢◌, ◌⊎◌, inl, inr, ℕ, Bo
 use Rattle.lrp_io.specs.Bytes.{appended}
 use Rattle.lrp_io.specs.declared.shelf.File.{File}
 use Rattle.lrp_words.specs.Commands.{Task}
-use Rattle.lrp_words.specs.Commands.Task.{ask, decide, list, explain, check, sample}
+use Rattle.lrp_words.specs.Commands.Task.{ask, decide, list, explain, check, watch, sample}
 use Rattle.lrp_model.specs.AnswerTexts.{IsAnswerText}
 use Rattle.lrp_model.specs.Formulas.{Question}
 use Rattle.lrp_model.specs.Pages.{Tuple}
@@ -12,10 +12,10 @@ use Rattle.lrp_model.specs.Texts.{Identifier}
 use Rattle.lrp_model.specs.declared.plans.Plan.{Plan}
 use Rattle.lrp_model.specs.declared.relations.Relation.{Relation}
 use Rattle.lrp_top.specs.Due.{IsDueOf, IsDueFor, IsDatabaseReadOf, IsOutput, IsAnswered, IsDecided, IsExplained, IsListed}
-use Rattle.lrp_run_laws.specs.Contents.{Contents, contents_at, AreContentsFor, digest_of, OverDatabase, OverQuery, Asking, SaysRelations}
+use Rattle.lrp_run_laws.specs.Contents.{Contents, contents_at, digest_of, OverDatabase, OverQuery, Asking, SaysRelations, two_files}
 use Rattle.lrp_run_laws.specs.Tasks.{IsOutputOf, TellsPlanOf, TellsPageBehind}
 use Rattle.lrp_run_laws.specs.Runs.{Run, WroteAll}
-use Rattle.lrp_run_laws.specs.Reasons.{IsRefusedBehind, HasMany, HasManyRows, IsNoDatabase, IsNoQuery, IsNoTokenOf, IsAbove, OfDatabase, IsQueryRefused, IsQueryAbove, HasFailedFile, HasFailedOneOf, IsReason, HasReasonFor, HasTaskReason, IsUsage}
+use Rattle.lrp_run_laws.specs.Reasons.{IsRefusedBehind, HasMany, HasManyRows, IsNoDatabase, IsNoQuery, IsNoTokenOf, IsAbove, IsDatabaseRefused, IsQueryRefused, IsQueryAbove, HasFailedFile, HasFailedOneOf, IsReason, HasReasonFor, HasTaskReason, IsUsage}
 use Rattle.lrp_top.specs.Canonical.{IsCanonicalText}
 use Rattle.lrp_top.specs.Outcomes.{Outcome, Ends, refused_with, status_of, written_of, line_of}
 use Rattle.lrp_top.specs.Resuming.{IsResumed}
@@ -28,6 +28,8 @@ use Rattle.lrp_top.specs.declared.outcome.Refusal.{Refusal}
 use Rattle.lrp_top.specs.declared.outcome.Refusal.TheVariants.{Usage, ReadDatabase, LongDatabase, Database, ReadQuery, LongQuery, Query, PeriodLimit, BoundLimit, TokenForm, TokenShape, TokenStale, Cells, CanonHead, CanonRows, Memory}
 use Rattle.lrp_top.specs.declared.status.Status.{Status}
 use Rattle.lrp_top.specs.declared.status.Status.TheVariants as status
+use Rattle.lrp_run_laws.proofs.Explained.{Explained, OutcomeFor, is_memory}
+use Rattle.lrp_run_laws.proofs.WatchCauses.{watch_explained}
 use Rattle.lrp_run_laws.proofs.Cases.{Asked, Telling, output, form, other, stale, many, rows, want, Case, unread_database, long_database, no_database, unread_query, long_query, no_query, no_head, above_period, above_bound, planned, wanted, reached, answer_goes_on, canonical_goes_on, decide_goes_on, explain_goes_on, list_goes_on}
 
 -- ---- a task that asks a query
@@ -89,45 +91,16 @@ module _ (seen : ShelfSeen) (a : Asked) (files : Contents) (Tells : Telling) (Sh
 
 -- ---- a task
 
--- no other refusal has the status of want of memory
-is_memory : (r : Refusal) → refused_with r ≡ status.Memory → r ≡ Memory
-is_memory Memory e = refl
-is_memory Usage e = cc
-is_memory ReadDatabase e = cc
-is_memory LongDatabase e = cc
-is_memory (Database fault) e = cc
-is_memory ReadQuery e = cc
-is_memory LongQuery e = cc
-is_memory (Query fault) e = cc
-is_memory PeriodLimit e = cc
-is_memory BoundLimit e = cc
-is_memory TokenForm e = cc
-is_memory TokenShape e = cc
-is_memory TokenStale e = cc
-is_memory (Cells most step) e = cc
-is_memory CanonHead e = cc
-is_memory (CanonRows most) e = cc
-
--- what holds of a task's outcome over the bytes of its files: it is the output, or there is a cause
-abbrev OutcomeFor : Task → ShelfSeen → Contents → Outcome → Type 0
-OutcomeFor task seen files (Ok bytes) = IsOutputOf task files bytes
-OutcomeFor task seen files (Err refusal) = (taken : SinkSeen) → WroteAll taken (line_of refusal) → IsReason (refused_with refusal) task files seen taken
-
-pub record Explained (task : Task) (seen : ShelfSeen) (outcome : Outcome) : Type 0 where
-  pub files : Contents
-  pub told : AreContentsFor seen task files
-  pub is : OutcomeFor task seen files outcome
-
 -- the bytes of two files
-both_files : (seen : ShelfSeen) (files : Contents) (database query : Identifier) → AreBytesOf seen database files.database → AreBytesOf seen query files.query
+both_files : (seen : ShelfSeen) (files : Contents) (database query : Identifier) → files.edits ≡ [] → AreBytesOf seen database files.database → AreBytesOf seen query files.query
     → (held : List File) → seen.files ≡ Some held → files ≡ contents_at held database query
-both_files seen files database query d q held e = ap₂ contents (d held e) (q held e)
+both_files seen files database query none d q held e = ap (with_edits files) none ∙ ap₂ two_files (d held e) (q held e)
   where
-    contents : List ℕ → List ℕ → Contents
-    contents d q = record { database = d; query = q }
+    with_edits : Contents → List ℕ → Contents
+    with_edits files edits = record { database = files.database; query = files.query; edits = edits }
 
 -- the causes of a task that asks a query
-module _ (a : Asked) (files : Contents) (seen : ShelfSeen) (task : Task) (no_database_for : IsNoDatabase files a.civil → OfDatabase (IsNoDatabase files) task) (refused : RefusedFor a files → IsQueryRefused files task) (above : AboveFor a files → IsQueryAbove files task) (failed : HasFailedOneOf seen files a.civil a.database a.query → HasFailedFile seen files task) where
+module _ (a : Asked) (files : Contents) (seen : ShelfSeen) (task : Task) (no_database_for : IsNoDatabase files a.civil → IsDatabaseRefused files task) (refused : RefusedFor a files → IsQueryRefused files task) (above : AboveFor a files → IsQueryAbove files task) (failed : HasFailedOneOf seen files a.civil a.database a.query → HasFailedFile seen files task) where
   cause_for : (s : Status) → RefusalFor a files seen s → (taken : SinkSeen) → (s ≡ status.Memory → WroteAll taken (line_of Memory)) → IsReason s task files seen taken
   cause_for status.Database h taken line = no_database_for h
   cause_for status.Query h taken line = refused h
@@ -149,12 +122,12 @@ check_written civil files db says database seen (Err Memory) told = λ taken lin
 check_written civil files db says database seen (Err _) told = absurd told
 
 check_read : (civil : Bool) (database : Identifier) (seen : ShelfSeen) (outcome : Outcome) (bytes : List ℕ) (d : Result (Source (List Relation)) Refusal) → IsDatabaseReadOf civil seen database bytes d → Behind d (λ d. IsOutput (TellsRelations d.says)) outcome
-    → OutcomeFor (check database civil) seen (record { database = bytes; query = [] }) outcome
-check_read civil database seen outcome bytes (Ok d) is next = check_written civil (record { database = bytes; query = [] }) d.says (record { short = is.1; is = is.2 }) database seen outcome next
-check_read civil database seen outcome bytes (Err ReadDatabase) is next = subst (OutcomeFor (check database civil) seen (record { database = bytes; query = [] })) (sym next) (λ taken line. is)
-check_read civil database seen outcome bytes (Err LongDatabase) is next = subst (OutcomeFor (check database civil) seen (record { database = bytes; query = [] })) (sym next) (λ taken line. inl is.0)
-check_read civil database seen outcome bytes (Err (Database fault)) is next = subst (OutcomeFor (check database civil) seen (record { database = bytes; query = [] })) (sym next) (λ taken line. inr (fault, is.1))
-check_read civil database seen outcome bytes (Err Memory) is next = subst (OutcomeFor (check database civil) seen (record { database = bytes; query = [] })) (sym next) (λ taken line. line)
+    → OutcomeFor (check database civil) seen (two_files bytes []) outcome
+check_read civil database seen outcome bytes (Ok d) is next = check_written civil (two_files bytes []) d.says (record { short = is.1; is = is.2 }) database seen outcome next
+check_read civil database seen outcome bytes (Err ReadDatabase) is next = subst (OutcomeFor (check database civil) seen (two_files bytes [])) (sym next) (λ taken line. is)
+check_read civil database seen outcome bytes (Err LongDatabase) is next = subst (OutcomeFor (check database civil) seen (two_files bytes [])) (sym next) (λ taken line. inl is.0)
+check_read civil database seen outcome bytes (Err (Database fault)) is next = subst (OutcomeFor (check database civil) seen (two_files bytes [])) (sym next) (λ taken line. inr (fault, is.1))
+check_read civil database seen outcome bytes (Err Memory) is next = subst (OutcomeFor (check database civil) seen (two_files bytes [])) (sym next) (λ taken line. line)
 check_read civil database seen outcome bytes (Err _) is next = absurd is
 
 -- `sample`
@@ -170,7 +143,7 @@ explained (ask database query cap tense false civil) seen outcome due =
     let r = reached seen a (λ digest p tuple. IsAnswerText) (IsAnswered false cap) (answer_goes_on a cap refl refl) outcome due in
     record {
       files = r.files;
-      told = both_files seen r.files database query r.database r.query;
+      told = both_files seen r.files database query r.none r.database r.query;
       is = outcome_for a r.files seen (ask database query cap tense false civil) (λ h. h) (λ h. h) (λ h. h) (λ h. h) (λ digest bytes db q. IsAnswerText db q bytes) (λ bytes h. h) outcome
           (cause_of seen a r.files (λ digest p tuple. IsAnswerText) (λ digest bytes db q. IsAnswerText db q bytes) (λ digest p tuple db q bytes plan resumed told. told) outcome r.case);
     }
@@ -179,7 +152,7 @@ explained (ask database query cap tense true civil) seen outcome due =
     let r = reached seen a (λ digest p tuple. IsCanonicalText) (IsAnswered true cap) (canonical_goes_on a cap refl refl refl) outcome due in
     record {
       files = r.files;
-      told = both_files seen r.files database query r.database r.query;
+      told = both_files seen r.files database query r.none r.database r.query;
       is = outcome_for a r.files seen (ask database query cap tense true civil) (λ h. h) (λ h. h) (λ h. h) (λ h. h) (λ digest bytes db q. IsCanonicalText db q bytes) (λ bytes h. h) outcome
           (cause_of seen a r.files (λ digest p tuple. IsCanonicalText) (λ digest bytes db q. IsCanonicalText db q bytes) (λ digest p tuple db q bytes plan resumed told. told) outcome r.case);
     }
@@ -188,7 +161,7 @@ explained (decide database query cap tense civil) seen outcome due =
     let r = reached seen a (λ digest p tuple. TellsWitness) (IsDecided cap) (decide_goes_on a cap refl refl) outcome due in
     record {
       files = r.files;
-      told = both_files seen r.files database query r.database r.query;
+      told = both_files seen r.files database query r.none r.database r.query;
       is = outcome_for a r.files seen (decide database query cap tense civil) (λ h. h) (λ h. h) (λ h. h) (λ h. h) (λ digest bytes db q. TellsWitness db q bytes) (λ bytes h. h) outcome
           (cause_of seen a r.files (λ digest p tuple. TellsWitness) (λ digest bytes db q. TellsWitness db q bytes) (λ digest p tuple db q bytes plan resumed told. told) outcome r.case);
     }
@@ -197,7 +170,7 @@ explained (list database query from to limit after json cap tense civil) seen ou
     let r = reached seen a (λ digest p tuple db q. TellsPage db q from to tuple limit civil json digest) (IsListed civil from to limit after json cap) (list_goes_on a cap from to limit civil json refl) outcome due in
     record {
       files = r.files;
-      told = both_files seen r.files database query r.database r.query;
+      told = both_files seen r.files database query r.none r.database r.query;
       is = outcome_for a r.files seen (list database query from to limit after json cap tense civil) (λ h. h) (λ h. h) (λ h. h) (λ h. h) (λ digest. TellsPageBehind from to limit after civil json digest) (λ bytes h. h) outcome
           (cause_of seen a r.files (λ digest p tuple db q. TellsPage db q from to tuple limit civil json digest) (λ digest. TellsPageBehind from to limit after civil json digest) (λ digest p tuple db q bytes plan resumed told. record { tuple = tuple; resumed = resumed; page = told }) outcome r.case);
     }
@@ -206,22 +179,20 @@ explained (explain database query tense civil) seen outcome due =
     let r = reached seen a (λ digest p tuple db q. TellsPlan p) IsExplained (explain_goes_on a refl refl) outcome due in
     record {
       files = r.files;
-      told = both_files seen r.files database query r.database r.query;
+      told = both_files seen r.files database query r.none r.database r.query;
       is = outcome_for a r.files seen (explain database query tense civil) (λ h. h) (λ h. h) (λ h. h) (λ h. h) (λ digest. TellsPlanOf) (λ bytes h. h) outcome
           (cause_of seen a r.files (λ digest p tuple db q. TellsPlan p) (λ digest. TellsPlanOf) (λ digest p tuple db q bytes plan resumed told. record { plan = p; is = plan; told = told }) outcome r.case);
     }
 explained (check database civil) seen outcome due = record {
-  files = record { database = due.is.bytes; query = [] };
-  told = λ held e. ap (λ (bytes : List ℕ). contents bytes) (due.is.told held e);
+  files = two_files due.is.bytes [];
+  told = λ held e. ap (λ (bytes : List ℕ). two_files bytes []) (due.is.told held e);
   is = check_read civil database seen outcome due.is.bytes due.first due.is.is due.next;
 }
-  where
-    contents : List ℕ → Contents
-    contents bytes = record { database = bytes; query = [] }
+explained (watch database query edits cap) seen outcome due = watch_explained database query edits cap seen outcome due
 explained (sample seed size) seen outcome due = record {
-  files = record { database = []; query = [] };
+  files = two_files [] [];
   told = λ held e. refl;
-  is = sample_written seed size seen (record { database = []; query = [] }) outcome due;
+  is = sample_written seed size seen (two_files [] []) outcome due;
 }
 
 -- ---- a run

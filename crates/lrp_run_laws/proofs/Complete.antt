@@ -3,7 +3,7 @@ use Rattle.std.proofs.Common.{◌≡◌, ◌⊎◌, inl, inr, ◌<◌, ◌≤◌
 use Rattle.lrp_io.specs.Causes.{Rose}
 use Rattle.lrp_io.specs.declared.shelf.File.{File}
 use Rattle.lrp_words.specs.Commands.{Task}
-use Rattle.lrp_words.specs.Commands.Task.{ask, decide, list, explain, check, sample}
+use Rattle.lrp_words.specs.Commands.Task.{ask, decide, list, explain, check, watch, sample}
 use Rattle.lrp_model.specs.Checked.{plain_question}
 use Rattle.lrp_model.specs.DatabaseReading.{IsDatabase, IsDatabaseFault}
 use Rattle.lrp_model.specs.Formulas.{Question}
@@ -22,11 +22,14 @@ use Rattle.lrp_model.specs.declared.relations.Relation.{Relation}
 use Rattle.lrp_tense.specs.Expanding.{expanded_question}
 use Rattle.lrp_tense.specs.TenseReading.{IsTenseQuery, IsTenseQueryFault}
 use Rattle.lrp_tense.specs.Trees.{TenseQuestion}
+use Rattle.lrp_edits.specs.EditReading.{IsEditsFault, SaysEdits}
+use Rattle.lrp_edits.specs.declared.edits.Edit.{Edit}
+use Rattle.lrp_kept.specs.KeptForm.{is_kept}
 use Rattle.lrp_token.specs.Reading.{IsNoToken, HasOtherCounts}
-use Rattle.lrp_run_laws.specs.Contents.{Contents, digest_of, OverDatabase, OverQuery, Asking, SaysRelations, contents_of}
-use Rattle.lrp_run_laws.specs.Tasks.{IsAnswerable, IsLawfulTask, IsResumable, HasFewCells}
+use Rattle.lrp_run_laws.specs.Contents.{Contents, digest_of, Keeping, OverDatabase, OverEdits, OverQuery, Asking, SaysRelations, Watching, WhereKept, contents_of}
+use Rattle.lrp_run_laws.specs.Tasks.{IsAnswerable, IsLawfulTask, IsResumable, HasFewCells, PassesLimit}
 use Rattle.lrp_run_laws.specs.Runs.{IsRunOf, IsComplete, EndsComplete, Run, task_asked, HaveStoodStill}
-use Rattle.lrp_run_laws.specs.Reasons.{HasManyRows, HasOtherHead, IsRefusedBehind, IsReason, HasReasonFor, HasTaskReason, IsNoDatabase, IsNoQuery, IsNoTokenOf, HasMany, IsAbove, OfDatabase, IsQueryRefused, IsQueryAbove, HasFailedFile, HasFailedOneOf}
+use Rattle.lrp_run_laws.specs.Reasons.{HasManyRows, HasOtherHead, IsRefusedBehind, IsReason, HasReasonFor, HasTaskReason, AreNoEdits, IsNoDatabase, IsNoQuery, IsNoTokenOf, HasMany, IsAbove, IsDatabaseRefused, IsQueryRefused, IsQueryAbove, HasFailedFile, HasFailedOneOf}
 use Rattle.lrp_top.specs.Resuming.{IsResumed, IsFresh, IsTokenOf, IsStale, shape_of}
 use Rattle.lrp_top.specs.Seen.{ShelfSeen, SinkSeen, HasFailed}
 use Rattle.lrp_top.specs.Written.{IsSortedAs, IsFaultyAs, plain_if}
@@ -47,6 +50,11 @@ pub record DatabaseTexts : Type 0 where
 pub record QueryTexts (tense : Bool) : Type 0 where
   pub one : (db : List Relation) (bytes : List ℕ) (q other : Question) → IsSortedAs tense db bytes q → IsSortedAs tense db bytes other → q ≡ other
   pub faultless : (db : List Relation) (bytes : List ℕ) (q : Question) (fault : QueryFault) → IsSortedAs tense db bytes q → IsFaultyAs tense db bytes fault → ⊥
+
+-- a text is of one list of edits of a database at most, and then has no fault
+pub record EditTexts : Type 0 where
+  pub one : (bytes : List ℕ) (db : List Relation) (edits other : List Edit) → SaysEdits bytes db edits → SaysEdits bytes db other → edits ≡ other
+  pub faultless : (bytes : List ℕ) (db : List Relation) (edits : List Edit) (fault : DbFault) → SaysEdits bytes db edits → IsEditsFault bytes db fault → ⊥
 
 -- a text is of one token at most
 abbrev pub OneToken : Type 0
@@ -185,9 +193,60 @@ module _ (texts : DatabaseTexts) (canon tense civil : Bool) (queries : QueryText
   pub limits_stand : OverDatabase civil files (OverQuery tense files (IsAbove canon cap)) → ⊥
   limits_stand h = above_here (subst (OverQuery tense files (IsAbove canon cap)) (same_database h.db h.says) h.holds)
 
+-- ---- a watch
+
+module _ (texts : DatabaseTexts) (queries : QueryTexts false) (edits : EditTexts) (files : Contents) (cap : ℕ) (free : Watching files (λ db q these. PassesLimit cap db q these → ⊥)) where
+  abbrev q : Question
+  q = free.holds.q
+
+  -- what holds of what the files say holds of this database and this query
+  here : (Holds : List Relation → Question → Type 0) → OverDatabase false files (OverQuery false files Holds) → Holds free.db q
+  here Holds h =
+      let db : h.db ≡ free.db = texts.one (plain_if false files.database) h.db free.db h.says.is free.says.is in
+      let over : OverQuery false files Holds free.db = subst (OverQuery false files Holds) db h.holds in
+      subst (Holds free.db) (queries.one free.db files.query over.q q over.says.is free.holds.says.is) over.holds
+
+  no_edits : AreNoEdits files free.db q → ⊥
+  no_edits h = elim h [
+    | inl long ↦ no_longer (length files.edits) free.holds.holds.holds.says.short long
+    | inr fault ↦ edits.faultless files.edits free.db free.holds.holds.holds.edits fault.0 free.holds.holds.holds.says.is fault.1
+  ]
+
+  pub watch_database : IsNoDatabase files false ⊎ Keeping files (AreNoEdits files) → ⊥
+  watch_database h = elim h [
+    | inl none ↦ elim none [
+      | inl long ↦ no_longer (length files.database) free.says.short long
+      | inr fault ↦ texts.faultless (plain_if false files.database) free.db fault.0 free.says.is fault.1
+    ]
+    | inr over ↦ no_edits (here (WhereKept (AreNoEdits files)) over).holds
+  ]
+
+  not_both : is_kept q ≡ true → is_kept q ≡ false → ⊥
+  not_both kept other = cc
+
+  query_of : IsNoQuery files false free.db ⊎ OverQuery false files (λ db q. is_kept q ≡ false) free.db → ⊥
+  query_of h = elim h [
+    | inl none ↦ elim none [
+      | inl long ↦ no_longer (length files.query) free.holds.says.short long
+      | inr fault ↦ queries.faultless free.db files.query q fault.0 free.holds.says.is fault.1
+    ]
+    | inr over ↦ not_both free.holds.holds.kept (subst (λ r. is_kept r ≡ false) (queries.one free.db files.query over.q q over.says.is free.holds.says.is) over.holds)
+  ]
+
+  pub watch_query : OverDatabase false files (λ db. IsNoQuery files false db ⊎ OverQuery false files (λ db q. is_kept q ≡ false) db) → ⊥
+  watch_query h =
+      let db : h.db ≡ free.db = texts.one (plain_if false files.database) h.db free.db h.says.is free.says.is in
+      query_of (subst (λ db. IsNoQuery files false db ⊎ OverQuery false files (λ db q. is_kept q ≡ false) db) db h.holds)
+
+  pub watch_limits : Watching files (PassesLimit cap) → ⊥
+  watch_limits h =
+      let over : OverEdits files (PassesLimit cap) free.db q = (here (WhereKept (OverEdits files (PassesLimit cap))) h).holds in
+      let same : over.edits ≡ free.holds.holds.holds.edits = edits.one files.edits free.db over.edits free.holds.holds.holds.edits over.says.is free.holds.holds.holds.says.is in
+      free.holds.holds.holds.holds (subst (PassesLimit cap free.db q) same over.holds)
+
 -- ---- a run
 
-module _ (task : Task) (files : Contents) (seen : ShelfSeen) (taken : SinkSeen) (no_database_for : OfDatabase (IsNoDatabase files) task → ⊥) (no_query_for : IsQueryRefused files task → ⊥) (none_above : IsQueryAbove files task → ⊥) (no_failed : HasFailedFile seen files task → ⊥) (no_rise : Rose taken.faults_before taken.faults → ⊥) where
+module _ (task : Task) (files : Contents) (seen : ShelfSeen) (taken : SinkSeen) (no_database_for : IsDatabaseRefused files task → ⊥) (no_query_for : IsQueryRefused files task → ⊥) (none_above : IsQueryAbove files task → ⊥) (no_failed : HasFailedFile seen files task → ⊥) (no_rise : Rose taken.faults_before taken.faults → ⊥) where
   comes_so : (ended : Status) → IsReason ended task files seen taken → EndsComplete ended task files taken
   comes_so status.Done is = is
   comes_so status.Usage is = is
@@ -224,14 +283,14 @@ asking tense civil files Holds Keeps keep h = record {
   holds = record { q = h.holds.q; says = h.holds.says; holds = record { limits = h.holds.holds.limits; holds = keep h.db h.holds.q h.holds.holds.holds } };
 }
 
-module _ (texts : DatabaseTexts) (queries : (tense : Bool) → QueryTexts tense) (one : OneToken) (rows : OneRowCount) (files : Contents) (run : Run) where
+module _ (texts : DatabaseTexts) (queries : (tense : Bool) → QueryTexts tense) (edits : EditTexts) (one : OneToken) (rows : OneRowCount) (files : Contents) (run : Run) where
   -- neither file failed
   none_failed : {civil : Bool} {database query : Identifier} → (HasFailed run.seen database → ⊥) → (HasFailed run.seen query → ⊥) → HasFailedOneOf run.seen files civil database query → ⊥
   none_failed first second (inl failed) = first failed
   none_failed first second (inr over) = second over.holds
 
   asked_so : (task : Task) (canon tense civil : Bool) (cap : Option ℕ) (after : Option Text) → Asking tense civil files (IsFree canon cap after (digest_of files)) → HaveStoodStill task run
-      → (HasFailedFile run.seen files task → ⊥) → (OfDatabase (IsNoDatabase files) task → IsNoDatabase files civil) → (IsQueryRefused files task → OverDatabase civil files (λ db. IsNoQuery files tense db ⊎ OverQuery tense files (IsRefusedBehind canon (digest_of files) after) db))
+      → (HasFailedFile run.seen files task → ⊥) → (IsDatabaseRefused files task → IsNoDatabase files civil) → (IsQueryRefused files task → OverDatabase civil files (λ db. IsNoQuery files tense db ⊎ OverQuery tense files (IsRefusedBehind canon (digest_of files) after) db))
       → (IsQueryAbove files task → OverDatabase civil files (OverQuery tense files (IsAbove canon cap)))
       → (ended : Status) → IsReason ended task files run.seen run.taken → EndsComplete ended task files run.taken
   asked_so task canon tense civil cap after free still failed database query above =
@@ -262,11 +321,19 @@ module _ (texts : DatabaseTexts) (queries : (tense : Bool) → QueryTexts tense)
         | inr fault ↦ texts.faultless (plain_if civil files.database) lawful.db fault.0 lawful.says.is fault.1
       ]) (λ h. h) (λ h. h)
       (λ h. still.files.0 h) still.sink
+  complete (watch database query changes cap) lawful still =
+      comes_so (watch database query changes cap) files run.seen run.taken
+      (watch_database texts (queries false) edits files cap lawful) (watch_query texts (queries false) edits files cap lawful) (watch_limits texts (queries false) edits files cap lawful)
+      (λ failed. elim failed [
+        | inl first ↦ none_failed still.files.0 still.files.1.0 first
+        | inr over ↦ still.files.1.1.0 over.holds.holds.holds
+      ])
+      still.sink
   complete (sample seed size) lawful still =
       comes_so (sample seed size) files run.seen run.taken (λ h. h) (λ h. h) (λ h. h) (λ h. h) still.sink
 
 -- over a shelf that tells its files
-pub complete_run : DatabaseTexts → ((tense : Bool) → QueryTexts tense) → OneToken → OneRowCount → (task : Task) (held : List File) (run : Run) → IsRunOf task held run → IsLawfulTask task (contents_of held task) → HaveStoodStill task run → IsComplete task (contents_of held task) run
-complete_run texts queries one rows task held run is lawful still =
+pub complete_run : DatabaseTexts → ((tense : Bool) → QueryTexts tense) → EditTexts → OneToken → OneRowCount → (task : Task) (held : List File) (run : Run) → IsRunOf task held run → IsLawfulTask task (contents_of held task) → HaveStoodStill task run → IsComplete task (contents_of held task) run
+complete_run texts queries edits one rows task held run is lawful still =
     let cause : HasTaskReason task run = subst (λ t. HasReasonFor t run) is.spelled (run_cause (task_asked run) run is.may_happen.outcome is.may_happen.due is.may_happen.ends) in
-    complete texts queries one rows (contents_of held task) run task lawful still run.ended (subst (λ files. IsReason run.ended task files run.seen run.taken) (cause.told held is.told) cause.is)
+    complete texts queries edits one rows (contents_of held task) run task lawful still run.ended (subst (λ files. IsReason run.ended task files run.seen run.taken) (cause.told held is.told) cause.is)

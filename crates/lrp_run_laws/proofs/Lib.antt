@@ -1,9 +1,12 @@
 mod Cases
+mod Explained
+mod WatchCauses
 mod Causes
 mod Canonical
 mod Complete
 mod Agree
 mod Alike
+mod Watches
 mod One
 mod Digest
 mod Follow

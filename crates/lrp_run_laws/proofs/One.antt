@@ -3,7 +3,7 @@ use Rattle.std.proofs.Common.{◌≡◌, ◌≢◌, inl, inr, ◌≤◌, ◌∙�
 use Rattle.lrp_io.specs.Files.{content_of}
 use Rattle.lrp_io.specs.declared.shelf.File.{File}
 use Rattle.lrp_words.specs.Commands.{Task}
-use Rattle.lrp_words.specs.Commands.Task.{ask, decide, list, explain, check, sample}
+use Rattle.lrp_words.specs.Commands.Task.{ask, decide, list, explain, check, watch, sample}
 use Rattle.lrp_model.specs.AnswerTexts.{IsAnswerText}
 use Rattle.lrp_model.specs.Formulas.{Question}
 use Rattle.lrp_model.specs.Pages.{Tuple}
@@ -21,7 +21,7 @@ use Rattle.lrp_tense.specs.Expanding.{expanded_question}
 use Rattle.lrp_tense.specs.TenseReading.{IsTenseQuery, IsTenseQueryFault}
 use Rattle.lrp_tense.specs.Trees.{TenseQuestion}
 use Rattle.lrp_top.specs.Canonical.{IsCanonicalText}
-use Rattle.lrp_top.specs.Due.{IsDueOf, IsDueFor, IsDatabaseRead, IsQueryRead, IsPlanned, IsPlannedAs, IsCounted, AreRowsCounted, IsOutput, IsAnswered, IsDecided, IsExplained, IsListed, IsPlannedFor}
+use Rattle.lrp_top.specs.Due.{IsDueOf, IsDueFor, IsDatabaseRead, IsQueryRead, IsPlanned, IsPlannedAs, IsCounted, AreRowsCounted, IsOutput, IsAnswered, IsDecided, IsExplained, IsListed, IsPlannedFor, IsWatchedFor}
 use Rattle.lrp_run_laws.specs.Contents.{Contents, contents_at, contents_of, SaysRelations, SaysQuestion}
 use Rattle.lrp_run_laws.specs.Runs.{IsRunOf, Run, task_asked}
 use Rattle.lrp_run_laws.specs.Pairs.{AreOneOutput, AreOneText, EndedAlike, IsDecidedByFiles}
@@ -33,15 +33,18 @@ use Rattle.lrp_top.specs.Sources.{Source}
 use Rattle.lrp_top.specs.Steps.{Behind, Then}
 use Rattle.lrp_top.specs.Telling.{TellsPage, TellsPlan, TellsRelations, TellsWitness}
 use Rattle.lrp_model.specs.DatabaseReading.{IsDatabase}
+use Rattle.lrp_top.specs.Watched.{AreEditsRead, IsKeptForm, IsWatched}
 use Rattle.lrp_top.specs.Written.{IsSortedAs, plain_if}
 use Rattle.lrp_top.specs.declared.outcome.Refusal.{Refusal}
-use Rattle.lrp_top.specs.declared.outcome.Refusal.TheVariants.{Usage, ReadDatabase, LongDatabase, Database, ReadQuery, LongQuery, Query, PeriodLimit, BoundLimit, TokenForm, TokenShape, TokenStale, Cells, CanonHead, CanonRows, Memory}
+use Rattle.lrp_top.specs.declared.outcome.Refusal.TheVariants.{Usage, ReadDatabase, LongDatabase, Database, ReadQuery, LongQuery, Query, PeriodLimit, BoundLimit, TokenForm, TokenShape, TokenStale, Cells, CanonHead, CanonRows, Watch, Memory}
+use Rattle.lrp_top.specs.declared.watch_refusal.WatchRefusal.TheVariants as refusal
 use Rattle.lrp_top.specs.declared.status.Status.{Status}
 use Rattle.lrp_top.specs.declared.status.Status.TheVariants as status
 use Rattle.lrp_run_laws.proofs.Agree.{Lasting, Agree, then_agree, SameText, Counted, OneDatabaseFault, OneQueryFault, database_agree, query_agree, planned_agree, cells_agree, rows_agree, resumed_agree, output_agree}
 use Rattle.lrp_run_laws.proofs.Alike.{OneRank, WholeTuples, OnePage, OneCells, OneCount, one_witness, one_listing, one_sample}
 use Rattle.lrp_run_laws.proofs.Canonical.{OneAnswerText, OneRowCount, one_canonical, own_answers}
-use Rattle.lrp_run_laws.proofs.Complete.{DatabaseTexts, QueryTexts, OneToken}
+use Rattle.lrp_run_laws.proofs.Complete.{DatabaseTexts, EditTexts, QueryTexts, OneToken}
+use Rattle.lrp_run_laws.proofs.Watches.{OneEditsFault, edits_agree, kept_agree, watched_agree}
 
 -- what is known of texts, tokens, pages and counts
 pub record Known : Type 0 where
@@ -49,6 +52,8 @@ pub record Known : Type 0 where
   pub database_fault : OneDatabaseFault
   pub queries : (tense : Bool) → QueryTexts tense
   pub query_fault : (tense : Bool) → OneQueryFault tense
+  pub edits : EditTexts
+  pub edits_fault : OneEditsFault
   pub token : OneToken
   pub page : OnePage
   pub rank : OneRank
@@ -173,6 +178,42 @@ listed_agree known digest db q after cap Tells same =
     (resumed_agree known.token digest q.head after)
     (λ t u i j e o v n m. counted_agree db q cap (Tells t) (λ a b. a ≡ b) (same t) o v n (subst (λ x. Then (IsCounted db q cap) (λ done. IsOutput (Tells x)) v) (sym e) m))
 
+-- ---- a watch
+
+module _ (known : Known) (files : Contents) (seen further : ShelfSeen) (database query edits : Identifier) (cap : ℕ)
+    (first : ReadsOnly seen database files.database) (second : ReadsOnly further database files.database) (third : ReadsOnly seen query files.query) (fourth : ReadsOnly further query files.query)
+    (fifth : ReadsOnly seen edits files.edits) (sixth : ReadsOnly further edits files.edits) where
+  abbrev Same : List ℕ → List ℕ → Type 0
+  Same a b = a ≡ b
+
+  abbrev AfterForm : ShelfSeen → List Relation → Question → Outcome → Type 0
+  AfterForm of db q = Then (AreEditsRead db of edits) (IsWatched db q cap)
+
+  abbrev AfterQuery : ShelfSeen → List Relation → Source Question → Outcome → Type 0
+  AfterQuery of db q = Then (IsKeptForm q.says) (λ kept. AfterForm of db q.says)
+
+  form_agree : (db : List Relation) (q : Question) (o v : Outcome) → AfterForm seen db q o → AfterForm further db q v → Lasting o → Lasting v → Agree Same o v
+  form_agree db q = then_agree (AreEditsRead db seen edits) (AreEditsRead db further edits) (IsWatched db q cap) (IsWatched db q cap) (λ d e. d ≡ e) Same
+      (edits_agree known.edits known.edits_fault db files.edits seen further edits fifth sixth)
+      (λ d e i j same o v n m. watched_agree known.rank known.tuples db q d cap o v n (subst (λ es. IsWatched db q cap es v) (sym same) m))
+
+  query_done : (db : List Relation) (q : Source Question) (o v : Outcome) → AfterQuery seen db q o → AfterQuery further db q v → Lasting o → Lasting v → Agree Same o v
+  query_done db q = then_agree (IsKeptForm q.says) (IsKeptForm q.says) (λ kept. AfterForm seen db q.says) (λ kept. AfterForm further db q.says) Counted Same
+      (kept_agree q.says) (λ a b i j done. form_agree db q.says)
+
+  abbrev AfterRead : ShelfSeen → Source (List Relation) → Outcome → Type 0
+  AfterRead of d = Then (IsQueryRead false d.says of query) (AfterQuery of d.says)
+
+  read_done : (d : Source (List Relation)) (o v : Outcome) → AfterRead seen d o → AfterRead further d v → Lasting o → Lasting v → Agree Same o v
+  read_done d = then_agree (IsQueryRead false d.says seen query) (IsQueryRead false d.says further query) (AfterQuery seen d.says) (AfterQuery further d.says) (λ q e. q ≡ e) Same
+      (query_agree false (known.queries false) (known.query_fault false) d.says files.query seen further query third fourth)
+      (λ q e i j same o v n m. query_done d.says q o v n (subst (λ x. AfterQuery further d.says x v) (sym same) m))
+
+  pub watch_agree : (o v : Outcome) → IsWatchedFor seen database query edits cap o → IsWatchedFor further database query edits cap v → Lasting o → Lasting v → Agree Same o v
+  watch_agree = then_agree (IsDatabaseRead false seen database) (IsDatabaseRead false further database) (AfterRead seen) (AfterRead further) (λ d e. d ≡ e) Same
+      (database_agree known.databases known.database_fault false files.database seen further database first second)
+      (λ d e i j same o v n m. read_done d o v n (subst (λ (x : Source (List Relation)). AfterRead further x v) (sym same) m))
+
 -- ---- the tasks
 
 -- a shelf that tells its files gives their bytes alone
@@ -218,6 +259,11 @@ module _ (known : Known) (seen further : ShelfSeen) (held more : List File) (tol
       (database_agree known.databases known.database_fault civil (content_of held database) seen further database
       (reads_only seen held database (content_of held database) told refl) (reads_only further more database (content_of held database) again (ap (λ (c : Contents). c.database) same)))
       (λ d e i j one. output_agree (TellsRelations d.says) (TellsRelations e.says) (λ a b. a ≡ b) (λ a b x y. x.0 ∙ ap (λ (s : Source (List Relation)). database_bytes s.says) one ∙ sym y.0))
+  due_alike (watch database query edits cap) same =
+      watch_agree known (contents_of held (watch database query edits cap)) seen further database query edits cap
+      (reads_only seen held database (content_of held database) told refl) (reads_only further more database (content_of held database) again (ap (λ (c : Contents). c.database) same))
+      (reads_only seen held query (content_of held query) told refl) (reads_only further more query (content_of held query) again (ap (λ (c : Contents). c.query) same))
+      (reads_only seen held edits (content_of held edits) told refl) (reads_only further more edits (content_of held edits) again (ap (λ (c : Contents). c.edits) same))
   due_alike (sample seed size) same =
       output_agree (TellsSample seed size) (TellsSample seed size) (λ a b. a ≡ b) (one_sample known.databases (known.queries false) known.rank known.tuples known.cells known.count seed size)
 
@@ -241,6 +287,13 @@ lasting_of (Err TokenStale) h = tt
 lasting_of (Err (Cells most step)) h = tt
 lasting_of (Err CanonHead) h = tt
 lasting_of (Err (CanonRows most)) h = tt
+lasting_of (Err (Watch refusal.NotKept)) h = tt
+lasting_of (Err (Watch refusal.Read)) h = h
+lasting_of (Err (Watch refusal.Long)) h = tt
+lasting_of (Err (Watch (refusal.Edits fault))) h = tt
+lasting_of (Err (Watch (refusal.PeriodLimit edit))) h = tt
+lasting_of (Err (Watch (refusal.BoundLimit edit))) h = tt
+lasting_of (Err (Watch (refusal.Cells most edit))) h = tt
 lasting_of (Err Memory) h = h
 
 -- it is not `Write`
@@ -264,6 +317,13 @@ one_line task files TokenStale = refl
 one_line task files (Cells most step) = refl
 one_line task files CanonHead = refl
 one_line task files (CanonRows most) = refl
+one_line task files (Watch refusal.NotKept) = refl
+one_line task files (Watch refusal.Read) = refl
+one_line task files (Watch refusal.Long) = refl
+one_line task files (Watch (refusal.Edits fault)) = refl
+one_line task files (Watch (refusal.PeriodLimit edit)) = refl
+one_line task files (Watch (refusal.BoundLimit edit)) = refl
+one_line task files (Watch (refusal.Cells most edit)) = refl
 one_line task files Memory = refl
 
 -- the texts of outcomes that agree

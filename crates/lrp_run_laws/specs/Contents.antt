@@ -1,14 +1,17 @@
 -- What the files of a task say.
-use Rattle.std.specs.Prelude.{◌≡◌, ℕ, ◌≤◌, Bool, List, [], length, Some}
+use Rattle.std.specs.Prelude.{◌≡◌, ℕ, ◌≤◌, Bool, true, false, List, [], length, Some}
 use Rattle.lrp_io.specs.Files.{content_of}
 use Rattle.lrp_io.specs.declared.shelf.File.{File}
 use Rattle.lrp_words.specs.Commands.{Task}
-use Rattle.lrp_words.specs.Commands.Task.{ask, decide, list, explain, check, sample}
+use Rattle.lrp_words.specs.Commands.Task.{ask, decide, list, explain, check, watch, sample}
 use Rattle.lrp_model.specs.DatabaseReading.{IsDatabase}
 use Rattle.lrp_model.specs.Formulas.{Question}
 use Rattle.lrp_model.specs.Plans.{IsWithinLimits}
 use Rattle.lrp_model.specs.Texts.{Identifier}
 use Rattle.lrp_model.specs.declared.relations.Relation.{Relation}
+use Rattle.lrp_edits.specs.EditReading.{SaysEdits}
+use Rattle.lrp_edits.specs.declared.edits.Edit.{Edit}
+use Rattle.lrp_kept.specs.KeptForm.{is_kept}
 use Rattle.lrp_token.specs.Files.{files_digest}
 use Rattle.lrp_top.specs.Seen.{ShelfSeen}
 use Rattle.lrp_top.specs.Written.{IsSortedAs, plain_if}
@@ -17,18 +20,24 @@ use Rattle.lrp_top.specs.Written.{IsSortedAs, plain_if}
 pub record Contents : Type 0 where
   pub database : List ℕ
   pub query : List ℕ
+  pub edits : List ℕ
+
+-- those of a database and a query alone
+abbrev pub two_files : List ℕ → List ℕ → Contents
+two_files database query = record { database = database; query = query; edits = [] }
 
 abbrev pub contents_at : List File → Identifier → Identifier → Contents
-contents_at held database query = record { database = content_of held database; query = content_of held query }
+contents_at held database query = two_files (content_of held database) (content_of held query)
 
--- those that files hold; a task that reads no query has no bytes of one
+-- those that files hold; a task that reads no query or no edits has no bytes of them
 abbrev pub contents_of : List File → Task → Contents
 contents_of held (ask database query cap tense canon civil) = contents_at held database query
 contents_of held (decide database query cap tense civil) = contents_at held database query
 contents_of held (list database query from to limit after json cap tense civil) = contents_at held database query
 contents_of held (explain database query tense civil) = contents_at held database query
-contents_of held (check database civil) = record { database = content_of held database; query = [] }
-contents_of held (sample seed size) = record { database = []; query = [] }
+contents_of held (check database civil) = two_files (content_of held database) []
+contents_of held (watch database query edits cap) = record { database = content_of held database; query = content_of held query; edits = content_of held edits }
+contents_of held (sample seed size) = two_files [] []
 
 -- where the shelf tells its files, they are those that these hold
 abbrev pub AreContentsFor : ShelfSeen → Task → Contents → Type 0
@@ -68,3 +77,27 @@ pub record WhereWithinLimits (Holds : List Relation → Question → Type 0) (db
 -- there are a database and a query over it within the limits, and of them this holds
 abbrev pub Asking : Bool → Bool → Contents → (List Relation → Question → Type 0) → Type 0
 Asking tense civil files Holds = OverDatabase civil files (OverQuery tense files (WhereWithinLimits Holds))
+
+-- the edits' bytes are at most 16,777,216 and the text of these edits of the relations
+pub record SaysTheseEdits (files : Contents) (db : List Relation) (edits : List Edit) : Type 0 where
+  pub short : length files.edits ≤ 16777216
+  pub is : SaysEdits files.edits db edits
+
+-- the query is in kept form, and of it this holds
+pub record WhereKept (Holds : List Relation → Question → Type 0) (db : List Relation) (q : Question) : Type 0 where
+  pub kept : is_kept q ≡ true
+  pub holds : Holds db q
+
+-- there are edits of the relations, and of them this holds
+pub record OverEdits (files : Contents) (Holds : List Relation → Question → List Edit → Type 0) (db : List Relation) (q : Question) : Type 0 where
+  pub edits : List Edit
+  pub says : SaysTheseEdits files db edits
+  pub holds : Holds db q edits
+
+-- there are a database and a query over it in kept form, and of them this holds
+abbrev pub Keeping : Contents → (List Relation → Question → Type 0) → Type 0
+Keeping files Holds = OverDatabase false files (OverQuery false files (WhereKept Holds))
+
+-- and edits of the database
+abbrev pub Watching : Contents → (List Relation → Question → List Edit → Type 0) → Type 0
+Watching files Holds = Keeping files (OverEdits files Holds)

@@ -2,7 +2,7 @@
 use Rattle.std.specs.Prelude.{◌≡◌, ◌≢◌, ◌⊎◌, ℕ, ◌<◌, ◌^◌, Bool, true, false, List, length, Option, Some, None}
 use Rattle.lrp_io.specs.Causes.{Rose}
 use Rattle.lrp_words.specs.Commands.{Task}
-use Rattle.lrp_words.specs.Commands.Task.{ask, decide, list, explain, check, sample}
+use Rattle.lrp_words.specs.Commands.Task.{ask, decide, list, explain, check, watch, sample}
 use Rattle.lrp_model.specs.Caps.{IsFirstMany}
 use Rattle.lrp_model.specs.DatabaseReading.{IsDatabaseFault}
 use Rattle.lrp_model.specs.Formulas.{Question}
@@ -12,6 +12,8 @@ use Rattle.lrp_model.specs.Texts.{Identifier, Text}
 use Rattle.lrp_model.specs.declared.faults.DbFault.{DbFault}
 use Rattle.lrp_model.specs.declared.faults.QueryFault.{QueryFault}
 use Rattle.lrp_model.specs.declared.relations.Relation.{Relation}
+use Rattle.lrp_edits.specs.EditReading.{IsEditsFault}
+use Rattle.lrp_kept.specs.KeptForm.{is_kept}
 use Rattle.lrp_token.specs.Reading.{IsNoToken, HasOtherCounts}
 use Rattle.lrp_top.specs.Canonical.{HasCanonicalRows}
 use Rattle.lrp_top.specs.Outcomes.{line_of}
@@ -21,7 +23,8 @@ use Rattle.lrp_top.specs.Written.{IsFaultyAs, plain_if}
 use Rattle.lrp_top.specs.declared.outcome.Refusal.TheVariants as refusal
 use Rattle.lrp_top.specs.declared.status.Status.{Status}
 use Rattle.lrp_top.specs.declared.status.Status.TheVariants as status
-use Rattle.lrp_run_laws.specs.Contents.{Contents, AreContentsFor, digest_of, OverDatabase, OverQuery}
+use Rattle.lrp_run_laws.specs.Contents.{Contents, AreContentsFor, digest_of, Keeping, OverDatabase, OverQuery, Watching}
+use Rattle.lrp_run_laws.specs.Tasks.{PassesLimit}
 use Rattle.lrp_run_laws.specs.Runs.{Run, task_asked, WroteAll, WroteOutput}
 
 -- of a task that reads a database: this holds of whether times are civil ones
@@ -31,7 +34,7 @@ OfDatabase Holds (decide database query cap tense civil) = Holds civil
 OfDatabase Holds (list database query from to limit after json cap tense civil) = Holds civil
 OfDatabase Holds (explain database query tense civil) = Holds civil
 OfDatabase Holds (check database civil) = Holds civil
-OfDatabase Holds (sample seed size) = ⊥
+OfDatabase Holds _ = ⊥
 
 -- of a task that asks a query: this holds of whether a canonical answer is asked for, of whether it may have temporal operators and times are civil ones, of the token and of the cap
 abbrev pub OfQuery : (Bool → Bool → Bool → Option Text → Option ℕ → Type 0) → Task → Type 0
@@ -39,8 +42,7 @@ OfQuery Holds (ask database query cap tense canon civil) = Holds canon tense civ
 OfQuery Holds (decide database query cap tense civil) = Holds false tense civil None (Some cap)
 OfQuery Holds (list database query from to limit after json cap tense civil) = Holds false tense civil after (Some cap)
 OfQuery Holds (explain database query tense civil) = Holds false tense civil None None
-OfQuery Holds (check database civil) = ⊥
-OfQuery Holds (sample seed size) = ⊥
+OfQuery Holds _ = ⊥
 
 -- the database's bytes are too many, or their text has a fault
 abbrev pub IsNoDatabase : Contents → Bool → Type 0
@@ -49,6 +51,10 @@ IsNoDatabase files civil = (16777216 < length files.database) ⊎ ((fault : DbFa
 -- the query's bytes are too many, or their text or its sorts have a fault
 abbrev pub IsNoQuery : Contents → Bool → List Relation → Type 0
 IsNoQuery files tense db = (16777216 < length files.query) ⊎ ((fault : QueryFault) × IsFaultyAs tense db files.query fault)
+
+-- the edits' bytes are too many, or their text has a fault
+abbrev pub AreNoEdits : Contents → List Relation → Question → Type 0
+AreNoEdits files db q = (16777216 < length files.edits) ⊎ ((fault : DbFault) × IsEditsFault files.edits db fault)
 
 -- the text is no token, is one with other counts than the head's, or is one of other files
 abbrev pub IsNoTokenOf : List ℕ → Option Text → List Relation → Question → Type 0
@@ -77,13 +83,20 @@ HasManyRows (Some cap) db q = (n : ℕ) × HasCanonicalRows db q n × (cap < n)
 abbrev pub IsAbove : Bool → Option ℕ → List Relation → Question → Type 0
 IsAbove canon cap db q = (2 ^ 62 < period db q.body) ⊎ (2 ^ 62 < scaled_reach db q) ⊎ HasMany cap db q ⊎ ((canon ≡ true) × HasManyRows cap db q)
 
--- there is no query over the database; or there is, and the head or the token is refused
-abbrev pub IsQueryRefused : Contents → Task → Type 0
-IsQueryRefused files = OfQuery (λ canon tense civil after cap. OverDatabase civil files (λ db. IsNoQuery files tense db ⊎ OverQuery tense files (IsRefusedBehind canon (digest_of files) after) db))
+-- there is no database; or, for a watch, there are one and a query over it in kept form, and there are no edits
+abbrev pub IsDatabaseRefused : Contents → Task → Type 0
+IsDatabaseRefused files (watch database query edits cap) = IsNoDatabase files false ⊎ Keeping files (AreNoEdits files)
+IsDatabaseRefused files task = OfDatabase (IsNoDatabase files) task
 
--- there is a query over the database, and it is above a limit
+-- there is no query over the database; or there is, and the head or the token is refused, or for a watch its form
+abbrev pub IsQueryRefused : Contents → Task → Type 0
+IsQueryRefused files (watch database query edits cap) = OverDatabase false files (λ db. IsNoQuery files false db ⊎ OverQuery false files (λ db q. is_kept q ≡ false) db)
+IsQueryRefused files task = OfQuery (λ canon tense civil after cap. OverDatabase civil files (λ db. IsNoQuery files tense db ⊎ OverQuery tense files (IsRefusedBehind canon (digest_of files) after) db)) task
+
+-- there is a query over the database, and it is above a limit, or for a watch some edit is
 abbrev pub IsQueryAbove : Contents → Task → Type 0
-IsQueryAbove files = OfQuery (λ canon tense civil after cap. OverDatabase civil files (OverQuery tense files (IsAbove canon cap)))
+IsQueryAbove files (watch database query edits cap) = Watching files (PassesLimit cap)
+IsQueryAbove files task = OfQuery (λ canon tense civil after cap. OverDatabase civil files (OverQuery tense files (IsAbove canon cap))) task
 
 -- the count of faults of the database's name rose; or there is a database, and that of the query's name rose
 abbrev pub HasFailedOneOf : ShelfSeen → Contents → Bool → Identifier → Identifier → Type 0
@@ -96,13 +109,14 @@ HasFailedFile seen files (decide database query cap tense civil) = HasFailedOneO
 HasFailedFile seen files (list database query from to limit after json cap tense civil) = HasFailedOneOf seen files civil database query
 HasFailedFile seen files (explain database query tense civil) = HasFailedOneOf seen files civil database query
 HasFailedFile seen files (check database civil) = HasFailed seen database
+HasFailedFile seen files (watch database query edits cap) = HasFailedOneOf seen files false database query ⊎ Keeping files (λ db q. HasFailed seen edits)
 HasFailedFile seen files (sample seed size) = ⊥
 
 -- why a run of the task ended so; want of memory has no cause, and its line is written
 abbrev pub IsReason : Status → Task → Contents → ShelfSeen → SinkSeen → Type 0
 IsReason status.Done task files seen taken = WroteOutput task files taken
 IsReason status.Usage task files seen taken = ⊥
-IsReason status.Database task files seen taken = OfDatabase (IsNoDatabase files) task
+IsReason status.Database task files seen taken = IsDatabaseRefused files task
 IsReason status.Query task files seen taken = IsQueryRefused files task
 IsReason status.Limit task files seen taken = IsQueryAbove files task
 IsReason status.Read task files seen taken = HasFailedFile seen files task

@@ -1,7 +1,7 @@
 -- Tasks to which no refusal applies, and the output of a task.
-use Rattle.std.specs.Prelude.{◌≡◌, ◌≤◌, ℕ, ℤ, Bool, true, false, List, Option, Ok}
+use Rattle.std.specs.Prelude.{◌≡◌, ◌≢◌, ◌≤◌, ℕ, ℤ, Bool, true, false, List, Option, Ok}
 use Rattle.lrp_words.specs.Commands.{Task}
-use Rattle.lrp_words.specs.Commands.Task.{ask, decide, list, explain, check, sample}
+use Rattle.lrp_words.specs.Commands.Task.{ask, decide, list, explain, check, watch, sample}
 use Rattle.lrp_model.specs.AnswerTexts.{IsAnswerText}
 use Rattle.lrp_model.specs.Caps.{ManyAt}
 use Rattle.lrp_model.specs.Formulas.{Question}
@@ -10,11 +10,15 @@ use Rattle.lrp_model.specs.Plans.{IsPlan, time_columns}
 use Rattle.lrp_model.specs.Texts.{Text}
 use Rattle.lrp_model.specs.declared.plans.Plan.{Plan}
 use Rattle.lrp_model.specs.declared.relations.Relation.{Relation}
+use Rattle.lrp_edits.specs.declared.edits.Edit.{Edit}
+use Rattle.lrp_keep.specs.declared.faults.KeepFault.{KeepFault}
+use Rattle.lrp_keep.specs.declared.faults.KeepFault.TheVariants as limit
+use Rattle.lrp_watch.specs.Watching.{IsPassed, TellsLeasts}
 use Rattle.lrp_top.specs.Canonical.{HasCanonicalRows, IsCanonicalText}
 use Rattle.lrp_top.specs.Resuming.{IsResumed}
 use Rattle.lrp_top.specs.Sampled.{TellsSample}
 use Rattle.lrp_top.specs.Telling.{TellsPage, TellsPlan, TellsRelations, TellsWitness}
-use Rattle.lrp_run_laws.specs.Contents.{Contents, digest_of, OverDatabase, Asking}
+use Rattle.lrp_run_laws.specs.Contents.{Contents, digest_of, OverDatabase, Asking, Watching}
 
 -- ---- lawful tasks
 
@@ -33,6 +37,13 @@ abbrev pub IsAnswerable : Bool → ℕ → List Relation → Question → Type 0
 IsAnswerable false cap db q = HasFewCells cap db q
 IsAnswerable true cap db q = HasFewCells cap db q × (time_columns q.head ≡ 1) × ((n : ℕ) × HasCanonicalRows db q n × (n ≤ cap))
 
+-- at some edit a limit is passed, the opening being edit 0
+pub record PassesLimit (cap : ℕ) (db : List Relation) (q : Question) (edits : List Edit) : Type 0 where
+  pub number : ℕ
+  pub passed : KeepFault
+  pub some : passed ≢ limit.Memory
+  pub is : IsPassed db q edits cap number passed
+
 -- the text is that of all answers, as they come or in canonical form
 abbrev pub IsTextFor : Bool → List Relation → Question → List ℕ → Type 0
 IsTextFor false = IsAnswerText
@@ -45,6 +56,7 @@ IsLawfulTask (decide database query cap tense civil) files = Asking tense civil 
 IsLawfulTask (list database query from to limit after json cap tense civil) files = Asking tense civil files (IsResumable cap after (digest_of files))
 IsLawfulTask (explain database query tense civil) files = Asking tense civil files (λ db q. Unit {0})
 IsLawfulTask (check database civil) files = OverDatabase civil files (λ db. Unit {0})
+IsLawfulTask (watch database query edits cap) files = Watching files (λ db q these. PassesLimit cap db q these → ⊥)
 IsLawfulTask (sample seed size) files = Unit {0}
 
 -- ---- the output of a task
@@ -69,4 +81,5 @@ IsOutputOf (list database query from to limit after json cap tense civil) files 
     Asking tense civil files (TellsPageBehind from to limit after civil json (digest_of files) output)
 IsOutputOf (explain database query tense civil) files output = Asking tense civil files (TellsPlanOf output)
 IsOutputOf (check database civil) files output = OverDatabase civil files (λ db. TellsRelations db output)
+IsOutputOf (watch database query edits cap) files output = Watching files (λ db q these. TellsLeasts db q these cap output)
 IsOutputOf (sample seed size) files output = TellsSample seed size output

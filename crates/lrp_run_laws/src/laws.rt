@@ -15,6 +15,7 @@ ghost use Rattle.lrp_run_laws.specs.SameAnswers.{HasToldCanonical, HaveSameAnswe
 ghost use Rattle.lrp_run_laws.specs.Following.{IsFollowed, IsShortWindow, IsUnfinished};
 
 use lrp_canon::answer_texts_are_unique;
+use lrp_edits::{edits_are_one, edits_have_no_fault, edits_have_one_fault};
 use lrp_eval::counts_are_unique;
 use lrp_model::{
     pages_are_unique, pages_resume, ranks_differ, texts_in_order, tokens_spell_one_tuple,
@@ -49,6 +50,8 @@ pub fn lawful_runs_are_complete()
     texts_are_one_query();
     tense_queries_have_no_fault();
     well_sorted_queries_have_no_fault();
+    edits_are_one();
+    edits_have_no_fault();
     tokens_spell_one_tuple();
     row_counts_are_unique();
 }
@@ -74,6 +77,9 @@ pub fn runs_have_one_outcome()
     tense_queries_have_no_fault();
     tense_queries_have_one_fault();
     well_sorted_queries_have_no_fault();
+    edits_are_one();
+    edits_have_no_fault();
+    edits_have_one_fault();
     tokens_spell_one_tuple();
     pages_are_unique();
     ranks_differ();

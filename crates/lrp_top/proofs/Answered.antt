@@ -12,51 +12,25 @@ use Rattle.lrp_model.specs.Plans.{plan, query_reach, scaled_reach, time_columns}
 use Rattle.lrp_model.specs.Steps.{PlanStep, step_at}
 use Rattle.lrp_model.specs.declared.tuples.Cell.{Cell}
 use Rattle.lrp_model.specs.declared.relations.Relation.{Relation}
+use Rattle.lrp_model.specs.Satisfaction.{HasShape}
+use Rattle.lrp_model.specs.declared.relations.Column.{Column}
+use Rattle.lrp_model.specs.declared.tuples.Shape.{Shape}
 use Rattle.lrp_model.specs.declared.tuples.Spot.{Spot}
+use Rattle.lrp_minus.specs.Settling.{IsSmallZone}
+use Rattle.lrp_watch.specs.Leasts.{IsSmallAnswer}
 use Rattle.lrp_plan_laws.specs.Rising.{IsRising, period_at}
 use Rattle.lrp_zone.specs.Zones.{columns_of, reach_of}
 use Rattle.lrp_store.specs.Least.{HasRoom, IsLeastSpot, StandsFor}
 use Rattle.lrp_store.specs.Stores.{IsStore, StoreView, tables_at, zone_of}
 use Rattle.lrp_store.specs.Tables.{AreTexts, InAnswer}
 use Rattle.lrp_store.specs.declared.answer.Answer.{Answer}
-use Rattle.lrp_list.proofs.HeadOrder.{spot_tuple_is}
+use Rattle.lrp_list.specs.Lines.{spot_tuple}
 use Rattle.lrp_canon.specs.Canonical.{CanMakeCanonical}
 use Rattle.lrp_eval.specs.Answered.{IsAnswerOf}
 use Rattle.lrp_top.proofs.Lists.{in_map}
-use Rattle.lrp_top.proofs.RoomLemmas.{within_more}
-use Rattle.lrp_top.specs.Known.{HasKnownTexts}
+use Rattle.lrp_watch.specs.Spots.{HasKnownTexts}
 use Rattle.lrp_top.specs.Outputs.{spot_text}
 use Rattle.lrp_top.specs.Telling.{TellsWitness}
-
--- ---- numbers
-
-one_more : (m : ℕ) → m + 1 ≤ 2 ^ m
-one_more zero = omega arith
-one_more (suc m) = let r : m + 1 ≤ 2 ^ m = one_more m in let e : 2 ^ suc m ≡ 2 * 2 ^ m = pow-succ' 2 m in omega arith
-
--- m * (m + 1) is at most 2 ^ (m + 1)
-squares : (m : ℕ) → m * (m + 1) ≤ 2 ^ (m + 1)
-squares zero = omega arith
-squares (suc m) =
-    let r : m * (m + 1) ≤ 2 ^ (m + 1) = squares m in
-    let s : m + 1 ≤ 2 ^ m = one_more m in
-    let d : 2 ^ (m + 1) ≡ 2 * 2 ^ m = ap (λ i. 2 ^ i) (omega arith) ∙ pow-succ' 2 m in
-    let e : 2 ^ (suc m + 1) ≡ 2 * 2 ^ (m + 1) = ap (λ i. 2 ^ i) (omega arith) ∙ pow-succ' 2 (m + 1) in
-    let f : suc m * (suc m + 1) ≡ m * (m + 1) + 2 * (m + 1) = omega arith in
-    omega arith
-
-scaled : (c m R : ℕ) → c ≤ m → 2 ^ (m + 1) * R ≤ 2 ^ 62 → c * ((m + 1) * R) ≤ 2 ^ 62
-scaled c m R l h =
-    let a : c * ((m + 1) * R) ≤ m * ((m + 1) * R) = mul-le-mul_right ((m + 1) * R) l in
-    let b : m * (m + 1) * R ≤ 2 ^ (m + 1) * R = mul-le-mul_right R (squares m) in
-    let e : m * ((m + 1) * R) ≡ m * (m + 1) * R = omega arith in
-    omega arith
-
-fewer : {X : Type 0} (n : ℕ) (xs : List X) → length (take n xs) ≤ n
-fewer zero [] = omega arith
-fewer zero (x ∷ xs) = omega arith
-fewer (suc n) [] = omega arith
-fewer (suc n) (x ∷ xs) = let r : length (take n xs) ≤ n = fewer n xs in omega arith
 
 -- ---- room for the least answer
 
@@ -74,24 +48,15 @@ zone_in : (s : StoreView) (cell : Cell) (tables : List (List (Option ℤ))) (tab
 zone_in s cell tables table held = in_map (zone_of s cell) tables table held
 
 module _ (db : List Relation) (q : Question) (cap : ℕ) (a : Answer) (is : IsAnswerOf db q cap a) (reach : scaled_reach db q ≤ 2 ^ 62) (wide : period_at (plan db q) (length (plan db q)) ≤ query_reach db q) where
-  pub has_room : IsStore a.store → HasRoom a.store
-  has_room valid = record {
-    each = λ cell table held.
-        let z = zone_of a.store cell table in
-        let m = time_columns q.head in
-        let R = query_reach db q in
-        let c : columns_of z ≤ m = subst (λ n. columns_of z ≤ n) (sym a.times_are ∙ ap time_columns is.head) (fewer a.store.shape.times cell.residues) in
-        let k : pos a.store.period ≡ pos (period_at (plan db q) (length (plan db q))) = sym a.period_is ∙ is.period in
-        let same : a.store.period ≡ period_at (plan db q) (length (plan db q)) = cc in
-        let small = is.small cell z (zone_in a.store cell (tables_at a.store cell) table held) in (
-          (m + 1) * R,
-          record {
-            room = scaled (columns_of z) m R c reach;
-            period = let w : period_at (plan db q) (length (plan db q)) ≤ R = wide in let one : 1 * R ≤ (m + 1) * R = mul-le-mul_right R (omega arith) in omega arith;
-            closed = λ n closed same. record { each = λ i j il jl ne. within_more (m * R) ((m + 1) * R) _ (mul-le-mul_right R (omega arith)) ((small.closed n closed same).each i j il jl ne) };
-          },
-        );
-  }
+  pub small_answer : IsSmallAnswer a (query_reach db q)
+  small_answer =
+      let k : pos a.store.period ≡ pos (period_at (plan db q) (length (plan db q))) = sym a.period_is ∙ is.period in
+      let same : a.store.period ≡ period_at (plan db q) (length (plan db q)) = cc in
+      record {
+        period = subst (λ n. n ≤ query_reach db q) (sym same) wide;
+        scaled = subst (λ cs. 2 ^ (time_columns cs + 1) * query_reach db q ≤ 2 ^ 62) (sym is.head) reach;
+        small = λ cell z held. subst (λ cs. IsSmallZone z (time_columns cs * query_reach db q)) (sym is.head) (is.small cell z held);
+      }
 
 -- ---- room for the canonical answer
 
@@ -123,7 +88,11 @@ period_of db q cap a is last = let same : pos a.store.period ≡ pos (period db 
 
 -- ---- the least answer
 
-module _ (db : List Relation) (q : Question) (cap : ℕ) (a : Answer) (is : IsAnswerOf db q cap a) where
+-- the tuple that is told of a spot is the one that it stands for
+abbrev pub StandForTuples : Type 0
+StandForTuples = (columns : List Column) (shape : Shape) (domain : List Text) (spot : Spot) (tuple : Tuple) → HasShape columns tuple → StandsFor shape domain spot tuple → spot_tuple columns shape domain spot ≡ tuple
+
+module _ (stood : StandForTuples) (db : List Relation) (q : Question) (cap : ℕ) (a : Answer) (is : IsAnswerOf db q cap a) where
   pub told_none : ((tuple : Tuple) → InAnswer a.head.columns a.domain a.store tuple → ⊥) → TellsWitness db q (spot_text a None)
   told_none none = inl (record { none = λ tuple h. none tuple ((is.answers tuple).1 h); spelled = refl })
 
@@ -131,7 +100,7 @@ module _ (db : List Relation) (q : Question) (cap : ℕ) (a : Answer) (is : IsAn
   told_some spot l = inr (record {
     tuple = l.tuple;
     least = record { is = (is.answers l.tuple).0 l.least.is; first = λ other h. l.least.first other ((is.answers other).1 h) };
-    spelled = ap (λ (t : Tuple). codes "Nonempty\n" ++ plain_line t) (spot_tuple_is a.head.columns a.store.shape a.domain spot l.tuple l.least.is.shape l.stands);
+    spelled = ap (λ (t : Tuple). codes "Nonempty\n" ++ plain_line t) (stood a.head.columns a.store.shape a.domain spot l.tuple l.least.is.shape l.stands);
   })
 
   pub told_least : (o : Option Spot) → IfNone o ((tuple : Tuple) → InAnswer a.head.columns a.domain a.store tuple → ⊥) → IfSome o (λ spot. IsLeastSpot a.head.columns a.domain a.store spot) → TellsWitness db q (spot_text a o)
@@ -140,23 +109,13 @@ module _ (db : List Relation) (q : Question) (cap : ℕ) (a : Answer) (is : IsAn
 
 -- ---- texts by their numbers
 
-below : (domain : List Text) (n : ℕ) (t : Text) → slice_get domain n ≡ Some t → n < length domain
-below [] n t e = cc
-below (d ∷ ds) zero t e = omega arith
-below (d ∷ ds) (suc n) t e = let r : n < length ds = below ds n t e in omega arith
-
-texts_below : (domain : List Text) (ns : List ℕ) (ts : List Text) → AreTexts domain ns ts → AllByRecursion (λ n. n < length domain) ns
-texts_below domain [] ts h = tt
-texts_below domain (n ∷ ns) [] h = absurd h
-texts_below domain (n ∷ ns) (t ∷ ts) h = (below domain n t h.0, texts_below domain ns ts h.1)
-
 -- a spot that stands for a tuple has numbers of the domain
-pub texts_known : (a : Answer) (spot : Spot) (tuple : Tuple) → StandsFor a.store.shape a.domain spot tuple → HasKnownTexts a spot
-texts_known a spot tuple s = texts_below a.domain (take a.store.shape.texts spot.texts) _ s.texts
+abbrev pub HaveKnownTexts : Type 0
+HaveKnownTexts = (shape : Shape) (domain : List Text) (spot : Spot) (tuple : Tuple) → StandsFor shape domain spot tuple → AllByRecursion (λ n. n < length domain) (take shape.texts spot.texts)
 
-pub known_least : (a : Answer) (o : Option Spot) → IfSome o (λ spot. IsLeastSpot a.head.columns a.domain a.store spot) → IfSome o (HasKnownTexts a)
-known_least a None h = tt
-known_least a (Some spot) h = texts_known a spot h.tuple h.stands
+pub known_least : HaveKnownTexts → (a : Answer) (o : Option Spot) → IfSome o (λ spot. IsLeastSpot a.head.columns a.domain a.store spot) → IfSome o (HasKnownTexts a)
+known_least known a None h = tt
+known_least known a (Some spot) h = known a.store.shape a.domain spot h.tuple h.stands
 
 -- ---- pages
 

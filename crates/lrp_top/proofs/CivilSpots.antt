@@ -9,7 +9,8 @@ use Rattle.lrp_model.specs.Rows.{times_of}
 use Rattle.lrp_model.specs.declared.tuples.Spot.{Spot}
 use Rattle.lrp_store.specs.declared.answer.Answer.{Answer}
 use Rattle.lrp_words.specs.Ranges.{IsEnd}
-use Rattle.lrp_top.specs.Known.{HasCivilTimes, HaveCivilTimes, IsStanding, tuple_of}
+use Rattle.lrp_top.specs.Known.{HasCivilTimes, HaveCivilTimes, IsStanding}
+use Rattle.lrp_watch.specs.Spots.{tuple_of}
 
 -- the ends of a window
 pub are_ends : (civil : Bool) (from to : ℤ) → IsEnd civil from → IsEnd civil to → AreEnds from to

@@ -6,11 +6,14 @@ use Rattle.lrp_io.specs.declared.shelf.File.{File}
 use Rattle.lrp_model.specs.Formulas.{Question}
 use Rattle.lrp_model.specs.Texts.{Identifier}
 use Rattle.lrp_model.specs.declared.relations.Relation.{Relation}
+use Rattle.lrp_edits.specs.declared.edits.Edit.{Edit}
 use Rattle.lrp_top.specs.Due.{IsQueryRead, IsQueryReadOf, IsDatabaseRead, IsDatabaseReadOf}
 use Rattle.lrp_top.specs.Seen.{ShelfSeen, AreBytesOf, IsOverrun}
 use Rattle.lrp_top.specs.Sources.{Source}
+use Rattle.lrp_top.specs.Watched.{AreEditsRead, AreEditsReadOf}
 use Rattle.lrp_top.specs.declared.outcome.Refusal.{Refusal}
-use Rattle.lrp_top.specs.declared.outcome.Refusal.TheVariants.{ReadDatabase, LongDatabase, ReadQuery, LongQuery, Memory}
+use Rattle.lrp_top.specs.declared.outcome.Refusal.TheVariants.{ReadDatabase, LongDatabase, ReadQuery, LongQuery, Watch, Memory}
+use Rattle.lrp_top.specs.declared.watch_refusal.WatchRefusal.TheVariants as watch
 
 -- the bytes of a file of files, where these are told
 abbrev Told : Option (List File) → Identifier → List ℕ → Type 0
@@ -46,6 +49,9 @@ read_of civil seen name bytes result told each = record { bytes = bytes; told = 
 pub asked_of : (tense : Bool) (db : List Relation) (seen : ShelfSeen) (name : Identifier) (bytes : List ℕ) (result : Result (Source Question) Refusal) → AreBytesOf seen name bytes → ((s : ShelfSeen) (n : Identifier) → IsQueryReadOf tense db s n bytes result) → IsQueryRead tense db seen name result
 asked_of tense db seen name bytes result told each = record { bytes = bytes; told = told; is = each seen name }
 
+pub edits_read_of : (db : List Relation) (seen : ShelfSeen) (name : Identifier) (bytes : List ℕ) (result : Result (List Edit) Refusal) → AreBytesOf seen name bytes → ((s : ShelfSeen) (n : Identifier) → AreEditsReadOf db s n bytes result) → AreEditsRead db seen name result
+edits_read_of db seen name bytes result told each = record { bytes = bytes; told = told; is = each seen name }
+
 -- a database or a query that is too long
 pub long_database : (civil : Bool) (seen : ShelfSeen) (name : Identifier) → ((held : List File) → seen.files ≡ Some held → 16777216 < length (content_of held name)) → seen.may_be name ≡ true → 16777216 < seen.given → IsDatabaseRead civil seen name (Err LongDatabase)
 long_database civil seen name h named many = let l = long_bytes seen.files name h in record { bytes = l.0; told = l.1; is = (l.2, record { named = named; many = many }) }
@@ -66,6 +72,16 @@ unread_query tense relations seen name rose = let b = some_bytes seen.files name
 
 pub no_query_memory : (tense : Bool) (relations : List Relation) (seen : ShelfSeen) (name : Identifier) → IsQueryRead tense relations seen name (Err Memory)
 no_query_memory tense relations seen name = let b = some_bytes seen.files name in record { bytes = b.0; told = b.1; is = tt }
+
+-- the same of edits
+pub long_edits : (db : List Relation) (seen : ShelfSeen) (name : Identifier) → ((held : List File) → seen.files ≡ Some held → 16777216 < length (content_of held name)) → seen.may_be name ≡ true → 16777216 < seen.given → AreEditsRead db seen name (Err (Watch watch.Long))
+long_edits db seen name h named many = let l = long_bytes seen.files name h in record { bytes = l.0; told = l.1; is = (l.2, record { named = named; many = many }) }
+
+pub unread_edits : (db : List Relation) (seen : ShelfSeen) (name : Identifier) → Rose (seen.faults_before name) (seen.faults name) → AreEditsRead db seen name (Err (Watch watch.Read))
+unread_edits db seen name rose = let b = some_bytes seen.files name in record { bytes = b.0; told = b.1; is = rose }
+
+pub no_edits_memory : (db : List Relation) (seen : ShelfSeen) (name : Identifier) → AreEditsRead db seen name (Err Memory)
+no_edits_memory db seen name = let b = some_bytes seen.files name in record { bytes = b.0; told = b.1; is = tt }
 
 -- a file whose given bytes are few is not overrun
 pub few_given : {P : Type 0} (seen : ShelfSeen) (name : Identifier) → IsOverrun seen name → seen.given ≤ 16777216 → P

@@ -16,3 +16,4 @@ pub mod ResumeLemmas
 pub mod RoomLemmas
 pub mod SampleLemmas
 pub mod StepLemmas
+pub mod WatchLemmas

@@ -8,21 +8,26 @@ use Rattle.lrp_io.specs.Bytes.{appended, AppendsFront}
 use Rattle.lrp_io.specs.Causes.{Rose}
 use Rattle.lrp_model.specs.declared.tokens.Place.{Place}
 use Rattle.lrp_print.proofs.Lines.{item_front}
-use Rattle.lrp_top.specs.Outcomes.{Outcome, cells_line, fault_line, rows_line, refused_with, status_of, written_of, Ends}
+use Rattle.lrp_top.specs.Outcomes.{Outcome, cells_line, edit_line, fault_line, rows_line, refused_with, status_of, written_of, Ends}
 use Rattle.lrp_top.specs.Seen.{SinkSeen}
 use Rattle.lrp_top.specs.declared.status.Status.{Status}
 use Rattle.lrp_top.specs.declared.status.Status.TheVariants as status
 use Rattle.lrp_top.specs.declared.outcome.Refusal.{Refusal}
-use Rattle.lrp_top.specs.declared.outcome.Refusal.TheVariants.{Usage, ReadDatabase, LongDatabase, Database, ReadQuery, LongQuery, Query, PeriodLimit, BoundLimit, TokenForm, TokenShape, TokenStale, Cells, CanonHead, CanonRows, Memory}
+use Rattle.lrp_top.specs.declared.outcome.Refusal.TheVariants.{Usage, ReadDatabase, LongDatabase, Database, ReadQuery, LongQuery, Query, PeriodLimit, BoundLimit, TokenForm, TokenShape, TokenStale, Cells, CanonHead, CanonRows, Watch, Memory}
+use Rattle.lrp_top.specs.declared.watch_refusal.WatchRefusal.TheVariants as watch
 
 -- the seven pieces of the line of a fault
 pub fault_pieces : (whose kind : List ℕ) (place : Place) (a b c d e g h : List ℕ) → a ≡ whose → b ≡ kind → c ≡ codes " at " → d ≡ decimal place.line → e ≡ codes ":" → g ≡ decimal place.column → h ≡ codes "\n"
     → a ++ (b ++ (c ++ (d ++ (e ++ (g ++ (h ++ [])))))) ≡ fault_line whose kind place
 fault_pieces whose kind place a b c d e g h p q r s t u v = rw (p, q, r, s, t, u, v) refl
 
--- the five pieces of the line of a step with too many cells
-pub cells_pieces : (cap step : ℕ) (a b c d e : List ℕ) → a ≡ codes "refused: more than " → b ≡ decimal cap → c ≡ codes " cells at step " → d ≡ decimal step → e ≡ codes "\n" → a ++ (b ++ (c ++ (d ++ (e ++ [])))) ≡ cells_line cap step
-cells_pieces cap step a b c d e p q r s t = rw (p, q, r, s, t) refl
+-- the five pieces of the line of too many cells
+pub cells_pieces : (cap : ℕ) (place : List ℕ) (number : ℕ) (a b c d e : List ℕ) → a ≡ codes "refused: more than " → b ≡ decimal cap → c ≡ place → d ≡ decimal number → e ≡ codes "\n" → a ++ (b ++ (c ++ (d ++ (e ++ [])))) ≡ cells_line cap place number
+cells_pieces cap place number a b c d e p q r s t = rw (p, q, r, s, t) refl
+
+-- the three pieces of the line of an edit
+pub edit_pieces : (limit : List ℕ) (edit : ℕ) (a b c : List ℕ) → a ≡ limit → b ≡ decimal edit → c ≡ codes "\n" → a ++ (b ++ (c ++ [])) ≡ edit_line limit edit
+edit_pieces limit edit a b c p q r = rw (p, q, r) refl
 
 -- the three pieces of the line of a canonical answer with too many rows
 pub rows_pieces : (cap : ℕ) (a b c : List ℕ) → a ≡ codes "refused: more than " → b ≡ decimal cap → c ≡ codes " canonical rows\n" → a ++ (b ++ (c ++ [])) ≡ rows_line cap
@@ -55,6 +60,13 @@ refused_whole TokenStale e = cc
 refused_whole (Cells cap step) e = cc
 refused_whole CanonHead e = cc
 refused_whole (CanonRows cap) e = cc
+refused_whole (Watch watch.NotKept) e = cc
+refused_whole (Watch watch.Read) e = cc
+refused_whole (Watch watch.Long) e = cc
+refused_whole (Watch (watch.Edits fault)) e = cc
+refused_whole (Watch (watch.PeriodLimit edit)) e = cc
+refused_whole (Watch (watch.BoundLimit edit)) e = cc
+refused_whole (Watch (watch.Cells cap edit)) e = cc
 refused_whole Memory e = cc
 
 -- nor has any outcome

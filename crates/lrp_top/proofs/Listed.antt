@@ -29,12 +29,13 @@ use Rattle.lrp_list.specs.Listing.{AreEnds, HasNoneLeft, HasShapeOf, IsFirstLeft
 use Rattle.lrp_list.proofs.HeadOrder.{head_is}
 use Rattle.lrp_token.specs.Reading.{HasCounts}
 use Rattle.lrp_token.specs.Spots.{spot_token}
-use Rattle.lrp_top.specs.Known.{HasTimes, IsKnown, IsStanding, tuple_of}
+use Rattle.lrp_top.specs.Known.{HasTimes, IsKnown, IsStanding}
+use Rattle.lrp_watch.specs.Spots.{tuple_of}
 use Rattle.lrp_top.specs.Outputs.{page_text}
 use Rattle.lrp_top.specs.Resuming.{data_columns, shape_of}
 use Rattle.lrp_top.specs.Telling.{TellsPage, line_as, listed_bytes}
 use Rattle.lrp_top.specs.declared.page.Page.{Page}
-use Rattle.lrp_top.proofs.Answered.{same_page, texts_known}
+use Rattle.lrp_top.proofs.Answered.{HaveKnownTexts, same_page}
 use Rattle.lrp_model.specs.Tuples.{texts_at}
 
 -- ---- one more
@@ -96,14 +97,14 @@ magnitudes : (from to : ℤ) (xs : List ℤ) → AreEnds from to → AllByRecurs
 magnitudes from to [] e h = tt
 magnitudes from to (x ∷ xs) e h = (magnitude from to x e h.0.0 h.0.1, magnitudes from to xs e h.1)
 
-known_at : (a : Answer) (from to : ℤ) (spot : Spot) → AreEnds from to → IsStanding (window_of a from to) spot → IsKnown a spot
-known_at a from to spot e s =
+known_at : HaveKnownTexts → (a : Answer) (from to : ℤ) (spot : Spot) → AreEnds from to → IsStanding (window_of a from to) spot → IsKnown a spot
+known_at known a from to spot e s =
     let times : HasTimes a spot = subst (λ xs. AllByRecursion (λ x. nat_abs x ≤ greatest_number) xs) (sym s.stands.times) (magnitudes from to (times_of (tuple_of a spot)) e s.inside) in
-    ((texts_known a spot (tuple_of a spot) s.stands, times), (s.stands.times_padded.size, s.stands.texts_padded.size))
+    ((known a.store.shape a.domain spot (tuple_of a spot) s.stands, times), (s.stands.times_padded.size, s.stands.texts_padded.size))
 
-pub known_all : (a : Answer) (from to : ℤ) (spots : List Spot) → AreEnds from to → AllByRecursion (IsStanding (window_of a from to)) spots → AllByRecursion (IsKnown a) spots
-known_all a from to [] e h = tt
-known_all a from to (spot ∷ spots) e h = (known_at a from to spot e h.0, known_all a from to spots e h.1)
+pub known_all : HaveKnownTexts → (a : Answer) (from to : ℤ) (spots : List Spot) → AreEnds from to → AllByRecursion (IsStanding (window_of a from to)) spots → AllByRecursion (IsKnown a) spots
+known_all known a from to [] e h = tt
+known_all known a from to (spot ∷ spots) e h = (known_at known a from to spot e h.0, known_all known a from to spots e h.1)
 
 -- ---- the last spot
 

@@ -14,7 +14,7 @@ use Rattle.lrp_top.specs.Sources.{Source}
 use Rattle.lrp_top.specs.Steps.{Behind, Then}
 use Rattle.lrp_top.proofs.StepLemmas.{mapped, no_refusal, same_refusal}
 use Rattle.lrp_top.specs.declared.outcome.Refusal.{Refusal}
-use Rattle.lrp_top.specs.declared.outcome.Refusal.TheVariants.{Usage, ReadDatabase, LongDatabase, Database, ReadQuery, LongQuery, Query, PeriodLimit, BoundLimit, TokenForm, TokenShape, TokenStale, Cells, CanonHead, CanonRows, Memory}
+use Rattle.lrp_top.specs.declared.outcome.Refusal.TheVariants.{Usage, ReadDatabase, LongDatabase, Database, ReadQuery, LongQuery, Query, PeriodLimit, BoundLimit, TokenForm, TokenShape, TokenStale, Cells, CanonHead, CanonRows, Watch, Memory}
 use Rattle.lrp_top.specs.declared.question.Question.{Question}
 
 -- a count that rose later rose
@@ -47,6 +47,7 @@ asked_of tense db seen files before name bytes (Err TokenStale) l h = h
 asked_of tense db seen files before name bytes (Err (Cells cap step)) l h = h
 asked_of tense db seen files before name bytes (Err CanonHead) l h = h
 asked_of tense db seen files before name bytes (Err (CanonRows cap)) l h = h
+asked_of tense db seen files before name bytes (Err (Watch refusal)) l h = h
 asked_of tense db seen files before name bytes (Err Memory) l h = h
 
 pub asked_since : (tense : Bool) (db : List Relation) (seen : ShelfSeen) (files : Option (List File)) (before : Identifier → ℕ) (name : Identifier) (result : Result (Source Queried) Refusal) → IsQueryRead tense db seen name result → files ≡ seen.files → before name ≤ seen.faults_before name → IsQueryRead tense db (since files before seen) name result

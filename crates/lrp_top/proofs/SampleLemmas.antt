@@ -20,20 +20,20 @@ use Rattle.lrp_store.specs.Least.{IsLeastSpot}
 use Rattle.lrp_store.specs.Tables.{InAnswer}
 use Rattle.lrp_store.specs.declared.answer.Answer.{Answer}
 use Rattle.lrp_eval.specs.Answered.{IsAnswerOf}
-use Rattle.lrp_list.proofs.HeadOrder.{spot_tuple_is}
 use Rattle.lrp_sample.specs.Texts.{sample_database, sample_query}
 use Rattle.lrp_sample.specs.Trees.{raw_sample, sample_question, sample_relations}
 use Rattle.lrp_sample_laws.specs.Plans.{HasAtMostCells, IsOfFirstDay, IsSampleSize}
 use Rattle.lrp_top.specs.Due.{IsCounted, IsOutput, IsPlanned}
-use Rattle.lrp_top.specs.Known.{tuple_of}
+use Rattle.lrp_watch.specs.Spots.{tuple_of}
 use Rattle.lrp_top.specs.Outputs.{least_of, sample_text}
 use Rattle.lrp_top.specs.Questions.{IsMemory}
 use Rattle.lrp_eval.specs.Counts.{HasAnswerCount}
-use Rattle.lrp_top.specs.Sampled.{IsFirst, TellsSample, sample_lines}
+use Rattle.lrp_top.specs.Sampled.{TellsSample, sample_lines}
+use Rattle.lrp_watch.specs.First.{IsFirst}
 use Rattle.lrp_top.specs.declared.outcome.Refusal.{Refusal}
 use Rattle.lrp_top.specs.declared.outcome.Refusal.TheVariants.{PeriodLimit, BoundLimit, Cells, Memory}
 use Rattle.lrp_top.specs.declared.report.Report.{Report}
-use Rattle.lrp_top.proofs.Answered.{same_page}
+use Rattle.lrp_top.proofs.Answered.{StandForTuples, same_page}
 
 -- ---- want of memory
 
@@ -75,11 +75,11 @@ module _ (seed size : ℕ) (db : List Relation) (q : Question) (d : db ≡ sampl
 
 -- ---- the least answer
 
-pub least_is : (db : List Relation) (q : Question) (most : ℕ) (a : Answer) (o : Option Spot) → IsAnswerOf db q most a
+pub least_is : StandForTuples → (db : List Relation) (q : Question) (most : ℕ) (a : Answer) (o : Option Spot) → IsAnswerOf db q most a
     → IfNone o ((tuple : Tuple) → InAnswer a.head.columns a.domain a.store tuple → ⊥) → IfSome o (λ spot. IsLeastSpot a.head.columns a.domain a.store spot) → IsFirst db q (option_map (tuple_of a) o)
-least_is db q most a None is none some = λ tuple h. none tuple ((is.answers tuple).1 h)
-least_is db q most a (Some spot) is none some =
-    subst (λ t. IsLeast (IsAnswer db q) t) (sym (spot_tuple_is a.head.columns a.store.shape a.domain spot some.tuple some.least.is.shape some.stands))
+least_is stood db q most a None is none some = λ tuple h. none tuple ((is.answers tuple).1 h)
+least_is stood db q most a (Some spot) is none some =
+    subst (λ t. IsLeast (IsAnswer db q) t) (sym (stood a.head.columns a.store.shape a.domain spot some.tuple some.least.is.shape some.stands))
     (record { is = (is.answers some.tuple).0 some.least.is; first = λ other h. some.least.first other ((is.answers other).1 h) })
 
 -- ---- the first day

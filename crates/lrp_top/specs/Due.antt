@@ -3,7 +3,7 @@ use Rattle.std.specs.Prelude.{◌≡◌, ◌≢◌, ℕ, ℤ, Bool, true, false,
 use Rattle.std.specs.List.{AllByRecursion}
 use Rattle.std.specs.declared.alloc.Global.{Global}
 use Rattle.lrp_words.specs.Commands.{Task, command}
-use Rattle.lrp_words.specs.Commands.Task.{ask, decide, list, explain, check, sample}
+use Rattle.lrp_words.specs.Commands.Task.{ask, decide, list, explain, check, watch, sample}
 use Rattle.lrp_model.specs.AnswerTexts.{IsAnswerText}
 use Rattle.lrp_model.specs.Caps.{IsFirstMany, ManyAt}
 use Rattle.lrp_model.specs.DatabaseReading.{IsDatabase, IsDatabaseFault}
@@ -22,9 +22,11 @@ use Rattle.lrp_top.specs.Seen.{ShelfSeen, SinkSeen, HasFailed, IsOverrun}
 use Rattle.lrp_top.specs.Sources.{Source, FromFile}
 use Rattle.lrp_top.specs.Steps.{Then}
 use Rattle.lrp_top.specs.Telling.{TellsPage, TellsPlan, TellsRelations, TellsWitness}
+use Rattle.lrp_top.specs.Watched.{AreEditsRead, IsKeptForm, IsWatched}
 use Rattle.lrp_top.specs.Written.{IsFaultyAs, IsSortedAs, plain_if}
 use Rattle.lrp_top.specs.declared.outcome.Refusal.{Refusal}
-use Rattle.lrp_top.specs.declared.outcome.Refusal.TheVariants.{Usage, ReadDatabase, LongDatabase, Database, ReadQuery, LongQuery, Query, PeriodLimit, BoundLimit, Cells, CanonHead, CanonRows, Memory}
+use Rattle.lrp_top.specs.declared.outcome.Refusal.TheVariants.{Usage, ReadDatabase, LongDatabase, Database, ReadQuery, LongQuery, Query, PeriodLimit, BoundLimit, Cells, CanonHead, CanonRows, Watch, Memory}
+use Rattle.lrp_top.specs.declared.watch_refusal.WatchRefusal.TheVariants as watch_refusal
 use Rattle.lrp_top.specs.declared.status.Status.{Status}
 
 -- ---- the steps
@@ -121,6 +123,11 @@ abbrev pub IsPlannedFor : {B : Type 0} → Bool → Bool → Bool → ShelfSeen 
 IsPlannedFor canon tense civil seen database query Next result =
     Then (IsDatabaseRead civil seen database) (λ d. Then (IsQueryRead tense d.says seen query) (λ q. Then (IsPlannedAs canon d.says q.says) (Next d q))) result
 
+-- a database is read, then a query over its relations, which is to be in kept form, then edits of the database, and then they are made
+abbrev pub IsWatchedFor : ShelfSeen → Identifier → Identifier → Identifier → ℕ → Outcome → Type 0
+IsWatchedFor seen database query edits cap =
+    Then (IsDatabaseRead false seen database) (λ d. Then (IsQueryRead false d.says seen query) (λ q. Then (IsKeptForm q.says) (λ kept. Then (AreEditsRead d.says seen edits) (IsWatched d.says q.says cap))))
+
 -- each task; the sample makes its own texts, and is refused for want of memory alone
 abbrev pub IsDueOf : Task → ShelfSeen → Outcome → Type 0
 IsDueOf (ask database query cap tense canon civil) seen outcome = IsPlannedFor canon tense civil seen database query (IsAnswered canon cap) outcome
@@ -129,6 +136,7 @@ IsDueOf (list database query from to limit after json cap tense civil) seen outc
     IsPlannedFor false tense civil seen database query (IsListed civil from to limit after json cap) outcome
 IsDueOf (explain database query tense civil) seen outcome = IsPlannedFor false tense civil seen database query IsExplained outcome
 IsDueOf (check database civil) seen outcome = Then (IsDatabaseRead civil seen database) (λ d. IsOutput (TellsRelations d.says)) outcome
+IsDueOf (watch database query edits cap) seen outcome = IsWatchedFor seen database query edits cap outcome
 IsDueOf (sample seed size) seen outcome = IsOutput (TellsSample seed size) outcome
 
 -- ---- the lengths of files
@@ -140,6 +148,7 @@ files_of (decide database query cap tense civil) = database ∷ query ∷ []
 files_of (list database query from to limit after json cap tense civil) = database ∷ query ∷ []
 files_of (explain database query tense civil) = database ∷ query ∷ []
 files_of (check database civil) = database ∷ []
+files_of (watch database query edits cap) = database ∷ query ∷ edits ∷ []
 files_of (sample seed size) = []
 
 -- the names of the files that words name: none where they spell no task
@@ -154,6 +163,7 @@ files_named words = files_asked (command (map string_bytes words))
 abbrev pub IsTooLong : {B : Type 0} → Result B Refusal → Type 0
 IsTooLong (Err LongDatabase) = Unit {0}
 IsTooLong (Err LongQuery) = Unit {0}
+IsTooLong (Err (Watch watch_refusal.Long)) = Unit {0}
 IsTooLong (Err Memory) = Unit {0}
 IsTooLong _ = ⊥
 

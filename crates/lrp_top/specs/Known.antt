@@ -1,29 +1,21 @@
 -- Spots of an answer that can be written: their texts are known, and their times have a magnitude of at most 2^62.
-use Rattle.std.specs.Prelude.{◌≡◌, ◌<◌, ◌≤◌, ℕ, ℤ, nat_abs, Bool, true, false, List, [], ◌∷◌, length, take, map, Option, Some, None, IfSome}
+use Rattle.std.specs.Prelude.{◌≡◌, ◌≤◌, ℤ, nat_abs, Bool, true, false, List, [], ◌∷◌, length, take, map}
 use Rattle.std.specs.List.{AllByRecursion}
 use Rattle.std.specs.Coded.{×_prop, Unit-prop, le_prop, Coded-set, coded_list, coded_ℕ}
 use Rattle.std.proofs.Math.Dec.{T_prop}
 use Rattle.lrp_civil.specs.Moments.{IsCivilMinute}
 use Rattle.lrp_model.specs.Lexing.{greatest_number}
 use Rattle.lrp_model.specs.Order.{InWindow}
-use Rattle.lrp_model.specs.Pages.{Tuple}
 use Rattle.lrp_model.specs.Printed.{quoted}
 use Rattle.lrp_model.specs.Texts.{Text}
 use Rattle.lrp_model.specs.declared.tuples.Spot.{Spot}
 use Rattle.lrp_store.specs.declared.answer.Answer.{Answer}
 use Rattle.lrp_store.specs.Least.{StandsFor}
-use Rattle.lrp_list.specs.Lines.{IsFormOf, spot_tuple}
+use Rattle.lrp_list.specs.Lines.{IsFormOf}
+use Rattle.lrp_watch.specs.Spots.{HasKnownTexts, less_prop}
 use Rattle.lrp_list.specs.Listing.{WindowView, tuple_at}
 use Rattle.lrp_list.specs.declared.texts.Form.{Form}
 use Rattle.lrp_list.specs.declared.texts.Form.TheVariants.{Plain, Json}
-
--- the tuple that a spot of the answer stands for
-abbrev pub tuple_of : Answer → Spot → Tuple
-tuple_of a spot = spot_tuple a.head.columns a.store.shape a.domain spot
-
--- the numbers of its texts are numbers of the domain
-abbrev pub HasKnownTexts : Answer → Spot → Type 0
-HasKnownTexts a spot = AllByRecursion (λ n. n < length a.domain) (take a.store.shape.texts spot.texts)
 
 -- its times have a magnitude of at most 2^62
 abbrev pub HasTimes : Answer → Spot → Type 0
@@ -52,17 +44,9 @@ HaveCivilTimes true a spots = AllByRecursion (HasCivilTimes a) spots
 
 -- ---- these facts hold in at most one way
 
-less_prop : (bound : ℕ) (ns : List ℕ) → IsProp (AllByRecursion (λ n. n < bound) ns)
-less_prop bound [] = Unit-prop
-less_prop bound (n ∷ ns) = ×_prop (Prim.hlevel (le_prop)) (less_prop bound ns)
-
 small_prop : (xs : List ℤ) → IsProp (AllByRecursion (λ x. nat_abs x ≤ greatest_number) xs)
 small_prop [] = Unit-prop
 small_prop (x ∷ xs) = ×_prop (Prim.hlevel (le_prop)) (small_prop xs)
-
-pub spot_prop : (a : Answer) (spot : Option Spot) → IsProp (IfSome spot (HasKnownTexts a))
-spot_prop a None = Unit-prop
-spot_prop a (Some spot) = less_prop (length a.domain) (take a.store.shape.texts spot.texts)
 
 known_prop : (a : Answer) (spot : Spot) → IsProp (IsKnown a spot)
 known_prop a spot = ×_prop (×_prop (less_prop (length a.domain) (take a.store.shape.texts spot.texts)) (small_prop (take a.store.shape.times spot.times))) (×_prop (Coded-set coded_ℕ (length spot.times) 8) (Coded-set coded_ℕ (length spot.texts) 8))

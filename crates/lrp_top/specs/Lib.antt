@@ -9,6 +9,7 @@ pub mod Telling
 pub mod Written
 pub mod Sampled
 pub mod Canonical
+pub mod Watched
 pub mod Due
 pub mod Known
 pub mod Rooms

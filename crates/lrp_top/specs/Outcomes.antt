@@ -9,19 +9,35 @@ use Rattle.lrp_top.specs.Seen.{SinkSeen}
 use Rattle.lrp_top.specs.declared.status.Status.{Status}
 use Rattle.lrp_top.specs.declared.status.Status.TheVariants as status
 use Rattle.lrp_top.specs.declared.outcome.Refusal.{Refusal}
-use Rattle.lrp_top.specs.declared.outcome.Refusal.TheVariants.{Usage, ReadDatabase, LongDatabase, Database, ReadQuery, LongQuery, Query, PeriodLimit, BoundLimit, TokenForm, TokenShape, TokenStale, Cells, CanonHead, CanonRows, Memory}
+use Rattle.lrp_top.specs.declared.outcome.Refusal.TheVariants.{Usage, ReadDatabase, LongDatabase, Database, ReadQuery, LongQuery, Query, PeriodLimit, BoundLimit, TokenForm, TokenShape, TokenStale, Cells, CanonHead, CanonRows, Watch, Memory}
+use Rattle.lrp_top.specs.declared.watch_refusal.WatchRefusal.{WatchRefusal}
+use Rattle.lrp_top.specs.declared.watch_refusal.WatchRefusal.TheVariants as watch
 
 -- the line of a fault: whose it is, its kind, its line and its column
 abbrev pub fault_line : List ℕ → List ℕ → Place → List ℕ
 fault_line whose kind place = whose ++ (kind ++ (codes " at " ++ (decimal place.line ++ (codes ":" ++ (decimal place.column ++ codes "\n")))))
 
--- the line of a step that has more than cap cells
-abbrev pub cells_line : ℕ → ℕ → List ℕ
-cells_line cap step = codes "refused: more than " ++ (decimal cap ++ (codes " cells at step " ++ (decimal step ++ codes "\n")))
+-- the line of more than cap cells, and where they are: at the step or the edit of a number
+abbrev pub cells_line : ℕ → List ℕ → ℕ → List ℕ
+cells_line cap place number = codes "refused: more than " ++ (decimal cap ++ (place ++ (decimal number ++ codes "\n")))
+
+-- the line of an edit at which a limit is passed
+abbrev pub edit_line : List ℕ → ℕ → List ℕ
+edit_line limit edit = limit ++ (decimal edit ++ codes "\n")
 
 -- the line of a canonical answer that has more than cap rows
 abbrev pub rows_line : ℕ → List ℕ
 rows_line cap = codes "refused: more than " ++ (decimal cap ++ codes " canonical rows\n")
+
+-- the line of a refusal of a watch
+abbrev pub watch_line : WatchRefusal → List ℕ
+watch_line watch.NotKept = codes "refused: query not kept\n"
+watch_line watch.Read = codes "refused: read of edits\n"
+watch_line watch.Long = codes "refused: edits longer than 16777216 bytes\n"
+watch_line (watch.Edits fault) = fault_line (codes "refused: edits ") (database_word fault.kind) fault.place
+watch_line (watch.PeriodLimit edit) = edit_line (codes "refused: period above 4611686018427387904 at edit ") edit
+watch_line (watch.BoundLimit edit) = edit_line (codes "refused: bound above 4611686018427387904 at edit ") edit
+watch_line (watch.Cells cap edit) = cells_line cap (codes " cells at edit ") edit
 
 -- the line of a refusal
 abbrev pub line_of : Refusal → List ℕ
@@ -37,10 +53,21 @@ line_of BoundLimit = codes "refused: bound above 4611686018427387904\n"
 line_of TokenForm = codes "refused: token form\n"
 line_of TokenShape = codes "refused: token shape\n"
 line_of TokenStale = codes "refused: token stale\n"
-line_of (Cells cap step) = cells_line cap step
+line_of (Cells cap step) = cells_line cap (codes " cells at step ") step
 line_of CanonHead = codes "refused: canon needs one time column\n"
 line_of (CanonRows cap) = rows_line cap
+line_of (Watch refusal) = watch_line refusal
 line_of Memory = codes "refused: memory\n"
+
+-- the status of a refusal of a watch
+abbrev pub watch_refused_with : WatchRefusal → Status
+watch_refused_with watch.NotKept = status.Query
+watch_refused_with watch.Read = status.Read
+watch_refused_with watch.Long = status.Database
+watch_refused_with (watch.Edits fault) = status.Database
+watch_refused_with (watch.PeriodLimit edit) = status.Limit
+watch_refused_with (watch.BoundLimit edit) = status.Limit
+watch_refused_with (watch.Cells cap edit) = status.Limit
 
 -- the status of a refusal
 abbrev pub refused_with : Refusal → Status
@@ -59,6 +86,7 @@ refused_with TokenStale = status.Query
 refused_with (Cells cap step) = status.Limit
 refused_with CanonHead = status.Query
 refused_with (CanonRows cap) = status.Limit
+refused_with (Watch refusal) = watch_refused_with refusal
 refused_with Memory = status.Memory
 
 -- the bytes of an output, or a refusal

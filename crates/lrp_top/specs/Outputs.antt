@@ -8,7 +8,8 @@ use Rattle.lrp_model.specs.declared.tuples.Spot.{Spot}
 use Rattle.lrp_store.specs.declared.answer.Answer.{Answer}
 use Rattle.lrp_list.specs.AnswerText.{answer_text}
 use Rattle.lrp_list.specs.Lines.{is_json}
-use Rattle.lrp_top.specs.Known.{tuple_of}
+use Rattle.lrp_watch.specs.Leasts.{leasts_text}
+use Rattle.lrp_watch.specs.Spots.{tuple_of}
 use Rattle.lrp_top.specs.Outcomes.{Outcome}
 use Rattle.lrp_top.specs.Sampled.{sample_lines}
 use Rattle.lrp_top.specs.Telling.{listed_bytes}
@@ -46,6 +47,7 @@ output_text (output.Plan p) = plan_bytes p.plan
 output_text (output.Answer whole) = answer_text whole.answer
 output_text (output.Witness w) = witness_text w
 output_text (output.Page page) = page_text page
+output_text (output.Leasts leasts) = leasts_text leasts
 output_text (output.Sample report) = sample_text report
 
 -- what the run ends with

@@ -1,33 +1,21 @@
 -- What the sample tells.
-use Rattle.std.specs.Prelude.{◌≡◌, ℕ, pos, List, ◌++◌, length, Option, Some, None, codes}
+use Rattle.std.specs.Prelude.{◌≡◌, ℕ, pos, List, ◌++◌, length, Option, codes}
 use Rattle.std.specs.Fmt.{decimal}
 use Rattle.lrp_model.specs.DatabaseReading.{IsDatabase}
 use Rattle.lrp_model.specs.Formulas.{Question}
-use Rattle.lrp_model.specs.Order.{IsLeast}
 use Rattle.lrp_model.specs.Pages.{Tuple}
 use Rattle.lrp_model.specs.Plans.{plan}
-use Rattle.lrp_model.specs.PrintedPages.{plain_line}
-use Rattle.lrp_model.specs.Satisfaction.{IsAnswer}
 use Rattle.lrp_model.specs.declared.relations.Relation.{Relation}
 use Rattle.lrp_eval.specs.Counts.{HasAnswerCount, HasCells}
+use Rattle.lrp_watch.specs.First.{IsFirst, first_line}
 use Rattle.lrp_sample.specs.Texts.{sample_database, sample_query}
 use Rattle.lrp_top.specs.Written.{IsSorted}
-
--- the least answer, where there is one
-abbrev pub IsFirst : List Relation → Question → Option Tuple → Type 0
-IsFirst db q None = (tuple : Tuple) → IsAnswer db q tuple → ⊥
-IsFirst db q (Some tuple) = IsLeast (IsAnswer db q) tuple
 
 -- ---- the four lines
 
 -- the numbers of rows and of cells, and the word before the least answer
 abbrev pub counts_text : ℕ → ℕ → List ℕ
 counts_text rows cells = codes "rows " ++ (decimal rows ++ (codes "\ncells " ++ (decimal cells ++ codes "\nfirst ")))
-
--- the line of the least answer
-abbrev pub first_line : Option Tuple → List ℕ
-first_line None = codes "none\n"
-first_line (Some tuple) = plain_line tuple
 
 -- the number of answers in the window
 abbrev pub window_line : ℕ → List ℕ

@@ -17,6 +17,7 @@ use crate::question::question_of;
 use crate::sampling::sample;
 use crate::seeing::Watched;
 use crate::serving::serve;
+use crate::watching::{WatchFiles, watch};
 use lrp_io::Shelf;
 use lrp_rel::databases_read_back;
 use lrp_words::{Command, Usage, read_words};
@@ -100,6 +101,19 @@ fn carry_out<F: Shelf>(
             ask(alloc, &files, &Purpose::Plan, shelf)
         }
         Command::Check { db, civil } => check(alloc, db, civil, shelf),
+        Command::Watch {
+            db: database,
+            query,
+            edits,
+            cap,
+        } => {
+            let files = WatchFiles {
+                database,
+                query,
+                edits,
+            };
+            watch(alloc, &files, cap, shelf)
+        }
         Command::Sample { seed, size } => sample(alloc, seed, size),
     }
 }

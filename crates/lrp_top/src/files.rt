@@ -1,11 +1,16 @@
 // The files of a command, or why there are none.
 ghost use Rattle.std.specs.Prelude.{◌≡◌, ◌≤◌, IfOk, List as ListOf, ℕ};
+ghost use Rattle.std.specs.List.{AllByRecursion};
+ghost use Rattle.lrp_edits.specs.EditMeaning.{IsEditOf};
 ghost use Rattle.lrp_top.specs.Due.{IsDatabaseRead, IsQueryRead, TellsLength};
 ghost use Rattle.lrp_top.specs.Questions.{IsFit, asked_as, read_as};
+ghost use Rattle.lrp_top.specs.Watched.{AreEditsRead};
 
 use crate::outcome::Refusal;
-use crate::reading::{database_in, query_in};
+use crate::reading::{database_in, edits_in, query_in};
 use crate::seeing::Watched;
+use crate::watch_refusal::WatchRefusal;
+use lrp_edits::Edit;
 use lrp_io::{LoadFault, Shelf, load};
 use lrp_model::{List, Query};
 use lrp_rel::Database;
@@ -80,11 +85,32 @@ pub fn query_of<F: Shelf>(
     ensures asked { IsQueryRead tense database.now (⟦<F as Watched>⟧.seen shelf.old shelf.new) name.now (asked_as result) }
     ensures long { TellsLength (⟦<F as Watched>⟧.seen shelf.old shelf.new) result }
     ensures fit { IfOk result (λ file. IsFit database.now file) }
+    ensures files { F.files shelf.new ≡ F.files shelf.old }
+    ensures later { (other : ListOf ℕ) → F.faults shelf.old other ≤ F.faults shelf.new other }
 {
     match load(alloc, shelf, name) {
         Ok(bytes) => query_in(alloc, database, bytes, tense),
         Err(LoadFault::Failed) => Err(Refusal::ReadQuery),
         Err(LoadFault::TooLong) => Err(Refusal::LongQuery),
+        Err(LoadFault::Memory) => Err(Refusal::Memory),
+    }
+}
+
+/// The edits of a file, over a database.
+pub fn edits_of<F: Shelf>(
+    alloc: Global,
+    database: &Database,
+    name: &str,
+    shelf: &mut F,
+) -> Result<List<Edit>, Refusal>
+    ensures read { AreEditsRead database.now (⟦<F as Watched>⟧.seen shelf.old shelf.new) name.now result }
+    ensures long { TellsLength (⟦<F as Watched>⟧.seen shelf.old shelf.new) result }
+    ensures lawful { IfOk result (AllByRecursion (IsEditOf database.now)) }
+{
+    match load(alloc, shelf, name) {
+        Ok(bytes) => edits_in(alloc, database, bytes.as_slice()),
+        Err(LoadFault::Failed) => Err(Refusal::Watch(WatchRefusal::Read)),
+        Err(LoadFault::TooLong) => Err(Refusal::Watch(WatchRefusal::Long)),
         Err(LoadFault::Memory) => Err(Refusal::Memory),
     }
 }

@@ -19,6 +19,8 @@ mod sampling;
 mod seeing;
 mod serving;
 mod status;
+mod watch_refusal;
+mod watching;
 mod witness;
 mod writing;
 
@@ -27,3 +29,4 @@ pub use lrp_words::{Command, Usage, read_words};
 pub use outcome::Refusal;
 pub use running::run;
 pub use status::Status;
+pub use watch_refusal::WatchRefusal;

@@ -6,7 +6,8 @@ ghost use Rattle.lrp_io.specs.Pieces.{IsWritten};
 ghost use Rattle.lrp_list.specs.Lines.{is_json};
 ghost use Rattle.lrp_model.specs.Pages.{last_of};
 ghost use Rattle.lrp_model.specs.PrintedPages.{end_line, token_behind, token_of};
-ghost use Rattle.lrp_top.specs.Known.{HaveCivilTimes, IsKnown, tuple_of};
+ghost use Rattle.lrp_top.specs.Known.{HaveCivilTimes, IsKnown};
+ghost use Rattle.lrp_watch.specs.Spots.{tuple_of};
 ghost use Rattle.lrp_top.specs.Outputs.{page_text};
 ghost use Rattle.lrp_top.specs.Telling.{line_as};
 

@@ -1,7 +1,7 @@
 // What a run decides before its first byte is written: an output, or a refusal.
 ghost use Rattle.std.specs.Prelude.{◌≡◌};
 ghost use Rattle.lrp_top.specs.Outcomes.{refused_with};
-ghost use Rattle.lrp_top.specs.Refusals.{limited_by, refused_by, token_refused};
+ghost use Rattle.lrp_top.specs.Refusals.{limited_by, refused_at, refused_by, token_refused};
 ghost use Rattle.lrp_top.specs.declared.outcome.Refusal.TheVariants.{Memory as memory};
 
 use crate::Status;
@@ -9,11 +9,13 @@ use crate::answer::WholeAnswer;
 use crate::page::Page;
 use crate::plan::WritablePlan;
 use crate::report::Report;
+use crate::watch_refusal::WatchRefusal;
 use crate::witness::Witness;
 use lrp_model::{DbFault, LIMIT, QueryFault, QueryRead};
 use lrp_plan::PlanFault;
 use lrp_rel::Database;
 use lrp_token::TokenFault;
+use lrp_watch::{Leasts, WatchFault};
 use thiserror::Error;
 
 /// What a command writes.
@@ -29,6 +31,8 @@ pub enum Output {
     Witness(Witness),
     /// A page of answers of a query.
     Page(Page),
+    /// The least answers of a query while rows are added and taken out.
+    Leasts(Leasts),
     /// What is told of the sample.
     Sample(Report),
 }
@@ -81,6 +85,9 @@ pub enum Refusal {
     /// The canonical answer has more than `cap` rows.
     #[error("more than {cap} canonical rows")]
     CanonRows { cap: u32 },
+    /// Least answers are not told of the query.
+    #[error("{0}")]
+    Watch(WatchRefusal),
     /// Memory was refused.
     #[error("memory")]
     Memory,
@@ -105,7 +112,20 @@ impl Refusal {
             | Refusal::BoundLimit
             | Refusal::Cells { .. }
             | Refusal::CanonRows { .. } => Status::Limit,
+            Refusal::Watch(refusal) => refusal.status(),
             Refusal::Memory => Status::Memory,
+        }
+    }
+
+    /// The refusal of a watch whose fault this is, where at most `cap` cells are allowed.
+    pub(crate) fn of_watch(fault: WatchFault, cap: u32) -> Refusal
+        ensures { result ≡ refused_at cap fault }
+    {
+        match fault {
+            WatchFault::PeriodLimit { edit } => Refusal::Watch(WatchRefusal::PeriodLimit { edit }),
+            WatchFault::BoundLimit { edit } => Refusal::Watch(WatchRefusal::BoundLimit { edit }),
+            WatchFault::TooManyCells { edit } => Refusal::Watch(WatchRefusal::Cells { cap, edit }),
+            WatchFault::Memory => Refusal::Memory,
         }
     }
 }

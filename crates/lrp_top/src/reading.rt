@@ -1,5 +1,7 @@
-// What the bytes of files say: a database, and a well-sorted query over it.
+// What the bytes of files say: a database, a well-sorted query over it, and edits of it.
 ghost use Rattle.std.specs.Prelude.{◌≤◌, IfErr, IfOk, List as ListOf, ℕ, length};
+ghost use Rattle.std.specs.List.{AllByRecursion};
+ghost use Rattle.lrp_edits.specs.EditMeaning.{IsEditOf};
 ghost use Rattle.lrp_model.specs.DatabaseReading.{IsDatabase};
 ghost use Rattle.lrp_model.specs.Checked.{plain_question};
 ghost use Rattle.lrp_model.specs.RawQueries.{RawQuestion, raw_question_of};
@@ -11,11 +13,14 @@ ghost use Rattle.lrp_tense.specs.Lawful.{IsLawfulExpansion};
 ghost use Rattle.lrp_top.specs.Due.{IsDatabaseReadOf, IsQueryReadOf};
 ghost use Rattle.lrp_top.specs.Questions.{IsDatabaseOrMemory, IsFit, IsQueryOrMemory, IsSaidBy, IsUnreadAs, asked_as, read_as};
 ghost use Rattle.lrp_top.specs.Seen.{ShelfSeen};
+ghost use Rattle.lrp_top.specs.Watched.{AreEditsReadOf};
 ghost use Rattle.lrp_top.specs.Written.{plain_if};
 
 use crate::files::{DatabaseFile, QueryFile};
 use crate::outcome::Refusal;
+use crate::watch_refusal::WatchRefusal;
 use lrp_civil::plain_text;
+use lrp_edits::{Edit, read_edits};
 use lrp_list::heads_are_columns;
 use lrp_model::{List, Memory, QueryRead, RawQuery};
 use lrp_plan_laws::{periods_are_least, sorted_queries_are_settled};
@@ -90,5 +95,18 @@ fn raw_of(alloc: Global, bytes: &[u8], tense: bool) -> Result<RawQuery, QueryRea
     match expand(alloc, &written) {
         Ok(raw) => Ok(raw),
         Err(Memory) => Err(QueryRead::Memory),
+    }
+}
+
+/// The edits of a file's bytes, over a database.
+pub fn edits_in(alloc: Global, database: &Database, bytes: &[u8]) -> Result<List<Edit>, Refusal>
+    requires { length bytes.now ≤ 16777216 }
+    ensures read { (seen : ShelfSeen) (name : ListOf ℕ) → AreEditsReadOf database.now seen name bytes.now result }
+    ensures lawful { IfOk result (AllByRecursion (IsEditOf database.now)) }
+{
+    match read_edits(alloc, bytes, database) {
+        Ok(edits) => Ok(edits),
+        Err(ReadFault::Fault { fault }) => Err(Refusal::Watch(WatchRefusal::Edits(fault))),
+        Err(ReadFault::Memory) => Err(Refusal::Memory),
     }
 }

@@ -2,14 +2,13 @@
 ghost use Rattle.lrp_io.specs.Causes.{HasCause};
 ghost use Rattle.lrp_io.specs.Pieces.{IsWritten};
 ghost use Rattle.lrp_top.specs.Outputs.{least_of};
-ghost use Rattle.lrp_top.specs.Sampled.{counts_text, first_line, window_line};
+ghost use Rattle.lrp_top.specs.Sampled.{counts_text, window_line};
+ghost use Rattle.lrp_watch.specs.First.{first_line};
 
 use crate::witness::Witness;
 use crate::writing::write_pieces;
 use itoa::Buffer;
 use lrp_io::{Failed, Sink, Text};
-use lrp_list::{Form, write_line};
-use lrp_print::write_bytes;
 
 /// How many rows the sample has, how many cells its last step inhabits, its least answer, and how many answers its window has.
 #[derive(Drop)]
@@ -54,10 +53,7 @@ fn write_first<S: Sink>(out: &mut S, first: &Witness) -> Result<(), Failed>
     ensures text { IsWritten (S.written out.old) (S.written out.new) (first_line (least_of first.now)) result }
     ensures cause { HasCause (S.faults out.old) (S.faults out.new) result }
 {
-    match &first.least {
-        None => write_bytes(out, b"none\n"),
-        Some(spot) => write_line(out, &first.answer, spot, &Form::Plain),
-    }
+    lrp_watch::write_first(out, &first.answer, &first.least)
 }
 
 /// The number of answers in the window.

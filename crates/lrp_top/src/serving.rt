@@ -9,7 +9,7 @@ ghost use Rattle.lrp_top.specs.Canonical.{IsCanonicalText};
 ghost use Rattle.lrp_top.specs.Due.{AreRowsCounted, IsAnswered, IsCounted, IsDecided, IsOutput};
 ghost use Rattle.lrp_top.specs.Outputs.{least_of as least_tuple, told, witness_text};
 ghost use Rattle.lrp_top.specs.Questions.{HasOneTime, HasWindow, IsReady, IsServed, database_source, done_as, is_canonical, query_source};
-ghost use Rattle.lrp_top.specs.Sampled.{IsFirst};
+ghost use Rattle.lrp_watch.specs.First.{IsFirst};
 ghost use Rattle.lrp_top.specs.Steps.{Then};
 ghost use Rattle.lrp_top.specs.Telling.{TellsWitness};
 
@@ -20,13 +20,14 @@ use crate::plan::WritablePlan;
 use crate::purpose::Purpose;
 use crate::question::Question;
 use crate::witness::Witness;
-use lrp_canon::{canonical, canonical_rows};
+use lrp_canon::canonical_within;
 use lrp_eval::{EvalFault, answer};
 use lrp_list::answers_are_texts;
 use lrp_model::Memory;
 use lrp_plan_laws::{plan_rises, steps_are_made};
 use lrp_store::Answer;
 use lrp_theory::floors_keep_bounds;
+use lrp_watch::{small_answers_have_room, spots_stand_for_tuples};
 use std::alloc::Global;
 
 /// What is told of a question for a purpose, or the first refusal behind its plan.
@@ -55,7 +56,7 @@ pub fn answers(alloc: Global, question: &Question, cap: u32) -> Result<Answer, R
 {
     match answer(alloc, &question.plan, &question.database.relations, cap) {
         Ok(answer) => {
-            answer.store.shape();
+            small_answers_have_room();
             plan_rises();
             steps_are_made();
             Ok(answer)
@@ -107,21 +108,21 @@ fn canonical_answer(alloc: Global, question: &Question, cap: u32) -> Result<Outp
     ensures due { IsAnswered true cap (database_source question.now.database) (query_source question.now.query) question.now.plan (told result) }
 {
     match answers(alloc, question, cap) {
-        Ok(answer) => counted_rows(alloc, question, &answer, cap),
+        Ok(answer) => canonical_text(alloc, question, answer, cap),
         Err(refusal) => Err(refusal),
     }
 }
 
-/// The canonical answer of these answers, or that it has more than `cap` rows.
-fn counted_rows(
+/// The canonical answer of these answers as it is written, or that it has more than `cap` rows.
+fn canonical_text(
     alloc: Global,
     question: &Question,
-    answer: &Answer,
+    answer: Answer,
     cap: u32,
 ) -> Result<Output, Refusal>
     requires ready { IsReady question.now }
     requires head { time_columns question.now.query.query.head.columns ≡ 1 }
-    requires answers { IsAnswerOf question.now.database.relations (question_of question.now.query.query) cap answer.now }
+    requires answers { IsAnswerOf question.now.database.relations (question_of question.now.query.query) cap answer }
     ensures due { Then (AreRowsCounted question.now.database.relations (question_of question.now.query.query) cap)
         (λ counted. IsOutput (IsCanonicalText question.now.database.relations (question_of question.now.query.query))) (told result) }
 {
@@ -130,32 +131,10 @@ fn counted_rows(
     plan_rises();
     steps_are_made();
     floors_keep_bounds();
-    match canonical_rows(alloc, answer, cap) {
-        Ok(Some(_)) => canonical_text(alloc, question, answer, cap),
-        Ok(None) => Err(Refusal::CanonRows { cap }),
-        Err(Memory) => Err(Refusal::Memory),
-    }
-}
-
-/// The canonical answer of these answers as it is written.
-fn canonical_text(
-    alloc: Global,
-    question: &Question,
-    answer: &Answer,
-    cap: u32,
-) -> Result<Output, Refusal>
-    requires ready { IsReady question.now }
-    requires head { time_columns question.now.query.query.head.columns ≡ 1 }
-    requires answers { IsAnswerOf question.now.database.relations (question_of question.now.query.query) cap answer.now }
-    ensures output { IsOutput (IsCanonicalText question.now.database.relations (question_of question.now.query.query)) (told result) }
-{
-    answer.store.shape();
-    answer.domain.len();
-    plan_rises();
-    steps_are_made();
     answers_are_texts();
-    match canonical(alloc, answer) {
-        Ok(answer) => Ok(Output::Answer(WholeAnswer { answer })),
+    match canonical_within(alloc, answer, cap) {
+        Ok(Some(answer)) => Ok(Output::Answer(WholeAnswer { answer })),
+        Ok(None) => Err(Refusal::CanonRows { cap }),
         Err(Memory) => Err(Refusal::Memory),
     }
 }
@@ -177,6 +156,7 @@ pub fn least_of(answer: Answer) -> Witness
     ensures least { (db : List Relation) (q : Queried) (cap : ℕ) → IsAnswerOf db q cap answer → TellsWitness db q (witness_text result) }
     ensures first { (db : List Relation) (q : Queried) (cap : ℕ) → IsAnswerOf db q cap answer → IsFirst db q (least_tuple result) }
 {
+    spots_stand_for_tuples();
     let least = answer.least();
     Witness { answer, least }
 }

@@ -1,6 +1,6 @@
 // The least answer as it is written.
 ghost use Rattle.std.specs.Prelude.{IfSome};
-ghost use Rattle.lrp_top.specs.Known.{HasKnownTexts, spot_prop};
+ghost use Rattle.lrp_watch.specs.Spots.{HasKnownTexts, spot_prop};
 
 use lrp_io::{Failed, Sink, Text};
 use lrp_list::{Form, write_line};

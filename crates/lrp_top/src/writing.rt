@@ -2,10 +2,11 @@
 ghost use Rattle.std.specs.List.{flat_map};
 ghost use Rattle.lrp_io.specs.Causes.{HasCause};
 ghost use Rattle.lrp_io.specs.Pieces.{IsWritten};
-ghost use Rattle.lrp_top.specs.Outcomes.{cells_line, fault_line, line_of, rows_line, written_of};
+ghost use Rattle.lrp_top.specs.Outcomes.{cells_line, edit_line, fault_line, line_of, rows_line, watch_line, written_of};
 ghost use Rattle.lrp_top.specs.Outputs.{told};
 
 use crate::outcome::{Output, Refusal};
+use crate::watch_refusal::WatchRefusal;
 use itoa::Buffer;
 use lrp_io::{Failed, Sink, Text, write_buffered};
 use lrp_model::Place;
@@ -23,6 +24,7 @@ pub fn write_outcome<S: Sink>(out: &mut S, outcome: &Result<Output, Refusal>) ->
         Ok(Output::Plan(plan)) => write_buffered(out, plan),
         Ok(Output::Witness(witness)) => write_buffered(out, witness),
         Ok(Output::Page(page)) => write_buffered(out, page),
+        Ok(Output::Leasts(leasts)) => write_buffered(out, leasts),
         Ok(Output::Sample(report)) => write_buffered(out, report),
         Err(refusal) => write_refusal(out, refusal),
     }
@@ -68,11 +70,54 @@ fn write_refusal<S: Sink>(out: &mut S, refusal: &Refusal) -> Result<(), Failed>
         Refusal::TokenForm => write_bytes(out, b"refused: token form\n"),
         Refusal::TokenShape => write_bytes(out, b"refused: token shape\n"),
         Refusal::TokenStale => write_bytes(out, b"refused: token stale\n"),
-        Refusal::Cells { cap, step } => write_cells(out, *cap, *step),
+        Refusal::Cells { cap, step } => {
+            write_cells(out, *cap, b" cells at step ", u64::from(*step))
+        }
         Refusal::CanonHead => write_bytes(out, b"refused: canon needs one time column\n"),
         Refusal::CanonRows { cap } => write_rows(out, *cap),
+        Refusal::Watch(refusal) => write_watch_refusal(out, refusal),
         Refusal::Memory => write_bytes(out, b"refused: memory\n"),
     }
+}
+
+/// Writes the line of a refusal of a watch.
+fn write_watch_refusal<S: Sink>(out: &mut S, refusal: &WatchRefusal) -> Result<(), Failed>
+    ensures text { IsWritten (S.written out.old) (S.written out.new) (watch_line refusal.now) result }
+    ensures cause { HasCause (S.faults out.old) (S.faults out.new) result }
+{
+    match refusal {
+        WatchRefusal::NotKept => write_bytes(out, b"refused: query not kept\n"),
+        WatchRefusal::Read => write_bytes(out, b"refused: read of edits\n"),
+        WatchRefusal::Long => write_bytes(out, b"refused: edits longer than 16777216 bytes\n"),
+        WatchRefusal::Edits(fault) => {
+            write_fault(out, b"refused: edits ", fault.kind.word(), fault.place)
+        }
+        WatchRefusal::PeriodLimit { edit } => {
+            write_edit(
+                out,
+                b"refused: period above 4611686018427387904 at edit ",
+                *edit,
+            )
+        }
+        WatchRefusal::BoundLimit { edit } => {
+            write_edit(
+                out,
+                b"refused: bound above 4611686018427387904 at edit ",
+                *edit,
+            )
+        }
+        WatchRefusal::Cells { cap, edit } => write_cells(out, *cap, b" cells at edit ", *edit),
+    }
+}
+
+/// Writes the line of an edit at which a limit is passed.
+fn write_edit<S: Sink>(out: &mut S, limit: &[u8], edit: u64) -> Result<(), Failed>
+    ensures text { IsWritten (S.written out.old) (S.written out.new) (edit_line limit.now edit) result }
+    ensures cause { HasCause (S.faults out.old) (S.faults out.new) result }
+{
+    let mut number = Buffer::new();
+    let pieces = [limit, number.format(edit).as_bytes(), b"\n".as_slice()];
+    write_pieces(out, &pieces)
 }
 
 /// Writes the line of a fault of a file's text.
@@ -94,18 +139,18 @@ fn write_fault<S: Sink>(out: &mut S, whose: &[u8], kind: &str, place: Place) -> 
     write_pieces(out, &pieces)
 }
 
-/// Writes the line of a step with too many cells.
-fn write_cells<S: Sink>(out: &mut S, cap: u32, step: u32) -> Result<(), Failed>
-    ensures text { IsWritten (S.written out.old) (S.written out.new) (cells_line cap step) result }
+/// Writes the line of too many cells at a place of this number.
+fn write_cells<S: Sink>(out: &mut S, cap: u32, place: &[u8], number: u64) -> Result<(), Failed>
+    ensures text { IsWritten (S.written out.old) (S.written out.new) (cells_line cap place.now number) result }
     ensures cause { HasCause (S.faults out.old) (S.faults out.new) result }
 {
     let mut most = Buffer::new();
-    let mut number = Buffer::new();
+    let mut spelled = Buffer::new();
     let pieces = [
         b"refused: more than ".as_slice(),
         most.format(cap).as_bytes(),
-        b" cells at step ".as_slice(),
-        number.format(step).as_bytes(),
+        place,
+        spelled.format(number).as_bytes(),
         b"\n".as_slice(),
     ];
     write_pieces(out, &pieces)

@@ -5,9 +5,9 @@ use Rattle.std.specs.Str.{bytes_eq}
 use Rattle.lrp_model.specs.Texts.{Text}
 use Rattle.lrp_civil.specs.Minutes.{minute_by}
 use Rattle.lrp_words.specs.declared.keys.Key.{Key}
-use Rattle.lrp_words.specs.declared.keys.Key.TheVariants.{Db, Query, Cap, From, To, Limit, After, Form, Tense, Canon, Civil, Seed, Size}
+use Rattle.lrp_words.specs.declared.keys.Key.TheVariants.{Db, Query, Edits, Cap, From, To, Limit, After, Form, Tense, Canon, Civil, Seed, Size}
 use Rattle.lrp_words.specs.declared.command.Command.{Command}
-use Rattle.lrp_words.specs.declared.command.Command.TheVariants.{Ask, Decide, List as Page, Explain, Check, Sample}
+use Rattle.lrp_words.specs.declared.command.Command.TheVariants.{Ask, Decide, List as Page, Explain, Check, Watch, Sample}
 use Rattle.lrp_words.specs.Entries.{value_for, are_given}
 use Rattle.lrp_words.specs.Numbers.{natural, within, integer_up_to}
 
@@ -18,6 +18,7 @@ pub data Task : Type 0 where
   list : Text → Text → ℤ → ℤ → ℕ → Option Text → Bool → ℕ → Bool → Bool → Task
   explain : Text → Text → Bool → Bool → Task
   check : Text → Bool → Task
+  watch : Text → Text → Text → ℕ → Task
   sample : ℕ → ℕ → Task
 
 -- a text that may be left out
@@ -32,6 +33,7 @@ task_of (Decide db query cap tense civil) = decide db.now query.now cap tense ci
 task_of (Page db query from to limit after json cap tense civil) = list db.now query.now from to limit (after_text after) json cap tense civil
 task_of (Explain db query tense civil) = explain db.now query.now tense civil
 task_of (Check db civil) = check db.now civil
+task_of (Watch db query edits cap) = watch db.now query.now edits.now cap
 task_of (Sample seed size) = sample seed size
 
 -- and what may be a command
@@ -84,12 +86,15 @@ cap_of words = number_or 1000000 1 1000000000 (value_for Cap words)
 abbrev pub limit_of : List Text → Option ℕ
 limit_of words = number_or 1000 1 1000000 (value_for Limit words)
 
--- the files of a database and a query
+-- the files of a database, a query and edits
 abbrev pub database_name : List Text → Option Text
 database_name words = file (value_for Db words)
 
 abbrev pub query_name : List Text → Option Text
 query_name words = file (value_for Query words)
+
+abbrev pub edits_name : List Text → Option Text
+edits_name words = file (value_for Edits words)
 
 -- whether the query may have temporal operators
 abbrev pub tense_of : List Text → Option Bool
@@ -143,6 +148,13 @@ check_of words = with_some (database_name words) (λ db. with_some (civil_of wor
 abbrev pub check_keys : List Key
 check_keys = Db ∷ Civil ∷ []
 
+abbrev pub watch_of : List Text → Option Task
+watch_of words =
+    with_some (database_name words) (λ db. with_some (query_name words) (λ query. with_some (edits_name words) (λ edits. with_some (cap_of words) (λ cap. Some (watch db query edits cap)))))
+
+abbrev pub watch_keys : List Key
+watch_keys = Db ∷ Query ∷ Edits ∷ Cap ∷ []
+
 abbrev pub sample_of : List Text → Option Task
 sample_of words = with_some (number_in 0 1000000 (value_for Seed words)) (λ seed. with_some (number_in 1 500 (value_for Size words)) (λ size. Some (sample seed size)))
 
@@ -162,4 +174,5 @@ command (name ∷ words) =
     if bytes_eq name (codes "list") then over list_keys words (list_of words) else
     if bytes_eq name (codes "explain") then over explain_keys words (explain_of words) else
     if bytes_eq name (codes "check") then over check_keys words (check_of words) else
+    if bytes_eq name (codes "watch") then over watch_keys words (watch_of words) else
     if bytes_eq name (codes "sample") then over sample_keys words (sample_of words) else None

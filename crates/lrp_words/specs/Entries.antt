@@ -4,12 +4,13 @@ use Rattle.std.specs.List.{list_all, list_any, before_first, after_first}
 use Rattle.std.specs.Str.{bytes_eq}
 use Rattle.lrp_model.specs.Texts.{Text}
 use Rattle.lrp_words.specs.declared.keys.Key.{Key}
-use Rattle.lrp_words.specs.declared.keys.Key.TheVariants.{Db, Query, Cap, From, To, Limit, After, Form, Tense, Canon, Civil, Seed, Size}
+use Rattle.lrp_words.specs.declared.keys.Key.TheVariants.{Db, Query, Edits, Cap, From, To, Limit, After, Form, Tense, Canon, Civil, Seed, Size}
 
 -- how a key is spelled
 abbrev pub key_name : Key → Text
 key_name Db = codes "db"
 key_name Query = codes "query"
+key_name Edits = codes "edits"
 key_name Cap = codes "cap"
 key_name From = codes "from"
 key_name To = codes "to"

@@ -7,6 +7,7 @@ ghost use Rattle.lrp_words.specs.Entries.{key_name};
 pub enum Key {
     Db,
     Query,
+    Edits,
     Cap,
     From,
     To,
@@ -28,6 +29,7 @@ impl Key {
         match self {
             Key::Db => "db",
             Key::Query => "query",
+            Key::Edits => "edits",
             Key::Cap => "cap",
             Key::From => "from",
             Key::To => "to",

@@ -1,6 +1,6 @@
 // Words as a command: its name, and then the values of its keys.
 ghost use Rattle.std.specs.Prelude.{◌≡◌, ◌<◌, ◌≤◌, ◌^◌, [], ◌∷◌, map, string_bytes, Some, None, IfOk, IfSome, MatchResult};
-ghost use Rattle.lrp_words.specs.Commands.{ask_keys, ask_of, canon_of, cap_of, check_keys, check_of, civil_of, command, decide_keys, decide_of, end_of, explain_keys, explain_of, flag_of, file as file_by, json_of as is_json_by, limit_of, list_keys, list_of, number_in as number_by, number_or as number_or_by, over, sample_keys, sample_of, task_of, tasks_of, tense_of, after_text};
+ghost use Rattle.lrp_words.specs.Commands.{ask_keys, ask_of, canon_of, cap_of, check_keys, check_of, civil_of, command, decide_keys, decide_of, end_of, explain_keys, explain_of, flag_of, file as file_by, json_of as is_json_by, limit_of, list_keys, list_of, number_in as number_by, number_or as number_or_by, over, sample_keys, sample_of, task_of, tasks_of, tense_of, after_text, watch_keys, watch_of};
 ghost use Rattle.lrp_words.specs.Entries.{value_for as value_by};
 ghost use Rattle.lrp_words.specs.Ranges.{IsInRange, IsEnd};
 
@@ -37,6 +37,7 @@ fn named<'a>(name: &str, words: &'a [String]) -> Option<Command<'a>>
         "list" => list(words),
         "explain" => explain(words),
         "check" => check(words),
+        "watch" => watch(words),
         "sample" => sample(words),
         _ => None,
     }
@@ -146,6 +147,21 @@ fn check(words: &[String]) -> Option<Command<'_>>
     Some(Command::Check {
         db: file(Key::Db, words)?,
         civil: civil(words)?,
+    })
+}
+
+fn watch(words: &[String]) -> Option<Command<'_>>
+    ensures task { tasks_of result ≡ over watch_keys (map string_bytes words.now) (watch_of (map string_bytes words.now)) }
+    ensures range { IfSome result (λ found. IsInRange (task_of found)) }
+{
+    if !are_given(&[Key::Db, Key::Query, Key::Edits, Key::Cap], words) {
+        return None;
+    }
+    Some(Command::Watch {
+        db: file(Key::Db, words)?,
+        query: file(Key::Query, words)?,
+        edits: file(Key::Edits, words)?,
+        cap: cap(words)?,
     })
 }
 

@@ -5,4 +5,4 @@ pub returns : goal.returns
 returns c = complete_run (record { one = c.texts_are_of_one_database.ensures; faultless = c.databases_have_no_fault.ensures })
     (each_texts (plain_texts c.texts_are_of_one_query.ensures c.queries_have_no_fault.ensures c.well_sorted_queries_have_no_fault.ensures)
     (tense_texts c.texts_are_one_query.ensures.one c.tense_queries_have_no_fault.ensures c.well_sorted_queries_have_no_fault.ensures))
-    c.tokens_spell_one_tuple.ensures c.row_counts_are_unique.ensures
+    (record { one = c.edits_are_one.ensures; faultless = c.edits_have_no_fault.ensures }) c.tokens_spell_one_tuple.ensures c.row_counts_are_unique.ensures

@@ -10,6 +10,8 @@ returns c = runs_alike (record {
       (tense_texts c.texts_are_one_query.ensures.one c.tense_queries_have_no_fault.ensures c.well_sorted_queries_have_no_fault.ensures);
   query_fault = each_fault (plain_faults c.texts_are_of_one_query.ensures c.queries_have_no_fault.ensures c.queries_have_one_fault.ensures)
       (tense_faults c.texts_are_one_query.ensures.one c.tense_queries_have_no_fault.ensures c.tense_queries_have_one_fault.ensures);
+  edits = record { one = c.edits_are_one.ensures; faultless = c.edits_have_no_fault.ensures };
+  edits_fault = c.edits_have_one_fault.ensures;
   token = c.tokens_spell_one_tuple.ensures;
   page = c.pages_are_unique.ensures;
   rank = c.ranks_differ.ensures;

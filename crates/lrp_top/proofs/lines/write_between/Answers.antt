@@ -3,7 +3,7 @@ use Rattle.std.proofs.Common.{◌++◌}
 use Rattle.std.proofs.lemmas.Result.{err_from_is_err_and}
 use Rattle.lrp_io.proofs.PieceLemmas.{front_before, front_behind, written_behind, written_err}
 use Rattle.lrp_model.specs.PrintedPages.{token_of}
-use Rattle.lrp_top.specs.Known.{tuple_of}
+use Rattle.lrp_watch.specs.Spots.{tuple_of}
 use Rattle.lrp_top.proofs.lines.write_between.Goals as goal
 
 pub returns-in_err-write_bytes-clause-text : goal.returns-in_err-write_bytes-clause-text

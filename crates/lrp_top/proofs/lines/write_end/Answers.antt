@@ -6,7 +6,7 @@ use Rattle.lrp_list.specs.Lines.{is_json}
 use Rattle.lrp_model.specs.Pages.{last_of}
 use Rattle.lrp_model.specs.PrintedPages.{end_line}
 use Rattle.lrp_model.specs.declared.tuples.Spot.{Spot}
-use Rattle.lrp_top.specs.Known.{tuple_of}
+use Rattle.lrp_watch.specs.Spots.{tuple_of}
 use Rattle.lrp_top.proofs.Listed.{is_more, last_mapped}
 use Rattle.lrp_top.proofs.lines.write_end.Goals as goal
 

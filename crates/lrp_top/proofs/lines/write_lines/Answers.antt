@@ -7,7 +7,7 @@ use Rattle.lrp_io.proofs.PieceLemmas.{written_err}
 use Rattle.lrp_print.proofs.Lines.{front_as, item_front}
 use Rattle.lrp_list.specs.Lines.{is_json}
 use Rattle.lrp_model.specs.declared.tuples.Spot.{Spot}
-use Rattle.lrp_top.specs.Known.{tuple_of}
+use Rattle.lrp_watch.specs.Spots.{tuple_of}
 use Rattle.lrp_top.specs.Telling.{line_as}
 use Rattle.lrp_top.proofs.LineLemmas.{there}
 use Rattle.lrp_top.proofs.lines.write_lines.Goals as goal

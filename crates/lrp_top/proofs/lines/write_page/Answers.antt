@@ -7,7 +7,7 @@ use Rattle.lrp_print.proofs.Lines.{front_as, ok_as}
 use Rattle.lrp_list.specs.Lines.{is_json}
 use Rattle.lrp_model.specs.Pages.{last_of}
 use Rattle.lrp_model.specs.PrintedPages.{end_line, token_behind}
-use Rattle.lrp_top.specs.Known.{tuple_of}
+use Rattle.lrp_watch.specs.Spots.{tuple_of}
 use Rattle.lrp_top.specs.Outputs.{page_text}
 use Rattle.lrp_top.specs.Telling.{line_as}
 use Rattle.lrp_top.proofs.Listed.{lines_mapped}

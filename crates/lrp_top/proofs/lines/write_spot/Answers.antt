@@ -2,7 +2,7 @@
 use Rattle.std.proofs.Common.{sym, ap}
 use Rattle.lrp_list.specs.Lines.{is_json}
 use Rattle.lrp_print.proofs.Lines.{written_as}
-use Rattle.lrp_top.specs.Known.{tuple_of}
+use Rattle.lrp_watch.specs.Spots.{tuple_of}
 use Rattle.lrp_top.specs.Telling.{line_as}
 use Rattle.lrp_top.proofs.CivilSpots.{own_dates}
 use Rattle.lrp_top.proofs.lines.write_spot.Goals as goal

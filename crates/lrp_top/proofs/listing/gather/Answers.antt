@@ -20,7 +20,7 @@ returns-clause-known g c =
     let p = c.args.paging.now in
     let ends = are_ends p.civil p.from p.to c.requires.from c.requires.to in
     let window : c.in_ok-lister.lister.window ≡ window_of c.args.answer.now p.from p.to = c.in_ok-lister.ensures.window ∙ ap₂ (window_of c.args.answer.now) (word p.from ends.from_low ends.from_high) (word p.to ends.to_low ends.to_high) in
-    known_all c.args.answer.now p.from p.to c.in_ok-taken.taken.spots ends (subst (λ (w : WindowView). AllByRecursion (IsStanding w) c.in_ok-taken.taken.spots) window c.in_ok-taken.ensures.standing)
+    known_all c.spots_stand_for_tuples.ensures.known c.args.answer.now p.from p.to c.in_ok-taken.taken.spots ends (subst (λ (w : WindowView). AllByRecursion (IsStanding w) c.in_ok-taken.taken.spots) window c.in_ok-taken.ensures.standing)
 
 pub returns-clause-dates : goal.returns-clause-dates
 returns-clause-dates g c =

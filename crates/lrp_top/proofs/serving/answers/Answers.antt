@@ -2,7 +2,7 @@
 use Rattle.std.proofs.Common.{refl, subst}
 use Rattle.lrp_eval.specs.Planned.{IsEvalCause}
 use Rattle.lrp_model.specs.Formulas.{question_of}
-use Rattle.lrp_top.proofs.Answered.{has_room, last_wide}
+use Rattle.lrp_top.proofs.Answered.{last_wide, small_answer}
 use Rattle.lrp_top.proofs.serving.answers.Goals as goal
 
 pub answer-requires : goal.answer-requires
@@ -25,5 +25,5 @@ returns-in-Ok-clause-room c =
     let db = question.database.relations in
     let q = question_of question.query.query in
     let planned = c.requires.ready.planned in
-    has_room db q c.args.cap c.in-Ok.answer (c.in-Ok.ensures.answer q planned) planned.reach
-    (last_wide db q _ (c.plan_rises.ensures.steps db q planned.settled.elements planned.settled.periods) (c.steps_are_made.ensures.last db q)) c.shape.ensures.valid
+    c.small_answers_have_room.ensures c.in-Ok.answer _ (small_answer db q c.args.cap c.in-Ok.answer (c.in-Ok.ensures.answer q planned) planned.reach
+    (last_wide db q _ (c.plan_rises.ensures.steps db q planned.settled.elements planned.settled.periods) (c.steps_are_made.ensures.last db q)))

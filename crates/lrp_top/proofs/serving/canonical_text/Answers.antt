@@ -1,52 +1,86 @@
--- The canonical answer is settled, and its text is an answer text in rows of the least period.
-use Rattle.std.proofs.Common.{◌∙◌, ap, subst, sym}
+-- The rows of the canonical answer are those of the answers' set. It is settled, and its text is an answer text in rows of the
+-- least period.
+use Rattle.std.proofs.Common.{◌≡◌, ◌≤◌, ◌∙◌, Ok, Err, ap, refl, subst, sym}
+use Rattle.std.specs.Prelude.{IfNone, IfSome}
 use Rattle.std.specs.List.{AllByRecursion}
 use Rattle.lrp_model.specs.DataTexts.{IsDataText}
 use Rattle.lrp_model.specs.Formulas.{question_of}
 use Rattle.lrp_model.specs.Texts.{Ascends}
 use Rattle.lrp_spans.specs.Groups.{HoldsNumber}
+use Rattle.lrp_store.specs.Stores.{zone_count}
+use Rattle.lrp_canon.specs.Canonical.{HasCanonicalRows as HasStoredRows, HasMoreRows, IsCanonicalOf}
 use Rattle.lrp_top.specs.Canonical.{HasNumber}
+use Rattle.lrp_top.specs.declared.outcome.Refusal.TheVariants.{CanonRows, Memory}
 use Rattle.lrp_top.proofs.Answered.{can_be_canonical, last_wide, one_column}
-use Rattle.lrp_top.proofs.CanonSets.{period_named, same_sets}
+use Rattle.lrp_top.proofs.CanonSets.{count_named, period_named, same_sets}
 use Rattle.lrp_top.proofs.CanonTuples.{answers_moved, numbered}
 use Rattle.lrp_top.proofs.RoomLemmas.{roomy}
 use Rattle.lrp_top.proofs.serving.canonical_text.Goals as goal
 
-pub canonical-requires : goal.canonical-requires
-canonical-requires c =
+pub canonical_within-requires : goal.canonical_within-requires
+canonical_within-requires c =
     let db = c.args.question.now.database.relations in
     let q = question_of c.args.question.now.query.query in
     let planned = c.requires.ready.planned in
-    can_be_canonical db q c.args.cap c.args.answer.now c.requires.answers planned.reach
+    can_be_canonical db q c.args.cap c.args.answer c.requires.answers planned.reach
     (last_wide db q _ (c.plan_rises.ensures.steps db q planned.settled.elements planned.settled.periods) (c.steps_are_made.ensures.last db q)) c.requires.head
 
 pub invariant_of-result : goal.invariant_of-result
-invariant_of-result c = record { room = roomy c.in-Ok.answer.store c.in-Ok.ensures.store.room }
+invariant_of-result c =
+    let is : IsCanonicalOf c.args.answer.store c.in-Ok-Some.answer.store = subst (λ found. IfSome found (λ made. IsCanonicalOf c.args.answer.store made.store)) c.in-Ok-Some.field-0-is c.in-Ok-Some.ensures.store in
+    record { room = roomy c.in-Ok-Some.answer.store is.room }
 
-pub returns-in-Ok : goal.returns-in-Ok
-returns-in-Ok c =
+pub returns-in-Ok-Some : goal.returns-in-Ok-Some
+returns-in-Ok-Some c =
     let db = c.args.question.now.database.relations in
     let q = question_of c.args.question.now.query.query in
-    let a = c.args.answer.now in
-    let made = c.in-Ok.answer in
-    let is = c.in-Ok.ensures.store in
+    let a = c.args.answer in
+    let made = c.in-Ok-Some.answer in
+    let is : IsCanonicalOf a.store made.store = subst (λ found. IfSome found (λ new. IsCanonicalOf a.store new.store)) c.in-Ok-Some.field-0-is c.in-Ok-Some.ensures.store in
+    let head : made.head ≡ a.head = subst (λ found. IfSome found (λ new. new.head ≡ a.head)) c.in-Ok-Some.field-0-is c.in-Ok-Some.ensures.head in
+    let domain : made.domain ≡ a.domain = subst (λ found. IfSome found (λ new. new.domain ≡ a.domain)) c.in-Ok-Some.field-0-is c.in-Ok-Some.ensures.domain in
+    let counted : HasStoredRows a.store (zone_count made.store) = subst (λ found. IfSome found (λ new. HasStoredRows a.store (zone_count new.store))) c.in-Ok-Some.field-0-is c.in-Ok-Some.ensures.counted in
+    let few : zone_count made.store ≤ c.args.cap = subst (λ found. IfSome found (λ new. zone_count new.store ≤ c.args.cap)) c.in-Ok-Some.field-0-is c.in-Ok-Some.ensures.few in
     let one = one_column db q c.args.cap a c.requires.answers c.requires.head in
     let same = same_sets (HoldsNumber made.store) (HoldsNumber a.store) (λ x ns h. is.same.sound _ ns h) (λ x ns h. is.same.whole _ ns h) in
     let least = period_named (HoldsNumber made.store) (HoldsNumber a.store) same made.store.period is.canonical.period in
+    let sets = numbered db q c.args.cap a c.requires.answers c.shape.ensures.valid c.len.ensures.ascending one in
     record {
-      output = record {
-        column = c.requires.head;
-        period = made.store.period;
-        least = period_named (HoldsNumber a.store) (HasNumber db q) (numbered db q c.args.cap a c.requires.answers c.shape.ensures.valid c.len.ensures.ascending one) made.store.period least;
-        text = c.answers_are_texts.ensures db q made (record {
-          store = is.canonical.valid;
-          ascends = subst Ascends (sym c.in-Ok.ensures.domain) c.len.ensures.ascending;
-          head = ap (λ h. h.columns) c.in-Ok.ensures.head ∙ c.requires.answers.head;
-          answers = answers_moved db q c.args.cap a c.requires.answers made c.in-Ok.ensures.head c.in-Ok.ensures.domain is.same;
-          settled = is.canonical.settled;
-          room = is.room;
-          texts = subst (AllByRecursion IsDataText) (sym c.in-Ok.ensures.domain) c.len.ensures.whole;
-          columns = c.requires.ready.head;
-        });
+      due = record {
+        first = Ok tt;
+        is = (zone_count made.store, count_named (HoldsNumber a.store) (HasNumber db q) sets c.floors_keep_bounds.ensures.some (zone_count made.store) counted.rows, few);
+        next = record {
+          column = c.requires.head;
+          period = made.store.period;
+          least = period_named (HoldsNumber a.store) (HasNumber db q) sets made.store.period least;
+          text = c.answers_are_texts.ensures db q made (record {
+            store = is.canonical.valid;
+            ascends = subst Ascends (sym domain) c.len.ensures.ascending;
+            head = ap (λ h. h.columns) head ∙ c.requires.answers.head;
+            answers = answers_moved db q c.args.cap a c.requires.answers made head domain is.same;
+            settled = is.canonical.settled;
+            room = is.room;
+            texts = subst (AllByRecursion IsDataText) (sym domain) c.len.ensures.whole;
+            columns = c.requires.ready.head;
+          });
+        };
       };
     }
+
+pub returns-in-Ok-None : goal.returns-in-Ok-None
+returns-in-Ok-None c =
+    let db = c.args.question.now.database.relations in
+    let q = question_of c.args.question.now.query.query in
+    let a = c.args.answer in
+    let one = one_column db q c.args.cap a c.requires.answers c.requires.head in
+    let more : HasMoreRows a.store c.args.cap = subst (λ found. IfNone found (HasMoreRows a.store c.args.cap)) c.in-Ok-None.field-0-is c.in-Ok-None.ensures.none in
+    record {
+      due = record {
+        first = Err (CanonRows c.args.cap);
+        is = (refl, (more.0, count_named (HoldsNumber a.store) (HasNumber db q) (numbered db q c.args.cap a c.requires.answers c.shape.ensures.valid c.len.ensures.ascending one) c.floors_keep_bounds.ensures.some more.0 more.2.rows, more.1));
+        next = refl;
+      };
+    }
+
+pub returns-in-Err : goal.returns-in-Err
+returns-in-Err c = record { due = record { first = Err Memory; is = tt; next = refl } }

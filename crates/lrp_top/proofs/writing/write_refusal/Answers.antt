@@ -2,7 +2,7 @@
 use Rattle.std.proofs.Common.{◌∙◌, sym, ap}
 use Rattle.std.specs.Prelude.{codes}
 use Rattle.lrp_print.proofs.Lines.{written_as}
-use Rattle.lrp_top.specs.Outcomes.{fault_line, line_of}
+use Rattle.lrp_top.specs.Outcomes.{cells_line, fault_line, line_of}
 use Rattle.lrp_top.proofs.writing.write_refusal.Goals as goal
 
 pub returns-in-Database-clause-text : goal.returns-in-Database-clause-text
@@ -21,7 +21,10 @@ pub returns-in-Memory-clause-text : goal.returns-in-Memory-clause-text
 returns-in-Memory-clause-text g c = written_as _ _ _ _ c.write_bytes-in-Memory.result (sym (ap line_of c.in-Memory.is)) c.write_bytes-in-Memory.ensures.text
 
 pub returns-in-Cells-clause-text : goal.returns-in-Cells-clause-text
-returns-in-Cells-clause-text g c = written_as _ _ _ _ c.write_cells.result (sym (ap line_of c.in-Cells.is)) c.write_cells.ensures.text
+returns-in-Cells-clause-text g c = written_as _ _ _ _ c.write_cells.result (ap (cells_line c.in-Cells.cap (codes " cells at step ")) c.from.ensures ∙ sym (ap line_of c.in-Cells.is)) c.write_cells.ensures.text
 
 pub returns-in-CanonRows-clause-text : goal.returns-in-CanonRows-clause-text
 returns-in-CanonRows-clause-text g c = written_as _ _ _ _ c.write_rows.result (sym (ap line_of c.in-CanonRows.is)) c.write_rows.ensures.text
+
+pub returns-in-Watch-clause-text : goal.returns-in-Watch-clause-text
+returns-in-Watch-clause-text g c = written_as _ _ _ _ c.write_watch_refusal.result (sym (ap line_of c.in-Watch.is)) c.write_watch_refusal.ensures.text

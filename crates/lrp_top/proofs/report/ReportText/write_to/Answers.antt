@@ -3,7 +3,8 @@ use Rattle.std.proofs.Common.{◌++◌}
 use Rattle.std.proofs.lemmas.Result.{err_from_is_err_and}
 use Rattle.lrp_io.proofs.PieceLemmas.{front_before, front_behind, written_behind, written_err}
 use Rattle.lrp_top.specs.Outputs.{least_of, sample_text}
-use Rattle.lrp_top.specs.Sampled.{counts_text, first_line, window_line}
+use Rattle.lrp_top.specs.Sampled.{counts_text, window_line}
+use Rattle.lrp_watch.specs.First.{first_line}
 use Rattle.lrp_top.proofs.report.ReportText.write_to.Goals as goal
 
 pub returns-in_err-write_counts-clause-text : goal.returns-in_err-write_counts-clause-text

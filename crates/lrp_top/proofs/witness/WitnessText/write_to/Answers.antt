@@ -4,7 +4,7 @@ use Rattle.std.proofs.lemmas.Result.{err_from_is_err_and}
 use Rattle.lrp_io.proofs.PieceLemmas.{front_before, written_behind, written_err}
 use Rattle.lrp_print.proofs.Lines.{front_as, written_as}
 use Rattle.lrp_model.specs.PrintedPages.{plain_line}
-use Rattle.lrp_top.specs.Known.{tuple_of}
+use Rattle.lrp_watch.specs.Spots.{tuple_of}
 use Rattle.lrp_top.specs.Outputs.{spot_text, witness_text}
 use Rattle.lrp_top.proofs.witness.WitnessText.write_to.Goals as goal
 

@@ -1,0 +1,13 @@
+-- The limit that was passed, as a refusal.
+use Rattle.std.proofs.Common.{subst, sym}
+use Rattle.lrp_model.specs.Formulas.{question_of}
+use Rattle.lrp_top.specs.Watched.{IsWatched}
+use Rattle.std.proofs.Common.{Err}
+use Rattle.lrp_top.proofs.WatchLemmas.{refused_watch}
+use Rattle.lrp_top.proofs.watching.leasts.Goals as goal
+
+pub returns-in-Err : goal.returns-in-Err
+returns-in-Err c =
+    let db = c.args.database.now in
+    let q = question_of c.args.query.now in
+    subst (λ refusal. IsWatched db q c.args.cap c.args.edits.now (Err refusal)) (sym c.of_watch.ensures) (refused_watch db q c.args.edits.now c.args.cap c.in-Err.fault c.in-Err.ensures.fault)

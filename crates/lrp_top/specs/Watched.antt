@@ -1,0 +1,43 @@
+-- What is due of a watch: a query in kept form, edits of its database, and the lines of the least answers while they are made.
+use Rattle.std.specs.Prelude.{◌≡◌, ◌<◌, ◌≤◌, ℕ, true, false, List, length, Result, Ok, Err}
+use Rattle.lrp_model.specs.Formulas.{Question}
+use Rattle.lrp_model.specs.Texts.{Identifier}
+use Rattle.lrp_model.specs.declared.relations.Relation.{Relation}
+use Rattle.lrp_edits.specs.EditReading.{IsEditsFault, SaysEdits}
+use Rattle.lrp_edits.specs.declared.edits.Edit.{Edit}
+use Rattle.lrp_kept.specs.KeptForm.{is_kept}
+use Rattle.lrp_keep.specs.declared.faults.KeepFault.TheVariants as limit
+use Rattle.lrp_watch.specs.Watching.{IsPassed, TellsLeasts}
+use Rattle.lrp_top.specs.Outcomes.{Outcome}
+use Rattle.lrp_top.specs.Seen.{ShelfSeen, HasFailed, IsOverrun}
+use Rattle.lrp_top.specs.Sources.{FromFile}
+use Rattle.lrp_top.specs.declared.outcome.Refusal.{Refusal}
+use Rattle.lrp_top.specs.declared.outcome.Refusal.TheVariants.{Watch, Memory}
+use Rattle.lrp_top.specs.declared.watch_refusal.WatchRefusal.TheVariants as watch
+
+-- the query is looked at. Ok: it is in kept form. Refused: it is not
+abbrev pub IsKeptForm : Question → Result (Unit {0}) Refusal → Type 0
+IsKeptForm q (Ok done) = is_kept q ≡ true
+IsKeptForm q (Err (Watch watch.NotKept)) = is_kept q ≡ false
+IsKeptForm q (Err _) = ⊥
+
+-- the file of the edits is read. Ok: the edits of the database that its text says. Refused: its count of faults rose, it is too long, or its text has a fault; or want of memory
+abbrev pub AreEditsReadOf : List Relation → ShelfSeen → Identifier → List ℕ → Result (List Edit) Refusal → Type 0
+AreEditsReadOf db seen name bytes (Ok edits) = (length bytes ≤ 16777216) × SaysEdits bytes db edits
+AreEditsReadOf db seen name bytes (Err (Watch watch.Read)) = HasFailed seen name
+AreEditsReadOf db seen name bytes (Err (Watch watch.Long)) = (16777216 < length bytes) × IsOverrun seen name
+AreEditsReadOf db seen name bytes (Err (Watch (watch.Edits fault))) = (length bytes ≤ 16777216) × IsEditsFault bytes db fault
+AreEditsReadOf db seen name bytes (Err Memory) = Unit {0}
+AreEditsReadOf db seen name bytes (Err _) = ⊥
+
+abbrev pub AreEditsRead : List Relation → ShelfSeen → Identifier → Result (List Edit) Refusal → Type 0
+AreEditsRead db seen name = FromFile seen name (AreEditsReadOf db seen name)
+
+-- the edits are made, and the least answers told. Ok: their lines. Refused: the first edit at which a limit is passed, the opening being edit 0; or want of memory
+abbrev pub IsWatched : List Relation → Question → ℕ → List Edit → Outcome → Type 0
+IsWatched db q cap edits (Ok bytes) = TellsLeasts db q edits cap bytes
+IsWatched db q cap edits (Err (Watch (watch.PeriodLimit edit))) = IsPassed db q edits cap edit limit.PeriodLimit
+IsWatched db q cap edits (Err (Watch (watch.BoundLimit edit))) = IsPassed db q edits cap edit limit.BoundLimit
+IsWatched db q cap edits (Err (Watch (watch.Cells most edit))) = (most ≡ cap) × IsPassed db q edits cap edit limit.TooManyCells
+IsWatched db q cap edits (Err Memory) = Unit {0}
+IsWatched db q cap edits (Err _) = ⊥

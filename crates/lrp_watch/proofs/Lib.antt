@@ -1,0 +1,10 @@
+-- Lemmas on least answers, on what is kept while edits are made, and on constants.
+mod Rooms
+mod Tuples
+mod Reaches
+mod Known
+mod Constants
+mod Openings
+mod Goings
+mod Passings
+mod Tellings

@@ -1,0 +1,75 @@
+-- The program's least answers, against those of the query.
+use Rattle.std.specs.Prelude.{◌≡◌, ◌≤◌, ◌<◌, ◌-◌, ◌^◌, ◌*◌, ◌+◌, ℕ, true, List, [], ◌∷◌, ◌++◌, length, take, Contains, Option, IfSome, option_map, flat_map}
+use Rattle.std.specs.List.{AllByRecursion, AllZip}
+use Rattle.lrp_model.specs.Core.{HasElements}
+use Rattle.lrp_model.specs.Formulas.{Question, question_of}
+use Rattle.lrp_model.specs.Plans.{time_columns}
+use Rattle.lrp_model.specs.Texts.{Text}
+use Rattle.lrp_model.specs.declared.relations.Column.{Column}
+use Rattle.lrp_model.specs.declared.relations.Relation.{Relation}
+use Rattle.lrp_model.specs.declared.tuples.Cell.{Cell}
+use Rattle.lrp_model.specs.declared.tuples.Shape.{Shape}
+use Rattle.lrp_model.specs.declared.tuples.Spot.{Spot}
+use Rattle.lrp_zone.specs.Zones.{ZoneView}
+use Rattle.lrp_store.specs.Stores.{zones_at}
+use Rattle.lrp_store.specs.declared.answer.Answer.{Answer}
+use Rattle.lrp_minus.specs.Settling.{IsSmallZone}
+use Rattle.lrp_list.specs.Lines.{spot_tuple}
+use Rattle.lrp_edits.specs.declared.edits.Edit.{Edit}
+use Rattle.lrp_kept.specs.KeptForm.{is_kept}
+use Rattle.lrp_keep.specs.Keeps.{CanBeAdded, KeepView, scaled_reach_of}
+use Rattle.lrp_watch.specs.Edits.{AreMade, last_kept}
+use Rattle.lrp_watch.specs.First.{IsFirst, first_line}
+use Rattle.lrp_watch.specs.Spots.{tuple_of}
+use Rattle.lrp_watch.specs.declared.leasts.Leasts.{Leasts}
+
+-- the lines of the least answers
+abbrev pub leasts_text : Leasts → List ℕ
+leasts_text l = flat_map (λ least. first_line (option_map (tuple_of l.answer) least)) l.spots
+
+-- ---- spots of the answers of one query
+
+-- how many time columns a head has, and how many others
+abbrev pub shape_for : List Column → Shape
+shape_for columns = record { times = time_columns columns; texts = length columns - time_columns columns }
+
+-- the spot stands for the query's least answer over the relations, where there is one, and its line can be written
+pub record IsLeastOver (q : Question) (domain : List Text) (db : List Relation) (least : Option Spot) : Type 0 where
+  pub first : IsFirst db q (option_map (spot_tuple q.head (shape_for q.head) domain) least)
+  pub known : IfSome least (λ spot. AllByRecursion (λ n. n < length domain) (take (shape_for q.head).texts spot.texts))
+
+-- ---- what goes on being so
+
+-- the period and the bounds of each zone are small enough for this number, and that is for 2^62
+pub record IsSmallAnswer (a : Answer) (reach : ℕ) : Type 0 where
+  pub period : a.store.period ≤ reach
+  pub scaled : 2 ^ (time_columns a.head.columns + 1) * reach ≤ 2 ^ 62
+  pub small : (cell : Cell) (z : ZoneView) → Contains (zones_at a.store cell) z → IsSmallZone z (time_columns a.head.columns * reach)
+
+-- the query is in kept form, and the scaled reach is not above 2^62
+pub record IsLow (k : KeepView) : Type 0 where
+  pub kept : is_kept (question_of k.query) ≡ true
+  pub elements : HasElements (question_of k.query).body
+  pub reach : scaled_reach_of k ≤ 2 ^ 62
+
+-- the row of an edit can be held in its relation
+abbrev pub CanBeMade : KeepView → Edit → Type 0
+CanBeMade k e = CanBeAdded k e.relation e.row
+
+-- least answers can be found, and the edits can be made
+pub record CanGoOn (k : KeepView) (edits : List Edit) : Type 0 where
+  pub low : IsLow k
+  pub can : AllByRecursion (CanBeMade k) edits
+
+-- the edits are made of what was kept, and so it is as it is now; the spots are the least answers before them and after each
+pub record AreDone (edits : List Edit) (old now : KeepView) (spots : List (Option Spot)) : Type 0 where
+  pub later : List KeepView
+  pub made : AreMade edits old later
+  pub now_is : now ≡ last_kept old later
+  pub leasts : AllZip (λ k least. IsLeastOver (question_of old.query) old.domain k.relations least) (old ∷ later) spots
+
+-- behind the spots stands one for the least answer over what is kept now
+pub record IsTold (k : KeepView) (old new : List (Option Spot)) : Type 0 where
+  pub least : Option Spot
+  pub is : IsLeastOver (question_of k.query) k.domain k.relations least
+  pub more : new ≡ old ++ least ∷ []

@@ -1,0 +1,118 @@
+// Least answers, one after the other, while edits are made.
+ghost use Rattle.std.specs.Prelude.{◌≡◌, IfErr, IfOk, OnOk};
+ghost use Rattle.std.specs.List.{AllByRecursion};
+ghost use Rattle.lrp_model.specs.Formulas.{question_of};
+ghost use Rattle.lrp_keep.specs.Keeps.{CanBeKept, IsCause, IsWithinLimits, opened as opened_by};
+ghost use Rattle.lrp_watch.specs.Edits.{IsMade, IsPassedBehind, IsRefusedEdit};
+ghost use Rattle.lrp_watch.specs.Faults.{IsAt, IsFaultBy};
+ghost use Rattle.lrp_watch.specs.Leasts.{AreDone, CanBeMade, CanGoOn, IsLeastOver, IsLow, IsTold, leasts_text};
+ghost use Rattle.lrp_watch.specs.Watching.{CanBeWatched, IsPassed, TellsLeasts};
+
+use crate::domains::constants_of;
+use crate::faults::WatchFault;
+use crate::laws::{small_answers_have_room, spots_stand_for_tuples};
+use crate::leasts::Leasts;
+use lrp_edits::Edit;
+use lrp_keep::{Keep, KeepFault};
+use lrp_model::{Domain, List, Memory, Query, Spot, texts_in_order};
+use lrp_rel::Database;
+use std::alloc::Global;
+
+/// The least answers of a query over a database as it is read, and after each of some edits.
+///
+/// # Errors
+///
+/// The first limit that is passed, by the number of the edit at which it is.
+pub fn least_answers(
+    alloc: Global,
+    database: &Database,
+    query: &Query,
+    edits: &[Edit],
+    cap: u32,
+) -> Result<Leasts, WatchFault>
+    requires { CanBeWatched database.now (question_of query.now) edits.now }
+    ensures told { IfOk result (λ made. TellsLeasts database.now (question_of query.now) edits.now cap (leasts_text made)) }
+    ensures fault { IfErr result (IsFaultBy (IsPassed database.now (question_of query.now) edits.now cap)) }
+{
+    let domain = constants_of(alloc, database, query, edits)?;
+    database.relations();
+    texts_in_order();
+    let mut keep = opened(alloc, database, query, &domain, cap)?;
+    let answer = keep.answer()?;
+    let spots = spots_of(alloc, &mut keep, edits)?;
+    Ok(Leasts { answer, spots })
+}
+
+// What is kept of the query over the database as it is read.
+fn opened<'a>(
+    alloc: Global,
+    database: &Database,
+    query: &'a Query,
+    domain: &Domain,
+    cap: u32,
+) -> Result<Keep<'a>, WatchFault>
+    requires { CanBeKept (question_of query.now) database.now domain.now }
+    ensures view { IfOk result (λ made. made ≡ opened_by query.now database.now domain.now cap) }
+    ensures limits { OnOk result (IsWithinLimits (opened_by query.now database.now domain.now cap)) }
+    ensures fault { IfErr result (IsFaultBy (IsAt 0 (IsCause (opened_by query.now database.now domain.now cap)))) }
+{
+    match Keep::open(alloc, query, database, domain, cap) {
+        Ok(keep) => Ok(keep),
+        Err(fault) => Err(WatchFault::at(0, fault)),
+    }
+}
+
+// The least answers over the rows that are held, and over those after each of the edits.
+fn spots_of(
+    alloc: Global,
+    keep: &mut Keep<'_>,
+    edits: &[Edit],
+) -> Result<List<Option<Spot>>, WatchFault>
+    requires { CanGoOn keep.old edits.now }
+    ensures done { IfOk result (AreDone edits.now keep.old keep.new) }
+    ensures fault { IfErr result (IsFaultBy (IsPassedBehind edits.now keep.old)) }
+{
+    let mut spots = List::new(alloc);
+    tell(keep, &mut spots)?;
+    for (i, edit) in edits.iter().enumerate() {
+        make(keep, edit, i as u64 + 1)?;
+        tell(keep, &mut spots)?;
+    }
+    Ok(spots)
+}
+
+// Makes the edit of this number.
+fn make(keep: &mut Keep<'_>, edit: &Edit, number: u64) -> Result<(), WatchFault>
+    requires { CanBeMade keep.old edit.now }
+    ensures made { OnOk result (IsMade edit.now keep.old keep.new) }
+    ensures fault { IfErr result (IsFaultBy (IsAt number (IsRefusedEdit edit.now keep.old))) }
+{
+    if !edit.add {
+        keep.remove(&edit.relation, &edit.row);
+        return Ok(());
+    }
+    match keep.add(&edit.relation, &edit.row) {
+        Ok(()) => Ok(()),
+        Err(fault) => Err(WatchFault::at(number, fault)),
+    }
+}
+
+// The least answer over the rows that are held, behind those before it.
+fn tell(keep: &Keep<'_>, spots: &mut List<Option<Spot>>) -> Result<(), Memory>
+    requires { IsLow keep.now }
+    ensures { OnOk result (IsTold keep.now spots.old spots.new) }
+{
+    let least = least_of(keep)?;
+    spots.push(least)
+}
+
+// The least answer over the rows that are held.
+fn least_of(keep: &Keep<'_>) -> Result<Option<Spot>, Memory>
+    requires { IsLow keep.now }
+    ensures { IfOk result (IsLeastOver (question_of keep.now.query) keep.now.domain keep.now.relations) }
+{
+    let answer = keep.answer()?;
+    small_answers_have_room();
+    spots_stand_for_tuples();
+    Ok(answer.least())
+}
