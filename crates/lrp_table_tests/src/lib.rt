@@ -1,5 +1,5 @@
-//! Tests of matrices, zones, stores, their copies, and lists, through what their crates make public: a proved test
-//! costs a second proof of its crate, and this one has nothing else.
+//! Tests of matrices, zones, stores, listers and copies, at the limits and on worked values, through what their crates make
+//! public: a proved test costs a second proof of its crate, and this one has nothing else.
 #![tactic(auto)]
 
 #[cfg(test)]

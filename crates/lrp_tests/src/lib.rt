@@ -1,14 +1,10 @@
-//! Tests of calls that no command shows, through what their crates make public: a proved test costs a second proof of its
-//! crate, and this one has nothing else.
+//! Tests of calls that no command makes, or none at their limits, through what their crates make public: a proved test
+//! costs a second proof of its crate, and this one has nothing else.
 #![tactic(auto)]
 
 #[cfg(test)]
-mod ends;
+mod copies;
 #[cfg(test)]
-mod model;
+mod parts;
 #[cfg(test)]
 mod points;
-#[cfg(test)]
-mod slots;
-#[cfg(test)]
-mod tokens;

@@ -1,2 +1,0 @@
--- Heads column by column.
-mod Heads

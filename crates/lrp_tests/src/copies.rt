@@ -1,0 +1,167 @@
+// Copies succeed. That one that succeeds is equal is a clause. Queries are never let go: to prove how a formula is dropped
+// takes longer than all the rest.
+use crate::parts::{PLACE, head, list, member, name, raw_column, seven};
+use lrp_io::{File, MemShelf, MemSink};
+use lrp_model::*;
+use lrp_token::Resume;
+use std::alloc::Global;
+use std::mem::forget;
+use std::process::Abort;
+
+fn row(rt: &impl Abort, alloc: Global) -> Row {
+    let text = seven(rt, alloc);
+    let bound = Bound {
+        left: 1,
+        right: 0,
+        most: 100,
+    };
+    Row {
+        values: list(rt, alloc, Value::Const { text }),
+        bounds: list(rt, alloc, bound),
+    }
+}
+
+#[test]
+fn relations_are_copied(rt: HostRuntime) {
+    let alloc = rt.alloc();
+    let relation = Relation {
+        name: name(&rt, alloc, "bus"),
+        columns: head(&rt, alloc).columns,
+        rows: list(&rt, alloc, row(&rt, alloc)),
+    };
+    assert!(rt; relation.copy(alloc).is_ok());
+}
+
+fn located<T>(item: T) -> Located<T> {
+    Located { place: PLACE, item }
+}
+
+fn raw_row(rt: &impl Abort, alloc: Global) -> RawRow {
+    let at = Integer {
+        negative: true,
+        size: 3,
+    };
+    let point = WrittenValue::Point { at, period: 60 };
+    let bound = RawBound {
+        left: located(name(rt, alloc, "t")),
+        op: BoundOp::AtLeast,
+        side: Side::Alone { value: at },
+    };
+    RawRow {
+        values: list(rt, alloc, located(point)),
+        bounds: list(rt, alloc, bound),
+    }
+}
+
+#[test]
+fn written_relations_are_copied(rt: HostRuntime) {
+    let alloc = rt.alloc();
+    let relation = RawRelation {
+        name: located(name(&rt, alloc, "bus")),
+        columns: list(&rt, alloc, raw_column(&rt, alloc)),
+        rows: list(&rt, alloc, located(raw_row(&rt, alloc))),
+    };
+    assert!(rt; relation.copy(alloc).is_ok());
+}
+
+fn denied(rt: &impl Abort, alloc: Global) -> Formula {
+    let of = Box::new(alloc, Formula::Check { test: member() }).expect(rt, "memory");
+    Formula::Not { of }
+}
+
+#[test]
+fn queries_are_copied(rt: HostRuntime) {
+    let alloc = rt.alloc();
+    let query = Query {
+        head: head(&rt, alloc),
+        body: denied(&rt, alloc),
+    };
+    forget(query.copy(alloc).expect(&rt, "memory"));
+    forget(query.body.copy(alloc).expect(&rt, "memory"));
+    forget(query);
+}
+
+fn raw_denied(rt: &impl Abort, alloc: Global) -> RawFormula {
+    let term = RawTerm {
+        kind: RawTermKind::Int { value: 3 },
+        place: PLACE,
+    };
+    let kind = RawKind::Atom {
+        relation: name(rt, alloc, "bus"),
+        terms: list(rt, alloc, term),
+    };
+    let of = Box::new(alloc, RawFormula { kind, place: PLACE }).expect(rt, "memory");
+    RawFormula {
+        kind: RawKind::Not { of },
+        place: PLACE,
+    }
+}
+
+#[test]
+fn raw_queries_are_copied(rt: HostRuntime) {
+    let alloc = rt.alloc();
+    let query = RawQuery {
+        head: list(&rt, alloc, raw_column(&rt, alloc)),
+        body: raw_denied(&rt, alloc),
+    };
+    forget(query.copy(alloc).expect(&rt, "memory"));
+    forget(query.body.copy(alloc).expect(&rt, "memory"));
+    forget(query);
+}
+
+fn step(rt: &impl Abort, alloc: Global) -> Step {
+    let kind = StepKind::Join {
+        left: 1,
+        right: 2,
+        tests: list(rt, alloc, member()),
+    };
+    Step {
+        kind,
+        period: 4,
+        reach: 16,
+    }
+}
+
+fn domain(rt: &impl Abort, alloc: Global) -> Domain {
+    let texts = list(rt, alloc, seven(rt, alloc));
+    assert!(rt; texts.len() == 1);
+    Domain::new(texts).expect(rt, "memory")
+}
+
+#[test]
+fn plans_are_copied(rt: HostRuntime) {
+    let alloc = rt.alloc();
+    let plan = Plan {
+        steps: list(&rt, alloc, step(&rt, alloc)),
+        head: head(&rt, alloc),
+        domain: domain(&rt, alloc),
+    };
+    assert!(rt; plan.copy(alloc).is_ok());
+}
+
+#[test]
+fn places_in_a_listing_are_copied(rt: HostRuntime) {
+    let alloc = rt.alloc();
+    let tuple = Tuple {
+        times: list(&rt, alloc, -65),
+        texts: list(&rt, alloc, seven(&rt, alloc)),
+    };
+    let resume = Resume {
+        tuple,
+        digest: Some([7; 32]),
+    };
+    assert!(rt; resume.copy(alloc).is_ok());
+}
+
+#[test]
+fn shelves_and_sinks_are_copied(rt: HostRuntime) {
+    let alloc = rt.alloc();
+    let file = File {
+        name: name(&rt, alloc, "d"),
+        bytes: list(&rt, alloc, b'a'),
+    };
+    let shelf = MemShelf::new(list(&rt, alloc, file), list(&rt, alloc, 2));
+    assert!(rt; shelf.copy(alloc).is_ok());
+    let sink = MemSink::stop_after(alloc, 7, 4).expect(&rt, "memory");
+    assert!(rt; sink.copy(alloc).is_ok());
+}
