@@ -1,4 +1,4 @@
-"""The inputs of the benchmark: families of a database, a query and a command, each at several sizes.
+"""The inputs of the benchmark: families of a database, a query, perhaps edits, and a command, each at several sizes.
 
 A family is a function of the size that gives a Case. Its smallest sizes have an output that is worked
 out here, without the program: by going over a window, as long as the relations' periods ask for.
@@ -17,7 +17,7 @@ LIMIT = 1 << 62
 
 @dataclass
 class Case:
-    """One run: what the two files hold, the words, and how many units of result the run is measured by."""
+    """One run: what the files hold, the words, and how many units of result the run is measured by."""
 
     words: list
     database: str
@@ -26,6 +26,7 @@ class Case:
     unit: str = "cells"
     output: Optional[str] = None  # worked out apart, where the size is small
     status: int = 0
+    edits: str = ""
 
 
 @dataclass
@@ -572,6 +573,51 @@ def pairs_listed(size):
 def many_cells(size):
     text = query(times("t"), "not t in 0+%dn" % size)
     return Case(["decide"], "", text, units=size - 1, output="Nonempty\n1\n")
+
+
+# Kept answers
+
+
+def watched_case(first, second, changes, units):
+    """Edits of the relation b of two relations of instants, whose common instants are asked for."""
+    instants = lambda name, these: relation(name, times("t"), ["(%d)" % at for at in these])
+    held, lines = list(second), []
+    for sign, at in [("", 0), *changes]:
+        if sign == "+":
+            held.append(at)
+        elif sign == "-":
+            held.remove(at)
+        lines.append("%d\n" % min(common) if (common := set(held) & set(first)) else "none\n")
+    return Case(
+        ["watch"],
+        instants("a", first) + instants("b", second),
+        query(times("t"), "(a(t) and b(t))"),
+        units=units,
+        unit="edits" if changes else "choices",
+        output="".join(lines),
+        edits="".join("%s b (%d);\n" % change for change in changes),
+    )
+
+
+@family("kept choices", "two", (63, 250, 1000), "N rows beside N others without a common instant: N * N choices")
+def kept_choices(size):
+    return watched_case(range(0, 2 * size, 2), range(1, 2 * size, 2), [], size * size)
+
+
+@family("edits", "two", (100, 1000, 10000, 100000), "N edits of one row each, over two relations of 1,000 instants")
+def edits(size):
+    met = [2 * (7 * i % 1000) for i in range(size // 2)]
+    return watched_case(range(0, 2000, 2), range(1, 2000, 2), [(sign, at) for at in met for sign in "+-"], size)
+
+
+@family("edits on texts", "two", (100, 1000, 10000, 100000), "N edits of one row each, over two relations of 1,000 texts")
+def edits_on_texts(size):
+    rows = lambda step: ['(%d+1440n, "x%d")' % (step * i % DAY, i) for i in range(1000)]
+    database = relation("r", ["t: time", "d: data"], rows(7)) + relation("s", ["t: time", "d: data"], rows(11))
+    text = query(times("t") + ["d: data"], "(r(t, d) and s(t, d))")
+    found = ['0, "x0"'] + ['0, "x0"'] * size
+    changes = ['%s s (%d+1440n, "x%d");\n' % (sign, 7 * i % DAY, i) for j in range(size // 2) for i in [7 * j % 999 + 1] for sign in "+-"]
+    return Case(["watch"], database, text, units=size, unit="edits", output="\n".join([*found, ""]), edits="".join(changes))
 
 
 # Canonical answers

@@ -1,11 +1,12 @@
 """Calls of the system that fail, one in turn, and calls that take few bytes: openings, reads and writes of the real program."""
 
 import errno
+import itertools
 import os
 import subprocess
 
 from common import HERE, WAIT
-from memory import BUS, SORTS
+from memory import BUS, EDITS, SORTS
 
 DEPARTURES = b"{ t: time | bus(t) }"
 RUNS = (
@@ -15,6 +16,7 @@ RUNS = (
     (["decide", "tense=yes"], BUS, b"{ t: time | once t (-3, 4) bus(t) }"),
     (["list", "from=0", "to=600", "limit=9"], BUS, DEPARTURES),
     (["list", "from=0", "to=600", "form=json"], SORTS, b"{ l: line, t: time | exists c: city trip(t, l, c) }"),
+    (["watch", "edits=edits"], BUS, DEPARTURES),
     (["explain"], SORTS, b"{ l: line | not exists t: time exists c: city trip(t, l, c) }"),
     (["check"], SORTS, None),
     (["check", "civil=yes"], b"relation r(t: time) { (daily 08:15); }", None),
@@ -23,6 +25,8 @@ RUNS = (
     (["ask"], BUS, b"{ t: time | tram(t) }"),
     (["lst"], None, None),
 )
+# The files in the order in which they are read.
+FILES = (b"database", b"query", b"edits")
 ERRORS = (errno.EIO, errno.ENOSPC, errno.EINTR, errno.EAGAIN)
 
 
@@ -69,10 +73,11 @@ def calls(program, tally, few=False):
         print("calls: there is no C compiler here, so no call fails")
         return
     failing = Failing(program, library)
+    program.write("edits", EDITS)
     for words, database, query in RUNS:
         whole = program.run(*words, database=database, query=query)
-        names = [("db", database), ("query", query)]
-        words = words + ["%s=%s" % (name, name) for name, text in names if text is not None]
+        names = [("db", database), ("query", query), ("edits", EDITS if "edits=edits" in words else None)]
+        words = words + ["%s=%s" % (name, name) for name, text in names[:2] if text is not None]
         for most in (1, 3):
             got, _ = failing.run(words, most)
             tally.check(got == whole, "%s, %d bytes a call" % (words, most), got)
@@ -93,7 +98,7 @@ def refused(name):
 
 
 def opened(failing, tally, words, whole, error):
-    for number, name in enumerate((b"database", b"query"), 1):
+    for number, name in enumerate(FILES, 1):
         got, has_failed = failing.run(words, 0, "open", number, error)
         wanted = refused(name) if has_failed else whole
         tally.check(is_allowed(got, wanted, whole, error), "%s, opening %d, error %d" % (words, number, error), got)
@@ -104,7 +109,8 @@ def was_read(failing, tally, words, whole, error, texts):
     number, counts = 1, [(len(text) + 2) // 3 + 1 for text in texts]
     while True:
         got, has_failed = failing.run(words, 3, "read", number, error)
-        wanted = refused(b"database" if number <= counts[0] else b"query") if has_failed else whole
+        file = next((name for name, last in zip(FILES, itertools.accumulate(counts)) if number <= last), FILES[-1])
+        wanted = refused(file) if has_failed else whole
         tally.check(is_allowed(got, wanted, whole, error), "%s, read %d, error %d" % (words, number, error), got)
         if not has_failed:
             break

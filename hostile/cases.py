@@ -13,6 +13,7 @@ from meaning import Meaning, TooHard
 from opinion import page, plain
 from plan import Plan
 from tense import read_tense
+from watch import judged
 from words import is_command
 
 
@@ -37,7 +38,7 @@ def every_case():
 class Judge:
     """What the second opinion says of one case, in the order in which refusals are given. None: it says nothing.
 
-    It says nothing of samples, of pages behind tokens, and of files that a script of the example makes.
+    It says nothing of samples, of pages behind tokens, of files that a script of the example makes, and of edits of many rows.
     """
 
     def __init__(self, folder, words, budget):
@@ -53,6 +54,8 @@ class Judge:
             return 2, b"refused: usage\n"
         if self.words[0] == "sample":
             return None
+        if self.words[0] == "watch":
+            return self.watched()
         is_made = os.path.exists(os.path.join(self.folder, "make"))
         database = content(self.folder, self.keys["db"])
         if database is None and is_made:
@@ -78,6 +81,12 @@ class Judge:
             return 4, NEEDS_ONE
         plan = Plan(relations, plain, self.budget)
         return self.planned(plan, Meaning(relations, parsed, self.budget), digest(database, query), text)
+
+    def watched(self):
+        texts = [content(self.folder, self.keys[key]) for key in ("db", "query", "edits")]
+        if len(texts[0] or b"") > 2000:
+            return None
+        return judged(*texts, int(self.keys.get("cap", 1000000)), self.budget)
 
     def planned(self, plan, meaning, files, text):
         refused = plan.refusal()

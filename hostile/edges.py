@@ -43,7 +43,7 @@ class Table:
 
 def magnitudes(program, tally):
     table = Table(program)
-    for part in (windows, counts, tokens, periods, reaches, quantifiers, far_values, operators, canonical):
+    for part in (windows, counts, tokens, periods, reaches, quantifiers, far_values, operators, canonical, kept):
         part(table)
 
 
@@ -298,6 +298,41 @@ def canonical_heads(table):
     for line in ("decide db=a query=b", "list db=a query=b from=0 to=5", "explain db=a query=b", "check db=a"):
         table.usage(line + " canon=no")
     table.usage("sample seed=0 size=1 canon=no")
+
+
+def kept(table):
+    """Periods, bounds, offsets, tests and cells of kept answers at the last value and one past it, at the opening and at edits."""
+    period, bound = "period above %d" % LIMIT, "bound above %d" % LIMIT
+    refused = lambda what, edit: "refused: %s at edit %d\n" % (what, edit)
+
+    def watch(wanted, rows, edits, *words, query=DEPARTURES):
+        table.program.write("edits", edits.encode())
+        database = ("relation bus(t: time) { %s }" % rows).encode()
+        status = 5 if wanted.startswith("refused") else 0
+        table.program.expect(wanted.encode(), status, "watch", "edits=edits", *words, database=database, query=query)
+
+    # One atom, and one time column in the head: four times the greatest bound and twice the period is to be at most 2^62.
+    most, longest = (1 << 60) - 2, 1 << 59
+    row = "(0+1n) where t <= %d;"
+    watch("0\n", row % most, "")
+    watch(refused(bound, 0), row % (most + 1), "")
+    watch("none\n0\nnone\n", "", "+ bus %s - bus %s" % (row % most, row % most))
+    watch(refused(bound, 1), "", "+ bus " + row % (most + 1))
+    watch("none\n0\n", "", "+ bus (0+1n) where t >= -%d;" % most)
+    watch(refused(bound, 1), "", "+ bus (0+1n) where t >= -%d;" % (most + 1))
+    watch("none\n5\n", "", "+ bus (5+%dn);" % longest)
+    watch(refused(bound, 1), "", "+ bus (5+%dn);" % (longest + 1))
+    # What was let go still counts, and so do twice the offset of the atom and each test.
+    watch(refused(bound, 3), "", "+ bus %s - bus %s + bus (0+2n);" % (row % most, row % most))
+    for text, less in ((b"{ t: time | bus(t + 7) }", 14), (b"{ t: time | (bus(t) and t >= 0) }", 1)):
+        watch("0\n", row % (most - less), "", query=text)
+        watch(refused(bound, 0), row % (most - less + 1), "", query=text)
+    watch("0\n0\n", "(0+%dn);" % (1 << 31), "+ bus (1+%dn);" % (1 << 20))
+    watch(refused(period, 1), "(0+%dn);" % (1 << 31), "+ bus (0+%dn);" % ((1 << 31) + 1))
+    watch(refused(bound, 1), "(0+%dn);" % (1 << 31), "+ bus (0+%dn);" % LIMIT)
+    # A row of period 1 has as many cells as the common period.
+    watch("0\n0\n", "(0+1n);", "+ bus (0+420n);", "cap=420")
+    watch(refused("more than 419 cells", 1), "(0+1n);", "+ bus (0+420n);", "cap=419")
 
 
 def far_values(table):

@@ -23,6 +23,7 @@ DATABASE_KINDS = {
     "Wide": 9,
     "TextTooLong": 10,
 }
+EDIT_KINDS = {**DATABASE_KINDS, "UnknownRelation": 11}
 QUERY_KINDS = {
     "Utf8": 1,
     "Syntax": 2,
@@ -248,31 +249,18 @@ class Relation:
 # Databases
 
 
-def read_database(data):
-    lexer = Lexer(data, DATABASE_KINDS)
-    said = []  # faults of what the text says
-    relations = {}
+class Rows:
+    """Reads rows of relations, and keeps the faults of what they say."""
 
-    def relation():
-        lexer.take("word", "relation")
-        name = lexer.take("name")
-        if name.text in relations:
-            said.append((name.place, "Name"))
-        lexer.symbol("(")
-        columns = lexer.listing(lambda: lexer.sees("name"), lexer.column)
-        lexer.symbol(")")
-        said.extend(column_faults(columns))
-        made = Relation(name.text, columns)
-        lexer.symbol("{")
-        while lexer.sees("symbol", "("):
-            made.rows.append(row(made))
-        lexer.symbol("}")
-        relations.setdefault(name.text, made)
+    def __init__(self, lexer):
+        self.lexer, self.said = lexer, []
 
-    def row(made):
+    def row(self, made):
+        lexer, said = self.lexer, self.said
         place = lexer.token.place
         lexer.symbol("(")
-        values = lexer.listing(lambda: lexer.sees("text") or lexer.sees("number") or lexer.sees("symbol", "-"), value)
+        begins = lambda: lexer.sees("text") or lexer.sees("number") or lexer.sees("symbol", "-")
+        values = lexer.listing(begins, self.value)
         lexer.symbol(")")
         if len(values) != len(made.columns):
             said.append((place, "Arity"))
@@ -289,14 +277,15 @@ def read_database(data):
             points.append(written if isinstance(written, bytes) else (0, 1) if written[1] is None else written)
         if lexer.sees("word", "where"):
             lexer.take("word")
-            bounds += bound(made)
+            bounds += self.bound(made)
             while lexer.sees("symbol", ","):
                 lexer.symbol(",")
-                bounds += bound(made)
+                bounds += self.bound(made)
         lexer.symbol(";")
         return Row(points, bounds, place)
 
-    def value():
+    def value(self):
+        lexer = self.lexer
         place = lexer.token.place
         if lexer.sees("text"):
             return lexer.take("text").text, place
@@ -306,30 +295,83 @@ def read_database(data):
             return (number, lexer.period()), place
         return (number, None), place
 
-    def number_of(made, name):
+    def number_of(self, made, name):
         if name.text in made.times:
             return made.times.index(name.text) + 1
-        said.append((name.place, "Column"))
+        self.said.append((name.place, "Column"))
         return 0
 
-    def bound(made):
-        left = number_of(made, lexer.take("name"))
+    def bound(self, made):
+        lexer = self.lexer
+        left = self.number_of(made, lexer.take("name"))
         sign = lexer.symbol("<=", ">=", "=").text
         if lexer.sees("name"):
-            right = number_of(made, lexer.take("name"))
+            right = self.number_of(made, lexer.take("name"))
             most = lexer.named_offset() or 0
         else:
             right, most = 0, lexer.integer()
         at_most, at_least = (left, right, most), (right, left, -most)
         return [at_most] * (sign != ">=") + [at_least] * (sign != "<=")
 
+
+def read_database(data):
+    lexer = Lexer(data, DATABASE_KINDS)
+    rows, relations = Rows(lexer), {}
+
+    def relation():
+        lexer.take("word", "relation")
+        name = lexer.take("name")
+        if name.text in relations:
+            rows.said.append((name.place, "Name"))
+        lexer.symbol("(")
+        columns = lexer.listing(lambda: lexer.sees("name"), lexer.column)
+        lexer.symbol(")")
+        rows.said.extend(column_faults(columns))
+        made = Relation(name.text, columns)
+        lexer.symbol("{")
+        while lexer.sees("symbol", "("):
+            made.rows.append(rows.row(made))
+        lexer.symbol("}")
+        relations.setdefault(name.text, made)
+
     def all_relations():
         while not lexer.sees("end"):
             relation()
 
     lexer.whole(all_relations)
-    lexer.raise_first(said)
+    lexer.raise_first(rows.said)
     return relations
+
+
+@dataclass
+class Edit:
+    is_added: bool
+    relation: str
+    row: Row
+
+
+def read_edits(data, relations):
+    lexer = Lexer(data, EDIT_KINDS)
+    rows, edits = Rows(lexer), []
+
+    def edit():
+        sign = lexer.symbol("+", "-")
+        name = lexer.take("name")
+        known = relations.get(name.text)
+        said = len(rows.said)
+        row = rows.row(known or Relation(name.text, []))
+        if known is None:
+            # Of a row of no relation nothing else is said.
+            rows.said[said:] = [(name.place, "UnknownRelation")]
+        edits.append(Edit(sign.text == "+", name.text, row))
+
+    def all_edits():
+        while not lexer.sees("end"):
+            edit()
+
+    lexer.whole(all_edits)
+    lexer.raise_first(rows.said)
+    return edits
 
 
 def column_faults(columns):

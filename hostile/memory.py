@@ -10,6 +10,7 @@ from common import EXAMPLES, HERE, WAIT
 
 REFUSED = b"refused: memory\n"
 BUS = b"relation bus(t: time) { (5+60n); }"
+EDITS = b"+ bus (0+7n); - bus (65+60n); - bus (0+7n); - bus (1);"
 ZURICH = 'relation tram(t: time, city: data) { (5+60n, "Zürich"); }'.encode()
 SORTS = b'relation trip(t: time, l: line, c: city) { (5+60n, "7", "Port"); } relation lines(l: line) { ("9"); }'
 
@@ -39,6 +40,9 @@ def runs():
     yield ["list", "from=0", "to=130", "after=T1/05/"], BUS, departures
     yield ["list", "from=0", "to=130", "limit=1", "form=json"], ZURICH, b"{ c: data, t: time | tram(t, c) }"
     yield ["list", "from=0", "to=1439"], *example("week", "connections")
+    yield ["watch", "edits=edits"], BUS, departures
+    yield ["watch", "edits=edits", "cap=6"], BUS, b"{ t: time | exists u: time (bus(t) and bus(u) and t <= u and u in 0+2n) }"
+    yield ["watch", "edits=edits"], BUS, b"{ t: time | not bus(t) }"
     yield ["explain"], SORTS, left
     yield ["explain"], *example("guard", "always")
     yield ["check"], example("week", "connections")[0], None
@@ -95,6 +99,7 @@ def memory(program, tally, most=None):
     if library is None:
         print("memory: there is no C compiler here, so no request is refused")
         return
+    program.write("edits", EDITS)
     for words, database, query in runs():
         whole = program.run(*words, database=database, query=query)
         words = words + [word for word, file in (("db=db", database), ("query=query", query)) if file is not None]

@@ -14,6 +14,7 @@ REQUIRED = {
     "explain": {"db", "query"},
     "check": {"db"},
     "sample": {"seed", "size"},
+    "watch": {"db", "query", "edits"},
 }
 FURTHER = {
     "ask": {"cap", "civil", "tense", "canon"},
@@ -22,6 +23,7 @@ FURTHER = {
     "explain": {"civil", "tense"},
     "check": {"civil"},
     "sample": set(),
+    "watch": {"cap"},
 }
 RANGES = {
     "cap": (1, 10**9),

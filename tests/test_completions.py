@@ -23,6 +23,9 @@ CASES = [
     ("sam", "sample"),
     ("sample si", "sample size="),
     ("sample size=5 s", "sample size=5 seed="),
+    ("wa", "watch"),
+    ("watch db=plan.lrp query=ask.lrq e", "watch db=plan.lrp query=ask.lrq edits="),
+    ("watch edits=mo", "watch edits=moves.lre"),
     ("help sam", "help sample"),
     ("--v", "--version"),
     ("help ref", "help refusals"),
@@ -63,7 +66,7 @@ CASES = [
 def make_files(folder: Path) -> None:
     """The files that are completed, and one that is not."""
     (folder / "folder").mkdir()
-    for name in ("plan.lrp", "ask.lrq", "folder/inner.lrp", "notes.txt", "plan.txt"):
+    for name in ("plan.lrp", "ask.lrq", "moves.lre", "folder/inner.lrp", "notes.txt", "plan.txt"):
         (folder / name).touch()
 
 

@@ -49,13 +49,13 @@ class Guide(unittest.TestCase):
     def test_each_file_is_as_it_is_shown(self):
         files = set()
         for before, block in blocks_of(GUIDE):
-            named = re.findall(r"`([a-z]+\.lr[pq])`", before)
+            named = re.findall(r"`([a-z]+\.lr[peq])`", before)
             if named and not block.startswith("$ "):
                 with self.subTest(named[0]):
                     self.assertEqual((FOLDER / named[0]).read_text(), block)
                     files.add(named[0])
         self.assertEqual(files, {"line.lrp", "departures.lrq", "uncovered.lrq", "hourly.lrq", "trips.lrq", "costly.lrq", "within.lrq",
-                                 "pause.lrq", "road.lrq", "dates.lrp", "shifts.lrq"})
+                                 "pause.lrq", "road.lrq", "doubled.lrq", "changes.lre", "dates.lrp", "shifts.lrq"})
 
 
 class Formats(unittest.TestCase):

@@ -155,7 +155,7 @@ def more_files(folder: Path) -> list[Path]:
 class Editors(unittest.TestCase):
     """Both editors."""
 
-    files = [path for path in sorted(TOP.glob("examples/*/*.lr[pq]")) if is_text(path)]
+    files = [path for path in sorted(TOP.glob("examples/*/*.lr[peq]")) if is_text(path)]
 
     def check_tokens(self, path: Path, classes: list[list[str]], names: dict[str, str]) -> None:
         """Each byte of each token has the class of the token, and each fault is seen."""
@@ -217,7 +217,7 @@ class Editors(unittest.TestCase):
         extension = json.loads((folder / "package.json").read_text())
         self.assertEqual(extension["version"], (TOP / "share/version").read_text().strip())
         language, grammar = extension["contributes"]["languages"][0], extension["contributes"]["grammars"][0]
-        self.assertEqual(language["extensions"], [".lrp", ".lrq"])
+        self.assertEqual(language["extensions"], [".lrp", ".lrq", ".lre"])
         json.loads((folder / language["configuration"]).read_text())
         self.assertEqual(json.loads((folder / grammar["path"]).read_text())["scopeName"], grammar["scopeName"])
 

@@ -10,7 +10,7 @@ from recounts_by_dates import dates
 PROBLEMS = {**BY_NUMBERS, "dates": dates}
 FOLDERS = {**PROBLEMS, **RULES}
 # Plans, refusals and normal forms, which follow from the rules of the formats and not from a count.
-NOT_COUNTED = {"dates": {"rides", "unread", "boat_plan", "no_such_day"}, "maintenance": {"unattended", "far", "far_asked", "few_cells"}, "guide": {"check", "dates", "costly"},
+NOT_COUNTED = {"dates": {"rides", "unread", "boat_plan", "no_such_day"}, "maintenance": {"unattended", "far", "far_asked", "few_cells"}, "guide": {"check", "dates", "costly", "not_kept"}, "roster": {"not_kept"},
                "canon": {"two_rows", "a_million_rows", "one_cell", "three_cells", "needs_one", "no_file", "three_terms", "period", "bound", "a_pair"}}
 
 

@@ -6,13 +6,14 @@ import tempfile
 import unittest
 from pathlib import Path
 
-from grammar import RESERVED, TOKEN, fault_of_syntax, wanted_at
+from grammar import RESERVED, TOKEN, Grammar, fault_of_syntax, wanted_at
 from support import PROGRAM
 
 DATABASE = 'relation r(t: time, d: line) { (5, "7") where t <= t + 5, t = -1; (-5+60n, "8"); } relation s() { (); }'
 QUERY = '{ t: time, d: line | (r(t, d) and not (t < 5 - 1 implies exists u: time u in -5+60n) and ("7" = d or s() or t + 1 >= -3)) }'
 TENSE = ('{ t: time | (once t (-5, 0) always t (0, 58) not r(t, "7") or since t (not until t (s(), t = 1), once once (0, -1) s())'
          ' or once(t) or once in 1+2n or once + 1 < 3 or exists u: once s()) }')
+EDITS = '+ r (5, "7") where t <= t + 5, t = -1; - r (-5+60n, "8"); + s (); '
 # Token by token what may follow; what begins a formula, a term, a value or a sort.
 SAMPLES = ["x", "7", '"a"', *RESERVED, *"(){},:;|+-<>=", "<=", ">="]
 BEGINS = {
@@ -22,16 +23,25 @@ BEGINS = {
 }
 
 
-def taken(front: str, query: bool, folder: Path, *keys: str) -> set[str]:
+# The words that read a text of each kind; the others stand beside it.
+WORDS = {
+    Grammar.DATABASE: ["check", "db=text"],
+    Grammar.QUERY: ["explain", "db=a.lrp", "query=text"],
+    Grammar.TENSE: ["explain", "db=a.lrp", "query=text", "tense=yes"],
+    Grammar.EDITS: ["watch", "db=a.lrp", "query=b.lrq", "edits=text"],
+}
+
+
+def taken(front: str, grammar: Grammar, folder: Path) -> set[str]:
     """Which of the samples the program takes behind the front of a text: its fault stands behind the sample."""
     found = set()
+    (folder / "a.lrp").write_text(DATABASE)
+    (folder / "b.lrq").write_text("{ | s() }")
     for sample in SAMPLES:
         text = f"{front} {sample} ?"
-        (folder / "a.lrp").write_text(DATABASE if query else text)
-        (folder / "b.lrq").write_text(text)
-        words = ["explain", "db=a.lrp", "query=b.lrq", *keys] if query else ["check", "db=a.lrp"]
-        line = subprocess.run([PROGRAM, *words], cwd=folder, capture_output=True, text=True, check=False).stdout
-        fault = re.fullmatch(r"refused: (?:query|database) Syntax at 1:(\d+)\n", line)
+        (folder / "text").write_text(text)
+        line = subprocess.run([PROGRAM, *WORDS[grammar]], cwd=folder, capture_output=True, text=True, check=False).stdout
+        fault = re.fullmatch(r"refused: (?:query|database|edits) Syntax at 1:(\d+)\n", line)
         if fault is None:
             raise AssertionError(f"{text}: {line}")
         if int(fault.group(1)) > len(front.encode()) + 2:
@@ -42,24 +52,27 @@ def taken(front: str, query: bool, folder: Path, *keys: str) -> set[str]:
 class Wanted(unittest.TestCase):
     """At each token of a text."""
 
-    def check_text(self, text: str, query: bool, *keys: str) -> None:
+    def check_text(self, text: str, grammar: Grammar) -> None:
         """Cuts the text at each token, and tries every kind of token there."""
         with tempfile.TemporaryDirectory() as name:
             for token in TOKEN.finditer(text):
                 if token.lastgroup:
                     front = text[:token.start()]
-                    wanted = wanted_at(front, query, bool(keys))
+                    wanted = wanted_at(front, grammar)
                     said = {sample for word in wanted for sample in BEGINS.get(word, [word.strip("'")])}
-                    self.assertEqual(taken(front, query, Path(name), *keys), said, front)
+                    self.assertEqual(taken(front, grammar, Path(name)), said, front)
 
     def test_databases(self):
-        self.check_text(DATABASE, False)
+        self.check_text(DATABASE, Grammar.DATABASE)
 
     def test_queries(self):
-        self.check_text(QUERY, True)
+        self.check_text(QUERY, Grammar.QUERY)
 
     def test_queries_with_temporal_operators(self):
-        self.check_text(TENSE, True, "tense=yes")
+        self.check_text(TENSE, Grammar.TENSE)
+
+    def test_edits(self):
+        self.check_text(EDITS, Grammar.EDITS)
 
 
 class Told(unittest.TestCase):
@@ -74,7 +87,7 @@ class Told(unittest.TestCase):
                 ('{ | "a', '\\x" = "b" }', "It stands inside a text, which ends at the next quote of its line; in it \\\""
                                            " is a quote, \\\\ is a \\."),
                 ('{ | # "\n', "| }", "Here may stand: a formula.")):
-            self.assertEqual(fault_of_syntax(front + rest, len(front), True), wanted)
+            self.assertEqual(fault_of_syntax(front + rest, len(front), Grammar.QUERY), wanted)
 
 
 if __name__ == "__main__":

@@ -32,6 +32,7 @@ class Case(NamedTuple):
     caret: str = ""
     more: tuple[str, ...] = ()
     command: str = "decide"
+    edits: str | bytes = ""
 
 
 DATABASE = [
@@ -61,7 +62,24 @@ QUERY = [
     Case("refused: query Wide at 1:83", BUS, f"{{ {NINE} | bus(c0) }}", caret="c8"),
     Case("refused: query UnknownSort at 1:6", TRIP, "{ l: lime | l = l }", caret="lime"),
 ]
+EDITS = [
+    Case("refused: edits Utf8 at 1:3", BUS, edits=b"# \xff", caret="\ufffd"),
+    Case("refused: edits Syntax at 1:13", BUS, edits="+ bus (0+7n)", caret=""),
+    Case("refused: edits Number at 2:8", BUS, edits=f"# one\n+ bus ({BIG});", caret=BIG),
+    Case("refused: edits Period at 1:10", BUS, edits="+ bus (5+0n);", caret="0"),
+    Case("refused: edits TextTooLong at 1:9", TRIP, "{ t: time, l: line | trip(t, l) }", edits=f'+ trip ("{LONG}");', caret='"x'),
+    Case("refused: edits UnknownRelation at 1:3", BUS, edits="- tram (1);", caret="tram"),
+    Case("refused: edits Arity at 1:7", BUS, edits="+ bus (5, 6);", caret="("),
+    Case("refused: edits Sort at 1:8", BUS, edits='+ bus ("7");', caret='"7"'),
+    Case("refused: edits Column at 1:17", BUS, edits="+ bus (5) where u <= 5;", caret="u"),
+]
 OTHERS = [
+    Case("refused: read of edits", BUS, more=("edits=none",), command="watch"),
+    Case("refused: edits longer than 16777216 bytes", BUS, edits=" " * 16777217),
+    Case("refused: query not kept", BUS, "{ t: time | not bus(t) }", edits="+ bus (1);"),
+    Case("refused: period above 4611686018427387904 at edit 1", BUS, edits="+ bus (0+4611686018427387903n);"),
+    Case("refused: bound above 4611686018427387904 at edit 0", BUS, "{ t: time | (bus(t) and t >= 4611686018427387904) }", edits="+ bus (1);"),
+    Case("refused: more than 59 cells at edit 2", BUS, edits="- bus (0); + bus (0+7n);", more=("cap=59",)),
     Case("refused: read of database", ""),
     Case("refused: read of query", BUS, ""),
     Case("refused: database longer than 16777216 bytes", " " * 16777217),
@@ -80,9 +98,9 @@ OTHERS = [
     Case("refused: token stale", BUS, more=("from=0", "to=9", "after=" + TOKEN), command="list"),
 ]
 USAGE = [
-    ((), "", "A command is missing.", "ask, decide, list, explain, check, sample"),
+    ((), "", "A command is missing.", "ask, decide, watch, list, explain, check, sample"),
     (("lst", "db=a"), "lst", "'lst' is no command.", "'list'"),
-    (("xyzzy",), "xyzzy", "'xyzzy' is no command.", "ask, decide, list, explain, check, sample"),
+    (("xyzzy",), "xyzzy", "'xyzzy' is no command.", "ask, decide, watch, list, explain, check, sample"),
     (("smaple",), "smaple", "'smaple' is no command.", "'sample'"),
     (("sample", "seed=1", "size=501"), "size=501", "'501' is no value of 'size'.", "from 1 to 500"),
     (("sample", "seed=1000001", "size=1"), "seed=1", "'1000001' is no value of 'seed'.", "from 0 to 1000000"),
@@ -117,6 +135,9 @@ USAGE = [
      "as 2024-02-26T08:15"),
     (("list", "db=a", "query=b", "from=0"), "", "'list' needs the key 'to'.", "to=NUMBER"),
     (("ask", "db=a"), "", "'ask' needs the key 'query'.", "query=FILE.lrq"),
+    (("watch", "db=a", "query=b"), "", "'watch' needs the key 'edits'.", "edits=FILE.lre"),
+    (("watch", "db=a", "query=b", "c.lre"), "c.lre", "'c.lre' is no KEY=VALUE.", "edits=c.lre"),
+    (("watch", "db=a", "query=b", "edits=c", "civil=yes"), "civil=yes", "'watch' has no key 'civil'.", "db, query, edits, cap"),
 ]
 
 
@@ -146,7 +167,9 @@ class Explained(unittest.TestCase):
             folder = Path(name)
             write(folder / "a.lrp", case.db)
             write(folder / "b.lrq", case.query)
-            words = [case.command, "db=a.lrp", "query=b.lrq", *case.more]
+            write(folder / "c.lre", case.edits)
+            command = ["watch", "edits=c.lre"] if case.edits else [case.command]
+            words = [*command, "db=a.lrp", "query=b.lrq", *case.more]
             plain = run(*words, folder=folder)
             told = run(*words, folder=folder, explain="always")
         self.assertEqual((plain.out, plain.err), (case.line + "\n", ""))
@@ -168,13 +191,18 @@ class Explained(unittest.TestCase):
             with self.subTest(case.line):
                 self.explain(case)
 
+    def test_faults_of_edits(self):
+        for case in EDITS:
+            with self.subTest(case.line):
+                self.explain(case)
+
     def test_files_limits_and_tokens(self):
         for case in OTHERS:
             with self.subTest(case.line):
                 self.explain(case)
 
     def test_no_kind_is_left_out(self):
-        tested = {heading_of(case.line) for case in DATABASE + QUERY + OTHERS}
+        tested = {heading_of(case.line) for case in DATABASE + QUERY + EDITS + OTHERS}
         others = {"refused: usage", "refused: memory", "no line, status 7"}
         self.assertEqual(tested | others, {entry.heading for entry in read_catalogue()})
 
@@ -341,7 +369,7 @@ class Usage(unittest.TestCase):
                       "ask db=a query=b tense=yes civil=no", "ask canon=yes db=a query=b cap=1", "ask db=a query=b canon=no", "explain db=a query=b tense=no",
                       "list db=a query=b from=0001-01-01T00:00 to=9999-12-31T23:59 civil=yes", "check civil=no db=a",
                       "list db=a query=b civil=yes from=2024-02-29T23:59 to=1969-12-31T00:00", "explain db=a query=b civil=yes",
-                      "sample seed=0 size=1", "sample size=500 seed=1000000"):
+                      "sample seed=0 size=1", "sample size=500 seed=1000000", "watch db=a query=b edits=c", "watch cap=1 edits=a query=a db=a"):
             self.assertIsNone(find_fault(words.split()), words)
             self.assertNotEqual(run(*words.split()).out, "refused: usage\n", words)
 
