@@ -6,6 +6,7 @@ _fizhedul_keys() {
     case $1 in
         ask) keys='db query cap tense canon civil' ;;
         decide) keys='db query cap tense civil' ;;
+        watch) keys='db query edits cap' ;;
         list) keys='db query from to limit after form cap tense civil' ;;
         explain) keys='db query tense civil' ;;
         check) keys='db civil' ;;
@@ -34,6 +35,7 @@ _fizhedul_values() {
     case $1 in
         db) endings='lrp' ;;
         query) endings='lrq' ;;
+        edits) endings='lre' ;;
         tense) values='no yes' ;;
         canon) values='no yes' ;;
         civil) values='no yes' ;;
@@ -69,9 +71,9 @@ _fizhedul() {
     [[ $line == *[[:blank:]] ]] || { word=${words[-1]}; unset 'words[-1]'; }
     COMPREPLY=()
     if [ ${#words[@]} -le 1 ]; then
-        mapfile -t COMPREPLY < <(compgen -W 'check ask decide list explain sample shell draw import export help --version' -- "$word")
+        mapfile -t COMPREPLY < <(compgen -W 'check ask decide watch list explain sample shell draw import export help --version' -- "$word")
     elif [ "${words[1]}" = help ]; then
-        [ ${#words[@]} -gt 2 ] || mapfile -t COMPREPLY < <(compgen -W 'ask decide list explain check sample language refusals workbench' -- "$word")
+        [ ${#words[@]} -gt 2 ] || mapfile -t COMPREPLY < <(compgen -W 'ask decide watch list explain check sample language refusals workbench' -- "$word")
     elif [ "${words[1]}" = import ] || [ "${words[1]}" = export ]; then
         _fizhedul_kinds_or_files "${words[1]}" "$word" ${#words[@]}
     elif [[ $word == *=* ]]; then

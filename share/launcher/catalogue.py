@@ -6,7 +6,7 @@ from typing import NamedTuple
 
 from table import SHARE
 
-PLACEHOLDERS = {"L:C": r"(?P<line>\d+):(?P<column>\d+)", "CAP": r"\d+", "S": r"(?P<step>\d+)"}
+PLACEHOLDERS = {"L:C": r"(?P<line>\d+):(?P<column>\d+)", "CAP": r"\d+", "S": r"(?P<step>\d+)", "I": r"(?P<edit>\d+)"}
 
 
 class Entry(NamedTuple):

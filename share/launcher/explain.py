@@ -10,7 +10,7 @@ from pathlib import Path
 
 from catalogue import Entry, find_entry
 from civil import fault_of_civil, plain_text
-from grammar import fault_of_syntax
+from grammar import TOKEN, Grammar, fault_of_syntax
 from places import WORD, Place, caret_line, clean, read_lines, show_place
 from usage import find_fault
 
@@ -34,7 +34,7 @@ def explain(program: str, words: list[str], line: str, width: int) -> str:
     files = dict(word.split("=", 1) for word in words[1:] if "=" in word)
     shown = ""
     place = numbers.groupdict()
-    which = "query" if line.startswith("refused: query") else "db"
+    which = next((kind for kind in ("query", "edits") if line.startswith("refused: " + kind)), "db")
     if place.get("line"):
         shown = show_place(Place(files.get(which, ""), int(place["line"]), int(place["column"])), width)
     detail = detail_of(program, files, line, place)
@@ -75,17 +75,23 @@ def detail_of(program: str, files: dict[str, str], line: str, numbers: dict[str,
     details: list[tuple[str, Callable[[], str]]] = [
         ("refused: database Syntax", lambda: syntax_of_database(files, numbers)),
         ("refused: query Syntax", lambda: syntax_of_query(files, numbers)),
+        ("refused: edits Syntax", lambda: syntax_of_edits(files, numbers)),
         ("refused: read of database", lambda: why_unread(files.get("db", ""))),
         ("refused: read of query", lambda: why_unread(files.get("query", ""))),
+        ("refused: read of edits", lambda: why_unread(files.get("edits", ""))),
         ("refused: query UnknownRelation", lambda: relations_of(files.get("db", ""))),
         ("refused: query Arity", lambda: relations_of(files.get("db", ""))),
         ("refused: query Sort", lambda: relations_of(files.get("db", ""))),
         ("refused: query UnknownSort", lambda: sorts_of(files.get("db", ""))),
+        *((f"refused: edits {kind}", lambda: relations_of(files.get("db", "")))
+          for kind in ("UnknownRelation", "Arity", "Sort", "Column")),
         ("refused: canon needs", lambda: times_of(files.get("query", ""))),
         ("refused: period", lambda: numbers_of(files, "periods", PERIOD)),
         ("refused: bound", lambda: numbers_of(files, "numbers", NUMBER)),
         ("refused: more than", lambda: step_of(program, files, numbers.get("step", ""))),
     ]
+    if numbers.get("edit"):
+        return clean(edit_of(files.get("edits", ""), int(numbers["edit"])))
     for front, tell in details:
         if line.startswith(front):
             return clean(tell())
@@ -111,13 +117,20 @@ def syntax_of_database(files: dict[str, str], numbers: dict[str, str]) -> str:
     if place is None:
         return ""
     plain = plain_text(text) if is_civil else text
-    return fault_of_civil(text, place, is_civil) or fault_of_syntax(plain, place, False)
+    return fault_of_civil(text, place, is_civil) or fault_of_syntax(plain, place, Grammar.DATABASE)
 
 
 def syntax_of_query(files: dict[str, str], numbers: dict[str, str]) -> str:
     """What may stand where a query has its fault of syntax."""
     text, place = text_to(files.get("query", ""), numbers)
-    return "" if place is None else fault_of_syntax(text, place, True, files.get("tense") == "yes")
+    grammar = Grammar.TENSE if files.get("tense") == "yes" else Grammar.QUERY
+    return "" if place is None else fault_of_syntax(text, place, grammar)
+
+
+def syntax_of_edits(files: dict[str, str], numbers: dict[str, str]) -> str:
+    """What may stand where a list of edits has its fault of syntax."""
+    text, place = text_to(files.get("edits", ""), numbers)
+    return "" if place is None else fault_of_syntax(text, place, Grammar.EDITS)
 
 
 def text_to(file: str, numbers: dict[str, str]) -> tuple[str, int | None]:
@@ -172,6 +185,15 @@ def text_of(file: str) -> str:
     except (OSError, ValueError):
         return ""
     return re.sub(r"#[^\n]*", "", text)
+
+
+def edit_of(file: str, number: int) -> str:
+    """The edit of this number, from 1, as the file has it."""
+    text = text_of(file)
+    ends = [found.end() for found in TOKEN.finditer(text) if found.group() == ";"]
+    if not 1 <= number <= len(ends):
+        return ""
+    return f"The edit is '{' '.join(text[ends[number - 2] if number > 1 else 0:ends[number - 1]].split())}'."
 
 
 def step_of(program: str, files: dict[str, str], step: str) -> str:

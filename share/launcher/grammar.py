@@ -1,7 +1,8 @@
-"""What may stand at a place of a database or a query where the text stops being one."""
+"""What may stand at a place of a database, a query or a list of edits where the text stops being one."""
 
 import re
 from collections.abc import Callable
+from enum import Enum
 
 RESERVED = ("relation", "where", "time", "data", "n", "exists", "forall", "not", "and", "or", "implies", "in")
 TOKEN = re.compile(r'[\s]+|#[^\n]*|(?P<name>[A-Za-z_][A-Za-z0-9_]*)|(?P<number>[0-9]+)|'
@@ -10,21 +11,30 @@ COMPARISONS = ("<=", ">=", "<", ">", "=")
 OPERATORS = ("once", "always", "since", "until")
 
 
+class Grammar(Enum):
+    """What a text is to be."""
+
+    DATABASE = "a database"
+    QUERY = "a query"
+    TENSE = "a query that may have temporal operators"
+    EDITS = "edits"
+
+
 class Stop(Exception):
     """The place is reached."""
 
 
-def fault_of_syntax(text: str, place: int, query: bool, is_tense: bool = False) -> str:
-    """What is known of a fault of syntax at a place of a text; a query may have temporal operators."""
+def fault_of_syntax(text: str, place: int, grammar: Grammar) -> str:
+    """What is known of a fault of syntax at a place of a text."""
     inside = re.search(r'"(?:[^"\\\x00-\x1f\x7f]|\\["\\])*$', without_texts_and_comments(text[:place]))
     if inside:
         return "It stands inside a text, which ends at the next quote of its line; in it \\\" is a quote, \\\\ is a \\."
     found = TOKEN.match(text, place)
     if place < len(text) and found is None:
         return f"{text[place]!r} begins no token of the language."
-    if query and not is_tense and is_operator(text, place):
+    if grammar is Grammar.QUERY and is_operator(text, place):
         return "Temporal operators, as 'once t (-10, 0) ..', are read with tense=yes."
-    wanted = wanted_at(text[:place], query, is_tense)
+    wanted = wanted_at(text[:place], grammar)
     if found and "a name" in wanted and found.group() in RESERVED:
         return f"'{found.group()}' is a word of the language, and can't be a name."
     return "Here may stand: " + " or ".join(filter(None, [", ".join(wanted[:-1]), wanted[-1]])) + "." if wanted else ""
@@ -43,14 +53,16 @@ def is_operator(text: str, place: int) -> bool:
     return is_name and before[-1:] != [] and before[-1] in OPERATORS
 
 
-def wanted_at(front: str, query: bool, is_tense: bool = False) -> list[str]:
-    """What may follow the front of a database or a query."""
-    reader = Reader([found for found in TOKEN.finditer(front) if found.lastgroup], is_tense)
+def wanted_at(front: str, grammar: Grammar) -> list[str]:
+    """What may follow the front of a text."""
+    reader = Reader([found for found in TOKEN.finditer(front) if found.lastgroup], grammar is Grammar.TENSE)
     try:
-        if query:
-            reader.query()
-        else:
+        if grammar is Grammar.DATABASE:
             reader.database()
+        elif grammar is Grammar.EDITS:
+            reader.edits()
+        else:
+            reader.query()
     except Stop:
         pass
     return list(dict.fromkeys(reader.wanted))
@@ -104,13 +116,23 @@ class Reader:
             self.list_up_to(")", self.column)
             self.need("{")
             while not self.at("}"):
-                self.need("(")
-                self.list_up_to(")", self.value)
-                if self.at("where"):
-                    self.bound()
-                    while self.at(","):
-                        self.bound()
-                self.need(";")
+                self.row()
+
+    def edits(self) -> None:
+        """+ NAME ROW - NAME ROW .."""
+        while self.at("+", "-"):
+            self.need("a name")
+            self.row()
+
+    def row(self) -> None:
+        """(VALUES) where BOUNDS;"""
+        self.need("(")
+        self.list_up_to(")", self.value)
+        if self.at("where"):
+            self.bound()
+            while self.at(","):
+                self.bound()
+        self.need(";")
 
     def column(self) -> None:
         """NAME: SORT"""

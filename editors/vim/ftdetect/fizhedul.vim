@@ -1,2 +1,2 @@
-" Databases and queries of Fizhedul.
-autocmd BufNewFile,BufRead *.lrp,*.lrq setfiletype fizhedul
+" Databases, queries and edits of Fizhedul.
+autocmd BufNewFile,BufRead *.lrp,*.lrq,*.lre setfiletype fizhedul

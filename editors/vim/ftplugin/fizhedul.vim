@@ -1,4 +1,4 @@
-" Settings for databases and queries of Fizhedul.
+" Settings for databases, queries and edits of Fizhedul.
 if exists('b:did_ftplugin')
   finish
 endif

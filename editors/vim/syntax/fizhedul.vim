@@ -1,4 +1,4 @@
-" Databases and queries of Fizhedul: each token has its class, and what is no token is an error.
+" Databases, queries and edits of Fizhedul: each token has its class, and what is no token is an error.
 if exists('b:current_syntax')
   finish
 endif

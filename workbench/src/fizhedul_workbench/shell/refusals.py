@@ -2,8 +2,9 @@
 
 import re
 
-PLACED = re.compile(r"refused: (database|query) (\w+) at (\d+):(\d+)")
+PLACED = re.compile(r"refused: (database|query|edits) (\w+) at (\d+):(\d+)")
 CELLS = re.compile(r"refused: more than (\d+) cells at step (\d+)")
+MEETING = re.compile(r"refused: more than (\d+) cells at edit (\d+)")
 ROWS = re.compile(r"refused: more than (\d+) canonical rows")
 
 DATABASE = {
@@ -25,7 +26,14 @@ QUERY = {
     "Wide": "at most 8 time variables and 8 data variables may be free here",
     "UnknownSort": "no column of the database has this sort",
 }
-BOTH = {
+EDITS = {
+    "Arity": DATABASE["Arity"],
+    "Sort": DATABASE["Sort"],
+    "Column": DATABASE["Column"],
+    "Period": DATABASE["Period"],
+    "UnknownRelation": QUERY["UnknownRelation"],
+}
+ALL = {
     "Utf8": "from here on the text is no UTF-8",
     "Syntax": "nothing that begins like this can be read; this does not belong here",
     "Number": "a number is at most 4611686018427387904",
@@ -36,6 +44,8 @@ OTHERS = {
     "refused: token stale": "the database or the query changed since the page before; ask the query again",
     "refused: read of database": "the file of the database could not be read",
     "refused: read of query": "the query could not be read",
+    "refused: read of edits": "the file of the edits could not be read",
+    "refused: query not kept": "watched queries have relations and tests alone, and each variable in a relation",
     "refused: memory": "there is not enough memory",
     "refused: usage": "the program does not know these words",
 }
@@ -45,11 +55,14 @@ def sentence_of(line: str) -> str:
     """One sentence on a refusal's line."""
     placed = PLACED.match(line)
     if placed is not None:
-        kinds = BOTH | (DATABASE if placed.group(1) == "database" else QUERY)
+        kinds = ALL | {"database": DATABASE, "query": QUERY, "edits": EDITS}[placed.group(1)]
         return kinds.get(placed.group(2), "")
     cells = CELLS.match(line)
     if cells is not None:
         return f"step {cells.group(2)} of the plan needs more than {cells.group(1)} cells; .cap N allows more"
+    meeting = MEETING.match(line)
+    if meeting is not None:
+        return f"with edit {meeting.group(2)} some rows meet in more than {meeting.group(1)} cells; .cap N allows more"
     rows = ROWS.match(line)
     if rows is not None:
         return f"the answer in its one form has more than {rows.group(1)} rows; .cap N allows more"
@@ -57,7 +70,7 @@ def sentence_of(line: str) -> str:
         return "the common period of all rows and points in the query is too large"
     if line.startswith("refused: bound above"):
         return "the bounds in the query and its relations are too large"
-    if line.startswith(("refused: database longer", "refused: query longer")):
+    if line.startswith(("refused: database longer", "refused: query longer", "refused: edits longer")):
         return "the text is too long"
     return OTHERS.get(line, "")
 

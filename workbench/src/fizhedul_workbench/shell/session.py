@@ -59,18 +59,24 @@ def say_code(session: Session, text: str) -> None:
     say(coloured(text) if session.is_colourful else text.rstrip("\n"))
 
 
-def say_refusal(session: Session, output: Output) -> None:
-    """A refusal, in its place in the query or in the database."""
+def say_refusal(session: Session, output: Output, edits: str = "") -> None:
+    """A refusal, in its place in the query, in the database or in the file of edits."""
     line = output.refusal or ""
     session.status = abs(output.status)
     text = session.query.encode()
-    if line.startswith("refused: database"):
-        try:
-            text = Path(session.database).read_bytes()
-        except OSError:
-            text = b""
+    for what, file in (("database", session.database), ("edits", edits)):
+        if line.startswith(f"refused: {what}"):
+            text = bytes_of(file)
     told_text = told(line, text) if line else f"the program ended with status {output.status}"
     say(f"\x1b[31m{told_text}\x1b[0m" if session.is_colourful else told_text)
+
+
+def bytes_of(file: str) -> bytes:
+    """The bytes of a file; none where it can't be read."""
+    try:
+        return Path(file).read_bytes()
+    except OSError:
+        return b""
 
 
 def need_query(session: Session) -> bool:
@@ -149,6 +155,20 @@ def write_output(session: Session, command: str) -> None:
         elif command == "decide":
             word, *witness = output.text.splitlines()
             say_code(session, "\n".join([word, *(shown_line(session, line) for line in witness)]))
+        else:
+            say_code(session, output.text)
+
+
+def watch(session: Session, rest: str) -> None:
+    """The least answer of the last query, and after each edit of a file the one that it then has."""
+    if not rest:
+        say("which edits? as in .watch moves.lre")
+    elif session.is_tense or session.is_civil:
+        say("edits are watched without temporal operators and civil times; .tense off and .civil off")
+    elif need_query(session):
+        output = run_program([*session.question().words("watch"), f"edits={rest}"])
+        if output.status:
+            say_refusal(session, output, rest)
         else:
             say_code(session, output.text)
 

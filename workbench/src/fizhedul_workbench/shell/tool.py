@@ -20,6 +20,7 @@ HELP = """A line is a query, as { t: time | bus(t) }; it goes on while a bracket
 .decide         the least answer of all, or Empty
 .ask            the whole answer, as a relation
 .explain        the plan of the query
+.watch FILE     the least answer, and after each edit of FILE the one then
 .cap N          the most cells of a step
 .tables         the relations of the database
 .open FILE      another database
@@ -35,6 +36,7 @@ COMMANDS: dict[str, Act] = {
     ".decide": lambda session, _: acts.write_output(session, "decide"),
     ".ask": lambda session, _: acts.write_output(session, "ask"),
     ".explain": lambda session, _: acts.write_output(session, "explain"),
+    ".watch": acts.watch,
     ".civil": acts.set_civil,
     ".tense": acts.set_tense,
     ".canon": acts.set_canon,

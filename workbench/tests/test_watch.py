@@ -1,0 +1,56 @@
+"""Edits that are watched, in the shell."""
+
+from pathlib import Path
+
+import pytest
+from tools import tool
+
+BUS = "relation bus(t: time) { (5+60n); }"
+ALL = "{ t: time | bus(t) }"
+PAGE = "t\n-\n5\n(1 answer; the last from 0 to 5)\n"
+
+
+@pytest.fixture
+def bus(tmp_path: Path) -> Path:
+    (tmp_path / "bus.lrp").write_text(BUS)
+    (tmp_path / "moves.lre").write_text("+ bus (0+7n); - bus (0+7n); - bus (65+60n);\n")
+    return tmp_path
+
+
+def piped(folder: Path, text: str, *words: str) -> tuple[str, int]:
+    done = tool("shell", "db=bus.lrp", "from=0", "to=5", *words, text=text, folder=folder)
+    assert done.stderr == ""
+    return done.stdout, done.returncode
+
+
+def test_the_least_answer_is_told_at_first_and_after_each_edit(bus: Path) -> None:
+    assert piped(bus, f"{ALL}\n.watch moves.lre\n") == (PAGE + "5\n0\n5\nnone\n", 0)
+    assert (bus / "bus.lrp").read_text() == BUS
+
+
+def test_what_is_missing_is_told(bus: Path) -> None:
+    assert piped(bus, ".watch moves.lre\n.watch\n") == (
+        "there is no query yet\nwhich edits? as in .watch moves.lre\n",
+        0,
+    )
+    told = "edits are watched without temporal operators and civil times; .tense off and .civil off\n"
+    assert piped(bus, f"{ALL}\n.watch moves.lre\n", "tense=yes") == (PAGE + told, 0)
+
+
+def test_its_refusals_have_a_sentence_and_a_place(bus: Path) -> None:
+    (bus / "tram.lre").write_text("# One edit.\n+ tram (1);\n")
+    (bus / "two.lre").write_text("+ bus (0, 1);\n")
+    out, status = piped(
+        bus,
+        f"{ALL}\n.watch tram.lre\n.watch two.lre\n.watch none.lre\n.cap 59\n.watch moves.lre\n"
+        "{ t: time | not bus(t) }\n.watch moves.lre\n",
+    )
+    assert status == 4
+    for lines in (
+        "  + tram (1);\n    ^\nrefused: edits UnknownRelation at 2:3: the database has no relation of this name\n",
+        "  + bus (0, 1);\n        ^\nrefused: edits Arity at 1:7: this row has another number of values than its",
+        "refused: read of edits: the file of the edits could not be read\n",
+        "refused: more than 59 cells at edit 1: with edit 1 some rows meet in more than 59 cells; .cap N allows more\n",
+        "refused: query not kept: watched queries have relations and tests alone, and each variable in a relation\n",
+    ):
+        assert lines in out, out
