@@ -125,8 +125,22 @@ impl Held {
     }
 }
 
-// The place of a cell in a line, by halving.
+// The place of a cell in a line. The last one is looked at first, since cells mostly come in order.
 fn place_in(line: &[(Cell, Chain)], cell: &Cell) -> Option<usize>
+    requires { IsLine line.now }
+    ensures none { IfNone result (chain_at line.now cell.now ≡ None) }
+    ensures some { IfSome result (StandsAt line.now cell.now) }
+{
+    let last = line.len().checked_sub(1)?;
+    match cell.cmp(&line[last].0) {
+        Ordering::Less => place_by_halving(line, cell),
+        Ordering::Equal => Some(last),
+        Ordering::Greater => None,
+    }
+}
+
+// The place of a cell in a line, by halving.
+fn place_by_halving(line: &[(Cell, Chain)], cell: &Cell) -> Option<usize>
     requires { IsLine line.now }
     ensures none { IfNone result (chain_at line.now cell.now ≡ None) }
     ensures some { IfSome result (StandsAt line.now cell.now) }

@@ -7,4 +7,4 @@ mod iterators;
 mod slots;
 
 pub use iterators::{Cells, Lists, Values};
-pub use slots::Slots;
+pub use slots::{Ends, Slots};

@@ -1,5 +1,5 @@
 // Lists of values by cell in slots of one vector.
-ghost use Rattle.std.specs.Prelude.{◌≡◌, ◌≢◌, ◌+◌, ◌<◌, ◌≤◌, ◌↔◌, All, Some, [], ◌∷◌, ◌++◌, length, sum_by, slice_get, IsSome, IsOk, IfOk, OnOk, OnErr, OnSome, IfNone, option_copied};
+ghost use Rattle.std.specs.Prelude.{◌≡◌, ◌≢◌, ◌+◌, ◌-◌, ◌<◌, ◌≤◌, ◌↔◌, All, Some, None, [], ◌∷◌, ◌++◌, length, sum_by, slice_get, IsSome, IsOk, IfOk, OnOk, OnErr, OnSome, IfSome, IfNone, option_copied};
 ghost use Rattle.std.specs.List.{remove};
 ghost use Rattle.std.specs.FinMap as finite;
 ghost use Rattle.lrp_slots.specs.Lists.{list_at, set_list, append_all};
@@ -24,6 +24,13 @@ pub struct Slots<V> {
     alloc: Global,
     links: Slab<Link<V>>,
     chains: Held,
+}
+
+/// The first and the last value of a list, which are one where it has one value.
+#[derive(Drop)]
+pub struct Ends<'a, V> {
+    pub first: &'a V,
+    pub last: &'a V,
 }
 
 impl<V> Model for Slots<V> {
@@ -128,6 +135,20 @@ impl<V: Drop> Slots<V> {
         }
         let key = key_at(&self.links, chain, i);
         Some(&self.links[key].value)
+    }
+
+    /// The first and the last value of a cell, which is looked up once.
+    pub fn ends(&self, cell: &Cell) -> Option<Ends<'_, V>>
+        ensures none { IfNone result (finite.get self.now.lists cell.now ≡ None) }
+        ensures first { IfSome result (λ ends. slice_get (list_at self.now.lists cell.now) 0 ≡ Some ends.first.now) }
+        ensures last { IfSome result (λ ends. slice_get (list_at self.now.lists cell.now) (length (list_at self.now.lists cell.now) - 1) ≡ Some ends.last.now) }
+    {
+        let chain = *self.chains.get(cell)?;
+        let links = &self.links;
+        Some(Ends {
+            first: &links[chain.first].value,
+            last: &links[chain.last].value,
+        })
     }
 
     /// Takes the value at a place out of a cell's list. The cell goes with its last value.

@@ -15,3 +15,6 @@ pub mod ZoneFirst
 pub mod ZonesRead
 pub mod Written
 pub mod EntriesRead
+pub mod Looser
+pub mod Added
+pub mod Ordered

@@ -174,19 +174,6 @@ module _ (s : StoreView) (is : IsStore s) (cell : Cell) (t : Table) (held : Cont
       pub here_more : (ys : List ℤ) → IsMember (zone_of s cell t) ys → IsNotAfter s (Some new) ys (take s.shape.texts cell.texts)
       here_more ys h = held_upto _ (take s.shape.times xs) ys _ (take s.shape.texts cell.texts) _ (subst (λ o. o ≢ Greater) (spots_cmp s new (record { times = xs; texts = cell.texts }) found_more spot_is) before_spot) (spot_first ys h)
 
--- ---- keys
-
--- ranks compare like times by their ranks
-ranks_cmp : (xs ys : List ℤ) → slice_cmp nat_cmp (map rank xs) (map rank ys) ≡ times_cmp xs ys
-ranks_cmp [] [] = refl
-ranks_cmp [] (y ∷ ys) = refl
-ranks_cmp (x ∷ xs) [] = refl
-ranks_cmp (x ∷ xs) (y ∷ ys) = ap (ordering_then (nat_cmp (rank x) (rank y))) (ranks_cmp xs ys)
-
--- a key of ranks and texts
-pub keys_cmp : (a b : Spot) (rs qs : List ℕ) (ns ms : List ℕ) → rs ≡ map rank a.times → qs ≡ map rank b.times → ns ≡ a.texts → ms ≡ b.texts → ordering_then (slice_cmp nat_cmp rs qs) (slice_cmp nat_cmp ns ms) ≡ held_cmp a.times a.texts b.times b.texts
-keys_cmp a b rs qs ns ms e f g h = ap₂ ordering_then (ap₂ (slice_cmp nat_cmp) e f ∙ ranks_cmp a.times b.times) (ap₂ (slice_cmp nat_cmp) g h)
-
 -- ---- one cell after the other
 
 module _ (s : StoreView) (is : IsStore s) (cell : Cell) where

@@ -1,5 +1,7 @@
 // The first tuple of a store: by the ranks of its times, and then by the numbers of its texts.
 ghost use Rattle.std.specs.Prelude.{◌≡◌, ◌≢◌, ◌⊎◌, ◌↔◌, ℕ, ℤ, List, map, Some, IsTrue, IfSome, IfNone};
+ghost use Rattle.std.specs.Ordering.{nat_cmp};
+ghost use Rattle.std.specs.Cmp.Lexicographic.{slice_cmp};
 ghost use Rattle.std.specs.declared.cmp.Ordering.TheVariants.{Less, Greater};
 ghost use Rattle.lrp_store.specs.Aligned.{InCell};
 ghost use Rattle.lrp_store.specs.Least.{HasRoom, IsFound, IsNotAfter, held_cmp};
@@ -11,13 +13,7 @@ use crate::store::Store;
 use crate::stored::StoredBounds;
 use lrp_model::{Cell, Spot};
 use lrp_slots::Values;
-
-/// What spots are compared by.
-#[derive(Clone, Copy, PartialEq, Eq, PartialOrd, Ord)]
-struct Key {
-    ranks: [u128; 8],
-    texts: [u32; 8],
-}
+use std::cmp::Ordering;
 
 /// The place of a time in the order 0, 1, -1, 2, -2, ..
 fn rank_of(time: i64) -> u128
@@ -27,26 +23,28 @@ fn rank_of(time: i64) -> u128
     if time > 0 { twice - 1 } else { twice }
 }
 
-/// The ranks of the times, and the texts.
-fn key_of(spot: &Spot) -> Key
-    ensures ranks { result.ranks ≡ map rank spot.now.times }
-    ensures texts { result.texts ≡ spot.now.texts }
+/// The order of two lists of times by their ranks. It reads no further than the first place where these differ.
+fn times_order(a: &[i64; 8], b: &[i64; 8]) -> Ordering
+    ensures { result ≡ slice_cmp (λ x y. nat_cmp (rank x) (rank y)) a.now b.now }
 {
-    let mut ranks = [0; 8];
-    for (i, time) in spot.times.iter().enumerate() {
-        ranks[i] = rank_of(*time);
+    for i in 0..8 {
+        let order = rank_of(a[i]).cmp(&rank_of(b[i]));
+        if order.is_ne() {
+            return order;
+        }
     }
-    Key {
-        ranks,
-        texts: spot.texts,
-    }
+    Ordering::Equal
 }
 
 /// Whether a spot comes before another one.
 fn is_before(a: &Spot, b: &Spot) -> bool
     ensures { IsTrue result ↔ (held_cmp a.now.times a.now.texts b.now.times b.now.texts ≡ Less) }
 {
-    key_of(a).cmp(&key_of(b)).is_lt()
+    match times_order(&a.times, &b.times) {
+        Ordering::Less => true,
+        Ordering::Equal => a.texts.cmp(&b.texts).is_lt(),
+        Ordering::Greater => false,
+    }
 }
 
 /// Of a spot that was found, if any, and another one the nearer.

@@ -15,6 +15,7 @@ mod walk;
 mod zones;
 
 pub use answer::Answer;
+pub use choice::{Choice, choose, step_of};
 pub use store::{Store, StoreFault};
 pub use table::{StepFault, Table, Vars};
 pub use zones::{Entries, Zones};

@@ -1,10 +1,13 @@
 // Zones by cell, each zone in a slot of one vector.
-ghost use Rattle.std.specs.Prelude.{◌≡◌, ◌≢◌, ◌+◌, ◌<◌, ◌≤◌, ◌^◌, ◌≤ℤ◌, ◌↔◌, ℕ, pos, take, nat_abs, Some, None, [], ◌∷◌, ◌++◌, length, map, slice_get, IsSome, IsOk, IfOk, IfErr, OnOk, OnErr, OnSome, IfNone};
+ghost use Rattle.std.specs.Prelude.{◌≡◌, ◌≢◌, ◌+◌, ◌<◌, ◌≤◌, ◌^◌, ◌≤ℤ◌, ◌↔◌, ℕ, pos, take, nat_abs, replicate, IsTrue, Some, None, [], ◌∷◌, ◌++◌, length, map, slice_get, IsSome, IsOk, IfOk, IfErr, OnOk, OnErr, OnSome, IfNone};
 ghost use Rattle.std.specs.List.{remove};
 ghost use Rattle.std.specs.FinMap as finite;
 ghost use Rattle.lrp_slots.specs.Lists.{list_at, set_list};
 ghost use Rattle.lrp_store.specs.Stored.{count_of};
-ghost use Rattle.lrp_store.specs.Stores.{IsStore, IsPadded, tables_at, zone_count, zones_at};
+ghost use Rattle.std.specs.Prelude.{Contains};
+ghost use Rattle.lrp_zone.specs.Zones.{greatest_of};
+ghost use Rattle.lrp_store.specs.Stores.{IsStore, IsCellOf, IsPadded, tables_at, zone_count, zone_of, zones_at};
+ghost use Rattle.lrp_store.specs.Growing.{IsAdded, IsRefused, IsTupleOf, IsWhole};
 
 use crate::stored::StoredBounds;
 use lrp_model::{Cell, Copies, Memory, Shape};
@@ -133,12 +136,91 @@ impl Store {
         ensures kept { OnErr result (self.old.spare ≤ self.new.spare) }
     {
         zone.columns();
-        if self.slots.len() >= cap as usize && self.slots.count(cell) == 0 {
+        if self.is_one_too_many(cell, cap) {
             return Err(StoreFault::TooManyCells);
         }
         let bounds = StoredBounds::of(self.alloc, zone)?;
         self.slots.append(cell, bounds)?;
         Ok(())
+    }
+
+    /// Appends a zone to a cell's list, unless the first or the last zone of the list shows that its tuples are held.
+    ///
+    /// It shows so where no bound of it is less than the zone's bound at its place, as in an equal zone and in one without
+    /// bounds. The store is left as it is then.
+    pub fn add_new(&mut self, cell: &Cell, zone: &Zone, cap: u32) -> Result<(), StoreFault>
+        requires period { zone.now.period ≡ self.old.period }
+        requires residues { zone.now.residues ≡ take self.old.shape.times cell.now.residues }
+        requires texts { IsPadded 0 self.old.shape.texts cell.now.texts }
+        requires times { IsPadded (pos 0) self.old.shape.times cell.now.residues }
+        ensures ok { OnOk result (IsAdded (IsTupleOf zone.now (take self.old.shape.texts cell.now.texts)) cap (greatest_of zone.now.bounds) self.old self.new) }
+        ensures err { OnErr result (self.new.tables ≡ self.old.tables) }
+        ensures rest { self.new ≡ record self.old { tables = self.new.tables; spare = self.new.spare } }
+        ensures too_many { result ≡ Err StoreFault.TooManyCells → IsRefused (IsTupleOf zone.now (take self.old.shape.texts cell.now.texts)) cap (greatest_of zone.now.bounds) self.old self.new }
+        ensures exact { (result ≡ Err StoreFault.TooManyCells) ↔ ((finite.get self.old.tables cell.now ≡ None) × (cap ≤ finite.len self.old.tables)) }
+        ensures lowered { self.old.spare ≤ self.new.spare + 1 }
+    {
+        zone.columns();
+        self.shape();
+        if self.has_looser(cell, zone) {
+            return Ok(());
+        }
+        self.add(cell, zone, cap)
+    }
+
+    /// Appends the zone without bounds to a cell's list, unless the list begins with it.
+    pub fn add_whole(&mut self, cell: &Cell, cap: u32) -> Result<(), StoreFault>
+        requires proper { IsCellOf self.old.shape self.old.period cell.now }
+        ensures ok { OnOk result (IsAdded (IsTupleOf (zone_of self.old cell.now (replicate 81 None)) (take self.old.shape.texts cell.now.texts)) cap (greatest_of (replicate 81 None)) self.old self.new) }
+        ensures err { OnErr result (self.new.tables ≡ self.old.tables) }
+        ensures rest { self.new ≡ record self.old { tables = self.new.tables; spare = self.new.spare } }
+        ensures too_many { result ≡ Err StoreFault.TooManyCells → IsRefused (IsTupleOf (zone_of self.old cell.now (replicate 81 None)) (take self.old.shape.texts cell.now.texts)) cap (greatest_of (replicate 81 None)) self.old self.new }
+        ensures exact { (result ≡ Err StoreFault.TooManyCells) ↔ ((finite.get self.old.tables cell.now ≡ None) × (cap ≤ finite.len self.old.tables)) }
+    {
+        self.shape();
+        if self.is_whole(cell) {
+            return Ok(());
+        }
+        if self.is_one_too_many(cell, cap) {
+            return Err(StoreFault::TooManyCells);
+        }
+        self.slots.append(cell, StoredBounds::free(self.alloc))?;
+        Ok(())
+    }
+
+    /// Whether a cell's first zone has no bound.
+    pub fn is_whole(&self, cell: &Cell) -> bool
+        ensures first { IsTrue result ↔ (slice_get (tables_at self.now cell.now) 0 ≡ Some (replicate 81 None)) }
+        ensures held { IsTrue result → Contains (tables_at self.now cell.now) (replicate 81 None) }
+    {
+        match self.slots.get(cell, 0) {
+            Some(bounds) => bounds.is_free(),
+            None => false,
+        }
+    }
+
+    // Whether a cell is not held, and there are cap cells or more.
+    fn is_one_too_many(&self, cell: &Cell, cap: u32) -> bool
+        ensures { IsTrue result ↔ ((finite.get self.now.tables cell.now ≡ None) × (cap ≤ finite.len self.now.tables)) }
+    {
+        self.slots.len() >= cap as usize && self.slots.count(cell) == 0
+    }
+
+    // Whether the first or the last zone of a cell has no bound that is less than the zone's.
+    fn has_looser(&self, cell: &Cell, zone: &Zone) -> bool
+        requires period { zone.now.period ≡ self.now.period }
+        requires residues { zone.now.residues ≡ take self.now.shape.times cell.now.residues }
+        ensures whole { IsTrue result → IsWhole (IsTupleOf zone.now (take self.now.shape.texts cell.now.texts)) self.now }
+        ensures held { IsTrue result → IsSome (finite.get self.now.tables cell.now) }
+    {
+        self.shape();
+        let Some(ends) = self.slots.ends(cell) else {
+            return false;
+        };
+        if ends.first.are_looser(zone) {
+            return true;
+        }
+        ends.last.are_looser(zone)
     }
 
     /// How many zones a cell has, 0 where it is not held.

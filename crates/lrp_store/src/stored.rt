@@ -1,6 +1,7 @@
 // The stored bounds of one zone, up to eight of them in place.
-ghost use Rattle.std.specs.Prelude.{◌≡◌, ◌+◌, ◌*◌, ◌<◌, ◌≤◌, ◌^◌, IfOk, IsOk, None, slice_index_or};
-ghost use Rattle.lrp_theory.specs.Entries.{AtMost};
+ghost use Rattle.std.specs.Prelude.{◌≡◌, ◌↔◌, ◌+◌, ◌*◌, ◌<◌, ◌≤◌, ◌^◌, IfOk, IsOk, IsTrue, None, Some, replicate, slice_index_or};
+ghost use Rattle.lrp_theory.specs.Entries.{AtMost, IsBelow};
+ghost use Rattle.lrp_zone.specs.Pairs.{IsWithin};
 ghost use Rattle.lrp_zone.specs.Zones.{IsZone, columns_of};
 ghost use Rattle.lrp_store.specs.Stored.{bounds_of, count_of, table_of, AreListed, AreSmall};
 
@@ -53,6 +54,31 @@ impl StoredBounds {
         Ok(StoredBounds { entries })
     }
 
+    /// No bounds.
+    pub fn free(alloc: Global) -> StoredBounds
+        ensures { result ≡ replicate 81 None }
+    {
+        StoredBounds {
+            entries: SmallVec::new(alloc),
+        }
+    }
+
+    /// Whether there is no bound.
+    pub fn is_free(&self) -> bool
+        ensures { IsTrue result ↔ (self.now ≡ replicate 81 None) }
+    {
+        self.entries.is_empty()
+    }
+
+    /// Whether each of these bounds is at least the zone's bound at its place.
+    pub fn are_looser(&self, zone: &Zone) -> bool
+        requires { IsZone (record zone.now { bounds = self.now }) }
+        ensures { IsTrue result → IsWithin zone.now (record zone.now { bounds = self.now }) }
+    {
+        zone.columns();
+        are_above(zone, self.entries.as_slice())
+    }
+
     /// The zone of this period and these residues whose stored bounds these are.
     pub fn zone(&self, period: u64, residues: &[i64]) -> Zone
         requires { IsZone (record { period = period; residues = residues.now; bounds = self.now }) }
@@ -85,6 +111,32 @@ fn bound_of(zone: &Zone, place: u8) -> Option<i64>
     ensures small { AtMost (2 ^ 62) result }
 {
     zone.bounds().get(usize::from(place))
+}
+
+// Whether each of the entries is at least the zone's bound at its place.
+fn are_above(zone: &Zone, entries: &[Entry]) -> bool
+    requires listed { AreListed (bounds_of entries.now) }
+    requires small { AreSmall (bounds_of entries.now) }
+    ensures { IsTrue result → IsWithin zone.now (record zone.now { bounds = table_of (bounds_of entries.now) }) }
+{
+    zone.columns();
+    for entry in entries {
+        let place = 9 * entry.left + entry.right;
+        if !is_at_most(bound_of(zone, place), entry.most) {
+            return false;
+        }
+    }
+    true
+}
+
+// Whether there is a bound, and it is at most this one.
+fn is_at_most(bound: Option<i64>, most: i64) -> bool
+    ensures { IsTrue result ↔ IsBelow bound (Some most) }
+{
+    match bound {
+        Some(a) => a <= most,
+        None => false,
+    }
 }
 
 // The table of the bounds of the entries.

@@ -1,18 +1,13 @@
--- Keys compare like spots.
-use Rattle.std.proofs.Common.{◌≡◌, Bool, Ordering, Less, Equal, Greater, sym, subst, ◌∙◌, refl}
-use Rattle.std.specs.Prelude.{IsTrue, ◌↔◌}
-use Rattle.std.specs.Ordering.{is_lt}
-use Rattle.lrp_store.proofs.StoreFirst.{keys_cmp}
+-- The times decide, and where they are equal the texts.
+use Rattle.std.proofs.Common.{sym, ◌∙◌}
+use Rattle.lrp_store.proofs.Ordered.{before_first, behind_first, then_second}
 use Rattle.lrp_store.proofs.least.is_before.Goals as goal
 
--- a test for before
-tested : (o p : Ordering) (b : Bool) → b ≡ is_lt o → o ≡ p → IsTrue b ↔ (p ≡ Less)
-tested o p b e f = subst (λ q. IsTrue b ↔ (q ≡ Less)) f (subst (λ c. IsTrue c ↔ (o ≡ Less)) (sym e) (by o))
-  where
-    by : (o : Ordering) → IsTrue (is_lt o) ↔ (o ≡ Less)
-    by Less = ((λ h. refl), λ h. refl)
-    by Equal = ((λ h. cc), λ h. cc)
-    by Greater = ((λ h. cc), λ h. cc)
+pub returns-in-Less : goal.returns-in-Less
+returns-in-Less c = before_first _ _ (sym c.times_order.ensures ∙ c.in-Less.is)
 
-pub returns : goal.returns
-returns c = tested c.cmp.result _ c.is_lt.result c.is_lt.ensures (c.cmp.ensures ∙ keys_cmp c.args.a.now c.args.b.now c.key_of.result.ranks c.key_of-2.result.ranks c.key_of.result.texts c.key_of-2.result.texts c.key_of.ensures.ranks c.key_of-2.ensures.ranks c.key_of.ensures.texts c.key_of-2.ensures.texts)
+pub returns-in-Equal : goal.returns-in-Equal
+returns-in-Equal c = then_second _ _ c.cmp.result c.is_lt.result (sym c.times_order.ensures ∙ c.in-Equal.is) c.cmp.ensures c.is_lt.ensures
+
+pub returns-in-Greater : goal.returns-in-Greater
+returns-in-Greater c = behind_first _ _ (sym c.times_order.ensures ∙ c.in-Greater.is)
