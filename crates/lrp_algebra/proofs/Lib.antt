@@ -7,6 +7,8 @@ pub mod Filled
 pub mod Found
 pub mod Grouped
 pub mod Leaves
+pub mod NewZones
+pub mod NoColumns
 pub mod BothFound
 pub mod Parts
 pub mod ReadRows

@@ -83,5 +83,5 @@ fn add_without_text(
         texts: without_number(&piece.cell.texts, place),
         residues: piece.cell.residues,
     };
-    out.add(&cell, &piece.zone, u32::MAX)
+    out.add_new(&cell, &piece.zone, u32::MAX)
 }

@@ -74,5 +74,5 @@ fn add_without_time(piece: &Piece, place: usize, out: &mut Store) -> Result<(), 
         texts: piece.cell.texts,
         residues: without_residue(&piece.cell.residues, place),
     };
-    out.add(&cell, &zone, u32::MAX)
+    out.add_new(&cell, &zone, u32::MAX)
 }

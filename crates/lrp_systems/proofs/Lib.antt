@@ -1,6 +1,8 @@
 -- The lemmas: bounds that come together, residues that are left and tried, orders, pieces of cells, and how they make up the solutions.
+pub mod AddedAs
 pub mod Branches
 pub mod CellPieces
+pub mod FreePieces
 pub mod InWindows
 pub mod Joining
 pub mod LoneZones
@@ -8,3 +10,4 @@ pub mod Orders
 pub mod Ranges
 pub mod Remaining
 pub mod SoleCells
+pub mod Turns

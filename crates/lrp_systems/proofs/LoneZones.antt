@@ -1,19 +1,17 @@
 -- A zone over all columns in order has the solutions of its system.
-use Rattle.std.proofs.Common.{◌≡◌, ℕ, zero, suc, ◌+◌, ◌<◌, ◌≤◌, ◌↔◌, List, [], ◌∷◌, ◌++◌, None, Result, Ok, Err, OnOk, OnErr, arith, refl, sym, ap, subst, ◌∙◌, take, get_or, length, map, max}
+use Rattle.std.proofs.Common.{◌≡◌, ℕ, zero, suc, ◌<◌, ◌≤◌, List, [], ◌∷◌, Result, OnOk, arith, sym, ap, subst, ◌∙◌, take, get_or, length, map, max}
 use Rattle.std.specs.Prelude.{ℤ, pos, All}
-use Rattle.std.specs.FinMap as finite
 use Rattle.std.proofs.lemmas.List.{ext_get_or, length-map}
 use Rattle.lrp_theory.specs.Entries.{node}
 use Rattle.lrp_model.specs.declared.tuples.Cell.{Cell}
-use Rattle.lrp_zone.specs.Zones.{ZoneView, IsMember, columns_of, reach_of, greatest_of}
-use Rattle.lrp_store.specs.Stores.{StoreView, IsStore, IsPadded, InStore, tables_at}
-use Rattle.lrp_store.specs.Growing.{IsGrown, IsAdded, IsRefused}
+use Rattle.lrp_zone.specs.Zones.{IsMember, columns_of, reach_of, greatest_of}
+use Rattle.lrp_store.specs.Stores.{StoreView, IsStore, IsPadded}
+use Rattle.lrp_store.specs.Growing.{IsAdded, IsRefused, IsTupleOf}
 use Rattle.lrp_store.specs.declared.store.StoreFault.{StoreFault}
-use Rattle.lrp_store.specs.declared.store.StoreFault.TheVariants.{TooManyCells}
-use Rattle.lrp_store.proofs.Grown.{added, refused}
 use Rattle.lrp_systems.specs.Parts.{PartView, InPart, part_reach, system_reach}
-use Rattle.lrp_systems.specs.Sole.{IsAlone, IsCellOfZone, IsWhole}
+use Rattle.lrp_systems.specs.Sole.{IsCellOfZone, IsWhole}
 use Rattle.lrp_systems.specs.Systems.{IsSolution}
+use Rattle.lrp_systems.proofs.AddedAs.{added_as, refused_as}
 use Rattle.lrp_systems.proofs.CellPieces.{reach_own}
 use Rattle.lrp_systems.proofs.Remaining.{value_at}
 
@@ -66,14 +64,16 @@ module _ (s : StoreView) (is : IsStore s) (part : PartView) (w : IsWhole s.perio
   to_solution : (xs : List ℤ) → IsMember part.zone xs → Solution xs (take s.shape.texts c.texts)
   to_solution xs m = record { count = m.cell.count ∙ w.columns; inside = alone_to part s.period s.shape.times w xs m; same = ap (take s.shape.texts) (sym cell.texts) }
 
-  module _ (cap : ℕ) (new : StoreView) (valid : IsStore new) (rest : new ≡ record s { tables = new.tables; spare = new.spare }) {T : Type 0} (result : Result T StoreFault)
-      (exact : (result ≡ Err TooManyCells) ↔ ((finite.get s.tables c ≡ None) × (cap ≤ finite.len s.tables))) where
-    pub alone_added : OnOk result (new.tables ≡ finite.insert s.tables c (tables_at s c ++ part.zone.bounds ∷ [])) → OnOk result (IsAdded Solution cap (system_reach s.period (part ∷ [])) s new)
-    alone_added ok = on_ok result (added s is c part.zone w.valid.zone w.period own_residues own_texts own_times cap (system_reach s.period (part ∷ [])) Solution to_solution (alone_reach part s.period s.shape.times w) new valid rest result exact ok)
-      where
-        on_ok : (o : Result T StoreFault) → OnOk o (IsGrown Solution cap (system_reach s.period (part ∷ [])) s new × ((xs : List ℤ) → IsMember part.zone xs → InStore new xs (take s.shape.texts c.texts))) → OnOk o (IsAdded Solution cap (system_reach s.period (part ∷ [])) s new)
-        on_ok (Ok x) h = record { grown = h.0; whole = record { each = λ xs ns m. subst (λ ms. InStore new xs ms) (ap (take s.shape.texts) cell.texts ∙ m.same) (h.1 xs (alone_from part s.period s.shape.times w xs m.count m.inside)) } }
-        on_ok (Err x) h = tt
+  -- the tuples of the zone with the cell's texts are the solutions
+  of_tuple : (xs : List ℤ) (ns : List ℕ) → IsTupleOf part.zone (take s.shape.texts c.texts) xs ns → Solution xs ns
+  of_tuple xs ns h = subst (λ ms. Solution xs ms) h.same (to_solution xs h.member)
 
-    pub alone_refused : OnErr result (new.tables ≡ s.tables) → result ≡ Err TooManyCells → IsRefused Solution cap (system_reach s.period (part ∷ [])) s new
-    alone_refused err e = refused s is c part.zone w.valid.zone w.period own_residues own_texts own_times cap (system_reach s.period (part ∷ [])) Solution to_solution (alone_reach part s.period s.shape.times w) new valid rest result exact err e
+  to_tuple : (xs : List ℤ) (ns : List ℕ) → Solution xs ns → IsTupleOf part.zone (take s.shape.texts c.texts) xs ns
+  to_tuple xs ns m = record { member = alone_from part s.period s.shape.times w xs m.count m.inside; same = ap (take s.shape.texts) cell.texts ∙ m.same }
+
+  module _ (cap : ℕ) (new : StoreView) where
+    pub alone_added : {T : Type 0} (r : Result T StoreFault) → OnOk r (IsAdded (IsTupleOf part.zone (take s.shape.texts c.texts)) cap (greatest_of part.zone.bounds) s new) → OnOk r (IsAdded Solution cap (system_reach s.period (part ∷ [])) s new)
+    alone_added r ok = added_as _ Solution cap (greatest_of part.zone.bounds) (system_reach s.period (part ∷ [])) s new is of_tuple (alone_reach part s.period s.shape.times w) to_tuple r ok
+
+    pub alone_refused : IsRefused (IsTupleOf part.zone (take s.shape.texts c.texts)) cap (greatest_of part.zone.bounds) s new → IsRefused Solution cap (system_reach s.period (part ∷ [])) s new
+    alone_refused no_more = refused_as _ Solution cap (greatest_of part.zone.bounds) (system_reach s.period (part ∷ [])) s new is of_tuple (alone_reach part s.period s.shape.times w) no_more

@@ -5,6 +5,7 @@ mod alone;
 mod choice;
 mod divisor;
 mod frame;
+mod free;
 mod joint;
 mod order;
 mod part;

@@ -1,12 +1,12 @@
 -- The zone in the cell without the text has what is left of the tuples.
 use Rattle.lrp_zone.specs.Zones.{reach_of}
-use Rattle.lrp_tables.proofs.Adding.{zone_added}
+use Rattle.lrp_algebra.proofs.NewZones.{new_added}
 use Rattle.lrp_algebra.proofs.TextDropped.{text_dropped}
 use Rattle.lrp_algebra.proofs.data_drops.add_without_text.Goals as goal
 
 pub returns : goal.returns
 returns c = record {
-  ok = zone_added _ c.args.out.now c.shape.ensures.valid (record { texts = c.without_number.result; residues = c.args.piece.now.cell.residues }) c.args.piece.now.zone (reach_of c.args.piece.now.zone)
+  ok = new_added _ c.args.out.now c.shape.ensures.valid (record { texts = c.without_number.result; residues = c.args.piece.now.cell.residues }) c.args.piece.now.zone (reach_of c.args.piece.now.zone)
       (text_dropped c.args.piece.now c.args.place c.args.size c.args.out.now c.shape.ensures.valid c.requires.place c.requires.wide c.requires.fits c.columns.ensures.valid c.without_number.result c.without_number.ensures c.if-piece-place.false)
-      4294967295 c.add.new.self c.add.ensures.valid c.add.ensures.rest c.add.result c.add.ensures.too_many c.add.ensures.ok;
+      4294967295 c.add_new.new.self c.add_new.result c.add_new.ensures.ok;
 }
