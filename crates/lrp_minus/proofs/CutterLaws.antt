@@ -19,7 +19,7 @@ use Rattle.lrp_store.specs.Stores.{StoreView, IsStore, InStore, IsCellOf, HasRea
 use Rattle.lrp_store.proofs.Counted.{lies_in, one_cell}
 use Rattle.lrp_store.proofs.Held.{Table, cell_held, node_take}
 use Rattle.lrp_minus.specs.Beneath.{AgreesAt, AreResiduesAt, IsCellBeneath, number_at}
-use Rattle.lrp_minus.specs.Cutters.{AreCutOf, AreCutters, CanTake, HasNoCutter, IsCutter}
+use Rattle.lrp_minus.specs.Cutters.{AreCutOf, AreCutters, CanCut, HasNoCutter, IsCutter}
 use Rattle.lrp_minus.specs.Differences.{greatest_reach}
 use Rattle.lrp_minus.specs.declared.beneath.Places.{Places}
 use Rattle.lrp_minus.proofs.BeneathLaws.{numbers_front}
@@ -175,7 +175,7 @@ zones_reach s c high r = greatest_below (zones_at s c) high (λ w h. let t = fro
 
 -- ---- the cell beneath
 
-module _ (places : Places) (left : StoreView) (left_is : IsStore left) (cell : Cell) (proper : IsCellOf left.shape left.period cell) (right : StoreView) (right_is : IsStore right) (can : CanTake places left right) (below : Cell) (beneath : IsCellBeneath places right cell below) where
+module _ (places : Places) (left : StoreView) (left_is : IsStore left) (cell : Cell) (proper : IsCellOf left.shape left.period cell) (right : StoreView) (right_is : IsStore right) (can : CanCut places left right) (below : Cell) (beneath : IsCellBeneath places right cell below) where
   abbrev front : List ℤ
   front = take left.shape.times cell.residues
 

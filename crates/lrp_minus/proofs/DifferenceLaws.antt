@@ -11,7 +11,6 @@ use Rattle.lrp_model.specs.Texts.{Text, Ascends}
 use Rattle.lrp_model.specs.declared.tuples.Shape.{Shape}
 use Rattle.lrp_zone.specs.Spread.{ArePlaces}
 use Rattle.lrp_zone.specs.Zones.{reach_of}
-use Rattle.lrp_store.specs.Aligned.{IsAligned}
 use Rattle.lrp_store.specs.Growing.{IsAdded, IsRefused}
 use Rattle.lrp_store.specs.Stores.{StoreView, IsStore, InStore, HasReach, zone_of}
 use Rattle.lrp_store.specs.Tables.{AreNumbered}
@@ -28,9 +27,8 @@ use Rattle.lrp_tables.proofs.TableMade.{held_times, held_texts, held_known, tupl
 use Rattle.lrp_tables.proofs.Wider.{IsWider, less_tuples, same_tuples, wider_tuples}
 use Rattle.lrp_minus.specs.Absences.{IsLike}
 use Rattle.lrp_minus.specs.Beneath.{ArePlacesFor}
-use Rattle.lrp_minus.specs.Cutters.{CanSubtract, CanTake, HaveReach, IsSpared}
+use Rattle.lrp_minus.specs.Cutters.{CanCut, CanSubtract, CanTake, HaveReach, IsSpared}
 use Rattle.lrp_minus.specs.declared.beneath.Places.{Places}
-use Rattle.lrp_minus.proofs.Gathering.{added_as, refused_as}
 
 -- a period as it is passed
 pub passed_is : (k : ℤ) → pos 1 ≤ℤ k → 2 * nat_abs k ≤ 2 ^ 62 → to_z w64 (of_z w64 k) ≡ k
@@ -62,6 +60,15 @@ farther s low high le r = record { each = λ c t h. let l : reach_of (zone_of s 
 pub align_reach : (s : StoreView) (z : ℤ) (k : ℕ) → z ≡ pos k → 2 * k ≤ 2 ^ 62 → HasReach s (2 ^ 62 - 2 * k) → HasReach s (2 ^ 62 - nat_abs (to_z w64 (of_z w64 z)))
 align_reach s z k e h r = subst (λ (n : ℕ). HasReach s (2 ^ 62 - n)) (sym (word_abs z k e (omega arith))) (farther s (2 ^ 62 - 2 * k) (2 ^ 62 - k) (omega arith) r)
 
+-- the right store can be cut to cells of the common period
+pub can_cut : (places : Places) (left right : StoreView) (k : ℕ) → CanSubtract places left right k → (out : StoreView) → out.shape ≡ left.shape → out.period ≡ k → CanCut places out right
+can_cut places left right k can out shape period = record {
+  among = subst (λ (q : Shape). ArePlacesFor q.times q.texts right places) (sym shape) can.among;
+  multiple = subst (λ (n : ℕ). Divides (pos right.period) (pos n)) (sym period) can.right_multiple;
+  period = let h : 2 * k ≤ 2 ^ 62 = can.period in omega arith;
+  reach = subst (λ (n : ℕ). HasReach right (2 ^ 62 - 2 * n)) (sym period) can.right_reach;
+}
+
 -- a store without cells of a shape and a period
 abbrev pub without_cells : Shape → ℕ → StoreView
 without_cells q k = record { shape = q; period = k; tables = finite.empty; spare = 0 }
@@ -69,46 +76,27 @@ without_cells q k = record { shape = q; period = k; tables = finite.empty; spare
 pub started : (start : StoreView) (q r : Shape) (j k : ℕ) → start ≡ without_cells q j → q ≡ r → j ≡ k → start ≡ without_cells r k
 started start q r j k e eq ek = e ∙ ap (λ (p : Shape). without_cells p j) eq ∙ ap (λ (n : ℕ). without_cells r n) ek
 
--- ---- the left store in cells of a multiple of its period
-module _ (places : Places) (left right : StoreView) (k : ℕ) (can : CanSubtract places left right k) (aligned : StoreView) (is : IsAligned left k aligned) where
+-- ---- the left store where its period is the common one
+module _ (places : Places) (left right : StoreView) (k : ℕ) (can : CanSubtract places left right k) (same : left.period ≡ k) where
   -- both reach no farther than tables may
-  pub both_reach : (high : ℕ) → HasReach left high → HasReach right high → HaveReach aligned right high
-  both_reach high l r = record { in_left = subst (λ (n : ℕ). HasReach aligned (high + (n - 1))) (sym is.period_is) (is.reach high l); in_right = r }
+  pub both_reach : (high : ℕ) → HasReach left high → HasReach right high → HaveReach left right high
+  both_reach high l r = record { in_left = farther left high (high + (left.period - 1)) (omega arith) l; in_right = r }
 
-  pub can_take : CanTake places aligned right
+  pub can_take : CanTake places left right
   can_take = record {
-    among = subst (λ (q : Shape). ArePlacesFor q.times q.texts right places) (sym is.shape) can.among;
-    multiple = subst (λ (n : ℕ). Divides (pos right.period) (pos n)) (sym is.period_is) can.right_multiple;
-    period = let e : aligned.period ≡ k = is.period_is in let h : 2 * k ≤ 2 ^ 62 = can.period in omega arith;
-    reach = subst (λ (n : ℕ). HaveReach aligned right (2 ^ 62 - 2 * n)) (sym is.period_is) (both_reach (2 ^ 62 - 2 * k) can.left_reach can.right_reach);
+    cut = can_cut places left right k can left refl same;
+    reach = subst (λ (n : ℕ). HaveReach left right (2 ^ 62 - 2 * n)) (sym same) (both_reach (2 ^ 62 - 2 * k) can.left_reach can.right_reach);
   }
 
-  pub is_like : (out : StoreView) → out.shape ≡ left.shape → out.period ≡ k → IsLike aligned out
-  is_like out shape period = record { shape = shape ∙ sym is.shape; period = period ∙ sym is.period_is }
+  pub is_like : (out : StoreView) → out.shape ≡ left.shape → out.period ≡ k → IsLike left out
+  is_like out shape period = record { shape = shape; period = period ∙ sym same }
 
-  to_left : (xs : List ℤ) (ns : List ℕ) → IsSpared places aligned right xs ns → IsSpared places left right xs ns
-  to_left xs ns h = record { held = is.same.sound xs ns h.held; none = h.none }
+  module _ (set : List ℤ → List ℕ → Type 0) (cap high : ℕ) (start out : StoreView) where
+    pub same_added : IsAdded set cap (high + 2 * left.period) start out → IsAdded set cap (high + 2 * k) start out
+    same_added = subst (λ (n : ℕ). IsAdded set cap (high + 2 * left.period) start out → IsAdded set cap (high + 2 * n) start out) same (λ a. a)
 
-  from_left : (xs : List ℤ) (ns : List ℕ) → IsSpared places left right xs ns → IsSpared places aligned right xs ns
-  from_left xs ns h = record { held = is.same.whole xs ns h.held; none = h.none }
-
-  no_farther : (high : ℕ) → high + 2 * aligned.period ≤ high + 2 * k
-  no_farther high = let e : aligned.period ≡ k = is.period_is in omega arith
-
-  pub spared_added : (cap high : ℕ) (start out : StoreView) → IsStore start → IsAdded (IsSpared places aligned right) cap (high + 2 * aligned.period) start out → IsAdded (IsSpared places left right) cap (high + 2 * k) start out
-  spared_added cap high start out valid = added_as cap (IsSpared places aligned right) (IsSpared places left right) (high + 2 * aligned.period) (high + 2 * k) (no_farther high) start out valid to_left from_left
-
-  pub spared_not_added : (cap high : ℕ) (start out : StoreView) → IsStore start → IsRefused (IsSpared places aligned right) cap (high + 2 * aligned.period) start out → IsRefused (IsSpared places left right) cap (high + 2 * k) start out
-  spared_not_added cap high start out valid = refused_as cap (IsSpared places aligned right) (IsSpared places left right) (high + 2 * aligned.period) (high + 2 * k) (no_farther high) start out valid to_left
-
--- a store of the period itself stays as it is
-pub itself_aligned : (left : StoreView) (k : ℕ) → left.period ≡ k → IsAligned left k left
-itself_aligned left k e = record {
-  shape = refl;
-  period_is = e;
-  same = record { sound = λ xs ns h. h; whole = λ xs ns h. h };
-  reach = λ high r. farther left high (high + (k - 1)) (omega arith) r;
-}
+    pub same_refused : IsRefused set cap (high + 2 * left.period) start out → IsRefused set cap (high + 2 * k) start out
+    same_refused = subst (λ (n : ℕ). IsRefused set cap (high + 2 * left.period) start out → IsRefused set cap (high + 2 * n) start out) same (λ a. a)
 
 module _ (left right : Table) (right_is : IsStore right.store) (places : Places) (times_at : ArePlacesOf right.vars.times left.vars.times places.times) (texts_at : ArePlacesOf right.vars.texts left.vars.texts places.texts)
     (k : ℕ) where

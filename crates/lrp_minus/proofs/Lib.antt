@@ -4,9 +4,11 @@ pub mod Alike
 pub mod BeneathLaws
 pub mod BoundedLaws
 pub mod ComplementLaws
+pub mod ContentLaws
 pub mod CutLaws
 pub mod CutterLaws
 pub mod DifferenceLaws
+pub mod EmptyCells
 pub mod FillingLaws
 pub mod GapLaws
 pub mod Gathering
@@ -25,5 +27,7 @@ pub mod SpanLaws
 pub mod SparedLaws
 pub mod SplitLaws
 pub mod SweepLaws
+pub mod TakenLaws
+pub mod TakingLaws
 pub mod ThresholdLaws
 pub mod WidestLaws

@@ -73,7 +73,7 @@ module _ (places : Places) (left : StoreView) (left_is : IsStore left) (cell : C
   pub left_small : CanTake places left right → greatest_reach (z ∷ cutters) + z.period ≤ 2 ^ 62
   left_small can =
       let r : greatest_reach (z ∷ cutters) + z.period ≤ (2 ^ 62 - 2 * left.period) + 2 * left.period = left_reach (2 ^ 62 - 2 * left.period) can.reach in
-      let h : 2 * left.period ≤ 2 ^ 62 = can.period in
+      let h : 2 * left.period ≤ 2 ^ 62 = can.cut.period in
       omega arith
 
   -- the zone has the store's parts also in a store that is like it

@@ -27,11 +27,16 @@ pub record HaveReach (left right : StoreView) (high : ℕ) : Type 0 where
   pub in_left : HasReach left (high + (left.period - 1))
   pub in_right : HasReach right high
 
--- the right store's columns have places among those of the left one, whose period is a multiple, and bounds of both can be turned
-pub record CanTake (places : Places) (left right : StoreView) : Type 0 where
+-- the right store's columns have places among those of the left one, whose period is a multiple, and bounds of the right one can be turned in it
+pub record CanCut (places : Places) (left right : StoreView) : Type 0 where
   pub among : ArePlacesFor left.shape.times left.shape.texts right places
   pub multiple : Divides (pos right.period) (pos left.period)
   pub period : 2 * left.period ≤ 2 ^ 62
+  pub reach : HasReach right (2 ^ 62 - 2 * left.period)
+
+-- the same, and those of both can
+pub record CanTake (places : Places) (left right : StoreView) : Type 0 where
+  pub cut : CanCut places left right
   pub reach : HaveReach left right (2 ^ 62 - 2 * left.period)
 
 -- the right store's columns have places among those of the left one, k is a multiple of both periods, and bounds of both can be turned in it

@@ -12,4 +12,5 @@ pub mod Hulls
 pub mod Intervals
 pub mod Leaving
 pub mod Settling
+pub mod Taking
 pub mod Thresholds

@@ -6,7 +6,7 @@ ghost use Rattle.lrp_zone.specs.Spread.{ArePlaces, target};
 ghost use Rattle.lrp_zone.specs.Zones.{IsResidue, columns_of, reach_of};
 ghost use Rattle.lrp_store.specs.Stores.{HasReach, IsCellOf, zones_at};
 ghost use Rattle.lrp_minus.specs.Beneath.{AgreesAt};
-ghost use Rattle.lrp_minus.specs.Cutters.{AreCutOf, AreCutters, CanTake, HasNoCutter, IsCutter};
+ghost use Rattle.lrp_minus.specs.Cutters.{AreCutOf, AreCutters, CanCut, HasNoCutter, IsCutter};
 
 use crate::beneath::{Places, cell_beneath, residues_at};
 use lrp_model::{Cell, List, Memory};
@@ -14,7 +14,7 @@ use lrp_store::Store;
 use lrp_zone::Zone;
 use std::alloc::Global;
 
-/// Zones that hold the tuples of a cell of the left store that have one of the right store at the places.
+/// Zones that hold the tuples of a cell of the left store's shape and period that have one of the right store at the places.
 pub(crate) fn cutters_of(
     alloc: Global,
     left: &Store,
@@ -23,7 +23,7 @@ pub(crate) fn cutters_of(
     places: &Places,
 ) -> Result<List<Zone>, Memory>
     requires cell { IsCellOf left.now.shape left.now.period cell.now }
-    requires take { CanTake places.now left.now right.now }
+    requires cut { CanCut places.now left.now right.now }
     ensures { IfOk result (AreCutters places.now left.now cell.now right.now) }
 {
     right.shape();

@@ -14,6 +14,7 @@ ghost use Rattle.lrp_minus.specs.Cutters.{CanSubtract, CanTake, HaveReach, IsSpa
 use crate::beneath::{Places, places_of};
 use crate::cutters::cutters_of;
 use crate::filling::add_left;
+use crate::taking::add_taken;
 use lrp_model::{Cell, Copies};
 use lrp_store::{Store, StoreFault};
 use lrp_tables::{StepFault, Table, Vars};
@@ -21,8 +22,7 @@ use std::alloc::Global;
 
 /// The assignments of the left table that are none of the right one, whose variables are among the left one's.
 ///
-/// `TooManyCells` comes exactly where they inhabit more than `cap` cells of the period. A left table of 2^32 cells of the
-/// period or more, which no store holds, is told as `Memory`.
+/// `TooManyCells` comes exactly where they inhabit more than `cap` cells of the period. Only these cells are ever made.
 pub fn minus(
     alloc: Global,
     left: &Table,
@@ -74,34 +74,6 @@ fn add_less(
 {
     left.shape();
     out.shape();
-    if left.period() == out.period() {
-        return add_spared(alloc, left, right, places, cap, out);
-    }
-
-    // Only what is left counts against the cap, so the left side may have more cells.
-    let Ok(aligned) = left.align(out.period(), u32::MAX) else {
-        return Err(StoreFault::Memory);
-    };
-    aligned.shape();
-    add_spared(alloc, &aligned, right, places, cap, out)
-}
-
-// Adds the tuples of the left store that have none of the right one at the places.
-fn add_spared(
-    alloc: Global,
-    left: &Store,
-    right: &Store,
-    places: &Places,
-    cap: u32,
-    out: &mut Store,
-) -> Result<(), StoreFault>
-    requires take { CanTake places.now left.now right.now }
-    requires like { IsLike left.now out.old }
-    ensures ok { OnOk result ((high : ℕ) → HaveReach left.now right.now high → IsAdded (IsSpared places.now left.now right.now) cap (high + 2 * left.now.period) out.old out.new) }
-    ensures refused { result ≡ Err StoreFault.TooManyCells → (high : ℕ) → HaveReach left.now right.now high → IsRefused (IsSpared places.now left.now right.now) cap (high + 2 * left.now.period) out.old out.new }
-{
-    out.shape();
-    left.shape();
     for cell in left.cells() {
         match add_cell(alloc, left, &cell, right, places, cap, out) {
             Ok(()) => {}
@@ -122,6 +94,31 @@ fn add_cell(
     out: &mut Store,
 ) -> Result<(), StoreFault>
     requires cell { IsCellOf left.now.shape left.now.period cell.now }
+    requires shape { out.old.shape ≡ left.now.shape }
+    requires subtract { CanSubtract places.now left.now right.now out.old.period }
+    ensures ok { OnOk result ((high : ℕ) → HasReach left.now high → HasReach right.now high → IsAdded (IsSparedIn places.now left.now cell.now right.now) cap (high + 2 * out.old.period) out.old out.new) }
+    ensures refused { result ≡ Err StoreFault.TooManyCells → (high : ℕ) → HasReach left.now high → HasReach right.now high → IsRefused (IsSparedIn places.now left.now cell.now right.now) cap (high + 2 * out.old.period) out.old out.new }
+{
+    left.shape();
+    out.shape();
+    if left.period() == out.period() {
+        add_same_cell(alloc, left, cell, right, places, cap, out)
+    } else {
+        add_cells_within(alloc, left, cell, right, places, cap, out)
+    }
+}
+
+// Adds those of one cell where the periods are the same, in that cell.
+fn add_same_cell(
+    alloc: Global,
+    left: &Store,
+    cell: &Cell,
+    right: &Store,
+    places: &Places,
+    cap: u32,
+    out: &mut Store,
+) -> Result<(), StoreFault>
+    requires cell { IsCellOf left.now.shape left.now.period cell.now }
     requires take { CanTake places.now left.now right.now }
     requires like { IsLike left.now out.old }
     ensures ok { OnOk result ((high : ℕ) → HaveReach left.now right.now high → IsAdded (IsSparedIn places.now left.now cell.now right.now) cap (high + 2 * left.now.period) out.old out.new) }
@@ -132,6 +129,33 @@ fn add_cell(
     let cutters = cutters_of(alloc, left, cell, right, places)?;
     for zone in left.zones_of(cell) {
         match add_left(alloc, &zone, &cutters, cell, cap, out) {
+            Ok(()) => {}
+            Err(fault) => return Err(fault),
+        }
+    }
+    Ok(())
+}
+
+// Adds those of one cell in cells of the period of `out`.
+fn add_cells_within(
+    alloc: Global,
+    left: &Store,
+    cell: &Cell,
+    right: &Store,
+    places: &Places,
+    cap: u32,
+    out: &mut Store,
+) -> Result<(), StoreFault>
+    requires cell { IsCellOf left.now.shape left.now.period cell.now }
+    requires shape { out.old.shape ≡ left.now.shape }
+    requires subtract { CanSubtract places.now left.now right.now out.old.period }
+    ensures ok { OnOk result ((high : ℕ) → HasReach left.now high → HasReach right.now high → IsAdded (IsSparedIn places.now left.now cell.now right.now) cap (high + 2 * out.old.period) out.old out.new) }
+    ensures refused { result ≡ Err StoreFault.TooManyCells → (high : ℕ) → HasReach left.now high → HasReach right.now high → IsRefused (IsSparedIn places.now left.now cell.now right.now) cap (high + 2 * out.old.period) out.old out.new }
+{
+    out.shape();
+    left.shape();
+    for zone in left.zones_of(cell) {
+        match add_taken(alloc, &zone, &cell.texts, right, places, cap, out) {
             Ok(()) => {}
             Err(fault) => return Err(fault),
         }

@@ -20,6 +20,7 @@ mod settling;
 mod split;
 mod standing;
 mod stored;
+mod taking;
 mod thresholds;
 
 pub use complements::complement;

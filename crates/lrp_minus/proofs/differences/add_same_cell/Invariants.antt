@@ -5,7 +5,7 @@ use Rattle.lrp_minus.specs.Cutters.{HaveReach, IsSparedIn}
 use Rattle.lrp_minus.proofs.Gathering.{IsGathering}
 use Rattle.lrp_minus.proofs.Lists.{IsReadTo}
 use Rattle.lrp_minus.proofs.SparedLaws.{IsBehindZone}
-use Rattle.lrp_minus.proofs.differences.add_cell.Given as goal
+use Rattle.lrp_minus.proofs.differences.add_same_cell.Given as goal
 
 abbrev pub invariant-loop-zone : goal.invariant-loop-zone
 invariant-loop-zone l =

@@ -1,0 +1,90 @@
+-- A cell that a store has not is all that is missing there.
+use Rattle.std.proofs.Common.{◌≡◌, ℕ, ◌<◌, ◌≤◌, List, length, replicate, take, None, get_or, refl, sym, ap, subst, ◌∙◌, arith, zero, suc}
+use Rattle.std.specs.Prelude.{ℤ, Option, pos, Contains, ◌-ℤ◌}
+use Rattle.std.proofs.lemmas.List.{length-take-le}
+use Rattle.lrp_theory.specs.Divides.{Divides}
+use Rattle.lrp_theory.specs.Entries.{node}
+use Rattle.lrp_model.specs.declared.tuples.Cell.{Cell}
+use Rattle.lrp_model.specs.declared.tuples.Shape.{Shape}
+use Rattle.lrp_zone.specs.Zones.{ZoneView, IsInCell, greatest_of}
+use Rattle.lrp_store.specs.Growing.{IsAdded, IsRefused, IsTupleOf}
+use Rattle.lrp_store.specs.Stores.{StoreView, IsStore, IsCellOf, InStore, LiesInCell, zone_of, tables_at}
+use Rattle.lrp_store.proofs.Counted.{lies_in, one_cell}
+use Rattle.lrp_store.proofs.Held.{cell_held, node_take}
+use Rattle.lrp_minus.specs.Absences.{IsAbsentAt, IsChosenTo, IsLike}
+use Rattle.lrp_minus.proofs.ContentLaws.{free_zone}
+use Rattle.lrp_minus.proofs.Gathering.{added_as, refused_as}
+
+-- a table without bounds has none at any place, and no reach
+no_bound : (n i : ℕ) → get_or {A = Option ℤ} (replicate n None) i None ≡ None
+no_bound zero i = refl
+no_bound (suc n) zero = refl
+no_bound (suc n) (suc i) = no_bound n i
+
+no_reach : greatest_of (replicate 81 None) ≤ 0
+no_reach = reach 81
+  where
+    reach : (n : ℕ) → greatest_of (replicate n None) ≤ 0
+    reach zero = omega arith
+    reach (suc n) = let r : greatest_of (replicate n None) ≤ 0 = reach n in omega arith
+
+module _ (s : StoreView) (is : IsStore s) (cell : Cell) (c : IsChosenTo s s.shape.times cell) (empty : length (tables_at s cell) ≡ 0) (out : StoreView) (like : IsLike s out) where
+  abbrev whole : ZoneView
+  whole = zone_of out cell (replicate 81 None)
+
+  proper : IsCellOf s.shape s.period cell
+  proper = record { texts = c.texts; residues = c.residues; range = c.range }
+
+  pub proper_there : IsCellOf out.shape out.period cell
+  proper_there = subst (λ (q : Shape). IsCellOf q out.period cell) (sym like.shape) (subst (λ (k : ℕ). IsCellOf s.shape k cell) (sym like.period) proper)
+
+  few : out.shape.times ≤ 8
+  few = subst (λ (q : Shape). q.times ≤ 8) (sym like.shape) is.times
+
+  count : length (take out.shape.times cell.residues) ≡ out.shape.times
+  count = length-take-le out.shape.times cell.residues (let e : length cell.residues ≡ 8 = c.residues.size in let l = few in omega arith)
+
+  times_same : out.shape.times ≡ s.shape.times
+  times_same = ap (λ (q : Shape). q.times) like.shape
+
+  to : (xs : List ℤ) (ns : List ℕ) → IsTupleOf (zone_of out cell (replicate 81 None)) (take out.shape.texts cell.texts) xs ns → IsAbsentAt s s.shape.times cell xs ns
+  to xs ns h = record { count = lies.count; residues = lies.residues; named = lies.named; none = none }
+    where
+      lies : LiesInCell s.shape s.period cell xs ns
+      lies = record {
+        count = h.member.cell.count ∙ count ∙ times_same;
+        residues = λ i l.
+            let low : i ≤ out.shape.times = subst (λ (n : ℕ). i ≤ n) (sym times_same) l in
+            subst (λ (k : ℕ). Divides (pos k) (node xs i -ℤ node cell.residues i)) like.period
+            (subst (λ (r : ℤ). Divides (pos out.period) (node xs i -ℤ r)) (node_take out.shape.times cell.residues i low) (h.member.cell.each i (let e = count in omega arith)));
+        named = ap (λ (q : Shape). take q.texts cell.texts) (sym like.shape) ∙ h.same;
+      }
+
+      none : InStore s xs ns → ⊥
+      none held =
+          let e : held.cell ≡ cell = one_cell s.shape s.period held.cell cell xs ns (cell_held s is held.cell held.table held.held) proper (lies_in s is xs ns held) lies in
+          let inside = subst (λ (d : Cell). Contains (tables_at s d) held.table) e held.held in
+          let low : inside.0 < length (tables_at s cell) = inside.1 in
+          absurd (omega arith)
+
+  from : (xs : List ℤ) (ns : List ℕ) → IsAbsentAt s s.shape.times cell xs ns → IsTupleOf (zone_of out cell (replicate 81 None)) (take out.shape.texts cell.texts) xs ns
+  from xs ns h = record {
+    member = free_zone (zone_of out cell (replicate 81 None)) (let e = count in let l = few in omega arith) (λ i l. no_bound 81 i) xs in_cell;
+    same = ap (λ (q : Shape). take q.texts cell.texts) like.shape ∙ h.named;
+  }
+    where
+      in_cell : IsInCell (zone_of out cell (replicate 81 None)) xs
+      in_cell = record {
+        count = h.count ∙ sym times_same ∙ sym count;
+        each = λ i l.
+            let low : i ≤ out.shape.times = (let e = count in omega arith) in
+            subst (λ (r : ℤ). Divides (pos out.period) (node xs i -ℤ r)) (sym (node_take out.shape.times cell.residues i low))
+            (subst (λ (k : ℕ). Divides (pos k) (node xs i -ℤ node cell.residues i)) (sym like.period) (h.residues i (subst (λ (n : ℕ). i ≤ n) times_same low)));
+      }
+
+  module _ (cap high : ℕ) (valid : IsStore out) (new : StoreView) where
+    pub whole_absent : IsAdded (IsTupleOf (zone_of out cell (replicate 81 None)) (take out.shape.texts cell.texts)) cap (greatest_of (replicate 81 None)) out new → IsAdded (IsAbsentAt s s.shape.times cell) cap high out new
+    whole_absent a = added_as cap (IsTupleOf (zone_of out cell (replicate 81 None)) (take out.shape.texts cell.texts)) (IsAbsentAt s s.shape.times cell) (greatest_of (replicate 81 None)) high (let r = no_reach in omega arith) out new valid to from a
+
+    pub whole_absent_refused : IsRefused (IsTupleOf (zone_of out cell (replicate 81 None)) (take out.shape.texts cell.texts)) cap (greatest_of (replicate 81 None)) out new → IsRefused (IsAbsentAt s s.shape.times cell) cap high out new
+    whole_absent_refused r = refused_as cap (IsTupleOf (zone_of out cell (replicate 81 None)) (take out.shape.texts cell.texts)) (IsAbsentAt s s.shape.times cell) (greatest_of (replicate 81 None)) high (let r = no_reach in omega arith) out new valid to r

@@ -1,0 +1,48 @@
+-- What is taken away from one zone, residue by residue.
+use Rattle.std.specs.Prelude.{◌≡◌, ℕ, ℤ, ◌*◌, ◌-◌, ◌^◌, ◌<◌, ◌≤◌, List, length, map, pos, slice_index_or, take, ◌-ℤ◌}
+use Rattle.lrp_theory.specs.Divides.{Divides}
+use Rattle.lrp_theory.specs.Entries.{node}
+use Rattle.lrp_model.specs.declared.tuples.Cell.{Cell}
+use Rattle.lrp_zone.specs.Spread.{target}
+use Rattle.lrp_zone.specs.Zones.{ZoneView, reach_of}
+use Rattle.lrp_store.specs.Choices.{AgreesTo, AreMet, IsPartOf}
+use Rattle.lrp_store.specs.Growing.{IsTupleOf}
+use Rattle.lrp_store.specs.Stores.{StoreView}
+use Rattle.lrp_minus.specs.Beneath.{HasBeneath, number_at}
+use Rattle.lrp_minus.specs.Cutters.{CanCut}
+use Rattle.lrp_minus.specs.declared.beneath.Places.{Places}
+use Rattle.lrp_minus.specs.declared.taking.Content.{Content}
+use Rattle.lrp_minus.specs.declared.taking.Content.TheVariants.{Nothing, Everything}
+use Rattle.lrp_minus.specs.declared.taking.Taking.{Taking}
+
+-- a tuple of the zone with these texts that has none of the right store at the places
+pub record IsLeftOf (places : Places) (z : ZoneView) (named : List ℕ) (right : StoreView) (times : List ℤ) (texts : List ℕ) : Type 0 where
+  pub tuple : IsTupleOf z named times texts
+  pub none : HasBeneath places right times texts → ⊥
+
+-- one that has the residues of the cell up to column p, and the first n texts of the cell
+pub record IsLeftIn (t : Taking) (k n : ℕ) (cell : Cell) (p : ℕ) (times : List ℤ) (texts : List ℕ) : Type 0 where
+  pub part : IsPartOf t.zone.now k n cell p times texts
+  pub none : HasBeneath t.places.now t.right.now times texts → ⊥
+
+-- the bounds are those of the zone, no place is behind the last one, and bounds of both sides can be turned in cells of the store s
+pub record IsTaking (t : Taking) (s : StoreView) : Type 0 where
+  pub met : AreMet t.zone.now t.least.now
+  pub last : (i : ℕ) → i < length t.places.now.times → slice_index_or t.places.now.times i 0 ≤ t.last
+  pub reach : reach_of t.zone.now ≤ 2 ^ 62 - 2 * s.period
+  pub cut : CanCut t.places.now s t.right.now
+
+-- at the places the values are equal to the cell's residues modulo k, and the texts are the cell's
+pub record AgreesBeneath (places : Places) (k : ℕ) (cell : Cell) (times : List ℤ) (texts : List ℕ) : Type 0 where
+  pub residues : (p : ℕ) → p ≤ length places.times → Divides (pos k) (node times (target places.times p) -ℤ node cell.residues (target places.times p))
+  pub named : map (number_at texts) places.texts ≡ map (number_at cell.texts) places.texts
+
+-- where the content is nothing, no tuple that agrees with the cell is held beneath, and where it is everything, each is
+pub record IsContentBeneath (places : Places) (right : StoreView) (cell : Cell) (content : Content) : Type 0 where
+  pub nothing : content ≡ Nothing → (times : List ℤ) (texts : List ℕ) → AgreesBeneath places right.period cell times texts → HasBeneath places right times texts → ⊥
+  pub everything : content ≡ Everything → (times : List ℤ) (texts : List ℕ) → AgreesBeneath places right.period cell times texts → HasBeneath places right times texts
+
+-- the same of the tuples that have the residues of the cell up to column p, and its first n texts
+pub record IsContentOf (t : Taking) (k n : ℕ) (cell : Cell) (p : ℕ) (content : Content) : Type 0 where
+  pub nothing : content ≡ Nothing → (times : List ℤ) (texts : List ℕ) → AgreesTo k cell.residues p times → take n cell.texts ≡ texts → HasBeneath t.places.now t.right.now times texts → ⊥
+  pub everything : content ≡ Everything → (times : List ℤ) (texts : List ℕ) → AgreesTo k cell.residues p times → take n cell.texts ≡ texts → HasBeneath t.places.now t.right.now times texts
