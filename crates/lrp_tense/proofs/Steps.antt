@@ -1,19 +1,21 @@
 -- Formulas one after another: gathered, and written out.
-use Rattle.std.proofs.Common.{◌≡◌, ◌+◌, ◌<◌, ℕ, suc, cond, arith, List, [], ◌∷◌, ◌++◌, map, Vec, Global, length, take, get_or, refl, ap, ap₂, sym, ◌∙◌, append_assoc, append-nil}
+use Rattle.std.proofs.Common.{◌≡◌, ◌+◌, ◌<◌, ℕ, suc, cond, arith, List, [], ◌∷◌, ◌++◌, Vec, Box, Global, length, take, get_or, refl, ap, ap₂, sym, ◌∙◌, append_assoc, append-nil, rules}
 use Rattle.std.specs.Prelude.{reverse, Result, Ok, Err, IfOk, OnOk}
 use Rattle.std.specs.Str.{bytes_eq}
-use Rattle.std.proofs.lemmas.List.{take_more, reverse-append, length-map, length-reverse}
+use Rattle.std.proofs.lemmas.List.{take_more, reverse-append, length-reverse}
 use Rattle.lrp_model.specs.Texts.{Identifier}
 use Rattle.lrp_model.specs.declared.tokens.Place.{Place}
 use Rattle.lrp_model.specs.declared.raw.RawFormula.{RawFormula}
-use Rattle.lrp_model.specs.RawQueries.{RawForms, raw_form_of, raw_forms_of, raw_and, raw_or, raw, no_raws}
+use Rattle.lrp_model.specs.RawQueries.{RawForm, RawForms, raw_form_of, raw_forms_of, raw_and, raw_or, raw, no_raws}
 use Rattle.lrp_tense.specs.declared.tree.TenseFormula.{TenseFormula}
-use Rattle.lrp_tense.specs.declared.tree.TenseKind.{And, Or}
-use Rattle.lrp_tense.specs.declared.scope.Variable.{Variable}
-use Rattle.lrp_tense.specs.Trees.{TenseForms, tense_kind, tense_form_of, tense_forms_of, tense, no_tenses}
-use Rattle.lrp_tense.specs.Expanding.{Naming, renamed_to, present_name, operators, operators_each, expanded, expanded_each}
-use Rattle.lrp_tense.specs.Named.{renaming_of, naming_of}
-use Rattle.lrp_tense.specs.Scopes.{Around, within}
+use Rattle.lrp_tense.specs.declared.tree.TenseKind.{And, Or, Since, Until, the_lemmas}
+use Rattle.lrp_tense.specs.declared.expansion.Operator.{Operator as WrittenOperator}
+use Rattle.lrp_tense.specs.declared.expansion.Begun.{Begun}
+use Rattle.lrp_tense.specs.Trees.{TenseForm, TenseForms, operator_at, tense_kind, tense_form_of, tense_forms_of, tense, no_tenses, since, until}
+use Rattle.lrp_tense.specs.Expanding.{Naming, Renaming, present_name, operators, operators_each, moment_of, between_of, since_form, until_form, expanded, expanded_each}
+use Rattle.lrp_tense.specs.Named.{naming_of}
+use Rattle.lrp_tense.specs.Scopes.{Around, within, number_by, expanded_in}
+use Rattle.lrp_tense.specs.Written.{operator_of, form_inside}
 use Rattle.lrp_tense.proofs.TenseViews.{tense_kind-And, tense_kind-Or}
 
 -- ---- members of a node
@@ -100,20 +102,67 @@ expand_step fs gs hs i f g number names lt is e h k =
 -- ---- names
 
 -- the name that is found from the last of some variables on is that of all of them
-pub name_step : (vs : List Variable) (i : ℕ) (v : Variable) (w : Identifier) → i < length vs → v ≡ get_or vs i v → present_name (naming_of (take (i + 1) vs)) w ≡ cond (bytes_eq v.written.now w) v.present (present_name (naming_of (take i vs)) w)
+pub name_step : (vs : List Renaming) (i : ℕ) (v : Renaming) (w : Identifier) → i < length vs → v ≡ get_or vs i v → present_name (naming_of (take (i + 1) vs)) w ≡ cond (bytes_eq v.written w) v.present (present_name (naming_of (take i vs)) w)
 name_step vs i v w lt is =
-    let one : naming_of (take (i + 1) vs) ≡ renaming_of v ∷ naming_of (take i vs) =
-    ap (λ x. map renaming_of (reverse x)) (take_more vs i v lt ∙ ap (λ x. take i vs ++ x ∷ []) (sym is)) ∙ ap (map renaming_of) (reverse-append (take i vs) (v ∷ [])) in
+    let one : naming_of (take (i + 1) vs) ≡ v ∷ naming_of (take i vs) =
+    ap reverse (take_more vs i v lt ∙ ap (λ x. take i vs ++ x ∷ []) (sym is)) ∙ reverse-append (take i vs) (v ∷ []) in
     ap (λ n. present_name n w) one
 
 -- one variable more inside the others
-pub naming_inside : (vs : List Variable) (v : Variable) → naming_of (vs ++ v ∷ []) ≡ renamed_to v.written.now v.present ∷ naming_of vs
-naming_inside vs v = ap (map renaming_of) (reverse-append vs (v ∷ []))
+pub naming_inside : (vs : List Renaming) (v : Renaming) → naming_of (vs ++ v ∷ []) ≡ v ∷ naming_of vs
+naming_inside vs v = reverse-append vs (v ∷ [])
 
 -- as many variables as names
-pub length-naming_of : (vs : List Variable) → length (naming_of vs) ≡ length vs
-length-naming_of vs = length-map (reverse vs) renaming_of ∙ length-reverse vs
+pub length-naming_of : (vs : List Renaming) → length (naming_of vs) ≡ length vs
+length-naming_of vs = length-reverse vs
 
 -- inside a variable there is one
 pub is_inside : (a b : Around) (v n : Identifier) → b ≡ within a v n → 0 < length b.names
 is_inside a b v n e = let one : length b.names ≡ suc (length a.names) = ap (λ c. length c.names) e in omega (arith, one)
+
+-- ---- operators over two formulas
+
+since_kind : (n : Identifier) (at p : Place) (left right : Box TenseFormula Global) → tense_kind (Since n at left right) p ≡ since (operator_at p n at) (tense_form_of left.value) (tense_form_of right.value)
+since_kind n at p left right = search (rules, the_lemmas)
+
+until_kind : (n : Identifier) (at p : Place) (left right : Box TenseFormula Global) → tense_kind (Until n at left right) p ≡ until (operator_at p n at) (tense_form_of left.value) (tense_form_of right.value)
+until_kind n at p left right = search (rules, the_lemmas)
+
+-- the node of an operator
+pub since_node : (f l r : TenseFormula) (n : Identifier) (at : Place) (left right : Box TenseFormula Global) → f.kind ≡ Since n at left right → l ≡ left.value → r ≡ right.value
+    → since (operator_at f.place n at) (tense_form_of l) (tense_form_of r) ≡ tense_form_of f
+since_node f l r n at left right e el er =
+    ap₂ (λ x y. since (operator_at f.place n at) (tense_form_of x) (tense_form_of y)) el er ∙ sym (ap (λ k. tense_kind k f.place) e ∙ since_kind n at f.place left right)
+
+pub until_node : (f l r : TenseFormula) (n : Identifier) (at : Place) (left right : Box TenseFormula Global) → f.kind ≡ Until n at left right → l ≡ left.value → r ≡ right.value
+    → until (operator_at f.place n at) (tense_form_of l) (tense_form_of r) ≡ tense_form_of f
+until_node f l r n at left right e el er =
+    ap₂ (λ x y. until (operator_at f.place n at) (tense_form_of x) (tense_form_of y)) el er ∙ sym (ap (λ k. tense_kind k f.place) e ∙ until_kind n at f.place left right)
+
+-- what is known of an operator whose first formula is expanded: the operator, its names and that formula, in the scope around it
+pub record IsBegun (s : Around) (w : WrittenOperator) (f : TenseForm) (b : Begun) : Type 0 where
+  pub same : b.at ≡ w
+  pub moment : b.moment ≡ moment_of (number_by s) (operator_of w)
+  pub name : b.between.name ≡ between_of (number_by s) (operator_of w)
+  pub tree : form_inside b.between ≡ expanded_in (within s w.name.now (between_of (number_by s) (operator_of w))) f
+
+-- the second formula expanded too, they are the operator's
+pub since_joined : (s t : Around) (w : WrittenOperator) (b : Begun) (f g : TenseForm) → t ≡ s → IsBegun s w f b
+    → since_form (operator_of b.at) b.moment b.between.name (present_name t.names b.at.name.now) (form_inside b.between) (expanded_in (within t b.at.name.now b.moment) g) ≡ expanded_in s (since (operator_of w) f g)
+since_joined s t w b f g e h =
+    let form : Around → WrittenOperator → Identifier → Identifier → RawForm → RawForm =
+    λ a v m y i. since_form (operator_of v) m y (present_name a.names v.name.now) i (expanded_in (within a v.name.now m) g) in
+    ap (λ a. form a b.at b.moment b.between.name (form_inside b.between)) e
+    ∙ ap (λ v. form s v b.moment b.between.name (form_inside b.between)) h.same
+    ∙ ap (λ m. form s w m b.between.name (form_inside b.between)) h.moment
+    ∙ ap₂ (λ y i. form s w (moment_of (number_by s) (operator_of w)) y i) h.name h.tree
+
+pub until_joined : (s t : Around) (w : WrittenOperator) (b : Begun) (f g : TenseForm) → t ≡ s → IsBegun s w f b
+    → until_form (operator_of b.at) b.moment b.between.name (present_name t.names b.at.name.now) (form_inside b.between) (expanded_in (within t b.at.name.now b.moment) g) ≡ expanded_in s (until (operator_of w) f g)
+until_joined s t w b f g e h =
+    let form : Around → WrittenOperator → Identifier → Identifier → RawForm → RawForm =
+    λ a v m y i. until_form (operator_of v) m y (present_name a.names v.name.now) i (expanded_in (within a v.name.now m) g) in
+    ap (λ a. form a b.at b.moment b.between.name (form_inside b.between)) e
+    ∙ ap (λ v. form s v b.moment b.between.name (form_inside b.between)) h.same
+    ∙ ap (λ m. form s w m b.between.name (form_inside b.between)) h.moment
+    ∙ ap₂ (λ y i. form s w (moment_of (number_by s) (operator_of w)) y i) h.name h.tree

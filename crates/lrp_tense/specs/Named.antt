@@ -1,12 +1,13 @@
 -- What the program keeps of the variables around a formula.
-use Rattle.std.specs.Prelude.{List, map, reverse}
-use Rattle.lrp_tense.specs.declared.scope.Variable.{Variable}
-use Rattle.lrp_tense.specs.Expanding.{Naming, Renaming, renamed_to}
+use Rattle.std.specs.Prelude.{◌-◌, ℕ, List, length, slice_index_or, reverse}
+use Rattle.lrp_model.specs.Texts.{Identifier}
+use Rattle.lrp_tense.specs.declared.variables.Look.{Look}
+use Rattle.lrp_tense.specs.Expanding.{Naming, Renaming}
 
--- a variable as it is written, and its name
-abbrev pub renaming_of : Variable → Renaming
-renaming_of v = renamed_to v.written.now v.present
+-- how a name looks: its length and its last byte, 0 where it has none
+abbrev pub look_at : Identifier → Look
+look_at v = record { size = length v; last = slice_index_or v (length v - 1) 0 }
 
 -- the innermost first, where the program has the outermost first
-abbrev pub naming_of : List Variable → Naming
-naming_of vs = map renaming_of (reverse vs)
+abbrev pub naming_of : List Renaming → Naming
+naming_of vs = reverse vs

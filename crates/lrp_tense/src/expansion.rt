@@ -9,7 +9,7 @@ ghost use Rattle.lrp_tense.specs.Scopes.{expanded_in, number_by, within};
 
 use crate::counting::numbers_of;
 use crate::renaming::{atom, comparison, membership};
-use crate::scope::Scope;
+use crate::scope::{Moments, Scope};
 use crate::written_out::{
     Inside, Places, boxed, conjunction, denied, disjunction, every, grouped, implied, some,
 };
@@ -23,6 +23,14 @@ pub struct Operator<'a> {
     pub number: u64,
     pub places: Places,
     pub name: &'a Name,
+}
+
+/// An operator over two formulas whose first is expanded, and the name of its moment.
+#[derive(Drop)]
+pub struct Begun<'a> {
+    pub at: Operator<'a>,
+    pub moment: Name,
+    pub between: Inside,
 }
 
 /// The query without operators that is satisfied exactly where this one is. The variables that it has beside the written ones have a `~` in their names.
@@ -129,8 +137,8 @@ fn expand_formula<'a>(
             right,
         } => {
             let at = operator_with(scope, place, name, *name_place);
-            let between = expand_between(alloc, scope, at, left)?;
-            expand_since(alloc, scope, at, between, right)
+            let begun = expand_between(alloc, scope, at, left)?;
+            expand_since(alloc, scope, begun, right)
         }
         TenseKind::Until {
             name,
@@ -139,8 +147,8 @@ fn expand_formula<'a>(
             right,
         } => {
             let at = operator_with(scope, place, name, *name_place);
-            let between = expand_between(alloc, scope, at, left)?;
-            expand_until(alloc, scope, at, between, right)
+            let begun = expand_between(alloc, scope, at, left)?;
+            expand_until(alloc, scope, begun, right)
         }
     }
 }
@@ -301,7 +309,7 @@ fn expand_at_moment<'a>(
     ensures tree { IfOk result (λ made. form_inside made ≡ expanded_in (within scope.old at.entry.name.now (moment_of (number_by scope.old) (operator_of at.entry))) (tense_form_of of.now)) }
     ensures scope { OnOk result (scope.new ≡ scope.old) }
 {
-    let moment = scope.fresh(alloc, at.name, at.number, "")?;
+    let moment = scope.moment(alloc, at.name, at.number)?;
     expand_inside(alloc, scope, at.name, moment, of)
 }
 
@@ -312,14 +320,25 @@ fn expand_between<'a>(
     scope: &mut Scope<'a>,
     at: Operator<'a>,
     of: &'a TenseFormula,
-) -> Result<Inside, Memory>
+) -> Result<Begun<'a>, Memory>
     requires { at.number ≡ number_by scope.old at.places.place }
-    ensures name { IfOk result (λ made. made.name ≡ between_of (number_by scope.old) (operator_of at.entry)) }
-    ensures tree { IfOk result (λ made. form_inside made ≡ expanded_in (within scope.old at.entry.name.now (between_of (number_by scope.old) (operator_of at.entry))) (tense_form_of of.now)) }
+    ensures at { IfOk result (λ made. made.at ≡ at.entry) }
+    ensures moment { IfOk result (λ made. made.moment ≡ moment_of (number_by scope.old) (operator_of at.entry)) }
+    ensures name { IfOk result (λ made. made.between.name ≡ between_of (number_by scope.old) (operator_of at.entry)) }
+    ensures tree { IfOk result (λ made. form_inside made.between ≡ expanded_in (within scope.old at.entry.name.now (between_of (number_by scope.old) (operator_of at.entry))) (tense_form_of of.now)) }
     ensures scope { OnOk result (scope.new ≡ scope.old) }
 {
-    let each = scope.fresh(alloc, at.name, at.number, "~")?;
-    expand_inside(alloc, scope, at.name, each, of)
+    let names = scope.moments(alloc, at.name, at.number)?;
+    let Moments {
+        own: moment,
+        between,
+    } = names;
+    let between = expand_inside(alloc, scope, at.name, between, of)?;
+    Ok(Begun {
+        at,
+        moment,
+        between,
+    })
 }
 
 #[cycle(expanding)]
@@ -360,15 +379,18 @@ fn expand_always<'a>(
 fn expand_since<'a>(
     alloc: Global,
     scope: &mut Scope<'a>,
-    at: Operator<'a>,
-    between: Inside,
+    begun: Begun<'a>,
     of: &'a TenseFormula,
 ) -> Result<Box<RawFormula>, Memory>
-    requires { at.number ≡ number_by scope.old at.places.place }
-    ensures tree { IfOk result (λ made. raw_form_of made.value ≡ since_form (operator_of at.entry) (moment_of (number_by scope.old) (operator_of at.entry)) between.name (present_name scope.old.names at.entry.name.now) (form_inside between) (expanded_in (within scope.old at.entry.name.now (moment_of (number_by scope.old) (operator_of at.entry))) (tense_form_of of.now))) }
+    ensures tree { IfOk result (λ made. raw_form_of made.value ≡ since_form (operator_of begun.entry.at) begun.entry.moment begun.entry.between.name (present_name scope.old.names begun.entry.at.name.now) (form_inside begun.entry.between) (expanded_in (within scope.old begun.entry.at.name.now begun.entry.moment) (tense_form_of of.now))) }
     ensures scope { OnOk result (scope.new ≡ scope.old) }
 {
-    let inside = expand_at_moment(alloc, scope, at, of)?;
+    let Begun {
+        at,
+        moment,
+        between,
+    } = begun;
+    let inside = expand_inside(alloc, scope, at.name, moment, of)?;
     at.places
         .since(alloc, scope.present(at.name), between, inside)
 }
@@ -378,15 +400,18 @@ fn expand_since<'a>(
 fn expand_until<'a>(
     alloc: Global,
     scope: &mut Scope<'a>,
-    at: Operator<'a>,
-    between: Inside,
+    begun: Begun<'a>,
     of: &'a TenseFormula,
 ) -> Result<Box<RawFormula>, Memory>
-    requires { at.number ≡ number_by scope.old at.places.place }
-    ensures tree { IfOk result (λ made. raw_form_of made.value ≡ until_form (operator_of at.entry) (moment_of (number_by scope.old) (operator_of at.entry)) between.name (present_name scope.old.names at.entry.name.now) (form_inside between) (expanded_in (within scope.old at.entry.name.now (moment_of (number_by scope.old) (operator_of at.entry))) (tense_form_of of.now))) }
+    ensures tree { IfOk result (λ made. raw_form_of made.value ≡ until_form (operator_of begun.entry.at) begun.entry.moment begun.entry.between.name (present_name scope.old.names begun.entry.at.name.now) (form_inside begun.entry.between) (expanded_in (within scope.old begun.entry.at.name.now begun.entry.moment) (tense_form_of of.now))) }
     ensures scope { OnOk result (scope.new ≡ scope.old) }
 {
-    let inside = expand_at_moment(alloc, scope, at, of)?;
+    let Begun {
+        at,
+        moment,
+        between,
+    } = begun;
+    let inside = expand_inside(alloc, scope, at.name, moment, of)?;
     at.places
         .until(alloc, scope.present(at.name), between, inside)
 }

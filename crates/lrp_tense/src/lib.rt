@@ -10,6 +10,7 @@ mod queries;
 mod renaming;
 mod scope;
 mod tree;
+mod variables;
 mod words;
 mod written_out;
 

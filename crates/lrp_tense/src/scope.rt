@@ -1,24 +1,24 @@
 // What surrounds a formula while it is expanded: the numbers of the operators, and the variables that are bound.
-ghost use Rattle.std.specs.Prelude.{◌≡◌, ◌<◌, ◌∷◌, [], ◌++◌, length, IsTrue, string_bytes, bytes_eq, IfOk, OnOk};
+ghost use Rattle.std.specs.Prelude.{◌≡◌, ◌<◌, [], length, string_bytes, IfOk, OnOk};
 ghost use Rattle.lrp_model.specs.Texts.{Identifier};
-ghost use Rattle.std.specs.Fmt.{decimal};
 ghost use Rattle.std.specs.List.Sorted.{IsNonDecreasing};
-ghost use Rattle.lrp_tense.specs.Expanding.{present_name};
+ghost use Rattle.lrp_tense.specs.Expanding.{present_name, moment_name, between_name};
 ghost use Rattle.lrp_tense.specs.Named.{naming_of};
 ghost use Rattle.lrp_tense.specs.Scopes.{Around, within, number_by};
 
 use crate::counting::number;
+use crate::variables::{Variable, look_of};
 use itoa::Buffer;
 use lrp_model::{Memory, Name, Place};
 use std::alloc::Global;
 use std::marker::Model;
 use std::str::from_utf8;
 
-/// A variable as it is written, and its name in the expanded query.
-#[derive(Drop)]
-pub struct Variable<'a> {
-    pub written: &'a Name,
-    pub present: Name,
+/// The names that an operator over two formulas brings: of its moment, and of each moment between.
+#[derive(Debug, Drop)]
+pub struct Moments {
+    pub own: Name,
+    pub between: Name,
 }
 
 /// The positions of all operators in order, and the variables around a formula, the innermost last.
@@ -74,26 +74,33 @@ impl<'a> Scope<'a> {
         present(self.variables.as_slice(), written)
     }
 
-    /// The name with `~`, a number and this end behind it.
-    pub fn fresh(
-        &mut self,
-        alloc: Global,
-        name: &Name,
-        number: u64,
-        end: &str,
-    ) -> Result<Name, Memory>
-        ensures name { IfOk result (λ made. made ≡ name.now ++ 126 ∷ (decimal number ++ end.now)) }
+    /// The name of an operator's moment, of its variable's name and its number.
+    pub fn moment(&mut self, alloc: Global, name: &Name, number: u64) -> Result<Name, Memory>
+        ensures name { IfOk result (λ made. made ≡ moment_name name.now number) }
         ensures scope { OnOk result (self.new ≡ self.old) }
     {
-        write_fresh(&mut self.text, name, number, end)?;
+        write_moment(&mut self.text, name, number)?;
         Name::new(alloc, self.text.as_str())
+    }
+
+    /// The same, and the name of each moment between.
+    pub fn moments(&mut self, alloc: Global, name: &Name, number: u64) -> Result<Moments, Memory>
+        ensures own { IfOk result (λ made. made.own ≡ moment_name name.now number) }
+        ensures between { IfOk result (λ made. made.between ≡ between_name name.now number) }
+        ensures scope { OnOk result (self.new ≡ self.old) }
+    {
+        write_moment(&mut self.text, name, number)?;
+        let own = Name::new(alloc, self.text.as_str())?;
+        self.text.push('~')?;
+        let between = Name::new(alloc, self.text.as_str())?;
+        Ok(Moments { own, between })
     }
 
     /// One variable further in.
     pub fn enter(&mut self, written: &'a Name, present: Name) -> Result<(), Memory>
         ensures { OnOk result (self.new ≡ within self.old written.now present) }
     {
-        self.variables.push(Variable { written, present })?;
+        self.variables.push(Variable::new(written, present))?;
         Ok(())
     }
 
@@ -102,44 +109,29 @@ impl<'a> Scope<'a> {
         requires { 0 < length self.old.names }
         ensures { (v present : Identifier) (outer : Around) → self.old ≡ within outer v present → (result ≡ present) × (self.new ≡ outer) }
     {
-        let Variable { present, .. } = self.variables.take_last();
-        present
+        self.variables.take_last().into_present()
     }
-}
-
-// Whether two names have one length and end alike. Most names are told apart by it.
-fn looks_like(one: &[u8], other: &[u8]) -> bool
-    ensures { one.now ≡ other.now → IsTrue result }
-{
-    let length = one.len();
-    length == other.len() && (length == 0 || one[length - 1] == other[length - 1])
-}
-
-// Whether two names are the same.
-fn same(one: &Name, other: &Name) -> bool
-    ensures { result ≡ bytes_eq one.now other.now }
-{
-    looks_like(one.as_bytes(), other.as_bytes()) && *one == *other
 }
 
 // The name that the last of these variables which is so written gives, and else its own.
 fn present<'b>(variables: &'b [Variable<'_>], written: &'b Name) -> &'b Name
     ensures { result.now ≡ present_name (naming_of variables.now) written.now }
 {
+    let look = look_of(written);
     let mut left = variables.len();
     while left > 0 {
         left -= 1;
         let around = &variables[left];
-        if same(around.written, written) {
-            return &around.present;
+        if around.is_written(look, written) {
+            return around.present();
         }
     }
     written
 }
 
-// The name with `~`, a number and this end behind it, in place of what the text was.
-fn write_fresh(text: &mut String, name: &Name, number: u64, end: &str) -> Result<(), Memory>
-    ensures { OnOk result (string_bytes text.new ≡ name.now ++ 126 ∷ (decimal number ++ end.now)) }
+// The name of an operator's moment, in place of what the text was.
+fn write_moment(text: &mut String, name: &Name, number: u64) -> Result<(), Memory>
+    ensures { OnOk result (string_bytes text.new ≡ moment_name name.now number) }
 {
     // Names are made of texts alone, so they are UTF-8.
     let Ok(written) = from_utf8(name.as_bytes()) else {
@@ -149,6 +141,5 @@ fn write_fresh(text: &mut String, name: &Name, number: u64, end: &str) -> Result
     text.push_str(written)?;
     text.push('~')?;
     text.push_str(Buffer::new().format(number))?;
-    text.push_str(end)?;
     Ok(())
 }

@@ -4,8 +4,8 @@
 ghost use Rattle.std.specs.Prelude.{◌≡◌, ◌∷◌, [], IfOk};
 ghost use Rattle.lrp_model.specs.RawQueries.{raw_kind, raw_form_of, raw_forms_of, raw_and, raw_or, raw_not, raw_group, raw_exists, raw_forall, raw_implies, raw_compare};
 ghost use Rattle.lrp_model.specs.declared.formulas.Op.TheVariants.{Le, Lt, Ge, Gt};
-ghost use Rattle.lrp_tense.specs.Expanding.{time_binder as time_column, name_term, moved_term, beside as beside_variable, beside_end as beside_end_of, beside_moment as beside_own, between_form};
-ghost use Rattle.lrp_tense.specs.Written.{operator_there, form_inside, once_at, always_at, since_at, until_at};
+ghost use Rattle.lrp_tense.specs.Expanding.{time_binder as time_column, name_term, moved_term, beside as beside_variable, beside_end as beside_end_of, beside_moment as beside_own, between_form, all_three};
+ghost use Rattle.lrp_tense.specs.Written.{operator_there, form_inside, each_there, once_at, always_at, since_at, until_at};
 
 use lrp_model::{
     Memory, Name, Op, Place, RawColumn, RawFormula, RawKind, RawTerm, RawTermKind, Sort,
@@ -26,10 +26,11 @@ pub struct Inside {
     pub of: Box<RawFormula>,
 }
 
-// The names that are compared.
+// A name compared with another one.
 #[derive(Debug, Drop)]
 struct Sides {
     left: Name,
+    op: Op,
     right: Name,
 }
 
@@ -105,12 +106,12 @@ pub fn disjunction(
     boxed(alloc, place, RawKind::Or { of })
 }
 
-fn copied(alloc: Global, left: &Name, right: &Name) -> Result<Sides, Memory>
-    ensures { IfOk result (λ made. made ≡ record { left = left.now; right = right.now }) }
+fn copied(alloc: Global, left: &Name, op: Op, right: &Name) -> Result<Sides, Memory>
+    ensures { IfOk result (λ made. made ≡ record { left = left.now; op = op; right = right.now }) }
 {
     let left = left.copy(alloc)?;
     let right = right.copy(alloc)?;
-    Ok(Sides { left, right })
+    Ok(Sides { left, op, right })
 }
 
 fn named(place: Place, name: Name) -> RawTerm
@@ -149,18 +150,18 @@ fn compared(place: Place, name: Name, op: Op, right: RawTerm) -> RawFormula
 
 impl Places {
     // Compared with the operator's variable.
-    fn beside(&self, op: Op, names: Sides) -> RawFormula
-        ensures { raw_form_of result ≡ beside_variable (operator_there self.now names.right) names.left op names.right }
+    fn beside(&self, names: Sides) -> RawFormula
+        ensures { raw_form_of result ≡ beside_variable (operator_there self.now names.right) names.left names.op names.right }
     {
-        let Sides { left, right } = names;
+        let Sides { left, op, right } = names;
         compared(self.place, left, op, named(self.name_place, right))
     }
 
     // Compared with the operator's variable plus an end of the interval.
-    fn beside_end(&self, op: Op, names: Sides, end: i64) -> RawFormula
-        ensures { raw_form_of result ≡ beside_end_of (operator_there self.now names.right) names.left op names.right end }
+    fn beside_end(&self, names: Sides, end: i64) -> RawFormula
+        ensures { raw_form_of result ≡ beside_end_of (operator_there self.now names.right) names.left names.op names.right end }
     {
-        let Sides { left, right } = names;
+        let Sides { left, op, right } = names;
         let right = RawTerm {
             kind: RawTermKind::Shifted {
                 name: right,
@@ -172,10 +173,10 @@ impl Places {
     }
 
     // Two variables of the operator compared.
-    fn beside_moment(&self, op: Op, names: Sides) -> RawFormula
-        ensures { raw_form_of result ≡ beside_own (operator_there self.now names.right) names.left op names.right }
+    fn beside_moment(&self, names: Sides) -> RawFormula
+        ensures { raw_form_of result ≡ beside_own (operator_there self.now names.right) names.left names.op names.right }
     {
-        let Sides { left, right } = names;
+        let Sides { left, op, right } = names;
         compared(self.place, left, op, named(self.place, right))
     }
 
@@ -192,24 +193,32 @@ impl Places {
         some(alloc, self.place, time_binder(self.place, name), all)
     }
 
-    // Each value for which both hold satisfies the formula.
-    fn each_value(
+    // Where both hold, the formula inside the variable does.
+    fn limited(
         &self,
         alloc: Global,
         both: Vec<RawFormula>,
         inside: Inside,
-    ) -> Result<Box<RawFormula>, Memory>
-        ensures { IfOk result (λ made. raw_form_of made.value ≡ raw_forall self.now.place (time_column self.now.place inside.name) (raw_implies self.now.place (raw_and self.now.place (raw_forms_of both.items)) (form_inside inside))) }
+    ) -> Result<Inside, Memory>
+        ensures name { IfOk result (λ made. made.name ≡ inside.name) }
+        ensures tree { IfOk result (λ made. form_inside made ≡ raw_implies self.now.place (raw_and self.now.place (raw_forms_of both.items)) (form_inside inside)) }
     {
         let Inside { name, of } = inside;
         let within = conjunction(alloc, self.place, both)?;
-        let implication = implied(alloc, self.place, within, of)?;
-        every(
-            alloc,
-            self.place,
-            time_binder(self.place, name),
-            implication,
-        )
+        let of = implied(alloc, self.place, within, of)?;
+        Ok(Inside { name, of })
+    }
+
+    // Each value of the variable satisfies the formula.
+    fn each_value(&self, inside: Inside) -> RawFormula
+        ensures { raw_form_of result ≡ each_there self.now inside }
+    {
+        let Inside { name, of } = inside;
+        let binder = time_binder(self.place, name);
+        RawFormula {
+            kind: RawKind::Forall { binder, of },
+            place: self.place,
+        }
     }
 
     /// exists x: time (x >= v + from and x <= v + to and f)
@@ -222,12 +231,12 @@ impl Places {
     ) -> Result<Box<RawFormula>, Memory>
         ensures { IfOk result (λ made. raw_form_of made.value ≡ once_at self.now v.now ends.0 ends.1 inside) }
     {
-        let low = copied(alloc, &inside.name, v)?;
-        let high = copied(alloc, &inside.name, v)?;
+        let low = copied(alloc, &inside.name, Op::Ge, v)?;
+        let high = copied(alloc, &inside.name, Op::Le, v)?;
         let mut all = Vec::with_capacity(alloc, 3)?;
         let Inside { name, of } = inside;
-        all.push_reserved(self.beside_end(Op::Ge, low, ends.0));
-        all.push_reserved(self.beside_end(Op::Le, high, ends.1));
+        all.push_reserved(self.beside_end(low, ends.0));
+        all.push_reserved(self.beside_end(high, ends.1));
         all.push_reserved(Box::into_inner(of));
         self.some_moment(alloc, name, all)
     }
@@ -242,65 +251,67 @@ impl Places {
     ) -> Result<Box<RawFormula>, Memory>
         ensures { IfOk result (λ made. raw_form_of made.value ≡ always_at self.now v.now ends.0 ends.1 inside) }
     {
-        let low = copied(alloc, &inside.name, v)?;
-        let high = copied(alloc, &inside.name, v)?;
+        let low = copied(alloc, &inside.name, Op::Ge, v)?;
+        let high = copied(alloc, &inside.name, Op::Le, v)?;
         let mut both = Vec::with_capacity(alloc, 2)?;
-        both.push_reserved(self.beside_end(Op::Ge, low, ends.0));
-        both.push_reserved(self.beside_end(Op::Le, high, ends.1));
-        self.each_value(alloc, both, inside)
+        both.push_reserved(self.beside_end(low, ends.0));
+        both.push_reserved(self.beside_end(high, ends.1));
+        let limited = self.limited(alloc, both, inside)?;
+        let Inside { name, of } = limited;
+        every(alloc, self.place, time_binder(self.place, name), of)
     }
 
-    // forall y: time ((y > x and y <= v) implies f)
+    // (y > x and y <= v) implies f
     fn each_since(
         &self,
         alloc: Global,
         v: &Name,
         x: &Name,
         between: Inside,
-    ) -> Result<Box<RawFormula>, Memory>
-        ensures { IfOk result (λ made. raw_form_of made.value ≡ between_form (operator_there self.now v.now) between.name (beside_own (operator_there self.now v.now) between.name Gt x.now) (beside_variable (operator_there self.now v.now) between.name Le v.now) (form_inside between)) }
+    ) -> Result<Inside, Memory>
+        ensures { IfOk result (λ made. each_there self.now made ≡ between_form (operator_there self.now v.now) between.name (beside_own (operator_there self.now v.now) between.name Gt x.now) (beside_variable (operator_there self.now v.now) between.name Le v.now) (form_inside between)) }
     {
-        let low = copied(alloc, &between.name, x)?;
-        let high = copied(alloc, &between.name, v)?;
+        let low = copied(alloc, &between.name, Op::Gt, x)?;
+        let high = copied(alloc, &between.name, Op::Le, v)?;
         let mut both = Vec::with_capacity(alloc, 2)?;
-        both.push_reserved(self.beside_moment(Op::Gt, low));
-        both.push_reserved(self.beside(Op::Le, high));
-        self.each_value(alloc, both, between)
+        both.push_reserved(self.beside_moment(low));
+        both.push_reserved(self.beside(high));
+        self.limited(alloc, both, between)
     }
 
-    // forall y: time ((y >= v and y < x) implies f)
+    // (y >= v and y < x) implies f
     fn each_until(
         &self,
         alloc: Global,
         v: &Name,
         x: &Name,
         between: Inside,
-    ) -> Result<Box<RawFormula>, Memory>
-        ensures { IfOk result (λ made. raw_form_of made.value ≡ between_form (operator_there self.now v.now) between.name (beside_variable (operator_there self.now v.now) between.name Ge v.now) (beside_own (operator_there self.now v.now) between.name Lt x.now) (form_inside between)) }
+    ) -> Result<Inside, Memory>
+        ensures { IfOk result (λ made. each_there self.now made ≡ between_form (operator_there self.now v.now) between.name (beside_variable (operator_there self.now v.now) between.name Ge v.now) (beside_own (operator_there self.now v.now) between.name Lt x.now) (form_inside between)) }
     {
-        let low = copied(alloc, &between.name, v)?;
-        let high = copied(alloc, &between.name, x)?;
+        let low = copied(alloc, &between.name, Op::Ge, v)?;
+        let high = copied(alloc, &between.name, Op::Lt, x)?;
         let mut both = Vec::with_capacity(alloc, 2)?;
-        both.push_reserved(self.beside(Op::Ge, low));
-        both.push_reserved(self.beside_moment(Op::Lt, high));
-        self.each_value(alloc, both, between)
+        both.push_reserved(self.beside(low));
+        both.push_reserved(self.beside_moment(high));
+        self.limited(alloc, both, between)
     }
 
-    // exists x: time (x beside v and g and each)
+    // exists x: time (x beside v and g and forall y: time each)
     fn far_end(
         &self,
         alloc: Global,
-        first: RawFormula,
+        first: Sides,
         inside: Inside,
-        each: Box<RawFormula>,
+        each: Inside,
     ) -> Result<Box<RawFormula>, Memory>
-        ensures { IfOk result (λ made. raw_form_of made.value ≡ raw_exists self.now.place (time_column self.now.place inside.name) (raw_and self.now.place (raw_forms_of (first ∷ inside.of.value ∷ each.value ∷ [])))) }
+        ensures { IfOk result (λ made. raw_form_of made.value ≡ raw_exists self.now.place (time_column self.now.place inside.name) (all_three self.now.place (beside_variable (operator_there self.now first.right) first.left first.op first.right) (form_inside inside) (each_there self.now each))) }
     {
         let mut all = Vec::with_capacity(alloc, 3)?;
         let Inside { name, of } = inside;
-        all.push_reserved(first);
+        all.push_reserved(self.beside(first));
         all.push_reserved(Box::into_inner(of));
-        all.push_reserved(Box::into_inner(each));
+        all.push_reserved(self.each_value(each));
         self.some_moment(alloc, name, all)
     }
 
@@ -315,8 +326,8 @@ impl Places {
         ensures { IfOk result (λ made. raw_form_of made.value ≡ since_at self.now v.now between inside) }
     {
         let each = self.each_since(alloc, v, &inside.name, between)?;
-        let names = copied(alloc, &inside.name, v)?;
-        self.far_end(alloc, self.beside(Op::Le, names), inside, each)
+        let first = copied(alloc, &inside.name, Op::Le, v)?;
+        self.far_end(alloc, first, inside, each)
     }
 
     /// exists x: time (x >= v and g and forall y: time ((y >= v and y < x) implies f))
@@ -330,7 +341,7 @@ impl Places {
         ensures { IfOk result (λ made. raw_form_of made.value ≡ until_at self.now v.now between inside) }
     {
         let each = self.each_until(alloc, v, &inside.name, between)?;
-        let names = copied(alloc, &inside.name, v)?;
-        self.far_end(alloc, self.beside(Op::Ge, names), inside, each)
+        let first = copied(alloc, &inside.name, Op::Ge, v)?;
+        self.far_end(alloc, first, inside, each)
     }
 }
