@@ -1,5 +1,5 @@
 -- What a value that is held, and an owner that is released, make of all that is held.
-use Rattle.std.proofs.Common.{◌≡◌, ◌≢◌, ℕ, zero, suc, ◌<◌, ◌≤◌, ◌⊎◌, inl, inr, List, [], ◌∷◌, ◌+◌, length, map, take, get_or, Option, Some, None, IsSome, refl, sym, ap, subst, ◌∙◌, arith}
+use Rattle.std.proofs.Common.{◌≡◌, ◌≢◌, ℕ, zero, suc, ◌<◌, ◌≤◌, ◌^◌, ◌⊎◌, inl, inr, List, [], ◌∷◌, ◌+◌, length, map, take, get_or, Option, Some, None, IsSome, refl, sym, ap, subst, ◌∙◌, arith}
 use Rattle.std.specs.Prelude.{slice_get, Contains}
 use Rattle.std.specs.List.{All}
 use Rattle.std.proofs.Math.ListN.{get_or-map}
@@ -8,11 +8,12 @@ use Rattle.std.proofs.lemmas.List.Elements.{All-contains, All-more, All-weaker}
 use Rattle.slab.specs.Slab.{Slab, Updates, get}
 use Rattle.lrp_holdings.proofs.Cases.{eq_or}
 use Rattle.lrp_model.proofs.Decided.{contains_first, contains_later}
-use Rattle.lrp_holdings.specs.Chains.{AreAllChained, AreLoose, HasRoomForFirst, IsHeldInChains, IsReleasedFrom, IsRelinked, held_in, loose_owner, owner_at, owner_in}
+use Rattle.lrp_holdings.specs.Chains.{AreAllChained, AreLoose, HasRoomForFirst, IsHeldInChains, IsReleasedFrom, IsRelinked, IsShort, held_in, loose_owner, owner_at, owner_in}
 use Rattle.lrp_holdings.specs.Holdings.{Held, HoldingsView, IsHeldToo, IsReleased, held_at}
 use Rattle.lrp_holdings.specs.declared.chains.Link.{Link}
 use Rattle.lrp_holdings.specs.declared.chains.Owner.{Owner}
 use Rattle.lrp_holdings.specs.declared.chains.Holding.{Holding}
+use Rattle.lrp_holdings.proofs.LetGo.{short_still}
 use Rattle.lrp_holdings.proofs.Chained.{mapped, none_some, not_some, roomier, some_is}
 
 abbrev number : Owner → ℕ
@@ -58,12 +59,13 @@ module _ {V : Type 0} where
   -- ---- room
 
   pub roomier_held : (s : Slab (Holding V)) (cs ds : List (Option Link)) → HasRoomForFirst cs ds → IsHeldInChains s cs → IsHeldInChains s ds
-  roomier_held s cs ds w h = record { chained = roomier (λ m o. owner_at (get s) m ≡ Some o) cs ds w h.chained; within = h.within }
+  roomier_held s cs ds w h = record { chained = roomier (λ m o. owner_at (get s) m ≡ Some o) cs ds w h.chained; within = h.within; short = h.short }
 
   pub larger_held : (s t : Slab (Holding V)) (cs : List (Option Link)) → t ≡ record s { capacity = t.capacity } → s.capacity ≤ t.capacity → IsHeldInChains s cs → IsHeldInChains t cs
   larger_held s t cs e low h = record {
     chained = mapped (λ m o. owner_at (get s) m ≡ Some o) (λ m o. owner_at (get t) m ≡ Some o) cs (λ m o i. ap (λ x. owner_in x m.place) (same m.slot) ∙ i) (λ m o i. sym (ap (λ x. owner_in x m.place) (same m.slot)) ∙ i) h.chained;
     within = λ k i. let l : k < s.capacity = h.within k (subst (λ x. IsSome x) (same k) i) in omega (arith, l, low);
+    short = λ k. subst (λ x. IsShort x) (sym (same k)) (h.short k);
   }
     where
       same : (k : ℕ) → get t k ≡ get s k
@@ -89,6 +91,16 @@ module _ {V : Type 0} where
           | inr d ↦ let l : k < s.capacity = held.within k (subst (λ x. IsSome x) (w.others k d) was) in omega (arith, l, low, r.capacity)
         ]
 
+    -- each value has few owners, as it has
+    pub short_put : IsHeldInChains s cs → length h.owners.items < 2 ^ 32 → (k : ℕ) → IsShort (get t k)
+    short_put held few k = elim (eq_or k slot) [
+      | inl e ↦ subst (λ x. IsShort x) (sym (ap (get t) e ∙ w.changed)) few
+      | inr d ↦ subst (λ x. IsShort x) (sym (w.others k d)) (held.short k)
+    ]
+
+    pub short_after : IsHeldInChains s cs → length h.owners.items < 2 ^ 32 → IsRelinked t u → (k : ℕ) → IsShort (get u k)
+    short_after held few r k = short_still (get t k) (get u k) (λ x e. sym (r.held k) ∙ e) (short_put held few k)
+
     pub is_held_too : (old : HoldingsView V) → view_of s ≡ old → IsRelinked t u → IsHeldToo numbers h.value old (view_of u)
     is_held_too old e r = record {
       slot = slot;
@@ -109,7 +121,7 @@ module _ {V : Type 0} where
       here k = sym (view_at s k) ∙ ap (λ v. held_at v k) e
 
   pub released_held : (n : ℕ) (s t : Slab (Holding V)) (cs ds : List (Option Link)) → IsHeldInChains s cs → IsReleasedFrom n s t → AreAllChained t ds → IsHeldInChains t ds
-  released_held n s t cs ds h w c = record { chained = c; within = λ k i. by (get t k) k refl i }
+  released_held n s t cs ds h w c = record { chained = c; within = λ k i. by (get t k) k refl i; short = λ k. short_still (get s k) (get t k) (λ x e. (w.to k x e).0) (h.short k) }
     where
       by : (x : Option (Holding V)) → (k : ℕ) → get t k ≡ x → IsSome (get t k) → k < t.capacity
       by None k e i = absurd (not_some (Holding V) (subst (λ x. IsSome x) e i))

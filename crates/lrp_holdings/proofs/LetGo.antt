@@ -8,7 +8,7 @@ use Rattle.slab.specs.Slab.{Slab, Updates, get, slab_len}
 use Rattle.slab.proofs.SlabLemmas.{Contains-cons_cases}
 use Rattle.lrp_holdings.proofs.Cases.{eq_or}
 use Rattle.lrp_model.proofs.Decided.{contains_first, contains_later, contains_none}
-use Rattle.lrp_holdings.specs.Chains.{AreAllChained, AreChained, AreChainedBelow, AreChainedFrom, AreLoose, IsHeldInChains, IsLetGo, IsReleasedFrom, IsRelinked, first_of, held_in, loose_owner, owner_at, owner_in}
+use Rattle.lrp_holdings.specs.Chains.{AreAllChained, AreChained, AreChainedBelow, AreChainedFrom, AreLoose, IsHeldInChains, IsLetGo, IsReleasedFrom, IsRelinked, IsShort, first_of, held_in, loose_owner, owner_at, owner_in}
 use Rattle.lrp_holdings.specs.Holdings.{Held, HoldingsView, held_at}
 use Rattle.lrp_holdings.specs.declared.chains.Link.{Link}
 use Rattle.lrp_holdings.specs.declared.chains.Owner.{Owner}
@@ -33,6 +33,16 @@ owner_found (x ∷ os) n c = elim (Contains-cons_cases x.number n (map number os
 
 module _ {V : Type 0} where
   -- ---- one value
+
+  -- a value that was held has as few owners as before
+  pub short_still : (x y : Option (Holding V)) → ((h : Held V) → held_in y ≡ Some h → held_in x ≡ Some h) → IsShort x → IsShort y
+  short_still x None was s = tt
+  short_still None (Some b) was s = absurd (none_some (record { owners = map number b.owners.items; value = b.value }) (was (record { owners = map number b.owners.items; value = b.value }) refl))
+  short_still (Some a) (Some b) was s =
+      let same : length (map number a.owners.items) ≡ length (map number b.owners.items) = ap (λ (h : Held V). length h.owners) (some_is (record { owners = map number a.owners.items; value = a.value }) (record { owners = map number b.owners.items; value = b.value }) (was (record { owners = map number b.owners.items; value = b.value }) refl)) in
+      let l : length (map number a.owners.items) ≡ length a.owners.items = length-map a.owners.items number in
+      let m : length (map number b.owners.items) ≡ length b.owners.items = length-map b.owners.items number in
+      omega (arith, s, same, l, m)
 
   pub from_all : (s : Slab (Holding V)) (cs : List (Option Link)) (slot : ℕ) → AreAllChained s cs → AreChainedFrom s cs slot 0
   from_all s cs slot c = mapped (λ m o. owner_at (get s) m ≡ Some o) (λ m o. (owner_at (get s) m ≡ Some o) × (m.slot ≡ slot → 0 ≤ m.place)) cs (λ m o h. (h, λ e. omega arith)) (λ m o h. h.0) c
@@ -196,6 +206,7 @@ module _ {V : Type 0} where
       before = λ l o m h i. absurd (stands_nowhere l o h);
     };
     within = λ k h. absurd (not_some (Holding V) (subst (λ x. IsSome x) (vacant k) h));
+    short = λ k. subst (λ x. IsShort x) (sym (vacant k)) tt;
   }
     where
       vacant : (k : ℕ) → get s k ≡ None

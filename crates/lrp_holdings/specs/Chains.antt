@@ -1,5 +1,5 @@
 -- Chains of the places at which owners of values stand, linked in both directions.
-use Rattle.std.specs.Prelude.{◌≡◌, ◌≢◌, ℕ, ◌+◌, ◌<◌, ◌≤◌, List, length, map, Contains, Option, Some, None, IsSome, slice_get, slice_set, slice_index_or}
+use Rattle.std.specs.Prelude.{◌≡◌, ◌≢◌, ℕ, ◌+◌, ◌<◌, ◌≤◌, List, length, map, Contains, ◌^◌, Option, Some, None, IsSome, IfSome, slice_get, slice_set, slice_index_or}
 use Rattle.std.specs.Option.{option_map}
 use Rattle.slab.specs.Slab.{Slab, get, slab_len}
 use Rattle.lrp_holdings.specs.declared.chains.Link.{Link}
@@ -55,6 +55,10 @@ module _ {V : Type 0} where
   abbrev pub owner_at : (ℕ → Option (Holding V)) → Link → Option Owner
   owner_at slots link = owner_in (slots link.slot) link.place
 
+  -- so many owners that their places are numbers of 32 bits
+  abbrev pub IsShort : Option (Holding V) → Type 0
+  IsShort slot = IfSome slot (λ h. length h.owners.items < 2 ^ 32)
+
   -- the value in a slot and the numbers of its owners, if there is one
   abbrev pub held_in : Option (Holding V) → Option (Held V)
   held_in slot = option_map (λ h. record { owners = map (λ (o : Owner). o.number) h.owners.items; value = h.value }) slot
@@ -105,3 +109,4 @@ module _ {V : Type 0} where
   pub record IsHeldInChains (slots : Slab (Holding V)) (chains : List (Option Link)) : Type 0 where
     pub chained : AreAllChained slots chains
     pub within : (slot : ℕ) → IsSome (get slots slot) → slot < slots.capacity
+    pub short : (slot : ℕ) → IsShort (get slots slot)

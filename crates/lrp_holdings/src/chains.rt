@@ -1,32 +1,33 @@
 // Chains of the places at which owners of values stand, linked in both directions.
-ghost use Rattle.std.specs.Prelude.{◌≡◌, ◌+◌, ◌<◌, ◌≤◌, Some, None, OnOk, IsSome, IfSome, length, slice_set};
+ghost use Rattle.std.specs.Prelude.{◌≡◌, ◌+◌, ◌<◌, ◌≤◌, ℕ, Some, None, OnOk, IsSome, IfSome, length, slice_set};
 ghost use Rattle.std.specs.List.{All};
 ghost use Rattle.slab.specs.Slab.{get};
-ghost use Rattle.lrp_holdings.specs.Chains.{AreAllChained, AreChainedBelow, AreChainedFrom, AreLoose, HasRoomForFirst, IsChanged, IsLedTo, IsLetGo, IsReleasedFrom, IsRelinked, IsSetAt, first_of, owner_at, with_before, with_next};
+ghost use Rattle.lrp_holdings.specs.Chains.{AreAllChained, AreChainedBelow, AreChainedFrom, AreLoose, HasRoomForFirst, IsChanged, IsShort, IsLedTo, IsLetGo, IsReleasedFrom, IsRelinked, IsSetAt, first_of, owner_at, with_before, with_next};
 
 use lrp_model::Memory;
 use slab::Slab;
+use smallvec::SmallVec;
 
 /// A place of a value's list of owners: the value's slot, and a number from 0.
 #[derive(Clone, Copy)]
 pub(crate) struct Link {
-    pub(crate) slot: usize,
-    pub(crate) place: usize,
+    pub(crate) slot: u32,
+    pub(crate) place: u32,
 }
 
 /// An owner of a value, and the links before and after this one in the owner's chain.
-#[derive(Clone, Copy)]
+#[derive(Clone, Copy, Default)]
 pub(crate) struct Owner {
-    pub(crate) number: usize,
+    pub(crate) number: u32,
     pub(crate) before: Option<Link>,
     pub(crate) next: Option<Link>,
 }
 
-/// A value with its owners.
+/// A value with its owners, of which two take no memory of their own.
 #[derive(Drop)]
 pub(crate) struct Holding<V> {
     pub(crate) value: V,
-    pub(crate) owners: Vec<Owner>,
+    pub(crate) owners: SmallVec<Owner, 2>,
 }
 
 // The owner at a link.
@@ -34,15 +35,16 @@ fn owner_of<V>(slots: &Slab<Holding<V>>, link: Link) -> Owner
     requires { IsSome (owner_at (get slots.now) link) }
     ensures { owner_at (get slots.now) link ≡ Some result }
 {
-    slots[link.slot].owners[link.place]
+    slots[link.slot as usize].owners.as_slice()[link.place as usize]
 }
 
 // How many owners the value in a slot has.
-fn owner_count<V>(slots: &Slab<Holding<V>>, slot: usize) -> usize
-    requires { IsSome (get slots.now slot) }
+fn owner_count<V>(slots: &Slab<Holding<V>>, slot: u32) -> u32
+    requires held { IsSome (get slots.now slot) }
+    requires short { IsShort (get slots.now slot) }
     ensures { IfSome (get slots.now slot) (λ holding. result ≡ length holding.owners.items) }
 {
-    slots[slot].owners.len()
+    slots[slot as usize].owners.len() as u32
 }
 
 // Sets what is next after a link, if there is one.
@@ -51,15 +53,15 @@ fn set_next<V>(slots: &mut Slab<Holding<V>>, link: Option<Link>, next: Option<Li
     ensures { IsChanged (with_next next) slots.old slots.new link }
 {
     if let Some(link) = link {
-        next_at(&mut slots[link.slot].owners, link.place, next);
+        next_at(&mut slots[link.slot as usize].owners, link.place, next);
     }
 }
 
-fn next_at(owners: &mut Vec<Owner>, place: usize, next: Option<Link>)
+fn next_at(owners: &mut SmallVec<Owner, 2>, place: u32, next: Option<Link>)
     requires { place < length owners.old.items }
     ensures { IsSetAt (with_next next) owners.old.items owners.new.items place }
 {
-    owners[place].next = next;
+    owners.as_mut_slice()[place as usize].next = next;
 }
 
 // Sets what is before a link, if there is one.
@@ -68,15 +70,15 @@ fn set_before<V>(slots: &mut Slab<Holding<V>>, link: Option<Link>, before: Optio
     ensures { IsChanged (with_before before) slots.old slots.new link }
 {
     if let Some(link) = link {
-        before_at(&mut slots[link.slot].owners, link.place, before);
+        before_at(&mut slots[link.slot as usize].owners, link.place, before);
     }
 }
 
-fn before_at(owners: &mut Vec<Owner>, place: usize, before: Option<Link>)
+fn before_at(owners: &mut SmallVec<Owner, 2>, place: u32, before: Option<Link>)
     requires { place < length owners.old.items }
     ensures { IsSetAt (with_before before) owners.old.items owners.new.items place }
 {
-    owners[place].before = before;
+    owners.as_mut_slice()[place as usize].before = before;
 }
 
 // Lets a chain begin behind its first link.
@@ -85,7 +87,7 @@ fn set_first(chains: &mut Vec<Option<Link>>, owner: Owner)
     ensures { IsLedTo owner chains.old.items chains.new.items }
 {
     if owner.before.is_none() {
-        chains[owner.number] = owner.next;
+        chains[owner.number as usize] = owner.next;
     }
 }
 
@@ -112,17 +114,18 @@ fn put_first<V>(slots: &mut Slab<Holding<V>>, chains: &mut Vec<Option<Link>>, li
     ensures same { IsRelinked slots.old slots.new }
 {
     let owner = owner_of(slots, link);
-    let next = chains[owner.number];
+    let next = chains[owner.number as usize];
     set_next(slots, Some(link), next);
     set_before(slots, next, Some(link));
-    chains[owner.number] = Some(link);
+    chains[owner.number as usize] = Some(link);
 }
 
 /// Puts the links of the value in a slot into the chains of its owners.
-pub(crate) fn link_all<V>(slots: &mut Slab<Holding<V>>, chains: &mut Vec<Option<Link>>, slot: usize)
+pub(crate) fn link_all<V>(slots: &mut Slab<Holding<V>>, chains: &mut Vec<Option<Link>>, slot: u32)
     requires chained { AreChainedBelow slots.old chains.old.items slot 0 }
     requires loose { AreLoose slots.old chains.old.items slot 0 }
     requires held { IsSome (get slots.old slot) }
+    requires short { IsShort (get slots.old slot) }
     ensures chained { AreAllChained slots.new chains.new.items }
     ensures same { IsRelinked slots.old slots.new }
 {
@@ -132,16 +135,17 @@ pub(crate) fn link_all<V>(slots: &mut Slab<Holding<V>>, chains: &mut Vec<Option<
 }
 
 // Takes the value of a slot out of the chains of its owners, and gives the slot up.
-fn let_go<V: Drop>(slots: &mut Slab<Holding<V>>, chains: &mut Vec<Option<Link>>, slot: usize)
+fn let_go<V: Drop>(slots: &mut Slab<Holding<V>>, chains: &mut Vec<Option<Link>>, slot: u32)
     requires chained { AreAllChained slots.old chains.old.items }
     requires held { IsSome (get slots.old slot) }
+    requires short { IsShort (get slots.old slot) }
     ensures chained { AreAllChained slots.new chains.new.items }
     ensures gone { IsLetGo slots.old slots.new slot }
 {
     for place in 0..owner_count(slots, slot) {
         unlink(slots, chains, Link { slot, place });
     }
-    slots.try_remove(slot);
+    slots.try_remove(slot as usize);
 }
 
 // The first link of an owner's chain.
@@ -161,7 +165,8 @@ pub(crate) fn release<V: Drop>(
     chains: &mut Vec<Option<Link>>,
     number: usize,
 )
-    requires { AreAllChained slots.old chains.old.items }
+    requires chained { AreAllChained slots.old chains.old.items }
+    requires short { (slot : ℕ) → IsShort (get slots.old slot) }
     ensures chained { AreAllChained slots.new chains.new.items }
     ensures released { IsReleasedFrom number slots.old slots.new }
 {

@@ -1,5 +1,5 @@
 // Values that are held by numbered owners: each is let go with the first of its owners.
-ghost use Rattle.std.specs.Prelude.{◌≡◌, ◌<◌, ℕ, IsSome, IfOk, IfSome, IfNone, OnOk, OnErr, [], None, map, option_copied};
+ghost use Rattle.std.specs.Prelude.{◌≡◌, ◌<◌, ◌^◌, ℕ, IsSome, IfOk, IfSome, IfNone, OnOk, OnErr, [], None, length, map, option_copied};
 ghost use Rattle.std.specs.Option.{option_map};
 ghost use Rattle.lrp_holdings.specs.Chains.{loose_owner};
 ghost use Rattle.lrp_holdings.specs.Holdings.{IsHeldToo, IsReleased, held_at, owners_at};
@@ -7,6 +7,7 @@ ghost use Rattle.lrp_holdings.specs.Holdings.{IsHeldToo, IsReleased, held_at, ow
 use crate::chains::{Holding, Link, Owner, link_all, make_room, release};
 use lrp_model::Memory;
 use slab::Slab;
+use smallvec::SmallVec;
 use std::alloc::Global;
 use std::marker::Model;
 
@@ -76,15 +77,19 @@ impl<V: Drop> Holdings<V> {
         }
     }
 
-    /// Holds a value for these owners. Where memory is refused nothing more is held.
+    /// Holds a value for these owners. Where memory is refused nothing more is held; it is for more than 2^32 values, or owners
+    /// of one.
     pub fn hold(&mut self, numbers: &[usize], value: V) -> Result<(), Memory>
         ensures held { OnOk result (IsHeldToo numbers.now value self.old self.new) }
         ensures same { OnErr result (self.new ≡ self.old) }
     {
+        if self.slots.vacant_key() > u32::MAX as usize {
+            return Err(Memory);
+        }
         make_room(&mut self.chains, numbers)?;
         let owners = loose(self.alloc, numbers)?;
         let slot = self.slots.insert(Holding { value, owners })?;
-        link_all(&mut self.slots, &mut self.chains, slot);
+        link_all(&mut self.slots, &mut self.chains, slot as u32);
         Ok(())
     }
 
@@ -96,14 +101,21 @@ impl<V: Drop> Holdings<V> {
     }
 }
 
-// Owners that no chain has yet.
-fn loose(alloc: Global, numbers: &[usize]) -> Result<Vec<Owner>, Memory>
-    ensures { IfOk result (λ made. made.items ≡ map loose_owner numbers.now) }
+// Owners that no chain has yet; memory is refused for numbers from 2^32 on, and for so many of them.
+fn loose(alloc: Global, numbers: &[usize]) -> Result<SmallVec<Owner, 2>, Memory>
+    ensures made { IfOk result (λ made. made.items ≡ map loose_owner numbers.now) }
+    ensures short { IfOk result (λ made. length made.items < 2 ^ 32) }
 {
-    let mut owners = Vec::with_capacity(alloc, numbers.len())?;
+    if numbers.len() > u32::MAX as usize {
+        return Err(Memory);
+    }
+    let mut owners = SmallVec::with_capacity(alloc, numbers.len())?;
     for number in numbers {
+        let Ok(number) = u32::try_from(*number) else {
+            return Err(Memory);
+        };
         owners.push(Owner {
-            number: *number,
+            number,
             before: None,
             next: None,
         })?;
@@ -112,12 +124,12 @@ fn loose(alloc: Global, numbers: &[usize]) -> Result<Vec<Owner>, Memory>
 }
 
 // The numbers of owners.
-fn numbers_of(alloc: Global, owners: &Vec<Owner>) -> Result<Vec<usize>, Memory>
+fn numbers_of(alloc: Global, owners: &SmallVec<Owner, 2>) -> Result<Vec<usize>, Memory>
     ensures { IfOk result (λ made. made.items ≡ map (λ o. o.number) owners.now.items) }
 {
     let mut numbers = Vec::with_capacity(alloc, owners.len())?;
-    for owner in owners {
-        numbers.push(owner.number)?;
+    for owner in owners.as_slice() {
+        numbers.push(owner.number as usize)?;
     }
     Ok(numbers)
 }

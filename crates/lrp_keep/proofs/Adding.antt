@@ -1,31 +1,28 @@
 -- A row more: what can be derived with it, what the keeper then stands for, and what a refusal leaves.
-use Rattle.std.proofs.Common.{◌≡◌, ◌≢◌, ◌<◌, ◌≤◌, ◌+◌, ◌*◌, ◌^◌, ◌-◌, ℕ, zero, suc, true, false, Bool, List, [], ◌∷◌, ◌++◌, length, map, flat_map, Contains, Option, Some, None, inl, inr, refl, sym, ap, ap₂, subst, ◌∙◌, append-nil, length-append, get_or, arith}
-use Rattle.std.specs.Prelude.{◌==◌, pos, reverse, slice_get, slice_index_or}
+use Rattle.std.proofs.Common.{◌≡◌, ◌≢◌, ◌<◌, ◌≤◌, ◌+◌, ◌*◌, ◌^◌, ◌-◌, ℕ, suc, true, List, [], ◌∷◌, ◌++◌, length, map, Contains, Option, Some, inl, inr, refl, sym, ap, ap₂, subst, ◌∙◌, append-nil, length-append, get_or, arith}
+use Rattle.std.specs.Prelude.{◌==◌, reverse, slice_get, slice_index_or}
 use Rattle.std.specs.List.{AllByRecursion, list_any}
 use Rattle.slab.specs.Slab.{get}
 use Rattle.lrp_model.specs.DatabaseMeaning.{column_of}
 use Rattle.lrp_model.specs.Domains.{constants}
-use Rattle.lrp_model.specs.Formulas.{Form, Question, question_of}
+use Rattle.lrp_model.specs.Formulas.{Question, question_of}
 use Rattle.lrp_model.specs.Periods.{IsMultiple}
 use Rattle.lrp_model.specs.Plans.{time_columns}
 use Rattle.lrp_model.specs.Rows.{relation_named, rows_in, rows_of}
 use Rattle.lrp_model.specs.Texts.{AreDistinct, Identifier}
-use Rattle.lrp_model.specs.declared.relations.Column.{Column}
 use Rattle.lrp_model.specs.declared.relations.Relation.{Relation}
 use Rattle.lrp_model.specs.declared.relations.Row.{Row}
-use Rattle.lrp_model.proofs.Decided.{contains_first, cons_cases}
-use Rattle.lrp_plan_laws.proofs.Members.{all_by, all_of, in_left, in_one, in_right}
+use Rattle.lrp_model.proofs.Decided.{cons_cases}
+use Rattle.lrp_plan_laws.proofs.Members.{all_by, all_of, in_one}
 use Rattle.lrp_zone.proofs.Cases.{eq_or}
 use Rattle.lrp_tables.specs.Calls.{tests_reach}
-use Rattle.lrp_algebra.specs.Rows.{bounds_reach}
-use Rattle.lrp_kept.specs.Choices.{HasLargePart as HasLargeChoice, listed_disjuncts}
+use Rattle.lrp_kept.specs.Choices.{HasLargePart as HasLargeChoice}
 use Rattle.lrp_kept.specs.Disjuncts.{AreDisjunctsOf}
 use Rattle.lrp_kept.specs.Held.{AreLowRows, bounds_of, names_of, relation_of, relations_of, row_of}
-use Rattle.lrp_kept.specs.Keyed.{AreHeldRows, AreRelisted, AreSameRows, IsHeldBehind, IsLetGoAt, IsWithKeys}
-use Rattle.lrp_kept.specs.KeptForm.{elements, is_neither, some_passes}
-use Rattle.lrp_kept.specs.Keys.{keys_in, keys_of}
+use Rattle.lrp_kept.specs.Keyed.{AreHeldRows, AreRelisted, IsHeldBehind, IsLetGoAt}
+use Rattle.lrp_kept.specs.Keys.{keys_of}
 use Rattle.lrp_kept.specs.Limits.{row_bound, row_periods, scaled_kept_reach}
-use Rattle.lrp_kept.specs.SortedForms.{HaveColumnsOf, IsSortedForm}
+use Rattle.lrp_kept.specs.SortedForms.{HaveColumnsOf}
 use Rattle.lrp_kept.specs.Sizes.{is_reader, joined_reach, scaled_over}
 use Rattle.lrp_kept.specs.declared.disjuncts.Disjunct.{Disjunct}
 use Rattle.lrp_kept.specs.declared.disjuncts.JoinedAtom.{JoinedAtom}
@@ -35,19 +32,19 @@ use Rattle.lrp_kept.specs.declared.rows.Source.{Source}
 use Rattle.lrp_limits.specs.declared.periods.Period.{Period}
 use Rattle.lrp_kept.proofs.Room.{at_most, atom_room, tests_room}
 use Rattle.lrp_kept.proofs.SameReach.{kept_reach_is}
-use Rattle.lrp_parts.specs.Derivations.{AreReleased, CanBeReadBy, CanDerive, Ground, IsDerivedFrom, IsLastKey, IsWithoutKey, Levels}
+use Rattle.lrp_parts.specs.Derivations.{AreReleased, CanBeReadBy, CanDerive, Ground, IsDerivedFrom, IsLastKey, IsWithoutKey}
 use Rattle.lrp_parts.proofs.KeyedRows.{found_at}
 use Rattle.lrp_parts.proofs.Rekeyed.{held_last, held_rows, held_without, keys_here, let_go_rows, let_go_without}
-use Rattle.lrp_parts.proofs.Without.{derived_after, derived_before, with_rows}
-use Rattle.lrp_keep.specs.Keeps.{CanBeHeld, HasTooManyCells, IsCause, IsWithinLimits, scaled_reach_of, with_row}
-use Rattle.lrp_keep.specs.States.{CanBeHeldIn, CanDeriveEach, HasSomeLargePart, IsHeldAt, IsHoldingCause, IsKeeper, IsKeeping, IsLetGoFrom, IsStillState, ground_at, levels_of, view_of, with_held}
+use Rattle.lrp_parts.proofs.Without.{derived_after, derived_before}
+use Rattle.lrp_keep.specs.Keeps.{CanBeHeld, IsWithinLimits, scaled_reach_of, with_row}
+use Rattle.lrp_keep.specs.States.{CanBeHeldIn, CanDeriveEach, HasSomeLargePart, IsHoldingCause, IsKeeper, IsKeeping, IsLetGoFrom, IsStillState, ground_at, levels_of, view_of, with_held}
 use Rattle.lrp_kept.specs.Sketches.{AreSketchesOf, CanBeSketched}
 use Rattle.lrp_keep.specs.Unions.{AreDerived, AreDerivedBut, AreStillBut}
-use Rattle.lrp_keep.specs.Replaced.{replaced, with_rows as with_other_rows}
+use Rattle.lrp_keep.specs.Replaced.{replaced}
 use Rattle.lrp_keep.specs.declared.faults.KeepFault.TheVariants.{BoundLimit, TooManyCells}
 use Rattle.lrp_keep.specs.declared.kept_query.KeptQuery.{KeptQuery}
 use Rattle.lrp_keep.specs.declared.states.State.{State}
-use Rattle.lrp_keep.proofs.Alike.{AreAlike, keys_at, relisted_alike, relisted_twice}
+use Rattle.lrp_keep.proofs.Alike.{keys_at, relisted_alike, relisted_twice}
 use Rattle.lrp_keep.proofs.Counted.{joined_count}
 use Rattle.lrp_keep.proofs.Deriving.{IsReadable, read_by}
 use Rattle.lrp_keep.proofs.Exchanged.{all_fit, columns_stay, have_still, keeps_name, known_still}

@@ -1,16 +1,14 @@
 -- Relations that change one by one: what stands where.
-use Rattle.std.proofs.Common.{◌≡◌, ◌≢◌, ◌<◌, ◌≤◌, ◌+◌, ℕ, zero, suc, List, [], ◌∷◌, ◌++◌, length, map, Contains, Option, Some, None, ◌⊎◌, inl, inr, refl, sym, ap, ap₂, subst, ◌∙◌, append-nil, append_assoc, arith}
+use Rattle.std.proofs.Common.{◌≡◌, ◌<◌, ◌≤◌, ℕ, List, length, Option, Some, None, inl, inr, refl, sym, ap, subst, ◌∙◌, arith}
 use Rattle.std.specs.Prelude.{slice_get}
 use Rattle.slab.specs.Slab.{get}
 use Rattle.lrp_zone.proofs.Cases.{eq_or}
-use Rattle.lrp_kept.specs.Held.{bounds_of, names_of}
 use Rattle.lrp_kept.specs.Keys.{keys_in, keys_of}
 use Rattle.lrp_kept.specs.Keyed.{AreRelisted, AreSameRows, IsWithKeys}
 use Rattle.lrp_keep.specs.States.{IsMarked}
 use Rattle.lrp_keep.proofs.Lists.{none_past, past_end, some_at, some_same, there_is}
 use Rattle.lrp_kept.specs.declared.rows.HeldRelation.{HeldRelation}
 use Rattle.lrp_kept.specs.declared.rows.HeldRows.{HeldRows}
-use Rattle.lrp_kept.specs.declared.rows.Source.{Source}
 
 -- each relation is changed in the same way
 pub record AreAlike (alike : HeldRelation → HeldRelation → Type 0) (old new : List HeldRelation) : Type 0 where

@@ -1,5 +1,5 @@
 -- The answers of all whole choices, taken into one store over the columns of the head.
-use Rattle.std.proofs.Common.{◌≡◌, ◌<◌, ◌≤◌, ◌+◌, ◌-◌, ◌^◌, ℕ, zero, suc, List, [], ◌∷◌, length, map, Option, Some, Contains, refl, sym, ap, subst, ◌∙◌, arith}
+use Rattle.std.proofs.Common.{◌≡◌, ◌<◌, ◌≤◌, ◌+◌, ◌-◌, ◌^◌, ℕ, List, length, Some, Contains, refl, sym, ap, ◌∙◌, arith}
 use Rattle.std.specs.Prelude.{ℤ, slice_get}
 use Rattle.std.specs.FinMap as finite
 use Rattle.std.proofs.lemmas.Option.{same_Some}
@@ -7,7 +7,6 @@ use Rattle.lrp_model.specs.declared.tuples.Shape.{Shape}
 use Rattle.lrp_store.specs.Stores.{HasReach, InStore, IsStore, StoreView}
 use Rattle.lrp_tables.proofs.Passing.{nothing_at}
 use Rattle.lrp_tables.specs.Columns.{head_texts, head_times}
-use Rattle.lrp_kept.specs.declared.disjuncts.Disjunct.{Disjunct}
 use Rattle.lrp_parts.specs.Derivations.{HoldsIn, Levels}
 use Rattle.lrp_keep.specs.States.{IsKeeping, levels_of}
 use Rattle.lrp_keep.specs.Taken.{AreAlike, HasTakenSome, HaveReach}
@@ -20,7 +19,7 @@ use Rattle.std.specs.Prelude.{nat_abs, pos}
 use Rattle.std.proofs.lemmas.Int.{ints}
 use Rattle.lrp_algebra.proofs.Steps.{store_period}
 use Rattle.lrp_limits.specs.declared.periods.Period.{Period}
-use Rattle.lrp_keep.proofs.Lists.{got, length_mapped, some_at, there_is}
+use Rattle.lrp_keep.proofs.Lists.{got, some_at, there_is}
 use Rattle.lrp_keep.proofs.Taken.{HoldsAmong, holds_all, none_among}
 
 abbrev as_shape : ℕ → ℕ → Shape

@@ -1,5 +1,5 @@
 -- Whether the kept reach is above its limit, by how far it is counted.
-use Rattle.std.proofs.Common.{◌≡◌, ◌<◌, ◌≤◌, ◌+◌, ◌^◌, ℕ, true, false, List, ltb, subst, arith}
+use Rattle.std.proofs.Common.{◌≡◌, ◌<◌, ◌≤◌, ℕ, true, false, List, ltb, subst, arith}
 use Rattle.std.proofs.lemmas.Bool.{ltb-false, ltb-true}
 use Rattle.lrp_model.specs.declared.relations.Column.{Column}
 use Rattle.lrp_limits.specs.Capped.{capped}

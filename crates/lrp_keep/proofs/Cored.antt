@@ -1,12 +1,12 @@
 -- The atoms and periods of a query are those of its disjuncts.
-use Rattle.std.proofs.Common.{◌≡◌, ◌≢◌, ◌<◌, ◌≤◌, ◌+◌, ℕ, zero, suc, Bool, true, false, List, [], ◌∷◌, ◌++◌, length, map, flat_map, Contains, Option, Some, None, ◌⊎◌, inl, inr, refl, sym, ap, subst, ◌∙◌, bytes_eq, arith}
-use Rattle.std.specs.Prelude.{◌==◌, ◌||◌, if◌then◌else◌, nat_abs, slice_get}
-use Rattle.std.specs.List.{AllByRecursion, AllZip, list_any}
+use Rattle.std.proofs.Common.{◌≡◌, ◌≢◌, ◌<◌, ℕ, zero, suc, Bool, true, false, List, [], ◌∷◌, ◌++◌, length, map, flat_map, Contains, Option, Some, None, ◌⊎◌, inl, inr, refl, sym, ap, subst, ◌∙◌, bytes_eq, arith}
+use Rattle.std.specs.Prelude.{◌==◌, if◌then◌else◌, slice_get}
+use Rattle.std.specs.List.{AllByRecursion, list_any}
 use Rattle.std.specs.Cmp.Lexicographic.{bytes_decides}
 use Rattle.std.proofs.lemmas.Bool.{eqb-true, false≢true}
 use Rattle.lrp_model.specs.Core.{disjuncts, positive}
 use Rattle.lrp_model.specs.Formulas.{Form, Forms, Question, atom, test, sorted, negation, conjunction, disjunction, implication, exists, forall, no_forms, form}
-use Rattle.lrp_model.specs.Periods.{periods, periods_each, test_periods, value_periods}
+use Rattle.lrp_model.specs.Periods.{periods, periods_each, test_periods}
 use Rattle.lrp_model.specs.Rows.{rows_in, rows_of, relation_named}
 use Rattle.lrp_model.specs.Texts.{AreDistinct, Identifier}
 use Rattle.lrp_model.specs.declared.formulas.Test.{Test}

@@ -1,10 +1,10 @@
 -- An atom has a term for each column of its relation.
-use Rattle.std.proofs.Common.{◌≡◌, ◌<◌, ℕ, true, false, Bool, List, length, Contains, Option, Some, None, refl, sym, ap, subst, ◌∙◌, arith}
+use Rattle.std.proofs.Common.{◌≡◌, false, List, length, Contains, Option, Some, None, sym, ap, subst, ◌∙◌}
 use Rattle.std.specs.Prelude.{slice_get, MatchOption}
 use Rattle.slab.specs.Slab.{get}
 use Rattle.lrp_model.specs.Formulas.{Form, Question}
 use Rattle.lrp_model.specs.Rows.{relation_named}
-use Rattle.lrp_model.specs.Texts.{AreDistinct, Identifier}
+use Rattle.lrp_model.specs.Texts.{AreDistinct}
 use Rattle.lrp_model.specs.declared.relations.Column.{Column}
 use Rattle.lrp_model.specs.declared.relations.Relation.{Relation}
 use Rattle.lrp_plan_laws.specs.Atoms.{Atom, atoms, atoms_each}

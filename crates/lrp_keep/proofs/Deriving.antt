@@ -1,7 +1,7 @@
 -- What derivations ask of a disjunct, from its form, the kept reach and the held rows.
-use Rattle.std.proofs.Common.{◌≡◌, ◌<◌, ◌≤◌, ◌+◌, ◌*◌, ◌^◌, ℕ, suc, true, false, Bool, List, [], ◌∷◌, ◌++◌, length, Contains, Option, Some, refl, sym, subst, arith}
+use Rattle.std.proofs.Common.{◌≡◌, ◌<◌, ◌≤◌, ◌+◌, ◌*◌, ◌^◌, ℕ, true, false, List, [], length, Contains, Some, arith}
 use Rattle.std.specs.Prelude.{◌-◌, pos, ◌≤ℤ◌, slice_get}
-use Rattle.std.specs.List.{AllByRecursion, AllZip}
+use Rattle.std.specs.List.{AllByRecursion}
 use Rattle.std.proofs.lemmas.Nat.{mul-le}
 use Rattle.slab.specs.Slab.{get}
 use Rattle.lrp_theory.specs.Divides.{Divides}
@@ -17,7 +17,7 @@ use Rattle.lrp_tables.specs.Calls.{test_period, tests_reach}
 use Rattle.lrp_tables.specs.Columns.{head_texts, head_times}
 use Rattle.lrp_algebra.specs.Rows.{bounds_reach, CanBeRead, DividesPeriod}
 use Rattle.lrp_minus.proofs.Lists.{got_in}
-use Rattle.lrp_parts.specs.Derivations.{CanBeReadBy, CanDerive, Ground, last_of}
+use Rattle.lrp_parts.specs.Derivations.{CanBeReadBy, CanDerive, Ground}
 use Rattle.lrp_kept.specs.Keys.{keys_of}
 use Rattle.lrp_kept.specs.Disjuncts.{IsAtomOf, IsDisjunctOf}
 use Rattle.lrp_kept.specs.KeptForm.{elements, is_conjunctive, is_neither, some_passes}

@@ -1,5 +1,5 @@
 -- Disjuncts are derived one after the other.
-use Rattle.std.proofs.Common.{◌≡◌, ◌≢◌, ◌<◌, ◌≤◌, ◌+◌, ℕ, zero, suc, List, [], ◌∷◌, ◌++◌, length, map, Option, Some, None, ◌⊎◌, inl, inr, refl, sym, ap, subst, ◌∙◌, length-append, arith}
+use Rattle.std.proofs.Common.{◌≡◌, ◌≢◌, ◌<◌, ◌≤◌, ◌+◌, ℕ, zero, suc, List, [], ◌∷◌, ◌++◌, length, map, Some, ◌⊎◌, inl, inr, refl, sym, ap, subst, ◌∙◌, length-append, arith}
 use Rattle.std.specs.Prelude.{slice_get}
 use Rattle.std.proofs.lemmas.Bool.{cases_lt}
 use Rattle.lrp_zone.proofs.Cases.{eq_or}
@@ -8,7 +8,7 @@ use Rattle.lrp_parts.specs.Derivations.{AreReleased, Ground, HoldsNothingFor, Is
 use Rattle.lrp_parts.specs.declared.derivation.Derived.{Derived}
 use Rattle.lrp_parts.proofs.Without.{derived_but}
 use Rattle.lrp_keep.specs.Unions.{AreDerived, AreDerivedBut, AreStillBut}
-use Rattle.lrp_keep.proofs.Lists.{at_mapped, length_mapped, mapped_at, none_some, some_at, some_same, there_is}
+use Rattle.lrp_keep.proofs.Lists.{at_mapped, length_mapped, mapped_at, none_some, some_same, there_is}
 
 abbrev pub levels_in : List Derived → List Levels
 levels_in all = map (λ d. d.levels.items) all

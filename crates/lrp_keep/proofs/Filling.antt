@@ -1,24 +1,23 @@
 -- The rows of a database are held one after the other.
-use Rattle.std.proofs.Common.{◌≡◌, ◌≢◌, ◌<◌, ◌≤◌, ◌+◌, ℕ, zero, suc, List, [], ◌∷◌, ◌++◌, length, map, flat_map, take, Contains, Option, Some, None, inl, inr, refl, sym, ap, ap₂, subst, ◌∙◌, append-nil, append_assoc, arith}
+use Rattle.std.proofs.Common.{◌≡◌, ◌≢◌, ◌<◌, ◌+◌, ℕ, List, [], ◌∷◌, ◌++◌, length, Contains, Some, inl, inr, refl, sym, ap, ap₂, subst, ◌∙◌, append-nil, append_assoc, arith}
 use Rattle.std.specs.Prelude.{slice_get}
 use Rattle.slab.specs.Slab.{get}
 use Rattle.lrp_model.specs.declared.relations.Relation.{Relation}
 use Rattle.lrp_model.specs.declared.relations.Row.{Row}
 use Rattle.lrp_model.proofs.Decided.{cons_cases}
-use Rattle.lrp_plan_laws.proofs.Members.{in_left, in_one, in_right}
+use Rattle.lrp_plan_laws.proofs.Members.{in_one, in_right}
 use Rattle.lrp_zone.proofs.Cases.{eq_or}
-use Rattle.lrp_kept.specs.Held.{bounds_of, names_of, relation_of, relations_of, row_of}
-use Rattle.lrp_kept.specs.Keyed.{AreHeldRows, AreRelisted, IsHeldBehind, IsWithKeys}
+use Rattle.lrp_kept.specs.Held.{row_of}
+use Rattle.lrp_kept.specs.Keyed.{AreHeldRows, AreRelisted, IsHeldBehind}
 use Rattle.lrp_kept.specs.Keys.{keys_in, keys_of}
-use Rattle.lrp_kept.specs.declared.rows.HeldRelation.{HeldRelation}
 use Rattle.lrp_kept.specs.declared.rows.HeldRows.{HeldRows}
 use Rattle.lrp_kept.specs.declared.rows.Source.{Source}
-use Rattle.lrp_parts.proofs.Rekeyed.{held_rows, held_without, keys_here, keys_there}
-use Rattle.lrp_keep.specs.States.{AreAllHeld, AreHeldAlso, HasSketches, IsFilled}
+use Rattle.lrp_parts.proofs.Rekeyed.{held_rows, keys_here, keys_there}
+use Rattle.lrp_keep.specs.States.{AreAllHeld, AreHeldAlso}
 use Rattle.lrp_kept.specs.Sketches.{AreSketchesOf}
 use Rattle.lrp_keep.specs.declared.kept_query.KeptQuery.{KeptQuery}
 use Rattle.lrp_keep.proofs.Alike.{keys_at, relisted_same, relisted_twice}
-use Rattle.lrp_keep.proofs.Lists.{none_some, some_at, some_same, there_is}
+use Rattle.lrp_keep.proofs.Lists.{none_some, some_same}
 use Rattle.lrp_keep.proofs.Views.{rows_both, rows_same, rows_under}
 
 -- ---- the rows of one relation

@@ -1,19 +1,16 @@
 -- The answer of a keeper's state is just that of the query over the rows now held, and its zones are small.
-use Rattle.std.proofs.Common.{◌≡◌, ◌↔◌, ◌<◌, ◌≤◌, ◌*◌, ℕ, true, Bool, List, length, map, Contains, Some, refl, sym, ap, ap₂, subst, ◌∙◌}
+use Rattle.std.proofs.Common.{◌≡◌, ℕ, true, List, length, map, Contains, Some, sym, ap, ap₂, subst, ◌∙◌}
 use Rattle.std.specs.Prelude.{◌&&◌, reverse, slice_get}
 use Rattle.std.specs.List.{AllByRecursion}
 use Rattle.slab.specs.Slab.{get}
 use Rattle.lrp_model.specs.Checked.{plain_question}
 use Rattle.lrp_model.specs.DatabaseMeaning.{column_of}
 use Rattle.lrp_model.specs.Domains.{constants}
-use Rattle.lrp_model.specs.Formulas.{Form, Question, question_of}
+use Rattle.lrp_model.specs.Formulas.{Question, question_of}
 use Rattle.lrp_model.specs.Plans.{time_columns}
-use Rattle.lrp_model.specs.Rows.{Datum}
-use Rattle.lrp_model.specs.Satisfaction.{IsAnswer}
 use Rattle.lrp_model.specs.Texts.{Identifier}
 use Rattle.lrp_model.specs.Variables.{head_variables}
 use Rattle.lrp_model.specs.declared.relations.Column.{Column}
-use Rattle.lrp_model.specs.declared.relations.Relation.{Relation}
 use Rattle.lrp_store.specs.Tables.{InAnswer}
 use Rattle.lrp_store.specs.declared.answer.Answer.{Answer}
 use Rattle.lrp_tables.specs.Columns.{head_times}

@@ -1,21 +1,20 @@
 -- The answers of all whole choices are those of the query.
-use Rattle.std.proofs.Common.{◌≡◌, ◌≢◌, ◌↔◌, ◌<◌, ◌≤◌, ◌+◌, ◌-◌, ℕ, zero, suc, Bool, true, false, cond, List, [], ◌∷◌, ◌++◌, length, map, flat_map, Contains, Option, Some, None, ◌⊎◌, inl, inr, refl, sym, ap, ap₂, subst, ◌∙◌, bytes_eq, arith}
-use Rattle.std.specs.Prelude.{ℤ, pos, ◌&&◌, not, slice_get}
+use Rattle.std.proofs.Common.{◌≡◌, ◌≢◌, ◌<◌, ◌+◌, ◌-◌, ℕ, zero, suc, Bool, true, false, cond, List, [], ◌∷◌, length, map, flat_map, Contains, Option, Some, None, ◌⊎◌, inl, inr, refl, sym, ap, ap₂, subst, ◌∙◌, bytes_eq, arith}
+use Rattle.std.specs.Prelude.{pos, ◌&&◌, not, slice_get}
 use Rattle.std.proofs.lemmas.List.{length-map}
-use Rattle.std.specs.List.{AllByRecursion, AllZip, list_all}
+use Rattle.std.specs.List.{AllByRecursion, AllZip}
 use Rattle.slab.specs.Slab.{get}
 use Rattle.lrp_model.specs.Core.{conjuncts}
-use Rattle.lrp_model.specs.Domains.{database_texts, domain as domain_of}
+use Rattle.lrp_model.specs.Domains.{domain as domain_of}
 use Rattle.lrp_model.specs.Formulas.{Form, Forms, Question, atom, test as test_form, sorted as sorted_form, negation, conjunction, disjunction, implication, exists, forall, no_forms, form}
-use Rattle.lrp_model.specs.Rows.{Datum, time, text, rows_of, texts_of, times_of}
-use Rattle.lrp_model.specs.Satisfaction.{Assignment, HasShape, HaveNames, IsAnswer, IsOfKind, IsOfSort, Passes, Satisfies, Structure, assign, assignment, structure, with_value}
+use Rattle.lrp_model.specs.Rows.{Datum, time, text, texts_of, times_of}
+use Rattle.lrp_model.specs.Satisfaction.{Assignment, HasShape, HaveNames, IsAnswer, IsOfKind, IsOfSort, Passes, Structure, assign, assignment, structure, with_value}
 use Rattle.lrp_model.specs.Sorts.{is_data}
 use Rattle.lrp_model.specs.Texts.{AreDistinct, Ascends, Identifier, Text}
 use Rattle.lrp_model.specs.Variables.{Variable, data_variable, bound_by, head_variables}
 use Rattle.lrp_model.specs.declared.formulas.Test.{Test}
 use Rattle.lrp_model.specs.declared.relations.Column.{Column}
 use Rattle.lrp_model.specs.declared.relations.Relation.{Relation}
-use Rattle.lrp_model.specs.declared.relations.Row.{Row}
 use Rattle.lrp_model.specs.declared.relations.Sort.{Sort}
 use Rattle.lrp_model.specs.declared.relations.Sort.TheVariants.{Time, Data, Named}
 use Rattle.lrp_model.proofs.Decided.{cons_cases, contains_first, contains_later, stable_of}
@@ -27,19 +26,18 @@ use Rattle.lrp_tables.proofs.TableLaws.{decided_store}
 use Rattle.lrp_tables.specs.Columns.{head_texts, head_times, text_name, texts_of_term, with_time_name}
 use Rattle.lrp_tables.specs.Tables.{Has, HasTexts}
 use Rattle.lrp_parts.specs.Bound.{AreCompleted}
-use Rattle.lrp_kept.specs.Choices.{ChosenWithValues, IsChosenBy, IsDerived, Matches, as_list, listed_disjuncts, tests_among}
-use Rattle.lrp_parts.specs.Derivations.{AreAnswersOf, AreKeysFor, Ground, HasChoices, HoldsIn, IsDerivedFor, IsDerivedFrom, IsHeldFor, IsOfChoice, IsOfPart, IsTogether, Levels, MatchKeys, last_of, tests_in, tests_of_part, texts_in}
+use Rattle.lrp_kept.specs.Choices.{ChosenWithValues, IsChosenBy, IsDerived, as_list, listed_disjuncts, tests_among}
+use Rattle.lrp_parts.specs.Derivations.{AreKeysFor, Ground, HoldsIn, IsDerivedFor, IsDerivedFrom, IsHeldFor, IsOfChoice, IsOfPart, Levels, last_of, tests_in, tests_of_part, texts_in}
 use Rattle.lrp_kept.specs.Keys.{keys_of}
 use Rattle.lrp_kept.specs.Disjuncts.{AreDisjunctsOf, IsAtomOf, IsDisjunctOf, bound_columns}
 use Rattle.lrp_kept.specs.Held.{names_of, relations_of}
 use Rattle.lrp_kept.specs.KeptForm.{all_occur, all_pass, bound_variables, elements, is_atom_with, is_conjunctive, is_disjunct, is_kept, is_neither, matrix, query_disjuncts, some_passes}
 use Rattle.lrp_kept.specs.SortedForms.{IsSortedForm, binders_at}
-use Rattle.lrp_keep.specs.Unions.{AreDerived, HoldsAll, IsFoundIn}
+use Rattle.lrp_keep.specs.Unions.{AreDerived, HoldsAll}
 use Rattle.lrp_kept.specs.declared.disjuncts.Disjunct.{Disjunct}
 use Rattle.lrp_kept.specs.declared.disjuncts.JoinedAtom.{JoinedAtom}
-use Rattle.lrp_kept.specs.declared.rows.Source.{Source}
 use Rattle.lrp_plan_laws.proofs.CoreLaws.{own_name}
-use Rattle.lrp_parts.proofs.Completed.{HasSortedTexts, binders_stay, from_chosen, in_the_end, other_text, other_time, text_of_sort, to_chosen}
+use Rattle.lrp_parts.proofs.Completed.{HasSortedTexts, binders_stay, from_chosen, in_the_end, other_text, other_time, to_chosen}
 use Rattle.lrp_kept.proofs.Derived.{body_from, body_to}
 use Rattle.lrp_kept.proofs.DisjunctAtoms.{HaveOwnNames, atoms_are, binder_text, own_names_at, sorted_atoms, sorted_elements, some_text}
 use Rattle.lrp_parts.proofs.KeyedRows.{keys_chosen, rows_chosen}

@@ -1,5 +1,5 @@
 -- What kept form says of each disjunct, and what the kept reach reads of relations.
-use Rattle.std.proofs.Common.{◌≡◌, ◌+◌, ◌*◌, ◌^◌, ℕ, Bool, true, false, not, List, [], ◌∷◌, ◌++◌, length, map, flat_map, refl, sym, ap, ap₂, subst, ◌∙◌, cond, bytes_eq, Contains}
+use Rattle.std.proofs.Common.{◌≡◌, ◌+◌, ◌*◌, ◌^◌, ℕ, Bool, true, false, not, List, [], ◌∷◌, ◌++◌, length, map, flat_map, refl, ap, ap₂, bytes_eq, Contains}
 use Rattle.std.specs.Prelude.{◌&&◌, if◌then◌else◌}
 use mathlib.Core.Path.{fun_ext}
 use Rattle.lrp_model.specs.Formulas.{Form, Question}

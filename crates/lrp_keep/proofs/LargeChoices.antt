@@ -1,11 +1,10 @@
 -- Some part of some choice has too many cells just where one by keys has.
-use Rattle.std.proofs.Common.{◌≡◌, ◌<◌, ◌≤◌, ◌+◌, ◌-◌, ℕ, zero, suc, List, [], ◌∷◌, ◌++◌, length, flat_map, take, Contains, Option, Some, None, refl, sym, ap, subst, ◌∙◌, arith}
-use Rattle.std.specs.Prelude.{slice_get}
+use Rattle.std.proofs.Common.{◌≡◌, ◌<◌, ◌≤◌, ◌-◌, ℕ, zero, suc, List, [], ◌∷◌, ◌++◌, length, take, Contains, Some, refl, sym, ap, subst, arith}
 use Rattle.std.specs.List.{AllByRecursion, AllZip}
 use Rattle.slab.specs.Slab.{get}
-use Rattle.lrp_model.specs.Formulas.{Form, Question}
+use Rattle.lrp_model.specs.Formulas.{Question}
 use Rattle.lrp_model.specs.Rows.{rows_of}
-use Rattle.lrp_model.specs.Texts.{AreDistinct, Identifier}
+use Rattle.lrp_model.specs.Texts.{AreDistinct}
 use Rattle.lrp_model.specs.declared.relations.Relation.{Relation}
 use Rattle.lrp_model.specs.declared.relations.Row.{Row}
 use Rattle.lrp_plan_laws.specs.Atoms.{Atom, atoms}

@@ -1,5 +1,5 @@
 -- The bounds of held rows are no greater than the numbers beside their relations.
-use Rattle.std.proofs.Common.{◌≡◌, ◌<◌, ◌≤◌, ◌+◌, ◌*◌, ℕ, zero, suc, List, [], ◌∷◌, length, map, Contains, inl, inr, Option, Some, None, refl, sym, ap, subst, arith}
+use Rattle.std.proofs.Common.{◌≡◌, ◌<◌, ◌≤◌, ◌+◌, ℕ, zero, suc, List, [], ◌∷◌, length, Contains, inl, inr, Option, Some, None, refl, sym, ap, subst, arith}
 use Rattle.std.specs.Prelude.{◌-◌, slice_get, slice_index_or}
 use Rattle.slab.specs.Slab.{get}
 use Rattle.lrp_model.specs.Formulas.{Question}
@@ -8,7 +8,7 @@ use Rattle.lrp_model.proofs.Decided.{cons_cases, contains_none}
 use Rattle.lrp_algebra.specs.Rows.{bounds_reach}
 use Rattle.lrp_minus.proofs.Lists.{got_in}
 use Rattle.lrp_parts.specs.Derivations.{Ground, HoldsIn, Levels}
-use Rattle.lrp_kept.specs.Keys.{keys_in, keys_of}
+use Rattle.lrp_kept.specs.Keys.{keys_in}
 use Rattle.lrp_kept.specs.Disjuncts.{AreDisjunctsOf}
 use Rattle.lrp_kept.specs.Held.{AreLowRows, bounds_of, names_of, relations_of}
 use Rattle.lrp_kept.specs.Limits.{kept_reach, row_bound}
@@ -18,7 +18,6 @@ use Rattle.lrp_keep.specs.Unions.{AreDerived}
 use Rattle.lrp_kept.specs.declared.disjuncts.Disjunct.{Disjunct}
 use Rattle.lrp_kept.specs.declared.disjuncts.JoinedAtom.{JoinedAtom}
 use Rattle.lrp_kept.specs.declared.rows.HeldRelation.{HeldRelation}
-use Rattle.lrp_kept.specs.declared.rows.Source.{Source}
 use Rattle.lrp_keep.proofs.Reaching.{HaveLowRows, low_answers}
 use Rattle.lrp_kept.proofs.SameReach.{kept_reach_is}
 

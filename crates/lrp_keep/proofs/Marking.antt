@@ -1,5 +1,5 @@
 -- The relations of a database are looked at one after the other: their periods, and the greatest bounds of their rows.
-use Rattle.std.proofs.Common.{◌≡◌, ◌≢◌, ◌<◌, ◌≤◌, ◌+◌, ◌^◌, ℕ, suc, Bool, true, false, List, [], ◌∷◌, ◌++◌, length, flat_map, Option, Some, None, inl, inr, refl, sym, ap, subst, ◌∙◌, append-nil, append_assoc, arith}
+use Rattle.std.proofs.Common.{◌≡◌, ◌<◌, ◌≤◌, ◌+◌, ◌^◌, ℕ, suc, Bool, true, false, List, [], ◌∷◌, ◌++◌, flat_map, Option, Some, None, inl, inr, refl, sym, ap, subst, ◌∙◌, append-nil, append_assoc, arith}
 use Rattle.std.specs.Prelude.{if◌then◌else◌, slice_get, MatchOption}
 use Rattle.std.specs.List.{AllByRecursion, list_any}
 use Rattle.lrp_model.specs.declared.relations.Relation.{Relation}
@@ -13,7 +13,6 @@ use Rattle.lrp_limits.proofs.Raised.{raised, raised_above}
 use Rattle.lrp_kept.specs.Limits.{raised_period, relation_bound, row_periods}
 use Rattle.lrp_kept.specs.Sizes.{is_reader, number_in}
 use Rattle.lrp_kept.specs.declared.disjuncts.Disjunct.{Disjunct}
-use Rattle.lrp_kept.specs.declared.rows.HeldRelation.{HeldRelation}
 use Rattle.lrp_kept.specs.declared.rows.HeldRows.{HeldRows}
 use Rattle.lrp_keep.specs.States.{AreMarkedBy, IsMarked, periods_at, read_periods}
 use Rattle.lrp_keep.proofs.Lists.{some_same}

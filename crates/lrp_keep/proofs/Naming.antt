@@ -1,11 +1,11 @@
 -- Relations by name and by number: what calls ask of a keeper.
-use Rattle.std.proofs.Common.{◌≡◌, ◌<◌, ℕ, true, false, Bool, List, [], ◌∷◌, length, map, Contains, Option, Some, None, refl, sym, ap, subst, ◌∙◌, bytes_eq, arith}
+use Rattle.std.proofs.Common.{◌≡◌, ℕ, true, false, Bool, List, [], ◌∷◌, map, Contains, Option, Some, None, refl, sym, ap, subst, ◌∙◌, bytes_eq}
 use Rattle.std.specs.Prelude.{if◌then◌else◌, reverse, slice_get, MatchOption}
 use Rattle.std.specs.List.{AllByRecursion}
 use Rattle.std.specs.Cmp.Lexicographic.{bytes_decides}
 use Rattle.slab.specs.Slab.{get}
 use Rattle.lrp_model.specs.DatabaseMeaning.{column_of}
-use Rattle.lrp_model.specs.Formulas.{Form, Question}
+use Rattle.lrp_model.specs.Formulas.{Question}
 use Rattle.lrp_model.specs.Rows.{relation_named}
 use Rattle.lrp_model.specs.Texts.{Identifier, Text}
 use Rattle.lrp_model.specs.declared.relations.Column.{Column}
@@ -16,7 +16,7 @@ use Rattle.lrp_plan_laws.specs.Atoms.{Atom, atoms, atoms_each}
 use Rattle.lrp_plan_laws.proofs.Members.{all_by, all_of}
 use Rattle.lrp_kept.specs.Choices.{listed_disjuncts}
 use Rattle.lrp_kept.specs.Drafts.{CanBeJoinedUp}
-use Rattle.lrp_kept.specs.Held.{names_of, relation_of, relations_of}
+use Rattle.lrp_kept.specs.Held.{names_of, relation_of}
 use Rattle.lrp_kept.specs.KeptForm.{elements}
 use Rattle.lrp_kept.specs.SortedForms.{IsSortedAtom, IsSortedForm, binders_at}
 use Rattle.lrp_kept.specs.declared.rows.HeldRelation.{HeldRelation}
@@ -28,7 +28,7 @@ use Rattle.lrp_keep.specs.declared.kept_query.KeptQuery.{KeptQuery}
 use Rattle.lrp_keep.specs.declared.states.State.{State}
 use Rattle.lrp_keep.proofs.Adding.{names_in}
 use Rattle.lrp_keep.proofs.KeptParts.{conjunctive_of, literal_in}
-use Rattle.lrp_keep.proofs.Lists.{at_mapped, got, mapped_at, one_place, place_of, some_same}
+use Rattle.lrp_keep.proofs.Lists.{at_mapped, got, mapped_at, one_place, place_of}
 
 -- the name of a relation that is found is one of the names
 pub found_name : (db : List Relation) (name : Identifier) (r : Relation) → relation_named db name ≡ Some r → Contains (map (λ (r : Relation). r.name) db) name

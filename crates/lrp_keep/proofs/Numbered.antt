@@ -1,5 +1,5 @@
 -- The numbers of texts in a store of answers are numbers of the domain.
-use Rattle.std.proofs.Common.{◌≡◌, ◌<◌, ◌≤◌, ◌+◌, ◌-◌, ℕ, zero, suc, List, [], ◌∷◌, length, take, Option, Some, None, Contains, inl, inr, refl, sym, ap, ap₂, subst, ◌∙◌, arith}
+use Rattle.std.proofs.Common.{◌≡◌, ◌<◌, ◌+◌, ◌-◌, ℕ, suc, List, [], ◌∷◌, length, take, Option, Some, None, Contains, inl, inr, refl, sym, ap, subst, ◌∙◌, arith}
 use Rattle.std.specs.Prelude.{ℤ, IsSome, slice_get, slice_index, unwrap_or}
 use Rattle.std.specs.FinMap as finite
 use Rattle.std.proofs.lemmas.List.{get_or-take}
@@ -8,9 +8,8 @@ use Rattle.lrp_model.specs.Texts.{Identifier, Text}
 use Rattle.lrp_model.specs.declared.relations.Column.{Column}
 use Rattle.lrp_model.specs.declared.relations.Sort.{Sort}
 use Rattle.lrp_model.specs.declared.relations.Sort.TheVariants.{Time, Data, Named}
-use Rattle.lrp_model.specs.declared.tuples.Cell.{Cell}
 use Rattle.lrp_model.specs.declared.tuples.Shape.{Shape}
-use Rattle.lrp_store.specs.Stores.{InStore, IsStore, StoreView, tables_at, zone_of}
+use Rattle.lrp_store.specs.Stores.{InStore, IsStore, StoreView, tables_at}
 use Rattle.lrp_store.specs.Tables.{AreNumbered}
 use Rattle.lrp_store.proofs.Aligning.{head_in}
 use Rattle.lrp_store.proofs.Held.{Table, zone_held}

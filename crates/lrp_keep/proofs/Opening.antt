@@ -1,14 +1,14 @@
 -- A database whose rows are held: the period, the limits, and what can be derived.
-use Rattle.std.proofs.Common.{◌≡◌, ◌≢◌, ◌<◌, ◌≤◌, ◌+◌, ◌*◌, ◌^◌, ℕ, zero, suc, true, false, Bool, List, [], ◌∷◌, ◌++◌, length, map, flat_map, Contains, Option, Some, None, inl, inr, refl, sym, ap, ap₂, subst, ◌∙◌, bytes_eq, map-id, arith}
+use Rattle.std.proofs.Common.{◌≡◌, ◌<◌, ◌≤◌, ◌*◌, ◌^◌, ℕ, true, false, Bool, List, [], ◌∷◌, ◌++◌, length, map, flat_map, Contains, Option, Some, None, refl, sym, ap, subst, ◌∙◌, bytes_eq, map-id, arith}
 use Rattle.std.specs.Prelude.{◌==◌, ℤ, pos, ◌≤ℤ◌, nat_abs, reverse, slice_get, slice_index_or, if◌then◌else◌}
-use Rattle.std.specs.List.{AllByRecursion, AllZip, list_any}
+use Rattle.std.specs.List.{AllByRecursion, list_any}
 use Rattle.std.proofs.lemmas.Int.{ints}
 use Rattle.slab.specs.Slab.{get}
 use Rattle.lrp_theory.specs.Divides.{Divides}
 use Rattle.lrp_model.specs.Checked.{plain_question}
 use Rattle.lrp_model.specs.DatabaseMeaning.{column_of}
 use Rattle.lrp_model.specs.Formulas.{Form, Question, question_of}
-use Rattle.lrp_model.specs.Periods.{IsMultiple, lcm_all, period as period_of, periods, test_periods}
+use Rattle.lrp_model.specs.Periods.{IsMultiple, period as period_of, periods, test_periods}
 use Rattle.lrp_model.specs.Rows.{relation_named}
 use Rattle.lrp_model.specs.TestPoints.{points}
 use Rattle.lrp_model.specs.Texts.{AreDistinct, Identifier, Text}
@@ -31,16 +31,15 @@ use Rattle.lrp_limits.proofs.Keeping.{least_is}
 use Rattle.lrp_limits.proofs.Raised.{above, period_from}
 use Rattle.lrp_tables.specs.Calls.{test_period}
 use Rattle.lrp_tables.specs.Columns.{head_texts, head_times}
-use Rattle.lrp_algebra.specs.Rows.{bounds_reach}
-use Rattle.lrp_kept.specs.Choices.{HasLargePart as HasLargeChoice, disjunct_tests, listed_disjuncts}
+use Rattle.lrp_kept.specs.Choices.{HasLargePart as HasLargeChoice, listed_disjuncts}
 use Rattle.lrp_kept.specs.Disjuncts.{AreDisjunctsOf, IsDisjunctOf}
 use Rattle.lrp_kept.specs.Held.{AreLowRows, bounds_of, names_of, relation_of, relations_of}
-use Rattle.lrp_kept.specs.Keyed.{AreHeldRows, IsEmptyOf, StandOnce}
-use Rattle.lrp_kept.specs.KeptForm.{elements, is_kept, is_neither, some_passes}
+use Rattle.lrp_kept.specs.Keyed.{AreHeldRows, StandOnce}
+use Rattle.lrp_kept.specs.KeptForm.{elements, is_neither, some_passes}
 use Rattle.lrp_kept.specs.Keys.{keys_in, keys_of}
 use Rattle.lrp_kept.specs.Limits.{relation_bound, row_bound, row_periods, scaled_kept_reach}
 use Rattle.lrp_kept.specs.SortedForms.{HaveColumnsOf, IsSortedForm}
-use Rattle.lrp_kept.specs.Sizes.{is_reader, joined_reach, number_in, scaled_over, tested_periods}
+use Rattle.lrp_kept.specs.Sizes.{is_reader, joined_reach, scaled_over, tested_periods}
 use Rattle.lrp_kept.specs.declared.disjuncts.Disjunct.{Disjunct}
 use Rattle.lrp_kept.specs.declared.disjuncts.JoinedAtom.{JoinedAtom}
 use Rattle.lrp_kept.specs.declared.rows.HeldRelation.{HeldRelation}
@@ -50,24 +49,23 @@ use Rattle.lrp_kept.proofs.Room.{at_most, atom_room, below_greatest}
 use Rattle.lrp_kept.proofs.SortedDisjuncts.{disjunct_in_head, disjunct_narrow, few_head_texts, few_head_times, head_named}
 use Rattle.lrp_kept.proofs.SortedForms.{disjuncts_sorted}
 use Rattle.lrp_kept.proofs.SortedHeads.{same_form}
-use Rattle.lrp_parts.specs.Derivations.{CanDerive, Ground}
+use Rattle.lrp_parts.specs.Derivations.{CanDerive}
 use Rattle.lrp_parts.proofs.KeyedRows.{row_of_key}
 use Rattle.lrp_parts.proofs.Narrow.{can_be_joined, fits_elements}
-use Rattle.lrp_keep.specs.Keeps.{CanBeHeld, CanBeKept, HasTooManyCells, IsCause, IsSortedQuery, IsWithinLimits, opened, scaled_reach_of}
-use Rattle.lrp_keep.specs.States.{AreAllHeld, AreMarkedBy, CanBeOpened, CanDeriveEach, HasSketches, HasSomeLargePart, IsFilled, IsKeeper, ground_at, levels_of, periods_at, read_periods, view_of}
-use Rattle.lrp_kept.specs.Sketches.{AreSketchesOf, CanBeSketched}
+use Rattle.lrp_keep.specs.Keeps.{CanBeHeld, IsCause, IsWithinLimits, opened, scaled_reach_of}
+use Rattle.lrp_keep.specs.States.{AreAllHeld, AreMarkedBy, CanBeOpened, CanDeriveEach, HasSomeLargePart, IsFilled, IsKeeper, ground_at, levels_of, periods_at, read_periods, view_of}
+use Rattle.lrp_kept.specs.Sketches.{CanBeSketched}
 use Rattle.lrp_keep.specs.Unions.{AreDerived}
-use Rattle.lrp_keep.specs.declared.faults.KeepFault.TheVariants.{BoundLimit, PeriodLimit, TooManyCells}
+use Rattle.lrp_keep.specs.declared.faults.KeepFault.TheVariants.{BoundLimit, TooManyCells}
 use Rattle.lrp_keep.specs.declared.kept_query.KeptQuery.{KeptQuery}
 use Rattle.lrp_keep.specs.declared.states.State.{State}
 use Rattle.lrp_keep.proofs.Adding.{names_in, scaled_is}
-use Rattle.lrp_keep.proofs.Alike.{keys_at}
 use Rattle.lrp_keep.proofs.Cored.{periods_from, periods_to, read_in, tested_point}
 use Rattle.lrp_keep.proofs.Counted.{joined_count}
-use Rattle.lrp_keep.proofs.Deriving.{IsOfHead, IsReadable, can_derive}
+use Rattle.lrp_keep.proofs.Deriving.{IsReadable, can_derive}
 use Rattle.lrp_keep.proofs.KeptParts.{conjunctive_of, literal_of, scaled_named}
 use Rattle.lrp_keep.proofs.LargeChoices.{large_choice, no_large_choice}
-use Rattle.lrp_keep.proofs.Lists.{any_at, at_mapped, equal_self, from_flat, got, into_flat, length_mapped, mapped_at, place_of, same_images, some_at, some_same, there_is, zip_of}
+use Rattle.lrp_keep.proofs.Lists.{any_at, equal_self, got, into_flat, length_mapped, mapped_at, place_of, same_images, some_at, some_same, there_is, zip_of}
 use Rattle.lrp_keep.proofs.LowRows.{most_at}
 use Rattle.lrp_keep.proofs.Readable.{can_be_read, low_periods, readable, to_divides}
 use Rattle.lrp_keep.proofs.Views.{rows_under}

@@ -1,5 +1,5 @@
 -- The number beside a relation is raised, or put back: the keeper's rows and what is derived stay.
-use Rattle.std.proofs.Common.{◌≡◌, ◌<◌, ◌≤◌, ◌*◌, ◌^◌, ℕ, max, Vec, Global, Bool, true, false, List, [], ◌∷◌, length, map, flat_map, Contains, Option, Some, None, inl, inr, refl, sym, ap, ap₂, subst, ◌∙◌, bytes_eq, arith}
+use Rattle.std.proofs.Common.{◌≡◌, ◌<◌, ◌≤◌, ◌*◌, ◌^◌, ℕ, max, Vec, Global, Bool, true, false, List, [], ◌∷◌, length, map, Contains, Option, Some, inl, inr, refl, sym, ap, subst, ◌∙◌, bytes_eq, arith}
 use Rattle.std.specs.Prelude.{if◌then◌else◌, slice_get}
 use Rattle.std.specs.List.{AllByRecursion, list_any}
 use Rattle.slab.specs.Slab.{get}
@@ -16,10 +16,8 @@ use Rattle.lrp_plan_laws.proofs.Members.{all_by, all_of}
 use Rattle.lrp_plan_laws.proofs.PeriodLaws.{lcm_all_is, lcm_common, lcm_positive}
 use Rattle.lrp_zone.proofs.Cases.{eq_or}
 use Rattle.lrp_kept.specs.Disjuncts.{AreDisjunctsOf}
-use Rattle.lrp_kept.specs.Held.{AreLowRows, bounds_of, names_of, relation_of, relations_of, row_of}
-use Rattle.lrp_kept.specs.Keyed.{AreHeldRows, AreSameRows}
-use Rattle.lrp_kept.specs.Keys.{keys_of}
-use Rattle.lrp_kept.specs.Limits.{names_relation, raised_period, row_bound, row_periods}
+use Rattle.lrp_kept.specs.Held.{AreLowRows, bounds_of, names_of, relation_of, relations_of}
+use Rattle.lrp_kept.specs.Limits.{raised_period, row_bound, row_periods}
 use Rattle.lrp_kept.specs.SortedForms.{HaveColumnsOf}
 use Rattle.lrp_kept.specs.Sizes.{is_reader}
 use Rattle.lrp_kept.specs.declared.rows.HeldRelation.{HeldRelation}
@@ -35,11 +33,11 @@ use Rattle.lrp_keep.specs.declared.faults.KeepFault.{KeepFault}
 use Rattle.lrp_keep.specs.declared.faults.KeepFault.TheVariants.{PeriodLimit}
 use Rattle.lrp_keep.specs.declared.kept_query.KeptQuery.{KeptQuery}
 use Rattle.lrp_keep.specs.declared.states.State.{State}
-use Rattle.lrp_keep.proofs.Alike.{AreAlike, AreAsHeld, as_held_then, keys_at, marked_alike, marked_as_held, same_alike, same_as_held}
+use Rattle.lrp_keep.proofs.Alike.{AreAlike, AreAsHeld, as_held_then, marked_alike, marked_as_held, same_alike, same_as_held}
 use Rattle.lrp_keep.proofs.Carried.{same_can, same_derived, same_held_rows}
 use Rattle.lrp_keep.proofs.Cored.{reads}
-use Rattle.lrp_keep.proofs.Lists.{at_mapped, length_mapped, mapped_at, one_place, same_images, some_at, some_same, there_is}
-use Rattle.lrp_keep.proofs.Readable.{low_periods, multiple_then}
+use Rattle.lrp_keep.proofs.Lists.{at_mapped, mapped_at, one_place, same_images, some_at, some_same, there_is}
+use Rattle.lrp_keep.proofs.Readable.{multiple_then}
 use Rattle.lrp_keep.proofs.Views.{rows_same, rows_under}
 
 -- the same relation, with another number maybe

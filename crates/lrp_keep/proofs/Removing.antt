@@ -1,7 +1,7 @@
 -- A row less: what the keeper then stands for.
-use Rattle.std.proofs.Common.{◌≡◌, ◌≢◌, ◌<◌, ◌≤◌, ◌^◌, ℕ, zero, suc, Bool, true, false, List, [], ◌∷◌, ◌++◌, length, map, flat_map, Contains, Option, Some, None, inl, inr, refl, sym, ap, ap₂, subst, ◌∙◌, bytes_eq, arith}
+use Rattle.std.proofs.Common.{◌≡◌, ◌≢◌, ◌<◌, ◌≤◌, ◌^◌, ℕ, zero, suc, Bool, true, false, List, [], ◌∷◌, ◌++◌, length, map, Contains, Some, refl, sym, ap, ap₂, subst, ◌∙◌, bytes_eq, arith}
 use Rattle.std.specs.Prelude.{if◌then◌else◌, slice_get}
-use Rattle.std.specs.List.{All, AllByRecursion}
+use Rattle.std.specs.List.{AllByRecursion}
 use Rattle.std.proofs.lemmas.List.Elements.{All-from_recursion}
 use Rattle.slab.specs.Slab.{get}
 use Rattle.lrp_model.specs.Domains.{constants}
@@ -13,13 +13,12 @@ use Rattle.lrp_model.specs.declared.relations.Row.{Row}
 use Rattle.lrp_model.proofs.Decided.{contains_first, contains_later}
 use Rattle.lrp_model.proofs.Logic.{all_append}
 use Rattle.lrp_plan_laws.proofs.HeadLaws.{other_name}
-use Rattle.lrp_plan_laws.proofs.Members.{all_by, all_of, in_left, in_right}
-use Rattle.lrp_zone.proofs.Cases.{eq_or}
+use Rattle.lrp_plan_laws.proofs.Members.{all_by, all_of, in_right}
 use Rattle.lrp_kept.specs.EqualRows.{AreEqualRows}
 use Rattle.lrp_kept.specs.Held.{AreLowRows, bounds_of, names_of, relation_of, relations_of, row_of}
-use Rattle.lrp_kept.specs.Keyed.{HasNoEqualRow, IsFirstEqual, IsLetGoAt}
+use Rattle.lrp_kept.specs.Keyed.{HasNoEqualRow, IsLetGoAt}
 use Rattle.lrp_kept.specs.Keys.{keys_of}
-use Rattle.lrp_kept.specs.Limits.{row_bound, scaled_kept_reach}
+use Rattle.lrp_kept.specs.Limits.{row_bound}
 use Rattle.lrp_kept.specs.SortedForms.{HaveColumnsOf}
 use Rattle.lrp_kept.specs.declared.rows.HeldRelation.{HeldRelation}
 use Rattle.lrp_kept.specs.declared.rows.HeldRows.{HeldRows}
@@ -34,10 +33,10 @@ use Rattle.lrp_keep.specs.States.{IsKeeper, IsKeeping, IsRemoved, view_of}
 use Rattle.lrp_keep.specs.declared.kept_query.KeptQuery.{KeptQuery}
 use Rattle.lrp_keep.specs.declared.states.State.{State}
 use Rattle.lrp_keep.proofs.Adding.{names_in, names_replaced}
-use Rattle.lrp_keep.proofs.Alike.{AreAlike, keys_at, relisted_alike}
+use Rattle.lrp_keep.proofs.Alike.{keys_at, relisted_alike}
 use Rattle.lrp_keep.proofs.Exchanged.{all_fit, columns_stay, have_still, known_still}
 use Rattle.lrp_keep.proofs.KeptParts.{scaled_named}
-use Rattle.lrp_keep.proofs.Lists.{at_mapped, got, mapped_at, none_some, nowhere, place_of, same_images, some_at, some_same, there_is}
+use Rattle.lrp_keep.proofs.Lists.{at_mapped, none_some, place_of, same_images, some_at, some_same, there_is}
 use Rattle.lrp_keep.proofs.StateLaws.{state_after}
 use Rattle.lrp_keep.proofs.Views.{names_stay, relations_now, rows_both, rows_same, rows_under}
 

@@ -1,5 +1,5 @@
 -- What the answers of a keeper rest on, from a query that is well-sorted for relations of the same columns.
-use Rattle.std.proofs.Common.{◌≡◌, ℕ, true, List, map, Contains, Some, refl}
+use Rattle.std.proofs.Common.{◌≡◌, ℕ, true, List, map, Contains, Some}
 use Rattle.std.specs.Prelude.{reverse, slice_get}
 use Rattle.slab.specs.Slab.{get}
 use Rattle.lrp_model.specs.DatabaseMeaning.{column_of}
@@ -7,7 +7,7 @@ use Rattle.lrp_model.specs.Checked.{plain_question}
 use Rattle.lrp_model.specs.Domains.{constants}
 use Rattle.lrp_model.specs.RawQueries.{RawQuestion}
 use Rattle.lrp_model.specs.Sorting.{IsWellSorted}
-use Rattle.lrp_model.specs.Texts.{AreDistinct, Ascends, Text}
+use Rattle.lrp_model.specs.Texts.{AreDistinct, Ascends}
 use Rattle.lrp_model.specs.declared.relations.Relation.{Relation}
 use Rattle.std.specs.List.{AllByRecursion}
 use Rattle.lrp_plan_laws.proofs.GuardLaws.{domain_known}

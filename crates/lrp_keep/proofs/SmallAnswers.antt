@@ -1,5 +1,5 @@
 -- The zones of answers are small where no bound of theirs is above the kept reach.
-use Rattle.std.proofs.Common.{◌≡◌, ◌≤◌, ◌<◌, ◌+◌, ◌*◌, ◌^◌, ℕ, zero, suc, cond, filter, List, [], ◌∷◌, length, map, take, Option, Some, None, unwrap_or, Contains, inl, inr, refl, sym, ap, subst, ◌∙◌, arith}
+use Rattle.std.proofs.Common.{◌≡◌, ◌≤◌, ◌*◌, ℕ, zero, suc, cond, filter, List, [], ◌∷◌, length, map, take, Option, Some, None, unwrap_or, Contains, inl, inr, refl, sym, ap, subst, arith}
 use Rattle.std.proofs.Math.Nat.{mul-le-mul_right}
 use Rattle.std.proofs.lemmas.Int.{ints}
 use Rattle.std.proofs.lemmas.List.Elements.{All-contains}

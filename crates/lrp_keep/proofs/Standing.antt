@@ -1,5 +1,5 @@
 -- A refusal leaves the same rows, and has its cause.
-use Rattle.std.proofs.Common.{◌≡◌, ◌≤◌, ◌^◌, ℕ, refl, sym, subst, ap, Vec, Global, map, Result, Ok, Err}
+use Rattle.std.proofs.Common.{◌≡◌, ℕ, refl, sym, subst, ap, Vec, Global, map, Result, Ok, Err}
 use Rattle.std.specs.Prelude.{OnErr, OnOk}
 use Rattle.lrp_store.specs.declared.table.StepFault.{StepFault}
 use Rattle.lrp_store.specs.declared.table.StepFault.TheVariants.{TooManyCells as too_many_cells, Memory as no_memory}
@@ -9,7 +9,7 @@ use Rattle.lrp_parts.specs.declared.derivation.Derived.{Derived}
 use Rattle.lrp_model.specs.declared.relations.Row.{Row}
 use Rattle.lrp_keep.specs.Faults.{kept_fault}
 use Rattle.lrp_keep.specs.Keeps.{IsCause, KeepView}
-use Rattle.lrp_keep.specs.States.{HasSomeLargePart, IsHoldingCause, IsStateOf, IsStillState, IsUndone, ground_at, levels_of}
+use Rattle.lrp_keep.specs.States.{IsHoldingCause, IsStateOf, IsStillState, IsUndone, ground_at, levels_of}
 use Rattle.lrp_keep.specs.Unions.{AreDerived, AreDerivedBut, AreStillBut}
 use Rattle.lrp_keep.specs.declared.faults.KeepFault.TheVariants.{Memory, TooManyCells}
 use Rattle.lrp_keep.specs.declared.kept_query.KeptQuery.{KeptQuery}

@@ -1,17 +1,12 @@
 -- A state after a row is let go: what is left is derived from the rows that are left.
-use Rattle.std.proofs.Common.{◌≡◌, ◌≢◌, ◌<◌, ℕ, zero, suc, List, [], ◌∷◌, length, map, Contains, Option, Some, None, refl, sym, ap, subst, ◌∙◌, arith}
+use Rattle.std.proofs.Common.{◌≡◌, ◌<◌, ℕ, zero, suc, List, [], ◌∷◌, length, map, Some, refl, sym, ap, subst, ◌∙◌, arith}
 use Rattle.std.specs.Prelude.{slice_get}
-use Rattle.slab.specs.Slab.{get}
 use Rattle.lrp_model.specs.Formulas.{question_of}
 use Rattle.lrp_parts.specs.Derivations.{AreReleased, CanBeReadBy, CanDerive, Ground, IsDerivedFrom, IsWithoutKey, Levels}
-use Rattle.lrp_kept.specs.Keys.{keys_of}
 use Rattle.lrp_kept.specs.Disjuncts.{AreDisjunctsOf}
-use Rattle.lrp_kept.specs.Held.{names_of}
-use Rattle.lrp_kept.specs.Keyed.{AreHeldRows, IsLetGoAt}
+use Rattle.lrp_kept.specs.Keyed.{IsLetGoAt}
 use Rattle.lrp_keep.specs.States.{IsStateOf, ground_at}
-use Rattle.lrp_keep.specs.Unions.{AreDerived}
 use Rattle.lrp_kept.specs.declared.disjuncts.Disjunct.{Disjunct}
-use Rattle.lrp_kept.specs.declared.disjuncts.JoinedAtom.{JoinedAtom}
 use Rattle.lrp_keep.specs.declared.kept_query.KeptQuery.{KeptQuery}
 use Rattle.lrp_kept.specs.declared.rows.HeldRows.{HeldRows}
 use Rattle.lrp_keep.specs.declared.states.State.{State}

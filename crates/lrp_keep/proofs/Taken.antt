@@ -1,12 +1,10 @@
 -- Stores are taken into one, value after value.
-use Rattle.std.proofs.Common.{◌≡◌, ◌≢◌, ◌<◌, ◌≤◌, ◌+◌, ◌-◌, ◌*◌, ◌^◌, ◌⊎◌, inl, inr, ℕ, zero, suc, List, [], ◌∷◌, length, take, Option, Some, None, Contains, refl, sym, ap, subst, ◌∙◌, arith}
+use Rattle.std.proofs.Common.{◌≡◌, ◌<◌, ◌+◌, ◌-◌, ◌^◌, inl, inr, ℕ, zero, suc, List, [], ◌∷◌, length, take, Option, Some, None, refl, sym, ap, subst, ◌∙◌, arith}
 use Rattle.std.specs.Prelude.{ℤ, IsSome, slice_get}
 use Rattle.lrp_holdings.specs.Holdings.{Held, HoldingsView, Holds, held_at}
-use Rattle.lrp_store.specs.Growing.{IsAdded, IsGrown}
 use Rattle.lrp_store.specs.Stores.{HasReach, InStore, IsStore, StoreView}
-use Rattle.lrp_store.proofs.Held.{Table}
 use Rattle.lrp_tables.specs.Passes.{IsMadeFrom}
-use Rattle.lrp_tables.specs.Pieces.{Fits, InPiece, InPieces}
+use Rattle.lrp_tables.specs.Pieces.{Fits, InPiece}
 use Rattle.lrp_tables.specs.declared.pieces.Piece.{Piece}
 use Rattle.lrp_tables.proofs.Adding.{IsZoneOf}
 use Rattle.lrp_tables.proofs.Passing.{IsPassing}
@@ -15,7 +13,7 @@ use Rattle.lrp_zone.proofs.Cases.{eq_or}
 use Rattle.lrp_model.specs.Texts.{Text}
 use Rattle.lrp_parts.specs.Derivations.{HoldsIn, Levels}
 use Rattle.lrp_keep.specs.Unions.{HoldsAll}
-use Rattle.lrp_keep.specs.Taken.{AreAlike, HasTaken, HasTakenSet, HasTakenSome, HasTakenValue, HaveReach, InSomeHeld, IsAlike, IsValue, StaysSame}
+use Rattle.lrp_keep.specs.Taken.{HasTaken, HasTakenSome, HasTakenValue, StaysSame}
 
 some_same : {X : Type 0} (x y : X) → Some x ≡ Some y → x ≡ y
 some_same x y e = cc

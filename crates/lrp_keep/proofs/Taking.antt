@@ -1,8 +1,8 @@
 -- What calls take that may fail: a value, a slot, the last level.
-use Rattle.std.proofs.Common.{◌≡◌, ◌<◌, ◌≤◌, ◌+◌, ◌-◌, ℕ, List, [], ◌∷◌, length, Option, inl, Result, Ok, Err, Some, None, refl, sym, ap, subst, ◌∙◌, arith}
-use Rattle.std.specs.Prelude.{ℤ, IsSome, MatchOption, OnOk, slice_get}
+use Rattle.std.proofs.Common.{◌≡◌, ◌<◌, ◌≤◌, ◌+◌, ◌-◌, ℕ, [], ◌∷◌, length, Option, inl, Result, Ok, Err, Some, None, refl, sym, subst, ◌∙◌, arith}
+use Rattle.std.specs.Prelude.{IsSome, MatchOption, OnOk, slice_get}
 use Rattle.std.specs.Option.{option_map}
-use Rattle.lrp_holdings.specs.Holdings.{Held, HoldingsView, Holds, held_at}
+use Rattle.lrp_holdings.specs.Holdings.{Held, HoldingsView, held_at}
 use Rattle.lrp_store.specs.Stores.{IsStore, StoreView}
 use Rattle.lrp_parts.specs.Derivations.{HoldsIn, Levels}
 use Rattle.lrp_keep.specs.Taken.{AreAlike, HasTaken, HasTakenSome, HasTakenValue, IsAlike}

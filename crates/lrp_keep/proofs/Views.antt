@@ -1,9 +1,8 @@
 -- The relations that a keeper stands for, after a row is put behind others or taken out.
-use Rattle.std.proofs.Common.{◌≡◌, ◌≢◌, ◌<◌, ℕ, zero, suc, Bool, true, false, List, [], ◌∷◌, ◌++◌, length, map, flat_map, Contains, Option, Some, None, ◌⊎◌, inl, inr, refl, sym, ap, ap₂, subst, ◌∙◌, bytes_eq, append-nil, append_assoc, arith}
+use Rattle.std.proofs.Common.{◌≡◌, ◌≢◌, ℕ, zero, suc, Bool, true, false, List, [], ◌∷◌, ◌++◌, length, map, flat_map, Contains, Option, Some, None, inl, inr, refl, sym, ap, ap₂, subst, ◌∙◌, bytes_eq, append_assoc, arith}
 use Rattle.std.specs.Prelude.{if◌then◌else◌, slice_get}
-use Rattle.std.specs.List.{All, AllByRecursion}
+use Rattle.std.specs.List.{AllByRecursion}
 use Rattle.slab.specs.Slab.{get}
-use Rattle.lrp_model.specs.Rows.{rows_in, rows_of, relation_named}
 use Rattle.lrp_model.specs.Texts.{AreDistinct, Identifier}
 use Rattle.lrp_model.specs.declared.relations.Column.{Column}
 use Rattle.lrp_model.specs.declared.relations.Relation.{Relation}
@@ -11,16 +10,14 @@ use Rattle.lrp_model.specs.declared.relations.Row.{Row}
 use Rattle.lrp_model.proofs.Decided.{contains_first, contains_later}
 use Rattle.lrp_plan_laws.proofs.CoreLaws.{own_name}
 use Rattle.lrp_plan_laws.proofs.HeadLaws.{other_name}
-use Rattle.lrp_plan_laws.proofs.Members.{in_left, in_right}
 use Rattle.lrp_zone.proofs.Cases.{eq_or}
 use Rattle.lrp_kept.specs.Keys.{keys_in, keys_of}
 use Rattle.lrp_kept.specs.Held.{names_of, relation_of, relations_of, row_of}
-use Rattle.lrp_kept.specs.Keyed.{AreHeldRows, AreRelisted, IsWithKeys}
+use Rattle.lrp_kept.specs.Keyed.{AreRelisted, IsWithKeys}
 use Rattle.lrp_keep.specs.Replaced.{replaced, with_rows}
 use Rattle.lrp_kept.specs.declared.rows.HeldRelation.{HeldRelation}
 use Rattle.lrp_kept.specs.declared.rows.HeldRows.{HeldRows}
 use Rattle.lrp_kept.specs.declared.rows.Source.{Source}
-use Rattle.lrp_parts.proofs.KeyedRows.{found_at}
 
 some_same : {X : Type 0} (x y : X) → Some x ≡ Some y → x ≡ y
 some_same x y e = cc

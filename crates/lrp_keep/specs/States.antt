@@ -1,29 +1,34 @@
 -- The rows that are held for a query, with what is derived from them.
-use Rattle.std.specs.Prelude.{◌≡◌, ◌≢◌, ◌≤◌, ◌<◌, ◌-◌, ◌^◌, ◌++◌, ◌∷◌, ℕ, zero, suc, pos, true, List, [], Contains, Option, Some, None, flat_map, length, map, slice_get, if◌then◌else◌}
+use Rattle.std.specs.Prelude.{◌≡◌, ◌≢◌, ◌≤◌, ◌<◌, ◌-◌, ◌^◌, ◌++◌, ◌∷◌, ℕ, zero, suc, pos, true, List, [], Contains, MatchOption, Option, Some, None, flat_map, length, map, slice_get, if◌then◌else◌}
 use Rattle.std.specs.List.{AllByRecursion, list_any}
 use Rattle.slab.specs.Slab.{get}
 use Rattle.lrp_model.specs.Domains.{constants}
 use Rattle.lrp_model.specs.Formulas.{Question, question_of}
-use Rattle.lrp_model.specs.Texts.{AreDistinct, Ascends, Identifier, Text}
+use Rattle.lrp_model.specs.Texts.{AreDistinct, Ascends, Identifier}
 use Rattle.lrp_model.specs.Periods.{IsMultiple}
 use Rattle.lrp_model.specs.declared.relations.Relation.{Relation}
 use Rattle.lrp_model.specs.declared.relations.Row.{Row}
 use Rattle.lrp_store.specs.Stores.{HasReach, IsStore}
 use Rattle.lrp_store.specs.declared.answer.Answer.{Answer}
 use Rattle.lrp_tables.specs.Columns.{head_texts, head_times}
-use Rattle.lrp_parts.specs.Derivations.{AreReleased, CanDerive, Ground, HasLargePart, HoldsIn, IsDerivedFrom, Levels}
+use Rattle.lrp_parts.specs.Derivations.{AreReleased, CanDerive, Ground, HasLargePart, HoldsIn, IsDerivedFrom, Levels, ground_of}
 use Rattle.lrp_kept.specs.Disjuncts.{AreDisjunctsOf}
 use Rattle.lrp_kept.specs.Held.{AreLowRows, bounds_of, names_of, relations_of, row_of}
 use Rattle.lrp_kept.specs.Keys.{keys_of}
 use Rattle.lrp_kept.specs.Limits.{raised_period, relation_bound, row_bound, row_periods}
-use Rattle.lrp_kept.specs.Sizes.{is_reader}
-use Rattle.lrp_kept.specs.Sketches.{AreSketchesOf}
-use Rattle.lrp_keep.specs.Keeps.{CanBeHeld, CanBeKept, IsCause, IsSortedQuery, KeepView, scaled_reach_of, with_added, with_row}
+use Rattle.lrp_kept.specs.Sizes.{is_reader, number_in, scaled_over, tested_periods}
+use Rattle.lrp_limits.specs.Facts.{KeepsPeriod}
+use Rattle.lrp_limits.specs.declared.periods.Period.{Period}
+use Rattle.lrp_kept.specs.Sketches.{AreSketchesOf, CanBeSketched}
+use Rattle.lrp_kept.specs.Choices.{listed_disjuncts}
+use Rattle.lrp_kept.specs.Drafts.{CanBeJoinedUp}
+use Rattle.lrp_parts.specs.declared.parts.Setting.{Setting}
+use Rattle.lrp_keep.specs.Keeps.{CanBeHeld, CanBeKept, IsCause, IsSortedQuery, KeepView, opened, scaled_reach_of, with_added, with_row}
 use Rattle.lrp_kept.specs.KeptForm.{is_kept}
 use Rattle.lrp_kept.specs.Keyed.{AreHeldRows, AreRelisted, AreSameRows, IsEmptyOf, IsFirstEqual, IsLetGoAt}
 use Rattle.lrp_kept.specs.SortedForms.{HaveColumnsOf}
 use Rattle.lrp_keep.specs.Taken.{HaveReach}
-use Rattle.lrp_keep.specs.Unions.{AreDerived, AreStillBut, HoldsAll}
+use Rattle.lrp_keep.specs.Unions.{AreDerived, AreDerivedBut, AreStillBut, HoldsAll}
 use Rattle.lrp_kept.specs.declared.disjuncts.Disjunct.{Disjunct}
 use Rattle.lrp_keep.specs.declared.faults.KeepFault.{KeepFault}
 use Rattle.lrp_keep.specs.declared.kept_query.KeptQuery.{KeptQuery}
@@ -37,11 +42,25 @@ use Rattle.lrp_keep.specs.declared.states.State.{State}
 abbrev pub ground_at : KeptQuery → HeldRows → ℕ → Ground
 ground_at of rows period = record { domain = of.domain; period = period; cap = of.cap; head = of.query.now.head.columns; rows = rows }
 
+-- each listed disjunct of a query can be joined up over the rows, and these are the disjuncts
+abbrev pub CanAllBeJoinedUp : HeldRows → Question → Type 0
+CanAllBeJoinedUp rows q = AllByRecursion (CanBeJoinedUp (names_of rows)) (listed_disjuncts q)
+
+abbrev pub AreDisjunctsFor : HeldRows → Question → KeptQuery → Type 0
+AreDisjunctsFor rows q of = AreDisjunctsOf (names_of rows) q of.disjuncts.items
+
+-- a row's sketches are those of a query
+abbrev pub AreSketchesFor : KeptQuery → ℕ → Row → Source → Type 0
+AreSketchesFor of relation row source = AreSketchesOf of.domain of.disjuncts.items relation row source.sketches.items
+
 -- ---- states
 
 -- what is derived, by disjuncts
+abbrev pub levels_in : List Derived → List Levels
+levels_in derived = map (λ d. d.levels.items) derived
+
 abbrev pub levels_of : State → List Levels
-levels_of s = map (λ d. d.levels.items) s.derived.items
+levels_of s = levels_in s.derived.items
 
 -- each disjunct can be derived
 abbrev pub CanDeriveEach : Ground → List Disjunct → Type 0
@@ -52,6 +71,33 @@ pub record HasSomeLargePart (g : Ground) (ds : List Disjunct) : Type 0 where
   pub disjunct : Disjunct
   pub listed : Contains ds disjunct
   pub large : HasLargePart g disjunct
+
+-- the same of a query's disjuncts, from the rows in cells of this period
+abbrev pub CanDeriveAt : KeptQuery → HeldRows → ℕ → Type 0
+CanDeriveAt of rows period = CanDeriveEach (ground_at of rows period) of.disjuncts.items
+
+abbrev pub HasLargePartAt : KeptQuery → HeldRows → ℕ → Type 0
+HasLargePartAt of rows period = HasSomeLargePart (ground_at of rows period) of.disjuncts.items
+
+abbrev pub AreDerivedAt : KeptQuery → HeldRows → ℕ → List Levels → Type 0
+AreDerivedAt of rows period levels = AreDerived (ground_at of rows period) of.disjuncts.items levels
+
+abbrev pub IsDerivedAt : KeptQuery → HeldRows → ℕ → State → Type 0
+IsDerivedAt of rows period s = AreDerivedAt of rows period (levels_of s)
+
+-- all is derived that the rows make without the one under a key
+abbrev pub IsDerivedWithout : KeptQuery → ℕ → State → Type 0
+IsDerivedWithout of key s = AreDerivedBut (ground_at of s.rows s.period.number) of.disjuncts.items key (levels_of s)
+
+-- what is derived from the rows of a setting, with the last one, and without it
+abbrev pub AreDerivedIn : Setting → KeptQuery → List Derived → Type 0
+AreDerivedIn setting of derived = AreDerived (ground_of setting) of.disjuncts.items (levels_in derived)
+
+abbrev pub AreDerivedInBut : Setting → KeptQuery → ℕ → List Derived → Type 0
+AreDerivedInBut setting of key derived = AreDerivedBut (ground_of setting) of.disjuncts.items key (levels_in derived)
+
+abbrev pub AreStillInBut : Setting → KeptQuery → ℕ → List Derived → Type 0
+AreStillInBut setting of key derived = AreStillBut (ground_of setting) of.disjuncts.items key (levels_in derived)
 
 -- new has what is derived of the disjunct behind the others
 pub record IsDerivedBehind (g : Ground) (d : Disjunct) (old new : List Derived) : Type 0 where
@@ -67,6 +113,14 @@ pub record IsStateOf (of : KeptQuery) (s : State) : Type 0 where
   pub derived : AreDerived (ground_at of s.rows s.period.number) of.disjuncts.items (levels_of s)
 
 -- ---- keepers
+
+-- a database as it is opened
+abbrev pub opened_with : KeptQuery → List Relation → KeepView
+opened_with of db = opened of.query.now db of.domain of.cap
+
+-- the kept reach in cells of this period, doubled once and once more for each time column of the head
+abbrev pub scaled_at : KeptQuery → HeldRows → ℕ → ℕ
+scaled_at of rows period = scaled_over (bounds_of rows.relations.items) period of.query.now.head.columns of.disjuncts.items
 
 -- what a keeper stands for
 abbrev pub view_of : KeptQuery → State → KeepView
@@ -132,6 +186,10 @@ pub record CanBeAddedAt (of : KeptQuery) (s : State) (relation : ℕ) (row : Row
 -- the least common multiple of the kept period and those of the row, where some atom reads its relation
 abbrev pub period_with : KeptQuery → State → ℕ → Row → ℕ
 period_with of s relation row = if list_any (is_reader relation) of.disjuncts.items then raised_period s.period.number row else s.period.number
+
+-- it, or none where it is above the limit
+abbrev pub IsPeriodWith : KeptQuery → State → ℕ → Row → Option Period → Type 0
+IsPeriodWith of s relation row found = MatchOption found (2 ^ 62 < period_with of s relation row) (λ p. p.number ≡ period_with of s relation row)
 
 -- and its bounds are no greater than the number beside the relation; the period is a multiple of the kept one, and of the row's
 pub record CanBeHeldIn (of : KeptQuery) (s : State) (relation : ℕ) (row : Row) (period : ℕ) : Type 0 where
@@ -229,6 +287,18 @@ periods_at ds number (Some r) = if list_any (is_reader number) ds then flat_map 
 abbrev pub read_periods : List Disjunct → List Relation → ℕ → List ℕ
 read_periods ds db zero = []
 read_periods ds db (suc n) = read_periods ds db n ++ periods_at ds n (slice_get db n)
+
+-- the new period is the least common multiple of the old one and these, where none is above the limit
+abbrev pub IsRaisedBy : List ℕ → Option Period → Option Period → Type 0
+IsRaisedBy periods old new = KeepsPeriod periods (number_in old) (number_in new)
+
+-- the periods in tests, and in the rows that some atom reads
+abbrev pub whole_periods : KeptQuery → List Relation → List ℕ
+whole_periods of db = flat_map tested_periods of.disjuncts.items ++ read_periods of.disjuncts.items db (length db)
+
+-- each row of each relation can be sketched for the disjuncts
+abbrev pub CanAllBeSketched : KeptQuery → List Relation → Type 0
+CanAllBeSketched of db = (i : ℕ) (r : Relation) → slice_get db i ≡ Some r → AllByRecursion (CanBeSketched of.disjuncts.items i) r.rows
 
 -- ---- a row less
 

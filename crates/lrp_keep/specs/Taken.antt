@@ -1,6 +1,11 @@
 -- The tuples of stores, taken into one.
-use Rattle.std.specs.Prelude.{◌≡◌, ◌⊎◌, ◌-◌, ◌^◌, ◌≤◌, ℕ, ℤ, List, length, Option, Some, None}
-use Rattle.lrp_store.specs.Growing.{IsGrown, IsWhole}
+use Rattle.std.specs.Prelude.{◌≡◌, ◌⊎◌, ◌-◌, ◌^◌, ℕ, ℤ, List, length, MatchOption, Option, Some}
+use Rattle.lrp_holdings.specs.Holdings.{HoldingsView, held_at}
+use Rattle.lrp_zone.specs.Zones.{reach_of}
+use Rattle.lrp_tables.specs.Passes.{IsMadeFrom}
+use Rattle.lrp_tables.specs.Pieces.{InPiece}
+use Rattle.lrp_tables.specs.declared.pieces.Piece.{Piece}
+use Rattle.lrp_store.specs.Growing.{IsAdded}
 use Rattle.lrp_store.specs.Stores.{HasReach, InStore, IsStore, StoreView}
 use Rattle.lrp_parts.specs.Derivations.{HoldsIn, Levels}
 
@@ -45,6 +50,16 @@ pub record IsValue (value : Option StoreView) (keys : List ℕ) (held : Option S
 -- those of one value
 abbrev pub HasTakenValue : Option StoreView → StoreView → StoreView → Type 0
 HasTakenValue value old new = HasTakenSome (IsValue value) old new
+
+-- those that the last level holds, those of a slot, and those of a zone
+abbrev pub HasTakenLast : Levels → StoreView → StoreView → Type 0
+HasTakenLast levels old new = HasTakenSome (HoldsIn levels (length levels - 1)) old new
+
+abbrev pub HasTakenSlot : HoldingsView (Option StoreView) → ℕ → StoreView → StoreView → Type 0
+HasTakenSlot h slot old new = MatchOption (held_at h slot) (new ≡ old) (λ held. HasTakenValue held.value old new)
+
+abbrev pub HasTakenPiece : Piece → StoreView → StoreView → Type 0
+HasTakenPiece piece old new = IsAdded (IsMadeFrom StaysSame (InPiece old.shape.texts piece)) (2 ^ 32 - 1) (reach_of piece.zone) old new
 
 -- a store has the shape and the period of another one
 pub record IsAlike (value : Option StoreView) (s : StoreView) : Type 0 where

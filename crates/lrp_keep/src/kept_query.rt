@@ -1,16 +1,10 @@
 // A query whose answers are kept.
 
-ghost use Rattle.std.specs.Prelude.{◌≡◌, ◌<◌, ◌++◌, ◌∷◌, [], Contains, Err, Some, IfOk, IfSome, OnOk, length, map, slice_get};
-ghost use Rattle.std.specs.List.{AllByRecursion};
+ghost use Rattle.std.specs.Prelude.{◌≡◌, ◌<◌, ◌++◌, ◌∷◌, [], Err, IfOk, OnOk};
 ghost use Rattle.lrp_model.specs.Formulas.{question_of};
-ghost use Rattle.lrp_kept.specs.Choices.{listed_disjuncts};
 ghost use Rattle.lrp_parts.specs.Derivations.{CanDerive, HasLargePart, ground_of};
-ghost use Rattle.lrp_kept.specs.Disjuncts.{AreDisjunctsOf};
-ghost use Rattle.lrp_kept.specs.Drafts.{CanBeJoinedUp};
-ghost use Rattle.lrp_kept.specs.Held.{names_of};
-ghost use Rattle.lrp_keep.specs.States.{CanDeriveEach, HasSomeLargePart, IsDerivedBehind, ground_at};
-ghost use Rattle.lrp_kept.specs.Sketches.{AreSketchesOf, CanBeSketched};
-ghost use Rattle.lrp_keep.specs.Unions.{AreDerived};
+ghost use Rattle.lrp_keep.specs.States.{AreDerivedAt, AreDisjunctsFor, AreSketchesFor, CanAllBeJoinedUp, CanDeriveAt, HasLargePartAt, IsDerivedBehind, ground_at, levels_in};
+ghost use Rattle.lrp_kept.specs.Sketches.{CanBeSketched};
 
 use lrp_kept::{Disjunct, HeldRows, Source, disjuncts_of};
 use lrp_limits::periods::Period;
@@ -38,11 +32,11 @@ impl<'a> KeptQuery<'a> {
         cap: u32,
         rows: &HeldRows,
     ) -> Result<KeptQuery<'a>, Memory>
-        requires { AllByRecursion (CanBeJoinedUp (names_of rows.now)) (listed_disjuncts (question_of query.now)) }
+        requires { CanAllBeJoinedUp rows.now (question_of query.now) }
         ensures query { IfOk result (λ made. made.query.now ≡ query.now) }
         ensures domain { IfOk result (λ made. made.domain ≡ domain.now) }
         ensures cap { IfOk result (λ made. made.cap ≡ cap) }
-        ensures disjuncts { IfOk result (λ made. AreDisjunctsOf (names_of rows.now) (question_of query.now) made.disjuncts.items) }
+        ensures disjuncts { IfOk result (AreDisjunctsFor rows.now (question_of query.now)) }
     {
         let disjuncts = disjuncts_of(alloc, query, rows)?;
         let domain = domain.copy(alloc)?;
@@ -60,7 +54,7 @@ impl<'a> KeptQuery<'a> {
         requires { CanBeSketched self.now.disjuncts.items relation row.now }
         ensures relation { IfOk result (λ made. made.relation ≡ relation) }
         ensures row { IfOk result (λ made. made.row ≡ row.now) }
-        ensures sketches { IfOk result (λ made. AreSketchesOf self.now.domain self.now.disjuncts.items relation row.now made.sketches.items) }
+        ensures sketches { IfOk result (AreSketchesFor self.now relation row.now) }
     {
         Source::of(self.alloc, &self.disjuncts, relation, row, &self.domain)
     }
@@ -85,9 +79,10 @@ impl<'a> KeptQuery<'a> {
         rows: &HeldRows,
         period: Period,
     ) -> Result<Vec<Derived>, StepFault>
-        requires { CanDeriveEach (ground_at self.now rows.now period.number) self.now.disjuncts.items }
-        ensures derived { IfOk result (λ made. AreDerived (ground_at self.now rows.now period.number) self.now.disjuncts.items (map (λ d. d.levels.items) made.items)) }
-        ensures many { result ≡ Err StepFault.TooManyCells → HasSomeLargePart (ground_at self.now rows.now period.number) self.now.disjuncts.items }
+        requires { CanDeriveAt self.now rows.now period.number }
+        ensures derived { IfOk result (λ made. AreDerivedAt self.now rows.now period.number (levels_in made.items)) }
+        ensures many { result ≡ Err StepFault.TooManyCells
+            → HasLargePartAt self.now rows.now period.number }
     {
         let setting = self.setting(rows, period);
         let mut all = Vec::new(self.alloc);
@@ -109,7 +104,8 @@ fn derive_one(
 ) -> Result<(), StepFault>
     requires { CanDerive (ground_of setting.now) disjunct.now }
     ensures derived { OnOk result (IsDerivedBehind (ground_of setting.now) disjunct.now all.old.items all.new.items) }
-    ensures many { result ≡ Err StepFault.TooManyCells → HasLargePart (ground_of setting.now) disjunct.now }
+    ensures many { result ≡ Err StepFault.TooManyCells
+        → HasLargePart (ground_of setting.now) disjunct.now }
 {
     match Derived::of(setting, disjunct) {
         Ok(derived) => {

@@ -1,20 +1,16 @@
 // The rows that are held for a query, and what is derived from them.
 
-ghost use Rattle.std.specs.Prelude.{◌≡◌, ◌<◌, ◌≤◌, ◌^◌, ◌++◌, ℕ, [], Some, Err, IfErr, IfOk, OnErr, OnOk, MatchOption, false, true, flat_map, length, map, slice_get};
+ghost use Rattle.std.specs.Prelude.{◌≡◌, ◌<◌, ◌≤◌, ◌^◌, ℕ, [], Some, Err, IfErr, IfOk, OnErr, OnOk, false, true, flat_map, length};
 ghost use Rattle.std.specs.List.{AllByRecursion};
-ghost use Rattle.lrp_limits.specs.Facts.{KeepsPeriod};
 ghost use Rattle.lrp_limits.specs.Multiples.{IsPeriodOf};
 ghost use Rattle.lrp_parts.specs.Derivations.{IsLastKey, ground_of};
 ghost use Rattle.lrp_kept.specs.Keys.{keys_of};
-ghost use Rattle.lrp_model.specs.declared.relations.Relation.{Relation as RelationOf};
-ghost use Rattle.lrp_kept.specs.Held.{bounds_of};
 ghost use Rattle.lrp_kept.specs.Keyed.{AreHeldRows, HasNoEqualRow, IsEmptyOf};
 ghost use Rattle.lrp_kept.specs.Limits.{relation_bound, row_periods};
-ghost use Rattle.lrp_kept.specs.Sizes.{number_in, scaled_over, tested_periods};
-ghost use Rattle.lrp_keep.specs.Keeps.{IsCause, IsWithinLimits, opened};
-ghost use Rattle.lrp_keep.specs.States.{AreAllHeld, AreHeldAlso, CanBeAddedAt, CanBeHeldIn, CanBeOpened, CanDeriveEach, HasSomeLargePart, IsAddedAt, IsAddingCause, IsAnswerOfState, IsHeldAt, IsHoldingCause, IsKeeper, IsKeeping, IsLetGoFrom, IsMarked, AreMarkedBy, IsRemoved, IsStillState, IsUndone, ground_at, levels_of, period_with, periods_at, read_periods, view_of};
+ghost use Rattle.lrp_kept.specs.Sizes.{number_in};
+ghost use Rattle.lrp_keep.specs.Keeps.{IsCause, IsWithinLimits};
+ghost use Rattle.lrp_keep.specs.States.{AreAllHeld, AreHeldAlso, CanBeAddedAt, CanBeHeldIn, AreDerivedIn, AreDerivedInBut, AreStillInBut, CanAllBeSketched, CanBeOpened, CanDeriveAt, CanDeriveEach, HasLargePartAt, HasSomeLargePart, IsAddedAt, IsAddingCause, IsAnswerOfState, IsDerivedAt, IsDerivedWithout, IsHeldAt, IsHoldingCause, IsKeeper, IsKeeping, IsLetGoFrom, IsMarked, IsPeriodWith, IsRaisedBy, AreMarkedBy, IsRemoved, IsStillState, IsUndone, ground_at, opened_with, periods_at, scaled_at, view_of, whole_periods};
 ghost use Rattle.lrp_kept.specs.Sketches.{CanBeSketched};
-ghost use Rattle.lrp_keep.specs.Unions.{AreDerived, AreDerivedBut, AreStillBut};
 
 use crate::faults::{KeepFault, of_step};
 use crate::kept_query::KeptQuery;
@@ -46,9 +42,9 @@ impl State {
     ) -> Result<State, KeepFault>
         requires { CanBeOpened of.now database.now relations }
         ensures keeper { IfOk result (IsKeeper of.now) }
-        ensures view { IfOk result (λ s. view_of of.now s ≡ opened of.now.query.now database.now of.now.domain of.now.cap) }
-        ensures limits { OnOk result (IsWithinLimits (opened of.now.query.now database.now of.now.domain of.now.cap)) }
-        ensures fault { IfErr result (IsCause (opened of.now.query.now database.now of.now.domain of.now.cap)) }
+        ensures view { IfOk result (λ s. view_of of.now s ≡ opened_with of.now database.now) }
+        ensures limits { OnOk result (IsWithinLimits (opened_with of.now database.now)) }
+        ensures fault { IfErr result (IsCause (opened_with of.now database.now)) }
     {
         let Some(period) = whole_period(of, database) else {
             return Err(KeepFault::PeriodLimit);
@@ -103,7 +99,7 @@ impl State {
     // The kept period with the periods of a row, where some atom reads its relation.
     fn raised_period(&self, of: &KeptQuery<'_>, relation: usize, row: &Row) -> Option<Period>
         requires { AllByRecursion (λ k. 1 ≤ k) (row_periods row.now) }
-        ensures { MatchOption result (2 ^ 62 < period_with of.now self.now relation row.now) (λ p. p.number ≡ period_with of.now self.now relation row.now) }
+        ensures { IsPeriodWith of.now self.now relation row.now result }
     {
         if is_read(&of.disjuncts, relation) {
             with_periods(self.period, row)
@@ -155,14 +151,15 @@ impl State {
         key: usize,
         period: Period,
     ) -> Result<(), StepFault>
-        requires can { CanDeriveEach (ground_at of.now self.old.rows period.number) of.now.disjuncts.items }
+        requires can { CanDeriveAt of.now self.old.rows period.number }
         requires last { IsLastKey (ground_at of.now self.old.rows period.number) relation key }
-        requires old { AreDerivedBut (ground_at of.now self.old.rows self.old.period.number) of.now.disjuncts.items key (levels_of self.old) }
+        requires old { IsDerivedWithout of.now key self.old }
         ensures rows { self.new.rows ≡ self.old.rows }
         ensures period { OnOk result (self.new.period ≡ period) }
-        ensures derived { OnOk result (AreDerived (ground_at of.now self.old.rows period.number) of.now.disjuncts.items (levels_of self.new)) }
+        ensures derived { OnOk result (IsDerivedAt of.now self.old.rows period.number self.new) }
         ensures undone { OnErr result (IsUndone of.now key self.old self.new) }
-        ensures many { result ≡ Err StepFault.TooManyCells → HasSomeLargePart (ground_at of.now self.old.rows period.number) of.now.disjuncts.items }
+        ensures many { result ≡ Err StepFault.TooManyCells
+            → HasLargePartAt of.now self.old.rows period.number }
     {
         if period.number != self.period.number {
             return self.derive_anew(of, period);
@@ -173,12 +170,13 @@ impl State {
 
     // Derives all again, in cells of another period.
     fn derive_anew(&mut self, of: &KeptQuery<'_>, period: Period) -> Result<(), StepFault>
-        requires { CanDeriveEach (ground_at of.now self.old.rows period.number) of.now.disjuncts.items }
+        requires { CanDeriveAt of.now self.old.rows period.number }
         ensures rows { self.new.rows ≡ self.old.rows }
         ensures period { OnOk result (self.new.period ≡ period) }
-        ensures derived { OnOk result (AreDerived (ground_at of.now self.old.rows period.number) of.now.disjuncts.items (levels_of self.new)) }
+        ensures derived { OnOk result (IsDerivedAt of.now self.old.rows period.number self.new) }
         ensures same { OnErr result (self.new ≡ self.old) }
-        ensures many { result ≡ Err StepFault.TooManyCells → HasSomeLargePart (ground_at of.now self.old.rows period.number) of.now.disjuncts.items }
+        ensures many { result ≡ Err StepFault.TooManyCells
+            → HasLargePartAt of.now self.old.rows period.number }
     {
         match of.derive_all(&self.rows, period) {
             Ok(derived) => {
@@ -249,10 +247,11 @@ fn add_each(
 ) -> Result<(), StepFault>
     requires can { CanDeriveEach (ground_of setting.now) of.now.disjuncts.items }
     requires last { IsLastKey (ground_of setting.now) relation key }
-    requires old { AreDerivedBut (ground_of setting.now) of.now.disjuncts.items key (map (λ d. d.levels.items) derived.old.items) }
-    ensures derived { OnOk result (AreDerived (ground_of setting.now) of.now.disjuncts.items (map (λ d. d.levels.items) derived.new.items)) }
-    ensures others { OnErr result (AreStillBut (ground_of setting.now) of.now.disjuncts.items key (map (λ d. d.levels.items) derived.new.items)) }
-    ensures many { result ≡ Err StepFault.TooManyCells → HasSomeLargePart (ground_of setting.now) of.now.disjuncts.items }
+    requires old { AreDerivedInBut setting.now of.now key derived.old.items }
+    ensures derived { OnOk result (AreDerivedIn setting.now of.now derived.new.items) }
+    ensures others { OnErr result (AreStillInBut setting.now of.now key derived.new.items) }
+    ensures many { result ≡ Err StepFault.TooManyCells
+        → HasSomeLargePart (ground_of setting.now) of.now.disjuncts.items }
 {
     for number in 0..of.disjuncts.len() {
         match derived[number].add(setting, &of.disjuncts[number], relation, key) {
@@ -297,7 +296,7 @@ fn hold_each(of: &KeptQuery<'_>, database: &Database, rows: &mut HeldRows) -> Re
     requires held { AreHeldRows rows.old }
     requires none { (i : ℕ) → keys_of rows.old i ≡ [] }
     requires size { length rows.old.relations.items ≡ length database.now }
-    requires can { (i : ℕ) (r : RelationOf) → slice_get database.now i ≡ Some r → AllByRecursion (CanBeSketched of.now.disjuncts.items i) r.rows }
+    requires can { CanAllBeSketched of.now database.now }
     ensures { OnOk result (AreAllHeld of.now database.now (length database.now) rows.old rows.new) }
 {
     for i in 0..database.relations() {
@@ -327,7 +326,7 @@ fn hold_all(
 // The least common multiple of the periods in tests, and in the rows of the relations that some atom reads; `None` where it
 // is above 2^62.
 fn whole_period(of: &KeptQuery<'_>, database: &Database) -> Option<Period>
-    ensures { IsPeriodOf (flat_map tested_periods of.now.disjuncts.items ++ read_periods of.now.disjuncts.items database.now (length database.now)) (number_in result) }
+    ensures { IsPeriodOf (whole_periods of.now database.now) (number_in result) }
 {
     let mut period = tested_period(&of.disjuncts);
     for i in 0..database.relations() {
@@ -343,7 +342,7 @@ fn with_relation(
     relation: &Relation,
     number: usize,
 ) -> Option<Period>
-    ensures { KeepsPeriod (periods_at of.now.disjuncts.items number (Some relation.now)) (number_in period) (number_in result) }
+    ensures { IsRaisedBy (periods_at of.now.disjuncts.items number (Some relation.now)) period result }
 {
     if is_read(&of.disjuncts, number) {
         with_all_periods(period, relation)
@@ -354,7 +353,7 @@ fn with_relation(
 
 // A period with those of all rows of a relation; `None` where it is above 2^62.
 fn with_all_periods(period: Option<Period>, relation: &Relation) -> Option<Period>
-    ensures { KeepsPeriod (flat_map row_periods relation.now.rows) (number_in period) (number_in result) }
+    ensures { IsRaisedBy (flat_map row_periods relation.now.rows) period result }
 {
     let mut all = period;
     for row in relation.rows.as_slice() {
@@ -365,8 +364,8 @@ fn with_all_periods(period: Option<Period>, relation: &Relation) -> Option<Perio
 
 // Whether the kept reach, doubled once and once more for each time column of the head, is above 2^62.
 fn is_above(of: &KeptQuery<'_>, rows: &HeldRows, period: Period) -> bool
-    ensures above { result ≡ true → 2 ^ 62 < scaled_over (bounds_of rows.now.relations.items) period.number of.now.query.now.head.columns of.now.disjuncts.items }
-    ensures within { result ≡ false → scaled_over (bounds_of rows.now.relations.items) period.number of.now.query.now.head.columns of.now.disjuncts.items ≤ 2 ^ 62 }
+    ensures above { result ≡ true → 2 ^ 62 < scaled_at of.now rows.now period.number }
+    ensures within { result ≡ false → scaled_at of.now rows.now period.number ≤ 2 ^ 62 }
 {
     let head = of.query.head.columns.as_slice();
     scaled_reach(&of.disjuncts, &rows.relations, head, period) > LIMIT as u64

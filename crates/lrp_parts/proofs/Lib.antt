@@ -17,4 +17,5 @@ pub mod Levels
 pub mod Sketching
 pub mod LargeParts
 pub mod Answered
+pub mod Packing
 pub mod Reading

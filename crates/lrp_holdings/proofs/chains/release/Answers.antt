@@ -1,12 +1,16 @@
 use Rattle.std.proofs.Common.{sym, ◌∙◌, arith}
-use Rattle.lrp_holdings.proofs.LetGo.{begins, begins_at_value, released_all, released_none, released_one}
+use Rattle.lrp_holdings.proofs.LetGo.{begins, begins_at_value, released_all, released_none, released_one, short_still}
+use Rattle.slab.specs.Slab.{get}
 use Rattle.lrp_holdings.proofs.chains.release.Goals as goal
 
 pub loop-link-init : goal.loop-link-init
-loop-link-init g c = record { chained = c.requires; partly = released_none c.args.number c.args.slots.now }
+loop-link-init g c = record { chained = c.requires.chained; partly = released_none c.args.number c.args.slots.now }
 
 pub let_go-requires-clause-held : goal.let_go-requires-clause-held
 let_go-requires-clause-held g c = begins_at_value c.loop-link.slots c.loop-link.chains.items c.args.number c.in-Some.link c.loop-link.invariant.chained (sym c.first.ensures ∙ c.in-Some.is)
+
+pub let_go-requires-clause-short : goal.let_go-requires-clause-short
+let_go-requires-clause-short g c = short_still (get c.args.slots.now c.in-Some.link.slot) (get c.loop-link.slots c.in-Some.link.slot) (c.loop-link.invariant.partly.kept c.in-Some.link.slot) (c.requires.short c.in-Some.link.slot)
 
 pub loop-link-preserved : goal.loop-link-preserved
 loop-link-preserved g c =

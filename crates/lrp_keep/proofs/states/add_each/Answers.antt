@@ -1,7 +1,6 @@
 -- The row is put into each disjunct.
-use Rattle.std.proofs.Common.{◌≡◌, ◌<◌, length, Err, refl, sym, subst, arith}
+use Rattle.std.proofs.Common.{◌≡◌, ◌<◌, length, subst, arith}
 use Rattle.std.proofs.lemmas.List.{length-set}
-use Rattle.lrp_store.specs.declared.table.StepFault.{StepFault}
 use Rattle.lrp_parts.specs.Derivations.{ground_of}
 use Rattle.lrp_parts.proofs.Parted.{set_here, set_there}
 use Rattle.lrp_keep.proofs.EachDerived.{AreAddedBelow, all_added, none_added, one_added, stopped}

@@ -1,26 +1,25 @@
 use Rattle.std.proofs.Common.{sym, ap, subst, ◌^◌, ◌∙◌}
 use Rattle.lrp_tables.specs.Pieces.{ArePieces}
-use Rattle.lrp_tables.proofs.Pieced.{any_reach, piece_fits}
 use Rattle.lrp_tables.proofs.Passing.{IsPassing, next_is, passing_more, passing_none}
 use Rattle.lrp_keep.specs.Taken.{StaysSame}
 use Rattle.lrp_keep.proofs.Taken.{all_taken, fits_there}
 use Rattle.lrp_keep.proofs.unions.add_all.Goals as goal
 
 pub loop-piece-init : goal.loop-piece-init
-loop-piece-init c = passing_none StaysSame (λ high. high) 4294967295 c.args.from.now c.args.out.now c.shape-2.ensures.valid _ (subst (λ l. ArePieces c.args.from.now l) (sym c.into_iter-piece-iterator.ensures.into_iter_gives) c.of-piece-items.ensures)
+loop-piece-init c = passing_none StaysSame (λ high. high) 4294967295 c.args.from.now c.args.out.now c.shape.ensures.valid _ (subst (λ l. ArePieces c.args.from.now l) (sym c.into_iter-piece-iterator.ensures.into_iter_gives) c.pieces-piece-items.ensures.all)
 
 pub add_piece-requires : goal.add_piece-requires
 add_piece-requires c =
     let is = next_is StaysSame (λ high. high) 4294967295 c.args.from.now c.args.out.now c.loop-piece.out c.loop-piece.out c.loop-piece.piece-iterator c.next.new.self c.in-Some.piece c.in-Some.ensures.steps c.loop-piece.invariant in
-    let grown = c.loop-piece.invariant.grown (2 ^ 62) (any_reach c.args.from.now c.shape.ensures.valid) in
-    fits_there c.in-Some.piece c.args.from.now c.loop-piece.out (grown.shape ∙ c.requires.shape) (grown.period ∙ c.requires.period) (piece_fits c.args.from.now c.shape.ensures.valid c.in-Some.piece is)
+    let grown = c.loop-piece.invariant.grown (2 ^ 62) c.pieces-piece-items.ensures.reach in
+    fits_there c.in-Some.piece c.args.from.now c.loop-piece.out (grown.shape ∙ c.requires.shape) (grown.period ∙ c.requires.period) (c.pieces-piece-items.ensures.fit c.in-Some.piece is)
 
 pub loop-piece-preserved : goal.loop-piece-preserved
 loop-piece-preserved c =
-    let grown = c.loop-piece.invariant.grown (2 ^ 62) (any_reach c.args.from.now c.shape.ensures.valid) in
+    let grown = c.loop-piece.invariant.grown (2 ^ 62) c.pieces-piece-items.ensures.reach in
     passing_more StaysSame (λ high. high) 4294967295 c.args.from.now c.args.out.now c.loop-piece.out c.add_piece.new.out c.loop-piece.piece-iterator c.next.new.self c.in-Some.piece c.in-Some.ensures.steps c.loop-piece.invariant
     c.loop-piece.out.shape.texts (ap (λ s. s.texts) (grown.shape ∙ c.requires.shape)) (λ low high le. le) c.in-Ok.ensures
 
 pub returns : goal.returns
 returns c =
-    all_taken c.args.from.now c.args.out.now c.loop-piece.out (subst (λ l. IsPassing StaysSame (λ high. high) 4294967295 c.args.from.now c.args.out.now c.loop-piece.out l) c.in-None.ensures.steps.0 c.loop-piece.invariant) (any_reach c.args.from.now c.shape.ensures.valid)
+    all_taken c.args.from.now c.args.out.now c.loop-piece.out (subst (λ l. IsPassing StaysSame (λ high. high) 4294967295 c.args.from.now c.args.out.now c.loop-piece.out l) c.in-None.ensures.steps.0 c.loop-piece.invariant) c.pieces-piece-items.ensures.reach

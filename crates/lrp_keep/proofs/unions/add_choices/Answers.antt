@@ -1,4 +1,4 @@
-use Rattle.std.proofs.Common.{◌≡◌, ◌<◌, ◌≤◌, arith}
+use Rattle.std.proofs.Common.{arith}
 use Rattle.lrp_keep.proofs.Taken.{none_below}
 use Rattle.lrp_keep.proofs.Taking.{alike_still, one_slot, slots_done}
 use Rattle.lrp_keep.proofs.unions.add_choices.Goals as goal

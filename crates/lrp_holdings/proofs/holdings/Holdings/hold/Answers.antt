@@ -1,6 +1,6 @@
 use Rattle.lrp_holdings.proofs.Chained.{roomier, some_stands}
 use Rattle.lrp_holdings.proofs.LetGo.{not_chained_yet}
-use Rattle.lrp_holdings.proofs.Holding.{is_held_too, larger_held, loose_put, roomier_held, within_after}
+use Rattle.lrp_holdings.proofs.Holding.{is_held_too, larger_held, loose_put, roomier_held, short_after, short_put, within_after}
 use Rattle.slab.specs.Slab.{get}
 use Rattle.lrp_holdings.specs.Chains.{owner_at}
 use Rattle.std.proofs.Common.{◌≡◌, Some}
@@ -24,7 +24,7 @@ link_all-requires-clause-chained g c =
 
 pub link_all-requires-clause-loose : goal.link_all-requires-clause-loose
 link_all-requires-clause-loose g c =
-    loose_put c.self.inside.slots c.insert.new.self c.insert.new.self c.self.inside.chains.items c.make_room.new.chains.items c.in_ok-slot.slot (record { value = c.args.value; owners = c.in_ok-owners.owners }) c.args.numbers.now c.in_ok-slot.ensures.was_vacant c.in_ok-slot.ensures.updates c.in_ok-owners.ensures
+    loose_put c.self.inside.slots c.insert.new.self c.insert.new.self c.self.inside.chains.items c.make_room.new.chains.items c.in_ok-slot.slot (record { value = c.args.value; owners = c.in_ok-owners.owners }) c.args.numbers.now c.in_ok-slot.ensures.was_vacant c.in_ok-slot.ensures.updates c.in_ok-owners.ensures.made
     c.in_ok-make_room.ensures.room
 
 pub link_all-requires-clause-held : goal.link_all-requires-clause-held
@@ -33,11 +33,18 @@ link_all-requires-clause-held g c = some_stands (get c.insert.new.self c.in_ok-s
 pub invariant_of-self-2 : goal.invariant_of-self-2
 invariant_of-self-2 g c = record {
   chained = c.link_all.ensures.chained;
-  within = within_after c.self.inside.slots c.insert.new.self c.link_all.new.slots c.self.inside.chains.items c.make_room.new.chains.items c.in_ok-slot.slot (record { value = c.args.value; owners = c.in_ok-owners.owners }) c.args.numbers.now c.in_ok-slot.ensures.was_vacant c.in_ok-slot.ensures.updates c.in_ok-owners.ensures
+  within = within_after c.self.inside.slots c.insert.new.self c.link_all.new.slots c.self.inside.chains.items c.make_room.new.chains.items c.in_ok-slot.slot (record { value = c.args.value; owners = c.in_ok-owners.owners }) c.args.numbers.now c.in_ok-slot.ensures.was_vacant c.in_ok-slot.ensures.updates c.in_ok-owners.ensures.made
       c.self.invariant c.in_ok-slot.ensures.key_in_range c.insert.ensures.capacity c.link_all.ensures.same;
+  short = short_after c.self.inside.slots c.insert.new.self c.link_all.new.slots c.self.inside.chains.items c.make_room.new.chains.items c.in_ok-slot.slot (record { value = c.args.value; owners = c.in_ok-owners.owners }) c.args.numbers.now c.in_ok-slot.ensures.was_vacant c.in_ok-slot.ensures.updates c.in_ok-owners.ensures.made
+      c.self.invariant c.in_ok-owners.ensures.short c.link_all.ensures.same;
 }
+
+pub link_all-requires-clause-short : goal.link_all-requires-clause-short
+link_all-requires-clause-short g c =
+    short_put c.self.inside.slots c.insert.new.self c.insert.new.self c.self.inside.chains.items c.make_room.new.chains.items c.in_ok-slot.slot (record { value = c.args.value; owners = c.in_ok-owners.owners }) c.args.numbers.now c.in_ok-slot.ensures.was_vacant c.in_ok-slot.ensures.updates c.in_ok-owners.ensures.made
+    c.self.invariant c.in_ok-owners.ensures.short c.in_ok-slot.slot
 
 pub returns-clause-held : goal.returns-clause-held
 returns-clause-held g c =
-    is_held_too c.self.inside.slots c.insert.new.self c.link_all.new.slots c.self.inside.chains.items c.make_room.new.chains.items c.in_ok-slot.slot (record { value = c.args.value; owners = c.in_ok-owners.owners }) c.args.numbers.now c.in_ok-slot.ensures.was_vacant c.in_ok-slot.ensures.updates c.in_ok-owners.ensures
+    is_held_too c.self.inside.slots c.insert.new.self c.link_all.new.slots c.self.inside.chains.items c.make_room.new.chains.items c.in_ok-slot.slot (record { value = c.args.value; owners = c.in_ok-owners.owners }) c.args.numbers.now c.in_ok-slot.ensures.was_vacant c.in_ok-slot.ensures.updates c.in_ok-owners.ensures.made
     c.args.self.now c.self.view_is c.link_all.ensures.same

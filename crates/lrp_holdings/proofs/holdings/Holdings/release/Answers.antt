@@ -7,5 +7,8 @@ invariant_of-self g c = released_held c.args.number c.self.inside.slots c.releas
 pub returns : goal.returns
 returns g c = is_released c.args.number c.self.inside.slots c.release.new.slots c.args.self.now c.self.view_is c.release.ensures.released
 
-pub release-requires : goal.release-requires
-release-requires g c = c.self.invariant.chained
+pub release-requires-clause-chained : goal.release-requires-clause-chained
+release-requires-clause-chained g c = c.self.invariant.chained
+
+pub release-requires-clause-short : goal.release-requires-clause-short
+release-requires-clause-short g c = c.self.invariant.short

@@ -1,6 +1,5 @@
 -- The answer of a state is that of the keeper.
 use Rattle.std.proofs.Common.{subst}
-use Rattle.lrp_store.specs.declared.answer.Answer.{Answer}
 use Rattle.lrp_keep.specs.Keeps.{IsKeptAnswer}
 use Rattle.lrp_keep.specs.States.{IsAnswerOfState}
 use Rattle.lrp_parts.proofs.BoundDropped.{if_ok}

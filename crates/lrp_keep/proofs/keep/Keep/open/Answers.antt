@@ -1,7 +1,7 @@
 -- What is asked of a database is what its relations can be opened with.
 use Rattle.std.proofs.Common.{sym, subst}
-use Rattle.lrp_model.specs.Formulas.{Question, question_of}
-use Rattle.lrp_model.specs.Texts.{AreDistinct, Ascends, Text}
+use Rattle.lrp_model.specs.Formulas.{question_of}
+use Rattle.lrp_model.specs.Texts.{AreDistinct, Ascends}
 use Rattle.lrp_model.specs.declared.formulas.Query.{Query}
 use Rattle.lrp_kept.specs.Disjuncts.{AreDisjunctsOf}
 use Rattle.lrp_kept.specs.Held.{names_of}

@@ -1,5 +1,5 @@
 -- A row is held, and what it makes is derived; a refusal lets it go.
-use Rattle.std.proofs.Common.{◌≡◌, ◌<◌, ◌-◌, length, Err, refl, sym, ap, subst, ◌∙◌, arith}
+use Rattle.std.proofs.Common.{◌≡◌, ◌<◌, ◌-◌, length, Err, refl, sym, ap, subst, arith}
 use Rattle.lrp_limits.specs.declared.periods.Period.{Period}
 use Rattle.lrp_kept.specs.declared.rows.HeldRelation.{HeldRelation}
 use Rattle.lrp_kept.specs.declared.rows.HeldRows.{HeldRows}

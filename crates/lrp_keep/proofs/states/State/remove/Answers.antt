@@ -1,5 +1,5 @@
 -- The first equal row is let go.
-use Rattle.std.proofs.Common.{◌≡◌, subst}
+use Rattle.std.proofs.Common.{subst}
 use Rattle.std.specs.Prelude.{MatchOption}
 use Rattle.std.proofs.lemmas.Option.{slice_get_within}
 use Rattle.lrp_kept.specs.Keyed.{HasNoEqualRow, IsFirstEqual}

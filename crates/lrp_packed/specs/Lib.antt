@@ -1,0 +1,3 @@
+-- Packed zones and packed stores.
+pub mod Entries
+pub mod Packed

@@ -1,0 +1,170 @@
+// Zones in as few bytes as they need.
+ghost use Rattle.std.specs.Prelude.{◌≡◌, ◌<◌, ◌≤◌, IfOk, IfSome, length};
+ghost use Rattle.std.specs.List.{AllByRecursion};
+ghost use Rattle.lrp_packed.specs.Entries.{ArePacked, IsEntryAt, IsProper, IsPut, cell_of, residue_in, table_of, text_in};
+ghost use Rattle.lrp_packed.specs.Packed.{CanBeUnpacked, unpacked};
+
+use lrp_model::{Cell, Memory, Shape};
+use lrp_tables::Piece;
+use lrp_zone::{Table, Zone};
+use std::alloc::Global;
+use std::marker::Model;
+
+/// What stands at a place of a zone: a text at the places from 0, a residue from 8, and a stored bound from 16 on, in the
+/// order of the table.
+#[derive(Clone, Copy)]
+pub(crate) struct Entry {
+    pub(crate) place: u8,
+    pub(crate) text: u32,
+    pub(crate) time: i64,
+}
+
+/// A zone and its cell, of which no text and no residue is listed that is 0. Contracts see the cell and the table of the
+/// stored bounds.
+#[derive(Drop)]
+pub(crate) struct PackedZone {
+    entries: Vec<Entry>,
+}
+
+impl Model for PackedZone {
+    ghost use Rattle.std.specs.List.{AllByRecursion};
+    ghost use Rattle.lrp_packed.specs.Entries.{CellZone, IsProper, cell_of, table_of};
+
+    ghost Value = { CellZone };
+
+    ghost view = { λ z. (cell_of z.entries.items, table_of z.entries.items) };
+
+    ghost invariant = { λ z. AllByRecursion IsProper z.entries.items };
+}
+
+impl PackedZone {
+    /// A zone with its cell.
+    pub(crate) fn of(alloc: Global, piece: &Piece) -> Result<PackedZone, Memory>
+        requires texts { length piece.now.cell.texts ≡ 8 }
+        requires residues { length piece.now.cell.residues ≡ 8 }
+        ensures { IfOk result (λ made. made ≡ (piece.now.cell, piece.now.zone.bounds)) }
+    {
+        let entries = entries_of(alloc, piece)?;
+        Ok(PackedZone { entries })
+    }
+
+    /// The zone and its cell, of this shape and period.
+    pub(crate) fn piece(&self, shape: Shape, period: u64) -> Piece
+        requires { CanBeUnpacked shape period self.now }
+        ensures { result ≡ unpacked shape period self.now }
+    {
+        let (cell, bounds) = written(self.entries.as_slice());
+        let residues = &cell.residues[..usize::from(shape.times)];
+        let zone = Zone::of_table(period, residues, &bounds);
+        Piece { cell, zone }
+    }
+}
+
+// The entries of a zone, in as many places of a vector.
+fn entries_of(alloc: Global, piece: &Piece) -> Result<Vec<Entry>, Memory>
+    requires texts { length piece.now.cell.texts ≡ 8 }
+    requires residues { length piece.now.cell.residues ≡ 8 }
+    ensures { IfOk result (λ made. ArePacked piece.now.cell piece.now.zone.bounds made.items) }
+{
+    piece.zone.columns();
+    let mut entries = Vec::new(alloc);
+    for place in 0..97 {
+        if let Some(entry) = entry_at(piece, place) {
+            entries.push(entry)?;
+        }
+    }
+    entries.shrink_to_fit();
+    Ok(entries)
+}
+
+// The entry for a place of a zone, if there is one.
+fn entry_at(piece: &Piece, place: u8) -> Option<Entry>
+    requires place { place < 97 }
+    requires texts { length piece.now.cell.texts ≡ 8 }
+    requires residues { length piece.now.cell.residues ≡ 8 }
+    ensures is { IsEntryAt piece.now.cell piece.now.zone.bounds place result }
+    ensures proper { IfSome result IsProper }
+{
+    if place < 8 {
+        text_entry(place, piece.cell.texts[usize::from(place)])
+    } else if place < 16 {
+        residue_entry(place, piece.cell.residues[usize::from(place) - 8])
+    } else {
+        bound_entry(piece, place)
+    }
+}
+
+fn text_entry(place: u8, text: u32) -> Option<Entry>
+    requires { place < 8 }
+    ensures place { IfSome result (λ e. e.place ≡ place) }
+    ensures text { text_in result ≡ text }
+{
+    if text == 0 {
+        return None;
+    }
+    Some(Entry {
+        place,
+        text,
+        time: 0,
+    })
+}
+
+fn residue_entry(place: u8, residue: i64) -> Option<Entry>
+    requires { place < 16 }
+    ensures place { IfSome result (λ e. e.place ≡ place) }
+    ensures residue { residue_in result ≡ residue }
+{
+    if residue == 0 {
+        return None;
+    }
+    Some(Entry {
+        place,
+        text: 0,
+        time: residue,
+    })
+}
+
+fn bound_entry(piece: &Piece, place: u8) -> Option<Entry>
+    requires low { 16 ≤ place }
+    requires high { place < 97 }
+    ensures is { IsEntryAt piece.now.cell piece.now.zone.bounds place result }
+    ensures proper { IfSome result IsProper }
+{
+    let time = piece.zone.bounds().get(usize::from(place) - 16)?;
+    Some(Entry {
+        place,
+        text: 0,
+        time,
+    })
+}
+
+// The cell and the table that entries stand for. The first one for a place is the last that is put there.
+fn written(entries: &[Entry]) -> (Cell, Table)
+    requires { AllByRecursion IsProper entries.now }
+    ensures cell { result.0 ≡ cell_of entries.now }
+    ensures table { result.1 ≡ table_of entries.now }
+{
+    let mut cell = Cell {
+        texts: [0; 8],
+        residues: [0; 8],
+    };
+    let mut bounds = Table::free();
+    for turn in 0..entries.len() {
+        put(entries[entries.len() - 1 - turn], &mut cell, &mut bounds);
+    }
+    (cell, bounds)
+}
+
+fn put(entry: Entry, cell: &mut Cell, bounds: &mut Table)
+    requires { IsProper entry }
+    ensures { IsPut entry cell.old cell.new bounds.old bounds.new }
+{
+    let place = usize::from(entry.place);
+    if place < 8 {
+        cell.texts[place] = entry.text;
+    } else if place < 16 {
+        cell.residues[place - 8] = entry.time;
+    } else {
+        bounds.set(place - 16, Some(entry.time));
+    }
+}
