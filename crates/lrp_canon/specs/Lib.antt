@@ -1,4 +1,5 @@
 -- Sets of one time column as periodic rows, and the canonical answer of such a set.
+pub mod Answers
 pub mod Canonical
 pub mod Counting
 pub mod Edges

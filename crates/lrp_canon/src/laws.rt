@@ -6,6 +6,8 @@ ghost use Rattle.lrp_model.specs.Plans.{time_columns};
 ghost use Rattle.lrp_model.specs.Rows.{Datum};
 ghost use Rattle.lrp_model.specs.Satisfaction.{IsAnswer};
 ghost use Rattle.lrp_model.specs.declared.relations.Relation.{Relation};
+ghost use Rattle.lrp_canon.specs.Answers.{HasNumber};
+ghost use Rattle.lrp_canon.specs.Rows.{HasRowCount};
 
 /// Two queries with one time column, equal heads and equal answers have one answer text in rows of a period: the rows are the
 /// maximal intervals, their bounds are the least ones, and their order is fixed.
@@ -17,4 +19,12 @@ pub fn answer_texts_are_unique()
         → IsAnswerTextOf K db q bytes
         → IsAnswerTextOf K other_db other others
         → bytes ≡ others }
+{}
+
+/// The answers of a query with one time column have one number of maximal rows.
+pub fn answers_have_one_row_count()
+    ensures { (db : List Relation) (q : Question) (count other : ℕ)
+        → HasRowCount (HasNumber db q) count
+        → HasRowCount (HasNumber db q) other
+        → count ≡ other }
 {}

@@ -9,4 +9,4 @@ mod rows;
 mod storing;
 
 pub use answers::{canonical, canonical_rows, canonical_within};
-pub use laws::answer_texts_are_unique;
+pub use laws::{answer_texts_are_unique, answers_have_one_row_count};

@@ -4,6 +4,7 @@
 mod domains;
 mod drafts;
 mod elements;
+mod laws;
 mod naming;
 mod planner;
 mod planning;
@@ -14,6 +15,7 @@ mod taking;
 mod waiting;
 mod wholes;
 
+pub use laws::kept_queries_have_periods;
 pub use lrp_model::{Plan, Step, StepKind};
 pub use lrp_plan_laws::{
     core_form_is_sound, drops_are_guarded, periods_are_least, plan_is_sound, plan_rises,
