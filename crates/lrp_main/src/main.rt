@@ -8,7 +8,7 @@ mod tests;
 
 ghost use Rattle.std.specs.Prelude.{◌≡◌};
 ghost use Rattle.std.specs.Process.{exit_status};
-ghost use Rattle.lrp_top.specs.Statuses.{status_number as number_of_status};
+ghost use Rattle.lrp_outputs.specs.Statuses.{status_number as number_of_status};
 
 use lrp_io::{RealShelf, RealSink};
 use lrp_top::Status;

@@ -23,11 +23,13 @@ use Rattle.lrp_model.specs.declared.relations.Relation.{Relation}
 use Rattle.lrp_model.specs.declared.relations.Sort.{Sort}
 use Rattle.lrp_model.specs.declared.relations.Sort.TheVariants.{Time, Data, Named}
 use Rattle.lrp_eval.specs.Counts.{HasAnswerCount, HasCells}
-use Rattle.lrp_watch.specs.First.{IsFirst}
-use Rattle.lrp_top.specs.Sampled.{TellsSample, sample_lines}
+use Rattle.lrp_outputs.specs.First.{IsFirst}
+use Rattle.lrp_top.specs.Sampled.{TellsSample}
+use Rattle.lrp_outputs.specs.SampleLines.{sample_lines}
 use Rattle.lrp_sample.specs.Texts.{sample_database, sample_query}
 use Rattle.lrp_top.specs.Written.{IsSorted}
-use Rattle.lrp_top.specs.Telling.{TellsPage, TellsWitness, listed_bytes}
+use Rattle.lrp_top.specs.Telling.{TellsPage, TellsWitness}
+use Rattle.lrp_outputs.specs.PageLines.{listed_bytes}
 use Rattle.lrp_run_laws.proofs.Complete.{DatabaseTexts, QueryTexts}
 
 -- ---- the least answer is one

@@ -9,7 +9,8 @@ use Rattle.lrp_model.specs.Satisfaction.{IsAnswer}
 use Rattle.lrp_model.specs.Texts.{Text}
 use Rattle.lrp_model.specs.declared.relations.Relation.{Relation}
 use Rattle.lrp_canon.specs.Rows.{IsLeastPeriod, IsSetOfRows}
-use Rattle.lrp_top.specs.Canonical.{HasCanonicalRows, HasNumber, IsCanonicalText}
+use Rattle.lrp_canon.specs.Answers.{HasNumber}
+use Rattle.lrp_top.specs.Canonical.{HasCanonicalRows, IsCanonicalText}
 use Rattle.lrp_run_laws.specs.SameAnswers.{HaveSameAnswers}
 
 -- ---- what is known of canonical answers

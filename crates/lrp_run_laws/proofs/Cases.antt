@@ -19,15 +19,15 @@ use Rattle.lrp_top.specs.Due.{IsDatabaseReadOf, IsQueryRead, IsQueryReadOf, IsHe
 use Rattle.lrp_run_laws.specs.Contents.{Contents, digest_of, SaysRelations, SaysQuestion, two_files}
 use Rattle.lrp_run_laws.specs.Tasks.{HasFewCells}
 use Rattle.lrp_top.specs.Canonical.{HasCanonicalRows, IsCanonicalText}
-use Rattle.lrp_top.specs.Outcomes.{Outcome}
+use Rattle.lrp_outputs.specs.Outcomes.{Outcome}
 use Rattle.lrp_top.specs.Resuming.{IsResumed, IsStale, shape_of}
 use Rattle.lrp_top.specs.Seen.{ShelfSeen, AreBytesOf, HasFailed}
 use Rattle.lrp_top.specs.Sources.{Source}
 use Rattle.lrp_top.specs.Steps.{Then, Behind}
 use Rattle.lrp_top.specs.Telling.{TellsPage, TellsPlan, TellsWitness}
 use Rattle.lrp_top.specs.Written.{IsFaultyAs, plain_if}
-use Rattle.lrp_top.specs.declared.outcome.Refusal.{Refusal}
-use Rattle.lrp_top.specs.declared.outcome.Refusal.TheVariants.{ReadDatabase, LongDatabase, Database, ReadQuery, LongQuery, Query, PeriodLimit, BoundLimit, TokenForm, TokenShape, TokenStale, Cells, CanonHead, CanonRows, Memory}
+use Rattle.lrp_outputs.specs.declared.refusal.Refusal.{Refusal}
+use Rattle.lrp_outputs.specs.declared.refusal.Refusal.TheVariants.{ReadDatabase, LongDatabase, Database, ReadQuery, LongQuery, Query, PeriodLimit, BoundLimit, TokenForm, TokenShape, TokenStale, Cells, CanonHead, CanonRows, Memory}
 
 -- what a task asks of two files: whether for a canonical answer, how they are written and their names, the token of a page and the cap, where it has them
 pub record Asked : Type 0 where

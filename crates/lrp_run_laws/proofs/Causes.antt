@@ -17,17 +17,18 @@ use Rattle.lrp_run_laws.specs.Tasks.{IsOutputOf, TellsPlanOf, TellsPageBehind}
 use Rattle.lrp_run_laws.specs.Runs.{Run, WroteAll}
 use Rattle.lrp_run_laws.specs.Reasons.{IsRefusedBehind, HasMany, HasManyRows, IsNoDatabase, IsNoQuery, IsNoTokenOf, IsAbove, IsDatabaseRefused, IsQueryRefused, IsQueryAbove, HasFailedFile, HasFailedOneOf, IsReason, HasReasonFor, HasTaskReason, IsUsage}
 use Rattle.lrp_top.specs.Canonical.{IsCanonicalText}
-use Rattle.lrp_top.specs.Outcomes.{Outcome, Ends, refused_with, status_of, written_of, line_of}
+use Rattle.lrp_outputs.specs.Outcomes.{Outcome, refused_with, status_of, written_of, line_of}
+use Rattle.lrp_top.specs.Ends.{Ends}
 use Rattle.lrp_top.specs.Resuming.{IsResumed}
 use Rattle.lrp_top.specs.Sampled.{TellsSample}
 use Rattle.lrp_top.specs.Seen.{ShelfSeen, SinkSeen, AreBytesOf}
 use Rattle.lrp_top.specs.Sources.{Source}
 use Rattle.lrp_top.specs.Steps.{Behind}
 use Rattle.lrp_top.specs.Telling.{TellsPage, TellsPlan, TellsRelations, TellsWitness}
-use Rattle.lrp_top.specs.declared.outcome.Refusal.{Refusal}
-use Rattle.lrp_top.specs.declared.outcome.Refusal.TheVariants.{Usage, ReadDatabase, LongDatabase, Database, ReadQuery, LongQuery, Query, PeriodLimit, BoundLimit, TokenForm, TokenShape, TokenStale, Cells, CanonHead, CanonRows, Memory}
-use Rattle.lrp_top.specs.declared.status.Status.{Status}
-use Rattle.lrp_top.specs.declared.status.Status.TheVariants as status
+use Rattle.lrp_outputs.specs.declared.refusal.Refusal.{Refusal}
+use Rattle.lrp_outputs.specs.declared.refusal.Refusal.TheVariants.{Usage, ReadDatabase, LongDatabase, Database, Memory}
+use Rattle.lrp_outputs.specs.declared.status.Status.{Status}
+use Rattle.lrp_outputs.specs.declared.status.Status.TheVariants as status
 use Rattle.lrp_run_laws.proofs.Explained.{Explained, OutcomeFor, is_memory}
 use Rattle.lrp_run_laws.proofs.WatchCauses.{watch_explained}
 use Rattle.lrp_run_laws.proofs.Cases.{Asked, Telling, output, form, other, stale, many, rows, want, Case, unread_database, long_database, no_database, unread_query, long_query, no_query, no_head, above_period, above_bound, planned, wanted, reached, answer_goes_on, canonical_goes_on, decide_goes_on, explain_goes_on, list_goes_on}

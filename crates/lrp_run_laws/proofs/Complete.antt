@@ -33,8 +33,8 @@ use Rattle.lrp_run_laws.specs.Reasons.{HasManyRows, HasOtherHead, IsRefusedBehin
 use Rattle.lrp_top.specs.Resuming.{IsResumed, IsFresh, IsTokenOf, IsStale, shape_of}
 use Rattle.lrp_top.specs.Seen.{ShelfSeen, SinkSeen, HasFailed}
 use Rattle.lrp_top.specs.Written.{IsSortedAs, IsFaultyAs, plain_if}
-use Rattle.lrp_top.specs.declared.status.Status.{Status}
-use Rattle.lrp_top.specs.declared.status.Status.TheVariants as status
+use Rattle.lrp_outputs.specs.declared.status.Status.{Status}
+use Rattle.lrp_outputs.specs.declared.status.Status.TheVariants as status
 use Rattle.lrp_run_laws.proofs.Canonical.{OneRowCount}
 use Rattle.lrp_run_laws.proofs.Cases.{IsFew}
 use Rattle.lrp_run_laws.proofs.Causes.{run_cause}

@@ -1,17 +1,16 @@
 -- What holds of a task's outcome: it is the output, or there is a cause.
-use Rattle.std.proofs.Common.{◌≡◌, List, refl, Option, Some, Result, Ok, Err}
-use Rattle.lrp_io.specs.declared.shelf.File.{File}
+use Rattle.std.proofs.Common.{◌≡◌, refl, Ok, Err}
 use Rattle.lrp_words.specs.Commands.{Task}
 use Rattle.lrp_run_laws.specs.Contents.{Contents, AreContentsFor}
 use Rattle.lrp_run_laws.specs.Tasks.{IsOutputOf}
 use Rattle.lrp_run_laws.specs.Runs.{WroteAll}
 use Rattle.lrp_run_laws.specs.Reasons.{IsReason}
-use Rattle.lrp_top.specs.Outcomes.{Outcome, refused_with, line_of}
+use Rattle.lrp_outputs.specs.Outcomes.{Outcome, refused_with, line_of}
 use Rattle.lrp_top.specs.Seen.{ShelfSeen, SinkSeen}
-use Rattle.lrp_top.specs.declared.outcome.Refusal.{Refusal}
-use Rattle.lrp_top.specs.declared.outcome.Refusal.TheVariants.{Usage, ReadDatabase, LongDatabase, Database, ReadQuery, LongQuery, Query, PeriodLimit, BoundLimit, TokenForm, TokenShape, TokenStale, Cells, CanonHead, CanonRows, Watch, Memory}
-use Rattle.lrp_top.specs.declared.watch_refusal.WatchRefusal.TheVariants as watch
-use Rattle.lrp_top.specs.declared.status.Status.TheVariants as status
+use Rattle.lrp_outputs.specs.declared.refusal.Refusal.{Refusal}
+use Rattle.lrp_outputs.specs.declared.refusal.Refusal.TheVariants.{Usage, ReadDatabase, LongDatabase, Database, ReadQuery, LongQuery, Query, PeriodLimit, BoundLimit, TokenForm, TokenShape, TokenStale, Cells, CanonHead, CanonRows, Watch, Memory}
+use Rattle.lrp_outputs.specs.declared.watch_refusal.WatchRefusal.TheVariants as watch
+use Rattle.lrp_outputs.specs.declared.status.Status.TheVariants as status
 
 -- no other refusal has the status of want of memory
 pub is_memory : (r : Refusal) → refused_with r ≡ status.Memory → r ≡ Memory

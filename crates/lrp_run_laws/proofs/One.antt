@@ -25,7 +25,8 @@ use Rattle.lrp_top.specs.Due.{IsDueOf, IsDueFor, IsDatabaseRead, IsQueryRead, Is
 use Rattle.lrp_run_laws.specs.Contents.{Contents, contents_at, contents_of, SaysRelations, SaysQuestion}
 use Rattle.lrp_run_laws.specs.Runs.{IsRunOf, Run, task_asked}
 use Rattle.lrp_run_laws.specs.Pairs.{AreOneOutput, AreOneText, EndedAlike, IsDecidedByFiles}
-use Rattle.lrp_top.specs.Outcomes.{Outcome, Ends, line_of, refused_with, status_of, written_of}
+use Rattle.lrp_outputs.specs.Outcomes.{Outcome, line_of, refused_with, status_of, written_of}
+use Rattle.lrp_top.specs.Ends.{Ends}
 use Rattle.lrp_top.specs.Resuming.{IsResumed}
 use Rattle.lrp_top.specs.Sampled.{TellsSample}
 use Rattle.lrp_top.specs.Seen.{ShelfSeen, AreBytesOf}
@@ -35,11 +36,11 @@ use Rattle.lrp_top.specs.Telling.{TellsPage, TellsPlan, TellsRelations, TellsWit
 use Rattle.lrp_model.specs.DatabaseReading.{IsDatabase}
 use Rattle.lrp_top.specs.Watched.{AreEditsRead, IsKeptForm, IsWatched}
 use Rattle.lrp_top.specs.Written.{IsSortedAs, plain_if}
-use Rattle.lrp_top.specs.declared.outcome.Refusal.{Refusal}
-use Rattle.lrp_top.specs.declared.outcome.Refusal.TheVariants.{Usage, ReadDatabase, LongDatabase, Database, ReadQuery, LongQuery, Query, PeriodLimit, BoundLimit, TokenForm, TokenShape, TokenStale, Cells, CanonHead, CanonRows, Watch, Memory}
-use Rattle.lrp_top.specs.declared.watch_refusal.WatchRefusal.TheVariants as refusal
-use Rattle.lrp_top.specs.declared.status.Status.{Status}
-use Rattle.lrp_top.specs.declared.status.Status.TheVariants as status
+use Rattle.lrp_outputs.specs.declared.refusal.Refusal.{Refusal}
+use Rattle.lrp_outputs.specs.declared.refusal.Refusal.TheVariants.{Usage, ReadDatabase, LongDatabase, Database, ReadQuery, LongQuery, Query, PeriodLimit, BoundLimit, TokenForm, TokenShape, TokenStale, Cells, CanonHead, CanonRows, Watch, Memory}
+use Rattle.lrp_outputs.specs.declared.watch_refusal.WatchRefusal.TheVariants as refusal
+use Rattle.lrp_outputs.specs.declared.status.Status.{Status}
+use Rattle.lrp_outputs.specs.declared.status.Status.TheVariants as status
 use Rattle.lrp_run_laws.proofs.Agree.{Lasting, Agree, then_agree, SameText, Counted, OneDatabaseFault, OneQueryFault, database_agree, query_agree, planned_agree, cells_agree, rows_agree, resumed_agree, output_agree}
 use Rattle.lrp_run_laws.proofs.Alike.{OneRank, WholeTuples, OnePage, OneCells, OneCount, one_witness, one_listing, one_sample}
 use Rattle.lrp_run_laws.proofs.Canonical.{OneAnswerText, OneRowCount, one_canonical, own_answers}

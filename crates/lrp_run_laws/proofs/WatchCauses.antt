@@ -1,5 +1,5 @@
 -- Why a run of a watch ended as it did.
-use Rattle.std.proofs.Common.{◌≡◌, inl, inr, ◌≤◌, ℕ, true, false, List, length, sym, ap, ap₂, subst, ◌∙◌, Option, Some, Result, Ok, Err}
+use Rattle.std.proofs.Common.{◌≡◌, inl, inr, ◌≤◌, ℕ, true, false, List, length, sym, ap, ap₂, subst, ◌∙◌, Result, Ok, Err}
 use Rattle.lrp_io.specs.Files.{content_of}
 use Rattle.lrp_words.specs.Commands.{Task}
 use Rattle.lrp_words.specs.Commands.Task.{watch as watching}
@@ -11,15 +11,15 @@ use Rattle.lrp_edits.specs.declared.edits.Edit.{Edit}
 use Rattle.lrp_kept.specs.KeptForm.{is_kept}
 use Rattle.lrp_keep.specs.declared.faults.KeepFault.TheVariants as limit
 use Rattle.lrp_top.specs.Due.{IsDatabaseReadOf, IsQueryRead, IsQueryReadOf, IsWatchedFor}
-use Rattle.lrp_top.specs.Outcomes.{Outcome}
+use Rattle.lrp_outputs.specs.Outcomes.{Outcome}
 use Rattle.lrp_top.specs.Seen.{ShelfSeen, AreBytesOf}
 use Rattle.lrp_top.specs.Sources.{Source}
 use Rattle.lrp_top.specs.Steps.{Behind, Then}
 use Rattle.lrp_top.specs.Watched.{AreEditsRead, AreEditsReadOf, IsKeptForm, IsWatched}
 use Rattle.lrp_top.specs.Written.{IsSortedAs, plain_if}
-use Rattle.lrp_top.specs.declared.outcome.Refusal.{Refusal}
-use Rattle.lrp_top.specs.declared.outcome.Refusal.TheVariants.{ReadDatabase, LongDatabase, Database, ReadQuery, LongQuery, Query, Watch, Memory}
-use Rattle.lrp_top.specs.declared.watch_refusal.WatchRefusal.TheVariants as watch
+use Rattle.lrp_outputs.specs.declared.refusal.Refusal.{Refusal}
+use Rattle.lrp_outputs.specs.declared.refusal.Refusal.TheVariants.{ReadDatabase, LongDatabase, Database, ReadQuery, LongQuery, Query, Watch, Memory}
+use Rattle.lrp_outputs.specs.declared.watch_refusal.WatchRefusal.TheVariants as watch
 use Rattle.lrp_run_laws.specs.Contents.{Contents, Keeping, SaysQuestion, SaysRelations, SaysTheseEdits, Watching}
 use Rattle.lrp_run_laws.proofs.Cases.{some_bytes}
 use Rattle.lrp_run_laws.proofs.Explained.{Explained, OutcomeFor}

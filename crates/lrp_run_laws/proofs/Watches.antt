@@ -1,13 +1,12 @@
 -- Two watches over the same bytes come to one outcome.
-use Rattle.std.proofs.Common.{◌≡◌, ◌≢◌, ◌⊎◌, inl, inr, ◌∷◌, ◌++◌, ◌+◌, ◌<◌, ◌≤◌, ◌^◌, ◌∙◌, ℕ, zero, suc, Bool, true, false, List, [], length, flat_map, refl, sym, ap, ap₂, subst, Option, Some, None, Result, Ok, Err, arith}
+use Rattle.std.proofs.Common.{◌≡◌, ◌≢◌, ◌⊎◌, inl, inr, ◌∷◌, ◌++◌, ◌+◌, ◌<◌, ◌≤◌, ◌^◌, ◌∙◌, ℕ, zero, suc, Bool, true, false, List, [], length, flat_map, refl, sym, ap, ap₂, subst, Option, Result, Err, arith}
 use Rattle.std.specs.Prelude.{if◌then◌else◌}
 use Rattle.std.specs.List.{All, AllZip}
 use Rattle.std.proofs.lemmas.List.Elements.{All-head, All-tail}
-use Rattle.lrp_model.specs.DatabaseReading.{IsDatabase}
-use Rattle.lrp_model.specs.Formulas.{Form, Question, form_of, question_of}
+use Rattle.lrp_model.specs.Formulas.{Question, form_of, question_of}
 use Rattle.lrp_model.specs.Pages.{Tuple}
 use Rattle.lrp_model.specs.Rows.{rows_of}
-use Rattle.lrp_model.specs.Texts.{Identifier, Text}
+use Rattle.lrp_model.specs.Texts.{Identifier}
 use Rattle.lrp_model.specs.declared.faults.DbFault.{DbFault}
 use Rattle.lrp_model.specs.declared.formulas.Query.{Query}
 use Rattle.lrp_model.specs.declared.relations.Relation.{Relation}
@@ -22,15 +21,15 @@ use Rattle.lrp_keep.specs.Keeps.{HasNoEqual, IsCause, IsTakenOut, IsWithinLimits
 use Rattle.lrp_keep.specs.Replaced.{replaced}
 use Rattle.lrp_keep.specs.declared.faults.KeepFault.{KeepFault}
 use Rattle.lrp_keep.specs.declared.faults.KeepFault.TheVariants as limit
-use Rattle.lrp_watch.specs.Edits.{AreMade, IsMade, IsMadeBy, IsPassedAt, IsPassedBehind, IsRefusedEdit, last_kept}
-use Rattle.lrp_watch.specs.First.{IsFirst, first_line}
+use Rattle.lrp_watch.specs.Edits.{AreMade, IsMade, IsMadeBy, IsRefusedEdit, last_kept}
+use Rattle.lrp_outputs.specs.First.{IsFirst, first_line}
 use Rattle.lrp_watch.specs.Watching.{IsOpened, IsPassed, TellsLeasts, watched_constants}
-use Rattle.lrp_top.specs.Outcomes.{Outcome}
+use Rattle.lrp_outputs.specs.Outcomes.{Outcome}
 use Rattle.lrp_top.specs.Seen.{ShelfSeen, AreBytesOf}
 use Rattle.lrp_top.specs.Watched.{AreEditsRead, AreEditsReadOf, IsKeptForm, IsWatched}
-use Rattle.lrp_top.specs.declared.outcome.Refusal.{Refusal}
-use Rattle.lrp_top.specs.declared.outcome.Refusal.TheVariants.{Watch, Memory}
-use Rattle.lrp_top.specs.declared.watch_refusal.WatchRefusal.TheVariants as watch
+use Rattle.lrp_outputs.specs.declared.refusal.Refusal.{Refusal}
+use Rattle.lrp_outputs.specs.declared.refusal.Refusal.TheVariants.{Watch, Memory}
+use Rattle.lrp_outputs.specs.declared.watch_refusal.WatchRefusal.TheVariants as watch
 use Rattle.lrp_run_laws.proofs.Agree.{Agree, Counted, Lasting, Lasts, by_parts}
 use Rattle.lrp_run_laws.proofs.Alike.{OneRank, WholeTuples, one_start}
 use Rattle.lrp_run_laws.proofs.Complete.{EditTexts, no_longer}

@@ -3,8 +3,8 @@ use Rattle.std.specs.Prelude.{◌≡◌, ℕ, false, List}
 use Rattle.lrp_words.specs.Commands.{Task}
 use Rattle.lrp_words.specs.Commands.Task.{ask}
 use Rattle.lrp_model.specs.AnswerTexts.{IsAnswerText}
-use Rattle.lrp_top.specs.declared.status.Status.{Status}
-use Rattle.lrp_top.specs.declared.status.Status.TheVariants as status
+use Rattle.lrp_outputs.specs.declared.status.Status.{Status}
+use Rattle.lrp_outputs.specs.declared.status.Status.TheVariants as status
 use Rattle.lrp_run_laws.specs.Contents.{Contents, Asking}
 use Rattle.lrp_run_laws.specs.Runs.{Run, WroteAll}
 

@@ -16,13 +16,13 @@ use Rattle.lrp_edits.specs.EditReading.{IsEditsFault}
 use Rattle.lrp_kept.specs.KeptForm.{is_kept}
 use Rattle.lrp_token.specs.Reading.{IsNoToken, HasOtherCounts}
 use Rattle.lrp_top.specs.Canonical.{HasCanonicalRows}
-use Rattle.lrp_top.specs.Outcomes.{line_of}
+use Rattle.lrp_outputs.specs.Outcomes.{line_of}
 use Rattle.lrp_top.specs.Resuming.{IsStale, shape_of}
 use Rattle.lrp_top.specs.Seen.{ShelfSeen, SinkSeen, HasFailed}
 use Rattle.lrp_top.specs.Written.{IsFaultyAs, plain_if}
-use Rattle.lrp_top.specs.declared.outcome.Refusal.TheVariants as refusal
-use Rattle.lrp_top.specs.declared.status.Status.{Status}
-use Rattle.lrp_top.specs.declared.status.Status.TheVariants as status
+use Rattle.lrp_outputs.specs.declared.refusal.Refusal.TheVariants as refusal
+use Rattle.lrp_outputs.specs.declared.status.Status.{Status}
+use Rattle.lrp_outputs.specs.declared.status.Status.TheVariants as status
 use Rattle.lrp_run_laws.specs.Contents.{Contents, AreContentsFor, digest_of, Keeping, OverDatabase, OverQuery, Watching}
 use Rattle.lrp_run_laws.specs.Tasks.{PassesLimit}
 use Rattle.lrp_run_laws.specs.Runs.{Run, task_asked, WroteAll, WroteOutput}

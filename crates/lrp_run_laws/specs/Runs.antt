@@ -7,11 +7,11 @@ use Rattle.lrp_io.specs.Causes.{Rose}
 use Rattle.lrp_io.specs.declared.shelf.File.{File}
 use Rattle.lrp_words.specs.Commands.{Task, command}
 use Rattle.lrp_top.specs.Due.{files_of, IsRun}
-use Rattle.lrp_top.specs.Outcomes.{line_of}
+use Rattle.lrp_outputs.specs.Outcomes.{line_of}
 use Rattle.lrp_top.specs.Seen.{ShelfSeen, SinkSeen, HasFailed}
-use Rattle.lrp_top.specs.declared.outcome.Refusal.TheVariants as refusal
-use Rattle.lrp_top.specs.declared.status.Status.{Status}
-use Rattle.lrp_top.specs.declared.status.Status.TheVariants as status
+use Rattle.lrp_outputs.specs.declared.refusal.Refusal.TheVariants as refusal
+use Rattle.lrp_outputs.specs.declared.status.Status.{Status}
+use Rattle.lrp_outputs.specs.declared.status.Status.TheVariants as status
 use Rattle.lrp_run_laws.specs.Contents.{Contents}
 use Rattle.lrp_run_laws.specs.Tasks.{IsOutputOf}
 

@@ -7,7 +7,7 @@ use Rattle.lrp_model.specs.Pages.{Tuple}
 use Rattle.lrp_model.specs.Satisfaction.{IsAnswer}
 use Rattle.lrp_model.specs.Texts.{Identifier}
 use Rattle.lrp_model.specs.declared.relations.Relation.{Relation}
-use Rattle.lrp_top.specs.declared.status.Status.TheVariants as status
+use Rattle.lrp_outputs.specs.declared.status.Status.TheVariants as status
 use Rattle.lrp_run_laws.specs.Contents.{contents_at, SaysQuestion, SaysRelations}
 use Rattle.lrp_run_laws.specs.Runs.{IsRunOf, Run, WroteAll}
 

@@ -14,7 +14,7 @@ ghost use Rattle.lrp_run_laws.specs.Pairs.{EndedAlike, IsDecidedByFiles};
 ghost use Rattle.lrp_run_laws.specs.SameAnswers.{HasToldCanonical, HaveSameAnswers, WroteAlike};
 ghost use Rattle.lrp_run_laws.specs.Following.{IsFollowed, IsShortWindow, IsUnfinished};
 
-use lrp_canon::answer_texts_are_unique;
+use lrp_canon::{answer_texts_are_unique, answers_have_one_row_count};
 use lrp_edits::{edits_are_one, edits_have_no_fault, edits_have_one_fault};
 use lrp_eval::counts_are_unique;
 use lrp_model::{
@@ -95,7 +95,9 @@ pub fn row_counts_are_unique()
         → HasCanonicalRows db q count
         → HasCanonicalRows db q other
         → count ≡ other }
-{}
+{
+    answers_have_one_row_count();
+}
 
 /// Two runs that told the canonical answers of two queries, each over its own database, wrote the same bytes where the queries
 /// have one head and the same answers.

@@ -1,7 +1,6 @@
 -- What the answers of a query leave room for, and what is told of them.
-use Rattle.std.proofs.Common.{◌≡◌, ◌↔◌, inl, inr, map, ◌≤◌, ◌<◌, ◌+◌, ◌*◌, ◌^◌, ℕ, zero, suc, List, [], ◌∷◌, ◌++◌, length, take, Option, Some, None, unwrap_or, option_map, Bool, refl, sym, ap, subst, ◌∙◌, arith}
-use Rattle.std.proofs.Math.Nat.{pow-succ', mul-le-mul_right}
-use Rattle.std.specs.Prelude.{ℤ, pos, codes, slice_get, Contains, IfNone, IfSome, MatchOption}
+use Rattle.std.proofs.Common.{◌≡◌, ◌↔◌, inl, inr, map, ◌≤◌, ◌<◌, ◌+◌, ◌*◌, ◌^◌, ℕ, List, [], ◌∷◌, ◌++◌, length, take, Option, Some, None, unwrap_or, option_map, Bool, refl, sym, ap, subst, ◌∙◌, arith}
+use Rattle.std.specs.Prelude.{ℤ, pos, codes, Contains, IfNone, IfSome, MatchOption}
 use Rattle.std.specs.List.{AllByRecursion}
 use Rattle.lrp_model.specs.Texts.{Text}
 use Rattle.lrp_model.specs.Formulas.{Question}
@@ -17,19 +16,19 @@ use Rattle.lrp_model.specs.declared.relations.Column.{Column}
 use Rattle.lrp_model.specs.declared.tuples.Shape.{Shape}
 use Rattle.lrp_model.specs.declared.tuples.Spot.{Spot}
 use Rattle.lrp_minus.specs.Settling.{IsSmallZone}
-use Rattle.lrp_watch.specs.Leasts.{IsSmallAnswer}
+use Rattle.lrp_outputs.specs.SmallAnswers.{IsSmallAnswer}
 use Rattle.lrp_plan_laws.specs.Rising.{IsRising, period_at}
-use Rattle.lrp_zone.specs.Zones.{columns_of, reach_of}
-use Rattle.lrp_store.specs.Least.{HasRoom, IsLeastSpot, StandsFor}
-use Rattle.lrp_store.specs.Stores.{IsStore, StoreView, tables_at, zone_of}
-use Rattle.lrp_store.specs.Tables.{AreTexts, InAnswer}
+use Rattle.lrp_zone.specs.Zones.{reach_of}
+use Rattle.lrp_store.specs.Least.{IsLeastSpot, StandsFor}
+use Rattle.lrp_store.specs.Stores.{StoreView, tables_at, zone_of}
+use Rattle.lrp_store.specs.Tables.{InAnswer}
 use Rattle.lrp_store.specs.declared.answer.Answer.{Answer}
 use Rattle.lrp_list.specs.Lines.{spot_tuple}
 use Rattle.lrp_canon.specs.Canonical.{CanMakeCanonical}
 use Rattle.lrp_eval.specs.Answered.{IsAnswerOf}
 use Rattle.lrp_top.proofs.Lists.{in_map}
-use Rattle.lrp_watch.specs.Spots.{HasKnownTexts}
-use Rattle.lrp_top.specs.Outputs.{spot_text}
+use Rattle.lrp_outputs.specs.Spots.{HasKnownTexts}
+use Rattle.lrp_outputs.specs.Outputs.{spot_text}
 use Rattle.lrp_top.specs.Telling.{TellsWitness}
 
 -- ---- room for the least answer

@@ -23,7 +23,7 @@ use Rattle.lrp_store.specs.Tables.{AreTexts, InAnswer}
 use Rattle.lrp_store.specs.declared.answer.Answer.{Answer}
 use Rattle.lrp_spans.specs.Groups.{HoldsNumber}
 use Rattle.lrp_eval.specs.Answered.{IsAnswerOf}
-use Rattle.lrp_top.specs.Canonical.{HasNumber}
+use Rattle.lrp_canon.specs.Answers.{HasNumber}
 use Rattle.lrp_top.proofs.CanonSets.{IsRenamed}
 
 -- ---- numbers of texts

@@ -1,5 +1,5 @@
 -- Spots in a window of civil times have civil times.
-use Rattle.std.proofs.Common.{◌≡◌, ◌<◌, ℕ, zero, suc, List, [], ◌∷◌, length, get_or, take, Bool, true, false, sym, subst, arith}
+use Rattle.std.proofs.Common.{List, [], ◌∷◌, Bool, true, false, sym, subst, arith}
 use Rattle.std.specs.Prelude.{ℤ, ◌≤ℤ◌}
 use Rattle.std.specs.List.{AllByRecursion}
 use Rattle.std.proofs.lemmas.Int.{ints}
@@ -9,8 +9,9 @@ use Rattle.lrp_model.specs.Rows.{times_of}
 use Rattle.lrp_model.specs.declared.tuples.Spot.{Spot}
 use Rattle.lrp_store.specs.declared.answer.Answer.{Answer}
 use Rattle.lrp_words.specs.Ranges.{IsEnd}
-use Rattle.lrp_top.specs.Known.{HasCivilTimes, HaveCivilTimes, IsStanding}
-use Rattle.lrp_watch.specs.Spots.{tuple_of}
+use Rattle.lrp_outputs.specs.Known.{HasCivilTimes, HaveCivilTimes}
+use Rattle.lrp_top.specs.Standing.{IsStanding}
+use Rattle.lrp_outputs.specs.Spots.{tuple_of}
 
 -- the ends of a window
 pub are_ends : (civil : Bool) (from to : ℤ) → IsEnd civil from → IsEnd civil to → AreEnds from to
@@ -34,18 +35,3 @@ module _ (from to : ℤ) (f : IsCivilMinute from) (t : IsCivilMinute to) where
 pub page_dates : (civil : Bool) (a : Answer) (from to : ℤ) (spots : List Spot) → IsEnd civil from → IsEnd civil to → AllByRecursion (IsStanding (window_of a from to)) spots → HaveCivilTimes civil a spots
 page_dates false a from to spots f t h = tt
 page_dates true a from to spots f t h = spots_between from to f.minute t.minute a spots h
-
--- one of them
-each_date : (a : Answer) (spots : List Spot) (i : ℕ) (spot : Spot) → AllByRecursion (HasCivilTimes a) spots → i < length spots → spot ≡ get_or spots i spot → HasCivilTimes a spot
-each_date a [] i spot h l e = absurd (omega arith)
-each_date a (s ∷ spots) zero spot h l e = subst (HasCivilTimes a) (sym e) h.0
-each_date a (s ∷ spots) (suc i) spot h l e = each_date a spots i spot h.1 (omega arith) e
-
-pub spot_dates : (civil : Bool) (a : Answer) (spots : List Spot) (i : ℕ) (spot : Spot) → HaveCivilTimes civil a spots → i < length spots → spot ≡ get_or spots i spot → HaveCivilTimes civil a (spot ∷ [])
-spot_dates false a spots i spot h l e = tt
-spot_dates true a spots i spot h l e = (each_date a spots i spot h l e, tt)
-
--- and its times, where they are civil ones
-pub own_dates : (civil : Bool) (a : Answer) (spot : Spot) → civil ≡ true → HaveCivilTimes civil a (spot ∷ []) → AllByRecursion IsCivilMinute (take a.store.shape.times spot.times)
-own_dates false a spot e h = cc
-own_dates true a spot e h = h.0

@@ -11,9 +11,9 @@ use Rattle.lrp_top.specs.Due.{IsQueryRead, IsQueryReadOf, IsDatabaseRead, IsData
 use Rattle.lrp_top.specs.Seen.{ShelfSeen, AreBytesOf, IsOverrun}
 use Rattle.lrp_top.specs.Sources.{Source}
 use Rattle.lrp_top.specs.Watched.{AreEditsRead, AreEditsReadOf}
-use Rattle.lrp_top.specs.declared.outcome.Refusal.{Refusal}
-use Rattle.lrp_top.specs.declared.outcome.Refusal.TheVariants.{ReadDatabase, LongDatabase, ReadQuery, LongQuery, Watch, Memory}
-use Rattle.lrp_top.specs.declared.watch_refusal.WatchRefusal.TheVariants as watch
+use Rattle.lrp_outputs.specs.declared.refusal.Refusal.{Refusal}
+use Rattle.lrp_outputs.specs.declared.refusal.Refusal.TheVariants.{ReadDatabase, LongDatabase, ReadQuery, LongQuery, Watch, Memory}
+use Rattle.lrp_outputs.specs.declared.watch_refusal.WatchRefusal.TheVariants as watch
 
 -- the bytes of a file of files, where these are told
 abbrev Told : Option (List File) → Identifier → List ℕ → Type 0

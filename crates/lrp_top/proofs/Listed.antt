@@ -1,15 +1,14 @@
--- Spots that follow one another, and the text of their page.
-use Rattle.std.proofs.Common.{◌≡◌, ◌≤◌, ◌+◌, ◌-◌, ◌^◌, ℕ, suc, List, [], ◌∷◌, ◌++◌, length, take, map, Option, Some, None, Bool, true, false, not, cond, filter, refl, sym, ap, ap₂, subst, ◌∙◌, arith, to_z, of_z, w64}
-use Rattle.std.specs.Prelude.{ℤ, pos, negsuc, neg_ℤ, ◌≤ℤ◌, nat_abs, slice_get, flat_map, ◌↔◌, IsTrue, IfSome}
+-- Spots that follow one another, and their page.
+use Rattle.std.proofs.Common.{◌≡◌, ◌≤◌, ◌+◌, ◌^◌, ℕ, suc, List, [], ◌∷◌, ◌++◌, length, map, Option, Some, None, Bool, true, false, not, cond, filter, refl, sym, ap, subst, ◌∙◌, arith, to_z, of_z, w64}
+use Rattle.std.specs.Prelude.{ℤ, pos, negsuc, neg_ℤ, ◌≤ℤ◌, nat_abs, ◌↔◌, IsTrue, IfSome}
 use Rattle.std.specs.Borrow.{Bor}
 use Rattle.std.specs.List.{AllByRecursion}
 use Rattle.std.proofs.lemmas.Int.{ints}
-use Rattle.std.proofs.lemmas.List.{length-map, length-take-le, map-append}
+use Rattle.std.proofs.lemmas.List.{length-map, map-append}
 use Rattle.lrp_model.specs.Lexing.{greatest_number}
 use Rattle.lrp_model.specs.Formulas.{Question}
-use Rattle.lrp_model.specs.Pages.{IsPage, Tuple, last_of}
+use Rattle.lrp_model.specs.Pages.{IsPage, Tuple}
 use Rattle.lrp_model.specs.Plans.{time_columns}
-use Rattle.lrp_model.specs.PrintedPages.{token_behind, token_of, token_text}
 use Rattle.lrp_model.specs.Rows.{times_of}
 use Rattle.lrp_model.specs.Satisfaction.{IsAnswer}
 use Rattle.lrp_model.specs.Sorts.{same_sort, is_data}
@@ -19,24 +18,22 @@ use Rattle.lrp_model.specs.declared.relations.Relation.{Relation}
 use Rattle.lrp_model.specs.declared.tuples.Shape.{Shape}
 use Rattle.lrp_model.specs.declared.tuples.Spot.{Spot}
 use Rattle.lrp_model.specs.declared.tuples.Tuple.{Tuple as ToldTuple}
-use Rattle.lrp_store.specs.Stores.{IsStore}
 use Rattle.lrp_store.specs.declared.answer.Answer.{Answer}
 use Rattle.lrp_eval.specs.Answered.{IsAnswerOf}
 use Rattle.lrp_store.specs.Tables.{InAnswer}
 use Rattle.lrp_list.specs.Giving.{Gives, IsFirst}
 use Rattle.lrp_list.specs.Lines.{is_json}
 use Rattle.lrp_list.specs.Listing.{AreEnds, HasNoneLeft, HasShapeOf, IsFirstLeft, IsLeft, WindowView, tuple_at, window_of}
-use Rattle.lrp_list.proofs.HeadOrder.{head_is}
 use Rattle.lrp_token.specs.Reading.{HasCounts}
-use Rattle.lrp_token.specs.Spots.{spot_token}
-use Rattle.lrp_top.specs.Known.{HasTimes, IsKnown, IsStanding}
-use Rattle.lrp_watch.specs.Spots.{tuple_of}
-use Rattle.lrp_top.specs.Outputs.{page_text}
+use Rattle.lrp_outputs.specs.Known.{HasTimes, IsKnown}
+use Rattle.lrp_top.specs.Standing.{IsStanding}
+use Rattle.lrp_outputs.specs.Spots.{tuple_of}
+use Rattle.lrp_outputs.specs.Outputs.{page_text}
 use Rattle.lrp_top.specs.Resuming.{data_columns, shape_of}
-use Rattle.lrp_top.specs.Telling.{TellsPage, line_as, listed_bytes}
-use Rattle.lrp_top.specs.declared.page.Page.{Page}
+use Rattle.lrp_top.specs.Telling.{TellsPage}
+use Rattle.lrp_outputs.specs.PageLines.{listed_bytes}
+use Rattle.lrp_outputs.specs.declared.page.Page.{Page}
 use Rattle.lrp_top.proofs.Answered.{HaveKnownTexts, same_page}
-use Rattle.lrp_model.specs.Tuples.{texts_at}
 
 -- ---- one more
 
@@ -105,37 +102,6 @@ known_at known a from to spot e s =
 pub known_all : HaveKnownTexts → (a : Answer) (from to : ℤ) (spots : List Spot) → AreEnds from to → AllByRecursion (IsStanding (window_of a from to)) spots → AllByRecursion (IsKnown a) spots
 known_all known a from to [] e h = tt
 known_all known a from to (spot ∷ spots) e h = (known_at known a from to spot e h.0, known_all known a from to spots e h.1)
-
--- ---- the last spot
-
-pub last_mapped : (f : Spot → Tuple) (spots : List Spot) (last : Spot) → slice_get spots (length spots - 1) ≡ Some last → last_of (map f spots) ≡ Some (f last)
-last_mapped f [] last e = cc
-last_mapped f (x ∷ []) last e = let s : x ≡ last = cc in ap (λ y. Some (f y)) s
-last_mapped f (x ∷ y ∷ ys) last e =
-    let k : length (x ∷ y ∷ ys) - 1 ≡ suc (length (y ∷ ys) - 1) = omega arith in
-    last_mapped f (y ∷ ys) last (subst (λ n. slice_get (x ∷ y ∷ ys) n ≡ Some last) k e)
-
--- ---- tokens
-
-pub token_is : (a : Answer) (files : List ℕ) (spot : Spot) → IsStore a.store → length spot.times ≡ 8 → length spot.texts ≡ 8 → spot_token a.store.shape a.domain files spot ≡ token_of files (tuple_of a spot)
-token_is a files spot valid times texts =
-    let shape = a.store.shape in
-    let m : shape.times ≤ 8 = valid.times in
-    let n : shape.texts ≤ 8 = valid.texts in
-    let t : length (take shape.times spot.times) ≡ shape.times = length-take-le shape.times spot.times (omega arith) in
-    let s : length (take shape.texts spot.texts) ≡ shape.texts = length-take-le shape.texts spot.texts (omega arith) in
-    let u : length (texts_at a.domain (take shape.texts spot.texts)) ≡ shape.texts = length-map (take shape.texts spot.texts) _ ∙ s in
-    let h = head_is a.head.columns (take shape.times spot.times) (texts_at a.domain (take shape.texts spot.texts)) (a.times_are ∙ sym t) (a.columns_are ∙ ap₂ (λ x y. x + y) (sym t) (sym u)) in
-    ap₂ (token_text (Some files)) (sym h.times) (sym h.texts)
-
--- ---- lines
-
-pub lines_mapped : (civil json : Bool) (f : Spot → Tuple) (spots : List Spot) → flat_map (λ spot. line_as civil json (f spot)) spots ≡ flat_map (line_as civil json) (map f spots)
-lines_mapped civil json f [] = refl
-lines_mapped civil json f (x ∷ xs) = ap (λ bytes. line_as civil json (f x) ++ bytes) (lines_mapped civil json f xs)
-
-pub is_more : (files : List ℕ) (more : Bool) (last : Option Tuple) (tuple : Tuple) → more ≡ true → last ≡ Some tuple → token_behind files more last ≡ Some (token_of files tuple)
-is_more files more last tuple e f = ap₂ (token_behind files) e f
 
 -- ---- the page that is told
 

@@ -1,5 +1,5 @@
 -- A query that is read can be planned: each `and` and `or` has a member, and each point has a period.
-use Rattle.std.proofs.Common.{◌≡◌, ◌≤◌, pos, ◌≤ℤ◌, nat_abs, List, [], ◌∷◌, sym, subst}
+use Rattle.std.proofs.Common.{◌≡◌, pos, ◌≤ℤ◌, sym, subst}
 use Rattle.std.specs.List.{AllByRecursion}
 use Rattle.lrp_top.proofs.Lists.{both_all}
 use Rattle.lrp_model.specs.Formulas.{Form}
@@ -7,7 +7,6 @@ use Rattle.lrp_model.specs.TestPoints.{points}
 use Rattle.lrp_model.specs.RawQueries.{RawForm, RawForms, raw_atom, raw_compare, raw_member, raw_not, raw_and, raw_or, raw_implies, raw_group, raw_exists, raw_forall, no_raws, raw}
 use Rattle.lrp_model.specs.declared.relations.RowPoint.{RowPoint}
 use Rattle.lrp_query.specs.Lawful.{FitsRaw, FitRaws, HasTwo}
-use Rattle.lrp_plan.proofs.KeptPeriods.{low}
 use Rattle.lrp_sorts.specs.Carried.{HasMember, HasMembers, HaveMembers, raw_points, raw_points_each}
 
 -- two members are one
@@ -58,8 +57,3 @@ mutual
 -- a formula with the points of one that was read has points with periods
 pub has_periods : (f : Form) (from : RawForm) → FitsRaw from → points f ≡ raw_points from → AllByRecursion Repeats (points f)
 has_periods f from h e = subst (AllByRecursion Repeats) (sym e) (points_repeat from h)
-
--- and these are natural numbers from 1 on
-pub all_low : (all : List RowPoint) → AllByRecursion Repeats all → AllByRecursion (λ at. 1 ≤ nat_abs at.period) all
-all_low [] h = tt
-all_low (point ∷ all) h = (low point.period h.0, all_low all h.1)

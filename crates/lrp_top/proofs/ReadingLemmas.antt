@@ -25,7 +25,7 @@ use Rattle.lrp_tense.specs.TenseReading.{IsTenseQuery}
 use Rattle.lrp_tense.specs.Trees.{TenseQuestion}
 use Rattle.lrp_top.specs.Due.{IsQueryReadOf}
 use Rattle.lrp_top.specs.Questions.{IsMemory, IsSaidBy, IsUnreadAs}
-use Rattle.lrp_top.specs.Refusals.{refused_by}
+use Rattle.lrp_outputs.specs.Refusals.{refused_by}
 use Rattle.lrp_top.specs.Seen.{ShelfSeen}
 use Rattle.lrp_top.specs.Written.{IsFaultyAs, IsSortedAs}
 

@@ -9,7 +9,7 @@ use Rattle.lrp_model.specs.declared.relations.Column.{Column}
 use Rattle.lrp_model.specs.declared.tuples.Tuple.{Tuple as ToldTuple}
 use Rattle.lrp_top.specs.Questions.{resumed_as}
 use Rattle.lrp_top.specs.Steps.{Behind}
-use Rattle.lrp_top.specs.declared.outcome.Refusal.{Refusal}
+use Rattle.lrp_outputs.specs.declared.refusal.Refusal.{Refusal}
 
 -- what is due behind where a page begins
 pub behind_resumed : {B : Type 0} (head : List Column) (o : Option ToldTuple) (r : Option (Bor ToldTuple)) (Next : Option Tuple → Result B Refusal → Type 0) (result : Result B Refusal) → option_copied r ≡ o → Next (option_map (λ t. told_tuple head t.now) r) result → Behind (resumed_as head (Ok o)) Next result

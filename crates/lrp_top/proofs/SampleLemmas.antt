@@ -24,15 +24,16 @@ use Rattle.lrp_sample.specs.Texts.{sample_database, sample_query}
 use Rattle.lrp_sample.specs.Trees.{raw_sample, sample_question, sample_relations}
 use Rattle.lrp_sample_laws.specs.Plans.{HasAtMostCells, IsOfFirstDay, IsSampleSize}
 use Rattle.lrp_top.specs.Due.{IsCounted, IsOutput, IsPlanned}
-use Rattle.lrp_watch.specs.Spots.{tuple_of}
-use Rattle.lrp_top.specs.Outputs.{least_of, sample_text}
+use Rattle.lrp_outputs.specs.Spots.{tuple_of}
+use Rattle.lrp_outputs.specs.Outputs.{least_of, sample_text}
 use Rattle.lrp_top.specs.Questions.{IsMemory}
 use Rattle.lrp_eval.specs.Counts.{HasAnswerCount}
-use Rattle.lrp_top.specs.Sampled.{TellsSample, sample_lines}
-use Rattle.lrp_watch.specs.First.{IsFirst}
-use Rattle.lrp_top.specs.declared.outcome.Refusal.{Refusal}
-use Rattle.lrp_top.specs.declared.outcome.Refusal.TheVariants.{PeriodLimit, BoundLimit, Cells, Memory}
-use Rattle.lrp_top.specs.declared.report.Report.{Report}
+use Rattle.lrp_top.specs.Sampled.{TellsSample}
+use Rattle.lrp_outputs.specs.SampleLines.{sample_lines}
+use Rattle.lrp_outputs.specs.First.{IsFirst}
+use Rattle.lrp_outputs.specs.declared.refusal.Refusal.{Refusal}
+use Rattle.lrp_outputs.specs.declared.refusal.Refusal.TheVariants.{PeriodLimit, BoundLimit, Cells, Memory}
+use Rattle.lrp_outputs.specs.declared.report.Report.{Report}
 use Rattle.lrp_top.proofs.Answered.{StandForTuples, same_page}
 
 -- ---- want of memory

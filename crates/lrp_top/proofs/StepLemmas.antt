@@ -1,7 +1,7 @@
 -- What comes behind a step, for another result.
 use Rattle.std.proofs.Common.{◌≡◌, Result, Ok, Err, ap}
 use Rattle.lrp_top.specs.Steps.{Behind, Then}
-use Rattle.lrp_top.specs.declared.outcome.Refusal.{Refusal}
+use Rattle.lrp_outputs.specs.declared.refusal.Refusal.{Refusal}
 
 -- what comes behind a result
 behind : {A B C : Type 0} (Next : A → Result B Refusal → Type 0) (Other : A → Result C Refusal → Type 0) (first : Result A Refusal) (result : Result B Refusal) (other : Result C Refusal) → ((a : A) → Next a result → Other a other) → ((refusal : Refusal) → result ≡ Err refusal → other ≡ Err refusal)

@@ -14,16 +14,16 @@ use Rattle.lrp_watch.specs.Watching.{CanBeWatched, IsPassed}
 use Rattle.lrp_watch.specs.declared.faults.WatchFault.{WatchFault}
 use Rattle.lrp_watch.specs.declared.faults.WatchFault.TheVariants.{PeriodLimit, BoundLimit, TooManyCells, Memory}
 use Rattle.lrp_top.specs.Due.{IsDatabaseRead, IsQueryRead, IsWatchedFor}
-use Rattle.lrp_top.specs.Outcomes.{Outcome}
+use Rattle.lrp_outputs.specs.Outcomes.{Outcome}
 use Rattle.lrp_top.specs.Questions.{IsFit, query_source}
 use Rattle.lrp_top.specs.Refusals.{refused_at}
 use Rattle.lrp_top.specs.Seen.{ShelfSeen}
 use Rattle.lrp_top.specs.Sources.{Source}
 use Rattle.lrp_top.specs.Watched.{AreEditsRead, AreEditsReadOf, IsKeptForm, IsWatched}
 use Rattle.lrp_top.specs.declared.files.QueryFile.{QueryFile}
-use Rattle.lrp_top.specs.declared.outcome.Refusal.{Refusal}
-use Rattle.lrp_top.specs.declared.outcome.Refusal.TheVariants.{Watch, Memory as want}
-use Rattle.lrp_top.specs.declared.watch_refusal.WatchRefusal.TheVariants as watch
+use Rattle.lrp_outputs.specs.declared.refusal.Refusal.{Refusal}
+use Rattle.lrp_outputs.specs.declared.refusal.Refusal.TheVariants.{Watch, Memory as want}
+use Rattle.lrp_outputs.specs.declared.watch_refusal.WatchRefusal.TheVariants as watch
 use Rattle.lrp_top.proofs.QuestionLemmas.{since}
 
 -- ---- files that were read before

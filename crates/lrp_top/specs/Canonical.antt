@@ -1,21 +1,11 @@
--- The answers of a query with one time column as a set of numbers with texts, and the text of its canonical answer.
-use Rattle.std.specs.Prelude.{◌≡◌, ℕ, ℤ, List, [], ◌∷◌}
+-- The canonical answer of a query with one time column: the number of its rows, and its text.
+use Rattle.std.specs.Prelude.{◌≡◌, ℕ, List}
 use Rattle.lrp_model.specs.AnswerTexts.{IsAnswerTextOf}
 use Rattle.lrp_model.specs.Formulas.{Question}
-use Rattle.lrp_model.specs.Pages.{Tuple}
 use Rattle.lrp_model.specs.Plans.{time_columns}
-use Rattle.lrp_model.specs.Rows.{times_of, texts_of}
-use Rattle.lrp_model.specs.Satisfaction.{IsAnswer}
-use Rattle.lrp_model.specs.Texts.{Text}
 use Rattle.lrp_model.specs.declared.relations.Relation.{Relation}
+use Rattle.lrp_canon.specs.Answers.{HasNumber}
 use Rattle.lrp_canon.specs.Rows.{HasRowCount, IsLeastPeriod}
-
--- the number and the texts are the one time and the texts of an answer
-pub record HasNumber (db : List Relation) (q : Question) (x : ℤ) (texts : List Text) : Type 0 where
-  pub tuple : Tuple
-  pub is : IsAnswer db q tuple
-  pub time : times_of tuple ≡ x ∷ []
-  pub named : texts_of tuple ≡ texts
 
 -- the answers have so many maximal rows of their least period
 abbrev pub HasCanonicalRows : List Relation → Question → ℕ → Type 0

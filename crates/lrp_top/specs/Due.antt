@@ -15,7 +15,8 @@ use Rattle.lrp_model.specs.declared.plans.Plan.{Plan}
 use Rattle.lrp_model.specs.declared.relations.Relation.{Relation}
 use Rattle.lrp_token.specs.Files.{files_digest}
 use Rattle.lrp_top.specs.Canonical.{HasCanonicalRows, IsCanonicalText}
-use Rattle.lrp_top.specs.Outcomes.{Outcome, Ends}
+use Rattle.lrp_outputs.specs.Outcomes.{Outcome}
+use Rattle.lrp_top.specs.Ends.{Ends}
 use Rattle.lrp_top.specs.Resuming.{IsResumed}
 use Rattle.lrp_top.specs.Sampled.{TellsSample}
 use Rattle.lrp_top.specs.Seen.{ShelfSeen, SinkSeen, HasFailed, IsOverrun}
@@ -24,10 +25,10 @@ use Rattle.lrp_top.specs.Steps.{Then}
 use Rattle.lrp_top.specs.Telling.{TellsPage, TellsPlan, TellsRelations, TellsWitness}
 use Rattle.lrp_top.specs.Watched.{AreEditsRead, IsKeptForm, IsWatched}
 use Rattle.lrp_top.specs.Written.{IsFaultyAs, IsSortedAs, plain_if}
-use Rattle.lrp_top.specs.declared.outcome.Refusal.{Refusal}
-use Rattle.lrp_top.specs.declared.outcome.Refusal.TheVariants.{Usage, ReadDatabase, LongDatabase, Database, ReadQuery, LongQuery, Query, PeriodLimit, BoundLimit, Cells, CanonHead, CanonRows, Watch, Memory}
-use Rattle.lrp_top.specs.declared.watch_refusal.WatchRefusal.TheVariants as watch_refusal
-use Rattle.lrp_top.specs.declared.status.Status.{Status}
+use Rattle.lrp_outputs.specs.declared.refusal.Refusal.{Refusal}
+use Rattle.lrp_outputs.specs.declared.refusal.Refusal.TheVariants.{Usage, ReadDatabase, LongDatabase, Database, ReadQuery, LongQuery, Query, PeriodLimit, BoundLimit, Cells, CanonHead, CanonRows, Watch, Memory}
+use Rattle.lrp_outputs.specs.declared.watch_refusal.WatchRefusal.TheVariants as watch_refusal
+use Rattle.lrp_outputs.specs.declared.status.Status.{Status}
 
 -- ---- the steps
 

@@ -1,7 +1,6 @@
 -- What contracts say of words, outcomes and texts: first what a run is, and then the program's own values.
 pub mod Seen
-pub mod Statuses
-pub mod Outcomes
+pub mod Ends
 pub mod Sources
 pub mod Steps
 pub mod Resuming
@@ -11,10 +10,7 @@ pub mod Sampled
 pub mod Canonical
 pub mod Watched
 pub mod Due
-pub mod Known
-pub mod Rooms
-pub mod WritablePlans
+pub mod Standing
 pub mod Refusals
-pub mod Outputs
 pub mod Questions
 pub mod Samples

@@ -24,16 +24,19 @@ use Rattle.lrp_tense.specs.TenseReading.{IsTenseQuery}
 use Rattle.lrp_tense.specs.Trees.{TenseQuestion}
 use Rattle.lrp_words.specs.Commands.{after_text}
 use Rattle.lrp_words.specs.Ranges.{IsEnd}
+use Rattle.lrp_words.specs.declared.command.Command.{Command}
+use Rattle.lrp_words.specs.declared.command.Command.TheVariants.{Ask, Decide, List as Page, Explain, Check, Watch, Sample}
 use Rattle.lrp_list.specs.Answering.{AreAnswerColumns}
 use Rattle.lrp_top.specs.Due.{IsAnswered, IsDecided, IsExplained, IsListed, IsPlannedFor}
-use Rattle.lrp_top.specs.Outcomes.{Outcome}
+use Rattle.lrp_outputs.specs.Outcomes.{Outcome}
 use Rattle.lrp_top.specs.Seen.{ShelfSeen}
 use Rattle.lrp_top.specs.Sources.{Source}
+use Rattle.lrp_top.specs.declared.asking.Asked.{Asked}
+use Rattle.lrp_top.specs.declared.asking.QuestionFiles.{QuestionFiles}
 use Rattle.lrp_top.specs.declared.files.DatabaseFile.{DatabaseFile}
-use Rattle.lrp_top.specs.declared.files.Files.{Files}
 use Rattle.lrp_top.specs.declared.files.QueryFile.{QueryFile}
-use Rattle.lrp_top.specs.declared.outcome.Refusal.{Refusal}
-use Rattle.lrp_top.specs.declared.outcome.Refusal.TheVariants.{Memory}
+use Rattle.lrp_outputs.specs.declared.refusal.Refusal.{Refusal}
+use Rattle.lrp_outputs.specs.declared.refusal.Refusal.TheVariants.{Memory}
 use Rattle.lrp_top.specs.declared.purpose.Purpose.{Purpose}
 use Rattle.lrp_top.specs.declared.purpose.Purpose.TheVariants as purpose
 use Rattle.lrp_top.specs.declared.question.Question.{Question}
@@ -105,7 +108,7 @@ IsMadeOf d q p (Ok question) = (database_source question.database ≡ d) × (que
 IsMadeOf d q p (Err refusal) = ⊥
 
 -- what is due behind the plan of the query in these files; the flag says whether a canonical answer is asked for
-abbrev pub IsAsked : {B : Type 0} → Files → Bool → ShelfSeen → (Source (List Relation) → Source Queried → Plan → Result B Refusal → Type 0) → Result B Refusal → Type 0
+abbrev pub IsAsked : {B : Type 0} → QuestionFiles → Bool → ShelfSeen → (Source (List Relation) → Source Queried → Plan → Result B Refusal → Type 0) → Result B Refusal → Type 0
 IsAsked files canon seen = IsPlannedFor canon files.tense files.civil seen files.database.now files.query.now
 
 -- the values in head order of a tuple that is told by its times and its texts, where one is
@@ -139,3 +142,16 @@ HasOneTime canon head = canon ≡ true → time_columns head ≡ 1
 abbrev pub HasWindow : Purpose → Type 0
 HasWindow (purpose.Page paging) = IsEnd paging.civil paging.from × IsEnd paging.civil paging.to
 HasWindow _ = Unit {0}
+
+-- the question that a command asks, where it asks one: of which files, and for what
+abbrev pub asked_of : Command → Option Asked
+asked_of (Ask db query cap tense canon civil) = Some (record { files = record { database = db; query = query; tense = tense; civil = civil }; purpose = purpose.Answer cap canon })
+asked_of (Decide db query cap tense civil) = Some (record { files = record { database = db; query = query; tense = tense; civil = civil }; purpose = purpose.Witness cap })
+asked_of (Page db query from to limit after json cap tense civil) = Some (record {
+  files = record { database = db; query = query; tense = tense; civil = civil };
+  purpose = purpose.Page (record { from = from; to = to; limit = limit; after = after; json = json; cap = cap; civil = civil });
+})
+asked_of (Explain db query tense civil) = Some (record { files = record { database = db; query = query; tense = tense; civil = civil }; purpose = purpose.Plan })
+asked_of (Check db civil) = None
+asked_of (Watch db query edits cap) = None
+asked_of (Sample seed size) = None

@@ -9,8 +9,8 @@ use Rattle.lrp_model.specs.Tuples.{in_head_order}
 use Rattle.lrp_model.specs.declared.relations.Column.{Column}
 use Rattle.lrp_model.specs.declared.tuples.Shape.{Shape}
 use Rattle.lrp_token.specs.Reading.{HasCounts, HasOtherCounts, IsNoToken}
-use Rattle.lrp_top.specs.declared.outcome.Refusal.{Refusal}
-use Rattle.lrp_top.specs.declared.outcome.Refusal.TheVariants.{TokenForm, TokenShape, TokenStale, Memory}
+use Rattle.lrp_outputs.specs.declared.refusal.Refusal.{Refusal}
+use Rattle.lrp_outputs.specs.declared.refusal.Refusal.TheVariants.{TokenForm, TokenShape, TokenStale, Memory}
 
 -- how many columns of a head are of data sorts
 abbrev pub data_columns : List Column → ℕ

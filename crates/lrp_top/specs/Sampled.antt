@@ -1,28 +1,15 @@
 -- What the sample tells.
-use Rattle.std.specs.Prelude.{◌≡◌, ℕ, pos, List, ◌++◌, length, Option, codes}
-use Rattle.std.specs.Fmt.{decimal}
+use Rattle.std.specs.Prelude.{◌≡◌, ℕ, pos, List, length, Option}
 use Rattle.lrp_model.specs.DatabaseReading.{IsDatabase}
 use Rattle.lrp_model.specs.Formulas.{Question}
 use Rattle.lrp_model.specs.Pages.{Tuple}
 use Rattle.lrp_model.specs.Plans.{plan}
 use Rattle.lrp_model.specs.declared.relations.Relation.{Relation}
 use Rattle.lrp_eval.specs.Counts.{HasAnswerCount, HasCells}
-use Rattle.lrp_watch.specs.First.{IsFirst, first_line}
+use Rattle.lrp_outputs.specs.First.{IsFirst}
 use Rattle.lrp_sample.specs.Texts.{sample_database, sample_query}
+use Rattle.lrp_outputs.specs.SampleLines.{sample_lines}
 use Rattle.lrp_top.specs.Written.{IsSorted}
-
--- ---- the four lines
-
--- the numbers of rows and of cells, and the word before the least answer
-abbrev pub counts_text : ℕ → ℕ → List ℕ
-counts_text rows cells = codes "rows " ++ (decimal rows ++ (codes "\ncells " ++ (decimal cells ++ codes "\nfirst ")))
-
--- the number of answers in the window
-abbrev pub window_line : ℕ → List ℕ
-window_line count = codes "window " ++ (decimal count ++ codes "\n")
-
-abbrev pub sample_lines : ℕ → ℕ → Option Tuple → ℕ → List ℕ
-sample_lines rows cells first count = counts_text rows cells ++ (first_line first ++ window_line count)
 
 -- the text tells of the relations and the query that the sample's two texts mean: how many rows there are, how many cells the last step of the plan inhabits, the least answer, and how many answers lie in the minutes 0 to 1439
 pub record TellsSample (seed size : ℕ) (bytes : List ℕ) : Type 0 where

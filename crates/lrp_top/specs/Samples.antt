@@ -3,7 +3,7 @@ use Rattle.std.specs.Prelude.{◌≡◌, ℕ, Result, Ok, Err}
 use Rattle.lrp_model.specs.Formulas.{question_of}
 use Rattle.lrp_sample.specs.Trees.{sample_question, sample_relations}
 use Rattle.lrp_top.specs.Questions.{IsMemory, IsReady}
-use Rattle.lrp_top.specs.declared.outcome.Refusal.{Refusal}
+use Rattle.lrp_outputs.specs.declared.refusal.Refusal.{Refusal}
 use Rattle.lrp_top.specs.declared.question.Question.{Question}
 
 -- the question is ready, and its relations and its query are the sample's

@@ -2,7 +2,7 @@
 use Rattle.std.specs.Prelude.{ℕ, List, Result}
 use Rattle.lrp_model.specs.Texts.{Identifier}
 use Rattle.lrp_top.specs.Seen.{ShelfSeen, AreBytesOf}
-use Rattle.lrp_top.specs.declared.outcome.Refusal.{Refusal}
+use Rattle.lrp_outputs.specs.declared.refusal.Refusal.{Refusal}
 
 -- a file's bytes, and what they say
 pub record Source (A : Type 0) : Type 0 where

@@ -1,6 +1,6 @@
 -- Steps that may be refused, one behind the other.
 use Rattle.std.specs.Prelude.{◌≡◌, Result, Ok, Err}
-use Rattle.lrp_top.specs.declared.outcome.Refusal.{Refusal}
+use Rattle.lrp_outputs.specs.declared.refusal.Refusal.{Refusal}
 
 -- what comes behind a step: where that one is refused, the same refusal
 abbrev pub Behind : {A B : Type 0} → Result A Refusal → (A → Result B Refusal → Type 0) → Result B Refusal → Type 0

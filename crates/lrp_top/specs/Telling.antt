@@ -1,16 +1,16 @@
 -- What the text of each command tells.
-use Rattle.std.specs.Prelude.{◌≡◌, ◌⊎◌, ℕ, ℤ, Bool, true, false, List, ◌++◌, flat_map, Option, codes}
+use Rattle.std.specs.Prelude.{◌≡◌, ◌⊎◌, ℕ, ℤ, Bool, List, ◌++◌, Option, codes}
 use Rattle.lrp_model.specs.Formulas.{Question}
 use Rattle.lrp_model.specs.Order.{IsLeast}
-use Rattle.lrp_model.specs.Pages.{IsPage, Tuple, last_of}
+use Rattle.lrp_model.specs.Pages.{IsPage, Tuple}
 use Rattle.lrp_model.specs.Printed.{database_bytes}
-use Rattle.lrp_model.specs.PrintedPages.{answer_line, end_line, plain_line, token_behind}
+use Rattle.lrp_model.specs.PrintedPages.{plain_line}
 use Rattle.lrp_model.specs.PrintedPlans.{plan_bytes}
 use Rattle.lrp_model.specs.Satisfaction.{IsAnswer}
 use Rattle.lrp_model.specs.declared.plans.Plan.{Plan}
 use Rattle.lrp_model.specs.declared.relations.Relation.{Relation}
-use Rattle.lrp_civil.specs.CivilLines.{civil_line}
 use Rattle.lrp_print.specs.ReadBack.{ReadsBack}
+use Rattle.lrp_outputs.specs.PageLines.{listed_bytes}
 
 -- the text is that of the relations, and reads back as relations that hold the same
 abbrev pub TellsRelations : List Relation → List ℕ → Type 0
@@ -34,15 +34,6 @@ pub record TellsLeast (db : List Relation) (q : Question) (bytes : List ℕ) : T
 -- the one or the other
 abbrev pub TellsWitness : List Relation → Question → List ℕ → Type 0
 TellsWitness db q bytes = TellsNone db q bytes ⊎ TellsLeast db q bytes
-
--- the line of a tuple: with its times as dates where the first flag is set, and in JSON where the second is
-abbrev pub line_as : Bool → Bool → Tuple → List ℕ
-line_as false json = answer_line json
-line_as true json = civil_line json
-
--- the lines of a page, and the line behind it
-abbrev pub listed_bytes : Bool → Bool → List ℕ → List Tuple → Bool → List ℕ
-listed_bytes civil json files page more = flat_map (line_as civil json) page ++ end_line json (token_behind files more (last_of page))
 
 -- the text is that of the page of the query's answers in the window behind a tuple, with tokens of the files' digest
 pub record TellsPage (db : List Relation) (q : Question) (from to : ℤ) (after : Option Tuple) (limit : ℕ) (civil json : Bool) (files : List ℕ) (bytes : List ℕ) : Type 0 where

@@ -8,12 +8,12 @@ use Rattle.lrp_edits.specs.declared.edits.Edit.{Edit}
 use Rattle.lrp_kept.specs.KeptForm.{is_kept}
 use Rattle.lrp_keep.specs.declared.faults.KeepFault.TheVariants as limit
 use Rattle.lrp_watch.specs.Watching.{IsPassed, TellsLeasts}
-use Rattle.lrp_top.specs.Outcomes.{Outcome}
+use Rattle.lrp_outputs.specs.Outcomes.{Outcome}
 use Rattle.lrp_top.specs.Seen.{ShelfSeen, HasFailed, IsOverrun}
 use Rattle.lrp_top.specs.Sources.{FromFile}
-use Rattle.lrp_top.specs.declared.outcome.Refusal.{Refusal}
-use Rattle.lrp_top.specs.declared.outcome.Refusal.TheVariants.{Watch, Memory}
-use Rattle.lrp_top.specs.declared.watch_refusal.WatchRefusal.TheVariants as watch
+use Rattle.lrp_outputs.specs.declared.refusal.Refusal.{Refusal}
+use Rattle.lrp_outputs.specs.declared.refusal.Refusal.TheVariants.{Watch, Memory}
+use Rattle.lrp_outputs.specs.declared.watch_refusal.WatchRefusal.TheVariants as watch
 
 -- the query is looked at. Ok: it is in kept form. Refused: it is not
 abbrev pub IsKeptForm : Question → Result (Unit {0}) Refusal → Type 0

@@ -1,24 +1,25 @@
 // The decision: what the words ask for, before the first byte is written.
-ghost use Rattle.std.specs.Prelude.{◌≡◌, []};
+ghost use Rattle.std.specs.Prelude.{◌≡◌, [], None};
 ghost use Rattle.std.specs.List.{AllByRecursion};
 ghost use Rattle.lrp_top.specs.Due.{IsDue, IsDueOf, IsDatabaseRead, IsOutput, IsTooLong, TellsLength, files_named, files_of};
-ghost use Rattle.lrp_top.specs.Outputs.{told};
-ghost use Rattle.lrp_top.specs.Questions.{HasWindow, IsAsked, IsServed, is_canonical};
+ghost use Rattle.lrp_outputs.specs.Outputs.{told};
+ghost use Rattle.lrp_top.specs.Questions.{HasWindow, asked_of, IsAsked, IsServed, is_canonical};
 ghost use Rattle.lrp_top.specs.Seen.{IsOverrun};
 ghost use Rattle.lrp_top.specs.Steps.{Then};
 ghost use Rattle.lrp_top.specs.Telling.{TellsRelations};
 ghost use Rattle.lrp_words.specs.Commands.{task_of};
 ghost use Rattle.lrp_words.specs.Ranges.{IsInRange};
 
-use crate::files::{Files, database_of};
-use crate::outcome::{Output, Refusal};
-use crate::purpose::{Paging, Purpose};
+use crate::asking::{QuestionFiles, asked_by};
+use crate::files::database_of;
+use crate::purpose::Purpose;
 use crate::question::question_of;
 use crate::sampling::sample;
 use crate::seeing::Watched;
 use crate::serving::serve;
 use crate::watching::{WatchFiles, watch};
 use lrp_io::Shelf;
+use lrp_outputs::{Output, Refusal};
 use lrp_rel::databases_read_back;
 use lrp_words::{Command, Usage, read_words};
 use std::alloc::Global;
@@ -45,61 +46,25 @@ fn carry_out<F: Shelf>(
     ensures long { AllByRecursion (λ name. IsOverrun (⟦<F as Watched>⟧.seen shelf.old shelf.new) name → IsTooLong (told result)) (files_of (task_of command.entry)) }
     ensures unread { files_of (task_of command.entry) ≡ [] → shelf.new ≡ shelf.old }
 {
+    match asked_by(command) {
+        Some(asked) => ask(alloc, &asked.files, &asked.purpose, shelf),
+        None => carry_out_other(alloc, command, shelf),
+    }
+}
+
+/// The output of a command that asks no question, or the first refusal that applies.
+fn carry_out_other<F: Shelf>(
+    alloc: Global,
+    command: Command<'_>,
+    shelf: &mut F,
+) -> Result<Output, Refusal>
+    requires other { asked_of command ≡ None }
+    requires range { IsInRange (task_of command) }
+    ensures due { IsDueOf (task_of command.entry) (⟦<F as Watched>⟧.seen shelf.old shelf.new) (told result) }
+    ensures long { AllByRecursion (λ name. IsOverrun (⟦<F as Watched>⟧.seen shelf.old shelf.new) name → IsTooLong (told result)) (files_of (task_of command.entry)) }
+    ensures unread { files_of (task_of command.entry) ≡ [] → shelf.new ≡ shelf.old }
+{
     match command {
-        Command::Ask {
-            db,
-            query,
-            cap,
-            tense,
-            canon,
-            civil,
-        } => {
-            let files = Files::new(db, query, tense, civil);
-            ask(alloc, &files, &Purpose::Answer { cap, canon }, shelf)
-        }
-        Command::Decide {
-            db,
-            query,
-            cap,
-            tense,
-            civil,
-        } => {
-            let files = Files::new(db, query, tense, civil);
-            ask(alloc, &files, &Purpose::Witness { cap }, shelf)
-        }
-        Command::List {
-            db,
-            query,
-            from,
-            to,
-            limit,
-            after,
-            json,
-            cap,
-            tense,
-            civil,
-        } => {
-            let files = Files::new(db, query, tense, civil);
-            let paging = Paging {
-                from,
-                to,
-                limit,
-                after,
-                json,
-                cap,
-                civil,
-            };
-            ask(alloc, &files, &Purpose::Page { paging }, shelf)
-        }
-        Command::Explain {
-            db,
-            query,
-            tense,
-            civil,
-        } => {
-            let files = Files::new(db, query, tense, civil);
-            ask(alloc, &files, &Purpose::Plan, shelf)
-        }
         Command::Check { db, civil } => check(alloc, db, civil, shelf),
         Command::Watch {
             db: database,
@@ -115,6 +80,7 @@ fn carry_out<F: Shelf>(
             watch(alloc, &files, cap, shelf)
         }
         Command::Sample { seed, size } => sample(alloc, seed, size),
+        _ => unreachable!(),
     }
 }
 
@@ -131,7 +97,7 @@ fn check<F: Shelf>(
     match database_of(alloc, database, civil, shelf) {
         Ok(file) => {
             databases_read_back();
-            Ok(Output::Relations(file.relations))
+            Ok(Output::Relations(file.into_relations()))
         }
         Err(refusal) => Err(refusal),
     }
@@ -140,7 +106,7 @@ fn check<F: Shelf>(
 /// What is told of a query over a database for a purpose.
 fn ask<F: Shelf>(
     alloc: Global,
-    files: &Files<'_>,
+    files: &QuestionFiles<'_>,
     purpose: &Purpose<'_>,
     shelf: &mut F,
 ) -> Result<Output, Refusal>

@@ -6,52 +6,57 @@ ghost use Rattle.lrp_top.specs.Due.{IsDatabaseRead, IsQueryRead, TellsLength};
 ghost use Rattle.lrp_top.specs.Questions.{IsFit, asked_as, read_as};
 ghost use Rattle.lrp_top.specs.Watched.{AreEditsRead};
 
-use crate::outcome::Refusal;
 use crate::reading::{database_in, edits_in, query_in};
 use crate::seeing::Watched;
-use crate::watch_refusal::WatchRefusal;
 use lrp_edits::Edit;
 use lrp_io::{LoadFault, Shelf, load};
 use lrp_model::{List, Query};
+use lrp_outputs::{Refusal, WatchRefusal};
 use lrp_rel::Database;
 use std::alloc::Global;
 
-/// The files of a question by their names. With `tense` the query may have temporal operators, and with `civil` the database
-/// may have civil values.
-#[derive(Clone, Copy)]
-pub struct Files<'a> {
-    pub database: &'a str,
-    pub query: &'a str,
-    pub tense: bool,
-    pub civil: bool,
-}
-
-impl<'a> Files<'a> {
-    /// The files of these names.
-    pub fn new(database: &'a str, query: &'a str, tense: bool, civil: bool) -> Self
-        ensures { result ≡ record { database = database.entry; query = query.entry; tense = tense; civil = civil } }
-    {
-        Files {
-            database,
-            query,
-            tense,
-            civil,
-        }
-    }
-}
-
 /// The bytes of a database's file, and the relations that they mean.
-#[derive(Drop)]
 pub struct DatabaseFile {
     pub bytes: List<u8>,
     pub relations: Database,
 }
 
 /// The bytes of a query's file, and the well-sorted query that they say.
-#[derive(Drop)]
 pub struct QueryFile {
     pub bytes: List<u8>,
     pub query: Query,
+}
+
+impl DatabaseFile {
+    /// Its relations alone.
+    pub fn into_relations(self) -> Database
+        ensures { result ≡ self.relations }
+    {
+        let DatabaseFile {
+            bytes: _bytes,
+            relations,
+        } = self;
+        relations
+    }
+}
+
+// Each is let go by one call: a derived drop would be proved anew, part by part, wherever a value goes.
+impl Drop for DatabaseFile {
+    fn drop(self) {
+        let DatabaseFile {
+            bytes: _bytes,
+            relations: _relations,
+        } = self;
+    }
+}
+
+impl Drop for QueryFile {
+    fn drop(self) {
+        let QueryFile {
+            bytes: _bytes,
+            query: _query,
+        } = self;
+    }
 }
 
 /// The database of a file.

@@ -8,13 +8,14 @@ ghost use Rattle.lrp_plan_text.specs.Writable.{StepHasPeriods};
 ghost use Rattle.lrp_top.specs.Due.{IsPlanned, IsPlannedAs, TellsLength};
 ghost use Rattle.lrp_top.specs.Questions.{HasOneTime, IsAsked, IsMadeOf, IsReady};
 
-use crate::files::{DatabaseFile, Files, QueryFile, database_of, query_of};
-use crate::outcome::Refusal;
+use crate::asking::QuestionFiles;
+use crate::files::{DatabaseFile, QueryFile, database_of, query_of};
 use crate::resuming::times_of;
 use crate::seeing::Watched;
 use lrp_io::Shelf;
 use lrp_model::{Plan, Query};
-use lrp_plan::plan;
+use lrp_outputs::Refusal;
+use lrp_plan::{PlanFault, plan};
 use lrp_rel::Database;
 use std::alloc::Global;
 
@@ -40,7 +41,7 @@ impl Question {
 /// is asked for, or of the plan.
 pub fn question_of<F: Shelf>(
     alloc: Global,
-    files: &Files<'_>,
+    files: &QuestionFiles<'_>,
     canon: bool,
     shelf: &mut F,
 ) -> Result<Question, Refusal>
@@ -88,6 +89,10 @@ pub fn plan_of(alloc: Global, database: &Database, query: &Query) -> Result<Plan
     ensures planned { IsPlanned database.now (queried query.now) result }
     ensures writable { IfOk result (λ p. AllByRecursion StepHasPeriods p.steps) }
 {
-    let planned = plan(alloc, query, database)?;
-    Ok(planned)
+    match plan(alloc, query, database) {
+        Ok(plan) => Ok(plan),
+        Err(PlanFault::PeriodLimit) => Err(Refusal::PeriodLimit),
+        Err(PlanFault::BoundLimit) => Err(Refusal::BoundLimit),
+        Err(PlanFault::Memory) => Err(Refusal::Memory),
+    }
 }

@@ -17,13 +17,13 @@ ghost use Rattle.lrp_top.specs.Watched.{AreEditsReadOf};
 ghost use Rattle.lrp_top.specs.Written.{plain_if};
 
 use crate::files::{DatabaseFile, QueryFile};
-use crate::outcome::Refusal;
-use crate::watch_refusal::WatchRefusal;
 use lrp_civil::plain_text;
 use lrp_edits::{Edit, read_edits};
 use lrp_list::heads_are_columns;
 use lrp_model::{List, Memory, QueryRead, RawQuery};
-use lrp_plan_laws::{periods_are_least, sorted_queries_are_settled};
+use lrp_outputs::{Refusal, WatchRefusal};
+use lrp_plan::kept_queries_have_periods;
+use lrp_plan_laws::sorted_queries_are_settled;
 use lrp_query::read_query;
 use lrp_rel::{Database, ReadFault, read_database};
 use lrp_sorts::check;
@@ -72,10 +72,12 @@ pub fn query_in(
     ensures every { (raw : RawQuestion) → IsSaidBy tense bytes raw → IsWellSorted database.now raw → IsQueryOrMemory (plain_question raw) result }
 {
     let raw = raw_of(alloc, bytes.as_slice(), tense)?;
-    let query = check(alloc, &raw, database)?;
+    let checked = check(alloc, &raw, database);
+    drop(raw);
+    let query = checked?;
     database.relations();
     heads_are_columns();
-    periods_are_least();
+    kept_queries_have_periods();
     sorted_queries_are_settled();
     Ok(QueryFile { bytes, query })
 }
@@ -92,7 +94,9 @@ fn raw_of(alloc: Global, bytes: &[u8], tense: bool) -> Result<RawQuery, QueryRea
         return read_query(alloc, bytes);
     }
     let written = read_tense(alloc, bytes)?;
-    match expand(alloc, &written) {
+    let expanded = expand(alloc, &written);
+    drop(written);
+    match expanded {
         Ok(raw) => Ok(raw),
         Err(Memory) => Err(QueryRead::Memory),
     }

@@ -7,8 +7,8 @@ ghost use Rattle.lrp_words.specs.Commands.{after_text};
 ghost use Rattle.lrp_top.specs.Questions.{resumed_as};
 ghost use Rattle.lrp_top.specs.Resuming.{IsResumed, data_columns, shape_of as shape_of_head};
 
-use crate::outcome::Refusal;
 use lrp_model::{Column, Shape, Tuple};
+use lrp_outputs::Refusal;
 use lrp_token::read_token;
 use std::alloc::Global;
 

@@ -1,15 +1,13 @@
 // A run: one decision, and then one writer.
 ghost use Rattle.std.specs.Prelude.{◌≡◌, []};
 ghost use Rattle.lrp_top.specs.Due.{IsRun, files_named};
-ghost use Rattle.lrp_top.specs.Outcomes.{status_of};
-ghost use Rattle.lrp_top.specs.Outputs.{told};
+ghost use Rattle.lrp_outputs.specs.Outcomes.{status_of};
+ghost use Rattle.lrp_outputs.specs.Outputs.{told};
 
-use crate::Status;
 use crate::deciding::decide;
-use crate::outcome::{Output, Refusal};
 use crate::seeing::{Filled, Watched};
-use crate::writing::write_outcome;
 use lrp_io::{Failed, Shelf, Sink};
+use lrp_outputs::{Output, Refusal, Status, write_outcome};
 use std::alloc::Global;
 
 /// Does what the words after the program's name say, and writes one text or one line.

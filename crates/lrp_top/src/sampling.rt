@@ -1,23 +1,22 @@
 // The sample: a database and a query that are made, read, planned and answered, and what is told of them.
-ghost use Rattle.std.specs.Prelude.{◌≡◌, ◌≤◌, IfOk, List as ListOf, ℕ};
+ghost use Rattle.std.specs.Prelude.{◌≤◌, IfOk, ℕ};
 ghost use Rattle.lrp_eval.specs.Answered.{IsAnswerOf};
 ghost use Rattle.lrp_sample.specs.Trees.{sample_question, sample_relations};
 ghost use Rattle.lrp_sample_laws.specs.Plans.{IsSampleSize};
 ghost use Rattle.lrp_store.specs.Least.{HasRoom};
 ghost use Rattle.lrp_top.specs.Due.{IsOutput};
-ghost use Rattle.lrp_top.specs.Outputs.{sample_text, told};
+ghost use Rattle.lrp_outputs.specs.Outputs.{sample_text, told};
 ghost use Rattle.lrp_top.specs.Sampled.{TellsSample};
 ghost use Rattle.lrp_top.specs.Samples.{IsSampleOrMemory};
 
 use crate::listing::gather;
-use crate::outcome::{Output, Refusal};
 use crate::purpose::Paging;
 use crate::question::{Question, plan_of};
 use crate::reading::{database_in, query_in};
-use crate::report::Report;
 use crate::serving::{answers, least_of};
 use lrp_eval::whole_pages_count_answers;
 use lrp_model::Memory;
+use lrp_outputs::{Output, Refusal, Report};
 use lrp_sample::{Texts, sample_query_is_well_sorted, sample_texts, sample_texts_are_read};
 use lrp_sample_laws::{sample_has_few_answers, sample_has_few_cells, sample_is_within_limits};
 use lrp_store::Answer;

@@ -7,27 +7,26 @@ ghost use Rattle.lrp_model.specs.declared.relations.Relation.{Relation};
 ghost use Rattle.lrp_store.specs.Least.{HasRoom};
 ghost use Rattle.lrp_top.specs.Canonical.{IsCanonicalText};
 ghost use Rattle.lrp_top.specs.Due.{AreRowsCounted, IsAnswered, IsCounted, IsDecided, IsOutput};
-ghost use Rattle.lrp_top.specs.Outputs.{least_of as least_tuple, told, witness_text};
+ghost use Rattle.lrp_outputs.specs.Outputs.{least_of as least_tuple, told, witness_text};
 ghost use Rattle.lrp_top.specs.Questions.{HasOneTime, HasWindow, IsReady, IsServed, database_source, done_as, is_canonical, query_source};
-ghost use Rattle.lrp_watch.specs.First.{IsFirst};
+ghost use Rattle.lrp_outputs.specs.First.{IsFirst};
 ghost use Rattle.lrp_top.specs.Steps.{Then};
 ghost use Rattle.lrp_top.specs.Telling.{TellsWitness};
 
-use crate::answer::WholeAnswer;
 use crate::listing::page;
-use crate::outcome::{Output, Refusal};
-use crate::plan::WritablePlan;
 use crate::purpose::Purpose;
 use crate::question::Question;
-use crate::witness::Witness;
 use lrp_canon::canonical_within;
 use lrp_eval::{EvalFault, answer};
 use lrp_list::answers_are_texts;
 use lrp_model::Memory;
+use lrp_outputs::{
+    Output, Refusal, WholeAnswer, Witness, WritablePlan, small_answers_have_room,
+    spots_stand_for_tuples,
+};
 use lrp_plan_laws::{plan_rises, steps_are_made};
 use lrp_store::Answer;
 use lrp_theory::floors_keep_bounds;
-use lrp_watch::{small_answers_have_room, spots_stand_for_tuples};
 use std::alloc::Global;
 
 /// What is told of a question for a purpose, or the first refusal behind its plan.
@@ -95,7 +94,7 @@ fn all_answers(alloc: Global, question: &Question, cap: u32) -> Result<Output, R
             answer.domain.len();
             plan_rises();
             answers_are_texts();
-            Ok(Output::Answer(WholeAnswer { answer }))
+            Ok(Output::Answer(WholeAnswer::new(answer)))
         }
         Err(refusal) => Err(refusal),
     }
@@ -133,7 +132,7 @@ fn canonical_text(
     floors_keep_bounds();
     answers_are_texts();
     match canonical_within(alloc, answer, cap) {
-        Ok(Some(answer)) => Ok(Output::Answer(WholeAnswer { answer })),
+        Ok(Some(answer)) => Ok(Output::Answer(WholeAnswer::new(answer))),
         Ok(None) => Err(Refusal::CanonRows { cap }),
         Err(Memory) => Err(Refusal::Memory),
     }

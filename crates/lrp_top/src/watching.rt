@@ -3,20 +3,20 @@ ghost use Rattle.std.specs.Prelude.{◌≡◌, IfOk, true};
 ghost use Rattle.lrp_kept.specs.KeptForm.{is_kept as is_kept_form};
 ghost use Rattle.lrp_model.specs.Formulas.{question_of};
 ghost use Rattle.lrp_top.specs.Due.{IsWatchedFor, TellsLength};
-ghost use Rattle.lrp_top.specs.Outputs.{told};
+ghost use Rattle.lrp_outputs.specs.Outputs.{told};
+ghost use Rattle.lrp_top.specs.Refusals.{refused_at};
 ghost use Rattle.lrp_top.specs.Watched.{IsKeptForm, IsWatched};
 ghost use Rattle.lrp_watch.specs.Watching.{CanBeWatched};
 
 use crate::files::{database_of, edits_of, query_of};
-use crate::outcome::{Output, Refusal};
 use crate::seeing::Watched;
-use crate::watch_refusal::WatchRefusal;
 use lrp_edits::Edit;
 use lrp_io::Shelf;
 use lrp_kept::is_kept;
 use lrp_model::Query;
+use lrp_outputs::{Output, Refusal, WatchRefusal};
 use lrp_rel::Database;
-use lrp_watch::least_answers;
+use lrp_watch::{WatchFault, least_answers};
 use std::alloc::Global;
 
 /// The files of a watch by their names.
@@ -76,6 +76,18 @@ fn leasts(
 {
     match least_answers(alloc, database, query, edits, cap) {
         Ok(leasts) => Ok(Output::Leasts(leasts)),
-        Err(fault) => Err(Refusal::of_watch(fault, cap)),
+        Err(fault) => Err(refused(fault, cap)),
+    }
+}
+
+/// The refusal of a watch whose fault this is, where at most `cap` cells are allowed.
+fn refused(fault: WatchFault, cap: u32) -> Refusal
+    ensures { result ≡ refused_at cap fault }
+{
+    match fault {
+        WatchFault::PeriodLimit { edit } => Refusal::Watch(WatchRefusal::PeriodLimit { edit }),
+        WatchFault::BoundLimit { edit } => Refusal::Watch(WatchRefusal::BoundLimit { edit }),
+        WatchFault::TooManyCells { edit } => Refusal::Watch(WatchRefusal::Cells { cap, edit }),
+        WatchFault::Memory => Refusal::Memory,
     }
 }

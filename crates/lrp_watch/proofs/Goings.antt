@@ -20,7 +20,7 @@ use Rattle.lrp_keep.specs.Keeps.{CanBeHeld, IsRelationOf, KeepView, scaled_reach
 use Rattle.lrp_keep.specs.Replaced.{replaced, with_rows}
 use Rattle.lrp_watch.specs.Edits.{IsMade, IsMadeBy}
 use Rattle.lrp_watch.specs.Leasts.{CanBeMade, CanGoOn, IsLow}
-use Rattle.lrp_watch.proofs.Rooms.{in_map}
+use Rattle.lrp_minus.proofs.Lists.{in_map}
 
 -- ---- relations of which one has other rows
 

@@ -1,6 +1,6 @@
 -- What a keeper's answer tells of the query's least answer over the rows now held.
-use Rattle.std.proofs.Common.{◌≡◌, ℕ, zero, suc, ◌+◌, ◌-◌, ◌*◌, ◌<◌, ◌^◌, ◌≤◌, List, [], ◌∷◌, length, take, Option, Some, None, option_map, sym, ap₂, subst, arith, ◌∙◌}
-use Rattle.std.specs.Prelude.{pos, IfNone, IfSome, slice_get}
+use Rattle.std.proofs.Common.{◌≡◌, ℕ, ◌+◌, ◌-◌, ◌*◌, ◌<◌, ◌^◌, ◌≤◌, List, length, take, Option, Some, None, option_map, sym, ap₂, subst, arith, ◌∙◌}
+use Rattle.std.specs.Prelude.{pos, IfNone, IfSome}
 use Rattle.std.specs.List.{AllByRecursion}
 use Rattle.lrp_model.specs.Formulas.{question_of}
 use Rattle.lrp_model.specs.Order.{IsLeast}
@@ -12,17 +12,18 @@ use Rattle.lrp_model.specs.declared.relations.Column.{Column}
 use Rattle.lrp_model.specs.declared.tuples.Shape.{Shape}
 use Rattle.lrp_model.specs.declared.tuples.Spot.{Spot}
 use Rattle.lrp_store.specs.Least.{IsLeastSpot, StandsFor}
-use Rattle.lrp_store.specs.Tables.{AreTexts, InAnswer}
+use Rattle.lrp_store.specs.Tables.{InAnswer}
 use Rattle.lrp_store.specs.declared.answer.Answer.{Answer}
 use Rattle.lrp_list.specs.Lines.{spot_tuple}
 use Rattle.lrp_minus.specs.Settling.{IsSmallZone}
 use Rattle.lrp_kept.specs.Limits.{kept_reach}
 use Rattle.lrp_keep.specs.Keeps.{IsKeptAnswer, KeepView}
-use Rattle.lrp_watch.specs.First.{IsFirst}
-use Rattle.lrp_watch.specs.Leasts.{IsLeastOver, IsLow, IsSmallAnswer, shape_for}
-use Rattle.lrp_watch.specs.Spots.{HasKnownTexts, tuple_of}
+use Rattle.lrp_outputs.specs.First.{IsFirst}
+use Rattle.lrp_watch.specs.Leasts.{IsLeastOver, IsLow, shape_for}
+use Rattle.lrp_outputs.specs.SmallAnswers.{IsSmallAnswer}
+use Rattle.lrp_outputs.specs.Spots.{HasKnownTexts, tuple_of}
 use Rattle.lrp_watch.proofs.Reaches.{period_low}
-use Rattle.lrp_watch.proofs.Tuples.{texts_known}
+use Rattle.lrp_outputs.proofs.Spots.{texts_known}
 
 -- ---- the shape of an answer
 

@@ -1,6 +1,4 @@
 -- Lemmas on least answers, on what is kept while edits are made, and on constants.
-mod Rooms
-mod Tuples
 mod Reaches
 mod Known
 mod Constants

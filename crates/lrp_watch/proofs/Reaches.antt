@@ -15,7 +15,7 @@ use Rattle.lrp_kept.specs.Choices.{as_list, disjunct_tests}
 use Rattle.lrp_kept.specs.KeptForm.{all_occur, all_pass, bound_variables, elements, is_atom, is_conjunctive, is_disjunct, is_kept, is_neither, query_disjuncts, some_passes, tested_variables}
 use Rattle.lrp_model.specs.Variables.{head_variables}
 use Rattle.lrp_kept.specs.Limits.{atom_reach, disjunct_reach, kept_reach, most_of, time_quantifiers}
-use Rattle.lrp_watch.proofs.Rooms.{one_more}
+use Rattle.lrp_outputs.proofs.SmallAnswers.{one_more}
 
 -- ---- a core form has a disjunct
 

@@ -17,9 +17,9 @@ use Rattle.lrp_keep.specs.Keeps.{IsCause, IsKeptAnswer, IsWithinLimits, KeepView
 use Rattle.lrp_keep.specs.declared.faults.KeepFault.{KeepFault}
 use Rattle.lrp_watch.specs.Edits.{IsPassedAt, IsPassedBehind}
 use Rattle.lrp_watch.specs.Faults.{IsAt}
-use Rattle.lrp_watch.specs.First.{IsFirst, first_line}
+use Rattle.lrp_outputs.specs.First.{IsFirst, first_line}
 use Rattle.lrp_watch.specs.Leasts.{AreDone, CanGoOn, IsLeastOver, shape_for}
-use Rattle.lrp_watch.specs.Spots.{IsKnown, tuple_of}
+use Rattle.lrp_outputs.specs.Spots.{IsKnownLeast, tuple_of}
 use Rattle.lrp_watch.specs.Watching.{CanBeWatched, IsOpened, IsPassed, TellsLeasts, watched_constants}
 use Rattle.lrp_watch.proofs.Known.{shape_is}
 use Rattle.lrp_watch.proofs.Openings.{AreSameInOrder, can_go_on}
@@ -60,7 +60,7 @@ module _ (k : KeepView) (a : Answer) (is : IsKeptAnswer k a) where
   known_of (l ∷ ks) [] h = absurd h
   known_of (l ∷ ks) (s ∷ spots) h = (h.0.known, known_of ks spots h.1)
 
-  pub known_told : (ks : List KeepView) (spots : List (Option Spot)) → AreLeasts ks spots → AllByRecursion (IsKnown a) spots
+  pub known_told : (ks : List KeepView) (spots : List (Option Spot)) → AreLeasts ks spots → AllByRecursion (IsKnownLeast a) spots
   known_told ks spots h = back (λ cs s d. AreKnown s d spots) (known_of ks spots h)
 
 lines_of : (f : Option Spot → Option Tuple) (spots : List (Option Spot)) → flat_map (λ least. first_line (f least)) spots ≡ flat_map first_line (map f spots)

@@ -1,5 +1,5 @@
 -- The program's least answers, against those of the query.
-use Rattle.std.specs.Prelude.{◌≡◌, ◌≤◌, ◌<◌, ◌-◌, ◌^◌, ◌*◌, ◌+◌, ℕ, true, List, [], ◌∷◌, ◌++◌, length, take, Contains, Option, IfSome, option_map, flat_map}
+use Rattle.std.specs.Prelude.{◌≡◌, ◌≤◌, ◌<◌, ◌-◌, ◌^◌, true, List, [], ◌∷◌, ◌++◌, length, take, Option, IfSome, option_map}
 use Rattle.std.specs.List.{AllByRecursion, AllZip}
 use Rattle.lrp_model.specs.Core.{HasElements}
 use Rattle.lrp_model.specs.Formulas.{Question, question_of}
@@ -7,25 +7,14 @@ use Rattle.lrp_model.specs.Plans.{time_columns}
 use Rattle.lrp_model.specs.Texts.{Text}
 use Rattle.lrp_model.specs.declared.relations.Column.{Column}
 use Rattle.lrp_model.specs.declared.relations.Relation.{Relation}
-use Rattle.lrp_model.specs.declared.tuples.Cell.{Cell}
 use Rattle.lrp_model.specs.declared.tuples.Shape.{Shape}
 use Rattle.lrp_model.specs.declared.tuples.Spot.{Spot}
-use Rattle.lrp_zone.specs.Zones.{ZoneView}
-use Rattle.lrp_store.specs.Stores.{zones_at}
-use Rattle.lrp_store.specs.declared.answer.Answer.{Answer}
-use Rattle.lrp_minus.specs.Settling.{IsSmallZone}
 use Rattle.lrp_list.specs.Lines.{spot_tuple}
 use Rattle.lrp_edits.specs.declared.edits.Edit.{Edit}
 use Rattle.lrp_kept.specs.KeptForm.{is_kept}
 use Rattle.lrp_keep.specs.Keeps.{CanBeAdded, KeepView, scaled_reach_of}
 use Rattle.lrp_watch.specs.Edits.{AreMade, last_kept}
-use Rattle.lrp_watch.specs.First.{IsFirst, first_line}
-use Rattle.lrp_watch.specs.Spots.{tuple_of}
-use Rattle.lrp_watch.specs.declared.leasts.Leasts.{Leasts}
-
--- the lines of the least answers
-abbrev pub leasts_text : Leasts → List ℕ
-leasts_text l = flat_map (λ least. first_line (option_map (tuple_of l.answer) least)) l.spots
+use Rattle.lrp_outputs.specs.First.{IsFirst}
 
 -- ---- spots of the answers of one query
 
@@ -39,12 +28,6 @@ pub record IsLeastOver (q : Question) (domain : List Text) (db : List Relation) 
   pub known : IfSome least (λ spot. AllByRecursion (λ n. n < length domain) (take (shape_for q.head).texts spot.texts))
 
 -- ---- what goes on being so
-
--- the period and the bounds of each zone are small enough for this number, and that is for 2^62
-pub record IsSmallAnswer (a : Answer) (reach : ℕ) : Type 0 where
-  pub period : a.store.period ≤ reach
-  pub scaled : 2 ^ (time_columns a.head.columns + 1) * reach ≤ 2 ^ 62
-  pub small : (cell : Cell) (z : ZoneView) → Contains (zones_at a.store cell) z → IsSmallZone z (time_columns a.head.columns * reach)
 
 -- the query is in kept form, and the scaled reach is not above 2^62
 pub record IsLow (k : KeepView) : Type 0 where

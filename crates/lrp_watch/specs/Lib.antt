@@ -1,6 +1,4 @@
 -- What contracts say of least answers: their lines, edits and limits, and then the program's own values.
-pub mod First
-pub mod Spots
 pub mod Edits
 pub mod Watching
 pub mod Faults

@@ -15,7 +15,7 @@ use Rattle.lrp_kept.specs.KeptForm.{is_kept}
 use Rattle.lrp_keep.specs.Keeps.{IsSortedQuery, IsWithinLimits, KeepView, opened}
 use Rattle.lrp_keep.specs.declared.faults.KeepFault.{KeepFault}
 use Rattle.lrp_watch.specs.Edits.{AreMade, IsPassedAt}
-use Rattle.lrp_watch.specs.First.{IsFirst, first_line}
+use Rattle.lrp_outputs.specs.First.{IsFirst, first_line}
 
 -- ---- what is kept at first
 

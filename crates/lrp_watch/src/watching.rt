@@ -1,20 +1,19 @@
 // Least answers, one after the other, while edits are made.
 ghost use Rattle.std.specs.Prelude.{◌≡◌, IfErr, IfOk, OnOk};
-ghost use Rattle.std.specs.List.{AllByRecursion};
 ghost use Rattle.lrp_model.specs.Formulas.{question_of};
 ghost use Rattle.lrp_keep.specs.Keeps.{CanBeKept, IsCause, IsWithinLimits, opened as opened_by};
 ghost use Rattle.lrp_watch.specs.Edits.{IsMade, IsPassedBehind, IsRefusedEdit};
 ghost use Rattle.lrp_watch.specs.Faults.{IsAt, IsFaultBy};
-ghost use Rattle.lrp_watch.specs.Leasts.{AreDone, CanBeMade, CanGoOn, IsLeastOver, IsLow, IsTold, leasts_text};
+ghost use Rattle.lrp_watch.specs.Leasts.{AreDone, CanBeMade, CanGoOn, IsLeastOver, IsLow, IsTold};
+ghost use Rattle.lrp_outputs.specs.Outputs.{leasts_text};
 ghost use Rattle.lrp_watch.specs.Watching.{CanBeWatched, IsPassed, TellsLeasts};
 
 use crate::domains::constants_of;
 use crate::faults::WatchFault;
-use crate::laws::{small_answers_have_room, spots_stand_for_tuples};
-use crate::leasts::Leasts;
 use lrp_edits::Edit;
 use lrp_keep::{Keep, KeepFault};
 use lrp_model::{Domain, List, Memory, Query, Spot, texts_in_order};
+use lrp_outputs::{Leasts, small_answers_have_room, spots_stand_for_tuples};
 use lrp_rel::Database;
 use std::alloc::Global;
 

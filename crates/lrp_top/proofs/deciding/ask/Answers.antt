@@ -1,7 +1,7 @@
 -- What is refused first, and then what is told for the purpose.
 use Rattle.std.proofs.Common.{Ok, Err}
 use Rattle.lrp_top.proofs.QuestionLemmas.{asked_same, question_due, refusal_due}
-use Rattle.lrp_top.specs.Outputs.{told}
+use Rattle.lrp_outputs.specs.Outputs.{told}
 use Rattle.lrp_top.specs.Questions.{IsMadeOf, IsServed, is_canonical}
 use Rattle.lrp_top.proofs.deciding.ask.Goals as goal
 

@@ -2,7 +2,7 @@
 use Rattle.std.proofs.Common.{◌≡◌, ap₂, subst, ◌∙◌}
 use Rattle.std.specs.List.{AllByRecursion}
 use Rattle.lrp_list.specs.Listing.{WindowView, window_of}
-use Rattle.lrp_top.specs.Known.{IsStanding}
+use Rattle.lrp_top.specs.Standing.{IsStanding}
 use Rattle.lrp_top.proofs.CivilSpots.{are_ends, page_dates}
 use Rattle.lrp_top.proofs.Listed.{known_all, page_given, word}
 use Rattle.lrp_top.proofs.listing.gather.Goals as goal

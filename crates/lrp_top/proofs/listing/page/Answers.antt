@@ -10,9 +10,9 @@ use Rattle.lrp_token.specs.Files.{files_digest}
 use Rattle.lrp_words.specs.Commands.{after_text}
 use Rattle.lrp_top.specs.Due.{IsCounted, IsOutput}
 use Rattle.lrp_top.specs.Telling.{TellsPage}
-use Rattle.lrp_top.specs.Outcomes.{Outcome}
+use Rattle.lrp_outputs.specs.Outcomes.{Outcome}
 use Rattle.lrp_top.specs.Resuming.{IsResumed, data_columns, shape_of}
-use Rattle.lrp_top.specs.Outputs.{told}
+use Rattle.lrp_outputs.specs.Outputs.{told}
 use Rattle.lrp_top.specs.Questions.{resumed_as}
 use Rattle.lrp_top.specs.Steps.{Behind, Then}
 use Rattle.lrp_top.proofs.HeadCounts.{few_texts, few_times}

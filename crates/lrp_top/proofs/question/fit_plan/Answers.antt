@@ -2,7 +2,7 @@
 use Rattle.std.proofs.Common.{◌≡◌, true, false, Ok, Err, refl}
 use Rattle.lrp_model.specs.Formulas.{question_of}
 use Rattle.lrp_top.proofs.QuestionLemmas.{fits, no_fit}
-use Rattle.lrp_top.specs.declared.outcome.Refusal.TheVariants.{CanonHead}
+use Rattle.lrp_outputs.specs.declared.refusal.Refusal.TheVariants.{CanonHead}
 use Rattle.lrp_top.proofs.question.fit_plan.Goals as goal
 
 pub returns-then-head_fits-clause-planned : goal.returns-then-head_fits-clause-planned

@@ -1,6 +1,6 @@
 -- The text was written whole, or a front of it.
-use Rattle.lrp_top.specs.Outputs.{told}
-use Rattle.lrp_top.proofs.LineLemmas.{ends_cut, ends_whole}
+use Rattle.lrp_outputs.specs.Outputs.{told}
+use Rattle.lrp_top.proofs.Endings.{ends_cut, ends_whole}
 use Rattle.lrp_top.proofs.running.run.Goals as goal
 
 pub returns-in-Ok-clause-run : goal.returns-in-Ok-clause-run

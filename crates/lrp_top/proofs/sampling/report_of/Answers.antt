@@ -1,7 +1,7 @@
 -- The page of the first day has all of its answers.
 use Rattle.std.proofs.Common.{refl}
 use Rattle.lrp_sample.specs.Trees.{sample_question, sample_relations}
-use Rattle.lrp_top.specs.declared.report.Report.{Report}
+use Rattle.lrp_outputs.specs.declared.report.Report.{Report}
 use Rattle.lrp_top.proofs.SampleLemmas.{told_sample}
 use Rattle.lrp_top.proofs.sampling.report_of.Goals as goal
 

@@ -1,14 +1,10 @@
 -- No step has too many cells, and then the text of all answers is told.
-use Rattle.std.proofs.Common.{Ok, Err, refl, subst}
-use Rattle.lrp_model.specs.AnswerTexts.{IsAnswerTextOf}
+use Rattle.std.proofs.Common.{Ok, Err, refl, subst, sym}
+use Rattle.lrp_model.specs.AnswerTexts.{IsAnswerText, IsAnswerTextOf}
 use Rattle.lrp_model.specs.Formulas.{question_of}
 use Rattle.lrp_list.specs.AnswerText.{answer_text}
 use Rattle.lrp_top.proofs.Answered.{period_of}
-use Rattle.lrp_top.proofs.RoomLemmas.{roomy}
 use Rattle.lrp_top.proofs.serving.all_answers.Goals as goal
-
-pub invariant_of-result : goal.invariant_of-result
-invariant_of-result c = record { room = roomy c.in-Ok.answer.store c.in-Ok.ensures.room }
 
 pub returns-in-Ok : goal.returns-in-Ok
 returns-in-Ok c =
@@ -19,7 +15,7 @@ returns-in-Ok c =
       due = record {
         first = Ok tt;
         is = c.in-Ok.ensures.counted;
-        next = subst (λ k. IsAnswerTextOf k db q (answer_text c.in-Ok.answer)) (period_of db q c.args.cap c.in-Ok.answer answered (c.plan_rises.ensures.last db q)) (c.answers_are_texts.ensures db q c.in-Ok.answer (record {
+        next = subst (λ a. IsAnswerText db q (answer_text a)) (sym c.new.ensures) (subst (λ k. IsAnswerTextOf k db q (answer_text c.in-Ok.answer)) (period_of db q c.args.cap c.in-Ok.answer answered (c.plan_rises.ensures.last db q)) (c.answers_are_texts.ensures db q c.in-Ok.answer (record {
           store = c.shape.ensures.valid;
           ascends = c.len.ensures.ascending;
           head = answered.head;
@@ -28,7 +24,7 @@ returns-in-Ok c =
           room = c.in-Ok.ensures.room;
           texts = c.len.ensures.whole;
           columns = c.requires.ready.head;
-        }));
+        })));
       };
     }
 

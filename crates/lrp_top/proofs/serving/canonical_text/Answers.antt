@@ -3,18 +3,19 @@
 use Rattle.std.proofs.Common.{◌≡◌, ◌≤◌, ◌∙◌, Ok, Err, ap, refl, subst, sym}
 use Rattle.std.specs.Prelude.{IfNone, IfSome}
 use Rattle.std.specs.List.{AllByRecursion}
+use Rattle.lrp_model.specs.AnswerTexts.{IsAnswerTextOf}
 use Rattle.lrp_model.specs.DataTexts.{IsDataText}
 use Rattle.lrp_model.specs.Formulas.{question_of}
 use Rattle.lrp_model.specs.Texts.{Ascends}
+use Rattle.lrp_list.specs.AnswerText.{answer_text}
 use Rattle.lrp_spans.specs.Groups.{HoldsNumber}
 use Rattle.lrp_store.specs.Stores.{zone_count}
 use Rattle.lrp_canon.specs.Canonical.{HasCanonicalRows as HasStoredRows, HasMoreRows, IsCanonicalOf}
-use Rattle.lrp_top.specs.Canonical.{HasNumber}
-use Rattle.lrp_top.specs.declared.outcome.Refusal.TheVariants.{CanonRows, Memory}
+use Rattle.lrp_canon.specs.Answers.{HasNumber}
+use Rattle.lrp_outputs.specs.declared.refusal.Refusal.TheVariants.{CanonRows, Memory}
 use Rattle.lrp_top.proofs.Answered.{can_be_canonical, last_wide, one_column}
 use Rattle.lrp_top.proofs.CanonSets.{count_named, period_named, same_sets}
 use Rattle.lrp_top.proofs.CanonTuples.{answers_moved, numbered}
-use Rattle.lrp_top.proofs.RoomLemmas.{roomy}
 use Rattle.lrp_top.proofs.serving.canonical_text.Goals as goal
 
 pub canonical_within-requires : goal.canonical_within-requires
@@ -25,10 +26,10 @@ canonical_within-requires c =
     can_be_canonical db q c.args.cap c.args.answer c.requires.answers planned.reach
     (last_wide db q _ (c.plan_rises.ensures.steps db q planned.settled.elements planned.settled.periods) (c.steps_are_made.ensures.last db q)) c.requires.head
 
-pub invariant_of-result : goal.invariant_of-result
-invariant_of-result c =
+pub new-requires : goal.new-requires
+new-requires c =
     let is : IsCanonicalOf c.args.answer.store c.in-Ok-Some.answer.store = subst (λ found. IfSome found (λ made. IsCanonicalOf c.args.answer.store made.store)) c.in-Ok-Some.field-0-is c.in-Ok-Some.ensures.store in
-    record { room = roomy c.in-Ok-Some.answer.store is.room }
+    is.room
 
 pub returns-in-Ok-Some : goal.returns-in-Ok-Some
 returns-in-Ok-Some c =
@@ -53,7 +54,7 @@ returns-in-Ok-Some c =
           column = c.requires.head;
           period = made.store.period;
           least = period_named (HoldsNumber a.store) (HasNumber db q) sets made.store.period least;
-          text = c.answers_are_texts.ensures db q made (record {
+          text = subst (λ of. IsAnswerTextOf made.store.period db q (answer_text of)) (sym c.new.ensures) (c.answers_are_texts.ensures db q made (record {
             store = is.canonical.valid;
             ascends = subst Ascends (sym domain) c.len.ensures.ascending;
             head = ap (λ h. h.columns) head ∙ c.requires.answers.head;
@@ -62,7 +63,7 @@ returns-in-Ok-Some c =
             room = is.room;
             texts = subst (AllByRecursion IsDataText) (sym domain) c.len.ensures.whole;
             columns = c.requires.ready.head;
-          });
+          }));
         };
       };
     }

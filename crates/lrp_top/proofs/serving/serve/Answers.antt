@@ -1,6 +1,6 @@
 -- What is told for each purpose.
 use Rattle.std.proofs.Common.{subst, sym}
-use Rattle.lrp_top.specs.Outputs.{told}
+use Rattle.lrp_outputs.specs.Outputs.{told}
 use Rattle.lrp_top.specs.Questions.{IsServed, database_source, query_source}
 use Rattle.lrp_top.proofs.serving.serve.Goals as goal
 

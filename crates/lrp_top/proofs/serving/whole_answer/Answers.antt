@@ -1,7 +1,7 @@
 -- In canonical form, or as they come.
 use Rattle.std.proofs.Common.{subst, sym}
 use Rattle.lrp_top.specs.Due.{IsAnswered}
-use Rattle.lrp_top.specs.Outputs.{told}
+use Rattle.lrp_outputs.specs.Outputs.{told}
 use Rattle.lrp_top.specs.Questions.{database_source, query_source}
 use Rattle.lrp_top.proofs.serving.whole_answer.Goals as goal
 

@@ -10,4 +10,4 @@ pub returns-in-Err : goal.returns-in-Err
 returns-in-Err c =
     let db = c.args.database.now in
     let q = question_of c.args.query.now in
-    subst (λ refusal. IsWatched db q c.args.cap c.args.edits.now (Err refusal)) (sym c.of_watch.ensures) (refused_watch db q c.args.edits.now c.args.cap c.in-Err.fault c.in-Err.ensures.fault)
+    subst (λ refusal. IsWatched db q c.args.cap c.args.edits.now (Err refusal)) (sym c.refused.ensures) (refused_watch db q c.args.edits.now c.args.cap c.in-Err.fault c.in-Err.ensures.fault)

@@ -4,7 +4,7 @@ use Rattle.std.proofs.lemmas.Result.{err_from_is_err_and}
 use Rattle.std.specs.List.{AllByRecursion}
 use Rattle.lrp_edits.specs.EditMeaning.{IsEditOf}
 use Rattle.lrp_model.specs.Formulas.{question_of}
-use Rattle.lrp_top.specs.Outputs.{told}
+use Rattle.lrp_outputs.specs.Outputs.{told}
 use Rattle.lrp_top.specs.Watched.{IsWatched}
 use Rattle.lrp_top.specs.Questions.{database_source, query_source}
 use Rattle.lrp_top.proofs.QuestionLemmas.{asked_since, read_before}

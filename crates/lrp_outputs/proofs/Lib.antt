@@ -1,0 +1,6 @@
+-- Lemmas on lines and pages, on spots, and on the room that answers have.
+mod LineLemmas
+mod PageLemmas
+mod RoomLemmas
+pub mod SmallAnswers
+pub mod Spots

@@ -1,0 +1,13 @@
+-- What contracts say of outputs and refusals: first their texts and their statuses, and then the program's own values.
+pub mod Statuses
+pub mod Outcomes
+pub mod PageLines
+pub mod First
+pub mod SampleLines
+pub mod Spots
+pub mod Known
+pub mod Rooms
+pub mod SmallAnswers
+pub mod WritablePlans
+pub mod Refusals
+pub mod Outputs

@@ -1,0 +1,61 @@
+-- The bytes of the program's outputs.
+use Rattle.std.specs.Prelude.{ℕ, List, ◌++◌, flat_map, map, option_map, Option, Some, None, Result, Ok, Err, codes}
+use Rattle.lrp_model.specs.Printed.{database_bytes}
+use Rattle.lrp_model.specs.PrintedPages.{plain_line}
+use Rattle.lrp_model.specs.PrintedPlans.{plan_bytes}
+use Rattle.lrp_model.specs.Pages.{Tuple}
+use Rattle.lrp_model.specs.declared.tuples.Spot.{Spot}
+use Rattle.lrp_store.specs.declared.answer.Answer.{Answer}
+use Rattle.lrp_list.specs.AnswerText.{answer_text}
+use Rattle.lrp_list.specs.Lines.{is_json}
+use Rattle.lrp_outputs.specs.First.{first_line}
+use Rattle.lrp_outputs.specs.Spots.{tuple_of}
+use Rattle.lrp_outputs.specs.Outcomes.{Outcome}
+use Rattle.lrp_outputs.specs.SampleLines.{sample_lines}
+use Rattle.lrp_outputs.specs.PageLines.{listed_bytes}
+use Rattle.lrp_outputs.specs.declared.output.Output.{Output}
+use Rattle.lrp_outputs.specs.declared.output.Output.TheVariants as output
+use Rattle.lrp_outputs.specs.declared.refusal.Refusal.{Refusal}
+use Rattle.lrp_outputs.specs.declared.leasts.Leasts.{Leasts}
+use Rattle.lrp_outputs.specs.declared.page.Page.{Page}
+use Rattle.lrp_outputs.specs.declared.report.Report.{Report}
+use Rattle.lrp_outputs.specs.declared.witness.Witness.{Witness}
+
+-- `Nonempty` and the line of a spot, or `Empty` without one
+abbrev pub spot_text : Answer → Option Spot → List ℕ
+spot_text a None = codes "Empty\n"
+spot_text a (Some spot) = codes "Nonempty\n" ++ plain_line (tuple_of a spot)
+
+abbrev pub witness_text : Witness → List ℕ
+witness_text w = spot_text w.answer w.least
+
+-- the tuple of the least answer
+abbrev pub least_of : Witness → Option Tuple
+least_of w = option_map (tuple_of w.answer) w.least
+
+-- what is told of the sample
+abbrev pub sample_text : Report → List ℕ
+sample_text report = sample_lines report.rows report.cells (least_of report.first) report.window
+
+-- the lines of the page's spots, and the line behind them
+abbrev pub page_text : Page → List ℕ
+page_text page = listed_bytes page.civil (is_json page.form) page.files (map (tuple_of page.answer) page.spots) page.more
+
+-- the lines of the least answers
+abbrev pub leasts_text : Leasts → List ℕ
+leasts_text l = flat_map (λ least. first_line (option_map (tuple_of l.answer) least)) l.spots
+
+-- of each output
+abbrev pub output_text : Output → List ℕ
+output_text (output.Relations relations) = database_bytes relations
+output_text (output.Plan p) = plan_bytes p.plan
+output_text (output.Answer whole) = answer_text whole.answer
+output_text (output.Witness w) = witness_text w
+output_text (output.Page page) = page_text page
+output_text (output.Leasts leasts) = leasts_text leasts
+output_text (output.Sample report) = sample_text report
+
+-- what the run ends with
+abbrev pub told : Result Output Refusal → Outcome
+told (Ok it) = Ok (output_text it)
+told (Err refusal) = Err refusal

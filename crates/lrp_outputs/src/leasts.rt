@@ -1,0 +1,30 @@
+// The least answers of a query as they are written.
+ghost use Rattle.std.specs.List.{AllByRecursion};
+ghost use Rattle.lrp_outputs.specs.Spots.{IsKnownLeast, leasts_prop};
+
+use crate::first::write_first;
+use lrp_io::{Failed, Sink, Text};
+use lrp_model::{List, Spot};
+use lrp_store::Answer;
+
+/// The least answers of one query over some databases, one after the other, by the numbers of one answer's domain.
+#[derive(Drop)]
+pub struct Leasts {
+    pub answer: Answer,
+    pub spots: List<Option<Spot>>,
+    ghost known: { AllByRecursion (IsKnownLeast answer) spots } by { leasts_prop answer spots },
+}
+
+impl Text for Leasts {
+    ghost use Rattle.lrp_outputs.specs.Outputs.{leasts_text};
+
+    ghost text = { λ l. leasts_text l };
+
+    fn write_to<S: Sink>(&self, out: &mut S) -> Result<(), Failed> {
+        let spots = self.spots.as_slice();
+        for least in spots {
+            write_first(out, &self.answer, least)?;
+        }
+        Ok(())
+    }
+}

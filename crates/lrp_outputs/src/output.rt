@@ -1,0 +1,41 @@
+// What a command writes.
+use crate::answer::WholeAnswer;
+use crate::leasts::Leasts;
+use crate::page::Page;
+use crate::plan::WritablePlan;
+use crate::report::Report;
+use crate::witness::Witness;
+use lrp_rel::Database;
+
+/// What a command writes.
+pub enum Output {
+    /// The relations of a database, in order.
+    Relations(Database),
+    /// The plan of a query.
+    Plan(WritablePlan),
+    /// All answers of a query.
+    Answer(WholeAnswer),
+    /// The least answer of a query.
+    Witness(Witness),
+    /// A page of answers of a query.
+    Page(Page),
+    /// The least answers of a query while rows are added and taken out.
+    Leasts(Leasts),
+    /// What is told of the sample.
+    Sample(Report),
+}
+
+// It is let go by one call: a derived drop would be proved anew, part by part, wherever an output goes.
+impl Drop for Output {
+    fn drop(self) {
+        match self {
+            Output::Relations(relations) => drop(relations),
+            Output::Plan(plan) => drop(plan),
+            Output::Answer(answer) => drop(answer),
+            Output::Witness(witness) => drop(witness),
+            Output::Page(page) => drop(page),
+            Output::Leasts(leasts) => drop(leasts),
+            Output::Sample(report) => drop(report),
+        }
+    }
+}

@@ -1,0 +1,25 @@
+// The plan of a question as it is written.
+ghost use Rattle.std.specs.List.{AllByRecursion};
+ghost use Rattle.lrp_plan_text.specs.Writable.{StepHasPeriods};
+ghost use Rattle.lrp_outputs.specs.WritablePlans.{steps_prop};
+
+use lrp_io::{Failed, Sink, Text};
+use lrp_model::Plan;
+use lrp_plan_text::write_plan;
+
+/// A plan whose text can be written: the points of its `in` tests have periods.
+#[derive(Drop)]
+pub struct WritablePlan {
+    pub plan: Plan,
+    ghost writable: { AllByRecursion StepHasPeriods plan.steps } by { steps_prop plan.steps },
+}
+
+impl Text for WritablePlan {
+    ghost use Rattle.lrp_model.specs.PrintedPlans.{plan_bytes};
+
+    ghost text = { λ s. plan_bytes s.plan };
+
+    fn write_to<S: Sink>(&self, out: &mut S) -> Result<(), Failed> {
+        write_plan(out, &self.plan)
+    }
+}
