@@ -604,6 +604,14 @@ def kept_choices(size):
     return watched_case(range(0, 2 * size, 2), range(1, 2 * size, 2), [], size * size)
 
 
+@family("kept zones", "two", (100, 316, 1000), "N rows of period 10 joined with N: a zone is kept for each N * N / 10 choices")
+def kept_zones(size):
+    rows = ["(%d+10n)" % (i % 10) for i in range(size)]
+    database = relation("a", times("t"), rows) + relation("b", times("t"), rows)
+    zones = sum((size + 9 - i) // 10 * ((size + 9 - i) // 10) for i in range(10))
+    return Case(["watch"], database, query(times("t"), "(a(t) and b(t))"), units=zones, unit="zones", output="0\n")
+
+
 @family("edits", "two", (100, 1000, 10000, 100000), "N edits of one row each, over two relations of 1,000 instants")
 def edits(size):
     met = [2 * (7 * i % 1000) for i in range(size // 2)]
