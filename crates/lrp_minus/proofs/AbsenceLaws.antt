@@ -36,7 +36,7 @@ pub word_is : (m : ℤ) → pos 0 ≤ℤ m → m ≤ℤ pos (2 ^ 62) → to_z w6
 word_is m low high = omega (arith, ints)
 
 -- what a mapped list has
-of_map : {X Y : Type 0} (f : X → Y) (xs : List X) (y : Y) → Contains (map f xs) y → (x : X) × Contains xs x × (f x ≡ y)
+pub of_map : {X Y : Type 0} (f : X → Y) (xs : List X) (y : Y) → Contains (map f xs) y → (x : X) × Contains xs x × (f x ≡ y)
 of_map f [] y h = let l : h.0 < 0 = h.1 in absurd (omega arith)
 of_map f (x ∷ xs) y (zero, l, e) = (x, (0, omega arith, refl), e)
 of_map f (x ∷ xs) y (suc k, l, e) = let r = of_map f xs y (k, omega arith, e) in (r.0, (suc r.1.0, omega (arith, r.1.1), r.1.2), r.2)

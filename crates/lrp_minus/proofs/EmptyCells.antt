@@ -1,17 +1,19 @@
 -- A cell that a store has not is all that is missing there.
-use Rattle.std.proofs.Common.{◌≡◌, ℕ, ◌<◌, ◌≤◌, List, length, replicate, take, None, get_or, refl, sym, ap, subst, ◌∙◌, arith, zero, suc}
+use Rattle.std.proofs.Common.{◌≡◌, ℕ, ◌<◌, ◌≤◌, List, [], length, replicate, take, None, get_or, refl, sym, ap, subst, ◌∙◌, arith, zero, suc}
 use Rattle.std.specs.Prelude.{ℤ, Option, pos, Contains, ◌-ℤ◌}
-use Rattle.std.proofs.lemmas.List.{length-take-le}
+use Rattle.std.proofs.lemmas.List.{length-map, length-take-le}
 use Rattle.lrp_theory.specs.Divides.{Divides}
 use Rattle.lrp_theory.specs.Entries.{node}
 use Rattle.lrp_model.specs.declared.tuples.Cell.{Cell}
 use Rattle.lrp_model.specs.declared.tuples.Shape.{Shape}
-use Rattle.lrp_zone.specs.Zones.{ZoneView, IsInCell, greatest_of}
+use Rattle.lrp_zone.specs.Zones.{ZoneView, IsInCell, IsMember, greatest_of}
 use Rattle.lrp_store.specs.Growing.{IsAdded, IsRefused, IsTupleOf}
-use Rattle.lrp_store.specs.Stores.{StoreView, IsStore, IsCellOf, InStore, LiesInCell, zone_of, tables_at}
+use Rattle.lrp_store.specs.Stores.{StoreView, IsStore, IsCellOf, InStore, LiesInCell, zone_of, tables_at, zones_at}
 use Rattle.lrp_store.proofs.Counted.{lies_in, one_cell}
+use Rattle.lrp_store.proofs.Grown.{grown_same}
 use Rattle.lrp_store.proofs.Held.{cell_held, node_take}
 use Rattle.lrp_minus.specs.Absences.{IsAbsentAt, IsChosenTo, IsLike}
+use Rattle.lrp_minus.proofs.AbsenceLaws.{of_map}
 use Rattle.lrp_minus.proofs.ContentLaws.{free_zone}
 use Rattle.lrp_minus.proofs.Gathering.{added_as, refused_as}
 
@@ -88,3 +90,28 @@ module _ (s : StoreView) (is : IsStore s) (cell : Cell) (c : IsChosenTo s s.shap
 
     pub whole_absent_refused : IsRefused (IsTupleOf (zone_of out cell (replicate 81 None)) (take out.shape.texts cell.texts)) cap (greatest_of (replicate 81 None)) out new → IsRefused (IsAbsentAt s s.shape.times cell) cap high out new
     whole_absent_refused r = refused_as cap (IsTupleOf (zone_of out cell (replicate 81 None)) (take out.shape.texts cell.texts)) (IsAbsentAt s s.shape.times cell) (greatest_of (replicate 81 None)) high (let r = no_reach in omega arith) out new valid to r
+
+-- a cell that the store has whole misses nothing
+module _ (s : StoreView) (is : IsStore s) (cell : Cell) (c : IsChosenTo s s.shape.times cell) (z : ZoneView) (there : Contains (zones_at s cell) z) (all : (xs : List ℤ) → IsInCell z xs → IsMember z xs) where
+  held_count : length (take s.shape.times cell.residues) ≡ s.shape.times
+  held_count = length-take-le s.shape.times cell.residues (let e : length cell.residues ≡ 8 = c.residues.size in let l = is.times in omega arith)
+
+  nothing_absent : (xs : List ℤ) (ns : List ℕ) → IsAbsentAt s s.shape.times cell xs ns → ⊥
+  nothing_absent xs ns h =
+      let g = of_map (zone_of s cell) (tables_at s cell) z there in
+      h.none (record { cell = cell; table = g.0; held = g.1; named = h.named; inside = subst (λ (w : ZoneView). IsMember w xs) (sym g.2) (all xs (subst (λ (w : ZoneView). IsInCell w xs) g.2 (in_cell g.0))) })
+    where
+      in_cell : (table : List (Option ℤ)) → IsInCell (zone_of s cell table) xs
+      in_cell table = record {
+        count = h.count ∙ sym held_count;
+        each = λ i l.
+            let low : i ≤ s.shape.times = (let e = held_count in omega arith) in
+            subst (λ (r : ℤ). Divides (pos s.period) (node xs i -ℤ r)) (sym (node_take s.shape.times cell.residues i low)) (h.residues i low);
+      }
+
+  pub nothing_added : (out : StoreView) → IsStore out → (cap high : ℕ) → IsAdded (IsAbsentAt s s.shape.times cell) cap high out out
+  nothing_added out valid cap high = record { grown = grown_same cap high _ out valid; whole = record { each = λ xs ns h. absurd (nothing_absent xs ns h) } }
+
+-- no zone is there
+pub no_table : (s : StoreView) (cell : Cell) → zones_at s cell ≡ [] → length (tables_at s cell) ≡ 0
+no_table s cell e = sym (length-map (tables_at s cell) (zone_of s cell)) ∙ ap length e

@@ -1,16 +1,24 @@
--- A cell that is not held is added whole.
-use Rattle.std.proofs.Common.{◌+◌, ◌*◌, sym, ◌∙◌}
-use Rattle.lrp_minus.proofs.EmptyCells.{proper_there, whole_absent, whole_absent_refused}
+-- A cell that is not held is added whole, and one that is held whole leaves nothing.
+use Rattle.std.proofs.Common.{◌≡◌, ◌∷◌, ◌+◌, ◌*◌, sym, subst, ◌∙◌, refl, arith}
+use Rattle.std.specs.Prelude.{Contains}
+use Rattle.lrp_store.specs.Stores.{zones_at}
+use Rattle.lrp_minus.proofs.EmptyCells.{no_table, nothing_added, proper_there, whole_absent, whole_absent_refused}
 use Rattle.lrp_minus.proofs.Lists.{on_ok}
 use Rattle.lrp_minus.proofs.absences.fill_cell.Goals as goal
 
 pub add_whole-requires : goal.add_whole-requires
-add_whole-requires c = record { proper = proper_there c.args.store.now c.shape-2.ensures.valid c.args.cell.now c.requires.chosen (sym c.count.ensures.count ∙ c.if-count-eq0.true) c.args.out.now c.requires.like }
+add_whole-requires c = record { proper = proper_there c.args.store.now c.shape-2.ensures.valid c.args.cell.now c.requires.chosen (no_table c.args.store.now c.args.cell.now (sym c.zones_of.ensures ∙ c.in_default.ensures.steps.0)) c.args.out.now c.requires.like }
 
-pub returns-then-count-eq0-clause-ok : goal.returns-then-count-eq0-clause-ok
-returns-then-count-eq0-clause-ok c = on_ok _ _ c.add_whole.result
-    (λ a high r. whole_absent c.args.store.now c.shape-2.ensures.valid c.args.cell.now c.requires.chosen (sym c.count.ensures.count ∙ c.if-count-eq0.true) c.args.out.now c.requires.like c.args.cap (high + 2 * c.args.store.now.period) c.shape.ensures.valid c.add_whole.new.self a)
+pub returns-in_default-clause-ok : goal.returns-in_default-clause-ok
+returns-in_default-clause-ok c = on_ok _ _ c.add_whole.result
+    (λ a high r. whole_absent c.args.store.now c.shape-2.ensures.valid c.args.cell.now c.requires.chosen (no_table c.args.store.now c.args.cell.now (sym c.zones_of.ensures ∙ c.in_default.ensures.steps.0)) c.args.out.now c.requires.like c.args.cap (high + 2 * c.args.store.now.period) c.shape.ensures.valid c.add_whole.new.self a)
     c.add_whole.ensures.ok
 
-pub returns-then-count-eq0-clause-refused : goal.returns-then-count-eq0-clause-refused
-returns-then-count-eq0-clause-refused c = λ e high r. whole_absent_refused c.args.store.now c.shape-2.ensures.valid c.args.cell.now c.requires.chosen (sym c.count.ensures.count ∙ c.if-count-eq0.true) c.args.out.now c.requires.like c.args.cap (high + 2 * c.args.store.now.period) c.shape.ensures.valid c.add_whole.new.self (c.add_whole.ensures.too_many e)
+pub returns-in_default-clause-refused : goal.returns-in_default-clause-refused
+returns-in_default-clause-refused c = λ e high r. whole_absent_refused c.args.store.now c.shape-2.ensures.valid c.args.cell.now c.requires.chosen (no_table c.args.store.now c.args.cell.now (sym c.zones_of.ensures ∙ c.in_default.ensures.steps.0)) c.args.out.now c.requires.like c.args.cap (high + 2 * c.args.store.now.period) c.shape.ensures.valid c.add_whole.new.self (c.add_whole.ensures.too_many e)
+
+pub returns-in-Everything-clause-ok : goal.returns-in-Everything-clause-ok
+returns-in-Everything-clause-ok c =
+    let listed : zones_at c.args.store.now c.args.cell.now ≡ c.in-Some.zone ∷ c.next.new.self = sym c.zones_of.ensures ∙ c.in-Some.ensures.steps in
+    λ high r. nothing_added c.args.store.now c.shape-2.ensures.valid c.args.cell.now c.requires.chosen c.in-Some.zone (subst (λ l. Contains l c.in-Some.zone) (sym listed) (0, omega arith, refl)) (c.in-Everything.ensures.everything refl)
+    c.args.out.now c.shape.ensures.valid c.args.cap (high + 2 * c.args.store.now.period)
