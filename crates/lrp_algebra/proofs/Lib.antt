@@ -1,4 +1,5 @@
 -- The lemmas: cells and lists with one value fewer, and sets that are added part by part.
+pub mod Likeness
 pub mod Compared
 pub mod Conditioned
 pub mod Cuts

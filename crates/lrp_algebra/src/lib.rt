@@ -1,6 +1,7 @@
 //! The operations on tables by which a query's plan is run.
 #![tactic(auto)]
 
+mod alike;
 mod columns;
 mod comparisons;
 mod conditions;

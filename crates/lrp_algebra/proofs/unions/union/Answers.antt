@@ -7,6 +7,7 @@ use Rattle.lrp_tables.specs.Columns.{ArePlacesOf, joint}
 use Rattle.lrp_tables.specs.Tables.{AreNamesAmong}
 use Rattle.lrp_tables.proofs.Joining.{in_joint_left, in_joint_right}
 use Rattle.lrp_algebra.proofs.United.{joint_names_differ, left_stands, right_stands, left_many, right_many, union_table, union_few, union_reach, union_times, union_texts}
+use Rattle.lrp_algebra.proofs.Likeness.{numbers_below}
 use Rattle.lrp_algebra.proofs.Steps.{fresh_by, positive, divides_abs, same_word}
 use Rattle.lrp_algebra.proofs.unions.union.Goals as goal
 
@@ -22,8 +23,8 @@ places_of-requires-2-clause-times c = subst (λ l. AreNamesAmong c.args.right.no
 pub places_of-requires-2-clause-texts : goal.places_of-requires-2-clause-texts
 places_of-requires-2-clause-texts c = subst (λ l. AreNamesAmong c.args.right.now.vars.texts l) (sym c.in_ok-vars.ensures.texts) (in_joint_right c.args.left.now.vars.texts c.args.right.now.vars.texts)
 
-pub add_store-requires-clause-stands : goal.add_store-requires-clause-stands
-add_store-requires-clause-stands c =
+pub add_table-requires-clause-stands : goal.add_table-requires-clause-stands
+add_table-requires-clause-stands c =
     let lt : ArePlacesOf c.args.left.now.vars.times (joint c.args.left.now.vars.times c.args.right.now.vars.times) c.in_ok-left_places.left_places.times = subst (λ l. ArePlacesOf c.args.left.now.vars.times l c.in_ok-left_places.left_places.times) c.in_ok-vars.ensures.times c.in_ok-left_places.ensures.times in
     let lx : ArePlacesOf c.args.left.now.vars.texts (joint c.args.left.now.vars.texts c.args.right.now.vars.texts) c.in_ok-left_places.left_places.texts = subst (λ l. ArePlacesOf c.args.left.now.vars.texts l c.in_ok-left_places.left_places.texts) c.in_ok-vars.ensures.texts c.in_ok-left_places.ensures.texts in
     let rt : ArePlacesOf c.args.right.now.vars.times (joint c.args.left.now.vars.times c.args.right.now.vars.times) c.in_ok-right_places.right_places.times = subst (λ l. ArePlacesOf c.args.right.now.vars.times l c.in_ok-right_places.right_places.times) c.in_ok-vars.ensures.times c.in_ok-right_places.ensures.times in
@@ -40,17 +41,23 @@ returns-in-Err-TooManyCells-clause-many c =
     let rx : ArePlacesOf c.args.right.now.vars.texts (joint c.args.left.now.vars.texts c.args.right.now.vars.texts) c.in_ok-right_places.right_places.texts = subst (λ l. ArePlacesOf c.args.right.now.vars.texts l c.in_ok-right_places.right_places.texts) c.in_ok-vars.ensures.texts c.in_ok-right_places.ensures.texts in
     let fresh = fresh_by c.store_over-out.result c.in_ok-vars.vars.times (joint c.args.left.now.vars.times c.args.right.now.vars.times) c.in_ok-vars.vars.texts (joint c.args.left.now.vars.texts c.args.right.now.vars.texts) (nat_abs (to_z w64 (of_z w64 c.args.period))) (nat_abs c.args.period) c.store_over-out.ensures c.in_ok-vars.ensures.times c.in_ok-vars.ensures.texts (same_word c.args.period c.requires.low c.requires.high) in
     let low : 0 < nat_abs c.args.period = positive c.args.period c.requires.low in
-    λ e. left_many c.args.domain.now c.len-size.ensures.ascending c.args.left.now c.args.right.now c.requires.columns c.in_ok-left_places.left_places c.in_ok-right_places.right_places lt lx rt rx c.new-all.result c.new-all.ensures c.len-size.result c.len-size.ensures.count (nat_abs c.args.period) low c.args.cap c.store_over-out.result fresh (divides_abs c.args.period _ c.requires.low c.requires.left_period) (divides_abs c.args.period _ c.requires.low c.requires.right_period) c.requires.left_reach c.requires.right_reach c.shape-3.ensures.valid c.add_store.new.out (c.add_store.ensures.too_many (c.in-Err-TooManyCells.is ∙ ap Err c.in-Err-TooManyCells.field-0-is))
+    λ e. left_many c.args.domain.now c.len-size.ensures.ascending c.args.left.now c.args.right.now c.requires.columns c.in_ok-left_places.left_places c.in_ok-right_places.right_places lt lx rt rx c.new-all.result c.new-all.ensures c.len-size.result c.len-size.ensures.count (nat_abs c.args.period) low c.args.cap c.store_over-out.result fresh (divides_abs c.args.period _ c.requires.low c.requires.left_period) (divides_abs c.args.period _ c.requires.low c.requires.right_period) c.requires.left_reach c.requires.right_reach c.shape-3.ensures.valid c.add_table.new.out (c.add_table.ensures.too_many (c.in-Err-TooManyCells.is ∙ ap Err c.in-Err-TooManyCells.field-0-is))
 
-pub add_store-requires-2-clause-stands : goal.add_store-requires-2-clause-stands
-add_store-requires-2-clause-stands c =
+pub add_table-requires-2-clause-stands : goal.add_table-requires-2-clause-stands
+add_table-requires-2-clause-stands c =
     let lt : ArePlacesOf c.args.left.now.vars.times (joint c.args.left.now.vars.times c.args.right.now.vars.times) c.in_ok-left_places.left_places.times = subst (λ l. ArePlacesOf c.args.left.now.vars.times l c.in_ok-left_places.left_places.times) c.in_ok-vars.ensures.times c.in_ok-left_places.ensures.times in
     let lx : ArePlacesOf c.args.left.now.vars.texts (joint c.args.left.now.vars.texts c.args.right.now.vars.texts) c.in_ok-left_places.left_places.texts = subst (λ l. ArePlacesOf c.args.left.now.vars.texts l c.in_ok-left_places.left_places.texts) c.in_ok-vars.ensures.texts c.in_ok-left_places.ensures.texts in
     let rt : ArePlacesOf c.args.right.now.vars.times (joint c.args.left.now.vars.times c.args.right.now.vars.times) c.in_ok-right_places.right_places.times = subst (λ l. ArePlacesOf c.args.right.now.vars.times l c.in_ok-right_places.right_places.times) c.in_ok-vars.ensures.times c.in_ok-right_places.ensures.times in
     let rx : ArePlacesOf c.args.right.now.vars.texts (joint c.args.left.now.vars.texts c.args.right.now.vars.texts) c.in_ok-right_places.right_places.texts = subst (λ l. ArePlacesOf c.args.right.now.vars.texts l c.in_ok-right_places.right_places.texts) c.in_ok-vars.ensures.texts c.in_ok-right_places.ensures.texts in
     let fresh = fresh_by c.store_over-out.result c.in_ok-vars.vars.times (joint c.args.left.now.vars.times c.args.right.now.vars.times) c.in_ok-vars.vars.texts (joint c.args.left.now.vars.texts c.args.right.now.vars.texts) (nat_abs (to_z w64 (of_z w64 c.args.period))) (nat_abs c.args.period) c.store_over-out.ensures c.in_ok-vars.ensures.times c.in_ok-vars.ensures.texts (same_word c.args.period c.requires.low c.requires.high) in
     let low : 0 < nat_abs c.args.period = positive c.args.period c.requires.low in
-    right_stands c.args.domain.now c.len-size.ensures.ascending c.args.left.now c.args.right.now c.requires.columns c.in_ok-left_places.left_places c.in_ok-right_places.right_places lt lx rt rx c.new-all.result c.new-all.ensures c.len-size.result c.len-size.ensures.count (nat_abs c.args.period) low c.args.cap c.store_over-out.result fresh (divides_abs c.args.period _ c.requires.low c.requires.left_period) (divides_abs c.args.period _ c.requires.low c.requires.right_period) c.requires.left_reach c.requires.right_reach c.shape-3.ensures.valid c.add_store.new.out c.in-Ok.ensures.ok
+    right_stands c.args.domain.now c.len-size.ensures.ascending c.args.left.now c.args.right.now c.requires.columns c.in_ok-left_places.left_places c.in_ok-right_places.right_places lt lx rt rx c.new-all.result c.new-all.ensures c.len-size.result c.len-size.ensures.count (nat_abs c.args.period) low c.args.cap c.store_over-out.result fresh (divides_abs c.args.period _ c.requires.low c.requires.left_period) (divides_abs c.args.period _ c.requires.low c.requires.right_period) c.requires.left_reach c.requires.right_reach c.shape-3.ensures.valid c.add_table.new.out c.in-Ok.ensures.ok
+
+pub add_table-requires-clause-numbered : goal.add_table-requires-clause-numbered
+add_table-requires-clause-numbered c = numbers_below c.args.domain.now c.args.left.now.store c.len-size.result c.len-size.ensures.count c.requires.left_numbered
+
+pub add_table-requires-2-clause-numbered : goal.add_table-requires-2-clause-numbered
+add_table-requires-2-clause-numbered c = numbers_below c.args.domain.now c.args.right.now.store c.len-size.result c.len-size.ensures.count c.requires.right_numbered
 
 pub invariant_of-result : goal.invariant_of-result
 invariant_of-result c =
@@ -61,47 +68,47 @@ invariant_of-result c =
     let fresh = fresh_by c.store_over-out.result c.in_ok-vars.vars.times (joint c.args.left.now.vars.times c.args.right.now.vars.times) c.in_ok-vars.vars.texts (joint c.args.left.now.vars.texts c.args.right.now.vars.texts) (nat_abs (to_z w64 (of_z w64 c.args.period))) (nat_abs c.args.period) c.store_over-out.ensures c.in_ok-vars.ensures.times c.in_ok-vars.ensures.texts (same_word c.args.period c.requires.low c.requires.high) in
     let low : 0 < nat_abs c.args.period = positive c.args.period c.requires.low in
     record {
-      times_named = ap length c.in_ok-vars.ensures.times ∙ union_times c.args.domain.now c.len-size.ensures.ascending c.args.left.now c.args.right.now c.requires.columns c.in_ok-left_places.left_places c.in_ok-right_places.right_places lt lx rt rx c.new-all.result c.new-all.ensures c.len-size.result c.len-size.ensures.count (nat_abs c.args.period) low c.args.cap c.store_over-out.result fresh (divides_abs c.args.period _ c.requires.low c.requires.left_period) (divides_abs c.args.period _ c.requires.low c.requires.right_period) c.requires.left_reach c.requires.right_reach c.shape-3.ensures.valid c.add_store.new.out c.in-Ok.ensures.ok c.add_store-2.new.out c.in-Ok-add_store.ensures.ok;
-      texts_named = ap length c.in_ok-vars.ensures.texts ∙ union_texts c.args.domain.now c.len-size.ensures.ascending c.args.left.now c.args.right.now c.requires.columns c.in_ok-left_places.left_places c.in_ok-right_places.right_places lt lx rt rx c.new-all.result c.new-all.ensures c.len-size.result c.len-size.ensures.count (nat_abs c.args.period) low c.args.cap c.store_over-out.result fresh (divides_abs c.args.period _ c.requires.low c.requires.left_period) (divides_abs c.args.period _ c.requires.low c.requires.right_period) c.requires.left_reach c.requires.right_reach c.shape-3.ensures.valid c.add_store.new.out c.in-Ok.ensures.ok c.add_store-2.new.out c.in-Ok-add_store.ensures.ok;
+      times_named = ap length c.in_ok-vars.ensures.times ∙ union_times c.args.domain.now c.len-size.ensures.ascending c.args.left.now c.args.right.now c.requires.columns c.in_ok-left_places.left_places c.in_ok-right_places.right_places lt lx rt rx c.new-all.result c.new-all.ensures c.len-size.result c.len-size.ensures.count (nat_abs c.args.period) low c.args.cap c.store_over-out.result fresh (divides_abs c.args.period _ c.requires.low c.requires.left_period) (divides_abs c.args.period _ c.requires.low c.requires.right_period) c.requires.left_reach c.requires.right_reach c.shape-3.ensures.valid c.add_table.new.out c.in-Ok.ensures.ok c.add_table-2.new.out c.in-Ok-add_table.ensures.ok;
+      texts_named = ap length c.in_ok-vars.ensures.texts ∙ union_texts c.args.domain.now c.len-size.ensures.ascending c.args.left.now c.args.right.now c.requires.columns c.in_ok-left_places.left_places c.in_ok-right_places.right_places lt lx rt rx c.new-all.result c.new-all.ensures c.len-size.result c.len-size.ensures.count (nat_abs c.args.period) low c.args.cap c.store_over-out.result fresh (divides_abs c.args.period _ c.requires.low c.requires.left_period) (divides_abs c.args.period _ c.requires.low c.requires.right_period) c.requires.left_reach c.requires.right_reach c.shape-3.ensures.valid c.add_table.new.out c.in-Ok.ensures.ok c.add_table-2.new.out c.in-Ok-add_table.ensures.ok;
       names_differ = subst (λ l. AllPairs ◌≢◌ (l ++ c.in_ok-vars.vars.texts)) (sym c.in_ok-vars.ensures.times) (subst (λ l. AllPairs ◌≢◌ (joint c.args.left.now.vars.times c.args.right.now.vars.times ++ l)) (sym c.in_ok-vars.ensures.texts) (joint_names_differ c.args.left.now c.args.right.now c.requires.columns));
     }
 
-pub returns-in-Ok-add_store-clause-table : goal.returns-in-Ok-add_store-clause-table
-returns-in-Ok-add_store-clause-table c =
+pub returns-in-Ok-add_table-clause-table : goal.returns-in-Ok-add_table-clause-table
+returns-in-Ok-add_table-clause-table c =
     let lt : ArePlacesOf c.args.left.now.vars.times (joint c.args.left.now.vars.times c.args.right.now.vars.times) c.in_ok-left_places.left_places.times = subst (λ l. ArePlacesOf c.args.left.now.vars.times l c.in_ok-left_places.left_places.times) c.in_ok-vars.ensures.times c.in_ok-left_places.ensures.times in
     let lx : ArePlacesOf c.args.left.now.vars.texts (joint c.args.left.now.vars.texts c.args.right.now.vars.texts) c.in_ok-left_places.left_places.texts = subst (λ l. ArePlacesOf c.args.left.now.vars.texts l c.in_ok-left_places.left_places.texts) c.in_ok-vars.ensures.texts c.in_ok-left_places.ensures.texts in
     let rt : ArePlacesOf c.args.right.now.vars.times (joint c.args.left.now.vars.times c.args.right.now.vars.times) c.in_ok-right_places.right_places.times = subst (λ l. ArePlacesOf c.args.right.now.vars.times l c.in_ok-right_places.right_places.times) c.in_ok-vars.ensures.times c.in_ok-right_places.ensures.times in
     let rx : ArePlacesOf c.args.right.now.vars.texts (joint c.args.left.now.vars.texts c.args.right.now.vars.texts) c.in_ok-right_places.right_places.texts = subst (λ l. ArePlacesOf c.args.right.now.vars.texts l c.in_ok-right_places.right_places.texts) c.in_ok-vars.ensures.texts c.in_ok-right_places.ensures.texts in
     let fresh = fresh_by c.store_over-out.result c.in_ok-vars.vars.times (joint c.args.left.now.vars.times c.args.right.now.vars.times) c.in_ok-vars.vars.texts (joint c.args.left.now.vars.texts c.args.right.now.vars.texts) (nat_abs (to_z w64 (of_z w64 c.args.period))) (nat_abs c.args.period) c.store_over-out.ensures c.in_ok-vars.ensures.times c.in_ok-vars.ensures.texts (same_word c.args.period c.requires.low c.requires.high) in
     let low : 0 < nat_abs c.args.period = positive c.args.period c.requires.low in
-    union_table c.args.domain.now c.len-size.ensures.ascending c.args.left.now c.args.right.now c.requires.columns c.in_ok-left_places.left_places c.in_ok-right_places.right_places lt lx rt rx c.new-all.result c.new-all.ensures c.len-size.result c.len-size.ensures.count (nat_abs c.args.period) low c.args.cap c.store_over-out.result fresh (divides_abs c.args.period _ c.requires.low c.requires.left_period) (divides_abs c.args.period _ c.requires.low c.requires.right_period) c.requires.left_reach c.requires.right_reach c.shape-3.ensures.valid c.add_store.new.out c.in-Ok.ensures.ok c.add_store-2.new.out c.in-Ok-add_store.ensures.ok _ c.in_ok-vars.ensures.times c.in_ok-vars.ensures.texts refl
+    union_table c.args.domain.now c.len-size.ensures.ascending c.args.left.now c.args.right.now c.requires.columns c.in_ok-left_places.left_places c.in_ok-right_places.right_places lt lx rt rx c.new-all.result c.new-all.ensures c.len-size.result c.len-size.ensures.count (nat_abs c.args.period) low c.args.cap c.store_over-out.result fresh (divides_abs c.args.period _ c.requires.low c.requires.left_period) (divides_abs c.args.period _ c.requires.low c.requires.right_period) c.requires.left_reach c.requires.right_reach c.shape-3.ensures.valid c.add_table.new.out c.in-Ok.ensures.ok c.add_table-2.new.out c.in-Ok-add_table.ensures.ok _ c.in_ok-vars.ensures.times c.in_ok-vars.ensures.texts refl
 
-pub returns-in-Ok-add_store-clause-reach : goal.returns-in-Ok-add_store-clause-reach
-returns-in-Ok-add_store-clause-reach c =
+pub returns-in-Ok-add_table-clause-reach : goal.returns-in-Ok-add_table-clause-reach
+returns-in-Ok-add_table-clause-reach c =
     let lt : ArePlacesOf c.args.left.now.vars.times (joint c.args.left.now.vars.times c.args.right.now.vars.times) c.in_ok-left_places.left_places.times = subst (λ l. ArePlacesOf c.args.left.now.vars.times l c.in_ok-left_places.left_places.times) c.in_ok-vars.ensures.times c.in_ok-left_places.ensures.times in
     let lx : ArePlacesOf c.args.left.now.vars.texts (joint c.args.left.now.vars.texts c.args.right.now.vars.texts) c.in_ok-left_places.left_places.texts = subst (λ l. ArePlacesOf c.args.left.now.vars.texts l c.in_ok-left_places.left_places.texts) c.in_ok-vars.ensures.texts c.in_ok-left_places.ensures.texts in
     let rt : ArePlacesOf c.args.right.now.vars.times (joint c.args.left.now.vars.times c.args.right.now.vars.times) c.in_ok-right_places.right_places.times = subst (λ l. ArePlacesOf c.args.right.now.vars.times l c.in_ok-right_places.right_places.times) c.in_ok-vars.ensures.times c.in_ok-right_places.ensures.times in
     let rx : ArePlacesOf c.args.right.now.vars.texts (joint c.args.left.now.vars.texts c.args.right.now.vars.texts) c.in_ok-right_places.right_places.texts = subst (λ l. ArePlacesOf c.args.right.now.vars.texts l c.in_ok-right_places.right_places.texts) c.in_ok-vars.ensures.texts c.in_ok-right_places.ensures.texts in
     let fresh = fresh_by c.store_over-out.result c.in_ok-vars.vars.times (joint c.args.left.now.vars.times c.args.right.now.vars.times) c.in_ok-vars.vars.texts (joint c.args.left.now.vars.texts c.args.right.now.vars.texts) (nat_abs (to_z w64 (of_z w64 c.args.period))) (nat_abs c.args.period) c.store_over-out.ensures c.in_ok-vars.ensures.times c.in_ok-vars.ensures.texts (same_word c.args.period c.requires.low c.requires.high) in
     let low : 0 < nat_abs c.args.period = positive c.args.period c.requires.low in
-    union_reach c.args.domain.now c.len-size.ensures.ascending c.args.left.now c.args.right.now c.requires.columns c.in_ok-left_places.left_places c.in_ok-right_places.right_places lt lx rt rx c.new-all.result c.new-all.ensures c.len-size.result c.len-size.ensures.count (nat_abs c.args.period) low c.args.cap c.store_over-out.result fresh (divides_abs c.args.period _ c.requires.low c.requires.left_period) (divides_abs c.args.period _ c.requires.low c.requires.right_period) c.requires.left_reach c.requires.right_reach c.shape-3.ensures.valid c.add_store.new.out c.in-Ok.ensures.ok c.add_store-2.new.out c.in-Ok-add_store.ensures.ok
+    union_reach c.args.domain.now c.len-size.ensures.ascending c.args.left.now c.args.right.now c.requires.columns c.in_ok-left_places.left_places c.in_ok-right_places.right_places lt lx rt rx c.new-all.result c.new-all.ensures c.len-size.result c.len-size.ensures.count (nat_abs c.args.period) low c.args.cap c.store_over-out.result fresh (divides_abs c.args.period _ c.requires.low c.requires.left_period) (divides_abs c.args.period _ c.requires.low c.requires.right_period) c.requires.left_reach c.requires.right_reach c.shape-3.ensures.valid c.add_table.new.out c.in-Ok.ensures.ok c.add_table-2.new.out c.in-Ok-add_table.ensures.ok
 
-pub returns-in-Ok-add_store-clause-few : goal.returns-in-Ok-add_store-clause-few
-returns-in-Ok-add_store-clause-few c =
+pub returns-in-Ok-add_table-clause-few : goal.returns-in-Ok-add_table-clause-few
+returns-in-Ok-add_table-clause-few c =
     let lt : ArePlacesOf c.args.left.now.vars.times (joint c.args.left.now.vars.times c.args.right.now.vars.times) c.in_ok-left_places.left_places.times = subst (λ l. ArePlacesOf c.args.left.now.vars.times l c.in_ok-left_places.left_places.times) c.in_ok-vars.ensures.times c.in_ok-left_places.ensures.times in
     let lx : ArePlacesOf c.args.left.now.vars.texts (joint c.args.left.now.vars.texts c.args.right.now.vars.texts) c.in_ok-left_places.left_places.texts = subst (λ l. ArePlacesOf c.args.left.now.vars.texts l c.in_ok-left_places.left_places.texts) c.in_ok-vars.ensures.texts c.in_ok-left_places.ensures.texts in
     let rt : ArePlacesOf c.args.right.now.vars.times (joint c.args.left.now.vars.times c.args.right.now.vars.times) c.in_ok-right_places.right_places.times = subst (λ l. ArePlacesOf c.args.right.now.vars.times l c.in_ok-right_places.right_places.times) c.in_ok-vars.ensures.times c.in_ok-right_places.ensures.times in
     let rx : ArePlacesOf c.args.right.now.vars.texts (joint c.args.left.now.vars.texts c.args.right.now.vars.texts) c.in_ok-right_places.right_places.texts = subst (λ l. ArePlacesOf c.args.right.now.vars.texts l c.in_ok-right_places.right_places.texts) c.in_ok-vars.ensures.texts c.in_ok-right_places.ensures.texts in
     let fresh = fresh_by c.store_over-out.result c.in_ok-vars.vars.times (joint c.args.left.now.vars.times c.args.right.now.vars.times) c.in_ok-vars.vars.texts (joint c.args.left.now.vars.texts c.args.right.now.vars.texts) (nat_abs (to_z w64 (of_z w64 c.args.period))) (nat_abs c.args.period) c.store_over-out.ensures c.in_ok-vars.ensures.times c.in_ok-vars.ensures.texts (same_word c.args.period c.requires.low c.requires.high) in
     let low : 0 < nat_abs c.args.period = positive c.args.period c.requires.low in
-    union_few c.args.domain.now c.len-size.ensures.ascending c.args.left.now c.args.right.now c.requires.columns c.in_ok-left_places.left_places c.in_ok-right_places.right_places lt lx rt rx c.new-all.result c.new-all.ensures c.len-size.result c.len-size.ensures.count (nat_abs c.args.period) low c.args.cap c.store_over-out.result fresh (divides_abs c.args.period _ c.requires.low c.requires.left_period) (divides_abs c.args.period _ c.requires.low c.requires.right_period) c.requires.left_reach c.requires.right_reach c.shape-3.ensures.valid c.add_store.new.out c.in-Ok.ensures.ok c.add_store-2.new.out c.in-Ok-add_store.ensures.ok
+    union_few c.args.domain.now c.len-size.ensures.ascending c.args.left.now c.args.right.now c.requires.columns c.in_ok-left_places.left_places c.in_ok-right_places.right_places lt lx rt rx c.new-all.result c.new-all.ensures c.len-size.result c.len-size.ensures.count (nat_abs c.args.period) low c.args.cap c.store_over-out.result fresh (divides_abs c.args.period _ c.requires.low c.requires.left_period) (divides_abs c.args.period _ c.requires.low c.requires.right_period) c.requires.left_reach c.requires.right_reach c.shape-3.ensures.valid c.add_table.new.out c.in-Ok.ensures.ok c.add_table-2.new.out c.in-Ok-add_table.ensures.ok
 
-pub returns-in-Err-TooManyCells-add_store-clause-many : goal.returns-in-Err-TooManyCells-add_store-clause-many
-returns-in-Err-TooManyCells-add_store-clause-many c =
+pub returns-in-Err-TooManyCells-add_table-clause-many : goal.returns-in-Err-TooManyCells-add_table-clause-many
+returns-in-Err-TooManyCells-add_table-clause-many c =
     let lt : ArePlacesOf c.args.left.now.vars.times (joint c.args.left.now.vars.times c.args.right.now.vars.times) c.in_ok-left_places.left_places.times = subst (λ l. ArePlacesOf c.args.left.now.vars.times l c.in_ok-left_places.left_places.times) c.in_ok-vars.ensures.times c.in_ok-left_places.ensures.times in
     let lx : ArePlacesOf c.args.left.now.vars.texts (joint c.args.left.now.vars.texts c.args.right.now.vars.texts) c.in_ok-left_places.left_places.texts = subst (λ l. ArePlacesOf c.args.left.now.vars.texts l c.in_ok-left_places.left_places.texts) c.in_ok-vars.ensures.texts c.in_ok-left_places.ensures.texts in
     let rt : ArePlacesOf c.args.right.now.vars.times (joint c.args.left.now.vars.times c.args.right.now.vars.times) c.in_ok-right_places.right_places.times = subst (λ l. ArePlacesOf c.args.right.now.vars.times l c.in_ok-right_places.right_places.times) c.in_ok-vars.ensures.times c.in_ok-right_places.ensures.times in
     let rx : ArePlacesOf c.args.right.now.vars.texts (joint c.args.left.now.vars.texts c.args.right.now.vars.texts) c.in_ok-right_places.right_places.texts = subst (λ l. ArePlacesOf c.args.right.now.vars.texts l c.in_ok-right_places.right_places.texts) c.in_ok-vars.ensures.texts c.in_ok-right_places.ensures.texts in
     let fresh = fresh_by c.store_over-out.result c.in_ok-vars.vars.times (joint c.args.left.now.vars.times c.args.right.now.vars.times) c.in_ok-vars.vars.texts (joint c.args.left.now.vars.texts c.args.right.now.vars.texts) (nat_abs (to_z w64 (of_z w64 c.args.period))) (nat_abs c.args.period) c.store_over-out.ensures c.in_ok-vars.ensures.times c.in_ok-vars.ensures.texts (same_word c.args.period c.requires.low c.requires.high) in
     let low : 0 < nat_abs c.args.period = positive c.args.period c.requires.low in
-    λ e. right_many c.args.domain.now c.len-size.ensures.ascending c.args.left.now c.args.right.now c.requires.columns c.in_ok-left_places.left_places c.in_ok-right_places.right_places lt lx rt rx c.new-all.result c.new-all.ensures c.len-size.result c.len-size.ensures.count (nat_abs c.args.period) low c.args.cap c.store_over-out.result fresh (divides_abs c.args.period _ c.requires.low c.requires.left_period) (divides_abs c.args.period _ c.requires.low c.requires.right_period) c.requires.left_reach c.requires.right_reach c.shape-3.ensures.valid c.add_store.new.out c.in-Ok.ensures.ok c.add_store-2.new.out (c.add_store-2.ensures.too_many (c.in-Err-TooManyCells-add_store.is ∙ ap Err c.in-Err-TooManyCells-add_store.field-0-is))
+    λ e. right_many c.args.domain.now c.len-size.ensures.ascending c.args.left.now c.args.right.now c.requires.columns c.in_ok-left_places.left_places c.in_ok-right_places.right_places lt lx rt rx c.new-all.result c.new-all.ensures c.len-size.result c.len-size.ensures.count (nat_abs c.args.period) low c.args.cap c.store_over-out.result fresh (divides_abs c.args.period _ c.requires.low c.requires.left_period) (divides_abs c.args.period _ c.requires.low c.requires.right_period) c.requires.left_reach c.requires.right_reach c.shape-3.ensures.valid c.add_table.new.out c.in-Ok.ensures.ok c.add_table-2.new.out (c.add_table-2.ensures.too_many (c.in-Err-TooManyCells-add_table.is ∙ ap Err c.in-Err-TooManyCells-add_table.field-0-is))
