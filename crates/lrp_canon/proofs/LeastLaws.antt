@@ -35,7 +35,7 @@ none_far k step = (
 )
 
 -- each cell of a store has a zone
-key_zone : (s : StoreView) → IsStore s → (cell : Cell) → Contains (finite.keys s.tables) cell → (z : ZoneView) × Contains (zones_at s cell) z
+pub key_zone : (s : StoreView) → IsStore s → (cell : Cell) → Contains (finite.keys s.tables) cell → (z : ZoneView) × Contains (zones_at s cell) z
 key_zone s is cell k = let h = key_held s is (λ xs ns. Unit {0}) 0 cell k in some h.0 h.1
   where
     some : (ts : List (List (Option ℤ))) → finite.get s.tables cell ≡ Some ts → (z : ZoneView) × Contains (zones_at s cell) z

@@ -14,6 +14,7 @@ pub mod RowLaws
 pub mod RowMaking
 pub mod SortLaws
 pub mod SpanDecisions
+pub mod Standing
 pub mod StartLaws
 pub mod Stepping
 pub mod StoreRows

@@ -1,11 +1,12 @@
 -- The canonical store of a set of one time column.
-use Rattle.std.specs.Prelude.{◌≡◌, ℕ, ◌-◌, ◌^◌, ◌<◌, Contains}
+use Rattle.std.specs.Prelude.{◌≡◌, ℕ, ◌-◌, ◌^◌, ◌<◌, ◌≤◌, length, Contains}
 use Rattle.lrp_model.specs.declared.tuples.Cell.{Cell}
 use Rattle.lrp_zone.specs.Zones.{ZoneView}
 use Rattle.lrp_store.specs.Least.{HasRoom}
 use Rattle.lrp_store.specs.Settled.{AreSettled}
-use Rattle.lrp_store.specs.Stores.{StoreView, IsStore, InStore, HasReach, HoldsJust, zone_count, zones_at}
+use Rattle.lrp_store.specs.Stores.{StoreView, IsStore, InStore, HasReach, HoldsJust, tables_at, zone_count, zones_at}
 use Rattle.lrp_spans.specs.Groups.{HoldsNumber}
+use Rattle.lrp_canon.specs.declared.edges.Periods.{Periods}
 use Rattle.lrp_canon.specs.Rows.{IsLeastPeriod, HasRowCount}
 
 -- one time column, and room behind each stored bound for the period
@@ -35,3 +36,8 @@ pub record HasCanonicalRows (s : StoreView) (count : ℕ) : Type 0 where
 -- the same with more than most of them
 abbrev pub HasMoreRows : StoreView → ℕ → Type 0
 HasMoreRows s most = (count : ℕ) × (most < count) × HasCanonicalRows s count
+
+-- each cell has at most one zone, and the least of the periods is the whole one
+pub record StandsAlready (s : StoreView) (periods : Periods) : Type 0 where
+  pub single : (cell : Cell) → length (tables_at s cell) ≤ 1
+  pub least : periods.least ≡ periods.whole

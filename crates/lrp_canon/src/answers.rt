@@ -1,9 +1,9 @@
 // The canonical answer, and how many rows it has.
-ghost use Rattle.std.specs.Prelude.{◌≡◌, ◌≤◌, ◌<◌, IfOk, IfNone, IfSome};
+ghost use Rattle.std.specs.Prelude.{◌≡◌, ◌≤◌, ◌<◌, IfOk, IfNone, IfSome, IsTrue};
 ghost use Rattle.lrp_store.specs.Stores.{IsStore, zone_count};
 ghost use Rattle.lrp_spans.specs.Groups.{AreGroups};
 ghost use Rattle.lrp_spans.specs.Periods.{IsEndPeriod};
-ghost use Rattle.lrp_canon.specs.Canonical.{CanMakeCanonical, HasCanonicalRows, HasMoreRows, IsCanonicalOf};
+ghost use Rattle.lrp_canon.specs.Canonical.{CanMakeCanonical, HasCanonicalRows, HasMoreRows, IsCanonicalOf, StandsAlready};
 
 use crate::counting::rows_of;
 use crate::edges::Periods;
@@ -52,7 +52,8 @@ pub fn canonical_rows(alloc: Global, answer: &Answer, most: u32) -> Result<Optio
 
 /// The canonical answer, or `None` where it has more than `most` rows, in one pass over the cells and zones of the answer.
 ///
-/// The answer's store is let go before a row is made, so that not both are held.
+/// An answer of the least period with one zone in each cell is given back as it stands. Otherwise its store is let go before a
+/// row is made, so that not both are held.
 pub fn canonical_within(alloc: Global, answer: Answer, most: u32) -> Result<Option<Answer>, Memory>
     requires { CanMakeCanonical answer.store }
     ensures head { IfOk result (λ found. IfSome found (λ made. made.head ≡ answer.head)) }
@@ -64,6 +65,9 @@ pub fn canonical_within(alloc: Global, answer: Answer, most: u32) -> Result<Opti
 {
     let groups = groups_of(alloc, &answer.store)?;
     let periods = periods_of(alloc, &answer.store, &groups)?;
+    if stands_already(&answer.store, periods) {
+        return Ok(kept(answer, most));
+    }
     let rows = rows_of(alloc, &groups, periods)?;
     match at_most(rows, most) {
         Some(_) => match of_groups(alloc, answer, &groups, periods) {
@@ -72,6 +76,34 @@ pub fn canonical_within(alloc: Global, answer: Answer, most: u32) -> Result<Opti
         },
         None => Ok(None),
     }
+}
+
+// Whether the period is the least one, and each cell has one zone.
+fn stands_already(store: &Store, periods: Periods) -> bool
+    ensures { IsTrue result → StandsAlready store.now periods }
+{
+    store.shape();
+    if periods.least != periods.whole {
+        return false;
+    }
+    store.zones() == store.len() as usize
+}
+
+// An answer that is canonical as it stands, or `None` where it has more than `most` zones.
+fn kept(answer: Answer, most: u32) -> Option<Answer>
+    requires canonical { IsCanonicalOf answer.store answer.store }
+    requires counted { HasCanonicalRows answer.store (zone_count answer.store) }
+    ensures head { IfSome result (λ made. made.head ≡ answer.head) }
+    ensures domain { IfSome result (λ made. made.domain ≡ answer.domain) }
+    ensures store { IfSome result (λ made. IsCanonicalOf answer.store made.store) }
+    ensures counted { IfSome result (λ made. HasCanonicalRows answer.store (zone_count made.store)) }
+    ensures few { IfSome result (λ made. zone_count made.store ≤ most) }
+    ensures none { IfNone result (HasMoreRows answer.store most) }
+{
+    if answer.store.zones() > most as usize {
+        return None;
+    }
+    Some(answer)
 }
 
 // The canonical answer of the groups of an answer, whose store is let go first.

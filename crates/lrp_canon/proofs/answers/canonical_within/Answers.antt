@@ -3,6 +3,7 @@ use Rattle.std.proofs.Common.{◌≤◌, None, Some, arith, subst, sym}
 use Rattle.lrp_canon.specs.Canonical.{HasCanonicalRows}
 use Rattle.lrp_canon.proofs.CanonLaws.{count_if, more_if}
 use Rattle.lrp_canon.proofs.GroupEnds.{groups_repeat}
+use Rattle.lrp_canon.proofs.Standing.{rows_stand, stands}
 use Rattle.lrp_canon.proofs.answers.canonical_within.Goals as goal
 
 pub rows_of-requires-clause-groups : goal.rows_of-requires-clause-groups
@@ -22,3 +23,9 @@ returns-in-Ok-clause-few c =
 
 pub returns-clause-none : goal.returns-clause-none
 returns-clause-none c = more_if c.args.answer.store c.in_ok-periods.ensures.valid c.requires.column c.in_ok-groups.groups.lists c.in_ok-groups.ensures c.in_ok-periods.periods c.in_ok-periods.ensures.whole c.in_ok-periods.ensures.least c.in_ok-rows.rows c.in_ok-rows.ensures c.args.most None c.in-None.ensures.none
+
+pub kept-requires-clause-canonical : goal.kept-requires-clause-canonical
+kept-requires-clause-canonical c = stands c.args.answer.store c.in_ok-periods.ensures.valid c.requires c.in_ok-groups.groups.lists c.in_ok-groups.ensures c.in_ok-periods.periods c.in_ok-periods.ensures.whole c.in_ok-periods.ensures.least (c.stands_already.ensures c.if-stands_already.true)
+
+pub kept-requires-clause-counted : goal.kept-requires-clause-counted
+kept-requires-clause-counted c = rows_stand c.args.answer.store c.in_ok-periods.ensures.valid c.requires c.in_ok-groups.groups.lists c.in_ok-groups.ensures c.in_ok-periods.periods c.in_ok-periods.ensures.whole c.in_ok-periods.ensures.least (c.stands_already.ensures c.if-stands_already.true)

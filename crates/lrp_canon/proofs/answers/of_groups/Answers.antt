@@ -1,5 +1,5 @@
 -- The store of the rows of all groups is the canonical one, and the answer keeps its head and its texts.
-use Rattle.std.proofs.Common.{◌+◌, ◌∙◌, ap, arith, length, subst, sym, w64}
+use Rattle.std.proofs.Common.{◌+◌, ◌∙◌, ap, arith, subst, sym, w64}
 use Rattle.std.specs.Prelude.{pos}
 use Rattle.std.proofs.lemmas.Int.{to_z_pos}
 use Rattle.lrp_model.specs.declared.tuples.Shape.{Shape}

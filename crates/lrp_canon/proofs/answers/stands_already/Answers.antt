@@ -1,0 +1,8 @@
+-- There are as many zones as cells.
+use Rattle.std.proofs.Common.{sym, ◌∙◌}
+use Rattle.std.proofs.lemmas.Bool.{eqb-true}
+use Rattle.lrp_canon.proofs.Standing.{single_zones}
+use Rattle.lrp_canon.proofs.answers.stands_already.Goals as goal
+
+pub returns : goal.returns
+returns c = λ e. record { single = single_zones c.args.store.now c.shape.ensures.valid (sym c.zones.ensures ∙ eqb-true c.zones.result c.len.result e ∙ c.len.ensures); least = c.if-periods.false }
