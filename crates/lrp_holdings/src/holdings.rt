@@ -16,11 +16,21 @@ use std::marker::Model;
 /// Each owner has a chain of the places where it stands, linked by index in both directions, so that a value leaves the
 /// chains of its other owners in one step for each (Donald Knuth, "The Art of Computer Programming", volume 1, section
 /// 2.2.5, "Doubly Linked Lists", 1968). A slot that is given up is used again.
-#[derive(Drop)]
 pub struct Holdings<V> {
     alloc: Global,
     slots: Slab<Holding<V>>,
     chains: Vec<Option<Link>>,
+}
+
+// A derived drop would be proved anew, type by type, in each crate that lets one go.
+impl<V: Drop> Drop for Holdings<V> {
+    fn drop(self) {
+        let Holdings {
+            alloc: _alloc,
+            slots: _slots,
+            chains: _chains,
+        } = self;
+    }
 }
 
 impl<V> Model for Holdings<V> {

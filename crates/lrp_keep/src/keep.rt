@@ -21,10 +21,19 @@ use std::marker::Model;
 /// of the atoms before, so that an edit costs what it changes (Charles Forgy, "Rete: a fast algorithm for the many
 /// pattern/many object pattern match problem", Artificial Intelligence 19, 1982). Where the period grows, all is derived
 /// again.
-#[derive(Drop)]
 pub struct Keep<'a> {
     of: KeptQuery<'a>,
     state: State,
+}
+
+// A derived drop would be proved anew, type by type, in each crate that lets one go.
+impl<'a> Drop for Keep<'a> {
+    fn drop(self) {
+        let Keep {
+            of: _of,
+            state: _state,
+        } = self;
+    }
 }
 
 impl<'a> Model for Keep<'a> {

@@ -78,12 +78,12 @@ fn add_all(from: &PackedStore, out: &mut Store) -> Result<(), Memory>
     Ok(())
 }
 
-// Adds the tuples of a zone.
+// Adds the tuples of a zone. Many choices may have one and the same zone, which is added once where it comes at once.
 fn add_piece(piece: &Piece, out: &mut Store) -> Result<(), StoreFault>
     requires { Fits out.old.shape out.old.period piece.now }
     ensures { OnOk result (HasTakenPiece piece.now out.old out.new) }
 {
     out.shape();
     piece.zone.columns();
-    out.add(&piece.cell, &piece.zone, u32::MAX)
+    out.add_new(&piece.cell, &piece.zone, u32::MAX)
 }

@@ -32,12 +32,23 @@ pub struct JoinedAtom {
 
 /// A disjunct: its number from 0 on, its atoms in order, its tests, and the columns of the variables that its quantifiers
 /// bind, the innermost first.
-#[derive(Drop)]
 pub struct Disjunct {
     pub number: usize,
     pub atoms: Vec<JoinedAtom>,
     pub tests: List<Test>,
     pub bound: List<Column>,
+}
+
+// A derived drop would be proved anew, type by type, in each crate that lets one go.
+impl Drop for Disjunct {
+    fn drop(self) {
+        let Disjunct {
+            number: _number,
+            atoms: _atoms,
+            tests: _tests,
+            bound: _bound,
+        } = self;
+    }
 }
 
 // The relation that an atom names, and its terms.

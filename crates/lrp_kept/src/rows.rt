@@ -22,11 +22,21 @@ pub struct Sketch {
 }
 
 /// A row that is held: the number of its relation, and a sketch for each atom that reads the relation.
-#[derive(Drop)]
 pub struct Source {
     pub relation: usize,
     pub row: Row,
     pub sketches: Vec<Sketch>,
+}
+
+// A derived drop would be proved anew, type by type, in each crate that lets one go.
+impl Drop for Source {
+    fn drop(self) {
+        let Source {
+            relation: _relation,
+            row: _row,
+            sketches: _sketches,
+        } = self;
+    }
 }
 
 impl Source {
@@ -53,10 +63,19 @@ pub struct HeldRelation {
 }
 
 /// The relations of a database, and the rows that they now hold by their keys.
-#[derive(Drop)]
 pub struct HeldRows {
     pub relations: Vec<HeldRelation>,
     pub sources: Slab<Source>,
+}
+
+// A derived drop would be proved anew, type by type, in each crate that lets one go.
+impl Drop for HeldRows {
+    fn drop(self) {
+        let HeldRows {
+            relations: _relations,
+            sources: _sources,
+        } = self;
+    }
 }
 
 impl HeldRows {

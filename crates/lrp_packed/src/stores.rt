@@ -12,11 +12,21 @@ use std::alloc::Global;
 use std::marker::Model;
 
 /// The tuples of a store in as few bytes as its zones need, seen as a store without a spare slot.
-#[derive(Drop)]
 pub struct PackedStore {
     shape: Shape,
     period: u64,
     zones: Vec<PackedZone>,
+}
+
+// A derived drop would be proved anew, type by type, in each crate that lets one go.
+impl Drop for PackedStore {
+    fn drop(self) {
+        let PackedStore {
+            shape: _shape,
+            period: _period,
+            zones: _zones,
+        } = self;
+    }
 }
 
 impl Model for PackedStore {
