@@ -1,5 +1,5 @@
 -- From what is kept at first to the lines that are told, or to the limit that is passed.
-use Rattle.std.proofs.Common.{◌≡◌, ℕ, suc, ◌<◌, List, [], ◌∷◌, ◌++◌, length, take, map, flat_map, Option, option_map, refl, sym, ap, subst, arith, ◌∙◌}
+use Rattle.std.proofs.Common.{◌≡◌, ℕ, suc, ◌<◌, ◌≤◌, List, [], ◌∷◌, ◌++◌, length, take, map, flat_map, Option, option_map, refl, sym, ap, subst, arith, ◌∙◌}
 use Rattle.std.specs.Prelude.{IfSome}
 use Rattle.std.specs.List.{AllByRecursion, AllZip}
 use Rattle.lrp_model.specs.Formulas.{Question, question_of}
@@ -11,14 +11,16 @@ use Rattle.lrp_model.specs.declared.relations.Relation.{Relation}
 use Rattle.lrp_model.specs.declared.tuples.Shape.{Shape}
 use Rattle.lrp_model.specs.declared.tuples.Spot.{Spot}
 use Rattle.lrp_store.specs.declared.answer.Answer.{Answer}
+use Rattle.lrp_tables.specs.Columns.{head_texts, head_times}
 use Rattle.lrp_list.specs.Lines.{spot_tuple}
 use Rattle.lrp_edits.specs.declared.edits.Edit.{Edit}
-use Rattle.lrp_keep.specs.Keeps.{IsCause, IsKeptAnswer, IsWithinLimits, KeepView, opened}
+use Rattle.lrp_kept.proofs.SortedDisjuncts.{few_head_texts, few_head_times}
+use Rattle.lrp_keep.specs.Keeps.{IsCause, IsWithinLimits, KeepView, opened}
 use Rattle.lrp_keep.specs.declared.faults.KeepFault.{KeepFault}
 use Rattle.lrp_watch.specs.Edits.{IsPassedAt, IsPassedBehind}
 use Rattle.lrp_watch.specs.Faults.{IsAt}
 use Rattle.lrp_outputs.specs.First.{IsFirst, first_line}
-use Rattle.lrp_watch.specs.Leasts.{AreDone, CanGoOn, IsLeastOver, shape_for}
+use Rattle.lrp_watch.specs.Leasts.{AreDone, CanGoOn, HasFewColumns, IsLeastOver, IsOver, shape_for}
 use Rattle.lrp_outputs.specs.Spots.{IsKnownLeast, tuple_of}
 use Rattle.lrp_watch.specs.Watching.{CanBeWatched, IsOpened, IsPassed, TellsLeasts, watched_constants}
 use Rattle.lrp_watch.proofs.Known.{shape_is}
@@ -26,13 +28,13 @@ use Rattle.lrp_watch.proofs.Openings.{AreSameInOrder, can_go_on}
 
 -- ---- the answer by whose head and constants the spots are told
 
-module _ (k : KeepView) (a : Answer) (is : IsKeptAnswer k a) where
+module _ (k : KeepView) (a : Answer) (is : IsOver k.query k.domain a) where
   abbrev q : Question
   q = question_of k.query
 
   back : (P : List Column → Shape → List Text → Type 0) → P q.head (shape_for q.head) k.domain → P a.head.columns a.store.shape a.domain
   back P h =
-      let named : P q.head (shape_for q.head) a.domain = subst (λ d. P q.head (shape_for q.head) d) (sym is.domain) h in
+      let named : P q.head (shape_for q.head) a.domain = subst (λ d. P q.head (shape_for q.head) d) (sym is.named) h in
       let headed : P a.head.columns (shape_for a.head.columns) a.domain = subst (λ cs. P cs (shape_for cs) a.domain) (sym is.head) named in
       subst (λ s. P a.head.columns s a.domain) (sym (shape_is a)) headed
 
@@ -60,7 +62,7 @@ module _ (k : KeepView) (a : Answer) (is : IsKeptAnswer k a) where
   known_of (l ∷ ks) [] h = absurd h
   known_of (l ∷ ks) (s ∷ spots) h = (h.0.known, known_of ks spots h.1)
 
-  pub known_told : (ks : List KeepView) (spots : List (Option Spot)) → AreLeasts ks spots → AllByRecursion (IsKnownLeast a) spots
+  known_told : (ks : List KeepView) (spots : List (Option Spot)) → AreLeasts ks spots → AllByRecursion (IsKnownLeast a) spots
   known_told ks spots h = back (λ cs s d. AreKnown s d spots) (known_of ks spots h)
 
 lines_of : (f : Option Spot → Option Tuple) (spots : List (Option Spot)) → flat_map (λ least. first_line (f least)) spots ≡ flat_map first_line (map f spots)
@@ -84,7 +86,20 @@ module _ (query : Query) (db : List Relation) (edits : List Edit) (cap : ℕ) (d
   same_query : question_of k.query ≡ question_of query
   same_query = opened_is.query
 
-  pub told : (a : Answer) → IsKeptAnswer k a → (now : KeepView) (spots : List (Option Spot)) → IsWithinLimits (opened query db domain cap) → AreDone edits k now spots → TellsLeasts db (question_of query) edits cap (flat_map (λ least. first_line (option_map (tuple_of a) least)) spots)
+  -- the answer is over the head and the constants that are kept
+  over : (a : Answer) → IsOver query domain a → IsOver k.query k.domain a
+  over a h = subst (λ (l : KeepView). IsOver l.query l.domain a) (sym is) h
+
+  pub few_columns : CanBeWatched db (question_of query) edits → HasFewColumns query.head.columns
+  few_columns can = record {
+    times = subst (λ (p : Question). length (head_times p.head) ≤ 8) (sym can.query.is) (few_head_times db can.query.raw can.query.sorted);
+    texts = subst (λ (p : Question). length (head_texts p.head) ≤ 8) (sym can.query.is) (few_head_texts db can.query.raw can.query.sorted);
+  }
+
+  pub known : (a : Answer) → IsOver query domain a → (now : KeepView) (spots : List (Option Spot)) → AreDone edits k now spots → AllByRecursion (IsKnownLeast a) spots
+  known a answer now spots done = known_told k a (over a answer) (k ∷ done.later) spots done.leasts
+
+  pub told : (a : Answer) → IsOver query domain a → (now : KeepView) (spots : List (Option Spot)) → IsWithinLimits (opened query db domain cap) → AreDone edits k now spots → TellsLeasts db (question_of query) edits cap (flat_map (λ least. first_line (option_map (tuple_of a) least)) spots)
   told a answer now spots h done = record {
     kept = k;
     opened = opened_is;
@@ -92,7 +107,7 @@ module _ (query : Query) (db : List Relation) (edits : List Edit) (cap : ℕ) (d
     later = done.later;
     made = done.made;
     firsts = map (option_map (tuple_of a)) spots;
-    are = subst (λ q. AllZip (λ l first. IsFirst l.relations q first) (k ∷ done.later) (map (option_map (tuple_of a)) spots)) same_query (firsts_told k a answer (k ∷ done.later) spots done.leasts);
+    are = subst (λ q. AllZip (λ l first. IsFirst l.relations q first) (k ∷ done.later) (map (option_map (tuple_of a)) spots)) same_query (firsts_told k a (over a answer) (k ∷ done.later) spots done.leasts);
     spelled = lines_of (option_map (tuple_of a)) spots;
   }
 

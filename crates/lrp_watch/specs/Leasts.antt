@@ -5,10 +5,13 @@ use Rattle.lrp_model.specs.Core.{HasElements}
 use Rattle.lrp_model.specs.Formulas.{Question, question_of}
 use Rattle.lrp_model.specs.Plans.{time_columns}
 use Rattle.lrp_model.specs.Texts.{Text}
+use Rattle.lrp_model.specs.declared.formulas.Query.{Query}
 use Rattle.lrp_model.specs.declared.relations.Column.{Column}
 use Rattle.lrp_model.specs.declared.relations.Relation.{Relation}
 use Rattle.lrp_model.specs.declared.tuples.Shape.{Shape}
 use Rattle.lrp_model.specs.declared.tuples.Spot.{Spot}
+use Rattle.lrp_store.specs.declared.answer.Answer.{Answer}
+use Rattle.lrp_tables.specs.Columns.{head_texts, head_times}
 use Rattle.lrp_list.specs.Lines.{spot_tuple}
 use Rattle.lrp_edits.specs.declared.edits.Edit.{Edit}
 use Rattle.lrp_kept.specs.KeptForm.{is_kept}
@@ -21,6 +24,16 @@ use Rattle.lrp_outputs.specs.First.{IsFirst}
 -- how many time columns a head has, and how many others
 abbrev pub shape_for : List Column → Shape
 shape_for columns = record { times = time_columns columns; texts = length columns - time_columns columns }
+
+-- a head has at most eight time columns, and at most eight others
+pub record HasFewColumns (columns : List Column) : Type 0 where
+  pub times : length (head_times columns) ≤ 8
+  pub texts : length (head_texts columns) ≤ 8
+
+-- an answer has the query's head, and its texts are numbered in the domain
+pub record IsOver (query : Query) (domain : List Text) (a : Answer) : Type 0 where
+  pub head : a.head.columns ≡ query.head.columns
+  pub named : a.domain ≡ domain
 
 -- the spot stands for the query's least answer over the relations, where there is one, and its line can be written
 pub record IsLeastOver (q : Question) (domain : List Text) (db : List Relation) (least : Option Spot) : Type 0 where

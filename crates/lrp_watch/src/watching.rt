@@ -4,17 +4,19 @@ ghost use Rattle.lrp_model.specs.Formulas.{question_of};
 ghost use Rattle.lrp_keep.specs.Keeps.{CanBeKept, IsCause, IsWithinLimits, opened as opened_by};
 ghost use Rattle.lrp_watch.specs.Edits.{IsMade, IsPassedBehind, IsRefusedEdit};
 ghost use Rattle.lrp_watch.specs.Faults.{IsAt, IsFaultBy};
-ghost use Rattle.lrp_watch.specs.Leasts.{AreDone, CanBeMade, CanGoOn, IsLeastOver, IsLow, IsTold};
+ghost use Rattle.lrp_watch.specs.Leasts.{AreDone, CanBeMade, CanGoOn, HasFewColumns, IsLeastOver, IsLow, IsOver, IsTold};
 ghost use Rattle.lrp_outputs.specs.Outputs.{leasts_text};
 ghost use Rattle.lrp_watch.specs.Watching.{CanBeWatched, IsPassed, TellsLeasts};
 
 use crate::domains::constants_of;
 use crate::faults::WatchFault;
+use lrp_algebra::{head_vars, store_over};
 use lrp_edits::Edit;
 use lrp_keep::{Keep, KeepFault};
-use lrp_model::{Domain, List, Memory, Query, Spot, texts_in_order};
+use lrp_model::{Copies, Domain, List, Memory, Query, Spot, texts_in_order};
 use lrp_outputs::{Leasts, small_answers_have_room, spots_stand_for_tuples};
 use lrp_rel::Database;
+use lrp_store::Answer;
 use std::alloc::Global;
 
 /// The least answers of a query over a database as it is read, and after each of some edits.
@@ -37,9 +39,24 @@ pub fn least_answers(
     database.relations();
     texts_in_order();
     let mut keep = opened(alloc, database, query, &domain, cap)?;
-    let answer = keep.answer()?;
     let spots = spots_of(alloc, &mut keep, edits)?;
+    let answer = no_answers(alloc, query, domain)?;
     Ok(Leasts { answer, spots })
+}
+
+// No answers of a query: its head and the constants, by which spots are told.
+fn no_answers(alloc: Global, query: &Query, domain: Domain) -> Result<Answer, Memory>
+    requires { HasFewColumns query.now.head.columns }
+    ensures { IfOk result (IsOver query.now domain) }
+{
+    let vars = head_vars(alloc, &query.head)?;
+    let store = store_over(alloc, &vars, 1);
+    Ok(Answer {
+        head: query.head.copy(alloc)?,
+        period: 1,
+        domain,
+        store,
+    })
 }
 
 // What is kept of the query over the database as it is read.

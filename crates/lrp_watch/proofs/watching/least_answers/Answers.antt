@@ -1,5 +1,5 @@
 -- What is kept at first can go on, and the lines of the least answers are told.
-use Rattle.std.proofs.Common.{◌∷◌, refl, sym, subst}
+use Rattle.std.proofs.Common.{refl, sym, subst}
 use Rattle.std.proofs.lemmas.Result.{err_from_is_err_and}
 use Rattle.lrp_model.specs.Formulas.{question_of}
 use Rattle.lrp_keep.specs.Keeps.{CanBeKept, IsCause, opened}
@@ -8,7 +8,7 @@ use Rattle.lrp_watch.specs.Faults.{IsAt}
 use Rattle.lrp_watch.specs.Watching.{IsPassed}
 use Rattle.lrp_watch.proofs.Openings.{can_be_kept}
 use Rattle.lrp_watch.proofs.Passings.{fault_as}
-use Rattle.lrp_watch.proofs.Tellings.{goes, known_told, passed_first, passed_later, told}
+use Rattle.lrp_watch.proofs.Tellings.{few_columns, goes, known, passed_first, passed_later, told}
 use Rattle.lrp_watch.proofs.watching.least_answers.Goals as goal
 
 pub opened-requires : goal.opened-requires
@@ -20,8 +20,15 @@ pub spots_of-requires : goal.spots_of-requires
 spots_of-requires c =
     goes c.args.query.now c.args.database.now c.args.edits.now c.args.cap c.in_ok-domain.domain c.in_ok-keep.keep c.in_ok-domain.ensures c.in_ok-keep.ensures.view c.texts_in_order.ensures.same c.requires c.in_ok-keep.ensures.limits
 
+pub no_answers-requires : goal.no_answers-requires
+no_answers-requires c =
+    few_columns c.args.query.now c.args.database.now c.args.edits.now c.args.cap c.in_ok-domain.domain c.in_ok-keep.keep c.in_ok-domain.ensures c.in_ok-keep.ensures.view c.requires
+
 pub invariant_of-result : goal.invariant_of-result
-invariant_of-result c = record { known = known_told c.in_ok-keep.keep c.in_ok-answer.answer c.in_ok-answer.ensures (c.in_ok-keep.keep ∷ c.in_ok-spots.ensures.done.later) c.in_ok-spots.spots c.in_ok-spots.ensures.done.leasts }
+invariant_of-result c = record {
+  known = known c.args.query.now c.args.database.now c.args.edits.now c.args.cap c.in_ok-domain.domain c.in_ok-keep.keep c.in_ok-domain.ensures c.in_ok-keep.ensures.view
+      c.in_ok-answer.answer c.in_ok-answer.ensures _ c.in_ok-spots.spots c.in_ok-spots.ensures.done;
+}
 
 pub returns-clause-told : goal.returns-clause-told
 returns-clause-told c =
