@@ -8,7 +8,7 @@ use Rattle.lrp_words.specs.Commands.{task_of}
 use Rattle.lrp_words.specs.Ranges.{IsInRange}
 use Rattle.lrp_words.specs.declared.command.Command.{Command}
 use Rattle.lrp_words.specs.declared.command.Command.TheVariants.{Ask, Decide, List as Page, Explain, Check, Watch, Sample}
-use Rattle.lrp_top.specs.Due.{IsDueOf, IsTooLong, TellsLength, files_of}
+use Rattle.lrp_top.specs.Due.{IsDueOf, IsLengthOrMemory, TellsLength, files_of}
 use Rattle.lrp_top.specs.Questions.{HasWindow, IsAsked, IsServed, asked_of, is_canonical}
 use Rattle.lrp_top.specs.Seen.{IsOverrun, ShelfSeen}
 use Rattle.lrp_top.specs.declared.asking.Asked.{Asked}
@@ -67,6 +67,6 @@ asked_files (Sample seed size) asked e none = cc
 -- ---- lengths
 
 -- what tells of any file's length tells of those of these names
-pub lengths_told : (seen : ShelfSeen) (outcome : Outcome) (names : List Identifier) → TellsLength seen outcome → AllByRecursion (λ name. IsOverrun seen name → IsTooLong outcome) names
+pub lengths_told : (seen : ShelfSeen) (outcome : Outcome) (names : List Identifier) → TellsLength seen outcome → AllByRecursion (λ name. IsOverrun seen name → IsLengthOrMemory outcome) names
 lengths_told seen outcome [] h = tt
 lengths_told seen outcome (name ∷ names) h = (h name, lengths_told seen outcome names h)

@@ -114,8 +114,8 @@ IsDecided cap d q p = Then (IsCounted d.says q.says cap) (λ done. IsOutput (Tel
 -- the page begins where its token says, the cells are counted, and then the page of the window is told
 abbrev pub IsListed : Bool → ℤ → ℤ → ℕ → Option Text → Bool → ℕ → Source (List Relation) → Source Question → Plan → Outcome → Type 0
 IsListed civil from to limit after json cap d q p =
-    let files = files_digest d.bytes q.bytes in
-    Then (IsResumed files q.says.head after) (λ tuple. Then (IsCounted d.says q.says cap) (λ done. IsOutput (TellsPage d.says q.says from to tuple limit civil json files)))
+    let digest = files_digest d.bytes q.bytes in
+    Then (IsResumed digest q.says.head after) (λ tuple. Then (IsCounted d.says q.says cap) (λ done. IsOutput (TellsPage d.says q.says from to tuple limit civil json digest)))
 
 -- ---- what is due for a task
 
@@ -161,23 +161,23 @@ abbrev pub files_named : List (String Global) → List Identifier
 files_named words = files_asked (command (map string_bytes words))
 
 -- a file is too long; or want of memory
-abbrev pub IsTooLong : {B : Type 0} → Result B Refusal → Type 0
-IsTooLong (Err LongDatabase) = Unit {0}
-IsTooLong (Err LongQuery) = Unit {0}
-IsTooLong (Err (Watch watch_refusal.Long)) = Unit {0}
-IsTooLong (Err Memory) = Unit {0}
-IsTooLong _ = ⊥
+abbrev pub IsLengthOrMemory : {B : Type 0} → Result B Refusal → Type 0
+IsLengthOrMemory (Err LongDatabase) = Unit {0}
+IsLengthOrMemory (Err LongQuery) = Unit {0}
+IsLengthOrMemory (Err (Watch watch_refusal.Long)) = Unit {0}
+IsLengthOrMemory (Err Memory) = Unit {0}
+IsLengthOrMemory _ = ⊥
 
 -- where the started file may have been overrun, whatever its name, a file is too long
 abbrev pub TellsLength : {B : Type 0} → ShelfSeen → Result B Refusal → Type 0
-TellsLength seen result = (name : Identifier) → IsOverrun seen name → IsTooLong result
+TellsLength seen result = (name : Identifier) → IsOverrun seen name → IsLengthOrMemory result
 
 -- ---- what is due for words, and the run
 
 -- for words that spell no task it is the refusal of usage; for a task it is what is due, and where one of its files may have been overrun, a file is too long
 abbrev pub IsDueFor : Option Task → ShelfSeen → Outcome → Type 0
 IsDueFor None seen outcome = outcome ≡ Err Usage
-IsDueFor (Some task) seen outcome = IsDueOf task seen outcome × AllByRecursion (λ name. IsOverrun seen name → IsTooLong outcome) (files_of task)
+IsDueFor (Some task) seen outcome = IsDueOf task seen outcome × AllByRecursion (λ name. IsOverrun seen name → IsLengthOrMemory outcome) (files_of task)
 
 -- what is due for words
 abbrev pub IsDue : List (String Global) → ShelfSeen → Outcome → Type 0

@@ -36,8 +36,8 @@ abbrev pub TellsWitness : List Relation → Question → List ℕ → Type 0
 TellsWitness db q bytes = TellsNone db q bytes ⊎ TellsLeast db q bytes
 
 -- the text is that of the page of the query's answers in the window behind a tuple, with tokens of the files' digest
-pub record TellsPage (db : List Relation) (q : Question) (from to : ℤ) (after : Option Tuple) (limit : ℕ) (civil json : Bool) (files : List ℕ) (bytes : List ℕ) : Type 0 where
+pub record TellsPage (db : List Relation) (q : Question) (from to : ℤ) (after : Option Tuple) (limit : ℕ) (civil json : Bool) (digest : List ℕ) (bytes : List ℕ) : Type 0 where
   pub page : List Tuple
   pub more : Bool
   pub is : IsPage (IsAnswer db q) from to after limit page more
-  pub spelled : bytes ≡ listed_bytes civil json files page more
+  pub spelled : bytes ≡ listed_bytes civil json digest page more

@@ -1,7 +1,7 @@
 // The decision: what the words ask for, before the first byte is written.
 ghost use Rattle.std.specs.Prelude.{◌≡◌, [], None};
 ghost use Rattle.std.specs.List.{AllByRecursion};
-ghost use Rattle.lrp_top.specs.Due.{IsDue, IsDueOf, IsDatabaseRead, IsOutput, IsTooLong, TellsLength, files_named, files_of};
+ghost use Rattle.lrp_top.specs.Due.{IsDue, IsDueOf, IsDatabaseRead, IsOutput, IsLengthOrMemory, TellsLength, files_named, files_of};
 ghost use Rattle.lrp_outputs.specs.Outputs.{told};
 ghost use Rattle.lrp_top.specs.Questions.{HasWindow, asked_of, IsAsked, IsServed, is_canonical};
 ghost use Rattle.lrp_top.specs.Seen.{IsOverrun};
@@ -43,7 +43,7 @@ fn carry_out<F: Shelf>(
 ) -> Result<Output, Refusal>
     requires range { IsInRange (task_of command) }
     ensures due { IsDueOf (task_of command.entry) (⟦<F as Watched>⟧.seen shelf.old shelf.new) (told result) }
-    ensures long { AllByRecursion (λ name. IsOverrun (⟦<F as Watched>⟧.seen shelf.old shelf.new) name → IsTooLong (told result)) (files_of (task_of command.entry)) }
+    ensures long { AllByRecursion (λ name. IsOverrun (⟦<F as Watched>⟧.seen shelf.old shelf.new) name → IsLengthOrMemory (told result)) (files_of (task_of command.entry)) }
     ensures unread { files_of (task_of command.entry) ≡ [] → shelf.new ≡ shelf.old }
 {
     match asked_by(command) {
@@ -61,7 +61,7 @@ fn carry_out_other<F: Shelf>(
     requires other { asked_of command ≡ None }
     requires range { IsInRange (task_of command) }
     ensures due { IsDueOf (task_of command.entry) (⟦<F as Watched>⟧.seen shelf.old shelf.new) (told result) }
-    ensures long { AllByRecursion (λ name. IsOverrun (⟦<F as Watched>⟧.seen shelf.old shelf.new) name → IsTooLong (told result)) (files_of (task_of command.entry)) }
+    ensures long { AllByRecursion (λ name. IsOverrun (⟦<F as Watched>⟧.seen shelf.old shelf.new) name → IsLengthOrMemory (told result)) (files_of (task_of command.entry)) }
     ensures unread { files_of (task_of command.entry) ≡ [] → shelf.new ≡ shelf.old }
 {
     match command {
