@@ -11,5 +11,6 @@ pub mod RawViews
 pub mod PageExamples
 pub mod TextExamples
 pub mod TupleLaws
+pub mod ColumnCounts
 pub mod TokenLaws
 pub mod Unique

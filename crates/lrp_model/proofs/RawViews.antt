@@ -32,8 +32,8 @@ one_more fs i f lt is = ap raw_forms_of (take_more fs i f lt ∙ ap (λ x. take 
 pub raws-step : (fs gs hs : List RawFormula) (i : ℕ) (f g : RawFormula) → i < length fs → f ≡ get_or fs i f → hs ≡ gs ++ g ∷ [] → raw_forms_of gs ≡ raw_forms_of (take i fs) → raw_form_of g ≡ raw_form_of f → raw_forms_of hs ≡ raw_forms_of (take (i + 1) fs)
 raws-step fs gs hs i f g lt is e h k = ap raw_forms_of e ∙ raws_of-append gs (g ∷ []) ∙ (rw (h, k) (sym (one_more fs i f lt is)))
 
-pub raw_and_copy : (f : RawFormula) (v w : Vec RawFormula Global) → f.kind ≡ And v → raw_forms_of w.items ≡ raw_forms_of v.items → raw_kind (And w) f.place ≡ raw_form_of f
-raw_and_copy f v w e h = raw_kind-And w f.place ∙ ap (raw_and f.place) h ∙ sym (ap (λ k. raw_kind k f.place) e ∙ raw_kind-And v f.place)
+pub raw_and_form : (f : RawFormula) (v : Vec RawFormula Global) (fs : List RawFormula) → f.kind ≡ And v → fs ≡ v.items → raw_and f.place (raw_forms_of fs) ≡ raw_form_of f
+raw_and_form f v fs e h = sym (ap (λ k. raw_kind k f.place) e ∙ raw_kind-And v f.place ∙ ap (λ xs. raw_and f.place (raw_forms_of xs)) (sym h))
 
-pub raw_or_copy : (f : RawFormula) (v w : Vec RawFormula Global) → f.kind ≡ Or v → raw_forms_of w.items ≡ raw_forms_of v.items → raw_kind (Or w) f.place ≡ raw_form_of f
-raw_or_copy f v w e h = raw_kind-Or w f.place ∙ ap (raw_or f.place) h ∙ sym (ap (λ k. raw_kind k f.place) e ∙ raw_kind-Or v f.place)
+pub raw_or_form : (f : RawFormula) (v : Vec RawFormula Global) (fs : List RawFormula) → f.kind ≡ Or v → fs ≡ v.items → raw_or f.place (raw_forms_of fs) ≡ raw_form_of f
+raw_or_form f v fs e h = sym (ap (λ k. raw_kind k f.place) e ∙ raw_kind-Or v f.place ∙ ap (λ xs. raw_or f.place (raw_forms_of xs)) (sym h))

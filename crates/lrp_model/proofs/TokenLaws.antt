@@ -6,9 +6,8 @@ use Rattle.std.specs.Fmt.{decimal, signed_decimal}
 use Rattle.std.proofs.lemmas.Fmt.{decimal_digit, decimal-digits_of, decimal_nonempty, signed_decimal_injective}
 use Rattle.std.proofs.lemmas.Bool.{ltb-true}
 use Rattle.lrp_model.specs.Texts.{Text}
-use Rattle.lrp_model.specs.Lexing.{greatest_number}
 use Rattle.lrp_model.specs.Printed.{joined_by}
-use Rattle.lrp_model.specs.PrintedPages.{hex_digit, hex, text_part, tuple_text, token_text, IsToken}
+use Rattle.lrp_model.specs.PrintedPages.{hex_digit, hex, text_part, tuple_text, token_text, IsToken, IsSmall}
 use Rattle.lrp_model.proofs.Logic.{all_append}
 
 -- no element of the list is this byte
@@ -63,10 +62,6 @@ module _ {A : Type 0} (P : A → Type 0) (f : A → List ℕ) (some : (a : A) �
       ap₂ (λ z zs. z ∷ zs) (once a c h.0 k.0 r.0) (joined_once free once (b ∷ us) (d ∷ bs) h.1 k.1 r.1)
 
 -- ---- numbers
-
--- a number that a token may have
-abbrev IsSmall : ℤ → Type 0
-IsSmall x = nat_abs x ≤ greatest_number
 
 glyphs_lack : (c : ℕ) → c < 48 → (ds : List ℕ) → Lacks c (map (λ d. 48 + d) ds)
 glyphs_lack c lt [] = tt

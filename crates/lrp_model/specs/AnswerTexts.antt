@@ -6,11 +6,11 @@ use Rattle.std.specs.declared.cmp.Ordering.{Ordering}
 use Rattle.std.specs.declared.cmp.Ordering.TheVariants.{Less, Equal, Greater}
 use Rattle.std.specs.Cmp.Lexicographic.{slice_cmp}
 use Rattle.lrp_model.specs.Texts.{Text, text_cmp}
-use Rattle.lrp_model.specs.Rows.{Datum, IsOf, times_of, time_at, IsInRow, Holds}
+use Rattle.lrp_model.specs.Rows.{Tuple, IsOf, times_of, time_at, IsInRow, Holds}
 use Rattle.lrp_model.specs.Formulas.{Question}
 use Rattle.lrp_model.specs.Satisfaction.{IsAnswer}
 use Rattle.lrp_model.specs.Periods.{period}
-use Rattle.lrp_model.specs.Plans.{time_columns}
+use Rattle.lrp_model.specs.Sorts.{time_count}
 use Rattle.lrp_model.specs.DatabaseReading.{IsDatabase}
 use Rattle.lrp_model.specs.Printed.{relation_bytes}
 use Rattle.lrp_model.specs.declared.relations.Value.{Value}
@@ -54,8 +54,8 @@ HasPeriod K (Point p) = (p.period ≡ pos K) × (pos 0 ≤ℤ p.offset) × (p.of
 
 -- time column i minus time column j is at most the number in each member of the row, and some member attains it
 pub record IsLeastBound (row : Row) (i j : ℕ) (a : ℤ) : Type 0 where
-  pub met : (tuple : List Datum) → IsInRow row tuple → (time_at (times_of tuple) i -ℤ time_at (times_of tuple) j) ≤ℤ a
-  pub attained : (tuple : List Datum) × IsInRow row tuple × (time_at (times_of tuple) i -ℤ time_at (times_of tuple) j ≡ a)
+  pub met : (tuple : Tuple) → IsInRow row tuple → (time_at (times_of tuple) i -ℤ time_at (times_of tuple) j) ≤ℤ a
+  pub attained : (tuple : Tuple) × IsInRow row tuple × (time_at (times_of tuple) i -ℤ time_at (times_of tuple) j ≡ a)
 
 -- the bound is on two of the columns from 0 to m, and is the least one
 pub record IsOwnBound (row : Row) (m : ℕ) (bound : Bound) : Type 0 where
@@ -79,15 +79,15 @@ pub record IsAnswerRow (K m : ℕ) (row : Row) : Type 0 where
 
 -- with one time column, every member of the first row comes before those of the second, and the next integer of the cell is between: the rows are the maximal disjoint intervals, ascending
 abbrev pub IsApart : ℕ → Row → Row → Type 0
-IsApart K r s = (t u : List Datum) → IsInRow r t → IsInRow s u → (time_at (times_of t) 1 +ℤ pos K) <ℤ time_at (times_of u) 1
+IsApart K r s = (t u : Tuple) → IsInRow r t → IsInRow s u → (time_at (times_of t) 1 +ℤ pos K) <ℤ time_at (times_of u) 1
 
 -- the answers in the row's cell are the members of one zone, which is that cell with some bounds
-pub record IsOneZone (answers : List Datum → Type 0) (row : Row) : Type 0 where
+pub record IsOneZone (answers : Tuple → Type 0) (row : Row) : Type 0 where
   pub bounds : List Bound
-  pub same : (tuple : List Datum) → IsOf row.values tuple → answers tuple ↔ IsInRow (record { values = row.values; bounds = bounds }) tuple
+  pub same : (tuple : Tuple) → IsOf row.values tuple → answers tuple ↔ IsInRow (record { values = row.values; bounds = bounds }) tuple
 
 -- what holds of two rows of one cell, by the number of time columns: with none there are no two, with one they lie apart, and with more the cell is not that of one zone
-abbrev pub MayStandBeside : (List Datum → Type 0) → ℕ → ℕ → Row → Row → Type 0
+abbrev pub MayStandBeside : (Tuple → Type 0) → ℕ → ℕ → Row → Row → Type 0
 MayStandBeside answers K zero r s = ⊥
 MayStandBeside answers K (suc zero) r s = IsApart K r s
 MayStandBeside answers K (suc (suc m)) r s = IsOneZone answers r → ⊥
@@ -98,10 +98,10 @@ MayStandBeside answers K (suc (suc m)) r s = IsOneZone answers r → ⊥
 pub record IsAnswerRelation (K : ℕ) (db : List Relation) (q : Question) (answer : Relation) : Type 0 where
   pub name : answer.name ≡ codes "answer"
   pub columns : answer.columns ≡ q.head
-  pub holds : (tuple : List Datum) → IsAnswer db q tuple ↔ Holds (answer ∷ []) answer.name tuple
-  pub rows : AllByRecursion (IsAnswerRow K (time_columns q.head)) answer.rows
+  pub holds : (tuple : Tuple) → IsAnswer db q tuple ↔ Holds (answer ∷ []) answer.name tuple
+  pub rows : AllByRecursion (IsAnswerRow K (time_count q.head)) answer.rows
   pub cells : AllPairs InOrder answer.rows
-  pub beside : AllPairs (λ r s. OfOneCell r s → MayStandBeside (IsAnswer db q) K (time_columns q.head) r s) answer.rows
+  pub beside : AllPairs (λ r s. OfOneCell r s → MayStandBeside (IsAnswer db q) K (time_count q.head) r s) answer.rows
 
 -- the text is such a relation as it is written out, and is read back as it
 pub record IsRelationText (K : ℕ) (db : List Relation) (q : Question) (bytes : List ℕ) : Type 0 where
@@ -112,8 +112,8 @@ pub record IsRelationText (K : ℕ) (db : List Relation) (q : Question) (bytes :
 
 -- the text of a query's answer in rows of period K: the line `Empty` where no tuple satisfies the query, and such a relation where one does
 pub record IsAnswerTextOf (K : ℕ) (db : List Relation) (q : Question) (bytes : List ℕ) : Type 0 where
-  pub none : ((tuple : List Datum) → IsAnswer db q tuple → ⊥) → bytes ≡ codes "Empty\n"
-  pub some : (tuple : List Datum) → IsAnswer db q tuple → IsRelationText K db q bytes
+  pub none : ((tuple : Tuple) → IsAnswer db q tuple → ⊥) → bytes ≡ codes "Empty\n"
+  pub some : (tuple : Tuple) → IsAnswer db q tuple → IsRelationText K db q bytes
 
 -- in rows of the query's period
 abbrev pub IsAnswerText : List Relation → Question → List ℕ → Type 0

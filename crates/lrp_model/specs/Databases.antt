@@ -19,7 +19,7 @@ use Rattle.lrp_model.specs.declared.written.RawRelation.{RawRelation}
 use Rattle.lrp_model.specs.Tokens.{Part, located_text, joined_parts, separated}
 use Rattle.lrp_model.specs.Tokens.Token.{name_token, word_token, number_token, text_token, symbol_token, end_token}
 use Rattle.lrp_model.specs.Tokens.Part.{at, any}
-use Rattle.lrp_model.specs.Lexing.{greatest_number}
+use Rattle.lrp_model.specs.Limits.{greatest_number}
 use Rattle.lrp_model.specs.Columns.{column_text}
 
 -- ---- what spells a tree

@@ -4,9 +4,9 @@ use Rattle.std.specs.List.{AllByRecursion}
 use Rattle.std.specs.Fmt.{signed_decimal}
 use Rattle.lrp_model.specs.Texts.{Text}
 use Rattle.lrp_model.specs.DataTexts.{IsDataText}
-use Rattle.lrp_model.specs.Rows.{Datum, time, text, times_of, texts_of}
-use Rattle.lrp_model.specs.Pages.{Tuple, last_of}
-use Rattle.lrp_model.specs.Lexing.{greatest_number}
+use Rattle.lrp_model.specs.Rows.{Datum, Tuple, time, text, times_of, texts_of}
+use Rattle.lrp_model.specs.Pages.{last_of}
+use Rattle.lrp_model.specs.Limits.{greatest_number}
 use Rattle.lrp_model.specs.Printed.{joined_by, quoted}
 
 -- ---- lines
@@ -62,11 +62,15 @@ abbrev pub MayBeDigest : Option (List ℕ) → Type 0
 MayBeDigest None = Unit {0}
 MayBeDigest (Some digest) = IsDigest digest
 
+-- a number that a token may have
+abbrev pub IsSmall : ℤ → Type 0
+IsSmall x = nat_abs x ≤ greatest_number
+
 -- the text is a token of these times and texts, and of the digest where there is one
 pub record IsToken (token : List ℕ) (digest : Option (List ℕ)) (times : List ℤ) (texts : List Text) : Type 0 where
   pub spelled : token ≡ token_text digest times texts
   pub digest_is : MayBeDigest digest
-  pub small : AllByRecursion (λ x. nat_abs x ≤ greatest_number) times
+  pub small : AllByRecursion IsSmall times
   pub whole : AllByRecursion IsDataText texts
 
 -- ---- pages

@@ -4,7 +4,7 @@ use Rattle.lrp_model.specs.declared.tokens.Fault.{Fault}
 use Rattle.lrp_model.specs.declared.tokens.Fault.TheVariants.{Syntax, Number, TextTooLong, Period, Deep, Memory}
 use Rattle.lrp_model.specs.Tokens.{Token, Placed, Tokens, Part, Spells}
 use Rattle.lrp_model.specs.Tokens.Token.{number_token, text_token}
-use Rattle.lrp_model.specs.Lexing.{greatest_number}
+use Rattle.lrp_model.specs.Limits.{greatest_number}
 
 -- what a token shows of a fault that is no syntax fault
 abbrev pub IsCause : Fault → Token → Type 0

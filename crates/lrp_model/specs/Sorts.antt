@@ -27,7 +27,7 @@ abbrev pub FitsColumn : Column → Term → Type 0
 FitsColumn c (time_term t) = is_time c.sort ≡ true
 FitsColumn c (data_term t) = is_data c.sort ≡ true
 
--- how many of the columns are time columns, and how many are of data sorts
+-- how many of the columns are time columns
 abbrev pub time_count : List Column → ℕ
 time_count = count_by (λ c. is_time c.sort)
 

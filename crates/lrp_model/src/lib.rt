@@ -14,6 +14,7 @@ mod plans;
 mod raw;
 mod raw_copies;
 mod relations;
+mod short;
 mod tokens;
 mod tuples;
 mod written;

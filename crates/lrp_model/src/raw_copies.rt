@@ -1,8 +1,11 @@
 // Copies of raw formulas and queries: the same formula with the same places, elsewhere in memory.
 ghost use Rattle.std.specs.Prelude.{◌≡◌, IfOk};
-ghost use Rattle.lrp_model.specs.RawQueries.{raw_form_of, raw_forms_of, raw_question_of, raw_and, raw_exists, raw_forall, raw_group, raw_implies, raw_not, raw_or};
+ghost use Rattle.lrp_model.specs.RawQueries.{raw_form_of, raw_forms_of, raw_question_of, raw_atom, raw_compare, raw_member, raw_and, raw_exists, raw_forall, raw_group, raw_implies, raw_not, raw_or};
 
-use crate::{Copies, Memory, Place, RawColumn, RawFormula, RawKind, RawQuery};
+use crate::{
+    Copies, List, Memory, Name, Op, Place, RawColumn, RawFormula, RawKind, RawQuery, RawTerm,
+    RowPoint,
+};
 use std::alloc::Global;
 
 impl RawQuery {
@@ -26,80 +29,140 @@ impl RawFormula {
     }
 }
 
+// A match with all kinds would have an exit, and so a drop, for each part of each kind: a kind has a function of its own.
 #[cycle(raw_copying)]
 fn copy_raw(alloc: Global, f: &RawFormula) -> Result<RawFormula, Memory>
     ensures { IfOk result (λ made. raw_form_of made ≡ raw_form_of f.now) }
 {
     let place = f.place;
     match &f.kind {
-        RawKind::Atom { relation, terms } => {
-            let relation = relation.copy(alloc)?;
-            let terms = terms.copy(alloc)?;
-            Ok(RawFormula {
-                kind: RawKind::Atom { relation, terms },
-                place,
-            })
-        }
-        RawKind::Compare { left, op, right } => {
-            let left = left.copy(alloc)?;
-            let right = right.copy(alloc)?;
-            Ok(RawFormula {
-                kind: RawKind::Compare {
-                    left,
-                    op: *op,
-                    right,
-                },
-                place,
-            })
-        }
-        RawKind::Member { term, point } => {
-            let term = term.copy(alloc)?;
-            Ok(RawFormula {
-                kind: RawKind::Member {
-                    term,
-                    point: *point,
-                },
-                place,
-            })
-        }
-        RawKind::Not { of } => {
-            let of = copy_raw(alloc, of)?;
-            negated(alloc, place, of)
-        }
-        RawKind::And { of } => {
-            let of = copy_each_raw(alloc, of)?;
-            Ok(RawFormula {
-                kind: RawKind::And { of },
-                place,
-            })
-        }
-        RawKind::Or { of } => {
-            let of = copy_each_raw(alloc, of)?;
-            Ok(RawFormula {
-                kind: RawKind::Or { of },
-                place,
-            })
-        }
+        RawKind::Atom { relation, terms } => copy_atom(alloc, place, relation, terms),
+        RawKind::Compare { left, op, right } => copy_comparison(alloc, place, left, *op, right),
+        RawKind::Member { term, point } => copy_member(alloc, place, term, *point),
+        RawKind::Not { of } => copy_negation(alloc, place, of),
+        RawKind::And { of } => copy_conjunction(alloc, place, of),
+        RawKind::Or { of } => copy_disjunction(alloc, place, of),
         RawKind::Implies { left, right } => {
             let left = copy_raw(alloc, left)?;
             let right = copy_raw(alloc, right)?;
             implied(alloc, place, left, right)
         }
-        RawKind::Group { of } => {
-            let of = copy_raw(alloc, of)?;
-            grouped(alloc, place, of)
-        }
-        RawKind::Exists { binder, of } => {
-            let binder = binder.copy(alloc)?;
-            let of = copy_raw(alloc, of)?;
-            some(alloc, place, binder, of)
-        }
-        RawKind::Forall { binder, of } => {
-            let binder = binder.copy(alloc)?;
-            let of = copy_raw(alloc, of)?;
-            every(alloc, place, binder, of)
-        }
+        RawKind::Group { of } => copy_group(alloc, place, of),
+        RawKind::Exists { binder, of } => copy_existential(alloc, place, binder, of),
+        RawKind::Forall { binder, of } => copy_universal(alloc, place, binder, of),
     }
+}
+
+fn copy_atom(
+    alloc: Global,
+    place: Place,
+    relation: &Name,
+    terms: &List<RawTerm>,
+) -> Result<RawFormula, Memory>
+    ensures { IfOk result (λ made. raw_form_of made ≡ raw_atom place relation.now terms.now) }
+{
+    let relation = relation.copy(alloc)?;
+    let terms = terms.copy(alloc)?;
+    Ok(RawFormula {
+        kind: RawKind::Atom { relation, terms },
+        place,
+    })
+}
+
+fn copy_comparison(
+    alloc: Global,
+    place: Place,
+    left: &RawTerm,
+    op: Op,
+    right: &RawTerm,
+) -> Result<RawFormula, Memory>
+    ensures { IfOk result (λ made. raw_form_of made ≡ raw_compare place left.now op right.now) }
+{
+    let left = left.copy(alloc)?;
+    let right = right.copy(alloc)?;
+    Ok(RawFormula {
+        kind: RawKind::Compare { left, op, right },
+        place,
+    })
+}
+
+fn copy_member(
+    alloc: Global,
+    place: Place,
+    term: &RawTerm,
+    point: RowPoint,
+) -> Result<RawFormula, Memory>
+    ensures { IfOk result (λ made. raw_form_of made ≡ raw_member place term.now point) }
+{
+    let term = term.copy(alloc)?;
+    Ok(RawFormula {
+        kind: RawKind::Member { term, point },
+        place,
+    })
+}
+
+#[cycle(raw_copying)]
+fn copy_negation(alloc: Global, place: Place, f: &RawFormula) -> Result<RawFormula, Memory>
+    ensures { IfOk result (λ made. raw_form_of made ≡ raw_not place (raw_form_of f.now)) }
+{
+    let f = copy_raw(alloc, f)?;
+    negated(alloc, place, f)
+}
+
+#[cycle(raw_copying)]
+fn copy_conjunction(alloc: Global, place: Place, fs: &[RawFormula]) -> Result<RawFormula, Memory>
+    ensures { IfOk result (λ made. raw_form_of made ≡ raw_and place (raw_forms_of fs.now)) }
+{
+    let of = copy_each_raw(alloc, fs)?;
+    Ok(RawFormula {
+        kind: RawKind::And { of },
+        place,
+    })
+}
+
+#[cycle(raw_copying)]
+fn copy_disjunction(alloc: Global, place: Place, fs: &[RawFormula]) -> Result<RawFormula, Memory>
+    ensures { IfOk result (λ made. raw_form_of made ≡ raw_or place (raw_forms_of fs.now)) }
+{
+    let of = copy_each_raw(alloc, fs)?;
+    Ok(RawFormula {
+        kind: RawKind::Or { of },
+        place,
+    })
+}
+
+#[cycle(raw_copying)]
+fn copy_group(alloc: Global, place: Place, f: &RawFormula) -> Result<RawFormula, Memory>
+    ensures { IfOk result (λ made. raw_form_of made ≡ raw_group place (raw_form_of f.now)) }
+{
+    let f = copy_raw(alloc, f)?;
+    grouped(alloc, place, f)
+}
+
+#[cycle(raw_copying)]
+fn copy_existential(
+    alloc: Global,
+    place: Place,
+    binder: &RawColumn,
+    f: &RawFormula,
+) -> Result<RawFormula, Memory>
+    ensures { IfOk result (λ made. raw_form_of made ≡ raw_exists place binder.now (raw_form_of f.now)) }
+{
+    let f = copy_raw(alloc, f)?;
+    some(alloc, place, binder, f)
+}
+
+#[cycle(raw_copying)]
+fn copy_universal(
+    alloc: Global,
+    place: Place,
+    binder: &RawColumn,
+    f: &RawFormula,
+) -> Result<RawFormula, Memory>
+    ensures { IfOk result (λ made. raw_form_of made ≡ raw_forall place binder.now (raw_form_of f.now)) }
+{
+    let f = copy_raw(alloc, f)?;
+    every(alloc, place, binder, f)
 }
 
 #[cycle(raw_copying)]
@@ -145,10 +208,16 @@ fn grouped(alloc: Global, place: Place, f: RawFormula) -> Result<RawFormula, Mem
     })
 }
 
-fn some(alloc: Global, place: Place, binder: RawColumn, f: RawFormula) -> Result<RawFormula, Memory>
-    ensures { IfOk result (λ g. raw_form_of g ≡ raw_exists place binder (raw_form_of f)) }
+fn some(
+    alloc: Global,
+    place: Place,
+    binder: &RawColumn,
+    f: RawFormula,
+) -> Result<RawFormula, Memory>
+    ensures { IfOk result (λ g. raw_form_of g ≡ raw_exists place binder.now (raw_form_of f)) }
 {
     let of = Box::new(alloc, f)?;
+    let binder = binder.copy(alloc)?;
     Ok(RawFormula {
         kind: RawKind::Exists { binder, of },
         place,
@@ -158,12 +227,13 @@ fn some(alloc: Global, place: Place, binder: RawColumn, f: RawFormula) -> Result
 fn every(
     alloc: Global,
     place: Place,
-    binder: RawColumn,
+    binder: &RawColumn,
     f: RawFormula,
 ) -> Result<RawFormula, Memory>
-    ensures { IfOk result (λ g. raw_form_of g ≡ raw_forall place binder (raw_form_of f)) }
+    ensures { IfOk result (λ g. raw_form_of g ≡ raw_forall place binder.now (raw_form_of f)) }
 {
     let of = Box::new(alloc, f)?;
+    let binder = binder.copy(alloc)?;
     Ok(RawFormula {
         kind: RawKind::Forall { binder, of },
         place,

@@ -11,7 +11,7 @@ pub struct Place {
 }
 
 /// The symbols; `Le` is `<=`, `Ge` is `>=`, and `Bar` is `|`.
-#[derive(Clone, Copy, Debug, PartialEq, Eq)]
+#[derive(Clone, Copy, PartialEq, Eq)]
 pub enum Symbol {
     Open,
     Close,
@@ -31,7 +31,7 @@ pub enum Symbol {
 }
 
 /// The reserved words, which are no names; `Letter` is the `n` of a point `c+kn`.
-#[derive(Clone, Copy, Debug, PartialEq, Eq)]
+#[derive(Clone, Copy, PartialEq, Eq)]
 pub enum Word {
     Relation,
     Where,
@@ -48,7 +48,7 @@ pub enum Word {
 }
 
 /// What kind of token a slice of the source is; a `Word` is a reserved word.
-#[derive(Clone, Copy, Debug, PartialEq, Eq)]
+#[derive(Clone, Copy, PartialEq, Eq)]
 pub enum TokenKind {
     Name,
     Word,
@@ -59,7 +59,7 @@ pub enum TokenKind {
 }
 
 /// A token as it stands in the source.
-#[derive(Clone, Copy, Debug, PartialEq, Eq)]
+#[derive(Clone, Copy, PartialEq, Eq)]
 pub struct Token<'a> {
     pub kind: TokenKind,
     pub slice: &'a str,

@@ -5,21 +5,21 @@ use crate::{Copies, DataText, List, Memory, Name, Place, RawColumn};
 use std::alloc::Global;
 
 /// Something of a tree, and the place of its first token.
-#[derive(Debug, Drop)]
+#[derive(Drop)]
 pub struct Located<T> {
     pub place: Place,
     pub item: T,
 }
 
 /// An integer with its sign: `-0` is written with one.
-#[derive(Clone, Copy, Debug, PartialEq, Eq)]
+#[derive(Clone, Copy, PartialEq, Eq)]
 pub struct Integer {
     pub negative: bool,
     pub size: u64,
 }
 
 /// A value of a row: a text, an instant, or a point `at + period n`.
-#[derive(Debug, Drop)]
+#[derive(Drop)]
 pub enum WrittenValue {
     Constant { text: DataText },
     Instant { at: Integer },
@@ -27,7 +27,7 @@ pub enum WrittenValue {
 }
 
 /// How a bound compares its two sides.
-#[derive(Clone, Copy, Debug, PartialEq, Eq)]
+#[derive(Clone, Copy, PartialEq, Eq)]
 pub enum BoundOp {
     AtMost,
     AtLeast,
@@ -35,7 +35,7 @@ pub enum BoundOp {
 }
 
 /// The right side of a bound: an integer, a column, or a column with an offset upwards or downwards.
-#[derive(Debug, Drop)]
+#[derive(Drop)]
 pub enum Side {
     Alone {
         value: Integer,
@@ -51,7 +51,7 @@ pub enum Side {
 }
 
 /// A bound as it is written.
-#[derive(Debug, Drop)]
+#[derive(Drop)]
 pub struct RawBound {
     pub left: Located<Name>,
     pub op: BoundOp,
@@ -59,14 +59,14 @@ pub struct RawBound {
 }
 
 /// A row as it is written.
-#[derive(Debug, Drop)]
+#[derive(Drop)]
 pub struct RawRow {
     pub values: List<Located<WrittenValue>>,
     pub bounds: List<RawBound>,
 }
 
 /// A relation as it is written; a row's place is that of its parenthesis.
-#[derive(Debug, Drop)]
+#[derive(Drop)]
 pub struct RawRelation {
     pub name: Located<Name>,
     pub columns: List<RawColumn>,

@@ -1,0 +1,8 @@
+-- The bytes of a name, wherever they stand. No public clause cites this module.
+use Rattle.std.specs.Prelude.{ℕ, List, take}
+use Rattle.lrp_model.specs.declared.names.Bytes.{Bytes}
+use Rattle.lrp_model.specs.declared.names.Bytes.TheVariants.{Few, Many}
+
+abbrev pub bytes_of : Bytes → List ℕ
+bytes_of (Few short) = take short.size short.bytes
+bytes_of (Many boxed) = boxed.value
