@@ -7,4 +7,6 @@ pub mod Removed
 pub mod Tables
 pub mod Unlinked
 pub mod Copying
+pub mod Differences
 pub mod Entries
+pub mod Shortened

@@ -25,7 +25,7 @@ same_some e = cc
 
 -- ---- the order of cells
 
-turned : (a b : Cell) (o : Ordering) → cell_cmp a b ≡ o → cell_cmp b a ≡ ordering_reverse o
+pub turned : (a b : Cell) (o : Ordering) → cell_cmp a b ≡ o → cell_cmp b a ≡ ordering_reverse o
 turned a b o e = cells_total.antisymm b a ∙ ap ordering_reverse e
 
 above : (k m e : Cell) → cell_cmp k m ≡ Greater → cell_cmp e m ≡ Less → cell_cmp k e ≡ Greater
@@ -40,12 +40,12 @@ at_key P (x ∷ es) zero f all e = subst (λ (g : Cell × Chain). P g.0) (same_s
 at_key P (x ∷ es) (suc j) f all e = at_key P es j f all.1 e
 
 -- the first cell comes before the others
-first_of : (x : Cell × Chain) (es : List (Cell × Chain)) → IsLine (x ∷ es) → AllByRecursion (λ y. cell_cmp x.0 y ≡ Less) (keys_of es)
+pub first_of : (x : Cell × Chain) (es : List (Cell × Chain)) → IsLine (x ∷ es) → AllByRecursion (λ y. cell_cmp x.0 y ≡ Less) (keys_of es)
 unfolding IsStrictlySortedBy
 first_of x es line = line.0
 
 -- and they are a line
-rest_of : (x : Cell × Chain) (es : List (Cell × Chain)) → IsLine (x ∷ es) → IsLine es
+pub rest_of : (x : Cell × Chain) (es : List (Cell × Chain)) → IsLine (x ∷ es) → IsLine es
 unfolding IsStrictlySortedBy
 rest_of x es line = line.1
 
@@ -356,7 +356,7 @@ only_line line tree e = ap (λ t. line ++ t) e ∙ whole line
     whole [] = refl
     whole (x ∷ es) = ap (λ l. x ∷ l) (whole es)
 
-empty_of : (tree : List (Cell × Chain)) → length tree ≡ 0 → tree ≡ []
+pub empty_of : (tree : List (Cell × Chain)) → length tree ≡ 0 → tree ≡ []
 empty_of [] e = refl
 empty_of (x ∷ tree) e = absurd (omega arith)
 
@@ -412,6 +412,10 @@ put_moved line tree old none made k v l en em = ap (λ xs. xs ++ made) en ∙ em
 -- another tree in its place
 pub new_tree : (line tree old new es : List (Cell × Chain)) → IsInTree line tree old → new ≡ es → line ++ new ≡ es
 new_tree line tree old new es i e = ap (λ l. l ++ new) i.empty ∙ e
+
+-- what stands in a tree alone stands once
+pub stands_in_tree : (line tree es : List (Cell × Chain)) → line ≡ [] → tree ≡ es → IsLine es → StandOnce line tree
+stands_in_tree line tree es none e ordered = record { one = inl none; ordered = subst (λ l. IsLine (l ++ tree)) (sym none) (subst IsLine (sym e) ordered) }
 
 -- what is found in line is found
 pub found_there : (line tree old : List (Cell × Chain)) (k : Cell) (i : ℕ) (e : Cell × Chain) → IsInLine line tree old → (s : StandsAt line k i) → e ≡ slice_index_or line i e → Some e.1 ≡ chain_at old k

@@ -1,3 +1,4 @@
 pub mod Links
 pub mod Lines
 pub mod Lists
+pub mod Narrow

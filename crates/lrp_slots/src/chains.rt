@@ -1,11 +1,11 @@
 // Chains of slots: each slot has the key of the slot that follows in its list.
-ghost use Rattle.std.specs.Prelude.{◌≡◌, ◌+◌, ◌==◌, ◌^◌, ◌<◌, ◌≤◌, None, Some, Ok, OnOk, OnErr, IfOk, IfSome, IsSome, cond};
+ghost use Rattle.std.specs.Prelude.{◌≡◌, ◌+◌, ◌==◌, ◌^◌, ◌<◌, ◌≤◌, None, Some, Ok, OnOk, IfOk, IfSome, IsSome, cond};
 ghost use Rattle.std.specs.BTreeMap.{is_at};
 ghost use Rattle.slab.specs.Slab.{get, ContainsKey as HasValue, slab_len, HasRoomFor};
 ghost use Rattle.lrp_slots.specs.Lists.{cell_cmp};
 ghost use Rattle.lrp_model.specs.declared.tuples.Cell.{Cell as CellValue};
 ghost use Rattle.lrp_slots.specs.Lines.{IsLine};
-ghost use Rattle.lrp_slots.specs.Links.{key_after, keys_from, chain_at, slots_of, AreHeld, IsLengthened, IsWhole, Joins, Pushes, TakesOut, extended, if_some};
+ghost use Rattle.lrp_slots.specs.Links.{key_after, keys_from, chain_at, slots_of, AreHeld, IsWhole, Joins, Pushes, TakesOut, extended, if_some};
 
 use crate::held::Held;
 use lrp_model::{Cell, Memory};
@@ -104,35 +104,6 @@ pub(crate) fn extended(held: Option<Chain>, key: usize) -> Chain
             in_line: true,
         },
     }
-}
-
-// Puts another chain in the place of a held cell's.
-fn replace(chains: &mut Held, cell: &Cell, chain: Chain)
-    requires { IsSome (chain_at chains.old cell.now) }
-    ensures { IsLengthened chains.old chains.new cell.now chain }
-{
-    match chains.insert(cell, chain) {
-        Ok(_) => {}
-        Err(_) => unreachable!(),
-    }
-}
-
-// Puts one slot more at the end of a cell's chain, and gives the chain as it was, if there was one.
-//
-// A cell that was not held is looked up once.
-pub(crate) fn lengthen(chains: &mut Held, cell: &Cell, key: usize) -> Result<Option<Chain>, Memory>
-    requires { IfSome (chain_at chains.old cell.now) (λ chain. chain.count + 1 < 2 ^ 64) }
-    ensures held { IfOk result (λ held. held ≡ chain_at chains.old cell.now) }
-    ensures lengthened { IfOk result (λ held. IsLengthened chains.old chains.new cell.now (extended held key)) }
-    ensures absent { OnErr result (chain_at chains.old cell.now ≡ None) }
-    ensures err { OnErr result (chains.new ≡ chains.old) }
-{
-    let held = chains.insert(cell, extended(None, key))?;
-    if held.is_none() {
-        return Ok(None);
-    }
-    replace(chains, cell, extended(held, key));
-    Ok(held)
 }
 
 // Puts a value into the vacant slot, at the end of a chain or alone.

@@ -1,17 +1,18 @@
 // The chains of the cells that are held, in order of the cells.
-ghost use Rattle.std.specs.Prelude.{◌≡◌, [], None, IfOk, IfSome, IfNone, IsTrue, OnErr, OnOk, option_copied, length};
+ghost use Rattle.std.specs.Prelude.{◌≡◌, ◌+◌, ◌<◌, ◌^◌, [], None, IfOk, IfSome, IfNone, IsTrue, OnErr, OnOk, option_copied, length};
 ghost use Rattle.std.specs.BTreeMap.{is_at};
 ghost use Rattle.std.specs.Map.{remove_entry};
 ghost use Rattle.lrp_slots.specs.Lists.{cell_cmp};
-ghost use Rattle.lrp_slots.specs.Links.{chain_at, IsLengthened};
+ghost use Rattle.lrp_slots.specs.Links.{chain_at, extended, IsLengthened};
 ghost use Rattle.lrp_slots.specs.Lines.{IsLine, IsBehindAll, StandsAt};
 
-use crate::chains::Chain;
+use crate::chains::{Chain, extended};
 use crate::iterators::Entries;
+use crate::order::order;
+use crate::tree::Tree;
 use lrp_model::{Cell, Memory};
 use std::alloc::Global;
 use std::cmp::Ordering;
-use std::collections::BTreeMap;
 use std::marker::Model;
 
 /// The chains of cells, seen as the list of them in order of the cells.
@@ -22,7 +23,7 @@ use std::marker::Model;
 pub(crate) struct Held {
     alloc: Global,
     line: Vec<(Cell, Chain)>,
-    tree: BTreeMap<Cell, Chain>,
+    tree: Tree,
 }
 
 impl Model for Held {
@@ -33,9 +34,9 @@ impl Model for Held {
 
     ghost Value = { List (Cell × Chain) };
 
-    ghost view = { λ a. a.line.items ++ a.tree.entries };
+    ghost view = { λ a. a.line.items ++ a.tree };
 
-    ghost invariant = { λ a. StandOnce a.line.items a.tree.entries };
+    ghost invariant = { λ a. StandOnce a.line.items a.tree };
 }
 
 impl Held {
@@ -46,7 +47,7 @@ impl Held {
         Held {
             alloc,
             line: Vec::new(alloc),
-            tree: BTreeMap::new(alloc),
+            tree: Tree::new(alloc),
         }
     }
 
@@ -92,7 +93,7 @@ impl Held {
         ensures err { OnErr result (self.new ≡ self.old) }
     {
         if !self.tree.is_empty() {
-            let held = self.tree.insert(*cell, chain)?;
+            let held = self.tree.insert(cell, chain)?;
             return Ok(held);
         }
         if is_behind(&self.line, cell) {
@@ -105,9 +106,29 @@ impl Held {
             return Ok(Some(held));
         }
         let mut tree = tree_of(self.alloc, &self.line)?;
-        tree.insert(*cell, chain)?;
+        tree.insert(cell, chain)?;
         self.tree = tree;
         self.line = Vec::new(self.alloc);
+        Ok(None)
+    }
+
+    /// Puts one slot more at the end of a cell's chain, and gives the chain as it was, if there was one.
+    pub(crate) fn lengthen(&mut self, cell: &Cell, key: usize) -> Result<Option<Chain>, Memory>
+        requires { IfSome (chain_at self.old cell.now) (λ chain. chain.count + 1 < 2 ^ 64) }
+        ensures held { IfOk result (λ held. held ≡ chain_at self.old cell.now) }
+        ensures lengthened { IfOk result (λ held. IsLengthened self.old self.new cell.now (extended held key)) }
+        ensures absent { OnErr result (chain_at self.old cell.now ≡ None) }
+        ensures err { OnErr result (self.new ≡ self.old) }
+    {
+        if !self.tree.is_empty() {
+            return self.tree.lengthen(cell, key);
+        }
+        if let Some(place) = place_in(&self.line, cell) {
+            let held = self.line[place].1;
+            self.line[place] = (*cell, extended(Some(held), key));
+            return Ok(Some(held));
+        }
+        self.insert(cell, extended(None, key))?;
         Ok(None)
     }
 
@@ -132,7 +153,7 @@ fn place_in(line: &[(Cell, Chain)], cell: &Cell) -> Option<usize>
     ensures some { IfSome result (StandsAt line.now cell.now) }
 {
     let last = line.len().checked_sub(1)?;
-    match cell.cmp(&line[last].0) {
+    match order(cell, &line[last].0) {
         Ordering::Less => place_by_halving(line, cell),
         Ordering::Equal => Some(last),
         Ordering::Greater => None,
@@ -149,7 +170,7 @@ fn place_by_halving(line: &[(Cell, Chain)], cell: &Cell) -> Option<usize>
     let mut high = line.len();
     while low < high {
         let middle = low + (high - low) / 2;
-        match cell.cmp(&line[middle].0) {
+        match order(cell, &line[middle].0) {
             Ordering::Less => high = middle,
             Ordering::Equal => return Some(middle),
             Ordering::Greater => low = middle + 1,
@@ -164,19 +185,19 @@ fn is_behind(line: &[(Cell, Chain)], cell: &Cell) -> bool
     ensures { IsTrue result → IsBehindAll cell.now line.now }
 {
     match line.last() {
-        Some(entry) => cell.cmp(&entry.0).is_gt(),
+        Some(entry) => order(cell, &entry.0).is_gt(),
         None => true,
     }
 }
 
 // The tree of the cells of a line.
-fn tree_of(alloc: Global, line: &[(Cell, Chain)]) -> Result<BTreeMap<Cell, Chain>, Memory>
+fn tree_of(alloc: Global, line: &[(Cell, Chain)]) -> Result<Tree, Memory>
     requires { IsLine line.now }
-    ensures { IfOk result (λ tree. tree.entries ≡ line.now) }
+    ensures { IfOk result (λ tree. tree ≡ line.now) }
 {
-    let mut tree = BTreeMap::new(alloc);
+    let mut tree = Tree::new(alloc);
     for i in 0..line.len() {
-        tree.insert(line[i].0, line[i].1)?;
+        tree.insert(&line[i].0, line[i].1)?;
     }
     Ok(tree)
 }

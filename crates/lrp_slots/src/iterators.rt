@@ -5,6 +5,7 @@ ghost use Rattle.slab.specs.Slab.{get};
 ghost use Rattle.lrp_slots.specs.Links.{AreHeld, chain_keys, list_of};
 
 use crate::chains::{Chain, Link};
+use crate::narrow::Narrow;
 use lrp_model::Cell;
 use slab::Slab;
 use std::collections::btree_map;
@@ -14,7 +15,7 @@ use std::marker::Model;
 #[derive(Drop)]
 pub(crate) struct Entries<'a> {
     pub(crate) line: &'a [(Cell, Chain)],
-    pub(crate) tree: btree_map::Iter<'a, Cell, Chain>,
+    pub(crate) tree: Branches<'a>,
 }
 
 impl<'a> Model for Entries<'a> {
@@ -39,7 +40,40 @@ impl<'a> Iterator for Entries<'a> {
             self.line = rest;
             return Some(*entry);
         }
-        let (cell, chain) = self.tree.next()?;
+        self.tree.next()
+    }
+}
+
+/// The cells of a tree with their chains in order, seen as the list of those that are left.
+#[derive(Drop)]
+pub(crate) struct Branches<'a> {
+    pub(crate) narrow: btree_map::Iter<'a, Narrow, Chain>,
+    pub(crate) wide: btree_map::Iter<'a, Cell, Chain>,
+}
+
+impl<'a> Model for Branches<'a> {
+    ghost use Rattle.std.specs.Prelude.{List, ◌++◌};
+    ghost use Rattle.lrp_model.specs.declared.tuples.Cell.{Cell};
+    ghost use Rattle.lrp_slots.specs.declared.chains.Chain.{Chain};
+    ghost use Rattle.lrp_slots.specs.Narrow.{wide_entries};
+
+    ghost Value = { List (Cell × Chain) };
+
+    ghost view = { λ b. wide_entries b.narrow ++ b.wide };
+}
+
+impl<'a> Iterator for Branches<'a> {
+    type Item = (Cell, Chain);
+
+    ghost next_gives = { YieldsFirst (λ left. left) };
+
+    ghost remaining = { item_count (λ left. left) };
+
+    fn next(&mut self) -> Option<(Cell, Chain)> {
+        if let Some((key, chain)) = self.narrow.next() {
+            return Some((key.cell(), *chain));
+        }
+        let (cell, chain) = self.wide.next()?;
         Some((*cell, *chain))
     }
 }

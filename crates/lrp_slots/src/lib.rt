@@ -4,7 +4,12 @@
 mod chains;
 mod held;
 mod iterators;
+mod narrow;
+mod order;
+mod refusal;
 mod slots;
+mod tree;
 
 pub use iterators::{Cells, Lists, Values};
+pub use refusal::Refusal;
 pub use slots::{Ends, Slots};

@@ -31,7 +31,7 @@ push-requires-clause-last g c =
     last_is_held c.vacant_key.new.links c.self.inside.chains (with_room c.self.inside.links _ _ _ c.vacant_key.ensures.rest_kept c.vacant_key.ensures.capacity refl c.self.invariant) c.args.cell.now c.in_ok-held.held c.in_ok-held.ensures.held
 
 additions : (g : _) (c : goal.After-push g)
-    → Additions c.vacant_key.new.links c.push.new.links c.self.inside.chains c.lengthen.new.chains c.args.cell.now c.in_ok-held.held (extended c.in_ok-held.held c.in_ok-key.key) c.args.value
+    → Additions c.vacant_key.new.links c.push.new.links c.self.inside.chains c.lengthen.new.self c.args.cell.now c.in_ok-held.held (extended c.in_ok-held.held c.in_ok-key.key) c.args.value
 additions g c = record {
   linked = with_room c.self.inside.links _ _ _ c.vacant_key.ensures.rest_kept c.vacant_key.ensures.capacity refl c.self.invariant;
   held_is = c.in_ok-held.ensures.held;
