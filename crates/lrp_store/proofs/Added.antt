@@ -8,7 +8,7 @@ use Rattle.std.proofs.lemmas.List.{get_or-replicate, length-replicate, length-ta
 use Rattle.lrp_theory.specs.Bounds.{Within}
 use Rattle.lrp_theory.specs.Entries.{entry, node}
 use Rattle.lrp_model.specs.declared.tuples.Cell.{Cell}
-use Rattle.lrp_zone.specs.Zones.{ZoneView, IsZone, IsShape, IsTight, IsMember, IsResidue, greatest_of, columns_of}
+use Rattle.lrp_zone.specs.Zones.{ZoneView, IsZone, IsShape, IsTight, IsMember, IsResidue, greatest_of}
 use Rattle.lrp_zone.specs.Pairs.{IsWithin}
 use Rattle.lrp_zone.proofs.Members.{member_of_solution}
 use Rattle.lrp_zone.proofs.Tables.{empty_free}

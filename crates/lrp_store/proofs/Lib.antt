@@ -17,4 +17,5 @@ pub mod Written
 pub mod EntriesRead
 pub mod Looser
 pub mod Added
+pub mod WholeFirst
 pub mod Ordered

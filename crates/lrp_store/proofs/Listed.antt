@@ -1,8 +1,9 @@
 -- A list of bounds that was made of a table stands for that table.
-use Rattle.std.proofs.Common.{◌≡◌, ◌≢◌, ℕ, zero, suc, ◌+◌, ◌*◌, ◌<◌, ◌≤◌, ◌⊎◌, inl, inr, List, [], ◌∷◌, ◌++◌, length, take, Option, Some, None, true, false, cond, eqb, refl, sym, ap, subst, ◌∙◌, arith, get_or, to_z, of_z, ◌/◌, ◌%◌}
-use Rattle.std.proofs.lemmas.Int.{ints}
-use Rattle.std.specs.Prelude.{ℤ, nat_abs, ◌^◌, ◌-◌, ◌≤ℤ◌, ◌-ℤ◌, neg_ℤ, pos, slice_index_or, is_some}
-use Rattle.std.specs.Int.{w64}
+use Rattle.std.proofs.Common.{◌≡◌, ◌≢◌, ℕ, zero, suc, ◌+◌, ◌*◌, ◌<◌, ◌≤◌, ◌⊎◌, inl, inr, List, [], ◌∷◌, ◌++◌, length, take, Option, Some, None, true, false, cond, eqb, refl, sym, ap, subst, ◌∙◌, arith, get_or, to_z, of_z, SFits, ◌/◌, ◌%◌}
+use Rattle.std.proofs.lemmas.Int.{ints, to_z-of_z}
+use Rattle.std.proofs.lemmas.Nat.{from_le_bytes-to_le_bytes_8}
+use Rattle.std.specs.Prelude.{ℤ, nat_abs, ◌^◌, ◌-◌, ◌≤ℤ◌, ◌-ℤ◌, neg_ℤ, pos, negsuc, slice_index_or, is_some}
+use Rattle.std.specs.Int.{w64, from_le_bytes, to_le_bytes}
 use Rattle.std.specs.List.{range_with_len}
 use Rattle.std.proofs.lemmas.Bool.{eqb-true, eqb-false, cases_lt}
 use Rattle.std.proofs.lemmas.List.{length-map, length-append, ext_get_or, get_or-append_right, get_or_append_left, take_all}
@@ -13,7 +14,7 @@ use Rattle.lrp_theory.specs.Entries.{entry, node, AtMost}
 use Rattle.lrp_zone.specs.Given.{bound_at}
 use Rattle.lrp_zone.specs.Zones.{ZoneView, IsZone, IsTight, columns_of}
 use Rattle.lrp_store.specs.declared.stored.Entry.{Entry}
-use Rattle.lrp_store.specs.Stored.{bounds_of, table_place, listed_at, table_of, AreListed, count_of}
+use Rattle.lrp_store.specs.Stored.{placed, bound_with, bounds_of, table_place, listed_at, table_of, AreListed, count_of}
 
 -- the list has just the bounds of the first n places
 pub record AreOf (table : List (Option ℤ)) (n : ℕ) (bs : List Bound) : Type 0 where
@@ -174,9 +175,9 @@ module _ (z : ZoneView) (valid : IsZone z) where
       by (inr l) (inr r) = tight_is_small (pos z.period) (node z.residues (p / 9) -ℤ node z.residues (p % 9)) (entry z.bounds (p / 9) (p % 9)) f (is ∙ sym (at_place p)) (valid.shape.tight (p / 9) (p % 9) l r)
 
 -- the bounds of the entries with one more
-map_push : (es : List Entry) (e : Entry) → bounds_of (es ++ e ∷ []) ≡ bounds_of es ++ (record { left = e.left; right = e.right; most = e.most }) ∷ []
+map_push : (es : List Entry) (e : Entry) → bounds_of (es ++ e ∷ []) ≡ bounds_of es ++ bound_with e ∷ []
 map_push [] e = refl
-map_push (x ∷ es) e = ap (λ bs. (record { left = x.left; right = x.right; most = x.most }) ∷ bs) (map_push es e)
+map_push (x ∷ es) e = ap (λ bs. bound_with x ∷ bs) (map_push es e)
 
 -- the front of a table has no more bounds than the table
 taken_count : (table : List (Option ℤ)) (n : ℕ) → count_of (take n table) ≤ count_of table
@@ -184,10 +185,10 @@ taken_count table n = sum_by-take-le (λ e. cond (is_some e) 1 0) table n
 
 module _ (table : List (Option ℤ)) (size : length table ≡ 81) (n : ℕ) (low : n < 81) (old : List Entry) (of : AreOf table n (bounds_of old)) where
   -- the bound of the next place was pushed
-  pub pushed : (a v : ℤ) (new : List Entry) → get_or table n None ≡ Some a → v ≡ a → new ≡ old ++ (record { left = n / 9; right = n % 9; most = v }) ∷ [] → AreOf table (n + 1) (bounds_of new)
-  pushed a v new is same e =
-      subst (λ bs. AreOf table (n + 1) bs) (sym (ap bounds_of e ∙ ap (λ y. bounds_of (old ++ (record { left = n / 9; right = n % 9; most = y }) ∷ [])) same ∙ map_push old (record { left = n / 9; right = n % 9; most = a })))
-      (one_of table size n (bounds_of old) (record { left = n / 9; right = n % 9; most = a }) (omega arith) (omega arith) (omega arith) is low of)
+  pub pushed : (a v : ℤ) (e : Entry) (new : List Entry) → get_or table n None ≡ Some a → v ≡ a → bound_with e ≡ placed n v → new ≡ old ++ e ∷ [] → AreOf table (n + 1) (bounds_of new)
+  pushed a v e new is same at made =
+      subst (λ bs. AreOf table (n + 1) bs) (sym (ap bounds_of made ∙ map_push old e ∙ ap (λ b. bounds_of old ++ b ∷ []) (at ∙ ap (placed n) same)))
+      (one_of table size n (bounds_of old) (placed n a) (omega arith) (omega arith) (omega arith) is low of)
 
   -- nothing is stored there
   pub passed : get_or table n None ≡ None → AreOf table (n + 1) (bounds_of old)
@@ -212,6 +213,15 @@ word_bound a h = within a h.0 h.1
   where
     within : (a : ℤ) → neg_ℤ (pos (2 ^ 62)) ≤ℤ a → a ≤ℤ pos (2 ^ 62) → to_z w64 (of_z w64 a) ≡ a
     within a low high = omega (arith, ints)
+
+-- the bits of a word
+word_bits : (a : ℤ) → SFits w64 a → of_z w64 a < 2 ^ 64
+word_bits (pos n) f = let l : n < 2 ^ 63 = f.sfits in omega arith
+word_bits (negsuc n) f = omega arith
+
+-- the bytes of a word are its number
+pub bytes_back : (a : ℤ) → SFits w64 a → (bytes : List ℕ) → bytes ≡ to_le_bytes w64 (of_z w64 a) → to_z w64 (from_le_bytes w64 bytes) ≡ a
+bytes_back a fits bytes e = ap (λ bs. to_z w64 (from_le_bytes w64 bs)) e ∙ ap (to_z w64) (from_le_bytes-to_le_bytes_8 (of_z w64 a) (word_bits a fits)) ∙ to_z-of_z w64 a fits
 
 -- and its magnitude
 pub word_abs : (a : ℤ) → pos 1 ≤ℤ a → a ≤ℤ pos (2 ^ 62) → nat_abs (to_z w64 (of_z w64 a)) ≡ nat_abs a

@@ -1,5 +1,5 @@
 -- The first tuple of a store and of an answer.
-use Rattle.std.proofs.Common.{◌≡◌, ◌≢◌, ℕ, zero, suc, ◌<◌, ◌≤◌, ◌⊎◌, inl, inr, List, [], ◌∷◌, length, map, take, get_or, Option, Some, None, false, Ordering, Less, Equal, Greater, arith, refl, sym, ap, ap₂, subst, ◌∙◌, Contains}
+use Rattle.std.proofs.Common.{◌≡◌, ◌≢◌, ℕ, zero, suc, ◌<◌, ◌≤◌, ◌⊎◌, inl, inr, List, [], ◌∷◌, length, take, get_or, Option, Some, None, false, Ordering, Less, Equal, Greater, arith, refl, sym, ap, ap₂, subst, ◌∙◌, Contains}
 use Rattle.std.specs.Prelude.{ℤ, pos, IfSome, IfNone}
 use Rattle.std.specs.Ordering.{nat_cmp, ordering_then, ordering_reverse, is_gt, on, then_cmp}
 use Rattle.std.specs.Cmp.{IsTotalOrder}

@@ -1,6 +1,7 @@
 -- Bounds that are written one after another into a free table make the table that they stand for.
-use Rattle.std.proofs.Common.{◌≡◌, ◌≢◌, ◌⊎◌, ℕ, ◌+◌, ◌*◌, ◌<◌, ◌^◌, inl, inr, List, length, replicate, Option, Some, None, refl, sym, ap, subst, ◌∙◌, arith, get_or, set, get_or-set_same, get_or-set_other, length-set, below_more}
+use Rattle.std.proofs.Common.{◌≡◌, ◌≢◌, ◌⊎◌, ℕ, ◌+◌, ◌/◌, ◌<◌, ◌^◌, inl, inr, List, length, replicate, [], Option, Some, None, to_z, of_z, refl, sym, ap, subst, ◌∙◌, arith, get_or, set, get_or-set_same, get_or-set_other, length-set, below_more}
 use Rattle.std.specs.Prelude.{ℤ, pos}
+use Rattle.std.specs.Int.{w64}
 use Rattle.std.proofs.lemmas.Bool.{cases_eq}
 use Rattle.std.proofs.lemmas.List.{ext_get_or, get_or-map, length-map, get_or-replicate, length-replicate}
 use Rattle.lrp_model.specs.declared.relations.Bound.{Bound}
@@ -8,8 +9,8 @@ use Rattle.lrp_zone.specs.Given.{bound_at}
 use Rattle.lrp_theory.specs.Entries.{AtMost}
 use Rattle.lrp_zone.specs.Zones.{ZoneView, IsZone}
 use Rattle.lrp_store.specs.declared.stored.Entry.{Entry}
-use Rattle.lrp_store.specs.Stored.{bounds_of, table_place, listed_at, table_of, AreListed, AreSmall}
-use Rattle.lrp_store.proofs.Listed.{some_listed, get_or-table_of, length-table_of, place_small}
+use Rattle.lrp_store.specs.Stored.{bound_with, bounds_of, table_place, listed_at, table_of, AreListed, AreSmall}
+use Rattle.lrp_store.proofs.Listed.{some_listed, get_or-table_of, length-table_of, place_small, word_bound}
 
 -- the table has the first n bounds, and no bound that is not listed
 pub record IsWritten (bs : List Bound) (n : ℕ) (table : List (Option ℤ)) : Type 0 where
@@ -79,35 +80,43 @@ module _ (bs : List Bound) (are : AreListed bs) where
           let i = some_listed bs p a e in
           ap (λ q. get_or table q None) (sym i.2) ∙ w.done i.0 i.1 ∙ sym (are.one i.0 i.1) ∙ ap (listed_at bs) i.2
 
--- the bound of an entry
-abbrev pub bound_with : Entry → Bound
-bound_with e = record { left = e.left; right = e.right; most = e.most }
-
 -- an entry in the place of one past the end
 abbrev pub nothing : Entry
-nothing = record { left = 0; right = 0; most = pos 0 }
+nothing = record { place = 0; most = [] }
+
+-- and the bound there
+abbrev pub none : Bound
+none = record { left = 0; right = 0; most = pos 0 }
+
+-- a place is that of its bound
+pub place_back : (e : Entry) → e.place ≡ table_place (bound_with e)
+place_back e = omega arith
 
 -- the next entry is written
-pub entry_written : (es : List Entry) (n : ℕ) (e : Entry) (place : ℕ) (v : Option ℤ) (old new : List (Option ℤ)) → AreListed (bounds_of es) → n < length es → e ≡ get_or es n nothing → place ≡ 9 * e.left + e.right → v ≡ Some e.most → new ≡ set old place v
+pub entry_written : (es : List Entry) (n : ℕ) (e : Entry) (place : ℕ) (v : Option ℤ) (old new : List (Option ℤ)) → AreListed (bounds_of es) → n < length es → e ≡ get_or es n nothing → place ≡ e.place → v ≡ Some (bound_with e).most → new ≡ set old place v
     → IsWritten (bounds_of es) n old → IsWritten (bounds_of es) (n + 1) new
 entry_written es n e place v old new are low is at some made before =
     let many : length (bounds_of es) ≡ length es = length-map es _ in
-    let b : bound_at (bounds_of es) n ≡ record { left = e.left; right = e.right; most = e.most } = get_or-map bound_with es n nothing (bound_with nothing) low ∙ ap bound_with (sym is) in
-    subst (λ t. IsWritten (bounds_of es) (n + 1) t) (ap (λ (x : Bound). set old (table_place x) (Some x.most)) b ∙ ap (λ p. set old p (Some e.most)) (sym at) ∙ ap (set old place) (sym some) ∙ sym made)
+    let b : bound_at (bounds_of es) n ≡ bound_with e = get_or-map bound_with es n nothing none low ∙ ap bound_with (sym is) in
+    subst (λ t. IsWritten (bounds_of es) (n + 1) t) (ap (λ (x : Bound). set old (table_place x) (Some x.most)) b ∙ ap (λ p. set old p (Some (bound_with e).most)) (sym (at ∙ place_back e)) ∙ ap (set old place) (sym some) ∙ sym made)
     (written_next (bounds_of es) are n (omega arith) old before)
 
 -- an entry stands within nine rows of nine
-pub entry_low : (es : List Entry) (n : ℕ) → AreListed (bounds_of es) → n < length es → ((get_or es n nothing).left < 9) × ((get_or es n nothing).right < 9)
+pub entry_low : (es : List Entry) (n : ℕ) → AreListed (bounds_of es) → n < length es → (get_or es n nothing).place < 81
 entry_low es n are low =
     let many : length (bounds_of es) ≡ length es = length-map es _ in
-    let b : bound_at (bounds_of es) n ≡ bound_with (get_or es n nothing) = get_or-map bound_with es n nothing (bound_with nothing) low in
-    (subst (λ (x : Bound). x.left < 9) b (are.left n (omega arith)), subst (λ (x : Bound). x.right < 9) b (are.right n (omega arith)))
+    let l : (get_or es n nothing).place / 9 < 9 = subst (λ (x : Bound). x.left < 9) (get_or-map bound_with es n nothing none low) (are.left n (omega arith)) in
+    omega arith
 
 -- and its bound is small
-pub entry_small : (es : List Entry) (n : ℕ) → AreSmall (bounds_of es) → n < length es → AtMost (2 ^ 62) (Some (get_or es n nothing).most)
+pub entry_small : (es : List Entry) (n : ℕ) → AreSmall (bounds_of es) → n < length es → AtMost (2 ^ 62) (Some (bound_with (get_or es n nothing)).most)
 entry_small es n small low =
     let many : length (bounds_of es) ≡ length es = length-map es _ in
-    subst (λ (x : Bound). AtMost (2 ^ 62) (Some x.most)) (get_or-map bound_with es n nothing (bound_with nothing) low) (small.each n (omega arith))
+    subst (λ (x : Bound). AtMost (2 ^ 62) (Some x.most)) (get_or-map bound_with es n nothing none low) (small.each n (omega arith))
+
+-- so it is the same in a word
+pub entry_word : (es : List Entry) (n : ℕ) (v : ℤ) → AreSmall (bounds_of es) → n < length es → v ≡ (bound_with (get_or es n nothing)).most → to_z w64 (of_z w64 v) ≡ (bound_with (get_or es n nothing)).most
+entry_word es n v small low e = ap (λ a. to_z w64 (of_z w64 a)) e ∙ word_bound (bound_with (get_or es n nothing)).most (entry_small es n small low)
 
 -- the bounds of a zone are small
 pub zone_small : (k : ℕ) (rs : List ℤ) (now : List (Option ℤ)) (items slice : List Entry) → slice ≡ items → AreListed (bounds_of items) → table_of (bounds_of items) ≡ now → IsZone (record { period = k; residues = rs; bounds = now }) → AreSmall (bounds_of slice)

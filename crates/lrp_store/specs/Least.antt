@@ -1,9 +1,10 @@
 -- The least tuple of a zone, of a store and of an answer: the first by the ranks of its times, and then by its texts.
-use Rattle.std.specs.Prelude.{◌≡◌, ◌≢◌, ℕ, ℤ, pos, ◌+◌, ◌*◌, ◌^◌, ◌<◌, ◌≤◌, List, Option, Some, None, Contains, take}
+use Rattle.std.specs.Prelude.{◌≡◌, ◌≢◌, ℕ, ℤ, pos, ◌-ℤ◌, ◌+◌, ◌*◌, ◌^◌, ◌<◌, ◌≤◌, List, Option, Some, None, Contains, take}
 use Rattle.std.specs.Ordering.{nat_cmp, ordering_then}
 use Rattle.std.specs.declared.cmp.Ordering.{Ordering}
 use Rattle.std.specs.declared.cmp.Ordering.TheVariants.{Greater}
 use Rattle.std.specs.Cmp.Lexicographic.{slice_cmp}
+use Rattle.lrp_theory.specs.Divides.{Divides}
 use Rattle.lrp_theory.specs.Entries.{node, AtMost, IsSmallClosure}
 use Rattle.lrp_matrix.specs.Matrices.{MatrixView, IsClosed, HaveSameIntegers}
 use Rattle.lrp_zone.specs.Zones.{ZoneView, IsMember, columns_of}
@@ -32,6 +33,12 @@ pub record IsRoom (z : ZoneView) (h : ℕ) : Type 0 where
 -- each zone has such a number
 pub record HasRoom (s : StoreView) : Type 0 where
   pub each : (cell : Cell) (table : List (Option ℤ)) → Contains (tables_at s cell) table → (h : ℕ) × IsRoom (zone_of s cell table) h
+
+-- x is the number of the residue r modulo k that is nearest to zero, and its magnitude is at most k
+pub record IsNearestOf (k : ℕ) (r x : ℤ) : Type 0 where
+  pub residue : Divides (pos k) (x -ℤ r)
+  pub first : (y : ℤ) → Divides (pos k) (y -ℤ r) → rank x ≤ rank y
+  pub small : AtMost k (Some x)
 
 -- of tuples of n values, ys has the values of xs, or a greater rank at the first place where they differ
 pub record IsNotNearer (n : ℕ) (xs ys : List ℤ) : Type 0 where

@@ -1,16 +1,25 @@
 -- The stored bounds of a zone as a list, and the table that they stand for.
-use Rattle.std.specs.Prelude.{◌≡◌, ℕ, ℤ, ◌+◌, ◌*◌, ◌<◌, ◌≤◌, ◌^◌, ◌==◌, List, [], ◌∷◌, length, map, Option, Some, None, is_some, count_by, if◌then◌else◌}
+use Rattle.std.specs.Prelude.{◌≡◌, ℕ, ℤ, ◌+◌, ◌*◌, ◌/◌, ◌%◌, ◌<◌, ◌≤◌, ◌^◌, ◌==◌, List, [], ◌∷◌, length, map, Option, Some, None, is_some, count_by, if◌then◌else◌}
+use Rattle.std.specs.Int.{w64, cast_signed, from_le_bytes}
 use Rattle.std.specs.List.{range_with_len}
 use Rattle.lrp_theory.specs.Entries.{AtMost}
 use Rattle.lrp_model.specs.declared.relations.Bound.{Bound}
 use Rattle.lrp_zone.specs.Given.{bound_at}
 use Rattle.lrp_store.specs.declared.stored.Entry.{Entry}
 
+-- the bound at a place of the table, which has nine rows of nine
+abbrev pub placed : ℕ → ℤ → Bound
+placed place most = record { left = place / 9; right = place % 9; most = most }
+
+-- the bound of an entry
+abbrev pub bound_with : Entry → Bound
+bound_with e = placed e.place (cast_signed w64 (from_le_bytes w64 e.most))
+
 -- the bounds of the entries, in order
 abbrev pub bounds_of : List Entry → List Bound
-bounds_of entries = map (λ e. record { left = e.left; right = e.right; most = e.most }) entries
+bounds_of entries = map bound_with entries
 
--- the place of a bound in the table, which has nine rows of nine
+-- the place of a bound in the table
 abbrev pub table_place : Bound → ℕ
 table_place b = 9 * b.left + b.right
 

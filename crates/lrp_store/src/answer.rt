@@ -1,7 +1,7 @@
 // The answers of a query.
 ghost use Rattle.lrp_model.specs.Rows.{Datum};
 ghost use Rattle.std.specs.Prelude.{IfNone, IfOk, IfSome, ◌≡◌, ◌↔◌, ◌+◌, ℕ, ℤ, List, length, pos, IsTrue};
-ghost use Rattle.lrp_model.specs.Plans.{time_columns};
+ghost use Rattle.lrp_model.specs.Sorts.{time_count};
 ghost use Rattle.lrp_store.specs.Stores.{InStore};
 ghost use Rattle.lrp_store.specs.Least.{HasRoom, IsLeastSpot};
 ghost use Rattle.lrp_store.specs.Tables.{AreNumbered, InAnswer};
@@ -19,7 +19,7 @@ pub struct Answer {
     pub period: i64,
     pub domain: Domain,
     pub store: Store,
-    ghost times_are: { time_columns head.columns ≡ store.shape.times },
+    ghost times_are: { time_count head.columns ≡ store.shape.times },
     ghost columns_are: { length head.columns ≡ store.shape.times + store.shape.texts },
     ghost period_is: { period ≡ pos store.period },
     ghost numbered: { AreNumbered domain store },

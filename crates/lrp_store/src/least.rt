@@ -1,14 +1,15 @@
 // The first tuple of a store: by the ranks of its times, and then by the numbers of its texts.
-ghost use Rattle.std.specs.Prelude.{◌≡◌, ◌≢◌, ◌⊎◌, ◌↔◌, ℕ, ℤ, List, map, Some, IsTrue, IfSome, IfNone};
+ghost use Rattle.std.specs.Prelude.{◌≡◌, ◌≢◌, ◌⊎◌, ◌↔◌, ℕ, ℤ, List, Contains, Some, IsTrue, IfSome, IfNone};
 ghost use Rattle.std.specs.Ordering.{nat_cmp};
 ghost use Rattle.std.specs.Cmp.Lexicographic.{slice_cmp};
 ghost use Rattle.std.specs.declared.cmp.Ordering.TheVariants.{Less, Greater};
 ghost use Rattle.lrp_store.specs.Aligned.{InCell};
-ghost use Rattle.lrp_store.specs.Least.{HasRoom, IsFound, IsNotAfter, held_cmp};
-ghost use Rattle.lrp_store.specs.Stores.{InStore, tables_at};
+ghost use Rattle.lrp_store.specs.Least.{HasRoom, IsFound, IsNearestTo, IsNotAfter, IsRoom, held_cmp};
+ghost use Rattle.lrp_store.specs.Stores.{InStore, tables_at, zone_of};
+ghost use Rattle.lrp_zone.specs.Zones.{columns_of};
 ghost use Rattle.lrp_theory.specs.Residues.{rank};
 
-use crate::nearest::nearest;
+use crate::nearest::{nearest, nearest_of_cell};
 use crate::store::Store;
 use crate::stored::StoredBounds;
 use lrp_model::{Cell, Spot};
@@ -90,16 +91,28 @@ impl Store {
         ensures cell { (times : List ℤ) (texts : List ℕ) → InCell self.now cell.now times texts → IsNotAfter self.now result times texts }
     {
         self.shape();
-        let times = usize::from(self.shape.times);
         let mut found = found;
         for bounds in tables {
-            let zone = bounds.zone(self.period, &cell.residues[..times]);
             let spot = Spot {
-                times: nearest(&zone),
+                times: self.nearest_in(cell, bounds),
                 texts: cell.texts,
             };
             found = Some(nearer(found, spot));
         }
         found
+    }
+
+    // The first tuple of a zone of a cell. Where no bound is stored no zone is made.
+    fn nearest_in(&self, cell: &Cell, bounds: &StoredBounds) -> [i64; 8]
+        requires held { Contains (tables_at self.now cell.now) bounds.now }
+        requires room { (h : ℕ) × IsRoom (zone_of self.now cell.now bounds.now) h }
+        ensures { IsNearestTo (zone_of self.now cell.now bounds.now) (columns_of (zone_of self.now cell.now bounds.now)) result }
+    {
+        self.shape();
+        let times = usize::from(self.shape.times);
+        if bounds.is_free() {
+            return nearest_of_cell(self.period, &cell.residues, times);
+        }
+        nearest(&bounds.zone(self.period, &cell.residues[..times]))
     }
 }

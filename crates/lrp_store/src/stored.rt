@@ -3,7 +3,7 @@ ghost use Rattle.std.specs.Prelude.{◌≡◌, ◌↔◌, ◌+◌, ◌*◌, ◌<
 ghost use Rattle.lrp_theory.specs.Entries.{AtMost, IsBelow};
 ghost use Rattle.lrp_zone.specs.Pairs.{IsWithin};
 ghost use Rattle.lrp_zone.specs.Zones.{IsZone, columns_of};
-ghost use Rattle.lrp_store.specs.Stored.{bounds_of, count_of, table_of, AreListed, AreSmall};
+ghost use Rattle.lrp_store.specs.Stored.{bound_with, bounds_of, count_of, placed, table_of, AreListed, AreSmall};
 
 use lrp_model::{Copies, Memory};
 use lrp_zone::{Table, Zone};
@@ -11,12 +11,11 @@ use smallvec::SmallVec;
 use std::alloc::Global;
 use std::marker::Model;
 
-/// A bound on column `left` minus column `right`, where column 0 is the number zero.
+/// A bound and its place in the table. Its number stands as bytes, so that an entry takes nine bytes and no padding.
 #[derive(Clone, Copy, Default)]
 struct Entry {
-    left: u8,
-    right: u8,
-    most: i64,
+    place: u8,
+    most: [u8; 8],
 }
 
 /// The stored bounds of a zone, which contracts see as their table. Its period and its residues stand elsewhere.
@@ -36,6 +35,25 @@ impl Model for StoredBounds {
     ghost invariant = { λ s. AreListed (bounds_of s.entries.items) };
 }
 
+impl Entry {
+    // The entry of the bound at a place.
+    fn at(place: u8, most: i64) -> Entry
+        ensures { bound_with result ≡ placed place most }
+    {
+        Entry {
+            place,
+            most: most.to_le_bytes(),
+        }
+    }
+
+    // The bound of an entry.
+    fn most(&self) -> i64
+        ensures { result ≡ (bound_with self.now).most }
+    {
+        i64::from_le_bytes(self.most)
+    }
+}
+
 impl StoredBounds {
     /// The stored bounds of a zone. Up to eight take no memory.
     pub fn of(alloc: Global, zone: &Zone) -> Result<StoredBounds, Memory>
@@ -46,9 +64,8 @@ impl StoredBounds {
         zone.columns();
         let places = places_of(zone);
         for place in 0..places {
-            let (left, right) = (place / 9, place % 9);
             if let Some(most) = bound_of(zone, place) {
-                entries.push(Entry { left, right, most })?;
+                entries.push(Entry::at(place, most))?;
             }
         }
         Ok(StoredBounds { entries })
@@ -121,8 +138,7 @@ fn are_above(zone: &Zone, entries: &[Entry]) -> bool
 {
     zone.columns();
     for entry in entries {
-        let place = 9 * entry.left + entry.right;
-        if !is_at_most(bound_of(zone, place), entry.most) {
+        if !is_at_most(bound_of(zone, entry.place), entry.most()) {
             return false;
         }
     }
@@ -147,8 +163,7 @@ fn written(entries: &[Entry]) -> Table
 {
     let mut table = Table::free();
     for entry in entries {
-        let place = 9 * usize::from(entry.left) + usize::from(entry.right);
-        table.set(place, Some(entry.most));
+        table.set(usize::from(entry.place), Some(entry.most()));
     }
     table
 }

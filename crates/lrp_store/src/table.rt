@@ -16,7 +16,7 @@ pub enum StepFault {
 }
 
 /// The variables that name the columns of a table: first the times, then the texts.
-#[derive(Debug, Drop)]
+#[derive(Drop)]
 pub struct Vars {
     pub times: List<Name>,
     pub texts: List<Name>,

@@ -4,7 +4,7 @@
 ghost use Rattle.std.specs.Prelude.{◌≡◌, ◌+◌, ◌≤◌, ◌^◌, ℕ, [], ◌∷◌, length, take, pos, nat_abs, ◌≤ℤ◌, IfSome};
 ghost use Rattle.lrp_theory.specs.Entries.{node};
 ghost use Rattle.lrp_zone.specs.Zones.{IsResidue, reach_of};
-ghost use Rattle.lrp_model.specs.Plans.{time_columns};
+ghost use Rattle.lrp_model.specs.Sorts.{time_count};
 ghost use Rattle.lrp_store.specs.Stores.{IsPadded, HasReach};
 
 use lrp_model::{Bound, Cell, Column, Domain, Head, List, Name, Shape, Sort};
@@ -98,7 +98,7 @@ pub fn list<T: Drop>(rt: &impl Abort, alloc: Global, x: T) -> List<T>
 
 // A head of one time.
 fn head(rt: &impl Abort, alloc: Global) -> Head
-    ensures times { time_columns result.columns ≡ 1 }
+    ensures times { time_count result.columns ≡ 1 }
     ensures all { length result.columns ≡ 1 }
 {
     let column = Column {

@@ -1,6 +1,6 @@
 -- A place where the ranks differ decides.
-use Rattle.std.proofs.Common.{◌≡◌, ◌<◌, length, get_or, to_z, of_z, arith, rules, sym, ap, ap₂, ◌∙◌, SFits}
-use Rattle.std.specs.Prelude.{ℤ, pos}
+use Rattle.std.proofs.Common.{get_or, arith, rules, sym, ap, ap₂, ◌∙◌, SFits}
+use Rattle.std.specs.Prelude.{pos}
 use Rattle.std.specs.Int.{w64}
 use Rattle.std.proofs.lemmas.Int.{to_z-of_z}
 use Rattle.std.specs.Ordering.{nat_cmp}

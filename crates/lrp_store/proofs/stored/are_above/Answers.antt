@@ -1,30 +1,22 @@
 -- Each turn compares one entry.
-use Rattle.std.proofs.Common.{◌≡◌, sym, subst, arith, get_or, length, to_z, of_z, refl}
+use Rattle.std.proofs.Common.{◌≡◌, subst, arith, length, to_z, of_z, refl}
 use Rattle.std.specs.Int.{w64}
 use Rattle.std.proofs.lemmas.List.{length-map}
-use Rattle.lrp_zone.specs.Pairs.{IsWithin}
 use Rattle.lrp_store.specs.Stored.{bounds_of}
-use Rattle.lrp_store.proofs.Listed.{word_bound}
-use Rattle.lrp_store.proofs.Written.{nothing, entry_low, entry_small}
+use Rattle.lrp_store.proofs.Written.{entry_low, entry_word}
 use Rattle.lrp_store.proofs.Looser.{AreAbove, none_above_yet, one_more_above, above_within}
 use Rattle.lrp_store.proofs.stored.are_above.Goals as goal
 
 pub loop-entry-init : goal.loop-entry-init
 loop-entry-init c = none_above_yet c.args.zone.now.bounds (bounds_of c.args.entries.now)
 
-pub overflow_add-place : goal.overflow_add-place
-overflow_add-place c = let l = entry_low c.args.entries.now c.loop-entry.entry-index c.requires.listed (omega arith) in omega (arith, l.0, l.1)
-
-pub overflow_mul-place : goal.overflow_mul-place
-overflow_mul-place c = let l = entry_low c.args.entries.now c.loop-entry.entry-index c.requires.listed (omega arith) in omega (arith, l.0, l.1)
-
 pub bound_of-requires : goal.bound_of-requires
-bound_of-requires c = let l = entry_low c.args.entries.now c.loop-entry.entry-index c.requires.listed (omega arith) in omega (arith, l.0, l.1)
+bound_of-requires c = entry_low c.args.entries.now c.loop-entry.entry-index c.requires.listed (omega arith)
 
 pub loop-entry-preserved : goal.loop-entry-preserved
 loop-entry-preserved c =
-    one_more_above c.args.zone.now.bounds c.args.entries.now c.loop-entry.entry-index _ c.bound_of.result (to_z w64 (of_z w64 (get_or c.args.entries.now c.loop-entry.entry-index nothing).most)) (omega arith) refl c.bound_of.ensures.value
-    (word_bound _ (entry_small c.args.entries.now c.loop-entry.entry-index c.requires.small (omega arith))) (c.is_at_most.ensures.0 c.if-not-is_at_most.false) c.loop-entry.invariant
+    one_more_above c.args.zone.now.bounds c.args.entries.now c.loop-entry.entry-index _ c.bound_of.result (to_z w64 (of_z w64 c.most.result)) (omega arith) refl c.bound_of.ensures.value
+    (entry_word c.args.entries.now c.loop-entry.entry-index c.most.result c.requires.small (omega arith) c.most.ensures) (c.is_at_most.ensures.0 c.if-not-is_at_most.false) c.loop-entry.invariant
 
 pub returns : goal.returns
 returns c = λ yes.

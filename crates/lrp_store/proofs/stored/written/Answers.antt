@@ -1,31 +1,29 @@
 -- Each turn writes one entry.
-use Rattle.std.proofs.Common.{refl, sym, ap, subst, arith, Some, get_or, to_z, of_z, ◌≡◌}
+use Rattle.std.proofs.Common.{refl, sym, ap, subst, arith, Some, get_or, to_z, of_z, ◌<◌}
 use Rattle.std.specs.Int.{w64}
 use Rattle.lrp_zone.specs.Numbers.{CanStand}
 use Rattle.lrp_zone.proofs.Stands.{stands_small}
-use Rattle.lrp_store.specs.Stored.{bounds_of}
-use Rattle.lrp_store.proofs.Listed.{word_bound}
-use Rattle.lrp_store.proofs.Written.{nothing, written_none, entry_low, entry_small, entry_written, entries_written}
+use Rattle.lrp_store.specs.Stored.{bound_with, bounds_of}
+use Rattle.lrp_store.proofs.Written.{nothing, written_none, entry_low, entry_small, entry_word, entry_written, entries_written}
 use Rattle.lrp_store.proofs.stored.written.Goals as goal
 
 pub loop-entry-init : goal.loop-entry-init
 loop-entry-init c = written_none (bounds_of c.args.entries.now) _ c.free-table.ensures
 
-pub overflow_add-place : goal.overflow_add-place
-overflow_add-place c = let l = entry_low c.args.entries.now c.loop-entry.entry-index c.requires.listed (omega arith) in omega (arith, l.0, l.1)
-
 pub set-requires-clause-place : goal.set-requires-clause-place
-set-requires-clause-place c = let l = entry_low c.args.entries.now c.loop-entry.entry-index c.requires.listed (omega arith) in omega (arith, l.0, l.1)
+set-requires-clause-place c =
+    let low : (get_or c.args.entries.now c.loop-entry.entry-index nothing).place < 81 = entry_low c.args.entries.now c.loop-entry.entry-index c.requires.listed (omega arith) in
+    omega (arith, low, c.from.ensures)
 
 pub set-requires-clause-stands : goal.set-requires-clause-stands
 set-requires-clause-stands c =
-    let same : to_z w64 (of_z w64 (get_or c.args.entries.now c.loop-entry.entry-index nothing).most) ≡ (get_or c.args.entries.now c.loop-entry.entry-index nothing).most = word_bound _ (entry_small c.args.entries.now c.loop-entry.entry-index c.requires.small (omega arith)) in
-    subst (λ m. CanStand (Some m)) (sym same) (stands_small (Some (get_or c.args.entries.now c.loop-entry.entry-index nothing).most) (entry_small c.args.entries.now c.loop-entry.entry-index c.requires.small (omega arith)))
+    subst (λ m. CanStand (Some m)) (sym (entry_word c.args.entries.now c.loop-entry.entry-index c.most.result c.requires.small (omega arith) c.most.ensures))
+    (stands_small (Some (bound_with (get_or c.args.entries.now c.loop-entry.entry-index nothing)).most) (entry_small c.args.entries.now c.loop-entry.entry-index c.requires.small (omega arith)))
 
 pub loop-entry-preserved : goal.loop-entry-preserved
 loop-entry-preserved c =
-    entry_written c.args.entries.now c.loop-entry.entry-index (get_or c.args.entries.now c.loop-entry.entry-index nothing) _ (Some (to_z w64 (of_z w64 (get_or c.args.entries.now c.loop-entry.entry-index nothing).most))) c.loop-entry.table _ c.requires.listed (omega arith) refl
-    (omega arith) (ap Some (word_bound _ (entry_small c.args.entries.now c.loop-entry.entry-index c.requires.small (omega arith)))) c.set.ensures.value c.loop-entry.invariant
+    entry_written c.args.entries.now c.loop-entry.entry-index (get_or c.args.entries.now c.loop-entry.entry-index nothing) _ (Some (to_z w64 (of_z w64 c.most.result))) c.loop-entry.table _ c.requires.listed (omega arith) refl
+    c.from.ensures (ap Some (entry_word c.args.entries.now c.loop-entry.entry-index c.most.result c.requires.small (omega arith) c.most.ensures)) c.set.ensures.value c.loop-entry.invariant
 
 pub returns : goal.returns
 returns c = entries_written c.args.entries.now c.loop-entry.entry-index c.loop-entry.table c.requires.listed (omega arith) c.loop-entry.invariant

@@ -1,5 +1,5 @@
 -- No entry is a table without bounds, and the other way round.
-use Rattle.std.proofs.Common.{◌≡◌, List, [], ◌∷◌, length, Bool, Option, arith, ◌+◌, None, replicate, sym, ap, subst, ◌∙◌, refl}
+use Rattle.std.proofs.Common.{◌≡◌, List, [], ◌∷◌, length, Bool, Option, arith, None, replicate, sym, ◌∙◌}
 use Rattle.std.specs.Prelude.{ℤ, ◌↔◌, IsTrue, nat_eq}
 use Rattle.std.proofs.lemmas.Bool.{eqb-true}
 use Rattle.lrp_store.specs.declared.stored.Entry.{Entry}

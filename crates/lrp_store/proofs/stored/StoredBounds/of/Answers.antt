@@ -13,7 +13,7 @@ returns-in_err-push-clause-succeeds c = λ few.
 pub loop-place-preserved : goal.loop-place-preserved
 loop-place-preserved c = elim c.match-bound_of.branch [
   | in-Some+in_ok-push w ↦ record {
-    listed = pushed c.args.zone.now.bounds c.columns.ensures.valid.size c.loop-place.place (omega (arith, c.loop-place-test.true, c.places_of-places.ensures.high)) c.loop-place.entries.items c.loop-place.invariant.listed w.in-Some.most _ c.match-bound_of.entries.items (sym w.in-Some.ensures.value) (word_bound w.in-Some.most w.in-Some.ensures.small) (ap (λ e. e.items) w.entries-is ∙ w.in_ok-push.ensures.ok);
+    listed = pushed c.args.zone.now.bounds c.columns.ensures.valid.size c.loop-place.place (omega (arith, c.loop-place-test.true, c.places_of-places.ensures.high)) c.loop-place.entries.items c.loop-place.invariant.listed w.in-Some.most _ w.at.result c.match-bound_of.entries.items (sym w.in-Some.ensures.value) (word_bound w.in-Some.most w.in-Some.ensures.small) w.at.ensures (ap (λ e. e.items) w.entries-is ∙ w.in_ok-push.ensures.ok);
     room = subst (λ e. 8 ≤ e.capacity) (sym w.entries-is) (omega (arith, c.loop-place.invariant.room, w.push.ensures.capacity));
   }
   | in_default w ↦ record {
