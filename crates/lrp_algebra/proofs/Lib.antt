@@ -23,3 +23,4 @@ pub mod AllTests
 pub mod TextDropped
 pub mod TimeDropped
 pub mod United
+pub mod WholeCells

@@ -9,3 +9,4 @@ pub mod Patterns
 pub mod Rows
 pub mod Tables
 pub mod Tuples
+pub mod Wholes

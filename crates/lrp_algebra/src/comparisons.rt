@@ -10,7 +10,7 @@ use lrp_model::{Bound, Op};
 use lrp_zone::Zone;
 
 /// The value of a time column, counted from 1, and an offset; column 0 is the number zero.
-#[derive(Clone, Copy, Debug, PartialEq, Eq)]
+#[derive(Clone, Copy, PartialEq, Eq)]
 pub struct Side {
     pub column: usize,
     pub plus: i64,

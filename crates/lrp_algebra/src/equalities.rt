@@ -5,9 +5,8 @@ ghost use Rattle.lrp_model.specs.declared.formulas.Test.TheVariants.{Equal};
 ghost use Rattle.lrp_model.specs.declared.formulas.DataTerm.TheVariants.{Const as constant};
 ghost use Rattle.lrp_tables.specs.Columns.{names_of_data};
 ghost use Rattle.lrp_tables.specs.Tables.{AreNamesAmong};
-ghost use Rattle.lrp_algebra.specs.Conditions.{IsWithTest, HasNoTest, IsWithPair, IsWithText, HasNoText};
+ghost use Rattle.lrp_algebra.specs.Conditions.{IsWithTest, HasNoTest, IsWithText, HasNoText};
 
-use crate::pair::Pair;
 use crate::pattern::{Pattern, known_at};
 use crate::sides::column_among;
 use lrp_model::{DataTerm, DataText, Domain, List, Memory, Name};
@@ -33,7 +32,7 @@ pub fn with_equal(
             match right {
                 DataTerm::Var { name: other } => {
                     let second = column_among(texts, other);
-                    Ok(Some(with_pair(pattern, column, second)?))
+                    Ok(Some(pattern.with_pair(column, second)?))
                 }
                 DataTerm::Const { text } => with_text(pattern, column, text, domain),
             }
@@ -83,27 +82,6 @@ pub fn with_constant(
     }
 }
 
-// The pattern and that two data columns, counted from 1, have one text.
-fn with_pair(pattern: Pattern, left: usize, right: usize) -> Result<Pattern, Memory>
-    requires left_low { 0 < left }
-    requires left_high { left ≤ 8 }
-    requires right_low { 0 < right }
-    requires right_high { right ≤ 8 }
-    ensures { IfOk result (IsWithPair pattern left right) }
-{
-    let mut equal = pattern.equal;
-    equal.push(Pair {
-        left: left - 1,
-        right: right - 1,
-    })?;
-    let texts = pattern.texts;
-    Ok(Pattern {
-        zones: pattern.zones,
-        texts,
-        equal,
-    })
-}
-
 // The pattern and that a data column, counted from 1, has a text.
 fn with_text(
     pattern: Pattern,
@@ -123,9 +101,5 @@ fn with_text(
     let Some(texts) = known_at(&pattern.texts, column - 1, number) else {
         return Ok(None);
     };
-    Ok(Some(Pattern {
-        zones: pattern.zones,
-        texts,
-        equal: pattern.equal,
-    }))
+    Ok(Some(pattern.with_texts(texts)))
 }

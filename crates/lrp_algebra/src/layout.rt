@@ -9,10 +9,18 @@ use lrp_tables::{Vars, places_among};
 use std::alloc::Global;
 
 /// The places of a table's time columns and of its data columns among those of a longer tuple, both counted from 1.
-#[derive(Drop)]
 pub struct Places {
     pub times: List<usize>,
     pub texts: List<usize>,
+}
+
+impl Drop for Places {
+    fn drop(self) {
+        let Places {
+            times: _times,
+            texts: _texts,
+        } = self;
+    }
 }
 
 /// A store, and the places of its columns among those of a longer tuple.

@@ -1,16 +1,15 @@
 -- What a store has in the cell beneath a longer one.
-use Rattle.std.proofs.Common.{◌≡◌, ℕ, zero, suc, ◌+◌, ◌*◌, ◌<◌, ◌≤◌, List, [], length, map, take, None, get_or, sym, ap, subst, ◌∙◌, arith}
+use Rattle.std.proofs.Common.{◌≡◌, ℕ, zero, suc, ◌+◌, ◌<◌, ◌≤◌, List, [], length, map, take, get_or, sym, ap, subst, ◌∙◌, arith}
 use Rattle.std.specs.Prelude.{ℤ, pos, Contains, ◌-ℤ◌, ◌+ℤ◌}
 use Rattle.std.proofs.lemmas.Int.{ints}
 use Rattle.std.proofs.lemmas.List.{length-map, length-take-le}
-use Rattle.lrp_theory.specs.Bounds.{Within}
 use Rattle.lrp_theory.specs.Divides.{Divides}
 use Rattle.lrp_theory.specs.Entries.{node}
 use Rattle.lrp_theory.proofs.Modulo.{Divides-+, Divides-is}
 use Rattle.lrp_theory.proofs.Multiples.{Divides-trans}
 use Rattle.lrp_model.specs.declared.tuples.Cell.{Cell}
 use Rattle.lrp_zone.specs.Spread.{target}
-use Rattle.lrp_zone.specs.Zones.{ZoneView, IsInCell, IsMember, columns_of}
+use Rattle.lrp_zone.specs.Zones.{ZoneView, IsInCell, IsMember}
 use Rattle.lrp_zone.proofs.Placed.{node_map}
 use Rattle.lrp_store.specs.Choices.{AgreesTo}
 use Rattle.lrp_store.specs.Stores.{StoreView, IsStore, LiesInCell, zone_of, tables_at, zones_at}
@@ -24,13 +23,6 @@ use Rattle.lrp_minus.specs.declared.taking.Content.TheVariants.{Nothing, Everyth
 use Rattle.lrp_minus.specs.declared.taking.Taking.{Taking}
 use Rattle.lrp_minus.proofs.BeneathLaws.{numbers_front}
 use Rattle.lrp_minus.proofs.Lists.{from_map, in_map, in_none}
-
--- a zone whose table has no bound has all tuples of its cell
-pub free_zone : (z : ZoneView) → columns_of z ≤ 8 → ((i : ℕ) → i < 81 → get_or z.bounds i None ≡ None) → (xs : List ℤ) → IsInCell z xs → IsMember z xs
-free_zone z few none xs cell = record {
-  cell = cell;
-  meets = λ i j il jl. subst (λ e. Within (node xs i -ℤ node xs j) e) (sym (none (9 * i + j) (omega arith))) tt;
-}
 
 module _ (places : Places) (right : StoreView) (right_is : IsStore right) (cell below : Cell) (beneath : IsCellBeneath places right cell below) (count : length places.times ≡ right.shape.times) where
   lies : (xs : List ℤ) (ns : List ℕ) → AgreesBeneath places right.period cell xs ns → LiesInCell right.shape right.period below (map (node xs) places.times) (map (number_at ns) places.texts)

@@ -3,6 +3,7 @@ pub mod Adding
 pub mod CellsNamed
 pub mod DropCounts
 pub mod Filled
+pub mod FreeZones
 pub mod HeadNames
 pub mod Joining
 pub mod Mapped

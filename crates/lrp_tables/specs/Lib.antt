@@ -1,6 +1,10 @@
 -- What tables stand for, and the sets that steps make of them.
-pub mod Calls
+
+-- What the contract of `run` reaches.
 pub mod Caps
+-- What contracts of single functions need beside.
+pub mod Calls
+pub mod Cells
 pub mod Columns
 pub mod Passes
 pub mod Pieces

@@ -1,9 +1,13 @@
 //! Tables: stores whose columns are named by variables, the sets of assignments that the steps of a plan compute, and what the steps share.
 #![tactic(auto)]
 
+mod free;
 mod names;
 mod pieces;
+mod remembered;
 
+pub use free::is_free;
 pub use lrp_store::{StepFault, Table, Vars};
 pub use names::{joint, place_of, places_among, without};
 pub use pieces::{Piece, Pieces};
+pub use remembered::Remembered;

@@ -1,0 +1,76 @@
+// A few cells that are remembered.
+ghost use Rattle.std.specs.Prelude.{◌≡◌, ◌<◌, ◌⊎◌, ℕ, Some, Contains, IfOk, length, None, replicate, true};
+ghost use Rattle.lrp_model.specs.declared.tuples.Cell.{Cell as CellValue};
+ghost use Rattle.lrp_tables.specs.Cells.{HasNone};
+
+use lrp_model::{Cell, Memory};
+use std::alloc::Global;
+use std::marker::Model;
+
+// The most places that there are.
+const MOST: usize = 16384;
+
+/// Cells at places that their numbers give, seen as the list of the places. A cell takes over the place of another one.
+#[derive(Drop)]
+pub struct Remembered {
+    places: Vec<Option<Cell>>,
+}
+
+impl Model for Remembered {
+    ghost use Rattle.std.specs.Prelude.{◌<◌, List, Option, length};
+    ghost use Rattle.lrp_model.specs.declared.tuples.Cell.{Cell};
+
+    ghost Value = { List (Option Cell) };
+
+    ghost view = { λ a. a.places.items };
+
+    ghost invariant = { λ a. 0 < length a.places.items };
+}
+
+impl Remembered {
+    /// No cell is remembered. There are places for so many, but 16,384 at most.
+    pub fn new(alloc: Global, cells: usize) -> Result<Remembered, Memory>
+        ensures { IfOk result HasNone }
+    {
+        let mut places = Vec::new(alloc);
+        places.push(None)?;
+        for _place in 1..cells.min(MOST) {
+            places.push(None)?;
+        }
+        Ok(Remembered { places })
+    }
+
+    /// Tells whether a cell is remembered.
+    pub fn has(&self, cell: &Cell) -> bool
+        ensures { result ≡ true → Contains self.now (Some cell.now) }
+    {
+        match &self.places[place_of(cell, self.places.len())] {
+            Some(held) => held == cell,
+            None => false,
+        }
+    }
+
+    /// Remembers a cell.
+    pub fn put(&mut self, cell: &Cell)
+        ensures { (other : CellValue) → Contains self.new (Some other) → (other ≡ cell.now) ⊎ Contains self.old (Some other) }
+    {
+        let place = place_of(cell, self.places.len());
+        self.places[place] = Some(*cell);
+    }
+}
+
+// The place of a cell. Cells of one column with another residue have another place, where there are enough.
+fn place_of(cell: &Cell, places: usize) -> usize
+    requires { 0 < places }
+    ensures { result < places }
+{
+    let mut mixed: u64 = 0;
+    for i in 0..8 {
+        let number = cell.residues[7 - i].cast_unsigned();
+        mixed = mixed
+            .wrapping_mul(0x9E37_79B9_7F4A_7C15)
+            .wrapping_add(number)
+            .wrapping_add(u64::from(cell.texts[7 - i]));
+    }
+    (mixed % places as u64) as usize
+}
