@@ -14,7 +14,8 @@ use Rattle.lrp_model.specs.declared.formulas.Op.TheVariants.{Eq}
 use Rattle.lrp_model.specs.Tokens.{Token, Placed, Tokens, Part, Takes, Spells, from}
 use Rattle.lrp_model.specs.Tokens.Token.{name_token, word_token, number_token, text_token, symbol_token, end_token, bad_token, hole_token}
 use Rattle.lrp_model.specs.Tokens.Part.{at, any}
-use Rattle.lrp_model.specs.Lexing.{greatest_number, start}
+use Rattle.lrp_model.specs.Lexing.{start}
+use Rattle.lrp_model.specs.Limits.{greatest_number}
 use Rattle.lrp_model.specs.Databases.{sign}
 use Rattle.lrp_model.specs.Refused.{GoesThrough, Through, Stops}
 use Rattle.lrp_model.specs.Queries.{WrittenTerm, term_text}

@@ -14,7 +14,8 @@ use Rattle.lrp_model.specs.declared.written.Located.{Located}
 use Rattle.lrp_model.specs.Tokens.{Token, Placed, Tokens, Part, Takes, Spells, from, separated}
 use Rattle.lrp_model.specs.Tokens.Token.{number_token, symbol_token, word_token, name_token, text_token, end_token, bad_token, hole_token}
 use Rattle.lrp_model.specs.Tokens.Part.{any}
-use Rattle.lrp_model.specs.Lexing.{greatest_number, start, Scanned, scan, skip, after, headed, tokens_from, tokens}
+use Rattle.lrp_model.specs.Lexing.{start, Scanned, scan, skip, after, headed, tokens_from, tokens}
+use Rattle.lrp_model.specs.Limits.{greatest_number}
 use Rattle.lrp_model.specs.Columns.{column_text}
 use Rattle.lrp_model.specs.Databases.{sign, integer_text, comma}
 use Rattle.lrp_model.specs.DatabaseMeaning.{signed, column_of}

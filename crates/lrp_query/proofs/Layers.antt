@@ -14,7 +14,7 @@ use Rattle.lrp_model.specs.Tokens.Token.{name_token, word_token, number_token, s
 use Rattle.lrp_model.specs.Tokens.Part.{at, any}
 use Rattle.lrp_model.specs.declared.tokens.Fault.{Fault}
 use Rattle.lrp_model.specs.Refused.{Stops, TextOf}
-use Rattle.lrp_model.specs.Lexing.{greatest_number}
+use Rattle.lrp_model.specs.Limits.{greatest_number}
 use Rattle.lrp_model.specs.Columns.{column_text}
 use Rattle.lrp_model.specs.Databases.{integer_text, comma}
 use Rattle.lrp_model.specs.Queries.{WrittenTerm, term_text, op_symbol, FitsTerm}

@@ -11,7 +11,7 @@ use Rattle.lrp_model.specs.declared.tokens.Fault.{Fault}
 use Rattle.lrp_model.specs.declared.tokens.Fault.TheVariants.{Syntax, Number as TooLarge}
 use Rattle.lrp_model.specs.Tokens.{Token, Placed, Tokens}
 use Rattle.lrp_model.specs.Tokens.Token.{name_token, word_token, number_token, text_token, symbol_token, end_token, bad_token, hole_token}
-use Rattle.lrp_model.specs.Lexing.{greatest_number}
+use Rattle.lrp_model.specs.Limits.{greatest_number}
 use Rattle.lrp_text.specs.Parsers.{accept, look, Reads}
 use Rattle.lrp_text.specs.declared.lexemes.Lexeme.{Lexeme}
 use Rattle.lrp_text.specs.declared.lexemes.Lexeme.TheVariants.{Name, Word, Number, LargeNumber, Text, LongText, Symbol, End, Bad}

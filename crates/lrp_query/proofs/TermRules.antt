@@ -9,7 +9,7 @@ use Rattle.lrp_model.specs.declared.written.Integer.{Integer}
 use Rattle.lrp_model.specs.Tokens.{Placed, Tokens, Part, IsPart, Takes, Spells, located_text}
 use Rattle.lrp_model.specs.Tokens.Token.{name_token, number_token, text_token, symbol_token}
 use Rattle.lrp_model.specs.Tokens.Part.{at, any}
-use Rattle.lrp_model.specs.Lexing.{greatest_number}
+use Rattle.lrp_model.specs.Limits.{greatest_number}
 use Rattle.lrp_model.specs.Refused.{Stops, TextOf, Fitting}
 use Rattle.lrp_model.specs.Databases.{integer_text, shift}
 use Rattle.lrp_model.specs.Queries.{WrittenTerm, term_text, FitsTerm}

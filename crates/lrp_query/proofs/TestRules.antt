@@ -16,7 +16,8 @@ use Rattle.lrp_model.specs.declared.written.Integer.{Integer}
 use Rattle.lrp_model.specs.Tokens.{Token, Placed, Tokens, Part, IsPart, Takes, Spells, separated}
 use Rattle.lrp_model.specs.Tokens.Token.{name_token, word_token, number_token, text_token, symbol_token}
 use Rattle.lrp_model.specs.Tokens.Part.{at, any}
-use Rattle.lrp_model.specs.Lexing.{greatest_number, start}
+use Rattle.lrp_model.specs.Lexing.{start}
+use Rattle.lrp_model.specs.Limits.{greatest_number}
 use Rattle.lrp_model.specs.Refused.{Stops, TextOf, Fitting}
 use Rattle.lrp_model.specs.Databases.{sign, integer_text, shift, comma}
 use Rattle.lrp_model.specs.Queries.{WrittenTerm, term_text, op_symbol, FitsTerm}

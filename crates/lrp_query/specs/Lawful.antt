@@ -1,7 +1,7 @@
 -- What holds of each query that is read: numbers within the limit, formulas that are not too deep, and bounds on how many there are.
 use Rattle.std.specs.Prelude.{◌<◌, ◌+◌, ◌≤ℤ◌, ℕ, ℤ, pos, neg_ℤ, Bool, true, false, List, [], ◌∷◌, map, count_by}
 use Rattle.std.specs.List.{AllByRecursion}
-use Rattle.lrp_model.specs.Lexing.{greatest_number}
+use Rattle.lrp_model.specs.Limits.{greatest_number, most_bytes}
 use Rattle.lrp_model.specs.Names.{AreNamed}
 use Rattle.lrp_model.specs.DatabaseMeaning.{column_of}
 use Rattle.lrp_model.specs.Queries.{Deeper}
@@ -118,4 +118,4 @@ pub record IsLawful (q : RawQuestion) : Type 0 where
   pub sizes : FitsRaw q.body
   pub depth : IsShallow q.body 64
   pub formulas : formulas_in q.body < 67108864
-  pub texts : formula_texts q.body < 16777216
+  pub texts : formula_texts q.body < most_bytes

@@ -6,6 +6,7 @@ ghost use Rattle.lrp_model.specs.QueryReading.{IsQuery, IsQueryFault};
 ghost use Rattle.lrp_query.specs.Lawful.{IsLawful};
 ghost use Rattle.lrp_query.specs.Rules.{meant, query};
 ghost use Rattle.lrp_query.specs.Reading.{ReadsQuery, left_behind, refusal_of, IsUnread, IsQueryOrMemory, IsFaultOrMemory};
+ghost use Rattle.lrp_model.specs.Limits.{most_bytes};
 
 use crate::formulas::read_formula;
 use lrp_model::{Fault, Place, QueryFault, QueryKind, QueryRead, RawQuery, Symbol};
@@ -49,7 +50,7 @@ fn read_tokens(alloc: Global, tokens: &mut Cursor<'_>) -> Result<RawQuery, Fault
 
 // The query of a text.
 fn read_text(alloc: Global, text: &str) -> Result<RawQuery, QueryRead>
-    requires { length text.now ≤ 16777216 }
+    requires { length text.now ≤ most_bytes }
     ensures query { IfOk result (λ q. IsQuery text.now (raw_question_of q)) }
     ensures refused { IfErr result (IsUnread text.now) }
 {
@@ -62,7 +63,7 @@ fn read_text(alloc: Global, text: &str) -> Result<RawQuery, QueryRead>
 
 // The query of bytes, where they are UTF-8 and a text of the grammar.
 fn read_bytes(alloc: Global, bytes: &[u8]) -> Result<RawQuery, QueryRead>
-    requires { length bytes.now ≤ 16777216 }
+    requires { length bytes.now ≤ most_bytes }
     ensures query { IfOk result (λ q. IsQuery bytes.now (raw_question_of q)) }
     ensures refused { IfErr result (IsUnread bytes.now) }
 {
@@ -83,7 +84,7 @@ fn read_bytes(alloc: Global, bytes: &[u8]) -> Result<RawQuery, QueryRead>
 /// The query of a text of at most 16,777,216 bytes, with the place of each name, term and formula.
 /// Its faults are those of the bytes and of the grammar: `Utf8`, `Syntax`, `Number`, `Period`, `Deep` and `TextTooLong`.
 pub fn read_query(alloc: Global, bytes: &[u8]) -> Result<RawQuery, QueryRead>
-    requires { length bytes.now ≤ 16777216 }
+    requires { length bytes.now ≤ most_bytes }
     ensures query { IfOk result (λ q. IsQuery bytes.now (raw_question_of q)) }
     ensures refused { IfErr result (IsUnread bytes.now) }
 

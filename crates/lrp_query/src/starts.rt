@@ -8,7 +8,7 @@ use lrp_model::{Fault, Symbol, Word};
 use lrp_text::{Cursor, Lexeme};
 
 /// By what a formula begins: a reserved word, a parenthesis, a name, or another term.
-#[derive(Clone, Copy, Debug, PartialEq, Eq)]
+#[derive(Clone, Copy, PartialEq, Eq)]
 pub enum Start {
     Not,
     Exists,

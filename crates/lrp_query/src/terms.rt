@@ -1,6 +1,6 @@
 // Terms, and formulas with no others inside, read from their tokens.
-ghost use Rattle.std.specs.Prelude.{◌≡◌, ◌≤◌, ◌<◌, ℕ, [], length, IfOk};
-ghost use Rattle.lrp_model.specs.Lexing.{greatest_number};
+ghost use Rattle.std.specs.Prelude.{◌≡◌, ◌≤◌, ◌<◌, ℕ, [], ◌∷◌, length, IfOk};
+ghost use Rattle.lrp_model.specs.Limits.{greatest_number};
 ghost use Rattle.lrp_model.specs.DatabaseMeaning.{signed as signed_number};
 ghost use Rattle.lrp_text.specs.Parsers.{Reads, accept, separated_from, listed};
 ghost use Rattle.lrp_text.specs.Taking.{is_symbol};
@@ -166,19 +166,25 @@ fn exact(terms: List<RawTerm>) -> List<RawTerm>
     List::from_vec(items)
 }
 
-// No terms yet, with room for two.
-fn no_terms(alloc: Global) -> Result<List<RawTerm>, Memory>
-    ensures { IfOk result (λ made. made ≡ []) }
+// One term, with room for so many.
+fn terms_from(alloc: Global, first: RawTerm, room: usize) -> Result<List<RawTerm>, Memory>
+    ensures { IfOk result (λ made. made ≡ first ∷ []) }
 {
-    Ok(List::from_vec(Vec::with_capacity(alloc, 2)?))
+    let mut found = List::from_vec(Vec::with_capacity(alloc, room)?);
+    found.push(first)?;
+    Ok(found)
 }
 
-// One term or more, with commas between.
-fn read_some_terms(alloc: Global, tokens: &mut Cursor<'_>) -> Result<List<RawTerm>, Fault>
-    ensures value { (n : ℕ) → length tokens.old < n → Reads (separated_from (term meant.terms) (is_symbol Symbol.Comma) n [] tokens.old) result tokens.new }
+// The terms behind a comma, and the first one before these.
+fn read_more_terms(
+    alloc: Global,
+    tokens: &mut Cursor<'_>,
+    first: RawTerm,
+) -> Result<List<RawTerm>, Fault>
+    ensures value { (n : ℕ) → length tokens.old < n → Reads (separated_from (term meant.terms) (is_symbol Symbol.Comma) n (first ∷ []) tokens.old) result tokens.new }
     ensures shorter { IfOk result (λ _. length tokens.new ≤ length tokens.old) }
 {
-    let mut found = no_terms(alloc)?;
+    let mut found = terms_from(alloc, first, 2)?;
     loop {
         let term = read_term(alloc, tokens)?;
         found.push(term)?;
@@ -186,6 +192,18 @@ fn read_some_terms(alloc: Global, tokens: &mut Cursor<'_>) -> Result<List<RawTer
             return Ok(exact(found));
         }
     }
+}
+
+// One term or more, with commas between. A term alone takes room for one: to give room back costs more than the atom.
+fn read_some_terms(alloc: Global, tokens: &mut Cursor<'_>) -> Result<List<RawTerm>, Fault>
+    ensures value { (n : ℕ) → length tokens.old < n → Reads (separated_from (term meant.terms) (is_symbol Symbol.Comma) n [] tokens.old) result tokens.new }
+    ensures shorter { IfOk result (λ _. length tokens.new ≤ length tokens.old) }
+{
+    let first = read_term(alloc, tokens)?;
+    if tokens.eat(Symbol::Comma) {
+        return read_more_terms(alloc, tokens, first);
+    }
+    Ok(terms_from(alloc, first, 1)?)
 }
 
 // The terms of an atom, up to the parenthesis that ends them.

@@ -5,7 +5,8 @@ use Rattle.lrp_model.specs.declared.tokens.Symbol.TheVariants.{Open, Close, Comm
 use Rattle.lrp_model.specs.declared.tokens.Place.{Place}
 use Rattle.lrp_model.specs.declared.tokens.Fault.{Fault}
 use Rattle.lrp_model.specs.declared.written.Integer.{Integer}
-use Rattle.lrp_model.specs.Lexing.{greatest_number, start}
+use Rattle.lrp_model.specs.Lexing.{start}
+use Rattle.lrp_model.specs.Limits.{greatest_number}
 use Rattle.lrp_model.specs.Tokens.{Token, Tokens, Part, Takes, Spells}
 use Rattle.lrp_model.specs.Tokens.Token.{name_token, number_token, symbol_token}
 use Rattle.lrp_model.specs.Tokens.Part.{at, any}

@@ -8,7 +8,7 @@ use Rattle.lrp_model.specs.declared.tokens.Word.{Word}
 use Rattle.lrp_model.specs.declared.tokens.Word.TheVariants.{And, Or}
 use Rattle.lrp_model.specs.declared.tokens.Place.{Place}
 use Rattle.lrp_model.specs.declared.written.Integer.{Integer}
-use Rattle.lrp_model.specs.Lexing.{greatest_number}
+use Rattle.lrp_model.specs.Limits.{greatest_number}
 use Rattle.lrp_model.specs.Tokens.{Part, separated}
 use Rattle.lrp_model.specs.Tokens.Token.{name_token, word_token, symbol_token}
 use Rattle.lrp_model.specs.Tokens.Part.{at, any}

@@ -1,10 +1,12 @@
+-- What the contract of `run` reaches.
 pub mod Trees
 pub mod Meaning
 pub mod Expanding
 pub mod Laws
-pub mod Lawful
 pub mod TenseQueries
 pub mod TenseReading
+-- What contracts of single functions need beside.
+pub mod Lawful
 pub mod Rules
 pub mod Parts
 pub mod Reading

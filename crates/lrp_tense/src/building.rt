@@ -11,7 +11,7 @@ use lrp_model::{Memory, Name, Place, RawColumn, RawFormula, RawKind};
 use std::alloc::Global;
 
 /// Where an operator begins, and its variable with the place of its name.
-#[derive(Debug, Drop)]
+#[derive(Drop)]
 pub struct Opening {
     pub place: Place,
     pub name: Name,
@@ -23,7 +23,7 @@ pub fn plain(alone: RawFormula) -> TenseFormula
     requires { IsAlone alone.kind }
     ensures { tense_form_of result ≡ tense_of (raw_form_of alone) }
 {
-    let RawFormula { kind, place } = alone;
+    let (kind, place) = alone.into_parts();
     let kind = match kind {
         RawKind::Atom { relation, terms } => TenseKind::Atom { relation, terms },
         RawKind::Compare { left, op, right } => TenseKind::Compare { left, op, right },

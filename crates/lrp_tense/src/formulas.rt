@@ -1,6 +1,6 @@
 // Formulas with operators, read from their tokens.
 ghost use Rattle.std.specs.Prelude.{◌≡◌, ◌<◌, ◌≤◌, ℕ, [], ◌∷◌, map, length, IfOk};
-ghost use Rattle.lrp_model.specs.Lexing.{greatest_number};
+ghost use Rattle.lrp_model.specs.Limits.{greatest_number};
 ghost use Rattle.lrp_model.specs.DatabaseMeaning.{integer_of, signed as signed_number};
 ghost use Rattle.lrp_text.specs.Parsers.{Reads, separated_from};
 ghost use Rattle.lrp_text.specs.Taking.{is_word};

@@ -8,6 +8,7 @@ ghost use Rattle.lrp_tense.specs.Lawful.{IsLawfulExpansion};
 ghost use Rattle.lrp_tense.specs.Rules.{tense_query};
 ghost use Rattle.lrp_tense.specs.TenseReading.{IsTenseQuery, IsTenseQueryFault};
 ghost use Rattle.lrp_tense.specs.Reading.{ReadsTenseQuery, IsTenseUnread, IsTenseOrMemory};
+ghost use Rattle.lrp_model.specs.Limits.{most_bytes};
 
 use crate::TenseQuery;
 use crate::formulas::read_formula;
@@ -36,7 +37,7 @@ fn read_tokens(alloc: Global, tokens: &mut Cursor<'_>) -> Result<TenseQuery, Fau
 
 // The query of a text.
 fn read_text(alloc: Global, text: &str) -> Result<TenseQuery, QueryRead>
-    requires { length text.now ≤ 16777216 }
+    requires { length text.now ≤ most_bytes }
     ensures query { IfOk result (λ q. IsTenseQuery text.now (tense_question_of q)) }
     ensures refused { IfErr result (IsTenseUnread text.now) }
 {
@@ -49,7 +50,7 @@ fn read_text(alloc: Global, text: &str) -> Result<TenseQuery, QueryRead>
 
 // The query of bytes, where they are UTF-8 and a text of the grammar.
 fn read_bytes(alloc: Global, bytes: &[u8]) -> Result<TenseQuery, QueryRead>
-    requires { length bytes.now ≤ 16777216 }
+    requires { length bytes.now ≤ most_bytes }
     ensures query { IfOk result (λ q. IsTenseQuery bytes.now (tense_question_of q)) }
     ensures refused { IfErr result (IsTenseUnread bytes.now) }
 {
@@ -70,7 +71,7 @@ fn read_bytes(alloc: Global, bytes: &[u8]) -> Result<TenseQuery, QueryRead>
 /// The query of a text of at most 16,777,216 bytes, in the grammar of queries with temporal operators.
 /// Its faults are those of the bytes and of the grammar: `Utf8`, `Syntax`, `Number`, `Period`, `Deep` and `TextTooLong`.
 pub fn read_tense(alloc: Global, bytes: &[u8]) -> Result<TenseQuery, QueryRead>
-    requires { length bytes.now ≤ 16777216 }
+    requires { length bytes.now ≤ most_bytes }
     ensures query { IfOk result (λ q. IsTenseQuery bytes.now (tense_question_of q)) }
     ensures refused { IfErr result (IsTenseUnread bytes.now) }
 

@@ -15,7 +15,7 @@ use std::marker::Model;
 use std::str::from_utf8;
 
 /// The names that an operator over two formulas brings: of its moment, and of each moment between.
-#[derive(Debug, Drop)]
+#[derive(Drop)]
 pub struct Moments {
     pub own: Name,
     pub between: Name,
@@ -23,12 +23,22 @@ pub struct Moments {
 
 /// The positions of all operators in order, and the variables around a formula, the innermost last.
 /// Beside them how many operators the walk has come by, and room for the text of a name.
-#[derive(Drop)]
 pub struct Scope<'a> {
     positions: Vec<u64>,
     variables: Vec<Variable<'a>>,
     passed: usize,
     text: String,
+}
+
+impl<'a> Drop for Scope<'a> {
+    fn drop(self) {
+        let Scope {
+            positions: _positions,
+            variables: _variables,
+            passed: _passed,
+            text: _text,
+        } = self;
+    }
 }
 
 impl<'a> Model for Scope<'a> {

@@ -6,7 +6,7 @@ use lrp_model::{List, Name, Op, Place, RawColumn, RawTerm, RowPoint};
 /// The interval of `Once` and `Always` goes from the variable's value plus `from` to that value plus `to`.
 /// In `Since` and `Until`, `left` holds in between and `right` at the far end.
 #[cycle(tense)]
-#[derive(Debug, Drop)]
+#[derive(Drop)]
 pub enum TenseKind {
     Atom {
         relation: Name,
@@ -75,15 +75,32 @@ pub enum TenseKind {
 
 /// A formula, with the place of its first token.
 #[cycle(tense)]
-#[derive(Debug, Drop)]
 pub struct TenseFormula {
     pub kind: TenseKind,
     pub place: Place,
 }
 
+// A derived drop would be proved anew, kind by kind, wherever a formula is let go.
+impl Drop for TenseFormula {
+    fn drop(self) {
+        let TenseFormula {
+            kind: _kind,
+            place: _place,
+        } = self;
+    }
+}
+
 /// A query: the columns of its head, and its body.
-#[derive(Debug, Drop)]
 pub struct TenseQuery {
     pub head: List<RawColumn>,
     pub body: TenseFormula,
+}
+
+impl Drop for TenseQuery {
+    fn drop(self) {
+        let TenseQuery {
+            head: _head,
+            body: _body,
+        } = self;
+    }
 }

@@ -8,7 +8,7 @@ use lrp_model::Name;
 use std::marker::Model;
 
 /// How a name looks: its length and its last byte. Most names are told apart by it.
-#[derive(Clone, Copy, Debug)]
+#[derive(Clone, Copy)]
 pub struct Look {
     size: usize,
     last: u8,

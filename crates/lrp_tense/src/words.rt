@@ -5,21 +5,21 @@ ghost use Rattle.lrp_tense.specs.Rules.{word_of as word_rule};
 use lrp_model::Name;
 
 /// The operators with an interval.
-#[derive(Clone, Copy, Debug, PartialEq, Eq)]
+#[derive(Clone, Copy, PartialEq, Eq)]
 pub enum Ranged {
     Once,
     Always,
 }
 
 /// The operators over two formulas.
-#[derive(Clone, Copy, Debug, PartialEq, Eq)]
+#[derive(Clone, Copy, PartialEq, Eq)]
 pub enum Paired {
     Since,
     Until,
 }
 
 /// An operator by its first word.
-#[derive(Clone, Copy, Debug, PartialEq, Eq)]
+#[derive(Clone, Copy, PartialEq, Eq)]
 pub enum Leading {
     OfRange(Ranged),
     OfPair(Paired),

@@ -20,14 +20,14 @@ pub struct Places {
 }
 
 /// A formula, expanded, and the name of the variable that it stands inside.
-#[derive(Debug, Drop)]
+#[derive(Drop)]
 pub struct Inside {
     pub name: Name,
     pub of: Box<RawFormula>,
 }
 
 // A name compared with another one.
-#[derive(Debug, Drop)]
+#[derive(Drop)]
 struct Sides {
     left: Name,
     op: Op,
