@@ -6,7 +6,7 @@ ghost use Rattle.lrp_core.specs.Cores.{core_of, cores_of};
 
 use crate::Core;
 use crate::comparisons::{negated, negative_test, positive_test};
-use crate::junctions::{both, either, push_conjunct, push_disjunct};
+use crate::junctions::{both, either};
 use lrp_model::{Column, Formula, List, Memory, Name, Query, Sort, Term};
 use std::alloc::Global;
 
@@ -27,7 +27,7 @@ fn guarded<'a>(alloc: Global, columns: &'a [Column], body: Core<'a>) -> Result<C
     ensures { IfOk result (λ core. core_of core ≡ and_list (joined (elements_of columns.now) (form (core_of body.entry) no_forms))) }
 {
     let mut of = head_elements(alloc, columns)?;
-    push_conjunct(&mut of, body)?;
+    body.push_conjunct(&mut of)?;
     Ok(Core::And { of })
 }
 
@@ -199,7 +199,7 @@ fn push_positive<'a>(
         Formula::Not { of } => push_negative(alloc, of, named, all),
         f => {
             let core = positive(alloc, f, named)?;
-            push_conjunct(all, core)
+            core.push_conjunct(all)
         }
     }
 }
@@ -244,7 +244,7 @@ fn push_choice<'a>(
         Formula::Or { of } => push_some_positive(alloc, of, named, all),
         f => {
             let core = positive(alloc, f, named)?;
-            push_disjunct(all, core)
+            core.push_disjunct(all)
         }
     }
 }
@@ -290,7 +290,7 @@ fn push_negative<'a>(
         Formula::Not { of } => push_positive(alloc, of, named, all),
         f => {
             let core = negative(alloc, f, named)?;
-            push_conjunct(all, core)
+            core.push_conjunct(all)
         }
     }
 }

@@ -6,17 +6,26 @@ ghost use Rattle.lrp_model.specs.Formulas.{conjunction};
 ghost use Rattle.lrp_core.specs.FreeVariables.{variable_of, others, each_once};
 ghost use Rattle.lrp_core.specs.VariableTrees.{Trees, tree, no_trees, tree_of, free_tree};
 
-use crate::variables::{add_others, add_variables};
+use crate::variables::{add_others, add_variables, few};
 use crate::{Core, Variable, free_variables};
 use lrp_model::{List, Memory, Name, Sort};
 use std::alloc::Global;
 
 /// The variables that occur free in a formula, each once; and, in order, the trees of the elements of the `and` or the `or`
 /// that it is, or that stands in it behind `not`s and quantifiers alone.
-#[derive(Debug, Drop)]
 pub struct VariableTree {
     pub variables: List<Variable>,
     pub inner: Vec<VariableTree>,
+}
+
+// It is let go by one call, which is proved once.
+impl Drop for VariableTree {
+    fn drop(self) {
+        let VariableTree {
+            variables: _variables,
+            inner: _inner,
+        } = self;
+    }
 }
 
 /// The tree of a core form. Each part of it is looked at once.
@@ -33,7 +42,7 @@ pub fn variable_tree(alloc: Global, core: &Core<'_>) -> Result<VariableTree, Mem
         Core::Or { of } => tree_of_all(alloc, of),
         Core::Exists { name, sort, of } => {
             let inner = variable_tree(alloc, of)?;
-            without(alloc, inner, sort, name)
+            inner.without(alloc, sort, name)
         }
     }
 }
@@ -43,7 +52,7 @@ pub fn variable_tree(alloc: Global, core: &Core<'_>) -> Result<VariableTree, Mem
 fn tree_of_all(alloc: Global, of: &[Core<'_>]) -> Result<VariableTree, Memory>
     ensures { IfOk result (λ made. tree_of made ≡ free_tree (conjunction (cores_of of.now))) }
 {
-    let mut variables = List::new(alloc);
+    let mut variables = few(alloc)?;
     let mut inner = Vec::with_capacity(alloc, of.len())?;
     for core in of {
         let part = variable_tree(alloc, core)?;
@@ -64,20 +73,17 @@ fn leaf(alloc: Global, core: &Core<'_>) -> Result<VariableTree, Memory>
     })
 }
 
-// The tree of a formula under a quantifier of this sort and name.
-fn without(
-    alloc: Global,
-    of: VariableTree,
-    sort: &Sort,
-    name: &Name,
-) -> Result<VariableTree, Memory>
-    ensures { IfOk result (λ made. (vs : ListOf VariableOf) (inner : Trees) → tree_of of ≡ tree vs inner → tree_of made ≡ tree (each_once (others (bound_by sort.now name.now) vs)) inner) }
-{
-    let VariableTree {
-        variables: all,
-        inner,
-    } = of;
-    let mut variables = List::new(alloc);
-    add_others(&mut variables, all, sort, name)?;
-    Ok(VariableTree { variables, inner })
+impl VariableTree {
+    // The tree of a formula under a quantifier of this sort and name.
+    fn without(self, alloc: Global, sort: &Sort, name: &Name) -> Result<VariableTree, Memory>
+        ensures { IfOk result (λ made. (vs : ListOf VariableOf) (inner : Trees) → tree_of self ≡ tree vs inner → tree_of made ≡ tree (each_once (others (bound_by sort.now name.now) vs)) inner) }
+    {
+        let VariableTree {
+            variables: all,
+            inner,
+        } = self;
+        let mut variables = List::from_vec(Vec::with_capacity(alloc, all.len())?);
+        add_others(&mut variables, all, sort, name)?;
+        Ok(VariableTree { variables, inner })
+    }
 }

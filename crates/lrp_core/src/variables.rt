@@ -10,7 +10,7 @@ use lrp_model::{Copies, DataTerm, List, Memory, Name, Sort, Term, TimeTerm};
 use std::alloc::Global;
 
 /// A variable for integers, or one for data texts. Two variables are one where their kinds and their names are.
-#[derive(Debug, PartialEq, Eq, Hash, Drop)]
+#[derive(PartialEq, Eq, Hash, Drop)]
 pub enum Variable {
     Time { name: Name },
     Data { name: Name },
@@ -34,9 +34,16 @@ pub fn free_variables(alloc: Global, core: &Core<'_>) -> Result<List<Variable>, 
     ensures value { IfOk result (λ made. map variable_of made ≡ each_once (free (core_of core.now))) }
     ensures members { IfOk result (λ made. (v : VariableOf) → is_member (map variable_of made) v ≡ is_member (free (core_of core.now)) v) }
 {
-    let mut all = List::from_vec(Vec::with_capacity(alloc, 1)?);
+    let mut all = few(alloc)?;
     add_free(alloc, &mut all, core)?;
     Ok(all)
+}
+
+// An empty list with room for two: few formulas have more variables, and of those that stand in long ones each takes its room.
+pub(crate) fn few(alloc: Global) -> Result<List<Variable>, Memory>
+    ensures { IfOk result (λ made. made ≡ []) }
+{
+    Ok(List::from_vec(Vec::with_capacity(alloc, 2)?))
 }
 
 impl Variable {

@@ -166,18 +166,31 @@ timed_gathers (Ok x) db s t old new e u n h = subst (λ z. Gathers db z t old ne
   where
     others : (k : Sort) → same_sort Time k ≡ false → gathered new k ≡ gathered old k
     others Time f = cc
-    others Data f = ap Some u
+    others Data f = u
     others (Named m) f = ap (λ named. get bytes_eq named m) n
 
-pub unnamed_gathers : {T E : Type 0} (r : Result T E) (db : List (Sort × Text)) (s : Sort) (t : Text) (old new : Domains) → s ≡ Data → new.timed ≡ old.timed → new.named ≡ old.named
-    → OnOk r (TakesIn t (keys old.unnamed) (keys new.unnamed)) → OnOk r (Gathers db s t old new)
-unnamed_gathers (Err x) db s t old new e u n h = tt
-unnamed_gathers (Ok x) db s t old new e u n h = subst (λ z. Gathers db z t old new) (sym e) (gathers db Data t old new (λ before are. same_sorted db before Data Data t old.unnamed new.unnamed refl are h) others)
+-- a set of the sort `data`, and what the other sorts had
+unnamed_by : (db : List (Sort × Text)) (t : Text) (old new : Domains) (set : BTreeSet Text) → new.timed ≡ old.timed → new.named ≡ old.named → new.unnamed ≡ Some set
+    → ((before : List (Sort × Text)) → IsTextSet db before Data old.unnamed → IsTextSet db (before ++ (Data, t) ∷ []) Data (Some set)) → Gathers db Data t old new
+unnamed_by db t old new set u n e own = gathers db Data t old new (λ before are. subst (IsTextSet db (before ++ (Data, t) ∷ []) Data) (sym e) (own before are)) others
   where
     others : (k : Sort) → same_sort Data k ≡ false → gathered new k ≡ gathered old k
     others Time f = ap Some u
     others Data f = cc
     others (Named m) f = ap (λ named. get bytes_eq named m) n
+
+pub unnamed_gathers : {T E : Type 0} (r : Result T E) (db : List (Sort × Text)) (t : Text) (old new : Domains) (had set : BTreeSet Text) → new.timed ≡ old.timed → new.named ≡ old.named → old.unnamed ≡ Some had → new.unnamed ≡ Some set
+    → OnOk r (TakesIn t (keys had) (keys set)) → OnOk r (Gathers db Data t old new)
+unnamed_gathers (Err x) db t old new had set u n o e h = tt
+unnamed_gathers (Ok x) db t old new had set u n o e h = unnamed_by db t old new set u n e (λ before are. same_sorted db before Data Data t had set refl (subst (IsTextSet db before Data) o are) h)
+
+pub first_unnamed : (db : List (Sort × Text)) (t : Text) (old new : Domains) (had set : BTreeSet Text) → new.timed ≡ old.timed → new.named ≡ old.named → old.unnamed ≡ None → new.unnamed ≡ Some set
+    → keys had ≡ in_order (once (texts_with Data db)) → TakesIn t (keys had) (keys set) → Gathers db Data t old new
+first_unnamed db t old new had set u n o e k h = unnamed_by db t old new set u n e (λ before are. first_sorted db before Data Data t had set refl (subst (IsTextSet db before Data) o are) k h)
+
+-- a result of the sort `data`, at a sort that is this one
+pub data_gathers : {T E : Type 0} (r : Result T E) (db : List (Sort × Text)) (s : Sort) (t : Text) (old new : Domains) → s ≡ Data → OnOk r (Gathers db Data t old new) → OnOk r (Gathers db s t old new)
+data_gathers r db s t old new e h = subst (λ z. OnOk r (Gathers db z t old new)) (sym e) h
 
 -- the map has this set at the name, and else what it had
 named_by : (db : List (Sort × Text)) (name : Identifier) (t : Text) (old new : Domains) (set : BTreeSet Text) → new.timed ≡ old.timed → new.unnamed ≡ old.unnamed
@@ -188,7 +201,7 @@ named_by db name t old new set a u put own =
   where
     others : (k : Sort) → same_sort (Named name) k ≡ false → gathered new k ≡ gathered old k
     others Time f = ap Some a
-    others Data f = ap Some u
+    others Data f = u
     others (Named m) f = put m ∙ ap (λ b. cond b (Some set) (get bytes_eq old.named m)) f
 
 pub named_gathers : {T E : Type 0} (r : Result T E) (db : List (Sort × Text)) (s : Sort) (name : Identifier) (t : Text) (old new : Domains) (had set : BTreeSet Text) → s ≡ Named name → get bytes_eq old.named name ≡ Some had → new.timed ≡ old.timed → new.unnamed ≡ old.unnamed
@@ -238,7 +251,7 @@ pub copied_all : (out left all : List Text) → out ++ left ≡ all → left ≡
 copied_all out left all h l = sym (end_none out) ∙ ap (λ ys. out ++ ys) (sym l) ∙ h
 
 -- no text of a query yet
-pub begins_all : (db : List (Sort × Text)) (domains : Domains) → keys domains.timed ≡ in_order (once (texts_with Time db)) → keys domains.unnamed ≡ in_order (once (texts_with Data db)) → ((m : Identifier) → get bytes_eq domains.named m ≡ None) → AreDomains db [] domains
+pub begins_all : (db : List (Sort × Text)) (domains : Domains) → keys domains.timed ≡ in_order (once (texts_with Time db)) → domains.unnamed ≡ None → ((m : Identifier) → get bytes_eq domains.named m ≡ None) → AreDomains db [] domains
 begins_all db domains a u n Time = begins db Time (keys domains.timed) a
-begins_all db domains a u n Data = begins db Data (keys domains.unnamed) u
+begins_all db domains a u n Data = subst (IsTextSet db [] Data) (sym u) refl
 begins_all db domains a u n (Named m) = subst (IsTextSet db [] (Named m)) (sym (n m)) refl

@@ -26,10 +26,10 @@ use Rattle.lrp_plan.specs.declared.sources.Sources.{Sources}
 use Rattle.lrp_plan.specs.declared.taking.Taking.{Taking}
 use Rattle.lrp_limits.specs.Multiples.{IsCommon}
 use Rattle.lrp_limits.specs.Facts.{AreFacts}
-use Rattle.lrp_plan.specs.Drafts.{IsDraft, Extends, AreTests}
+use Rattle.lrp_plan.specs.Drafts.{Extends, AreTests}
 use Rattle.lrp_plan.specs.Taking.{IsSoFar}
 use Rattle.lrp_core.specs.declared.variable_trees.VariableTree.{VariableTree}
-use Rattle.lrp_plan.specs.Elements.{AreInner, CanPlan, EachCanPlan, IsElement, IsDenied, IsAt, IsSplitOf, TakesTests, TakesEach, DeniesEach}
+use Rattle.lrp_plan.specs.Elements.{AreInner, CanPlan, MakesSteps, EachCanPlan, IsElement, IsDenied, IsAt, IsSplitOf, TakesTests, TakesEach, DeniesEach}
 use Rattle.lrp_plan.specs.Sources.{AreSources}
 use Rattle.lrp_limits.proofs.Keeping.{common_both}
 use Rattle.lrp_plan.proofs.Turns.{zip_length}
@@ -39,25 +39,38 @@ use Rattle.lrp_plan.proofs.Unions.{SomeSoFar}
 abbrev pub Planned : {T E : Type 0} → Result T E → Sources → List VariableTree → Form → Draft → Draft → Type 0
 Planned r sources trees f old new = OnOk r ((M : Structure) (K : ℕ) → AreSources M sources → AreInner trees f → CanPlan M K f → Extends M K (plan_of f) old new)
 
-pub atom_planned : {T E : Type 0} (r : Result T E) (sources : Sources) (trees : List VariableTree) (f : Form) (name own : Identifier) (terms copies : List Term) (facts : Facts) (old new : Draft) → f ≡ atom name terms → own ≡ name → copies ≡ terms → ((M : Structure) → AreSources M sources → AreFacts (rows_of M.relations name) facts)
-    → OnOk r ((M : Structure) (K : ℕ) → AreFacts (rows_of M.relations own) facts → IsCommon (periods (atom own copies) M.relations) K → Extends M K (scan_of own copies) old new) → Planned r sources trees f old new
-atom_planned (Ok x) sources trees f name own terms copies facts old new e g k facts_are h = λ M K s known c.
-    let i : atom own copies ≡ f = ap (λ n. atom n copies) g ∙ ap (atom name) k ∙ sym e in
+pub atom_made : {T E : Type 0} (r : Result T E) (sources : Sources) (name own : Identifier) (terms copies : List Term) (facts : Facts) (old new : Draft) → own ≡ name → copies ≡ terms → ((M : Structure) → AreSources M sources → AreFacts (rows_of M.relations name) facts)
+    → OnOk r ((M : Structure) (K : ℕ) → AreFacts (rows_of M.relations own) facts → IsCommon (periods (atom own copies) M.relations) K → Extends M K (scan_of own copies) old new) → OnOk r ((M : Structure) (K : ℕ) → AreSources M sources → MakesSteps M K (atom name terms) old new)
+atom_made (Ok x) sources name own terms copies facts old new g k facts_are h = λ M K s c.
+    let i : atom own copies ≡ atom name terms = ap (λ n. atom n copies) g ∙ ap (atom name) k in
     subst (λ y. Extends M K (plan_of y) old new) i (h M K (subst (λ n. AreFacts (rows_of M.relations n) facts) (sym g) (facts_are M s)) (subst (λ y. IsCommon (periods y M.relations) K) (sym i) c.divides))
-atom_planned (Err x) sources trees f name own terms copies facts old new e g k facts_are h = tt
+atom_made (Err x) sources name own terms copies facts old new g k facts_are h = tt
 
-pub check_planned : {T E : Type 0} (r : Result T E) (sources : Sources) (trees : List VariableTree) (f : Form) (t own : Test) (old new : Draft) → f ≡ test t → own ≡ t → OnOk r ((M : Structure) (K : ℕ) → IsCommon (test_periods own) K → Extends M K (leaf own) old new) → Planned r sources trees f old new
-check_planned (Ok x) sources trees f t own old new e g h = λ M K s known c.
-    let i : test own ≡ f = ap test g ∙ sym e in
+pub test_made : {T E : Type 0} (r : Result T E) (t own : Test) (old new : Draft) → own ≡ t → OnOk r ((M : Structure) (K : ℕ) → IsCommon (test_periods own) K → Extends M K (leaf own) old new) → OnOk r ((M : Structure) (K : ℕ) → MakesSteps M K (test t) old new)
+test_made (Ok x) t own old new g h = λ M K c.
+    let i : test own ≡ test t = ap test g in
     subst (λ y. Extends M K (plan_of y) old new) i (h M K (subst (λ y. IsCommon (periods y M.relations) K) (sym i) c.divides))
-check_planned (Err x) sources trees f t own old new e g h = tt
+test_made (Err x) t own old new g h = tt
 
-pub sorted_planned : {T E : Type 0} (r : Result T E) (sources : Sources) (trees : List VariableTree) (f : Form) (v own : Identifier) (s like : Sort) (texts : List Text) (old new : Draft) → f ≡ sorted s v → own ≡ v → like ≡ s → ((M : Structure) → AreSources M sources → texts ≡ M.domain s)
-    → OnOk r ((M : Structure) (K : ℕ) → texts ≡ M.domain like → Extends M K (sort_texts like own) old new) → Planned r sources trees f old new
-sorted_planned (Ok x) sources trees f v own s like texts old new e g k are h = λ M K src known c.
-    let i : sorted like own ≡ f = ap (λ z. sorted z own) k ∙ ap (sorted s) g ∙ sym e in
+pub sorted_made : {T E : Type 0} (r : Result T E) (sources : Sources) (v own : Identifier) (s like : Sort) (texts : List Text) (old new : Draft) → own ≡ v → like ≡ s → ((M : Structure) → AreSources M sources → texts ≡ M.domain s)
+    → OnOk r ((M : Structure) (K : ℕ) → texts ≡ M.domain like → Extends M K (sort_texts like own) old new) → OnOk r ((M : Structure) (K : ℕ) → AreSources M sources → MakesSteps M K (sorted s v) old new)
+sorted_made (Ok x) sources v own s like texts old new g k are h = λ M K src c.
+    let i : sorted like own ≡ sorted s v = ap (λ z. sorted z own) k ∙ ap (sorted s) g in
     subst (λ y. Extends M K (plan_of y) old new) i (h M K (are M src ∙ ap (λ z. M.domain z) (sym k)))
-sorted_planned (Err x) sources trees f v own s like texts old new e g k are h = tt
+sorted_made (Err x) sources v own s like texts old new g k are h = tt
+
+pub drop_made : {T E : Type 0} (r : Result T E) (v own : Identifier) (s : Sort) (old new : Draft) → own ≡ v → OnOk r ((M : Structure) (K : ℕ) → Extends M K (drop_of own s) old new) → OnOk r ((M : Structure) (K : ℕ) → Extends M K (drop_of v s) old new)
+drop_made r v own s old new g h = subst (λ n. OnOk r ((M : Structure) (K : ℕ) → Extends M K (drop_of n s) old new)) g h
+
+-- a formula with no part
+pub leaf_planned : {T E : Type 0} (r : Result T E) (sources : Sources) (trees : List VariableTree) (f g : Form) (old new : Draft) → f ≡ g → OnOk r ((M : Structure) (K : ℕ) → AreSources M sources → MakesSteps M K g old new) → Planned r sources trees f old new
+leaf_planned (Ok x) sources trees f g old new e h = λ M K s known c. subst (λ y. Extends M K (plan_of y) old new) (sym e) (h M K s (subst (CanPlan M K) e c))
+leaf_planned (Err x) sources trees f g old new e h = tt
+
+-- the same, where nothing is read of the sources
+pub test_planned : {T E : Type 0} (r : Result T E) (sources : Sources) (trees : List VariableTree) (f g : Form) (old new : Draft) → f ≡ g → OnOk r ((M : Structure) (K : ℕ) → MakesSteps M K g old new) → Planned r sources trees f old new
+test_planned (Ok x) sources trees f g old new e h = λ M K s known c. subst (λ y. Extends M K (plan_of y) old new) (sym e) (h M K (subst (CanPlan M K) e c))
+test_planned (Err x) sources trees f g old new e h = tt
 
 pub not_planned : {T E : Type 0} (r : Result T E) (sources : Sources) (trees : List VariableTree) (f g : Form) (old mid new : Draft) → f ≡ negation g → ((M : Structure) (K : ℕ) → AreSources M sources → AreInner trees g → CanPlan M K g → Extends M K (plan_of g) old mid)
     → OnOk r ((M : Structure) (K : ℕ) → Extends M K complement mid new) → Planned r sources trees f old new
@@ -66,14 +79,14 @@ not_planned (Ok x) sources trees f g old mid new e h k = λ M K s known c.
     subst (λ y. Extends M K (plan_of y) old new) (sym e) (record { follows = λ planned p. (k M K).follows (plan_of g M planned) ((h M K s (subst (AreInner trees) e known) (record { core = d.core; divides = d.divides })).follows planned p) })
 not_planned (Err x) sources trees f g old mid new e h k = tt
 
-pub exists_planned : {T E : Type 0} (r : Result T E) (sources : Sources) (trees : List VariableTree) (f g : Form) (v own : Identifier) (s : Sort) (old mid new : Draft) → f ≡ exists v s g → own ≡ v → ((M : Structure) (K : ℕ) → AreSources M sources → AreInner trees g → CanPlan M K g → Extends M K (plan_of g) old mid)
-    → OnOk r ((M : Structure) (K : ℕ) → Extends M K (drop_of own s) mid new) → Planned r sources trees f old new
-exists_planned (Ok x) sources trees f g v own s old mid new e same h k = λ M K src known c.
+pub exists_planned : {T E : Type 0} (r : Result T E) (sources : Sources) (trees : List VariableTree) (f g : Form) (v : Identifier) (s : Sort) (old mid new : Draft) → f ≡ exists v s g → ((M : Structure) (K : ℕ) → AreSources M sources → AreInner trees g → CanPlan M K g → Extends M K (plan_of g) old mid)
+    → OnOk r ((M : Structure) (K : ℕ) → Extends M K (drop_of v s) mid new) → Planned r sources trees f old new
+exists_planned (Ok x) sources trees f g v s old mid new e h k = λ M K src known c.
     let d : CanPlan M K (exists v s g) = subst (CanPlan M K) e c in
     subst (λ y. Extends M K (plan_of y) old new) (sym e) (record {
-      follows = λ planned p. subst (λ n. IsDraft M.relations K new (drop_of n s M (plan_of g M planned))) same ((k M K).follows (plan_of g M planned) ((h M K src (subst (AreInner trees) e known) (record { core = d.core; divides = d.divides })).follows planned p));
+      follows = λ planned p. (k M K).follows (plan_of g M planned) ((h M K src (subst (AreInner trees) e known) (record { core = d.core; divides = d.divides })).follows planned p);
     })
-exists_planned (Err x) sources trees f g v own s old mid new e same h k = tt
+exists_planned (Err x) sources trees f g v s old mid new e h k = tt
 
 pub as_planned : {T E : Type 0} (r : Result T E) (sources : Sources) (trees : List VariableTree) (f g : Form) (old new : Draft) → f ≡ g → Planned r sources trees g old new → Planned r sources trees f old new
 as_planned r sources trees f g old new e h = subst (λ y. Planned r sources trees y old new) (sym e) h

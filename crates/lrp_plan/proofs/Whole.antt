@@ -14,7 +14,8 @@ use Rattle.lrp_model.specs.Satisfaction.{Structure, structure}
 use Rattle.lrp_model.specs.Core.{core_form, guarded, has_named_sort, HasElements}
 use Rattle.lrp_model.specs.Domains.{database_texts, all_texts}
 use Rattle.lrp_model.specs.Periods.{IsMultiple, lcm_all, periods, period}
-use Rattle.lrp_model.specs.Plans.{plan, plan_of, query_reach, scaled_reach, time_columns, IsStep}
+use Rattle.lrp_model.specs.Plans.{plan, plan_of, query_reach, scaled_reach, IsStep}
+use Rattle.lrp_model.specs.Sorts.{time_count}
 use Rattle.lrp_model.specs.declared.relations.Relation.{Relation}
 use Rattle.lrp_model.specs.declared.relations.Column.{Column}
 use Rattle.lrp_model.specs.declared.relations.Sort.{Sort}
@@ -147,7 +148,7 @@ draft_is db q sources f k draft h a e least w =
     (subst (λ x. IsWholeDraft sources x k draft) e w).follows M k g a (record { core = core_of_query named q h; divides = common_self (periods c db) k l }) l.period m (common_self (periods g db) k m)
 
 -- its last reach, doubled, is the query's up to 2^62 + 1
-pub reach_is : (db : List Relation) (q : Question) (k r : ℕ) (draft : Draft) → IsDraft db k draft (plan db q) → ((n : ℕ) → draft.last.reach ≡ capped n → r ≡ capped (2 ^ (time_columns q.head + 1) * n)) → r ≡ capped (scaled_reach db q)
+pub reach_is : (db : List Relation) (q : Question) (k r : ℕ) (draft : Draft) → IsDraft db k draft (plan db q) → ((n : ℕ) → draft.last.reach ≡ capped n → r ≡ capped (2 ^ (time_count q.head + 1) * n)) → r ≡ capped (scaled_reach db q)
 reach_is db q k r draft d h = h (query_reach db q) d.last.reach
 
 -- a power of 2 is at least 1
@@ -165,12 +166,12 @@ doubled_up m n = times (2 ^ (m + 1)) (some m)
 pub steps_are : (db : List Relation) (q : Question) (k r : ℕ) (draft : Draft) → HasElements q.body → HasPeriods db q → IsDraft db k draft (plan db q) → r ≡ capped (scaled_reach db q) → r ≤ 2 ^ 62 → AllZip IsStep draft.steps (plan db q)
 steps_are db q k r draft h p d e low =
     let s : scaled_reach db q ≤ 2 ^ 62 = omega arith in
-    let u : query_reach db q ≤ scaled_reach db q = doubled_up (time_columns q.head) (query_reach db q) in
+    let u : query_reach db q ≤ scaled_reach db q = doubled_up (time_count q.head) (query_reach db q) in
     finished db q k draft h p (omega arith) d
 
 -- the reach, doubled for the columns that are read, is that for the head's
-pub same_head : (cs head : List Column) (r reach : ℕ) → cs ≡ head → ((n : ℕ) → reach ≡ capped n → r ≡ capped (2 ^ (time_columns cs + 1) * n)) → (n : ℕ) → reach ≡ capped n → r ≡ capped (2 ^ (time_columns head + 1) * n)
-same_head cs head r reach e h n is = h n is ∙ ap (λ xs. capped (2 ^ (time_columns xs + 1) * n)) e
+pub same_head : (cs head : List Column) (r reach : ℕ) → cs ≡ head → ((n : ℕ) → reach ≡ capped n → r ≡ capped (2 ^ (time_count cs + 1) * n)) → (n : ℕ) → reach ≡ capped n → r ≡ capped (2 ^ (time_count head + 1) * n)
+same_head cs head r reach e h n is = h n is ∙ ap (λ xs. capped (2 ^ (time_count xs + 1) * n)) e
 
 -- ---- outcomes
 
@@ -189,7 +190,7 @@ least_found db q sources f o p e h g = subst (λ x. IsPeriodOf (periods f db) (o
 
 -- above the limit of reaches
 pub far_reach : (db : List Relation) (q : Question) (sources : Sources) (f : Form) (o : Option Period) (p : Period) (draft : Draft) (r : ℕ) → o ≡ Some p → ((M : Structure) → AreSources M sources → IsPeriodOf (periods f M.relations) (option_map (λ p. p.number) o)) → IsWholeDraft sources f p.number draft
-    → ((n : ℕ) → draft.last.reach ≡ capped n → r ≡ capped (2 ^ (time_columns q.head + 1) * n)) → 2 ^ 62 < r → AreGathered db q sources f → IsOutcome db q (Err BoundLimit)
+    → ((n : ℕ) → draft.last.reach ≡ capped n → r ≡ capped (2 ^ (time_count q.head + 1) * n)) → 2 ^ 62 < r → AreGathered db q sources f → IsOutcome db q (Err BoundLimit)
 far_reach db q sources f o p draft r e h w s far g =
     let least : IsLeastOf (periods f db) p.number = least_found db q sources f o p e h g in
     let d : IsDraft db p.number draft (plan db q) = draft_is db q sources f p.number draft g.elements g.gathered g.core least w in
@@ -198,7 +199,7 @@ far_reach db q sources f o p draft r e h w s far g =
 
 -- within the limits
 pub near_reach : (db : List Relation) (q : Question) (sources : Sources) (f : Form) (o : Option Period) (p : Period) (draft : Draft) (r : ℕ) (made : Plan) → o ≡ Some p → ((M : Structure) → AreSources M sources → IsPeriodOf (periods f M.relations) (option_map (λ p. p.number) o)) → IsWholeDraft sources f p.number draft
-    → ((n : ℕ) → draft.last.reach ≡ capped n → r ≡ capped (2 ^ (time_columns q.head + 1) * n)) → r ≤ 2 ^ 62
+    → ((n : ℕ) → draft.last.reach ≡ capped n → r ≡ capped (2 ^ (time_count q.head + 1) * n)) → r ≤ 2 ^ 62
     → made.steps ≡ draft.steps → made.head.columns ≡ q.head → made.domain ≡ in_order (texts_among (database_texts sources.database.now ++ sources.texts.items)) → AreGathered db q sources f → IsOutcome db q (Ok made)
 near_reach db q sources f o p draft r made e h w s low steps head domain g =
     let least : IsLeastOf (periods f db) p.number = least_found db q sources f o p e h g in

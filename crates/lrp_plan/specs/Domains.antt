@@ -12,7 +12,7 @@ use Rattle.lrp_plan.specs.declared.domains.Domains.{Domains}
 -- the texts that were gathered of a sort
 abbrev pub gathered : Domains → Sort → Option (BTreeSet Text)
 gathered domains Time = Some domains.timed
-gathered domains Data = Some domains.unnamed
+gathered domains Data = domains.unnamed
 gathered domains (Named name) = get bytes_eq domains.named name
 
 -- all texts of a sort, each once, in order; where none were gathered, the query has none

@@ -19,7 +19,7 @@ use Rattle.lrp_plan.specs.declared.taking.Taking.{Taking}
 use Rattle.lrp_model.specs.Core.{IsCore}
 use Rattle.lrp_model.specs.Periods.{periods}
 use Rattle.lrp_limits.specs.Multiples.{IsCommon}
-use Rattle.lrp_plan.specs.Drafts.{IsDraft}
+use Rattle.lrp_plan.specs.Drafts.{IsDraft, Extends}
 use Rattle.lrp_plan.specs.Taking.{HaveSame, IsTaking}
 
 -- the variables of an element, and the trees of the elements in it
@@ -67,6 +67,10 @@ pub record IsAt (M : Structure) (K : ℕ) (fs : List Core) (draft : Draft) (ps n
 pub record CanPlan (M : Structure) (K : ℕ) (f : Form) : Type 0 where
   pub core : IsCore f
   pub divides : IsCommon (periods f M.relations) K
+
+-- the steps of a formula with no part, behind those before
+abbrev pub MakesSteps : Structure → ℕ → Form → Draft → Draft → Type 0
+MakesSteps M K f old new = CanPlan M K f → Extends M K (plan_of f) old new
 
 abbrev pub EachCanPlan : Structure → ℕ → List Core → Type 0
 EachCanPlan M K fs = AllByRecursion (λ core. CanPlan M K (core_of core)) fs

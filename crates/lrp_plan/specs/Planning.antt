@@ -1,5 +1,5 @@
 -- Which queries have a plan, and why others have none.
-use Rattle.std.specs.Prelude.{◌≡◌, ℕ, ◌≤◌, ◌<◌, ◌^◌, List, [], ◌++◌, Result, Ok, Err}
+use Rattle.std.specs.Prelude.{◌≡◌, ℕ, ◌≤◌, ◌<◌, List, [], ◌++◌, Result, Ok, Err}
 use Rattle.lrp_model.specs.Formulas.{Form, Question}
 use Rattle.lrp_model.specs.Satisfaction.{Structure, structure}
 use Rattle.lrp_model.specs.Core.{core_form, has_named_sort, HasElements}
@@ -17,11 +17,12 @@ use Rattle.lrp_plan.specs.Drafts.{IsDraft, headed}
 use Rattle.lrp_plan.specs.Elements.{CanPlan}
 use Rattle.lrp_limits.specs.Multiples.{IsCommon, IsPeriod, IsLeastOf}
 use Rattle.lrp_plan.specs.Sources.{AreSources}
+use Rattle.lrp_model.specs.Limits.{greatest_number}
 
--- the period is above 2^62; or it is not and the reach, doubled so, is; or memory ran out
+-- the period is above the greatest number; or it is not and the reach, doubled so, is; or memory ran out
 abbrev pub IsPastLimits : PlanFault → List Relation → Question → Type 0
-IsPastLimits PeriodLimit db q = 2 ^ 62 < period db q.body
-IsPastLimits BoundLimit db q = (period db q.body ≤ 2 ^ 62) × (2 ^ 62 < scaled_reach db q)
+IsPastLimits PeriodLimit db q = greatest_number < period db q.body
+IsPastLimits BoundLimit db q = (period db q.body ≤ greatest_number) × (greatest_number < scaled_reach db q)
 IsPastLimits Memory db q = Unit {0}
 
 -- the steps of a core form, and then the last one, of a formula with this period

@@ -4,7 +4,7 @@ ghost use Rattle.std.specs.BTreeSet.{keys};
 ghost use Rattle.std.specs.Option.{option_copied};
 ghost use Rattle.lrp_model.specs.Domains.{database_texts};
 ghost use Rattle.lrp_model.specs.Texts.{in_order};
-ghost use Rattle.lrp_model.specs.declared.relations.Sort.TheVariants.{Named};
+ghost use Rattle.lrp_model.specs.declared.relations.Sort.TheVariants.{Data, Named};
 ghost use Rattle.lrp_plan.specs.Domains.{AreDomains, Gathers, TakesIn, gathered};
 
 use lrp_model::{Copies, DataText, List, Memory, Name, Sort};
@@ -12,12 +12,23 @@ use lrp_rel::Database;
 use std::alloc::Global;
 use std::collections::{BTreeSet, HashMap};
 
-/// The texts of a database and a query by their sorts, each once. A named sort of which the query has no text is not among them.
-#[derive(Drop)]
+/// The texts of a database and a query by their sorts, each once. A data sort of which the query has no text is not among them:
+/// those of the database alone are put in order where they are asked for.
 pub(crate) struct Domains {
     pub(crate) timed: BTreeSet<DataText>,
-    pub(crate) unnamed: BTreeSet<DataText>,
+    pub(crate) unnamed: Option<BTreeSet<DataText>>,
     pub(crate) named: HashMap<Name, BTreeSet<DataText>>,
+}
+
+// They are let go by one call, which is proved once.
+impl Drop for Domains {
+    fn drop(self) {
+        let Domains {
+            timed: _timed,
+            unnamed: _unnamed,
+            named: _named,
+        } = self;
+    }
 }
 
 /// The texts of the database, and these of a query, by their sorts.
@@ -41,10 +52,9 @@ impl Domains {
         ensures { IfOk result (AreDomains (database_texts database.now) []) }
     {
         let timed = set_of(alloc, database.texts_of(&Sort::Time).as_slice())?;
-        let unnamed = set_of(alloc, database.texts_of(&Sort::Data).as_slice())?;
         Ok(Domains {
             timed,
-            unnamed,
+            unnamed: None,
             named: HashMap::new(alloc),
         })
     }
@@ -61,8 +71,28 @@ impl Domains {
     {
         match sort {
             Sort::Time => see(alloc, &mut self.timed, text),
-            Sort::Data => see(alloc, &mut self.unnamed, text),
+            Sort::Data => self.add_unnamed(alloc, database, text),
             Sort::Named { name } => self.add_named(alloc, database, sort, name, text),
+        }
+    }
+
+    // A further text of the sort `data`.
+    fn add_unnamed(
+        &mut self,
+        alloc: Global,
+        database: &Database,
+        text: &DataText,
+    ) -> Result<(), Memory>
+        ensures { OnOk result (Gathers (database_texts database.now) Data text.now self.old self.new) }
+    {
+        match &mut self.unnamed {
+            Some(texts) => see(alloc, texts, text),
+            None => {
+                let mut texts = set_of(alloc, database.texts_of(&Sort::Data).as_slice())?;
+                see(alloc, &mut texts, text)?;
+                self.unnamed = Some(texts);
+                Ok(())
+            }
         }
     }
 
@@ -95,7 +125,7 @@ impl Domains {
     {
         match sort {
             Sort::Time => Some(&self.timed),
-            Sort::Data => Some(&self.unnamed),
+            Sort::Data => self.unnamed.as_ref(),
             Sort::Named { name } => self.named.get(name),
         }
     }
@@ -111,8 +141,8 @@ fn see(alloc: Global, texts: &mut BTreeSet<DataText>, text: &DataText) -> Result
     Ok(())
 }
 
-/// The set of these texts.
-pub(crate) fn set_of(alloc: Global, texts: &[DataText]) -> Result<BTreeSet<DataText>, Memory>
+// The set of these texts.
+fn set_of(alloc: Global, texts: &[DataText]) -> Result<BTreeSet<DataText>, Memory>
     ensures { IfOk result (λ made. keys made ≡ in_order texts.now) }
 {
     let mut set = BTreeSet::new(alloc);
@@ -120,6 +150,16 @@ pub(crate) fn set_of(alloc: Global, texts: &[DataText]) -> Result<BTreeSet<DataT
         see(alloc, &mut set, text)?;
     }
     Ok(set)
+}
+
+/// These texts, each once, in order of bytes.
+pub(crate) fn ordered(alloc: Global, texts: &List<DataText>) -> Result<List<DataText>, Memory>
+    ensures { IfOk result (λ made. made ≡ in_order texts.now) }
+{
+    let mut all = texts.copy(alloc)?.into_vec();
+    all.sort()?;
+    all.dedup();
+    Ok(List::from_vec(all))
 }
 
 /// The texts of a set, in order of bytes.

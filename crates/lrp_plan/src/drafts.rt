@@ -20,7 +20,7 @@ use lrp_model::{DataText, List, Memory, Name, Sort, Step, StepKind, Term, Test};
 use std::alloc::Global;
 
 /// What later steps read of a step: its number, its period, and its reach up to 2^62 + 1.
-#[derive(Clone, Copy, Debug)]
+#[derive(Clone, Copy)]
 pub(crate) struct Operand {
     pub(crate) number: u32,
     pub(crate) period: Period,
@@ -28,13 +28,30 @@ pub(crate) struct Operand {
 }
 
 /// The steps made so far, with reaches up to 2^62 + 1, and what is read of the last of them.
-#[derive(Debug, Drop)]
 pub(crate) struct Draft {
     pub(crate) steps: List<Step>,
     pub(crate) last: Operand,
 }
 
+// It is let go by one call, which is proved once.
+impl Drop for Draft {
+    fn drop(self) {
+        let Draft {
+            steps: _steps,
+            last: _last,
+        } = self;
+    }
+}
+
 impl Draft {
+    /// Its steps alone.
+    pub(crate) fn into_steps(self) -> List<Step>
+        ensures { result ≡ self.steps }
+    {
+        let Draft { steps, last: _last } = self;
+        steps
+    }
+
     /// No steps yet.
     pub(crate) fn new(alloc: Global) -> Draft
         ensures steps { result.steps ≡ [] }

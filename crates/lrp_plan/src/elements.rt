@@ -4,7 +4,7 @@ use lrp_model::{List, Test};
 use std::collections::VecDeque;
 
 /// An element of an `and` that is no test: its place in the list, its tree (of a negation that of what it denies), and its rank, which is its number of rows, or 2^64 where it has none.
-#[derive(Clone, Copy, Debug)]
+#[derive(Clone, Copy)]
 pub(crate) struct Element<'a> {
     pub(crate) index: usize,
     pub(crate) tree: &'a VariableTree,
@@ -12,7 +12,7 @@ pub(crate) struct Element<'a> {
 }
 
 /// The elements of an `and`: the positives in order of their ranks, and its tests and its negations in list order.
-#[derive(Debug, Drop)]
+#[derive(Drop)]
 pub(crate) struct Split<'a> {
     pub(crate) positives: VecDeque<Element<'a>>,
     pub(crate) tests: List<Test>,

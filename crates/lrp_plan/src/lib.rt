@@ -5,6 +5,7 @@ mod domains;
 mod drafts;
 mod elements;
 mod laws;
+mod leaves;
 mod naming;
 mod planner;
 mod planning;

@@ -13,12 +13,13 @@ ghost use Rattle.lrp_plan.specs.Sources.{AreSources};
 
 use crate::drafts::{Draft, Operand};
 use crate::elements::{Element, Split};
+use crate::leaves::{plan_atom, plan_drop, plan_sorted, plan_test};
 use crate::sources::Sources;
 use crate::splits::split;
 use crate::taking::{Taking, take_tests};
 use crate::waiting::{Turn, Waiting};
-use lrp_core::{Core, VariableTree, copy_terms};
-use lrp_model::{Copies, List, Memory};
+use lrp_core::{Core, VariableTree};
+use lrp_model::{List, Memory};
 use std::alloc::Global;
 use std::collections::VecDeque;
 
@@ -35,21 +36,10 @@ pub(crate) fn plan_core(
 {
     match core {
         Core::Atom { relation, terms } => {
-            let facts = sources.facts(relation);
-            let relation = relation.copy(alloc)?;
-            let terms = copy_terms(alloc, terms.as_slice())?;
-            draft.scan(facts, relation, terms)
+            plan_atom(alloc, sources, draft, relation, terms.as_slice())
         }
-        Core::Check { test } => {
-            let test = test.owned(alloc)?;
-            draft.leaf(test)
-        }
-        Core::Sorted { sort, name } => {
-            let texts = sources.texts(alloc, sort)?;
-            let name = name.copy(alloc)?;
-            let sort = sort.copy(alloc)?;
-            draft.sort(name, sort, texts)
-        }
+        Core::Check { test } => plan_test(alloc, draft, test),
+        Core::Sorted { sort, name } => plan_sorted(alloc, sources, draft, sort, name),
         Core::Not { of } => {
             plan_core(alloc, sources, draft, of, inner)?;
             draft.complement()
@@ -58,8 +48,7 @@ pub(crate) fn plan_core(
         Core::Or { of } => plan_some(alloc, sources, draft, of, inner),
         Core::Exists { name, sort, of } => {
             plan_core(alloc, sources, draft, of, inner)?;
-            let name = name.copy(alloc)?;
-            draft.drop_variable(name, sort)
+            plan_drop(alloc, draft, name, sort)
         }
     }
 }

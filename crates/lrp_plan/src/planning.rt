@@ -106,9 +106,8 @@ fn finish(alloc: Global, query: &Query, sources: &Sources<'_>, draft: Draft) -> 
 {
     let head = query.head.copy(alloc)?;
     let domain = domain_of(alloc, sources)?;
-    let Draft { steps, .. } = draft;
     Ok(Plan {
-        steps,
+        steps: draft.into_steps(),
         head,
         domain,
     })

@@ -5,7 +5,7 @@ ghost use Rattle.lrp_model.specs.Satisfaction.{Structure};
 ghost use Rattle.lrp_limits.specs.Facts.{AreFacts};
 ghost use Rattle.lrp_plan.specs.Sources.{AreSources};
 
-use crate::domains::{Domains, list_of, set_of};
+use crate::domains::{Domains, list_of, ordered};
 use lrp_limits::facts::{Facts, facts_of};
 use lrp_model::{DataText, List, Memory, Name, Sort};
 use lrp_rel::Database;
@@ -14,12 +14,23 @@ use std::collections::HashMap;
 
 /// The database, facts of its relations by their names, the texts of the query, each with its sort, and the texts of both by
 /// their sorts.
-#[derive(Drop)]
 pub(crate) struct Sources<'a> {
     pub(crate) database: &'a Database,
     pub(crate) facts: HashMap<Name, Facts>,
     pub(crate) texts: Vec<(Sort, DataText)>,
     pub(crate) domains: Domains,
+}
+
+// They are let go by one call, which is proved once.
+impl<'a> Drop for Sources<'a> {
+    fn drop(self) {
+        let Sources {
+            database: _database,
+            facts: _facts,
+            texts: _texts,
+            domains: _domains,
+        } = self;
+    }
 }
 
 impl Sources<'_> {
@@ -39,10 +50,7 @@ impl Sources<'_> {
     {
         match self.domains.of(sort) {
             Some(texts) => list_of(alloc, texts),
-            None => {
-                let texts = set_of(alloc, self.database.texts_of(sort).as_slice())?;
-                list_of(alloc, &texts)
-            }
+            None => ordered(alloc, self.database.texts_of(sort)),
         }
     }
 

@@ -20,7 +20,7 @@ use std::collections::VecDeque;
 const NO_ROWS: u128 = 1 << 64;
 
 /// The elements so far, each kind in list order.
-#[derive(Debug, Drop)]
+#[derive(Drop)]
 pub(crate) struct Parts<'a> {
     pub(crate) positives: Vec<Element<'a>>,
     pub(crate) tests: List<Test>,

@@ -16,12 +16,23 @@ use std::alloc::Global;
 use std::mem;
 
 /// What was taken in: the result so far, if there is one, and its variables; and the tests that remain, in list order. Where they are settled, the variables cover none of them, so that they need not be looked at until there is a further variable.
-#[derive(Debug, Drop)]
 pub(crate) struct Taking {
     pub(crate) result: Option<Operand>,
     pub(crate) variables: List<Variable>,
     pub(crate) tests: List<Test>,
     pub(crate) settled: bool,
+}
+
+// It is let go by one call, which is proved once.
+impl Drop for Taking {
+    fn drop(self) {
+        let Taking {
+            result: _result,
+            variables: _variables,
+            tests: _tests,
+            settled: _settled,
+        } = self;
+    }
 }
 
 impl Taking {

@@ -14,19 +14,30 @@ use std::marker::Model;
 use std::mem;
 
 /// Which elements go before the others: those that share a variable with what was taken in; or, where something was, those whose variables were all taken in.
-#[derive(Clone, Copy, Debug, PartialEq, Eq)]
+#[derive(Clone, Copy, PartialEq, Eq)]
 pub(crate) enum Turn {
     Meeting,
     Covered { some: bool },
 }
 
 /// The elements that wait, in order. Those that were passed over do not go before the others where these variables were taken in; the rest were not looked at since these were.
-#[derive(Debug, Drop)]
 pub(crate) struct Waiting<'a> {
     turn: Turn,
     seen: List<Variable>,
     passed: VecDeque<Element<'a>>,
     rest: VecDeque<Element<'a>>,
+}
+
+// They are let go by one call, which is proved once.
+impl<'a> Drop for Waiting<'a> {
+    fn drop(self) {
+        let Waiting {
+            turn: _turn,
+            seen: _seen,
+            passed: _passed,
+            rest: _rest,
+        } = self;
+    }
 }
 
 impl<'a> Model for Waiting<'a> {

@@ -15,7 +15,7 @@ use Rattle.lrp_model.specs.Tokens.Token.{name_token, number_token, symbol_token}
 use Rattle.lrp_model.specs.Tokens.Part.{any}
 use Rattle.lrp_text.specs.Parsers.{◌>>=◌, pure, accept, look, eat}
 use Rattle.lrp_model.specs.Refused.{Stops, TextOf}
-use Rattle.lrp_model.specs.Lexing.{greatest_number}
+use Rattle.lrp_model.specs.Limits.{greatest_number}
 use Rattle.lrp_text.specs.Taking.{is_name, is_symbol, is_symbol_token, number, is_name_token}
 use Rattle.lrp_text.proofs.Complete.{ReadsBack, IsNot, bind_back, then_back, pure_back, accepts_back, eat_back, eat_none, look_back, first_sees_at, first_is_not, last_back, same_next}
 use Rattle.lrp_text.proofs.Sound.{Sound, bind_ok, accept_sound, eat_sound, eaten_parts, takes_join, look_ok}

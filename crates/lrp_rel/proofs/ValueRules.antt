@@ -14,7 +14,7 @@ use Rattle.lrp_model.specs.Tokens.Token.{number_token, text_token, symbol_token,
 use Rattle.lrp_model.specs.Tokens.Part.{any}
 use Rattle.lrp_text.specs.Parsers.{◌>>=◌, pure, look, eat}
 use Rattle.lrp_model.specs.Refused.{TextOf}
-use Rattle.lrp_model.specs.Lexing.{greatest_number}
+use Rattle.lrp_model.specs.Limits.{greatest_number}
 use Rattle.lrp_text.specs.Taking.{is_text, is_symbol, expect_word, number, period, period_of, text, text_of, is_text_token}
 use Rattle.lrp_text.proofs.Complete.{ReadsBack, back_as, IsNot, bind_back, then_back, pure_back, accept_back, accepts_back, eat_back, eat_none, look_back, first_sees_any, same_next}
 use Rattle.lrp_text.proofs.Sound.{Sound, bind_ok, accept_gives, accept_sound, eat_sound, eaten_parts, takes_join, look_ok}

@@ -16,6 +16,7 @@ use Rattle.lrp_rel.specs.Gathered.{AreGathered}
 use Rattle.lrp_rel.specs.declared.gathering.Gathered.{Gathered}
 use Rattle.lrp_rel.specs.declared.trees.ReadFault.{ReadFault}
 use Rattle.lrp_rel.specs.declared.trees.ReadFault.TheVariants.{Fault, Memory}
+use Rattle.lrp_model.specs.Limits.{most_bytes}
 
 -- a fault of the bytes, or one of the grammar
 abbrev pub IsTextFaultOf : List ℕ → DbKind → DbFault → Type 0
@@ -54,7 +55,7 @@ pub record IsGatheredFrom (bytes : List ℕ) (gathered : Gathered) : Type 0 wher
 -- the same of some bytes that are few enough
 pub record IsGatheredFromText (gathered : Gathered) : Type 0 where
   pub bytes : List ℕ
-  pub short : length bytes ≤ 16777216
+  pub short : length bytes ≤ most_bytes
   pub said : IsGatheredFrom bytes gathered
 
 -- the relations that a tree without faults means

@@ -2,7 +2,7 @@
 ghost use Rattle.std.specs.Prelude.{◌≡◌, ◌∷◌, ◌++◌, ◌≤◌, ◌≤ℤ◌, ◌+◌, [], ℕ, pos, neg_ℤ, List as ListOf, map, length, IfOk, OnOk};
 ghost use Rattle.std.specs.List.{flat_map, AllByRecursion};
 ghost use Rattle.indexmap.specs.IndexSet.{keys};
-ghost use Rattle.lrp_model.specs.Lexing.{greatest_number};
+ghost use Rattle.lrp_model.specs.Limits.{greatest_number};
 ghost use Rattle.lrp_model.specs.Databases.{FitsValue, FitsSide, FitsBound};
 ghost use Rattle.lrp_model.specs.DatabaseMeaning.{signed, value_of, kept, value_bounds, instant_bounds, side_bounds, kept_bounds, row_of, column_of};
 ghost use Rattle.lrp_model.specs.declared.raw.RawColumn.{RawColumn as ColumnOf};

@@ -6,6 +6,7 @@ ghost use Rattle.lrp_model.specs.declared.relations.Relation.{Relation as Relati
 ghost use Rattle.lrp_model.specs.declared.written.RawRelation.{RawRelation as Tree};
 ghost use Rattle.lrp_rel.specs.Gathered.{AreGathered};
 ghost use Rattle.lrp_rel.specs.Reading.{IsOrMemory, IsFaultOrMemory, IsRefusedBy, IsSoundTree, IsGatheredFromText, IsTreeRefusal};
+ghost use Rattle.lrp_model.specs.Limits.{most_bytes};
 
 use crate::database::Database;
 use crate::gathering::Gathered;
@@ -26,7 +27,7 @@ fn database_of(alloc: Global, gathered: Gathered) -> Result<Database, ReadFault>
 
 // The database of a text, or why there is none.
 fn database_of_bytes(alloc: Global, bytes: &[u8]) -> Result<Database, ReadFault>
-    requires { length bytes.now ≤ 16777216 }
+    requires { length bytes.now ≤ most_bytes }
     ensures read { IfOk result (IsDatabase bytes.now) }
     ensures refused { IfErr result (IsRefusedBy bytes.now) }
 {
@@ -37,7 +38,7 @@ fn database_of_bytes(alloc: Global, bytes: &[u8]) -> Result<Database, ReadFault>
 /// The database of a text of at most 16,777,216 bytes. A text that is none has the one fault that is reported: of its bytes,
 /// else of the grammar, else of what it says.
 pub fn read_database(alloc: Global, bytes: &[u8]) -> Result<Database, ReadFault>
-    requires { length bytes.now ≤ 16777216 }
+    requires { length bytes.now ≤ most_bytes }
     ensures read { IfOk result (IsDatabase bytes.now) }
     ensures refused { IfErr result (IsRefusedBy bytes.now) }
 

@@ -1,6 +1,7 @@
 // What the text of a database says, read from its bytes, or the fault of the bytes or of the grammar.
 ghost use Rattle.std.specs.Prelude.{◌≡◌, ◌≢◌, ◌≤◌, length, IfOk, IfErr};
 ghost use Rattle.lrp_rel.specs.Reading.{refusal_of, IsGatheredFrom, IsUnread};
+ghost use Rattle.lrp_model.specs.Limits.{most_bytes};
 
 use crate::gathering::Gathered;
 use crate::reading::read_relations_to_end;
@@ -50,7 +51,7 @@ pub fn refusal(kind: Fault, place: Place) -> ReadFault
 
 // What a text says.
 fn read_text(alloc: Global, text: &str) -> Result<Gathered, ReadFault>
-    requires { length text.now ≤ 16777216 }
+    requires { length text.now ≤ most_bytes }
     ensures gathered { IfOk result (IsGatheredFrom text.now) }
     ensures refused { IfErr result (IsUnread text.now) }
 {
@@ -63,7 +64,7 @@ fn read_text(alloc: Global, text: &str) -> Result<Gathered, ReadFault>
 
 // What bytes say, where they are UTF-8 and a text of the grammar.
 pub fn read_bytes(alloc: Global, bytes: &[u8]) -> Result<Gathered, ReadFault>
-    requires { length bytes.now ≤ 16777216 }
+    requires { length bytes.now ≤ most_bytes }
     ensures gathered { IfOk result (IsGatheredFrom bytes.now) }
     ensures refused { IfErr result (IsUnread bytes.now) }
 {

@@ -6,4 +6,4 @@ use Rattle.lrp_core.proofs.VariableLists.{is_among-each_once}
 use Rattle.lrp_core.proofs.variables.free_variables.Goals as goal
 
 pub returns-clause-members : goal.returns-clause-members
-returns-clause-members c v = ap (λ x. is_among x v) (c.in_ok-add_free.ensures ∙ ap (λ x. with_variables (map variable_of x) (free (core_of c.args.core.now))) (c.from_vec-all.ensures ∙ c.in_ok-with_capacity.ensures.items)) ∙ is_among-each_once (free (core_of c.args.core.now)) v
+returns-clause-members c v = ap (λ x. is_among x v) (c.in_ok-add_free.ensures ∙ ap (λ x. with_variables (map variable_of x) (free (core_of c.args.core.now))) c.in_ok-all.ensures) ∙ is_among-each_once (free (core_of c.args.core.now)) v

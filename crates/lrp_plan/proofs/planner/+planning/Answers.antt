@@ -2,14 +2,14 @@ use Rattle.std.proofs.Common.{◌≡◌, get_or, length, false, ◌&&◌, map, N
 use Rattle.lrp_core.specs.Cores.{core_of, cores_of, test_of}
 use Rattle.lrp_core.specs.FreeVariables.{variable_of}
 use Rattle.lrp_core.proofs.CoreViews.{core_of-And, core_of-Or}
-use Rattle.lrp_model.specs.Formulas.{negation, exists, conjunction, disjunction}
+use Rattle.lrp_model.specs.Formulas.{atom, test, sorted, negation, exists, conjunction, disjunction}
 use Rattle.lrp_model.specs.Variables.{are_among, meet}
 use Rattle.lrp_model.specs.Conjunctions.{first_or_0}
 use Rattle.lrp_plan.specs.declared.taking.Taking.{Taking}
 use Rattle.lrp_plan.specs.Elements.{element_variables, AreInner, TakesAt}
 use Rattle.lrp_plan.specs.Taking.{TakesIn, TakesOff}
 use Rattle.std.specs.Result.{OnOk}
-use Rattle.lrp_plan.proofs.Planned.{atom_planned, check_planned, sorted_planned, not_planned, exists_planned, as_planned, some_planned, all_planned}
+use Rattle.lrp_plan.proofs.Planned.{leaf_planned, test_planned, not_planned, exists_planned, as_planned, some_planned, all_planned}
 use Rattle.lrp_core.proofs.TreeViews.{inner_known}
 use Rattle.lrp_plan.proofs.FirstTrees.{tree_there, tree_read, none_past}
 use Rattle.lrp_plan.proofs.Unions.{none_so_far, one_more as one_more_planned}
@@ -18,17 +18,17 @@ use Rattle.lrp_plan.proofs.Turns.{idles_positive, idles_negation, no_positives, 
 use Rattle.lrp_plan.proofs.Answered.{positive_turned, negation_turned}
 use Rattle.lrp_plan.proofs.planner.+planning.Goals as goal
 
-pub plan_core-returns-in_ok-terms-in-Atom : goal.plan_core-returns-in_ok-terms-in-Atom
-plan_core-returns-in_ok-terms-in-Atom t c =
-    atom_planned c.scan.result c.args.sources.now c.args.inner.now (core_of c.args.core.now) c.in-Atom.relation.now c.in_ok-relation-in-Atom.relation c.in-Atom.terms.now c.in_ok-terms-in-Atom.terms c.facts-facts.result c.args.draft.now c.scan.new.self (ap core_of c.in-Atom.is) c.in_ok-relation-in-Atom.ensures (c.in_ok-terms-in-Atom.ensures ∙ c.as_slice.ensures) c.facts-facts.ensures c.scan.ensures
+pub plan_core-returns-in-Atom : goal.plan_core-returns-in-Atom
+plan_core-returns-in-Atom t c =
+    leaf_planned c.plan_atom.result c.args.sources.now c.args.inner.now (core_of c.args.core.now) (atom c.in-Atom.relation.now c.as_slice.result.now) c.args.draft.now c.plan_atom.new.draft (ap core_of c.in-Atom.is ∙ ap (atom c.in-Atom.relation.now) (sym c.as_slice.ensures)) c.plan_atom.ensures
 
-pub plan_core-returns-in_ok-test-in-Check : goal.plan_core-returns-in_ok-test-in-Check
-plan_core-returns-in_ok-test-in-Check t c =
-    check_planned c.leaf.result c.args.sources.now c.args.inner.now (core_of c.args.core.now) (test_of c.in-Check.test) c.in_ok-test-in-Check.test c.args.draft.now c.leaf.new.self (ap core_of c.in-Check.is) c.in_ok-test-in-Check.ensures c.leaf.ensures
+pub plan_core-returns-in-Check : goal.plan_core-returns-in-Check
+plan_core-returns-in-Check t c =
+    test_planned c.plan_test.result c.args.sources.now c.args.inner.now (core_of c.args.core.now) (test (test_of c.in-Check.test)) c.args.draft.now c.plan_test.new.draft (ap core_of c.in-Check.is) c.plan_test.ensures
 
-pub plan_core-returns-in_ok-sort-in-Sorted : goal.plan_core-returns-in_ok-sort-in-Sorted
-plan_core-returns-in_ok-sort-in-Sorted t c =
-    sorted_planned c.sort.result c.args.sources.now c.args.inner.now (core_of c.args.core.now) c.in-Sorted.name.now c.in_ok-name-in-Sorted.name c.in-Sorted.sort.now c.in_ok-sort-in-Sorted.sort c.in_ok-texts-in-Sorted.texts c.args.draft.now c.sort.new.self (ap core_of c.in-Sorted.is) c.in_ok-name-in-Sorted.ensures c.in_ok-sort-in-Sorted.ensures c.in_ok-texts-in-Sorted.ensures c.sort.ensures
+pub plan_core-returns-in-Sorted : goal.plan_core-returns-in-Sorted
+plan_core-returns-in-Sorted t c =
+    leaf_planned c.plan_sorted.result c.args.sources.now c.args.inner.now (core_of c.args.core.now) (sorted c.in-Sorted.sort.now c.in-Sorted.name.now) c.args.draft.now c.plan_sorted.new.draft (ap core_of c.in-Sorted.is) c.plan_sorted.ensures
 
 pub plan_core-returns-in_ok-plan_core-in-Not : goal.plan_core-returns-in_ok-plan_core-in-Not
 plan_core-returns-in_ok-plan_core-in-Not t c =
@@ -42,10 +42,10 @@ pub plan_core-returns-in-Or : goal.plan_core-returns-in-Or
 plan_core-returns-in-Or t c =
     as_planned c.plan_some.result c.args.sources.now c.args.inner.now (core_of c.args.core.now) (disjunction (cores_of c.deref-in-Or.result.now)) c.args.draft.now c.plan_some.new.draft (ap core_of c.in-Or.is ∙ core_of-Or c.in-Or.of ∙ ap (λ xs. disjunction (cores_of xs)) (sym c.deref-in-Or.ensures.value)) c.plan_some.ensures
 
-pub plan_core-returns-in_ok-name-in-Exists : goal.plan_core-returns-in_ok-name-in-Exists
-plan_core-returns-in_ok-name-in-Exists t c =
-    exists_planned c.drop_variable.result c.args.sources.now c.args.inner.now (core_of c.args.core.now) (core_of c.deref-in-Exists.result.now) c.in-Exists.name.now c.in_ok-name-in-Exists.name c.in-Exists.sort.now c.args.draft.now c.plan_core-in-Exists.new.draft c.drop_variable.new.self
-    (ap core_of c.in-Exists.is ∙ ap (λ x. exists c.in-Exists.name.now c.in-Exists.sort.now (core_of x)) (sym c.deref-in-Exists.ensures)) c.in_ok-name-in-Exists.ensures c.in_ok-plan_core-in-Exists.ensures c.drop_variable.ensures
+pub plan_core-returns-in_ok-plan_core-in-Exists : goal.plan_core-returns-in_ok-plan_core-in-Exists
+plan_core-returns-in_ok-plan_core-in-Exists t c =
+    exists_planned c.plan_drop.result c.args.sources.now c.args.inner.now (core_of c.args.core.now) (core_of c.deref-in-Exists.result.now) c.in-Exists.name.now c.in-Exists.sort.now c.args.draft.now c.plan_core-in-Exists.new.draft c.plan_drop.new.draft
+    (ap core_of c.in-Exists.is ∙ ap (λ x. exists c.in-Exists.name.now c.in-Exists.sort.now (core_of x)) (sym c.deref-in-Exists.ensures)) c.in_ok-plan_core-in-Exists.ensures c.plan_drop.ensures
 
 pub plan_some-loop-index-init : goal.plan_some-loop-index-init
 plan_some-loop-index-init t c = λ known M s. none_so_far M c.args.draft.now

@@ -1,5 +1,4 @@
-use Rattle.std.proofs.Common.{◌≡◌, None, rules}
-use Rattle.std.specs.BTreeSet.{keys}
+use Rattle.std.proofs.Common.{◌≡◌, None, refl, ap, subst, IfOk, rules}
 use Rattle.lrp_model.specs.Texts.{in_order}
 use Rattle.lrp_model.specs.Domains.{database_texts}
 use Rattle.lrp_rel.specs.Once.{once, texts_with}
@@ -7,8 +6,7 @@ use Rattle.lrp_plan.specs.Domains.{gathered}
 use Rattle.lrp_plan.proofs.Gathered.{ordered_is}
 use Rattle.lrp_plan.proofs.sources.Sources.texts.Goals as goal
 
-pub returns-in_ok-texts-in-None : goal.returns-in_ok-texts-in-None
-returns-in_ok-texts-in-None c =
+pub returns-in-None : goal.returns-in-None
+returns-in-None c =
     let g : gathered c.args.self.now.domains c.args.sort.now ≡ None = search rules in
-    let e : keys c.in_ok-texts-in-None.texts ≡ in_order (once (texts_with c.args.sort.now (database_texts c.args.self.now.database.now))) = search rules in
-    ordered_is c.list_of-in-None.result c.args.self.now c.args.sort.now (keys c.in_ok-texts-in-None.texts) e g c.list_of-in-None.ensures
+    ordered_is c.ordered.result c.args.self.now c.args.sort.now (in_order (once (texts_with c.args.sort.now (database_texts c.args.self.now.database.now)))) refl g (subst (λ us. IfOk c.ordered.result (λ made. made ≡ in_order us)) c.texts_of.ensures.texts c.ordered.ensures)

@@ -1,11 +1,14 @@
 -- A row has a value for each column, and one value more adds its text.
-use Rattle.std.proofs.Common.{◌<◌, ◌+◌, ◌∷◌, [], ◌++◌, take, length, arith}
+use Rattle.std.proofs.Common.{◌<◌, ◌+◌, ◌∷◌, [], ◌++◌, take, length, arith, rules}
 use Rattle.lrp_model.specs.Domains.{row_texts}
 use Rattle.lrp_rel.proofs.SeenLemmas.{as_many, row_next, seen_both, seen_as, row_all}
 use Rattle.lrp_rel.proofs.seen.Seen.see_row.Goals as goal
 
 pub bounds-columns-i : goal.bounds-columns-i
 bounds-columns-i c = omega (arith, c.loop-i-test.true, as_many c.args.columns.now c.args.values.now c.requires.values)
+
+pub offset_bounds-columns-i : goal.offset_bounds-columns-i
+offset_bounds-columns-i c = let within : c.loop-i.i < length c.args.columns.now = omega (arith, c.loop-i-test.true, as_many c.args.columns.now c.args.values.now c.requires.values) in search rules
 
 pub loop-i-preserved : goal.loop-i-preserved
 loop-i-preserved c =

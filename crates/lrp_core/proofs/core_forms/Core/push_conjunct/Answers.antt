@@ -1,5 +1,5 @@
 use Rattle.lrp_core.proofs.CoreViews.{conjuncts_added, conjunct_added}
-use Rattle.lrp_core.proofs.junctions.push_conjunct.Goals as goal
+use Rattle.lrp_core.proofs.core_forms.Core.push_conjunct.Goals as goal
 
 pub returns-in_ok-append-in-And : goal.returns-in_ok-append-in-And
 returns-in_ok-append-in-And c = conjuncts_added _ _ _ c.in-And.of c.in-And.is c.in_ok-append-in-And.ensures.items

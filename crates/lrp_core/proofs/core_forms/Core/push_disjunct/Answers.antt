@@ -1,5 +1,5 @@
 use Rattle.lrp_core.proofs.CoreViews.{disjuncts_added, disjunct_added}
-use Rattle.lrp_core.proofs.junctions.push_disjunct.Goals as goal
+use Rattle.lrp_core.proofs.core_forms.Core.push_disjunct.Goals as goal
 
 pub returns-in_ok-append-in-Or : goal.returns-in_ok-append-in-Or
 returns-in_ok-append-in-Or c = disjuncts_added _ _ _ c.in-Or.of c.in-Or.is c.in_ok-append-in-Or.ensures.items
