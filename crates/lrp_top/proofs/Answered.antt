@@ -4,10 +4,12 @@ use Rattle.std.specs.Prelude.{ℤ, pos, codes, Contains, IfNone, IfSome, MatchOp
 use Rattle.std.specs.List.{AllByRecursion}
 use Rattle.lrp_model.specs.Texts.{Text}
 use Rattle.lrp_model.specs.Formulas.{Question}
-use Rattle.lrp_model.specs.Pages.{IsAhead, IsPage, Tuple}
+use Rattle.lrp_model.specs.Pages.{IsAhead, IsPage}
+use Rattle.lrp_model.specs.Rows.{Tuple}
 use Rattle.lrp_model.specs.PrintedPages.{plain_line}
 use Rattle.lrp_model.specs.Periods.{period}
-use Rattle.lrp_model.specs.Plans.{plan, query_reach, scaled_reach, time_columns}
+use Rattle.lrp_model.specs.Plans.{plan, query_reach, scaled_reach}
+use Rattle.lrp_model.specs.Sorts.{time_count}
 use Rattle.lrp_model.specs.Steps.{PlanStep, step_at}
 use Rattle.lrp_model.specs.declared.tuples.Cell.{Cell}
 use Rattle.lrp_model.specs.declared.relations.Relation.{Relation}
@@ -53,17 +55,17 @@ module _ (db : List Relation) (q : Question) (cap : ℕ) (a : Answer) (is : IsAn
       let same : a.store.period ≡ period_at (plan db q) (length (plan db q)) = cc in
       record {
         period = subst (λ n. n ≤ query_reach db q) (sym same) wide;
-        scaled = subst (λ cs. 2 ^ (time_columns cs + 1) * query_reach db q ≤ 2 ^ 62) (sym is.head) reach;
-        small = λ cell z held. subst (λ cs. IsSmallZone z (time_columns cs * query_reach db q)) (sym is.head) (is.small cell z held);
+        scaled = subst (λ cs. 2 ^ (time_count cs + 1) * query_reach db q ≤ 2 ^ 62) (sym is.head) reach;
+        small = λ cell z held. subst (λ cs. IsSmallZone z (time_count cs * query_reach db q)) (sym is.head) (is.small cell z held);
       }
 
 -- ---- room for the canonical answer
 
 -- one time column of the head is one of the store
-pub one_column : (db : List Relation) (q : Question) (cap : ℕ) (a : Answer) → IsAnswerOf db q cap a → time_columns q.head ≡ 1 → a.store.shape.times ≡ 1
-one_column db q cap a is one = sym a.times_are ∙ ap time_columns is.head ∙ one
+pub one_column : (db : List Relation) (q : Question) (cap : ℕ) (a : Answer) → IsAnswerOf db q cap a → time_count q.head ≡ 1 → a.store.shape.times ≡ 1
+one_column db q cap a is one = sym a.times_are ∙ ap time_count is.head ∙ one
 
-module _ (db : List Relation) (q : Question) (cap : ℕ) (a : Answer) (is : IsAnswerOf db q cap a) (reach : scaled_reach db q ≤ 2 ^ 62) (wide : period_at (plan db q) (length (plan db q)) ≤ query_reach db q) (one : time_columns q.head ≡ 1) where
+module _ (db : List Relation) (q : Question) (cap : ℕ) (a : Answer) (is : IsAnswerOf db q cap a) (reach : scaled_reach db q ≤ 2 ^ 62) (wide : period_at (plan db q) (length (plan db q)) ≤ query_reach db q) (one : time_count q.head ≡ 1) where
   same_period : a.store.period ≡ period_at (plan db q) (length (plan db q))
   same_period = let k : pos a.store.period ≡ pos (period_at (plan db q) (length (plan db q))) = sym a.period_is ∙ is.period in cc
 

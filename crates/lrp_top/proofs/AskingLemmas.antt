@@ -8,7 +8,8 @@ use Rattle.lrp_words.specs.Commands.{task_of}
 use Rattle.lrp_words.specs.Ranges.{IsInRange}
 use Rattle.lrp_words.specs.declared.command.Command.{Command}
 use Rattle.lrp_words.specs.declared.command.Command.TheVariants.{Ask, Decide, List as Page, Explain, Check, Watch, Sample}
-use Rattle.lrp_top.specs.Due.{IsDueOf, IsLengthOrMemory, TellsLength, files_of}
+use Rattle.lrp_top.specs.Due.{IsDueOf, IsLengthOrMemory, files_of}
+use Rattle.lrp_top.specs.Lengths.{TellsLength}
 use Rattle.lrp_top.specs.Questions.{HasWindow, IsAsked, IsServed, asked_of, is_canonical}
 use Rattle.lrp_top.specs.Seen.{IsOverrun, ShelfSeen}
 use Rattle.lrp_top.specs.declared.asking.Asked.{Asked}

@@ -5,7 +5,7 @@ use Rattle.std.proofs.lemmas.List.{length-map}
 use Rattle.std.proofs.lemmas.Int.{ints}
 use Rattle.lrp_theory.specs.Residues.{IsFloor}
 use Rattle.lrp_top.proofs.Lists.{apart_map, in_map, of_map}
-use Rattle.lrp_canon.specs.Rows.{AreJust, HasRowCount, IsInRow, IsLeastPeriod, IsOpenBelow, IsSetOfRows, IsStart, PeriodicRow, Moment}
+use Rattle.lrp_canon.specs.Rows.{AreJust, HasRowCount, IsLeastPeriod, IsOpenBelow, IsSetOfRows, IsStart, PeriodicRow, Moment, IsInPeriodicRow}
 
 -- ---- sets with other names
 
@@ -36,7 +36,7 @@ set_named A B r period h = record {
   rows = map (named_row r.named) h.rows;
   sound = λ x ts s.
       let at = of_map (named_row r.named) h.rows s.row s.listed in
-      let inside : IsInRow period (named_row r.named at.0) x ts = subst (λ row. IsInRow period row x ts) (sym at.2) s.inside in
+      let inside : IsInPeriodicRow period (named_row r.named at.0) x ts = subst (λ row. IsInPeriodicRow period row x ts) (sym at.2) s.inside in
       let held : A x at.0.texts = h.sound x at.0.texts (record { row = at.0; listed = at.1; inside = record { named = refl; residue = inside.residue; low = inside.low; high = inside.high } }) in
       subst (B x) inside.named (r.to x at.0.texts held);
   whole = λ x ts b.

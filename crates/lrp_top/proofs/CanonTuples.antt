@@ -1,5 +1,5 @@
 -- What a store of answers holds with one time column: numbers with texts, which are the answers' own.
-use Rattle.std.proofs.Common.{◌≡◌, ℕ, zero, suc, ◌+◌, ◌<◌, ◌≤◌, List, [], ◌∷◌, length, map, take, Option, Some, None, true, false, cond, Bool, bytes_eq, Less, Equal, arith, refl, sym, ap, ap₂, subst, ◌∙◌, IsSome, filter, unwrap_or}
+use Rattle.std.proofs.Common.{◌≡◌, ℕ, zero, suc, ◌+◌, ◌<◌, ◌≤◌, List, [], ◌∷◌, length, map, take, Option, Some, None, true, false, cond, Bool, bytes_eq, Less, Equal, arith, refl, sym, ap, ap₂, subst, ◌∙◌, IsSome, unwrap_or}
 use Rattle.std.specs.Prelude.{ℤ, ◌↔◌, Contains, slice_get, slice_index}
 use Rattle.std.specs.Cmp.Lexicographic.{bytes_decides}
 use Rattle.std.specs.FinMap as finite
@@ -7,10 +7,10 @@ use Rattle.std.specs.List.{AllByRecursion}
 use Rattle.std.proofs.lemmas.Cmp.{tied_itself, nat_list_cmp_total}
 use Rattle.std.proofs.lemmas.List.{get_or-take, length-take-le}
 use Rattle.lrp_model.specs.Formulas.{Question}
-use Rattle.lrp_model.specs.Plans.{time_columns}
 use Rattle.lrp_model.specs.Rows.{Datum, time, text, times_of, texts_of}
 use Rattle.lrp_model.specs.Satisfaction.{HasShape, IsOfKind, IsAnswer}
-use Rattle.lrp_model.specs.Sorts.{same_sort}
+use Rattle.lrp_model.specs.Sorts.{same_sort, time_count}
+use Rattle.lrp_model.proofs.ColumnCounts.{with_time, with_text, few_times}
 use Rattle.lrp_model.specs.Texts.{Text, Ascends, text_cmp}
 use Rattle.lrp_model.specs.declared.relations.Sort.{Sort}
 use Rattle.lrp_model.specs.declared.relations.Sort.TheVariants.{Time, Data, Named}
@@ -106,47 +106,31 @@ record IsTupleOf (cs : List Column) (xs : List ℤ) (ts : List Text) (tuple : Li
   times : times_of tuple ≡ xs
   texts : texts_of tuple ≡ ts
 
--- the columns of a kind with one more of it, or with another
-with_time : (c : Column) (cs : List Column) → c.sort ≡ Time → time_columns (c ∷ cs) ≡ suc (time_columns cs)
-with_time c cs e = ap (λ b. length (cond b (c ∷ filter (λ d. same_sort d.sort Time) cs) (filter (λ d. same_sort d.sort Time) cs))) (ap (λ s. same_sort s Time) e)
-
-with_text : (c : Column) (cs : List Column) → same_sort c.sort Time ≡ false → time_columns (c ∷ cs) ≡ time_columns cs
-with_text c cs e = ap (λ b. length (cond b (c ∷ filter (λ d. same_sort d.sort Time) cs) (filter (λ d. same_sort d.sort Time) cs))) e
-
 -- a first time, or a first text
-first_time : (c : Column) (cs : List Column) (xs : List ℤ) (ts : List Text) → c.sort ≡ Time → time_columns (c ∷ cs) ≡ length xs → length (c ∷ cs) ≡ length xs + length ts
-    → ((ys : List ℤ) → time_columns cs ≡ length ys → length cs ≡ length ys + length ts → (tuple : List Datum) × IsTupleOf cs ys ts tuple) → (tuple : List Datum) × IsTupleOf (c ∷ cs) xs ts tuple
-first_time c cs [] ts s e f rest = let n : time_columns (c ∷ cs) ≡ suc (time_columns cs) = with_time c cs s in absurd (omega arith)
+first_time : (c : Column) (cs : List Column) (xs : List ℤ) (ts : List Text) → c.sort ≡ Time → time_count (c ∷ cs) ≡ length xs → length (c ∷ cs) ≡ length xs + length ts
+    → ((ys : List ℤ) → time_count cs ≡ length ys → length cs ≡ length ys + length ts → (tuple : List Datum) × IsTupleOf cs ys ts tuple) → (tuple : List Datum) × IsTupleOf (c ∷ cs) xs ts tuple
+first_time c cs [] ts s e f rest = let n : time_count (c ∷ cs) ≡ suc (time_count cs) = with_time c cs s in absurd (omega arith)
 first_time c cs (x ∷ xs) ts s e f rest =
-    let n : time_columns (c ∷ cs) ≡ suc (time_columns cs) = with_time c cs s in
+    let n : time_count (c ∷ cs) ≡ suc (time_count cs) = with_time c cs s in
     let r = rest xs (omega arith) (omega arith) in
     (time x ∷ r.0, record { shape = (subst (λ k. IsOfKind k (time x)) (sym s) tt, r.1.shape); times = ap (λ ys. x ∷ ys) r.1.times; texts = r.1.texts })
 
-first_text : (c : Column) (cs : List Column) (xs : List ℤ) (ts : List Text) → same_sort c.sort Time ≡ false → ((t : Text) → IsOfKind c.sort (text t)) → time_columns cs ≤ length cs → time_columns (c ∷ cs) ≡ length xs → length (c ∷ cs) ≡ length xs + length ts
-    → ((us : List Text) → time_columns cs ≡ length xs → length cs ≡ length xs + length us → (tuple : List Datum) × IsTupleOf cs xs us tuple) → (tuple : List Datum) × IsTupleOf (c ∷ cs) xs ts tuple
-first_text c cs xs [] s kind le e f rest = let n : time_columns (c ∷ cs) ≡ time_columns cs = with_text c cs s in absurd (omega arith)
+first_text : (c : Column) (cs : List Column) (xs : List ℤ) (ts : List Text) → same_sort c.sort Time ≡ false → ((t : Text) → IsOfKind c.sort (text t)) → time_count cs ≤ length cs → time_count (c ∷ cs) ≡ length xs → length (c ∷ cs) ≡ length xs + length ts
+    → ((us : List Text) → time_count cs ≡ length xs → length cs ≡ length xs + length us → (tuple : List Datum) × IsTupleOf cs xs us tuple) → (tuple : List Datum) × IsTupleOf (c ∷ cs) xs ts tuple
+first_text c cs xs [] s kind le e f rest = let n : time_count (c ∷ cs) ≡ time_count cs = with_text c cs s in absurd (omega arith)
 first_text c cs xs (t ∷ ts) s kind le e f rest =
-    let n : time_columns (c ∷ cs) ≡ time_columns cs = with_text c cs s in
+    let n : time_count (c ∷ cs) ≡ time_count cs = with_text c cs s in
     let r = rest ts (omega arith) (omega arith) in
     (text t ∷ r.0, record { shape = (kind t, r.1.shape); times = r.1.times; texts = ap (λ us. t ∷ us) r.1.texts })
 
--- some columns are time columns
-few_times : (cs : List Column) → time_columns cs ≤ length cs
-few_times [] = omega arith
-few_times (c ∷ cs) = let h : time_columns cs ≤ length cs = few_times cs in by (same_sort c.sort Time) h
-  where
-    by : (b : Bool) → time_columns cs ≤ length cs → length (cond b (c ∷ filter (λ d. same_sort d.sort Time) cs) (filter (λ d. same_sort d.sort Time) cs)) ≤ suc (length cs)
-    by true h = omega arith
-    by false h = omega arith
-
 -- there is one, where the head has so many columns of each kind
-tuple_of : (cs : List Column) (xs : List ℤ) (ts : List Text) → time_columns cs ≡ length xs → length cs ≡ length xs + length ts → (tuple : List Datum) × IsTupleOf cs xs ts tuple
+tuple_of : (cs : List Column) (xs : List ℤ) (ts : List Text) → time_count cs ≡ length xs → length cs ≡ length xs + length ts → (tuple : List Datum) × IsTupleOf cs xs ts tuple
 tuple_of [] [] [] e f = ([], record { shape = tt; times = refl; texts = refl })
 tuple_of [] [] (t ∷ ts) e f = absurd (omega arith)
 tuple_of [] (x ∷ xs) ts e f = absurd (omega arith)
 tuple_of (c ∷ cs) xs ts e f = by c.sort refl (λ ys. tuple_of cs ys)
   where
-    by : (s : Sort) → c.sort ≡ s → ((ys : List ℤ) (us : List Text) → time_columns cs ≡ length ys → length cs ≡ length ys + length us → (tuple : List Datum) × IsTupleOf cs ys us tuple) → (tuple : List Datum) × IsTupleOf (c ∷ cs) xs ts tuple
+    by : (s : Sort) → c.sort ≡ s → ((ys : List ℤ) (us : List Text) → time_count cs ≡ length ys → length cs ≡ length ys + length us → (tuple : List Datum) × IsTupleOf cs ys us tuple) → (tuple : List Datum) × IsTupleOf (c ∷ cs) xs ts tuple
     by Time s rest = first_time c cs xs ts s e f (λ ys. rest ys ts)
     by Data s rest = first_text c cs xs ts (ap (λ k. same_sort k Time) s) (λ t. subst (λ k. IsOfKind k (text t)) (sym s) tt) (few_times cs) e f (rest xs)
     by (Named name) s rest = first_text c cs xs ts (ap (λ k. same_sort k Time) s) (λ t. subst (λ k. IsOfKind k (text t)) (sym s) tt) (few_times cs) e f (rest xs)

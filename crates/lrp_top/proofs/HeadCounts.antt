@@ -1,20 +1,19 @@
 -- A head of a settled query has at most eight columns of each kind.
-use Rattle.std.proofs.Common.{◌≡◌, ◌≢◌, ◌≤◌, suc, Bool, true, false, cond, List, [], ◌∷◌, ◌++◌, length, map, filter, Contains, refl, ap, subst}
+use Rattle.std.proofs.Common.{◌≡◌, ◌≢◌, ◌≤◌, suc, Bool, true, false, cond, List, [], ◌∷◌, ◌++◌, length, map, filter, Contains, refl, ap, subst, ◌∙◌}
 use Rattle.std.specs.List.{AllByRecursion}
 use Rattle.std.proofs.lemmas.List.Elements.{Contains-append_left}
 use Rattle.lrp_model.specs.Texts.{Identifier, AreDistinct}
 use Rattle.lrp_model.specs.Formulas.{Question}
-use Rattle.lrp_model.specs.Plans.{time_columns}
 use Rattle.lrp_model.specs.Satisfaction.{HaveNames}
-use Rattle.lrp_model.specs.Sorts.{same_sort, is_data}
+use Rattle.lrp_model.specs.Sorts.{same_sort, is_data, time_count, text_count}
 use Rattle.lrp_model.specs.Variables.{Variable, time_variable, data_variable, bound_by, free, head_variables}
+use Rattle.lrp_model.proofs.ColumnCounts.{times_passed, texts_passed}
 use Rattle.lrp_model.specs.declared.relations.Sort.{Sort}
 use Rattle.lrp_model.specs.declared.relations.Sort.TheVariants.{Time, Data, Named}
 use Rattle.lrp_model.specs.declared.relations.Column.{Column}
 use Rattle.lrp_model.specs.declared.relations.Relation.{Relation}
 use Rattle.lrp_top.proofs.Lists.{first_in, later_in}
 use Rattle.lrp_plan_laws.specs.Settled.{IsSettled}
-use Rattle.lrp_top.specs.Resuming.{data_columns}
 
 module _ (p : Column → Bool) where
   names_apart : (name : Identifier) (cs : List Column) → AllByRecursion (λ d. name ≢ d.name) cs → AllByRecursion (λ m. name ≢ m) (map (λ c. c.name) (filter p cs))
@@ -66,12 +65,12 @@ module _ (db : List Relation) (q : Question) (settled : IsSettled db q) where
   bound : AllByRecursion (Contains (head_variables q.head ++ free q.body)) (head_variables q.head)
   bound = all_in (head_variables q.head) (head_variables q.head ++ free q.body) (λ v c. Contains-append_left (head_variables q.head) (free q.body) v c)
 
-  pub few_times : time_columns q.head ≤ 8
-  few_times = subst (λ n. n ≤ 8) (names_counted (λ c. same_sort c.sort Time) (filter (λ c. same_sort c.sort Time) q.head))
+  pub few_times : time_count q.head ≤ 8
+  few_times = subst (λ n. n ≤ 8) (names_counted (λ c. same_sort c.sort Time) (filter (λ c. same_sort c.sort Time) q.head) ∙ times_passed q.head)
       (settled.whole.times (map (λ c. c.name) (filter (λ c. same_sort c.sort Time) q.head)) (names_differ (λ c. same_sort c.sort Time) q.head settled.names)
       (names_among (λ c. same_sort c.sort Time) time_variable _ (λ c e. time_bound c.sort c.name e) q.head bound))
 
-  pub few_texts : data_columns q.head ≤ 8
-  few_texts = subst (λ n. n ≤ 8) (names_counted (λ c. is_data c.sort) (filter (λ c. is_data c.sort) q.head))
+  pub few_texts : text_count q.head ≤ 8
+  few_texts = subst (λ n. n ≤ 8) (names_counted (λ c. is_data c.sort) (filter (λ c. is_data c.sort) q.head) ∙ texts_passed q.head)
       (settled.whole.texts (map (λ c. c.name) (filter (λ c. is_data c.sort) q.head)) (names_differ (λ c. is_data c.sort) q.head settled.names)
       (names_among (λ c. is_data c.sort) data_variable _ (λ c e. data_bound c.sort c.name e) q.head bound))

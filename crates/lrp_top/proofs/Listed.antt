@@ -1,18 +1,17 @@
 -- Spots that follow one another, and their page.
-use Rattle.std.proofs.Common.{◌≡◌, ◌≤◌, ◌+◌, ◌^◌, ℕ, suc, List, [], ◌∷◌, ◌++◌, length, map, Option, Some, None, Bool, true, false, not, cond, filter, refl, sym, ap, subst, ◌∙◌, arith, to_z, of_z, w64}
+use Rattle.std.proofs.Common.{◌≡◌, ◌≤◌, ◌+◌, ◌^◌, ℕ, suc, List, [], ◌∷◌, ◌++◌, length, map, Option, Some, None, Bool, refl, sym, ap, subst, ◌∙◌, arith, to_z, of_z, w64}
 use Rattle.std.specs.Prelude.{ℤ, pos, negsuc, neg_ℤ, ◌≤ℤ◌, nat_abs, ◌↔◌, IsTrue, IfSome}
 use Rattle.std.specs.Borrow.{Bor}
 use Rattle.std.specs.List.{AllByRecursion}
 use Rattle.std.proofs.lemmas.Int.{ints}
 use Rattle.std.proofs.lemmas.List.{length-map, map-append}
-use Rattle.lrp_model.specs.Lexing.{greatest_number}
+use Rattle.lrp_model.specs.Limits.{greatest_number}
 use Rattle.lrp_model.specs.Formulas.{Question}
-use Rattle.lrp_model.specs.Pages.{IsPage, Tuple}
-use Rattle.lrp_model.specs.Plans.{time_columns}
-use Rattle.lrp_model.specs.Rows.{times_of}
+use Rattle.lrp_model.specs.Pages.{IsPage}
+use Rattle.lrp_model.specs.Rows.{times_of, Tuple}
 use Rattle.lrp_model.specs.Satisfaction.{IsAnswer}
-use Rattle.lrp_model.specs.Sorts.{same_sort, is_data}
-use Rattle.lrp_model.specs.declared.relations.Sort.TheVariants.{Time}
+use Rattle.lrp_model.specs.Sorts.{time_count, text_count}
+use Rattle.lrp_model.proofs.ColumnCounts.{counts_split}
 use Rattle.lrp_model.specs.declared.relations.Column.{Column}
 use Rattle.lrp_model.specs.declared.relations.Relation.{Relation}
 use Rattle.lrp_model.specs.declared.tuples.Shape.{Shape}
@@ -29,7 +28,7 @@ use Rattle.lrp_outputs.specs.Known.{HasTimes, IsKnown}
 use Rattle.lrp_top.specs.Standing.{IsStanding}
 use Rattle.lrp_outputs.specs.Spots.{tuple_of}
 use Rattle.lrp_outputs.specs.Outputs.{page_text}
-use Rattle.lrp_top.specs.Resuming.{data_columns, shape_of}
+use Rattle.lrp_top.specs.Resuming.{shape_of}
 use Rattle.lrp_top.specs.Telling.{TellsPage}
 use Rattle.lrp_outputs.specs.PageLines.{listed_bytes}
 use Rattle.lrp_outputs.specs.declared.page.Page.{Page}
@@ -67,18 +66,18 @@ none_left w v p e vw ep none t left = none t (subst (λ o. IsLeft v o t) ep (sub
 
 -- what a listing gives up to a limit, with the flag that something is left, is a page
 abbrev pub AreGivenPages : Type 0
-AreGivenPages = (w : WindowView) (after end : Option Tuple) (greatest_number : ℕ) (page : List Tuple) (more : Bool) → Gives w after page end → length page ≤ greatest_number → (IsTrue more → length page ≡ greatest_number) → (IsTrue more ↔ ((t : Tuple) × IsLeft w end t))
-    → IsPage (InAnswer w.columns w.domain w.store) w.from w.to after greatest_number page more
+AreGivenPages = (w : WindowView) (after end : Option Tuple) (limit : ℕ) (page : List Tuple) (more : Bool) → Gives w after page end → length page ≤ limit → (IsTrue more → length page ≡ limit) → (IsTrue more ↔ ((t : Tuple) × IsLeft w end t))
+    → IsPage (InAnswer w.columns w.domain w.store) w.from w.to after limit page more
 
 -- what was given is a page
-pub page_given : AreGivenPages → (w v u : WindowView) (p after end : Option Tuple) (spots : List Spot) (greatest_number : ℕ) (more : Bool) → v ≡ w → u ≡ v → p ≡ after → Gives v p (map (tuple_at v) spots) end → length spots ≤ greatest_number
-    → ((t : Tuple) → IsLeft v end t → length spots ≡ greatest_number) → (IsTrue more ↔ ((t : Tuple) × IsLeft u end t)) → IsPage (InAnswer w.columns w.domain w.store) w.from w.to after greatest_number (map (tuple_at w) spots) more
-page_given page_is w v u p after end spots greatest_number more vw uv pa g few full is =
+pub page_given : AreGivenPages → (w v u : WindowView) (p after end : Option Tuple) (spots : List Spot) (limit : ℕ) (more : Bool) → v ≡ w → u ≡ v → p ≡ after → Gives v p (map (tuple_at v) spots) end → length spots ≤ limit
+    → ((t : Tuple) → IsLeft v end t → length spots ≡ limit) → (IsTrue more ↔ ((t : Tuple) × IsLeft u end t)) → IsPage (InAnswer w.columns w.domain w.store) w.from w.to after limit (map (tuple_at w) spots) more
+page_given page_is w v u p after end spots limit more vw uv pa g few full is =
     let n : length (map (tuple_at w) spots) ≡ length spots = length-map spots (tuple_at w) in
     let given : Gives w after (map (tuple_at w) spots) end = subst (λ (x : WindowView). Gives x after (map (tuple_at x) spots) end) vw (subst (λ o. Gives v o (map (tuple_at v) spots) end) pa g) in
     let left : IsTrue more ↔ ((t : Tuple) × IsLeft w end t) = subst (λ (x : WindowView). IsTrue more ↔ ((t : Tuple) × IsLeft x end t)) (uv ∙ vw) is in
-    let whole : (t : Tuple) → IsLeft w end t → length spots ≡ greatest_number = subst (λ (x : WindowView). (t : Tuple) → IsLeft x end t → length spots ≡ greatest_number) vw full in
-    page_is w after end greatest_number (map (tuple_at w) spots) more given (omega arith) (λ m. let t = left.0 m in n ∙ whole t.0 t.1) left
+    let whole : (t : Tuple) → IsLeft w end t → length spots ≡ limit = subst (λ (x : WindowView). (t : Tuple) → IsLeft x end t → length spots ≡ limit) vw full in
+    page_is w after end limit (map (tuple_at w) spots) more given (omega arith) (λ m. let t = left.0 m in n ∙ whole t.0 t.1) left
 
 -- an end of a window is its word
 pub word : (z : ℤ) → neg_ℤ (pos (2 ^ 62)) ≤ℤ z → z ≤ℤ pos (2 ^ 62) → to_z w64 (of_z w64 z) ≡ z
@@ -121,21 +120,13 @@ told_page db q cap a from to begins limit civil json files page is same dates fo
 
 -- ---- counts of columns
 
-columns_split : (cs : List Column) → time_columns cs + data_columns cs ≡ length cs
-columns_split [] = refl
-columns_split (c ∷ cs) = by (same_sort c.sort Time) (columns_split cs)
-  where
-    by : (b : Bool) → time_columns cs + data_columns cs ≡ length cs → length (cond b (c ∷ filter (λ d. same_sort d.sort Time) cs) (filter (λ d. same_sort d.sort Time) cs)) + length (cond (not b) (c ∷ filter (λ d. is_data d.sort) cs) (filter (λ d. is_data d.sort) cs)) ≡ suc (length cs)
-    by true e = omega arith
-    by false e = omega arith
-
 -- a tuple of the head's shape has the shape of its answers
 pub same_shape : (a : Answer) (head : List Column) (t : ToldTuple) → a.head.columns ≡ head → HasShapeOf (shape_of head) t → HasShapeOf a.store.shape t
 same_shape a head t e h =
-    let m : a.store.shape.times ≡ time_columns head = sym a.times_are ∙ ap time_columns e in
+    let m : a.store.shape.times ≡ time_count head = sym a.times_are ∙ ap time_count e in
     let n : length head ≡ a.store.shape.times + a.store.shape.texts = ap (λ cs. length cs) (sym e) ∙ a.columns_are in
-    let s : time_columns head + data_columns head ≡ length head = columns_split head in
-    let d : data_columns head ≡ a.store.shape.texts = omega arith in
+    let s : time_count head + text_count head ≡ length head = counts_split head in
+    let d : text_count head ≡ a.store.shape.texts = omega arith in
     record { times = h.times ∙ sym m; texts = h.texts ∙ d; low = h.low; high = h.high }
 
 pub some_shape : (a : Answer) (head : List Column) (o : Option (Bor ToldTuple)) → a.head.columns ≡ head → IfSome o (λ t. HasShapeOf (shape_of head) t.now) → IfSome o (λ t. HasShapeOf a.store.shape t.now)

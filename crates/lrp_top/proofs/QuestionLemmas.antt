@@ -3,7 +3,7 @@ use Rattle.std.proofs.Common.{◌≡◌, ℕ, ◌≤◌, Bool, true, false, List
 use Rattle.lrp_io.specs.Causes.{Rose}
 use Rattle.lrp_io.specs.declared.shelf.File.{File}
 use Rattle.lrp_model.specs.Formulas.{Question as Queried}
-use Rattle.lrp_model.specs.Plans.{time_columns}
+use Rattle.lrp_model.specs.Sorts.{time_count}
 use Rattle.lrp_model.specs.Texts.{Identifier}
 use Rattle.lrp_model.specs.declared.plans.Plan.{Plan}
 use Rattle.lrp_model.specs.declared.relations.Relation.{Relation}
@@ -121,6 +121,6 @@ fits true q one = one refl
 pub no_fit : (canon : Bool) (q : Queried) → (HasOneTime canon q.head → ⊥) → IsHeadFit canon q (Err CanonHead)
 no_fit false q other = absurd (other unasked)
   where
-    unasked : false ≡ true → time_columns q.head ≡ 1
+    unasked : false ≡ true → time_count q.head ≡ 1
     unasked e = cc
 no_fit true q other = λ one. other (λ e. one)

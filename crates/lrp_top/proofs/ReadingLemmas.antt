@@ -5,9 +5,8 @@ use Rattle.std.specs.List.{AllZip}
 use Rattle.lrp_model.specs.Checked.{plain_question}
 use Rattle.lrp_model.specs.DatabaseMeaning.{column_of}
 use Rattle.lrp_model.specs.Formulas.{Question}
-use Rattle.lrp_model.specs.Pages.{Tuple}
 use Rattle.lrp_model.specs.RawQueries.{RawQuestion}
-use Rattle.lrp_model.specs.Rows.{Datum}
+use Rattle.lrp_model.specs.Rows.{Datum, Tuple}
 use Rattle.lrp_model.specs.Satisfaction.{IsAnswer, IsOfSort, Structure, assignment, structure}
 use Rattle.lrp_model.specs.Sorting.{IsWellSorted, IsSortFault}
 use Rattle.lrp_model.specs.Texts.{Identifier}

@@ -9,7 +9,8 @@ use Rattle.lrp_model.specs.Checked.{plain_question}
 use Rattle.lrp_model.specs.DatabaseReading.{IsDatabase}
 use Rattle.lrp_model.specs.Formulas.{Question}
 use Rattle.lrp_model.specs.Order.{IsLeast}
-use Rattle.lrp_model.specs.Pages.{IsAhead, IsPage, Rises, Tuple}
+use Rattle.lrp_model.specs.Pages.{IsAhead, IsPage, Rises}
+use Rattle.lrp_model.specs.Rows.{Tuple}
 use Rattle.lrp_model.specs.Plans.{IsWithinLimits}
 use Rattle.lrp_model.specs.QueryReading.{IsQuery}
 use Rattle.lrp_model.specs.Satisfaction.{IsAnswer}

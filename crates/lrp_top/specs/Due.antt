@@ -1,5 +1,5 @@
 -- What is due for words: step by step, what comes of it and why it is refused; the first refusal stands.
-use Rattle.std.specs.Prelude.{◌≡◌, ◌≢◌, ℕ, ℤ, Bool, true, false, ◌<◌, ◌≤◌, ◌^◌, List, [], ◌∷◌, length, map, Option, Some, None, Result, Ok, Err, String, string_bytes}
+use Rattle.std.specs.Prelude.{◌≡◌, ◌≢◌, ℕ, ℤ, Bool, true, false, ◌<◌, ◌≤◌, List, [], ◌∷◌, length, map, Option, Some, None, Result, Ok, Err, String, string_bytes}
 use Rattle.std.specs.List.{AllByRecursion}
 use Rattle.std.specs.declared.alloc.Global.{Global}
 use Rattle.lrp_words.specs.Commands.{Task, command}
@@ -9,7 +9,8 @@ use Rattle.lrp_model.specs.Caps.{IsFirstMany, ManyAt}
 use Rattle.lrp_model.specs.DatabaseReading.{IsDatabase, IsDatabaseFault}
 use Rattle.lrp_model.specs.Formulas.{Question}
 use Rattle.lrp_model.specs.Periods.{period}
-use Rattle.lrp_model.specs.Plans.{IsPlan, scaled_reach, IsWithinLimits, time_columns}
+use Rattle.lrp_model.specs.Plans.{IsPlan, scaled_reach, IsWithinLimits}
+use Rattle.lrp_model.specs.Sorts.{time_count}
 use Rattle.lrp_model.specs.Texts.{Identifier, Text}
 use Rattle.lrp_model.specs.declared.plans.Plan.{Plan}
 use Rattle.lrp_model.specs.declared.relations.Relation.{Relation}
@@ -29,15 +30,16 @@ use Rattle.lrp_outputs.specs.declared.refusal.Refusal.{Refusal}
 use Rattle.lrp_outputs.specs.declared.refusal.Refusal.TheVariants.{Usage, ReadDatabase, LongDatabase, Database, ReadQuery, LongQuery, Query, PeriodLimit, BoundLimit, Cells, CanonHead, CanonRows, Watch, Memory}
 use Rattle.lrp_outputs.specs.declared.watch_refusal.WatchRefusal.TheVariants as watch_refusal
 use Rattle.lrp_outputs.specs.declared.status.Status.{Status}
+use Rattle.lrp_model.specs.Limits.{most_bytes, greatest_number}
 
 -- ---- the steps
 
 -- the file of the database is read. Ok: its bytes, and the relations that its text means. Refused: its count of faults rose, it is too long, or its text has a fault; or want of memory
 abbrev pub IsDatabaseReadOf : Bool → ShelfSeen → Identifier → List ℕ → Result (Source (List Relation)) Refusal → Type 0
-IsDatabaseReadOf civil seen name bytes (Ok database) = (database.bytes ≡ bytes) × (length bytes ≤ 16777216) × IsDatabase (plain_if civil bytes) database.says
+IsDatabaseReadOf civil seen name bytes (Ok database) = (database.bytes ≡ bytes) × (length bytes ≤ most_bytes) × IsDatabase (plain_if civil bytes) database.says
 IsDatabaseReadOf civil seen name bytes (Err ReadDatabase) = HasFailed seen name
-IsDatabaseReadOf civil seen name bytes (Err LongDatabase) = (16777216 < length bytes) × IsOverrun seen name
-IsDatabaseReadOf civil seen name bytes (Err (Database fault)) = (length bytes ≤ 16777216) × IsDatabaseFault (plain_if civil bytes) fault
+IsDatabaseReadOf civil seen name bytes (Err LongDatabase) = (most_bytes < length bytes) × IsOverrun seen name
+IsDatabaseReadOf civil seen name bytes (Err (Database fault)) = (length bytes ≤ most_bytes) × IsDatabaseFault (plain_if civil bytes) fault
 IsDatabaseReadOf civil seen name bytes (Err Memory) = Unit {0}
 IsDatabaseReadOf civil seen name bytes (Err _) = ⊥
 
@@ -46,10 +48,10 @@ IsDatabaseRead civil seen name = FromFile seen name (IsDatabaseReadOf civil seen
 
 -- the file of the query is read. Ok: its bytes, and the query that they say, well-sorted over the relations. Refused: its count of faults rose, it is too long, or its text or its sorts have a fault; or want of memory
 abbrev pub IsQueryReadOf : Bool → List Relation → ShelfSeen → Identifier → List ℕ → Result (Source Question) Refusal → Type 0
-IsQueryReadOf tense db seen name bytes (Ok query) = (query.bytes ≡ bytes) × (length bytes ≤ 16777216) × IsSortedAs tense db bytes query.says
+IsQueryReadOf tense db seen name bytes (Ok query) = (query.bytes ≡ bytes) × (length bytes ≤ most_bytes) × IsSortedAs tense db bytes query.says
 IsQueryReadOf tense db seen name bytes (Err ReadQuery) = HasFailed seen name
-IsQueryReadOf tense db seen name bytes (Err LongQuery) = (16777216 < length bytes) × IsOverrun seen name
-IsQueryReadOf tense db seen name bytes (Err (Query fault)) = (length bytes ≤ 16777216) × IsFaultyAs tense db bytes fault
+IsQueryReadOf tense db seen name bytes (Err LongQuery) = (most_bytes < length bytes) × IsOverrun seen name
+IsQueryReadOf tense db seen name bytes (Err (Query fault)) = (length bytes ≤ most_bytes) × IsFaultyAs tense db bytes fault
 IsQueryReadOf tense db seen name bytes (Err Memory) = Unit {0}
 IsQueryReadOf tense db seen name bytes (Err _) = ⊥
 
@@ -59,15 +61,15 @@ IsQueryRead tense db seen name = FromFile seen name (IsQueryReadOf tense db seen
 -- the head is looked at where a canonical answer is asked for. Ok: it has one time column, or none is asked for. Refused: it has another number of them
 abbrev pub IsHeadFit : Bool → Question → Result (Unit {0}) Refusal → Type 0
 IsHeadFit false q result = result ≡ Ok tt
-IsHeadFit true q (Ok fit) = time_columns q.head ≡ 1
-IsHeadFit true q (Err CanonHead) = time_columns q.head ≢ 1
+IsHeadFit true q (Ok fit) = time_count q.head ≡ 1
+IsHeadFit true q (Err CanonHead) = time_count q.head ≢ 1
 IsHeadFit true q (Err _) = ⊥
 
--- the query is planned. Ok: its plan. Refused: its period is above 2^62, or that is not but its reach is, doubled once and once more for each time column of the head; or want of memory
+-- the query is planned. Ok: its plan. Refused: its period is above the greatest number, or that is not but its reach is, doubled once and once more for each time column of the head; or want of memory
 abbrev pub IsPlanned : List Relation → Question → Result Plan Refusal → Type 0
 IsPlanned db q (Ok p) = IsPlan p db q × IsWithinLimits db q
-IsPlanned db q (Err PeriodLimit) = 2 ^ 62 < period db q.body
-IsPlanned db q (Err BoundLimit) = (period db q.body ≤ 2 ^ 62) × (2 ^ 62 < scaled_reach db q)
+IsPlanned db q (Err PeriodLimit) = greatest_number < period db q.body
+IsPlanned db q (Err BoundLimit) = (period db q.body ≤ greatest_number) × (greatest_number < scaled_reach db q)
 IsPlanned db q (Err Memory) = Unit {0}
 IsPlanned db q (Err _) = ⊥
 
@@ -167,10 +169,6 @@ IsLengthOrMemory (Err LongQuery) = Unit {0}
 IsLengthOrMemory (Err (Watch watch_refusal.Long)) = Unit {0}
 IsLengthOrMemory (Err Memory) = Unit {0}
 IsLengthOrMemory _ = ⊥
-
--- where the started file may have been overrun, whatever its name, a file is too long
-abbrev pub TellsLength : {B : Type 0} → ShelfSeen → Result B Refusal → Type 0
-TellsLength seen result = (name : Identifier) → IsOverrun seen name → IsLengthOrMemory result
 
 -- ---- what is due for words, and the run
 

@@ -1,4 +1,6 @@
 -- What contracts say of words, outcomes and texts: first what a run is, and then the program's own values.
+
+-- What the contract of `run` reaches.
 pub mod Seen
 pub mod Ends
 pub mod Sources
@@ -10,6 +12,8 @@ pub mod Sampled
 pub mod Canonical
 pub mod Watched
 pub mod Due
+-- What contracts of single functions need beside.
+pub mod Lengths
 pub mod Standing
 pub mod Refusals
 pub mod Questions

@@ -2,8 +2,8 @@
 use Rattle.std.specs.Prelude.{◌≡◌, ◌≤ℤ◌, ℕ, pos, Bool, true, false, List, Option, Some, None, Result, Ok, Err}
 use Rattle.std.specs.List.{AllByRecursion}
 use Rattle.lrp_model.specs.Formulas.{Question as Queried, form_of, question_of}
-use Rattle.lrp_model.specs.Pages.{Tuple}
-use Rattle.lrp_model.specs.Plans.{time_columns}
+use Rattle.lrp_model.specs.Rows.{Tuple}
+use Rattle.lrp_model.specs.Sorts.{time_count}
 use Rattle.lrp_model.specs.QueryReading.{IsQuery}
 use Rattle.lrp_model.specs.RawQueries.{RawQuestion}
 use Rattle.lrp_model.specs.TestPoints.{points}
@@ -136,7 +136,7 @@ is_canonical _ = false
 
 -- where it does, the head of the question has one time column
 abbrev pub HasOneTime : Bool → List Column → Type 0
-HasOneTime canon head = canon ≡ true → time_columns head ≡ 1
+HasOneTime canon head = canon ≡ true → time_count head ≡ 1
 
 -- the ends of its window, where it has one
 abbrev pub HasWindow : Purpose → Type 0

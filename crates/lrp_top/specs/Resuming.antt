@@ -1,10 +1,9 @@
 -- Where a page begins: behind the tuple of a token, where there is one; or why the token is refused.
-use Rattle.std.specs.Prelude.{◌≡◌, ◌≢◌, ℕ, ℤ, List, length, filter, Option, Some, None, Result, Ok, Err}
+use Rattle.std.specs.Prelude.{◌≡◌, ◌≢◌, ℕ, ℤ, List, Option, Some, None, Result, Ok, Err}
 use Rattle.lrp_model.specs.Texts.{Text}
-use Rattle.lrp_model.specs.Pages.{Tuple}
-use Rattle.lrp_model.specs.Plans.{time_columns}
+use Rattle.lrp_model.specs.Rows.{Tuple}
 use Rattle.lrp_model.specs.PrintedPages.{IsToken}
-use Rattle.lrp_model.specs.Sorts.{is_data}
+use Rattle.lrp_model.specs.Sorts.{time_count, text_count}
 use Rattle.lrp_model.specs.Tuples.{in_head_order}
 use Rattle.lrp_model.specs.declared.relations.Column.{Column}
 use Rattle.lrp_model.specs.declared.tuples.Shape.{Shape}
@@ -12,13 +11,9 @@ use Rattle.lrp_token.specs.Reading.{HasCounts, HasOtherCounts, IsNoToken}
 use Rattle.lrp_outputs.specs.declared.refusal.Refusal.{Refusal}
 use Rattle.lrp_outputs.specs.declared.refusal.Refusal.TheVariants.{TokenForm, TokenShape, TokenStale, Memory}
 
--- how many columns of a head are of data sorts
-abbrev pub data_columns : List Column → ℕ
-data_columns columns = length (filter (λ c. is_data c.sort) columns)
-
 -- how many time columns a head has, and how many data columns
 abbrev pub shape_of : List Column → Shape
-shape_of columns = record { times = time_columns columns; texts = data_columns columns }
+shape_of columns = record { times = time_count columns; texts = text_count columns }
 
 -- a token without a digest is never stale, and one with a digest is not where that is the current one, which is the files'
 abbrev pub IsFresh : List ℕ → Option (List ℕ) → Type 0

@@ -4,6 +4,7 @@ use Rattle.lrp_io.specs.Causes.{Rose}
 use Rattle.lrp_io.specs.Files.{content_of}
 use Rattle.lrp_io.specs.declared.shelf.File.{File}
 use Rattle.lrp_model.specs.Texts.{Identifier}
+use Rattle.lrp_model.specs.Limits.{most_bytes}
 
 -- of a shelf: the files that it tells, if it does, its counts of faults of each name before and after, and at the end how many bytes of the started file it gave and which names may be that file's
 pub record ShelfSeen : Type 0 where
@@ -31,4 +32,4 @@ HasFailed seen name = Rose (seen.faults_before name) (seen.faults name)
 -- the started file may be the one of this name, and more of its bytes were given than a file may have
 pub record IsOverrun (seen : ShelfSeen) (name : Identifier) : Type 0 where
   pub named : seen.may_be name ≡ true
-  pub many : 16777216 < seen.given
+  pub many : most_bytes < seen.given

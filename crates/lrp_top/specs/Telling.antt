@@ -2,7 +2,8 @@
 use Rattle.std.specs.Prelude.{◌≡◌, ◌⊎◌, ℕ, ℤ, Bool, List, ◌++◌, Option, codes}
 use Rattle.lrp_model.specs.Formulas.{Question}
 use Rattle.lrp_model.specs.Order.{IsLeast}
-use Rattle.lrp_model.specs.Pages.{IsPage, Tuple}
+use Rattle.lrp_model.specs.Pages.{IsPage}
+use Rattle.lrp_model.specs.Rows.{Tuple}
 use Rattle.lrp_model.specs.Printed.{database_bytes}
 use Rattle.lrp_model.specs.PrintedPages.{plain_line}
 use Rattle.lrp_model.specs.PrintedPlans.{plan_bytes}

@@ -13,6 +13,7 @@ use Rattle.lrp_top.specs.Seen.{ShelfSeen, HasFailed, IsOverrun}
 use Rattle.lrp_top.specs.Sources.{FromFile}
 use Rattle.lrp_outputs.specs.declared.refusal.Refusal.{Refusal}
 use Rattle.lrp_outputs.specs.declared.refusal.Refusal.TheVariants.{Watch, Memory}
+use Rattle.lrp_model.specs.Limits.{most_bytes}
 use Rattle.lrp_outputs.specs.declared.watch_refusal.WatchRefusal.TheVariants as watch
 
 -- the query is looked at. Ok: it is in kept form. Refused: it is not
@@ -23,10 +24,10 @@ IsKeptForm q (Err _) = ⊥
 
 -- the file of the edits is read. Ok: the edits of the database that its text says. Refused: its count of faults rose, it is too long, or its text has a fault; or want of memory
 abbrev pub AreEditsReadOf : List Relation → ShelfSeen → Identifier → List ℕ → Result (List Edit) Refusal → Type 0
-AreEditsReadOf db seen name bytes (Ok edits) = (length bytes ≤ 16777216) × SaysEdits bytes db edits
+AreEditsReadOf db seen name bytes (Ok edits) = (length bytes ≤ most_bytes) × SaysEdits bytes db edits
 AreEditsReadOf db seen name bytes (Err (Watch watch.Read)) = HasFailed seen name
-AreEditsReadOf db seen name bytes (Err (Watch watch.Long)) = (16777216 < length bytes) × IsOverrun seen name
-AreEditsReadOf db seen name bytes (Err (Watch (watch.Edits fault))) = (length bytes ≤ 16777216) × IsEditsFault bytes db fault
+AreEditsReadOf db seen name bytes (Err (Watch watch.Long)) = (most_bytes < length bytes) × IsOverrun seen name
+AreEditsReadOf db seen name bytes (Err (Watch (watch.Edits fault))) = (length bytes ≤ most_bytes) × IsEditsFault bytes db fault
 AreEditsReadOf db seen name bytes (Err Memory) = Unit {0}
 AreEditsReadOf db seen name bytes (Err _) = ⊥
 

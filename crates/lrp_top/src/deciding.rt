@@ -1,7 +1,8 @@
 // The decision: what the words ask for, before the first byte is written.
 ghost use Rattle.std.specs.Prelude.{◌≡◌, [], None};
 ghost use Rattle.std.specs.List.{AllByRecursion};
-ghost use Rattle.lrp_top.specs.Due.{IsDue, IsDueOf, IsDatabaseRead, IsOutput, IsLengthOrMemory, TellsLength, files_named, files_of};
+ghost use Rattle.lrp_top.specs.Due.{IsDue, IsDueOf, IsDatabaseRead, IsOutput, IsLengthOrMemory, files_named, files_of};
+ghost use Rattle.lrp_top.specs.Lengths.{TellsLength};
 ghost use Rattle.lrp_outputs.specs.Outputs.{told};
 ghost use Rattle.lrp_top.specs.Questions.{HasWindow, asked_of, IsAsked, IsServed, is_canonical};
 ghost use Rattle.lrp_top.specs.Seen.{IsOverrun};

@@ -2,7 +2,8 @@
 ghost use Rattle.std.specs.Prelude.{◌≡◌, ◌≤◌, IfOk, List as ListOf, ℕ};
 ghost use Rattle.std.specs.List.{AllByRecursion};
 ghost use Rattle.lrp_edits.specs.EditMeaning.{IsEditOf};
-ghost use Rattle.lrp_top.specs.Due.{IsDatabaseRead, IsQueryRead, TellsLength};
+ghost use Rattle.lrp_top.specs.Due.{IsDatabaseRead, IsQueryRead};
+ghost use Rattle.lrp_top.specs.Lengths.{TellsLength};
 ghost use Rattle.lrp_top.specs.Questions.{IsFit, asked_as, read_as};
 ghost use Rattle.lrp_top.specs.Watched.{AreEditsRead};
 

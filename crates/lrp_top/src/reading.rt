@@ -15,6 +15,7 @@ ghost use Rattle.lrp_top.specs.Questions.{IsDatabaseOrMemory, IsFit, IsQueryOrMe
 ghost use Rattle.lrp_top.specs.Seen.{ShelfSeen};
 ghost use Rattle.lrp_top.specs.Watched.{AreEditsReadOf};
 ghost use Rattle.lrp_top.specs.Written.{plain_if};
+ghost use Rattle.lrp_model.specs.Limits.{most_bytes};
 
 use crate::files::{DatabaseFile, QueryFile};
 use lrp_civil::plain_text;
@@ -32,7 +33,7 @@ use std::alloc::Global;
 
 /// The database of a file's bytes.
 pub fn database_in(alloc: Global, bytes: List<u8>, civil: bool) -> Result<DatabaseFile, Refusal>
-    requires { length bytes ≤ 16777216 }
+    requires { length bytes ≤ most_bytes }
     ensures read { (seen : ShelfSeen) (name : ListOf ℕ) → IsDatabaseReadOf civil seen name bytes (read_as result) }
     ensures every { (db : ListOf RelationOf) → IsDatabase (plain_if civil bytes) db → IsDatabaseOrMemory db result }
 {
@@ -45,7 +46,7 @@ pub fn database_in(alloc: Global, bytes: List<u8>, civil: bool) -> Result<Databa
 
 /// The relations of a text, or of its plain text where times are civil ones.
 fn relations_of(alloc: Global, bytes: &[u8], civil: bool) -> Result<Database, ReadFault>
-    requires { length bytes.now ≤ 16777216 }
+    requires { length bytes.now ≤ most_bytes }
     ensures read { IfOk result (IsDatabase (plain_if civil bytes.now)) }
     ensures refused { IfErr result (IsRefusedBy (plain_if civil bytes.now)) }
     ensures every { (db : ListOf RelationOf) → IsDatabase (plain_if civil bytes.now) db → IsOrMemory db result }
@@ -66,7 +67,7 @@ pub fn query_in(
     bytes: List<u8>,
     tense: bool,
 ) -> Result<QueryFile, Refusal>
-    requires { length bytes ≤ 16777216 }
+    requires { length bytes ≤ most_bytes }
     ensures asked { (seen : ShelfSeen) (name : ListOf ℕ) → IsQueryReadOf tense database.now seen name bytes (asked_as result) }
     ensures fit { IfOk result (λ file. IsFit database.now file) }
     ensures every { (raw : RawQuestion) → IsSaidBy tense bytes raw → IsWellSorted database.now raw → IsQueryOrMemory (plain_question raw) result }
@@ -84,7 +85,7 @@ pub fn query_in(
 
 /// The query of a text with its places, in which temporal operators are written out.
 fn raw_of(alloc: Global, bytes: &[u8], tense: bool) -> Result<RawQuery, QueryRead>
-    requires { length bytes.now ≤ 16777216 }
+    requires { length bytes.now ≤ most_bytes }
     ensures said { IfOk result (λ raw. IsSaidBy tense bytes.now (raw_question_of raw)) }
     ensures lawful { IfOk result (λ raw. IsLawfulExpansion (raw_question_of raw)) }
     ensures refused { IfErr result (IsUnreadAs tense bytes.now) }
@@ -104,7 +105,7 @@ fn raw_of(alloc: Global, bytes: &[u8], tense: bool) -> Result<RawQuery, QueryRea
 
 /// The edits of a file's bytes, over a database.
 pub fn edits_in(alloc: Global, database: &Database, bytes: &[u8]) -> Result<List<Edit>, Refusal>
-    requires { length bytes.now ≤ 16777216 }
+    requires { length bytes.now ≤ most_bytes }
     ensures read { (seen : ShelfSeen) (name : ListOf ℕ) → AreEditsReadOf database.now seen name bytes.now result }
     ensures lawful { IfOk result (AllByRecursion (IsEditOf database.now)) }
 {

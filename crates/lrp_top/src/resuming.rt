@@ -1,11 +1,10 @@
 // Where a page begins: behind the tuple of a token, where there is one.
-ghost use Rattle.std.specs.Prelude.{◌≡◌, ◌≤◌, IfOk, IfSome, count_by};
+ghost use Rattle.std.specs.Prelude.{◌≡◌, ◌≤◌, IfOk, IfSome};
 ghost use Rattle.lrp_list.specs.Listing.{HasShapeOf};
-ghost use Rattle.lrp_model.specs.Plans.{time_columns};
-ghost use Rattle.lrp_model.specs.Sorts.{is_data, is_time};
+ghost use Rattle.lrp_model.specs.Sorts.{time_count, text_count};
 ghost use Rattle.lrp_words.specs.Commands.{after_text};
 ghost use Rattle.lrp_top.specs.Questions.{resumed_as};
-ghost use Rattle.lrp_top.specs.Resuming.{IsResumed, data_columns, shape_of as shape_of_head};
+ghost use Rattle.lrp_top.specs.Resuming.{IsResumed, shape_of as shape_of_head};
 
 use lrp_model::{Column, Shape, Tuple};
 use lrp_outputs::Refusal;
@@ -19,8 +18,8 @@ pub fn resumed(
     digest: &[u8; 32],
     head: &[Column],
 ) -> Result<Option<Tuple>, Refusal>
-    requires times { time_columns head.now ≤ 8 }
-    requires texts { data_columns head.now ≤ 8 }
+    requires times { time_count head.now ≤ 8 }
+    requires texts { text_count head.now ≤ 8 }
     ensures shape { IfOk result (λ tuple. IfSome tuple (HasShapeOf (shape_of_head head.now))) }
     ensures resumed { IsResumed digest.now head.now (after_text after.entry) (resumed_as head.now result) }
 {
@@ -36,8 +35,8 @@ pub fn resumed(
 
 /// How many time columns and how many data columns a head has.
 fn shape_of(head: &[Column]) -> Shape
-    requires times { time_columns head.now ≤ 8 }
-    requires texts { data_columns head.now ≤ 8 }
+    requires times { time_count head.now ≤ 8 }
+    requires texts { text_count head.now ≤ 8 }
     ensures { result ≡ shape_of_head head.now }
 {
     let times = times_of(head);
@@ -50,14 +49,14 @@ fn shape_of(head: &[Column]) -> Shape
 
 /// How many time columns a head has.
 pub fn times_of(head: &[Column]) -> usize
-    ensures { result ≡ count_by (λ column. is_time column.sort) head.now }
+    ensures { result ≡ time_count head.now }
 {
     head.iter().filter(|column| column.sort.is_time()).count()
 }
 
 /// How many data columns a head has.
 fn texts_of(head: &[Column]) -> usize
-    ensures { result ≡ count_by (λ column. is_data column.sort) head.now }
+    ensures { result ≡ text_count head.now }
 {
     head.iter().filter(|column| !column.sort.is_time()).count()
 }

@@ -2,7 +2,7 @@
 ghost use Rattle.std.specs.Prelude.{◌≡◌, false, true, IfOk, List, ℕ};
 ghost use Rattle.lrp_eval.specs.Answered.{IsAnswerOf};
 ghost use Rattle.lrp_model.specs.Formulas.{Question as Queried, question_of};
-ghost use Rattle.lrp_model.specs.Plans.{time_columns};
+ghost use Rattle.lrp_model.specs.Sorts.{time_count};
 ghost use Rattle.lrp_model.specs.declared.relations.Relation.{Relation};
 ghost use Rattle.lrp_store.specs.Least.{HasRoom};
 ghost use Rattle.lrp_top.specs.Canonical.{IsCanonicalText};
@@ -42,7 +42,7 @@ pub fn serve(alloc: Global, question: Question, purpose: &Purpose<'_>) -> Result
         })),
         Purpose::Answer { cap, canon } => whole_answer(alloc, &question, *cap, *canon),
         Purpose::Witness { cap } => witness(alloc, &question, *cap),
-        Purpose::Page { paging } => page(alloc, &question, paging),
+        Purpose::Page { paging } => page(alloc, question, paging),
     }
 }
 
@@ -103,7 +103,7 @@ fn all_answers(alloc: Global, question: &Question, cap: u32) -> Result<Output, R
 /// The canonical answer of a question, or the first step with too many cells, or that it has too many rows.
 fn canonical_answer(alloc: Global, question: &Question, cap: u32) -> Result<Output, Refusal>
     requires ready { IsReady question.now }
-    requires head { time_columns question.now.query.query.head.columns ≡ 1 }
+    requires head { time_count question.now.query.query.head.columns ≡ 1 }
     ensures due { IsAnswered true cap (database_source question.now.database) (query_source question.now.query) question.now.plan (told result) }
 {
     match answers(alloc, question, cap) {
@@ -120,7 +120,7 @@ fn canonical_text(
     cap: u32,
 ) -> Result<Output, Refusal>
     requires ready { IsReady question.now }
-    requires head { time_columns question.now.query.query.head.columns ≡ 1 }
+    requires head { time_count question.now.query.query.head.columns ≡ 1 }
     requires answers { IsAnswerOf question.now.database.relations (question_of question.now.query.query) cap answer }
     ensures due { Then (AreRowsCounted question.now.database.relations (question_of question.now.query.query) cap)
         (λ counted. IsOutput (IsCanonicalText question.now.database.relations (question_of question.now.query.query))) (told result) }

@@ -2,7 +2,8 @@
 ghost use Rattle.std.specs.Prelude.{◌≡◌, IfOk, true};
 ghost use Rattle.lrp_kept.specs.KeptForm.{is_kept as is_kept_form};
 ghost use Rattle.lrp_model.specs.Formulas.{question_of};
-ghost use Rattle.lrp_top.specs.Due.{IsWatchedFor, TellsLength};
+ghost use Rattle.lrp_top.specs.Due.{IsWatchedFor};
+ghost use Rattle.lrp_top.specs.Lengths.{TellsLength};
 ghost use Rattle.lrp_outputs.specs.Outputs.{told};
 ghost use Rattle.lrp_top.specs.Refusals.{refused_at};
 ghost use Rattle.lrp_top.specs.Watched.{IsKeptForm, IsWatched};

@@ -3,15 +3,15 @@ use Rattle.std.proofs.Common.{◌≡◌, ◌≤◌, Err, Ok, List, Option, refl,
 use Rattle.std.specs.Prelude.{ℕ, IfSome}
 use Rattle.lrp_list.specs.Listing.{HasShapeOf}
 use Rattle.lrp_model.specs.Formulas.{question_of}
-use Rattle.lrp_model.specs.Pages.{Tuple}
-use Rattle.lrp_model.specs.Plans.{time_columns}
+use Rattle.lrp_model.specs.Rows.{Tuple}
+use Rattle.lrp_model.specs.Sorts.{time_count, text_count}
 use Rattle.lrp_model.specs.declared.relations.Column.{Column}
 use Rattle.lrp_token.specs.Files.{files_digest}
 use Rattle.lrp_words.specs.Commands.{after_text}
 use Rattle.lrp_top.specs.Due.{IsCounted, IsOutput}
 use Rattle.lrp_top.specs.Telling.{TellsPage}
 use Rattle.lrp_outputs.specs.Outcomes.{Outcome}
-use Rattle.lrp_top.specs.Resuming.{IsResumed, data_columns, shape_of}
+use Rattle.lrp_top.specs.Resuming.{IsResumed, shape_of}
 use Rattle.lrp_outputs.specs.Outputs.{told}
 use Rattle.lrp_top.specs.Questions.{resumed_as}
 use Rattle.lrp_top.specs.Steps.{Behind, Then}
@@ -20,19 +20,19 @@ use Rattle.lrp_top.proofs.ResumeLemmas.{behind_resumed, lent}
 use Rattle.lrp_top.proofs.listing.page.Goals as goal
 
 pub resumed-requires-clause-times : goal.resumed-requires-clause-times
-resumed-requires-clause-times c = subst (λ head. time_columns head ≤ 8) (sym c.as_slice-head.ensures) (few_times c.args.question.now.database.relations (question_of c.args.question.now.query.query) c.requires.ready.planned.settled)
+resumed-requires-clause-times c = subst (λ head. time_count head ≤ 8) (sym c.as_slice-head.ensures) (few_times c.args.question.database.relations (question_of c.args.question.query.query) c.requires.ready.planned.settled)
 
 pub resumed-requires-clause-texts : goal.resumed-requires-clause-texts
-resumed-requires-clause-texts c = subst (λ head. data_columns head ≤ 8) (sym c.as_slice-head.ensures) (few_texts c.args.question.now.database.relations (question_of c.args.question.now.query.query) c.requires.ready.planned.settled)
+resumed-requires-clause-texts c = subst (λ head. text_count head ≤ 8) (sym c.as_slice-head.ensures) (few_texts c.args.question.database.relations (question_of c.args.question.query.query) c.requires.ready.planned.settled)
 
 pub page_behind-requires-clause-after : goal.page_behind-requires-clause-after
 page_behind-requires-clause-after c =
-    let head = c.args.question.now.query.query.head.columns in
+    let head = c.args.question.query.query.head.columns in
     lent (HasShapeOf (shape_of head)) c.in-Ok.after c.as_ref.result c.as_ref.ensures.value (subst (λ h. IfSome c.in-Ok.after (HasShapeOf (shape_of h))) c.as_slice-head.ensures c.in-Ok.ensures.shape)
 
 pub returns-in-Ok : goal.returns-in-Ok
 returns-in-Ok c =
-    let question = c.args.question.now in
+    let question = c.args.question in
     let head = question.query.query.head.columns in
     let p = c.args.paging.now in
     let spelled : c.digest-files.result ≡ files_digest question.database.bytes question.query.bytes = c.digest-files.ensures ∙ ap₂ files_digest c.as_slice.ensures c.as_slice-2.ensures in
@@ -50,7 +50,7 @@ returns-in-Ok c =
 
 pub returns-in-Err : goal.returns-in-Err
 returns-in-Err c =
-    let question = c.args.question.now in
+    let question = c.args.question in
     let head = question.query.query.head.columns in
     let p = c.args.paging.now in
     let spelled : c.digest-files.result ≡ files_digest question.database.bytes question.query.bytes = c.digest-files.ensures ∙ ap₂ files_digest c.as_slice.ensures c.as_slice-2.ensures in

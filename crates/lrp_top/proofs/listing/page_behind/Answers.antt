@@ -2,18 +2,18 @@
 use Rattle.std.proofs.Common.{Ok, option_map}
 use Rattle.lrp_list.specs.Listing.{told_tuple}
 use Rattle.lrp_model.specs.Formulas.{question_of}
-use Rattle.lrp_model.specs.Pages.{Tuple}
+use Rattle.lrp_model.specs.Rows.{Tuple}
 use Rattle.lrp_model.specs.declared.relations.Column.{Column}
 use Rattle.std.specs.Prelude.{List, Option}
 use Rattle.lrp_top.proofs.Listed.{some_shape, told_page}
 use Rattle.lrp_top.proofs.listing.page_behind.Goals as goal
 
 pub page_of-requires-clause-after : goal.page_of-requires-clause-after
-page_of-requires-clause-after c = some_shape c.in-Ok.answer c.args.question.now.query.query.head.columns c.args.after c.in-Ok.ensures.answers.head c.requires.after
+page_of-requires-clause-after c = some_shape c.in-Ok.answer c.args.question.query.query.head.columns c.args.after c.in-Ok.ensures.answers.head c.requires.after
 
 pub returns-in-Ok-page_of : goal.returns-in-Ok-page_of
 returns-in-Ok-page_of c =
-    let question = c.args.question.now in
+    let question = c.args.question in
     let p = c.args.paging.now in
     let begins : List Column → Option Tuple = λ columns. option_map (λ t. told_tuple columns t.now) c.args.after in
     record {

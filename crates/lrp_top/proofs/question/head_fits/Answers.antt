@@ -1,11 +1,8 @@
 -- The head has one time column, or none is asked for.
 use Rattle.std.proofs.Common.{◌≡◌, ◌∙◌, ℕ, ap, arith, sym, nat_eq}
-use Rattle.std.specs.Prelude.{IsTrue, count_by}
+use Rattle.std.specs.Prelude.{IsTrue}
 use Rattle.std.proofs.lemmas.Bool.Decides.{nat_tests}
-use Rattle.std.proofs.lemmas.List.Sums.{length-filter}
-use Rattle.lrp_model.specs.Plans.{time_columns}
-use Rattle.lrp_model.specs.Sorts.{same_sort}
-use Rattle.lrp_model.specs.declared.relations.Sort.TheVariants.{Time}
+use Rattle.lrp_model.specs.Sorts.{time_count}
 use Rattle.lrp_top.proofs.question.head_fits.Goals as goal
 
 one_of : (n : ℕ) → IsTrue (nat_eq n 1) → n ≡ 1
@@ -17,8 +14,7 @@ is_one n h = grind (arith, nat_tests)
 pub returns-else-not-canon : goal.returns-else-not-canon
 returns-else-not-canon c =
     let columns = c.args.query.now.head.columns in
-    let counted : c.times_of.result ≡ count_by (λ column. same_sort column.sort Time) columns = c.times_of.ensures ∙ ap (λ cs. count_by (λ column. same_sort column.sort Time) cs) c.as_slice.ensures in
-    let same : time_columns columns ≡ c.times_of.result = length-filter (λ column. same_sort column.sort Time) columns ∙ sym counted in (
+    let same : time_count columns ≡ c.times_of.result = sym (c.times_of.ensures ∙ ap time_count c.as_slice.ensures) in (
       (λ one asked. same ∙ one_of c.times_of.result one),
       (λ h. is_one c.times_of.result (sym same ∙ h c.if-not-canon.false)),
     )
