@@ -11,7 +11,7 @@ use Rattle.lrp_theory.proofs.Modulo.{Divides-is, Divides-neg, Divides-zero, mult
 use Rattle.lrp_theory.proofs.Multiples.{Divides-multiple}
 use Rattle.lrp_spans.specs.Repeating.{RepeatsAtEnds}
 use Rattle.lrp_spans.proofs.Lists.{head_in, in_cons, in_none, later}
-use Rattle.lrp_canon.specs.Rows.{IsInRow, IsSetOfRows, PeriodicRow}
+use Rattle.lrp_canon.specs.Rows.{IsSetOfRows, PeriodicRow, IsInPeriodicRow}
 
 -- ---- what goes over into itself from a bound on
 module _ (S : ℤ → Type 0) (P B : ℕ) (low : 0 < P) (on : (x : ℤ) → pos B ≤ℤ x → S x → S (x +ℤ pos P)) (back : (x : ℤ) → pos B ≤ℤ x → S (x +ℤ pos P) → S x) where
@@ -174,32 +174,32 @@ module _ {T : Type 0} (texts : List T) (S : ℤ → Type 0) (decide : (x : ℤ) 
   downward x y g l d h = subst S (flip y) (onward (λ z. S (neg_ℤ z)) P B low down_on down_back (neg_ℤ x) (neg_ℤ y) (omega (arith, ints)) (omega (arith, ints)) (turned x y d) (subst S (sym (flip x)) h))
 
   -- each of the rows lies in the set
-  high_sound : (row : PeriodicRow T) (x : ℤ) (u : List T) → Contains highs row → IsInRow P row x u → (texts ≡ u) × S x
+  high_sound : (row : PeriodicRow T) (x : ℤ) (u : List T) → Contains highs row → IsInPeriodicRow P row x u → (texts ≡ u) × S x
   unfolding highs
   high_sound row x u c i =
       let p = in_picked S decide (upper texts) P (pos B) row c in
-      let j : IsInRow P (upper texts p.number) x u = subst (λ r. IsInRow P r x u) (sym p.is) i in
+      let j : IsInPeriodicRow P (upper texts p.number) x u = subst (λ r. IsInPeriodicRow P r x u) (sym p.is) i in
       (j.named, onward S P B low ends.on ends.back p.number x p.low j.low j.residue p.inside)
 
-  low_sound : (row : PeriodicRow T) (x : ℤ) (u : List T) → Contains lows row → IsInRow P row x u → (texts ≡ u) × S x
+  low_sound : (row : PeriodicRow T) (x : ℤ) (u : List T) → Contains lows row → IsInPeriodicRow P row x u → (texts ≡ u) × S x
   unfolding lows bottom
   low_sound row x u c i =
       let p = in_picked S decide (lower texts) P bottom row c in
-      let j : IsInRow P (lower texts p.number) x u = subst (λ r. IsInRow P r x u) (sym p.is) i in
+      let j : IsInPeriodicRow P (lower texts p.number) x u = subst (λ r. IsInPeriodicRow P r x u) (sym p.is) i in
       let h : p.number <ℤ (((neg_ℤ (pos B) -ℤ pos P) +ℤ pos 1) +ℤ pos P) = p.high in
       (j.named, downward p.number x (omega (arith, ints, h)) j.high j.residue p.inside)
 
-  middle_sound : (row : PeriodicRow T) (x : ℤ) (u : List T) → Contains middles row → IsInRow P row x u → (texts ≡ u) × S x
+  middle_sound : (row : PeriodicRow T) (x : ℤ) (u : List T) → Contains middles row → IsInPeriodicRow P row x u → (texts ≡ u) × S x
   unfolding middles
   middle_sound row x u c i =
       let p = in_picked S decide (single texts) (B + B) (neg_ℤ (pos B)) row c in
-      let j : IsInRow P (single texts p.number) x u = subst (λ r. IsInRow P r x u) (sym p.is) i in
+      let j : IsInPeriodicRow P (single texts p.number) x u = subst (λ r. IsInPeriodicRow P r x u) (sym p.is) i in
       let l : p.number ≤ℤ x = j.low in
       let h : x ≤ℤ p.number = j.high in
       let e : p.number ≡ x = omega (arith, ints) in
       (j.named, subst S e p.inside)
 
-  pub rows_sound : (row : PeriodicRow T) (x : ℤ) (u : List T) → Contains rows_of_texts row → IsInRow P row x u → (texts ≡ u) × S x
+  pub rows_sound : (row : PeriodicRow T) (x : ℤ) (u : List T) → Contains rows_of_texts row → IsInPeriodicRow P row x u → (texts ≡ u) × S x
   unfolding rows_of_texts
   rows_sound row x u c i = elim (Contains-append_cases highs (lows ++ middles) row c) [
     | inl a ↦ high_sound row x u a i
@@ -210,7 +210,7 @@ module _ {T : Type 0} (texts : List T) (S : ℤ → Type 0) (decide : (x : ℤ) 
   pub record HasRow (x : ℤ) : Type 0 where
     pub row : PeriodicRow T
     pub listed : Contains rows_of_texts row
-    pub inside : IsInRow P row x texts
+    pub inside : IsInPeriodicRow P row x texts
 
   high_whole : (x : ℤ) → S x → pos B ≤ℤ x → HasRow x
   unfolding rows_of_texts highs

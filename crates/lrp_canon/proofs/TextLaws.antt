@@ -1,5 +1,5 @@
 -- A query with one time column has one answer text in rows of a period: the rows are fixed by the answers.
-use Rattle.std.proofs.Common.{◌≡◌, ◌≢◌, ℕ, zero, suc, ◌+◌, ◌*◌, ◌⊎◌, inl, inr, List, [], ◌∷◌, length, filter, Bool, true, false, Some, None, cond, negsuc, Less, Equal, Greater, arith, refl, sym, subst, ap, ap₂, ◌∙◌}
+use Rattle.std.proofs.Common.{◌≡◌, ◌≢◌, ℕ, zero, suc, ◌+◌, ◌*◌, ◌⊎◌, inl, inr, List, [], ◌∷◌, length, Bool, true, false, Some, None, cond, negsuc, Less, Equal, Greater, arith, refl, sym, subst, ap, ap₂, ◌∙◌}
 use Rattle.std.specs.Prelude.{ℤ, pos, ◌+ℤ◌, ◌-ℤ◌, ◌≤ℤ◌, ◌<ℤ◌, neg_ℤ, ◌↔◌, Contains, AllPairs}
 use Rattle.std.specs.List.{AllByRecursion, AllZip}
 use Rattle.std.specs.Str.{bytes_eq}
@@ -14,11 +14,11 @@ use Rattle.lrp_theory.specs.Divides.{Divides}
 use Rattle.lrp_theory.proofs.Modulo.{Divides-+, Divides--, Divides-is, Divides-self, Divides-zero, small_multiple}
 use Rattle.lrp_model.specs.AnswerTexts.{ComesBefore, HasPeriod, IsAnswerRelation, IsAnswerRow, IsAnswerTextOf, IsApart, IsLeastBound, IsOwnBound, MayStandBeside, OfOneCell, row_cell_cmp, value_residues, value_texts}
 use Rattle.lrp_model.specs.Formulas.{Question}
-use Rattle.lrp_model.specs.Plans.{time_columns}
 use Rattle.lrp_model.specs.Printed.{relation_bytes}
 use Rattle.lrp_model.specs.Rows.{Datum, IsInRow, IsOf, Meets, rows_in, rows_of, text, time, time_at, times_of}
 use Rattle.lrp_model.specs.Satisfaction.{IsAnswer, IsOfSort, Structure, structure}
-use Rattle.lrp_model.specs.Sorts.{same_sort}
+use Rattle.lrp_model.specs.Sorts.{is_time, time_count}
+use Rattle.lrp_model.proofs.ColumnCounts.{times_more, one_more, none_more}
 use Rattle.lrp_model.specs.Texts.{text_cmp}
 use Rattle.lrp_model.specs.declared.relations.Bound.{Bound}
 use Rattle.lrp_model.specs.declared.relations.Column.{Column}
@@ -171,20 +171,19 @@ all_between x y z [] l h m n = m
 all_between x y z (b ∷ bs) l h m n = (between x y z b l h m.0 n.0, all_between x y z bs l h m.1 n.1)
 
 -- ---- the times of answers
-more_times : (M : Structure) (s : Sort) (d : Datum) (c : Column) (columns : List Column) (tuple : List Datum) → IsOfSort M s d → length (times_of tuple) ≡ time_columns columns
-    → length (times_of (d ∷ tuple)) ≡ length (cond (same_sort s Time) (c ∷ filter (λ e. same_sort e.sort Time) columns) (filter (λ e. same_sort e.sort Time) columns))
-more_times M Time (time x) c columns tuple i e = ap suc e
-more_times M Time (text t) c columns tuple i e = absurd i
-more_times M Data (time x) c columns tuple i e = absurd i
-more_times M Data (text t) c columns tuple i e = e
-more_times M (Named n) (time x) c columns tuple i e = absurd i
-more_times M (Named n) (text t) c columns tuple i e = e
+more_times : (M : Structure) (s : Sort) (d : Datum) (tuple : List Datum) (n : ℕ) → IsOfSort M s d → length (times_of tuple) ≡ n → length (times_of (d ∷ tuple)) ≡ cond (is_time s) 1 0 + n
+more_times M Time (time x) tuple n i e = ap suc e ∙ sym (one_more n)
+more_times M Time (text t) tuple n i e = absurd i
+more_times M Data (time x) tuple n i e = absurd i
+more_times M Data (text t) tuple n i e = e ∙ sym (none_more n)
+more_times M (Named name) (time x) tuple n i e = absurd i
+more_times M (Named name) (text t) tuple n i e = e ∙ sym (none_more n)
 
-times_size : (M : Structure) (columns : List Column) (tuple : List Datum) → AllZip (λ c d. IsOfSort M c.sort d) columns tuple → length (times_of tuple) ≡ time_columns columns
+times_size : (M : Structure) (columns : List Column) (tuple : List Datum) → AllZip (λ c d. IsOfSort M c.sort d) columns tuple → length (times_of tuple) ≡ time_count columns
 times_size M [] [] h = refl
 times_size M [] (d ∷ tuple) h = absurd h
 times_size M (c ∷ columns) [] h = absurd h
-times_size M (c ∷ columns) (d ∷ tuple) h = more_times M c.sort d c columns tuple h.0 (times_size M columns tuple h.1)
+times_size M (c ∷ columns) (d ∷ tuple) h = more_times M c.sort d tuple (time_count columns) h.0 (times_size M columns tuple h.1) ∙ sym (times_more c columns)
 
 one_time : (xs : List ℤ) → length xs ≡ 1 → (x : ℤ) × (xs ≡ x ∷ [])
 one_time [] e = absurd (omega (arith, e))
@@ -284,12 +283,12 @@ same_residue K values t u x y p h g e f =
     heads c d cs ds e = cc
 
 -- ---- the rows of one relation of answers
-module _ (K : ℕ) (db : List Relation) (q : Question) (one : time_columns q.head ≡ 1) (answer : Relation) (is : IsAnswerRelation K db q answer) where
+module _ (K : ℕ) (db : List Relation) (q : Question) (one : time_count q.head ≡ 1) (answer : Relation) (is : IsAnswerRelation K db q answer) where
   abbrev Behind : Row → Row → Type 0
   Behind r s = (row_cell_cmp r s ≢ Greater) × (OfOneCell r s → IsApart K r s)
 
   row_is : (r : Row) → Contains answer.rows r → IsAnswerRow K 1 r
-  row_is r c = subst (λ m. IsAnswerRow K m r) one (all_at (IsAnswerRow K (time_columns q.head)) answer.rows r is.rows c)
+  row_is r c = subst (λ m. IsAnswerRow K m r) one (all_at (IsAnswerRow K (time_count q.head)) answer.rows r is.rows c)
 
   own_rows : rows_of (answer ∷ []) answer.name ≡ answer.rows
   own_rows = ap (λ b. rows_in (cond b (Some answer) None)) ((bytes_decides answer.name answer.name).1 refl)
@@ -339,7 +338,7 @@ module _ (K : ℕ) (db : List Relation) (q : Question) (one : time_columns q.hea
       ]
 
 -- ---- two relations of the same answers
-module _ (K : ℕ) (db other_db : List Relation) (q other : Question) (one : time_columns q.head ≡ 1) (other_one : time_columns other.head ≡ 1)
+module _ (K : ℕ) (db other_db : List Relation) (q other : Question) (one : time_count q.head ≡ 1) (other_one : time_count other.head ≡ 1)
     (same : (t : List Datum) → IsAnswer db q t → IsAnswer other_db other t) (answer second : Relation) (is : IsAnswerRelation K db q answer) (also : IsAnswerRelation K other_db other second) where
   module _ (r s : Row) (c : Contains answer.rows r) (d : Contains second.rows s) (m : List Datum) (i : IsInRow r m) (j : IsInRow s m) where
     period_is : AllByRecursion (HasPeriod K) r.values
@@ -398,7 +397,7 @@ module _ (K : ℕ) (db other_db : List Relation) (q other : Question) (one : tim
         walked a.0 a.1 t b.0 it b.1 k.times k.is
 
 -- ---- rows of both with a member in common are one
-module _ (K : ℕ) (db other_db : List Relation) (q other : Question) (one : time_columns q.head ≡ 1) (other_one : time_columns other.head ≡ 1)
+module _ (K : ℕ) (db other_db : List Relation) (q other : Question) (one : time_count q.head ≡ 1) (other_one : time_count other.head ≡ 1)
     (to : (t : List Datum) → IsAnswer db q t → IsAnswer other_db other t) (from : (t : List Datum) → IsAnswer other_db other t → IsAnswer db q t)
     (answer second : Relation) (is : IsAnswerRelation K db q answer) (also : IsAnswerRelation K other_db other second) where
   module _ (r s : Row) (c : Contains answer.rows r) (d : Contains second.rows s) (m : List Datum) (i : IsInRow r m) (j : IsInRow s m) where
@@ -432,10 +431,10 @@ module _ (K : ℕ) (db other_db : List Relation) (q other : Question) (one : tim
       let h = held K other_db other other_one second also m.0 (to m.0 (answers K db q one answer is r c m.0 m.1)) in
       subst (Contains second.rows) (sym (same_row r h.0 c h.1 m.0 m.1 h.2)) h.1
 
-module _ (K : ℕ) (db other_db : List Relation) (q other : Question) (heads : q.head ≡ other.head) (one : time_columns q.head ≡ 1)
+module _ (K : ℕ) (db other_db : List Relation) (q other : Question) (heads : q.head ≡ other.head) (one : time_count q.head ≡ 1)
     (same : (t : List Datum) → IsAnswer db q t ↔ IsAnswer other_db other t) where
-  other_one : time_columns other.head ≡ 1
-  other_one = ap time_columns (sym heads) ∙ one
+  other_one : time_count other.head ≡ 1
+  other_one = ap time_count (sym heads) ∙ one
 
   same_relation : (answer second : Relation) → IsAnswerRelation K db q answer → IsAnswerRelation K other_db other second → answer ≡ second
   same_relation answer second is also =

@@ -1,8 +1,7 @@
 -- The answers of a query with one time column as a set of numbers with texts.
 use Rattle.std.specs.Prelude.{◌≡◌, ℤ, List, [], ◌∷◌}
 use Rattle.lrp_model.specs.Formulas.{Question}
-use Rattle.lrp_model.specs.Pages.{Tuple}
-use Rattle.lrp_model.specs.Rows.{times_of, texts_of}
+use Rattle.lrp_model.specs.Rows.{times_of, texts_of, Tuple}
 use Rattle.lrp_model.specs.Satisfaction.{IsAnswer}
 use Rattle.lrp_model.specs.Texts.{Text}
 use Rattle.lrp_model.specs.declared.relations.Relation.{Relation}

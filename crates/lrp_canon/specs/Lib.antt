@@ -1,8 +1,11 @@
 -- Sets of one time column as periodic rows, and the canonical answer of such a set.
+
+-- What the contract of `run` reaches.
 pub mod Answers
+pub mod Rows
+-- What contracts of single functions need beside.
 pub mod Canonical
 pub mod Counting
 pub mod Edges
 pub mod Making
 pub mod Pairing
-pub mod Rows

@@ -14,7 +14,7 @@ pub record PeriodicRow (T : Type 0) : Type 0 where
   pub most : Option ℤ
 
 -- the number has the row's residue modulo the period and lies between its ends, and the texts are the row's
-pub record IsInRow {T : Type 0} (period : ℕ) (row : PeriodicRow T) (x : ℤ) (texts : List T) : Type 0 where
+pub record IsInPeriodicRow {T : Type 0} (period : ℕ) (row : PeriodicRow T) (x : ℤ) (texts : List T) : Type 0 where
   pub named : row.texts ≡ texts
   pub residue : Divides (pos period) (x -ℤ row.residue)
   pub low : Above x row.least
@@ -24,7 +24,7 @@ pub record IsInRow {T : Type 0} (period : ℕ) (row : PeriodicRow T) (x : ℤ) (
 pub record InSomeRow {T : Type 0} (period : ℕ) (rows : List (PeriodicRow T)) (x : ℤ) (texts : List T) : Type 0 where
   pub row : PeriodicRow T
   pub listed : Contains rows row
-  pub inside : IsInRow period row x texts
+  pub inside : IsInPeriodicRow period row x texts
 
 -- the set is that of finitely many rows that all have this period
 pub record IsSetOfRows {T : Type 0} (set : ℤ → List T → Type 0) (period : ℕ) : Type 0 where

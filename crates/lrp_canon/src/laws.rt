@@ -2,7 +2,7 @@
 ghost use Rattle.std.specs.Prelude.{◌≡◌, ◌↔◌, ℕ, List};
 ghost use Rattle.lrp_model.specs.AnswerTexts.{IsAnswerTextOf};
 ghost use Rattle.lrp_model.specs.Formulas.{Question};
-ghost use Rattle.lrp_model.specs.Plans.{time_columns};
+ghost use Rattle.lrp_model.specs.Sorts.{time_count};
 ghost use Rattle.lrp_model.specs.Rows.{Datum};
 ghost use Rattle.lrp_model.specs.Satisfaction.{IsAnswer};
 ghost use Rattle.lrp_model.specs.declared.relations.Relation.{Relation};
@@ -14,7 +14,7 @@ ghost use Rattle.lrp_canon.specs.Rows.{HasRowCount};
 pub fn answer_texts_are_unique()
     ensures { (K : ℕ) (db other_db : List Relation) (q other : Question) (bytes others : List ℕ)
         → q.head ≡ other.head
-        → time_columns q.head ≡ 1
+        → time_count q.head ≡ 1
         → ((tuple : List Datum) → IsAnswer db q tuple ↔ IsAnswer other_db other tuple)
         → IsAnswerTextOf K db q bytes
         → IsAnswerTextOf K other_db other others

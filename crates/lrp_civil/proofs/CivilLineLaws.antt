@@ -3,26 +3,24 @@ use Rattle.std.proofs.Common.{◌≡◌, ◌<◌, ◌≤◌, ◌-◌, ℕ, suc, 
 use Rattle.std.specs.Prelude.{ℤ, ◌==◌}
 use Rattle.std.proofs.lemmas.Bool.Decides.{nat_tests}
 use Rattle.lrp_model.specs.Texts.{Text}
-use Rattle.lrp_model.specs.Rows.{Datum}
-use Rattle.lrp_model.specs.Pages.{Tuple}
-use Rattle.lrp_model.specs.Plans.{time_columns}
+use Rattle.lrp_model.specs.Rows.{Datum, Tuple}
 use Rattle.lrp_model.specs.Printed.{joined_by, quoted}
 use Rattle.lrp_model.specs.Satisfaction.{HasShape}
-use Rattle.lrp_model.specs.Sorts.{is_time}
+use Rattle.lrp_model.specs.Sorts.{is_time, time_count}
 use Rattle.lrp_model.specs.Tuples.{in_head_order, text_at, texts_at}
 use Rattle.lrp_model.specs.declared.relations.Column.{Column}
 use Rattle.lrp_list.proofs.HeadOrder.{head_is}
 use Rattle.lrp_list.proofs.LineLaws.{rest_is, text_put, time_put}
-use Rattle.lrp_civil.specs.CivilLines.{behind, civil_bytes, civil_line, time_bytes}
+use Rattle.lrp_civil.specs.CivilLines.{behind, civil_bytes, civil_line, civil_time_bytes}
 
 -- the first column's time, and the others behind it
 pub time_first : (json : Bool) (before between : List ℕ) (cs : List Column) (c : Column) (xs : List ℤ) (d : ℤ) (ts : List Text) → 1 ≤ length cs → c ≡ get_or cs 0 c → is_time c.sort ≡ true → 1 ≤ length xs
-    → (before ++ time_bytes json (get_or xs 0 d)) ++ behind json between between (in_head_order (take (length cs - 1) (drop 1 cs)) (take (length xs - 1) (drop 1 xs)) ts) ≡ behind json before between (in_head_order cs xs ts)
+    → (before ++ civil_time_bytes json (get_or xs 0 d)) ++ behind json between between (in_head_order (take (length cs - 1) (drop 1 cs)) (take (length xs - 1) (drop 1 xs)) ts) ≡ behind json before between (in_head_order cs xs ts)
 time_first json before between [] c xs d ts l e k m = absurd (omega arith)
 time_first json before between (b ∷ cs) c [] d ts l e k m = absurd (omega arith)
 time_first json before between (b ∷ cs) c (x ∷ xs) d ts l e k m =
-    ap₂ (λ bs ys. (before ++ time_bytes json x) ++ behind json between between (in_head_order bs ys ts)) (rest_is b cs) (rest_is x xs)
-    ∙ append_assoc before (time_bytes json x) (behind json between between (in_head_order cs xs ts))
+    ap₂ (λ bs ys. (before ++ civil_time_bytes json x) ++ behind json between between (in_head_order bs ys ts)) (rest_is b cs) (rest_is x xs)
+    ∙ append_assoc before (civil_time_bytes json x) (behind json between between (in_head_order cs xs ts))
     ∙ ap (behind json before between) (sym (time_put b.sort x xs ts (in_head_order cs) (ap (λ a. is_time a.sort) (sym e) ∙ k)))
 
 -- the first column's text, and the others behind it
@@ -63,7 +61,7 @@ length_at : (domain : List Text) (ns : List ℕ) → length (texts_at domain ns)
 length_at domain [] = refl
 length_at domain (n ∷ ns) = ap suc (length_at domain ns)
 
-pub plain_line_is : (json : Bool) (domain : List Text) (between : List ℕ) (cs : List Column) (xs : List ℤ) (ns : List ℕ) (b : Bool) → b ≡ (length cs == 0) → b ≡ false → time_columns cs ≡ length xs → length cs ≡ length xs + length ns → json ≡ false → between ≡ codes ", "
+pub plain_line_is : (json : Bool) (domain : List Text) (between : List ℕ) (cs : List Column) (xs : List ℤ) (ns : List ℕ) (b : Bool) → b ≡ (length cs == 0) → b ≡ false → time_count cs ≡ length xs → length cs ≡ length xs + length ns → json ≡ false → between ≡ codes ", "
     → behind json (codes "") between (in_head_order cs xs (texts_at domain ns)) ++ codes "\n" ≡ civil_line false (in_head_order cs xs (texts_at domain ns))
 plain_line_is json domain between cs xs ns b e f g h j k =
     ap₂ (λ js bs. behind js (codes "") bs (in_head_order cs xs (texts_at domain ns)) ++ codes "\n") j k

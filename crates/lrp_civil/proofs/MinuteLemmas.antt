@@ -5,7 +5,7 @@ use Rattle.std.proofs.lemmas.Slice.Eq.{bytes_eq-Decides}
 use Rattle.std.proofs.lemmas.Bool.{false≢true}
 use Rattle.lrp_civil.specs.declared.dates.Date.{Date}
 use Rattle.lrp_civil.specs.Dates.{is_date}
-use Rattle.lrp_civil.specs.Moments.{clock_bytes, date_bytes, is_time, minute_at}
+use Rattle.lrp_civil.specs.Moments.{clock_bytes, date_bytes, minute_at, is_time_of_day}
 use Rattle.lrp_civil.specs.Parts.{HasNone, IsReadAs}
 use Rattle.lrp_civil.specs.PlainText.{date_in, time_in}
 use Rattle.lrp_civil.specs.Minutes.{SpellsMinute, minute_by, word_bytes}
@@ -22,7 +22,7 @@ no_letter word left date r none = λ x s.
     let whole = sym r.whole ∙ s.word_is in
     none (clock_bytes s.time) (cc whole)
 
-pub no_time : (word left rest : List ℕ) (date : Date) → IsReadAs is_date date_bytes word date left → left ≡ 84 ∷ rest → HasNone is_time clock_bytes rest → (x : ℤ) → SpellsMinute word x → ⊥
+pub no_time : (word left rest : List ℕ) (date : Date) → IsReadAs is_date date_bytes word date left → left ≡ 84 ∷ rest → HasNone is_time_of_day clock_bytes rest → (x : ℤ) → SpellsMinute word x → ⊥
 no_time word left rest date r e none = λ x s.
     let whole = sym r.whole ∙ s.word_is in
     none s.time [] (record { is = s.in_day; whole = cc (whole, e) })
@@ -31,7 +31,7 @@ no_time word left rest date r e none = λ x s.
 
 -- the minute of a word by its date and its time
 abbrev minute_with : List ℕ → Date → ℕ → Option ℤ
-minute_with word date time = if is_date date && is_time time && bytes_eq word (word_bytes date time) then Some (minute_at date time) else None
+minute_with word date time = if is_date date && is_time_of_day time && bytes_eq word (word_bytes date time) then Some (minute_at date time) else None
 
 by_parts : (word : List ℕ) → minute_by word ≡ minute_with word (date_in word) (time_in (drop 11 word))
 unfolding minute_by
@@ -45,7 +45,7 @@ minute_is_spelled word x s =
     let date : date_in word ≡ s.date = ap date_in s.word_is ∙ date_in_is s.date (84 ∷ clock_bytes s.time) s.real in
     let time : time_in (drop 11 word) ≡ s.time = ap (λ w. time_in (drop 11 w)) s.word_is ∙ time_in_is s.time [] s.in_day in
     let same : bytes_eq word (word_bytes s.date s.time) ≡ true = (bytes_eq-Decides word (word_bytes s.date s.time)).1 s.word_is in
-    let yes_all = all_three (is_date s.date) (is_time s.time) (bytes_eq word (word_bytes s.date s.time)) s.real s.in_day same in
+    let yes_all = all_three (is_date s.date) (is_time_of_day s.time) (bytes_eq word (word_bytes s.date s.time)) s.real s.in_day same in
     by_parts word ∙ ap₂ (minute_with word) date time
     ∙ ap (λ b. if b then Some (minute_at s.date s.time) else None) yes_all ∙ ap Some (sym s.minute_is)
 
@@ -59,9 +59,9 @@ pub minute_is_none : (word : List ℕ) → ((x : ℤ) → SpellsMinute word x �
 minute_is_none word none =
     let date = date_in word in
     let time = time_in (drop 11 word) in
-    let test : Bool = is_date date && is_time time && bytes_eq word (word_bytes date time) in
+    let test : Bool = is_date date && is_time_of_day time && bytes_eq word (word_bytes date time) in
     elim (either test) [
-      | inl e ↦ let k = three (is_date date) (is_time time) (bytes_eq word (word_bytes date time)) e in
+      | inl e ↦ let k = three (is_date date) (is_time_of_day time) (bytes_eq word (word_bytes date time)) e in
           absurd (none (minute_at date time) (record { date = date; time = time; real = k.0; in_day = k.1; word_is = (bytes_eq-Decides word (word_bytes date time)).0 k.2; minute_is = refl }))
       | inr e ↦ by_parts word ∙ ap (λ b. if b then Some (minute_at date time) else None) e
     ]

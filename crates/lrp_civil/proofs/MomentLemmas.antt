@@ -6,7 +6,7 @@ use Rattle.std.proofs.lemmas.Bool.Decides.{nat_tests}
 use Rattle.std.proofs.lemmas.Int.{to_z-of_z}
 use Rattle.jiff_core.proofs.SignedLemmas.{signed_arith}
 use Rattle.lrp_civil.specs.Dates.{IsCivilDay}
-use Rattle.lrp_civil.specs.Moments.{IsCivilMinute, day_of, is_time, time_of_day}
+use Rattle.lrp_civil.specs.Moments.{IsCivilMinute, day_of, time_of_day, is_time_of_day}
 use Rattle.lrp_civil.proofs.DateLemmas.{civil_epoch_day}
 
 -- a minute from its day and its time of day
@@ -24,7 +24,7 @@ pub time_is : (x day : ℤ) (time : ℕ) → x ≡ (day *ℤ pos 1440) +ℤ pos 
 time_is x day time e small = omega (arith, signed_arith)
 
 -- a minute of a civil day is a civil minute, and the other way about
-pub civil_minute : (day : ℤ) (time : ℕ) → IsCivilDay day → is_time time ≡ true → IsCivilMinute ((day *ℤ pos 1440) +ℤ pos time)
+pub civil_minute : (day : ℤ) (time : ℕ) → IsCivilDay day → is_time_of_day time ≡ true → IsCivilMinute ((day *ℤ pos 1440) +ℤ pos time)
 civil_minute day time h k =
     let small : time < 1440 = grind (arith, nat_tests) in
     (omega (arith, signed_arith, h.low), omega (arith, signed_arith, h.high))
@@ -36,7 +36,7 @@ civil_day x h =
     record { low = omega (arith, signed_arith, h.0); high = omega (arith, signed_arith, h.1) }
 
 -- the size of a civil minute
-pub minute_size : (day : ℤ) (time : ℕ) → IsCivilDay day → is_time time ≡ true → (neg_ℤ (pos 8000000000) ≤ℤ (day *ℤ pos 1440)) × ((day *ℤ pos 1440) ≤ℤ pos 8000000000) × (time < 1440)
+pub minute_size : (day : ℤ) (time : ℕ) → IsCivilDay day → is_time_of_day time ≡ true → (neg_ℤ (pos 8000000000) ≤ℤ (day *ℤ pos 1440)) × ((day *ℤ pos 1440) ≤ℤ pos 8000000000) × (time < 1440)
 minute_size day time h k =
     let e = civil_epoch_day day h in
     (omega (arith, signed_arith, e.0), omega (arith, signed_arith, e.1), grind (arith, nat_tests))
@@ -55,5 +55,5 @@ word_day x r f g e = to_z-of_z w64 r g ∙ e ∙ ap (λ z. int_div_euclid z (pos
 pub word_time : (x r : ℤ) → FitsSigned w64 x → FitsSigned w64 r → r ≡ int_rem_euclid (to_z w64 (of_z w64 x)) (pos 1440) → unsigned_abs (to_z w64 (of_z w64 r)) ≡ time_of_day x
 word_time x r f g e = ap unsigned_abs (to_z-of_z w64 r g ∙ e ∙ ap (λ z. int_rem_euclid z (pos 1440)) (to_z-of_z w64 x f))
 
-pub in_day : (x : ℤ) → is_time (time_of_day x) ≡ true
+pub in_day : (x : ℤ) → is_time_of_day (time_of_day x) ≡ true
 in_day x = let small = time_small x in grind (arith, nat_tests)

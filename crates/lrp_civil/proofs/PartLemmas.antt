@@ -4,7 +4,7 @@ use Rattle.std.proofs.lemmas.Bool.Decides.{nat_tests}
 use Rattle.jiff_core.proofs.CalendarLemmas.{days_in_month_bounds}
 use Rattle.lrp_civil.specs.declared.dates.Date.{Date}
 use Rattle.lrp_civil.specs.Dates.{is_date}
-use Rattle.lrp_civil.specs.Moments.{clock_bytes, date_bytes, is_short, is_time, two_digits}
+use Rattle.lrp_civil.specs.Moments.{clock_bytes, date_bytes, is_short, two_digits, is_time_of_day}
 use Rattle.lrp_civil.specs.Parts.{HasNone, IsReadAs}
 use Rattle.lrp_civil.proofs.DateLemmas.{real_parts}
 
@@ -12,14 +12,14 @@ use Rattle.lrp_civil.proofs.DateLemmas.{real_parts}
 pub none_is : {A : Type 0} (P : Type 0) (Q : A → Type 0) (r : Option A) → r ≡ None → P → MatchOption r P Q
 none_is {A} P Q r e p = let M : Option A → Type 0 = λ x. MatchOption x P Q in subst M (sym e) p
 
-short_time : (time : ℕ) → is_time time ≡ true → (is_short (time / 60) ≡ true) × (is_short (time % 60) ≡ true)
+short_time : (time : ℕ) → is_time_of_day time ≡ true → (is_short (time / 60) ≡ true) × (is_short (time % 60) ≡ true)
 short_time time h = (grind (arith, nat_tests), grind (arith, nat_tests))
 
 -- without hours there is no time of day, nor without minutes
-pub no_hours : (bytes : List ℕ) → HasNone is_short two_digits bytes → HasNone is_time clock_bytes bytes
+pub no_hours : (bytes : List ℕ) → HasNone is_short two_digits bytes → HasNone is_time_of_day clock_bytes bytes
 no_hours bytes none = λ time behind r. none (time / 60) (58 ∷ (two_digits (time % 60) ++ behind)) (record { is = (short_time time r.is).0; whole = r.whole })
 
-pub no_minutes : (bytes left rest : List ℕ) (hours : ℕ) → IsReadAs is_short two_digits bytes hours left → left ≡ 58 ∷ rest → HasNone is_short two_digits rest → HasNone is_time clock_bytes bytes
+pub no_minutes : (bytes left rest : List ℕ) (hours : ℕ) → IsReadAs is_short two_digits bytes hours left → left ≡ 58 ∷ rest → HasNone is_short two_digits rest → HasNone is_time_of_day clock_bytes bytes
 no_minutes bytes left rest hours r e none = λ time behind s.
     let whole : two_digits hours ++ (58 ∷ rest) ≡ clock_bytes time ++ behind = ap (λ x. two_digits hours ++ x) (sym e) ∙ sym r.whole ∙ s.whole in
     none (time % 60) behind (record { is = (short_time time s.is).1; whole = cc whole })

@@ -14,7 +14,7 @@ use Rattle.lrp_civil.specs.declared.dates.Date.{Date}
 use Rattle.lrp_civil.specs.declared.values.CivilValue.{CivilValue}
 use Rattle.lrp_civil.specs.declared.values.CivilValue.TheVariants.{Daily, Weekly, On}
 use Rattle.lrp_civil.specs.Dates.{is_date, day_number}
-use Rattle.lrp_civil.specs.Moments.{clock_bytes, date_bytes, is_time, minute_at, two_digits}
+use Rattle.lrp_civil.specs.Moments.{clock_bytes, date_bytes, minute_at, two_digits, is_time_of_day}
 use Rattle.lrp_civil.specs.CivilValues.{day_name, is_civil, is_weekday, padded_bytes, plain_bytes, spelled}
 use Rattle.lrp_civil.proofs.DateLemmas.{real_day}
 use Rattle.lrp_civil.proofs.MomentLemmas.{minute_size}
@@ -68,7 +68,7 @@ signed_line (negsuc n) low high = (refl, decimal_line (suc n) (omega (arith, sig
 -- ---- values
 
 -- the size of the minute of a real date
-minute_between : (date : Date) (time : ℕ) → is_date date ≡ true → is_time time ≡ true → (neg_ℤ (pos 9000000000) ≤ℤ minute_at date time) × (minute_at date time ≤ℤ pos 9000000000)
+minute_between : (date : Date) (time : ℕ) → is_date date ≡ true → is_time_of_day time ≡ true → (neg_ℤ (pos 9000000000) ≤ℤ minute_at date time) × (minute_at date time ≤ℤ pos 9000000000)
 minute_between date time h k =
     let s = minute_size (day_number date) time (real_day date h) k in
     (omega (arith, signed_arith, s.0), omega (arith, signed_arith, s.1, s.2))
@@ -77,7 +77,7 @@ minute_between date time h k =
 week_offset : (day time : ℕ) → time < 1440 → 1440 * ((day + 4) % 7) + time < 10080
 week_offset day time h = omega arith
 
-time_low : (time : ℕ) → is_time time ≡ true → time < 1440
+time_low : (time : ℕ) → is_time_of_day time ≡ true → time < 1440
 time_low time h = grind (arith, nat_tests)
 
 pub spelled_size : (day time : ℕ) → is_weekday day ≡ true → length (spelled (Weekly day time)) ≡ 16
@@ -86,21 +86,21 @@ spelled_size day time h = omega (arith, length-append (day_name day) (codes " " 
 pub plain_size : (v : CivilValue) → is_civil v ≡ true → length (plain_bytes v) ≤ length (spelled v)
 plain_size (Daily time) h = let low = time_low time h in omega (arith, point_size time 1440 4 4 low (omega arith) (omega arith) (omega arith) (omega arith) (omega arith))
 plain_size (Weekly day time) h =
-    let k = first_of (is_weekday day) (is_time time) h in
+    let k = first_of (is_weekday day) (is_time_of_day time) h in
     let low = week_offset day time (time_low time k.1) in
     omega (arith, spelled_size day time k.0, point_size (1440 * ((day + 4) % 7) + time) 10080 5 5 low (omega arith) (omega arith) (omega arith) (omega arith) (omega arith))
 plain_size (On date time) h =
-    let k = first_of (is_date date) (is_time time) h in
+    let k = first_of (is_date date) (is_time_of_day time) h in
     let m = minute_between date time k.0 k.1 in
     omega (arith, signed_size (minute_at date time) m.0 m.1)
 
 plain_line : (v : CivilValue) → is_civil v ≡ true → OneLine (plain_bytes v)
 plain_line (Daily time) h = point_line time 1440 (time_low time h) (omega arith)
 plain_line (Weekly day time) h =
-    let k = first_of (is_weekday day) (is_time time) h in
+    let k = first_of (is_weekday day) (is_time_of_day time) h in
     point_line (1440 * ((day + 4) % 7) + time) 10080 (week_offset day time (time_low time k.1)) (omega arith)
 plain_line (On date time) h =
-    let k = first_of (is_date date) (is_time time) h in
+    let k = first_of (is_date date) (is_time_of_day time) h in
     let m = minute_between date time k.0 k.1 in
     signed_line (minute_at date time) m.0 m.1
 
@@ -133,6 +133,6 @@ date_line d =
 pub spelled_line : (v : CivilValue) → is_civil v ≡ true → OneLine (spelled v)
 spelled_line (Daily time) h = line_append (codes "daily ") (clock_bytes time) (refl, (refl, (refl, (refl, (refl, (refl, tt)))))) (clock_line time)
 spelled_line (Weekly day time) h =
-    let k = first_of (is_weekday day) (is_time time) h in
+    let k = first_of (is_weekday day) (is_time_of_day time) h in
     line_append (codes "weekly ") (day_name day ++ (codes " " ++ clock_bytes time)) (refl, (refl, (refl, (refl, (refl, (refl, (refl, tt))))))) (line_append (day_name day) (codes " " ++ clock_bytes time) (name_line day k.0) (refl, clock_line time))
 spelled_line (On date time) h = line_append (codes "on ") (date_bytes date ++ (codes " " ++ clock_bytes time)) (refl, (refl, (refl, tt))) (line_append (date_bytes date) (codes " " ++ clock_bytes time) (date_line date) (refl, clock_line time))

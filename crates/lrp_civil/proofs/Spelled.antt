@@ -12,7 +12,7 @@ use Rattle.lrp_civil.specs.declared.dates.Date.{Date}
 use Rattle.lrp_civil.specs.declared.values.CivilValue.{CivilValue}
 use Rattle.lrp_civil.specs.declared.values.CivilValue.TheVariants.{Daily, Weekly, On}
 use Rattle.lrp_civil.specs.Dates.{is_date}
-use Rattle.lrp_civil.specs.Moments.{clock_bytes, is_time}
+use Rattle.lrp_civil.specs.Moments.{clock_bytes, is_time_of_day}
 use Rattle.lrp_civil.specs.CivilValues.{day_name, is_civil, is_weekday, spelled}
 use Rattle.lrp_civil.specs.Parts.{goes_on}
 use Rattle.lrp_civil.specs.PlainText.{IsSpelledAt, begins, date_in, possible, time_in, value_at}
@@ -56,12 +56,12 @@ daily_time bytes time s = ap (λ b. time_in (drop 6 b)) s.read.whole ∙ time_in
 
 on_date : (bytes : List ℕ) (date : Date) (time : ℕ) → IsSpelledAt bytes (On date time) → date_in (drop 3 bytes) ≡ date
 on_date bytes date time s =
-    let k = first_of (is_date date) (is_time time) s.read.is in
+    let k = first_of (is_date date) (is_time_of_day time) s.read.is in
     ap (λ b. date_in (drop 3 b)) s.read.whole ∙ date_in_is date (32 ∷ (clock_bytes time ++ s.behind)) k.0
 
 on_time : (bytes : List ℕ) (date : Date) (time : ℕ) → IsSpelledAt bytes (On date time) → time_in (drop 14 bytes) ≡ time
 on_time bytes date time s =
-    let k = first_of (is_date date) (is_time time) s.read.is in
+    let k = first_of (is_date date) (is_time_of_day time) s.read.is in
     ap (λ b. time_in (drop 14 b)) s.read.whole ∙ time_in_is time s.behind k.1
 
 -- the bytes behind the word of a weekly value that is spelled
@@ -82,7 +82,7 @@ drop_more (a ∷ b ∷ c ∷ d ∷ e ∷ f ∷ g ∷ bytes) = refl
 
 weekly_time : (bytes : List ℕ) (day time : ℕ) → IsSpelledAt bytes (Weekly day time) → time_in (drop 11 bytes) ≡ time
 weekly_time bytes day time s =
-    let k = first_of (is_weekday day) (is_time time) s.read.is in
+    let k = first_of (is_weekday day) (is_time_of_day time) s.read.is in
     ap time_in (drop_more bytes ∙ ap (drop 4) (behind_week bytes day time s) ∙ behind_name day (clock_bytes time ++ s.behind) k.0) ∙ time_in_is time s.behind k.1
 
 -- ---- one value is spelled, and it is among the possible ones
@@ -93,8 +93,8 @@ spelled_unique bytes (Daily t) (Weekly k u) s r = absurd (no_dw (same_first _ _ 
 spelled_unique bytes (Daily t) (On d u) s r = absurd (no_do (same_first _ _ _ _ bytes s.read.whole r.read.whole))
 spelled_unique bytes (Weekly j t) (Daily u) s r = absurd (no_dw (same_first _ _ _ _ bytes r.read.whole s.read.whole))
 spelled_unique bytes (Weekly j t) (Weekly k u) s r =
-    let p = first_of (is_weekday j) (is_time t) s.read.is in
-    let q = first_of (is_weekday k) (is_time u) r.read.is in
+    let p = first_of (is_weekday j) (is_time_of_day t) s.read.is in
+    let q = first_of (is_weekday k) (is_time_of_day u) r.read.is in
     let day = (name_unique j k (32 ∷ (clock_bytes t ++ s.behind)) (32 ∷ (clock_bytes u ++ r.behind)) p.0 q.0 (sym (behind_week bytes j t s) ∙ behind_week bytes k u r)).0 in
     ap₂ Weekly day (sym (weekly_time bytes j t s) ∙ weekly_time bytes k u r)
 spelled_unique bytes (Weekly j t) (On d u) s r = absurd (no_wo (same_first _ _ _ _ bytes s.read.whole r.read.whole))
@@ -128,7 +128,7 @@ among_possible : (bytes : List ℕ) (v : CivilValue) → IsSpelledAt bytes v →
 among_possible bytes (Daily t) s = inl (ap Daily (sym (daily_time bytes t s)))
 among_possible bytes (On d t) s = inr (inl (ap₂ On (sym (on_date bytes d t s)) (sym (on_time bytes d t s))))
 among_possible bytes (Weekly j t) s =
-    let k = first_of (is_weekday j) (is_time t) s.read.is in
+    let k = first_of (is_weekday j) (is_time_of_day t) s.read.is in
     let here : Among (Weekly j t) (weeks (time_in (drop 11 bytes))) = subst (λ u. Among (Weekly j t) (weeks u)) (sym (weekly_time bytes j t s)) (among_weeks j t k.0) in
     inr (inr here)
 

@@ -8,7 +8,7 @@ use Rattle.lrp_model.specs.declared.relations.RowPoint.{RowPoint}
 use Rattle.lrp_civil.specs.declared.values.CivilValue.{CivilValue}
 use Rattle.lrp_civil.specs.declared.values.CivilValue.TheVariants.{Daily, Weekly, On}
 use Rattle.lrp_civil.specs.Dates.{is_date, day_number}
-use Rattle.lrp_civil.specs.Moments.{day_of, time_of_day, minute_at, is_time, clock_bytes, date_bytes}
+use Rattle.lrp_civil.specs.Moments.{day_of, time_of_day, minute_at, clock_bytes, date_bytes, is_time_of_day}
 
 -- the number of a weekday, from 0 for Monday
 abbrev pub is_weekday : ℕ → Bool
@@ -16,9 +16,9 @@ is_weekday day = nat_lt day 7
 
 -- its numbers are those of a weekday, a date and a time of day
 abbrev pub is_civil : CivilValue → Bool
-is_civil (Daily time) = is_time time
-is_civil (Weekly day time) = is_weekday day && is_time time
-is_civil (On date time) = is_date date && is_time time
+is_civil (Daily time) = is_time_of_day time
+is_civil (Weekly day time) = is_weekday day && is_time_of_day time
+is_civil (On date time) = is_date date && is_time_of_day time
 
 -- the names of the weekdays
 abbrev pub day_names : List (List ℕ)

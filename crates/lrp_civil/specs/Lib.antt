@@ -1,4 +1,5 @@
 -- Dates and times of day, the civil values of a database, and the lines that show times as dates.
+
 pub mod Dates
 pub mod Moments
 pub mod Parts

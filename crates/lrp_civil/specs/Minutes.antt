@@ -3,7 +3,7 @@ use Rattle.std.specs.Prelude.{◌≡◌, ℕ, ℤ, true, ◌&&◌, List, ◌++�
 use Rattle.std.specs.Str.{bytes_eq}
 use Rattle.lrp_civil.specs.declared.dates.Date.{Date}
 use Rattle.lrp_civil.specs.Dates.{is_date}
-use Rattle.lrp_civil.specs.Moments.{minute_at, is_time, clock_bytes, date_bytes}
+use Rattle.lrp_civil.specs.Moments.{minute_at, clock_bytes, date_bytes, is_time_of_day}
 use Rattle.lrp_civil.specs.PlainText.{date_in, time_in}
 
 -- a date and a time of day in words
@@ -15,13 +15,13 @@ unfoldable pub minute_by : List ℕ → Option ℤ
 minute_by word =
     let date = date_in word in
     let time = time_in (drop 11 word) in
-    if is_date date && is_time time && bytes_eq word (word_bytes date time) then Some (minute_at date time) else None
+    if is_date date && is_time_of_day time && bytes_eq word (word_bytes date time) then Some (minute_at date time) else None
 
 -- the word spells the minute: that of a date and a time of day
 pub record SpellsMinute (word : List ℕ) (x : ℤ) : Type 0 where
   pub date : Date
   pub time : ℕ
   pub real : is_date date ≡ true
-  pub in_day : is_time time ≡ true
+  pub in_day : is_time_of_day time ≡ true
   pub word_is : word ≡ word_bytes date time
   pub minute_is : x ≡ minute_at date time

@@ -21,8 +21,8 @@ abbrev pub IsCivilMinute : ℤ → Type 0
 IsCivilMinute x = (minute_at (record { year = 1; month = 1; day = 1 }) 0 ≤ℤ x) × (x ≤ℤ minute_at (record { year = 9999; month = 12; day = 31 }) 1439)
 
 -- a time of day, in minutes from midnight
-abbrev pub is_time : ℕ → Bool
-is_time time = nat_lt time 1440
+abbrev pub is_time_of_day : ℕ → Bool
+is_time_of_day time = nat_lt time 1440
 
 -- a number of at most two digits, and how it is written in two
 abbrev pub is_short : ℕ → Bool

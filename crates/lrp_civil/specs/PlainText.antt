@@ -14,15 +14,15 @@ use Rattle.lrp_civil.specs.Tokens.{behind_blanks, is_last}
 -- ---- the civil value that stands at the front of some bytes
 
 -- the number in the first n of the bytes
-abbrev pub number_in : ℕ → List ℕ → ℕ
-number_in n bytes = value_from 0 (take n bytes)
+abbrev pub front_number : ℕ → List ℕ → ℕ
+front_number n bytes = value_from 0 (take n bytes)
 
 -- the time of day in HH:MM, and the date in YYYY-MM-DD
 abbrev pub time_in : List ℕ → ℕ
-time_in bytes = 60 * number_in 2 bytes + number_in 2 (drop 3 bytes)
+time_in bytes = 60 * front_number 2 bytes + front_number 2 (drop 3 bytes)
 
 abbrev pub date_in : List ℕ → Date
-date_in bytes = record { year = number_in 4 bytes; month = number_in 2 (drop 5 bytes); day = number_in 2 (drop 8 bytes) }
+date_in bytes = record { year = front_number 4 bytes; month = front_number 2 (drop 5 bytes); day = front_number 2 (drop 8 bytes) }
 
 -- the bytes begin with the civil value as it is spelled, and no number goes on behind it
 abbrev pub begins : List ℕ → CivilValue → Bool

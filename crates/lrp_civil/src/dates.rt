@@ -5,7 +5,7 @@ ghost use Rattle.lrp_civil.specs.Dates.{IsCivilDay, date_of, day_number, is_date
 use jiff_core::civil;
 
 /// A year, a month and a day, by their numbers. Not every one is a date of the calendar.
-#[derive(Clone, Copy, Debug, PartialEq, Eq)]
+#[derive(Clone, Copy, PartialEq, Eq)]
 pub struct Date {
     pub year: u16,
     pub month: u8,

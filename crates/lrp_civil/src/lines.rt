@@ -3,14 +3,14 @@ ghost use Rattle.std.specs.Prelude.{◌≡◌, ◌<◌, ◌+◌, ◌++◌, ℤ, 
 ghost use Rattle.std.specs.List.{AllByRecursion};
 ghost use Rattle.lrp_io.specs.Causes.{HasCause};
 ghost use Rattle.lrp_io.specs.Pieces.{IsWritten};
-ghost use Rattle.lrp_model.specs.Pages.{Tuple};
-ghost use Rattle.lrp_model.specs.Plans.{time_columns};
+ghost use Rattle.lrp_model.specs.Rows.{Tuple};
+ghost use Rattle.lrp_model.specs.Sorts.{time_count};
 ghost use Rattle.lrp_model.specs.Printed.{quoted};
 ghost use Rattle.lrp_model.specs.Satisfaction.{HasShape};
 ghost use Rattle.lrp_model.specs.Tuples.{in_head_order, text_at, texts_at};
 ghost use Rattle.lrp_store.specs.Least.{StandsFor};
 ghost use Rattle.lrp_list.specs.Lines.{is_json, spot_tuple};
-ghost use Rattle.lrp_civil.specs.CivilLines.{behind, civil_line, time_bytes};
+ghost use Rattle.lrp_civil.specs.CivilLines.{behind, civil_line, civil_time_bytes};
 ghost use Rattle.lrp_civil.specs.Dates.{IsDateOf, date_of};
 ghost use Rattle.lrp_civil.specs.Moments.{IsCivilMinute, day_of};
 
@@ -84,7 +84,7 @@ fn write_plain<S: Sink>(
     requires civil { AllByRecursion IsCivilMinute times.now }
     requires json { line.now.json ≡ false }
     requires between { line.now.between.now ≡ codes ", " }
-    requires times { time_columns columns.now ≡ length times.now }
+    requires times { time_count columns.now ≡ length times.now }
     requires all { length columns.now ≡ length times.now + length numbers.now }
     ensures text { IsWritten (S.written out.old) (S.written out.new) (civil_line false (in_head_order columns.now times.now (texts_at line.now.domain.now numbers.now))) result }
     ensures cause { HasCause (S.faults out.old) (S.faults out.new) result }
@@ -156,7 +156,7 @@ fn write_time<S: Sink>(
     time: &i64,
 ) -> Result<(), Failed>
     requires { IsCivilMinute time.now }
-    ensures text { IsWritten (S.written out.old) (S.written out.new) (before.now ++ time_bytes line.now.json time.now) result }
+    ensures text { IsWritten (S.written out.old) (S.written out.new) (before.now ++ civil_time_bytes line.now.json time.now) result }
     ensures cause { HasCause (S.faults out.old) (S.faults out.new) result }
 {
     write_bytes(out, before)?;

@@ -1,7 +1,7 @@
 // Minutes from 1970-01-01 00:00 on.
 ghost use Rattle.std.specs.Prelude.{◌≡◌, ◌<◌, ◌+◌, ◌++◌, IsTrue, codes};
 ghost use Rattle.lrp_civil.specs.Dates.{is_date};
-ghost use Rattle.lrp_civil.specs.Moments.{IsCivilMinute, clock_bytes, date_bytes, is_time, minute_at as minute_by, moment_bytes};
+ghost use Rattle.lrp_civil.specs.Moments.{IsCivilMinute, clock_bytes, date_bytes, minute_at as minute_by, moment_bytes, is_time_of_day};
 
 use crate::dates::Date;
 
@@ -10,7 +10,7 @@ const MINUTES_PER_DAY: i64 = 1440;
 /// The minute of a date and a time of day.
 pub fn minute_at(date: Date, time: u16) -> i64
     requires real { IsTrue (is_date date) }
-    requires time { IsTrue (is_time time) }
+    requires time { IsTrue (is_time_of_day time) }
     ensures value { result ≡ minute_by date time }
     ensures range { IsCivilMinute result }
 {
@@ -30,7 +30,7 @@ pub fn moment(minute: &i64) -> [u8; 16]
 // The same of a date and a time of day.
 fn written(date: Date, time: u16) -> [u8; 16]
     requires real { IsTrue (is_date date) }
-    requires time { IsTrue (is_time time) }
+    requires time { IsTrue (is_time_of_day time) }
     ensures { result ≡ date_bytes date ++ (codes " " ++ clock_bytes time) }
 {
     let (century, year) = (date.year / 100, date.year % 100);

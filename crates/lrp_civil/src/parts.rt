@@ -2,7 +2,7 @@
 ghost use Rattle.std.specs.Prelude.{[], ◌∷◌};
 ghost use Rattle.lrp_civil.specs.CivilValues.{FindsWeekday, day_name, is_weekday};
 ghost use Rattle.lrp_civil.specs.Dates.{is_date};
-ghost use Rattle.lrp_civil.specs.Moments.{clock_bytes, date_bytes, is_short, is_time, two_digits};
+ghost use Rattle.lrp_civil.specs.Moments.{clock_bytes, date_bytes, is_short, two_digits, is_time_of_day};
 ghost use Rattle.lrp_civil.specs.Parts.{Finds, FindsBehind};
 
 use crate::dates::Date;
@@ -31,7 +31,7 @@ pub fn behind_byte(bytes: &[u8], byte: u8) -> Option<&[u8]>
 
 /// `HH:MM`, in minutes from midnight.
 pub fn time_at(bytes: &[u8]) -> Option<(u16, &[u8])>
-    ensures { Finds is_time clock_bytes bytes.now result }
+    ensures { Finds is_time_of_day clock_bytes bytes.now result }
 {
     let (hours, behind) = two_digits_at(bytes)?;
     let behind = behind_byte(behind, b':')?;

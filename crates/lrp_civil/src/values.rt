@@ -1,13 +1,13 @@
 // Civil values as they are spelled in databases.
 ghost use Rattle.std.specs.Prelude.{◌≡◌, IsTrue, length};
-ghost use Rattle.lrp_civil.specs.Moments.{clock_bytes, is_time};
+ghost use Rattle.lrp_civil.specs.Moments.{clock_bytes, is_time_of_day};
 ghost use Rattle.lrp_civil.specs.Parts.{FindsBehind, FindsLast};
 
 use crate::dates::Date;
 use crate::parts::{behind_byte, date_at, time_at, weekday_at};
 
 /// A civil value: each day, each week on a day (from 0 for Monday), or once, at a time in minutes from midnight.
-#[derive(Clone, Copy, Debug, PartialEq, Eq)]
+#[derive(Clone, Copy, PartialEq, Eq)]
 pub enum CivilValue {
     Daily { time: u16 },
     Weekly { day: u8, time: u16 },
@@ -83,7 +83,7 @@ fn behind_prefix<'a>(bytes: &'a [u8], prefix: &[u8]) -> Option<&'a [u8]>
 
 // `HH:MM`, where no number goes on behind it.
 fn last_time_at(bytes: &[u8]) -> Option<u16>
-    ensures { FindsLast is_time clock_bytes bytes.now result }
+    ensures { FindsLast is_time_of_day clock_bytes bytes.now result }
 {
     let (time, behind) = time_at(bytes)?;
     match behind {

@@ -14,7 +14,7 @@ use lrp_rel::{Database, Heading, meant_row, row_fault, sooner_of};
 use std::alloc::Global;
 
 /// A change of a relation: a row that is added, or one that is taken out.
-#[derive(Debug, Drop)]
+#[derive(Drop)]
 pub struct Edit {
     pub add: bool,
     pub relation: Name,
@@ -22,7 +22,7 @@ pub struct Edit {
 }
 
 /// An edit as it is written; the place of its row is that of the parenthesis.
-#[derive(Debug, Drop)]
+#[derive(Drop)]
 pub struct RawEdit {
     pub add: bool,
     pub relation: Located<Name>,

@@ -7,6 +7,7 @@ ghost use Rattle.lrp_rel.specs.Reading.{IsOrMemory, IsFaultOrMemory};
 ghost use Rattle.lrp_edits.specs.EditMeaning.{HaveFewTexts, IsEditOf};
 ghost use Rattle.lrp_edits.specs.EditReading.{SaysEdits, IsEditsFault, AreEditsRefused};
 ghost use Rattle.lrp_edits.specs.EditGathered.{AreEditsFrom};
+ghost use Rattle.lrp_model.specs.Limits.{most_bytes};
 
 use crate::edits::{Edit, Edits};
 use crate::headings::headings_of;
@@ -19,7 +20,7 @@ use std::str::from_utf8;
 
 // What a text says.
 fn read_text(alloc: Global, text: &str, database: &Database) -> Result<Edits, ReadFault>
-    requires { length text.now ≤ 16777216 }
+    requires { length text.now ≤ most_bytes }
     ensures kept { IfOk result (AreEditsFrom text.now database.now) }
     ensures refused { IfErr result (AreEditsRefused text.now database.now) }
 {
@@ -33,7 +34,7 @@ fn read_text(alloc: Global, text: &str, database: &Database) -> Result<Edits, Re
 
 // What bytes say, where they are UTF-8 and a text of the grammar.
 fn read_bytes(alloc: Global, bytes: &[u8], database: &Database) -> Result<Edits, ReadFault>
-    requires { length bytes.now ≤ 16777216 }
+    requires { length bytes.now ≤ most_bytes }
     ensures kept { IfOk result (AreEditsFrom bytes.now database.now) }
     ensures refused { IfErr result (AreEditsRefused bytes.now database.now) }
 {
@@ -51,7 +52,7 @@ fn read_bytes(alloc: Global, bytes: &[u8], database: &Database) -> Result<Edits,
 
 // The edits of a text, or why there are none.
 fn edits_of_bytes(alloc: Global, bytes: &[u8], database: &Database) -> Result<List<Edit>, ReadFault>
-    requires { length bytes.now ≤ 16777216 }
+    requires { length bytes.now ≤ most_bytes }
     ensures read { IfOk result (SaysEdits bytes.now database.now) }
     ensures refused { IfErr result (AreEditsRefused bytes.now database.now) }
 {
@@ -66,7 +67,7 @@ fn edits_of_bytes(alloc: Global, bytes: &[u8], database: &Database) -> Result<Li
 /// that is reported: of its bytes, else of the grammar, else of what it says. Then the kinds are `Arity`, `Sort` and `Column`
 /// of a row, and `UnknownRelation` at a name that is no relation of the database, whose row has no fault of its own.
 pub fn read_edits(alloc: Global, bytes: &[u8], database: &Database) -> Result<List<Edit>, ReadFault>
-    requires { length bytes.now ≤ 16777216 }
+    requires { length bytes.now ≤ most_bytes }
     ensures read { IfOk result (SaysEdits bytes.now database.now) }
     ensures refused { IfErr result (AreEditsRefused bytes.now database.now) }
 

@@ -6,7 +6,8 @@ use Rattle.std.proofs.lemmas.Bool.{cases_lt}
 use Rattle.lrp_model.specs.Formulas.{Question}
 use Rattle.lrp_model.specs.Satisfaction.{IsAnswer}
 use Rattle.lrp_model.specs.Order.{tuple_cmp, Before}
-use Rattle.lrp_model.specs.Pages.{Tuple, ComesAfter, last_of, AfterAll, Rises, IsAhead, IsPage}
+use Rattle.lrp_model.specs.Pages.{ComesAfter, last_of, AfterAll, Rises, IsAhead, IsPage}
+use Rattle.lrp_model.specs.Rows.{Tuple}
 use Rattle.lrp_model.specs.declared.relations.Relation.{Relation}
 use Rattle.lrp_model.proofs.Resume.{tuples_total, before_trans}
 use Rattle.lrp_model.proofs.Unique.{one_page, exact_answers}

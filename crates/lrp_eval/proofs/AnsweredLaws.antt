@@ -1,5 +1,5 @@
 -- The settled store has the tuples of the last table.
-use Rattle.std.proofs.Common.{◌≡◌, ◌↔◌, ◌≤◌, ◌<◌, ◌+◌, ◌*◌, ◌^◌, ℕ, zero, suc, cond, List, [], ◌∷◌, length, take, filter, Option, Some, None, IsSome, unwrap_or, option_map, Contains, refl, sym, ap, ap₂, subst, ◌∙◌, arith, to_z, of_z, w64}
+use Rattle.std.proofs.Common.{◌≡◌, ◌↔◌, ◌≤◌, ◌<◌, ◌+◌, ◌*◌, ◌^◌, ℕ, zero, suc, cond, List, [], ◌∷◌, length, take, Option, Some, None, IsSome, unwrap_or, option_map, Contains, refl, sym, ap, ap₂, subst, ◌∙◌, arith, to_z, of_z, w64}
 use Rattle.std.proofs.Math.Nat.{pow-succ', mul-le-mul_right, mul-le-mul_left}
 use Rattle.std.proofs.lemmas.Int.{ints}
 use Rattle.std.specs.Prelude.{ℤ, pos, neg_ℤ, ◌≤ℤ◌}
@@ -9,10 +9,12 @@ use Rattle.lrp_model.specs.Texts.{Text, Identifier}
 use Rattle.lrp_model.specs.Rows.{Datum, times_of}
 use Rattle.lrp_model.specs.Formulas.{Question}
 use Rattle.lrp_model.specs.Core.{guarded, has_named_sort}
-use Rattle.lrp_model.specs.Domains.{constants, same_sort}
+use Rattle.lrp_model.specs.Domains.{constants}
 use Rattle.lrp_model.specs.Satisfaction.{IsAnswer, structure}
 use Rattle.lrp_model.specs.Steps.{PlanStep, step_behind, step_at}
-use Rattle.lrp_model.specs.Plans.{plan, core_steps, query_reach, time_columns}
+use Rattle.lrp_model.specs.Plans.{plan, core_steps, query_reach}
+use Rattle.lrp_model.specs.Sorts.{is_time, time_count}
+use Rattle.lrp_model.proofs.ColumnCounts.{times_more, one_more, none_more}
 use Rattle.lrp_model.specs.declared.relations.Sort.{Sort}
 use Rattle.lrp_model.specs.declared.relations.Sort.TheVariants.{Time, Data, Named}
 use Rattle.lrp_model.specs.declared.relations.Column.{Column}
@@ -44,14 +46,14 @@ use Rattle.lrp_eval.proofs.SettleLaws.{table_of, zone_in}
 
 -- ---- columns of a head
 
-one_time : (s : Sort) (c : Column) (fs : List Column) (v : Identifier) (ns : List Identifier) → length fs ≡ length ns → length (cond (same_sort s Time) (c ∷ fs) fs) ≡ length (with_time_name s v ns)
-one_time Time c fs v ns e = ap suc e
-one_time Data c fs v ns e = e
-one_time (Named name) c fs v ns e = e
+one_time : (s : Sort) (n : ℕ) (v : Identifier) (ns : List Identifier) → n ≡ length ns → cond (is_time s) 1 0 + n ≡ length (with_time_name s v ns)
+one_time Time n v ns e = one_more n ∙ ap suc e
+one_time Data n v ns e = none_more n ∙ e
+one_time (Named name) n v ns e = none_more n ∙ e
 
-pub times_counted : (cs : List Column) → time_columns cs ≡ length (head_times cs)
+pub times_counted : (cs : List Column) → time_count cs ≡ length (head_times cs)
 times_counted [] = refl
-times_counted (c ∷ cs) = one_time c.sort c (filter (λ d. same_sort d.sort Time) cs) c.name (head_times cs) (times_counted cs)
+times_counted (c ∷ cs) = times_more c cs ∙ one_time c.sort (time_count cs) c.name (head_times cs) (times_counted cs)
 
 one_column : (s : Sort) (n : ℕ) (v : Identifier) (ns ms : List Identifier) → n ≡ length ns + length ms → suc n ≡ length (with_time_name s v ns) + length (text_name s v ms)
 one_column Time n v ns ms e = omega arith
@@ -179,18 +181,18 @@ module _ (db : List Relation) (q : Question) (p : Plan) (h : IsPlanOf db q p) (c
       let r : query_reach db q ≡ last.reach = ap (λ o. unwrap_or (option_map (λ step. step.reach) o) 0) at_last in
       omega (arith, w, k, r)
 
-  times_are : time_columns q.head ≡ table.store.shape.times
+  times_are : time_count q.head ≡ table.store.shape.times
   times_are = times_counted q.head ∙ ap length (sym a.times) ∙ times
 
   pub can_settle : CanSettle table.store
   can_settle cell z k =
       let t = table_of table.store cell (tables_at table.store cell) z k in
       subst (λ (v : ZoneView). columns_of v * reach_of v + v.period ≤ 2 ^ 62) t.2
-      (room (length (take table.store.shape.times cell.residues)) (time_columns q.head) (reach_of (zone_of table.store cell t.0)) (query_reach db q) table.store.period
+      (room (length (take table.store.shape.times cell.residues)) (time_count q.head) (reach_of (zone_of table.store cell t.0)) (query_reach db q) table.store.period
       (subst (λ n. length (take table.store.shape.times cell.residues) ≤ n) (sym times_are) (fewer table.store.shape.times cell.residues)) (a.reach.each cell t.0 t.1) (subst (λ k. k ≤ query_reach db q) (sym a.period) wide) h.reach)
 
   module _ (store : StoreView) (s : IsSettledStore table.store store) where
-    pub head_times_are : time_columns q.head ≡ store.shape.times
+    pub head_times_are : time_count q.head ≡ store.shape.times
     head_times_are = times_are ∙ ap (λ sh. sh.times) (sym s.shape)
 
     pub head_columns_are : length q.head ≡ store.shape.times + store.shape.texts
@@ -211,8 +213,8 @@ module _ (db : List Relation) (q : Question) (p : Plan) (h : IsPlanOf db q p) (c
           (let x = same_answers table.store store s q.head (constants db q) tuple in let y = a.answers tuple in ((λ i. y.0 (x.0 i)), λ i. x.1 (y.1 i)))));
       cells = subst (λ st. HasCells db q (length (plan db q)) (finite.len st.tables)) (sym same) (subst (HasCells db q (length (plan db q))) (same_count table.store store s is) a.cells);
       settled = subst (λ st. (cell : Cell) (z : ZoneView) → Contains (zones_at st cell) z → AreSettled z (zones_at st cell)) (sym same) (settled_new table.store store s);
-      small = subst (λ st. (cell : Cell) (z : ZoneView) → Contains (zones_at st cell) z → IsSmallZone z (time_columns q.head * query_reach db q)) (sym same)
-          (small_new table.store store s (time_columns q.head) (query_reach db q) (sym times_are) a.reach);
+      small = subst (λ st. (cell : Cell) (z : ZoneView) → Contains (zones_at st cell) z → IsSmallZone z (time_count q.head * query_reach db q)) (sym same)
+          (small_new table.store store s (time_count q.head) (query_reach db q) (sym times_are) a.reach);
       few = a.few;
     }
 

@@ -15,7 +15,8 @@ use Rattle.lrp_model.specs.Caps.{ManyAt, step_variables, variables_with}
 use Rattle.lrp_model.specs.Periods.{IsMultiple}
 use Rattle.lrp_model.specs.Reach.{reach_of}
 use Rattle.lrp_model.specs.Steps.{PlanStep, step_at, formula_at, reach_at}
-use Rattle.lrp_model.specs.Plans.{plan, core_steps, query_reach, time_columns}
+use Rattle.lrp_model.specs.Plans.{plan, core_steps, query_reach}
+use Rattle.lrp_model.specs.Sorts.{time_count}
 use Rattle.lrp_model.specs.declared.relations.Relation.{Relation}
 use Rattle.lrp_model.specs.declared.relations.Column.{Column}
 use Rattle.lrp_model.specs.declared.plans.StepKind.{StepKind}
@@ -119,7 +120,7 @@ module _ {db : List Relation} {q : Question} {cap : ℕ} {domain : List Text} {t
   period_nat = ap nat_abs n.period_is
 
   pub reach_low : query_reach db q ≤ 2 ^ 61
-  reach_low = half_reach (time_columns q.head) (query_reach db q) n.planned.1.reach
+  reach_low = half_reach (time_count q.head) (query_reach db q) n.planned.1.reach
 
   -- ---- the tables that it reads
 

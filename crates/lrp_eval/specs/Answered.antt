@@ -6,7 +6,8 @@ use Rattle.lrp_model.specs.Formulas.{Question}
 use Rattle.lrp_model.specs.Satisfaction.{IsAnswer}
 use Rattle.lrp_model.specs.Domains.{constants}
 use Rattle.lrp_model.specs.Caps.{ManyAt}
-use Rattle.lrp_model.specs.Plans.{plan, query_reach, time_columns}
+use Rattle.lrp_model.specs.Plans.{plan, query_reach}
+use Rattle.lrp_model.specs.Sorts.{time_count}
 use Rattle.lrp_model.specs.declared.relations.Relation.{Relation}
 use Rattle.lrp_model.specs.declared.tuples.Cell.{Cell}
 use Rattle.lrp_zone.specs.Zones.{ZoneView}
@@ -26,5 +27,5 @@ pub record IsAnswerOf (db : List Relation) (q : Question) (cap : ℕ) (a : Answe
   pub answers : (tuple : List Datum) → InAnswer a.head.columns a.domain a.store tuple ↔ IsAnswer db q tuple
   pub cells : HasCells db q (length (plan db q)) (finite.len a.store.tables)
   pub settled : (cell : Cell) (z : ZoneView) → Contains (zones_at a.store cell) z → AreSettled z (zones_at a.store cell)
-  pub small : (cell : Cell) (z : ZoneView) → Contains (zones_at a.store cell) z → IsSmallZone z (time_columns q.head * query_reach db q)
+  pub small : (cell : Cell) (z : ZoneView) → Contains (zones_at a.store cell) z → IsSmallZone z (time_count q.head * query_reach db q)
   pub few : (s : ℕ) → ManyAt db q cap s → ⊥

@@ -4,7 +4,8 @@ use Rattle.lrp_model.specs.Formulas.{Question}
 use Rattle.lrp_model.specs.Satisfaction.{IsAnswer}
 use Rattle.lrp_model.specs.Caps.{ManyAt}
 use Rattle.lrp_model.specs.Order.{InWindow}
-use Rattle.lrp_model.specs.Pages.{Tuple, Rises}
+use Rattle.lrp_model.specs.Pages.{Rises}
+use Rattle.lrp_model.specs.Rows.{Tuple}
 use Rattle.lrp_model.specs.declared.relations.Relation.{Relation}
 
 -- step s of the plan has this many inhabited cells: more than cap exactly where cap is below the count

@@ -1,6 +1,9 @@
 -- What plans are run on, and what their tables stand for.
-pub mod Answered
+
+-- What the contract of `run` reaches.
 pub mod Counts
+-- What contracts of single functions need beside.
+pub mod Answered
 pub mod Planned
 pub mod Running
 pub mod Settling

@@ -1,7 +1,8 @@
 // What is proved of counts, each law as the contract of a function that does nothing.
 ghost use Rattle.std.specs.Prelude.{◌≡◌, ℕ, ℤ, List, length, false, None};
 ghost use Rattle.lrp_model.specs.Formulas.{Question};
-ghost use Rattle.lrp_model.specs.Pages.{IsPage, Tuple};
+ghost use Rattle.lrp_model.specs.Pages.{IsPage};
+ghost use Rattle.lrp_model.specs.Rows.{Tuple};
 ghost use Rattle.lrp_model.specs.Satisfaction.{IsAnswer};
 ghost use Rattle.lrp_model.specs.declared.relations.Relation.{Relation};
 ghost use Rattle.lrp_eval.specs.Counts.{HasAnswerCount, HasCells};

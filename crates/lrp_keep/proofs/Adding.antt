@@ -7,7 +7,7 @@ use Rattle.lrp_model.specs.DatabaseMeaning.{column_of}
 use Rattle.lrp_model.specs.Domains.{constants}
 use Rattle.lrp_model.specs.Formulas.{Question, question_of}
 use Rattle.lrp_model.specs.Periods.{IsMultiple}
-use Rattle.lrp_model.specs.Plans.{time_columns}
+use Rattle.lrp_model.specs.Sorts.{time_count}
 use Rattle.lrp_model.specs.Rows.{relation_named, rows_in, rows_of}
 use Rattle.lrp_model.specs.Texts.{AreDistinct, Identifier}
 use Rattle.lrp_model.specs.declared.relations.Relation.{Relation}
@@ -36,7 +36,7 @@ use Rattle.lrp_parts.specs.Derivations.{AreReleased, CanBeReadBy, CanDerive, Gro
 use Rattle.lrp_parts.proofs.KeyedRows.{found_at}
 use Rattle.lrp_parts.proofs.Rekeyed.{held_last, held_rows, held_without, keys_here, let_go_rows, let_go_without}
 use Rattle.lrp_parts.proofs.Without.{derived_after, derived_before}
-use Rattle.lrp_keep.specs.Keeps.{CanBeHeld, IsWithinLimits, scaled_reach_of, with_row}
+use Rattle.lrp_keep.specs.Keeps.{CanBeHeld, scaled_reach_of, with_row, StaysWithinLimits}
 use Rattle.lrp_keep.specs.States.{CanBeHeldIn, CanDeriveEach, HasSomeLargePart, IsHoldingCause, IsKeeper, IsKeeping, IsLetGoFrom, IsStillState, ground_at, levels_of, view_of, with_held}
 use Rattle.lrp_kept.specs.Sketches.{AreSketchesOf, CanBeSketched}
 use Rattle.lrp_keep.specs.Unions.{AreDerived, AreDerivedBut, AreStillBut}
@@ -68,7 +68,7 @@ names_replaced (r ∷ db) name rows = ap₂ (λ n ns. n ∷ ns) (keeps_name rows
 
 -- the reach by the rows that are held
 pub scaled_is : (rows : HeldRows) (period : ℕ) (q : Question) (ds : List Disjunct) → AreDistinct (names_of rows) → AreDisjunctsOf (names_of rows) q ds → scaled_kept_reach (relations_of (get rows.sources) rows.relations.items) (bounds_of rows.relations.items) period q ≡ scaled_over (bounds_of rows.relations.items) period q.head ds
-scaled_is rows period q ds distinct are = ap (λ n. 2 ^ (time_columns q.head + 1) * n) (kept_reach_is (get rows.sources) rows.relations.items distinct period q ds are)
+scaled_is rows period q ds distinct are = ap (λ n. 2 ^ (time_count q.head + 1) * n) (kept_reach_is (get rows.sources) rows.relations.items distinct period q ds are)
 
 -- a list with one element more, split at its end
 ends : (xs front back : List ℕ) (x y : ℕ) → xs ++ x ∷ [] ≡ front ++ y ∷ back → length front ≡ length xs → (front ≡ xs) × (y ≡ x) × (back ≡ [])
@@ -347,7 +347,7 @@ module _ (of : KeptQuery) (old : State) (is : IsKeeping of old) (relation : ℕ)
           pub keeper_after : IsKeeper of after
           keeper_after = record { keeping = keeping_after; reach = reach_after }
 
-          pub limits_after : IsWithinLimits (view_of of after)
+          pub limits_after : StaysWithinLimits (view_of of after)
           limits_after = record {
             period = subst (λ n. n ≤ 2 ^ 62) (sym period_is) high;
             reach = reach_after;

@@ -7,7 +7,7 @@ use Rattle.lrp_model.specs.Checked.{plain_question}
 use Rattle.lrp_model.specs.DatabaseMeaning.{column_of}
 use Rattle.lrp_model.specs.Domains.{constants}
 use Rattle.lrp_model.specs.Formulas.{Question, question_of}
-use Rattle.lrp_model.specs.Plans.{time_columns}
+use Rattle.lrp_model.specs.Sorts.{time_count}
 use Rattle.lrp_model.specs.Texts.{Identifier}
 use Rattle.lrp_model.specs.Variables.{head_variables}
 use Rattle.lrp_model.specs.declared.relations.Column.{Column}
@@ -81,6 +81,6 @@ module _ (of : KeptQuery) (s : State) (is : IsKeeping of s) where
               (λ x. answer_to g q head ds rests all is.state.derived a.store h.valid h.times h.texts h.holds tuple (subst (λ t. t) e x)),
               λ x. subst (λ t. t) (sym e) (answer_from g q head ds rests all is.state.derived a.store h.valid h.times h.texts h.holds tuple x),
             );
-        small = small_zones a.store h.valid (time_columns q.head) (kept_reach (relations_of (get s.rows.sources) s.rows.relations.items) (bounds_of s.rows.relations.items) s.period.number q) (times ∙ sym (times_counted q.head))
+        small = small_zones a.store h.valid (time_count q.head) (kept_reach (relations_of (get s.rows.sources) s.rows.relations.items) (bounds_of s.rows.relations.items) s.period.number q) (times ∙ sym (times_counted q.head))
             (h.reach (kept_reach (relations_of (get s.rows.sources) s.rows.relations.items) (bounds_of s.rows.relations.items) s.period.number q) (kept_low g q ds all is.distinct is.state.disjuncts is.state.derived is.low (λ i d at. (whole i d at).some)));
       }

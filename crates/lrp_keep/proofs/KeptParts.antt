@@ -3,14 +3,14 @@ use Rattle.std.proofs.Common.{◌≡◌, ◌+◌, ◌*◌, ◌^◌, ℕ, Bool, t
 use Rattle.std.specs.Prelude.{◌&&◌, if◌then◌else◌}
 use mathlib.Core.Path.{fun_ext}
 use Rattle.lrp_model.specs.Formulas.{Form, Question}
-use Rattle.lrp_model.specs.Plans.{time_columns}
+use Rattle.lrp_model.specs.Sorts.{time_count}
 use Rattle.lrp_model.specs.Reach.{greatest, term_magnitudes, test_reach}
 use Rattle.lrp_model.specs.Texts.{Identifier}
 use Rattle.lrp_model.specs.declared.relations.Relation.{Relation}
 use Rattle.lrp_plan_laws.specs.Atoms.{Atom, atoms}
 use Rattle.lrp_kept.specs.Choices.{disjunct_tests, listed_disjuncts}
 use Rattle.lrp_kept.specs.KeptForm.{all_occur, all_pass, bound_variables, elements, is_atom, is_conjunctive, is_disjunct, is_kept, is_neither, query_disjuncts, some_passes, tested_variables}
-use Rattle.lrp_kept.specs.Limits.{kept_reach, most_of, number_of, scaled_kept_reach, time_quantifiers}
+use Rattle.lrp_kept.specs.Limits.{kept_reach, most_of, scaled_kept_reach, time_quantifiers, number_beside}
 use Rattle.lrp_model.specs.Variables.{head_variables}
 use Rattle.lrp_parts.proofs.Behind.{each_true}
 use Rattle.lrp_keep.proofs.KeptAnswers.{one_passes}
@@ -35,7 +35,7 @@ literal_of q kept f c = literal_in f (conjunctive_of q kept f c)
 
 -- ---- the kept reach reads names alone
 
-number_named : (db other : List Relation) (bounds : List ℕ) (name : Identifier) → map (λ (r : Relation). r.name) other ≡ map (λ (r : Relation). r.name) db → number_of other bounds name ≡ number_of db bounds name
+number_named : (db other : List Relation) (bounds : List ℕ) (name : Identifier) → map (λ (r : Relation). r.name) other ≡ map (λ (r : Relation). r.name) db → number_beside other bounds name ≡ number_beside db bounds name
 number_named [] [] bounds name e = refl
 number_named [] (s ∷ other) bounds name e = cc
 number_named (r ∷ db) [] bounds name e = cc
@@ -55,4 +55,4 @@ pub reach_named : (db other : List Relation) (bounds : List ℕ) (period : ℕ) 
 reach_named db other bounds period q e = ap (λ number. reach_by number period q) (fun_ext (λ name. number_named db other bounds name e))
 
 pub scaled_named : (db other : List Relation) (bounds : List ℕ) (period : ℕ) (q : Question) → map (λ (r : Relation). r.name) other ≡ map (λ (r : Relation). r.name) db → scaled_kept_reach other bounds period q ≡ scaled_kept_reach db bounds period q
-scaled_named db other bounds period q e = ap (λ n. 2 ^ (time_columns q.head + 1) * n) (reach_named db other bounds period q e)
+scaled_named db other bounds period q e = ap (λ n. 2 ^ (time_count q.head + 1) * n) (reach_named db other bounds period q e)

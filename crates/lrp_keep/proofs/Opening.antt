@@ -52,7 +52,7 @@ use Rattle.lrp_kept.proofs.SortedHeads.{same_form}
 use Rattle.lrp_parts.specs.Derivations.{CanDerive}
 use Rattle.lrp_parts.proofs.KeyedRows.{row_of_key}
 use Rattle.lrp_parts.proofs.Narrow.{can_be_joined, fits_elements}
-use Rattle.lrp_keep.specs.Keeps.{CanBeHeld, IsCause, IsWithinLimits, opened, scaled_reach_of}
+use Rattle.lrp_keep.specs.Keeps.{CanBeHeld, opened, scaled_reach_of, IsPastLimit, StaysWithinLimits}
 use Rattle.lrp_keep.specs.States.{AreAllHeld, AreMarkedBy, CanBeOpened, CanDeriveEach, HasSomeLargePart, IsFilled, IsKeeper, ground_at, levels_of, periods_at, read_periods, view_of}
 use Rattle.lrp_kept.specs.Sketches.{CanBeSketched}
 use Rattle.lrp_keep.specs.Unions.{AreDerived}
@@ -262,7 +262,7 @@ module _ (of : KeptQuery) (db : List Relation) (start : HeldRows) (can : CanBeOp
           ∙ scaled_named (relations_of (get marked.sources) marked.relations.items) db (bounds_of marked.relations.items) p q (sym names_are ∙ sym (names_in (get marked.sources) marked.relations.items))
           ∙ scaled_is marked p q ds distinct_marked disjuncts_marked
 
-      pub above_cause : 2 ^ 62 < scaled_over (bounds_of marked.relations.items) p of.query.now.head.columns ds → IsCause (opened of.query.now db of.domain of.cap) BoundLimit
+      pub above_cause : 2 ^ 62 < scaled_over (bounds_of marked.relations.items) p of.query.now.head.columns ds → IsPastLimit (opened of.query.now db of.domain of.cap) BoundLimit
       above_cause l = (subst (λ n. n ≤ 2 ^ 62) (period_is p least) high, subst (λ n. 2 ^ 62 < scaled_kept_reach db (map relation_bound db) n q) (period_is p least) (subst (λ n. 2 ^ 62 < n) (sym scaled_marked) l))
 
       module _ (reach : scaled_over (bounds_of marked.relations.items) p of.query.now.head.columns ds ≤ 2 ^ 62) where
@@ -409,7 +409,7 @@ module _ (of : KeptQuery) (db : List Relation) (start : HeldRows) (can : CanBeOp
           reach_opened : scaled_reach_of (opened of.query.now db of.domain of.cap) ≤ 2 ^ 62
           reach_opened = subst (λ n. scaled_kept_reach db (map relation_bound db) n q ≤ 2 ^ 62) (period_is p least) (subst (λ n. n ≤ 2 ^ 62) (sym scaled_marked) reach)
 
-          pub large_cause : HasSomeLargePart (ground_at of filled p) ds → IsCause (opened of.query.now db of.domain of.cap) TooManyCells
+          pub large_cause : HasSomeLargePart (ground_at of filled p) ds → IsPastLimit (opened of.query.now db of.domain of.cap) TooManyCells
           large_cause h = (
             period_high,
             reach_opened,
@@ -423,7 +423,7 @@ module _ (of : KeptQuery) (db : List Relation) (start : HeldRows) (can : CanBeOp
                 ∙ ap (λ n. record { query = of.query.now; domain = of.domain; cap = of.cap; relations = db; period = n; bounds = bounds_of s.rows.relations.items }) (number_is ∙ period_is p least)
                 ∙ ap (λ bs. record { query = of.query.now; domain = of.domain; cap = of.cap; relations = db; period = period_of db q.body; bounds = bs }) (ap (λ (r : HeldRows). bounds_of r.relations.items) rows_are ∙ bounds_filled ∙ bounds_are)
 
-            pub limits_opened : IsWithinLimits (opened of.query.now db of.domain of.cap)
+            pub limits_opened : StaysWithinLimits (opened of.query.now db of.domain of.cap)
             limits_opened = record {
               period = period_high;
               reach = reach_opened;

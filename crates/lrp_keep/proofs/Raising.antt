@@ -26,7 +26,7 @@ use Rattle.lrp_kept.specs.declared.rows.Source.{Source}
 use Rattle.lrp_limits.specs.declared.periods.Period.{Period}
 use Rattle.lrp_parts.specs.Derivations.{CanDerive}
 use Rattle.lrp_parts.specs.declared.derivation.Derived.{Derived}
-use Rattle.lrp_keep.specs.Keeps.{CanBeHeld, IsCause, raised_at, scaled_reach_of, with_added, with_row}
+use Rattle.lrp_keep.specs.Keeps.{CanBeHeld, raised_at, scaled_reach_of, with_added, with_row, IsPastLimit}
 use Rattle.lrp_keep.specs.States.{CanBeAddedAt, CanBeHeldIn, IsAddedAt, IsAddingCause, IsHeldAt, IsHoldingCause, IsKeeper, IsKeeping, IsMarked, IsStillState, ground_at, levels_of, period_with, view_of, with_held}
 use Rattle.lrp_keep.specs.Unions.{AreDerived}
 use Rattle.lrp_keep.specs.declared.faults.KeepFault.{KeepFault}
@@ -187,7 +187,7 @@ module _ (of : KeptQuery) (old : State) (keeper : IsKeeper of old) (relation : �
     own name e = ap (λ l. slice_get l relation) names_new ∙ e
 
     pub added_cause : (fault : KeepFault) → IsHoldingCause of new relation row period fault → IsAddingCause of old relation row fault
-    added_cause fault h = record { cause = λ name e. subst (λ k. IsCause k fault) (as_added name e) (h.cause name (own name e)) }
+    added_cause fault h = record { cause = λ name e. subst (λ k. IsPastLimit k fault) (as_added name e) (h.cause name (own name e)) }
 
     pub added_view : (after : State) → IsHeldAt of relation row period new after → IsAddedAt of relation row old after
     added_view after h = record { is = λ name e. h.is name (own name e) ∙ as_added name e }

@@ -1,13 +1,13 @@
 -- The zones of answers are small where no bound of theirs is above the kept reach.
-use Rattle.std.proofs.Common.{◌≡◌, ◌≤◌, ◌*◌, ℕ, zero, suc, cond, filter, List, [], ◌∷◌, length, map, take, Option, Some, None, unwrap_or, Contains, inl, inr, refl, sym, ap, subst, arith}
+use Rattle.std.proofs.Common.{◌≡◌, ◌≤◌, ◌+◌, ◌*◌, ℕ, zero, suc, cond, List, [], ◌∷◌, length, map, take, Option, Some, None, unwrap_or, Contains, inl, inr, refl, sym, ap, subst, ◌∙◌, arith}
 use Rattle.std.proofs.Math.Nat.{mul-le-mul_right}
 use Rattle.std.proofs.lemmas.Int.{ints}
 use Rattle.std.proofs.lemmas.List.Elements.{All-contains}
 use Rattle.std.specs.Prelude.{ℤ, pos, neg_ℤ, ◌≤ℤ◌}
 use Rattle.std.specs.FinMap as finite
 use Rattle.lrp_theory.specs.Entries.{AtMost}
-use Rattle.lrp_model.specs.Plans.{time_columns}
-use Rattle.lrp_model.specs.Sorts.{same_sort}
+use Rattle.lrp_model.specs.Sorts.{is_time, time_count}
+use Rattle.lrp_model.proofs.ColumnCounts.{times_more, one_more, none_more}
 use Rattle.lrp_model.specs.Texts.{Identifier}
 use Rattle.lrp_model.specs.declared.relations.Column.{Column}
 use Rattle.lrp_model.specs.declared.relations.Sort.{Sort}
@@ -31,15 +31,15 @@ at_most : (o : Option ℤ) (low high : ℕ) → low ≤ high → AtMost low o �
 at_most None low high le h = tt
 at_most (Some a) low high le h = let p : neg_ℤ (pos low) ≤ℤ a = h.0 in let q : a ≤ℤ pos low = h.1 in (omega (arith, ints), omega (arith, ints))
 
-one_time : (s : Sort) (c : Column) (fs : List Column) (v : Identifier) (ns : List Identifier) → length fs ≡ length ns → length (cond (same_sort s Time) (c ∷ fs) fs) ≡ length (with_time_name s v ns)
-one_time Time c fs v ns e = ap (λ n. suc n) e
-one_time Data c fs v ns e = e
-one_time (Named name) c fs v ns e = e
+one_time : (s : Sort) (n : ℕ) (v : Identifier) (ns : List Identifier) → n ≡ length ns → cond (is_time s) 1 0 + n ≡ length (with_time_name s v ns)
+one_time Time n v ns e = one_more n ∙ ap suc e
+one_time Data n v ns e = none_more n ∙ e
+one_time (Named name) n v ns e = none_more n ∙ e
 
 -- a head has as many times as time columns
-pub times_counted : (cs : List Column) → time_columns cs ≡ length (head_times cs)
+pub times_counted : (cs : List Column) → time_count cs ≡ length (head_times cs)
 times_counted [] = refl
-times_counted (c ∷ cs) = one_time c.sort c (filter (λ d. same_sort d.sort Time) cs) c.name (head_times cs) (times_counted cs)
+times_counted (c ∷ cs) = times_more c cs ∙ one_time c.sort (time_count cs) c.name (head_times cs) (times_counted cs)
 
 -- what is small is small for more
 pub more_small : (z : ZoneView) (low high : ℕ) → low ≤ high → IsSmallZone z low → IsSmallZone z high

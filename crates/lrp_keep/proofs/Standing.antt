@@ -8,7 +8,7 @@ use Rattle.lrp_limits.specs.declared.periods.Period.{Period}
 use Rattle.lrp_parts.specs.declared.derivation.Derived.{Derived}
 use Rattle.lrp_model.specs.declared.relations.Row.{Row}
 use Rattle.lrp_keep.specs.Faults.{kept_fault}
-use Rattle.lrp_keep.specs.Keeps.{IsCause, KeepView}
+use Rattle.lrp_keep.specs.Keeps.{KeepView, IsPastLimit}
 use Rattle.lrp_keep.specs.States.{IsHoldingCause, IsStateOf, IsStillState, IsUndone, ground_at, levels_of}
 use Rattle.lrp_keep.specs.Unions.{AreDerived, AreDerivedBut, AreStillBut}
 use Rattle.lrp_keep.specs.declared.faults.KeepFault.TheVariants.{Memory, TooManyCells}
@@ -48,7 +48,7 @@ pub step_cause : (of : KeptQuery) (s : State) (relation : ℕ) (row : Row) (peri
 step_cause of s relation row period too_many_cells large = large refl
 step_cause of s relation row period no_memory large = memory_cause of s relation row period
 
-pub opened_cause : (k : KeepView) (fault : StepFault) → (fault ≡ too_many_cells → IsCause k TooManyCells) → IsCause k (kept_fault fault)
+pub opened_cause : (k : KeepView) (fault : StepFault) → (fault ≡ too_many_cells → IsPastLimit k TooManyCells) → IsPastLimit k (kept_fault fault)
 opened_cause k too_many_cells large = large refl
 opened_cause k no_memory large = tt
 

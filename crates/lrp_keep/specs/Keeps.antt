@@ -1,5 +1,5 @@
 -- What a keeper of answers stands for, what edits make of it, and why it is refused.
-use Rattle.std.specs.Prelude.{◌≡◌, ◌↔◌, ◌<◌, ◌≤◌, ◌≤ℤ◌, ◌^◌, ◌*◌, ℕ, max, pos, true, List, [], ◌∷◌, ◌++◌, map, Contains, if◌then◌else◌}
+use Rattle.std.specs.Prelude.{◌≡◌, ◌↔◌, ◌<◌, ◌≤◌, ◌≤ℤ◌, ◌*◌, ℕ, max, pos, true, List, [], ◌∷◌, ◌++◌, map, Contains, if◌then◌else◌}
 use Rattle.std.specs.List.{All, AllByRecursion, AllZip}
 use Rattle.std.specs.Str.{bytes_eq}
 use Rattle.lrp_model.specs.Texts.{Text, Identifier}
@@ -21,7 +21,6 @@ use Rattle.lrp_model.specs.declared.relations.Row.{Row}
 use Rattle.lrp_model.specs.declared.relations.Relation.{Relation}
 use Rattle.lrp_tables.specs.Calls.{CanStand, IsColumnBound}
 use Rattle.lrp_model.specs.Rows.{Datum}
-use Rattle.lrp_model.specs.Plans.{time_columns}
 use Rattle.lrp_model.specs.Satisfaction.{IsAnswer}
 use Rattle.lrp_model.specs.declared.tuples.Cell.{Cell}
 use Rattle.lrp_zone.specs.Zones.{ZoneView}
@@ -36,6 +35,7 @@ use Rattle.lrp_keep.specs.Replaced.{replaced}
 use Rattle.lrp_kept.specs.Limits.{kept_reach, raised_period, row_bound, relation_bound, names_relation, scaled_kept_reach}
 use Rattle.lrp_keep.specs.declared.faults.KeepFault.{KeepFault}
 use Rattle.lrp_keep.specs.declared.faults.KeepFault.TheVariants.{PeriodLimit, BoundLimit, TooManyCells, Memory}
+use Rattle.lrp_model.specs.Limits.{greatest_number}
 
 -- a query, the constants, the greatest number of cells, the relations with the rows now held, the least common multiple of the periods that ever were, and for each relation the greatest bound that ever was
 pub record KeepView : Type 0 where
@@ -121,18 +121,18 @@ scaled_reach_of k = scaled_kept_reach k.relations k.bounds k.period (question_of
 abbrev pub HasTooManyCells : KeepView → Type 0
 HasTooManyCells k = HasLargePart k.relations (question_of k.query) k.domain k.period k.cap
 
--- neither the period nor the scaled reach is above 2^62, and no part of a choice has too many cells
-pub record IsWithinLimits (k : KeepView) : Type 0 where
-  pub period : k.period ≤ 2 ^ 62
-  pub reach : scaled_reach_of k ≤ 2 ^ 62
+-- neither the period nor the scaled reach is above the greatest number, and no part of a choice has too many cells
+pub record StaysWithinLimits (k : KeepView) : Type 0 where
+  pub period : k.period ≤ greatest_number
+  pub reach : scaled_reach_of k ≤ greatest_number
   pub cells : HasTooManyCells k → ⊥
 
 -- the first of them that is passed, or no memory
-abbrev pub IsCause : KeepView → KeepFault → Type 0
-IsCause k PeriodLimit = 2 ^ 62 < k.period
-IsCause k BoundLimit = (k.period ≤ 2 ^ 62) × (2 ^ 62 < scaled_reach_of k)
-IsCause k TooManyCells = (k.period ≤ 2 ^ 62) × (scaled_reach_of k ≤ 2 ^ 62) × HasTooManyCells k
-IsCause k Memory = Unit {0}
+abbrev pub IsPastLimit : KeepView → KeepFault → Type 0
+IsPastLimit k PeriodLimit = greatest_number < k.period
+IsPastLimit k BoundLimit = (k.period ≤ greatest_number) × (greatest_number < scaled_reach_of k)
+IsPastLimit k TooManyCells = (k.period ≤ greatest_number) × (scaled_reach_of k ≤ greatest_number) × HasTooManyCells k
+IsPastLimit k Memory = Unit {0}
 
 -- ---- what is asked for, and what each keeper keeps
 
@@ -154,7 +154,7 @@ pub record CanBeKept (q : Question) (db : List Relation) (domain : List Text) : 
 -- what each keeper keeps: the same of the rows now held, and the limits
 pub record IsKeep (k : KeepView) : Type 0 where
   pub can : CanBeKept (question_of k.query) k.relations k.domain
-  pub limits : IsWithinLimits k
+  pub limits : StaysWithinLimits k
 
 -- the relation is one of the keeper's, and the row can be held in it
 pub record CanBeAdded (k : KeepView) (name : Identifier) (row : Row) : Type 0 where
@@ -168,4 +168,4 @@ pub record IsKeptAnswer (k : KeepView) (a : Answer) : Type 0 where
   pub domain : a.domain ≡ k.domain
   pub period : a.period ≡ pos k.period
   pub answers : (tuple : List Datum) → InAnswer a.head.columns a.domain a.store tuple ↔ IsAnswer k.relations (question_of k.query) tuple
-  pub small : (cell : Cell) (z : ZoneView) → Contains (zones_at a.store cell) z → IsSmallZone z (time_columns k.query.head.columns * kept_reach k.relations k.bounds k.period (question_of k.query))
+  pub small : (cell : Cell) (z : ZoneView) → Contains (zones_at a.store cell) z → IsSmallZone z (time_count k.query.head.columns * kept_reach k.relations k.bounds k.period (question_of k.query))

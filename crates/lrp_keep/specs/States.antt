@@ -23,7 +23,7 @@ use Rattle.lrp_kept.specs.Sketches.{AreSketchesOf, CanBeSketched}
 use Rattle.lrp_kept.specs.Choices.{listed_disjuncts}
 use Rattle.lrp_kept.specs.Drafts.{CanBeJoinedUp}
 use Rattle.lrp_parts.specs.declared.parts.Setting.{Setting}
-use Rattle.lrp_keep.specs.Keeps.{CanBeHeld, CanBeKept, IsCause, IsSortedQuery, KeepView, opened, scaled_reach_of, with_added, with_row}
+use Rattle.lrp_keep.specs.Keeps.{CanBeHeld, CanBeKept, IsSortedQuery, KeepView, opened, scaled_reach_of, with_added, with_row, IsPastLimit}
 use Rattle.lrp_kept.specs.KeptForm.{is_kept}
 use Rattle.lrp_kept.specs.Keyed.{AreHeldRows, AreRelisted, AreSameRows, IsEmptyOf, IsFirstEqual, IsLetGoAt}
 use Rattle.lrp_kept.specs.SortedForms.{HaveColumnsOf}
@@ -215,10 +215,10 @@ pub record IsAddedAt (of : KeptQuery) (relation : ℕ) (row : Row) (old new : St
 
 -- the limit that is passed with the row, by the name of its relation
 pub record IsHoldingCause (of : KeptQuery) (s : State) (relation : ℕ) (row : Row) (period : ℕ) (fault : KeepFault) : Type 0 where
-  pub cause : (name : Identifier) → slice_get (names_of s.rows) relation ≡ Some name → IsCause (with_held (view_of of s) name row period) fault
+  pub cause : (name : Identifier) → slice_get (names_of s.rows) relation ≡ Some name → IsPastLimit (with_held (view_of of s) name row period) fault
 
 pub record IsAddingCause (of : KeptQuery) (s : State) (relation : ℕ) (row : Row) (fault : KeepFault) : Type 0 where
-  pub cause : (name : Identifier) → slice_get (names_of s.rows) relation ≡ Some name → IsCause (with_added (view_of of s) name row) fault
+  pub cause : (name : Identifier) → slice_get (names_of s.rows) relation ≡ Some name → IsPastLimit (with_added (view_of of s) name row) fault
 
 -- the same rows and period, and all that is derived from them
 pub record IsStillState (of : KeptQuery) (old new : State) : Type 0 where

@@ -2,7 +2,7 @@
 ghost use Rattle.std.specs.Prelude.{◌≡◌, IfOk, IfErr, OnErr, OnOk, false, true};
 ghost use Rattle.lrp_model.specs.Formulas.{question_of};
 ghost use Rattle.lrp_model.specs.Rows.{rows_of};
-ghost use Rattle.lrp_keep.specs.Keeps.{CanBeAdded, CanBeKept, HasNoEqual, IsCause, IsKeptAnswer, IsWithinLimits, IsWithout, opened, with_added};
+ghost use Rattle.lrp_keep.specs.Keeps.{CanBeAdded, CanBeKept, HasNoEqual, IsKeptAnswer, IsWithout, opened, with_added, IsPastLimit, StaysWithinLimits};
 
 use crate::faults::KeepFault;
 use crate::kept_query::KeptQuery;
@@ -69,8 +69,8 @@ impl<'a> Keep<'a> {
     ) -> Result<Keep<'a>, KeepFault>
         requires { CanBeKept (question_of query.now) database.now domain.now }
         ensures view { IfOk result (λ made. made ≡ opened query.now database.now domain.now cap) }
-        ensures limits { OnOk result (IsWithinLimits (opened query.now database.now domain.now cap)) }
-        ensures fault { IfErr result (IsCause (opened query.now database.now domain.now cap)) }
+        ensures limits { OnOk result (StaysWithinLimits (opened query.now database.now domain.now cap)) }
+        ensures fault { IfErr result (IsPastLimit (opened query.now database.now domain.now cap)) }
     {
         database.relations();
         domain.len();
@@ -88,8 +88,8 @@ impl<'a> Keep<'a> {
     pub fn add(&mut self, relation: &Name, row: &Row) -> Result<(), KeepFault>
         requires { CanBeAdded self.old relation.now row.now }
         ensures view { OnOk result (self.new ≡ with_added self.old relation.now row.now) }
-        ensures limits { OnOk result (IsWithinLimits (with_added self.old relation.now row.now)) }
-        ensures fault { IfErr result (IsCause (with_added self.old relation.now row.now)) }
+        ensures limits { OnOk result (StaysWithinLimits (with_added self.old relation.now row.now)) }
+        ensures fault { IfErr result (IsPastLimit (with_added self.old relation.now row.now)) }
         ensures same { OnErr result (self.new ≡ self.old) }
     {
         match self.state.rows.relation(relation) {

@@ -8,7 +8,7 @@ ghost use Rattle.lrp_kept.specs.Keys.{keys_of};
 ghost use Rattle.lrp_kept.specs.Keyed.{AreHeldRows, HasNoEqualRow, IsEmptyOf};
 ghost use Rattle.lrp_kept.specs.Limits.{relation_bound, row_periods};
 ghost use Rattle.lrp_kept.specs.Sizes.{number_in};
-ghost use Rattle.lrp_keep.specs.Keeps.{IsCause, IsWithinLimits};
+ghost use Rattle.lrp_keep.specs.Keeps.{IsPastLimit, StaysWithinLimits};
 ghost use Rattle.lrp_keep.specs.States.{AreAllHeld, AreHeldAlso, CanBeAddedAt, CanBeHeldIn, AreDerivedIn, AreDerivedInBut, AreStillInBut, CanAllBeSketched, CanBeOpened, CanDeriveAt, CanDeriveEach, HasLargePartAt, HasSomeLargePart, IsAddedAt, IsAddingCause, IsAnswerOfState, IsDerivedAt, IsDerivedWithout, IsHeldAt, IsHoldingCause, IsKeeper, IsKeeping, IsLetGoFrom, IsMarked, IsPeriodWith, IsRaisedBy, AreMarkedBy, IsRemoved, IsStillState, IsUndone, ground_at, opened_with, periods_at, scaled_at, view_of, whole_periods};
 ghost use Rattle.lrp_kept.specs.Sketches.{CanBeSketched};
 
@@ -43,8 +43,8 @@ impl State {
         requires { CanBeOpened of.now database.now relations }
         ensures keeper { IfOk result (IsKeeper of.now) }
         ensures view { IfOk result (λ s. view_of of.now s ≡ opened_with of.now database.now) }
-        ensures limits { OnOk result (IsWithinLimits (opened_with of.now database.now)) }
-        ensures fault { IfErr result (IsCause (opened_with of.now database.now)) }
+        ensures limits { OnOk result (StaysWithinLimits (opened_with of.now database.now)) }
+        ensures fault { IfErr result (IsPastLimit (opened_with of.now database.now)) }
     {
         let Some(period) = whole_period(of, database) else {
             return Err(KeepFault::PeriodLimit);
@@ -78,7 +78,7 @@ impl State {
         requires row { CanBeAddedAt of.now self.old relation row.now }
         ensures keeper { IsKeeper of.now self.new }
         ensures view { OnOk result (IsAddedAt of.now relation row.now self.old self.new) }
-        ensures limits { OnOk result (IsWithinLimits (view_of of.now self.new)) }
+        ensures limits { OnOk result (StaysWithinLimits (view_of of.now self.new)) }
         ensures fault { IfErr result (IsAddingCause of.now self.old relation row.now) }
         ensures same { OnErr result (view_of of.now self.new ≡ view_of of.now self.old) }
     {
@@ -120,7 +120,7 @@ impl State {
         requires row { CanBeHeldIn of.now self.old relation row.now period.number }
         ensures keeper { OnOk result (IsKeeper of.now self.new) }
         ensures view { OnOk result (IsHeldAt of.now relation row.now period.number self.old self.new) }
-        ensures limits { OnOk result (IsWithinLimits (view_of of.now self.new)) }
+        ensures limits { OnOk result (StaysWithinLimits (view_of of.now self.new)) }
         ensures fault { IfErr result (IsHoldingCause of.now self.old relation row.now period.number) }
         ensures same { OnErr result (IsStillState of.now self.old self.new) }
     {

@@ -3,7 +3,6 @@ use Rattle.std.proofs.Common.{◌≡◌, ◌<◌, ◌≤◌, ◌+◌, ◌*◌, �
 use Rattle.std.specs.Prelude.{max}
 use Rattle.std.proofs.Math.Nat.{pow-le-pow_right}
 use Rattle.std.proofs.lemmas.Nat.{mul-le, pow_pos}
-use Rattle.lrp_model.specs.Plans.{time_columns}
 use Rattle.lrp_model.specs.Reach.{greatest, test_reach}
 use Rattle.lrp_model.specs.Sorts.{time_count}
 use Rattle.lrp_model.specs.declared.relations.Column.{Column}
@@ -44,8 +43,8 @@ module _ (bounds : List ℕ) (P : ℕ) (head : List Column) (ds : List Disjunct)
 
   low_reach : (R + steps * P) * 2 ^ T ≤ 2 ^ 62
   low_reach =
-      let h : 2 ^ (time_columns head + 1) * ((R + steps * P) * 2 ^ T) ≤ 2 ^ 62 = high in
-      let a : (R + steps * P) * 2 ^ T ≤ 2 ^ (time_columns head + 1) * ((R + steps * P) * 2 ^ T) = at_least (time_columns head + 1) ((R + steps * P) * 2 ^ T) in
+      let h : 2 ^ (time_count head + 1) * ((R + steps * P) * 2 ^ T) ≤ 2 ^ 62 = high in
+      let a : (R + steps * P) * 2 ^ T ≤ 2 ^ (time_count head + 1) * ((R + steps * P) * 2 ^ T) = at_least (time_count head + 1) ((R + steps * P) * 2 ^ T) in
       omega (arith, h, a)
 
   times_low : time_count d.bound ≤ T

@@ -20,7 +20,7 @@ use Rattle.lrp_kept.specs.Choices.{disjunct_tests, listed_disjuncts}
 use Rattle.lrp_kept.specs.Disjuncts.{AreDisjunctsOf, IsAtomOf, IsDisjunctOf, bound_columns}
 use Rattle.lrp_kept.specs.Held.{bounds_of, relations_of}
 use Rattle.lrp_kept.specs.KeptForm.{bound_variables}
-use Rattle.lrp_kept.specs.Limits.{atom_reach, disjunct_reach, is_of_time, kept_reach, number_of, time_quantifiers}
+use Rattle.lrp_kept.specs.Limits.{atom_reach, disjunct_reach, is_of_time, kept_reach, time_quantifiers, number_beside}
 use Rattle.lrp_kept.specs.Sizes.{joined_reach, reach_in, reach_over}
 use Rattle.lrp_kept.specs.declared.disjuncts.Disjunct.{Disjunct}
 use Rattle.lrp_kept.specs.declared.disjuncts.JoinedAtom.{JoinedAtom}
@@ -72,16 +72,16 @@ same_quantifiers (forall v s f) = refl
 module _ (sources : ℕ → Option Source) where
   -- ---- the numbers beside relations
 
-  number_is : (rs : List HeldRelation) (i : ℕ) (name : Identifier) → AreDistinct (map (λ (r : HeldRelation). r.name) rs) → slice_get (map (λ (r : HeldRelation). r.name) rs) i ≡ Some name → number_of (relations_of sources rs) (bounds_of rs) name ≡ slice_index_or (bounds_of rs) i 0
+  number_is : (rs : List HeldRelation) (i : ℕ) (name : Identifier) → AreDistinct (map (λ (r : HeldRelation). r.name) rs) → slice_get (map (λ (r : HeldRelation). r.name) rs) i ≡ Some name → number_beside (relations_of sources rs) (bounds_of rs) name ≡ slice_index_or (bounds_of rs) i 0
   number_is [] i name d e = absurd (none_is name e)
-  number_is (h ∷ rs) zero name d e = subst (λ n. number_of (relations_of sources (h ∷ rs)) (bounds_of (h ∷ rs)) n ≡ h.most) (some_same h.name name e) (by (bytes_eq h.name h.name) (own_name h.name))
+  number_is (h ∷ rs) zero name d e = subst (λ n. number_beside (relations_of sources (h ∷ rs)) (bounds_of (h ∷ rs)) n ≡ h.most) (some_same h.name name e) (by (bytes_eq h.name h.name) (own_name h.name))
     where
-      by : (b : Bool) → b ≡ true → (if b then h.most else number_of (relations_of sources rs) (bounds_of rs) h.name) ≡ h.most
+      by : (b : Bool) → b ≡ true → (if b then h.most else number_beside (relations_of sources rs) (bounds_of rs) h.name) ≡ h.most
       by true t = refl
       by false t = cc
   number_is (h ∷ rs) (suc i) name d e = by (bytes_eq h.name name) (other_name h.name name (λ same. all_of (λ m. h.name ≢ m) (map (λ (r : HeldRelation). r.name) rs) name d.0 (got_in (map (λ (r : HeldRelation). r.name) rs) i name e) (sym same))) (number_is rs i name d.1 e)
     where
-      by : (b : Bool) → b ≡ false → number_of (relations_of sources rs) (bounds_of rs) name ≡ slice_index_or (bounds_of rs) i 0 → (if b then h.most else number_of (relations_of sources rs) (bounds_of rs) name) ≡ slice_index_or (bounds_of rs) i 0
+      by : (b : Bool) → b ≡ false → number_beside (relations_of sources rs) (bounds_of rs) name ≡ slice_index_or (bounds_of rs) i 0 → (if b then h.most else number_beside (relations_of sources rs) (bounds_of rs) name) ≡ slice_index_or (bounds_of rs) i 0
       by true t rest = cc
       by false t rest = rest
 

@@ -2,7 +2,7 @@
 use Rattle.std.proofs.Common.{◌≡◌, ◌≤◌, ◌<◌, ◌+◌, ◌*◌, ◌^◌, ℕ, zero, suc, max, List, [], ◌∷◌, length, take, get_or, map, refl, sym, ap, ◌∙◌, mul_comm, arith}
 use Rattle.std.specs.Prelude.{slice_index_or}
 use Rattle.std.proofs.lemmas.List.{get_or_past, length-map}
-use Rattle.lrp_model.specs.Plans.{time_columns}
+use Rattle.lrp_model.specs.Sorts.{time_count}
 use Rattle.lrp_model.specs.Reach.{greatest}
 use Rattle.lrp_model.specs.declared.relations.Column.{Column}
 use Rattle.lrp_limits.specs.Capped.{capped}
@@ -47,7 +47,7 @@ cap_more a b r s e f = omega (arith, e, f)
 pub scaled_is : (bounds : List ℕ) (period : ℕ) (ds : List Disjunct) (head : List Column) (most : Sizes) (stepped doubled result : ℕ) → AreSizes bounds period ds most
     → stepped ≡ capped (most.reach + (most.atoms + most.tests) * period)
     → ((n : ℕ) → stepped ≡ capped n → doubled ≡ capped (2 ^ most.times * n))
-    → ((n : ℕ) → doubled ≡ capped n → result ≡ capped (2 ^ (time_columns head + 1) * n))
+    → ((n : ℕ) → doubled ≡ capped n → result ≡ capped (2 ^ (time_count head + 1) * n))
     → result ≡ capped (scaled_over bounds period head ds)
 scaled_is bounds period ds head most stepped doubled result h e d r = r (whole * 2 ^ greatest (map bound_times ds)) twice
   where

@@ -6,7 +6,7 @@ use Rattle.lrp_model.specs.Texts.{Identifier}
 use Rattle.lrp_model.specs.Formulas.{Form, Question}
 use Rattle.lrp_model.specs.Variables.{Variable, time_variable, data_variable}
 use Rattle.lrp_model.specs.Periods.{lcm, lcm_all, value_periods}
-use Rattle.lrp_model.specs.Plans.{time_columns}
+use Rattle.lrp_model.specs.Sorts.{time_count}
 use Rattle.lrp_model.specs.Reach.{greatest, term_magnitudes, test_reach}
 use Rattle.lrp_model.specs.declared.relations.Row.{Row}
 use Rattle.lrp_model.specs.declared.relations.Relation.{Relation}
@@ -35,13 +35,13 @@ abbrev pub names_relation : Form → Identifier → Bool
 names_relation f name = list_any (λ a. bytes_eq a.name name) (atoms f)
 
 -- the number beside the relation of this name
-abbrev pub number_of : List Relation → List ℕ → Identifier → ℕ
-number_of (r ∷ rs) (n ∷ ns) name = if bytes_eq r.name name then n else number_of rs ns name
-number_of _ _ name = 0
+abbrev pub number_beside : List Relation → List ℕ → Identifier → ℕ
+number_beside (r ∷ rs) (n ∷ ns) name = if bytes_eq r.name name then n else number_beside rs ns name
+number_beside _ _ name = 0
 
 -- the reach of an atom as a step of its own, by the greatest bound that its relation ever had
 abbrev pub atom_reach : List Relation → List ℕ → ℕ → Atom → ℕ
-atom_reach db bounds period a = number_of db bounds a.name + 2 * greatest (flat_map term_magnitudes a.terms) + period
+atom_reach db bounds period a = number_beside db bounds a.name + 2 * greatest (flat_map term_magnitudes a.terms) + period
 
 -- the greatest reach of an atom or a test of a disjunct as a step of its own
 abbrev pub disjunct_reach : List Relation → List ℕ → ℕ → Form → ℕ
@@ -67,4 +67,4 @@ kept_reach db bounds period q =
 
 -- 2^(m + 1) times as much, with m time columns in the head
 abbrev pub scaled_kept_reach : List Relation → List ℕ → ℕ → Question → ℕ
-scaled_kept_reach db bounds period q = 2 ^ (time_columns q.head + 1) * kept_reach db bounds period q
+scaled_kept_reach db bounds period q = 2 ^ (time_count q.head + 1) * kept_reach db bounds period q

@@ -3,7 +3,6 @@ use Rattle.std.specs.Prelude.{◌≡◌, ◌==◌, ◌+◌, ◌*◌, ◌^◌, �
 use Rattle.std.specs.List.{list_any}
 use Rattle.std.specs.Option.{option_map}
 use Rattle.lrp_model.specs.Periods.{test_periods}
-use Rattle.lrp_model.specs.Plans.{time_columns}
 use Rattle.lrp_model.specs.Reach.{greatest, term_magnitudes, test_reach}
 use Rattle.lrp_model.specs.Sorts.{time_count}
 use Rattle.lrp_model.specs.declared.relations.Column.{Column}
@@ -57,4 +56,4 @@ reach_over bounds period ds =
 
 -- 2^(m + 1) times as much, with m time columns in the head
 abbrev pub scaled_over : List ℕ → ℕ → List Column → List Disjunct → ℕ
-scaled_over bounds period head ds = 2 ^ (time_columns head + 1) * reach_over bounds period ds
+scaled_over bounds period head ds = 2 ^ (time_count head + 1) * reach_over bounds period ds

@@ -1,10 +1,9 @@
 -- A reach doubled once for each time column.
-use Rattle.std.proofs.Common.{◌≡◌, ◌<◌, ◌+◌, ◌*◌, ◌^◌, ℕ, suc, Bool, true, false, cond, min, List, [], ◌∷◌, ◌++◌, length, take, get_or, filter, refl, sym, ap, ◌∙◌, arith, length-append}
+use Rattle.std.proofs.Common.{◌≡◌, ◌<◌, ◌+◌, ◌*◌, ◌^◌, ℕ, suc, Bool, true, false, cond, min, List, [], ◌∷◌, ◌++◌, length, take, get_or, refl, sym, ap, ◌∙◌, arith}
 use Rattle.std.proofs.lemmas.List.{take_more}
 use Rattle.std.proofs.Math.Nat.{pow-succ', mul_assoc}
-use Rattle.std.proofs.lemmas.List.Elements.{filter-append}
-use Rattle.lrp_model.specs.Plans.{time_columns}
-use Rattle.lrp_model.specs.Sorts.{same_sort}
+use Rattle.std.proofs.lemmas.List.Sums.{sum_by_push}
+use Rattle.lrp_model.specs.Sorts.{same_sort, time_count}
 use Rattle.lrp_model.specs.declared.relations.Column.{Column}
 use Rattle.lrp_model.specs.declared.relations.Sort.TheVariants.{Time}
 use Rattle.lrp_limits.specs.Capped.{capped}
@@ -21,25 +20,18 @@ pow_suc m n =
 pow_one : (n : ℕ) → 2 * n ≡ 2 ^ (0 + 1) * n
 pow_one n = omega arith
 
-pub starts : (reach all n : ℕ) → all ≡ capped (2 * reach) → reach ≡ capped n → all ≡ capped (2 ^ (time_columns [] + 1) * n)
+pub starts : (reach all n : ℕ) → all ≡ capped (2 * reach) → reach ≡ capped n → all ≡ capped (2 ^ (time_count [] + 1) * n)
 starts reach all n e h = e ∙ cap_double _ n reach h ∙ ap capped (pow_one n)
 
 by_sort : (b : Bool) (m n old new : ℕ) → new ≡ cond b (capped (2 * old)) old → old ≡ capped (2 ^ (m + 1) * n) → new ≡ capped (2 ^ (m + cond b 1 0 + 1) * n)
 by_sort true m n old new e h = e ∙ cap_double _ (2 ^ (m + 1) * n) old h ∙ ap capped (pow_suc m n)
 by_sort false m n old new e h = e ∙ h ∙ ap (λ k. capped (2 ^ (k + 1) * n)) (omega arith)
 
-length_by : (b : Bool) (x : Column) → length (cond b (x ∷ []) []) ≡ cond b 1 0
-length_by true x = refl
-length_by false x = refl
+columns_more : (cs : List Column) (i : ℕ) (c : Column) → i < length cs → c ≡ get_or cs i c → time_count (take (i + 1) cs) ≡ time_count (take i cs) + cond (same_sort c.sort Time) 1 0
+columns_more cs i c lt is = ap time_count (take_more cs i c lt ∙ ap (λ x. take i cs ++ x ∷ []) (sym is)) ∙ sum_by_push (λ x. cond (same_sort x.sort Time) 1 0) (take i cs) c
 
-columns_more : (cs : List Column) (i : ℕ) (c : Column) → i < length cs → c ≡ get_or cs i c → time_columns (take (i + 1) cs) ≡ time_columns (take i cs) + cond (same_sort c.sort Time) 1 0
-columns_more cs i c lt is =
-    ap time_columns (take_more cs i c lt ∙ ap (λ x. take i cs ++ x ∷ []) (sym is))
-    ∙ ap length (filter-append (λ x. same_sort x.sort Time) (take i cs) (c ∷ [])) ∙ length-append (filter (λ x. same_sort x.sort Time) (take i cs)) (filter (λ x. same_sort x.sort Time) (c ∷ []))
-    ∙ ap (λ k. time_columns (take i cs) + k) (length_by (same_sort c.sort Time) c)
-
-pub goes_on : (cs : List Column) (i : ℕ) (c : Column) (n old new : ℕ) → i < length cs → c ≡ get_or cs i c → old ≡ capped (2 ^ (time_columns (take i cs) + 1) * n) → new ≡ cond (same_sort c.sort Time) (capped (2 * old)) old → new ≡ capped (2 ^ (time_columns (take (i + 1) cs) + 1) * n)
-goes_on cs i c n old new lt is h e = by_sort (same_sort c.sort Time) (time_columns (take i cs)) n old new e h ∙ ap (λ k. capped (2 ^ (k + 1) * n)) (sym (columns_more cs i c lt is))
+pub goes_on : (cs : List Column) (i : ℕ) (c : Column) (n old new : ℕ) → i < length cs → c ≡ get_or cs i c → old ≡ capped (2 ^ (time_count (take i cs) + 1) * n) → new ≡ cond (same_sort c.sort Time) (capped (2 * old)) old → new ≡ capped (2 ^ (time_count (take (i + 1) cs) + 1) * n)
+goes_on cs i c n old new lt is h e = by_sort (same_sort c.sort Time) (time_count (take i cs)) n old new e h ∙ ap (λ k. capped (2 ^ (k + 1) * n)) (sym (columns_more cs i c lt is))
 
 pub none_times : (reach n : ℕ) → reach ≡ capped n → reach ≡ capped (2 ^ 0 * n)
 none_times reach n h = h ∙ ap capped (one_time n)

@@ -9,7 +9,7 @@ use crate::periods::{Period, one};
 use lrp_model::{Bound, Row, RowPoint, Value};
 
 /// The least common multiple of a relation's periods, or `None` where it is above 2^62; the greatest magnitude of a bound of its rows; and how many rows it has.
-#[derive(Clone, Copy, Debug)]
+#[derive(Clone, Copy)]
 pub struct Facts {
     pub period: Option<Period>,
     pub bound: u64,

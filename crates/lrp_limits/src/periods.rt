@@ -7,7 +7,7 @@ use lrp_model::LIMIT;
 use lrp_point::common;
 
 /// A period, from 1 to 2^62.
-#[derive(Clone, Copy, Debug, PartialEq, Eq)]
+#[derive(Clone, Copy, PartialEq, Eq)]
 pub struct Period {
     pub number: u64,
     ghost low: { 1 ≤ number },

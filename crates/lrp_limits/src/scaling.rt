@@ -1,7 +1,6 @@
 // The reach of a query, doubled for its answers.
 ghost use Rattle.std.specs.Prelude.{◌≡◌, ℕ, ◌+◌, ◌*◌, ◌^◌, if◌then◌else◌};
-ghost use Rattle.lrp_model.specs.Plans.{time_columns};
-ghost use Rattle.lrp_model.specs.Sorts.{same_sort};
+ghost use Rattle.lrp_model.specs.Sorts.{same_sort, time_count};
 ghost use Rattle.lrp_model.specs.declared.relations.Sort.TheVariants.{Time};
 ghost use Rattle.lrp_limits.specs.Capped.{capped as capped_at};
 
@@ -10,7 +9,7 @@ use lrp_model::{Column, Sort};
 
 /// The reach of the last step times two, and once more times two for each time column of the head; 2^62 + 1 where that is above 2^62.
 pub fn scaled(reach: u64, columns: &[Column]) -> u64
-    ensures { (n : ℕ) → reach ≡ capped_at n → result ≡ capped_at (2 ^ (time_columns columns.now + 1) * n) }
+    ensures { (n : ℕ) → reach ≡ capped_at n → result ≡ capped_at (2 ^ (time_count columns.now + 1) * n) }
 {
     let mut all = capped(doubled(reach));
     for column in columns {

@@ -8,7 +8,7 @@ use Rattle.std.proofs.lemmas.Bool.Decides.{nat_tests}
 use Rattle.lrp_model.specs.AnswerTexts.{IsAnswerRelation, IsAnswerRow, IsAnswerTextOf, MayStandBeside, OfOneCell}
 use Rattle.lrp_model.specs.DatabaseReading.{IsDatabase}
 use Rattle.lrp_model.specs.Formulas.{Question}
-use Rattle.lrp_model.specs.Plans.{time_columns}
+use Rattle.lrp_model.specs.Sorts.{time_count}
 use Rattle.lrp_model.specs.Printed.{relation_bytes}
 use Rattle.lrp_model.specs.Rows.{Datum, times_of}
 use Rattle.lrp_model.specs.Satisfaction.{IsAnswer}
@@ -25,8 +25,8 @@ use Rattle.lrp_list.proofs.AnswerRead.{answer_reads}
 use Rattle.lrp_list.proofs.AnswerRows.{row, row_tuple}
 
 module _ (db : List Relation) (q : Question) (a : Answer) (h : IsSettledAnswer db q a) where
-  times_same : a.store.shape.times ≡ time_columns q.head
-  times_same = sym a.times_are ∙ ap time_columns h.head
+  times_same : a.store.shape.times ≡ time_count q.head
+  times_same = sym a.times_are ∙ ap time_count h.head
 
   is_relation : IsAnswerRelation a.store.period db q (answer_relation a)
   is_relation = record {

@@ -1,5 +1,5 @@
 -- The relation of an answer reads back as it is written.
-use Rattle.std.proofs.Common.{◌≡◌, ◌≢◌, ◌<◌, ◌≤◌, ◌+◌, ◌^◌, ◌∙◌, ℕ, List, [], ◌∷◌, ◌++◌, Bool, true, false, Option, Some, cond, refl, sym, ap, ap₂, subst, arith, length, map, take, filter, append-nil, if◌then◌else◌}
+use Rattle.std.proofs.Common.{◌≡◌, ◌≢◌, ◌<◌, ◌≤◌, ◌+◌, ◌^◌, ◌∙◌, ℕ, List, [], ◌∷◌, ◌++◌, true, false, Option, Some, refl, sym, ap, ap₂, subst, arith, map, take, append-nil, if◌then◌else◌}
 use Rattle.std.specs.Prelude.{ℤ, pos, ◌-ℤ◌, ◌≤ℤ◌, ◌<ℤ◌, codes, Contains}
 use Rattle.std.specs.Int.{int_rem_euclid}
 use Rattle.std.specs.List.{AllByRecursion, flat_map}
@@ -12,13 +12,12 @@ use Rattle.lrp_text.proofs.Sound.{takes_join}
 use Rattle.lrp_model.specs.AnswerTexts.{HasPeriod as HasPeriodOf, IsAnswerRow}
 use Rattle.lrp_model.specs.DatabaseReading.{IsDatabase}
 use Rattle.lrp_model.specs.Databases.{relation_text, database_text}
-use Rattle.lrp_model.specs.Lexing.{greatest_number, after, start, tokens, tokens_from, skip, scan}
-use Rattle.lrp_model.specs.Plans.{time_columns}
+use Rattle.lrp_model.specs.Lexing.{after, start, tokens, tokens_from, skip, scan}
+use Rattle.lrp_model.specs.Limits.{greatest_number}
 use Rattle.lrp_model.specs.Printed.{relation_bytes, database_bytes}
 use Rattle.lrp_model.specs.Rows.{Datum, time, text, texts_of}
 use Rattle.lrp_model.specs.Satisfaction.{HasShape, IsOfKind}
 use Rattle.lrp_model.specs.Sorts.{is_time, time_count}
-use Rattle.lrp_model.specs.Domains.{same_sort}
 use Rattle.lrp_model.specs.Texts.{Text, Ascends}
 use Rattle.lrp_model.specs.DataTexts.{IsDataText}
 use Rattle.lrp_model.specs.Tokens.{Takes, Spells, joined_parts}
@@ -39,7 +38,7 @@ use Rattle.lrp_print.proofs.Faultless.{relations_fit, relations_sound}
 use Rattle.lrp_print.proofs.Meant.{reduced, reduced_row, reduced_value, relations_mean}
 use Rattle.lrp_print.proofs.PieceLaws.{trees, behind}
 use Rattle.lrp_print.proofs.Spelling.{tokens_at}
-use Rattle.lrp_print.proofs.Trees.{relation_tree, relations_spelled, times_cons}
+use Rattle.lrp_print.proofs.Trees.{relation_tree, relations_spelled}
 use Rattle.lrp_print.proofs.Utf8.{relations_utf8}
 use Rattle.lrp_zone.specs.Zones.{columns_of}
 use Rattle.lrp_store.specs.Least.{HasRoom}
@@ -144,22 +143,13 @@ texts_kept domain [] (t ∷ ts) h all = absurd h
 texts_kept domain (n ∷ ns) [] h all = absurd h
 texts_kept domain (n ∷ ns) (t ∷ ts) h all = (in_all IsDataText domain all t (Contains-from_get domain n t h.0), texts_kept domain ns ts h.1 all)
 
--- time columns by their count
-times_same : (cs : List Column) → time_count cs ≡ time_columns cs
-times_same [] = refl
-times_same (c ∷ cs) = times_cons c cs ∙ by (is_time c.sort) (times_same cs)
-  where
-    by : (b : Bool) → time_count cs ≡ time_columns cs → (if b then 1 else 0) + time_count cs ≡ length (cond b (c ∷ filter (λ d. same_sort d.sort Time) cs) (filter (λ d. same_sort d.sort Time) cs))
-    by true e = omega (arith, e)
-    by false e = omega (arith, e)
-
 module _ (a : Answer) (store : IsStore a.store) (ascends : Ascends a.domain) (room : HasRoom a.store) (texts : AllByRecursion IsDataText a.domain) where
   row_kept : (cell : Cell) (table : List (Option ℤ)) (held : Contains (tables_at a.store cell) table) → IsRowOf a.head.columns (row_of a.head.columns a.domain a.store cell table)
   row_kept cell table held =
       let z = zone a store ascends cell table held in
       let is = zone_is a store ascends cell table held in
       let h = head a store ascends cell table held in
-      let n : time_count a.head.columns ≡ columns_of z = times_same a.head.columns ∙ a.times_are ∙ sym (columns_are a store ascends cell table held) in
+      let n : time_count a.head.columns ≡ columns_of z = a.times_are ∙ sym (columns_are a store ascends cell table held) in
       let space = room.each cell table held in
       record {
         values = values_kept a.store.period a.head.columns (first a store ascends cell table held) store.period_low store.period_high h.shape

@@ -4,16 +4,14 @@ use Rattle.std.specs.Prelude.{ℤ, slice_get, ◌==◌}
 use Rattle.std.proofs.lemmas.Bool.Decides.{nat_tests}
 use Rattle.std.specs.Fmt.{signed_decimal}
 use Rattle.lrp_model.specs.Texts.{Text}
-use Rattle.lrp_model.specs.Rows.{Datum, time, text}
-use Rattle.lrp_model.specs.Pages.{Tuple}
-use Rattle.lrp_model.specs.Sorts.{is_time}
+use Rattle.lrp_model.specs.Rows.{Datum, time, text, Tuple}
+use Rattle.lrp_model.specs.Sorts.{is_time, time_count}
 use Rattle.lrp_model.specs.Printed.{joined_by, quoted}
 use Rattle.lrp_model.specs.PrintedPages.{datum_bytes, json_line, plain_line}
 use Rattle.lrp_model.specs.Tuples.{put_first, in_head_order, text_at, texts_at}
 use Rattle.lrp_model.specs.declared.relations.Sort.{Sort}
 use Rattle.lrp_model.specs.declared.relations.Sort.TheVariants.{Time, Data, Named}
 use Rattle.lrp_model.specs.declared.relations.Column.{Column}
-use Rattle.lrp_model.specs.Plans.{time_columns}
 use Rattle.lrp_model.specs.Satisfaction.{HasShape}
 use Rattle.lrp_list.specs.Lines.{behind}
 use Rattle.lrp_list.proofs.HeadOrder.{head_is}
@@ -110,7 +108,7 @@ length_at : (domain : List Text) (ns : List ℕ) → length (texts_at domain ns)
 length_at domain [] = refl
 length_at domain (n ∷ ns) = ap suc (length_at domain ns)
 
-pub plain_line_is : (domain : List Text) (between : List ℕ) (cs : List Column) (xs : List ℤ) (ns : List ℕ) (b : Bool) → b ≡ (length cs == 0) → b ≡ false → time_columns cs ≡ length xs → length cs ≡ length xs + length ns → between ≡ codes ", "
+pub plain_line_is : (domain : List Text) (between : List ℕ) (cs : List Column) (xs : List ℤ) (ns : List ℕ) (b : Bool) → b ≡ (length cs == 0) → b ≡ false → time_count cs ≡ length xs → length cs ≡ length xs + length ns → between ≡ codes ", "
     → behind (codes "") between (in_head_order cs xs (texts_at domain ns)) ++ codes "\n" ≡ plain_line (in_head_order cs xs (texts_at domain ns))
 plain_line_is domain between cs xs ns b e f g h k =
     ap (λ bs. behind (codes "") bs (in_head_order cs xs (texts_at domain ns)) ++ codes "\n") k

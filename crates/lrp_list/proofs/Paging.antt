@@ -7,9 +7,9 @@ use Rattle.std.specs.declared.cmp.Ordering.{Ordering}
 use Rattle.std.specs.Cmp.Lexicographic.{slice_cmp}
 use Rattle.std.specs.FinMap.{int_cmp-IsAntisymmetric, nat_cmp-IsAntisymmetric, slice_cmp-IsAntisymmetric}
 use Rattle.lrp_model.specs.Texts.{text_cmp}
-use Rattle.lrp_model.specs.Rows.{times_of, texts_of}
+use Rattle.lrp_model.specs.Rows.{times_of, texts_of, Tuple}
 use Rattle.lrp_model.specs.Order.{tuple_cmp, Before}
-use Rattle.lrp_model.specs.Pages.{Tuple, ComesAfter, last_of, AfterAll, Rises, IsPage}
+use Rattle.lrp_model.specs.Pages.{ComesAfter, last_of, AfterAll, Rises, IsPage}
 use Rattle.lrp_model.specs.Satisfaction.{HasShape}
 use Rattle.lrp_model.specs.Tuples.{in_head_order}
 use Rattle.lrp_model.specs.declared.relations.Column.{Column}

@@ -1,7 +1,7 @@
 -- The tuple that a spot stands for, and the form of its line.
 use Rattle.std.specs.Prelude.{◌≡◌, ℕ, Bool, true, false, List, [], ◌∷◌, ◌++◌, map, take}
 use Rattle.lrp_model.specs.Texts.{Text}
-use Rattle.lrp_model.specs.Pages.{Tuple}
+use Rattle.lrp_model.specs.Rows.{Tuple}
 use Rattle.lrp_model.specs.Printed.{quoted}
 use Rattle.lrp_model.specs.PrintedPages.{datum_bytes}
 use Rattle.lrp_model.specs.Tuples.{in_head_order, texts_at}

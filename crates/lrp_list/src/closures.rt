@@ -2,7 +2,7 @@
 ghost use Rattle.std.specs.Prelude.{◌≡◌, ◌≢◌, ◌<◌, ◌≤◌, ◌+◌, ◌^◌, ◌≤ℤ◌, ◌++◌, ◌∷◌, [], ℕ, length, pos, neg_ℤ};
 ghost use Rattle.std.specs.List.{AllByRecursion};
 ghost use Rattle.lrp_theory.specs.Entries.{AtMost, entry, IsSmallClosure};
-ghost use Rattle.lrp_model.specs.Lexing.{greatest_number};
+ghost use Rattle.lrp_model.specs.Limits.{greatest_number};
 ghost use Rattle.lrp_store.specs.Least.{IsRoom};
 ghost use Rattle.lrp_zone.specs.Zones.{columns_of};
 ghost use Rattle.lrp_list.specs.AnswerText.{bound_between, bounds_in_row, closed_bounds};

@@ -1,6 +1,7 @@
 // What is proved of listings and of whole answers, each law as the contract of a function that does nothing.
 ghost use Rattle.std.specs.Prelude.{◌≡◌, ◌≤◌, ◌↔◌, ℕ, Bool, IsTrue, List, length, Option};
-ghost use Rattle.lrp_model.specs.Pages.{IsPage, Tuple};
+ghost use Rattle.lrp_model.specs.Pages.{IsPage};
+ghost use Rattle.lrp_model.specs.Rows.{Tuple};
 ghost use Rattle.lrp_store.specs.Stores.{zone_count};
 ghost use Rattle.lrp_store.specs.Tables.{InAnswer};
 ghost use Rattle.lrp_model.specs.declared.tuples.Spot.{Spot};

@@ -4,8 +4,8 @@ ghost use Rattle.std.specs.List.{AllByRecursion};
 ghost use Rattle.std.specs.Fmt.{signed_decimal};
 ghost use Rattle.lrp_io.specs.Causes.{HasCause};
 ghost use Rattle.lrp_io.specs.Pieces.{IsWritten};
-ghost use Rattle.lrp_model.specs.Pages.{Tuple};
-ghost use Rattle.lrp_model.specs.Plans.{time_columns};
+ghost use Rattle.lrp_model.specs.Rows.{Tuple};
+ghost use Rattle.lrp_model.specs.Sorts.{time_count};
 ghost use Rattle.lrp_model.specs.Printed.{quoted};
 ghost use Rattle.lrp_model.specs.PrintedPages.{answer_line, json_line, plain_line};
 ghost use Rattle.lrp_model.specs.Satisfaction.{HasShape};
@@ -80,7 +80,7 @@ fn write_plain<S: Sink>(
     requires known { AllByRecursion (λ n. n < length line.now.domain.now) numbers.now }
     requires form { IsFormOf line.now.domain.now line.now.form.now }
     requires between { line.now.between.now ≡ codes ", " }
-    requires times { time_columns columns.now ≡ length times.now }
+    requires times { time_count columns.now ≡ length times.now }
     requires all { length columns.now ≡ length times.now + length numbers.now }
     ensures text { IsWritten (S.written out.old) (S.written out.new) (plain_line (in_head_order columns.now times.now (texts_at line.now.domain.now numbers.now))) result }
     ensures cause { HasCause (S.faults out.old) (S.faults out.new) result }

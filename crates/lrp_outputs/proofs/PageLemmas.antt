@@ -3,7 +3,8 @@ use Rattle.std.proofs.Common.{◌≡◌, ◌≤◌, ◌+◌, ◌-◌, ℕ, suc, 
 use Rattle.std.specs.Prelude.{slice_get, flat_map}
 use Rattle.std.specs.List.{AllByRecursion}
 use Rattle.std.proofs.lemmas.List.{length-map, length-take-le}
-use Rattle.lrp_model.specs.Pages.{Tuple, last_of}
+use Rattle.lrp_model.specs.Pages.{last_of}
+use Rattle.lrp_model.specs.Rows.{Tuple}
 use Rattle.lrp_model.specs.PrintedPages.{token_behind, token_of, token_text}
 use Rattle.lrp_model.specs.Tuples.{texts_at}
 use Rattle.lrp_model.specs.declared.tuples.Spot.{Spot}

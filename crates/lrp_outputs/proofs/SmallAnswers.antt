@@ -1,7 +1,7 @@
 -- The room that an answer with small zones has for its least tuple.
 use Rattle.std.proofs.Common.{◌≡◌, ℕ, zero, suc, ◌+◌, ◌*◌, ◌^◌, ◌≤◌, List, [], ◌∷◌, length, take, sym, ap, subst, arith, ◌∙◌}
 use Rattle.std.proofs.Math.Nat.{pow-succ', mul-le-mul_right}
-use Rattle.lrp_model.specs.Plans.{time_columns}
+use Rattle.lrp_model.specs.Sorts.{time_count}
 use Rattle.lrp_zone.specs.Zones.{columns_of}
 use Rattle.lrp_store.specs.Least.{HasRoom}
 use Rattle.lrp_store.specs.Stores.{tables_at, zone_of}
@@ -44,7 +44,7 @@ pub small_room : (a : Answer) (reach : ℕ) → IsSmallAnswer a reach → HasRoo
 small_room a R is = record {
   each = λ cell table held.
       let z = zone_of a.store cell table in
-      let m = time_columns a.head.columns in
+      let m = time_count a.head.columns in
       let c : columns_of z ≤ m = subst (λ n. columns_of z ≤ n) (sym a.times_are) (fewer a.store.shape.times cell.residues) in
       let small = is.small cell z (in_map (zone_of a.store cell) (tables_at a.store cell) table held) in (
         (m + 1) * R,

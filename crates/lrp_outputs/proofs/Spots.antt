@@ -2,8 +2,7 @@
 use Rattle.std.proofs.Common.{◌≡◌, ℕ, zero, suc, ◌<◌, List, [], ◌∷◌, length, take, Some, arith}
 use Rattle.std.specs.Prelude.{slice_get}
 use Rattle.std.specs.List.{AllByRecursion}
-use Rattle.lrp_model.specs.Pages.{Tuple}
-use Rattle.lrp_model.specs.Rows.{texts_of}
+use Rattle.lrp_model.specs.Rows.{texts_of, Tuple}
 use Rattle.lrp_model.specs.Texts.{Text}
 use Rattle.lrp_model.specs.declared.tuples.Shape.{Shape}
 use Rattle.lrp_model.specs.declared.tuples.Spot.{Spot}

@@ -1,10 +1,10 @@
 -- Spots of an answer that can be written: their texts are known, and their times have a magnitude of at most 2^62.
-use Rattle.std.specs.Prelude.{◌≡◌, ◌≤◌, ℤ, nat_abs, Bool, true, false, List, [], ◌∷◌, length, take, map}
+use Rattle.std.specs.Prelude.{◌≡◌, ◌≤◌, ℤ, Bool, true, false, List, [], ◌∷◌, length, take, map}
 use Rattle.std.specs.List.{AllByRecursion}
 use Rattle.std.specs.Coded.{×_prop, Unit-prop, le_prop, Coded-set, coded_list, coded_ℕ}
 use Rattle.std.proofs.Math.Dec.{T_prop}
 use Rattle.lrp_civil.specs.Moments.{IsCivilMinute}
-use Rattle.lrp_model.specs.Lexing.{greatest_number}
+use Rattle.lrp_model.specs.PrintedPages.{IsSmall}
 use Rattle.lrp_model.specs.Printed.{quoted}
 use Rattle.lrp_model.specs.Texts.{Text}
 use Rattle.lrp_model.specs.declared.tuples.Spot.{Spot}
@@ -16,7 +16,7 @@ use Rattle.lrp_list.specs.declared.texts.Form.TheVariants.{Plain, Json}
 
 -- its times have a magnitude of at most 2^62
 abbrev pub HasTimes : Answer → Spot → Type 0
-HasTimes a spot = AllByRecursion (λ x. nat_abs x ≤ greatest_number) (take a.store.shape.times spot.times)
+HasTimes a spot = AllByRecursion IsSmall (take a.store.shape.times spot.times)
 
 -- it has eight places of each kind
 abbrev pub HasPlaces : Spot → Type 0
@@ -36,7 +36,7 @@ HaveCivilTimes true a spots = AllByRecursion (HasCivilTimes a) spots
 
 -- ---- these facts hold in at most one way
 
-small_prop : (xs : List ℤ) → IsProp (AllByRecursion (λ x. nat_abs x ≤ greatest_number) xs)
+small_prop : (xs : List ℤ) → IsProp (AllByRecursion IsSmall xs)
 small_prop [] = Unit-prop
 small_prop (x ∷ xs) = ×_prop (Prim.hlevel (le_prop)) (small_prop xs)
 

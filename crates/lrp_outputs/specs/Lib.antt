@@ -1,9 +1,12 @@
 -- What contracts say of outputs and refusals: first their texts and their statuses, and then the program's own values.
-pub mod Statuses
+
+-- What the contract of `run` reaches.
 pub mod Outcomes
 pub mod PageLines
 pub mod First
 pub mod SampleLines
+-- What contracts of single functions need beside.
+pub mod Statuses
 pub mod Spots
 pub mod Known
 pub mod Rooms

@@ -3,7 +3,7 @@ use Rattle.std.specs.Prelude.{ℕ, List, ◌++◌, flat_map, map, option_map, Op
 use Rattle.lrp_model.specs.Printed.{database_bytes}
 use Rattle.lrp_model.specs.PrintedPages.{plain_line}
 use Rattle.lrp_model.specs.PrintedPlans.{plan_bytes}
-use Rattle.lrp_model.specs.Pages.{Tuple}
+use Rattle.lrp_model.specs.Rows.{Tuple}
 use Rattle.lrp_model.specs.declared.tuples.Spot.{Spot}
 use Rattle.lrp_store.specs.declared.answer.Answer.{Answer}
 use Rattle.lrp_list.specs.AnswerText.{answer_text}

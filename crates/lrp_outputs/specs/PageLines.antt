@@ -1,6 +1,7 @@
 -- The lines of a page, and the line behind them.
 use Rattle.std.specs.Prelude.{ℕ, Bool, true, false, List, ◌++◌, flat_map}
-use Rattle.lrp_model.specs.Pages.{Tuple, last_of}
+use Rattle.lrp_model.specs.Pages.{last_of}
+use Rattle.lrp_model.specs.Rows.{Tuple}
 use Rattle.lrp_model.specs.PrintedPages.{answer_line, end_line, token_behind}
 use Rattle.lrp_civil.specs.CivilLines.{civil_line}
 

@@ -1,7 +1,7 @@
 -- The four lines that tell of the sample.
 use Rattle.std.specs.Prelude.{ℕ, List, ◌++◌, Option, codes}
 use Rattle.std.specs.Fmt.{decimal}
-use Rattle.lrp_model.specs.Pages.{Tuple}
+use Rattle.lrp_model.specs.Rows.{Tuple}
 use Rattle.lrp_outputs.specs.First.{first_line}
 
 -- the numbers of rows and of cells, and the word before the least answer

@@ -2,7 +2,7 @@
 use Rattle.std.specs.Prelude.{◌<◌, ℕ, List, [], ◌∷◌, length, take, Option, Some, None, IfSome}
 use Rattle.std.specs.List.{AllByRecursion}
 use Rattle.std.specs.Coded.{×_prop, Unit-prop, le_prop}
-use Rattle.lrp_model.specs.Pages.{Tuple}
+use Rattle.lrp_model.specs.Rows.{Tuple}
 use Rattle.lrp_model.specs.declared.tuples.Spot.{Spot}
 use Rattle.lrp_store.specs.declared.answer.Answer.{Answer}
 use Rattle.lrp_list.specs.Lines.{spot_tuple}

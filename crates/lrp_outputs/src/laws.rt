@@ -1,7 +1,7 @@
 // What holds of answers and their spots, each law as the contract of a function that does nothing.
 ghost use Rattle.std.specs.Prelude.{◌≡◌, ◌<◌, ℕ, List, length, take};
 ghost use Rattle.std.specs.List.{AllByRecursion};
-ghost use Rattle.lrp_model.specs.Pages.{Tuple};
+ghost use Rattle.lrp_model.specs.Rows.{Tuple};
 ghost use Rattle.lrp_model.specs.Satisfaction.{HasShape};
 ghost use Rattle.lrp_model.specs.Texts.{Text as TextOf};
 ghost use Rattle.lrp_model.specs.declared.relations.Column.{Column};

@@ -1,7 +1,9 @@
+-- What the contract of `run` reaches.
+pub mod Atoms
+-- What contracts of single functions need beside.
 pub mod Made
 pub mod Rising
 pub mod Scopes
 pub mod Guards
 pub mod Settled
-pub mod Atoms
 pub mod Points

@@ -15,7 +15,8 @@ use Rattle.lrp_model.specs.Tokens.{Token, Part, from, joined_parts, separated}
 use Rattle.lrp_model.specs.Tokens.Token.{name_token, word_token, number_token, text_token, symbol_token}
 use Rattle.lrp_model.specs.Tokens.Part.{at, any}
 use Rattle.lrp_model.specs.Databases.{comma, integer_text}
-use Rattle.lrp_model.specs.Lexing.{greatest_number, is_letter, is_digit, is_name_byte, run, value_from, word_or_name, scan, symbol_from, after}
+use Rattle.lrp_model.specs.Lexing.{is_letter, is_digit, is_name_byte, run, value_from, word_or_name, scan, symbol_from, after}
+use Rattle.lrp_model.specs.Limits.{greatest_number}
 use Rattle.lrp_model.specs.Printed.{joined_by, quoted, escaped}
 use Rattle.lrp_model.specs.Names.{IsName}
 use Rattle.lrp_print.proofs.Spelling.{Spelled, Begins, took, nothing, both, token_at, token_any, blank}

@@ -3,7 +3,7 @@ use Rattle.std.proofs.Common.{◌≡◌, ◌≤◌, codes, length, arith, List, 
 use Rattle.std.specs.Prelude.{◌≤ℤ◌, pos, neg_ℤ}
 use Rattle.std.specs.List.{flat_map, AllByRecursion}
 use Rattle.lrp_model.specs.Printed.{joined_by, row_line, bound_bytes, bounds_bytes}
-use Rattle.lrp_model.specs.Lexing.{greatest_number}
+use Rattle.lrp_model.specs.Limits.{greatest_number}
 use Rattle.lrp_model.specs.declared.relations.Bound.{Bound}
 use Rattle.lrp_model.specs.declared.relations.Column.{Column}
 use Rattle.lrp_model.specs.declared.relations.Value.{Value}

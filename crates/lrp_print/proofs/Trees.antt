@@ -38,7 +38,8 @@ use Rattle.lrp_model.specs.Tokens.Token.{word_token, number_token, symbol_token}
 use Rattle.lrp_model.specs.Tokens.Part.{at, any}
 use Rattle.lrp_model.specs.Columns.{column_text, sort_token}
 use Rattle.lrp_model.specs.Databases.{value_text, side_text, bound_text, bounds_text, row_text, relation_text}
-use Rattle.lrp_model.specs.Lexing.{greatest_number, is_letter, is_digit, is_name_byte, after}
+use Rattle.lrp_model.specs.Lexing.{is_letter, is_digit, is_name_byte, after}
+use Rattle.lrp_model.specs.Limits.{greatest_number}
 use Rattle.lrp_model.specs.Printed.{joined_by, value_bytes, column_bytes, sort_bytes, time_name, offset_bytes, bound_bytes, bounds_bytes, row_line, relation_bytes}
 use Rattle.lrp_model.specs.Names.{IsName, IsNamedSort, AreNamed}
 use Rattle.lrp_print.specs.Kept.{AreValuesOf, IsBoundOf, IsRowOf, IsKept}

@@ -5,7 +5,7 @@ use Rattle.lrp_model.specs.Texts.{AreDistinct}
 use Rattle.lrp_model.specs.DataTexts.{IsDataText}
 use Rattle.lrp_model.specs.Sorts.{is_time, time_count, text_count}
 use Rattle.lrp_model.specs.Names.{IsName, AreNamed}
-use Rattle.lrp_model.specs.Lexing.{greatest_number}
+use Rattle.lrp_model.specs.Limits.{greatest_number}
 use Rattle.lrp_model.specs.declared.relations.Column.{Column}
 use Rattle.lrp_model.specs.declared.relations.Bound.{Bound}
 use Rattle.lrp_model.specs.declared.relations.Value.{Value}

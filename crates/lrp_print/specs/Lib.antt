@@ -1,2 +1,4 @@
-pub mod Kept
+-- What the contract of `run` reaches.
 pub mod ReadBack
+-- What contracts of single functions need beside.
+pub mod Kept

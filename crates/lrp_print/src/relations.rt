@@ -5,7 +5,7 @@ ghost use Rattle.std.specs.Fmt.{signed_decimal};
 ghost use Rattle.lrp_io.specs.Causes.{HasCause};
 ghost use Rattle.lrp_io.specs.Pieces.{IsWritten};
 ghost use Rattle.lrp_model.specs.Printed.{column_bytes, value_bytes, time_name, offset_bytes, bound_bytes, bounds_bytes, row_line, relation_bytes, database_bytes, joined_by};
-ghost use Rattle.lrp_model.specs.Lexing.{greatest_number};
+ghost use Rattle.lrp_model.specs.Limits.{greatest_number};
 ghost use Rattle.lrp_print.specs.Kept.{HasLowPeriod, IsKept, IsWritable};
 ghost use Rattle.lrp_print.specs.ReadBack.{ReadsBack};
 

@@ -4,9 +4,10 @@ use Rattle.std.specs.List.{AllZip}
 use Rattle.lrp_model.specs.Caps.{IsFirstMany, ManyAt}
 use Rattle.lrp_model.specs.DatabaseReading.{IsDatabase, IsDatabaseFault}
 use Rattle.lrp_model.specs.Formulas.{Question}
-use Rattle.lrp_model.specs.Pages.{Tuple}
+use Rattle.lrp_model.specs.Rows.{Tuple}
 use Rattle.lrp_model.specs.Periods.{period}
-use Rattle.lrp_model.specs.Plans.{IsStep, plan, scaled_reach, IsWithinLimits, time_columns}
+use Rattle.lrp_model.specs.Plans.{IsStep, plan, scaled_reach, IsWithinLimits}
+use Rattle.lrp_model.specs.Sorts.{time_count}
 use Rattle.lrp_model.specs.PrintedPlans.{plan_bytes, step_line, step_lines}
 use Rattle.lrp_model.specs.Steps.{PlanStep}
 use Rattle.lrp_model.specs.Texts.{Identifier, Text}
@@ -261,13 +262,13 @@ cells_agree db q cap = by_parts (IsCounted db q cap) (IsCounted db q cap) Counte
 -- ---- the head, and the rows of a canonical answer
 
 data HeadRefused (q : Question) : Refusal → Type 0 where
-  unfit : time_columns q.head ≢ 1 → HeadRefused q CanonHead
+  unfit : time_count q.head ≢ 1 → HeadRefused q CanonHead
 
 head_refused : (q : Question) (e : Refusal) → IsHeadFit true q (Err e) → HeadRefused q e
 head_refused q CanonHead is = unfit is
 head_refused q _ is = absurd is
 
-head_stands : (q : Question) → time_columns q.head ≡ 1 → (e : Refusal) → HeadRefused q e → ⊥
+head_stands : (q : Question) → time_count q.head ≡ 1 → (e : Refusal) → HeadRefused q e → ⊥
 head_stands q one _ (unfit other) = other one
 
 head_refused_alike : (q : Question) (e f : Refusal) → HeadRefused q e → HeadRefused q f → e ≡ f

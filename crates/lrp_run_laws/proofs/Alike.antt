@@ -11,10 +11,10 @@ use Rattle.std.proofs.lemmas.Map.Lookups.{exact_bytes, exact_pairs}
 use Rattle.lrp_theory.specs.Residues.{rank}
 use Rattle.lrp_model.specs.Formulas.{Question}
 use Rattle.lrp_model.specs.Order.{rank_cmp, IsLeast}
-use Rattle.lrp_model.specs.Pages.{Tuple, IsPage}
+use Rattle.lrp_model.specs.Pages.{IsPage}
 use Rattle.lrp_model.specs.Plans.{plan}
 use Rattle.lrp_model.specs.PrintedPages.{plain_line}
-use Rattle.lrp_model.specs.Rows.{Datum, time, text, times_of, texts_of}
+use Rattle.lrp_model.specs.Rows.{Datum, time, text, times_of, texts_of, Tuple}
 use Rattle.lrp_model.specs.Satisfaction.{Structure, IsOfSort, IsOfKind, HasShape, structure, IsAnswer}
 use Rattle.lrp_model.specs.Texts.{Text, text_cmp}
 use Rattle.lrp_model.specs.Tuples.{in_head_order}

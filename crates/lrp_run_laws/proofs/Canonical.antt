@@ -3,8 +3,8 @@ use Rattle.std.proofs.Common.{◌≡◌, ◌↔◌, ◌≤◌, ℕ, List, refl, 
 use Rattle.std.specs.Prelude.{ℤ}
 use Rattle.lrp_model.specs.AnswerTexts.{IsAnswerTextOf}
 use Rattle.lrp_model.specs.Formulas.{Question}
-use Rattle.lrp_model.specs.Pages.{Tuple}
-use Rattle.lrp_model.specs.Plans.{time_columns}
+use Rattle.lrp_model.specs.Rows.{Tuple}
+use Rattle.lrp_model.specs.Sorts.{time_count}
 use Rattle.lrp_model.specs.Satisfaction.{IsAnswer}
 use Rattle.lrp_model.specs.Texts.{Text}
 use Rattle.lrp_model.specs.declared.relations.Relation.{Relation}
@@ -21,7 +21,7 @@ OneRowCount = (db : List Relation) (q : Question) (n m : ℕ) → HasCanonicalRo
 
 -- queries with one head, one time column and the same answers have one text in rows of a period
 abbrev pub OneAnswerText : Type 0
-OneAnswerText = (K : ℕ) (db further : List Relation) (q r : Question) (bytes other : List ℕ) → q.head ≡ r.head → time_columns q.head ≡ 1 → ((tuple : Tuple) → IsAnswer db q tuple ↔ IsAnswer further r tuple)
+OneAnswerText = (K : ℕ) (db further : List Relation) (q r : Question) (bytes other : List ℕ) → q.head ≡ r.head → time_count q.head ≡ 1 → ((tuple : Tuple) → IsAnswer db q tuple ↔ IsAnswer further r tuple)
     → IsAnswerTextOf K db q bytes → IsAnswerTextOf K further r other → bytes ≡ other
 
 -- ---- queries with the same answers

@@ -6,9 +6,10 @@ use Rattle.lrp_model.specs.AnswerTexts.{IsAnswerText}
 use Rattle.lrp_model.specs.Caps.{IsFirstMany}
 use Rattle.lrp_model.specs.DatabaseReading.{IsDatabaseFault}
 use Rattle.lrp_model.specs.Formulas.{Question}
-use Rattle.lrp_model.specs.Pages.{Tuple}
+use Rattle.lrp_model.specs.Rows.{Tuple}
 use Rattle.lrp_model.specs.Periods.{period}
-use Rattle.lrp_model.specs.Plans.{IsPlan, scaled_reach, IsWithinLimits, time_columns}
+use Rattle.lrp_model.specs.Plans.{IsPlan, scaled_reach, IsWithinLimits}
+use Rattle.lrp_model.specs.Sorts.{time_count}
 use Rattle.lrp_model.specs.Texts.{Identifier, Text}
 use Rattle.lrp_model.specs.declared.faults.DbFault.{DbFault}
 use Rattle.lrp_model.specs.declared.faults.QueryFault.{QueryFault}
@@ -68,7 +69,7 @@ pub data Case (seen : ShelfSeen) (a : Asked) (files : Contents) (Tells : Telling
   unread_query : (db : List Relation) → SaysRelations a.civil files db → HasFailed seen a.query → Case seen a files Tells (Err ReadQuery)
   long_query : (db : List Relation) → SaysRelations a.civil files db → 16777216 < length files.query → Case seen a files Tells (Err LongQuery)
   no_query : (db : List Relation) → SaysRelations a.civil files db → (fault : QueryFault) → length files.query ≤ 16777216 → IsFaultyAs a.tense db files.query fault → Case seen a files Tells (Err (Query fault))
-  no_head : (db : List Relation) → SaysRelations a.civil files db → (q : Question) → SaysQuestion a.tense files db q → a.canon ≡ true → time_columns q.head ≢ 1 → Case seen a files Tells (Err CanonHead)
+  no_head : (db : List Relation) → SaysRelations a.civil files db → (q : Question) → SaysQuestion a.tense files db q → a.canon ≡ true → time_count q.head ≢ 1 → Case seen a files Tells (Err CanonHead)
   above_period : (db : List Relation) → SaysRelations a.civil files db → (q : Question) → SaysQuestion a.tense files db q → 2 ^ 62 < period db q.body → Case seen a files Tells (Err PeriodLimit)
   above_bound : (db : List Relation) → SaysRelations a.civil files db → (q : Question) → SaysQuestion a.tense files db q → period db q.body ≤ 2 ^ 62 → 2 ^ 62 < scaled_reach db q → Case seen a files Tells (Err BoundLimit)
   planned : (db : List Relation) → SaysRelations a.civil files db → (q : Question) → SaysQuestion a.tense files db q → IsWithinLimits db q → (p : Plan) → IsPlan p db q → (outcome : Outcome) → Onward (digest_of files) a db q (λ tuple. Tells (digest_of files) p tuple db q) outcome → Case seen a files Tells outcome
@@ -150,11 +151,11 @@ module _ (seen : ShelfSeen) (a : Asked) (Tells : Telling) (Due : Next) (goes_on 
   AfterHead files db q = Due (record { bytes = files.database; says = db }) (record { bytes = files.query; says = q })
 
   -- a plan stands behind the head; where the head is refused, so is the plan
-  behind_head : (db : List Relation) (q : Question) (plan : Result Plan Refusal) (fit : Result (Unit {0}) Refusal) → IsHeadFit a.canon q fit → Behind fit (λ fit. IsPlanned db q) plan → IsPlanned db q plan ⊎ ((a.canon ≡ true) × (time_columns q.head ≢ 1) × (plan ≡ Err CanonHead))
+  behind_head : (db : List Relation) (q : Question) (plan : Result Plan Refusal) (fit : Result (Unit {0}) Refusal) → IsHeadFit a.canon q fit → Behind fit (λ fit. IsPlanned db q) plan → IsPlanned db q plan ⊎ ((a.canon ≡ true) × (time_count q.head ≢ 1) × (plan ≡ Err CanonHead))
   behind_head db q plan (Ok fit) is next = inl next
   behind_head db q plan (Err refusal) is next = inr (refused_head a.canon refusal refl is next)
     where
-      refused_head : (canon : Bool) (refusal : Refusal) → a.canon ≡ canon → IsHeadFit canon q (Err refusal) → plan ≡ Err refusal → (a.canon ≡ true) × (time_columns q.head ≢ 1) × (plan ≡ Err CanonHead)
+      refused_head : (canon : Bool) (refusal : Refusal) → a.canon ≡ canon → IsHeadFit canon q (Err refusal) → plan ≡ Err refusal → (a.canon ≡ true) × (time_count q.head ≢ 1) × (plan ≡ Err CanonHead)
       refused_head false refusal e is next = cc
       refused_head true CanonHead e is next = (e, is, next)
       refused_head true _ e is next = absurd is

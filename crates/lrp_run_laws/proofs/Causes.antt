@@ -6,7 +6,7 @@ use Rattle.lrp_words.specs.Commands.{Task}
 use Rattle.lrp_words.specs.Commands.Task.{ask, decide, list, explain, check, watch, sample}
 use Rattle.lrp_model.specs.AnswerTexts.{IsAnswerText}
 use Rattle.lrp_model.specs.Formulas.{Question}
-use Rattle.lrp_model.specs.Pages.{Tuple}
+use Rattle.lrp_model.specs.Rows.{Tuple}
 use Rattle.lrp_model.specs.Plans.{IsPlan}
 use Rattle.lrp_model.specs.Texts.{Identifier}
 use Rattle.lrp_model.specs.declared.plans.Plan.{Plan}

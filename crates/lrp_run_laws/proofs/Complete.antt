@@ -7,7 +7,7 @@ use Rattle.lrp_words.specs.Commands.Task.{ask, decide, list, explain, check, wat
 use Rattle.lrp_model.specs.Checked.{plain_question}
 use Rattle.lrp_model.specs.DatabaseReading.{IsDatabase, IsDatabaseFault}
 use Rattle.lrp_model.specs.Formulas.{Question}
-use Rattle.lrp_model.specs.Pages.{Tuple}
+use Rattle.lrp_model.specs.Rows.{Tuple}
 use Rattle.lrp_model.specs.Periods.{period}
 use Rattle.lrp_model.specs.Plans.{scaled_reach, IsWithinLimits}
 use Rattle.lrp_model.specs.PrintedPages.{IsToken}

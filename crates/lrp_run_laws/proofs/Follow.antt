@@ -1,15 +1,15 @@
 -- The token behind a page resumes behind its last tuple.
-use Rattle.std.proofs.Common.{◌≡◌, ◌≤◌, ◌<◌, ◌+◌, ◌^◌, ◌++◌, ◌∙◌, ℕ, ℤ, zero, suc, Bool, true, false, List, [], ◌∷◌, length, filter, get_or, map, Contains, refl, sym, ap, ap₂, subst, Option, Some, None, Ok, if◌then◌else◌, arith}
+use Rattle.std.proofs.Common.{◌≡◌, ◌≤◌, ◌<◌, ◌+◌, ◌^◌, ◌++◌, ◌∙◌, ℕ, ℤ, zero, suc, Bool, true, false, List, [], ◌∷◌, length, filter, get_or, map, Contains, refl, sym, ap, ap₂, subst, Option, Some, None, Ok, if◌then◌else◌, cond, arith}
 use Rattle.std.specs.Prelude.{pos, negsuc, neg_ℤ, ◌≤ℤ◌, ◌↔◌, nat_abs}
 use Rattle.std.proofs.lemmas.Int.{ints}
 use Rattle.std.specs.List.{AllByRecursion, AllZip}
 use Rattle.lrp_model.specs.Formulas.{Question}
-use Rattle.lrp_model.specs.Pages.{Tuple, IsAhead, IsPage, last_of}
-use Rattle.lrp_model.specs.Plans.{time_columns}
+use Rattle.lrp_model.specs.Pages.{IsAhead, IsPage, last_of}
 use Rattle.lrp_model.specs.PrintedPages.{IsDigest, IsToken, token_of}
-use Rattle.lrp_model.specs.Rows.{Datum, time, text, times_of, texts_of}
+use Rattle.lrp_model.specs.Rows.{Datum, time, text, times_of, texts_of, Tuple}
 use Rattle.lrp_model.specs.Satisfaction.{HasShape, IsAnswer, IsOfKind, IsOfSort, structure}
-use Rattle.lrp_model.specs.Sorts.{same_sort, is_data}
+use Rattle.lrp_model.specs.Sorts.{same_sort, is_time, is_data, time_count, text_count}
+use Rattle.lrp_model.proofs.ColumnCounts.{times_more, texts_more, one_more, none_more}
 use Rattle.lrp_model.specs.Texts.{Text, in_order}
 use Rattle.lrp_model.specs.Checked.{plain_question}
 use Rattle.lrp_model.specs.DatabaseReading.{IsDatabase}
@@ -17,7 +17,7 @@ use Rattle.lrp_model.specs.QueryReading.{IsQuery}
 use Rattle.lrp_model.specs.RawQueries.{RawQuestion}
 use Rattle.lrp_model.specs.DataTexts.{IsDataText}
 use Rattle.lrp_model.specs.Domains.{all_texts, domain}
-use Rattle.lrp_model.specs.Lexing.{greatest_number}
+use Rattle.lrp_model.specs.Limits.{greatest_number}
 use Rattle.lrp_model.specs.Tuples.{in_head_order}
 use Rattle.lrp_model.specs.declared.relations.Column.{Column}
 use Rattle.lrp_model.specs.declared.relations.Relation.{Relation}
@@ -29,39 +29,39 @@ use Rattle.lrp_tense.specs.Expanding.{expanded_question}
 use Rattle.lrp_tense.specs.TenseReading.{IsTenseQuery}
 use Rattle.lrp_tense.specs.Trees.{TenseQuestion}
 use Rattle.lrp_top.specs.Written.{plain_if}
-use Rattle.lrp_top.specs.Resuming.{IsResumed, data_columns}
+use Rattle.lrp_top.specs.Resuming.{IsResumed}
 use Rattle.lrp_run_laws.proofs.Alike.{WholeTuples, shaped}
 use Rattle.lrp_run_laws.proofs.Complete.{OneToken}
 
 -- ---- a tuple has as many times and texts as its columns
 
-one_time : (s : Sort) (d : Datum) → IsOfKind s d → (ds : List Datum) (c : Column) (cs : List Column) → length (times_of ds) ≡ length cs → length (times_of (d ∷ ds)) ≡ length (if same_sort s Time then c ∷ cs else cs)
-one_time Time (time x) k ds c cs e = ap suc e
-one_time Time (text t) k ds c cs e = absurd k
-one_time Data (time x) k ds c cs e = absurd k
-one_time Data (text t) k ds c cs e = e
-one_time (Named n) (time x) k ds c cs e = absurd k
-one_time (Named n) (text t) k ds c cs e = e
+one_time : (s : Sort) (d : Datum) → IsOfKind s d → (ds : List Datum) (n : ℕ) → length (times_of ds) ≡ n → length (times_of (d ∷ ds)) ≡ cond (is_time s) 1 0 + n
+one_time Time (time x) k ds n e = ap suc e ∙ sym (one_more n)
+one_time Time (text t) k ds n e = absurd k
+one_time Data (time x) k ds n e = absurd k
+one_time Data (text t) k ds n e = e ∙ sym (none_more n)
+one_time (Named name) (time x) k ds n e = absurd k
+one_time (Named name) (text t) k ds n e = e ∙ sym (none_more n)
 
-one_text : (s : Sort) (d : Datum) → IsOfKind s d → (ds : List Datum) (c : Column) (cs : List Column) → length (texts_of ds) ≡ length cs → length (texts_of (d ∷ ds)) ≡ length (if is_data s then c ∷ cs else cs)
-one_text Time (time x) k ds c cs e = e
-one_text Time (text t) k ds c cs e = absurd k
-one_text Data (time x) k ds c cs e = absurd k
-one_text Data (text t) k ds c cs e = ap suc e
-one_text (Named n) (time x) k ds c cs e = absurd k
-one_text (Named n) (text t) k ds c cs e = ap suc e
+one_text : (s : Sort) (d : Datum) → IsOfKind s d → (ds : List Datum) (n : ℕ) → length (texts_of ds) ≡ n → length (texts_of (d ∷ ds)) ≡ cond (is_data s) 1 0 + n
+one_text Time (time x) k ds n e = e ∙ sym (none_more n)
+one_text Time (text t) k ds n e = absurd k
+one_text Data (time x) k ds n e = absurd k
+one_text Data (text t) k ds n e = ap suc e ∙ sym (one_more n)
+one_text (Named name) (time x) k ds n e = absurd k
+one_text (Named name) (text t) k ds n e = ap suc e ∙ sym (one_more n)
 
-times_counted : (cs : List Column) (ds : List Datum) → HasShape cs ds → length (times_of ds) ≡ time_columns cs
+times_counted : (cs : List Column) (ds : List Datum) → HasShape cs ds → length (times_of ds) ≡ time_count cs
 times_counted [] [] h = refl
 times_counted [] (d ∷ ds) h = absurd h
 times_counted (c ∷ cs) [] h = absurd h
-times_counted (c ∷ cs) (d ∷ ds) h = one_time c.sort d h.0 ds c (filter (λ (x : Column). same_sort x.sort Time) cs) (times_counted cs ds h.1)
+times_counted (c ∷ cs) (d ∷ ds) h = one_time c.sort d h.0 ds (time_count cs) (times_counted cs ds h.1) ∙ sym (times_more c cs)
 
-texts_counted : (cs : List Column) (ds : List Datum) → HasShape cs ds → length (texts_of ds) ≡ data_columns cs
+texts_counted : (cs : List Column) (ds : List Datum) → HasShape cs ds → length (texts_of ds) ≡ text_count cs
 texts_counted [] [] h = refl
 texts_counted [] (d ∷ ds) h = absurd h
 texts_counted (c ∷ cs) [] h = absurd h
-texts_counted (c ∷ cs) (d ∷ ds) h = one_text c.sort d h.0 ds c (filter (λ (x : Column). is_data x.sort) cs) (texts_counted cs ds h.1)
+texts_counted (c ∷ cs) (d ∷ ds) h = one_text c.sort d h.0 ds (text_count cs) (texts_counted cs ds h.1) ∙ sym (texts_more c cs)
 
 -- ---- the last of a page is due
 

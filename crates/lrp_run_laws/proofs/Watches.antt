@@ -4,8 +4,7 @@ use Rattle.std.specs.Prelude.{if◌then◌else◌}
 use Rattle.std.specs.List.{All, AllZip}
 use Rattle.std.proofs.lemmas.List.Elements.{All-head, All-tail}
 use Rattle.lrp_model.specs.Formulas.{Question, form_of, question_of}
-use Rattle.lrp_model.specs.Pages.{Tuple}
-use Rattle.lrp_model.specs.Rows.{rows_of}
+use Rattle.lrp_model.specs.Rows.{rows_of, Tuple}
 use Rattle.lrp_model.specs.Texts.{Identifier}
 use Rattle.lrp_model.specs.declared.faults.DbFault.{DbFault}
 use Rattle.lrp_model.specs.declared.formulas.Query.{Query}
@@ -17,7 +16,7 @@ use Rattle.lrp_kept.specs.Choices.{HasLargePart}
 use Rattle.lrp_kept.specs.EqualRows.{AreEqualRows}
 use Rattle.lrp_kept.specs.KeptForm.{is_kept}
 use Rattle.lrp_kept.specs.Limits.{scaled_kept_reach, names_relation, raised_period, row_bound}
-use Rattle.lrp_keep.specs.Keeps.{HasNoEqual, IsCause, IsTakenOut, IsWithinLimits, IsWithout, KeepView, opened, raised_at, with_added, with_row}
+use Rattle.lrp_keep.specs.Keeps.{HasNoEqual, IsTakenOut, IsWithout, KeepView, opened, raised_at, with_added, with_row, IsPastLimit, StaysWithinLimits}
 use Rattle.lrp_keep.specs.Replaced.{replaced}
 use Rattle.lrp_keep.specs.declared.faults.KeepFault.{KeepFault}
 use Rattle.lrp_keep.specs.declared.faults.KeepFault.TheVariants as limit
@@ -103,20 +102,20 @@ Cause q k limit.BoundLimit = (k.period ≤ 2 ^ 62) × (2 ^ 62 < scaled_kept_reac
 Cause q k limit.TooManyCells = (k.period ≤ 2 ^ 62) × (scaled_kept_reach k.relations k.bounds k.period q ≤ 2 ^ 62) × HasLargePart k.relations q k.domain k.period k.cap
 Cause q k limit.Memory = Unit {0}
 
-cause_to : (k : KeepView) (fault : KeepFault) → IsCause k fault → Cause (question_of k.query) k fault
+cause_to : (k : KeepView) (fault : KeepFault) → IsPastLimit k fault → Cause (question_of k.query) k fault
 cause_to k limit.PeriodLimit h = h
 cause_to k limit.BoundLimit h = h
 cause_to k limit.TooManyCells h = h
 cause_to k limit.Memory h = h
 
-cause_from : (r : Query) (k : KeepView) (fault : KeepFault) → Cause (question_of r) k fault → IsCause (held_as r k) fault
+cause_from : (r : Query) (k : KeepView) (fault : KeepFault) → Cause (question_of r) k fault → IsPastLimit (held_as r k) fault
 cause_from r k limit.PeriodLimit h = h
 cause_from r k limit.BoundLimit h = h
 cause_from r k limit.TooManyCells h = h
 cause_from r k limit.Memory h = h
 
-cause_twin : (k l : KeepView) (fault : KeepFault) → AreTwins k l → IsCause k fault → IsCause l fault
-cause_twin k l fault twin h = subst (λ (m : KeepView). IsCause m fault) (sym twin.is) (cause_from l.query k fault (subst (λ q. Cause q k fault) twin.query (cause_to k fault h)))
+cause_twin : (k l : KeepView) (fault : KeepFault) → AreTwins k l → IsPastLimit k fault → IsPastLimit l fault
+cause_twin k l fault twin h = subst (λ (m : KeepView). IsPastLimit m fault) (sym twin.is) (cause_from l.query k fault (subst (λ q. Cause q k fault) twin.query (cause_to k fault h)))
 
 twin_back : (k l : KeepView) → AreTwins k l → AreTwins l k
 twin_back k l twin = record {
@@ -128,14 +127,14 @@ twin_back k l twin = record {
 not_both : (n : ℕ) → n ≤ 2 ^ 62 → 2 ^ 62 < n → ⊥
 not_both n low high = omega arith
 
-not_within : (k : KeepView) (fault : KeepFault) → fault ≢ limit.Memory → IsWithinLimits k → IsCause k fault → ⊥
+not_within : (k : KeepView) (fault : KeepFault) → fault ≢ limit.Memory → StaysWithinLimits k → IsPastLimit k fault → ⊥
 not_within k limit.PeriodLimit some within h = not_both k.period within.period h
 not_within k limit.BoundLimit some within h = not_both _ within.reach h.1
 not_within k limit.TooManyCells some within h = within.cells h.2
 not_within k limit.Memory some within h = some refl
 
 -- one limit is the first that is passed
-one_cause : (k : KeepView) (fault other : KeepFault) → fault ≢ limit.Memory → other ≢ limit.Memory → IsCause k fault → IsCause k other → fault ≡ other
+one_cause : (k : KeepView) (fault other : KeepFault) → fault ≢ limit.Memory → other ≢ limit.Memory → IsPastLimit k fault → IsPastLimit k other → fault ≡ other
 one_cause k limit.PeriodLimit limit.PeriodLimit some more h g = refl
 one_cause k limit.PeriodLimit limit.BoundLimit some more h g = absurd (not_both k.period g.0 h)
 one_cause k limit.PeriodLimit limit.TooManyCells some more h g = absurd (not_both k.period g.0 h)
@@ -199,7 +198,7 @@ made_or_refused e k l next fault some twin made refused = by e.add refused.adds 
     by false adds made = cc
     by true adds made =
         not_within next fault some made.1
-        (subst (λ (m : KeepView). IsCause m fault) (sym made.0) (cause_twin (with_added l e.relation e.row) (with_added k e.relation e.row) fault (twin_back _ _ (twin_added k l e.relation e.row twin)) refused.cause))
+        (subst (λ (m : KeepView). IsPastLimit m fault) (sym made.0) (cause_twin (with_added l e.relation e.row) (with_added k e.relation e.row) fault (twin_back _ _ (twin_added k l e.relation e.row twin)) refused.cause))
 
 -- ---- the numbers and the limits that are passed
 
@@ -226,7 +225,7 @@ one_passed [] [] d e rest behind k l later others fault other some more twin are
     let same : d ≡ e = cc in
     let own : IsRefusedEdit d k fault = subst (λ (ks : List KeepView). IsRefusedEdit d (last_kept k ks) fault) a r in
     let its : IsRefusedEdit e l other = subst (λ (ks : List KeepView). IsRefusedEdit e (last_kept l ks) other) b s in
-    let cause : IsCause (with_added k e.relation e.row) fault = subst (λ (x : Edit). IsCause (with_added k x.relation x.row) fault) same own.cause in
+    let cause : IsPastLimit (with_added k e.relation e.row) fault = subst (λ (x : Edit). IsPastLimit (with_added k x.relation x.row) fault) same own.cause in
     (refl, one_cause (with_added l e.relation e.row) fault other some more (cause_twin (with_added k e.relation e.row) (with_added l e.relation e.row) fault (twin_added k l e.relation e.row twin) cause) its.cause)
 one_passed [] (x ∷ before) d e rest behind k l later [] fault other some more twin are a b r s = absurd b
 one_passed [] (x ∷ before) d e rest behind k l later (next ∷ others) fault other some more twin are a b r s =

@@ -15,6 +15,7 @@ use Rattle.lrp_kept.specs.KeptForm.{is_kept}
 use Rattle.lrp_token.specs.Files.{files_digest}
 use Rattle.lrp_top.specs.Seen.{ShelfSeen}
 use Rattle.lrp_top.specs.Written.{IsSortedAs, plain_if}
+use Rattle.lrp_model.specs.Limits.{most_bytes}
 
 -- the bytes of its files
 pub record Contents : Type 0 where
@@ -49,12 +50,12 @@ digest_of files = files_digest files.database files.query
 
 -- the database's bytes are at most 16,777,216 and the text of these relations
 pub record SaysRelations (civil : Bool) (files : Contents) (db : List Relation) : Type 0 where
-  pub short : length files.database ≤ 16777216
+  pub short : length files.database ≤ most_bytes
   pub is : IsDatabase (plain_if civil files.database) db
 
 -- the query's bytes are at most 16,777,216 and the text of this query, which is well-sorted over the relations
 pub record SaysQuestion (tense : Bool) (files : Contents) (db : List Relation) (q : Question) : Type 0 where
-  pub short : length files.query ≤ 16777216
+  pub short : length files.query ≤ most_bytes
   pub is : IsSortedAs tense db files.query q
 
 -- there is a database, and of its relations this holds
@@ -80,7 +81,7 @@ Asking tense civil files Holds = OverDatabase civil files (OverQuery tense files
 
 -- the edits' bytes are at most 16,777,216 and the text of these edits of the relations
 pub record SaysTheseEdits (files : Contents) (db : List Relation) (edits : List Edit) : Type 0 where
-  pub short : length files.edits ≤ 16777216
+  pub short : length files.edits ≤ most_bytes
   pub is : SaysEdits files.edits db edits
 
 -- the query is in kept form, and of it this holds

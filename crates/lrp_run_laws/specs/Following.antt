@@ -1,17 +1,19 @@
 -- Pages that follow one another.
-use Rattle.std.specs.Prelude.{◌≡◌, ℕ, ℤ, pos, neg_ℤ, ◌+◌, ◌≤ℤ◌, ◌^◌, Bool, true, List, ◌++◌, Option, Some, Ok}
+use Rattle.std.specs.Prelude.{◌≡◌, ℕ, ℤ, pos, neg_ℤ, ◌+◌, ◌≤ℤ◌, Bool, true, List, ◌++◌, Option, Some, Ok}
 use Rattle.lrp_model.specs.Formulas.{Question}
-use Rattle.lrp_model.specs.Pages.{IsPage, Tuple, last_of}
+use Rattle.lrp_model.specs.Pages.{IsPage, last_of}
+use Rattle.lrp_model.specs.Rows.{Tuple}
 use Rattle.lrp_model.specs.PrintedPages.{token_of}
 use Rattle.lrp_model.specs.Satisfaction.{IsAnswer}
 use Rattle.lrp_model.specs.declared.relations.Relation.{Relation}
 use Rattle.lrp_top.specs.Resuming.{IsResumed}
 use Rattle.lrp_run_laws.specs.Tasks.{TellsPageBehind}
+use Rattle.lrp_model.specs.Limits.{greatest_number}
 
--- no end of the window is beyond 2^62, as no command has one that is
+-- no end of the window is beyond the greatest number, as no command has one that is
 pub record IsShortWindow (from to : ℤ) : Type 0 where
-  pub low : neg_ℤ (pos (2 ^ 62)) ≤ℤ from
-  pub high : to ≤ℤ pos (2 ^ 62)
+  pub low : neg_ℤ (pos greatest_number) ≤ℤ from
+  pub high : to ≤ℤ pos greatest_number
 
 -- a page of the query's answers behind which more is to come, and its last tuple
 pub record IsUnfinished (db : List Relation) (q : Question) (from to : ℤ) (after : Option Tuple) (limit : ℕ) (page : List Tuple) (end : Tuple) : Type 0 where

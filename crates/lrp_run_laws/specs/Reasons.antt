@@ -1,5 +1,5 @@
 -- For each status why a run ended so.
-use Rattle.std.specs.Prelude.{◌≡◌, ◌≢◌, ◌⊎◌, ℕ, ◌<◌, ◌^◌, Bool, true, false, List, length, Option, Some, None}
+use Rattle.std.specs.Prelude.{◌≡◌, ◌≢◌, ◌⊎◌, ℕ, ◌<◌, Bool, true, false, List, length, Option, Some, None}
 use Rattle.lrp_io.specs.Causes.{Rose}
 use Rattle.lrp_words.specs.Commands.{Task}
 use Rattle.lrp_words.specs.Commands.Task.{ask, decide, list, explain, check, watch, sample}
@@ -7,7 +7,8 @@ use Rattle.lrp_model.specs.Caps.{IsFirstMany}
 use Rattle.lrp_model.specs.DatabaseReading.{IsDatabaseFault}
 use Rattle.lrp_model.specs.Formulas.{Question}
 use Rattle.lrp_model.specs.Periods.{period}
-use Rattle.lrp_model.specs.Plans.{scaled_reach, time_columns}
+use Rattle.lrp_model.specs.Plans.{scaled_reach}
+use Rattle.lrp_model.specs.Sorts.{time_count}
 use Rattle.lrp_model.specs.Texts.{Identifier, Text}
 use Rattle.lrp_model.specs.declared.faults.DbFault.{DbFault}
 use Rattle.lrp_model.specs.declared.faults.QueryFault.{QueryFault}
@@ -26,6 +27,7 @@ use Rattle.lrp_outputs.specs.declared.status.Status.TheVariants as status
 use Rattle.lrp_run_laws.specs.Contents.{Contents, AreContentsFor, digest_of, Keeping, OverDatabase, OverQuery, Watching}
 use Rattle.lrp_run_laws.specs.Tasks.{PassesLimit}
 use Rattle.lrp_run_laws.specs.Runs.{Run, task_asked, WroteAll, WroteOutput}
+use Rattle.lrp_model.specs.Limits.{most_bytes, greatest_number}
 
 -- of a task that reads a database: this holds of whether times are civil ones
 abbrev pub OfDatabase : (Bool → Type 0) → Task → Type 0
@@ -46,15 +48,15 @@ OfQuery Holds _ = ⊥
 
 -- the database's bytes are too many, or their text has a fault
 abbrev pub IsNoDatabase : Contents → Bool → Type 0
-IsNoDatabase files civil = (16777216 < length files.database) ⊎ ((fault : DbFault) × IsDatabaseFault (plain_if civil files.database) fault)
+IsNoDatabase files civil = (most_bytes < length files.database) ⊎ ((fault : DbFault) × IsDatabaseFault (plain_if civil files.database) fault)
 
 -- the query's bytes are too many, or their text or its sorts have a fault
 abbrev pub IsNoQuery : Contents → Bool → List Relation → Type 0
-IsNoQuery files tense db = (16777216 < length files.query) ⊎ ((fault : QueryFault) × IsFaultyAs tense db files.query fault)
+IsNoQuery files tense db = (most_bytes < length files.query) ⊎ ((fault : QueryFault) × IsFaultyAs tense db files.query fault)
 
 -- the edits' bytes are too many, or their text has a fault
 abbrev pub AreNoEdits : Contents → List Relation → Question → Type 0
-AreNoEdits files db q = (16777216 < length files.edits) ⊎ ((fault : DbFault) × IsEditsFault files.edits db fault)
+AreNoEdits files db q = (most_bytes < length files.edits) ⊎ ((fault : DbFault) × IsEditsFault files.edits db fault)
 
 -- the text is no token, is one with other counts than the head's, or is one of other files
 abbrev pub IsNoTokenOf : List ℕ → Option Text → List Relation → Question → Type 0
@@ -63,7 +65,7 @@ IsNoTokenOf digest (Some text) db q = IsNoToken text ⊎ HasOtherCounts text (sh
 
 -- a canonical answer is asked for, and the head has another number of time columns than one
 abbrev pub HasOtherHead : Bool → Question → Type 0
-HasOtherHead canon q = (canon ≡ true) × (time_columns q.head ≢ 1)
+HasOtherHead canon q = (canon ≡ true) × (time_count q.head ≢ 1)
 
 -- the head or the token is refused
 abbrev pub IsRefusedBehind : Bool → List ℕ → Option Text → List Relation → Question → Type 0
@@ -79,9 +81,9 @@ abbrev pub HasManyRows : Option ℕ → List Relation → Question → Type 0
 HasManyRows None db q = ⊥
 HasManyRows (Some cap) db q = (n : ℕ) × HasCanonicalRows db q n × (cap < n)
 
--- the period is above 2^62, the scaled reach is, a step has more than cap cells, or a canonical answer is asked for and has more than cap rows
+-- the period is above the greatest number, the scaled reach is, a step has more than cap cells, or a canonical answer is asked for and has more than cap rows
 abbrev pub IsAbove : Bool → Option ℕ → List Relation → Question → Type 0
-IsAbove canon cap db q = (2 ^ 62 < period db q.body) ⊎ (2 ^ 62 < scaled_reach db q) ⊎ HasMany cap db q ⊎ ((canon ≡ true) × HasManyRows cap db q)
+IsAbove canon cap db q = (greatest_number < period db q.body) ⊎ (greatest_number < scaled_reach db q) ⊎ HasMany cap db q ⊎ ((canon ≡ true) × HasManyRows cap db q)
 
 -- there is no database; or, for a watch, there are one and a query over it in kept form, and there are no edits
 abbrev pub IsDatabaseRefused : Contents → Task → Type 0

@@ -5,8 +5,9 @@ use Rattle.lrp_words.specs.Commands.Task.{ask, decide, list, explain, check, wat
 use Rattle.lrp_model.specs.AnswerTexts.{IsAnswerText}
 use Rattle.lrp_model.specs.Caps.{ManyAt}
 use Rattle.lrp_model.specs.Formulas.{Question}
-use Rattle.lrp_model.specs.Pages.{Tuple}
-use Rattle.lrp_model.specs.Plans.{IsPlan, time_columns}
+use Rattle.lrp_model.specs.Rows.{Tuple}
+use Rattle.lrp_model.specs.Plans.{IsPlan}
+use Rattle.lrp_model.specs.Sorts.{time_count}
 use Rattle.lrp_model.specs.Texts.{Text}
 use Rattle.lrp_model.specs.declared.plans.Plan.{Plan}
 use Rattle.lrp_model.specs.declared.relations.Relation.{Relation}
@@ -35,7 +36,7 @@ pub record IsResumable (cap : ℕ) (after : Option Text) (digest : List ℕ) (db
 -- no step has more than cap inhabited cells; and where a canonical answer is asked for, the head has one time column and the answer has at most cap rows
 abbrev pub IsAnswerable : Bool → ℕ → List Relation → Question → Type 0
 IsAnswerable false cap db q = HasFewCells cap db q
-IsAnswerable true cap db q = HasFewCells cap db q × (time_columns q.head ≡ 1) × ((n : ℕ) × HasCanonicalRows db q n × (n ≤ cap))
+IsAnswerable true cap db q = HasFewCells cap db q × (time_count q.head ≡ 1) × ((n : ℕ) × HasCanonicalRows db q n × (n ≤ cap))
 
 -- at some edit a limit is passed, the opening being edit 0
 pub record PassesLimit (cap : ℕ) (db : List Relation) (q : Question) (edits : List Edit) : Type 0 where

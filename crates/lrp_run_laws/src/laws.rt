@@ -3,7 +3,7 @@ ghost use Rattle.std.specs.Prelude.{◌≡◌, ℕ, ℤ, Bool, List, Option};
 ghost use Rattle.lrp_io.specs.declared.shelf.File.{File};
 ghost use Rattle.lrp_words.specs.Commands.{Task};
 ghost use Rattle.lrp_model.specs.Formulas.{Question};
-ghost use Rattle.lrp_model.specs.Pages.{Tuple};
+ghost use Rattle.lrp_model.specs.Rows.{Tuple};
 ghost use Rattle.lrp_model.specs.declared.relations.Relation.{Relation};
 ghost use Rattle.lrp_top.specs.Canonical.{HasCanonicalRows};
 ghost use Rattle.lrp_run_laws.specs.Contents.{Contents, contents_of, digest_of, SaysQuestion, SaysRelations};

@@ -2,12 +2,13 @@
 ghost use Rattle.std.specs.Prelude.{◌≡◌, ◌≤◌, ◌<◌, ◌++◌, length, IfOk};
 ghost use Rattle.std.specs.String.{string_bytes};
 ghost use Rattle.lrp_sample.specs.Texts.{trip_line, sample_database, sample_query};
+ghost use Rattle.lrp_model.specs.Limits.{most_bytes};
 
 use lrp_model::{List, Memory};
 use std::alloc::Global;
 
 /// The text of a database of trips, and that of a query.
-#[derive(Debug, Drop)]
+#[derive(Drop)]
 pub struct Texts {
     pub database: List<u8>,
     pub query: List<u8>,
@@ -59,8 +60,8 @@ pub fn sample_texts(alloc: Global, seed: u32, size: u32) -> Result<Texts, Memory
     ensures database { IfOk result (λ texts. texts.database ≡ sample_database seed size) }
     ensures query { IfOk result (λ texts. texts.query ≡ sample_query) }
     // Both are within the limit on a file's bytes.
-    ensures database_short { IfOk result (λ texts. length texts.database ≤ 16777216) }
-    ensures query_short { IfOk result (λ texts. length texts.query ≤ 16777216) }
+    ensures database_short { IfOk result (λ texts. length texts.database ≤ most_bytes) }
+    ensures query_short { IfOk result (λ texts. length texts.query ≤ most_bytes) }
 {
     let database = database_text(alloc, seed, size)?;
     let query = String::from_str(alloc, QUERY)?;

@@ -9,8 +9,8 @@ use Rattle.lrp_theory.specs.Divides.{IsMember}
 use Rattle.lrp_theory.proofs.Modulo.{Divides-is, Divides-zero}
 use Rattle.lrp_model.specs.Cells.{Many}
 use Rattle.lrp_model.specs.Order.{Before, InWindow, tuple_cmp}
-use Rattle.lrp_model.specs.Pages.{Rises, Tuple}
-use Rattle.lrp_model.specs.Rows.{Datum, time, text}
+use Rattle.lrp_model.specs.Pages.{Rises}
+use Rattle.lrp_model.specs.Rows.{Datum, time, text, Tuple}
 use Rattle.lrp_model.specs.Satisfaction.{IsAnswer, assignment}
 use Rattle.lrp_model.specs.Texts.{Text}
 use Rattle.lrp_model.proofs.Resume.{tuples_total}

@@ -5,7 +5,7 @@ use Rattle.lrp_model.specs.Periods.{period}
 use Rattle.lrp_model.specs.Plans.{plan, scaled_reach, IsWithinLimits}
 use Rattle.lrp_model.specs.Caps.{ManyAt}
 use Rattle.lrp_model.specs.Order.{InWindow}
-use Rattle.lrp_model.specs.Pages.{Tuple}
+use Rattle.lrp_model.specs.Rows.{Tuple}
 use Rattle.lrp_model.specs.Satisfaction.{IsAnswer}
 use Rattle.lrp_model.specs.declared.formulas.Op.TheVariants.{Le}
 use Rattle.lrp_model.specs.declared.formulas.DataTerm.TheVariants.{Var as data_var}

@@ -1,6 +1,6 @@
 // Copies succeed. That one that succeeds is equal is a clause. Queries are never let go: to prove how a formula is dropped
 // takes longer than all the rest.
-use crate::parts::{PLACE, head, list, member, name, raw_column, seven};
+use crate::parts::{PLACE, columns, head, list, member, name, raw_column, seven};
 use lrp_io::{File, MemShelf, MemSink};
 use lrp_model::*;
 use lrp_token::Resume;
@@ -26,7 +26,7 @@ fn relations_are_copied(rt: HostRuntime) {
     let alloc = rt.alloc();
     let relation = Relation {
         name: name(&rt, alloc, "bus"),
-        columns: head(&rt, alloc).columns,
+        columns: columns(&rt, alloc),
         rows: list(&rt, alloc, row(&rt, alloc)),
     };
     assert!(rt; relation.copy(alloc).is_ok());

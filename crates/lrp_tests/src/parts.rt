@@ -27,18 +27,19 @@ pub fn list<T: Drop>(rt: &impl Abort, alloc: Global, x: T) -> List<T> {
 /// The place of a token.
 pub const PLACE: Place = Place { line: 3, column: 7 };
 
+/// One column.
+pub fn columns(rt: &impl Abort, alloc: Global) -> List<Column> {
+    let column = Column {
+        name: name(rt, alloc, "l"),
+        sort: Sort::Data,
+    };
+    list(rt, alloc, column)
+}
+
 /// A head of one column.
 pub fn head(rt: &impl Abort, alloc: Global) -> Head {
-    let name = name(rt, alloc, "l");
     Head {
-        columns: list(
-            rt,
-            alloc,
-            Column {
-                name,
-                sort: Sort::Data,
-            },
-        ),
+        columns: columns(rt, alloc),
     }
 }
 

@@ -6,7 +6,7 @@ use Rattle.lrp_model.specs.declared.written.Integer.{Integer}
 use Rattle.lrp_model.specs.Tokens.{Tokens, Part, Takes, Spells}
 use Rattle.lrp_model.specs.Tokens.Token.{number_token, symbol_token}
 use Rattle.lrp_model.specs.Tokens.Part.{any}
-use Rattle.lrp_model.specs.Lexing.{greatest_number}
+use Rattle.lrp_model.specs.Limits.{greatest_number}
 use Rattle.lrp_model.specs.Refused.{Stops, TextOf}
 use Rattle.lrp_model.specs.Databases.{sign, integer_text}
 use Rattle.lrp_text.specs.Parsers.{◌>>=◌, pure, eat}

@@ -8,7 +8,8 @@ use Rattle.lrp_model.specs.declared.tokens.Fault.{Fault}
 use Rattle.lrp_model.specs.declared.tokens.Fault.TheVariants.{Syntax, TextTooLong, Number as TooLarge, Period, Deep, Memory}
 use Rattle.lrp_model.specs.Tokens.{Token, Placed, Tokens}
 use Rattle.lrp_model.specs.Tokens.Token.{name_token, word_token, number_token, text_token, symbol_token, end_token, bad_token, hole_token}
-use Rattle.lrp_model.specs.Lexing.{greatest_number, start, scan}
+use Rattle.lrp_model.specs.Lexing.{start, scan}
+use Rattle.lrp_model.specs.Limits.{greatest_number}
 use Rattle.lrp_model.specs.declared.relations.Sort.{Sort}
 use Rattle.lrp_model.specs.declared.tokens.Word.TheVariants.{Time, Data}
 use Rattle.lrp_text.specs.Parsers.{Outcome, accept, taken, look, eat, eaten, Reads, IsOrMemory}

@@ -11,7 +11,8 @@ use Rattle.lrp_model.specs.Tokens.{Token, Placed, Part, IsPart}
 use Rattle.lrp_model.specs.Tokens.Token.{name_token, word_token, number_token, text_token, symbol_token, end_token}
 use Rattle.lrp_model.specs.Tokens.Part.{at, any}
 use Rattle.lrp_text.specs.Taking.{same_symbol, same_word, is_symbol_token, is_symbol, is_word_token, is_word, is_end_token, is_end, required, name_of, number_of, limited, text_of, short_enough, period_of, counted, IsPeriod, with_place}
-use Rattle.lrp_model.specs.Lexing.{greatest_number, start}
+use Rattle.lrp_model.specs.Lexing.{start}
+use Rattle.lrp_model.specs.Limits.{greatest_number}
 use Rattle.std.proofs.lemmas.Bool.{leb-true, le-leb, eqb-true}
 use borrow.Author.Tests.{leb-false}
 use Rattle.lrp_model.specs.Refused.{IsCause}

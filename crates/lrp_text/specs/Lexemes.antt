@@ -7,7 +7,8 @@ use Rattle.lrp_model.specs.declared.tokens.Fault.{Fault}
 use Rattle.lrp_model.specs.declared.tokens.Fault.TheVariants.{Syntax, Period, Number as TooLarge}
 use Rattle.lrp_model.specs.Tokens.{Token}
 use Rattle.lrp_model.specs.Tokens.Token.{name_token, word_token, number_token, text_token, symbol_token, end_token, bad_token}
-use Rattle.lrp_model.specs.Lexing.{Scanned, QuotedText as TextRead, word_or_name, text_from, greatest_number}
+use Rattle.lrp_model.specs.Lexing.{Scanned, QuotedText as TextRead, word_or_name, text_from}
+use Rattle.lrp_model.specs.Limits.{greatest_number}
 use Rattle.lrp_text.specs.Taking.{same_symbol, same_word}
 use Rattle.lrp_text.specs.declared.lexemes.Lexeme.{Lexeme}
 use Rattle.lrp_text.specs.declared.lexemes.Lexeme.TheVariants.{Name, Word, Number, LargeNumber, Text, LongText, Symbol, End, Bad}

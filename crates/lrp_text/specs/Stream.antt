@@ -9,7 +9,8 @@ use Rattle.lrp_model.specs.declared.tokens.LexKind.TheVariants.{Number as LargeN
 use Rattle.lrp_model.specs.declared.tokens.LexFault.{LexFault}
 use Rattle.lrp_model.specs.Tokens.{Token, Tokens}
 use Rattle.lrp_model.specs.Tokens.Token.{name_token, word_token, number_token, text_token, symbol_token, end_token, bad_token}
-use Rattle.lrp_model.specs.Lexing.{At, after, scan, greatest_number}
+use Rattle.lrp_model.specs.Lexing.{At, after, scan}
+use Rattle.lrp_model.specs.Limits.{greatest_number}
 use Rattle.lrp_text.specs.declared.lexemes.Lexeme.{Lexeme}
 use Rattle.lrp_text.specs.declared.lexemes.Lexeme.TheVariants.{Name as NameSeen, Word as WordSeen, Number as NumberSeen, LargeNumber as LargeNumberSeen, Text as TextSeen, LongText as LongTextSeen, Symbol as SymbolSeen, End as EndSeen, Bad as BadSeen}
 use Rattle.lrp_text.specs.Sources.{next_at, next_of, behind_next}

@@ -10,7 +10,8 @@ use Rattle.lrp_model.specs.declared.tokens.Fault.TheVariants.{Syntax, Number, Te
 use Rattle.lrp_model.specs.declared.written.Located.{Located}
 use Rattle.lrp_model.specs.Tokens.{Token, Placed, Tokens}
 use Rattle.lrp_model.specs.Tokens.Token.{name_token, word_token, number_token, text_token, symbol_token, end_token}
-use Rattle.lrp_model.specs.Lexing.{start, greatest_number}
+use Rattle.lrp_model.specs.Lexing.{start}
+use Rattle.lrp_model.specs.Limits.{greatest_number}
 use Rattle.lrp_text.specs.Parsers.{Parser, accept, look, pure, ◌>>=◌}
 
 -- whether two symbols are one

@@ -1,6 +1,7 @@
 // The bytes that tokens are made of, and the runs of them.
 ghost use Rattle.std.specs.Prelude.{◌≡◌, ◌≤◌, ◌<◌, ◌+◌, ◌^◌, length, min, false};
-ghost use Rattle.lrp_model.specs.Lexing.{is_letter as is_letter_byte, is_digit as is_digit_byte, is_name_byte as is_byte_of_names, is_blank as is_blank_byte, is_forbidden as is_forbidden_byte, skip as skip_rule, run, behind_run, value_from, greatest_number};
+ghost use Rattle.lrp_model.specs.Lexing.{is_letter as is_letter_byte, is_digit as is_digit_byte, is_name_byte as is_byte_of_names, is_blank as is_blank_byte, is_forbidden as is_forbidden_byte, skip as skip_rule, run, behind_run, value_from};
+ghost use Rattle.lrp_model.specs.Limits.{greatest_number};
 
 use crate::places::behind;
 use lrp_model::{LIMIT, Place};

@@ -7,7 +7,7 @@ use std::alloc::Global;
 use std::marker::Model;
 
 /// The tokens of a text that are left to read; a reader looks at the next one and takes it.
-#[derive(Debug, Drop)]
+#[derive(Drop)]
 pub struct Cursor<'a> {
     here: Source<'a>,
     found: Found<'a>,
@@ -29,14 +29,15 @@ impl<'a> Model for Cursor<'a> {
 impl<'a> Cursor<'a> {
     ghost use Rattle.std.specs.Prelude.{◌≡◌, ◌≢◌, ◌≤◌, ◌<◌, ◌∷◌, true, false, length, Ok, Err, IfOk};
     ghost use Rattle.lrp_model.specs.Tokens.{Placed};
-    ghost use Rattle.lrp_model.specs.Lexing.{tokens, greatest_number};
+    ghost use Rattle.lrp_model.specs.Lexing.{tokens};
+    ghost use Rattle.lrp_model.specs.Limits.{greatest_number, most_bytes};
     ghost use Rattle.lrp_text.specs.Parsers.{Reads, look, eat};
     ghost use Rattle.lrp_text.specs.Taking.{here, is_symbol, is_word, is_name, is_text, is_end, expect, expect_word, expect_end, behind_end, number, period, IsPeriod, name, text};
     ghost use Rattle.lrp_text.specs.Sources.{Stands, Goes};
 
     /// The tokens of a text of at most 16,777,216 bytes.
     pub fn new(text: &'a str) -> Self
-        requires { length text.now ≤ 16777216 }
+        requires { length text.now ≤ most_bytes }
         ensures { result ≡ tokens text.now }
     {
         let here = Source {

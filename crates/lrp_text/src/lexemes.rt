@@ -6,7 +6,7 @@ ghost use Rattle.lrp_text.specs.Stream.{kind_of};
 use lrp_model::{Fault, LexKind, Place, Symbol, TokenKind, Word};
 
 /// A token, as it is read: a number or a text that is lawful, or one that isn't, or a byte that begins no token.
-#[derive(Clone, Copy, Debug, PartialEq, Eq)]
+#[derive(Clone, Copy, PartialEq, Eq)]
 pub enum Lexeme {
     Name,
     Word(Word),
@@ -20,7 +20,7 @@ pub enum Lexeme {
 }
 
 /// A lexeme of a source, with its slice and the place where it stands; a bad byte has no slice.
-#[derive(Clone, Copy, Debug)]
+#[derive(Clone, Copy)]
 pub struct Found<'a> {
     pub lexeme: Lexeme,
     pub slice: &'a str,

@@ -5,7 +5,7 @@ use lrp_model::{LexFault, Place, Token, TokenKind};
 use std::marker::Model;
 
 /// The rest of a text, and the place where it begins.
-#[derive(Debug, Drop)]
+#[derive(Drop)]
 pub struct Lexer<'a> {
     source: Source<'a>,
 }
@@ -26,10 +26,11 @@ impl<'a> Lexer<'a> {
     ghost use Rattle.lrp_model.specs.Lexing.{start};
     ghost use Rattle.lrp_text.specs.Sources.{IsFound, tokens_left};
     ghost use Rattle.lrp_text.specs.Stream.{Gives, IsNextToken, IsSliceOf, IsNextText};
+    ghost use Rattle.lrp_model.specs.Limits.{most_bytes};
 
     /// The lexer of a text of at most 16,777,216 bytes.
     pub fn new(text: &'a str) -> Self
-        requires { length text.now ≤ 16777216 }
+        requires { length text.now ≤ most_bytes }
         ensures { result ≡ record { place = start; bytes = text.now } }
     {
         Lexer {

@@ -1,6 +1,7 @@
 // Places behind bytes.
 ghost use Rattle.std.specs.Prelude.{◌≡◌, ◌≤◌, ◌<◌, ◌+◌, ◌^◌, length};
 ghost use Rattle.lrp_model.specs.Lexing.{after, moved, start};
+ghost use Rattle.lrp_model.specs.Limits.{most_bytes};
 
 use lrp_model::Place;
 
@@ -25,7 +26,7 @@ pub fn behind(place: Place, b: u8) -> Place
 
 /// The place behind the bytes that a text begins with, at most 16,777,216 of them.
 pub fn place_behind(bytes: &[u8]) -> Place
-    requires { length bytes.now ≤ 16777216 }
+    requires { length bytes.now ≤ most_bytes }
     ensures { result ≡ after start bytes.now }
 {
     let mut place = Place { line: 1, column: 1 };

@@ -2,7 +2,7 @@
 ghost use Rattle.std.specs.Prelude.{◌≢◌, ◌≤◌, ◌<◌, ℕ, [], length, Err, IfOk};
 ghost use Rattle.lrp_text.specs.Parsers.{separated_from, listed, Reads, IsOrMemory};
 ghost use Rattle.lrp_text.specs.Taking.{is_symbol};
-ghost use Rattle.lrp_model.specs.Lexing.{greatest_number};
+ghost use Rattle.lrp_model.specs.Limits.{greatest_number};
 ghost use Rattle.lrp_text.specs.ColumnRule.{shown_sort, sort as sort_rule, column as column_rule};
 ghost use Rattle.lrp_text.specs.IntegerRule.{integer as integer_rule};
 

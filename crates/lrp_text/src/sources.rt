@@ -10,7 +10,7 @@ use crate::scanning::scan;
 use lrp_model::Place;
 
 /// The rest of a text, and the place where it begins.
-#[derive(Clone, Copy, Debug)]
+#[derive(Clone, Copy)]
 pub struct Source<'a> {
     pub place: Place,
     pub rest: &'a str,

@@ -7,7 +7,8 @@ use Rattle.std.specs.Str.Parse.{ParsesSigned, digits_value}
 use Rattle.std.specs.Int.{IsInRange}
 use Rattle.std.proofs.lemmas.Fmt.{digits_decimal, parse-signed_decimal}
 use Rattle.std.proofs.lemmas.Str.Parse.{IsNumeralModel, numerals_by_value, tells_by_index}
-use Rattle.lrp_token.specs.Parts.{IsSmall, IsSpelling}
+use Rattle.lrp_token.specs.Parts.{IsSpelling}
+use Rattle.lrp_model.specs.PrintedPages.{IsSmall}
 use Rattle.lrp_token.proofs.Lists.{Lacks}
 
 -- digits by their places

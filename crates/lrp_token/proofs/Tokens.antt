@@ -7,8 +7,8 @@ use Rattle.std.proofs.lemmas.Str.Pattern.{IsSplitOnceResult, split_after}
 use Rattle.lrp_model.specs.Texts.{Text}
 use Rattle.lrp_model.specs.DataTexts.{IsDataText}
 use Rattle.lrp_model.specs.Printed.{joined_by}
-use Rattle.lrp_model.specs.PrintedPages.{IsToken, IsDigest, hex, text_part, tuple_text}
-use Rattle.lrp_token.specs.Parts.{HasDigest, IsListOf, IsSmall, IsTuple}
+use Rattle.lrp_model.specs.PrintedPages.{IsToken, IsDigest, hex, text_part, tuple_text, IsSmall}
+use Rattle.lrp_token.specs.Parts.{HasDigest, IsListOf, IsTuple}
 use Rattle.lrp_token.proofs.Lists.{Lacks, lacks_append, lacks_at}
 use Rattle.lrp_token.proofs.Numbers.{number_lacks}
 use Rattle.lrp_token.proofs.HexLaws.{hex_lacks}

@@ -1,5 +1,8 @@
 -- What a token says of the files, of a spot, and of a text that is read.
+
+-- What the contract of `run` reaches.
 pub mod Files
+pub mod Reading
+-- What contracts of single functions need beside.
 pub mod Spots
 pub mod Parts
-pub mod Reading

@@ -1,11 +1,10 @@
 -- What the parts of a token spell.
-use Rattle.std.specs.Prelude.{◌≡◌, ◌<◌, ◌≤◌, ◌++◌, ℕ, ℤ, nat_abs, List, Option, None, Some, Result, Ok, Err, codes}
+use Rattle.std.specs.Prelude.{◌≡◌, ◌<◌, ◌≤◌, ◌++◌, ℕ, ℤ, List, Option, None, Some, Result, Ok, Err, codes}
 use Rattle.std.specs.List.{AllByRecursion}
 use Rattle.lrp_model.specs.Texts.{Text}
 use Rattle.lrp_model.specs.DataTexts.{IsDataText}
-use Rattle.lrp_model.specs.Lexing.{greatest_number}
 use Rattle.lrp_model.specs.Printed.{joined_by}
-use Rattle.lrp_model.specs.PrintedPages.{hex, tuple_text, IsDigest}
+use Rattle.lrp_model.specs.PrintedPages.{hex, tuple_text, IsDigest, IsSmall}
 use Rattle.lrp_token.specs.declared.resume.TokenFault.{TokenFault}
 use Rattle.lrp_token.specs.declared.resume.TokenFault.TheVariants.{Form, Shape, Memory}
 
@@ -15,10 +14,6 @@ IsPartRead {A} Is (Ok a) = Is a
 IsPartRead {A} Is (Err Form) = (a : A) → Is a → ⊥
 IsPartRead {A} Is (Err Shape) = ⊥
 IsPartRead {A} Is (Err Memory) = Unit {0}
-
--- a number that a token may have
-abbrev pub IsSmall : ℤ → Type 0
-IsSmall x = nat_abs x ≤ greatest_number
 
 -- the text is that of this value, which is one that a token may have
 pub record IsSpelling {A : Type 0} (Fits : A → Type 0) (spelling : A → List ℕ) (text : List ℕ) (value : A) : Type 0 where

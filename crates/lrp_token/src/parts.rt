@@ -1,9 +1,9 @@
 // The parts of a token: a number, a data text, a digest. Each is what it is exactly where writing it gives its text again.
 ghost use Rattle.std.specs.Prelude.{◌≡◌, ◌↔◌, ℕ, ℤ, List, IsTrue, MatchOption};
 ghost use Rattle.std.specs.Fmt.{signed_decimal};
-ghost use Rattle.lrp_model.specs.PrintedPages.{IsDigest, hex, text_part};
+ghost use Rattle.lrp_model.specs.PrintedPages.{IsDigest, hex, text_part, IsSmall};
 ghost use Rattle.lrp_model.specs.DataTexts.{IsDataText};
-ghost use Rattle.lrp_token.specs.Parts.{IsPartRead, IsSmall, IsSpelling};
+ghost use Rattle.lrp_token.specs.Parts.{IsPartRead, IsSpelling};
 
 use crate::TokenFault;
 use crate::digits::{MOST_BYTES, decode};

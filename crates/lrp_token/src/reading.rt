@@ -3,8 +3,8 @@ ghost use Rattle.std.specs.Prelude.{◌≡◌, ◌↔◌, ◌⊎◌, ℕ, ℤ, L
 ghost use Rattle.std.specs.Fmt.{signed_decimal};
 ghost use Rattle.lrp_model.specs.Texts.{Text};
 ghost use Rattle.lrp_model.specs.DataTexts.{IsDataText};
-ghost use Rattle.lrp_model.specs.PrintedPages.{IsToken, text_part};
-ghost use Rattle.lrp_token.specs.Parts.{IsPartRead, HasDigest, IsListOf, IsSmall, IsTuple};
+ghost use Rattle.lrp_model.specs.PrintedPages.{IsToken, text_part, IsSmall};
+ghost use Rattle.lrp_token.specs.Parts.{IsPartRead, HasDigest, IsListOf, IsTuple};
 ghost use Rattle.lrp_token.specs.Reading.{HasCounts, IsNoToken, Tells};
 
 use crate::parts::{digest_of, text_of, time_of};

@@ -6,7 +6,7 @@ use thiserror::Error;
 /// What a token spells: the tuple behind which a page goes on, and the digest of the files that it was written for.
 ///
 /// A token of version 1 has no digest.
-#[derive(Debug, Drop)]
+#[derive(Drop)]
 pub struct Resume {
     pub tuple: Tuple,
     pub digest: Option<[u8; 32]>,

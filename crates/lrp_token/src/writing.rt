@@ -1,12 +1,11 @@
 // Tokens as they are written: version 2, with the files' digest.
-ghost use Rattle.std.specs.Prelude.{◌<◌, ◌≤◌, ◌++◌, codes, Some, length, take, nat_abs};
+ghost use Rattle.std.specs.Prelude.{◌<◌, ◌≤◌, ◌++◌, codes, Some, length, take};
 ghost use Rattle.std.specs.List.{AllByRecursion, flat_map};
 ghost use Rattle.std.specs.Fmt.{signed_decimal};
 ghost use Rattle.lrp_io.specs.Causes.{HasCause};
 ghost use Rattle.lrp_io.specs.Pieces.{IsWritten};
-ghost use Rattle.lrp_model.specs.Lexing.{greatest_number};
 ghost use Rattle.lrp_model.specs.Printed.{joined_by};
-ghost use Rattle.lrp_model.specs.PrintedPages.{IsToken, hex as hex_of, text_part, tuple_text};
+ghost use Rattle.lrp_model.specs.PrintedPages.{IsSmall, IsToken, hex as hex_of, text_part, tuple_text};
 ghost use Rattle.lrp_model.specs.DataTexts.{IsDataText};
 ghost use Rattle.lrp_token.specs.Spots.{spot_token, texts_in, times_in};
 ghost use Rattle.lrp_model.specs.Tuples.{text_at};
@@ -26,7 +25,7 @@ pub fn write_token<S: Sink>(
 ) -> Result<(), Failed>
     requires times { shape.times ≤ 8 }
     requires texts { shape.texts ≤ 8 }
-    requires small { AllByRecursion (λ x. nat_abs x ≤ greatest_number) (times_in shape spot.now) }
+    requires small { AllByRecursion IsSmall (times_in shape spot.now) }
     requires known { AllByRecursion (λ n. n < length domain.now) (take shape.texts spot.now.texts) }
     ensures text { IsWritten (S.written out.old) (S.written out.new) (spot_token shape domain.now digest.now spot.now) result }
     ensures cause { HasCause (S.faults out.old) (S.faults out.new) result }

@@ -3,7 +3,7 @@ use Rattle.std.proofs.Common.{◌≡◌, inl, inr, ℕ, ◌+◌, ◌*◌, ◌^�
 use Rattle.std.specs.Str.{bytes_eq}
 use Rattle.std.specs.List.{AllByRecursion}
 use Rattle.lrp_model.specs.Formulas.{Form, Question, question_of}
-use Rattle.lrp_model.specs.Plans.{time_columns}
+use Rattle.lrp_model.specs.Sorts.{time_count}
 use Rattle.lrp_model.specs.Rows.{rows_of}
 use Rattle.lrp_model.specs.Reach.{greatest, term_magnitudes, test_reach}
 use Rattle.lrp_model.specs.Texts.{Identifier, Text}
@@ -14,7 +14,7 @@ use Rattle.lrp_plan_laws.specs.Atoms.{Atom, atoms}
 use Rattle.lrp_edits.specs.declared.edits.Edit.{Edit}
 use Rattle.lrp_kept.specs.Choices.{disjunct_tests, listed_disjuncts}
 use Rattle.lrp_kept.specs.KeptForm.{is_kept}
-use Rattle.lrp_kept.specs.Limits.{atom_reach, disjunct_reach, most_of, number_of, scaled_kept_reach, time_quantifiers}
+use Rattle.lrp_kept.specs.Limits.{atom_reach, disjunct_reach, most_of, scaled_kept_reach, time_quantifiers, number_beside}
 use Rattle.lrp_model.specs.Core.{HasElements}
 use Rattle.lrp_keep.specs.Keeps.{CanBeHeld, IsRelationOf, KeepView, scaled_reach_of}
 use Rattle.lrp_keep.specs.Replaced.{replaced, with_rows}
@@ -49,7 +49,7 @@ held_still db rows changed name r is = (
   columns_still rows changed r,
 )
 
-number_still : (db : List Relation) (rows : List Row) (changed : Identifier) (bounds : List ℕ) (name : Identifier) → number_of (replaced db changed rows) bounds name ≡ number_of db bounds name
+number_still : (db : List Relation) (rows : List Row) (changed : Identifier) (bounds : List ℕ) (name : Identifier) → number_beside (replaced db changed rows) bounds name ≡ number_beside db bounds name
 number_still [] rows changed bounds name = refl
 number_still (r ∷ rs) rows changed [] name = refl
 number_still (r ∷ rs) rows changed (b ∷ bs) name = ap₂ (λ (n : Identifier) (m : ℕ). cond (bytes_eq n name) b m) (name_still rows changed r) (number_still rs rows changed bs name)
@@ -60,7 +60,7 @@ same_images : {X Y : Type 0} (f g : X → Y) (xs : List X) → ((x : X) → f x 
 same_images f g [] e = refl
 same_images f g (x ∷ xs) e = ap₂ (λ y ys. y ∷ ys) (e x) (same_images f g xs e)
 
-module _ (db other : List Relation) (bounds : List ℕ) (period : ℕ) (same : (name : Identifier) → number_of other bounds name ≡ number_of db bounds name) where
+module _ (db other : List Relation) (bounds : List ℕ) (period : ℕ) (same : (name : Identifier) → number_beside other bounds name ≡ number_beside db bounds name) where
   atom_same : (a : Atom) → atom_reach other bounds period a ≡ atom_reach db bounds period a
   atom_same a = ap (λ n. n + 2 * greatest (flat_map term_magnitudes a.terms) + period) (same a.name)
 
@@ -70,7 +70,7 @@ module _ (db other : List Relation) (bounds : List ℕ) (period : ℕ) (same : (
   scaled_same : (q : Question) → scaled_kept_reach other bounds period q ≡ scaled_kept_reach db bounds period q
   scaled_same q =
       let steps = most_of (λ f. length (atoms f)) q + most_of (λ f. length (disjunct_tests f)) q in
-      ap (λ xs. 2 ^ (time_columns q.head + 1) * ((greatest xs + steps * period) * 2 ^ most_of time_quantifiers q))
+      ap (λ xs. 2 ^ (time_count q.head + 1) * ((greatest xs + steps * period) * 2 ^ most_of time_quantifiers q))
       (same_images (disjunct_reach other bounds period) (disjunct_reach db bounds period) (listed_disjuncts q) disjunct_same)
 
 -- ---- what is kept

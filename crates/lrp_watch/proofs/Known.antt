@@ -4,8 +4,8 @@ use Rattle.std.specs.Prelude.{pos, IfNone, IfSome}
 use Rattle.std.specs.List.{AllByRecursion}
 use Rattle.lrp_model.specs.Formulas.{question_of}
 use Rattle.lrp_model.specs.Order.{IsLeast}
-use Rattle.lrp_model.specs.Pages.{Tuple}
-use Rattle.lrp_model.specs.Plans.{time_columns}
+use Rattle.lrp_model.specs.Rows.{Tuple}
+use Rattle.lrp_model.specs.Sorts.{time_count}
 use Rattle.lrp_model.specs.Satisfaction.{HasShape, IsAnswer}
 use Rattle.lrp_model.specs.Texts.{Text}
 use Rattle.lrp_model.specs.declared.relations.Column.{Column}
@@ -35,8 +35,8 @@ texts_left all times texts e = omega (arith, e)
 
 pub shape_is : (a : Answer) → a.store.shape ≡ shape_for a.head.columns
 shape_is a =
-    let count : length a.head.columns ≡ time_columns a.head.columns + a.store.shape.texts = subst (λ n. length a.head.columns ≡ n + a.store.shape.texts) (sym a.times_are) a.columns_are in
-    ap₂ shape (sym a.times_are) (texts_left (length a.head.columns) (time_columns a.head.columns) a.store.shape.texts count)
+    let count : length a.head.columns ≡ time_count a.head.columns + a.store.shape.texts = subst (λ n. length a.head.columns ≡ n + a.store.shape.texts) (sym a.times_are) a.columns_are in
+    ap₂ shape (sym a.times_are) (texts_left (length a.head.columns) (time_count a.head.columns) a.store.shape.texts count)
 
 -- ---- the answer of a keeper
 
@@ -53,8 +53,8 @@ module _ (k : KeepView) (a : Answer) (is : IsKeptAnswer k a) where
       let R = kept_reach k.relations k.bounds k.period (question_of k.query) in
       record {
         period = subst (λ n. n ≤ R) (sym same_period) (period_low k.relations k.bounds k.period (question_of k.query) low.kept low.elements);
-        scaled = subst (λ (cs : List Column). 2 ^ (time_columns cs + 1) * R ≤ 2 ^ 62) (sym is.head) low.reach;
-        small = λ cell z held. subst (λ (cs : List Column). IsSmallZone z (time_columns cs * R)) (sym is.head) (is.small cell z held);
+        scaled = subst (λ (cs : List Column). 2 ^ (time_count cs + 1) * R ≤ 2 ^ 62) (sym is.head) low.reach;
+        small = λ cell z held. subst (λ (cs : List Column). IsSmallZone z (time_count cs * R)) (sym is.head) (is.small cell z held);
       }
 
   -- for a spot of the answer

@@ -23,9 +23,9 @@ use Rattle.lrp_print.specs.Kept.{AreValuesOf, IsBoundOf, IsKept, IsRowOf, IsValu
 use Rattle.lrp_tables.specs.Calls.{IsColumnBound}
 use Rattle.lrp_edits.specs.EditMeaning.{IsEditOf}
 use Rattle.lrp_edits.specs.declared.edits.Edit.{Edit}
-use Rattle.lrp_keep.specs.Keeps.{CanBeHeld, CanBeKept, CanStandAlone, IsRelationOf, IsWithinLimits, opened}
+use Rattle.lrp_keep.specs.Keeps.{CanBeHeld, CanBeKept, CanStandAlone, IsRelationOf, opened, StaysWithinLimits}
 use Rattle.lrp_watch.specs.Leasts.{CanBeMade, CanGoOn}
-use Rattle.lrp_watch.specs.Watching.{CanBeWatched, row_texts_of, value_texts, watched_constants}
+use Rattle.lrp_watch.specs.Watching.{CanBeWatched, row_texts_of, watched_constants, texts_of_value}
 
 -- ---- lists
 
@@ -46,26 +46,26 @@ all_in p (x ∷ xs) h = (h x (0, omega arith, refl), all_in p xs (λ y c. h y (s
 
 -- ---- rows
 
-value_held : (domain : List Text) (c : Column) (v : Value) → IsValueOf c v → AllByRecursion (Contains domain) (value_texts v) → CanStandAlone domain c v
+value_held : (domain : List Text) (c : Column) (v : Value) → IsValueOf c v → AllByRecursion (Contains domain) (texts_of_value v) → CanStandAlone domain c v
 value_held domain c (Point p) h k = (h.0, h.1, Divides-self p.period)
 value_held domain c (Const t) h k = (ap not h.0, k.0)
 
-values_held : (domain : List Text) (cs : List Column) (vs : List Value) → AreValuesOf cs vs → AllByRecursion (Contains domain) (flat_map value_texts vs) → AllZip (CanStandAlone domain) cs vs
+values_held : (domain : List Text) (cs : List Column) (vs : List Value) → AreValuesOf cs vs → AllByRecursion (Contains domain) (flat_map texts_of_value vs) → AllZip (CanStandAlone domain) cs vs
 values_held domain [] [] h k = tt
 values_held domain [] (v ∷ vs) h k = absurd h
 values_held domain (c ∷ cs) [] h k = absurd h
-values_held domain (c ∷ cs) (v ∷ vs) h k = let two = parts (Contains domain) (value_texts v) (flat_map value_texts vs) k in (value_held domain c v h.0 two.0, values_held domain cs vs h.1 two.1)
+values_held domain (c ∷ cs) (v ∷ vs) h k = let two = parts (Contains domain) (texts_of_value v) (flat_map texts_of_value vs) k in (value_held domain c v h.0 two.0, values_held domain cs vs h.1 two.1)
 
 bounds_held : (times : ℕ) (bs : List Bound) → AllByRecursion (IsBoundOf times) bs → AllByRecursion (IsColumnBound times) bs
 bounds_held times [] h = tt
 bounds_held times (b ∷ bs) h = (record { left = h.0.left; right = h.0.right }, bounds_held times bs h.1)
 
-row_held : (domain : List Text) (cs : List Column) (row : Row) → IsRowOf cs row → AllByRecursion (Contains domain) (flat_map value_texts row.values) → CanBeHeld domain cs row
+row_held : (domain : List Text) (cs : List Column) (row : Row) → IsRowOf cs row → AllByRecursion (Contains domain) (flat_map texts_of_value row.values) → CanBeHeld domain cs row
 row_held domain cs row h k = record { values = values_held domain cs row.values h.values k; bounds = bounds_held (time_count cs) row.bounds h.bounds }
 
 -- ---- databases
 
-texts_alone : (cs : List Column) (vs : List Value) → AreValuesOf cs vs → map (λ (entry : Sort × Text). entry.1) (row_texts cs vs) ≡ flat_map value_texts vs
+texts_alone : (cs : List Column) (vs : List Value) → AreValuesOf cs vs → map (λ (entry : Sort × Text). entry.1) (row_texts cs vs) ≡ flat_map texts_of_value vs
 texts_alone [] [] h = refl
 texts_alone [] (v ∷ vs) h = absurd h
 texts_alone (c ∷ cs) [] h = absurd h
@@ -134,7 +134,7 @@ module _ (query : Query) (db : List Relation) (domain : List Text) (cap : ℕ) w
       (record { relation = h.0.relation; is = named_in db e.relation h.0.relation h.0.named; row_fits = row_held domain h.0.relation.columns e.row h.0.row two.0 }, edits_can es h.1 two.1)
 
 -- the edits can be made of what is kept at first
-pub can_go_on : AreSameInOrder → (query : Query) (db : List Relation) (edits : List Edit) (cap : ℕ) → CanBeWatched db (question_of query) edits → IsWithinLimits (opened query db (watched_constants db (question_of query) edits) cap)
+pub can_go_on : AreSameInOrder → (query : Query) (db : List Relation) (edits : List Edit) (cap : ℕ) → CanBeWatched db (question_of query) edits → StaysWithinLimits (opened query db (watched_constants db (question_of query) edits) cap)
     → CanGoOn (opened query db (watched_constants db (question_of query) edits) cap) edits
 can_go_on same query db edits cap can within =
     let q = question_of query in

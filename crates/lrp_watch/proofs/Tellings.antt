@@ -3,7 +3,7 @@ use Rattle.std.proofs.Common.{◌≡◌, ℕ, suc, ◌<◌, ◌≤◌, List, [],
 use Rattle.std.specs.Prelude.{IfSome}
 use Rattle.std.specs.List.{AllByRecursion, AllZip}
 use Rattle.lrp_model.specs.Formulas.{Question, question_of}
-use Rattle.lrp_model.specs.Pages.{Tuple}
+use Rattle.lrp_model.specs.Rows.{Tuple}
 use Rattle.lrp_model.specs.Texts.{Text}
 use Rattle.lrp_model.specs.declared.formulas.Query.{Query}
 use Rattle.lrp_model.specs.declared.relations.Column.{Column}
@@ -15,7 +15,7 @@ use Rattle.lrp_tables.specs.Columns.{head_texts, head_times}
 use Rattle.lrp_list.specs.Lines.{spot_tuple}
 use Rattle.lrp_edits.specs.declared.edits.Edit.{Edit}
 use Rattle.lrp_kept.proofs.SortedDisjuncts.{few_head_texts, few_head_times}
-use Rattle.lrp_keep.specs.Keeps.{IsCause, IsWithinLimits, KeepView, opened}
+use Rattle.lrp_keep.specs.Keeps.{KeepView, opened, IsPastLimit, StaysWithinLimits}
 use Rattle.lrp_keep.specs.declared.faults.KeepFault.{KeepFault}
 use Rattle.lrp_watch.specs.Edits.{IsPassedAt, IsPassedBehind}
 use Rattle.lrp_watch.specs.Faults.{IsAt}
@@ -75,13 +75,13 @@ module _ (query : Query) (db : List Relation) (edits : List Edit) (cap : ℕ) (d
   opened_is : IsOpened db (question_of query) edits cap k
   opened_is = subst (IsOpened db (question_of query) edits cap) (sym is) (record { query = refl; is = ap (λ d. opened query db d cap) named })
 
-  within : IsWithinLimits (opened query db domain cap) → IsWithinLimits k
-  within h = subst IsWithinLimits (sym is) h
+  within : StaysWithinLimits (opened query db domain cap) → StaysWithinLimits k
+  within h = subst StaysWithinLimits (sym is) h
 
-  pub goes : AreSameInOrder → CanBeWatched db (question_of query) edits → IsWithinLimits (opened query db domain cap) → CanGoOn k edits
+  pub goes : AreSameInOrder → CanBeWatched db (question_of query) edits → StaysWithinLimits (opened query db domain cap) → CanGoOn k edits
   goes same can h =
       subst (λ (l : KeepView). CanGoOn l edits) (sym is) (subst (λ d. CanGoOn (opened query db d cap) edits) (sym named)
-      (can_go_on same query db edits cap can (subst (λ d. IsWithinLimits (opened query db d cap)) named h)))
+      (can_go_on same query db edits cap can (subst (λ d. StaysWithinLimits (opened query db d cap)) named h)))
 
   same_query : question_of k.query ≡ question_of query
   same_query = opened_is.query
@@ -99,7 +99,7 @@ module _ (query : Query) (db : List Relation) (edits : List Edit) (cap : ℕ) (d
   pub known : (a : Answer) → IsOver query domain a → (now : KeepView) (spots : List (Option Spot)) → AreDone edits k now spots → AllByRecursion (IsKnownLeast a) spots
   known a answer now spots done = known_told k a (over a answer) (k ∷ done.later) spots done.leasts
 
-  pub told : (a : Answer) → IsOver query domain a → (now : KeepView) (spots : List (Option Spot)) → IsWithinLimits (opened query db domain cap) → AreDone edits k now spots → TellsLeasts db (question_of query) edits cap (flat_map (λ least. first_line (option_map (tuple_of a) least)) spots)
+  pub told : (a : Answer) → IsOver query domain a → (now : KeepView) (spots : List (Option Spot)) → StaysWithinLimits (opened query db domain cap) → AreDone edits k now spots → TellsLeasts db (question_of query) edits cap (flat_map (λ least. first_line (option_map (tuple_of a) least)) spots)
   told a answer now spots h done = record {
     kept = k;
     opened = opened_is;
@@ -113,14 +113,14 @@ module _ (query : Query) (db : List Relation) (edits : List Edit) (cap : ℕ) (d
 
   -- ---- the limit that is passed
 
-  pub passed_first : (number : ℕ) (fault : KeepFault) → IsAt 0 (IsCause (opened query db domain cap)) number fault → IsPassed db (question_of query) edits cap number fault
+  pub passed_first : (number : ℕ) (fault : KeepFault) → IsAt 0 (IsPastLimit (opened query db domain cap)) number fault → IsPassed db (question_of query) edits cap number fault
   passed_first number fault h = record {
     kept = k;
     opened = opened_is;
-    at = subst (λ n. IsPassedAt edits k n fault) (sym h.0) (subst (λ (l : KeepView). IsCause l fault) (sym is) h.1);
+    at = subst (λ n. IsPassedAt edits k n fault) (sym h.0) (subst (λ (l : KeepView). IsPastLimit l fault) (sym is) h.1);
   }
 
-  pub passed_later : IsWithinLimits (opened query db domain cap) → (number : ℕ) (fault : KeepFault) → IsPassedBehind edits k number fault → IsPassed db (question_of query) edits cap number fault
+  pub passed_later : StaysWithinLimits (opened query db domain cap) → (number : ℕ) (fault : KeepFault) → IsPassedBehind edits k number fault → IsPassed db (question_of query) edits cap number fault
   passed_later h number fault p =
       let e : number ≡ suc (length p.before) = p.number_is ∙ omega arith in
       record {

@@ -4,14 +4,14 @@ use Rattle.lrp_model.specs.Rows.{rows_of}
 use Rattle.lrp_model.specs.Texts.{Identifier}
 use Rattle.lrp_model.specs.declared.relations.Row.{Row}
 use Rattle.lrp_edits.specs.declared.edits.Edit.{Edit}
-use Rattle.lrp_keep.specs.Keeps.{HasNoEqual, IsCause, IsWithinLimits, IsWithout, KeepView, with_added}
+use Rattle.lrp_keep.specs.Keeps.{HasNoEqual, IsWithout, KeepView, with_added, IsPastLimit, StaysWithinLimits}
 use Rattle.lrp_keep.specs.declared.faults.KeepFault.{KeepFault}
 
 -- ---- edits that are made
 
 -- a row is added, and no limit is passed; or the first row that is equal is taken out, and where none is, nothing changes
 abbrev pub IsMadeBy : Bool → Identifier → Row → KeepView → KeepView → Type 0
-IsMadeBy true name row old new = (new ≡ with_added old name row) × IsWithinLimits new
+IsMadeBy true name row old new = (new ≡ with_added old name row) × StaysWithinLimits new
 IsMadeBy false name row old new = IsWithout name row old new ⊎ (HasNoEqual row (rows_of old.relations name) × (new ≡ old))
 
 -- an edit is made
@@ -34,7 +34,7 @@ last_kept k (next ∷ later) = last_kept next later
 -- an edit adds a row, and with it this limit is the first that is passed
 pub record IsRefusedEdit (e : Edit) (k : KeepView) (fault : KeepFault) : Type 0 where
   pub adds : e.add ≡ true
-  pub cause : IsCause (with_added k e.relation e.row) fault
+  pub cause : IsPastLimit (with_added k e.relation e.row) fault
 
 -- the edits before the one of this number, from 1, are made, and at that one the limit is passed
 pub record IsPassedBehind (edits : List Edit) (k : KeepView) (number : ℕ) (fault : KeepFault) : Type 0 where
@@ -49,5 +49,5 @@ pub record IsPassedBehind (edits : List Edit) (k : KeepView) (number : ℕ) (fau
 
 -- the limit is passed at the edit of this number and none before; the opening is edit 0
 abbrev pub IsPassedAt : List Edit → KeepView → ℕ → KeepFault → Type 0
-IsPassedAt edits k zero fault = IsCause k fault
-IsPassedAt edits k (suc n) fault = IsWithinLimits k × IsPassedBehind edits k (suc n) fault
+IsPassedAt edits k zero fault = IsPastLimit k fault
+IsPassedAt edits k (suc n) fault = StaysWithinLimits k × IsPassedBehind edits k (suc n) fault

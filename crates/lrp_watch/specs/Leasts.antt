@@ -3,7 +3,7 @@ use Rattle.std.specs.Prelude.{◌≡◌, ◌≤◌, ◌<◌, ◌-◌, ◌^◌, t
 use Rattle.std.specs.List.{AllByRecursion, AllZip}
 use Rattle.lrp_model.specs.Core.{HasElements}
 use Rattle.lrp_model.specs.Formulas.{Question, question_of}
-use Rattle.lrp_model.specs.Plans.{time_columns}
+use Rattle.lrp_model.specs.Sorts.{time_count}
 use Rattle.lrp_model.specs.Texts.{Text}
 use Rattle.lrp_model.specs.declared.formulas.Query.{Query}
 use Rattle.lrp_model.specs.declared.relations.Column.{Column}
@@ -23,7 +23,7 @@ use Rattle.lrp_outputs.specs.First.{IsFirst}
 
 -- how many time columns a head has, and how many others
 abbrev pub shape_for : List Column → Shape
-shape_for columns = record { times = time_columns columns; texts = length columns - time_columns columns }
+shape_for columns = record { times = time_count columns; texts = length columns - time_count columns }
 
 -- a head has at most eight time columns, and at most eight others
 pub record HasFewColumns (columns : List Column) : Type 0 where

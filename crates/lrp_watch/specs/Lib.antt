@@ -1,5 +1,8 @@
 -- What contracts say of least answers: their lines, edits and limits, and then the program's own values.
+
+-- What the contract of `run` reaches.
 pub mod Edits
 pub mod Watching
+-- What contracts of single functions need beside.
 pub mod Faults
 pub mod Leasts

@@ -3,7 +3,7 @@ use Rattle.std.specs.Prelude.{◌≡◌, ℕ, true, List, [], ◌∷◌, ◌++�
 use Rattle.std.specs.List.{AllByRecursion, AllZip}
 use Rattle.lrp_model.specs.Domains.{all_texts}
 use Rattle.lrp_model.specs.Formulas.{Question, question_of}
-use Rattle.lrp_model.specs.Pages.{Tuple}
+use Rattle.lrp_model.specs.Rows.{Tuple}
 use Rattle.lrp_model.specs.Texts.{Text, in_order}
 use Rattle.lrp_model.specs.TestPoints.{points}
 use Rattle.lrp_model.specs.declared.relations.Value.{Value}
@@ -12,7 +12,7 @@ use Rattle.lrp_model.specs.declared.relations.Relation.{Relation}
 use Rattle.lrp_edits.specs.EditMeaning.{IsEditOf}
 use Rattle.lrp_edits.specs.declared.edits.Edit.{Edit}
 use Rattle.lrp_kept.specs.KeptForm.{is_kept}
-use Rattle.lrp_keep.specs.Keeps.{IsSortedQuery, IsWithinLimits, KeepView, opened}
+use Rattle.lrp_keep.specs.Keeps.{IsSortedQuery, KeepView, opened, StaysWithinLimits}
 use Rattle.lrp_keep.specs.declared.faults.KeepFault.{KeepFault}
 use Rattle.lrp_watch.specs.Edits.{AreMade, IsPassedAt}
 use Rattle.lrp_outputs.specs.First.{IsFirst, first_line}
@@ -20,13 +20,13 @@ use Rattle.lrp_outputs.specs.First.{IsFirst, first_line}
 -- ---- what is kept at first
 
 -- the data text of a value, where it is one
-abbrev pub value_texts : Value → List Text
-value_texts (Point at) = []
-value_texts (Const t) = t ∷ []
+abbrev pub texts_of_value : Value → List Text
+texts_of_value (Point at) = []
+texts_of_value (Const t) = t ∷ []
 
 -- the data texts in the row of an edit
 abbrev pub row_texts_of : Edit → List Text
-row_texts_of e = flat_map value_texts e.row.values
+row_texts_of e = flat_map texts_of_value e.row.values
 
 -- the constants of a database, a query and edits, each once, in order of bytes
 abbrev pub watched_constants : List Relation → Question → List Edit → List Text
@@ -43,7 +43,7 @@ pub record IsOpened (db : List Relation) (q : Question) (edits : List Edit) (cap
 pub record TellsLeasts (db : List Relation) (q : Question) (edits : List Edit) (cap : ℕ) (bytes : List ℕ) : Type 0 where
   pub kept : KeepView
   pub opened : IsOpened db q edits cap kept
-  pub within : IsWithinLimits kept
+  pub within : StaysWithinLimits kept
   pub later : List KeepView
   pub made : AreMade edits kept later
   pub firsts : List (Option Tuple)

@@ -1,7 +1,7 @@
 // The constants of a database, a query and edits.
 ghost use Rattle.std.specs.Prelude.{◌≡◌, ◌++◌, IfOk, OnOk, flat_map, map};
 ghost use Rattle.lrp_model.specs.Formulas.{question_of};
-ghost use Rattle.lrp_watch.specs.Watching.{row_texts_of, value_texts, watched_constants};
+ghost use Rattle.lrp_watch.specs.Watching.{row_texts_of, watched_constants, texts_of_value};
 
 use lrp_core::query_texts;
 use lrp_edits::Edit;
@@ -54,7 +54,7 @@ fn add_edits(alloc: Global, all: &mut Vec<DataText>, edits: &[Edit]) -> Result<(
 
 // Those among values.
 fn add_values(alloc: Global, all: &mut Vec<DataText>, values: &[Value]) -> Result<(), Memory>
-    ensures { OnOk result (all.new.items ≡ all.old.items ++ flat_map value_texts values.now) }
+    ensures { OnOk result (all.new.items ≡ all.old.items ++ flat_map texts_of_value values.now) }
 {
     for value in values {
         add_value(alloc, all, value)?;
@@ -63,7 +63,7 @@ fn add_values(alloc: Global, all: &mut Vec<DataText>, values: &[Value]) -> Resul
 }
 
 fn add_value(alloc: Global, all: &mut Vec<DataText>, value: &Value) -> Result<(), Memory>
-    ensures { OnOk result (all.new.items ≡ all.old.items ++ value_texts value.now) }
+    ensures { OnOk result (all.new.items ≡ all.old.items ++ texts_of_value value.now) }
 {
     match value {
         Value::Point { .. } => Ok(()),

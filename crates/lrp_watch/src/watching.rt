@@ -1,7 +1,7 @@
 // Least answers, one after the other, while edits are made.
 ghost use Rattle.std.specs.Prelude.{◌≡◌, IfErr, IfOk, OnOk};
 ghost use Rattle.lrp_model.specs.Formulas.{question_of};
-ghost use Rattle.lrp_keep.specs.Keeps.{CanBeKept, IsCause, IsWithinLimits, opened as opened_by};
+ghost use Rattle.lrp_keep.specs.Keeps.{CanBeKept, opened as opened_by, IsPastLimit, StaysWithinLimits};
 ghost use Rattle.lrp_watch.specs.Edits.{IsMade, IsPassedBehind, IsRefusedEdit};
 ghost use Rattle.lrp_watch.specs.Faults.{IsAt, IsFaultBy};
 ghost use Rattle.lrp_watch.specs.Leasts.{AreDone, CanBeMade, CanGoOn, HasFewColumns, IsLeastOver, IsLow, IsOver, IsTold};
@@ -69,8 +69,8 @@ fn opened<'a>(
 ) -> Result<Keep<'a>, WatchFault>
     requires { CanBeKept (question_of query.now) database.now domain.now }
     ensures view { IfOk result (λ made. made ≡ opened_by query.now database.now domain.now cap) }
-    ensures limits { OnOk result (IsWithinLimits (opened_by query.now database.now domain.now cap)) }
-    ensures fault { IfErr result (IsFaultBy (IsAt 0 (IsCause (opened_by query.now database.now domain.now cap)))) }
+    ensures limits { OnOk result (StaysWithinLimits (opened_by query.now database.now domain.now cap)) }
+    ensures fault { IfErr result (IsFaultBy (IsAt 0 (IsPastLimit (opened_by query.now database.now domain.now cap)))) }
 {
     match Keep::open(alloc, query, database, domain, cap) {
         Ok(keep) => Ok(keep),

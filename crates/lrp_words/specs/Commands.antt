@@ -1,5 +1,5 @@
 -- The command that words spell: the first word is its name, and each further one gives one of its keys a value.
-use Rattle.std.specs.Prelude.{ℕ, ℤ, ◌^◌, List, [], ◌∷◌, Bool, true, false, Option, Some, None, if◌then◌else◌, codes}
+use Rattle.std.specs.Prelude.{ℕ, ℤ, List, [], ◌∷◌, Bool, true, false, Option, Some, None, if◌then◌else◌, codes}
 use Rattle.std.specs.Borrow.{Bor}
 use Rattle.std.specs.Str.{bytes_eq}
 use Rattle.lrp_model.specs.Texts.{Text}
@@ -10,6 +10,7 @@ use Rattle.lrp_words.specs.declared.command.Command.{Command}
 use Rattle.lrp_words.specs.declared.command.Command.TheVariants.{Ask, Decide, List as Page, Explain, Check, Watch, Sample}
 use Rattle.lrp_words.specs.Entries.{value_for, are_given}
 use Rattle.lrp_words.specs.Numbers.{natural, within, integer_up_to}
+use Rattle.lrp_model.specs.Limits.{greatest_number}
 
 -- what is asked: files by their names, caps and limits, a window, a token, whether the page is in JSON, a seed and a size; and last, whether the query may have temporal operators, for `ask` whether its canonical answer is told, and whether times are civil ones
 pub data Task : Type 0 where
@@ -62,10 +63,10 @@ abbrev pub number_or : ℕ → ℕ → ℕ → Option Text → Option ℕ
 number_or default low high None = Some default
 number_or default low high (Some text) = within low high (natural text)
 
--- an end of a window: an integer whose magnitude is at most 2^62, or where times are civil ones the minute of a date
+-- an end of a window: an integer whose magnitude is at most the greatest number, or where times are civil ones the minute of a date
 abbrev pub end_of : Bool → Option Text → Option ℤ
 end_of civil None = None
-end_of false (Some text) = integer_up_to (2 ^ 62) text
+end_of false (Some text) = integer_up_to greatest_number text
 end_of true (Some text) = minute_by text
 
 -- whether a value is `yes`; it is `no` where it is not given

@@ -19,7 +19,7 @@ abbrev pub within : ℕ → ℕ → Option ℕ → Option ℕ
 within low high None = None
 within low high (Some n) = if nat_le low n && nat_le n high then Some n else None
 
--- the integer that a text spells, of a magnitude of at most the limit: a number, or a `-` before a number that is not 0
+-- the integer that a text spells, of a magnitude of at most this number: a number, or a `-` before a number that is not 0
 abbrev pub integer_up_to : ℕ → Text → Option ℤ
-integer_up_to limit [] = None
-integer_up_to limit (b ∷ bs) = if b == 45 then option_map (λ n. neg_ℤ (pos n)) (within 1 limit (natural bs)) else option_map (λ n. pos n) (within 0 limit (natural (b ∷ bs)))
+integer_up_to most [] = None
+integer_up_to most (b ∷ bs) = if b == 45 then option_map (λ n. neg_ℤ (pos n)) (within 1 most (natural bs)) else option_map (λ n. pos n) (within 0 most (natural (b ∷ bs)))

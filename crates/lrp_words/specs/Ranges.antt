@@ -1,18 +1,19 @@
 -- The numbers of tasks, within their ranges.
-use Rattle.std.specs.Prelude.{◌≤◌, ◌≤ℤ◌, ◌^◌, ℤ, pos, neg_ℤ, Bool, true, false}
+use Rattle.std.specs.Prelude.{◌≤◌, ◌≤ℤ◌, ℤ, pos, neg_ℤ, Bool, true, false}
 use Rattle.lrp_civil.specs.Moments.{IsCivilMinute}
 use Rattle.lrp_words.specs.Commands.{Task}
 use Rattle.lrp_words.specs.Commands.Task.{list, sample}
+use Rattle.lrp_model.specs.Limits.{greatest_number}
 
 -- where times are civil ones, a minute of the years 1 to 9999
 abbrev pub IsMinuteWhere : Bool → ℤ → Type 0
 IsMinuteWhere false x = Unit {0}
 IsMinuteWhere true x = IsCivilMinute x
 
--- an end of a window: its magnitude is at most 2^62, and where times are civil ones it is a minute of the years 1 to 9999
+-- an end of a window: its magnitude is at most the greatest number, and where times are civil ones it is a minute of the years 1 to 9999
 pub record IsEnd (civil : Bool) (x : ℤ) : Type 0 where
-  pub low : neg_ℤ (pos (2 ^ 62)) ≤ℤ x
-  pub high : x ≤ℤ pos (2 ^ 62)
+  pub low : neg_ℤ (pos greatest_number) ≤ℤ x
+  pub high : x ≤ℤ pos greatest_number
   pub minute : IsMinuteWhere civil x
 
 -- the numbers of a task that has a window, a seed or a size

@@ -2,7 +2,7 @@
 use Rattle.std.proofs.Common.{◌+◌, ◌∙◌, ap, arith, length, subst, sym, w64}
 use Rattle.std.specs.Prelude.{pos}
 use Rattle.std.proofs.lemmas.Int.{to_z_pos}
-use Rattle.lrp_model.specs.Plans.{time_columns}
+use Rattle.lrp_model.specs.Sorts.{time_count}
 use Rattle.lrp_model.specs.declared.formulas.Head.{Head}
 use Rattle.lrp_model.specs.declared.tuples.Shape.{Shape}
 use Rattle.lrp_store.specs.Tables.{AreNumbered}
@@ -19,7 +19,7 @@ pub rows_in_store-requires-clause-groups : goal.rows_in_store-requires-clause-gr
 rows_in_store-requires-clause-groups c = subst (λ h. AreGroupCells h c.in_ok-groups.groups.lists) (sym c.shape.ensures.value) (group_cells c.args.answer.now.store c.in_ok-periods.ensures.valid c.requires.column c.in_ok-groups.groups.lists c.in_ok-groups.ensures)
 
 pub invariant_of-result-clause-times_are : goal.invariant_of-result-clause-times_are
-invariant_of-result-clause-times_are c = ap (λ (h : Head). time_columns h.columns) c.in_ok-copy.ensures ∙ c.args.answer.now.times_are ∙ ap (λ (h : Shape). h.times) (sym (c.in_ok-store.ensures.shape ∙ c.shape.ensures.value))
+invariant_of-result-clause-times_are c = ap (λ (h : Head). time_count h.columns) c.in_ok-copy.ensures ∙ c.args.answer.now.times_are ∙ ap (λ (h : Shape). h.times) (sym (c.in_ok-store.ensures.shape ∙ c.shape.ensures.value))
 
 pub invariant_of-result-clause-columns_are : goal.invariant_of-result-clause-columns_are
 invariant_of-result-clause-columns_are c = ap (λ (h : Head). length h.columns) c.in_ok-copy.ensures ∙ c.args.answer.now.columns_are ∙ ap (λ (h : Shape). h.times + h.texts) (sym (c.in_ok-store.ensures.shape ∙ c.shape.ensures.value))

@@ -1,7 +1,7 @@
 use Rattle.std.proofs.Common.{rules, ◌≡◌, FitsSigned, to_z, of_z, w64, ◌++◌, codes, sym, subst, ap, ap₂, ◌∙◌}
 use Rattle.std.specs.Prelude.{unsigned_abs}
 use Rattle.lrp_civil.specs.Dates.{IsCivilDay, date_of}
-use Rattle.lrp_civil.specs.Moments.{clock_bytes, date_bytes, day_of, is_time, time_of_day}
+use Rattle.lrp_civil.specs.Moments.{clock_bytes, date_bytes, day_of, time_of_day, is_time_of_day}
 use Rattle.lrp_civil.proofs.MomentLemmas.{civil_day, in_day, word_day, word_time}
 use Rattle.lrp_civil.proofs.moments.moment.Goals as goal
 
@@ -15,7 +15,7 @@ pub written-requires-clause-time : goal.written-requires-clause-time
 written-requires-clause-time c =
     let size : FitsSigned w64 c.args.minute.now = search rules in
     let fits : FitsSigned w64 c.rem_euclid-time.result = search rules in
-    ap is_time (word_time c.args.minute.now c.rem_euclid-time.result size fits c.rem_euclid-time.ensures.value) ∙ in_day c.args.minute.now
+    ap is_time_of_day (word_time c.args.minute.now c.rem_euclid-time.result size fits c.rem_euclid-time.ensures.value) ∙ in_day c.args.minute.now
 
 pub returns : goal.returns
 returns c =

@@ -1,7 +1,7 @@
 -- The last table's store is settled.
 use Rattle.std.proofs.Common.{refl, ap, subst, sym, ◌∙◌}
 use Rattle.lrp_model.specs.declared.formulas.Head.{Head}
-use Rattle.lrp_model.specs.Plans.{time_columns}
+use Rattle.lrp_model.specs.Sorts.{time_count}
 use Rattle.std.proofs.Common.{length}
 use Rattle.lrp_store.specs.Tables.{AreNumbered}
 use Rattle.lrp_eval.proofs.AnsweredLaws.{can_settle, head_times_are, head_columns_are, numbered_store, answer_of, word_is}
@@ -13,7 +13,7 @@ settled-requires c = record {
 }
 
 pub invariant_of-result-clause-times_are : goal.invariant_of-result-clause-times_are
-invariant_of-result-clause-times_are c = ap (λ (h : Head). time_columns h.columns) c.in_ok-head.ensures ∙ ap time_columns c.requires.plan.is.is.head
+invariant_of-result-clause-times_are c = ap (λ (h : Head). time_count h.columns) c.in_ok-head.ensures ∙ ap time_count c.requires.plan.is.is.head
     ∙ head_times_are c.args.database.now c.requires.plan.query c.args.plan.now c.requires.plan.is c.args.cap c.in_ok-table.table (c.in_ok-table.ensures.table c.requires.plan.query c.requires.plan.is) c.in_ok-table.table.times_named c.in_ok-table.table.texts_named
     c.in_ok-store.store c.in_ok-store.ensures
 

@@ -1,7 +1,7 @@
 use Rattle.std.proofs.Common.{◌≡◌, ◌≤◌, ◌*◌, length}
 use Rattle.std.specs.Prelude.{◌≤ℤ◌, neg_ℤ, pos}
 use Rattle.std.specs.List.{AllByRecursion, flat_map, range_with_len}
-use Rattle.lrp_model.specs.Lexing.{greatest_number}
+use Rattle.lrp_model.specs.Limits.{greatest_number}
 use Rattle.lrp_theory.specs.Entries.{entry}
 use Rattle.lrp_list.specs.AnswerText.{bounds_in_row}
 use Rattle.lrp_list.proofs.closures.bounds_of_all.Given as goal

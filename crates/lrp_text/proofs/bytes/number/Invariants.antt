@@ -1,5 +1,6 @@
 use Rattle.std.proofs.Common.{◌≡◌, ◌+◌, ℕ, min, length}
-use Rattle.lrp_model.specs.Lexing.{is_digit, run, behind_run, value_from, greatest_number}
+use Rattle.lrp_model.specs.Lexing.{is_digit, run, behind_run, value_from}
+use Rattle.lrp_model.specs.Limits.{greatest_number}
 use Rattle.lrp_text.proofs.bytes.number.Given as goal
 
 -- the digits left give the rest of the value, which is kept up to one more than the limit

@@ -2,8 +2,9 @@
 use Rattle.std.proofs.Common.{◌≡◌, ◌≤◌, sym, subst, ◌∙◌, ap, arith, of_z, to_z, w64}
 use Rattle.std.specs.Prelude.{IsTrue, nat_abs}
 use Rattle.std.specs.Fmt.{signed_decimal}
-use Rattle.lrp_model.specs.Lexing.{greatest_number}
-use Rattle.lrp_token.specs.Parts.{IsSmall, IsSpelling}
+use Rattle.lrp_model.specs.Limits.{greatest_number}
+use Rattle.lrp_token.specs.Parts.{IsSpelling}
+use Rattle.lrp_model.specs.PrintedPages.{IsSmall}
 use Rattle.lrp_token.proofs.Numbers.{parsed, through_word}
 use Rattle.lrp_token.proofs.parts.time_of.Goals.{else-unsigned_abs-via-then-unsigned_abs+else-is_written, else-unsigned_abs-via-else-unsigned_abs}
 use Rattle.lrp_token.proofs.parts.time_of.Goals as goal

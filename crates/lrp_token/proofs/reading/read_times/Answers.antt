@@ -1,7 +1,8 @@
 -- Each piece is read in turn.
 use Rattle.std.proofs.Common.{◌≡◌, ◌∙◌, [], ◌∷◌, ◌++◌, length, ap, lit<, arith}
 use Rattle.std.specs.Fmt.{signed_decimal}
-use Rattle.lrp_token.specs.Parts.{IsSmall, IsSpelling}
+use Rattle.lrp_token.specs.Parts.{IsSpelling}
+use Rattle.lrp_model.specs.PrintedPages.{IsSmall}
 use Rattle.lrp_token.proofs.Numbers.{number_lacks, through_word}
 use Rattle.std.proofs.lemmas.Iterator.Consumers.{YieldsList-turn, YieldsList-end}
 use Rattle.std.proofs.lemmas.Iterator.Splits.{YieldsList-from_str_split}

@@ -1,7 +1,7 @@
 use Rattle.std.proofs.Common.{◌≡◌, map}
 use Rattle.std.specs.List.{AllByRecursion}
 use Rattle.std.specs.Fmt.{signed_decimal}
-use Rattle.lrp_token.specs.Parts.{IsSmall}
+use Rattle.lrp_model.specs.PrintedPages.{IsSmall}
 use Rattle.lrp_token.proofs.reading.read_times.Given as goal
 
 -- the values so far are those of the pieces so far

@@ -1,10 +1,10 @@
 -- A tuple is cut at its first slash.
 use Rattle.std.proofs.Common.{sym, subst}
 use Rattle.std.specs.Fmt.{signed_decimal}
-use Rattle.lrp_model.specs.PrintedPages.{text_part}
+use Rattle.lrp_model.specs.PrintedPages.{text_part, IsSmall}
 use Rattle.lrp_model.specs.DataTexts.{IsDataText}
 use Rattle.lrp_model.specs.declared.tuples.Tuple.{Tuple}
-use Rattle.lrp_token.specs.Parts.{IsListOf, IsSmall, IsTuple}
+use Rattle.lrp_token.specs.Parts.{IsListOf, IsTuple}
 use Rattle.lrp_token.proofs.Refusals.{refused}
 use Rattle.lrp_token.proofs.Tokens.{cut, of_tuple}
 use Rattle.lrp_token.proofs.reading.read_tuple.Goals as goal

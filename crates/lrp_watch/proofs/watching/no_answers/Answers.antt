@@ -1,7 +1,7 @@
 -- The store has a column for each one of the head, and no cell.
 use Rattle.std.proofs.Common.{◌≡◌, ◌≤◌, length, sym, ap, subst, ◌∙◌, arith}
 use Rattle.std.specs.Prelude.{pos}
-use Rattle.lrp_model.specs.Plans.{time_columns}
+use Rattle.lrp_model.specs.Sorts.{time_count}
 use Rattle.lrp_model.specs.declared.formulas.Head.{Head}
 use Rattle.lrp_store.specs.Stores.{StoreView}
 use Rattle.lrp_tables.specs.Columns.{head_texts, head_times}
@@ -23,7 +23,7 @@ invariant_of-result c =
     let times : c.store_over-store.result.shape.times ≡ length (head_times c.args.query.now.head.columns) = ap (λ (v : StoreView). v.shape.times) c.store_over-store.ensures ∙ ap length c.in_ok-vars.ensures.times in
     let texts : c.store_over-store.result.shape.texts ≡ length (head_texts c.args.query.now.head.columns) = ap (λ (v : StoreView). v.shape.texts) c.store_over-store.ensures ∙ ap length c.in_ok-vars.ensures.texts in
     record {
-      times_are = ap time_columns heads ∙ times_counted columns ∙ sym times;
+      times_are = ap time_count heads ∙ times_counted columns ∙ sym times;
       columns_are = ap length heads ∙ (let n = columns_counted columns in omega (arith, n, times, texts));
       period_is = ap pos (sym (ap (λ (v : StoreView). v.period) c.store_over-store.ensures));
       numbered = none_numbered c.args.domain c.store_over-store.result (ap (λ (v : StoreView). v.tables) c.store_over-store.ensures);

@@ -1,6 +1,6 @@
 -- The name is that of a relation, and the row can be held in it.
 use Rattle.std.proofs.Common.{sym, subst, ap, ◌∙◌}
-use Rattle.lrp_keep.specs.Keeps.{CanBeAdded, IsWithinLimits, KeepView, with_added}
+use Rattle.lrp_keep.specs.Keeps.{CanBeAdded, KeepView, with_added, StaysWithinLimits}
 use Rattle.lrp_keep.proofs.Naming.{can_be_added_at, known_name}
 use Rattle.lrp_keep.proofs.Standing.{ok_then}
 use Rattle.lrp_keep.proofs.keep.Keep.add.Goals as goal
@@ -17,4 +17,4 @@ unreachable-requires c =
 pub returns-clause-limits : goal.returns-clause-limits
 returns-clause-limits c =
     ok_then c.add.result _ _ _ c.add.ensures.limits c.add.ensures.view
-    (λ limits added. subst IsWithinLimits (added.is c.args.relation.now c.in-Some.ensures.some ∙ ap (λ (k : KeepView). with_added k c.args.relation.now c.args.row.now) c.self.view_is) limits)
+    (λ limits added. subst StaysWithinLimits (added.is c.args.relation.now c.in-Some.ensures.some ∙ ap (λ (k : KeepView). with_added k c.args.relation.now c.args.row.now) c.self.view_is) limits)

@@ -4,7 +4,7 @@ use Rattle.std.specs.Prelude.{pos, slice_get}
 use Rattle.std.specs.FinMap as finite
 use Rattle.std.proofs.lemmas.Option.{slice_get_read}
 use Rattle.lrp_model.specs.Formulas.{Question}
-use Rattle.lrp_model.specs.Plans.{time_columns}
+use Rattle.lrp_model.specs.Sorts.{time_count}
 use Rattle.lrp_model.specs.declared.formulas.Head.{Head}
 use Rattle.lrp_model.specs.declared.tuples.Shape.{Shape}
 use Rattle.lrp_store.specs.Stores.{StoreView}
@@ -68,7 +68,7 @@ invariant_of-result c =
     let heads : c.in_ok-copy.field-0.columns ≡ c.args.of.now.query.now.head.columns = ap (λ (h : Head). h.columns) c.in_ok-copy.ensures in
     let counted : c.loop-derived.store.shape.times ≡ length (head_times c.args.of.now.query.now.head.columns) = ap (λ (h : Shape). h.times) c.loop-derived.invariant.shape ∙ times in
     let lettered : c.loop-derived.store.shape.texts ≡ length (head_texts c.args.of.now.query.now.head.columns) = ap (λ (h : Shape). h.texts) c.loop-derived.invariant.shape ∙ texts in
-    record { times_are = ap time_columns heads ∙ times_counted c.args.of.now.query.now.head.columns ∙ sym counted; columns_are = ap length heads ∙ (let n = columns_counted c.args.of.now.query.now.head.columns in omega (arith, n, counted, lettered)); period_is = passed_period c.args.self.now.period ∙ ap pos (sym (c.loop-derived.invariant.period ∙ period)); numbered = subst (λ d. AreNumbered d c.loop-derived.store) (sym c.in_ok-copy-2.ensures) (all_numbered c.args.of.now c.args.self.now c.requires c.store_over-store.result c.shape.ensures.valid empty times texts period c.loop-derived.store taken) }
+    record { times_are = ap time_count heads ∙ times_counted c.args.of.now.query.now.head.columns ∙ sym counted; columns_are = ap length heads ∙ (let n = columns_counted c.args.of.now.query.now.head.columns in omega (arith, n, counted, lettered)); period_is = passed_period c.args.self.now.period ∙ ap pos (sym (c.loop-derived.invariant.period ∙ period)); numbered = subst (λ d. AreNumbered d c.loop-derived.store) (sym c.in_ok-copy-2.ensures) (all_numbered c.args.of.now c.args.self.now c.requires c.store_over-store.result c.shape.ensures.valid empty times texts period c.loop-derived.store taken) }
 
 pub returns : goal.returns
 returns c =

@@ -1,6 +1,6 @@
 -- A database is opened.
 use Rattle.std.proofs.Common.{Err, refl, sym, ap, subst}
-use Rattle.lrp_keep.specs.Keeps.{IsCause, opened}
+use Rattle.lrp_keep.specs.Keeps.{opened, IsPastLimit}
 use Rattle.lrp_keep.proofs.Opening.{above_cause, can_opened, can_sketch_all, held_marked, keeper_opened, large_cause, limits_opened, none_marked, period_above, size_marked, view_opened}
 use Rattle.lrp_keep.proofs.Standing.{opened_cause}
 use Rattle.lrp_keep.proofs.states.State.of.Goals as goal
@@ -37,6 +37,6 @@ returns-in-Ok-derive_all-clause-limits c = limits_opened c.args.of.now c.args.da
 
 pub returns-in-Err-clause-fault : goal.returns-in-Err-clause-fault
 returns-in-Err-clause-fault c =
-    subst (λ f. IsCause (opened c.args.of.now.query.now c.args.database.now c.args.of.now.domain c.args.of.now.cap) f) (sym c.of_step.ensures)
+    subst (λ f. IsPastLimit (opened c.args.of.now.query.now c.args.database.now c.args.of.now.domain c.args.of.now.cap) f) (sym c.of_step.ensures)
     (opened_cause (opened c.args.of.now.query.now c.args.database.now c.args.of.now.domain c.args.of.now.cap) c.in-Err.fault (λ e.
     large_cause c.args.of.now c.args.database.now c.args.relations c.requires c.in-Some.period.number c.in-Some.ensures c.mark_all.new.rows c.mark_all.ensures (c.is_above.ensures.within c.if-is_above.false) c.hold_each.new.rows c.in-Ok.ensures (c.in-Err.ensures.many (ap Err e))))
