@@ -7,7 +7,7 @@ use Rattle.std.specs.List.{AllByRecursion}
 use Rattle.std.proofs.lemmas.Int.{ints, by_lt_z}
 use Rattle.lrp_model.specs.Texts.{Text, Identifier}
 use Rattle.lrp_theory.specs.Divides.{Divides}
-use Rattle.lrp_model.specs.Rows.{Datum, time, text, IsOf, Meets, times_of, IsInRow, Holds, rows_of}
+use Rattle.lrp_model.specs.Rows.{Datum, time, text, IsOf, MeetsBound, times_of, IsInRow, Holds, rows_of}
 use Rattle.lrp_model.specs.declared.relations.Value.{Value}
 use Rattle.lrp_model.specs.declared.relations.Value.TheVariants.{Point, Const}
 use Rattle.lrp_model.specs.declared.relations.Row.{Row}
@@ -130,8 +130,8 @@ decided_of (Const c ∷ vs) (text t ∷ ds) = decided_both (decided_text t c) (d
 
 pub decided_in_row : (row : Row) (tuple : List Datum) → Decided (IsInRow row tuple)
 decided_in_row row tuple =
-    decided_iff {p = IsOf row.values tuple × AllByRecursion (Meets (times_of tuple)) row.bounds} (λ h. record { values = h.0; bounds = h.1 }) (λ h. (h.values, h.bounds))
-    (decided_both (decided_of row.values tuple) (decided_all (Meets (times_of tuple)) (λ b. decided_le _ _) row.bounds))
+    decided_iff {p = IsOf row.values tuple × AllByRecursion (MeetsBound (times_of tuple)) row.bounds} (λ h. record { values = h.0; bounds = h.1 }) (λ h. (h.values, h.bounds))
+    (decided_both (decided_of row.values tuple) (decided_all (MeetsBound (times_of tuple)) (λ b. decided_le _ _) row.bounds))
 
 pub decided_holds : (relations : List Relation) (name : Identifier) (tuple : List Datum) → Decided (Holds relations name tuple)
 decided_holds relations name tuple = decided_some (λ row. IsInRow row tuple) (λ row. decided_in_row row tuple) (rows_of relations name)

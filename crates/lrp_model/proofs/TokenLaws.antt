@@ -1,6 +1,6 @@
 -- Each token spells one digest and one tuple: no separator stands inside a part, and each part spells one value.
-use Rattle.std.proofs.Common.{◌≡◌, ◌≢◌, ℕ, zero, suc, ◌+◌, ◌/◌, ◌%◌, ◌<◌, ◌≤◌, ◌^◌, Bool, true, false, List, [], ◌∷◌, ◌++◌, length, map, drop, Option, Some, None, refl, sym, ap, ap₂, subst, ◌∙◌, arith}
-use Rattle.std.specs.Prelude.{ℤ, pos, negsuc, nat_abs, nat_lt, if◌then◌else◌, slice_index}
+use Rattle.std.proofs.Common.{◌≡◌, ◌≢◌, ℕ, zero, suc, ◌+◌, ◌/◌, ◌%◌, ◌<◌, ◌^◌, Bool, true, false, List, [], ◌∷◌, ◌++◌, length, map, drop, Option, Some, None, refl, sym, ap, ap₂, subst, ◌∙◌, arith}
+use Rattle.std.specs.Prelude.{ℤ, pos, negsuc, nat_lt, if◌then◌else◌, slice_index}
 use Rattle.std.specs.List.{AllByRecursion}
 use Rattle.std.specs.Fmt.{decimal, signed_decimal}
 use Rattle.std.proofs.lemmas.Fmt.{decimal_digit, decimal-digits_of, decimal_nonempty, signed_decimal_injective}
@@ -11,10 +11,10 @@ use Rattle.lrp_model.specs.PrintedPages.{hex_digit, hex, text_part, tuple_text, 
 use Rattle.lrp_model.proofs.Logic.{all_append}
 
 -- no element of the list is this byte
-abbrev Lacks : ℕ → List ℕ → Type 0
+abbrev pub Lacks : ℕ → List ℕ → Type 0
 Lacks c xs = AllByRecursion (λ b. b ≢ c) xs
 
-lacks_append : (c : ℕ) (xs ys : List ℕ) → Lacks c xs → Lacks c ys → Lacks c (xs ++ ys)
+pub lacks_append : (c : ℕ) (xs ys : List ℕ) → Lacks c xs → Lacks c ys → Lacks c (xs ++ ys)
 lacks_append c xs ys h k = (all_append (λ b. b ≢ c) xs ys).1 (h, k)
 
 -- ---- where a separator stands
@@ -74,7 +74,7 @@ decimal_lacks : (c n : ℕ) → c < 48 → n < 2 ^ 64 → Lacks c (decimal n)
 decimal_lacks c zero lt h = subst (Lacks c) (sym (decimal_digit 0 (omega arith))) (glyphs_lack c lt (0 ∷ []))
 decimal_lacks c (suc n) lt h = subst (Lacks c) (sym (decimal-digits_of (suc n) (omega arith) h)) (glyphs_lack c lt _)
 
-number_lacks : (c : ℕ) → c < 48 → 45 ≢ c → (x : ℤ) → IsSmall x → Lacks c (signed_decimal x)
+pub number_lacks : (c : ℕ) → c < 48 → 45 ≢ c → (x : ℤ) → IsSmall x → Lacks c (signed_decimal x)
 number_lacks c lt ne (pos n) h = decimal_lacks c n lt (omega (arith, h))
 number_lacks c lt ne (negsuc n) h = (ne, decimal_lacks c (suc n) lt (omega (arith, h)))
 
@@ -94,7 +94,7 @@ number_once (negsuc m) (negsuc n) h k e = signed_decimal_injective (negsuc m) (n
 
 -- ---- bytes in hex
 
-digit_not : (t : Bool) (c d : ℕ) → c < 48 → (if t then 48 + d else 87 + d) ≡ c → ⊥
+pub digit_not : (t : Bool) (c d : ℕ) → c < 48 → (if t then 48 + d else 87 + d) ≡ c → ⊥
 digit_not true c d lt e = omega arith
 digit_not false c d lt e = omega arith
 
@@ -107,7 +107,7 @@ digit_once false false d e h k q = omega arith
 byte_once : (b c : ℕ) → b / 16 ≡ c / 16 → b % 16 ≡ c % 16 → b ≡ c
 byte_once b c e f = omega arith
 
-hex_lacks : (c : ℕ) → c < 48 → (bs : List ℕ) → Lacks c (hex bs)
+pub hex_lacks : (c : ℕ) → c < 48 → (bs : List ℕ) → Lacks c (hex bs)
 hex_lacks c lt [] = tt
 hex_lacks c lt (b ∷ bs) = (digit_not (nat_lt (b / 16) 10) c (b / 16) lt, (digit_not (nat_lt (b % 16) 10) c (b % 16) lt, hex_lacks c lt bs))
 

@@ -6,7 +6,7 @@ use Rattle.std.specs.declared.cmp.Ordering.{Ordering}
 use Rattle.std.specs.declared.cmp.Ordering.TheVariants.{Less, Equal, Greater}
 use Rattle.std.specs.Cmp.Lexicographic.{slice_cmp}
 use Rattle.lrp_model.specs.Texts.{Text, text_cmp}
-use Rattle.lrp_model.specs.Rows.{Tuple, IsOf, times_of, time_at, IsInRow, Holds}
+use Rattle.lrp_model.specs.Rows.{Tuple, IsOf, times_of, IsInRow, Holds}
 use Rattle.lrp_model.specs.Formulas.{Question}
 use Rattle.lrp_model.specs.Satisfaction.{IsAnswer}
 use Rattle.lrp_model.specs.Periods.{period}
@@ -18,6 +18,7 @@ use Rattle.lrp_model.specs.declared.relations.Value.TheVariants.{Point, Const}
 use Rattle.lrp_model.specs.declared.relations.Bound.{Bound}
 use Rattle.lrp_model.specs.declared.relations.Row.{Row}
 use Rattle.lrp_model.specs.declared.relations.Relation.{Relation}
+use Rattle.lrp_theory.specs.Entries.{node}
 
 -- ---- the cell of a row
 
@@ -53,16 +54,16 @@ HasPeriod K (Const t) = Unit {0}
 HasPeriod K (Point p) = (p.period ≡ pos K) × (pos 0 ≤ℤ p.offset) × (p.offset <ℤ pos K)
 
 -- time column i minus time column j is at most the number in each member of the row, and some member attains it
-pub record IsLeastBound (row : Row) (i j : ℕ) (a : ℤ) : Type 0 where
-  pub met : (tuple : Tuple) → IsInRow row tuple → (time_at (times_of tuple) i -ℤ time_at (times_of tuple) j) ≤ℤ a
-  pub attained : (tuple : Tuple) × IsInRow row tuple × (time_at (times_of tuple) i -ℤ time_at (times_of tuple) j ≡ a)
+pub record IsLeastRowBound (row : Row) (i j : ℕ) (a : ℤ) : Type 0 where
+  pub met : (tuple : Tuple) → IsInRow row tuple → (node (times_of tuple) i -ℤ node (times_of tuple) j) ≤ℤ a
+  pub attained : (tuple : Tuple) × IsInRow row tuple × (node (times_of tuple) i -ℤ node (times_of tuple) j ≡ a)
 
 -- the bound is on two of the columns from 0 to m, and is the least one
 pub record IsOwnBound (row : Row) (m : ℕ) (bound : Bound) : Type 0 where
   pub left : bound.left ≤ m
   pub right : bound.right ≤ m
   pub apart : bound.left ≢ bound.right
-  pub least : IsLeastBound row bound.left bound.right bound.most
+  pub least : IsLeastRowBound row bound.left bound.right bound.most
 
 -- bounds row by row: by their left columns, and then by their right ones
 abbrev pub ComesBefore : Bound → Bound → Type 0
@@ -72,14 +73,14 @@ ComesBefore b c = ordering_then (nat_cmp b.left c.left) (nat_cmp b.right c.right
 pub record IsAnswerRow (K m : ℕ) (row : Row) : Type 0 where
   pub period : AllByRecursion (HasPeriod K) row.values
   pub own : AllByRecursion (IsOwnBound row m) row.bounds
-  pub all : (i j : ℕ) (a : ℤ) → i ≤ m → j ≤ m → i ≢ j → IsLeastBound row i j a → Contains row.bounds (record { left = i; right = j; most = a })
+  pub all : (i j : ℕ) (a : ℤ) → i ≤ m → j ≤ m → i ≢ j → IsLeastRowBound row i j a → Contains row.bounds (record { left = i; right = j; most = a })
   pub ordered : AllPairs ComesBefore row.bounds
 
 -- ---- the rows of one cell
 
 -- with one time column, every member of the first row comes before those of the second, and the next integer of the cell is between: the rows are the maximal disjoint intervals, ascending
 abbrev pub IsApart : ℕ → Row → Row → Type 0
-IsApart K r s = (t u : Tuple) → IsInRow r t → IsInRow s u → (time_at (times_of t) 1 +ℤ pos K) <ℤ time_at (times_of u) 1
+IsApart K r s = (t u : Tuple) → IsInRow r t → IsInRow s u → (node (times_of t) 1 +ℤ pos K) <ℤ node (times_of u) 1
 
 -- the answers in the row's cell are the members of one zone, which is that cell with some bounds
 pub record IsOneZone (answers : Tuple → Type 0) (row : Row) : Type 0 where

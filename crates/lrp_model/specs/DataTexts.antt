@@ -1,5 +1,5 @@
 -- Data texts, and lists of them as a domain has them.
-use Rattle.std.specs.Prelude.{ℕ, ◌<◌, ◌^◌, List, length}
+use Rattle.std.specs.Prelude.{◌<◌, ◌^◌, List, length}
 use Rattle.std.specs.List.{AllByRecursion}
 use Rattle.std.specs.Str.{IsUtf8}
 use Rattle.lrp_model.specs.Texts.{Text, FitsText, Ascends}

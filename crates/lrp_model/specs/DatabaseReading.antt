@@ -7,7 +7,7 @@ use Rattle.lrp_model.specs.declared.tokens.Fault.TheVariants.{Syntax as syntax, 
 use Rattle.lrp_model.specs.Tokens.{Placed, Tokens, Spells}
 use Rattle.lrp_model.specs.Lexing.{tokens, after, start}
 use Rattle.lrp_model.specs.Refused.{TextOf, IsRefusedAt}
-use Rattle.lrp_model.specs.Faults.{first}
+use Rattle.lrp_model.specs.Faults.{earliest}
 use Rattle.lrp_model.specs.declared.relations.Relation.{Relation}
 use Rattle.lrp_model.specs.declared.faults.DbFault.{DbFault}
 use Rattle.lrp_model.specs.declared.faults.DbKind.{DbKind}
@@ -44,11 +44,11 @@ pub record IsNoDatabaseText (bytes : List ℕ) (k : Fault) (place : Place) : Typ
   pub refused : IsRefusedAt (TextOf database_text FitsDatabase) (tokens bytes) k bad tail
   pub place_is : place ≡ bad.place
 
--- a lawful text, whose tree has this fault as its first
+-- a lawful text, whose tree has this fault as its earliest
 pub record HasDatabaseFault (bytes : List ℕ) (fault : DbFault) : Type 0 where
   pub tree : List RawRelation
   pub text : IsDatabaseText bytes tree
-  pub found : first database_standing (database_faults tree) ≡ Some fault
+  pub found : earliest database_standing (database_faults tree) ≡ Some fault
 
 -- the one fault that is reported: of the bytes, else of the grammar, else of the tree; no database names a relation that is not its own
 abbrev pub IsDatabaseFaultOf : List ℕ → DbKind → DbFault → Type 0

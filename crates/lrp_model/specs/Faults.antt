@@ -20,9 +20,9 @@ earlier stands f None = Some f
 earlier stands f (Some g) = match_ordering (slice_cmp nat_cmp (stands g) (stands f)) (Some g) (Some f) (Some f)
 
 -- the earliest fault of a list, where there is one
-abbrev pub first : {F : Type 0} → (F → List ℕ) → List F → Option F
-first stands [] = None
-first stands (f ∷ fs) = earlier stands f (first stands fs)
+abbrev pub earliest : {F : Type 0} → (F → List ℕ) → List F → Option F
+earliest stands [] = None
+earliest stands (f ∷ fs) = earlier stands f (earliest stands fs)
 
 -- ---- faults that databases and queries share
 

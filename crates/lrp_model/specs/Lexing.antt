@@ -1,5 +1,6 @@
 -- From bytes to tokens with their places.
-use Rattle.std.specs.Prelude.{◌+◌, ◌-◌, ◌*◌, ℕ, zero, suc, Bool, true, false, ◌||◌, ◌&&◌, ◌==◌, nat_le, List, [], ◌∷◌, length, Result, Ok, Err, if◌then◌else◌, codes}
+use Rattle.std.specs.Prelude.{◌+◌, ◌-◌, ◌*◌, ℕ, zero, suc, Bool, true, false, ◌||◌, ◌==◌, nat_le, List, [], ◌∷◌, length, Result, Ok, Err, if◌then◌else◌, codes}
+use Rattle.std.specs.Char.{is_ascii_digit, is_ascii_lowercase, is_ascii_uppercase}
 use Rattle.std.specs.Str.{bytes_eq}
 use Rattle.lrp_model.specs.declared.tokens.Symbol.{Symbol}
 use Rattle.lrp_model.specs.declared.tokens.Symbol.TheVariants.{Open, Close, OpenBrace, CloseBrace, Comma, Colon, Semicolon, Bar, Plus, Minus, Le, Ge, Lt, Gt, Equals}
@@ -8,18 +9,13 @@ use Rattle.lrp_model.specs.declared.tokens.Place.{Place}
 use Rattle.lrp_model.specs.Tokens.{Token, Tokens}
 use Rattle.lrp_model.specs.Tokens.Token.{name_token, word_token, number_token, text_token, symbol_token, end_token, bad_token}
 
-abbrev pub is_between : ℕ → ℕ → ℕ → Bool
-is_between low high b = nat_le low b && nat_le b high
-
 -- a to z, A to Z or _
 abbrev pub is_letter : ℕ → Bool
-is_letter b = is_between 97 122 b || is_between 65 90 b || (b == 95)
+is_letter b = is_ascii_lowercase b || is_ascii_uppercase b || (b == 95)
 
-abbrev pub is_digit : ℕ → Bool
-is_digit b = is_between 48 57 b
-
+-- a letter or a digit
 abbrev pub is_name_byte : ℕ → Bool
-is_name_byte b = is_letter b || is_digit b
+is_name_byte b = is_letter b || is_ascii_digit b
 
 -- space, tab, carriage return or line feed
 abbrev pub is_blank : ℕ → Bool
@@ -145,7 +141,7 @@ unfoldable pub scan : List ℕ → Scanned
 scan [] = record { token = end_token; taken = []; left = [] }
 scan (b ∷ bs) =
     if is_letter b then record { token = word_or_name (run is_name_byte (b ∷ bs)); taken = run is_name_byte (b ∷ bs); left = behind_run is_name_byte (b ∷ bs) } else
-    if is_digit b then record { token = number_token (value_from 0 (run is_digit (b ∷ bs))); taken = run is_digit (b ∷ bs); left = behind_run is_digit (b ∷ bs) } else
+    if is_ascii_digit b then record { token = number_token (value_from 0 (run is_ascii_digit (b ∷ bs))); taken = run is_ascii_digit (b ∷ bs); left = behind_run is_ascii_digit (b ∷ bs) } else
     if b == 34 then text_scanned (text_from false bs) else
     symbol_from b bs
 

@@ -1,2 +1,1 @@
 -- Repeating points over all integers.
-use Rattle.std.specs.Prelude.{◌-ℤ◌}

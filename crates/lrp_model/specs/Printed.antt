@@ -46,7 +46,7 @@ sort_bytes (Named n) = n
 abbrev pub column_bytes : Column → List ℕ
 column_bytes c = c.name ++ (codes ": " ++ sort_bytes c.sort)
 
--- the name of a time column by its number, from 1 on
+-- the name of a time column by its number, from 1 on; a bound's columns are there, so the first case is not met
 abbrev pub time_name : List Column → ℕ → Identifier
 time_name [] i = []
 time_name (c ∷ cs) i = if is_time c.sort then (if i == 1 then c.name else time_name cs (i - 1)) else time_name cs i

@@ -86,7 +86,7 @@ end_line false (Some token) = codes "more " ++ (token ++ codes "\n")
 end_line true None = codes "{\"more\":null}\n"
 end_line true (Some token) = codes "{\"more\":\"" ++ (token ++ codes "\"}\n")
 
--- the token of the last tuple, where the flag says that more is to come
+-- the token of the last tuple, where the flag says that more is to come; a page with more to come has a last tuple
 abbrev pub token_behind : List ℕ → Bool → Option Tuple → Option (List ℕ)
 token_behind digest false last = None
 token_behind digest true None = None

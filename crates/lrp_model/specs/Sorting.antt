@@ -1,11 +1,11 @@
--- The sort faults of a raw query over a database, and the first of them.
+-- The sort faults of a raw query over a database, and the earliest of them.
 use Rattle.std.specs.Prelude.{◌≡◌, ◌+◌, ◌==◌, ◌||◌, not, nat_lt, ℕ, Bool, true, false, List, [], ◌∷◌, ◌++◌, map, reverse, flat_map, find, length, if◌then◌else◌, Option, Some, None, option_map}
 use Rattle.std.specs.List.{list_any}
 use Rattle.std.specs.Str.{bytes_eq}
 use Rattle.lrp_model.specs.Texts.{Identifier, without}
 use Rattle.lrp_model.specs.Rows.{relation_named}
 use Rattle.lrp_model.specs.Sorts.{same_sort, is_time, is_data}
-use Rattle.lrp_model.specs.Faults.{standing, first, fault_if, is_named_in, ninth}
+use Rattle.lrp_model.specs.Faults.{standing, earliest, fault_if, is_named_in, ninth}
 use Rattle.lrp_model.specs.Kinds.{query_number}
 use Rattle.lrp_model.specs.declared.tokens.Place.{Place}
 use Rattle.lrp_model.specs.declared.relations.Sort.{Sort}
@@ -32,7 +32,7 @@ query_standing f = standing f.place (query_number f.kind)
 
 -- ---- binders and the sorts of terms
 
--- the quantifiers and head columns around a formula, the innermost first
+-- the quantifiers and head columns around a formula, the innermost earliest
 abbrev pub Binders : Type 0
 Binders = List RawColumn
 
@@ -101,7 +101,7 @@ kind_faults bs (Shifted n plus) p = variable_faults (binder_sort bs n) true p
 abbrev pub term_faults : Binders → RawTerm → List QueryFault
 term_faults bs t = kind_faults bs t.kind t.place
 
--- Sort: a term whose sort is not that of its column
+-- Sort: a term whose sort is not that of its column. Terms behind the last column have none: their number is the fault of the atom
 abbrev pub column_faults : Binders → List RawTerm → List Column → List QueryFault
 column_faults bs (t ∷ ts) (c ∷ cs) = fault_if (differs (term_sort bs t) c.sort) (query_fault WrongSort t.place) ++ column_faults bs ts cs
 column_faults bs _ _ = []
@@ -193,7 +193,7 @@ place_of (raw_group p f) = p
 place_of (raw_exists p c f) = p
 place_of (raw_forall p c f) = p
 
--- Wide: a formula with too many free variables, these names counted beside its own; at its first token, before the faults inside it
+-- Wide: a formula with too many free variables, these names counted beside its own; at its earliest token, before the faults inside it
 abbrev pub widened : Binders → List Identifier → RawForm → List QueryFault → List QueryFault
 widened bs bound f inside = fault_if (too_many bs (bound ++ free_names f)) (query_fault Wide (place_of f)) ++ inside
 
@@ -232,4 +232,4 @@ IsWellSorted db q = query_faults db q ≡ []
 
 -- the sort fault that is reported
 abbrev pub IsSortFault : List Relation → RawQuestion → QueryFault → Type 0
-IsSortFault db q f = first query_standing (query_faults db q) ≡ Some f
+IsSortFault db q f = earliest query_standing (query_faults db q) ≡ Some f

@@ -146,7 +146,8 @@ fn copy_existential(
     binder: &RawColumn,
     f: &RawFormula,
 ) -> Result<RawFormula, Memory>
-    ensures { IfOk result (λ made. raw_form_of made ≡ raw_exists place binder.now (raw_form_of f.now)) }
+    ensures { IfOk result (λ made.
+        raw_form_of made ≡ raw_exists place binder.now (raw_form_of f.now)) }
 {
     let f = copy_raw(alloc, f)?;
     some(alloc, place, binder, f)
@@ -159,7 +160,8 @@ fn copy_universal(
     binder: &RawColumn,
     f: &RawFormula,
 ) -> Result<RawFormula, Memory>
-    ensures { IfOk result (λ made. raw_form_of made ≡ raw_forall place binder.now (raw_form_of f.now)) }
+    ensures { IfOk result (λ made.
+        raw_form_of made ≡ raw_forall place binder.now (raw_form_of f.now)) }
 {
     let f = copy_raw(alloc, f)?;
     every(alloc, place, binder, f)

@@ -51,11 +51,20 @@ pub enum Side {
 }
 
 /// A bound as it is written.
-#[derive(Drop)]
 pub struct RawBound {
     pub left: Located<Name>,
     pub op: BoundOp,
     pub side: Side,
+}
+
+impl Drop for RawBound {
+    fn drop(self) {
+        let RawBound {
+            left: _left,
+            op: _op,
+            side: _side,
+        } = self;
+    }
 }
 
 /// A row as it is written.
@@ -66,11 +75,20 @@ pub struct RawRow {
 }
 
 /// A relation as it is written; a row's place is that of its parenthesis.
-#[derive(Drop)]
 pub struct RawRelation {
     pub name: Located<Name>,
     pub columns: List<RawColumn>,
     pub rows: List<Located<RawRow>>,
+}
+
+impl Drop for RawRelation {
+    fn drop(self) {
+        let RawRelation {
+            name: _name,
+            columns: _columns,
+            rows: _rows,
+        } = self;
+    }
 }
 
 impl<T: Copies> Copies for Located<T> {

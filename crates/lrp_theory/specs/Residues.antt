@@ -13,8 +13,8 @@ pub record IsTightAll (n : ℕ) (k : ℤ) (r : ℕ → ℤ) (b : ℕ → ℕ →
 
 -- f is the greatest number of the residue r modulo k that is at most x
 pub record IsFloor (k r x f : ℤ) : Type 0 where
-  pub low : f ≤ℤ x
-  pub residue : IsMember r k f
+  pub below : f ≤ℤ x
+  pub tight : IsMember r k f
   pub greatest : (b : ℤ) → b ≤ℤ x → IsMember r k b → b ≤ℤ f
 
 -- each node below n has a number of its residue
