@@ -3,10 +3,10 @@ pub mod Keys
 pub mod Lengthened
 pub mod Linked
 pub mod Lines
+pub mod Places
 pub mod Removed
 pub mod Tables
 pub mod Unlinked
 pub mod Copying
-pub mod Differences
 pub mod Entries
 pub mod Shortened

@@ -1,10 +1,9 @@
 -- Cells in line: where one stands, and what a change of one makes of the line.
 use Rattle.std.proofs.Common.{◌≡◌, ℕ, zero, suc, ◌+◌, ◌-◌, ◌<◌, ◌≤◌, ◌⊎◌, inl, inr, Bool, true, false, cond, List, [], ◌∷◌, ◌++◌, length, take, Some, None, Ordering, Less, Equal, Greater, refl, sym, ap, subst, ◌∙◌, arith}
 use Rattle.std.specs.Prelude.{slice_get, slice_set, slice_index_or, All, Contains, IsTrue, ◌↔◌, Result, Ok, Err, OnErr}
-use Rattle.std.proofs.lemmas.Option.{get_or_from_slice_get}
-use Rattle.std.specs.List.{AllByRecursion, remove}
+use Rattle.std.specs.List.{AllByRecursion, insert, remove}
 use Rattle.std.specs.List.Sorted.{IsStrictlySortedBy}
-use Rattle.std.specs.Ordering.{match_ordering, ordering_reverse, is_eq, is_gt}
+use Rattle.std.specs.Ordering.{match_ordering, ordering_reverse, is_eq}
 use Rattle.std.specs.Cmp.{eq_by_cmp_equiv, tied_itself}
 use Rattle.std.specs.Map.{keys_of, remove_entry}
 use Rattle.std.specs.BTreeMap.{is_at, insert_entry}
@@ -17,7 +16,7 @@ use Rattle.lrp_model.specs.declared.tuples.Cell.{Cell}
 use Rattle.lrp_slots.specs.declared.chains.Chain.{Chain}
 use Rattle.lrp_slots.specs.Lists.{cell_cmp}
 use Rattle.lrp_slots.specs.Links.{chain_at, IsLengthened}
-use Rattle.lrp_slots.specs.Lines.{IsLine, IsBehindAll, StandsAt, StandOnce}
+use Rattle.lrp_slots.specs.Lines.{IsLine, IsBehindAll, IsBetween, IsGap, StandsAt, StandOnce}
 use Rattle.lrp_slots.proofs.Tables.{exact_cells, cells_total, same_cell, other_cell}
 
 same_some : {X : Type 0} {x y : X} → Some x ≡ Some y → x ≡ y
@@ -66,13 +65,6 @@ in_order (x ∷ es) line zero (suc j) e f lt p q = subst (λ (g : Cell × Chain)
 in_order (x ∷ es) line (suc i) (suc j) e f lt p q = in_order es (rest_of x es line) i j e f (omega arith) p q
 
 -- ---- halving
-
--- a cell comes behind all before the one place, and before all from the other one on
-pub record IsBetween (es : List (Cell × Chain)) (k : Cell) (low high : ℕ) : Type 0 where
-  pub order : low ≤ high
-  pub within : high ≤ length es
-  pub before : (j : ℕ) (e : Cell × Chain) → j < low → slice_get es j ≡ Some e → cell_cmp k e.0 ≡ Greater
-  pub behind : (j : ℕ) (e : Cell × Chain) → high ≤ j → slice_get es j ≡ Some e → cell_cmp k e.0 ≡ Less
 
 no_entry : (es : List (Cell × Chain)) (j : ℕ) (e : Cell × Chain) → length es ≤ j → slice_get es j ≡ Some e → ⊥
 no_entry [] j e le p = cc
@@ -126,29 +118,23 @@ read_or [] i d lt = absurd (omega arith)
 read_or (x ∷ es) zero d lt = refl
 read_or (x ∷ es) (suc i) d lt = read_or es i d (omega arith)
 
--- what the entry in the middle says
-pub less_there : (es : List (Cell × Chain)) (k : Cell) (low high middle : ℕ) (d : Cell × Chain) → IsLine es → IsBetween es k low high → low ≤ middle → middle < high
-    → cell_cmp k (slice_index_or es middle d).0 ≡ Less → IsBetween es k low middle
-less_there es k low high middle d line b le lt less =
-    let w = b.within in
-    goes_down es k low high middle (slice_index_or es middle d) line b le lt (read_or es middle d (omega (arith, w, lt))) less
+-- the cell of a gap is put in there
+pub put_at_gap : (es : List (Cell × Chain)) (k : Cell) (v : Chain) (i : ℕ) → IsGap es k i → insert es i (k, v) ≡ insert_entry cell_cmp es k v
+put_at_gap [] k v zero gap = refl
+put_at_gap [] k v (suc i) gap = absurd (let w = gap.within in omega (arith, w))
+put_at_gap (x ∷ es) k v zero gap = sym (ap (λ o. match_ordering o ((k, v) ∷ x ∷ es) ((x.0, v) ∷ es) (x ∷ insert_entry cell_cmp es k v)) (gap.behind 0 x (omega arith) refl))
+put_at_gap (x ∷ es) k v (suc i) gap =
+    ap (λ l. x ∷ l) (put_at_gap es k v i (record {
+      order = omega arith;
+      within = let w = gap.within in omega (arith, w);
+      before = λ j e lt p. gap.before (suc j) e (omega arith) p;
+      behind = λ j e from p. gap.behind (suc j) e (omega arith) p;
+    }))
+    ∙ sym (ap (λ o. match_ordering o ((k, v) ∷ x ∷ es) ((x.0, v) ∷ es) (x ∷ insert_entry cell_cmp es k v)) (gap.before 0 x (omega arith) refl))
 
-pub greater_there : (es : List (Cell × Chain)) (k : Cell) (low high middle : ℕ) (d : Cell × Chain) → IsLine es → IsBetween es k low high → low ≤ middle → middle < high
-    → cell_cmp k (slice_index_or es middle d).0 ≡ Greater → IsBetween es k (middle + 1) high
-greater_there es k low high middle d line b le lt gt =
-    let w = b.within in
-    goes_up es k low high middle (slice_index_or es middle d) line b le lt (read_or es middle d (omega (arith, w, lt))) gt
-
-pub equal_there : (es : List (Cell × Chain)) (k : Cell) (low high middle : ℕ) (d : Cell × Chain) → IsBetween es k low high → middle < high
-    → cell_cmp k (slice_index_or es middle d).0 ≡ Equal → StandsAt es k middle
-equal_there es k low high middle d b lt same =
-    let w = b.within in
-    let within : middle < length es = omega (arith, w, lt) in
-    record { within = within; entry = slice_index_or es middle d; read = read_or es middle d within; same = same }
-
--- no place is left
-pub nowhere : (es : List (Cell × Chain)) (k : Cell) (low high : ℕ) → IsLine es → IsBetween es k low high → high ≤ low → chain_at es k ≡ None
-nowhere es k low high line b le = lookup_at_gap cells_total k es low line b.before (λ e p. b.behind low e le p)
+-- it is missing
+pub gap_none : (es : List (Cell × Chain)) (k : Cell) (i : ℕ) → IsLine es → IsGap es k i → chain_at es k ≡ None
+gap_none es k i line gap = lookup_at_gap cells_total k es i line gap.before (λ e p. gap.behind i e (omega arith) p)
 
 -- ---- a cell that stands in line
 
@@ -259,12 +245,8 @@ one_more (x ∷ es) zero e at = ap (λ (y : Cell × Chain). y ∷ []) (sym (same
 one_more (x ∷ es) (suc i) e at = let later : suc (i + 1) ≡ suc i + 1 = omega arith in ap (λ l. x ∷ l) (one_more es i e at) ∙ ap (λ n. take n (x ∷ es)) later
 
 -- one more of a line goes to the end of those before it
-pub one_in : (es line : List (Cell × Chain)) (i : ℕ) (d : Cell × Chain) → IsLine line → i < length line → es ≡ take i line
-    → insert_entry cell_cmp es (slice_index_or line i d).0 (slice_index_or line i d).1 ≡ take (i + 1) line
-one_in es line i d ordered lt e =
-    let read = read_or line i d lt in
-    ap (λ l. insert_entry cell_cmp l (slice_index_or line i d).0 (slice_index_or line i d).1) e
-    ∙ sym (goes_behind (take i line) (slice_index_or line i d).0 (slice_index_or line i d).1 (behind_before line i (slice_index_or line i d) ordered read)) ∙ one_more line i (slice_index_or line i d) read
+pub one_in_read : (line : List (Cell × Chain)) (i : ℕ) (e : Cell × Chain) → IsLine line → slice_get line i ≡ Some e → insert_entry cell_cmp (take i line) e.0 e.1 ≡ take (i + 1) line
+one_in_read line i e ordered read = sym (goes_behind (take i line) e.0 e.1 (behind_before line i e ordered read)) ∙ one_more line i e read
 
 -- ---- a cell that is put in
 
@@ -392,18 +374,19 @@ new_line line tree old new es i e ordered =
     let same : new ++ tree ≡ es = only_line new tree i.empty ∙ e in
     (record { one = inr i.empty; ordered = subst IsLine (sym same) ordered }, same)
 
--- a cell behind the line
-pub put_behind : (line tree old new : List (Cell × Chain)) (k : Cell) (v : Chain) → IsInLine line tree old → IsBehindAll k line → new ≡ line ++ (k, v) ∷ []
-    → StandOnce new tree × (new ++ tree ≡ insert_entry cell_cmp old k v)
-put_behind line tree old new k v l behind e =
-    new_line line tree old new (insert_entry cell_cmp old k v) l (e ∙ goes_behind line k v behind ∙ ap (λ es. insert_entry cell_cmp es k v) l.view) (put_line old k v (subst IsLine l.view l.ordered))
+-- a cell that was put into the line
+pub put_in_line : (line tree old new : List (Cell × Chain)) (k : Cell) (v : Chain) → IsInLine line tree old → new ≡ insert_entry cell_cmp line k v → StandOnce new tree × (new ++ tree ≡ insert_entry cell_cmp old k v)
+put_in_line line tree old new k v l e =
+    new_line line tree old new (insert_entry cell_cmp old k v) l (e ∙ ap (λ es. insert_entry cell_cmp es k v) l.view) (put_line old k v (subst IsLine l.view l.ordered))
 
--- another chain for a cell in line
-pub put_instead : (line tree old new : List (Cell × Chain)) (k : Cell) (v : Chain) (i : ℕ) → IsInLine line tree old → StandsAt line k i → new ≡ slice_set line i (k, v)
-    → StandOnce new tree × (new ++ tree ≡ insert_entry cell_cmp old k v)
-put_instead line tree old new k v i l s e =
-    new_line line tree old new (insert_entry cell_cmp old k v) l (e ∙ set_there line k v i s.entry l.ordered s.read s.same ∙ ap (λ es. insert_entry cell_cmp es k v) l.view)
-    (put_line old k v (subst IsLine l.view l.ordered))
+-- a cell that was taken out of the line
+pub taken_in_line : (line tree old new : List (Cell × Chain)) (k : Cell) → IsInLine line tree old → new ≡ remove_entry (is_at (cell_cmp k)) line → StandOnce new tree × (new ++ tree ≡ remove_entry (is_at (cell_cmp k)) old)
+taken_in_line line tree old new k l e =
+    new_line line tree old new (remove_entry (is_at (cell_cmp k)) old) l (e ∙ ap (remove_entry (is_at (cell_cmp k))) l.view) (taken_line old k (subst IsLine l.view l.ordered))
+
+-- a line that is as it was
+pub left_in_line : (line tree old new : List (Cell × Chain)) → IsInLine line tree old → new ≡ line → StandOnce new tree × (new ++ tree ≡ old)
+left_in_line line tree old new l e = new_line line tree old new old l (e ∙ l.view) (subst IsLine l.view l.ordered)
 
 -- the line in a tree, with one cell more
 pub put_moved : (line tree old none made : List (Cell × Chain)) (k : Cell) (v : Chain) → IsInLine line tree old → none ≡ [] → made ≡ insert_entry cell_cmp line k v → none ++ made ≡ insert_entry cell_cmp old k v
@@ -416,17 +399,6 @@ new_tree line tree old new es i e = ap (λ l. l ++ new) i.empty ∙ e
 -- what stands in a tree alone stands once
 pub stands_in_tree : (line tree es : List (Cell × Chain)) → line ≡ [] → tree ≡ es → IsLine es → StandOnce line tree
 stands_in_tree line tree es none e ordered = record { one = inl none; ordered = subst (λ l. IsLine (l ++ tree)) (sym none) (subst IsLine (sym e) ordered) }
-
--- what is found in line is found
-pub found_there : (line tree old : List (Cell × Chain)) (k : Cell) (i : ℕ) (e : Cell × Chain) → IsInLine line tree old → (s : StandsAt line k i) → e ≡ slice_index_or line i e → Some e.1 ≡ chain_at old k
-found_there line tree old k i e l s at =
-    ap (λ (f : Cell × Chain). Some f.1) (at ∙ get_or_from_slice_get line i s.entry e s.read) ∙ sym (stands line k i l.ordered s) ∙ ap (λ es. chain_at es k) l.view
-
--- a test for after
-pub comes_after : (o : Ordering) → IsTrue (is_gt o) → o ≡ Greater
-comes_after Less t = cc
-comes_after Equal t = cc
-comes_after Greater t = refl
 
 -- what holds where a result is an error
 pub on_err : {A B : Type 0} (r : Result A B) (X : Type 0) → X → OnErr r X

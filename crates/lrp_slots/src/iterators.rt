@@ -14,7 +14,7 @@ use std::marker::Model;
 /// The cells with their chains in order, seen as the list of those that are left.
 #[derive(Drop)]
 pub(crate) struct Entries<'a> {
-    pub(crate) line: &'a [(Cell, Chain)],
+    pub(crate) line: &'a [(Narrow, Chain)],
     pub(crate) tree: Branches<'a>,
 }
 
@@ -22,10 +22,11 @@ impl<'a> Model for Entries<'a> {
     ghost use Rattle.std.specs.Prelude.{List, ◌++◌};
     ghost use Rattle.lrp_model.specs.declared.tuples.Cell.{Cell};
     ghost use Rattle.lrp_slots.specs.declared.chains.Chain.{Chain};
+    ghost use Rattle.lrp_slots.specs.Narrow.{wide_entries};
 
     ghost Value = { List (Cell × Chain) };
 
-    ghost view = { λ a. a.line.now ++ a.tree };
+    ghost view = { λ a. wide_entries a.line.now ++ a.tree };
 }
 
 impl<'a> Iterator for Entries<'a> {
@@ -38,7 +39,7 @@ impl<'a> Iterator for Entries<'a> {
     fn next(&mut self) -> Option<(Cell, Chain)> {
         if let Some((entry, rest)) = self.line.split_first() {
             self.line = rest;
-            return Some(*entry);
+            return Some((entry.0.cell(), entry.1));
         }
         self.tree.next()
     }
@@ -169,7 +170,8 @@ impl<'a, V> Model for Values<'a, V> {
 impl<'a, V> Values<'a, V> {
     // The values of a chain, if there is one.
     pub(crate) fn along(links: &'a Slab<Link<V>>, held: Option<Chain>) -> Self
-        requires { IfSome held (λ chain. AreHeld (get links.now) (chain_keys (get links.now) chain)) }
+        requires { IfSome held (λ chain. AreHeld (get links.now)
+            (chain_keys (get links.now) chain)) }
         ensures { result ≡ list_of (get links.now) held }
     {
         match held {

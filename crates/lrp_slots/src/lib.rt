@@ -4,12 +4,14 @@
 mod chains;
 mod held;
 mod iterators;
+mod line;
 mod narrow;
-mod order;
 mod refusal;
+mod remembered;
 mod slots;
 mod tree;
 
 pub use iterators::{Cells, Lists, Values};
 pub use refusal::Refusal;
+pub use remembered::Remembered;
 pub use slots::{Ends, Slots};

@@ -1,5 +1,5 @@
 // Lists of values by cell in slots of one vector.
-ghost use Rattle.std.specs.Prelude.{◌≡◌, ◌≢◌, Err, IsTrue, ◌+◌, ◌-◌, ◌<◌, ◌≤◌, ◌↔◌, All, Some, None, [], ◌∷◌, ◌++◌, length, sum_by, slice_get, IsSome, IsOk, IfOk, OnOk, OnErr, OnSome, IfSome, IfNone, option_copied};
+ghost use Rattle.std.specs.Prelude.{◌≡◌, ◌≢◌, Err, Ok, true, false, IsTrue, ◌+◌, ◌-◌, ◌<◌, ◌≤◌, ◌↔◌, All, Some, None, [], ◌∷◌, ◌++◌, length, sum_by, slice_get, IsSome, IsOk, IfOk, OnOk, OnErr, OnSome, IfSome, IfNone, option_copied};
 ghost use Rattle.std.specs.List.{remove};
 ghost use Rattle.std.specs.FinMap as finite;
 ghost use Rattle.lrp_slots.specs.Lists.{list_at, set_list, append_all};
@@ -101,12 +101,16 @@ impl<V: Drop> Slots<V> {
 
     /// Appends a value to a cell's list. The cell is looked up once, and a value that is refused is dropped.
     pub fn append(&mut self, cell: &Cell, value: V) -> Result<(), Memory>
-        ensures ok { OnOk result (self.new.lists ≡ finite.insert self.old.lists cell.now (list_at self.old.lists cell.now ++ value ∷ [])) }
+        ensures ok { OnOk result (self.new.lists
+            ≡ finite.insert self.old.lists cell.now
+            (list_at self.old.lists cell.now ++ value ∷ [])) }
         ensures err { OnErr result (self.new.lists ≡ self.old.lists) }
 
         // A spare slot serves each held cell.
-        ensures succeeds { 0 < self.old.spare → IsSome (finite.get self.old.lists cell.now) → IsOk result }
-        ensures taken { 0 < self.old.spare → IsSome (finite.get self.old.lists cell.now) → self.new.spare + 1 ≡ self.old.spare }
+        ensures succeeds { 0 < self.old.spare → IsSome (finite.get self.old.lists cell.now)
+            → IsOk result }
+        ensures taken { 0 < self.old.spare → IsSome (finite.get self.old.lists cell.now)
+            → self.new.spare + 1 ≡ self.old.spare }
         ensures lowered { self.old.spare ≤ self.new.spare + 1 }
         ensures kept { OnErr result (self.old.spare ≤ self.new.spare) }
     {
@@ -116,17 +120,38 @@ impl<V: Drop> Slots<V> {
         Ok(())
     }
 
+    /// Begins the list of a cell that is not held yet with a value, and tells whether it was so. The cell is looked up once.
+    pub fn begin(&mut self, cell: &Cell, value: V) -> Result<bool, Memory>
+        ensures absent { result ≡ Ok true → finite.get self.old.lists cell.now ≡ None }
+        ensures put { result ≡ Ok true → self.new.lists
+            ≡ finite.insert self.old.lists cell.now (value ∷ []) }
+        ensures held { result ≡ Ok false → IsSome (finite.get self.old.lists cell.now) }
+        ensures left { result ≢ Ok true → self.new.lists ≡ self.old.lists }
+    {
+        let key = vacant_key(&mut self.links)?;
+        if !self.chains.begin(cell, key)? {
+            return Ok(false);
+        }
+        push(&mut self.links, None, value);
+        Ok(true)
+    }
+
     /// Appends a value to a cell's list, unless the cell is not held and there are as many cells as the cap.
     ///
     /// As long as there are fewer cells than the cap, the cell is looked up once.
     pub fn append_within(&mut self, cell: &Cell, value: V, cap: usize) -> Result<(), Refusal>
-        ensures ok { OnOk result (self.new.lists ≡ finite.insert self.old.lists cell.now (list_at self.old.lists cell.now ++ value ∷ [])) }
+        ensures ok { OnOk result (self.new.lists
+            ≡ finite.insert self.old.lists cell.now
+            (list_at self.old.lists cell.now ++ value ∷ [])) }
         ensures err { OnErr result (self.new.lists ≡ self.old.lists) }
-        ensures too_many { (result ≡ Err TooManyCells) ↔ ((finite.get self.old.lists cell.now ≡ None) × (cap ≤ finite.len self.old.lists)) }
+        ensures too_many { (result ≡ Err TooManyCells)
+            ↔ ((finite.get self.old.lists cell.now ≡ None) × (cap ≤ finite.len self.old.lists)) }
 
         // A spare slot serves each held cell.
-        ensures succeeds { 0 < self.old.spare → IsSome (finite.get self.old.lists cell.now) → IsOk result }
-        ensures taken { 0 < self.old.spare → IsSome (finite.get self.old.lists cell.now) → self.new.spare + 1 ≡ self.old.spare }
+        ensures succeeds { 0 < self.old.spare → IsSome (finite.get self.old.lists cell.now)
+            → IsOk result }
+        ensures taken { 0 < self.old.spare → IsSome (finite.get self.old.lists cell.now)
+            → self.new.spare + 1 ≡ self.old.spare }
         ensures lowered { self.old.spare ≤ self.new.spare + 1 }
         ensures kept { OnErr result (self.old.spare ≤ self.new.spare) }
     {
@@ -139,7 +164,8 @@ impl<V: Drop> Slots<V> {
 
     // Whether a cell is not held, and there are cap cells or more.
     fn is_one_too_many(&self, cell: &Cell, cap: usize) -> bool
-        ensures { IsTrue result ↔ ((finite.get self.now.lists cell.now ≡ None) × (cap ≤ finite.len self.now.lists)) }
+        ensures { IsTrue result ↔ ((finite.get self.now.lists cell.now ≡ None)
+            × (cap ≤ finite.len self.now.lists)) }
     {
         self.len() >= cap && self.count(cell) == 0
     }
@@ -170,8 +196,10 @@ impl<V: Drop> Slots<V> {
     /// The first and the last value of a cell, which is looked up once.
     pub fn ends(&self, cell: &Cell) -> Option<Ends<'_, V>>
         ensures none { IfNone result (finite.get self.now.lists cell.now ≡ None) }
-        ensures first { IfSome result (λ ends. slice_get (list_at self.now.lists cell.now) 0 ≡ Some ends.first.now) }
-        ensures last { IfSome result (λ ends. slice_get (list_at self.now.lists cell.now) (length (list_at self.now.lists cell.now) - 1) ≡ Some ends.last.now) }
+        ensures first { IfSome result (λ ends. slice_get (list_at self.now.lists cell.now) 0
+            ≡ Some ends.first.now) }
+        ensures last { IfSome result (λ ends. slice_get (list_at self.now.lists cell.now)
+            (length (list_at self.now.lists cell.now) - 1) ≡ Some ends.last.now) }
     {
         let chain = *self.chains.get(cell)?;
         let links = &self.links;
@@ -184,7 +212,8 @@ impl<V: Drop> Slots<V> {
     /// Takes the value at a place out of a cell's list. The cell goes with its last value.
     pub fn remove(&mut self, cell: &Cell, i: usize) -> Option<V>
         ensures value { result ≡ slice_get (list_at self.old.lists cell.now) i }
-        ensures lists { OnSome result (self.new.lists ≡ set_list self.old.lists cell.now (remove (list_at self.old.lists cell.now) i)) }
+        ensures lists { OnSome result (self.new.lists
+            ≡ set_list self.old.lists cell.now (remove (list_at self.old.lists cell.now) i)) }
         ensures spare { OnSome result (self.new.spare ≡ self.old.spare + 1) }
         ensures none { IfNone result (self.new ≡ self.old) }
     {

@@ -1,5 +1,5 @@
 // The chains of cells that did not come in order.
-ghost use Rattle.std.specs.Prelude.{◌≡◌, ◌+◌, ◌<◌, ◌^◌, [], None, IfOk, IfSome, IsTrue, ◌↔◌, OnErr, OnOk, option_copied, length};
+ghost use Rattle.std.specs.Prelude.{◌≡◌, ◌≢◌, ◌+◌, ◌<◌, ◌^◌, [], None, Ok, true, false, IfOk, IfSome, IsSome, IsTrue, ◌↔◌, OnErr, OnOk, option_copied, unwrap_or, length};
 ghost use Rattle.std.specs.BTreeMap.{is_at, insert_entry, get};
 ghost use Rattle.std.specs.Map.{remove_entry};
 ghost use Rattle.lrp_slots.specs.Lists.{cell_cmp};
@@ -107,7 +107,8 @@ impl Tree {
     pub(crate) fn lengthen(&mut self, cell: &Cell, key: usize) -> Result<Option<Chain>, Memory>
         requires { IfSome (chain_at self.old cell.now) (λ chain. chain.count + 1 < 2 ^ 64) }
         ensures held { IfOk result (λ held. held ≡ chain_at self.old cell.now) }
-        ensures entries { IfOk result (λ held. self.new ≡ insert_entry cell_cmp self.old cell.now (extended held key)) }
+        ensures entries { IfOk result (λ held. self.new
+            ≡ insert_entry cell_cmp self.old cell.now (extended held key)) }
         ensures absent { OnErr result (chain_at self.old cell.now ≡ None) }
         ensures err { OnErr result (self.new ≡ self.old) }
     {
@@ -119,6 +120,24 @@ impl Tree {
         }
         self.insert(cell, extended(None, key))?;
         Ok(None)
+    }
+
+    /// Puts in a cell that is not held yet, in one slot, and tells whether it was so. The cell is looked up once.
+    pub(crate) fn begin(&mut self, cell: &Cell, key: usize) -> Result<bool, Memory>
+        ensures absent { result ≡ Ok true → chain_at self.old cell.now ≡ None }
+        ensures put { result ≡ Ok true → self.new
+            ≡ insert_entry cell_cmp self.old cell.now (extended None key) }
+        ensures held { result ≡ Ok false → IsSome (chain_at self.old cell.now) }
+        ensures left { result ≢ Ok true → self.new ≡ self.old }
+    {
+        if !self.wide.is_empty() {
+            return begin_at(&mut self.wide, *cell, key);
+        }
+        if let Some(narrow) = Narrow::of(cell) {
+            return begin_at(&mut self.narrow, narrow, key);
+        }
+        self.insert(cell, extended(None, key))?;
+        Ok(true)
     }
 
     /// Takes a cell and its chain out.
@@ -153,7 +172,8 @@ fn lengthen_at<K: Ord + Drop>(
 ) -> Result<Option<Chain>, Memory>
     requires { IfSome (get K.cmp chains.old at) (λ chain. chain.count + 1 < 2 ^ 64) }
     ensures held { IfOk result (λ held. held ≡ get K.cmp chains.old at) }
-    ensures entries { IfOk result (λ held. chains.new.entries ≡ insert_entry K.cmp chains.old.entries at (extended held key)) }
+    ensures entries { IfOk result (λ held. chains.new.entries
+        ≡ insert_entry K.cmp chains.old.entries at (extended held key)) }
     ensures absent { OnErr result (get K.cmp chains.old at ≡ None) }
     ensures err { OnErr result (chains.new.entries ≡ chains.old.entries) }
 {
@@ -170,6 +190,50 @@ fn lengthen_at<K: Ord + Drop>(
         }
         Err(_) => Err(Memory),
     }
+}
+
+// Puts in a key with its chain unless it is held, and gives the chain that it had. The key is looked up once.
+fn hold_at<K: Ord + Drop>(
+    chains: &mut BTreeMap<K, Chain>,
+    at: K,
+    fresh: Chain,
+) -> Result<Option<Chain>, Memory>
+    ensures held { IfOk result (λ held. held ≡ get K.cmp chains.old at) }
+    ensures entries { IfOk result (λ held. chains.new.entries
+        ≡ insert_entry K.cmp chains.old.entries at (unwrap_or held fresh)) }
+    ensures err { OnErr result (chains.new.entries ≡ chains.old.entries) }
+{
+    match chains.entry(at) {
+        Ok(Entry::Occupied(entry)) => {
+            // The chain is written as it was, since only of an entry that is written it is known what it leaves.
+            let chain = entry.into_mut();
+            let held = *chain;
+            *chain = held;
+            Ok(Some(held))
+        }
+        Ok(Entry::Vacant(entry)) => {
+            entry.insert(fresh);
+            Ok(None)
+        }
+        Err(_) => Err(Memory),
+    }
+}
+
+// Puts in a key that is not held yet, with one slot, and tells whether it was so.
+fn begin_at<K: Ord + Copy + Drop>(
+    chains: &mut BTreeMap<K, Chain>,
+    at: K,
+    key: usize,
+) -> Result<bool, Memory>
+    ensures absent { result ≡ Ok true → get K.cmp chains.old at ≡ None }
+    ensures put { result ≡ Ok true → chains.new.entries
+        ≡ insert_entry K.cmp chains.old.entries at (extended None key) }
+    ensures held { result ≡ Ok false → IsSome (get K.cmp chains.old at) }
+    ensures left { result ≢ Ok true → chains.new.entries ≡ chains.old.entries }
+{
+    chains.len();
+    let held = hold_at(chains, at, extended(None, key))?;
+    Ok(held.is_none())
 }
 
 // The cells of narrow keys, with their chains.

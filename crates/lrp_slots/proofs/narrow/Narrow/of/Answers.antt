@@ -13,4 +13,6 @@ pub returns-else-eq-clause-none : goal.returns-else-eq-clause-none
 returns-else-eq-clause-none c =
     let first : SFits w64 (get_or c.args.cell.now.residues 0 (pos 0)) = search rules in
     let second : SFits w64 (get_or c.args.cell.now.residues 1 (pos 0)) = search rules in
-    no_key c.args.cell.now c.cell.result _ (key_parts c.args.cell.now c.from.result c.from-2.result _ _ c.from.ensures c.from-2.ensures (to_z-of_z w64 _ first) (to_z-of_z w64 _ second)) c.cell.ensures (sym c.eq.ensures ∙ c.if-eq.false)
+    let third : SFits w64 (get_or c.args.cell.now.residues 2 (pos 0)) = search rules in
+    no_key c.args.cell.now c.cell.result _
+    (key_parts c.args.cell.now c.from.result c.from-2.result _ _ _ c.from.ensures c.from-2.ensures (to_z-of_z w64 _ first) (to_z-of_z w64 _ second) (to_z-of_z w64 _ third)) c.cell.ensures (sym c.eq.ensures ∙ c.if-eq.false)

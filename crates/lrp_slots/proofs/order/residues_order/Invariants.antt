@@ -1,8 +1,0 @@
--- The first places are equal.
-use Rattle.std.proofs.Common.{◌≡◌, drop}
-use Rattle.std.specs.Ordering.{int_cmp}
-use Rattle.std.specs.Cmp.Lexicographic.{slice_cmp}
-use Rattle.lrp_slots.proofs.order.residues_order.Given as goal
-
-abbrev pub invariant-loop-i : goal.invariant-loop-i
-invariant-loop-i l = slice_cmp int_cmp l.a l.b ≡ slice_cmp int_cmp (drop l.i l.a) (drop l.i l.b)
