@@ -39,7 +39,8 @@ fn first_from_zero(
     requires high { AtMost (2 ^ 70) most }
     requires residue { residue < period }
     requires period { period ≤ 2 ^ 62 }
-    ensures none { IfNone result ((x : ℤ) → IsBetween least most (pos residue) (pos period) x → pos 0 ≤ℤ x → ⊥) }
+    ensures none { IfNone result ((x : ℤ) → IsBetween least most (pos residue) (pos period) x
+        → pos 0 ≤ℤ x → ⊥) }
     ensures some { IfSome result (IsFirstFromZero least most (pos residue) (pos period)) }
 {
     let start = start_from_zero(least);
@@ -61,7 +62,8 @@ fn last_below_zero(
     requires high { AtMost (2 ^ 70) most }
     requires residue { residue < period }
     requires period { period ≤ 2 ^ 62 }
-    ensures none { IfNone result ((x : ℤ) → IsBetween least most (pos residue) (pos period) x → x <ℤ pos 0 → ⊥) }
+    ensures none { IfNone result ((x : ℤ) → IsBetween least most (pos residue) (pos period) x
+        → x <ℤ pos 0 → ⊥) }
     ensures some { IfSome result (IsLastBelowZero least most (pos residue) (pos period)) }
 {
     let start = start_below_zero(most);

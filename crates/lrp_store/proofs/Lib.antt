@@ -9,6 +9,7 @@ pub mod AnswerFirst
 pub mod Aligning
 pub mod Emptiness
 pub mod Tidying
+pub mod Remembered
 pub mod Rooms
 pub mod StoreFirst
 pub mod ZoneFirst

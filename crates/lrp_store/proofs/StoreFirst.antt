@@ -62,7 +62,7 @@ not_nearer_cmp (suc n) (x ∷ xs) (y ∷ ys) l e h g = by h.place h.low h.same h
 -- ---- zeros behind the values of two spots change nothing
 
 -- values that are at a number from some place on compare like those before
-front_cmp : {X : Type 0} (R : X → X → Ordering) (d : X) → R d d ≡ Equal → (n : ℕ) (xs ys : List X) → length xs ≡ length ys → ((i : ℕ) → n ≤ i → get_or xs i d ≡ d) → ((i : ℕ) → n ≤ i → get_or ys i d ≡ d) → slice_cmp R xs ys ≡ slice_cmp R (take n xs) (take n ys)
+pub front_cmp : {X : Type 0} (R : X → X → Ordering) (d : X) → R d d ≡ Equal → (n : ℕ) (xs ys : List X) → length xs ≡ length ys → ((i : ℕ) → n ≤ i → get_or xs i d ≡ d) → ((i : ℕ) → n ≤ i → get_or ys i d ≡ d) → slice_cmp R xs ys ≡ slice_cmp R (take n xs) (take n ys)
 front_cmp R d e zero [] [] l f g = refl
 front_cmp R d e zero [] (y ∷ ys) l f g = absurd (omega arith)
 front_cmp R d e zero (x ∷ xs) [] l f g = absurd (omega arith)

@@ -1,13 +1,17 @@
 -- What stores, tables and answers stand for, and what the calls that change them do.
-pub mod Aligned
-pub mod Choices
-pub mod Codes
-pub mod Faults
-pub mod Growing
-pub mod Least
-pub mod Reading
-pub mod Settled
-pub mod Stored
+
+-- What contracts of public calls say.
 pub mod Stores
 pub mod Tables
+pub mod Least
+pub mod Aligned
+pub mod Growing
 pub mod Tidied
+pub mod Reading
+pub mod Stored
+pub mod Faults
+pub mod Choices
+-- What functions inside say to one another.
+pub mod Codes
+pub mod Remembered
+pub mod Settled

@@ -20,8 +20,11 @@ impl Store {
         requires multiple { Divides (pos zone.now.period) (pos self.old.period) }
         requires reach { reach_of zone.now + self.old.period ≤ 2 ^ 62 }
         requires texts { IsPadded 0 self.old.shape.texts texts.now }
-        ensures ok { OnOk result (IsAdded (IsTupleOf zone.now (take self.old.shape.texts texts.now)) cap (reach_of zone.now + (self.old.period - 1)) self.old self.new) }
-        ensures too_many { result ≡ Err StoreFault.TooManyCells → IsRefused (IsTupleOf zone.now (take self.old.shape.texts texts.now)) cap (reach_of zone.now + (self.old.period - 1)) self.old self.new }
+        ensures ok { OnOk result (IsAdded (IsTupleOf zone.now (take self.old.shape.texts texts.now))
+            cap (reach_of zone.now + (self.old.period - 1)) self.old self.new) }
+        ensures too_many { result ≡ Err StoreFault.TooManyCells
+            → IsRefused (IsTupleOf zone.now (take self.old.shape.texts texts.now)) cap
+            (reach_of zone.now + (self.old.period - 1)) self.old self.new }
     {
         zone.columns();
         self.shape();
@@ -43,8 +46,10 @@ impl Store {
         ensures ok { IfOk result (λ made. IsAligned self.now (nat_abs period) made) }
 
         // It is refused exactly where the tuples inhabit more than cap cells.
-        ensures too_many { result ≡ Err StoreFault.TooManyCells → InhabitsMany self.now.shape (nat_abs period) (InStore self.now) cap }
-        ensures few { OnOk result (InhabitsMany self.now.shape (nat_abs period) (InStore self.now) cap → ⊥) }
+        ensures too_many { result ≡ Err StoreFault.TooManyCells
+            → InhabitsMany self.now.shape (nat_abs period) (InStore self.now) cap }
+        ensures few { OnOk result (InhabitsMany self.now.shape (nat_abs period)
+            (InStore self.now) cap → ⊥) }
     {
         self.shape();
         let mut out = Store::new(self.alloc, self.shape, period);
@@ -63,8 +68,11 @@ impl Store {
         requires shape { out.old.shape ≡ self.now.shape }
         requires multiple { Divides (pos self.now.period) (pos out.old.period) }
         requires reach { HasReach self.now (2 ^ 62 - out.old.period) }
-        ensures ok { OnOk result ((high : ℕ) → HasReach self.now high → IsAdded (InCell self.now cell.now) cap (high + (out.old.period - 1)) out.old out.new) }
-        ensures too_many { result ≡ Err StoreFault.TooManyCells → IsRefused (InCell self.now cell.now) cap (2 ^ 62) out.old out.new }
+        ensures ok { OnOk result ((high : ℕ) → HasReach self.now high
+            → IsAdded (InCell self.now cell.now) cap
+            (high + (out.old.period - 1)) out.old out.new) }
+        ensures too_many { result ≡ Err StoreFault.TooManyCells
+            → IsRefused (InCell self.now cell.now) cap (2 ^ 62) out.old out.new }
     {
         self.shape();
         out.shape();

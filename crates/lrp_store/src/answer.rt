@@ -31,7 +31,8 @@ impl Answer {
         ensures head { IfOk result (λ made. made.head ≡ self.now.head) }
         ensures period { IfOk result (λ made. made.period ≡ self.now.period) }
         ensures domain { IfOk result (λ made. made.domain ≡ self.now.domain) }
-        ensures store { IfOk result (λ made. made.store ≡ record self.now.store { spare = made.store.spare }) }
+        ensures store { IfOk result (λ made. made.store
+            ≡ record self.now.store { spare = made.store.spare }) }
     {
         let head = self.head.copy(alloc)?;
         let domain = self.domain.copy(alloc)?;
@@ -46,7 +47,8 @@ impl Answer {
 
     /// Whether no tuple is an answer.
     pub fn is_empty(&self) -> bool
-        ensures { IsTrue result ↔ ((times : List ℤ) (texts : List ℕ) → InStore self.now.store times texts → ⊥) }
+        ensures { IsTrue result ↔ ((times : List ℤ) (texts : List ℕ)
+            → InStore self.now.store times texts → ⊥) }
     {
         self.store.shape();
         self.store.len() == 0
@@ -57,8 +59,10 @@ impl Answer {
     /// With the asked room each of its times has a magnitude of at most 2^62.
     pub fn least(&self) -> Option<Spot>
         requires { HasRoom self.now.store }
-        ensures none { IfNone result ((tuple : List Datum) → InAnswer self.now.head.columns self.now.domain self.now.store tuple → ⊥) }
-        ensures some { IfSome result (λ spot. IsLeastSpot self.now.head.columns self.now.domain self.now.store spot) }
+        ensures none { IfNone result ((tuple : List Datum)
+            → InAnswer self.now.head.columns self.now.domain self.now.store tuple → ⊥) }
+        ensures some { IfSome result (λ spot. IsLeastSpot self.now.head.columns self.now.domain
+            self.now.store spot) }
     {
         self.store.shape();
         self.domain.len();

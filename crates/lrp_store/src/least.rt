@@ -51,7 +51,8 @@ fn is_before(a: &Spot, b: &Spot) -> bool
 /// Of a spot that was found, if any, and another one the nearer.
 fn nearer(found: Option<Spot>, spot: Spot) -> Spot
     ensures one { (found ≡ Some result) ⊎ (result ≡ spot) }
-    ensures found { IfSome found (λ old. held_cmp result.times result.texts old.times old.texts ≢ Greater) }
+    ensures found { IfSome found (λ old. held_cmp result.times result.texts old.times old.texts ≢
+        Greater) }
     ensures spot { held_cmp result.times result.texts spot.times spot.texts ≢ Greater }
 {
     let Some(old) = found else {
@@ -64,9 +65,11 @@ impl Store {
     /// The first tuple of all that are held, if there is one.
     pub(crate) fn first(&self) -> Option<Spot>
         requires { HasRoom self.now }
-        ensures none { IfNone result ((times : List ℤ) (texts : List ℕ) → InStore self.now times texts → ⊥) }
+        ensures none { IfNone result ((times : List ℤ) (texts : List ℕ)
+            → InStore self.now times texts → ⊥) }
         ensures some { IsFound self.now result }
-        ensures first { IfSome result (λ spot. (times : List ℤ) (texts : List ℕ) → InStore self.now times texts → IsNotAfter self.now (Some spot) times texts) }
+        ensures first { IfSome result (λ spot. (times : List ℤ) (texts : List ℕ)
+            → InStore self.now times texts → IsNotAfter self.now (Some spot) times texts) }
     {
         self.shape();
         let mut found = None;
@@ -87,8 +90,10 @@ impl Store {
         requires room { HasRoom self.now }
         requires found { IsFound self.now found }
         ensures found { IsFound self.now result }
-        ensures kept { (times : List ℤ) (texts : List ℕ) → IsNotAfter self.now found times texts → IsNotAfter self.now result times texts }
-        ensures cell { (times : List ℤ) (texts : List ℕ) → InCell self.now cell.now times texts → IsNotAfter self.now result times texts }
+        ensures kept { (times : List ℤ) (texts : List ℕ) → IsNotAfter self.now found times texts
+            → IsNotAfter self.now result times texts }
+        ensures cell { (times : List ℤ) (texts : List ℕ) → InCell self.now cell.now times texts
+            → IsNotAfter self.now result times texts }
     {
         self.shape();
         let mut found = found;
@@ -106,7 +111,8 @@ impl Store {
     fn nearest_in(&self, cell: &Cell, bounds: &StoredBounds) -> [i64; 8]
         requires held { Contains (tables_at self.now cell.now) bounds.now }
         requires room { (h : ℕ) × IsRoom (zone_of self.now cell.now bounds.now) h }
-        ensures { IsNearestTo (zone_of self.now cell.now bounds.now) (columns_of (zone_of self.now cell.now bounds.now)) result }
+        ensures { IsNearestTo (zone_of self.now cell.now bounds.now)
+            (columns_of (zone_of self.now cell.now bounds.now)) result }
     {
         self.shape();
         let times = usize::from(self.shape.times);

@@ -43,9 +43,19 @@ pub fn nearest(zone: &Zone) -> [i64; 8]
 
 /// The first tuple of the zone of a cell that has no bound, by the ranks of its values, with zeros behind it.
 pub fn nearest_of_cell(period: u64, residues: &[i64; 8], times: usize) -> [i64; 8]
-    requires zone { IsZone (record { period = period; residues = take times residues.now; bounds = replicate 81 None }) }
+    requires zone { IsZone (record {
+      period = period;
+      residues = take times residues.now;
+      bounds =
+          replicate 81 None;
+    }) }
     requires columns { length (take times residues.now) ≡ times }
-    ensures { IsNearestTo (record { period = period; residues = take times residues.now; bounds = replicate 81 None }) times result }
+    ensures { IsNearestTo (record {
+      period = period;
+      residues = take times residues.now;
+      bounds =
+          replicate 81 None;
+    }) times result }
 {
     let mut xs = [0; 8];
     for i in 0..times {

@@ -1,6 +1,7 @@
 // Zones by cell, each zone in a slot of one vector.
-ghost use Rattle.std.specs.Prelude.{◌≡◌, ◌≢◌, ◌+◌, ◌<◌, ◌≤◌, ◌^◌, ◌≤ℤ◌, ◌↔◌, ℕ, pos, take, nat_abs, replicate, IsTrue, Some, None, [], ◌∷◌, ◌++◌, length, map, slice_get, IsSome, IsOk, IfOk, IfErr, OnOk, OnErr, OnSome, IfNone};
+ghost use Rattle.std.specs.Prelude.{◌≡◌, ◌≢◌, ◌⊎◌, ◌+◌, ◌<◌, ◌≤◌, ◌^◌, ◌≤ℤ◌, ◌↔◌, ℕ, pos, take, nat_abs, replicate, IsTrue, Ok, true, false, Some, None, [], ◌∷◌, ◌++◌, length, map, slice_get, IsSome, IsOk, IfOk, IfErr, OnOk, OnErr, OnSome, IfNone};
 ghost use Rattle.std.specs.List.{remove};
+ghost use Rattle.lrp_model.specs.declared.tuples.Cell.{Cell as CellValue};
 ghost use Rattle.std.specs.FinMap as finite;
 ghost use Rattle.lrp_slots.specs.Lists.{list_at, set_list};
 ghost use Rattle.lrp_store.specs.Stored.{count_of};
@@ -11,7 +12,7 @@ ghost use Rattle.lrp_store.specs.Growing.{IsAdded, IsRefused, IsTupleOf, IsWhole
 
 use crate::stored::StoredBounds;
 use lrp_model::{Cell, Copies, Memory, Shape};
-use lrp_slots::{Cells, Slots};
+use lrp_slots::{Cells, Remembered, Slots};
 use lrp_zone::Zone;
 use std::alloc::Global;
 use std::marker::Model;
@@ -28,12 +29,14 @@ pub enum StoreFault {
 
 /// A set of tuples of times and texts: for each cell that is held the zones of its times.
 ///
-/// Texts stand as numbers. A zone of at most eight stored bounds takes one slot and no further memory.
+/// Texts stand as numbers. A zone of at most eight stored bounds takes one slot and no further memory. Once a cell that is
+/// held whole is put again, such cells are remembered, so that the next put of one looks up nothing.
 pub struct Store {
     pub(crate) alloc: Global,
     pub(crate) shape: Shape,
     pub(crate) period: u64,
     pub(crate) slots: Slots<StoredBounds>,
+    pub(crate) whole: Remembered,
 }
 
 // A derived drop would be proved anew, type by type, in each crate that lets a store go.
@@ -44,12 +47,14 @@ impl Drop for Store {
             shape: _shape,
             period: _period,
             slots: _slots,
+            whole: _whole,
         } = self;
     }
 }
 
 impl Model for Store {
-    ghost use Rattle.lrp_store.specs.Stores.{StoreView, IsStore};
+    ghost use Rattle.lrp_store.specs.Stores.{StoreView};
+    ghost use Rattle.lrp_store.specs.Remembered.{IsRemembering};
     ghost use Rattle.lrp_store.specs.Codes.{store_code};
 
     ghost Value = { StoreView };
@@ -58,7 +63,7 @@ impl Model for Store {
 
     ghost view = { λ s. record { shape = s.shape; period = s.period; tables = s.slots.lists; spare = s.slots.spare } };
 
-    ghost invariant = { λ s. IsStore (record { shape = s.shape; period = s.period; tables = s.slots.lists; spare = s.slots.spare }) };
+    ghost invariant = { λ s. IsRemembering (record { shape = s.shape; period = s.period; tables = s.slots.lists; spare = s.slots.spare }) s.whole };
 }
 
 impl Store {
@@ -68,13 +73,19 @@ impl Store {
         requires texts { shape.texts ≤ 8 }
         requires period_low { pos 1 ≤ℤ period }
         requires period_high { period ≤ℤ pos (2 ^ 62) }
-        ensures { result ≡ record { shape = shape; period = nat_abs period; tables = finite.empty; spare = 0 } }
+        ensures { result ≡ record {
+          shape = shape;
+          period = nat_abs period;
+          tables = finite.empty;
+          spare = 0;
+        } }
     {
         Store {
             alloc,
             shape,
             period: period as u64,
             slots: Slots::new(alloc),
+            whole: Remembered::new(alloc),
         }
     }
 
@@ -132,17 +143,26 @@ impl Store {
         requires residues { zone.now.residues ≡ take self.old.shape.times cell.now.residues }
         requires texts { IsPadded 0 self.old.shape.texts cell.now.texts }
         requires times { IsPadded (pos 0) self.old.shape.times cell.now.residues }
-        ensures ok { OnOk result (self.new.tables ≡ finite.insert self.old.tables cell.now (tables_at self.old cell.now ++ zone.now.bounds ∷ [])) }
+        ensures ok { OnOk result (self.new.tables
+            ≡ finite.insert self.old.tables cell.now
+            (tables_at self.old cell.now ++ zone.now.bounds ∷ [])) }
         ensures err { OnErr result (self.new.tables ≡ self.old.tables) }
-        ensures rest { self.new ≡ record self.old { tables = self.new.tables; spare = self.new.spare } }
-        ensures too_many { (result ≡ Err StoreFault.TooManyCells) ↔ ((finite.get self.old.tables cell.now ≡ None) × (cap ≤ finite.len self.old.tables)) }
+        ensures rest { self.new ≡ record self.old {
+          tables = self.new.tables;
+          spare =
+              self.new.spare;
+        } }
+        ensures too_many { (result ≡ Err StoreFault.TooManyCells)
+            ↔ ((finite.get self.old.tables cell.now ≡ None) × (cap ≤ finite.len self.old.tables)) }
 
         // A caller learns here that it is still a store.
         ensures valid { IsStore self.new }
 
         // A spare slot serves each held cell.
-        ensures succeeds { 0 < self.old.spare → IsSome (finite.get self.old.tables cell.now) → count_of zone.now.bounds ≤ 8 → IsOk result }
-        ensures taken { 0 < self.old.spare → IsSome (finite.get self.old.tables cell.now) → count_of zone.now.bounds ≤ 8 → self.new.spare + 1 ≡ self.old.spare }
+        ensures succeeds { 0 < self.old.spare → IsSome (finite.get self.old.tables cell.now)
+            → count_of zone.now.bounds ≤ 8 → IsOk result }
+        ensures taken { 0 < self.old.spare → IsSome (finite.get self.old.tables cell.now)
+            → count_of zone.now.bounds ≤ 8 → self.new.spare + 1 ≡ self.old.spare }
         ensures lowered { self.old.spare ≤ self.new.spare + 1 }
         ensures kept { OnErr result (self.old.spare ≤ self.new.spare) }
     {
@@ -164,11 +184,20 @@ impl Store {
         requires residues { zone.now.residues ≡ take self.old.shape.times cell.now.residues }
         requires texts { IsPadded 0 self.old.shape.texts cell.now.texts }
         requires times { IsPadded (pos 0) self.old.shape.times cell.now.residues }
-        ensures ok { OnOk result (IsAdded (IsTupleOf zone.now (take self.old.shape.texts cell.now.texts)) cap (greatest_of zone.now.bounds) self.old self.new) }
+        ensures ok { OnOk result (IsAdded (IsTupleOf zone.now
+            (take self.old.shape.texts cell.now.texts)) cap
+            (greatest_of zone.now.bounds) self.old self.new) }
         ensures err { OnErr result (self.new.tables ≡ self.old.tables) }
-        ensures rest { self.new ≡ record self.old { tables = self.new.tables; spare = self.new.spare } }
-        ensures too_many { result ≡ Err StoreFault.TooManyCells → IsRefused (IsTupleOf zone.now (take self.old.shape.texts cell.now.texts)) cap (greatest_of zone.now.bounds) self.old self.new }
-        ensures exact { (result ≡ Err StoreFault.TooManyCells) ↔ ((finite.get self.old.tables cell.now ≡ None) × (cap ≤ finite.len self.old.tables)) }
+        ensures rest { self.new ≡ record self.old {
+          tables = self.new.tables;
+          spare =
+              self.new.spare;
+        } }
+        ensures too_many { result ≡ Err StoreFault.TooManyCells
+            → IsRefused (IsTupleOf zone.now (take self.old.shape.texts cell.now.texts)) cap
+            (greatest_of zone.now.bounds) self.old self.new }
+        ensures exact { (result ≡ Err StoreFault.TooManyCells)
+            ↔ ((finite.get self.old.tables cell.now ≡ None) × (cap ≤ finite.len self.old.tables)) }
         ensures lowered { self.old.spare ≤ self.new.spare + 1 }
     {
         zone.columns();
@@ -182,27 +211,106 @@ impl Store {
     /// Appends the zone without bounds to a cell's list, unless the list begins with it.
     pub fn add_whole(&mut self, cell: &Cell, cap: u32) -> Result<(), StoreFault>
         requires proper { IsCellOf self.old.shape self.old.period cell.now }
-        ensures ok { OnOk result (IsAdded (IsTupleOf (zone_of self.old cell.now (replicate 81 None)) (take self.old.shape.texts cell.now.texts)) cap (greatest_of (replicate 81 None)) self.old self.new) }
+        ensures ok { OnOk result (IsAdded (IsTupleOf (zone_of self.old cell.now (replicate 81 None))
+            (take self.old.shape.texts cell.now.texts)) cap
+            (greatest_of (replicate 81 None)) self.old self.new) }
         ensures err { OnErr result (self.new.tables ≡ self.old.tables) }
-        ensures rest { self.new ≡ record self.old { tables = self.new.tables; spare = self.new.spare } }
-        ensures too_many { result ≡ Err StoreFault.TooManyCells → IsRefused (IsTupleOf (zone_of self.old cell.now (replicate 81 None)) (take self.old.shape.texts cell.now.texts)) cap (greatest_of (replicate 81 None)) self.old self.new }
-        ensures exact { (result ≡ Err StoreFault.TooManyCells) ↔ ((finite.get self.old.tables cell.now ≡ None) × (cap ≤ finite.len self.old.tables)) }
+        ensures rest { self.new ≡ record self.old {
+          tables = self.new.tables;
+          spare =
+              self.new.spare;
+        } }
+        ensures too_many { result ≡ Err StoreFault.TooManyCells
+            → IsRefused (IsTupleOf (zone_of self.old cell.now (replicate 81 None))
+            (take self.old.shape.texts cell.now.texts)) cap
+            (greatest_of (replicate 81 None)) self.old self.new }
+        ensures exact { (result ≡ Err StoreFault.TooManyCells)
+            ↔ ((finite.get self.old.tables cell.now ≡ None) × (cap ≤ finite.len self.old.tables)) }
     {
         self.shape();
-        if self.is_whole(cell) {
+        if self.is_remembered(cell) {
             return Ok(());
         }
         if self.is_one_too_many(cell, cap) {
             return Err(StoreFault::TooManyCells);
         }
+        if self.begin_whole(cell, cap)? {
+            return Ok(());
+        }
+        self.add_free(cell, cap)?;
+        Ok(())
+    }
+
+    // Puts in a cell that is not held yet with the zone without bounds, and tells whether it was so.
+    fn begin_whole(&mut self, cell: &Cell, cap: u32) -> Result<bool, Memory>
+        requires proper { IsCellOf self.old.shape self.old.period cell.now }
+        requires room { finite.get self.old.tables cell.now ≡ None
+            → finite.len self.old.tables < cap }
+        ensures begun { result ≡ Ok true → IsAdded
+            (IsTupleOf (zone_of self.old cell.now (replicate 81 None))
+            (take self.old.shape.texts cell.now.texts)) cap
+            (greatest_of (replicate 81 None)) self.old self.new }
+        ensures held { result ≡ Ok false → IsSome (finite.get self.old.tables cell.now) }
+        ensures left { result ≢ Ok true → self.new.tables ≡ self.old.tables }
+        ensures rest { self.new ≡ record self.old {
+          tables = self.new.tables;
+          spare =
+              self.new.spare;
+        } }
+    {
+        self.shape();
+        if self.slots.begin(cell, StoredBounds::free(self.alloc))? {
+            follow(&mut self.whole, cell, self.slots.len());
+            return Ok(true);
+        }
+        Ok(false)
+    }
+
+    // Appends the zone without bounds to the list of a cell that is held, unless the list begins with it. Then the cell is remembered.
+    fn add_free(&mut self, cell: &Cell, cap: u32) -> Result<(), Memory>
+        requires proper { IsCellOf self.old.shape self.old.period cell.now }
+        requires held { IsSome (finite.get self.old.tables cell.now) }
+        ensures ok { OnOk result (IsAdded (IsTupleOf (zone_of self.old cell.now (replicate 81 None))
+            (take self.old.shape.texts cell.now.texts)) cap
+            (greatest_of (replicate 81 None)) self.old self.new) }
+        ensures err { OnErr result (self.new.tables ≡ self.old.tables) }
+        ensures rest { self.new ≡ record self.old {
+          tables = self.new.tables;
+          spare =
+              self.new.spare;
+        } }
+    {
+        self.shape();
+        if self.is_whole(cell) {
+            self.whole.put(cell, self.slots.len());
+            return Ok(());
+        }
         self.slots.append(cell, StoredBounds::free(self.alloc))?;
         Ok(())
     }
 
+    /// Whether a cell is remembered as one that is held whole. It is not searched for.
+    pub fn is_remembered(&self, cell: &Cell) -> bool
+        ensures first { IsTrue result → slice_get (tables_at self.now cell.now) 0
+            ≡ Some (replicate 81 None) }
+        ensures held { IsTrue result → Contains (tables_at self.now cell.now) (replicate 81 None) }
+    {
+        self.whole.has(cell)
+    }
+
     /// Whether a cell's first zone has no bound.
     pub fn is_whole(&self, cell: &Cell) -> bool
-        ensures first { IsTrue result ↔ (slice_get (tables_at self.now cell.now) 0 ≡ Some (replicate 81 None)) }
+        ensures first { IsTrue result ↔ (slice_get (tables_at self.now cell.now) 0
+            ≡ Some (replicate 81 None)) }
         ensures held { IsTrue result → Contains (tables_at self.now cell.now) (replicate 81 None) }
+    {
+        self.is_remembered(cell) || self.begins_whole(cell)
+    }
+
+    // Whether the zone that a cell's list begins with has no bound.
+    fn begins_whole(&self, cell: &Cell) -> bool
+        ensures { IsTrue result ↔ (slice_get (tables_at self.now cell.now) 0
+            ≡ Some (replicate 81 None)) }
     {
         match self.slots.get(cell, 0) {
             Some(bounds) => bounds.is_free(),
@@ -212,7 +320,8 @@ impl Store {
 
     // Whether a cell is not held, and there are cap cells or more.
     fn is_one_too_many(&self, cell: &Cell, cap: u32) -> bool
-        ensures { IsTrue result ↔ ((finite.get self.now.tables cell.now ≡ None) × (cap ≤ finite.len self.now.tables)) }
+        ensures { IsTrue result ↔ ((finite.get self.now.tables cell.now ≡ None)
+            × (cap ≤ finite.len self.now.tables)) }
     {
         self.slots.len() >= cap as usize && self.slots.count(cell) == 0
     }
@@ -221,7 +330,8 @@ impl Store {
     fn has_looser(&self, cell: &Cell, zone: &Zone) -> bool
         requires period { zone.now.period ≡ self.now.period }
         requires residues { zone.now.residues ≡ take self.now.shape.times cell.now.residues }
-        ensures whole { IsTrue result → IsWhole (IsTupleOf zone.now (take self.now.shape.texts cell.now.texts)) self.now }
+        ensures whole { IsTrue result → IsWhole (IsTupleOf zone.now
+            (take self.now.shape.texts cell.now.texts)) self.now }
         ensures held { IsTrue result → IsSome (finite.get self.now.tables cell.now) }
     {
         self.shape();
@@ -254,12 +364,18 @@ impl Store {
     /// Takes the zone with the number i out of a cell's list. The cell goes with its last zone.
     pub fn remove(&mut self, cell: &Cell, i: usize) -> Option<Zone>
         ensures value { result ≡ slice_get (zones_at self.old cell.now) i }
-        ensures tables { OnSome result (self.new.tables ≡ set_list self.old.tables cell.now (remove (tables_at self.old cell.now) i)) }
-        ensures rest { self.new ≡ record self.old { tables = self.new.tables; spare = self.new.spare } }
+        ensures tables { OnSome result (self.new.tables
+            ≡ set_list self.old.tables cell.now (remove (tables_at self.old cell.now) i)) }
+        ensures rest { self.new ≡ record self.old {
+          tables = self.new.tables;
+          spare =
+              self.new.spare;
+        } }
         ensures spare { OnSome result (self.new.spare ≡ self.old.spare + 1) }
         ensures none { IfNone result (self.new ≡ self.old) }
     {
         let bounds = self.slots.remove(cell, i)?;
+        self.whole = Remembered::new(self.alloc);
         let times = usize::from(self.shape.times);
         Some(bounds.zone(self.period, &cell.residues[..times]))
     }
@@ -280,7 +396,18 @@ impl Store {
             shape: self.shape,
             period: self.period,
             slots: self.slots.copy(alloc)?,
+            whole: Remembered::new(alloc),
         })
+    }
+}
+
+// Remembers a cell of so many that are held, if some are remembered.
+fn follow(whole: &mut Remembered, cell: &Cell, held: usize)
+    ensures { (other : CellValue) → Contains whole.new other → (other ≡ cell.now)
+        ⊎ Contains whole.old other }
+{
+    if !whole.is_empty() {
+        whole.put(cell, held);
     }
 }
 

@@ -134,7 +134,8 @@ fn bound_of(zone: &Zone, place: u8) -> Option<i64>
 fn are_above(zone: &Zone, entries: &[Entry]) -> bool
     requires listed { AreListed (bounds_of entries.now) }
     requires small { AreSmall (bounds_of entries.now) }
-    ensures { IsTrue result → IsWithin zone.now (record zone.now { bounds = table_of (bounds_of entries.now) }) }
+    ensures { IsTrue result → IsWithin zone.now
+        (record zone.now { bounds = table_of (bounds_of entries.now) }) }
 {
     zone.columns();
     for entry in entries {

@@ -45,7 +45,8 @@ impl Table {
     /// The same assignments, in as many slots as there are zones.
     pub fn copy(&self, alloc: Global) -> Result<Table, Memory>
         ensures vars { IfOk result (λ made. made.vars ≡ self.now.vars) }
-        ensures store { IfOk result (λ made. made.store ≡ record self.now.store { spare = made.store.spare }) }
+        ensures store { IfOk result (λ made. made.store
+            ≡ record self.now.store { spare = made.store.spare }) }
     {
         let vars = self.vars.copy(alloc)?;
         let store = self.store.copy(alloc)?;

@@ -11,10 +11,17 @@ use lrp_model::Cell;
 impl Store {
     /// Drops the zones of a cell that lie within another one of its list. Of equal ones the last stays, and the order does.
     pub fn tidy(&mut self, cell: &Cell)
-        ensures tidied { IsTidied self.old cell.now (tables_at self.old cell.now) (tables_at self.new cell.now) }
-        ensures others { (other : CellValue) → other ≢ cell.now → finite.get self.new.tables other ≡ finite.get self.old.tables other }
-        ensures rest { self.new ≡ record self.old { tables = self.new.tables; spare = self.new.spare } }
-        ensures spare { self.new.spare + length (tables_at self.new cell.now) ≡ self.old.spare + length (tables_at self.old cell.now) }
+        ensures tidied { IsTidied self.old cell.now (tables_at self.old cell.now)
+            (tables_at self.new cell.now) }
+        ensures others { (other : CellValue) → other ≢ cell.now
+            → finite.get self.new.tables other ≡ finite.get self.old.tables other }
+        ensures rest { self.new ≡ record self.old {
+          tables = self.new.tables;
+          spare =
+              self.new.spare;
+        } }
+        ensures spare { self.new.spare + length (tables_at self.new cell.now)
+            ≡ self.old.spare + length (tables_at self.old cell.now) }
     {
         let mut i = 0;
         while i < self.count(cell) {

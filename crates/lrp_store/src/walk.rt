@@ -25,8 +25,11 @@ fn put(cell: &Cell, p: usize, residue: u64) -> Cell
 // Adds the tuples that have all the residues of the cell.
 fn place(zone: &Zone, cell: &Cell, period: u64, out: &mut Store, cap: u32) -> Result<(), StoreFault>
     requires begun { IsBegun zone.now period out.old cell.now (columns_of zone.now) }
-    ensures ok { OnOk result (IsAdded (IsPartOf zone.now period out.old.shape.texts cell.now (columns_of zone.now)) cap (reach_of zone.now + (period - 1)) out.old out.new) }
-    ensures too_many { result ≡ Err StoreFault.TooManyCells → IsRefused (IsPartOf zone.now period out.old.shape.texts cell.now (columns_of zone.now)) cap (reach_of zone.now + (period - 1)) out.old out.new }
+    ensures ok { OnOk result (IsAdded (IsPartOf zone.now period out.old.shape.texts cell.now
+        (columns_of zone.now)) cap (reach_of zone.now + (period - 1)) out.old out.new) }
+    ensures too_many { result ≡ Err StoreFault.TooManyCells
+        → IsRefused (IsPartOf zone.now period out.old.shape.texts cell.now (columns_of zone.now))
+        cap (reach_of zone.now + (period - 1)) out.old out.new }
 {
     let columns = zone.columns();
     out.shape();
@@ -52,8 +55,11 @@ pub(crate) fn walk(
     requires column { p ≤ columns_of zone.now }
     requires met { AreMet zone.now least.now }
     requires begun { IsBegun zone.now period out.old cell.now p }
-    ensures ok { OnOk result (IsAdded (IsPartOf zone.now period out.old.shape.texts cell.now p) cap (reach_of zone.now + (period - 1)) out.old out.new) }
-    ensures too_many { result ≡ Err StoreFault.TooManyCells → IsRefused (IsPartOf zone.now period out.old.shape.texts cell.now p) cap (reach_of zone.now + (period - 1)) out.old out.new }
+    ensures ok { OnOk result (IsAdded (IsPartOf zone.now period out.old.shape.texts cell.now p) cap
+        (reach_of zone.now + (period - 1)) out.old out.new) }
+    ensures too_many { result ≡ Err StoreFault.TooManyCells
+        → IsRefused (IsPartOf zone.now period out.old.shape.texts cell.now p) cap
+        (reach_of zone.now + (period - 1)) out.old out.new }
 {
     if p == zone.columns() {
         return place(zone, cell, period, out, cap);

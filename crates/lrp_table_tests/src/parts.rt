@@ -26,7 +26,8 @@ fn check_residues(rt: &impl Abort, period: i64, residues: &[i64])
     ensures high { nat_abs period ≤ 2 ^ 53 }
     ensures low { pos 1 ≤ℤ period }
     ensures count { length residues.now ≤ 8 }
-    ensures residues { (p : ℕ) → p ≤ length residues.now → IsResidue (nat_abs period) (node residues.now p) }
+    ensures residues { (p : ℕ) → p ≤ length residues.now
+        → IsResidue (nat_abs period) (node residues.now p) }
 {
     assert!(rt; 1 <= period && period.unsigned_abs() <= SMALL && residues.len() <= 8);
     for residue in residues {

@@ -9,7 +9,8 @@ use Rattle.lrp_theory.specs.Entries.{AtMost}
 use Rattle.lrp_theory.proofs.Modulo.{Divides-+, Divides-is, Divides-self}
 use Rattle.lrp_theory.proofs.Floor.{Agrees}
 use Rattle.lrp_zone.specs.Zones.{IsTight}
-use Rattle.lrp_zone.specs.Tight.{CanTighten, IsFloor, IsTightened, IsStored}
+use Rattle.lrp_zone.specs.Tight.{CanTighten, IsTightened, IsStored}
+use Rattle.lrp_theory.specs.Residues.{IsFloor}
 
 -- what tightening a number gives is its floor
 pub floor_of : (k w a r l u b : ℤ) → r ≤ℤ b → Divides l (r -ℤ u) → ((c : ℤ) → c ≤ℤ b → Divides l (c -ℤ u) → c ≤ℤ r) → l ≡ k → u ≡ w → b ≡ a → IsFloor k w a r

@@ -117,7 +117,8 @@ pub fn put(bounds: &mut Table, i: usize, j: usize, bound: Option<i64>)
     requires column { j < 9 }
     requires stands { CanStand bound }
     ensures here { entry bounds.new i j ≡ bound }
-    ensures others { (p q : ℕ) → q < 9 → (p ≡ i → q ≡ j → ⊥) → entry bounds.new p q ≡ entry bounds.old p q }
+    ensures others { (p q : ℕ) → q < 9 → (p ≡ i → q ≡ j → ⊥)
+        → entry bounds.new p q ≡ entry bounds.old p q }
 {
     bounds.set(9 * i + j, bound);
 }
@@ -154,7 +155,8 @@ fn lesser_number(a: i64, b: i64) -> i64
 
 /// The lesser bound at each place.
 pub fn least(a: &Table, b: &Table) -> Table
-    ensures { (p : ℕ) → p < 81 → IsLesser (slice_index_or result p None) (slice_index_or a.now p None) (slice_index_or b.now p None) }
+    ensures { (p : ℕ) → p < 81 → IsLesser (slice_index_or result p None)
+        (slice_index_or a.now p None) (slice_index_or b.now p None) }
 {
     let mut numbers = [i64::MAX; 81];
     for place in 0..81 {

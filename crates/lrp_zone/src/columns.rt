@@ -56,7 +56,8 @@ pub fn residues_without(residues: &[i64], k: usize) -> [i64; 8]
     requires node { k ≤ length residues.now }
     requires columns { length residues.now ≤ 8 }
     ensures size { length result ≡ 8 }
-    ensures values { (p : ℕ) → p < length residues.now → node result p ≡ node residues.now (past k p) }
+    ensures values { (p : ℕ) → p < length residues.now
+        → node result p ≡ node residues.now (past k p) }
 {
     let mut out = [0; 8];
     for p in 1..residues.len() {
@@ -77,7 +78,8 @@ fn place(places: &[usize], i: usize) -> usize
 pub fn moved(bounds: &Table, places: &[usize]) -> Table
     requires count { length places.now ≤ 8 }
     requires places { ArePlaces places.now 8 }
-    ensures { IsSpreadTo places.now bounds.now (length places.now + 1) (length places.now + 1) 0 result }
+    ensures { IsSpreadTo places.now bounds.now (length places.now + 1)
+        (length places.now + 1) 0 result }
 {
     let mut out = free();
     let nodes = places.len() + 1;

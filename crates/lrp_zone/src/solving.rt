@@ -20,7 +20,8 @@ fn keeps(left: i64, right: i64, bound: Option<i64>) -> bool
 /// Tells whether the numbers of the nodes meet the bounds.
 fn meets(bounds: &Table, numbers: &[i64; 9], nodes: usize) -> bool
     requires nodes { nodes ≤ 9 }
-    ensures { IsTrue result ↔ Meets nodes (entry bounds.now) (λ i. slice_index_or numbers.now i (pos 0)) }
+    ensures { IsTrue result ↔ Meets nodes (entry bounds.now)
+        (λ i. slice_index_or numbers.now i (pos 0)) }
 {
     for i in 0..nodes {
         for j in 0..nodes {

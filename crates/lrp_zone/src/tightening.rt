@@ -27,7 +27,8 @@ pub fn tightest(
     requires left { IsResidue period (node residues.now i) }
     requires right { IsResidue period (node residues.now j) }
     requires small { AtMost (2 ^ 63) bound }
-    ensures value { IsTightened (pos period) (node residues.now i -ℤ node residues.now j) bound result }
+    ensures value { IsTightened (pos period) (node residues.now i -ℤ node residues.now j) bound
+        result }
     ensures small { AtMost (2 ^ 64) result }
 {
     let a = bound?;
@@ -48,7 +49,8 @@ pub fn tightened(
     requires high { period ≤ 2 ^ 62 }
     requires left { IsResidue period (node residues.now i) }
     requires right { IsResidue period (node residues.now j) }
-    requires fits { (a : ℤ) → bound ≡ Some a → CanTighten (pos period) (node residues.now i -ℤ node residues.now j) a }
+    requires fits { (a : ℤ) → bound ≡ Some a → CanTighten (pos period)
+        (node residues.now i -ℤ node residues.now j) a }
     ensures { IsStored (pos period) (node residues.now i -ℤ node residues.now j) bound result }
 {
     narrow(tightest(wide(bound), residues, i, j, period))
@@ -60,7 +62,9 @@ pub fn all_tightened(bounds: &Table, residues: &[i64], period: u64) -> Table
     requires low { 0 < period }
     requires high { period ≤ 2 ^ 62 }
     requires residues { (i : ℕ) → i ≤ length residues.now → IsResidue period (node residues.now i) }
-    requires fits { (i j : ℕ) (a : ℤ) → i ≤ length residues.now → j ≤ length residues.now → entry bounds.now i j ≡ Some a → CanTighten (pos period) (node residues.now i -ℤ node residues.now j) a }
+    requires fits { (i j : ℕ) (a : ℤ) → i ≤ length residues.now → j ≤ length residues.now
+        → entry bounds.now i j ≡ Some a
+        → CanTighten (pos period) (node residues.now i -ℤ node residues.now j) a }
     ensures { AreStored (pos period) residues.now bounds.now (length residues.now + 1) result }
 {
     let mut out = free();
@@ -85,8 +89,11 @@ pub fn all_tightest(bounds: &Matrix, residues: &[i64], period: u64) -> Table
     requires low { 0 < period }
     requires high { period ≤ 2 ^ 62 }
     requires residues { (i : ℕ) → i ≤ length residues.now → IsResidue period (node residues.now i) }
-    requires fits { (i j : ℕ) (a : ℤ) → i ≤ length residues.now → j ≤ length residues.now → entry bounds.now.cells i j ≡ Some a → CanTighten (pos period) (node residues.now i -ℤ node residues.now j) a }
-    ensures { AreStored (pos period) residues.now bounds.now.cells (length residues.now + 1) result }
+    requires fits { (i j : ℕ) (a : ℤ) → i ≤ length residues.now → j ≤ length residues.now
+        → entry bounds.now.cells i j ≡ Some a
+        → CanTighten (pos period) (node residues.now i -ℤ node residues.now j) a }
+    ensures { AreStored (pos period) residues.now bounds.now.cells
+        (length residues.now + 1) result }
 {
     let mut out = free();
     let nodes = residues.len() + 1;

@@ -46,7 +46,12 @@ pub fn holds(xs: &[i64], residues: &[i64], bounds: &Table, period: u64) -> bool
     requires count { length xs.now ≡ length residues.now }
     requires low { 0 < period }
     requires high { period ≤ 2 ^ 62 }
-    ensures { IsTrue result ↔ IsMember (record { period = period; residues = residues.now; bounds = bounds.now }) xs.now }
+    ensures { IsTrue result ↔ IsMember (record {
+      period = period;
+      residues = residues.now;
+      bounds =
+          bounds.now;
+    }) xs.now }
 {
     let nodes = xs.len() + 1;
     for i in 0..nodes {

@@ -3,7 +3,7 @@ use Rattle.std.proofs.Common.{rules, arith, ◌^◌, pos, ◌≤ℤ◌, ◌-ℤ�
 use Rattle.std.specs.Prelude.{neg_ℤ}
 use Rattle.std.proofs.lemmas.Int.{ints}
 use Rattle.lrp_theory.specs.Entries.{node}
-use Rattle.lrp_zone.specs.Tight.{IsFloor}
+use Rattle.lrp_theory.specs.Residues.{IsFloor}
 use Rattle.lrp_zone.proofs.Floors.{at_most_some, floor_of, tightened_some, word, floor_small}
 use Rattle.lrp_zone.proofs.tightening.tightest.Goals as goal
 

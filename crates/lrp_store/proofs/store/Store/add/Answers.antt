@@ -2,19 +2,26 @@
 use Rattle.std.proofs.Common.{arith}
 use Rattle.lrp_store.proofs.Held.{same_tables, appended}
 use Rattle.lrp_store.proofs.Added.{room_left}
+use Rattle.lrp_store.proofs.Remembered.{same_remembered, appended_remembered}
 use Rattle.lrp_store.proofs.store.Store.add.Goals as goal
 
 pub invariant_of-self : goal.invariant_of-self
-invariant_of-self c = same_tables (record { shape = c.self.inside.shape; period = c.self.inside.period; tables = c.self.inside.slots.lists; spare = c.self.inside.slots.spare }) c.append.new.self.lists c.append.new.self.spare c.self.invariant c.in_err-append.ensures.err
+invariant_of-self c = record {
+  valid = same_tables (record { shape = c.self.inside.shape; period = c.self.inside.period; tables = c.self.inside.slots.lists; spare = c.self.inside.slots.spare }) c.append.new.self.lists c.append.new.self.spare c.self.invariant.valid c.in_err-append.ensures.err;
+  whole = same_remembered c.self.inside.slots.lists c.append.new.self.lists c.self.inside.whole c.in_err-append.ensures.err c.self.invariant.whole;
+}
 
 pub invariant_of-self-2 : goal.invariant_of-self-2
-invariant_of-self-2 c =
-    appended (record { shape = c.self.inside.shape; period = c.self.inside.period; tables = c.self.inside.slots.lists; spare = c.self.inside.slots.spare }) c.args.self.now c.self.view_is c.self.invariant c.args.cell.now c.args.zone.now c.columns.ensures.valid c.requires.period c.requires.residues c.requires.texts c.requires.times
-    c.in_ok-bounds.bounds c.in_ok-bounds.ensures.ok c.append.new.self.lists c.in_ok-append.ensures.ok c.args.cap c.append.new.self.spare (omega (arith, c.ranges.cap))
-    (room_left (record { shape = c.self.inside.shape; period = c.self.inside.period; tables = c.self.inside.slots.lists; spare = c.self.inside.slots.spare }) c.args.self.now c.self.view_is c.args.cell.now c.args.cap c.is_one_too_many.result c.is_one_too_many.ensures c.if-is_one_too_many.false)
+invariant_of-self-2 c = record {
+  valid =
+      appended (record { shape = c.self.inside.shape; period = c.self.inside.period; tables = c.self.inside.slots.lists; spare = c.self.inside.slots.spare }) c.args.self.now c.self.view_is c.self.invariant.valid c.args.cell.now c.args.zone.now c.columns.ensures.valid c.requires.period c.requires.residues c.requires.texts c.requires.times
+      c.in_ok-bounds.bounds c.in_ok-bounds.ensures.ok c.append.new.self.lists c.in_ok-append.ensures.ok c.args.cap c.append.new.self.spare (omega (arith, c.ranges.cap))
+      (room_left (record { shape = c.self.inside.shape; period = c.self.inside.period; tables = c.self.inside.slots.lists; spare = c.self.inside.slots.spare }) c.args.self.now c.self.view_is c.args.cell.now c.args.cap c.is_one_too_many.result c.is_one_too_many.ensures c.if-is_one_too_many.false);
+  whole = appended_remembered c.self.inside.slots.lists c.append.new.self.lists c.self.inside.whole c.args.cell.now c.in_ok-bounds.bounds c.in_ok-append.ensures.ok c.self.invariant.whole;
+}
 
 pub returns-in_err-append-clause-valid : goal.returns-in_err-append-clause-valid
-returns-in_err-append-clause-valid c = invariant_of-self c
+returns-in_err-append-clause-valid c = (invariant_of-self c).valid
 
 pub returns-clause-valid : goal.returns-clause-valid
-returns-clause-valid c = invariant_of-self-2 c
+returns-clause-valid c = (invariant_of-self-2 c).valid

@@ -12,12 +12,12 @@ nearest_of_cell-requires-clause-zone c =
     (zone_valid (record { shape = c.self.inside.shape; period = c.self.inside.period; tables = c.self.inside.slots.lists; spare = c.self.inside.slots.spare }) c.args.self.now c.self.view_is c.shape.ensures.valid c.args.cell.now c.args.bounds.now c.from-times.result c.requires.held c.from-times.ensures)
 
 pub nearest_of_cell-requires-clause-columns : goal.nearest_of_cell-requires-clause-columns
-nearest_of_cell-requires-clause-columns c = let size : length c.args.cell.now.residues ≡ 8 = search rules in length-take-le c.from-times.result c.args.cell.now.residues (omega (arith, c.self.invariant.times, c.from-times.ensures))
+nearest_of_cell-requires-clause-columns c = let size : length c.args.cell.now.residues ≡ 8 = search rules in length-take-le c.from-times.result c.args.cell.now.residues (omega (arith, c.self.invariant.valid.times, c.from-times.ensures))
 
 pub returns-then-is_free : goal.returns-then-is_free
 returns-then-is_free c =
     subst (λ z. IsNearestTo z (columns_of z) c.nearest_of_cell.result) (zone_read (record { shape = c.self.inside.shape; period = c.self.inside.period; tables = c.self.inside.slots.lists; spare = c.self.inside.slots.spare }) c.args.self.now c.self.view_is c.args.cell.now c.args.bounds.now c.from-times.result (record { period = c.self.inside.period; residues = take c.from-times.result c.args.cell.now.residues; bounds = c.args.bounds.now }) c.from-times.ensures refl)
-    (subst (λ n. IsNearestTo (record { period = c.self.inside.period; residues = take c.from-times.result c.args.cell.now.residues; bounds = c.args.bounds.now }) n c.nearest_of_cell.result) (sym (let size : length c.args.cell.now.residues ≡ 8 = search rules in length-take-le c.from-times.result c.args.cell.now.residues (omega (arith, c.self.invariant.times, c.from-times.ensures))))
+    (subst (λ n. IsNearestTo (record { period = c.self.inside.period; residues = take c.from-times.result c.args.cell.now.residues; bounds = c.args.bounds.now }) n c.nearest_of_cell.result) (sym (let size : length c.args.cell.now.residues ≡ 8 = search rules in length-take-le c.from-times.result c.args.cell.now.residues (omega (arith, c.self.invariant.valid.times, c.from-times.ensures))))
     (subst (λ t. IsNearestTo (record { period = c.self.inside.period; residues = take c.from-times.result c.args.cell.now.residues; bounds = t }) c.from-times.result c.nearest_of_cell.result) (sym (c.is_free.ensures.0 c.if-is_free.true)) c.nearest_of_cell.ensures))
 
 pub zone-requires : goal.zone-requires
