@@ -23,7 +23,8 @@ use Rattle.lrp_tables.proofs.Pieced.{in_store, none_left, piece_fits, piece_reac
 use Rattle.lrp_tables.proofs.TableMade.{held_times, held_texts}
 use Rattle.lrp_algebra.specs.declared.layout.Places.{Places}
 use Rattle.lrp_algebra.specs.declared.pattern.Pattern.{Pattern}
-use Rattle.lrp_algebra.specs.Patterns.{parts_of, IsOver, number_at}
+use Rattle.lrp_algebra.specs.Patterns.{parts_of, IsOver}
+use Rattle.lrp_tables.specs.Calls.{number_at}
 use Rattle.lrp_algebra.specs.Gathered.{AreOwn, CanStandIn, HasBrought, HasNumbersBelow, IsAlike, IsFound}
 use Rattle.lrp_algebra.proofs.Found.{mapped_at}
 use Rattle.lrp_algebra.proofs.Parts.{IsGathering, gathering_none, gathering_more, gathering_refused, gathered, added_as, refused_as}

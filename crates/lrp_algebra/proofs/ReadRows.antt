@@ -10,7 +10,7 @@ use Rattle.std.proofs.lemmas.Bool.{cases_lt}
 use Rattle.lrp_theory.specs.Divides.{Divides}
 use Rattle.lrp_theory.specs.Entries.{node}
 use Rattle.lrp_model.specs.Reach.{greatest, offset, term_magnitudes}
-use Rattle.lrp_model.specs.Rows.{Datum, time, text, time_at, IsOf, Meets}
+use Rattle.lrp_model.specs.Rows.{Datum, time, text, IsOf, MeetsBound}
 use Rattle.lrp_model.specs.Satisfaction.{Assignment, Passes, term_value, time_value}
 use Rattle.lrp_model.specs.Texts.{Text, Identifier}
 use Rattle.lrp_model.specs.declared.formulas.DataTerm.{DataTerm}
@@ -185,30 +185,35 @@ none_of_values domain times texts values terms n fails = record { none = λ env 
 
 -- ---- the sides of bounds
 
+-- of no times, each column is the number zero
+pub node_none : (n : ℕ) → node [] n ≡ pos 0
+node_none zero = refl
+node_none (suc n) = refl
+
 -- a time column behind the first one
-pub behind : (x : ℤ) (xs : List ℤ) (n : ℕ) → n ≢ 1 → time_at (x ∷ xs) n ≡ time_at xs (n - 1)
+pub behind : (x : ℤ) (xs : List ℤ) (n : ℕ) → n ≢ 1 → node (x ∷ xs) n ≡ node xs (n - 1)
 behind x [] zero h = refl
 behind x (y ∷ xs) zero h = refl
 behind x xs (suc zero) h = absurd (h refl)
-behind x xs (suc (suc n)) h = let e : suc n ≡ suc (suc n) - 1 = omega arith in ap (time_at xs) e
+behind x xs (suc (suc n)) h = let e : suc n ≡ suc (suc n) - 1 = omega arith in ap (node xs) e
 
 -- the terms from one of them on
 next_of : (terms : List Term) (i : ℕ) (item : Term) → i < length terms → item ≡ get_or terms i item → drop i terms ≡ item ∷ drop (i + 1) terms
 next_of terms i item low is = drop_more terms i item low ∙ ap (λ u. u ∷ drop (i + 1) terms) (sym is)
 
 -- the first time among the terms that are left
-pub first_left : (env : Assignment) (terms : List Term) (i : ℕ) (item : Term) (t : TimeTerm) (n : ℕ) → i < length terms → item ≡ get_or terms i item → item ≡ time_term t → n ≡ 1 → time_at (term_times env (drop i terms)) n ≡ time_value env t
-first_left env terms i item t n low is e en = ap (λ l. time_at (term_times env l) n) (next_of terms i item low is ∙ ap (λ u. u ∷ drop (i + 1) terms) e) ∙ ap (time_at (time_value env t ∷ term_times env (drop (i + 1) terms))) en
+pub first_left : (env : Assignment) (terms : List Term) (i : ℕ) (item : Term) (t : TimeTerm) (n : ℕ) → i < length terms → item ≡ get_or terms i item → item ≡ time_term t → n ≡ 1 → node (term_times env (drop i terms)) n ≡ time_value env t
+first_left env terms i item t n low is e en = ap (λ l. node (term_times env l) n) (next_of terms i item low is ∙ ap (λ u. u ∷ drop (i + 1) terms) e) ∙ ap (node (time_value env t ∷ term_times env (drop (i + 1) terms))) en
 
 -- a later one, behind a time
-pub later_left : (env : Assignment) (terms : List Term) (i : ℕ) (item : Term) (t : TimeTerm) (n next : ℕ) → i < length terms → item ≡ get_or terms i item → item ≡ time_term t → n ≢ 1 → next ≡ n - 1 → time_at (term_times env (drop i terms)) n ≡ time_at (term_times env (drop (i + 1) terms)) next
-later_left env terms i item t n next low is e other en = ap (λ l. time_at (term_times env l) n) (next_of terms i item low is ∙ ap (λ u. u ∷ drop (i + 1) terms) e) ∙ behind (time_value env t) (term_times env (drop (i + 1) terms)) n other ∙ ap (time_at (term_times env (drop (i + 1) terms))) (sym en)
+pub later_left : (env : Assignment) (terms : List Term) (i : ℕ) (item : Term) (t : TimeTerm) (n next : ℕ) → i < length terms → item ≡ get_or terms i item → item ≡ time_term t → n ≢ 1 → next ≡ n - 1 → node (term_times env (drop i terms)) n ≡ node (term_times env (drop (i + 1) terms)) next
+later_left env terms i item t n next low is e other en = ap (λ l. node (term_times env l) n) (next_of terms i item low is ∙ ap (λ u. u ∷ drop (i + 1) terms) e) ∙ behind (time_value env t) (term_times env (drop (i + 1) terms)) n other ∙ ap (node (term_times env (drop (i + 1) terms))) (sym en)
 
 -- a text is not counted
-pub text_left : (env : Assignment) (terms : List Term) (i : ℕ) (item : Term) (n next : ℕ) → i < length terms → item ≡ get_or terms i item → ((t : TimeTerm) → item ≡ time_term t → ⊥) → next ≡ n → time_at (term_times env (drop i terms)) n ≡ time_at (term_times env (drop (i + 1) terms)) next
-text_left env terms i item n next low is none en = ap (λ l. time_at (term_times env l) n) (next_of terms i item low is) ∙ by item none ∙ ap (time_at (term_times env (drop (i + 1) terms))) (sym en)
+pub text_left : (env : Assignment) (terms : List Term) (i : ℕ) (item : Term) (n next : ℕ) → i < length terms → item ≡ get_or terms i item → ((t : TimeTerm) → item ≡ time_term t → ⊥) → next ≡ n → node (term_times env (drop i terms)) n ≡ node (term_times env (drop (i + 1) terms)) next
+text_left env terms i item n next low is none en = ap (λ l. node (term_times env l) n) (next_of terms i item low is) ∙ by item none ∙ ap (node (term_times env (drop (i + 1) terms))) (sym en)
   where
-    by : (u : Term) → ((t : TimeTerm) → u ≡ time_term t → ⊥) → time_at (term_times env (u ∷ drop (i + 1) terms)) n ≡ time_at (term_times env (drop (i + 1) terms)) n
+    by : (u : Term) → ((t : TimeTerm) → u ≡ time_term t → ⊥) → node (term_times env (u ∷ drop (i + 1) terms)) n ≡ node (term_times env (drop (i + 1) terms)) n
     by (time_term t) h = absurd (h t refl)
     by (data_term t) h = refl
 
@@ -243,14 +248,14 @@ zip_to_all P Q (x ∷ xs) (y ∷ ys) e f h zero d low = f 0 x y (omega arith) h.
 zip_to_all P Q (x ∷ xs) (y ∷ ys) e f h (suc k) d low = zip_to_all P Q xs ys (omega (arith, e)) (λ i a b l. f (suc i) a b (omega (arith, l))) h.1 k d (omega (arith, low))
 
 -- a bound of sides, as one of their columns
-pub shift_bound : (times : List Identifier) (terms : List Term) (bound new : Bound) (l r : Side) → ((env : Assignment) → side_value l (map env.times times) ≡ time_at (term_times env terms) bound.left) → ((env : Assignment) → side_value r (map env.times times) ≡ time_at (term_times env terms) bound.right)
+pub shift_bound : (times : List Identifier) (terms : List Term) (bound new : Bound) (l r : Side) → ((env : Assignment) → side_value l (map env.times times) ≡ node (term_times env terms) bound.left) → ((env : Assignment) → side_value r (map env.times times) ≡ node (term_times env terms) bound.right)
     → l.column ≤ length times → r.column ≤ length times → nat_abs l.plus ≤ greatest (flat_map term_magnitudes terms) → nat_abs r.plus ≤ greatest (flat_map term_magnitudes terms) → new.left ≡ l.column → new.right ≡ r.column → new.most ≡ (bound.most -ℤ l.plus) +ℤ r.plus → IsShifted times terms bound new
 shift_bound times terms bound new l r lv rv lc rc ls rs el er em = record {
   left = subst (λ n. n ≤ length times) (sym el) lc;
   right = subst (λ n. n ≤ length times) (sym er) rc;
   small = size (nat_abs new.most) (greatest (flat_map term_magnitudes terms)) new.most bound.most l.plus r.plus em ls rs refl;
-  to = λ env h. to_it new.most bound.most l.plus r.plus (node (map env.times times) l.column) (node (map env.times times) r.column) (time_at (term_times env terms) bound.left) (time_at (term_times env terms) bound.right) em (lv env) (rv env) (subst (λ n. (node (map env.times times) n -ℤ node (map env.times times) r.column) ≤ℤ new.most) el (subst (λ n. (node (map env.times times) new.left -ℤ node (map env.times times) n) ≤ℤ new.most) er h));
-  from = λ env h. subst (λ n. (node (map env.times times) n -ℤ node (map env.times times) new.right) ≤ℤ new.most) (sym el) (subst (λ n. (node (map env.times times) l.column -ℤ node (map env.times times) n) ≤ℤ new.most) (sym er) (from_it new.most bound.most l.plus r.plus (node (map env.times times) l.column) (node (map env.times times) r.column) (time_at (term_times env terms) bound.left) (time_at (term_times env terms) bound.right) em (lv env) (rv env) h));
+  to = λ env h. to_it new.most bound.most l.plus r.plus (node (map env.times times) l.column) (node (map env.times times) r.column) (node (term_times env terms) bound.left) (node (term_times env terms) bound.right) em (lv env) (rv env) (subst (λ n. (node (map env.times times) n -ℤ node (map env.times times) r.column) ≤ℤ new.most) el (subst (λ n. (node (map env.times times) new.left -ℤ node (map env.times times) n) ≤ℤ new.most) er h));
+  from = λ env h. subst (λ n. (node (map env.times times) n -ℤ node (map env.times times) new.right) ≤ℤ new.most) (sym el) (subst (λ n. (node (map env.times times) l.column -ℤ node (map env.times times) n) ≤ℤ new.most) (sym er) (from_it new.most bound.most l.plus r.plus (node (map env.times times) l.column) (node (map env.times times) r.column) (node (term_times env terms) bound.left) (node (term_times env terms) bound.right) em (lv env) (rv env) h));
 }
   where
     size : (a g : ℕ) (m b p q : ℤ) → m ≡ (b -ℤ p) +ℤ q → nat_abs p ≤ g → nat_abs q ≤ g → a ≡ nat_abs m → a ≤ nat_abs b + 2 * g
@@ -351,11 +356,11 @@ bound_room bounds terms i d room low = by (nat_abs (get_or bounds i d).most) (gr
 
 module _ (times : List Identifier) (terms : List Term) (old new : List Bound) (are : AreShifted times terms old new) where
   -- the shifted bounds are met where the others are
-  pub shifted_to : (env : Assignment) → MeetsEach new (map env.times times) → AllByRecursion (Meets (term_times env terms)) old
-  shifted_to env = all_to_zip (λ (b : Bound). (node (map env.times times) b.left -ℤ node (map env.times times) b.right) ≤ℤ b.most) (Meets (term_times env terms)) new old are.count (λ i x y low. (are.each i x y low).to env)
+  pub shifted_to : (env : Assignment) → MeetsEach new (map env.times times) → AllByRecursion (MeetsBound (term_times env terms)) old
+  shifted_to env = all_to_zip (λ (b : Bound). (node (map env.times times) b.left -ℤ node (map env.times times) b.right) ≤ℤ b.most) (MeetsBound (term_times env terms)) new old are.count (λ i x y low. (are.each i x y low).to env)
 
-  pub shifted_from : (env : Assignment) → AllByRecursion (Meets (term_times env terms)) old → MeetsEach new (map env.times times)
-  shifted_from env = zip_to_all (λ (b : Bound). (node (map env.times times) b.left -ℤ node (map env.times times) b.right) ≤ℤ b.most) (Meets (term_times env terms)) new old are.count (λ i x y low. (are.each i x y low).from env)
+  pub shifted_from : (env : Assignment) → AllByRecursion (MeetsBound (term_times env terms)) old → MeetsEach new (map env.times times)
+  shifted_from env = zip_to_all (λ (b : Bound). (node (map env.times times) b.left -ℤ node (map env.times times) b.right) ≤ℤ b.most) (MeetsBound (term_times env terms)) new old are.count (λ i x y low. (are.each i x y low).from env)
 
   pub shifted_between : All (λ (b : Bound). (b.left ≤ length times) × (b.right ≤ length times)) new
   shifted_between k d low = let s = are.each k d d low in (s.left, s.right)

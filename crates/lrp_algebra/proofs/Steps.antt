@@ -29,7 +29,8 @@ use Rattle.lrp_tables.proofs.Numbers.{number_of, domain_differs, numbers_are, ar
 use Rattle.lrp_tables.proofs.TableMade.{table_of}
 use Rattle.lrp_algebra.specs.declared.layout.Places.{Places}
 use Rattle.lrp_algebra.specs.declared.pattern.Pattern.{Pattern}
-use Rattle.lrp_algebra.specs.Patterns.{parts_of, IsAt, IsOver, IsKnown, Suits, number_at}
+use Rattle.lrp_algebra.specs.Patterns.{parts_of, IsAt, IsOver, IsKnown, Suits}
+use Rattle.lrp_tables.specs.Calls.{number_at}
 use Rattle.lrp_algebra.specs.Gathered.{CanStandIn, HasBrought}
 use Rattle.lrp_algebra.proofs.Parts.{held_just, added_reach, added_few, refused_many}
 

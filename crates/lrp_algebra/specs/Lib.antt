@@ -1,12 +1,14 @@
 -- What the operations on tables do.
-pub mod Columns
-pub mod Comparisons
+
+-- What contracts of public calls say.
 pub mod Conditions
-pub mod Fillings
-pub mod Gathered
-pub mod Indexes
 pub mod Patterns
 pub mod Rows
 pub mod Tables
+-- What functions inside say to one another.
+pub mod Columns
+pub mod Comparisons
+pub mod Fillings
+pub mod Gathered
+pub mod Indexes
 pub mod Tuples
-pub mod Wholes

@@ -4,7 +4,7 @@ use Rattle.std.specs.List.{AllByRecursion}
 use Rattle.lrp_theory.specs.Divides.{Divides, IsMember}
 use Rattle.lrp_theory.specs.Entries.{node}
 use Rattle.lrp_model.specs.Reach.{greatest, term_magnitudes}
-use Rattle.lrp_model.specs.Rows.{Datum, time, text, times_of, IsOf, IsInRow, Meets}
+use Rattle.lrp_model.specs.Rows.{Datum, time, text, times_of, IsOf, IsInRow, MeetsBound}
 use Rattle.lrp_model.specs.Satisfaction.{Assignment, term_value}
 use Rattle.lrp_model.specs.Texts.{Text, Identifier}
 use Rattle.lrp_model.specs.declared.formulas.Term.{Term}
@@ -49,8 +49,8 @@ pub record IsShifted (times : List Identifier) (terms : List Term) (old new : Bo
   pub left : new.left ≤ length times
   pub right : new.right ≤ length times
   pub small : nat_abs new.most ≤ nat_abs old.most + offsets_reach terms
-  pub to : (env : Assignment) → (node (map env.times times) new.left -ℤ node (map env.times times) new.right) ≤ℤ new.most → Meets (term_times env terms) old
-  pub from : (env : Assignment) → Meets (term_times env terms) old → (node (map env.times times) new.left -ℤ node (map env.times times) new.right) ≤ℤ new.most
+  pub to : (env : Assignment) → (node (map env.times times) new.left -ℤ node (map env.times times) new.right) ≤ℤ new.most → MeetsBound (term_times env terms) old
+  pub from : (env : Assignment) → MeetsBound (term_times env terms) old → (node (map env.times times) new.left -ℤ node (map env.times times) new.right) ≤ℤ new.most
 
 -- the tuple meets each of the bounds
 abbrev pub MeetsEach : List Bound → List ℤ → Type 0
@@ -71,14 +71,14 @@ pub record HasNoBounded (bounds : List Bound) (columns : ℕ) : Type 0 where
 -- new asks what old asks, and that the times of the terms meet the bounds
 pub record IsWithBounds (times : List Identifier) (terms : List Term) (bounds : List Bound) (old new : Pattern) : Type 0 where
   pub size : length new.texts ≡ 8
-  pub to : (env : Assignment) (ns : List ℕ) → Suits new (map env.times times) ns → Suits old (map env.times times) ns × AllByRecursion (Meets (term_times env terms)) bounds
-  pub from : (env : Assignment) (ns : List ℕ) → Suits old (map env.times times) ns → AllByRecursion (Meets (term_times env terms)) bounds → Suits new (map env.times times) ns
+  pub to : (env : Assignment) (ns : List ℕ) → Suits new (map env.times times) ns → Suits old (map env.times times) ns × AllByRecursion (MeetsBound (term_times env terms)) bounds
+  pub from : (env : Assignment) (ns : List ℕ) → Suits old (map env.times times) ns → AllByRecursion (MeetsBound (term_times env terms)) bounds → Suits new (map env.times times) ns
   pub fits : (k : ℕ) → 0 < k → bounds_reach bounds terms + k ≤ 2 ^ 62 → All (Fits (length times) k) (parts_of old) → All (Fits (length times) k) (parts_of new)
   pub reach : (k high : ℕ) → 0 < k → bounds_reach bounds terms + k ≤ high → system_reach k (parts_of old) ≤ high → system_reach k (parts_of new) ≤ high
 
 -- the times of the terms never meet the bounds
 pub record HasNoBounds (times : List Identifier) (terms : List Term) (bounds : List Bound) : Type 0 where
-  pub none : (env : Assignment) → AllByRecursion (Meets (term_times env terms)) bounds → ⊥
+  pub none : (env : Assignment) → AllByRecursion (MeetsBound (term_times env terms)) bounds → ⊥
 
 -- ---- values
 

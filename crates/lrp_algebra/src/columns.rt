@@ -60,7 +60,16 @@ pub fn store_over(alloc: Global, vars: &Vars, period: i64) -> Store
     requires texts { length vars.now.texts ≤ 8 }
     requires low { pos 1 ≤ℤ period }
     requires high { period ≤ℤ pos (2 ^ 62) }
-    ensures { result ≡ record { shape = record { times = length vars.now.times; texts = length vars.now.texts }; period = nat_abs period; tables = finite.empty; spare = 0 } }
+    ensures { result ≡ record {
+      shape = record {
+        times = length vars.now.times;
+        texts = length
+            vars.now.texts;
+      };
+      period = nat_abs period;
+      tables = finite.empty;
+      spare = 0;
+    } }
 {
     let shape = Shape {
         times: vars.times.len() as u8,

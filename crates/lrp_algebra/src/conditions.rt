@@ -26,7 +26,10 @@ pub fn with_comparison(
     requires left { AreNamesAmong (names_of_time left.now) times.now }
     requires right { AreNamesAmong (names_of_time right.now) times.now }
     requires reach { 1 + nat_abs (offset left.now -ℤ offset right.now) ≤ 2 ^ 62 }
-    ensures { IfOk result (λ found. (domain : ListOf Text) (texts : ListOf Identifier) → MatchOption found (HasNoTest domain times.now texts (Compare left.now op right.now) pattern) (IsWithTest domain times.now texts (Compare left.now op right.now) pattern)) }
+    ensures { IfOk result (λ found. (domain : ListOf Text) (texts : ListOf Identifier)
+        → MatchOption found (HasNoTest domain times.now texts
+        (Compare left.now op right.now) pattern)
+        (IsWithTest domain times.now texts (Compare left.now op right.now) pattern)) }
 {
     let columns = times.len();
     let first = side_of(left, times);
@@ -52,7 +55,9 @@ pub fn with_member(
     requires names { AreNamesAmong (names_of_time term.now) times.now }
     requires low { pos 1 ≤ℤ point.period }
     requires high { point.period ≤ℤ pos (2 ^ 62) }
-    ensures { IfOk result (λ found. (domain : ListOf Text) (texts : ListOf Identifier) → MatchOption found (HasNoTest domain times.now texts (Member term.now point) pattern) (IsWithTest domain times.now texts (Member term.now point) pattern)) }
+    ensures { IfOk result (λ found. (domain : ListOf Text) (texts : ListOf Identifier)
+        → MatchOption found (HasNoTest domain times.now texts (Member term.now point) pattern)
+        (IsWithTest domain times.now texts (Member term.now point) pattern)) }
 {
     if point.period == 1 {
         return Ok(Some(pattern));

@@ -71,8 +71,11 @@ fn add_without_text(
 ) -> Result<(), StoreFault>
     requires place { place ≤ out.old.shape.texts }
     requires wide { out.old.shape.texts < 8 }
-    requires fits { Fits (record { times = out.old.shape.times; texts = out.old.shape.texts + 1 }) out.old.period piece.now }
-    ensures ok { OnOk result (IsAdded (IsMadeFrom (IsWithoutText place size) (InPiece (out.old.shape.texts + 1) piece.now)) (2 ^ 32 - 1) (reach_of piece.now.zone) out.old out.new) }
+    requires fits { Fits (record { times = out.old.shape.times; texts = out.old.shape.texts + 1 })
+        out.old.period piece.now }
+    ensures ok { OnOk result (IsAdded (IsMadeFrom (IsWithoutText place size)
+        (InPiece (out.old.shape.texts + 1) piece.now)) (2 ^ 32 - 1)
+        (reach_of piece.now.zone) out.old out.new) }
 {
     out.shape();
     piece.zone.columns();

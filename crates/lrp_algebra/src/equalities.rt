@@ -23,7 +23,10 @@ pub fn with_equal(
     requires known { length pattern.texts ≡ 8 }
     requires left { AreNamesAmong (names_of_data left.now) texts.now }
     requires right { AreNamesAmong (names_of_data right.now) texts.now }
-    ensures { IfOk result (λ found. (times : ListOf Identifier) → MatchOption found (HasNoTest domain.now times texts.now (Equal left.now right.now) pattern) (IsWithTest domain.now times texts.now (Equal left.now right.now) pattern)) }
+    ensures { IfOk result (λ found. (times : ListOf Identifier)
+        → MatchOption found (HasNoTest domain.now times texts.now
+        (Equal left.now right.now) pattern)
+        (IsWithTest domain.now times texts.now (Equal left.now right.now) pattern)) }
 {
     domain.len();
     match left {
@@ -64,7 +67,10 @@ pub fn with_constant(
     requires few { length texts.now ≤ 8 }
     requires known { length pattern.texts ≡ 8 }
     requires names { AreNamesAmong (names_of_data term.now) texts.now }
-    ensures { IfOk result (λ found. (times : ListOf Identifier) → MatchOption found (HasNoTest domain.now times texts.now (Equal term.now (constant text.now)) pattern) (IsWithTest domain.now times texts.now (Equal term.now (constant text.now)) pattern)) }
+    ensures { IfOk result (λ found. (times : ListOf Identifier)
+        → MatchOption found (HasNoTest domain.now times texts.now
+        (Equal term.now (constant text.now)) pattern)
+        (IsWithTest domain.now times texts.now (Equal term.now (constant text.now)) pattern)) }
 {
     domain.len();
     match term {
@@ -92,7 +98,8 @@ fn with_text(
     requires low { 0 < column }
     requires high { column ≤ 8 }
     requires known { length pattern.texts ≡ 8 }
-    ensures { IfOk result (λ found. MatchOption found (HasNoText domain.now pattern column text.now) (IsWithText domain.now pattern column text.now)) }
+    ensures { IfOk result (λ found. MatchOption found (HasNoText domain.now pattern column text.now)
+        (IsWithText domain.now pattern column text.now)) }
 {
     domain.len();
     let Some(number) = domain.find(text) else {

@@ -27,10 +27,11 @@ mod tested;
 mod time_drops;
 mod unions;
 
-pub use columns::{head_vars, scan_vars, store_over};
+pub use columns::{head_vars, joint_vars, scan_vars, store_over};
 pub use data_drops::drop_data;
-pub use filling::add_pattern;
+pub use filling::{add_pattern, is_asked, parts_from};
 pub use joins::join;
+pub use layout::{Operand, Places, places_of};
 pub use lrp_tables::{StepFault, Table, Vars};
 pub use pair::Pair;
 pub use pattern::{Known, Pattern, Placed, known_at};

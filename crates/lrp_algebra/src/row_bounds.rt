@@ -1,7 +1,7 @@
 // The bounds of a row, as bounds of the columns of a longer tuple.
 ghost use Rattle.std.specs.Prelude.{◌≡◌, ◌+◌, ◌<◌, ◌≤◌, ◌^◌, ◌-ℤ◌, ◌≤ℤ◌, nat_abs, length, map, flat_map, All, IfOk, IfSome, IfNone, MatchOption};
 ghost use Rattle.lrp_model.specs.Reach.{greatest, term_magnitudes};
-ghost use Rattle.lrp_model.specs.Rows.{time_at};
+ghost use Rattle.lrp_theory.specs.Entries.{node};
 ghost use Rattle.lrp_model.specs.Satisfaction.{Assignment};
 ghost use Rattle.lrp_tables.specs.Columns.{times_of_term};
 ghost use Rattle.lrp_tables.specs.Tables.{AreNamesAmong};
@@ -30,7 +30,8 @@ pub fn with_bounds(
     requires known { length pattern.texts ≡ 8 }
     requires names { AreNamesAmong (flat_map times_of_term terms.now) times.now }
     requires room { bounds_reach bounds.now terms.now < 2 ^ 62 }
-    ensures { IfOk result (λ found. MatchOption found (HasNoBounds times.now terms.now bounds.now) (IsWithBounds times.now terms.now bounds.now pattern)) }
+    ensures { IfOk result (λ found. MatchOption found (HasNoBounds times.now terms.now bounds.now)
+        (IsWithBounds times.now terms.now bounds.now pattern)) }
 {
     if bounds.len() == 0 {
         return Ok(Some(pattern));
@@ -81,7 +82,8 @@ fn shifted_bound(bound: &Bound, terms: &List<Term>, times: &List<Name>) -> Bound
 fn side_at(terms: &List<Term>, place: u8, times: &List<Name>) -> Side
     requires few { length times.now ≤ 8 }
     requires names { AreNamesAmong (flat_map times_of_term terms.now) times.now }
-    ensures value { (env : Assignment) → side_value result (map env.times times.now) ≡ time_at (term_times env terms.now) place }
+    ensures value { (env : Assignment) → side_value result (map env.times times.now)
+        ≡ node (term_times env terms.now) place }
     ensures column { result.column ≤ length times.now }
     ensures small { nat_abs result.plus ≤ greatest (flat_map term_magnitudes terms.now) }
 {

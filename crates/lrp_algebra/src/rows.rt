@@ -26,7 +26,9 @@ pub fn row_pattern(
     requires times { AreNamesAmong (flat_map times_of_term terms.now) vars.now.times }
     requires texts { AreNamesAmong (flat_map texts_of_term terms.now) vars.now.texts }
     requires row { CanBeRead terms.now row.now }
-    ensures { IfOk result (λ found. MatchOption found (HasNoRow domain.now vars.now.times vars.now.texts terms.now row.now) (IsOfRow domain.now vars.now.times vars.now.texts terms.now row.now)) }
+    ensures { IfOk result (λ found. MatchOption found
+        (HasNoRow domain.now vars.now.times vars.now.texts terms.now row.now)
+        (IsOfRow domain.now vars.now.times vars.now.texts terms.now row.now)) }
 {
     match with_values(alloc, &row.values, terms, vars, domain)? {
         Some(pattern) => with_bounds(alloc, pattern, &row.bounds, terms, &vars.times),
@@ -48,7 +50,9 @@ fn with_values(
     requires texts { AreNamesAmong (flat_map texts_of_term terms.now) vars.now.texts }
     requires count { length values.now ≡ length terms.now }
     requires periods { AllByRecursion HasSmallPeriod values.now }
-    ensures { IfOk result (λ found. MatchOption found (HasNoValues domain.now vars.now.times vars.now.texts values.now terms.now) (IsWithValues domain.now vars.now.times vars.now.texts values.now terms.now)) }
+    ensures { IfOk result (λ found. MatchOption found
+        (HasNoValues domain.now vars.now.times vars.now.texts values.now terms.now)
+        (IsWithValues domain.now vars.now.times vars.now.texts values.now terms.now)) }
 {
     let mut pattern = Pattern::new(alloc);
     for i in 0..terms.len() {
@@ -74,7 +78,9 @@ fn with_value(
     requires times { AreNamesAmong (times_of_term term.now) vars.now.times }
     requires texts { AreNamesAmong (texts_of_term term.now) vars.now.texts }
     requires period { HasSmallPeriod value.now }
-    ensures { IfOk result (λ found. MatchOption found (HasNoValue domain.now vars.now.times vars.now.texts value.now term.now pattern) (IsWithValue domain.now vars.now.times vars.now.texts value.now term.now pattern)) }
+    ensures { IfOk result (λ found. MatchOption found
+        (HasNoValue domain.now vars.now.times vars.now.texts value.now term.now pattern)
+        (IsWithValue domain.now vars.now.times vars.now.texts value.now term.now pattern)) }
 {
     match value {
         Value::Point { at } => match term {

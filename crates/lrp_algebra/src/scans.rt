@@ -34,10 +34,17 @@ pub fn scan(
     requires high { period ≤ℤ pos (2 ^ 62) }
     requires relation { CanScan domain.now period relation.now terms.now }
     requires reach { scan_reach relation.now.rows terms.now (nat_abs period) ≤ 2 ^ 62 }
-    ensures table { IfOk result (λ made. IsTableOf domain.now (scan_times terms.now) (scan_texts terms.now) (nat_abs period) (IsScanned domain.now relation.now terms.now) made) }
-    ensures reach { IfOk result (λ made. HasReach made.store (scan_reach relation.now.rows terms.now (nat_abs period))) }
-    ensures few { OnOk result (InhabitsMoreThan cap domain.now (nat_abs period) (scan_times terms.now) (scan_texts terms.now) (IsScanned domain.now relation.now terms.now) → ⊥) }
-    ensures many { result ≡ Err StepFault.TooManyCells → InhabitsMoreThan cap domain.now (nat_abs period) (scan_times terms.now) (scan_texts terms.now) (IsScanned domain.now relation.now terms.now) }
+    ensures table { IfOk result (λ made. IsTableOf domain.now (scan_times terms.now)
+        (scan_texts terms.now) (nat_abs period)
+        (IsScanned domain.now relation.now terms.now) made) }
+    ensures reach { IfOk result (λ made. HasReach made.store
+        (scan_reach relation.now.rows terms.now (nat_abs period))) }
+    ensures few { OnOk result (InhabitsMoreThan cap domain.now (nat_abs period)
+        (scan_times terms.now) (scan_texts terms.now) (IsScanned domain.now relation.now terms.now)
+        → ⊥) }
+    ensures many { result ≡ Err StepFault.TooManyCells
+        → InhabitsMoreThan cap domain.now (nat_abs period) (scan_times terms.now)
+        (scan_texts terms.now) (IsScanned domain.now relation.now terms.now) }
 {
     domain.len();
     let vars = scan_vars(alloc, terms)?;
@@ -72,8 +79,13 @@ fn add_row(
     requires row { CanBeRead terms.now row.now }
     requires periods { AllByRecursion (DividesPeriod (pos out.old.period)) row.now.values }
     requires room { bounds_reach row.now.bounds terms.now + out.old.period ≤ 2 ^ 62 }
-    ensures ok { OnOk result (IsAdded (IsOver out.old.shape (length domain.now) (IsRowTuple domain.now vars.now.times vars.now.texts terms.now row.now)) cap (bounds_reach row.now.bounds terms.now + out.old.period) out.old out.new) }
-    ensures too_many { result ≡ Err StoreFault.TooManyCells → IsRefused (IsOver out.old.shape (length domain.now) (IsRowTuple domain.now vars.now.times vars.now.texts terms.now row.now)) cap (bounds_reach row.now.bounds terms.now + out.old.period) out.old out.new }
+    ensures ok { OnOk result (IsAdded (IsOver out.old.shape (length domain.now)
+        (IsRowTuple domain.now vars.now.times vars.now.texts terms.now row.now)) cap
+        (bounds_reach row.now.bounds terms.now + out.old.period) out.old out.new) }
+    ensures too_many { result ≡ Err StoreFault.TooManyCells
+        → IsRefused (IsOver out.old.shape (length domain.now)
+        (IsRowTuple domain.now vars.now.times vars.now.texts terms.now row.now)) cap
+        (bounds_reach row.now.bounds terms.now + out.old.period) out.old out.new }
 {
     out.shape();
     match row_pattern(alloc, row, terms, vars, domain)? {

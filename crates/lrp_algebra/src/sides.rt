@@ -14,7 +14,8 @@ use lrp_tables::place_of;
 pub fn side_of(term: &TimeTerm, names: &List<Name>) -> Side
     requires few { length names.now ≤ 8 }
     requires names { AreNamesAmong (names_of_time term.now) names.now }
-    ensures value { (env : Assignment) → side_value result (map env.times names.now) ≡ time_value env term.now }
+    ensures value { (env : Assignment) → side_value result (map env.times names.now)
+        ≡ time_value env term.now }
     ensures column { result.column ≤ length names.now }
     ensures plus { result.plus ≡ offset term.now }
 {

@@ -23,10 +23,15 @@ use std::alloc::Global;
 pub fn leaf(alloc: Global, test: &Test, domain: &Domain, cap: u32) -> Result<Table, StepFault>
     requires low { pos 1 ≤ℤ test_period test.now }
     requires reach { test_reach test.now ≤ 2 ^ 62 }
-    ensures table { IfOk result (λ made. IsTableOf domain.now (test_times test.now) (test_names test.now) (nat_abs (test_period test.now)) (IsTested domain.now test.now) made) }
+    ensures table { IfOk result (λ made. IsTableOf domain.now (test_times test.now)
+        (test_names test.now) (nat_abs (test_period test.now))
+        (IsTested domain.now test.now) made) }
     ensures reach { IfOk result (λ made. HasReach made.store (test_reach test.now)) }
-    ensures few { OnOk result (InhabitsMoreThan cap domain.now (nat_abs (test_period test.now)) (test_times test.now) (test_names test.now) (IsTested domain.now test.now) → ⊥) }
-    ensures many { result ≡ Err StepFault.TooManyCells → InhabitsMoreThan cap domain.now (nat_abs (test_period test.now)) (test_times test.now) (test_names test.now) (IsTested domain.now test.now) }
+    ensures few { OnOk result (InhabitsMoreThan cap domain.now (nat_abs (test_period test.now))
+        (test_times test.now) (test_names test.now) (IsTested domain.now test.now) → ⊥) }
+    ensures many { result ≡ Err StepFault.TooManyCells
+        → InhabitsMoreThan cap domain.now (nat_abs (test_period test.now)) (test_times test.now)
+        (test_names test.now) (IsTested domain.now test.now) }
 {
     let vars = test_vars(alloc, test)?;
     let mut out = store_over(alloc, &vars, period_of(test));

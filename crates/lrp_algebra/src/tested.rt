@@ -28,7 +28,9 @@ pub fn with_test(
     requires texts { AreNamesAmong (texts_of_test test.now) vars.now.texts }
     requires low { pos 1 ≤ℤ test_period test.now }
     requires reach { test_reach test.now ≤ 2 ^ 62 }
-    ensures { IfOk result (λ found. MatchOption found (HasNoTest domain.now vars.now.times vars.now.texts test.now pattern) (IsWithTest domain.now vars.now.times vars.now.texts test.now pattern)) }
+    ensures { IfOk result (λ found. MatchOption found
+        (HasNoTest domain.now vars.now.times vars.now.texts test.now pattern)
+        (IsWithTest domain.now vars.now.times vars.now.texts test.now pattern)) }
 {
     match test {
         Test::Compare { left, op, right } => {
@@ -50,7 +52,9 @@ pub fn with_tests(
     requires few_texts { length vars.now.texts ≤ 8 }
     requires tests { AllByRecursion (CanBeAsked vars.now.times vars.now.texts) tests.now }
     requires reach { tests_reach tests.now ≤ 2 ^ 62 }
-    ensures { IfOk result (λ found. MatchOption found (HasNoTests domain.now vars.now.times vars.now.texts tests.now) (IsWithTests domain.now vars.now.times vars.now.texts tests.now)) }
+    ensures { IfOk result (λ found. MatchOption found
+        (HasNoTests domain.now vars.now.times vars.now.texts tests.now)
+        (IsWithTests domain.now vars.now.times vars.now.texts tests.now)) }
 {
     let mut pattern = Pattern::new(alloc);
     for test in tests.as_slice() {

@@ -1,19 +1,19 @@
 // One time column fewer: some integer completes what is left.
-ghost use Rattle.std.specs.Prelude.{◌≡◌, ◌+◌, ◌*◌, ◌-◌, ◌<◌, ◌≤◌, ◌^◌, pos, take, OnOk, IfOk};
-ghost use Rattle.lrp_zone.specs.Zones.{greatest_of, reach_of};
-ghost use Rattle.lrp_store.specs.Stores.{HasReach, IsPadded};
-ghost use Rattle.lrp_store.specs.Growing.{IsAdded, IsTupleOf};
+ghost use Rattle.std.specs.Prelude.{◌≡◌, ◌+◌, ◌*◌, ◌-◌, ◌<◌, ◌≤◌, ◌^◌, OnOk, IfOk};
+ghost use Rattle.lrp_zone.specs.Zones.{reach_of};
+ghost use Rattle.lrp_store.specs.Stores.{HasReach};
+ghost use Rattle.lrp_store.specs.Growing.{IsAdded};
 ghost use Rattle.lrp_tables.specs.Pieces.{Fits, InPiece};
 ghost use Rattle.lrp_tables.specs.Passes.{IsMadeFrom};
 ghost use Rattle.lrp_algebra.specs.Tuples.{IsWithoutTime, IsStoreWithoutTime};
-ghost use Rattle.lrp_algebra.specs.Wholes.{AreWhole};
+ghost use Rattle.lrp_systems.specs.Wholes.{AreWhole};
 ghost use Rattle.lrp_algebra.specs.Tables.{IsTimeDropped};
 
 use crate::places::without_residue;
 use lrp_model::{Cell, Copies, Memory, Name, Shape};
 use lrp_store::{Store, StoreFault};
-use lrp_tables::{Piece, Pieces, Remembered, Table, Vars, is_free, place_of, without};
-use lrp_zone::Zone;
+use lrp_systems::add_zone;
+use lrp_tables::{Piece, Pieces, Remembered, Table, Vars, place_of, without};
 use std::alloc::Global;
 
 /// The assignments that some integer for the time variable completes to one of the table, over its other columns.
@@ -72,10 +72,13 @@ fn add_without_time(
 ) -> Result<(), StoreFault>
     requires place { place ≤ out.old.shape.times }
     requires wide { out.old.shape.times < 8 }
-    requires fits { Fits (record { times = out.old.shape.times + 1; texts = out.old.shape.texts }) out.old.period piece.now }
+    requires fits { Fits (record { times = out.old.shape.times + 1; texts = out.old.shape.texts })
+        out.old.period piece.now }
     requires reach { 2 * reach_of piece.now.zone ≤ 2 ^ 62 }
     requires wholes { AreWhole wholes.old out.old }
-    ensures ok { OnOk result (IsAdded (IsMadeFrom (IsWithoutTime place) (InPiece out.old.shape.texts piece.now)) (2 ^ 32 - 1) (2 * reach_of piece.now.zone) out.old out.new) }
+    ensures ok { OnOk result (IsAdded (IsMadeFrom (IsWithoutTime place)
+        (InPiece out.old.shape.texts piece.now)) (2 ^ 32 - 1)
+        (2 * reach_of piece.now.zone) out.old out.new) }
     ensures wholes { OnOk result (AreWhole wholes.new out.new) }
 {
     out.shape();
@@ -90,30 +93,4 @@ fn add_without_time(
     let zone = piece.zone.drop_column(place + 1);
     zone.columns();
     add_zone(&cell, &zone, wholes, out)
-}
-
-// Adds a zone to its cell, which is remembered where all its tuples are held then.
-fn add_zone(
-    cell: &Cell,
-    zone: &Zone,
-    wholes: &mut Remembered,
-    out: &mut Store,
-) -> Result<(), StoreFault>
-    requires period { zone.now.period ≡ out.old.period }
-    requires residues { zone.now.residues ≡ take out.old.shape.times cell.now.residues }
-    requires texts { IsPadded 0 out.old.shape.texts cell.now.texts }
-    requires times { IsPadded (pos 0) out.old.shape.times cell.now.residues }
-    requires wholes { AreWhole wholes.old out.old }
-    ensures ok { OnOk result (IsAdded (IsTupleOf zone.now (take out.old.shape.texts cell.now.texts)) (2 ^ 32 - 1) (greatest_of zone.now.bounds) out.old out.new) }
-    ensures wholes { OnOk result (AreWhole wholes.new out.new) }
-{
-    out.shape();
-    match out.add_new(cell, zone, u32::MAX) {
-        Ok(()) => {}
-        Err(fault) => return Err(fault),
-    }
-    if is_free(zone) {
-        wholes.put(cell);
-    }
-    Ok(())
 }

@@ -3,6 +3,8 @@ pub mod AddedAs
 pub mod Branches
 pub mod CellPieces
 pub mod FreePieces
+pub mod FrontPieces
+pub mod FrontWalk
 pub mod InWindows
 pub mod Joining
 pub mod LoneZones
@@ -10,4 +12,6 @@ pub mod Orders
 pub mod Ranges
 pub mod Remaining
 pub mod SoleCells
+pub mod Taken
 pub mod Turns
+pub mod WholeCells

@@ -1,10 +1,16 @@
 -- What systems of zones stand for, and which residues are tried for their solutions.
+
+-- What contracts of public calls say.
+pub mod Systems
+pub mod Parts
+pub mod Residues
+pub mod Windows
+-- What functions inside say to one another.
+pub mod Fronts
+pub mod Wholes
 pub mod Choices
 pub mod Frames
+pub mod FrontCodes
 pub mod Joint
-pub mod Parts
 pub mod Pieces
-pub mod Residues
 pub mod Sole
-pub mod Systems
-pub mod Windows

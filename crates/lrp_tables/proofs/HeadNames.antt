@@ -4,7 +4,7 @@ use Rattle.std.specs.Prelude.{AllPairs}
 use Rattle.std.proofs.lemmas.List.Elements.{Contains-append_left, Contains-append_right, Contains-append_cases, Contains-get_or}
 use Rattle.std.proofs.lemmas.List.Kept.{AllPairs-cons}
 use Rattle.lrp_model.specs.Texts.{Identifier}
-use Rattle.lrp_model.specs.Satisfaction.{HaveNames}
+use Rattle.lrp_model.specs.Satisfaction.{HaveDistinctNames}
 use Rattle.lrp_model.specs.declared.relations.Sort.{Sort}
 use Rattle.lrp_model.specs.declared.relations.Sort.TheVariants.{Time, Data, Named}
 use Rattle.lrp_model.specs.declared.relations.Column.{Column}
@@ -53,7 +53,7 @@ pairs_between (w ∷ front) name names none pairs = pairs_cons w (front ++ name 
         (Contains-append_cases front (name ∷ names) w c)
 
 -- the names of a head differ, of both kinds together
-pub head_names_differ : (cs : List Column) → HaveNames cs → AllPairs ◌≢◌ (head_times cs ++ head_texts cs)
+pub head_names_differ : (cs : List Column) → HaveDistinctNames cs → AllPairs ◌≢◌ (head_times cs ++ head_texts cs)
 head_names_differ [] h = λ i j d low high. absurd (omega arith)
 head_names_differ (c ∷ cs) h = by_sort c.sort (head_names_differ cs h.1)
   where
@@ -67,10 +67,10 @@ head_names_differ (c ∷ cs) h = by_sort c.sort (head_names_differ cs h.1)
     by_sort (Named n) rest = pairs_between (head_times cs) c.name (head_texts cs) new rest
 
 -- of each kind
-pub head_times_differ : (cs : List Column) → HaveNames cs → AllPairs ◌≢◌ (head_times cs)
+pub head_times_differ : (cs : List Column) → HaveDistinctNames cs → AllPairs ◌≢◌ (head_times cs)
 head_times_differ cs h = pairs_left ◌≢◌ (head_times cs) (head_texts cs) (head_names_differ cs h)
 
-pub head_texts_differ : (cs : List Column) → HaveNames cs → AllPairs ◌≢◌ (head_texts cs)
+pub head_texts_differ : (cs : List Column) → HaveDistinctNames cs → AllPairs ◌≢◌ (head_texts cs)
 head_texts_differ cs h = pairs_right ◌≢◌ (head_times cs) (head_texts cs) (head_names_differ cs h)
 
 -- two lists of which each has different names and that have no name in common differ together

@@ -1,11 +1,11 @@
 -- What the steps of a plan ask of the tables, terms and tests that they are given.
-use Rattle.std.specs.Prelude.{◌≡◌, ◌≤◌, ◌≤ℤ◌, ℕ, ℤ, pos, true, List, length, map, Contains}
+use Rattle.std.specs.Prelude.{◌≡◌, ◌≤◌, ◌≤ℤ◌, ℕ, ℤ, pos, true, List, length, map, Contains, slice_index, ◌-◌}
 use Rattle.std.specs.List.{AllByRecursion, AllZip}
 use Rattle.lrp_theory.specs.Divides.{Divides}
 use Rattle.lrp_model.specs.Texts.{Text, Identifier}
 use Rattle.lrp_model.specs.Sorts.{is_time, is_data, FitsColumn, time_count, text_count}
 use Rattle.lrp_model.specs.Reach.{greatest, test_reach}
-use Rattle.lrp_model.specs.Satisfaction.{HaveNames}
+use Rattle.lrp_model.specs.Satisfaction.{HaveDistinctNames}
 use Rattle.lrp_model.specs.declared.relations.Column.{Column}
 use Rattle.lrp_model.specs.declared.relations.Bound.{Bound}
 use Rattle.lrp_model.specs.declared.relations.Value.{Value}
@@ -60,7 +60,7 @@ tests_reach tests = greatest (map test_reach tests)
 pub record CanExtend (columns : List Column) (table : Table) : Type 0 where
   pub times : AreNamesAmong table.vars.times (head_times columns)
   pub texts : AreNamesAmong table.vars.texts (head_texts columns)
-  pub names : HaveNames columns
+  pub names : HaveDistinctNames columns
   pub few_times : length (head_times columns) ≤ 8
   pub few_texts : length (head_texts columns) ≤ 8
 
@@ -95,3 +95,7 @@ pub record CanScan (domain : List Text) (period : ℤ) (relation : Relation) (te
   pub terms_fit : AllZip FitsColumn relation.columns terms
   pub terms_known : AllByRecursion (HasText domain) terms
   pub apart : HaveNoName (scan_times terms) (scan_texts terms)
+
+-- the number of the text at a place, counted from 1
+abbrev pub number_at : List ℕ → ℕ → ℕ
+number_at numbers place = slice_index numbers (place - 1)

@@ -52,7 +52,8 @@ impl Remembered {
 
     /// Remembers a cell.
     pub fn put(&mut self, cell: &Cell)
-        ensures { (other : CellValue) → Contains self.new (Some other) → (other ≡ cell.now) ⊎ Contains self.old (Some other) }
+        ensures { (other : CellValue) → Contains self.new (Some other) → (other ≡ cell.now)
+            ⊎ Contains self.old (Some other) }
     {
         let place = place_of(cell, self.places.len());
         self.places[place] = Some(*cell);

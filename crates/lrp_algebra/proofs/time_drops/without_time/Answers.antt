@@ -7,7 +7,7 @@ use Rattle.lrp_algebra.specs.Tuples.{IsWithoutTime}
 use Rattle.lrp_tables.proofs.Pieced.{piece_fits, piece_reach}
 use Rattle.lrp_tables.proofs.Passing.{IsPassing, passing_none, passing_more, next_is, passed}
 use Rattle.lrp_algebra.proofs.TimeDropped.{fits_longer}
-use Rattle.lrp_algebra.proofs.WholeCells.{wholes_none}
+use Rattle.lrp_systems.proofs.WholeCells.{wholes_none}
 use Rattle.lrp_algebra.proofs.time_drops.without_time.Goals as goal
 
 pub loop-piece-init : goal.loop-piece-init

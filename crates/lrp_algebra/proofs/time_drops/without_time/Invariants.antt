@@ -1,7 +1,7 @@
 -- What is left of the tuples of the zones that are behind was added, and the cells that are remembered are held whole.
 use Rattle.std.proofs.Common.{◌*◌, ◌-◌, ◌^◌}
 use Rattle.lrp_algebra.specs.Tuples.{IsWithoutTime}
-use Rattle.lrp_algebra.specs.Wholes.{AreWhole}
+use Rattle.lrp_systems.specs.Wholes.{AreWhole}
 use Rattle.lrp_tables.proofs.Passing.{IsPassing}
 use Rattle.lrp_algebra.proofs.time_drops.without_time.Given as goal
 
