@@ -8,7 +8,7 @@ use Rattle.lrp_model.specs.Rows.{Datum, time, text, times_of, texts_of}
 use Rattle.lrp_model.specs.Formulas.{Question, conjunction, no_forms}
 use Rattle.lrp_model.specs.Core.{guarded, has_named_sort}
 use Rattle.lrp_model.specs.Domains.{constants, all_texts}
-use Rattle.lrp_model.specs.Satisfaction.{Assignment, Satisfies, structure, IsOfKind, IsOfSort, IsAnswer, HasShape, HaveNames, assign, assignment, with_value}
+use Rattle.lrp_model.specs.Satisfaction.{Assignment, Satisfies, structure, IsOfKind, IsOfSort, IsAnswer, HasShape, HaveDistinctNames, assign, assignment, with_value}
 use Rattle.lrp_model.specs.Steps.{PlanStep, step_behind, step_at, formula_at}
 use Rattle.lrp_model.specs.Plans.{plan, core_steps}
 use Rattle.lrp_model.specs.declared.relations.Sort.{Sort}
@@ -84,13 +84,13 @@ first_text Data v (text t) ds env last names k e r = ap₂ (λ a l. a ∷ l) (e 
 first_text (Named name) v (time x) ds env last names k e r = absurd k
 first_text (Named name) v (text t) ds env last names k e r = ap₂ (λ a l. a ∷ l) (e ∙ own v t (env.texts v)) r
 
-tuple_times : (cs : List Column) (ds : List Datum) (env : Assignment) → HaveNames cs → HasShape cs ds → map (assign cs ds env).times (head_times cs) ≡ times_of ds
+tuple_times : (cs : List Column) (ds : List Datum) (env : Assignment) → HaveDistinctNames cs → HasShape cs ds → map (assign cs ds env).times (head_times cs) ≡ times_of ds
 tuple_times [] [] env n k = refl
 tuple_times [] (d ∷ ds) env n k = absurd k
 tuple_times (c ∷ cs) [] env n k = absurd k
 tuple_times (c ∷ cs) (d ∷ ds) env n k = first_time c.sort c.name d ds env (assign cs ds (with_value c.name d env)) (head_times cs) k.0 (keeps_time cs ds (with_value c.name d env) c.name n.0) (tuple_times cs ds (with_value c.name d env) n.1 k.1)
 
-tuple_texts : (cs : List Column) (ds : List Datum) (env : Assignment) → HaveNames cs → HasShape cs ds → map (assign cs ds env).texts (head_texts cs) ≡ texts_of ds
+tuple_texts : (cs : List Column) (ds : List Datum) (env : Assignment) → HaveDistinctNames cs → HasShape cs ds → map (assign cs ds env).texts (head_texts cs) ≡ texts_of ds
 tuple_texts [] [] env n k = refl
 tuple_texts [] (d ∷ ds) env n k = absurd k
 tuple_texts (c ∷ cs) [] env n k = absurd k

@@ -56,7 +56,7 @@ module _ {C D : Type 0} (f : C → D) (differ : C → C → Type 0) (apart : D �
 
 -- ---- cells over names
 
-constants_of : (domain : List Text) (K : ℕ) (vs : List Variable) (env : Assignment) (cell : FormCell) → AllByRecursion (LiesIn K domain env cell) vs → HasConstants domain vs env
+pub constants_of : (domain : List Text) (K : ℕ) (vs : List Variable) (env : Assignment) (cell : FormCell) → AllByRecursion (LiesIn K domain env cell) vs → HasConstants domain vs env
 constants_of domain K vs env cell h v c = let l : LiesIn K domain env cell (data_variable v) = all_of (LiesIn K domain env cell) vs (data_variable v) h c in subst (λ t. Contains domain t) (sym l.1) l.0
 
 cap_is : (domain : List Text) (M : Structure) (vs ws : List Variable) (set : Set) (f : Form) (K cap : ℕ) → SameVariables vs ws → ((env : Assignment) → HasConstants domain vs env → set env ↔ Satisfies f M env)

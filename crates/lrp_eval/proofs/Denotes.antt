@@ -208,13 +208,13 @@ at_cond p false x y h k = k refl
 abbrev pub others : Variable → List Variable → List Variable
 others v vs = filter (λ w. not (same_variable v w)) vs
 
-constants_time : (domain : List Text) (vs : List Variable) (env : Assignment) (v : Identifier) (x : ℤ) → HasConstants domain (others (time_variable v) vs) env → HasConstants domain vs (with_value v (time x) env)
+pub constants_time : (domain : List Text) (vs : List Variable) (env : Assignment) (v : Identifier) (x : ℤ) → HasConstants domain (others (time_variable v) vs) env → HasConstants domain vs (with_value v (time x) env)
 constants_time domain vs env v x k w c = k w (in_filter (λ u. not (same_variable (time_variable v) u)) vs (data_variable w) c refl)
 
 constants_data : (domain : List Text) (vs : List Variable) (env : Assignment) (v : Identifier) (t : Text) → Contains domain t → HasConstants domain (others (data_variable v) vs) env → HasConstants domain vs (with_value v (text t) env)
 constants_data domain vs env v t of k w c = at_cond (λ u. Contains domain u) (bytes_eq v w) t (env.texts w) of (λ e. k w (in_filter (λ u. not (same_variable (data_variable v) u)) vs (data_variable w) c e))
 
-same_others : (v : Variable) (vs ws us : List Variable) → SameVariables vs ws → SameVariables us (others v vs) → SameVariables us (others v ws)
+pub same_others : (v : Variable) (vs ws us : List Variable) → SameVariables vs ws → SameVariables us (others v vs) → SameVariables us (others v ws)
 same_others v vs ws us s t w = let q = same_filter (λ u. not (same_variable v u)) vs ws s w in ((λ c. q.0 ((t w).0 c)), λ c. (t w).1 (q.1 c))
 
 pub drop_time_keeps : (domain : List Text) (M : Structure) (vs us : List Variable) (of set : Set) (f : Form) (v : Identifier)

@@ -1,5 +1,5 @@
 -- Who reads a step, and which tables are left.
-use Rattle.std.proofs.Common.{◌≡◌, ◌≢◌, ◌⊎◌, inl, inr, ⊎_elim, ◌≤◌, ◌<◌, ◌+◌, ◌-◌, ℕ, zero, suc, List, [], ◌∷◌, length, get_or, Some, None, slice_get, slice_set, slice_index_or, refl, sym, ap, subst, ◌∙◌, arith}
+use Rattle.std.proofs.Common.{◌≡◌, ◌≢◌, ◌⊎◌, inl, inr, ⊎_elim, ◌≤◌, ◌<◌, ◌+◌, ◌-◌, ℕ, zero, suc, List, [], ◌∷◌, length, get_or, Some, slice_get, slice_set, slice_index_or, refl, sym, ap, subst, ◌∙◌, arith}
 use Rattle.std.specs.Prelude.{Contains}
 use Rattle.lrp_model.specs.declared.plans.Step.{Step}
 use Rattle.lrp_plan_laws.specs.Made.{operands}
@@ -70,7 +70,7 @@ set_count [] p x = refl
 set_count (y ∷ ys) zero x = refl
 set_count (y ∷ ys) (suc p) x = ap suc (set_count ys p x)
 
-noted_at : (readers : List ℕ) (i d : ℕ) → i < length readers → slice_get readers i ≡ Some (slice_index_or readers i d)
+pub noted_at : (readers : List ℕ) (i d : ℕ) → i < length readers → slice_get readers i ≡ Some (slice_index_or readers i d)
 noted_at [] i d lt = absurd (omega arith)
 noted_at (r ∷ readers) zero d lt = refl
 noted_at (r ∷ readers) (suc i) d lt = noted_at readers i d (omega arith)

@@ -21,3 +21,9 @@ pub mod UnionLaws
 pub mod DropLaws
 pub mod SelectLaws
 pub mod MinusLaws
+pub mod WayLaws
+pub mod ReachLaws
+pub mod ShownLaws
+pub mod NarrowLaws
+pub mod TogetherLaws
+pub mod ProjectionLaws

@@ -1,7 +1,8 @@
 -- The steps of a plan, one after another.
-use Rattle.std.proofs.Common.{◌≡◌, ◌⊎◌, inl, inr, ⊎_elim, ◌≤◌, ◌<◌, ◌+◌, ℕ, zero, suc, List, [], ◌∷◌, ◌++◌, length, get_or, Option, Some, None, slice_get, refl, sym, ap, subst, ◌∙◌, arith, length-append}
+use Rattle.std.proofs.Common.{◌≡◌, ◌⊎◌, inl, inr, ⊎_elim, ◌≤◌, ◌<◌, ◌+◌, ◌-◌, ℕ, zero, suc, List, [], ◌∷◌, ◌++◌, length, get_or, Option, Some, None, slice_get, refl, sym, ap, subst, ◌∙◌, arith, length-append}
 use Rattle.std.specs.Prelude.{MatchOption, Contains}
 use Rattle.std.specs.List.{AllZip}
+use Rattle.lrp_model.specs.Texts.{Text}
 use Rattle.lrp_model.specs.Formulas.{Question}
 use Rattle.lrp_model.specs.Satisfaction.{structure}
 use Rattle.lrp_model.specs.Domains.{constants}
@@ -23,7 +24,14 @@ use Rattle.lrp_plan_laws.specs.Made.{operands}
 use Rattle.lrp_eval.specs.Freeing.{AreLastReaders, AreLeft, IsDone}
 use Rattle.lrp_eval.specs.Running.{IsStepTable, IsReadBehind, AreRun, IsNext, IsLastRun}
 use Rattle.lrp_minus.proofs.Lists.{below_or}
-use Rattle.lrp_eval.proofs.Nexts.{element, inside}
+use Rattle.lrp_eval.specs.Together.{AreRunTogether, IsNarrowing, IsNarrowingNext, IsNarrowingRun, IsProjection, IsProjectionNext, IsProjectionRun}
+use Rattle.lrp_eval.specs.declared.projecting.Projection.{Projection}
+use Rattle.lrp_eval.specs.declared.together.Narrowing.{Narrowing}
+use Rattle.lrp_eval.proofs.Nexts.{as_kind, inside, suc_pred}
+use Rattle.std.specs.Prelude.{pos}
+use Rattle.std.proofs.lemmas.Int.{ints}
+use Rattle.std.proofs.lemmas.Option.{get_or_from_slice_get}
+use Rattle.lrp_model.specs.declared.plans.StepKind.TheVariants.{DropTime, Join, Minus}
 
 zip_at : (xs : List Step) (ys : List PlanStep) (i : ℕ) (x : Step) → AllZip IsStep xs ys → i < length xs → x ≡ get_or xs i x → (y : PlanStep) × (slice_get ys i ≡ Some y) × IsStep x y
 zip_at [] ys i x h lt e = absurd (omega arith)
@@ -107,28 +115,29 @@ module _ (db : List Relation) (q : Question) (cap : ℕ) where
     few = λ s le m. let zero_is : s ≡ 0 = (let z : length tables ≡ 0 = ap length none in omega arith) in subst (ManyAt db q cap) zero_is m;
   }
 
+  -- a step that is done is read by none behind
+  pub not_behind : (p : Plan) (readers : List ℕ) (count i : ℕ) → IsPlanOf db q p → AreLastReaders p.steps readers → IsDone readers count i → IsReadBehind (plan db q) count (suc i) → ⊥
+  not_behind p readers count i h noted d behind = by behind.number refl
+    where
+      by : (number : ℕ) → behind.number ≡ number → ⊥
+      by zero e = let b : count < behind.number = behind.behind in omega arith
+      by (suc j) e =
+          let at : slice_get (plan db q) j ≡ Some behind.step = subst (λ n. step_at (plan db q) n ≡ Some behind.step) e behind.at in
+          let x : (step : Step) × (slice_get p.steps j ≡ Some step) × IsStep step behind.step = zip_back p.steps (plan db q) j behind.step h.is.steps at in
+          let lt : j < d.reader = noted j i d.reader x.0 (inside p.steps j x.0 x.1) x.1 (subst (λ k. Contains (operands k) (suc i)) (sym x.2.kind) behind.reads) d.noted in
+          let b : count < behind.number = behind.behind in
+          let c : d.reader ≤ count = d.run in
+          omega arith
+
   -- tables that no later step reads are not looked at again
   pub left_run : (p : Plan) (readers : List ℕ) (tables new : List Table) → IsPlanOf db q p → AreLastReaders p.steps readers → AreRun db q cap tables → AreLeft readers tables new → AreRun db q cap new
   left_run p readers tables new h noted run left =
       let old : (i : ℕ) (table : Table) → slice_get new i ≡ Some table → (IsDone readers (length tables) i → ⊥) → slice_get tables i ≡ Some table = λ i table e keeps. ⊎_elim (λ same. sym same ∙ e) (λ d. absurd (keeps d)) (left.each i) in
       record {
-        read = λ i table e behind. run.read i table (old i table e (λ d. later p readers (length tables) i h noted d (subst (λ n. IsReadBehind (plan db q) n (suc i)) left.count behind))) (subst (λ n. IsReadBehind (plan db q) n (suc i)) left.count behind);
+        read = λ i table e behind. run.read i table (old i table e (λ d. not_behind p readers (length tables) i h noted d (subst (λ n. IsReadBehind (plan db q) n (suc i)) left.count behind))) (subst (λ n. IsReadBehind (plan db q) n (suc i)) left.count behind);
         last = λ i table e whole. run.last i table (old i table e (λ d. let b : suc i < length tables = d.before in let c : length new ≡ length tables = left.count in omega arith)) (whole ∙ left.count);
         few = λ s le m. run.few s (subst (λ n. s ≤ n) left.count le) m;
       }
-    where
-      later : (p : Plan) (readers : List ℕ) (count i : ℕ) → IsPlanOf db q p → AreLastReaders p.steps readers → IsDone readers count i → IsReadBehind (plan db q) count (suc i) → ⊥
-      later p readers count i h noted d behind = by behind.number refl
-        where
-          by : (number : ℕ) → behind.number ≡ number → ⊥
-          by zero e = let b : count < behind.number = behind.behind in omega arith
-          by (suc j) e =
-              let at : slice_get (plan db q) j ≡ Some behind.step = subst (λ n. step_at (plan db q) n ≡ Some behind.step) e behind.at in
-              let x : (step : Step) × (slice_get p.steps j ≡ Some step) × IsStep step behind.step = zip_back p.steps (plan db q) j behind.step h.is.steps at in
-              let lt : j < d.reader = noted j i d.reader x.0 (inside p.steps j x.0 x.1) x.1 (subst (λ k. Contains (operands k) (suc i)) (sym x.2.kind) behind.reads) d.noted in
-              let b : count < behind.number = behind.behind in
-              let c : d.reader ≤ count = d.run in
-              omega arith
 
   few_below : (tables : List Table) → AreRun db q cap tables → (t : ℕ) → t < suc (length tables) → ManyAt db q cap t → ⊥
   few_below tables run t lt m = run.few t (omega arith) m
@@ -167,3 +176,107 @@ module _ (db : List Relation) (q : Question) (cap : ℕ) where
 pub cause : (db : List Relation) (p : Plan) (cap : ℕ) (r : EvalFault) → ((step : ℕ) → r ≡ TooManyCells step → (q : Question) → IsPlanOf db q p → IsFirstMany db q cap step) → IsEvalCause db p cap r
 cause db p cap (TooManyCells step) f = f step refl
 cause db p cap Memory f = tt
+
+-- ---- steps that are run together
+
+-- more tables than there were
+at_more : {X : Type 0} (xs ys : List X) (i : ℕ) → i < length xs → slice_get (xs ++ ys) i ≡ slice_get xs i
+at_more [] ys i lt = absurd (omega arith)
+at_more (x ∷ xs) ys zero lt = refl
+at_more (x ∷ xs) ys (suc i) lt = at_more xs ys i (omega arith)
+
+module _ (db : List Relation) (q : Question) (cap : ℕ) where
+  -- a step of a plan that is written at a place
+  pub step_here : (p : Plan) (i : ℕ) (step : Step) → IsPlanOf db q p → slice_get p.steps i ≡ Some step → (y : PlanStep) × (slice_get (plan db q) i ≡ Some y) × IsStep step y
+  step_here p i step h at = zip_at p.steps (plan db q) i step h.is.steps (inside p.steps i step at) (sym (get_or_from_slice_get p.steps i step step at))
+
+  pub next_here : (p : Plan) (tables : List Table) (step : Step) → IsPlanOf db q p → slice_get p.steps (length tables) ≡ Some step → AreRun db q cap tables → IsNext db q cap p.domain tables step.kind step.period
+  next_here p tables step h at run = next_step db q cap p tables (length tables) step p.steps h refl (inside p.steps (length tables) step at) (sym (get_or_from_slice_get p.steps (length tables) step step at)) refl run
+
+  pub next_run : (p : Plan) (tables ts : List Table) (domain : List Text) (i : ℕ) (step : Step) (steps : List Step) → domain ≡ p.domain → ts ≡ tables → steps ≡ p.steps → i ≡ length tables → i < length steps → step ≡ get_or steps i step → IsPlanOf db q p → AreRun db q cap tables
+      → IsNext db q cap domain ts step.kind step.period
+  next_run p tables ts domain i step steps names same written count lt at h run =
+      subst (λ d. IsNext db q cap d ts step.kind step.period) (sym names) (subst (λ us. IsNext db q cap p.domain us step.kind step.period) (sym same) (next_step db q cap p tables i step steps h written lt at (sym count) run))
+
+  -- the three steps that narrow a difference, in the plan
+  module _ (p : Plan) (tables : List Table) (readers : List ℕ) (n : Narrowing) (h : IsPlanOf db q p) (run : AreRun db q cap tables) (is : IsNarrowing p.steps readers (length tables) n) where
+    second_here : (y : PlanStep) × (slice_get (plan db q) (suc (length tables)) ≡ Some y) × IsStep is.second y
+    second_here = step_here p (suc (length tables)) is.second h is.second_at
+
+    third_here : (y : PlanStep) × (slice_get (plan db q) (suc (suc (length tables))) ≡ Some y) × IsStep is.third y
+    third_here = step_here p (suc (suc (length tables))) is.third h is.third_at
+
+    same_nat : (a b : ℕ) → pos a ≡ pos b → a ≡ b
+    same_nat a b e = omega (arith, ints)
+
+    pub narrowing_next : IsNarrowingNext db q cap p.domain tables n
+    narrowing_next = record {
+      first = subst (λ z. IsNext db q cap p.domain tables (Minus n.left n.right) z) is.first_period (as_kind (Minus n.left n.right) (next_here p tables is.first h is.first_at run) is.first_kind);
+      second = second_here.0;
+      second_at = second_here.1;
+      second_kind = sym second_here.2.kind ∙ is.second_kind;
+      third = third_here.0;
+      third_at = third_here.1;
+      third_kind = sym third_here.2.kind ∙ is.third_kind;
+      period_is = sym is.third_period ∙ third_here.2.period;
+      reach_is = same_nat n.reach third_here.0.reach (sym is.reach ∙ third_here.2.reach);
+      small = is.small;
+      known = is.known;
+      run = λ table at.
+          let e : suc (n.from - 1) ≡ n.from = suc_pred n.from is.known.0 in
+          subst (λ s. IsStepTable db q cap s table) e (run.read (n.from - 1) table at (record {
+            number = suc (suc (suc (length tables)));
+            step = third_here.0;
+            behind = omega arith;
+            at = third_here.1;
+            reads = subst (λ k. Contains (operands k) (suc (n.from - 1))) (sym is.third_kind ∙ third_here.2.kind) (0, omega arith, sym e);
+          }));
+    }
+
+    pub narrowing_together : (made : Table) → IsNarrowingRun db q cap tables made → AreRunTogether db q cap readers tables 2 made
+    narrowing_together made r = record {
+      run = subst (λ s. IsStepTable db q cap s made) (let e : suc (suc (suc (length tables))) ≡ suc (length tables + 2) = omega arith in e) r.run;
+      few = λ s low high m. elim (below_or (suc (length tables)) s) [
+        | inl more ↦ (let e : s ≡ suc (suc (length tables)) = omega arith in r.second_few (subst (ManyAt db q cap) e m))
+        | inr less ↦ (let e : s ≡ suc (length tables) = omega arith in r.first_few (subst (ManyAt db q cap) e m))
+      ];
+      done = is.done;
+    }
+
+  -- a join whose variables are dropped, in the plan
+  module _ (p : Plan) (tables : List Table) (readers : List ℕ) (r : Projection) (h : IsPlanOf db q p) (run : AreRun db q cap tables) (is : IsProjection p.steps readers (length tables) r) where
+    pub projection_next : IsProjectionNext db q cap p.domain tables r
+    projection_next = record {
+      first = subst (λ z. IsNext db q cap p.domain tables (Join r.left r.right r.tests.now) z) is.first_period (as_kind (Join r.left r.right r.tests.now) (next_here p tables is.first h is.first_at run) is.first_kind);
+      drops = λ j name e.
+          let d = is.drops j name e in
+          let x = step_here p (length tables + 1 + j) d.0 h d.1 in
+          subst (λ i. (step : PlanStep) × (step_at (plan db q) (suc i) ≡ Some step) × (step.kind ≡ DropTime i name)) (let f : length tables + 1 + j ≡ suc (length tables) + j = omega arith in f) (x.0, x.1, sym x.2.kind ∙ d.2);
+    }
+
+    pub projection_together : (made : Table) → IsProjectionRun db q cap tables r made → AreRunTogether db q cap readers tables (length r.names) made
+    projection_together made x = record { run = x.run; few = x.few; done = is.done }
+
+  -- the tables behind them
+  pub together_run : (p : Plan) (readers : List ℕ) (tables more : List Table) (made : Table) (between : ℕ) → length more ≡ between → IsPlanOf db q p → AreLastReaders p.steps readers → AreRun db q cap tables → AreRunTogether db q cap readers tables between made
+      → AreRun db q cap ((tables ++ more) ++ made ∷ [])
+  together_run p readers tables more made between size h noted run t =
+      let front : length (tables ++ more) ≡ length tables + between = length-append tables more ∙ ap (λ k. length tables + k) size in
+      let all : length ((tables ++ more) ++ made ∷ []) ≡ suc (length tables + between) = (let e = more_count (tables ++ more) made (length tables + between) front in omega (arith, e)) in
+      let this : (i : ℕ) (table : Table) → (i ≡ length (tables ++ more)) × (made ≡ table) → IsStepTable db q cap (suc i) table = λ i table x. subst (λ u. IsStepTable db q cap (suc i) u) x.1 (subst (λ k. IsStepTable db q cap (suc k) made) (sym (x.0 ∙ front)) t.run) in
+      record {
+        read = λ i table e behind. ⊎_elim
+            (λ l. elim (below_or i (length tables)) [
+              | inl old ↦ run.read i table (sym (at_more tables more i old) ∙ l) (record { number = behind.number; step = behind.step; behind = (let b : length ((tables ++ more) ++ made ∷ []) < behind.number = behind.behind in omega (arith, all, b)); at = behind.at; reads = behind.reads })
+              | inr new ↦ absurd (not_behind db q cap p readers (suc (length tables + between)) i h noted (t.done i new (let lt : i < length (tables ++ more) = inside (tables ++ more) i table l in omega (arith, lt, front))) (subst (λ k. IsReadBehind (plan db q) k (suc i)) all behind))
+            ])
+            (λ x. this i table x) (at_push (tables ++ more) made table i e);
+        last = λ i table e whole. ⊎_elim (λ l. let lt : i < length (tables ++ more) = inside (tables ++ more) i table l in absurd (omega (arith, lt, front, all, whole))) (λ x. this i table x) (at_push (tables ++ more) made table i e);
+        few = λ s le m. elim (below_or (length tables) s) [
+          | inl new ↦ elim (below_or (length tables + between) s) [
+            | inl last ↦ (let e : s ≡ suc (length tables + between) = omega (arith, le, all, last) in t.run.few (subst (ManyAt db q cap) e m))
+            | inr before ↦ t.few s new before m
+          ]
+          | inr old ↦ run.few s old m
+        ];
+      }

@@ -59,7 +59,7 @@ module _ {db : List Relation} {q : Question} {cap : ℕ} {domain : List Text} {t
     numbers = numbered n lo le;
   }
 
-  denotes : Denotes (constants db q) (structure db q) (variables_of lt) (IsLess domain lt rt) n.step.formula
+  pub denotes : Denotes (constants db q) (structure db q) (variables_of lt) (IsLess domain lt rt) n.step.formula
   denotes =
       subst (Denotes (constants db q) (structure db q) (variables_of lt) (IsLess domain lt rt)) (sym (formula_kind n))
       (subst (λ d. Denotes (constants db q) (structure db q) (variables_of lt) (IsLess d lt rt) (conjunction (form (formula_at (plan db q) left) (form (negation (formula_at (plan db q) right)) no_forms)))) (sym n.domain_is)

@@ -39,7 +39,7 @@ use Rattle.lrp_eval.proofs.Counted.{many_at}
 
 -- ---- places
 
-suc_pred : (l : ℕ) → 0 < l → suc (l - 1) ≡ l
+pub suc_pred : (l : ℕ) → 0 < l → suc (l - 1) ≡ l
 suc_pred l h = omega arith
 
 -- a number within a list has an element

@@ -1,6 +1,6 @@
 -- What holds of the tables that a step reads: their periods, reaches, numbers and columns.
-use Rattle.std.proofs.Common.{◌≡◌, ◌≢◌, ◌↔◌, ◌≤◌, ◌^◌, ◌||◌, ⊎_elim, ℕ, zero, suc, Bool, true, false, cond, List, [], ◌∷◌, ◌++◌, length, Contains, refl, sym, subst, ◌∙◌, arith, bytes_eq, Result, Ok, Err, to_z, of_z, w64}
-use Rattle.std.specs.Prelude.{ℤ, pos, nat_abs, ◌≤ℤ◌, AllPairs, IfOk, OnOk}
+use Rattle.std.proofs.Common.{◌≡◌, ◌≢◌, ◌↔◌, ◌≤◌, ◌^◌, ◌||◌, ⊎_elim, ℕ, zero, suc, Bool, true, false, cond, List, [], ◌∷◌, ◌++◌, length, Contains, refl, sym, subst, ◌∙◌, arith, bytes_eq, Option, Some, Result, Ok, Err, to_z, of_z, w64}
+use Rattle.std.specs.Prelude.{ℤ, pos, nat_abs, ◌≤ℤ◌, AllPairs, IfOk, IfSome, OnOk}
 use Rattle.std.specs.List.{AllByRecursion, list_any}
 use Rattle.std.specs.Cmp.Lexicographic.{bytes_decides}
 use Rattle.std.proofs.lemmas.Int.{ints}
@@ -42,6 +42,12 @@ pub if_ok : {A E : Type 0} (P R : A → Type 0) (r : Result A E) → ((a : A) �
 if_ok P R (Ok a) f p = f a p
 if_ok P R (Err e) f p = tt
 
+pub some_ok : {A : Type 0} (P : A → Type 0) (o : Option A) (a : A) → o ≡ Some a → IfSome o P → P a
+some_ok P o a e p = value (subst (λ u. IfSome u P) e p)
+  where
+    value : IfSome (Some a) P → P a
+    value x = x
+
 -- ---- reaches
 
 pub reach_up : (s : StoreView) (low high : ℕ) → low ≤ high → HasReach s low → HasReach s high
@@ -49,10 +55,10 @@ reach_up s low high le h = record { each = λ cell table held. let r = h.each ce
 
 -- ---- names that differ
 
-first_apart : {X : Type 0} (x : X) (xs : List X) → AllPairs ◌≢◌ (x ∷ xs) → AllByRecursion (λ y. x ≢ y) xs
+pub first_apart : {X : Type 0} (x : X) (xs : List X) → AllPairs ◌≢◌ (x ∷ xs) → AllByRecursion (λ y. x ≢ y) xs
 first_apart x xs h = all_by (λ y. x ≢ y) xs (λ y c e. h zero (suc c.0) y (omega arith) (omega (arith, c.1)) (e ∙ sym c.2))
 
-rest_apart : {X : Type 0} (x : X) (xs : List X) → AllPairs ◌≢◌ (x ∷ xs) → AllPairs ◌≢◌ xs
+pub rest_apart : {X : Type 0} (x : X) (xs : List X) → AllPairs ◌≢◌ (x ∷ xs) → AllPairs ◌≢◌ xs
 rest_apart x xs h i j d lt below = h (suc i) (suc j) d (omega arith) (omega arith)
 
 front_all : {X : Type 0} (p : X → Type 0) (xs ys : List X) → AllByRecursion p (xs ++ ys) → AllByRecursion p xs

@@ -24,7 +24,7 @@ use Rattle.lrp_tables.specs.Caps.{InhabitsMoreThan}
 use Rattle.lrp_tables.specs.Columns.{test_times, test_names}
 use Rattle.lrp_tables.specs.Tables.{Has, IsTableOf, IsTested, IsSelected, named_variables}
 use Rattle.lrp_plan_laws.specs.Made.{AreAmong}
-use Rattle.lrp_plan_laws.specs.Rising.{test_period as period_of}
+use Rattle.lrp_plan_laws.specs.Rising.{natural_test_period as period_of}
 use Rattle.lrp_eval.specs.Running.{variables_of, IsStepTable, IsOperand, IsNext}
 use Rattle.lrp_eval.proofs.Denotes.{Denotes, in_one, leaf_keeps, select_keeps}
 use Rattle.lrp_eval.proofs.Named.{test_variables, texts_are, are_texts}

@@ -1,5 +1,5 @@
 -- A store with as many zones as cells has one in each, and is settled.
-use Rattle.std.proofs.Common.{◌≡◌, ◌≢◌, inl, inr, ◌≤◌, ◌<◌, ◌+◌, ◌*◌, ℕ, zero, suc, List, [], ◌∷◌, length, map, Option, Some, Bool, true, false, cond, unwrap_or, Contains, refl, sym, ap, ap₂, subst, ◌∙◌, arith}
+use Rattle.std.proofs.Common.{◌≡◌, ◌≢◌, inl, inr, ◌≤◌, ◌<◌, ◌+◌, ℕ, zero, suc, List, [], ◌∷◌, length, map, Option, Some, Bool, true, false, cond, unwrap_or, Contains, refl, sym, ap, ap₂, subst, ◌∙◌, arith}
 use Rattle.std.specs.Prelude.{ℤ, AllPairs, sum_by}
 use Rattle.std.specs.FinMap as finite
 use Rattle.std.specs.FinMap.{entries, get-entries, len-entries, find}

@@ -8,3 +8,4 @@ pub mod Planned
 pub mod Running
 pub mod Settling
 pub mod Freeing
+pub mod Together

@@ -21,7 +21,8 @@ pub fn answer(
     cap: u32,
 ) -> Result<Answer, EvalFault>
     requires plan { IsSomePlan database.now plan.now }
-    ensures answer { IfOk result (λ made. (q : Question) → IsPlanOf database.now q plan.now → IsAnswerOf database.now q cap made) }
+    ensures answer { IfOk result (λ made. (q : Question) → IsPlanOf database.now q plan.now
+        → IsAnswerOf database.now q cap made) }
     ensures fault { IfErr result (λ fault. IsEvalCause database.now plan.now cap fault) }
 {
     let table = run_steps(alloc, plan, database, cap)?;

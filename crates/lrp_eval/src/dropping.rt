@@ -15,8 +15,11 @@ pub(crate) fn without_time(
     of: u32,
     name: &Name,
 ) -> Result<Table, Memory>
-    requires next { (period : ℤ) × IsSomeNext setting.now.cap setting.now.domain.now tables.now (DropTime of name.now) period }
-    ensures { IfOk result (λ made. (period : ℤ) → IsNextTable setting.now.cap setting.now.domain.now tables.now (DropTime of name.now) period made) }
+    requires next { (period : ℤ) × IsSomeNext setting.now.cap setting.now.domain.now tables.now
+        (DropTime of name.now) period }
+    ensures { IfOk result (λ made. (period : ℤ)
+        → IsNextTable setting.now.cap setting.now.domain.now tables.now
+        (DropTime of name.now) period made) }
 {
     let table = operand(tables, of);
     let made = drop_time(setting.alloc, table, name)?;
@@ -31,8 +34,11 @@ pub(crate) fn without_text(
     of: u32,
     name: &Name,
 ) -> Result<Table, Memory>
-    requires next { (period : ℤ) × IsSomeNext setting.now.cap setting.now.domain.now tables.now (DropData of name.now) period }
-    ensures { IfOk result (λ made. (period : ℤ) → IsNextTable setting.now.cap setting.now.domain.now tables.now (DropData of name.now) period made) }
+    requires next { (period : ℤ) × IsSomeNext setting.now.cap setting.now.domain.now tables.now
+        (DropData of name.now) period }
+    ensures { IfOk result (λ made. (period : ℤ)
+        → IsNextTable setting.now.cap setting.now.domain.now tables.now
+        (DropData of name.now) period made) }
 {
     let table = operand(tables, of);
     let made = drop_data(setting.alloc, table, name, setting.domain)?;

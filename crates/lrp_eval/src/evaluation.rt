@@ -1,12 +1,16 @@
 // The steps of a plan, one after another.
-ghost use Rattle.std.specs.Prelude.{◌≡◌, ◌<◌, ◌++◌, ◌∷◌, [], ℕ, suc, length, List as ListOf, IfOk, IfErr};
+ghost use Rattle.std.specs.Prelude.{◌≡◌, ◌<◌, ◌≤◌, ◌+◌, ◌++◌, ◌∷◌, [], ℕ, suc, length, List as ListOf, IfOk, IfErr};
 ghost use Rattle.lrp_store.specs.Stores.{IsStore};
 ghost use Rattle.lrp_store.specs.declared.table.Table.{Table as TableOf};
+ghost use Rattle.lrp_model.specs.Caps.{IsFirstMany};
 ghost use Rattle.lrp_model.specs.Formulas.{Question};
 ghost use Rattle.lrp_store.specs.declared.table.StepFault.TheVariants.{TooManyCells as too_many};
+ghost use Rattle.lrp_eval.specs.Freeing.{AreLastReaders};
 ghost use Rattle.lrp_eval.specs.Planned.{HasAnswers, IsEvalCause, IsPlanOf, IsSomePlan};
+ghost use Rattle.lrp_eval.specs.Running.{AreRun};
 
-use crate::freeing::{give_up, last_readers};
+use crate::following::{Together, run_together};
+use crate::freeing::{give_up, last_readers, nothing};
 use crate::heading::is_headed;
 use crate::running::{Setting, run_step};
 use lrp_model::{List, Memory, Plan};
@@ -46,7 +50,8 @@ pub fn run_steps(
     cap: u32,
 ) -> Result<Table, EvalFault>
     requires plan { IsSomePlan database.now plan.now }
-    ensures table { IfOk result (λ made. (q : Question) → IsPlanOf database.now q plan.now → HasAnswers database.now q cap made) }
+    ensures table { IfOk result (λ made. (q : Question) → IsPlanOf database.now q plan.now
+        → HasAnswers database.now q cap made) }
     ensures fault { IfErr result (λ fault. IsEvalCause database.now plan.now cap fault) }
 {
     let setting = Setting {
@@ -56,17 +61,101 @@ pub fn run_steps(
     };
     let readers = last_readers(alloc, plan.steps.as_slice())?;
     let mut tables = List::new(alloc);
-    for step in plan.steps.as_slice() {
-        if is_headed(tables.as_slice(), &plan.head, step) {
+    for number in 0..plan.steps.len() {
+        if number < tables.len() {
+            continue;
+        }
+        if is_headed(
+            tables.as_slice(),
+            &plan.head,
+            &plan.steps.as_slice()[number],
+        ) {
             return Ok(last_of(tables));
         }
-        match run_step(&setting, database, &plan.head, tables.as_slice(), step) {
-            Ok(table) => tables.push(table)?,
-            Err(fault) => return Err(fault_behind(tables.len(), fault)),
+        match run_next(&setting, database, plan, &readers, tables) {
+            Ok(more) => tables = more,
+            Err(fault) => return Err(fault),
         }
-        tables = give_up(alloc, &step.kind, &readers, tables);
     }
     Ok(last_of(tables))
+}
+
+// The tables with those of the next step, or of some next steps that are run together.
+fn run_next(
+    setting: &Setting<'_>,
+    database: &Database,
+    plan: &Plan,
+    readers: &[usize],
+    tables: List<Table>,
+) -> Result<List<Table>, EvalFault>
+    requires domain { setting.now.domain.now ≡ plan.now.domain }
+    requires plan { (q : Question) × IsPlanOf database.now q plan.now
+        × AreRun database.now q setting.now.cap tables }
+    requires readers { AreLastReaders plan.now.steps readers.now }
+    requires below { length tables < length plan.now.steps }
+    ensures run { IfOk result (λ new. (q : Question) → IsPlanOf database.now q plan.now
+        → AreRun database.now q setting.now.cap tables
+        → AreRun database.now q setting.now.cap new) }
+    ensures more { IfOk result (λ new. (length tables < length new)
+        × (length new ≤ length plan.now.steps)) }
+    ensures fault { IfErr result (λ fault. (step : ℕ) → fault ≡ EvalFault.TooManyCells step
+        → (q : Question) → IsPlanOf database.now q plan.now
+        → AreRun database.now q setting.now.cap tables
+        → IsFirstMany database.now q setting.now.cap step) }
+{
+    match run_together(setting, plan, readers, tables.as_slice()) {
+        Ok(Some(together)) => Ok(with_together(setting.alloc, tables, together)?),
+        Ok(None) => run_one(setting, database, plan, readers, tables),
+        Err(_) => Err(EvalFault::Memory),
+    }
+}
+
+// The tables with that of the last of some steps that were run together. The others' take no memory.
+fn with_together(
+    alloc: Global,
+    tables: List<Table>,
+    together: Together,
+) -> Result<List<Table>, Memory>
+    ensures { IfOk result (λ made. (more : ListOf TableOf) × (length more ≡ together.between)
+        × (made ≡ (tables ++ more) ++ together.table ∷ [])) }
+{
+    let Together { between, table } = together;
+    let mut tables = tables;
+    for turn in 0..between {
+        tables.push(nothing(alloc))?;
+    }
+    tables.push(table)?;
+    Ok(tables)
+}
+
+// The tables with that of the next step.
+fn run_one(
+    setting: &Setting<'_>,
+    database: &Database,
+    plan: &Plan,
+    readers: &[usize],
+    mut tables: List<Table>,
+) -> Result<List<Table>, EvalFault>
+    requires domain { setting.now.domain.now ≡ plan.now.domain }
+    requires plan { (q : Question) × IsPlanOf database.now q plan.now
+        × AreRun database.now q setting.now.cap tables }
+    requires readers { AreLastReaders plan.now.steps readers.now }
+    requires below { length tables < length plan.now.steps }
+    ensures run { IfOk result (λ new. (q : Question) → IsPlanOf database.now q plan.now
+        → AreRun database.now q setting.now.cap tables
+        → AreRun database.now q setting.now.cap new) }
+    ensures more { IfOk result (λ new. length new ≡ length tables + 1) }
+    ensures fault { IfErr result (λ fault. (step : ℕ) → fault ≡ EvalFault.TooManyCells step
+        → (q : Question) → IsPlanOf database.now q plan.now
+        → AreRun database.now q setting.now.cap tables
+        → IsFirstMany database.now q setting.now.cap step) }
+{
+    let step = &plan.steps.as_slice()[tables.len()];
+    match run_step(setting, database, &plan.head, tables.as_slice(), step) {
+        Ok(table) => tables.push(table)?,
+        Err(fault) => return Err(fault_behind(tables.len(), fault)),
+    }
+    Ok(give_up(setting.alloc, &step.kind, readers, tables))
 }
 
 // The last of the tables.
@@ -86,7 +175,8 @@ fn last_of(tables: List<Table>) -> Table
 
 // The fault of the step behind so many tables.
 fn fault_behind(tables: usize, fault: StepFault) -> EvalFault
-    ensures { (step : ℕ) → result ≡ EvalFault.TooManyCells step → (fault ≡ too_many) × (step ≡ suc tables) }
+    ensures { (step : ℕ) → result ≡ EvalFault.TooManyCells step → (fault ≡ too_many)
+        × (step ≡ suc tables) }
 {
     match (fault, u32::try_from(tables)) {
         (StepFault::TooManyCells, Ok(tables)) if tables < u32::MAX => {

@@ -82,8 +82,8 @@ fn give_up_one(alloc: Global, of: u32, readers: &[usize], tables: &mut Vec<Table
     }
 }
 
-// A table that takes no memory.
-fn nothing(alloc: Global) -> Table {
+/// A table that takes no memory.
+pub(crate) fn nothing(alloc: Global) -> Table {
     let shape = Shape { times: 0, texts: 0 };
     Table {
         vars: Vars {

@@ -2,17 +2,21 @@
 #![tactic(auto)]
 
 mod answering;
+mod bounding;
 mod dropping;
 mod evaluation;
+mod following;
 mod freeing;
 mod heading;
 mod joining;
 mod laws;
+mod projecting;
 mod running;
 mod scanning;
 mod selecting;
 mod settling;
 mod subtracting;
+mod together;
 mod uniting;
 
 pub use answering::answer;

@@ -42,9 +42,16 @@ pub(crate) fn run_step(
     tables: &[Table],
     step: &Step,
 ) -> Result<Table, StepFault>
-    requires next { (q : Question) × (head.now.columns ≡ q.head) × IsNext database.now q setting.now.cap setting.now.domain.now tables.now step.now.kind step.now.period }
-    ensures table { IfOk result (λ made. (q : Question) → head.now.columns ≡ q.head → IsNext database.now q setting.now.cap setting.now.domain.now tables.now step.now.kind step.now.period → IsStepTable database.now q setting.now.cap (suc (length tables.now)) made) }
-    ensures many { result ≡ Err StepFault.TooManyCells → (q : Question) → head.now.columns ≡ q.head → IsNext database.now q setting.now.cap setting.now.domain.now tables.now step.now.kind step.now.period → ManyAt database.now q setting.now.cap (suc (length tables.now)) }
+    requires next { (q : Question) × (head.now.columns ≡ q.head)
+        × IsNext database.now q setting.now.cap setting.now.domain.now tables.now step.now.kind
+        step.now.period }
+    ensures table { IfOk result (λ made. (q : Question) → head.now.columns ≡ q.head
+        → IsNext database.now q setting.now.cap setting.now.domain.now tables.now step.now.kind
+        step.now.period → IsStepTable database.now q setting.now.cap
+        (suc (length tables.now)) made) }
+    ensures many { result ≡ Err StepFault.TooManyCells → (q : Question) → head.now.columns ≡ q.head
+        → IsNext database.now q setting.now.cap setting.now.domain.now tables.now step.now.kind
+        step.now.period → ManyAt database.now q setting.now.cap (suc (length tables.now)) }
 {
     let period = step.period;
     match &step.kind {

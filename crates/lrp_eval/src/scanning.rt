@@ -26,9 +26,17 @@ pub(crate) fn scanned(
     terms: &List<Term>,
     period: i64,
 ) -> Result<Table, StepFault>
-    requires next { (tables : Items TableOf) × (q : Question) × IsNext database.now q setting.now.cap setting.now.domain.now tables (Scan relation.now terms.now) period }
-    ensures table { IfOk result (λ made. (tables : Items TableOf) (q : Question) → IsNext database.now q setting.now.cap setting.now.domain.now tables (Scan relation.now terms.now) period → IsStepTable database.now q setting.now.cap (suc (length tables)) made) }
-    ensures many { result ≡ Err StepFault.TooManyCells → (tables : Items TableOf) (q : Question) → IsNext database.now q setting.now.cap setting.now.domain.now tables (Scan relation.now terms.now) period → ManyAt database.now q setting.now.cap (suc (length tables)) }
+    requires next { (tables : Items TableOf) × (q : Question)
+        × IsNext database.now q setting.now.cap setting.now.domain.now tables
+        (Scan relation.now terms.now) period }
+    ensures table { IfOk result (λ made. (tables : Items TableOf) (q : Question)
+        → IsNext database.now q setting.now.cap setting.now.domain.now tables
+        (Scan relation.now terms.now) period
+        → IsStepTable database.now q setting.now.cap (suc (length tables)) made) }
+    ensures many { result ≡ Err StepFault.TooManyCells → (tables : Items TableOf) (q : Question)
+        → IsNext database.now q setting.now.cap setting.now.domain.now tables
+        (Scan relation.now terms.now) period
+        → ManyAt database.now q setting.now.cap (suc (length tables)) }
 {
     let Some(relation) = database.relation(relation) else {
         unreachable!()
@@ -49,9 +57,16 @@ pub(crate) fn sorted(
     name: &Name,
     texts: &List<DataText>,
 ) -> Result<Table, StepFault>
-    requires next { (tables : Items TableOf) × (period : ℤ) × (sort : SortOf) × IsSomeNext setting.now.cap setting.now.domain.now tables (SortStep name.now sort texts.now) period }
-    ensures table { IfOk result (λ made. (tables : Items TableOf) (period : ℤ) (sort : SortOf) → IsNextTable setting.now.cap setting.now.domain.now tables (SortStep name.now sort texts.now) period made) }
-    ensures many { result ≡ Err StepFault.TooManyCells → (tables : Items TableOf) (period : ℤ) (sort : SortOf) → HasTooMany setting.now.cap setting.now.domain.now tables (SortStep name.now sort texts.now) period }
+    requires next { (tables : Items TableOf) × (period : ℤ) × (sort : SortOf)
+        × IsSomeNext setting.now.cap setting.now.domain.now tables
+        (SortStep name.now sort texts.now) period }
+    ensures table { IfOk result (λ made. (tables : Items TableOf) (period : ℤ) (sort : SortOf)
+        → IsNextTable setting.now.cap setting.now.domain.now tables
+        (SortStep name.now sort texts.now) period made) }
+    ensures many { result ≡ Err StepFault.TooManyCells
+        → (tables : Items TableOf) (period : ℤ) (sort : SortOf)
+        → HasTooMany setting.now.cap setting.now.domain.now tables
+        (SortStep name.now sort texts.now) period }
 {
     let relation = relation_of(setting.alloc, name, texts)?;
     let terms = variable(setting.alloc, name)?;

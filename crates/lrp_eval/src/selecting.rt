@@ -11,9 +11,12 @@ use lrp_tables::{StepFault, Table};
 
 /// The table of a test.
 pub(crate) fn tested(setting: &Setting<'_>, test: &Test) -> Result<Table, StepFault>
-    requires next { (tables : Items TableOf) × (period : ℤ) × IsSomeNext setting.now.cap setting.now.domain.now tables (Leaf test.now) period }
-    ensures table { IfOk result (λ made. (tables : Items TableOf) (period : ℤ) → IsNextTable setting.now.cap setting.now.domain.now tables (Leaf test.now) period made) }
-    ensures many { result ≡ Err StepFault.TooManyCells → (tables : Items TableOf) (period : ℤ) → HasTooMany setting.now.cap setting.now.domain.now tables (Leaf test.now) period }
+    requires next { (tables : Items TableOf) × (period : ℤ)
+        × IsSomeNext setting.now.cap setting.now.domain.now tables (Leaf test.now) period }
+    ensures table { IfOk result (λ made. (tables : Items TableOf) (period : ℤ)
+        → IsNextTable setting.now.cap setting.now.domain.now tables (Leaf test.now) period made) }
+    ensures many { result ≡ Err StepFault.TooManyCells → (tables : Items TableOf) (period : ℤ)
+        → HasTooMany setting.now.cap setting.now.domain.now tables (Leaf test.now) period }
 {
     leaf(setting.alloc, test, setting.domain, setting.cap)
 }
@@ -26,9 +29,12 @@ pub(crate) fn selected(
     test: &Test,
     period: i64,
 ) -> Result<Table, StepFault>
-    requires next { IsSomeNext setting.now.cap setting.now.domain.now tables.now (Select of test.now) period }
-    ensures table { IfOk result (λ made. IsNextTable setting.now.cap setting.now.domain.now tables.now (Select of test.now) period made) }
-    ensures many { result ≡ Err StepFault.TooManyCells → HasTooMany setting.now.cap setting.now.domain.now tables.now (Select of test.now) period }
+    requires next { IsSomeNext setting.now.cap setting.now.domain.now tables.now
+        (Select of test.now) period }
+    ensures table { IfOk result (λ made. IsNextTable setting.now.cap setting.now.domain.now
+        tables.now (Select of test.now) period made) }
+    ensures many { result ≡ Err StepFault.TooManyCells
+        → HasTooMany setting.now.cap setting.now.domain.now tables.now (Select of test.now) period }
 {
     let table = operand(tables, of);
     select(

@@ -70,7 +70,8 @@ fn add_all(store: &mut Store, cell: &Cell, zones: &[Zone]) -> Result<(), Memory>
     requires texts { IsPadded 0 store.old.shape.texts cell.now.texts }
     requires times { IsPadded (pos 0) store.old.shape.times cell.now.residues }
     requires periods { (z : ZoneView) → Contains zones.now z → z.period ≡ store.old.period }
-    requires residues { (z : ZoneView) → Contains zones.now z → z.residues ≡ take store.old.shape.times cell.now.residues }
+    requires residues { (z : ZoneView) → Contains zones.now z
+        → z.residues ≡ take store.old.shape.times cell.now.residues }
     ensures { OnOk result (AddsZones cell.now zones.now store.old store.new) }
 {
     for zone in zones {

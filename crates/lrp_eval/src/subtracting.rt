@@ -15,9 +15,12 @@ pub(crate) fn less(
     right: u32,
     period: i64,
 ) -> Result<Table, StepFault>
-    requires next { IsSomeNext setting.now.cap setting.now.domain.now tables.now (Minus left right) period }
-    ensures table { IfOk result (λ made. IsNextTable setting.now.cap setting.now.domain.now tables.now (Minus left right) period made) }
-    ensures many { result ≡ Err StepFault.TooManyCells → HasTooMany setting.now.cap setting.now.domain.now tables.now (Minus left right) period }
+    requires next { IsSomeNext setting.now.cap setting.now.domain.now tables.now
+        (Minus left right) period }
+    ensures table { IfOk result (λ made. IsNextTable setting.now.cap setting.now.domain.now
+        tables.now (Minus left right) period made) }
+    ensures many { result ≡ Err StepFault.TooManyCells
+        → HasTooMany setting.now.cap setting.now.domain.now tables.now (Minus left right) period }
 {
     let left = operand(tables, left);
     let right = operand(tables, right);
@@ -26,9 +29,13 @@ pub(crate) fn less(
 
 /// The table of a complement.
 pub(crate) fn missing(setting: &Setting<'_>, tables: &[Table], of: u32) -> Result<Table, StepFault>
-    requires next { (period : ℤ) × IsSomeNext setting.now.cap setting.now.domain.now tables.now (Complement of) period }
-    ensures table { IfOk result (λ made. (period : ℤ) → IsNextTable setting.now.cap setting.now.domain.now tables.now (Complement of) period made) }
-    ensures many { result ≡ Err StepFault.TooManyCells → (period : ℤ) → HasTooMany setting.now.cap setting.now.domain.now tables.now (Complement of) period }
+    requires next { (period : ℤ) × IsSomeNext setting.now.cap setting.now.domain.now tables.now
+        (Complement of) period }
+    ensures table { IfOk result (λ made. (period : ℤ)
+        → IsNextTable setting.now.cap setting.now.domain.now tables.now
+        (Complement of) period made) }
+    ensures many { result ≡ Err StepFault.TooManyCells → (period : ℤ)
+        → HasTooMany setting.now.cap setting.now.domain.now tables.now (Complement of) period }
 {
     let table = operand(tables, of);
     complement(setting.alloc, table, setting.domain, setting.cap)

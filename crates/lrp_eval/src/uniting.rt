@@ -17,9 +17,12 @@ pub(crate) fn united(
     right: u32,
     period: i64,
 ) -> Result<Table, StepFault>
-    requires next { IsSomeNext setting.now.cap setting.now.domain.now tables.now (Union left right) period }
-    ensures table { IfOk result (λ made. IsNextTable setting.now.cap setting.now.domain.now tables.now (Union left right) period made) }
-    ensures many { result ≡ Err StepFault.TooManyCells → HasTooMany setting.now.cap setting.now.domain.now tables.now (Union left right) period }
+    requires next { IsSomeNext setting.now.cap setting.now.domain.now tables.now
+        (Union left right) period }
+    ensures table { IfOk result (λ made. IsNextTable setting.now.cap setting.now.domain.now
+        tables.now (Union left right) period made) }
+    ensures many { result ≡ Err StepFault.TooManyCells
+        → HasTooMany setting.now.cap setting.now.domain.now tables.now (Union left right) period }
 {
     let left = operand(tables, left);
     let right = operand(tables, right);
@@ -40,9 +43,14 @@ pub(crate) fn headed(
     of: u32,
     head: &Head,
 ) -> Result<Table, StepFault>
-    requires next { (period : ℤ) × IsSomeLast setting.now.cap setting.now.domain.now tables.now of head.now.columns period }
-    ensures table { IfOk result (λ made. (period : ℤ) → IsLastTable setting.now.cap setting.now.domain.now tables.now of head.now.columns period made) }
-    ensures many { result ≡ Err StepFault.TooManyCells → (period : ℤ) → HasTooManyLast setting.now.cap setting.now.domain.now tables.now of head.now.columns period }
+    requires next { (period : ℤ) × IsSomeLast setting.now.cap setting.now.domain.now tables.now of
+        head.now.columns period }
+    ensures table { IfOk result (λ made. (period : ℤ)
+        → IsLastTable setting.now.cap setting.now.domain.now tables.now of head.now.columns period
+        made) }
+    ensures many { result ≡ Err StepFault.TooManyCells → (period : ℤ)
+        → HasTooManyLast setting.now.cap setting.now.domain.now tables.now of head.now.columns
+        period }
 {
     let table = operand(tables, of);
     extend(setting.alloc, table, head, setting.domain, setting.cap)

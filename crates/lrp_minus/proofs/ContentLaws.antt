@@ -15,7 +15,8 @@ use Rattle.lrp_store.specs.Choices.{AgreesTo}
 use Rattle.lrp_store.specs.Stores.{StoreView, IsStore, LiesInCell, zone_of, tables_at, zones_at}
 use Rattle.lrp_store.proofs.Counted.{lies_in, one_cell}
 use Rattle.lrp_store.proofs.Held.{Table, cell_held, node_take}
-use Rattle.lrp_minus.specs.Beneath.{IsCellBeneath, number_at}
+use Rattle.lrp_minus.specs.Beneath.{IsCellBeneath}
+use Rattle.lrp_tables.specs.Calls.{number_at}
 use Rattle.lrp_minus.specs.Taking.{AgreesBeneath, IsContentBeneath, IsContentOf, IsTaking}
 use Rattle.lrp_minus.specs.declared.beneath.Places.{Places}
 use Rattle.lrp_minus.specs.declared.taking.Content.{Content}

@@ -18,7 +18,8 @@ use Rattle.lrp_store.specs.Settled.{InSome}
 use Rattle.lrp_store.specs.Stores.{StoreView, IsStore, InStore, IsCellOf, HasReach, LiesInCell, zone_of, tables_at, zones_at}
 use Rattle.lrp_store.proofs.Counted.{lies_in, one_cell}
 use Rattle.lrp_store.proofs.Held.{Table, cell_held, node_take}
-use Rattle.lrp_minus.specs.Beneath.{AgreesAt, AreResiduesAt, IsCellBeneath, number_at}
+use Rattle.lrp_minus.specs.Beneath.{AgreesAt, AreResiduesAt, IsCellBeneath}
+use Rattle.lrp_tables.specs.Calls.{number_at}
 use Rattle.lrp_minus.specs.Cutters.{AreCutOf, AreCutters, CanCut, HasNoCutter, IsCutter}
 use Rattle.lrp_minus.specs.Differences.{greatest_reach}
 use Rattle.lrp_minus.specs.declared.beneath.Places.{Places}

@@ -1,5 +1,5 @@
 -- A cell that a store has not is all that is missing there.
-use Rattle.std.proofs.Common.{◌≡◌, ℕ, ◌<◌, ◌≤◌, List, [], length, replicate, take, None, get_or, refl, sym, ap, subst, ◌∙◌, arith, zero, suc}
+use Rattle.std.proofs.Common.{◌≡◌, ℕ, ◌<◌, ◌≤◌, List, [], ◌∷◌, map, length, replicate, take, None, get_or, refl, sym, ap, subst, ◌∙◌, arith, zero, suc}
 use Rattle.std.specs.Prelude.{ℤ, Option, pos, Contains, ◌-ℤ◌}
 use Rattle.std.proofs.lemmas.List.{length-map, length-take-le}
 use Rattle.lrp_theory.specs.Divides.{Divides}
@@ -22,6 +22,15 @@ no_bound : (n i : ℕ) → get_or {A = Option ℤ} (replicate n None) i None ≡
 no_bound zero i = refl
 no_bound (suc n) zero = refl
 no_bound (suc n) (suc i) = no_bound n i
+
+-- what a list has, the list of the images has the image of
+to_map : {X Y : Type 0} (f : X → Y) (xs : List X) (x : X) → Contains xs x → Contains (map f xs) (f x)
+to_map f [] x held = absurd (let low = held.1 in omega (arith, low))
+to_map f (y ∷ xs) x held = at f y xs x (λ more. to_map f xs x more) held.0 held.1 held.2
+  where
+    at : {X Y : Type 0} (f : X → Y) (y : X) (xs : List X) (x : X) → (Contains xs x → Contains (map f xs) (f x)) → (k : ℕ) → k < length (y ∷ xs) → get_or (y ∷ xs) k x ≡ x → Contains (map f (y ∷ xs)) (f x)
+    at f y xs x rest zero low e = (0, omega arith, ap f e)
+    at f y xs x rest (suc k) low e = let more = rest (k, omega arith, e) in (suc more.0, (let l = more.1 in omega (arith, l)), more.2)
 
 no_reach : greatest_of (replicate 81 None) ≤ 0
 no_reach = reach 81
@@ -111,6 +120,15 @@ module _ (s : StoreView) (is : IsStore s) (cell : Cell) (c : IsChosenTo s s.shap
 
   pub nothing_added : (out : StoreView) → IsStore out → (cap high : ℕ) → IsAdded (IsAbsentAt s s.shape.times cell) cap high out out
   nothing_added out valid cap high = record { grown = grown_same cap high _ out valid; whole = record { each = λ xs ns h. absurd (nothing_absent xs ns h) } }
+
+-- and so does one that has the zone without bounds
+module _ (s : StoreView) (is : IsStore s) (cell : Cell) (c : IsChosenTo s s.shape.times cell) where
+  pub whole_leaves : Contains (tables_at s cell) (replicate 81 None) → (out : StoreView) → IsStore out → (cap high : ℕ) → IsAdded (IsAbsentAt s s.shape.times cell) cap high out out
+  whole_leaves held out valid cap high =
+      let count : length (take s.shape.times cell.residues) ≡ s.shape.times = length-take-le s.shape.times cell.residues (let e : length cell.residues ≡ 8 = c.residues.size in let l = is.times in omega arith) in
+      let few : s.shape.times ≤ 8 = is.times in
+      nothing_added s is cell c (zone_of s cell (replicate 81 None)) (to_map (zone_of s cell) (tables_at s cell) (replicate 81 None) held)
+      (free_zone (zone_of s cell (replicate 81 None)) (omega arith) (λ i l. no_bound 81 i)) out valid cap high
 
 -- no zone is there
 pub no_table : (s : StoreView) (cell : Cell) → zones_at s cell ≡ [] → length (tables_at s cell) ≡ 0

@@ -6,10 +6,7 @@ use Rattle.lrp_model.specs.declared.tuples.Cell.{Cell}
 use Rattle.lrp_zone.specs.Spread.{ArePlaces, target}
 use Rattle.lrp_store.specs.Stores.{StoreView, InStore, IsCellOf, IsPadded}
 use Rattle.lrp_minus.specs.declared.beneath.Places.{Places}
-
--- the number of the text at a place, counted from 1
-abbrev pub number_at : List ℕ → ℕ → ℕ
-number_at numbers place = slice_index_or numbers (place - 1) 0
+use Rattle.lrp_tables.specs.Calls.{number_at}
 
 -- the values at the places are a tuple of the store
 abbrev pub HasBeneath : Places → StoreView → List ℤ → List ℕ → Type 0

@@ -8,7 +8,8 @@ use Rattle.lrp_zone.specs.Zones.{ZoneView, reach_of}
 use Rattle.lrp_store.specs.Choices.{AgreesTo, AreMet, IsPartOf}
 use Rattle.lrp_store.specs.Growing.{IsTupleOf}
 use Rattle.lrp_store.specs.Stores.{StoreView}
-use Rattle.lrp_minus.specs.Beneath.{HasBeneath, number_at}
+use Rattle.lrp_minus.specs.Beneath.{HasBeneath}
+use Rattle.lrp_tables.specs.Calls.{number_at}
 use Rattle.lrp_minus.specs.Cutters.{CanCut}
 use Rattle.lrp_minus.specs.declared.beneath.Places.{Places}
 use Rattle.lrp_minus.specs.declared.taking.Content.{Content}

@@ -21,10 +21,15 @@ pub fn complement(
 ) -> Result<Table, StepFault>
     requires period { 2 * table.now.store.period ≤ 2 ^ 62 }
     requires reach { HasReach table.now.store (2 ^ 62 - 2 * table.now.store.period) }
-    ensures table { IfOk result (λ made. IsTableOf domain.now table.now.vars.times table.now.vars.texts table.now.store.period (IsMissing domain.now table.now) made) }
-    ensures reach { IfOk result (λ made. (high : ℕ) → HasReach table.now.store high → HasReach made.store (high + 2 * table.now.store.period)) }
-    ensures few { OnOk result (InhabitsMoreThan cap domain.now table.now.store.period table.now.vars.times table.now.vars.texts (IsMissing domain.now table.now) → ⊥) }
-    ensures many { result ≡ Err StepFault.TooManyCells → InhabitsMoreThan cap domain.now table.now.store.period table.now.vars.times table.now.vars.texts (IsMissing domain.now table.now) }
+    ensures table { IfOk result (λ made. IsTableOf domain.now table.now.vars.times
+        table.now.vars.texts table.now.store.period (IsMissing domain.now table.now) made) }
+    ensures reach { IfOk result (λ made. (high : ℕ) → HasReach table.now.store high
+        → HasReach made.store (high + 2 * table.now.store.period)) }
+    ensures few { OnOk result (InhabitsMoreThan cap domain.now table.now.store.period
+        table.now.vars.times table.now.vars.texts (IsMissing domain.now table.now) → ⊥) }
+    ensures many { result ≡ Err StepFault.TooManyCells
+        → InhabitsMoreThan cap domain.now table.now.store.period table.now.vars.times
+        table.now.vars.texts (IsMissing domain.now table.now) }
 {
     let domain_size = domain.len();
     let vars = Vars {

@@ -51,13 +51,15 @@ fn cut_all(
     requires low { pos 1 ≤ℤ period }
     requires multiple { Divides (pos store.now.period) period }
     requires columns { length residues.now ≤ 8 }
-    requires residues { (p : ℕ) → p ≤ length residues.now → IsResidue (nat_abs period) (node residues.now p) }
+    requires residues { (p : ℕ) → p ≤ length residues.now
+        → IsResidue (nat_abs period) (node residues.now p) }
     requires count { length places.now ≡ store.now.shape.times }
     requires places { ArePlaces places.now (length residues.now) }
     requires agree { AgreesAt store.now places.now residues.now cell.now }
     requires reach { HasReach store.now (2 ^ 62 - nat_abs period) }
     requires high { nat_abs period ≤ 2 ^ 62 }
-    ensures { IfOk result (AreCutOf (zones_at store.now cell.now) places.now (nat_abs period) residues.now) }
+    ensures { IfOk result (AreCutOf (zones_at store.now cell.now) places.now
+        (nat_abs period) residues.now) }
 {
     store.shape();
     let mut cutters = List::new(alloc);
@@ -77,10 +79,13 @@ fn cutter_of(zone: &Zone, period: i64, places: &[usize], residues: &[i64]) -> Op
     requires low { pos 1 ≤ℤ period }
     requires multiple { Divides (pos zone.now.period) period }
     requires columns { length residues.now ≤ 8 }
-    requires residues { (p : ℕ) → p ≤ length residues.now → IsResidue (nat_abs period) (node residues.now p) }
+    requires residues { (p : ℕ) → p ≤ length residues.now
+        → IsResidue (nat_abs period) (node residues.now p) }
     requires count { length places.now ≡ columns_of zone.now }
     requires places { ArePlaces places.now (length residues.now) }
-    requires agree { (p : ℕ) → p ≤ columns_of zone.now → Divides (pos zone.now.period) (node residues.now (target places.now p) -ℤ node zone.now.residues p) }
+    requires agree { (p : ℕ) → p ≤ columns_of zone.now
+        → Divides (pos zone.now.period)
+        (node residues.now (target places.now p) -ℤ node zone.now.residues p) }
     requires reach { reach_of zone.now + nat_abs period ≤ 2 ^ 62 }
     ensures none { IfNone result (HasNoCutter zone.now places.now period residues.now) }
     ensures some { IfSome result (IsCutter zone.now places.now period residues.now) }

@@ -20,7 +20,8 @@ pub fn pieces(alloc: Global, zone: &Zone, cutters: &List<Zone>) -> Result<List<Z
     requires cell { AreOfCell zone.now cutters.now }
     requires reach { greatest_reach (zone.now ∷ cutters.now) + zone.now.period ≤ 2 ^ 62 }
     ensures difference { IfOk result (λ made. IsDifference zone.now cutters.now made) }
-    ensures reach { IfOk result (λ made. greatest_reach made ≤ greatest_reach (zone.now ∷ cutters.now) + zone.now.period) }
+    ensures reach { IfOk result (λ made. greatest_reach made
+        ≤ greatest_reach (zone.now ∷ cutters.now) + zone.now.period) }
     ensures count { IfOk result (λ made. length made ≤ most_pieces zone.now cutters.now) }
 {
     let nodes = zone.columns() as u8 + 1;
@@ -41,7 +42,9 @@ fn cut(
     requires cell { AreOfCell part.now cutters.now }
     requires left { AreLeft part.now cutters.now pairs.now }
     requires reach { side_reach part.now.period cutters.now ≤ 2 ^ 62 }
-    ensures { OnOk result (AppendsCut part.now (part.now ∷ []) cutters.now (max (reach_of part.now) (side_reach part.now.period cutters.now)) (most_parts part.now.period cutters.now pairs.now) made.old made.new) }
+    ensures { OnOk result (AppendsCut part.now (part.now ∷ []) cutters.now
+        (max (reach_of part.now) (side_reach part.now.period cutters.now))
+        (most_parts part.now.period cutters.now pairs.now) made.old made.new) }
 {
     part.columns();
     match standing_of(part, cutters) {

@@ -37,10 +37,20 @@ pub fn minus(
     requires left_reach { HasReach left.now.store (2 ^ 62 - 2 * nat_abs period) }
     requires right_reach { HasReach right.now.store (2 ^ 62 - 2 * nat_abs period) }
     requires columns { AreVariablesOf left.now right.now }
-    ensures table { IfOk result (λ made. (domain : Items Text) → Ascends domain → AreNumbered domain left.now.store → IsTableOf domain left.now.vars.times left.now.vars.texts (nat_abs period) (IsLess domain left.now right.now) made) }
-    ensures reach { IfOk result (λ made. (high : ℕ) → HasReach left.now.store high → HasReach right.now.store high → HasReach made.store (high + 2 * nat_abs period)) }
-    ensures few { OnOk result ((domain : Items Text) → Ascends domain → AreNumbered domain left.now.store → InhabitsMoreThan cap domain (nat_abs period) left.now.vars.times left.now.vars.texts (IsLess domain left.now right.now) → ⊥) }
-    ensures many { result ≡ Err StepFault.TooManyCells → (domain : Items Text) → Ascends domain → AreNumbered domain left.now.store → InhabitsMoreThan cap domain (nat_abs period) left.now.vars.times left.now.vars.texts (IsLess domain left.now right.now) }
+    ensures table { IfOk result (λ made. (domain : Items Text) → Ascends domain
+        → AreNumbered domain left.now.store
+        → IsTableOf domain left.now.vars.times left.now.vars.texts (nat_abs period)
+        (IsLess domain left.now right.now) made) }
+    ensures reach { IfOk result (λ made. (high : ℕ) → HasReach left.now.store high
+        → HasReach right.now.store high → HasReach made.store (high + 2 * nat_abs period)) }
+    ensures few { OnOk result ((domain : Items Text) → Ascends domain
+        → AreNumbered domain left.now.store
+        → InhabitsMoreThan cap domain (nat_abs period) left.now.vars.times left.now.vars.texts
+        (IsLess domain left.now right.now) → ⊥) }
+    ensures many { result ≡ Err StepFault.TooManyCells → (domain : Items Text) → Ascends domain
+        → AreNumbered domain left.now.store
+        → InhabitsMoreThan cap domain (nat_abs period) left.now.vars.times left.now.vars.texts
+        (IsLess domain left.now right.now) }
 {
     let vars = Vars {
         times: left.vars.times.copy(alloc)?,
@@ -69,8 +79,12 @@ fn add_less(
 ) -> Result<(), StoreFault>
     requires shape { out.old.shape ≡ left.now.shape }
     requires subtract { CanSubtract places.now left.now right.now out.old.period }
-    ensures ok { OnOk result ((high : ℕ) → HasReach left.now high → HasReach right.now high → IsAdded (IsSpared places.now left.now right.now) cap (high + 2 * out.old.period) out.old out.new) }
-    ensures refused { result ≡ Err StoreFault.TooManyCells → (high : ℕ) → HasReach left.now high → HasReach right.now high → IsRefused (IsSpared places.now left.now right.now) cap (high + 2 * out.old.period) out.old out.new }
+    ensures ok { OnOk result ((high : ℕ) → HasReach left.now high → HasReach right.now high
+        → IsAdded (IsSpared places.now left.now right.now) cap
+        (high + 2 * out.old.period) out.old out.new) }
+    ensures refused { result ≡ Err StoreFault.TooManyCells → (high : ℕ) → HasReach left.now high
+        → HasReach right.now high → IsRefused (IsSpared places.now left.now right.now) cap
+        (high + 2 * out.old.period) out.old out.new }
 {
     left.shape();
     out.shape();
@@ -96,8 +110,13 @@ fn add_cell(
     requires cell { IsCellOf left.now.shape left.now.period cell.now }
     requires shape { out.old.shape ≡ left.now.shape }
     requires subtract { CanSubtract places.now left.now right.now out.old.period }
-    ensures ok { OnOk result ((high : ℕ) → HasReach left.now high → HasReach right.now high → IsAdded (IsSparedIn places.now left.now cell.now right.now) cap (high + 2 * out.old.period) out.old out.new) }
-    ensures refused { result ≡ Err StoreFault.TooManyCells → (high : ℕ) → HasReach left.now high → HasReach right.now high → IsRefused (IsSparedIn places.now left.now cell.now right.now) cap (high + 2 * out.old.period) out.old out.new }
+    ensures ok { OnOk result ((high : ℕ) → HasReach left.now high → HasReach right.now high
+        → IsAdded (IsSparedIn places.now left.now cell.now right.now) cap
+        (high + 2 * out.old.period) out.old out.new) }
+    ensures refused { result ≡ Err StoreFault.TooManyCells → (high : ℕ) → HasReach left.now high
+        → HasReach right.now high → IsRefused
+        (IsSparedIn places.now left.now cell.now right.now) cap
+        (high + 2 * out.old.period) out.old out.new }
 {
     left.shape();
     out.shape();
@@ -121,8 +140,13 @@ fn add_same_cell(
     requires cell { IsCellOf left.now.shape left.now.period cell.now }
     requires take { CanTake places.now left.now right.now }
     requires like { IsLike left.now out.old }
-    ensures ok { OnOk result ((high : ℕ) → HaveReach left.now right.now high → IsAdded (IsSparedIn places.now left.now cell.now right.now) cap (high + 2 * left.now.period) out.old out.new) }
-    ensures refused { result ≡ Err StoreFault.TooManyCells → (high : ℕ) → HaveReach left.now right.now high → IsRefused (IsSparedIn places.now left.now cell.now right.now) cap (high + 2 * left.now.period) out.old out.new }
+    ensures ok { OnOk result ((high : ℕ) → HaveReach left.now right.now high
+        → IsAdded (IsSparedIn places.now left.now cell.now right.now) cap
+        (high + 2 * left.now.period) out.old out.new) }
+    ensures refused { result ≡ Err StoreFault.TooManyCells → (high : ℕ)
+        → HaveReach left.now right.now high
+        → IsRefused (IsSparedIn places.now left.now cell.now right.now) cap
+        (high + 2 * left.now.period) out.old out.new }
 {
     out.shape();
     left.shape();
@@ -149,8 +173,13 @@ fn add_cells_within(
     requires cell { IsCellOf left.now.shape left.now.period cell.now }
     requires shape { out.old.shape ≡ left.now.shape }
     requires subtract { CanSubtract places.now left.now right.now out.old.period }
-    ensures ok { OnOk result ((high : ℕ) → HasReach left.now high → HasReach right.now high → IsAdded (IsSparedIn places.now left.now cell.now right.now) cap (high + 2 * out.old.period) out.old out.new) }
-    ensures refused { result ≡ Err StoreFault.TooManyCells → (high : ℕ) → HasReach left.now high → HasReach right.now high → IsRefused (IsSparedIn places.now left.now cell.now right.now) cap (high + 2 * out.old.period) out.old out.new }
+    ensures ok { OnOk result ((high : ℕ) → HasReach left.now high → HasReach right.now high
+        → IsAdded (IsSparedIn places.now left.now cell.now right.now) cap
+        (high + 2 * out.old.period) out.old out.new) }
+    ensures refused { result ≡ Err StoreFault.TooManyCells → (high : ℕ) → HasReach left.now high
+        → HasReach right.now high → IsRefused
+        (IsSparedIn places.now left.now cell.now right.now) cap
+        (high + 2 * out.old.period) out.old out.new }
 {
     out.shape();
     left.shape();

@@ -28,8 +28,12 @@ pub(crate) fn add_left(
     requires times { IsPadded (pos 0) store.old.shape.times cell.now.residues }
     requires cutters { AreOfCell zone.now cutters.now }
     requires reach { greatest_reach (zone.now ∷ cutters.now) + zone.now.period ≤ 2 ^ 62 }
-    ensures ok { OnOk result (IsAdded (IsUncut zone.now cutters.now (take store.old.shape.texts cell.now.texts)) cap (greatest_reach (zone.now ∷ cutters.now) + zone.now.period) store.old store.new) }
-    ensures refused { result ≡ Err StoreFault.TooManyCells → IsRefused (IsUncut zone.now cutters.now (take store.old.shape.texts cell.now.texts)) cap (greatest_reach (zone.now ∷ cutters.now) + zone.now.period) store.old store.new }
+    ensures ok { OnOk result (IsAdded (IsUncut zone.now cutters.now
+        (take store.old.shape.texts cell.now.texts)) cap
+        (greatest_reach (zone.now ∷ cutters.now) + zone.now.period) store.old store.new) }
+    ensures refused { result ≡ Err StoreFault.TooManyCells
+        → IsRefused (IsUncut zone.now cutters.now (take store.old.shape.texts cell.now.texts)) cap
+        (greatest_reach (zone.now ∷ cutters.now) + zone.now.period) store.old store.new }
 {
     store.shape();
     if cutters.len() == 0 {

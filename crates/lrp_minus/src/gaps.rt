@@ -18,7 +18,8 @@ pub(crate) fn gaps(alloc: Global, zone: &Zone, cutters: &[Zone]) -> Result<List<
     requires column { columns_of zone.now ≡ 1 }
     requires cell { AreOfCell zone.now cutters.now }
     requires reach { greatest_reach (zone.now ∷ cutters.now) + zone.now.period ≤ 2 ^ 62 }
-    ensures { IfOk result (AreLeftOf zone.now (zone.now ∷ []) cutters.now (greatest_reach (zone.now ∷ cutters.now) + zone.now.period)) }
+    ensures { IfOk result (AreLeftOf zone.now (zone.now ∷ []) cutters.now
+        (greatest_reach (zone.now ∷ cutters.now) + zone.now.period)) }
 {
     let mut cuts = intervals_of(alloc, zone, cutters)?;
     cuts.sort_unstable();
@@ -72,7 +73,8 @@ fn push_span(
 // The numbers of an interval below another one, if there are such.
 fn below(whole: Interval, cut: Interval, period: i64) -> Option<Interval>
     requires { IfSome cut.least (λ least. nat_abs least + nat_abs period ≤ 2 ^ 62) }
-    ensures { (z : ZoneView) → period ≡ pos z.period → 0 < z.period → IsStoredInterval z whole → IsInterval z cut → IsBelow z whole cut result }
+    ensures { (z : ZoneView) → period ≡ pos z.period → 0 < z.period → IsStoredInterval z whole
+        → IsInterval z cut → IsBelow z whole cut result }
 {
     let Some(least) = cut.least else {
         return None;
@@ -86,7 +88,8 @@ fn below(whole: Interval, cut: Interval, period: i64) -> Option<Interval>
 // The numbers of an interval above another one, if there are such.
 fn above(whole: Interval, cut: Interval, period: i64) -> Option<Interval>
     requires { IfSome cut.most (λ most. nat_abs most + nat_abs period ≤ 2 ^ 62) }
-    ensures { (z : ZoneView) → period ≡ pos z.period → 0 < z.period → IsStoredInterval z whole → IsInterval z cut → IsAbove z whole cut result }
+    ensures { (z : ZoneView) → period ≡ pos z.period → 0 < z.period → IsStoredInterval z whole
+        → IsInterval z cut → IsAbove z whole cut result }
 {
     let Some(most) = cut.most else {
         return None;

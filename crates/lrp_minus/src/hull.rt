@@ -22,7 +22,8 @@ pub(crate) fn hull(alloc: Global, cell: &Zone, zones: &[Zone]) -> Result<Zone, M
     requires cell { AreOfCell cell.now zones.now }
     requires reach { columns_of cell.now * greatest_reach zones.now ≤ 2 ^ 62 }
     ensures hull { IfOk result (λ h. IsHull cell.now zones.now h) }
-    ensures small { IfOk result (λ h. IsSmallZone h (columns_of cell.now * greatest_reach zones.now)) }
+    ensures small { IfOk result (λ h. IsSmallZone h
+        (columns_of cell.now * greatest_reach zones.now)) }
     ensures valid { IfOk result (λ _. (z : ZoneView) → Contains zones.now z → IsZone z) }
 {
     let matrices = closures(alloc, zones)?;
@@ -49,7 +50,8 @@ fn closures(alloc: Global, zones: &[Zone]) -> Result<Vec<Matrix>, Memory>
 // The bounds of the hull, both ways for each pair of columns.
 fn hull_bounds(alloc: Global, matrices: &[Matrix], pairs: &[Pair]) -> Result<Vec<Bound>, Memory>
     requires some { 0 < length matrices.now }
-    requires places { (p : PairValue) → Contains pairs.now p → HasPlace matrices.now p.left p.right × HasPlace matrices.now p.right p.left }
+    requires places { (p : PairValue) → Contains pairs.now p → HasPlace matrices.now p.left p.right
+        × HasPlace matrices.now p.right p.left }
     ensures { IfOk result (λ made. AreWidest matrices.now pairs.now made.items) }
 {
     let mut made = Vec::new(alloc);
@@ -69,7 +71,8 @@ fn push_widest(
 ) -> Result<(), Memory>
     requires some { 0 < length matrices.now }
     requires place { HasPlace matrices.now left right }
-    ensures { OnOk result (AppendsWidest matrices.now left right bounds.old.items bounds.new.items) }
+    ensures { OnOk result (AppendsWidest matrices.now left right bounds.old.items
+        bounds.new.items) }
 {
     if let Some(most) = widest(matrices, usize::from(left), usize::from(right)) {
         bounds.push(Bound { left, right, most })?;

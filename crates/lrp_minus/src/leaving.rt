@@ -18,7 +18,8 @@ use std::alloc::Global;
 fn outside(alloc: Global, zone: &Zone, cutter: &Zone) -> Result<List<Zone>, Memory>
     requires cell { IsOfCell zone.now cutter.now }
     requires reach { reach_of cutter.now + zone.now.period ≤ 2 ^ 62 }
-    ensures { IfOk result (λ sides. AreLeftOf zone.now (zone.now ∷ []) (cutter.now ∷ []) (max (reach_of zone.now) (reach_of cutter.now + zone.now.period)) sides) }
+    ensures { IfOk result (λ sides. AreLeftOf zone.now (zone.now ∷ []) (cutter.now ∷ [])
+        (max (reach_of zone.now) (reach_of cutter.now + zone.now.period)) sides) }
 {
     let bounds = stored(alloc, cutter)?;
     let mut sides = List::new(alloc);
@@ -91,7 +92,8 @@ pub(crate) fn left_over(
 ) -> Result<List<Zone>, Memory>
     requires cell { AreOfCell zone.now cutters.now }
     requires reach { greatest_reach (zone.now ∷ cutters.now) + zone.now.period ≤ 2 ^ 62 }
-    ensures { IfOk result (λ made. AreLeftOf zone.now (zone.now ∷ []) cutters.now (greatest_reach (zone.now ∷ cutters.now) + zone.now.period) made) }
+    ensures { IfOk result (λ made. AreLeftOf zone.now (zone.now ∷ []) cutters.now
+        (greatest_reach (zone.now ∷ cutters.now) + zone.now.period) made) }
 {
     if zone.columns() == 1 {
         return gaps(alloc, zone, cutters.as_slice());
@@ -110,7 +112,9 @@ fn add_left(
 ) -> Result<(), Memory>
     requires cell { AreOfCell part.now cutters.now }
     requires reach { side_reach part.now.period cutters.now ≤ 2 ^ 62 }
-    ensures { OnOk result ((high : ℕ) → reach_of part.now ≤ high → side_reach part.now.period cutters.now ≤ high → AppendsLeft part.now (part.now ∷ []) cutters.now high made.old made.new) }
+    ensures { OnOk result ((high : ℕ) → reach_of part.now ≤ high
+        → side_reach part.now.period cutters.now ≤ high
+        → AppendsLeft part.now (part.now ∷ []) cutters.now high made.old made.new) }
 {
     part.columns();
     if cutters.is_empty() {

@@ -13,8 +13,10 @@ use lrp_zone::Zone;
 /// Whether the zones of a cell with one column are the maximal intervals of their numbers as they stand, ascending.
 pub fn is_settled(store: &Store, cell: &Cell) -> bool
     requires column { store.now.shape.times ≡ 1 }
-    requires reach { (z : ZoneView) → Contains (zones_at store.now cell.now) z → reach_of z + z.period ≤ 2 ^ 62 }
-    ensures { IsTrue result → (z : ZoneView) → Contains (zones_at store.now cell.now) z → IsSettlement z (zones_at store.now cell.now) (zones_at store.now cell.now) }
+    requires reach { (z : ZoneView) → Contains (zones_at store.now cell.now) z
+        → reach_of z + z.period ≤ 2 ^ 62 }
+    ensures { IsTrue result → (z : ZoneView) → Contains (zones_at store.now cell.now) z
+        → IsSettlement z (zones_at store.now cell.now) (zones_at store.now cell.now) }
 {
     store.shape();
     let mut zones = store.zones_of(cell);

@@ -24,8 +24,10 @@ const NEIGHBOURS: usize = 8;
 pub fn settle(alloc: Global, zones: &List<Zone>) -> Result<List<Zone>, Memory>
     requires some { 0 < length zones.now }
     requires cell { (z : ZoneView) → Contains zones.now z → AreOfCell z zones.now }
-    requires reach { (z : ZoneView) → Contains zones.now z → columns_of z * reach_of z + z.period ≤ 2 ^ 62 }
-    ensures { IfOk result (λ made. (z : ZoneView) → Contains zones.now z → IsSettlement z zones.now made) }
+    requires reach { (z : ZoneView) → Contains zones.now z
+        → columns_of z * reach_of z + z.period ≤ 2 ^ 62 }
+    ensures { IfOk result (λ made. (z : ZoneView) → Contains zones.now z
+        → IsSettlement z zones.now made) }
 {
     let first = zones.at(0);
     match first.columns() {
@@ -40,7 +42,8 @@ fn fewest(alloc: Global, cell: &Zone, zones: &List<Zone>) -> Result<List<Zone>, 
     requires columns { 1 < columns_of cell.now }
     requires some { 0 < length zones.now }
     requires cell { AreOfCell cell.now zones.now }
-    requires reach { (z : ZoneView) → Contains zones.now z → columns_of z * reach_of z + z.period ≤ 2 ^ 62 }
+    requires reach { (z : ZoneView) → Contains zones.now z
+        → columns_of z * reach_of z + z.period ≤ 2 ^ 62 }
     ensures { IfOk result (λ made. IsSettlement cell.now zones.now made) }
 {
     let all = zones.as_slice();

@@ -34,7 +34,8 @@ pub(crate) fn split_along(
 fn split(alloc: Global, zone: &Zone, pair: Pair, thresholds: &[i64]) -> Result<List<Zone>, Memory>
     requires sides { All (HasSides zone.now pair (2 ^ 62)) thresholds.now }
     requires ascending { IsStrictlySortedBy int_cmp thresholds.now }
-    ensures { IfOk result (λ parts. (high : ℕ) → All (HasSides zone.now pair high) thresholds.now → IsSplit zone.now pair thresholds.now high parts) }
+    ensures { IfOk result (λ parts. (high : ℕ) → All (HasSides zone.now pair high) thresholds.now
+        → IsSplit zone.now pair thresholds.now high parts) }
 {
     let mut parts = List::new(alloc);
     let mut rest = *zone;

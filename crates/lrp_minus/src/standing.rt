@@ -22,7 +22,8 @@ pub(crate) fn standing_of(zone: &Zone, cutters: &[Zone]) -> Standing
     requires { AreOfCell zone.now cutters.now }
     ensures within { result ≡ Standing.Within → IsWithinOne zone.now cutters.now }
     ensures apart { result ≡ Standing.Apart → MeetsNone zone.now cutters.now }
-    ensures across { result ≡ Standing.Across → MeetsOne zone.now cutters.now × (IsWithinOne zone.now cutters.now → ⊥) }
+    ensures across { result ≡ Standing.Across → MeetsOne zone.now cutters.now
+        × (IsWithinOne zone.now cutters.now → ⊥) }
 {
     let mut found = Standing::Apart;
     for cutter in cutters {

@@ -23,7 +23,8 @@ pub(crate) fn thresholds(
 ) -> Result<Vec<i64>, Memory>
     requires cell { AreOfCell zone.now cutters.now }
     requires pair { IsPairOf zone.now pair }
-    ensures thresholds { IfOk result (λ found. AreThresholds zone.now.period pair cutters.now found.items) }
+    ensures thresholds { IfOk result (λ found. AreThresholds zone.now.period pair cutters.now
+        found.items) }
     ensures valid { IfOk result (λ _. All IsZone cutters.now) }
 {
     let mut found = found_of(alloc, zone, cutters, pair)?;
@@ -36,7 +37,8 @@ pub(crate) fn thresholds(
 fn found_of(alloc: Global, zone: &Zone, cutters: &[Zone], pair: Pair) -> Result<Vec<i64>, Memory>
     requires cell { AreOfCell zone.now cutters.now }
     requires pair { IsPairOf zone.now pair }
-    ensures found { IfOk result (λ found. found.items ≡ all_thresholds zone.now.period pair cutters.now) }
+    ensures found { IfOk result (λ found. found.items
+        ≡ all_thresholds zone.now.period pair cutters.now) }
     ensures valid { IfOk result (λ _. All IsZone cutters.now) }
 {
     let mut found = Vec::new(alloc);
@@ -49,7 +51,8 @@ fn found_of(alloc: Global, zone: &Zone, cutters: &[Zone], pair: Pair) -> Result<
 // Appends the thresholds of one cutter.
 fn push_thresholds(cutter: &Zone, pair: Pair, found: &mut Vec<i64>) -> Result<(), Memory>
     requires { IsPairOf cutter.now pair }
-    ensures found { OnOk result (found.new.items ≡ found.old.items ++ thresholds_of cutter.now.period pair cutter.now) }
+    ensures found { OnOk result (found.new.items ≡ found.old.items
+        ++ thresholds_of cutter.now.period pair cutter.now) }
     ensures valid { IsZone cutter.now }
 {
     cutter.columns();

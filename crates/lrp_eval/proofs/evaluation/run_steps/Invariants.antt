@@ -1,12 +1,13 @@
--- The tables so far are those of the first steps.
-use Rattle.std.proofs.Common.{◌≡◌, length}
+-- The tables so far are those of the first steps, of which there are at least as many as turns.
+use Rattle.std.proofs.Common.{◌≤◌, length}
 use Rattle.lrp_model.specs.Formulas.{Question}
 use Rattle.lrp_eval.specs.Planned.{IsPlanOf}
 use Rattle.lrp_eval.specs.Running.{AreRun}
 use Rattle.lrp_eval.proofs.evaluation.run_steps.Given as goal
 
-abbrev pub invariant-loop-step : goal.invariant-loop-step
-invariant-loop-step l = record {
-  count : length l.tables ≡ l.step-index;
+abbrev pub invariant-loop-number : goal.invariant-loop-number
+invariant-loop-number l = record {
+  low : l.number ≤ length l.tables;
+  high : length l.tables ≤ length l.plan.steps;
   run : (q : Question) → IsPlanOf l.database q l.plan → AreRun l.database q l.cap l.tables;
 }

@@ -1,5 +1,5 @@
 -- Both tables that the step reads.
-use Rattle.std.proofs.Common.{sym, subst, ◌∙◌}
+use Rattle.std.proofs.Common.{sym, subst}
 use Rattle.lrp_eval.specs.Freeing.{AreLeft}
 use Rattle.lrp_eval.proofs.FreeingLaws.{left_twice}
 use Rattle.lrp_eval.proofs.freeing.give_up.Goals as goal

@@ -1,5 +1,5 @@
 -- The table is the one at the step's place.
-use Rattle.std.proofs.Common.{rules, ◌≤◌, ◌<◌, ◌≢◌, length, arith}
+use Rattle.std.proofs.Common.{rules}
 use Rattle.lrp_eval.proofs.FreeingLaws.{left_done}
 use Rattle.lrp_eval.proofs.freeing.give_up_one.Goals as goal
 

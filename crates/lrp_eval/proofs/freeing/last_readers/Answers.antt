@@ -1,6 +1,4 @@
 -- The operands of one step more are noted.
-use Rattle.std.proofs.Common.{◌≡◌, ◌≤◌, length, subst, arith}
-use Rattle.lrp_eval.specs.Freeing.{AreNoted}
 use Rattle.lrp_eval.proofs.FreeingLaws.{all_noted, more_noted, none_noted}
 use Rattle.lrp_eval.proofs.freeing.last_readers.Goals as goal
 

@@ -1,5 +1,5 @@
 -- There are as many zones as cells.
-use Rattle.std.proofs.Common.{◌≡◌, sym, ◌∙◌}
+use Rattle.std.proofs.Common.{sym, ◌∙◌}
 use Rattle.std.proofs.lemmas.Bool.{eqb-true}
 use Rattle.lrp_eval.proofs.SingleLaws.{single_zones}
 use Rattle.lrp_eval.proofs.settling.has_single_zones.Goals as goal

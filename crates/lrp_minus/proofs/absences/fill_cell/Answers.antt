@@ -2,9 +2,13 @@
 use Rattle.std.proofs.Common.{◌≡◌, ◌∷◌, ◌+◌, ◌*◌, sym, subst, ◌∙◌, refl, arith}
 use Rattle.std.specs.Prelude.{Contains}
 use Rattle.lrp_store.specs.Stores.{zones_at}
-use Rattle.lrp_minus.proofs.EmptyCells.{no_table, nothing_added, proper_there, whole_absent, whole_absent_refused}
+use Rattle.lrp_minus.proofs.EmptyCells.{no_table, nothing_added, proper_there, whole_absent, whole_absent_refused, whole_leaves}
 use Rattle.lrp_minus.proofs.Lists.{on_ok}
 use Rattle.lrp_minus.proofs.absences.fill_cell.Goals as goal
+
+pub returns-then-is_remembered-clause-ok : goal.returns-then-is_remembered-clause-ok
+returns-then-is_remembered-clause-ok c = λ high r.
+    whole_leaves c.args.store.now c.shape-2.ensures.valid c.args.cell.now c.requires.chosen (c.is_remembered.ensures.held c.if-is_remembered.true) c.args.out.now c.shape.ensures.valid c.args.cap (high + 2 * c.args.store.now.period)
 
 pub add_whole-requires : goal.add_whole-requires
 add_whole-requires c = record { proper = proper_there c.args.store.now c.shape-2.ensures.valid c.args.cell.now c.requires.chosen (no_table c.args.store.now c.args.cell.now (sym c.zones_of.ensures ∙ c.in_default.ensures.steps.0)) c.args.out.now c.requires.like }

@@ -1,0 +1,27 @@
+-- The join and the steps behind it stand in the plan.
+use Rattle.std.proofs.Common.{List, length, sym, subst}
+use Rattle.lrp_model.specs.declared.plans.Step.{Step}
+use Rattle.lrp_eval.specs.Together.{AreRunTogether, IsProjection, IsProjectionNext}
+use Rattle.lrp_eval.proofs.LoopLaws.{projection_next, projection_together}
+use Rattle.lrp_eval.proofs.Reading.{some_ok}
+use Rattle.lrp_eval.proofs.following.run_projection.Goals as goal
+
+pub projected-requires : goal.projected-requires
+projected-requires c =
+    let is : IsProjection c.args.plan.now.steps c.args.readers.now (length c.args.tables.now) c.in-Ok-Some.projection = subst (λ (ss : List Step). IsProjection ss c.args.readers.now (length c.args.tables.now) c.in-Ok-Some.projection) c.as_slice.ensures (some_ok _ _ _ c.in-Ok-Some.field-0-is c.in-Ok-Some.ensures) in
+    record {
+      next = record {
+        database = c.requires.plan.database;
+        query = c.requires.plan.query;
+        is = subst (λ d. IsProjectionNext c.requires.plan.database c.requires.plan.query c.args.setting.now.cap d c.args.tables.now c.in-Ok-Some.projection) (sym c.requires.domain)
+            (projection_next c.requires.plan.database c.requires.plan.query c.args.setting.now.cap c.args.plan.now c.args.tables.now c.args.readers.now c.in-Ok-Some.projection c.requires.plan.planned c.requires.plan.run is);
+      };
+    }
+
+pub returns-in-Ok-Some-projected-clause-table : goal.returns-in-Ok-Some-projected-clause-table
+returns-in-Ok-Some-projected-clause-table c = λ db q h run.
+    let is : IsProjection c.args.plan.now.steps c.args.readers.now (length c.args.tables.now) c.in-Ok-Some.projection = subst (λ (ss : List Step). IsProjection ss c.args.readers.now (length c.args.tables.now) c.in-Ok-Some.projection) c.as_slice.ensures (some_ok _ _ _ c.in-Ok-Some.field-0-is c.in-Ok-Some.ensures) in
+    subst (λ k. AreRunTogether db q c.args.setting.now.cap c.args.readers.now c.args.tables.now k c.in-Ok-Some-projected.table) (sym c.len-between.ensures)
+    (projection_together db q c.args.setting.now.cap c.args.plan.now c.args.tables.now c.args.readers.now c.in-Ok-Some.projection h run is c.in-Ok-Some-projected.table
+    (some_ok _ _ _ c.in-Ok-Some-projected.field-0-is c.in-Ok-Some-projected.ensures db q
+    (subst (λ d. IsProjectionNext db q c.args.setting.now.cap d c.args.tables.now c.in-Ok-Some.projection) (sym c.requires.domain) (projection_next db q c.args.setting.now.cap c.args.plan.now c.args.tables.now c.args.readers.now c.in-Ok-Some.projection h run is))))

@@ -1,0 +1,202 @@
+// Which of the next steps can be run together.
+ghost use Rattle.std.specs.Prelude.{◌≡◌, ◌<◌, ◌≤◌, ◌+◌, ◌^◌, IfOk, IfSome, IsTrue, length};
+ghost use Rattle.lrp_model.specs.declared.plans.StepKind.TheVariants.{DropTime, Minus};
+ghost use Rattle.lrp_eval.specs.Together.{AreDroppedFrom, ArePassed, AreTogether, IsNarrowing, IsProjection, IsSomeRun};
+
+use crate::projecting::{Projection, projected};
+use crate::running::Setting;
+use crate::together::{Narrowing, narrowed};
+use lrp_model::{Copies, List, Memory, Name, Plan, Step, StepKind};
+use lrp_tables::Table;
+use std::alloc::Global;
+
+// The greatest reach of steps that are run together: what is made on the way has bounds that can be stored.
+const SMALL: i64 = 1 << 59;
+
+/// How many of the next steps have no table of their own, and the table of the one behind them.
+#[derive(Drop)]
+pub(crate) struct Together {
+    pub(crate) between: usize,
+    pub(crate) table: Table,
+}
+
+/// Runs some of the steps behind these tables together, where that is worth it. `None` says nothing.
+pub(crate) fn run_together(
+    setting: &Setting<'_>,
+    plan: &Plan,
+    readers: &[usize],
+    tables: &[Table],
+) -> Result<Option<Together>, Memory>
+    requires domain { setting.now.domain.now ≡ plan.now.domain }
+    requires plan { IsSomeRun plan.now setting.now.cap tables.now }
+    ensures table { IfOk result (λ found. IfSome found
+        (λ made. AreTogether plan.now setting.now.cap readers.now tables.now made.between
+        made.table)) }
+    ensures inside { IfOk result (λ found. IfSome found
+        (λ made. length tables.now + made.between < length plan.now.steps)) }
+{
+    match run_narrowing(setting, plan, readers, tables) {
+        Ok(Some(together)) => Ok(Some(together)),
+        Ok(None) => run_projection(setting, plan, readers, tables),
+        Err(fault) => Err(fault),
+    }
+}
+
+// Three steps that narrow a difference.
+fn run_narrowing(
+    setting: &Setting<'_>,
+    plan: &Plan,
+    readers: &[usize],
+    tables: &[Table],
+) -> Result<Option<Together>, Memory>
+    requires domain { setting.now.domain.now ≡ plan.now.domain }
+    requires plan { IsSomeRun plan.now setting.now.cap tables.now }
+    ensures table { IfOk result (λ found. IfSome found
+        (λ made. AreTogether plan.now setting.now.cap readers.now tables.now made.between
+        made.table)) }
+    ensures inside { IfOk result (λ found. IfSome found
+        (λ made. length tables.now + made.between < length plan.now.steps)) }
+{
+    let Some(narrowing) = narrowing_at(plan.steps.as_slice(), readers, tables.len()) else {
+        return Ok(None);
+    };
+    match narrowed(setting, tables, &narrowing) {
+        Ok(Some(table)) => Ok(Some(Together { between: 2, table })),
+        Ok(None) => Ok(None),
+        Err(fault) => Err(fault),
+    }
+}
+
+// A join and the steps that drop time variables of it.
+fn run_projection(
+    setting: &Setting<'_>,
+    plan: &Plan,
+    readers: &[usize],
+    tables: &[Table],
+) -> Result<Option<Together>, Memory>
+    requires domain { setting.now.domain.now ≡ plan.now.domain }
+    requires plan { IsSomeRun plan.now setting.now.cap tables.now }
+    ensures table { IfOk result (λ found. IfSome found
+        (λ made. AreTogether plan.now setting.now.cap readers.now tables.now made.between
+        made.table)) }
+    ensures inside { IfOk result (λ found. IfSome found
+        (λ made. length tables.now + made.between < length plan.now.steps)) }
+{
+    let at = tables.len();
+    let projection = match projection_at(setting.alloc, plan.steps.as_slice(), readers, at) {
+        Ok(Some(projection)) => projection,
+        Ok(None) => return Ok(None),
+        Err(fault) => return Err(fault),
+    };
+    let between = projection.names.len();
+    match projected(setting, tables, &projection) {
+        Ok(Some(table)) => Ok(Some(Together { between, table })),
+        Ok(None) => Ok(None),
+        Err(fault) => Err(fault),
+    }
+}
+
+// The three steps from this place on, where they narrow a difference and nothing else reads the first two.
+fn narrowing_at<'a>(steps: &'a [Step], readers: &[usize], at: usize) -> Option<Narrowing<'a>>
+    ensures { IfSome result (λ n. IsNarrowing steps.now readers.now at n) }
+{
+    if steps.len() < 3 || steps.len() - 3 < at || !are_passed(readers, at, 2) {
+        return None;
+    }
+    let (first, last) = (&steps[at], &steps[at + 2]);
+    let StepKind::Minus { left, right } = &first.kind else {
+        return None;
+    };
+    let name = dropped_from(&steps[at + 1], at + 1)?;
+    let from = taken_from(last, at + 2)?;
+    if from as usize > at || first.period != last.period || last.reach < 0 || last.reach > SMALL {
+        return None;
+    }
+    Some(Narrowing {
+        from,
+        left: *left,
+        right: *right,
+        name,
+        period: last.period,
+        reach: last.reach as u64,
+    })
+}
+
+// The join at this place and the steps behind it that drop time variables one after another, where nothing else reads them.
+fn projection_at<'a>(
+    alloc: Global,
+    steps: &'a [Step],
+    readers: &[usize],
+    at: usize,
+) -> Result<Option<Projection<'a>>, Memory>
+    ensures { IfOk result (λ found. IfSome found (λ p. IsProjection steps.now readers.now at p)) }
+{
+    if at >= steps.len() {
+        return Ok(None);
+    }
+    let StepKind::Join { left, right, tests } = &steps[at].kind else {
+        return Ok(None);
+    };
+    let names = names_dropped(alloc, steps, at + 1)?;
+    if names.len() == 0 || !are_passed(readers, at, names.len()) {
+        return Ok(None);
+    }
+    Ok(Some(Projection {
+        left: *left,
+        right: *right,
+        tests,
+        names,
+        period: steps[at].period,
+    }))
+}
+
+// The time variables that the steps from this place on drop one after another.
+fn names_dropped(alloc: Global, steps: &[Step], at: usize) -> Result<List<Name>, Memory>
+    requires { at ≤ length steps.now }
+    ensures names { IfOk result (λ names. AreDroppedFrom steps.now at names) }
+    ensures room { IfOk result (λ names. at + length names ≤ length steps.now) }
+{
+    let mut names = List::new(alloc);
+    for place in at..steps.len() {
+        match dropped_from(&steps[place], place) {
+            Some(name) => names.push(name.copy(alloc)?)?,
+            None => return Ok(names),
+        }
+    }
+    Ok(names)
+}
+
+// The variable that the step drops from this other one.
+fn dropped_from(step: &Step, of: usize) -> Option<&Name>
+    ensures { IfSome result (λ name. step.now.kind ≡ DropTime of name.now) }
+{
+    match &step.kind {
+        StepKind::DropTime { of: read, name } if *read as usize == of => Some(name),
+        _ => None,
+    }
+}
+
+// The step that this other one is taken from.
+fn taken_from(step: &Step, right: usize) -> Option<u32>
+    ensures { IfSome result (λ from. (step.now.kind ≡ Minus from right) × (0 < from)) }
+{
+    match &step.kind {
+        StepKind::Minus { left, right: taken } if *taken as usize == right && 0 < *left => Some(
+            *left,
+        ),
+        _ => None,
+    }
+}
+
+// Whether so many steps from this place on are read by no step behind the one that follows them.
+fn are_passed(readers: &[usize], at: usize, count: usize) -> bool
+    requires { at + count < 2 ^ 63 }
+    ensures { IsTrue result → ArePassed readers.now at count }
+{
+    for place in at..at + count {
+        if place >= readers.len() || readers[place] > at + count + 1 {
+            return false;
+        }
+    }
+    true
+}
