@@ -1,4 +1,6 @@
+-- What contracts of public calls say.
 pub mod Cores
 pub mod FreeVariables
 pub mod VariableTrees
+-- What functions inside say to one another.
 pub mod Literals

@@ -98,7 +98,8 @@ pub enum Core<'a> {
 impl<'a> Core<'a> {
     // It as a further element of an `and`.
     pub(crate) fn push_conjunct(self, all: &mut Vec<Core<'a>>) -> Result<(), Memory>
-        ensures { OnOk result (cores_of all.new.items ≡ joined (cores_of all.old.items) (conjuncts (core_of self.entry))) }
+        ensures { OnOk result (cores_of all.new.items
+            ≡ joined (cores_of all.old.items) (conjuncts (core_of self.entry))) }
     {
         match self {
             Core::And { mut of } => all.append(&mut of)?,
@@ -109,7 +110,8 @@ impl<'a> Core<'a> {
 
     // It as a further element of an `or`.
     pub(crate) fn push_disjunct(self, all: &mut Vec<Core<'a>>) -> Result<(), Memory>
-        ensures { OnOk result (cores_of all.new.items ≡ joined (cores_of all.old.items) (disjuncts (core_of self.entry))) }
+        ensures { OnOk result (cores_of all.new.items
+            ≡ joined (cores_of all.old.items) (disjuncts (core_of self.entry))) }
     {
         match self {
             Core::Or { mut of } => all.append(&mut of)?,

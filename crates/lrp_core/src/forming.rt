@@ -1,7 +1,7 @@
 // The core form of a formula, of its negation, and of a query.
 ghost use Rattle.std.specs.Prelude.{◌≡◌, IfOk, OnOk};
 ghost use Rattle.lrp_model.specs.Formulas.{form_of, forms_of, question_of, atom, negation, exists, sorted as sorted_form, joined, form, no_forms};
-ghost use Rattle.lrp_model.specs.Core.{core_form as core_form_of, positive as positive_of, negative as negative_of, positives, negatives, conjuncts, disjuncts, all_conjuncts, all_disjuncts, with_sort, column_elements, head_elements as elements_of, and_list, or_list};
+ghost use Rattle.lrp_model.specs.Core.{core_form as core_form_of, positive as positive_of, negative as negative_of, positives, negatives, conjuncts, disjuncts, all_conjuncts, all_disjuncts, with_sort, column_elements, head_elements as elements_of, and_list, and_two, or_list, or_two};
 ghost use Rattle.lrp_core.specs.Cores.{core_of, cores_of};
 
 use crate::Core;
@@ -24,7 +24,8 @@ pub fn core_form(alloc: Global, query: &Query, named: bool) -> Result<Core, Memo
 
 // The sort elements of the data columns, and then the formula.
 fn guarded<'a>(alloc: Global, columns: &'a [Column], body: Core<'a>) -> Result<Core<'a>, Memory>
-    ensures { IfOk result (λ core. core_of core ≡ and_list (joined (elements_of columns.now) (form (core_of body.entry) no_forms))) }
+    ensures { IfOk result (λ core. core_of core
+        ≡ and_list (joined (elements_of columns.now) (form (core_of body.entry) no_forms))) }
 {
     let mut of = head_elements(alloc, columns)?;
     body.push_conjunct(&mut of)?;
@@ -44,7 +45,8 @@ fn head_elements<'a>(alloc: Global, columns: &'a [Column]) -> Result<Vec<Core<'a
 
 // The sort element of a data column.
 fn push_column<'a>(all: &mut Vec<Core<'a>>, column: &'a Column) -> Result<(), Memory>
-    ensures { OnOk result (cores_of all.new.items ≡ joined (cores_of all.old.items) (column_elements column.now.sort column.now.name)) }
+    ensures { OnOk result (cores_of all.new.items
+        ≡ joined (cores_of all.old.items) (column_elements column.now.sort column.now.name)) }
 {
     if !column.sort.is_time() {
         all.push(sorted(&column.sort, &column.name))?;
@@ -66,7 +68,8 @@ fn with_sorted<'a>(
     name: &'a Name,
     f: Core<'a>,
 ) -> Result<Core<'a>, Memory>
-    ensures { IfOk result (λ core. core_of core ≡ with_sort named sort.now name.now (core_of f.entry)) }
+    ensures { IfOk result (λ core. core_of core
+        ≡ with_sort named sort.now name.now (core_of f.entry)) }
 {
     if named && !sort.is_time() {
         both(alloc, sorted(sort, name), f)
@@ -82,7 +85,8 @@ fn some<'a>(
     sort: &'a Sort,
     f: Core<'a>,
 ) -> Result<Core<'a>, Memory>
-    ensures { IfOk result (λ core. core_of core ≡ exists name.now sort.now (with_sort named sort.now name.now (core_of f.entry))) }
+    ensures { IfOk result (λ core. core_of core
+        ≡ exists name.now sort.now (with_sort named sort.now name.now (core_of f.entry))) }
 {
     let of = Box::new(alloc, with_sorted(alloc, named, sort, name, f)?)?;
     Ok(Core::Exists { name, sort, of })
@@ -95,7 +99,9 @@ fn none<'a>(
     sort: &'a Sort,
     f: Core<'a>,
 ) -> Result<Core<'a>, Memory>
-    ensures { IfOk result (λ core. core_of core ≡ negation (exists name.now sort.now (with_sort named sort.now name.now (core_of f.entry)))) }
+    ensures { IfOk result (λ core. core_of core
+        ≡ negation (exists name.now sort.now
+        (with_sort named sort.now name.now (core_of f.entry)))) }
 {
     negated(alloc, some(alloc, named, name, sort, f)?)
 }
@@ -118,17 +124,10 @@ fn positive<'a>(alloc: Global, f: &'a Formula, named: bool) -> Result<Core<'a>, 
         Formula::Or { of } => some_positive(alloc, of, named),
         Formula::Implies { left, right } => {
             let left = negative(alloc, left, named)?;
-            let right = positive(alloc, right, named)?;
-            either(alloc, left, right)
+            either_positive(alloc, right, named, left)
         }
-        Formula::Exists { name, sort, of } => {
-            let of = positive(alloc, of, named)?;
-            some(alloc, named, name, sort, of)
-        }
-        Formula::Forall { name, sort, of } => {
-            let denied = negative(alloc, of, named)?;
-            none(alloc, named, name, sort, denied)
-        }
+        Formula::Exists { name, sort, of } => some_positive_value(alloc, of, named, name, sort),
+        Formula::Forall { name, sort, of } => no_negative_value(alloc, of, named, name, sort),
     }
 }
 
@@ -144,18 +143,109 @@ fn negative<'a>(alloc: Global, f: &'a Formula, named: bool) -> Result<Core<'a>, 
         Formula::Or { of } => all_negative(alloc, of, named),
         Formula::Implies { left, right } => {
             let left = positive(alloc, left, named)?;
-            let right = negative(alloc, right, named)?;
-            both(alloc, left, right)
+            both_negative(alloc, right, named, left)
         }
-        Formula::Exists { name, sort, of } => {
-            let of = positive(alloc, of, named)?;
-            none(alloc, named, name, sort, of)
-        }
-        Formula::Forall { name, sort, of } => {
-            let denied = negative(alloc, of, named)?;
-            some(alloc, named, name, sort, denied)
-        }
+        Formula::Exists { name, sort, of } => no_positive_value(alloc, of, named, name, sort),
+        Formula::Forall { name, sort, of } => some_negative_value(alloc, of, named, name, sort),
     }
+}
+
+// Some value of the variable satisfies the formula.
+#[cycle(forming)]
+fn some_positive_value<'a>(
+    alloc: Global,
+    f: &'a Formula,
+    named: bool,
+    name: &'a Name,
+    sort: &'a Sort,
+) -> Result<Core<'a>, Memory>
+    ensures { IfOk result (λ core. core_of core
+        ≡ exists name.now sort.now (with_sort named sort.now name.now
+        (positive_of (form_of f.now) named))) }
+{
+    let core = positive(alloc, f, named)?;
+    some(alloc, named, name, sort, core)
+}
+
+// No value of it does.
+#[cycle(forming)]
+fn no_positive_value<'a>(
+    alloc: Global,
+    f: &'a Formula,
+    named: bool,
+    name: &'a Name,
+    sort: &'a Sort,
+) -> Result<Core<'a>, Memory>
+    ensures { IfOk result (λ core. core_of core
+        ≡ negation (exists name.now sort.now
+        (with_sort named sort.now name.now (positive_of (form_of f.now) named)))) }
+{
+    let core = positive(alloc, f, named)?;
+    none(alloc, named, name, sort, core)
+}
+
+// Some value of it does not.
+#[cycle(forming)]
+fn some_negative_value<'a>(
+    alloc: Global,
+    f: &'a Formula,
+    named: bool,
+    name: &'a Name,
+    sort: &'a Sort,
+) -> Result<Core<'a>, Memory>
+    ensures { IfOk result (λ core. core_of core
+        ≡ exists name.now sort.now (with_sort named sort.now name.now
+        (negative_of (form_of f.now) named))) }
+{
+    let core = negative(alloc, f, named)?;
+    some(alloc, named, name, sort, core)
+}
+
+// Each value of it does.
+#[cycle(forming)]
+fn no_negative_value<'a>(
+    alloc: Global,
+    f: &'a Formula,
+    named: bool,
+    name: &'a Name,
+    sort: &'a Sort,
+) -> Result<Core<'a>, Memory>
+    ensures { IfOk result (λ core. core_of core
+        ≡ negation (exists name.now sort.now
+        (with_sort named sort.now name.now (negative_of (form_of f.now) named)))) }
+{
+    let core = negative(alloc, f, named)?;
+    none(alloc, named, name, sort, core)
+}
+
+// The other form, or the formula.
+#[cycle(forming)]
+fn either_positive<'a>(
+    alloc: Global,
+    f: &'a Formula,
+    named: bool,
+    other: Core<'a>,
+) -> Result<Core<'a>, Memory>
+    ensures { IfOk result (λ core. core_of core
+        ≡ or_two (core_of other.entry) (positive_of (form_of f.now) named)) }
+{
+    let core = positive(alloc, f, named)?;
+    either(alloc, other, core)
+}
+
+// The other form, and not the formula.
+#[cycle(forming)]
+fn both_negative<'a>(
+    alloc: Global,
+    f: &'a Formula,
+    named: bool,
+    other: Core<'a>,
+) -> Result<Core<'a>, Memory>
+    ensures { IfOk result (λ core. core_of core
+        ≡ and_two (core_of other.entry) (negative_of (form_of f.now) named)) }
+{
+    let core = negative(alloc, f, named)?;
+    both(alloc, other, core)
 }
 
 // All of the formulas.
@@ -176,7 +266,8 @@ fn push_all_positive<'a>(
     named: bool,
     all: &mut Vec<Core<'a>>,
 ) -> Result<(), Memory>
-    ensures { OnOk result (cores_of all.new.items ≡ joined (cores_of all.old.items) (all_conjuncts (positives (forms_of fs.now) named))) }
+    ensures { OnOk result (cores_of all.new.items
+        ≡ joined (cores_of all.old.items) (all_conjuncts (positives (forms_of fs.now) named))) }
 {
     for f in fs {
         push_positive(alloc, f, named, all)?;
@@ -192,7 +283,8 @@ fn push_positive<'a>(
     named: bool,
     all: &mut Vec<Core<'a>>,
 ) -> Result<(), Memory>
-    ensures { OnOk result (cores_of all.new.items ≡ joined (cores_of all.old.items) (conjuncts (positive_of (form_of f.now) named))) }
+    ensures { OnOk result (cores_of all.new.items
+        ≡ joined (cores_of all.old.items) (conjuncts (positive_of (form_of f.now) named))) }
 {
     match f {
         Formula::And { of } => push_all_positive(alloc, of, named, all),
@@ -222,7 +314,8 @@ fn push_some_positive<'a>(
     named: bool,
     all: &mut Vec<Core<'a>>,
 ) -> Result<(), Memory>
-    ensures { OnOk result (cores_of all.new.items ≡ joined (cores_of all.old.items) (all_disjuncts (positives (forms_of fs.now) named))) }
+    ensures { OnOk result (cores_of all.new.items
+        ≡ joined (cores_of all.old.items) (all_disjuncts (positives (forms_of fs.now) named))) }
 {
     for f in fs {
         push_choice(alloc, f, named, all)?;
@@ -238,7 +331,8 @@ fn push_choice<'a>(
     named: bool,
     all: &mut Vec<Core<'a>>,
 ) -> Result<(), Memory>
-    ensures { OnOk result (cores_of all.new.items ≡ joined (cores_of all.old.items) (disjuncts (positive_of (form_of f.now) named))) }
+    ensures { OnOk result (cores_of all.new.items
+        ≡ joined (cores_of all.old.items) (disjuncts (positive_of (form_of f.now) named))) }
 {
     match f {
         Formula::Or { of } => push_some_positive(alloc, of, named, all),
@@ -267,7 +361,8 @@ fn push_all_negative<'a>(
     named: bool,
     all: &mut Vec<Core<'a>>,
 ) -> Result<(), Memory>
-    ensures { OnOk result (cores_of all.new.items ≡ joined (cores_of all.old.items) (all_conjuncts (negatives (forms_of fs.now) named))) }
+    ensures { OnOk result (cores_of all.new.items
+        ≡ joined (cores_of all.old.items) (all_conjuncts (negatives (forms_of fs.now) named))) }
 {
     for f in fs {
         push_negative(alloc, f, named, all)?;
@@ -283,7 +378,8 @@ fn push_negative<'a>(
     named: bool,
     all: &mut Vec<Core<'a>>,
 ) -> Result<(), Memory>
-    ensures { OnOk result (cores_of all.new.items ≡ joined (cores_of all.old.items) (conjuncts (negative_of (form_of f.now) named))) }
+    ensures { OnOk result (cores_of all.new.items
+        ≡ joined (cores_of all.old.items) (conjuncts (negative_of (form_of f.now) named))) }
 {
     match f {
         Formula::Or { of } => push_all_negative(alloc, of, named, all),

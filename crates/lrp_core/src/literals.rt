@@ -19,7 +19,8 @@ pub fn query_texts(
     query: &Query,
     database: &Database,
 ) -> Result<Vec<(Sort, DataText)>, Memory>
-    ensures { IfOk result (λ made. made.items ≡ form_texts (form_of query.now.body) database.now query.now.head.columns) }
+    ensures { IfOk result (λ made. made.items
+        ≡ form_texts (form_of query.now.body) database.now query.now.head.columns) }
 {
     let mut binders = query.head.columns.copy(alloc)?.into_vec();
     let mut all = Vec::new(alloc);
@@ -36,7 +37,8 @@ fn add_formula(
     binders: &mut Vec<Column>,
     all: &mut Vec<(Sort, DataText)>,
 ) -> Result<(), Memory>
-    ensures { OnOk result (AddsTexts (form_texts (form_of f.now) database.now binders.old.items) binders.old.items binders.new.items all.old.items all.new.items) }
+    ensures { OnOk result (AddsTexts (form_texts (form_of f.now) database.now binders.old.items)
+        binders.old.items binders.new.items all.old.items all.new.items) }
 {
     match f {
         Formula::Atom { relation, terms } => add_atom(
@@ -71,7 +73,8 @@ fn add_formulas(
     binders: &mut Vec<Column>,
     all: &mut Vec<(Sort, DataText)>,
 ) -> Result<(), Memory>
-    ensures { OnOk result (AddsTexts (forms_texts (forms_of fs.now) database.now binders.old.items) binders.old.items binders.new.items all.old.items all.new.items) }
+    ensures { OnOk result (AddsTexts (forms_texts (forms_of fs.now) database.now binders.old.items)
+        binders.old.items binders.new.items all.old.items all.new.items) }
 {
     for f in fs {
         add_formula(alloc, database, f, binders, all)?;
@@ -90,7 +93,9 @@ fn add_bound(
     binders: &mut Vec<Column>,
     all: &mut Vec<(Sort, DataText)>,
 ) -> Result<(), Memory>
-    ensures { OnOk result (AddsTexts (form_texts (form_of of.now) database.now (record { name = name.now; sort = sort.now } ∷ binders.old.items)) binders.old.items binders.new.items all.old.items all.new.items) }
+    ensures { OnOk result (AddsTexts (form_texts (form_of of.now) database.now
+        (record { name = name.now; sort = sort.now } ∷ binders.old.items)) binders.old.items
+        binders.new.items all.old.items all.new.items) }
 {
     let name = name.copy(alloc)?;
     let sort = sort.copy(alloc)?;
@@ -107,7 +112,8 @@ fn add_atom(
     terms: &[Term],
     all: &mut Vec<(Sort, DataText)>,
 ) -> Result<(), Memory>
-    ensures { OnOk result (all.new.items ≡ all.old.items ++ term_texts (columns_in (relation_named database.now relation.now)) terms.now) }
+    ensures { OnOk result (all.new.items ≡ all.old.items
+        ++ term_texts (columns_in (relation_named database.now relation.now)) terms.now) }
 {
     if !has_text(terms) {
         return Ok(());
@@ -166,7 +172,8 @@ fn add_at(
     term: &Term,
     all: &mut Vec<(Sort, DataText)>,
 ) -> Result<(), Memory>
-    ensures { OnOk result (all.new.items ≡ all.old.items ++ one_in (slice_get columns.now i) term.now) }
+    ensures { OnOk result (all.new.items ≡ all.old.items
+        ++ one_in (slice_get columns.now i) term.now) }
 {
     if i < columns.len() {
         return add_term(alloc, &columns[i].sort, term, all);
@@ -219,7 +226,8 @@ fn add_beside(
     binders: &[Column],
     all: &mut Vec<(Sort, DataText)>,
 ) -> Result<(), Memory>
-    ensures { OnOk result (all.new.items ≡ all.old.items ++ text_beside binders.now other.now own.now) }
+    ensures { OnOk result (all.new.items ≡ all.old.items
+        ++ text_beside binders.now other.now own.now) }
 {
     match own {
         DataTerm::Var { .. } => Ok(()),

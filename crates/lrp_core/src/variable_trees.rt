@@ -64,7 +64,8 @@ fn tree_of_all(alloc: Global, of: &[Core<'_>]) -> Result<VariableTree, Memory>
 
 // The tree of a formula with no elements in it.
 fn leaf(alloc: Global, core: &Core<'_>) -> Result<VariableTree, Memory>
-    ensures { IfOk result (λ made. tree_of made ≡ tree (each_once (free (core_of core.now))) no_trees) }
+    ensures { IfOk result (λ made. tree_of made
+        ≡ tree (each_once (free (core_of core.now))) no_trees) }
 {
     let variables = free_variables(alloc, core)?;
     Ok(VariableTree {
@@ -76,7 +77,9 @@ fn leaf(alloc: Global, core: &Core<'_>) -> Result<VariableTree, Memory>
 impl VariableTree {
     // The tree of a formula under a quantifier of this sort and name.
     fn without(self, alloc: Global, sort: &Sort, name: &Name) -> Result<VariableTree, Memory>
-        ensures { IfOk result (λ made. (vs : ListOf VariableOf) (inner : Trees) → tree_of self ≡ tree vs inner → tree_of made ≡ tree (each_once (others (bound_by sort.now name.now) vs)) inner) }
+        ensures { IfOk result (λ made. (vs : ListOf VariableOf) (inner : Trees)
+            → tree_of self ≡ tree vs inner
+            → tree_of made ≡ tree (each_once (others (bound_by sort.now name.now) vs)) inner) }
     {
         let VariableTree {
             variables: all,

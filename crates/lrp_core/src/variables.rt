@@ -31,8 +31,10 @@ impl Copies for Variable {
 
 /// The variables that occur free in a core form, each once, in order of their first occurrences.
 pub fn free_variables(alloc: Global, core: &Core<'_>) -> Result<List<Variable>, Memory>
-    ensures value { IfOk result (λ made. map variable_of made ≡ each_once (free (core_of core.now))) }
-    ensures members { IfOk result (λ made. (v : VariableOf) → is_member (map variable_of made) v ≡ is_member (free (core_of core.now)) v) }
+    ensures value { IfOk result (λ made. map variable_of made
+        ≡ each_once (free (core_of core.now))) }
+    ensures members { IfOk result (λ made. (v : VariableOf)
+        → is_member (map variable_of made) v ≡ is_member (free (core_of core.now)) v) }
 {
     let mut all = few(alloc)?;
     add_free(alloc, &mut all, core)?;
@@ -97,7 +99,8 @@ pub fn add_variables(
     all: &mut List<Variable>,
     more: &[Variable],
 ) -> Result<(), Memory>
-    ensures { OnOk result (map variable_of all.new ≡ with_variables (map variable_of all.old) (map variable_of more.now)) }
+    ensures { OnOk result (map variable_of all.new
+        ≡ with_variables (map variable_of all.old) (map variable_of more.now)) }
 {
     for variable in more {
         add_copy(alloc, all, variable)?;
@@ -107,7 +110,8 @@ pub fn add_variables(
 
 // A copy of the variable, where it is none of them yet.
 fn add_copy(alloc: Global, all: &mut List<Variable>, variable: &Variable) -> Result<(), Memory>
-    ensures { OnOk result (map variable_of all.new ≡ with_variable (map variable_of all.old) (variable_of variable.now)) }
+    ensures { OnOk result (map variable_of all.new
+        ≡ with_variable (map variable_of all.old) (variable_of variable.now)) }
 {
     if !variable.is_among(all.as_slice()) {
         all.push(variable.copy(alloc)?)?;
@@ -117,7 +121,8 @@ fn add_copy(alloc: Global, all: &mut List<Variable>, variable: &Variable) -> Res
 
 // A further variable, where it is none of them yet.
 fn add(all: &mut List<Variable>, variable: Variable) -> Result<(), Memory>
-    ensures { OnOk result (map variable_of all.new ≡ with_variable (map variable_of all.old) (variable_of variable)) }
+    ensures { OnOk result (map variable_of all.new
+        ≡ with_variable (map variable_of all.old) (variable_of variable)) }
 {
     if !variable.is_among(all.as_slice()) {
         all.push(variable)?;
@@ -126,7 +131,8 @@ fn add(all: &mut List<Variable>, variable: Variable) -> Result<(), Memory>
 }
 
 fn add_time(alloc: Global, all: &mut List<Variable>, name: &Name) -> Result<(), Memory>
-    ensures { OnOk result (map variable_of all.new ≡ with_variable (map variable_of all.old) (VariableOf.time_variable name.now)) }
+    ensures { OnOk result (map variable_of all.new
+        ≡ with_variable (map variable_of all.old) (VariableOf.time_variable name.now)) }
 {
     if !contains(all.as_slice(), &Sort::Time, name) {
         let name = name.copy(alloc)?;
@@ -136,7 +142,8 @@ fn add_time(alloc: Global, all: &mut List<Variable>, name: &Name) -> Result<(), 
 }
 
 fn add_data(alloc: Global, all: &mut List<Variable>, name: &Name) -> Result<(), Memory>
-    ensures { OnOk result (map variable_of all.new ≡ with_variable (map variable_of all.old) (VariableOf.data_variable name.now)) }
+    ensures { OnOk result (map variable_of all.new
+        ≡ with_variable (map variable_of all.old) (VariableOf.data_variable name.now)) }
 {
     if !contains(all.as_slice(), &Sort::Data, name) {
         let name = name.copy(alloc)?;
@@ -146,7 +153,8 @@ fn add_data(alloc: Global, all: &mut List<Variable>, name: &Name) -> Result<(), 
 }
 
 fn add_time_term(alloc: Global, all: &mut List<Variable>, term: &TimeTerm) -> Result<(), Memory>
-    ensures { OnOk result (map variable_of all.new ≡ with_variables (map variable_of all.old) (variables_of_time term.now)) }
+    ensures { OnOk result (map variable_of all.new
+        ≡ with_variables (map variable_of all.old) (variables_of_time term.now)) }
 {
     match term {
         TimeTerm::Var { name, .. } => add_time(alloc, all, name),
@@ -155,7 +163,8 @@ fn add_time_term(alloc: Global, all: &mut List<Variable>, term: &TimeTerm) -> Re
 }
 
 fn add_data_term(alloc: Global, all: &mut List<Variable>, term: &DataTerm) -> Result<(), Memory>
-    ensures { OnOk result (map variable_of all.new ≡ with_variables (map variable_of all.old) (variables_of_data term.now)) }
+    ensures { OnOk result (map variable_of all.new
+        ≡ with_variables (map variable_of all.old) (variables_of_data term.now)) }
 {
     match term {
         DataTerm::Var { name } => add_data(alloc, all, name),
@@ -164,7 +173,8 @@ fn add_data_term(alloc: Global, all: &mut List<Variable>, term: &DataTerm) -> Re
 }
 
 fn add_term(alloc: Global, all: &mut List<Variable>, term: &Term) -> Result<(), Memory>
-    ensures { OnOk result (map variable_of all.new ≡ with_variables (map variable_of all.old) (variables_of_term term.now)) }
+    ensures { OnOk result (map variable_of all.new
+        ≡ with_variables (map variable_of all.old) (variables_of_term term.now)) }
 {
     match term {
         Term::Time { term } => add_time_term(alloc, all, term),
@@ -173,7 +183,8 @@ fn add_term(alloc: Global, all: &mut List<Variable>, term: &Term) -> Result<(), 
 }
 
 fn add_terms(alloc: Global, all: &mut List<Variable>, terms: &[Term]) -> Result<(), Memory>
-    ensures { OnOk result (map variable_of all.new ≡ with_variables (map variable_of all.old) (flat_map variables_of_term terms.now)) }
+    ensures { OnOk result (map variable_of all.new
+        ≡ with_variables (map variable_of all.old) (flat_map variables_of_term terms.now)) }
 {
     for term in terms {
         add_term(alloc, all, term)?;
@@ -182,7 +193,8 @@ fn add_terms(alloc: Global, all: &mut List<Variable>, terms: &[Term]) -> Result<
 }
 
 fn add_test(alloc: Global, all: &mut List<Variable>, test: &TermTest<'_>) -> Result<(), Memory>
-    ensures { OnOk result (map variable_of all.new ≡ with_variables (map variable_of all.old) (variables_of_test (test_of test.now))) }
+    ensures { OnOk result (map variable_of all.new
+        ≡ with_variables (map variable_of all.old) (variables_of_test (test_of test.now))) }
 {
     match test {
         TermTest::Compare { left, right, .. } => {
@@ -204,7 +216,9 @@ pub(crate) fn add_others(
     sort: &Sort,
     name: &Name,
 ) -> Result<(), Memory>
-    ensures { OnOk result (map variable_of all.new ≡ with_variables (map variable_of all.old) (others (bound_by sort.now name.now) (map variable_of inner))) }
+    ensures { OnOk result (map variable_of all.new
+        ≡ with_variables (map variable_of all.old)
+        (others (bound_by sort.now name.now) (map variable_of inner))) }
 {
     for variable in inner.into_vec() {
         add_other(all, variable, sort, name)?;
@@ -219,7 +233,9 @@ fn add_other(
     sort: &Sort,
     name: &Name,
 ) -> Result<(), Memory>
-    ensures { OnOk result (map variable_of all.new ≡ with_variables (map variable_of all.old) (others (bound_by sort.now name.now) (variable_of variable ∷ []))) }
+    ensures { OnOk result (map variable_of all.new
+        ≡ with_variables (map variable_of all.old)
+        (others (bound_by sort.now name.now) (variable_of variable ∷ []))) }
 {
     if !variable.is_bound_by(sort, name) {
         add(all, variable)?;
@@ -229,7 +245,8 @@ fn add_other(
 
 #[cycle(variables)]
 fn add_free(alloc: Global, all: &mut List<Variable>, core: &Core<'_>) -> Result<(), Memory>
-    ensures { OnOk result (map variable_of all.new ≡ with_variables (map variable_of all.old) (free (core_of core.now))) }
+    ensures { OnOk result (map variable_of all.new
+        ≡ with_variables (map variable_of all.old) (free (core_of core.now))) }
 {
     match core {
         Core::Atom { terms, .. } => add_terms(alloc, all, terms.as_slice()),
@@ -248,7 +265,8 @@ fn add_free(alloc: Global, all: &mut List<Variable>, core: &Core<'_>) -> Result<
 
 #[cycle(variables)]
 fn add_each(alloc: Global, all: &mut List<Variable>, cores: &[Core<'_>]) -> Result<(), Memory>
-    ensures { OnOk result (map variable_of all.new ≡ with_variables (map variable_of all.old) (free_each (cores_of cores.now))) }
+    ensures { OnOk result (map variable_of all.new
+        ≡ with_variables (map variable_of all.old) (free_each (cores_of cores.now))) }
 {
     for core in cores {
         add_free(alloc, all, core)?;

@@ -1,10 +1,10 @@
 -- A least common multiple with further numbers, and with those of two lists.
 use Rattle.std.proofs.Common.{◌≡◌, ◌↔◌, ◌≤◌, ◌*◌, ℕ, zero, suc, List, [], ◌∷◌, ◌++◌, Option, Some, None, unwrap_or, option_map, sym, ap, subst, append_assoc, append-nil, arith}
 use Rattle.std.specs.List.{AllByRecursion}
-use Rattle.lrp_model.specs.Periods.{IsMultiple, lcm_all, IsLeastMultiple}
+use Rattle.lrp_model.specs.Periods.{IsMultiple, lcm_all, IsLeastMultiple, IsCommon}
 use Rattle.lrp_model.proofs.Logic.{all_append}
 use Rattle.lrp_plan_laws.proofs.PeriodLaws.{lcm_all_is}
-use Rattle.lrp_limits.specs.Multiples.{IsCommon, IsLeastOf, IsPeriodOf, AlwaysJoins}
+use Rattle.lrp_limits.specs.Multiples.{IsLeastWithinLimit, IsPeriodOf, AlwaysJoins}
 use Rattle.lrp_limits.specs.Facts.{KeepsPeriod}
 use Rattle.lrp_limits.specs.declared.periods.Period.{Period}
 use Rattle.lrp_limits.proofs.Multiples.{multiple_le}
@@ -31,11 +31,11 @@ by_one : (n : ℕ) → n ≡ 1 * n
 by_one n = omega arith
 
 -- 1 is the least common multiple of no numbers
-pub least_of_none : IsLeastOf [] 1
+pub least_of_none : IsLeastWithinLimit [] 1
 least_of_none = record { period = record { low = omega arith; high = omega arith }; multiples = λ n. ((λ m. tt), λ c. record { times = n; is = by_one n }) }
 
 -- the multiples of l are those of the numbers that it stands for
-pub stands_for : (ks ls : List ℕ) (l m : ℕ) → IsLeastOf ls l → IsLeastOf (ks ++ l ∷ []) m → IsLeastOf (ks ++ ls) m
+pub stands_for : (ks ls : List ℕ) (l m : ℕ) → IsLeastWithinLimit ls l → IsLeastWithinLimit (ks ++ l ∷ []) m → IsLeastWithinLimit (ks ++ ls) m
 stands_for ks ls l m h g = record {
   period = g.period;
   multiples = λ n.
@@ -47,7 +47,7 @@ stands_for ks ls l m h g = record {
 }
 
 -- two least common multiples that both divide a period have one
-pub joins_always : (k l : ℕ) (o : Option ℕ) (d : ℕ) → ((ks : List ℕ) → IsLeastOf ks k → IsPeriodOf (ks ++ l ∷ []) o) → AlwaysJoins k l (unwrap_or o d)
+pub joins_always : (k l : ℕ) (o : Option ℕ) (d : ℕ) → ((ks : List ℕ) → IsLeastWithinLimit ks k → IsPeriodOf (ks ++ l ∷ []) o) → AlwaysJoins k l (unwrap_or o d)
 joins_always k l (Some m) d h = record { joins = λ ks ls K a b p c e. stands_for ks ls l m b (h ks a) }
 joins_always k l None d h = record { joins = λ ks ls K a b p c e. absurd (h ks a K p ((common_both ks (l ∷ []) K).1 (c, ((b.multiples K).1 e, tt)))) }
 
@@ -60,7 +60,7 @@ positive_each (k ∷ ks) n low c = (positive k c.0, positive_each ks n low c.1)
     positive (suc k) m = omega arith
 
 -- the least common multiple is that of the definition
-pub least_is : (ks : List ℕ) (k : ℕ) → IsLeastOf ks k → k ≡ lcm_all ks
+pub least_is : (ks : List ℕ) (k : ℕ) → IsLeastWithinLimit ks k → k ≡ lcm_all ks
 least_is ks k h =
     let low : 1 ≤ k = h.period.low in
     let each : IsCommon ks k = (h.multiples k).0 (record { times = 1; is = times_one k }) in
@@ -84,7 +84,7 @@ joined_number None d r e = ap (λ p. p.number) e
 joined_number (Some p) d r e = ap (λ q. q.number) e
 
 -- a point more, where there is a period and where there is none
-pub kept_some : (o : Option Period) (p : Period) (further : List ℕ) (r : Option ℕ) → o ≡ Some p → ((ks : List ℕ) → IsLeastOf ks p.number → IsPeriodOf (ks ++ further) r) → KeepsPeriod further (option_map (λ q. q.number) o) r
+pub kept_some : (o : Option Period) (p : Period) (further : List ℕ) (r : Option ℕ) → o ≡ Some p → ((ks : List ℕ) → IsLeastWithinLimit ks p.number → IsPeriodOf (ks ++ further) r) → KeepsPeriod further (option_map (λ q. q.number) o) r
 kept_some o p further r e h = subst (λ x. KeepsPeriod further (option_map (λ (q : Period). q.number) x) r) (sym e) (record { keeps = h })
 
 pub kept_nothing : (o : Option Period) (further : List ℕ) → o ≡ None → KeepsPeriod further (option_map (λ q. q.number) o) None

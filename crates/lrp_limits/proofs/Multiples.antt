@@ -6,7 +6,7 @@ use Rattle.lrp_theory.proofs.Multiples.{no_remainder}
 use Rattle.lrp_point.specs.Points.{IsLcmAbove}
 use Rattle.lrp_model.specs.Periods.{IsMultiple}
 use Rattle.lrp_model.proofs.Logic.{all_append}
-use Rattle.lrp_limits.specs.Multiples.{IsLeastOf, IsPeriodOf}
+use Rattle.lrp_limits.specs.Multiples.{IsLeastWithinLimit, IsPeriodOf}
 
 -- a divisor of integers, as one of natural numbers
 to_multiple : (k n : ℕ) → 0 < k → Divides (pos k) (pos n) → IsMultiple k n
@@ -35,7 +35,7 @@ multiple_le k n h low = by_times h.times h.is
     by_times (suc t) e = omega arith
 
 -- one number more
-pub with_one : (ks : List ℕ) (k l m : ℕ) → IsLeastOf ks k → 1 ≤ l → m ≤ 2 ^ 62 → IsLcm k l m → IsLeastOf (ks ++ l ∷ []) m
+pub with_one : (ks : List ℕ) (k l m : ℕ) → IsLeastWithinLimit ks k → 1 ≤ l → m ≤ 2 ^ 62 → IsLcm k l m → IsLeastWithinLimit (ks ++ l ∷ []) m
 with_one ks k l m h low high is = record {
   period = record { low = (let p : 0 < m = is.positive in omega arith); high = high };
   multiples = λ n.
@@ -46,7 +46,7 @@ with_one ks k l m h low high is = record {
 }
 
 -- a divisor more
-pub with_divisor : (ks : List ℕ) (k l : ℕ) → IsLeastOf ks k → 0 < l → k % l ≡ 0 → IsLeastOf (ks ++ l ∷ []) k
+pub with_divisor : (ks : List ℕ) (k l : ℕ) → IsLeastWithinLimit ks k → 0 < l → k % l ≡ 0 → IsLeastWithinLimit (ks ++ l ∷ []) k
 with_divisor ks k l h low r = record {
   period = h.period;
   multiples = λ n.
@@ -57,7 +57,7 @@ with_divisor ks k l h low r = record {
 }
 
 -- a least common multiple above 2^62
-pub with_above : (ks : List ℕ) (k l : ℕ) → IsLeastOf ks k → 1 ≤ l → IsLcmAbove k l (2 ^ 62) → IsPeriodOf (ks ++ l ∷ []) None
+pub with_above : (ks : List ℕ) (k l : ℕ) → IsLeastWithinLimit ks k → 1 ≤ l → IsLcmAbove k l (2 ^ 62) → IsPeriodOf (ks ++ l ∷ []) None
 with_above ks k l h low above n p c =
     let x = (all_append (λ d. IsMultiple d n) ks (l ∷ [])).0 c in
     let r = lcm_multiples k l above.multiple n (let p : 1 ≤ k = h.period.low in omega arith) (omega arith) above.is in

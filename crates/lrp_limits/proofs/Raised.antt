@@ -2,10 +2,10 @@
 use Rattle.std.proofs.Common.{◌≡◌, ◌≤◌, ◌<◌, ◌*◌, ◌^◌, ℕ, zero, suc, List, [], ◌∷◌, Option, Some, None, Contains, subst, ⊎_elim, arith}
 use Rattle.std.specs.List.{AllByRecursion}
 use Rattle.std.proofs.lemmas.Bool.{cases_lt}
-use Rattle.lrp_model.specs.Periods.{IsMultiple, lcm, lcm_all}
+use Rattle.lrp_model.specs.Periods.{IsMultiple, lcm, lcm_all, IsCommon}
 use Rattle.lrp_plan_laws.proofs.Members.{all_from}
 use Rattle.lrp_plan_laws.proofs.PeriodLaws.{lcm_all_is, lcm_common, lcm_least, lcm_positive}
-use Rattle.lrp_limits.specs.Multiples.{IsCommon, IsLeastOf, IsPeriod, IsPeriodOf}
+use Rattle.lrp_limits.specs.Multiples.{IsLeastWithinLimit, IsPeriod, IsPeriodOf}
 use Rattle.lrp_limits.proofs.Multiples.{multiple_le}
 use Rattle.lrp_limits.proofs.Keeping.{least_is}
 
@@ -14,7 +14,7 @@ pub common_from : (ks ls : List ℕ) (n : ℕ) → AllByRecursion (Contains ks) 
 common_from ks ls n h c = all_from (λ k. IsMultiple k n) ks ls h c
 
 -- and the same least one
-pub least_from : (ks ls : List ℕ) (k : ℕ) → AllByRecursion (Contains ks) ls → AllByRecursion (Contains ls) ks → IsLeastOf ks k → IsLeastOf ls k
+pub least_from : (ks ls : List ℕ) (k : ℕ) → AllByRecursion (Contains ks) ls → AllByRecursion (Contains ls) ks → IsLeastWithinLimit ks k → IsLeastWithinLimit ls k
 least_from ks ls k h g least = record { period = least.period; multiples = λ n. let m = least.multiples n in ((λ x. common_from ks ls n h (m.0 x)), λ c. m.1 (common_from ls ks n g c)) }
 
 pub none_from : (ks ls : List ℕ) → AllByRecursion (Contains ls) ks → IsPeriodOf ks None → IsPeriodOf ls None
@@ -33,7 +33,7 @@ above ks h none =
     (cases_lt (2 ^ 62) (lcm_all ks))
 
 -- a period is the least common multiple of itself
-pub least_of_one : (k : ℕ) → IsPeriod k → IsLeastOf (k ∷ []) k
+pub least_of_one : (k : ℕ) → IsPeriod k → IsLeastWithinLimit (k ∷ []) k
 least_of_one k p = record { period = p; multiples = λ n. ((λ m. (m, tt)), λ c. c.0) }
 
 -- multiples of each other are the same

@@ -1,15 +1,11 @@
 -- What the planner knows of the rows of a relation.
 use Rattle.std.specs.Prelude.{◌≡◌, ℕ, List, ◌++◌, Option, flat_map, map, nat_abs, length}
 use Rattle.std.specs.Option.{option_map}
-use Rattle.lrp_model.specs.Periods.{value_periods}
+use Rattle.lrp_model.specs.Periods.{row_periods}
 use Rattle.lrp_model.specs.Reach.{greatest}
 use Rattle.lrp_model.specs.declared.relations.Row.{Row}
 use Rattle.lrp_limits.specs.declared.facts.Facts.{Facts}
-use Rattle.lrp_limits.specs.Multiples.{IsPeriodOf, IsLeastOf}
-
--- the periods of a row's points
-abbrev pub periods_of_row : Row → List ℕ
-periods_of_row row = flat_map value_periods row.values
+use Rattle.lrp_limits.specs.Multiples.{IsPeriodOf, IsLeastWithinLimit}
 
 -- the magnitudes of its bounds
 abbrev pub most_of_row : Row → List ℕ
@@ -17,7 +13,7 @@ most_of_row row = map (λ bound. nat_abs bound.most) row.bounds
 
 -- their least common multiple, the greatest magnitude, and their number
 pub record AreFacts (all : List Row) (facts : Facts) : Type 0 where
-  pub period : IsPeriodOf (flat_map periods_of_row all) (option_map (λ p. p.number) facts.period)
+  pub period : IsPeriodOf (flat_map row_periods all) (option_map (λ p. p.number) facts.period)
   pub bound : facts.bound ≡ greatest (flat_map most_of_row all)
   pub rows : facts.rows ≡ length all
 
@@ -27,8 +23,8 @@ pub record KeepsPeriod (further : List ℕ) (old new : Option ℕ) : Type 0 wher
 
 -- a least common multiple, and the one with that of other numbers, if they have one
 pub record KeepsRows (rows : Option ℕ) (old : ℕ) (new : Option ℕ) : Type 0 where
-  pub keeps : (ks ls : List ℕ) → IsLeastOf ks old → IsPeriodOf ls rows → IsPeriodOf (ks ++ ls) new
+  pub keeps : (ks ls : List ℕ) → IsLeastWithinLimit ks old → IsPeriodOf ls rows → IsPeriodOf (ks ++ ls) new
 
 -- and the one with those of rows
 pub record KeepsFacts (facts : Facts) (old new : Option ℕ) : Type 0 where
-  pub keeps : (all : List Row) → AreFacts all facts → KeepsPeriod (flat_map periods_of_row all) old new
+  pub keeps : (all : List Row) → AreFacts all facts → KeepsPeriod (flat_map row_periods all) old new

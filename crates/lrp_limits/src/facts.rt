@@ -1,9 +1,9 @@
 // What the plan needs to know of a relation's rows.
 ghost use Rattle.std.specs.Prelude.{◌≡◌, ◌∷◌, [], nat_abs};
 ghost use Rattle.std.specs.Option.{option_map};
-ghost use Rattle.lrp_model.specs.Periods.{value_periods};
+ghost use Rattle.lrp_model.specs.Periods.{value_periods, row_periods};
 ghost use Rattle.lrp_model.specs.Reach.{greatest};
-ghost use Rattle.lrp_limits.specs.Facts.{AreFacts, most_of_row, periods_of_row, KeepsPeriod};
+ghost use Rattle.lrp_limits.specs.Facts.{AreFacts, most_of_row, KeepsPeriod};
 
 use crate::periods::{Period, one};
 use lrp_model::{Bound, Row, RowPoint, Value};
@@ -35,7 +35,8 @@ pub fn facts_of(rows: &[Row]) -> Facts
 
 /// The period with those of a row's points.
 pub fn with_row(period: Option<Period>, row: &Row) -> Option<Period>
-    ensures { KeepsPeriod (periods_of_row row.now) (option_map (λ p. p.number) period) (option_map (λ p. p.number) result) }
+    ensures { KeepsPeriod (row_periods row.now) (option_map (λ p. p.number) period)
+        (option_map (λ p. p.number) result) }
 {
     let mut all = period;
     for value in row.values.as_slice() {
@@ -46,7 +47,8 @@ pub fn with_row(period: Option<Period>, row: &Row) -> Option<Period>
 
 // The period with that of a point.
 fn with_value(period: Option<Period>, value: &Value) -> Option<Period>
-    ensures { KeepsPeriod (value_periods value.now) (option_map (λ p. p.number) period) (option_map (λ p. p.number) result) }
+    ensures { KeepsPeriod (value_periods value.now) (option_map (λ p. p.number) period)
+        (option_map (λ p. p.number) result) }
 {
     match value {
         Value::Point { at } => with_point(period, at),
@@ -56,7 +58,8 @@ fn with_value(period: Option<Period>, value: &Value) -> Option<Period>
 
 /// The period with that of a point.
 pub fn with_point(period: Option<Period>, at: &RowPoint) -> Option<Period>
-    ensures { KeepsPeriod (nat_abs at.now.period ∷ []) (option_map (λ p. p.number) period) (option_map (λ p. p.number) result) }
+    ensures { KeepsPeriod (nat_abs at.now.period ∷ []) (option_map (λ p. p.number) period)
+        (option_map (λ p. p.number) result) }
 {
     match period {
         Some(period) => period.with(at.period.unsigned_abs()),

@@ -6,7 +6,7 @@ use Rattle.lrp_model.specs.Formulas.{Form, atom, test}
 use Rattle.lrp_model.specs.Rows.{rows_of}
 use Rattle.lrp_model.specs.Satisfaction.{Structure}
 use Rattle.lrp_model.specs.Sorts.{is_time}
-use Rattle.lrp_model.specs.Periods.{periods, test_periods}
+use Rattle.lrp_model.specs.Periods.{periods, test_periods, IsCommon}
 use Rattle.lrp_model.specs.Reach.{greatest, test_reach, term_magnitudes}
 use Rattle.lrp_model.specs.Steps.{scan_of, leaf, sort_texts, join, select, union, minus, complement, drop_of}
 use Rattle.lrp_model.specs.declared.relations.Sort.{Sort}
@@ -17,7 +17,7 @@ use Rattle.lrp_plan.specs.declared.drafts.Draft.{Draft}
 use Rattle.lrp_plan.specs.declared.drafts.Operand.{Operand}
 use Rattle.lrp_limits.specs.declared.facts.Facts.{Facts}
 use Rattle.lrp_limits.specs.Capped.{capped}
-use Rattle.lrp_limits.specs.Multiples.{IsCommon, IsPeriod, IsLeastOf, AlwaysJoins}
+use Rattle.lrp_limits.specs.Multiples.{IsPeriod, IsLeastWithinLimit, AlwaysJoins}
 use Rattle.lrp_limits.specs.Facts.{AreFacts}
 use Rattle.lrp_plan.specs.Drafts.{AddsStep, AreTests, Extends, ExtendsBoth, headed}
 use Rattle.lrp_plan.proofs.Made.{scan_follows, leaf_follows, sort_follows, join_follows, select_follows, union_follows, minus_follows, complement_follows, drop_time_follows, drop_data_follows, head_follows}
@@ -27,7 +27,7 @@ pub scans : {T E : Type 0} (r : Result T E) (facts : Facts) (name : Identifier) 
 scans (Ok x) facts name terms k d offset reach old new e f g a = λ M K h c. record { follows = λ planned draft. scan_follows M K facts name terms k d offset reach old new planned draft a h c e f g }
 scans (Err x) facts name terms k d offset reach old new e f g a = tt
 
-pub tests_alone : {T E : Type 0} (r : Result T E) (t : Test) (k reach : ℕ) (old new : Draft) → ((K : ℕ) → IsCommon (test_periods t) K → IsPeriod K → IsLeastOf (test_periods t) k) → reach ≡ capped (test_reach t)
+pub tests_alone : {T E : Type 0} (r : Result T E) (t : Test) (k reach : ℕ) (old new : Draft) → ((K : ℕ) → IsCommon (test_periods t) K → IsPeriod K → IsLeastWithinLimit (test_periods t) k) → reach ≡ capped (test_reach t)
     → OnOk r (AddsStep (Leaf t) k (capped reach) old new) → OnOk r ((M : Structure) (K : ℕ) → IsCommon (periods (test t) M.relations) K → Extends M K (leaf t) old new)
 tests_alone (Ok x) t k reach old new h e a = λ M K c. record { follows = λ planned d. leaf_follows M K t k reach old new planned d a (h K c d.whole) c e }
 tests_alone (Err x) t k reach old new h e a = tt
@@ -73,6 +73,6 @@ drops_data (Ok x) v s reach old new e f a = λ M K. record { follows = λ planne
 drops_data (Err x) v s reach old new e f a = tt
 
 pub heads : {T E : Type 0} (r : Result T E) (k reach : ℕ) (old new : Draft) → reach ≡ old.last.reach
-    → OnOk r (AddsStep (Extend old.last.number) k (capped reach) old new) → OnOk r ((M : Structure) (K : ℕ) (f : Form) → IsLeastOf (periods f M.relations) k → IsCommon (periods f M.relations) K → Extends M K (headed f) old new)
+    → OnOk r (AddsStep (Extend old.last.number) k (capped reach) old new) → OnOk r ((M : Structure) (K : ℕ) (f : Form) → IsLeastWithinLimit (periods f M.relations) k → IsCommon (periods f M.relations) K → Extends M K (headed f) old new)
 heads (Ok x) k reach old new e a = λ M K f least c. record { follows = λ planned d. head_follows M K f k reach old new planned d a least c e }
 heads (Err x) k reach old new e a = tt

@@ -9,7 +9,7 @@ use Rattle.lrp_model.specs.declared.relations.Value.TheVariants.{Point, Const}
 use Rattle.lrp_model.specs.declared.relations.Row.{Row}
 use Rattle.lrp_model.specs.declared.relations.Relation.{Relation}
 use Rattle.lrp_model.proofs.Logic.{all_append}
-use Rattle.lrp_plan_laws.specs.Rising.{row_periods}
+use Rattle.lrp_plan_laws.specs.Rising.{database_periods}
 use Rattle.lrp_print.specs.Kept.{IsValueOf, AreValuesOf, IsRowOf, IsKept}
 
 abbrev IsSome : ℕ → Type 0
@@ -38,6 +38,6 @@ rows_low cs [] h = tt
 rows_low cs (row ∷ rows) h = (all_append IsSome (flat_map value_periods row.values) (flat_map (λ r. flat_map value_periods r.values) rows)).1 (values_low cs row.values h.0.values, rows_low cs rows h.1)
 
 -- of relations
-pub kept_low : (db : List Relation) → AllByRecursion IsKept db → AllByRecursion IsSome (row_periods db)
+pub kept_low : (db : List Relation) → AllByRecursion IsKept db → AllByRecursion IsSome (database_periods db)
 kept_low [] h = tt
-kept_low (r ∷ rs) h = (all_append IsSome (flat_map (λ row. flat_map value_periods row.values) r.rows) (row_periods rs)).1 (rows_low r.columns r.rows h.0.rows, kept_low rs h.1)
+kept_low (r ∷ rs) h = (all_append IsSome (flat_map (λ row. flat_map value_periods row.values) r.rows) (database_periods rs)).1 (rows_low r.columns r.rows h.0.rows, kept_low rs h.1)

@@ -5,7 +5,7 @@ use Rattle.lrp_model.specs.Texts.{Text, Identifier}
 use Rattle.lrp_model.specs.Formulas.{Form, atom, test, sorted}
 use Rattle.lrp_model.specs.Rows.{rows_of}
 use Rattle.lrp_model.specs.Satisfaction.{Structure}
-use Rattle.lrp_model.specs.Periods.{period, periods, periods_each, test_periods}
+use Rattle.lrp_model.specs.Periods.{period, periods, periods_each, test_periods, IsCommon}
 use Rattle.lrp_model.specs.Reach.{greatest, reach_of, test_reach, term_magnitudes}
 use Rattle.lrp_model.specs.Steps.{Steps, formula_at, reach_at, made, step_behind, tests_as_forms, scan_of, leaf, sort_texts, join, select, union, minus, complement, drop_of}
 use Rattle.lrp_model.specs.Conjunctions.{is_test}
@@ -23,7 +23,7 @@ use Rattle.lrp_plan.specs.declared.drafts.Draft.{Draft}
 use Rattle.lrp_plan.specs.declared.drafts.Operand.{Operand}
 use Rattle.lrp_limits.specs.declared.facts.Facts.{Facts}
 use Rattle.lrp_limits.specs.Capped.{capped}
-use Rattle.lrp_limits.specs.Multiples.{IsCommon, IsPeriod, IsLeastOf, IsPeriodOf, AlwaysJoins}
+use Rattle.lrp_limits.specs.Multiples.{IsPeriod, IsLeastWithinLimit, IsPeriodOf, AlwaysJoins}
 use Rattle.lrp_limits.specs.Facts.{AreFacts, most_of_row}
 use Rattle.lrp_plan.specs.Drafts.{AddsStep, IsOperand, IsDraftOf, IsDraft, AreTests, headed}
 use Rattle.lrp_limits.proofs.Keeping.{common_both, least_is, least_of_none}
@@ -45,7 +45,7 @@ zip_push R (a ∷ xs) (b ∷ ys) x y h r = (h.0, zip_push R xs ys x y h.1 r)
 
 -- a step of this kind and formula, whose period and reach are these
 pub made_follows : (M : Structure) (K : ℕ) (kind code : StepKind) (f : Form) (k reach : ℕ) (old new : Draft) (planned : Steps) → IsDraft M.relations K old planned → AddsStep code k reach old new → code ≡ kind
-    → IsLeastOf (periods f M.relations) k → IsCommon (periods f M.relations) K → reach ≡ capped (reach_of M.relations (reach_at planned) k kind) → IsDraft M.relations K new (made M kind f planned)
+    → IsLeastWithinLimit (periods f M.relations) k → IsCommon (periods f M.relations) K → reach ≡ capped (reach_of M.relations (reach_at planned) k kind) → IsDraft M.relations K new (made M kind f planned)
 made_follows M K kind code f k reach old new planned d a same least divides far =
     let n : Steps = made M kind f planned in
     let e : k ≡ period M.relations f = least_is (periods f M.relations) k least in
@@ -58,7 +58,7 @@ made_follows M K kind code f k reach old new planned d a same least divides far 
       last = record {
         within = omega arith;
         number = (let l : length n ≡ suc (length planned) = length_made M kind f planned in let m : old.last.number ≡ length planned = d.last.number in let s : new.last.number ≡ old.last.number + 1 = a.number in omega arith);
-        period = subst (λ h. IsLeastOf (periods h M.relations) new.last.period.number) (sym g) (subst (IsLeastOf (periods f M.relations)) (sym a.period) least);
+        period = subst (λ h. IsLeastWithinLimit (periods h M.relations) new.last.period.number) (sym g) (subst (IsLeastWithinLimit (periods f M.relations)) (sym a.period) least);
         reach = a.far ∙ r ∙ ap capped (sym (reach_made M kind f planned));
         divides = subst (λ h. IsCommon (periods h M.relations) K) (sym g) divides;
       };
@@ -68,7 +68,7 @@ made_follows M K kind code f k reach old new planned d a same least divides far 
 pub one_follows : (M : Structure) (K : ℕ) (kind code : StepKind) (f : Form) (reach : ℕ) (old new : Draft) (planned : Steps) → IsDraft M.relations K old planned → AddsStep code old.last.period.number reach old new → code ≡ kind
     → periods f M.relations ≡ periods (formula_at planned (length planned)) M.relations → reach ≡ capped (reach_of M.relations (reach_at planned) old.last.period.number kind) → IsDraft M.relations K new (made M kind f planned)
 one_follows M K kind code f reach old new planned d a same e far =
-    made_follows M K kind code f old.last.period.number reach old new planned d a same (subst (λ ks. IsLeastOf ks old.last.period.number) (sym e) d.last.period) (subst (λ ks. IsCommon ks K) (sym e) d.last.divides) far
+    made_follows M K kind code f old.last.period.number reach old new planned d a same (subst (λ ks. IsLeastWithinLimit ks old.last.period.number) (sym e) d.last.period) (subst (λ ks. IsCommon ks K) (sym e) d.last.divides) far
 
 -- over an earlier step and the last one, with the periods of both
 pub both_follow : (M : Structure) (K : ℕ) (kind code : StepKind) (f : Form) (i k reach : ℕ) (left : Operand) (old new : Draft) (planned : Steps) → IsDraft M.relations K old planned → IsOperand M.relations K planned i left → AddsStep code k reach old new → code ≡ kind
@@ -78,7 +78,7 @@ both_follow M K kind code f i k reach left old new planned d o a same e joins fa
     let ls : List ℕ = periods (formula_at planned i) M.relations in
     let rs : List ℕ = periods (formula_at planned (length planned)) M.relations in
     made_follows M K kind code f k reach old new planned d a same
-    (subst (λ ks. IsLeastOf ks k) (sym e) (joins.joins ls rs K o.period d.last.period d.whole o.divides d.last.divides))
+    (subst (λ ks. IsLeastWithinLimit ks k) (sym e) (joins.joins ls rs K o.period d.last.period d.whole o.divides d.last.divides))
     (subst (λ ks. IsCommon ks K) (sym e) ((common_both ls rs K).1 (o.divides, d.last.divides)))
     far
 
@@ -121,7 +121,7 @@ no_periods (t ∷ ts) db h = ap (λ ks. ks ++ periods_each (tests_as_forms ts) d
 -- ---- each rule
 
 -- a period that stands for one, or none
-stated : (ks : List ℕ) (K d : ℕ) (o : Option ℕ) → IsPeriodOf ks o → IsPeriod K → IsCommon ks K → IsLeastOf ks (unwrap_or o d)
+stated : (ks : List ℕ) (K d : ℕ) (o : Option ℕ) → IsPeriodOf ks o → IsPeriod K → IsCommon ks K → IsLeastWithinLimit ks (unwrap_or o d)
 stated ks K d None h p c = absurd (h K p c)
 stated ks K d (Some k) h p c = h
 
@@ -130,11 +130,11 @@ pub scan_follows : (M : Structure) (K : ℕ) (facts : Facts) (name : Identifier)
     → IsDraft M.relations K new (scan_of name terms M planned)
 scan_follows M K facts name terms k d offset reach old new planned draft a h c e g r =
     made_follows M K (Scan name terms) (Scan name terms) (atom name terms) k (capped reach) old new planned draft a refl
-    (subst (IsLeastOf (periods (atom name terms) M.relations)) (sym e) (stated (periods (atom name terms) M.relations) K d (option_map (λ p. p.number) facts.period) h.period draft.whole c)) c
+    (subst (IsLeastWithinLimit (periods (atom name terms) M.relations)) (sym e) (stated (periods (atom name terms) M.relations) K d (option_map (λ p. p.number) facts.period) h.period draft.whole c)) c
     (ap capped (r ∙ ap (λ x. x + 2 * offset + k) h.bound ∙ ap (λ x. greatest (flat_map most_of_row (rows_of M.relations name)) + 2 * x + k) g))
 
 pub leaf_follows : (M : Structure) (K : ℕ) (t : Test) (k reach : ℕ) (old new : Draft) (planned : Steps) → IsDraft M.relations K old planned → AddsStep (Leaf t) k (capped reach) old new
-    → IsLeastOf (test_periods t) k → IsCommon (test_periods t) K → reach ≡ capped (test_reach t) → IsDraft M.relations K new (leaf t M planned)
+    → IsLeastWithinLimit (test_periods t) k → IsCommon (test_periods t) K → reach ≡ capped (test_reach t) → IsDraft M.relations K new (leaf t M planned)
 leaf_follows M K t k reach old new planned d a least c r = made_follows M K (Leaf t) (Leaf t) (test t) k (capped reach) old new planned d a refl least c (cap_same _ (test_reach t) reach r)
 
 pub join_follows : (M : Structure) (K : ℕ) (left : Operand) (tests : List Test) (k t reach : ℕ) (old new : Draft) (planned : Steps) (i : ℕ) → IsDraft M.relations K old planned → IsOperand M.relations K planned i left
@@ -185,17 +185,17 @@ drop_data_follows M K v (Named name) reach old new planned d a e r = one_follows
 
 pub sort_follows : (M : Structure) (K : ℕ) (v : Identifier) (s : Sort) (texts : List Text) (k : ℕ) (old new : Draft) (planned : Steps) → IsDraft M.relations K old planned → AddsStep (SortStep v s texts) k (capped 1) old new
     → k ≡ 1 → texts ≡ M.domain s → IsDraft M.relations K new (sort_texts s v M planned)
-sort_follows M K v s texts k old new planned d a e t = made_follows M K _ _ (sorted s v) k (capped 1) old new planned d a (ap (SortStep v s) t) (subst (IsLeastOf []) (sym e) least_of_none) tt refl
+sort_follows M K v s texts k old new planned d a e t = made_follows M K _ _ (sorted s v) k (capped 1) old new planned d a (ap (SortStep v s) t) (subst (IsLeastWithinLimit []) (sym e) least_of_none) tt refl
 
 pub head_follows : (M : Structure) (K : ℕ) (f : Form) (k reach : ℕ) (old new : Draft) (planned : Steps) → IsDraft M.relations K old planned → AddsStep (Extend old.last.number) k (capped reach) old new
-    → IsLeastOf (periods f M.relations) k → IsCommon (periods f M.relations) K → reach ≡ old.last.reach → IsDraft M.relations K new (headed f M planned)
+    → IsLeastWithinLimit (periods f M.relations) k → IsCommon (periods f M.relations) K → reach ≡ old.last.reach → IsDraft M.relations K new (headed f M planned)
 head_follows M K f k reach old new planned d a least c r = made_follows M K _ _ f k (capped reach) old new planned d a (of_one Extend _ _ d.last.number) least c (cap_same _ _ reach (r ∙ d.last.reach))
 
 -- ---- the period of a test
 
-pub member_period : (t : Test) (one number d K : ℕ) (o : Option ℕ) (m : ℕ) → test_periods t ≡ m ∷ [] → one ≡ 1 → ((ks : List ℕ) → IsLeastOf ks one → IsPeriodOf (ks ++ m ∷ []) o) → number ≡ unwrap_or o d → IsCommon (test_periods t) K → IsPeriod K → IsLeastOf (test_periods t) number
+pub member_period : (t : Test) (one number d K : ℕ) (o : Option ℕ) (m : ℕ) → test_periods t ≡ m ∷ [] → one ≡ 1 → ((ks : List ℕ) → IsLeastWithinLimit ks one → IsPeriodOf (ks ++ m ∷ []) o) → number ≡ unwrap_or o d → IsCommon (test_periods t) K → IsPeriod K → IsLeastWithinLimit (test_periods t) number
 member_period t one number d K o m e f h g c p =
-    subst (λ ks. IsLeastOf ks number) (sym e) (subst (IsLeastOf (m ∷ [])) (sym g) (stated (m ∷ []) K d o (h [] (subst (IsLeastOf []) (sym f) least_of_none)) p (subst (λ ks. IsCommon ks K) e c)))
+    subst (λ ks. IsLeastWithinLimit ks number) (sym e) (subst (IsLeastWithinLimit (m ∷ [])) (sym g) (stated (m ∷ []) K d o (h [] (subst (IsLeastWithinLimit []) (sym f) least_of_none)) p (subst (λ ks. IsCommon ks K) e c)))
 
-pub no_test_period : (t : Test) (number : ℕ) → is_test t ≡ true → number ≡ 1 → IsLeastOf (test_periods t) number
-no_test_period t number e f = subst (λ ks. IsLeastOf ks number) (sym (no_period t e)) (subst (IsLeastOf []) (sym f) least_of_none)
+pub no_test_period : (t : Test) (number : ℕ) → is_test t ≡ true → number ≡ 1 → IsLeastWithinLimit (test_periods t) number
+no_test_period t number e f = subst (λ ks. IsLeastWithinLimit ks number) (sym (no_period t e)) (subst (IsLeastWithinLimit []) (sym f) least_of_none)

@@ -11,7 +11,7 @@ use Rattle.lrp_model.specs.Rows.{rows_of}
 use Rattle.lrp_model.specs.Variables.{is_among}
 use Rattle.lrp_model.specs.Satisfaction.{Structure}
 use Rattle.lrp_model.specs.Core.{AreCore}
-use Rattle.lrp_model.specs.Periods.{periods, periods_each, test_periods}
+use Rattle.lrp_model.specs.Periods.{periods, periods_each, test_periods, IsCommon}
 use Rattle.lrp_model.specs.Steps.{scan_of, leaf, sort_texts, complement, drop_of}
 use Rattle.lrp_model.specs.Conjunctions.{is_test, tests_in, ranked, nothing_taken, take_positives, take_tests, take_negations, State}
 use Rattle.lrp_model.specs.Plans.{plan_of, positives_in, negations_in}
@@ -24,7 +24,6 @@ use Rattle.lrp_plan.specs.declared.elements.Split.{Split}
 use Rattle.lrp_limits.specs.declared.facts.Facts.{Facts}
 use Rattle.lrp_plan.specs.declared.sources.Sources.{Sources}
 use Rattle.lrp_plan.specs.declared.taking.Taking.{Taking}
-use Rattle.lrp_limits.specs.Multiples.{IsCommon}
 use Rattle.lrp_limits.specs.Facts.{AreFacts}
 use Rattle.lrp_plan.specs.Drafts.{Extends, AreTests}
 use Rattle.lrp_plan.specs.Taking.{IsSoFar}

@@ -19,7 +19,7 @@ use Rattle.lrp_model.specs.declared.plans.StepKind.TheVariants.{Scan, Leaf, Sort
 use Rattle.lrp_model.proofs.Logic.{all_append}
 use Rattle.lrp_model.specs.TestPoints.{test_points, points}
 use Rattle.lrp_plan_laws.specs.Points.{step_points}
-use Rattle.lrp_plan_laws.specs.Rising.{HasPeriods, row_periods}
+use Rattle.lrp_plan_laws.specs.Rising.{HasPeriods, database_periods}
 use Rattle.lrp_plan_laws.proofs.Members.{all_from, all_map}
 use Rattle.lrp_plan_laws.proofs.PointLaws.{points_known}
 use Rattle.lrp_plan_laws.proofs.SourcePeriods.{named_from}
@@ -37,7 +37,7 @@ abbrev Low : RowPoint → Type 0
 Low at = pos 1 ≤ℤ at.period
 
 -- the periods of a query, from those of the rows and of its points
-pub query_low : (db : List Relation) (q : Question) → AllByRecursion (λ k. 1 ≤ k) (row_periods db) → AllByRecursion Low (points q.body) → HasPeriods db q
+pub query_low : (db : List Relation) (q : Question) → AllByRecursion (λ k. 1 ≤ k) (database_periods db) → AllByRecursion Low (points q.body) → HasPeriods db q
 query_low db q rows ps = named_from (λ k. 1 ≤ k) q.body db rows (all_map Low (λ at. 1 ≤ nat_abs at.period) (points q.body) (λ at h. low at.period h) ps)
 
 -- a test whose points have periods
@@ -79,7 +79,7 @@ plan_writable db q p some ps is = steps_low p.steps (plan db q) is.steps (λ i s
 -- ---- what an outcome is
 
 -- what is read of a database and a query
-pub gathered_is : (db : List Relation) (q : Question) (named : Bool) (sources : Sources) (f : Form) → HasElements q.body → AllByRecursion Low (points q.body) → AllByRecursion (λ k. 1 ≤ k) (row_periods db) → named ≡ has_named_sort db → f ≡ core_form named q
+pub gathered_is : (db : List Relation) (q : Question) (named : Bool) (sources : Sources) (f : Form) → HasElements q.body → AllByRecursion Low (points q.body) → AllByRecursion (λ k. 1 ≤ k) (database_periods db) → named ≡ has_named_sort db → f ≡ core_form named q
     → AreSources (structure db q) sources → database_texts sources.database.now ++ sources.texts.items ≡ all_texts db q → AreGathered db q sources f
 gathered_is db q named sources f some ps rows is core gathered texts = record { elements = some; periods = query_low db q rows ps; core = core ∙ ap (λ b. core_form b q) is; gathered = gathered; texts = texts }
 

@@ -6,7 +6,7 @@ use Rattle.std.proofs.lemmas.List.Elements.{filter_agree}
 use Rattle.lrp_model.specs.Formulas.{test}
 use Rattle.lrp_model.specs.Variables.{Variable, free, are_among}
 use Rattle.lrp_model.specs.Satisfaction.{Structure}
-use Rattle.lrp_model.specs.Periods.{periods, test_periods}
+use Rattle.lrp_model.specs.Periods.{periods, test_periods, IsCommon}
 use Rattle.lrp_model.specs.Steps.{Steps, formula_at, reach_at, join, select, minus, complement, leaf, step_behind}
 use Rattle.lrp_model.specs.Conjunctions.{Taken, is_test, select_each, take_in}
 use Rattle.lrp_model.specs.declared.relations.Relation.{Relation}
@@ -18,7 +18,7 @@ use Rattle.lrp_plan.specs.declared.drafts.Operand.{Operand}
 use Rattle.lrp_plan.specs.declared.drafts.Draft.{Draft}
 use Rattle.lrp_plan.specs.declared.taking.Taking.{Taking}
 use Rattle.lrp_limits.specs.Capped.{capped}
-use Rattle.lrp_limits.specs.Multiples.{IsCommon, IsLeastOf}
+use Rattle.lrp_limits.specs.Multiples.{IsLeastWithinLimit}
 use Rattle.lrp_plan.specs.Drafts.{IsOperand, IsDraft, AreTests, Extends, ExtendsBoth}
 use Rattle.lrp_plan.specs.Taking.{covers, AreUncovered, HaveSame, IsSoFar, IsTaking, carrying, Carries, Splits, TakesIn, TakesTest, taking_off, Subtracts, after_negation, taken_with, TakesOff}
 use Rattle.lrp_plan.proofs.Members.{are_among_same, more_same}
@@ -41,7 +41,7 @@ operand_grows db K steps more i o h =
     record {
       within = (let w : i ≤ length steps = h.within in let l : length (steps ++ more) ≡ length steps + length more = length-append steps more in omega arith);
       number = h.number;
-      period = subst (λ g. IsLeastOf (periods g db) o.period.number) (sym f) h.period;
+      period = subst (λ g. IsLeastWithinLimit (periods g db) o.period.number) (sym f) h.period;
       reach = h.reach ∙ ap capped (sym (reach_front steps more i h.within));
       divides = subst (λ g. IsCommon (periods g db) K) (sym f) h.divides;
     }

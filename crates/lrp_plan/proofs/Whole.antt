@@ -13,7 +13,7 @@ use Rattle.lrp_model.specs.Variables.{Variable, free, head_variables}
 use Rattle.lrp_model.specs.Satisfaction.{Structure, structure}
 use Rattle.lrp_model.specs.Core.{core_form, guarded, has_named_sort, HasElements}
 use Rattle.lrp_model.specs.Domains.{database_texts, all_texts}
-use Rattle.lrp_model.specs.Periods.{IsMultiple, lcm_all, periods, period}
+use Rattle.lrp_model.specs.Periods.{IsMultiple, lcm_all, periods, period, IsCommon}
 use Rattle.lrp_model.specs.Plans.{plan, plan_of, query_reach, scaled_reach, IsStep}
 use Rattle.lrp_model.specs.Sorts.{time_count}
 use Rattle.lrp_model.specs.declared.relations.Relation.{Relation}
@@ -35,7 +35,7 @@ use Rattle.lrp_limits.specs.Capped.{capped}
 use Rattle.lrp_plan.specs.Drafts.{IsDraft, IsDraftOf, Extends, headed}
 use Rattle.lrp_plan.specs.Elements.{CanPlan}
 use Rattle.lrp_limits.specs.Facts.{KeepsPeriod}
-use Rattle.lrp_limits.specs.Multiples.{IsCommon, IsPeriod, IsLeastOf, IsPeriodOf}
+use Rattle.lrp_limits.specs.Multiples.{IsPeriod, IsLeastWithinLimit, IsPeriodOf}
 use Rattle.lrp_model.specs.declared.plans.Plan.{Plan}
 use Rattle.lrp_limits.specs.declared.periods.Period.{Period}
 use Rattle.lrp_plan.specs.declared.planning.PlanFault.{PlanFault}
@@ -91,15 +91,15 @@ head_in_core named q db =
     marked_periods (guarded named q.head q.body) f db ((core_named named q db (free f) (marks f db)).0 (names_self db f)).1
 
 -- the least common multiple is a common one
-common_self : (ks : List ℕ) (k : ℕ) → IsLeastOf ks k → IsCommon ks k
+common_self : (ks : List ℕ) (k : ℕ) → IsLeastWithinLimit ks k → IsCommon ks k
 common_self ks k least = (least.multiples k).0 (record { times = 1; is = omega arith })
 
 -- the period of the core form is the query's, so that is at most 2^62
-pub low_period : (db : List Relation) (q : Question) (k : ℕ) → IsLeastOf (periods (core_form (has_named_sort db) q) db) k → period db q.body ≤ 2 ^ 62
+pub low_period : (db : List Relation) (q : Question) (k : ℕ) → IsLeastWithinLimit (periods (core_form (has_named_sort db) q) db) k → period db q.body ≤ 2 ^ 62
 low_period db q k least =
     let named : Bool = has_named_sort db in
-    let head : IsLeastOf (periods (guarded named q.head q.body) db) k = least_from (periods (core_form named q) db) (periods (guarded named q.head q.body) db) k (head_in_core named q db) (core_in_head named q db) least in
-    let body : IsLeastOf (periods q.body db) k = least_from (periods (guarded named q.head q.body) db) (periods q.body db) k (body_in_head named q db) (head_in_body named q db) head in
+    let head : IsLeastWithinLimit (periods (guarded named q.head q.body) db) k = least_from (periods (core_form named q) db) (periods (guarded named q.head q.body) db) k (head_in_core named q db) (core_in_head named q db) least in
+    let body : IsLeastWithinLimit (periods q.body db) k = least_from (periods (guarded named q.head q.body) db) (periods q.body db) k (body_in_head named q db) (head_in_body named q db) head in
     let high : k ≤ 2 ^ 62 = body.period.high in
     subst (λ x. x ≤ 2 ^ 62) (least_is (periods q.body db) k body) high
 
@@ -125,26 +125,26 @@ starts : (db : List Relation) (K : ℕ) (start : Draft) → start.steps ≡ [] �
 starts db K start s n p r whole = record {
   whole = whole;
   steps = subst (λ xs. AllZip IsDraftOf xs []) (sym s) tt;
-  last = record { within = omega arith; number = n; period = subst (IsLeastOf []) (sym p) least_of_none; reach = r; divides = tt };
+  last = record { within = omega arith; number = n; period = subst (IsLeastWithinLimit []) (sym p) least_of_none; reach = r; divides = tt };
 }
 
 -- the steps of the core form, and then the last one
 pub whole_follows : (sources : Sources) (f : Form) (k : ℕ) (start mid new : Draft) → start.steps ≡ [] → start.last.number ≡ 0 → start.last.period.number ≡ 1 → start.last.reach ≡ 0
     → ((M : Structure) (K : ℕ) → AreSources M sources → CanPlan M K f → Extends M K (plan_of f) start mid)
-    → ((M : Structure) (K : ℕ) (g : Form) → IsLeastOf (periods g M.relations) k → IsCommon (periods g M.relations) K → Extends M K (headed g) mid new)
+    → ((M : Structure) (K : ℕ) (g : Form) → IsLeastWithinLimit (periods g M.relations) k → IsCommon (periods g M.relations) K → Extends M K (headed g) mid new)
     → IsWholeDraft sources f k new
 whole_follows sources f k start mid new s n p r core head =
     record { follows = λ M K g a c whole least common. (head M K g least common).follows (plan_of f M []) ((core M K a c).follows [] (starts M.relations K start s n p r whole)) }
 
 -- the draft of the query's core form is that of its plan
-pub draft_is : (db : List Relation) (q : Question) (sources : Sources) (f : Form) (k : ℕ) (draft : Draft) → HasElements q.body → AreSources (structure db q) sources → f ≡ core_form (has_named_sort db) q → IsLeastOf (periods f db) k → IsWholeDraft sources f k draft → IsDraft db k draft (plan db q)
+pub draft_is : (db : List Relation) (q : Question) (sources : Sources) (f : Form) (k : ℕ) (draft : Draft) → HasElements q.body → AreSources (structure db q) sources → f ≡ core_form (has_named_sort db) q → IsLeastWithinLimit (periods f db) k → IsWholeDraft sources f k draft → IsDraft db k draft (plan db q)
 draft_is db q sources f k draft h a e least w =
     let named : Bool = has_named_sort db in
     let M : Structure = structure db q in
     let g : Form = guarded named q.head q.body in
     let c : Form = core_form named q in
-    let l : IsLeastOf (periods c db) k = subst (λ x. IsLeastOf (periods x db) k) e least in
-    let m : IsLeastOf (periods g db) k = least_from (periods c db) (periods g db) k (head_in_core named q db) (core_in_head named q db) l in
+    let l : IsLeastWithinLimit (periods c db) k = subst (λ x. IsLeastWithinLimit (periods x db) k) e least in
+    let m : IsLeastWithinLimit (periods g db) k = least_from (periods c db) (periods g db) k (head_in_core named q db) (core_in_head named q db) l in
     (subst (λ x. IsWholeDraft sources x k draft) e w).follows M k g a (record { core = core_of_query named q h; divides = common_self (periods c db) k l }) l.period m (common_self (periods g db) k m)
 
 -- its last reach, doubled, is the query's up to 2^62 + 1
@@ -185,26 +185,26 @@ pub no_memory : (db : List Relation) (q : Question) (e : PlanFault) → e ≡ Me
 no_memory db q e is = subst (λ x. IsOutcome db q (Err x)) (sym is) tt
 
 -- the period that was found is the core form's
-least_found : (db : List Relation) (q : Question) (sources : Sources) (f : Form) (o : Option Period) (p : Period) → o ≡ Some p → ((M : Structure) → AreSources M sources → IsPeriodOf (periods f M.relations) (option_map (λ p. p.number) o)) → AreGathered db q sources f → IsLeastOf (periods f db) p.number
+least_found : (db : List Relation) (q : Question) (sources : Sources) (f : Form) (o : Option Period) (p : Period) → o ≡ Some p → ((M : Structure) → AreSources M sources → IsPeriodOf (periods f M.relations) (option_map (λ p. p.number) o)) → AreGathered db q sources f → IsLeastWithinLimit (periods f db) p.number
 least_found db q sources f o p e h g = subst (λ x. IsPeriodOf (periods f db) (option_map (λ (p : Period). p.number) x)) e (h (structure db q) g.gathered)
 
 -- above the limit of reaches
 pub far_reach : (db : List Relation) (q : Question) (sources : Sources) (f : Form) (o : Option Period) (p : Period) (draft : Draft) (r : ℕ) → o ≡ Some p → ((M : Structure) → AreSources M sources → IsPeriodOf (periods f M.relations) (option_map (λ p. p.number) o)) → IsWholeDraft sources f p.number draft
     → ((n : ℕ) → draft.last.reach ≡ capped n → r ≡ capped (2 ^ (time_count q.head + 1) * n)) → 2 ^ 62 < r → AreGathered db q sources f → IsOutcome db q (Err BoundLimit)
 far_reach db q sources f o p draft r e h w s far g =
-    let least : IsLeastOf (periods f db) p.number = least_found db q sources f o p e h g in
+    let least : IsLeastWithinLimit (periods f db) p.number = least_found db q sources f o p e h g in
     let d : IsDraft db p.number draft (plan db q) = draft_is db q sources f p.number draft g.elements g.gathered g.core least w in
     let c : r ≡ capped (scaled_reach db q) = reach_is db q p.number r draft d s in
-    (low_period db q p.number (subst (λ x. IsLeastOf (periods x db) p.number) g.core least), omega arith)
+    (low_period db q p.number (subst (λ x. IsLeastWithinLimit (periods x db) p.number) g.core least), omega arith)
 
 -- within the limits
 pub near_reach : (db : List Relation) (q : Question) (sources : Sources) (f : Form) (o : Option Period) (p : Period) (draft : Draft) (r : ℕ) (made : Plan) → o ≡ Some p → ((M : Structure) → AreSources M sources → IsPeriodOf (periods f M.relations) (option_map (λ p. p.number) o)) → IsWholeDraft sources f p.number draft
     → ((n : ℕ) → draft.last.reach ≡ capped n → r ≡ capped (2 ^ (time_count q.head + 1) * n)) → r ≤ 2 ^ 62
     → made.steps ≡ draft.steps → made.head.columns ≡ q.head → made.domain ≡ in_order (texts_among (database_texts sources.database.now ++ sources.texts.items)) → AreGathered db q sources f → IsOutcome db q (Ok made)
 near_reach db q sources f o p draft r made e h w s low steps head domain g =
-    let least : IsLeastOf (periods f db) p.number = least_found db q sources f o p e h g in
+    let least : IsLeastWithinLimit (periods f db) p.number = least_found db q sources f o p e h g in
     let d : IsDraft db p.number draft (plan db q) = draft_is db q sources f p.number draft g.elements g.gathered g.core least w in
     let c : r ≡ capped (scaled_reach db q) = reach_is db q p.number r draft d s in (
       record { steps = subst (λ xs. AllZip IsStep xs (plan db q)) (sym steps) (steps_are db q p.number r draft g.elements g.periods d c low); head = head; domain = domain ∙ ap (λ xs. in_order (texts_among xs)) g.texts },
-      record { period = low_period db q p.number (subst (λ x. IsLeastOf (periods x db) p.number) g.core least); reach = omega arith },
+      record { period = low_period db q p.number (subst (λ x. IsLeastWithinLimit (periods x db) p.number) g.core least); reach = omega arith },
     )

@@ -8,33 +8,33 @@ use Rattle.lrp_model.specs.Formulas.{Form, Forms, atom, no_forms, form, joined}
 use Rattle.lrp_model.specs.Texts.{Identifier}
 use Rattle.lrp_model.specs.Rows.{rows_of}
 use Rattle.lrp_model.specs.Satisfaction.{Structure}
-use Rattle.lrp_model.specs.Periods.{periods, periods_each}
+use Rattle.lrp_model.specs.Periods.{periods, periods_each, row_periods}
 use Rattle.lrp_model.specs.declared.relations.Relation.{Relation}
 use Rattle.lrp_limits.specs.declared.facts.Facts.{Facts}
 use Rattle.lrp_limits.specs.declared.periods.Period.{Period}
 use Rattle.lrp_plan.specs.declared.sources.Sources.{Sources}
-use Rattle.lrp_limits.specs.Multiples.{IsLeastOf, IsPeriodOf}
-use Rattle.lrp_limits.specs.Facts.{AreFacts, KeepsPeriod, KeepsRows, KeepsFacts, periods_of_row}
+use Rattle.lrp_limits.specs.Multiples.{IsLeastWithinLimit, IsPeriodOf}
+use Rattle.lrp_limits.specs.Facts.{AreFacts, KeepsPeriod, KeepsRows, KeepsFacts}
 use Rattle.lrp_plan.specs.Sources.{AreSources}
 use Rattle.lrp_plan.proofs.Planned.{take_all_of}
 use Rattle.lrp_limits.proofs.Keeping.{common_both, keeps_more, keeps_as, none_stays, stands_for}
 
 -- the least common multiple of two lists, the second one's being l
-rows_joined : (ks ls : List ℕ) (l : ℕ) (o : Option ℕ) → IsLeastOf ls l → IsPeriodOf (ks ++ l ∷ []) o → IsPeriodOf (ks ++ ls) o
+rows_joined : (ks ls : List ℕ) (l : ℕ) (o : Option ℕ) → IsLeastWithinLimit ls l → IsPeriodOf (ks ++ l ∷ []) o → IsPeriodOf (ks ++ ls) o
 rows_joined ks ls l (Some m) h g = stands_for ks ls l m h g
 rows_joined ks ls l None h g = λ n p c. let b = (common_both ks ls n).0 c in g n p ((common_both ks (l ∷ []) n).1 (b.0, ((h.multiples n).1 b.1, tt)))
 
-pub rows_some : (k : ℕ) (rows : Option Period) (q : Period) (o : Option ℕ) → rows ≡ Some q → ((ks : List ℕ) → IsLeastOf ks k → IsPeriodOf (ks ++ q.number ∷ []) o) → KeepsRows (option_map (λ p. p.number) rows) k o
+pub rows_some : (k : ℕ) (rows : Option Period) (q : Period) (o : Option ℕ) → rows ≡ Some q → ((ks : List ℕ) → IsLeastWithinLimit ks k → IsPeriodOf (ks ++ q.number ∷ []) o) → KeepsRows (option_map (λ p. p.number) rows) k o
 rows_some k rows q o e h = record { keeps = λ ks ls a b. rows_joined ks ls q.number o (subst (λ x. IsPeriodOf ls (option_map (λ (p : Period). p.number) x)) e b) (h ks a) }
 
 pub rows_none : (k : ℕ) (rows : Option Period) → rows ≡ None → KeepsRows (option_map (λ p. p.number) rows) k None
 rows_none k rows e = record { keeps = λ ks ls a b n p c. let none : IsPeriodOf ls None = subst (λ x. IsPeriodOf ls (option_map (λ (q : Period). q.number) x)) e b in none n p ((common_both ks ls n).0 c).1 }
 
 pub facts_some : (facts : Facts) (period : Option Period) (p : Period) (o : Option ℕ) → period ≡ Some p → KeepsRows (option_map (λ q. q.number) facts.period) p.number o → KeepsFacts facts (option_map (λ q. q.number) period) o
-facts_some facts period p o e h = record { keeps = λ all a. record { keeps = λ ks b. h.keeps ks (flat_map periods_of_row all) (subst (λ x. IsPeriodOf ks (option_map (λ (q : Period). q.number) x)) e b) a.period } }
+facts_some facts period p o e h = record { keeps = λ all a. record { keeps = λ ks b. h.keeps ks (flat_map row_periods all) (subst (λ x. IsPeriodOf ks (option_map (λ (q : Period). q.number) x)) e b) a.period } }
 
 pub facts_none : (facts : Facts) (period : Option Period) → period ≡ None → KeepsFacts facts (option_map (λ q. q.number) period) None
-facts_none facts period e = record { keeps = λ all a. record { keeps = λ ks b. none_stays ks (flat_map periods_of_row all) (subst (λ x. IsPeriodOf ks (option_map (λ (q : Period). q.number) x)) e b) } }
+facts_none facts period e = record { keeps = λ all a. record { keeps = λ ks b. none_stays ks (flat_map row_periods all) (subst (λ x. IsPeriodOf ks (option_map (λ (q : Period). q.number) x)) e b) } }
 
 -- ---- core forms
 

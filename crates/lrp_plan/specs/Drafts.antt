@@ -3,7 +3,7 @@ use Rattle.std.specs.Prelude.{◌≡◌, ℕ, ◌+◌, ◌≤◌, pos, true, Lis
 use Rattle.std.specs.List.{AllZip, AllByRecursion}
 use Rattle.lrp_model.specs.Formulas.{Form}
 use Rattle.lrp_model.specs.Satisfaction.{Structure}
-use Rattle.lrp_model.specs.Periods.{periods}
+use Rattle.lrp_model.specs.Periods.{periods, IsCommon}
 use Rattle.lrp_model.specs.Steps.{PlanStep, Steps, Rule, formula_at, reach_at, made, union}
 use Rattle.lrp_model.specs.Conjunctions.{is_test}
 use Rattle.lrp_model.specs.declared.formulas.Test.{Test}
@@ -14,7 +14,7 @@ use Rattle.lrp_model.specs.declared.relations.Relation.{Relation}
 use Rattle.lrp_plan.specs.declared.drafts.Operand.{Operand}
 use Rattle.lrp_plan.specs.declared.drafts.Draft.{Draft}
 use Rattle.lrp_limits.specs.Capped.{capped}
-use Rattle.lrp_limits.specs.Multiples.{IsCommon, IsPeriod, IsLeastOf}
+use Rattle.lrp_limits.specs.Multiples.{IsPeriod, IsLeastWithinLimit}
 
 -- one step more, of this kind, period and reach
 pub record AddsStep (kind : StepKind) (k reach : ℕ) (old new : Draft) : Type 0 where
@@ -27,7 +27,7 @@ pub record AddsStep (kind : StepKind) (k reach : ℕ) (old new : Draft) : Type 0
 pub record IsOperand (db : List Relation) (K : ℕ) (planned : Steps) (i : ℕ) (o : Operand) : Type 0 where
   pub within : i ≤ length planned
   pub number : o.number ≡ i
-  pub period : IsLeastOf (periods (formula_at planned i) db) o.period.number
+  pub period : IsLeastWithinLimit (periods (formula_at planned i) db) o.period.number
   pub reach : o.reach ≡ capped (reach_at planned i)
   pub divides : IsCommon (periods (formula_at planned i) db) K
 

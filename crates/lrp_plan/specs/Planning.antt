@@ -4,8 +4,8 @@ use Rattle.lrp_model.specs.Formulas.{Form, Question}
 use Rattle.lrp_model.specs.Satisfaction.{Structure, structure}
 use Rattle.lrp_model.specs.Core.{core_form, has_named_sort, HasElements}
 use Rattle.lrp_model.specs.Domains.{database_texts, all_texts}
-use Rattle.lrp_model.specs.Periods.{periods, period}
-use Rattle.lrp_model.specs.Plans.{plan_of, scaled_reach, IsPlan, IsWithinLimits}
+use Rattle.lrp_model.specs.Periods.{periods, period, IsCommon}
+use Rattle.lrp_model.specs.Plans.{plan_of, scaled_reach, IsPlan, IsWithinLimits, HasLongPeriod, HasFarReach}
 use Rattle.lrp_model.specs.declared.plans.Plan.{Plan}
 use Rattle.lrp_model.specs.declared.relations.Relation.{Relation}
 use Rattle.lrp_plan_laws.specs.Rising.{HasPeriods}
@@ -15,19 +15,19 @@ use Rattle.lrp_plan.specs.declared.planning.PlanFault.TheVariants.{PeriodLimit, 
 use Rattle.lrp_plan.specs.declared.sources.Sources.{Sources}
 use Rattle.lrp_plan.specs.Drafts.{IsDraft, headed}
 use Rattle.lrp_plan.specs.Elements.{CanPlan}
-use Rattle.lrp_limits.specs.Multiples.{IsCommon, IsPeriod, IsLeastOf}
+use Rattle.lrp_limits.specs.Multiples.{IsPeriod, IsLeastWithinLimit}
 use Rattle.lrp_plan.specs.Sources.{AreSources}
 use Rattle.lrp_model.specs.Limits.{greatest_number}
 
 -- the period is above the greatest number; or it is not and the reach, doubled so, is; or memory ran out
 abbrev pub IsPastLimits : PlanFault → List Relation → Question → Type 0
-IsPastLimits PeriodLimit db q = greatest_number < period db q.body
-IsPastLimits BoundLimit db q = (period db q.body ≤ greatest_number) × (greatest_number < scaled_reach db q)
+IsPastLimits PeriodLimit db q = HasLongPeriod db q
+IsPastLimits BoundLimit db q = HasFarReach db q
 IsPastLimits Memory db q = Unit {0}
 
 -- the steps of a core form, and then the last one, of a formula with this period
 pub record IsWholeDraft (sources : Sources) (f : Form) (k : ℕ) (draft : Draft) : Type 0 where
-  pub follows : (M : Structure) (K : ℕ) (g : Form) → AreSources M sources → CanPlan M K f → IsPeriod K → IsLeastOf (periods g M.relations) k → IsCommon (periods g M.relations) K → IsDraft M.relations K draft (headed g M (plan_of f M []))
+  pub follows : (M : Structure) (K : ℕ) (g : Form) → AreSources M sources → CanPlan M K f → IsPeriod K → IsLeastWithinLimit (periods g M.relations) k → IsCommon (periods g M.relations) K → IsDraft M.relations K draft (headed g M (plan_of f M []))
 
 -- what is read is that of a database and a query, and the core form is the query's
 pub record AreGathered (db : List Relation) (q : Question) (sources : Sources) (f : Form) : Type 0 where

@@ -67,7 +67,8 @@ impl Domains {
         sort: &Sort,
         text: &DataText,
     ) -> Result<(), Memory>
-        ensures { OnOk result (Gathers (database_texts database.now) sort.now text.now self.old self.new) }
+        ensures { OnOk result (Gathers (database_texts database.now) sort.now text.now self.old
+            self.new) }
     {
         match sort {
             Sort::Time => see(alloc, &mut self.timed, text),
@@ -83,7 +84,8 @@ impl Domains {
         database: &Database,
         text: &DataText,
     ) -> Result<(), Memory>
-        ensures { OnOk result (Gathers (database_texts database.now) Data text.now self.old self.new) }
+        ensures { OnOk result (Gathers (database_texts database.now) Data text.now self.old
+            self.new) }
     {
         match &mut self.unnamed {
             Some(texts) => see(alloc, texts, text),
@@ -106,7 +108,8 @@ impl Domains {
         text: &DataText,
     ) -> Result<(), Memory>
         requires { sort.now ≡ Named name.now }
-        ensures { OnOk result (Gathers (database_texts database.now) sort.now text.now self.old self.new) }
+        ensures { OnOk result (Gathers (database_texts database.now) sort.now text.now self.old
+            self.new) }
     {
         match self.named.get_mut(name) {
             Some(texts) => see(alloc, texts, text),

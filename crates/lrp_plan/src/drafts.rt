@@ -2,13 +2,13 @@
 ghost use Rattle.std.specs.Prelude.{◌≡◌, ℕ, [], ◌∷◌, OnOk};
 ghost use Rattle.lrp_model.specs.Formulas.{Form, atom, test as test_form};
 ghost use Rattle.lrp_model.specs.Rows.{rows_of};
-ghost use Rattle.lrp_model.specs.Periods.{periods, test_periods};
+ghost use Rattle.lrp_model.specs.Periods.{periods, test_periods, IsCommon};
 ghost use Rattle.lrp_model.specs.Satisfaction.{Structure};
 ghost use Rattle.lrp_model.specs.Steps.{scan_of as scanned, leaf as tested, sort_texts, join as joined, select as selected, union as united, minus as taken_off, complement as complemented, drop_of};
 ghost use Rattle.lrp_limits.specs.Capped.{capped as capped_at};
 ghost use Rattle.lrp_plan.specs.Drafts.{AddsStep, Extends, ExtendsBoth, AreTests, headed};
 ghost use Rattle.lrp_limits.specs.Facts.{AreFacts};
-ghost use Rattle.lrp_limits.specs.Multiples.{IsCommon, IsPeriod, IsLeastOf};
+ghost use Rattle.lrp_limits.specs.Multiples.{IsPeriod, IsLeastWithinLimit};
 
 use lrp_limits::facts::Facts;
 use lrp_limits::periods::{Period, common_period, one};
@@ -95,7 +95,10 @@ impl Draft {
         relation: Name,
         terms: List<Term>,
     ) -> Result<(), Memory>
-        ensures { OnOk result ((M : Structure) (K : ℕ) → AreFacts (rows_of M.relations relation) facts → IsCommon (periods (atom relation terms) M.relations) K → Extends M K (scanned relation terms) self.old self.new) }
+        ensures { OnOk result ((M : Structure) (K : ℕ)
+            → AreFacts (rows_of M.relations relation) facts
+            → IsCommon (periods (atom relation terms) M.relations) K
+            → Extends M K (scanned relation terms) self.old self.new) }
     {
         let period = facts.period.unwrap_or(one());
         let reach = scan_reach(facts.bound, greatest_offset(terms.as_slice()), period);
@@ -104,7 +107,9 @@ impl Draft {
 
     /// A test as a step of its own.
     pub(crate) fn leaf(&mut self, test: Test) -> Result<(), Memory>
-        ensures { OnOk result ((M : Structure) (K : ℕ) → IsCommon (periods (test_form test) M.relations) K → Extends M K (tested test) self.old self.new) }
+        ensures { OnOk result ((M : Structure) (K : ℕ)
+            → IsCommon (periods (test_form test) M.relations) K
+            → Extends M K (tested test) self.old self.new) }
     {
         let period = period_of(&test);
         let reach = u128::from(test_reach(&test));
@@ -118,14 +123,16 @@ impl Draft {
         sort: Sort,
         texts: List<DataText>,
     ) -> Result<(), Memory>
-        ensures { OnOk result ((M : Structure) (K : ℕ) → texts ≡ M.domain sort → Extends M K (sort_texts sort name) self.old self.new) }
+        ensures { OnOk result ((M : Structure) (K : ℕ) → texts ≡ M.domain sort
+            → Extends M K (sort_texts sort name) self.old self.new) }
     {
         self.add(StepKind::Sort { name, sort, texts }, one(), 1)
     }
 
     /// An earlier step joined with the last one; the tests name no period.
     pub(crate) fn join(&mut self, left: Operand, tests: List<Test>) -> Result<(), Memory>
-        ensures { OnOk result ((M : Structure) (K : ℕ) → AreTests tests → ExtendsBoth M K left (λ number. joined number tests) self.old self.new) }
+        ensures { OnOk result ((M : Structure) (K : ℕ) → AreTests tests
+            → ExtendsBoth M K left (λ number. joined number tests) self.old self.new) }
     {
         let right = self.last;
         let period = common_period(left.period, right.period);
@@ -144,7 +151,8 @@ impl Draft {
 
     /// What of the last step passes a test that names no period.
     pub(crate) fn select(&mut self, test: Test) -> Result<(), Memory>
-        ensures { OnOk result ((M : Structure) (K : ℕ) → AreTests (test ∷ []) → Extends M K (selected test) self.old self.new) }
+        ensures { OnOk result ((M : Structure) (K : ℕ) → AreTests (test ∷ [])
+            → Extends M K (selected test) self.old self.new) }
     {
         let of = self.last;
         let reach = with_period(of.reach.max(test_reach(&test)), of.period);
@@ -160,7 +168,8 @@ impl Draft {
 
     /// An earlier step and the last one.
     pub(crate) fn union(&mut self, left: Operand) -> Result<(), Memory>
-        ensures { OnOk result ((M : Structure) (K : ℕ) → ExtendsBoth M K left united self.old self.new) }
+        ensures { OnOk result ((M : Structure) (K : ℕ)
+            → ExtendsBoth M K left united self.old self.new) }
     {
         let right = self.last;
         let period = common_period(left.period, right.period);
@@ -177,7 +186,8 @@ impl Draft {
 
     /// An earlier step without what the last one has.
     pub(crate) fn minus(&mut self, left: Operand) -> Result<(), Memory>
-        ensures { OnOk result ((M : Structure) (K : ℕ) → ExtendsBoth M K left taken_off self.old self.new) }
+        ensures { OnOk result ((M : Structure) (K : ℕ)
+            → ExtendsBoth M K left taken_off self.old self.new) }
     {
         let right = self.last;
         let period = common_period(left.period, right.period);
@@ -194,7 +204,8 @@ impl Draft {
 
     /// What the last step does not have.
     pub(crate) fn complement(&mut self) -> Result<(), Memory>
-        ensures { OnOk result ((M : Structure) (K : ℕ) → Extends M K complemented self.old self.new) }
+        ensures { OnOk result ((M : Structure) (K : ℕ)
+            → Extends M K complemented self.old self.new) }
     {
         let of = self.last;
         let reach = with_two_periods(of.reach, of.period);
@@ -203,7 +214,8 @@ impl Draft {
 
     /// The last step without a variable.
     pub(crate) fn drop_variable(&mut self, name: Name, sort: &Sort) -> Result<(), Memory>
-        ensures { OnOk result ((M : Structure) (K : ℕ) → Extends M K (drop_of name sort.now) self.old self.new) }
+        ensures { OnOk result ((M : Structure) (K : ℕ)
+            → Extends M K (drop_of name sort.now) self.old self.new) }
     {
         let of = self.last;
         if sort.is_time() {
@@ -231,7 +243,9 @@ impl Draft {
 
     /// The last step with the head's further variables; the period is that of the query's body.
     pub(crate) fn extend(&mut self, period: Period) -> Result<(), Memory>
-        ensures { OnOk result ((M : Structure) (K : ℕ) (f : Form) → IsLeastOf (periods f M.relations) period.number → IsCommon (periods f M.relations) K → Extends M K (headed f) self.old self.new) }
+        ensures { OnOk result ((M : Structure) (K : ℕ) (f : Form)
+            → IsLeastWithinLimit (periods f M.relations) period.number
+            → IsCommon (periods f M.relations) K → Extends M K (headed f) self.old self.new) }
     {
         let of = self.last;
         let reach = u128::from(of.reach);
@@ -241,7 +255,8 @@ impl Draft {
 
 // The period of a test.
 fn period_of(test: &Test) -> Period
-    ensures { (K : ℕ) → IsCommon (test_periods test.now) K → IsPeriod K → IsLeastOf (test_periods test.now) result.number }
+    ensures { (K : ℕ) → IsCommon (test_periods test.now) K → IsPeriod K
+        → IsLeastWithinLimit (test_periods test.now) result.number }
 {
     match test {
         Test::Member { point, .. } => one().with(point.period.unsigned_abs()).unwrap_or(one()),

@@ -9,5 +9,6 @@ ghost use Rattle.lrp_print.specs.Kept.{IsKept};
 
 /// A query over kept relations has periods of at least 1, where the points of its `in` tests have.
 pub fn kept_queries_have_periods()
-    ensures { (db : List Relation) (q : Question) → AllByRecursion IsKept db → AllByRecursion (λ at. pos 1 ≤ℤ at.period) (points q.body) → HasPeriods db q }
+    ensures { (db : List Relation) (q : Question) → AllByRecursion IsKept db
+        → AllByRecursion (λ at. pos 1 ≤ℤ at.period) (points q.body) → HasPeriods db q }
 {}

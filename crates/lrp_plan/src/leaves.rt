@@ -22,7 +22,8 @@ pub(crate) fn plan_atom(
     relation: &Name,
     terms: &[Term],
 ) -> Result<(), Memory>
-    ensures { OnOk result ((M : Structure) (K : ℕ) → AreSources M sources.now → MakesSteps M K (atom relation.now terms.now) draft.old draft.new) }
+    ensures { OnOk result ((M : Structure) (K : ℕ) → AreSources M sources.now
+        → MakesSteps M K (atom relation.now terms.now) draft.old draft.new) }
 {
     let facts = sources.facts(relation);
     let relation = relation.copy(alloc)?;
@@ -32,7 +33,8 @@ pub(crate) fn plan_atom(
 
 /// The step of a test.
 pub(crate) fn plan_test(alloc: Global, draft: &mut Draft, test: &TermTest<'_>) -> Result<(), Memory>
-    ensures { OnOk result ((M : Structure) (K : ℕ) → MakesSteps M K (test_form (test_of test.now)) draft.old draft.new) }
+    ensures { OnOk result ((M : Structure) (K : ℕ)
+        → MakesSteps M K (test_form (test_of test.now)) draft.old draft.new) }
 {
     let test = test.owned(alloc)?;
     draft.leaf(test)
@@ -46,7 +48,8 @@ pub(crate) fn plan_sorted(
     sort: &Sort,
     name: &Name,
 ) -> Result<(), Memory>
-    ensures { OnOk result ((M : Structure) (K : ℕ) → AreSources M sources.now → MakesSteps M K (sorted sort.now name.now) draft.old draft.new) }
+    ensures { OnOk result ((M : Structure) (K : ℕ) → AreSources M sources.now
+        → MakesSteps M K (sorted sort.now name.now) draft.old draft.new) }
 {
     let texts = sources.texts(alloc, sort)?;
     let name = name.copy(alloc)?;
@@ -61,7 +64,8 @@ pub(crate) fn plan_drop(
     name: &Name,
     sort: &Sort,
 ) -> Result<(), Memory>
-    ensures { OnOk result ((M : Structure) (K : ℕ) → Extends M K (drop_of name.now sort.now) draft.old draft.new) }
+    ensures { OnOk result ((M : Structure) (K : ℕ)
+        → Extends M K (drop_of name.now sort.now) draft.old draft.new) }
 {
     let name = name.copy(alloc)?;
     draft.drop_variable(name, sort)

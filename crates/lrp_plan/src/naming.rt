@@ -4,7 +4,7 @@ ghost use Rattle.std.specs.List.{AllByRecursion};
 ghost use Rattle.std.specs.HashMap.{get};
 ghost use Rattle.lrp_model.specs.Rows.{rows_of, relation_named};
 ghost use Rattle.lrp_model.specs.declared.relations.Relation.{Relation as RelationOf};
-ghost use Rattle.lrp_plan_laws.specs.Rising.{row_periods};
+ghost use Rattle.lrp_plan_laws.specs.Rising.{database_periods};
 ghost use Rattle.lrp_plan.specs.Sources.{AreFactsOf};
 ghost use Rattle.lrp_plan.specs.Naming.{IsNamedAs};
 
@@ -19,8 +19,10 @@ pub(crate) fn facts_by_name(
     alloc: Global,
     database: &Database,
 ) -> Result<HashMap<Name, Facts>, Memory>
-    ensures facts { IfOk result (λ made. (name : List ℕ) → AreFactsOf (rows_of database.now name) (get bytes_eq made name)) }
-    ensures periods { IfOk result (λ _. AllByRecursion (λ k. 1 ≤ k) (row_periods database.now)) }
+    ensures facts { IfOk result (λ made. (name : List ℕ)
+        → AreFactsOf (rows_of database.now name) (get bytes_eq made name)) }
+    ensures periods { IfOk result (λ _. AllByRecursion (λ k. 1 ≤ k)
+        (database_periods database.now)) }
 {
     let mut facts = HashMap::new(alloc);
     for i in 0..database.relations() {
@@ -35,7 +37,10 @@ fn name_one(
     facts: &mut HashMap<Name, Facts>,
     relation: &Relation,
 ) -> Result<(), Memory>
-    ensures { OnOk result ((before : List RelationOf) → ((name : List ℕ) → IsNamedAs (relation_named before name) (get bytes_eq facts.old name)) → (name : List ℕ) → IsNamedAs (relation_named (before ++ relation.now ∷ []) name) (get bytes_eq facts.new name)) }
+    ensures { OnOk result ((before : List RelationOf)
+        → ((name : List ℕ) → IsNamedAs (relation_named before name) (get bytes_eq facts.old name))
+        → (name : List ℕ) → IsNamedAs (relation_named (before ++ relation.now ∷ []) name)
+        (get bytes_eq facts.new name)) }
 {
     if !facts.contains_key(&relation.name) {
         let of_rows = facts_of(relation.rows.as_slice());

@@ -32,7 +32,9 @@ pub(crate) fn plan_core(
     core: &Core<'_>,
     inner: &[VariableTree],
 ) -> Result<(), Memory>
-    ensures { OnOk result ((M : Structure) (K : ℕ) → AreSources M sources.now → AreInner inner.now (core_of core.now) → CanPlan M K (core_of core.now) → Extends M K (plan_of (core_of core.now)) draft.old draft.new) }
+    ensures { OnOk result ((M : Structure) (K : ℕ) → AreSources M sources.now
+        → AreInner inner.now (core_of core.now) → CanPlan M K (core_of core.now)
+        → Extends M K (plan_of (core_of core.now)) draft.old draft.new) }
 {
     match core {
         Core::Atom { relation, terms } => {
@@ -62,7 +64,10 @@ fn plan_some(
     of: &[Core<'_>],
     inner: &[VariableTree],
 ) -> Result<(), Memory>
-    ensures { OnOk result ((M : Structure) (K : ℕ) → AreSources M sources.now → AreInner inner.now (disjunction (cores_of of.now)) → CanPlan M K (disjunction (cores_of of.now)) → Extends M K (plan_of (disjunction (cores_of of.now))) draft.old draft.new) }
+    ensures { OnOk result ((M : Structure) (K : ℕ) → AreSources M sources.now
+        → AreInner inner.now (disjunction (cores_of of.now))
+        → CanPlan M K (disjunction (cores_of of.now))
+        → Extends M K (plan_of (disjunction (cores_of of.now))) draft.old draft.new) }
 {
     let mut left: Option<Operand> = None;
     for (index, core) in of.iter().enumerate() {
@@ -83,7 +88,10 @@ fn plan_with(
     trees: &[VariableTree],
     index: usize,
 ) -> Result<(), Memory>
-    ensures { OnOk result ((M : Structure) (K : ℕ) (tree : TreeOf) → AreSources M sources.now → slice_get trees.now index ≡ Some tree → tree_of tree ≡ free_tree (core_of core.now) → CanPlan M K (core_of core.now) → Extends M K (plan_of (core_of core.now)) draft.old draft.new) }
+    ensures { OnOk result ((M : Structure) (K : ℕ) (tree : TreeOf) → AreSources M sources.now
+        → slice_get trees.now index ≡ Some tree → tree_of tree ≡ free_tree (core_of core.now)
+        → CanPlan M K (core_of core.now)
+        → Extends M K (plan_of (core_of core.now)) draft.old draft.new) }
 {
     if index < trees.len() {
         plan_core(alloc, sources, draft, core, &trees[index].inner)?;
@@ -100,7 +108,10 @@ fn plan_all(
     of: &[Core<'_>],
     inner: &[VariableTree],
 ) -> Result<(), Memory>
-    ensures { OnOk result ((M : Structure) (K : ℕ) → AreSources M sources.now → AreInner inner.now (conjunction (cores_of of.now)) → CanPlan M K (conjunction (cores_of of.now)) → Extends M K (plan_of (conjunction (cores_of of.now))) draft.old draft.new) }
+    ensures { OnOk result ((M : Structure) (K : ℕ) → AreSources M sources.now
+        → AreInner inner.now (conjunction (cores_of of.now))
+        → CanPlan M K (conjunction (cores_of of.now))
+        → Extends M K (plan_of (conjunction (cores_of of.now))) draft.old draft.new) }
 {
     let parts = split(alloc, sources, of, inner)?;
     let Split {
@@ -129,7 +140,9 @@ fn plan_positives(
     positives: VecDeque<Element<'_>>,
     taking: &mut Taking,
 ) -> Result<(), Memory>
-    ensures { OnOk result ((M : Structure) → AreSources M sources.now → TakesEach M (length positives.entry.items) of.now positives.entry.items draft.old draft.new taking.old taking.new) }
+    ensures { OnOk result ((M : Structure) → AreSources M sources.now
+        → TakesEach M (length positives.entry.items) of.now positives.entry.items draft.old
+        draft.new taking.old taking.new) }
 {
     let turns = positives.len();
     let mut left = Waiting::new(alloc, positives);
@@ -149,7 +162,8 @@ fn plan_positive(
     left: &mut Waiting<'_>,
     taking: &mut Taking,
 ) -> Result<(), Memory>
-    ensures { OnOk result ((M : Structure) → AreSources M sources.now → TurnsPositive M of.now left.old left.new draft.old draft.new taking.old taking.new) }
+    ensures { OnOk result ((M : Structure) → AreSources M sources.now
+        → TurnsPositive M of.now left.old left.new draft.old draft.new taking.old taking.new) }
 {
     match left.take_next(alloc, Turn::Meeting, &taking.variables)? {
         None => Ok(()),
@@ -177,7 +191,9 @@ fn plan_negations(
     negations: VecDeque<Element<'_>>,
     taking: &mut Taking,
 ) -> Result<(), Memory>
-    ensures { OnOk result ((M : Structure) → AreSources M sources.now → DeniesEach M (length negations.entry.items) of.now negations.entry.items draft.old draft.new taking.old taking.new) }
+    ensures { OnOk result ((M : Structure) → AreSources M sources.now
+        → DeniesEach M (length negations.entry.items) of.now negations.entry.items draft.old
+        draft.new taking.old taking.new) }
 {
     let turns = negations.len();
     let mut left = Waiting::new(alloc, negations);
@@ -197,7 +213,8 @@ fn plan_negation(
     left: &mut Waiting<'_>,
     taking: &mut Taking,
 ) -> Result<(), Memory>
-    ensures { OnOk result ((M : Structure) → AreSources M sources.now → TurnsNegation M of.now left.old left.new draft.old draft.new taking.old taking.new) }
+    ensures { OnOk result ((M : Structure) → AreSources M sources.now
+        → TurnsNegation M of.now left.old left.new draft.old draft.new taking.old taking.new) }
 {
     let some = taking.result.is_some();
     match left.take_next(alloc, Turn::Covered { some }, &taking.variables)? {
@@ -226,7 +243,9 @@ fn plan_at(
     index: usize,
     inner: &[VariableTree],
 ) -> Result<(), Memory>
-    ensures { OnOk result ((M : Structure) (K : ℕ) (core : CoreForm) → AreSources M sources.now → slice_get of.now index ≡ Some core → AreInner inner.now (core_of core) → CanPlan M K (core_of core) → Extends M K (plan_of (core_of core)) draft.old draft.new) }
+    ensures { OnOk result ((M : Structure) (K : ℕ) (core : CoreForm) → AreSources M sources.now
+        → slice_get of.now index ≡ Some core → AreInner inner.now (core_of core)
+        → CanPlan M K (core_of core) → Extends M K (plan_of (core_of core)) draft.old draft.new) }
 {
     if index < of.len() {
         plan_core(alloc, sources, draft, &of[index], inner)?;
@@ -244,7 +263,9 @@ fn plan_denied_at(
     index: usize,
     inner: &[VariableTree],
 ) -> Result<(), Memory>
-    ensures { OnOk result ((M : Structure) (K : ℕ) (core : CoreForm) (f : Form) → AreSources M sources.now → slice_get of.now index ≡ Some core → core_of core ≡ negation f → AreInner inner.now f → CanPlan M K f → Extends M K (plan_of f) draft.old draft.new) }
+    ensures { OnOk result ((M : Structure) (K : ℕ) (core : CoreForm) (f : Form)
+        → AreSources M sources.now → slice_get of.now index ≡ Some core → core_of core ≡ negation f
+        → AreInner inner.now f → CanPlan M K f → Extends M K (plan_of f) draft.old draft.new) }
 {
     if index < of.len() {
         plan_denied(alloc, sources, draft, &of[index], inner)?;
@@ -261,7 +282,9 @@ fn plan_denied(
     core: &Core<'_>,
     inner: &[VariableTree],
 ) -> Result<(), Memory>
-    ensures { OnOk result ((M : Structure) (K : ℕ) (f : Form) → AreSources M sources.now → core_of core.now ≡ negation f → AreInner inner.now f → CanPlan M K f → Extends M K (plan_of f) draft.old draft.new) }
+    ensures { OnOk result ((M : Structure) (K : ℕ) (f : Form) → AreSources M sources.now
+        → core_of core.now ≡ negation f → AreInner inner.now f → CanPlan M K f
+        → Extends M K (plan_of f) draft.old draft.new) }
 {
     if let Core::Not { of } = core {
         plan_core(alloc, sources, draft, of, inner)?;

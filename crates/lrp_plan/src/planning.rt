@@ -12,7 +12,7 @@ ghost use Rattle.lrp_model.specs.Satisfaction.{Structure, structure};
 ghost use Rattle.lrp_model.specs.Texts.{in_order};
 ghost use Rattle.lrp_model.specs.declared.relations.Relation.{Relation as RelationOf};
 ghost use Rattle.lrp_model.specs.TestPoints.{points};
-ghost use Rattle.lrp_plan_laws.specs.Rising.{row_periods};
+ghost use Rattle.lrp_plan_laws.specs.Rising.{database_periods};
 ghost use Rattle.lrp_plan_laws.specs.Settled.{IsSettled, IsSoundPlan};
 ghost use Rattle.lrp_plan_text.specs.Writable.{StepHasPeriods};
 ghost use Rattle.lrp_limits.specs.Multiples.{IsPeriodOf};
@@ -69,7 +69,8 @@ pub fn plan(alloc: Global, query: &Query, database: &Database) -> Result<Plan, P
     ensures ok { IfOk result (λ p. IsPlan p database.now (question_of query.now)) }
     ensures limits { IfOk result (λ p. IsWithinLimits database.now (question_of query.now)) }
     ensures writable { IfOk result (λ p. AllByRecursion StepHasPeriods p.steps) }
-    ensures sound { IfOk result (λ _. IsSettled database.now (question_of query.now) → IsSoundPlan database.now (question_of query.now)) }
+    ensures sound { IfOk result (λ _. IsSettled database.now (question_of query.now)
+        → IsSoundPlan database.now (question_of query.now)) }
     ensures fault { IfErr result (λ e. IsPastLimits e database.now (question_of query.now)) }
 {
     let core = core_form(alloc, query, has_named_sort(database))?;
@@ -84,7 +85,8 @@ fn plan_gathered(
     sources: &Sources<'_>,
     core: &Core<'_>,
 ) -> Result<Plan, PlanFault>
-    ensures { (db : List RelationOf) → AreGathered db (question_of query.now) sources.now (core_of core.now) → IsOutcome db (question_of query.now) result }
+    ensures { (db : List RelationOf) → AreGathered db (question_of query.now) sources.now
+        (core_of core.now) → IsOutcome db (question_of query.now) result }
 {
     let period = match whole_period(sources, core) {
         Some(period) => period,
@@ -102,7 +104,8 @@ fn plan_gathered(
 fn finish(alloc: Global, query: &Query, sources: &Sources<'_>, draft: Draft) -> Result<Plan, Memory>
     ensures steps { IfOk result (λ p. p.steps ≡ draft.steps) }
     ensures head { IfOk result (λ p. p.head.columns ≡ query.now.head.columns) }
-    ensures domain { IfOk result (λ p. p.domain ≡ in_order (texts_among (database_texts sources.now.database.now ++ sources.now.texts.items))) }
+    ensures domain { IfOk result (λ p. p.domain ≡ in_order
+        (texts_among (database_texts sources.now.database.now ++ sources.now.texts.items))) }
 {
     let head = query.head.copy(alloc)?;
     let domain = domain_of(alloc, sources)?;
@@ -115,9 +118,12 @@ fn finish(alloc: Global, query: &Query, sources: &Sources<'_>, draft: Draft) -> 
 
 // What is read of the database and the query.
 fn gather<'a>(alloc: Global, query: &Query, database: &'a Database) -> Result<Sources<'a>, Memory>
-    ensures sources { IfOk result (λ made. AreSources (structure database.now (question_of query.now)) made) }
-    ensures periods { IfOk result (λ _. AllByRecursion (λ k. 1 ≤ k) (row_periods database.now)) }
-    ensures texts { IfOk result (λ made. database_texts made.database.now ++ made.texts.items ≡ all_texts database.now (question_of query.now)) }
+    ensures sources { IfOk result (λ made. AreSources
+        (structure database.now (question_of query.now)) made) }
+    ensures periods { IfOk result (λ _. AllByRecursion (λ k. 1 ≤ k)
+        (database_periods database.now)) }
+    ensures texts { IfOk result (λ made. database_texts made.database.now ++ made.texts.items
+        ≡ all_texts database.now (question_of query.now)) }
 {
     let facts = facts_by_name(alloc, database)?;
     let texts = query_texts(alloc, query, database)?;
@@ -132,7 +138,8 @@ fn gather<'a>(alloc: Global, query: &Query, database: &'a Database) -> Result<So
 
 // The period of a core form, or `None` where it is above 2^62.
 fn whole_period(sources: &Sources<'_>, core: &Core<'_>) -> Option<Period>
-    ensures { (M : Structure) → AreSources M sources.now → IsPeriodOf (periods (core_of core.now) M.relations) (option_map (λ p. p.number) result) }
+    ensures { (M : Structure) → AreSources M sources.now
+        → IsPeriodOf (periods (core_of core.now) M.relations) (option_map (λ p. p.number) result) }
 {
     with_core(sources, core, Some(one()))
 }
@@ -155,7 +162,8 @@ fn whole_draft(
 
 // All constants in order of bytes; memory is refused at 2^32 of them.
 fn domain_of(alloc: Global, sources: &Sources<'_>) -> Result<Domain, Memory>
-    ensures { IfOk result (λ made. made ≡ in_order (texts_among (database_texts sources.now.database.now ++ sources.now.texts.items))) }
+    ensures { IfOk result (λ made. made ≡ in_order
+        (texts_among (database_texts sources.now.database.now ++ sources.now.texts.items))) }
 {
     let mut texts = sources.database.constants().copy(alloc)?.into_vec();
     add_all(alloc, &mut texts, &sources.texts)?;

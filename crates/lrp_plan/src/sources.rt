@@ -36,7 +36,8 @@ impl<'a> Drop for Sources<'a> {
 impl Sources<'_> {
     /// The facts of the relation of a name; no rows where there is none.
     pub(crate) fn facts(&self, name: &Name) -> Facts
-        ensures { (M : Structure) → AreSources M self.now → AreFacts (rows_of M.relations name.now) result }
+        ensures { (M : Structure) → AreSources M self.now
+            → AreFacts (rows_of M.relations name.now) result }
     {
         match self.facts.get(name) {
             Some(facts) => *facts,
@@ -46,7 +47,8 @@ impl Sources<'_> {
 
     /// The texts of a sort, each once, in order of bytes.
     pub(crate) fn texts(&self, alloc: Global, sort: &Sort) -> Result<List<DataText>, Memory>
-        ensures { IfOk result (λ made. (M : Structure) → AreSources M self.now → made ≡ M.domain sort.now) }
+        ensures { IfOk result (λ made. (M : Structure) → AreSources M self.now
+            → made ≡ M.domain sort.now) }
     {
         match self.domains.of(sort) {
             Some(texts) => list_of(alloc, texts),

@@ -34,7 +34,8 @@ pub(crate) fn split<'a>(
     of: &[Core<'_>],
     inner: &'a [VariableTree],
 ) -> Result<Split<'a>, Memory>
-    ensures { IfOk result (λ made. (M : Structure) → AreSources M sources.now → AreInner inner.now (conjunction (cores_of of.now)) → IsSplitOf M of.now made) }
+    ensures { IfOk result (λ made. (M : Structure) → AreSources M sources.now
+        → AreInner inner.now (conjunction (cores_of of.now)) → IsSplitOf M of.now made) }
 {
     let mut parts = Parts {
         positives: Vec::with_capacity(alloc, of.len())?,
@@ -66,7 +67,9 @@ fn sort_out_at<'a>(
     core: &Core<'_>,
     inner: &'a [VariableTree],
 ) -> Result<(), Memory>
-    ensures { OnOk result ((M : Structure) (tree : TreeOf) → AreSources M sources.now → slice_get inner.now index ≡ Some tree → SortsOut M index core.now tree parts.old parts.new) }
+    ensures { OnOk result ((M : Structure) (tree : TreeOf) → AreSources M sources.now
+        → slice_get inner.now index ≡ Some tree
+        → SortsOut M index core.now tree parts.old parts.new) }
 {
     if index < inner.len() {
         sort_out(alloc, sources, parts, index, core, &inner[index])?;
@@ -83,7 +86,8 @@ fn sort_out<'a>(
     core: &Core<'_>,
     tree: &'a VariableTree,
 ) -> Result<(), Memory>
-    ensures { OnOk result ((M : Structure) → AreSources M sources.now → SortsOut M index core.now tree.now parts.old parts.new) }
+    ensures { OnOk result ((M : Structure) → AreSources M sources.now
+        → SortsOut M index core.now tree.now parts.old parts.new) }
 {
     match core {
         Core::Not { .. } => add_negation(parts, index, tree),

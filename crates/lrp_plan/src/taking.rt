@@ -43,7 +43,8 @@ impl Taking {
         draft: &mut Draft,
         variables: &[Variable],
     ) -> Result<(), Memory>
-        ensures { OnOk result (TakesIn (map variable_of variables.now) self.old self.new draft.old draft.new) }
+        ensures { OnOk result (TakesIn (map variable_of variables.now) self.old self.new draft.old
+            draft.new) }
     {
         let known = add_further(alloc, &mut self.variables, variables)?;
         let settled = self.settled && known;
@@ -90,7 +91,8 @@ impl Taking {
         draft: &mut Draft,
         variables: &[Variable],
     ) -> Result<(), Memory>
-        ensures { OnOk result (TakesOff (map variable_of variables.now) self.old self.new draft.old draft.new) }
+        ensures { OnOk result (TakesOff (map variable_of variables.now) self.old self.new draft.old
+            draft.new) }
     {
         let covered = add_further(alloc, &mut self.variables, variables)?;
         subtract(alloc, draft, self.result, covered)?;
@@ -102,8 +104,10 @@ impl Taking {
 
 // All of the variables, each behind the others where it is none of them yet; and whether all of them were there before.
 fn add_further(alloc: Global, all: &mut List<Variable>, more: &[Variable]) -> Result<bool, Memory>
-    ensures known { IfOk result (λ known. known ≡ are_members (map variable_of more.now) (map variable_of all.old)) }
-    ensures all { OnOk result (map variable_of all.new ≡ with_variables (map variable_of all.old) (map variable_of more.now)) }
+    ensures known { IfOk result (λ known. known
+        ≡ are_members (map variable_of more.now) (map variable_of all.old)) }
+    ensures all { OnOk result (map variable_of all.new
+        ≡ with_variables (map variable_of all.old) (map variable_of more.now)) }
 {
     let before = all.len();
     add_variables(alloc, all, more)?;
@@ -116,7 +120,8 @@ pub(crate) fn take_tests(
     draft: &mut Draft,
     taking: &mut Taking,
 ) -> Result<(), Memory>
-    ensures { OnOk result (TakesTests (length taking.old.tests) draft.old draft.new taking.old taking.new) }
+    ensures { OnOk result (TakesTests (length taking.old.tests) draft.old draft.new taking.old
+        taking.new) }
 {
     for _turn in 0..taking.tests.len() {
         take_next(alloc, draft, taking)?;
@@ -173,7 +178,8 @@ fn subtract(
 
 // One `select` for each test, in order.
 fn select_each(draft: &mut Draft, tests: List<Test>) -> Result<(), Memory>
-    ensures { OnOk result ((M : Structure) (K : ℕ) → AreTests tests → Extends M K (selected_each tests) draft.old draft.new) }
+    ensures { OnOk result ((M : Structure) (K : ℕ) → AreTests tests
+        → Extends M K (selected_each tests) draft.old draft.new) }
 {
     for test in tests.into_vec() {
         draft.select(test)?;
@@ -188,7 +194,8 @@ fn split_tests(
     tests: List<Test>,
     variables: &[Variable],
 ) -> Result<(List<Test>, List<Test>), Memory>
-    ensures { IfOk result (λ made. Splits settled (map variable_of variables.now) tests made.0 made.1) }
+    ensures { IfOk result (λ made. Splits settled
+        (map variable_of variables.now) tests made.0 made.1) }
 {
     if settled {
         return Ok((List::new(alloc), tests));
@@ -202,8 +209,10 @@ fn split_covered(
     tests: List<Test>,
     variables: &[Variable],
 ) -> Result<(List<Test>, List<Test>), Memory>
-    ensures covered { IfOk result (λ made. made.0 ≡ filter (covered_by (map variable_of variables.now)) tests) }
-    ensures others { IfOk result (λ made. made.1 ≡ filter (λ t. not (covered_by (map variable_of variables.now) t)) tests) }
+    ensures covered { IfOk result (λ made. made.0
+        ≡ filter (covered_by (map variable_of variables.now)) tests) }
+    ensures others { IfOk result (λ made. made.1
+        ≡ filter (λ t. not (covered_by (map variable_of variables.now) t)) tests) }
 {
     let mut covered = List::new(alloc);
     let mut others = List::new(alloc);

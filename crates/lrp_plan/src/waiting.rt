@@ -78,7 +78,8 @@ impl<'a> Waiting<'a> {
         turn: Turn,
         variables: &List<Variable>,
     ) -> Result<Option<Element<'a>>, Memory>
-        ensures { IfOk result (λ taken. TakesAt (first_or_0 (goes_first turn variables.now) self.old) self.old self.new taken) }
+        ensures { IfOk result (λ taken. TakesAt
+            (first_or_0 (goes_first turn variables.now) self.old) self.old self.new taken) }
     {
         if self.passed.is_empty() && is_first_next(&self.rest, turn, variables.as_slice()) {
             return Ok(self.rest.pop_front());
@@ -105,7 +106,8 @@ fn is_first_next(elements: &VecDeque<Element<'_>>, turn: Turn, variables: &[Vari
 
 // Whether no element at all goes before the others.
 fn none_goes(turn: Turn, variables: &[Variable]) -> bool
-    ensures { result ≡ true → (element : ElementOf) → goes_first turn variables.now element ≡ false }
+    ensures { result ≡ true → (element : ElementOf)
+        → goes_first turn variables.now element ≡ false }
 {
     match turn {
         Turn::Meeting => variables.is_empty(),
@@ -142,8 +144,11 @@ fn take_first<'a>(
     turn: Turn,
     variables: &[Variable],
 ) -> Result<Option<Element<'a>>, Memory>
-    ensures behind { FallBehind turn variables.now passed.old.items → FallBehind turn variables.now passed.new.items }
-    ensures taken { IfOk result (λ taken. FallBehind turn variables.now passed.old.items → TakesAt (first_or_0 (goes_first turn variables.now) (passed.old.items ++ rest.old.items)) (passed.old.items ++ rest.old.items) (passed.new.items ++ rest.new.items) taken) }
+    ensures behind { FallBehind turn variables.now passed.old.items
+        → FallBehind turn variables.now passed.new.items }
+    ensures taken { IfOk result (λ taken. FallBehind turn variables.now passed.old.items
+        → TakesAt (first_or_0 (goes_first turn variables.now) (passed.old.items ++ rest.old.items))
+        (passed.old.items ++ rest.old.items) (passed.new.items ++ rest.new.items) taken) }
 {
     while let Some(element) = rest.pop_front() {
         if goes_before(&element, turn, variables) {

@@ -19,7 +19,9 @@ pub(crate) fn with_core(
     core: &Core<'_>,
     period: Option<Period>,
 ) -> Option<Period>
-    ensures { (M : Structure) → AreSources M sources.now → KeepsPeriod (periods (core_of core.now) M.relations) (option_map (λ p. p.number) period) (option_map (λ p. p.number) result) }
+    ensures { (M : Structure) → AreSources M sources.now
+        → KeepsPeriod (periods (core_of core.now) M.relations) (option_map (λ p. p.number) period)
+        (option_map (λ p. p.number) result) }
 {
     match core {
         Core::Atom { relation, .. } => with_facts(period, sources.facts(relation)),
@@ -34,7 +36,9 @@ pub(crate) fn with_core(
 
 #[cycle(periods)]
 fn with_each(sources: &Sources<'_>, of: &[Core<'_>], period: Option<Period>) -> Option<Period>
-    ensures { (M : Structure) → AreSources M sources.now → KeepsPeriod (periods (conjunction (cores_of of.now)) M.relations) (option_map (λ p. p.number) period) (option_map (λ p. p.number) result) }
+    ensures { (M : Structure) → AreSources M sources.now
+        → KeepsPeriod (periods (conjunction (cores_of of.now)) M.relations)
+        (option_map (λ p. p.number) period) (option_map (λ p. p.number) result) }
 {
     let mut all = period;
     for core in of {
@@ -45,7 +49,8 @@ fn with_each(sources: &Sources<'_>, of: &[Core<'_>], period: Option<Period>) -> 
 
 // The period with those of a relation's rows.
 fn with_facts(period: Option<Period>, facts: Facts) -> Option<Period>
-    ensures { KeepsFacts facts (option_map (λ p. p.number) period) (option_map (λ p. p.number) result) }
+    ensures { KeepsFacts facts (option_map (λ p. p.number) period)
+        (option_map (λ p. p.number) result) }
 {
     match period {
         Some(period) => with_rows(period, facts.period),
@@ -54,7 +59,8 @@ fn with_facts(period: Option<Period>, facts: Facts) -> Option<Period>
 }
 
 fn with_rows(period: Period, rows: Option<Period>) -> Option<Period>
-    ensures { KeepsRows (option_map (λ p. p.number) rows) period.number (option_map (λ p. p.number) result) }
+    ensures { KeepsRows (option_map (λ p. p.number) rows) period.number
+        (option_map (λ p. p.number) result) }
 {
     match rows {
         Some(rows) => period.with(rows.number),
@@ -64,7 +70,8 @@ fn with_rows(period: Period, rows: Option<Period>) -> Option<Period>
 
 // The period with that of a test.
 fn with_test(period: Option<Period>, test: &TermTest<'_>) -> Option<Period>
-    ensures { KeepsPeriod (test_periods (test_of test.now)) (option_map (λ p. p.number) period) (option_map (λ p. p.number) result) }
+    ensures { KeepsPeriod (test_periods (test_of test.now)) (option_map (λ p. p.number) period)
+        (option_map (λ p. p.number) result) }
 {
     match test {
         TermTest::Member { point, .. } => with_point(period, point),

@@ -8,7 +8,7 @@ use Rattle.lrp_model.specs.Satisfaction.{Structure, Assignment, Satisfies, with_
 use Rattle.lrp_model.specs.Domains.{domain, constants, all_texts, same_sort}
 use Rattle.lrp_model.specs.Core.{conjuncts, disjuncts, all_conjuncts, all_disjuncts, and_list, or_list, and_two, positive_test, negative_test, with_sort, positive, negative, positives, negatives, column_elements, head_elements, core_form, has_named_sort, is_named, HasElements}
 use Rattle.lrp_model.specs.Steps.{PlanStep, Steps, step_at, formula_at, step_behind}
-use Rattle.lrp_model.specs.Plans.{plan, core_steps, IsPlain}
+use Rattle.lrp_model.specs.Plans.{plan, core_steps, HasNoNamedSorts}
 use Rattle.lrp_model.specs.declared.relations.Sort.{Sort}
 use Rattle.lrp_model.specs.declared.relations.Sort.TheVariants.{Time, Data, Named}
 use Rattle.lrp_model.specs.declared.relations.Column.{Column}
@@ -65,11 +65,11 @@ by_element db q v s f a says = record {
 }
 
 -- or since all constants are of sort `data`
-by_one_sort : (db : List Relation) (q : Question) (v : Identifier) (a : Form) → IsPlain db q → IsGuarded (constants db q) (structure db q) v Data a
+by_one_sort : (db : List Relation) (q : Question) (v : Identifier) (a : Form) → HasNoNamedSorts db q → IsGuarded (constants db q) (structure db q) v Data a
 by_one_sort db q v a plain = record { known = λ t c. domain_known db q Data t c; guards = λ env t c h. subst (λ ts. Contains ts t) (sym (one_domain db q plain)) c }
 
 -- the one where sorts are named, and the other where none is
-by_named : (db : List Relation) (q : Question) (named : Bool) (v : Identifier) (s : Sort) (f a : Form) → (named ≡ false → IsPlain db q) → (named ≡ false → is_named s ≡ false)
+by_named : (db : List Relation) (q : Question) (named : Bool) (v : Identifier) (s : Sort) (f a : Form) → (named ≡ false → HasNoNamedSorts db q) → (named ≡ false → is_named s ≡ false)
     → ((env : Assignment) → Satisfies a (structure db q) env ↔ Satisfies (with_sort named s v f) (structure db q) env) → Guard db q v s a
 by_named db q named v Time f a plain none says = λ d. absurd d
 by_named db q true v Data f a plain none says = λ d. by_element db q v Data f a says
@@ -133,7 +133,7 @@ module _ (M : Structure) (guard : Identifier → Sort → Form → Type 0) where
   guards_with_sort false (Named name) v f a = a
   guards_with_sort true (Named name) v f a = guards_and (form (sorted (Named name) v) (form f no_forms)) (tt, (a, tt))
 
-module _ (db : List Relation) (q : Question) (named : Bool) (plain : named ≡ false → IsPlain db q) where
+module _ (db : List Relation) (q : Question) (named : Bool) (plain : named ≡ false → HasNoNamedSorts db q) where
   -- a quantifier of a core form
   guarded_quantifier : (s : Sort) (v : Identifier) (f : Form) → (named ≡ false → is_named s ≡ false) → EachGuard (structure db q) (Guard db q) f → EachGuard (structure db q) (Guard db q) (exists v s (with_sort named s v f))
   guarded_quantifier s v f none h = ((λ a says. by_named db q named v s f a plain none says), guards_with_sort (structure db q) (Guard db q) named s v f h)
@@ -185,7 +185,7 @@ guards_head M guard [] = tt
 guards_head M guard (c ∷ cs) = guards_joined M guard (column_elements c.sort c.name) (head_elements cs) (guards_column M guard c.sort c.name) (guards_head M guard cs)
 
 -- each quantifier of the core form of a query is guarded
-guards_core : (db : List Relation) (q : Question) (named : Bool) → (named ≡ false → IsPlain db q) → (named ≡ false → BindsPlainly q.body) → EachGuard (structure db q) (Guard db q) (core_form named q)
+guards_core : (db : List Relation) (q : Question) (named : Bool) → (named ≡ false → HasNoNamedSorts db q) → (named ≡ false → BindsPlainly q.body) → EachGuard (structure db q) (Guard db q) (core_form named q)
 guards_core db q false plain b = guards_positive db q false plain q.body b
 guards_core db q true plain b =
     guards_and (structure db q) (Guard db q) (joined (head_elements q.head) (form (positive q.body true) no_forms))
@@ -198,7 +198,7 @@ not_head : (M : Structure) (f : Form) (steps : Steps) (step : PlanStep) (of : �
 not_head M f steps step of v e k = let x : Extend (length steps) ≡ DropData of v = ap (λ x. x.kind) e ∙ k in cc
 
 -- each drop of a data variable is guarded
-pub drops_guarded : (db : List Relation) (q : Question) → HasElements q.body → (has_named_sort db ≡ false → IsPlain db q × BindsPlainly q.body)
+pub drops_guarded : (db : List Relation) (q : Question) → HasElements q.body → (has_named_sort db ≡ false → HasNoNamedSorts db q × BindsPlainly q.body)
     → (s : ℕ) (step : PlanStep) → step_at (plan db q) s ≡ Some step → (of : ℕ) (v : Identifier) (t : Sort) → step.kind ≡ DropData of v → IsDataSort t → step.formula ≡ exists v t (formula_at (plan db q) of)
     → IsGuarded (constants db q) (structure db q) v t (formula_at (plan db q) of)
 drops_guarded db q some plain s step e of v t kind data_sort formula =

@@ -5,11 +5,11 @@ use Rattle.std.specs.Cmp.Lexicographic.{bytes_decides}
 use Rattle.lrp_model.specs.Texts.{Text, Identifier, in_order}
 use Rattle.lrp_model.specs.Rows.{Datum, time, text, texts_of}
 use Rattle.lrp_model.specs.Formulas.{Question, no_forms, form, joined}
-use Rattle.lrp_model.specs.Satisfaction.{Structure, Assignment, Satisfies, SatisfiesAll, IsOfSort, IsOfKind, HasShape, HaveNames, with_value, assign, assignment, structure, IsAnswer}
+use Rattle.lrp_model.specs.Satisfaction.{Structure, Assignment, Satisfies, SatisfiesAll, IsOfSort, IsOfKind, HasShape, HaveDistinctNames, with_value, assign, assignment, structure, IsAnswer}
 use Rattle.lrp_model.specs.Core.{column_elements, head_elements, guarded, has_named_sort, is_named}
 use Rattle.lrp_model.specs.Domains.{same_sort, domain, constants, all_texts}
 use Rattle.lrp_model.specs.Steps.{formula_at}
-use Rattle.lrp_model.specs.Plans.{plan, core_steps, IsPlain}
+use Rattle.lrp_model.specs.Plans.{plan, core_steps, HasNoNamedSorts}
 use Rattle.lrp_plan_laws.proofs.Elements.{formula_made}
 use Rattle.lrp_model.specs.declared.relations.Sort.{Sort}
 use Rattle.lrp_model.specs.declared.relations.Sort.TheVariants.{Time, Data, Named}
@@ -48,7 +48,7 @@ one_element M Data v (text t) env k h = ((λ x. subst (λ u. Contains (M.domain 
 one_element M (Named name) v (time x) env k h = absurd k
 one_element M (Named name) v (text t) env k h = ((λ x. subst (λ u. Contains (M.domain (Named name)) u) (h t refl) x.0), λ c. (subst (λ u. Contains (M.domain (Named name)) u) (sym (h t refl)) c, tt))
 
-elements_are : (M : Structure) (cs : List Column) (ds : List Datum) (env : Assignment) → HaveNames cs → HasShape cs ds → SatisfiesAll (head_elements cs) M (assign cs ds env) ↔ AllZip (λ c d. IsOfSort M c.sort d) cs ds
+elements_are : (M : Structure) (cs : List Column) (ds : List Datum) (env : Assignment) → HaveDistinctNames cs → HasShape cs ds → SatisfiesAll (head_elements cs) M (assign cs ds env) ↔ AllZip (λ c d. IsOfSort M c.sort d) cs ds
 elements_are M [] [] env n k = same
 elements_are M [] (d ∷ ds) env n k = absurd k
 elements_are M (c ∷ cs) [] env n k = absurd k
@@ -60,7 +60,7 @@ elements_are M (c ∷ cs) (d ∷ ds) env n k =
     let r : SatisfiesAll (head_elements cs) M last ↔ AllZip (λ c d. IsOfSort M c.sort d) cs ds = elements_are M cs ds (with_value c.name d env) n.1 k.1 in
     ((λ h. let x = j.0 h in (o.0 x.0, r.0 x.1)), λ h. j.1 (o.1 h.0, r.1 h.1))
 
-pub head_named : (db : List Relation) (q : Question) (tuple : List Datum) → HaveNames q.head → HasShape q.head tuple → Satisfies (guarded true q.head q.body) (structure db q) (assignment q.head tuple) ↔ IsAnswer db q tuple
+pub head_named : (db : List Relation) (q : Question) (tuple : List Datum) → HaveDistinctNames q.head → HasShape q.head tuple → Satisfies (guarded true q.head q.body) (structure db q) (assignment q.head tuple) ↔ IsAnswer db q tuple
 head_named db q tuple n k =
     let M : Structure = structure db q in
     let env : Assignment = assignment q.head tuple in
@@ -78,10 +78,10 @@ all_pass : (es : List (Sort × Text)) → AllByRecursion (λ e. e.0 ≡ Data) es
 all_pass [] h = refl
 all_pass (e ∷ es) h = ap (λ s. cond (same_sort s Data) (e ∷ filter (λ e. same_sort e.0 Data) es) (filter (λ e. same_sort e.0 Data) es)) h.0 ∙ ap (λ r. e ∷ r) (all_pass es h.1)
 
-pub one_domain : (db : List Relation) (q : Question) → IsPlain db q → domain db q Data ≡ constants db q
+pub one_domain : (db : List Relation) (q : Question) → HasNoNamedSorts db q → domain db q Data ≡ constants db q
 one_domain db q plain = ap (λ es. in_order (map (λ entry. entry.1) es)) (all_pass (all_texts db q) plain.texts)
 
-fits_plain : (db : List Relation) (q : Question) → IsPlain db q → (cs : List Column) (ds : List Datum) → AllByRecursion (λ c. is_named c.sort ≡ false) cs → HasShape cs ds → AllByRecursion (Contains (constants db q)) (texts_of ds) → AllZip (λ c d. IsOfSort (structure db q) c.sort d) cs ds
+fits_plain : (db : List Relation) (q : Question) → HasNoNamedSorts db q → (cs : List Column) (ds : List Datum) → AllByRecursion (λ c. is_named c.sort ≡ false) cs → HasShape cs ds → AllByRecursion (Contains (constants db q)) (texts_of ds) → AllZip (λ c d. IsOfSort (structure db q) c.sort d) cs ds
 fits_plain db q plain [] [] n k h = tt
 fits_plain db q plain [] (d ∷ ds) n k h = absurd k
 fits_plain db q plain (c ∷ cs) [] n k h = absurd k
@@ -98,13 +98,13 @@ fits_plain db q plain (c ∷ cs) (text t ∷ ds) n k h = (of_text c.sort t n.0 k
     of_text Data t n k c = subst (λ texts. Contains texts t) (sym (one_domain db q plain)) c
     of_text (Named name) t n k c = cc
 
-by_named : (named : Bool) (db : List Relation) (q : Question) (tuple : List Datum) → (named ≡ false → IsPlain db q) → HaveNames q.head → HasShape q.head tuple → AllByRecursion (Contains (constants db q)) (texts_of tuple)
+by_named : (named : Bool) (db : List Relation) (q : Question) (tuple : List Datum) → (named ≡ false → HasNoNamedSorts db q) → HaveDistinctNames q.head → HasShape q.head tuple → AllByRecursion (Contains (constants db q)) (texts_of tuple)
     → Satisfies (guarded named q.head q.body) (structure db q) (assignment q.head tuple) ↔ IsAnswer db q tuple
 by_named true db q tuple plain n k h = head_named db q tuple n k
 by_named false db q tuple plain n k h = head_plain db q tuple (fits_plain db q (plain refl) q.head tuple (plain refl).head k h)
 
 -- the formula of the last step holds for exactly the answers, among the tuples of the head's shape whose texts are constants
-pub last_is : (db : List Relation) (q : Question) (tuple : List Datum) → (has_named_sort db ≡ false → IsPlain db q) → HaveNames q.head → HasShape q.head tuple → AllByRecursion (Contains (constants db q)) (texts_of tuple)
+pub last_is : (db : List Relation) (q : Question) (tuple : List Datum) → (has_named_sort db ≡ false → HasNoNamedSorts db q) → HaveDistinctNames q.head → HasShape q.head tuple → AllByRecursion (Contains (constants db q)) (texts_of tuple)
     → Satisfies (formula_at (plan db q) (length (plan db q))) (structure db q) (assignment q.head tuple) ↔ IsAnswer db q tuple
 last_is db q tuple plain n k h =
     subst (λ f. Satisfies f (structure db q) (assignment q.head tuple) ↔ IsAnswer db q tuple) (sym (formula_made (structure db q) _ (guarded (has_named_sort db) q.head q.body) (core_steps db q)))

@@ -22,7 +22,7 @@ use Rattle.lrp_model.specs.declared.plans.StepKind.TheVariants.{Scan, Leaf, Sort
 use Rattle.lrp_model.proofs.Logic.{all_append}
 use Rattle.lrp_plan_laws.specs.Made.{HeadStep, IsEarlier, operands, IsFormula, IsMade, head_step}
 use Rattle.lrp_plan_laws.specs.Scopes.{EachScope, EachOfScope}
-use Rattle.lrp_plan_laws.specs.Rising.{period_at, HasPeriods, named_periods, test_period, KeepsPeriod, IsRising}
+use Rattle.lrp_plan_laws.specs.Rising.{period_at, HasPeriods, named_periods, natural_test_period, KeepsPeriod, IsRising}
 use Rattle.lrp_plan_laws.proofs.Elements.{found, within, formula_front, step_made, reach_made, period_made}
 use Rattle.lrp_plan_laws.proofs.Names.{Names, names_self}
 use Rattle.lrp_plan_laws.proofs.Marks.{Mark, marks, marked_periods}
@@ -235,7 +235,7 @@ own_periods M head at (DropData of v) f h = tt
 own_periods M head at (Extend of) f h = tt
 
 -- the period of a test, and the periods of a step that meets no second one
-test_alone : (db : List Relation) (t : Test) → AllByRecursion (λ k. 1 ≤ k) (periods (test t) db) → period db (test t) ≡ test_period t
+test_alone : (db : List Relation) (t : Test) → AllByRecursion (λ k. 1 ≤ k) (periods (test t) db) → period db (test t) ≡ natural_test_period t
 test_alone db (Compare left op right) h = refl
 test_alone db (Member term point) h = lcm_one (nat_abs point.period) h.0
 test_alone db (Equal left right) h = refl

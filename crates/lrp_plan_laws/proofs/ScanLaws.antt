@@ -20,7 +20,7 @@ use Rattle.lrp_model.specs.declared.plans.StepKind.TheVariants.{Scan}
 use Rattle.lrp_model.proofs.Decided.{cons_cases, contains_first, contains_later, contains_none}
 use Rattle.lrp_model.proofs.DomainLaws.{contains_in_order}
 use Rattle.lrp_plan_laws.specs.Made.{IsFormula, IsMade, head_step}
-use Rattle.lrp_plan_laws.specs.Atoms.{Atom, atoms, atoms_each, FitsRelation, texts_among, IsKnownScan}
+use Rattle.lrp_plan_laws.specs.Atoms.{Atom, atoms, atoms_each, FitsAtom, texts_among, IsKnownScan}
 use Rattle.lrp_plan_laws.proofs.Members.{all_of, all_by, all_self, all_map, in_left, in_right, in_one}
 use Rattle.lrp_plan_laws.proofs.Marks.{marks, marked_atom}
 use Rattle.lrp_plan_laws.proofs.RisingLaws.{plan_made, step_marks}
@@ -95,14 +95,14 @@ atom_known db q a (Some r) f h = among_known (constants db q) r.columns a.terms 
 -- ---- a scan
 
 -- each scan is of an atom of the body, with constants among its terms
-pub scan_known : (db : List Relation) (q : Question) → HasElements q.body → AllByRecursion (FitsRelation db) (atoms q.body) → (s : ℕ) (step : PlanStep) → step_at (plan db q) s ≡ Some step
+pub scan_known : (db : List Relation) (q : Question) → HasElements q.body → AllByRecursion (FitsAtom db) (atoms q.body) → (s : ℕ) (step : PlanStep) → step_at (plan db q) s ≡ Some step
     → (name : Identifier) (terms : List Term) → step.kind ≡ Scan name terms → IsKnownScan db q (record { name = name; terms = terms })
 scan_known db q some fit s step e name terms kind =
     let a : Atom = record { name = name; terms = terms } in
     let m : IsMade (structure db q) (head_step db q) (plan db q) s step = plan_made db q some s step e in
     let f : step.formula ≡ atom name terms = subst (λ k. IsFormula (structure db q) (head_step db q) (formula_at (plan db q)) k step.formula) kind m.formula in
     let c : Contains (atoms q.body) a = marked_atom name terms q.body db (subst (λ g. AllByRecursion (Contains (marks q.body db)) (marks g db)) f (step_marks db q some s step e)) in
-    let r : FitsRelation db a = all_of (FitsRelation db) (atoms q.body) a fit c in
+    let r : FitsAtom db a = all_of (FitsAtom db) (atoms q.body) a fit c in
     record {
       within = c;
       fits = r;

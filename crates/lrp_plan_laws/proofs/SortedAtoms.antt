@@ -21,7 +21,7 @@ use Rattle.lrp_model.specs.declared.raw.RawTerm.{RawTerm}
 use Rattle.lrp_model.specs.declared.raw.RawTermKind.{RawTermKind}
 use Rattle.lrp_model.specs.declared.raw.RawTermKind.TheVariants.{Int, Text, Var, Shifted}
 use Rattle.lrp_model.proofs.Logic.{all_append}
-use Rattle.lrp_plan_laws.specs.Atoms.{atoms, atoms_each, FitsRelation}
+use Rattle.lrp_plan_laws.specs.Atoms.{atoms, atoms_each, FitsAtom}
 use Rattle.lrp_plan_laws.proofs.SortedNames.{both_none, none_if, not_false, not_wide, not_wide_inside, same_kind, no_time}
 use Rattle.lrp_plan_laws.proofs.SortedScopes.{parts_sorted}
 
@@ -70,7 +70,7 @@ atom_fits bs p ts (Some r) f e =
 
 mutual
   -- each atom of a formula without a fault fits
-  atoms_fit : (f : RawForm) (db : List Relation) (bs : Binders) → form_faults f db bs ≡ [] → AllByRecursion (FitsRelation db) (atoms (plain f bs))
+  atoms_fit : (f : RawForm) (db : List Relation) (bs : Binders) → form_faults f db bs ≡ [] → AllByRecursion (FitsAtom db) (atoms (plain f bs))
   atoms_fit (raw_atom p name ts) db bs e =
       let x = both_none (flat_map (term_faults bs) ts) (atom_faults bs p ts (relation_named db name)) e in
       (atom_fits bs p ts (relation_named db name) x.0 x.1, tt)
@@ -81,18 +81,18 @@ mutual
   atoms_fit (raw_or p fs) db bs e = all_fit fs db bs e
   atoms_fit (raw_implies p f g) db bs e =
       let x = both_none (widened bs [] f (form_faults f db bs)) (widened bs [] g (form_faults g db bs)) e in
-      (all_append (FitsRelation db) (atoms (plain f bs)) (atoms (plain g bs))).1 (atoms_fit f db bs (not_wide bs [] f (form_faults f db bs) x.0).1, atoms_fit g db bs (not_wide bs [] g (form_faults g db bs) x.1).1)
+      (all_append (FitsAtom db) (atoms (plain f bs)) (atoms (plain g bs))).1 (atoms_fit f db bs (not_wide bs [] f (form_faults f db bs) x.0).1, atoms_fit g db bs (not_wide bs [] g (form_faults g db bs) x.1).1)
   atoms_fit (raw_group p f) db bs e = atoms_fit f db bs (not_wide bs [] f (form_faults f db bs) e).1
   atoms_fit (raw_exists p c f) db bs e = atoms_fit f db (c ∷ bs) (not_wide_inside db bs c f (form_faults f db (c ∷ bs)) e).1
   atoms_fit (raw_forall p c f) db bs e = atoms_fit f db (c ∷ bs) (not_wide_inside db bs c f (form_faults f db (c ∷ bs)) e).1
 
   -- and each of a list
-  all_fit : (fs : RawForms) (db : List Relation) (bs : Binders) → forms_faults fs db bs ≡ [] → AllByRecursion (FitsRelation db) (atoms_each (plain_each fs bs))
+  all_fit : (fs : RawForms) (db : List Relation) (bs : Binders) → forms_faults fs db bs ≡ [] → AllByRecursion (FitsAtom db) (atoms_each (plain_each fs bs))
   all_fit no_raws db bs e = tt
   all_fit (raw f fs) db bs e =
       let x = both_none (widened bs [] f (form_faults f db bs)) (forms_faults fs db bs) e in
-      (all_append (FitsRelation db) (atoms (plain f bs)) (atoms_each (plain_each fs bs))).1 (atoms_fit f db bs (not_wide bs [] f (form_faults f db bs) x.0).1, all_fit fs db bs x.1)
+      (all_append (FitsAtom db) (atoms (plain f bs)) (atoms_each (plain_each fs bs))).1 (atoms_fit f db bs (not_wide bs [] f (form_faults f db bs) x.0).1, all_fit fs db bs x.1)
 
 -- each atom of a well-sorted query fits the database
-pub query_atoms : (db : List Relation) (q : RawQuestion) → IsWellSorted db q → AllByRecursion (FitsRelation db) (atoms (plain_question q).body)
+pub query_atoms : (db : List Relation) (q : RawQuestion) → IsWellSorted db q → AllByRecursion (FitsAtom db) (atoms (plain_question q).body)
 query_atoms db q sorted = atoms_fit q.body db (reverse q.head) (not_wide (reverse q.head) [] q.body (form_faults q.body db (reverse q.head)) (parts_sorted db q sorted).1.1).1

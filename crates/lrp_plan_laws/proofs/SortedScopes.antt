@@ -9,7 +9,7 @@ use Rattle.lrp_model.specs.Texts.{Identifier}
 use Rattle.lrp_model.specs.Sorts.{is_time}
 use Rattle.lrp_model.specs.Faults.{fault_if, is_named_in, ninth}
 use Rattle.lrp_model.specs.Variables.{Variable, time_variable, data_variable, bound_by, free, head_variables}
-use Rattle.lrp_model.specs.Satisfaction.{HaveNames}
+use Rattle.lrp_model.specs.Satisfaction.{HaveDistinctNames}
 use Rattle.lrp_model.specs.RawQueries.{RawForm, RawForms, RawQuestion, raw_atom, raw_compare, raw_member, raw_not, raw_and, raw_or, raw_implies, raw_group, raw_exists, raw_forall, no_raws, raw}
 use Rattle.lrp_model.specs.Sorting.{Binders, binder_sort, binder_faults, sort_faults, head_faults, free_names, widened, form_faults, forms_faults, query_fault, IsWellSorted}
 use Rattle.lrp_model.specs.DatabaseMeaning.{column_of}
@@ -127,7 +127,7 @@ module _ (db : List Relation) where
       (all_of (λ m. m ≢ d.name) (names_in bs) n x.0 c, apart_from n (d ∷ bs) ds x.1.1 (contains_later d.name n (names_in bs) c))
 
   -- a head's names differ
-  pub names_differ : (bs : Binders) (cs : List RawColumn) → head_faults db bs cs ≡ [] → HaveNames (map column_of cs)
+  pub names_differ : (bs : Binders) (cs : List RawColumn) → head_faults db bs cs ≡ [] → HaveDistinctNames (map column_of cs)
   names_differ bs [] e = tt
   names_differ bs (c ∷ cs) e = let x = head_first bs c cs e in (apart_from c.name (c ∷ bs) cs x.1.1 (contains_first c.name (names_in bs)), names_differ (c ∷ bs) cs x.1.1)
 
@@ -270,7 +270,7 @@ module _ (db : List Relation) (q : RawQuestion) (sorted : IsWellSorted db q) whe
       (y.0, (y.1, x.1))
 
   -- the head's names differ
-  pub head_names : HaveNames (plain_question q).head
+  pub head_names : HaveDistinctNames (plain_question q).head
   head_names = names_differ db [] q.head parts_sorted.0
 
   -- the body's variables are bound by the head

@@ -8,7 +8,7 @@ use Rattle.lrp_model.specs.Sorts.{same_sort, is_time, is_data}
 use Rattle.lrp_model.specs.Faults.{fault_if}
 use Rattle.lrp_model.specs.Core.{is_named, has_named_sort}
 use Rattle.lrp_model.specs.Domains.{row_texts, database_texts, term_texts, sort_beside, text_beside, test_texts, form_texts, forms_texts}
-use Rattle.lrp_model.specs.Plans.{IsPlain}
+use Rattle.lrp_model.specs.Plans.{HasNoNamedSorts}
 use Rattle.lrp_model.specs.RawQueries.{RawForm, RawForms, RawQuestion, raw_atom, raw_compare, raw_member, raw_not, raw_and, raw_or, raw_implies, raw_group, raw_exists, raw_forall, no_raws, raw}
 use Rattle.lrp_model.specs.Sorting.{Binders, binder_sort, alone_sort, shifted_sort, kind_sort, term_sort, is_data_term, differs, term_faults, column_faults, atom_faults, has_sort, sort_faults, binder_faults, head_faults, widened, form_faults, forms_faults, IsWellSorted}
 use Rattle.lrp_model.specs.DatabaseMeaning.{column_of}
@@ -347,7 +347,7 @@ module _ (db : List Relation) (q : RawQuestion) (sorted : IsWellSorted db q) (te
   turned n = ap (λ l. binder_sort l n) (sym (append-nil (reverse q.head))) ∙ turned_pick db q.head [] n (parts_sorted db q sorted).0
 
   -- where no sort is named, all texts are of sort `data`, and no quantifier is over a named sort
-  pub plain_query : IsPlain db (plain_question q) × BindsPlainly (plain_question q).body
+  pub plain_query : HasNoNamedSorts db (plain_question q) × BindsPlainly (plain_question q).body
   plain_query =
       let head : AllByRecursion (λ c. is_named c.sort ≡ false) (map column_of q.head) = head_unnamed db [] q.head none (parts_sorted db q sorted).0 in
       let body : form_faults q.body db (reverse q.head) ≡ [] = (not_wide (reverse q.head) [] q.body (form_faults q.body db (reverse q.head)) (parts_sorted db q sorted).1.1).1 in

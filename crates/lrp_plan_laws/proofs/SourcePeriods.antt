@@ -10,14 +10,14 @@ use Rattle.lrp_model.proofs.Logic.{all_append}
 use Rattle.lrp_model.specs.declared.formulas.Test.{Test}
 use Rattle.lrp_model.specs.declared.formulas.Test.TheVariants.{Compare, Member, Equal}
 use Rattle.lrp_model.specs.TestPoints.{test_points, points, points_each}
-use Rattle.lrp_plan_laws.specs.Rising.{row_periods}
+use Rattle.lrp_plan_laws.specs.Rising.{database_periods}
 
 module _ (p : ℕ → Type 0) where
   -- of all rows, those of the relation that is found, or none
-  found_rows : (db : List Relation) (name : Identifier) → AllByRecursion p (row_periods db) → AllByRecursion p (flat_map (λ row. flat_map value_periods row.values) (rows_in (relation_named db name)))
+  found_rows : (db : List Relation) (name : Identifier) → AllByRecursion p (database_periods db) → AllByRecursion p (flat_map (λ row. flat_map value_periods row.values) (rows_in (relation_named db name)))
   found_rows [] name h = tt
   found_rows (r ∷ rs) name h =
-      let two = (all_append p (flat_map (λ row. flat_map value_periods row.values) r.rows) (row_periods rs)).0 h in
+      let two = (all_append p (flat_map (λ row. flat_map value_periods row.values) r.rows) (database_periods rs)).0 h in
       by_name (bytes_eq r.name name) two.0 (found_rows rs name two.1)
     where
       by_name : (b : Bool) → AllByRecursion p (flat_map (λ row. flat_map value_periods row.values) r.rows) → AllByRecursion p (flat_map (λ row. flat_map value_periods row.values) (rows_in (relation_named rs name)))
@@ -33,7 +33,7 @@ module _ (p : ℕ → Type 0) where
 
   mutual
     -- what holds of the periods of rows and of points holds of those that a formula names
-    pub named_from : (f : Form) (db : List Relation) → AllByRecursion p (row_periods db) → AllByRecursion (λ at. p (nat_abs at.period)) (points f) → AllByRecursion p (periods f db)
+    pub named_from : (f : Form) (db : List Relation) → AllByRecursion p (database_periods db) → AllByRecursion (λ at. p (nat_abs at.period)) (points f) → AllByRecursion p (periods f db)
     named_from (atom name terms) db rows ps = found_rows db name rows
     named_from (test t) db rows ps = of_test t ps
     named_from (sorted s v) db rows ps = tt
@@ -46,7 +46,7 @@ module _ (p : ℕ → Type 0) where
     named_from (forall v s f) db rows ps = named_from f db rows ps
 
     -- and of those that each of a list names
-    each_from : (fs : Forms) (db : List Relation) → AllByRecursion p (row_periods db) → AllByRecursion (λ at. p (nat_abs at.period)) (points_each fs) → AllByRecursion p (periods_each fs db)
+    each_from : (fs : Forms) (db : List Relation) → AllByRecursion p (database_periods db) → AllByRecursion (λ at. p (nat_abs at.period)) (points_each fs) → AllByRecursion p (periods_each fs db)
     each_from no_forms db rows ps = tt
     each_from (form f fs) db rows ps =
         let two = (all_append (λ at. p (nat_abs at.period)) (points f) (points_each fs)).0 ps in (all_append p (periods f db) (periods_each fs db)).1 (named_from f db rows two.0, each_from fs db rows two.1)

@@ -34,8 +34,8 @@ abbrev mutual
   atoms_each (form f fs) = atoms f ++ atoms_each fs
 
 -- the database has the relation, and the terms are one for each column and fit them
-abbrev pub FitsRelation : List Relation → Atom → Type 0
-FitsRelation db a = MatchOption (relation_named db a.name) ⊥ (λ r. AllZip FitsColumn r.columns a.terms)
+abbrev pub FitsAtom : List Relation → Atom → Type 0
+FitsAtom db a = MatchOption (relation_named db a.name) ⊥ (λ r. AllZip FitsColumn r.columns a.terms)
 
 -- the texts among terms
 abbrev pub texts_among : List Term → List Text
@@ -46,5 +46,5 @@ texts_among (t ∷ ts) = texts_among ts
 -- a scan is of an atom of the body, which fits the database, and the texts among its terms are constants
 pub record IsKnownScan (db : List Relation) (q : Question) (a : Atom) : Type 0 where
   pub within : Contains (atoms q.body) a
-  pub fits : FitsRelation db a
+  pub fits : FitsAtom db a
   pub texts : AllByRecursion (Contains (constants db q)) (texts_among a.terms)

@@ -26,14 +26,14 @@ named_periods db (Select of t) = test_periods t
 named_periods db kind = []
 
 -- the period of a test: that of its point, or 1
-abbrev pub test_period : Test → ℕ
-test_period (Compare left op right) = 1
-test_period (Member term point) = nat_abs point.period
-test_period (Equal left right) = 1
+abbrev pub natural_test_period : Test → ℕ
+natural_test_period (Compare left op right) = 1
+natural_test_period (Member term point) = nat_abs point.period
+natural_test_period (Equal left right) = 1
 
 -- a step that meets no second one has the period of what it reads; a test has its own, and texts have 1
 abbrev pub KeepsPeriod : (ℕ → ℕ) → ℕ → StepKind → Type 0
-KeepsPeriod at K (Leaf t) = K ≡ test_period t
+KeepsPeriod at K (Leaf t) = K ≡ natural_test_period t
 KeepsPeriod at K (SortStep v s texts) = K ≡ 1
 KeepsPeriod at K (Complement of) = K ≡ at of
 KeepsPeriod at K (DropTime of v) = K ≡ at of
@@ -46,8 +46,8 @@ abbrev pub HasPeriods : List Relation → Question → Type 0
 HasPeriods db q = AllByRecursion (λ k. 1 ≤ k) (periods q.body db)
 
 -- the periods in the rows of a database
-abbrev pub row_periods : List Relation → List ℕ
-row_periods relations = flat_map (λ relation. flat_map (λ row. flat_map value_periods row.values) relation.rows) relations
+abbrev pub database_periods : List Relation → List ℕ
+database_periods relations = flat_map (λ relation. flat_map (λ row. flat_map value_periods row.values) relation.rows) relations
 
 -- step s of a plan reads earlier steps, its reach is at least its period and their reaches, its period is a multiple of theirs and of those that it names, and neither is above the query's
 pub record IsRising (db : List Relation) (q : Question) (s : ℕ) (step : PlanStep) : Type 0 where

@@ -6,16 +6,16 @@ use Rattle.lrp_model.specs.Sorts.{is_data}
 use Rattle.lrp_model.specs.Rows.{Datum, texts_of}
 use Rattle.lrp_model.specs.Formulas.{Question, exists}
 use Rattle.lrp_model.specs.Variables.{free, head_variables}
-use Rattle.lrp_model.specs.Satisfaction.{Satisfies, IsAnswer, structure, assignment, HasShape, HaveNames}
+use Rattle.lrp_model.specs.Satisfaction.{Satisfies, IsAnswer, structure, assignment, HasShape, HaveDistinctNames}
 use Rattle.lrp_model.specs.Domains.{database_texts, domain, constants}
 use Rattle.lrp_model.specs.Core.{has_named_sort, HasElements}
 use Rattle.lrp_model.specs.Steps.{PlanStep, step_at, formula_at}
-use Rattle.lrp_model.specs.Plans.{core_steps, plan, IsPlain}
+use Rattle.lrp_model.specs.Plans.{core_steps, plan, HasNoNamedSorts}
 use Rattle.lrp_model.specs.declared.relations.Sort.{Sort}
 use Rattle.lrp_model.specs.declared.relations.Relation.{Relation}
 use Rattle.lrp_model.specs.declared.formulas.Term.{Term}
 use Rattle.lrp_model.specs.declared.plans.StepKind.TheVariants.{Scan, DropData}
-use Rattle.lrp_plan_laws.specs.Atoms.{atoms, FitsRelation, IsKnownScan}
+use Rattle.lrp_plan_laws.specs.Atoms.{atoms, FitsAtom, IsKnownScan}
 use Rattle.lrp_plan_laws.specs.Made.{AreAmong, IsDataSort, IsMade, head_step}
 use Rattle.lrp_plan_laws.specs.Rising.{HasPeriods, IsRising}
 use Rattle.lrp_plan_laws.specs.Scopes.{EachScope, IsNarrow, IsNarrowStep}
@@ -29,12 +29,12 @@ HasSortedTexts db = AllByRecursion (λ entry. is_data entry.0 ≡ true) (databas
 pub record IsSettled (db : List Relation) (q : Question) : Type 0 where
   pub elements : HasElements q.body
   pub periods : HasPeriods db q
-  pub names : HaveNames q.head
+  pub names : HaveDistinctNames q.head
   pub bound : AreAmong (free q.body) (head_variables q.head)
   pub whole : IsNarrow (head_variables q.head ++ free q.body)
   pub parts : EachScope IsNarrow q.body
-  pub atoms : AllByRecursion (FitsRelation db) (atoms q.body)
-  pub plain : has_named_sort db ≡ false → IsPlain db q × BindsPlainly q.body
+  pub atoms : AllByRecursion (FitsAtom db) (atoms q.body)
+  pub plain : has_named_sort db ≡ false → HasNoNamedSorts db q × BindsPlainly q.body
 
 -- a drop of a data variable is guarded
 abbrev pub IsGuardedDrop : List Relation → Question → PlanStep → Type 0

@@ -8,12 +8,12 @@ ghost use Rattle.lrp_model.specs.RawQueries.{RawQuestion};
 ghost use Rattle.lrp_model.specs.Sorting.{IsWellSorted};
 ghost use Rattle.lrp_model.specs.Checked.{plain_question};
 ghost use Rattle.lrp_model.specs.Domains.{constants};
-ghost use Rattle.lrp_model.specs.Satisfaction.{Structure, Assignment, Satisfies, IsAnswer, structure, assignment, HasShape, HaveNames};
+ghost use Rattle.lrp_model.specs.Satisfaction.{Structure, Assignment, Satisfies, IsAnswer, structure, assignment, HasShape, HaveDistinctNames};
 ghost use Rattle.lrp_model.specs.Core.{positive, negative, core_form, guarded, has_named_sort, HasElements};
 ghost use Rattle.lrp_model.specs.Periods.{IsLeastMultiple, lcm_all, period};
 ghost use Rattle.lrp_model.specs.Reach.{reach_of};
 ghost use Rattle.lrp_model.specs.Steps.{PlanStep, step_at, formula_at};
-ghost use Rattle.lrp_model.specs.Plans.{core_steps, plan, IsPlain};
+ghost use Rattle.lrp_model.specs.Plans.{core_steps, plan, HasNoNamedSorts};
 ghost use Rattle.lrp_model.specs.declared.relations.Relation.{Relation};
 ghost use Rattle.lrp_model.specs.declared.plans.StepKind.{StepKind};
 ghost use Rattle.lrp_model.specs.declared.plans.StepKind.TheVariants.{Extend};
@@ -21,62 +21,97 @@ ghost use Rattle.lrp_plan_laws.specs.Guards.{BindsPlainly};
 ghost use Rattle.lrp_plan_laws.specs.Made.{AreAmong, operands, IsMade, head_step};
 ghost use Rattle.lrp_model.specs.TestPoints.{points};
 ghost use Rattle.lrp_plan_laws.specs.Points.{step_points};
-ghost use Rattle.lrp_plan_laws.specs.Rising.{HasPeriods, IsRising, period_at, row_periods};
+ghost use Rattle.lrp_plan_laws.specs.Rising.{HasPeriods, IsRising, period_at, database_periods};
 ghost use Rattle.lrp_plan_laws.specs.Settled.{HasSortedTexts, IsGuardedDrop, IsSettled, IsSoundPlan};
 ghost use Rattle.lrp_plan_laws.specs.Scopes.{EachScope, IsNarrow, IsNarrowStep};
 
 /// The core form of a formula says what the formula says, and the core form of its negation denies it.
 pub fn core_form_is_sound()
-    ensures keeps { (f : Form) (named : Bool) (M : Structure) (env : Assignment) → Satisfies (positive f named) M env ↔ Satisfies f M env }
-    ensures denies { (f : Form) (named : Bool) (M : Structure) (env : Assignment) → Satisfies (negative f named) M env ↔ (Satisfies f M env → ⊥) }
-    ensures query { (named : Bool) (q : Question) (M : Structure) (env : Assignment) → Satisfies (core_form named q) M env ↔ Satisfies (guarded named q.head q.body) M env }
+    ensures keeps { (f : Form) (named : Bool) (M : Structure) (env : Assignment)
+        → Satisfies (positive f named) M env ↔ Satisfies f M env }
+    ensures denies { (f : Form) (named : Bool) (M : Structure) (env : Assignment)
+        → Satisfies (negative f named) M env ↔ (Satisfies f M env → ⊥) }
+    ensures query { (named : Bool) (q : Question) (M : Structure) (env : Assignment)
+        → Satisfies (core_form named q) M env ↔ Satisfies (guarded named q.head q.body) M env }
 {}
 
 /// The step before `head` says what `head` says. The formula of the last step holds for exactly the answers, among the tuples of the head's shape whose texts are constants.
 pub fn plan_is_sound()
     ensures steps { (db : List Relation) (q : Question) → HasElements q.body → (env : Assignment)
-        → Satisfies (formula_at (core_steps db q) (length (core_steps db q))) (structure db q) env ↔ Satisfies (guarded (has_named_sort db) q.head q.body) (structure db q) env }
-    ensures last { (db : List Relation) (q : Question) (tuple : List Datum) → (has_named_sort db ≡ false → IsPlain db q) → HaveNames q.head → HasShape q.head tuple → AllByRecursion (Contains (constants db q)) (texts_of tuple)
-        → Satisfies (formula_at (plan db q) (length (plan db q))) (structure db q) (assignment q.head tuple) ↔ IsAnswer db q tuple }
+        → Satisfies (formula_at (core_steps db q) (length (core_steps db q))) (structure db q) env
+        ↔ Satisfies (guarded (has_named_sort db) q.head q.body) (structure db q) env }
+    ensures last { (db : List Relation) (q : Question) (tuple : List Datum)
+        → (has_named_sort db ≡ false → HasNoNamedSorts db q) → HaveDistinctNames q.head
+        → HasShape q.head tuple → AllByRecursion (Contains (constants db q)) (texts_of tuple)
+        → Satisfies (formula_at (plan db q) (length (plan db q))) (structure db q)
+        (assignment q.head tuple) ↔ IsAnswer db q tuple }
 {}
 
 /// The period is the least common multiple of the periods, where each of them is at least 1; and each is, where those in the rows and in the `in` points are.
 pub fn periods_are_least()
-    ensures least { (ks : List ℕ) → AllByRecursion (λ k. 1 ≤ k) ks → IsLeastMultiple ks (lcm_all ks) }
-    ensures sources { (db : List Relation) (q : Question) → AllByRecursion (λ k. 1 ≤ k) (row_periods db) → AllByRecursion (λ at. 1 ≤ nat_abs at.period) (points q.body) → HasPeriods db q }
+    ensures least { (ks : List ℕ) → AllByRecursion (λ k. 1 ≤ k) ks
+        → IsLeastMultiple ks (lcm_all ks) }
+    ensures sources { (db : List Relation) (q : Question)
+        → AllByRecursion (λ k. 1 ≤ k) (database_periods db)
+        → AllByRecursion (λ at. 1 ≤ nat_abs at.period) (points q.body) → HasPeriods db q }
 {}
 
 /// Along the steps of a plan periods and reaches rise, up to those of the query. The last step has the period of the query, and a step's reach is no less where those of the steps that it reads are no less.
 pub fn plan_rises()
-    ensures steps { (db : List Relation) (q : Question) → HasElements q.body → HasPeriods db q → (s : ℕ) (step : PlanStep) → step_at (plan db q) s ≡ Some step → IsRising db q s step }
-    ensures last { (db : List Relation) (q : Question) → period_at (plan db q) (length (plan db q)) ≡ period db q.body }
-    ensures grows { (db : List Relation) (at more : ℕ → ℕ) (K : ℕ) (kind : StepKind) → AllByRecursion (λ l. at l ≤ more l) (operands kind) → reach_of db at K kind ≤ reach_of db more K kind }
+    ensures steps { (db : List Relation) (q : Question) → HasElements q.body → HasPeriods db q
+        → (s : ℕ) (step : PlanStep) → step_at (plan db q) s ≡ Some step → IsRising db q s step }
+    ensures last { (db : List Relation) (q : Question)
+        → period_at (plan db q) (length (plan db q)) ≡ period db q.body }
+    ensures grows { (db : List Relation) (at more : ℕ → ℕ) (K : ℕ) (kind : StepKind)
+        → AllByRecursion (λ l. at l ≤ more l) (operands kind)
+        → reach_of db at K kind ≤ reach_of db more K kind }
 {}
 
 /// Each step of a plan is made of earlier ones by the rule of its kind, with the variables that the rule relies on, and the points of its tests are the query's. The last one and no other is `head`, and it reads the step before it.
 pub fn steps_are_made()
-    ensures steps { (db : List Relation) (q : Question) → HasElements q.body → (s : ℕ) (step : PlanStep) → step_at (plan db q) s ≡ Some step → IsMade (structure db q) (head_step db q) (plan db q) s step }
-    ensures points { (db : List Relation) (q : Question) → HasElements q.body → (s : ℕ) (step : PlanStep) → step_at (plan db q) s ≡ Some step → AllByRecursion (Contains (points q.body)) (step_points step.kind) }
-    ensures last { (db : List Relation) (q : Question) → MatchOption (step_at (plan db q) (length (plan db q))) ⊥ (λ step. (step.kind ≡ Extend (length (core_steps db q))) × (step.formula ≡ guarded (has_named_sort db) q.head q.body)) }
-    ensures other { (db : List Relation) (q : Question) → HasElements q.body → (s : ℕ) (step : PlanStep) → step_at (plan db q) s ≡ Some step → s ≤ length (core_steps db q) → (of : ℕ) → step.kind ≡ Extend of → ⊥ }
-    ensures count { (db : List Relation) (q : Question) → length (plan db q) ≡ length (core_steps db q) + 1 }
+    ensures steps { (db : List Relation) (q : Question) → HasElements q.body
+        → (s : ℕ) (step : PlanStep) → step_at (plan db q) s ≡ Some step
+        → IsMade (structure db q) (head_step db q) (plan db q) s step }
+    ensures points { (db : List Relation) (q : Question) → HasElements q.body
+        → (s : ℕ) (step : PlanStep) → step_at (plan db q) s ≡ Some step
+        → AllByRecursion (Contains (points q.body)) (step_points step.kind) }
+    ensures last { (db : List Relation) (q : Question)
+        → MatchOption (step_at (plan db q) (length (plan db q))) ⊥
+        (λ step. (step.kind ≡ Extend (length (core_steps db q)))
+        × (step.formula ≡ guarded (has_named_sort db) q.head q.body)) }
+    ensures other { (db : List Relation) (q : Question) → HasElements q.body
+        → (s : ℕ) (step : PlanStep) → step_at (plan db q) s ≡ Some step
+        → s ≤ length (core_steps db q) → (of : ℕ) → step.kind ≡ Extend of → ⊥ }
+    ensures count { (db : List Relation) (q : Question)
+        → length (plan db q) ≡ length (core_steps db q) + 1 }
 {}
 
 /// The variables of a step, and those of the steps that it reads together, are at most eight of each kind, and none has the name of one of the other kind, where this is so in each part of the query. Where the head has all variables of the body, it has all of the last two steps' too.
 pub fn steps_are_narrow()
-    ensures steps { (db : List Relation) (q : Question) → HasElements q.body → IsNarrow (head_variables q.head ++ free q.body) → EachScope IsNarrow q.body → (s : ℕ) (step : PlanStep) → step_at (plan db q) s ≡ Some step → IsNarrowStep db q step }
-    ensures last { (db : List Relation) (q : Question) → AreAmong (free q.body) (head_variables q.head) → AreAmong (free (formula_at (plan db q) (length (plan db q)))) (head_variables q.head) }
-    ensures core { (db : List Relation) (q : Question) → AreAmong (free q.body) (head_variables q.head) → HasElements q.body → AreAmong (free (formula_at (plan db q) (length (core_steps db q)))) (head_variables q.head) }
+    ensures steps { (db : List Relation) (q : Question) → HasElements q.body
+        → IsNarrow (head_variables q.head ++ free q.body) → EachScope IsNarrow q.body
+        → (s : ℕ) (step : PlanStep) → step_at (plan db q) s ≡ Some step → IsNarrowStep db q step }
+    ensures last { (db : List Relation) (q : Question)
+        → AreAmong (free q.body) (head_variables q.head)
+        → AreAmong (free (formula_at (plan db q) (length (plan db q)))) (head_variables q.head) }
+    ensures core { (db : List Relation) (q : Question)
+        → AreAmong (free q.body) (head_variables q.head) → HasElements q.body
+        → AreAmong (free (formula_at (plan db q) (length (core_steps db q))))
+        (head_variables q.head) }
 {}
 
 /// Where a step drops a data variable, only texts of its sort complete a member: the core form has a sort element beside each quantifier where sorts are named, and else there is one sort.
 pub fn drops_are_guarded()
-    ensures { (db : List Relation) (q : Question) → HasElements q.body → (has_named_sort db ≡ false → IsPlain db q × BindsPlainly q.body) → (s : ℕ) (step : PlanStep) → step_at (plan db q) s ≡ Some step → IsGuardedDrop db q step }
+    ensures { (db : List Relation) (q : Question) → HasElements q.body
+        → (has_named_sort db ≡ false → HasNoNamedSorts db q × BindsPlainly q.body)
+        → (s : ℕ) (step : PlanStep) → step_at (plan db q) s ≡ Some step → IsGuardedDrop db q step }
 {}
 
 /// A well-sorted query over a database is settled, where each `and` and `or` of it has an element, each period is at least 1 and each text of the database stands in a data column.
 pub fn sorted_queries_are_settled()
-    ensures { (db : List Relation) (q : RawQuestion) → IsWellSorted db q → HasSortedTexts db → HasElements (plain_question q).body → HasPeriods db (plain_question q) → IsSettled db (plain_question q) }
+    ensures { (db : List Relation) (q : RawQuestion) → IsWellSorted db q → HasSortedTexts db
+        → HasElements (plain_question q).body → HasPeriods db (plain_question q)
+        → IsSettled db (plain_question q) }
 {}
 
 /// All that the laws above say of the plan of a settled query.

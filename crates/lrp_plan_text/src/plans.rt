@@ -24,7 +24,8 @@ pub fn write_plan<S: Sink>(out: &mut S, plan: &Plan) -> Result<(), Failed>
 
 fn write_steps<S: Sink>(out: &mut S, steps: &[Step]) -> Result<(), Failed>
     requires { AllByRecursion StepHasPeriods steps.now }
-    ensures text { IsWritten (S.written out.old) (S.written out.new) (step_lines 1 steps.now) result }
+    ensures text { IsWritten (S.written out.old) (S.written out.new)
+        (step_lines 1 steps.now) result }
     ensures cause { HasCause (S.faults out.old) (S.faults out.new) result }
 {
     let mut number = 0;
@@ -37,7 +38,8 @@ fn write_steps<S: Sink>(out: &mut S, steps: &[Step]) -> Result<(), Failed>
 
 fn write_step<S: Sink>(out: &mut S, number: u64, step: &Step) -> Result<(), Failed>
     requires { StepHasPeriods step.now }
-    ensures text { IsWritten (S.written out.old) (S.written out.new) (step_line number step.now) result }
+    ensures text { IsWritten (S.written out.old) (S.written out.new)
+        (step_line number step.now) result }
     ensures cause { HasCause (S.faults out.old) (S.faults out.new) result }
 {
     write_count(out, number)?;
@@ -73,7 +75,9 @@ fn write_kind<S: Sink>(out: &mut S, kind: &StepKind) -> Result<(), Failed>
 
 // `scan R(T1, T2)`.
 fn write_scan<S: Sink>(out: &mut S, relation: &Name, terms: &[Term]) -> Result<(), Failed>
-    ensures text { IsWritten (S.written out.old) (S.written out.new) (codes "scan " ++ (relation.now ++ (codes "(" ++ (joined_by (codes ", ") term_bytes terms.now ++ codes ")")))) result }
+    ensures text { IsWritten (S.written out.old) (S.written out.new)
+        (codes "scan " ++ (relation.now
+        ++ (codes "(" ++ (joined_by (codes ", ") term_bytes terms.now ++ codes ")")))) result }
     ensures cause { HasCause (S.faults out.old) (S.faults out.new) result }
 {
     write_bytes(out, b"scan ")?;
@@ -86,7 +90,8 @@ fn write_scan<S: Sink>(out: &mut S, relation: &Name, terms: &[Term]) -> Result<(
 // A test as a step of its own.
 fn write_leaf<S: Sink>(out: &mut S, test: &Test) -> Result<(), Failed>
     requires { TestHasPeriod test.now }
-    ensures text { IsWritten (S.written out.old) (S.written out.new) (word_of_leaf test.now ++ test_bytes test.now) result }
+    ensures text { IsWritten (S.written out.old) (S.written out.new)
+        (word_of_leaf test.now ++ test_bytes test.now) result }
     ensures cause { HasCause (S.faults out.old) (S.faults out.new) result }
 {
     write_bytes(out, leaf_word(test))?;
@@ -95,7 +100,8 @@ fn write_leaf<S: Sink>(out: &mut S, test: &Test) -> Result<(), Failed>
 
 // `sort S(v)`.
 fn write_element<S: Sink>(out: &mut S, name: &Name, sort: &Sort) -> Result<(), Failed>
-    ensures text { IsWritten (S.written out.old) (S.written out.new) (codes "sort " ++ (sort_bytes sort.now ++ (codes "(" ++ (name.now ++ codes ")")))) result }
+    ensures text { IsWritten (S.written out.old) (S.written out.new)
+        (codes "sort " ++ (sort_bytes sort.now ++ (codes "(" ++ (name.now ++ codes ")")))) result }
     ensures cause { HasCause (S.faults out.old) (S.faults out.new) result }
 {
     write_bytes(out, b"sort ")?;
@@ -108,7 +114,8 @@ fn write_element<S: Sink>(out: &mut S, name: &Name, sort: &Sort) -> Result<(), F
 // `join I J`, with the tests that it carries.
 fn write_join<S: Sink>(out: &mut S, left: u32, right: u32, tests: &[Test]) -> Result<(), Failed>
     requires { AllByRecursion TestHasPeriod tests.now }
-    ensures text { IsWritten (S.written out.old) (S.written out.new) (two_steps (codes "join ") left right ++ carried_bytes tests.now) result }
+    ensures text { IsWritten (S.written out.old) (S.written out.new)
+        (two_steps (codes "join ") left right ++ carried_bytes tests.now) result }
     ensures cause { HasCause (S.faults out.old) (S.faults out.new) result }
 {
     write_operands(out, b"join ", left, right)?;
@@ -118,7 +125,8 @@ fn write_join<S: Sink>(out: &mut S, left: u32, right: u32, tests: &[Test]) -> Re
 // `select I T OP T`.
 fn write_select<S: Sink>(out: &mut S, of: u32, test: &Test) -> Result<(), Failed>
     requires { TestHasPeriod test.now }
-    ensures text { IsWritten (S.written out.old) (S.written out.new) (codes "select " ++ (decimal of ++ (codes " " ++ test_bytes test.now))) result }
+    ensures text { IsWritten (S.written out.old) (S.written out.new)
+        (codes "select " ++ (decimal of ++ (codes " " ++ test_bytes test.now))) result }
     ensures cause { HasCause (S.faults out.old) (S.faults out.new) result }
 {
     write_bytes(out, b"select ")?;
@@ -129,7 +137,8 @@ fn write_select<S: Sink>(out: &mut S, of: u32, test: &Test) -> Result<(), Failed
 
 // A word and the number of a step.
 fn write_operand<S: Sink>(out: &mut S, word: &[u8], of: u32) -> Result<(), Failed>
-    ensures text { IsWritten (S.written out.old) (S.written out.new) (word.now ++ decimal of) result }
+    ensures text { IsWritten (S.written out.old) (S.written out.new)
+        (word.now ++ decimal of) result }
     ensures cause { HasCause (S.faults out.old) (S.faults out.new) result }
 {
     write_bytes(out, word)?;
@@ -138,7 +147,8 @@ fn write_operand<S: Sink>(out: &mut S, word: &[u8], of: u32) -> Result<(), Faile
 
 // A word and the numbers of two steps.
 fn write_operands<S: Sink>(out: &mut S, word: &[u8], left: u32, right: u32) -> Result<(), Failed>
-    ensures text { IsWritten (S.written out.old) (S.written out.new) (two_steps word.now left right) result }
+    ensures text { IsWritten (S.written out.old) (S.written out.new)
+        (two_steps word.now left right) result }
     ensures cause { HasCause (S.faults out.old) (S.faults out.new) result }
 {
     write_bytes(out, word)?;
@@ -149,7 +159,8 @@ fn write_operands<S: Sink>(out: &mut S, word: &[u8], left: u32, right: u32) -> R
 
 // `drop I v`.
 fn write_drop<S: Sink>(out: &mut S, of: u32, name: &Name) -> Result<(), Failed>
-    ensures text { IsWritten (S.written out.old) (S.written out.new) (drop_bytes of name.now) result }
+    ensures text { IsWritten (S.written out.old) (S.written out.new)
+        (drop_bytes of name.now) result }
     ensures cause { HasCause (S.faults out.old) (S.faults out.new) result }
 {
     write_bytes(out, b"drop ")?;

@@ -13,7 +13,8 @@ use lrp_print::{write_bytes, write_integer, write_offset, write_point, write_quo
 
 // A variable with its offset.
 fn write_variable<S: Sink>(out: &mut S, name: &Name, plus: &i64) -> Result<(), Failed>
-    ensures text { IsWritten (S.written out.old) (S.written out.new) (name.now ++ offset_bytes plus.now) result }
+    ensures text { IsWritten (S.written out.old) (S.written out.new)
+        (name.now ++ offset_bytes plus.now) result }
     ensures cause { HasCause (S.faults out.old) (S.faults out.new) result }
 {
     write_bytes(out, name.as_bytes())?;
@@ -70,7 +71,9 @@ fn write_comparison<S: Sink>(
     op: Op,
     right: &TimeTerm,
 ) -> Result<(), Failed>
-    ensures text { IsWritten (S.written out.old) (S.written out.new) (time_bytes left.now ++ (codes " " ++ (op_bytes op ++ (codes " " ++ time_bytes right.now)))) result }
+    ensures text { IsWritten (S.written out.old) (S.written out.new)
+        (time_bytes left.now ++ (codes " " ++ (op_bytes op ++ (codes " " ++ time_bytes right.now))))
+        result }
     ensures cause { HasCause (S.faults out.old) (S.faults out.new) result }
 {
     write_time(out, left)?;
@@ -83,7 +86,8 @@ fn write_comparison<S: Sink>(
 // `T in c+kn`.
 fn write_member<S: Sink>(out: &mut S, term: &TimeTerm, point: &RowPoint) -> Result<(), Failed>
     requires { pos 1 ≤ℤ point.now.period }
-    ensures text { IsWritten (S.written out.old) (S.written out.new) (time_bytes term.now ++ (codes " in " ++ point_bytes point.now)) result }
+    ensures text { IsWritten (S.written out.old) (S.written out.new)
+        (time_bytes term.now ++ (codes " in " ++ point_bytes point.now)) result }
     ensures cause { HasCause (S.faults out.old) (S.faults out.new) result }
 {
     write_time(out, term)?;
@@ -93,7 +97,8 @@ fn write_member<S: Sink>(out: &mut S, term: &TimeTerm, point: &RowPoint) -> Resu
 
 // `T = T` of data terms.
 fn write_equality<S: Sink>(out: &mut S, left: &DataTerm, right: &DataTerm) -> Result<(), Failed>
-    ensures text { IsWritten (S.written out.old) (S.written out.new) (data_bytes left.now ++ (codes " = " ++ data_bytes right.now)) result }
+    ensures text { IsWritten (S.written out.old) (S.written out.new)
+        (data_bytes left.now ++ (codes " = " ++ data_bytes right.now)) result }
     ensures cause { HasCause (S.faults out.old) (S.faults out.new) result }
 {
     write_data(out, left)?;
@@ -126,7 +131,8 @@ pub(crate) fn leaf_word(test: &Test) -> &'static [u8]
 }
 
 fn write_next_term<S: Sink>(out: &mut S, term: &Term) -> Result<(), Failed>
-    ensures text { IsWritten (S.written out.old) (S.written out.new) (codes ", " ++ term_bytes term.now) result }
+    ensures text { IsWritten (S.written out.old) (S.written out.new)
+        (codes ", " ++ term_bytes term.now) result }
     ensures cause { HasCause (S.faults out.old) (S.faults out.new) result }
 {
     write_bytes(out, b", ")?;
@@ -135,7 +141,8 @@ fn write_next_term<S: Sink>(out: &mut S, term: &Term) -> Result<(), Failed>
 
 // Terms, with a comma before each.
 fn write_further_terms<S: Sink>(out: &mut S, terms: &[Term]) -> Result<(), Failed>
-    ensures text { IsWritten (S.written out.old) (S.written out.new) (flat_map (λ x. codes ", " ++ term_bytes x) terms.now) result }
+    ensures text { IsWritten (S.written out.old) (S.written out.new)
+        (flat_map (λ x. codes ", " ++ term_bytes x) terms.now) result }
     ensures cause { HasCause (S.faults out.old) (S.faults out.new) result }
 {
     for term in terms {
@@ -146,7 +153,8 @@ fn write_further_terms<S: Sink>(out: &mut S, terms: &[Term]) -> Result<(), Faile
 
 /// Terms, with commas between.
 pub(crate) fn write_terms<S: Sink>(out: &mut S, terms: &[Term]) -> Result<(), Failed>
-    ensures text { IsWritten (S.written out.old) (S.written out.new) (joined_by (codes ", ") term_bytes terms.now) result }
+    ensures text { IsWritten (S.written out.old) (S.written out.new)
+        (joined_by (codes ", ") term_bytes terms.now) result }
     ensures cause { HasCause (S.faults out.old) (S.faults out.new) result }
 {
     match terms {
@@ -160,7 +168,8 @@ pub(crate) fn write_terms<S: Sink>(out: &mut S, terms: &[Term]) -> Result<(), Fa
 
 fn write_next_test<S: Sink>(out: &mut S, test: &Test) -> Result<(), Failed>
     requires { TestHasPeriod test.now }
-    ensures text { IsWritten (S.written out.old) (S.written out.new) (codes ", " ++ test_bytes test.now) result }
+    ensures text { IsWritten (S.written out.old) (S.written out.new)
+        (codes ", " ++ test_bytes test.now) result }
     ensures cause { HasCause (S.faults out.old) (S.faults out.new) result }
 {
     write_bytes(out, b", ")?;
@@ -170,7 +179,8 @@ fn write_next_test<S: Sink>(out: &mut S, test: &Test) -> Result<(), Failed>
 // Tests, with a comma before each.
 fn write_further_tests<S: Sink>(out: &mut S, tests: &[Test]) -> Result<(), Failed>
     requires { AllByRecursion TestHasPeriod tests.now }
-    ensures text { IsWritten (S.written out.old) (S.written out.new) (flat_map (λ x. codes ", " ++ test_bytes x) tests.now) result }
+    ensures text { IsWritten (S.written out.old) (S.written out.new)
+        (flat_map (λ x. codes ", " ++ test_bytes x) tests.now) result }
     ensures cause { HasCause (S.faults out.old) (S.faults out.new) result }
 {
     for test in tests {
@@ -182,7 +192,8 @@ fn write_further_tests<S: Sink>(out: &mut S, tests: &[Test]) -> Result<(), Faile
 // Tests, with commas between.
 fn write_tests<S: Sink>(out: &mut S, tests: &[Test]) -> Result<(), Failed>
     requires { AllByRecursion TestHasPeriod tests.now }
-    ensures text { IsWritten (S.written out.old) (S.written out.new) (joined_by (codes ", ") test_bytes tests.now) result }
+    ensures text { IsWritten (S.written out.old) (S.written out.new)
+        (joined_by (codes ", ") test_bytes tests.now) result }
     ensures cause { HasCause (S.faults out.old) (S.faults out.new) result }
 {
     match tests {
@@ -197,7 +208,8 @@ fn write_tests<S: Sink>(out: &mut S, tests: &[Test]) -> Result<(), Failed>
 /// ` where ` and the tests, if there are any.
 pub(crate) fn write_carried<S: Sink>(out: &mut S, tests: &[Test]) -> Result<(), Failed>
     requires { AllByRecursion TestHasPeriod tests.now }
-    ensures text { IsWritten (S.written out.old) (S.written out.new) (carried_bytes tests.now) result }
+    ensures text { IsWritten (S.written out.old) (S.written out.new)
+        (carried_bytes tests.now) result }
     ensures cause { HasCause (S.faults out.old) (S.faults out.new) result }
 {
     match tests {

@@ -19,7 +19,8 @@ use Rattle.lrp_model.specs.RawQueries.{RawQuestion, raw_question_of}
 use Rattle.lrp_text.specs.Sources.{Stands}
 use Rattle.lrp_text.specs.declared.lexemes.Lexeme.{Lexeme}
 use Rattle.lrp_query.specs.Rules.{meant, query}
-use Rattle.lrp_query.specs.Reading.{ReadsQuery, IsUnread, IsQueryOrMemory, IsFaultOrMemory, refusal_of}
+use Rattle.lrp_query.specs.Reading.{ReadsQuery, IsUnread, refusal_of}
+use Rattle.lrp_model.specs.Outcomes.{IsQueryOrMemory, IsFaultOrMemory}
 use Rattle.lrp_query.specs.Refusals.{IsRankedIn, IsNoTextOf, IsTextFaultOf, IsUnreadOf}
 use Rattle.lrp_query.proofs.PlainGrammar.{plain, plain_reader}
 use Rattle.lrp_query.proofs.Meant.{query_meant}
@@ -113,7 +114,7 @@ pub one_fault : (bytes : List ℕ) (f g : QueryFault) → IsQueryFault bytes f �
 one_fault bytes f g a b = fault_once Texts bytes f g (fault_in bytes f.kind f a) (fault_in bytes g.kind g b)
 
 -- each text of the grammar is read
-pub every_query : (bytes : List ℕ) (r : Result RawQuery QueryRead) → IfOk r (λ q. IsQuery bytes (raw_question_of q)) → IfErr r (IsUnread bytes) → (q : RawQuestion) → IsQuery bytes q → IsQueryOrMemory q r
+pub every_query : (bytes : List ℕ) (r : Result RawQuery QueryRead) → IfOk r (λ q. IsQuery bytes (raw_question_of q)) → IfErr r (IsUnread bytes) → (q : RawQuestion) → IsQuery bytes q → IsQueryOrMemory raw_question_of q r
 every_query bytes (Ok other) ok err q t = one_query bytes (raw_question_of other) q ok t
 every_query bytes (Err Memory) ok err q t = tt
 every_query bytes (Err (Fault f)) ok err q t = no_fault bytes q f t err

@@ -23,7 +23,7 @@ use Rattle.lrp_model.specs.Databases.{sign, integer_text, shift, comma}
 use Rattle.lrp_model.specs.Queries.{WrittenTerm, term_text, op_symbol, FitsTerm}
 use Rattle.lrp_model.specs.Queries.WrittenTerm.{integer as integer_term, text_term, variable, shifted}
 use Rattle.lrp_text.specs.Parsers.{Parser, Outcome, and_then, ◌>>=◌, pure, accept, eat, listed}
-use Rattle.lrp_text.specs.Taking.{is_symbol, is_symbol_token, is_word, is_word_token, expect, expect_word, required, period, period_of, is_name_token, IsPeriod}
+use Rattle.lrp_text.specs.Taking.{is_symbol, is_symbol_token, is_word, is_word_token, expect, expect_word, required, period, period_of, is_name_token, IsWrittenPeriod}
 use Rattle.lrp_text.proofs.Complete.{ReadsBack, back_as, IsNot, Sees, bind_back, then_back, pure_back, accept_back, accepts_back, eat_back, eat_none, first_sees_any, first_is_not, last_back, MemberBack, FollowsList, listed_back}
 use Rattle.lrp_text.proofs.Sound.{Sound, bind_ok, accept_gives, accept_sound, eat_sound, eaten_parts, takes_join, takes_front, listed_sound}
 use Rattle.lrp_text.proofs.Viable.{Viable, One, TestStops, accept_viable, bind_err, behind, before, sub_step, sub_short, eat_step, eat_short, spells_join, always, fits_as, listed_viable}
@@ -279,7 +279,7 @@ module _ {F X Q : Type 0} (grammar : Grammar F X Q) (d : ℕ) where
       let v = bind_ok (expect_word Letter k.0.1) _ q k.2 in
       let h : (grammar.roll (member l i.0.0 k.0.0), v.0.1) ≡ q = cc in
       let whole = integer_sound vs i.0 i.1 in
-      let counts = accept_gives _ number_part IsPeriod period_told period_fits u.0.1 k.0 k.1 in
+      let counts = accept_gives _ number_part IsWrittenPeriod period_told period_fits u.0.1 k.0 k.1 in
       subst (λ y. IsFormula grammar (suc d) ts y) h (read_layer grammar d (member l i.0.0 k.0.0) ts v.0.1
       (takes_join (placed_text l) (any (word_token In) ∷ point_text i.0.0 k.0.0) ts us v.0.1 one
       (takes_join (any (word_token In) ∷ []) (point_text i.0.0 k.0.0) us vs v.0.1 inside
@@ -366,8 +366,8 @@ module _ {F X Q : Type 0} (grammar : Grammar F X Q) (d : ℕ) where
       (λ c i x spelled small. (symbol_at Plus ∷ one_more, (member l i 1, fits_as (i.size ≤ greatest_number) (FitsLayer grammar d (member l i 1)) c (λ s. (fit, s, omega arith, omega arith)) small, member_spelled l i 1 head t x (symbol_at Plus ∷ one_more) one is spelled (refl, (refl, (refl, refl))))))
       (λ i h1 vs s1 f1 d1. sub_step (expect Plus) _ (One (sym_part Plus)) (λ u. Unit {0}) (λ c x. R c (h1 ++ x)) vs e (symbol_sound Plus) (symbol_viable Plus) d1
       (λ c u x spelled fits. (one_more, (member l i 1, always (FitsLayer grammar d (member l i 1)) c (fit, f1, omega arith, omega arith), member_spelled l i 1 head t h1 (x ++ one_more) one is s1 (spells_join (One (sym_part Plus) u) (any (number_token 1) ∷ any (word_token Letter) ∷ []) x one_more spelled (refl, (refl, refl))))))
-      (λ u h2 ws s2 f2 d2. sub_step period _ (One number_part) IsPeriod (λ c x. R c (h1 ++ (h2 ++ x))) ws e (accept_gives _ number_part IsPeriod period_told period_fits) (accept_viable _ number_part IsPeriod period_stops) d2
-      (λ c k x spelled fits. (record { token = word_token Letter; place = start } ∷ [], (member l i k, fits_as (IsPeriod k) (FitsLayer grammar d (member l i k)) c (λ p. (fit, f1, p.0, p.1)) fits, member_spelled l i k head t h1 (h2 ++ (x ++ record { token = word_token Letter; place = start } ∷ [])) one is s1 (spells_join (One (sym_part Plus) u) (any (number_token k) ∷ any (word_token Letter) ∷ []) h2 (x ++ record { token = word_token Letter; place = start } ∷ []) s2 (spells_join (One number_part k) (any (word_token Letter) ∷ []) x (record { token = word_token Letter; place = start } ∷ []) spelled (refl, refl))))))
+      (λ u h2 ws s2 f2 d2. sub_step period _ (One number_part) IsWrittenPeriod (λ c x. R c (h1 ++ (h2 ++ x))) ws e (accept_gives _ number_part IsWrittenPeriod period_told period_fits) (accept_viable _ number_part IsWrittenPeriod period_stops) d2
+      (λ c k x spelled fits. (record { token = word_token Letter; place = start } ∷ [], (member l i k, fits_as (IsWrittenPeriod k) (FitsLayer grammar d (member l i k)) c (λ p. (fit, f1, p.0, p.1)) fits, member_spelled l i k head t h1 (h2 ++ (x ++ record { token = word_token Letter; place = start } ∷ [])) one is s1 (spells_join (One (sym_part Plus) u) (any (number_token k) ∷ any (word_token Letter) ∷ []) h2 (x ++ record { token = word_token Letter; place = start } ∷ []) s2 (spells_join (One number_part k) (any (word_token Letter) ∷ []) x (record { token = word_token Letter; place = start } ∷ []) spelled (refl, refl))))))
       (λ k h3 xs s3 f3 d3. sub_step (expect_word Letter) _ (One (word_part Letter)) (λ v. Unit {0}) (λ c x. R c (h1 ++ (h2 ++ (h3 ++ x)))) xs e (word_sound Letter) (word_viable Letter) d3
       (λ c v x spelled fits. ([], (member l i k, always (FitsLayer grammar d (member l i k)) c (fit, f1, f3.0, f3.1), member_spelled l i k head t h1 (h2 ++ (h3 ++ (x ++ []))) one is s1 (spells_join (One (sym_part Plus) u) (any (number_token k) ∷ any (word_token Letter) ∷ []) h2 (h3 ++ (x ++ [])) s2 (spells_join (One number_part k) (any (word_token Letter) ∷ []) h3 (x ++ []) s3 (subst (λ y. Spells (One (word_part Letter) v) y) (sym (append-nil x)) spelled))))))
       (λ v h4 ys s4 f4 d4. absurd cc))))

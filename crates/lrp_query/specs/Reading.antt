@@ -116,18 +116,6 @@ abbrev pub IsUnread : List ℕ → QueryRead → Type 0
 IsUnread bytes (Fault f) = IsQueryFault bytes f
 IsUnread bytes Memory = Unit {0}
 
--- this query, unless memory ran out
-abbrev pub IsQueryOrMemory : RawQuestion → Result RawQuery QueryRead → Type 0
-IsQueryOrMemory q (Ok r) = raw_question_of r ≡ q
-IsQueryOrMemory q (Err Memory) = Unit {0}
-IsQueryOrMemory q (Err (Fault f)) = ⊥
-
--- this fault, unless memory ran out
-abbrev pub IsFaultOrMemory : {A : Type 0} → QueryFault → Result A QueryRead → Type 0
-IsFaultOrMemory f (Ok r) = ⊥
-IsFaultOrMemory f (Err Memory) = Unit {0}
-IsFaultOrMemory f (Err (Fault g)) = g ≡ f
-
 -- the fault of a text, from the kind that was met at a place
 abbrev pub refusal_of : TokenFault → Place → QueryRead
 refusal_of syntax p = Fault (record { kind = Syntax; place = p })

@@ -28,7 +28,8 @@ fn implied(
     left: RawFormula,
     right: RawFormula,
 ) -> Result<RawFormula, Memory>
-    ensures { IfOk result (λ made. raw_form_of made ≡ raw_implies place (raw_form_of left) (raw_form_of right)) }
+    ensures { IfOk result (λ made. raw_form_of made
+        ≡ raw_implies place (raw_form_of left) (raw_form_of right)) }
 {
     let left = Box::new(alloc, left)?;
     let right = Box::new(alloc, right)?;
@@ -121,7 +122,8 @@ fn members_from(alloc: Global, first: RawFormula) -> Result<Vec<RawFormula>, Mem
 
 // One more member behind the others.
 fn add(all: &mut Vec<RawFormula>, one: RawFormula) -> Result<(), Memory>
-    ensures { IfOk result (λ _. map raw_form_of all.new.items ≡ map raw_form_of all.old.items ++ raw_form_of one ∷ []) }
+    ensures { IfOk result (λ _. map raw_form_of all.new.items ≡ map raw_form_of all.old.items
+        ++ raw_form_of one ∷ []) }
 {
     Ok(all.push(one)?)
 }
@@ -129,7 +131,8 @@ fn add(all: &mut Vec<RawFormula>, one: RawFormula) -> Result<(), Memory>
 // A formula that begins with a name.
 #[tactic(auto, unfolding(crate::specs::Rules::named))]
 fn read_named(alloc: Global, tokens: &mut Cursor<'_>) -> Result<RawFormula, Fault>
-    ensures value { (turns : ℕ) → length tokens.old < turns → ReadsFormula (named (behind_name meant turns) tokens.old) result tokens.new }
+    ensures value { (turns : ℕ) → length tokens.old < turns
+        → ReadsFormula (named (behind_name meant turns) tokens.old) result tokens.new }
     ensures fewer { IfOk result (λ _. length tokens.new < length tokens.old) }
 {
     let (name, place) = tokens.name(alloc)?;
@@ -139,7 +142,8 @@ fn read_named(alloc: Global, tokens: &mut Cursor<'_>) -> Result<RawFormula, Faul
 /// Reads a formula that is at most so deep.
 #[cycle(reading)]
 pub fn read_formula(alloc: Global, tokens: &mut Cursor<'_>, depth: u32) -> Result<RawFormula, Fault>
-    ensures value { (turns : ℕ) → length tokens.old < turns → ReadsFormula (formula meant depth turns tokens.old) result tokens.new }
+    ensures value { (turns : ℕ) → length tokens.old < turns
+        → ReadsFormula (formula meant depth turns tokens.old) result tokens.new }
     ensures fewer { IfOk result (λ _. length tokens.new < length tokens.old) }
 {
     if depth == 0 {
@@ -165,7 +169,9 @@ fn read_negation(
     depth: u32,
     place: Place,
 ) -> Result<RawFormula, Fault>
-    ensures value { (turns : ℕ) → length tokens.old < turns → ReadsFormula (negated meant (formula meant depth turns) place tokens.old) result tokens.new }
+    ensures value { (turns : ℕ) → length tokens.old < turns
+        → ReadsFormula (negated meant (formula meant depth turns) place tokens.old) result
+        tokens.new }
     ensures fewer { IfOk result (λ _. length tokens.new < length tokens.old) }
 {
     tokens.expect_word(Word::Not)?;
@@ -181,7 +187,9 @@ fn read_existential(
     depth: u32,
     place: Place,
 ) -> Result<RawFormula, Fault>
-    ensures value { (turns : ℕ) → length tokens.old < turns → ReadsFormula (existing meant (formula meant depth turns) place tokens.old) result tokens.new }
+    ensures value { (turns : ℕ) → length tokens.old < turns
+        → ReadsFormula (existing meant (formula meant depth turns) place tokens.old) result
+        tokens.new }
     ensures fewer { IfOk result (λ _. length tokens.new < length tokens.old) }
 {
     tokens.expect_word(Word::Exists)?;
@@ -198,7 +206,9 @@ fn read_universal(
     depth: u32,
     place: Place,
 ) -> Result<RawFormula, Fault>
-    ensures value { (turns : ℕ) → length tokens.old < turns → ReadsFormula (holding meant (formula meant depth turns) place tokens.old) result tokens.new }
+    ensures value { (turns : ℕ) → length tokens.old < turns
+        → ReadsFormula (holding meant (formula meant depth turns) place tokens.old) result
+        tokens.new }
     ensures fewer { IfOk result (λ _. length tokens.new < length tokens.old) }
 {
     tokens.expect_word(Word::Forall)?;
@@ -215,7 +225,9 @@ fn read_enclosed(
     depth: u32,
     place: Place,
 ) -> Result<RawFormula, Fault>
-    ensures value { (turns : ℕ) → length tokens.old < turns → ReadsFormula (enclosed meant (formula meant depth turns) turns place tokens.old) result tokens.new }
+    ensures value { (turns : ℕ) → length tokens.old < turns
+        → ReadsFormula (enclosed meant (formula meant depth turns) turns place tokens.old) result
+        tokens.new }
     ensures fewer { IfOk result (λ _. length tokens.new < length tokens.old) }
 {
     tokens.expect(Symbol::Open)?;
@@ -233,7 +245,9 @@ fn read_behind_first(
     place: Place,
     first: RawFormula,
 ) -> Result<RawFormula, Fault>
-    ensures value { (turns : ℕ) → length tokens.old < turns → ReadsFormula (behind_first meant (formula meant depth turns) turns place (raw_form_of first) tokens.old) result tokens.new }
+    ensures value { (turns : ℕ) → length tokens.old < turns
+        → ReadsFormula (behind_first meant (formula meant depth turns) turns place
+        (raw_form_of first) tokens.old) result tokens.new }
     ensures fewer { IfOk result (λ _. length tokens.new < length tokens.old) }
 {
     if tokens.eat_word(Word::Implies) {
@@ -257,7 +271,9 @@ fn read_implication(
     place: Place,
     first: RawFormula,
 ) -> Result<RawFormula, Fault>
-    ensures value { (turns : ℕ) → length tokens.old < turns → ReadsFormula (implying meant (formula meant depth turns) place (raw_form_of first) tokens.old) result tokens.new }
+    ensures value { (turns : ℕ) → length tokens.old < turns
+        → ReadsFormula (implying meant (formula meant depth turns) place
+        (raw_form_of first) tokens.old) result tokens.new }
     ensures fewer { IfOk result (λ _. length tokens.new < length tokens.old) }
 {
     let second = read_formula(alloc, tokens, depth)?;
@@ -274,7 +290,9 @@ fn read_conjunction(
     place: Place,
     first: RawFormula,
 ) -> Result<RawFormula, Fault>
-    ensures value { (turns : ℕ) → length tokens.old < turns → ReadsFormula (conjoined meant (formula meant depth turns) turns place (raw_form_of first) tokens.old) result tokens.new }
+    ensures value { (turns : ℕ) → length tokens.old < turns
+        → ReadsFormula (conjoined meant (formula meant depth turns) turns place
+        (raw_form_of first) tokens.old) result tokens.new }
     ensures fewer { IfOk result (λ _. length tokens.new < length tokens.old) }
 {
     let of = read_members(alloc, tokens, depth, Word::And, first)?;
@@ -291,7 +309,9 @@ fn read_disjunction(
     place: Place,
     first: RawFormula,
 ) -> Result<RawFormula, Fault>
-    ensures value { (turns : ℕ) → length tokens.old < turns → ReadsFormula (disjoined meant (formula meant depth turns) turns place (raw_form_of first) tokens.old) result tokens.new }
+    ensures value { (turns : ℕ) → length tokens.old < turns
+        → ReadsFormula (disjoined meant (formula meant depth turns) turns place
+        (raw_form_of first) tokens.old) result tokens.new }
     ensures fewer { IfOk result (λ _. length tokens.new < length tokens.old) }
 {
     let of = read_members(alloc, tokens, depth, Word::Or, first)?;
@@ -317,7 +337,9 @@ fn read_members(
     word: Word,
     first: RawFormula,
 ) -> Result<Vec<RawFormula>, Fault>
-    ensures value { (turns : ℕ) → length tokens.old < turns → ReadsFormulas (separated_from (formula meant depth turns) (is_word word) turns (raw_form_of first ∷ []) tokens.old) result tokens.new }
+    ensures value { (turns : ℕ) → length tokens.old < turns
+        → ReadsFormulas (separated_from (formula meant depth turns) (is_word word) turns
+        (raw_form_of first ∷ []) tokens.old) result tokens.new }
     ensures shorter { IfOk result (λ _. length tokens.new ≤ length tokens.old) }
 {
     let mut found = members_from(alloc, first)?;

@@ -5,7 +5,8 @@ ghost use Rattle.lrp_model.specs.RawQueries.{RawQuestion, raw_question_of};
 ghost use Rattle.lrp_model.specs.QueryReading.{IsQuery, IsQueryFault};
 ghost use Rattle.lrp_query.specs.Lawful.{IsLawful};
 ghost use Rattle.lrp_query.specs.Rules.{meant, query};
-ghost use Rattle.lrp_query.specs.Reading.{ReadsQuery, left_behind, refusal_of, IsUnread, IsQueryOrMemory, IsFaultOrMemory};
+ghost use Rattle.lrp_query.specs.Reading.{ReadsQuery, left_behind, refusal_of, IsUnread};
+ghost use Rattle.lrp_model.specs.Outcomes.{IsQueryOrMemory, IsFaultOrMemory};
 ghost use Rattle.lrp_model.specs.Limits.{most_bytes};
 
 use crate::formulas::read_formula;
@@ -37,7 +38,8 @@ pub fn refusal(kind: Fault, place: Place) -> QueryRead
 // The query of some tokens, and the end behind it.
 #[tactic(auto, unfolding(crate::specs::Rules::query_with))]
 fn read_tokens(alloc: Global, tokens: &mut Cursor<'_>) -> Result<RawQuery, Fault>
-    ensures { (turns : ℕ) → length tokens.old < turns → ReadsQuery (query meant turns tokens.old) result (left_behind result tokens.new) }
+    ensures { (turns : ℕ) → length tokens.old < turns
+        → ReadsQuery (query meant turns tokens.old) result (left_behind result tokens.new) }
 {
     tokens.expect(Symbol::OpenBrace)?;
     let head = columns(alloc, tokens, Symbol::Bar)?;
@@ -91,8 +93,10 @@ pub fn read_query(alloc: Global, bytes: &[u8]) -> Result<RawQuery, QueryRead>
     ensures lawful { IfOk result (λ q. IsLawful (raw_question_of q)) }
 
     // Each text of the grammar is read, and each other one is refused for its one fault.
-    ensures every_query { (q : RawQuestion) → IsQuery bytes.now q → IsQueryOrMemory q result }
-    ensures every_fault { (fault : FaultOf) → IsQueryFault bytes.now fault → IsFaultOrMemory fault result }
+    ensures every_query { (q : RawQuestion) → IsQuery bytes.now q
+        → IsQueryOrMemory raw_question_of q result }
+    ensures every_fault { (fault : FaultOf) → IsQueryFault bytes.now fault
+        → IsFaultOrMemory fault result }
 {
     read_bytes(alloc, bytes)
 }

@@ -54,7 +54,8 @@ pub fn start_of(tokens: &Cursor<'_>) -> Start
 
 /// The fault at the next token, where a formula would be too deep.
 pub fn too_deep(tokens: &Cursor<'_>) -> Fault
-    ensures value { look Fault.Syntax (λ t. too_deep_rule t.token) tokens.now ≡ Ok (result, tokens.now) }
+    ensures value { look Fault.Syntax (λ t. too_deep_rule t.token) tokens.now
+        ≡ Ok (result, tokens.now) }
     ensures no_hole { look false (λ t. is_hole_token t.token) tokens.now ≡ Ok (false, tokens.now) }
     ensures takes_no_memory { result ≢ Fault.Memory }
 {

@@ -181,7 +181,9 @@ fn read_more_terms(
     tokens: &mut Cursor<'_>,
     first: RawTerm,
 ) -> Result<List<RawTerm>, Fault>
-    ensures value { (n : ℕ) → length tokens.old < n → Reads (separated_from (term meant.terms) (is_symbol Symbol.Comma) n (first ∷ []) tokens.old) result tokens.new }
+    ensures value { (n : ℕ) → length tokens.old < n
+        → Reads (separated_from (term meant.terms) (is_symbol Symbol.Comma) n
+        (first ∷ []) tokens.old) result tokens.new }
     ensures shorter { IfOk result (λ _. length tokens.new ≤ length tokens.old) }
 {
     let mut found = terms_from(alloc, first, 2)?;
@@ -196,7 +198,9 @@ fn read_more_terms(
 
 // One term or more, with commas between. A term alone takes room for one: to give room back costs more than the atom.
 fn read_some_terms(alloc: Global, tokens: &mut Cursor<'_>) -> Result<List<RawTerm>, Fault>
-    ensures value { (n : ℕ) → length tokens.old < n → Reads (separated_from (term meant.terms) (is_symbol Symbol.Comma) n [] tokens.old) result tokens.new }
+    ensures value { (n : ℕ) → length tokens.old < n
+        → Reads (separated_from (term meant.terms) (is_symbol Symbol.Comma) n [] tokens.old) result
+        tokens.new }
     ensures shorter { IfOk result (λ _. length tokens.new ≤ length tokens.old) }
 {
     let first = read_term(alloc, tokens)?;
@@ -209,7 +213,9 @@ fn read_some_terms(alloc: Global, tokens: &mut Cursor<'_>) -> Result<List<RawTer
 // The terms of an atom, up to the parenthesis that ends them.
 #[tactic(auto, unfolding(lrp_text::specs::Parsers::listed))]
 fn read_terms(alloc: Global, tokens: &mut Cursor<'_>) -> Result<List<RawTerm>, Fault>
-    ensures value { (n : ℕ) → length tokens.old < n → Reads (listed (term meant.terms) (is_symbol Symbol.Comma) (is_symbol Symbol.Close) n tokens.old) result tokens.new }
+    ensures value { (n : ℕ) → length tokens.old < n
+        → Reads (listed (term meant.terms) (is_symbol Symbol.Comma)
+        (is_symbol Symbol.Close) n tokens.old) result tokens.new }
     ensures shorter { IfOk result (λ _. length tokens.new ≤ length tokens.old) }
 {
     if tokens.sees(Symbol::Close) {
@@ -226,7 +232,8 @@ fn read_atom(
     relation: Name,
     place: Place,
 ) -> Result<RawFormula, Fault>
-    ensures value { (n : ℕ) → length tokens.old < n → ReadsFormula (atom_terms meant n relation place tokens.old) result tokens.new }
+    ensures value { (n : ℕ) → length tokens.old < n
+        → ReadsFormula (atom_terms meant n relation place tokens.old) result tokens.new }
     ensures fewer { IfOk result (λ _. length tokens.new < length tokens.old) }
     ensures alone { IfOk result (λ read. IsAlone read.kind) }
 {
@@ -246,7 +253,8 @@ pub fn read_behind_name(
     name: Name,
     place: Place,
 ) -> Result<RawFormula, Fault>
-    ensures value { (n : ℕ) → length tokens.old < n → ReadsFormula (behind_name meant n name place tokens.old) result tokens.new }
+    ensures value { (n : ℕ) → length tokens.old < n
+        → ReadsFormula (behind_name meant n name place tokens.old) result tokens.new }
     ensures shorter { IfOk result (λ _. length tokens.new ≤ length tokens.old) }
     ensures alone { IfOk result (λ read. IsAlone read.kind) }
 {

@@ -3,7 +3,7 @@ use Rattle.std.proofs.Common.{◌≡◌, ℕ, zero, suc, ◌+◌, ◌<◌, ◌�
 use Rattle.std.specs.List.{HoldsAt}
 use Rattle.std.proofs.lemmas.List.{append-nil}
 use Rattle.std.proofs.lemmas.Option.{slice_get_past, slice_get_read}
-use Rattle.lrp_model.specs.Faults.{first}
+use Rattle.lrp_model.specs.Faults.{earliest}
 use Rattle.lrp_model.specs.Sorting.{Binders, query_standing, query_fault, term_sort, column_faults, atom_faults}
 use Rattle.lrp_model.specs.declared.faults.QueryKind.TheVariants.{UnknownRelation}
 use Rattle.lrp_model.specs.declared.tokens.Place.{Place}
@@ -40,12 +40,12 @@ one_beside bs (u ∷ ts) (c ∷ cs) (suc i) t lt is =
 
 -- the first fault, one term further
 pub column_further : (bs : Binders) (ts : List RawTerm) (cs : List Column) (i : ℕ) (t : RawTerm) → i < length ts → t ≡ get_or ts i t
-    → sooner query_standing (first query_standing (column_faults bs (take i ts) cs)) (first query_standing (misfits (term_sort bs t) t.place (slice_get cs i))) ≡ first query_standing (column_faults bs (take (i + 1) ts) cs)
+    → sooner query_standing (earliest query_standing (column_faults bs (take i ts) cs)) (earliest query_standing (misfits (term_sort bs t) t.place (slice_get cs i))) ≡ earliest query_standing (column_faults bs (take (i + 1) ts) cs)
 column_further bs ts cs i t lt is =
     let on : suc i ≡ i + 1 = omega arith in
     sym (first_of_both query_standing (column_faults bs (take i ts) cs) (misfits (term_sort bs t) t.place (slice_get cs i)))
-    ∙ ap (first query_standing) (one_beside bs ts cs i t lt is)
-    ∙ ap (λ n. first query_standing (column_faults bs (take n ts) cs)) on
+    ∙ ap (earliest query_standing) (one_beside bs ts cs i t lt is)
+    ∙ ap (λ n. earliest query_standing (column_faults bs (take n ts) cs)) on
 
 -- the column that stands at an index, if there is one
 pub column_at : (cs : List Column) (i : ℕ) (r : Option (Bor Column)) → IfSome r (λ x. x.now ≡ get_or cs i x.now) → MatchOption r (length cs ≤ i) (λ x. (i < length cs) × HoldsAt (λ y. x.now ≡ y) cs i) → option_map (λ x. x.now) r ≡ slice_get cs i
@@ -59,5 +59,5 @@ both_parts bs p ts (Some r) = refl
 
 -- the first of them
 pub atom_shows : (bs : Binders) (p : Place) (ts : List RawTerm) (r : Option Relation)
-    → sooner query_standing (first query_standing (atom_head_faults p (length ts) r)) (first query_standing (column_faults bs ts (columns_in r))) ≡ first query_standing (atom_faults bs p ts r)
-atom_shows bs p ts r = sym (first_of_both query_standing (atom_head_faults p (length ts) r) (column_faults bs ts (columns_in r))) ∙ ap (first query_standing) (both_parts bs p ts r)
+    → sooner query_standing (earliest query_standing (atom_head_faults p (length ts) r)) (earliest query_standing (column_faults bs ts (columns_in r))) ≡ earliest query_standing (atom_faults bs p ts r)
+atom_shows bs p ts r = sym (first_of_both query_standing (atom_head_faults p (length ts) r) (column_faults bs ts (columns_in r))) ∙ ap (earliest query_standing) (both_parts bs p ts r)

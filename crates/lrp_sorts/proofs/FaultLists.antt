@@ -2,7 +2,7 @@
 use Rattle.std.proofs.Common.{◌≡◌, ℕ, ◌+◌, ◌<◌, List, [], ◌∷◌, ◌++◌, flat_map, ap, sym, ◌∙◌, length, take, get_or}
 use Rattle.std.proofs.lemmas.List.{take_more, append-nil}
 use Rattle.std.proofs.lemmas.List.Concat.{flat_map-append}
-use Rattle.lrp_model.specs.Faults.{first}
+use Rattle.lrp_model.specs.Faults.{earliest}
 use Rattle.lrp_rel.specs.Sooner.{sooner}
 use Rattle.lrp_rel.proofs.FirstFault.{first_of_both}
 
@@ -17,5 +17,5 @@ one_further f xs i x lt is =
 
 -- the same of faults
 pub one_more : {A F : Type 0} (stands : F → List ℕ) (f : A → List F) (xs : List A) (i : ℕ) (x : A) → i < length xs → x ≡ get_or xs i x
-    → sooner stands (first stands (flat_map f (take i xs))) (first stands (f x)) ≡ first stands (flat_map f (take (i + 1) xs))
-one_more stands f xs i x lt is = sym (first_of_both stands (flat_map f (take i xs)) (f x)) ∙ ap (first stands) (one_further f xs i x lt is)
+    → sooner stands (earliest stands (flat_map f (take i xs))) (earliest stands (f x)) ≡ earliest stands (flat_map f (take (i + 1) xs))
+one_more stands f xs i x lt is = sym (first_of_both stands (flat_map f (take i xs)) (f x)) ∙ ap (earliest stands) (one_further f xs i x lt is)

@@ -6,7 +6,7 @@ use Rattle.std.specs.HashMap.{HashMap, UpdatesBy, get_by}
 use Rattle.std.proofs.lemmas.List.{take_more, append-nil, reverse-append}
 use Rattle.lrp_model.specs.Texts.{Identifier}
 use Rattle.lrp_model.specs.Sorts.{is_time}
-use Rattle.lrp_model.specs.Faults.{first, fault_if, ninth, is_named_in}
+use Rattle.lrp_model.specs.Faults.{earliest, fault_if, ninth, is_named_in}
 use Rattle.lrp_model.specs.Sorting.{Binders, query_standing, query_fault, binder_sort, binder_faults, sort_faults, head_faults}
 use Rattle.lrp_model.specs.declared.tokens.Place.{Place}
 use Rattle.lrp_model.specs.declared.faults.QueryFault.{QueryFault}
@@ -28,24 +28,24 @@ one_more_of b k = cond b (record k { times = k.times + 1 }) (record k { texts = 
 
 -- the fault of a column, and those of what follows
 ninth_split : (F : Place → QueryFault) (k : Before) (f : QueryFault) (cs : List RawColumn) (b : Bool)
-    → first query_standing (cond b (fault_if (k.times == 8) f ++ ninth F (k.times + 1) k.texts cs) (fault_if (k.texts == 8) f ++ ninth F k.times (k.texts + 1) cs))
-    ≡ sooner query_standing (first query_standing (fault_if (cond b (k.times == 8) (k.texts == 8)) f)) (first query_standing (ninth F (one_more_of b k).times (one_more_of b k).texts cs))
+    → earliest query_standing (cond b (fault_if (k.times == 8) f ++ ninth F (k.times + 1) k.texts cs) (fault_if (k.texts == 8) f ++ ninth F k.times (k.texts + 1) cs))
+    ≡ sooner query_standing (earliest query_standing (fault_if (cond b (k.times == 8) (k.texts == 8)) f)) (earliest query_standing (ninth F (one_more_of b k).times (one_more_of b k).texts cs))
 ninth_split F k f cs true = first_of_both query_standing (fault_if (k.times == 8) f) (ninth F (k.times + 1) k.texts cs)
 ninth_split F k f cs false = first_of_both query_standing (fault_if (k.texts == 8) f) (ninth F k.times (k.texts + 1) cs)
 
 -- a column is taken off what is left
 pub ninth_step : (F : Place → QueryFault) (k l : Before) (cs : List RawColumn) (i : ℕ) (c : RawColumn) (found next own all : Option QueryFault) (full : Bool)
-    → i < length cs → c ≡ get_or cs i c → next ≡ sooner query_standing found own → own ≡ first query_standing (fault_if full (F c.place)) → full ≡ cond (is_time c.sort) (k.times == 8) (k.texts == 8) → l ≡ one_more_of (is_time c.sort) k
-    → sooner query_standing found (first query_standing (ninth F k.times k.texts (drop i cs))) ≡ all
-    → sooner query_standing next (first query_standing (ninth F l.times l.texts (drop (i + 1) cs))) ≡ all
+    → i < length cs → c ≡ get_or cs i c → next ≡ sooner query_standing found own → own ≡ earliest query_standing (fault_if full (F c.place)) → full ≡ cond (is_time c.sort) (k.times == 8) (k.texts == 8) → l ≡ one_more_of (is_time c.sort) k
+    → sooner query_standing found (earliest query_standing (ninth F k.times k.texts (drop i cs))) ≡ all
+    → sooner query_standing next (earliest query_standing (ninth F l.times l.texts (drop (i + 1) cs))) ≡ all
 ninth_step F k l cs i c found next own all full lt is n o f e h =
     let rest : List RawColumn = drop (i + 1) cs in
     let whole : drop i cs ≡ c ∷ rest = drop-cons cs i c lt ∙ ap (λ x. x ∷ drop (suc i) cs) (sym is) ∙ ap (λ j. c ∷ drop j cs) (sym (add-one i)) in
-    ap (λ l. sooner query_standing next (first query_standing (ninth F l.times l.texts rest))) e
-    ∙ ap (λ x. sooner query_standing x (first query_standing (ninth F (one_more_of (is_time c.sort) k).times (one_more_of (is_time c.sort) k).texts rest))) (n ∙ ap (sooner query_standing found) (o ∙ ap (λ b. first query_standing (fault_if b (F c.place))) f))
+    ap (λ l. sooner query_standing next (earliest query_standing (ninth F l.times l.texts rest))) e
+    ∙ ap (λ x. sooner query_standing x (earliest query_standing (ninth F (one_more_of (is_time c.sort) k).times (one_more_of (is_time c.sort) k).texts rest))) (n ∙ ap (sooner query_standing found) (o ∙ ap (λ b. earliest query_standing (fault_if b (F c.place))) f))
     ∙ sym (sooner_again query_standing found _ _)
     ∙ ap (sooner query_standing found) (sym (ninth_split F k (F c.place) rest (is_time c.sort)))
-    ∙ ap (λ l. sooner query_standing found (first query_standing (ninth F k.times k.texts l))) (sym whole)
+    ∙ ap (λ l. sooner query_standing found (earliest query_standing (ninth F k.times k.texts l))) (sym whole)
     ∙ h
 
 -- ---- the binders, each among those before it
@@ -64,21 +64,21 @@ turned_more cs i c lt is = ap reverse (take_more cs i c lt ∙ ap (λ x. take i 
 
 -- one column more, which is bound before it or not
 pub one_column_faults : (db : List Relation) (cs : List RawColumn) (i : ℕ) (c : RawColumn) (found next own : Option QueryFault) (bound : Bool) → i < length cs → c ≡ get_or cs i c
-    → next ≡ sooner query_standing found own → own ≡ sooner query_standing (first query_standing (fault_if bound (query_fault Rebound c.place))) (first query_standing (sort_faults db c.sort c.sort_place))
+    → next ≡ sooner query_standing found own → own ≡ sooner query_standing (earliest query_standing (fault_if bound (query_fault Rebound c.place))) (earliest query_standing (sort_faults db c.sort c.sort_place))
     → bound ≡ is_some (binder_sort (reverse (take i cs)) c.name)
-    → found ≡ first query_standing (head_faults db [] (take i cs)) → next ≡ first query_standing (head_faults db [] (take (i + 1) cs))
+    → found ≡ earliest query_standing (head_faults db [] (take i cs)) → next ≡ earliest query_standing (head_faults db [] (take (i + 1) cs))
 one_column_faults db cs i c found next own bound lt is n o b f =
     let before : List RawColumn = take i cs in
     let named : bound ≡ is_named_in (map (λ b. b.name) (reverse before)) c.name = b ∙ bound_names (reverse before) c.name in
-    let of_binder : own ≡ first query_standing (binder_faults db (reverse before) c) =
-    o ∙ ap (λ b. sooner query_standing (first query_standing (fault_if b (query_fault Rebound c.place))) (first query_standing (sort_faults db c.sort c.sort_place))) named
+    let of_binder : own ≡ earliest query_standing (binder_faults db (reverse before) c) =
+    o ∙ ap (λ b. sooner query_standing (earliest query_standing (fault_if b (query_fault Rebound c.place))) (earliest query_standing (sort_faults db c.sort c.sort_place))) named
     ∙ sym (first_of_both query_standing (fault_if (is_named_in (map (λ b. b.name) (reverse before)) c.name) (query_fault Rebound c.place)) (sort_faults db c.sort c.sort_place)) in
     n ∙ ap (λ x. sooner query_standing x own) f ∙ ap (sooner query_standing _) of_binder
     ∙ sym (first_of_both query_standing (head_faults db [] before) (binder_faults db (reverse before) c))
-    ∙ ap (λ l. first query_standing (head_faults db [] before ++ binder_faults db l c)) (sym (append-nil (reverse before)))
-    ∙ ap (first query_standing) (sym (head_faults-more db [] before c))
-    ∙ ap (λ x. first query_standing (head_faults db [] (before ++ x ∷ []))) is
-    ∙ ap (λ l. first query_standing (head_faults db [] l)) (sym (take_more cs i c lt))
+    ∙ ap (λ l. earliest query_standing (head_faults db [] before ++ binder_faults db l c)) (sym (append-nil (reverse before)))
+    ∙ ap (earliest query_standing) (sym (head_faults-more db [] before c))
+    ∙ ap (λ x. earliest query_standing (head_faults db [] (before ++ x ∷ []))) is
+    ∙ ap (λ l. earliest query_standing (head_faults db [] l)) (sym (take_more cs i c lt))
 
 -- ---- the map from names to sorts
 

@@ -3,6 +3,7 @@ pub mod FaultLists
 pub mod ColumnFaults
 pub mod Counting
 pub mod Kept
+pub mod Leaves
 pub mod Tallies
 pub mod SortNames
 pub mod RawNodes

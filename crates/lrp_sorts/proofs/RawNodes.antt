@@ -2,7 +2,7 @@
 use Rattle.std.proofs.Common.{◌≡◌, ℕ, List, [], ◌∷◌, ◌++◌, Option, Result, Ok, Err, IfOk, OnOk, Box, Vec, Global, refl, ap, sym, subst, ◌∙◌, rules, ◌+◌, ◌<◌, length, take, get_or, append_assoc}
 use Rattle.std.proofs.lemmas.List.{take_more, append-nil}
 use Rattle.lrp_model.specs.Texts.{Identifier, without}
-use Rattle.lrp_model.specs.Faults.{first, fault_if}
+use Rattle.lrp_model.specs.Faults.{earliest, fault_if}
 use Rattle.lrp_model.specs.RawQueries.{raw_kind, raw_form_of, raw_forms_of, raw_not, raw_implies, raw_group, raw_exists, raw_forall}
 use Rattle.lrp_model.specs.Sorting.{Binders, query_standing, query_fault, too_many, free_names, free_names_each, form_faults, forms_faults, widened, place_of, binder_faults}
 use Rattle.lrp_model.specs.declared.tokens.Place.{Place}
@@ -84,57 +84,57 @@ at_tally around q names t e h = subst (λ n. IsTally (binders around) n names t)
 module _ (db : List Relation) (bs : Binders) where
   -- the fault of a formula with its width
   pub width_shows : (extra : List Identifier) (g : RawFormula) (names : List Identifier) (inside : Option QueryFault)
-      → names ≡ free_names (raw_form_of g) → inside ≡ first query_standing (form_faults (raw_form_of g) db bs)
-      → sooner query_standing (first query_standing (fault_if (too_many bs (extra ++ names)) (query_fault Wide g.place))) inside ≡ first query_standing (widened bs extra (raw_form_of g) (form_faults (raw_form_of g) db bs))
+      → names ≡ free_names (raw_form_of g) → inside ≡ earliest query_standing (form_faults (raw_form_of g) db bs)
+      → sooner query_standing (earliest query_standing (fault_if (too_many bs (extra ++ names)) (query_fault Wide g.place))) inside ≡ earliest query_standing (widened bs extra (raw_form_of g) (form_faults (raw_form_of g) db bs))
   width_shows extra g names inside e h =
-      ap (λ ns. sooner query_standing (first query_standing (fault_if (too_many bs (extra ++ ns)) (query_fault Wide g.place))) inside) e
-      ∙ ap (λ p. sooner query_standing (first query_standing (fault_if (too_many bs (extra ++ free_names (raw_form_of g))) (query_fault Wide p))) inside) (sym (place_kept g.kind g.place))
-      ∙ ap (sooner query_standing (first query_standing (fault_if (too_many bs (extra ++ free_names (raw_form_of g))) (query_fault Wide (place_of (raw_form_of g)))))) h
+      ap (λ ns. sooner query_standing (earliest query_standing (fault_if (too_many bs (extra ++ ns)) (query_fault Wide g.place))) inside) e
+      ∙ ap (λ p. sooner query_standing (earliest query_standing (fault_if (too_many bs (extra ++ free_names (raw_form_of g))) (query_fault Wide p))) inside) (sym (place_kept g.kind g.place))
+      ∙ ap (sooner query_standing (earliest query_standing (fault_if (too_many bs (extra ++ free_names (raw_form_of g))) (query_fault Wide (place_of (raw_form_of g)))))) h
       ∙ sym (first_of_both query_standing (fault_if (too_many bs (extra ++ free_names (raw_form_of g))) (query_fault Wide (place_of (raw_form_of g)))) (form_faults (raw_form_of g) db bs))
 
   -- ---- the faults of nodes
 
   -- those of a `not`
   pub not_faults : (f : RawFormula) (b : Box RawFormula Global) → f.kind ≡ Not b
-      → first query_standing (widened bs [] (raw_form_of b.value) (form_faults (raw_form_of b.value) db bs)) ≡ first query_standing (form_faults (raw_form_of f) db bs)
-  not_faults f b e = ap (λ g. first query_standing (form_faults g db bs)) (sym (ap (λ k. raw_kind k f.place) e ∙ raw_kind-Not b f.place))
+      → earliest query_standing (widened bs [] (raw_form_of b.value) (form_faults (raw_form_of b.value) db bs)) ≡ earliest query_standing (form_faults (raw_form_of f) db bs)
+  not_faults f b e = ap (λ g. earliest query_standing (form_faults g db bs)) (sym (ap (λ k. raw_kind k f.place) e ∙ raw_kind-Not b f.place))
 
   -- of a formula in parentheses
   pub group_faults : (f : RawFormula) (b : Box RawFormula Global) → f.kind ≡ Group b
-      → first query_standing (widened bs [] (raw_form_of b.value) (form_faults (raw_form_of b.value) db bs)) ≡ first query_standing (form_faults (raw_form_of f) db bs)
-  group_faults f b e = ap (λ g. first query_standing (form_faults g db bs)) (sym (ap (λ k. raw_kind k f.place) e ∙ raw_kind-Group b f.place))
+      → earliest query_standing (widened bs [] (raw_form_of b.value) (form_faults (raw_form_of b.value) db bs)) ≡ earliest query_standing (form_faults (raw_form_of f) db bs)
+  group_faults f b e = ap (λ g. earliest query_standing (form_faults g db bs)) (sym (ap (λ k. raw_kind k f.place) e ∙ raw_kind-Group b f.place))
 
   -- of an `and`
-  pub and_faults : (f : RawFormula) (v : Vec RawFormula Global) → f.kind ≡ And v → first query_standing (forms_faults (raw_forms_of v.items) db bs) ≡ first query_standing (form_faults (raw_form_of f) db bs)
-  and_faults f v e = ap (λ g. first query_standing (form_faults g db bs)) (sym (ap (λ k. raw_kind k f.place) e ∙ raw_kind-And v f.place))
+  pub and_faults : (f : RawFormula) (v : Vec RawFormula Global) → f.kind ≡ And v → earliest query_standing (forms_faults (raw_forms_of v.items) db bs) ≡ earliest query_standing (form_faults (raw_form_of f) db bs)
+  and_faults f v e = ap (λ g. earliest query_standing (form_faults g db bs)) (sym (ap (λ k. raw_kind k f.place) e ∙ raw_kind-And v f.place))
 
   -- of an `or`
-  pub or_faults : (f : RawFormula) (v : Vec RawFormula Global) → f.kind ≡ Or v → first query_standing (forms_faults (raw_forms_of v.items) db bs) ≡ first query_standing (form_faults (raw_form_of f) db bs)
-  or_faults f v e = ap (λ g. first query_standing (form_faults g db bs)) (sym (ap (λ k. raw_kind k f.place) e ∙ raw_kind-Or v f.place))
+  pub or_faults : (f : RawFormula) (v : Vec RawFormula Global) → f.kind ≡ Or v → earliest query_standing (forms_faults (raw_forms_of v.items) db bs) ≡ earliest query_standing (form_faults (raw_form_of f) db bs)
+  or_faults f v e = ap (λ g. earliest query_standing (form_faults g db bs)) (sym (ap (λ k. raw_kind k f.place) e ∙ raw_kind-Or v f.place))
 
   -- of an `implies`
   pub implies_faults : (f : RawFormula) (b d : Box RawFormula Global) → f.kind ≡ Implies b d
-      → sooner query_standing (first query_standing (widened bs [] (raw_form_of b.value) (form_faults (raw_form_of b.value) db bs))) (first query_standing (widened bs [] (raw_form_of d.value) (form_faults (raw_form_of d.value) db bs)))
-      ≡ first query_standing (form_faults (raw_form_of f) db bs)
+      → sooner query_standing (earliest query_standing (widened bs [] (raw_form_of b.value) (form_faults (raw_form_of b.value) db bs))) (earliest query_standing (widened bs [] (raw_form_of d.value) (form_faults (raw_form_of d.value) db bs)))
+      ≡ earliest query_standing (form_faults (raw_form_of f) db bs)
   implies_faults f b d e =
       sym (first_of_both query_standing (widened bs [] (raw_form_of b.value) (form_faults (raw_form_of b.value) db bs)) (widened bs [] (raw_form_of d.value) (form_faults (raw_form_of d.value) db bs)))
-      ∙ ap (λ g. first query_standing (form_faults g db bs)) (sym (ap (λ k. raw_kind k f.place) e ∙ raw_kind-Implies b d f.place))
+      ∙ ap (λ g. earliest query_standing (form_faults g db bs)) (sym (ap (λ k. raw_kind k f.place) e ∙ raw_kind-Implies b d f.place))
 
   -- of an `exists`
   pub exists_faults : (f : RawFormula) (c : RawColumn) (b : Box RawFormula Global) → f.kind ≡ Exists c b
-      → sooner query_standing (first query_standing (binder_faults db bs c)) (first query_standing (widened (c ∷ bs) (c.name ∷ []) (raw_form_of b.value) (form_faults (raw_form_of b.value) db (c ∷ bs))))
-      ≡ first query_standing (form_faults (raw_form_of f) db bs)
+      → sooner query_standing (earliest query_standing (binder_faults db bs c)) (earliest query_standing (widened (c ∷ bs) (c.name ∷ []) (raw_form_of b.value) (form_faults (raw_form_of b.value) db (c ∷ bs))))
+      ≡ earliest query_standing (form_faults (raw_form_of f) db bs)
   exists_faults f c b e =
       sym (first_of_both query_standing (binder_faults db bs c) (widened (c ∷ bs) (c.name ∷ []) (raw_form_of b.value) (form_faults (raw_form_of b.value) db (c ∷ bs))))
-      ∙ ap (λ g. first query_standing (form_faults g db bs)) (sym (ap (λ k. raw_kind k f.place) e ∙ raw_kind-Exists c b f.place))
+      ∙ ap (λ g. earliest query_standing (form_faults g db bs)) (sym (ap (λ k. raw_kind k f.place) e ∙ raw_kind-Exists c b f.place))
 
   -- of a `forall`
   pub forall_faults : (f : RawFormula) (c : RawColumn) (b : Box RawFormula Global) → f.kind ≡ Forall c b
-      → sooner query_standing (first query_standing (binder_faults db bs c)) (first query_standing (widened (c ∷ bs) (c.name ∷ []) (raw_form_of b.value) (form_faults (raw_form_of b.value) db (c ∷ bs))))
-      ≡ first query_standing (form_faults (raw_form_of f) db bs)
+      → sooner query_standing (earliest query_standing (binder_faults db bs c)) (earliest query_standing (widened (c ∷ bs) (c.name ∷ []) (raw_form_of b.value) (form_faults (raw_form_of b.value) db (c ∷ bs))))
+      ≡ earliest query_standing (form_faults (raw_form_of f) db bs)
   forall_faults f c b e =
       sym (first_of_both query_standing (binder_faults db bs c) (widened (c ∷ bs) (c.name ∷ []) (raw_form_of b.value) (form_faults (raw_form_of b.value) db (c ∷ bs))))
-      ∙ ap (λ g. first query_standing (form_faults g db bs)) (sym (ap (λ k. raw_kind k f.place) e ∙ raw_kind-Forall c b f.place))
+      ∙ ap (λ g. earliest query_standing (form_faults g db bs)) (sym (ap (λ k. raw_kind k f.place) e ∙ raw_kind-Forall c b f.place))
 
 -- ---- the names of nodes
 
@@ -181,24 +181,24 @@ if_ok_then (Err x) P Q h f = h
 module _ (db : List Relation) where
   -- a member's fault with its width, the member being read through references
   pub shown : (around after : Around) (extra : List Identifier) (v g h : RawFormula) (inside : Option QueryFault)
-      → after ≡ around → g ≡ v → h ≡ v → inside ≡ first query_standing (form_faults (raw_form_of g) db (binders around))
-      → sooner query_standing (first query_standing (fault_if (too_many (binders after) (extra ++ free_names (raw_form_of g))) (query_fault Wide h.place))) inside
-      ≡ first query_standing (widened (binders around) extra (raw_form_of v) (form_faults (raw_form_of v) db (binders around)))
+      → after ≡ around → g ≡ v → h ≡ v → inside ≡ earliest query_standing (form_faults (raw_form_of g) db (binders around))
+      → sooner query_standing (earliest query_standing (fault_if (too_many (binders after) (extra ++ free_names (raw_form_of g))) (query_fault Wide h.place))) inside
+      ≡ earliest query_standing (widened (binders around) extra (raw_form_of v) (form_faults (raw_form_of v) db (binders around)))
   shown around after extra v g h inside a e k f =
-      ap (λ x. sooner query_standing (first query_standing (fault_if (too_many (binders x) (extra ++ free_names (raw_form_of g))) (query_fault Wide h.place))) inside) a
-      ∙ ap (λ x. sooner query_standing (first query_standing (fault_if (too_many (binders around) (extra ++ free_names (raw_form_of g))) (query_fault Wide x.place))) inside) k
-      ∙ width_shows db (binders around) extra v (free_names (raw_form_of g)) inside (ap (λ x. free_names (raw_form_of x)) e) (f ∙ ap (λ x. first query_standing (form_faults (raw_form_of x) db (binders around))) e)
+      ap (λ x. sooner query_standing (earliest query_standing (fault_if (too_many (binders x) (extra ++ free_names (raw_form_of g))) (query_fault Wide h.place))) inside) a
+      ∙ ap (λ x. sooner query_standing (earliest query_standing (fault_if (too_many (binders around) (extra ++ free_names (raw_form_of g))) (query_fault Wide x.place))) inside) k
+      ∙ width_shows db (binders around) extra v (free_names (raw_form_of g)) inside (ap (λ x. free_names (raw_form_of x)) e) (f ∙ ap (λ x. earliest query_standing (form_faults (raw_form_of x) db (binders around))) e)
 
   -- the same one quantifier further in, with the faults of the quantifier's binder
   pub shown_bound : (around within after : Around) (c : RawColumn) (own : Option QueryFault) (v g h : RawFormula) (inside : Option QueryFault)
-      → within ≡ record around { quantifiers = c ∷ around.quantifiers } → after ≡ within → own ≡ first query_standing (binder_faults db (binders around) c)
-      → g ≡ v → h ≡ v → inside ≡ first query_standing (form_faults (raw_form_of g) db (binders within))
-      → sooner query_standing own (sooner query_standing (first query_standing (fault_if (too_many (binders after) (c.name ∷ free_names (raw_form_of g))) (query_fault Wide h.place))) inside)
-      ≡ sooner query_standing (first query_standing (binder_faults db (binders around) c)) (first query_standing (widened (c ∷ binders around) (c.name ∷ []) (raw_form_of v) (form_faults (raw_form_of v) db (c ∷ binders around))))
+      → within ≡ record around { quantifiers = c ∷ around.quantifiers } → after ≡ within → own ≡ earliest query_standing (binder_faults db (binders around) c)
+      → g ≡ v → h ≡ v → inside ≡ earliest query_standing (form_faults (raw_form_of g) db (binders within))
+      → sooner query_standing own (sooner query_standing (earliest query_standing (fault_if (too_many (binders after) (c.name ∷ free_names (raw_form_of g))) (query_fault Wide h.place))) inside)
+      ≡ sooner query_standing (earliest query_standing (binder_faults db (binders around) c)) (earliest query_standing (widened (c ∷ binders around) (c.name ∷ []) (raw_form_of v) (form_faults (raw_form_of v) db (c ∷ binders around))))
   shown_bound around within after c own v g h inside w a o e k f =
-      ap (λ x. sooner query_standing x (sooner query_standing (first query_standing (fault_if (too_many (binders after) (c.name ∷ free_names (raw_form_of g))) (query_fault Wide h.place))) inside)) o
-      ∙ ap (sooner query_standing (first query_standing (binder_faults db (binders around) c))) (shown within after (c.name ∷ []) v g h inside a e k f)
-      ∙ ap (λ x. sooner query_standing (first query_standing (binder_faults db (binders around) c)) (first query_standing (widened (binders x) (c.name ∷ []) (raw_form_of v) (form_faults (raw_form_of v) db (binders x))))) w
+      ap (λ x. sooner query_standing x (sooner query_standing (earliest query_standing (fault_if (too_many (binders after) (c.name ∷ free_names (raw_form_of g))) (query_fault Wide h.place))) inside)) o
+      ∙ ap (sooner query_standing (earliest query_standing (binder_faults db (binders around) c))) (shown within after (c.name ∷ []) v g h inside a e k f)
+      ∙ ap (λ x. sooner query_standing (earliest query_standing (binder_faults db (binders around) c)) (earliest query_standing (widened (binders x) (c.name ∷ []) (raw_form_of v) (form_faults (raw_form_of v) db (binders x))))) w
 
 -- ---- the members of a list, one after the other
 
@@ -216,14 +216,14 @@ names_each-append (f ∷ fs) gs = ap (λ l. free_names (raw_form_of f) ++ l) (na
 
 -- one member more
 pub one_member_faults : (db : List Relation) (bs : Binders) (fs : List RawFormula) (i : ℕ) (f : RawFormula) → i < length fs → f ≡ get_or fs i f
-    → sooner query_standing (first query_standing (forms_faults (raw_forms_of (take i fs)) db bs)) (first query_standing (widened bs [] (raw_form_of f) (form_faults (raw_form_of f) db bs))) ≡ first query_standing (forms_faults (raw_forms_of (take (i + 1) fs)) db bs)
+    → sooner query_standing (earliest query_standing (forms_faults (raw_forms_of (take i fs)) db bs)) (earliest query_standing (widened bs [] (raw_form_of f) (form_faults (raw_form_of f) db bs))) ≡ earliest query_standing (forms_faults (raw_forms_of (take (i + 1) fs)) db bs)
 one_member_faults db bs fs i f lt is =
     let own = widened bs [] (raw_form_of f) (form_faults (raw_form_of f) db bs) in
     sym (first_of_both query_standing (forms_faults (raw_forms_of (take i fs)) db bs) own)
-    ∙ ap (λ l. first query_standing (forms_faults (raw_forms_of (take i fs)) db bs ++ l)) (sym (append-nil own))
-    ∙ ap (first query_standing) (sym (forms_faults-append db bs (take i fs) (f ∷ [])))
-    ∙ ap (λ x. first query_standing (forms_faults (raw_forms_of (take i fs ++ x ∷ [])) db bs)) is
-    ∙ ap (λ l. first query_standing (forms_faults (raw_forms_of l) db bs)) (sym (take_more fs i f lt))
+    ∙ ap (λ l. earliest query_standing (forms_faults (raw_forms_of (take i fs)) db bs ++ l)) (sym (append-nil own))
+    ∙ ap (earliest query_standing) (sym (forms_faults-append db bs (take i fs) (f ∷ [])))
+    ∙ ap (λ x. earliest query_standing (forms_faults (raw_forms_of (take i fs ++ x ∷ [])) db bs)) is
+    ∙ ap (λ l. earliest query_standing (forms_faults (raw_forms_of l) db bs)) (sym (take_more fs i f lt))
 
 -- the same of names
 pub one_member_names : (fs : List RawFormula) (i : ℕ) (f : RawFormula) → i < length fs → f ≡ get_or fs i f

@@ -1,6 +1,6 @@
 -- The first fault of a query, from those of its head and its body.
 use Rattle.std.proofs.Common.{◌≡◌, List, [], ◌++◌, reverse, Option, refl, ap, sym, ◌∙◌}
-use Rattle.lrp_model.specs.Faults.{first, fault_if, ninth}
+use Rattle.lrp_model.specs.Faults.{earliest, fault_if, ninth}
 use Rattle.lrp_model.specs.RawQueries.{raw_form_of, raw_question_of}
 use Rattle.lrp_model.specs.Sorting.{query_standing, query_fault, too_many, free_names, form_faults, widened, head_faults, query_faults}
 use Rattle.lrp_model.specs.declared.faults.QueryFault.{QueryFault}
@@ -15,20 +15,20 @@ use Rattle.lrp_sorts.proofs.RawNodes.{shown}
 
 -- the faults of the head's binders, of its width, and of the body with its width, one after the other
 pub survey_faults : (db catalog : List Relation) (q : RawQuery) (columns : List RawColumn) (scope : Around) (opened head width total body inside : Option QueryFault)
-    → catalog ≡ db → columns ≡ q.head → scope ≡ record { quantifiers = []; head = columns } → opened ≡ first query_standing (head_faults catalog [] columns)
-    → width ≡ first query_standing (ninth (query_fault Wide) 0 0 columns) → head ≡ sooner query_standing opened width
-    → inside ≡ first query_standing (form_faults (raw_form_of q.body) catalog (binders scope))
-    → body ≡ sooner query_standing (first query_standing (fault_if (too_many (binders scope) (free_names (raw_form_of q.body))) (query_fault Wide q.body.place))) inside
-    → total ≡ sooner query_standing head body → total ≡ first query_standing (query_faults db (raw_question_of q))
+    → catalog ≡ db → columns ≡ q.head → scope ≡ record { quantifiers = []; head = columns } → opened ≡ earliest query_standing (head_faults catalog [] columns)
+    → width ≡ earliest query_standing (ninth (query_fault Wide) 0 0 columns) → head ≡ sooner query_standing opened width
+    → inside ≡ earliest query_standing (form_faults (raw_form_of q.body) catalog (binders scope))
+    → body ≡ sooner query_standing (earliest query_standing (fault_if (too_many (binders scope) (free_names (raw_form_of q.body))) (query_fault Wide q.body.place))) inside
+    → total ≡ sooner query_standing head body → total ≡ earliest query_standing (query_faults db (raw_question_of q))
 survey_faults db catalog q columns scope opened head width total body inside d e s o w h f b t =
     let form = raw_form_of q.body in
-    let body_is : body ≡ first query_standing (widened (reverse q.head) [] form (form_faults form db (reverse q.head))) =
+    let body_is : body ≡ earliest query_standing (widened (reverse q.head) [] form (form_faults form db (reverse q.head))) =
     b ∙ shown catalog scope scope [] q.body q.body q.body inside refl refl refl f
-    ∙ ap (λ x. first query_standing (widened (binders x) [] form (form_faults form catalog (binders x)))) (s ∙ ap (λ cs. record { quantifiers = []; head = cs }) e)
-    ∙ ap (λ x. first query_standing (widened (reverse q.head) [] form (form_faults form x (reverse q.head)))) d in
-    let head_is : head ≡ first query_standing (head_faults db [] q.head ++ ninth (query_fault Wide) 0 0 q.head) =
-    h ∙ ap (λ x. sooner query_standing x width) (o ∙ ap (λ cs. first query_standing (head_faults catalog [] cs)) e ∙ ap (λ x. first query_standing (head_faults x [] q.head)) d)
-    ∙ ap (sooner query_standing (first query_standing (head_faults db [] q.head))) (w ∙ ap (λ cs. first query_standing (ninth (query_fault Wide) 0 0 cs)) e)
+    ∙ ap (λ x. earliest query_standing (widened (binders x) [] form (form_faults form catalog (binders x)))) (s ∙ ap (λ cs. record { quantifiers = []; head = cs }) e)
+    ∙ ap (λ x. earliest query_standing (widened (reverse q.head) [] form (form_faults form x (reverse q.head)))) d in
+    let head_is : head ≡ earliest query_standing (head_faults db [] q.head ++ ninth (query_fault Wide) 0 0 q.head) =
+    h ∙ ap (λ x. sooner query_standing x width) (o ∙ ap (λ cs. earliest query_standing (head_faults catalog [] cs)) e ∙ ap (λ x. earliest query_standing (head_faults x [] q.head)) d)
+    ∙ ap (sooner query_standing (earliest query_standing (head_faults db [] q.head))) (w ∙ ap (λ cs. earliest query_standing (ninth (query_fault Wide) 0 0 cs)) e)
     ∙ sym (first_of_both query_standing (head_faults db [] q.head) (ninth (query_fault Wide) 0 0 q.head)) in
-    t ∙ ap (λ x. sooner query_standing x body) head_is ∙ ap (sooner query_standing (first query_standing (head_faults db [] q.head ++ ninth (query_fault Wide) 0 0 q.head))) body_is
+    t ∙ ap (λ x. sooner query_standing x body) head_is ∙ ap (sooner query_standing (earliest query_standing (head_faults db [] q.head ++ ninth (query_fault Wide) 0 0 q.head))) body_is
     ∙ sym (first_of_both query_standing (head_faults db [] q.head ++ ninth (query_fault Wide) 0 0 q.head) (widened (reverse q.head) [] form (form_faults form db (reverse q.head))))

@@ -1,6 +1,9 @@
+-- What contracts of public calls say.
+pub mod Outcomes
 pub mod Scopes
 pub mod Nesting
+pub mod Carried
+-- What functions inside say to one another.
 pub mod Terms
 pub mod Widths
-pub mod Outcomes
-pub mod Carried
+pub mod Leaves

@@ -13,15 +13,3 @@ use Rattle.lrp_model.specs.declared.faults.QueryRead.TheVariants.{Fault, Memory}
 abbrev pub IsUnsorted : List Relation → RawQuestion → QueryRead → Type 0
 IsUnsorted db q (Fault f) = IsSortFault db q f
 IsUnsorted db q Memory = Unit {0}
-
--- this query, unless memory ran out
-abbrev pub IsQueryOrMemory : Question → Result Query QueryRead → Type 0
-IsQueryOrMemory q (Ok made) = question_of made ≡ q
-IsQueryOrMemory q (Err (Fault f)) = ⊥
-IsQueryOrMemory q (Err Memory) = Unit {0}
-
--- this fault, unless memory ran out
-abbrev pub IsFaultOrMemory : QueryFault → Result Query QueryRead → Type 0
-IsFaultOrMemory f (Ok made) = ⊥
-IsFaultOrMemory f (Err (Fault g)) = g ≡ f
-IsFaultOrMemory f (Err Memory) = Unit {0}

@@ -2,7 +2,7 @@
 ghost use Rattle.std.specs.Prelude.{◌≡◌, ◌||◌, IfOk, OnOk, option_map};
 ghost use Rattle.std.specs.List.{list_any};
 ghost use Rattle.lrp_model.specs.Sorts.{same_sort};
-ghost use Rattle.lrp_model.specs.Faults.{first};
+ghost use Rattle.lrp_model.specs.Faults.{earliest};
 ghost use Rattle.lrp_model.specs.Rows.{relation_named};
 ghost use Rattle.lrp_model.specs.Sorting.{query_standing, has_sort, sort_faults};
 ghost use Rattle.lrp_model.specs.declared.relations.Sort.TheVariants.{Named};
@@ -17,10 +17,19 @@ use std::collections::HashSet;
 use std::marker::Model;
 
 /// A database with the names of its named sorts.
-#[derive(Drop)]
 pub struct Catalog<'a> {
     db: &'a Database,
     sorts: HashSet<&'a [u8]>,
+}
+
+// It is let go by one call, which is proved once.
+impl<'a> Drop for Catalog<'a> {
+    fn drop(self) {
+        let Catalog {
+            db: _db,
+            sorts: _sorts,
+        } = self;
+    }
 }
 
 impl<'a> Model for Catalog<'a> {
@@ -57,7 +66,7 @@ impl<'a> Catalog<'a> {
 
     // A named sort that no column has.
     pub fn sort_fault(&self, sort: &Sort, place: Place) -> Option<QueryFault>
-        ensures { result ≡ first query_standing (sort_faults self.now sort.now place) }
+        ensures { result ≡ earliest query_standing (sort_faults self.now sort.now place) }
     {
         match sort {
             Sort::Time | Sort::Data => None,
@@ -81,7 +90,9 @@ fn named_sorts<'a>(alloc: Global, db: &'a Database) -> Result<HashSet<&'a [u8]>,
 }
 
 fn add_sorts<'a>(sorts: &mut HashSet<&'a [u8]>, columns: &'a [Column]) -> Result<(), Memory>
-    ensures { OnOk result ((n : Identifier) → holds sorts.new n ≡ (holds sorts.old n || list_any (λ c. same_sort c.sort (Named n)) columns.now)) }
+    ensures { OnOk result ((n : Identifier)
+        → holds sorts.new n ≡ (holds sorts.old n || list_any
+        (λ c. same_sort c.sort (Named n)) columns.now)) }
 {
     for column in columns {
         add_sort(sorts, &column.sort)?;
@@ -90,7 +101,8 @@ fn add_sorts<'a>(sorts: &mut HashSet<&'a [u8]>, columns: &'a [Column]) -> Result
 }
 
 fn add_sort<'a>(sorts: &mut HashSet<&'a [u8]>, sort: &'a Sort) -> Result<(), Memory>
-    ensures { OnOk result ((n : Identifier) → holds sorts.new n ≡ (holds sorts.old n || same_sort sort.now (Named n))) }
+    ensures { OnOk result ((n : Identifier)
+        → holds sorts.new n ≡ (holds sorts.old n || same_sort sort.now (Named n))) }
 {
     if let Sort::Named { name } = sort {
         sorts.insert(name.as_bytes())?;

@@ -1,7 +1,7 @@
 // The check of a whole query.
 ghost use Rattle.std.specs.Prelude.{◌≡◌, [], IfOk, OnOk, IfErr};
 ghost use Rattle.lrp_model.specs.Checked.{plain_question};
-ghost use Rattle.lrp_model.specs.Faults.{first};
+ghost use Rattle.lrp_model.specs.Faults.{earliest};
 ghost use Rattle.lrp_model.specs.Core.{HasElements};
 ghost use Rattle.lrp_model.specs.Formulas.{form_of, question_of};
 ghost use Rattle.lrp_model.specs.RawQueries.{raw_form_of, raw_question_of};
@@ -9,7 +9,8 @@ ghost use Rattle.lrp_model.specs.Sorting.{query_standing, query_faults, IsWellSo
 ghost use Rattle.lrp_model.specs.declared.faults.QueryFault.{QueryFault};
 ghost use Rattle.lrp_model.specs.TestPoints.{points};
 ghost use Rattle.lrp_sorts.specs.Carried.{HasMembers, raw_points};
-ghost use Rattle.lrp_sorts.specs.Outcomes.{IsUnsorted, IsQueryOrMemory, IsFaultOrMemory};
+ghost use Rattle.lrp_sorts.specs.Outcomes.{IsUnsorted};
+ghost use Rattle.lrp_model.specs.Outcomes.{IsQueryOrMemory, IsFaultOrMemory};
 
 use crate::catalog::Catalog;
 use crate::earliest::sooner_of;
@@ -24,8 +25,10 @@ use std::alloc::Global;
 
 // The first sort fault of a query, and the binders of its head.
 fn survey<'a>(alloc: Global, raw: &'a RawQuery, db: &Database) -> Result<Opening<'a>, Memory>
-    ensures fault { IfOk result (λ made. made.fault ≡ first query_standing (query_faults db.now (raw_question_of raw.now))) }
-    ensures scope { IfOk result (λ made. made.scope ≡ record { quantifiers = []; head = raw.now.head }) }
+    ensures fault { IfOk result (λ made. made.fault
+        ≡ earliest query_standing (query_faults db.now (raw_question_of raw.now))) }
+    ensures scope { IfOk result (λ made. made.scope
+        ≡ record { quantifiers = []; head = raw.now.head }) }
 {
     let catalog = Catalog::new(alloc, db)?;
     let columns = raw.head.as_slice();
@@ -65,11 +68,15 @@ pub fn check(alloc: Global, raw: &RawQuery, db: &Database) -> Result<Query, Quer
     // A refusal is the sort fault.
     ensures refused { IfErr result (IsUnsorted db.now (raw_question_of raw.now)) }
     // Each well-sorted query is answered, and each sort fault is told.
-    ensures every_query { IsWellSorted db.now (raw_question_of raw.now) → IsQueryOrMemory (plain_question (raw_question_of raw.now)) result }
-    ensures every_fault { (f : QueryFault) → IsSortFault db.now (raw_question_of raw.now) f → IsFaultOrMemory f result }
+    ensures every_query { IsWellSorted db.now (raw_question_of raw.now)
+        → IsQueryOrMemory question_of (plain_question (raw_question_of raw.now)) result }
+    ensures every_fault { (f : QueryFault) → IsSortFault db.now (raw_question_of raw.now) f
+        → IsFaultOrMemory f result }
     // What is carried over: each `and` and `or` has a member where it has one in the raw query, and the points are the same.
-    ensures members { HasMembers (raw_form_of raw.now.body) → IfOk result (λ q. HasElements (form_of q.body)) }
-    ensures points { IfOk result (λ q. points (form_of q.body) ≡ raw_points (raw_form_of raw.now.body)) }
+    ensures members { HasMembers (raw_form_of raw.now.body)
+        → IfOk result (λ q. HasElements (form_of q.body)) }
+    ensures points { IfOk result (λ q. points (form_of q.body)
+        ≡ raw_points (raw_form_of raw.now.body)) }
 {
     let Ok(found) = survey(alloc, raw, db) else {
         return Err(QueryRead::Memory);

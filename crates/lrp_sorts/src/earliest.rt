@@ -1,7 +1,7 @@
 // The earlier of two faults.
 ghost use Rattle.std.specs.Prelude.{◌≡◌, Some};
 ghost use Rattle.lrp_model.specs.Sorting.{query_standing, query_fault};
-ghost use Rattle.lrp_model.specs.Faults.{earlier, first, fault_if};
+ghost use Rattle.lrp_model.specs.Faults.{earlier, earliest, fault_if};
 ghost use Rattle.lrp_rel.specs.Sooner.{sooner};
 
 use lrp_model::{Place, QueryFault, QueryKind};
@@ -36,7 +36,7 @@ fn earlier_of(f: QueryFault, g: QueryFault) -> QueryFault
 
 // The fault, where the test is true.
 pub fn fault_where(holds: bool, kind: QueryKind, place: Place) -> Option<QueryFault>
-    ensures { result ≡ first query_standing (fault_if holds (query_fault kind place)) }
+    ensures { result ≡ earliest query_standing (fault_if holds (query_fault kind place)) }
 {
     holds.then_some(QueryFault { kind, place })
 }

@@ -1,13 +1,17 @@
 // What the checker finds in a formula.
-ghost use Rattle.std.specs.Prelude.{◌≡◌, ◌∷◌, ◌++◌, List, ℕ, flat_map, IfOk, OnOk, option_map};
+ghost use Rattle.std.specs.Prelude.{◌≡◌, ◌∷◌, ◌++◌, List, [], ℕ, flat_map, IfOk, IsTrue, None, OnOk, option_map};
 ghost use Rattle.lrp_model.specs.Texts.{Identifier, without};
-ghost use Rattle.lrp_model.specs.Faults.{first, fault_if};
-ghost use Rattle.lrp_model.specs.Sorting.{Binders, query_standing, query_fault, too_many, sort_faults, binder_faults, form_faults, free_names, term_names, term_faults, column_faults, time_faults, compare_faults};
-ghost use Rattle.lrp_model.specs.RawQueries.{raw_atom};
+ghost use Rattle.lrp_model.specs.Faults.{earliest, fault_if};
+ghost use Rattle.lrp_model.specs.Sorting.{Binders, query_standing, query_fault, too_many, sort_faults, binder_faults, term_names, term_faults, column_faults};
+ghost use Rattle.lrp_model.specs.RawQueries.{raw_atom, raw_compare, raw_member, raw_form_of};
+ghost use Rattle.lrp_model.specs.declared.relations.Relation.{Relation as RelationOf};
+ghost use Rattle.lrp_model.specs.declared.relations.RowPoint.{RowPoint as PointOf};
+ghost use Rattle.lrp_model.specs.declared.tokens.Place.{Place as PlaceOf};
 ghost use Rattle.lrp_model.specs.declared.faults.QueryKind.TheVariants.{Wide as wide, Rebound as rebound};
 ghost use Rattle.lrp_rel.specs.Sooner.{sooner};
 ghost use Rattle.lrp_sorts.specs.Scopes.{Around, binders};
 ghost use Rattle.lrp_sorts.specs.Terms.{IsSeen};
+ghost use Rattle.lrp_sorts.specs.Leaves.{CountsOn, IsLeaf, IsNarrow, ShowsOn};
 ghost use Rattle.lrp_sorts.specs.Widths.{IsTally, IsCounted, added};
 ghost use Rattle.lrp_model.specs.Rows.{columns_in};
 
@@ -15,10 +19,10 @@ use crate::catalog::Catalog;
 use crate::earliest::{fault_where, sooner_of};
 use crate::scope::Scope;
 use crate::terms::{Sorted, compare_fault, member_fault, relation_fault, term_sort};
-use crate::width::Tally;
+use crate::width::{MOST, Tally};
 use lrp_model::{
-    Column, Memory, Name, Op, Place, QueryFault, QueryKind, RawColumn, RawTerm, RawTermKind,
-    Relation,
+    Column, Memory, Name, Op, Place, QueryFault, QueryKind, RawColumn, RawFormula, RawKind,
+    RawTerm, RawTermKind, Relation,
 };
 use std::alloc::Global;
 
@@ -27,6 +31,19 @@ use std::alloc::Global;
 pub struct Finding<'a> {
     pub fault: Option<QueryFault>,
     pub free: Tally<'a>,
+}
+
+impl<'a> Finding<'a> {
+    // No fault and no variables.
+    pub fn none(alloc: Global) -> Self
+        ensures fault { result.fault ≡ None }
+        ensures free { (bs : Binders) (quantifiers : ℕ) → IsTally bs quantifiers [] result.free }
+    {
+        Finding {
+            fault: None,
+            free: Tally::new(alloc),
+        }
+    }
 }
 
 // The name in a term.
@@ -45,8 +62,12 @@ pub fn both<'a>(
     left: Finding<'a>,
     right: Finding<'a>,
 ) -> Result<Finding<'a>, Memory>
-    ensures fault { IfOk result (λ made. made.fault ≡ sooner query_standing left.entry.fault right.entry.fault) }
-    ensures free { IfOk result (λ made. (bs : Binders) (names others : List Identifier) → IsTally bs quantifiers names left.entry.free → IsTally bs quantifiers others right.entry.free → IsTally bs quantifiers (names ++ others) made.free) }
+    ensures fault { IfOk result (λ made. made.fault
+        ≡ sooner query_standing left.entry.fault right.entry.fault) }
+    ensures free { IfOk result (λ made. (bs : Binders) (names others : List Identifier)
+        → IsTally bs quantifiers names left.entry.free
+        → IsTally bs quantifiers others right.entry.free
+        → IsTally bs quantifiers (names ++ others) made.free) }
 {
     Ok(Finding {
         fault: sooner_of(left.fault, right.fault),
@@ -56,7 +77,11 @@ pub fn both<'a>(
 
 // What a formula shows, its own width among it.
 pub fn with_width<'a>(place: Place, inside: Finding<'a>) -> Finding<'a>
-    ensures fault { (bs : Binders) (quantifiers : ℕ) (names : List Identifier) → IsTally bs quantifiers names inside.entry.free → result.fault ≡ sooner query_standing (first query_standing (fault_if (too_many bs names) (query_fault wide place))) inside.entry.fault }
+    ensures fault { (bs : Binders) (quantifiers : ℕ) (names : List Identifier)
+        → IsTally bs quantifiers names inside.entry.free
+        → result.fault ≡ sooner query_standing
+        (earliest query_standing (fault_if (too_many bs names)
+        (query_fault wide place))) inside.entry.fault }
     ensures free { result.free ≡ inside.entry.free }
 {
     let own = fault_where(inside.free.is_wide(), QueryKind::Wide, place);
@@ -68,7 +93,9 @@ pub fn with_width<'a>(place: Place, inside: Finding<'a>) -> Finding<'a>
 
 // The first fault of a binder, whose name is bound around it or not.
 pub fn binder_fault(catalog: &Catalog<'_>, bound: bool, binder: &RawColumn) -> Option<QueryFault>
-    ensures { result ≡ sooner query_standing (first query_standing (fault_if bound (query_fault rebound binder.now.place))) (first query_standing (sort_faults catalog.now binder.now.sort binder.now.sort_place)) }
+    ensures { result ≡ sooner query_standing
+        (earliest query_standing (fault_if bound (query_fault rebound binder.now.place)))
+        (earliest query_standing (sort_faults catalog.now binder.now.sort binder.now.sort_place)) }
 {
     let own = fault_where(bound, QueryKind::Rebound, binder.place);
     sooner_of(own, catalog.sort_fault(&binder.sort, binder.sort_place))
@@ -80,12 +107,13 @@ pub fn bind<'a>(
     scope: &mut Scope<'a>,
     binder: &'a RawColumn,
 ) -> Result<Option<QueryFault>, Memory>
-    ensures fault { IfOk result (λ own. own ≡ first query_standing (binder_faults catalog.now (binders scope.old) binder.now)) }
-    ensures scope { OnOk result (scope.new ≡ record scope.old { quantifiers = binder.now ∷ scope.old.quantifiers }) }
+    ensures fault { IfOk result (λ own. own ≡ earliest query_standing
+        (binder_faults catalog.now (binders scope.old) binder.now)) }
+    ensures scope { OnOk result (scope.new ≡ record
+        scope.old { quantifiers = binder.now ∷ scope.old.quantifiers }) }
 {
-    let own = binder_fault(catalog, scope.sort_of(&binder.name).is_some(), binder);
-    scope.enter(binder)?;
-    Ok(own)
+    let outer = scope.enter(binder)?;
+    Ok(binder_fault(catalog, outer.is_some(), binder))
 }
 
 // What a quantified formula shows, outside its quantifier again. Its own variable counts as free inside.
@@ -96,9 +124,20 @@ pub fn unbind<'a>(
     place: Place,
     inside: Finding<'a>,
 ) -> Result<Finding<'a>, Memory>
-    ensures fault { (outer : Around) (names : List Identifier) → scope.old ≡ record outer { quantifiers = binder.now ∷ outer.quantifiers } → IsCounted scope.old names inside.entry.free → IfOk result (λ made. made.fault ≡ sooner query_standing own (sooner query_standing (first query_standing (fault_if (too_many (binders scope.old) (binder.now.name ∷ names)) (query_fault wide place))) inside.entry.fault)) }
-    ensures free { (outer : Around) (names : List Identifier) → scope.old ≡ record outer { quantifiers = binder.now ∷ outer.quantifiers } → IsCounted scope.old names inside.entry.free → IfOk result (λ made. IsCounted outer (without binder.now.name names) made.free) }
-    ensures scope { OnOk result ((outer : Around) → scope.old ≡ record outer { quantifiers = binder.now ∷ outer.quantifiers } → scope.new ≡ outer) }
+    ensures fault { (outer : Around) (names : List Identifier)
+        → scope.old ≡ record outer { quantifiers = binder.now ∷ outer.quantifiers }
+        → IsCounted scope.old names inside.entry.free
+        → IfOk result (λ made. made.fault
+        ≡ sooner query_standing own (sooner query_standing
+        (earliest query_standing (fault_if (too_many (binders scope.old) (binder.now.name ∷ names))
+        (query_fault wide place))) inside.entry.fault)) }
+    ensures free { (outer : Around) (names : List Identifier)
+        → scope.old ≡ record outer { quantifiers = binder.now ∷ outer.quantifiers }
+        → IsCounted scope.old names inside.entry.free
+        → IfOk result (λ made. IsCounted outer (without binder.now.name names) made.free) }
+    ensures scope { OnOk result ((outer : Around)
+        → scope.old ≡ record outer { quantifiers = binder.now ∷ outer.quantifiers }
+        → scope.new ≡ outer) }
 {
     let mut all = inside.free;
     all.add(scope.quantifiers(), &binder.name, &binder.sort)?;
@@ -125,7 +164,9 @@ fn add_variable<'a>(
     term: &'a RawTerm,
     sorted: Sorted<'_>,
 ) -> Result<(), Memory>
-    ensures { OnOk result ((bs : Binders) (names : List Identifier) → IsSeen bs term.now sorted.entry → IsTally bs quantifiers names variables.old → IsTally bs quantifiers (names ++ term_names term.now) variables.new) }
+    ensures { OnOk result ((bs : Binders) (names : List Identifier)
+        → IsSeen bs term.now sorted.entry → IsTally bs quantifiers names variables.old
+        → IsTally bs quantifiers (names ++ term_names term.now) variables.new) }
 {
     let Some(name) = term_name(term) else {
         return Ok(());
@@ -143,21 +184,24 @@ struct Shown<'a> {
     free: Tally<'a>,
 }
 
-// The terms of an atom beside the columns of its relation. Each variable is looked up once.
+// The terms of an atom beside the columns of its relation, with the variables before. Each variable is looked up once.
 fn terms_shown<'a>(
-    alloc: Global,
     scope: &Scope<'_>,
+    before: Tally<'a>,
     terms: &'a [RawTerm],
     columns: &[Column],
 ) -> Result<Shown<'a>, Memory>
-    ensures fault { IfOk result (λ made. made.fault ≡ first query_standing (flat_map (term_faults (binders scope.now)) terms.now)) }
-    ensures misfit { IfOk result (λ made. made.misfit ≡ first query_standing (column_faults (binders scope.now) terms.now columns.now)) }
-    ensures free { IfOk result (λ made. IsCounted scope.now (flat_map term_names terms.now) made.free) }
+    ensures fault { IfOk result (λ made. made.fault
+        ≡ earliest query_standing (flat_map (term_faults (binders scope.now)) terms.now)) }
+    ensures misfit { IfOk result (λ made. made.misfit
+        ≡ earliest query_standing (column_faults (binders scope.now) terms.now columns.now)) }
+    ensures free { IfOk result (λ made. CountsOn scope.now before.entry
+        (flat_map term_names terms.now) made.free) }
 {
     let quantifiers = scope.quantifiers();
     let mut fault = None;
     let mut misfit = None;
-    let mut free = Tally::new(alloc);
+    let mut free = before;
     for (i, term) in terms.iter().enumerate() {
         let sorted = term_sort(scope, term);
         fault = sooner_of(fault, sorted.fault(term.place));
@@ -181,68 +225,101 @@ fn columns_of(relation: Option<&Relation>) -> &[Column]
     }
 }
 
-// What an atom shows.
-pub fn atom<'a>(
-    alloc: Global,
+// What an atom shows, together with what was found before it.
+fn atom<'a>(
     catalog: &Catalog<'_>,
     scope: &Scope<'_>,
+    before: Finding<'a>,
     place: Place,
     name: &Name,
     terms: &'a [RawTerm],
 ) -> Result<Finding<'a>, Memory>
-    ensures fault { IfOk result (λ made. made.fault ≡ first query_standing (form_faults (raw_atom place name.now terms.now) catalog.now (binders scope.now))) }
-    ensures free { IfOk result (λ made. IsCounted scope.now (free_names (raw_atom place name.now terms.now)) made.free) }
+    ensures { IfOk result (ShowsOn catalog.now scope.now before.entry
+        (raw_atom place name.now terms.now)) }
 {
     let relation = catalog.relation(name);
     let Shown {
         fault,
         misfit,
         free,
-    } = terms_shown(alloc, scope, terms, columns_of(relation))?;
+    } = terms_shown(scope, before.free, terms, columns_of(relation))?;
     let own = relation_fault(place, terms.len(), relation);
+    let inside = sooner_of(fault, sooner_of(own, misfit));
     Ok(Finding {
-        fault: sooner_of(fault, sooner_of(own, misfit)),
+        fault: sooner_of(before.fault, inside),
         free,
     })
 }
 
-// What a comparison shows.
-pub fn comparison<'a>(
-    alloc: Global,
+// What a comparison shows, together with what was found before it.
+fn comparison<'a>(
     scope: &Scope<'_>,
+    before: Finding<'a>,
     left: &'a RawTerm,
     op: Op,
     right: &'a RawTerm,
 ) -> Result<Finding<'a>, Memory>
-    ensures fault { IfOk result (λ made. made.fault ≡ first query_standing (term_faults (binders scope.now) left.now ++ term_faults (binders scope.now) right.now ++ compare_faults (binders scope.now) left.now op right.now)) }
-    ensures free { IfOk result (λ made. IsCounted scope.now (term_names left.now ++ term_names right.now) made.free) }
+    ensures { IfOk result (λ made. (db : List RelationOf) (place : PlaceOf)
+        → ShowsOn db scope.now before.entry (raw_compare place left.now op right.now) made) }
 {
     let one = term_sort(scope, left);
     let other = term_sort(scope, right);
     let quantifiers = scope.quantifiers();
-    let mut free = Tally::new(alloc);
+    let mut free = before.free;
     add_variable(&mut free, quantifiers, left, one)?;
     add_variable(&mut free, quantifiers, right, other)?;
+    let inside = compare_fault(left, one, op, right, other);
     Ok(Finding {
-        fault: compare_fault(left, one, op, right, other),
+        fault: sooner_of(before.fault, inside),
         free,
     })
 }
 
-// What a term in a point shows.
-pub fn membership<'a>(
-    alloc: Global,
+// What a term in a point shows, together with what was found before it.
+fn membership<'a>(
     scope: &Scope<'_>,
+    before: Finding<'a>,
     term: &'a RawTerm,
 ) -> Result<Finding<'a>, Memory>
-    ensures fault { IfOk result (λ made. made.fault ≡ first query_standing (term_faults (binders scope.now) term.now ++ time_faults (binders scope.now) term.now)) }
-    ensures free { IfOk result (λ made. IsCounted scope.now (term_names term.now) made.free) }
+    ensures { IfOk result (λ made. (db : List RelationOf) (place : PlaceOf) (point : PointOf)
+        → ShowsOn db scope.now before.entry (raw_member place term.now point) made) }
 {
     let sorted = term_sort(scope, term);
-    let mut free = Tally::new(alloc);
+    let mut free = before.free;
     add_variable(&mut free, scope.quantifiers(), term, sorted)?;
     Ok(Finding {
-        fault: member_fault(term, sorted),
+        fault: sooner_of(before.fault, member_fault(term, sorted)),
         free,
     })
+}
+
+// Whether it is a formula without parts that has few enough names not to be too wide.
+pub fn is_narrow_leaf(f: &RawFormula) -> bool
+    ensures { IsTrue result → IsNarrow f.now }
+{
+    match &f.kind {
+        RawKind::Atom { terms, .. } => terms.len() <= MOST,
+        RawKind::Compare { .. } | RawKind::Member { .. } => true,
+        _ => false,
+    }
+}
+
+// What a formula without parts shows, together with what was found before it.
+pub fn leaf<'a>(
+    catalog: &Catalog<'_>,
+    scope: &Scope<'_>,
+    before: Finding<'a>,
+    f: &'a RawFormula,
+) -> Result<Finding<'a>, Memory>
+    requires { IsLeaf f.now.kind }
+    ensures { IfOk result (ShowsOn catalog.now scope.now before.entry (raw_form_of f.now)) }
+{
+    match &f.kind {
+        RawKind::Atom { relation, terms } => {
+            atom(catalog, scope, before, f.place, relation, terms.as_slice())
+        }
+        RawKind::Compare { left, op, right } => comparison(scope, before, left, *op, right),
+        RawKind::Member { term, .. } => membership(scope, before, term),
+        _ => unreachable!(),
+    }
 }

@@ -1,7 +1,7 @@
 // The head of a query: its binders, and their faults.
 ghost use Rattle.std.specs.Prelude.{◌≡◌, ◌<◌, ◌+◌, ◌==◌, [], IfOk, if◌then◌else◌};
 ghost use Rattle.lrp_model.specs.Sorts.{is_time};
-ghost use Rattle.lrp_model.specs.Faults.{first, ninth};
+ghost use Rattle.lrp_model.specs.Faults.{earliest, ninth};
 ghost use Rattle.lrp_model.specs.Sorting.{query_standing, query_fault, head_faults};
 ghost use Rattle.lrp_model.specs.declared.faults.QueryKind.TheVariants.{Wide as wide};
 
@@ -29,8 +29,10 @@ pub fn open<'a>(
     catalog: &Catalog<'_>,
     columns: &'a [RawColumn],
 ) -> Result<Opening<'a>, Memory>
-    ensures fault { IfOk result (λ made. made.fault ≡ first query_standing (head_faults catalog.now [] columns.now)) }
-    ensures scope { IfOk result (λ made. made.scope ≡ record { quantifiers = []; head = columns.now }) }
+    ensures fault { IfOk result (λ made. made.fault
+        ≡ earliest query_standing (head_faults catalog.now [] columns.now)) }
+    ensures scope { IfOk result (λ made. made.scope
+        ≡ record { quantifiers = []; head = columns.now }) }
 {
     let mut sorts: HashMap<&'a [u8], &'a Sort> = HashMap::new(alloc);
     let mut found = None;
@@ -67,7 +69,8 @@ impl Before {
     // One column of this sort more.
     fn and(self, sort: &Sort) -> Before
         requires { self.times + self.texts < usize.MAX }
-        ensures { result ≡ (if is_time sort.now then record self { times = self.times + 1 } else record self { texts = self.texts + 1 }) }
+        ensures { result ≡ (if is_time sort.now then record self { times = self.times + 1 } else
+            record self { texts = self.texts + 1 }) }
     {
         if sort.is_time() {
             Before {
@@ -85,7 +88,7 @@ impl Before {
 
 // A ninth time column, or a ninth column among those of all data sorts.
 pub fn head_width(columns: &[RawColumn]) -> Option<QueryFault>
-    ensures { result ≡ first query_standing (ninth (query_fault wide) 0 0 columns.now) }
+    ensures { result ≡ earliest query_standing (ninth (query_fault wide) 0 0 columns.now) }
 {
     let mut found = None;
     let mut before = Before { times: 0, texts: 0 };

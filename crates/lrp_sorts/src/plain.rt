@@ -104,7 +104,8 @@ fn plain_atom(
     relation: &Name,
     terms: &[RawTerm],
 ) -> Result<Formula, Memory>
-    ensures { IfOk result (λ made. form_of made ≡ atom relation.now (map (term_of (binders scope.now)) terms.now)) }
+    ensures { IfOk result (λ made. form_of made
+        ≡ atom relation.now (map (term_of (binders scope.now)) terms.now)) }
 {
     let relation = relation.copy(alloc)?;
     let terms = plain_terms(alloc, scope, terms)?;
@@ -118,14 +119,16 @@ fn plain_comparison(
     op: Op,
     right: &RawTerm,
 ) -> Result<Formula, Memory>
-    ensures { IfOk result (λ made. form_of made ≡ test (compare_of (binders scope.now) left.now op right.now)) }
+    ensures { IfOk result (λ made. form_of made
+        ≡ test (compare_of (binders scope.now) left.now op right.now)) }
 {
     let test = comparison(alloc, scope, left, op, right)?;
     Ok(Formula::Check { test })
 }
 
 fn plain_member(alloc: Global, term: &RawTerm, point: RowPoint) -> Result<Formula, Memory>
-    ensures { IfOk result (λ made. form_of made ≡ test (Test.Member (time_of term.now.kind) point)) }
+    ensures { IfOk result (λ made. form_of made
+        ≡ test (Test.Member (time_of term.now.kind) point)) }
 {
     let term = time_term(alloc, term)?;
     Ok(Formula::Check {
@@ -142,7 +145,8 @@ pub fn plain_formula<'a>(
     scope: &mut Scope<'a>,
     f: &'a RawFormula,
 ) -> Result<Formula, Memory>
-    ensures form { IfOk result (λ made. form_of made ≡ plain_form (raw_form_of f.now) (binders scope.old)) }
+    ensures form { IfOk result (λ made. form_of made
+        ≡ plain_form (raw_form_of f.now) (binders scope.old)) }
     ensures scope { OnOk result (scope.new ≡ scope.old) }
 {
     match &f.kind {
@@ -168,7 +172,8 @@ fn plain_negation<'a>(
     scope: &mut Scope<'a>,
     f: &'a RawFormula,
 ) -> Result<Formula, Memory>
-    ensures form { IfOk result (λ made. form_of made ≡ negation (plain_form (raw_form_of f.now) (binders scope.old))) }
+    ensures form { IfOk result (λ made. form_of made
+        ≡ negation (plain_form (raw_form_of f.now) (binders scope.old))) }
     ensures scope { OnOk result (scope.new ≡ scope.old) }
 {
     let f = plain_formula(alloc, scope, f)?;
@@ -181,7 +186,8 @@ fn plain_conjunction<'a>(
     scope: &mut Scope<'a>,
     fs: &'a [RawFormula],
 ) -> Result<Formula, Memory>
-    ensures form { IfOk result (λ made. form_of made ≡ conjunction (plain_forms (raw_forms_of fs.now) (binders scope.old))) }
+    ensures form { IfOk result (λ made. form_of made
+        ≡ conjunction (plain_forms (raw_forms_of fs.now) (binders scope.old))) }
     ensures scope { OnOk result (scope.new ≡ scope.old) }
 {
     let of = plain_each(alloc, scope, fs)?;
@@ -194,7 +200,8 @@ fn plain_disjunction<'a>(
     scope: &mut Scope<'a>,
     fs: &'a [RawFormula],
 ) -> Result<Formula, Memory>
-    ensures form { IfOk result (λ made. form_of made ≡ disjunction (plain_forms (raw_forms_of fs.now) (binders scope.old))) }
+    ensures form { IfOk result (λ made. form_of made
+        ≡ disjunction (plain_forms (raw_forms_of fs.now) (binders scope.old))) }
     ensures scope { OnOk result (scope.new ≡ scope.old) }
 {
     let of = plain_each(alloc, scope, fs)?;
@@ -208,7 +215,8 @@ fn plain_implication<'a>(
     f: &'a RawFormula,
     left: Formula,
 ) -> Result<Formula, Memory>
-    ensures form { IfOk result (λ made. form_of made ≡ implication (form_of left) (plain_form (raw_form_of f.now) (binders scope.old))) }
+    ensures form { IfOk result (λ made. form_of made
+        ≡ implication (form_of left) (plain_form (raw_form_of f.now) (binders scope.old))) }
     ensures scope { OnOk result (scope.new ≡ scope.old) }
 {
     let right = plain_formula(alloc, scope, f)?;
@@ -222,7 +230,9 @@ fn plain_existential<'a>(
     binder: &'a RawColumn,
     f: &'a RawFormula,
 ) -> Result<Formula, Memory>
-    ensures form { IfOk result (λ made. form_of made ≡ exists binder.now.name binder.now.sort (plain_form (raw_form_of f.now) (binder.now ∷ binders scope.old))) }
+    ensures form { IfOk result (λ made. form_of made
+        ≡ exists binder.now.name binder.now.sort
+        (plain_form (raw_form_of f.now) (binder.now ∷ binders scope.old))) }
     ensures scope { OnOk result (scope.new ≡ scope.old) }
 {
     scope.enter(binder)?;
@@ -237,7 +247,9 @@ fn plain_universal<'a>(
     binder: &'a RawColumn,
     f: &'a RawFormula,
 ) -> Result<Formula, Memory>
-    ensures form { IfOk result (λ made. form_of made ≡ forall binder.now.name binder.now.sort (plain_form (raw_form_of f.now) (binder.now ∷ binders scope.old))) }
+    ensures form { IfOk result (λ made. form_of made
+        ≡ forall binder.now.name binder.now.sort
+        (plain_form (raw_form_of f.now) (binder.now ∷ binders scope.old))) }
     ensures scope { OnOk result (scope.new ≡ scope.old) }
 {
     scope.enter(binder)?;
@@ -251,7 +263,8 @@ fn plain_each<'a>(
     scope: &mut Scope<'a>,
     fs: &'a [RawFormula],
 ) -> Result<Vec<Formula>, Memory>
-    ensures forms { IfOk result (λ made. forms_of made.items ≡ plain_forms (raw_forms_of fs.now) (binders scope.old)) }
+    ensures forms { IfOk result (λ made. forms_of made.items
+        ≡ plain_forms (raw_forms_of fs.now) (binders scope.old)) }
     ensures scope { OnOk result (scope.new ≡ scope.old) }
 {
     let mut made = Vec::with_capacity(alloc, fs.len())?;
@@ -284,8 +297,11 @@ fn some(
     binder: &RawColumn,
     f: Formula,
 ) -> Result<Formula, Memory>
-    ensures form { IfOk result (λ g. form_of g ≡ exists binder.now.name binder.now.sort (form_of f)) }
-    ensures scope { OnOk result ((outer : Around) → scope.old ≡ record outer { quantifiers = binder.now ∷ outer.quantifiers } → scope.new ≡ outer) }
+    ensures form { IfOk result (λ g. form_of g ≡ exists binder.now.name binder.now.sort
+        (form_of f)) }
+    ensures scope { OnOk result ((outer : Around)
+        → scope.old ≡ record outer { quantifiers = binder.now ∷ outer.quantifiers }
+        → scope.new ≡ outer) }
 {
     scope.leave();
     let name = binder.name.copy(alloc)?;
@@ -301,8 +317,11 @@ fn every(
     binder: &RawColumn,
     f: Formula,
 ) -> Result<Formula, Memory>
-    ensures form { IfOk result (λ g. form_of g ≡ forall binder.now.name binder.now.sort (form_of f)) }
-    ensures scope { OnOk result ((outer : Around) → scope.old ≡ record outer { quantifiers = binder.now ∷ outer.quantifiers } → scope.new ≡ outer) }
+    ensures form { IfOk result (λ g. form_of g ≡ forall binder.now.name binder.now.sort
+        (form_of f)) }
+    ensures scope { OnOk result ((outer : Around)
+        → scope.old ≡ record outer { quantifiers = binder.now ∷ outer.quantifiers }
+        → scope.new ≡ outer) }
 {
     scope.leave();
     let name = binder.name.copy(alloc)?;

@@ -1,5 +1,5 @@
 // The binders around a formula, looked up by their names.
-ghost use Rattle.std.specs.Prelude.{◌≡◌, ◌∷◌, OnOk, OnErr, IsSome, Some, option_map, reverse, length, [], if◌then◌else◌, bytes_eq};
+ghost use Rattle.std.specs.Prelude.{◌≡◌, ◌∷◌, IfOk, OnOk, OnErr, IsSome, Some, option_map, reverse, length, [], if◌then◌else◌, bytes_eq};
 ghost use Rattle.lrp_model.specs.Sorting.{binder_sort};
 ghost use Rattle.lrp_sorts.specs.Scopes.{Around, binders, kept_at};
 ghost use Rattle.lrp_model.specs.Texts.{Identifier};
@@ -17,11 +17,21 @@ pub struct Quantifier<'a> {
 }
 
 /// The head's columns, and the quantifiers around a formula. A map has the sort of each name's innermost binder.
-#[derive(Drop)]
 pub struct Scope<'a> {
     columns: &'a [RawColumn],
     sorts: HashMap<&'a [u8], &'a Sort>,
     quantifiers: Vec<Quantifier<'a>>,
+}
+
+// It is let go by one call, which is proved once.
+impl<'a> Drop for Scope<'a> {
+    fn drop(self) {
+        let Scope {
+            columns: _columns,
+            sorts: _sorts,
+            quantifiers: _quantifiers,
+        } = self;
+    }
 }
 
 impl<'a> Model for Scope<'a> {
@@ -49,10 +59,15 @@ impl<'a> Scope<'a> {
         }
     }
 
-    // The sort of a name's innermost binder, where it has one.
+    // The sort of a name's innermost binder, where it has one. Most names are bound by the innermost quantifier.
     pub fn sort_of(&self, name: &Name) -> Option<&'a Sort>
         ensures { option_map (λ s. s.now) result ≡ binder_sort (binders self.now) name.now }
     {
+        if let Some(last) = self.quantifiers.last() {
+            if last.binder.name == *name {
+                return Some(&last.binder.sort);
+            }
+        }
         self.sorts.get(name.as_bytes()).copied()
     }
 
@@ -63,24 +78,25 @@ impl<'a> Scope<'a> {
         self.quantifiers.len()
     }
 
-    // One quantifier further in.
-    pub fn enter(&mut self, binder: &'a RawColumn) -> Result<(), Memory>
-        ensures { OnOk result (self.new ≡ record self.old { quantifiers = binder.now ∷ self.old.quantifiers }) }
+    // One quantifier further in; and the sort that its name has outside, where it is bound there too.
+    pub fn enter(&mut self, binder: &'a RawColumn) -> Result<Option<&'a Sort>, Memory>
+        ensures outer { IfOk result (λ outer. option_map (λ s. s.now) outer
+            ≡ binder_sort (binders self.old) binder.now.name) }
+        ensures scope { OnOk result (self.new ≡ record self.old {
+          quantifiers = binder.now
+              ∷ self.old.quantifiers;
+        }) }
     {
-        let outer = self.sort_of(&binder.name);
-        self.quantifiers.push(Quantifier { binder, outer })?;
-        match bind_name(&mut self.sorts, binder.name.as_bytes(), &binder.sort) {
-            Ok(()) => Ok(()),
-            Err(refused) => {
-                self.quantifiers.pop();
-                Err(refused)
-            }
-        }
+        self.quantifiers.reserve(1)?;
+        let outer = bind_name(&mut self.sorts, binder.name.as_bytes(), &binder.sort)?;
+        self.quantifiers.push_reserved(Quantifier { binder, outer });
+        Ok(outer)
     }
 
     // Out of the innermost quantifier.
     pub fn leave(&mut self)
-        ensures { (c : RawColumn) (outer : Around) → self.old ≡ record outer { quantifiers = c ∷ outer.quantifiers } → self.new ≡ outer }
+        ensures { (c : RawColumn) (outer : Around)
+            → self.old ≡ record outer { quantifiers = c ∷ outer.quantifiers } → self.new ≡ outer }
     {
         let Some(last) = self.quantifiers.pop() else {
             return;
@@ -89,23 +105,28 @@ impl<'a> Scope<'a> {
     }
 }
 
-// A name, bound to a sort from now on.
+// A name, bound to a sort from now on; and the sort that it had before.
 fn bind_name<'a>(
     sorts: &mut HashMap<&'a [u8], &'a Sort>,
     name: &'a [u8],
     sort: &'a Sort,
-) -> Result<(), Memory>
-    ensures bound { OnOk result ((n : Identifier) → kept_at sorts.new n ≡ (if bytes_eq name.now n then Some sort.now else kept_at sorts.old n)) }
+) -> Result<Option<&'a Sort>, Memory>
+    ensures outer { IfOk result (λ outer. option_map (λ s. s.now) outer
+        ≡ kept_at sorts.old name.now) }
+    ensures bound { OnOk result ((n : Identifier)
+        → kept_at sorts.new n ≡ (if bytes_eq name.now n then Some sort.now else kept_at sorts.old
+        n)) }
     ensures refused { OnErr result ((n : Identifier) → kept_at sorts.new n ≡ kept_at sorts.old n) }
 {
-    sorts.insert(name, sort)?;
-    Ok(())
+    Ok(sorts.insert(name, sort)?)
 }
 
 // A name that is bound, with the sort that it has outside.
 fn restore<'a>(sorts: &mut HashMap<&'a [u8], &'a Sort>, name: &'a [u8], outer: Option<&'a Sort>)
     requires { IsSome (kept_at sorts.old name.now) }
-    ensures { (n : Identifier) → kept_at sorts.new n ≡ (if bytes_eq name.now n then option_map (λ s. s.now) outer.entry else kept_at sorts.old n) }
+    ensures { (n : Identifier) → kept_at sorts.new n
+        ≡ (if bytes_eq name.now n then option_map
+        (λ s. s.now) outer.entry else kept_at sorts.old n) }
 {
     match outer {
         Some(sort) => match sorts.insert(name, sort) {

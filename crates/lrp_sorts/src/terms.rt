@@ -1,6 +1,6 @@
 // The sorts of terms, and the faults of terms, atoms and comparisons.
 ghost use Rattle.std.specs.Prelude.{◌≡◌, ◌++◌, option_map};
-ghost use Rattle.lrp_model.specs.Faults.{first, fault_if};
+ghost use Rattle.lrp_model.specs.Faults.{earliest, fault_if};
 ghost use Rattle.lrp_model.specs.Sorting.{Binders, query_standing, query_fault, term_sort as sort_by, is_data_term, differs, unlike, term_faults, time_faults, compare_faults};
 ghost use Rattle.lrp_sorts.specs.Scopes.{binders};
 ghost use Rattle.lrp_sorts.specs.Terms.{sort_told, told_faults, sort_kept, IsSeen, misfits, atom_head_faults};
@@ -44,7 +44,7 @@ impl<'a> Sorted<'a> {
 
     // A variable without a binder, or an offset on one of a data sort, at the term's place.
     pub fn fault(&self, place: Place) -> Option<QueryFault>
-        ensures { result ≡ first query_standing (told_faults self.now place) }
+        ensures { result ≡ earliest query_standing (told_faults self.now place) }
     {
         match self {
             Sorted::Shifted { sort } => fault_where(!sort.is_time(), QueryKind::Sort, place),
@@ -55,7 +55,8 @@ impl<'a> Sorted<'a> {
 
     // A term whose sort is not that of the column beside it, where one stands there, at the term's place.
     pub fn misfit(&self, place: Place, column: Option<&Column>) -> Option<QueryFault>
-        ensures { result ≡ first query_standing (misfits (sort_told self.now) place (option_map (λ c. c.now) column.entry)) }
+        ensures { result ≡ earliest query_standing
+            (misfits (sort_told self.now) place (option_map (λ c. c.now) column.entry)) }
     {
         match column {
             Some(column) => fault_where(self.differs(&column.sort), QueryKind::Sort, place),
@@ -65,7 +66,8 @@ impl<'a> Sorted<'a> {
 
     // A term of a data sort where a time term is wanted, at its place.
     fn time_fault(&self, place: Place) -> Option<QueryFault>
-        ensures { result ≡ first query_standing (fault_if (is_data_term (sort_told self.now)) (query_fault QueryKind.Sort place)) }
+        ensures { result ≡ earliest query_standing
+            (fault_if (is_data_term (sort_told self.now)) (query_fault QueryKind.Sort place)) }
     {
         fault_where(self.is_data(), QueryKind::Sort, place)
     }
@@ -127,7 +129,8 @@ pub fn is_data(scope: &Scope<'_>, term: &RawTerm) -> bool
 
 // An atom of no relation, or of another number of terms than the relation has columns.
 pub fn relation_fault(place: Place, terms: usize, relation: Option<&Relation>) -> Option<QueryFault>
-    ensures { result ≡ first query_standing (atom_head_faults place terms (option_map (λ r. r.now) relation.entry)) }
+    ensures { result ≡ earliest query_standing
+        (atom_head_faults place terms (option_map (λ r. r.now) relation.entry)) }
 {
     match relation {
         Some(relation) => {
@@ -147,7 +150,9 @@ pub fn sides_fault(
     right: &RawTerm,
     other: Sorted<'_>,
 ) -> Option<QueryFault>
-    ensures { (bs : Binders) → sort_told one.entry ≡ sort_by bs left.now → sort_told other.entry ≡ sort_by bs right.now → result ≡ first query_standing (compare_faults bs left.now op right.now) }
+    ensures { (bs : Binders) → sort_told one.entry ≡ sort_by bs left.now
+        → sort_told other.entry ≡ sort_by bs right.now
+        → result ≡ earliest query_standing (compare_faults bs left.now op right.now) }
 {
     match op {
         Op::Eq => {
@@ -169,7 +174,10 @@ pub fn compare_fault(
     right: &RawTerm,
     other: Sorted<'_>,
 ) -> Option<QueryFault>
-    ensures { (bs : Binders) → IsSeen bs left.now one.entry → IsSeen bs right.now other.entry → result ≡ first query_standing (term_faults bs left.now ++ term_faults bs right.now ++ compare_faults bs left.now op right.now) }
+    ensures { (bs : Binders) → IsSeen bs left.now one.entry → IsSeen bs right.now other.entry
+        → result ≡ earliest query_standing
+        (term_faults bs left.now ++ term_faults bs right.now
+        ++ compare_faults bs left.now op right.now) }
 {
     let terms = sooner_of(one.fault(left.place), other.fault(right.place));
     sooner_of(terms, sides_fault(left, one, op, right, other))
@@ -178,7 +186,8 @@ pub fn compare_fault(
 // The first fault of a term in a point, from its sort.
 #[tactic(auto, using(lrp_rel::proofs::FirstFault::first_of_both))]
 pub fn member_fault(term: &RawTerm, sorted: Sorted<'_>) -> Option<QueryFault>
-    ensures { (bs : Binders) → IsSeen bs term.now sorted.entry → result ≡ first query_standing (term_faults bs term.now ++ time_faults bs term.now) }
+    ensures { (bs : Binders) → IsSeen bs term.now sorted.entry
+        → result ≡ earliest query_standing (term_faults bs term.now ++ time_faults bs term.now) }
 {
     sooner_of(sorted.fault(term.place), sorted.time_fault(term.place))
 }

@@ -1,7 +1,7 @@
 // The first fault of a formula and its free names, by one walk over it.
 ghost use Rattle.std.specs.Prelude.{◌≡◌, ◌∷◌, ◌++◌, [], List, IfOk, OnOk};
 ghost use Rattle.lrp_model.specs.Texts.{Identifier, without};
-ghost use Rattle.lrp_model.specs.Faults.{first};
+ghost use Rattle.lrp_model.specs.Faults.{earliest};
 ghost use Rattle.lrp_model.specs.RawQueries.{raw_form_of, raw_forms_of};
 ghost use Rattle.lrp_model.specs.Sorting.{query_standing, widened, binder_faults, form_faults, forms_faults, free_names, free_names_each};
 ghost use Rattle.lrp_rel.specs.Sooner.{sooner};
@@ -9,9 +9,8 @@ ghost use Rattle.lrp_sorts.specs.Scopes.{binders};
 ghost use Rattle.lrp_sorts.specs.Widths.{IsCounted};
 
 use crate::catalog::Catalog;
-use crate::finding::{Finding, atom, bind, both, comparison, membership, unbind, with_width};
+use crate::finding::{Finding, bind, both, is_narrow_leaf, leaf, unbind, with_width};
 use crate::scope::Scope;
-use crate::width::Tally;
 use lrp_model::{Memory, RawColumn, RawFormula, RawKind};
 use std::alloc::Global;
 
@@ -26,16 +25,17 @@ pub fn inspect<'a>(
     scope: &mut Scope<'a>,
     f: &'a RawFormula,
 ) -> Result<Finding<'a>, Memory>
-    ensures fault { IfOk result (λ made. made.fault ≡ first query_standing (form_faults (raw_form_of f.now) catalog.now (binders scope.old))) }
-    ensures free { IfOk result (λ made. IsCounted scope.old (free_names (raw_form_of f.now)) made.free) }
+    ensures fault { IfOk result (λ made. made.fault
+        ≡ earliest query_standing (form_faults (raw_form_of f.now) catalog.now
+        (binders scope.old))) }
+    ensures free { IfOk result (λ made. IsCounted scope.old
+        (free_names (raw_form_of f.now)) made.free) }
     ensures scope { OnOk result (scope.new ≡ scope.old) }
 {
     match &f.kind {
-        RawKind::Atom { relation, terms } => {
-            atom(alloc, catalog, scope, f.place, relation, terms.as_slice())
+        RawKind::Atom { .. } | RawKind::Compare { .. } | RawKind::Member { .. } => {
+            leaf(catalog, scope, Finding::none(alloc), f)
         }
-        RawKind::Compare { left, op, right } => comparison(alloc, scope, left, *op, right),
-        RawKind::Member { term, .. } => membership(alloc, scope, term),
         RawKind::Not { of } => inspect_whole(alloc, catalog, scope, of),
         RawKind::Group { of } => inspect_whole(alloc, catalog, scope, of),
         RawKind::And { of } => inspect_each(alloc, catalog, scope, of),
@@ -57,8 +57,11 @@ pub fn inspect_whole<'a>(
     scope: &mut Scope<'a>,
     f: &'a RawFormula,
 ) -> Result<Finding<'a>, Memory>
-    ensures fault { IfOk result (λ made. made.fault ≡ first query_standing (widened (binders scope.old) [] (raw_form_of f.now) (form_faults (raw_form_of f.now) catalog.now (binders scope.old)))) }
-    ensures free { IfOk result (λ made. IsCounted scope.old (free_names (raw_form_of f.now)) made.free) }
+    ensures fault { IfOk result (λ made. made.fault
+        ≡ earliest query_standing (widened (binders scope.old) [] (raw_form_of f.now)
+        (form_faults (raw_form_of f.now) catalog.now (binders scope.old)))) }
+    ensures free { IfOk result (λ made. IsCounted scope.old
+        (free_names (raw_form_of f.now)) made.free) }
     ensures scope { OnOk result (scope.new ≡ scope.old) }
 {
     let inside = inspect(alloc, catalog, scope, f)?;
@@ -74,10 +77,18 @@ fn inspect_behind<'a>(
     before: Finding<'a>,
     f: &'a RawFormula,
 ) -> Result<Finding<'a>, Memory>
-    ensures fault { IfOk result (λ made. made.fault ≡ sooner query_standing before.entry.fault (first query_standing (widened (binders scope.old) [] (raw_form_of f.now) (form_faults (raw_form_of f.now) catalog.now (binders scope.old))))) }
-    ensures free { IfOk result (λ made. (names : List Identifier) → IsCounted scope.old names before.entry.free → IsCounted scope.old (names ++ free_names (raw_form_of f.now)) made.free) }
+    ensures fault { IfOk result (λ made. made.fault
+        ≡ sooner query_standing before.entry.fault
+        (earliest query_standing (widened (binders scope.old) [] (raw_form_of f.now)
+        (form_faults (raw_form_of f.now) catalog.now (binders scope.old))))) }
+    ensures free { IfOk result (λ made. (names : List Identifier)
+        → IsCounted scope.old names before.entry.free
+        → IsCounted scope.old (names ++ free_names (raw_form_of f.now)) made.free) }
     ensures scope { OnOk result (scope.new ≡ scope.old) }
 {
+    if is_narrow_leaf(f) {
+        return leaf(catalog, scope, before, f);
+    }
     let behind = inspect_whole(alloc, catalog, scope, f)?;
     both(scope.quantifiers(), before, behind)
 }
@@ -91,8 +102,14 @@ fn inspect_bound<'a>(
     binder: &'a RawColumn,
     f: &'a RawFormula,
 ) -> Result<Finding<'a>, Memory>
-    ensures fault { IfOk result (λ made. made.fault ≡ sooner query_standing (first query_standing (binder_faults catalog.now (binders scope.old) binder.now)) (first query_standing (widened (binder.now ∷ binders scope.old) (binder.now.name ∷ []) (raw_form_of f.now) (form_faults (raw_form_of f.now) catalog.now (binder.now ∷ binders scope.old))))) }
-    ensures free { IfOk result (λ made. IsCounted scope.old (without binder.now.name (free_names (raw_form_of f.now))) made.free) }
+    ensures fault { IfOk result (λ made. made.fault
+        ≡ sooner query_standing (earliest query_standing
+        (binder_faults catalog.now (binders scope.old) binder.now))
+        (earliest query_standing (widened (binder.now ∷ binders scope.old) (binder.now.name ∷ [])
+        (raw_form_of f.now) (form_faults (raw_form_of f.now) catalog.now
+        (binder.now ∷ binders scope.old))))) }
+    ensures free { IfOk result (λ made. IsCounted scope.old
+        (without binder.now.name (free_names (raw_form_of f.now))) made.free) }
     ensures scope { OnOk result (scope.new ≡ scope.old) }
 {
     let own = bind(catalog, scope, binder)?;
@@ -108,14 +125,14 @@ fn inspect_each<'a>(
     scope: &mut Scope<'a>,
     fs: &'a [RawFormula],
 ) -> Result<Finding<'a>, Memory>
-    ensures fault { IfOk result (λ made. made.fault ≡ first query_standing (forms_faults (raw_forms_of fs.now) catalog.now (binders scope.old))) }
-    ensures free { IfOk result (λ made. IsCounted scope.old (free_names_each (raw_forms_of fs.now)) made.free) }
+    ensures fault { IfOk result (λ made. made.fault
+        ≡ earliest query_standing (forms_faults (raw_forms_of fs.now) catalog.now
+        (binders scope.old))) }
+    ensures free { IfOk result (λ made. IsCounted scope.old
+        (free_names_each (raw_forms_of fs.now)) made.free) }
     ensures scope { OnOk result (scope.new ≡ scope.old) }
 {
-    let mut found = Finding {
-        fault: None,
-        free: Tally::new(alloc),
-    };
+    let mut found = Finding::none(alloc);
     for f in fs {
         found = inspect_behind(alloc, catalog, scope, found, f)?;
     }

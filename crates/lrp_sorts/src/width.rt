@@ -11,14 +11,23 @@ use lrp_model::{Memory, Name, Sort};
 use std::alloc::Global;
 
 // The most variables of a kind that may occur free in a formula.
-const MOST: usize = 8;
+pub const MOST: usize = 8;
 
 /// The names of time variables and of data variables that occur free, each once. A list that is longer than 8 and the number of the quantifiers
 /// around stays too long, however many of these take a name off, so it need not grow.
-#[derive(Drop)]
 pub struct Tally<'a> {
     pub times: Vec<&'a Name>,
     pub texts: Vec<&'a Name>,
+}
+
+// It is let go by one call, which is proved once.
+impl<'a> Drop for Tally<'a> {
+    fn drop(self) {
+        let Tally {
+            times: _times,
+            texts: _texts,
+        } = self;
+    }
 }
 
 impl<'a> Tally<'a> {
@@ -34,7 +43,9 @@ impl<'a> Tally<'a> {
 
     // One name more, whose binder has this sort.
     pub fn add(&mut self, quantifiers: usize, name: &'a Name, sort: &Sort) -> Result<(), Memory>
-        ensures { OnOk result ((bs : Binders) (names : List Identifier) → binder_sort bs name.now ≡ Some sort.now → IsTally bs quantifiers names self.old → IsTally bs quantifiers (names ++ name.now ∷ []) self.new) }
+        ensures { OnOk result ((bs : Binders) (names : List Identifier)
+            → binder_sort bs name.now ≡ Some sort.now → IsTally bs quantifiers names self.old
+            → IsTally bs quantifiers (names ++ name.now ∷ []) self.new) }
     {
         if sort.is_time() {
             keep(&mut self.times, quantifiers, name)
@@ -45,17 +56,26 @@ impl<'a> Tally<'a> {
 
     // The names of this formula and of another one.
     pub fn and(self, quantifiers: usize, other: Tally<'a>) -> Result<Tally<'a>, Memory>
-        ensures { IfOk result (λ made. (bs : Binders) (names others : List Identifier) → IsTally bs quantifiers names self.entry → IsTally bs quantifiers others other.entry → IsTally bs quantifiers (names ++ others) made) }
+        ensures { IfOk result (λ made. (bs : Binders) (names others : List Identifier)
+            → IsTally bs quantifiers names self.entry → IsTally bs quantifiers others other.entry
+            → IsTally bs quantifiers (names ++ others) made) }
     {
+        let Tally { times, texts } = self;
+        let Tally {
+            times: more_times,
+            texts: more_texts,
+        } = other;
         Ok(Tally {
-            times: merged(quantifiers, self.times, other.times)?,
-            texts: merged(quantifiers, self.texts, other.texts)?,
+            times: merged(quantifiers, times, more_times)?,
+            texts: merged(quantifiers, texts, more_texts)?,
         })
     }
 
     // Outside a quantifier, whose name is not free there.
     pub fn leave(&mut self, name: &Name)
-        ensures { (c : RawColumn) (bs : Binders) (quantifiers : ℕ) (names : List Identifier) → c.name ≡ name.now → IsTally (c ∷ bs) (suc quantifiers) names self.old → IsTally bs quantifiers (without name.now names) self.new }
+        ensures { (c : RawColumn) (bs : Binders) (quantifiers : ℕ) (names : List Identifier)
+            → c.name ≡ name.now → IsTally (c ∷ bs) (suc quantifiers) names self.old
+            → IsTally bs quantifiers (without name.now names) self.new }
     {
         self.times.retain(|n| is_other(name, n));
         self.texts.retain(|n| is_other(name, n));
@@ -63,7 +83,8 @@ impl<'a> Tally<'a> {
 
     // More than 8 variables of sort time, or more than 8 of all data sorts together.
     pub fn is_wide(&self) -> bool
-        ensures { (bs : Binders) (quantifiers : ℕ) (names : List Identifier) → IsTally bs quantifiers names self.now → result ≡ too_many bs names }
+        ensures { (bs : Binders) (quantifiers : ℕ) (names : List Identifier)
+            → IsTally bs quantifiers names self.now → result ≡ too_many bs names }
     {
         self.times.len() > MOST || self.texts.len() > MOST
     }
@@ -83,7 +104,11 @@ fn is_among(names: &[&Name], name: &Name) -> bool
 
 // A name among others of its kind, unless they are too many anyway.
 fn keep<'a>(kept: &mut Vec<&'a Name>, quantifiers: usize, name: &'a Name) -> Result<(), Memory>
-    ensures { OnOk result ((passes : SortOf → Bool) (bs : Binders) (names : List Identifier) → passing passes (binder_sort bs name.now) ≡ true → AreKeptNames passes bs quantifiers names (names_behind kept.old.items) → AreKeptNames passes bs quantifiers (names ++ name.now ∷ []) (names_behind kept.new.items)) }
+    ensures { OnOk result ((passes : SortOf → Bool) (bs : Binders) (names : List Identifier)
+        → passing passes (binder_sort bs name.now) ≡ true
+        → AreKeptNames passes bs quantifiers names (names_behind kept.old.items)
+        → AreKeptNames passes bs quantifiers (names ++ name.now ∷ [])
+        (names_behind kept.new.items)) }
 {
     let more = kept.len().saturating_sub(MOST);
     if more <= quantifiers && !is_among(kept, name) {
@@ -98,7 +123,11 @@ fn merged<'a>(
     left: Vec<&'a Name>,
     right: Vec<&'a Name>,
 ) -> Result<Vec<&'a Name>, Memory>
-    ensures { IfOk result (λ made. (passes : SortOf → Bool) (bs : Binders) (names more : List Identifier) → AreKeptNames passes bs quantifiers names (names_behind left.entry.items) → AreKeptNames passes bs quantifiers more (names_behind right.entry.items) → AreKeptNames passes bs quantifiers (names ++ more) (names_behind made.items)) }
+    ensures { IfOk result (λ made. (passes : SortOf → Bool) (bs : Binders)
+        (names more : List Identifier) → AreKeptNames passes bs quantifiers names
+        (names_behind left.entry.items)
+        → AreKeptNames passes bs quantifiers more (names_behind right.entry.items)
+        → AreKeptNames passes bs quantifiers (names ++ more) (names_behind made.items)) }
 {
     if left.len() < right.len() {
         appended(quantifiers, right, &left)
@@ -113,7 +142,11 @@ fn appended<'a>(
     names: Vec<&'a Name>,
     others: &[&'a Name],
 ) -> Result<Vec<&'a Name>, Memory>
-    ensures { IfOk result (λ made. (passes : SortOf → Bool) (bs : Binders) (some more : List Identifier) → AreKeptNames passes bs quantifiers some (names_behind names.entry.items) → AreKeptNames passes bs quantifiers more (names_behind others.now) → AreKeptNames passes bs quantifiers (some ++ more) (names_behind made.items)) }
+    ensures { IfOk result (λ made. (passes : SortOf → Bool) (bs : Binders)
+        (some more : List Identifier) → AreKeptNames passes bs quantifiers some
+        (names_behind names.entry.items)
+        → AreKeptNames passes bs quantifiers more (names_behind others.now)
+        → AreKeptNames passes bs quantifiers (some ++ more) (names_behind made.items)) }
 {
     let mut kept = names;
     keep_each(&mut kept, quantifiers, others)?;
@@ -126,7 +159,10 @@ fn keep_each<'a>(
     quantifiers: usize,
     others: &[&'a Name],
 ) -> Result<(), Memory>
-    ensures { OnOk result ((passes : SortOf → Bool) (bs : Binders) (names more : List Identifier) → AreKeptNames passes bs quantifiers names (names_behind kept.old.items) → AreKeptNames passes bs quantifiers more (names_behind others.now) → AreKeptNames passes bs quantifiers (names ++ more) (names_behind kept.new.items)) }
+    ensures { OnOk result ((passes : SortOf → Bool) (bs : Binders) (names more : List Identifier)
+        → AreKeptNames passes bs quantifiers names (names_behind kept.old.items)
+        → AreKeptNames passes bs quantifiers more (names_behind others.now)
+        → AreKeptNames passes bs quantifiers (names ++ more) (names_behind kept.new.items)) }
 {
     for name in others {
         keep(kept, quantifiers, *name)?;

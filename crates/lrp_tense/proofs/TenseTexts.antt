@@ -10,7 +10,8 @@ use Rattle.lrp_model.specs.Tokens.{Tokens}
 use Rattle.lrp_model.specs.Lexing.{tokens}
 use Rattle.lrp_text.specs.Sources.{Stands}
 use Rattle.lrp_text.specs.declared.lexemes.Lexeme.{Lexeme}
-use Rattle.lrp_query.specs.Reading.{IsFaultOrMemory, refusal_of}
+use Rattle.lrp_query.specs.Reading.{refusal_of}
+use Rattle.lrp_model.specs.Outcomes.{IsFaultOrMemory}
 use Rattle.lrp_query.specs.Refusals.{IsUnreadOf}
 use Rattle.lrp_query.proofs.QueryRules.{one_tree}
 use Rattle.lrp_query.proofs.TextLaws.{IsTextOf, query_read as text_read, text_refused as text_unread, no_fault as no_text_fault}

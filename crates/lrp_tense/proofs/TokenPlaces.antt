@@ -7,7 +7,8 @@ use Rattle.lrp_model.specs.declared.tokens.Symbol.TheVariants.{Open, Close, Open
 use Rattle.lrp_model.specs.Texts.{Identifier}
 use Rattle.lrp_model.specs.Tokens.{Token, Placed, Tokens}
 use Rattle.lrp_model.specs.Tokens.Token.{name_token, word_token, number_token, text_token, symbol_token, end_token, bad_token, hole_token}
-use Rattle.lrp_model.specs.Lexing.{Scanned, QuotedText as TextRead, scan, run, is_letter, is_digit, is_blank, is_name_byte, value_from, word_or_name, one, one_or_two, symbol_from, text_from, text_scanned, skip, after, moved, headed, tokens_from, tokens, start}
+use Rattle.lrp_model.specs.Lexing.{Scanned, QuotedText as TextRead, scan, run, is_letter, is_blank, is_name_byte, value_from, word_or_name, one, one_or_two, symbol_from, text_from, text_scanned, skip, after, moved, headed, tokens_from, tokens, start}
+use Rattle.std.specs.Char.{is_ascii_digit}
 use Rattle.lrp_model.specs.Names.{IsName}
 use Rattle.lrp_text.specs.Sources.{GoesOn}
 use Rattle.lrp_text.proofs.Scans.{chosen}
@@ -53,7 +54,7 @@ plain_name (b ∷ bs) name =
     let n : List ℕ = b ∷ bs in
     let P : Scanned → Type 0 = λ s. s ≡ record { token = name_token n; taken = n; left = [] } → IsPlain n in
     chosen P (is_letter b) _ _ (λ l d. plain_run n (ap (λ s. s.taken) d)) (λ l.
-    chosen P (is_digit b) _ _ (λ e d. let h = ap (λ s. s.token) d in absurd cc) (λ e.
+    chosen P (is_ascii_digit b) _ _ (λ e d. let h = ap (λ s. s.token) d in absurd cc) (λ e.
     chosen P (b == 34) (text_scanned (text_from false bs)) (symbol_from b bs) (λ f d. absurd (text_no (text_from false bs) n (ap (λ s. s.token) d))) (λ f d. absurd (symbol_no b bs n (ap (λ s. s.token) d))))) name
 
 -- ---- places
@@ -147,8 +148,8 @@ unfolding scan
 scan_bytes [] = tt
 scan_bytes (b ∷ bs) =
     let P : Scanned → Type 0 = λ s. HasBytes s.token s.taken in
-    chosen P (is_letter b) _ _ (λ e. run_bytes is_name_byte (word_or_name (run is_name_byte (b ∷ bs))) b bs (ap (λ c. c || is_digit b) e)) (λ n.
-    chosen P (is_digit b) _ _ (λ e. run_bytes is_digit (number_token (value_from 0 (run is_digit (b ∷ bs)))) b bs e) (λ m.
+    chosen P (is_letter b) _ _ (λ e. run_bytes is_name_byte (word_or_name (run is_name_byte (b ∷ bs))) b bs (ap (λ c. c || is_ascii_digit b) e)) (λ n.
+    chosen P (is_ascii_digit b) _ _ (λ e. run_bytes is_ascii_digit (number_token (value_from 0 (run is_ascii_digit (b ∷ bs)))) b bs e) (λ m.
     chosen P (b == 34) (text_scanned (text_from false bs)) (symbol_from b bs) (λ e. text_bytes (text_from false bs)) (λ o. symbol_bytes b bs)))
 
 -- each place stands before all that follow

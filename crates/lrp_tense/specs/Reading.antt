@@ -10,6 +10,7 @@ use Rattle.lrp_model.specs.declared.faults.QueryRead.TheVariants.{Fault, Memory}
 use Rattle.lrp_tense.specs.declared.tree.TenseQuery.{TenseQuery}
 use Rattle.lrp_tense.specs.Trees.{TenseForm, TenseQuestion, tense_form_of, tense_question_of}
 use Rattle.lrp_tense.specs.TenseReading.{IsTenseQueryFault}
+use Rattle.lrp_model.specs.Outcomes.{IsQueryOrMemory}
 
 -- why there is no query: the fault of its text, or want of memory
 abbrev pub IsTenseUnread : List ℕ → QueryRead → Type 0
@@ -33,6 +34,4 @@ ReadsTenseQuery outcome (Err k) new = Reads outcome (Err k) new
 
 -- this query, unless memory ran out
 abbrev pub IsTenseOrMemory : TenseQuestion → Result TenseQuery QueryRead → Type 0
-IsTenseOrMemory q (Ok r) = tense_question_of r ≡ q
-IsTenseOrMemory q (Err Memory) = Unit {0}
-IsTenseOrMemory q (Err (Fault f)) = ⊥
+IsTenseOrMemory = IsQueryOrMemory tense_question_of

@@ -49,7 +49,8 @@ pub fn implied(
     left: TenseFormula,
     right: TenseFormula,
 ) -> Result<TenseFormula, Memory>
-    ensures { IfOk result (λ made. tense_form_of made ≡ tense_implies place (tense_form_of left) (tense_form_of right)) }
+    ensures { IfOk result (λ made. tense_form_of made
+        ≡ tense_implies place (tense_form_of left) (tense_form_of right)) }
 {
     let left = Box::new(alloc, left)?;
     let right = Box::new(alloc, right)?;
@@ -75,7 +76,8 @@ pub fn some(
     binder: RawColumn,
     of: TenseFormula,
 ) -> Result<TenseFormula, Memory>
-    ensures { IfOk result (λ made. tense_form_of made ≡ tense_exists place binder (tense_form_of of)) }
+    ensures { IfOk result (λ made. tense_form_of made
+        ≡ tense_exists place binder (tense_form_of of)) }
 {
     let of = Box::new(alloc, of)?;
     Ok(TenseFormula {
@@ -90,7 +92,8 @@ pub fn every(
     binder: RawColumn,
     of: TenseFormula,
 ) -> Result<TenseFormula, Memory>
-    ensures { IfOk result (λ made. tense_form_of made ≡ tense_forall place binder (tense_form_of of)) }
+    ensures { IfOk result (λ made. tense_form_of made
+        ≡ tense_forall place binder (tense_form_of of)) }
 {
     let of = Box::new(alloc, of)?;
     Ok(TenseFormula {
@@ -125,7 +128,9 @@ pub fn ranged(
     ends: (i64, i64),
     of: TenseFormula,
 ) -> Result<TenseFormula, Memory>
-    ensures { IfOk result (λ made. tense_form_of made ≡ ranged_form word (operator_at opening.place opening.name opening.name_place) ends.0 ends.1 (tense_form_of of)) }
+    ensures { IfOk result (λ made. tense_form_of made
+        ≡ ranged_form word (operator_at opening.place opening.name opening.name_place) ends.0 ends.1
+        (tense_form_of of)) }
 {
     let of = Box::new(alloc, of)?;
     let (from, to) = ends;
@@ -161,7 +166,9 @@ pub fn paired(
     left: TenseFormula,
     right: TenseFormula,
 ) -> Result<TenseFormula, Memory>
-    ensures { IfOk result (λ made. tense_form_of made ≡ paired_form word (operator_at opening.place opening.name opening.name_place) (tense_form_of left) (tense_form_of right)) }
+    ensures { IfOk result (λ made. tense_form_of made
+        ≡ paired_form word (operator_at opening.place opening.name opening.name_place)
+        (tense_form_of left) (tense_form_of right)) }
 {
     let left = Box::new(alloc, left)?;
     let right = Box::new(alloc, right)?;
@@ -198,7 +205,8 @@ pub fn members_from(alloc: Global, first: TenseFormula) -> Result<Vec<TenseFormu
 
 /// One more member behind the others.
 pub fn add(all: &mut Vec<TenseFormula>, one: TenseFormula) -> Result<(), Memory>
-    ensures { IfOk result (λ _. map tense_form_of all.new.items ≡ map tense_form_of all.old.items ++ tense_form_of one ∷ []) }
+    ensures { IfOk result (λ _. map tense_form_of all.new.items ≡ map tense_form_of all.old.items
+        ++ tense_form_of one ∷ []) }
 {
     Ok(all.push(one)?)
 }

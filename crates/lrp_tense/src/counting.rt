@@ -76,7 +76,8 @@ pub fn number(positions: &[u64], passed: usize, place: Place) -> u64
 #[cycle(gathering)]
 #[tactic(auto, using(crate::proofs::Steps::and_operators, crate::proofs::Steps::or_operators))]
 fn gather(f: &TenseFormula, places: &mut Vec<Place>) -> Result<(), Memory>
-    ensures { IfOk result (λ _. places.new.items ≡ places.old.items ++ operators (tense_form_of f.now)) }
+    ensures { IfOk result (λ _. places.new.items ≡ places.old.items
+        ++ operators (tense_form_of f.now)) }
 {
     match &f.kind {
         TenseKind::Atom { .. } | TenseKind::Compare { .. } | TenseKind::Member { .. } => Ok(()),
@@ -101,7 +102,8 @@ fn gather(f: &TenseFormula, places: &mut Vec<Place>) -> Result<(), Memory>
 
 #[cycle(gathering)]
 fn gather_each(fs: &[TenseFormula], places: &mut Vec<Place>) -> Result<(), Memory>
-    ensures { IfOk result (λ _. places.new.items ≡ places.old.items ++ operators_each (tense_forms_of fs.now)) }
+    ensures { IfOk result (λ _. places.new.items ≡ places.old.items
+        ++ operators_each (tense_forms_of fs.now)) }
 {
     for f in fs {
         gather(f, places)?;

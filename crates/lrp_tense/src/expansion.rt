@@ -36,8 +36,10 @@ pub struct Begun<'a> {
 /// The query without operators that is satisfied exactly where this one is. The variables that it has beside the written ones have a `~` in their names.
 pub fn expand(alloc: Global, query: &TenseQuery) -> Result<RawQuery, Memory>
     requires { IsExpandable (tense_question_of query.now) }
-    ensures tree { IfOk result (λ made. raw_question_of made ≡ expanded_question (tense_question_of query.now)) }
-    ensures meaning { IfOk result (λ made. KeepsMeaning (tense_question_of query.now) (raw_question_of made)) }
+    ensures tree { IfOk result (λ made. raw_question_of made
+        ≡ expanded_question (tense_question_of query.now)) }
+    ensures meaning { IfOk result (λ made. KeepsMeaning (tense_question_of query.now)
+        (raw_question_of made)) }
 {
     let positions = numbers_of(alloc, &query.body)?;
     let mut scope = Scope::of(alloc, positions);
@@ -87,7 +89,8 @@ fn expand_formula<'a>(
     scope: &mut Scope<'a>,
     f: &'a TenseFormula,
 ) -> Result<Box<RawFormula>, Memory>
-    ensures tree { IfOk result (λ made. raw_form_of made.value ≡ expanded_in scope.old (tense_form_of f.now)) }
+    ensures tree { IfOk result (λ made. raw_form_of made.value
+        ≡ expanded_in scope.old (tense_form_of f.now)) }
     ensures scope { OnOk result (scope.new ≡ scope.old) }
 {
     let place = f.place;
@@ -160,7 +163,8 @@ fn expand_negation<'a>(
     place: Place,
     of: &'a TenseFormula,
 ) -> Result<Box<RawFormula>, Memory>
-    ensures tree { IfOk result (λ made. raw_form_of made.value ≡ raw_not place (expanded_in scope.old (tense_form_of of.now))) }
+    ensures tree { IfOk result (λ made. raw_form_of made.value
+        ≡ raw_not place (expanded_in scope.old (tense_form_of of.now))) }
     ensures scope { OnOk result (scope.new ≡ scope.old) }
 {
     let of = expand_formula(alloc, scope, of)?;
@@ -174,7 +178,8 @@ fn expand_group<'a>(
     place: Place,
     of: &'a TenseFormula,
 ) -> Result<Box<RawFormula>, Memory>
-    ensures tree { IfOk result (λ made. raw_form_of made.value ≡ raw_group place (expanded_in scope.old (tense_form_of of.now))) }
+    ensures tree { IfOk result (λ made. raw_form_of made.value
+        ≡ raw_group place (expanded_in scope.old (tense_form_of of.now))) }
     ensures scope { OnOk result (scope.new ≡ scope.old) }
 {
     let of = expand_formula(alloc, scope, of)?;
@@ -190,7 +195,9 @@ fn expand_implication<'a>(
     right: &'a TenseFormula,
     left: Box<RawFormula>,
 ) -> Result<Box<RawFormula>, Memory>
-    ensures tree { IfOk result (λ made. raw_form_of made.value ≡ raw_implies place (raw_form_of left.value) (expanded_in scope.old (tense_form_of right.now))) }
+    ensures tree { IfOk result (λ made. raw_form_of made.value
+        ≡ raw_implies place (raw_form_of left.value)
+        (expanded_in scope.old (tense_form_of right.now))) }
     ensures scope { OnOk result (scope.new ≡ scope.old) }
 {
     let right = expand_formula(alloc, scope, right)?;
@@ -204,7 +211,9 @@ fn expand_conjunction<'a>(
     place: Place,
     of: &'a [TenseFormula],
 ) -> Result<Box<RawFormula>, Memory>
-    ensures tree { IfOk result (λ made. raw_form_of made.value ≡ raw_and place (expanded_each (tense_forms_of of.now) (number_by scope.old) scope.old.names)) }
+    ensures tree { IfOk result (λ made. raw_form_of made.value
+        ≡ raw_and place (expanded_each (tense_forms_of of.now)
+        (number_by scope.old) scope.old.names)) }
     ensures scope { OnOk result (scope.new ≡ scope.old) }
 {
     let of = expand_each(alloc, scope, of)?;
@@ -218,7 +227,9 @@ fn expand_disjunction<'a>(
     place: Place,
     of: &'a [TenseFormula],
 ) -> Result<Box<RawFormula>, Memory>
-    ensures tree { IfOk result (λ made. raw_form_of made.value ≡ raw_or place (expanded_each (tense_forms_of of.now) (number_by scope.old) scope.old.names)) }
+    ensures tree { IfOk result (λ made. raw_form_of made.value
+        ≡ raw_or place (expanded_each (tense_forms_of of.now)
+        (number_by scope.old) scope.old.names)) }
     ensures scope { OnOk result (scope.new ≡ scope.old) }
 {
     let of = expand_each(alloc, scope, of)?;
@@ -231,7 +242,8 @@ fn expand_each<'a>(
     scope: &mut Scope<'a>,
     fs: &'a [TenseFormula],
 ) -> Result<Vec<RawFormula>, Memory>
-    ensures trees { IfOk result (λ made. raw_forms_of made.items ≡ expanded_each (tense_forms_of fs.now) (number_by scope.old) scope.old.names) }
+    ensures trees { IfOk result (λ made. raw_forms_of made.items
+        ≡ expanded_each (tense_forms_of fs.now) (number_by scope.old) scope.old.names) }
     ensures scope { OnOk result (scope.new ≡ scope.old) }
 {
     let mut all = Vec::with_capacity(alloc, fs.len())?;
@@ -251,7 +263,9 @@ fn expand_existential<'a>(
     binder: &'a RawColumn,
     of: &'a TenseFormula,
 ) -> Result<Box<RawFormula>, Memory>
-    ensures tree { IfOk result (λ made. raw_form_of made.value ≡ raw_exists place binder.now (expanded_in (within scope.old binder.now.name binder.now.name) (tense_form_of of.now))) }
+    ensures tree { IfOk result (λ made. raw_form_of made.value
+        ≡ raw_exists place binder.now (expanded_in
+        (within scope.old binder.now.name binder.now.name) (tense_form_of of.now))) }
     ensures scope { OnOk result (scope.new ≡ scope.old) }
 {
     let same = binder.name.copy(alloc)?;
@@ -268,7 +282,9 @@ fn expand_universal<'a>(
     binder: &'a RawColumn,
     of: &'a TenseFormula,
 ) -> Result<Box<RawFormula>, Memory>
-    ensures tree { IfOk result (λ made. raw_form_of made.value ≡ raw_forall place binder.now (expanded_in (within scope.old binder.now.name binder.now.name) (tense_form_of of.now))) }
+    ensures tree { IfOk result (λ made. raw_form_of made.value
+        ≡ raw_forall place binder.now (expanded_in
+        (within scope.old binder.now.name binder.now.name) (tense_form_of of.now))) }
     ensures scope { OnOk result (scope.new ≡ scope.old) }
 {
     let same = binder.name.copy(alloc)?;
@@ -287,7 +303,8 @@ fn expand_inside<'a>(
     of: &'a TenseFormula,
 ) -> Result<Inside, Memory>
     ensures name { IfOk result (λ made. made.name ≡ present) }
-    ensures tree { IfOk result (λ made. form_inside made ≡ expanded_in (within scope.old written.now present) (tense_form_of of.now)) }
+    ensures tree { IfOk result (λ made. form_inside made
+        ≡ expanded_in (within scope.old written.now present) (tense_form_of of.now)) }
     ensures scope { OnOk result (scope.new ≡ scope.old) }
 {
     scope.enter(written, present)?;
@@ -305,8 +322,11 @@ fn expand_at_moment<'a>(
     of: &'a TenseFormula,
 ) -> Result<Inside, Memory>
     requires { at.number ≡ number_by scope.old at.places.place }
-    ensures name { IfOk result (λ made. made.name ≡ moment_of (number_by scope.old) (operator_of at.entry)) }
-    ensures tree { IfOk result (λ made. form_inside made ≡ expanded_in (within scope.old at.entry.name.now (moment_of (number_by scope.old) (operator_of at.entry))) (tense_form_of of.now)) }
+    ensures name { IfOk result (λ made. made.name
+        ≡ moment_of (number_by scope.old) (operator_of at.entry)) }
+    ensures tree { IfOk result (λ made. form_inside made
+        ≡ expanded_in (within scope.old at.entry.name.now
+        (moment_of (number_by scope.old) (operator_of at.entry))) (tense_form_of of.now)) }
     ensures scope { OnOk result (scope.new ≡ scope.old) }
 {
     let moment = scope.moment(alloc, at.name, at.number)?;
@@ -323,9 +343,13 @@ fn expand_between<'a>(
 ) -> Result<Begun<'a>, Memory>
     requires { at.number ≡ number_by scope.old at.places.place }
     ensures at { IfOk result (λ made. made.at ≡ at.entry) }
-    ensures moment { IfOk result (λ made. made.moment ≡ moment_of (number_by scope.old) (operator_of at.entry)) }
-    ensures name { IfOk result (λ made. made.between.name ≡ between_of (number_by scope.old) (operator_of at.entry)) }
-    ensures tree { IfOk result (λ made. form_inside made.between ≡ expanded_in (within scope.old at.entry.name.now (between_of (number_by scope.old) (operator_of at.entry))) (tense_form_of of.now)) }
+    ensures moment { IfOk result (λ made. made.moment
+        ≡ moment_of (number_by scope.old) (operator_of at.entry)) }
+    ensures name { IfOk result (λ made. made.between.name
+        ≡ between_of (number_by scope.old) (operator_of at.entry)) }
+    ensures tree { IfOk result (λ made. form_inside made.between
+        ≡ expanded_in (within scope.old at.entry.name.now
+        (between_of (number_by scope.old) (operator_of at.entry))) (tense_form_of of.now)) }
     ensures scope { OnOk result (scope.new ≡ scope.old) }
 {
     let names = scope.moments(alloc, at.name, at.number)?;
@@ -350,7 +374,9 @@ fn expand_once<'a>(
     of: &'a TenseFormula,
 ) -> Result<Box<RawFormula>, Memory>
     requires { at.number ≡ number_by scope.old at.places.place }
-    ensures tree { IfOk result (λ made. raw_form_of made.value ≡ expanded_in scope.old (once_tense (operator_of at.entry) ends.0 ends.1 (tense_form_of of.now))) }
+    ensures tree { IfOk result (λ made. raw_form_of made.value
+        ≡ expanded_in scope.old (once_tense (operator_of at.entry) ends.0 ends.1
+        (tense_form_of of.now))) }
     ensures scope { OnOk result (scope.new ≡ scope.old) }
 {
     let inside = expand_at_moment(alloc, scope, at, of)?;
@@ -366,7 +392,9 @@ fn expand_always<'a>(
     of: &'a TenseFormula,
 ) -> Result<Box<RawFormula>, Memory>
     requires { at.number ≡ number_by scope.old at.places.place }
-    ensures tree { IfOk result (λ made. raw_form_of made.value ≡ expanded_in scope.old (always_tense (operator_of at.entry) ends.0 ends.1 (tense_form_of of.now))) }
+    ensures tree { IfOk result (λ made. raw_form_of made.value
+        ≡ expanded_in scope.old (always_tense (operator_of at.entry) ends.0 ends.1
+        (tense_form_of of.now))) }
     ensures scope { OnOk result (scope.new ≡ scope.old) }
 {
     let inside = expand_at_moment(alloc, scope, at, of)?;
@@ -382,7 +410,11 @@ fn expand_since<'a>(
     begun: Begun<'a>,
     of: &'a TenseFormula,
 ) -> Result<Box<RawFormula>, Memory>
-    ensures tree { IfOk result (λ made. raw_form_of made.value ≡ since_form (operator_of begun.entry.at) begun.entry.moment begun.entry.between.name (present_name scope.old.names begun.entry.at.name.now) (form_inside begun.entry.between) (expanded_in (within scope.old begun.entry.at.name.now begun.entry.moment) (tense_form_of of.now))) }
+    ensures tree { IfOk result (λ made. raw_form_of made.value
+        ≡ since_form (operator_of begun.entry.at) begun.entry.moment begun.entry.between.name
+        (present_name scope.old.names begun.entry.at.name.now) (form_inside begun.entry.between)
+        (expanded_in (within scope.old begun.entry.at.name.now begun.entry.moment)
+        (tense_form_of of.now))) }
     ensures scope { OnOk result (scope.new ≡ scope.old) }
 {
     let Begun {
@@ -403,7 +435,11 @@ fn expand_until<'a>(
     begun: Begun<'a>,
     of: &'a TenseFormula,
 ) -> Result<Box<RawFormula>, Memory>
-    ensures tree { IfOk result (λ made. raw_form_of made.value ≡ until_form (operator_of begun.entry.at) begun.entry.moment begun.entry.between.name (present_name scope.old.names begun.entry.at.name.now) (form_inside begun.entry.between) (expanded_in (within scope.old begun.entry.at.name.now begun.entry.moment) (tense_form_of of.now))) }
+    ensures tree { IfOk result (λ made. raw_form_of made.value
+        ≡ until_form (operator_of begun.entry.at) begun.entry.moment begun.entry.between.name
+        (present_name scope.old.names begun.entry.at.name.now) (form_inside begun.entry.between)
+        (expanded_in (within scope.old begun.entry.at.name.now begun.entry.moment)
+        (tense_form_of of.now))) }
     ensures scope { OnOk result (scope.new ≡ scope.old) }
 {
     let Begun {

@@ -64,7 +64,8 @@ fn read_group(
     place: Place,
     of: TenseFormula,
 ) -> Result<TenseFormula, Fault>
-    ensures value { ReadsTense (alone tense_meant place (tense_form_of of) tokens.old) result tokens.new }
+    ensures value { ReadsTense (alone tense_meant place (tense_form_of of) tokens.old) result
+        tokens.new }
     ensures fewer { IfOk result (λ _. length tokens.new < length tokens.old) }
 {
     tokens.expect(Symbol::Close)?;
@@ -78,7 +79,8 @@ pub fn read_formula(
     tokens: &mut Cursor<'_>,
     depth: u32,
 ) -> Result<TenseFormula, Fault>
-    ensures value { (turns : ℕ) → length tokens.old < turns → ReadsTense (tense_formula depth turns tokens.old) result tokens.new }
+    ensures value { (turns : ℕ) → length tokens.old < turns
+        → ReadsTense (tense_formula depth turns tokens.old) result tokens.new }
     ensures fewer { IfOk result (λ _. length tokens.new < length tokens.old) }
 {
     if depth == 0 {
@@ -104,7 +106,9 @@ fn read_negation(
     depth: u32,
     place: Place,
 ) -> Result<TenseFormula, Fault>
-    ensures value { (turns : ℕ) → length tokens.old < turns → ReadsTense (negated tense_meant (tense_formula depth turns) place tokens.old) result tokens.new }
+    ensures value { (turns : ℕ) → length tokens.old < turns
+        → ReadsTense (negated tense_meant (tense_formula depth turns) place tokens.old) result
+        tokens.new }
     ensures fewer { IfOk result (λ _. length tokens.new < length tokens.old) }
 {
     tokens.expect_word(Word::Not)?;
@@ -120,7 +124,9 @@ fn read_existential(
     depth: u32,
     place: Place,
 ) -> Result<TenseFormula, Fault>
-    ensures value { (turns : ℕ) → length tokens.old < turns → ReadsTense (existing tense_meant (tense_formula depth turns) place tokens.old) result tokens.new }
+    ensures value { (turns : ℕ) → length tokens.old < turns
+        → ReadsTense (existing tense_meant (tense_formula depth turns) place tokens.old) result
+        tokens.new }
     ensures fewer { IfOk result (λ _. length tokens.new < length tokens.old) }
 {
     tokens.expect_word(Word::Exists)?;
@@ -137,7 +143,9 @@ fn read_universal(
     depth: u32,
     place: Place,
 ) -> Result<TenseFormula, Fault>
-    ensures value { (turns : ℕ) → length tokens.old < turns → ReadsTense (holding tense_meant (tense_formula depth turns) place tokens.old) result tokens.new }
+    ensures value { (turns : ℕ) → length tokens.old < turns
+        → ReadsTense (holding tense_meant (tense_formula depth turns) place tokens.old) result
+        tokens.new }
     ensures fewer { IfOk result (λ _. length tokens.new < length tokens.old) }
 {
     tokens.expect_word(Word::Forall)?;
@@ -154,7 +162,9 @@ fn read_enclosed(
     depth: u32,
     place: Place,
 ) -> Result<TenseFormula, Fault>
-    ensures value { (turns : ℕ) → length tokens.old < turns → ReadsTense (enclosed tense_meant (tense_formula depth turns) turns place tokens.old) result tokens.new }
+    ensures value { (turns : ℕ) → length tokens.old < turns
+        → ReadsTense (enclosed tense_meant (tense_formula depth turns) turns place tokens.old)
+        result tokens.new }
     ensures fewer { IfOk result (λ _. length tokens.new < length tokens.old) }
 {
     tokens.expect(Symbol::Open)?;
@@ -172,7 +182,9 @@ fn read_behind_first(
     place: Place,
     first: TenseFormula,
 ) -> Result<TenseFormula, Fault>
-    ensures value { (turns : ℕ) → length tokens.old < turns → ReadsTense (behind_first tense_meant (tense_formula depth turns) turns place (tense_form_of first) tokens.old) result tokens.new }
+    ensures value { (turns : ℕ) → length tokens.old < turns
+        → ReadsTense (behind_first tense_meant (tense_formula depth turns) turns place
+        (tense_form_of first) tokens.old) result tokens.new }
     ensures fewer { IfOk result (λ _. length tokens.new < length tokens.old) }
 {
     if tokens.eat_word(Word::Implies) {
@@ -196,7 +208,9 @@ fn read_implication(
     place: Place,
     first: TenseFormula,
 ) -> Result<TenseFormula, Fault>
-    ensures value { (turns : ℕ) → length tokens.old < turns → ReadsTense (implying tense_meant (tense_formula depth turns) place (tense_form_of first) tokens.old) result tokens.new }
+    ensures value { (turns : ℕ) → length tokens.old < turns
+        → ReadsTense (implying tense_meant (tense_formula depth turns) place
+        (tense_form_of first) tokens.old) result tokens.new }
     ensures fewer { IfOk result (λ _. length tokens.new < length tokens.old) }
 {
     let second = read_formula(alloc, tokens, depth)?;
@@ -213,7 +227,9 @@ fn read_conjunction(
     place: Place,
     first: TenseFormula,
 ) -> Result<TenseFormula, Fault>
-    ensures value { (turns : ℕ) → length tokens.old < turns → ReadsTense (conjoined tense_meant (tense_formula depth turns) turns place (tense_form_of first) tokens.old) result tokens.new }
+    ensures value { (turns : ℕ) → length tokens.old < turns
+        → ReadsTense (conjoined tense_meant (tense_formula depth turns) turns place
+        (tense_form_of first) tokens.old) result tokens.new }
     ensures fewer { IfOk result (λ _. length tokens.new < length tokens.old) }
 {
     let of = read_members(alloc, tokens, depth, Word::And, first)?;
@@ -230,7 +246,9 @@ fn read_disjunction(
     place: Place,
     first: TenseFormula,
 ) -> Result<TenseFormula, Fault>
-    ensures value { (turns : ℕ) → length tokens.old < turns → ReadsTense (disjoined tense_meant (tense_formula depth turns) turns place (tense_form_of first) tokens.old) result tokens.new }
+    ensures value { (turns : ℕ) → length tokens.old < turns
+        → ReadsTense (disjoined tense_meant (tense_formula depth turns) turns place
+        (tense_form_of first) tokens.old) result tokens.new }
     ensures fewer { IfOk result (λ _. length tokens.new < length tokens.old) }
 {
     let of = read_members(alloc, tokens, depth, Word::Or, first)?;
@@ -247,7 +265,9 @@ fn read_members(
     word: Word,
     first: TenseFormula,
 ) -> Result<Vec<TenseFormula>, Fault>
-    ensures value { (turns : ℕ) → length tokens.old < turns → ReadsTenses (separated_from (tense_formula depth turns) (is_word word) turns (tense_form_of first ∷ []) tokens.old) result tokens.new }
+    ensures value { (turns : ℕ) → length tokens.old < turns
+        → ReadsTenses (separated_from (tense_formula depth turns) (is_word word) turns
+        (tense_form_of first ∷ []) tokens.old) result tokens.new }
     ensures shorter { IfOk result (λ _. length tokens.new ≤ length tokens.old) }
 {
     let mut found = members_from(alloc, first)?;
@@ -264,7 +284,9 @@ fn read_members(
 #[cycle(reading)]
 #[tactic(auto, unfolding(lrp_query::specs::Rules::named))]
 fn read_named(alloc: Global, tokens: &mut Cursor<'_>, depth: u32) -> Result<TenseFormula, Fault>
-    ensures value { (turns : ℕ) → length tokens.old < turns → ReadsTense (named (tense_behind (tense_formula depth turns) turns) tokens.old) result tokens.new }
+    ensures value { (turns : ℕ) → length tokens.old < turns
+        → ReadsTense (named (tense_behind (tense_formula depth turns) turns) tokens.old) result
+        tokens.new }
     ensures fewer { IfOk result (λ _. length tokens.new < length tokens.old) }
 {
     let (name, place) = tokens.name(alloc)?;
@@ -280,7 +302,9 @@ fn read_behind(
     name: Name,
     place: Place,
 ) -> Result<TenseFormula, Fault>
-    ensures value { (turns : ℕ) → length tokens.old < turns → ReadsTense (tense_behind (tense_formula depth turns) turns name place tokens.old) result tokens.new }
+    ensures value { (turns : ℕ) → length tokens.old < turns
+        → ReadsTense (tense_behind (tense_formula depth turns) turns name place tokens.old) result
+        tokens.new }
     ensures shorter { IfOk result (λ _. length tokens.new ≤ length tokens.old) }
 {
     if !tokens.sees_name() {
@@ -303,7 +327,9 @@ fn read_ranged(
     word: Ranged,
     place: Place,
 ) -> Result<TenseFormula, Fault>
-    ensures value { (turns : ℕ) → length tokens.old < turns → ReadsTense (ranged_parts meant_operators (tense_formula depth turns) word place tokens.old) result tokens.new }
+    ensures value { (turns : ℕ) → length tokens.old < turns
+        → ReadsTense (ranged_parts meant_operators
+        (tense_formula depth turns) word place tokens.old) result tokens.new }
     ensures fewer { IfOk result (λ _. length tokens.new < length tokens.old) }
 {
     let (name, name_place) = read_variable(alloc, tokens)?;
@@ -327,7 +353,9 @@ fn read_paired(
     word: Paired,
     place: Place,
 ) -> Result<TenseFormula, Fault>
-    ensures value { (turns : ℕ) → length tokens.old < turns → ReadsTense (paired_parts meant_operators (tense_formula depth turns) word place tokens.old) result tokens.new }
+    ensures value { (turns : ℕ) → length tokens.old < turns
+        → ReadsTense (paired_parts meant_operators
+        (tense_formula depth turns) word place tokens.old) result tokens.new }
     ensures fewer { IfOk result (λ _. length tokens.new < length tokens.old) }
 {
     let (name, name_place) = read_variable(alloc, tokens)?;
@@ -350,7 +378,8 @@ fn read_closed(
     depth: u32,
     behind: Symbol,
 ) -> Result<TenseFormula, Fault>
-    ensures value { (turns : ℕ) → length tokens.old < turns → ReadsTense (closed_by (tense_formula depth turns) behind tokens.old) result tokens.new }
+    ensures value { (turns : ℕ) → length tokens.old < turns
+        → ReadsTense (closed_by (tense_formula depth turns) behind tokens.old) result tokens.new }
     ensures fewer { IfOk result (λ _. length tokens.new < length tokens.old) }
 {
     let of = read_formula(alloc, tokens, depth)?;

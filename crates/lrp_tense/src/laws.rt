@@ -9,7 +9,8 @@ ghost use Rattle.lrp_model.specs.QueryReading.{IsQuery};
 
 /// The expanded query is satisfied exactly where the written one is, by the operators' own meaning.
 pub fn expansion_keeps_meaning()
-    ensures { (q : TenseQuestion) → IsExpandable q → length (operators q.body) < 2 ^ 64 → KeepsMeaning q (expanded_question q) }
+    ensures { (q : TenseQuestion) → IsExpandable q → length (operators q.body) < 2 ^ 64
+        → KeepsMeaning q (expanded_question q) }
 {}
 
 /// A query without operators is its own expansion.
@@ -19,12 +20,16 @@ pub fn expansion_leaves_plain_queries()
 
 /// Bytes are one query at most, and it can be expanded.
 pub fn texts_are_one_query()
-    ensures one { (bytes : List ℕ) (q other : TenseQuestion) → IsTenseQuery bytes q → IsTenseQuery bytes other → q ≡ other }
-    ensures expandable { (bytes : List ℕ) (q : TenseQuestion) → IsTenseQuery bytes q → IsExpandable q }
+    ensures one { (bytes : List ℕ) (q other : TenseQuestion) → IsTenseQuery bytes q
+        → IsTenseQuery bytes other → q ≡ other }
+    ensures expandable { (bytes : List ℕ) (q : TenseQuestion) → IsTenseQuery bytes q
+        → IsExpandable q }
 {}
 
 /// A text without operators is read as without them, and expanded to what it says.
 pub fn plain_texts_are_read_alike()
-    ensures read { (bytes : List ℕ) (q : RawQuestion) → IsQuery bytes q → IsTenseQuery bytes (without_operators q) }
-    ensures expanded { (bytes : List ℕ) (q : RawQuestion) (t : TenseQuestion) → IsQuery bytes q → IsTenseQuery bytes t → expanded_question t ≡ q }
+    ensures read { (bytes : List ℕ) (q : RawQuestion) → IsQuery bytes q
+        → IsTenseQuery bytes (without_operators q) }
+    ensures expanded { (bytes : List ℕ) (q : RawQuestion) (t : TenseQuestion) → IsQuery bytes q
+        → IsTenseQuery bytes t → expanded_question t ≡ q }
 {}

@@ -1,7 +1,8 @@
 // The query with temporal operators of a text, or the fault of the bytes or of the grammar.
 ghost use Rattle.std.specs.Prelude.{◌≤◌, ◌<◌, ℕ, length, IfOk, IfErr};
 ghost use Rattle.lrp_model.specs.declared.faults.QueryFault.{QueryFault as FaultOf};
-ghost use Rattle.lrp_query.specs.Reading.{IsFaultOrMemory, left_behind};
+ghost use Rattle.lrp_query.specs.Reading.{left_behind};
+ghost use Rattle.lrp_model.specs.Outcomes.{IsFaultOrMemory};
 ghost use Rattle.lrp_tense.specs.Trees.{TenseQuestion, tense_question_of};
 ghost use Rattle.lrp_tense.specs.Expanding.{IsExpandable, expanded_question};
 ghost use Rattle.lrp_tense.specs.Lawful.{IsLawfulExpansion};
@@ -24,7 +25,8 @@ const DEPTH: u32 = 64;
 // The query of some tokens, and the end behind it.
 #[tactic(auto, unfolding(lrp_query::specs::Rules::query_with))]
 fn read_tokens(alloc: Global, tokens: &mut Cursor<'_>) -> Result<TenseQuery, Fault>
-    ensures { (turns : ℕ) → length tokens.old < turns → ReadsTenseQuery (tense_query turns tokens.old) result (left_behind result tokens.new) }
+    ensures { (turns : ℕ) → length tokens.old < turns
+        → ReadsTenseQuery (tense_query turns tokens.old) result (left_behind result tokens.new) }
 {
     tokens.expect(Symbol::OpenBrace)?;
     let head = columns(alloc, tokens, Symbol::Bar)?;
@@ -77,11 +79,14 @@ pub fn read_tense(alloc: Global, bytes: &[u8]) -> Result<TenseQuery, QueryRead>
 
     // What is read can be expanded, and what it is expanded to can be planned.
     ensures expandable { IfOk result (λ q. IsExpandable (tense_question_of q)) }
-    ensures lawful { IfOk result (λ q. IsLawfulExpansion (expanded_question (tense_question_of q))) }
+    ensures lawful { IfOk result (λ q. IsLawfulExpansion
+        (expanded_question (tense_question_of q))) }
 
     // Each text of the grammar is read, and each other one is refused for its one fault.
-    ensures every_query { (q : TenseQuestion) → IsTenseQuery bytes.now q → IsTenseOrMemory q result }
-    ensures every_fault { (fault : FaultOf) → IsTenseQueryFault bytes.now fault → IsFaultOrMemory fault result }
+    ensures every_query { (q : TenseQuestion) → IsTenseQuery bytes.now q
+        → IsTenseOrMemory q result }
+    ensures every_fault { (fault : FaultOf) → IsTenseQueryFault bytes.now fault
+        → IsFaultOrMemory fault result }
 {
     read_bytes(alloc, bytes)
 }

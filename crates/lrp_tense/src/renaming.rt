@@ -63,7 +63,8 @@ pub fn atom(
     relation: &Name,
     terms: &[RawTerm],
 ) -> Result<Box<RawFormula>, Memory>
-    ensures { IfOk result (λ made. raw_form_of made.value ≡ raw_atom place relation.now (map (renamed_term scope.now.names) terms.now)) }
+    ensures { IfOk result (λ made. raw_form_of made.value
+        ≡ raw_atom place relation.now (map (renamed_term scope.now.names) terms.now)) }
 {
     let relation = relation.copy(alloc)?;
     let terms = renamed_each(alloc, scope, terms)?;
@@ -78,7 +79,9 @@ pub fn comparison(
     op: Op,
     right: &RawTerm,
 ) -> Result<RawKind, Memory>
-    ensures { IfOk result (λ made. (place : PlaceOf) → raw_kind made place ≡ raw_compare place (renamed_term scope.now.names left.now) op (renamed_term scope.now.names right.now)) }
+    ensures { IfOk result (λ made. (place : PlaceOf)
+        → raw_kind made place ≡ raw_compare place (renamed_term scope.now.names left.now) op
+        (renamed_term scope.now.names right.now)) }
 {
     let left = renamed(alloc, scope, left)?;
     let right = renamed(alloc, scope, right)?;
@@ -93,7 +96,8 @@ pub fn membership(
     term: &RawTerm,
     point: RowPoint,
 ) -> Result<Box<RawFormula>, Memory>
-    ensures { IfOk result (λ made. raw_form_of made.value ≡ raw_member place (renamed_term scope.now.names term.now) point) }
+    ensures { IfOk result (λ made. raw_form_of made.value
+        ≡ raw_member place (renamed_term scope.now.names term.now) point) }
 {
     let term = renamed(alloc, scope, term)?;
     boxed(alloc, place, RawKind::Member { term, point })

@@ -117,7 +117,8 @@ impl<'a> Scope<'a> {
     /// Out of the innermost variable, whose name is given back.
     pub fn leave(&mut self) -> Name
         requires { 0 < length self.old.names }
-        ensures { (v present : Identifier) (outer : Around) → self.old ≡ within outer v present → (result ≡ present) × (self.new ≡ outer) }
+        ensures { (v present : Identifier) (outer : Around) → self.old ≡ within outer v present
+            → (result ≡ present) × (self.new ≡ outer) }
     {
         self.variables.take_last().into_present()
     }

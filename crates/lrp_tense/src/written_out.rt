@@ -48,7 +48,8 @@ pub fn denied(alloc: Global, place: Place, of: Box<RawFormula>) -> Result<Box<Ra
 }
 
 pub fn grouped(alloc: Global, place: Place, of: Box<RawFormula>) -> Result<Box<RawFormula>, Memory>
-    ensures { IfOk result (λ made. raw_form_of made.value ≡ raw_group place (raw_form_of of.value)) }
+    ensures { IfOk result (λ made. raw_form_of made.value
+        ≡ raw_group place (raw_form_of of.value)) }
 {
     boxed(alloc, place, RawKind::Group { of })
 }
@@ -59,7 +60,8 @@ pub fn implied(
     left: Box<RawFormula>,
     right: Box<RawFormula>,
 ) -> Result<Box<RawFormula>, Memory>
-    ensures { IfOk result (λ made. raw_form_of made.value ≡ raw_implies place (raw_form_of left.value) (raw_form_of right.value)) }
+    ensures { IfOk result (λ made. raw_form_of made.value
+        ≡ raw_implies place (raw_form_of left.value) (raw_form_of right.value)) }
 {
     boxed(alloc, place, RawKind::Implies { left, right })
 }
@@ -70,7 +72,8 @@ pub fn some(
     binder: RawColumn,
     of: Box<RawFormula>,
 ) -> Result<Box<RawFormula>, Memory>
-    ensures { IfOk result (λ made. raw_form_of made.value ≡ raw_exists place binder (raw_form_of of.value)) }
+    ensures { IfOk result (λ made. raw_form_of made.value
+        ≡ raw_exists place binder (raw_form_of of.value)) }
 {
     boxed(alloc, place, RawKind::Exists { binder, of })
 }
@@ -81,7 +84,8 @@ pub fn every(
     binder: RawColumn,
     of: Box<RawFormula>,
 ) -> Result<Box<RawFormula>, Memory>
-    ensures { IfOk result (λ made. raw_form_of made.value ≡ raw_forall place binder (raw_form_of of.value)) }
+    ensures { IfOk result (λ made. raw_form_of made.value
+        ≡ raw_forall place binder (raw_form_of of.value)) }
 {
     boxed(alloc, place, RawKind::Forall { binder, of })
 }
@@ -151,7 +155,8 @@ fn compared(place: Place, name: Name, op: Op, right: RawTerm) -> RawFormula
 impl Places {
     // Compared with the operator's variable.
     fn beside(&self, names: Sides) -> RawFormula
-        ensures { raw_form_of result ≡ beside_variable (operator_there self.now names.right) names.left names.op names.right }
+        ensures { raw_form_of result ≡ beside_variable
+            (operator_there self.now names.right) names.left names.op names.right }
     {
         let Sides { left, op, right } = names;
         compared(self.place, left, op, named(self.name_place, right))
@@ -159,7 +164,8 @@ impl Places {
 
     // Compared with the operator's variable plus an end of the interval.
     fn beside_end(&self, names: Sides, end: i64) -> RawFormula
-        ensures { raw_form_of result ≡ beside_end_of (operator_there self.now names.right) names.left names.op names.right end }
+        ensures { raw_form_of result ≡ beside_end_of
+            (operator_there self.now names.right) names.left names.op names.right end }
     {
         let Sides { left, op, right } = names;
         let right = RawTerm {
@@ -174,7 +180,8 @@ impl Places {
 
     // Two variables of the operator compared.
     fn beside_moment(&self, names: Sides) -> RawFormula
-        ensures { raw_form_of result ≡ beside_own (operator_there self.now names.right) names.left names.op names.right }
+        ensures { raw_form_of result ≡ beside_own
+            (operator_there self.now names.right) names.left names.op names.right }
     {
         let Sides { left, op, right } = names;
         compared(self.place, left, op, named(self.place, right))
@@ -187,7 +194,9 @@ impl Places {
         name: Name,
         all: Vec<RawFormula>,
     ) -> Result<Box<RawFormula>, Memory>
-        ensures { IfOk result (λ made. raw_form_of made.value ≡ raw_exists self.now.place (time_column self.now.place name) (raw_and self.now.place (raw_forms_of all.items))) }
+        ensures { IfOk result (λ made. raw_form_of made.value
+            ≡ raw_exists self.now.place (time_column self.now.place name)
+            (raw_and self.now.place (raw_forms_of all.items))) }
     {
         let all = conjunction(alloc, self.place, all)?;
         some(alloc, self.place, time_binder(self.place, name), all)
@@ -201,7 +210,9 @@ impl Places {
         inside: Inside,
     ) -> Result<Inside, Memory>
         ensures name { IfOk result (λ made. made.name ≡ inside.name) }
-        ensures tree { IfOk result (λ made. form_inside made ≡ raw_implies self.now.place (raw_and self.now.place (raw_forms_of both.items)) (form_inside inside)) }
+        ensures tree { IfOk result (λ made. form_inside made
+            ≡ raw_implies self.now.place (raw_and self.now.place (raw_forms_of both.items))
+            (form_inside inside)) }
     {
         let Inside { name, of } = inside;
         let within = conjunction(alloc, self.place, both)?;
@@ -229,7 +240,8 @@ impl Places {
         ends: (i64, i64),
         inside: Inside,
     ) -> Result<Box<RawFormula>, Memory>
-        ensures { IfOk result (λ made. raw_form_of made.value ≡ once_at self.now v.now ends.0 ends.1 inside) }
+        ensures { IfOk result (λ made. raw_form_of made.value
+            ≡ once_at self.now v.now ends.0 ends.1 inside) }
     {
         let low = copied(alloc, &inside.name, Op::Ge, v)?;
         let high = copied(alloc, &inside.name, Op::Le, v)?;
@@ -249,7 +261,8 @@ impl Places {
         ends: (i64, i64),
         inside: Inside,
     ) -> Result<Box<RawFormula>, Memory>
-        ensures { IfOk result (λ made. raw_form_of made.value ≡ always_at self.now v.now ends.0 ends.1 inside) }
+        ensures { IfOk result (λ made. raw_form_of made.value
+            ≡ always_at self.now v.now ends.0 ends.1 inside) }
     {
         let low = copied(alloc, &inside.name, Op::Ge, v)?;
         let high = copied(alloc, &inside.name, Op::Le, v)?;
@@ -269,7 +282,11 @@ impl Places {
         x: &Name,
         between: Inside,
     ) -> Result<Inside, Memory>
-        ensures { IfOk result (λ made. each_there self.now made ≡ between_form (operator_there self.now v.now) between.name (beside_own (operator_there self.now v.now) between.name Gt x.now) (beside_variable (operator_there self.now v.now) between.name Le v.now) (form_inside between)) }
+        ensures { IfOk result (λ made. each_there self.now made
+            ≡ between_form (operator_there self.now v.now) between.name
+            (beside_own (operator_there self.now v.now) between.name Gt x.now)
+            (beside_variable (operator_there self.now v.now) between.name Le v.now)
+            (form_inside between)) }
     {
         let low = copied(alloc, &between.name, Op::Gt, x)?;
         let high = copied(alloc, &between.name, Op::Le, v)?;
@@ -287,7 +304,11 @@ impl Places {
         x: &Name,
         between: Inside,
     ) -> Result<Inside, Memory>
-        ensures { IfOk result (λ made. each_there self.now made ≡ between_form (operator_there self.now v.now) between.name (beside_variable (operator_there self.now v.now) between.name Ge v.now) (beside_own (operator_there self.now v.now) between.name Lt x.now) (form_inside between)) }
+        ensures { IfOk result (λ made. each_there self.now made
+            ≡ between_form (operator_there self.now v.now) between.name
+            (beside_variable (operator_there self.now v.now) between.name Ge v.now)
+            (beside_own (operator_there self.now v.now) between.name Lt x.now)
+            (form_inside between)) }
     {
         let low = copied(alloc, &between.name, Op::Ge, v)?;
         let high = copied(alloc, &between.name, Op::Lt, x)?;
@@ -305,7 +326,11 @@ impl Places {
         inside: Inside,
         each: Inside,
     ) -> Result<Box<RawFormula>, Memory>
-        ensures { IfOk result (λ made. raw_form_of made.value ≡ raw_exists self.now.place (time_column self.now.place inside.name) (all_three self.now.place (beside_variable (operator_there self.now first.right) first.left first.op first.right) (form_inside inside) (each_there self.now each))) }
+        ensures { IfOk result (λ made. raw_form_of made.value
+            ≡ raw_exists self.now.place (time_column self.now.place inside.name)
+            (all_three self.now.place (beside_variable
+            (operator_there self.now first.right) first.left first.op first.right)
+            (form_inside inside) (each_there self.now each))) }
     {
         let mut all = Vec::with_capacity(alloc, 3)?;
         let Inside { name, of } = inside;
@@ -323,7 +348,8 @@ impl Places {
         between: Inside,
         inside: Inside,
     ) -> Result<Box<RawFormula>, Memory>
-        ensures { IfOk result (λ made. raw_form_of made.value ≡ since_at self.now v.now between inside) }
+        ensures { IfOk result (λ made. raw_form_of made.value
+            ≡ since_at self.now v.now between inside) }
     {
         let each = self.each_since(alloc, v, &inside.name, between)?;
         let first = copied(alloc, &inside.name, Op::Le, v)?;
@@ -338,7 +364,8 @@ impl Places {
         between: Inside,
         inside: Inside,
     ) -> Result<Box<RawFormula>, Memory>
-        ensures { IfOk result (λ made. raw_form_of made.value ≡ until_at self.now v.now between inside) }
+        ensures { IfOk result (λ made. raw_form_of made.value
+            ≡ until_at self.now v.now between inside) }
     {
         let each = self.each_until(alloc, v, &inside.name, between)?;
         let first = copied(alloc, &inside.name, Op::Ge, v)?;

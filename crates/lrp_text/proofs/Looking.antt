@@ -12,7 +12,7 @@ use Rattle.lrp_model.specs.Lexing.{start, scan}
 use Rattle.lrp_model.specs.Limits.{greatest_number}
 use Rattle.lrp_model.specs.declared.relations.Sort.{Sort}
 use Rattle.lrp_model.specs.declared.tokens.Word.TheVariants.{Time, Data}
-use Rattle.lrp_text.specs.Parsers.{Outcome, accept, taken, look, eat, eaten, Reads, IsOrMemory}
+use Rattle.lrp_text.specs.Parsers.{Outcome, accept, taken, look, eat, eaten, Reads, IsResultOrMemory}
 use Rattle.lrp_text.specs.ColumnRule.{sort_of, sort, word_sort, shown_sort}
 use Rattle.lrp_text.specs.Taking.{is_symbol_token, is_word_token, is_name_token, is_text_token, is_end_token, required, name_of, number_of, limited, period_of, counted, text_of, short_enough, with_place, name, number, period, text, expect_end}
 use Rattle.lrp_text.specs.declared.lexemes.Lexeme.{Lexeme}
@@ -400,6 +400,6 @@ pub sort_read : (ts us : Tokens) (l : Lexeme) (slice : List ℕ) (place : Place)
 sort_read ts us l slice place u a st e w = accepts_next (λ t. with_place t.place (sort_of t.token)) ts us (record { token = st.token; place = place }) u st.left (a, place) st.whole w (ap (with_place place) (sort_said l slice st.token st.said ∙ e))
 
 -- or what stands there is refused
-pub sort_refused : (ts : Tokens) (l : Lexeme) (slice : List ℕ) (place : Place) (k : Fault) → Stands ts l slice place → IsOrMemory (shown_sort l slice) (Err k) → Reads (sort ts) (Err k) ts
+pub sort_refused : (ts : Tokens) (l : Lexeme) (slice : List ℕ) (place : Place) (k : Fault) → Stands ts l slice place → IsResultOrMemory (shown_sort l slice) (Err k) → Reads (sort ts) (Err k) ts
 sort_refused ts l slice place Memory st e = tt
 sort_refused ts l slice place k st e = reads_fault (sort ts) k ts (refuses_next (λ t. with_place t.place (sort_of t.token)) ts (record { token = st.token; place = place }) st.left k st.whole (ap (with_place place) (sort_said l slice st.token st.said ∙ e)))

@@ -11,7 +11,8 @@ use Rattle.lrp_model.specs.declared.raw.RawColumn.{RawColumn}
 use Rattle.lrp_model.specs.Tokens.{Token, Tokens, Part, Takes, Spells, separated}
 use Rattle.lrp_model.specs.Tokens.Token.{name_token, word_token, number_token, text_token, symbol_token, end_token, bad_token, hole_token}
 use Rattle.lrp_model.specs.Tokens.Part.{at, any}
-use Rattle.lrp_model.specs.Lexing.{Scanned, QuotedText as TextRead, scan, run, behind_run, is_letter, is_digit, is_name_byte, value_from, word_or_name, one, one_or_two, symbol_from, text_from, text_scanned, skip, after, headed, tokens_from, tokens, start}
+use Rattle.lrp_model.specs.Lexing.{Scanned, QuotedText as TextRead, scan, run, behind_run, is_letter, is_name_byte, value_from, word_or_name, one, one_or_two, symbol_from, text_from, text_scanned, skip, after, headed, tokens_from, tokens, start}
+use Rattle.std.specs.Char.{is_ascii_digit}
 use Rattle.lrp_model.specs.Columns.{column_text, sort_token}
 use Rattle.lrp_model.specs.Databases.{comma}
 use Rattle.lrp_model.specs.DatabaseMeaning.{column_of}
@@ -37,11 +38,11 @@ word_scanned r = record { token = word_or_name r; taken = r; left = [] }
 scan_word : (b : ℕ) (r : List ℕ) → is_letter b ≡ true → run is_name_byte r ≡ r → behind_run is_name_byte r ≡ [] → scan (b ∷ r) ≡ word_scanned (b ∷ r)
 unfolding scan run behind_run
 scan_word b r e whole none =
-    let letter : is_name_byte b ≡ true = ap (λ c. c || is_digit b) e in
+    let letter : is_name_byte b ≡ true = ap (λ c. c || is_ascii_digit b) e in
     let one_run : (if is_name_byte b then b ∷ run is_name_byte r else []) ≡ b ∷ r = ap (λ c. if c then b ∷ run is_name_byte r else []) letter ∙ ap (λ l. b ∷ l) whole in
     let left : (if is_name_byte b then behind_run is_name_byte r else b ∷ r) ≡ [] = ap (λ c. if c then behind_run is_name_byte r else b ∷ r) letter ∙ none in
     ap (λ c. if c then scanned_word (if is_name_byte b then b ∷ run is_name_byte r else []) (if is_name_byte b then behind_run is_name_byte r else b ∷ r) else
-    (if is_digit b then record { token = number_token (value_from 0 (run is_digit (b ∷ r))); taken = run is_digit (b ∷ r); left = behind_run is_digit (b ∷ r) } else
+    (if is_ascii_digit b then record { token = number_token (value_from 0 (run is_ascii_digit (b ∷ r))); taken = run is_ascii_digit (b ∷ r); left = behind_run is_ascii_digit (b ∷ r) } else
     (if b == 34 then text_scanned (text_from false r) else symbol_from b r))) e
     ∙ ap (λ l. scanned_word l (if is_name_byte b then behind_run is_name_byte r else b ∷ r)) one_run ∙ ap (scanned_word (b ∷ r)) left
   where
@@ -85,7 +86,7 @@ word_named r hole_token e d = tt
 first_word : (b : ℕ) (bs : List ℕ) → is_letter b ≡ true → NamedToken (word_or_name (run is_name_byte (b ∷ bs)))
 unfolding run
 first_word b bs e =
-    let letter : is_name_byte b ≡ true = ap (λ c. c || is_digit b) e in
+    let letter : is_name_byte b ≡ true = ap (λ c. c || is_ascii_digit b) e in
     let begins : (if is_name_byte b then b ∷ run is_name_byte bs else []) ≡ b ∷ run is_name_byte bs = ap (λ c. if c then b ∷ run is_name_byte bs else []) letter in
     let again = run_again is_name_byte bs in
     let P : List ℕ → Type 0 = λ r. NamedToken (word_or_name r) in
@@ -117,7 +118,7 @@ unfolding scan
 scan_named [] = tt
 scan_named (b ∷ bs) =
     let P : Scanned → Type 0 = λ s. NamedToken s.token in
-    chosen P (is_letter b) _ _ (λ e. first_word b bs e) (λ n. chosen P (is_digit b) _ _ (λ e. tt) (λ m. chosen P (b == 34) (text_scanned (text_from false bs)) (symbol_from b bs) (λ e. text_named (text_from false bs)) (λ o. symbol_named b bs)))
+    chosen P (is_letter b) _ _ (λ e. first_word b bs e) (λ n. chosen P (is_ascii_digit b) _ _ (λ e. tt) (λ m. chosen P (b == 34) (text_scanned (text_from false bs)) (symbol_from b bs) (λ e. text_named (text_from false bs)) (λ o. symbol_named b bs)))
 
 -- a token with those behind it
 headed_named : (p : Place) (s : Scanned) (k : Token) (rest : Tokens) → NamedToken k → AllByRecursion (λ t. NamedToken t.token) rest → AllByRecursion (λ t. NamedToken t.token) (headed p s k rest)

@@ -10,7 +10,7 @@ use Rattle.lrp_model.specs.declared.tokens.Fault.TheVariants.{Syntax, Number, Te
 use Rattle.lrp_model.specs.Tokens.{Token, Placed, Part, IsPart}
 use Rattle.lrp_model.specs.Tokens.Token.{name_token, word_token, number_token, text_token, symbol_token, end_token}
 use Rattle.lrp_model.specs.Tokens.Part.{at, any}
-use Rattle.lrp_text.specs.Taking.{same_symbol, same_word, is_symbol_token, is_symbol, is_word_token, is_word, is_end_token, is_end, required, name_of, number_of, limited, text_of, short_enough, period_of, counted, IsPeriod, with_place}
+use Rattle.lrp_text.specs.Taking.{same_symbol, same_word, is_symbol_token, is_symbol, is_word_token, is_word, is_end_token, is_end, required, name_of, number_of, limited, text_of, short_enough, period_of, counted, IsWrittenPeriod, with_place}
 use Rattle.lrp_model.specs.Lexing.{start}
 use Rattle.lrp_model.specs.Limits.{greatest_number}
 use Rattle.std.proofs.lemmas.Bool.{leb-true, le-leb, eqb-true}
@@ -267,7 +267,7 @@ not_zero zero e = absurd cc
 not_zero (suc n) e = omega arith
 
 -- what a period was read from
-period_is : (k : Token) (n : ℕ) → period_of k ≡ Ok n → (k ≡ number_token n) × IsPeriod n
+period_is : (k : Token) (n : ℕ) → period_of k ≡ Ok n → (k ≡ number_token n) × IsWrittenPeriod n
 period_is (number_token m) n e =
     let h = counted_is m (m == 0) n e in
     let k = number_is (number_token m) n h.1 in
@@ -280,7 +280,7 @@ pub period_told : (t : Placed) (n : ℕ) → period_of t.token ≡ Ok n → IsPa
 period_told t n e = (period_is t.token n e).0
 
 -- and is lawful
-pub period_fits : (t : Placed) (n : ℕ) → period_of t.token ≡ Ok n → IsPeriod n
+pub period_fits : (t : Placed) (n : ℕ) → period_of t.token ≡ Ok n → IsWrittenPeriod n
 period_fits t n e = (period_is t.token n e).1
 
 -- a period of 0 or above the limit is the cause of its fault
@@ -294,7 +294,7 @@ period_err (number_token m) k e = inr (m, refl, counted_err m (m == 0) k refl e)
 period_err _ k e = inl cc
 
 -- a period stops for its syntax or for what it is
-pub period_stops : TestStops (λ t. period_of t.token) number_part IsPeriod
+pub period_stops : TestStops (λ t. period_of t.token) number_part IsWrittenPeriod
 period_stops = record { token = record { token = number_token 1; place = start }; value = 1; fits = (omega arith, omega arith); is = refl; fault = λ t k e. period_err t.token k e }
 
 -- a lawful period is told
@@ -308,7 +308,7 @@ is_not_zero zero h = absurd (omega arith)
 is_not_zero (suc n) h = eqb-suc-zero n
 
 -- a period that stands there is taken where it is lawful
-pub period_tells : (t : Placed) (n : ℕ) (L : Type 0) → (L → IsPeriod n) → t.token ≡ number_token n → Tells (period_of t.token) n L
+pub period_tells : (t : Placed) (n : ℕ) (L : Type 0) → (L → IsWrittenPeriod n) → t.token ≡ number_token n → Tells (period_of t.token) n L
 period_tells t n L f e = subst (λ x. Tells (period_of x) n L) (sym e) (counted_tells n (n == 0) L (λ l. is_not_zero n (f l).0) (λ l. (f l).1))
 
 -- texts

@@ -88,6 +88,6 @@ Reads outcome (Err Memory) new = Unit {0}
 Reads outcome (Err k) new = outcome ≡ Err (k, new)
 
 -- what a function that may run out of memory ensures: this result, unless memory ran out
-abbrev pub IsOrMemory : {A : Type 0} → Result A Fault → Result A Fault → Type 0
-IsOrMemory expected (Err Memory) = Unit {0}
-IsOrMemory expected result = expected ≡ result
+abbrev pub IsResultOrMemory : {A : Type 0} → Result A Fault → Result A Fault → Type 0
+IsResultOrMemory expected (Err Memory) = Unit {0}
+IsResultOrMemory expected result = expected ≡ result

@@ -144,8 +144,8 @@ period_of (number_token n) = counted n (n == 0)
 period_of _ = Err Syntax
 
 -- a period is from 1 to 2 ^ 62
-abbrev pub IsPeriod : ℕ → Type 0
-IsPeriod n = (1 ≤ n) × (n ≤ greatest_number)
+abbrev pub IsWrittenPeriod : ℕ → Type 0
+IsWrittenPeriod n = (1 ≤ n) × (n ≤ greatest_number)
 
 -- takes a period
 abbrev pub period : Parser ℕ

@@ -32,7 +32,7 @@ impl<'a> Cursor<'a> {
     ghost use Rattle.lrp_model.specs.Lexing.{tokens};
     ghost use Rattle.lrp_model.specs.Limits.{greatest_number, most_bytes};
     ghost use Rattle.lrp_text.specs.Parsers.{Reads, look, eat};
-    ghost use Rattle.lrp_text.specs.Taking.{here, is_symbol, is_word, is_name, is_text, is_end, expect, expect_word, expect_end, behind_end, number, period, IsPeriod, name, text};
+    ghost use Rattle.lrp_text.specs.Taking.{here, is_symbol, is_word, is_name, is_text, is_end, expect, expect_word, expect_end, behind_end, number, period, IsWrittenPeriod, name, text};
     ghost use Rattle.lrp_text.specs.Sources.{Stands, Goes};
 
     /// The tokens of a text of at most 16,777,216 bytes.
@@ -187,7 +187,7 @@ impl<'a> Cursor<'a> {
         ensures shorter { length self.new ≤ length self.old }
         ensures fewer { IfOk result (λ _. length self.new < length self.old) }
         ensures takes_no_memory { result ≢ Err Fault.Memory }
-        ensures fits { IfOk result IsPeriod }
+        ensures fits { IfOk result IsWrittenPeriod }
     {
         let period = self.peek().lexeme.period()?;
         self.advance();

@@ -58,7 +58,8 @@ impl<'a> Lexer<'a> {
         ensures order { IsNextToken result (tokens_left self.old) (tokens_left self.new) }
         ensures slice { IfOk result (λ t. IsSliceOf self.old t.slice.now t.place self.new) }
         // What the slice of a text means is what `text_of` gives of it.
-        ensures text { IfOk result (λ t. t.kind ≡ TokenKind.Text → IsNextText self.old t.slice.now) }
+        ensures text { IfOk result (λ t. t.kind ≡ TokenKind.Text
+            → IsNextText self.old t.slice.now) }
     {
         let found = self.found();
         match found.lexeme.kind() {

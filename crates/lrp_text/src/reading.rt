@@ -1,6 +1,6 @@
 // The readers of what databases and queries share.
 ghost use Rattle.std.specs.Prelude.{◌≢◌, ◌≤◌, ◌<◌, ℕ, [], length, Err, IfOk};
-ghost use Rattle.lrp_text.specs.Parsers.{separated_from, listed, Reads, IsOrMemory};
+ghost use Rattle.lrp_text.specs.Parsers.{separated_from, listed, Reads, IsResultOrMemory};
 ghost use Rattle.lrp_text.specs.Taking.{is_symbol};
 ghost use Rattle.lrp_model.specs.Limits.{greatest_number};
 ghost use Rattle.lrp_text.specs.ColumnRule.{shown_sort, sort as sort_rule, column as column_rule};
@@ -26,7 +26,7 @@ pub fn integer(tokens: &mut Cursor<'_>) -> Result<Integer, Fault>
 
 // The sort that stands there.
 fn sort_of(alloc: Global, found: Found<'_>) -> Result<Sort, Fault>
-    ensures { IsOrMemory (shown_sort found.entry.lexeme found.entry.slice.now) result }
+    ensures { IsResultOrMemory (shown_sort found.entry.lexeme found.entry.slice.now) result }
 {
     match found.lexeme {
         Lexeme::Word(Word::Time) => Ok(Sort::Time),
@@ -70,7 +70,9 @@ pub fn column(alloc: Global, tokens: &mut Cursor<'_>) -> Result<RawColumn, Fault
 
 // Reads one column or more, with commas between.
 fn some_columns(alloc: Global, tokens: &mut Cursor<'_>) -> Result<List<RawColumn>, Fault>
-    ensures value { (n : ℕ) → length tokens.old < n → Reads (separated_from column_rule (is_symbol Symbol.Comma) n [] tokens.old) result tokens.new }
+    ensures value { (n : ℕ) → length tokens.old < n
+        → Reads (separated_from column_rule (is_symbol Symbol.Comma) n [] tokens.old) result
+        tokens.new }
     ensures shorter { length tokens.new ≤ length tokens.old }
 {
     let mut found = List::new(alloc);
@@ -90,7 +92,9 @@ pub fn columns(
     tokens: &mut Cursor<'_>,
     stop: Symbol,
 ) -> Result<List<RawColumn>, Fault>
-    ensures value { (n : ℕ) → length tokens.old < n → Reads (listed column_rule (is_symbol Symbol.Comma) (is_symbol stop) n tokens.old) result tokens.new }
+    ensures value { (n : ℕ) → length tokens.old < n
+        → Reads (listed column_rule (is_symbol Symbol.Comma) (is_symbol stop) n tokens.old) result
+        tokens.new }
     ensures shorter { length tokens.new ≤ length tokens.old }
 {
     if tokens.sees(stop) {

@@ -1,7 +1,8 @@
 // The token that bytes begin with.
 ghost use Rattle.std.specs.Prelude.{◌≡◌, ◌<◌, [], ◌∷◌, MatchOption, IfSome, length};
 ghost use Rattle.std.specs.Option.{option_map};
-ghost use Rattle.lrp_model.specs.Lexing.{symbol_from, word_or_name, run, behind_run, value_from, is_name_byte, is_digit as is_digit_byte, scan as scan_rule};
+ghost use Rattle.lrp_model.specs.Lexing.{symbol_from, word_or_name, run, behind_run, value_from, is_name_byte, scan as scan_rule};
+ghost use Rattle.std.specs.Char.{is_ascii_digit as is_digit_byte};
 ghost use Rattle.lrp_model.specs.Tokens.Token.{symbol_token};
 ghost use Rattle.lrp_text.specs.Lexemes.{IsLexeme, IsNamed, IsNumberLexeme, bad_symbol, text_read, behind_bytes, ended};
 
@@ -12,7 +13,9 @@ use lrp_model::{LIMIT, Symbol, Word};
 // The symbol that a byte and those behind it begin with, and what follows it.
 #[tactic(auto, unfolding(lrp_model::specs::Lexing::symbol_from))]
 fn symbol(first: u8, rest: &[u8]) -> Option<(Symbol, &[u8])>
-    ensures { MatchOption result (symbol_from first rest.now ≡ bad_symbol first rest.now) (λ r. ((symbol_from first rest.now).token ≡ symbol_token r.0) × ((symbol_from first rest.now).left ≡ r.1.now)) }
+    ensures { MatchOption result (symbol_from first rest.now ≡ bad_symbol first rest.now)
+        (λ r. ((symbol_from first rest.now).token ≡ symbol_token r.0)
+        × ((symbol_from first rest.now).left ≡ r.1.now)) }
 {
     let one = match first {
         b'(' => Symbol::Open,
@@ -88,7 +91,8 @@ fn limited_number(bytes: &[u8]) -> (Lexeme, &[u8])
 // The next byte of a text without its escape, and what stands behind it; none at a quote, and at what may not stand in a text.
 #[tactic(auto, unfolding(lrp_model::specs::Lexing::text_from))]
 pub fn character(bytes: &[u8]) -> Option<(u8, &[u8])>
-    ensures text { MatchOption result (text_read bytes.now ≡ ended bytes.now) (λ r. text_read bytes.now ≡ behind_bytes (r.0 ∷ []) (text_read r.1.now)) }
+    ensures text { MatchOption result (text_read bytes.now ≡ ended bytes.now)
+        (λ r. text_read bytes.now ≡ behind_bytes (r.0 ∷ []) (text_read r.1.now)) }
     ensures shorter { IfSome result (λ r. length r.1.now < length bytes.now) }
 {
     match bytes {

@@ -47,7 +47,8 @@ fn first(text: &str) -> (Lexeme, &str, &str)
 // What stands next, with its slice and its place, and where the source goes on: behind it, or at a bad byte where it was.
 pub fn step(source: Source<'_>) -> (Found<'_>, Source<'_>)
     requires { IsInRange (at_of source) }
-    ensures found { IsFound (at_of source.entry) result.0.lexeme result.0.slice.now result.0.place (at_of result.1) }
+    ensures found { IsFound (at_of source.entry) result.0.lexeme result.0.slice.now result.0.place
+        (at_of result.1) }
     ensures range { IsInRange (at_of result.1) }
 {
     let Source { place, rest: text } = behind_blanks(source);

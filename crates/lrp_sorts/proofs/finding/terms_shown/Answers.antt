@@ -1,6 +1,7 @@
-use Rattle.std.proofs.Common.{◌≡◌, ap, sym, ◌∙◌, refl, subst, flat_map, take, length, option_map, arith}
+use Rattle.std.proofs.Common.{◌≡◌, ◌++◌, ap, sym, ◌∙◌, refl, subst, append_assoc, flat_map, take, length, option_map, arith}
 use Rattle.std.proofs.Math.Seq.{take-length}
-use Rattle.lrp_model.specs.Faults.{first}
+use Rattle.std.proofs.lemmas.List.{append-nil}
+use Rattle.lrp_model.specs.Faults.{earliest}
 use Rattle.lrp_model.specs.Sorting.{query_standing, term_sort, term_names, term_faults, column_faults}
 use Rattle.lrp_rel.specs.Sooner.{sooner}
 use Rattle.lrp_sorts.specs.Scopes.{binders}
@@ -14,8 +15,8 @@ use Rattle.lrp_sorts.proofs.finding.terms_shown.Goals as goal
 pub loop-i-init : goal.loop-i-init
 loop-i-init c = record {
   fault = refl;
-  misfit = ap (first query_standing) (sym (no_terms (binders c.args.scope.now) c.args.columns.now));
-  free = c.new-free.ensures (binders c.args.scope.now) c.quantifiers-quantifiers.result;
+  misfit = ap (earliest query_standing) (sym (no_terms (binders c.args.scope.now) c.args.columns.now));
+  free = λ names k. subst (λ ns. IsTally (binders c.args.scope.now) c.quantifiers-quantifiers.result ns c.args.before) (sym (append-nil names)) k;
 }
 
 pub loop-i-preserved : goal.loop-i-preserved
@@ -26,15 +27,17 @@ loop-i-preserved c =
     let seen = c.term_sort-sorted.ensures in
     record {
       fault =
-          c.sooner_of-fault.ensures ∙ ap (λ f. sooner query_standing f c.fault.result) kept.fault ∙ ap (sooner query_standing _) (c.fault.ensures ∙ ap (first query_standing) seen.faults)
+          c.sooner_of-fault.ensures ∙ ap (λ f. sooner query_standing f c.fault.result) kept.fault ∙ ap (sooner query_standing _) (c.fault.ensures ∙ ap (earliest query_standing) seen.faults)
           ∙ one_more query_standing (term_faults bs) c.args.terms.now c.loop-i.i t c.loop-i-test.true c.index-terms-i.is;
       misfit =
           c.sooner_of-misfit.ensures ∙ ap (λ f. sooner query_standing f c.misfit.result) kept.misfit
-          ∙ ap (sooner query_standing _) (c.misfit.ensures ∙ ap (λ s. first query_standing (misfits s t.place (option_map (λ x. x.now) c.get.result))) seen.sort ∙ ap (λ k. first query_standing (misfits (term_sort bs t) t.place k)) (column_at c.args.columns.now c.loop-i.i c.get.result c.get.ensures.lookup.1 c.get.ensures.lookup.3))
+          ∙ ap (sooner query_standing _) (c.misfit.ensures ∙ ap (λ s. earliest query_standing (misfits s t.place (option_map (λ x. x.now) c.get.result))) seen.sort ∙ ap (λ k. earliest query_standing (misfits (term_sort bs t) t.place k)) (column_at c.args.columns.now c.loop-i.i c.get.result c.get.ensures.lookup.1 c.get.ensures.lookup.3))
           ∙ column_further bs c.args.terms.now c.args.columns.now c.loop-i.i t c.loop-i-test.true c.index-terms-i.is;
       free =
-          subst (λ ns. IsTally bs c.quantifiers-quantifiers.result ns c.add_variable.new.variables) (one_further term_names c.args.terms.now c.loop-i.i t c.loop-i-test.true c.index-terms-i.is)
-          (c.in_ok-add_variable.ensures bs _ seen kept.free);
+          λ names k.
+          subst (λ ns. IsTally bs c.quantifiers-quantifiers.result ns c.add_variable.new.variables)
+          (append_assoc names (flat_map term_names (take c.loop-i.i c.args.terms.now)) (term_names t) ∙ ap (λ l. names ++ l) (one_further term_names c.args.terms.now c.loop-i.i t c.loop-i-test.true c.index-terms-i.is))
+          (c.in_ok-add_variable.ensures bs _ seen (kept.free names k));
     }
 
 -- all terms
@@ -45,14 +48,15 @@ all_terms c =
 
 pub returns-clause-fault : goal.returns-clause-fault
 returns-clause-fault c =
-    c.loop-i.invariant.fault ∙ ap (λ ts. first query_standing (flat_map (term_faults (binders c.args.scope.now)) ts)) (all_terms c)
+    c.loop-i.invariant.fault ∙ ap (λ ts. earliest query_standing (flat_map (term_faults (binders c.args.scope.now)) ts)) (all_terms c)
 
 pub returns-clause-misfit : goal.returns-clause-misfit
 returns-clause-misfit c =
-    c.loop-i.invariant.misfit ∙ ap (λ ts. first query_standing (column_faults (binders c.args.scope.now) ts c.args.columns.now)) (all_terms c)
+    c.loop-i.invariant.misfit ∙ ap (λ ts. earliest query_standing (column_faults (binders c.args.scope.now) ts c.args.columns.now)) (all_terms c)
 
 pub returns-clause-free : goal.returns-clause-free
-returns-clause-free c =
+returns-clause-free c = λ names k.
     let bs = binders c.args.scope.now in
-    subst (λ ts. IsCounted c.args.scope.now (flat_map term_names ts) c.loop-i.free) (all_terms c)
-    (subst (λ q. IsTally bs q (flat_map term_names (take c.loop-i.i c.args.terms.now)) c.loop-i.free) c.quantifiers-quantifiers.ensures c.loop-i.invariant.free)
+    subst (λ ts. IsCounted c.args.scope.now (names ++ flat_map term_names ts) c.loop-i.free) (all_terms c)
+    (subst (λ q. IsTally bs q (names ++ flat_map term_names (take c.loop-i.i c.args.terms.now)) c.loop-i.free) c.quantifiers-quantifiers.ensures
+    (c.loop-i.invariant.free names (subst (λ q. IsTally bs q names c.args.before) (sym c.quantifiers-quantifiers.ensures) k)))

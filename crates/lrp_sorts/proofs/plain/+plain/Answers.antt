@@ -25,10 +25,10 @@ pub plain_disjunction-returns-clause-form : goal.plain_disjunction-returns-claus
 plain_disjunction-returns-clause-form t c = form_of-Or c.in_ok-of.of ∙ ap disjunction c.in_ok-of.ensures.forms
 
 pub plain_existential-returns-clause-scope : goal.plain_existential-returns-clause-scope
-plain_existential-returns-clause-scope t c = then_ok c.some.result _ _ c.some.ensures.scope (λ left. left c.args.scope.now (c.in_ok-of.ensures.scope ∙ c.in_ok-enter.ensures))
+plain_existential-returns-clause-scope t c = then_ok c.some.result _ _ c.some.ensures.scope (λ left. left c.args.scope.now (c.in_ok-of.ensures.scope ∙ c.in_ok-enter.ensures.scope))
 
 pub plain_universal-returns-clause-scope : goal.plain_universal-returns-clause-scope
-plain_universal-returns-clause-scope t c = then_ok c.every.result _ _ c.every.ensures.scope (λ left. left c.args.scope.now (c.in_ok-of.ensures.scope ∙ c.in_ok-enter.ensures))
+plain_universal-returns-clause-scope t c = then_ok c.every.result _ _ c.every.ensures.scope (λ left. left c.args.scope.now (c.in_ok-of.ensures.scope ∙ c.in_ok-enter.ensures.scope))
 
 pub plain_each-loop-f-preserved : goal.plain_each-loop-f-preserved
 plain_each-loop-f-preserved t c =

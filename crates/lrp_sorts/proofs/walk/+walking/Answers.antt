@@ -1,20 +1,25 @@
 use Rattle.std.proofs.Common.{◌∷◌, ap, sym, ◌∙◌, [], ◌++◌, length, subst, take, refl}
-use Rattle.lrp_model.specs.Faults.{first}
+use Rattle.lrp_model.specs.Faults.{earliest}
 use Rattle.lrp_model.specs.RawQueries.{raw_form_of, raw_forms_of}
 use Rattle.lrp_model.specs.Sorting.{query_standing, widened, form_faults, forms_faults, free_names, free_names_each, binder_faults}
 use Rattle.lrp_rel.specs.Sooner.{sooner}
 use Rattle.lrp_sorts.specs.Scopes.{binders}
 use Rattle.lrp_sorts.specs.Widths.{IsCounted}
 use Rattle.lrp_sorts.proofs.RawNodes.{fault_then, free_then, counted_then, tally_at, at_tally, then_ok, if_ok_then, shown, shown_bound, not_faults, group_faults, and_faults, or_faults, implies_faults, exists_faults, forall_faults, not_names, group_names, and_names, or_names, implies_names, exists_names, forall_names, one_member_faults, one_member_names}
+use Rattle.lrp_sorts.proofs.Leaves.{narrow_faults}
 use Rattle.lrp_sorts.proofs.walk.+walking.Goals as goal
 use Rattle.lrp_model.specs.Texts.{without}
+
+pub inspect-returns-in-Atom-clause-free : goal.inspect-returns-in-Atom-clause-free
+inspect-returns-in-Atom-clause-free t c =
+    if_ok_then c.leaf.result _ _ c.leaf.ensures (λ made h. h.free [] (c.none.ensures.free (binders c.args.scope.now) (length c.args.scope.now.quantifiers)))
 
 pub inspect-returns-in-Not-clause-fault : goal.inspect-returns-in-Not-clause-fault
 inspect-returns-in-Not-clause-fault t c =
     let db = c.args.catalog.now in
     let bs = binders c.args.scope.now in
     fault_then c.inspect_whole.result _ _
-    (ap (λ g. first query_standing (widened bs [] (raw_form_of g) (form_faults (raw_form_of g) db bs))) c.deref.ensures ∙ not_faults db bs c.args.f.now c.in-Not.of c.in-Not.is)
+    (ap (λ g. earliest query_standing (widened bs [] (raw_form_of g) (form_faults (raw_form_of g) db bs))) c.deref.ensures ∙ not_faults db bs c.args.f.now c.in-Not.of c.in-Not.is)
     c.inspect_whole.ensures.fault
 
 pub inspect-returns-in-Not-clause-free : goal.inspect-returns-in-Not-clause-free
@@ -26,7 +31,7 @@ inspect-returns-in-Group-clause-fault t c =
     let db = c.args.catalog.now in
     let bs = binders c.args.scope.now in
     fault_then c.inspect_whole-in-Group.result _ _
-    (ap (λ g. first query_standing (widened bs [] (raw_form_of g) (form_faults (raw_form_of g) db bs))) c.deref-in-Group.ensures ∙ group_faults db bs c.args.f.now c.in-Group.of c.in-Group.is)
+    (ap (λ g. earliest query_standing (widened bs [] (raw_form_of g) (form_faults (raw_form_of g) db bs))) c.deref-in-Group.ensures ∙ group_faults db bs c.args.f.now c.in-Group.of c.in-Group.is)
     c.inspect_whole-in-Group.ensures.fault
 
 pub inspect-returns-in-Group-clause-free : goal.inspect-returns-in-Group-clause-free
@@ -36,7 +41,7 @@ inspect-returns-in-Group-clause-free t c =
 pub inspect-returns-in-And-clause-fault : goal.inspect-returns-in-And-clause-fault
 inspect-returns-in-And-clause-fault t c =
     fault_then c.inspect_each.result _ _
-    (ap (λ fs. first query_standing (forms_faults (raw_forms_of fs) c.args.catalog.now (binders c.args.scope.now))) c.deref-in-And.ensures.value
+    (ap (λ fs. earliest query_standing (forms_faults (raw_forms_of fs) c.args.catalog.now (binders c.args.scope.now))) c.deref-in-And.ensures.value
     ∙ and_faults c.args.catalog.now (binders c.args.scope.now) c.args.f.now c.in-And.of c.in-And.is)
     c.inspect_each.ensures.fault
 
@@ -47,7 +52,7 @@ inspect-returns-in-And-clause-free t c =
 pub inspect-returns-in-Or-clause-fault : goal.inspect-returns-in-Or-clause-fault
 inspect-returns-in-Or-clause-fault t c =
     fault_then c.inspect_each-in-Or.result _ _
-    (ap (λ fs. first query_standing (forms_faults (raw_forms_of fs) c.args.catalog.now (binders c.args.scope.now))) c.deref-in-Or.ensures.value
+    (ap (λ fs. earliest query_standing (forms_faults (raw_forms_of fs) c.args.catalog.now (binders c.args.scope.now))) c.deref-in-Or.ensures.value
     ∙ or_faults c.args.catalog.now (binders c.args.scope.now) c.args.f.now c.in-Or.of c.in-Or.is)
     c.inspect_each-in-Or.ensures.fault
 
@@ -64,10 +69,10 @@ inspect-returns-in_ok-before-in-Implies-clause-fault t c =
     let after = binders c.inspect_whole-in-Implies.new.scope in
     let k = c.in_ok-before-in-Implies in
     fault_then c.inspect_behind.result _ _
-    (ap (λ x. sooner query_standing x (first query_standing (widened after [] (raw_form_of c.deref-in-Implies-2.result.now) (form_faults (raw_form_of c.deref-in-Implies-2.result.now) db after))))
-    (k.ensures.fault ∙ ap (λ g. first query_standing (widened (binders around) [] (raw_form_of g) (form_faults (raw_form_of g) db (binders around)))) c.deref-in-Implies.ensures)
-    ∙ ap (λ g. sooner query_standing (first query_standing (widened (binders around) [] left (form_faults left db (binders around)))) (first query_standing (widened after [] (raw_form_of g) (form_faults (raw_form_of g) db after)))) c.deref-in-Implies-2.ensures
-    ∙ ap (λ a. sooner query_standing (first query_standing (widened (binders around) [] left (form_faults left db (binders around)))) (first query_standing (widened (binders a) [] right (form_faults right db (binders a))))) k.ensures.scope
+    (ap (λ x. sooner query_standing x (earliest query_standing (widened after [] (raw_form_of c.deref-in-Implies-2.result.now) (form_faults (raw_form_of c.deref-in-Implies-2.result.now) db after))))
+    (k.ensures.fault ∙ ap (λ g. earliest query_standing (widened (binders around) [] (raw_form_of g) (form_faults (raw_form_of g) db (binders around)))) c.deref-in-Implies.ensures)
+    ∙ ap (λ g. sooner query_standing (earliest query_standing (widened (binders around) [] left (form_faults left db (binders around)))) (earliest query_standing (widened after [] (raw_form_of g) (form_faults (raw_form_of g) db after)))) c.deref-in-Implies-2.ensures
+    ∙ ap (λ a. sooner query_standing (earliest query_standing (widened (binders around) [] left (form_faults left db (binders around)))) (earliest query_standing (widened (binders a) [] right (form_faults right db (binders a))))) k.ensures.scope
     ∙ implies_faults db (binders around) c.args.f.now c.in-Implies.left c.in-Implies.right c.in-Implies.is)
     c.inspect_behind.ensures.fault
 
@@ -91,7 +96,7 @@ inspect-returns-in-Exists-clause-fault t c =
     let bs = binders c.args.scope.now in
     let b = c.in-Exists.binder in
     fault_then c.inspect_bound.result _ _
-    (ap (λ g. sooner query_standing (first query_standing (binder_faults db bs b)) (first query_standing (widened (b ∷ bs) (b.name ∷ []) (raw_form_of g) (form_faults (raw_form_of g) db (b ∷ bs))))) c.deref-in-Exists.ensures
+    (ap (λ g. sooner query_standing (earliest query_standing (binder_faults db bs b)) (earliest query_standing (widened (b ∷ bs) (b.name ∷ []) (raw_form_of g) (form_faults (raw_form_of g) db (b ∷ bs))))) c.deref-in-Exists.ensures
     ∙ exists_faults db bs c.args.f.now b c.in-Exists.of c.in-Exists.is)
     c.inspect_bound.ensures.fault
 
@@ -105,7 +110,7 @@ inspect-returns-in-Forall-clause-fault t c =
     let bs = binders c.args.scope.now in
     let b = c.in-Forall.binder in
     fault_then c.inspect_bound-in-Forall.result _ _
-    (ap (λ g. sooner query_standing (first query_standing (binder_faults db bs b)) (first query_standing (widened (b ∷ bs) (b.name ∷ []) (raw_form_of g) (form_faults (raw_form_of g) db (b ∷ bs))))) c.deref-in-Forall.ensures
+    (ap (λ g. sooner query_standing (earliest query_standing (binder_faults db bs b)) (earliest query_standing (widened (b ∷ bs) (b.name ∷ []) (raw_form_of g) (form_faults (raw_form_of g) db (b ∷ bs))))) c.deref-in-Forall.ensures
     ∙ forall_faults db bs c.args.f.now b c.in-Forall.of c.in-Forall.is)
     c.inspect_bound-in-Forall.ensures.fault
 
@@ -125,6 +130,12 @@ pub inspect_whole-returns-clause-free : goal.inspect_whole-returns-clause-free
 inspect_whole-returns-clause-free t c =
     let k = c.in_ok-inside in
     counted_then c.args.scope.now _ _ k.inside.free c.with_width.result.free refl c.with_width.ensures.free k.ensures.free
+
+pub inspect_behind-returns-then-is_narrow_leaf-clause-fault : goal.inspect_behind-returns-then-is_narrow_leaf-clause-fault
+inspect_behind-returns-then-is_narrow_leaf-clause-fault t c =
+    let narrow = c.is_narrow_leaf.ensures c.if-is_narrow_leaf.true in
+    if_ok_then c.leaf.result _ _ c.leaf.ensures (λ made h.
+    h.fault ∙ ap (sooner query_standing c.args.before.fault) (narrow_faults (binders c.args.scope.now) c.args.catalog.now c.args.f.now narrow.few))
 
 pub inspect_behind-returns-clause-fault : goal.inspect_behind-returns-clause-fault
 inspect_behind-returns-clause-fault t c =
@@ -165,7 +176,7 @@ inspect_bound-returns-clause-scope t c =
     then_ok c.unbind.result _ _ c.unbind.ensures.scope (λ left. left c.args.scope.now (c.in_ok-inside.ensures.scope ∙ c.in_ok-own.ensures.scope))
 
 pub inspect_each-loop-f-init : goal.inspect_each-loop-f-init
-inspect_each-loop-f-init t c = record { fault = refl; free = c.new.ensures (binders c.args.scope.now) (length c.args.scope.now.quantifiers); scope = refl }
+inspect_each-loop-f-init t c = record { fault = c.none-found.ensures.fault; free = c.none-found.ensures.free (binders c.args.scope.now) (length c.args.scope.now.quantifiers); scope = refl }
 
 pub inspect_each-loop-f-preserved : goal.inspect_each-loop-f-preserved
 inspect_each-loop-f-preserved t c =
@@ -178,8 +189,8 @@ inspect_each-loop-f-preserved t c =
     record {
       fault =
           k.fault
-          ∙ ap (λ x. sooner query_standing x (first query_standing (widened (binders c.loop-f.scope) [] (raw_form_of f) (form_faults (raw_form_of f) db (binders c.loop-f.scope))))) kept.fault
-          ∙ ap (λ a. sooner query_standing (first query_standing (forms_faults (raw_forms_of (take c.loop-f.f-index c.args.fs.now)) db (binders around))) (first query_standing (widened (binders a) [] (raw_form_of f) (form_faults (raw_form_of f) db (binders a))))) kept.scope
+          ∙ ap (λ x. sooner query_standing x (earliest query_standing (widened (binders c.loop-f.scope) [] (raw_form_of f) (form_faults (raw_form_of f) db (binders c.loop-f.scope))))) kept.fault
+          ∙ ap (λ a. sooner query_standing (earliest query_standing (forms_faults (raw_forms_of (take c.loop-f.f-index c.args.fs.now)) db (binders around))) (earliest query_standing (widened (binders a) [] (raw_form_of f) (form_faults (raw_form_of f) db (binders a))))) kept.scope
           ∙ one_member_faults db (binders around) c.args.fs.now c.loop-f.f-index f c.loop-f-test.true c.f-item.is;
       free =
           subst (λ ns. IsCounted around ns c.in_ok-found.found.free) (one_member_names c.args.fs.now c.loop-f.f-index f c.loop-f-test.true c.f-item.is)

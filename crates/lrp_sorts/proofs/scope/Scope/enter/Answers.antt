@@ -1,4 +1,4 @@
-use Rattle.std.proofs.Common.{◌≡◌, ◌∷◌, [], Some, cond, reverse, option_map, bytes_eq, subst, ap, sym, ◌∙◌}
+use Rattle.std.proofs.Common.{◌≡◌, ◌∷◌, ◌++◌, [], Some, cond, reverse, option_map, bytes_eq, subst, ap, sym, ◌∙◌}
 use Rattle.std.proofs.lemmas.List.{reverse-append}
 use Rattle.lrp_model.specs.Texts.{Identifier}
 use Rattle.lrp_model.specs.Sorting.{binder_sort}
@@ -6,16 +6,30 @@ use Rattle.lrp_sorts.specs.Scopes.{binders, kept_at}
 use Rattle.lrp_sorts.specs.Nesting.{binders_with, IsNested}
 use Rattle.lrp_sorts.specs.declared.scope.Quantifier.{Quantifier}
 use Rattle.lrp_sorts.proofs.Nested.{bound_around, entered}
+use Rattle.lrp_sorts.proofs.scope.Scope.enter.Goals.{After-push_reserved}
 use Rattle.lrp_sorts.proofs.scope.Scope.enter.Goals as goal
 
-pub invariant_of-self-in-Ok : goal.invariant_of-self-in-Ok
-invariant_of-self-in-Ok c =
+-- what the map had at the name is what the name is bound to outside
+outer_sort : (c : After-push_reserved) → option_map (λ s. s.now) c.in_ok-outer.outer ≡ binder_sort (binders c.args.self.now) c.args.binder.now.name
+outer_sort c =
+    c.in_ok-outer.ensures.outer
+    ∙ ap (kept_at c.self.inside.sorts) c.as_bytes.ensures
+    ∙ c.self.invariant.sorts c.args.binder.now.name
+    ∙ bound_around c.self.inside.quantifiers.items (reverse c.self.inside.columns.now) c.args.binder.now.name
+    ∙ ap (λ a. binder_sort (binders a) c.args.binder.now.name) c.self.view_is
+
+pub returns-clause-outer : goal.returns-clause-outer
+returns-clause-outer c = outer_sort (goal.at.returns-clause-outer c).After-push_reserved
+
+pub invariant_of-self-2 : goal.invariant_of-self-2
+invariant_of-self-2 c =
     let before = c.self.inside.quantifiers.items in
     let head = reverse c.self.inside.columns.now in
     let binder = c.args.binder.now in
-    let one : Quantifier = record { binder = c.args.binder; outer = c.sort_of-outer.result } in
+    let one : Quantifier = record { binder = c.args.binder; outer = c.in_ok-outer.outer } in
+    let items : c.push_reserved.new.self.items ≡ before ++ one ∷ [] = c.push_reserved.ensures.items ∙ ap (λ l. l ++ one ∷ []) c.in_ok-reserve.ensures.items in
     let outside : option_map (λ s. s.now) one.outer ≡ binder_sort (binders_with (reverse before) head) binder.name =
-    c.sort_of-outer.ensures ∙ ap (λ a. binder_sort (binders a) binder.name) (sym c.self.view_is) ∙ sym (bound_around before head binder.name) in
-    subst (λ qs. IsNested c.bind_name.new.sorts qs head) (sym (ap reverse c.in_ok-push.ensures.items ∙ reverse-append before (one ∷ [])))
+    c.in_ok-outer.ensures.outer ∙ ap (kept_at c.self.inside.sorts) c.as_bytes.ensures ∙ c.self.invariant.sorts binder.name in
+    subst (λ qs. IsNested c.bind_name.new.sorts qs head) (sym (ap reverse items ∙ reverse-append before (one ∷ [])))
     (entered c.self.inside.sorts c.bind_name.new.sorts one (reverse before) head c.self.invariant outside
-    (subst (λ x. (n : Identifier) → kept_at c.bind_name.new.sorts n ≡ cond (bytes_eq x n) (Some binder.sort) (kept_at c.self.inside.sorts n)) c.as_bytes.ensures c.in-Ok.ensures.bound))
+    (subst (λ x. (n : Identifier) → kept_at c.bind_name.new.sorts n ≡ cond (bytes_eq x n) (Some binder.sort) (kept_at c.self.inside.sorts n)) c.as_bytes.ensures c.in_ok-outer.ensures.bound))
