@@ -15,7 +15,7 @@ use Rattle.lrp_list.proofs.HeadOrder.{head_is}
 use Rattle.lrp_token.specs.Spots.{spot_token}
 use Rattle.lrp_outputs.specs.Known.{HaveCivilTimes}
 use Rattle.lrp_outputs.specs.PageLines.{line_as}
-use Rattle.lrp_outputs.specs.Spots.{tuple_of}
+use Rattle.lrp_outputs.specs.Spots.{answer_tuple}
 
 -- ---- the last spot
 
@@ -28,7 +28,7 @@ last_mapped f (x ∷ y ∷ ys) last e =
 
 -- ---- tokens
 
-pub token_is : (a : Answer) (files : List ℕ) (spot : Spot) → IsStore a.store → length spot.times ≡ 8 → length spot.texts ≡ 8 → spot_token a.store.shape a.domain files spot ≡ token_of files (tuple_of a spot)
+pub token_is : (a : Answer) (files : List ℕ) (spot : Spot) → IsStore a.store → length spot.times ≡ 8 → length spot.texts ≡ 8 → spot_token a.store.shape a.domain files spot ≡ token_of files (answer_tuple a spot)
 token_is a files spot valid times texts =
     let shape = a.store.shape in
     let m : shape.times ≤ 8 = valid.times in

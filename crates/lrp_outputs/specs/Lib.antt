@@ -5,12 +5,13 @@ pub mod Outcomes
 pub mod PageLines
 pub mod First
 pub mod SampleLines
--- What contracts of single functions need beside.
+-- What contracts of public calls say.
 pub mod Statuses
 pub mod Spots
+pub mod SmallAnswers
+pub mod Outputs
+-- What functions inside say to one another.
 pub mod Known
 pub mod Rooms
-pub mod SmallAnswers
-pub mod WritablePlans
 pub mod Refusals
-pub mod Outputs
+pub mod Carried

@@ -9,7 +9,7 @@ use Rattle.lrp_store.specs.declared.answer.Answer.{Answer}
 use Rattle.lrp_list.specs.AnswerText.{answer_text}
 use Rattle.lrp_list.specs.Lines.{is_json}
 use Rattle.lrp_outputs.specs.First.{first_line}
-use Rattle.lrp_outputs.specs.Spots.{tuple_of}
+use Rattle.lrp_outputs.specs.Spots.{answer_tuple}
 use Rattle.lrp_outputs.specs.Outcomes.{Outcome}
 use Rattle.lrp_outputs.specs.SampleLines.{sample_lines}
 use Rattle.lrp_outputs.specs.PageLines.{listed_bytes}
@@ -24,14 +24,14 @@ use Rattle.lrp_outputs.specs.declared.witness.Witness.{Witness}
 -- `Nonempty` and the line of a spot, or `Empty` without one
 abbrev pub spot_text : Answer → Option Spot → List ℕ
 spot_text a None = codes "Empty\n"
-spot_text a (Some spot) = codes "Nonempty\n" ++ plain_line (tuple_of a spot)
+spot_text a (Some spot) = codes "Nonempty\n" ++ plain_line (answer_tuple a spot)
 
 abbrev pub witness_text : Witness → List ℕ
 witness_text w = spot_text w.answer w.least
 
 -- the tuple of the least answer
 abbrev pub least_of : Witness → Option Tuple
-least_of w = option_map (tuple_of w.answer) w.least
+least_of w = option_map (answer_tuple w.answer) w.least
 
 -- what is told of the sample
 abbrev pub sample_text : Report → List ℕ
@@ -39,11 +39,11 @@ sample_text report = sample_lines report.rows report.cells (least_of report.firs
 
 -- the lines of the page's spots, and the line behind them
 abbrev pub page_text : Page → List ℕ
-page_text page = listed_bytes page.civil (is_json page.form) page.files (map (tuple_of page.answer) page.spots) page.more
+page_text page = listed_bytes page.civil (is_json page.form) page.files (map (answer_tuple page.answer) page.spots) page.more
 
 -- the lines of the least answers
 abbrev pub leasts_text : Leasts → List ℕ
-leasts_text l = flat_map (λ least. first_line (option_map (tuple_of l.answer) least)) l.spots
+leasts_text l = flat_map (λ least. first_line (option_map (answer_tuple l.answer) least)) l.spots
 
 -- of each output
 abbrev pub output_text : Output → List ℕ

@@ -1,7 +1,5 @@
--- Answers whose text can be written: their zones have room, told so that the fact holds in at most one way.
-use Rattle.std.specs.Prelude.{◌≢◌, ℕ, zero, suc, ◌+◌, ◌<◌, ◌/◌, ◌^◌, ◌≤◌, ℤ, List, Option, Some, None, Contains}
-use Rattle.std.specs.Coded.{×_prop, Π_prop, Unit-prop, le_prop}
-use Rattle.std.proofs.Math.Dec.{T_prop}
+-- Answers whose text can be written: their zones have room.
+use Rattle.std.specs.Prelude.{◌≢◌, ℕ, zero, suc, ◌+◌, ◌<◌, ◌/◌, ◌^◌, ◌≤◌, ℤ, List, Option, Contains}
 use Rattle.lrp_theory.specs.Entries.{AtMost, entry}
 use Rattle.lrp_matrix.specs.Matrices.{MatrixView, IsClosed, HaveSameIntegers}
 use Rattle.lrp_model.specs.declared.tuples.Cell.{Cell}
@@ -25,13 +23,3 @@ HasSmallBounds z h = (m : MatrixView) → IsClosed m → HaveSameIntegers (matri
 -- the period and the bounds of each zone are at most that number
 abbrev pub IsRoomy : StoreView → Type 0
 IsRoomy s = (cell : Cell) (table : List (Option ℤ)) → Contains (tables_at s cell) table → ((zone_of s cell table).period ≤ greatest_in (zone_of s cell table)) × HasSmallBounds (zone_of s cell table) (greatest_in (zone_of s cell table))
-
-at_most_prop : (h : ℕ) (o : Option ℤ) → IsProp (AtMost h o)
-at_most_prop h None = Unit-prop
-at_most_prop h (Some a) = ×_prop (Prim.hlevel (T_prop)) (Prim.hlevel (T_prop))
-
-small_prop : (z : ZoneView) (h : ℕ) → IsProp (HasSmallBounds z h)
-small_prop z h = Π_prop (λ m. Π_prop (λ closed. Π_prop (λ same. Π_prop (λ i. Π_prop (λ j. Π_prop (λ il. Π_prop (λ jl. Π_prop (λ ne. at_most_prop h (entry m.cells i j)))))))))
-
-pub roomy_prop : (s : StoreView) → IsProp (IsRoomy s)
-roomy_prop s = Π_prop (λ cell. Π_prop (λ table. Π_prop (λ held. ×_prop (Prim.hlevel (le_prop)) (small_prop (zone_of s cell table) (greatest_in (zone_of s cell table))))))

@@ -1,7 +1,8 @@
 // The whole answer of a question as it is written.
 ghost use Rattle.std.specs.Prelude.{◌≡◌};
 ghost use Rattle.lrp_store.specs.Least.{HasRoom};
-ghost use Rattle.lrp_outputs.specs.Rooms.{IsRoomy, roomy_prop};
+ghost use Rattle.lrp_outputs.specs.Carried.{roomy_prop};
+ghost use Rattle.lrp_outputs.specs.Rooms.{IsRoomy};
 
 use lrp_io::{Failed, Sink, Text};
 use lrp_list::write_answer;

@@ -3,7 +3,7 @@ ghost use Rattle.std.specs.Prelude.{option_map};
 ghost use Rattle.lrp_io.specs.Causes.{HasCause};
 ghost use Rattle.lrp_io.specs.Pieces.{IsWritten};
 ghost use Rattle.lrp_outputs.specs.First.{first_line};
-ghost use Rattle.lrp_outputs.specs.Spots.{IsKnownLeast, tuple_of};
+ghost use Rattle.lrp_outputs.specs.Spots.{IsKnownLeast, answer_tuple};
 
 use lrp_io::{Failed, Sink};
 use lrp_list::{Form, write_line};
@@ -18,7 +18,8 @@ pub fn write_first<S: Sink>(
     least: &Option<Spot>,
 ) -> Result<(), Failed>
     requires known { IsKnownLeast answer.now least.now }
-    ensures text { IsWritten (S.written out.old) (S.written out.new) (first_line (option_map (tuple_of answer.now) least.now)) result }
+    ensures text { IsWritten (S.written out.old) (S.written out.new)
+        (first_line (option_map (answer_tuple answer.now) least.now)) result }
     ensures cause { HasCause (S.faults out.old) (S.faults out.new) result }
 {
     match least {

@@ -20,7 +20,8 @@ pub fn small_answers_have_room()
 /// The tuple that is told of a spot is the one of the columns that it stands for, and the numbers of its texts are numbers of
 /// the domain.
 pub fn spots_stand_for_tuples()
-    ensures tuple { (columns : List Column) (shape : Shape) (domain : List TextOf) (spot : Spot) (tuple : Tuple)
+    ensures tuple { (columns : List Column) (shape : Shape) (domain : List TextOf) (spot : Spot)
+        (tuple : Tuple)
         → HasShape columns tuple
         → StandsFor shape domain spot tuple
         → spot_tuple columns shape domain spot ≡ tuple }

@@ -1,6 +1,7 @@
 // The least answers of a query as they are written.
 ghost use Rattle.std.specs.List.{AllByRecursion};
-ghost use Rattle.lrp_outputs.specs.Spots.{IsKnownLeast, leasts_prop};
+ghost use Rattle.lrp_outputs.specs.Carried.{leasts_prop};
+ghost use Rattle.lrp_outputs.specs.Spots.{IsKnownLeast};
 
 use crate::first::write_first;
 use lrp_io::{Failed, Sink, Text};

@@ -7,7 +7,7 @@ ghost use Rattle.lrp_list.specs.Lines.{is_json};
 ghost use Rattle.lrp_model.specs.Pages.{last_of};
 ghost use Rattle.lrp_model.specs.PrintedPages.{end_line, token_behind, token_of};
 ghost use Rattle.lrp_outputs.specs.Known.{HaveCivilTimes, IsKnown};
-ghost use Rattle.lrp_outputs.specs.Spots.{tuple_of};
+ghost use Rattle.lrp_outputs.specs.Spots.{answer_tuple};
 ghost use Rattle.lrp_outputs.specs.Outputs.{page_text};
 ghost use Rattle.lrp_outputs.specs.PageLines.{line_as};
 
@@ -30,7 +30,9 @@ pub fn write_page<S: Sink>(out: &mut S, page: &Page) -> Result<(), Failed>
 
 /// The line of each spot.
 fn write_lines<S: Sink>(out: &mut S, page: &Page) -> Result<(), Failed>
-    ensures text { IsWritten (S.written out.old) (S.written out.new) (flat_map (λ spot. line_as page.now.civil (is_json page.now.form) (tuple_of page.now.answer spot)) page.now.spots) result }
+    ensures text { IsWritten (S.written out.old) (S.written out.new)
+        (flat_map (λ spot. line_as page.now.civil (is_json page.now.form)
+        (answer_tuple page.now.answer spot)) page.now.spots) result }
     ensures cause { HasCause (S.faults out.old) (S.faults out.new) result }
 {
     let spots = page.spots.as_slice();
@@ -44,7 +46,9 @@ fn write_lines<S: Sink>(out: &mut S, page: &Page) -> Result<(), Failed>
 fn write_spot<S: Sink>(out: &mut S, page: &Page, spot: &Spot) -> Result<(), Failed>
     requires known { IsKnown page.now.answer spot.now }
     requires dates { HaveCivilTimes page.now.civil page.now.answer (spot.now ∷ []) }
-    ensures text { IsWritten (S.written out.old) (S.written out.new) (line_as page.now.civil (is_json page.now.form) (tuple_of page.now.answer spot.now)) result }
+    ensures text { IsWritten (S.written out.old) (S.written out.new)
+        (line_as page.now.civil (is_json page.now.form) (answer_tuple page.now.answer spot.now))
+        result }
     ensures cause { HasCause (S.faults out.old) (S.faults out.new) result }
 {
     if page.civil {
@@ -56,7 +60,10 @@ fn write_spot<S: Sink>(out: &mut S, page: &Page, spot: &Spot) -> Result<(), Fail
 
 /// The line behind those of the spots: whether more come, with a token.
 fn write_end<S: Sink>(out: &mut S, page: &Page) -> Result<(), Failed>
-    ensures text { IsWritten (S.written out.old) (S.written out.new) (end_line (is_json page.now.form) (token_behind page.now.files page.now.more (last_of (map (tuple_of page.now.answer) page.now.spots)))) result }
+    ensures text { IsWritten (S.written out.old) (S.written out.new)
+        (end_line (is_json page.now.form)
+        (token_behind page.now.files page.now.more
+        (last_of (map (answer_tuple page.now.answer) page.now.spots)))) result }
     ensures cause { HasCause (S.faults out.old) (S.faults out.new) result }
 {
     let Some(last) = page.spots.as_slice().last() else {
@@ -71,7 +78,8 @@ fn write_end<S: Sink>(out: &mut S, page: &Page) -> Result<(), Failed>
 
 /// The line of a page that is the last one.
 fn write_no_more<S: Sink>(out: &mut S, form: &Form) -> Result<(), Failed>
-    ensures text { IsWritten (S.written out.old) (S.written out.new) (end_line (is_json form.now) None) result }
+    ensures text { IsWritten (S.written out.old) (S.written out.new)
+        (end_line (is_json form.now) None) result }
     ensures cause { HasCause (S.faults out.old) (S.faults out.new) result }
 {
     match form {
@@ -83,7 +91,9 @@ fn write_no_more<S: Sink>(out: &mut S, form: &Form) -> Result<(), Failed>
 /// The line with the token of a spot, behind which the next page begins.
 fn write_more<S: Sink>(out: &mut S, page: &Page, last: &Spot) -> Result<(), Failed>
     requires { IsKnown page.now.answer last.now }
-    ensures text { IsWritten (S.written out.old) (S.written out.new) (end_line (is_json page.now.form) (Some (token_of page.now.files (tuple_of page.now.answer last.now)))) result }
+    ensures text { IsWritten (S.written out.old) (S.written out.new)
+        (end_line (is_json page.now.form)
+        (Some (token_of page.now.files (answer_tuple page.now.answer last.now)))) result }
     ensures cause { HasCause (S.faults out.old) (S.faults out.new) result }
 {
     match page.form {
@@ -101,7 +111,9 @@ fn write_between<S: Sink>(
     behind: &[u8],
 ) -> Result<(), Failed>
     requires { IsKnown page.now.answer last.now }
-    ensures text { IsWritten (S.written out.old) (S.written out.new) (before.now ++ (token_of page.now.files (tuple_of page.now.answer last.now) ++ behind.now)) result }
+    ensures text { IsWritten (S.written out.old) (S.written out.new)
+        (before.now ++ (token_of page.now.files (answer_tuple page.now.answer last.now)
+        ++ behind.now)) result }
     ensures cause { HasCause (S.faults out.old) (S.faults out.new) result }
 {
     write_bytes(out, before)?;
@@ -112,7 +124,8 @@ fn write_between<S: Sink>(
 /// The token of a spot.
 fn write_last<S: Sink>(out: &mut S, page: &Page, last: &Spot) -> Result<(), Failed>
     requires { IsKnown page.now.answer last.now }
-    ensures text { IsWritten (S.written out.old) (S.written out.new) (token_of page.now.files (tuple_of page.now.answer last.now)) result }
+    ensures text { IsWritten (S.written out.old) (S.written out.new)
+        (token_of page.now.files (answer_tuple page.now.answer last.now)) result }
     ensures cause { HasCause (S.faults out.old) (S.faults out.new) result }
 {
     let shape = page.answer.store.shape();

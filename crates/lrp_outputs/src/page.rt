@@ -1,7 +1,8 @@
 // A page of answers as it is written.
 ghost use Rattle.std.specs.List.{AllByRecursion};
 ghost use Rattle.lrp_list.specs.Lines.{IsFormOf};
-ghost use Rattle.lrp_outputs.specs.Known.{HaveCivilTimes, IsKnown, civil_prop, form_prop, spots_prop};
+ghost use Rattle.lrp_outputs.specs.Carried.{civil_prop, form_prop, spots_prop};
+ghost use Rattle.lrp_outputs.specs.Known.{HaveCivilTimes, IsKnown};
 
 use crate::lines::write_page;
 use lrp_io::{Failed, Sink, Text};

@@ -33,7 +33,8 @@ impl Text for Report {
 
 /// The numbers of rows and of cells.
 fn write_counts<S: Sink>(out: &mut S, rows: u32, cells: u32) -> Result<(), Failed>
-    ensures text { IsWritten (S.written out.old) (S.written out.new) (counts_text rows cells) result }
+    ensures text { IsWritten (S.written out.old) (S.written out.new)
+        (counts_text rows cells) result }
     ensures cause { HasCause (S.faults out.old) (S.faults out.new) result }
 {
     let mut of_rows = Buffer::new();
@@ -50,7 +51,8 @@ fn write_counts<S: Sink>(out: &mut S, rows: u32, cells: u32) -> Result<(), Faile
 
 /// The line of the least answer.
 fn write_first<S: Sink>(out: &mut S, first: &Witness) -> Result<(), Failed>
-    ensures text { IsWritten (S.written out.old) (S.written out.new) (first_line (least_of first.now)) result }
+    ensures text { IsWritten (S.written out.old) (S.written out.new)
+        (first_line (least_of first.now)) result }
     ensures cause { HasCause (S.faults out.old) (S.faults out.new) result }
 {
     crate::first::write_first(out, &first.answer, &first.least)

@@ -1,6 +1,7 @@
 // The least answer as it is written.
 ghost use Rattle.std.specs.Prelude.{IfSome};
-ghost use Rattle.lrp_outputs.specs.Spots.{HasKnownTexts, spot_prop};
+ghost use Rattle.lrp_outputs.specs.Carried.{spot_prop};
+ghost use Rattle.lrp_outputs.specs.Spots.{HasKnownTexts};
 
 use lrp_io::{Failed, Sink, Text};
 use lrp_list::{Form, write_line};

@@ -16,7 +16,8 @@ use lrp_rel::{Database, write_database};
 
 /// Writes an outcome's text, or a front of it where the sink fails.
 pub fn write_outcome<S: Sink>(out: &mut S, outcome: &Result<Output, Refusal>) -> Result<(), Failed>
-    ensures text { IsWritten (S.written out.old) (S.written out.new) (written_of (told outcome.now)) result }
+    ensures text { IsWritten (S.written out.old) (S.written out.new)
+        (written_of (told outcome.now)) result }
     ensures cause { HasCause (S.faults out.old) (S.faults out.new) result }
 {
     match outcome {
@@ -83,7 +84,8 @@ fn write_refusal<S: Sink>(out: &mut S, refusal: &Refusal) -> Result<(), Failed>
 
 /// Writes the line of a refusal of a watch.
 fn write_watch_refusal<S: Sink>(out: &mut S, refusal: &WatchRefusal) -> Result<(), Failed>
-    ensures text { IsWritten (S.written out.old) (S.written out.new) (watch_line refusal.now) result }
+    ensures text { IsWritten (S.written out.old) (S.written out.new)
+        (watch_line refusal.now) result }
     ensures cause { HasCause (S.faults out.old) (S.faults out.new) result }
 {
     match refusal {
@@ -113,7 +115,8 @@ fn write_watch_refusal<S: Sink>(out: &mut S, refusal: &WatchRefusal) -> Result<(
 
 /// Writes the line of an edit at which a limit is passed.
 fn write_edit<S: Sink>(out: &mut S, limit: &[u8], edit: u64) -> Result<(), Failed>
-    ensures text { IsWritten (S.written out.old) (S.written out.new) (edit_line limit.now edit) result }
+    ensures text { IsWritten (S.written out.old) (S.written out.new)
+        (edit_line limit.now edit) result }
     ensures cause { HasCause (S.faults out.old) (S.faults out.new) result }
 {
     let mut number = Buffer::new();
@@ -123,7 +126,8 @@ fn write_edit<S: Sink>(out: &mut S, limit: &[u8], edit: u64) -> Result<(), Faile
 
 /// Writes the line of a fault of a file's text.
 fn write_fault<S: Sink>(out: &mut S, whose: &[u8], kind: &str, place: Place) -> Result<(), Failed>
-    ensures text { IsWritten (S.written out.old) (S.written out.new) (fault_line whose.now kind.now place) result }
+    ensures text { IsWritten (S.written out.old) (S.written out.new)
+        (fault_line whose.now kind.now place) result }
     ensures cause { HasCause (S.faults out.old) (S.faults out.new) result }
 {
     let mut line = Buffer::new();
@@ -142,7 +146,8 @@ fn write_fault<S: Sink>(out: &mut S, whose: &[u8], kind: &str, place: Place) -> 
 
 /// Writes the line of too many cells at a place of this number.
 fn write_cells<S: Sink>(out: &mut S, cap: u32, place: &[u8], number: u64) -> Result<(), Failed>
-    ensures text { IsWritten (S.written out.old) (S.written out.new) (cells_line cap place.now number) result }
+    ensures text { IsWritten (S.written out.old) (S.written out.new)
+        (cells_line cap place.now number) result }
     ensures cause { HasCause (S.faults out.old) (S.faults out.new) result }
 {
     let mut most = Buffer::new();
@@ -173,7 +178,8 @@ fn write_rows<S: Sink>(out: &mut S, cap: u32) -> Result<(), Failed>
 
 /// Writes pieces, one after the other.
 pub fn write_pieces<S: Sink>(out: &mut S, pieces: &[&[u8]]) -> Result<(), Failed>
-    ensures text { IsWritten (S.written out.old) (S.written out.new) (flat_map (λ piece. piece.now) pieces.now) result }
+    ensures text { IsWritten (S.written out.old) (S.written out.new)
+        (flat_map (λ piece. piece.now) pieces.now) result }
     ensures cause { HasCause (S.faults out.old) (S.faults out.new) result }
 {
     for piece in pieces {

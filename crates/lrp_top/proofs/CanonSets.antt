@@ -94,7 +94,7 @@ module _ {S T : Type 0} (A : ℤ → List S → Type 0) (B : ℤ → List T → 
 
   -- such a moment has the texts of a number
   open_again : (p : Moment S) → IsOpenBelow A period p → r.back (r.named p.texts) ≡ p.texts
-  open_again p h = let floor = floors (pos period) p.number h.bound (omega (arith, ints)) in r.again floor.0 p.texts (h.all floor.0 floor.1.low floor.1.residue)
+  open_again p h = let floor = floors (pos period) p.number h.bound (omega (arith, ints)) in r.again floor.0 p.texts (h.all floor.0 floor.1.below floor.1.tight)
 
 -- as many maximal rows
 pub count_named : {S T : Type 0} (A : ℤ → List S → Type 0) (B : ℤ → List T → Type 0) → IsRenamed A B → HaveFloors → (count : ℕ) → HasRowCount A count → HasRowCount B count

@@ -7,14 +7,9 @@ use Rattle.std.specs.List.{AllByRecursion}
 use Rattle.std.proofs.lemmas.Cmp.{tied_itself, nat_list_cmp_total}
 use Rattle.std.proofs.lemmas.List.{get_or-take, length-take-le}
 use Rattle.lrp_model.specs.Formulas.{Question}
-use Rattle.lrp_model.specs.Rows.{Datum, time, text, times_of, texts_of}
-use Rattle.lrp_model.specs.Satisfaction.{HasShape, IsOfKind, IsAnswer}
-use Rattle.lrp_model.specs.Sorts.{same_sort, time_count}
-use Rattle.lrp_model.proofs.ColumnCounts.{with_time, with_text, few_times}
+use Rattle.lrp_model.specs.Rows.{Datum, time, times_of, texts_of}
+use Rattle.lrp_model.specs.Satisfaction.{HasShape, IsAnswer}
 use Rattle.lrp_model.specs.Texts.{Text, Ascends, text_cmp}
-use Rattle.lrp_model.specs.declared.relations.Sort.{Sort}
-use Rattle.lrp_model.specs.declared.relations.Sort.TheVariants.{Time, Data, Named}
-use Rattle.lrp_model.specs.declared.relations.Column.{Column}
 use Rattle.lrp_model.specs.declared.relations.Relation.{Relation}
 use Rattle.lrp_model.specs.declared.tuples.Cell.{Cell}
 use Rattle.lrp_model.specs.declared.formulas.Head.{Head}
@@ -25,28 +20,9 @@ use Rattle.lrp_spans.specs.Groups.{HoldsNumber}
 use Rattle.lrp_eval.specs.Answered.{IsAnswerOf}
 use Rattle.lrp_canon.specs.Answers.{HasNumber}
 use Rattle.lrp_top.proofs.CanonSets.{IsRenamed}
+use Rattle.lrp_store.proofs.AnswerFirst.{texts_exist, length_texts, tuple_of}
 
 -- ---- numbers of texts
-
--- numbers of the domain have texts
-texts_exist : (domain : List Text) (ns : List ℕ) → ((i : ℕ) → i < length ns → slice_index ns i < length domain) → (ts : List Text) × AreTexts domain ns ts
-texts_exist domain [] h = ([], tt)
-texts_exist domain (n ∷ ns) h =
-    let r = texts_exist domain ns (λ i l. h (suc i) (omega arith)) in
-    let t = there domain n (h 0 (omega arith)) in
-    (t.0 ∷ r.0, (t.1, r.1))
-  where
-    there : (domain : List Text) (n : ℕ) → n < length domain → (t : Text) × (slice_get domain n ≡ Some t)
-    there [] n l = absurd (omega arith)
-    there (d ∷ ds) zero l = (d, refl)
-    there (d ∷ ds) (suc n) l = there ds n (omega arith)
-
--- so many as there are numbers
-length_texts : (domain : List Text) (ns : List ℕ) (ts : List Text) → AreTexts domain ns ts → length ts ≡ length ns
-length_texts domain [] [] h = refl
-length_texts domain [] (t ∷ ts) h = absurd h
-length_texts domain (n ∷ ns) [] h = absurd h
-length_texts domain (n ∷ ns) (t ∷ ts) h = ap suc (length_texts domain ns ts h.1)
 
 -- the texts that numbers name
 abbrev text_at : List Text → ℕ → Text
@@ -99,41 +75,6 @@ numbers_are domain a (n ∷ ns) [] h = absurd h
 numbers_are domain a (n ∷ ns) (t ∷ ts) h = ap₂ (λ m ms. m ∷ ms) (one_number domain a n t h.0) (numbers_are domain a ns ts h.1)
 
 -- ---- a tuple in head order
-
--- of these times and texts
-record IsTupleOf (cs : List Column) (xs : List ℤ) (ts : List Text) (tuple : List Datum) : Type 0 where
-  shape : HasShape cs tuple
-  times : times_of tuple ≡ xs
-  texts : texts_of tuple ≡ ts
-
--- a first time, or a first text
-first_time : (c : Column) (cs : List Column) (xs : List ℤ) (ts : List Text) → c.sort ≡ Time → time_count (c ∷ cs) ≡ length xs → length (c ∷ cs) ≡ length xs + length ts
-    → ((ys : List ℤ) → time_count cs ≡ length ys → length cs ≡ length ys + length ts → (tuple : List Datum) × IsTupleOf cs ys ts tuple) → (tuple : List Datum) × IsTupleOf (c ∷ cs) xs ts tuple
-first_time c cs [] ts s e f rest = let n : time_count (c ∷ cs) ≡ suc (time_count cs) = with_time c cs s in absurd (omega arith)
-first_time c cs (x ∷ xs) ts s e f rest =
-    let n : time_count (c ∷ cs) ≡ suc (time_count cs) = with_time c cs s in
-    let r = rest xs (omega arith) (omega arith) in
-    (time x ∷ r.0, record { shape = (subst (λ k. IsOfKind k (time x)) (sym s) tt, r.1.shape); times = ap (λ ys. x ∷ ys) r.1.times; texts = r.1.texts })
-
-first_text : (c : Column) (cs : List Column) (xs : List ℤ) (ts : List Text) → same_sort c.sort Time ≡ false → ((t : Text) → IsOfKind c.sort (text t)) → time_count cs ≤ length cs → time_count (c ∷ cs) ≡ length xs → length (c ∷ cs) ≡ length xs + length ts
-    → ((us : List Text) → time_count cs ≡ length xs → length cs ≡ length xs + length us → (tuple : List Datum) × IsTupleOf cs xs us tuple) → (tuple : List Datum) × IsTupleOf (c ∷ cs) xs ts tuple
-first_text c cs xs [] s kind le e f rest = let n : time_count (c ∷ cs) ≡ time_count cs = with_text c cs s in absurd (omega arith)
-first_text c cs xs (t ∷ ts) s kind le e f rest =
-    let n : time_count (c ∷ cs) ≡ time_count cs = with_text c cs s in
-    let r = rest ts (omega arith) (omega arith) in
-    (text t ∷ r.0, record { shape = (kind t, r.1.shape); times = r.1.times; texts = ap (λ us. t ∷ us) r.1.texts })
-
--- there is one, where the head has so many columns of each kind
-tuple_of : (cs : List Column) (xs : List ℤ) (ts : List Text) → time_count cs ≡ length xs → length cs ≡ length xs + length ts → (tuple : List Datum) × IsTupleOf cs xs ts tuple
-tuple_of [] [] [] e f = ([], record { shape = tt; times = refl; texts = refl })
-tuple_of [] [] (t ∷ ts) e f = absurd (omega arith)
-tuple_of [] (x ∷ xs) ts e f = absurd (omega arith)
-tuple_of (c ∷ cs) xs ts e f = by c.sort refl (λ ys. tuple_of cs ys)
-  where
-    by : (s : Sort) → c.sort ≡ s → ((ys : List ℤ) (us : List Text) → time_count cs ≡ length ys → length cs ≡ length ys + length us → (tuple : List Datum) × IsTupleOf cs ys us tuple) → (tuple : List Datum) × IsTupleOf (c ∷ cs) xs ts tuple
-    by Time s rest = first_time c cs xs ts s e f (λ ys. rest ys ts)
-    by Data s rest = first_text c cs xs ts (ap (λ k. same_sort k Time) s) (λ t. subst (λ k. IsOfKind k (text t)) (sym s) tt) (few_times cs) e f (rest xs)
-    by (Named name) s rest = first_text c cs xs ts (ap (λ k. same_sort k Time) s) (λ t. subst (λ k. IsOfKind k (text t)) (sym s) tt) (few_times cs) e f (rest xs)
 
 -- ---- the numbers of a held cell
 

@@ -11,7 +11,7 @@ use Rattle.lrp_store.specs.declared.answer.Answer.{Answer}
 use Rattle.lrp_words.specs.Ranges.{IsEnd}
 use Rattle.lrp_outputs.specs.Known.{HasCivilTimes, HaveCivilTimes}
 use Rattle.lrp_top.specs.Standing.{IsStanding}
-use Rattle.lrp_outputs.specs.Spots.{tuple_of}
+use Rattle.lrp_outputs.specs.Spots.{answer_tuple}
 
 -- the ends of a window
 pub are_ends : (civil : Bool) (from to : ℤ) → IsEnd civil from → IsEnd civil to → AreEnds from to
@@ -29,7 +29,7 @@ module _ (from to : ℤ) (f : IsCivilMinute from) (t : IsCivilMinute to) where
   spots_between : (a : Answer) (spots : List Spot) → AllByRecursion (IsStanding (window_of a from to)) spots → AllByRecursion (HasCivilTimes a) spots
   spots_between a [] h = tt
   spots_between a (spot ∷ spots) h =
-      (subst (AllByRecursion IsCivilMinute) (sym h.0.stands.times) (all_between (times_of (tuple_of a spot)) h.0.inside), spots_between a spots h.1)
+      (subst (AllByRecursion IsCivilMinute) (sym h.0.stands.times) (all_between (times_of (answer_tuple a spot)) h.0.inside), spots_between a spots h.1)
 
 -- the spots of a page
 pub page_dates : (civil : Bool) (a : Answer) (from to : ℤ) (spots : List Spot) → IsEnd civil from → IsEnd civil to → AllByRecursion (IsStanding (window_of a from to)) spots → HaveCivilTimes civil a spots

@@ -4,7 +4,7 @@ use Rattle.std.specs.List.{AllByRecursion}
 use Rattle.std.proofs.lemmas.List.Elements.{Contains-append_left}
 use Rattle.lrp_model.specs.Texts.{Identifier, AreDistinct}
 use Rattle.lrp_model.specs.Formulas.{Question}
-use Rattle.lrp_model.specs.Satisfaction.{HaveNames}
+use Rattle.lrp_model.specs.Satisfaction.{HaveDistinctNames}
 use Rattle.lrp_model.specs.Sorts.{same_sort, is_data, time_count, text_count}
 use Rattle.lrp_model.specs.Variables.{Variable, time_variable, data_variable, bound_by, free, head_variables}
 use Rattle.lrp_model.proofs.ColumnCounts.{times_passed, texts_passed}
@@ -24,7 +24,7 @@ module _ (p : Column → Bool) where
       by true rest = (h.0, rest)
       by false rest = rest
 
-  names_differ : (cs : List Column) → HaveNames cs → AreDistinct (map (λ c. c.name) (filter p cs))
+  names_differ : (cs : List Column) → HaveDistinctNames cs → AreDistinct (map (λ c. c.name) (filter p cs))
   names_differ [] h = tt
   names_differ (c ∷ cs) h = by (p c) (names_differ cs h.1)
     where

@@ -20,13 +20,13 @@ use Rattle.lrp_model.specs.declared.tuples.Tuple.{Tuple as ToldTuple}
 use Rattle.lrp_store.specs.declared.answer.Answer.{Answer}
 use Rattle.lrp_eval.specs.Answered.{IsAnswerOf}
 use Rattle.lrp_store.specs.Tables.{InAnswer}
-use Rattle.lrp_list.specs.Giving.{Gives, IsFirst}
+use Rattle.lrp_list.specs.Giving.{Gives, IsFirstTuple}
 use Rattle.lrp_list.specs.Lines.{is_json}
-use Rattle.lrp_list.specs.Listing.{AreEnds, HasNoneLeft, HasShapeOf, IsFirstLeft, IsLeft, WindowView, tuple_at, window_of}
+use Rattle.lrp_list.specs.Listing.{AreEnds, HasNoneLeft, HasShapeOf, IsFirstLeft, IsLeft, WindowView, window_tuple, window_of}
 use Rattle.lrp_token.specs.Reading.{HasCounts}
 use Rattle.lrp_outputs.specs.Known.{HasTimes, IsKnown}
 use Rattle.lrp_top.specs.Standing.{IsStanding}
-use Rattle.lrp_outputs.specs.Spots.{tuple_of}
+use Rattle.lrp_outputs.specs.Spots.{answer_tuple}
 use Rattle.lrp_outputs.specs.Outputs.{page_text}
 use Rattle.lrp_top.specs.Resuming.{shape_of}
 use Rattle.lrp_top.specs.Telling.{TellsPage}
@@ -36,8 +36,8 @@ use Rattle.lrp_top.proofs.Answered.{HaveKnownTexts, same_page}
 
 -- ---- one more
 
-gives_more : (w : WindowView) (p e : Option Tuple) (ts : List Tuple) (t : Tuple) → Gives w p ts e → IsFirst w e t → Gives w p (ts ++ t ∷ []) (Some t)
-gives_more w p e [] t g f = (subst (λ o. IsFirst w o t) (sym g) f, refl)
+gives_more : (w : WindowView) (p e : Option Tuple) (ts : List Tuple) (t : Tuple) → Gives w p ts e → IsFirstTuple w e t → Gives w p (ts ++ t ∷ []) (Some t)
+gives_more w p e [] t g f = (subst (λ o. IsFirstTuple w o t) (sym g) f, refl)
 gives_more w p e (u ∷ us) t g f = (g.0, gives_more w (Some u) e us t g.1 f)
 
 all_more : {A : Type 0} (P : A → Type 0) (xs : List A) (x : A) → AllByRecursion P xs → P x → AllByRecursion P (xs ++ x ∷ [])
@@ -49,10 +49,10 @@ length_more [] x = omega arith
 length_more (y ∷ ys) x = let r : length (ys ++ x ∷ []) ≡ length ys + 1 = length_more ys x in omega arith
 
 -- what stands for the first tuple that is left is given next
-pub given_next : (w v : WindowView) (p e : Option Tuple) (spots : List Spot) (spot : Spot) → v ≡ w → Gives w p (map (tuple_at w) spots) e → IsFirstLeft v e spot → Gives w p (map (tuple_at w) (spots ++ spot ∷ [])) (Some (tuple_at v spot))
+pub given_next : (w v : WindowView) (p e : Option Tuple) (spots : List Spot) (spot : Spot) → v ≡ w → Gives w p (map (window_tuple w) spots) e → IsFirstLeft v e spot → Gives w p (map (window_tuple w) (spots ++ spot ∷ [])) (Some (window_tuple v spot))
 given_next w v p e spots spot same g f =
-    let P : WindowView → Type 0 = λ u. IsFirstLeft u e spot → Gives w p (map (tuple_at w) (spots ++ spot ∷ [])) (Some (tuple_at u spot)) in
-    subst P (sym same) (λ h. subst (λ ts. Gives w p ts (Some (tuple_at w spot))) (sym (map-append (tuple_at w) spots (spot ∷ []))) (gives_more w p e (map (tuple_at w) spots) (tuple_at w spot) g (record { is = h.is; first = h.first }))) f
+    let P : WindowView → Type 0 = λ u. IsFirstLeft u e spot → Gives w p (map (window_tuple w) (spots ++ spot ∷ [])) (Some (window_tuple u spot)) in
+    subst P (sym same) (λ h. subst (λ ts. Gives w p ts (Some (window_tuple w spot))) (sym (map-append (window_tuple w) spots (spot ∷ []))) (gives_more w p e (map (window_tuple w) spots) (window_tuple w spot) g (record { is = h.is; first = h.first }))) f
 
 pub standing_more : (w v : WindowView) (e : Option Tuple) (spots : List Spot) (spot : Spot) → v ≡ w → AllByRecursion (IsStanding w) spots → IsFirstLeft v e spot → AllByRecursion (IsStanding w) (spots ++ spot ∷ [])
 standing_more w v e spots spot same h f =
@@ -70,14 +70,14 @@ AreGivenPages = (w : WindowView) (after end : Option Tuple) (limit : ℕ) (page 
     → IsPage (InAnswer w.columns w.domain w.store) w.from w.to after limit page more
 
 -- what was given is a page
-pub page_given : AreGivenPages → (w v u : WindowView) (p after end : Option Tuple) (spots : List Spot) (limit : ℕ) (more : Bool) → v ≡ w → u ≡ v → p ≡ after → Gives v p (map (tuple_at v) spots) end → length spots ≤ limit
-    → ((t : Tuple) → IsLeft v end t → length spots ≡ limit) → (IsTrue more ↔ ((t : Tuple) × IsLeft u end t)) → IsPage (InAnswer w.columns w.domain w.store) w.from w.to after limit (map (tuple_at w) spots) more
+pub page_given : AreGivenPages → (w v u : WindowView) (p after end : Option Tuple) (spots : List Spot) (limit : ℕ) (more : Bool) → v ≡ w → u ≡ v → p ≡ after → Gives v p (map (window_tuple v) spots) end → length spots ≤ limit
+    → ((t : Tuple) → IsLeft v end t → length spots ≡ limit) → (IsTrue more ↔ ((t : Tuple) × IsLeft u end t)) → IsPage (InAnswer w.columns w.domain w.store) w.from w.to after limit (map (window_tuple w) spots) more
 page_given page_is w v u p after end spots limit more vw uv pa g few full is =
-    let n : length (map (tuple_at w) spots) ≡ length spots = length-map spots (tuple_at w) in
-    let given : Gives w after (map (tuple_at w) spots) end = subst (λ (x : WindowView). Gives x after (map (tuple_at x) spots) end) vw (subst (λ o. Gives v o (map (tuple_at v) spots) end) pa g) in
+    let n : length (map (window_tuple w) spots) ≡ length spots = length-map spots (window_tuple w) in
+    let given : Gives w after (map (window_tuple w) spots) end = subst (λ (x : WindowView). Gives x after (map (window_tuple x) spots) end) vw (subst (λ o. Gives v o (map (window_tuple v) spots) end) pa g) in
     let left : IsTrue more ↔ ((t : Tuple) × IsLeft w end t) = subst (λ (x : WindowView). IsTrue more ↔ ((t : Tuple) × IsLeft x end t)) (uv ∙ vw) is in
     let whole : (t : Tuple) → IsLeft w end t → length spots ≡ limit = subst (λ (x : WindowView). (t : Tuple) → IsLeft x end t → length spots ≡ limit) vw full in
-    page_is w after end limit (map (tuple_at w) spots) more given (omega arith) (λ m. let t = left.0 m in n ∙ whole t.0 t.1) left
+    page_is w after end limit (map (window_tuple w) spots) more given (omega arith) (λ m. let t = left.0 m in n ∙ whole t.0 t.1) left
 
 -- an end of a window is its word
 pub word : (z : ℤ) → neg_ℤ (pos (2 ^ 62)) ≤ℤ z → z ≤ℤ pos (2 ^ 62) → to_z w64 (of_z w64 z) ≡ z
@@ -95,8 +95,8 @@ magnitudes from to (x ∷ xs) e h = (magnitude from to x e h.0.0 h.0.1, magnitud
 
 known_at : HaveKnownTexts → (a : Answer) (from to : ℤ) (spot : Spot) → AreEnds from to → IsStanding (window_of a from to) spot → IsKnown a spot
 known_at known a from to spot e s =
-    let times : HasTimes a spot = subst (λ xs. AllByRecursion (λ x. nat_abs x ≤ greatest_number) xs) (sym s.stands.times) (magnitudes from to (times_of (tuple_of a spot)) e s.inside) in
-    ((known a.store.shape a.domain spot (tuple_of a spot) s.stands, times), (s.stands.times_padded.size, s.stands.texts_padded.size))
+    let times : HasTimes a spot = subst (λ xs. AllByRecursion (λ x. nat_abs x ≤ greatest_number) xs) (sym s.stands.times) (magnitudes from to (times_of (answer_tuple a spot)) e s.inside) in
+    ((known a.store.shape a.domain spot (answer_tuple a spot) s.stands, times), (s.stands.times_padded.size, s.stands.texts_padded.size))
 
 pub known_all : HaveKnownTexts → (a : Answer) (from to : ℤ) (spots : List Spot) → AreEnds from to → AllByRecursion (IsStanding (window_of a from to)) spots → AllByRecursion (IsKnown a) spots
 known_all known a from to [] e h = tt
@@ -107,15 +107,15 @@ known_all known a from to (spot ∷ spots) e h = (known_at known a from to spot 
 -- the page of the answers is the query's
 pub told_page : (db : List Relation) (q : Question) (cap : ℕ) (a : Answer) (from to : ℤ) (begins : List Column → Option Tuple) (limit : ℕ) (civil json : Bool) (files : List ℕ) (page : Page)
     → IsAnswerOf db q cap a → page.answer ≡ a → page.civil ≡ civil → is_json page.form ≡ json → page.files ≡ files
-    → IsPage (InAnswer a.head.columns a.domain a.store) from to (begins a.head.columns) limit (map (tuple_of a) page.spots) page.more
+    → IsPage (InAnswer a.head.columns a.domain a.store) from to (begins a.head.columns) limit (map (answer_tuple a) page.spots) page.more
     → TellsPage db q from to (begins q.head) limit civil json files (page_text page)
 told_page db q cap a from to begins limit civil json files page is same dates form digest h = record {
-  page = map (tuple_of a) page.spots;
+  page = map (answer_tuple a) page.spots;
   more = page.more;
-  is = subst (λ columns. IsPage (IsAnswer db q) from to (begins columns) limit (map (tuple_of a) page.spots) page.more) is.head
-      (same_page (InAnswer a.head.columns a.domain a.store) (IsAnswer db q) is.answers from to (begins a.head.columns) limit (map (tuple_of a) page.spots) page.more h);
-  spelled = ap (λ c. listed_bytes c (is_json page.form) page.files (map (tuple_of page.answer) page.spots) page.more) dates ∙ ap (λ j. listed_bytes civil j page.files (map (tuple_of page.answer) page.spots) page.more) form
-      ∙ ap (λ d. listed_bytes civil json d (map (tuple_of page.answer) page.spots) page.more) digest ∙ ap (λ b. listed_bytes civil json files (map (tuple_of b) page.spots) page.more) same;
+  is = subst (λ columns. IsPage (IsAnswer db q) from to (begins columns) limit (map (answer_tuple a) page.spots) page.more) is.head
+      (same_page (InAnswer a.head.columns a.domain a.store) (IsAnswer db q) is.answers from to (begins a.head.columns) limit (map (answer_tuple a) page.spots) page.more h);
+  spelled = ap (λ c. listed_bytes c (is_json page.form) page.files (map (answer_tuple page.answer) page.spots) page.more) dates ∙ ap (λ j. listed_bytes civil j page.files (map (answer_tuple page.answer) page.spots) page.more) form
+      ∙ ap (λ d. listed_bytes civil json d (map (answer_tuple page.answer) page.spots) page.more) digest ∙ ap (λ b. listed_bytes civil json files (map (answer_tuple b) page.spots) page.more) same;
 }
 
 -- ---- counts of columns

@@ -4,8 +4,8 @@ use Rattle.std.specs.Prelude.{◌↔◌}
 use Rattle.std.specs.List.{AllZip}
 use Rattle.lrp_model.specs.Checked.{plain_question}
 use Rattle.lrp_model.specs.DatabaseMeaning.{column_of}
-use Rattle.lrp_model.specs.Formulas.{Question}
-use Rattle.lrp_model.specs.RawQueries.{RawQuestion}
+use Rattle.lrp_model.specs.Formulas.{Question, question_of}
+use Rattle.lrp_model.specs.RawQueries.{RawQuestion, raw_question_of}
 use Rattle.lrp_model.specs.Rows.{Datum, Tuple}
 use Rattle.lrp_model.specs.Satisfaction.{IsAnswer, IsOfSort, Structure, assignment, structure}
 use Rattle.lrp_model.specs.Sorting.{IsWellSorted, IsSortFault}
@@ -15,8 +15,8 @@ use Rattle.lrp_model.specs.declared.faults.QueryRead.{QueryRead}
 use Rattle.lrp_model.specs.declared.faults.QueryRead.TheVariants.{Fault, Memory}
 use Rattle.lrp_model.specs.declared.raw.RawColumn.{RawColumn}
 use Rattle.lrp_model.specs.declared.relations.Relation.{Relation}
-use Rattle.lrp_query.specs.Reading.{IsQueryOrMemory as IsRawOrMemory}
-use Rattle.lrp_sorts.specs.Outcomes.{IsQueryOrMemory as IsSortedOrMemory, IsUnsorted}
+use Rattle.lrp_model.specs.Outcomes.{IsQueryOrMemory}
+use Rattle.lrp_sorts.specs.Outcomes.{IsUnsorted}
 use Rattle.lrp_tense.specs.Expanding.{expanded_question}
 use Rattle.lrp_tense.specs.Laws.{IsTenseAnswer, KeepsMeaning}
 use Rattle.lrp_tense.specs.Reading.{IsTenseOrMemory}
@@ -92,7 +92,7 @@ unsorted_refused tense db seen name bytes raw Memory short said h = tt
 
 -- ---- what is read of a text with temporal operators that says one
 
-pub tense_unread_every : (tense : Bool) (bytes : List ℕ) (read : QueryRead) → tense ≡ true → ((written : TenseQuestion) → IsTenseQuery bytes written → IsTenseOrMemory written (Err read)) → (raw : RawQuestion) → IsSaidBy tense bytes raw → IsRawOrMemory raw (Err read)
+pub tense_unread_every : (tense : Bool) (bytes : List ℕ) (read : QueryRead) → tense ≡ true → ((written : TenseQuestion) → IsTenseQuery bytes written → IsTenseOrMemory written (Err read)) → (raw : RawQuestion) → IsSaidBy tense bytes raw → IsQueryOrMemory raw_question_of raw (Err read)
 tense_unread_every false bytes read e every raw said = cc
 tense_unread_every true bytes Memory e every raw said = tt
 tense_unread_every true bytes (Fault fault) e every raw said = absurd (every said.written said.query)
@@ -104,11 +104,11 @@ expanded_once true bytes written made e is one raw said = is ∙ (ap expanded_qu
 -- ---- what is read of a text that says a query
 
 -- the query is read, unless memory ran out
-pub unread_every : (raw : RawQuestion) (read : QueryRead) → IsRawOrMemory raw (Err read) → IsMemory (refused_by read)
+pub unread_every : (raw : RawQuestion) (read : QueryRead) → IsQueryOrMemory raw_question_of raw (Err read) → IsMemory (refused_by read)
 unread_every raw Memory h = tt
 unread_every raw (Fault fault) h = absurd h
 
 -- and it is sorted, if it is well-sorted
-pub unsorted_every : (db : List Relation) (raw made : RawQuestion) (read : QueryRead) → made ≡ raw → (IsWellSorted db made → IsSortedOrMemory (plain_question made) (Err read)) → IsWellSorted db raw → IsMemory (refused_by read)
+pub unsorted_every : (db : List Relation) (raw made : RawQuestion) (read : QueryRead) → made ≡ raw → (IsWellSorted db made → IsQueryOrMemory question_of (plain_question made) (Err read)) → IsWellSorted db raw → IsMemory (refused_by read)
 unsorted_every db raw made Memory e every sorted = tt
 unsorted_every db raw made (Fault fault) e every sorted = absurd (every (subst (IsWellSorted db) (sym e) sorted))

@@ -25,7 +25,7 @@ use Rattle.lrp_sample.specs.Texts.{sample_database, sample_query}
 use Rattle.lrp_sample.specs.Trees.{raw_sample, sample_question, sample_relations}
 use Rattle.lrp_sample_laws.specs.Plans.{HasAtMostCells, IsOfFirstDay, IsSampleSize}
 use Rattle.lrp_top.specs.Due.{IsCounted, IsOutput, IsPlanned}
-use Rattle.lrp_outputs.specs.Spots.{tuple_of}
+use Rattle.lrp_outputs.specs.Spots.{answer_tuple}
 use Rattle.lrp_outputs.specs.Outputs.{least_of, sample_text}
 use Rattle.lrp_top.specs.Questions.{IsMemory}
 use Rattle.lrp_eval.specs.Counts.{HasAnswerCount}
@@ -78,7 +78,7 @@ module _ (seed size : ℕ) (db : List Relation) (q : Question) (d : db ≡ sampl
 -- ---- the least answer
 
 pub least_is : StandForTuples → (db : List Relation) (q : Question) (most : ℕ) (a : Answer) (o : Option Spot) → IsAnswerOf db q most a
-    → IfNone o ((tuple : Tuple) → InAnswer a.head.columns a.domain a.store tuple → ⊥) → IfSome o (λ spot. IsLeastSpot a.head.columns a.domain a.store spot) → IsFirst db q (option_map (tuple_of a) o)
+    → IfNone o ((tuple : Tuple) → InAnswer a.head.columns a.domain a.store tuple → ⊥) → IfSome o (λ spot. IsLeastSpot a.head.columns a.domain a.store spot) → IsFirst db q (option_map (answer_tuple a) o)
 least_is stood db q most a None is none some = λ tuple h. none tuple ((is.answers tuple).1 h)
 least_is stood db q most a (Some spot) is none some =
     subst (λ t. IsLeast (IsAnswer db q) t) (sym (stood a.head.columns a.store.shape a.domain spot some.tuple some.least.is.shape some.stands))
@@ -116,7 +116,7 @@ whole_day few counted seed size page more some h =
 
 pub told_sample : (seed size most : ℕ) (a : Answer) (spots : List Spot) (more : Bool) (report : Report) → HasFewAnswers → ArePagesCounted → IsDatabase (sample_database seed size) (sample_relations seed size) → IsQuery sample_query raw_sample
     → IsWellSorted (sample_relations seed size) raw_sample → plain_question raw_sample ≡ sample_question → IsSampleSize size → IsAnswerOf (sample_relations seed size) sample_question most a
-    → IsPage (InAnswer a.head.columns a.domain a.store) (pos 0) (pos 1439) None 1000000 (map (tuple_of a) spots) more → IsFirst (sample_relations seed size) sample_question (least_of report.first)
+    → IsPage (InAnswer a.head.columns a.domain a.store) (pos 0) (pos 1439) None 1000000 (map (answer_tuple a) spots) more → IsFirst (sample_relations seed size) sample_question (least_of report.first)
     → report.rows ≡ size → report.cells ≡ finite.len a.store.tables → report.window ≡ length spots → TellsSample seed size (sample_text report)
 told_sample seed size most a spots more report few counted database query sorted plain some is page first rows cells window = record {
   db = sample_relations seed size;
@@ -128,8 +128,8 @@ told_sample seed size most a spots more report few counted database query sorted
   first = least_of report.first;
   least = first;
   window = length spots;
-  answers = subst (λ n. HasAnswerCount (sample_relations seed size) sample_question (pos 0) (pos 1439) n) (length-map spots (tuple_of a)) (whole_day few counted seed size (map (tuple_of a) spots) more some
-      (same_page (InAnswer a.head.columns a.domain a.store) (IsAnswer (sample_relations seed size) sample_question) is.answers (pos 0) (pos 1439) None 1000000 (map (tuple_of a) spots) more page));
+  answers = subst (λ n. HasAnswerCount (sample_relations seed size) sample_question (pos 0) (pos 1439) n) (length-map spots (answer_tuple a)) (whole_day few counted seed size (map (answer_tuple a) spots) more some
+      (same_page (InAnswer a.head.columns a.domain a.store) (IsAnswer (sample_relations seed size) sample_question) is.answers (pos 0) (pos 1439) None 1000000 (map (answer_tuple a) spots) more page));
   spelled = ap (λ n. sample_lines n report.cells (least_of report.first) report.window) rows ∙ ap (λ n. sample_lines size n (least_of report.first) report.window) cells
       ∙ ap (λ n. sample_lines size (finite.len a.store.tables) (least_of report.first) n) window;
 }

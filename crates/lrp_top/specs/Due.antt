@@ -8,8 +8,7 @@ use Rattle.lrp_model.specs.AnswerTexts.{IsAnswerText}
 use Rattle.lrp_model.specs.Caps.{IsFirstMany, ManyAt}
 use Rattle.lrp_model.specs.DatabaseReading.{IsDatabase, IsDatabaseFault}
 use Rattle.lrp_model.specs.Formulas.{Question}
-use Rattle.lrp_model.specs.Periods.{period}
-use Rattle.lrp_model.specs.Plans.{IsPlan, scaled_reach, IsWithinLimits}
+use Rattle.lrp_model.specs.Plans.{IsPlan, HasLongPeriod, HasFarReach, IsWithinLimits}
 use Rattle.lrp_model.specs.Sorts.{time_count}
 use Rattle.lrp_model.specs.Texts.{Identifier, Text}
 use Rattle.lrp_model.specs.declared.plans.Plan.{Plan}
@@ -30,7 +29,7 @@ use Rattle.lrp_outputs.specs.declared.refusal.Refusal.{Refusal}
 use Rattle.lrp_outputs.specs.declared.refusal.Refusal.TheVariants.{Usage, ReadDatabase, LongDatabase, Database, ReadQuery, LongQuery, Query, PeriodLimit, BoundLimit, Cells, CanonHead, CanonRows, Watch, Memory}
 use Rattle.lrp_outputs.specs.declared.watch_refusal.WatchRefusal.TheVariants as watch_refusal
 use Rattle.lrp_outputs.specs.declared.status.Status.{Status}
-use Rattle.lrp_model.specs.Limits.{most_bytes, greatest_number}
+use Rattle.lrp_model.specs.Limits.{most_bytes}
 
 -- ---- the steps
 
@@ -68,8 +67,8 @@ IsHeadFit true q (Err _) = ⊥
 -- the query is planned. Ok: its plan. Refused: its period is above the greatest number, or that is not but its reach is, doubled once and once more for each time column of the head; or want of memory
 abbrev pub IsPlanned : List Relation → Question → Result Plan Refusal → Type 0
 IsPlanned db q (Ok p) = IsPlan p db q × IsWithinLimits db q
-IsPlanned db q (Err PeriodLimit) = greatest_number < period db q.body
-IsPlanned db q (Err BoundLimit) = (period db q.body ≤ greatest_number) × (greatest_number < scaled_reach db q)
+IsPlanned db q (Err PeriodLimit) = HasLongPeriod db q
+IsPlanned db q (Err BoundLimit) = HasFarReach db q
 IsPlanned db q (Err Memory) = Unit {0}
 IsPlanned db q (Err _) = ⊥
 

@@ -12,7 +12,7 @@ pub mod Sampled
 pub mod Canonical
 pub mod Watched
 pub mod Due
--- What contracts of single functions need beside.
+-- What functions inside say to one another.
 pub mod Lengths
 pub mod Standing
 pub mod Refusals

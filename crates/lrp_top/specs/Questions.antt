@@ -1,7 +1,8 @@
 -- The program's files, questions and purposes, against those that are due.
-use Rattle.std.specs.Prelude.{◌≡◌, ◌≤ℤ◌, ℕ, pos, Bool, true, false, List, Option, Some, None, Result, Ok, Err}
+use Rattle.std.specs.Prelude.{◌≡◌, ◌≤ℤ◌, ℕ, pos, Bool, true, false, List, Option, Some, None, Result, Ok, Err, map}
 use Rattle.std.specs.List.{AllByRecursion}
 use Rattle.lrp_model.specs.Formulas.{Question as Queried, form_of, question_of}
+use Rattle.lrp_model.specs.Pages.{IsPage}
 use Rattle.lrp_model.specs.Rows.{Tuple}
 use Rattle.lrp_model.specs.Sorts.{time_count}
 use Rattle.lrp_model.specs.QueryReading.{IsQuery}
@@ -13,6 +14,7 @@ use Rattle.lrp_model.specs.declared.plans.Plan.{Plan}
 use Rattle.lrp_model.specs.declared.relations.Column.{Column}
 use Rattle.lrp_model.specs.declared.relations.Relation.{Relation}
 use Rattle.lrp_model.specs.declared.tuples.Tuple.{Tuple as ToldTuple}
+use Rattle.lrp_model.specs.declared.tuples.Spot.{Spot}
 use Rattle.lrp_plan_laws.specs.Settled.{IsSettled}
 use Rattle.lrp_plan_text.specs.Writable.{StepHasPeriods}
 use Rattle.lrp_eval.specs.Planned.{IsPlanOf}
@@ -29,6 +31,9 @@ use Rattle.lrp_words.specs.declared.command.Command.TheVariants.{Ask, Decide, Li
 use Rattle.lrp_list.specs.Answering.{AreAnswerColumns}
 use Rattle.lrp_top.specs.Due.{IsAnswered, IsDecided, IsExplained, IsListed, IsPlannedFor}
 use Rattle.lrp_outputs.specs.Outcomes.{Outcome}
+use Rattle.lrp_outputs.specs.Spots.{answer_tuple}
+use Rattle.lrp_store.specs.Tables.{InAnswer}
+use Rattle.lrp_store.specs.declared.answer.Answer.{Answer}
 use Rattle.lrp_top.specs.Seen.{ShelfSeen}
 use Rattle.lrp_top.specs.Sources.{Source}
 use Rattle.lrp_top.specs.declared.asking.Asked.{Asked}
@@ -37,6 +42,7 @@ use Rattle.lrp_top.specs.declared.files.DatabaseFile.{DatabaseFile}
 use Rattle.lrp_top.specs.declared.files.QueryFile.{QueryFile}
 use Rattle.lrp_outputs.specs.declared.refusal.Refusal.{Refusal}
 use Rattle.lrp_outputs.specs.declared.refusal.Refusal.TheVariants.{Memory}
+use Rattle.lrp_top.specs.declared.purpose.Paging.{Paging}
 use Rattle.lrp_top.specs.declared.purpose.Purpose.{Purpose}
 use Rattle.lrp_top.specs.declared.purpose.Purpose.TheVariants as purpose
 use Rattle.lrp_top.specs.declared.question.Question.{Question}
@@ -59,9 +65,9 @@ IsDatabaseOrMemory db (Ok file) = file.relations ≡ db
 IsDatabaseOrMemory db (Err refusal) = IsMemory refusal
 
 -- this query, unless memory ran out
-abbrev pub IsQueryOrMemory : Queried → Result QueryFile Refusal → Type 0
-IsQueryOrMemory q (Ok file) = question_of file.query ≡ q
-IsQueryOrMemory q (Err refusal) = IsMemory refusal
+abbrev pub IsQueriedOrMemory : Queried → Result QueryFile Refusal → Type 0
+IsQueriedOrMemory q (Ok file) = question_of file.query ≡ q
+IsQueriedOrMemory q (Err refusal) = IsMemory refusal
 
 -- the database that was read, where one was
 abbrev pub read_as : Result DatabaseFile Refusal → Result (Source (List Relation)) Refusal
@@ -137,6 +143,11 @@ is_canonical _ = false
 -- where it does, the head of the question has one time column
 abbrev pub HasOneTime : Bool → List Column → Type 0
 HasOneTime canon head = canon ≡ true → time_count head ≡ 1
+
+-- these spots, and the flag, are the page of an answer that is asked for behind a tuple, where there is one
+abbrev pub IsPageOf : Answer → Paging → Option Tuple → List Spot → Bool → Type 0
+IsPageOf answer paging after spots more =
+    IsPage (InAnswer answer.head.columns answer.domain answer.store) paging.from paging.to after paging.limit (map (answer_tuple answer) spots) more
 
 -- the ends of its window, where it has one
 abbrev pub HasWindow : Purpose → Type 0

@@ -40,7 +40,8 @@ pub fn asked_by(command: Command<'_>) -> Option<Asked<'_>>
 
 /// The names of its files: of the database, and of the query.
 fn names_of(command: Command<'_>) -> Option<(&str, &str)>
-    ensures { result ≡ option_map (λ asked. (asked.files.database, asked.files.query)) (asked_of command.entry) }
+    ensures { result ≡ option_map (λ asked. (asked.files.database, asked.files.query))
+        (asked_of command.entry) }
 {
     match command {
         Command::Ask { db, query, .. }
@@ -53,7 +54,8 @@ fn names_of(command: Command<'_>) -> Option<(&str, &str)>
 
 /// How its files are read: whether the query may have temporal operators, and whether the database may have civil values.
 fn flags_of(command: Command<'_>) -> Option<(bool, bool)>
-    ensures { result ≡ option_map (λ asked. (asked.files.tense, asked.files.civil)) (asked_of command.entry) }
+    ensures { result ≡ option_map (λ asked. (asked.files.tense, asked.files.civil))
+        (asked_of command.entry) }
 {
     match command {
         Command::Ask { tense, civil, .. }

@@ -43,8 +43,11 @@ fn carry_out<F: Shelf>(
     shelf: &mut F,
 ) -> Result<Output, Refusal>
     requires range { IsInRange (task_of command) }
-    ensures due { IsDueOf (task_of command.entry) (⟦<F as Watched>⟧.seen shelf.old shelf.new) (told result) }
-    ensures long { AllByRecursion (λ name. IsOverrun (⟦<F as Watched>⟧.seen shelf.old shelf.new) name → IsLengthOrMemory (told result)) (files_of (task_of command.entry)) }
+    ensures due { IsDueOf (task_of command.entry) (⟦<F as Watched>⟧.seen shelf.old shelf.new)
+        (told result) }
+    ensures long { AllByRecursion (λ name. IsOverrun
+        (⟦<F as Watched>⟧.seen shelf.old shelf.new) name → IsLengthOrMemory (told result))
+        (files_of (task_of command.entry)) }
     ensures unread { files_of (task_of command.entry) ≡ [] → shelf.new ≡ shelf.old }
 {
     match asked_by(command) {
@@ -61,8 +64,11 @@ fn carry_out_other<F: Shelf>(
 ) -> Result<Output, Refusal>
     requires other { asked_of command ≡ None }
     requires range { IsInRange (task_of command) }
-    ensures due { IsDueOf (task_of command.entry) (⟦<F as Watched>⟧.seen shelf.old shelf.new) (told result) }
-    ensures long { AllByRecursion (λ name. IsOverrun (⟦<F as Watched>⟧.seen shelf.old shelf.new) name → IsLengthOrMemory (told result)) (files_of (task_of command.entry)) }
+    ensures due { IsDueOf (task_of command.entry) (⟦<F as Watched>⟧.seen shelf.old shelf.new)
+        (told result) }
+    ensures long { AllByRecursion (λ name. IsOverrun
+        (⟦<F as Watched>⟧.seen shelf.old shelf.new) name → IsLengthOrMemory (told result))
+        (files_of (task_of command.entry)) }
     ensures unread { files_of (task_of command.entry) ≡ [] → shelf.new ≡ shelf.old }
 {
     match command {
@@ -92,7 +98,8 @@ fn check<F: Shelf>(
     civil: bool,
     shelf: &mut F,
 ) -> Result<Output, Refusal>
-    ensures due { Then (IsDatabaseRead civil (⟦<F as Watched>⟧.seen shelf.old shelf.new) database.now) (λ d. IsOutput (TellsRelations d.says)) (told result) }
+    ensures due { Then (IsDatabaseRead civil (⟦<F as Watched>⟧.seen shelf.old shelf.new)
+        database.now) (λ d. IsOutput (TellsRelations d.says)) (told result) }
     ensures long { TellsLength (⟦<F as Watched>⟧.seen shelf.old shelf.new) (told result) }
 {
     match database_of(alloc, database, civil, shelf) {
@@ -112,7 +119,8 @@ fn ask<F: Shelf>(
     shelf: &mut F,
 ) -> Result<Output, Refusal>
     requires window { HasWindow purpose.now }
-    ensures due { IsAsked files.now (is_canonical purpose.now) (⟦<F as Watched>⟧.seen shelf.old shelf.new) (IsServed purpose.now) (told result) }
+    ensures due { IsAsked files.now (is_canonical purpose.now)
+        (⟦<F as Watched>⟧.seen shelf.old shelf.new) (IsServed purpose.now) (told result) }
     ensures long { TellsLength (⟦<F as Watched>⟧.seen shelf.old shelf.new) (told result) }
 {
     match question_of(alloc, files, purpose.is_canonical(), shelf) {

@@ -41,6 +41,19 @@ impl DatabaseFile {
     }
 }
 
+impl QueryFile {
+    /// Its query alone.
+    pub fn into_query(self) -> Query
+        ensures { result ≡ self.query }
+    {
+        let QueryFile {
+            bytes: _bytes,
+            query,
+        } = self;
+        query
+    }
+}
+
 // Each is let go by one call: a derived drop would be proved anew, part by part, wherever a value goes.
 impl Drop for DatabaseFile {
     fn drop(self) {
@@ -67,7 +80,8 @@ pub fn database_of<F: Shelf>(
     civil: bool,
     shelf: &mut F,
 ) -> Result<DatabaseFile, Refusal>
-    ensures read { IsDatabaseRead civil (⟦<F as Watched>⟧.seen shelf.old shelf.new) name.now (read_as result) }
+    ensures read { IsDatabaseRead civil (⟦<F as Watched>⟧.seen shelf.old shelf.new) name.now
+        (read_as result) }
     ensures long { TellsLength (⟦<F as Watched>⟧.seen shelf.old shelf.new) result }
     ensures files { F.files shelf.new ≡ F.files shelf.old }
     ensures later { (other : ListOf ℕ) → F.faults shelf.old other ≤ F.faults shelf.new other }
@@ -88,7 +102,8 @@ pub fn query_of<F: Shelf>(
     tense: bool,
     shelf: &mut F,
 ) -> Result<QueryFile, Refusal>
-    ensures asked { IsQueryRead tense database.now (⟦<F as Watched>⟧.seen shelf.old shelf.new) name.now (asked_as result) }
+    ensures asked { IsQueryRead tense database.now
+        (⟦<F as Watched>⟧.seen shelf.old shelf.new) name.now (asked_as result) }
     ensures long { TellsLength (⟦<F as Watched>⟧.seen shelf.old shelf.new) result }
     ensures fit { IfOk result (λ file. IsFit database.now file) }
     ensures files { F.files shelf.new ≡ F.files shelf.old }
@@ -109,7 +124,8 @@ pub fn edits_of<F: Shelf>(
     name: &str,
     shelf: &mut F,
 ) -> Result<List<Edit>, Refusal>
-    ensures read { AreEditsRead database.now (⟦<F as Watched>⟧.seen shelf.old shelf.new) name.now result }
+    ensures read { AreEditsRead database.now (⟦<F as Watched>⟧.seen shelf.old shelf.new) name.now
+        result }
     ensures long { TellsLength (⟦<F as Watched>⟧.seen shelf.old shelf.new) result }
     ensures lawful { IfOk result (AllByRecursion (IsEditOf database.now)) }
 {

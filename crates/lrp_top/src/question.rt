@@ -29,12 +29,13 @@ pub struct Question {
 }
 
 impl Question {
-    /// Its plan alone.
-    pub fn into_plan(self) -> Plan
-        ensures { result ≡ self.plan }
+    /// Its plan, and the query that it is of.
+    pub fn into_plan(self) -> (Plan, Query)
+        ensures plan { result.0 ≡ self.plan }
+        ensures query { result.1 ≡ self.query.query }
     {
-        let Question { plan, .. } = self;
-        plan
+        let Question { plan, query, .. } = self;
+        (plan, query.into_query())
     }
 }
 
@@ -46,7 +47,8 @@ pub fn question_of<F: Shelf>(
     canon: bool,
     shelf: &mut F,
 ) -> Result<Question, Refusal>
-    ensures question { IsAsked files.now canon (⟦<F as Watched>⟧.seen shelf.old shelf.new) IsMadeOf result }
+    ensures question { IsAsked files.now canon (⟦<F as Watched>⟧.seen shelf.old shelf.new) IsMadeOf
+        result }
     ensures long { TellsLength (⟦<F as Watched>⟧.seen shelf.old shelf.new) result }
     ensures ready { IfOk result (λ question. IsReady question) }
     ensures head { IfOk result (λ question. HasOneTime canon question.query.query.head.columns) }

@@ -7,11 +7,11 @@ ghost use Rattle.lrp_model.specs.Checked.{plain_question};
 ghost use Rattle.lrp_model.specs.RawQueries.{RawQuestion, raw_question_of};
 ghost use Rattle.lrp_model.specs.Sorting.{IsWellSorted};
 ghost use Rattle.lrp_model.specs.declared.relations.Relation.{Relation as RelationOf};
-ghost use Rattle.lrp_query.specs.Reading.{IsQueryOrMemory as IsRawOrMemory};
-ghost use Rattle.lrp_rel.specs.Reading.{IsOrMemory, IsRefusedBy};
+ghost use Rattle.lrp_model.specs.Outcomes.{IsQueryOrMemory};
+ghost use Rattle.lrp_rel.specs.Reading.{IsReadOrMemory, IsRefusedBy};
 ghost use Rattle.lrp_tense.specs.Lawful.{IsLawfulExpansion};
 ghost use Rattle.lrp_top.specs.Due.{IsDatabaseReadOf, IsQueryReadOf};
-ghost use Rattle.lrp_top.specs.Questions.{IsDatabaseOrMemory, IsFit, IsQueryOrMemory, IsSaidBy, IsUnreadAs, asked_as, read_as};
+ghost use Rattle.lrp_top.specs.Questions.{IsDatabaseOrMemory, IsFit, IsQueriedOrMemory, IsSaidBy, IsUnreadAs, asked_as, read_as};
 ghost use Rattle.lrp_top.specs.Seen.{ShelfSeen};
 ghost use Rattle.lrp_top.specs.Watched.{AreEditsReadOf};
 ghost use Rattle.lrp_top.specs.Written.{plain_if};
@@ -34,8 +34,10 @@ use std::alloc::Global;
 /// The database of a file's bytes.
 pub fn database_in(alloc: Global, bytes: List<u8>, civil: bool) -> Result<DatabaseFile, Refusal>
     requires { length bytes ≤ most_bytes }
-    ensures read { (seen : ShelfSeen) (name : ListOf ℕ) → IsDatabaseReadOf civil seen name bytes (read_as result) }
-    ensures every { (db : ListOf RelationOf) → IsDatabase (plain_if civil bytes) db → IsDatabaseOrMemory db result }
+    ensures read { (seen : ShelfSeen) (name : ListOf ℕ)
+        → IsDatabaseReadOf civil seen name bytes (read_as result) }
+    ensures every { (db : ListOf RelationOf) → IsDatabase (plain_if civil bytes) db
+        → IsDatabaseOrMemory db result }
 {
     match relations_of(alloc, bytes.as_slice(), civil) {
         Ok(relations) => Ok(DatabaseFile { bytes, relations }),
@@ -49,7 +51,8 @@ fn relations_of(alloc: Global, bytes: &[u8], civil: bool) -> Result<Database, Re
     requires { length bytes.now ≤ most_bytes }
     ensures read { IfOk result (IsDatabase (plain_if civil bytes.now)) }
     ensures refused { IfErr result (IsRefusedBy (plain_if civil bytes.now)) }
-    ensures every { (db : ListOf RelationOf) → IsDatabase (plain_if civil bytes.now) db → IsOrMemory db result }
+    ensures every { (db : ListOf RelationOf) → IsDatabase (plain_if civil bytes.now) db
+        → IsReadOrMemory db result }
 {
     if !civil {
         return read_database(alloc, bytes);
@@ -68,9 +71,11 @@ pub fn query_in(
     tense: bool,
 ) -> Result<QueryFile, Refusal>
     requires { length bytes ≤ most_bytes }
-    ensures asked { (seen : ShelfSeen) (name : ListOf ℕ) → IsQueryReadOf tense database.now seen name bytes (asked_as result) }
+    ensures asked { (seen : ShelfSeen) (name : ListOf ℕ)
+        → IsQueryReadOf tense database.now seen name bytes (asked_as result) }
     ensures fit { IfOk result (λ file. IsFit database.now file) }
-    ensures every { (raw : RawQuestion) → IsSaidBy tense bytes raw → IsWellSorted database.now raw → IsQueryOrMemory (plain_question raw) result }
+    ensures every { (raw : RawQuestion) → IsSaidBy tense bytes raw → IsWellSorted database.now raw
+        → IsQueriedOrMemory (plain_question raw) result }
 {
     let raw = raw_of(alloc, bytes.as_slice(), tense)?;
     let checked = check(alloc, &raw, database);
@@ -89,7 +94,8 @@ fn raw_of(alloc: Global, bytes: &[u8], tense: bool) -> Result<RawQuery, QueryRea
     ensures said { IfOk result (λ raw. IsSaidBy tense bytes.now (raw_question_of raw)) }
     ensures lawful { IfOk result (λ raw. IsLawfulExpansion (raw_question_of raw)) }
     ensures refused { IfErr result (IsUnreadAs tense bytes.now) }
-    ensures every { (raw : RawQuestion) → IsSaidBy tense bytes.now raw → IsRawOrMemory raw result }
+    ensures every { (raw : RawQuestion) → IsSaidBy tense bytes.now raw
+        → IsQueryOrMemory raw_question_of raw result }
 {
     if !tense {
         return read_query(alloc, bytes);
@@ -106,7 +112,8 @@ fn raw_of(alloc: Global, bytes: &[u8], tense: bool) -> Result<RawQuery, QueryRea
 /// The edits of a file's bytes, over a database.
 pub fn edits_in(alloc: Global, database: &Database, bytes: &[u8]) -> Result<List<Edit>, Refusal>
     requires { length bytes.now ≤ most_bytes }
-    ensures read { (seen : ShelfSeen) (name : ListOf ℕ) → AreEditsReadOf database.now seen name bytes.now result }
+    ensures read { (seen : ShelfSeen) (name : ListOf ℕ)
+        → AreEditsReadOf database.now seen name bytes.now result }
     ensures lawful { IfOk result (AllByRecursion (IsEditOf database.now)) }
 {
     match read_edits(alloc, bytes, database) {

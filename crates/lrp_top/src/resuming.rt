@@ -21,7 +21,8 @@ pub fn resumed(
     requires times { time_count head.now ≤ 8 }
     requires texts { text_count head.now ≤ 8 }
     ensures shape { IfOk result (λ tuple. IfSome tuple (HasShapeOf (shape_of_head head.now))) }
-    ensures resumed { IsResumed digest.now head.now (after_text after.entry) (resumed_as head.now result) }
+    ensures resumed { IsResumed digest.now head.now (after_text after.entry)
+        (resumed_as head.now result) }
 {
     let Some(token) = after else {
         return Ok(None);

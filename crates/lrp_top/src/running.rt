@@ -15,7 +15,8 @@ use std::alloc::Global;
 /// No memory is taken once the first byte is written, so a run that has begun to write ends with
 /// its outcome's status, or with `Write`.
 pub fn run<F: Shelf, S: Sink>(alloc: Global, words: &[String], shelf: &mut F, out: &mut S) -> Status
-    ensures run { IsRun words.now (⟦<F as Watched>⟧.seen shelf.old shelf.new) (⟦<S as Filled>⟧.taken out.old out.new) result }
+    ensures run { IsRun words.now (⟦<F as Watched>⟧.seen shelf.old shelf.new)
+        (⟦<S as Filled>⟧.taken out.old out.new) result }
 
     // Where the words name no file, none is read.
     ensures unread { files_named words.now ≡ [] → shelf.new ≡ shelf.old }

@@ -64,7 +64,9 @@ fn question_of(alloc: Global, seed: u32, size: u32) -> Result<Question, Refusal>
 fn report_of(alloc: Global, answer: Answer, size: u32) -> Result<Report, Memory>
     requires size { IsSampleSize size }
     requires room { HasRoom answer.store }
-    ensures { IfOk result (λ report. (seed cap : ℕ) → IsAnswerOf (sample_relations seed size) sample_question cap answer → TellsSample seed size (sample_text report)) }
+    ensures { IfOk result (λ report. (seed cap : ℕ)
+        → IsAnswerOf (sample_relations seed size) sample_question cap answer
+        → TellsSample seed size (sample_text report)) }
 {
     sample_texts_are_read();
     sample_query_is_well_sorted();

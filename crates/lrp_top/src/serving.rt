@@ -34,12 +34,14 @@ pub fn serve(alloc: Global, question: Question, purpose: &Purpose<'_>) -> Result
     requires ready { IsReady question }
     requires window { HasWindow purpose.now }
     requires head { HasOneTime (is_canonical purpose.now) question.query.query.head.columns }
-    ensures served { IsServed purpose.now (database_source question.database) (query_source question.query) question.plan (told result) }
+    ensures served { IsServed purpose.now (database_source question.database)
+        (query_source question.query) question.plan (told result) }
 {
     match purpose {
-        Purpose::Plan => Ok(Output::Plan(WritablePlan {
-            plan: question.into_plan(),
-        })),
+        Purpose::Plan => {
+            let (plan, query) = question.into_plan();
+            Ok(Output::Plan(WritablePlan { plan, query }))
+        }
         Purpose::Answer { cap, canon } => whole_answer(alloc, &question, *cap, *canon),
         Purpose::Witness { cap } => witness(alloc, &question, *cap),
         Purpose::Page { paging } => page(alloc, question, paging),
@@ -49,8 +51,10 @@ pub fn serve(alloc: Global, question: Question, purpose: &Purpose<'_>) -> Result
 /// The answers of a question. It is refused at the first step whose formula is inhabited in more than `cap` cells.
 pub fn answers(alloc: Global, question: &Question, cap: u32) -> Result<Answer, Refusal>
     requires ready { IsReady question.now }
-    ensures counted { IsCounted question.now.database.relations (question_of question.now.query.query) cap (done_as result) }
-    ensures answers { IfOk result (λ made. IsAnswerOf question.now.database.relations (question_of question.now.query.query) cap made) }
+    ensures counted { IsCounted question.now.database.relations
+        (question_of question.now.query.query) cap (done_as result) }
+    ensures answers { IfOk result (λ made. IsAnswerOf question.now.database.relations
+        (question_of question.now.query.query) cap made) }
     ensures room { IfOk result (λ made. HasRoom made.store) }
 {
     match answer(alloc, &question.plan, &question.database.relations, cap) {
@@ -74,7 +78,8 @@ fn whole_answer(
 ) -> Result<Output, Refusal>
     requires ready { IsReady question.now }
     requires head { HasOneTime canon question.now.query.query.head.columns }
-    ensures due { IsAnswered canon cap (database_source question.now.database) (query_source question.now.query) question.now.plan (told result) }
+    ensures due { IsAnswered canon cap (database_source question.now.database)
+        (query_source question.now.query) question.now.plan (told result) }
 {
     if canon {
         canonical_answer(alloc, question, cap)
@@ -86,7 +91,8 @@ fn whole_answer(
 /// All answers of a question, or the first step with too many cells.
 fn all_answers(alloc: Global, question: &Question, cap: u32) -> Result<Output, Refusal>
     requires ready { IsReady question.now }
-    ensures due { IsAnswered false cap (database_source question.now.database) (query_source question.now.query) question.now.plan (told result) }
+    ensures due { IsAnswered false cap (database_source question.now.database)
+        (query_source question.now.query) question.now.plan (told result) }
 {
     match answers(alloc, question, cap) {
         Ok(answer) => {
@@ -104,7 +110,8 @@ fn all_answers(alloc: Global, question: &Question, cap: u32) -> Result<Output, R
 fn canonical_answer(alloc: Global, question: &Question, cap: u32) -> Result<Output, Refusal>
     requires ready { IsReady question.now }
     requires head { time_count question.now.query.query.head.columns ≡ 1 }
-    ensures due { IsAnswered true cap (database_source question.now.database) (query_source question.now.query) question.now.plan (told result) }
+    ensures due { IsAnswered true cap (database_source question.now.database)
+        (query_source question.now.query) question.now.plan (told result) }
 {
     match answers(alloc, question, cap) {
         Ok(answer) => canonical_text(alloc, question, answer, cap),
@@ -121,9 +128,12 @@ fn canonical_text(
 ) -> Result<Output, Refusal>
     requires ready { IsReady question.now }
     requires head { time_count question.now.query.query.head.columns ≡ 1 }
-    requires answers { IsAnswerOf question.now.database.relations (question_of question.now.query.query) cap answer }
-    ensures due { Then (AreRowsCounted question.now.database.relations (question_of question.now.query.query) cap)
-        (λ counted. IsOutput (IsCanonicalText question.now.database.relations (question_of question.now.query.query))) (told result) }
+    requires answers { IsAnswerOf question.now.database.relations
+        (question_of question.now.query.query) cap answer }
+    ensures due { Then (AreRowsCounted question.now.database.relations
+        (question_of question.now.query.query) cap)
+        (λ counted. IsOutput (IsCanonicalText question.now.database.relations
+        (question_of question.now.query.query))) (told result) }
 {
     answer.store.shape();
     answer.domain.len();
@@ -141,7 +151,8 @@ fn canonical_text(
 /// The least answer of a question, or the first step with too many cells.
 fn witness(alloc: Global, question: &Question, cap: u32) -> Result<Output, Refusal>
     requires ready { IsReady question.now }
-    ensures due { IsDecided cap (database_source question.now.database) (query_source question.now.query) question.now.plan (told result) }
+    ensures due { IsDecided cap (database_source question.now.database)
+        (query_source question.now.query) question.now.plan (told result) }
 {
     match answers(alloc, question, cap) {
         Ok(answer) => Ok(Output::Witness(least_of(answer))),
@@ -152,8 +163,10 @@ fn witness(alloc: Global, question: &Question, cap: u32) -> Result<Output, Refus
 /// The least of these answers.
 pub fn least_of(answer: Answer) -> Witness
     requires room { HasRoom answer.store }
-    ensures least { (db : List Relation) (q : Queried) (cap : ℕ) → IsAnswerOf db q cap answer → TellsWitness db q (witness_text result) }
-    ensures first { (db : List Relation) (q : Queried) (cap : ℕ) → IsAnswerOf db q cap answer → IsFirst db q (least_tuple result) }
+    ensures least { (db : List Relation) (q : Queried) (cap : ℕ) → IsAnswerOf db q cap answer
+        → TellsWitness db q (witness_text result) }
+    ensures first { (db : List Relation) (q : Queried) (cap : ℕ) → IsAnswerOf db q cap answer
+        → IsFirst db q (least_tuple result) }
 {
     spots_stand_for_tuples();
     let least = answer.least();

@@ -36,7 +36,8 @@ pub fn watch<F: Shelf>(
     cap: u32,
     shelf: &mut F,
 ) -> Result<Output, Refusal>
-    ensures due { IsWatchedFor (⟦<F as Watched>⟧.seen shelf.old shelf.new) files.now.database.now files.now.query.now files.now.edits.now cap (told result) }
+    ensures due { IsWatchedFor (⟦<F as Watched>⟧.seen shelf.old shelf.new) files.now.database.now
+        files.now.query.now files.now.edits.now cap (told result) }
     ensures long { TellsLength (⟦<F as Watched>⟧.seen shelf.old shelf.new) (told result) }
 {
     let database = database_of(alloc, files.database, false, shelf)?;

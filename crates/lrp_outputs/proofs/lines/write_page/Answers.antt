@@ -7,7 +7,7 @@ use Rattle.lrp_print.proofs.Lines.{front_as, ok_as}
 use Rattle.lrp_list.specs.Lines.{is_json}
 use Rattle.lrp_model.specs.Pages.{last_of}
 use Rattle.lrp_model.specs.PrintedPages.{end_line, token_behind}
-use Rattle.lrp_outputs.specs.Spots.{tuple_of}
+use Rattle.lrp_outputs.specs.Spots.{answer_tuple}
 use Rattle.lrp_outputs.specs.Outputs.{page_text}
 use Rattle.lrp_outputs.specs.PageLines.{line_as}
 use Rattle.lrp_outputs.proofs.PageLemmas.{lines_mapped}
@@ -16,15 +16,15 @@ use Rattle.lrp_outputs.proofs.lines.write_page.Goals as goal
 pub returns-in_err-write_lines-clause-text : goal.returns-in_err-write_lines-clause-text
 returns-in_err-write_lines-clause-text g c =
     let page = c.args.page.now in
-    let tuples = map (tuple_of page.answer) page.spots in
+    let tuples = map (answer_tuple page.answer) page.spots in
     let p = err_from_is_err_and c.from_residual.result c.from_residual.ensures.1 in
     written_err _ _ (page_text page) _ p.0 p.1
     (front_before _ _ (flat_map (line_as page.civil (is_json page.form)) tuples) (end_line (is_json page.form) (token_behind page.files page.more (last_of tuples)))
-    (front_as _ _ _ _ (lines_mapped page.civil (is_json page.form) (tuple_of page.answer) page.spots) c.in_err-write_lines.ensures.text))
+    (front_as _ _ _ _ (lines_mapped page.civil (is_json page.form) (answer_tuple page.answer) page.spots) c.in_err-write_lines.ensures.text))
 
 pub returns-clause-text : goal.returns-clause-text
 returns-clause-text g c =
     let page = c.args.page.now in
-    let tuples = map (tuple_of page.answer) page.spots in
+    let tuples = map (answer_tuple page.answer) page.spots in
     written_behind _ _ _ (flat_map (line_as page.civil (is_json page.form)) tuples) (end_line (is_json page.form) (token_behind page.files page.more (last_of tuples))) _
-    (ok_as _ _ _ _ (lines_mapped page.civil (is_json page.form) (tuple_of page.answer) page.spots) c.in_ok-write_lines.ensures.text) c.write_end.ensures.text
+    (ok_as _ _ _ _ (lines_mapped page.civil (is_json page.form) (answer_tuple page.answer) page.spots) c.in_ok-write_lines.ensures.text) c.write_end.ensures.text

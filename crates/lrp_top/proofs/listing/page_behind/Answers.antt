@@ -1,6 +1,6 @@
 -- No step has too many cells, and then the page is told.
 use Rattle.std.proofs.Common.{Ok, option_map}
-use Rattle.lrp_list.specs.Listing.{told_tuple}
+use Rattle.lrp_list.specs.Listing.{listed_tuple}
 use Rattle.lrp_model.specs.Formulas.{question_of}
 use Rattle.lrp_model.specs.Rows.{Tuple}
 use Rattle.lrp_model.specs.declared.relations.Column.{Column}
@@ -15,7 +15,7 @@ pub returns-in-Ok-page_of : goal.returns-in-Ok-page_of
 returns-in-Ok-page_of c =
     let question = c.args.question in
     let p = c.args.paging.now in
-    let begins : List Column → Option Tuple = λ columns. option_map (λ t. told_tuple columns t.now) c.args.after in
+    let begins : List Column → Option Tuple = λ columns. option_map (λ t. listed_tuple columns t.now) c.args.after in
     record {
       page = record {
         first = Ok tt;

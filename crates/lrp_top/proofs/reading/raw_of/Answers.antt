@@ -2,7 +2,7 @@
 use Rattle.std.proofs.Common.{IfOk, sym, subst}
 use Rattle.std.proofs.lemmas.Result.{err_from_is_err_and}
 use Rattle.lrp_model.specs.RawQueries.{RawQuestion, raw_question_of}
-use Rattle.lrp_query.specs.Reading.{IsQueryOrMemory as IsRawOrMemory}
+use Rattle.lrp_model.specs.Outcomes.{IsQueryOrMemory}
 use Rattle.lrp_tense.specs.Trees.{tense_question_of}
 use Rattle.lrp_top.specs.Questions.{IsExpansionOf, IsSaidBy}
 use Rattle.lrp_top.proofs.ReadingLemmas.{expanded_once, tense_unread_every}
@@ -12,7 +12,7 @@ pub returns-then-not-tense-clause-said : goal.returns-then-not-tense-clause-said
 returns-then-not-tense-clause-said c = subst (λ tense. IfOk c.read_query.result (λ raw. IsSaidBy tense c.args.bytes.now (raw_question_of raw))) (sym c.if-not-tense.true) c.read_query.ensures.query
 
 pub returns-then-not-tense-clause-every : goal.returns-then-not-tense-clause-every
-returns-then-not-tense-clause-every c = subst (λ tense. (raw : RawQuestion) → IsSaidBy tense c.args.bytes.now raw → IsRawOrMemory raw c.read_query.result) (sym c.if-not-tense.true) c.read_query.ensures.every_query
+returns-then-not-tense-clause-every c = subst (λ tense. (raw : RawQuestion) → IsSaidBy tense c.args.bytes.now raw → IsQueryOrMemory raw_question_of raw c.read_query.result) (sym c.if-not-tense.true) c.read_query.ensures.every_query
 
 pub returns-in_err-written-clause-every : goal.returns-in_err-written-clause-every
 returns-in_err-written-clause-every c =

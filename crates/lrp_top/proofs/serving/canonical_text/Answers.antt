@@ -10,7 +10,7 @@ use Rattle.lrp_model.specs.Texts.{Ascends}
 use Rattle.lrp_list.specs.AnswerText.{answer_text}
 use Rattle.lrp_spans.specs.Groups.{HoldsNumber}
 use Rattle.lrp_store.specs.Stores.{zone_count}
-use Rattle.lrp_canon.specs.Canonical.{HasCanonicalRows as HasStoredRows, HasMoreRows, IsCanonicalOf}
+use Rattle.lrp_canon.specs.Canonical.{HasCanonicalZones as HasStoredRows, HasMoreRows, IsCanonicalOf}
 use Rattle.lrp_canon.specs.Answers.{HasNumber}
 use Rattle.lrp_outputs.specs.declared.refusal.Refusal.TheVariants.{CanonRows, Memory}
 use Rattle.lrp_top.proofs.Answered.{can_be_canonical, last_wide, one_column}
