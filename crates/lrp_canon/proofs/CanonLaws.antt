@@ -24,14 +24,14 @@ use Rattle.lrp_minus.proofs.IntervalLaws.{intervals}
 use Rattle.lrp_spans.specs.declared.spans.Span.{Span}
 use Rattle.lrp_spans.specs.Groups.{AreGroups, HoldsNumber, SpanLists, group_cell}
 use Rattle.lrp_spans.specs.Periods.{IsEndPeriod}
-use Rattle.lrp_spans.specs.Spans.{HasNumber}
+use Rattle.lrp_spans.specs.Spans.{SpansHaveNumber}
 use Rattle.lrp_spans.proofs.EndSteps.{span_key}
 use Rattle.lrp_spans.proofs.GroupLaws.{group_numbers, zone_column}
 use Rattle.lrp_spans.proofs.Lists.{below_or, head_in, in_map, map_in}
 use Rattle.lrp_spans.proofs.Repeats.{divisor_le}
 use Rattle.lrp_canon.specs.declared.edges.Periods.{Periods}
-use Rattle.lrp_canon.specs.Canonical.{HasCanonicalRows, HasMoreRows, IsCanonicalOf}
-use Rattle.lrp_canon.specs.Counting.{AreNamed, HasRows, InGroups, IsCountOf, capped}
+use Rattle.lrp_canon.specs.Canonical.{HasCanonicalZones, HasMoreRows, IsCanonicalOf}
+use Rattle.lrp_canon.specs.Counting.{HaveOwnTexts, HasRows, InGroups, IsCountOf, capped}
 use Rattle.lrp_canon.specs.Making.{AreGroupCells, HoldsGroups}
 use Rattle.lrp_canon.specs.Rows.{HasRowCount, IsLeastPeriod, IsSetOfRows}
 use Rattle.lrp_canon.proofs.JoinedCounts.{same_rows}
@@ -101,8 +101,8 @@ module _ (s : StoreView) (is : IsStore s) (one : s.shape.times ≡ 1) (lists : S
   made_one : made.shape.times ≡ 1
   made_one = ap (λ (h : Shape). h.times) shape ∙ one
 
-  at_period : (group : Cell) (x : ℤ) → HasNumber periods.whole (list_at lists group) x → HasNumber s.period (list_at lists group) x
-  at_period group x h = subst (λ k. HasNumber k (list_at lists group) x) whole h
+  at_period : (group : Cell) (x : ℤ) → SpansHaveNumber periods.whole (list_at lists group) x → SpansHaveNumber s.period (list_at lists group) x
+  at_period group x h = subst (λ k. SpansHaveNumber k (list_at lists group) x) whole h
 
   sound : (x : ℤ) (texts : List ℕ) → HoldsNumber made x texts → HoldsNumber s x texts
   sound x texts h =
@@ -115,8 +115,8 @@ module _ (s : StoreView) (is : IsStore s) (one : s.shape.times ≡ 1) (lists : S
   full x texts h =
       let f = groups.from h.cell (zone_of s h.cell h.table) (map_in (zone_of s h.cell) (tables_at s h.cell) h.table h.held) in
       let n = group_numbers s is one lists groups (group_cell h.cell) f.span f.listed in
-      let i : HasNumber s.period (list_at lists (group_cell h.cell)) x = n.from x (subst (HoldsNumber s x) (sym h.named) h) in
-      let r = holds.from (group_cell h.cell) x (span_key lists (group_cell h.cell) f.span f.listed) (subst (λ k. HasNumber k (list_at lists (group_cell h.cell)) x) (sym whole) i) in
+      let i : SpansHaveNumber s.period (list_at lists (group_cell h.cell)) x = n.from x (subst (HoldsNumber s x) (sym h.named) h) in
+      let r = holds.from (group_cell h.cell) x (span_key lists (group_cell h.cell) f.span f.listed) (subst (λ k. SpansHaveNumber k (list_at lists (group_cell h.cell)) x) (sym whole) i) in
       let t = in_map (zone_of made r.cell) (tables_at made r.cell) r.zone r.held in
       record {
         cell = r.cell;
@@ -184,7 +184,7 @@ module _ (s : StoreView) (is : IsStore s) (one : s.shape.times ≡ 1) (lists : S
   name : Cell → List ℕ
   name group = take s.shape.texts group.texts
 
-  named : AreNamed lists name (finite.keys lists)
+  named : HaveOwnTexts lists name (finite.keys lists)
   unfolding name
   named i j d il jl = λ p q lp lq e. keys_apart lists i j d il jl (same_group s is one lists groups (get_or (finite.keys lists) i d) (get_or (finite.keys lists) j d) p q lp lq e)
 
@@ -192,7 +192,7 @@ module _ (s : StoreView) (is : IsStore s) (one : s.shape.times ≡ 1) (lists : S
   unfolding name
   in_store x texts h =
       let n = group_numbers s is one lists groups h.group h.inside.inside.span h.inside.inside.listed in
-      subst (HoldsNumber s x) (sym h.named) (n.to x (subst (λ k. HasNumber k (list_at lists h.group) x) whole h.inside))
+      subst (HoldsNumber s x) (sym h.named) (n.to x (subst (λ k. SpansHaveNumber k (list_at lists h.group) x) whole h.inside))
 
   of_store : (x : ℤ) (texts : List ℕ) → HoldsNumber s x texts → InGroups periods.whole lists name (finite.keys lists) x texts
   unfolding name
@@ -203,7 +203,7 @@ module _ (s : StoreView) (is : IsStore s) (one : s.shape.times ≡ 1) (lists : S
         group = group_cell h.cell;
         listed = span_key lists (group_cell h.cell) f.span f.listed;
         named = sym h.named;
-        inside = subst (λ k. HasNumber k (list_at lists (group_cell h.cell)) x) (sym whole) (n.from x (subst (HoldsNumber s x) (sym h.named) h));
+        inside = subst (λ k. SpansHaveNumber k (list_at lists (group_cell h.cell)) x) (sym whole) (n.from x (subst (HoldsNumber s x) (sym h.named) h));
       }
 
   row_count : HasRowCount (HoldsNumber s) counted.count
@@ -212,12 +212,12 @@ module _ (s : StoreView) (is : IsStore s) (one : s.shape.times ≡ 1) (lists : S
       let r : HasRows (HoldsNumber s) periods.least counted.count = same_rows (InGroups periods.whole lists name (finite.keys lists)) (HoldsNumber s) periods.least counted.count in_store of_store (counted.rows name named) in
       record { period = periods.least; least = least_period s is one lists groups periods.least end; starts = r.starts; begun = r.begun; endless = r.endless; unbegun = r.unbegun; total = r.total }
 
-  canonical_count : HasCanonicalRows s counted.count
+  canonical_count : HasCanonicalZones s counted.count
   canonical_count = record { rows = row_count; zones = λ store canon. canonical_zones s store counted.count row_count canon }
 
   -- a count that is a small word is the number
-  pub count_is : (count most : ℕ) → count ≡ made → count ≤ most → most < 2 ^ 32 → HasCanonicalRows s count
-  count_is count most e l m = subst (HasCanonicalRows s) (let c : made ≡ capped counted.count = counted.capped in let f : counted.count ≡ count = omega (arith, e, l, m, c) in f) canonical_count
+  pub count_is : (count most : ℕ) → count ≡ made → count ≤ most → most < 2 ^ 32 → HasCanonicalZones s count
+  count_is count most e l m = subst (HasCanonicalZones s) (let c : made ≡ capped counted.count = counted.capped in let f : counted.count ≡ count = omega (arith, e, l, m, c) in f) canonical_count
 
   pub more_is : (most : ℕ) → most < made → HasMoreRows s most
   more_is most l = (counted.count, (let c : made ≡ capped counted.count = counted.capped in omega (arith, l, c)), canonical_count)
@@ -247,7 +247,7 @@ module _ (s : StoreView) (lists : SpanLists) (groups : AreGroups s lists) (perio
 -- ---- the number of rows, if it is at most the given one
 module _ (s : StoreView) (is : IsStore s) (one : s.shape.times ≡ 1) (lists : SpanLists) (groups : AreGroups s lists) (periods : Periods) (whole : periods.whole ≡ s.period) (end : IsEndPeriod s.period lists periods.least)
     (made : ℕ) (counted : IsCountOf periods lists (finite.keys lists) made) (most : ℕ) where
-  pub count_if : most < 2 ^ 32 → (found : Option ℕ) → IfSome found (λ count. (count ≡ made) × (count ≤ most)) → IfSome found (λ count. HasCanonicalRows s count)
+  pub count_if : most < 2 ^ 32 → (found : Option ℕ) → IfSome found (λ count. (count ≡ made) × (count ≤ most)) → IfSome found (λ count. HasCanonicalZones s count)
   count_if small None h = tt
   count_if small (Some count) h = count_is s is one lists groups periods whole end made counted count most h.0 h.1 small
 

@@ -7,18 +7,18 @@ use Rattle.lrp_theory.specs.Bounds.{Within}
 use Rattle.lrp_theory.proofs.Modulo.{times_neg}
 use Rattle.lrp_matrix.specs.Ranges.{Above}
 use Rattle.lrp_spans.specs.declared.spans.Span.{Span}
-use Rattle.lrp_spans.specs.Spans.{AreBelow, AreOrdered, AreShifted, HasNumber, HasTurn, InSpans, IsDifference, IsSpan}
+use Rattle.lrp_spans.specs.Spans.{AreBelow, AreOrdered, AreShifted, SpansHaveNumber, HasTurn, InSpans, IsDifference, IsSpan}
 use Rattle.lrp_spans.proofs.CutLaws.{wider_span}
 use Rattle.lrp_spans.proofs.Repeats.{divisor_le}
 use Rattle.lrp_canon.specs.declared.edges.Periods.{Periods}
-use Rattle.lrp_canon.specs.Edges.{AreEdgeNumbers, AreEdgeSpans, AreRepeating, Begins, HasEnds, Stops}
+use Rattle.lrp_canon.specs.Edges.{AreEdgeNumbers, AreEdgeSpans, AreRepeating, Begins, HasEnds, StopsAt}
 use Rattle.lrp_canon.proofs.StartLaws.{one_residue, one_turn, start_from, start_high, start_is, start_low}
 use Rattle.lrp_canon.proofs.Stepping.{at_least}
 
 -- spans whose numbers lie between two numbers have both ends
 module _ (k high low_end high_end : ℕ) (spans : List Span) (positive : 0 < k) (each : (s : Span) → Contains spans s → IsSpan high s)
-    (low : (x : ℤ) → HasNumber k spans x → neg_ℤ (pos low_end) ≤ℤ x) (top : (x : ℤ) → HasNumber k spans x → x ≤ℤ pos high_end) (s : Span) (l : Contains spans s) where
-  number : (n : ℤ) → HasTurn s s.residue n → HasNumber k spans (pos s.residue +ℤ (pos k *ℤ n))
+    (low : (x : ℤ) → SpansHaveNumber k spans x → neg_ℤ (pos low_end) ≤ℤ x) (top : (x : ℤ) → SpansHaveNumber k spans x → x ≤ℤ pos high_end) (s : Span) (l : Contains spans s) where
+  number : (n : ℤ) → HasTurn s s.residue n → SpansHaveNumber k spans (pos s.residue +ℤ (pos k *ℤ n))
   number n t = record { residue = s.residue; turn = n; is = refl; inside = record { span = s; listed = l; is = t } }
 
   begins : s.first ≡ None → ⊥
@@ -80,7 +80,7 @@ module _ (periods : Periods) (spans before : List Span) (is : AreRepeating perio
       let t = d.to s.residue v.turn (record { span = s; listed = l; is = v.is }) in
       subst (λ r. r < periods.whole) t.0.is.residue (b t.0.span t.0.listed)
 
-  pub starts_are : (made : List Span) → IsDifference (2 ^ 62 + 1) spans before made → AreEdgeSpans periods.whole (Begins (HasNumber periods.whole spans) periods.least) made
+  pub starts_are : (made : List Span) → IsDifference (2 ^ 62 + 1) spans before made → AreEdgeSpans periods.whole (Begins (SpansHaveNumber periods.whole spans) periods.least) made
   starts_are made d = record {
     to = λ x h. (let t = start_is (2 ^ 62) periods.whole periods.least spans before made shift d is.below x h in record { inside = t.0; first = t.1 });
     from = λ x b. start_from (2 ^ 62) periods.whole periods.least spans before made shift d is.below x b.inside b.first;
@@ -106,41 +106,41 @@ module _ (periods : Periods) (spans before : List Span) (is : AreRepeating perio
 
   -- ---- stops
   module _ (made : List Span) (d : IsDifference (2 ^ 62 + 1) before spans made) where
-    stop_is : (x : ℤ) → HasNumber periods.whole made x → Stops (HasNumber periods.whole spans) periods.least x
+    stop_is : (x : ℤ) → SpansHaveNumber periods.whole made x → StopsAt (SpansHaveNumber periods.whole spans) periods.least x
     stop_is x h =
         let t = d.to h.residue h.turn h.inside in
         record { inside = shift.to x (record { residue = h.residue; turn = h.turn; is = h.is; inside = t.0 }); over = over t.0 t.1 }
       where
-        over : InSpans before h.residue h.turn → (InSpans spans h.residue h.turn → ⊥) → HasNumber periods.whole spans x → ⊥
+        over : InSpans before h.residue h.turn → (InSpans spans h.residue h.turn → ⊥) → SpansHaveNumber periods.whole spans x → ⊥
         over i none g =
             let gl : g.residue < periods.whole = subst (λ r. r < periods.whole) g.inside.is.residue (is.below g.inside.span g.inside.listed) in
             let hl : h.residue < periods.whole = subst (λ r. r < periods.whole) i.is.residue (shift.below i.span i.listed) in
             let same : pos g.residue +ℤ (pos periods.whole *ℤ g.turn) ≡ pos h.residue +ℤ (pos periods.whole *ℤ h.turn) = sym g.is ∙ h.is in
             none (subst (λ r. InSpans spans r h.turn) (one_residue periods.whole g.residue h.residue g.turn h.turn gl hl same) (subst (InSpans spans g.residue) (one_turn periods.whole g.residue h.residue g.turn h.turn gl hl same) g.inside))
 
-    stop_from : (x : ℤ) → Stops (HasNumber periods.whole spans) periods.least x → HasNumber periods.whole made x
+    stop_from : (x : ℤ) → StopsAt (SpansHaveNumber periods.whole spans) periods.least x → SpansHaveNumber periods.whole made x
     stop_from x s =
         let e : (x -ℤ pos periods.least) +ℤ pos periods.least ≡ x = omega (arith, ints) in
-        let b : HasNumber periods.whole before x = subst (HasNumber periods.whole before) e (shift.from (x -ℤ pos periods.least) s.inside) in
+        let b : SpansHaveNumber periods.whole before x = subst (SpansHaveNumber periods.whole before) e (shift.from (x -ℤ pos periods.least) s.inside) in
         record { residue = b.residue; turn = b.turn; is = b.is; inside = d.from b.residue b.turn b.inside (λ i. s.over (record { residue = b.residue; turn = b.turn; is = b.is; inside = i })) }
 
-    stop_low : (x : ℤ) → HasNumber periods.whole made x → neg_ℤ (pos (2 ^ 62)) ≤ℤ x
+    stop_low : (x : ℤ) → SpansHaveNumber periods.whole made x → neg_ℤ (pos (2 ^ 62)) ≤ℤ x
     stop_low x h =
         let s = stop_is x h in
         let p : periods.whole ≤ 2 ^ 62 = is.high in
         let q : 0 < periods.whole = is.positive in
         by_lt_z (neg_ℤ (pos (2 ^ 62 - periods.whole + 1))) x (λ lt. omega (arith, ints, p, q)) (λ le. absurd (s.over (is.repeats.up x le s.inside)))
 
-    stop_high : (x : ℤ) → HasNumber periods.whole made x → x ≤ℤ pos (2 ^ 62)
+    stop_high : (x : ℤ) → SpansHaveNumber periods.whole made x → x ≤ℤ pos (2 ^ 62)
     stop_high x h =
         let s = stop_is x h in
         let p : periods.whole ≤ 2 ^ 62 = is.high in
         let q : periods.least ≤ periods.whole = step_le in
         let e : (x -ℤ pos periods.least) +ℤ pos periods.least ≡ x = omega (arith, ints) in
         by_lt_z x (pos (2 ^ 62 - periods.whole + 1 + periods.least)) (λ lt. omega (arith, ints, p, q))
-        (λ le. absurd (s.over (subst (HasNumber periods.whole spans) e (is.repeats.on (x -ℤ pos periods.least) (omega (arith, ints)) s.inside))))
+        (λ le. absurd (s.over (subst (SpansHaveNumber periods.whole spans) e (is.repeats.on (x -ℤ pos periods.least) (omega (arith, ints)) s.inside))))
 
-    pub stops_are : AreEdgeSpans periods.whole (Stops (HasNumber periods.whole spans) periods.least) made
+    pub stops_are : AreEdgeSpans periods.whole (StopsAt (SpansHaveNumber periods.whole spans) periods.least) made
     stops_are = record {
       to = stop_is;
       from = stop_from;

@@ -1,18 +1,17 @@
 -- The rows of spans, told by their beginnings and by the residues that go on downwards, counted.
-use Rattle.std.proofs.Common.{◌≡◌, ◌≢◌, ℕ, zero, suc, ◌+◌, ◌-◌, ◌*◌, ◌<◌, ◌≤◌, ◌^◌, inl, inr, List, [], ◌∷◌, Option, Some, None, length, take, map, get_or, arith, refl, sym, subst, ap, ◌∙◌}
+use Rattle.std.proofs.Common.{◌≡◌, ◌≢◌, ℕ, zero, suc, ◌+◌, ◌-◌, ◌*◌, ◌<◌, ◌≤◌, ◌^◌, inl, inr, List, [], ◌∷◌, Some, length, take, map, get_or, arith, refl, sym, subst, ap, ◌∙◌}
 use Rattle.std.specs.Prelude.{ℤ, pos, nat_abs, ◌+ℤ◌, ◌-ℤ◌, ◌≤ℤ◌, ◌<ℤ◌, neg_ℤ, AllPairs, Contains, slice_get, min, sum_by}
 use Rattle.std.proofs.Math.IntN.{◌*ℤ◌}
 use Rattle.std.proofs.lemmas.Int.{ints}
 use Rattle.std.proofs.lemmas.List.{length-map, get_or-take, length-take-le}
 use Rattle.lrp_theory.specs.Divides.{Divides}
-use Rattle.lrp_theory.specs.Entries.{AtMost}
 use Rattle.lrp_theory.proofs.Modulo.{Divides--, Divides-is, Divides-zero, times_neg}
 use Rattle.lrp_theory.proofs.Multiples.{Divides-multiple, Divides-trans}
 use Rattle.lrp_matrix.specs.Ranges.{Above}
 use Rattle.lrp_spans.specs.declared.spans.Span.{Span}
 use Rattle.lrp_spans.specs.Repeating.{RepeatsAtEnds}
-use Rattle.lrp_spans.specs.Spans.{AreBelow, AreOpenBelow, HasNumber, IsSpan}
-use Rattle.lrp_spans.proofs.EndLaws.{before_last}
+use Rattle.lrp_spans.specs.Spans.{AreBelow, AreOpenBelow, SpansHaveNumber, IsSpan}
+use Rattle.lrp_spans.proofs.EndLaws.{before_last, no_first}
 use Rattle.lrp_spans.proofs.Repeats.{divisor_le}
 use Rattle.lrp_spans.proofs.Lists.{below_or, in_map, map_in, pairs_map}
 use Rattle.lrp_canon.specs.declared.edges.Periods.{Periods}
@@ -23,14 +22,9 @@ use Rattle.lrp_canon.proofs.Numbers.{in_places, of_places, places, places_apart,
 use Rattle.lrp_canon.proofs.StartLaws.{one_residue, one_turn}
 use Rattle.lrp_canon.proofs.Stepping.{at_least, between, deep_all}
 
--- what is above the first turn of a span, so far down, has none
-no_first : (h : ℕ) (n : ℤ) (e : Option ℤ) → AtMost h e → n <ℤ neg_ℤ (pos h) → Above n e → e ≡ None
-no_first h n None a l w = refl
-no_first h n (Some f) a l w = let m : neg_ℤ (pos h) ≤ℤ f = a.0 in absurd (omega (arith, ints))
-
 -- ---- residues that go on downwards are those of spans without a first turn
 module _ (k high step bound : ℕ) (spans : List Span) (low : 0 < k) (positive : 0 < step) (divides : Divides (pos step) (pos k)) (each : (s : Span) → Contains spans s → IsSpan high s) (below : AreBelow k spans)
-    (ends : RepeatsAtEnds (HasNumber k spans) bound step) (residues : List ℕ) (are : AreOpenBelow spans residues) where
+    (ends : RepeatsAtEnds (SpansHaveNumber k spans) bound step) (residues : List ℕ) (are : AreOpenBelow spans residues) where
   -- the number of a residue so many turns down
   deep : ℕ → ℕ → ℤ
   deep r m = pos r +ℤ (pos k *ℤ neg_ℤ (pos m))
@@ -48,14 +42,14 @@ module _ (k high step bound : ℕ) (spans : List Span) (low : 0 < k) (positive :
       let d : Divides (pos step) (pos (k * m)) = Divides-trans (pos step) (pos k) (pos (k * m)) divides (Divides-multiple k m) in
       Divides-is (pos step) (pos 0 -ℤ pos (k * m)) _ (omega (arith, ints)) (Divides-- (pos step) (pos 0) (pos (k * m)) (Divides-zero (pos step)) d)
 
-  pub open_down : (r : ℕ) → Contains residues r → r < step → GoesDown (HasNumber k spans) step r
+  pub open_down : (r : ℕ) → Contains residues r → r < step → GoesDown (SpansHaveNumber k spans) step r
   unfolding deep
   open_down r l rl =
       let t = are.to r l in
       let m : ℕ = high + bound + r in
       let p : m ≤ k * m = at_least k m low in
       let e : deep r m ≡ pos r -ℤ pos (k * m) = deep_is r m in
-      let here : HasNumber k spans (deep r m) = record {
+      let here : SpansHaveNumber k spans (deep r m) = record {
         residue = r;
         turn = neg_ℤ (pos m);
         is = refl;
@@ -64,16 +58,16 @@ module _ (k high step bound : ℕ) (spans : List Span) (low : 0 < k) (positive :
       record {
         below = rl;
         bound = deep r m;
-        all = λ x le d. deep_all (HasNumber k spans) step bound ends (deep r m) x positive (omega (arith, ints, p)) le (between step (pos r) x (deep r m) d (deep_divides r m)) here;
+        all = λ x le d. deep_all (SpansHaveNumber k spans) step bound ends (deep r m) x positive (omega (arith, ints, p)) le (between step (pos r) x (deep r m) d (deep_divides r m)) here;
       }
 
-  pub down_open : (r : ℕ) → r < k → GoesDown (HasNumber k spans) step r → Contains residues r
+  pub down_open : (r : ℕ) → r < k → GoesDown (SpansHaveNumber k spans) step r → Contains residues r
   unfolding deep
   down_open r rl g =
       let m : ℕ = high + 1 + nat_abs g.bound + r in
       let p : m ≤ k * m = at_least k m low in
       let e : deep r m ≡ pos r -ℤ pos (k * m) = deep_is r m in
-      let h : HasNumber k spans (deep r m) = g.all (deep r m) (omega (arith, ints, p)) (deep_divides r m) in
+      let h : SpansHaveNumber k spans (deep r m) = g.all (deep r m) (omega (arith, ints, p)) (deep_divides r m) in
       let s : Span = h.inside.span in
       let hl : h.residue < k = subst (λ q. q < k) h.inside.is.residue (below s h.inside.listed) in
       let a : r ≡ h.residue = one_residue k r h.residue (neg_ℤ (pos m)) h.turn rl hl h.is in
@@ -81,7 +75,7 @@ module _ (k high step bound : ℕ) (spans : List Span) (low : 0 < k) (positive :
       subst (Contains residues) (h.inside.is.residue ∙ sym a) (are.from s h.inside.listed (no_first high h.turn s.first (each s h.inside.listed).first (omega (arith, ints, b)) h.inside.is.low))
 
   -- ---- the rows of the spans
-  module _ (starts : List Span) (edges : AreEdgeSpans k (Begins (HasNumber k spans) step) starts) (place : ℕ) (front : (r : ℕ) → Contains (take place residues) r → r < step) (stop : (r : ℕ) → slice_get residues place ≡ Some r → step ≤ r) (le : step ≤ k) (in_list : place ≤ length residues) where
+  module _ (starts : List Span) (edges : AreEdgeSpans k (Begins (SpansHaveNumber k spans) step) starts) (place : ℕ) (front : (r : ℕ) → Contains (take place residues) r → r < step) (stop : (r : ℕ) → slice_get residues place ≡ Some r → step ≤ r) (le : step ≤ k) (in_list : place ≤ length residues) where
     -- the residues below the step stand in front
     in_front : (r : ℕ) → Contains residues r → r < step → Contains (take place residues) r
     in_front r l rl = elim (below_or l.0 place) [
@@ -111,7 +105,7 @@ module _ (k high step bound : ℕ) (spans : List Span) (low : 0 < k) (positive :
 
     module _ (texts : List ℕ) where
       set : ℤ → List ℕ → Type 0
-      set = HasWith (HasNumber k spans) texts
+      set = HasWith (SpansHaveNumber k spans) texts
 
       abbrev down_place : ℕ → Moment ℕ
       down_place r = record { number = pos r; texts = texts }
@@ -134,12 +128,12 @@ module _ (k high step bound : ℕ) (spans : List Span) (low : 0 < k) (positive :
         apart = pairs_map ◌≢◌ ◌<◌ down_place (take place residues) (pairs_take ◌<◌ residues place are.ascending) (λ x y _ _ lt e. (let q : pos x ≡ pos y = ap (λ (p : Moment ℕ). p.number) e in absurd (omega (arith, ints))));
         to = λ p h. (
             let t = in_map down_place (take place residues) p h in
-            subst (IsOpenBelow (HasWith (HasNumber k spans) texts) step) t.2 (to t.0 t.1));
+            subst (IsOpenBelow (HasWith (SpansHaveNumber k spans) texts) step) t.2 (to t.0 t.1));
         from = λ p o. (
             let q : pos (nat_abs p.number) ≡ p.number = (let a : pos 0 ≤ℤ p.number = o.residue.low in omega (arith, ints)) in
             let rl : nat_abs p.number < step = (let b : p.number <ℤ pos step = o.residue.high in omega (arith, ints, q)) in
             let first : ℤ = o.bound -ℤ p.number in
-            let g : GoesDown (HasNumber k spans) step (nat_abs p.number) = record {
+            let g : GoesDown (SpansHaveNumber k spans) step (nat_abs p.number) = record {
               below = rl;
               bound = o.bound;
               all = λ x le d. (o.all x le (subst (λ z. Divides (pos step) (x -ℤ z)) q d)).inside;
@@ -165,7 +159,7 @@ module _ (k high step bound : ℕ) (spans : List Span) (low : 0 < k) (positive :
               take_short (suc n) [] = omega arith
               take_short (suc n) (x ∷ xs) = let h : length (take n xs) ≤ length xs = take_short n xs in omega (arith, h)
 
-          to : (r : ℕ) → Contains (take place residues) r → IsOpenBelow (HasWith (HasNumber k spans) texts) step (down_place r)
+          to : (r : ℕ) → Contains (take place residues) r → IsOpenBelow (HasWith (SpansHaveNumber k spans) texts) step (down_place r)
           to r l =
               let rl : r < step = front r l in
               let g = open_down r (part l) rl in
@@ -183,7 +177,7 @@ module _ (k high step bound : ℕ) (spans : List Span) (low : 0 < k) (positive :
               by : (x : ℤ) (ts : List ℕ) → pos (nat_abs x) ≡ x → ts ≡ texts → ◌≡◌ {A = Moment ℕ} (record { number = pos (nat_abs x); texts = texts }) (record { number = x; texts = ts })
               by x ts q t = rw (q, t) refl
 
-      pub has_rows : (n : ℕ) → n ≡ length (places k texts starts) + place → HasRows (HasWith (HasNumber k spans) texts) step n
+      pub has_rows : (n : ℕ) → n ≡ length (places k texts starts) + place → HasRows (HasWith (SpansHaveNumber k spans) texts) step n
       unfolding set
       has_rows n e = record {
         starts = places k texts starts;
@@ -201,7 +195,7 @@ module _ (k high step bound : ℕ) (spans : List Span) (low : 0 < k) (positive :
           length_take (suc n) (x ∷ xs) h = let e : length (take n xs) ≡ n = length_take n xs (omega arith) in omega (arith, e)
 
 -- the count of the rows of spans, from what was counted of both
-pub is_count : (periods : Periods) (spans starts : List Span) (residues : List ℕ) (numbers place made : ℕ) → AreRepeating periods spans → AreEdgeSpans periods.whole (Begins (HasNumber periods.whole spans) periods.least) starts → AreOpenBelow spans residues
+pub is_count : (periods : Periods) (spans starts : List Span) (residues : List ℕ) (numbers place made : ℕ) → AreRepeating periods spans → AreEdgeSpans periods.whole (Begins (SpansHaveNumber periods.whole spans) periods.least) starts → AreOpenBelow spans residues
     → numbers ≡ capped (sum_by turns_of starts) → place ≤ length residues → ((r : ℕ) → Contains (take place residues) r → r < periods.least) → ((r : ℕ) → slice_get residues place ≡ Some r → periods.least ≤ r) → made ≡ min (numbers + place) (2 ^ 64 - 1) → IsCount periods spans made
 is_count periods spans starts residues numbers place made is edges are n inside front stop e = record {
   count = sum_by turns_of starts + place;

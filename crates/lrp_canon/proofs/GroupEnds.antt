@@ -17,7 +17,7 @@ use Rattle.lrp_spans.specs.declared.spans.Span.{Span}
 use Rattle.lrp_spans.specs.Groups.{AreGroups, HoldsNumber, SpanLists}
 use Rattle.lrp_spans.specs.Periods.{IsEndPeriod, RepeatsFar}
 use Rattle.lrp_spans.specs.Repeating.{RepeatsAtEnds}
-use Rattle.lrp_spans.specs.Spans.{AreBelow, HasNumber}
+use Rattle.lrp_spans.specs.Spans.{AreBelow, SpansHaveNumber}
 use Rattle.lrp_spans.proofs.EndSteps.{merged_ordered}
 use Rattle.lrp_spans.proofs.GroupLaws.{group_below, group_numbers, group_valid, merged_below, zone_column}
 use Rattle.lrp_spans.proofs.Lists.{head_in, in_none, map_in}
@@ -102,18 +102,18 @@ no_repeats : (f : ℤ → Type 0) (bound step : ℕ) → ((x : ℤ) → f x → 
 no_repeats f bound step none = record { on = λ x l h. absurd (none x h); back = λ x l h. absurd (none (x +ℤ pos step) h); down = λ x l h. absurd (none x h); up = λ x l h. absurd (none (x -ℤ pos step) h) }
 
 module _ (s : StoreView) (is : IsStore s) (one : s.shape.times ≡ 1) (room : HasReach s (2 ^ 62 - s.period)) (lists : SpanLists) (groups : AreGroups s lists) (periods : Periods) (whole : periods.whole ≡ s.period) (least : IsEndPeriod s.period lists periods.least) where
-  group_repeats : (group : Cell) → RepeatsAtEnds (HasNumber s.period (list_at lists group)) (2 ^ 62 - s.period + 1) periods.least
+  group_repeats : (group : Cell) → RepeatsAtEnds (SpansHaveNumber s.period (list_at lists group)) (2 ^ 62 - s.period + 1) periods.least
   group_repeats group = at (list_at lists group) refl
     where
-      at : (spans : List Span) → list_at lists group ≡ spans → RepeatsAtEnds (HasNumber s.period (list_at lists group)) (2 ^ 62 - s.period + 1) periods.least
-      at [] e = no_repeats (HasNumber s.period (list_at lists group)) (2 ^ 62 - s.period + 1) periods.least (λ x h. in_none h.inside.span (subst (λ l. Contains l h.inside.span) e h.inside.listed))
+      at : (spans : List Span) → list_at lists group ≡ spans → RepeatsAtEnds (SpansHaveNumber s.period (list_at lists group)) (2 ^ 62 - s.period + 1) periods.least
+      at [] e = no_repeats (SpansHaveNumber s.period (list_at lists group)) (2 ^ 62 - s.period + 1) periods.least (λ x h. in_none h.inside.span (subst (λ l. Contains l h.inside.span) e h.inside.listed))
       at (p ∷ ps) e =
           let listed : Contains (list_at lists group) p = subst (λ l. Contains l p) (sym e) (head_in p ps) in
           let n = group_numbers s is one lists groups group p listed in
           let texts : List ℕ = take s.shape.texts group.texts in
-          let f : RepeatsFar (HasNumber s.period (list_at lists group)) periods.least = least.ends group p listed periods.least least.positive (Divides-self (pos periods.least)) in
-          repeats_from (HasNumber s.period (list_at lists group)) s.period (2 ^ 62 - s.period + 1)
-          (same_repeats (λ x. HoldsNumber s x texts) (HasNumber s.period (list_at lists group)) (2 ^ 62 - s.period + 1) s.period n.from n.to (store_repeats s is one room texts)) periods.least f.0 f.1 is.period_low
+          let f : RepeatsFar (SpansHaveNumber s.period (list_at lists group)) periods.least = least.ends group p listed periods.least least.positive (Divides-self (pos periods.least)) in
+          repeats_from (SpansHaveNumber s.period (list_at lists group)) s.period (2 ^ 62 - s.period + 1)
+          (same_repeats (λ x. HoldsNumber s x texts) (SpansHaveNumber s.period (list_at lists group)) (2 ^ 62 - s.period + 1) s.period n.from n.to (store_repeats s is one room texts)) periods.least f.0 f.1 is.period_low
 
   pub groups_repeat : AreRepeatingGroups periods lists
   groups_repeat = record {
@@ -124,8 +124,8 @@ module _ (s : StoreView) (is : IsStore s) (one : s.shape.times ≡ 1) (room : Ha
       divides = subst (λ k. Divides (pos periods.least) (pos k)) (sym whole) least.divides;
       positive = subst (λ k. 0 < k) (sym whole) is.period_low;
       high = subst (λ k. k ≤ 2 ^ 62) (sym whole) is.period_high;
-      repeats = subst (λ k. RepeatsAtEnds (HasNumber k spans) (2 ^ 62 - k + 1) periods.least) (sym whole)
-          (same_repeats (HasNumber s.period (list_at lists group)) (HasNumber s.period spans) (2 ^ 62 - s.period + 1) periods.least
+      repeats = subst (λ k. RepeatsAtEnds (SpansHaveNumber k spans) (2 ^ 62 - k + 1) periods.least) (sym whole)
+          (same_repeats (SpansHaveNumber s.period (list_at lists group)) (SpansHaveNumber s.period spans) (2 ^ 62 - s.period + 1) periods.least
           (λ x h. record { residue = h.residue; turn = h.turn; is = h.is; inside = m.from h.residue h.turn h.inside })
           (λ x h. record { residue = h.residue; turn = h.turn; is = h.is; inside = m.to h.residue h.turn h.inside }) (group_repeats group));
     };

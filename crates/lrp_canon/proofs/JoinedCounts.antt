@@ -11,10 +11,10 @@ use Rattle.lrp_model.specs.declared.tuples.Cell.{Cell}
 use Rattle.lrp_slots.specs.Lists.{list_at}
 use Rattle.lrp_spans.specs.declared.spans.Span.{Span}
 use Rattle.lrp_spans.specs.Groups.{SpanLists}
-use Rattle.lrp_spans.specs.Spans.{AreMerged, HasNumber}
+use Rattle.lrp_spans.specs.Spans.{AreMerged, SpansHaveNumber}
 use Rattle.lrp_spans.proofs.Lists.{in_none, in_one, one_in, pairs_append, pairs_left, pairs_none}
 use Rattle.lrp_canon.specs.declared.edges.Periods.{Periods}
-use Rattle.lrp_canon.specs.Counting.{AreNamed, HasRows, HasWith, InGroups, IsCount, IsCountOf, capped}
+use Rattle.lrp_canon.specs.Counting.{HaveOwnTexts, HasRows, HasWith, InGroups, IsCount, IsCountOf, capped}
 use Rattle.lrp_canon.specs.Rows.{AreJust, IsOpenBelow, IsStart, Moment}
 use Rattle.lrp_canon.proofs.Stepping.{at_least}
 
@@ -168,25 +168,25 @@ module _ (periods : Periods) (lists : SpanLists) (low : 0 < periods.least) where
   more_counted done group spans old more merged o m = record {
     count = o.count + m.count;
     capped = (let a : old ≡ capped o.count = o.capped in let b : more ≡ capped m.count = m.capped in omega (arith, a, b));
-    rows = λ name named. both_rows (InGroups periods.whole lists name done) (HasWith (HasNumber periods.whole spans) (name group)) (InGroups periods.whole lists name (done ++ group ∷ [])) (both name named) periods.least low o.count m.count
+    rows = λ name named. both_rows (InGroups periods.whole lists name done) (HasWith (SpansHaveNumber periods.whole spans) (name group)) (InGroups periods.whole lists name (done ++ group ∷ [])) (both name named) periods.least low o.count m.count
         (o.rows name (pairs_left (λ g h. (p q : Span) → Contains (list_at lists g) p → Contains (list_at lists h) q → name g ≢ name h) done (group ∷ []) named)) (m.rows (name group));
   }
     where
-      number_to : (x : ℤ) → HasNumber periods.whole spans x → HasNumber periods.whole (list_at lists group) x
+      number_to : (x : ℤ) → SpansHaveNumber periods.whole spans x → SpansHaveNumber periods.whole (list_at lists group) x
       number_to x h = record { residue = h.residue; turn = h.turn; is = h.is; inside = merged.to h.residue h.turn h.inside }
 
-      number_from : (x : ℤ) → HasNumber periods.whole (list_at lists group) x → HasNumber periods.whole spans x
+      number_from : (x : ℤ) → SpansHaveNumber periods.whole (list_at lists group) x → SpansHaveNumber periods.whole spans x
       number_from x h = record { residue = h.residue; turn = h.turn; is = h.is; inside = merged.from h.residue h.turn h.inside }
 
-      differ : (name : Cell → List ℕ) → AreNamed lists name (done ++ group ∷ []) → (g : Cell) → Contains done g → (p q : Span) → Contains (list_at lists g) p → Contains (list_at lists group) q → name g ≡ name group → ⊥
+      differ : (name : Cell → List ℕ) → HaveOwnTexts lists name (done ++ group ∷ []) → (g : Cell) → Contains done g → (p q : Span) → Contains (list_at lists g) p → Contains (list_at lists group) q → name g ≡ name group → ⊥
       differ name named g l p q lp lq e = pairs_across (λ a b. (u v : Span) → Contains (list_at lists a) u → Contains (list_at lists b) v → name a ≢ name b) done group named g l p q lp lq e
 
-      both : (name : Cell → List ℕ) → AreNamed lists name (done ++ group ∷ []) → IsBoth (InGroups periods.whole lists name done) (HasWith (HasNumber periods.whole spans) (name group)) (InGroups periods.whole lists name (done ++ group ∷ []))
+      both : (name : Cell → List ℕ) → HaveOwnTexts lists name (done ++ group ∷ []) → IsBoth (InGroups periods.whole lists name done) (HasWith (SpansHaveNumber periods.whole spans) (name group)) (InGroups periods.whole lists name (done ++ group ∷ []))
       both name named = record {
         apart = λ x y texts a b. (let n = number_to y b.inside in differ name named a.group a.listed a.inside.inside.span n.inside.span a.inside.inside.listed n.inside.listed (sym a.named ∙ b.named));
         to = λ x texts h. elim (Contains-append_cases done (group ∷ []) h.group h.listed) [
           | inl l ↦ inl (record { group = h.group; listed = l; named = h.named; inside = h.inside })
-          | inr l ↦ (let e : group ≡ h.group = in_one group h.group l in inr (record { named = h.named ∙ ap name (sym e); inside = number_from x (subst (λ c. HasNumber periods.whole (list_at lists c) x) (sym e) h.inside) }))
+          | inr l ↦ (let e : group ≡ h.group = in_one group h.group l in inr (record { named = h.named ∙ ap name (sym e); inside = number_from x (subst (λ c. SpansHaveNumber periods.whole (list_at lists c) x) (sym e) h.inside) }))
         ];
         left = λ x texts h. record { group = h.group; listed = Contains-append_left done (group ∷ []) h.group h.listed; named = h.named; inside = h.inside };
         right = λ x texts h. record { group = group; listed = Contains-append_right done (group ∷ []) group (one_in group); named = h.named; inside = number_to x h.inside };

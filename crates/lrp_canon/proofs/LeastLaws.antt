@@ -13,7 +13,7 @@ use Rattle.lrp_store.proofs.Counted.{key_held}
 use Rattle.lrp_spans.specs.declared.spans.Span.{Span}
 use Rattle.lrp_spans.specs.Groups.{AreGroups, AreNumbersOf, HoldsNumber, SpanLists, group_cell}
 use Rattle.lrp_spans.specs.Periods.{AreSpanLists, IsEndPeriod, RepeatsFar}
-use Rattle.lrp_spans.specs.Spans.{HasNumber}
+use Rattle.lrp_spans.specs.Spans.{SpansHaveNumber}
 use Rattle.lrp_spans.proofs.GroupLaws.{group_below, group_numbers, group_valid}
 use Rattle.lrp_spans.proofs.Lists.{head_in, in_map, in_none, map_in}
 use Rattle.lrp_spans.proofs.Repeats.{divisor_le}
@@ -23,7 +23,7 @@ use Rattle.lrp_canon.proofs.RowMaking.{rows_of_ends}
 use Rattle.lrp_canon.proofs.SpanDecisions.{decided_number}
 
 -- no span, no number
-none_far : (k step : ℕ) → RepeatsFar (HasNumber k []) step
+none_far : (k step : ℕ) → RepeatsFar (SpansHaveNumber k []) step
 none_far k step = (
   0,
   record {
@@ -47,11 +47,11 @@ module _ (s : StoreView) (is : IsStore s) (one : s.shape.times ≡ 1) (lists : S
   span_lists = record { each = group_valid s is one lists groups; below = group_below s is one lists groups }
 
   -- each group repeats by each period of rows that give the store
-  group_far : (other : ℕ) → IsSetOfRows (HoldsNumber s) other → (group : Cell) → RepeatsFar (HasNumber s.period (list_at lists group)) other
+  group_far : (other : ℕ) → IsSetOfRows (HoldsNumber s) other → (group : Cell) → RepeatsFar (SpansHaveNumber s.period (list_at lists group)) other
   group_far other rows group = at (list_at lists group) refl
     where
-      at : (spans : List Span) → list_at lists group ≡ spans → RepeatsFar (HasNumber s.period (list_at lists group)) other
-      at [] e = subst (λ l. RepeatsFar (HasNumber s.period l) other) (sym e) (none_far s.period other)
+      at : (spans : List Span) → list_at lists group ≡ spans → RepeatsFar (SpansHaveNumber s.period (list_at lists group)) other
+      at [] e = subst (λ l. RepeatsFar (SpansHaveNumber s.period l) other) (sym e) (none_far s.period other)
       at (p ∷ ps) e =
           let n = group_numbers s is one lists groups group p (subst (λ l. Contains l p) (sym e) (head_in p ps)) in
           let f = set_repeats (HoldsNumber s) other rows in

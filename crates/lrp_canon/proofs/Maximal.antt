@@ -12,8 +12,8 @@ use Rattle.lrp_matrix.specs.Ranges.{Above}
 use Rattle.lrp_spans.specs.Repeating.{RepeatsAtEnds}
 use Rattle.lrp_canon.specs.declared.edges.Edge.{Edge}
 use Rattle.lrp_canon.specs.declared.rows.Row.{Row}
-use Rattle.lrp_canon.specs.Edges.{AreBeginnings, AreStops, Begins, IsBeginning, IsEarlier, IsEdgeAt, IsSooner, Stops}
-use Rattle.lrp_canon.specs.Making.{AreRowsOf, EndsAt, IsAhead, IsInside, IsRow, IsRowEnd, IsRowFrom, LieApart}
+use Rattle.lrp_canon.specs.Edges.{AreBeginnings, AreStops, Begins, IsBeginning, IsEarlier, IsEdgeAt, IsSooner, StopsAt}
+use Rattle.lrp_canon.specs.Making.{AreRowsOf, EndsAt, IsEdgeAhead, IsInside, IsRow, IsRowEnd, IsRowFrom, LieApart}
 use Rattle.lrp_canon.specs.Pairing.{AreRowsFrom}
 use Rattle.lrp_canon.proofs.Stepping.{at_least, between, deep_all, one_rest, rest_of, same_apart, times_of}
 
@@ -38,7 +38,7 @@ edge_is period x r e l d is =
 module _ (set : ℤ → Type 0) (either : (x : ℤ) → set x ⊎ (set x → ⊥)) (period bound : ℕ) (low : 0 < period) (ends : RepeatsAtEnds set bound period)
     (starts stops : List Edge) (begin : AreBeginnings set period starts) (stop : AreStops set period stops) where
   -- from a number of the set on, up to the first stop, all are in the set
-  climb : (n : ℕ) (x : ℤ) → set x → ((y : ℤ) → x <ℤ y → y ≤ℤ (x +ℤ pos (period * n)) → Divides (pos period) (y -ℤ x) → Stops set period y → ⊥) → set (x +ℤ pos (period * n))
+  climb : (n : ℕ) (x : ℤ) → set x → ((y : ℤ) → x <ℤ y → y ≤ℤ (x +ℤ pos (period * n)) → Divides (pos period) (y -ℤ x) → StopsAt set period y → ⊥) → set (x +ℤ pos (period * n))
   climb zero x h none = let z : period * 0 ≡ 0 = omega arith in let e : x ≡ x +ℤ pos (period * 0) = omega (arith, ints, z) in subst set e h
   climb (suc n) x h none =
       let z : period * suc n ≡ period + period * n = omega arith in
@@ -52,10 +52,10 @@ module _ (set : ℤ → Type 0) (either : (x : ℤ) → set x ⊎ (set x → ⊥
       ]
 
   -- stops lie between the bounds
-  stop_low : (x : ℤ) → Stops set period x → neg_ℤ (pos bound) <ℤ x
+  stop_low : (x : ℤ) → StopsAt set period x → neg_ℤ (pos bound) <ℤ x
   stop_low x s = by_lt_z (neg_ℤ (pos bound)) x (λ lt. lt) (λ le. absurd (s.over (ends.up x le s.inside)))
 
-  stop_high : (x : ℤ) → Stops set period x → x <ℤ pos (bound + period)
+  stop_high : (x : ℤ) → StopsAt set period x → x <ℤ pos (bound + period)
   stop_high x s =
       let e : (x -ℤ pos period) +ℤ pos period ≡ x = omega (arith, ints) in
       by_lt_z x (pos (bound + period)) (λ lt. lt) (λ le. absurd (s.over (subst set e (ends.on (x -ℤ pos period) (omega (arith, ints)) s.inside))))
@@ -66,7 +66,7 @@ module _ (set : ℤ → Type 0) (either : (x : ℤ) → set x ⊎ (set x → ⊥
     pub listed : Contains starts edge
     pub residue : edge.residue ≡ r
     pub above : Above x edge.number
-    pub none : (y : ℤ) → Above y edge.number → y ≤ℤ x → Divides (pos period) (y -ℤ pos r) → Stops set period y → ⊥
+    pub none : (y : ℤ) → Above y edge.number → y ≤ℤ x → Divides (pos period) (y -ℤ pos r) → StopsAt set period y → ⊥
 
   descend : (n : ℕ) (x : ℤ) (r : ℕ) → r < period → Divides (pos period) (x -ℤ pos r) → x ≤ℤ (pos n -ℤ pos bound) → set x → IsUnder x r
   descend zero x r rl d l h = record {
@@ -109,10 +109,10 @@ module _ (set : ℤ → Type 0) (either : (x : ℤ) → set x ⊎ (set x → ⊥
   -- ---- one row
   module _ (e : Edge) (listed : Contains starts e) (row : Row) (from : IsRowFrom period stops e row) where
     -- a stop of this residue behind the start is behind the row
-    stop_ahead : (y : ℤ) → Above y e.number → Divides (pos period) (y -ℤ pos e.residue) → Stops set period y → IsAhead stops e y
+    stop_ahead : (y : ℤ) → Above y e.number → Divides (pos period) (y -ℤ pos e.residue) → StopsAt set period y → IsEdgeAhead stops e y
     stop_ahead y a d s = (let t = stop.from y s in record { listed = subst (Contains stops) (edge_is period y e.residue t.0 (begin.below e listed) d t.1) t.2; later = a })
 
-    behind : (x y : ℤ) → Within x row.most → IsAhead stops e y → x <ℤ y
+    behind : (x y : ℤ) → Within x row.most → IsEdgeAhead stops e y → x <ℤ y
     behind x y w a = by row.most from.most w
       where
         by : (b : Option ℤ) → EndsAt period stops e b → Within x b → x <ℤ y
@@ -147,7 +147,7 @@ module _ (set : ℤ → Type 0) (either : (x : ℤ) → set x ⊎ (set x → ⊥
             from_number a x g.0.inside le (subst (Above a) (sym q) (omega (arith, ints))) g.1 i
 
     -- a number of the set that is under no stop behind the start is in the row
-    pub row_from : (x : ℤ) → e.residue < period → Divides (pos period) (x -ℤ pos e.residue) → Above x e.number → ((y : ℤ) → Above y e.number → y ≤ℤ x → Divides (pos period) (y -ℤ pos e.residue) → Stops set period y → ⊥) → IsInside period row x
+    pub row_from : (x : ℤ) → e.residue < period → Divides (pos period) (x -ℤ pos e.residue) → Above x e.number → ((y : ℤ) → Above y e.number → y ≤ℤ x → Divides (pos period) (y -ℤ pos e.residue) → StopsAt set period y → ⊥) → IsInside period row x
     row_from x rl d a none = record {
       residue = subst (λ q. Divides (pos period) (x -ℤ pos q)) (sym from.residue) d;
       low = subst (Above x) (sym from.least) a;
@@ -161,7 +161,7 @@ module _ (set : ℤ → Type 0) (either : (x : ℤ) → set x ⊎ (set x → ⊥
             let s = stop.to (record { residue = e.residue; number = Some (b +ℤ pos period) }) t.0.listed in
             let n : Some (b +ℤ pos period) ≡ Some s.0 = s.2.number in
             let q : s.0 ≡ b +ℤ pos period = cc in
-            let st : Stops set period (b +ℤ pos period) = subst (Stops set period) q s.1 in
+            let st : StopsAt set period (b +ℤ pos period) = subst (StopsAt set period) q s.1 in
             let ds : Divides (pos period) ((b +ℤ pos period) -ℤ pos e.residue) = subst (λ v. Divides (pos period) (v -ℤ pos e.residue)) q s.2.residue in
             let db : Divides (pos period) (b -ℤ pos e.residue) = Divides-is (pos period) (((b +ℤ pos period) -ℤ pos e.residue) -ℤ pos period) _ (omega (arith, ints)) (Divides-- (pos period) _ _ ds (Divides-self (pos period))) in
             let l : (b +ℤ pos period) ≤ℤ x = same_apart period (pos e.residue) b x low db d lt in
@@ -182,13 +182,13 @@ module _ (set : ℤ → Type 0) (either : (x : ℤ) → set x ⊎ (set x → ⊥
         least None g s = tt
         least (Some a) g s = (g.1, s)
 
-        end_divides : (b : ℤ) → IsAhead stops e (b +ℤ pos period) → Stops set period (b +ℤ pos period) × Divides (pos period) (b -ℤ pos e.residue)
+        end_divides : (b : ℤ) → IsEdgeAhead stops e (b +ℤ pos period) → StopsAt set period (b +ℤ pos period) × Divides (pos period) (b -ℤ pos e.residue)
         end_divides b a =
             let s = stop.to (record { residue = e.residue; number = Some (b +ℤ pos period) }) a.listed in
             let n : Some (b +ℤ pos period) ≡ Some s.0 = s.2.number in
             let q : s.0 ≡ b +ℤ pos period = cc in
             let ds : Divides (pos period) ((b +ℤ pos period) -ℤ pos e.residue) = subst (λ v. Divides (pos period) (v -ℤ pos e.residue)) q s.2.residue in
-            (subst (Stops set period) q s.1, Divides-is (pos period) (((b +ℤ pos period) -ℤ pos e.residue) -ℤ pos period) _ (omega (arith, ints)) (Divides-- (pos period) _ _ ds (Divides-self (pos period))))
+            (subst (StopsAt set period) q s.1, Divides-is (pos period) (((b +ℤ pos period) -ℤ pos e.residue) -ℤ pos period) _ (omega (arith, ints)) (Divides-- (pos period) _ _ ds (Divides-self (pos period))))
 
         most : (b : Option ℤ) → EndsAt period stops e b → IsRowEnd period e.residue b
         most None t = tt

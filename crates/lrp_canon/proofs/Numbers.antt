@@ -9,7 +9,7 @@ use Rattle.std.proofs.lemmas.List.Elements.{Contains-append_cases, Contains-appe
 use Rattle.lrp_theory.specs.Bounds.{Within}
 use Rattle.lrp_matrix.specs.Ranges.{Above}
 use Rattle.lrp_spans.specs.declared.spans.Span.{Span}
-use Rattle.lrp_spans.specs.Spans.{AreBelow, ComesBefore, HasNumber, HasTurn, IsSpan}
+use Rattle.lrp_spans.specs.Spans.{AreBelow, SpanComesBefore, SpansHaveNumber, HasTurn, IsSpan}
 use Rattle.lrp_spans.proofs.Lists.{in_cons, in_map, in_none, in_one, later, head_in, map_in, pairs_append, pairs_head, pairs_map, pairs_none, pairs_one, pairs_right}
 use Rattle.lrp_canon.specs.Counting.{capped, turns_between, turns_of}
 use Rattle.lrp_canon.specs.Edges.{HasEnds}
@@ -111,7 +111,7 @@ module _ (s : Span) (high : ℕ) (valid : IsSpan high s) (ends : HasEnds s) wher
 
 module _ (k high : ℕ) (texts : List ℕ) where
   -- ---- all numbers of spans
-  pub in_places : (spans : List Span) → ((s : Span) → Contains spans s → IsSpan high s) → ((s : Span) → Contains spans s → HasEnds s) → (p : Moment ℕ) → Contains (places k texts spans) p → (p.texts ≡ texts) × HasNumber k spans p.number
+  pub in_places : (spans : List Span) → ((s : Span) → Contains spans s → IsSpan high s) → ((s : Span) → Contains spans s → HasEnds s) → (p : Moment ℕ) → Contains (places k texts spans) p → (p.texts ≡ texts) × SpansHaveNumber k spans p.number
   unfolding places places_in place
   in_places [] valid ends p h = absurd (in_none p h)
   in_places (s ∷ spans) valid ends p h = elim (Contains-append_cases (places_in k texts s) (places k texts spans) p h) [
@@ -122,7 +122,7 @@ module _ (k high : ℕ) (texts : List ℕ) where
         ))
     | inr a ↦ (
         let t = in_places spans (λ q l. valid q (later s spans q l)) (λ q l. ends q (later s spans q l)) p a in
-        let n : HasNumber k spans p.number = t.1 in
+        let n : SpansHaveNumber k spans p.number = t.1 in
         (t.0, record { residue = n.residue; turn = n.turn; is = n.is; inside = record { span = n.inside.span; listed = later s spans n.inside.span n.inside.listed; is = n.inside.is } }))
   ]
 
@@ -136,7 +136,7 @@ module _ (k high : ℕ) (texts : List ℕ) where
     | inr m ↦ Contains-append_right (places_in k texts v) (places k texts spans) (place k texts s.residue n) (from_span spans (λ q l. valid q (later v spans q l)) (λ q l. ends q (later v spans q l)) s m n h)
   ]
 
-  pub of_places : (spans : List Span) → ((s : Span) → Contains spans s → IsSpan high s) → ((s : Span) → Contains spans s → HasEnds s) → (x : ℤ) → HasNumber k spans x → Contains (places k texts spans) (record { number = x; texts = texts })
+  pub of_places : (spans : List Span) → ((s : Span) → Contains spans s → IsSpan high s) → ((s : Span) → Contains spans s → HasEnds s) → (x : ℤ) → SpansHaveNumber k spans x → Contains (places k texts spans) (record { number = x; texts = texts })
   unfolding place
   of_places spans valid ends x h =
       let s : Span = h.inside.span in
@@ -145,7 +145,7 @@ module _ (k high : ℕ) (texts : List ℕ) where
       (from_span spans valid ends s h.inside.listed h.turn (record { residue = refl; low = h.inside.is.low; high = h.inside.is.high }))
 
   -- numbers of spans that come one before the other differ
-  differ : (s : Span) (spans : List Span) → 0 < k → s.residue < k → AreBelow k spans → ((v : Span) → Contains spans v → ComesBefore s v) → (n : ℤ) → HasTurn s s.residue n → HasNumber k spans (pos s.residue +ℤ (pos k *ℤ n)) → ⊥
+  differ : (s : Span) (spans : List Span) → 0 < k → s.residue < k → AreBelow k spans → ((v : Span) → Contains spans v → SpanComesBefore s v) → (n : ℤ) → HasTurn s s.residue n → SpansHaveNumber k spans (pos s.residue +ℤ (pos k *ℤ n)) → ⊥
   differ s spans low sl below before n t h =
       let v : Span = h.inside.span in
       let hl : h.residue < k = subst (λ r. r < k) h.inside.is.residue (below v h.inside.listed) in
@@ -153,7 +153,7 @@ module _ (k high : ℕ) (texts : List ℕ) where
       let f : n ≡ h.turn = one_turn k s.residue h.residue n h.turn sl hl h.is in
       of v (e ∙ sym h.inside.is.residue) (subst (λ m. HasTurn v h.residue m) (sym f) h.inside.is) (before v h.inside.listed)
     where
-      of : (v : Span) → s.residue ≡ v.residue → HasTurn v h.residue n → ComesBefore s v → ⊥
+      of : (v : Span) → s.residue ≡ v.residue → HasTurn v h.residue n → SpanComesBefore s v → ⊥
       of v e i (inl a) = absurd (omega (arith, a, e))
       of v e i (inr b) =
           let a : n ≤ℤ b.1.end = subst (Within n) b.1.ends t.high in
@@ -165,12 +165,12 @@ module _ (k high : ℕ) (texts : List ℕ) where
   unfolding place
   same_turn r n m low rl e = one_turn k r r n m rl rl (ap (λ (q : Moment ℕ). q.number) e)
 
-  pub places_apart : (spans : List Span) → 0 < k → ((s : Span) → Contains spans s → IsSpan high s) → ((s : Span) → Contains spans s → HasEnds s) → AreBelow k spans → AllPairs ComesBefore spans → AllPairs ◌≢◌ (places k texts spans)
+  pub places_apart : (spans : List Span) → 0 < k → ((s : Span) → Contains spans s → IsSpan high s) → ((s : Span) → Contains spans s → HasEnds s) → AreBelow k spans → AllPairs SpanComesBefore spans → AllPairs ◌≢◌ (places k texts spans)
   unfolding places places_in place
   places_apart [] low valid ends below all = pairs_none ◌≢◌
   places_apart (s ∷ spans) low valid ends below all = pairs_append ◌≢◌ (places_in k texts s) (places k texts spans)
       (pairs_map ◌≢◌ ◌<ℤ◌ (place k texts s.residue) (turns (start_of s.first) (turns_of s)) (turns_apart (start_of s.first) (turns_of s)) (λ n m ln lm lt e. (let f : n ≡ m = same_turn s.residue n m low (below s (head_in s spans)) e in absurd (omega (arith, ints)))))
-      (places_apart spans low (λ q l. valid q (later s spans q l)) (λ q l. ends q (later s spans q l)) (λ q l. below q (later s spans q l)) (pairs_right ComesBefore (s ∷ []) spans all))
+      (places_apart spans low (λ q l. valid q (later s spans q l)) (λ q l. ends q (later s spans q l)) (λ q l. below q (later s spans q l)) (pairs_right SpanComesBefore (s ∷ []) spans all))
       (λ p q a b e. across p q a b e)
     where
       across : (p q : Moment ℕ) → Contains (map (place k texts s.residue) (turns (start_of s.first) (turns_of s))) p → Contains (places k texts spans) q → p ≡ q → ⊥
@@ -178,8 +178,8 @@ module _ (k high : ℕ) (texts : List ℕ) where
           let t = in_map (place k texts s.residue) (turns (start_of s.first) (turns_of s)) p a in
           let i = in_places spans (λ v l. valid v (later s spans v l)) (λ v l. ends v (later s spans v l)) q b in
           let f : q.number ≡ pos s.residue +ℤ (pos k *ℤ t.0) = ap (λ (v : Moment ℕ). v.number) (sym e ∙ sym t.2) in
-          differ s spans low (below s (head_in s spans)) (λ v l. below v (later s spans v l)) (pairs_head ComesBefore s spans all) t.0
-          (turn_to s high (valid s (head_in s spans)) (ends s (head_in s spans)) t.0 t.1) (subst (HasNumber k spans) f i.1)
+          differ s spans low (below s (head_in s spans)) (λ v l. below v (later s spans v l)) (pairs_head SpanComesBefore s spans all) t.0
+          (turn_to s high (valid s (head_in s spans)) (ends s (head_in s spans)) t.0 t.1) (subst (SpansHaveNumber k spans) f i.1)
 
 -- one more span is counted
 pub counted_more : (spans : List Span) (i : ℕ) (d : Span) (old more new : ℕ) → i < length spans → old ≡ capped (sum_by turns_of (take i spans)) → more ≡ turns_of (get_or spans i d) → new ≡ min (old + more) (2 ^ 64 - 1) → new ≡ capped (sum_by turns_of (take (i + 1) spans))

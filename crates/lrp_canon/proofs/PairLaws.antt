@@ -8,7 +8,7 @@ use Rattle.lrp_spans.proofs.Lists.{below_or, head_in, pairs_head, pairs_right}
 use Rattle.lrp_canon.specs.declared.edges.Edge.{Edge}
 use Rattle.lrp_canon.specs.declared.rows.Row.{Row}
 use Rattle.lrp_canon.specs.Edges.{AreStops, IsEarlier, IsSooner}
-use Rattle.lrp_canon.specs.Making.{EndsAt, IsAhead, IsRowFrom}
+use Rattle.lrp_canon.specs.Making.{EndsAt, IsEdgeAhead, IsRowFrom}
 use Rattle.lrp_canon.specs.Pairing.{AreRowsFrom, AreStopEdges}
 
 pub some_get : {X : Type 0} (xs : List X) (i : ℕ) (x : X) → i < length xs → get_or xs i x ≡ x → slice_get xs i ≡ Some x
@@ -19,7 +19,7 @@ some_get (y ∷ xs) (suc i) x h e = some_get xs i x (omega arith) e
 module _ (period : ℕ) (stops : List Edge) (is : AreStopEdges period stops) (place : ℕ) (start : Edge)
     (before : (e : Edge) → Contains (take place stops) e → IsEarlier e start) (stop : (e : Edge) → slice_get stops place ≡ Some e → IsEarlier e start → ⊥) where
   -- an edge that is ahead stands at the place or behind it
-  not_front : (y : ℤ) (a : IsAhead stops start y) → a.listed.0 < place → ⊥
+  not_front : (y : ℤ) (a : IsEdgeAhead stops start y) → a.listed.0 < place → ⊥
   not_front y a l =
       let n : a.listed.0 < length stops = a.listed.1 in
       let e : Edge = record { residue = start.residue; number = Some y } in
@@ -48,7 +48,7 @@ module _ (period : ℕ) (stops : List Edge) (is : AreStopEdges period stops) (pl
     found = some_get stops place here l at
 
     -- the stop at the place is that edge, or comes before it
-    at_or_before : (y : ℤ) (a : IsAhead stops start y) → (here ≡ record { residue = start.residue; number = Some y } → ⊥) → IsEarlier here (record { residue = start.residue; number = Some y })
+    at_or_before : (y : ℤ) (a : IsEdgeAhead stops start y) → (here ≡ record { residue = start.residue; number = Some y } → ⊥) → IsEarlier here (record { residue = start.residue; number = Some y })
     at_or_before y a ne =
         let e : Edge = record { residue = start.residue; number = Some y } in
         let n : a.listed.0 < length stops = a.listed.1 in
@@ -86,7 +86,7 @@ module _ (period : ℕ) (stops : List Edge) (is : AreStopEdges period stops) (pl
             (λ lt. absurd (stop here found (inr (same, subst (IsSooner here.number) (sym e) (subst (λ v. IsSooner v (Some c)) (sym (num ∙ ap Some back)) lt)))))
             (λ le. le))
 
-        least : (y : ℤ) → IsAhead stops start y → (b +ℤ pos period) ≤ℤ y
+        least : (y : ℤ) → IsEdgeAhead stops start y → (b +ℤ pos period) ≤ℤ y
         least y a = by_lt_z y (b +ℤ pos period)
             (λ lt. absurd (of lt (at_or_before y a (λ e. (let q : Some n ≡ Some y = sym num ∙ ap (λ (v : Edge). v.number) e in let r : n ≡ y = cc in absurd (omega (arith, ints)))))))
             (λ le. le)

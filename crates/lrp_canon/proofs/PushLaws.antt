@@ -12,11 +12,11 @@ use Rattle.lrp_theory.proofs.Modulo.{Divides-+, Divides-is}
 use Rattle.lrp_theory.proofs.Multiples.{Divides-multiple, Divides-trans}
 use Rattle.lrp_matrix.specs.Ranges.{Above}
 use Rattle.lrp_spans.specs.declared.spans.Span.{Span}
-use Rattle.lrp_spans.specs.Spans.{AreOpenBelow, HasNumber, HasTurn}
+use Rattle.lrp_spans.specs.Spans.{AreOpenBelow, SpansHaveNumber, HasTurn}
 use Rattle.lrp_spans.proofs.Lists.{in_none, in_one, one_in}
 use Rattle.lrp_canon.specs.declared.edges.Edge.{Edge}
 use Rattle.lrp_canon.specs.declared.edges.Periods.{Periods}
-use Rattle.lrp_canon.specs.Edges.{AddsEdges, AddsOpen, AreBeginnings, AreEdgeNumbers, AreEdgeSpans, AreInOrder, AreRepeating, AreStops, Begins, IsBeginning, IsEdgeAt, Stops}
+use Rattle.lrp_canon.specs.Edges.{AddsEdges, AddsOpen, AreBeginnings, AreEdgeNumbers, AreEdgeSpans, AreInOrder, AreRepeating, AreStops, Begins, IsBeginning, IsEdgeAt, StopsAt}
 use Rattle.lrp_canon.proofs.EdgeLaws.{step_of}
 use Rattle.lrp_canon.proofs.GroupCounts.{down_open, open_down}
 
@@ -94,8 +94,8 @@ turns_next periods r first turn next x old now new edge low divides le en ex er 
     (λ y h. by_lt_z h.turn turn (λ lt. inl (record { turn = h.turn; low = h.low; high = lt; is = h.is }))
     (λ ge. inr (let p : h.turn <ℤ next = h.high in let q : h.turn ≡ turn = omega (arith, ints) in h.is ∙ ap (λ n. pos r +ℤ (pos periods.whole *ℤ n)) q ∙ sym ex)))
 
-pub turns_end : (periods : Periods) (span : Span) (first last end : ℤ) (old new : List Edge) → span.first ≡ Some first → span.last ≡ Some last → end ≡ last +ℤ pos 1 → AddsEdges periods.least (IsInTurns periods.whole span.residue first end) old new → AddsEdges periods.least (HasNumber periods.whole (span ∷ [])) old new
-turns_end periods span first last end old new ef el ee a = edges_same periods.least (IsInTurns periods.whole span.residue first end) (HasNumber periods.whole (span ∷ [])) old new
+pub turns_end : (periods : Periods) (span : Span) (first last end : ℤ) (old new : List Edge) → span.first ≡ Some first → span.last ≡ Some last → end ≡ last +ℤ pos 1 → AddsEdges periods.least (IsInTurns periods.whole span.residue first end) old new → AddsEdges periods.least (SpansHaveNumber periods.whole (span ∷ [])) old new
+turns_end periods span first last end old new ef el ee a = edges_same periods.least (IsInTurns periods.whole span.residue first end) (SpansHaveNumber periods.whole (span ∷ [])) old new
     (λ y h. record {
       residue = span.residue;
       turn = h.turn;
@@ -118,12 +118,12 @@ turns_end periods span first last end old new ef el ee a = edges_same periods.le
     a
 
 -- ---- span after span
-pub spans_begin : (periods : Periods) (spans : List Span) (old : List Edge) → AddsEdges periods.least (HasNumber periods.whole (take 0 spans)) old old
-spans_begin periods spans old = edges_none periods.least (HasNumber periods.whole (take 0 spans)) old (λ x h. in_none h.inside.span h.inside.listed)
+pub spans_begin : (periods : Periods) (spans : List Span) (old : List Edge) → AddsEdges periods.least (SpansHaveNumber periods.whole (take 0 spans)) old old
+spans_begin periods spans old = edges_none periods.least (SpansHaveNumber periods.whole (take 0 spans)) old (λ x h. in_none h.inside.span h.inside.listed)
 
-pub spans_next : (periods : Periods) (spans : List Span) (i : ℕ) (d : Span) (old now new : List Edge) → i < length spans → AddsEdges periods.least (HasNumber periods.whole (get_or spans i d ∷ [])) now new → AddsEdges periods.least (HasNumber periods.whole (take i spans)) old now
-    → AddsEdges periods.least (HasNumber periods.whole (take (i + 1) spans)) old new
-spans_next periods spans i d old now new l b a = edges_both periods.least (HasNumber periods.whole (take i spans)) (HasNumber periods.whole (get_or spans i d ∷ [])) (HasNumber periods.whole (take (i + 1) spans)) old now new a b
+pub spans_next : (periods : Periods) (spans : List Span) (i : ℕ) (d : Span) (old now new : List Edge) → i < length spans → AddsEdges periods.least (SpansHaveNumber periods.whole (get_or spans i d ∷ [])) now new → AddsEdges periods.least (SpansHaveNumber periods.whole (take i spans)) old now
+    → AddsEdges periods.least (SpansHaveNumber periods.whole (take (i + 1) spans)) old new
+spans_next periods spans i d old now new l b a = edges_both periods.least (SpansHaveNumber periods.whole (take i spans)) (SpansHaveNumber periods.whole (get_or spans i d ∷ [])) (SpansHaveNumber periods.whole (take (i + 1) spans)) old now new a b
     (λ y h. record { residue = h.residue; turn = h.turn; is = h.is; inside = record { span = h.inside.span; listed = subst (λ xs. Contains xs h.inside.span) (sym more) (Contains-append_left (take i spans) (get_or spans i d ∷ []) h.inside.span h.inside.listed); is = h.inside.is } })
     (λ y h. record { residue = h.residue; turn = h.turn; is = h.is; inside = record { span = h.inside.span; listed = subst (λ xs. Contains xs h.inside.span) (sym more) (Contains-append_right (take i spans) (get_or spans i d ∷ []) h.inside.span h.inside.listed); is = h.inside.is } })
     (λ y h. elim (Contains-append_cases (take i spans) (get_or spans i d ∷ []) h.inside.span (subst (λ xs. Contains xs h.inside.span) more h.inside.listed)) [
@@ -134,8 +134,8 @@ spans_next periods spans i d old now new l b a = edges_both periods.least (HasNu
     more : take (i + 1) spans ≡ take i spans ++ get_or spans i d ∷ []
     more = take_more spans i d l
 
-pub spans_all : (periods : Periods) (spans : List Span) (i : ℕ) (old new : List Edge) → length spans ≤ i → AddsEdges periods.least (HasNumber periods.whole (take i spans)) old new → AddsEdges periods.least (HasNumber periods.whole spans) old new
-spans_all periods spans i old new l a = subst (λ xs. AddsEdges periods.least (HasNumber periods.whole xs) old new) (take_all i spans l) a
+pub spans_all : (periods : Periods) (spans : List Span) (i : ℕ) (old new : List Edge) → length spans ≤ i → AddsEdges periods.least (SpansHaveNumber periods.whole (take i spans)) old new → AddsEdges periods.least (SpansHaveNumber periods.whole spans) old new
+spans_all periods spans i old new l a = subst (λ xs. AddsEdges periods.least (SpansHaveNumber periods.whole xs) old new) (take_all i spans l) a
 
 -- what the numbers of spans ask for holds of each span alone
 pub edge_numbers_at : (periods : Periods) (spans : List Span) (s : Span) → Contains spans s → AreEdgeNumbers periods spans → AreEdgeNumbers periods (s ∷ [])
@@ -198,16 +198,16 @@ opens_all period residues i old new l a = subst (λ xs. AddsOpen period xs old n
 -- ---- all edges in order
 module _ (periods : Periods) (spans : List Span) (is : AreRepeating periods spans) where
   abbrev set : ℤ → Type 0
-  set = HasNumber periods.whole spans
+  set = SpansHaveNumber periods.whole spans
 
-  pub beginnings_are : (residues : List ℕ) (starts : List Span) (none some now edges : List Edge) → AreOpenBelow spans residues → AreEdgeSpans periods.whole (Begins (HasNumber periods.whole spans) periods.least) starts → none ≡ []
-      → AddsOpen periods.least residues none some → AddsEdges periods.least (HasNumber periods.whole starts) some now → AreInOrder now edges → AreBeginnings (HasNumber periods.whole spans) periods.least edges
+  pub beginnings_are : (residues : List ℕ) (starts : List Span) (none some now edges : List Edge) → AreOpenBelow spans residues → AreEdgeSpans periods.whole (Begins (SpansHaveNumber periods.whole spans) periods.least) starts → none ≡ []
+      → AddsOpen periods.least residues none some → AddsEdges periods.least (SpansHaveNumber periods.whole starts) some now → AreInOrder now edges → AreBeginnings (SpansHaveNumber periods.whole spans) periods.least edges
   beginnings_are residues starts none some now edges are ends e a b order = record {
     apart = order.apart;
     below = λ f l. elim (kinds f l) [ inl o ↦ o.1 | inr o ↦ o.2.below ];
     to = λ f l. elim (kinds f l) [
-      | inl o ↦ subst (IsBeginning (HasNumber periods.whole spans) periods.least f.residue) (sym o.0) (open_down periods.whole (2 ^ 62) periods.least (2 ^ 62 - periods.whole + 1) spans is.positive is.low is.divides is.ordered.each is.below is.repeats residues are f.residue o.2 o.1)
-      | inr o ↦ subst (IsBeginning (HasNumber periods.whole spans) periods.least f.residue) (sym o.2.number) (ends.to o.0 o.1, o.2.residue)
+      | inl o ↦ subst (IsBeginning (SpansHaveNumber periods.whole spans) periods.least f.residue) (sym o.0) (open_down periods.whole (2 ^ 62) periods.least (2 ^ 62 - periods.whole + 1) spans is.positive is.low is.divides is.ordered.each is.below is.repeats residues are f.residue o.2 o.1)
+      | inr o ↦ subst (IsBeginning (SpansHaveNumber periods.whole spans) periods.least f.residue) (sym o.2.number) (ends.to o.0 o.1, o.2.residue)
     ];
     from = λ x s. (let f = b.from x (ends.from x s) in (f.0, f.1, order.from f.0 f.2));
     down = λ r g. order.from (record { residue = r; number = None }) (b.kept (record { residue = r; number = None })
@@ -219,14 +219,14 @@ module _ (periods : Periods) (spans : List Span) (is : AreRepeating periods span
     ];
   }
     where
-      kinds : (f : Edge) → Contains edges f → ((f.number ≡ None) × (f.residue < periods.least) × Contains residues f.residue) ⊎ ((x : ℤ) × HasNumber periods.whole starts x × IsEdgeAt periods.least x f)
+      kinds : (f : Edge) → Contains edges f → ((f.number ≡ None) × (f.residue < periods.least) × Contains residues f.residue) ⊎ ((x : ℤ) × SpansHaveNumber periods.whole starts x × IsEdgeAt periods.least x f)
       kinds f l = elim (b.to f (order.to f l)) [
         | inl m ↦ elim (a.to f m) [ inl o ↦ absurd (in_none f (subst (λ xs. Contains xs f) e o)) | inr o ↦ inl o ]
         | inr m ↦ inr m
       ]
 
-  pub stops_edges : (ends : List Span) (none now edges : List Edge) → AreEdgeSpans periods.whole (Stops (HasNumber periods.whole spans) periods.least) ends → none ≡ []
-      → AddsEdges periods.least (HasNumber periods.whole ends) none now → AreInOrder now edges → AreStops (HasNumber periods.whole spans) periods.least edges
+  pub stops_edges : (ends : List Span) (none now edges : List Edge) → AreEdgeSpans periods.whole (StopsAt (SpansHaveNumber periods.whole spans) periods.least) ends → none ≡ []
+      → AddsEdges periods.least (SpansHaveNumber periods.whole ends) none now → AreInOrder now edges → AreStops (SpansHaveNumber periods.whole spans) periods.least edges
   stops_edges ends none now edges are e a order = record {
     apart = order.apart;
     to = λ f l. elim (a.to f (order.to f l)) [

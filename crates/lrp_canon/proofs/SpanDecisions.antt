@@ -8,7 +8,7 @@ use Rattle.lrp_theory.specs.Divides.{Divides}
 use Rattle.lrp_theory.proofs.Decided.{Decided, decided_both, decided_divides, decided_within}
 use Rattle.lrp_matrix.specs.Ranges.{Above}
 use Rattle.lrp_spans.specs.declared.spans.Span.{Span}
-use Rattle.lrp_spans.specs.Spans.{HasNumber, HasTurn}
+use Rattle.lrp_spans.specs.Spans.{SpansHaveNumber, HasTurn}
 use Rattle.lrp_spans.proofs.Lists.{head_in, in_cons, in_none, later}
 use Rattle.lrp_spans.proofs.TurnLaws.{turn_falls}
 
@@ -42,7 +42,7 @@ decided_at k s x low = elim (decided_divides (pos k) (x -ℤ pos s.residue) (ome
         let t : h.turn ≡ d.times = same_turn k h.turn d.times low (omega (arith, ints, e, f)) in
         n (subst (λ m. Above m s.first) t h.inside.low, subst (λ m. Within m s.last) t h.inside.high))
 
-pub decided_number : (k : ℕ) (spans : List Span) (x : ℤ) → 0 < k → Decided (HasNumber k spans x)
+pub decided_number : (k : ℕ) (spans : List Span) (x : ℤ) → 0 < k → Decided (SpansHaveNumber k spans x)
 decided_number k [] x low = inr (λ h. in_none h.inside.span h.inside.listed)
 decided_number k (s ∷ ss) x low = elim (decided_at k s x low) [
   | inl h ↦ inl (record { residue = s.residue; turn = h.turn; is = h.is; inside = record { span = s; listed = head_in s ss; is = h.inside } })

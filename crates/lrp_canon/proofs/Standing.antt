@@ -16,12 +16,12 @@ use Rattle.lrp_store.proofs.Held.{held_of}
 use Rattle.lrp_minus.specs.Intervals.{IsFarBelow}
 use Rattle.lrp_spans.specs.Groups.{AreGroups, HoldsNumber, SpanLists, group_cell}
 use Rattle.lrp_spans.specs.Periods.{IsEndPeriod}
-use Rattle.lrp_spans.specs.Spans.{HasNumber}
+use Rattle.lrp_spans.specs.Spans.{SpansHaveNumber}
 use Rattle.lrp_spans.proofs.EndSteps.{span_key}
 use Rattle.lrp_spans.proofs.GroupLaws.{group_numbers, zone_period}
 use Rattle.lrp_spans.proofs.Lists.{head_in, in_cons, in_map, in_none, later}
 use Rattle.lrp_canon.specs.declared.edges.Periods.{Periods}
-use Rattle.lrp_canon.specs.Canonical.{CanMakeCanonical, HasCanonicalRows, IsCanonicalOf, StandsAlready}
+use Rattle.lrp_canon.specs.Canonical.{CanMakeCanonical, HasCanonicalZones, IsCanonicalOf, StandsAlready}
 use Rattle.lrp_canon.specs.Making.{HasAtGroup, HoldsGroups, IsOfGroup}
 use Rattle.lrp_canon.proofs.CanonLaws.{is_canonical}
 use Rattle.lrp_canon.proofs.LeastLaws.{key_zone, least_period}
@@ -97,10 +97,10 @@ module _ (s : StoreView) (is : IsStore s) (can : CanMakeCanonical s) (lists : Sp
         group = group_cell c;
         listed = span_key lists (group_cell c) f.span f.listed;
         named = refl;
-        inside = subst (λ k. HasNumber k (list_at lists (group_cell c)) x) (sym whole) (n.from x (held c z x m i));
+        inside = subst (λ k. SpansHaveNumber k (list_at lists (group_cell c)) x) (sym whole) (n.from x (held c z x m i));
       }
 
-  at_group : (group : Cell) (x : ℤ) → HasNumber periods.whole (list_at lists group) x → HasAtGroup s group x
+  at_group : (group : Cell) (x : ℤ) → SpansHaveNumber periods.whole (list_at lists group) x → HasAtGroup s group x
   at_group group x n =
       let i = groups.to group n.inside.span n.inside.listed in
       let m = i.is.to n.turn (record { residue = refl; low = n.inside.is.low; high = n.inside.is.high }) in
@@ -114,5 +114,5 @@ module _ (s : StoreView) (is : IsStore s) (can : CanMakeCanonical s) (lists : Sp
   pub stands : IsCanonicalOf s s
   stands = is_canonical s is can.column lists groups periods whole s is refl (sym whole ∙ sym h.least) holds (least_period s is can.column lists groups periods.least end)
 
-  pub rows_stand : HasCanonicalRows s (zone_count s)
+  pub rows_stand : HasCanonicalZones s (zone_count s)
   rows_stand = let rows = zone_row_count s stands.canonical stands.room in record { rows = rows; zones = λ made canon. canonical_zones s made (zone_count s) rows canon }

@@ -8,7 +8,7 @@ use Rattle.lrp_theory.proofs.Modulo.{minus_right, small_multiple, times_neg}
 use Rattle.lrp_matrix.specs.Ranges.{Above}
 use Rattle.lrp_spans.specs.declared.spans.Span.{Span}
 use Rattle.lrp_spans.specs.Repeating.{RepeatsAtEnds}
-use Rattle.lrp_spans.specs.Spans.{AreBelow, AreShifted, HasNumber, HasTurn, InSpans, IsDifference}
+use Rattle.lrp_spans.specs.Spans.{AreBelow, AreShifted, SpansHaveNumber, HasTurn, InSpans, IsDifference}
 use Rattle.lrp_spans.proofs.TurnLaws.{turn_falls}
 
 -- a number has one residue and one turn
@@ -28,21 +28,21 @@ one_turn k r q n m rl ql e =
 
 module _ (high k step : ℕ) (spans before starts : List Span) (shift : AreShifted high k step spans before) (d : IsDifference (high + 1) spans before starts) (below : AreBelow k spans) where
   -- the numbers of the starts, both ways
-  pub start_is : (x : ℤ) → HasNumber k starts x → HasNumber k spans x × (HasNumber k spans (x -ℤ pos step) → ⊥)
+  pub start_is : (x : ℤ) → SpansHaveNumber k starts x → SpansHaveNumber k spans x × (SpansHaveNumber k spans (x -ℤ pos step) → ⊥)
   start_is x h =
       let t = d.to h.residue h.turn h.inside in
       (record { residue = h.residue; turn = h.turn; is = h.is; inside = t.0 }, out t.0 t.1)
     where
-      out : InSpans spans h.residue h.turn → (InSpans before h.residue h.turn → ⊥) → HasNumber k spans (x -ℤ pos step) → ⊥
+      out : InSpans spans h.residue h.turn → (InSpans before h.residue h.turn → ⊥) → SpansHaveNumber k spans (x -ℤ pos step) → ⊥
       out i none g =
           let e : (x -ℤ pos step) +ℤ pos step ≡ x = omega (arith, ints) in
-          let b : HasNumber k before x = subst (HasNumber k before) e (shift.from (x -ℤ pos step) g) in
+          let b : SpansHaveNumber k before x = subst (SpansHaveNumber k before) e (shift.from (x -ℤ pos step) g) in
           let rl : b.residue < k = subst (λ r. r < k) b.inside.is.residue (shift.below b.inside.span b.inside.listed) in
           let ql : h.residue < k = subst (λ r. r < k) i.is.residue (below i.span i.listed) in
           let same : pos b.residue +ℤ (pos k *ℤ b.turn) ≡ pos h.residue +ℤ (pos k *ℤ h.turn) = sym b.is ∙ h.is in
           none (subst (λ r. InSpans before r h.turn) (one_residue k b.residue h.residue b.turn h.turn rl ql same) (subst (InSpans before b.residue) (one_turn k b.residue h.residue b.turn h.turn rl ql same) b.inside))
 
-  pub start_from : (x : ℤ) → HasNumber k spans x → (HasNumber k spans (x -ℤ pos step) → ⊥) → HasNumber k starts x
+  pub start_from : (x : ℤ) → SpansHaveNumber k spans x → (SpansHaveNumber k spans (x -ℤ pos step) → ⊥) → SpansHaveNumber k starts x
   start_from x h out = record {
     residue = h.residue;
     turn = h.turn;
@@ -50,18 +50,18 @@ module _ (high k step : ℕ) (spans before starts : List Span) (shift : AreShift
     inside = d.from h.residue h.turn h.inside (λ o. out (shift.to x (record { residue = h.residue; turn = h.turn; is = h.is; inside = o })));
   }
 
-  module _ (bound : ℕ) (ends : RepeatsAtEnds (HasNumber k spans) bound step) where
+  module _ (bound : ℕ) (ends : RepeatsAtEnds (SpansHaveNumber k spans) bound step) where
     -- they lie between the bounds
-    pub start_low : (x : ℤ) → HasNumber k starts x → neg_ℤ (pos bound) <ℤ x
+    pub start_low : (x : ℤ) → SpansHaveNumber k starts x → neg_ℤ (pos bound) <ℤ x
     start_low x h = let t = start_is x h in by_lt_z (neg_ℤ (pos bound)) x (λ lt. lt) (λ le. absurd (t.1 (ends.down x le t.0)))
 
-    pub start_high : (x : ℤ) → HasNumber k starts x → x <ℤ pos (bound + step)
+    pub start_high : (x : ℤ) → SpansHaveNumber k starts x → x <ℤ pos (bound + step)
     start_high x h = let t = start_is x h in by_lt_z x (pos (bound + step)) (λ lt. lt)
-        (λ le. absurd (t.1 (ends.back (x -ℤ pos step) (omega (arith, ints)) (let e : x ≡ (x -ℤ pos step) +ℤ pos step = omega (arith, ints) in subst (HasNumber k spans) e t.0))))
+        (λ le. absurd (t.1 (ends.back (x -ℤ pos step) (omega (arith, ints)) (let e : x ≡ (x -ℤ pos step) +ℤ pos step = omega (arith, ints) in subst (SpansHaveNumber k spans) e t.0))))
 
     -- so each of their spans has both ends
     module _ (s : Span) (l : Contains starts s) (turn : ℤ) (is : HasTurn s s.residue turn) (low : 0 < k) where
-      number : (n : ℤ) → HasTurn s s.residue n → HasNumber k starts (pos s.residue +ℤ (pos k *ℤ n))
+      number : (n : ℤ) → HasTurn s s.residue n → SpansHaveNumber k starts (pos s.residue +ℤ (pos k *ℤ n))
       number n t = record { residue = s.residue; turn = n; is = refl; inside = record { span = s; listed = l; is = t } }
 
       far : ℕ

@@ -7,10 +7,7 @@ use Rattle.std.proofs.lemmas.Int.{ints, by_lt_z}
 use Rattle.lrp_theory.specs.Divides.{Divides}
 use Rattle.lrp_theory.proofs.Modulo.{Divides--, Divides-is, multiple_below, rem_divides, rem_high, rem_low, small_multiple}
 use Rattle.lrp_spans.specs.Repeating.{RepeatsAtEnds}
-
-pub at_least : (k n : ℕ) → 0 < k → n ≤ k * n
-at_least zero n l = absurd (omega arith)
-at_least (suc k) n l = omega arith
+pub use Rattle.lrp_spans.proofs.EndLaws.{at_least}
 
 -- a multiple that is not negative is so many times the period
 pub times_of : (k : ℕ) (z : ℤ) → 0 < k → pos 0 ≤ℤ z → Divides (pos k) z → (m : ℕ) × (z ≡ pos (k * m))

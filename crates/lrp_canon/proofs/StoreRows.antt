@@ -18,7 +18,7 @@ use Rattle.lrp_store.proofs.Held.{list_put, zone_held}
 use Rattle.lrp_minus.specs.Intervals.{IsFarBelow}
 use Rattle.lrp_spans.specs.declared.spans.Span.{Span}
 use Rattle.lrp_spans.specs.Groups.{SpanLists}
-use Rattle.lrp_spans.specs.Spans.{AreMerged, HasNumber}
+use Rattle.lrp_spans.specs.Spans.{AreMerged, SpansHaveNumber}
 use Rattle.lrp_spans.proofs.GroupLaws.{zone_column}
 use Rattle.lrp_spans.proofs.Lists.{before, head_in, in_map, in_none, in_one, one_in, pairs_append, pairs_left, pairs_none, pairs_one}
 use Rattle.lrp_canon.specs.declared.edges.Periods.{Periods}
@@ -141,7 +141,7 @@ holds_none periods lists s none = record {
 }
 
 module _ (periods : Periods) (lists : SpanLists) (done : List Cell) (group : Cell) (spans : List Span) (rows : List Row) (s new : StoreView) (is : IsStore s) (one : s.shape.times ≡ 1) (period : s.period ≡ periods.least) (holds : HoldsGroups periods lists done s)
-    (merged : AreMerged (list_at lists group) spans) (are : AreRowsOf (HasNumber periods.whole spans) periods.least rows) (a : AddsRows group rows s new)
+    (merged : AreMerged (list_at lists group) spans) (are : AreRowsOf (SpansHaveNumber periods.whole spans) periods.least rows) (a : AddsRows group rows s new)
     (apart : (g : Cell) (p q : Span) → Contains done g → Contains (list_at lists g) p → Contains (list_at lists group) q → g.texts ≡ group.texts → ⊥) (q : Span) (some : Contains (list_at lists group) q) where
   -- no zone has the texts of the group yet
   no_zone : (c : Cell) → c.texts ≡ group.texts → (zs : List ZoneView) → zones_at s c ≡ zs → zs ≡ []
@@ -158,10 +158,10 @@ module _ (periods : Periods) (lists : SpanLists) (done : List Cell) (group : Cel
       at h (x ∷ []) m n = let o = holds.to c z x h m in apart o.group o.inside.inside.span q o.listed o.inside.inside.listed some (sym o.named ∙ e)
       at h (x ∷ y ∷ ys) m n = absurd (omega arith)
 
-  number_to : (x : ℤ) → HasNumber periods.whole spans x → HasNumber periods.whole (list_at lists group) x
+  number_to : (x : ℤ) → SpansHaveNumber periods.whole spans x → SpansHaveNumber periods.whole (list_at lists group) x
   number_to x h = record { residue = h.residue; turn = h.turn; is = h.is; inside = merged.to h.residue h.turn h.inside }
 
-  number_from : (x : ℤ) → HasNumber periods.whole (list_at lists group) x → HasNumber periods.whole spans x
+  number_from : (x : ℤ) → SpansHaveNumber periods.whole (list_at lists group) x → SpansHaveNumber periods.whole spans x
   number_from x h = record { residue = h.residue; turn = h.turn; is = h.is; inside = merged.from h.residue h.turn h.inside }
 
   abbrev more : List Cell
@@ -185,14 +185,14 @@ module _ (periods : Periods) (lists : SpanLists) (done : List Cell) (group : Cel
     ];
     from = λ g x l h. elim (Contains-append_cases done (group ∷ []) g l) [
       | inl k ↦ (let f = holds.from g x k h in record { cell = f.cell; zone = f.zone; held = a.kept f.cell f.zone f.held; named = f.named; inside = f.inside })
-      | inr k ↦ subst (λ d. HasAtGroup new d x) (in_one group g k) (here x (subst (λ d. HasNumber periods.whole (list_at lists d) x) (sym (in_one group g k)) h))
+      | inr k ↦ subst (λ d. HasAtGroup new d x) (in_one group g k) (here x (subst (λ d. SpansHaveNumber periods.whole (list_at lists d) x) (sym (in_one group g k)) h))
     ];
   }
     where
       new_period : new.period ≡ periods.least
       new_period = ap (λ (t : StoreView). t.period) a.rest ∙ period
 
-      here : (x : ℤ) → HasNumber periods.whole (list_at lists group) x → HasAtGroup new group x
+      here : (x : ℤ) → SpansHaveNumber periods.whole (list_at lists group) x → HasAtGroup new group x
       here x h =
           let r = are.from x (number_from x h) in
           let f = a.from r.0 r.1 in
@@ -253,7 +253,7 @@ key_takes shape lists are filled done group rest left el e s es =
 
 -- one more of the keys
 pub holds_next : (periods : Periods) (shape : Shape) (lists : SpanLists) → AreGroupCells shape lists → AllPairs ◌≢◌ (finite.keys lists) → ((c : Cell) → finite.get lists c ≢ Some []) → (done : List Cell) (group : Cell) (rest left : List Cell) → left ≡ group ∷ rest → done ++ left ≡ finite.keys lists
-    → (spans : List Span) (rows : List Row) (s new : StoreView) → IsStore s → s.shape ≡ shape → s.period ≡ periods.least → AreMerged (list_at lists group) spans → AreRowsOf (HasNumber periods.whole spans) periods.least rows → AddsRows group rows s new
+    → (spans : List Span) (rows : List Row) (s new : StoreView) → IsStore s → s.shape ≡ shape → s.period ≡ periods.least → AreMerged (list_at lists group) spans → AreRowsOf (SpansHaveNumber periods.whole spans) periods.least rows → AddsRows group rows s new
     → HoldsGroups periods lists done s → HoldsGroups periods lists (done ++ group ∷ []) new
 holds_next periods shape lists are apart filled done group rest left el e spans rows s new is es ep merged of a holds =
     let f : done ++ group ∷ rest ≡ finite.keys lists = ap (λ xs. done ++ xs) (sym el) ∙ e in

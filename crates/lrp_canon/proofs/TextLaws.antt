@@ -12,10 +12,11 @@ use Rattle.std.proofs.lemmas.Cmp.{int_cmp_total, lists_total, nat_cmp_total, nat
 use Rattle.std.proofs.lemmas.Int.{ints}
 use Rattle.lrp_theory.specs.Divides.{Divides}
 use Rattle.lrp_theory.proofs.Modulo.{Divides-+, Divides--, Divides-is, Divides-self, Divides-zero, small_multiple}
-use Rattle.lrp_model.specs.AnswerTexts.{ComesBefore, HasPeriod, IsAnswerRelation, IsAnswerRow, IsAnswerTextOf, IsApart, IsLeastBound, IsOwnBound, MayStandBeside, OfOneCell, row_cell_cmp, value_residues, value_texts}
+use Rattle.lrp_model.specs.AnswerTexts.{ComesBefore, HasPeriod, IsAnswerRelation, IsAnswerRow, IsAnswerTextOf, IsApart, IsLeastRowBound, IsOwnBound, MayStandBeside, OfOneCell, row_cell_cmp, value_residues, value_texts}
 use Rattle.lrp_model.specs.Formulas.{Question}
 use Rattle.lrp_model.specs.Printed.{relation_bytes}
-use Rattle.lrp_model.specs.Rows.{Datum, IsInRow, IsOf, Meets, rows_in, rows_of, text, time, time_at, times_of}
+use Rattle.lrp_model.specs.Rows.{Datum, IsInRow, IsOf, MeetsBound, rows_in, rows_of, text, time, times_of}
+use Rattle.lrp_theory.specs.Entries.{node}
 use Rattle.lrp_model.specs.Satisfaction.{IsAnswer, IsOfSort, Structure, structure}
 use Rattle.lrp_model.specs.Sorts.{is_time, time_count}
 use Rattle.lrp_model.proofs.ColumnCounts.{times_more, one_more, none_more}
@@ -152,21 +153,30 @@ same_values K (Const c ∷ values) (Const b ∷ others) (text t ∷ tuple) p q h
 
 -- ---- bounds on one time
 -- a number between two that meet a bound meets it too
-between : (x y z : ℤ) (b : Bound) → x ≤ℤ z → z ≤ℤ y → Meets (x ∷ []) b → Meets (y ∷ []) b → Meets (z ∷ []) b
+between : (x y z : ℤ) (b : Bound) → x ≤ℤ z → z ≤ℤ y → MeetsBound (x ∷ []) b → MeetsBound (y ∷ []) b → MeetsBound (z ∷ []) b
 between x y z b l h m n = at b.left b.right b.most m n
   where
-    at : (i j : ℕ) (a : ℤ) → (time_at (x ∷ []) i -ℤ time_at (x ∷ []) j) ≤ℤ a → (time_at (y ∷ []) i -ℤ time_at (y ∷ []) j) ≤ℤ a → (time_at (z ∷ []) i -ℤ time_at (z ∷ []) j) ≤ℤ a
+    below : (z y a : ℤ) → z ≤ℤ y → (y -ℤ pos 0) ≤ℤ a → (z -ℤ pos 0) ≤ℤ a
+    below z y a h n = omega (arith, ints)
+
+    above : (x z a : ℤ) → x ≤ℤ z → (pos 0 -ℤ x) ≤ℤ a → (pos 0 -ℤ z) ≤ℤ a
+    above x z a l m = omega (arith, ints)
+
+    none : (y z a : ℤ) → (y -ℤ y) ≤ℤ a → (z -ℤ z) ≤ℤ a
+    none y z a n = omega (arith, ints)
+
+    at : (i j : ℕ) (a : ℤ) → (node (x ∷ []) i -ℤ node (x ∷ []) j) ≤ℤ a → (node (y ∷ []) i -ℤ node (y ∷ []) j) ≤ℤ a → (node (z ∷ []) i -ℤ node (z ∷ []) j) ≤ℤ a
     at zero zero a m n = m
-    at zero (suc zero) a m n = omega (arith, ints, n, h)
+    at zero (suc zero) a m n = above x z a l m
     at zero (suc (suc j)) a m n = m
-    at (suc zero) zero a m n = omega (arith, ints, n, h)
-    at (suc zero) (suc zero) a m n = omega (arith, ints, n, h)
-    at (suc zero) (suc (suc j)) a m n = omega (arith, ints, n, h)
+    at (suc zero) zero a m n = below z y a h n
+    at (suc zero) (suc zero) a m n = none y z a n
+    at (suc zero) (suc (suc j)) a m n = below z y a h n
     at (suc (suc i)) zero a m n = m
-    at (suc (suc i)) (suc zero) a m n = omega (arith, ints, m, l)
+    at (suc (suc i)) (suc zero) a m n = above x z a l m
     at (suc (suc i)) (suc (suc j)) a m n = m
 
-all_between : (x y z : ℤ) (bounds : List Bound) → x ≤ℤ z → z ≤ℤ y → AllByRecursion (Meets (x ∷ [])) bounds → AllByRecursion (Meets (y ∷ [])) bounds → AllByRecursion (Meets (z ∷ [])) bounds
+all_between : (x y z : ℤ) (bounds : List Bound) → x ≤ℤ z → z ≤ℤ y → AllByRecursion (MeetsBound (x ∷ [])) bounds → AllByRecursion (MeetsBound (y ∷ [])) bounds → AllByRecursion (MeetsBound (z ∷ [])) bounds
 all_between x y z [] l h m n = m
 all_between x y z (b ∷ bs) l h m n = (between x y z b l h m.0 n.0, all_between x y z bs l h m.1 n.1)
 
@@ -232,7 +242,7 @@ some_member : (K m : ℕ) (row : Row) → IsAnswerRow K m row → (tuple : List 
 some_member K m row h = at row.bounds refl
   where
     at : (bounds : List Bound) → row.bounds ≡ bounds → (tuple : List Datum) × IsInRow row tuple
-    at [] e = (first_of row.values, record { values = first_is row.values; bounds = subst (AllByRecursion (Meets (times_of (first_of row.values)))) (sym e) tt })
+    at [] e = (first_of row.values, record { values = first_is row.values; bounds = subst (AllByRecursion (MeetsBound (times_of (first_of row.values)))) (sym e) tt })
     at (b ∷ bounds) e = let own : IsOwnBound row m b = (subst (AllByRecursion (IsOwnBound row m)) e h.own).0 in (own.least.attained.0, own.least.attained.1)
 
 -- of two elements of a list that is in order, one is the other or comes before it
@@ -314,13 +324,13 @@ module _ (K : ℕ) (db : List Relation) (q : Question) (one : time_count q.head 
       let f : row_cell_cmp s r ≡ Equal = neither (row_cell_cmp s r) (row_cell_cmp r s) (rows_total.antisymm s r) o.0 p.0 in
       let m = some_member K 1 r (row_is r c) in
       let n = some_member K 1 s (row_is s d) in
-      let a : (time_at (times_of m.0) 1 +ℤ pos K) <ℤ time_at (times_of n.0) 1 = p.1 e m.0 n.0 m.1 n.1 in
-      let b : (time_at (times_of n.0) 1 +ℤ pos K) <ℤ time_at (times_of m.0) 1 = o.1 f n.0 m.0 n.1 m.1 in
+      let a : (node (times_of m.0) 1 +ℤ pos K) <ℤ node (times_of n.0) 1 = p.1 e m.0 n.0 m.1 n.1 in
+      let b : (node (times_of n.0) 1 +ℤ pos K) <ℤ node (times_of m.0) 1 = o.1 f n.0 m.0 n.1 m.1 in
       absurd (omega (arith, ints, a, b))
 
   -- times of two rows that lie apart
   far : (r s : Row) (u v : List Datum) (x y : ℤ) → times_of u ≡ x ∷ [] → times_of v ≡ y ∷ [] → IsApart K r s → IsInRow r u → IsInRow s v → (x +ℤ pos K) <ℤ y
-  far r s u v x y e f a iu iv = subst (λ ys. (x +ℤ pos K) <ℤ time_at ys 1) f (subst (λ xs. (time_at xs 1 +ℤ pos K) <ℤ time_at (times_of v) 1) e (a u v iu iv))
+  far r s u v x y e f a iu iv = subst (λ ys. (x +ℤ pos K) <ℤ node ys 1) f (subst (λ xs. (node xs 1 +ℤ pos K) <ℤ node (times_of v) 1) e (a u v iu iv))
 
   -- an answer of the row's cell whose time is at most a period from that of a member is a member
   next : (r : Row) → Contains answer.rows r → (u v : List Datum) (x y : ℤ) → times_of u ≡ x ∷ [] → times_of v ≡ y ∷ [] → y ≤ℤ (x +ℤ pos K) → x ≤ℤ (y +ℤ pos K) → IsInRow r u → IsOf r.values v → IsAnswer db q v → IsInRow r v
@@ -357,7 +367,7 @@ module _ (K : ℕ) (db other_db : List Relation) (q other : Question) (one : tim
     mid : (t u v : List Datum) (x y z w : ℤ) → IsInRow r t → IsInRow r u → IsInRow r v → times_of t ≡ x ∷ [] → times_of u ≡ y ∷ [] → times_of v ≡ z ∷ [] → y ≤ℤ w → w ≤ℤ z → Divides (pos K) (w -ℤ x) → IsInRow r (retimed w t)
     mid t u v x y z w it iu iv et eu ev l h k = record {
       values = retimed_of K r.values t x w period_is et k it.values;
-      bounds = subst (λ xs. AllByRecursion (Meets xs) r.bounds) (sym (retimed_times w x t et)) (all_between y z w r.bounds l h (subst (λ xs. AllByRecursion (Meets xs) r.bounds) eu iu.bounds) (subst (λ xs. AllByRecursion (Meets xs) r.bounds) ev iv.bounds));
+      bounds = subst (λ xs. AllByRecursion (MeetsBound xs) r.bounds) (sym (retimed_times w x t et)) (all_between y z w r.bounds l h (subst (λ xs. AllByRecursion (MeetsBound xs) r.bounds) eu iu.bounds) (subst (λ xs. AllByRecursion (MeetsBound xs) r.bounds) ev iv.bounds));
     }
 
     module _ (x0 : ℤ) (e0 : times_of m ≡ x0 ∷ []) where
@@ -407,7 +417,7 @@ module _ (K : ℕ) (db other_db : List Relation) (q other : Question) (one : tim
     back : (t : List Datum) → IsInRow s t → IsInRow r t
     back = members K other_db db other q other_one one from second answer also is s r d c m j i
 
-  least_moved : (r s : Row) → ((t : List Datum) → IsInRow r t → IsInRow s t) → ((t : List Datum) → IsInRow s t → IsInRow r t) → (i j : ℕ) (a : ℤ) → IsLeastBound r i j a → IsLeastBound s i j a
+  least_moved : (r s : Row) → ((t : List Datum) → IsInRow r t → IsInRow s t) → ((t : List Datum) → IsInRow s t → IsInRow r t) → (i j : ℕ) (a : ℤ) → IsLeastRowBound r i j a → IsLeastRowBound s i j a
   least_moved r s f g i j a l = record { met = λ t h. l.met t (g t h); attained = (l.attained.0, f l.attained.0 l.attained.1, l.attained.2) }
 
   bound_moved : (r s : Row) → IsAnswerRow K 1 r → IsAnswerRow K 1 s → ((t : List Datum) → IsInRow r t → IsInRow s t) → ((t : List Datum) → IsInRow s t → IsInRow r t) → (b : Bound) → Contains r.bounds b → Contains s.bounds b

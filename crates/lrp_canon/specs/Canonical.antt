@@ -29,13 +29,13 @@ pub record IsCanonicalOf (s made : StoreView) : Type 0 where
   pub room : HasRoom made
 
 -- the canonical store has so many zones: the set has so many maximal rows, and each canonical store of it so many zones
-pub record HasCanonicalRows (s : StoreView) (count : ℕ) : Type 0 where
+pub record HasCanonicalZones (s : StoreView) (count : ℕ) : Type 0 where
   pub rows : HasRowCount (HoldsNumber s) count
   pub zones : (made : StoreView) → IsCanonicalOf s made → zone_count made ≡ count
 
 -- the same with more than most of them
 abbrev pub HasMoreRows : StoreView → ℕ → Type 0
-HasMoreRows s most = (count : ℕ) × (most < count) × HasCanonicalRows s count
+HasMoreRows s most = (count : ℕ) × (most < count) × HasCanonicalZones s count
 
 -- each cell has at most one zone, and the least of the periods is the whole one
 pub record StandsAlready (s : StoreView) (periods : Periods) : Type 0 where

@@ -4,7 +4,7 @@ use Rattle.lrp_model.specs.declared.tuples.Cell.{Cell}
 use Rattle.lrp_slots.specs.Lists.{list_at}
 use Rattle.lrp_spans.specs.declared.spans.Span.{Span}
 use Rattle.lrp_spans.specs.Groups.{SpanLists}
-use Rattle.lrp_spans.specs.Spans.{AreMerged, HasNumber}
+use Rattle.lrp_spans.specs.Spans.{AreMerged, SpansHaveNumber}
 use Rattle.lrp_canon.specs.Edges.{AreRepeating}
 use Rattle.lrp_canon.specs.Rows.{AreJust, IsOpenBelow, IsStart, Moment}
 use Rattle.lrp_canon.specs.declared.edges.Periods.{Periods}
@@ -40,24 +40,24 @@ pub record HasWith (set : ℤ → Type 0) (own : List ℕ) (x : ℤ) (texts : Li
 pub record IsCount (periods : Periods) (spans : List Span) (made : ℕ) : Type 0 where
   pub count : ℕ
   pub capped : made ≡ capped count
-  pub rows : (texts : List ℕ) → HasRows (HasWith (HasNumber periods.whole spans) texts) periods.least count
+  pub rows : (texts : List ℕ) → HasRows (HasWith (SpansHaveNumber periods.whole spans) texts) periods.least count
 
 -- the numbers of the spans of some of the groups, with the texts by which each group is named
 pub record InGroups (period : ℕ) (lists : SpanLists) (name : Cell → List ℕ) (groups : List Cell) (x : ℤ) (texts : List ℕ) : Type 0 where
   pub group : Cell
   pub listed : Contains groups group
   pub named : texts ≡ name group
-  pub inside : HasNumber period (list_at lists group) x
+  pub inside : SpansHaveNumber period (list_at lists group) x
 
 -- no two groups that have spans have the same name
-abbrev pub AreNamed : SpanLists → (Cell → List ℕ) → List Cell → Type 0
-AreNamed lists name groups = AllPairs (λ g h. (p q : Span) → Contains (list_at lists g) p → Contains (list_at lists h) q → name g ≢ name h) groups
+abbrev pub HaveOwnTexts : SpanLists → (Cell → List ℕ) → List Cell → Type 0
+HaveOwnTexts lists name groups = AllPairs (λ g h. (p q : Span) → Contains (list_at lists g) p → Contains (list_at lists h) q → name g ≢ name h) groups
 
 -- the count is that of the maximal rows of the groups, where their names differ
 pub record IsCountOf (periods : Periods) (lists : SpanLists) (groups : List Cell) (made : ℕ) : Type 0 where
   pub count : ℕ
   pub capped : made ≡ capped count
-  pub rows : (name : Cell → List ℕ) → AreNamed lists name groups → HasRows (InGroups periods.whole lists name groups) periods.least count
+  pub rows : (name : Cell → List ℕ) → HaveOwnTexts lists name groups → HasRows (InGroups periods.whole lists name groups) periods.least count
 
 -- the spans of each group repeat so, once they are merged
 pub record AreRepeatingGroups (periods : Periods) (lists : SpanLists) : Type 0 where

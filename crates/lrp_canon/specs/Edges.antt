@@ -4,7 +4,7 @@ use Rattle.lrp_theory.specs.Divides.{Divides}
 use Rattle.lrp_theory.specs.Entries.{AtMost}
 use Rattle.lrp_spans.specs.declared.spans.Span.{Span}
 use Rattle.lrp_spans.specs.Repeating.{RepeatsAtEnds}
-use Rattle.lrp_spans.specs.Spans.{AreBelow, AreOrdered, ComesBefore, HasNumber, IsSpan}
+use Rattle.lrp_spans.specs.Spans.{AreBelow, AreOrdered, SpanComesBefore, SpansHaveNumber, IsSpan}
 use Rattle.lrp_canon.specs.declared.edges.Edge.{Edge}
 use Rattle.lrp_canon.specs.declared.edges.Periods.{Periods}
 
@@ -14,7 +14,7 @@ pub record Begins (set : ℤ → Type 0) (period : ℕ) (x : ℤ) : Type 0 where
   pub first : set (x -ℤ pos period) → ⊥
 
 -- the set has the number a period less, and not this one
-pub record Stops (set : ℤ → Type 0) (period : ℕ) (x : ℤ) : Type 0 where
+pub record StopsAt (set : ℤ → Type 0) (period : ℕ) (x : ℤ) : Type 0 where
   pub inside : set (x -ℤ pos period)
   pub over : set x → ⊥
 
@@ -33,7 +33,7 @@ pub record AreRepeating (periods : Periods) (spans : List Span) : Type 0 where
   pub divides : Divides (pos periods.least) (pos periods.whole)
   pub positive : 0 < periods.whole
   pub high : periods.whole ≤ 2 ^ 62
-  pub repeats : RepeatsAtEnds (HasNumber periods.whole spans) (2 ^ 62 - periods.whole + 1) periods.least
+  pub repeats : RepeatsAtEnds (SpansHaveNumber periods.whole spans) (2 ^ 62 - periods.whole + 1) periods.least
 
 -- the span has both ends
 pub record HasEnds (s : Span) : Type 0 where
@@ -44,21 +44,21 @@ pub record HasEnds (s : Span) : Type 0 where
 
 -- the spans have both ends, are in order, and have just the numbers of the kind, whose magnitudes are at most the limit
 pub record AreEdgeSpans (whole : ℕ) (kind : ℤ → Type 0) (spans : List Span) : Type 0 where
-  pub to : (x : ℤ) → HasNumber whole spans x → kind x
-  pub from : (x : ℤ) → kind x → HasNumber whole spans x
-  pub small : (x : ℤ) → HasNumber whole spans x → AtMost (2 ^ 62) (Some x)
+  pub to : (x : ℤ) → SpansHaveNumber whole spans x → kind x
+  pub from : (x : ℤ) → kind x → SpansHaveNumber whole spans x
+  pub small : (x : ℤ) → SpansHaveNumber whole spans x → AtMost (2 ^ 62) (Some x)
   pub each : (s : Span) → Contains spans s → IsSpan (2 ^ 62 + 2) s
-  pub apart : AllPairs ComesBefore spans
+  pub apart : AllPairs SpanComesBefore spans
   pub below : AreBelow whole spans
   pub ends : (s : Span) → Contains spans s → HasEnds s
 
 -- the spans are those of the numbers where the maximal rows of others begin
 abbrev pub AreStarts : Periods → List Span → List Span → Type 0
-AreStarts periods spans made = AreEdgeSpans periods.whole (Begins (HasNumber periods.whole spans) periods.least) made
+AreStarts periods spans made = AreEdgeSpans periods.whole (Begins (SpansHaveNumber periods.whole spans) periods.least) made
 
 -- the spans are those of the first numbers behind the maximal rows of others
 abbrev pub AreStopSpans : Periods → List Span → List Span → Type 0
-AreStopSpans periods spans made = AreEdgeSpans periods.whole (Stops (HasNumber periods.whole spans) periods.least) made
+AreStopSpans periods spans made = AreEdgeSpans periods.whole (StopsAt (SpansHaveNumber periods.whole spans) periods.least) made
 
 -- the spans have both ends, and their numbers are small and have residues modulo the least period
 pub record AreEdgeNumbers (periods : Periods) (spans : List Span) : Type 0 where
@@ -68,7 +68,7 @@ pub record AreEdgeNumbers (periods : Periods) (spans : List Span) : Type 0 where
   pub each : (s : Span) → Contains spans s → IsSpan (2 ^ 62 + 2) s
   pub below : AreBelow periods.whole spans
   pub ends : (s : Span) → Contains spans s → HasEnds s
-  pub small : (x : ℤ) → HasNumber periods.whole spans x → AtMost (2 ^ 62) (Some x)
+  pub small : (x : ℤ) → SpansHaveNumber periods.whole spans x → AtMost (2 ^ 62) (Some x)
 
 -- the edge is that of the number
 pub record IsEdgeAt (period : ℕ) (x : ℤ) (edge : Edge) : Type 0 where
@@ -84,7 +84,7 @@ pub record AddsEdges (period : ℕ) (kind : ℤ → Type 0) (old new : List Edge
 
 -- the new edges are the old ones and those of the numbers of the spans
 abbrev pub AddsNumbers : Periods → List Span → List Edge → List Edge → Type 0
-AddsNumbers periods spans old new = AddsEdges periods.least (HasNumber periods.whole spans) old new
+AddsNumbers periods spans old new = AddsEdges periods.least (SpansHaveNumber periods.whole spans) old new
 
 -- the new edges are the old ones and those of no number of the residues below the period
 pub record AddsOpen (period : ℕ) (residues : List ℕ) (old new : List Edge) : Type 0 where
@@ -126,6 +126,6 @@ pub record AreBeginnings (set : ℤ → Type 0) (period : ℕ) (edges : List Edg
 -- the edges are the first numbers behind the maximal rows, in order, each once
 pub record AreStops (set : ℤ → Type 0) (period : ℕ) (edges : List Edge) : Type 0 where
   pub apart : AllPairs IsEarlier edges
-  pub to : (e : Edge) → Contains edges e → (x : ℤ) × Stops set period x × IsEdgeAt period x e
-  pub from : (x : ℤ) → Stops set period x → (e : Edge) × IsEdgeAt period x e × Contains edges e
+  pub to : (e : Edge) → Contains edges e → (x : ℤ) × StopsAt set period x × IsEdgeAt period x e
+  pub from : (x : ℤ) → StopsAt set period x → (e : Edge) × IsEdgeAt period x e × Contains edges e
   pub small : (e : Edge) (x : ℤ) → Contains edges e → e.number ≡ Some x → AtMost (2 ^ 62) (Some x)

@@ -3,8 +3,9 @@
 -- What the contract of `run` reaches.
 pub mod Answers
 pub mod Rows
--- What contracts of single functions need beside.
+-- What contracts of public calls say.
 pub mod Canonical
+-- What functions inside say to one another.
 pub mod Counting
 pub mod Edges
 pub mod Making

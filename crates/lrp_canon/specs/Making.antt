@@ -14,7 +14,7 @@ use Rattle.lrp_store.specs.Stores.{StoreView, IsPadded, tables_at, zones_at}
 use Rattle.lrp_minus.specs.Intervals.{IsFarBelow}
 use Rattle.lrp_spans.specs.declared.spans.Span.{Span}
 use Rattle.lrp_spans.specs.Groups.{SpanLists}
-use Rattle.lrp_spans.specs.Spans.{HasNumber}
+use Rattle.lrp_spans.specs.Spans.{SpansHaveNumber}
 use Rattle.lrp_canon.specs.declared.edges.Edge.{Edge}
 use Rattle.lrp_canon.specs.declared.edges.Periods.{Periods}
 use Rattle.lrp_canon.specs.declared.rows.Row.{Row}
@@ -50,14 +50,14 @@ pub record AreRowsOf (set : ℤ → Type 0) (period : ℕ) (rows : List Row) : T
   pub from : (x : ℤ) → set x → (row : Row) × Contains rows row × IsInside period row x
 
 -- the number is that of an edge of this residue which is no sooner than the start
-pub record IsAhead (stops : List Edge) (start : Edge) (y : ℤ) : Type 0 where
+pub record IsEdgeAhead (stops : List Edge) (start : Edge) (y : ℤ) : Type 0 where
   pub listed : Contains stops (record { residue = start.residue; number = Some y })
   pub later : Above y start.number
 
 -- the first of them is a period behind the end, and without an end there is none
 abbrev pub EndsAt : ℕ → List Edge → Edge → Option ℤ → Type 0
-EndsAt period stops start None = (y : ℤ) → IsAhead stops start y → ⊥
-EndsAt period stops start (Some b) = IsAhead stops start (b +ℤ pos period) × ((y : ℤ) → IsAhead stops start y → (b +ℤ pos period) ≤ℤ y)
+EndsAt period stops start None = (y : ℤ) → IsEdgeAhead stops start y → ⊥
+EndsAt period stops start (Some b) = IsEdgeAhead stops start (b +ℤ pos period) × ((y : ℤ) → IsEdgeAhead stops start y → (b +ℤ pos period) ≤ℤ y)
 
 -- the row begins at the edge and goes on to the first stop
 pub record IsRowFrom (period : ℕ) (stops : List Edge) (start : Edge) (row : Row) : Type 0 where
@@ -120,7 +120,7 @@ pub record IsOfGroup (period : ℕ) (lists : SpanLists) (groups : List Cell) (ce
   pub group : Cell
   pub listed : Contains groups group
   pub named : cell.texts ≡ group.texts
-  pub inside : HasNumber period (list_at lists group) x
+  pub inside : SpansHaveNumber period (list_at lists group) x
 
 -- the store has the number in a cell with the group's texts
 pub record HasAtGroup (s : StoreView) (group : Cell) (x : ℤ) : Type 0 where
@@ -135,7 +135,7 @@ pub record HoldsGroups (periods : Periods) (lists : SpanLists) (groups : List Ce
   pub far : (cell : Cell) → AllPairs IsFarBelow (zones_at s cell)
   pub reach : (cell : Cell) (z : ZoneView) → Contains (zones_at s cell) z → reach_of z ≤ 2 ^ 62
   pub to : (cell : Cell) (z : ZoneView) (x : ℤ) → Contains (zones_at s cell) z → IsMember z (x ∷ []) → IsOfGroup periods.whole lists groups cell x
-  pub from : (group : Cell) (x : ℤ) → Contains groups group → HasNumber periods.whole (list_at lists group) x → HasAtGroup s group x
+  pub from : (group : Cell) (x : ℤ) → Contains groups group → SpansHaveNumber periods.whole (list_at lists group) x → HasAtGroup s group x
 
 -- a store of one time column in whose shape the group's texts fit
 pub record TakesRows (group : Cell) (s : StoreView) : Type 0 where

@@ -3,7 +3,7 @@ ghost use Rattle.std.specs.Prelude.{◌≡◌, ◌≤◌, ◌<◌, IfOk, IfNone,
 ghost use Rattle.lrp_store.specs.Stores.{IsStore, zone_count};
 ghost use Rattle.lrp_spans.specs.Groups.{AreGroups};
 ghost use Rattle.lrp_spans.specs.Periods.{IsEndPeriod};
-ghost use Rattle.lrp_canon.specs.Canonical.{CanMakeCanonical, HasCanonicalRows, HasMoreRows, IsCanonicalOf, StandsAlready};
+ghost use Rattle.lrp_canon.specs.Canonical.{CanMakeCanonical, HasCanonicalZones, HasMoreRows, IsCanonicalOf, StandsAlready};
 
 use crate::counting::rows_of;
 use crate::edges::Periods;
@@ -40,7 +40,8 @@ pub fn canonical(alloc: Global, answer: &Answer) -> Result<Answer, Memory>
 /// No row is made: the cost hangs on the cells and zones of the answer, and not on the number of rows.
 pub fn canonical_rows(alloc: Global, answer: &Answer, most: u32) -> Result<Option<u32>, Memory>
     requires { CanMakeCanonical answer.now.store }
-    ensures some { IfOk result (λ found. IfSome found (λ count. HasCanonicalRows answer.now.store count)) }
+    ensures some { IfOk result (λ found. IfSome found
+        (λ count. HasCanonicalZones answer.now.store count)) }
     ensures few { IfOk result (λ found. IfSome found (λ count. count ≤ most)) }
     ensures none { IfOk result (λ found. IfNone found (HasMoreRows answer.now.store most)) }
 {
@@ -58,8 +59,10 @@ pub fn canonical_within(alloc: Global, answer: Answer, most: u32) -> Result<Opti
     requires { CanMakeCanonical answer.store }
     ensures head { IfOk result (λ found. IfSome found (λ made. made.head ≡ answer.head)) }
     ensures domain { IfOk result (λ found. IfSome found (λ made. made.domain ≡ answer.domain)) }
-    ensures store { IfOk result (λ found. IfSome found (λ made. IsCanonicalOf answer.store made.store)) }
-    ensures counted { IfOk result (λ found. IfSome found (λ made. HasCanonicalRows answer.store (zone_count made.store))) }
+    ensures store { IfOk result (λ found. IfSome found
+        (λ made. IsCanonicalOf answer.store made.store)) }
+    ensures counted { IfOk result (λ found. IfSome found
+        (λ made. HasCanonicalZones answer.store (zone_count made.store))) }
     ensures few { IfOk result (λ found. IfSome found (λ made. zone_count made.store ≤ most)) }
     ensures none { IfOk result (λ found. IfNone found (HasMoreRows answer.store most)) }
 {
@@ -92,11 +95,12 @@ fn stands_already(store: &Store, periods: Periods) -> bool
 // An answer that is canonical as it stands, or `None` where it has more than `most` zones.
 fn kept(answer: Answer, most: u32) -> Option<Answer>
     requires canonical { IsCanonicalOf answer.store answer.store }
-    requires counted { HasCanonicalRows answer.store (zone_count answer.store) }
+    requires counted { HasCanonicalZones answer.store (zone_count answer.store) }
     ensures head { IfSome result (λ made. made.head ≡ answer.head) }
     ensures domain { IfSome result (λ made. made.domain ≡ answer.domain) }
     ensures store { IfSome result (λ made. IsCanonicalOf answer.store made.store) }
-    ensures counted { IfSome result (λ made. HasCanonicalRows answer.store (zone_count made.store)) }
+    ensures counted { IfSome result (λ made. HasCanonicalZones answer.store
+        (zone_count made.store)) }
     ensures few { IfSome result (λ made. zone_count made.store ≤ most) }
     ensures none { IfNone result (HasMoreRows answer.store most) }
 {

@@ -16,7 +16,8 @@ use std::alloc::Global;
 pub fn rows_of(alloc: Global, groups: &Slots<Span>, periods: Periods) -> Result<u64, Memory>
     requires low { 0 < periods.least }
     requires groups { AreRepeatingGroups periods groups.now.lists }
-    ensures { IfOk result (λ made. IsCountOf periods groups.now.lists (finite.keys groups.now.lists) made) }
+    ensures { IfOk result (λ made. IsCountOf periods groups.now.lists
+        (finite.keys groups.now.lists) made) }
 {
     let mut rows = 0_u64;
     for group in groups.cells() {

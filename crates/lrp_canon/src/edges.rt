@@ -1,7 +1,7 @@
 // Where the maximal rows begin, and where they stop.
 ghost use Rattle.std.specs.Prelude.{◌≡◌, ◌≤◌, ◌<◌, ◌^◌, ◌↔◌, ◌∷◌, [], Some, IsTrue, IfOk, OnOk, pos, ◌+ℤ◌, ◌*ℤ◌};
 ghost use Rattle.lrp_theory.specs.Entries.{AtMost};
-ghost use Rattle.lrp_spans.specs.Spans.{HasNumber};
+ghost use Rattle.lrp_spans.specs.Spans.{SpansHaveNumber};
 ghost use Rattle.lrp_canon.specs.Edges.{AddsNumbers, AddsOpen, AreBeginnings, AreEdgeNumbers, AreInOrder, AreRepeating, AreStarts, AreStopSpans, AreStops, HasEnds, IsEarlier};
 
 use lrp_model::Memory;
@@ -59,7 +59,8 @@ pub fn stops_of(alloc: Global, spans: &[Span], periods: Periods) -> Result<Vec<S
 /// The edges where maximal rows begin, in order: at a number, or at none where a row goes on downwards.
 pub fn beginnings(alloc: Global, spans: &[Span], periods: Periods) -> Result<Vec<Edge>, Memory>
     requires { AreRepeating periods spans.now }
-    ensures { IfOk result (λ made. AreBeginnings (HasNumber periods.whole spans.now) periods.least made.items) }
+    ensures { IfOk result (λ made. AreBeginnings
+        (SpansHaveNumber periods.whole spans.now) periods.least made.items) }
 {
     let mut edges = Vec::new(alloc);
     let open = open_below(alloc, spans)?;
@@ -73,7 +74,8 @@ pub fn beginnings(alloc: Global, spans: &[Span], periods: Periods) -> Result<Vec
 /// The edges of the first numbers behind maximal rows, in order.
 pub fn stops(alloc: Global, spans: &[Span], periods: Periods) -> Result<Vec<Edge>, Memory>
     requires { AreRepeating periods spans.now }
-    ensures { IfOk result (λ made. AreStops (HasNumber periods.whole spans.now) periods.least made.items) }
+    ensures { IfOk result (λ made. AreStops
+        (SpansHaveNumber periods.whole spans.now) periods.least made.items) }
 {
     let mut edges = Vec::new(alloc);
     let stops = stops_of(alloc, spans, periods)?;

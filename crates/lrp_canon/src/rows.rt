@@ -1,6 +1,6 @@
 // The maximal rows of the numbers of spans.
 ghost use Rattle.std.specs.Prelude.{◌≡◌, ◌≤◌, AllPairs, Contains, IfOk, length, take, slice_get, Some};
-ghost use Rattle.lrp_spans.specs.Spans.{HasNumber};
+ghost use Rattle.lrp_spans.specs.Spans.{SpansHaveNumber};
 ghost use Rattle.lrp_canon.specs.Edges.{AreRepeating, IsEarlier};
 ghost use Rattle.lrp_canon.specs.Making.{AreRowsOf, EndsAt};
 ghost use Rattle.lrp_canon.specs.Pairing.{AreRowsFrom, AreStopEdges};
@@ -22,7 +22,8 @@ pub struct Row {
 /// The maximal rows of the numbers of spans, by residues and ascending.
 pub fn maximal_rows(alloc: Global, spans: &[Span], periods: Periods) -> Result<Vec<Row>, Memory>
     requires { AreRepeating periods spans.now }
-    ensures { IfOk result (λ made. AreRowsOf (HasNumber periods.whole spans.now) periods.least made.items) }
+    ensures { IfOk result (λ made. AreRowsOf
+        (SpansHaveNumber periods.whole spans.now) periods.least made.items) }
 {
     let starts = beginnings(alloc, spans, periods)?;
     let stops = stops(alloc, spans, periods)?;
@@ -54,7 +55,8 @@ fn passed(stops: &[Edge], from: usize, start: &Edge) -> usize
     requires before { (e : EdgeValue) → Contains (take from stops.now) e → IsEarlier e start.now }
     ensures place { result ≤ length stops.now }
     ensures before { (e : EdgeValue) → Contains (take result stops.now) e → IsEarlier e start.now }
-    ensures stop { (e : EdgeValue) → slice_get stops.now result ≡ Some e → IsEarlier e start.now → ⊥ }
+    ensures stop { (e : EdgeValue) → slice_get stops.now result ≡ Some e → IsEarlier e start.now
+        → ⊥ }
 {
     let mut next = from;
     while next < stops.len() && stops[next].is_before(start) {
@@ -68,7 +70,8 @@ fn end_at(stops: &[Edge], place: usize, start: &Edge, period: u64) -> Option<i64
     requires stops { AreStopEdges period stops.now }
     requires place { place ≤ length stops.now }
     requires before { (e : EdgeValue) → Contains (take place stops.now) e → IsEarlier e start.now }
-    requires stop { (e : EdgeValue) → slice_get stops.now place ≡ Some e → IsEarlier e start.now → ⊥ }
+    requires stop { (e : EdgeValue) → slice_get stops.now place ≡ Some e → IsEarlier e start.now
+        → ⊥ }
     ensures { EndsAt period stops.now start.now result }
 {
     if place == stops.len() || stops[place].residue != start.residue {

@@ -30,7 +30,8 @@ pub fn rows_in_store(
     ensures shape { IfOk result (λ made. made.shape ≡ shape) }
     ensures period { IfOk result (λ made. made.period ≡ periods.least) }
     ensures valid { IfOk result (λ made. IsStore made) }
-    ensures holds { IfOk result (λ made. HoldsGroups periods groups.now.lists (finite.keys groups.now.lists) made) }
+    ensures holds { IfOk result (λ made. HoldsGroups periods groups.now.lists
+        (finite.keys groups.now.lists) made) }
 {
     let mut store = Store::new(alloc, shape, periods.least as i64);
     for group in groups.cells() {

@@ -1,5 +1,5 @@
 -- Civil lines: the value of the first column and those of the others.
-use Rattle.std.proofs.Common.{◌≡◌, ◌<◌, ◌≤◌, ◌-◌, ℕ, suc, length, take, drop, get_or, arith, List, [], ◌∷◌, ◌++◌, Bool, true, false, refl, sym, ap, ap₂, ◌∙◌, append_assoc, append-nil, ◌+◌, codes}
+use Rattle.std.proofs.Common.{◌≡◌, ◌<◌, ◌≤◌, ◌-◌, ℕ, length, take, drop, get_or, arith, List, [], ◌∷◌, ◌++◌, Bool, true, false, refl, sym, ap, ap₂, ◌∙◌, append_assoc, append-nil, ◌+◌, codes}
 use Rattle.std.specs.Prelude.{ℤ, ◌==◌}
 use Rattle.std.proofs.lemmas.Bool.Decides.{nat_tests}
 use Rattle.lrp_model.specs.Texts.{Text}
@@ -10,7 +10,7 @@ use Rattle.lrp_model.specs.Sorts.{is_time, time_count}
 use Rattle.lrp_model.specs.Tuples.{in_head_order, text_at, texts_at}
 use Rattle.lrp_model.specs.declared.relations.Column.{Column}
 use Rattle.lrp_list.proofs.HeadOrder.{head_is}
-use Rattle.lrp_list.proofs.LineLaws.{rest_is, text_put, time_put}
+use Rattle.lrp_list.proofs.LineLaws.{rest_is, text_put, time_put, length_at}
 use Rattle.lrp_civil.specs.CivilLines.{behind, civil_bytes, civil_line, civil_time_bytes}
 
 -- the first column's time, and the others behind it
@@ -56,10 +56,6 @@ some_line (c ∷ cs) (d ∷ ds) h l = ap (λ bs. bs ++ codes "\n") (joined_behin
 
 some_columns : (n : ℕ) (b : Bool) → b ≡ (n == 0) → b ≡ false → 0 < n
 some_columns n b e f = grind (arith, nat_tests)
-
-length_at : (domain : List Text) (ns : List ℕ) → length (texts_at domain ns) ≡ length ns
-length_at domain [] = refl
-length_at domain (n ∷ ns) = ap suc (length_at domain ns)
 
 pub plain_line_is : (json : Bool) (domain : List Text) (between : List ℕ) (cs : List Column) (xs : List ℤ) (ns : List ℕ) (b : Bool) → b ≡ (length cs == 0) → b ≡ false → time_count cs ≡ length xs → length cs ≡ length xs + length ns → json ≡ false → between ≡ codes ", "
     → behind json (codes "") between (in_head_order cs xs (texts_at domain ns)) ++ codes "\n" ≡ civil_line false (in_head_order cs xs (texts_at domain ns))

@@ -8,7 +8,7 @@ use Rattle.std.proofs.Math.Seq.{drop-append_seam}
 use Rattle.lrp_civil.specs.declared.values.CivilValue.{CivilValue}
 use Rattle.lrp_civil.specs.CivilValues.{padded_bytes, spelled}
 use Rattle.lrp_civil.specs.Tokens.{behind_blanks, is_last}
-use Rattle.lrp_civil.specs.PlainText.{HasSamePlaces, blanks, plain, plain_from, plain_of, plain_value, value_at}
+use Rattle.lrp_civil.specs.PlainText.{HasSamePlaces, blanks, plain_utf8, plain_from, plain_of, plain_value, value_at}
 use Rattle.lrp_civil.proofs.PlainLemmas.{blanks_whole}
 use Rattle.lrp_civil.proofs.PlainSizes.{padded_line, padded_size, spelled_line}
 use Rattle.lrp_civil.proofs.Spelled.{value_spelled}
@@ -76,11 +76,11 @@ turns_feeds (suc n) bytes =
     subst (SameFeeds (blanks bytes ++ plain_value (plain_from n) here (value_at here))) (blanks_whole bytes)
     (feeds_append (blanks bytes) (blanks bytes) (plain_value (plain_from n) here (value_at here)) here (feeds_refl (blanks bytes)) (value_feeds (plain_from n) here (value_at here) refl (turns_feeds n)))
 
-plain_feeds : (bytes : List ℕ) → SameFeeds (plain bytes) bytes
-unfolding plain
+plain_feeds : (bytes : List ℕ) → SameFeeds (plain_utf8 bytes) bytes
+unfolding plain_utf8
 plain_feeds bytes = turns_feeds (suc (length bytes)) bytes
 
-chosen_feeds : (b : Bool) (bytes : List ℕ) → SameFeeds (if b then plain bytes else bytes) bytes
+chosen_feeds : (b : Bool) (bytes : List ℕ) → SameFeeds (if b then plain_utf8 bytes else bytes) bytes
 chosen_feeds true bytes = plain_feeds bytes
 chosen_feeds false bytes = feeds_refl bytes
 
@@ -88,4 +88,4 @@ pub same_places : (bytes : List ℕ) → HasSamePlaces bytes (plain_of bytes)
 unfolding plain_of
 same_places bytes =
     let same = chosen_feeds (is_utf8 bytes) bytes in
-    record { size = feeds_size (if is_utf8 bytes then plain bytes else bytes) bytes same; place = feeds_place (if is_utf8 bytes then plain bytes else bytes) bytes same start }
+    record { size = feeds_size (if is_utf8 bytes then plain_utf8 bytes else bytes) bytes same; place = feeds_place (if is_utf8 bytes then plain_utf8 bytes else bytes) bytes same start }

@@ -10,7 +10,7 @@ use Rattle.lrp_civil.specs.declared.values.CivilValue.{CivilValue}
 use Rattle.lrp_civil.specs.declared.values.CivilValue.TheVariants.{Daily, Weekly, On}
 use Rattle.lrp_civil.specs.CivilValues.{padded_bytes, spelled}
 use Rattle.lrp_civil.specs.Tokens.{IsBehindToken, behind_blanks, is_last}
-use Rattle.lrp_civil.specs.PlainText.{IsFirstValue, IsSpelledAt, blanks, plain, plain_from, plain_of, plain_value, value_at}
+use Rattle.lrp_civil.specs.PlainText.{IsFirstValue, IsSpelledAt, blanks, plain_utf8, plain_from, plain_of, plain_value, value_at}
 use Rattle.std.specs.Str.{IsUtf8, is_utf8}
 use Rattle.std.proofs.lemmas.Str.{IsUtf8-from_is_utf8, is_utf8-from_IsUtf8}
 use Rattle.lrp_civil.proofs.Counts.{either}
@@ -81,17 +81,17 @@ turns_same (suc n) (suc m) bytes h k =
     let same : Agree (length here) (plain_from n) (plain_from m) = λ rest lt. turns_same n m rest (omega arith) (omega arith) in
     one_turn n bytes ∙ ap (λ rest. blanks bytes ++ rest) (value_same (plain_from n) (plain_from m) here (value_at here) refl same) ∙ sym (one_turn m bytes)
 
-plain_is : (bytes : List ℕ) → plain bytes ≡ plain_from (suc (length bytes)) bytes
-unfolding plain
+plain_is : (bytes : List ℕ) → plain_utf8 bytes ≡ plain_from (suc (length bytes)) bytes
+unfolding plain_utf8
 plain_is bytes = refl
 
 -- the plain text by its first token
-pub turn : (bytes : List ℕ) → plain bytes ≡ blanks bytes ++ plain_value plain (behind_blanks bytes) (value_at (behind_blanks bytes))
+pub turn : (bytes : List ℕ) → plain_utf8 bytes ≡ blanks bytes ++ plain_value plain_utf8 (behind_blanks bytes) (value_at (behind_blanks bytes))
 turn bytes =
     let here = behind_blanks bytes in
     let short = blanks_shorter bytes in
-    let same : Agree (length here) (plain_from (length bytes)) plain = λ rest lt. turns_same (length bytes) (suc (length rest)) rest (omega arith) (omega arith) ∙ sym (plain_is rest) in
-    plain_is bytes ∙ one_turn (length bytes) bytes ∙ ap (λ rest. blanks bytes ++ rest) (value_same (plain_from (length bytes)) plain here (value_at here) refl same)
+    let same : Agree (length here) (plain_from (length bytes)) plain_utf8 = λ rest lt. turns_same (length bytes) (suc (length rest)) rest (omega arith) (omega arith) ∙ sym (plain_is rest) in
+    plain_is bytes ∙ one_turn (length bytes) bytes ∙ ap (λ rest. blanks bytes ++ rest) (value_same (plain_from (length bytes)) plain_utf8 here (value_at here) refl same)
 
 -- ---- on the way to the first value
 
@@ -99,14 +99,14 @@ turn bytes =
 pub record IsOnTheWay (bytes rest : List ℕ) : Type 0 where
   pub front : List ℕ
   pub whole : bytes ≡ front ++ rest
-  pub same : plain bytes ≡ front ++ plain rest
+  pub same : plain_utf8 bytes ≡ front ++ plain_utf8 rest
 
 pub begins_way : (bytes : List ℕ) → IsOnTheWay bytes bytes
 begins_way bytes = record { front = []; whole = refl; same = refl }
 
 -- the three cases of a turn
-value_turn : (rest : List ℕ) (v : CivilValue) → value_at (behind_blanks rest) ≡ Some v → plain rest ≡ blanks rest ++ (padded_bytes v ++ plain (drop (length (spelled v)) (behind_blanks rest)))
-value_turn rest v e = turn rest ∙ ap (λ o. blanks rest ++ plain_value plain (behind_blanks rest) o) e
+value_turn : (rest : List ℕ) (v : CivilValue) → value_at (behind_blanks rest) ≡ Some v → plain_utf8 rest ≡ blanks rest ++ (padded_bytes v ++ plain_utf8 (drop (length (spelled v)) (behind_blanks rest)))
+value_turn rest v e = turn rest ∙ ap (λ o. blanks rest ++ plain_value plain_utf8 (behind_blanks rest) o) e
 
 chosen_false : (b : Bool) (x y : List ℕ) → b ≡ false → (if b then x else y) ≡ y
 chosen_false b x y e = ap (λ c. if c then x else y) e
@@ -114,15 +114,15 @@ chosen_false b x y e = ap (λ c. if c then x else y) e
 chosen_true : (b : Bool) (x y : List ℕ) → b ≡ true → (if b then x else y) ≡ x
 chosen_true b x y e = ap (λ c. if c then x else y) e
 
-token_turn : (rest : List ℕ) → value_at (behind_blanks rest) ≡ None → is_last (scan (behind_blanks rest)).token ≡ false → plain rest ≡ blanks rest ++ ((scan (behind_blanks rest)).taken ++ plain (scan (behind_blanks rest)).left)
+token_turn : (rest : List ℕ) → value_at (behind_blanks rest) ≡ None → is_last (scan (behind_blanks rest)).token ≡ false → plain_utf8 rest ≡ blanks rest ++ ((scan (behind_blanks rest)).taken ++ plain_utf8 (scan (behind_blanks rest)).left)
 token_turn rest e f =
     let here = behind_blanks rest in
-    turn rest ∙ ap (λ o. blanks rest ++ plain_value plain here o) e ∙ ap (λ x. blanks rest ++ x) (chosen_false (is_last (scan here).token) here ((scan here).taken ++ plain (scan here).left) f)
+    turn rest ∙ ap (λ o. blanks rest ++ plain_value plain_utf8 here o) e ∙ ap (λ x. blanks rest ++ x) (chosen_false (is_last (scan here).token) here ((scan here).taken ++ plain_utf8 (scan here).left) f)
 
-last_turn : (rest : List ℕ) → value_at (behind_blanks rest) ≡ None → is_last (scan (behind_blanks rest)).token ≡ true → plain rest ≡ rest
+last_turn : (rest : List ℕ) → value_at (behind_blanks rest) ≡ None → is_last (scan (behind_blanks rest)).token ≡ true → plain_utf8 rest ≡ rest
 last_turn rest e f =
     let here = behind_blanks rest in
-    turn rest ∙ ap (λ o. blanks rest ++ plain_value plain here o) e ∙ ap (λ x. blanks rest ++ x) (chosen_true (is_last (scan here).token) here ((scan here).taken ++ plain (scan here).left) f) ∙ blanks_whole rest
+    turn rest ∙ ap (λ o. blanks rest ++ plain_value plain_utf8 here o) e ∙ ap (λ x. blanks rest ++ x) (chosen_true (is_last (scan here).token) here ((scan here).taken ++ plain_utf8 (scan here).left) f) ∙ blanks_whole rest
 
 -- behind a token
 pub way_on : (bytes rest here left : List ℕ) → IsOnTheWay bytes rest → here ≡ behind_blanks rest → value_at here ≡ None → IsBehindToken here left → IsOnTheWay bytes left
@@ -133,12 +133,12 @@ way_on bytes rest here left w e f k =
     let more = w.front ++ (blanks rest ++ s.taken) in
     let rest_is : rest ≡ (blanks rest ++ s.taken) ++ left =
     sym (blanks_whole rest) ∙ ap (λ x. blanks rest ++ x) (sym (scan_taken (behind_blanks rest)).whole) ∙ sym (append_assoc (blanks rest) s.taken s.left) ∙ ap (λ x. (blanks rest ++ s.taken) ++ x) behind in
-    let plain_rest : plain rest ≡ (blanks rest ++ s.taken) ++ plain left =
-    token_turn rest (ap value_at (sym e) ∙ f) goes ∙ sym (append_assoc (blanks rest) s.taken (plain s.left)) ∙ ap (λ x. (blanks rest ++ s.taken) ++ plain x) behind in
+    let plain_rest : plain_utf8 rest ≡ (blanks rest ++ s.taken) ++ plain_utf8 left =
+    token_turn rest (ap value_at (sym e) ∙ f) goes ∙ sym (append_assoc (blanks rest) s.taken (plain_utf8 s.left)) ∙ ap (λ x. (blanks rest ++ s.taken) ++ plain_utf8 x) behind in
     record {
       front = more;
       whole = w.whole ∙ ap (λ x. w.front ++ x) rest_is ∙ sym (append_assoc w.front (blanks rest ++ s.taken) left);
-      same = w.same ∙ ap (λ x. w.front ++ x) plain_rest ∙ sym (append_assoc w.front (blanks rest ++ s.taken) (plain left));
+      same = w.same ∙ ap (λ x. w.front ++ x) plain_rest ∙ sym (append_assoc w.front (blanks rest ++ s.taken) (plain_utf8 left));
     }
 
 -- at a value
@@ -151,14 +151,14 @@ way_value bytes rest here v w e s f =
     w.whole ∙ ap (λ x. w.front ++ x) (sym (blanks_whole rest) ∙ ap (λ x. blanks rest ++ x) (sym e)) ∙ sym (append_assoc w.front (blanks rest) here) in
     let size : length bytes - length here ≡ length before = omega (arith, ap length whole, length-append before here) in
     let front : take (length bytes - length here) bytes ≡ before = ap (λ n. take n bytes) size ∙ ap (take (length before)) whole ∙ take-append_seam before here in
-    let made : plain rest ≡ blanks rest ++ (padded_bytes v ++ plain behind) = value_turn rest v (ap value_at (sym e) ∙ f) ∙ ap (λ x. blanks rest ++ (padded_bytes v ++ plain (drop (length (spelled v)) x))) (sym e) in
+    let made : plain_utf8 rest ≡ blanks rest ++ (padded_bytes v ++ plain_utf8 behind) = value_turn rest v (ap value_at (sym e) ∙ f) ∙ ap (λ x. blanks rest ++ (padded_bytes v ++ plain_utf8 (drop (length (spelled v)) x))) (sym e) in
     record {
       civil = s.read.is;
-      is = w.same ∙ ap (λ x. w.front ++ x) made ∙ sym (append_assoc w.front (blanks rest) (padded_bytes v ++ plain behind)) ∙ ap (λ x. x ++ (padded_bytes v ++ plain behind)) (sym front);
+      is = w.same ∙ ap (λ x. w.front ++ x) made ∙ sym (append_assoc w.front (blanks rest) (padded_bytes v ++ plain_utf8 behind)) ∙ ap (λ x. x ++ (padded_bytes v ++ plain_utf8 behind)) (sym front);
     }
 
 -- at the end
-pub way_end : (bytes rest here : List ℕ) → IsOnTheWay bytes rest → here ≡ behind_blanks rest → value_at here ≡ None → is_last (scan here).token ≡ true → plain bytes ≡ bytes
+pub way_end : (bytes rest here : List ℕ) → IsOnTheWay bytes rest → here ≡ behind_blanks rest → value_at here ≡ None → is_last (scan here).token ≡ true → plain_utf8 bytes ≡ bytes
 way_end bytes rest here w e f last =
     w.same ∙ ap (λ x. w.front ++ x) (last_turn rest (ap value_at (sym e) ∙ f) (ap (λ x. is_last (scan x).token) (sym e) ∙ last)) ∙ sym w.whole
 
@@ -182,14 +182,14 @@ value_left here v n s size = omega (arith, ap length (behind_is n here), ap (λ 
 
 -- ---- the text of a file
 
-pub utf8_plain : (bytes : List ℕ) → IsUtf8 bytes → plain_of bytes ≡ plain bytes
+pub utf8_plain : (bytes : List ℕ) → IsUtf8 bytes → plain_of bytes ≡ plain_utf8 bytes
 unfolding plain_of
-utf8_plain bytes u = chosen_true (is_utf8 bytes) (plain bytes) bytes (is_utf8-from_IsUtf8 bytes u)
+utf8_plain bytes u = chosen_true (is_utf8 bytes) (plain_utf8 bytes) bytes (is_utf8-from_IsUtf8 bytes u)
 
 pub no_utf8_plain : (bytes : List ℕ) → (IsUtf8 bytes → ⊥) → plain_of bytes ≡ bytes
 unfolding plain_of
 no_utf8_plain bytes none =
     elim (either (is_utf8 bytes)) [
       | inl e ↦ absurd (none (IsUtf8-from_is_utf8 bytes e))
-      | inr e ↦ chosen_false (is_utf8 bytes) (plain bytes) bytes e
+      | inr e ↦ chosen_false (is_utf8 bytes) (plain_utf8 bytes) bytes e
     ]

@@ -6,7 +6,8 @@ use Rattle.std.proofs.lemmas.Bool.{eq-eqb, ne_eqb}
 use Rattle.lrp_model.specs.declared.tokens.Place.{Place}
 use Rattle.lrp_model.specs.Tokens.{Token}
 use Rattle.lrp_model.specs.Tokens.Token.{number_token}
-use Rattle.lrp_model.specs.Lexing.{QuotedText, Scanned, behind_run, is_blank, is_digit, is_letter, is_name_byte, moved, run, scan, skip, start, symbol_from, text_from, text_scanned, value_from, word_or_name}
+use Rattle.lrp_model.specs.Lexing.{QuotedText, Scanned, behind_run, is_blank, is_letter, is_name_byte, moved, run, scan, skip, start, symbol_from, text_from, text_scanned, value_from, word_or_name}
+use Rattle.std.specs.Char.{is_ascii_digit}
 use Rattle.lrp_text.proofs.Scans.{chosen}
 use Rattle.lrp_civil.specs.Tokens.{IsBehindSymbol, IsBehindToken, behind_text, is_last}
 
@@ -55,7 +56,7 @@ scan_name : (b : ℕ) (bytes : List ℕ) → is_letter b ≡ true → scan (b �
 unfolding scan
 scan_name b bytes e = rw e refl
 
-scan_number : (b : ℕ) (bytes : List ℕ) → is_letter b ≡ false → is_digit b ≡ true → scan (b ∷ bytes) ≡ record { token = number_token (value_from 0 (run is_digit (b ∷ bytes))); taken = run is_digit (b ∷ bytes); left = behind_run is_digit (b ∷ bytes) }
+scan_number : (b : ℕ) (bytes : List ℕ) → is_letter b ≡ false → is_ascii_digit b ≡ true → scan (b ∷ bytes) ≡ record { token = number_token (value_from 0 (run is_ascii_digit (b ∷ bytes))); taken = run is_ascii_digit (b ∷ bytes); left = behind_run is_ascii_digit (b ∷ bytes) }
 unfolding scan
 scan_number b bytes e f = rw (e, f) refl
 
@@ -63,7 +64,7 @@ scan_text : (bytes : List ℕ) → scan (34 ∷ bytes) ≡ text_scanned (text_fr
 unfolding scan
 scan_text bytes = refl
 
-scan_symbol : (b : ℕ) (bytes : List ℕ) → is_letter b ≡ false → is_digit b ≡ false → (b == 34) ≡ false → scan (b ∷ bytes) ≡ symbol_from b bytes
+scan_symbol : (b : ℕ) (bytes : List ℕ) → is_letter b ≡ false → is_ascii_digit b ≡ false → (b == 34) ≡ false → scan (b ∷ bytes) ≡ symbol_from b bytes
 unfolding scan
 scan_symbol b bytes e f g = rw (e, f, g) refl
 
@@ -73,7 +74,7 @@ name_behind (b ∷ bytes) behind h e f =
     let s = scan_name b bytes e in
     record { goes_on = ap (λ x. is_last x.token) s ∙ word_goes (run is_name_byte (b ∷ bytes)); left = ap (λ x. x.left) s ∙ sym f }
 
-pub number_behind : (bytes behind : List ℕ) → 1 ≤ length bytes → is_letter (get_or bytes 0 0) ≡ false → is_digit (get_or bytes 0 0) ≡ true → behind ≡ behind_run is_digit bytes → IsBehindToken bytes behind
+pub number_behind : (bytes behind : List ℕ) → 1 ≤ length bytes → is_letter (get_or bytes 0 0) ≡ false → is_ascii_digit (get_or bytes 0 0) ≡ true → behind ≡ behind_run is_ascii_digit bytes → IsBehindToken bytes behind
 number_behind [] behind h e f g = absurd (omega arith)
 number_behind (b ∷ bytes) behind h e f g =
     let s = scan_number b bytes e f in
@@ -96,7 +97,7 @@ symbol_at : (bytes rest : List ℕ) (b : ℕ) (r : Option (Bor (List ℕ))) → 
 symbol_at bytes rest b None e f = ap (λ x. is_last x.token) e ∙ f
 symbol_at bytes rest b (Some x) e f = record { goes_on = ap (λ y. is_last y.token) e ∙ f.goes_on; left = ap (λ y. y.left) e ∙ f.left }
 
-pub symbol_behind : (bytes rest : List ℕ) (b : ℕ) (r : Option (Bor (List ℕ))) → bytes ≡ b ∷ rest → is_letter b ≡ false → is_digit b ≡ false → (b == 34) ≡ false → MatchOption r (is_last (symbol_from b rest).token ≡ true) (λ behind. IsBehindSymbol b rest behind.now) → Finds bytes r
+pub symbol_behind : (bytes rest : List ℕ) (b : ℕ) (r : Option (Bor (List ℕ))) → bytes ≡ b ∷ rest → is_letter b ≡ false → is_ascii_digit b ≡ false → (b == 34) ≡ false → MatchOption r (is_last (symbol_from b rest).token ≡ true) (λ behind. IsBehindSymbol b rest behind.now) → Finds bytes r
 symbol_behind bytes rest b r e f g h k = symbol_at bytes rest b r (ap scan e ∙ scan_symbol b rest f g h) k
 
 -- ---- one byte of blanks and comments

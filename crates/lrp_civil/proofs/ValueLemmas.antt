@@ -11,7 +11,7 @@ use Rattle.lrp_civil.specs.declared.values.CivilValue.TheVariants.{Daily, Weekly
 use Rattle.lrp_civil.specs.Dates.{is_date}
 use Rattle.lrp_civil.specs.Moments.{clock_bytes, date_bytes, is_time_of_day}
 use Rattle.lrp_civil.specs.CivilValues.{day_name, is_weekday, spelled}
-use Rattle.lrp_civil.specs.Parts.{HasNone, HasNoLast, IsReadAs}
+use Rattle.lrp_civil.specs.Parts.{BeginsWithNone, HasNoLast, IsReadAs}
 use Rattle.lrp_civil.specs.PlainText.{IsSpelledAt}
 use Rattle.lrp_civil.proofs.Weekdays.{name_unique}
 
@@ -51,7 +51,7 @@ week_whole bytes rest behind day time e f =
     let same : rest ≡ (day_name day ++ (32 ∷ clock_bytes time)) ++ behind = cc (sym e ∙ f) in
     same ∙ append_assoc (day_name day) (32 ∷ clock_bytes time) behind
 
-pub no_day : (bytes rest : List ℕ) → bytes ≡ codes "weekly " ++ rest → HasNone is_weekday day_name rest → (day time : ℕ) → IsSpelledAt bytes (Weekly day time) → ⊥
+pub no_day : (bytes rest : List ℕ) → bytes ≡ codes "weekly " ++ rest → BeginsWithNone is_weekday day_name rest → (day time : ℕ) → IsSpelledAt bytes (Weekly day time) → ⊥
 no_day bytes rest e none = λ day time s.
     let k = first_of (is_weekday day) (is_time_of_day time) s.read.is in
     none day (32 ∷ (clock_bytes time ++ s.behind)) (record { is = k.0; whole = week_whole bytes rest s.behind day time e s.read.whole })
@@ -63,7 +63,7 @@ no_weekly_time bytes rest left more named e r f none = λ day time s.
     let whole : more ≡ clock_bytes time ++ s.behind = cc (sym f ∙ same.1) in
     none time (record { behind = s.behind; read = record { is = k.1; whole = whole }; ends = s.ends })
 
-pub no_date : (bytes rest : List ℕ) → bytes ≡ codes "on " ++ rest → HasNone is_date date_bytes rest → (date : Date) (time : ℕ) → IsSpelledAt bytes (On date time) → ⊥
+pub no_date : (bytes rest : List ℕ) → bytes ≡ codes "on " ++ rest → BeginsWithNone is_date date_bytes rest → (date : Date) (time : ℕ) → IsSpelledAt bytes (On date time) → ⊥
 no_date bytes rest e none = λ date time s.
     let k = first_of (is_date date) (is_time_of_day time) s.read.is in
     let whole : rest ≡ date_bytes date ++ (32 ∷ (clock_bytes time ++ s.behind)) = cc (sym e ∙ s.read.whole) in

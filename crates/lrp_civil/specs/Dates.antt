@@ -2,12 +2,12 @@
 use Rattle.std.specs.Prelude.{◌≡◌, ◌≤ℤ◌, true, IsTrue, ℕ, zero, suc, ℤ, pos, ◌+◌, ◌-ℤ◌, unsigned_abs, int_le, Bool, ◌&&◌, if◌then◌else◌}
 use Rattle.jiff_core.specs.Calendar.{days_in_month, days_from_civil}
 use Rattle.jiff_core.specs.declared.civil.date.Date.{Date as CivilDate}
-use Rattle.lrp_model.specs.Lexing.{is_between}
+use Rattle.std.specs.Int.{is_in_range}
 use Rattle.lrp_civil.specs.declared.dates.Date.{Date}
 
 -- the calendar has the date, and its year is one of 1 to 9999
 abbrev pub is_date : Date → Bool
-is_date d = is_between 1 9999 d.year && is_between 1 12 d.month && is_between 1 (days_in_month (pos d.year) d.month) d.day
+is_date d = is_in_range 1 9999 d.year && is_in_range 1 12 d.month && is_in_range 1 (days_in_month (pos d.year) d.month) d.day
 
 -- the day number of a date: how many days it comes after 1970-01-01, and negative before it
 abbrev pub day_number : Date → ℤ

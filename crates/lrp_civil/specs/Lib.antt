@@ -1,5 +1,6 @@
 -- Dates and times of day, the civil values of a database, and the lines that show times as dates.
 
+-- What the contract of `run` reaches.
 pub mod Dates
 pub mod Moments
 pub mod Parts

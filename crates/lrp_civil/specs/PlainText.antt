@@ -74,25 +74,25 @@ plain_from zero bytes = bytes
 plain_from (suc n) bytes = let here = behind_blanks bytes in blanks bytes ++ plain_value (plain_from n) here (value_at here)
 
 -- the same with as many turns as there may be
-unfoldable pub plain : List ℕ → List ℕ
-plain bytes = plain_from (suc (length bytes)) bytes
+unfoldable pub plain_utf8 : List ℕ → List ℕ
+plain_utf8 bytes = plain_from (suc (length bytes)) bytes
 
 -- the value stands behind these bytes, of which all stays, and before others; the plain text is made of the three
 pub record IsFirstValue (bytes before : List ℕ) (value : CivilValue) (behind : List ℕ) : Type 0 where
   pub civil : IsTrue (is_civil value)
-  pub is : plain bytes ≡ before ++ (padded_bytes value ++ plain behind)
+  pub is : plain_utf8 bytes ≡ before ++ (padded_bytes value ++ plain_utf8 behind)
 
 -- the first value of the bytes, or none where all stays
 abbrev pub FindsFirst : List ℕ → Option Found → Type 0
-FindsFirst bytes found = MatchOption found (plain bytes ≡ bytes) (λ first. IsFirstValue bytes first.before.now first.value first.behind.now)
+FindsFirst bytes found = MatchOption found (plain_utf8 bytes ≡ bytes) (λ first. IsFirstValue bytes first.before.now first.value first.behind.now)
 
 -- the plain text of a file; bytes that are no UTF-8 stay
 unfoldable pub plain_of : List ℕ → List ℕ
-plain_of bytes = if is_utf8 bytes then plain bytes else bytes
+plain_of bytes = if is_utf8 bytes then plain_utf8 bytes else bytes
 
 -- ---- its places
 
 -- each place is the same in both
-pub record HasSamePlaces (bytes plain : List ℕ) : Type 0 where
-  pub size : length plain ≡ length bytes
-  pub place : (n : ℕ) → after start (take n plain) ≡ after start (take n bytes)
+pub record HasSamePlaces (bytes plain_utf8 : List ℕ) : Type 0 where
+  pub size : length plain_utf8 ≡ length bytes
+  pub place : (n : ℕ) → after start (take n plain_utf8) ≡ after start (take n bytes)

@@ -29,15 +29,20 @@ pub fn write_civil_line<S: Sink>(
     spot: &Spot,
     form: &Form,
 ) -> Result<(), Failed>
-    requires known { AllByRecursion (λ n. n < length answer.now.domain) (take answer.now.store.shape.texts spot.now.texts) }
-    requires times { AllByRecursion IsCivilMinute (take answer.now.store.shape.times spot.now.times) }
+    requires known { AllByRecursion (λ n. n < length answer.now.domain)
+        (take answer.now.store.shape.texts spot.now.texts) }
+    requires times { AllByRecursion IsCivilMinute
+        (take answer.now.store.shape.times spot.now.times) }
     ensures text { IsWritten (S.written out.old) (S.written out.new)
-        (civil_line (is_json form.now) (spot_tuple answer.now.head.columns answer.now.store.shape answer.now.domain spot.now)) result }
+        (civil_line (is_json form.now) (spot_tuple answer.now.head.columns answer.now.store.shape
+        answer.now.domain spot.now)) result }
     ensures cause { HasCause (S.faults out.old) (S.faults out.new) result }
 
     // The tuple whose line it is, is the one that the spot stands for, and the date of a time is that of its day.
-    ensures tuple { (tuple : Tuple) → HasShape answer.now.head.columns tuple → StandsFor answer.now.store.shape answer.now.domain spot.now tuple
-        → spot_tuple answer.now.head.columns answer.now.store.shape answer.now.domain spot.now ≡ tuple }
+    ensures tuple { (tuple : Tuple) → HasShape answer.now.head.columns tuple
+        → StandsFor answer.now.store.shape answer.now.domain spot.now tuple
+        → spot_tuple answer.now.head.columns answer.now.store.shape answer.now.domain spot.now
+        ≡ tuple }
     ensures dates { (x : ℤ) → IsCivilMinute x → IsDateOf (day_of x) (date_of (day_of x)) }
 {
     let shape = answer.store.shape();
@@ -86,7 +91,9 @@ fn write_plain<S: Sink>(
     requires between { line.now.between.now ≡ codes ", " }
     requires times { time_count columns.now ≡ length times.now }
     requires all { length columns.now ≡ length times.now + length numbers.now }
-    ensures text { IsWritten (S.written out.old) (S.written out.new) (civil_line false (in_head_order columns.now times.now (texts_at line.now.domain.now numbers.now))) result }
+    ensures text { IsWritten (S.written out.old) (S.written out.new)
+        (civil_line false (in_head_order columns.now times.now
+        (texts_at line.now.domain.now numbers.now))) result }
     ensures cause { HasCause (S.faults out.old) (S.faults out.new) result }
 {
     if columns.is_empty() {
@@ -108,7 +115,9 @@ fn write_json<S: Sink>(
     requires civil { AllByRecursion IsCivilMinute times.now }
     requires json { line.now.json ≡ true }
     requires between { line.now.between.now ≡ codes "," }
-    ensures text { IsWritten (S.written out.old) (S.written out.new) (civil_line true (in_head_order columns.now times.now (texts_at line.now.domain.now numbers.now))) result }
+    ensures text { IsWritten (S.written out.old) (S.written out.new)
+        (civil_line true (in_head_order columns.now times.now
+        (texts_at line.now.domain.now numbers.now))) result }
     ensures cause { HasCause (S.faults out.old) (S.faults out.new) result }
 {
     write_bytes(out, b"[")?;
@@ -127,7 +136,9 @@ fn write_values<S: Sink>(
 ) -> Result<(), Failed>
     requires known { AllByRecursion (λ n. n < length line.now.domain.now) numbers.now }
     requires civil { AllByRecursion IsCivilMinute times.now }
-    ensures text { IsWritten (S.written out.old) (S.written out.new) (behind line.now.json before.now line.now.between.now (in_head_order columns.now times.now (texts_at line.now.domain.now numbers.now))) result }
+    ensures text { IsWritten (S.written out.old) (S.written out.new)
+        (behind line.now.json before.now line.now.between.now
+        (in_head_order columns.now times.now (texts_at line.now.domain.now numbers.now))) result }
     ensures cause { HasCause (S.faults out.old) (S.faults out.new) result }
 {
     let [column, columns @ ..] = columns else {
@@ -156,7 +167,8 @@ fn write_time<S: Sink>(
     time: &i64,
 ) -> Result<(), Failed>
     requires { IsCivilMinute time.now }
-    ensures text { IsWritten (S.written out.old) (S.written out.new) (before.now ++ civil_time_bytes line.now.json time.now) result }
+    ensures text { IsWritten (S.written out.old) (S.written out.new)
+        (before.now ++ civil_time_bytes line.now.json time.now) result }
     ensures cause { HasCause (S.faults out.old) (S.faults out.new) result }
 {
     write_bytes(out, before)?;
@@ -169,7 +181,8 @@ fn write_time<S: Sink>(
 
 // These bytes in quotes.
 fn write_between_quotes<S: Sink>(out: &mut S, bytes: &[u8]) -> Result<(), Failed>
-    ensures text { IsWritten (S.written out.old) (S.written out.new) (codes "\"" ++ (bytes.now ++ codes "\"")) result }
+    ensures text { IsWritten (S.written out.old) (S.written out.new)
+        (codes "\"" ++ (bytes.now ++ codes "\"")) result }
     ensures cause { HasCause (S.faults out.old) (S.faults out.new) result }
 {
     write_bytes(out, b"\"")?;
@@ -185,7 +198,8 @@ fn write_text<S: Sink>(
     number: u32,
 ) -> Result<(), Failed>
     requires { number < length line.now.domain.now }
-    ensures text { IsWritten (S.written out.old) (S.written out.new) (before.now ++ quoted (text_at line.now.domain.now number)) result }
+    ensures text { IsWritten (S.written out.old) (S.written out.new)
+        (before.now ++ quoted (text_at line.now.domain.now number)) result }
     ensures cause { HasCause (S.faults out.old) (S.faults out.new) result }
 {
     write_bytes(out, before)?;

@@ -19,7 +19,8 @@ pub fn minute_of(date: &str) -> Option<i64>
 
 // The same of the text's bytes.
 fn spelled_by(word: &[u8]) -> Option<i64>
-    ensures spelled { MatchOption result ((x : ℤ) → SpellsMinute word.now x → ⊥) (SpellsMinute word.now) }
+    ensures spelled { MatchOption result ((x : ℤ) → SpellsMinute word.now x → ⊥)
+        (SpellsMinute word.now) }
     ensures range { IfSome result IsCivilMinute }
 {
     let (date, behind) = date_at(word)?;

@@ -2,7 +2,7 @@
 ghost use Rattle.std.specs.Prelude.{◌≡◌, ◌↔◌, ◌<◌, ◌++◌, ℕ, ℤ, pos, IsTrue, IfOk, IfSome, OnOk, List as ListOf, Some, length};
 ghost use Rattle.lrp_model.specs.Printed.{point_bytes};
 ghost use Rattle.lrp_civil.specs.CivilValues.{FallsAt, StandsFor, is_civil, padded_bytes, plain_bytes};
-ghost use Rattle.lrp_civil.specs.PlainText.{FindsFirst, HasSamePlaces, IsSpelledAt, plain, plain_of, value_at};
+ghost use Rattle.lrp_civil.specs.PlainText.{FindsFirst, HasSamePlaces, IsSpelledAt, plain_utf8, plain_of, value_at};
 ghost use Rattle.lrp_civil.specs.declared.values.CivilValue.{CivilValue as CivilValueOf};
 
 use crate::moments::minute_at;
@@ -22,8 +22,10 @@ pub fn plain_text(alloc: Global, bytes: &[u8]) -> Result<List<u8>, Memory>
     ensures places { HasSamePlaces bytes.now (plain_of bytes.now) }
 
     // Which civil value stands at the front of some bytes, and which minutes it stands for.
-    ensures spelled { (here : ListOf ℕ) (value : CivilValueOf) → (value_at here ≡ Some value) ↔ IsSpelledAt here value }
-    ensures meaning { (value : CivilValueOf) (x : ℤ) → IsTrue (is_civil value) → StandsFor value x ↔ FallsAt value x }
+    ensures spelled { (here : ListOf ℕ) (value : CivilValueOf) → (value_at here ≡ Some value)
+        ↔ IsSpelledAt here value }
+    ensures meaning { (value : CivilValueOf) (x : ℤ) → IsTrue (is_civil value) → StandsFor value x
+        ↔ FallsAt value x }
 {
     plain_list(alloc, bytes)
 }
@@ -41,7 +43,7 @@ fn plain_list(alloc: Global, bytes: &[u8]) -> Result<List<u8>, Memory>
 
 // The plain text of bytes, from their first token on.
 fn rewritten(alloc: Global, bytes: &[u8]) -> Result<Vec<u8>, Memory>
-    ensures { IfOk result (λ text. text.items ≡ plain bytes.now) }
+    ensures { IfOk result (λ text. text.items ≡ plain_utf8 bytes.now) }
 {
     let mut text = Vec::with_capacity(alloc, bytes.len())?;
     let mut rest = bytes;
@@ -113,7 +115,8 @@ fn push_plain(text: &mut Vec<u8>, value: &CivilValue) -> Result<(), Memory>
 // `c+kn`
 fn push_point(text: &mut Vec<u8>, offset: u32, period: u32) -> Result<(), Memory>
     requires { offset < period }
-    ensures { OnOk result (text.new.items ≡ text.old.items ++ point_bytes (record { offset = pos offset; period = pos period })) }
+    ensures { OnOk result (text.new.items ≡ text.old.items
+        ++ point_bytes (record { offset = pos offset; period = pos period })) }
 {
     push(text, Buffer::new().format(offset).as_bytes())?;
     push(text, b"+")?;

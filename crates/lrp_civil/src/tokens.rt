@@ -1,7 +1,8 @@
 // Where tokens begin and end.
 ghost use Rattle.std.specs.Prelude.{◌≡◌, ◌≤◌, ◌<◌, IfSome, length, false};
 ghost use Rattle.std.specs.Option.{option_map};
-ghost use Rattle.lrp_model.specs.Lexing.{behind_run, is_blank as is_blank_byte, is_digit, is_forbidden as is_forbidden_byte, is_letter as is_letter_byte, is_name_byte as is_byte_of_names, text_from};
+ghost use Rattle.lrp_model.specs.Lexing.{behind_run, is_blank as is_blank_byte, is_forbidden as is_forbidden_byte, is_letter as is_letter_byte, is_name_byte as is_byte_of_names, text_from};
+ghost use Rattle.std.specs.Char.{is_ascii_digit};
 ghost use Rattle.lrp_civil.specs.Tokens.{FindsCharacter, FindsSymbol, FindsToken, behind_blanks as behind_blanks_of, behind_equals as behind_equals_of, behind_text as behind_text_of};
 
 fn is_letter(b: u8) -> bool
@@ -67,7 +68,7 @@ fn behind_name(bytes: &[u8]) -> &[u8]
 // What stands behind the digits that come first.
 #[tactic(auto, unfolding(lrp_model::specs::Lexing::behind_run))]
 fn behind_digits(bytes: &[u8]) -> &[u8]
-    ensures { result.now ≡ behind_run is_digit bytes.now }
+    ensures { result.now ≡ behind_run is_ascii_digit bytes.now }
 {
     let mut rest = bytes;
     while let [b, tail @ ..] = rest {
@@ -98,7 +99,8 @@ fn behind_character(bytes: &[u8]) -> Option<&[u8]>
 
 // What stands behind the rest of a text and its closing quote; none where it has no such end.
 fn behind_text(bytes: &[u8]) -> Option<&[u8]>
-    ensures { option_map (λ behind. behind.now) result ≡ behind_text_of (text_from false bytes.now) }
+    ensures { option_map (λ behind. behind.now) result
+        ≡ behind_text_of (text_from false bytes.now) }
 {
     let mut rest = bytes;
     while let Some(tail) = behind_character(rest) {

@@ -8,7 +8,7 @@ use Rattle.lrp_model.specs.declared.faults.DbFault.{DbFault}
 use Rattle.lrp_model.specs.declared.faults.DbKind.{DbKind}
 use Rattle.lrp_model.specs.declared.faults.DbKind.TheVariants.{Utf8, Syntax, Number, Period, TextTooLong, Name, Arity, Sort, Column, Wide, UnknownRelation}
 use Rattle.lrp_model.specs.declared.relations.Relation.{Relation}
-use Rattle.lrp_model.specs.Faults.{first}
+use Rattle.lrp_model.specs.Faults.{earliest}
 use Rattle.lrp_model.specs.Tokens.{Placed, Tokens, Spells}
 use Rattle.lrp_model.specs.Lexing.{tokens}
 use Rattle.lrp_model.specs.Rows.{relation_named}
@@ -26,7 +26,7 @@ use Rattle.lrp_edits.specs.declared.edits.Edit.{Edit}
 use Rattle.lrp_edits.specs.declared.edits.RawEdit.{RawEdit}
 use Rattle.lrp_edits.specs.declared.edits.Edits.{Edits}
 use Rattle.lrp_rel.specs.Gathered.{IsReadAs}
-use Rattle.lrp_rel.specs.Reading.{IsOrMemory, IsFaultOrMemory, refusal_of}
+use Rattle.lrp_rel.specs.Reading.{IsReadOrMemory, IsDatabaseFaultOrMemory, refusal_of}
 use Rattle.lrp_edits.specs.EditTexts.{edits_text, FitsEdits}
 use Rattle.lrp_edits.specs.EditMeaning.{written_columns, edit_of, faults_in, edit_faults, edits_faults}
 use Rattle.lrp_edits.specs.EditReading.{IsEditsText, SaysEdits, IsNoEditsText, HasEditsFault, IsEditsFaultOf, IsEditsFault, AreEditsRefused}
@@ -131,7 +131,7 @@ as_fault bytes db TextTooLong f o h = absurd o
 -- the first fault of what was kept is the text's
 pub kept_refused : (bytes : List ℕ) (db : List Relation) (kept : Edits) (f : DbFault) → AreEditsFrom bytes db kept → kept.fault ≡ Some f → IsEditsFault bytes db f
 kept_refused bytes db kept f from e =
-    let found : first database_standing (edits_faults db from.tree) ≡ Some f = sym from.are.fault ∙ e in
+    let found : earliest database_standing (edits_faults db from.tree) ≡ Some f = sym from.are.fault ∙ e in
     let P : Option DbFault → Type 0 = IsOneOf IsOfEdit in
     as_fault bytes db f.kind f (subst P found (first_of IsOfEdit (edits_faults db from.tree) (edits_kinds db from.tree))) (record { tree = from.tree; text = from.text; found = found })
 
@@ -199,24 +199,24 @@ both_same bytes db f g (met j m d r) (said s) = absurd (not_refused bytes s.tree
 both_same bytes db f g (said s) (cut e a) = absurd (not_cut bytes g.place s.text.utf8 a)
 both_same bytes db f g (said s) (met j m d r) = absurd (not_refused bytes s.tree j g.place s.text r)
 both_same bytes db f g (said s) (said t) =
-    some_same f g (sym s.found ∙ ap (λ x. first database_standing (edits_faults db x)) (same_tree bytes s.tree t.tree s.text t.text) ∙ t.found)
+    some_same f g (sym s.found ∙ ap (λ x. earliest database_standing (edits_faults db x)) (same_tree bytes s.tree t.tree s.text t.text) ∙ t.found)
 
 -- a text that says edits has no fault
 none_said : (bytes : List ℕ) (db : List Relation) (es : List Edit) (f : DbFault) → SaysEdits bytes db es → Group bytes db f → ⊥
 none_said bytes db es f d (cut e a) = not_cut bytes f.place d.text.utf8 a
 none_said bytes db es f d (met j m e r) = not_refused bytes d.tree j f.place d.text r
 none_said bytes db es f d (said s) =
-    let h : None ≡ Some f = sym (ap (first database_standing) (ap (edits_faults db) (same_tree bytes s.tree d.tree s.text d.text) ∙ d.sound)) ∙ s.found in
+    let h : None ≡ Some f = sym (ap (earliest database_standing) (ap (edits_faults db) (same_tree bytes s.tree d.tree s.text d.text) ∙ d.sound)) ∙ s.found in
     cc
 
 -- all edits that a text says are read
-pub every_edits : (bytes : List ℕ) (db : List Relation) (r : Result (List Edit) ReadFault) → IfOk r (SaysEdits bytes db) → IfErr r (AreEditsRefused bytes db) → (es : List Edit) → SaysEdits bytes db es → IsOrMemory es r
+pub every_edits : (bytes : List ℕ) (db : List Relation) (r : Result (List Edit) ReadFault) → IfOk r (SaysEdits bytes db) → IfErr r (AreEditsRefused bytes db) → (es : List Edit) → SaysEdits bytes db es → IsReadOrMemory es r
 every_edits bytes db (Ok other) ok err es d = ok.meant ∙ ap (map (edit_of db)) (same_tree bytes ok.tree d.tree ok.text d.text) ∙ sym d.meant
 every_edits bytes db (Err Memory) ok err es d = tt
 every_edits bytes db (Err (Fault f)) ok err es d = none_said bytes db es f d (group_of bytes db f.kind f refl err)
 
 -- each other text is refused for its fault
-pub every_fault : (bytes : List ℕ) (db : List Relation) (r : Result (List Edit) ReadFault) → IfOk r (SaysEdits bytes db) → IfErr r (AreEditsRefused bytes db) → (f : DbFault) → IsEditsFault bytes db f → IsFaultOrMemory f r
+pub every_fault : (bytes : List ℕ) (db : List Relation) (r : Result (List Edit) ReadFault) → IfOk r (SaysEdits bytes db) → IfErr r (AreEditsRefused bytes db) → (f : DbFault) → IsEditsFault bytes db f → IsDatabaseFaultOrMemory f r
 every_fault bytes db (Ok es) ok err f h = none_said bytes db es f ok (group_of bytes db f.kind f refl h)
 every_fault bytes db (Err Memory) ok err f h = tt
 every_fault bytes db (Err (Fault g)) ok err f h = both_same bytes db g f (group_of bytes db g.kind g refl err) (group_of bytes db f.kind f refl h)

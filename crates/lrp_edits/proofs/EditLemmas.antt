@@ -9,7 +9,7 @@ use Rattle.std.proofs.lemmas.List.{map-append}
 use Rattle.std.proofs.Math.Seq.{take-suc}
 use Rattle.lrp_model.specs.Texts.{Identifier, AreDistinct}
 use Rattle.lrp_model.specs.Sorts.{is_time, time_count, text_count}
-use Rattle.lrp_model.specs.Faults.{first, fault_if, repeated, ninth, is_named_in}
+use Rattle.lrp_model.specs.Faults.{earliest, fault_if, repeated, ninth, is_named_in}
 use Rattle.lrp_model.specs.DatabaseMeaning.{column_of}
 use Rattle.lrp_model.specs.Rows.{relation_named, columns_in}
 use Rattle.lrp_model.specs.DatabaseFaults.{database_standing, database_fault, named_at, row_faults}
@@ -102,7 +102,7 @@ kept_heading : (r : Relation) (heading : Heading) → IsKept r → IsHeading hea
 kept_heading r heading k is e = record {
   heads = is;
   columns = e;
-  sound = is.fault ∙ ap (λ cs. first database_standing (column_faults cs)) e ∙ ap (first database_standing) (kept_sound r k);
+  sound = is.fault ∙ ap (λ cs. earliest database_standing (column_faults cs)) e ∙ ap (earliest database_standing) (kept_sound r k);
 }
 
 -- the same of what is made of them
@@ -136,14 +136,14 @@ by_name rs n = find (λ r. bytes_eq r.name n) rs
 
 -- the heading at the first place of a name is that of the relation of this name
 pub heading_found : (rs : List Relation) (hs : List Heading) (i : ℕ) (n : Identifier) (h : Heading) → AreHeadings rs hs → IsFirst (bytes_eq n) (map (λ r. r.name) rs) i → slice_get hs i ≡ Some h → IsHeadingIn (by_name rs n) (Some h)
-heading_found [] hs i n h are first e = absurd first
-heading_found (r ∷ rs) [] i n h are first e = absurd are
-heading_found (r ∷ rs) (x ∷ hs) zero n h are first e =
+heading_found [] hs i n h are earliest e = absurd earliest
+heading_found (r ∷ rs) [] i n h are earliest e = absurd are
+heading_found (r ∷ rs) (x ∷ hs) zero n h are earliest e =
     let same : Some x ≡ Some h = e in
     subst (λ o. IsHeadingIn (if bytes_eq r.name n then Some r else by_name rs n) o) same
-    (subst (λ b. IsHeadingIn (if b then Some r else by_name rs n) (Some x)) (sym (nat_list_eq_equiv.symm r.name n ∙ first)) are.0)
-heading_found (r ∷ rs) (x ∷ hs) (suc i) n h are first e =
-    subst (λ b. IsHeadingIn (if b then Some r else by_name rs n) (Some h)) (sym (nat_list_eq_equiv.symm r.name n ∙ first.0)) (heading_found rs hs i n h are.1 first.1 e)
+    (subst (λ b. IsHeadingIn (if b then Some r else by_name rs n) (Some x)) (sym (nat_list_eq_equiv.symm r.name n ∙ earliest)) are.0)
+heading_found (r ∷ rs) (x ∷ hs) (suc i) n h are earliest e =
+    subst (λ b. IsHeadingIn (if b then Some r else by_name rs n) (Some h)) (sym (nat_list_eq_equiv.symm r.name n ∙ earliest.0)) (heading_found rs hs i n h are.1 earliest.1 e)
 
 -- the relation of a heading that was found
 pub record IsHeaded (found : Option Relation) (h : Heading) : Type 0 where
@@ -167,7 +167,7 @@ abbrev pub with_row : RawEdit → Row → Edit
 with_row e r = record { add = e.add; relation = e.relation.item; row = r }
 
 -- one edit of a known relation more
-pub takes_row : (cs : List RawColumn) (row : Located RawRow) (meaning : Edit) (old new : Edits) (found : Option DbFault) → found ≡ first database_standing (row_faults cs row) → new.fault ≡ sooner database_standing old.fault found → (new.fault ≡ None → new.list ≡ old.list ++ meaning ∷ []) → TakesEdit (row_faults cs row) meaning old new
+pub takes_row : (cs : List RawColumn) (row : Located RawRow) (meaning : Edit) (old new : Edits) (found : Option DbFault) → found ≡ earliest database_standing (row_faults cs row) → new.fault ≡ sooner database_standing old.fault found → (new.fault ≡ None → new.list ≡ old.list ++ meaning ∷ []) → TakesEdit (row_faults cs row) meaning old new
 takes_row cs row meaning old new found e is kept = record { fault = is ∙ ap (sooner database_standing old.fault) e; meant = kept }
 
 -- the faults and the meaning of an edit of a relation with this heading
@@ -188,8 +188,8 @@ takes_unknown db e old new none takes =
 -- what is kept of edits and one more
 pub one_more : (db : List Relation) (tree : List RawEdit) (e : RawEdit) (old new : Edits) → TakesEdit (edit_faults db e) (edit_of db e) old new → AreEditsOf db tree old → AreEditsOf db (tree ++ e ∷ []) new
 one_more db tree e old new takes are = record {
-  fault = first_more (edit_faults db) tree e old.fault new.fault (first database_standing (edit_faults db e)) are.fault refl takes.fault;
+  fault = first_more (edit_faults db) tree e old.fault new.fault (earliest database_standing (edit_faults db e)) are.fault refl takes.fault;
   meant = λ none.
-      let before = none_of_both database_standing old.fault (first database_standing (edit_faults db e)) (sym takes.fault ∙ none) in
+      let before = none_of_both database_standing old.fault (earliest database_standing (edit_faults db e)) (sym takes.fault ∙ none) in
       takes.meant none ∙ ap (λ l. l ++ edit_of db e ∷ []) (are.meant before.0) ∙ sym (map-append (edit_of db) tree (e ∷ []));
 }

@@ -1,6 +1,6 @@
 -- What a reader of edits keeps: the columns of the database's relations, what the edits mean, and the first of their faults.
 use Rattle.std.specs.Prelude.{◌≡◌, ◌++◌, ℕ, List, [], ◌∷◌, map, Option, Some, None}
-use Rattle.lrp_model.specs.Faults.{first}
+use Rattle.lrp_model.specs.Faults.{earliest}
 use Rattle.lrp_model.specs.DatabaseFaults.{database_standing}
 use Rattle.lrp_model.specs.declared.relations.Relation.{Relation}
 use Rattle.lrp_model.specs.declared.faults.DbFault.{DbFault}
@@ -33,12 +33,12 @@ IsHeadingIn _ _ = ⊥
 
 -- one edit more, with these faults and this meaning
 pub record TakesEdit (faults : List DbFault) (meaning : Edit) (old new : Edits) : Type 0 where
-  pub fault : new.fault ≡ sooner database_standing old.fault (first database_standing faults)
+  pub fault : new.fault ≡ sooner database_standing old.fault (earliest database_standing faults)
   pub meant : new.fault ≡ None → new.list ≡ old.list ++ meaning ∷ []
 
 -- the first fault of the edits, and what they mean where they have none
 pub record AreEditsOf (db : List Relation) (tree : List RawEdit) (edits : Edits) : Type 0 where
-  pub fault : edits.fault ≡ first database_standing (edits_faults db tree)
+  pub fault : edits.fault ≡ earliest database_standing (edits_faults db tree)
   pub meant : edits.fault ≡ None → edits.list ≡ map (edit_of db) tree
 
 -- the bytes are a text of the grammar, and what is kept is what its edits say

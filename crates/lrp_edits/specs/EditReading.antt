@@ -11,7 +11,7 @@ use Rattle.lrp_model.specs.declared.relations.Relation.{Relation}
 use Rattle.lrp_model.specs.Tokens.{Placed, Tokens, Spells}
 use Rattle.lrp_model.specs.Lexing.{tokens}
 use Rattle.lrp_model.specs.Refused.{TextOf, IsRefusedAt}
-use Rattle.lrp_model.specs.Faults.{first}
+use Rattle.lrp_model.specs.Faults.{earliest}
 use Rattle.lrp_model.specs.DatabaseFaults.{database_standing}
 use Rattle.lrp_model.specs.DatabaseReading.{IsNoUtf8}
 use Rattle.lrp_edits.specs.declared.edits.Edit.{Edit}
@@ -46,7 +46,7 @@ pub record IsNoEditsText (bytes : List ℕ) (k : TokenFault) (place : Place) : T
 pub record HasEditsFault (bytes : List ℕ) (db : List Relation) (fault : DbFault) : Type 0 where
   pub tree : List RawEdit
   pub text : IsEditsText bytes tree
-  pub found : first database_standing (edits_faults db tree) ≡ Some fault
+  pub found : earliest database_standing (edits_faults db tree) ≡ Some fault
 
 -- the one fault that is reported: of the bytes, else of the grammar, else of the edits; these bring no names and no columns
 abbrev pub IsEditsFaultOf : List ℕ → List Relation → DbKind → DbFault → Type 0

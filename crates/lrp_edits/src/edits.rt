@@ -68,7 +68,8 @@ impl Edits {
         requires heading { IsHeading heading.now }
         requires sound { heading.now.fault ≡ None }
         requires fits { FitsEdit edit }
-        ensures { OnOk result (TakesEdit (row_faults heading.now.columns edit.row) (edit_with heading.now.columns edit) self.old self.new) }
+        ensures { OnOk result (TakesEdit (row_faults heading.now.columns edit.row)
+            (edit_with heading.now.columns edit) self.old self.new) }
     {
         let found = row_fault(heading.columns.as_slice(), &heading.times, &edit.row);
         self.fault = sooner_of(self.fault, found);
@@ -84,7 +85,8 @@ impl Edits {
 
     // One edit more, of no relation, whose name stands here.
     fn keep_unknown(&mut self, place: Place)
-        ensures { (meaning : EditOf) → TakesEdit (database_fault DbKind.UnknownRelation place ∷ []) meaning self.old self.new }
+        ensures { (meaning : EditOf) → TakesEdit
+            (database_fault DbKind.UnknownRelation place ∷ []) meaning self.old self.new }
     {
         let kind = DbKind::UnknownRelation;
         self.fault = sooner_of(self.fault, Some(DbFault { kind, place }));
@@ -100,7 +102,8 @@ impl Edits {
     ) -> Result<(), Memory>
         requires headings { AreHeadings database.now headings.now }
         requires fits { FitsEdit edit }
-        ensures { OnOk result (TakesEdit (edit_faults database.now edit) (edit_of database.now edit) self.old self.new) }
+        ensures { OnOk result (TakesEdit (edit_faults database.now edit)
+            (edit_of database.now edit) self.old self.new) }
     {
         match heading_named(database, headings, &edit.relation.item) {
             Some(heading) => self.keep_known(alloc, heading, edit),

@@ -3,7 +3,7 @@ ghost use Rattle.std.specs.Prelude.{◌≡◌, ◌≤◌, List as ListOf, length
 ghost use Rattle.std.specs.List.{AllByRecursion};
 ghost use Rattle.lrp_model.specs.declared.faults.DbFault.{DbFault as FaultOf};
 ghost use Rattle.lrp_edits.specs.declared.edits.Edit.{Edit as EditOf};
-ghost use Rattle.lrp_rel.specs.Reading.{IsOrMemory, IsFaultOrMemory};
+ghost use Rattle.lrp_rel.specs.Reading.{IsReadOrMemory, IsDatabaseFaultOrMemory};
 ghost use Rattle.lrp_edits.specs.EditMeaning.{HaveFewTexts, IsEditOf};
 ghost use Rattle.lrp_edits.specs.EditReading.{SaysEdits, IsEditsFault, AreEditsRefused};
 ghost use Rattle.lrp_edits.specs.EditGathered.{AreEditsFrom};
@@ -72,8 +72,10 @@ pub fn read_edits(alloc: Global, bytes: &[u8], database: &Database) -> Result<Li
     ensures refused { IfErr result (AreEditsRefused bytes.now database.now) }
 
     // All edits that a text says are read, and each other text is refused for its one fault.
-    ensures every_edits { (edits : ListOf EditOf) → SaysEdits bytes.now database.now edits → IsOrMemory edits result }
-    ensures every_fault { (fault : FaultOf) → IsEditsFault bytes.now database.now fault → IsFaultOrMemory fault result }
+    ensures every_edits { (edits : ListOf EditOf) → SaysEdits bytes.now database.now edits
+        → IsReadOrMemory edits result }
+    ensures every_fault { (fault : FaultOf) → IsEditsFault bytes.now database.now fault
+        → IsDatabaseFaultOrMemory fault result }
 
     // Each names a relation and has a row of its columns, and all rows together have fewer than 2^24 data texts.
     ensures lawful { IfOk result (AllByRecursion (IsEditOf database.now)) }

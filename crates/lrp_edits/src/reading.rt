@@ -47,7 +47,9 @@ fn read_all(
     tokens: &mut Cursor<'_>,
 ) -> Result<Edits, Fault>
     requires { AreHeadings database.now headings.now }
-    ensures { (n : ℕ) → length tokens.old < n → ReadsAs (AreEditsOf database.now) (until_from (edit n) is_end n [] tokens.old) result tokens.new }
+    ensures { (n : ℕ) → length tokens.old < n
+        → ReadsAs (AreEditsOf database.now)
+        (until_from (edit n) is_end n [] tokens.old) result tokens.new }
 {
     let mut kept = Edits::new(alloc);
     'edits: loop {
@@ -68,7 +70,9 @@ pub fn read_edits_to_end(
     tokens: &mut Cursor<'_>,
 ) -> Result<Edits, Fault>
     requires { AreHeadings database.now headings.now }
-    ensures { (n : ℕ) → length tokens.old < n → ReadsAs (AreEditsOf database.now) (edits n tokens.old) result (left_behind result tokens.new) }
+    ensures { (n : ℕ) → length tokens.old < n
+        → ReadsAs (AreEditsOf database.now) (edits n tokens.old) result
+        (left_behind result tokens.new) }
 {
     let kept = read_all(alloc, database, headings, tokens)?;
     tokens.expect_end()?;

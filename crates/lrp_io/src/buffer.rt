@@ -43,7 +43,10 @@ impl<'a, S: Sink> Buffer<'a, S> {
 
     /// Hands on what is held where there is no room.
     pub(crate) fn make_room(&mut self) -> Result<(), Failed>
-        ensures kept { appended (S.written self.new.out.now) (between self.new.bytes self.new.first self.new.last) ≡ appended (S.written self.old.out.now) (between self.old.bytes self.old.first self.old.last) }
+        ensures kept { appended (S.written self.new.out.now)
+            (between self.new.bytes self.new.first self.new.last)
+            ≡ appended (S.written self.old.out.now)
+            (between self.old.bytes self.old.first self.old.last) }
         ensures grew { Grew (S.written self.old.out.now) (S.written self.new.out.now) }
         ensures same_reference { self.new.out.ghost_name ≡ self.old.out.ghost_name }
         ensures room { OnOk result (self.new.last < 4096) }
@@ -61,7 +64,8 @@ impl<'a, S: Sink> Buffer<'a, S> {
         ensures count { result ≡ min (length piece.now) (4096 - self.old.last) }
         ensures same_reference { self.new.out.ghost_name ≡ self.old.out.ghost_name }
         ensures sink { self.new.out.now ≡ self.old.out.now }
-        ensures held { between self.new.bytes self.new.first self.new.last ≡ between self.old.bytes self.old.first self.old.last ++ take result piece.now }
+        ensures held { between self.new.bytes self.new.first self.new.last
+            ≡ between self.old.bytes self.old.first self.old.last ++ take result piece.now }
     {
         let count = piece.len().min(ROOM - self.last);
         let last = self.last + count;
@@ -72,7 +76,9 @@ impl<'a, S: Sink> Buffer<'a, S> {
 
     /// Hands on all that is held.
     fn hand_on(&mut self) -> Result<(), Failed>
-        ensures hands_on { HandsOn (S.written self.old.out.now) (S.written self.new.out.now) (between self.old.bytes self.old.first self.old.last) (between self.new.bytes self.new.first self.new.last) }
+        ensures hands_on { HandsOn (S.written self.old.out.now) (S.written self.new.out.now)
+            (between self.old.bytes self.old.first self.old.last)
+            (between self.new.bytes self.new.first self.new.last) }
         ensures same_reference { self.new.out.ghost_name ≡ self.old.out.ghost_name }
         ensures all { OnOk result (self.new.last ≡ 0) }
         ensures cause { HasCause (S.faults self.old.out.now) (S.faults self.new.out.now) result }
@@ -89,8 +95,12 @@ impl<'a, S: Sink> Buffer<'a, S> {
 
     /// Hands on all that is held, as the last thing.
     pub(crate) fn finish(self) -> Result<(), Failed>
-        ensures all { OnOk result (S.written self.exit.0.now ≡ appended (S.written self.entry.out.now) (between self.entry.bytes self.entry.first self.entry.last)) }
-        ensures front { OnErr result (AppendsFront (S.written self.entry.out.now) (S.written self.exit.0.now) (between self.entry.bytes self.entry.first self.entry.last)) }
+        ensures all { OnOk result (S.written self.exit.0.now
+            ≡ appended (S.written self.entry.out.now)
+            (between self.entry.bytes self.entry.first self.entry.last)) }
+        ensures front { OnErr result (AppendsFront (S.written self.entry.out.now)
+            (S.written self.exit.0.now) (between self.entry.bytes self.entry.first
+            self.entry.last)) }
         ensures cause { HasCause (S.faults self.entry.out.now) (S.faults self.exit.0.now) result }
     {
         let Buffer {

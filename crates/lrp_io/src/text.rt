@@ -82,11 +82,19 @@ impl<L: Lent, S: Sink> Sink for Buffered<'_, L, S> {
 fn fill<'a, L: Lent, S: Sink, T: Text>(buffer: Buffer<'a, S>, text: &T) -> Buffer<'a, S>
     requires name { buffer.out.ghost_name ≡ L.name }
     requires before { S.written buffer.out.now ≡ L.before }
-    ensures whole { result.failed ≡ false → appended (S.written result.out.now) (between result.bytes result.first result.last) ≡ appended (appended (S.written buffer.entry.out.now) (between buffer.entry.bytes buffer.entry.first buffer.entry.last)) (T.text text.now) }
-    ensures front { result.failed ≡ true → AppendsFront (appended (S.written buffer.entry.out.now) (between buffer.entry.bytes buffer.entry.first buffer.entry.last)) (appended (S.written result.out.now) (between result.bytes result.first result.last)) (T.text text.now) }
+    ensures whole { result.failed ≡ false → appended (S.written result.out.now)
+        (between result.bytes result.first result.last)
+        ≡ appended (appended (S.written buffer.entry.out.now)
+        (between buffer.entry.bytes buffer.entry.first buffer.entry.last)) (T.text text.now) }
+    ensures front { result.failed ≡ true → AppendsFront
+        (appended (S.written buffer.entry.out.now)
+        (between buffer.entry.bytes buffer.entry.first buffer.entry.last))
+        (appended (S.written result.out.now) (between result.bytes result.first result.last))
+        (T.text text.now) }
     ensures grew { Grew (S.written buffer.entry.out.now) (S.written result.out.now) }
     ensures same_reference { result.out.ghost_name ≡ buffer.entry.out.ghost_name }
-    ensures rose { result.failed ≡ true → Rose (S.faults buffer.entry.out.now) (S.faults result.out.now) }
+    ensures rose { result.failed ≡ true → Rose (S.faults buffer.entry.out.now)
+        (S.faults result.out.now) }
     ensures later { S.faults buffer.entry.out.now ≤ S.faults result.out.now }
 {
     let mut buffered: Buffered<'a, L, S> = Buffered {

@@ -6,7 +6,7 @@ use Rattle.slab.specs.Slab.{get}
 use Rattle.lrp_model.specs.DatabaseMeaning.{column_of}
 use Rattle.lrp_model.specs.Domains.{constants}
 use Rattle.lrp_model.specs.Formulas.{Question, question_of}
-use Rattle.lrp_model.specs.Periods.{IsMultiple}
+use Rattle.lrp_model.specs.Periods.{IsMultiple, row_periods}
 use Rattle.lrp_model.specs.Sorts.{time_count}
 use Rattle.lrp_model.specs.Rows.{relation_named, rows_in, rows_of}
 use Rattle.lrp_model.specs.Texts.{AreDistinct, Identifier}
@@ -21,7 +21,7 @@ use Rattle.lrp_kept.specs.Disjuncts.{AreDisjunctsOf}
 use Rattle.lrp_kept.specs.Held.{AreLowRows, bounds_of, names_of, relation_of, relations_of, row_of}
 use Rattle.lrp_kept.specs.Keyed.{AreHeldRows, AreRelisted, IsHeldBehind, IsLetGoAt}
 use Rattle.lrp_kept.specs.Keys.{keys_of}
-use Rattle.lrp_kept.specs.Limits.{row_bound, row_periods, scaled_kept_reach}
+use Rattle.lrp_kept.specs.Limits.{row_bound, scaled_kept_reach}
 use Rattle.lrp_kept.specs.SortedForms.{HaveColumnsOf}
 use Rattle.lrp_kept.specs.Sizes.{is_reader, joined_reach, scaled_over}
 use Rattle.lrp_kept.specs.declared.disjuncts.Disjunct.{Disjunct}

@@ -6,7 +6,7 @@ use Rattle.std.specs.Cmp.Lexicographic.{bytes_decides}
 use Rattle.std.proofs.lemmas.Bool.{eqb-true, false≢true}
 use Rattle.lrp_model.specs.Core.{disjuncts, positive}
 use Rattle.lrp_model.specs.Formulas.{Form, Forms, Question, atom, test, sorted, negation, conjunction, disjunction, implication, exists, forall, no_forms, form}
-use Rattle.lrp_model.specs.Periods.{periods, periods_each, test_periods}
+use Rattle.lrp_model.specs.Periods.{periods, periods_each, test_periods, row_periods}
 use Rattle.lrp_model.specs.Rows.{rows_in, rows_of, relation_named}
 use Rattle.lrp_model.specs.Texts.{AreDistinct, Identifier}
 use Rattle.lrp_model.specs.declared.formulas.Test.{Test}
@@ -26,7 +26,7 @@ use Rattle.lrp_model.specs.Variables.{free}
 use Rattle.lrp_kept.specs.Choices.{as_list, disjunct_tests, listed_disjuncts, tests_among}
 use Rattle.lrp_kept.specs.Disjuncts.{AreDisjunctsOf, IsAtomOf, IsDisjunctOf}
 use Rattle.lrp_kept.specs.KeptForm.{elements, is_neither, some_passes}
-use Rattle.lrp_kept.specs.Limits.{names_relation, row_periods}
+use Rattle.lrp_kept.specs.Limits.{names_relation}
 use Rattle.lrp_kept.specs.Sizes.{is_reader, tested_periods}
 use Rattle.lrp_kept.specs.declared.disjuncts.Disjunct.{Disjunct}
 use Rattle.lrp_kept.specs.declared.disjuncts.JoinedAtom.{JoinedAtom}

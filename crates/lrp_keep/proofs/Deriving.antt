@@ -6,7 +6,7 @@ use Rattle.std.proofs.lemmas.Nat.{mul-le}
 use Rattle.slab.specs.Slab.{get}
 use Rattle.lrp_theory.specs.Divides.{Divides}
 use Rattle.lrp_model.specs.Formulas.{Form}
-use Rattle.lrp_model.specs.Satisfaction.{HaveNames}
+use Rattle.lrp_model.specs.Satisfaction.{HaveDistinctNames}
 use Rattle.lrp_model.specs.Sorts.{time_count}
 use Rattle.lrp_model.specs.Texts.{Identifier}
 use Rattle.lrp_model.specs.Variables.{Variable, free, free_each, head_variables}
@@ -44,7 +44,7 @@ pub record IsReadable (g : Ground) (bounds : List ℕ) (d : Disjunct) (i : ℕ) 
 
 -- the head's names, and that the free variables of the disjunct are among them
 pub record IsOfHead (g : Ground) (f : Form) : Type 0 where
-  pub own : HaveNames g.head
+  pub own : HaveDistinctNames g.head
   pub few_times : length (head_times g.head) ≤ 8
   pub few_texts : length (head_texts g.head) ≤ 8
   pub known : (w : Variable) → Contains (free f) w → Contains (head_variables g.head) w

@@ -8,7 +8,7 @@ use Rattle.lrp_model.specs.Core.{conjuncts}
 use Rattle.lrp_model.specs.Domains.{domain as domain_of}
 use Rattle.lrp_model.specs.Formulas.{Form, Forms, Question, atom, test as test_form, sorted as sorted_form, negation, conjunction, disjunction, implication, exists, forall, no_forms, form}
 use Rattle.lrp_model.specs.Rows.{Datum, time, text, texts_of, times_of}
-use Rattle.lrp_model.specs.Satisfaction.{Assignment, HasShape, HaveNames, IsAnswer, IsOfKind, IsOfSort, Passes, Structure, assign, assignment, structure, with_value}
+use Rattle.lrp_model.specs.Satisfaction.{Assignment, HasShape, HaveDistinctNames, IsAnswer, IsOfKind, IsOfSort, Passes, Structure, assign, assignment, structure, with_value}
 use Rattle.lrp_model.specs.Sorts.{is_data}
 use Rattle.lrp_model.specs.Texts.{AreDistinct, Ascends, Identifier, Text}
 use Rattle.lrp_model.specs.Variables.{Variable, data_variable, bound_by, head_variables}
@@ -119,7 +119,7 @@ pub record RestsOn (g : Ground) (q : Question) (bs : List Column) (ds : List Dis
   pub whole : (i : ℕ) (d : Disjunct) → slice_get ds i ≡ Some d → IsWholeAt d
   pub kept : is_kept q ≡ true
   pub sorted : (f : Form) → Contains (listed_disjuncts q) f → IsSortedForm f (relations_of (get g.rows.sources) g.rows.relations.items) bs
-  pub names : HaveNames q.head
+  pub names : HaveDistinctNames q.head
   pub own : HaveOwnNames bs
   pub columns : (c : Column) → Contains q.head c → Contains bs c
   pub binders : (c : Column) → Contains bs c → Contains q.head c
@@ -159,13 +159,13 @@ first_text Data v (text t) ds env last names k e r = ap₂ (λ a l. a ∷ l) (e 
 first_text (Named name) v (time x) ds env last names k e r = absurd k
 first_text (Named name) v (text t) ds env last names k e r = ap₂ (λ a l. a ∷ l) (e ∙ own_value v t (env.texts v)) r
 
-tuple_times : (cs : List Column) (ds : List Datum) (env : Assignment) → HaveNames cs → HasShape cs ds → map (assign cs ds env).times (head_times cs) ≡ times_of ds
+tuple_times : (cs : List Column) (ds : List Datum) (env : Assignment) → HaveDistinctNames cs → HasShape cs ds → map (assign cs ds env).times (head_times cs) ≡ times_of ds
 tuple_times [] [] env n k = refl
 tuple_times [] (d ∷ ds) env n k = absurd k
 tuple_times (c ∷ cs) [] env n k = absurd k
 tuple_times (c ∷ cs) (d ∷ ds) env n k = first_time c.sort c.name d ds env (assign cs ds (with_value c.name d env)) (head_times cs) k.0 (keeps_time cs ds (with_value c.name d env) c.name n.0) (tuple_times cs ds (with_value c.name d env) n.1 k.1)
 
-tuple_texts : (cs : List Column) (ds : List Datum) (env : Assignment) → HaveNames cs → HasShape cs ds → map (assign cs ds env).texts (head_texts cs) ≡ texts_of ds
+tuple_texts : (cs : List Column) (ds : List Datum) (env : Assignment) → HaveDistinctNames cs → HasShape cs ds → map (assign cs ds env).texts (head_texts cs) ≡ texts_of ds
 tuple_texts [] [] env n k = refl
 tuple_texts [] (d ∷ ds) env n k = absurd k
 tuple_texts (c ∷ cs) [] env n k = absurd k

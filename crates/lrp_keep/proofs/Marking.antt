@@ -10,7 +10,8 @@ use Rattle.lrp_limits.specs.Multiples.{IsPeriodOf}
 use Rattle.lrp_limits.specs.declared.periods.Period.{Period}
 use Rattle.lrp_limits.proofs.Keeping.{keeps_none}
 use Rattle.lrp_limits.proofs.Raised.{raised, raised_above}
-use Rattle.lrp_kept.specs.Limits.{raised_period, relation_bound, row_periods}
+use Rattle.lrp_kept.specs.Limits.{raised_period, relation_bound}
+use Rattle.lrp_model.specs.Periods.{row_periods}
 use Rattle.lrp_kept.specs.Sizes.{is_reader, number_in}
 use Rattle.lrp_kept.specs.declared.disjuncts.Disjunct.{Disjunct}
 use Rattle.lrp_kept.specs.declared.rows.HeldRows.{HeldRows}

@@ -8,12 +8,12 @@ use Rattle.lrp_theory.specs.Divides.{Divides}
 use Rattle.lrp_model.specs.Checked.{plain_question}
 use Rattle.lrp_model.specs.DatabaseMeaning.{column_of}
 use Rattle.lrp_model.specs.Formulas.{Form, Question, question_of}
-use Rattle.lrp_model.specs.Periods.{IsMultiple, period as period_of, periods, test_periods}
+use Rattle.lrp_model.specs.Periods.{IsMultiple, period as period_of, periods, test_periods, IsCommon, row_periods}
 use Rattle.lrp_model.specs.Rows.{relation_named}
 use Rattle.lrp_model.specs.TestPoints.{points}
 use Rattle.lrp_model.specs.Texts.{AreDistinct, Identifier, Text}
 use Rattle.lrp_model.specs.Domains.{constants}
-use Rattle.lrp_model.specs.Satisfaction.{HaveNames}
+use Rattle.lrp_model.specs.Satisfaction.{HaveDistinctNames}
 use Rattle.lrp_model.specs.Variables.{free_each, head_variables}
 use Rattle.lrp_model.specs.declared.formulas.Test.{Test}
 use Rattle.lrp_model.specs.declared.formulas.Test.TheVariants.{Compare, Member, Equal}
@@ -22,11 +22,11 @@ use Rattle.lrp_model.specs.declared.relations.Relation.{Relation}
 use Rattle.lrp_model.specs.declared.relations.Row.{Row}
 use Rattle.lrp_model.proofs.Decided.{contains_first}
 use Rattle.lrp_model.proofs.Logic.{all_append}
-use Rattle.lrp_plan_laws.specs.Rising.{row_periods as database_periods}
+use Rattle.lrp_plan_laws.specs.Rising.{database_periods}
 use Rattle.lrp_plan_laws.specs.Scopes.{IsNarrow}
 use Rattle.lrp_plan_laws.proofs.Members.{all_by, all_of, in_left, in_right}
 use Rattle.lrp_plan_laws.proofs.SourcePeriods.{named_from}
-use Rattle.lrp_limits.specs.Multiples.{IsCommon, IsLeastOf, IsPeriodOf}
+use Rattle.lrp_limits.specs.Multiples.{IsLeastWithinLimit, IsPeriodOf}
 use Rattle.lrp_limits.proofs.Keeping.{least_is}
 use Rattle.lrp_limits.proofs.Raised.{above, period_from}
 use Rattle.lrp_tables.specs.Calls.{test_period}
@@ -37,7 +37,7 @@ use Rattle.lrp_kept.specs.Held.{AreLowRows, bounds_of, names_of, relation_of, re
 use Rattle.lrp_kept.specs.Keyed.{AreHeldRows, StandOnce}
 use Rattle.lrp_kept.specs.KeptForm.{elements, is_neither, some_passes}
 use Rattle.lrp_kept.specs.Keys.{keys_in, keys_of}
-use Rattle.lrp_kept.specs.Limits.{relation_bound, row_bound, row_periods, scaled_kept_reach}
+use Rattle.lrp_kept.specs.Limits.{relation_bound, row_bound, scaled_kept_reach}
 use Rattle.lrp_kept.specs.SortedForms.{HaveColumnsOf, IsSortedForm}
 use Rattle.lrp_kept.specs.Sizes.{is_reader, joined_reach, scaled_over, tested_periods}
 use Rattle.lrp_kept.specs.declared.disjuncts.Disjunct.{Disjunct}
@@ -159,7 +159,7 @@ module _ (of : KeptQuery) (db : List Relation) (start : HeldRows) (can : CanBeOp
   pub period_above : IsPeriodOf all_periods None → 2 ^ 62 < period_of db q.body
   period_above h = above (periods q.body db) low_all (body_period None h)
 
-  module _ (p : ℕ) (least : IsLeastOf all_periods p) where
+  module _ (p : ℕ) (least : IsLeastWithinLimit all_periods p) where
     positive : 1 ≤ p
     positive = least.period.low
 
@@ -377,7 +377,7 @@ module _ (of : KeptQuery) (db : List Relation) (start : HeldRows) (can : CanBeOp
               can_derive (names_of filled) z.0 d z.2 (conjunctive_of q can.can.kept z.0 z.1) (literal z.0 z.1) (ground_at of filled p) (bounds_of filled.relations.items) ds listed high_filled
               (omega (arith, positive)) (let n : length (names_of filled) ≡ length filled.relations.items = length_mapped (λ (h : HeldRelation). h.name) filled.relations.items in omega (arith, n)) (narrow z.0 z.1) (λ t k. test_fits d t listed k)
               (record {
-                own = subst (λ (p : Question). HaveNames p.head) (sym can.can.query.is) (head_named db can.can.query.raw can.can.query.sorted);
+                own = subst (λ (p : Question). HaveDistinctNames p.head) (sym can.can.query.is) (head_named db can.can.query.raw can.can.query.sorted);
                 few_times = subst (λ (p : Question). length (head_times p.head) ≤ 8) (sym can.can.query.is) (few_head_times db can.can.query.raw can.can.query.sorted);
                 few_texts = subst (λ (p : Question). length (head_texts p.head) ≤ 8) (sym can.can.query.is) (few_head_texts db can.can.query.raw can.can.query.sorted);
                 known = λ w k. subst (λ (p : Question). Contains (head_variables p.head) w) (sym can.can.query.is) (disjunct_in_head db can.can.query.raw can.can.query.sorted z.0 inside w k);

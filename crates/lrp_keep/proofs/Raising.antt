@@ -5,7 +5,7 @@ use Rattle.std.specs.List.{AllByRecursion, list_any}
 use Rattle.slab.specs.Slab.{get}
 use Rattle.lrp_model.specs.Domains.{constants}
 use Rattle.lrp_model.specs.Formulas.{question_of}
-use Rattle.lrp_model.specs.Periods.{IsMultiple, lcm, lcm_all}
+use Rattle.lrp_model.specs.Periods.{IsMultiple, lcm, lcm_all, row_periods}
 use Rattle.lrp_model.specs.Texts.{AreDistinct, Identifier}
 use Rattle.lrp_model.specs.declared.relations.Column.{Column}
 use Rattle.lrp_model.specs.declared.relations.Relation.{Relation}
@@ -17,7 +17,7 @@ use Rattle.lrp_plan_laws.proofs.PeriodLaws.{lcm_all_is, lcm_common, lcm_positive
 use Rattle.lrp_zone.proofs.Cases.{eq_or}
 use Rattle.lrp_kept.specs.Disjuncts.{AreDisjunctsOf}
 use Rattle.lrp_kept.specs.Held.{AreLowRows, bounds_of, names_of, relation_of, relations_of}
-use Rattle.lrp_kept.specs.Limits.{raised_period, row_bound, row_periods}
+use Rattle.lrp_kept.specs.Limits.{raised_period, row_bound}
 use Rattle.lrp_kept.specs.SortedForms.{HaveColumnsOf}
 use Rattle.lrp_kept.specs.Sizes.{is_reader}
 use Rattle.lrp_kept.specs.declared.rows.HeldRelation.{HeldRelation}

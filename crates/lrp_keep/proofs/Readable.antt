@@ -6,7 +6,7 @@ use Rattle.std.proofs.lemmas.Int.{ints}
 use Rattle.slab.specs.Slab.{get}
 use Rattle.lrp_theory.specs.Divides.{Divides}
 use Rattle.lrp_theory.proofs.Multiples.{Divides-trans}
-use Rattle.lrp_model.specs.Periods.{IsMultiple, value_periods}
+use Rattle.lrp_model.specs.Periods.{IsMultiple, value_periods, row_periods}
 use Rattle.lrp_model.specs.Texts.{Identifier, Text}
 use Rattle.lrp_model.specs.declared.formulas.Term.{Term}
 use Rattle.lrp_model.specs.declared.formulas.Test.{Test}
@@ -18,7 +18,6 @@ use Rattle.lrp_tables.specs.Calls.{CanBeCarried, test_period}
 use Rattle.lrp_algebra.specs.Rows.{CanBeRead, DividesPeriod, HasSmallPeriod, bounds_reach}
 use Rattle.lrp_kept.specs.Held.{AreLowRows, bounds_of}
 use Rattle.lrp_kept.specs.Keys.{keys_of}
-use Rattle.lrp_kept.specs.Limits.{row_periods}
 use Rattle.lrp_kept.specs.Outlines.{IsOutlineFor}
 use Rattle.lrp_kept.specs.Sizes.{joined_reach}
 use Rattle.lrp_kept.specs.declared.disjuncts.Disjunct.{Disjunct}

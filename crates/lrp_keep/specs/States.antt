@@ -5,7 +5,7 @@ use Rattle.slab.specs.Slab.{get}
 use Rattle.lrp_model.specs.Domains.{constants}
 use Rattle.lrp_model.specs.Formulas.{Question, question_of}
 use Rattle.lrp_model.specs.Texts.{AreDistinct, Ascends, Identifier}
-use Rattle.lrp_model.specs.Periods.{IsMultiple}
+use Rattle.lrp_model.specs.Periods.{IsMultiple, row_periods}
 use Rattle.lrp_model.specs.declared.relations.Relation.{Relation}
 use Rattle.lrp_model.specs.declared.relations.Row.{Row}
 use Rattle.lrp_store.specs.Stores.{HasReach, IsStore}
@@ -15,7 +15,7 @@ use Rattle.lrp_parts.specs.Derivations.{AreReleased, CanDerive, Ground, HasLarge
 use Rattle.lrp_kept.specs.Disjuncts.{AreDisjunctsOf}
 use Rattle.lrp_kept.specs.Held.{AreLowRows, bounds_of, names_of, relations_of, row_of}
 use Rattle.lrp_kept.specs.Keys.{keys_of}
-use Rattle.lrp_kept.specs.Limits.{raised_period, relation_bound, row_bound, row_periods}
+use Rattle.lrp_kept.specs.Limits.{raised_period, relation_bound, row_bound}
 use Rattle.lrp_kept.specs.Sizes.{is_reader, number_in, scaled_over, tested_periods}
 use Rattle.lrp_limits.specs.Facts.{KeepsPeriod}
 use Rattle.lrp_limits.specs.declared.periods.Period.{Period}

@@ -69,7 +69,8 @@ impl<'a> Keep<'a> {
     ) -> Result<Keep<'a>, KeepFault>
         requires { CanBeKept (question_of query.now) database.now domain.now }
         ensures view { IfOk result (λ made. made ≡ opened query.now database.now domain.now cap) }
-        ensures limits { OnOk result (StaysWithinLimits (opened query.now database.now domain.now cap)) }
+        ensures limits { OnOk result (StaysWithinLimits
+            (opened query.now database.now domain.now cap)) }
         ensures fault { IfErr result (IsPastLimit (opened query.now database.now domain.now cap)) }
     {
         database.relations();
@@ -88,7 +89,8 @@ impl<'a> Keep<'a> {
     pub fn add(&mut self, relation: &Name, row: &Row) -> Result<(), KeepFault>
         requires { CanBeAdded self.old relation.now row.now }
         ensures view { OnOk result (self.new ≡ with_added self.old relation.now row.now) }
-        ensures limits { OnOk result (StaysWithinLimits (with_added self.old relation.now row.now)) }
+        ensures limits { OnOk result (StaysWithinLimits
+            (with_added self.old relation.now row.now)) }
         ensures fault { IfErr result (IsPastLimit (with_added self.old relation.now row.now)) }
         ensures same { OnErr result (self.new ≡ self.old) }
     {
@@ -101,7 +103,8 @@ impl<'a> Keep<'a> {
     /// Removes the first row of a relation that is equal to this one. Whether there is one.
     pub fn remove(&mut self, relation: &Name, row: &Row) -> bool
         ensures taken { result ≡ true → IsWithout relation.now row.now self.old self.new }
-        ensures none { result ≡ false → HasNoEqual row.now (rows_of self.old.relations relation.now) }
+        ensures none { result ≡ false → HasNoEqual row.now
+            (rows_of self.old.relations relation.now) }
         ensures same { result ≡ false → self.new ≡ self.old }
     {
         match self.state.rows.relation(relation) {

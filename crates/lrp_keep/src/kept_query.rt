@@ -80,7 +80,8 @@ impl<'a> KeptQuery<'a> {
         period: Period,
     ) -> Result<Vec<Derived>, StepFault>
         requires { CanDeriveAt self.now rows.now period.number }
-        ensures derived { IfOk result (λ made. AreDerivedAt self.now rows.now period.number (levels_in made.items)) }
+        ensures derived { IfOk result (λ made. AreDerivedAt self.now rows.now period.number
+            (levels_in made.items)) }
         ensures many { result ≡ Err StepFault.TooManyCells
             → HasLargePartAt self.now rows.now period.number }
     {
@@ -103,7 +104,8 @@ fn derive_one(
     all: &mut Vec<Derived>,
 ) -> Result<(), StepFault>
     requires { CanDerive (ground_of setting.now) disjunct.now }
-    ensures derived { OnOk result (IsDerivedBehind (ground_of setting.now) disjunct.now all.old.items all.new.items) }
+    ensures derived { OnOk result (IsDerivedBehind
+        (ground_of setting.now) disjunct.now all.old.items all.new.items) }
     ensures many { result ≡ Err StepFault.TooManyCells
         → HasLargePart (ground_of setting.now) disjunct.now }
 {

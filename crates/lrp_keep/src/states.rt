@@ -6,7 +6,8 @@ ghost use Rattle.lrp_limits.specs.Multiples.{IsPeriodOf};
 ghost use Rattle.lrp_parts.specs.Derivations.{IsLastKey, ground_of};
 ghost use Rattle.lrp_kept.specs.Keys.{keys_of};
 ghost use Rattle.lrp_kept.specs.Keyed.{AreHeldRows, HasNoEqualRow, IsEmptyOf};
-ghost use Rattle.lrp_kept.specs.Limits.{relation_bound, row_periods};
+ghost use Rattle.lrp_kept.specs.Limits.{relation_bound};
+ghost use Rattle.lrp_model.specs.Periods.{row_periods};
 ghost use Rattle.lrp_kept.specs.Sizes.{number_in};
 ghost use Rattle.lrp_keep.specs.Keeps.{IsPastLimit, StaysWithinLimits};
 ghost use Rattle.lrp_keep.specs.States.{AreAllHeld, AreHeldAlso, CanBeAddedAt, CanBeHeldIn, AreDerivedIn, AreDerivedInBut, AreStillInBut, CanAllBeSketched, CanBeOpened, CanDeriveAt, CanDeriveEach, HasLargePartAt, HasSomeLargePart, IsAddedAt, IsAddingCause, IsAnswerOfState, IsDerivedAt, IsDerivedWithout, IsHeldAt, IsHoldingCause, IsKeeper, IsKeeping, IsLetGoFrom, IsMarked, IsPeriodWith, IsRaisedBy, AreMarkedBy, IsRemoved, IsStillState, IsUndone, ground_at, opened_with, periods_at, scaled_at, view_of, whole_periods};
@@ -119,9 +120,11 @@ impl State {
         requires keeping { IsKeeping of.now self.old }
         requires row { CanBeHeldIn of.now self.old relation row.now period.number }
         ensures keeper { OnOk result (IsKeeper of.now self.new) }
-        ensures view { OnOk result (IsHeldAt of.now relation row.now period.number self.old self.new) }
+        ensures view { OnOk result (IsHeldAt of.now relation row.now period.number self.old
+            self.new) }
         ensures limits { OnOk result (StaysWithinLimits (view_of of.now self.new)) }
-        ensures fault { IfErr result (IsHoldingCause of.now self.old relation row.now period.number) }
+        ensures fault { IfErr result (IsHoldingCause of.now self.old relation row.now
+            period.number) }
         ensures same { OnErr result (IsStillState of.now self.old self.new) }
     {
         if is_above(of, &self.rows, period) {
@@ -342,7 +345,8 @@ fn with_relation(
     relation: &Relation,
     number: usize,
 ) -> Option<Period>
-    ensures { IsRaisedBy (periods_at of.now.disjuncts.items number (Some relation.now)) period result }
+    ensures { IsRaisedBy (periods_at of.now.disjuncts.items number (Some relation.now)) period
+        result }
 {
     if is_read(&of.disjuncts, number) {
         with_all_periods(period, relation)

@@ -5,7 +5,7 @@ use Rattle.lrp_model.specs.Checked.{plain_question}
 use Rattle.lrp_model.specs.Core.{core_form, disjuncts}
 use Rattle.lrp_model.specs.Formulas.{Form, Forms, Question, atom, test, sorted, negation, conjunction, disjunction, implication, exists, forall, no_forms, form}
 use Rattle.lrp_model.specs.RawQueries.{RawQuestion}
-use Rattle.lrp_model.specs.Satisfaction.{HaveNames}
+use Rattle.lrp_model.specs.Satisfaction.{HaveDistinctNames}
 use Rattle.lrp_model.specs.Sorting.{IsWellSorted}
 use Rattle.lrp_model.specs.Texts.{Identifier, AreDistinct}
 use Rattle.lrp_model.specs.Variables.{Variable, time_variable, data_variable, bound_by, free, free_each, head_variables}
@@ -89,7 +89,7 @@ text_names_other n (c ∷ cs) h = by c.sort (text_names_other n cs h.1)
     by Data r = (h.0, r)
     by (Named name) r = (h.0, r)
 
-times_distinct : (cs : List Column) → HaveNames cs → AreDistinct (head_times cs)
+times_distinct : (cs : List Column) → HaveDistinctNames cs → AreDistinct (head_times cs)
 times_distinct [] h = tt
 times_distinct (c ∷ cs) h = by c.sort (times_distinct cs h.1)
   where
@@ -98,7 +98,7 @@ times_distinct (c ∷ cs) h = by c.sort (times_distinct cs h.1)
     by Data r = r
     by (Named name) r = r
 
-texts_distinct : (cs : List Column) → HaveNames cs → AreDistinct (head_texts cs)
+texts_distinct : (cs : List Column) → HaveDistinctNames cs → AreDistinct (head_texts cs)
 texts_distinct [] h = tt
 texts_distinct (c ∷ cs) h = by c.sort (texts_distinct cs h.1)
   where
@@ -142,7 +142,7 @@ module _ (db : List Relation) (q : RawQuestion) (well : IsWellSorted db q) where
       let named = (positive_named Q.body false db (free Q.body) (marks Q.body db)).1 (names_self db Q.body) in
       body_in_head db q well w (all_of (Contains (free Q.body)) (free (core_form false Q)) w named.0 (free_of_or (core_form false Q) f w c i))
 
-  pub head_named : HaveNames Q.head
+  pub head_named : HaveDistinctNames Q.head
   head_named = head_names db q well
 
   pub few_head_times : length (head_times Q.head) ≤ 8

@@ -6,7 +6,7 @@ use mathlib.Core.List.{reverse-cons}
 use Rattle.lrp_model.specs.DatabaseMeaning.{column_of}
 use Rattle.lrp_model.specs.Formulas.{Form, Forms, atom, test, sorted, negation, conjunction, disjunction, implication, exists, forall, no_forms, form}
 use Rattle.lrp_model.specs.Rows.{relation_named}
-use Rattle.lrp_model.specs.Satisfaction.{HaveNames}
+use Rattle.lrp_model.specs.Satisfaction.{HaveDistinctNames}
 use Rattle.lrp_model.specs.Texts.{Identifier}
 use Rattle.lrp_model.specs.declared.formulas.Term.{Term}
 use Rattle.lrp_model.specs.declared.raw.RawColumn.{RawColumn}
@@ -54,7 +54,7 @@ named_apart c (d ∷ cs) b h i e = elim (cons_cases d b cs i) [
   | inr more ↦ named_apart c cs b h.1 more e
 ]
 
-own_names : (cs : List Column) → HaveNames cs → HaveOwnNames cs
+own_names : (cs : List Column) → HaveDistinctNames cs → HaveOwnNames cs
 own_names [] n b c i j e = absurd (let l : i.0 < 0 = i.1 in omega (arith, l))
 own_names (d ∷ cs) n b c i j e = elim (cons_cases d b cs i) [
   | inl s ↦ elim (cons_cases d c cs j) [
@@ -67,7 +67,7 @@ own_names (d ∷ cs) n b c i j e = elim (cons_cases d b cs i) [
   ]
 ]
 
-pub turned_own : (cs : List RawColumn) → HaveNames (columns_of cs) → HaveOwnNames (columns_of (reverse cs))
+pub turned_own : (cs : List RawColumn) → HaveDistinctNames (columns_of cs) → HaveOwnNames (columns_of (reverse cs))
 turned_own cs n b c i j e = own_names (columns_of cs) n b c (of_turned cs b i) (of_turned cs c j) e
 
 -- ---- relations of the same columns

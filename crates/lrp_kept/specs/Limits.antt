@@ -5,7 +5,7 @@ use Rattle.std.specs.Str.{bytes_eq}
 use Rattle.lrp_model.specs.Texts.{Identifier}
 use Rattle.lrp_model.specs.Formulas.{Form, Question}
 use Rattle.lrp_model.specs.Variables.{Variable, time_variable, data_variable}
-use Rattle.lrp_model.specs.Periods.{lcm, lcm_all, value_periods}
+use Rattle.lrp_model.specs.Periods.{lcm, lcm_all, row_periods}
 use Rattle.lrp_model.specs.Sorts.{time_count}
 use Rattle.lrp_model.specs.Reach.{greatest, term_magnitudes, test_reach}
 use Rattle.lrp_model.specs.declared.relations.Row.{Row}
@@ -13,10 +13,6 @@ use Rattle.lrp_model.specs.declared.relations.Relation.{Relation}
 use Rattle.lrp_plan_laws.specs.Atoms.{Atom, atoms}
 use Rattle.lrp_kept.specs.KeptForm.{bound_variables}
 use Rattle.lrp_kept.specs.Choices.{disjunct_tests, listed_disjuncts}
-
--- the periods of a row's points
-abbrev pub row_periods : Row → List ℕ
-row_periods row = flat_map value_periods row.values
 
 -- the least common multiple of a period and of those of a further row
 abbrev pub raised_period : ℕ → Row → ℕ

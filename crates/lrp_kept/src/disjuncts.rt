@@ -68,8 +68,10 @@ struct Draft {
 
 /// The disjuncts of a query in kept form over relations.
 pub fn disjuncts_of(alloc: Global, query: &Query, rows: &HeldRows) -> Result<Vec<Disjunct>, Memory>
-    requires { AllByRecursion (CanBeJoinedUp (names_of rows.now)) (listed_disjuncts (question_of query.now)) }
-    ensures { IfOk result (λ made. AreDisjunctsOf (names_of rows.now) (question_of query.now) made.items) }
+    requires { AllByRecursion (CanBeJoinedUp (names_of rows.now))
+        (listed_disjuncts (question_of query.now)) }
+    ensures { IfOk result (λ made. AreDisjunctsOf (names_of rows.now)
+        (question_of query.now) made.items) }
 {
     let core = core_form(alloc, query, false)?;
     match &core {
@@ -85,7 +87,8 @@ fn each_disjunct(
     rows: &HeldRows,
 ) -> Result<Vec<Disjunct>, Memory>
     requires { AllByRecursion (CanBeJoinedUp (names_of rows.now)) (as_list (cores_of cores.now)) }
-    ensures { IfOk result (λ made. AreDisjuncts (names_of rows.now) (as_list (cores_of cores.now)) made.items) }
+    ensures { IfOk result (λ made. AreDisjuncts (names_of rows.now)
+        (as_list (cores_of cores.now)) made.items) }
 {
     let mut all = Vec::new(alloc);
     for core in cores {
@@ -97,7 +100,8 @@ fn each_disjunct(
 // The one disjunct that a formula is.
 fn one_disjunct(alloc: Global, core: &Core<'_>, rows: &HeldRows) -> Result<Vec<Disjunct>, Memory>
     requires { CanBeJoinedUp (names_of rows.now) (core_of core.now) }
-    ensures { IfOk result (λ made. AreDisjuncts (names_of rows.now) (core_of core.now ∷ []) made.items) }
+    ensures { IfOk result (λ made. AreDisjuncts (names_of rows.now)
+        (core_of core.now ∷ []) made.items) }
 {
     let mut all = Vec::new(alloc);
     push_one(alloc, core, rows, &mut all)?;
@@ -112,7 +116,8 @@ fn push_one(
     all: &mut Vec<Disjunct>,
 ) -> Result<(), Memory>
     requires { CanBeJoinedUp (names_of rows.now) (core_of core.now) }
-    ensures { OnOk result (IsOneMore (names_of rows.now) (core_of core.now) all.old.items all.new.items) }
+    ensures { OnOk result (IsOneMore (names_of rows.now)
+        (core_of core.now) all.old.items all.new.items) }
 {
     let draft = draft_of(alloc, core)?;
     let disjunct = disjunct_of(alloc, draft, all.len(), rows)?;
@@ -152,7 +157,8 @@ fn joined_atoms(
     rows: &HeldRows,
 ) -> Result<Vec<JoinedAtom>, Memory>
     requires { AreNamed (names_of rows.now) (map atom_in named.now.items) }
-    ensures { IfOk result (λ made. AreAllJoined (names_of rows.now) (map atom_in named.now.items) tests.now made.items) }
+    ensures { IfOk result (λ made. AreAllJoined (names_of rows.now)
+        (map atom_in named.now.items) tests.now made.items) }
 {
     let mut vars = Vars {
         times: List::new(alloc),
@@ -281,7 +287,8 @@ fn add_element(alloc: Global, element: &Core<'_>, draft: &mut Draft) -> Result<(
 
 // The tests that have no other variables than these.
 fn covered(alloc: Global, tests: &List<Test>, vars: &Vars) -> Result<List<Test>, Memory>
-    ensures { IfOk result (λ made. made ≡ filter (is_covered_by vars.now.times vars.now.texts) tests.now) }
+    ensures { IfOk result (λ made. made ≡ filter
+        (is_covered_by vars.now.times vars.now.texts) tests.now) }
 {
     let mut all = List::new(alloc);
     for test in tests.as_slice() {
@@ -303,7 +310,8 @@ fn is_covered(test: &Test, vars: &Vars) -> bool
 }
 
 fn has_time(vars: &Vars, term: &TimeTerm) -> bool
-    ensures { result ≡ list_all (λ v. list_any (bytes_eq v) vars.now.times) (names_of_time term.now) }
+    ensures { result ≡ list_all (λ v. list_any (bytes_eq v) vars.now.times)
+        (names_of_time term.now) }
 {
     match term {
         TimeTerm::Var { name, .. } => is_among(&vars.times, name),
@@ -312,7 +320,8 @@ fn has_time(vars: &Vars, term: &TimeTerm) -> bool
 }
 
 fn has_text(vars: &Vars, term: &DataTerm) -> bool
-    ensures { result ≡ list_all (λ v. list_any (bytes_eq v) vars.now.texts) (names_of_data term.now) }
+    ensures { result ≡ list_all (λ v. list_any (bytes_eq v) vars.now.texts)
+        (names_of_data term.now) }
 {
     match term {
         DataTerm::Var { name } => is_among(&vars.texts, name),

@@ -24,7 +24,8 @@ pub fn is_kept(query: &Query) -> bool
 // Whether the core form is a disjunct or an `or` of disjuncts.
 #[cycle(disjuncts)]
 fn are_disjuncts(columns: &[Column], f: &Formula, holds: bool) -> bool
-    ensures { result ≡ all_pass (is_disjunct_form columns.now) (disjuncts (signed holds (form_of f.now))) }
+    ensures { result ≡ all_pass (is_disjunct_form columns.now)
+        (disjuncts (signed holds (form_of f.now))) }
 {
     match f {
         Formula::Not { of } => are_disjuncts(columns, of, !holds),
@@ -38,7 +39,8 @@ fn are_disjuncts(columns: &[Column], f: &Formula, holds: bool) -> bool
 
 #[cycle(disjuncts)]
 fn each_are_disjuncts(columns: &[Column], fs: &[Formula]) -> bool
-    ensures { result ≡ list_all (λ f. all_pass (is_disjunct_form columns.now) (disjuncts (signed true (form_of f)))) fs.now }
+    ensures { result ≡ list_all (λ f. all_pass (is_disjunct_form columns.now)
+        (disjuncts (signed true (form_of f)))) fs.now }
 {
     for f in fs {
         if !are_disjuncts(columns, f, true) {
@@ -79,7 +81,8 @@ fn columns_occur(columns: &[Column], whole: Signed) -> bool
 
 // Whether the variables of the `exists` with which a core form begins occur in atoms.
 fn bound_occur(f: &Formula, holds: bool, whole: Signed) -> bool
-    ensures { result ≡ all_occur (conjuncts_of whole.entry) (bound_variables (signed holds (form_of f.now))) }
+    ensures { result ≡ all_occur (conjuncts_of whole.entry)
+        (bound_variables (signed holds (form_of f.now))) }
 {
     match f {
         Formula::Not { of } => bound_occur(of, !holds, whole),
@@ -112,7 +115,8 @@ fn tests_occur(f: &Formula, holds: bool, whole: Signed) -> bool
 
 #[cycle(tests)]
 fn tests_of_each_occur(fs: &[Formula], holds: bool, whole: Signed) -> bool
-    ensures { result ≡ list_all (λ f. tests_in_atoms whole.entry (conjuncts (signed holds (form_of f)))) fs.now }
+    ensures { result ≡ list_all (λ f. tests_in_atoms whole.entry
+        (conjuncts (signed holds (form_of f)))) fs.now }
 {
     for f in fs {
         if !tests_occur(f, holds, whole) {

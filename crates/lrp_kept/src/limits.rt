@@ -1,14 +1,14 @@
 // The numbers by which edits are refused: the kept period, the greatest bounds and the kept reach.
 ghost use Rattle.std.specs.Prelude.{◌≡◌, ◌+◌, ◌*◌, ◌∷◌, max, map, flat_map, slice_index_or};
 ghost use Rattle.std.specs.List.{list_any};
-ghost use Rattle.lrp_model.specs.Periods.{test_periods};
+ghost use Rattle.lrp_model.specs.Periods.{test_periods, row_periods};
 ghost use Rattle.lrp_model.specs.Reach.{greatest};
 ghost use Rattle.lrp_model.specs.Sorts.{time_count};
 ghost use Rattle.lrp_limits.specs.Capped.{capped as capped_at};
 ghost use Rattle.lrp_limits.specs.Facts.{KeepsPeriod};
 ghost use Rattle.lrp_limits.specs.Multiples.{IsPeriodOf};
 ghost use Rattle.lrp_kept.specs.Held.{bounds_of};
-ghost use Rattle.lrp_kept.specs.Limits.{row_bound, row_periods};
+ghost use Rattle.lrp_kept.specs.Limits.{row_bound};
 ghost use Rattle.lrp_kept.specs.Sizes.{AreSizes, is_reader, joined_reach, number_in, reach_in, scaled_over, tested_periods};
 
 use crate::disjuncts::{Disjunct, JoinedAtom};
@@ -84,7 +84,8 @@ pub fn scaled_reach(
     head: &[Column],
     period: Period,
 ) -> u64
-    ensures { result ≡ capped_at (scaled_over (bounds_of relations.now) period.number head.now disjuncts.now) }
+    ensures { result ≡ capped_at (scaled_over
+        (bounds_of relations.now) period.number head.now disjuncts.now) }
 {
     let most = sizes_of(disjuncts, relations, period);
     scaled(doubled_times(stepped(most, period), most.times), head)
@@ -148,7 +149,8 @@ fn disjunct_reach(disjunct: &Disjunct, relations: &[HeldRelation], period: Perio
 }
 
 fn atoms_reach(atoms: &Vec<JoinedAtom>, relations: &[HeldRelation], period: Period) -> u64
-    ensures { result ≡ capped_at (greatest (map (joined_reach (bounds_of relations.now) period.number) atoms.now.items)) }
+    ensures { result ≡ capped_at (greatest (map
+        (joined_reach (bounds_of relations.now) period.number) atoms.now.items)) }
 {
     let mut reach = 0;
     for atom in atoms {

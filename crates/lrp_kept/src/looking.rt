@@ -30,14 +30,16 @@ pub(crate) fn has_element(whole: Signed, sought: Sought) -> bool
 
 /// Whether the variable of a binder of this sort and name occurs in an atom of the conjunction.
 pub(crate) fn occurs(whole: Signed, sort: &Sort, name: &Name) -> bool
-    ensures { result ≡ some_passes (is_atom_with (bound_by sort.now name.now)) (conjuncts_of whole.entry) }
+    ensures { result ≡ some_passes (is_atom_with (bound_by sort.now name.now))
+        (conjuncts_of whole.entry) }
 {
     has_element(whole, Sought::AtomWith { sort, name })
 }
 
 #[cycle(looking)]
 fn some_element(f: &Formula, holds: bool, sought: Sought) -> bool
-    ensures { result ≡ some_passes (is_sought sought.entry) (conjuncts (signed holds (form_of f.now))) }
+    ensures { result ≡ some_passes (is_sought sought.entry)
+        (conjuncts (signed holds (form_of f.now))) }
 {
     match f {
         Formula::Not { of } => some_element(of, !holds, sought),
@@ -54,7 +56,8 @@ fn some_element(f: &Formula, holds: bool, sought: Sought) -> bool
 
 #[cycle(looking)]
 fn some_of(fs: &[Formula], holds: bool, sought: Sought) -> bool
-    ensures { result ≡ list_any (λ f. some_passes (is_sought sought.entry) (conjuncts (signed holds (form_of f)))) fs.now }
+    ensures { result ≡ list_any (λ f. some_passes (is_sought sought.entry)
+        (conjuncts (signed holds (form_of f)))) fs.now }
 {
     for f in fs {
         if some_element(f, holds, sought) {
@@ -94,7 +97,8 @@ fn is_atom_sought(terms: &[Term], sought: Sought) -> bool
 
 // Whether the variable of a binder of this sort and name is among the terms.
 fn has_variable(terms: &[Term], sort: &Sort, name: &Name) -> bool
-    ensures { result ≡ list_any (λ term. is_among (variables_of_term term) (bound_by sort.now name.now)) terms.now }
+    ensures { result ≡ list_any (λ term. is_among (variables_of_term term)
+        (bound_by sort.now name.now)) terms.now }
 {
     for term in terms {
         if is_variable(term, sort, name) {

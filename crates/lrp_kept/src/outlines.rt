@@ -84,7 +84,8 @@ impl Outline {
     pub fn is_apart(&self, other: &Outline) -> bool
         requires own { IsFull self.now }
         requires other { IsFull other.now }
-        ensures { result ≡ true → (xs : ℕ → ℤ) (ns : List ℕ) → IsInOutline self.now xs ns → IsInOutline other.now xs ns → ⊥ }
+        ensures { result ≡ true → (xs : ℕ → ℤ) (ns : List ℕ) → IsInOutline self.now xs ns
+            → IsInOutline other.now xs ns → ⊥ }
     {
         differ_somewhere(&self.texts, &other.texts)
             || are_apart_somewhere(&self.times, &other.times)
@@ -134,7 +135,8 @@ fn narrow_at(times: &mut [Span; 8], placed: &Placed, i: usize, count: usize)
 fn narrowed_by(span: &Span, zone: &Zone, i: usize) -> Span
     requires low { 0 < i }
     requires high { i ≤ columns_of zone.now }
-    ensures { (ys : List ℤ) → IsMember zone.now ys → IsInSpan span.now (node ys i) → IsInSpan result (node ys i) }
+    ensures { (ys : List ℤ) → IsMember zone.now ys → IsInSpan span.now (node ys i)
+        → IsInSpan result (node ys i) }
 {
     Span {
         least: later(span.least, zone.bound(0, i)),
@@ -195,7 +197,8 @@ fn lowered(most: Option<i64>, further: i64) -> Option<i64>
 fn known(point: &Option<Point>, zone: &Zone, i: usize) -> Option<Point>
     requires low { 0 < i }
     requires high { i ≤ columns_of zone.now }
-    ensures { (ys : List ℤ) → IsMember zone.now ys → IsOfPoint point.now (node ys i) → IsOfPoint result (node ys i) }
+    ensures { (ys : List ℤ) → IsMember zone.now ys → IsOfPoint point.now (node ys i)
+        → IsOfPoint result (node ys i) }
 {
     match point {
         Some(point) => Some(*point),

@@ -96,7 +96,8 @@ impl HeldRows {
 
     /// The number of the relation with this name, from 0.
     pub fn relation(&self, name: &Name) -> Option<usize>
-        ensures some { IfSome result (λ number. slice_get (names_of self.now) number ≡ Some name.now) }
+        ensures some { IfSome result (λ number. slice_get (names_of self.now) number
+            ≡ Some name.now) }
         ensures none { IfNone result (Contains (names_of self.now) name.now → ⊥) }
     {
         for number in 0..self.relations.len() {
@@ -110,7 +111,8 @@ impl HeldRows {
     /// Where the first row that is equal to this one stands among those of its relation.
     pub fn place_of(&self, relation: usize, row: &Row) -> Option<usize>
         requires { relation < length self.now.relations.items }
-        ensures { MatchOption result (HasNoEqualRow self.now relation row.now) (IsFirstEqual self.now relation row.now) }
+        ensures { MatchOption result (HasNoEqualRow self.now relation row.now)
+            (IsFirstEqual self.now relation row.now) }
     {
         let keys = &self.relations[relation].keys;
         for place in 0..keys.len() {
@@ -123,7 +125,8 @@ impl HeldRows {
 
     // Whether there is a row under the key that is equal to this one.
     fn is_equal(&self, key: usize, row: &Row) -> bool
-        ensures { MatchOption (get self.now.sources key) (result ≡ false) (λ source. IsTrue result ↔ AreEqualRows source.row row.now) }
+        ensures { MatchOption (get self.now.sources key) (result ≡ false)
+            (λ source. IsTrue result ↔ AreEqualRows source.row row.now) }
     {
         match self.sources.get(key) {
             Some(source) => are_equal(&source.row, row),
@@ -163,8 +166,11 @@ impl HeldRows {
 // Puts a key behind the others of a relation.
 fn list_key(relations: &mut Vec<HeldRelation>, relation: usize, key: usize) -> Result<(), Memory>
     requires { relation < length relations.old.items }
-    ensures listed { OnOk result (AreRelisted relation (keys_at relations.old.items relation ++ key ∷ []) relations.old.items relations.new.items) }
-    ensures same { OnErr result (AreRelisted relation (keys_at relations.old.items relation) relations.old.items relations.new.items) }
+    ensures listed { OnOk result (AreRelisted relation
+        (keys_at relations.old.items relation ++ key ∷ []) relations.old.items
+        relations.new.items) }
+    ensures same { OnErr result (AreRelisted relation
+        (keys_at relations.old.items relation) relations.old.items relations.new.items) }
 {
     relations[relation].keys.push(key)?;
     Ok(())

@@ -23,7 +23,8 @@ impl Source {
         requires { CanBeSketched disjuncts.now relation row.now }
         ensures relation { IfOk result (λ made. made.relation ≡ relation) }
         ensures row { IfOk result (λ made. made.row ≡ row.now) }
-        ensures sketches { IfOk result (λ made. AreSketchesOf domain.now disjuncts.now relation row.now made.sketches.items) }
+        ensures sketches { IfOk result (λ made. AreSketchesOf domain.now disjuncts.now relation
+            row.now made.sketches.items) }
     {
         let sketching = Sketching {
             alloc,
@@ -56,7 +57,8 @@ impl<'a> Sketching<'a> {
     // A sketch for each atom that reads the relation.
     fn all(&self) -> Result<Vec<Sketch>, Memory>
         requires { CanBeSketched self.now.disjuncts.now self.now.relation self.now.row.now }
-        ensures { IfOk result (λ made. AreSketchesOf self.now.domain.now self.now.disjuncts.now self.now.relation self.now.row.now made.items) }
+        ensures { IfOk result (λ made. AreSketchesOf self.now.domain.now self.now.disjuncts.now
+            self.now.relation self.now.row.now made.items) }
     {
         let mut all = Vec::new(self.alloc);
         for disjunct in self.disjuncts {
@@ -69,8 +71,10 @@ impl<'a> Sketching<'a> {
     fn with_disjunct(&self, disjunct: &Disjunct, before: Vec<Sketch>) -> Result<Vec<Sketch>, Memory>
         requires listed { Contains self.now.disjuncts.now disjunct.now }
         requires row { CanBeSketched self.now.disjuncts.now self.now.relation self.now.row.now }
-        requires before { AreSketchesOf self.now.domain.now self.now.disjuncts.now self.now.relation self.now.row.now before.items }
-        ensures { IfOk result (λ made. AreSketchesOf self.now.domain.now self.now.disjuncts.now self.now.relation self.now.row.now made.items) }
+        requires before { AreSketchesOf self.now.domain.now self.now.disjuncts.now self.now.relation
+            self.now.row.now before.items }
+        ensures { IfOk result (λ made. AreSketchesOf self.now.domain.now self.now.disjuncts.now
+            self.now.relation self.now.row.now made.items) }
     {
         let mut all = before;
         for atom in 0..disjunct.atoms.len() {
@@ -89,8 +93,10 @@ impl<'a> Sketching<'a> {
         requires listed { Contains self.now.disjuncts.now disjunct.now }
         requires atom { atom < length disjunct.now.atoms.items }
         requires row { CanBeSketched self.now.disjuncts.now self.now.relation self.now.row.now }
-        requires before { AreSketchesOf self.now.domain.now self.now.disjuncts.now self.now.relation self.now.row.now before.items }
-        ensures { IfOk result (λ made. AreSketchesOf self.now.domain.now self.now.disjuncts.now self.now.relation self.now.row.now made.items) }
+        requires before { AreSketchesOf self.now.domain.now self.now.disjuncts.now self.now.relation
+            self.now.row.now before.items }
+        ensures { IfOk result (λ made. AreSketchesOf self.now.domain.now self.now.disjuncts.now
+            self.now.relation self.now.row.now made.items) }
     {
         let Some(sketch) = self.at_atom(disjunct, atom)? else {
             return Ok(before);
@@ -109,7 +115,9 @@ impl<'a> Sketching<'a> {
         requires listed { Contains self.now.disjuncts.now disjunct.now }
         requires atom { atom < length disjunct.now.atoms.items }
         requires row { CanBeSketched self.now.disjuncts.now self.now.relation self.now.row.now }
-        ensures { IfOk result (λ made. IfSome made (IsSketchAmong self.now.domain.now self.now.disjuncts.now self.now.relation self.now.row.now)) }
+        ensures { IfOk result (λ made. IfSome made
+            (IsSketchAmong self.now.domain.now self.now.disjuncts.now self.now.relation
+            self.now.row.now)) }
     {
         if disjunct.atoms[atom].relation != self.relation {
             return Ok(None);
@@ -120,7 +128,8 @@ impl<'a> Sketching<'a> {
 
     fn sketch(&self, disjunct: &Disjunct, atom: usize) -> Result<Sketch, Memory>
         requires atom { atom < length disjunct.now.atoms.items }
-        requires row { (a : JoinedAtomOf) → slice_get disjunct.now.atoms.items atom ≡ Some a → CanBeOutlined self.now.row.now a }
+        requires row { (a : JoinedAtomOf) → slice_get disjunct.now.atoms.items atom ≡ Some a
+            → CanBeOutlined self.now.row.now a }
         ensures { IfOk result (IsSketchFor self.now.domain.now disjunct.now atom self.now.row.now) }
     {
         let of = &disjunct.atoms[atom];

@@ -1,6 +1,6 @@
 -- Rows of one settled cell stand beside each other as they may: none where there is no time, apart with one, and else only where their cell is no zone.
 use Rattle.std.proofs.Common.{◌≡◌, ◌<◌, ◌∙◌, ℕ, zero, suc, List, [], ◌∷◌, Option, refl, sym, ap, subst, arith, length, map, take, get_or}
-use Rattle.std.specs.Prelude.{ℤ, pos, ◌-ℤ◌, ◌+ℤ◌, ◌<ℤ◌, ◌↔◌, Contains, AllPairs}
+use Rattle.std.specs.Prelude.{ℤ, pos, ◌-ℤ◌, ◌↔◌, Contains, AllPairs}
 use Rattle.std.specs.Cmp.Lexicographic.{nat_list_cmp_total}
 use Rattle.std.specs.List.{AllByRecursion}
 use Rattle.std.proofs.lemmas.Cmp.{tied_itself}
@@ -10,7 +10,7 @@ use Rattle.std.proofs.lemmas.Map.Lookups.{exact_bytes}
 use Rattle.lrp_theory.specs.Divides.{Divides}
 use Rattle.lrp_theory.specs.Entries.{node}
 use Rattle.lrp_model.specs.AnswerTexts.{IsApart, IsOneZone as IsOneZoneOf, MayStandBeside, OfOneCell}
-use Rattle.lrp_model.specs.Rows.{Datum, times_of, texts_of, time_at, IsOf, Meets}
+use Rattle.lrp_model.specs.Rows.{Datum, times_of, texts_of, IsOf, MeetsBound}
 use Rattle.lrp_model.specs.Texts.{Text, Ascends}
 use Rattle.lrp_model.specs.Tuples.{in_head_order}
 use Rattle.lrp_model.specs.declared.tuples.Cell.{Cell}
@@ -26,7 +26,7 @@ use Rattle.lrp_store.proofs.Held.{cell_held, node_take}
 use Rattle.lrp_list.specs.AnswerText.{cell_rows, row_of, rows_of}
 use Rattle.lrp_list.specs.Listing.{window_of}
 use Rattle.lrp_list.proofs.AnswerHolds.{in_answer, pairs_of_rows}
-use Rattle.lrp_list.proofs.AnswerRows.{cell_texts as row_texts, columns_are, from_row, known, row, row_tuple, time_node, values_of, with_times, zone, zone_is}
+use Rattle.lrp_list.proofs.AnswerRows.{cell_texts as row_texts, columns_are, from_row, known, row, row_tuple, values_of, with_times, zone, zone_is}
 use Rattle.lrp_list.proofs.Apart.{far_apart, has_of}
 use Rattle.lrp_list.proofs.Hull.{hull, hull_meets, is_one}
 use Rattle.lrp_list.proofs.Lists.{from_map, head_in, in_map, in_none}
@@ -84,10 +84,8 @@ module _ (a : Answer) (store : IsStore a.store) (ascends : Ascends a.domain) (ro
       let rj = room.each cell tj hj in
       let x = from_row a store ascends cell ti hi t ht in
       let y = from_row a store ascends cell tj hj u hu in
-      let far : (node (times_of t) 1 +ℤ pos a.store.period) <ℤ node (times_of u) 1 =
       far_apart zones ((settled zi (zone_listed ti hi)).one oi) zi zj i j il (subst (λ n. j < n) (sym zones_count) jl) (zone_at i (omega arith)) (zone_at j jl) vi vj oi oj (record { period = refl; residues = refl }) ri.0 rj.0 ri.1 rj.1
-      (node (times_of t) 1) (node (times_of u) 1) (has_of zi vi oi (times_of t) x.times) (has_of zj vj oj (times_of u) y.times) in
-      subst (λ v. (v +ℤ pos a.store.period) <ℤ time_at (times_of u) 1) (sym (time_node (times_of t) 1)) (subst (λ v. (node (times_of t) 1 +ℤ pos a.store.period) <ℤ v) (sym (time_node (times_of u) 1)) far)
+      (node (times_of t) 1) (node (times_of u) 1) (has_of zi vi oi (times_of t) x.times) (has_of zj vj oj (times_of u) y.times)
 
   -- ---- more columns
 
@@ -128,12 +126,12 @@ module _ (a : Answer) (store : IsStore a.store) (ascends : Ascends a.domain) (ro
       space : (y : ZoneView) → Contains (z ∷ ys) y → (n : ℕ) × IsRoom y n
       space y k = let t = is_listed y k in let r = room.each cell t.0 t.1 in (r.0, subst (λ v. IsRoom v r.0) t.2 r.1)
 
-      met : (xs : List ℤ) → InSome (z ∷ ys) xs → AllByRecursion (Meets xs) h.bounds
+      met : (xs : List ℤ) → InSome (z ∷ ys) xs → AllByRecursion (MeetsBound xs) h.bounds
       met xs s =
           let t = is_listed s.zone s.listed in
           let r = row_tuple a store ascends cell t.0 t.1 xs (subst (λ v. IsMember v xs) (sym t.2) s.inside) in
           let in_it : InAnswer a.head.columns a.domain a.store r.0 = in_answer a store ascends r.0 cell (row a store ascends cell t.0 t.1) (record { table = t.0; held = t.1; is = refl }) r.1 in
-          subst (λ zs. AllByRecursion (Meets zs) h.bounds) r.2 (((h.same r.0 r.1.values).0 ((same r.0).0 in_it)).bounds)
+          subst (λ zs. AllByRecursion (MeetsBound zs) h.bounds) r.2 (((h.same r.0 r.1.values).0 ((same r.0).0 in_it)).bounds)
 
       cell_here : (xs : List ℤ) → IsInCell z xs → IsInCell (zone a store ascends cell table held) xs
       cell_here xs c = let d : IsInCell (zone_of a.store cell first_listed.0) xs = subst (λ v. IsInCell v xs) (sym first_listed.2) c in record { count = d.count; each = d.each }
@@ -145,7 +143,7 @@ module _ (a : Answer) (store : IsStore a.store) (ascends : Ascends a.domain) (ro
           let t = with_times a store ascends cell table held xs here.count in
           let times : IsInCell (zone a store ascends cell table held) (times_of tuple) = subst (λ zs. IsInCell (zone a store ascends cell table held) zs) (sym t.times) here in
           let values : IsOf (row a store ascends cell table held).values tuple = values_of a store ascends cell table held tuple t.shape times t.texts in
-          let bounds : AllByRecursion (Meets (times_of tuple)) h.bounds = subst (λ zs. AllByRecursion (Meets zs) h.bounds) (sym t.times) (hull_meets z ys valid cells space h.bounds met xs m) in
+          let bounds : AllByRecursion (MeetsBound (times_of tuple)) h.bounds = subst (λ zs. AllByRecursion (MeetsBound zs) h.bounds) (sym t.times) (hull_meets z ys valid cells space h.bounds met xs m) in
           let answer : InAnswer a.head.columns a.domain a.store tuple = (same tuple).1 ((h.same tuple values).1 (record { values = values; bounds = bounds })) in
           subst (λ zs. InSome zs xs) e (subst (InSome zones) t.times (in_some tuple answer times t.texts))
 

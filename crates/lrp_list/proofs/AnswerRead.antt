@@ -1,18 +1,16 @@
 -- The relation of an answer reads back as it is written.
-use Rattle.std.proofs.Common.{◌≡◌, ◌≢◌, ◌<◌, ◌≤◌, ◌+◌, ◌^◌, ◌∙◌, ℕ, List, [], ◌∷◌, ◌++◌, true, false, Option, Some, refl, sym, ap, ap₂, subst, arith, map, take, append-nil, if◌then◌else◌}
+use Rattle.std.proofs.Common.{◌≡◌, ◌≢◌, ◌<◌, ◌≤◌, ◌+◌, ◌^◌, ◌∙◌, ℕ, List, [], ◌∷◌, true, false, Option, Some, refl, sym, ap, ap₂, subst, arith, map, take, append-nil}
 use Rattle.std.specs.Prelude.{ℤ, pos, ◌-ℤ◌, ◌≤ℤ◌, ◌<ℤ◌, codes, Contains}
 use Rattle.std.specs.Int.{int_rem_euclid}
-use Rattle.std.specs.List.{AllByRecursion, flat_map}
+use Rattle.std.specs.List.{AllByRecursion}
 use Rattle.std.proofs.lemmas.Int.{ints}
 use Rattle.std.specs.FinMap as finite
 use Rattle.lrp_theory.specs.Divides.{Divides}
 use Rattle.lrp_theory.specs.Entries.{AtMost}
 use Rattle.lrp_theory.proofs.Modulo.{rem_between, rem_divides, small_multiple}
-use Rattle.lrp_text.proofs.Sound.{takes_join}
 use Rattle.lrp_model.specs.AnswerTexts.{HasPeriod as HasPeriodOf, IsAnswerRow}
 use Rattle.lrp_model.specs.DatabaseReading.{IsDatabase}
-use Rattle.lrp_model.specs.Databases.{relation_text, database_text}
-use Rattle.lrp_model.specs.Lexing.{after, start, tokens, tokens_from, skip, scan}
+use Rattle.lrp_model.specs.Lexing.{start, tokens_from, skip, scan}
 use Rattle.lrp_model.specs.Limits.{greatest_number}
 use Rattle.lrp_model.specs.Printed.{relation_bytes, database_bytes}
 use Rattle.lrp_model.specs.Rows.{Datum, time, text, texts_of}
@@ -20,7 +18,7 @@ use Rattle.lrp_model.specs.Satisfaction.{HasShape, IsOfKind}
 use Rattle.lrp_model.specs.Sorts.{is_time, time_count}
 use Rattle.lrp_model.specs.Texts.{Text, Ascends}
 use Rattle.lrp_model.specs.DataTexts.{IsDataText}
-use Rattle.lrp_model.specs.Tokens.{Takes, Spells, joined_parts}
+use Rattle.lrp_model.specs.Tokens.{Spells}
 use Rattle.lrp_model.specs.Tokens.Part.{any}
 use Rattle.lrp_model.specs.Tokens.Token.{end_token}
 use Rattle.lrp_model.specs.declared.relations.Column.{Column}
@@ -38,7 +36,7 @@ use Rattle.lrp_print.proofs.Faultless.{relations_fit, relations_sound}
 use Rattle.lrp_print.proofs.Meant.{reduced, reduced_row, reduced_value, relations_mean}
 use Rattle.lrp_print.proofs.PieceLaws.{trees, behind}
 use Rattle.lrp_print.proofs.Spelling.{tokens_at}
-use Rattle.lrp_print.proofs.Trees.{relation_tree, relations_spelled}
+use Rattle.lrp_print.proofs.Trees.{relation_tree}
 use Rattle.lrp_print.proofs.Utf8.{relations_utf8}
 use Rattle.lrp_zone.specs.Zones.{columns_of}
 use Rattle.lrp_store.specs.Least.{HasRoom}
@@ -53,6 +51,7 @@ use Rattle.lrp_list.proofs.AnswerRows.{columns_are, first, head, known, zone, zo
 use Rattle.lrp_list.proofs.Closed.{closed_at, closed_small, from_bounds}
 use Rattle.lrp_list.proofs.Lists.{all_in, from_flat, in_all}
 use Rattle.lrp_list.proofs.Placed.{cell_texts}
+use Rattle.lrp_print.proofs.Reading.{database_spelled}
 
 -- ---- relations whose offsets are residues read back as they are
 
@@ -64,14 +63,6 @@ the_end p = (refl, refl)
 -- the tree of relations
 abbrev database_tree : List Relation → List RawRelation
 database_tree = trees (behind relation_bytes) relation_tree start
-
--- the text of relations spells their tree
-database_spelled : (rs : List Relation) → AllByRecursion IsKept rs → Spells (database_text (database_tree rs)) (tokens (database_bytes rs))
-database_spelled rs k =
-    let bytes = flat_map relation_bytes rs in
-    let whole : Takes (joined_parts relation_text (database_tree rs)) (tokens_at start (bytes ++ [])) (tokens_at (after start bytes) []) = (relations_spelled rs start [] k).takes in
-    let P : List ℕ → Type 0 = λ bs. Spells (database_text (database_tree rs)) (tokens_at start bs) in
-    subst P (append-nil bytes) (takes_join (joined_parts relation_text (database_tree rs)) (any end_token ∷ []) (tokens_at start (bytes ++ [])) (tokens_at (after start bytes) []) [] whole (the_end (after start bytes)))
 
 -- a relation reads back with each offset taken modulo its period
 read_reduced : (r : Relation) → IsKept r → IsDatabase (relation_bytes r) (reduced r ∷ [])

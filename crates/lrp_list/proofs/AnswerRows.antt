@@ -9,8 +9,8 @@ use Rattle.lrp_theory.specs.Bounds.{Within}
 use Rattle.lrp_theory.specs.Divides.{Divides}
 use Rattle.lrp_theory.specs.Entries.{node}
 use Rattle.lrp_theory.proofs.Modulo.{Divides-is, Divides-zero}
-use Rattle.lrp_model.specs.AnswerTexts.{HasPeriod, IsLeastBound, IsOwnBound, IsAnswerRow}
-use Rattle.lrp_model.specs.Rows.{Datum, time, text, times_of, texts_of, time_at, IsOf, IsInRow, Meets}
+use Rattle.lrp_model.specs.AnswerTexts.{HasPeriod, IsLeastRowBound, IsOwnBound, IsAnswerRow}
+use Rattle.lrp_model.specs.Rows.{Datum, time, text, times_of, texts_of, IsOf, IsInRow, MeetsBound}
 use Rattle.lrp_model.specs.Satisfaction.{HasShape, IsOfKind}
 use Rattle.lrp_model.specs.Texts.{Text, Ascends}
 use Rattle.lrp_model.specs.Tuples.{in_head_order, texts_at}
@@ -110,17 +110,6 @@ cell_of_times z xs h = record { count = sym (length_all_zip _ z.residues xs h); 
 times_of_cell : (z : ZoneView) (xs : List ℤ) → IsInCell z xs → AllZip (λ r x. Divides (pos z.period) (x -ℤ r)) z.residues xs
 times_of_cell z xs h = zip_from (pos z.period) z.residues xs h.count (λ i l. h.each (suc i) (omega arith))
 
--- a time column by its number
-pub time_node : (xs : List ℤ) (i : ℕ) → time_at xs i ≡ node xs i
-time_node [] zero = refl
-time_node [] (suc i) = refl
-time_node (x ∷ xs) zero = refl
-time_node (x ∷ xs) (suc zero) = refl
-time_node (x ∷ xs) (suc (suc i)) = time_node xs (suc i)
-
-pub difference_is : (xs : List ℤ) (i j : ℕ) → time_at xs i -ℤ time_at xs j ≡ node xs i -ℤ node xs j
-difference_is xs i j = ap₂ (λ x y. x -ℤ y) (time_node xs i) (time_node xs j)
-
 -- what holds of each residue
 all_residues : (P : ℤ → Type 0) (rs : List ℤ) → ((i : ℕ) → i < length rs → P (get_or rs i (pos 0))) → AllByRecursion P rs
 all_residues P [] h = tt
@@ -187,11 +176,10 @@ module _ (a : Answer) (store : IsStore a.store) (ascends : Ascends a.domain) (ce
         texts = f.texts ∙ head.texts;
       }
     where
-      met : (e : Option ℤ) (xs : List ℤ) (i j : ℕ) → i ≤ columns_of zone → j ≤ columns_of zone → i ≢ j → closed_at zone zone_is i j ≡ e → AllByRecursion (Meets xs) (closed_bounds zone) → Within (node xs i -ℤ node xs j) e
+      met : (e : Option ℤ) (xs : List ℤ) (i j : ℕ) → i ≤ columns_of zone → j ≤ columns_of zone → i ≢ j → closed_at zone zone_is i j ≡ e → AllByRecursion (MeetsBound xs) (closed_bounds zone) → Within (node xs i -ℤ node xs j) e
       met None xs i j il jl ne e h = tt
       met (Some b) xs i j il jl ne e h =
-          subst (λ d. d ≤ℤ b) (difference_is xs i j)
-          (in_all (Meets xs) (closed_bounds zone) h (record { left = i; right = j; most = b }) (in_bounds (columns_of zone + 1) (closed_at zone zone_is) i j b (omega arith) (omega arith) ne e))
+          in_all (MeetsBound xs) (closed_bounds zone) h (record { left = i; right = j; most = b }) (in_bounds (columns_of zone + 1) (closed_at zone zone_is) i j b (omega arith) (omega arith) ne e)
 
   -- the values of a tuple whose times are in the cell
   pub values_of : (tuple : List Datum) → HasShape a.head.columns tuple → IsInCell zone (times_of tuple) → texts_of tuple ≡ cell_texts → IsOf row.values tuple
@@ -208,9 +196,9 @@ module _ (a : Answer) (store : IsStore a.store) (ascends : Ascends a.domain) (ce
       let xs = times_of tuple in
       record {
         values = values_of tuple h.shape h.times.cell h.texts;
-        bounds = all_in (Meets xs) (closed_bounds zone) (λ b k.
+        bounds = all_in (MeetsBound xs) (closed_bounds zone) (λ b k.
             let l = from_bounds (columns_of zone + 1) (closed_at zone zone_is) b k in
-            subst (λ d. d ≤ℤ b.most) (sym (difference_is xs b.left b.right)) (subst (λ e. Within (node xs b.left -ℤ node xs b.right) e) l.most (closed_met zone zone_is b.left b.right (less l.left) (less l.right) l.apart xs h.times)));
+            subst (λ e. Within (node xs b.left -ℤ node xs b.right) e) l.most (closed_met zone zone_is b.left b.right (less l.left) (less l.right) l.apart xs h.times));
       }
     where
       less : {m n : ℕ} → m < n + 1 → m ≤ n
@@ -224,21 +212,21 @@ module _ (a : Answer) (store : IsStore a.store) (ascends : Ascends a.domain) (ce
       let t = with_times xs h.cell.count in
       (in_head_order a.head.columns xs cell_texts, to_row (in_head_order a.head.columns xs cell_texts) (record { shape = t.shape; times = subst (λ ys. IsMember zone ys) (sym t.times) h; texts = t.texts }), t.times)
 
-  least_bound : (i j : ℕ) (b : ℤ) → i ≤ columns_of zone → j ≤ columns_of zone → i ≢ j → closed_at zone zone_is i j ≡ Some b → IsLeastBound row i j b
+  least_bound : (i j : ℕ) (b : ℤ) → i ≤ columns_of zone → j ≤ columns_of zone → i ≢ j → closed_at zone zone_is i j ≡ Some b → IsLeastRowBound row i j b
   least_bound i j b il jl ne e = record {
-    met = λ tuple h. let t = from_row tuple h in subst (λ d. d ≤ℤ b) (sym (difference_is (times_of tuple) i j)) (subst (λ f. Within (node (times_of tuple) i -ℤ node (times_of tuple) j) f) e (closed_met zone zone_is i j il jl ne (times_of tuple) t.times));
+    met = λ tuple h. let t = from_row tuple h in subst (λ f. Within (node (times_of tuple) i -ℤ node (times_of tuple) j) f) e (closed_met zone zone_is i j il jl ne (times_of tuple) t.times);
     attained =
         let r = closed_attained zone zone_is i j b il jl ne e in
         let t = row_tuple r.0 r.1 in
-        (t.0, t.1, difference_is (times_of t.0) i j ∙ ap (λ ys. node ys i -ℤ node ys j) t.2 ∙ r.2);
+        (t.0, t.1, ap (λ ys. node ys i -ℤ node ys j) t.2 ∙ r.2);
   }
 
   -- a least bound is the closed one
-  closed_least : (i j : ℕ) (b : ℤ) → i ≤ columns_of zone → j ≤ columns_of zone → i ≢ j → IsLeastBound row i j b → (e : Option ℤ) → closed_at zone zone_is i j ≡ e → e ≡ Some b
+  closed_least : (i j : ℕ) (b : ℤ) → i ≤ columns_of zone → j ≤ columns_of zone → i ≢ j → IsLeastRowBound row i j b → (e : Option ℤ) → closed_at zone zone_is i j ≡ e → e ≡ Some b
   closed_least i j b il jl ne h None e =
       let r = closed_reached zone zone_is i j il jl ne (b +ℤ pos 1) (subst (λ f. Within (b +ℤ pos 1) f) (sym e) tt) in
       let t = row_tuple r.0 r.1 in
-      let met : (node r.0 i -ℤ node r.0 j) ≤ℤ b = subst (λ d. d ≤ℤ b) (difference_is (times_of t.0) i j ∙ ap (λ ys. node ys i -ℤ node ys j) t.2) (h.met t.0 t.1) in
+      let met : (node r.0 i -ℤ node r.0 j) ≤ℤ b = subst (λ ys. (node ys i -ℤ node ys j) ≤ℤ b) t.2 (h.met t.0 t.1) in
       let above : (b +ℤ pos 1) ≤ℤ (node r.0 i -ℤ node r.0 j) = r.2 in
       absurd (omega (arith, ints))
   closed_least i j b il jl ne h (Some c) e =

@@ -1,6 +1,6 @@
 -- No more cursors stand at a spot than the answer has zones.
-use Rattle.std.proofs.Common.{◌≡◌, ℕ, zero, suc, ◌+◌, ◌<◌, ◌≤◌, inl, inr, List, [], ◌∷◌, length, map, take, get_or, Option, Some, None, Bool, true, false, cond, arith, refl, sym, ap, ap₂, subst, ◌∙◌, Contains, All, unwrap_or}
-use Rattle.std.specs.Prelude.{◌&&◌, ◌==◌, nat_lt, sum_by, count_by, slice_get}
+use Rattle.std.proofs.Common.{◌≡◌, ℕ, zero, suc, ◌+◌, ◌<◌, ◌≤◌, inl, inr, List, [], ◌∷◌, length, map, take, get_or, Option, Some, Bool, true, false, cond, arith, refl, sym, ap, ap₂, subst, ◌∙◌, Contains, All, unwrap_or}
+use Rattle.std.specs.Prelude.{◌&&◌, ◌==◌, nat_lt, sum_by, count_by}
 use Rattle.std.specs.FinMap as finite
 use Rattle.std.specs.FinMap.{entries, get-entries, find}
 use Rattle.std.specs.Ordering.{is_eq, eq_by_cmp}
@@ -21,7 +21,7 @@ use Rattle.lrp_list.specs.Cursors.{cell_of, is_in, cursors_in, stands_at, standi
 use Rattle.lrp_list.specs.Listing.{WindowView, AreCursors}
 use Rattle.lrp_list.specs.Progress.{ComeOnce}
 use Rattle.lrp_list.specs.declared.cursor.Cursor.{Cursor}
-use Rattle.lrp_list.proofs.Filling.{cells_apart}
+use Rattle.lrp_list.proofs.Filling.{cells_apart, below}
 
 -- 1 where the test holds
 abbrev one_of : Bool → ℕ
@@ -116,11 +116,6 @@ first_few k cursors once (suc n) =
 within : (b : Bool) (z n : ℕ) → (b ≡ true → z < n) → b ≡ (b && nat_lt z n)
 within false z n h = refl
 within true z n h = let l : z < n = h refl in grind (arith, nat_tests)
-
-below : {X : Type 0} (xs : List X) (i : ℕ) (x : X) → slice_get xs i ≡ Some x → i < length xs
-below [] i x e = absurd (let f : None ≡ Some x = e in cc)
-below (y ∷ ys) zero x e = omega arith
-below (y ∷ ys) (suc i) x e = let l : i < length ys = below ys i x e in omega arith
 
 -- ---- the zones of a store
 

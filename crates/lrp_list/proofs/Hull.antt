@@ -8,7 +8,7 @@ use Rattle.lrp_theory.specs.Bounds.{Within}
 use Rattle.lrp_theory.specs.Divides.{Divides}
 use Rattle.lrp_theory.specs.Entries.{node, AtMost}
 use Rattle.lrp_theory.proofs.Modulo.{Divides--, Divides-is}
-use Rattle.lrp_model.specs.Rows.{Meets}
+use Rattle.lrp_model.specs.Rows.{MeetsBound}
 use Rattle.lrp_model.specs.declared.relations.Bound.{Bound}
 use Rattle.lrp_zone.specs.Zones.{ZoneView, IsZone, IsInCell, IsMember, IsTight, columns_of}
 use Rattle.lrp_zone.specs.Pairs.{IsOfCell}
@@ -16,7 +16,6 @@ use Rattle.lrp_zone.proofs.Cases.{eq_or}
 use Rattle.lrp_store.specs.Least.{IsRoom}
 use Rattle.lrp_store.specs.Settled.{InSome, AreOneZone}
 use Rattle.lrp_list.specs.AnswerText.{shortest}
-use Rattle.lrp_list.proofs.AnswerRows.{difference_is}
 use Rattle.lrp_list.proofs.Closed.{closed_at, closed_attained, closed_met, closed_reached, closed_small}
 use Rattle.lrp_list.proofs.Lists.{all_in, below_or, head_in, in_all, in_cons, in_one, later, one_in}
 use Rattle.lrp_list.proofs.Made.{made, made_cell, made_is, from_made, to_made}
@@ -139,9 +138,9 @@ module _ (z : ZoneView) (ys : List ZoneView) (valid : (y : ZoneView) → Contain
 
   -- ---- bounds that all tuples of the zones meet
 
-  module _ (bounds : List Bound) (met : (xs : List ℤ) → InSome (z ∷ ys) xs → AllByRecursion (Meets xs) bounds) where
+  module _ (bounds : List Bound) (met : (xs : List ℤ) → InSome (z ∷ ys) xs → AllByRecursion (MeetsBound xs) bounds) where
     met_at : (b : Bound) → Contains bounds b → (y : ZoneView) → Contains (z ∷ ys) y → (xs : List ℤ) → IsMember y xs → (node xs b.left -ℤ node xs b.right) ≤ℤ b.most
-    met_at b m y k xs h = subst (λ d. d ≤ℤ b.most) (difference_is xs b.left b.right) (in_all (Meets xs) bounds (met xs (record { zone = y; listed = k; inside = h })) b m)
+    met_at b m y k xs h = in_all (MeetsBound xs) bounds (met xs (record { zone = y; listed = k; inside = h })) b m
 
     -- a column, or zero in its place
     record Stands (i : ℕ) : Type 0 where
@@ -198,5 +197,5 @@ module _ (z : ZoneView) (ys : List ZoneView) (valid : (y : ZoneView) → Contain
             omega (arith, ints)
 
     -- its tuples meet them too
-    pub hull_meets : (xs : List ℤ) → IsMember hull xs → AllByRecursion (Meets xs) bounds
-    hull_meets xs h = all_in (Meets xs) bounds (λ b m. subst (λ d. d ≤ℤ b.most) (sym (difference_is xs b.left b.right)) (hull_met b m xs h))
+    pub hull_meets : (xs : List ℤ) → IsMember hull xs → AllByRecursion (MeetsBound xs) bounds
+    hull_meets xs h = all_in (MeetsBound xs) bounds (λ b m. hull_met b m xs h)

@@ -104,7 +104,7 @@ some_line (c ∷ cs) (d ∷ ds) h l = ap (λ bs. bs ++ codes "\n") (joined_behin
 some_columns : (n : ℕ) (b : Bool) → b ≡ (n == 0) → b ≡ false → 0 < n
 some_columns n b e f = grind (arith, nat_tests)
 
-length_at : (domain : List Text) (ns : List ℕ) → length (texts_at domain ns) ≡ length ns
+pub length_at : (domain : List Text) (ns : List ℕ) → length (texts_at domain ns) ≡ length ns
 length_at domain [] = refl
 length_at domain (n ∷ ns) = ap suc (length_at domain ns)
 

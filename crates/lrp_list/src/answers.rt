@@ -1,5 +1,5 @@
 // The text of a whole answer.
-ghost use Rattle.std.specs.Prelude.{◌≡◌, ◌<◌, ◌≤ℤ◌, ◌++◌, ℕ, length, map, take, pos, codes};
+ghost use Rattle.std.specs.Prelude.{◌≡◌, ◌<◌, ◌≤ℤ◌, ◌++◌, ℕ, length, map, pos, codes};
 ghost use Rattle.std.specs.List.{AllByRecursion, flat_map};
 ghost use Rattle.lrp_io.specs.Causes.{HasCause};
 ghost use Rattle.lrp_io.specs.Pieces.{IsWritten};
@@ -8,6 +8,7 @@ ghost use Rattle.lrp_model.specs.Tuples.{in_head_order, text_at, texts_at};
 ghost use Rattle.lrp_store.specs.Least.{HasRoom, IsRoom};
 ghost use Rattle.lrp_store.specs.Stores.{zones_at};
 ghost use Rattle.lrp_list.specs.AnswerText.{answer_text, cell_rows, cell_values, closed_bounds, rows_of, value_of, values_behind};
+ghost use Rattle.lrp_list.specs.Listing.{IsOfTexts};
 
 use crate::closures::closed_bounds;
 use lrp_io::{Failed, Sink};
@@ -22,7 +23,8 @@ use lrp_zone::Zone;
 /// failure a front of the text was written.
 pub fn write_answer<S: Sink>(out: &mut S, answer: &Answer) -> Result<(), Failed>
     requires room { HasRoom answer.now.store }
-    ensures text { IsWritten (S.written out.old) (S.written out.new) (answer_text answer.now) result }
+    ensures text { IsWritten (S.written out.old) (S.written out.new)
+        (answer_text answer.now) result }
     ensures cause { HasCause (S.faults out.old) (S.faults out.new) result }
 {
     if answer.store.len() == 0 {
@@ -39,7 +41,8 @@ pub fn write_answer<S: Sink>(out: &mut S, answer: &Answer) -> Result<(), Failed>
 fn write_cells<S: Sink>(out: &mut S, answer: &Answer) -> Result<(), Failed>
     requires room { HasRoom answer.now.store }
     ensures text { IsWritten (S.written out.old) (S.written out.new)
-        (flat_map (row_line answer.now.head.columns) (rows_of answer.now.head.columns answer.now.domain answer.now.store)) result }
+        (flat_map (row_line answer.now.head.columns)
+        (rows_of answer.now.head.columns answer.now.domain answer.now.store)) result }
     ensures cause { HasCause (S.faults out.old) (S.faults out.new) result }
 {
     for (cell, zones) in answer.store.entries() {
@@ -58,7 +61,8 @@ fn write_cell<S: Sink>(
     requires room { HasRoom answer.now.store }
     requires zones { zones ≡ zones_at answer.now.store cell.now }
     ensures text { IsWritten (S.written out.old) (S.written out.new)
-        (flat_map (row_line answer.now.head.columns) (cell_rows answer.now.head.columns answer.now.domain answer.now.store cell.now)) result }
+        (flat_map (row_line answer.now.head.columns)
+        (cell_rows answer.now.head.columns answer.now.domain answer.now.store cell.now)) result }
     ensures cause { HasCause (S.faults out.old) (S.faults out.new) result }
 {
     answer.store.shape();
@@ -72,9 +76,14 @@ fn write_cell<S: Sink>(
 // The line of a zone.
 fn write_row<S: Sink>(out: &mut S, answer: &Answer, cell: &Cell, zone: &Zone) -> Result<(), Failed>
     requires room { (h : ℕ) × IsRoom zone.now h }
-    requires known { AllByRecursion (λ n. n < length answer.now.domain) (take answer.now.store.shape.texts cell.now.texts) }
+    requires known { IsOfTexts answer.now cell.now.texts }
     ensures text { IsWritten (S.written out.old) (S.written out.new)
-        (row_line answer.now.head.columns (record { values = cell_values answer.now.head.columns answer.now.domain answer.now.store cell.now; bounds = closed_bounds zone.now })) result }
+        (row_line answer.now.head.columns
+        (record {
+          values = cell_values answer.now.head.columns answer.now.domain answer.now.store
+              cell.now;
+          bounds = closed_bounds zone.now;
+        })) result }
     ensures cause { HasCause (S.faults out.old) (S.faults out.new) result }
 {
     let bounds = closed_bounds(zone);
@@ -87,8 +96,10 @@ fn write_row<S: Sink>(out: &mut S, answer: &Answer, cell: &Cell, zone: &Zone) ->
 
 // The points and the texts of a cell, in head order.
 fn write_cell_values<S: Sink>(out: &mut S, answer: &Answer, cell: &Cell) -> Result<(), Failed>
-    requires known { AllByRecursion (λ n. n < length answer.now.domain) (take answer.now.store.shape.texts cell.now.texts) }
-    ensures text { IsWritten (S.written out.old) (S.written out.new) (joined_by (codes ", ") value_bytes (cell_values answer.now.head.columns answer.now.domain answer.now.store cell.now)) result }
+    requires known { IsOfTexts answer.now cell.now.texts }
+    ensures text { IsWritten (S.written out.old) (S.written out.new)
+        (joined_by (codes ", ") value_bytes
+        (cell_values answer.now.head.columns answer.now.domain answer.now.store cell.now)) result }
     ensures cause { HasCause (S.faults out.old) (S.faults out.new) result }
 {
     let shape = answer.store.shape();
@@ -142,7 +153,10 @@ fn write_values<S: Sink>(
 ) -> Result<(), Failed>
     requires period { pos 1 ≤ℤ place.now.period }
     requires known { AllByRecursion (λ n. n < length place.now.domain.now) numbers.now }
-    ensures text { IsWritten (S.written out.old) (S.written out.new) (values_behind before.now (map (value_of place.now.period) (in_head_order columns.now residues.now (texts_at place.now.domain.now numbers.now)))) result }
+    ensures text { IsWritten (S.written out.old) (S.written out.new)
+        (values_behind before.now (map (value_of place.now.period)
+        (in_head_order columns.now residues.now (texts_at place.now.domain.now numbers.now))))
+        result }
     ensures cause { HasCause (S.faults out.old) (S.faults out.new) result }
 {
     let [column, columns @ ..] = columns else {
@@ -171,7 +185,9 @@ fn write_residue<S: Sink>(
     residue: &i64,
 ) -> Result<(), Failed>
     requires { pos 1 ≤ℤ place.now.period }
-    ensures text { IsWritten (S.written out.old) (S.written out.new) (before.now ++ point_bytes (record { offset = residue.now; period = place.now.period })) result }
+    ensures text { IsWritten (S.written out.old) (S.written out.new)
+        (before.now ++ point_bytes (record { offset = residue.now; period = place.now.period }))
+        result }
     ensures cause { HasCause (S.faults out.old) (S.faults out.new) result }
 {
     write_bytes(out, before)?;
@@ -186,7 +202,8 @@ fn write_text<S: Sink>(
     number: u32,
 ) -> Result<(), Failed>
     requires { number < length place.now.domain.now }
-    ensures text { IsWritten (S.written out.old) (S.written out.new) (before.now ++ quoted (text_at place.now.domain.now number)) result }
+    ensures text { IsWritten (S.written out.old) (S.written out.new)
+        (before.now ++ quoted (text_at place.now.domain.now number)) result }
     ensures cause { HasCause (S.faults out.old) (S.faults out.new) result }
 {
     write_bytes(out, before)?;

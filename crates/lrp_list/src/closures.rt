@@ -113,7 +113,8 @@ fn push_stored(bounds: &mut Bounds, left: u8, right: u8, most: Option<i64>)
     requires small { AtMost (2 ^ 62) most }
     ensures bounds { bounds.new ≡ bounds.old ++ bound_between left right most }
     ensures few { length bounds.new ≤ length bounds.old + 1 }
-    ensures small { AllByRecursion (λ b. neg_ℤ (pos greatest_number) ≤ℤ b.most) bounds.old → AllByRecursion (λ b. neg_ℤ (pos greatest_number) ≤ℤ b.most) bounds.new }
+    ensures small { AllByRecursion (λ b. neg_ℤ (pos greatest_number) ≤ℤ b.most) bounds.old
+        → AllByRecursion (λ b. neg_ℤ (pos greatest_number) ≤ℤ b.most) bounds.new }
 {
     if let Some(most) = most {
         bounds.push(Bound { left, right, most });
@@ -128,7 +129,8 @@ fn push_row(bounds: &mut Bounds, closed: &Matrix, row: u8, nodes: u8)
     requires small { IsSmallClosure nodes (2 ^ 62) closed.now.cells }
     ensures bounds { bounds.new ≡ bounds.old ++ bounds_in_row nodes (entry closed.now.cells) row }
     ensures few { length bounds.new ≤ length bounds.old + nodes }
-    ensures small { AllByRecursion (λ b. neg_ℤ (pos greatest_number) ≤ℤ b.most) bounds.old → AllByRecursion (λ b. neg_ℤ (pos greatest_number) ≤ℤ b.most) bounds.new }
+    ensures small { AllByRecursion (λ b. neg_ℤ (pos greatest_number) ≤ℤ b.most) bounds.old
+        → AllByRecursion (λ b. neg_ℤ (pos greatest_number) ≤ℤ b.most) bounds.new }
 {
     closed.columns();
     for column in 0..nodes {
@@ -142,9 +144,11 @@ fn push_bound(bounds: &mut Bounds, closed: &Matrix, left: u8, right: u8)
     requires right { right ≤ closed.now.columns }
     requires room { length bounds.old < 81 }
     requires small { IsSmallClosure (closed.now.columns + 1) (2 ^ 62) closed.now.cells }
-    ensures bounds { bounds.new ≡ bounds.old ++ bound_between left right (entry closed.now.cells left right) }
+    ensures bounds { bounds.new ≡ bounds.old ++ bound_between left right
+        (entry closed.now.cells left right) }
     ensures few { length bounds.new ≤ length bounds.old + 1 }
-    ensures small { AllByRecursion (λ b. neg_ℤ (pos greatest_number) ≤ℤ b.most) bounds.old → AllByRecursion (λ b. neg_ℤ (pos greatest_number) ≤ℤ b.most) bounds.new }
+    ensures small { AllByRecursion (λ b. neg_ℤ (pos greatest_number) ≤ℤ b.most) bounds.old
+        → AllByRecursion (λ b. neg_ℤ (pos greatest_number) ≤ℤ b.most) bounds.new }
 {
     if left == right {
         return;

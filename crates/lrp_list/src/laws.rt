@@ -23,7 +23,8 @@ ghost use Rattle.lrp_list.specs.declared.cursor.Cursor.{Cursor};
 /// The answers that a lister gives one after the other, up to a limit, are the page behind its first position, with the
 /// flag that something is left behind them.
 pub fn listings_are_pages()
-    ensures { (w : WindowView) (after end : Option Tuple) (limit : ℕ) (page : List Tuple) (more : Bool)
+    ensures { (w : WindowView) (after end : Option Tuple) (limit : ℕ) (page : List Tuple)
+        (more : Bool)
         → Gives w after page end
         → length page ≤ limit
         → (IsTrue more → length page ≡ limit)
@@ -41,11 +42,13 @@ pub fn moves_are_few()
 /// The text of a settled answer is an answer text of the query, in rows of the answer's period: `Empty` where nothing is an
 /// answer, and else a relation `answer` that holds just the answers, with closed bounds and in order, which reads back as it is.
 pub fn answers_are_texts()
-    ensures { (db : List Relation) (q : Question) (a : Answer) → IsSettledAnswer db q a → IsAnswerTextOf a.store.period db q (answer_text a) }
+    ensures { (db : List Relation) (q : Question) (a : Answer) → IsSettledAnswer db q a
+        → IsAnswerTextOf a.store.period db q (answer_text a) }
 {}
 
 /// The head of a well-sorted query can be that of the relation `answer`, where its names are names: they differ, and it has
 /// at most eight columns of each kind.
 pub fn heads_are_columns()
-    ensures { (db : List Relation) (q : RawQuestion) → IsWellSorted db q → AreNamed (plain_question q).head → AreAnswerColumns (plain_question q).head }
+    ensures { (db : List Relation) (q : RawQuestion) → IsWellSorted db q
+        → AreNamed (plain_question q).head → AreAnswerColumns (plain_question q).head }
 {}

@@ -1,5 +1,5 @@
 // The line of an answer.
-ghost use Rattle.std.specs.Prelude.{◌≡◌, ◌<◌, ◌+◌, ◌++◌, codes, take, length};
+ghost use Rattle.std.specs.Prelude.{◌≡◌, ◌<◌, ◌+◌, ◌++◌, codes, length};
 ghost use Rattle.std.specs.List.{AllByRecursion};
 ghost use Rattle.std.specs.Fmt.{signed_decimal};
 ghost use Rattle.lrp_io.specs.Causes.{HasCause};
@@ -12,6 +12,7 @@ ghost use Rattle.lrp_model.specs.Satisfaction.{HasShape};
 ghost use Rattle.lrp_model.specs.Tuples.{in_head_order, text_at, texts_at};
 ghost use Rattle.lrp_store.specs.Least.{StandsFor};
 ghost use Rattle.lrp_list.specs.Lines.{IsFormOf, behind, is_json, spot_tuple};
+ghost use Rattle.lrp_list.specs.Listing.{IsOfTexts};
 
 use crate::texts::Form;
 use lrp_io::{Failed, Sink};
@@ -27,15 +28,19 @@ pub fn write_line<S: Sink>(
     spot: &Spot,
     form: &Form,
 ) -> Result<(), Failed>
-    requires known { AllByRecursion (λ n. n < length answer.now.domain) (take answer.now.store.shape.texts spot.now.texts) }
+    requires known { IsOfTexts answer.now spot.now.texts }
     requires form { IsFormOf answer.now.domain form.now }
     ensures text { IsWritten (S.written out.old) (S.written out.new)
-        (answer_line (is_json form.now) (spot_tuple answer.now.head.columns answer.now.store.shape answer.now.domain spot.now)) result }
+        (answer_line (is_json form.now)
+        (spot_tuple answer.now.head.columns answer.now.store.shape answer.now.domain spot.now))
+        result }
     ensures cause { HasCause (S.faults out.old) (S.faults out.new) result }
 
     // The tuple whose line it is, is the one that the spot stands for.
-    ensures tuple { (tuple : Tuple) → HasShape answer.now.head.columns tuple → StandsFor answer.now.store.shape answer.now.domain spot.now tuple
-        → spot_tuple answer.now.head.columns answer.now.store.shape answer.now.domain spot.now ≡ tuple }
+    ensures tuple { (tuple : Tuple) → HasShape answer.now.head.columns tuple
+        → StandsFor answer.now.store.shape answer.now.domain spot.now tuple
+        → spot_tuple answer.now.head.columns answer.now.store.shape answer.now.domain spot.now
+        ≡ tuple }
 {
     let shape = answer.store.shape();
     let columns = answer.head.columns.as_slice();
@@ -82,7 +87,9 @@ fn write_plain<S: Sink>(
     requires between { line.now.between.now ≡ codes ", " }
     requires times { time_count columns.now ≡ length times.now }
     requires all { length columns.now ≡ length times.now + length numbers.now }
-    ensures text { IsWritten (S.written out.old) (S.written out.new) (plain_line (in_head_order columns.now times.now (texts_at line.now.domain.now numbers.now))) result }
+    ensures text { IsWritten (S.written out.old) (S.written out.new)
+        (plain_line (in_head_order columns.now times.now
+        (texts_at line.now.domain.now numbers.now))) result }
     ensures cause { HasCause (S.faults out.old) (S.faults out.new) result }
 {
     if columns.is_empty() {
@@ -103,7 +110,9 @@ fn write_json<S: Sink>(
     requires known { AllByRecursion (λ n. n < length line.now.domain.now) numbers.now }
     requires form { IsFormOf line.now.domain.now line.now.form.now }
     requires between { line.now.between.now ≡ codes "," }
-    ensures text { IsWritten (S.written out.old) (S.written out.new) (json_line (in_head_order columns.now times.now (texts_at line.now.domain.now numbers.now))) result }
+    ensures text { IsWritten (S.written out.old) (S.written out.new)
+        (json_line (in_head_order columns.now times.now (texts_at line.now.domain.now numbers.now)))
+        result }
     ensures cause { HasCause (S.faults out.old) (S.faults out.new) result }
 {
     write_bytes(out, b"[")?;
@@ -122,7 +131,9 @@ fn write_values<S: Sink>(
 ) -> Result<(), Failed>
     requires known { AllByRecursion (λ n. n < length line.now.domain.now) numbers.now }
     requires form { IsFormOf line.now.domain.now line.now.form.now }
-    ensures text { IsWritten (S.written out.old) (S.written out.new) (behind before.now line.now.between.now (in_head_order columns.now times.now (texts_at line.now.domain.now numbers.now))) result }
+    ensures text { IsWritten (S.written out.old) (S.written out.new)
+        (behind before.now line.now.between.now
+        (in_head_order columns.now times.now (texts_at line.now.domain.now numbers.now))) result }
     ensures cause { HasCause (S.faults out.old) (S.faults out.new) result }
 {
     let [column, columns @ ..] = columns else {
@@ -145,7 +156,8 @@ fn write_values<S: Sink>(
 
 // A time behind these bytes.
 fn write_time<S: Sink>(out: &mut S, before: &[u8], time: &i64) -> Result<(), Failed>
-    ensures text { IsWritten (S.written out.old) (S.written out.new) (before.now ++ signed_decimal time.now) result }
+    ensures text { IsWritten (S.written out.old) (S.written out.new)
+        (before.now ++ signed_decimal time.now) result }
     ensures cause { HasCause (S.faults out.old) (S.faults out.new) result }
 {
     write_bytes(out, before)?;
@@ -161,7 +173,8 @@ fn write_text<S: Sink>(
 ) -> Result<(), Failed>
     requires known { number < length line.now.domain.now }
     requires form { IsFormOf line.now.domain.now line.now.form.now }
-    ensures text { IsWritten (S.written out.old) (S.written out.new) (before.now ++ quoted (text_at line.now.domain.now number)) result }
+    ensures text { IsWritten (S.written out.old) (S.written out.new)
+        (before.now ++ quoted (text_at line.now.domain.now number)) result }
     ensures cause { HasCause (S.faults out.old) (S.faults out.new) result }
 {
     write_bytes(out, before)?;

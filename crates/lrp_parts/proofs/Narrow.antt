@@ -6,7 +6,7 @@ use Rattle.std.proofs.lemmas.Bool.{false≢true}
 use Rattle.std.proofs.lemmas.Option.{slice_get_within}
 use Rattle.lrp_theory.specs.Divides.{Divides}
 use Rattle.lrp_model.specs.Formulas.{Form, Forms, atom, test, sorted, negation, conjunction, disjunction, implication, exists, forall, no_forms, form}
-use Rattle.lrp_model.specs.Satisfaction.{HaveNames}
+use Rattle.lrp_model.specs.Satisfaction.{HaveDistinctNames}
 use Rattle.lrp_model.specs.Sorts.{is_time, is_data}
 use Rattle.lrp_model.specs.Texts.{Identifier, AreDistinct}
 use Rattle.lrp_model.specs.Variables.{Variable, time_variable, data_variable, bound_by, free, free_each, head_variables, same_variable, variables_of_term, variables_of_test}
@@ -296,7 +296,7 @@ module _ (names : List Identifier) (f : Form) (d : Disjunct) (is : IsDisjunctOf 
     }
 
     -- where the free variables of the disjunct are the head's
-    pub has_head : (g : Ground) → HaveNames g.head → length (head_times g.head) ≤ 8 → length (head_texts g.head) ≤ 8 → ((w : Variable) → Contains (free f) w → Contains (head_variables g.head) w) → HasHeadOf g d a
+    pub has_head : (g : Ground) → HaveDistinctNames g.head → length (head_times g.head) ≤ 8 → length (head_texts g.head) ≤ 8 → ((w : Variable) → Contains (free f) w → Contains (head_variables g.head) w) → HasHeadOf g d a
     has_head g own few_times few_texts known = record {
       names = λ whole t x. record {
         names = own;

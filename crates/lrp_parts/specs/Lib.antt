@@ -1,5 +1,7 @@
-pub mod Patterns
-pub mod Conjunctions
+-- What contracts of public calls say.
 pub mod Bound
 pub mod Heads
 pub mod Derivations
+-- What functions inside say to one another.
+pub mod Patterns
+pub mod Conjunctions

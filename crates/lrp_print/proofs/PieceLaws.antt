@@ -15,7 +15,8 @@ use Rattle.lrp_model.specs.Tokens.{Token, Part, from, joined_parts, separated}
 use Rattle.lrp_model.specs.Tokens.Token.{name_token, word_token, number_token, text_token, symbol_token}
 use Rattle.lrp_model.specs.Tokens.Part.{at, any}
 use Rattle.lrp_model.specs.Databases.{comma, integer_text}
-use Rattle.lrp_model.specs.Lexing.{is_letter, is_digit, is_name_byte, run, value_from, word_or_name, scan, symbol_from, after}
+use Rattle.lrp_model.specs.Lexing.{is_letter, is_name_byte, run, value_from, word_or_name, scan, symbol_from, after}
+use Rattle.std.specs.Char.{is_ascii_digit}
 use Rattle.lrp_model.specs.Limits.{greatest_number}
 use Rattle.lrp_model.specs.Printed.{joined_by, quoted, escaped}
 use Rattle.lrp_model.specs.Names.{IsName}
@@ -136,7 +137,7 @@ name_at n p rest h s =
 -- ---- numbers
 
 -- a number at its place
-pub number_at : (n : ℕ) (p : Place) (rest : List ℕ) → n < 2 ^ 64 → Stops is_digit rest → Spelled (at p (number_token n) ∷ []) p (decimal n) rest
+pub number_at : (n : ℕ) (p : Place) (rest : List ℕ) → n < 2 ^ 64 → Stops is_ascii_digit rest → Spelled (at p (number_token n) ∷ []) p (decimal n) rest
 number_at n p rest lt s =
     let w = decimal_number n lt in
     let P : ℕ → Type 0 = λ m. Spelled (at p (number_token m) ∷ []) p (w.first ∷ w.others) rest in
@@ -144,7 +145,7 @@ number_at n p rest lt s =
     subst Q (sym w.is) (subst P w.value (token_at (number_token (value_from 0 (w.first ∷ w.others))) p w.first w.others rest tt (digit_begins w.first w.digit) (number_scanned w.first w.others rest w.digit w.whole s)))
 
 -- a number at any place
-pub number_any : (n : ℕ) (p : Place) (rest : List ℕ) → n < 2 ^ 64 → Stops is_digit rest → Spelled (any (number_token n) ∷ []) p (decimal n) rest
+pub number_any : (n : ℕ) (p : Place) (rest : List ℕ) → n < 2 ^ 64 → Stops is_ascii_digit rest → Spelled (any (number_token n) ∷ []) p (decimal n) rest
 number_any n p rest lt s =
     let w = decimal_number n lt in
     let P : ℕ → Type 0 = λ m. Spelled (any (number_token m) ∷ []) p (w.first ∷ w.others) rest in
@@ -166,12 +167,12 @@ short (pos n) low high = omega (arith, ints)
 short (negsuc n) low high = omega (arith, ints)
 
 -- an integer at any place
-pub integer_any : (z : ℤ) (p : Place) (rest : List ℕ) → IsShort z → Stops is_digit rest → Spelled (integer_text (written z)) p (signed_decimal z) rest
+pub integer_any : (z : ℤ) (p : Place) (rest : List ℕ) → IsShort z → Stops is_ascii_digit rest → Spelled (integer_text (written z)) p (signed_decimal z) rest
 integer_any (pos n) p rest h s = number_any n p rest (omega (arith, h)) s
 integer_any (negsuc n) p rest h s = both (minus p (decimal (suc n) ++ rest)) (number_any (suc n) (after p (45 ∷ [])) rest (omega (arith, h)) s)
 
 -- an integer at its place
-pub integer_at : (z : ℤ) (p : Place) (rest : List ℕ) → IsShort z → Stops is_digit rest → Spelled (from p (integer_text (written z))) p (signed_decimal z) rest
+pub integer_at : (z : ℤ) (p : Place) (rest : List ℕ) → IsShort z → Stops is_ascii_digit rest → Spelled (from p (integer_text (written z))) p (signed_decimal z) rest
 integer_at (pos n) p rest h s = number_at n p rest (omega (arith, h)) s
 integer_at (negsuc n) p rest h s = both (minus_at p (decimal (suc n) ++ rest)) (number_any (suc n) (after p (45 ∷ [])) rest (omega (arith, h)) s)
 

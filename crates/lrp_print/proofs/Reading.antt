@@ -31,7 +31,7 @@ abbrev database_tree : List Relation → List RawRelation
 database_tree = trees (behind relation_bytes) relation_tree start
 
 -- the text of relations spells their tree
-database_spelled : (rs : List Relation) → AllByRecursion IsKept rs → Spells (database_text (database_tree rs)) (tokens (database_bytes rs))
+pub database_spelled : (rs : List Relation) → AllByRecursion IsKept rs → Spells (database_text (database_tree rs)) (tokens (database_bytes rs))
 database_spelled rs k =
     let bytes = flat_map relation_bytes rs in
     let whole : Takes (joined_parts relation_text (database_tree rs)) (tokens_at start (bytes ++ [])) (tokens_at (after start bytes) []) = (relations_spelled rs start [] k).takes in

@@ -4,7 +4,7 @@ use Rattle.std.proofs.lemmas.Bool.Decides.{nat_tests}
 use Rattle.std.specs.List.{flat_map, AllByRecursion}
 use Rattle.std.specs.Fmt.{decimal}
 use Rattle.std.specs.Str.Parse.{AllDigits, digits_value_after}
-use Rattle.std.specs.Char.{digit_value}
+use Rattle.std.specs.Char.{digit_value, is_ascii_digit}
 use Rattle.std.proofs.lemmas.Fmt.{decimal_is_IsNumeral}
 use Rattle.std.proofs.lemmas.Str.{digit_value_digit}
 use Rattle.std.proofs.lemmas.Str.Parse.{digit_from_value}
@@ -14,7 +14,7 @@ use Rattle.lrp_model.specs.Texts.{Identifier}
 use Rattle.lrp_model.specs.Tokens.{Token}
 use Rattle.lrp_model.specs.Tokens.Token.{name_token, number_token, text_token}
 use Rattle.lrp_model.specs.Printed.{escaped, quoted}
-use Rattle.lrp_model.specs.Lexing.{is_letter, is_digit, is_name_byte, is_forbidden, run, behind_run, value_from, word_or_name, Scanned, QuotedText as TextRead, text_from, text_scanned, one, one_or_two, symbol_from, scan}
+use Rattle.lrp_model.specs.Lexing.{is_letter, is_name_byte, is_forbidden, run, behind_run, value_from, word_or_name, Scanned, QuotedText as TextRead, text_from, text_scanned, one, one_or_two, symbol_from, scan}
 use Rattle.lrp_text.proofs.Scans.{chosen}
 use Rattle.lrp_model.specs.Names.{IsName}
 use Rattle.lrp_print.proofs.Spelling.{took, Begins}
@@ -101,7 +101,7 @@ name_word (b ∷ bs) h =
     let whole : run is_name_byte n ≡ n = ap (λ s. s.taken) d in
     let plain : word_or_name (run is_name_byte n) ≡ name_token n = ap (λ s. s.token) d in
     record { first = b; others = bs; is = refl; letter = e; whole = whole; plain = ap word_or_name (sym whole) ∙ plain })
-    (λ m. chosen P (is_digit b) _ _ (λ e d. absurd (subst NoName (ap (λ s. s.token) d) tt))
+    (λ m. chosen P (is_ascii_digit b) _ _ (λ e d. absurd (subst NoName (ap (λ s. s.token) d) tt))
     (λ o. chosen P (b == 34) (text_scanned (text_from false bs)) (symbol_from b bs)
     (λ e d. absurd (subst NoName (ap (λ s. s.token) d) (text_no_name (text_from false bs))))
     (λ e d. absurd (subst NoName (ap (λ s. s.token) d) (symbol_no_name b bs))))) h
@@ -109,12 +109,12 @@ name_word (b ∷ bs) h =
 -- ---- numbers
 
 -- digits are one run
-digits_run : (ds : List ℕ) → AllDigits 10 ds → run is_digit ds ≡ ds
+digits_run : (ds : List ℕ) → AllDigits 10 ds → run is_ascii_digit ds ≡ ds
 unfolding run
 digits_run [] d = refl
 digits_run (c ∷ cs) d = rw (digit_told c d.0) (ap (λ x. c ∷ x) (digits_run cs d.1))
   where
-    digit_told : (c : ℕ) → digit_value c < 10 → is_digit c ≡ true
+    digit_told : (c : ℕ) → digit_value c < 10 → is_ascii_digit c ≡ true
     digit_told c lt = let k = digit_from_value c lt in grind (arith, nat_tests)
 
 -- the value of digits behind a number
@@ -131,16 +131,16 @@ pub record IsNumber (n : ℕ) : Type 0 where
   pub first : ℕ
   pub others : List ℕ
   pub is : decimal n ≡ first ∷ others
-  pub digit : is_digit first ≡ true
-  pub whole : run is_digit (first ∷ others) ≡ first ∷ others
+  pub digit : is_ascii_digit first ≡ true
+  pub whole : run is_ascii_digit (first ∷ others) ≡ first ∷ others
   pub value : value_from 0 (first ∷ others) ≡ n
 
 -- a digit begins the run
-first_digit : (b : ℕ) (bs : List ℕ) → run is_digit (b ∷ bs) ≡ b ∷ bs → is_digit b ≡ true
+first_digit : (b : ℕ) (bs : List ℕ) → run is_ascii_digit (b ∷ bs) ≡ b ∷ bs → is_ascii_digit b ≡ true
 unfolding run
-first_digit b bs e = by (is_digit b) refl e
+first_digit b bs e = by (is_ascii_digit b) refl e
   where
-    by : (c : Bool) → is_digit b ≡ c → (if c then b ∷ run is_digit bs else []) ≡ b ∷ bs → is_digit b ≡ true
+    by : (c : Bool) → is_ascii_digit b ≡ c → (if c then b ∷ run is_ascii_digit bs else []) ≡ b ∷ bs → is_ascii_digit b ≡ true
     by true t d = t
     by false t d = absurd cc
 
@@ -155,20 +155,20 @@ decimal_number n lt =
     by (b ∷ bs) e some d v = let whole = digits_run (b ∷ bs) d in record { first = b; others = bs; is = e; digit = first_digit b bs whole; whole = whole; value = v }
 
 -- a digit is no letter
-digit_no_letter : (b : ℕ) → is_digit b ≡ true → is_letter b ≡ false
+digit_no_letter : (b : ℕ) → is_ascii_digit b ≡ true → is_letter b ≡ false
 digit_no_letter b e = grind (arith, nat_tests)
 
 -- a digit begins a token
-pub digit_begins : (b : ℕ) → is_digit b ≡ true → Begins b
+pub digit_begins : (b : ℕ) → is_ascii_digit b ≡ true → Begins b
 digit_begins b e = record { plain = grind (arith, nat_tests); dark = grind (arith, nat_tests) }
 
 -- a run of digits is one token
-pub number_scanned : (b : ℕ) (bs rest : List ℕ) → is_digit b ≡ true → run is_digit (b ∷ bs) ≡ b ∷ bs → Stops is_digit rest → scan (b ∷ (bs ++ rest)) ≡ took (number_token (value_from 0 (b ∷ bs))) (b ∷ bs) rest
+pub number_scanned : (b : ℕ) (bs rest : List ℕ) → is_ascii_digit b ≡ true → run is_ascii_digit (b ∷ bs) ≡ b ∷ bs → Stops is_ascii_digit rest → scan (b ∷ (bs ++ rest)) ≡ took (number_token (value_from 0 (b ∷ bs))) (b ∷ bs) rest
 unfolding scan
 number_scanned b bs rest e whole s =
-    let k = run_over is_digit (b ∷ bs) rest whole s in
-    let here : scan (b ∷ (bs ++ rest)) ≡ took (number_token (value_from 0 (run is_digit (b ∷ (bs ++ rest))))) (run is_digit (b ∷ (bs ++ rest))) (behind_run is_digit (b ∷ (bs ++ rest))) = rw (digit_no_letter b e, e) refl in
-    here ∙ ap (λ r. took (number_token (value_from 0 r)) r (behind_run is_digit (b ∷ (bs ++ rest)))) k.0 ∙ ap (took (number_token (value_from 0 (b ∷ bs))) (b ∷ bs)) k.1
+    let k = run_over is_ascii_digit (b ∷ bs) rest whole s in
+    let here : scan (b ∷ (bs ++ rest)) ≡ took (number_token (value_from 0 (run is_ascii_digit (b ∷ (bs ++ rest))))) (run is_ascii_digit (b ∷ (bs ++ rest))) (behind_run is_ascii_digit (b ∷ (bs ++ rest))) = rw (digit_no_letter b e, e) refl in
+    here ∙ ap (λ r. took (number_token (value_from 0 r)) r (behind_run is_ascii_digit (b ∷ (bs ++ rest)))) k.0 ∙ ap (took (number_token (value_from 0 (b ∷ bs))) (b ∷ bs)) k.1
 
 -- ---- data texts
 

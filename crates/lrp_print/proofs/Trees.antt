@@ -38,7 +38,8 @@ use Rattle.lrp_model.specs.Tokens.Token.{word_token, number_token, symbol_token}
 use Rattle.lrp_model.specs.Tokens.Part.{at, any}
 use Rattle.lrp_model.specs.Columns.{column_text, sort_token}
 use Rattle.lrp_model.specs.Databases.{value_text, side_text, bound_text, bounds_text, row_text, relation_text}
-use Rattle.lrp_model.specs.Lexing.{is_letter, is_digit, is_name_byte, after}
+use Rattle.lrp_model.specs.Lexing.{is_letter, is_name_byte, after}
+use Rattle.std.specs.Char.{is_ascii_digit}
 use Rattle.lrp_model.specs.Limits.{greatest_number}
 use Rattle.lrp_model.specs.Printed.{joined_by, value_bytes, column_bytes, sort_bytes, time_name, offset_bytes, bound_bytes, bounds_bytes, row_line, relation_bytes}
 use Rattle.lrp_model.specs.Names.{IsName, IsNamedSort, AreNamed}
@@ -72,9 +73,9 @@ plain_bytes (b ∷ t) h = (let k = h 0 (omega arith) in plain b k.0 k.1, plain_b
     plain b le ne = grind (arith, nat_tests)
 
 -- what follows no name follows no number
-digit_stops : (rest : List ℕ) → Stops is_name_byte rest → Stops is_digit rest
+digit_stops : (rest : List ℕ) → Stops is_name_byte rest → Stops is_ascii_digit rest
 digit_stops [] s = tt
-digit_stops (b ∷ rest) s = by (is_letter b) (is_digit b) s
+digit_stops (b ∷ rest) s = by (is_letter b) (is_ascii_digit b) s
   where
     by : (x y : Bool) → (x || y) ≡ false → y ≡ false
     by false y e = e

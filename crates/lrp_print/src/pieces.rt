@@ -37,7 +37,8 @@ pub fn write_number<S: Sink>(out: &mut S, number: u32) -> Result<(), Failed>
 
 /// An integer.
 pub fn write_integer<S: Sink>(out: &mut S, value: &i64) -> Result<(), Failed>
-    ensures text { IsWritten (S.written out.old) (S.written out.new) (signed_decimal value.now) result }
+    ensures text { IsWritten (S.written out.old) (S.written out.new)
+        (signed_decimal value.now) result }
     ensures cause { HasCause (S.faults out.old) (S.faults out.new) result }
 {
     put_all(out, Buffer::new().format(*value).as_bytes())
@@ -45,7 +46,8 @@ pub fn write_integer<S: Sink>(out: &mut S, value: &i64) -> Result<(), Failed>
 
 /// Nothing, ` + a` or ` - b`, behind the name of a variable.
 pub fn write_offset<S: Sink>(out: &mut S, plus: &i64) -> Result<(), Failed>
-    ensures text { IsWritten (S.written out.old) (S.written out.new) (offset_bytes plus.now) result }
+    ensures text { IsWritten (S.written out.old) (S.written out.new)
+        (offset_bytes plus.now) result }
     ensures cause { HasCause (S.faults out.old) (S.faults out.new) result }
 {
     if *plus > 0 {
@@ -59,7 +61,8 @@ pub fn write_offset<S: Sink>(out: &mut S, plus: &i64) -> Result<(), Failed>
 
 // A sign and a natural number.
 fn write_signed<S: Sink>(out: &mut S, sign: &[u8], count: u64) -> Result<(), Failed>
-    ensures text { IsWritten (S.written out.old) (S.written out.new) (sign.now ++ decimal count) result }
+    ensures text { IsWritten (S.written out.old) (S.written out.new)
+        (sign.now ++ decimal count) result }
     ensures cause { HasCause (S.faults out.old) (S.faults out.new) result }
 {
     write_bytes(out, sign)?;
@@ -105,7 +108,8 @@ pub fn write_sort<S: Sink>(out: &mut S, sort: &Sort) -> Result<(), Failed>
 // The offset of a point, taken modulo its period.
 fn write_residue<S: Sink>(out: &mut S, point: &RowPoint) -> Result<(), Failed>
     requires { pos 1 ≤ℤ point.now.period }
-    ensures text { IsWritten (S.written out.old) (S.written out.new) (signed_decimal (int_rem_euclid point.now.offset point.now.period)) result }
+    ensures text { IsWritten (S.written out.old) (S.written out.new)
+        (signed_decimal (int_rem_euclid point.now.offset point.now.period)) result }
     ensures cause { HasCause (S.faults out.old) (S.faults out.new) result }
 {
     put_all(
@@ -118,7 +122,8 @@ fn write_residue<S: Sink>(out: &mut S, point: &RowPoint) -> Result<(), Failed>
 
 // The period of a point.
 fn write_period<S: Sink>(out: &mut S, point: &RowPoint) -> Result<(), Failed>
-    ensures text { IsWritten (S.written out.old) (S.written out.new) (signed_decimal point.now.period) result }
+    ensures text { IsWritten (S.written out.old) (S.written out.new)
+        (signed_decimal point.now.period) result }
     ensures cause { HasCause (S.faults out.old) (S.faults out.new) result }
 {
     put_all(out, Buffer::new().format(point.period).as_bytes())
@@ -127,7 +132,8 @@ fn write_period<S: Sink>(out: &mut S, point: &RowPoint) -> Result<(), Failed>
 /// `c+kn`, with c taken modulo k.
 pub fn write_point<S: Sink>(out: &mut S, point: &RowPoint) -> Result<(), Failed>
     requires { pos 1 ≤ℤ point.now.period }
-    ensures text { IsWritten (S.written out.old) (S.written out.new) (point_bytes point.now) result }
+    ensures text { IsWritten (S.written out.old) (S.written out.new)
+        (point_bytes point.now) result }
     ensures cause { HasCause (S.faults out.old) (S.faults out.new) result }
 {
     write_residue(out, point)?;

@@ -17,7 +17,8 @@ use lrp_io::{Failed, Sink, put_all};
 use lrp_model::{Bound, Column, Relation, Row, Value};
 
 fn write_column<S: Sink>(out: &mut S, column: &Column) -> Result<(), Failed>
-    ensures text { IsWritten (S.written out.old) (S.written out.new) (column_bytes column.now) result }
+    ensures text { IsWritten (S.written out.old) (S.written out.new)
+        (column_bytes column.now) result }
     ensures cause { HasCause (S.faults out.old) (S.faults out.new) result }
 {
     write_bytes(out, column.name.as_bytes())?;
@@ -27,7 +28,8 @@ fn write_column<S: Sink>(out: &mut S, column: &Column) -> Result<(), Failed>
 
 fn write_value<S: Sink>(out: &mut S, value: &Value) -> Result<(), Failed>
     requires { HasLowPeriod value.now }
-    ensures text { IsWritten (S.written out.old) (S.written out.new) (value_bytes value.now) result }
+    ensures text { IsWritten (S.written out.old) (S.written out.new)
+        (value_bytes value.now) result }
     ensures cause { HasCause (S.faults out.old) (S.faults out.new) result }
 {
     match value {
@@ -55,7 +57,8 @@ fn name_of_time(columns: &[Column], number: u8) -> &[u8]
 // The number of a bound with the other sign.
 fn write_negated<S: Sink>(out: &mut S, bound: &Bound) -> Result<(), Failed>
     requires { neg_ℤ (pos greatest_number) ≤ℤ bound.now.most }
-    ensures text { IsWritten (S.written out.old) (S.written out.new) (signed_decimal (neg_ℤ bound.now.most)) result }
+    ensures text { IsWritten (S.written out.old) (S.written out.new)
+        (signed_decimal (neg_ℤ bound.now.most)) result }
     ensures cause { HasCause (S.faults out.old) (S.faults out.new) result }
 {
     put_all(out, Buffer::new().format(-bound.most).as_bytes())
@@ -64,7 +67,9 @@ fn write_negated<S: Sink>(out: &mut S, bound: &Bound) -> Result<(), Failed>
 // `X >= b`.
 fn write_lower<S: Sink>(out: &mut S, columns: &[Column], bound: &Bound) -> Result<(), Failed>
     requires { neg_ℤ (pos greatest_number) ≤ℤ bound.now.most }
-    ensures text { IsWritten (S.written out.old) (S.written out.new) (time_name columns.now bound.now.right ++ (codes " >= " ++ signed_decimal (neg_ℤ bound.now.most))) result }
+    ensures text { IsWritten (S.written out.old) (S.written out.new)
+        (time_name columns.now bound.now.right
+        ++ (codes " >= " ++ signed_decimal (neg_ℤ bound.now.most))) result }
     ensures cause { HasCause (S.faults out.old) (S.faults out.new) result }
 {
     write_bytes(out, name_of_time(columns, bound.right))?;
@@ -74,7 +79,9 @@ fn write_lower<S: Sink>(out: &mut S, columns: &[Column], bound: &Bound) -> Resul
 
 // `X <= a`.
 fn write_upper<S: Sink>(out: &mut S, columns: &[Column], bound: &Bound) -> Result<(), Failed>
-    ensures text { IsWritten (S.written out.old) (S.written out.new) (time_name columns.now bound.now.left ++ (codes " <= " ++ signed_decimal bound.now.most)) result }
+    ensures text { IsWritten (S.written out.old) (S.written out.new)
+        (time_name columns.now bound.now.left ++ (codes " <= " ++ signed_decimal bound.now.most))
+        result }
     ensures cause { HasCause (S.faults out.old) (S.faults out.new) result }
 {
     write_bytes(out, name_of_time(columns, bound.left))?;
@@ -85,7 +92,10 @@ fn write_upper<S: Sink>(out: &mut S, columns: &[Column], bound: &Bound) -> Resul
 // `X <= Y`, with an offset.
 fn write_between<S: Sink>(out: &mut S, columns: &[Column], bound: &Bound) -> Result<(), Failed>
     requires { neg_ℤ (pos greatest_number) ≤ℤ bound.now.most }
-    ensures text { IsWritten (S.written out.old) (S.written out.new) (time_name columns.now bound.now.left ++ (codes " <= " ++ (time_name columns.now bound.now.right ++ offset_bytes bound.now.most))) result }
+    ensures text { IsWritten (S.written out.old) (S.written out.new)
+        (time_name columns.now bound.now.left
+        ++ (codes " <= " ++ (time_name columns.now bound.now.right ++ offset_bytes bound.now.most)))
+        result }
     ensures cause { HasCause (S.faults out.old) (S.faults out.new) result }
 {
     write_bytes(out, name_of_time(columns, bound.left))?;
@@ -96,7 +106,8 @@ fn write_between<S: Sink>(out: &mut S, columns: &[Column], bound: &Bound) -> Res
 
 fn write_bound<S: Sink>(out: &mut S, columns: &[Column], bound: &Bound) -> Result<(), Failed>
     requires { neg_ℤ (pos greatest_number) ≤ℤ bound.now.most }
-    ensures text { IsWritten (S.written out.old) (S.written out.new) (bound_bytes columns.now bound.now) result }
+    ensures text { IsWritten (S.written out.old) (S.written out.new)
+        (bound_bytes columns.now bound.now) result }
     ensures cause { HasCause (S.faults out.old) (S.faults out.new) result }
 {
     if bound.left == 0 {
@@ -109,7 +120,8 @@ fn write_bound<S: Sink>(out: &mut S, columns: &[Column], bound: &Bound) -> Resul
 }
 
 fn write_next_column<S: Sink>(out: &mut S, column: &Column) -> Result<(), Failed>
-    ensures text { IsWritten (S.written out.old) (S.written out.new) (codes ", " ++ column_bytes column.now) result }
+    ensures text { IsWritten (S.written out.old) (S.written out.new)
+        (codes ", " ++ column_bytes column.now) result }
     ensures cause { HasCause (S.faults out.old) (S.faults out.new) result }
 {
     write_bytes(out, b", ")?;
@@ -118,7 +130,8 @@ fn write_next_column<S: Sink>(out: &mut S, column: &Column) -> Result<(), Failed
 
 // Columns, with a comma before each.
 fn write_further_columns<S: Sink>(out: &mut S, columns: &[Column]) -> Result<(), Failed>
-    ensures text { IsWritten (S.written out.old) (S.written out.new) (flat_map (λ x. codes ", " ++ column_bytes x) columns.now) result }
+    ensures text { IsWritten (S.written out.old) (S.written out.new)
+        (flat_map (λ x. codes ", " ++ column_bytes x) columns.now) result }
     ensures cause { HasCause (S.faults out.old) (S.faults out.new) result }
 {
     for column in columns {
@@ -129,7 +142,8 @@ fn write_further_columns<S: Sink>(out: &mut S, columns: &[Column]) -> Result<(),
 
 /// Columns, with commas between. After a failure a front of them was written.
 pub fn write_columns<S: Sink>(out: &mut S, columns: &[Column]) -> Result<(), Failed>
-    ensures text { IsWritten (S.written out.old) (S.written out.new) (joined_by (codes ", ") column_bytes columns.now) result }
+    ensures text { IsWritten (S.written out.old) (S.written out.new)
+        (joined_by (codes ", ") column_bytes columns.now) result }
     ensures cause { HasCause (S.faults out.old) (S.faults out.new) result }
 {
     match columns {
@@ -143,7 +157,8 @@ pub fn write_columns<S: Sink>(out: &mut S, columns: &[Column]) -> Result<(), Fai
 
 fn write_next_value<S: Sink>(out: &mut S, value: &Value) -> Result<(), Failed>
     requires { HasLowPeriod value.now }
-    ensures text { IsWritten (S.written out.old) (S.written out.new) (codes ", " ++ value_bytes value.now) result }
+    ensures text { IsWritten (S.written out.old) (S.written out.new)
+        (codes ", " ++ value_bytes value.now) result }
     ensures cause { HasCause (S.faults out.old) (S.faults out.new) result }
 {
     write_bytes(out, b", ")?;
@@ -153,7 +168,8 @@ fn write_next_value<S: Sink>(out: &mut S, value: &Value) -> Result<(), Failed>
 // Values, with a comma before each.
 fn write_further_values<S: Sink>(out: &mut S, values: &[Value]) -> Result<(), Failed>
     requires { AllByRecursion HasLowPeriod values.now }
-    ensures text { IsWritten (S.written out.old) (S.written out.new) (flat_map (λ x. codes ", " ++ value_bytes x) values.now) result }
+    ensures text { IsWritten (S.written out.old) (S.written out.new)
+        (flat_map (λ x. codes ", " ++ value_bytes x) values.now) result }
     ensures cause { HasCause (S.faults out.old) (S.faults out.new) result }
 {
     for value in values {
@@ -165,7 +181,8 @@ fn write_further_values<S: Sink>(out: &mut S, values: &[Value]) -> Result<(), Fa
 // Values, with commas between.
 fn write_values<S: Sink>(out: &mut S, values: &[Value]) -> Result<(), Failed>
     requires { AllByRecursion HasLowPeriod values.now }
-    ensures text { IsWritten (S.written out.old) (S.written out.new) (joined_by (codes ", ") value_bytes values.now) result }
+    ensures text { IsWritten (S.written out.old) (S.written out.new)
+        (joined_by (codes ", ") value_bytes values.now) result }
     ensures cause { HasCause (S.faults out.old) (S.faults out.new) result }
 {
     match values {
@@ -179,7 +196,8 @@ fn write_values<S: Sink>(out: &mut S, values: &[Value]) -> Result<(), Failed>
 
 fn write_next_bound<S: Sink>(out: &mut S, columns: &[Column], bound: &Bound) -> Result<(), Failed>
     requires { neg_ℤ (pos greatest_number) ≤ℤ bound.now.most }
-    ensures text { IsWritten (S.written out.old) (S.written out.new) (codes ", " ++ bound_bytes columns.now bound.now) result }
+    ensures text { IsWritten (S.written out.old) (S.written out.new)
+        (codes ", " ++ bound_bytes columns.now bound.now) result }
     ensures cause { HasCause (S.faults out.old) (S.faults out.new) result }
 {
     write_bytes(out, b", ")?;
@@ -193,7 +211,8 @@ fn write_further_bounds<S: Sink>(
     bounds: &[Bound],
 ) -> Result<(), Failed>
     requires { AllByRecursion (λ b. neg_ℤ (pos greatest_number) ≤ℤ b.most) bounds.now }
-    ensures text { IsWritten (S.written out.old) (S.written out.new) (flat_map (λ x. codes ", " ++ bound_bytes columns.now x) bounds.now) result }
+    ensures text { IsWritten (S.written out.old) (S.written out.new)
+        (flat_map (λ x. codes ", " ++ bound_bytes columns.now x) bounds.now) result }
     ensures cause { HasCause (S.faults out.old) (S.faults out.new) result }
 {
     for bound in bounds {
@@ -205,7 +224,8 @@ fn write_further_bounds<S: Sink>(
 // Bounds, with commas between.
 fn write_bounds<S: Sink>(out: &mut S, columns: &[Column], bounds: &[Bound]) -> Result<(), Failed>
     requires { AllByRecursion (λ b. neg_ℤ (pos greatest_number) ≤ℤ b.most) bounds.now }
-    ensures text { IsWritten (S.written out.old) (S.written out.new) (joined_by (codes ", ") (bound_bytes columns.now) bounds.now) result }
+    ensures text { IsWritten (S.written out.old) (S.written out.new)
+        (joined_by (codes ", ") (bound_bytes columns.now) bounds.now) result }
     ensures cause { HasCause (S.faults out.old) (S.faults out.new) result }
 {
     match bounds {
@@ -224,7 +244,8 @@ pub fn write_conditions<S: Sink>(
     bounds: &[Bound],
 ) -> Result<(), Failed>
     requires { AllByRecursion (λ b. neg_ℤ (pos greatest_number) ≤ℤ b.most) bounds.now }
-    ensures text { IsWritten (S.written out.old) (S.written out.new) (bounds_bytes columns.now bounds.now) result }
+    ensures text { IsWritten (S.written out.old) (S.written out.new)
+        (bounds_bytes columns.now bounds.now) result }
     ensures cause { HasCause (S.faults out.old) (S.faults out.new) result }
 {
     match bounds {
@@ -239,7 +260,8 @@ pub fn write_conditions<S: Sink>(
 // The line of a row.
 fn write_row<S: Sink>(out: &mut S, columns: &[Column], row: &Row) -> Result<(), Failed>
     requires { IsWritable row.now }
-    ensures text { IsWritten (S.written out.old) (S.written out.new) (row_line columns.now row.now) result }
+    ensures text { IsWritten (S.written out.old) (S.written out.new)
+        (row_line columns.now row.now) result }
     ensures cause { HasCause (S.faults out.old) (S.faults out.new) result }
 {
     write_bytes(out, b"  (")?;
@@ -252,7 +274,8 @@ fn write_row<S: Sink>(out: &mut S, columns: &[Column], row: &Row) -> Result<(), 
 // The lines of the rows.
 fn write_rows<S: Sink>(out: &mut S, columns: &[Column], rows: &[Row]) -> Result<(), Failed>
     requires { AllByRecursion IsWritable rows.now }
-    ensures text { IsWritten (S.written out.old) (S.written out.new) (flat_map (row_line columns.now) rows.now) result }
+    ensures text { IsWritten (S.written out.old) (S.written out.new)
+        (flat_map (row_line columns.now) rows.now) result }
     ensures cause { HasCause (S.faults out.old) (S.faults out.new) result }
 {
     for row in rows {
@@ -265,7 +288,8 @@ fn write_rows<S: Sink>(out: &mut S, columns: &[Column], rows: &[Row]) -> Result<
 /// of the text was written.
 pub fn write_relation<S: Sink>(out: &mut S, relation: &Relation) -> Result<(), Failed>
     requires { IsKept relation.now }
-    ensures text { IsWritten (S.written out.old) (S.written out.new) (relation_bytes relation.now) result }
+    ensures text { IsWritten (S.written out.old) (S.written out.new)
+        (relation_bytes relation.now) result }
     ensures cause { HasCause (S.faults out.old) (S.faults out.new) result }
 
     // The whole text is that of a database with one relation, which holds the same.
@@ -283,7 +307,8 @@ pub fn write_relation<S: Sink>(out: &mut S, relation: &Relation) -> Result<(), F
 /// Writes relations, one after the other. After a failure a front of their text was written.
 pub fn write_relations<S: Sink>(out: &mut S, relations: &[Relation]) -> Result<(), Failed>
     requires { AllByRecursion IsKept relations.now }
-    ensures text { IsWritten (S.written out.old) (S.written out.new) (database_bytes relations.now) result }
+    ensures text { IsWritten (S.written out.old) (S.written out.new)
+        (database_bytes relations.now) result }
     ensures cause { HasCause (S.faults out.old) (S.faults out.new) result }
 {
     for relation in relations {

@@ -1,5 +1,5 @@
 -- The texts of a database and of a query are data texts.
-use Rattle.std.proofs.Common.{◌≡◌, ◌≤◌, ◌-◌, ◌&&◌, ℕ, zero, suc, Bool, true, false, List, [], ◌∷◌, ◌++◌, length, map, flat_map, reverse, refl, sym, subst, if◌then◌else◌, arith}
+use Rattle.std.proofs.Common.{◌-◌, ◌&&◌, ℕ, zero, suc, Bool, true, false, List, [], ◌∷◌, ◌++◌, length, map, flat_map, reverse, refl, sym, subst, if◌then◌else◌, arith}
 use Rattle.std.specs.List.{AllByRecursion}
 use Rattle.std.specs.Str.{IsUtf8}
 use Rattle.std.proofs.lemmas.Str.{IsUtf8-drop}
@@ -11,7 +11,7 @@ use Rattle.lrp_model.specs.DataTexts.{IsDataText}
 use Rattle.lrp_model.specs.Databases.{comma}
 use Rattle.lrp_model.specs.Domains.{all_texts, database_texts, form_texts, forms_texts, row_texts, term_texts, test_texts, text_beside}
 use Rattle.lrp_model.specs.Rows.{columns_in, relation_named}
-use Rattle.lrp_model.specs.Lexing.{Scanned, scan, skip, after, headed, tokens_from, tokens, start}
+use Rattle.lrp_model.specs.Lexing.{scan, skip, after, tokens_from, tokens, start}
 use Rattle.lrp_model.specs.Queries.{WrittenFormula, FurtherMembers, WrittenTerm, FitsSizes, FitSizes, FitsTerm, formula_text, members_text, op_symbol, query_text, term_text}
 use Rattle.lrp_model.specs.Queries.WrittenTerm.{integer, text_term, variable, shifted}
 use Rattle.lrp_model.specs.Queries.WrittenFormula.{atom_formula, compared, member, denied, all_of, any_of, implied, group, some, every, hole}
@@ -20,9 +20,9 @@ use Rattle.lrp_model.specs.QueryMeaning.{raw_form, raw_forms, raw_term, term_kin
 use Rattle.lrp_model.specs.QueryReading.{IsQuery}
 use Rattle.lrp_model.specs.RawQueries.{RawQuestion}
 use Rattle.lrp_model.specs.Sorting.{Binders, is_data_term, term_sort}
-use Rattle.lrp_model.specs.Texts.{FitsText, Text}
-use Rattle.lrp_model.specs.Tokens.{Token, Tokens, Part, Takes, separated, from, located_text}
-use Rattle.lrp_model.specs.Tokens.Token.{name_token, word_token, number_token, text_token, symbol_token, end_token, bad_token, hole_token}
+use Rattle.lrp_model.specs.Texts.{Text}
+use Rattle.lrp_model.specs.Tokens.{Part, separated, from, located_text}
+use Rattle.lrp_model.specs.Tokens.Token.{word_token, symbol_token, end_token}
 use Rattle.lrp_model.specs.Tokens.Part.{at, any}
 use Rattle.lrp_model.specs.declared.formulas.DataTerm.{DataTerm}
 use Rattle.lrp_model.specs.declared.formulas.DataTerm.TheVariants.{Var as data_var, Const as data_const}
@@ -40,47 +40,17 @@ use Rattle.lrp_model.specs.declared.relations.Value.TheVariants.{Point, Const}
 use Rattle.lrp_print.specs.Kept.{AreKept, AreValuesOf, IsKept, IsRowOf}
 use Rattle.lrp_rel.proofs.MeaningKept.{tree_kept}
 use Rattle.lrp_rel.proofs.NameLemmas.{tree_named}
-use Rattle.lrp_rel.proofs.TreeTexts.{tree_texted}
+use Rattle.lrp_rel.proofs.TreeTexts.{tree_texted, scan_texted, headed_texted}
 use Rattle.lrp_model.specs.declared.tokens.Place.{Place}
 use Rattle.lrp_model.specs.declared.tokens.Symbol.TheVariants.{Close, Bar, CloseBrace}
 use Rattle.lrp_model.specs.declared.tokens.Word.{Word}
 use Rattle.lrp_model.specs.declared.tokens.Word.TheVariants.{And, Or, Implies}
 use Rattle.lrp_model.specs.declared.written.Located.{Located}
 use Rattle.lrp_text.proofs.Cuts.{skip_cut, skip_rest, scan_cut, scan_rest}
-use Rattle.lrp_text.proofs.Meanings.{slice_fits, slice_utf8}
 use Rattle.lrp_text.proofs.NameTokens.{all_front, all_behind, all_tail}
+pub use Rattle.lrp_rel.proofs.TreeTexts.{takes_texted, TextToken}
 
 -- ---- the tokens of a text of UTF-8
-
--- a token of a text has a data text, if it is short enough
-abbrev pub TextToken : Token → Type 0
-TextToken (text_token t) = IsUtf8 t × (length t ≤ 255 → FitsText t)
-TextToken _ = Unit {0}
-
--- the first token of bytes of UTF-8
-scan_texted : (bs : List ℕ) → IsUtf8 bs → TextToken (scan bs).token
-scan_texted bs u = by (scan bs).token refl
-  where
-    by : (k : Token) → (scan bs).token ≡ k → TextToken k
-    by (text_token t) e = (slice_utf8 bs t e u, slice_fits bs t e)
-    by (name_token n) e = tt
-    by (word_token w) e = tt
-    by (number_token n) e = tt
-    by (symbol_token s) e = tt
-    by end_token e = tt
-    by bad_token e = tt
-    by hole_token e = tt
-
--- a token with those behind it
-headed_texted : (p : Place) (s : Scanned) (k : Token) (rest : Tokens) → TextToken k → AllByRecursion (λ t. TextToken t.token) rest → AllByRecursion (λ t. TextToken t.token) (headed p s k rest)
-headed_texted p s (name_token n) rest h r = (h, r)
-headed_texted p s (word_token w) rest h r = (tt, r)
-headed_texted p s (number_token n) rest h r = (tt, r)
-headed_texted p s (text_token t) rest h r = (h, r)
-headed_texted p s (symbol_token x) rest h r = (tt, r)
-headed_texted p s end_token rest h r = (tt, tt)
-headed_texted p s bad_token rest h r = (tt, tt)
-headed_texted p s hole_token rest h r = (tt, r)
 
 -- all tokens of bytes of UTF-8
 pub tokens_texted : (n : ℕ) (p : Place) (bs : List ℕ) → IsUtf8 bs → AllByRecursion (λ t. TextToken t.token) (tokens_from n p bs)
@@ -97,13 +67,6 @@ tokens_texted (suc n) p bs u =
 abbrev pub TextPart : Part → Type 0
 TextPart (at p k) = TextToken k
 TextPart (any k) = TextToken k
-
--- parts that are spelled by such tokens
-pub takes_texted : (ps : List Part) (ts left : Tokens) → Takes ps ts left → AllByRecursion (λ t. TextToken t.token) ts → AllByRecursion TextPart ps
-takes_texted [] ts left h texted = tt
-takes_texted (p ∷ ps) [] left h texted = absurd h
-takes_texted (at p k ∷ ps) (t ∷ ts) left h texted = (subst TextToken h.0.0 texted.0, takes_texted ps ts left h.1 texted.1)
-takes_texted (any k ∷ ps) (t ∷ ts) left h texted = (subst TextToken h.0 texted.0, takes_texted ps ts left h.1 texted.1)
 
 -- ---- terms
 

@@ -76,7 +76,8 @@ pub fn expanded_texts_are_data_texts()
     ensures { (database query : List ℕ) (relations : List Relation) (q : TenseQuestion)
         → IsDatabase database relations
         → IsTenseQuery query q
-        → AllByRecursion (λ entry. IsDataText entry.1) (all_texts relations (plain_question (expanded_question q))) }
+        → AllByRecursion (λ entry. IsDataText entry.1)
+        (all_texts relations (plain_question (expanded_question q))) }
 {}
 
 /// A query that is well-sorted for a database has no sort fault.

@@ -8,7 +8,7 @@ use Rattle.std.proofs.lemmas.Cmp.{nat_list_eq_equiv}
 use Rattle.indexmap.specs.IndexSet.{insert_key}
 use Rattle.lrp_model.specs.Texts.{Identifier}
 use Rattle.lrp_model.specs.Sorts.{is_time}
-use Rattle.lrp_model.specs.Faults.{first, fault_if, repeated, is_named_in}
+use Rattle.lrp_model.specs.Faults.{earliest, fault_if, repeated, is_named_in}
 use Rattle.lrp_model.specs.DatabaseMeaning.{time_number}
 use Rattle.lrp_model.specs.DatabaseFaults.{database_standing, database_fault, suits, wrong_sorts, unknown, side_faults}
 use Rattle.lrp_model.specs.declared.tokens.Place.{Place}
@@ -36,16 +36,16 @@ pub walk_said : (best more found a b all : Option DbFault) → sooner database_s
 walk_said best more found a b all h e is = ap (λ x. sooner database_standing x b) is ∙ sym (sooner_again database_standing best found b) ∙ ap (sooner database_standing best) (sym e) ∙ h
 
 -- the same, where the faults are those of two lists
-pub walk : (best more found all : Option DbFault) (xs rest : List DbFault) → sooner database_standing best (first database_standing (xs ++ rest)) ≡ all → found ≡ first database_standing xs → more ≡ sooner database_standing best found → sooner database_standing more (first database_standing rest) ≡ all
+pub walk : (best more found all : Option DbFault) (xs rest : List DbFault) → sooner database_standing best (earliest database_standing (xs ++ rest)) ≡ all → found ≡ earliest database_standing xs → more ≡ sooner database_standing best found → sooner database_standing more (earliest database_standing rest) ≡ all
 walk best more found all xs rest h e is =
-    walk_said best more found (first database_standing (xs ++ rest)) (first database_standing rest) all h (first_of_both database_standing xs rest ∙ ap (λ x. sooner database_standing x (first database_standing rest)) (sym e)) is
+    walk_said best more found (earliest database_standing (xs ++ rest)) (earliest database_standing rest) all h (first_of_both database_standing xs rest ∙ ap (λ x. sooner database_standing x (earliest database_standing rest)) (sym e)) is
 
 -- one element more of those that have faults
 pub flat_walk : {A : Type 0} (f : A → List DbFault) (xs : List A) (i : ℕ) (x : A) (best more found all : Option DbFault)
-    → sooner database_standing best (first database_standing (flat_map f (drop i xs))) ≡ all → i < length xs → x ≡ get_or xs i x → found ≡ first database_standing (f x) → more ≡ sooner database_standing best found
-    → sooner database_standing more (first database_standing (flat_map f (drop (i + 1) xs))) ≡ all
+    → sooner database_standing best (earliest database_standing (flat_map f (drop i xs))) ≡ all → i < length xs → x ≡ get_or xs i x → found ≡ earliest database_standing (f x) → more ≡ sooner database_standing best found
+    → sooner database_standing more (earliest database_standing (flat_map f (drop (i + 1) xs))) ≡ all
 flat_walk f xs i x best more found all h lt here e is =
-    walk best more found all (f x) (flat_map f (drop (i + 1) xs)) (ap (λ l. sooner database_standing best (first database_standing (flat_map f l))) (sym (behind xs i x lt here)) ∙ h) e is
+    walk best more found all (f x) (flat_map f (drop (i + 1) xs)) (ap (λ l. sooner database_standing best (earliest database_standing (flat_map f l))) (sym (behind xs i x lt here)) ∙ h) e is
 
 -- ---- names that stand twice
 
@@ -81,10 +81,10 @@ repeated_as f b c same (n ∷ ns) =
 
 -- one name more of those that may stand twice
 pub names_walk : (n : Located Identifier) (ns : List (Located Identifier)) (names more_names : List Identifier) (best more found all : Option DbFault)
-    → sooner database_standing best (first database_standing (repeated (database_fault Name) names (n ∷ ns))) ≡ all → found ≡ first database_standing (fault_if (is_named_in names n.item) (database_fault Name n.place))
-    → more_names ≡ insert_key bytes_eq names n.item → more ≡ sooner database_standing best found → sooner database_standing more (first database_standing (repeated (database_fault Name) more_names ns)) ≡ all
+    → sooner database_standing best (earliest database_standing (repeated (database_fault Name) names (n ∷ ns))) ≡ all → found ≡ earliest database_standing (fault_if (is_named_in names n.item) (database_fault Name n.place))
+    → more_names ≡ insert_key bytes_eq names n.item → more ≡ sooner database_standing best found → sooner database_standing more (earliest database_standing (repeated (database_fault Name) more_names ns)) ≡ all
 names_walk n ns names more_names best more found all h e put is =
-    ap (λ l. sooner database_standing more (first database_standing l)) (repeated_as (database_fault Name) more_names (n.item ∷ names) (λ m. ap (list_any (bytes_eq m)) put ∙ any_put names n.item m) ns)
+    ap (λ l. sooner database_standing more (earliest database_standing l)) (repeated_as (database_fault Name) more_names (n.item ∷ names) (λ m. ap (list_any (bytes_eq m)) put ∙ any_put names n.item m) ns)
     ∙ walk best more found all (fault_if (is_named_in names n.item) (database_fault Name n.place)) (repeated (database_fault Name) (n.item ∷ names) ns) h e is
 
 -- ---- values in their columns
@@ -105,12 +105,12 @@ sorts_end (c ∷ cs) (v ∷ vs) (suc i) le = sorts_end cs vs i (omega (arith, le
 
 -- one value more, with its column
 pub sorts_walk : (cs : List RawColumn) (vs : List (Located WrittenValue)) (i : ℕ) (c : RawColumn) (v : Located WrittenValue) (best more found all : Option DbFault)
-    → sooner database_standing best (first database_standing (wrong_sorts (drop i cs) (drop i vs))) ≡ all → i < length cs → i < length vs → c ≡ get_or cs i c → v ≡ get_or vs i v
-    → found ≡ first database_standing (fault_if (not (suits v.item c)) (database_fault Sort v.place)) → more ≡ sooner database_standing best found
-    → sooner database_standing more (first database_standing (wrong_sorts (drop (i + 1) cs) (drop (i + 1) vs))) ≡ all
+    → sooner database_standing best (earliest database_standing (wrong_sorts (drop i cs) (drop i vs))) ≡ all → i < length cs → i < length vs → c ≡ get_or cs i c → v ≡ get_or vs i v
+    → found ≡ earliest database_standing (fault_if (not (suits v.item c)) (database_fault Sort v.place)) → more ≡ sooner database_standing best found
+    → sooner database_standing more (earliest database_standing (wrong_sorts (drop (i + 1) cs) (drop (i + 1) vs))) ≡ all
 sorts_walk cs vs i c v best more found all h lt less here there e is =
     walk best more found all (fault_if (not (suits v.item c)) (database_fault Sort v.place)) (wrong_sorts (drop (i + 1) cs) (drop (i + 1) vs))
-    (ap (λ l. sooner database_standing best (first database_standing (wrong_sorts l (v ∷ drop (i + 1) vs)))) (sym (behind cs i c lt here)) ∙ ap (λ l. sooner database_standing best (first database_standing (wrong_sorts (drop i cs) l))) (sym (behind vs i v less there)) ∙ h) e is
+    (ap (λ l. sooner database_standing best (earliest database_standing (wrong_sorts l (v ∷ drop (i + 1) vs)))) (sym (behind cs i c lt here)) ∙ ap (λ l. sooner database_standing best (earliest database_standing (wrong_sorts (drop i cs) l))) (sym (behind vs i v less there)) ∙ h) e is
 
 -- ---- names of time columns
 
@@ -156,7 +156,7 @@ known cs n names are = ap (λ l. not (list_any (bytes_eq n) l)) are ∙ ap not (
 -- ---- faults of three parts
 
 -- the first fault of three lists
-pub first_of_three : (a b c : Option DbFault) (xs ys zs : List DbFault) → a ≡ first database_standing xs → b ≡ first database_standing ys → c ≡ first database_standing zs → sooner database_standing (sooner database_standing a b) c ≡ first database_standing (xs ++ ys ++ zs)
+pub first_of_three : (a b c : Option DbFault) (xs ys zs : List DbFault) → a ≡ earliest database_standing xs → b ≡ earliest database_standing ys → c ≡ earliest database_standing zs → sooner database_standing (sooner database_standing a b) c ≡ earliest database_standing (xs ++ ys ++ zs)
 first_of_three a b c xs ys zs e d f =
-    ap (λ x. sooner database_standing (sooner database_standing x b) c) e ∙ ap (λ x. sooner database_standing (sooner database_standing (first database_standing xs) x) c) d ∙ ap (sooner database_standing (sooner database_standing (first database_standing xs) (first database_standing ys))) f
-    ∙ ap (λ x. sooner database_standing x (first database_standing zs)) (sym (first_of_both database_standing xs ys)) ∙ sym (first_of_both database_standing (xs ++ ys) zs)
+    ap (λ x. sooner database_standing (sooner database_standing x b) c) e ∙ ap (λ x. sooner database_standing (sooner database_standing (earliest database_standing xs) x) c) d ∙ ap (sooner database_standing (sooner database_standing (earliest database_standing xs) (earliest database_standing ys))) f
+    ∙ ap (λ x. sooner database_standing x (earliest database_standing zs)) (sym (first_of_both database_standing xs ys)) ∙ sym (first_of_both database_standing (xs ++ ys) zs)

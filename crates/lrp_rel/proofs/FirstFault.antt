@@ -6,15 +6,15 @@ use Rattle.std.specs.Ordering.{nat_cmp, match_ordering, is_gt, ordering_reverse}
 use Rattle.std.specs.Cmp.{IsTotalOrder}
 use Rattle.std.specs.Cmp.Lexicographic.{slice_cmp}
 use Rattle.std.proofs.lemmas.Cmp.{nat_list_cmp_total, upto}
-use Rattle.lrp_model.specs.Faults.{earlier, first}
+use Rattle.lrp_model.specs.Faults.{earlier, earliest}
 use Rattle.lrp_rel.specs.Sooner.{sooner}
 
 -- no fault at all
-pub first_of_none : {F : Type 0} (stands : F → List ℕ) → first stands [] ≡ None
+pub first_of_none : {F : Type 0} (stands : F → List ℕ) → earliest stands [] ≡ None
 first_of_none stands = refl
 
 -- one fault is the first of itself
-pub first_of_one : {F : Type 0} (stands : F → List ℕ) (f : F) → first stands (f ∷ []) ≡ Some f
+pub first_of_one : {F : Type 0} (stands : F → List ℕ) (f : F) → earliest stands (f ∷ []) ≡ Some f
 first_of_one stands f = refl
 
 -- a function of a choice is the choice of the function's values
@@ -58,9 +58,9 @@ sooner_of_three stands f (Some g) (Some h) =
     ∙ sym (match_out (λ x. sooner stands x (Some h)) (order (stands g) (stands f)) (Some g) (Some f) (Some f))
 
 -- the first fault of two lists
-pub first_of_both : {F : Type 0} (stands : F → List ℕ) (xs ys : List F) → first stands (xs ++ ys) ≡ sooner stands (first stands xs) (first stands ys)
+pub first_of_both : {F : Type 0} (stands : F → List ℕ) (xs ys : List F) → earliest stands (xs ++ ys) ≡ sooner stands (earliest stands xs) (earliest stands ys)
 first_of_both stands [] ys = refl
-first_of_both stands (x ∷ xs) ys = ap (earlier stands x) (first_of_both stands xs ys) ∙ sooner_of_three stands x (first stands xs) (first stands ys)
+first_of_both stands (x ∷ xs) ys = ap (earlier stands x) (first_of_both stands xs ys) ∙ sooner_of_three stands x (earliest stands xs) (earliest stands ys)
 
 -- nothing is behind
 pub sooner_than_none : {F : Type 0} (stands : F → List ℕ) (f : Option F) → sooner stands f None ≡ f
@@ -84,9 +84,9 @@ none_of_some f None stands e = absurd cc
 none_of_some f (Some g) stands e = neither (slice_cmp nat_cmp (stands g) (stands f)) f g e
 
 -- a list that has a first fault is not empty, and one without is
-pub none_is_empty : {F : Type 0} (stands : F → List ℕ) (xs : List F) → first stands xs ≡ None → xs ≡ []
+pub none_is_empty : {F : Type 0} (stands : F → List ℕ) (xs : List F) → earliest stands xs ≡ None → xs ≡ []
 none_is_empty stands [] e = refl
-none_is_empty stands (x ∷ xs) e = none_of_some x (first stands xs) stands e
+none_is_empty stands (x ∷ xs) e = none_of_some x (earliest stands xs) stands e
 
 -- of two that have no first, neither is a fault
 pub none_of_both : {F : Type 0} (stands : F → List ℕ) (f g : Option F) → sooner stands f g ≡ None → (f ≡ None) × (g ≡ None)

@@ -5,7 +5,7 @@ use Rattle.std.specs.declared.cmp.Ordering.{Ordering}
 use Rattle.std.specs.declared.cmp.Ordering.TheVariants.{Less, Equal, Greater}
 use Rattle.std.specs.Ordering.{nat_cmp, match_ordering}
 use Rattle.std.specs.Cmp.Lexicographic.{slice_cmp}
-use Rattle.lrp_model.specs.Faults.{first, earlier, fault_if}
+use Rattle.lrp_model.specs.Faults.{earliest, earlier, fault_if}
 use Rattle.lrp_model.specs.DatabaseFaults.{database_standing, database_fault, wrong_sorts, suits, unknown, side_faults, row_faults}
 use Rattle.lrp_model.specs.declared.raw.RawColumn.{RawColumn}
 use Rattle.lrp_model.specs.declared.written.Located.{Located}
@@ -81,6 +81,6 @@ earlier_of Of f (Some g) h k = by (slice_cmp nat_cmp (database_standing g) (data
     by Greater = h
 
 -- the first of such faults
-pub first_of : (Of : DbKind → Type 0) (fs : List DbFault) → AreOf Of fs → IsOneOf Of (first database_standing fs)
+pub first_of : (Of : DbKind → Type 0) (fs : List DbFault) → AreOf Of fs → IsOneOf Of (earliest database_standing fs)
 first_of Of [] h = tt
-first_of Of (f ∷ fs) h = earlier_of Of f (first database_standing fs) h.0 (first_of Of fs h.1)
+first_of Of (f ∷ fs) h = earlier_of Of f (earliest database_standing fs) h.0 (first_of Of fs h.1)

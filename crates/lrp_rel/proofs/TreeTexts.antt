@@ -23,12 +23,12 @@ use Rattle.lrp_text.proofs.Meanings.{slice_fits, slice_utf8}
 use Rattle.lrp_text.proofs.NameTokens.{all_front, all_behind, all_tail}
 
 -- a token of a text has a data text, if it is short enough
-abbrev TextToken : Token → Type 0
+abbrev pub TextToken : Token → Type 0
 TextToken (text_token t) = IsUtf8 t × (length t ≤ 255 → FitsText t)
 TextToken _ = Unit {0}
 
 -- the first token of bytes of UTF-8
-scan_texted : (bs : List ℕ) → IsUtf8 bs → TextToken (scan bs).token
+pub scan_texted : (bs : List ℕ) → IsUtf8 bs → TextToken (scan bs).token
 scan_texted bs u = by (scan bs).token refl
   where
     by : (k : Token) → (scan bs).token ≡ k → TextToken k
@@ -42,7 +42,7 @@ scan_texted bs u = by (scan bs).token refl
     by hole_token e = tt
 
 -- a token with those behind it
-headed_texted : (p : Place) (s : Scanned) (k : Token) (rest : Tokens) → TextToken k → AllByRecursion (λ t. TextToken t.token) rest → AllByRecursion (λ t. TextToken t.token) (headed p s k rest)
+pub headed_texted : (p : Place) (s : Scanned) (k : Token) (rest : Tokens) → TextToken k → AllByRecursion (λ t. TextToken t.token) rest → AllByRecursion (λ t. TextToken t.token) (headed p s k rest)
 headed_texted p s (name_token n) rest h r = (h, r)
 headed_texted p s (word_token w) rest h r = (tt, r)
 headed_texted p s (number_token n) rest h r = (tt, r)

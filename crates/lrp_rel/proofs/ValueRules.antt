@@ -19,7 +19,7 @@ use Rattle.lrp_text.specs.Taking.{is_text, is_symbol, expect_word, number, perio
 use Rattle.lrp_text.proofs.Complete.{ReadsBack, back_as, IsNot, bind_back, then_back, pure_back, accept_back, accepts_back, eat_back, eat_none, look_back, first_sees_any, same_next}
 use Rattle.lrp_text.proofs.Sound.{Sound, bind_ok, accept_gives, accept_sound, eat_sound, eaten_parts, takes_join, look_ok}
 use Rattle.lrp_text.proofs.Viable.{Viable, One, accept_viable, sub_step, eat_step, look_step, spells_join, fits_as, always}
-use Rattle.lrp_text.specs.Taking.{IsPeriod}
+use Rattle.lrp_text.specs.Taking.{IsWrittenPeriod}
 use Rattle.lrp_text.proofs.TokenTests.{symbol_told, symbol_seen, word_expected, word_required, word_stops, number_part, period_told, period_fits, period_stops, period_tells, text_part, text_told, text_fits, text_stops, text_tells}
 use Rattle.lrp_text.proofs.IntegerRule.{integer_back, integer_sound, integer_viable, no_quote, no_quote_before, sign_leads, integer_leads}
 use Rattle.lrp_text.proofs.LocatedRule.{Leads, located_back, located_sound, located_viable}
@@ -80,7 +80,7 @@ after_plus_sound i true ts us vs q e one fit eaten =
     let k = bind_ok (period vs) _ q e in
     let l = bind_ok (expect_word Letter k.0.1) _ q k.2 in
     let h : (Point i k.0.0, l.0.1) ≡ q = cc in
-    let counts = accept_gives _ number_part IsPeriod period_told period_fits vs k.0 k.1 in
+    let counts = accept_gives _ number_part IsWrittenPeriod period_told period_fits vs k.0 k.1 in
     let letter : Takes (any (word_token Letter) ∷ []) k.0.1 l.0.1 = accept_sound _ (λ u. any (word_token Letter)) (word_expected Letter) k.0.1 l.0 l.1 in
     subst (λ y. Takes (value_text y.0) ts y.1 × FitsValue y.0) h (
       takes_join (integer_text i) (any (symbol_token Plus) ∷ any (number_token k.0.0) ∷ any (word_token Letter) ∷ []) ts us l.0.1 one
@@ -142,8 +142,8 @@ numeric_viable ts e h =
     sub_step integer _ integer_text (λ i. i.size ≤ greatest_number) R ts e integer_sound integer_viable h
     (λ c i x spelled fit. ([], (Instant i, fit, subst (λ y. Spells (integer_text i) y) (sym (append-nil x)) spelled)))
     (λ i head us one fit d. eat_step (is_symbol Plus) _ (λ c x. R c (head ++ x)) us e d
-    (λ t vs told d2. sub_step period _ (One number_part) IsPeriod (λ c x. R c (head ++ t ∷ x)) vs e (accept_gives _ number_part IsPeriod period_told period_fits) (accept_viable _ number_part IsPeriod period_stops) d2
-    (λ c k x spelled fits. (letter ∷ [], (Point i k, fits_as (IsPeriod k) (FitsValue (Point i k)) c (λ p. (fit, p.0, p.1)) fits, point_spelled i k head t x (letter ∷ []) one (symbol_told Plus t told) spelled (refl, refl))))
+    (λ t vs told d2. sub_step period _ (One number_part) IsWrittenPeriod (λ c x. R c (head ++ t ∷ x)) vs e (accept_gives _ number_part IsWrittenPeriod period_told period_fits) (accept_viable _ number_part IsWrittenPeriod period_stops) d2
+    (λ c k x spelled fits. (letter ∷ [], (Point i k, fits_as (IsWrittenPeriod k) (FitsValue (Point i k)) c (λ p. (fit, p.0, p.1)) fits, point_spelled i k head t x (letter ∷ []) one (symbol_told Plus t told) spelled (refl, refl))))
     (λ k h3 ws s3 f3 d3. sub_step (expect_word Letter) _ (One letter_part) (λ u. Unit {0}) (λ c x. R c (head ++ t ∷ (h3 ++ x))) ws e (λ xs q r. (accept_sound _ letter_part (word_expected Letter) xs q r, tt)) (accept_viable _ letter_part (λ u. Unit {0}) (word_stops Letter)) d3
     (λ c u x spelled fits. ([], (Point i k, always (FitsValue (Point i k)) c (fit, f3.0, f3.1), point_spelled i k head t h3 (x ++ []) one (symbol_told Plus t told) s3 (subst (λ y. Spells (One letter_part tt) y) (sym (append-nil x)) spelled))))
     (λ u h4 xs s4 f4 d4. absurd cc)))

@@ -4,7 +4,7 @@ use Rattle.std.specs.List.{flat_map}
 use Rattle.lrp_model.specs.Texts.{Identifier}
 use Rattle.lrp_model.specs.Sorts.{is_time}
 use Rattle.lrp_model.specs.Lexing.{tokens}
-use Rattle.lrp_model.specs.Faults.{first, fault_if, repeated, ninth}
+use Rattle.lrp_model.specs.Faults.{earliest, fault_if, repeated, ninth}
 use Rattle.lrp_model.specs.DatabaseMeaning.{database_of}
 use Rattle.lrp_model.specs.DatabaseFaults.{database_standing, database_fault, row_faults, named_at, relation_faults, database_faults}
 use Rattle.lrp_model.specs.DatabaseReading.{IsDatabaseText, IsDatabase, HasDatabaseFault, IsDatabaseFault, IsDatabaseFaultOf}
@@ -17,7 +17,7 @@ use Rattle.lrp_model.specs.declared.faults.DbKind.{DbKind}
 use Rattle.lrp_model.specs.declared.faults.DbKind.TheVariants.{Utf8, Syntax, Number, Period, TextTooLong, Name, Arity, Sort, Column, Wide, UnknownRelation}
 use Rattle.lrp_rel.specs.declared.trees.ReadFault.{ReadFault}
 use Rattle.lrp_rel.specs.declared.trees.ReadFault.TheVariants.{Fault, Memory}
-use Rattle.lrp_rel.specs.Reading.{IsTextFault, IsTextFaultOf, IsRefusedBy, IsTreeRefusal, IsUnread, IsOrMemory, IsFaultOrMemory}
+use Rattle.lrp_rel.specs.Reading.{IsTextFault, IsTextFaultOf, IsRefusedBy, IsTreeRefusal, IsUnread, IsReadOrMemory, IsDatabaseFaultOrMemory}
 use Rattle.lrp_rel.proofs.DatabaseRules.{one_tree}
 use Rattle.lrp_rel.proofs.TextLaws.{no_fault}
 use Rattle.lrp_rel.proofs.OneFault.{fault_once}
@@ -139,23 +139,23 @@ both_same bytes f g (of_text a) (of_text b) = fault_once bytes g f b a
 both_same bytes f g (of_text a) (of_tree b) = absurd (no_fault bytes b.tree f.kind f b.text a)
 both_same bytes f g (of_tree a) (of_text b) = absurd (no_fault bytes a.tree g.kind g a.text b)
 both_same bytes f g (of_tree a) (of_tree b) =
-    some_same g f (sym b.found ∙ ap (λ t. first database_standing (database_faults t)) (same_tree bytes b.tree a.tree b.text a.text) ∙ a.found)
+    some_same g f (sym b.found ∙ ap (λ t. earliest database_standing (database_faults t)) (same_tree bytes b.tree a.tree b.text a.text) ∙ a.found)
 
 -- a database has no fault
 none_split : (bytes : List ℕ) (db : List Relation) (f : DbFault) → IsDatabase bytes db → Split bytes f → ⊥
 none_split bytes db f d (of_text a) = no_fault bytes d.tree f.kind f d.text a
 none_split bytes db f d (of_tree a) =
-    let h : None ≡ Some f = sym (ap (first database_standing) (ap database_faults (same_tree bytes a.tree d.tree a.text d.text) ∙ d.sound)) ∙ a.found in
+    let h : None ≡ Some f = sym (ap (earliest database_standing) (ap database_faults (same_tree bytes a.tree d.tree a.text d.text) ∙ d.sound)) ∙ a.found in
     cc
 
 -- each database is read as its relations
-pub every_database : (bytes : List ℕ) (r : Result (List Relation) ReadFault) → IfOk r (IsDatabase bytes) → IfErr r (IsRefusedBy bytes) → (db : List Relation) → IsDatabase bytes db → IsOrMemory db r
+pub every_database : (bytes : List ℕ) (r : Result (List Relation) ReadFault) → IfOk r (IsDatabase bytes) → IfErr r (IsRefusedBy bytes) → (db : List Relation) → IsDatabase bytes db → IsReadOrMemory db r
 every_database bytes (Ok other) ok err db d = ok.meant ∙ ap database_of (same_tree bytes ok.tree d.tree ok.text d.text) ∙ sym d.meant
 every_database bytes (Err Memory) ok err db d = tt
 every_database bytes (Err (Fault f)) ok err db d = none_split bytes db f d (split_of bytes f.kind f refl err)
 
 -- each other text is refused for its fault
-pub every_fault : (bytes : List ℕ) (r : Result (List Relation) ReadFault) → IfOk r (IsDatabase bytes) → IfErr r (IsRefusedBy bytes) → (f : DbFault) → IsDatabaseFault bytes f → IsFaultOrMemory f r
+pub every_fault : (bytes : List ℕ) (r : Result (List Relation) ReadFault) → IfOk r (IsDatabase bytes) → IfErr r (IsRefusedBy bytes) → (f : DbFault) → IsDatabaseFault bytes f → IsDatabaseFaultOrMemory f r
 every_fault bytes (Ok db) ok err f h = none_split bytes db f ok (split_of bytes f.kind f refl h)
 every_fault bytes (Err Memory) ok err f h = tt
 every_fault bytes (Err (Fault g)) ok err f h = both_same bytes f g (split_of bytes f.kind f refl h) (split_of bytes g.kind g refl err)

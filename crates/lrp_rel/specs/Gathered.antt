@@ -4,7 +4,7 @@ use Rattle.std.specs.List.{flat_map}
 use Rattle.indexmap.specs.IndexSet.{keys}
 use Rattle.lrp_model.specs.Texts.{Identifier}
 use Rattle.lrp_model.specs.Tokens.{Tokens}
-use Rattle.lrp_model.specs.Faults.{first, repeated, ninth}
+use Rattle.lrp_model.specs.Faults.{earliest, repeated, ninth}
 use Rattle.lrp_model.specs.DatabaseFaults.{database_standing, database_fault, named_at, row_faults, relation_faults}
 use Rattle.lrp_model.specs.DatabaseMeaning.{row_of, relation_of, database_of}
 use Rattle.lrp_model.specs.declared.tokens.Fault.{Fault}
@@ -34,22 +34,22 @@ ReadsAs Stands outcome (Err k) left = Reads outcome (Err k) left
 -- the names are those of the time columns, and the fault is the first that columns have
 pub record IsHeading (heading : Heading) : Type 0 where
   pub times : AreTimesOf heading.columns (keys heading.times)
-  pub fault : heading.fault ≡ first database_standing (repeated (database_fault Name) [] (map named_at heading.columns) ++ ninth (database_fault Wide) 0 0 heading.columns)
+  pub fault : heading.fault ≡ earliest database_standing (repeated (database_fault Name) [] (map named_at heading.columns) ++ ninth (database_fault Wide) 0 0 heading.columns)
 
 -- the first fault of the rows, and the rows that they mean where neither they nor the columns have one
 pub record IsBodyOf (heading : Heading) (rows : List (Located RawRow)) (body : Body) : Type 0 where
-  pub fault : body.fault ≡ first database_standing (flat_map (row_faults heading.columns) rows)
+  pub fault : body.fault ≡ earliest database_standing (flat_map (row_faults heading.columns) rows)
   pub meant : heading.fault ≡ None → body.fault ≡ None → body.rows ≡ map (λ row. row_of heading.columns row.item) rows
 
 -- the place and the name of a relation, its first fault, and the relation that it means where it has none
 pub record IsMeaningOf (raw : RawRelation) (meaning : Meaning) : Type 0 where
   pub place : meaning.place ≡ raw.name.place
   pub name : meaning.relation.name ≡ raw.name.item
-  pub fault : meaning.fault ≡ first database_standing (relation_faults raw)
+  pub fault : meaning.fault ≡ earliest database_standing (relation_faults raw)
   pub meant : meaning.fault ≡ None → meaning.relation ≡ relation_of raw
 
 -- the names of relations and the first that stands twice, whatever names follow; the first fault of their own, and the relations that they mean where they have none
 pub record AreGathered (tree : List RawRelation) (gathered : Gathered) : Type 0 where
-  pub names : (further : List (Located Identifier)) → sooner database_standing gathered.repeated (first database_standing (repeated (database_fault Name) (keys gathered.names) further)) ≡ first database_standing (repeated (database_fault Name) [] (map (λ r. r.name) tree ++ further))
-  pub within : gathered.within ≡ first database_standing (flat_map relation_faults tree)
+  pub names : (further : List (Located Identifier)) → sooner database_standing gathered.repeated (earliest database_standing (repeated (database_fault Name) (keys gathered.names) further)) ≡ earliest database_standing (repeated (database_fault Name) [] (map (λ r. r.name) tree ++ further))
+  pub within : gathered.within ≡ earliest database_standing (flat_map relation_faults tree)
   pub meant : gathered.within ≡ None → gathered.relations ≡ database_of tree

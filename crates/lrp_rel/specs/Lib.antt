@@ -1,8 +1,10 @@
-pub mod Once
-pub mod Seen
+-- What contracts of public calls say.
+pub mod Reading
+pub mod Rules
 pub mod Stored
+pub mod Once
 pub mod Times
 pub mod Sooner
-pub mod Rules
 pub mod Gathered
-pub mod Reading
+-- What functions inside say to one another.
+pub mod Seen

@@ -6,7 +6,7 @@ use Rattle.lrp_model.specs.declared.tokens.Place.{Place}
 use Rattle.lrp_model.specs.declared.faults.DbFault.{DbFault}
 use Rattle.lrp_model.specs.declared.faults.DbKind.{DbKind}
 use Rattle.lrp_model.specs.declared.faults.DbKind.TheVariants.{Utf8, Syntax, Number, Period, TextTooLong, Name, Arity, Sort, Column, Wide, UnknownRelation}
-use Rattle.lrp_model.specs.Faults.{first}
+use Rattle.lrp_model.specs.Faults.{earliest}
 use Rattle.lrp_model.specs.DatabaseMeaning.{database_of}
 use Rattle.lrp_model.specs.DatabaseFaults.{database_standing, database_faults}
 use Rattle.lrp_model.specs.DatabaseReading.{IsNoUtf8, IsNoDatabaseText, IsDatabaseText, IsDatabaseFault}
@@ -65,20 +65,20 @@ pub record IsSoundTree (tree : List RawRelation) (db : List Relation) : Type 0 w
 
 -- why a tree has no meaning: its first fault, or want of memory
 abbrev pub IsTreeRefusal : List RawRelation → ReadFault → Type 0
-IsTreeRefusal tree (Fault f) = first database_standing (database_faults tree) ≡ Some f
+IsTreeRefusal tree (Fault f) = earliest database_standing (database_faults tree) ≡ Some f
 IsTreeRefusal tree Memory = Unit {0}
 
 -- this value, unless memory ran out
-abbrev pub IsOrMemory : {A : Type 0} → A → Result A ReadFault → Type 0
-IsOrMemory a (Ok b) = b ≡ a
-IsOrMemory a (Err Memory) = Unit {0}
-IsOrMemory a (Err (Fault f)) = ⊥
+abbrev pub IsReadOrMemory : {A : Type 0} → A → Result A ReadFault → Type 0
+IsReadOrMemory a (Ok b) = b ≡ a
+IsReadOrMemory a (Err Memory) = Unit {0}
+IsReadOrMemory a (Err (Fault f)) = ⊥
 
 -- this fault, unless memory ran out
-abbrev pub IsFaultOrMemory : {A : Type 0} → DbFault → Result A ReadFault → Type 0
-IsFaultOrMemory f (Ok a) = ⊥
-IsFaultOrMemory f (Err Memory) = Unit {0}
-IsFaultOrMemory f (Err (Fault g)) = g ≡ f
+abbrev pub IsDatabaseFaultOrMemory : {A : Type 0} → DbFault → Result A ReadFault → Type 0
+IsDatabaseFaultOrMemory f (Ok a) = ⊥
+IsDatabaseFaultOrMemory f (Err Memory) = Unit {0}
+IsDatabaseFaultOrMemory f (Err (Fault g)) = g ≡ f
 
 -- the fault of a text, from the kind that was met at a place
 abbrev pub refusal_of : TokenFault → Place → ReadFault

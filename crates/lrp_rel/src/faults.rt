@@ -3,7 +3,7 @@ ghost use Rattle.std.specs.Prelude.{◌≡◌, ◌∷◌, ◌++◌, ◌<◌, ◌
 ghost use Rattle.std.specs.List.{flat_map};
 ghost use Rattle.std.specs.Str.{bytes_eq};
 ghost use Rattle.indexmap.specs.IndexSet.{keys, insert_key};
-ghost use Rattle.lrp_model.specs.Faults.{first, fault_if, repeated, ninth, is_named_in};
+ghost use Rattle.lrp_model.specs.Faults.{earliest, fault_if, repeated, ninth, is_named_in};
 ghost use Rattle.lrp_model.specs.DatabaseFaults.{database_standing, database_fault, suits, wrong_sorts, unknown, side_faults, row_faults, named_at};
 ghost use Rattle.lrp_model.specs.declared.raw.RawColumn.{RawColumn as ColumnOf};
 ghost use Rattle.lrp_rel.specs.Once.{put_once};
@@ -51,7 +51,7 @@ pub fn sooner_of(left: Option<DbFault>, right: Option<DbFault>) -> Option<DbFaul
 
 // A fault where the test is true.
 fn fault_where(bad: bool, kind: DbKind, place: Place) -> Option<DbFault>
-    ensures { result ≡ first database_standing (fault_if bad (database_fault kind place)) }
+    ensures { result ≡ earliest database_standing (fault_if bad (database_fault kind place)) }
 {
     if bad {
         Some(DbFault { kind, place })
@@ -67,7 +67,8 @@ pub fn repeated_name(
     name: &Name,
     place: Place,
 ) -> Result<Option<DbFault>, Memory>
-    ensures found { IfOk result (λ f. f ≡ first database_standing (fault_if (is_named_in (keys names.old) name.now) (database_fault DbKind.Name place))) }
+    ensures found { IfOk result (λ f. f ≡ earliest database_standing
+        (fault_if (is_named_in (keys names.old) name.now) (database_fault DbKind.Name place))) }
     ensures names { OnOk result (keys names.new ≡ insert_key bytes_eq (keys names.old) name.now) }
 {
     if names.contains(name) {
@@ -79,7 +80,8 @@ pub fn repeated_name(
 
 // The first column that has the name of an earlier one.
 pub fn repeated_column(alloc: Global, columns: &[RawColumn]) -> Result<Option<DbFault>, Memory>
-    ensures { IfOk result (λ f. f ≡ first database_standing (repeated (database_fault DbKind.Name) [] (map named_at columns.now))) }
+    ensures { IfOk result (λ f. f ≡ earliest database_standing
+        (repeated (database_fault DbKind.Name) [] (map named_at columns.now))) }
 {
     let mut names = IndexSet::new(alloc);
     let mut best = None;
@@ -100,7 +102,11 @@ struct Counts {
 // The fault of a column behind so many, and how many there are with it.
 fn counted(counts: Counts, column: &RawColumn) -> (Option<DbFault>, Counts)
     requires { counts.times + counts.texts < 2 ^ 63 }
-    ensures found { (rest : ListOf ColumnOf) → first database_standing (ninth (database_fault DbKind.Wide) counts.times counts.texts (column.now ∷ rest)) ≡ sooner database_standing result.0 (first database_standing (ninth (database_fault DbKind.Wide) result.1.times result.1.texts rest)) }
+    ensures found { (rest : ListOf ColumnOf) → earliest database_standing
+        (ninth (database_fault DbKind.Wide) counts.times counts.texts (column.now ∷ rest))
+        ≡ sooner database_standing result.0
+        (earliest database_standing (ninth
+        (database_fault DbKind.Wide) result.1.times result.1.texts rest)) }
     ensures size { result.1.times + result.1.texts ≡ counts.times + counts.texts + 1 }
 {
     if column.sort.is_time() {
@@ -126,7 +132,8 @@ fn counted(counts: Counts, column: &RawColumn) -> (Option<DbFault>, Counts)
 
 // A ninth time column, or a ninth among those of all data sorts.
 pub fn ninth_column(columns: &[RawColumn]) -> Option<DbFault>
-    ensures { result ≡ first database_standing (ninth (database_fault DbKind.Wide) 0 0 columns.now) }
+    ensures { result ≡ earliest database_standing
+        (ninth (database_fault DbKind.Wide) 0 0 columns.now) }
 {
     let mut counts = Counts { times: 0, texts: 0 };
     let mut best = None;
@@ -150,7 +157,9 @@ fn suits_column(value: &WrittenValue, column: &RawColumn) -> bool
 
 // The fault of a value that may not stand in its column.
 fn sort_fault(column: &RawColumn, value: &Located<WrittenValue>) -> Option<DbFault>
-    ensures { result ≡ first database_standing (fault_if (not (suits value.now.item column.now)) (database_fault DbKind.Sort value.now.place)) }
+    ensures { result ≡ earliest database_standing
+        (fault_if (not (suits value.now.item column.now))
+        (database_fault DbKind.Sort value.now.place)) }
 {
     let bad = !suits_column(&value.item, column);
     fault_where(bad, DbKind::Sort, value.place)
@@ -158,7 +167,7 @@ fn sort_fault(column: &RawColumn, value: &Located<WrittenValue>) -> Option<DbFau
 
 // The first value that may not stand in its column.
 fn wrong_sort(columns: &[RawColumn], values: &[Located<WrittenValue>]) -> Option<DbFault>
-    ensures { result ≡ first database_standing (wrong_sorts columns.now values.now) }
+    ensures { result ≡ earliest database_standing (wrong_sorts columns.now values.now) }
 {
     let mut best = None;
     for i in 0..columns.len().min(values.len()) {
@@ -169,7 +178,8 @@ fn wrong_sort(columns: &[RawColumn], values: &[Located<WrittenValue>]) -> Option
 
 // One name more, where the column is a time column.
 fn see_time(alloc: Global, times: &mut IndexSet<Name>, column: &RawColumn) -> Result<(), Memory>
-    ensures { OnOk result (keys times.new ≡ fold put_once (keys times.old) (time_names (column.now ∷ []))) }
+    ensures { OnOk result (keys times.new ≡ fold put_once (keys times.old)
+        (time_names (column.now ∷ []))) }
 {
     if column.sort.is_time() {
         times.insert(column.name.copy(alloc)?)?;
@@ -190,14 +200,16 @@ pub fn times_of(alloc: Global, columns: &[RawColumn]) -> Result<IndexSet<Name>, 
 
 // The fault of a name that is no time column.
 fn unknown_name(times: &IndexSet<Name>, name: &Located<Name>) -> Option<DbFault>
-    ensures { (columns : ListOf ColumnOf) → AreTimesOf columns (keys times.now) → result ≡ first database_standing (unknown columns name.now) }
+    ensures { (columns : ListOf ColumnOf) → AreTimesOf columns (keys times.now)
+        → result ≡ earliest database_standing (unknown columns name.now) }
 {
     fault_where(!times.contains(&name.item), DbKind::Column, name.place)
 }
 
 // The fault of a bound's right side.
 fn side_fault(times: &IndexSet<Name>, side: &Side) -> Option<DbFault>
-    ensures { (columns : ListOf ColumnOf) → AreTimesOf columns (keys times.now) → result ≡ first database_standing (side_faults columns side.now) }
+    ensures { (columns : ListOf ColumnOf) → AreTimesOf columns (keys times.now)
+        → result ≡ earliest database_standing (side_faults columns side.now) }
 {
     match side {
         Side::Alone { .. } => None,
@@ -207,7 +219,9 @@ fn side_fault(times: &IndexSet<Name>, side: &Side) -> Option<DbFault>
 
 // The first fault of the bounds of a row.
 fn bounds_fault(times: &IndexSet<Name>, bounds: &[RawBound]) -> Option<DbFault>
-    ensures { (columns : ListOf ColumnOf) → AreTimesOf columns (keys times.now) → result ≡ first database_standing (flat_map (λ b. unknown columns b.left ++ side_faults columns b.side) bounds.now) }
+    ensures { (columns : ListOf ColumnOf) → AreTimesOf columns (keys times.now)
+        → result ≡ earliest database_standing
+        (flat_map (λ b. unknown columns b.left ++ side_faults columns b.side) bounds.now) }
 {
     let mut best = None;
     for bound in bounds {
@@ -224,7 +238,7 @@ pub fn row_fault(
     row: &Located<RawRow>,
 ) -> Option<DbFault>
     requires { AreTimesOf columns.now (keys times.now) }
-    ensures { result ≡ first database_standing (row_faults columns.now row.now) }
+    ensures { result ≡ earliest database_standing (row_faults columns.now row.now) }
 {
     let few = row.item.values.len() != columns.len();
     let arity = fault_where(few, DbKind::Arity, row.place);

@@ -1,7 +1,7 @@
 // What a reader keeps of the relations that it reads: what they mean and their first faults, so that no written row outlives its line.
 ghost use Rattle.std.specs.Prelude.{◌≡◌, ◌∷◌, ◌++◌, [], List as ListOf, IfOk, OnOk};
 ghost use Rattle.lrp_model.specs.Databases.{FitsRow};
-ghost use Rattle.lrp_model.specs.Faults.{first};
+ghost use Rattle.lrp_model.specs.Faults.{earliest};
 ghost use Rattle.lrp_model.specs.DatabaseFaults.{database_standing, database_faults};
 ghost use Rattle.lrp_model.specs.declared.written.Located.{Located as LocatedOf};
 ghost use Rattle.lrp_model.specs.declared.written.RawRow.{RawRow as RawRowOf};
@@ -84,7 +84,9 @@ impl Body {
     ) -> Result<(), Memory>
         requires heading { IsHeading heading.now }
         requires fits { FitsRow row.item }
-        ensures { OnOk result ((rows : ListOf (LocatedOf RawRowOf)) → IsBodyOf heading.now rows self.old → IsBodyOf heading.now (rows ++ row ∷ []) self.new) }
+        ensures { OnOk result ((rows : ListOf (LocatedOf RawRowOf))
+            → IsBodyOf heading.now rows self.old
+            → IsBodyOf heading.now (rows ++ row ∷ []) self.new) }
     {
         let found = row_fault(heading.columns.as_slice(), &heading.times, &row);
         self.fault = sooner_of(self.fault, found);
@@ -107,7 +109,9 @@ impl Meaning {
         body: Body,
     ) -> Result<Meaning, Memory>
         requires { IsHeading heading }
-        ensures { IfOk result (λ made. (rows : ListOf (LocatedOf RawRowOf)) → IsBodyOf heading rows body → IsMeaningOf (record { name = name; columns = heading.columns; rows = rows }) made) }
+        ensures { IfOk result (λ made. (rows : ListOf (LocatedOf RawRowOf))
+            → IsBodyOf heading rows body → IsMeaningOf
+            (record { name = name; columns = heading.columns; rows = rows }) made) }
     {
         let fault = sooner_of(heading.fault, body.fault);
         let columns = meant_columns(alloc, heading.columns)?;
@@ -138,7 +142,8 @@ impl Gathered {
 
     // One relation more.
     pub fn keep(&mut self, alloc: Global, meaning: Meaning) -> Result<(), Memory>
-        ensures { OnOk result ((tree : ListOf Tree) (raw : Tree) → IsMeaningOf raw meaning → AreGathered tree self.old → AreGathered (tree ++ raw ∷ []) self.new) }
+        ensures { OnOk result ((tree : ListOf Tree) (raw : Tree) → IsMeaningOf raw meaning
+            → AreGathered tree self.old → AreGathered (tree ++ raw ∷ []) self.new) }
     {
         let name = &meaning.relation.name;
         let found = repeated_name(alloc, &mut self.names, name, meaning.place)?;
@@ -150,7 +155,8 @@ impl Gathered {
 
     // The first fault of all.
     pub fn fault(&self) -> Option<DbFault>
-        ensures { (tree : ListOf Tree) → AreGathered tree self.now → result ≡ first database_standing (database_faults tree) }
+        ensures { (tree : ListOf Tree) → AreGathered tree self.now
+            → result ≡ earliest database_standing (database_faults tree) }
     {
         sooner_of(self.repeated, self.within)
     }

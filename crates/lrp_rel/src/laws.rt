@@ -18,5 +18,6 @@ pub fn database_texts_have_one_tree()
 
 /// The relations of a database's text, written out, read back as relations that hold the same.
 pub fn databases_read_back()
-    ensures { (bytes : List ℕ) (relations : List Relation) → IsDatabase bytes relations → ReadsBack relations }
+    ensures { (bytes : List ℕ) (relations : List Relation) → IsDatabase bytes relations
+        → ReadsBack relations }
 {}

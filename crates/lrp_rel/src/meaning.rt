@@ -92,7 +92,8 @@ fn keep_bound(
 fn keep_value(bounds: &mut List<Bound>, before: u8, value: &WrittenValue) -> Result<u8, Memory>
     requires few { before + point_count value.now ≤ 8 }
     requires fits { FitsValue value.now }
-    ensures bounds { IfOk result (λ after. (further : ℕ → ListOf BoundOf) → bounds.old ++ value_bounds value.now before further ≡ bounds.new ++ further after) }
+    ensures bounds { IfOk result (λ after. (further : ℕ → ListOf BoundOf)
+        → bounds.old ++ value_bounds value.now before further ≡ bounds.new ++ further after) }
     ensures count { IfOk result (λ after. after ≡ before + point_count value.now) }
 {
     match value {
@@ -140,7 +141,8 @@ fn keep_side(
 ) -> Result<(), Memory>
     requires times { length (keys times.now) ≤ 8 }
     requires fits { FitsSide side.now }
-    ensures { OnOk result ((columns : ListOf ColumnOf) → AreTimePlaces columns (keys times.now) → bounds.new ≡ bounds.old ++ side_bounds columns op left side.now) }
+    ensures { OnOk result ((columns : ListOf ColumnOf) → AreTimePlaces columns (keys times.now)
+        → bounds.new ≡ bounds.old ++ side_bounds columns op left side.now) }
 {
     match side {
         Side::Alone { value } => {
@@ -163,7 +165,8 @@ fn keep_bounds(
 ) -> Result<(), Memory>
     requires times { length (keys times.now) ≤ 8 }
     requires fits { AllByRecursion FitsBound written.now }
-    ensures { OnOk result ((columns : ListOf ColumnOf) → AreTimePlaces columns (keys times.now) → bounds.new ≡ bounds.old ++ flat_map (kept_bounds columns) written.now) }
+    ensures { OnOk result ((columns : ListOf ColumnOf) → AreTimePlaces columns (keys times.now)
+        → bounds.new ≡ bounds.old ++ flat_map (kept_bounds columns) written.now) }
 {
     for bound in written {
         let left = number_of(times, &bound.left.item);
@@ -185,7 +188,8 @@ fn with_exact_room(bounds: List<Bound>) -> List<Bound>
 pub fn meant_row(alloc: Global, times: &IndexSet<Name>, row: RawRow) -> Result<Row, Memory>
     requires times { length (keys times.now) ≤ 8 }
     requires lawful { HasRowMeaning row }
-    ensures { IfOk result (λ made. (columns : ListOf ColumnOf) → AreTimePlaces columns (keys times.now) → made ≡ row_of columns row) }
+    ensures { IfOk result (λ made. (columns : ListOf ColumnOf)
+        → AreTimePlaces columns (keys times.now) → made ≡ row_of columns row) }
 {
     let mut bounds = List::new(alloc);
     keep_values(&mut bounds, row.values.as_slice())?;

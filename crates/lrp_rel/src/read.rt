@@ -5,7 +5,7 @@ ghost use Rattle.lrp_model.specs.declared.faults.DbFault.{DbFault as FaultOf};
 ghost use Rattle.lrp_model.specs.declared.relations.Relation.{Relation as RelationOf};
 ghost use Rattle.lrp_model.specs.declared.written.RawRelation.{RawRelation as Tree};
 ghost use Rattle.lrp_rel.specs.Gathered.{AreGathered};
-ghost use Rattle.lrp_rel.specs.Reading.{IsOrMemory, IsFaultOrMemory, IsRefusedBy, IsSoundTree, IsGatheredFromText, IsTreeRefusal};
+ghost use Rattle.lrp_rel.specs.Reading.{IsReadOrMemory, IsDatabaseFaultOrMemory, IsRefusedBy, IsSoundTree, IsGatheredFromText, IsTreeRefusal};
 ghost use Rattle.lrp_model.specs.Limits.{most_bytes};
 
 use crate::database::Database;
@@ -16,8 +16,10 @@ use std::alloc::Global;
 // The database of what a text says, or the first fault of that.
 fn database_of(alloc: Global, gathered: Gathered) -> Result<Database, ReadFault>
     requires { IsGatheredFromText gathered }
-    ensures read { IfOk result (λ db. (tree : ListOf Tree) → AreGathered tree gathered → IsSoundTree tree db) }
-    ensures refused { IfErr result (λ e. (tree : ListOf Tree) → AreGathered tree gathered → IsTreeRefusal tree e) }
+    ensures read { IfOk result (λ db. (tree : ListOf Tree) → AreGathered tree gathered
+        → IsSoundTree tree db) }
+    ensures refused { IfErr result (λ e. (tree : ListOf Tree) → AreGathered tree gathered
+        → IsTreeRefusal tree e) }
 {
     match gathered.fault() {
         Some(fault) => Err(ReadFault::Fault { fault }),
@@ -43,8 +45,10 @@ pub fn read_database(alloc: Global, bytes: &[u8]) -> Result<Database, ReadFault>
     ensures refused { IfErr result (IsRefusedBy bytes.now) }
 
     // Each database is read, and each other text is refused for its one fault.
-    ensures every_database { (db : ListOf RelationOf) → IsDatabase bytes.now db → IsOrMemory db result }
-    ensures every_fault { (fault : FaultOf) → IsDatabaseFault bytes.now fault → IsFaultOrMemory fault result }
+    ensures every_database { (db : ListOf RelationOf) → IsDatabase bytes.now db
+        → IsReadOrMemory db result }
+    ensures every_fault { (fault : FaultOf) → IsDatabaseFault bytes.now fault
+        → IsDatabaseFaultOrMemory fault result }
 {
     database_of_bytes(alloc, bytes)
 }

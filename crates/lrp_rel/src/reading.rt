@@ -130,7 +130,8 @@ fn read_some_values(
     alloc: Global,
     tokens: &mut Cursor<'_>,
 ) -> Result<List<Located<WrittenValue>>, Fault>
-    ensures value { (n : ℕ) → length tokens.old < n → Reads (separated_from value (is_symbol Symbol.Comma) n [] tokens.old) result tokens.new }
+    ensures value { (n : ℕ) → length tokens.old < n
+        → Reads (separated_from value (is_symbol Symbol.Comma) n [] tokens.old) result tokens.new }
     ensures shorter { IfOk result (λ _. length tokens.new ≤ length tokens.old) }
 {
     let mut found = List::new(alloc);
@@ -146,7 +147,9 @@ fn read_some_values(
 // The values of a row, up to the parenthesis that ends them.
 #[tactic(auto, unfolding(lrp_text::specs::Parsers::listed))]
 fn read_values(alloc: Global, tokens: &mut Cursor<'_>) -> Result<List<Located<WrittenValue>>, Fault>
-    ensures value { (n : ℕ) → length tokens.old < n → Reads (listed value (is_symbol Symbol.Comma) (is_symbol Symbol.Close) n tokens.old) result tokens.new }
+    ensures value { (n : ℕ) → length tokens.old < n
+        → Reads (listed value (is_symbol Symbol.Comma) (is_symbol Symbol.Close) n tokens.old) result
+        tokens.new }
     ensures shorter { IfOk result (λ _. length tokens.new ≤ length tokens.old) }
 {
     if tokens.sees(Symbol::Close) {
@@ -157,7 +160,8 @@ fn read_values(alloc: Global, tokens: &mut Cursor<'_>) -> Result<List<Located<Wr
 
 // One bound or more, with commas between.
 fn read_some_bounds(alloc: Global, tokens: &mut Cursor<'_>) -> Result<List<RawBound>, Fault>
-    ensures value { (n : ℕ) → length tokens.old < n → Reads (separated_from bound (is_symbol Symbol.Comma) n [] tokens.old) result tokens.new }
+    ensures value { (n : ℕ) → length tokens.old < n
+        → Reads (separated_from bound (is_symbol Symbol.Comma) n [] tokens.old) result tokens.new }
     ensures shorter { IfOk result (λ _. length tokens.new ≤ length tokens.old) }
 {
     let mut found = List::new(alloc);
@@ -173,7 +177,8 @@ fn read_some_bounds(alloc: Global, tokens: &mut Cursor<'_>) -> Result<List<RawBo
 // The bounds of a row, if there are any.
 #[tactic(auto, unfolding(crate::specs::Rules::bounds))]
 fn read_bounds(alloc: Global, tokens: &mut Cursor<'_>) -> Result<List<RawBound>, Fault>
-    ensures value { (n : ℕ) → length tokens.old < n → Reads (bounds n tokens.old) result tokens.new }
+    ensures value { (n : ℕ) → length tokens.old < n
+        → Reads (bounds n tokens.old) result tokens.new }
     ensures shorter { IfOk result (λ _. length tokens.new ≤ length tokens.old) }
 {
     if !tokens.eat_word(Word::Where) {
@@ -197,7 +202,8 @@ fn read_row(alloc: Global, tokens: &mut Cursor<'_>) -> Result<RawRow, Fault>
 
 /// A written row, with the place of its parenthesis.
 pub fn read_placed_row(alloc: Global, tokens: &mut Cursor<'_>) -> Result<Located<RawRow>, Fault>
-    ensures value { (n : ℕ) → length tokens.old < n → Reads (located (row n) tokens.old) result tokens.new }
+    ensures value { (n : ℕ) → length tokens.old < n
+        → Reads (located (row n) tokens.old) result tokens.new }
     ensures fits { IfOk result (λ row. FitsRow row.item) }
     ensures fewer { IfOk result (λ _. length tokens.new < length tokens.old) }
 {
@@ -209,7 +215,10 @@ pub fn read_placed_row(alloc: Global, tokens: &mut Cursor<'_>) -> Result<Located
 // The rows of a relation, up to the brace that ends them.
 fn read_rows(alloc: Global, heading: &Heading, tokens: &mut Cursor<'_>) -> Result<Body, Fault>
     requires { IsHeading heading.now }
-    ensures value { (n : ℕ) → length tokens.old < n → ReadsAs (IsBodyOf heading.now) (until_from (located (row n)) (is_symbol Symbol.CloseBrace) n [] tokens.old) result tokens.new }
+    ensures value { (n : ℕ) → length tokens.old < n
+        → ReadsAs (IsBodyOf heading.now)
+        (until_from (located (row n)) (is_symbol Symbol.CloseBrace) n [] tokens.old) result
+        tokens.new }
     ensures shorter { IfOk result (λ _. length tokens.new ≤ length tokens.old) }
 {
     let mut body = Body::new(alloc);
@@ -224,7 +233,8 @@ fn read_rows(alloc: Global, heading: &Heading, tokens: &mut Cursor<'_>) -> Resul
 
 #[tactic(auto, unfolding(crate::specs::Rules::relation))]
 fn read_relation(alloc: Global, tokens: &mut Cursor<'_>) -> Result<Meaning, Fault>
-    ensures value { (n : ℕ) → length tokens.old < n → ReadsAs IsMeaningOf (relation n tokens.old) result tokens.new }
+    ensures value { (n : ℕ) → length tokens.old < n
+        → ReadsAs IsMeaningOf (relation n tokens.old) result tokens.new }
     ensures fewer { IfOk result (λ _. length tokens.new < length tokens.old) }
 {
     tokens.expect_word(Word::Relation)?;
@@ -241,7 +251,8 @@ fn read_relation(alloc: Global, tokens: &mut Cursor<'_>) -> Result<Meaning, Faul
 
 // The relations of a database, up to the end.
 fn read_relations(alloc: Global, tokens: &mut Cursor<'_>) -> Result<Gathered, Fault>
-    ensures { (n : ℕ) → length tokens.old < n → ReadsAs AreGathered (until_from (relation n) is_end n [] tokens.old) result tokens.new }
+    ensures { (n : ℕ) → length tokens.old < n
+        → ReadsAs AreGathered (until_from (relation n) is_end n [] tokens.old) result tokens.new }
 {
     let mut gathered = Gathered::new(alloc);
     'relations: loop {
@@ -256,7 +267,8 @@ fn read_relations(alloc: Global, tokens: &mut Cursor<'_>) -> Result<Gathered, Fa
 // The relations, and the end behind them.
 #[tactic(auto, unfolding(crate::specs::Rules::database))]
 pub fn read_relations_to_end(alloc: Global, tokens: &mut Cursor<'_>) -> Result<Gathered, Fault>
-    ensures { (n : ℕ) → length tokens.old < n → ReadsAs AreGathered (database n tokens.old) result (left_behind result tokens.new) }
+    ensures { (n : ℕ) → length tokens.old < n
+        → ReadsAs AreGathered (database n tokens.old) result (left_behind result tokens.new) }
 {
     let gathered = read_relations(alloc, tokens)?;
     tokens.expect_end()?;

@@ -86,7 +86,8 @@ impl Seen {
     // The text that a column has, if it has one.
     fn see_value(&mut self, alloc: Global, column: &Column, value: &Value) -> Result<(), Memory>
         requires { IsPaired self.old }
-        ensures seen { OnOk result (SeesMore (row_texts (column.now ∷ []) (value.now ∷ [])) self.old self.new) }
+        ensures seen { OnOk result (SeesMore (row_texts (column.now ∷ []) (value.now ∷ [])) self.old
+            self.new) }
         ensures paired { OnOk result (IsPaired self.new) }
     {
         match value {
@@ -112,7 +113,8 @@ impl Seen {
     fn see_rows(&mut self, alloc: Global, columns: &[Column], rows: &[Row]) -> Result<(), Memory>
         requires paired { IsPaired self.old }
         requires rows { AllByRecursion (IsRowOf columns.now) rows.now }
-        ensures seen { OnOk result (SeesMore (flat_map (λ row. row_texts columns.now row.values) rows.now) self.old self.new) }
+        ensures seen { OnOk result (SeesMore (flat_map
+            (λ row. row_texts columns.now row.values) rows.now) self.old self.new) }
         ensures paired { OnOk result (IsPaired self.new) }
     {
         for row in rows {

@@ -10,7 +10,8 @@ use lrp_print::write_relations;
 
 /// The text of a database: that of each of its relations, in order. After a failure a front of it was written.
 pub fn write_database<S: Sink>(out: &mut S, database: &Database) -> Result<(), Failed>
-    ensures text { IsWritten (S.written out.old) (S.written out.new) (database_bytes database.now) result }
+    ensures text { IsWritten (S.written out.old) (S.written out.new)
+        (database_bytes database.now) result }
     ensures cause { HasCause (S.faults out.old) (S.faults out.new) result }
 
     // The whole text is that of a database with the same relations: one by one they hold the same.

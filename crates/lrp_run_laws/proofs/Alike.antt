@@ -1,10 +1,9 @@
 -- Two runs of one task over the same bytes end alike.
-use Rattle.std.proofs.Common.{◌≡◌, ◌≢◌, inl, inr, ◌∷◌, ◌++◌, ◌∙◌, ℕ, ℤ, Bool, false, List, [], length, Ordering, Less, Equal, Greater, refl, sym, ap, ap₂, subst, Option, Some, None}
+use Rattle.std.proofs.Common.{◌≡◌, ◌≢◌, inl, inr, ◌++◌, ◌∙◌, ℕ, ℤ, Bool, false, List, length, Ordering, Less, Equal, Greater, refl, sym, ap, ap₂, subst, Option, Some, None}
 use Rattle.std.specs.Prelude.{pos, codes}
 use Rattle.std.specs.Cmp.{IsTotalOrder}
 use Rattle.std.specs.Cmp.Lexicographic.{slice_cmp}
 use Rattle.std.specs.FinMap.{IsAntisymmetric, slice_cmp-IsAntisymmetric, nat_cmp-IsAntisymmetric}
-use Rattle.std.specs.List.{AllZip}
 use Rattle.std.specs.Ordering.{nat_cmp, ordering_reverse}
 use Rattle.std.proofs.lemmas.Cmp.{on_total, then_total, lists_total, nat_cmp_total, nat_list_cmp_total}
 use Rattle.std.proofs.lemmas.Map.Lookups.{exact_bytes, exact_pairs}
@@ -14,14 +13,12 @@ use Rattle.lrp_model.specs.Order.{rank_cmp, IsLeast}
 use Rattle.lrp_model.specs.Pages.{IsPage}
 use Rattle.lrp_model.specs.Plans.{plan}
 use Rattle.lrp_model.specs.PrintedPages.{plain_line}
-use Rattle.lrp_model.specs.Rows.{Datum, time, text, times_of, texts_of, Tuple}
-use Rattle.lrp_model.specs.Satisfaction.{Structure, IsOfSort, IsOfKind, HasShape, structure, IsAnswer}
+use Rattle.lrp_model.specs.Rows.{Datum, times_of, texts_of, Tuple}
+use Rattle.lrp_model.specs.Satisfaction.{HasShape, structure, IsAnswer}
 use Rattle.lrp_model.specs.Texts.{Text, text_cmp}
 use Rattle.lrp_model.specs.Tuples.{in_head_order}
 use Rattle.lrp_model.specs.declared.relations.Column.{Column}
 use Rattle.lrp_model.specs.declared.relations.Relation.{Relation}
-use Rattle.lrp_model.specs.declared.relations.Sort.{Sort}
-use Rattle.lrp_model.specs.declared.relations.Sort.TheVariants.{Time, Data, Named}
 use Rattle.lrp_eval.specs.Counts.{HasAnswerCount, HasCells}
 use Rattle.lrp_outputs.specs.First.{IsFirst}
 use Rattle.lrp_top.specs.Sampled.{TellsSample}
@@ -31,6 +28,7 @@ use Rattle.lrp_top.specs.Written.{IsSorted}
 use Rattle.lrp_top.specs.Telling.{TellsPage, TellsWitness}
 use Rattle.lrp_outputs.specs.PageLines.{listed_bytes}
 use Rattle.lrp_run_laws.proofs.Complete.{DatabaseTexts, QueryTexts}
+use Rattle.lrp_model.proofs.Unique.{shape_of}
 
 -- ---- the least answer is one
 
@@ -51,23 +49,9 @@ beside Less p e h k = absurd (k e)
 beside Equal p e h k = refl
 beside Greater p e h k = absurd (h refl)
 
-kind_of : (M : Structure) (s : Sort) (d : Datum) → IsOfSort M s d → IsOfKind s d
-kind_of M Time (time x) h = tt
-kind_of M Time (text t) h = h
-kind_of M Data (time x) h = h
-kind_of M Data (text t) h = tt
-kind_of M (Named name) (time x) h = h
-kind_of M (Named name) (text t) h = tt
-
-kinds_of : (M : Structure) (cs : List Column) (ds : List Datum) → AllZip (λ c d. IsOfSort M c.sort d) cs ds → HasShape cs ds
-kinds_of M [] [] h = tt
-kinds_of M [] (d ∷ ds) h = h
-kinds_of M (c ∷ cs) [] h = h
-kinds_of M (c ∷ cs) (d ∷ ds) h = (kind_of M c.sort d h.0, kinds_of M cs ds h.1)
-
 -- an answer has the head's shape
 pub shaped : (db : List Relation) (q : Question) (tuple : Tuple) → IsAnswer db q tuple → HasShape q.head tuple
-shaped db q tuple answer = kinds_of (structure db q) q.head tuple answer.fits
+shaped db q tuple answer = shape_of (structure db q) q.head tuple answer.fits
 
 module _ (one_rank : OneRank) (whole : WholeTuples) (db : List Relation) (q : Question) where
   rank_exact : IsAntisymmetric (λ (x y : ℤ). nat_cmp (rank x) (rank y))

@@ -121,7 +121,8 @@ pub fn equal_answers_equal_bytes()
 /// Of a page of what two files ask, behind which more is to come, the token of the last tuple and of these files is resumed
 /// just behind that tuple, and a page that is told for it goes on with the page.
 pub fn pages_follow()
-    ensures { (tense civil : Bool) (files : Contents) (db : List Relation) (q : Question) (from to : ℤ)
+    ensures { (tense civil : Bool) (files : Contents) (db : List Relation) (q : Question)
+        (from to : ℤ)
         (after : Option Tuple) (limit : ℕ) (page : List Tuple) (end : Tuple)
         → SaysRelations civil files db
         → SaysQuestion tense files db q

@@ -7,7 +7,7 @@ use Rattle.lrp_theory.specs.Bounds.{Within}
 use Rattle.lrp_theory.specs.Entries.{AtMost}
 use Rattle.lrp_matrix.specs.Ranges.{Above}
 use Rattle.lrp_spans.specs.declared.spans.Span.{Span}
-use Rattle.lrp_spans.specs.Spans.{AreFronts, ComesBefore, EndsBefore, HasTurn, InSpans, IsDifference, IsFront, IsRest, IsSpan}
+use Rattle.lrp_spans.specs.Spans.{AreFronts, SpanComesBefore, EndsBefore, HasTurn, InSpans, IsDifference, IsFront, IsRest, IsSpan}
 use Rattle.lrp_spans.proofs.Lists.{below_or, in_none, in_one, later, head_in, pairs_append, pairs_one, pairs_none}
 use Rattle.lrp_spans.proofs.MergeLaws.{in_left, in_right, in_either, in_this, this_has}
 use Rattle.lrp_spans.proofs.SpanLaws.{behind}
@@ -63,12 +63,12 @@ below_ends high p q vp vq below = at p.last refl
     at (Some e) ends = start e ends q.first refl
 
 -- of two spans that come one before the other, no turn is in both
-pub apart_turns : (p q : Span) (r : ℕ) (n : ℤ) → ComesBefore p q → HasTurn p r n → HasTurn q r n → ⊥
+pub apart_turns : (p q : Span) (r : ℕ) (n : ℤ) → SpanComesBefore p q → HasTurn p r n → HasTurn q r n → ⊥
 apart_turns p q r n (inl l) a b = let e : p.residue ≡ r = a.residue in let f : q.residue ≡ r = b.residue in omega arith
 apart_turns p q r n (inr c) a b = let k : n <ℤ n = ends_below p q c.1 n n (record { residue = refl; low = a.low; high = a.high }) (record { residue = refl; low = b.low; high = b.high }) in omega (arith, ints)
 
 -- what comes before a span comes before what comes behind it
-pub before_trans : (high : ℕ) (p q s : Span) → IsSpan high p → IsSpan high q → IsSpan high s → ComesBefore p q → ComesBefore q s → ComesBefore p s
+pub before_trans : (high : ℕ) (p q s : Span) → IsSpan high p → IsSpan high q → IsSpan high s → SpanComesBefore p q → SpanComesBefore q s → SpanComesBefore p s
 before_trans high p q s vp vq vs (inl a) (inl b) = inl (omega arith)
 before_trans high p q s vp vq vs (inl a) (inr b) = inl (let e : q.residue ≡ s.residue = b.0 in omega arith)
 before_trans high p q s vp vq vs (inr a) (inl b) = inl (let e : p.residue ≡ q.residue = a.0 in omega arith)
@@ -94,7 +94,7 @@ fronts_none high s hole all = record {
   to = λ r n h. absurd (in_none h.span h.listed);
   from = λ r n t out. absurd (out (all n t.low));
   each = λ p l. absurd (in_none p l);
-  apart = pairs_none ComesBefore;
+  apart = pairs_none SpanComesBefore;
 }
 
 pub fronts_one : (high : ℕ) (s hole front : Span) → IsSpan (high + 1) s → IsSpan high hole → s.residue ≡ front.residue → IsFront s hole front → AreFronts high s hole (front ∷ [])
@@ -107,25 +107,25 @@ fronts_one high s hole front v w same f = record {
     turn = f.turn.0;
     is = subst (λ r. HasTurn front r f.turn.0) same f.turn.1;
   });
-  apart = pairs_one ComesBefore front;
+  apart = pairs_one SpanComesBefore front;
 }
 
 -- ---- the span so far: pieces before the holes that are left, and the rest
 pub record AreCut (high : ℕ) (span : Span) (done left pieces : List Span) (rest : Span) : Type 0 where
   pub each : (p : Span) → Contains pieces p → IsSpan (high + 1) p
-  pub apart : AllPairs ComesBefore pieces
-  pub ahead : (p h : Span) → Contains pieces p → Contains left h → ComesBefore p h
-  pub before : (p : Span) → Contains pieces p → ComesBefore p rest
+  pub apart : AllPairs SpanComesBefore pieces
+  pub ahead : (p h : Span) → Contains pieces p → Contains left h → SpanComesBefore p h
+  pub before : (p : Span) → Contains pieces p → SpanComesBefore p rest
   pub valid : IsSpan (high + 1) rest
-  pub behind : (h : Span) → Contains left h → ComesBefore h rest → ⊥
+  pub behind : (h : Span) → Contains left h → SpanComesBefore h rest → ⊥
   pub to_pieces : (r : ℕ) (n : ℤ) → InSpans pieces r n → HasTurn span r n × (InSpans done r n → ⊥)
   pub to_rest : (r : ℕ) (n : ℤ) → HasTurn rest r n → HasTurn span r n × (InSpans done r n → ⊥)
   pub from : (r : ℕ) (n : ℤ) → HasTurn span r n → (InSpans done r n → ⊥) → InSpans pieces r n ⊎ HasTurn rest r n
 
-pub cut_start : (high : ℕ) (span : Span) (holes : List Span) → IsSpan high span → ((h : Span) → Contains holes h → ComesBefore h span → ⊥) → AreCut high span [] holes [] span
+pub cut_start : (high : ℕ) (span : Span) (holes : List Span) → IsSpan high span → ((h : Span) → Contains holes h → SpanComesBefore h span → ⊥) → AreCut high span [] holes [] span
 cut_start high span holes v behind = record {
   each = λ p l. absurd (in_none p l);
-  apart = pairs_none ComesBefore;
+  apart = pairs_none SpanComesBefore;
   ahead = λ p h l m. absurd (in_none p l);
   before = λ p l. absurd (in_none p l);
   valid = wider_span high span v;
@@ -144,11 +144,11 @@ cut_all high span done pieces rest c = record {
   ];
   from = λ r n h out. elim (c.from r n (this_has span r n h) out) [ inl a ↦ in_left pieces (rest ∷ []) r n a | inr b ↦ in_right pieces (rest ∷ []) r n (in_this rest r n b) ];
   each = λ s l. elim (Contains-append_cases pieces (rest ∷ []) s l) [ inl a ↦ c.each s a | inr b ↦ subst (IsSpan (high + 1)) (in_one rest s b) c.valid ];
-  apart = pairs_append ComesBefore pieces (rest ∷ []) c.apart (pairs_one ComesBefore rest) (λ x y a b. subst (ComesBefore x) (in_one rest y b) (c.before x a));
+  apart = pairs_append SpanComesBefore pieces (rest ∷ []) c.apart (pairs_one SpanComesBefore rest) (λ x y a b. subst (SpanComesBefore x) (in_one rest y b) (c.before x a));
 }
 
 -- two spans of which neither has the lesser residue
-pub same_residues : (p q : Span) → (ComesBefore p q → ⊥) → (ComesBefore q p → ⊥) → p.residue ≡ q.residue
+pub same_residues : (p q : Span) → (SpanComesBefore p q → ⊥) → (SpanComesBefore q p → ⊥) → p.residue ≡ q.residue
 same_residues p q a b = elim (below_or p.residue q.residue) [
   | inl l ↦ absurd (a (inl l))
   | inr l ↦ elim (below_or q.residue p.residue) [ inl m ↦ absurd (b (inl m)) | inr m ↦ omega (arith, l, m) ]
@@ -167,7 +167,7 @@ within_less n m None l a = tt
 within_less n m (Some f) l a = omega (arith, ints)
 
 -- what comes before a span comes before a part of it
-inner_before : (high : ℕ) (p q s : Span) → IsSpan high p → IsSpan high s → s.residue ≡ q.residue → ((n : ℤ) → HasTurn s s.residue n → HasTurn q q.residue n) → ComesBefore p q → ComesBefore p s
+inner_before : (high : ℕ) (p q s : Span) → IsSpan high p → IsSpan high s → s.residue ≡ q.residue → ((n : ℤ) → HasTurn s s.residue n → HasTurn q q.residue n) → SpanComesBefore p q → SpanComesBefore p s
 inner_before high p q s vp vs same inner (inl a) = inl (omega (arith, a, same))
 inner_before high p q s vp vs same inner (inr a) = inr (a.0 ∙ sym same, below_ends high p s vp vs (λ n m x y. ends_below p q a.1 n m x (inner m y)))
 
@@ -176,19 +176,19 @@ pub own : (s : Span) (r : ℕ) (n : ℤ) → HasTurn s r n → HasTurn s s.resid
 own s r n t = record { residue = refl; low = t.low; high = t.high }
 
 module _ (high : ℕ) (span : Span) (done : List Span) (hole : Span) (others pieces : List Span) (rest : Span)
-    (c : AreCut high span done (hole ∷ others) pieces rest) (all : (h : Span) → Contains (hole ∷ others) h → IsSpan high h) (order : (h : Span) → Contains others h → ComesBefore hole h) where
+    (c : AreCut high span done (hole ∷ others) pieces rest) (all : (h : Span) → Contains (hole ∷ others) h → IsSpan high h) (order : (h : Span) → Contains others h → SpanComesBefore hole h) where
   hole_in : Contains (hole ∷ others) hole
   hole_in = head_in hole others
 
   -- a hole that is left is the first one or comes behind it
-  left_holes : (p : Span) → IsSpan (high + 1) p → ComesBefore p hole → (h : Span) → Contains (hole ∷ others) h → ComesBefore p h
+  left_holes : (p : Span) → IsSpan (high + 1) p → SpanComesBefore p hole → (h : Span) → Contains (hole ∷ others) h → SpanComesBefore p h
   left_holes p v b h l = elim (Contains-append_cases (hole ∷ []) others h l) [
-    | inl a ↦ subst (ComesBefore p) (in_one hole h a) b
+    | inl a ↦ subst (SpanComesBefore p) (in_one hole h a) b
     | inr a ↦ before_trans (high + 1) p hole h v (wider_span high hole (all hole hole_in)) (wider_span high h (all h l)) b (order h a)
   ]
 
   -- where the rest comes before the hole
-  pub cut_break : ComesBefore rest hole → IsDifference high (span ∷ []) (done ++ hole ∷ others) (pieces ++ rest ∷ [])
+  pub cut_break : SpanComesBefore rest hole → IsDifference high (span ∷ []) (done ++ hole ∷ others) (pieces ++ rest ∷ [])
   cut_break b = record {
     to = λ r n h. elim (in_either pieces (rest ∷ []) r n h) [
       | inl a ↦ (let t = c.to_pieces r n a in (
@@ -208,7 +208,7 @@ module _ (high : ℕ) (span : Span) (done : List Span) (hole : Span) (others pie
     ];
     from = λ r n h out. elim (c.from r n (this_has span r n h) (λ x. out (in_left done (hole ∷ others) r n x))) [ inl a ↦ in_left pieces (rest ∷ []) r n a | inr a ↦ in_right pieces (rest ∷ []) r n (in_this rest r n a) ];
     each = λ s l. elim (Contains-append_cases pieces (rest ∷ []) s l) [ inl a ↦ c.each s a | inr a ↦ subst (IsSpan (high + 1)) (in_one rest s a) c.valid ];
-    apart = pairs_append ComesBefore pieces (rest ∷ []) c.apart (pairs_one ComesBefore rest) (λ x y a e. subst (ComesBefore x) (in_one rest y e) (c.before x a));
+    apart = pairs_append SpanComesBefore pieces (rest ∷ []) c.apart (pairs_one SpanComesBefore rest) (λ x y a e. subst (SpanComesBefore x) (in_one rest y e) (c.before x a));
   }
 
   module _ (same : rest.residue ≡ hole.residue) (fronts : List Span) (f : AreFronts high rest hole fronts) where
@@ -219,7 +219,7 @@ module _ (high : ℕ) (span : Span) (done : List Span) (hole : Span) (others pie
     front_residue : (p : Span) → Contains fronts p → p.residue ≡ rest.residue
     front_residue p l = let v : IsSpan (high + 1) p = f.each p l in sym (front_in p l v.turn v.is).0.residue
 
-    front_before_hole : (p : Span) → Contains fronts p → ComesBefore p hole
+    front_before_hole : (p : Span) → Contains fronts p → SpanComesBefore p hole
     front_before_hole p l = inr (
       front_residue p l ∙ same,
       below_ends (high + 1) p hole (f.each p l) (wider_span high hole (all hole hole_in))
@@ -230,14 +230,14 @@ module _ (high : ℕ) (span : Span) (done : List Span) (hole : Span) (others pie
     pub pieces_each : (p : Span) → Contains (pieces ++ fronts) p → IsSpan (high + 1) p
     pieces_each p l = elim (Contains-append_cases pieces fronts p l) [ inl a ↦ c.each p a | inr a ↦ f.each p a ]
 
-    pub pieces_ahead : (p h : Span) → Contains (pieces ++ fronts) p → Contains (hole ∷ others) h → ComesBefore p h
+    pub pieces_ahead : (p h : Span) → Contains (pieces ++ fronts) p → Contains (hole ∷ others) h → SpanComesBefore p h
     pieces_ahead p h l m = elim (Contains-append_cases pieces fronts p l) [
       | inl a ↦ c.ahead p h a m
       | inr a ↦ left_holes p (f.each p a) (front_before_hole p a) h m
     ]
 
-    pub pieces_apart : AllPairs ComesBefore (pieces ++ fronts)
-    pieces_apart = pairs_append ComesBefore pieces fronts c.apart f.apart (λ x y a b.
+    pub pieces_apart : AllPairs SpanComesBefore (pieces ++ fronts)
+    pieces_apart = pairs_append SpanComesBefore pieces fronts c.apart f.apart (λ x y a b.
         inner_before (high + 1) x rest y (c.each x a) (f.each y b) (front_residue y b) (λ n t. own rest y.residue n (front_in y b n t).0) (c.before x a))
 
     -- they have turns of the span that are in no hole
@@ -281,7 +281,7 @@ module _ (high : ℕ) (span : Span) (done : List Span) (hole : Span) (others pie
     }
 
     -- and where something is
-    pub cut_next : (next : Span) → IsRest rest hole next → (ComesBefore hole rest → ⊥) → AreCut high span (done ++ hole ∷ []) others (pieces ++ fronts) next
+    pub cut_next : (next : Span) → IsRest rest hole next → (SpanComesBefore hole rest → ⊥) → AreCut high span (done ++ hole ∷ []) others (pieces ++ fronts) next
     cut_next next re after = record {
       each = pieces_each;
       apart = pieces_apart;
@@ -314,7 +314,7 @@ module _ (high : ℕ) (span : Span) (done : List Span) (hole : Span) (others pie
         next_in : (n : ℤ) → HasTurn next next.residue n → HasTurn rest rest.residue n × (Within n hole.last → ⊥)
         next_in n t = let a = re.to next.residue n t in (own rest next.residue n a.0, a.1)
 
-        before : (p : Span) → Contains (pieces ++ fronts) p → ComesBefore p next
+        before : (p : Span) → Contains (pieces ++ fronts) p → SpanComesBefore p next
         before p l = elim (Contains-append_cases pieces fronts p l) [
           | inl a ↦ inner_before (high + 1) p rest next (c.each p a) valid next_residue (λ n t. (next_in n t).0) (c.before p a)
           | inr a ↦ inr (front_residue p a ∙ sym next_residue, below_ends (high + 1) p next (f.each p a) valid (λ n m x y. far p a n m x y))
@@ -334,10 +334,10 @@ module _ (high : ℕ) (span : Span) (done : List Span) (hole : Span) (others pie
         ]
 
         -- no hole behind comes before what is left
-        behind_next : (h : Span) → Contains others h → ComesBefore h next → ⊥
+        behind_next : (h : Span) → Contains others h → SpanComesBefore h next → ⊥
         behind_next h l (inl less) = of (order h l)
           where
-            of : ComesBefore hole h → ⊥
+            of : SpanComesBefore hole h → ⊥
             of (inl a) = omega (arith, a, less, next_residue, same)
             of (inr a) = let e : hole.residue ≡ h.residue = a.0 in omega (arith, e, less, next_residue, same)
         behind_next h l (inr b) = of (order h l)
@@ -345,7 +345,7 @@ module _ (high : ℕ) (span : Span) (done : List Span) (hole : Span) (others pie
             v : IsSpan high h
             v = all h (later hole others h l)
 
-            of : ComesBefore hole h → ⊥
+            of : SpanComesBefore hole h → ⊥
             of (inl a) = let e : h.residue ≡ next.residue = b.0 in omega (arith, a, e, next_residue, same)
             of (inr a) =
                 let w : IsSpan high hole = all hole hole_in in

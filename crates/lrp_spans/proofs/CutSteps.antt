@@ -6,12 +6,12 @@ use Rattle.std.proofs.lemmas.List.{drop_all, drop_more, take-append-drop, take_m
 use Rattle.std.proofs.lemmas.List.Elements.{Contains-append_right}
 use Rattle.lrp_theory.specs.Bounds.{Within}
 use Rattle.lrp_spans.specs.declared.spans.Span.{Span}
-use Rattle.lrp_spans.specs.Spans.{AppendsFronts, AppendsLeft, AreOrdered, ComesBefore, IsDifference, IsRest, IsSpan}
+use Rattle.lrp_spans.specs.Spans.{AppendsFronts, AppendsLeft, AreOrdered, SpanComesBefore, IsDifference, IsRest, IsSpan}
 use Rattle.lrp_spans.proofs.CutLaws.{AreCut, cut_all, cut_break, cut_next, cut_start, cut_stop, same_residues}
 use Rattle.lrp_spans.proofs.Lists.{head_in, pairs_head, pairs_right}
 
 -- no hole is cut out yet
-pub start_cut : (high : ℕ) (span : Span) (holes made : List Span) → IsSpan high span → ((h : Span) → Contains holes h → ComesBefore h span → ⊥)
+pub start_cut : (high : ℕ) (span : Span) (holes made : List Span) → IsSpan high span → ((h : Span) → Contains holes h → SpanComesBefore h span → ⊥)
     → (pieces : List Span) × (made ≡ made ++ pieces) × AreCut high span [] holes pieces span
 start_cut high span holes made v behind = ([], sym (append-nil made), cut_start high span holes v behind)
 
@@ -40,9 +40,9 @@ module _ (high : ℕ) (span : Span) (holes : List Span) (ordered : AreOrdered hi
   all : (h : Span) → Contains (get_or holes i d ∷ drop (i + 1) holes) h → IsSpan high h
   all h m = ordered.each h (subst (λ x. Contains x h) whole (Contains-append_right (take i holes) (get_or holes i d ∷ drop (i + 1) holes) h m))
 
-  order : (h : Span) → Contains (drop (i + 1) holes) h → ComesBefore (get_or holes i d) h
-  order = pairs_head ComesBefore (get_or holes i d) (drop (i + 1) holes)
-      (pairs_right ComesBefore (take i holes) (get_or holes i d ∷ drop (i + 1) holes) (subst (AllPairs ComesBefore) (sym whole) ordered.apart))
+  order : (h : Span) → Contains (drop (i + 1) holes) h → SpanComesBefore (get_or holes i d) h
+  order = pairs_head SpanComesBefore (get_or holes i d) (drop (i + 1) holes)
+      (pairs_right SpanComesBefore (take i holes) (get_or holes i d ∷ drop (i + 1) holes) (subst (AllPairs SpanComesBefore) (sym whole) ordered.apart))
 
   hole_in : Contains (get_or holes i d ∷ drop (i + 1) holes) (get_or holes i d)
   hole_in = head_in (get_or holes i d) (drop (i + 1) holes)
@@ -54,18 +54,18 @@ module _ (high : ℕ) (span : Span) (holes : List Span) (ordered : AreOrdered hi
     at : AreCut high span (take i holes) (get_or holes i d ∷ drop (i + 1) holes) pieces rest
     at = subst (λ x. AreCut high span (take i holes) x pieces rest) left_is c
 
-    pub hole_behind : ComesBefore (get_or holes i d) rest → ⊥
+    pub hole_behind : SpanComesBefore (get_or holes i d) rest → ⊥
     hole_behind = at.behind (get_or holes i d) hole_in
 
     -- the rest comes before the hole
-    pub break_cut : (old made : List Span) → made ≡ old ++ pieces → ComesBefore rest (get_or holes i d) → AppendsLeft high span holes old (made ++ rest ∷ [])
+    pub break_cut : (old made : List Span) → made ≡ old ++ pieces → SpanComesBefore rest (get_or holes i d) → AppendsLeft high span holes old (made ++ rest ∷ [])
     break_cut old made is b = record {
       left = pieces ++ rest ∷ [];
       is = ap (λ x. x ++ rest ∷ []) is ∙ append_assoc old pieces (rest ∷ []);
       difference = subst (λ x. IsDifference high (span ∷ []) x (pieces ++ rest ∷ [])) whole (cut_break high span (take i holes) (get_or holes i d) (drop (i + 1) holes) pieces rest at all order b);
     }
 
-    module _ (ahead : ComesBefore rest (get_or holes i d) → ⊥) where
+    module _ (ahead : SpanComesBefore rest (get_or holes i d) → ⊥) where
       same : rest.residue ≡ (get_or holes i d).residue
       same = same_residues rest (get_or holes i d) ahead hole_behind
 

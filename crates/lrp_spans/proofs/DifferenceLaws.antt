@@ -6,7 +6,7 @@ use Rattle.std.proofs.lemmas.List.Elements.{Contains-append_cases, Contains-appe
 use Rattle.std.proofs.lemmas.Option.{slice_get-get_or}
 use Rattle.std.proofs.lemmas.Slice.{between_to_end}
 use Rattle.lrp_spans.specs.declared.spans.Span.{Span}
-use Rattle.lrp_spans.specs.Spans.{AppendsLeft, AreBefore, AreOrdered, ComesBefore, HasTurn, InSpans, IsDifference, IsSpan}
+use Rattle.lrp_spans.specs.Spans.{AppendsLeft, AreBefore, AreOrdered, SpanComesBefore, HasTurn, InSpans, IsDifference, IsSpan}
 use Rattle.lrp_spans.proofs.CutLaws.{apart_turns, before_trans, below_ends, ends_below, own}
 use Rattle.lrp_spans.proofs.Lists.{before, below_or, head_in, in_none, in_one, pairs_append, pairs_head, pairs_none, pairs_right}
 use Rattle.lrp_spans.proofs.MergeLaws.{in_left, in_right, in_either, this_has}
@@ -16,23 +16,23 @@ split_at : (xs : List Span) (i : ℕ) (d : Span) → i < length xs → take i xs
 split_at xs i d l = ap (λ x. take i xs ++ x) (sym (drop_more xs i d l)) ∙ take-append-drop i xs
 
 -- what is before a place comes before what stands there, and that before what stands behind it
-pub before_place : (xs : List Span) (i : ℕ) (d : Span) → i < length xs → AllPairs ComesBefore xs → AreBefore (take i xs) (get_or xs i d)
-before_place xs i d l all v h = before ComesBefore xs i (get_or xs i d) all l (get_or_default xs i d (get_or xs i d) l) v h
+pub before_place : (xs : List Span) (i : ℕ) (d : Span) → i < length xs → AllPairs SpanComesBefore xs → AreBefore (take i xs) (get_or xs i d)
+before_place xs i d l all v h = before SpanComesBefore xs i (get_or xs i d) all l (get_or_default xs i d (get_or xs i d) l) v h
 
-pub place_before : (xs : List Span) (i : ℕ) (d : Span) → i < length xs → AllPairs ComesBefore xs → (v : Span) → Contains (drop (i + 1) xs) v → ComesBefore (get_or xs i d) v
-place_before xs i d l all = pairs_head ComesBefore (get_or xs i d) (drop (i + 1) xs)
-    (pairs_right ComesBefore (take i xs) (get_or xs i d ∷ drop (i + 1) xs) (subst (AllPairs ComesBefore) (sym (split_at xs i d l)) all))
+pub place_before : (xs : List Span) (i : ℕ) (d : Span) → i < length xs → AllPairs SpanComesBefore xs → (v : Span) → Contains (drop (i + 1) xs) v → SpanComesBefore (get_or xs i d) v
+place_before xs i d l all = pairs_head SpanComesBefore (get_or xs i d) (drop (i + 1) xs)
+    (pairs_right SpanComesBefore (take i xs) (get_or xs i d ∷ drop (i + 1) xs) (subst (AllPairs SpanComesBefore) (sym (split_at xs i d l)) all))
 
 -- the spans from a place on are in order too
 pub suffix_ordered : (high : ℕ) (xs : List Span) (i : ℕ) → AreOrdered high xs → AreOrdered high (drop i xs)
 suffix_ordered high xs i o = record {
   each = λ s l. o.each s (subst (λ x. Contains x s) (take-append-drop i xs) (Contains-append_right (take i xs) (drop i xs) s l));
-  apart = pairs_right ComesBefore (take i xs) (drop i xs) (subst (AllPairs ComesBefore) (sym (take-append-drop i xs)) o.apart);
+  apart = pairs_right SpanComesBefore (take i xs) (drop i xs) (subst (AllPairs SpanComesBefore) (sym (take-append-drop i xs)) o.apart);
 }
 
 -- where the first hole from a place on does not come before the span, no later one does
 pub none_before : (high : ℕ) (holes : List Span) (i : ℕ) (span : Span) → AreOrdered high holes → IsSpan high span → i ≤ length holes
-    → ((hole : Span) → slice_get holes i ≡ Some hole → ComesBefore hole span → ⊥) → (h : Span) → Contains (drop i holes) h → ComesBefore h span → ⊥
+    → ((hole : Span) → slice_get holes i ≡ Some hole → SpanComesBefore hole span → ⊥) → (h : Span) → Contains (drop i holes) h → SpanComesBefore h span → ⊥
 none_before high holes i span o v low stop h m b = elim (below_or i (length holes)) [
   | inr l ↦ in_none h (subst (λ x. Contains x h) (drop_all i holes l) m)
   | inl l ↦ elim (Contains-append_cases (get_or holes i h ∷ []) (drop (i + 1) holes) h (subst (λ x. Contains x h) (drop_more holes i h l) m)) [
@@ -45,7 +45,7 @@ none_before high holes i span o v low stop h m b = elim (below_or i (length hole
 
 -- no span yet
 pub difference_none : (high : ℕ) (holes : List Span) → IsDifference high [] holes []
-difference_none high holes = record { to = λ r n h. absurd (in_none h.span h.listed); from = λ r n h out. absurd (in_none h.span h.listed); each = λ s l. absurd (in_none s l); apart = pairs_none ComesBefore }
+difference_none high holes = record { to = λ r n h. absurd (in_none h.span h.listed); from = λ r n h out. absurd (in_none h.span h.listed); each = λ s l. absurd (in_none s l); apart = pairs_none SpanComesBefore }
 
 -- holes before a span take nothing from it
 pub passed_holes : (high : ℕ) (span : Span) (holes left : List Span) (i : ℕ) → AreBefore (take i holes) span → IsDifference high (span ∷ []) (drop i holes) left → IsDifference high (span ∷ []) holes left
@@ -72,7 +72,7 @@ difference_more high spans span holes made left v b d e = record {
   ];
   from = λ r n h out. elim (in_either spans (span ∷ []) r n h) [ inl a ↦ in_left made left r n (d.from r n a out) | inr a ↦ in_right made left r n (e.from r n a out) ];
   each = λ s l. elim (Contains-append_cases made left s l) [ inl a ↦ d.each s a | inr a ↦ e.each s a ];
-  apart = pairs_append ComesBefore made left d.apart e.apart across;
+  apart = pairs_append SpanComesBefore made left d.apart e.apart across;
 }
   where
     in_span : (y : Span) (l : Contains left y) (n : ℤ) → HasTurn y y.residue n → HasTurn span y.residue n
@@ -85,11 +85,11 @@ difference_more high spans span holes made left v b d e = record {
     below : (r : ℕ) (n m : ℤ) → InSpans spans r n → HasTurn span r m → n <ℤ m
     below r n m a t = of (b a.span a.listed)
       where
-        of : ComesBefore a.span span → n <ℤ m
+        of : SpanComesBefore a.span span → n <ℤ m
         of (inl l) = let x : a.span.residue ≡ r = a.is.residue in let y : span.residue ≡ r = t.residue in absurd (omega (arith, l, x, y))
         of (inr c) = ends_below a.span span c.1 n m (own a.span r n a.is) (own span r m t)
 
-    across : (x y : Span) → Contains made x → Contains left y → ComesBefore x y
+    across : (x y : Span) → Contains made x → Contains left y → SpanComesBefore x y
     across x y lx ly =
         let vx : IsSpan (high + 1) x = d.each x lx in
         let vy : IsSpan (high + 1) y = e.each y ly in
@@ -97,7 +97,7 @@ difference_more high spans span holes made left v b d e = record {
         let oy : HasTurn span y.residue vy.turn = in_span y ly vy.turn vy.is in
         of vx vy ox oy (b ox.span ox.listed)
       where
-        of : (vx : IsSpan (high + 1) x) (vy : IsSpan (high + 1) y) (ox : InSpans spans x.residue vx.turn) (oy : HasTurn span y.residue vy.turn) → ComesBefore ox.span span → ComesBefore x y
+        of : (vx : IsSpan (high + 1) x) (vy : IsSpan (high + 1) y) (ox : InSpans spans x.residue vx.turn) (oy : HasTurn span y.residue vy.turn) → SpanComesBefore ox.span span → SpanComesBefore x y
         of vx vy ox oy (inl l) = inl (let p : ox.span.residue ≡ x.residue = ox.is.residue in let q : span.residue ≡ y.residue = oy.residue in omega (arith, l, p, q))
         of vx vy ox oy (inr c) =
             let same : x.residue ≡ y.residue = sym ox.is.residue ∙ (c.0 ∙ oy.residue) in
@@ -121,10 +121,10 @@ still_before high spans holes i next d o p l b s m v h = before_trans high v (ge
     (b v h) (place_before spans i d l o.apart s m)
 
 -- one more hole comes before the span
-pub before_more : (holes : List Span) (i : ℕ) (d span : Span) → i < length holes → AreBefore (take i holes) span → ComesBefore (get_or holes i d) span → AreBefore (take (i + 1) holes) span
+pub before_more : (holes : List Span) (i : ℕ) (d span : Span) → i < length holes → AreBefore (take i holes) span → SpanComesBefore (get_or holes i d) span → AreBefore (take (i + 1) holes) span
 before_more holes i d span l b h v m = elim (Contains-append_cases (take i holes) (get_or holes i d ∷ []) v (subst (λ x. Contains x v) (take_more holes i d l) m)) [
   | inl a ↦ b v a
-  | inr a ↦ subst (λ t. ComesBefore t span) (in_one (get_or holes i d) v a) h
+  | inr a ↦ subst (λ t. SpanComesBefore t span) (in_one (get_or holes i d) v a) h
 ]
 
 -- what stands at a place is in the list from there on

@@ -11,13 +11,13 @@ use Rattle.lrp_theory.proofs.Multiples.{Divides-multiple}
 use Rattle.lrp_matrix.specs.Ranges.{Above}
 use Rattle.lrp_spans.specs.declared.spans.Span.{Span}
 use Rattle.lrp_spans.specs.Repeating.{HasOneOf, Repeats, RepeatsAtEnds}
-use Rattle.lrp_spans.specs.Spans.{AreOpenAbove, AreOpenBelow, HasNumber, IsSpan}
+use Rattle.lrp_spans.specs.Spans.{AreOpenAbove, AreOpenBelow, SpansHaveNumber, IsSpan}
 
 -- another number of the same residue
 pub moved : (k : ℕ) (residues : List ℕ) (x y : ℤ) → Divides (pos k) (y -ℤ x) → HasOneOf k residues x → HasOneOf k residues y
 moved k residues x y d o = record { residue = o.residue; listed = o.listed; is = Divides-is (pos k) ((y -ℤ x) +ℤ (x -ℤ pos o.residue)) _ (omega (arith, ints)) (Divides-+ (pos k) _ _ d o.is) }
 
-at_least : (k n : ℕ) → 0 < k → n ≤ k * n
+pub at_least : (k n : ℕ) → 0 < k → n ≤ k * n
 at_least zero n l = absurd (omega arith)
 at_least (suc k) n l = omega arith
 
@@ -39,7 +39,7 @@ pub before_last : (h : ℕ) (n : ℤ) (e : Option ℤ) → AtMost h e → n ≤�
 before_last h n None a l = tt
 before_last h n (Some f) a l = let m : neg_ℤ (pos h) ≤ℤ f = a.0 in omega (arith, ints)
 
-no_first : (h : ℕ) (n : ℤ) (e : Option ℤ) → AtMost h e → n <ℤ neg_ℤ (pos h) → Above n e → e ≡ None
+pub no_first : (h : ℕ) (n : ℤ) (e : Option ℤ) → AtMost h e → n <ℤ neg_ℤ (pos h) → Above n e → e ≡ None
 no_first h n None a l w = refl
 no_first h n (Some f) a l w = let m : neg_ℤ (pos h) ≤ℤ f = a.0 in absurd (omega (arith, ints))
 
@@ -73,7 +73,7 @@ far_turn k h r (negsuc m) y l e g =
 
 module _ (k high : ℕ) (spans : List Span) (residues : List ℕ) (low : 0 < k) (each : (s : Span) → Contains spans s → IsSpan high s) (below : (s : Span) → Contains spans s → s.residue < k) (ends : AreOpenAbove spans residues) where
   -- so many periods further up a number of the residues is one of the spans
-  to_far : (x : ℤ) (o : HasOneOf k residues x) (c : ℕ) → high + nat_abs o.is.times ≤ c → HasNumber k spans (x +ℤ pos (k * c))
+  to_far : (x : ℤ) (o : HasOneOf k residues x) (c : ℕ) → high + nat_abs o.is.times ≤ c → SpansHaveNumber k spans (x +ℤ pos (k * c))
   to_far x o c l =
       let t = ends.to o.residue o.listed in
       let n : ℤ = o.is.times +ℤ pos c in
@@ -98,7 +98,7 @@ module _ (k high : ℕ) (spans : List Span) (residues : List ℕ) (low : 0 < k) 
       far_enough t c l = omega (arith, ints)
 
   -- and a number of the spans far up has one of the residues
-  pub from_far : (y : ℤ) → pos (k * (high + 1)) ≤ℤ y → HasNumber k spans y → HasOneOf k residues y
+  pub from_far : (y : ℤ) → pos (k * (high + 1)) ≤ℤ y → SpansHaveNumber k spans y → HasOneOf k residues y
   from_far y g h =
       let s : Span = h.inside.span in
       let v : IsSpan high s = each s h.inside.listed in
@@ -124,26 +124,26 @@ module _ (k high : ℕ) (spans : List Span) (residues : List ℕ) (low : 0 < k) 
   back_by x c = Divides-is (pos k) (neg_ℤ (pos (k * c))) _ (omega (arith, ints)) (Divides-neg (pos k) (pos (k * c)) (Divides-multiple k c))
 
   -- where the numbers of the spans repeat far up, so do those of the residues
-  pub repeats_above : (bound step : ℕ) → 0 < step → RepeatsAtEnds (HasNumber k spans) bound step → Repeats (HasOneOf k residues) step
+  pub repeats_above : (bound step : ℕ) → 0 < step → RepeatsAtEnds (SpansHaveNumber k spans) bound step → Repeats (HasOneOf k residues) step
   repeats_above bound step positive r = record {
     positive = positive;
     on = λ x o. (
         let c = enough bound x o.is.times in
         let y : ℤ = x +ℤ pos (k * c.0) in
-        let h : HasNumber k spans (y +ℤ pos step) = r.on y c.2 (to_far x o c.0 c.1) in
+        let h : SpansHaveNumber k spans (y +ℤ pos step) = r.on y c.2 (to_far x o c.0 c.1) in
         let g : HasOneOf k residues (y +ℤ pos step) = from_far (y +ℤ pos step) (let p : pos (k * (high + 1)) ≤ℤ y = c.3 in omega (arith, ints)) h in
         moved k residues (y +ℤ pos step) (x +ℤ pos step) (Divides-is (pos k) (x -ℤ y) _ (omega (arith, ints)) (back_by x c.0)) g);
     back = λ x o. (
         let c = enough bound x o.is.times in
         let y : ℤ = x +ℤ pos (k * c.0) in
         let e : (x +ℤ pos step) +ℤ pos (k * c.0) ≡ y +ℤ pos step = omega (arith, ints) in
-        let h : HasNumber k spans y = r.back y c.2 (subst (HasNumber k spans) e (to_far (x +ℤ pos step) o c.0 c.1)) in
+        let h : SpansHaveNumber k spans y = r.back y c.2 (subst (SpansHaveNumber k spans) e (to_far (x +ℤ pos step) o c.0 c.1)) in
         moved k residues y x (back_by x c.0) (from_far y c.3 h));
   }
 
 module _ (k high : ℕ) (spans : List Span) (residues : List ℕ) (low : 0 < k) (each : (s : Span) → Contains spans s → IsSpan high s) (below : (s : Span) → Contains spans s → s.residue < k) (ends : AreOpenBelow spans residues) where
   -- so many periods further down a number of the residues is one of the spans
-  to_deep : (x : ℤ) (o : HasOneOf k residues x) (c : ℕ) → high + nat_abs o.is.times ≤ c → HasNumber k spans (x -ℤ pos (k * c))
+  to_deep : (x : ℤ) (o : HasOneOf k residues x) (c : ℕ) → high + nat_abs o.is.times ≤ c → SpansHaveNumber k spans (x -ℤ pos (k * c))
   to_deep x o c l =
       let t = ends.to o.residue o.listed in
       let n : ℤ = o.is.times -ℤ pos c in
@@ -168,7 +168,7 @@ module _ (k high : ℕ) (spans : List Span) (residues : List ℕ) (low : 0 < k) 
       deep_enough t c l = omega (arith, ints)
 
   -- and a number of the spans far down has one of the residues
-  pub from_deep : (y : ℤ) → y ≤ℤ neg_ℤ (pos (k * (high + 1))) → HasNumber k spans y → HasOneOf k residues y
+  pub from_deep : (y : ℤ) → y ≤ℤ neg_ℤ (pos (k * (high + 1))) → SpansHaveNumber k spans y → HasOneOf k residues y
   from_deep y g h =
       let s : Span = h.inside.span in
       let v : IsSpan high s = each s h.inside.listed in
@@ -193,7 +193,7 @@ module _ (k high : ℕ) (spans : List Span) (residues : List ℕ) (low : 0 < k) 
   back_up x c = Divides-is (pos k) (pos (k * c)) _ (omega (arith, ints)) (Divides-multiple k c)
 
   -- where the numbers of the spans repeat far down, so do those of the residues
-  pub repeats_below : (bound step : ℕ) → 0 < step → RepeatsAtEnds (HasNumber k spans) bound step → Repeats (HasOneOf k residues) step
+  pub repeats_below : (bound step : ℕ) → 0 < step → RepeatsAtEnds (SpansHaveNumber k spans) bound step → Repeats (HasOneOf k residues) step
   repeats_below bound step positive r = record {
     positive = positive;
     on = λ x o. (
@@ -201,14 +201,14 @@ module _ (k high : ℕ) (spans : List Span) (residues : List ℕ) (low : 0 < k) 
         let y : ℤ = x -ℤ pos (k * c.0) in
         let p : y ≤ℤ neg_ℤ (pos (bound + step + k * (high + 1))) = c.2 in
         let e : y ≡ (y +ℤ pos step) -ℤ pos step = omega (arith, ints) in
-        let h : HasNumber k spans (y +ℤ pos step) = r.up (y +ℤ pos step) (omega (arith, ints)) (subst (HasNumber k spans) e (to_deep x o c.0 c.1)) in
+        let h : SpansHaveNumber k spans (y +ℤ pos step) = r.up (y +ℤ pos step) (omega (arith, ints)) (subst (SpansHaveNumber k spans) e (to_deep x o c.0 c.1)) in
         let g : HasOneOf k residues (y +ℤ pos step) = from_deep (y +ℤ pos step) (omega (arith, ints)) h in
         moved k residues (y +ℤ pos step) (x +ℤ pos step) (Divides-is (pos k) (x -ℤ y) _ (omega (arith, ints)) (back_up x c.0)) g);
     back = λ x o. (
         let c = enough_down (bound + step) (x +ℤ pos step) o.is.times in
         let y : ℤ = (x +ℤ pos step) -ℤ pos (k * c.0) in
         let p : y ≤ℤ neg_ℤ (pos (bound + step)) = c.2 in
-        let h : HasNumber k spans (y -ℤ pos step) = r.down y (omega (arith, ints)) (to_deep (x +ℤ pos step) o c.0 c.1) in
+        let h : SpansHaveNumber k spans (y -ℤ pos step) = r.down y (omega (arith, ints)) (to_deep (x +ℤ pos step) o c.0 c.1) in
         let q : y ≤ℤ neg_ℤ (pos (k * (high + 1))) = c.3 in
         let g : HasOneOf k residues (y -ℤ pos step) = from_deep (y -ℤ pos step) (omega (arith, ints)) h in
         moved k residues (y -ℤ pos step) x (Divides-is (pos k) ((x +ℤ pos step) -ℤ y) _ (omega (arith, ints)) (back_up (x +ℤ pos step) c.0)) g);

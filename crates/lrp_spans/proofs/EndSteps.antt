@@ -19,7 +19,7 @@ use Rattle.lrp_spans.specs.declared.spans.Span.{Span}
 use Rattle.lrp_spans.specs.Groups.{SpanLists}
 use Rattle.lrp_spans.specs.Periods.{IsEndPeriod, IsWithEnds, RepeatsByAll, RepeatsFar}
 use Rattle.lrp_spans.specs.Repeating.{AreResidues, HasOneOf, IsLeastStep, Repeats, RepeatsAtEnds}
-use Rattle.lrp_spans.specs.Spans.{AreBelow, AreMerged, AreOpenAbove, AreOpenBelow, AreOrdered, HasNumber, IsSpan}
+use Rattle.lrp_spans.specs.Spans.{AreBelow, AreMerged, AreOpenAbove, AreOpenBelow, AreOrdered, SpansHaveNumber, IsSpan}
 use Rattle.lrp_spans.proofs.EndLaws.{before_last, behind_first, deep_turn, far_turn, from_deep, from_far, moved, repeats_above, repeats_below}
 use Rattle.lrp_spans.proofs.Lists.{in_cons, in_none}
 use Rattle.lrp_spans.proofs.Repeats.{repeats_multiple}
@@ -49,7 +49,7 @@ least_divides_period k residues step low least = least.least k (record {
 
 module _ (k high : ℕ) (spans : List Span) (low : 0 < k) (each : (s : Span) → Contains spans s → IsSpan high s) (below : (s : Span) → Contains spans s → s.residue < k) where
   -- far up a number of the open residues is one of the spans
-  far_has : (residues : List ℕ) → AreOpenAbove spans residues → (y : ℤ) → pos (k * (high + 1)) ≤ℤ y → HasOneOf k residues y → HasNumber k spans y
+  far_has : (residues : List ℕ) → AreOpenAbove spans residues → (y : ℤ) → pos (k * (high + 1)) ≤ℤ y → HasOneOf k residues y → SpansHaveNumber k spans y
   far_has residues ends y g o =
       let t = ends.to o.residue o.listed in
       let l : o.residue < k = subst (λ r. r < k) t.2 (below t.0 t.1) in
@@ -64,7 +64,7 @@ module _ (k high : ℕ) (spans : List Span) (low : 0 < k) (each : (s : Span) →
       }
 
   -- and so it is far down
-  deep_has : (residues : List ℕ) → AreOpenBelow spans residues → (y : ℤ) → y ≤ℤ neg_ℤ (pos (k * (high + 1))) → HasOneOf k residues y → HasNumber k spans y
+  deep_has : (residues : List ℕ) → AreOpenBelow spans residues → (y : ℤ) → y ≤ℤ neg_ℤ (pos (k * (high + 1))) → HasOneOf k residues y → SpansHaveNumber k spans y
   deep_has residues ends y g o =
       let t = ends.to o.residue o.listed in
       let i : y -ℤ pos o.residue ≡ pos k *ℤ o.is.times = o.is.is in
@@ -79,7 +79,7 @@ module _ (k high : ℕ) (spans : List Span) (low : 0 < k) (each : (s : Span) →
 
   module _ (up down : List ℕ) (above : AreOpenAbove spans up) (beneath : AreOpenBelow spans down) where
     -- where both lists of residues repeat, so do the spans at their ends
-    ends_repeat : (step : ℕ) → Repeats (HasOneOf k up) step → Repeats (HasOneOf k down) step → RepeatsAtEnds (HasNumber k spans) (k * (high + 1)) step
+    ends_repeat : (step : ℕ) → Repeats (HasOneOf k up) step → Repeats (HasOneOf k down) step → RepeatsAtEnds (SpansHaveNumber k spans) (k * (high + 1)) step
     ends_repeat step u d = record {
       on = λ x g h. far_has up above (x +ℤ pos step) (omega (arith, ints)) (u.on x (from_far k high spans up low each below above x g h));
       back = λ x g h. far_has up above x g (u.back x (from_far k high spans up low each below above (x +ℤ pos step) (omega (arith, ints)) h));
@@ -123,10 +123,10 @@ same_far f g step to from r = (
   },
 )
 
-merged_to : (k : ℕ) (old new : List Span) → AreMerged old new → (x : ℤ) → HasNumber k new x → HasNumber k old x
+merged_to : (k : ℕ) (old new : List Span) → AreMerged old new → (x : ℤ) → SpansHaveNumber k new x → SpansHaveNumber k old x
 merged_to k old new m x h = record { residue = h.residue; turn = h.turn; is = h.is; inside = m.to h.residue h.turn h.inside }
 
-merged_from : (k : ℕ) (old new : List Span) → AreMerged old new → (x : ℤ) → HasNumber k old x → HasNumber k new x
+merged_from : (k : ℕ) (old new : List Span) → AreMerged old new → (x : ℤ) → SpansHaveNumber k old x → SpansHaveNumber k new x
 merged_from k old new m x h = record { residue = h.residue; turn = h.turn; is = h.is; inside = m.from h.residue h.turn h.inside }
 
 pub merged_ordered : (high : ℕ) (old new : List Span) → AreMerged old new → ((s : Span) → Contains old s → IsSpan high s) → AreOrdered high new
@@ -136,8 +136,8 @@ merged_ordered high old new m each = record { each = m.each high each; apart = m
 pub record IsBegun (period : ℕ) (lists : SpanLists) (left : List Cell) (made : ℕ) : Type 0 where
   pub positive : 0 < made
   pub divides : Divides (pos made) (pos period)
-  pub ends : (group : Cell) (s : Span) → Contains (list_at lists group) s → Contains left group ⊎ RepeatsByAll (HasNumber period (list_at lists group)) made
-  pub least : (other : ℕ) → 0 < other → ((group : Cell) → RepeatsFar (HasNumber period (list_at lists group)) other) → Divides (pos made) (pos other)
+  pub ends : (group : Cell) (s : Span) → Contains (list_at lists group) s → Contains left group ⊎ RepeatsByAll (SpansHaveNumber period (list_at lists group)) made
+  pub least : (other : ℕ) → 0 < other → ((group : Cell) → RepeatsFar (SpansHaveNumber period (list_at lists group)) other) → Divides (pos made) (pos other)
 
 -- a group that has a span is one of the keys
 pub span_key : (lists : SpanLists) (group : Cell) (s : Span) → Contains (list_at lists group) s → Contains (finite.keys lists) group
@@ -165,14 +165,14 @@ begun_more period lists group rest left spans old made e m w b = record {
   divides = w.divides;
   ends = λ g s h. elim (b.ends g s h) [
     | inl l ↦ elim (in_cons group rest g (subst (λ x. Contains x g) e l)) [
-      | inl f ↦ inr (λ other positive d. subst (λ c. RepeatsFar (HasNumber period (list_at lists c)) other) f
-          (same_far (HasNumber period spans) (HasNumber period (list_at lists group)) other (merged_to period (list_at lists group) spans m) (merged_from period (list_at lists group) spans m) (w.ends other positive d)))
+      | inl f ↦ inr (λ other positive d. subst (λ c. RepeatsFar (SpansHaveNumber period (list_at lists c)) other) f
+          (same_far (SpansHaveNumber period spans) (SpansHaveNumber period (list_at lists group)) other (merged_to period (list_at lists group) spans m) (merged_from period (list_at lists group) spans m) (w.ends other positive d)))
       | inr f ↦ inl f
     ]
     | inr a ↦ inr (λ other positive d. a other positive (Divides-trans (pos old) (pos made) (pos other) w.multiple d))
   ];
   least = λ other positive r. w.least other positive (b.least other positive r)
-      (same_far (HasNumber period (list_at lists group)) (HasNumber period spans) other (merged_from period (list_at lists group) spans m) (merged_to period (list_at lists group) spans m) (r group));
+      (same_far (SpansHaveNumber period (list_at lists group)) (SpansHaveNumber period spans) other (merged_from period (list_at lists group) spans m) (merged_to period (list_at lists group) spans m) (r group));
 }
 
 pub begun_end : (period : ℕ) (lists : SpanLists) (left : List Cell) (made : ℕ) → left ≡ [] → IsBegun period lists left made → IsEndPeriod period lists made

@@ -15,7 +15,7 @@ use Rattle.lrp_store.specs.Stores.{IsCellOf, IsStore, StoreView, tables_at, zone
 use Rattle.lrp_store.proofs.Held.{cell_held, cell_or, held_of}
 use Rattle.lrp_store.specs.Reading.{entries_of}
 use Rattle.lrp_spans.specs.Groups.{AppendsSpans, AreGroups, AreNumbersOf, HasSpanAt, HoldsNumber, IsSpanAt, IsSpanIn, SpanLists, group_cell}
-use Rattle.lrp_spans.specs.Spans.{AreMerged, HasNumber, IsSpan, IsSpanOf}
+use Rattle.lrp_spans.specs.Spans.{AreMerged, SpansHaveNumber, IsSpan, IsSpanOf}
 use Rattle.lrp_spans.specs.declared.spans.Span.{Span}
 use Rattle.lrp_spans.proofs.Lists.{below_or, head_in, in_cons, in_map, in_none, in_one, later, map_in, one_in}
 
@@ -172,7 +172,7 @@ module _ (s : StoreView) (is : IsStore s) (one : s.shape.times ≡ 1) (lists : S
   pub group_below : (p : Span) → Contains (list_at lists group) p → p.residue < s.period
   group_below p h = let i = groups.to group p h in subst (λ k. p.residue < k) (zone_period s i.cell i.zone i.held) i.is.below
 
-  group_to : (x : ℤ) → HasNumber s.period (list_at lists group) x → HoldsNumber s x (take s.shape.texts group.texts)
+  group_to : (x : ℤ) → SpansHaveNumber s.period (list_at lists group) x → HoldsNumber s x (take s.shape.texts group.texts)
   group_to x h =
       let i = groups.to group h.inside.span h.inside.listed in
       let t = in_map (zone_of s i.cell) (tables_at s i.cell) i.zone i.held in
@@ -194,7 +194,7 @@ module _ (s : StoreView) (is : IsStore s) (one : s.shape.times ≡ 1) (lists : S
     | inr l ↦ p.texts.zeros i l ∙ sym (q.texts.zeros i l)
   ])
 
-  group_from : (p : Span) → Contains (list_at lists group) p → (x : ℤ) → HoldsNumber s x (take s.shape.texts group.texts) → HasNumber s.period (list_at lists group) x
+  group_from : (p : Span) → Contains (list_at lists group) p → (x : ℤ) → HoldsNumber s x (take s.shape.texts group.texts) → SpansHaveNumber s.period (list_at lists group) x
   group_from p l x h =
       let i = groups.to group p l in
       let t = in_map (zone_of s i.cell) (tables_at s i.cell) i.zone i.held in

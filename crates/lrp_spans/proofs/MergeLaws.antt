@@ -10,7 +10,7 @@ use Rattle.std.proofs.lemmas.List.Sorted.{Contains-permutation, IsPermutation-sy
 use Rattle.lrp_theory.specs.Entries.{AtMost}
 use Rattle.lrp_matrix.specs.Ranges.{Above}
 use Rattle.lrp_spans.specs.declared.spans.Span.{Span}
-use Rattle.lrp_spans.specs.Spans.{AreMerged, BeginsBy, ComesBefore, HasLessResidue, HasTurn, InSpans, IsInOrder, IsJoined, IsSpan}
+use Rattle.lrp_spans.specs.Spans.{AreMerged, BeginsBy, SpanComesBefore, HasLessResidue, HasTurn, InSpans, IsInOrder, IsJoined, IsSpan}
 use Rattle.lrp_spans.proofs.Lists.{before, below_or, in_none, in_one, one_in, pairs_append, pairs_left, pairs_one, pairs_none}
 
 -- ---- turns in some span of a list
@@ -34,8 +34,8 @@ this_has s r n h = subst (λ t. HasTurn t r n) (sym (in_one s h.span h.listed)) 
 
 -- ---- the spans so far, of which the last may still grow
 pub record AreMerging (vs made : List Span) (last : Span) : Type 0 where
-  pub apart : AllPairs ComesBefore (made ++ last ∷ [])
-  pub before : (u : Span) → Contains made u → ComesBefore u last
+  pub apart : AllPairs SpanComesBefore (made ++ last ∷ [])
+  pub before : (u : Span) → Contains made u → SpanComesBefore u last
   pub begun : Span
   pub listed : Contains vs begun
   pub residue : last.residue ≡ begun.residue
@@ -46,7 +46,7 @@ pub record AreMerging (vs made : List Span) (last : Span) : Type 0 where
 
 pub merging_start : (v : Span) → AreMerging (v ∷ []) [] v
 merging_start v = record {
-  apart = pairs_one ComesBefore v;
+  apart = pairs_one SpanComesBefore v;
   before = λ u l. absurd (in_none u l);
   begun = v;
   listed = one_in v;
@@ -58,13 +58,13 @@ merging_start v = record {
 }
 
 -- what comes before a span comes before each that is behind it in order
-before_later : (u v w : Span) → ComesBefore u v → IsInOrder v w → ComesBefore u w
+before_later : (u v w : Span) → SpanComesBefore u v → IsInOrder v w → SpanComesBefore u w
 before_later u v w (inl a) (inl b) = inl (omega arith)
 before_later u v w (inl a) (inr b) = inl (let e : v.residue ≡ w.residue = b.0 in omega arith)
 before_later u v w (inr a) (inl b) = inl (let e : u.residue ≡ v.residue = a.0 in omega arith)
 before_later u v w (inr a) (inr b) = at w.first refl
   where
-    at : (f : Option ℤ) → w.first ≡ f → ComesBefore u w
+    at : (f : Option ℤ) → w.first ≡ f → SpanComesBefore u w
     at None e = (
         let low : Above (a.1.start -ℤ pos 1) v.first = b.1.each _ (subst (Above (a.1.start -ℤ pos 1)) (sym e) tt) in
         let k : a.1.start ≤ℤ (a.1.start -ℤ pos 1) = subst (Above (a.1.start -ℤ pos 1)) a.1.starts low in
@@ -88,9 +88,9 @@ module _ (vs made : List Span) (last next : Span) (m : AreMerging vs made last) 
   new_in = Contains-append_right vs (next ∷ []) next (one_in next)
 
   -- the next one lies apart
-  pub merging_apart : ComesBefore last next → AreMerging (vs ++ next ∷ []) (made ++ last ∷ []) next
+  pub merging_apart : SpanComesBefore last next → AreMerging (vs ++ next ∷ []) (made ++ last ∷ []) next
   merging_apart apart = record {
-    apart = pairs_append ComesBefore (made ++ last ∷ []) (next ∷ []) m.apart (pairs_one ComesBefore next) (λ x y a b. subst (ComesBefore x) (in_one next y b) (before x a));
+    apart = pairs_append SpanComesBefore (made ++ last ∷ []) (next ∷ []) m.apart (pairs_one SpanComesBefore next) (λ x y a b. subst (SpanComesBefore x) (in_one next y b) (before x a));
     before = before;
     begun = next;
     listed = new_in;
@@ -104,16 +104,16 @@ module _ (vs made : List Span) (last next : Span) (m : AreMerging vs made last) 
     ];
   }
     where
-      before : (u : Span) → Contains (made ++ last ∷ []) u → ComesBefore u next
+      before : (u : Span) → Contains (made ++ last ∷ []) u → SpanComesBefore u next
       before u l = elim (Contains-append_cases made (last ∷ []) u l) [
         | inl a ↦ before_later u last next (m.before u a) last_in_order
-        | inr b ↦ subst (λ t. ComesBefore t next) (in_one last u b) apart
+        | inr b ↦ subst (λ t. SpanComesBefore t next) (in_one last u b) apart
       ]
 
   -- the next one joins the last
   pub merging_joined : (j : Span) → last.residue ≡ next.residue → IsJoined last next j → AreMerging (vs ++ next ∷ []) made j
   merging_joined j same is = record {
-    apart = pairs_append ComesBefore made (j ∷ []) (pairs_left ComesBefore made (last ∷ []) m.apart) (pairs_one ComesBefore j) (λ x y a b. subst (ComesBefore x) (in_one j y b) (before x a));
+    apart = pairs_append SpanComesBefore made (j ∷ []) (pairs_left SpanComesBefore made (last ∷ []) m.apart) (pairs_one SpanComesBefore j) (λ x y a b. subst (SpanComesBefore x) (in_one j y b) (before x a));
     before = before;
     begun = m.begun;
     listed = Contains-append_left vs (next ∷ []) m.begun m.listed;
@@ -140,10 +140,10 @@ module _ (vs made : List Span) (last next : Span) (m : AreMerging vs made last) 
     ];
   }
     where
-      before : (u : Span) → Contains made u → ComesBefore u j
+      before : (u : Span) → Contains made u → SpanComesBefore u j
       before u l = of (m.before u l)
         where
-          of : ComesBefore u last → ComesBefore u j
+          of : SpanComesBefore u last → SpanComesBefore u j
           of (inl a) = inl (subst (λ r. u.residue < r) (sym is.residue) a)
           of (inr a) = inr (a.0 ∙ sym is.residue, record { end = a.1.end; ends = a.1.ends; start = a.1.start; starts = is.begins ∙ a.1.starts; below = a.1.below })
 
@@ -156,14 +156,14 @@ module _ (vs made : List Span) (last next : Span) (m : AreMerging vs made last) 
       }
 
   -- where the next one does not lie apart, it is of the same residue and begins before the last has ended
-  pub same_residue : (ComesBefore last next → ⊥) → last.residue ≡ next.residue
+  pub same_residue : (SpanComesBefore last next → ⊥) → last.residue ≡ next.residue
   same_residue out = of last_in_order
     where
       of : IsInOrder last next → last.residue ≡ next.residue
       of (inl a) = absurd (out (inl a))
       of (inr a) = a.0
 
-  pub begins_by : (ComesBefore last next → ⊥) → BeginsBy last next
+  pub begins_by : (SpanComesBefore last next → ⊥) → BeginsBy last next
   begins_by out = of last_in_order
     where
       of : IsInOrder last next → BeginsBy last next
@@ -196,7 +196,7 @@ merged_permutation old sorted new p m = record {
     moved xs ys q r n h = record { span = h.span; listed = Contains-permutation xs ys h.span q h.listed; is = h.is }
 
 pub merged_none : AreMerged [] []
-merged_none = record { to = λ r n h. h; from = λ r n h. h; apart = pairs_none ComesBefore; each = λ high all. all }
+merged_none = record { to = λ r n h. h; from = λ r n h. h; apart = pairs_none SpanComesBefore; each = λ high all. all }
 
 -- ---- spans whose residues ascend
 -- the residues ascend below the place

@@ -4,15 +4,15 @@ use Rattle.std.specs.Prelude.{ℤ, AllPairs, Bool, Contains, false, is_some, not
 use Rattle.std.proofs.lemmas.List.{get_or_default, take_more}
 use Rattle.std.proofs.lemmas.List.Elements.{Contains-append_cases, Contains-append_left, Contains-append_right}
 use Rattle.lrp_spans.specs.declared.spans.Span.{Span}
-use Rattle.lrp_spans.specs.Spans.{AreBefore, AreOpenAbove, AreOpenBelow, ComesBefore}
+use Rattle.lrp_spans.specs.Spans.{AreBefore, AreOpenAbove, AreOpenBelow, SpanComesBefore}
 use Rattle.lrp_spans.proofs.Lists.{before, in_none, in_one, one_in, pairs_append, pairs_none, pairs_one}
 
 some_is : (e : Option ℤ) (a : ℤ) → e ≡ None → e ≡ Some a → ⊥
 some_is e a p q = cc
 
 -- the spans before a place come before the span there
-pub earlier : (spans : List Span) (i : ℕ) (d : Span) → i < length spans → AllPairs ComesBefore spans → AreBefore (take i spans) (get_or spans i d)
-earlier spans i d l all v h = before ComesBefore spans i (get_or spans i d) all l (get_or_default spans i d (get_or spans i d) l) v h
+pub earlier : (spans : List Span) (i : ℕ) (d : Span) → i < length spans → AllPairs SpanComesBefore spans → AreBefore (take i spans) (get_or spans i d)
+earlier spans i d l all v h = before SpanComesBefore spans i (get_or spans i d) all l (get_or_default spans i d (get_or spans i d) l) v h
 
 pub above_none : AreOpenAbove [] []
 above_none = record { ascending = pairs_none ◌<◌; to = λ r l. absurd (in_none r l); from = λ s l e. absurd (in_none s l) }
@@ -20,7 +20,7 @@ above_none = record { ascending = pairs_none ◌<◌; to = λ r l. absurd (in_no
 pub below_none : AreOpenBelow [] []
 below_none = record { ascending = pairs_none ◌<◌; to = λ r l. absurd (in_none r l); from = λ s l e. absurd (in_none s l) }
 
-module _ (spans : List Span) (i : ℕ) (d : Span) (l : i < length spans) (all : AllPairs ComesBefore spans) (residues : List ℕ) where
+module _ (spans : List Span) (i : ℕ) (d : Span) (l : i < length spans) (all : AllPairs SpanComesBefore spans) (residues : List ℕ) where
   more : take (i + 1) spans ≡ take i spans ++ get_or spans i d ∷ []
   more = take_more spans i d l
 
@@ -50,7 +50,7 @@ module _ (spans : List Span) (i : ℕ) (d : Span) (l : i < length spans) (all : 
       lesser : (x : ℕ) → Contains residues x → x < (get_or spans i d).residue
       lesser x a = let t = o.to x a in of t.0 t.2 t.3 (earlier spans i d l all t.0 t.1)
         where
-          of : (s : Span) → s.residue ≡ x → s.last ≡ None → ComesBefore s (get_or spans i d) → x < (get_or spans i d).residue
+          of : (s : Span) → s.residue ≡ x → s.last ≡ None → SpanComesBefore s (get_or spans i d) → x < (get_or spans i d).residue
           of s p q (inl b) = subst (λ z. z < (get_or spans i d).residue) p b
           of s p q (inr b) = absurd (some_is s.last b.1.end q b.1.ends)
 
@@ -78,7 +78,7 @@ module _ (spans : List Span) (i : ℕ) (d : Span) (l : i < length spans) (all : 
       lesser : (x : ℕ) → Contains residues x → x < (get_or spans i d).residue
       lesser x a = let t = o.to x a in of t.0 t.2 t.3 (earlier spans i d l all t.0 t.1)
         where
-          of : (s : Span) → s.residue ≡ x → s.first ≡ None → ComesBefore s (get_or spans i d) → x < (get_or spans i d).residue
+          of : (s : Span) → s.residue ≡ x → s.first ≡ None → SpanComesBefore s (get_or spans i d) → x < (get_or spans i d).residue
           of s p q (inl b) = subst (λ z. z < (get_or spans i d).residue) p b
           of s p q (inr b) = absurd (some_is (get_or spans i d).first b.1.start e b.1.starts)
 

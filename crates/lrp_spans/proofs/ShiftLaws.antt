@@ -10,7 +10,7 @@ use Rattle.lrp_theory.specs.Entries.{AtMost}
 use Rattle.lrp_theory.proofs.Modulo.{distrib, minus_right}
 use Rattle.lrp_matrix.specs.Ranges.{Above}
 use Rattle.lrp_spans.specs.declared.spans.Span.{Span}
-use Rattle.lrp_spans.specs.Spans.{AreBelow, AreOrdered, AreShifted, ComesBefore, HasNumber, HasTurn, IsSpan, moved_past, moved_within, next_turn}
+use Rattle.lrp_spans.specs.Spans.{AreBelow, AreOrdered, AreShifted, SpanComesBefore, SpansHaveNumber, HasTurn, IsSpan, moved_past, moved_within, next_turn}
 use Rattle.lrp_spans.proofs.CutLaws.{wider_span}
 use Rattle.lrp_spans.proofs.Lists.{in_cons, in_map, in_none, map_in, pairs_append, pairs_head, pairs_left, pairs_map, pairs_right, slice_get_drop}
 use Rattle.lrp_spans.proofs.MergeLaws.{in_either, in_left, in_right}
@@ -60,7 +60,7 @@ module _ (high K step : ℕ) (left right : List Span) (ordered : AreOrdered high
       let q : K * 1 ≡ K = omega arith in
       omega (arith, ints, e, b, q)
 
-  pub shifted_to : (x : ℤ) → HasNumber K made x → HasNumber K (left ++ right) (x -ℤ pos step)
+  pub shifted_to : (x : ℤ) → SpansHaveNumber K made x → SpansHaveNumber K (left ++ right) (x -ℤ pos step)
   shifted_to x h = elim (in_either (map (moved_past K step) right) (map (moved_within step) left) h.residue h.turn h.inside) [
     | inl a ↦ (
         let m = in_map (moved_past K step) right a.span a.listed in
@@ -88,7 +88,7 @@ module _ (high K step : ℕ) (left right : List Span) (ordered : AreOrdered high
         })
   ]
 
-  pub shifted_from : (x : ℤ) → HasNumber K (left ++ right) x → HasNumber K made (x +ℤ pos step)
+  pub shifted_from : (x : ℤ) → SpansHaveNumber K (left ++ right) x → SpansHaveNumber K made (x +ℤ pos step)
   shifted_from x h = elim (in_either left right h.residue h.turn h.inside) [
     | inl a ↦ (
         let e : a.span.residue ≡ h.residue = a.is.residue in
@@ -124,24 +124,24 @@ module _ (high K step : ℕ) (left right : List Span) (ordered : AreOrdered high
   within_span : (s : Span) → IsSpan high s → IsSpan (high + 1) (within s)
   within_span s v = let w : IsSpan (high + 1) s = wider_span high s v in record { first = w.first; last = w.last; turn = w.turn; is = record { residue = refl; low = w.is.low; high = w.is.high } }
 
-  past_before : (v w : Span) → Contains right v → Contains right w → ComesBefore v w → ComesBefore (past v) (past w)
+  past_before : (v w : Span) → Contains right v → Contains right w → SpanComesBefore v w → SpanComesBefore (past v) (past w)
   past_before v w l m (inl a) = inl (omega (arith, a, behind v l, behind w m))
   past_before v w l m (inr a) = inr (
     ap (λ r. r + step - K) a.0,
     record { end = a.1.end +ℤ pos 1; ends = ap next_turn a.1.ends; start = a.1.start +ℤ pos 1; starts = ap next_turn a.1.starts; below = (let k : a.1.end <ℤ a.1.start = a.1.below in omega (arith, ints)) },
   )
 
-  within_before : (v w : Span) → Contains left v → Contains left w → ComesBefore v w → ComesBefore (within v) (within w)
+  within_before : (v w : Span) → Contains left v → Contains left w → SpanComesBefore v w → SpanComesBefore (within v) (within w)
   within_before v w l m (inl a) = inl (omega (arith, a))
   within_before v w l m (inr a) = inr (ap (λ r. r + step) a.0, record { end = a.1.end; ends = a.1.ends; start = a.1.start; starts = a.1.starts; below = a.1.below })
 
-  across : (x y : Span) → Contains (map (moved_past K step) right) x → Contains (map (moved_within step) left) y → ComesBefore x y
+  across : (x y : Span) → Contains (map (moved_past K step) right) x → Contains (map (moved_within step) left) y → SpanComesBefore x y
   across x y l m =
       let a = in_map (moved_past K step) right x l in
       let b = in_map (moved_within step) left y m in
       let c : a.0.residue < K = below a.0 (Contains-append_right left right a.0 a.1) in
       let d : K ≤ a.0.residue + step = behind a.0 a.1 in
-      subst (λ v. ComesBefore v y) a.2 (subst (ComesBefore (past a.0)) b.2 (inl (omega (arith, c, d))))
+      subst (λ v. SpanComesBefore v y) a.2 (subst (SpanComesBefore (past a.0)) b.2 (inl (omega (arith, c, d))))
 
   pub shifted_is : AreShifted high K step (left ++ right) made
   shifted_is = record {
@@ -152,9 +152,9 @@ module _ (high K step : ℕ) (left right : List Span) (ordered : AreOrdered high
         | inl a ↦ (let m = in_map (moved_past K step) right s a in subst (IsSpan (high + 1)) m.2 (past_span m.0 (ordered.each m.0 (Contains-append_right left right m.0 m.1))))
         | inr a ↦ (let m = in_map (moved_within step) left s a in subst (IsSpan (high + 1)) m.2 (within_span m.0 (ordered.each m.0 (Contains-append_left left right m.0 m.1))))
       ];
-      apart = pairs_append ComesBefore (map (moved_past K step) right) (map (moved_within step) left)
-          (pairs_map ComesBefore ComesBefore (moved_past K step) right (pairs_right ComesBefore left right ordered.apart) past_before)
-          (pairs_map ComesBefore ComesBefore (moved_within step) left (pairs_left ComesBefore left right ordered.apart) within_before) across;
+      apart = pairs_append SpanComesBefore (map (moved_past K step) right) (map (moved_within step) left)
+          (pairs_map SpanComesBefore SpanComesBefore (moved_past K step) right (pairs_right SpanComesBefore left right ordered.apart) past_before)
+          (pairs_map SpanComesBefore SpanComesBefore (moved_within step) left (pairs_left SpanComesBefore left right ordered.apart) within_before) across;
     };
     below = λ s l. elim (Contains-append_cases (map (moved_past K step) right) (map (moved_within step) left) s l) [
       | inl a ↦ (let m = in_map (moved_past K step) right s a in subst (λ t. t.residue < K) m.2 (omega (arith, below m.0 (Contains-append_right left right m.0 m.1), behind m.0 m.1)))
@@ -166,20 +166,20 @@ module _ (high K step : ℕ) (left right : List Span) (ordered : AreOrdered high
 pub none_below : (high : ℕ) (spans : List Span) (place end : ℕ) → AreOrdered high spans → ((s : Span) → slice_get spans place ≡ Some s → end ≤ s.residue) → (s : Span) → Contains (drop place spans) s → end ≤ s.residue
 none_below high spans place end ordered stop s l = at (drop place spans) (pairs_drop spans place ordered.apart) (λ t e. stop t (head_drop spans place t e)) s l
   where
-    pairs_drop : (xs : List Span) (i : ℕ) → AllPairs ComesBefore xs → AllPairs ComesBefore (drop i xs)
-    pairs_drop xs i all = pairs_right ComesBefore (take i xs) (drop i xs) (subst (AllPairs ComesBefore) (sym (take-append-drop i xs)) all)
+    pairs_drop : (xs : List Span) (i : ℕ) → AllPairs SpanComesBefore xs → AllPairs SpanComesBefore (drop i xs)
+    pairs_drop xs i all = pairs_right SpanComesBefore (take i xs) (drop i xs) (subst (AllPairs SpanComesBefore) (sym (take-append-drop i xs)) all)
 
     head_drop : (xs : List Span) (i : ℕ) (t : Span) → slice_get (drop i xs) 0 ≡ Some t → slice_get xs i ≡ Some t
     head_drop xs i t e = slice_get_drop xs i t e
 
-    at : (xs : List Span) → AllPairs ComesBefore xs → ((t : Span) → slice_get xs 0 ≡ Some t → end ≤ t.residue) → (s : Span) → Contains xs s → end ≤ s.residue
+    at : (xs : List Span) → AllPairs SpanComesBefore xs → ((t : Span) → slice_get xs 0 ≡ Some t → end ≤ t.residue) → (s : Span) → Contains xs s → end ≤ s.residue
     at [] all first s l = absurd (in_none s l)
     at (x ∷ xs) all first s l = elim (in_cons x xs s l) [
       | inl e ↦ subst (λ t. end ≤ t.residue) e (first x refl)
-      | inr m ↦ of (pairs_head ComesBefore x xs all s m)
+      | inr m ↦ of (pairs_head SpanComesBefore x xs all s m)
     ]
       where
-        of : ComesBefore x s → end ≤ s.residue
+        of : SpanComesBefore x s → end ≤ s.residue
         of (inl a) = omega (arith, a, first x refl)
         of (inr a) = let e : x.residue ≡ s.residue = a.0 in omega (arith, first x refl)
 

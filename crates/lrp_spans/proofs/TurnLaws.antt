@@ -1,5 +1,5 @@
 -- The turns of a zone with one column.
-use Rattle.std.proofs.Common.{◌≡◌, ℕ, zero, suc, ◌+◌, ◌*◌, ◌<◌, ◌≤◌, ◌^◌, List, [], ◌∷◌, Option, Some, None, length, arith, nat_abs, refl, sym, subst, ap, ◌∙◌}
+use Rattle.std.proofs.Common.{◌≡◌, ℕ, suc, ◌+◌, ◌*◌, ◌<◌, ◌≤◌, ◌^◌, List, [], ◌∷◌, Option, Some, None, length, arith, nat_abs, refl, sym, subst, ap, ◌∙◌}
 use Rattle.std.specs.Prelude.{ℤ, pos, negsuc, ◌+ℤ◌, ◌-ℤ◌, ◌≤ℤ◌, ◌<ℤ◌, neg_ℤ}
 use Rattle.std.specs.Int.{int_div_euclid, int_rem_euclid}
 use Rattle.std.proofs.Math.IntN.{◌*ℤ◌}
@@ -13,10 +13,7 @@ use Rattle.lrp_zone.specs.Zones.{IsMember, IsResidue, IsTight, IsZone, ZoneView,
 use Rattle.lrp_spans.proofs.Lines.{in_line, line_cell, line_high, line_low}
 use Rattle.lrp_spans.specs.declared.spans.Span.{Span}
 use Rattle.lrp_spans.specs.Spans.{HasTurn, IsSpanOf, IsTurnOf}
-
-at_least : (k n : ℕ) → 0 < k → n ≤ k * n
-at_least zero n l = absurd (omega arith)
-at_least (suc k) n l = omega arith
+use Rattle.lrp_spans.proofs.EndLaws.{at_least}
 
 -- a multiple has the sign of its factor
 times_low : (k : ℕ) (d : ℤ) → pos 0 ≤ℤ d → pos 0 ≤ℤ (pos k *ℤ d)

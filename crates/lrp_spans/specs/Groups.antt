@@ -6,7 +6,7 @@ use Rattle.lrp_zone.specs.Zones.{ZoneView}
 use Rattle.lrp_slots.specs.Lists.{cell_cmp, list_at}
 use Rattle.lrp_store.specs.Stores.{StoreView, InStore, zones_at}
 use Rattle.lrp_spans.specs.declared.spans.Span.{Span}
-use Rattle.lrp_spans.specs.Spans.{HasNumber, IsSpanOf}
+use Rattle.lrp_spans.specs.Spans.{SpansHaveNumber, IsSpanOf}
 
 -- spans for cells
 abbrev pub SpanLists : Type 0
@@ -54,5 +54,5 @@ HoldsNumber s x texts = InStore s (x ∷ []) texts
 
 -- the spans have just the numbers of the set with these texts
 pub record AreNumbersOf (set : ℤ → List ℕ → Type 0) (texts : List ℕ) (period : ℕ) (spans : List Span) : Type 0 where
-  pub to : (x : ℤ) → HasNumber period spans x → set x texts
-  pub from : (x : ℤ) → set x texts → HasNumber period spans x
+  pub to : (x : ℤ) → SpansHaveNumber period spans x → set x texts
+  pub from : (x : ℤ) → set x texts → SpansHaveNumber period spans x

@@ -6,7 +6,7 @@ use Rattle.lrp_slots.specs.Lists.{list_at}
 use Rattle.lrp_spans.specs.declared.spans.Span.{Span}
 use Rattle.lrp_spans.specs.Groups.{SpanLists}
 use Rattle.lrp_spans.specs.Repeating.{RepeatsAtEnds}
-use Rattle.lrp_spans.specs.Spans.{HasNumber, IsSpan}
+use Rattle.lrp_spans.specs.Spans.{SpansHaveNumber, IsSpan}
 
 -- far enough in both directions the set goes over into itself by this step
 abbrev pub RepeatsFar : (ℤ → Type 0) → ℕ → Type 0
@@ -21,8 +21,8 @@ pub record IsWithEnds (period : ℕ) (spans : List Span) (old made : ℕ) : Type
   pub positive : 0 < made
   pub divides : Divides (pos made) (pos period)
   pub multiple : Divides (pos old) (pos made)
-  pub ends : RepeatsByAll (HasNumber period spans) made
-  pub least : (other : ℕ) → 0 < other → Divides (pos old) (pos other) → RepeatsFar (HasNumber period spans) other → Divides (pos made) (pos other)
+  pub ends : RepeatsByAll (SpansHaveNumber period spans) made
+  pub least : (other : ℕ) → 0 < other → Divides (pos old) (pos other) → RepeatsFar (SpansHaveNumber period spans) other → Divides (pos made) (pos other)
 
 -- the spans of each group are some of this period
 pub record AreSpanLists (period : ℕ) (lists : SpanLists) : Type 0 where
@@ -33,5 +33,5 @@ pub record AreSpanLists (period : ℕ) (lists : SpanLists) : Type 0 where
 pub record IsEndPeriod (period : ℕ) (lists : SpanLists) (made : ℕ) : Type 0 where
   pub positive : 0 < made
   pub divides : Divides (pos made) (pos period)
-  pub ends : (group : Cell) (s : Span) → Contains (list_at lists group) s → RepeatsByAll (HasNumber period (list_at lists group)) made
-  pub least : (other : ℕ) → 0 < other → ((group : Cell) → RepeatsFar (HasNumber period (list_at lists group)) other) → Divides (pos made) (pos other)
+  pub ends : (group : Cell) (s : Span) → Contains (list_at lists group) s → RepeatsByAll (SpansHaveNumber period (list_at lists group)) made
+  pub least : (other : ℕ) → 0 < other → ((group : Cell) → RepeatsFar (SpansHaveNumber period (list_at lists group)) other) → Divides (pos made) (pos other)

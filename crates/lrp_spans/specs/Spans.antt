@@ -19,7 +19,7 @@ pub record InSpans (spans : List Span) (r : ℕ) (n : ℤ) : Type 0 where
   pub is : HasTurn span r n
 
 -- x is the number of a residue in some turn in which one of the spans has it
-pub record HasNumber (period : ℕ) (spans : List Span) (x : ℤ) : Type 0 where
+pub record SpansHaveNumber (period : ℕ) (spans : List Span) (x : ℤ) : Type 0 where
   pub residue : ℕ
   pub turn : ℤ
   pub is : x ≡ pos residue +ℤ (pos period *ℤ turn)
@@ -45,23 +45,23 @@ abbrev pub HasLessResidue : Span → Span → Type 0
 HasLessResidue v w = v.residue < w.residue
 
 -- v has the lesser residue, or the same one in turns that are all below those of w
-abbrev pub ComesBefore : Span → Span → Type 0
-ComesBefore v w = (v.residue < w.residue) ⊎ ((v.residue ≡ w.residue) × EndsBefore v w)
+abbrev pub SpanComesBefore : Span → Span → Type 0
+SpanComesBefore v w = (v.residue < w.residue) ⊎ ((v.residue ≡ w.residue) × EndsBefore v w)
 
 -- each of the spans comes before w
 abbrev pub AreBefore : List Span → Span → Type 0
-AreBefore spans w = (v : Span) → Contains spans v → ComesBefore v w
+AreBefore spans w = (v : Span) → Contains spans v → SpanComesBefore v w
 
 -- spans in order, of which no two have a number in common
 pub record AreOrdered (high : ℕ) (spans : List Span) : Type 0 where
   pub each : (s : Span) → Contains spans s → IsSpan high s
-  pub apart : AllPairs ComesBefore spans
+  pub apart : AllPairs SpanComesBefore spans
 
 -- spans that have just the turns of others, and are in order where these are spans
 pub record AreMerged (old new : List Span) : Type 0 where
   pub to : (r : ℕ) (n : ℤ) → InSpans new r n → InSpans old r n
   pub from : (r : ℕ) (n : ℤ) → InSpans old r n → InSpans new r n
-  pub apart : AllPairs ComesBefore new
+  pub apart : AllPairs SpanComesBefore new
   pub each : (high : ℕ) → ((s : Span) → Contains old s → IsSpan high s) → (s : Span) → Contains new s → IsSpan high s
 
 -- v begins no later than w
@@ -107,14 +107,14 @@ pub record IsDifference (high : ℕ) (spans holes made : List Span) : Type 0 whe
   pub to : (r : ℕ) (n : ℤ) → InSpans made r n → InSpans spans r n × (InSpans holes r n → ⊥)
   pub from : (r : ℕ) (n : ℤ) → InSpans spans r n → (InSpans holes r n → ⊥) → InSpans made r n
   pub each : (s : Span) → Contains made s → IsSpan (high + 1) s
-  pub apart : AllPairs ComesBefore made
+  pub apart : AllPairs SpanComesBefore made
 
 -- the fronts are the turns of s that are below those of the hole, if there are any
 pub record AreFronts (high : ℕ) (s hole : Span) (fronts : List Span) : Type 0 where
   pub to : (r : ℕ) (n : ℤ) → InSpans fronts r n → HasTurn s r n × (Above n hole.first → ⊥)
   pub from : (r : ℕ) (n : ℤ) → HasTurn s r n → (Above n hole.first → ⊥) → InSpans fronts r n
   pub each : (p : Span) → Contains fronts p → IsSpan (high + 1) p
-  pub apart : AllPairs ComesBefore fronts
+  pub apart : AllPairs SpanComesBefore fronts
 
 -- the new spans are the old ones and behind them fronts
 pub record AppendsFronts (high : ℕ) (s hole : Span) (old new : List Span) : Type 0 where
@@ -159,8 +159,8 @@ moved_past period step s = record { residue = s.residue + step - period; first =
 
 -- made has just the numbers that are a step greater than those of the spans, in order
 pub record AreShifted (high period step : ℕ) (spans made : List Span) : Type 0 where
-  pub to : (x : ℤ) → HasNumber period made x → HasNumber period spans (x -ℤ pos step)
-  pub from : (x : ℤ) → HasNumber period spans x → HasNumber period made (x +ℤ pos step)
+  pub to : (x : ℤ) → SpansHaveNumber period made x → SpansHaveNumber period spans (x -ℤ pos step)
+  pub from : (x : ℤ) → SpansHaveNumber period spans x → SpansHaveNumber period made (x +ℤ pos step)
   pub ordered : AreOrdered (high + 1) made
   pub below : AreBelow period made
 

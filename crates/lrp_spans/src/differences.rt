@@ -1,6 +1,6 @@
 // What some spans have and others have not.
 ghost use Rattle.std.specs.Prelude.{◌≡◌, ◌+◌, ◌≤◌, ◌^◌, Contains, IfOk, OnOk, Some, length, slice_get, take};
-ghost use Rattle.lrp_spans.specs.Spans.{AppendsFronts, AppendsLeft, AreBefore, AreOrdered, ComesBefore, IsDifference, IsSpan};
+ghost use Rattle.lrp_spans.specs.Spans.{AppendsFronts, AppendsLeft, AreBefore, AreOrdered, SpanComesBefore, IsDifference, IsSpan};
 ghost use Rattle.lrp_spans.specs.declared.spans.Span.{Span as SpanValue};
 
 use crate::spans::Span;
@@ -28,7 +28,8 @@ fn passed(holes: &[Span], from: usize, span: &Span) -> usize
     requires before { AreBefore (take from holes.now) span.now }
     ensures place { result ≤ length holes.now }
     ensures before { AreBefore (take result holes.now) span.now }
-    ensures stop { (hole : SpanValue) → slice_get holes.now result ≡ Some hole → ComesBefore hole span.now → ⊥ }
+    ensures stop { (hole : SpanValue) → slice_get holes.now result ≡ Some hole
+        → SpanComesBefore hole span.now → ⊥ }
 {
     let mut next = from;
     while next < holes.len() && holes[next].is_before(span) {
@@ -41,8 +42,10 @@ fn passed(holes: &[Span], from: usize, span: &Span) -> usize
 fn push_left(span: &Span, holes: &[Span], made: &mut Vec<Span>) -> Result<(), Memory>
     requires span { IsSpan (2 ^ 62 + 1) span.now }
     requires holes { AreOrdered (2 ^ 62 + 1) holes.now }
-    requires behind { (hole : SpanValue) → Contains holes.now hole → ComesBefore hole span.now → ⊥ }
-    ensures { OnOk result (AppendsLeft (2 ^ 62 + 1) span.now holes.now made.old.items made.new.items) }
+    requires behind { (hole : SpanValue) → Contains holes.now hole → SpanComesBefore hole span.now
+        → ⊥ }
+    ensures { OnOk result (AppendsLeft (2 ^ 62 + 1) span.now holes.now made.old.items
+        made.new.items) }
 {
     let mut left = *span;
     for hole in holes {
@@ -63,9 +66,10 @@ fn push_left(span: &Span, holes: &[Span], made: &mut Vec<Span>) -> Result<(), Me
 fn push_front(span: &Span, hole: &Span, made: &mut Vec<Span>) -> Result<(), Memory>
     requires span { IsSpan (2 ^ 62 + 2) span.now }
     requires hole { IsSpan (2 ^ 62 + 1) hole.now }
-    requires meets { ComesBefore span.now hole.now → ⊥ }
-    requires behind { ComesBefore hole.now span.now → ⊥ }
-    ensures { OnOk result (AppendsFronts (2 ^ 62 + 1) span.now hole.now made.old.items made.new.items) }
+    requires meets { SpanComesBefore span.now hole.now → ⊥ }
+    requires behind { SpanComesBefore hole.now span.now → ⊥ }
+    ensures { OnOk result (AppendsFronts (2 ^ 62 + 1) span.now hole.now made.old.items
+        made.new.items) }
 {
     if let Some(front) = span.front(hole) {
         made.push(front)?;

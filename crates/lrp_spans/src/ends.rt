@@ -1,6 +1,6 @@
 // The residues with which spans go on for ever.
 ghost use Rattle.std.specs.Prelude.{AllPairs, IfOk};
-ghost use Rattle.lrp_spans.specs.Spans.{AreOpenAbove, AreOpenBelow, ComesBefore};
+ghost use Rattle.lrp_spans.specs.Spans.{AreOpenAbove, AreOpenBelow, SpanComesBefore};
 
 use crate::spans::Span;
 use lrp_model::Memory;
@@ -8,7 +8,7 @@ use std::alloc::Global;
 
 /// The residues of the spans without a last number, ascending.
 pub fn open_above(alloc: Global, spans: &[Span]) -> Result<Vec<u64>, Memory>
-    requires { AllPairs ComesBefore spans.now }
+    requires { AllPairs SpanComesBefore spans.now }
     ensures { IfOk result (λ made. AreOpenAbove spans.now made.items) }
 {
     let mut made = Vec::new(alloc);
@@ -22,7 +22,7 @@ pub fn open_above(alloc: Global, spans: &[Span]) -> Result<Vec<u64>, Memory>
 
 /// The residues of the spans without a first number, ascending.
 pub fn open_below(alloc: Global, spans: &[Span]) -> Result<Vec<u64>, Memory>
-    requires { AllPairs ComesBefore spans.now }
+    requires { AllPairs SpanComesBefore spans.now }
     ensures { IfOk result (λ made. AreOpenBelow spans.now made.items) }
 {
     let mut made = Vec::new(alloc);

@@ -47,7 +47,8 @@ fn push_past(spans: &[Span], step: u64, period: u64, made: &mut Vec<Span>) -> Re
     requires past { (s : SpanValue) → Contains spans.now s → period ≤ s.residue + step }
     requires step { step ≤ period }
     requires period { period ≤ 2 ^ 62 }
-    ensures { OnOk result (made.new.items ≡ made.old.items ++ map (moved_past period step) spans.now) }
+    ensures { OnOk result (made.new.items ≡ made.old.items
+        ++ map (moved_past period step) spans.now) }
 {
     for span in spans {
         made.push(past(span, step, period))?;

@@ -3,7 +3,7 @@ ghost use Rattle.std.specs.Prelude.{◌≡◌, ◌+◌, ◌↔◌, ◌^◌, ◌�
 ghost use Rattle.lrp_theory.specs.Bounds.{Within};
 ghost use Rattle.lrp_theory.specs.Entries.{AtMost};
 ghost use Rattle.lrp_matrix.specs.Ranges.{Above};
-ghost use Rattle.lrp_spans.specs.Spans.{BeginsBy, ComesBefore, EndsBefore, HasTurn, IsFront, IsJoined, IsLater, IsRest};
+ghost use Rattle.lrp_spans.specs.Spans.{BeginsBy, SpanComesBefore, EndsBefore, HasTurn, IsFront, IsJoined, IsLater, IsRest};
 
 /// The numbers `residue + period n` for n from `first` to `last`, both included. `None` is no end.
 ///
@@ -18,7 +18,7 @@ pub struct Span {
 impl Span {
     /// Whether all numbers of the span come before those of the other one, by residues and then by turns.
     pub fn is_before(&self, other: &Span) -> bool
-        ensures { IsTrue result ↔ ComesBefore self.now other.now }
+        ensures { IsTrue result ↔ SpanComesBefore self.now other.now }
     {
         if self.residue != other.residue {
             return self.residue < other.residue;

@@ -1,6 +1,6 @@
 -- The hex digits of bytes, as the kit's crate writes and reads them.
 use Rattle.std.proofs.Common.{◌≡◌, inl, inr, ◌&&◌, ◌<◌, ◌+◌, ◌*◌, ◌/◌, ◌%◌, ℕ, zero, suc, Bool, true, false, cond, ltb, eqb, List, [], ◌∷◌, length, get_or, Result, Ok, Err, refl, ap, ap₂, sym, subst, ◌∙◌, arith}
-use Rattle.std.specs.Prelude.{◌≢◌, nat_lt, if◌then◌else◌, is_ok, MatchResult, MatchBool}
+use Rattle.std.specs.Prelude.{◌≢◌, is_ok, MatchResult, MatchBool}
 use Rattle.std.specs.Result.{result_unwrap_or}
 use Rattle.std.specs.List.{AllByRecursion}
 use Rattle.std.specs.Str.{IsUtf8}
@@ -17,6 +17,7 @@ use Rattle.lrp_token.specs.declared.resume.TokenFault.{TokenFault}
 use Rattle.lrp_token.specs.declared.resume.TokenFault.TheVariants.{Form, Shape, Memory}
 use Rattle.lrp_token.specs.Parts.{IsHex, IsPartRead, IsSpelling}
 use Rattle.lrp_token.proofs.Lists.{Lacks}
+pub use Rattle.lrp_model.proofs.TokenLaws.{hex_lacks}
 
 -- a list of bytes
 abbrev pub AreBytes : List ℕ → Type 0
@@ -123,15 +124,6 @@ read_none digits old new r false room m e f = λ other h.
     let k = (read_by digits old new (decode_sized digits (length old)) r refl m).1 other (half digits other h ∙ sym room) h in
     let g : is_ok r ≡ true = ap is_ok k.0 in
     cc
-
-digit_not : (t : Bool) (c d : ℕ) → c < 48 → (if t then 48 + d else 87 + d) ≡ c → ⊥
-digit_not true c d lt e = omega arith
-digit_not false c d lt e = omega arith
-
--- no digit is below 0
-pub hex_lacks : (c : ℕ) → c < 48 → (bs : List ℕ) → Lacks c (hex bs)
-hex_lacks c lt [] = tt
-hex_lacks c lt (b ∷ bs) = (digit_not (nat_lt (b / 16) 10) c (b / 16) lt, (digit_not (nat_lt (b % 16) 10) c (b % 16) lt, hex_lacks c lt bs))
 
 -- ---- UTF-8
 

@@ -8,14 +8,9 @@ use mathlib.Core.List.{map-append}
 use Rattle.lrp_model.specs.Printed.{joined_by}
 use Rattle.lrp_model.proofs.Logic.{all_append}
 use Rattle.lrp_token.specs.Parts.{IsListOf, IsSpelling}
+pub use Rattle.lrp_model.proofs.TokenLaws.{Lacks, lacks_append}
 
 -- ---- bytes that a list lacks
-
-abbrev pub Lacks : ℕ → List ℕ → Type 0
-Lacks c xs = AllByRecursion (λ b. b ≢ c) xs
-
-pub lacks_append : (c : ℕ) (xs ys : List ℕ) → Lacks c xs → Lacks c ys → Lacks c (xs ++ ys)
-lacks_append c xs ys h k = (all_append (λ b. b ≢ c) xs ys).1 (h, k)
 
 pub lacks_at : (c : ℕ) (xs : List ℕ) → Lacks c xs → (i : ℕ) → i < length xs → get_or xs i 0 ≢ c
 lacks_at c xs h i lt = All-from_recursion (λ b. b ≢ c) xs h i 0 lt

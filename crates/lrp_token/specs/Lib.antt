@@ -3,6 +3,7 @@
 -- What the contract of `run` reaches.
 pub mod Files
 pub mod Reading
--- What contracts of single functions need beside.
+-- What contracts of public calls say.
 pub mod Spots
+-- What functions inside say to one another.
 pub mod Parts

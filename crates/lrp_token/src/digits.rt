@@ -23,7 +23,8 @@ pub(crate) fn digits_of<'a>(bytes: &[u8], room: &'a mut [u8; MOST_DIGITS]) -> &'
 pub(crate) fn decode(digits: &str, bytes: &mut [u8]) -> bool
     requires room { length bytes.old ≡ length digits.now / 2 }
     requires few { length bytes.old ≤ 255 }
-    ensures { MatchBool result (IsHex digits.now bytes.new) ((other : List ℕ) → IsHex digits.now other → ⊥) }
+    ensures { MatchBool result (IsHex digits.now bytes.new)
+        ((other : List ℕ) → IsHex digits.now other → ⊥) }
 {
     hex::decode_to_slice(digits, bytes).is_ok() && are_digits_of(digits, bytes)
 }

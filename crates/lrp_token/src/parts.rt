@@ -14,7 +14,8 @@ use std::str::from_utf8;
 
 /// The integer that a text spells as integers are written, where its magnitude is at most 2^62.
 pub(crate) fn time_of(text: &str) -> Option<i64>
-    ensures { MatchOption result ((x : ℤ) → IsSpelling IsSmall signed_decimal text.now x → ⊥) (IsSpelling IsSmall signed_decimal text.now) }
+    ensures { MatchOption result ((x : ℤ) → IsSpelling IsSmall signed_decimal text.now x → ⊥)
+        (IsSpelling IsSmall signed_decimal text.now) }
 {
     let Ok(time) = text.parse::<i64>() else {
         return None;
@@ -64,7 +65,8 @@ fn data_text(alloc: Global, bytes: &[u8]) -> Result<DataText, TokenFault>
 
 /// The digest that 64 lower-case hex digits spell.
 pub(crate) fn digest_of(digits: &str) -> Option<[u8; 32]>
-    ensures { MatchOption result ((digest : List ℕ) → IsSpelling IsDigest hex digits.now digest → ⊥) (IsSpelling IsDigest hex digits.now) }
+    ensures { MatchOption result ((digest : List ℕ) → IsSpelling IsDigest hex digits.now digest → ⊥)
+        (IsSpelling IsDigest hex digits.now) }
 {
     if digits.len() != 64 {
         return None;

@@ -20,11 +20,14 @@ pub fn read_token(alloc: Global, text: &str, shape: Shape) -> Result<Resume, Tok
     ensures tells { Tells text.now shape result }
     ensures token { (digest : OptionOf (ListOf ℕ)) (times : ListOf ℤ) (texts : ListOf Text)
         → IsToken text.now digest times texts → HasCounts shape times texts
-        → MatchResult result (λ resume. (resume.digest ≡ digest) × (resume.tuple.times ≡ times) × (resume.tuple.texts ≡ texts)) (λ fault. fault ≡ TokenFault.Memory) }
+        → MatchResult result (λ resume. (resume.digest ≡ digest) × (resume.tuple.times ≡ times)
+        × (resume.tuple.texts ≡ texts)) (λ fault. fault ≡ TokenFault.Memory) }
     ensures other { (digest : OptionOf (ListOf ℕ)) (times : ListOf ℤ) (texts : ListOf Text)
         → IsToken text.now digest times texts → (HasCounts shape times texts → ⊥)
-        → MatchResult result (λ resume. ⊥) (λ fault. (fault ≡ TokenFault.Shape) ⊎ (fault ≡ TokenFault.Memory)) }
-    ensures none { IsNoToken text.now → MatchResult result (λ resume. ⊥) (λ fault. (fault ≡ TokenFault.Form) ⊎ (fault ≡ TokenFault.Memory)) }
+        → MatchResult result (λ resume. ⊥)
+        (λ fault. (fault ≡ TokenFault.Shape) ⊎ (fault ≡ TokenFault.Memory)) }
+    ensures none { IsNoToken text.now → MatchResult result (λ resume. ⊥)
+        (λ fault. (fault ≡ TokenFault.Form) ⊎ (fault ≡ TokenFault.Memory)) }
 {
     let resume = read_any(alloc, text)?;
     if has_counts(&resume.tuple, shape) {
@@ -57,7 +60,8 @@ fn read_any(alloc: Global, text: &str) -> Result<Resume, TokenFault>
 
 // A tuple alone.
 fn read_alone(alloc: Global, text: &str) -> Result<Resume, TokenFault>
-    ensures { IsPartRead (λ r. (r.digest ≡ None) × IsTuple text.now r.tuple.times r.tuple.texts) result }
+    ensures { IsPartRead (λ r. (r.digest ≡ None) × IsTuple text.now r.tuple.times r.tuple.texts)
+        result }
 {
     let tuple = read_tuple(alloc, text)?;
     Ok(Resume {

@@ -27,12 +27,14 @@ pub fn write_token<S: Sink>(
     requires texts { shape.texts ≤ 8 }
     requires small { AllByRecursion IsSmall (times_in shape spot.now) }
     requires known { AllByRecursion (λ n. n < length domain.now) (take shape.texts spot.now.texts) }
-    ensures text { IsWritten (S.written out.old) (S.written out.new) (spot_token shape domain.now digest.now spot.now) result }
+    ensures text { IsWritten (S.written out.old) (S.written out.new)
+        (spot_token shape domain.now digest.now spot.now) result }
     ensures cause { HasCause (S.faults out.old) (S.faults out.new) result }
 
     // What is written is a token, where the texts are data texts.
     ensures token { AllByRecursion IsDataText (texts_in shape domain.now spot.now)
-        → IsToken (spot_token shape domain.now digest.now spot.now) (Some digest.now) (times_in shape spot.now) (texts_in shape domain.now spot.now) }
+        → IsToken (spot_token shape domain.now digest.now spot.now) (Some digest.now)
+        (times_in shape spot.now) (texts_in shape domain.now spot.now) }
 {
     write_head(out, digest)?;
     write_tuple(out, spot, shape, domain)
@@ -40,7 +42,8 @@ pub fn write_token<S: Sink>(
 
 // The version, the digest, and a slash.
 fn write_head<S: Sink>(out: &mut S, digest: &[u8; 32]) -> Result<(), Failed>
-    ensures text { IsWritten (S.written out.old) (S.written out.new) (codes "T2/" ++ (hex_of digest.now ++ codes "/")) result }
+    ensures text { IsWritten (S.written out.old) (S.written out.new)
+        (codes "T2/" ++ (hex_of digest.now ++ codes "/")) result }
     ensures cause { HasCause (S.faults out.old) (S.faults out.new) result }
 {
     write_bytes(out, b"T2/")?;
@@ -58,7 +61,8 @@ fn write_tuple<S: Sink>(
     requires times { shape.times ≤ 8 }
     requires texts { shape.texts ≤ 8 }
     requires known { AllByRecursion (λ n. n < length domain.now) (take shape.texts spot.now.texts) }
-    ensures text { IsWritten (S.written out.old) (S.written out.new) (tuple_text (times_in shape spot.now) (texts_in shape domain.now spot.now)) result }
+    ensures text { IsWritten (S.written out.old) (S.written out.new)
+        (tuple_text (times_in shape spot.now) (texts_in shape domain.now spot.now)) result }
     ensures cause { HasCause (S.faults out.old) (S.faults out.new) result }
 {
     write_times(out, &spot.times[..shape.times as usize])?;
@@ -78,7 +82,8 @@ fn write_hex<S: Sink>(out: &mut S, bytes: &[u8]) -> Result<(), Failed>
 
 // Times, with commas between.
 fn write_times<S: Sink>(out: &mut S, times: &[i64]) -> Result<(), Failed>
-    ensures text { IsWritten (S.written out.old) (S.written out.new) (joined_by (codes ",") signed_decimal times.now) result }
+    ensures text { IsWritten (S.written out.old) (S.written out.new)
+        (joined_by (codes ",") signed_decimal times.now) result }
     ensures cause { HasCause (S.faults out.old) (S.faults out.new) result }
 {
     match times {
@@ -92,7 +97,8 @@ fn write_times<S: Sink>(out: &mut S, times: &[i64]) -> Result<(), Failed>
 
 // Times, with a comma before each.
 fn write_further_times<S: Sink>(out: &mut S, times: &[i64]) -> Result<(), Failed>
-    ensures text { IsWritten (S.written out.old) (S.written out.new) (flat_map (λ x. codes "," ++ signed_decimal x) times.now) result }
+    ensures text { IsWritten (S.written out.old) (S.written out.new)
+        (flat_map (λ x. codes "," ++ signed_decimal x) times.now) result }
     ensures cause { HasCause (S.faults out.old) (S.faults out.new) result }
 {
     for time in times {
@@ -102,7 +108,8 @@ fn write_further_times<S: Sink>(out: &mut S, times: &[i64]) -> Result<(), Failed
 }
 
 fn write_next_time<S: Sink>(out: &mut S, time: &i64) -> Result<(), Failed>
-    ensures text { IsWritten (S.written out.old) (S.written out.new) (codes "," ++ signed_decimal time.now) result }
+    ensures text { IsWritten (S.written out.old) (S.written out.new)
+        (codes "," ++ signed_decimal time.now) result }
     ensures cause { HasCause (S.faults out.old) (S.faults out.new) result }
 {
     write_bytes(out, b",")?;
@@ -112,7 +119,8 @@ fn write_next_time<S: Sink>(out: &mut S, time: &i64) -> Result<(), Failed>
 // Texts by their numbers, with commas between.
 fn write_texts<S: Sink>(out: &mut S, domain: &Domain, numbers: &[u32]) -> Result<(), Failed>
     requires { AllByRecursion (λ n. n < length domain.now) numbers.now }
-    ensures text { IsWritten (S.written out.old) (S.written out.new) (joined_by (codes ",") (λ n. text_part (text_at domain.now n)) numbers.now) result }
+    ensures text { IsWritten (S.written out.old) (S.written out.new)
+        (joined_by (codes ",") (λ n. text_part (text_at domain.now n)) numbers.now) result }
     ensures cause { HasCause (S.faults out.old) (S.faults out.new) result }
 {
     match numbers {
@@ -127,7 +135,8 @@ fn write_texts<S: Sink>(out: &mut S, domain: &Domain, numbers: &[u32]) -> Result
 // Texts by their numbers, with a comma before each.
 fn write_further_texts<S: Sink>(out: &mut S, domain: &Domain, numbers: &[u32]) -> Result<(), Failed>
     requires { AllByRecursion (λ n. n < length domain.now) numbers.now }
-    ensures text { IsWritten (S.written out.old) (S.written out.new) (flat_map (λ n. codes "," ++ text_part (text_at domain.now n)) numbers.now) result }
+    ensures text { IsWritten (S.written out.old) (S.written out.new)
+        (flat_map (λ n. codes "," ++ text_part (text_at domain.now n)) numbers.now) result }
     ensures cause { HasCause (S.faults out.old) (S.faults out.new) result }
 {
     for number in numbers {
@@ -138,7 +147,8 @@ fn write_further_texts<S: Sink>(out: &mut S, domain: &Domain, numbers: &[u32]) -
 
 fn write_next_text<S: Sink>(out: &mut S, domain: &Domain, number: u32) -> Result<(), Failed>
     requires { number < length domain.now }
-    ensures text { IsWritten (S.written out.old) (S.written out.new) (codes "," ++ text_part (text_at domain.now number)) result }
+    ensures text { IsWritten (S.written out.old) (S.written out.new)
+        (codes "," ++ text_part (text_at domain.now number)) result }
     ensures cause { HasCause (S.faults out.old) (S.faults out.new) result }
 {
     write_bytes(out, b",")?;
@@ -148,7 +158,8 @@ fn write_next_text<S: Sink>(out: &mut S, domain: &Domain, number: u32) -> Result
 // `x`, and the hex digits of a text.
 fn write_text<S: Sink>(out: &mut S, domain: &Domain, number: u32) -> Result<(), Failed>
     requires { number < length domain.now }
-    ensures text { IsWritten (S.written out.old) (S.written out.new) (text_part (text_at domain.now number)) result }
+    ensures text { IsWritten (S.written out.old) (S.written out.new)
+        (text_part (text_at domain.now number)) result }
     ensures cause { HasCause (S.faults out.old) (S.faults out.new) result }
 {
     write_bytes(out, b"x")?;

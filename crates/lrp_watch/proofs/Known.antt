@@ -21,7 +21,7 @@ use Rattle.lrp_keep.specs.Keeps.{IsKeptAnswer, KeepView}
 use Rattle.lrp_outputs.specs.First.{IsFirst}
 use Rattle.lrp_watch.specs.Leasts.{IsLeastOver, IsLow, shape_for}
 use Rattle.lrp_outputs.specs.SmallAnswers.{IsSmallAnswer}
-use Rattle.lrp_outputs.specs.Spots.{HasKnownTexts, tuple_of}
+use Rattle.lrp_outputs.specs.Spots.{HasKnownTexts, answer_tuple}
 use Rattle.lrp_watch.proofs.Reaches.{period_low}
 use Rattle.lrp_outputs.proofs.Spots.{texts_known}
 
@@ -58,7 +58,7 @@ module _ (k : KeepView) (a : Answer) (is : IsKeptAnswer k a) where
       }
 
   -- for a spot of the answer
-  first_of : StandsForTuples → (o : Option Spot) → IfNone o ((tuple : Tuple) → InAnswer a.head.columns a.domain a.store tuple → ⊥) → IfSome o (λ spot. IsLeastSpot a.head.columns a.domain a.store spot) → IsFirst k.relations (question_of k.query) (option_map (tuple_of a) o)
+  first_of : StandsForTuples → (o : Option Spot) → IfNone o ((tuple : Tuple) → InAnswer a.head.columns a.domain a.store tuple → ⊥) → IfSome o (λ spot. IsLeastSpot a.head.columns a.domain a.store spot) → IsFirst k.relations (question_of k.query) (option_map (answer_tuple a) o)
   first_of stood None none some = λ tuple h. none tuple ((is.answers tuple).1 h)
   first_of stood (Some spot) none some =
       subst (λ t. IsLeast (IsAnswer k.relations (question_of k.query)) t) (sym (stood a.head.columns a.store.shape a.domain spot some.tuple some.least.is.shape some.stands))

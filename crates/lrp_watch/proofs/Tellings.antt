@@ -21,7 +21,7 @@ use Rattle.lrp_watch.specs.Edits.{IsPassedAt, IsPassedBehind}
 use Rattle.lrp_watch.specs.Faults.{IsAt}
 use Rattle.lrp_outputs.specs.First.{IsFirst, first_line}
 use Rattle.lrp_watch.specs.Leasts.{AreDone, CanGoOn, HasFewColumns, IsLeastOver, IsOver, shape_for}
-use Rattle.lrp_outputs.specs.Spots.{IsKnownLeast, tuple_of}
+use Rattle.lrp_outputs.specs.Spots.{IsKnownLeast, answer_tuple}
 use Rattle.lrp_watch.specs.Watching.{CanBeWatched, IsOpened, IsPassed, TellsLeasts, watched_constants}
 use Rattle.lrp_watch.proofs.Known.{shape_is}
 use Rattle.lrp_watch.proofs.Openings.{AreSameInOrder, can_go_on}
@@ -50,7 +50,7 @@ module _ (k : KeepView) (a : Answer) (is : IsOver k.query k.domain a) where
   firsts_of (l ∷ ks) [] h = absurd h
   firsts_of (l ∷ ks) (s ∷ spots) h = (h.0.first, firsts_of ks spots h.1)
 
-  pub firsts_told : (ks : List KeepView) (spots : List (Option Spot)) → AreLeasts ks spots → AreFirsts ks (map (option_map (tuple_of a)) spots)
+  pub firsts_told : (ks : List KeepView) (spots : List (Option Spot)) → AreLeasts ks spots → AreFirsts ks (map (option_map (answer_tuple a)) spots)
   firsts_told ks spots h = back (λ cs s d. AreFirsts ks (map (option_map (spot_tuple cs s d)) spots)) (firsts_of ks spots h)
 
   abbrev AreKnown : Shape → List Text → List (Option Spot) → Type 0
@@ -99,16 +99,16 @@ module _ (query : Query) (db : List Relation) (edits : List Edit) (cap : ℕ) (d
   pub known : (a : Answer) → IsOver query domain a → (now : KeepView) (spots : List (Option Spot)) → AreDone edits k now spots → AllByRecursion (IsKnownLeast a) spots
   known a answer now spots done = known_told k a (over a answer) (k ∷ done.later) spots done.leasts
 
-  pub told : (a : Answer) → IsOver query domain a → (now : KeepView) (spots : List (Option Spot)) → StaysWithinLimits (opened query db domain cap) → AreDone edits k now spots → TellsLeasts db (question_of query) edits cap (flat_map (λ least. first_line (option_map (tuple_of a) least)) spots)
+  pub told : (a : Answer) → IsOver query domain a → (now : KeepView) (spots : List (Option Spot)) → StaysWithinLimits (opened query db domain cap) → AreDone edits k now spots → TellsLeasts db (question_of query) edits cap (flat_map (λ least. first_line (option_map (answer_tuple a) least)) spots)
   told a answer now spots h done = record {
     kept = k;
     opened = opened_is;
     within = within h;
     later = done.later;
     made = done.made;
-    firsts = map (option_map (tuple_of a)) spots;
-    are = subst (λ q. AllZip (λ l first. IsFirst l.relations q first) (k ∷ done.later) (map (option_map (tuple_of a)) spots)) same_query (firsts_told k a (over a answer) (k ∷ done.later) spots done.leasts);
-    spelled = lines_of (option_map (tuple_of a)) spots;
+    firsts = map (option_map (answer_tuple a)) spots;
+    are = subst (λ q. AllZip (λ l first. IsFirst l.relations q first) (k ∷ done.later) (map (option_map (answer_tuple a)) spots)) same_query (firsts_told k a (over a answer) (k ∷ done.later) spots done.leasts);
+    spelled = lines_of (option_map (answer_tuple a)) spots;
   }
 
   -- ---- the limit that is passed

@@ -16,7 +16,8 @@ pub fn constants_of(
     query: &Query,
     edits: &[Edit],
 ) -> Result<Domain, Memory>
-    ensures { IfOk result (λ made. made ≡ watched_constants database.now (question_of query.now) edits.now) }
+    ensures { IfOk result (λ made. made ≡ watched_constants database.now
+        (question_of query.now) edits.now) }
 {
     let mut texts = database.constants().copy(alloc)?.into_vec();
     let of_query = query_texts(alloc, query, database)?;

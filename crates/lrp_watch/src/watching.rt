@@ -32,8 +32,10 @@ pub fn least_answers(
     cap: u32,
 ) -> Result<Leasts, WatchFault>
     requires { CanBeWatched database.now (question_of query.now) edits.now }
-    ensures told { IfOk result (λ made. TellsLeasts database.now (question_of query.now) edits.now cap (leasts_text made)) }
-    ensures fault { IfErr result (IsFaultBy (IsPassed database.now (question_of query.now) edits.now cap)) }
+    ensures told { IfOk result (λ made. TellsLeasts database.now
+        (question_of query.now) edits.now cap (leasts_text made)) }
+    ensures fault { IfErr result (IsFaultBy (IsPassed database.now
+        (question_of query.now) edits.now cap)) }
 {
     let domain = constants_of(alloc, database, query, edits)?;
     database.relations();
@@ -69,8 +71,10 @@ fn opened<'a>(
 ) -> Result<Keep<'a>, WatchFault>
     requires { CanBeKept (question_of query.now) database.now domain.now }
     ensures view { IfOk result (λ made. made ≡ opened_by query.now database.now domain.now cap) }
-    ensures limits { OnOk result (StaysWithinLimits (opened_by query.now database.now domain.now cap)) }
-    ensures fault { IfErr result (IsFaultBy (IsAt 0 (IsPastLimit (opened_by query.now database.now domain.now cap)))) }
+    ensures limits { OnOk result (StaysWithinLimits
+        (opened_by query.now database.now domain.now cap)) }
+    ensures fault { IfErr result (IsFaultBy (IsAt 0
+        (IsPastLimit (opened_by query.now database.now domain.now cap)))) }
 {
     match Keep::open(alloc, query, database, domain, cap) {
         Ok(keep) => Ok(keep),
@@ -125,7 +129,8 @@ fn tell(keep: &Keep<'_>, spots: &mut List<Option<Spot>>) -> Result<(), Memory>
 // The least answer over the rows that are held.
 fn least_of(keep: &Keep<'_>) -> Result<Option<Spot>, Memory>
     requires { IsLow keep.now }
-    ensures { IfOk result (IsLeastOver (question_of keep.now.query) keep.now.domain keep.now.relations) }
+    ensures { IfOk result (IsLeastOver (question_of keep.now.query) keep.now.domain
+        keep.now.relations) }
 {
     let answer = keep.answer()?;
     small_answers_have_room();

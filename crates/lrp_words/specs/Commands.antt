@@ -1,6 +1,7 @@
 -- The command that words spell: the first word is its name, and each further one gives one of its keys a value.
 use Rattle.std.specs.Prelude.{ℕ, ℤ, List, [], ◌∷◌, Bool, true, false, Option, Some, None, if◌then◌else◌, codes}
 use Rattle.std.specs.Borrow.{Bor}
+use Rattle.std.specs.Option.{option_and_then}
 use Rattle.std.specs.Str.{bytes_eq}
 use Rattle.lrp_model.specs.Texts.{Text}
 use Rattle.lrp_civil.specs.Minutes.{minute_by}
@@ -44,8 +45,7 @@ tasks_of (Some command) = Some (task_of command)
 
 -- what follows from a value, if there is one
 abbrev pub with_some : {A B : Type 0} → Option A → (A → Option B) → Option B
-with_some None rest = None
-with_some (Some a) rest = rest a
+with_some found rest = option_and_then rest found
 
 -- the name of a file is not empty
 abbrev pub file : Option Text → Option Text
@@ -98,8 +98,8 @@ abbrev pub edits_name : List Text → Option Text
 edits_name words = file (value_for Edits words)
 
 -- whether the query may have temporal operators
-abbrev pub tense_of : List Text → Option Bool
-tense_of words = flag_of (value_for Tense words)
+abbrev pub tense_flag : List Text → Option Bool
+tense_flag words = flag_of (value_for Tense words)
 
 -- whether the canonical answer is told
 abbrev pub canon_of : List Text → Option Bool
@@ -114,7 +114,7 @@ civil_of words = flag_of (value_for Civil words)
 abbrev pub ask_of : List Text → Option Task
 ask_of words =
     with_some (database_name words) (λ db. with_some (query_name words) (λ query. with_some (cap_of words) (λ cap.
-    with_some (tense_of words) (λ tense. with_some (canon_of words) (λ canon. with_some (civil_of words) (λ civil. Some (ask db query cap tense canon civil)))))))
+    with_some (tense_flag words) (λ tense. with_some (canon_of words) (λ canon. with_some (civil_of words) (λ civil. Some (ask db query cap tense canon civil)))))))
 
 abbrev pub ask_keys : List Key
 ask_keys = Db ∷ Query ∷ Cap ∷ Tense ∷ Canon ∷ Civil ∷ []
@@ -122,14 +122,14 @@ ask_keys = Db ∷ Query ∷ Cap ∷ Tense ∷ Canon ∷ Civil ∷ []
 abbrev pub decide_of : List Text → Option Task
 decide_of words =
     with_some (database_name words) (λ db. with_some (query_name words) (λ query. with_some (cap_of words) (λ cap.
-    with_some (tense_of words) (λ tense. with_some (civil_of words) (λ civil. Some (decide db query cap tense civil))))))
+    with_some (tense_flag words) (λ tense. with_some (civil_of words) (λ civil. Some (decide db query cap tense civil))))))
 
 abbrev pub decide_keys : List Key
 decide_keys = Db ∷ Query ∷ Cap ∷ Tense ∷ Civil ∷ []
 
 abbrev pub list_of : List Text → Option Task
 list_of words =
-    with_some (tense_of words) (λ tense. with_some (civil_of words) (λ civil.
+    with_some (tense_flag words) (λ tense. with_some (civil_of words) (λ civil.
     with_some (database_name words) (λ db. with_some (query_name words) (λ query. with_some (end_of civil (value_for From words)) (λ from. with_some (end_of civil (value_for To words)) (λ to.
     with_some (limit_of words) (λ limit. with_some (json_of (value_for Form words)) (λ json. with_some (cap_of words) (λ cap. Some (list db query from to limit (value_for After words) json cap tense civil))))))))))
 
@@ -138,7 +138,7 @@ list_keys = Db ∷ Query ∷ From ∷ To ∷ Limit ∷ After ∷ Form ∷ Cap �
 
 abbrev pub explain_of : List Text → Option Task
 explain_of words =
-    with_some (database_name words) (λ db. with_some (query_name words) (λ query. with_some (tense_of words) (λ tense. with_some (civil_of words) (λ civil. Some (explain db query tense civil)))))
+    with_some (database_name words) (λ db. with_some (query_name words) (λ query. with_some (tense_flag words) (λ tense. with_some (civil_of words) (λ civil. Some (explain db query tense civil)))))
 
 abbrev pub explain_keys : List Key
 explain_keys = Db ∷ Query ∷ Tense ∷ Civil ∷ []

@@ -47,14 +47,16 @@ pub fn are_given(keys: &[Key], words: &[String]) -> bool
 
 /// Whether each word gives one of the keys a value.
 fn are_known(keys: &[Key], words: &[String]) -> bool
-    ensures { result ≡ list_all (λ word. list_any (λ key. gives_by key (string_bytes word)) keys.now) words.now }
+    ensures { result ≡ list_all (λ word. list_any
+        (λ key. gives_by key (string_bytes word)) keys.now) words.now }
 {
     words.iter().all(|word| is_of(keys, word))
 }
 
 /// Whether no two words give one key values.
 fn are_single(keys: &[Key], words: &[String]) -> bool
-    ensures { result ≡ list_all (λ key. nat_le (count_by (λ word. gives_by key (string_bytes word)) words.now) 1) keys.now }
+    ensures { result ≡ list_all (λ key. nat_le
+        (count_by (λ word. gives_by key (string_bytes word)) words.now) 1) keys.now }
 {
     keys.iter().all(|key| count(*key, words) <= 1)
 }

@@ -1,6 +1,6 @@
 // Words as a command: its name, and then the values of its keys.
 ghost use Rattle.std.specs.Prelude.{◌≡◌, ◌<◌, ◌≤◌, ◌^◌, [], ◌∷◌, map, string_bytes, Some, None, IfOk, IfSome, MatchResult};
-ghost use Rattle.lrp_words.specs.Commands.{ask_keys, ask_of, canon_of, cap_of, check_keys, check_of, civil_of, command, decide_keys, decide_of, end_of, explain_keys, explain_of, flag_of, file as file_by, json_of as is_json_by, limit_of, list_keys, list_of, number_in as number_by, number_or as number_or_by, over, sample_keys, sample_of, task_of, tasks_of, tense_of, after_text, watch_keys, watch_of};
+ghost use Rattle.lrp_words.specs.Commands.{ask_keys, ask_of, canon_of, cap_of, check_keys, check_of, civil_of, command, decide_keys, decide_of, end_of, explain_keys, explain_of, flag_of, file as file_by, json_of as is_json_by, limit_of, list_keys, list_of, number_in as number_by, number_or as number_or_by, over, sample_keys, sample_of, task_of, tasks_of, tense_flag, after_text, watch_keys, watch_of};
 ghost use Rattle.lrp_words.specs.Entries.{value_for as value_by};
 ghost use Rattle.lrp_words.specs.Ranges.{IsInRange, IsEnd};
 
@@ -14,7 +14,8 @@ use lrp_civil::minute_of;
 ///
 /// The first word is the command's name. Every other is `key=value`, cut at its first `=`, in any order; each key is one of the command's, and stands at most once.
 pub fn read_words(words: &[String]) -> Result<Command<'_>, Usage>
-    ensures command { MatchResult result (λ found. command (map string_bytes words.now) ≡ Some (task_of found)) (λ _. command (map string_bytes words.now) ≡ None) }
+    ensures command { MatchResult result (λ found. command (map string_bytes words.now)
+        ≡ Some (task_of found)) (λ _. command (map string_bytes words.now) ≡ None) }
     ensures range { IfOk result (λ found. IsInRange (task_of found)) }
 {
     let [name, words @ ..] = words else {
@@ -44,7 +45,8 @@ fn named<'a>(name: &str, words: &'a [String]) -> Option<Command<'a>>
 }
 
 fn ask(words: &[String]) -> Option<Command<'_>>
-    ensures task { tasks_of result ≡ over ask_keys (map string_bytes words.now) (ask_of (map string_bytes words.now)) }
+    ensures task { tasks_of result ≡ over ask_keys (map string_bytes words.now)
+        (ask_of (map string_bytes words.now)) }
     ensures range { IfSome result (λ found. IsInRange (task_of found)) }
 {
     let keys = [
@@ -69,7 +71,8 @@ fn ask(words: &[String]) -> Option<Command<'_>>
 }
 
 fn decide(words: &[String]) -> Option<Command<'_>>
-    ensures task { tasks_of result ≡ over decide_keys (map string_bytes words.now) (decide_of (map string_bytes words.now)) }
+    ensures task { tasks_of result ≡ over decide_keys (map string_bytes words.now)
+        (decide_of (map string_bytes words.now)) }
     ensures range { IfSome result (λ found. IsInRange (task_of found)) }
 {
     if !are_given(
@@ -88,7 +91,8 @@ fn decide(words: &[String]) -> Option<Command<'_>>
 }
 
 fn list(words: &[String]) -> Option<Command<'_>>
-    ensures task { tasks_of result ≡ over list_keys (map string_bytes words.now) (list_of (map string_bytes words.now)) }
+    ensures task { tasks_of result ≡ over list_keys (map string_bytes words.now)
+        (list_of (map string_bytes words.now)) }
     ensures range { IfSome result (λ found. IsInRange (task_of found)) }
 {
     let keys = [
@@ -123,7 +127,8 @@ fn list(words: &[String]) -> Option<Command<'_>>
 }
 
 fn explain(words: &[String]) -> Option<Command<'_>>
-    ensures task { tasks_of result ≡ over explain_keys (map string_bytes words.now) (explain_of (map string_bytes words.now)) }
+    ensures task { tasks_of result ≡ over explain_keys (map string_bytes words.now)
+        (explain_of (map string_bytes words.now)) }
     ensures range { IfSome result (λ found. IsInRange (task_of found)) }
 {
     if !are_given(&[Key::Db, Key::Query, Key::Tense, Key::Civil], words) {
@@ -138,7 +143,8 @@ fn explain(words: &[String]) -> Option<Command<'_>>
 }
 
 fn check(words: &[String]) -> Option<Command<'_>>
-    ensures task { tasks_of result ≡ over check_keys (map string_bytes words.now) (check_of (map string_bytes words.now)) }
+    ensures task { tasks_of result ≡ over check_keys (map string_bytes words.now)
+        (check_of (map string_bytes words.now)) }
     ensures range { IfSome result (λ found. IsInRange (task_of found)) }
 {
     if !are_given(&[Key::Db, Key::Civil], words) {
@@ -151,7 +157,8 @@ fn check(words: &[String]) -> Option<Command<'_>>
 }
 
 fn watch(words: &[String]) -> Option<Command<'_>>
-    ensures task { tasks_of result ≡ over watch_keys (map string_bytes words.now) (watch_of (map string_bytes words.now)) }
+    ensures task { tasks_of result ≡ over watch_keys (map string_bytes words.now)
+        (watch_of (map string_bytes words.now)) }
     ensures range { IfSome result (λ found. IsInRange (task_of found)) }
 {
     if !are_given(&[Key::Db, Key::Query, Key::Edits, Key::Cap], words) {
@@ -166,7 +173,8 @@ fn watch(words: &[String]) -> Option<Command<'_>>
 }
 
 fn sample(words: &[String]) -> Option<Command<'_>>
-    ensures task { tasks_of result ≡ over sample_keys (map string_bytes words.now) (sample_of (map string_bytes words.now)) }
+    ensures task { tasks_of result ≡ over sample_keys (map string_bytes words.now)
+        (sample_of (map string_bytes words.now)) }
     ensures range { IfSome result (λ found. IsInRange (task_of found)) }
 {
     if !are_given(&[Key::Seed, Key::Size], words) {
@@ -235,7 +243,7 @@ fn end(key: Key, civil: bool, words: &[String]) -> Option<i64>
 
 /// Whether the query may have temporal operators.
 fn tense(words: &[String]) -> Option<bool>
-    ensures { result ≡ tense_of (map string_bytes words.now) }
+    ensures { result ≡ tense_flag (map string_bytes words.now) }
 {
     flag(Key::Tense, words)
 }

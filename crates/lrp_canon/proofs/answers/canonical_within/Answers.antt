@@ -1,6 +1,6 @@
 -- The rows of all groups are counted, and where they are few their store has so many zones.
 use Rattle.std.proofs.Common.{◌≤◌, None, Some, arith, subst, sym}
-use Rattle.lrp_canon.specs.Canonical.{HasCanonicalRows}
+use Rattle.lrp_canon.specs.Canonical.{HasCanonicalZones}
 use Rattle.lrp_canon.proofs.CanonLaws.{count_if, more_if}
 use Rattle.lrp_canon.proofs.GroupEnds.{groups_repeat}
 use Rattle.lrp_canon.proofs.Standing.{rows_stand, stands}
@@ -12,13 +12,13 @@ rows_of-requires-clause-groups c = groups_repeat c.args.answer.store c.in_ok-per
 pub returns-in-Ok-clause-counted : goal.returns-in-Ok-clause-counted
 returns-in-Ok-clause-counted c =
     let s = c.args.answer.store in
-    let counted : HasCanonicalRows s c.in-Some.field-0 = count_if s c.in_ok-periods.ensures.valid c.requires.column c.in_ok-groups.groups.lists c.in_ok-groups.ensures c.in_ok-periods.periods c.in_ok-periods.ensures.whole c.in_ok-periods.ensures.least c.in_ok-rows.rows c.in_ok-rows.ensures c.args.most (omega (arith, c.ranges.most.fits)) (Some c.in-Some.field-0) c.in-Some.ensures.some in
-    subst (HasCanonicalRows s) (sym (counted.zones c.in-Ok.made.store c.in-Ok.ensures.store)) counted
+    let counted : HasCanonicalZones s c.in-Some.field-0 = count_if s c.in_ok-periods.ensures.valid c.requires.column c.in_ok-groups.groups.lists c.in_ok-groups.ensures c.in_ok-periods.periods c.in_ok-periods.ensures.whole c.in_ok-periods.ensures.least c.in_ok-rows.rows c.in_ok-rows.ensures c.args.most (omega (arith, c.ranges.most.fits)) (Some c.in-Some.field-0) c.in-Some.ensures.some in
+    subst (HasCanonicalZones s) (sym (counted.zones c.in-Ok.made.store c.in-Ok.ensures.store)) counted
 
 pub returns-in-Ok-clause-few : goal.returns-in-Ok-clause-few
 returns-in-Ok-clause-few c =
     let s = c.args.answer.store in
-    let counted : HasCanonicalRows s c.in-Some.field-0 = count_if s c.in_ok-periods.ensures.valid c.requires.column c.in_ok-groups.groups.lists c.in_ok-groups.ensures c.in_ok-periods.periods c.in_ok-periods.ensures.whole c.in_ok-periods.ensures.least c.in_ok-rows.rows c.in_ok-rows.ensures c.args.most (omega (arith, c.ranges.most.fits)) (Some c.in-Some.field-0) c.in-Some.ensures.some in
+    let counted : HasCanonicalZones s c.in-Some.field-0 = count_if s c.in_ok-periods.ensures.valid c.requires.column c.in_ok-groups.groups.lists c.in_ok-groups.ensures c.in_ok-periods.periods c.in_ok-periods.ensures.whole c.in_ok-periods.ensures.least c.in_ok-rows.rows c.in_ok-rows.ensures c.args.most (omega (arith, c.ranges.most.fits)) (Some c.in-Some.field-0) c.in-Some.ensures.some in
     subst (λ n. n ≤ c.args.most) (sym (counted.zones c.in-Ok.made.store c.in-Ok.ensures.store)) c.in-Some.ensures.some.1
 
 pub returns-clause-none : goal.returns-clause-none

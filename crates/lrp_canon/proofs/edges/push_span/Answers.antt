@@ -7,7 +7,7 @@ use Rattle.lrp_theory.specs.Bounds.{Within}
 use Rattle.lrp_theory.specs.Entries.{AtMost}
 use Rattle.lrp_matrix.specs.Ranges.{Above}
 use Rattle.lrp_spans.specs.declared.spans.Span.{Span}
-use Rattle.lrp_spans.specs.Spans.{HasNumber, IsSpan}
+use Rattle.lrp_spans.specs.Spans.{SpansHaveNumber, IsSpan}
 use Rattle.lrp_spans.proofs.Lists.{one_in}
 use Rattle.lrp_canon.specs.Edges.{AddsEdges}
 use Rattle.lrp_canon.proofs.PushLaws.{IsInTurns, turns_begin, turns_end, turns_next}
@@ -37,7 +37,7 @@ up_to : (s t n : ℤ) → s ≤ℤ t → n ≡ t +ℤ pos 1 → s ≤ℤ n
 up_to s t n l e = omega (arith, ints)
 
 -- the number of a turn between both ends
-turn_number : (whole : ℕ) (span : Span) (first last t : ℤ) → span.first ≡ Some first → span.last ≡ Some last → first ≤ℤ t → t ≤ℤ last → HasNumber whole (span ∷ []) (pos span.residue +ℤ (pos whole *ℤ t))
+turn_number : (whole : ℕ) (span : Span) (first last t : ℤ) → span.first ≡ Some first → span.last ≡ Some last → first ≤ℤ t → t ≤ℤ last → SpansHaveNumber whole (span ∷ []) (pos span.residue +ℤ (pos whole *ℤ t))
 turn_number whole span first last t ef el l h = record { residue = span.residue; turn = t; is = refl; inside = record { span = span; listed = one_in span; is = record { residue = refl; low = subst (Above t) (sym ef) l; high = subst (Within t) (sym el) h } } }
 
 -- behind the last turn

@@ -2,7 +2,7 @@
 use Rattle.std.proofs.Common.{◌+◌, ◌-◌, ◌^◌, arith, subst, sym}
 use Rattle.std.specs.Prelude.{AllPairs}
 use Rattle.std.proofs.lemmas.Result.{IfOk-weaker}
-use Rattle.lrp_spans.specs.Spans.{HasNumber}
+use Rattle.lrp_spans.specs.Spans.{SpansHaveNumber}
 use Rattle.lrp_canon.specs.Edges.{AreBeginnings, AreStops, IsEarlier}
 use Rattle.lrp_canon.specs.Making.{AreRowsOf}
 use Rattle.lrp_canon.specs.Pairing.{AreRowsFrom, AreStopEdges}
@@ -17,13 +17,13 @@ paired-requires-clause-starts c = subst (AllPairs IsEarlier) (sym c.deref.ensure
 
 pub paired-requires-clause-stops : goal.paired-requires-clause-stops
 paired-requires-clause-stops c = subst (AreStopEdges c.args.periods.least) (sym c.deref-2.ensures.value)
-    (stop_edges (HasNumber c.args.periods.whole c.args.spans.now) c.args.periods.least c.in_ok-stops.stops.items
+    (stop_edges (SpansHaveNumber c.args.periods.whole c.args.spans.now) c.args.periods.least c.in_ok-stops.stops.items
     (omega (arith, step_of c.args.periods c.args.spans.now c.requires, c.requires.high)) c.in_ok-stops.ensures)
 
 pub returns : goal.returns
-returns c = IfOk-weaker c.paired.result (λ made. AreRowsFrom c.args.periods.least c.deref-2.result.now c.deref.result.now made.items) (λ made. AreRowsOf (HasNumber c.args.periods.whole c.args.spans.now) c.args.periods.least made.items)
-    (λ made paired. rows_are (HasNumber c.args.periods.whole c.args.spans.now) (λ x. decided_number c.args.periods.whole c.args.spans.now x c.requires.positive) c.args.periods.least (2 ^ 62 - c.args.periods.whole + 1) c.requires.low c.requires.repeats
+returns c = IfOk-weaker c.paired.result (λ made. AreRowsFrom c.args.periods.least c.deref-2.result.now c.deref.result.now made.items) (λ made. AreRowsOf (SpansHaveNumber c.args.periods.whole c.args.spans.now) c.args.periods.least made.items)
+    (λ made paired. rows_are (SpansHaveNumber c.args.periods.whole c.args.spans.now) (λ x. decided_number c.args.periods.whole c.args.spans.now x c.requires.positive) c.args.periods.least (2 ^ 62 - c.args.periods.whole + 1) c.requires.low c.requires.repeats
     c.deref.result.now c.deref-2.result.now
-    (subst (AreBeginnings (HasNumber c.args.periods.whole c.args.spans.now) c.args.periods.least) (sym c.deref.ensures.value) c.in_ok-starts.ensures)
-    (subst (AreStops (HasNumber c.args.periods.whole c.args.spans.now) c.args.periods.least) (sym c.deref-2.ensures.value) c.in_ok-stops.ensures)
+    (subst (AreBeginnings (SpansHaveNumber c.args.periods.whole c.args.spans.now) c.args.periods.least) (sym c.deref.ensures.value) c.in_ok-starts.ensures)
+    (subst (AreStops (SpansHaveNumber c.args.periods.whole c.args.spans.now) c.args.periods.least) (sym c.deref-2.ensures.value) c.in_ok-stops.ensures)
     made.items paired (omega (arith, step_of c.args.periods c.args.spans.now c.requires, c.requires.high))) c.paired.ensures

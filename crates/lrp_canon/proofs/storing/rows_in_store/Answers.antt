@@ -2,7 +2,7 @@
 use Rattle.std.proofs.Common.{◌∙◌, ◌++◌, ◌∷◌, [], ap, append-nil, append_assoc, arith, subst, sym, w64}
 use Rattle.std.specs.Prelude.{AllPairs, Contains, nat_abs}
 use Rattle.std.proofs.lemmas.Int.{to_z_pos}
-use Rattle.lrp_spans.specs.Spans.{HasNumber}
+use Rattle.lrp_spans.specs.Spans.{SpansHaveNumber}
 use Rattle.lrp_store.specs.Stores.{StoreView}
 use Rattle.lrp_canon.specs.declared.rows.Row.{Row}
 use Rattle.lrp_canon.specs.Edges.{AreRepeating}
@@ -42,7 +42,7 @@ loop-group-preserved c =
       period = same_period c.in-Some.group c.in_ok-rows.rows.items c.loop-group.store c.add_rows.new.out added ∙ c.loop-group.invariant.period;
       holds = holds_next c.args.periods c.args.shape c.args.groups.now.lists c.requires.groups (keys_apart c.args.groups.now.lists) c.cells-group-items.ensures.filled c.loop-group.invariant.done c.in-Some.group c.next.new.self c.loop-group.group-iterator c.in-Some.ensures.steps c.loop-group.invariant.keys
           c.in_ok-spans.spans.items c.in_ok-rows.rows.items c.loop-group.store c.add_rows.new.out c.shape.ensures.valid c.loop-group.invariant.shape c.loop-group.invariant.period c.in_ok-spans.ensures
-          (subst (λ spans. AreRowsOf (HasNumber c.args.periods.whole spans) c.args.periods.least c.in_ok-rows.rows.items) c.deref.ensures.value c.in_ok-rows.ensures) added c.loop-group.invariant.holds;
+          (subst (λ spans. AreRowsOf (SpansHaveNumber c.args.periods.whole spans) c.args.periods.least c.in_ok-rows.rows.items) c.deref.ensures.value c.in_ok-rows.ensures) added c.loop-group.invariant.holds;
     }
 
 pub returns-clause-holds : goal.returns-clause-holds

@@ -1,7 +1,7 @@
 use Rattle.std.proofs.Common.{sym}
 use Rattle.lrp_limits.proofs.Greatest.{flat_map_step}
 use Rattle.lrp_limits.proofs.Keeping.{keeps_more, keeps_as}
-use Rattle.lrp_kept.specs.Limits.{row_periods}
+use Rattle.lrp_model.specs.Periods.{row_periods}
 use Rattle.lrp_keep.proofs.states.with_all_periods.Goals as goal
 
 pub loop-row-preserved : goal.loop-row-preserved

@@ -1,6 +1,6 @@
 use Rattle.std.proofs.Common.{take, flat_map}
 use Rattle.lrp_limits.specs.Facts.{KeepsPeriod}
-use Rattle.lrp_kept.specs.Limits.{row_periods}
+use Rattle.lrp_model.specs.Periods.{row_periods}
 use Rattle.lrp_kept.specs.Sizes.{number_in}
 use Rattle.lrp_keep.proofs.states.with_all_periods.Given as goal
 

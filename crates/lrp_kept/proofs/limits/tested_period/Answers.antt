@@ -1,13 +1,13 @@
 use Rattle.std.proofs.Common.{[], ◌++◌, take, flat_map, sym, subst}
 use Rattle.lrp_model.specs.Periods.{test_periods}
-use Rattle.lrp_limits.specs.Multiples.{IsLeastOf, IsPeriodOf}
+use Rattle.lrp_limits.specs.Multiples.{IsLeastWithinLimit, IsPeriodOf}
 use Rattle.lrp_limits.proofs.Greatest.{flat_map_step}
 use Rattle.lrp_limits.proofs.Keeping.{least_of_none}
 use Rattle.lrp_kept.specs.Sizes.{number_in, tested_periods}
 use Rattle.lrp_kept.proofs.limits.tested_period.Goals as goal
 
 pub loop-disjunct-init : goal.loop-disjunct-init
-loop-disjunct-init c = subst (IsLeastOf []) (sym c.one.ensures) least_of_none
+loop-disjunct-init c = subst (IsLeastWithinLimit []) (sym c.one.ensures) least_of_none
 
 pub loop-disjunct-preserved : goal.loop-disjunct-preserved
 loop-disjunct-preserved c =

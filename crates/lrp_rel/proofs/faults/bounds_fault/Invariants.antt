@@ -2,7 +2,7 @@
 use Rattle.std.proofs.Common.{◌≡◌, List, drop}
 use Rattle.std.specs.List.{flat_map}
 use Rattle.indexmap.specs.IndexSet.{keys}
-use Rattle.lrp_model.specs.Faults.{first}
+use Rattle.lrp_model.specs.Faults.{earliest}
 use Rattle.lrp_model.specs.DatabaseFaults.{database_standing}
 use Rattle.lrp_model.specs.declared.raw.RawColumn.{RawColumn}
 use Rattle.lrp_rel.specs.Sooner.{sooner}
@@ -13,4 +13,4 @@ use Rattle.lrp_rel.proofs.faults.bounds_fault.Given as goal
 abbrev pub invariant-loop-bound : goal.invariant-loop-bound
 invariant-loop-bound l =
     (columns : List RawColumn) → AreTimesOf columns (keys l.times)
-    → sooner database_standing l.best (first database_standing (flat_map (bound_faults columns) (drop l.bound-index l.bounds))) ≡ first database_standing (flat_map (bound_faults columns) l.bounds)
+    → sooner database_standing l.best (earliest database_standing (flat_map (bound_faults columns) (drop l.bound-index l.bounds))) ≡ earliest database_standing (flat_map (bound_faults columns) l.bounds)

@@ -1,6 +1,6 @@
 -- One value more, up to the last column or value.
 use Rattle.std.proofs.Common.{◌<◌, ◌≤◌, ◌∙◌, ap, sym, length, min, arith}
-use Rattle.lrp_model.specs.Faults.{first}
+use Rattle.lrp_model.specs.Faults.{earliest}
 use Rattle.lrp_model.specs.DatabaseFaults.{database_standing}
 use Rattle.lrp_rel.specs.Sooner.{sooner}
 use Rattle.lrp_rel.proofs.FirstFault.{sooner_than_none}
@@ -23,4 +23,4 @@ returns c =
     let values = c.args.values.now in
     let i = c.loop-i.i in
     let past : min (length columns) (length values) ≤ i = omega (arith, c.loop-i-test.false, c.min-i-end.ensures) in
-    sym (sooner_than_none database_standing c.loop-i.best) ∙ ap (λ l. sooner database_standing c.loop-i.best (first database_standing l)) (sym (sorts_end columns values i past)) ∙ c.loop-i.invariant
+    sym (sooner_than_none database_standing c.loop-i.best) ∙ ap (λ l. sooner database_standing c.loop-i.best (earliest database_standing l)) (sym (sorts_end columns values i past)) ∙ c.loop-i.invariant

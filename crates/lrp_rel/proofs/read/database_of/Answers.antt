@@ -1,6 +1,6 @@
 -- What is gathered without a fault is kept.
 use Rattle.std.proofs.Common.{◌≡◌, ◌<◌, ◌∙◌, List, None, sym, subst, length}
-use Rattle.lrp_model.specs.Faults.{first}
+use Rattle.lrp_model.specs.Faults.{earliest}
 use Rattle.lrp_model.specs.Domains.{database_texts}
 use Rattle.lrp_model.specs.DatabaseFaults.{database_standing, database_faults}
 use Rattle.lrp_model.specs.declared.relations.Relation.{Relation}
@@ -15,14 +15,14 @@ use Rattle.lrp_rel.proofs.read.database_of.Goals as goal
 pub of-requires-clause-kept : goal.of-requires-clause-kept
 of-requires-clause-kept c =
     let said = c.requires.said in
-    let none : first database_standing (database_faults said.tree) ≡ None = sym (c.fault.ensures said.tree said.are) ∙ c.in-None.is in
+    let none : earliest database_standing (database_faults said.tree) ≡ None = sym (c.fault.ensures said.tree said.are) ∙ c.in-None.is in
     let sound = gathered_sound said.tree c.args.gathered said.are none in
     subst AreKept (sym sound.meant) (tree_kept said.tree said.text.lawful sound.sound (tree_named c.requires.bytes said.tree said.text.spelled) (tree_texted c.requires.bytes said.tree said.text.utf8 said.text.spelled))
 
 pub of-requires-clause-few : goal.of-requires-clause-few
 of-requires-clause-few c =
     let said = c.requires.said in
-    let none : first database_standing (database_faults said.tree) ≡ None = sym (c.fault.ensures said.tree said.are) ∙ c.in-None.is in
+    let none : earliest database_standing (database_faults said.tree) ≡ None = sym (c.fault.ensures said.tree said.are) ∙ c.in-None.is in
     let sound = gathered_sound said.tree c.args.gathered said.are none in
     let P : List Relation → Type 0 = λ rs. length (database_texts rs) < 16777216 in
     subst P (sym sound.meant) (few_texts c.requires.bytes said.tree c.requires.short said.text.spelled)
