@@ -116,6 +116,13 @@ def tense_queries():
     yield "deep operators", filled(b"{ t: time | " + b"once t (0,1) " * 60 + b"(s(t)", b" and s(t)", b")}")
 
 
+def spent(process):
+    """The processor seconds that a process has used so far; one that has ended still tells them until it is waited for."""
+    with open("/proc/%d/stat" % process) as file:
+        fields = file.read().rpartition(")")[2].split()
+    return (int(fields[11]) + int(fields[12])) / os.sysconf("SC_CLK_TCK")
+
+
 class Clock:
     """Runs the program until its first byte or its end, and counts whether that comes in time."""
 
@@ -126,18 +133,21 @@ class Clock:
         child = subprocess.Popen(
             [self.program.path, *words],
             cwd=self.program.folder,
+            # As the launcher starts it.
+            env={"GLIBC_TUNABLES": "glibc.malloc.mxfast=0", **os.environ},
             stdin=subprocess.DEVNULL,
             stdout=subprocess.PIPE,
             stderr=subprocess.DEVNULL,
             preexec_fn=lambda: resource.setrlimit(resource.RLIMIT_CPU, (2 * SECONDS, 2 * SECONDS)),
         )
         first = child.stdout.read(1)
+        took = spent(child.pid)
         text = first + os.read(child.stdout.fileno(), 60) if first else b""
         os.kill(child.pid, signal.SIGKILL)
         child.stdout.close()
         _, status, used = os.wait4(child.pid, 0)
         child.returncode = 0
-        took, size = used.ru_utime + used.ru_stime, used.ru_maxrss / 1024
+        size = used.ru_maxrss / 1024
         self.slowest.append((took, size, "%s, %s" % (words[0], name)))
         is_right = took <= SECONDS and text != b"refused: memory\n"
         self.tally.check(is_right, "%s, %s: %.1f s, %.0f MB" % (words[0], name, took, size), text)
