@@ -12,7 +12,7 @@ use Rattle.lrp_zone.specs.Zones.{IsMember, IsZone, ZoneView, columns_of}
 use Rattle.lrp_zone.proofs.Reaches.{reach_small}
 use Rattle.lrp_store.specs.Stores.{HasReach, IsStore, StoreView, tables_at, zone_of}
 use Rattle.lrp_store.proofs.Held.{zone_held}
-use Rattle.lrp_minus.proofs.IntervalLaws.{in_line, line_cell, line_high, line_low}
+use Rattle.lrp_zone.proofs.Lines.{in_line, line_cell, line_high, line_low}
 use Rattle.lrp_spans.specs.declared.spans.Span.{Span}
 use Rattle.lrp_spans.specs.Groups.{AreGroups, HoldsNumber, SpanLists}
 use Rattle.lrp_spans.specs.Periods.{IsEndPeriod, RepeatsFar}

@@ -22,7 +22,7 @@ use Rattle.lrp_list.proofs.Apart.{far_apart, has_of}
 use Rattle.lrp_list.proofs.Lists.{from_flat, in_flat}
 use Rattle.lrp_spans.specs.Groups.{HoldsNumber}
 use Rattle.lrp_spans.proofs.GroupLaws.{zone_column, zone_period}
-use Rattle.lrp_spans.proofs.Lines.{in_line, line_cell, line_high, line_low}
+use Rattle.lrp_zone.proofs.Lines.{in_line, line_cell, line_high, line_low}
 use Rattle.lrp_spans.proofs.Lists.{head_in, in_cons, in_map, in_none, in_one, later, map_in, one_in, pairs_none, pairs_one}
 use Rattle.lrp_canon.specs.Canonical.{IsCanonical, IsCanonicalOf}
 use Rattle.lrp_canon.specs.Rows.{AreJust, HasRowCount, IsOpenBelow, IsStart, Moment}

@@ -23,7 +23,7 @@ turns_between (Some a) (Some b) = nat_abs ((b +ℤ pos 1) -ℤ a)
 turns_between (Some a) None = 0
 turns_between None b = 0
 
--- the number of turns of a span with both ends
+-- the number of turns of a span; one that is counted has both ends
 abbrev pub turns_of : Span → ℕ
 turns_of s = turns_between s.first s.last
 

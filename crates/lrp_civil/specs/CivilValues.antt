@@ -24,6 +24,7 @@ is_civil (On date time) = is_date date && is_time_of_day time
 abbrev pub day_names : List (List ℕ)
 day_names = codes "mon" ∷ codes "tue" ∷ codes "wed" ∷ codes "thu" ∷ codes "fri" ∷ codes "sat" ∷ codes "sun" ∷ []
 
+-- the name of a weekday; a civil value has one of the seven
 abbrev pub day_name : ℕ → List ℕ
 day_name day = slice_index_or day_names day []
 

@@ -4,7 +4,7 @@ use Rattle.std.specs.List.{flat_map, AllByRecursion}
 use Rattle.std.specs.Str.{IsUtf8}
 use Rattle.lrp_model.specs.Lexing.{tokens, start}
 use Rattle.lrp_model.specs.Rows.{relation_named, columns_in}
-use Rattle.lrp_model.specs.Tokens.{Spells, joined_parts, located_text}
+use Rattle.lrp_model.specs.Tokens.{Spells, located_text}
 use Rattle.lrp_model.specs.Tokens.Token.{end_token}
 use Rattle.lrp_model.specs.Tokens.Part.{any}
 use Rattle.lrp_model.specs.Databases.{name_part, row_text}
@@ -27,10 +27,10 @@ use Rattle.lrp_edits.proofs.EditLemmas.{same_columns}
 -- ---- texts that are UTF-8
 
 -- the texts of the row of each edit
-all_texted : (tree : List RawEdit) → AllByRecursion TextPart (joined_parts edit_text tree) → AllByRecursion (λ e. RowHasTexts e.row) tree
+all_texted : (tree : List RawEdit) → AllByRecursion TextPart (flat_map edit_text tree) → AllByRecursion (λ e. RowHasTexts e.row) tree
 all_texted [] h = tt
 all_texted (e ∷ tree) h =
-    let rest = joined_parts edit_text tree in
+    let rest = flat_map edit_text tree in
     let row = located_text row_text e.row in
     let first : AllByRecursion TextPart (edit_text e) = all_front TextPart (edit_text e) rest h in
     let behind = all_tail TextPart (name_part e.relation) row (all_tail TextPart (change_part e.add) (name_part e.relation ∷ row) first) in
@@ -39,7 +39,7 @@ all_texted (e ∷ tree) h =
 -- the texts in edits that bytes of UTF-8 spell
 edits_texted : (bytes : List ℕ) (tree : List RawEdit) → IsUtf8 bytes → Spells (edits_text tree) (tokens bytes) → AllByRecursion (λ e. RowHasTexts e.row) tree
 edits_texted bytes tree u h =
-    all_texted tree (all_front TextPart (joined_parts edit_text tree) (any end_token ∷ []) (takes_texted (edits_text tree) (tokens bytes) [] h (tokens_texted (suc (length bytes)) start bytes u)))
+    all_texted tree (all_front TextPart (flat_map edit_text tree) (any end_token ∷ []) (takes_texted (edits_text tree) (tokens bytes) [] h (tokens_texted (suc (length bytes)) start bytes u)))
 
 -- ---- rows of their columns
 
@@ -65,23 +65,23 @@ said_lawful bytes db es d =
 -- ---- few texts
 
 -- edits have more parts than texts
-edits_count : (db : List Relation) (tree : List RawEdit) → length (flat_map (edit_texts db) (map (edit_of db) tree)) ≤ length (joined_parts edit_text tree)
+edits_count : (db : List Relation) (tree : List RawEdit) → length (flat_map (edit_texts db) (map (edit_of db) tree)) ≤ length (flat_map edit_text tree)
 edits_count db [] = omega arith
 edits_count db (e ∷ tree) =
     let cs = columns_in (relation_named db e.relation.item) in
     let a = length-append (edit_texts db (edit_of db e)) (flat_map (edit_texts db) (map (edit_of db) tree)) in
-    let b = length-append (edit_text e) (joined_parts edit_text tree) in
+    let b = length-append (edit_text e) (flat_map edit_text tree) in
     let c = row_count cs (written_columns cs) e.row in
     let d = edits_count db tree in
     omega (arith, a, b, c, d)
 
 -- the same where there is an edit
-edits_fewer : (db : List Relation) (tree : List RawEdit) (n : ℕ) → 0 < n → length (joined_parts edit_text tree) ≤ n → length (flat_map (edit_texts db) (map (edit_of db) tree)) < n
+edits_fewer : (db : List Relation) (tree : List RawEdit) (n : ℕ) → 0 < n → length (flat_map edit_text tree) ≤ n → length (flat_map (edit_texts db) (map (edit_of db) tree)) < n
 edits_fewer db [] n some le = omega (arith, some)
 edits_fewer db (e ∷ tree) n some le =
     let cs = columns_in (relation_named db e.relation.item) in
     let a = length-append (edit_texts db (edit_of db e)) (flat_map (edit_texts db) (map (edit_of db) tree)) in
-    let b = length-append (edit_text e) (joined_parts edit_text tree) in
+    let b = length-append (edit_text e) (flat_map edit_text tree) in
     let c = row_count cs (written_columns cs) e.row in
     let d = edits_count db tree in
     omega (arith, a, b, c, d, le)
@@ -90,7 +90,7 @@ edits_fewer db (e ∷ tree) n some le =
 pub said_few : (bytes : List ℕ) (db : List Relation) (es : List Edit) → length bytes ≤ 16777216 → SaysEdits bytes db es → HaveFewTexts db es
 said_few bytes db es short d =
     let a = takes_count (edits_text d.tree) (tokens bytes) d.text.spelled in
-    let b = length-append (joined_parts edit_text d.tree) (any end_token ∷ []) in
+    let b = length-append (flat_map edit_text d.tree) (any end_token ∷ []) in
     let c = tokens_count (suc (length bytes)) start bytes in
     let P : List Edit → Type 0 = λ l. length (flat_map (edit_texts db) l) < 16777216 in
     subst P (sym d.meant) (edits_fewer db d.tree 16777216 (omega arith) (omega (arith, a, b, c, short)))

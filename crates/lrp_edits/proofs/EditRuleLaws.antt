@@ -1,5 +1,6 @@
 -- The rules for edits: local, complete, sound and viable, so that they refuse exactly where the grammar says, and never for depth.
 use Rattle.std.proofs.Common.{◌≡◌, ◌<◌, ◌≤◌, ◌+◌, ℕ, suc, Bool, true, false, List, [], ◌∷◌, ◌++◌, inl, refl, sym, subst, Ok, Err, if◌then◌else◌, length, arith, append-nil}
+use Rattle.std.specs.List.{flat_map}
 use Rattle.lrp_model.specs.declared.tokens.Symbol.{Symbol}
 use Rattle.lrp_model.specs.declared.tokens.Symbol.TheVariants.{Open, Close, Semicolon, Plus, Minus}
 use Rattle.lrp_model.specs.declared.tokens.Fault.{Fault}
@@ -7,7 +8,7 @@ use Rattle.lrp_model.specs.declared.written.Located.{Located}
 use Rattle.lrp_model.specs.declared.written.RawRow.{RawRow}
 use Rattle.lrp_model.specs.Texts.{Identifier}
 use Rattle.lrp_model.specs.Lexing.{start}
-use Rattle.lrp_model.specs.Tokens.{Placed, Tokens, Part, Takes, Spells, located_text, joined_parts}
+use Rattle.lrp_model.specs.Tokens.{Placed, Tokens, Part, Takes, Spells, located_text}
 use Rattle.lrp_model.specs.Tokens.Token.{name_token, symbol_token, end_token}
 use Rattle.lrp_model.specs.Tokens.Part.{any}
 use Rattle.lrp_model.specs.Refused.{Stops, TextOf, IsRefusedAt}
@@ -105,9 +106,9 @@ edit_has_token e = omega arith
 edits_complete : (n : ℕ) (es : List RawEdit) (ts : Tokens) → length ts < n → Spells (edits_text es) ts → Answers (edits n ts) es [] (FitsEdits es)
 unfolding edits
 edits_complete n es ts lt h =
-    let k = takes_split (joined_parts edit_text es) (any end_token ∷ []) ts [] h in
-    let size : length k.0 + length (joined_parts edit_text es) ≡ length ts = takes_shorter (joined_parts edit_text es) ts k.0 k.1 in
-    let few : length es ≤ length (joined_parts edit_text es) = joined_long edit_text edit_has_token es in
+    let k = takes_split (flat_map edit_text es) (any end_token ∷ []) ts [] h in
+    let size : length k.0 + length (flat_map edit_text es) ≡ length ts = takes_shorter (flat_map edit_text es) ts k.0 k.1 in
+    let few : length es ≤ length (flat_map edit_text es) = joined_long edit_text edit_has_token es in
     let L : Type 0 = FitsEdits es in
     answers_then (until_from (edit n) is_end n [] ts) _ es k.0 es [] L
     (until_back (edits_member n) n [] es (omega (arith, few, size, lt)) ts k.0 lt k.1 (first_sees_any false is_end_token end_token [] k.0 [] k.2) tt)
@@ -155,10 +156,10 @@ edit_sound n ts q e =
     )
 
 -- the edits before the end that are read are spelled so, and are lawful
-all_sound : (n : ℕ) → Sound (until_from (edit n) is_end n []) (joined_parts edit_text) FitsEdits
+all_sound : (n : ℕ) → Sound (until_from (edit n) is_end n []) (flat_map edit_text) FitsEdits
 all_sound n ts q e =
     let k = until_sound (edit n) edit_text FitsEdit is_end (edit_sound n) n [] ts q e in
-    let R : List RawEdit → Type 0 = λ l. Takes (joined_parts edit_text l) ts q.1 × FitsEdits l in
+    let R : List RawEdit → Type 0 = λ l. Takes (flat_map edit_text l) ts q.1 × FitsEdits l in
     subst R (sym k.made) (k.spelled, k.fits)
 
 -- what is read as edits is lawful, and the tokens spell it
@@ -170,7 +171,7 @@ edits_sound n ts q e =
     let h : (es.0.0, u.0.1) ≡ q = cc in
     let read = all_sound n ts es.0 es.1 in
     subst (λ y. Takes (edits_text y.0) ts y.1 × FitsEdits y.0) h
-    (takes_join (joined_parts edit_text es.0.0) (any end_token ∷ []) ts es.0.1 u.0.1 read.0 (end_sound es.0.1 u.0 u.1).0, read.1)
+    (takes_join (flat_map edit_text es.0.0) (any end_token ∷ []) ts es.0.1 u.0.1 read.0 (end_sound es.0.1 u.0 u.1).0, read.1)
 
 -- ---- viable
 
@@ -223,10 +224,10 @@ edits_viable : (n : ℕ) (ts : Tokens) (e : Fault × Tokens) → length ts < n �
 unfolding edits
 edits_viable n ts e lt h =
     let R : Bool → Tokens → Type 0 = TextOf edits_text FitsEdits in
-    sub_short (until_from (edit n) is_end n []) _ (joined_parts edit_text) FitsEdits R ts e (all_sound n) (λ d. until_viable (edit n) edit_text FitsEdit is_end n (edit_sound n) (edit_viable n) edit_has_token n [] ts e lt lt d) h
-    (λ c es x spelled fit. (ending, (es, fit, spells_join (joined_parts edit_text es) (any end_token ∷ []) x ending spelled (refl, refl))))
+    sub_short (until_from (edit n) is_end n []) _ (flat_map edit_text) FitsEdits R ts e (all_sound n) (λ d. until_viable (edit n) edit_text FitsEdit is_end n (edit_sound n) (edit_viable n) edit_has_token n [] ts e lt lt d) h
+    (λ c es x spelled fit. (ending, (es, fit, spells_join (flat_map edit_text es) (any end_token ∷ []) x ending spelled (refl, refl))))
     (λ es h1 us s1 f1 l1 d1. sub_short expect_end _ (One end_part) (λ u. Unit {0}) (λ c x. R c (h1 ++ x)) us e end_sound (end_viable us e) d1
-    (λ c u x spelled fit. ([], (es, always (FitsEdits es) c f1, spells_join (joined_parts edit_text es) (any end_token ∷ []) h1 (x ++ []) s1 (subst (λ y. Spells (One end_part u) y) (sym (append-nil x)) spelled))))
+    (λ c u x spelled fit. ([], (es, always (FitsEdits es) c f1, spells_join (flat_map edit_text es) (any end_token ∷ []) h1 (x ++ []) s1 (subst (λ y. Spells (One end_part u) y) (sym (append-nil x)) spelled))))
     (λ u h2 vs s2 f2 l2 d2. absurd cc))
 
 -- ---- refused exactly where the grammar says

@@ -1,8 +1,8 @@
 -- The grammar of edits: what spells a written list of them, and which are lawful.
-use Rattle.std.specs.Prelude.{Bool, true, false, List, [], ◌∷◌, ◌++◌}
+use Rattle.std.specs.Prelude.{Bool, true, false, List, [], ◌∷◌, ◌++◌, flat_map}
 use Rattle.std.specs.List.{AllByRecursion}
 use Rattle.lrp_model.specs.declared.tokens.Symbol.TheVariants.{Plus, Minus}
-use Rattle.lrp_model.specs.Tokens.{Part, located_text, joined_parts}
+use Rattle.lrp_model.specs.Tokens.{Part, located_text}
 use Rattle.lrp_model.specs.Tokens.Token.{symbol_token, end_token}
 use Rattle.lrp_model.specs.Tokens.Part.{any}
 use Rattle.lrp_model.specs.Databases.{name_part, row_text, FitsRow}
@@ -19,7 +19,7 @@ edit_text e = change_part e.add ∷ name_part e.relation ∷ located_text row_te
 
 -- edits = { edit }, and behind them the end
 abbrev pub edits_text : List RawEdit → List Part
-edits_text es = joined_parts edit_text es ++ any end_token ∷ []
+edits_text es = flat_map edit_text es ++ any end_token ∷ []
 
 -- the row of an edit is lawful
 abbrev pub FitsEdit : RawEdit → Type 0

@@ -1,5 +1,5 @@
 -- The answers of all whole choices are those of the query.
-use Rattle.std.proofs.Common.{◌≡◌, ◌≢◌, ◌<◌, ◌+◌, ◌-◌, ℕ, zero, suc, Bool, true, false, cond, List, [], ◌∷◌, length, map, flat_map, Contains, Option, Some, None, ◌⊎◌, inl, inr, refl, sym, ap, ap₂, subst, ◌∙◌, bytes_eq, arith}
+use Rattle.std.proofs.Common.{◌≡◌, ◌≢◌, ◌<◌, ◌+◌, ◌-◌, ℕ, zero, suc, Bool, true, false, List, [], ◌∷◌, length, map, flat_map, Contains, Option, Some, None, ◌⊎◌, inl, inr, refl, sym, ap, subst, ◌∙◌, arith}
 use Rattle.std.specs.Prelude.{pos, ◌&&◌, not, slice_get}
 use Rattle.std.proofs.lemmas.List.{length-map}
 use Rattle.std.specs.List.{AllByRecursion, AllZip}
@@ -8,7 +8,7 @@ use Rattle.lrp_model.specs.Core.{conjuncts}
 use Rattle.lrp_model.specs.Domains.{domain as domain_of}
 use Rattle.lrp_model.specs.Formulas.{Form, Forms, Question, atom, test as test_form, sorted as sorted_form, negation, conjunction, disjunction, implication, exists, forall, no_forms, form}
 use Rattle.lrp_model.specs.Rows.{Datum, time, text, texts_of, times_of}
-use Rattle.lrp_model.specs.Satisfaction.{Assignment, HasShape, HaveDistinctNames, IsAnswer, IsOfKind, IsOfSort, Passes, Structure, assign, assignment, structure, with_value}
+use Rattle.lrp_model.specs.Satisfaction.{Assignment, HasShape, HaveDistinctNames, IsAnswer, IsOfKind, IsOfSort, Passes, Structure, assignment, structure}
 use Rattle.lrp_model.specs.Sorts.{is_data}
 use Rattle.lrp_model.specs.Texts.{AreDistinct, Ascends, Identifier, Text}
 use Rattle.lrp_model.specs.Variables.{Variable, data_variable, bound_by, head_variables}
@@ -23,7 +23,7 @@ use Rattle.lrp_plan_laws.proofs.Members.{all_by, all_of}
 use Rattle.lrp_store.specs.Stores.{IsStore, StoreView}
 use Rattle.lrp_store.specs.Tables.{InAnswer, StoreHolds}
 use Rattle.lrp_tables.proofs.TableLaws.{decided_store}
-use Rattle.lrp_tables.specs.Columns.{head_texts, head_times, text_name, texts_of_term, with_time_name}
+use Rattle.lrp_tables.specs.Columns.{head_texts, head_times, text_name, texts_of_term}
 use Rattle.lrp_tables.specs.Tables.{Has, HasTexts}
 use Rattle.lrp_parts.specs.Bound.{AreCompleted}
 use Rattle.lrp_kept.specs.Choices.{ChosenWithValues, IsChosenBy, IsDerived, as_list, listed_disjuncts, tests_among}
@@ -36,13 +36,13 @@ use Rattle.lrp_kept.specs.SortedForms.{IsSortedForm, binders_at}
 use Rattle.lrp_keep.specs.Unions.{AreDerived, HoldsAll}
 use Rattle.lrp_kept.specs.declared.disjuncts.Disjunct.{Disjunct}
 use Rattle.lrp_kept.specs.declared.disjuncts.JoinedAtom.{JoinedAtom}
-use Rattle.lrp_plan_laws.proofs.CoreLaws.{own_name}
-use Rattle.lrp_parts.proofs.Completed.{HasSortedTexts, binders_stay, from_chosen, in_the_end, other_text, other_time, to_chosen}
+use Rattle.lrp_parts.proofs.Completed.{HasSortedTexts, binders_stay, from_chosen, in_the_end, to_chosen}
 use Rattle.lrp_kept.proofs.Derived.{body_from, body_to}
 use Rattle.lrp_kept.proofs.DisjunctAtoms.{HaveOwnNames, atoms_are, binder_text, own_names_at, sorted_atoms, sorted_elements, some_text}
 use Rattle.lrp_parts.proofs.KeyedRows.{keys_chosen, rows_chosen}
 use Rattle.lrp_kept.proofs.MatchedTexts.{in_domain}
 use Rattle.lrp_parts.proofs.Parted.{tests_are}
+use Rattle.lrp_tables.proofs.TupleLaws.{tuple_times, tuple_texts}
 
 -- ---- lists
 
@@ -127,49 +127,6 @@ pub record RestsOn (g : Ground) (q : Question) (bs : List Column) (ds : List Dis
   pub known : (s : Sort) (t : Text) → Contains (domain_of (relations_of (get g.rows.sources) g.rows.relations.items) q s) t → Contains g.domain t
 
 -- ---- a tuple and its assignment
-
-own_value : {A : Type 0} (v : Identifier) (x y : A) → cond (bytes_eq v v) x y ≡ x
-own_value v x y = ap (λ b. cond b x y) (own_name v)
-
-keeps_time : (cs : List Column) (ds : List Datum) (env : Assignment) (w : Identifier) → AllByRecursion (λ c. w ≢ c.name) cs → (assign cs ds env).times w ≡ env.times w
-keeps_time [] [] env w h = refl
-keeps_time [] (d ∷ ds) env w h = refl
-keeps_time (c ∷ cs) [] env w h = refl
-keeps_time (c ∷ cs) (d ∷ ds) env w h = keeps_time cs ds (with_value c.name d env) w h.1 ∙ other_time c.name w d env h.0
-
-keeps_text : (cs : List Column) (ds : List Datum) (env : Assignment) (w : Identifier) → AllByRecursion (λ c. w ≢ c.name) cs → (assign cs ds env).texts w ≡ env.texts w
-keeps_text [] [] env w h = refl
-keeps_text [] (d ∷ ds) env w h = refl
-keeps_text (c ∷ cs) [] env w h = refl
-keeps_text (c ∷ cs) (d ∷ ds) env w h = keeps_text cs ds (with_value c.name d env) w h.1 ∙ other_text c.name w d env h.0
-
-first_time : (s : Sort) (v : Identifier) (d : Datum) (ds : List Datum) (env last : Assignment) (names : List Identifier) → IsOfKind s d → last.times v ≡ (with_value v d env).times v → map last.times names ≡ times_of ds → map last.times (with_time_name s v names) ≡ times_of (d ∷ ds)
-first_time Time v (time x) ds env last names k e r = ap₂ (λ a l. a ∷ l) (e ∙ own_value v x (env.times v)) r
-first_time Time v (text t) ds env last names k e r = absurd k
-first_time Data v (time x) ds env last names k e r = absurd k
-first_time Data v (text t) ds env last names k e r = r
-first_time (Named name) v (time x) ds env last names k e r = absurd k
-first_time (Named name) v (text t) ds env last names k e r = r
-
-first_text : (s : Sort) (v : Identifier) (d : Datum) (ds : List Datum) (env last : Assignment) (names : List Identifier) → IsOfKind s d → last.texts v ≡ (with_value v d env).texts v → map last.texts names ≡ texts_of ds → map last.texts (text_name s v names) ≡ texts_of (d ∷ ds)
-first_text Time v (time x) ds env last names k e r = r
-first_text Time v (text t) ds env last names k e r = absurd k
-first_text Data v (time x) ds env last names k e r = absurd k
-first_text Data v (text t) ds env last names k e r = ap₂ (λ a l. a ∷ l) (e ∙ own_value v t (env.texts v)) r
-first_text (Named name) v (time x) ds env last names k e r = absurd k
-first_text (Named name) v (text t) ds env last names k e r = ap₂ (λ a l. a ∷ l) (e ∙ own_value v t (env.texts v)) r
-
-tuple_times : (cs : List Column) (ds : List Datum) (env : Assignment) → HaveDistinctNames cs → HasShape cs ds → map (assign cs ds env).times (head_times cs) ≡ times_of ds
-tuple_times [] [] env n k = refl
-tuple_times [] (d ∷ ds) env n k = absurd k
-tuple_times (c ∷ cs) [] env n k = absurd k
-tuple_times (c ∷ cs) (d ∷ ds) env n k = first_time c.sort c.name d ds env (assign cs ds (with_value c.name d env)) (head_times cs) k.0 (keeps_time cs ds (with_value c.name d env) c.name n.0) (tuple_times cs ds (with_value c.name d env) n.1 k.1)
-
-tuple_texts : (cs : List Column) (ds : List Datum) (env : Assignment) → HaveDistinctNames cs → HasShape cs ds → map (assign cs ds env).texts (head_texts cs) ≡ texts_of ds
-tuple_texts [] [] env n k = refl
-tuple_texts [] (d ∷ ds) env n k = absurd k
-tuple_texts (c ∷ cs) [] env n k = absurd k
-tuple_texts (c ∷ cs) (d ∷ ds) env n k = first_text c.sort c.name d ds env (assign cs ds (with_value c.name d env)) (head_texts cs) k.0 (keeps_text cs ds (with_value c.name d env) c.name n.0) (tuple_texts cs ds (with_value c.name d env) n.1 k.1)
 
 of_kind : (M : Structure) (s : Sort) (d : Datum) → IsOfSort M s d → IsOfKind s d
 of_kind M Time (time x) h = tt

@@ -83,7 +83,7 @@ pub record IsTakenOut (row : Row) (old new : List Row) : Type 0 where
 abbrev pub HasNoEqual : Row → List Row → Type 0
 HasNoEqual row rows = All (λ other. AreEqualRows other row → ⊥) rows
 
--- the number beside the relation of this name is raised to another one
+-- the number beside the relation of this name is raised to another one; each relation has a number, so the last case is that of none
 abbrev pub raised_at : Identifier → ℕ → List Relation → List ℕ → List ℕ
 raised_at name most (r ∷ rs) (n ∷ ns) = (if bytes_eq r.name name then max n most else n) ∷ raised_at name most rs ns
 raised_at name most _ ns = ns

@@ -278,7 +278,7 @@ pub record AreAllHeld (of : KeptQuery) (db : List Relation) (number : ℕ) (old 
   pub at : (i : ℕ) (h : HeldRelation) (r : Relation) → i < number → slice_get old.relations.items i ≡ Some h → slice_get db i ≡ Some r → (s : HeldRelation) × (slice_get new.relations.items i ≡ Some s) × IsFilled (get new.sources) r.rows h s
   pub sketched : (i k : ℕ) → Contains (keys_of new i) k → HasSketches of i (get new.sources k)
 
--- the periods in the rows of a relation, where there is one that some atom reads
+-- the periods in the rows of a relation that some atom reads, and none of another; only relations that are there are asked for
 abbrev pub periods_at : List Disjunct → ℕ → Option Relation → List ℕ
 periods_at ds number None = []
 periods_at ds number (Some r) = if list_any (is_reader number) ds then flat_map row_periods r.rows else []

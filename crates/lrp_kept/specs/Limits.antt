@@ -30,7 +30,7 @@ relation_bound relation = greatest (map row_bound relation.rows)
 abbrev pub names_relation : Form → Identifier → Bool
 names_relation f name = list_any (λ a. bytes_eq a.name name) (atoms f)
 
--- the number beside the relation of this name
+-- the number beside the relation of this name; an atom names one of the relations, and each has a number, so the last case is not met
 abbrev pub number_beside : List Relation → List ℕ → Identifier → ℕ
 number_beside (r ∷ rs) (n ∷ ns) name = if bytes_eq r.name name then n else number_beside rs ns name
 number_beside _ _ name = 0

@@ -24,7 +24,7 @@ is_reader relation d = list_any (λ a. a.relation == relation) d.atoms.items
 abbrev pub tested_periods : Disjunct → List ℕ
 tested_periods d = flat_map test_periods d.tests
 
--- the reach of an atom as a step of its own, by the greatest bounds of the relations
+-- the reach of an atom as a step of its own, by the greatest bounds of the relations; there is one for each relation
 abbrev pub joined_reach : List ℕ → ℕ → JoinedAtom → ℕ
 joined_reach bounds period a = slice_index_or bounds a.relation 0 + 2 * greatest (flat_map term_magnitudes a.terms) + period
 

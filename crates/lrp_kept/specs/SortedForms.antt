@@ -16,7 +16,7 @@ IsSortedTerm bs c (time_term t) = Unit {0}
 IsSortedTerm bs c (data_term (data_var v)) = (b : Column) × Contains bs b × (b.name ≡ v) × (b.sort ≡ c.sort)
 IsSortedTerm bs c (data_term (data_const t)) = Unit {0}
 
--- that of each term, in its column
+-- that of each term, in its column; an atom has a term for each column, so the last case is that of none
 abbrev pub AreSortedTerms : List Column → List Column → List Term → Type 0
 AreSortedTerms bs (c ∷ cs) (t ∷ ts) = IsSortedTerm bs c t × AreSortedTerms bs cs ts
 AreSortedTerms bs _ _ = Unit {0}

@@ -13,7 +13,7 @@ use Rattle.lrp_model.specs.declared.plans.StepKind.{StepKind}
 use Rattle.lrp_model.specs.declared.plans.StepKind.TheVariants.{Scan, Leaf, Sort as SortStep, Join, Select, Complement, DropTime, DropData, Extend}
 use Rattle.lrp_plan_laws.specs.Made.{IsEarlier, operands}
 
--- the period of step s
+-- the period of step s; only steps that are there are asked for
 abbrev pub period_at : Steps → ℕ → ℕ
 period_at steps s = unwrap_or (option_map (λ step. step.period) (step_at steps s)) 1
 

@@ -11,7 +11,7 @@ use Rattle.lrp_model.specs.declared.tokens.Word.{Word}
 use Rattle.lrp_model.specs.declared.tokens.Word.TheVariants.{Relation, Where, Time, Data, Letter}
 use Rattle.lrp_model.specs.declared.written.Integer.{Integer}
 use Rattle.lrp_model.specs.Texts.{Identifier}
-use Rattle.lrp_model.specs.Tokens.{Token, Part, from, joined_parts, separated}
+use Rattle.lrp_model.specs.Tokens.{Token, Part, from, separated}
 use Rattle.lrp_model.specs.Tokens.Token.{name_token, word_token, number_token, text_token, symbol_token}
 use Rattle.lrp_model.specs.Tokens.Part.{at, any}
 use Rattle.lrp_model.specs.Databases.{comma, integer_text}
@@ -211,7 +211,7 @@ separated_spelled text tree bytes P one (a ∷ b ∷ all) p rest h s =
 -- elements one after the other
 pub joined_spelled : {A B : Type 0} (text : B → List Part) (tree : Place → A → B) (bytes : A → List ℕ) (P : A → Type 0)
     → ((a : A) (p : Place) (rest : List ℕ) → P a → Spelled (text (tree p a)) p (bytes a) rest)
-    → (all : List A) (p : Place) (rest : List ℕ) → AllByRecursion P all → Spelled (joined_parts text (trees (behind bytes) tree p all)) p (flat_map bytes all) rest
+    → (all : List A) (p : Place) (rest : List ℕ) → AllByRecursion P all → Spelled (flat_map text (trees (behind bytes) tree p all)) p (flat_map bytes all) rest
 joined_spelled text tree bytes P one [] p rest h = nothing p rest
 joined_spelled text tree bytes P one (a ∷ all) p rest h =
     both (one a p (flat_map bytes all ++ rest) h.0) (joined_spelled text tree bytes P one all (after p (bytes a)) rest h.1)

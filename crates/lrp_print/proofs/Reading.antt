@@ -4,7 +4,7 @@ use Rattle.std.specs.List.{flat_map, AllByRecursion}
 use Rattle.lrp_model.specs.declared.tokens.Place.{Place}
 use Rattle.lrp_model.specs.declared.relations.Relation.{Relation}
 use Rattle.lrp_model.specs.declared.written.RawRelation.{RawRelation}
-use Rattle.lrp_model.specs.Tokens.{Takes, Spells, joined_parts}
+use Rattle.lrp_model.specs.Tokens.{Takes, Spells}
 use Rattle.lrp_model.specs.Tokens.Token.{end_token}
 use Rattle.lrp_model.specs.Tokens.Part.{any}
 use Rattle.lrp_model.specs.Lexing.{after, start, tokens, tokens_from, skip, scan}
@@ -34,9 +34,9 @@ database_tree = trees (behind relation_bytes) relation_tree start
 pub database_spelled : (rs : List Relation) → AllByRecursion IsKept rs → Spells (database_text (database_tree rs)) (tokens (database_bytes rs))
 database_spelled rs k =
     let bytes = flat_map relation_bytes rs in
-    let whole : Takes (joined_parts relation_text (database_tree rs)) (tokens_at start (bytes ++ [])) (tokens_at (after start bytes) []) = (relations_spelled rs start [] k).takes in
+    let whole : Takes (flat_map relation_text (database_tree rs)) (tokens_at start (bytes ++ [])) (tokens_at (after start bytes) []) = (relations_spelled rs start [] k).takes in
     let P : List ℕ → Type 0 = λ bs. Spells (database_text (database_tree rs)) (tokens_at start bs) in
-    subst P (append-nil bytes) (takes_join (joined_parts relation_text (database_tree rs)) (any end_token ∷ []) (tokens_at start (bytes ++ [])) (tokens_at (after start bytes) []) [] whole (the_end (after start bytes)))
+    subst P (append-nil bytes) (takes_join (flat_map relation_text (database_tree rs)) (any end_token ∷ []) (tokens_at start (bytes ++ [])) (tokens_at (after start bytes) []) [] whole (the_end (after start bytes)))
 
 -- relations that are kept read back
 pub reads_back : (rs : List Relation) → AreKept rs → ReadsBack rs

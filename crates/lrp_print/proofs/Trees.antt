@@ -33,7 +33,7 @@ use Rattle.lrp_model.specs.declared.written.RawRelation.{RawRelation}
 use Rattle.lrp_model.specs.Texts.{Identifier}
 use Rattle.lrp_model.specs.DataTexts.{IsDataText}
 use Rattle.lrp_model.specs.Sorts.{is_time, time_count}
-use Rattle.lrp_model.specs.Tokens.{from, located_text, joined_parts}
+use Rattle.lrp_model.specs.Tokens.{from, located_text}
 use Rattle.lrp_model.specs.Tokens.Token.{word_token, number_token, symbol_token}
 use Rattle.lrp_model.specs.Tokens.Part.{at, any}
 use Rattle.lrp_model.specs.Columns.{column_text, sort_token}
@@ -329,5 +329,5 @@ relation_spelled r p rest k =
     (both (close_brace ended (10 ∷ rest)) (feed (after ended (125 ∷ [])) rest)))))))
 
 -- relations, one after the other
-pub relations_spelled : (rs : List Relation) (p : Place) (rest : List ℕ) → AllByRecursion IsKept rs → Spelled (joined_parts relation_text (trees (behind relation_bytes) relation_tree p rs)) p (flat_map relation_bytes rs) rest
+pub relations_spelled : (rs : List Relation) (p : Place) (rest : List ℕ) → AllByRecursion IsKept rs → Spelled (flat_map relation_text (trees (behind relation_bytes) relation_tree p rs)) p (flat_map relation_bytes rs) rest
 relations_spelled = joined_spelled relation_text relation_tree relation_bytes IsKept relation_spelled

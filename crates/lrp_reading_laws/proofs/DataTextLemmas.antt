@@ -1,8 +1,7 @@
 -- The texts of a database and of a query are data texts.
-use Rattle.std.proofs.Common.{◌-◌, ◌&&◌, ℕ, zero, suc, Bool, true, false, List, [], ◌∷◌, ◌++◌, length, map, flat_map, reverse, refl, sym, subst, if◌then◌else◌, arith}
+use Rattle.std.proofs.Common.{◌&&◌, ℕ, suc, Bool, true, false, List, [], ◌∷◌, ◌++◌, length, map, flat_map, reverse, refl, sym, subst, if◌then◌else◌, arith}
 use Rattle.std.specs.List.{AllByRecursion}
 use Rattle.std.specs.Str.{IsUtf8}
-use Rattle.std.proofs.lemmas.Str.{IsUtf8-drop}
 use Rattle.lrp_model.specs.Checked.{data_of, is_equality, plain, plain_each, plain_question, term_of, time_of}
 use Rattle.lrp_model.specs.Columns.{column_text}
 use Rattle.lrp_model.specs.DatabaseMeaning.{column_of}
@@ -11,7 +10,7 @@ use Rattle.lrp_model.specs.DataTexts.{IsDataText}
 use Rattle.lrp_model.specs.Databases.{comma}
 use Rattle.lrp_model.specs.Domains.{all_texts, database_texts, form_texts, forms_texts, row_texts, term_texts, test_texts, text_beside}
 use Rattle.lrp_model.specs.Rows.{columns_in, relation_named}
-use Rattle.lrp_model.specs.Lexing.{scan, skip, after, tokens_from, tokens, start}
+use Rattle.lrp_model.specs.Lexing.{tokens, start}
 use Rattle.lrp_model.specs.Queries.{WrittenFormula, FurtherMembers, WrittenTerm, FitsSizes, FitSizes, FitsTerm, formula_text, members_text, op_symbol, query_text, term_text}
 use Rattle.lrp_model.specs.Queries.WrittenTerm.{integer, text_term, variable, shifted}
 use Rattle.lrp_model.specs.Queries.WrittenFormula.{atom_formula, compared, member, denied, all_of, any_of, implied, group, some, every, hole}
@@ -21,9 +20,9 @@ use Rattle.lrp_model.specs.QueryReading.{IsQuery}
 use Rattle.lrp_model.specs.RawQueries.{RawQuestion}
 use Rattle.lrp_model.specs.Sorting.{Binders, is_data_term, term_sort}
 use Rattle.lrp_model.specs.Texts.{Text}
-use Rattle.lrp_model.specs.Tokens.{Part, separated, from, located_text}
+use Rattle.lrp_model.specs.Tokens.{separated, from, located_text}
 use Rattle.lrp_model.specs.Tokens.Token.{word_token, symbol_token, end_token}
-use Rattle.lrp_model.specs.Tokens.Part.{at, any}
+use Rattle.lrp_model.specs.Tokens.Part.{any}
 use Rattle.lrp_model.specs.declared.formulas.DataTerm.{DataTerm}
 use Rattle.lrp_model.specs.declared.formulas.DataTerm.TheVariants.{Var as data_var, Const as data_const}
 use Rattle.lrp_model.specs.declared.formulas.Op.{Op}
@@ -40,33 +39,14 @@ use Rattle.lrp_model.specs.declared.relations.Value.TheVariants.{Point, Const}
 use Rattle.lrp_print.specs.Kept.{AreKept, AreValuesOf, IsKept, IsRowOf}
 use Rattle.lrp_rel.proofs.MeaningKept.{tree_kept}
 use Rattle.lrp_rel.proofs.NameLemmas.{tree_named}
-use Rattle.lrp_rel.proofs.TreeTexts.{tree_texted, scan_texted, headed_texted}
+use Rattle.lrp_rel.proofs.TreeTexts.{tree_texted}
 use Rattle.lrp_model.specs.declared.tokens.Place.{Place}
 use Rattle.lrp_model.specs.declared.tokens.Symbol.TheVariants.{Close, Bar, CloseBrace}
 use Rattle.lrp_model.specs.declared.tokens.Word.{Word}
 use Rattle.lrp_model.specs.declared.tokens.Word.TheVariants.{And, Or, Implies}
 use Rattle.lrp_model.specs.declared.written.Located.{Located}
-use Rattle.lrp_text.proofs.Cuts.{skip_cut, skip_rest, scan_cut, scan_rest}
 use Rattle.lrp_text.proofs.NameTokens.{all_front, all_behind, all_tail}
-pub use Rattle.lrp_rel.proofs.TreeTexts.{takes_texted, TextToken}
-
--- ---- the tokens of a text of UTF-8
-
--- all tokens of bytes of UTF-8
-pub tokens_texted : (n : ℕ) (p : Place) (bs : List ℕ) → IsUtf8 bs → AllByRecursion (λ t. TextToken t.token) (tokens_from n p bs)
-unfolding tokens_from
-tokens_texted zero p bs u = tt
-tokens_texted (suc n) p bs u =
-    let a = skip false p bs in
-    let s = scan a.bytes in
-    let here : IsUtf8 a.bytes = subst IsUtf8 (skip_rest p bs) (IsUtf8-drop bs (length bs - length a.bytes) u (skip_cut p bs u)) in
-    let behind : IsUtf8 s.left = subst IsUtf8 (scan_rest a.bytes) (IsUtf8-drop a.bytes (length a.bytes - length s.left) here (scan_cut a.bytes here)) in
-    headed_texted a.place s s.token (tokens_from n (after a.place s.taken) s.left) (scan_texted a.bytes here) (tokens_texted n (after a.place s.taken) s.left behind)
-
--- a part of a tree's text has a data text, if it is one
-abbrev pub TextPart : Part → Type 0
-TextPart (at p k) = TextToken k
-TextPart (any k) = TextToken k
+pub use Rattle.lrp_rel.proofs.TreeTexts.{takes_texted, TextPart, TextToken, tokens_texted}
 
 -- ---- terms
 

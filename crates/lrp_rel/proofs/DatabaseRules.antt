@@ -1,10 +1,11 @@
 -- The rule for databases: local, complete, sound and viable, so that it refuses exactly where the grammar says.
 use Rattle.std.proofs.Common.{◌≡◌, ◌<◌, ◌≤◌, ◌+◌, ℕ, suc, Bool, false, List, [], ◌∷◌, ◌++◌, inl, inr, refl, ap, sym, subst, Err, length, arith, append-nil}
+use Rattle.std.specs.List.{flat_map}
 use Rattle.lrp_model.specs.declared.tokens.Word.TheVariants.{Relation}
 use Rattle.lrp_model.specs.declared.tokens.Fault.{Fault}
 use Rattle.lrp_model.specs.declared.written.RawRelation.{RawRelation}
 use Rattle.lrp_model.specs.Lexing.{start}
-use Rattle.lrp_model.specs.Tokens.{Placed, Tokens, Part, Takes, Spells, joined_parts}
+use Rattle.lrp_model.specs.Tokens.{Placed, Tokens, Part, Takes, Spells}
 use Rattle.lrp_model.specs.Tokens.Token.{word_token, end_token}
 use Rattle.lrp_model.specs.Tokens.Part.{any}
 use Rattle.lrp_model.specs.Refused.{Stops, TextOf, IsRefusedAt}
@@ -37,9 +38,9 @@ relation_has_token r = omega arith
 pub database_complete : (n : ℕ) (rs : List RawRelation) (ts : Tokens) → length ts < n → Spells (database_text rs) ts → Answers (database n ts) rs [] (FitsDatabase rs)
 unfolding database
 database_complete n rs ts lt h =
-    let k = takes_split (joined_parts relation_text rs) (any end_token ∷ []) ts [] h in
-    let size : length k.0 + length (joined_parts relation_text rs) ≡ length ts = takes_shorter (joined_parts relation_text rs) ts k.0 k.1 in
-    let few : length rs ≤ length (joined_parts relation_text rs) = joined_long relation_text relation_has_token rs in
+    let k = takes_split (flat_map relation_text rs) (any end_token ∷ []) ts [] h in
+    let size : length k.0 + length (flat_map relation_text rs) ≡ length ts = takes_shorter (flat_map relation_text rs) ts k.0 k.1 in
+    let few : length rs ≤ length (flat_map relation_text rs) = joined_long relation_text relation_has_token rs in
     let L : Type 0 = FitsDatabase rs in
     answers_then (until_from (relation n) is_end n [] ts) _ rs k.0 rs [] L
     (until_back (relations_member n) n [] rs (omega (arith, few, size, lt)) ts k.0 lt k.1 (first_sees_any false is_end_token end_token [] k.0 [] k.2) tt)
@@ -52,10 +53,10 @@ abbrev pub end_part : Unit {0} → Part
 end_part u = any end_token
 
 -- the relations of a database that is read is spelled so, and is lawful
-relations_sound : (n : ℕ) → Sound (until_from (relation n) is_end n []) (joined_parts relation_text) FitsDatabase
+relations_sound : (n : ℕ) → Sound (until_from (relation n) is_end n []) (flat_map relation_text) FitsDatabase
 relations_sound n ts q e =
     let k = until_sound (relation n) relation_text FitsRelation is_end (relation_sound n) n [] ts q e in
-    let R : List RawRelation → Type 0 = λ l. Takes (joined_parts relation_text l) ts q.1 × FitsDatabase l in
+    let R : List RawRelation → Type 0 = λ l. Takes (flat_map relation_text l) ts q.1 × FitsDatabase l in
     subst R (sym k.made) (k.spelled, k.fits)
 
 -- the end that is read is spelled so, and is lawful
@@ -75,7 +76,7 @@ database_sound n ts q e =
     let h : (rs.0.0, u.0.1) ≡ q = cc in
     let read = relations_sound n ts rs.0 rs.1 in
     subst (λ y. Takes (database_text y.0) ts y.1 × FitsDatabase y.0) h
-    (takes_join (joined_parts relation_text rs.0.0) (any end_token ∷ []) ts rs.0.1 u.0.1 read.0 (end_sound rs.0.1 u.0 u.1).0, read.1)
+    (takes_join (flat_map relation_text rs.0.0) (any end_token ∷ []) ts rs.0.1 u.0.1 read.0 (end_sound rs.0.1 u.0 u.1).0, read.1)
 
 -- ---- viable
 
@@ -88,10 +89,10 @@ pub database_viable : (n : ℕ) (ts : Tokens) (e : Fault × Tokens) → length t
 unfolding database
 database_viable n ts e lt h =
     let R : Bool → Tokens → Type 0 = TextOf database_text FitsDatabase in
-    sub_short (until_from (relation n) is_end n []) _ (joined_parts relation_text) FitsDatabase R ts e (relations_sound n) (λ d. until_viable (relation n) relation_text FitsRelation is_end n (relation_sound n) (relation_viable n) relation_has_token n [] ts e lt lt d) h
-    (λ c rs x spelled fit. (ending, (rs, fit, spells_join (joined_parts relation_text rs) (any end_token ∷ []) x ending spelled (refl, refl))))
+    sub_short (until_from (relation n) is_end n []) _ (flat_map relation_text) FitsDatabase R ts e (relations_sound n) (λ d. until_viable (relation n) relation_text FitsRelation is_end n (relation_sound n) (relation_viable n) relation_has_token n [] ts e lt lt d) h
+    (λ c rs x spelled fit. (ending, (rs, fit, spells_join (flat_map relation_text rs) (any end_token ∷ []) x ending spelled (refl, refl))))
     (λ rs h1 us s1 f1 l1 d1. sub_short expect_end _ (One end_part) (λ u. Unit {0}) (λ c x. R c (h1 ++ x)) us e end_sound (end_viable us e) d1
-    (λ c u x spelled fit. ([], (rs, always (FitsDatabase rs) c f1, spells_join (joined_parts relation_text rs) (any end_token ∷ []) h1 (x ++ []) s1 (subst (λ y. Spells (One end_part u) y) (sym (append-nil x)) spelled))))
+    (λ c u x spelled fit. ([], (rs, always (FitsDatabase rs) c f1, spells_join (flat_map relation_text rs) (any end_token ∷ []) h1 (x ++ []) s1 (subst (λ y. Spells (One end_part u) y) (sym (append-nil x)) spelled))))
     (λ u h2 vs s2 f2 l2 d2. absurd cc))
 
 -- ---- refused exactly where the grammar says

@@ -15,7 +15,7 @@ use Rattle.lrp_model.specs.declared.written.WrittenValue.{WrittenValue}
 use Rattle.lrp_model.specs.declared.written.WrittenValue.TheVariants.{Constant, Instant, Point}
 use Rattle.lrp_model.specs.declared.written.RawRow.{RawRow}
 use Rattle.lrp_model.specs.declared.written.RawRelation.{RawRelation}
-use Rattle.lrp_model.specs.Tokens.{Token, Tokens, Part, Takes, Spells, joined_parts, separated, from, located_text}
+use Rattle.lrp_model.specs.Tokens.{Token, Tokens, Part, Takes, Spells, separated, from, located_text}
 use Rattle.lrp_model.specs.Tokens.Token.{name_token, word_token, number_token, text_token, symbol_token, end_token, bad_token, hole_token}
 use Rattle.lrp_model.specs.Tokens.Part.{at, any}
 use Rattle.lrp_model.specs.Lexing.{Scanned, scan, skip, after, headed, tokens_from, tokens, start}
@@ -102,11 +102,11 @@ row_count ks cs row =
     omega (arith, a, b, c, d, e)
 
 -- the texts of all rows
-rows_count : (cs : List RawColumn) (rows : List (Located RawRow)) → length (flat_map (λ row. row_texts (map column_of cs) row.values) (map (λ row. row_of cs row.item) rows)) ≤ length (joined_parts (located_text row_text) rows)
+rows_count : (cs : List RawColumn) (rows : List (Located RawRow)) → length (flat_map (λ row. row_texts (map column_of cs) row.values) (map (λ row. row_of cs row.item) rows)) ≤ length (flat_map (located_text row_text) rows)
 rows_count cs [] = omega arith
 rows_count cs (row ∷ rows) =
     let a = length-append (row_texts (map column_of cs) (row_of cs row.item).values) (flat_map (λ x. row_texts (map column_of cs) x.values) (map (λ x. row_of cs x.item) rows)) in
-    let b = length-append (located_text row_text row) (joined_parts (located_text row_text) rows) in
+    let b = length-append (located_text row_text row) (flat_map (located_text row_text) rows) in
     let c = row_count (map column_of cs) cs row in
     let d = rows_count cs rows in
     omega (arith, a, b, c, d)
@@ -114,27 +114,27 @@ rows_count cs (row ∷ rows) =
 -- a relation has more parts than texts
 relation_count : (r : RawRelation) → length (flat_map (λ row. row_texts (map column_of r.columns) row.values) (map (λ row. row_of r.columns row.item) r.rows)) < length (relation_text r)
 relation_count r =
-    let a = length-append (separated comma column_text r.columns) (any (symbol_token Close) ∷ any (symbol_token OpenBrace) ∷ (joined_parts (located_text row_text) r.rows ++ any (symbol_token CloseBrace) ∷ [])) in
-    let b = length-append (joined_parts (located_text row_text) r.rows) (any (symbol_token CloseBrace) ∷ []) in
+    let a = length-append (separated comma column_text r.columns) (any (symbol_token Close) ∷ any (symbol_token OpenBrace) ∷ (flat_map (located_text row_text) r.rows ++ any (symbol_token CloseBrace) ∷ [])) in
+    let b = length-append (flat_map (located_text row_text) r.rows) (any (symbol_token CloseBrace) ∷ []) in
     let c = rows_count r.columns r.rows in
     omega (arith, a, b, c)
 
 -- so has a database
-relations_count : (rs : List RawRelation) → length (database_texts (database_of rs)) ≤ length (joined_parts relation_text rs)
+relations_count : (rs : List RawRelation) → length (database_texts (database_of rs)) ≤ length (flat_map relation_text rs)
 relations_count [] = omega arith
 relations_count (r ∷ rs) =
     let a = length-append (flat_map (λ row. row_texts (map column_of r.columns) row.values) (map (λ row. row_of r.columns row.item) r.rows)) (database_texts (database_of rs)) in
-    let b = length-append (relation_text r) (joined_parts relation_text rs) in
+    let b = length-append (relation_text r) (flat_map relation_text rs) in
     let c = relation_count r in
     let d = relations_count rs in
     omega (arith, a, b, c, d)
 
 -- a database of so many parts at most has fewer texts
-fewer : (rs : List RawRelation) (n : ℕ) → 0 < n → length (joined_parts relation_text rs) ≤ n → length (database_texts (database_of rs)) < n
+fewer : (rs : List RawRelation) (n : ℕ) → 0 < n → length (flat_map relation_text rs) ≤ n → length (database_texts (database_of rs)) < n
 fewer [] n some le = omega (arith, some)
 fewer (r ∷ rs) n some le =
     let a = length-append (flat_map (λ row. row_texts (map column_of r.columns) row.values) (map (λ row. row_of r.columns row.item) r.rows)) (database_texts (database_of rs)) in
-    let b = length-append (relation_text r) (joined_parts relation_text rs) in
+    let b = length-append (relation_text r) (flat_map relation_text rs) in
     let c = relation_count r in
     let d = relations_count rs in
     omega (arith, a, b, c, d, le)
@@ -143,6 +143,6 @@ fewer (r ∷ rs) n some le =
 pub few_texts : (bytes : List ℕ) (tree : List RawRelation) → length bytes ≤ 16777216 → Spells (database_text tree) (tokens bytes) → length (database_texts (database_of tree)) < 16777216
 few_texts bytes tree short h =
     let a = takes_count (database_text tree) (tokens bytes) h in
-    let b = length-append (joined_parts relation_text tree) (any end_token ∷ []) in
+    let b = length-append (flat_map relation_text tree) (any end_token ∷ []) in
     let c = tokens_count (suc (length bytes)) start bytes in
     fewer tree 16777216 (omega arith) (omega (arith, a, b, c, short))

@@ -1,6 +1,6 @@
 -- The rule for relations: complete, sound and viable.
 use Rattle.std.proofs.Common.{◌≡◌, ◌≤◌, ◌<◌, ◌+◌, ℕ, Bool, true, false, List, [], ◌∷◌, ◌++◌, refl, sym, subst, Ok, Err, length, arith, append-nil}
-use Rattle.std.specs.List.{AllByRecursion}
+use Rattle.std.specs.List.{AllByRecursion, flat_map}
 use Rattle.std.proofs.lemmas.List.{length-append}
 use Rattle.lrp_model.specs.declared.tokens.Symbol.{Symbol}
 use Rattle.lrp_model.specs.declared.tokens.Symbol.TheVariants.{Open, Close, OpenBrace, CloseBrace, Comma, Colon}
@@ -13,7 +13,7 @@ use Rattle.lrp_model.specs.declared.written.RawRow.{RawRow}
 use Rattle.lrp_model.specs.declared.written.RawRelation.{RawRelation}
 use Rattle.lrp_model.specs.Texts.{Identifier}
 use Rattle.lrp_model.specs.Lexing.{start}
-use Rattle.lrp_model.specs.Tokens.{Placed, Tokens, Part, Takes, Spells, located_text, joined_parts, separated}
+use Rattle.lrp_model.specs.Tokens.{Placed, Tokens, Part, Takes, Spells, located_text, separated}
 use Rattle.lrp_model.specs.Tokens.Token.{name_token, symbol_token, word_token}
 use Rattle.lrp_model.specs.Tokens.Part.{at, any}
 use Rattle.lrp_model.specs.Refused.{Stops, TextOf}
@@ -71,7 +71,7 @@ row_leads r = tt
 
 -- what spells the rows of a relation
 abbrev pub rows_text : List (Located RawRow) → List Part
-rows_text = joined_parts (located_text row_text)
+rows_text = flat_map (located_text row_text)
 
 -- a row as a member of a list
 rows_member : (n : ℕ) → MemberUntil (located (row n)) (located_text row_text) (λ r. FitsRow r.item) Anything (is_symbol CloseBrace) n

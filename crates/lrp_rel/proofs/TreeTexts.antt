@@ -1,6 +1,6 @@
 -- The data texts in the tree of a text of UTF-8 are UTF-8, with no control characters.
 use Rattle.std.proofs.Common.{◌≡◌, ◌≤◌, ◌-◌, ℕ, zero, suc, false, List, [], ◌∷◌, ◌++◌, length, refl, subst}
-use Rattle.std.specs.List.{AllByRecursion}
+use Rattle.std.specs.List.{AllByRecursion, flat_map}
 use Rattle.std.specs.Str.{IsUtf8}
 use Rattle.std.proofs.lemmas.Str.{IsUtf8-drop}
 use Rattle.lrp_model.specs.declared.tokens.Place.{Place}
@@ -12,7 +12,7 @@ use Rattle.lrp_model.specs.declared.written.WrittenValue.TheVariants.{Constant, 
 use Rattle.lrp_model.specs.declared.written.RawRow.{RawRow}
 use Rattle.lrp_model.specs.declared.written.RawRelation.{RawRelation}
 use Rattle.lrp_model.specs.Texts.{FitsText}
-use Rattle.lrp_model.specs.Tokens.{Token, Tokens, Part, Takes, Spells, joined_parts, separated, from, located_text}
+use Rattle.lrp_model.specs.Tokens.{Token, Tokens, Part, Takes, Spells, separated, from, located_text}
 use Rattle.lrp_model.specs.Tokens.Token.{name_token, word_token, number_token, text_token, symbol_token, end_token, bad_token, hole_token}
 use Rattle.lrp_model.specs.Tokens.Part.{at, any}
 use Rattle.lrp_model.specs.Lexing.{Scanned, scan, skip, after, headed, tokens_from, tokens, start}
@@ -106,11 +106,11 @@ row_texted row h =
     values_texted row.item.values (all_front TextPart values behind (all_tail TextPart (at row.place (symbol_token Open)) (values ++ behind) h))
 
 -- rows one after the other
-rows_texted : (rows : List (Located RawRow)) → AllByRecursion TextPart (joined_parts (located_text row_text) rows) → AllByRecursion RowHasTexts rows
+rows_texted : (rows : List (Located RawRow)) → AllByRecursion TextPart (flat_map (located_text row_text) rows) → AllByRecursion RowHasTexts rows
 rows_texted [] h = tt
 rows_texted (row ∷ rows) h =
     let first = located_text row_text row in
-    let rest = joined_parts (located_text row_text) rows in
+    let rest = flat_map (located_text row_text) rows in
     (row_texted row (all_front TextPart first rest h), rows_texted rows (all_behind TextPart first rest h))
 
 -- the texts of a relation
@@ -119,7 +119,7 @@ HasTexts r = AllByRecursion RowHasTexts r.rows
 
 relation_texted : (r : RawRelation) → AllByRecursion TextPart (relation_text r) → HasTexts r
 relation_texted r h =
-    let rows = joined_parts (located_text row_text) r.rows in
+    let rows = flat_map (located_text row_text) r.rows in
     let last = any (symbol_token CloseBrace) ∷ [] in
     let body = any (symbol_token OpenBrace) ∷ (rows ++ last) in
     let columns = separated comma column_text r.columns in
@@ -129,13 +129,13 @@ relation_texted r h =
     rows_texted r.rows (all_front TextPart rows last (all_tail TextPart (any (symbol_token OpenBrace)) (rows ++ last) (all_tail TextPart (any (symbol_token Close)) body closed)))
 
 -- relations one after the other
-relations_texted : (rs : List RawRelation) → AllByRecursion TextPart (joined_parts relation_text rs) → AllByRecursion HasTexts rs
+relations_texted : (rs : List RawRelation) → AllByRecursion TextPart (flat_map relation_text rs) → AllByRecursion HasTexts rs
 relations_texted [] h = tt
 relations_texted (r ∷ rs) h =
-    let rest = joined_parts relation_text rs in
+    let rest = flat_map relation_text rs in
     (relation_texted r (all_front TextPart (relation_text r) rest h), relations_texted rs (all_behind TextPart (relation_text r) rest h))
 
 -- the texts in a tree that bytes of UTF-8 spell
 pub tree_texted : (bytes : List ℕ) (tree : List RawRelation) → IsUtf8 bytes → Spells (database_text tree) (tokens bytes) → AllByRecursion HasTexts tree
 tree_texted bytes tree u h =
-    relations_texted tree (all_front TextPart (joined_parts relation_text tree) (any end_token ∷ []) (takes_texted (database_text tree) (tokens bytes) [] h (tokens_texted (suc (length bytes)) start bytes u)))
+    relations_texted tree (all_front TextPart (flat_map relation_text tree) (any end_token ∷ []) (takes_texted (database_text tree) (tokens bytes) [] h (tokens_texted (suc (length bytes)) start bytes u)))

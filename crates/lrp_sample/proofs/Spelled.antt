@@ -18,7 +18,7 @@ use Rattle.lrp_model.specs.declared.written.RawBound.{RawBound}
 use Rattle.lrp_model.specs.declared.written.RawRow.{RawRow}
 use Rattle.lrp_model.specs.declared.written.RawRelation.{RawRelation}
 use Rattle.lrp_model.specs.Texts.{Identifier}
-use Rattle.lrp_model.specs.Tokens.{Part, Spells, located_text, joined_parts, separated}
+use Rattle.lrp_model.specs.Tokens.{Part, Spells, located_text, separated}
 use Rattle.lrp_model.specs.Tokens.Token.{name_token, word_token, number_token, symbol_token, end_token}
 use Rattle.lrp_model.specs.Tokens.Part.{at, any}
 use Rattle.lrp_model.specs.Columns.{column_text}
@@ -262,7 +262,7 @@ pub database_spelled : (seed size : ℕ) → Spells (database_text (relation_tre
 database_spelled seed size =
     let tree = relation_tree seed size start in
     let bytes = sample_database seed size in
-    let parts = joined_parts relation_text (tree ∷ []) in
+    let parts = flat_map relation_text (tree ∷ []) in
     let whole : Spelled parts start (bytes ++ []) [] = both (relation_spelled seed size start []) (nothing (after start bytes) []) in
     let P : List ℕ → Type 0 = λ bs. Spells (database_text (tree ∷ [])) (tokens_at start bs) in
     subst P (append-nil (bytes ++ []) ∙ append-nil bytes) (takes_join parts (any end_token ∷ []) (tokens_at start ((bytes ++ []) ++ [])) (tokens_at (after start (bytes ++ [])) []) [] whole.takes (the_end (after start (bytes ++ []))))

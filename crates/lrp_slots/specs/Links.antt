@@ -45,7 +45,7 @@ AreApart [] = Unit {0}
 AreApart (key ∷ keys) = AllByRecursion (λ other. other ≢ key) keys × AreApart keys
 
 module _ {V : Type 0} where
-  -- the key that follows, and 0 at a slot with no value
+  -- the key that follows, and 0 at a slot with no value, of which a chain has none
   abbrev pub next_of : Option (Link V) → ℕ
   next_of None = 0
   next_of (Some link) = link.next

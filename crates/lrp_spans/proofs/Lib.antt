@@ -5,7 +5,6 @@ pub mod DifferenceLaws
 pub mod EndLaws
 pub mod EndSteps
 pub mod GroupLaws
-pub mod Lines
 pub mod Lists
 pub mod MergeLaws
 pub mod OpenLaws

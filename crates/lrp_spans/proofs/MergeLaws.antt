@@ -10,7 +10,7 @@ use Rattle.std.proofs.lemmas.List.Sorted.{Contains-permutation, IsPermutation-sy
 use Rattle.lrp_theory.specs.Entries.{AtMost}
 use Rattle.lrp_matrix.specs.Ranges.{Above}
 use Rattle.lrp_spans.specs.declared.spans.Span.{Span}
-use Rattle.lrp_spans.specs.Spans.{AreMerged, BeginsBy, SpanComesBefore, HasLessResidue, HasTurn, InSpans, IsInOrder, IsJoined, IsSpan}
+use Rattle.lrp_spans.specs.Spans.{AreMerged, BeginsBy, SpanComesBefore, HasLessResidue, HasTurn, InSpans, IsNumbered, IsJoined, IsSpan}
 use Rattle.lrp_spans.proofs.Lists.{before, below_or, in_none, in_one, one_in, pairs_append, pairs_left, pairs_one, pairs_none}
 
 -- ---- turns in some span of a list
@@ -58,7 +58,7 @@ merging_start v = record {
 }
 
 -- what comes before a span comes before each that is behind it in order
-before_later : (u v w : Span) → SpanComesBefore u v → IsInOrder v w → SpanComesBefore u w
+before_later : (u v w : Span) → SpanComesBefore u v → IsNumbered v w → SpanComesBefore u w
 before_later u v w (inl a) (inl b) = inl (omega arith)
 before_later u v w (inl a) (inr b) = inl (let e : v.residue ≡ w.residue = b.0 in omega arith)
 before_later u v w (inr a) (inl b) = inl (let e : u.residue ≡ v.residue = a.0 in omega arith)
@@ -75,12 +75,12 @@ before_later u v w (inr a) (inr b) = at w.first refl
         let m : a.1.end <ℤ a.1.start = a.1.below in
         inr (a.0 ∙ b.0, record { end = a.1.end; ends = a.1.ends; start = f; starts = e; below = omega (arith, ints) }))
 
-module _ (vs made : List Span) (last next : Span) (m : AreMerging vs made last) (order : (u : Span) → Contains vs u → IsInOrder u next) where
+module _ (vs made : List Span) (last next : Span) (m : AreMerging vs made last) (order : (u : Span) → Contains vs u → IsNumbered u next) where
   -- the last one is in order with the next
-  pub last_in_order : IsInOrder last next
+  pub last_in_order : IsNumbered last next
   last_in_order = of (order m.begun m.listed)
     where
-      of : IsInOrder m.begun next → IsInOrder last next
+      of : IsNumbered m.begun next → IsNumbered last next
       of (inl a) = inl (let e : last.residue ≡ m.begun.residue = m.residue in omega arith)
       of (inr a) = inr (m.residue ∙ a.0, record { each = λ n h. subst (Above n) (sym m.first) (a.1.each n h) })
 
@@ -159,14 +159,14 @@ module _ (vs made : List Span) (last next : Span) (m : AreMerging vs made last) 
   pub same_residue : (SpanComesBefore last next → ⊥) → last.residue ≡ next.residue
   same_residue out = of last_in_order
     where
-      of : IsInOrder last next → last.residue ≡ next.residue
+      of : IsNumbered last next → last.residue ≡ next.residue
       of (inl a) = absurd (out (inl a))
       of (inr a) = a.0
 
   pub begins_by : (SpanComesBefore last next → ⊥) → BeginsBy last next
   begins_by out = of last_in_order
     where
-      of : IsInOrder last next → BeginsBy last next
+      of : IsNumbered last next → BeginsBy last next
       of (inl a) = absurd (out (inl a))
       of (inr a) = a.1
 
@@ -174,8 +174,8 @@ pub merging_end : (vs made : List Span) (last : Span) → AreMerging vs made las
 merging_end vs made last m = record { to = m.to; from = m.from; apart = m.apart; each = m.each }
 
 -- ---- the list that is merged
-pub before_next : (first : Span) (rest : List Span) (k : ℕ) (d : Span) → AllPairs IsInOrder (first ∷ rest) → k < length rest → (u : Span) → Contains (first ∷ take k rest) u → IsInOrder u (get_or rest k d)
-before_next first rest k d all l u h = before IsInOrder (first ∷ rest) (suc k) (get_or rest k d) all (omega arith) (get_or_default rest k d (get_or rest k d) l) u h
+pub before_next : (first : Span) (rest : List Span) (k : ℕ) (d : Span) → AllPairs IsNumbered (first ∷ rest) → k < length rest → (u : Span) → Contains (first ∷ take k rest) u → IsNumbered u (get_or rest k d)
+before_next first rest k d all l u h = before IsNumbered (first ∷ rest) (suc k) (get_or rest k d) all (omega arith) (get_or_default rest k d (get_or rest k d) l) u h
 
 pub more_taken : (first : Span) (rest : List Span) (k : ℕ) (d : Span) → k < length rest → first ∷ take (k + 1) rest ≡ (first ∷ take k rest) ++ get_or rest k d ∷ []
 more_taken first rest k d l = ap (λ xs. first ∷ xs) (take_more rest k d l)

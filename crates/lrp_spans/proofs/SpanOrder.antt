@@ -1,55 +1,40 @@
 -- Sorted spans are in order.
-use Rattle.std.proofs.Common.{◌≡◌, ℕ, zero, suc, ◌+◌, ◌<◌, inl, inr, List, Option, Some, None, false, Ordering, Less, Equal, Greater, length, get_or, arith, refl, sym, subst, ◌∙◌}
-use Rattle.std.specs.Prelude.{ℤ, ◌<ℤ◌, AllPairs}
+use Rattle.std.proofs.Common.{◌≡◌, ℕ, zero, suc, ◌+◌, ◌<◌, inl, inr, List, false, Ordering, Less, Equal, Greater, length, get_or, arith, refl, sym, subst, ◌∙◌}
+use Rattle.std.specs.Prelude.{AllPairs}
 use Rattle.std.specs.List.Sorted.{IsSorted}
 use Rattle.std.specs.Option.{option_cmp}
 use Rattle.std.specs.Ordering.{int_cmp, nat_cmp, is_lt, ordering_then, MatchOrdering}
-use Rattle.std.specs.Cmp.{int_ranks, ranks}
-use Rattle.std.proofs.lemmas.Int.{ints, by_lt_z}
-use Rattle.lrp_matrix.specs.Ranges.{Above}
+use Rattle.std.specs.Cmp.{ranks}
 use Rattle.lrp_spans.specs.declared.spans.Span.{Span}
-use Rattle.lrp_spans.specs.Spans.{IsInOrder}
+use Rattle.lrp_spans.specs.Spans.{IsNumbered}
 use Rattle.lrp_spans.proofs.Lists.{below_or}
-
-less_of : (x y : ℤ) (o : Ordering) → MatchOrdering o (x <ℤ y) (x ≡ y) (y <ℤ x) → x <ℤ y → o ≡ Less
-less_of x y Less m l = refl
-less_of x y Equal m l = absurd (omega (arith, ints))
-less_of x y Greater m l = absurd (omega (arith, ints))
-
--- what is not before another end
-not_before : (e f : Option ℤ) (q : Ordering) → is_lt (ordering_then (option_cmp int_cmp f e) q) ≡ false → (x : ℤ) → Above x f → Above x e
-not_before None f q h x a = tt
-not_before (Some a) None q h x b = absurd (cc)
-not_before (Some a) (Some b) q h x above = by_lt_z b a
-    (λ lt. let less : int_cmp b a ≡ Less = less_of b a (int_cmp b a) (int_ranks b a) lt in
-    let t : is_lt (ordering_then Less q) ≡ false = subst (λ o. is_lt (ordering_then o q) ≡ false) less h in absurd (cc))
-    (λ le. omega (arith, ints))
+use Rattle.lrp_matrix.proofs.Ends.{not_before}
 
 rank : (v w : Span) (o : Ordering) → nat_cmp w.residue v.residue ≡ o → MatchOrdering o (w.residue < v.residue) (w.residue ≡ v.residue) (v.residue < w.residue)
 rank v w o e = subst (λ p. MatchOrdering p (w.residue < v.residue) (w.residue ≡ v.residue) (v.residue < w.residue)) e (ranks w.residue v.residue)
 
 -- by the residues first
-by_residues : (v w : Span) (o : Ordering) (q : Ordering) → nat_cmp w.residue v.residue ≡ o → is_lt (ordering_then o (ordering_then (option_cmp int_cmp w.first v.first) q)) ≡ false → IsInOrder v w
+by_residues : (v w : Span) (o : Ordering) (q : Ordering) → nat_cmp w.residue v.residue ≡ o → is_lt (ordering_then o (ordering_then (option_cmp int_cmp w.first v.first) q)) ≡ false → IsNumbered v w
 by_residues v w Less q e h = absurd (cc)
 by_residues v w Equal q e h = inr (sym (rank v w Equal e), record { each = not_before v.first w.first q h })
 by_residues v w Greater q e h = inl (rank v w Greater e)
 
-order_trans : (u v w : Span) → IsInOrder u v → IsInOrder v w → IsInOrder u w
+order_trans : (u v w : Span) → IsNumbered u v → IsNumbered v w → IsNumbered u w
 order_trans u v w (inl a) (inl b) = inl (omega arith)
 order_trans u v w (inl a) (inr b) = inl (let e : v.residue ≡ w.residue = b.0 in omega arith)
 order_trans u v w (inr a) (inl b) = inl (let e : u.residue ≡ v.residue = a.0 in omega arith)
 order_trans u v w (inr a) (inr b) = inr (a.0 ∙ b.0, record { each = λ n h. a.1.each n (b.1.each n h) })
 
-pairs_by_steps : (vs : List Span) → ((k : ℕ) (d : Span) → k + 1 < length vs → IsInOrder (get_or vs k d) (get_or vs (k + 1) d)) → AllPairs IsInOrder vs
+pairs_by_steps : (vs : List Span) → ((k : ℕ) (d : Span) → k + 1 < length vs → IsNumbered (get_or vs k d) (get_or vs (k + 1) d)) → AllPairs IsNumbered vs
 pairs_by_steps vs step i zero d l h = absurd (omega arith)
 pairs_by_steps vs step i (suc j) d l h =
     let on : j + 1 ≡ suc j = omega arith in
-    let s : IsInOrder (get_or vs j d) (get_or vs (suc j) d) = subst (λ n. IsInOrder (get_or vs j d) (get_or vs n d)) on (step j d (omega arith)) in
+    let s : IsNumbered (get_or vs j d) (get_or vs (suc j) d) = subst (λ n. IsNumbered (get_or vs j d) (get_or vs n d)) on (step j d (omega arith)) in
     elim (below_or i j) [
       | inl lt ↦ order_trans _ _ _ (pairs_by_steps vs step i j d lt (omega arith)) s
-      | inr le ↦ (let same : j ≡ i = omega arith in subst (λ n. IsInOrder (get_or vs n d) (get_or vs (suc j) d)) same s)
+      | inr le ↦ (let same : j ≡ i = omega arith in subst (λ n. IsNumbered (get_or vs n d) (get_or vs (suc j) d)) same s)
     ]
 
 -- sorted spans are in order
-pub spans_in_order : (vs : List Span) → IsSorted (λ v w. ordering_then (nat_cmp v.residue w.residue) (ordering_then (option_cmp int_cmp v.first w.first) (option_cmp int_cmp v.last w.last))) vs → AllPairs IsInOrder vs
+pub spans_in_order : (vs : List Span) → IsSorted (λ v w. ordering_then (nat_cmp v.residue w.residue) (ordering_then (option_cmp int_cmp v.first w.first) (option_cmp int_cmp v.last w.last))) vs → AllPairs IsNumbered vs
 spans_in_order vs sorted = pairs_by_steps vs (λ k d l. by_residues (get_or vs k d) (get_or vs (k + 1) d) _ _ refl (sorted k d (omega arith) l))

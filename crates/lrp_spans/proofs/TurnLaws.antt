@@ -10,7 +10,7 @@ use Rattle.lrp_theory.specs.Entries.{AtMost, entry, node}
 use Rattle.lrp_theory.proofs.Modulo.{Divides--, Divides-is, Divides-neg, minus_right, rem_divides, rem_high, rem_is, rem_low, small_multiple}
 use Rattle.lrp_matrix.specs.Ranges.{Above, negation}
 use Rattle.lrp_zone.specs.Zones.{IsMember, IsResidue, IsTight, IsZone, ZoneView, columns_of}
-use Rattle.lrp_spans.proofs.Lines.{in_line, line_cell, line_high, line_low}
+use Rattle.lrp_zone.proofs.Lines.{in_line, line_cell, line_high, line_low}
 use Rattle.lrp_spans.specs.declared.spans.Span.{Span}
 use Rattle.lrp_spans.specs.Spans.{HasTurn, IsSpanOf, IsTurnOf}
 use Rattle.lrp_spans.proofs.EndLaws.{at_least}

@@ -69,8 +69,8 @@ pub record BeginsBy (v w : Span) : Type 0 where
   pub each : (n : ℤ) → Above n w.first → Above n v.first
 
 -- v has the lesser residue, or the same one and begins no later than w
-abbrev pub IsInOrder : Span → Span → Type 0
-IsInOrder v w = (v.residue < w.residue) ⊎ ((v.residue ≡ w.residue) × BeginsBy v w)
+abbrev pub IsNumbered : Span → Span → Type 0
+IsNumbered v w = (v.residue < w.residue) ⊎ ((v.residue ≡ w.residue) × BeginsBy v w)
 
 -- g is the later of two ends, and none where one of them is none
 pub record IsLater (e f g : Option ℤ) : Type 0 where

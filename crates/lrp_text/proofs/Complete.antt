@@ -1,12 +1,12 @@
 -- What is spelled so is read, or refused for another cause than syntax where it is not lawful.
 use Rattle.std.proofs.Common.{◌≡◌, ◌≢◌, ◌⊎◌, inl, inr, ◌<◌, ◌≤◌, ℕ, zero, suc, Bool, true, false, List, [], ◌∷◌, ◌++◌, refl, ap, ◌∙◌, sym, subst, Ok, Err, append_assoc, append-nil, Result, length, arith, ◌+◌}
-use Rattle.std.specs.List.{AllByRecursion}
+use Rattle.std.specs.List.{AllByRecursion, flat_map}
 use Rattle.std.proofs.lemmas.List.{length-append}
 use Rattle.lrp_model.specs.declared.tokens.Fault.{Fault}
 use Rattle.lrp_model.specs.declared.tokens.Fault.TheVariants.{Syntax}
 use Rattle.lrp_model.specs.declared.tokens.Place.{Place}
 use Rattle.lrp_model.specs.Tokens.Part.{at, any}
-use Rattle.lrp_model.specs.Tokens.{Token, Placed, Tokens, Part, IsPart, Takes, joined_parts, separated}
+use Rattle.lrp_model.specs.Tokens.{Token, Placed, Tokens, Part, IsPart, Takes, separated}
 use Rattle.lrp_text.specs.Parsers.{Outcome, Parser, and_then, ◌>>=◌, pure, taken, accept, look, eaten, eat, separated_from, until_from, listed}
 use Rattle.lrp_text.proofs.Sound.{takes_split, takes_shorter}
 
@@ -164,12 +164,12 @@ pub record MemberUntil {A : Type 0} (p : Parser A) (text : A → List Part) (Fit
   pub begins : (a : A) (ts left : Tokens) → Takes (text a) ts left → Sees false stop false ts × follow ts
 
 -- what may follow a member comes next, before the members that are left and behind the last one
-follows_all : {A : Type 0} {p : Parser A} {text : A → List Part} {Fits : A → Type 0} {follow : Tokens → Type 0} {stop : Placed → Bool} {size : ℕ} (m : MemberUntil p text Fits follow stop size) (all : List A) (ts left : Tokens) → Takes (joined_parts text all) ts left → follow left → follow ts
+follows_all : {A : Type 0} {p : Parser A} {text : A → List Part} {Fits : A → Type 0} {follow : Tokens → Type 0} {stop : Placed → Bool} {size : ℕ} (m : MemberUntil p text Fits follow stop size) (all : List A) (ts left : Tokens) → Takes (flat_map text all) ts left → follow left → follow ts
 follows_all {A} {p} {text} {Fits} {follow} m [] ts left h g = subst follow (sym h) g
-follows_all {A} {p} {text} m (a ∷ all) ts left h g = let k = takes_split (text a) (joined_parts text all) ts left h in (m.begins a ts k.0 k.1).1
+follows_all {A} {p} {text} m (a ∷ all) ts left h g = let k = takes_split (text a) (flat_map text all) ts left h in (m.begins a ts k.0 k.1).1
 
 -- a list up to the token that ends it is read back
-pub until_back : {A : Type 0} {p : Parser A} {text : A → List Part} {Fits : A → Type 0} {follow : Tokens → Type 0} {stop : Placed → Bool} {size : ℕ} (m : MemberUntil p text Fits follow stop size) (n : ℕ) (found all : List A) → length all < n → (ts left : Tokens) → length ts < size → Takes (joined_parts text all) ts left → Sees false stop true left → follow left → Answers (until_from p stop n found ts) (found ++ all) left (AllByRecursion Fits all)
+pub until_back : {A : Type 0} {p : Parser A} {text : A → List Part} {Fits : A → Type 0} {follow : Tokens → Type 0} {stop : Placed → Bool} {size : ℕ} (m : MemberUntil p text Fits follow stop size) (n : ℕ) (found all : List A) → length all < n → (ts left : Tokens) → length ts < size → Takes (flat_map text all) ts left → Sees false stop true left → follow left → Answers (until_from p stop n found ts) (found ++ all) left (AllByRecursion Fits all)
 unfolding until_from
 until_back m zero found all lt ts left short h s g = absurd (omega arith)
 until_back {A} {p} {text} {Fits} {follow} {stop} m (suc n) found [] lt ts left short h s g =
@@ -177,7 +177,7 @@ until_back {A} {p} {text} {Fits} {follow} {stop} m (suc n) found [] lt ts left s
     rw stops (inl (ap (λ x. Ok (x, left)) (sym (append-nil found))))
 until_back {A} {p} {text} {Fits} {follow} {stop} m (suc n) found (a ∷ all) lt ts left short h s g =
     let L : Type 0 = AllByRecursion Fits (a ∷ all) in
-    let k = takes_split (text a) (joined_parts text all) ts left h in
+    let k = takes_split (text a) (flat_map text all) ts left h in
     let fewer : length k.0 + length (text a) ≡ length ts = takes_shorter (text a) ts k.0 k.1 in
     let goes : look false stop ts ≡ Ok (false, ts) = looks false stop false ts ts refl (m.begins a ts k.0 k.1).0 in
     let R : List A → Type 0 = λ l. Answers (until_from p stop n (found ++ a ∷ []) k.0) l left L in
@@ -232,10 +232,10 @@ separated_long sep text (a ∷ b ∷ all) =
     omega (arith, k, size)
 
 -- each member has a token
-pub joined_long : {A : Type 0} (text : A → List Part) → ((a : A) → 0 < length (text a)) → (all : List A) → length all ≤ length (joined_parts text all)
+pub joined_long : {A : Type 0} (text : A → List Part) → ((a : A) → 0 < length (text a)) → (all : List A) → length all ≤ length (flat_map text all)
 joined_long text some [] = omega arith
 joined_long text some (a ∷ all) =
     let k = joined_long text some all in
     let one = some a in
-    let size : length (text a ++ joined_parts text all) ≡ length (text a) + length (joined_parts text all) = length-append (text a) (joined_parts text all) in
+    let size : length (text a ++ flat_map text all) ≡ length (text a) + length (flat_map text all) = length-append (text a) (flat_map text all) in
     omega (arith, k, one, size)

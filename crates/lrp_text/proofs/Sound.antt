@@ -1,8 +1,8 @@
 -- What is read is spelled so: inversion of the parsers that are done.
 use Rattle.std.proofs.Common.{◌≡◌, ℕ, zero, suc, Bool, true, false, List, [], ◌∷◌, ◌++◌, refl, ap, ◌∙◌, sym, subst, Ok, Err, if◌then◌else◌, append_assoc, append-nil, Result, length, arith, ◌+◌}
-use Rattle.std.specs.List.{AllByRecursion}
+use Rattle.std.specs.List.{AllByRecursion, flat_map}
 use Rattle.lrp_model.specs.declared.tokens.Fault.{Fault}
-use Rattle.lrp_model.specs.Tokens.{Placed, Tokens, Part, IsPart, Takes, Spells, joined_parts, separated}
+use Rattle.lrp_model.specs.Tokens.{Placed, Tokens, Part, IsPart, Takes, Spells, separated}
 use Rattle.lrp_text.specs.Parsers.{Outcome, Parser, and_then, ◌>>=◌, pure, taken, accept, look, eaten, eat, separated_from, until_from, listed}
 
 -- parts one after the other
@@ -123,7 +123,7 @@ separated_sound p spell Fits comma is_comma told sound (suc n) found ts q e =
     separated_more p spell Fits comma is_comma n (separated_sound p spell Fits comma is_comma told sound n) found a.0.0 b.0.0 ts a.0.1 b.0.1 q b.2 one.0 one.1 (eat_sound is_comma comma told a.0.1 b.0 b.1)
 
 -- one more member before the token that ends the list
-until_more : {A : Type 0} (p : Parser A) (spell : A → List Part) (Fits : A → Type 0) (stop : Placed → Bool) → Sound p spell Fits → (n : ℕ) → ((found : List A) (us : Tokens) (q : List A × Tokens) → until_from p stop n found us ≡ Ok q → ListRead (joined_parts spell) Fits found us q) → (found : List A) (stops : Bool) (ts : Tokens) (q : List A × Tokens) → (if stops then pure found else (p >>= (λ a. until_from p stop n (found ++ a ∷ [])))) ts ≡ Ok q → ListRead (joined_parts spell) Fits found ts q
+until_more : {A : Type 0} (p : Parser A) (spell : A → List Part) (Fits : A → Type 0) (stop : Placed → Bool) → Sound p spell Fits → (n : ℕ) → ((found : List A) (us : Tokens) (q : List A × Tokens) → until_from p stop n found us ≡ Ok q → ListRead (flat_map spell) Fits found us q) → (found : List A) (stops : Bool) (ts : Tokens) (q : List A × Tokens) → (if stops then pure found else (p >>= (λ a. until_from p stop n (found ++ a ∷ [])))) ts ≡ Ok q → ListRead (flat_map spell) Fits found ts q
 until_more p spell Fits stop sound n again found true ts q e =
     let h : (found, ts) ≡ q = cc in
     record { all = []; made = sym (ap (λ p. p.0) h) ∙ sym (append-nil found); spelled = ap (λ p. p.1) h; fits = tt }
@@ -134,17 +134,17 @@ until_more p spell Fits stop sound n again found false ts q e =
     record {
       all = a.0.0 ∷ rest.all;
       made = rest.made ∙ append_assoc found (a.0.0 ∷ []) rest.all;
-      spelled = takes_join (spell a.0.0) (joined_parts spell rest.all) ts a.0.1 q.1 one.0 rest.spelled;
+      spelled = takes_join (spell a.0.0) (flat_map spell rest.all) ts a.0.1 q.1 one.0 rest.spelled;
       fits = (one.1, rest.fits);
     }
 
 -- a list up to a token is spelled so
-pub until_sound : {A : Type 0} (p : Parser A) (spell : A → List Part) (Fits : A → Type 0) (stop : Placed → Bool) → Sound p spell Fits → (n : ℕ) (found : List A) (ts : Tokens) (q : List A × Tokens) → until_from p stop n found ts ≡ Ok q → ListRead (joined_parts spell) Fits found ts q
+pub until_sound : {A : Type 0} (p : Parser A) (spell : A → List Part) (Fits : A → Type 0) (stop : Placed → Bool) → Sound p spell Fits → (n : ℕ) (found : List A) (ts : Tokens) (q : List A × Tokens) → until_from p stop n found ts ≡ Ok q → ListRead (flat_map spell) Fits found ts q
 unfolding until_from
 until_sound p spell Fits stop sound zero found ts q e = absurd cc
 until_sound p spell Fits stop sound (suc n) found ts q e =
     let s = bind_ok (look false stop ts) _ q e in
-    subst (λ x. ListRead (joined_parts spell) Fits found x q) (sym (look_ok false stop ts s.0 s.1))
+    subst (λ x. ListRead (flat_map spell) Fits found x q) (sym (look_ok false stop ts s.0 s.1))
     (until_more p spell Fits stop sound n (until_sound p spell Fits stop sound n) found s.0.0 s.0.1 q s.2)
 
 -- the tokens that the parts take

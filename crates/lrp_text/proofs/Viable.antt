@@ -1,9 +1,9 @@
 -- The tokens before a fault begin a lawful text, and with the token of a fault that is no syntax fault a text.
 use Rattle.std.proofs.Common.{◌≡◌, ◌⊎◌, inl, inr, ◌<◌, ◌+◌, ℕ, zero, suc, Bool, true, false, List, [], ◌∷◌, ◌++◌, refl, ap, ◌∙◌, sym, subst, Ok, Err, if◌then◌else◌, append_assoc, append-nil, Result, length, arith}
-use Rattle.std.specs.List.{AllByRecursion}
+use Rattle.std.specs.List.{AllByRecursion, flat_map}
 use Rattle.lrp_model.specs.declared.tokens.Fault.{Fault}
 use Rattle.lrp_model.specs.declared.tokens.Fault.TheVariants.{Syntax}
-use Rattle.lrp_model.specs.Tokens.{Placed, Tokens, Part, IsPart, Spells, joined_parts, separated}
+use Rattle.lrp_model.specs.Tokens.{Placed, Tokens, Part, IsPart, Spells, separated}
 use Rattle.lrp_text.specs.Parsers.{Outcome, Parser, and_then, ◌>>=◌, pure, taken, accept, look, eaten, eat, separated_from, until_from, listed}
 use Rattle.lrp_model.specs.Refused.{IsCause, Through, GoesThrough, Stops, Fitting, TextOf}
 use Rattle.lrp_text.proofs.Sound.{takes_join, eat_ok, Eaten, takes_onto, Sound, look_ok, Front, takes_front, takes_shorter}
@@ -167,28 +167,28 @@ separated_viable {A} p spell Fits comma is_comma told sound viable (suc n) found
 ]
 
 -- one more member in front
-next_joined : {A : Type 0} (spell : A → List Part) (Fits : A → Type 0) (a : A) (head : Tokens) → Fits a → Spells (spell a) head → (c : Bool) (x : Tokens) → TextOf (joined_parts spell) (AllByRecursion Fits) c x → TextOf (joined_parts spell) (AllByRecursion Fits) c (head ++ x)
-next_joined spell Fits a head fit spelled c x s = (a ∷ s.0, fits_as _ _ c (λ r. (fit, r)) s.1, takes_join (spell a) (joined_parts spell s.0) (head ++ x) x [] (takes_onto (spell a) head x spelled) s.2)
+next_joined : {A : Type 0} (spell : A → List Part) (Fits : A → Type 0) (a : A) (head : Tokens) → Fits a → Spells (spell a) head → (c : Bool) (x : Tokens) → TextOf (flat_map spell) (AllByRecursion Fits) c x → TextOf (flat_map spell) (AllByRecursion Fits) c (head ++ x)
+next_joined spell Fits a head fit spelled c x s = (a ∷ s.0, fits_as _ _ c (λ r. (fit, r)) s.1, takes_join (spell a) (flat_map spell s.0) (head ++ x) x [] (takes_onto (spell a) head x spelled) s.2)
 
 -- a list of one member that a token ends
-one_joined : {A : Type 0} (spell : A → List Part) (Fits : A → Type 0) (c : Bool) (x : Tokens) → TextOf spell Fits c x → (y : Tokens) × TextOf (joined_parts spell) (AllByRecursion Fits) c (x ++ y)
-one_joined spell Fits c x t = ([], (t.0 ∷ [], both _ _ c t.1 tt, subst (λ z. Spells (joined_parts spell (t.0 ∷ [])) z) (sym (append-nil x)) (takes_join (spell t.0) [] x [] [] t.2 refl)))
+one_joined : {A : Type 0} (spell : A → List Part) (Fits : A → Type 0) (c : Bool) (x : Tokens) → TextOf spell Fits c x → (y : Tokens) × TextOf (flat_map spell) (AllByRecursion Fits) c (x ++ y)
+one_joined spell Fits c x t = ([], (t.0 ∷ [], both _ _ c t.1 tt, subst (λ z. Spells (flat_map spell (t.0 ∷ [])) z) (sym (append-nil x)) (takes_join (spell t.0) [] x [] [] t.2 refl)))
 
 -- one more member before the token that ends the list
-until_next : {A : Type 0} (p : Parser A) (spell : A → List Part) (Fits : A → Type 0) (stop : Placed → Bool) (size : ℕ) → Sound p spell Fits → ViableBelow size p spell Fits → ((a : A) → 0 < length (spell a)) → (n : ℕ) → ((found : List A) (us : Tokens) (e : Fault × Tokens) → length us < n → length us < size → until_from p stop n found us ≡ Err e → Stops (TextOf (joined_parts spell) (AllByRecursion Fits)) us e) → (found : List A) (stops : Bool) (ts : Tokens) (e : Fault × Tokens) → length ts < suc n → length ts < size → (if stops then pure found else (p >>= (λ a. until_from p stop n (found ++ a ∷ [])))) ts ≡ Err e → Stops (TextOf (joined_parts spell) (AllByRecursion Fits)) ts e
+until_next : {A : Type 0} (p : Parser A) (spell : A → List Part) (Fits : A → Type 0) (stop : Placed → Bool) (size : ℕ) → Sound p spell Fits → ViableBelow size p spell Fits → ((a : A) → 0 < length (spell a)) → (n : ℕ) → ((found : List A) (us : Tokens) (e : Fault × Tokens) → length us < n → length us < size → until_from p stop n found us ≡ Err e → Stops (TextOf (flat_map spell) (AllByRecursion Fits)) us e) → (found : List A) (stops : Bool) (ts : Tokens) (e : Fault × Tokens) → length ts < suc n → length ts < size → (if stops then pure found else (p >>= (λ a. until_from p stop n (found ++ a ∷ [])))) ts ≡ Err e → Stops (TextOf (flat_map spell) (AllByRecursion Fits)) ts e
 until_next p spell Fits stop size sound viable some n again found true ts e lt short h = absurd cc
 until_next p spell Fits stop size sound viable some n again found false ts e lt short h = elim (bind_err (p ts) _ e h) [
-  | inl f ↦ before (TextOf spell Fits) (TextOf (joined_parts spell) (AllByRecursion Fits)) ts e (one_joined spell Fits) (viable ts e short f)
+  | inl f ↦ before (TextOf spell Fits) (TextOf (flat_map spell) (AllByRecursion Fits)) ts e (one_joined spell Fits) (viable ts e short f)
   | inr a ↦
       let one = sound ts a.0 a.1 in
       let fewer : length a.0.1 + length (spell a.0.0) ≡ length ts = takes_shorter (spell a.0.0) ts a.0.1 one.0 in
       let nonempty : 0 < length (spell a.0.0) = some a.0.0 in
       let front = takes_front (spell a.0.0) ts a.0.1 one.0 in
-      behind (TextOf (joined_parts spell) (AllByRecursion Fits)) (TextOf (joined_parts spell) (AllByRecursion Fits)) front.head ts a.0.1 e front.whole (next_joined spell Fits a.0.0 front.head one.1 front.spelled) (again (found ++ a.0.0 ∷ []) a.0.1 e (omega arith) (omega arith) a.2)
+      behind (TextOf (flat_map spell) (AllByRecursion Fits)) (TextOf (flat_map spell) (AllByRecursion Fits)) front.head ts a.0.1 e front.whole (next_joined spell Fits a.0.0 front.head one.1 front.spelled) (again (found ++ a.0.0 ∷ []) a.0.1 e (omega arith) (omega arith) a.2)
 ]
 
 -- a list up to the token that ends it stops where its members do; the size is a bound that members with lists of their own ask for
-pub until_viable : {A : Type 0} (p : Parser A) (spell : A → List Part) (Fits : A → Type 0) (stop : Placed → Bool) (size : ℕ) → Sound p spell Fits → ViableBelow size p spell Fits → ((a : A) → 0 < length (spell a)) → (n : ℕ) (found : List A) (ts : Tokens) (e : Fault × Tokens) → length ts < n → length ts < size → until_from p stop n found ts ≡ Err e → Stops (TextOf (joined_parts spell) (AllByRecursion Fits)) ts e
+pub until_viable : {A : Type 0} (p : Parser A) (spell : A → List Part) (Fits : A → Type 0) (stop : Placed → Bool) (size : ℕ) → Sound p spell Fits → ViableBelow size p spell Fits → ((a : A) → 0 < length (spell a)) → (n : ℕ) (found : List A) (ts : Tokens) (e : Fault × Tokens) → length ts < n → length ts < size → until_from p stop n found ts ≡ Err e → Stops (TextOf (flat_map spell) (AllByRecursion Fits)) ts e
 unfolding until_from
 until_viable p spell Fits stop size sound viable some zero found ts e lt short h = absurd (omega arith)
 until_viable p spell Fits stop size sound viable some (suc n) found ts e lt short h = elim (bind_err (look false stop ts) _ e h) [
@@ -196,7 +196,7 @@ until_viable p spell Fits stop size sound viable some (suc n) found ts e lt shor
   | inr s ↦
       let same : ts ≡ s.0.1 = look_ok false stop ts s.0 s.1 in
       let length_same : length ts ≡ length s.0.1 = ap length same in
-      subst (λ x. Stops (TextOf (joined_parts spell) (AllByRecursion Fits)) x e) (sym same)
+      subst (λ x. Stops (TextOf (flat_map spell) (AllByRecursion Fits)) x e) (sym same)
       (until_next p spell Fits stop size sound viable some n (until_viable p spell Fits stop size sound viable some n) found s.0.0 s.0.1 e (omega arith) (omega arith) s.2)
 ]
 

@@ -7,7 +7,7 @@ use Rattle.lrp_zone.specs.Zones.{ZoneView, IsMember, columns_of, reach_of}
 use Rattle.lrp_zone.specs.Residues.{HasResidues}
 use Rattle.lrp_zone.specs.Tight.{CanTighten, IsStored}
 
--- the given bound with the number i
+-- the given bound with the number i; only numbers of bounds are asked for
 abbrev pub bound_at : List Bound → ℕ → Bound
 bound_at bs i = slice_index_or bs i (record { left = 0; right = 0; most = pos 0 })
 
