@@ -1,5 +1,5 @@
 -- The grammar of databases: what spells a written tree, and which trees are lawful.
-use Rattle.std.specs.Prelude.{◌≤◌, Bool, true, false, List, [], ◌∷◌, ◌++◌, length}
+use Rattle.std.specs.Prelude.{◌≤◌, Bool, true, false, List, [], ◌∷◌, ◌++◌, length, flat_map}
 use Rattle.std.specs.List.{AllByRecursion}
 use Rattle.lrp_model.specs.Texts.{Identifier}
 use Rattle.lrp_model.specs.declared.tokens.Symbol.{Symbol}
@@ -16,7 +16,7 @@ use Rattle.lrp_model.specs.declared.written.Side.TheVariants.{Alone, Column, Shi
 use Rattle.lrp_model.specs.declared.written.RawBound.{RawBound}
 use Rattle.lrp_model.specs.declared.written.RawRow.{RawRow}
 use Rattle.lrp_model.specs.declared.written.RawRelation.{RawRelation}
-use Rattle.lrp_model.specs.Tokens.{Part, located_text, joined_parts, separated}
+use Rattle.lrp_model.specs.Tokens.{Part, located_text, separated}
 use Rattle.lrp_model.specs.Tokens.Token.{name_token, word_token, number_token, text_token, symbol_token, end_token}
 use Rattle.lrp_model.specs.Tokens.Part.{at, any}
 use Rattle.lrp_model.specs.Limits.{greatest_number}
@@ -80,11 +80,11 @@ row_text r = any (symbol_token Open) ∷ (separated comma (located_text value_te
 abbrev pub relation_text : RawRelation → List Part
 relation_text r =
     any (word_token Relation) ∷ name_part r.name ∷ any (symbol_token Open) ∷ (separated comma column_text r.columns ++
-    any (symbol_token Close) ∷ any (symbol_token OpenBrace) ∷ (joined_parts (located_text row_text) r.rows ++ any (symbol_token CloseBrace) ∷ []))
+    any (symbol_token Close) ∷ any (symbol_token OpenBrace) ∷ (flat_map (located_text row_text) r.rows ++ any (symbol_token CloseBrace) ∷ []))
 
 -- database = { relation }, and behind it the end
 abbrev pub database_text : List RawRelation → List Part
-database_text rs = joined_parts relation_text rs ++ any end_token ∷ []
+database_text rs = flat_map relation_text rs ++ any end_token ∷ []
 
 -- ---- what makes a tree lawful beyond the grammar: the sizes of numbers and texts, and periods that are not 0
 

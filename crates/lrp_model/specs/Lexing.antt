@@ -151,7 +151,7 @@ headed p s end_token rest = record { token = end_token; place = p } ∷ []
 headed p s bad_token rest = record { token = bad_token; place = after p s.taken } ∷ []
 headed p s t rest = record { token = t; place = p } ∷ rest
 
--- the tokens of the bytes that are left; each turn takes a byte
+-- the tokens of the bytes that are left; each turn takes a byte, so the turns don't run out before the bytes
 unfoldable pub tokens_from : ℕ → Place → List ℕ → Tokens
 tokens_from zero p bs = []
 tokens_from (suc n) p bs =

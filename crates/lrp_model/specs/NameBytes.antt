@@ -5,4 +5,4 @@ use Rattle.lrp_model.specs.declared.names.Bytes.TheVariants.{Few, Many}
 
 abbrev pub bytes_of : Bytes → List ℕ
 bytes_of (Few short) = take short.size short.bytes
-bytes_of (Many boxed) = boxed.value
+bytes_of (Many shared) = shared.value

@@ -43,11 +43,6 @@ Takes (p ∷ ps) (t ∷ ts) left = IsPart p t × Takes ps ts left
 abbrev pub Spells : List Part → Tokens → Type 0
 Spells ps ts = Takes ps ts []
 
--- the parts of one tree after the other
-abbrev pub joined_parts : {A : Type 0} → (A → List Part) → List A → List Part
-joined_parts text [] = []
-joined_parts text (a ∷ all) = text a ++ joined_parts text all
-
 -- the parts of one tree after the other, with a separator between
 abbrev pub separated : {A : Type 0} → Part → (A → List Part) → List A → List Part
 separated comma text [] = []
