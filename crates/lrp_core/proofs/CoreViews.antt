@@ -1,7 +1,7 @@
 -- The formula of a core form whose members stand in a vector, and lists of members as they grow.
 use Rattle.std.proofs.Common.{◌≡◌, subst, List, [], ◌∷◌, ◌++◌, Vec, Global, refl, ap, sym, ◌∙◌, rules}
-use Rattle.lrp_model.specs.Formulas.{Form, Forms, conjunction, disjunction, no_forms, form, joined}
-use Rattle.lrp_model.specs.Core.{conjuncts, disjuncts, all_conjuncts, all_disjuncts, and_two, or_two}
+use Rattle.lrp_model.specs.Formulas.{Forms, conjunction, disjunction, no_forms, form, joined}
+use Rattle.lrp_model.specs.Core.{conjuncts, disjuncts}
 use Rattle.lrp_core.specs.Cores.{core_of, cores_of, row_cores}
 use Rattle.lrp_core.specs.declared.core_forms.Core.{Core, And, Or, the_lemmas, Row_of-Core, end_of-Core, more_of-Core, items-the_row-Core, roll-Core, out-Core, roll-out-Core}
 use Rattle.lrp_core.specs.declared.core_forms.Core.TheOpen.{Core-F}
@@ -76,35 +76,3 @@ pub disjunct_added : (fs gs : List Core) (f : Core) → ((v : Vec Core Global) �
 disjunct_added fs gs f other e =
     let one : disjuncts (core_of f) ≡ form (core_of f) no_forms = subst (λ g. disjuncts (core_of g) ≡ form (core_of g) no_forms) (roll-out-Core f) (one_disjunct (out-Core f) (λ v is. other v (sym (roll-out-Core f) ∙ is))) in
     ap cores_of e ∙ cores_of-append fs (f ∷ []) ∙ ap (joined (cores_of fs)) (sym one)
-
--- elements are added one after the other
-all_conjuncts-joined : (fs gs : Forms) → all_conjuncts (joined fs gs) ≡ joined (all_conjuncts fs) (all_conjuncts gs)
-all_conjuncts-joined no_forms gs = refl
-all_conjuncts-joined (form f fs) gs = ap (joined (conjuncts f)) (all_conjuncts-joined fs gs) ∙ sym (joined_assoc (conjuncts f) (all_conjuncts fs) (all_conjuncts gs))
-
--- the same for an `or`
-all_disjuncts-joined : (fs gs : Forms) → all_disjuncts (joined fs gs) ≡ joined (all_disjuncts fs) (all_disjuncts gs)
-all_disjuncts-joined no_forms gs = refl
-all_disjuncts-joined (form f fs) gs = ap (joined (disjuncts f)) (all_disjuncts-joined fs gs) ∙ sym (joined_assoc (disjuncts f) (all_disjuncts fs) (all_disjuncts gs))
-
--- the elements of a further formula, behind those of the formulas before
-pub conjuncts-more : (start gs hs : Forms) (f : Form) (made more : Forms) → gs ≡ joined start (all_conjuncts made) → hs ≡ joined gs (conjuncts f) → more ≡ joined made (form f no_forms) → hs ≡ joined start (all_conjuncts more)
-conjuncts-more start gs hs f made more before step e =
-    step ∙ ap (λ x. joined x (conjuncts f)) before ∙ joined_assoc start (all_conjuncts made) (conjuncts f)
-    ∙ ap (joined start) (ap (joined (all_conjuncts made)) (sym (joined_none (conjuncts f))) ∙ sym (all_conjuncts-joined made (form f no_forms)) ∙ sym (ap all_conjuncts e))
-
--- the same for an `or`
-pub disjuncts-more : (start gs hs : Forms) (f : Form) (made more : Forms) → gs ≡ joined start (all_disjuncts made) → hs ≡ joined gs (disjuncts f) → more ≡ joined made (form f no_forms) → hs ≡ joined start (all_disjuncts more)
-disjuncts-more start gs hs f made more before step e =
-    step ∙ ap (λ x. joined x (disjuncts f)) before ∙ joined_assoc start (all_disjuncts made) (disjuncts f)
-    ∙ ap (joined start) (ap (joined (all_disjuncts made)) (sym (joined_none (disjuncts f))) ∙ sym (all_disjuncts-joined made (form f no_forms)) ∙ sym (ap all_disjuncts e))
-
--- an `and` of two, from no elements on
-pub two_conjuncts-and : (none one two : Vec Core Global) (f g : Form) → none.items ≡ [] → cores_of one.items ≡ joined (cores_of none.items) (conjuncts f) → cores_of two.items ≡ joined (cores_of one.items) (conjuncts g) → core_of (And two) ≡ and_two f g
-two_conjuncts-and none one two f g start first second =
-    core_of-And two ∙ ap conjunction (second ∙ ap (λ x. joined x (conjuncts g)) (first ∙ ap (λ x. joined (cores_of x) (conjuncts f)) start) ∙ ap (joined (conjuncts f)) (sym (joined_none (conjuncts g))))
-
--- an `or` of two, from no elements on
-pub two_disjuncts-or : (none one two : Vec Core Global) (f g : Form) → none.items ≡ [] → cores_of one.items ≡ joined (cores_of none.items) (disjuncts f) → cores_of two.items ≡ joined (cores_of one.items) (disjuncts g) → core_of (Or two) ≡ or_two f g
-two_disjuncts-or none one two f g start first second =
-    core_of-Or two ∙ ap disjunction (second ∙ ap (λ x. joined x (disjuncts g)) (first ∙ ap (λ x. joined (cores_of x) (disjuncts f)) start) ∙ ap (joined (disjuncts f)) (sym (joined_none (disjuncts g))))

@@ -1,4 +1,6 @@
 pub mod CoreViews
+pub mod Joined
+pub mod Formed
 pub mod Members
 pub mod VariableLists
 pub mod TreeViews

@@ -1,57 +1,17 @@
 -- Core forms of the members of a vector, and of a head's columns.
-use Rattle.std.proofs.Common.{◌≡◌, ℕ, ◌+◌, ◌<◌, Bool, true, false, List, [], ◌∷◌, ◌++◌, Vec, Global, refl, ap, sym, ◌∙◌, length, take, get_or}
+use Rattle.std.proofs.Common.{◌≡◌, ℕ, ◌+◌, ◌<◌, true, false, List, [], ◌∷◌, ◌++◌, Vec, Global, refl, ap, sym, ◌∙◌, length, take, get_or}
 use Rattle.std.proofs.lemmas.Bool.{true≢false}
 use Rattle.std.proofs.lemmas.List.{take_more}
 use Rattle.lrp_model.specs.Texts.{Identifier}
 use Rattle.lrp_model.specs.Sorts.{is_time}
-use Rattle.lrp_model.specs.Formulas.{Form, Forms, form_of, forms_of, sorted, negation, conjunction, no_forms, form, joined}
-use Rattle.lrp_model.specs.Core.{positive, negative, positives, negatives, conjuncts, all_conjuncts, column_elements, head_elements, and_list, or_list}
-use Rattle.lrp_model.specs.declared.formulas.Formula.{Formula, And as all_formulas, Or as some_formula}
+use Rattle.lrp_model.specs.Formulas.{Form, Forms, sorted, conjunction, no_forms, form, joined}
+use Rattle.lrp_model.specs.Core.{conjuncts, all_conjuncts, column_elements, head_elements, and_list}
 use Rattle.lrp_model.specs.declared.relations.Sort.{Sort}
 use Rattle.lrp_model.specs.declared.relations.Sort.TheVariants.{Time, Data, Named}
 use Rattle.lrp_model.specs.declared.relations.Column.{Column}
-use Rattle.lrp_model.proofs.Views.{forms_of-append, form_of-And, form_of-Or}
 use Rattle.lrp_core.proofs.CoreViews.{core_of-And, cores_of-append, joined_none, joined_assoc}
 use Rattle.lrp_core.specs.Cores.{core_of, cores_of}
 use Rattle.lrp_core.specs.declared.core_forms.Core.{Core, And}
-
--- the core forms of two lists, one behind the other
-positives-joined : (fs gs : Forms) (named : Bool) → positives (joined fs gs) named ≡ joined (positives fs named) (positives gs named)
-positives-joined no_forms gs named = refl
-positives-joined (form f fs) gs named = ap (form (positive f named)) (positives-joined fs gs named)
-
--- the same for their negations
-negatives-joined : (fs gs : Forms) (named : Bool) → negatives (joined fs gs) named ≡ joined (negatives fs named) (negatives gs named)
-negatives-joined no_forms gs named = refl
-negatives-joined (form f fs) gs named = ap (form (negative f named)) (negatives-joined fs gs named)
-
--- the formulas before the next place are those before this one, and this one
-forms_of-take : (fs : List Formula) (i : ℕ) (f : Formula) → i < length fs → f ≡ get_or fs i f → forms_of (take (i + 1) fs) ≡ joined (forms_of (take i fs)) (form (form_of f) no_forms)
-forms_of-take fs i f lt is = ap forms_of (take_more fs i f lt ∙ ap (λ x. take i fs ++ x ∷ []) (sym is)) ∙ forms_of-append (take i fs) (f ∷ [])
-
--- one core form more
-pub positives-more : (fs : List Formula) (i : ℕ) (f : Formula) (named : Bool) → i < length fs → f ≡ get_or fs i f → positives (forms_of (take (i + 1) fs)) named ≡ joined (positives (forms_of (take i fs)) named) (form (positive (form_of f) named) no_forms)
-positives-more fs i f named lt is = ap (λ x. positives x named) (forms_of-take fs i f lt is) ∙ positives-joined (forms_of (take i fs)) (form (form_of f) no_forms) named
-
--- the same for negations
-pub negatives-more : (fs : List Formula) (i : ℕ) (f : Formula) (named : Bool) → i < length fs → f ≡ get_or fs i f → negatives (forms_of (take (i + 1) fs)) named ≡ joined (negatives (forms_of (take i fs)) named) (form (negative (form_of f) named) no_forms)
-negatives-more fs i f named lt is = ap (λ x. negatives x named) (forms_of-take fs i f lt is) ∙ negatives-joined (forms_of (take i fs)) (form (form_of f) no_forms) named
-
--- the core form of an `and`
-pub positive-And : (f : Formula) (v : Vec Formula Global) (named : Bool) → f ≡ all_formulas v → and_list (positives (forms_of v.items) named) ≡ positive (form_of f) named
-positive-And f v named is = sym (ap (λ x. positive (form_of x) named) is ∙ ap (λ x. positive x named) (form_of-And v))
-
--- the core form of an `or`
-pub positive-Or : (f : Formula) (v : Vec Formula Global) (named : Bool) → f ≡ some_formula v → or_list (positives (forms_of v.items) named) ≡ positive (form_of f) named
-positive-Or f v named is = sym (ap (λ x. positive (form_of x) named) is ∙ ap (λ x. positive x named) (form_of-Or v))
-
--- the core form of the negation of an `and`
-pub negative-And : (f : Formula) (v : Vec Formula Global) (all : Core) (named : Bool) → f ≡ all_formulas v → core_of all ≡ and_list (positives (forms_of v.items) named) → negation (core_of all) ≡ negative (form_of f) named
-negative-And f v all named is whole = ap negation whole ∙ sym (ap (λ x. negative (form_of x) named) is ∙ ap (λ x. negative x named) (form_of-And v))
-
--- the core form of the negation of an `or`
-pub negative-Or : (f : Formula) (v : Vec Formula Global) (named : Bool) → f ≡ some_formula v → and_list (negatives (forms_of v.items) named) ≡ negative (form_of f) named
-negative-Or f v named is = sym (ap (λ x. negative (form_of x) named) is ∙ ap (λ x. negative x named) (form_of-Or v))
 
 -- the sort elements of a head, column by column
 head_elements-append : (cs ds : List Column) → head_elements (cs ++ ds) ≡ joined (head_elements cs) (head_elements ds)

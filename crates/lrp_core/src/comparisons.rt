@@ -4,7 +4,7 @@ ghost use Rattle.lrp_model.specs.Formulas.{negation, test as test_form};
 ghost use Rattle.lrp_model.specs.Core.{compare, compare_not, positive_test as core_of_test, negative_test as core_of_denied};
 ghost use Rattle.lrp_core.specs.Cores.{core_of};
 
-use crate::junctions::either;
+use crate::junctions::Junction;
 use crate::{Core, TermTest};
 use lrp_model::{Memory, Op, Test, TimeTerm};
 use std::alloc::Global;
@@ -84,5 +84,5 @@ fn differing<'a>(alloc: Global, left: &'a TimeTerm, right: &'a TimeTerm) -> Resu
 {
     let before = check(left, Op::Lt, right);
     let after = check(right, Op::Lt, left);
-    either(alloc, before, after)
+    Junction::Or.two(alloc, before, after)
 }

@@ -7,6 +7,7 @@ mod coverage;
 mod forming;
 mod junctions;
 mod literals;
+mod polarities;
 mod terms;
 mod variable_trees;
 mod variables;

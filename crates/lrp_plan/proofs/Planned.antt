@@ -28,7 +28,8 @@ use Rattle.lrp_limits.specs.Facts.{AreFacts}
 use Rattle.lrp_plan.specs.Drafts.{Extends, AreTests}
 use Rattle.lrp_plan.specs.Taking.{IsSoFar}
 use Rattle.lrp_core.specs.declared.variable_trees.VariableTree.{VariableTree}
-use Rattle.lrp_plan.specs.Elements.{AreInner, CanPlan, MakesSteps, EachCanPlan, IsElement, IsDenied, IsAt, IsSplitOf, TakesTests, TakesEach, DeniesEach}
+use Rattle.lrp_plan.specs.Elements.{AreInner, CanPlan, MakesSteps, EachCanPlan, IsElement, IsDenied, IsAt, IsSplitOf, TakesTests, TakesEach}
+use Rattle.lrp_plan.specs.declared.elements.Kind.TheVariants.{Positive, Negation}
 use Rattle.lrp_plan.specs.Sources.{AreSources}
 use Rattle.lrp_limits.proofs.Keeping.{common_both}
 use Rattle.lrp_plan.proofs.Turns.{zip_length}
@@ -132,9 +133,9 @@ tests_are_tests (form (forall v s f) fs) = tests_are_tests fs
 
 pub all_planned : {T E : Type 0} (r : Result T E) (sources : Sources) (trees : List VariableTree) (fs : List Core) (split : Split) (first second third : Taking) (fourth : Taking) (old a b new : Draft) → ((M : Structure) → AreSources M sources → AreInner trees (conjunction (cores_of fs)) → IsSplitOf M fs split)
     → first.result ≡ None → map variable_of first.variables ≡ [] → first.tests ≡ split.tests → first.settled ≡ false
-    → ((M : Structure) → AreSources M sources → TakesEach M (length split.positives.items) fs split.positives.items old a first second)
+    → ((M : Structure) → AreSources M sources → TakesEach Positive M (length split.positives.items) fs split.positives.items old a first second)
     → TakesTests (length second.tests) a b second third
-    → OnOk r ((M : Structure) → AreSources M sources → DeniesEach M (length split.negations.items) fs split.negations.items b new third fourth) → Planned r sources trees (conjunction (cores_of fs)) old new
+    → OnOk r ((M : Structure) → AreSources M sources → TakesEach Negation M (length split.negations.items) fs split.negations.items b new third fourth) → Planned r sources trees (conjunction (cores_of fs)) old new
 all_planned (Err x) sources trees fs split first second third fourth old a b new is e v t u ps ts ns = tt
 all_planned (Ok x) sources trees fs split first second third fourth old a b new is e v t u ps ts ns = λ M K src known c. record {
   follows = λ planned d.

@@ -20,8 +20,11 @@ use Rattle.lrp_plan.specs.declared.drafts.Operand.{Operand}
 use Rattle.lrp_plan.specs.declared.drafts.Draft.{Draft}
 use Rattle.lrp_plan.specs.declared.taking.Taking.{Taking}
 use Rattle.lrp_plan.specs.Drafts.{IsDraft, Extends, AreTests}
-use Rattle.lrp_plan.specs.Taking.{AreUncovered, HaveSame, NextTest, IsSoFar, IsTaking, IsTakenState, TakesIn, TakesTest, TakesOff}
-use Rattle.lrp_plan.specs.Elements.{element_variables, element_inner, AreInner, TakesAt, IsElement, IsDenied, IsAt, CanPlan, EachCanPlan, TakesPositives, TakesTests, TakesNegations, TurnsPositive, TurnsTest, TurnsNegation}
+use Rattle.lrp_plan.specs.Taking.{AreUncovered, HaveSame, NextTest, IsSoFar, IsTaking, IsTakenState, Takes, TakesIn, TakesTest, TakesOff}
+use Rattle.lrp_plan.specs.Waiting.{goes_first, turn_of}
+use Rattle.lrp_plan.specs.declared.elements.Kind.{Kind}
+use Rattle.lrp_plan.specs.declared.elements.Kind.TheVariants.{Positive, Negation}
+use Rattle.lrp_plan.specs.Elements.{element_variables, element_inner, AreInner, TakesAt, IsElement, IsDenied, IsAt, CanPlan, EachCanPlan, TakesPositives, TakesTests, TakesNegations, TakesTurns, TakesNext, TurnsTest, element_of}
 use Rattle.lrp_plan.proofs.Members.{are_among_same, meet_same}
 use Rattle.lrp_plan.proofs.Takes.{taking_grows}
 
@@ -228,19 +231,14 @@ tests_more turns before mid after t old now next new h n takes = record {
 
 -- ---- single turns, and none
 
-pub turns_positive : (M : Structure) (fs : List Core) (qs rs : List Element) (mid last after : Draft) (e : Element) (now new : Taking) → TakesAt (first_or_0 (λ x. meet (element_variables x) (map variable_of now.variables)) qs) qs rs (Some e)
-    → ((K : ℕ) (core : Core) → slice_get fs e.index ≡ Some core → AreInner (element_inner e) (core_of core) → CanPlan M K (core_of core) → Extends M K (plan_of (core_of core)) mid last) → TakesIn (element_variables e) now new last after → TurnsPositive M fs qs rs mid after now new
-turns_positive M fs qs rs mid last after e now new t plans takes = record { next = λ turns ps before old h. positives_more M turns fs ps qs rs before mid last after e old now new h t plans takes }
+pub turns_next : (kind : Kind) (M : Structure) (fs : List Core) (qs rs : List Element) (mid last after : Draft) (e : Element) (now new : Taking) → TakesAt (first_or_0 (goes_first (turn_of kind (is_some now.result)) now.variables) qs) qs rs (Some e)
+    → ((K : ℕ) (core : Core) (f : Form) → slice_get fs e.index ≡ Some core → core_of core ≡ element_of kind f → AreInner (element_inner e) f → CanPlan M K f → Extends M K (plan_of f) mid last) → Takes kind (element_variables e) now new last after → TakesNext kind M fs qs rs mid after now new
+turns_next Positive M fs qs rs mid last after e now new t plans takes = record { next = λ turns es before old h. positives_more M turns fs es qs rs before mid last after e old now new h t (λ K core is inner can. plans K core (core_of core) is refl inner can) takes }
+turns_next Negation M fs qs rs mid last after e now new t plans takes = record { next = λ turns es before old h. negations_more M turns fs es qs rs before mid last after e (is_some now.result) old now new h refl t plans takes }
 
-pub idles_positive : (M : Structure) (fs : List Core) (qs rs : List Element) (mid : Draft) (now : Taking) (i : ℕ) → TakesAt i qs rs None → TurnsPositive M fs qs rs mid mid now now
-idles_positive M fs qs rs mid now i t = record { next = λ turns ps before old h. positives_idle M turns fs ps qs rs before mid old now i h t }
-
-pub turns_negation : (M : Structure) (fs : List Core) (qs rs : List Element) (mid last after : Draft) (e : Element) (some : Bool) (now new : Taking) → some ≡ is_some now.result → TakesAt (first_or_0 (λ x. some && are_among (element_variables x) (map variable_of now.variables)) qs) qs rs (Some e)
-    → ((K : ℕ) (core : Core) (f : Form) → slice_get fs e.index ≡ Some core → core_of core ≡ negation f → AreInner (element_inner e) f → CanPlan M K f → Extends M K (plan_of f) mid last) → TakesOff (element_variables e) now new last after → TurnsNegation M fs qs rs mid after now new
-turns_negation M fs qs rs mid last after e some now new so t plans takes = record { next = λ turns ns before old h. negations_more M turns fs ns qs rs before mid last after e some old now new h so t plans takes }
-
-pub idles_negation : (M : Structure) (fs : List Core) (qs rs : List Element) (mid : Draft) (now : Taking) (i : ℕ) → TakesAt i qs rs None → TurnsNegation M fs qs rs mid mid now now
-idles_negation M fs qs rs mid now i t = record { next = λ turns ns before old h. negations_idle M turns fs ns qs rs before mid old now i h t }
+pub idles_next : (kind : Kind) (M : Structure) (fs : List Core) (qs rs : List Element) (mid : Draft) (now : Taking) (i : ℕ) → TakesAt i qs rs None → TakesNext kind M fs qs rs mid mid now now
+idles_next Positive M fs qs rs mid now i t = record { next = λ turns es before old h. positives_idle M turns fs es qs rs before mid old now i h t }
+idles_next Negation M fs qs rs mid now i t = record { next = λ turns es before old h. negations_idle M turns fs es qs rs before mid old now i h t }
 
 pub turns_test : (mid after : Draft) (t : Test) (now next new : Taking) → NextTest now next (Some t) → TakesTest t next new mid after → TurnsTest mid after now new
 turns_test mid after t now next new n takes = record { next = λ turns before old h. tests_more turns before mid after t old now next new h n takes }
@@ -248,11 +246,9 @@ turns_test mid after t now next new n takes = record { next = λ turns before ol
 pub idles_test : (mid : Draft) (now new : Taking) → NextTest now new None → TurnsTest mid mid now new
 idles_test mid now new n = record { next = λ turns before old h. tests_idle turns before mid old now new h n }
 
-pub no_positives : (M : Structure) (fs : List Core) (ps : List Element) (before : Draft) (old : Taking) → TakesPositives M 0 fs ps ps before before old old
-no_positives M fs ps before old = record { follows = λ K ns s can at. at }
-
 pub no_tests : (before : Draft) (old : Taking) → TakesTests 0 before before old old
 no_tests before old = record { follows = λ M K fs ps ns s at. at }
 
-pub no_negations : (M : Structure) (fs : List Core) (ns : List Element) (before : Draft) (old : Taking) → TakesNegations M 0 fs ns ns before before old old
-no_negations M fs ns before old = record { follows = λ K ps s can at. at }
+pub no_turns : (kind : Kind) (M : Structure) (fs : List Core) (es : List Element) (before : Draft) (old : Taking) → TakesTurns kind M 0 fs es es before before old old
+no_turns Positive M fs es before old = record { follows = λ K ns s can at. at }
+no_turns Negation M fs es before old = record { follows = λ K ps s can at. at }

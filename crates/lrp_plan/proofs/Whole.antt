@@ -13,7 +13,7 @@ use Rattle.lrp_model.specs.Variables.{Variable, free, head_variables}
 use Rattle.lrp_model.specs.Satisfaction.{Structure, structure}
 use Rattle.lrp_model.specs.Core.{core_form, guarded, has_named_sort, HasElements}
 use Rattle.lrp_model.specs.Domains.{database_texts, all_texts}
-use Rattle.lrp_model.specs.Periods.{IsMultiple, lcm_all, periods, period, IsCommon}
+use Rattle.lrp_model.specs.Periods.{lcm_all, periods, period, IsCommon}
 use Rattle.lrp_model.specs.Plans.{plan, plan_of, query_reach, scaled_reach, IsStep}
 use Rattle.lrp_model.specs.Sorts.{time_count}
 use Rattle.lrp_model.specs.declared.relations.Relation.{Relation}

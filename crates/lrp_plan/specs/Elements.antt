@@ -13,6 +13,8 @@ use Rattle.lrp_model.specs.Satisfaction.{Structure}
 use Rattle.lrp_model.specs.Conjunctions.{Element as PlanElement, State, ranked, tests_in, take_positives, take_tests, take_negations}
 use Rattle.lrp_model.specs.Plans.{plan_of, positives_in, negations_in}
 use Rattle.lrp_plan.specs.declared.elements.Element.{Element}
+use Rattle.lrp_plan.specs.declared.elements.Kind.{Kind}
+use Rattle.lrp_plan.specs.declared.elements.Kind.TheVariants.{Positive, Negation}
 use Rattle.lrp_plan.specs.declared.elements.Split.{Split}
 use Rattle.lrp_plan.specs.declared.drafts.Draft.{Draft}
 use Rattle.lrp_plan.specs.declared.taking.Taking.{Taking}
@@ -32,6 +34,11 @@ element_inner e = (out-VariableTree e.tree.now).inner.items
 abbrev pub TakesAt : ℕ → List Element → List Element → Option Element → Type 0
 TakesAt i old new None = (old ≡ []) × (new ≡ [])
 TakesAt i old new (Some e) = (slice_get old i ≡ Some e) × (new ≡ remove old i)
+
+-- the formula of an element of a kind, by the one whose steps are made for it
+abbrev pub element_of : Kind → Form → Form
+element_of Positive f = f
+element_of Negation f = negation f
 
 -- these are the trees of the elements in a formula
 abbrev pub AreInner : List VariableTree → Form → Type 0
@@ -90,21 +97,19 @@ pub record TakesTests (turns : ℕ) (before after : Draft) (old new : Taking) : 
 pub record TakesNegations (M : Structure) (turns : ℕ) (fs : List Core) (ns qs : List Element) (before after : Draft) (old new : Taking) : Type 0 where
   pub follows : (K : ℕ) (ps : List Element) (s : State) → EachCanPlan M K fs → IsAt M K fs before ps ns old s → IsAt M K fs after ps qs new (take_negations turns M s)
 
--- all turns, whatever is left of the elements then
-pub record TakesEach (M : Structure) (turns : ℕ) (fs : List Core) (ps : List Element) (before after : Draft) (old new : Taking) : Type 0 where
-  pub left : List Element
-  pub takes : TakesPositives M turns fs ps left before after old new
+-- so many turns of elements of a kind
+abbrev pub TakesTurns : Kind → Structure → ℕ → List Core → List Element → List Element → Draft → Draft → Taking → Taking → Type 0
+TakesTurns Positive M turns fs es left before after old new = TakesPositives M turns fs es left before after old new
+TakesTurns Negation M turns fs es left before after old new = TakesNegations M turns fs es left before after old new
 
-pub record DeniesEach (M : Structure) (turns : ℕ) (fs : List Core) (ns : List Element) (before after : Draft) (old new : Taking) : Type 0 where
+-- all turns, whatever is left of the elements then
+pub record TakesEach (kind : Kind) (M : Structure) (turns : ℕ) (fs : List Core) (es : List Element) (before after : Draft) (old new : Taking) : Type 0 where
   pub left : List Element
-  pub takes : TakesNegations M turns fs ns left before after old new
+  pub takes : TakesTurns kind M turns fs es left before after old new
 
 -- one turn behind those that were made
-pub record TurnsPositive (M : Structure) (fs : List Core) (qs rs : List Element) (mid after : Draft) (now new : Taking) : Type 0 where
-  pub next : (turns : ℕ) (ps : List Element) (before : Draft) (old : Taking) → TakesPositives M turns fs ps qs before mid old now → TakesPositives M (turns + 1) fs ps rs before after old new
+pub record TakesNext (kind : Kind) (M : Structure) (fs : List Core) (qs rs : List Element) (mid after : Draft) (now new : Taking) : Type 0 where
+  pub next : (turns : ℕ) (es : List Element) (before : Draft) (old : Taking) → TakesTurns kind M turns fs es qs before mid old now → TakesTurns kind M (turns + 1) fs es rs before after old new
 
 pub record TurnsTest (mid after : Draft) (now new : Taking) : Type 0 where
   pub next : (turns : ℕ) (before : Draft) (old : Taking) → TakesTests turns before mid old now → TakesTests (turns + 1) before after old new
-
-pub record TurnsNegation (M : Structure) (fs : List Core) (qs rs : List Element) (mid after : Draft) (now new : Taking) : Type 0 where
-  pub next : (turns : ℕ) (ns : List Element) (before : Draft) (old : Taking) → TakesNegations M turns fs ns qs before mid old now → TakesNegations M (turns + 1) fs ns rs before after old new

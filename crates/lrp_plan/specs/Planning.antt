@@ -1,11 +1,11 @@
 -- Which queries have a plan, and why others have none.
-use Rattle.std.specs.Prelude.{◌≡◌, ℕ, ◌≤◌, ◌<◌, List, [], ◌++◌, Result, Ok, Err}
+use Rattle.std.specs.Prelude.{◌≡◌, ℕ, List, [], ◌++◌, Result, Ok, Err}
 use Rattle.lrp_model.specs.Formulas.{Form, Question}
 use Rattle.lrp_model.specs.Satisfaction.{Structure, structure}
 use Rattle.lrp_model.specs.Core.{core_form, has_named_sort, HasElements}
 use Rattle.lrp_model.specs.Domains.{database_texts, all_texts}
-use Rattle.lrp_model.specs.Periods.{periods, period, IsCommon}
-use Rattle.lrp_model.specs.Plans.{plan_of, scaled_reach, IsPlan, IsWithinLimits, HasLongPeriod, HasFarReach}
+use Rattle.lrp_model.specs.Periods.{periods, IsCommon}
+use Rattle.lrp_model.specs.Plans.{plan_of, IsPlan, IsWithinLimits, HasLongPeriod, HasFarReach}
 use Rattle.lrp_model.specs.declared.plans.Plan.{Plan}
 use Rattle.lrp_model.specs.declared.relations.Relation.{Relation}
 use Rattle.lrp_plan_laws.specs.Rising.{HasPeriods}
@@ -17,7 +17,6 @@ use Rattle.lrp_plan.specs.Drafts.{IsDraft, headed}
 use Rattle.lrp_plan.specs.Elements.{CanPlan}
 use Rattle.lrp_limits.specs.Multiples.{IsPeriod, IsLeastWithinLimit}
 use Rattle.lrp_plan.specs.Sources.{AreSources}
-use Rattle.lrp_model.specs.Limits.{greatest_number}
 
 -- the period is above the greatest number; or it is not and the reach, doubled so, is; or memory ran out
 abbrev pub IsPastLimits : PlanFault → List Relation → Question → Type 0

@@ -11,6 +11,8 @@ use Rattle.lrp_model.specs.declared.formulas.Test.{Test}
 use Rattle.lrp_model.specs.declared.relations.Relation.{Relation}
 use Rattle.lrp_plan.specs.declared.drafts.Operand.{Operand}
 use Rattle.lrp_plan.specs.declared.drafts.Draft.{Draft}
+use Rattle.lrp_plan.specs.declared.elements.Kind.{Kind}
+use Rattle.lrp_plan.specs.declared.elements.Kind.TheVariants.{Positive, Negation}
 use Rattle.lrp_plan.specs.declared.taking.Taking.{Taking}
 use Rattle.lrp_plan.specs.Drafts.{IsOperand, IsDraft, AreTests}
 
@@ -86,6 +88,11 @@ taken_with taken f after = record { some = true; result = length after; variable
 pub record TakesOff (vs : List Variable) (old new : Taking) (before after : Draft) : Type 0 where
   pub follows : (M : Structure) (K : ℕ) (f : Form) (steps : Steps) (taken : Taken) (tests : List Test) → HaveSame vs (free f) → IsDraft M.relations K before steps → IsTaking M.relations K steps old taken tests
       → IsDraft M.relations K after (after_negation taken f M steps) × IsTaking M.relations K (after_negation taken f M steps) new (taken_with taken f (after_negation taken f M steps)) tests
+
+-- an element of a kind was taken in or taken off
+abbrev pub Takes : Kind → List Variable → Taking → Taking → Draft → Draft → Type 0
+Takes Positive vs old new before after = TakesIn vs old new before after
+Takes Negation vs old new before after = TakesOff vs old new before after
 
 -- the first of the tests that remain was taken out, if there is one
 abbrev pub NextTest : Taking → Taking → Option Test → Type 0

@@ -5,9 +5,16 @@ use Rattle.lrp_core.specs.FreeVariables.{variable_of}
 use Rattle.lrp_core.specs.declared.variables.Variable.{Variable as ProgramVariable}
 use Rattle.lrp_model.specs.Variables.{are_among, meet}
 use Rattle.lrp_plan.specs.declared.elements.Element.{Element}
+use Rattle.lrp_plan.specs.declared.elements.Kind.{Kind}
+use Rattle.lrp_plan.specs.declared.elements.Kind.TheVariants.{Positive, Negation}
 use Rattle.lrp_plan.specs.Elements.{element_variables}
 use Rattle.lrp_plan.specs.declared.waiting.Turn.{Turn}
 use Rattle.lrp_plan.specs.declared.waiting.Turn.TheVariants.{Meeting, Covered}
+
+-- which elements of a kind go before the others, where there is a result so far or none
+abbrev pub turn_of : Kind → Bool → Turn
+turn_of Positive some = Meeting
+turn_of Negation some = Covered some
 
 -- whether an element goes before the others, where these variables were taken in
 abbrev pub goes_first : Turn → List ProgramVariable → Element → Bool

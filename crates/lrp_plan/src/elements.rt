@@ -11,6 +11,13 @@ pub(crate) struct Element<'a> {
     pub(crate) rank: u128,
 }
 
+/// What an element adds to the result: its own formula, or the negation of the one whose steps are made.
+#[derive(Clone, Copy)]
+pub(crate) enum Kind {
+    Positive,
+    Negation,
+}
+
 /// The elements of an `and`: the positives in order of their ranks, and its tests and its negations in list order.
 #[derive(Drop)]
 pub(crate) struct Split<'a> {

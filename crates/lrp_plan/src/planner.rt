@@ -4,24 +4,32 @@ ghost use Rattle.lrp_core.specs.Cores.{core_of, cores_of};
 ghost use Rattle.lrp_core.specs.declared.core_forms.Core.{Core as CoreForm};
 ghost use Rattle.lrp_core.specs.declared.variable_trees.VariableTree.{VariableTree as TreeOf};
 ghost use Rattle.lrp_core.specs.VariableTrees.{tree_of, free_tree};
-ghost use Rattle.lrp_model.specs.Formulas.{Form, negation, conjunction, disjunction};
+ghost use Rattle.lrp_model.specs.Formulas.{Form, conjunction, disjunction};
 ghost use Rattle.lrp_model.specs.Satisfaction.{Structure};
 ghost use Rattle.lrp_model.specs.Plans.{plan_of};
 ghost use Rattle.lrp_plan.specs.Drafts.{Extends, Unites};
-ghost use Rattle.lrp_plan.specs.Elements.{AreInner, CanPlan, TakesEach, DeniesEach, TurnsPositive, TurnsNegation};
+ghost use Rattle.lrp_plan.specs.Elements.{AreInner, CanPlan, TakesEach, TakesNext, element_of};
 ghost use Rattle.lrp_plan.specs.Sources.{AreSources};
 
 use crate::drafts::{Draft, Operand};
-use crate::elements::{Element, Split};
+use crate::elements::{Element, Kind, Split};
 use crate::leaves::{plan_atom, plan_drop, plan_sorted, plan_test};
 use crate::sources::Sources;
 use crate::splits::split;
 use crate::taking::{Taking, take_tests};
-use crate::waiting::{Turn, Waiting};
+use crate::waiting::Waiting;
 use lrp_core::{Core, VariableTree};
 use lrp_model::{List, Memory};
 use std::alloc::Global;
 use std::collections::VecDeque;
+
+// Turns of elements of a kind, each of which is planned in its turn.
+#[derive(Clone, Copy)]
+struct Turns<'a, 'b> {
+    alloc: Global,
+    sources: &'a Sources<'b>,
+    kind: Kind,
+}
 
 /// The steps of a core form behind those that were made. The trees are of the elements in it.
 #[cycle(planning)]
@@ -125,171 +133,105 @@ fn plan_all(
         tests,
         settled: false,
     };
-    plan_positives(alloc, sources, draft, of, positives, &mut taking)?;
+    let turns = Turns {
+        alloc,
+        sources,
+        kind: Kind::Positive,
+    };
+    plan_each(turns, draft, of, positives, &mut taking)?;
     take_tests(alloc, draft, &mut taking)?;
-    plan_negations(alloc, sources, draft, of, negations, &mut taking)
+    let turns = Turns {
+        alloc,
+        sources,
+        kind: Kind::Negation,
+    };
+    plan_each(turns, draft, of, negations, &mut taking)
 }
 
-// Each positive in turn: the next that shares a variable with what was taken in, or else the first.
+// Each element in turn: of positives the next that shares a variable with what was taken in, of negations the next that is covered; or else the first.
 #[cycle(planning)]
-fn plan_positives(
-    alloc: Global,
-    sources: &Sources<'_>,
+fn plan_each(
+    turns: Turns<'_, '_>,
     draft: &mut Draft,
     of: &[Core<'_>],
-    positives: VecDeque<Element<'_>>,
+    elements: VecDeque<Element<'_>>,
     taking: &mut Taking,
 ) -> Result<(), Memory>
-    ensures { OnOk result ((M : Structure) → AreSources M sources.now
-        → TakesEach M (length positives.entry.items) of.now positives.entry.items draft.old
-        draft.new taking.old taking.new) }
+    ensures { OnOk result ((M : Structure) → AreSources M turns.entry.sources.now
+        → TakesEach turns.entry.kind M (length elements.entry.items) of.now elements.entry.items
+        draft.old draft.new taking.old taking.new) }
 {
-    let turns = positives.len();
-    let mut left = Waiting::new(alloc, positives);
-    for _turn in 0..turns {
-        plan_positive(alloc, sources, draft, of, &mut left, taking)?;
+    let count = elements.len();
+    let mut left = Waiting::new(turns.alloc, elements);
+    for _turn in 0..count {
+        plan_next(turns, draft, of, &mut left, taking)?;
     }
     Ok(())
 }
 
-// The next positive, if there is one.
+// The next element, if there is one.
 #[cycle(planning)]
-fn plan_positive(
-    alloc: Global,
-    sources: &Sources<'_>,
+fn plan_next(
+    turns: Turns<'_, '_>,
     draft: &mut Draft,
     of: &[Core<'_>],
     left: &mut Waiting<'_>,
     taking: &mut Taking,
 ) -> Result<(), Memory>
-    ensures { OnOk result ((M : Structure) → AreSources M sources.now
-        → TurnsPositive M of.now left.old left.new draft.old draft.new taking.old taking.new) }
+    ensures { OnOk result ((M : Structure) → AreSources M turns.entry.sources.now
+        → TakesNext turns.entry.kind M of.now left.old left.new draft.old draft.new taking.old
+        taking.new) }
 {
-    match left.take_next(alloc, Turn::Meeting, &taking.variables)? {
+    let turn = taking.turn(turns.kind);
+    match left.take_next(turns.alloc, turn, &taking.variables)? {
         None => Ok(()),
         Some(element) => {
-            plan_at(
-                alloc,
-                sources,
-                draft,
-                of,
-                element.index,
-                &element.tree.inner,
-            )?;
-            taking.take_in(alloc, draft, element.tree.variables.as_slice())
+            plan_at(turns, draft, of, element.index, &element.tree.inner)?;
+            let variables = element.tree.variables.as_slice();
+            taking.take(turns.alloc, draft, turns.kind, variables)
         }
     }
 }
 
-// Each negation in turn: the next that is covered, or else the first.
-#[cycle(planning)]
-fn plan_negations(
-    alloc: Global,
-    sources: &Sources<'_>,
-    draft: &mut Draft,
-    of: &[Core<'_>],
-    negations: VecDeque<Element<'_>>,
-    taking: &mut Taking,
-) -> Result<(), Memory>
-    ensures { OnOk result ((M : Structure) → AreSources M sources.now
-        → DeniesEach M (length negations.entry.items) of.now negations.entry.items draft.old
-        draft.new taking.old taking.new) }
-{
-    let turns = negations.len();
-    let mut left = Waiting::new(alloc, negations);
-    for _turn in 0..turns {
-        plan_negation(alloc, sources, draft, of, &mut left, taking)?;
-    }
-    Ok(())
-}
-
-// The next negation, if there is one.
-#[cycle(planning)]
-fn plan_negation(
-    alloc: Global,
-    sources: &Sources<'_>,
-    draft: &mut Draft,
-    of: &[Core<'_>],
-    left: &mut Waiting<'_>,
-    taking: &mut Taking,
-) -> Result<(), Memory>
-    ensures { OnOk result ((M : Structure) → AreSources M sources.now
-        → TurnsNegation M of.now left.old left.new draft.old draft.new taking.old taking.new) }
-{
-    let some = taking.result.is_some();
-    match left.take_next(alloc, Turn::Covered { some }, &taking.variables)? {
-        None => Ok(()),
-        Some(element) => {
-            plan_denied_at(
-                alloc,
-                sources,
-                draft,
-                of,
-                element.index,
-                &element.tree.inner,
-            )?;
-            taking.take_off(alloc, draft, element.tree.variables.as_slice())
-        }
-    }
-}
-
-// The steps of the core form at a place of the list.
+// The steps of the core form at a place of the list, or of what the negation there denies.
 #[cycle(planning)]
 fn plan_at(
-    alloc: Global,
-    sources: &Sources<'_>,
-    draft: &mut Draft,
-    of: &[Core<'_>],
-    index: usize,
-    inner: &[VariableTree],
-) -> Result<(), Memory>
-    ensures { OnOk result ((M : Structure) (K : ℕ) (core : CoreForm) → AreSources M sources.now
-        → slice_get of.now index ≡ Some core → AreInner inner.now (core_of core)
-        → CanPlan M K (core_of core) → Extends M K (plan_of (core_of core)) draft.old draft.new) }
-{
-    if index < of.len() {
-        plan_core(alloc, sources, draft, &of[index], inner)?;
-    }
-    Ok(())
-}
-
-// The steps of what the negation at a place of the list denies.
-#[cycle(planning)]
-fn plan_denied_at(
-    alloc: Global,
-    sources: &Sources<'_>,
+    turns: Turns<'_, '_>,
     draft: &mut Draft,
     of: &[Core<'_>],
     index: usize,
     inner: &[VariableTree],
 ) -> Result<(), Memory>
     ensures { OnOk result ((M : Structure) (K : ℕ) (core : CoreForm) (f : Form)
-        → AreSources M sources.now → slice_get of.now index ≡ Some core → core_of core ≡ negation f
-        → AreInner inner.now f → CanPlan M K f → Extends M K (plan_of f) draft.old draft.new) }
+        → AreSources M turns.entry.sources.now → slice_get of.now index ≡ Some core
+        → core_of core ≡ element_of turns.entry.kind f → AreInner inner.now f → CanPlan M K f
+        → Extends M K (plan_of f) draft.old draft.new) }
 {
     if index < of.len() {
-        plan_denied(alloc, sources, draft, &of[index], inner)?;
+        plan_element(turns, draft, &of[index], inner)?;
     }
     Ok(())
 }
 
-// The steps of what a negation denies.
+// The steps of a core form, or of what a negation denies.
 #[cycle(planning)]
-fn plan_denied(
-    alloc: Global,
-    sources: &Sources<'_>,
+fn plan_element(
+    turns: Turns<'_, '_>,
     draft: &mut Draft,
     core: &Core<'_>,
     inner: &[VariableTree],
 ) -> Result<(), Memory>
-    ensures { OnOk result ((M : Structure) (K : ℕ) (f : Form) → AreSources M sources.now
-        → core_of core.now ≡ negation f → AreInner inner.now f → CanPlan M K f
+    ensures { OnOk result ((M : Structure) (K : ℕ) (f : Form) → AreSources M turns.entry.sources.now
+        → core_of core.now ≡ element_of turns.entry.kind f → AreInner inner.now f → CanPlan M K f
         → Extends M K (plan_of f) draft.old draft.new) }
 {
-    if let Core::Not { of } = core {
-        plan_core(alloc, sources, draft, of, inner)?;
+    match (turns.kind, core) {
+        (Kind::Positive, core) => plan_core(turns.alloc, turns.sources, draft, core, inner),
+        (Kind::Negation, Core::Not { of }) => {
+            plan_core(turns.alloc, turns.sources, draft, of, inner)
+        }
+        (Kind::Negation, _) => Ok(()),
     }
-    Ok(())
 }
 
 // The last step united with an earlier one, where there is one.

@@ -1,5 +1,6 @@
 // What an `and` has taken in, and the tests that it has left.
 ghost use Rattle.std.specs.Prelude.{◌≡◌, ℕ, not, filter, map, length, IfOk, OnOk};
+ghost use Rattle.std.specs.Option.{is_some};
 ghost use Rattle.lrp_core.specs.FreeVariables.{variable_of, with_variables};
 ghost use Rattle.lrp_model.specs.Satisfaction.{Structure};
 ghost use Rattle.lrp_model.specs.Formulas.{test as test_form};
@@ -7,9 +8,12 @@ ghost use Rattle.lrp_model.specs.Variables.{free, are_among as are_members};
 ghost use Rattle.lrp_model.specs.Conjunctions.{select_each as selected_each};
 ghost use Rattle.lrp_plan.specs.Drafts.{AreTests, Extends};
 ghost use Rattle.lrp_plan.specs.Elements.{TakesTests, TurnsTest};
-ghost use Rattle.lrp_plan.specs.Taking.{NextTest, TakesIn, TakesOff, TakesTest, HaveSame, Carries, Splits, Subtracts, covers as covered_by};
+ghost use Rattle.lrp_plan.specs.Waiting.{turn_of};
+ghost use Rattle.lrp_plan.specs.Taking.{NextTest, Takes, TakesIn, TakesOff, TakesTest, HaveSame, Carries, Splits, Subtracts, covers as covered_by};
 
 use crate::drafts::{Draft, Operand};
+use crate::elements::Kind;
+use crate::waiting::Turn;
 use lrp_core::{Core, TermTest, Variable, add_variables, covers, free_variables};
 use lrp_model::{List, Memory, Test};
 use std::alloc::Global;
@@ -55,6 +59,35 @@ impl Taking {
         carry(draft, self.result, carried)?;
         self.result = Some(draft.last);
         Ok(())
+    }
+
+    /// Which elements of a kind go before the others.
+    pub(crate) fn turn(&self, kind: Kind) -> Turn
+        ensures { result ≡ turn_of kind (is_some self.now.result) }
+    {
+        match kind {
+            Kind::Positive => Turn::Meeting,
+            Kind::Negation => Turn::Covered {
+                some: self.result.is_some(),
+            },
+        }
+    }
+
+    /// The element of a kind whose steps were just made is taken in or taken off.
+    pub(crate) fn take(
+        &mut self,
+        alloc: Global,
+        draft: &mut Draft,
+        kind: Kind,
+        variables: &[Variable],
+    ) -> Result<(), Memory>
+        ensures { OnOk result (Takes kind (map variable_of variables.now) self.old self.new
+            draft.old draft.new) }
+    {
+        match kind {
+            Kind::Positive => self.take_in(alloc, draft, variables),
+            Kind::Negation => self.take_off(alloc, draft, variables),
+        }
     }
 
     /// The first remaining test, which is no longer one.

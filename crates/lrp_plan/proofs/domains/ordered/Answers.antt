@@ -1,4 +1,4 @@
-use Rattle.std.proofs.Common.{◌≡◌, ◌∙◌, rules}
+use Rattle.std.proofs.Common.{◌∙◌, rules}
 use Rattle.std.specs.Prelude.{IsPermutation}
 use Rattle.lrp_model.proofs.Ascending.{sorted_once}
 use Rattle.lrp_plan.proofs.domains.ordered.Goals as goal

@@ -1,21 +1,20 @@
-use Rattle.std.proofs.Common.{◌≡◌, get_or, length, false, ◌&&◌, map, None, refl, sym, ap, subst, ◌∙◌, arith}
+use Rattle.std.proofs.Common.{◌≡◌, get_or, length, false, map, Some, None, refl, sym, ap, subst, ◌∙◌, arith}
+use Rattle.std.specs.Result.{OnOk}
 use Rattle.lrp_core.specs.Cores.{core_of, cores_of, test_of}
 use Rattle.lrp_core.specs.FreeVariables.{variable_of}
 use Rattle.lrp_core.proofs.CoreViews.{core_of-And, core_of-Or}
+use Rattle.lrp_core.proofs.TreeViews.{inner_known}
 use Rattle.lrp_model.specs.Formulas.{atom, test, sorted, negation, exists, conjunction, disjunction}
-use Rattle.lrp_model.specs.Variables.{are_among, meet}
 use Rattle.lrp_model.specs.Conjunctions.{first_or_0}
 use Rattle.lrp_plan.specs.declared.taking.Taking.{Taking}
-use Rattle.lrp_plan.specs.Elements.{element_variables, AreInner, TakesAt}
-use Rattle.lrp_plan.specs.Taking.{TakesIn, TakesOff}
-use Rattle.std.specs.Result.{OnOk}
+use Rattle.lrp_plan.specs.Elements.{AreInner, TakesAt, TakesTurns}
+use Rattle.lrp_plan.specs.Taking.{Takes}
+use Rattle.lrp_plan.specs.Waiting.{goes_first}
 use Rattle.lrp_plan.proofs.Planned.{leaf_planned, test_planned, not_planned, exists_planned, as_planned, some_planned, all_planned}
-use Rattle.lrp_core.proofs.TreeViews.{inner_known}
 use Rattle.lrp_plan.proofs.FirstTrees.{tree_there, tree_read, none_past}
 use Rattle.lrp_plan.proofs.Unions.{none_so_far, one_more as one_more_planned}
-use Rattle.lrp_plan.specs.Elements.{TakesPositives, TakesNegations}
-use Rattle.lrp_plan.proofs.Turns.{idles_positive, idles_negation, no_positives, no_negations}
-use Rattle.lrp_plan.proofs.Answered.{positive_turned, negation_turned}
+use Rattle.lrp_plan.proofs.Turns.{idles_next, no_turns}
+use Rattle.lrp_plan.proofs.Answered.{element_turned}
 use Rattle.lrp_plan.proofs.planner.+planning.Goals as goal
 
 pub plan_core-returns-in-Atom : goal.plan_core-returns-in-Atom
@@ -71,61 +70,34 @@ plan_with-returns-else-index-trees t c = λ M K tree s there known can. absurd (
 pub plan_all-returns : goal.plan_all-returns
 plan_all-returns t c =
     let first : Taking = record { result = None; variables = c.new.result; tests = c.in_ok-parts.parts.tests; settled = false } in
-    all_planned c.plan_negations.result c.args.sources.now c.args.inner.now c.args.of.now c.in_ok-parts.parts first c.plan_positives.new.taking c.take_tests.new.taking c.plan_negations.new.taking c.args.draft.now c.plan_positives.new.draft c.take_tests.new.draft c.plan_negations.new.draft
-    c.in_ok-parts.ensures refl (ap (map variable_of) c.new.ensures) refl refl c.in_ok-plan_positives.ensures c.in_ok-take_tests.ensures c.plan_negations.ensures
+    all_planned c.plan_each-2.result c.args.sources.now c.args.inner.now c.args.of.now c.in_ok-parts.parts first c.plan_each.new.taking c.take_tests.new.taking c.plan_each-2.new.taking c.args.draft.now c.plan_each.new.draft c.take_tests.new.draft c.plan_each-2.new.draft
+    c.in_ok-parts.ensures refl (ap (map variable_of) c.new.ensures) refl refl c.in_ok-plan_each.ensures c.in_ok-take_tests.ensures c.plan_each-2.ensures
 
-pub plan_positives-loop-turn-init : goal.plan_positives-loop-turn-init
-plan_positives-loop-turn-init t c = λ M s.
-    subst (λ qs. TakesPositives M 0 c.args.of.now c.args.positives.items qs c.args.draft.now c.args.draft.now c.args.taking.now c.args.taking.now) (sym c.new-left.ensures) (no_positives M c.args.of.now c.args.positives.items c.args.draft.now c.args.taking.now)
+pub plan_each-loop-turn-init : goal.plan_each-loop-turn-init
+plan_each-loop-turn-init t c = λ M s.
+    subst (λ es. TakesTurns c.args.turns.kind M 0 c.args.of.now c.args.elements.items es c.args.draft.now c.args.draft.now c.args.taking.now c.args.taking.now) (sym c.new-left.ensures) (no_turns c.args.turns.kind M c.args.of.now c.args.elements.items c.args.draft.now c.args.taking.now)
 
-pub plan_positives-loop-turn-preserved : goal.plan_positives-loop-turn-preserved
-plan_positives-loop-turn-preserved t c = λ M s. (c.in_ok-plan_positive.ensures M s).next _ _ _ _ (c.loop-turn.invariant M s)
+pub plan_each-loop-turn-preserved : goal.plan_each-loop-turn-preserved
+plan_each-loop-turn-preserved t c = λ M s. (c.in_ok-plan_next.ensures M s).next _ _ _ _ (c.loop-turn.invariant M s)
 
-pub plan_positives-returns : goal.plan_positives-returns
-plan_positives-returns t c = λ M s.
-    let n : c.len-turns.result ≡ length c.args.positives.items = c.len-turns.ensures ∙ c.args.positives.ok.0 in
-    let all : c.loop-turn._turn ≡ length c.args.positives.items = omega (arith, c.loop-turn-test.false, c.loop-turn.auto._turn-end) in
+pub plan_each-returns : goal.plan_each-returns
+plan_each-returns t c = λ M s.
+    let n : c.len-count.result ≡ length c.args.elements.items = c.len-count.ensures ∙ c.args.elements.ok.0 in
+    let all : c.loop-turn._turn ≡ length c.args.elements.items = omega (arith, c.loop-turn-test.false, c.loop-turn.auto._turn-end) in
     record {
       left = c.loop-turn.left;
-      takes = subst (λ turns. TakesPositives M turns c.args.of.now c.args.positives.items c.loop-turn.left c.args.draft.now c.loop-turn.draft c.args.taking.now c.loop-turn.taking) all (c.loop-turn.invariant M s);
+      takes = subst (λ turns. TakesTurns c.args.turns.kind M turns c.args.of.now c.args.elements.items c.loop-turn.left c.args.draft.now c.loop-turn.draft c.args.taking.now c.loop-turn.taking) all (c.loop-turn.invariant M s);
     }
 
-pub plan_positive-returns-in-None : goal.plan_positive-returns-in-None
-plan_positive-returns-in-None t c = λ M s.
-    idles_positive M c.args.of.now c.args.left.now c.take_next.new.self c.args.draft.now c.args.taking.now (first_or_0 (λ x. meet (element_variables x) (map variable_of c.args.taking.now.variables)) c.args.left.now)
-    (subst (TakesAt (first_or_0 (λ x. meet (element_variables x) (map variable_of c.args.taking.now.variables)) c.args.left.now) c.args.left.now c.take_next.new.self) c.in-None.is c.in_ok-take_next.ensures)
+pub plan_next-returns-in-None : goal.plan_next-returns-in-None
+plan_next-returns-in-None t c = λ M s.
+    idles_next c.args.turns.kind M c.args.of.now c.args.left.now c.take_next.new.self c.args.draft.now c.args.taking.now (first_or_0 (goes_first c.turn-turn.result c.args.taking.now.variables) c.args.left.now)
+    (subst (TakesAt (first_or_0 (goes_first c.turn-turn.result c.args.taking.now.variables) c.args.left.now) c.args.left.now c.take_next.new.self) c.in-None.is c.in_ok-take_next.ensures)
 
-pub plan_positive-returns-in_ok-plan_at-in-Some : goal.plan_positive-returns-in_ok-plan_at-in-Some
-plan_positive-returns-in_ok-plan_at-in-Some t c =
-    positive_turned c.take_in.result c.args.sources.now c.args.of.now c.args.left.now c.take_next.new.self c.args.draft.now c.plan_at.new.draft c.take_in.new.draft c.in-Some.element c.args.taking.now c.take_in.new.self
-    (subst (TakesAt (first_or_0 (λ x. meet (element_variables x) (map variable_of c.args.taking.now.variables)) c.args.left.now) c.args.left.now c.take_next.new.self) c.in-Some.is c.in_ok-take_next.ensures)
-    (λ M K core s is inner can. c.in_ok-plan_at-in-Some.ensures M K core s is (subst (λ ts. AreInner ts (core_of core)) (sym c.deref.ensures.value) inner) can)
-    (subst (λ vs. OnOk c.take_in.result (TakesIn (map variable_of vs) c.args.taking.now c.take_in.new.self c.plan_at.new.draft c.take_in.new.draft)) c.as_slice.ensures c.take_in.ensures)
-
-pub plan_negations-loop-turn-init : goal.plan_negations-loop-turn-init
-plan_negations-loop-turn-init t c = λ M s.
-    subst (λ qs. TakesNegations M 0 c.args.of.now c.args.negations.items qs c.args.draft.now c.args.draft.now c.args.taking.now c.args.taking.now) (sym c.new-left.ensures) (no_negations M c.args.of.now c.args.negations.items c.args.draft.now c.args.taking.now)
-
-pub plan_negations-loop-turn-preserved : goal.plan_negations-loop-turn-preserved
-plan_negations-loop-turn-preserved t c = λ M s. (c.in_ok-plan_negation.ensures M s).next _ _ _ _ (c.loop-turn.invariant M s)
-
-pub plan_negations-returns : goal.plan_negations-returns
-plan_negations-returns t c = λ M s.
-    let n : c.len-turns.result ≡ length c.args.negations.items = c.len-turns.ensures ∙ c.args.negations.ok.0 in
-    let all : c.loop-turn._turn ≡ length c.args.negations.items = omega (arith, c.loop-turn-test.false, c.loop-turn.auto._turn-end) in
-    record {
-      left = c.loop-turn.left;
-      takes = subst (λ turns. TakesNegations M turns c.args.of.now c.args.negations.items c.loop-turn.left c.args.draft.now c.loop-turn.draft c.args.taking.now c.loop-turn.taking) all (c.loop-turn.invariant M s);
-    }
-
-pub plan_negation-returns-in-None : goal.plan_negation-returns-in-None
-plan_negation-returns-in-None t c = λ M s.
-    idles_negation M c.args.of.now c.args.left.now c.take_next.new.self c.args.draft.now c.args.taking.now (first_or_0 (λ x. c.is_some-some.result && are_among (element_variables x) (map variable_of c.args.taking.now.variables)) c.args.left.now)
-    (subst (TakesAt (first_or_0 (λ x. c.is_some-some.result && are_among (element_variables x) (map variable_of c.args.taking.now.variables)) c.args.left.now) c.args.left.now c.take_next.new.self) c.in-None.is c.in_ok-take_next.ensures)
-
-pub plan_negation-returns-in_ok-plan_denied_at-in-Some : goal.plan_negation-returns-in_ok-plan_denied_at-in-Some
-plan_negation-returns-in_ok-plan_denied_at-in-Some t c =
-    negation_turned c.take_off.result c.args.sources.now c.args.of.now c.args.left.now c.take_next.new.self c.args.draft.now c.plan_denied_at.new.draft c.take_off.new.draft c.in-Some.element c.is_some-some.result c.args.taking.now c.take_off.new.self c.is_some-some.ensures
-    (subst (TakesAt (first_or_0 (λ x. c.is_some-some.result && are_among (element_variables x) (map variable_of c.args.taking.now.variables)) c.args.left.now) c.args.left.now c.take_next.new.self) c.in-Some.is c.in_ok-take_next.ensures)
-    (λ M K core f s is denies inner can. c.in_ok-plan_denied_at-in-Some.ensures M K core f s is denies (subst (λ ts. AreInner ts f) (sym c.deref.ensures.value) inner) can)
-    (subst (λ vs. OnOk c.take_off.result (TakesOff (map variable_of vs) c.args.taking.now c.take_off.new.self c.plan_denied_at.new.draft c.take_off.new.draft)) c.as_slice.ensures c.take_off.ensures)
+pub plan_next-returns-in_ok-plan_at-in-Some : goal.plan_next-returns-in_ok-plan_at-in-Some
+plan_next-returns-in_ok-plan_at-in-Some t c =
+    element_turned c.take.result c.args.turns.kind c.args.turns.sources.now c.args.of.now c.args.left.now c.take_next.new.self c.args.draft.now c.plan_at.new.draft c.take.new.draft c.in-Some.element c.args.taking.now c.take.new.self
+    (subst (λ turn. TakesAt (first_or_0 (goes_first turn c.args.taking.now.variables) c.args.left.now) c.args.left.now c.take_next.new.self (Some c.in-Some.element)) c.turn-turn.ensures
+    (subst (TakesAt (first_or_0 (goes_first c.turn-turn.result c.args.taking.now.variables) c.args.left.now) c.args.left.now c.take_next.new.self) c.in-Some.is c.in_ok-take_next.ensures))
+    (λ M K core f s is taken inner can. c.in_ok-plan_at-in-Some.ensures M K core f s is taken (subst (λ ts. AreInner ts f) (sym c.deref.ensures.value) inner) can)
+    (subst (λ vs. OnOk c.take.result (Takes c.args.turns.kind (map variable_of vs) c.args.taking.now c.take.new.self c.plan_at.new.draft c.take.new.draft)) c.as_slice-variables.ensures c.take.ensures)

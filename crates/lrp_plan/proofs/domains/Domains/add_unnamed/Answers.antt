@@ -1,4 +1,4 @@
-use Rattle.std.proofs.Common.{◌≡◌, Some, None, refl, rules}
+use Rattle.std.proofs.Common.{◌≡◌, refl, rules}
 use Rattle.std.specs.BTreeSet.{keys}
 use Rattle.lrp_model.specs.Texts.{in_order}
 use Rattle.lrp_model.specs.Domains.{database_texts}

@@ -1,4 +1,4 @@
-use Rattle.std.proofs.Common.{◌≡◌, None, refl, ap, subst, IfOk, rules}
+use Rattle.std.proofs.Common.{◌≡◌, None, refl, subst, IfOk, rules}
 use Rattle.lrp_model.specs.Texts.{in_order}
 use Rattle.lrp_model.specs.Domains.{database_texts}
 use Rattle.lrp_rel.specs.Once.{once, texts_with}

@@ -1,0 +1,59 @@
+// Whether a formula is formed, or its negation.
+ghost use Rattle.std.specs.Prelude.{◌≡◌, IfOk};
+ghost use Rattle.lrp_core.specs.Cores.{core_of};
+ghost use Rattle.lrp_core.specs.Polarities.{choice as choice_of, formed_test, opposite as opposite_of, signed as signed_of};
+
+use crate::Core;
+use crate::comparisons::{negated, negative_test, positive_test};
+use crate::junctions::Junction;
+use lrp_model::{Memory, Test};
+use std::alloc::Global;
+
+/// The formula, or its negation.
+#[derive(Clone, Copy, PartialEq, Eq)]
+pub enum Polarity {
+    Positive,
+    Negative,
+}
+
+impl Polarity {
+    /// The other one.
+    pub fn opposite(self) -> Polarity
+        ensures { result ≡ opposite_of self }
+    {
+        match self {
+            Polarity::Positive => Polarity::Negative,
+            Polarity::Negative => Polarity::Positive,
+        }
+    }
+
+    /// How the formulas of an `or` are joined: their negations by `and`.
+    pub fn choice(self) -> Junction
+        ensures { result ≡ choice_of self }
+    {
+        match self {
+            Polarity::Positive => Junction::Or,
+            Polarity::Negative => Junction::And,
+        }
+    }
+
+    /// A core form that may be negated as it stands, or its negation.
+    pub fn signed<'a>(self, alloc: Global, f: Core<'a>) -> Result<Core<'a>, Memory>
+        ensures { IfOk result (λ core. core_of core ≡ signed_of self (core_of f.entry)) }
+    {
+        match self {
+            Polarity::Positive => Ok(f),
+            Polarity::Negative => negated(alloc, f),
+        }
+    }
+
+    /// The core form of a test, or of its negation.
+    pub fn test<'a>(self, alloc: Global, test: &'a Test) -> Result<Core<'a>, Memory>
+        ensures { IfOk result (λ core. core_of core ≡ formed_test self test.now) }
+    {
+        match self {
+            Polarity::Positive => Ok(positive_test(test)),
+            Polarity::Negative => negative_test(alloc, test),
+        }
+    }
+}
