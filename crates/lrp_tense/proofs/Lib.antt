@@ -18,3 +18,4 @@ pub mod LawfulTense
 pub mod WithoutOperators
 pub mod Positions
 pub mod Steps
+pub mod Along

@@ -1,6 +1,6 @@
 -- Operators are counted by their positions as by their places.
 use Rattle.std.proofs.Common.{◌≡◌, inl, inr, ⊎_elim, ℕ, zero, suc, ◌<◌, ◌≤◌, ◌+◌, ◌-◌, Bool, true, false, cond, get_or, List, [], ◌∷◌, ◌++◌, map, length, refl, sym, ap, ap₂, ◌∙◌, add-one, arith}
-use Rattle.std.specs.Prelude.{nat_lt, count_by, IsPermutation}
+use Rattle.std.specs.Prelude.{nat_lt, count_by, slice_index, IsPermutation}
 use Rattle.std.specs.List.{AllByRecursion}
 use Rattle.std.specs.List.Sorted.{IsNonDecreasing}
 use Rattle.std.proofs.lemmas.Bool.{ltb-true, ltb-false, lt-ltb, le-ltb}
@@ -16,7 +16,7 @@ use Rattle.lrp_model.specs.declared.raw.RawQuery.{RawQuery}
 use Rattle.lrp_tense.specs.declared.tree.TenseQuery.{TenseQuery}
 use Rattle.lrp_tense.specs.Trees.{tense_form_of, tense_question_of}
 use Rattle.lrp_tense.specs.Expanding.{expanded_question}
-use Rattle.lrp_tense.specs.Counting.{position_of, number_in, IsFirstAt, HasSmallColumn, AreNumbers}
+use Rattle.lrp_tense.specs.Counting.{position_of, number_in, HasSmallColumn, AreNumbers}
 use Rattle.lrp_tense.proofs.Numbering.{IsEarlier, earlier, before, trichotomy}
 
 -- ---- positions are in the order of places
@@ -61,6 +61,12 @@ count_point t (x ∷ xs) (suc i) le yes' no' =
     let rest : count_by t xs ≡ i = count_point t xs i (omega (arith, le)) (λ k lt. yes' (suc k) (omega (arith, lt))) (λ k low lt. no' (suc k) (omega (arith, low)) (omega (arith, lt))) in
     let first : t x ≡ true = yes' 0 (omega arith) in
     counted_first t x xs ∙ ap (λ b. cond b (suc (count_by t xs)) (count_by t xs)) first ∙ ap suc rest
+
+-- the first of ascending positions that is not below one is that very one, and stands at this index
+pub record IsFirstAt (positions : List ℕ) (index here : ℕ) : Type 0 where
+  pub within : index < length positions
+  pub found : slice_index positions index ≡ here
+  pub low : 0 < index → slice_index positions (index - 1) < here
 
 -- the first position that is not below one, where it is that very one, is how many are below it
 pub counted_to : (xs : List ℕ) (i here : ℕ) → IsNonDecreasing xs → IsFirstAt xs i here → count_by (λ q. nat_lt q here) xs ≡ i
@@ -145,6 +151,5 @@ expansion_same positions f n names = same_expansion f (number_in positions) (num
 
 -- ---- a whole query
 
-pub expanded_query : (q : TenseQuery) (r : RawQuery) (positions : List ℕ) → AreNumbers positions (operators (tense_form_of q.body)) → r.head ≡ q.head → raw_form_of r.body ≡ expanded (tense_form_of q.body) (number_in positions) [] → raw_question_of r ≡ expanded_question (tense_question_of q)
-expanded_query q r positions n h b =
-    ap₂ (λ (head : List RawColumn) (body : RawForm). record { head = head; body = body }) h (b ∙ expansion_same positions (tense_form_of q.body) n [])
+pub expanded_query : (q : TenseQuery) (r : RawQuery) → r.head ≡ q.head → raw_form_of r.body ≡ expanded (tense_form_of q.body) (number_of (operators (tense_form_of q.body))) [] → raw_question_of r ≡ expanded_question (tense_question_of q)
+expanded_query q r h b = ap₂ (λ (head : List RawColumn) (body : RawForm). record { head = head; body = body }) h b

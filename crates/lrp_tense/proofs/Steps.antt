@@ -1,44 +1,40 @@
 -- Formulas one after another: gathered, and written out.
 use Rattle.std.proofs.Common.{◌≡◌, ◌+◌, ◌<◌, ℕ, suc, cond, arith, List, [], ◌∷◌, ◌++◌, Vec, Box, Global, length, take, get_or, refl, ap, ap₂, sym, ◌∙◌, append_assoc, append-nil, rules}
-use Rattle.std.specs.Prelude.{reverse, Result, Ok, Err, IfOk, OnOk}
+use Rattle.std.specs.Prelude.{ℤ, reverse, Result, Ok, Err, IfOk, OnOk}
 use Rattle.std.specs.Str.{bytes_eq}
 use Rattle.std.proofs.lemmas.List.{take_more, reverse-append, length-reverse}
 use Rattle.lrp_model.specs.Texts.{Identifier}
 use Rattle.lrp_model.specs.declared.tokens.Place.{Place}
 use Rattle.lrp_model.specs.declared.raw.RawFormula.{RawFormula}
-use Rattle.lrp_model.specs.RawQueries.{RawForm, RawForms, raw_form_of, raw_forms_of, raw_and, raw_or, raw, no_raws}
+use Rattle.lrp_model.specs.RawQueries.{RawForm, RawForms, raw_form_of, raw_forms_of, raw_and, raw_or, raw_implies, raw, no_raws}
 use Rattle.lrp_tense.specs.declared.tree.TenseFormula.{TenseFormula}
-use Rattle.lrp_tense.specs.declared.tree.TenseKind.{And, Or, Since, Until, the_lemmas}
+use Rattle.lrp_tense.specs.declared.tree.TenseKind.{And, Or, Implies, Once, Always, Since, Until, the_lemmas}
 use Rattle.lrp_tense.specs.declared.expansion.Operator.{Operator as WrittenOperator}
 use Rattle.lrp_tense.specs.declared.expansion.Begun.{Begun}
-use Rattle.lrp_tense.specs.Trees.{TenseForm, TenseForms, operator_at, tense_kind, tense_form_of, tense_forms_of, tense, no_tenses, since, until}
-use Rattle.lrp_tense.specs.Expanding.{Naming, Renaming, present_name, operators, operators_each, moment_of, between_of, since_form, until_form, expanded, expanded_each}
+use Rattle.lrp_tense.specs.Trees.{Operator, TenseForm, TenseForms, operator_at, tense_kind, tense_form_of, tense_forms_of, tense_implies, tense, no_tenses, once, always, since, until}
+use Rattle.lrp_tense.specs.Expanding.{Naming, Renaming, present_name, operators, operators_each, moment_name, between_name, since_form, until_form}
 use Rattle.lrp_tense.specs.Named.{naming_of}
-use Rattle.lrp_tense.specs.Scopes.{Around, within, number_by, expanded_in}
+use Rattle.lrp_tense.specs.Numbers.{Numbers, next_number, behind_one, behind_all, expanded_from, each_from}
+use Rattle.lrp_tense.specs.Scopes.{Around, within, past, past_one, past_each, expanded_in, each_in, once_numbered, always_numbered, since_numbered, until_numbered}
 use Rattle.lrp_tense.specs.Written.{operator_of, form_inside}
 use Rattle.lrp_tense.proofs.TenseViews.{tense_kind-And, tense_kind-Or}
 
 -- ---- members of a node
 
-pub and_operators : (v : Vec TenseFormula Global) (p : Place) → operators (tense_kind (And v) p) ≡ operators_each (tense_forms_of v.items)
-and_operators v p = ap operators (tense_kind-And v p)
-
-pub or_operators : (v : Vec TenseFormula Global) (p : Place) → operators (tense_kind (Or v) p) ≡ operators_each (tense_forms_of v.items)
-or_operators v p = ap operators (tense_kind-Or v p)
-
-pub and_expanded : (v : Vec TenseFormula Global) (p : Place) (number : Place → ℕ) (names : Naming) → expanded (tense_kind (And v) p) number names ≡ raw_and p (expanded_each (tense_forms_of v.items) number names)
-and_expanded v p number names = ap (λ f. expanded f number names) (tense_kind-And v p)
-
-pub or_expanded : (v : Vec TenseFormula Global) (p : Place) (number : Place → ℕ) (names : Naming) → expanded (tense_kind (Or v) p) number names ≡ raw_or p (expanded_each (tense_forms_of v.items) number names)
-or_expanded v p number names = ap (λ f. expanded f number names) (tense_kind-Or v p)
-
 -- an `and` of the expanded members
-pub and_node : (f : TenseFormula) (v : Vec TenseFormula Global) (fs : List TenseFormula) (number : Place → ℕ) (names : Naming) → f.kind ≡ And v → fs ≡ v.items → raw_and f.place (expanded_each (tense_forms_of fs) number names) ≡ expanded (tense_form_of f) number names
-and_node f v fs number names e i = ap (λ l. raw_and f.place (expanded_each (tense_forms_of l) number names)) i ∙ sym (ap (λ k. expanded (tense_kind k f.place) number names) e ∙ and_expanded v f.place number names)
+pub and_node : (f : TenseFormula) (v : Vec TenseFormula Global) (fs : List TenseFormula) (a : Around) → f.kind ≡ And v → fs ≡ v.items → raw_and f.place (each_in a (tense_forms_of fs)) ≡ expanded_in a (tense_form_of f)
+and_node f v fs a e i = ap (λ l. raw_and f.place (each_in a (tense_forms_of l))) i ∙ sym (ap (λ k. expanded_in a (tense_kind k f.place)) e ∙ ap (expanded_in a) (tense_kind-And v f.place))
 
 -- an `or` of them
-pub or_node : (f : TenseFormula) (v : Vec TenseFormula Global) (fs : List TenseFormula) (number : Place → ℕ) (names : Naming) → f.kind ≡ Or v → fs ≡ v.items → raw_or f.place (expanded_each (tense_forms_of fs) number names) ≡ expanded (tense_form_of f) number names
-or_node f v fs number names e i = ap (λ l. raw_or f.place (expanded_each (tense_forms_of l) number names)) i ∙ sym (ap (λ k. expanded (tense_kind k f.place) number names) e ∙ or_expanded v f.place number names)
+pub or_node : (f : TenseFormula) (v : Vec TenseFormula Global) (fs : List TenseFormula) (a : Around) → f.kind ≡ Or v → fs ≡ v.items → raw_or f.place (each_in a (tense_forms_of fs)) ≡ expanded_in a (tense_form_of f)
+or_node f v fs a e i = ap (λ l. raw_or f.place (each_in a (tense_forms_of l))) i ∙ sym (ap (λ k. expanded_in a (tense_kind k f.place)) e ∙ ap (expanded_in a) (tense_kind-Or v f.place))
+
+-- behind them
+pub and_past : (f : TenseFormula) (v : Vec TenseFormula Global) (fs : List TenseFormula) (a : Around) → f.kind ≡ And v → fs ≡ v.items → past_each a (tense_forms_of fs) ≡ past a (tense_form_of f)
+and_past f v fs a e i = ap (λ l. past_each a (tense_forms_of l)) i ∙ sym (ap (λ k. past a (tense_kind k f.place)) e ∙ ap (past a) (tense_kind-And v f.place))
+
+pub or_past : (f : TenseFormula) (v : Vec TenseFormula Global) (fs : List TenseFormula) (a : Around) → f.kind ≡ Or v → fs ≡ v.items → past_each a (tense_forms_of fs) ≡ past a (tense_form_of f)
+or_past f v fs a e i = ap (λ l. past_each a (tense_forms_of l)) i ∙ sym (ap (λ k. past a (tense_kind k f.place)) e ∙ ap (past a) (tense_kind-Or v f.place))
 
 -- ---- results
 
@@ -71,12 +67,18 @@ unfolding joined
 operators_join no_tenses gs = refl
 operators_join (tense f fs) gs = ap (λ x. operators f ++ x) (operators_join fs gs) ∙ sym (append_assoc (operators f) (operators_each fs) (operators_each gs))
 
--- the places gathered so far, and those of one formula more
-pub gather_step : (fs : List TenseFormula) (i : ℕ) (f : TenseFormula) (xs ys zs : List Place) → i < length fs → f ≡ get_or fs i f → ys ≡ xs ++ operators_each (tense_forms_of (take i fs)) → zs ≡ ys ++ operators (tense_form_of f) → zs ≡ xs ++ operators_each (tense_forms_of (take (i + 1) fs))
-gather_step fs i f xs ys zs lt is e h =
+-- behind some operators and then others
+pub behind_append : (n : Numbers) (xs ys : List Place) → behind_all n (xs ++ ys) ≡ behind_all (behind_all n xs) ys
+behind_append n [] ys = refl
+behind_append n (x ∷ xs) ys = behind_append (behind_one n x) xs ys
+
+-- behind the formulas so far, and one more
+pub past_step : (fs : List TenseFormula) (i : ℕ) (f : TenseFormula) (a b c : Around) → i < length fs → f ≡ get_or fs i f → b ≡ past_each a (tense_forms_of (take i fs)) → c ≡ past b (tense_form_of f) → c ≡ past_each a (tense_forms_of (take (i + 1) fs))
+past_step fs i f a b c lt is e h =
     let one : operators_each (tense_forms_of (take (i + 1) fs)) ≡ operators_each (tense_forms_of (take i fs)) ++ operators (tense_form_of f) =
     ap operators_each (one_more fs i f lt is) ∙ operators_join (tense_forms_of (take i fs)) (tense (tense_form_of f) no_tenses) ∙ ap (λ x. operators_each (tense_forms_of (take i fs)) ++ x) (append-nil (operators (tense_form_of f))) in
-    h ∙ ap (λ y. y ++ operators (tense_form_of f)) e ∙ append_assoc xs (operators_each (tense_forms_of (take i fs))) (operators (tense_form_of f)) ∙ ap (λ x. xs ++ x) (sym one)
+    h ∙ ap (λ x. past x (tense_form_of f)) e
+    ∙ ap (λ (n : Numbers). record a { numbers = n }) (sym (ap (behind_all a.numbers) one ∙ behind_append a.numbers (operators_each (tense_forms_of (take i fs))) (operators (tense_form_of f))))
 
 raws_joined : RawForms → RawForms → RawForms
 raws_joined no_raws gs = gs
@@ -87,17 +89,19 @@ unfolding raws_joined
 raws_append [] gs = refl
 raws_append (f ∷ fs) gs = ap (raw (raw_form_of f)) (raws_append fs gs)
 
-expanded_join : (fs gs : TenseForms) (number : Place → ℕ) (names : Naming) → expanded_each (joined fs gs) number names ≡ raws_joined (expanded_each fs number names) (expanded_each gs number names)
+each_join : (fs gs : TenseForms) (n : Numbers) (names : Naming) → each_from (joined fs gs) n names ≡ raws_joined (each_from fs n names) (each_from gs (behind_all n (operators_each fs)) names)
 unfolding joined raws_joined
-expanded_join no_tenses gs number names = refl
-expanded_join (tense f fs) gs number names = ap (raw (expanded f number names)) (expanded_join fs gs number names)
+each_join no_tenses gs n names = refl
+each_join (tense f fs) gs n names =
+    ap (raw (expanded_from f n names))
+    (each_join fs gs (behind_all n (operators f)) names ∙ ap (λ m. raws_joined (each_from fs (behind_all n (operators f)) names) (each_from gs m names)) (sym (behind_append n (operators f) (operators_each fs))))
 
 -- the formulas expanded so far, and one more
-pub expand_step : (fs : List TenseFormula) (gs hs : List RawFormula) (i : ℕ) (f : TenseFormula) (g : RawFormula) (number : Place → ℕ) (names : Naming) → i < length fs → f ≡ get_or fs i f → hs ≡ gs ++ g ∷ []
-    → raw_forms_of gs ≡ expanded_each (tense_forms_of (take i fs)) number names → raw_form_of g ≡ expanded (tense_form_of f) number names → raw_forms_of hs ≡ expanded_each (tense_forms_of (take (i + 1) fs)) number names
-expand_step fs gs hs i f g number names lt is e h k =
+pub expand_step : (fs : List TenseFormula) (gs hs : List RawFormula) (i : ℕ) (f : TenseFormula) (g : RawFormula) (a : Around) → i < length fs → f ≡ get_or fs i f → hs ≡ gs ++ g ∷ []
+    → raw_forms_of gs ≡ each_in a (tense_forms_of (take i fs)) → raw_form_of g ≡ expanded_in (past_each a (tense_forms_of (take i fs))) (tense_form_of f) → raw_forms_of hs ≡ each_in a (tense_forms_of (take (i + 1) fs))
+expand_step fs gs hs i f g a lt is e h k =
     ap raw_forms_of e ∙ raws_append gs (g ∷ []) ∙ ap₂ (λ x y. raws_joined x (raw y no_raws)) h k
-    ∙ sym (ap (λ x. expanded_each x number names) (one_more fs i f lt is) ∙ expanded_join (tense_forms_of (take i fs)) (tense (tense_form_of f) no_tenses) number names)
+    ∙ sym (ap (each_in a) (one_more fs i f lt is) ∙ each_join (tense_forms_of (take i fs)) (tense (tense_form_of f) no_tenses) a.numbers a.names)
 
 -- ---- names
 
@@ -128,7 +132,37 @@ since_kind n at p left right = search (rules, the_lemmas)
 until_kind : (n : Identifier) (at p : Place) (left right : Box TenseFormula Global) → tense_kind (Until n at left right) p ≡ until (operator_at p n at) (tense_form_of left.value) (tense_form_of right.value)
 until_kind n at p left right = search (rules, the_lemmas)
 
+once_kind : (n : Identifier) (at p : Place) (from to : ℤ) (of : Box TenseFormula Global) → tense_kind (Once n at from to of) p ≡ once (operator_at p n at) from to (tense_form_of of.value)
+once_kind n at p from to of = search (rules, the_lemmas)
+
+always_kind : (n : Identifier) (at p : Place) (from to : ℤ) (of : Box TenseFormula Global) → tense_kind (Always n at from to of) p ≡ always (operator_at p n at) from to (tense_form_of of.value)
+always_kind n at p from to of = search (rules, the_lemmas)
+
+implies_kind : (p : Place) (left right : Box TenseFormula Global) → tense_kind (Implies left right) p ≡ tense_implies p (tense_form_of left.value) (tense_form_of right.value)
+implies_kind p left right = search (rules, the_lemmas)
+
+-- the node of an implication
+pub implies_node : (f l r : TenseFormula) (left right : Box TenseFormula Global) → f.kind ≡ Implies left right → l ≡ left.value → r ≡ right.value
+    → tense_implies f.place (tense_form_of l) (tense_form_of r) ≡ tense_form_of f
+implies_node f l r left right e el er =
+    ap₂ (λ x y. tense_implies f.place (tense_form_of x) (tense_form_of y)) el er ∙ sym (ap (λ k. tense_kind k f.place) e ∙ implies_kind f.place left right)
+
+-- an implication whose parts are expanded one behind the other
+pub implies_joined : (s t : Around) (p : Place) (f g : TenseForm) (x : RawForm) → t ≡ past s f → x ≡ expanded_in s f → raw_implies p x (expanded_in t g) ≡ expanded_in s (tense_implies p f g)
+implies_joined s t p f g x e h = ap₂ (λ y a. raw_implies p y (expanded_in a g)) h e
+
+pub implies_past : (s t u : Around) (p : Place) (f g : TenseForm) → t ≡ past s f → u ≡ past t g → u ≡ past s (tense_implies p f g)
+implies_past s t u p f g e h = h ∙ ap (λ a. past a g) e ∙ ap (λ (n : Numbers). record s { numbers = n }) (sym (behind_append s.numbers (operators f) (operators g)))
+
 -- the node of an operator
+pub once_node : (f g : TenseFormula) (n : Identifier) (at : Place) (from to : ℤ) (of : Box TenseFormula Global) → f.kind ≡ Once n at from to of → g ≡ of.value
+    → once (operator_at f.place n at) from to (tense_form_of g) ≡ tense_form_of f
+once_node f g n at from to of e eg = ap (λ x. once (operator_at f.place n at) from to (tense_form_of x)) eg ∙ sym (ap (λ k. tense_kind k f.place) e ∙ once_kind n at f.place from to of)
+
+pub always_node : (f g : TenseFormula) (n : Identifier) (at : Place) (from to : ℤ) (of : Box TenseFormula Global) → f.kind ≡ Always n at from to of → g ≡ of.value
+    → always (operator_at f.place n at) from to (tense_form_of g) ≡ tense_form_of f
+always_node f g n at from to of e eg = ap (λ x. always (operator_at f.place n at) from to (tense_form_of x)) eg ∙ sym (ap (λ k. tense_kind k f.place) e ∙ always_kind n at f.place from to of)
+
 pub since_node : (f l r : TenseFormula) (n : Identifier) (at : Place) (left right : Box TenseFormula Global) → f.kind ≡ Since n at left right → l ≡ left.value → r ≡ right.value
     → since (operator_at f.place n at) (tense_form_of l) (tense_form_of r) ≡ tense_form_of f
 since_node f l r n at left right e el er =
@@ -142,27 +176,69 @@ until_node f l r n at left right e el er =
 -- what is known of an operator whose first formula is expanded: the operator, its names and that formula, in the scope around it
 pub record IsBegun (s : Around) (w : WrittenOperator) (f : TenseForm) (b : Begun) : Type 0 where
   pub same : b.at ≡ w
-  pub moment : b.moment ≡ moment_of (number_by s) (operator_of w)
-  pub name : b.between.name ≡ between_of (number_by s) (operator_of w)
-  pub tree : form_inside b.between ≡ expanded_in (within s w.name.now (between_of (number_by s) (operator_of w))) f
+  pub moment : b.moment ≡ moment_name w.name.now w.number
+  pub name : b.between.name ≡ between_name w.name.now w.number
+  pub tree : form_inside b.between ≡ expanded_in (within s w.name.now (between_name w.name.now w.number)) f
 
 -- the second formula expanded too, they are the operator's
-pub since_joined : (s t : Around) (w : WrittenOperator) (b : Begun) (f g : TenseForm) → t ≡ s → IsBegun s w f b
-    → since_form (operator_of b.at) b.moment b.between.name (present_name t.names b.at.name.now) (form_inside b.between) (expanded_in (within t b.at.name.now b.moment) g) ≡ expanded_in s (since (operator_of w) f g)
+pub since_joined : (s t : Around) (w : WrittenOperator) (b : Begun) (f g : TenseForm) → t ≡ past s f → IsBegun s w f b
+    → since_form (operator_of b.at) b.moment b.between.name (present_name t.names b.at.name.now) (form_inside b.between) (expanded_in (within t b.at.name.now b.moment) g) ≡ since_numbered s (operator_of w) w.number f g
 since_joined s t w b f g e h =
     let form : Around → WrittenOperator → Identifier → Identifier → RawForm → RawForm =
     λ a v m y i. since_form (operator_of v) m y (present_name a.names v.name.now) i (expanded_in (within a v.name.now m) g) in
     ap (λ a. form a b.at b.moment b.between.name (form_inside b.between)) e
-    ∙ ap (λ v. form s v b.moment b.between.name (form_inside b.between)) h.same
-    ∙ ap (λ m. form s w m b.between.name (form_inside b.between)) h.moment
-    ∙ ap₂ (λ y i. form s w (moment_of (number_by s) (operator_of w)) y i) h.name h.tree
+    ∙ ap (λ v. form (past s f) v b.moment b.between.name (form_inside b.between)) h.same
+    ∙ ap (λ m. form (past s f) w m b.between.name (form_inside b.between)) h.moment
+    ∙ ap₂ (λ y i. form (past s f) w (moment_name w.name.now w.number) y i) h.name h.tree
 
-pub until_joined : (s t : Around) (w : WrittenOperator) (b : Begun) (f g : TenseForm) → t ≡ s → IsBegun s w f b
-    → until_form (operator_of b.at) b.moment b.between.name (present_name t.names b.at.name.now) (form_inside b.between) (expanded_in (within t b.at.name.now b.moment) g) ≡ expanded_in s (until (operator_of w) f g)
+pub until_joined : (s t : Around) (w : WrittenOperator) (b : Begun) (f g : TenseForm) → t ≡ past s f → IsBegun s w f b
+    → until_form (operator_of b.at) b.moment b.between.name (present_name t.names b.at.name.now) (form_inside b.between) (expanded_in (within t b.at.name.now b.moment) g) ≡ until_numbered s (operator_of w) w.number f g
 until_joined s t w b f g e h =
     let form : Around → WrittenOperator → Identifier → Identifier → RawForm → RawForm =
     λ a v m y i. until_form (operator_of v) m y (present_name a.names v.name.now) i (expanded_in (within a v.name.now m) g) in
     ap (λ a. form a b.at b.moment b.between.name (form_inside b.between)) e
-    ∙ ap (λ v. form s v b.moment b.between.name (form_inside b.between)) h.same
-    ∙ ap (λ m. form s w m b.between.name (form_inside b.between)) h.moment
-    ∙ ap₂ (λ y i. form s w (moment_of (number_by s) (operator_of w)) y i) h.name h.tree
+    ∙ ap (λ v. form (past s f) v b.moment b.between.name (form_inside b.between)) h.same
+    ∙ ap (λ m. form (past s f) w m b.between.name (form_inside b.between)) h.moment
+    ∙ ap₂ (λ y i. form (past s f) w (moment_name w.name.now w.number) y i) h.name h.tree
+
+-- ---- an operator that is met
+
+-- what an operator with its number stands for is what it stands for where it is the next
+module _ (s t : Around) (p : Place) (o v : Operator) (i : ℕ) (behind : t ≡ past_one s p) (same : v ≡ o) (number : i ≡ next_number s.numbers p) (there : o.place ≡ p) where
+  numbered : {A : Type 0} (form : Around → Operator → ℕ → A) → form t v i ≡ form (past_one s o.place) o (next_number s.numbers o.place)
+  numbered form =
+      ap (λ a. form a v i) (behind ∙ ap (past_one s) (sym there)) ∙ ap (λ w. form (past_one s o.place) w i) same
+      ∙ ap (form (past_one s o.place) o) (number ∙ ap (next_number s.numbers) (sym there))
+
+  pub once_met : (from to low high : ℤ) (f : TenseForm) → low ≡ from → high ≡ to → once_numbered t v i low high f ≡ expanded_in s (once o from to f)
+  once_met from to low high f l h = ap₂ (λ x y. once_numbered t v i x y f) l h ∙ numbered (λ a w k. once_numbered a w k from to f)
+
+  pub always_met : (from to low high : ℤ) (f : TenseForm) → low ≡ from → high ≡ to → always_numbered t v i low high f ≡ expanded_in s (always o from to f)
+  always_met from to low high f l h = ap₂ (λ x y. always_numbered t v i x y f) l h ∙ numbered (λ a w k. always_numbered a w k from to f)
+
+  pub since_met : (f g : TenseForm) → since_numbered t v i f g ≡ expanded_in s (since o f g)
+  since_met f g = numbered (λ a w k. since_numbered a w k f g)
+
+  pub until_met : (f g : TenseForm) → until_numbered t v i f g ≡ expanded_in s (until o f g)
+  until_met f g = numbered (λ a w k. until_numbered a w k f g)
+
+  -- behind it and its formulas
+  met_past : past_one s p ≡ past_one s o.place
+  met_past = ap (past_one s) (sym there)
+
+  pub once_past : (u : Around) (from to : ℤ) (f : TenseForm) → u ≡ past t f → u ≡ past s (once o from to f)
+  once_past u from to f h = h ∙ ap (λ a. past a f) (behind ∙ met_past)
+
+  pub always_past : (u : Around) (from to : ℤ) (f : TenseForm) → u ≡ past t f → u ≡ past s (always o from to f)
+  always_past u from to f h = h ∙ ap (λ a. past a f) (behind ∙ met_past)
+
+  both_past : (u w : Around) (f g : TenseForm) → w ≡ past t f → u ≡ past w g → u ≡ record s { numbers = behind_all (behind_one s.numbers o.place) (operators f ++ operators g) }
+  both_past u w f g e h =
+      h ∙ ap (λ a. past a g) (e ∙ ap (λ a. past a f) (behind ∙ met_past))
+      ∙ ap (λ (n : Numbers). record s { numbers = n }) (sym (behind_append (behind_one s.numbers o.place) (operators f) (operators g)))
+
+  pub since_past : (u w : Around) (f g : TenseForm) → w ≡ past t f → u ≡ past w g → u ≡ past s (since o f g)
+  since_past u w f g e h = both_past u w f g e h
+
+  pub until_past : (u w : Around) (f g : TenseForm) → w ≡ past t f → u ≡ past w g → u ≡ past s (until o f g)
+  until_past u w f g e h = both_past u w f g e h

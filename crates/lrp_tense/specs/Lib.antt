@@ -13,4 +13,5 @@ pub mod Reading
 pub mod Named
 pub mod Counting
 pub mod Written
+pub mod Numbers
 pub mod Scopes

@@ -4,7 +4,7 @@ use Rattle.lrp_model.specs.Texts.{Identifier}
 use Rattle.lrp_tense.specs.declared.variables.Look.{Look}
 use Rattle.lrp_tense.specs.Expanding.{Naming, Renaming}
 
--- how a name looks: its length and its last byte, 0 where it has none
+-- how a name looks: its length and its last byte; a name that is read has a byte
 abbrev pub look_at : Identifier → Look
 look_at v = record { size = length v; last = slice_index_or v (length v - 1) 0 }
 

@@ -1,13 +1,15 @@
 // The query without operators that stands for one with them: each operator is written out by quantifiers over time.
-ghost use Rattle.std.specs.Prelude.{◌≡◌, IfOk, OnOk};
+ghost use Rattle.std.specs.Prelude.{◌≡◌, ◌<◌, ◌^◌, [], length, IfOk, OnOk};
 ghost use Rattle.lrp_model.specs.RawQueries.{raw_form_of, raw_forms_of, raw_question_of, raw_and, raw_or, raw_not, raw_group, raw_exists, raw_forall, raw_implies};
-ghost use Rattle.lrp_tense.specs.Trees.{operator_at, tense_form_of, tense_forms_of, tense_question_of, once as once_tense, always as always_tense};
-ghost use Rattle.lrp_tense.specs.Expanding.{IsExpandable, expanded_each, expanded_question, moment_of, between_of, since_form, until_form, present_name};
+ghost use Rattle.lrp_tense.specs.Trees.{operator_at, tense_form_of, tense_forms_of, tense_question_of};
+ghost use Rattle.lrp_tense.specs.Expanding.{IsExpandable, operators, number_of, expanded, expanded_question, moment_name, between_name, since_form, until_form, present_name};
+ghost use Rattle.lrp_tense.specs.Counting.{ArePositions};
 ghost use Rattle.lrp_tense.specs.Laws.{KeepsMeaning};
 ghost use Rattle.lrp_tense.specs.Written.{operator_of, form_inside};
-ghost use Rattle.lrp_tense.specs.Scopes.{expanded_in, number_by, within};
+ghost use Rattle.lrp_tense.specs.Numbers.{met, expanded_from, next_number};
+ghost use Rattle.lrp_tense.specs.Scopes.{expanded_in, each_in, past, past_one, past_each, within, at_moment, once_numbered, always_numbered};
 
-use crate::counting::numbers_of;
+use crate::counting::{is_ascending, positions_of};
 use crate::renaming::{atom, comparison, membership};
 use crate::scope::{Moments, Scope};
 use crate::written_out::{
@@ -33,6 +35,13 @@ pub struct Begun<'a> {
     pub between: Inside,
 }
 
+// A formula expanded with its operators counted as they are met, and their positions.
+#[derive(Drop)]
+struct Counted {
+    of: Box<RawFormula>,
+    positions: Vec<u64>,
+}
+
 /// The query without operators that is satisfied exactly where this one is. The variables that it has beside the written ones have a `~` in their names.
 pub fn expand(alloc: Global, query: &TenseQuery) -> Result<RawQuery, Memory>
     requires { IsExpandable (tense_question_of query.now) }
@@ -41,12 +50,56 @@ pub fn expand(alloc: Global, query: &TenseQuery) -> Result<RawQuery, Memory>
     ensures meaning { IfOk result (λ made. KeepsMeaning (tense_question_of query.now)
         (raw_question_of made)) }
 {
-    let positions = numbers_of(alloc, &query.body)?;
-    let mut scope = Scope::of(alloc, positions);
-    let made = expand_formula(alloc, &mut scope, &query.body)?;
+    let made = expand_body(alloc, &query.body)?;
     let head = query.head.copy(alloc)?;
     let body = Box::into_inner(made);
     Ok(RawQuery { head, body })
+}
+
+// The formula with its operators numbered by their places.
+//
+// In a formula that was read they stand in the order of their places, so that counting them as they are met is enough.
+fn expand_body(alloc: Global, f: &TenseFormula) -> Result<Box<RawFormula>, Memory>
+    ensures tree { IfOk result (λ made. raw_form_of made.value
+        ≡ expanded (tense_form_of f.now) (number_of (operators (tense_form_of f.now))) []) }
+    ensures few { IfOk result (λ _. length (operators (tense_form_of f.now)) < 2 ^ 64) }
+{
+    let counted = expand_counting(alloc, f)?;
+    let Counted { of, positions } = counted;
+    if is_ascending(positions.as_slice()) {
+        return Ok(of);
+    }
+    expand_ranking(alloc, f, positions)
+}
+
+// The formula with its operators counted as they are met.
+fn expand_counting(alloc: Global, f: &TenseFormula) -> Result<Counted, Memory>
+    ensures tree { IfOk result (λ made. raw_form_of made.of.value
+        ≡ expanded_from (tense_form_of f.now) (met []) []) }
+    ensures positions { IfOk result (λ made. ArePositions made.positions.items
+        (operators (tense_form_of f.now))) }
+{
+    let mut scope = Scope::counting(alloc);
+    let of = expand_formula(alloc, &mut scope, f)?;
+    let places = scope.into_places();
+    let positions = positions_of(alloc, places.as_slice())?;
+    Ok(Counted { of, positions })
+}
+
+// The formula with its operators numbered by these positions, which are theirs.
+fn expand_ranking(
+    alloc: Global,
+    f: &TenseFormula,
+    positions: Vec<u64>,
+) -> Result<Box<RawFormula>, Memory>
+    requires { ArePositions positions.items (operators (tense_form_of f.now)) }
+    ensures { IfOk result (λ made. raw_form_of made.value
+        ≡ expanded (tense_form_of f.now) (number_of (operators (tense_form_of f.now))) []) }
+{
+    let mut positions = positions;
+    positions.sort_unstable();
+    let mut scope = Scope::ranking(alloc, positions);
+    expand_formula(alloc, &mut scope, f)
 }
 
 // An operator with its number.
@@ -55,17 +108,18 @@ fn operator_with<'a>(
     place: Place,
     name: &'a Name,
     name_place: Place,
-) -> Operator<'a>
-    ensures operator { operator_of result ≡ operator_at place name.now name_place }
-    ensures number { result.number ≡ number_by scope.old place }
-    ensures scope { scope.new ≡ scope.old }
+) -> Result<Operator<'a>, Memory>
+    ensures operator { IfOk result (λ made. operator_of made
+        ≡ operator_at place name.now name_place) }
+    ensures number { IfOk result (λ made. made.number ≡ next_number scope.old.numbers place) }
+    ensures scope { OnOk result (scope.new ≡ past_one scope.old place) }
 {
-    let number = scope.number(place);
-    Operator {
+    let number = scope.number(place)?;
+    Ok(Operator {
         number,
         places: Places { place, name_place },
         name,
-    }
+    })
 }
 
 // A column whose name is given.
@@ -91,7 +145,7 @@ fn expand_formula<'a>(
 ) -> Result<Box<RawFormula>, Memory>
     ensures tree { IfOk result (λ made. raw_form_of made.value
         ≡ expanded_in scope.old (tense_form_of f.now)) }
-    ensures scope { OnOk result (scope.new ≡ scope.old) }
+    ensures scope { OnOk result (scope.new ≡ past scope.old (tense_form_of f.now)) }
 {
     let place = f.place;
     match &f.kind {
@@ -120,7 +174,7 @@ fn expand_formula<'a>(
             to,
             of,
         } => {
-            let at = operator_with(scope, place, name, *name_place);
+            let at = operator_with(scope, place, name, *name_place)?;
             expand_once(alloc, scope, at, (*from, *to), of)
         }
         TenseKind::Always {
@@ -130,7 +184,7 @@ fn expand_formula<'a>(
             to,
             of,
         } => {
-            let at = operator_with(scope, place, name, *name_place);
+            let at = operator_with(scope, place, name, *name_place)?;
             expand_always(alloc, scope, at, (*from, *to), of)
         }
         TenseKind::Since {
@@ -139,7 +193,7 @@ fn expand_formula<'a>(
             left,
             right,
         } => {
-            let at = operator_with(scope, place, name, *name_place);
+            let at = operator_with(scope, place, name, *name_place)?;
             let begun = expand_between(alloc, scope, at, left)?;
             expand_since(alloc, scope, begun, right)
         }
@@ -149,7 +203,7 @@ fn expand_formula<'a>(
             left,
             right,
         } => {
-            let at = operator_with(scope, place, name, *name_place);
+            let at = operator_with(scope, place, name, *name_place)?;
             let begun = expand_between(alloc, scope, at, left)?;
             expand_until(alloc, scope, begun, right)
         }
@@ -165,7 +219,7 @@ fn expand_negation<'a>(
 ) -> Result<Box<RawFormula>, Memory>
     ensures tree { IfOk result (λ made. raw_form_of made.value
         ≡ raw_not place (expanded_in scope.old (tense_form_of of.now))) }
-    ensures scope { OnOk result (scope.new ≡ scope.old) }
+    ensures scope { OnOk result (scope.new ≡ past scope.old (tense_form_of of.now)) }
 {
     let of = expand_formula(alloc, scope, of)?;
     denied(alloc, place, of)
@@ -180,7 +234,7 @@ fn expand_group<'a>(
 ) -> Result<Box<RawFormula>, Memory>
     ensures tree { IfOk result (λ made. raw_form_of made.value
         ≡ raw_group place (expanded_in scope.old (tense_form_of of.now))) }
-    ensures scope { OnOk result (scope.new ≡ scope.old) }
+    ensures scope { OnOk result (scope.new ≡ past scope.old (tense_form_of of.now)) }
 {
     let of = expand_formula(alloc, scope, of)?;
     grouped(alloc, place, of)
@@ -198,7 +252,7 @@ fn expand_implication<'a>(
     ensures tree { IfOk result (λ made. raw_form_of made.value
         ≡ raw_implies place (raw_form_of left.value)
         (expanded_in scope.old (tense_form_of right.now))) }
-    ensures scope { OnOk result (scope.new ≡ scope.old) }
+    ensures scope { OnOk result (scope.new ≡ past scope.old (tense_form_of right.now)) }
 {
     let right = expand_formula(alloc, scope, right)?;
     implied(alloc, place, left, right)
@@ -212,9 +266,8 @@ fn expand_conjunction<'a>(
     of: &'a [TenseFormula],
 ) -> Result<Box<RawFormula>, Memory>
     ensures tree { IfOk result (λ made. raw_form_of made.value
-        ≡ raw_and place (expanded_each (tense_forms_of of.now)
-        (number_by scope.old) scope.old.names)) }
-    ensures scope { OnOk result (scope.new ≡ scope.old) }
+        ≡ raw_and place (each_in scope.old (tense_forms_of of.now))) }
+    ensures scope { OnOk result (scope.new ≡ past_each scope.old (tense_forms_of of.now)) }
 {
     let of = expand_each(alloc, scope, of)?;
     conjunction(alloc, place, of)
@@ -228,9 +281,8 @@ fn expand_disjunction<'a>(
     of: &'a [TenseFormula],
 ) -> Result<Box<RawFormula>, Memory>
     ensures tree { IfOk result (λ made. raw_form_of made.value
-        ≡ raw_or place (expanded_each (tense_forms_of of.now)
-        (number_by scope.old) scope.old.names)) }
-    ensures scope { OnOk result (scope.new ≡ scope.old) }
+        ≡ raw_or place (each_in scope.old (tense_forms_of of.now))) }
+    ensures scope { OnOk result (scope.new ≡ past_each scope.old (tense_forms_of of.now)) }
 {
     let of = expand_each(alloc, scope, of)?;
     disjunction(alloc, place, of)
@@ -243,8 +295,8 @@ fn expand_each<'a>(
     fs: &'a [TenseFormula],
 ) -> Result<Vec<RawFormula>, Memory>
     ensures trees { IfOk result (λ made. raw_forms_of made.items
-        ≡ expanded_each (tense_forms_of fs.now) (number_by scope.old) scope.old.names) }
-    ensures scope { OnOk result (scope.new ≡ scope.old) }
+        ≡ each_in scope.old (tense_forms_of fs.now)) }
+    ensures scope { OnOk result (scope.new ≡ past_each scope.old (tense_forms_of fs.now)) }
 {
     let mut all = Vec::with_capacity(alloc, fs.len())?;
     for f in fs {
@@ -266,7 +318,7 @@ fn expand_existential<'a>(
     ensures tree { IfOk result (λ made. raw_form_of made.value
         ≡ raw_exists place binder.now (expanded_in
         (within scope.old binder.now.name binder.now.name) (tense_form_of of.now))) }
-    ensures scope { OnOk result (scope.new ≡ scope.old) }
+    ensures scope { OnOk result (scope.new ≡ past scope.old (tense_form_of of.now)) }
 {
     let same = binder.name.copy(alloc)?;
     let inside = expand_inside(alloc, scope, &binder.name, same, of)?;
@@ -285,7 +337,7 @@ fn expand_universal<'a>(
     ensures tree { IfOk result (λ made. raw_form_of made.value
         ≡ raw_forall place binder.now (expanded_in
         (within scope.old binder.now.name binder.now.name) (tense_form_of of.now))) }
-    ensures scope { OnOk result (scope.new ≡ scope.old) }
+    ensures scope { OnOk result (scope.new ≡ past scope.old (tense_form_of of.now)) }
 {
     let same = binder.name.copy(alloc)?;
     let inside = expand_inside(alloc, scope, &binder.name, same, of)?;
@@ -305,7 +357,7 @@ fn expand_inside<'a>(
     ensures name { IfOk result (λ made. made.name ≡ present) }
     ensures tree { IfOk result (λ made. form_inside made
         ≡ expanded_in (within scope.old written.now present) (tense_form_of of.now)) }
-    ensures scope { OnOk result (scope.new ≡ scope.old) }
+    ensures scope { OnOk result (scope.new ≡ past scope.old (tense_form_of of.now)) }
 {
     scope.enter(written, present)?;
     let of = expand_formula(alloc, scope, of)?;
@@ -321,13 +373,11 @@ fn expand_at_moment<'a>(
     at: Operator<'a>,
     of: &'a TenseFormula,
 ) -> Result<Inside, Memory>
-    requires { at.number ≡ number_by scope.old at.places.place }
     ensures name { IfOk result (λ made. made.name
-        ≡ moment_of (number_by scope.old) (operator_of at.entry)) }
+        ≡ moment_name at.entry.name.now at.entry.number) }
     ensures tree { IfOk result (λ made. form_inside made
-        ≡ expanded_in (within scope.old at.entry.name.now
-        (moment_of (number_by scope.old) (operator_of at.entry))) (tense_form_of of.now)) }
-    ensures scope { OnOk result (scope.new ≡ scope.old) }
+        ≡ at_moment scope.old (operator_of at.entry) at.entry.number (tense_form_of of.now)) }
+    ensures scope { OnOk result (scope.new ≡ past scope.old (tense_form_of of.now)) }
 {
     let moment = scope.moment(alloc, at.name, at.number)?;
     expand_inside(alloc, scope, at.name, moment, of)
@@ -341,16 +391,15 @@ fn expand_between<'a>(
     at: Operator<'a>,
     of: &'a TenseFormula,
 ) -> Result<Begun<'a>, Memory>
-    requires { at.number ≡ number_by scope.old at.places.place }
     ensures at { IfOk result (λ made. made.at ≡ at.entry) }
     ensures moment { IfOk result (λ made. made.moment
-        ≡ moment_of (number_by scope.old) (operator_of at.entry)) }
+        ≡ moment_name at.entry.name.now at.entry.number) }
     ensures name { IfOk result (λ made. made.between.name
-        ≡ between_of (number_by scope.old) (operator_of at.entry)) }
+        ≡ between_name at.entry.name.now at.entry.number) }
     ensures tree { IfOk result (λ made. form_inside made.between
         ≡ expanded_in (within scope.old at.entry.name.now
-        (between_of (number_by scope.old) (operator_of at.entry))) (tense_form_of of.now)) }
-    ensures scope { OnOk result (scope.new ≡ scope.old) }
+        (between_name at.entry.name.now at.entry.number)) (tense_form_of of.now)) }
+    ensures scope { OnOk result (scope.new ≡ past scope.old (tense_form_of of.now)) }
 {
     let names = scope.moments(alloc, at.name, at.number)?;
     let Moments {
@@ -373,11 +422,10 @@ fn expand_once<'a>(
     ends: (i64, i64),
     of: &'a TenseFormula,
 ) -> Result<Box<RawFormula>, Memory>
-    requires { at.number ≡ number_by scope.old at.places.place }
     ensures tree { IfOk result (λ made. raw_form_of made.value
-        ≡ expanded_in scope.old (once_tense (operator_of at.entry) ends.0 ends.1
-        (tense_form_of of.now))) }
-    ensures scope { OnOk result (scope.new ≡ scope.old) }
+        ≡ once_numbered scope.old (operator_of at.entry) at.entry.number ends.0 ends.1
+        (tense_form_of of.now)) }
+    ensures scope { OnOk result (scope.new ≡ past scope.old (tense_form_of of.now)) }
 {
     let inside = expand_at_moment(alloc, scope, at, of)?;
     at.places.once(alloc, scope.present(at.name), ends, inside)
@@ -391,11 +439,10 @@ fn expand_always<'a>(
     ends: (i64, i64),
     of: &'a TenseFormula,
 ) -> Result<Box<RawFormula>, Memory>
-    requires { at.number ≡ number_by scope.old at.places.place }
     ensures tree { IfOk result (λ made. raw_form_of made.value
-        ≡ expanded_in scope.old (always_tense (operator_of at.entry) ends.0 ends.1
-        (tense_form_of of.now))) }
-    ensures scope { OnOk result (scope.new ≡ scope.old) }
+        ≡ always_numbered scope.old (operator_of at.entry) at.entry.number ends.0 ends.1
+        (tense_form_of of.now)) }
+    ensures scope { OnOk result (scope.new ≡ past scope.old (tense_form_of of.now)) }
 {
     let inside = expand_at_moment(alloc, scope, at, of)?;
     at.places
@@ -415,7 +462,7 @@ fn expand_since<'a>(
         (present_name scope.old.names begun.entry.at.name.now) (form_inside begun.entry.between)
         (expanded_in (within scope.old begun.entry.at.name.now begun.entry.moment)
         (tense_form_of of.now))) }
-    ensures scope { OnOk result (scope.new ≡ scope.old) }
+    ensures scope { OnOk result (scope.new ≡ past scope.old (tense_form_of of.now)) }
 {
     let Begun {
         at,
@@ -440,7 +487,7 @@ fn expand_until<'a>(
         (present_name scope.old.names begun.entry.at.name.now) (form_inside begun.entry.between)
         (expanded_in (within scope.old begun.entry.at.name.now begun.entry.moment)
         (tense_form_of of.now))) }
-    ensures scope { OnOk result (scope.new ≡ scope.old) }
+    ensures scope { OnOk result (scope.new ≡ past scope.old (tense_form_of of.now)) }
 {
     let Begun {
         at,

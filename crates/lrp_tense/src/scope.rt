@@ -1,10 +1,12 @@
-// What surrounds a formula while it is expanded: the numbers of the operators, and the variables that are bound.
-ghost use Rattle.std.specs.Prelude.{◌≡◌, ◌<◌, [], length, string_bytes, IfOk, OnOk};
+// What surrounds a formula while it is expanded: how operators are numbered, and the variables that are bound.
+ghost use Rattle.std.specs.Prelude.{◌≡◌, ◌<◌, [], List as ListOf, length, string_bytes, IfOk, OnOk};
+ghost use Rattle.lrp_model.specs.declared.tokens.Place.{Place as PlaceOf};
 ghost use Rattle.lrp_model.specs.Texts.{Identifier};
 ghost use Rattle.std.specs.List.Sorted.{IsNonDecreasing};
 ghost use Rattle.lrp_tense.specs.Expanding.{present_name, moment_name, between_name};
 ghost use Rattle.lrp_tense.specs.Named.{naming_of};
-ghost use Rattle.lrp_tense.specs.Scopes.{Around, within, number_by};
+ghost use Rattle.lrp_tense.specs.Numbers.{met, ranked, next_number};
+ghost use Rattle.lrp_tense.specs.Scopes.{Around, within, past_one};
 
 use crate::counting::number;
 use crate::variables::{Variable, look_of};
@@ -21,60 +23,95 @@ pub struct Moments {
     pub between: Name,
 }
 
-/// The positions of all operators in order, and the variables around a formula, the innermost last.
-/// Beside them how many operators the walk has come by, and room for the text of a name.
+/// The variables around a formula, the innermost last, and how operators are numbered: in the order in which they are met,
+/// whose places are kept, or by the positions of all of them in order. Beside them room for the text of a name.
 pub struct Scope<'a> {
-    positions: Vec<u64>,
     variables: Vec<Variable<'a>>,
-    passed: usize,
+    is_ranked: bool,
+    places: Vec<Place>,
+    positions: Vec<u64>,
     text: String,
 }
 
 impl<'a> Drop for Scope<'a> {
     fn drop(self) {
         let Scope {
-            positions: _positions,
             variables: _variables,
-            passed: _passed,
+            is_ranked: _is_ranked,
+            places: _places,
+            positions: _positions,
             text: _text,
         } = self;
     }
 }
 
 impl<'a> Model for Scope<'a> {
+    ghost use Rattle.std.specs.Prelude.{cond};
     ghost use Rattle.std.specs.List.Sorted.{IsNonDecreasing};
     ghost use Rattle.lrp_tense.specs.Named.{naming_of};
+    ghost use Rattle.lrp_tense.specs.Numbers.{met, ranked};
     ghost use Rattle.lrp_tense.specs.Scopes.{Around};
 
     ghost Value = { Around };
 
-    ghost view = { λ a. record { positions = a.positions.items; names = naming_of a.variables.items } };
+    ghost view = { λ a. record { numbers = cond a.is_ranked (ranked a.positions.items) (met a.places.items); names = naming_of a.variables.items } };
 
     ghost invariant = { λ a. IsNonDecreasing a.positions.items };
 }
 
 impl<'a> Scope<'a> {
-    /// No variable, and operators at these positions.
-    pub fn of(alloc: Global, positions: Vec<u64>) -> Self
-        requires { IsNonDecreasing positions.items }
-        ensures { result ≡ record { positions = positions.items; names = [] } }
+    /// No variable, and operators are numbered as they are met.
+    pub fn counting(alloc: Global) -> Self
+        ensures { result ≡ record { numbers = met []; names = [] } }
     {
         Scope {
-            positions,
             variables: Vec::new(alloc),
-            passed: 0,
+            is_ranked: false,
+            places: Vec::new(alloc),
+            positions: Vec::new(alloc),
             text: String::new(alloc),
         }
     }
 
-    /// The number of the operator at a place, counted from 1.
-    pub fn number(&mut self, place: Place) -> u64
-        ensures value { result ≡ number_by self.old place }
-        ensures scope { self.new ≡ self.old }
+    /// No variable, and operators are numbered by these positions of all of them.
+    pub fn ranking(alloc: Global, positions: Vec<u64>) -> Self
+        requires { IsNonDecreasing positions.items }
+        ensures { result ≡ record { numbers = ranked positions.items; names = [] } }
     {
-        let number = number(self.positions.as_slice(), self.passed, place);
-        self.passed = number as usize;
-        number
+        Scope {
+            variables: Vec::new(alloc),
+            is_ranked: true,
+            places: Vec::new(alloc),
+            positions,
+            text: String::new(alloc),
+        }
+    }
+
+    /// The number of the next operator, which stands at a place.
+    pub fn number(&mut self, place: Place) -> Result<u64, Memory>
+        ensures value { IfOk result (λ number. number ≡ next_number self.old.numbers place) }
+        ensures scope { OnOk result (self.new ≡ past_one self.old place) }
+    {
+        if self.is_ranked {
+            return Ok(number(self.positions.as_slice(), place));
+        }
+        self.places.push(place)?;
+        Ok(self.places.len() as u64)
+    }
+
+    /// The places of the operators that were met, where they are numbered so.
+    pub fn into_places(self) -> Vec<Place>
+        ensures { (places : ListOf PlaceOf) → self.entry.numbers ≡ met places
+            → result.items ≡ places }
+    {
+        let Scope {
+            variables: _variables,
+            is_ranked: _is_ranked,
+            places,
+            positions: _positions,
+            text: _text,
+        } = self;
+        places
     }
 
     /// The name of a written variable here: what the innermost that binds it gives, and else its own.

@@ -1,13 +1,12 @@
 use Rattle.std.proofs.Common.{◌≡◌, take}
 use Rattle.lrp_model.specs.RawQueries.{raw_forms_of}
 use Rattle.lrp_tense.specs.Trees.{tense_forms_of}
-use Rattle.lrp_tense.specs.Expanding.{expanded_each}
-use Rattle.lrp_tense.specs.Scopes.{number_by}
+use Rattle.lrp_tense.specs.Scopes.{each_in, past_each}
 use Rattle.lrp_tense.proofs.expansion.+expanding.Given as goal
 
--- the formulas so far are expanded, and the variables around them are as before
+-- the formulas so far are expanded, and their operators are passed
 abbrev pub invariant-expand_each-loop-f : goal.invariant-expand_each-loop-f
 invariant-expand_each-loop-f l = record {
-  trees : raw_forms_of l.all.items ≡ expanded_each (tense_forms_of (take l.f-index l.fs)) (number_by l.fn.scope) l.fn.scope.names;
-  scope : l.scope ≡ l.fn.scope;
+  trees : raw_forms_of l.all.items ≡ each_in l.fn.scope (tense_forms_of (take l.f-index l.fs));
+  scope : l.scope ≡ past_each l.fn.scope (tense_forms_of (take l.f-index l.fs));
 }

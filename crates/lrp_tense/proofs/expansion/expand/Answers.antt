@@ -1,18 +1,15 @@
 use Rattle.std.proofs.Common.{◌≡◌, ap, sym, subst, ◌∙◌}
 use Rattle.lrp_model.specs.RawQueries.{raw_form_of, raw_question_of}
-use Rattle.lrp_tense.specs.Trees.{tense_form_of, tense_question_of}
+use Rattle.lrp_tense.specs.Trees.{tense_question_of}
 use Rattle.lrp_tense.specs.Expanding.{expanded_question}
 use Rattle.lrp_tense.specs.Laws.{KeepsMeaning}
-use Rattle.lrp_tense.specs.Scopes.{expanded_in}
 use Rattle.lrp_tense.proofs.Law.{kept_meaning}
 use Rattle.lrp_tense.proofs.Positions.{expanded_query}
 use Rattle.lrp_tense.proofs.expansion.expand.Goals as goal
 
 pub returns : goal.returns
 returns c =
-    let numbers = c.in_ok-positions.ensures in
     let q = tense_question_of c.args.query.now in
     let tree : raw_question_of (record { head = c.in_ok-head.head; body = c.into_inner-body.result }) ≡ expanded_question q =
-    expanded_query c.args.query.now _ c.in_ok-positions.positions.items numbers c.in_ok-head.ensures
-    (ap raw_form_of c.into_inner-body.ensures ∙ c.in_ok-made.ensures.tree ∙ ap (λ a. expanded_in a (tense_form_of c.args.query.now.body)) c.of-scope.ensures) in
-    record { tree = tree; meaning = subst (KeepsMeaning q) (sym tree) (kept_meaning q c.requires numbers.few) }
+    expanded_query c.args.query.now _ c.in_ok-head.ensures (ap raw_form_of c.into_inner-body.ensures ∙ c.in_ok-made.ensures.tree) in
+    record { tree = tree; meaning = subst (KeepsMeaning q) (sym tree) (kept_meaning q c.requires c.in_ok-made.ensures.few) }
