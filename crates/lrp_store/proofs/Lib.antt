@@ -1,10 +1,8 @@
--- The lemmas: stored bounds, stores, counts of cells, splits, larger periods and tidy lists.
+-- The lemmas: stored bounds, stores, counts of cells, least tuples and tidy lists.
 pub mod Counted
 pub mod Grown
 pub mod Held
 pub mod Listed
-pub mod Ranges
-pub mod Splitting
 pub mod AnswerFirst
 pub mod Aligning
 pub mod Emptiness

@@ -2,7 +2,7 @@
 use Rattle.std.proofs.Common.{◌≡◌, ◌≢◌, ℕ, zero, suc, ◌+◌, ◌*◌, ◌<◌, ◌≤◌, ◌⊎◌, inl, inr, List, [], ◌∷◌, ◌++◌, length, take, Option, Some, None, true, false, cond, eqb, refl, sym, ap, subst, ◌∙◌, arith, get_or, to_z, of_z, SFits, ◌/◌, ◌%◌}
 use Rattle.std.proofs.lemmas.Int.{ints, to_z-of_z}
 use Rattle.std.proofs.lemmas.Nat.{from_le_bytes-to_le_bytes_8}
-use Rattle.std.specs.Prelude.{ℤ, nat_abs, ◌^◌, ◌-◌, ◌≤ℤ◌, ◌-ℤ◌, neg_ℤ, pos, negsuc, slice_index_or, is_some}
+use Rattle.std.specs.Prelude.{ℤ, nat_abs, ◌^◌, ◌-◌, ◌≤ℤ◌, ◌<ℤ◌, ◌-ℤ◌, neg_ℤ, pos, negsuc, slice_index_or, is_some}
 use Rattle.std.specs.Int.{w64, from_le_bytes, to_le_bytes}
 use Rattle.std.specs.List.{range_with_len}
 use Rattle.std.proofs.lemmas.Bool.{eqb-true, eqb-false, cases_lt}
@@ -226,3 +226,7 @@ bytes_back a fits bytes e = ap (λ bs. to_z w64 (from_le_bytes w64 bs)) e ∙ ap
 -- and its magnitude
 pub word_abs : (a : ℤ) → pos 1 ≤ℤ a → a ≤ℤ pos (2 ^ 62) → nat_abs (to_z w64 (of_z w64 a)) ≡ nat_abs a
 word_abs a low high = omega (arith, ints)
+
+-- a residue is the same in a word
+pub word64_node : (v n : ℤ) (k : ℕ) → v ≡ n → pos 0 ≤ℤ n → n <ℤ pos k → k ≤ 2 ^ 62 → to_z w64 (of_z w64 v) ≡ n
+word64_node v n k e a b h = omega (arith, ints)

@@ -1,18 +1,19 @@
 -- The first tuple of a store and of an answer.
-use Rattle.std.proofs.Common.{◌≡◌, ◌≢◌, ℕ, zero, suc, ◌<◌, ◌≤◌, ◌⊎◌, inl, inr, List, [], ◌∷◌, length, take, get_or, Option, Some, None, false, Ordering, Less, Equal, Greater, arith, refl, sym, ap, ap₂, subst, ◌∙◌, Contains}
-use Rattle.std.specs.Prelude.{ℤ, pos, IfSome, IfNone}
+use Rattle.std.proofs.Common.{◌≡◌, ◌≢◌, ℕ, zero, suc, ◌+◌, ◌*◌, ◌<◌, ◌≤◌, ◌⊎◌, inl, inr, List, [], ◌∷◌, length, take, replicate, get_or, Option, Some, None, Bool, true, false, Ordering, Less, Equal, Greater, arith, refl, sym, ap, ap₂, subst, ◌∙◌, Contains}
+use Rattle.std.specs.Prelude.{ℤ, pos, ◌-ℤ◌, ◌↔◌, IsTrue, IfSome, IfNone}
 use Rattle.std.specs.Ordering.{nat_cmp, ordering_then, ordering_reverse, is_gt, on, then_cmp}
 use Rattle.std.specs.Cmp.{IsTotalOrder}
 use Rattle.std.specs.Cmp.Lexicographic.{slice_cmp}
 use Rattle.std.proofs.lemmas.Cmp.{ranked, by_ranked, tied_itself, nat_cmp_total, nat_list_cmp_total, on_total, then_total, lists_total, upto}
-use Rattle.std.proofs.lemmas.List.{get_or-take, length-take-le, ext_get_or}
+use Rattle.std.proofs.lemmas.List.{get_or-take, get_or-replicate, length-take-le, ext_get_or}
+use Rattle.lrp_theory.specs.Bounds.{Within}
+use Rattle.lrp_theory.specs.Entries.{node}
 use Rattle.lrp_model.specs.declared.tuples.Spot.{Spot}
 use Rattle.lrp_zone.specs.Zones.{IsMember, columns_of}
 use Rattle.lrp_zone.specs.Order.{at}
 use Rattle.lrp_model.specs.declared.tuples.Cell.{Cell}
 use Rattle.lrp_store.proofs.Held.{Table, cell_held}
-use Rattle.lrp_store.specs.Stores.{StoreView, IsStore, InStore, zone_of, tables_at}
-use Rattle.lrp_store.specs.Aligned.{InCell}
+use Rattle.lrp_store.specs.Stores.{StoreView, IsStore, InCell, InStore, IsCellOf, IsPadded, zone_of, tables_at}
 use Rattle.lrp_store.proofs.Aligning.{tail_in}
 use Rattle.lrp_store.specs.Least.{IsNotNearer, IsNearestTo, held_cmp, IsSpotOf, IsFound, IsNotAfter}
 use Rattle.lrp_theory.specs.Residues.{rank}
@@ -75,12 +76,17 @@ front_cmp R d e (suc n) [] (y ∷ ys) l f g = absurd (omega arith)
 front_cmp R d e (suc n) (x ∷ xs) [] l f g = absurd (omega arith)
 front_cmp R d e (suc n) (x ∷ xs) (y ∷ ys) l f g = ap (ordering_then (R x y)) (front_cmp R d e n xs ys (omega arith) (λ i l. f (suc i) (omega arith)) (λ i l. g (suc i) (omega arith)))
 
--- two spots compare like their tuples
-pub spots_cmp : (s : StoreView) (a b : Spot) → IsSpotOf s a → IsSpotOf s b → held_cmp a.times a.texts b.times b.texts ≡ held_cmp (take s.shape.times a.times) (take s.shape.texts a.texts) (take s.shape.times b.times) (take s.shape.texts b.texts)
-spots_cmp s a b p q =
+-- so two spots with zeros behind their values compare like these
+padded_cmp : (s : StoreView) (a b : Spot) → IsPadded (pos 0) s.shape.times a.times → IsPadded (pos 0) s.shape.times b.times → IsPadded 0 s.shape.texts a.texts → IsPadded 0 s.shape.texts b.texts
+    → held_cmp a.times a.texts b.times b.texts ≡ held_cmp (take s.shape.times a.times) (take s.shape.texts a.texts) (take s.shape.times b.times) (take s.shape.texts b.texts)
+padded_cmp s a b times others texts names =
     ap₂ ordering_then
-    (front_cmp (λ x y. nat_cmp (rank x) (rank y)) (pos 0) (same_of 0 0 refl) s.shape.times a.times b.times (p.times.size ∙ sym q.times.size) p.times.zeros q.times.zeros)
-    (front_cmp nat_cmp 0 (same_of 0 0 refl) s.shape.texts a.texts b.texts (p.texts.size ∙ sym q.texts.size) p.texts.zeros q.texts.zeros)
+    (front_cmp (λ x y. nat_cmp (rank x) (rank y)) (pos 0) (same_of 0 0 refl) s.shape.times a.times b.times (times.size ∙ sym others.size) times.zeros others.zeros)
+    (front_cmp nat_cmp 0 (same_of 0 0 refl) s.shape.texts a.texts b.texts (texts.size ∙ sym names.size) texts.zeros names.zeros)
+
+-- two spots of the store compare like their tuples
+pub spots_cmp : (s : StoreView) (a b : Spot) → IsSpotOf s a → IsSpotOf s b → held_cmp a.times a.texts b.times b.texts ≡ held_cmp (take s.shape.times a.times) (take s.shape.texts a.texts) (take s.shape.times b.times) (take s.shape.texts b.texts)
+spots_cmp s a b p q = padded_cmp s a b p.times q.times p.texts q.texts
 
 -- ---- orders
 
@@ -114,47 +120,51 @@ held_before o h e = less_greater (sym h ∙ e)
 
 -- ---- the nearest tuple of a zone in a store
 
-module _ (s : StoreView) (is : IsStore s) (cell : Cell) (t : Table) (held : Contains (tables_at s cell) t) where
+module _ (s : StoreView) (is : IsStore s) (cell : Cell) (proper : IsCellOf s.shape s.period cell) (t : Table) where
   -- its zone has a column for each time
   columns : columns_of (zone_of s cell t) ≡ s.shape.times
-  columns =
-      let proper = cell_held s is cell t held in
-      length-take-le s.shape.times cell.residues (let h : s.shape.times ≤ 8 = is.times in let l : length cell.residues ≡ 8 = proper.residues.size in omega arith)
+  columns = length-take-le s.shape.times cell.residues (let h : s.shape.times ≤ 8 = is.times in let l : length cell.residues ≡ 8 = proper.residues.size in omega arith)
 
-  module _ (xs : List ℤ) (near : IsNearestTo (zone_of s cell t) (columns_of (zone_of s cell t)) xs) where
-    -- the nearest values, for the store's number of times
-    of_times : IsNearestTo (zone_of s cell t) s.shape.times xs
-    of_times = subst (λ n. IsNearestTo (zone_of s cell t) n xs) columns near
-
-    -- they are those of a tuple
+  module _ (xs : List ℤ) (near : IsNearestTo (zone_of s cell t) s.shape.times xs) where
+    -- the nearest values are those of a tuple
     fits : s.shape.times ≤ length xs
-    fits = let h : s.shape.times ≤ 8 = is.times in let l : length xs ≡ 8 = of_times.padded.size in omega arith
+    fits = let h : s.shape.times ≤ 8 = is.times in let l : length xs ≡ 8 = near.padded.size in omega arith
 
-    taken : take s.shape.times xs ≡ of_times.member
+    taken : take s.shape.times xs ≡ near.member
     taken =
-        let count : length of_times.member ≡ s.shape.times = of_times.is.cell.count ∙ columns in
+        let count : length near.member ≡ s.shape.times = near.is.cell.count ∙ columns in
         let size : length (take s.shape.times xs) ≡ s.shape.times = length-take-le s.shape.times xs fits in
-        ext_get_or (pos 0) (take s.shape.times xs) of_times.member (size ∙ sym count) (λ i h. get_or-take s.shape.times xs i (pos 0) (omega arith) ∙ sym (of_times.same i (omega arith)))
+        ext_get_or (pos 0) (take s.shape.times xs) near.member (size ∙ sym count) (λ i h. get_or-take s.shape.times xs i (pos 0) (omega arith) ∙ sym (near.same i (omega arith)))
 
-    -- with the cell's texts they are a spot of the store
-    pub spot_is : IsSpotOf s (record { times = xs; texts = cell.texts })
-    spot_is = record {
-      times = of_times.padded;
-      texts = (cell_held s is cell t held).texts;
-      held = record { cell = cell; table = t; held = held; named = refl; inside = subst (IsMember (zone_of s cell t)) (sym taken) of_times.is };
-    }
-
-    -- and not after another tuple of the zone
-    pub spot_first : (ys : List ℤ) → IsMember (zone_of s cell t) ys → IsNotAfter s (Some (record { times = xs; texts = cell.texts })) ys (take s.shape.texts cell.texts)
+    -- with the cell's texts they are not after another tuple of the zone
+    spot_first : (ys : List ℤ) → IsMember (zone_of s cell t) ys → IsNotAfter s (Some (record { times = xs; texts = cell.texts })) ys (take s.shape.texts cell.texts)
     spot_first ys h g =
         let c : length ys ≡ s.shape.times = h.cell.count ∙ columns in
-        not_nearer_cmp s.shape.times xs ys fits c (of_times.first ys h)
+        not_nearer_cmp s.shape.times xs ys fits c (near.first ys h)
         (last (times_cmp (take s.shape.times xs) ys) (slice_cmp nat_cmp (take s.shape.texts cell.texts) (take s.shape.texts cell.texts)) (tied_itself nat_list_cmp_total (take s.shape.texts cell.texts)) g)
       where
         last : (o p : Ordering) → p ≡ Equal → ordering_then o p ≡ Greater → o ≡ Greater
         last Less p e g = absurd (less_greater g)
         last Equal p e g = absurd (equal_greater (sym e ∙ g))
         last Greater p e g = refl
+
+module _ (s : StoreView) (is : IsStore s) (cell : Cell) (t : Table) (held : Contains (tables_at s cell) t) where
+  -- a cell that is held is of the store's shape and period
+  proper : IsCellOf s.shape s.period cell
+  proper = cell_held s is cell t held
+
+  module _ (xs : List ℤ) (near : IsNearestTo (zone_of s cell t) (columns_of (zone_of s cell t)) xs) where
+    -- the nearest values, for the store's number of times
+    of_times : IsNearestTo (zone_of s cell t) s.shape.times xs
+    of_times = subst (λ n. IsNearestTo (zone_of s cell t) n xs) (columns s is cell proper t) near
+
+    -- with the cell's texts they are a spot of the store
+    pub spot_is : IsSpotOf s (record { times = xs; texts = cell.texts })
+    spot_is = record {
+      times = of_times.padded;
+      texts = proper.texts;
+      held = record { cell = cell; table = t; held = held; named = refl; inside = subst (IsMember (zone_of s cell t)) (sym (taken s is cell proper t xs of_times)) of_times.is };
+    }
 
     module _ (old : Option Spot) (found : IsFound s old) (new : Spot) (one : (old ≡ Some new) ⊎ (new ≡ record { times = xs; texts = cell.texts }))
         (before_old : IfSome old (λ o. held_cmp new.times new.texts o.times o.texts ≢ Greater)) (before_spot : held_cmp new.times new.texts xs cell.texts ≢ Greater) where
@@ -172,7 +182,36 @@ module _ (s : StoreView) (is : IsStore s) (cell : Cell) (t : Table) (held : Cont
 
       -- and not after the tuples of the zone
       pub here_more : (ys : List ℤ) → IsMember (zone_of s cell t) ys → IsNotAfter s (Some new) ys (take s.shape.texts cell.texts)
-      here_more ys h = held_upto _ (take s.shape.times xs) ys _ (take s.shape.texts cell.texts) _ (subst (λ o. o ≢ Greater) (spots_cmp s new (record { times = xs; texts = cell.texts }) found_more spot_is) before_spot) (spot_first ys h)
+      here_more ys h = held_upto _ (take s.shape.times xs) ys _ (take s.shape.texts cell.texts) _ (subst (λ o. o ≢ Greater) (spots_cmp s new (record { times = xs; texts = cell.texts }) found_more spot_is) before_spot) (spot_first s is cell proper t xs of_times ys h)
+
+-- ---- a cell without its bounds
+
+module _ (s : StoreView) (is : IsStore s) (cell : Cell) (proper : IsCellOf s.shape s.period cell) where
+  -- each tuple of the cell is one of its zone without bounds
+  unbound : (ys : List ℤ) (ns : List ℕ) → InCell s cell ys ns → IsMember (zone_of s cell (replicate 81 None)) ys
+  unbound ys ns h =
+      let n : columns_of (zone_of s cell (replicate 81 None)) ≡ s.shape.times = columns s is cell proper (replicate 81 None) in
+      let few : s.shape.times ≤ 8 = is.times in
+      record {
+        cell = record { count = h.inside.cell.count; each = h.inside.cell.each };
+        meets = λ i j il jl. let small : 9 * i + j < 81 = omega arith in subst (λ b. Within (node ys i -ℤ node ys j) b) (sym (get_or-replicate 81 (9 * i + j) None None small)) tt;
+      }
+
+  -- where the first of that zone does not come before a spot of the store, no tuple of the cell does
+  front_behind : (xs : List ℤ) → IsNearestTo (zone_of s cell (replicate 81 None)) s.shape.times xs → (old : Spot) → IsSpotOf s old → held_cmp xs cell.texts old.times old.texts ≢ Less
+      → (ys : List ℤ) (ns : List ℕ) → InCell s cell ys ns → IsNotAfter s (Some old) ys ns
+  front_behind xs near old found behind ys ns h =
+      let same : held_cmp old.times old.texts xs cell.texts ≡ held_cmp (take s.shape.times old.times) (take s.shape.texts old.texts) (take s.shape.times xs) (take s.shape.texts cell.texts) = padded_cmp s old (record { times = xs; texts = cell.texts }) found.times near.padded found.texts proper.texts in
+      subst (IsNotAfter s (Some old) ys) h.named
+      (held_upto _ (take s.shape.times xs) ys _ (take s.shape.texts cell.texts) _ (subst (λ o. o ≢ Greater) same (held_turned xs old.times cell.texts old.texts behind)) (spot_first s is cell proper (replicate 81 None) xs near ys (unbound ys ns h)))
+
+  -- the same in the forms of a call's clauses
+  pub front_test : (b : Bool) (xs : List ℤ) → IsNearestTo (zone_of s cell (replicate 81 None)) s.shape.times xs → (old : Spot) → IsSpotOf s old → IsTrue b ↔ (held_cmp xs cell.texts old.times old.texts ≡ Less)
+      → b ≡ false → (ys : List ℤ) (ns : List ℕ) → InCell s cell ys ns → IsNotAfter s (Some old) ys ns
+  front_test b xs near old found before e = front_behind xs near old found (λ l. both_ways (sym e ∙ before.1 l))
+    where
+      both_ways : false ≡ true → ⊥
+      both_ways e = cc
 
 -- ---- one cell after the other
 

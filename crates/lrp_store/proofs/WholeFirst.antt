@@ -17,7 +17,7 @@ use Rattle.lrp_zone.specs.Order.{at}
 use Rattle.lrp_store.specs.Least.{IsRoom, IsNotNearer, IsNearestOf, IsNearestTo}
 use Rattle.lrp_store.specs.Stores.{IsPadded}
 use Rattle.lrp_store.proofs.Listed.{word_bound}
-use Rattle.lrp_store.proofs.Ranges.{word64_node}
+use Rattle.lrp_store.proofs.Listed.{word64_node}
 
 -- numbers from zero on have the ranks in their order
 rank_up : (x y : ℤ) → pos 0 ≤ℤ x → x ≤ℤ y → rank x ≤ rank y

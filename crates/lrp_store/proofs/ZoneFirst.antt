@@ -23,7 +23,7 @@ use Rattle.lrp_zone.specs.Order.{at}
 use Rattle.lrp_zone.proofs.Members.{tight_all, period_one, list_member}
 use Rattle.lrp_store.specs.Least.{matrix_of, IsRoom, IsNotNearer, IsNearestTo}
 use Rattle.lrp_store.proofs.Held.{node_take}
-use Rattle.lrp_store.proofs.Ranges.{word64_node}
+use Rattle.lrp_store.proofs.Listed.{word64_node}
 use Rattle.lrp_theory.specs.Residues.{rank}
 
 -- of numbers above zero the lesser one has the lesser rank

@@ -4,13 +4,11 @@
 pub mod Stores
 pub mod Tables
 pub mod Least
-pub mod Aligned
 pub mod Growing
 pub mod Tidied
 pub mod Reading
 pub mod Stored
 pub mod Faults
-pub mod Choices
 -- What functions inside say to one another.
 pub mod Codes
 pub mod Remembered

@@ -39,6 +39,13 @@ pub record InStore (s : StoreView) (times : List ℤ) (texts : List ℕ) : Type 
   pub named : take s.shape.texts cell.texts ≡ texts
   pub inside : IsMember (zone_of s cell table) times
 
+-- some zone of this cell has the times, and the texts are the cell's
+pub record InCell (s : StoreView) (cell : Cell) (times : List ℤ) (texts : List ℕ) : Type 0 where
+  pub table : List (Option ℤ)
+  pub held : Contains (tables_at s cell) table
+  pub named : take s.shape.texts cell.texts ≡ texts
+  pub inside : IsMember (zone_of s cell table) times
+
 -- eight values, of which all from number n on are zero
 pub record IsPadded {X : Type 0} (nought : X) (n : ℕ) (values : List X) : Type 0 where
   pub size : length values ≡ 8

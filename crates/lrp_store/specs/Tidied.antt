@@ -5,7 +5,7 @@ use Rattle.lrp_zone.specs.Zones.{ZoneView}
 use Rattle.lrp_zone.specs.Pairs.{IsWithin}
 use Rattle.lrp_store.specs.Stores.{StoreView, zone_of, tables_at}
 
--- the zone with the number k in a list of a cell's tables
+-- the zone with the number k in a list of a cell's tables; only numbers of zones are asked for
 abbrev pub nth_zone : StoreView → Cell → List (List (Option ℤ)) → ℕ → ZoneView
 nth_zone s cell tables k = zone_of s cell (slice_index_or tables k [])
 

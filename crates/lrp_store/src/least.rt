@@ -1,11 +1,10 @@
 // The first tuple of a store: by the ranks of its times, and then by the numbers of its texts.
-ghost use Rattle.std.specs.Prelude.{◌≡◌, ◌≢◌, ◌⊎◌, ◌↔◌, ℕ, ℤ, List, Contains, Some, IsTrue, IfSome, IfNone};
+ghost use Rattle.std.specs.Prelude.{◌≡◌, ◌≢◌, ◌⊎◌, ◌↔◌, ℕ, ℤ, List, Contains, Some, IsTrue, IfSome, IfNone, false};
 ghost use Rattle.std.specs.Ordering.{nat_cmp};
 ghost use Rattle.std.specs.Cmp.Lexicographic.{slice_cmp};
 ghost use Rattle.std.specs.declared.cmp.Ordering.TheVariants.{Less, Greater};
-ghost use Rattle.lrp_store.specs.Aligned.{InCell};
 ghost use Rattle.lrp_store.specs.Least.{HasRoom, IsFound, IsNearestTo, IsNotAfter, IsRoom, held_cmp};
-ghost use Rattle.lrp_store.specs.Stores.{InStore, tables_at, zone_of};
+ghost use Rattle.lrp_store.specs.Stores.{InCell, InStore, IsCellOf, tables_at, zone_of};
 ghost use Rattle.lrp_zone.specs.Zones.{columns_of};
 ghost use Rattle.lrp_theory.specs.Residues.{rank};
 
@@ -98,6 +97,9 @@ impl Store {
         self.shape();
         let mut found = found;
         for bounds in tables {
+            if !self.may_be_nearer(cell, &found) {
+                return found;
+            }
             let spot = Spot {
                 times: self.nearest_in(cell, bounds),
                 texts: cell.texts,
@@ -105,6 +107,26 @@ impl Store {
             found = Some(nearer(found, spot));
         }
         found
+    }
+
+    // Whether a tuple of a cell may come before what was found. None comes before the first tuple of the cell without
+    // bounds, which is read off the residues, so most cells are passed over and no matrix of their zones is closed.
+    fn may_be_nearer(&self, cell: &Cell, found: &Option<Spot>) -> bool
+        requires proper { IsCellOf self.now.shape self.now.period cell.now }
+        requires found { IsFound self.now found.now }
+        ensures { result ≡ false → (times : List ℤ) (texts : List ℕ)
+            → InCell self.now cell.now times texts → IsNotAfter self.now found.now times texts }
+    {
+        self.shape();
+        let Some(old) = found else {
+            return true;
+        };
+        let times = usize::from(self.shape.times);
+        let front = Spot {
+            times: nearest_of_cell(self.period, &cell.residues, times),
+            texts: cell.texts,
+        };
+        is_before(&front, old)
     }
 
     // The first tuple of a zone of a cell. Where no bound is stored no zone is made.

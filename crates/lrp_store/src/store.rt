@@ -97,6 +97,11 @@ impl Store {
         self.shape
     }
 
+    /// Where it takes memory from.
+    pub fn alloc(&self) -> Global {
+        self.alloc
+    }
+
     /// The period that all zones have.
     pub fn period(&self) -> i64
         ensures { result ≡ pos self.now.period }

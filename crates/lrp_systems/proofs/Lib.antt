@@ -1,5 +1,6 @@
--- The lemmas: bounds that come together, residues that are left and tried, orders, pieces of cells, and how they make up the solutions.
+-- The lemmas: larger periods, bounds that come together, residues that are left and tried, orders, pieces of cells, and how they make up the solutions.
 pub mod AddedAs
+pub mod Aligning
 pub mod Branches
 pub mod CellPieces
 pub mod FreePieces

@@ -1,14 +1,16 @@
 -- A zone over all columns in order has the solutions of its system.
-use Rattle.std.proofs.Common.{◌≡◌, ℕ, zero, suc, ◌<◌, ◌≤◌, List, [], ◌∷◌, Result, OnOk, arith, sym, ap, subst, ◌∙◌, take, get_or, length, map, max}
-use Rattle.std.specs.Prelude.{ℤ, pos, All}
+use Rattle.std.proofs.Common.{◌≡◌, ℕ, zero, suc, ◌+◌, ◌-◌, ◌^◌, ◌<◌, ◌≤◌, Bool, true, false, List, [], ◌∷◌, Result, OnOk, arith, sym, ap, subst, ◌∙◌, take, get_or, length, map, max}
+use Rattle.std.specs.Prelude.{ℤ, pos, All, ◌==◌, if◌then◌else◌}
 use Rattle.std.proofs.lemmas.List.{ext_get_or, length-map}
+use Rattle.lrp_theory.specs.Divides.{Divides}
 use Rattle.lrp_theory.specs.Entries.{node}
 use Rattle.lrp_model.specs.declared.tuples.Cell.{Cell}
-use Rattle.lrp_zone.specs.Zones.{IsMember, columns_of, reach_of, greatest_of}
+use Rattle.lrp_zone.specs.Spread.{target}
+use Rattle.lrp_zone.specs.Zones.{ZoneView, IsMember, columns_of, reach_of, greatest_of}
 use Rattle.lrp_store.specs.Stores.{StoreView, IsStore, IsPadded}
 use Rattle.lrp_store.specs.Growing.{IsAdded, IsRefused, IsTupleOf}
 use Rattle.lrp_store.specs.declared.store.StoreFault.{StoreFault}
-use Rattle.lrp_systems.specs.Parts.{PartView, InPart, part_reach, system_reach}
+use Rattle.lrp_systems.specs.Parts.{PartView, InPart, Fits, part_reach, system_reach}
 use Rattle.lrp_systems.specs.Sole.{IsCellOfZone, IsWhole}
 use Rattle.lrp_systems.specs.Systems.{IsSolution}
 use Rattle.lrp_systems.proofs.AddedAs.{added_as, refused_as}
@@ -38,6 +40,28 @@ module _ (part : PartView) (k n : ℕ) (w : IsWhole k n part) where
 
   pub alone_from : (xs : List ℤ) → length xs ≡ n → All (λ q. InPart q xs) (part ∷ []) → IsMember part.zone xs
   alone_from xs e all = subst (IsMember part.zone) (values_same xs e) (all zero part (omega arith))
+
+  count_is : length part.places ≡ n
+  count_is = w.valid.count ∙ w.columns
+
+  fits : (m : ℕ) → Divides (pos part.zone.period) (pos m) → reach_of part.zone + m ≤ 2 ^ 62 → Fits n m part
+  fits m multiple reach = record {
+    places = record {
+      low = λ p h. (let c : length part.places ≡ n = count_is in let e : target part.places (p + 1) ≡ p + 1 = w.each (p + 1) (omega arith) in omega arith);
+      high = λ p h. (let c : length part.places ≡ n = count_is in let e : target part.places p ≡ p = w.each p (omega arith) in omega arith);
+      differ = λ p q pl ql e. (let c : length part.places ≡ n = count_is in sym (w.each p (omega arith)) ∙ e ∙ w.each q (omega arith));
+    };
+    multiple = multiple;
+    reach = λ ne. reach;
+  }
+
+  -- its pieces reach little farther
+  alone_within : (m : ℕ) → system_reach m (part ∷ []) ≤ reach_of part.zone + (m - 1)
+  alone_within m = most (part.zone.period == m) (reach_of part.zone) (m - 1)
+    where
+      most : (b : Bool) (r d : ℕ) → max (if b then r else (r + d)) 0 ≤ r + d
+      most true r d = omega arith
+      most false r d = omega arith
 
   alone_reach : greatest_of part.zone.bounds ≤ system_reach k (part ∷ [])
   alone_reach =
@@ -77,3 +101,32 @@ module _ (s : StoreView) (is : IsStore s) (part : PartView) (w : IsWhole s.perio
 
     pub alone_refused : IsRefused (IsTupleOf part.zone (take s.shape.texts c.texts)) cap (greatest_of part.zone.bounds) s new → IsRefused Solution cap (system_reach s.period (part ∷ [])) s new
     alone_refused no_more = refused_as _ Solution cap (greatest_of part.zone.bounds) (system_reach s.period (part ∷ [])) s new is of_tuple (alone_reach part s.period s.shape.times w) no_more
+
+-- a zone of which a part was made, whose columns are the store's times
+module _ (z : ZoneView) (part : PartView) (same : part.zone ≡ z) (s : StoreView) (is : IsStore s) (whole : IsWhole z.period (columns_of z) part) (columns : columns_of z ≡ s.shape.times) where
+  own : IsWhole z.period s.shape.times part
+  own = subst (λ n. IsWhole z.period n part) columns whole
+
+  -- it can be brought to a multiple of its period that leaves room
+  pub lone_fits : Divides (pos z.period) (pos s.period) → reach_of z + s.period ≤ 2 ^ 62 → All (Fits s.shape.times s.period) (part ∷ [])
+  lone_fits multiple reach zero d l = fits part z.period s.shape.times own s.period (subst (λ y. Divides (pos y.period) (pos s.period)) (sym same) multiple) (subst (λ y. reach_of y + s.period ≤ 2 ^ 62) (sym same) reach)
+  lone_fits multiple reach (suc i) d l = absurd (omega (arith, l))
+
+  -- its pieces reach as far as it does and the period less 1 more
+  pub lone_within : system_reach s.period (part ∷ []) ≤ reach_of z + (s.period - 1)
+  lone_within = subst (λ y. system_reach s.period (part ∷ []) ≤ reach_of y + (s.period - 1)) same (alone_within part z.period s.shape.times own s.period)
+
+  module _ (named : List ℕ) where
+    -- its tuples are the solutions
+    pub of_lone : (xs : List ℤ) (ns : List ℕ) → IsTupleOf z named xs ns → IsSolution (part ∷ []) s.shape.times named xs ns
+    of_lone xs ns h = record { count = h.member.cell.count ∙ columns; inside = alone_to part z.period s.shape.times own xs (subst (λ y. IsMember y xs) (sym same) h.member); same = h.same }
+
+    pub to_lone : (xs : List ℤ) (ns : List ℕ) → IsSolution (part ∷ []) s.shape.times named xs ns → IsTupleOf z named xs ns
+    to_lone xs ns h = record { member = subst (λ y. IsMember y xs) same (alone_from part z.period s.shape.times own xs h.count h.inside); same = h.same }
+
+    module _ (cap : ℕ) (new : StoreView) where
+      pub lone_added : {T : Type 0} (r : Result T StoreFault) → OnOk r (IsAdded (IsSolution (part ∷ []) s.shape.times named) cap (system_reach s.period (part ∷ [])) s new) → OnOk r (IsAdded (IsTupleOf z named) cap (reach_of z + (s.period - 1)) s new)
+      lone_added r ok = added_as _ (IsTupleOf z named) cap (system_reach s.period (part ∷ [])) (reach_of z + (s.period - 1)) s new is to_lone lone_within of_lone r ok
+
+      pub lone_refused : IsRefused (IsSolution (part ∷ []) s.shape.times named) cap (system_reach s.period (part ∷ [])) s new → IsRefused (IsTupleOf z named) cap (reach_of z + (s.period - 1)) s new
+      lone_refused no_more = refused_as _ (IsTupleOf z named) cap (system_reach s.period (part ∷ [])) (reach_of z + (s.period - 1)) s new is to_lone lone_within no_more

@@ -2,6 +2,7 @@
 
 -- What contracts of public calls say.
 pub mod Systems
+pub mod Aligned
 pub mod Parts
 pub mod Residues
 pub mod Windows

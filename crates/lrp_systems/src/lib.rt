@@ -1,6 +1,7 @@
 //! Systems of zones over joint columns: the tuples that lie in each of them, added to a store cell by cell.
 #![tactic(auto)]
 
+mod align;
 mod alone;
 mod choice;
 mod divisor;
@@ -19,11 +20,15 @@ mod wholes;
 mod window;
 mod windows;
 
+pub use align::Align;
+pub use choice::{Choice, choose};
 pub use divisor::common_divisor;
+pub use frame::Frame;
 pub use front_walk::add_fronts;
 pub use fronts::Fronts;
+pub use order::Order;
 pub use part::Part;
-pub use system::add_system;
+pub use system::{add_system, put};
 pub use wholes::add_zone;
 pub use window::Window;
 pub use windows::{Windows, windows_of};

@@ -9,6 +9,7 @@ ghost use Rattle.lrp_store.specs.Stores.{IsPadded, HasReach};
 
 use lrp_model::{Bound, Cell, Column, Domain, Head, List, Name, Shape, Sort};
 use lrp_store::{Answer, Store};
+use lrp_systems::{Part, add_system};
 use lrp_zone::Zone;
 use std::alloc::Global;
 use std::process::Abort;
@@ -64,13 +65,15 @@ fn add_sixths(rt: &impl Abort, store: &mut Store)
         panic!(rt; "no zone");
     };
     assert!(rt; zone.columns() == 1);
-    match store.split(&cell(0, 0).texts, &zone, 1) {
+    store.shape();
+    let parts = [Part::in_order(&zone)];
+    match add_system(&parts, &cell(0, 0).texts, store, 1) {
         Ok(()) => {}
         Err(_) => panic!(rt; "memory"),
     }
 }
 
-/// The store of the multiples of 6, in two equal zones.
+/// The store of the multiples of 6, which are added twice.
 pub fn sixths(rt: &impl Abort, alloc: Global) -> Store
     ensures times { result.shape.times ≡ 1 }
     ensures texts { result.shape.texts ≡ 0 }

@@ -5,6 +5,7 @@ ghost use Rattle.lrp_store.specs.Stores.{HasReach};
 use crate::parts::{bound, cell, sixths, zone_of};
 use lrp_model::Shape;
 use lrp_store::{Store, StoreFault};
+use lrp_systems::Align;
 use lrp_zone::Zone;
 use std::alloc::Global;
 use std::process::Abort;

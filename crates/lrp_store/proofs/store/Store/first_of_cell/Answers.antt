@@ -4,8 +4,12 @@ use Rattle.lrp_zone.specs.Zones.{columns_of}
 use Rattle.lrp_store.specs.Least.{IsNearestTo, IsNotAfter}
 use Rattle.lrp_store.specs.Stores.{zone_of}
 use Rattle.lrp_store.proofs.Aligning.{head_in, tail_in}
+use Rattle.lrp_store.proofs.Held.{cell_held}
 use Rattle.lrp_store.proofs.StoreFirst.{found_more, kept_more, here_more, behind_more, cell_done}
 use Rattle.lrp_store.proofs.store.Store.first_of_cell.Goals as goal
+
+pub may_be_nearer-requires-clause-proper : goal.may_be_nearer-requires-clause-proper
+may_be_nearer-requires-clause-proper c = cell_held c.args.self.now c.shape.ensures.valid c.args.cell.now c.in-Some.bounds.now (c.loop-bounds.invariant.within c.in-Some.bounds.now (head_in c.in-Some.bounds.now c.next.new.self c.loop-bounds.bounds-iterator c.in-Some.ensures.steps))
 
 pub nearest_in-requires-clause-held : goal.nearest_in-requires-clause-held
 nearest_in-requires-clause-held c = (c.loop-bounds.invariant.within c.in-Some.bounds.now (head_in c.in-Some.bounds.now c.next.new.self c.loop-bounds.bounds-iterator c.in-Some.ensures.steps))
