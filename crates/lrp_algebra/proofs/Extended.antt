@@ -12,7 +12,7 @@ use Rattle.lrp_store.specs.Growing.{IsAdded, IsRefused}
 use Rattle.lrp_store.specs.declared.table.Table.{Table}
 use Rattle.lrp_store.proofs.Grown.{Set}
 use Rattle.lrp_systems.specs.Parts.{system_reach}
-use Rattle.lrp_tables.specs.Calls.{CanExtend}
+use Rattle.lrp_tables.specs.Steps.{CanExtend}
 use Rattle.lrp_tables.specs.Caps.{InhabitsMoreThan}
 use Rattle.lrp_tables.specs.Columns.{ArePlacesOf, head_times, head_texts}
 use Rattle.lrp_tables.specs.Tables.{IsExtended, IsTableOf}
@@ -26,7 +26,7 @@ use Rattle.lrp_algebra.specs.Patterns.{parts_of, IsOver}
 use Rattle.lrp_algebra.specs.Gathered.{IsFound, CanStandIn, HasBrought}
 use Rattle.lrp_algebra.proofs.Steps.{at_has, has_at, can_stand, over_tuples, has_texts, free, free_reach, free_suits, step_table, step_few, step_many, step_reach, step_times, step_texts, brought_same}
 
-module _ (domain : List Text) (ascends : Ascends domain) (columns : List Column) (table : Table) (is : IsStore table.store) (call : CanExtend columns table) (places : Places)
+module _ (domain : List Text) (ascends : Ascends domain) (columns : List Column) (table : Table) (is : IsStore table.store) (call : CanExtend domain columns table) (places : Places)
     (t : ArePlacesOf table.vars.times (head_times columns) places.times) (x : ArePlacesOf table.vars.texts (head_texts columns) places.texts) (pattern : Pattern) (none : pattern ≡ free) (size : ℕ) (es : size ≡ length domain) (cap : ℕ) (start out : StoreView)
     (fresh : start ≡ record { shape = record { times = length (head_times columns); texts = length (head_texts columns) }; period = table.store.period; tables = finite.empty; spare = 0 }) where
   -- the tuples that are added

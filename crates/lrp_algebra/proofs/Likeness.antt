@@ -27,7 +27,7 @@ use Rattle.lrp_algebra.specs.Patterns.{parts_of, IsOver}
 use Rattle.lrp_tables.specs.Calls.{number_at}
 use Rattle.lrp_algebra.specs.Gathered.{AreOwn, CanStandIn, HasBrought, HasNumbersBelow, IsAlike, IsFound}
 use Rattle.lrp_algebra.proofs.Found.{mapped_at}
-use Rattle.lrp_algebra.proofs.Parts.{IsGathering, gathering_none, gathering_more, gathering_refused, gathered, added_as, refused_as}
+use Rattle.lrp_tables.proofs.Gathering.{IsGathering, gathering_none, gathering_more, gathering_refused, gathered, added_as, refused_as}
 use Rattle.lrp_algebra.proofs.Steps.{free, free_suits}
 
 -- ---- what stands at the columns' own places

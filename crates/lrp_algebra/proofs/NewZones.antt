@@ -8,7 +8,8 @@ use Rattle.lrp_store.specs.Growing.{IsAdded, IsTupleOf}
 use Rattle.lrp_store.specs.declared.store.StoreFault.{StoreFault}
 use Rattle.lrp_store.proofs.Grown.{Set}
 use Rattle.lrp_tables.proofs.Adding.{IsZoneOf}
-use Rattle.lrp_algebra.proofs.Parts.{added_as, on_ok}
+use Rattle.lrp_algebra.proofs.Parts.{on_ok}
+use Rattle.lrp_tables.proofs.Gathering.{added_as}
 
 module _ (set : Set) (s : StoreView) (is : IsStore s) (c : Cell) (z : ZoneView) (high : ℕ) (of : IsZoneOf set s c z high) (cap : ℕ) (new : StoreView) where
   to_set : (xs : List ℤ) (ns : List ℕ) → IsTupleOf z (take s.shape.texts c.texts) xs ns → set xs ns

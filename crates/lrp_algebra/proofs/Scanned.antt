@@ -33,7 +33,8 @@ use Rattle.lrp_store.specs.Stores.{StoreView, IsStore, HasReach}
 use Rattle.lrp_store.specs.Tables.{AreTexts}
 use Rattle.lrp_store.specs.declared.table.Table.{Table}
 use Rattle.lrp_store.proofs.Grown.{Set}
-use Rattle.lrp_tables.specs.Calls.{CanScan, CanBeRow, CanStand}
+use Rattle.lrp_tables.specs.Calls.{CanBeRow, CanStand}
+use Rattle.lrp_tables.specs.Steps.{CanScan}
 use Rattle.lrp_tables.specs.Caps.{InhabitsMoreThan}
 use Rattle.lrp_tables.specs.Columns.{scan_times, scan_texts, texts_of_term, times_of_term}
 use Rattle.lrp_tables.specs.Tables.{AreNamesAmong, HasTexts, IsScanned, IsTableOf}
@@ -45,7 +46,7 @@ use Rattle.lrp_algebra.specs.Patterns.{IsOver, Suits}
 use Rattle.lrp_algebra.specs.Rows.{bounds_reach, offsets_reach, CanBeRead, DividesPeriod, HasSmallPeriod, HasNoRow, IsOfRow, IsRowTuple}
 use Rattle.lrp_algebra.specs.declared.pattern.Pattern.{Pattern}
 use Rattle.lrp_algebra.proofs.Leaves.{joint_short}
-use Rattle.lrp_algebra.proofs.Parts.{IsGathering, gathering_none, gathering_more, gathering_refused, gathered}
+use Rattle.lrp_tables.proofs.Gathering.{IsGathering, gathering_none, gathering_more, gathering_refused, gathered}
 use Rattle.lrp_algebra.proofs.Steps.{over_tuples, has_texts, step_table, step_few, step_many, step_reach, empty_store, abs_is, positive, same_word}
 
 -- ---- one row

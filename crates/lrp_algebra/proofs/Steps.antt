@@ -14,7 +14,8 @@ use Rattle.lrp_model.specs.Texts.{Text, Identifier, Ascends}
 use Rattle.lrp_model.specs.Satisfaction.{Assignment}
 use Rattle.lrp_model.specs.declared.tuples.Shape.{Shape}
 use Rattle.lrp_zone.specs.Spread.{ArePlaces}
-use Rattle.lrp_store.specs.Stores.{StoreView, IsStore, InStore, HasReach, HoldsJust}
+use Rattle.lrp_zone.specs.Zones.{reach_of}
+use Rattle.lrp_store.specs.Stores.{StoreView, IsStore, InStore, HasReach, HoldsJust, zone_of}
 use Rattle.lrp_store.specs.Growing.{IsAdded, IsRefused, InhabitsMany}
 use Rattle.lrp_store.specs.Tables.{AreTexts, InTable}
 use Rattle.lrp_store.specs.declared.table.Table.{Table}
@@ -178,6 +179,10 @@ brought_same s k high e r = record { low = high; reach = r; within = by (s.perio
 
     same : (a b : ℕ) → a ≡ b → (a == b) ≡ true
     same a b e = eq-eqb a b e
+
+-- what has a reach has each greater one
+pub farther : (s : StoreView) (low high : ℕ) → low ≤ high → HasReach s low → HasReach s high
+farther s low high le r = record { each = λ c t h. let l : reach_of (zone_of s c t) ≤ low = r.each c t h in omega (arith, l, le) }
 
 -- texts with numbers are texts of the domain
 pub has_texts : (domain : List Text) (texts : List Identifier) (env : Assignment) (ns : List ℕ) → AreTexts domain ns (map env.texts texts) → HasTexts domain texts env

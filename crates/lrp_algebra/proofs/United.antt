@@ -23,7 +23,7 @@ use Rattle.lrp_algebra.specs.declared.layout.Places.{Places}
 use Rattle.lrp_algebra.specs.declared.pattern.Pattern.{Pattern}
 use Rattle.lrp_algebra.specs.Patterns.{parts_of, IsOver}
 use Rattle.lrp_algebra.specs.Gathered.{IsFound, CanStandIn, HasBrought}
-use Rattle.lrp_algebra.proofs.Parts.{IsGathering, gathering_none, gathering_more, gathering_refused, gathered}
+use Rattle.lrp_tables.proofs.Gathering.{IsGathering, gathering_none, gathering_more, gathering_refused, gathered}
 use Rattle.lrp_algebra.proofs.Steps.{at_has, has_at, can_stand, over_tuples, has_texts, free, free_reach, free_suits, step_table, step_few, step_many, step_reach, brought_by}
 
 -- the names of two tables differ where they meet

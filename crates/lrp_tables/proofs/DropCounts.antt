@@ -1,6 +1,6 @@
 -- A set whose members a value for one variable more completes to members of another set inhabits no more cells than that one.
-use Rattle.std.proofs.Common.{◌≡◌, ◌⊎◌, ◌<◌, ℕ, zero, suc, Bool, true, false, cond, not, List, [], ◌∷◌, length, refl, sym, ap, subst, ◌∙◌, arith, Contains, bytes_eq, ⊎_elim}
-use Rattle.std.specs.Prelude.{ℤ, pos, get_or, ◌≤ℤ◌, ◌<ℤ◌}
+use Rattle.std.proofs.Common.{◌≡◌, ◌⊎◌, ◌<◌, ℕ, Bool, true, false, cond, not, List, [], ◌∷◌, refl, sym, ap, subst, ◌∙◌, arith, Contains, bytes_eq, ⊎_elim}
+use Rattle.std.specs.Prelude.{ℤ, pos, ◌≤ℤ◌, ◌<ℤ◌}
 use Rattle.std.specs.List.{AllByRecursion}
 use Rattle.std.specs.Int.{int_rem_euclid}
 use Rattle.std.proofs.lemmas.Int.{ints}
@@ -9,46 +9,13 @@ use Rattle.lrp_model.specs.Texts.{Text, Identifier, without}
 use Rattle.lrp_model.specs.Rows.{time, text}
 use Rattle.lrp_model.specs.Variables.{Variable, time_variable, data_variable}
 use Rattle.lrp_model.specs.Satisfaction.{Assignment, with_value}
-use Rattle.lrp_model.specs.Cells.{FormCell, LiesIn, Agree, Differ, Many}
+use Rattle.lrp_model.specs.Cells.{FormCell, LiesIn, Agree, Differ}
 use Rattle.lrp_model.proofs.Decided.{cons_cases, contains_first, contains_later, contains_none}
 use Rattle.lrp_tables.specs.Tables.{named_variables}
 use Rattle.lrp_tables.specs.Caps.{Inhabits, InhabitsMoreThan}
-use Rattle.lrp_tables.proofs.Mapped.{many_map}
+use Rattle.lrp_tables.proofs.Mapped.{Known, many_known, many_map}
 use Rattle.lrp_tables.proofs.Numbers.{all_variables}
 use Rattle.lrp_theory.specs.Divides.{IsMember}
-
--- ---- cells with what is known of them
-
-module _ {C : Type 0} (p : C → Type 0) where
-  abbrev Known : Type 0
-  Known = (c : C) × p c
-
-  abbrev pack : (xs : List C) → AllByRecursion p xs → List Known
-  pack [] h = []
-  pack (x ∷ xs) h = (x, h.0) ∷ pack xs h.1
-
-  pack_length : (xs : List C) (h : AllByRecursion p xs) → length (pack xs h) ≡ length xs
-  pack_length [] h = refl
-  pack_length (x ∷ xs) h = ap suc (pack_length xs h.1)
-
-  pack_at : (xs : List C) (h : AllByRecursion p xs) (i : ℕ) (d : Known) → get_or xs i d.0 ≡ (get_or (pack xs h) i d).0
-  pack_at [] h i d = refl
-  pack_at (x ∷ xs) h zero d = refl
-  pack_at (x ∷ xs) h (suc i) d = pack_at xs h.1 i d
-
-  pack_each : (xs : List C) (h : AllByRecursion p xs) → AllByRecursion (λ k. Unit {0}) (pack xs h)
-  pack_each [] h = tt
-  pack_each (x ∷ xs) h = (tt, pack_each xs h.1)
-
-  many_known : (differ : C → C → Type 0) (cap : ℕ) → Many differ p cap → Many {C = Known} (λ a b. differ a.0 b.0) (λ k. Unit {0}) cap
-  many_known differ cap m = record {
-    cells = pack m.cells m.each;
-    count = pack_length m.cells m.each ∙ m.count;
-    apart = λ i j d lt below.
-        let r : differ (get_or m.cells i d.0) (get_or m.cells j d.0) = m.apart i j d.0 lt (subst (λ n. j < n) (pack_length m.cells m.each) below) in
-        subst (λ x. differ x (get_or (pack m.cells m.each) j d).0) (pack_at m.cells m.each i d) (subst (λ y. differ (get_or m.cells i d.0) y) (pack_at m.cells m.each j d) r);
-    each = pack_each m.cells m.each;
-  }
 
 -- ---- the names but one
 

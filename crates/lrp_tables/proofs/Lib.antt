@@ -4,6 +4,7 @@ pub mod CellsNamed
 pub mod DropCounts
 pub mod Filled
 pub mod FreeZones
+pub mod Gathering
 pub mod HeadNames
 pub mod Joining
 pub mod Mapped
@@ -14,4 +15,5 @@ pub mod Passing
 pub mod Pieced
 pub mod TableLaws
 pub mod TableMade
+pub mod TupleLaws
 pub mod Wider

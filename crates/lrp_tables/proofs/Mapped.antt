@@ -1,5 +1,5 @@
 -- Many cells of one kind give as many of another.
-use Rattle.std.proofs.Common.{◌≡◌, ℕ, zero, suc, ◌<◌, List, [], ◌∷◌, length, map, refl, sym, subst, ◌∙◌, arith}
+use Rattle.std.proofs.Common.{◌≡◌, ℕ, zero, suc, ◌<◌, List, [], ◌∷◌, length, map, refl, sym, ap, subst, ◌∙◌, arith}
 use Rattle.std.specs.Prelude.{AllPairs, get_or}
 use Rattle.std.specs.List.{AllByRecursion}
 use Rattle.std.proofs.lemmas.List.{length-map}
@@ -36,3 +36,36 @@ module _ {C D : Type 0} (f : C → D) (differ : C → C → Type 0) (apart : D �
   -- cells are moved to cells, and different ones to different ones
   pub many_map : (cap : ℕ) → Many differ p cap → Many apart q cap
   many_map cap m = record { cells = map f m.cells; count = length-map m.cells f ∙ m.count; apart = pairs m.cells m.each m.apart; each = each_map f p q m.cells moves m.each }
+
+-- cells with what is known of them
+module _ {C : Type 0} (p : C → Type 0) where
+  abbrev pub Known : Type 0
+  Known = (c : C) × p c
+
+  abbrev pack : (xs : List C) → AllByRecursion p xs → List Known
+  pack [] h = []
+  pack (x ∷ xs) h = (x, h.0) ∷ pack xs h.1
+
+  pack_length : (xs : List C) (h : AllByRecursion p xs) → length (pack xs h) ≡ length xs
+  pack_length [] h = refl
+  pack_length (x ∷ xs) h = ap suc (pack_length xs h.1)
+
+  pack_at : (xs : List C) (h : AllByRecursion p xs) (i : ℕ) (d : Known) → get_or xs i d.0 ≡ (get_or (pack xs h) i d).0
+  pack_at [] h i d = refl
+  pack_at (x ∷ xs) h zero d = refl
+  pack_at (x ∷ xs) h (suc i) d = pack_at xs h.1 i d
+
+  pack_each : (xs : List C) (h : AllByRecursion p xs) → AllByRecursion (λ k. Unit {0}) (pack xs h)
+  pack_each [] h = tt
+  pack_each (x ∷ xs) h = (tt, pack_each xs h.1)
+
+  -- so many cells, with what is known of each
+  pub many_known : (differ : C → C → Type 0) (cap : ℕ) → Many differ p cap → Many {C = Known} (λ a b. differ a.0 b.0) (λ k. Unit {0}) cap
+  many_known differ cap m = record {
+    cells = pack m.cells m.each;
+    count = pack_length m.cells m.each ∙ m.count;
+    apart = λ i j d lt below.
+        let r : differ (get_or m.cells i d.0) (get_or m.cells j d.0) = m.apart i j d.0 lt (subst (λ n. j < n) (pack_length m.cells m.each) below) in
+        subst (λ x. differ x (get_or (pack m.cells m.each) j d).0) (pack_at m.cells m.each i d) (subst (λ y. differ (get_or m.cells i d.0) y) (pack_at m.cells m.each j d) r);
+    each = pack_each m.cells m.each;
+  }

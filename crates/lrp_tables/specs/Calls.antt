@@ -1,24 +1,22 @@
--- What the steps of a plan ask of the tables, terms and tests that they are given.
+-- What the steps of a plan ask of the columns, tests and rows that they are given.
 use Rattle.std.specs.Prelude.{◌≡◌, ◌≤◌, ◌≤ℤ◌, ℕ, ℤ, pos, true, List, length, map, Contains, slice_index, ◌-◌}
 use Rattle.std.specs.List.{AllByRecursion, AllZip}
 use Rattle.lrp_theory.specs.Divides.{Divides}
 use Rattle.lrp_model.specs.Texts.{Text, Identifier}
-use Rattle.lrp_model.specs.Sorts.{is_time, is_data, FitsColumn, time_count, text_count}
+use Rattle.lrp_model.specs.Sorts.{is_time, is_data, time_count}
 use Rattle.lrp_model.specs.Reach.{greatest, test_reach}
-use Rattle.lrp_model.specs.Satisfaction.{HaveDistinctNames}
 use Rattle.lrp_model.specs.declared.relations.Column.{Column}
 use Rattle.lrp_model.specs.declared.relations.Bound.{Bound}
 use Rattle.lrp_model.specs.declared.relations.Value.{Value}
 use Rattle.lrp_model.specs.declared.relations.Value.TheVariants.{Point, Const}
 use Rattle.lrp_model.specs.declared.relations.Row.{Row}
-use Rattle.lrp_model.specs.declared.relations.Relation.{Relation}
 use Rattle.lrp_model.specs.declared.formulas.DataTerm.TheVariants.{Var as data_var, Const as data_const}
 use Rattle.lrp_model.specs.declared.formulas.Term.{Term}
 use Rattle.lrp_model.specs.declared.formulas.Term.TheVariants.{Time as time_term, Data as data_term}
 use Rattle.lrp_model.specs.declared.formulas.Test.{Test}
 use Rattle.lrp_model.specs.declared.formulas.Test.TheVariants.{Compare, Member, Equal}
 use Rattle.lrp_store.specs.declared.table.Table.{Table}
-use Rattle.lrp_tables.specs.Columns.{joint, scan_times, scan_texts, times_of_test, texts_of_test, head_times, head_texts}
+use Rattle.lrp_tables.specs.Columns.{joint, times_of_test, texts_of_test}
 use Rattle.lrp_tables.specs.Tables.{AreNamesAmong, HaveNoName}
 
 -- ---- two tables
@@ -54,16 +52,6 @@ pub record CanBeCarried (times texts : List Identifier) (period : ℤ) (test : T
 abbrev pub tests_reach : List Test → ℕ
 tests_reach tests = greatest (map test_reach tests)
 
--- ---- heads
-
--- the head has the variables of the table, its names differ, and it has at most 8 columns of each kind
-pub record CanExtend (columns : List Column) (table : Table) : Type 0 where
-  pub times : AreNamesAmong table.vars.times (head_times columns)
-  pub texts : AreNamesAmong table.vars.texts (head_texts columns)
-  pub names : HaveDistinctNames columns
-  pub few_times : length (head_times columns) ≤ 8
-  pub few_texts : length (head_texts columns) ≤ 8
-
 -- ---- relations
 
 -- in a column of times a point whose period is at least 1 and divides the step's, and in one of a data sort a text of the domain
@@ -86,15 +74,6 @@ abbrev pub HasText : List Text → Term → Type 0
 HasText domain (time_term t) = Unit {0}
 HasText domain (data_term (data_var v)) = Unit {0}
 HasText domain (data_term (data_const t)) = Contains domain t
-
--- a relation of at most 8 columns of each kind, with its rows, and a term for each of its columns; no name is a time variable and a data variable of the terms
-pub record CanScan (domain : List Text) (period : ℤ) (relation : Relation) (terms : List Term) : Type 0 where
-  pub times : time_count relation.columns ≤ 8
-  pub texts : text_count relation.columns ≤ 8
-  pub rows : AllByRecursion (CanBeRow domain period relation.columns) relation.rows
-  pub terms_fit : AllZip FitsColumn relation.columns terms
-  pub terms_known : AllByRecursion (HasText domain) terms
-  pub apart : HaveNoName (scan_times terms) (scan_texts terms)
 
 -- the number of the text at a place, counted from 1
 abbrev pub number_at : List ℕ → ℕ → ℕ

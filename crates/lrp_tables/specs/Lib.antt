@@ -2,8 +2,9 @@
 
 -- What the contract of `run` reaches.
 pub mod Caps
--- What contracts of single functions need beside.
 pub mod Calls
+pub mod Steps
+-- What contracts of single functions need beside.
 pub mod Cells
 pub mod Columns
 pub mod Passes

@@ -79,11 +79,11 @@ pub record IsExtended (domain : List Text) (columns : List Column) (table : Tabl
   pub has : Has table domain env
 
 -- a difference
-pub record IsLess (domain : List Text) (left right : Table) (env : Assignment) : Type 0 where
+pub record IsMinus (domain : List Text) (left right : Table) (env : Assignment) : Type 0 where
   pub has : Has left domain env
   pub none : Has right domain env → ⊥
 
 -- a complement
-pub record IsMissing (domain : List Text) (table : Table) (env : Assignment) : Type 0 where
+pub record IsComplement (domain : List Text) (table : Table) (env : Assignment) : Type 0 where
   pub known : HasTexts domain table.vars.texts env
   pub none : Has table domain env → ⊥

@@ -5,9 +5,11 @@ mod free;
 mod names;
 mod pieces;
 mod remembered;
+mod setting;
 
 pub use free::is_free;
 pub use lrp_store::{StepFault, Table, Vars};
 pub use names::{joint, place_of, places_among, without};
 pub use pieces::{Piece, Pieces};
 pub use remembered::Remembered;
+pub use setting::Setting;

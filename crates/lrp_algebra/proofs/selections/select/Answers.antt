@@ -34,20 +34,20 @@ with_test-requires c =
       few_times = subst (λ l. length l ≤ 8) (sym c.in_ok-copy.ensures) (table_few_times c.args.table.now c.shape.ensures.valid);
       few_texts = subst (λ l. length l ≤ 8) (sym c.in_ok-copy-2.ensures) (table_few_texts c.args.table.now c.shape.ensures.valid);
       known = ap (λ (p : Pattern). length p.texts) c.new-all.ensures;
-      times = subst (λ l. AreNamesAmong (times_of_test c.args.test.now) l) (sym c.in_ok-copy.ensures) c.requires.test.times_known;
-      texts = subst (λ l. AreNamesAmong (texts_of_test c.args.test.now) l) (sym c.in_ok-copy-2.ensures) c.requires.test.texts_known;
-      low = c.requires.test.low;
-      reach = (let r = c.requires.test_reach in omega (arith, r));
+      times = subst (λ l. AreNamesAmong (times_of_test c.args.test.now) l) (sym c.in_ok-copy.ensures) c.requires.carried.times_known;
+      texts = subst (λ l. AreNamesAmong (texts_of_test c.args.test.now) l) (sym c.in_ok-copy-2.ensures) c.requires.carried.texts_known;
+      low = c.requires.carried.low;
+      reach = (let r = c.requires.test_small in omega (arith, r));
     }
 
 pub add_store-requires : goal.add_store-requires
 add_store-requires c =
     let fresh = fresh_by c.store_over-out.result c.in_ok-copy.field-0 c.args.table.now.vars.times c.in_ok-copy-2.field-0 c.args.table.now.vars.texts (nat_abs (to_z w64 (of_z w64 c.args.period))) (nat_abs c.args.period) c.store_over-out.ensures c.in_ok-copy.ensures c.in_ok-copy-2.ensures (same_word c.args.period c.requires.low c.requires.high) in
     let low : 0 < nat_abs c.args.period = positive c.args.period c.requires.low in
-    let w : IsWithTest c.args.domain.now c.args.table.now.vars.times c.args.table.now.vars.texts c.args.test.now c.new-all.result c.in-Some.pattern = subst (λ l. IsWithTest c.args.domain.now l c.args.table.now.vars.texts c.args.test.now c.new-all.result c.in-Some.pattern) c.in_ok-copy.ensures (subst (λ l. IsWithTest c.args.domain.now c.in_ok-copy.field-0 l c.args.test.now c.new-all.result c.in-Some.pattern) c.in_ok-copy-2.ensures (subst (λ o. MatchOption o (HasNoTest c.args.domain.now c.in_ok-copy.field-0 c.in_ok-copy-2.field-0 c.args.test.now c.new-all.result) (IsWithTest c.args.domain.now c.in_ok-copy.field-0 c.in_ok-copy-2.field-0 c.args.test.now c.new-all.result)) c.in-Some.is c.in_ok-pattern.ensures)) in
+    let w : IsWithTest c.args.setting.now.domain.now c.args.table.now.vars.times c.args.table.now.vars.texts c.args.test.now c.new-all.result c.in-Some.pattern = subst (λ l. IsWithTest c.args.setting.now.domain.now l c.args.table.now.vars.texts c.args.test.now c.new-all.result c.in-Some.pattern) c.in_ok-copy.ensures (subst (λ l. IsWithTest c.args.setting.now.domain.now c.in_ok-copy.field-0 l c.args.test.now c.new-all.result c.in-Some.pattern) c.in_ok-copy-2.ensures (subst (λ o. MatchOption o (HasNoTest c.args.setting.now.domain.now c.in_ok-copy.field-0 c.in_ok-copy-2.field-0 c.args.test.now c.new-all.result) (IsWithTest c.args.setting.now.domain.now c.in_ok-copy.field-0 c.in_ok-copy-2.field-0 c.args.test.now c.new-all.result)) c.in-Some.is c.in_ok-pattern.ensures)) in
     let t : ArePlacesOf c.args.table.now.vars.times c.args.table.now.vars.times c.in_ok-places.places.times = subst (λ l. ArePlacesOf c.args.table.now.vars.times l c.in_ok-places.places.times) c.in_ok-copy.ensures c.in_ok-places.ensures.times in
     let x : ArePlacesOf c.args.table.now.vars.texts c.args.table.now.vars.texts c.in_ok-places.places.texts = subst (λ l. ArePlacesOf c.args.table.now.vars.texts l c.in_ok-places.places.texts) c.in_ok-copy-2.ensures c.in_ok-places.ensures.texts in
-    record { stands = select_stands c.args.domain.now c.len-size.ensures.ascending c.args.table.now c.shape.ensures.valid c.args.test.now c.args.period c.requires.low c.requires.test c.requires.test_reach c.new-all.result c.new-all.ensures c.len-size.result c.len-size.ensures.count low c.args.cap c.store_over-out.result fresh c.in-Some.pattern w c.in_ok-places.places t x c.requires.table_period c.requires.table_reach; fits = select_fits c.args.domain.now c.len-size.ensures.ascending c.args.table.now c.shape.ensures.valid c.args.test.now c.args.period c.requires.low c.requires.test c.requires.test_reach c.new-all.result c.new-all.ensures c.len-size.result c.len-size.ensures.count low c.args.cap c.store_over-out.result fresh c.in-Some.pattern w c.in_ok-places.places t x c.requires.table_period c.requires.table_reach; known = w.size }
+    record { stands = select_stands c.args.setting.now.domain.now c.len-size.ensures.ascending c.args.table.now c.shape.ensures.valid c.args.test.now c.args.period c.requires.low c.requires.carried c.requires.test_small c.new-all.result c.new-all.ensures c.len-size.result c.len-size.ensures.count low c.args.setting.now.cap c.store_over-out.result fresh c.in-Some.pattern w c.in_ok-places.places t x c.requires.divides c.requires.reach; fits = select_fits c.args.setting.now.domain.now c.len-size.ensures.ascending c.args.table.now c.shape.ensures.valid c.args.test.now c.args.period c.requires.low c.requires.carried c.requires.test_small c.new-all.result c.new-all.ensures c.len-size.result c.len-size.ensures.count low c.args.setting.now.cap c.store_over-out.result fresh c.in-Some.pattern w c.in_ok-places.places t x c.requires.divides c.requires.reach; known = w.size }
 
 pub invariant_of-result : goal.invariant_of-result
 invariant_of-result c =
@@ -61,60 +61,52 @@ pub invariant_of-result-in-Ok : goal.invariant_of-result-in-Ok
 invariant_of-result-in-Ok c =
     let fresh = fresh_by c.store_over-out.result c.in_ok-copy.field-0 c.args.table.now.vars.times c.in_ok-copy-2.field-0 c.args.table.now.vars.texts (nat_abs (to_z w64 (of_z w64 c.args.period))) (nat_abs c.args.period) c.store_over-out.ensures c.in_ok-copy.ensures c.in_ok-copy-2.ensures (same_word c.args.period c.requires.low c.requires.high) in
     let low : 0 < nat_abs c.args.period = positive c.args.period c.requires.low in
-    let w : IsWithTest c.args.domain.now c.args.table.now.vars.times c.args.table.now.vars.texts c.args.test.now c.new-all.result c.in-Some.pattern = subst (λ l. IsWithTest c.args.domain.now l c.args.table.now.vars.texts c.args.test.now c.new-all.result c.in-Some.pattern) c.in_ok-copy.ensures (subst (λ l. IsWithTest c.args.domain.now c.in_ok-copy.field-0 l c.args.test.now c.new-all.result c.in-Some.pattern) c.in_ok-copy-2.ensures (subst (λ o. MatchOption o (HasNoTest c.args.domain.now c.in_ok-copy.field-0 c.in_ok-copy-2.field-0 c.args.test.now c.new-all.result) (IsWithTest c.args.domain.now c.in_ok-copy.field-0 c.in_ok-copy-2.field-0 c.args.test.now c.new-all.result)) c.in-Some.is c.in_ok-pattern.ensures)) in
+    let w : IsWithTest c.args.setting.now.domain.now c.args.table.now.vars.times c.args.table.now.vars.texts c.args.test.now c.new-all.result c.in-Some.pattern = subst (λ l. IsWithTest c.args.setting.now.domain.now l c.args.table.now.vars.texts c.args.test.now c.new-all.result c.in-Some.pattern) c.in_ok-copy.ensures (subst (λ l. IsWithTest c.args.setting.now.domain.now c.in_ok-copy.field-0 l c.args.test.now c.new-all.result c.in-Some.pattern) c.in_ok-copy-2.ensures (subst (λ o. MatchOption o (HasNoTest c.args.setting.now.domain.now c.in_ok-copy.field-0 c.in_ok-copy-2.field-0 c.args.test.now c.new-all.result) (IsWithTest c.args.setting.now.domain.now c.in_ok-copy.field-0 c.in_ok-copy-2.field-0 c.args.test.now c.new-all.result)) c.in-Some.is c.in_ok-pattern.ensures)) in
     let t : ArePlacesOf c.args.table.now.vars.times c.args.table.now.vars.times c.in_ok-places.places.times = subst (λ l. ArePlacesOf c.args.table.now.vars.times l c.in_ok-places.places.times) c.in_ok-copy.ensures c.in_ok-places.ensures.times in
     let x : ArePlacesOf c.args.table.now.vars.texts c.args.table.now.vars.texts c.in_ok-places.places.texts = subst (λ l. ArePlacesOf c.args.table.now.vars.texts l c.in_ok-places.places.texts) c.in_ok-copy-2.ensures c.in_ok-places.ensures.texts in
-    let shape = select_shape c.args.domain.now c.len-size.ensures.ascending c.args.table.now c.shape.ensures.valid c.args.test.now c.args.period c.requires.low c.requires.test c.requires.test_reach c.new-all.result c.new-all.ensures c.len-size.result c.len-size.ensures.count low c.args.cap c.store_over-out.result fresh c.in-Some.pattern w c.in_ok-places.places t x c.requires.table_period c.requires.table_reach c.add_store.new.out c.in-Ok.ensures.ok in
+    let shape = select_shape c.args.setting.now.domain.now c.len-size.ensures.ascending c.args.table.now c.shape.ensures.valid c.args.test.now c.args.period c.requires.low c.requires.carried c.requires.test_small c.new-all.result c.new-all.ensures c.len-size.result c.len-size.ensures.count low c.args.setting.now.cap c.store_over-out.result fresh c.in-Some.pattern w c.in_ok-places.places t x c.requires.divides c.requires.reach c.add_store.new.out c.in-Ok.ensures.ok in
     record {
       times_named = ap length c.in_ok-copy.ensures ∙ sym (ap (λ (q : Shape). q.times) shape);
       texts_named = ap length c.in_ok-copy-2.ensures ∙ sym (ap (λ (q : Shape). q.texts) shape);
       names_differ = subst (λ l. AllPairs ◌≢◌ (l ++ c.in_ok-copy-2.field-0)) (sym c.in_ok-copy.ensures) (subst (λ l. AllPairs ◌≢◌ (c.args.table.now.vars.times ++ l)) (sym c.in_ok-copy-2.ensures) c.args.table.now.names_differ);
     }
 
-pub returns-in-Ok-clause-table : goal.returns-in-Ok-clause-table
-returns-in-Ok-clause-table c =
+pub returns-in-Ok : goal.returns-in-Ok
+returns-in-Ok c =
     let fresh = fresh_by c.store_over-out.result c.in_ok-copy.field-0 c.args.table.now.vars.times c.in_ok-copy-2.field-0 c.args.table.now.vars.texts (nat_abs (to_z w64 (of_z w64 c.args.period))) (nat_abs c.args.period) c.store_over-out.ensures c.in_ok-copy.ensures c.in_ok-copy-2.ensures (same_word c.args.period c.requires.low c.requires.high) in
     let low : 0 < nat_abs c.args.period = positive c.args.period c.requires.low in
-    let w : IsWithTest c.args.domain.now c.args.table.now.vars.times c.args.table.now.vars.texts c.args.test.now c.new-all.result c.in-Some.pattern = subst (λ l. IsWithTest c.args.domain.now l c.args.table.now.vars.texts c.args.test.now c.new-all.result c.in-Some.pattern) c.in_ok-copy.ensures (subst (λ l. IsWithTest c.args.domain.now c.in_ok-copy.field-0 l c.args.test.now c.new-all.result c.in-Some.pattern) c.in_ok-copy-2.ensures (subst (λ o. MatchOption o (HasNoTest c.args.domain.now c.in_ok-copy.field-0 c.in_ok-copy-2.field-0 c.args.test.now c.new-all.result) (IsWithTest c.args.domain.now c.in_ok-copy.field-0 c.in_ok-copy-2.field-0 c.args.test.now c.new-all.result)) c.in-Some.is c.in_ok-pattern.ensures)) in
+    let w : IsWithTest c.args.setting.now.domain.now c.args.table.now.vars.times c.args.table.now.vars.texts c.args.test.now c.new-all.result c.in-Some.pattern = subst (λ l. IsWithTest c.args.setting.now.domain.now l c.args.table.now.vars.texts c.args.test.now c.new-all.result c.in-Some.pattern) c.in_ok-copy.ensures (subst (λ l. IsWithTest c.args.setting.now.domain.now c.in_ok-copy.field-0 l c.args.test.now c.new-all.result c.in-Some.pattern) c.in_ok-copy-2.ensures (subst (λ o. MatchOption o (HasNoTest c.args.setting.now.domain.now c.in_ok-copy.field-0 c.in_ok-copy-2.field-0 c.args.test.now c.new-all.result) (IsWithTest c.args.setting.now.domain.now c.in_ok-copy.field-0 c.in_ok-copy-2.field-0 c.args.test.now c.new-all.result)) c.in-Some.is c.in_ok-pattern.ensures)) in
     let t : ArePlacesOf c.args.table.now.vars.times c.args.table.now.vars.times c.in_ok-places.places.times = subst (λ l. ArePlacesOf c.args.table.now.vars.times l c.in_ok-places.places.times) c.in_ok-copy.ensures c.in_ok-places.ensures.times in
     let x : ArePlacesOf c.args.table.now.vars.texts c.args.table.now.vars.texts c.in_ok-places.places.texts = subst (λ l. ArePlacesOf c.args.table.now.vars.texts l c.in_ok-places.places.texts) c.in_ok-copy-2.ensures c.in_ok-places.ensures.texts in
-    select_table c.args.domain.now c.len-size.ensures.ascending c.args.table.now c.shape.ensures.valid c.args.test.now c.args.period c.requires.low c.requires.test c.requires.test_reach c.new-all.result c.new-all.ensures c.len-size.result c.len-size.ensures.count low c.args.cap c.store_over-out.result fresh c.in-Some.pattern w c.in_ok-places.places t x c.requires.table_period c.requires.table_reach c.add_store.new.out c.in-Ok.ensures.ok _ c.in_ok-copy.ensures c.in_ok-copy-2.ensures refl
+    record {
+      table = select_table c.args.setting.now.domain.now c.len-size.ensures.ascending c.args.table.now c.shape.ensures.valid c.args.test.now c.args.period c.requires.low c.requires.carried c.requires.test_small c.new-all.result c.new-all.ensures c.len-size.result c.len-size.ensures.count low c.args.setting.now.cap c.store_over-out.result fresh c.in-Some.pattern w c.in_ok-places.places t x c.requires.divides c.requires.reach c.add_store.new.out c.in-Ok.ensures.ok _ c.in_ok-copy.ensures c.in_ok-copy-2.ensures refl;
+      reach = λ high h. select_reach c.args.setting.now.domain.now c.len-size.ensures.ascending c.args.table.now c.shape.ensures.valid c.args.test.now c.args.period c.requires.low c.requires.carried c.requires.test_small c.new-all.result c.new-all.ensures c.len-size.result c.len-size.ensures.count low c.args.setting.now.cap c.store_over-out.result fresh c.in-Some.pattern w c.in_ok-places.places t x c.requires.divides c.requires.reach c.add_store.new.out c.in-Ok.ensures.ok high h.0 h.1;
+      few = select_few c.args.setting.now.domain.now c.len-size.ensures.ascending c.args.table.now c.shape.ensures.valid c.args.test.now c.args.period c.requires.low c.requires.carried c.requires.test_small c.new-all.result c.new-all.ensures c.len-size.result c.len-size.ensures.count low c.args.setting.now.cap c.store_over-out.result fresh c.in-Some.pattern w c.in_ok-places.places t x c.requires.divides c.requires.reach c.add_store.new.out c.in-Ok.ensures.ok;
+      many = λ e. cc;
+    }
 
-pub returns-in-Ok-clause-reach : goal.returns-in-Ok-clause-reach
-returns-in-Ok-clause-reach c =
+pub returns-in-Err-TooManyCells : goal.returns-in-Err-TooManyCells
+returns-in-Err-TooManyCells c =
     let fresh = fresh_by c.store_over-out.result c.in_ok-copy.field-0 c.args.table.now.vars.times c.in_ok-copy-2.field-0 c.args.table.now.vars.texts (nat_abs (to_z w64 (of_z w64 c.args.period))) (nat_abs c.args.period) c.store_over-out.ensures c.in_ok-copy.ensures c.in_ok-copy-2.ensures (same_word c.args.period c.requires.low c.requires.high) in
     let low : 0 < nat_abs c.args.period = positive c.args.period c.requires.low in
-    let w : IsWithTest c.args.domain.now c.args.table.now.vars.times c.args.table.now.vars.texts c.args.test.now c.new-all.result c.in-Some.pattern = subst (λ l. IsWithTest c.args.domain.now l c.args.table.now.vars.texts c.args.test.now c.new-all.result c.in-Some.pattern) c.in_ok-copy.ensures (subst (λ l. IsWithTest c.args.domain.now c.in_ok-copy.field-0 l c.args.test.now c.new-all.result c.in-Some.pattern) c.in_ok-copy-2.ensures (subst (λ o. MatchOption o (HasNoTest c.args.domain.now c.in_ok-copy.field-0 c.in_ok-copy-2.field-0 c.args.test.now c.new-all.result) (IsWithTest c.args.domain.now c.in_ok-copy.field-0 c.in_ok-copy-2.field-0 c.args.test.now c.new-all.result)) c.in-Some.is c.in_ok-pattern.ensures)) in
+    let w : IsWithTest c.args.setting.now.domain.now c.args.table.now.vars.times c.args.table.now.vars.texts c.args.test.now c.new-all.result c.in-Some.pattern = subst (λ l. IsWithTest c.args.setting.now.domain.now l c.args.table.now.vars.texts c.args.test.now c.new-all.result c.in-Some.pattern) c.in_ok-copy.ensures (subst (λ l. IsWithTest c.args.setting.now.domain.now c.in_ok-copy.field-0 l c.args.test.now c.new-all.result c.in-Some.pattern) c.in_ok-copy-2.ensures (subst (λ o. MatchOption o (HasNoTest c.args.setting.now.domain.now c.in_ok-copy.field-0 c.in_ok-copy-2.field-0 c.args.test.now c.new-all.result) (IsWithTest c.args.setting.now.domain.now c.in_ok-copy.field-0 c.in_ok-copy-2.field-0 c.args.test.now c.new-all.result)) c.in-Some.is c.in_ok-pattern.ensures)) in
     let t : ArePlacesOf c.args.table.now.vars.times c.args.table.now.vars.times c.in_ok-places.places.times = subst (λ l. ArePlacesOf c.args.table.now.vars.times l c.in_ok-places.places.times) c.in_ok-copy.ensures c.in_ok-places.ensures.times in
     let x : ArePlacesOf c.args.table.now.vars.texts c.args.table.now.vars.texts c.in_ok-places.places.texts = subst (λ l. ArePlacesOf c.args.table.now.vars.texts l c.in_ok-places.places.texts) c.in_ok-copy-2.ensures c.in_ok-places.ensures.texts in
-    select_reach c.args.domain.now c.len-size.ensures.ascending c.args.table.now c.shape.ensures.valid c.args.test.now c.args.period c.requires.low c.requires.test c.requires.test_reach c.new-all.result c.new-all.ensures c.len-size.result c.len-size.ensures.count low c.args.cap c.store_over-out.result fresh c.in-Some.pattern w c.in_ok-places.places t x c.requires.table_period c.requires.table_reach c.add_store.new.out c.in-Ok.ensures.ok
-
-pub returns-in-Ok-clause-few : goal.returns-in-Ok-clause-few
-returns-in-Ok-clause-few c =
-    let fresh = fresh_by c.store_over-out.result c.in_ok-copy.field-0 c.args.table.now.vars.times c.in_ok-copy-2.field-0 c.args.table.now.vars.texts (nat_abs (to_z w64 (of_z w64 c.args.period))) (nat_abs c.args.period) c.store_over-out.ensures c.in_ok-copy.ensures c.in_ok-copy-2.ensures (same_word c.args.period c.requires.low c.requires.high) in
-    let low : 0 < nat_abs c.args.period = positive c.args.period c.requires.low in
-    let w : IsWithTest c.args.domain.now c.args.table.now.vars.times c.args.table.now.vars.texts c.args.test.now c.new-all.result c.in-Some.pattern = subst (λ l. IsWithTest c.args.domain.now l c.args.table.now.vars.texts c.args.test.now c.new-all.result c.in-Some.pattern) c.in_ok-copy.ensures (subst (λ l. IsWithTest c.args.domain.now c.in_ok-copy.field-0 l c.args.test.now c.new-all.result c.in-Some.pattern) c.in_ok-copy-2.ensures (subst (λ o. MatchOption o (HasNoTest c.args.domain.now c.in_ok-copy.field-0 c.in_ok-copy-2.field-0 c.args.test.now c.new-all.result) (IsWithTest c.args.domain.now c.in_ok-copy.field-0 c.in_ok-copy-2.field-0 c.args.test.now c.new-all.result)) c.in-Some.is c.in_ok-pattern.ensures)) in
-    let t : ArePlacesOf c.args.table.now.vars.times c.args.table.now.vars.times c.in_ok-places.places.times = subst (λ l. ArePlacesOf c.args.table.now.vars.times l c.in_ok-places.places.times) c.in_ok-copy.ensures c.in_ok-places.ensures.times in
-    let x : ArePlacesOf c.args.table.now.vars.texts c.args.table.now.vars.texts c.in_ok-places.places.texts = subst (λ l. ArePlacesOf c.args.table.now.vars.texts l c.in_ok-places.places.texts) c.in_ok-copy-2.ensures c.in_ok-places.ensures.texts in
-    select_few c.args.domain.now c.len-size.ensures.ascending c.args.table.now c.shape.ensures.valid c.args.test.now c.args.period c.requires.low c.requires.test c.requires.test_reach c.new-all.result c.new-all.ensures c.len-size.result c.len-size.ensures.count low c.args.cap c.store_over-out.result fresh c.in-Some.pattern w c.in_ok-places.places t x c.requires.table_period c.requires.table_reach c.add_store.new.out c.in-Ok.ensures.ok
-
-pub returns-in-Err-TooManyCells-clause-many : goal.returns-in-Err-TooManyCells-clause-many
-returns-in-Err-TooManyCells-clause-many c =
-    let fresh = fresh_by c.store_over-out.result c.in_ok-copy.field-0 c.args.table.now.vars.times c.in_ok-copy-2.field-0 c.args.table.now.vars.texts (nat_abs (to_z w64 (of_z w64 c.args.period))) (nat_abs c.args.period) c.store_over-out.ensures c.in_ok-copy.ensures c.in_ok-copy-2.ensures (same_word c.args.period c.requires.low c.requires.high) in
-    let low : 0 < nat_abs c.args.period = positive c.args.period c.requires.low in
-    let w : IsWithTest c.args.domain.now c.args.table.now.vars.times c.args.table.now.vars.texts c.args.test.now c.new-all.result c.in-Some.pattern = subst (λ l. IsWithTest c.args.domain.now l c.args.table.now.vars.texts c.args.test.now c.new-all.result c.in-Some.pattern) c.in_ok-copy.ensures (subst (λ l. IsWithTest c.args.domain.now c.in_ok-copy.field-0 l c.args.test.now c.new-all.result c.in-Some.pattern) c.in_ok-copy-2.ensures (subst (λ o. MatchOption o (HasNoTest c.args.domain.now c.in_ok-copy.field-0 c.in_ok-copy-2.field-0 c.args.test.now c.new-all.result) (IsWithTest c.args.domain.now c.in_ok-copy.field-0 c.in_ok-copy-2.field-0 c.args.test.now c.new-all.result)) c.in-Some.is c.in_ok-pattern.ensures)) in
-    let t : ArePlacesOf c.args.table.now.vars.times c.args.table.now.vars.times c.in_ok-places.places.times = subst (λ l. ArePlacesOf c.args.table.now.vars.times l c.in_ok-places.places.times) c.in_ok-copy.ensures c.in_ok-places.ensures.times in
-    let x : ArePlacesOf c.args.table.now.vars.texts c.args.table.now.vars.texts c.in_ok-places.places.texts = subst (λ l. ArePlacesOf c.args.table.now.vars.texts l c.in_ok-places.places.texts) c.in_ok-copy-2.ensures c.in_ok-places.ensures.texts in
-    λ e. select_many c.args.domain.now c.len-size.ensures.ascending c.args.table.now c.shape.ensures.valid c.args.test.now c.args.period c.requires.low c.requires.test c.requires.test_reach c.new-all.result c.new-all.ensures c.len-size.result c.len-size.ensures.count low c.args.cap c.store_over-out.result fresh c.in-Some.pattern w c.in_ok-places.places t x c.requires.table_period c.requires.table_reach c.add_store.new.out (c.add_store.ensures.too_many (c.in-Err-TooManyCells.is ∙ ap Err c.in-Err-TooManyCells.field-0-is))
+    record {
+      table = tt;
+      reach = tt;
+      few = tt;
+      many = λ e. select_many c.args.setting.now.domain.now c.len-size.ensures.ascending c.args.table.now c.shape.ensures.valid c.args.test.now c.args.period c.requires.low c.requires.carried c.requires.test_small c.new-all.result c.new-all.ensures c.len-size.result c.len-size.ensures.count low c.args.setting.now.cap c.store_over-out.result fresh c.in-Some.pattern w c.in_ok-places.places t x c.requires.divides c.requires.reach c.add_store.new.out (c.add_store.ensures.too_many (c.in-Err-TooManyCells.is ∙ ap Err c.in-Err-TooManyCells.field-0-is));
+    }
 
 pub returns-in_default : goal.returns-in_default
 returns-in_default c =
     let fresh = fresh_by c.store_over-out.result c.in_ok-copy.field-0 c.args.table.now.vars.times c.in_ok-copy-2.field-0 c.args.table.now.vars.texts (nat_abs (to_z w64 (of_z w64 c.args.period))) (nat_abs c.args.period) c.store_over-out.ensures c.in_ok-copy.ensures c.in_ok-copy-2.ensures (same_word c.args.period c.requires.low c.requires.high) in
     let low : 0 < nat_abs c.args.period = positive c.args.period c.requires.low in
-    let no : HasNoTest c.args.domain.now c.args.table.now.vars.times c.args.table.now.vars.texts c.args.test.now c.new-all.result = subst (λ l. HasNoTest c.args.domain.now l c.args.table.now.vars.texts c.args.test.now c.new-all.result) c.in_ok-copy.ensures (subst (λ l. HasNoTest c.args.domain.now c.in_ok-copy.field-0 l c.args.test.now c.new-all.result) c.in_ok-copy-2.ensures (subst (λ o. MatchOption o (HasNoTest c.args.domain.now c.in_ok-copy.field-0 c.in_ok-copy-2.field-0 c.args.test.now c.new-all.result) (IsWithTest c.args.domain.now c.in_ok-copy.field-0 c.in_ok-copy-2.field-0 c.args.test.now c.new-all.result)) c.in_default.is c.in_ok-pattern.ensures)) in
+    let no : HasNoTest c.args.setting.now.domain.now c.args.table.now.vars.times c.args.table.now.vars.texts c.args.test.now c.new-all.result = subst (λ l. HasNoTest c.args.setting.now.domain.now l c.args.table.now.vars.texts c.args.test.now c.new-all.result) c.in_ok-copy.ensures (subst (λ l. HasNoTest c.args.setting.now.domain.now c.in_ok-copy.field-0 l c.args.test.now c.new-all.result) c.in_ok-copy-2.ensures (subst (λ o. MatchOption o (HasNoTest c.args.setting.now.domain.now c.in_ok-copy.field-0 c.in_ok-copy-2.field-0 c.args.test.now c.new-all.result) (IsWithTest c.args.setting.now.domain.now c.in_ok-copy.field-0 c.in_ok-copy-2.field-0 c.args.test.now c.new-all.result)) c.in_default.is c.in_ok-pattern.ensures)) in
     record {
-      table = none_table c.args.domain.now c.len-size.ensures.ascending c.args.table.now c.shape.ensures.valid c.args.test.now c.args.period c.requires.low c.requires.test c.requires.test_reach c.new-all.result c.new-all.ensures c.len-size.result c.len-size.ensures.count low c.args.cap c.store_over-out.result fresh no c.shape-2.ensures.valid _ c.in_ok-copy.ensures c.in_ok-copy-2.ensures refl;
-      reach = λ high r h. none_reach c.args.domain.now c.len-size.ensures.ascending c.args.table.now c.shape.ensures.valid c.args.test.now c.args.period c.requires.low c.requires.test c.requires.test_reach c.new-all.result c.new-all.ensures c.len-size.result c.len-size.ensures.count low c.args.cap c.store_over-out.result fresh no c.shape-2.ensures.valid (high + nat_abs c.args.period);
-      few = none_few c.args.domain.now c.len-size.ensures.ascending c.args.table.now c.shape.ensures.valid c.args.test.now c.args.period c.requires.low c.requires.test c.requires.test_reach c.new-all.result c.new-all.ensures c.len-size.result c.len-size.ensures.count low c.args.cap c.store_over-out.result fresh no c.shape-2.ensures.valid;
+      table = none_table c.args.setting.now.domain.now c.len-size.ensures.ascending c.args.table.now c.shape.ensures.valid c.args.test.now c.args.period c.requires.low c.requires.carried c.requires.test_small c.new-all.result c.new-all.ensures c.len-size.result c.len-size.ensures.count low c.args.setting.now.cap c.store_over-out.result fresh no c.shape-2.ensures.valid _ c.in_ok-copy.ensures c.in_ok-copy-2.ensures refl;
+      reach = λ high h. none_reach c.args.setting.now.domain.now c.len-size.ensures.ascending c.args.table.now c.shape.ensures.valid c.args.test.now c.args.period c.requires.low c.requires.carried c.requires.test_small c.new-all.result c.new-all.ensures c.len-size.result c.len-size.ensures.count low c.args.setting.now.cap c.store_over-out.result fresh no c.shape-2.ensures.valid (high + nat_abs c.args.period);
+      few = none_few c.args.setting.now.domain.now c.len-size.ensures.ascending c.args.table.now c.shape.ensures.valid c.args.test.now c.args.period c.requires.low c.requires.carried c.requires.test_small c.new-all.result c.new-all.ensures c.len-size.result c.len-size.ensures.count low c.args.setting.now.cap c.store_over-out.result fresh no c.shape-2.ensures.valid;
       many = λ e. cc;
     }

@@ -2,7 +2,6 @@
 use Rattle.std.proofs.Common.{◌≤◌, ◌^◌, ◌++◌, Err, refl, sym, ap, subst, ◌∙◌, length, [], to_z, of_z}
 use Rattle.std.specs.Prelude.{nat_abs, pos, ◌≤ℤ◌, MatchOption, AllPairs, ◌≢◌}
 use Rattle.std.specs.Int.{w64}
-use Rattle.lrp_model.specs.Reach.{test_reach}
 use Rattle.lrp_model.specs.declared.tuples.Shape.{Shape}
 use Rattle.lrp_store.specs.Stores.{StoreView}
 use Rattle.lrp_tables.specs.Calls.{test_period}
@@ -11,7 +10,7 @@ use Rattle.lrp_tables.specs.Tables.{AreNamesAmong}
 use Rattle.lrp_tables.proofs.Joining.{in_joint_right}
 use Rattle.lrp_algebra.specs.Conditions.{IsWithTest, HasNoTest}
 use Rattle.lrp_algebra.specs.declared.pattern.Pattern.{Pattern}
-use Rattle.lrp_algebra.proofs.Steps.{fresh_by}
+use Rattle.lrp_algebra.proofs.Steps.{farther, fresh_by}
 use Rattle.lrp_algebra.proofs.Leaves.{test_few_times, test_few_texts, test_names_differ, period_high, word_low, word_high, test_word, no_table, no_few, no_reach, leaf_fits, leaf_table, leaf_few, leaf_reach, leaf_shape, leaf_many}
 use Rattle.lrp_algebra.proofs.test_tables.leaf.Goals as goal
 
@@ -39,8 +38,8 @@ with_test-requires c =
 pub add_pattern-requires : goal.add_pattern-requires
 add_pattern-requires c =
     let fresh = fresh_by c.store_over-out.result c.in_ok-vars.vars.times (test_times c.args.test.now) c.in_ok-vars.vars.texts (test_names c.args.test.now) (nat_abs (to_z w64 (of_z w64 c.period_of.result))) (nat_abs (test_period c.args.test.now)) c.store_over-out.ensures c.in_ok-vars.ensures.times c.in_ok-vars.ensures.texts (test_word c.args.test.now c.period_of.result c.requires.low c.requires.reach c.period_of.ensures) in
-    let w : IsWithTest c.args.domain.now (test_times c.args.test.now) (test_names c.args.test.now) c.args.test.now c.new-all.result c.in-Some.pattern = subst (λ l. IsWithTest c.args.domain.now l (test_names c.args.test.now) c.args.test.now c.new-all.result c.in-Some.pattern) c.in_ok-vars.ensures.times (subst (λ l. IsWithTest c.args.domain.now c.in_ok-vars.vars.times l c.args.test.now c.new-all.result c.in-Some.pattern) c.in_ok-vars.ensures.texts (subst (λ o. MatchOption o (HasNoTest c.args.domain.now c.in_ok-vars.vars.times c.in_ok-vars.vars.texts c.args.test.now c.new-all.result) (IsWithTest c.args.domain.now c.in_ok-vars.vars.times c.in_ok-vars.vars.texts c.args.test.now c.new-all.result)) c.in-Some.is c.in_ok-pattern.ensures)) in
-    record { fits = leaf_fits c.args.domain.now c.len-size.ensures.ascending c.args.test.now c.requires.low c.new-all.result c.new-all.ensures c.len-size.result c.len-size.ensures.count c.args.cap c.store_over-out.result fresh c.in-Some.pattern w; known = w.size }
+    let w : IsWithTest c.args.setting.now.domain.now (test_times c.args.test.now) (test_names c.args.test.now) c.args.test.now c.new-all.result c.in-Some.pattern = subst (λ l. IsWithTest c.args.setting.now.domain.now l (test_names c.args.test.now) c.args.test.now c.new-all.result c.in-Some.pattern) c.in_ok-vars.ensures.times (subst (λ l. IsWithTest c.args.setting.now.domain.now c.in_ok-vars.vars.times l c.args.test.now c.new-all.result c.in-Some.pattern) c.in_ok-vars.ensures.texts (subst (λ o. MatchOption o (HasNoTest c.args.setting.now.domain.now c.in_ok-vars.vars.times c.in_ok-vars.vars.texts c.args.test.now c.new-all.result) (IsWithTest c.args.setting.now.domain.now c.in_ok-vars.vars.times c.in_ok-vars.vars.texts c.args.test.now c.new-all.result)) c.in-Some.is c.in_ok-pattern.ensures)) in
+    record { fits = leaf_fits c.args.setting.now.domain.now c.len-size.ensures.ascending c.args.test.now c.requires.low c.new-all.result c.new-all.ensures c.len-size.result c.len-size.ensures.count c.args.setting.now.cap c.store_over-out.result fresh c.in-Some.pattern w; known = w.size }
 
 pub invariant_of-result : goal.invariant_of-result
 invariant_of-result c =
@@ -53,45 +52,43 @@ invariant_of-result c =
 pub invariant_of-result-in-Ok : goal.invariant_of-result-in-Ok
 invariant_of-result-in-Ok c =
     let fresh = fresh_by c.store_over-out.result c.in_ok-vars.vars.times (test_times c.args.test.now) c.in_ok-vars.vars.texts (test_names c.args.test.now) (nat_abs (to_z w64 (of_z w64 c.period_of.result))) (nat_abs (test_period c.args.test.now)) c.store_over-out.ensures c.in_ok-vars.ensures.times c.in_ok-vars.ensures.texts (test_word c.args.test.now c.period_of.result c.requires.low c.requires.reach c.period_of.ensures) in
-    let w : IsWithTest c.args.domain.now (test_times c.args.test.now) (test_names c.args.test.now) c.args.test.now c.new-all.result c.in-Some.pattern = subst (λ l. IsWithTest c.args.domain.now l (test_names c.args.test.now) c.args.test.now c.new-all.result c.in-Some.pattern) c.in_ok-vars.ensures.times (subst (λ l. IsWithTest c.args.domain.now c.in_ok-vars.vars.times l c.args.test.now c.new-all.result c.in-Some.pattern) c.in_ok-vars.ensures.texts (subst (λ o. MatchOption o (HasNoTest c.args.domain.now c.in_ok-vars.vars.times c.in_ok-vars.vars.texts c.args.test.now c.new-all.result) (IsWithTest c.args.domain.now c.in_ok-vars.vars.times c.in_ok-vars.vars.texts c.args.test.now c.new-all.result)) c.in-Some.is c.in_ok-pattern.ensures)) in
-    let shape = leaf_shape c.args.domain.now c.len-size.ensures.ascending c.args.test.now c.requires.low c.new-all.result c.new-all.ensures c.len-size.result c.len-size.ensures.count c.args.cap c.store_over-out.result fresh c.in-Some.pattern w c.add_pattern.new.out c.in-Ok.ensures.ok in
+    let w : IsWithTest c.args.setting.now.domain.now (test_times c.args.test.now) (test_names c.args.test.now) c.args.test.now c.new-all.result c.in-Some.pattern = subst (λ l. IsWithTest c.args.setting.now.domain.now l (test_names c.args.test.now) c.args.test.now c.new-all.result c.in-Some.pattern) c.in_ok-vars.ensures.times (subst (λ l. IsWithTest c.args.setting.now.domain.now c.in_ok-vars.vars.times l c.args.test.now c.new-all.result c.in-Some.pattern) c.in_ok-vars.ensures.texts (subst (λ o. MatchOption o (HasNoTest c.args.setting.now.domain.now c.in_ok-vars.vars.times c.in_ok-vars.vars.texts c.args.test.now c.new-all.result) (IsWithTest c.args.setting.now.domain.now c.in_ok-vars.vars.times c.in_ok-vars.vars.texts c.args.test.now c.new-all.result)) c.in-Some.is c.in_ok-pattern.ensures)) in
+    let shape = leaf_shape c.args.setting.now.domain.now c.len-size.ensures.ascending c.args.test.now c.requires.low c.new-all.result c.new-all.ensures c.len-size.result c.len-size.ensures.count c.args.setting.now.cap c.store_over-out.result fresh c.in-Some.pattern w c.add_pattern.new.out c.in-Ok.ensures.ok in
     record {
       times_named = ap length c.in_ok-vars.ensures.times ∙ sym (ap (λ (q : Shape). q.times) shape);
       texts_named = ap length c.in_ok-vars.ensures.texts ∙ sym (ap (λ (q : Shape). q.texts) shape);
       names_differ = subst (λ l. AllPairs ◌≢◌ (l ++ c.in_ok-vars.vars.texts)) (sym c.in_ok-vars.ensures.times) (subst (λ l. AllPairs ◌≢◌ (test_times c.args.test.now ++ l)) (sym c.in_ok-vars.ensures.texts) (test_names_differ c.args.test.now));
     }
 
-pub returns-in-Ok-clause-table : goal.returns-in-Ok-clause-table
-returns-in-Ok-clause-table c =
+pub returns-in-Ok : goal.returns-in-Ok
+returns-in-Ok c =
     let fresh = fresh_by c.store_over-out.result c.in_ok-vars.vars.times (test_times c.args.test.now) c.in_ok-vars.vars.texts (test_names c.args.test.now) (nat_abs (to_z w64 (of_z w64 c.period_of.result))) (nat_abs (test_period c.args.test.now)) c.store_over-out.ensures c.in_ok-vars.ensures.times c.in_ok-vars.ensures.texts (test_word c.args.test.now c.period_of.result c.requires.low c.requires.reach c.period_of.ensures) in
-    let w : IsWithTest c.args.domain.now (test_times c.args.test.now) (test_names c.args.test.now) c.args.test.now c.new-all.result c.in-Some.pattern = subst (λ l. IsWithTest c.args.domain.now l (test_names c.args.test.now) c.args.test.now c.new-all.result c.in-Some.pattern) c.in_ok-vars.ensures.times (subst (λ l. IsWithTest c.args.domain.now c.in_ok-vars.vars.times l c.args.test.now c.new-all.result c.in-Some.pattern) c.in_ok-vars.ensures.texts (subst (λ o. MatchOption o (HasNoTest c.args.domain.now c.in_ok-vars.vars.times c.in_ok-vars.vars.texts c.args.test.now c.new-all.result) (IsWithTest c.args.domain.now c.in_ok-vars.vars.times c.in_ok-vars.vars.texts c.args.test.now c.new-all.result)) c.in-Some.is c.in_ok-pattern.ensures)) in
-    leaf_table c.args.domain.now c.len-size.ensures.ascending c.args.test.now c.requires.low c.new-all.result c.new-all.ensures c.len-size.result c.len-size.ensures.count c.args.cap c.store_over-out.result fresh c.in-Some.pattern w c.add_pattern.new.out c.in-Ok.ensures.ok _ c.in_ok-vars.ensures.times c.in_ok-vars.ensures.texts refl
+    let w : IsWithTest c.args.setting.now.domain.now (test_times c.args.test.now) (test_names c.args.test.now) c.args.test.now c.new-all.result c.in-Some.pattern = subst (λ l. IsWithTest c.args.setting.now.domain.now l (test_names c.args.test.now) c.args.test.now c.new-all.result c.in-Some.pattern) c.in_ok-vars.ensures.times (subst (λ l. IsWithTest c.args.setting.now.domain.now c.in_ok-vars.vars.times l c.args.test.now c.new-all.result c.in-Some.pattern) c.in_ok-vars.ensures.texts (subst (λ o. MatchOption o (HasNoTest c.args.setting.now.domain.now c.in_ok-vars.vars.times c.in_ok-vars.vars.texts c.args.test.now c.new-all.result) (IsWithTest c.args.setting.now.domain.now c.in_ok-vars.vars.times c.in_ok-vars.vars.texts c.args.test.now c.new-all.result)) c.in-Some.is c.in_ok-pattern.ensures)) in
+    record {
+      table = leaf_table c.args.setting.now.domain.now c.len-size.ensures.ascending c.args.test.now c.requires.low c.new-all.result c.new-all.ensures c.len-size.result c.len-size.ensures.count c.args.setting.now.cap c.store_over-out.result fresh c.in-Some.pattern w c.add_pattern.new.out c.in-Ok.ensures.ok _ c.in_ok-vars.ensures.times c.in_ok-vars.ensures.texts refl;
+      reach = λ high h. farther _ _ high h (leaf_reach c.args.setting.now.domain.now c.len-size.ensures.ascending c.args.test.now c.requires.low c.new-all.result c.new-all.ensures c.len-size.result c.len-size.ensures.count c.args.setting.now.cap c.store_over-out.result fresh c.in-Some.pattern w c.add_pattern.new.out c.in-Ok.ensures.ok);
+      few = leaf_few c.args.setting.now.domain.now c.len-size.ensures.ascending c.args.test.now c.requires.low c.new-all.result c.new-all.ensures c.len-size.result c.len-size.ensures.count c.args.setting.now.cap c.store_over-out.result fresh c.in-Some.pattern w c.add_pattern.new.out c.in-Ok.ensures.ok;
+      many = λ e. cc;
+    }
 
-pub returns-in-Ok-clause-reach : goal.returns-in-Ok-clause-reach
-returns-in-Ok-clause-reach c =
+pub returns-in-Err-TooManyCells : goal.returns-in-Err-TooManyCells
+returns-in-Err-TooManyCells c =
     let fresh = fresh_by c.store_over-out.result c.in_ok-vars.vars.times (test_times c.args.test.now) c.in_ok-vars.vars.texts (test_names c.args.test.now) (nat_abs (to_z w64 (of_z w64 c.period_of.result))) (nat_abs (test_period c.args.test.now)) c.store_over-out.ensures c.in_ok-vars.ensures.times c.in_ok-vars.ensures.texts (test_word c.args.test.now c.period_of.result c.requires.low c.requires.reach c.period_of.ensures) in
-    let w : IsWithTest c.args.domain.now (test_times c.args.test.now) (test_names c.args.test.now) c.args.test.now c.new-all.result c.in-Some.pattern = subst (λ l. IsWithTest c.args.domain.now l (test_names c.args.test.now) c.args.test.now c.new-all.result c.in-Some.pattern) c.in_ok-vars.ensures.times (subst (λ l. IsWithTest c.args.domain.now c.in_ok-vars.vars.times l c.args.test.now c.new-all.result c.in-Some.pattern) c.in_ok-vars.ensures.texts (subst (λ o. MatchOption o (HasNoTest c.args.domain.now c.in_ok-vars.vars.times c.in_ok-vars.vars.texts c.args.test.now c.new-all.result) (IsWithTest c.args.domain.now c.in_ok-vars.vars.times c.in_ok-vars.vars.texts c.args.test.now c.new-all.result)) c.in-Some.is c.in_ok-pattern.ensures)) in
-    leaf_reach c.args.domain.now c.len-size.ensures.ascending c.args.test.now c.requires.low c.new-all.result c.new-all.ensures c.len-size.result c.len-size.ensures.count c.args.cap c.store_over-out.result fresh c.in-Some.pattern w c.add_pattern.new.out c.in-Ok.ensures.ok
-
-pub returns-in-Ok-clause-few : goal.returns-in-Ok-clause-few
-returns-in-Ok-clause-few c =
-    let fresh = fresh_by c.store_over-out.result c.in_ok-vars.vars.times (test_times c.args.test.now) c.in_ok-vars.vars.texts (test_names c.args.test.now) (nat_abs (to_z w64 (of_z w64 c.period_of.result))) (nat_abs (test_period c.args.test.now)) c.store_over-out.ensures c.in_ok-vars.ensures.times c.in_ok-vars.ensures.texts (test_word c.args.test.now c.period_of.result c.requires.low c.requires.reach c.period_of.ensures) in
-    let w : IsWithTest c.args.domain.now (test_times c.args.test.now) (test_names c.args.test.now) c.args.test.now c.new-all.result c.in-Some.pattern = subst (λ l. IsWithTest c.args.domain.now l (test_names c.args.test.now) c.args.test.now c.new-all.result c.in-Some.pattern) c.in_ok-vars.ensures.times (subst (λ l. IsWithTest c.args.domain.now c.in_ok-vars.vars.times l c.args.test.now c.new-all.result c.in-Some.pattern) c.in_ok-vars.ensures.texts (subst (λ o. MatchOption o (HasNoTest c.args.domain.now c.in_ok-vars.vars.times c.in_ok-vars.vars.texts c.args.test.now c.new-all.result) (IsWithTest c.args.domain.now c.in_ok-vars.vars.times c.in_ok-vars.vars.texts c.args.test.now c.new-all.result)) c.in-Some.is c.in_ok-pattern.ensures)) in
-    leaf_few c.args.domain.now c.len-size.ensures.ascending c.args.test.now c.requires.low c.new-all.result c.new-all.ensures c.len-size.result c.len-size.ensures.count c.args.cap c.store_over-out.result fresh c.in-Some.pattern w c.add_pattern.new.out c.in-Ok.ensures.ok
-
-pub returns-in-Err-TooManyCells-clause-many : goal.returns-in-Err-TooManyCells-clause-many
-returns-in-Err-TooManyCells-clause-many c =
-    let fresh = fresh_by c.store_over-out.result c.in_ok-vars.vars.times (test_times c.args.test.now) c.in_ok-vars.vars.texts (test_names c.args.test.now) (nat_abs (to_z w64 (of_z w64 c.period_of.result))) (nat_abs (test_period c.args.test.now)) c.store_over-out.ensures c.in_ok-vars.ensures.times c.in_ok-vars.ensures.texts (test_word c.args.test.now c.period_of.result c.requires.low c.requires.reach c.period_of.ensures) in
-    let w : IsWithTest c.args.domain.now (test_times c.args.test.now) (test_names c.args.test.now) c.args.test.now c.new-all.result c.in-Some.pattern = subst (λ l. IsWithTest c.args.domain.now l (test_names c.args.test.now) c.args.test.now c.new-all.result c.in-Some.pattern) c.in_ok-vars.ensures.times (subst (λ l. IsWithTest c.args.domain.now c.in_ok-vars.vars.times l c.args.test.now c.new-all.result c.in-Some.pattern) c.in_ok-vars.ensures.texts (subst (λ o. MatchOption o (HasNoTest c.args.domain.now c.in_ok-vars.vars.times c.in_ok-vars.vars.texts c.args.test.now c.new-all.result) (IsWithTest c.args.domain.now c.in_ok-vars.vars.times c.in_ok-vars.vars.texts c.args.test.now c.new-all.result)) c.in-Some.is c.in_ok-pattern.ensures)) in
-    λ e. leaf_many c.args.domain.now c.len-size.ensures.ascending c.args.test.now c.requires.low c.new-all.result c.new-all.ensures c.len-size.result c.len-size.ensures.count c.args.cap c.store_over-out.result fresh c.in-Some.pattern w c.add_pattern.new.out (c.add_pattern.ensures.too_many (c.in-Err-TooManyCells.is ∙ ap Err c.in-Err-TooManyCells.field-0-is))
+    let w : IsWithTest c.args.setting.now.domain.now (test_times c.args.test.now) (test_names c.args.test.now) c.args.test.now c.new-all.result c.in-Some.pattern = subst (λ l. IsWithTest c.args.setting.now.domain.now l (test_names c.args.test.now) c.args.test.now c.new-all.result c.in-Some.pattern) c.in_ok-vars.ensures.times (subst (λ l. IsWithTest c.args.setting.now.domain.now c.in_ok-vars.vars.times l c.args.test.now c.new-all.result c.in-Some.pattern) c.in_ok-vars.ensures.texts (subst (λ o. MatchOption o (HasNoTest c.args.setting.now.domain.now c.in_ok-vars.vars.times c.in_ok-vars.vars.texts c.args.test.now c.new-all.result) (IsWithTest c.args.setting.now.domain.now c.in_ok-vars.vars.times c.in_ok-vars.vars.texts c.args.test.now c.new-all.result)) c.in-Some.is c.in_ok-pattern.ensures)) in
+    record {
+      table = tt;
+      reach = tt;
+      few = tt;
+      many = λ e. leaf_many c.args.setting.now.domain.now c.len-size.ensures.ascending c.args.test.now c.requires.low c.new-all.result c.new-all.ensures c.len-size.result c.len-size.ensures.count c.args.setting.now.cap c.store_over-out.result fresh c.in-Some.pattern w c.add_pattern.new.out (c.add_pattern.ensures.too_many (c.in-Err-TooManyCells.is ∙ ap Err c.in-Err-TooManyCells.field-0-is));
+    }
 
 pub returns-in_default : goal.returns-in_default
 returns-in_default c =
     let fresh = fresh_by c.store_over-out.result c.in_ok-vars.vars.times (test_times c.args.test.now) c.in_ok-vars.vars.texts (test_names c.args.test.now) (nat_abs (to_z w64 (of_z w64 c.period_of.result))) (nat_abs (test_period c.args.test.now)) c.store_over-out.ensures c.in_ok-vars.ensures.times c.in_ok-vars.ensures.texts (test_word c.args.test.now c.period_of.result c.requires.low c.requires.reach c.period_of.ensures) in
-    let no : HasNoTest c.args.domain.now (test_times c.args.test.now) (test_names c.args.test.now) c.args.test.now c.new-all.result = subst (λ l. HasNoTest c.args.domain.now l (test_names c.args.test.now) c.args.test.now c.new-all.result) c.in_ok-vars.ensures.times (subst (λ l. HasNoTest c.args.domain.now c.in_ok-vars.vars.times l c.args.test.now c.new-all.result) c.in_ok-vars.ensures.texts (subst (λ o. MatchOption o (HasNoTest c.args.domain.now c.in_ok-vars.vars.times c.in_ok-vars.vars.texts c.args.test.now c.new-all.result) (IsWithTest c.args.domain.now c.in_ok-vars.vars.times c.in_ok-vars.vars.texts c.args.test.now c.new-all.result)) c.in_default.is c.in_ok-pattern.ensures)) in
+    let no : HasNoTest c.args.setting.now.domain.now (test_times c.args.test.now) (test_names c.args.test.now) c.args.test.now c.new-all.result = subst (λ l. HasNoTest c.args.setting.now.domain.now l (test_names c.args.test.now) c.args.test.now c.new-all.result) c.in_ok-vars.ensures.times (subst (λ l. HasNoTest c.args.setting.now.domain.now c.in_ok-vars.vars.times l c.args.test.now c.new-all.result) c.in_ok-vars.ensures.texts (subst (λ o. MatchOption o (HasNoTest c.args.setting.now.domain.now c.in_ok-vars.vars.times c.in_ok-vars.vars.texts c.args.test.now c.new-all.result) (IsWithTest c.args.setting.now.domain.now c.in_ok-vars.vars.times c.in_ok-vars.vars.texts c.args.test.now c.new-all.result)) c.in_default.is c.in_ok-pattern.ensures)) in
     record {
-      table = no_table c.args.domain.now c.len-size.ensures.ascending c.args.test.now c.requires.low c.new-all.result c.new-all.ensures c.len-size.result c.len-size.ensures.count c.args.cap c.store_over-out.result fresh no c.shape.ensures.valid _ c.in_ok-vars.ensures.times c.in_ok-vars.ensures.texts refl;
-      reach = no_reach c.args.domain.now c.len-size.ensures.ascending c.args.test.now c.requires.low c.new-all.result c.new-all.ensures c.len-size.result c.len-size.ensures.count c.args.cap c.store_over-out.result fresh no c.shape.ensures.valid (test_reach c.args.test.now);
-      few = no_few c.args.domain.now c.len-size.ensures.ascending c.args.test.now c.requires.low c.new-all.result c.new-all.ensures c.len-size.result c.len-size.ensures.count c.args.cap c.store_over-out.result fresh no c.shape.ensures.valid;
+      table = no_table c.args.setting.now.domain.now c.len-size.ensures.ascending c.args.test.now c.requires.low c.new-all.result c.new-all.ensures c.len-size.result c.len-size.ensures.count c.args.setting.now.cap c.store_over-out.result fresh no c.shape.ensures.valid _ c.in_ok-vars.ensures.times c.in_ok-vars.ensures.texts refl;
+      reach = λ high h. no_reach c.args.setting.now.domain.now c.len-size.ensures.ascending c.args.test.now c.requires.low c.new-all.result c.new-all.ensures c.len-size.result c.len-size.ensures.count c.args.setting.now.cap c.store_over-out.result fresh no c.shape.ensures.valid high;
+      few = no_few c.args.setting.now.domain.now c.len-size.ensures.ascending c.args.test.now c.requires.low c.new-all.result c.new-all.ensures c.len-size.result c.len-size.ensures.count c.args.setting.now.cap c.store_over-out.result fresh no c.shape.ensures.valid;
       many = λ e. cc;
     }

@@ -29,19 +29,24 @@ add_table-requires-clause-stands c =
     let lx : ArePlacesOf c.args.left.now.vars.texts (joint c.args.left.now.vars.texts c.args.right.now.vars.texts) c.in_ok-left_places.left_places.texts = subst (λ l. ArePlacesOf c.args.left.now.vars.texts l c.in_ok-left_places.left_places.texts) c.in_ok-vars.ensures.texts c.in_ok-left_places.ensures.texts in
     let rt : ArePlacesOf c.args.right.now.vars.times (joint c.args.left.now.vars.times c.args.right.now.vars.times) c.in_ok-right_places.right_places.times = subst (λ l. ArePlacesOf c.args.right.now.vars.times l c.in_ok-right_places.right_places.times) c.in_ok-vars.ensures.times c.in_ok-right_places.ensures.times in
     let rx : ArePlacesOf c.args.right.now.vars.texts (joint c.args.left.now.vars.texts c.args.right.now.vars.texts) c.in_ok-right_places.right_places.texts = subst (λ l. ArePlacesOf c.args.right.now.vars.texts l c.in_ok-right_places.right_places.texts) c.in_ok-vars.ensures.texts c.in_ok-right_places.ensures.texts in
-    let fresh = fresh_by c.store_over-out.result c.in_ok-vars.vars.times (joint c.args.left.now.vars.times c.args.right.now.vars.times) c.in_ok-vars.vars.texts (joint c.args.left.now.vars.texts c.args.right.now.vars.texts) (nat_abs (to_z w64 (of_z w64 c.args.period))) (nat_abs c.args.period) c.store_over-out.ensures c.in_ok-vars.ensures.times c.in_ok-vars.ensures.texts (same_word c.args.period c.requires.low c.requires.high) in
-    let low : 0 < nat_abs c.args.period = positive c.args.period c.requires.low in
-    left_stands c.args.domain.now c.len-size.ensures.ascending c.args.left.now c.args.right.now c.requires.columns c.in_ok-left_places.left_places c.in_ok-right_places.right_places lt lx rt rx c.new-all.result c.new-all.ensures c.len-size.result c.len-size.ensures.count (nat_abs c.args.period) low c.args.cap c.store_over-out.result fresh (divides_abs c.args.period _ c.requires.low c.requires.left_period) (divides_abs c.args.period _ c.requires.low c.requires.right_period) c.requires.left_reach c.requires.right_reach
+    let fresh = fresh_by c.store_over-out.result c.in_ok-vars.vars.times (joint c.args.left.now.vars.times c.args.right.now.vars.times) c.in_ok-vars.vars.texts (joint c.args.left.now.vars.texts c.args.right.now.vars.texts) (nat_abs (to_z w64 (of_z w64 c.args.period))) (nat_abs c.args.period) c.store_over-out.ensures c.in_ok-vars.ensures.times c.in_ok-vars.ensures.texts (same_word c.args.period c.requires.tables.low c.requires.tables.high) in
+    let low : 0 < nat_abs c.args.period = positive c.args.period c.requires.tables.low in
+    left_stands c.args.setting.now.domain.now c.len-size.ensures.ascending c.args.left.now c.args.right.now c.requires.tables.columns c.in_ok-left_places.left_places c.in_ok-right_places.right_places lt lx rt rx c.new-all.result c.new-all.ensures c.len-size.result c.len-size.ensures.count (nat_abs c.args.period) low c.args.setting.now.cap c.store_over-out.result fresh (divides_abs c.args.period _ c.requires.tables.low c.requires.tables.left_period) (divides_abs c.args.period _ c.requires.tables.low c.requires.tables.right_period) c.requires.tables.left_reach c.requires.tables.right_reach
 
-pub returns-in-Err-TooManyCells-clause-many : goal.returns-in-Err-TooManyCells-clause-many
-returns-in-Err-TooManyCells-clause-many c =
+pub returns-in-Err-TooManyCells : goal.returns-in-Err-TooManyCells
+returns-in-Err-TooManyCells c =
     let lt : ArePlacesOf c.args.left.now.vars.times (joint c.args.left.now.vars.times c.args.right.now.vars.times) c.in_ok-left_places.left_places.times = subst (λ l. ArePlacesOf c.args.left.now.vars.times l c.in_ok-left_places.left_places.times) c.in_ok-vars.ensures.times c.in_ok-left_places.ensures.times in
     let lx : ArePlacesOf c.args.left.now.vars.texts (joint c.args.left.now.vars.texts c.args.right.now.vars.texts) c.in_ok-left_places.left_places.texts = subst (λ l. ArePlacesOf c.args.left.now.vars.texts l c.in_ok-left_places.left_places.texts) c.in_ok-vars.ensures.texts c.in_ok-left_places.ensures.texts in
     let rt : ArePlacesOf c.args.right.now.vars.times (joint c.args.left.now.vars.times c.args.right.now.vars.times) c.in_ok-right_places.right_places.times = subst (λ l. ArePlacesOf c.args.right.now.vars.times l c.in_ok-right_places.right_places.times) c.in_ok-vars.ensures.times c.in_ok-right_places.ensures.times in
     let rx : ArePlacesOf c.args.right.now.vars.texts (joint c.args.left.now.vars.texts c.args.right.now.vars.texts) c.in_ok-right_places.right_places.texts = subst (λ l. ArePlacesOf c.args.right.now.vars.texts l c.in_ok-right_places.right_places.texts) c.in_ok-vars.ensures.texts c.in_ok-right_places.ensures.texts in
-    let fresh = fresh_by c.store_over-out.result c.in_ok-vars.vars.times (joint c.args.left.now.vars.times c.args.right.now.vars.times) c.in_ok-vars.vars.texts (joint c.args.left.now.vars.texts c.args.right.now.vars.texts) (nat_abs (to_z w64 (of_z w64 c.args.period))) (nat_abs c.args.period) c.store_over-out.ensures c.in_ok-vars.ensures.times c.in_ok-vars.ensures.texts (same_word c.args.period c.requires.low c.requires.high) in
-    let low : 0 < nat_abs c.args.period = positive c.args.period c.requires.low in
-    λ e. left_many c.args.domain.now c.len-size.ensures.ascending c.args.left.now c.args.right.now c.requires.columns c.in_ok-left_places.left_places c.in_ok-right_places.right_places lt lx rt rx c.new-all.result c.new-all.ensures c.len-size.result c.len-size.ensures.count (nat_abs c.args.period) low c.args.cap c.store_over-out.result fresh (divides_abs c.args.period _ c.requires.low c.requires.left_period) (divides_abs c.args.period _ c.requires.low c.requires.right_period) c.requires.left_reach c.requires.right_reach c.shape-3.ensures.valid c.add_table.new.out (c.add_table.ensures.too_many (c.in-Err-TooManyCells.is ∙ ap Err c.in-Err-TooManyCells.field-0-is))
+    let fresh = fresh_by c.store_over-out.result c.in_ok-vars.vars.times (joint c.args.left.now.vars.times c.args.right.now.vars.times) c.in_ok-vars.vars.texts (joint c.args.left.now.vars.texts c.args.right.now.vars.texts) (nat_abs (to_z w64 (of_z w64 c.args.period))) (nat_abs c.args.period) c.store_over-out.ensures c.in_ok-vars.ensures.times c.in_ok-vars.ensures.texts (same_word c.args.period c.requires.tables.low c.requires.tables.high) in
+    let low : 0 < nat_abs c.args.period = positive c.args.period c.requires.tables.low in
+    record {
+      table = tt;
+      reach = tt;
+      few = tt;
+      many = λ e. left_many c.args.setting.now.domain.now c.len-size.ensures.ascending c.args.left.now c.args.right.now c.requires.tables.columns c.in_ok-left_places.left_places c.in_ok-right_places.right_places lt lx rt rx c.new-all.result c.new-all.ensures c.len-size.result c.len-size.ensures.count (nat_abs c.args.period) low c.args.setting.now.cap c.store_over-out.result fresh (divides_abs c.args.period _ c.requires.tables.low c.requires.tables.left_period) (divides_abs c.args.period _ c.requires.tables.low c.requires.tables.right_period) c.requires.tables.left_reach c.requires.tables.right_reach c.shape-3.ensures.valid c.add_table.new.out (c.add_table.ensures.too_many (c.in-Err-TooManyCells.is ∙ ap Err c.in-Err-TooManyCells.field-0-is));
+    }
 
 pub add_table-requires-2-clause-stands : goal.add_table-requires-2-clause-stands
 add_table-requires-2-clause-stands c =
@@ -49,15 +54,15 @@ add_table-requires-2-clause-stands c =
     let lx : ArePlacesOf c.args.left.now.vars.texts (joint c.args.left.now.vars.texts c.args.right.now.vars.texts) c.in_ok-left_places.left_places.texts = subst (λ l. ArePlacesOf c.args.left.now.vars.texts l c.in_ok-left_places.left_places.texts) c.in_ok-vars.ensures.texts c.in_ok-left_places.ensures.texts in
     let rt : ArePlacesOf c.args.right.now.vars.times (joint c.args.left.now.vars.times c.args.right.now.vars.times) c.in_ok-right_places.right_places.times = subst (λ l. ArePlacesOf c.args.right.now.vars.times l c.in_ok-right_places.right_places.times) c.in_ok-vars.ensures.times c.in_ok-right_places.ensures.times in
     let rx : ArePlacesOf c.args.right.now.vars.texts (joint c.args.left.now.vars.texts c.args.right.now.vars.texts) c.in_ok-right_places.right_places.texts = subst (λ l. ArePlacesOf c.args.right.now.vars.texts l c.in_ok-right_places.right_places.texts) c.in_ok-vars.ensures.texts c.in_ok-right_places.ensures.texts in
-    let fresh = fresh_by c.store_over-out.result c.in_ok-vars.vars.times (joint c.args.left.now.vars.times c.args.right.now.vars.times) c.in_ok-vars.vars.texts (joint c.args.left.now.vars.texts c.args.right.now.vars.texts) (nat_abs (to_z w64 (of_z w64 c.args.period))) (nat_abs c.args.period) c.store_over-out.ensures c.in_ok-vars.ensures.times c.in_ok-vars.ensures.texts (same_word c.args.period c.requires.low c.requires.high) in
-    let low : 0 < nat_abs c.args.period = positive c.args.period c.requires.low in
-    right_stands c.args.domain.now c.len-size.ensures.ascending c.args.left.now c.args.right.now c.requires.columns c.in_ok-left_places.left_places c.in_ok-right_places.right_places lt lx rt rx c.new-all.result c.new-all.ensures c.len-size.result c.len-size.ensures.count (nat_abs c.args.period) low c.args.cap c.store_over-out.result fresh (divides_abs c.args.period _ c.requires.low c.requires.left_period) (divides_abs c.args.period _ c.requires.low c.requires.right_period) c.requires.left_reach c.requires.right_reach c.shape-3.ensures.valid c.add_table.new.out c.in-Ok.ensures.ok
+    let fresh = fresh_by c.store_over-out.result c.in_ok-vars.vars.times (joint c.args.left.now.vars.times c.args.right.now.vars.times) c.in_ok-vars.vars.texts (joint c.args.left.now.vars.texts c.args.right.now.vars.texts) (nat_abs (to_z w64 (of_z w64 c.args.period))) (nat_abs c.args.period) c.store_over-out.ensures c.in_ok-vars.ensures.times c.in_ok-vars.ensures.texts (same_word c.args.period c.requires.tables.low c.requires.tables.high) in
+    let low : 0 < nat_abs c.args.period = positive c.args.period c.requires.tables.low in
+    right_stands c.args.setting.now.domain.now c.len-size.ensures.ascending c.args.left.now c.args.right.now c.requires.tables.columns c.in_ok-left_places.left_places c.in_ok-right_places.right_places lt lx rt rx c.new-all.result c.new-all.ensures c.len-size.result c.len-size.ensures.count (nat_abs c.args.period) low c.args.setting.now.cap c.store_over-out.result fresh (divides_abs c.args.period _ c.requires.tables.low c.requires.tables.left_period) (divides_abs c.args.period _ c.requires.tables.low c.requires.tables.right_period) c.requires.tables.left_reach c.requires.tables.right_reach c.shape-3.ensures.valid c.add_table.new.out c.in-Ok.ensures.ok
 
 pub add_table-requires-clause-numbered : goal.add_table-requires-clause-numbered
-add_table-requires-clause-numbered c = numbers_below c.args.domain.now c.args.left.now.store c.len-size.result c.len-size.ensures.count c.requires.left_numbered
+add_table-requires-clause-numbered c = numbers_below c.args.setting.now.domain.now c.args.left.now.store c.len-size.result c.len-size.ensures.count c.requires.left_numbered
 
 pub add_table-requires-2-clause-numbered : goal.add_table-requires-2-clause-numbered
-add_table-requires-2-clause-numbered c = numbers_below c.args.domain.now c.args.right.now.store c.len-size.result c.len-size.ensures.count c.requires.right_numbered
+add_table-requires-2-clause-numbered c = numbers_below c.args.setting.now.domain.now c.args.right.now.store c.len-size.result c.len-size.ensures.count c.requires.right_numbered
 
 pub invariant_of-result : goal.invariant_of-result
 invariant_of-result c =
@@ -65,50 +70,40 @@ invariant_of-result c =
     let lx : ArePlacesOf c.args.left.now.vars.texts (joint c.args.left.now.vars.texts c.args.right.now.vars.texts) c.in_ok-left_places.left_places.texts = subst (λ l. ArePlacesOf c.args.left.now.vars.texts l c.in_ok-left_places.left_places.texts) c.in_ok-vars.ensures.texts c.in_ok-left_places.ensures.texts in
     let rt : ArePlacesOf c.args.right.now.vars.times (joint c.args.left.now.vars.times c.args.right.now.vars.times) c.in_ok-right_places.right_places.times = subst (λ l. ArePlacesOf c.args.right.now.vars.times l c.in_ok-right_places.right_places.times) c.in_ok-vars.ensures.times c.in_ok-right_places.ensures.times in
     let rx : ArePlacesOf c.args.right.now.vars.texts (joint c.args.left.now.vars.texts c.args.right.now.vars.texts) c.in_ok-right_places.right_places.texts = subst (λ l. ArePlacesOf c.args.right.now.vars.texts l c.in_ok-right_places.right_places.texts) c.in_ok-vars.ensures.texts c.in_ok-right_places.ensures.texts in
-    let fresh = fresh_by c.store_over-out.result c.in_ok-vars.vars.times (joint c.args.left.now.vars.times c.args.right.now.vars.times) c.in_ok-vars.vars.texts (joint c.args.left.now.vars.texts c.args.right.now.vars.texts) (nat_abs (to_z w64 (of_z w64 c.args.period))) (nat_abs c.args.period) c.store_over-out.ensures c.in_ok-vars.ensures.times c.in_ok-vars.ensures.texts (same_word c.args.period c.requires.low c.requires.high) in
-    let low : 0 < nat_abs c.args.period = positive c.args.period c.requires.low in
+    let fresh = fresh_by c.store_over-out.result c.in_ok-vars.vars.times (joint c.args.left.now.vars.times c.args.right.now.vars.times) c.in_ok-vars.vars.texts (joint c.args.left.now.vars.texts c.args.right.now.vars.texts) (nat_abs (to_z w64 (of_z w64 c.args.period))) (nat_abs c.args.period) c.store_over-out.ensures c.in_ok-vars.ensures.times c.in_ok-vars.ensures.texts (same_word c.args.period c.requires.tables.low c.requires.tables.high) in
+    let low : 0 < nat_abs c.args.period = positive c.args.period c.requires.tables.low in
     record {
-      times_named = ap length c.in_ok-vars.ensures.times ∙ union_times c.args.domain.now c.len-size.ensures.ascending c.args.left.now c.args.right.now c.requires.columns c.in_ok-left_places.left_places c.in_ok-right_places.right_places lt lx rt rx c.new-all.result c.new-all.ensures c.len-size.result c.len-size.ensures.count (nat_abs c.args.period) low c.args.cap c.store_over-out.result fresh (divides_abs c.args.period _ c.requires.low c.requires.left_period) (divides_abs c.args.period _ c.requires.low c.requires.right_period) c.requires.left_reach c.requires.right_reach c.shape-3.ensures.valid c.add_table.new.out c.in-Ok.ensures.ok c.add_table-2.new.out c.in-Ok-add_table.ensures.ok;
-      texts_named = ap length c.in_ok-vars.ensures.texts ∙ union_texts c.args.domain.now c.len-size.ensures.ascending c.args.left.now c.args.right.now c.requires.columns c.in_ok-left_places.left_places c.in_ok-right_places.right_places lt lx rt rx c.new-all.result c.new-all.ensures c.len-size.result c.len-size.ensures.count (nat_abs c.args.period) low c.args.cap c.store_over-out.result fresh (divides_abs c.args.period _ c.requires.low c.requires.left_period) (divides_abs c.args.period _ c.requires.low c.requires.right_period) c.requires.left_reach c.requires.right_reach c.shape-3.ensures.valid c.add_table.new.out c.in-Ok.ensures.ok c.add_table-2.new.out c.in-Ok-add_table.ensures.ok;
-      names_differ = subst (λ l. AllPairs ◌≢◌ (l ++ c.in_ok-vars.vars.texts)) (sym c.in_ok-vars.ensures.times) (subst (λ l. AllPairs ◌≢◌ (joint c.args.left.now.vars.times c.args.right.now.vars.times ++ l)) (sym c.in_ok-vars.ensures.texts) (joint_names_differ c.args.left.now c.args.right.now c.requires.columns));
+      times_named = ap length c.in_ok-vars.ensures.times ∙ union_times c.args.setting.now.domain.now c.len-size.ensures.ascending c.args.left.now c.args.right.now c.requires.tables.columns c.in_ok-left_places.left_places c.in_ok-right_places.right_places lt lx rt rx c.new-all.result c.new-all.ensures c.len-size.result c.len-size.ensures.count (nat_abs c.args.period) low c.args.setting.now.cap c.store_over-out.result fresh (divides_abs c.args.period _ c.requires.tables.low c.requires.tables.left_period) (divides_abs c.args.period _ c.requires.tables.low c.requires.tables.right_period) c.requires.tables.left_reach c.requires.tables.right_reach c.shape-3.ensures.valid c.add_table.new.out c.in-Ok.ensures.ok c.add_table-2.new.out c.in-Ok-add_table.ensures.ok;
+      texts_named = ap length c.in_ok-vars.ensures.texts ∙ union_texts c.args.setting.now.domain.now c.len-size.ensures.ascending c.args.left.now c.args.right.now c.requires.tables.columns c.in_ok-left_places.left_places c.in_ok-right_places.right_places lt lx rt rx c.new-all.result c.new-all.ensures c.len-size.result c.len-size.ensures.count (nat_abs c.args.period) low c.args.setting.now.cap c.store_over-out.result fresh (divides_abs c.args.period _ c.requires.tables.low c.requires.tables.left_period) (divides_abs c.args.period _ c.requires.tables.low c.requires.tables.right_period) c.requires.tables.left_reach c.requires.tables.right_reach c.shape-3.ensures.valid c.add_table.new.out c.in-Ok.ensures.ok c.add_table-2.new.out c.in-Ok-add_table.ensures.ok;
+      names_differ = subst (λ l. AllPairs ◌≢◌ (l ++ c.in_ok-vars.vars.texts)) (sym c.in_ok-vars.ensures.times) (subst (λ l. AllPairs ◌≢◌ (joint c.args.left.now.vars.times c.args.right.now.vars.times ++ l)) (sym c.in_ok-vars.ensures.texts) (joint_names_differ c.args.left.now c.args.right.now c.requires.tables.columns));
     }
 
-pub returns-in-Ok-add_table-clause-table : goal.returns-in-Ok-add_table-clause-table
-returns-in-Ok-add_table-clause-table c =
+pub returns-in-Ok-add_table : goal.returns-in-Ok-add_table
+returns-in-Ok-add_table c =
     let lt : ArePlacesOf c.args.left.now.vars.times (joint c.args.left.now.vars.times c.args.right.now.vars.times) c.in_ok-left_places.left_places.times = subst (λ l. ArePlacesOf c.args.left.now.vars.times l c.in_ok-left_places.left_places.times) c.in_ok-vars.ensures.times c.in_ok-left_places.ensures.times in
     let lx : ArePlacesOf c.args.left.now.vars.texts (joint c.args.left.now.vars.texts c.args.right.now.vars.texts) c.in_ok-left_places.left_places.texts = subst (λ l. ArePlacesOf c.args.left.now.vars.texts l c.in_ok-left_places.left_places.texts) c.in_ok-vars.ensures.texts c.in_ok-left_places.ensures.texts in
     let rt : ArePlacesOf c.args.right.now.vars.times (joint c.args.left.now.vars.times c.args.right.now.vars.times) c.in_ok-right_places.right_places.times = subst (λ l. ArePlacesOf c.args.right.now.vars.times l c.in_ok-right_places.right_places.times) c.in_ok-vars.ensures.times c.in_ok-right_places.ensures.times in
     let rx : ArePlacesOf c.args.right.now.vars.texts (joint c.args.left.now.vars.texts c.args.right.now.vars.texts) c.in_ok-right_places.right_places.texts = subst (λ l. ArePlacesOf c.args.right.now.vars.texts l c.in_ok-right_places.right_places.texts) c.in_ok-vars.ensures.texts c.in_ok-right_places.ensures.texts in
-    let fresh = fresh_by c.store_over-out.result c.in_ok-vars.vars.times (joint c.args.left.now.vars.times c.args.right.now.vars.times) c.in_ok-vars.vars.texts (joint c.args.left.now.vars.texts c.args.right.now.vars.texts) (nat_abs (to_z w64 (of_z w64 c.args.period))) (nat_abs c.args.period) c.store_over-out.ensures c.in_ok-vars.ensures.times c.in_ok-vars.ensures.texts (same_word c.args.period c.requires.low c.requires.high) in
-    let low : 0 < nat_abs c.args.period = positive c.args.period c.requires.low in
-    union_table c.args.domain.now c.len-size.ensures.ascending c.args.left.now c.args.right.now c.requires.columns c.in_ok-left_places.left_places c.in_ok-right_places.right_places lt lx rt rx c.new-all.result c.new-all.ensures c.len-size.result c.len-size.ensures.count (nat_abs c.args.period) low c.args.cap c.store_over-out.result fresh (divides_abs c.args.period _ c.requires.low c.requires.left_period) (divides_abs c.args.period _ c.requires.low c.requires.right_period) c.requires.left_reach c.requires.right_reach c.shape-3.ensures.valid c.add_table.new.out c.in-Ok.ensures.ok c.add_table-2.new.out c.in-Ok-add_table.ensures.ok _ c.in_ok-vars.ensures.times c.in_ok-vars.ensures.texts refl
+    let fresh = fresh_by c.store_over-out.result c.in_ok-vars.vars.times (joint c.args.left.now.vars.times c.args.right.now.vars.times) c.in_ok-vars.vars.texts (joint c.args.left.now.vars.texts c.args.right.now.vars.texts) (nat_abs (to_z w64 (of_z w64 c.args.period))) (nat_abs c.args.period) c.store_over-out.ensures c.in_ok-vars.ensures.times c.in_ok-vars.ensures.texts (same_word c.args.period c.requires.tables.low c.requires.tables.high) in
+    let low : 0 < nat_abs c.args.period = positive c.args.period c.requires.tables.low in
+    record {
+      table = union_table c.args.setting.now.domain.now c.len-size.ensures.ascending c.args.left.now c.args.right.now c.requires.tables.columns c.in_ok-left_places.left_places c.in_ok-right_places.right_places lt lx rt rx c.new-all.result c.new-all.ensures c.len-size.result c.len-size.ensures.count (nat_abs c.args.period) low c.args.setting.now.cap c.store_over-out.result fresh (divides_abs c.args.period _ c.requires.tables.low c.requires.tables.left_period) (divides_abs c.args.period _ c.requires.tables.low c.requires.tables.right_period) c.requires.tables.left_reach c.requires.tables.right_reach c.shape-3.ensures.valid c.add_table.new.out c.in-Ok.ensures.ok c.add_table-2.new.out c.in-Ok-add_table.ensures.ok _ c.in_ok-vars.ensures.times c.in_ok-vars.ensures.texts refl;
+      reach = λ high h. union_reach c.args.setting.now.domain.now c.len-size.ensures.ascending c.args.left.now c.args.right.now c.requires.tables.columns c.in_ok-left_places.left_places c.in_ok-right_places.right_places lt lx rt rx c.new-all.result c.new-all.ensures c.len-size.result c.len-size.ensures.count (nat_abs c.args.period) low c.args.setting.now.cap c.store_over-out.result fresh (divides_abs c.args.period _ c.requires.tables.low c.requires.tables.left_period) (divides_abs c.args.period _ c.requires.tables.low c.requires.tables.right_period) c.requires.tables.left_reach c.requires.tables.right_reach c.shape-3.ensures.valid c.add_table.new.out c.in-Ok.ensures.ok c.add_table-2.new.out c.in-Ok-add_table.ensures.ok high h.left_reach h.right_reach;
+      few = union_few c.args.setting.now.domain.now c.len-size.ensures.ascending c.args.left.now c.args.right.now c.requires.tables.columns c.in_ok-left_places.left_places c.in_ok-right_places.right_places lt lx rt rx c.new-all.result c.new-all.ensures c.len-size.result c.len-size.ensures.count (nat_abs c.args.period) low c.args.setting.now.cap c.store_over-out.result fresh (divides_abs c.args.period _ c.requires.tables.low c.requires.tables.left_period) (divides_abs c.args.period _ c.requires.tables.low c.requires.tables.right_period) c.requires.tables.left_reach c.requires.tables.right_reach c.shape-3.ensures.valid c.add_table.new.out c.in-Ok.ensures.ok c.add_table-2.new.out c.in-Ok-add_table.ensures.ok;
+      many = λ e. cc;
+    }
 
-pub returns-in-Ok-add_table-clause-reach : goal.returns-in-Ok-add_table-clause-reach
-returns-in-Ok-add_table-clause-reach c =
+pub returns-in-Err-TooManyCells-add_table : goal.returns-in-Err-TooManyCells-add_table
+returns-in-Err-TooManyCells-add_table c =
     let lt : ArePlacesOf c.args.left.now.vars.times (joint c.args.left.now.vars.times c.args.right.now.vars.times) c.in_ok-left_places.left_places.times = subst (λ l. ArePlacesOf c.args.left.now.vars.times l c.in_ok-left_places.left_places.times) c.in_ok-vars.ensures.times c.in_ok-left_places.ensures.times in
     let lx : ArePlacesOf c.args.left.now.vars.texts (joint c.args.left.now.vars.texts c.args.right.now.vars.texts) c.in_ok-left_places.left_places.texts = subst (λ l. ArePlacesOf c.args.left.now.vars.texts l c.in_ok-left_places.left_places.texts) c.in_ok-vars.ensures.texts c.in_ok-left_places.ensures.texts in
     let rt : ArePlacesOf c.args.right.now.vars.times (joint c.args.left.now.vars.times c.args.right.now.vars.times) c.in_ok-right_places.right_places.times = subst (λ l. ArePlacesOf c.args.right.now.vars.times l c.in_ok-right_places.right_places.times) c.in_ok-vars.ensures.times c.in_ok-right_places.ensures.times in
     let rx : ArePlacesOf c.args.right.now.vars.texts (joint c.args.left.now.vars.texts c.args.right.now.vars.texts) c.in_ok-right_places.right_places.texts = subst (λ l. ArePlacesOf c.args.right.now.vars.texts l c.in_ok-right_places.right_places.texts) c.in_ok-vars.ensures.texts c.in_ok-right_places.ensures.texts in
-    let fresh = fresh_by c.store_over-out.result c.in_ok-vars.vars.times (joint c.args.left.now.vars.times c.args.right.now.vars.times) c.in_ok-vars.vars.texts (joint c.args.left.now.vars.texts c.args.right.now.vars.texts) (nat_abs (to_z w64 (of_z w64 c.args.period))) (nat_abs c.args.period) c.store_over-out.ensures c.in_ok-vars.ensures.times c.in_ok-vars.ensures.texts (same_word c.args.period c.requires.low c.requires.high) in
-    let low : 0 < nat_abs c.args.period = positive c.args.period c.requires.low in
-    union_reach c.args.domain.now c.len-size.ensures.ascending c.args.left.now c.args.right.now c.requires.columns c.in_ok-left_places.left_places c.in_ok-right_places.right_places lt lx rt rx c.new-all.result c.new-all.ensures c.len-size.result c.len-size.ensures.count (nat_abs c.args.period) low c.args.cap c.store_over-out.result fresh (divides_abs c.args.period _ c.requires.low c.requires.left_period) (divides_abs c.args.period _ c.requires.low c.requires.right_period) c.requires.left_reach c.requires.right_reach c.shape-3.ensures.valid c.add_table.new.out c.in-Ok.ensures.ok c.add_table-2.new.out c.in-Ok-add_table.ensures.ok
-
-pub returns-in-Ok-add_table-clause-few : goal.returns-in-Ok-add_table-clause-few
-returns-in-Ok-add_table-clause-few c =
-    let lt : ArePlacesOf c.args.left.now.vars.times (joint c.args.left.now.vars.times c.args.right.now.vars.times) c.in_ok-left_places.left_places.times = subst (λ l. ArePlacesOf c.args.left.now.vars.times l c.in_ok-left_places.left_places.times) c.in_ok-vars.ensures.times c.in_ok-left_places.ensures.times in
-    let lx : ArePlacesOf c.args.left.now.vars.texts (joint c.args.left.now.vars.texts c.args.right.now.vars.texts) c.in_ok-left_places.left_places.texts = subst (λ l. ArePlacesOf c.args.left.now.vars.texts l c.in_ok-left_places.left_places.texts) c.in_ok-vars.ensures.texts c.in_ok-left_places.ensures.texts in
-    let rt : ArePlacesOf c.args.right.now.vars.times (joint c.args.left.now.vars.times c.args.right.now.vars.times) c.in_ok-right_places.right_places.times = subst (λ l. ArePlacesOf c.args.right.now.vars.times l c.in_ok-right_places.right_places.times) c.in_ok-vars.ensures.times c.in_ok-right_places.ensures.times in
-    let rx : ArePlacesOf c.args.right.now.vars.texts (joint c.args.left.now.vars.texts c.args.right.now.vars.texts) c.in_ok-right_places.right_places.texts = subst (λ l. ArePlacesOf c.args.right.now.vars.texts l c.in_ok-right_places.right_places.texts) c.in_ok-vars.ensures.texts c.in_ok-right_places.ensures.texts in
-    let fresh = fresh_by c.store_over-out.result c.in_ok-vars.vars.times (joint c.args.left.now.vars.times c.args.right.now.vars.times) c.in_ok-vars.vars.texts (joint c.args.left.now.vars.texts c.args.right.now.vars.texts) (nat_abs (to_z w64 (of_z w64 c.args.period))) (nat_abs c.args.period) c.store_over-out.ensures c.in_ok-vars.ensures.times c.in_ok-vars.ensures.texts (same_word c.args.period c.requires.low c.requires.high) in
-    let low : 0 < nat_abs c.args.period = positive c.args.period c.requires.low in
-    union_few c.args.domain.now c.len-size.ensures.ascending c.args.left.now c.args.right.now c.requires.columns c.in_ok-left_places.left_places c.in_ok-right_places.right_places lt lx rt rx c.new-all.result c.new-all.ensures c.len-size.result c.len-size.ensures.count (nat_abs c.args.period) low c.args.cap c.store_over-out.result fresh (divides_abs c.args.period _ c.requires.low c.requires.left_period) (divides_abs c.args.period _ c.requires.low c.requires.right_period) c.requires.left_reach c.requires.right_reach c.shape-3.ensures.valid c.add_table.new.out c.in-Ok.ensures.ok c.add_table-2.new.out c.in-Ok-add_table.ensures.ok
-
-pub returns-in-Err-TooManyCells-add_table-clause-many : goal.returns-in-Err-TooManyCells-add_table-clause-many
-returns-in-Err-TooManyCells-add_table-clause-many c =
-    let lt : ArePlacesOf c.args.left.now.vars.times (joint c.args.left.now.vars.times c.args.right.now.vars.times) c.in_ok-left_places.left_places.times = subst (λ l. ArePlacesOf c.args.left.now.vars.times l c.in_ok-left_places.left_places.times) c.in_ok-vars.ensures.times c.in_ok-left_places.ensures.times in
-    let lx : ArePlacesOf c.args.left.now.vars.texts (joint c.args.left.now.vars.texts c.args.right.now.vars.texts) c.in_ok-left_places.left_places.texts = subst (λ l. ArePlacesOf c.args.left.now.vars.texts l c.in_ok-left_places.left_places.texts) c.in_ok-vars.ensures.texts c.in_ok-left_places.ensures.texts in
-    let rt : ArePlacesOf c.args.right.now.vars.times (joint c.args.left.now.vars.times c.args.right.now.vars.times) c.in_ok-right_places.right_places.times = subst (λ l. ArePlacesOf c.args.right.now.vars.times l c.in_ok-right_places.right_places.times) c.in_ok-vars.ensures.times c.in_ok-right_places.ensures.times in
-    let rx : ArePlacesOf c.args.right.now.vars.texts (joint c.args.left.now.vars.texts c.args.right.now.vars.texts) c.in_ok-right_places.right_places.texts = subst (λ l. ArePlacesOf c.args.right.now.vars.texts l c.in_ok-right_places.right_places.texts) c.in_ok-vars.ensures.texts c.in_ok-right_places.ensures.texts in
-    let fresh = fresh_by c.store_over-out.result c.in_ok-vars.vars.times (joint c.args.left.now.vars.times c.args.right.now.vars.times) c.in_ok-vars.vars.texts (joint c.args.left.now.vars.texts c.args.right.now.vars.texts) (nat_abs (to_z w64 (of_z w64 c.args.period))) (nat_abs c.args.period) c.store_over-out.ensures c.in_ok-vars.ensures.times c.in_ok-vars.ensures.texts (same_word c.args.period c.requires.low c.requires.high) in
-    let low : 0 < nat_abs c.args.period = positive c.args.period c.requires.low in
-    λ e. right_many c.args.domain.now c.len-size.ensures.ascending c.args.left.now c.args.right.now c.requires.columns c.in_ok-left_places.left_places c.in_ok-right_places.right_places lt lx rt rx c.new-all.result c.new-all.ensures c.len-size.result c.len-size.ensures.count (nat_abs c.args.period) low c.args.cap c.store_over-out.result fresh (divides_abs c.args.period _ c.requires.low c.requires.left_period) (divides_abs c.args.period _ c.requires.low c.requires.right_period) c.requires.left_reach c.requires.right_reach c.shape-3.ensures.valid c.add_table.new.out c.in-Ok.ensures.ok c.add_table-2.new.out (c.add_table-2.ensures.too_many (c.in-Err-TooManyCells-add_table.is ∙ ap Err c.in-Err-TooManyCells-add_table.field-0-is))
+    let fresh = fresh_by c.store_over-out.result c.in_ok-vars.vars.times (joint c.args.left.now.vars.times c.args.right.now.vars.times) c.in_ok-vars.vars.texts (joint c.args.left.now.vars.texts c.args.right.now.vars.texts) (nat_abs (to_z w64 (of_z w64 c.args.period))) (nat_abs c.args.period) c.store_over-out.ensures c.in_ok-vars.ensures.times c.in_ok-vars.ensures.texts (same_word c.args.period c.requires.tables.low c.requires.tables.high) in
+    let low : 0 < nat_abs c.args.period = positive c.args.period c.requires.tables.low in
+    record {
+      table = tt;
+      reach = tt;
+      few = tt;
+      many = λ e. right_many c.args.setting.now.domain.now c.len-size.ensures.ascending c.args.left.now c.args.right.now c.requires.tables.columns c.in_ok-left_places.left_places c.in_ok-right_places.right_places lt lx rt rx c.new-all.result c.new-all.ensures c.len-size.result c.len-size.ensures.count (nat_abs c.args.period) low c.args.setting.now.cap c.store_over-out.result fresh (divides_abs c.args.period _ c.requires.tables.low c.requires.tables.left_period) (divides_abs c.args.period _ c.requires.tables.low c.requires.tables.right_period) c.requires.tables.left_reach c.requires.tables.right_reach c.shape-3.ensures.valid c.add_table.new.out c.in-Ok.ensures.ok c.add_table-2.new.out (c.add_table-2.ensures.too_many (c.in-Err-TooManyCells-add_table.is ∙ ap Err c.in-Err-TooManyCells-add_table.field-0-is));
+    }
