@@ -21,7 +21,7 @@ use Rattle.lrp_store.proofs.Counted.{one_cell, lies_in}
 use Rattle.lrp_minus.specs.Absences.{CanBeTurned, IsAbsent, IsAbsentAt, IsChosenTo}
 use Rattle.lrp_minus.specs.Differences.{AreOfCell, greatest_reach}
 use Rattle.lrp_minus.specs.Filling.{IsUncut}
-use Rattle.lrp_minus.proofs.Gathering.{IsGathering, gathering_more, gathering_refused, gathered, added_as, refused_as}
+use Rattle.lrp_tables.proofs.Gathering.{IsGathering, gathering_more, gathering_refused, gathered, added_as, refused_as}
 use Rattle.lrp_minus.proofs.Lists.{greatest_below}
 
 -- the time in a column has this residue or a later one

@@ -8,7 +8,7 @@ use Rattle.lrp_store.specs.Stores.{StoreView, IsStore, InStore, HasReach}
 use Rattle.lrp_store.specs.Growing.{IsAdded, IsRefused}
 use Rattle.lrp_store.specs.declared.table.Table.{Table}
 use Rattle.lrp_tables.specs.Caps.{InhabitsMoreThan}
-use Rattle.lrp_tables.specs.Tables.{Has, HasTexts, IsMissing, IsTableOf}
+use Rattle.lrp_tables.specs.Tables.{Has, HasTexts, IsComplement, IsTableOf}
 use Rattle.lrp_tables.proofs.CellsNamed.{AreTuplesOf}
 use Rattle.lrp_tables.proofs.Filled.{IsStart, step_table, step_few, step_many, reach_held}
 use Rattle.lrp_tables.proofs.Numbers.{domain_differs, numbers_are}
@@ -24,9 +24,9 @@ fresh_by s start q k e eq ek = e ∙ ap (λ (p : Shape). record { shape = p; per
 
 module _ (domain : List Text) (ascends : Ascends domain) (table : Table) (size : ℕ) (es : size ≡ length domain) (chosen : List ℕ) where
   -- the tuples that are absent are those of the assignments that are missing
-  are : AreTuplesOf domain table.vars.times table.vars.texts (IsAbsent size table.store 0 chosen) (IsMissing domain table)
+  are : AreTuplesOf domain table.vars.times table.vars.texts (IsAbsent size table.store 0 chosen) (IsComplement domain table)
   are = same_tuples domain table.vars.times table.vars.texts (λ xs ns. IsAny (length domain) (length table.vars.times) (length table.vars.texts) xs ns × (InStore table.store xs ns → ⊥)) (IsAbsent size table.store 0 chosen)
-      (λ env. HasTexts domain table.vars.texts env × (Has table domain env → ⊥)) (IsMissing domain table)
+      (λ env. HasTexts domain table.vars.texts env × (Has table domain env → ⊥)) (IsComplement domain table)
       (λ xs ns. (
         λ h. record { times_count = h.0.times_count ∙ table.times_named; texts_count = h.0.texts_count ∙ table.texts_named; known = subst (λ m. All (λ n. n < m) ns) (sym es) h.0.known; same = λ i l. absurd (omega arith); none = h.1 },
         λ h. (record { times_count = h.times_count ∙ sym table.times_named; texts_count = h.texts_count ∙ sym table.texts_named; known = subst (λ m. All (λ n. n < m) ns) es h.known }, h.none),
@@ -56,13 +56,13 @@ module _ (domain : List Text) (ascends : Ascends domain) (table : Table) (size :
     }
 
     module _ (high : ℕ) (a : IsAdded (IsAbsent size table.store 0 chosen) cap high start out) where
-      pub complement_table : (made : Table) → made.vars.times ≡ table.vars.times → made.vars.texts ≡ table.vars.texts → made.store ≡ out → IsTableOf domain table.vars.times table.vars.texts table.store.period (IsMissing domain table) made
-      complement_table made et ex eo = subst (λ (k : ℕ). IsTableOf domain table.vars.times table.vars.texts k (IsMissing domain table) made) period_is
-          (step_table domain table.vars.times table.vars.texts start start_is (IsAbsent size table.store 0 chosen) (IsMissing domain table) are cap high out a made et ex eo)
+      pub complement_table : (made : Table) → made.vars.times ≡ table.vars.times → made.vars.texts ≡ table.vars.texts → made.store ≡ out → IsTableOf domain table.vars.times table.vars.texts table.store.period (IsComplement domain table) made
+      complement_table made et ex eo = subst (λ (k : ℕ). IsTableOf domain table.vars.times table.vars.texts k (IsComplement domain table) made) period_is
+          (step_table domain table.vars.times table.vars.texts start start_is (IsAbsent size table.store 0 chosen) (IsComplement domain table) are cap high out a made et ex eo)
 
-      pub complement_few : InhabitsMoreThan cap domain table.store.period table.vars.times table.vars.texts (IsMissing domain table) → ⊥
-      complement_few more = step_few domain table.vars.times table.vars.texts start start_is (IsAbsent size table.store 0 chosen) (IsMissing domain table) are cap high out a
-          (subst (λ (k : ℕ). InhabitsMoreThan cap domain k table.vars.times table.vars.texts (IsMissing domain table)) (sym period_is) more)
+      pub complement_few : InhabitsMoreThan cap domain table.store.period table.vars.times table.vars.texts (IsComplement domain table) → ⊥
+      complement_few more = step_few domain table.vars.times table.vars.texts start start_is (IsAbsent size table.store 0 chosen) (IsComplement domain table) are cap high out a
+          (subst (λ (k : ℕ). InhabitsMoreThan cap domain k table.vars.times table.vars.texts (IsComplement domain table)) (sym period_is) more)
 
       pub complement_reach : HasReach out high
       complement_reach = reach_held (IsAbsent size table.store 0 chosen) cap high start out empty a.grown
@@ -70,6 +70,6 @@ module _ (domain : List Text) (ascends : Ascends domain) (table : Table) (size :
       pub complement_shape : out.shape ≡ table.store.shape
       complement_shape = a.grown.shape ∙ ap (λ (s : StoreView). s.shape) fresh
 
-    pub complement_many : (high : ℕ) → IsRefused (IsAbsent size table.store 0 chosen) cap high start out → InhabitsMoreThan cap domain table.store.period table.vars.times table.vars.texts (IsMissing domain table)
-    complement_many high r = subst (λ (k : ℕ). InhabitsMoreThan cap domain k table.vars.times table.vars.texts (IsMissing domain table)) period_is
-        (step_many domain table.vars.times table.vars.texts start start_is (IsAbsent size table.store 0 chosen) (IsMissing domain table) are cap high out r)
+    pub complement_many : (high : ℕ) → IsRefused (IsAbsent size table.store 0 chosen) cap high start out → InhabitsMoreThan cap domain table.store.period table.vars.times table.vars.texts (IsComplement domain table)
+    complement_many high r = subst (λ (k : ℕ). InhabitsMoreThan cap domain k table.vars.times table.vars.texts (IsComplement domain table)) period_is
+        (step_many domain table.vars.times table.vars.texts start start_is (IsAbsent size table.store 0 chosen) (IsComplement domain table) are cap high out r)

@@ -1,5 +1,5 @@
 -- What a store has in the cell beneath a longer one.
-use Rattle.std.proofs.Common.{◌≡◌, ℕ, zero, suc, ◌+◌, ◌<◌, ◌≤◌, List, [], length, map, take, get_or, sym, ap, subst, ◌∙◌, arith}
+use Rattle.std.proofs.Common.{◌≡◌, ℕ, zero, suc, ◌≤◌, List, [], length, map, take, get_or, sym, ap, subst, ◌∙◌, arith}
 use Rattle.std.specs.Prelude.{ℤ, pos, Contains, ◌-ℤ◌, ◌+ℤ◌}
 use Rattle.std.proofs.lemmas.Int.{ints}
 use Rattle.std.proofs.lemmas.List.{length-map, length-take-le}
@@ -11,10 +11,10 @@ use Rattle.lrp_model.specs.declared.tuples.Cell.{Cell}
 use Rattle.lrp_zone.specs.Spread.{target}
 use Rattle.lrp_zone.specs.Zones.{ZoneView, IsInCell, IsMember}
 use Rattle.lrp_zone.proofs.Placed.{node_map}
-use Rattle.lrp_store.specs.Choices.{AgreesTo}
 use Rattle.lrp_store.specs.Stores.{StoreView, IsStore, LiesInCell, zone_of, tables_at, zones_at}
 use Rattle.lrp_store.proofs.Counted.{lies_in, one_cell}
 use Rattle.lrp_store.proofs.Held.{Table, cell_held, node_take}
+use Rattle.lrp_systems.specs.Choices.{AgreesAlong}
 use Rattle.lrp_minus.specs.Beneath.{IsCellBeneath}
 use Rattle.lrp_tables.specs.Calls.{number_at}
 use Rattle.lrp_minus.specs.Taking.{AgreesBeneath, IsContentBeneath, IsContentOf, IsTaking}
@@ -75,14 +75,17 @@ module _ (places : Places) (right : StoreView) (right_is : IsStore right) (cell 
   }
 
 -- what is beneath a cell whose residues stand up to the last of the places is beneath the tuples that have them
-module _ (t : Taking) (s : StoreView) (taking : IsTaking t s) (cell : Cell) (p : ℕ) (last : t.last ≤ p) where
+module _ (t : Taking) (s : StoreView) (taking : IsTaking t s) (cell : Cell) (p : ℕ) (few : p ≤ 8) (last : t.last ≤ p) where
   before : (q : ℕ) → q ≤ length t.places.now.times → target t.places.now.times q ≤ p
   before zero h = omega arith
   before (suc q) h = let l : get_or t.places.now.times q 0 ≤ t.last = taking.last q (omega arith) in omega arith
 
-  agrees : (xs : List ℤ) (ns : List ℕ) → AgreesTo s.period cell.residues p xs → take s.shape.texts cell.texts ≡ ns → AgreesBeneath t.places.now t.right.now.period cell xs ns
+  agrees_at : (xs : List ℤ) → AgreesAlong s.period t.frame.now.order cell.residues p xs → (r : ℕ) → r ≤ p → Divides (pos s.period) (node xs r -ℤ node cell.residues r)
+  agrees_at xs a r h = subst (λ (q : ℕ). Divides (pos s.period) (node xs q -ℤ node cell.residues q)) (taking.order.own r (omega arith)) (a.each r h)
+
+  agrees : (xs : List ℤ) (ns : List ℕ) → AgreesAlong s.period t.frame.now.order cell.residues p xs → take s.shape.texts cell.texts ≡ ns → AgreesBeneath t.places.now t.right.now.period cell xs ns
   agrees xs ns a named = record {
-    residues = λ q h. Divides-trans (pos t.right.now.period) (pos s.period) _ taking.cut.multiple (a.each (target t.places.now.times q) (before q h));
+    residues = λ q h. Divides-trans (pos t.right.now.period) (pos s.period) _ taking.cut.multiple (agrees_at xs a (target t.places.now.times q) (before q h));
     named = ap (λ (l : List ℕ). map (number_at l) t.places.now.texts) (sym named) ∙ numbers_front s.shape.texts cell.texts t.places.now.texts taking.cut.among.in_texts;
   }
 

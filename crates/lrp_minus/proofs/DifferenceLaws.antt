@@ -17,7 +17,7 @@ use Rattle.lrp_store.specs.Tables.{AreNumbered}
 use Rattle.lrp_store.specs.declared.table.Table.{Table}
 use Rattle.lrp_tables.specs.Caps.{InhabitsMoreThan}
 use Rattle.lrp_tables.specs.Columns.{ArePlacesOf, IsPlace}
-use Rattle.lrp_tables.specs.Tables.{Has, HasTexts, IsLess, IsTableOf}
+use Rattle.lrp_tables.specs.Tables.{Has, HasTexts, IsMinus, IsTableOf}
 use Rattle.lrp_tables.proofs.CellsNamed.{AreTuplesOf}
 use Rattle.lrp_tables.proofs.Filled.{IsStart, step_table, step_few, step_many, reach_held}
 use Rattle.lrp_tables.proofs.Joining.{places_count, place_is, places_are}
@@ -128,9 +128,9 @@ module _ (left right : Table) (right_is : IsStore right.store) (places : Places)
     abbrev Wide : List ℤ → List ℕ → Type 0
     Wide = IsWider (length domain) (length left.vars.times) (length left.vars.texts) places.times places.texts right.store
 
-    are : AreTuplesOf domain left.vars.times left.vars.texts (IsSpared places left.store right.store) (IsLess domain left right)
+    are : AreTuplesOf domain left.vars.times left.vars.texts (IsSpared places left.store right.store) (IsMinus domain left right)
     are = same_tuples domain left.vars.times left.vars.texts (λ xs ns. InStore left.store xs ns × (Wide xs ns → ⊥)) (IsSpared places left.store right.store)
-        (λ env. Has left domain env × (HasTexts domain left.vars.texts env × Has right domain env → ⊥)) (IsLess domain left right)
+        (λ env. Has left domain env × (HasTexts domain left.vars.texts env × Has right domain env → ⊥)) (IsMinus domain left right)
         (λ xs ns. (
           λ h. record {
             held = h.0;
@@ -162,17 +162,17 @@ module _ (left right : Table) (right_is : IsStore right.store) (places : Places)
       }
 
       module _ (high : ℕ) (a : IsAdded (IsSpared places left.store right.store) cap high start out) where
-        pub minus_table : (made : Table) → made.vars.times ≡ left.vars.times → made.vars.texts ≡ left.vars.texts → made.store ≡ out → IsTableOf domain left.vars.times left.vars.texts k (IsLess domain left right) made
-        minus_table made et ex eo = subst (λ (n : ℕ). IsTableOf domain left.vars.times left.vars.texts n (IsLess domain left right) made) period_is
-            (step_table domain left.vars.times left.vars.texts start start_is (IsSpared places left.store right.store) (IsLess domain left right) are cap high out a made et ex eo)
+        pub minus_table : (made : Table) → made.vars.times ≡ left.vars.times → made.vars.texts ≡ left.vars.texts → made.store ≡ out → IsTableOf domain left.vars.times left.vars.texts k (IsMinus domain left right) made
+        minus_table made et ex eo = subst (λ (n : ℕ). IsTableOf domain left.vars.times left.vars.texts n (IsMinus domain left right) made) period_is
+            (step_table domain left.vars.times left.vars.texts start start_is (IsSpared places left.store right.store) (IsMinus domain left right) are cap high out a made et ex eo)
 
-        pub minus_few : InhabitsMoreThan cap domain k left.vars.times left.vars.texts (IsLess domain left right) → ⊥
-        minus_few more = step_few domain left.vars.times left.vars.texts start start_is (IsSpared places left.store right.store) (IsLess domain left right) are cap high out a
-            (subst (λ (n : ℕ). InhabitsMoreThan cap domain n left.vars.times left.vars.texts (IsLess domain left right)) (sym period_is) more)
+        pub minus_few : InhabitsMoreThan cap domain k left.vars.times left.vars.texts (IsMinus domain left right) → ⊥
+        minus_few more = step_few domain left.vars.times left.vars.texts start start_is (IsSpared places left.store right.store) (IsMinus domain left right) are cap high out a
+            (subst (λ (n : ℕ). InhabitsMoreThan cap domain n left.vars.times left.vars.texts (IsMinus domain left right)) (sym period_is) more)
 
-      pub minus_many : (high : ℕ) → IsRefused (IsSpared places left.store right.store) cap high start out → InhabitsMoreThan cap domain k left.vars.times left.vars.texts (IsLess domain left right)
-      minus_many high r = subst (λ (n : ℕ). InhabitsMoreThan cap domain n left.vars.times left.vars.texts (IsLess domain left right)) period_is
-          (step_many domain left.vars.times left.vars.texts start start_is (IsSpared places left.store right.store) (IsLess domain left right) are cap high out r)
+      pub minus_many : (high : ℕ) → IsRefused (IsSpared places left.store right.store) cap high start out → InhabitsMoreThan cap domain k left.vars.times left.vars.texts (IsMinus domain left right)
+      minus_many high r = subst (λ (n : ℕ). InhabitsMoreThan cap domain n left.vars.times left.vars.texts (IsMinus domain left right)) period_is
+          (step_many domain left.vars.times left.vars.texts start start_is (IsSpared places left.store right.store) (IsMinus domain left right) are cap high out r)
 
   pub minus_reach : (cap : ℕ) (start out : StoreView) → start ≡ without_cells left.store.shape k → (high : ℕ) → IsAdded (IsSpared places left.store right.store) cap (high + 2 * k) start out → HasReach out (high + 2 * k)
   minus_reach cap start out fresh high a = reach_held (IsSpared places left.store right.store) cap (high + 2 * k) start out (ap (λ (s : StoreView). s.tables) fresh) a.grown

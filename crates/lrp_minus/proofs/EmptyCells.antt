@@ -15,7 +15,7 @@ use Rattle.lrp_store.proofs.Held.{cell_held, node_take}
 use Rattle.lrp_minus.specs.Absences.{IsAbsentAt, IsChosenTo, IsLike}
 use Rattle.lrp_minus.proofs.AbsenceLaws.{of_map}
 use Rattle.lrp_tables.proofs.FreeZones.{free_zone}
-use Rattle.lrp_minus.proofs.Gathering.{added_as, refused_as}
+use Rattle.lrp_tables.proofs.Gathering.{added_as, refused_as}
 
 -- a table without bounds has none at any place, and no reach
 no_bound : (n i : ℕ) → get_or {A = Option ℤ} (replicate n None) i None ≡ None

@@ -1,5 +1,6 @@
 -- What is proved of differences of zones, by topic.
 pub mod AbsenceLaws
+pub mod AddingLaws
 pub mod Alike
 pub mod BeneathLaws
 pub mod BoundedLaws
@@ -11,7 +12,6 @@ pub mod DifferenceLaws
 pub mod EmptyCells
 pub mod FillingLaws
 pub mod GapLaws
-pub mod Gathering
 pub mod HalfLaws
 pub mod HullLaws
 pub mod IntervalLaws
@@ -30,4 +30,5 @@ pub mod SweepLaws
 pub mod TakenLaws
 pub mod TakingLaws
 pub mod ThresholdLaws
+pub mod TurnLaws
 pub mod WidestLaws

@@ -1,11 +1,10 @@
 -- Zones with one column are settled by their intervals: these in order, and merged.
-use Rattle.std.proofs.Common.{◌≡◌, ℕ, zero, suc, ◌+◌, ◌*◌, ◌<◌, ◌≤◌, ◌^◌, inl, inr, List, [], ◌∷◌, Option, Some, None, false, Ordering, Less, Equal, Greater, length, get_or, arith, refl, sym, subst, ◌∙◌, ap}
+use Rattle.std.proofs.Common.{◌≡◌, ℕ, zero, suc, ◌+◌, ◌*◌, ◌<◌, ◌≤◌, ◌^◌, inl, inr, List, [], ◌∷◌, Option, Some, None, false, length, get_or, arith, refl, sym, subst, ◌∙◌, ap}
 use Rattle.std.specs.Prelude.{ℤ, ◌<ℤ◌, Contains, All, AllPairs, map}
 use Rattle.std.specs.List.Sorted.{IsPermutation}
 use Rattle.std.specs.Option.{option_cmp}
-use Rattle.std.specs.Ordering.{int_cmp, is_lt, ordering_then, MatchOrdering}
-use Rattle.std.specs.Cmp.{int_ranks}
-use Rattle.std.proofs.lemmas.Int.{ints, by_lt_z}
+use Rattle.std.specs.Ordering.{int_cmp, is_lt, ordering_then}
+use Rattle.std.proofs.lemmas.Int.{ints}
 use Rattle.std.proofs.lemmas.List.Elements.{All-contains, Contains-get_or}
 use Rattle.std.proofs.lemmas.List.Sorted.{Contains-permutation, IsPermutation-sym}
 use Rattle.lrp_matrix.specs.Ranges.{Above}
@@ -16,26 +15,14 @@ use Rattle.lrp_store.proofs.Rooms.{closed_small}
 use Rattle.lrp_minus.specs.declared.intervals.Interval.{Interval}
 use Rattle.lrp_minus.specs.Differences.{AreOfCell, greatest_reach}
 use Rattle.lrp_minus.specs.Intervals.{span_of, IsNumber, IsInterval, HasSmallEnds, BeginsBy, InInterval, AreMerged}
+use Rattle.lrp_minus.specs.Lines.{HaveNumbers}
 use Rattle.lrp_minus.specs.Settling.{IsSmallZone, IsSettlement}
 use Rattle.lrp_minus.proofs.IntervalLaws.{intervals}
 use Rattle.lrp_minus.proofs.Lists.{below_or, in_map, from_map, reach_below}
 use Rattle.lrp_minus.proofs.SpanLaws.{one_number, span_to, span_from, span_interval, span_small, number_moved, number_back, interval_moved}
+use Rattle.lrp_matrix.proofs.Ends.{not_before}
 
 -- ---- order
-less_of : (x y : ℤ) (o : Ordering) → MatchOrdering o (x <ℤ y) (x ≡ y) (y <ℤ x) → x <ℤ y → o ≡ Less
-less_of x y Less m l = refl
-less_of x y Equal m l = absurd (omega (arith, ints))
-less_of x y Greater m l = absurd (omega (arith, ints))
-
--- what is not before another end
-not_before : (e f : Option ℤ) (q : Ordering) → is_lt (ordering_then (option_cmp int_cmp f e) q) ≡ false → (x : ℤ) → Above x f → Above x e
-not_before None f q h x a = tt
-not_before (Some a) None q h x b = absurd (cc)
-not_before (Some a) (Some b) q h x above = by_lt_z b a
-    (λ lt. let less : int_cmp b a ≡ Less = less_of b a (int_cmp b a) (int_ranks b a) lt in
-    let t : is_lt (ordering_then Less q) ≡ false = subst (λ o. is_lt (ordering_then o q) ≡ false) less h in absurd (cc))
-    (λ le. omega (arith, ints))
-
 -- what holds of each two neighbours, and is transitive
 begins_trans : (u v w : Interval) → BeginsBy u v → BeginsBy v w → BeginsBy u w
 begins_trans u v w a b = record { each = λ x h. a.each x (b.each x h) }
@@ -102,36 +89,49 @@ module _ (z : ZoneView) (one : columns_of z ≡ 1) (zones : List ZoneView) (cell
       let s : (w : ZoneView) × Contains zones w × (span_of w ≡ v) = span_in v l in
       subst (HasSmallEnds (greatest_reach zones)) s.2 (span_small s.0 (zone_is s.0 s.1) (has_one s.0 s.1) (greatest_reach zones) (reach_below zones s.0 s.1))
 
-  -- merged, they are the zones' set, settled
-  module _ (made : List ZoneView) (m : AreMerged z vs made) where
-    made_one : (w : ZoneView) → Contains made w → columns_of w ≡ 1
-    made_one w l = ap length (m.valid w l).1.residues ∙ one
+  -- they have the numbers of the zones
+  pub have_numbers : ((w : ZoneView) → Contains zones w → reach_of w + w.period ≤ 2 ^ 62) → HaveNumbers z zones vs
+  have_numbers room = record {
+    intervals = λ v l.
+        let s : (w : ZoneView) × Contains zones w × (span_of w ≡ v) = span_in v l in
+        subst (IsInterval z) s.2 (interval_moved z s.0 (span_of s.0) (cells.each s.0 s.1) (span_interval s.0 (zone_is s.0 s.1) (has_one s.0 s.1) (room s.0 s.1)));
+    to = number_to;
+    from = number_from;
+    small = λ h low v l.
+        let s : (w : ZoneView) × Contains zones w × (span_of w ≡ v) = span_in v l in
+        subst (HasSmallEnds h) s.2 (span_small s.0 (zone_is s.0 s.1) (has_one s.0 s.1) h (low s.0 s.1));
+  }
 
-    made_cells : (q v : ZoneView) → Contains made q → Contains made v → IsOfCell q v
-    made_cells q v ql vl = record { period = (m.valid v vl).1.period ∙ sym (m.valid q ql).1.period; residues = (m.valid v vl).1.residues ∙ sym (m.valid q ql).1.residues }
+-- intervals with the numbers of zones of one cell, which were merged, are the zones' set, settled
+module _ (z : ZoneView) (one : columns_of z ≡ 1) (zones : List ZoneView) (cells : AreOfCell z zones) (vs : List Interval) (n : HaveNumbers z zones vs) (made : List ZoneView) (m : AreMerged z vs made) where
+  made_one : (w : ZoneView) → Contains made w → columns_of w ≡ 1
+  made_one w l = ap length (m.valid w l).1.residues ∙ one
 
-    to_old : (xs : List ℤ) → InSome made xs → InSome zones xs
-    to_old xs s =
-        let n : (x : ℤ) × (xs ≡ x ∷ []) = one_number xs (s.inside.cell.count ∙ made_one s.zone s.listed) in
-        subst (InSome zones) (sym n.1) (number_to n.0 (m.to n.0 (subst (InSome made) n.1 s)))
+  made_cells : (q v : ZoneView) → Contains made q → Contains made v → IsOfCell q v
+  made_cells q v ql vl = record { period = (m.valid v vl).1.period ∙ sym (m.valid q ql).1.period; residues = (m.valid v vl).1.residues ∙ sym (m.valid q ql).1.residues }
 
-    to_new : (xs : List ℤ) → InSome zones xs → InSome made xs
-    to_new xs s =
-        let n : (x : ℤ) × (xs ≡ x ∷ []) = one_number xs (s.inside.cell.count ∙ has_one s.zone s.listed) in
-        subst (InSome made) (sym n.1) (m.from n.0 (number_from n.0 (subst (InSome zones) n.1 s)))
+  to_old : (xs : List ℤ) → InSome made xs → InSome zones xs
+  to_old xs s =
+      let x : (x : ℤ) × (xs ≡ x ∷ []) = one_number xs (s.inside.cell.count ∙ made_one s.zone s.listed) in
+      subst (InSome zones) (sym x.1) (n.to x.0 (m.to x.0 (subst (InSome made) x.1 s)))
 
-    pub merged_settled : IsSettlement z zones made
-    merged_settled = record {
-      zones = m.valid;
-      to = to_old;
-      from = to_new;
-      settled = record {
-        none = λ e. absurd (omega (arith, e, one));
-        one = λ e. intervals made (λ w l. ((m.valid w l).0, made_one w l)) m.far made_cells;
-        more = λ l. absurd (omega (arith, one));
-      };
-      small = λ w l.
-          let r : reach_of w ≤ greatest_reach zones = m.reach (greatest_reach zones) ends_small w l in
-          let n : columns_of w ≡ columns_of z = made_one w l ∙ sym one in
-          subst (λ k. IsSmallZone w (k * greatest_reach zones)) n (small_zone w (greatest_reach zones) (m.valid w l).0 r (times_one (columns_of w) _ _ (made_one w l) r));
-    }
+  to_new : (xs : List ℤ) → InSome zones xs → InSome made xs
+  to_new xs s =
+      let x : (x : ℤ) × (xs ≡ x ∷ []) = one_number xs (s.inside.cell.count ∙ ap length (cells.each s.zone s.listed).residues ∙ one) in
+      subst (InSome made) (sym x.1) (m.from x.0 (n.from x.0 (subst (InSome zones) x.1 s)))
+
+  pub merged_settled : IsSettlement z zones made
+  merged_settled = record {
+    zones = m.valid;
+    to = to_old;
+    from = to_new;
+    settled = record {
+      none = λ e. absurd (omega (arith, e, one));
+      one = λ e. intervals made (λ w l. ((m.valid w l).0, made_one w l)) m.far made_cells;
+      more = λ l. absurd (omega (arith, one));
+    };
+    small = λ w l.
+        let r : reach_of w ≤ greatest_reach zones = m.reach (greatest_reach zones) (n.small (greatest_reach zones) (reach_below zones)) w l in
+        let k : columns_of w ≡ columns_of z = made_one w l ∙ sym one in
+        subst (λ c. IsSmallZone w (c * greatest_reach zones)) k (small_zone w (greatest_reach zones) (m.valid w l).0 r (times_one (columns_of w) _ _ (made_one w l) r));
+  }

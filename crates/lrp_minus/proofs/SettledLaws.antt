@@ -117,7 +117,7 @@ module _ (s : StoreView) (is : IsStore s) (c : Cell) (one : s.shape.times ≡ 1)
       let n : length (take s.shape.times c.residues) ≡ 1 = omega (arith, size, one, length-take s.shape.times c.residues) in
       (subst IsZone t.2 (zone_held s is c t.0 t.1), ap (λ v. columns_of v) (sym t.2) ∙ n)
 
-  one_cell : (q v : ZoneView) → Contains (zones_at s c) q → Contains (zones_at s c) v → IsOfCell q v
+  pub one_cell : (q v : ZoneView) → Contains (zones_at s c) q → Contains (zones_at s c) v → IsOfCell q v
   one_cell q v a b =
       let t = from_map (zone_of s c) (tables_at s c) q a in
       let u = from_map (zone_of s c) (tables_at s c) v b in

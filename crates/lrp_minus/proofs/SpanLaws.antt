@@ -19,7 +19,7 @@ use Rattle.lrp_minus.specs.Halves.{MeetsBound, CanBeStored}
 use Rattle.lrp_minus.specs.Hulls.{IsWider}
 use Rattle.lrp_minus.specs.Intervals.{span_of, ends_of, IsNumber, IsEnd, IsInterval, HasSmallEnds, BeginsBy, LiesApart, IsJoined, IsSpan, IsStoredEnd, IsStoredInterval}
 use Rattle.lrp_minus.specs.Thresholds.{bound_there}
-use Rattle.lrp_minus.proofs.IntervalLaws.{in_line, line_cell, line_high, line_low}
+use Rattle.lrp_zone.proofs.Lines.{in_line, line_cell, line_high, line_low}
 use Rattle.lrp_minus.proofs.Lists.{in_none, in_one, one_in}
 
 -- a list of one number

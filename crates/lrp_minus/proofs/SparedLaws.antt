@@ -10,10 +10,9 @@ use Rattle.lrp_model.specs.declared.tuples.Cell.{Cell}
 use Rattle.lrp_model.specs.declared.tuples.Shape.{Shape}
 use Rattle.lrp_zone.specs.Residues.{HasResidues}
 use Rattle.lrp_zone.specs.Zones.{ZoneView, IsMember, reach_of}
-use Rattle.lrp_store.specs.Aligned.{InCell}
 use Rattle.lrp_store.specs.Growing.{IsAdded, IsRefused}
 use Rattle.lrp_store.specs.Settled.{InSome}
-use Rattle.lrp_store.specs.Stores.{StoreView, IsStore, IsCellOf, IsPadded, zone_of, tables_at, zones_at}
+use Rattle.lrp_store.specs.Stores.{StoreView, IsStore, InCell, IsCellOf, IsPadded, zone_of, tables_at, zones_at}
 use Rattle.lrp_store.proofs.Aligning.{key_of}
 use Rattle.lrp_store.proofs.Counted.{key_held}
 use Rattle.lrp_minus.specs.Absences.{IsLike}
@@ -23,7 +22,7 @@ use Rattle.lrp_minus.specs.Differences.{AreOfCell, greatest_reach}
 use Rattle.lrp_minus.specs.Filling.{IsUncut}
 use Rattle.lrp_minus.specs.declared.beneath.Places.{Places}
 use Rattle.lrp_minus.proofs.CutterLaws.{read_at, read_period, read_residues, read_columns, read_reach}
-use Rattle.lrp_minus.proofs.Gathering.{IsGathering, gathering_none, gathering_more, gathering_refused, gathered}
+use Rattle.lrp_tables.proofs.Gathering.{IsGathering, gathering_none, gathering_more, gathering_refused, gathered}
 use Rattle.lrp_minus.proofs.Lists.{in_cons, in_map, in_nothing}
 
 -- some of the zones from this number on has the times

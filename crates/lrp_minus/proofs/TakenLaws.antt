@@ -15,7 +15,7 @@ use Rattle.lrp_minus.specs.Taking.{IsLeftOf}
 use Rattle.lrp_minus.specs.declared.beneath.Places.{Places}
 use Rattle.lrp_minus.proofs.CutterLaws.{read_at, read_columns, read_period, read_reach}
 use Rattle.lrp_minus.proofs.DifferenceLaws.{can_cut}
-use Rattle.lrp_minus.proofs.Gathering.{IsGathering, gathering_more, gathering_refused}
+use Rattle.lrp_tables.proofs.Gathering.{IsGathering, gathering_more, gathering_refused}
 use Rattle.lrp_minus.proofs.Lists.{in_cons}
 use Rattle.lrp_minus.proofs.SparedLaws.{IsBehindZone}
 

@@ -5,9 +5,8 @@ use Rattle.lrp_theory.specs.Entries.{node}
 use Rattle.lrp_model.specs.declared.tuples.Cell.{Cell}
 use Rattle.lrp_zone.specs.Residues.{HasResidues}
 use Rattle.lrp_zone.specs.Zones.{ZoneView, IsMember, reach_of}
-use Rattle.lrp_store.specs.Aligned.{InCell}
 use Rattle.lrp_store.specs.Settled.{InSome}
-use Rattle.lrp_store.specs.Stores.{StoreView, InStore, HasReach}
+use Rattle.lrp_store.specs.Stores.{StoreView, InCell, InStore, HasReach}
 use Rattle.lrp_minus.specs.Beneath.{ArePlacesFor, HasBeneath}
 use Rattle.lrp_minus.specs.Differences.{greatest_reach}
 use Rattle.lrp_minus.specs.declared.beneath.Places.{Places}

@@ -16,4 +16,5 @@ pub mod Halves
 pub mod Hulls
 pub mod Intervals
 pub mod Leaving
+pub mod Lines
 pub mod Taking

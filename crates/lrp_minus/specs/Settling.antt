@@ -1,10 +1,12 @@
 -- Zones of one cell, settled: the same set in zones of that cell, in one way where it can be.
-use Rattle.std.specs.Prelude.{ℕ, ℤ, ◌+◌, ◌*◌, ◌≤◌, List, Contains}
+use Rattle.std.specs.Prelude.{◌≡◌, ◌≢◌, ℕ, ℤ, ◌+◌, ◌*◌, ◌≤◌, List, ◌++◌, map, Contains}
 use Rattle.lrp_theory.specs.Entries.{IsSmallClosure}
 use Rattle.lrp_matrix.specs.Matrices.{MatrixView, IsClosed, HaveSameIntegers}
 use Rattle.lrp_zone.specs.Zones.{ZoneView, IsZone, columns_of, reach_of}
 use Rattle.lrp_zone.specs.Pairs.{IsOfCell}
+use Rattle.lrp_model.specs.declared.tuples.Cell.{Cell}
 use Rattle.lrp_store.specs.Least.{matrix_of}
+use Rattle.lrp_store.specs.Stores.{StoreView, tables_at, zones_at}
 use Rattle.lrp_store.specs.Settled.{InSome, AreSettled}
 use Rattle.lrp_minus.specs.Differences.{greatest_reach}
 
@@ -20,6 +22,19 @@ pub record IsSettlement (z : ZoneView) (old new : List ZoneView) : Type 0 where
   pub from : (xs : List ℤ) → InSome old xs → InSome new xs
   pub settled : AreSettled z new
   pub small : (w : ZoneView) → Contains new w → IsSmallZone w (columns_of z * greatest_reach old)
+
+-- the zones are appended to the cell's list, and nothing else changes
+pub record AddsZones (cell : Cell) (zones : List ZoneView) (old new : StoreView) : Type 0 where
+  pub shape : new.shape ≡ old.shape
+  pub period : new.period ≡ old.period
+  pub here : tables_at new cell ≡ tables_at old cell ++ map (λ z. z.bounds) zones
+  pub others : (other : Cell) → other ≢ cell → tables_at new other ≡ tables_at old other
+
+-- zones that are a settlement of the cell's zones in a store are appended to its list in another one
+pub record SettlesCell (cell : Cell) (store old new : StoreView) : Type 0 where
+  pub made : List ZoneView
+  pub adds : AddsZones cell made old new
+  pub settled : (z : ZoneView) → Contains (zones_at store cell) z → IsSettlement z (zones_at store cell) made
 
 -- some of the zones, which hold the tuples of all
 pub record IsThinned (old new : List ZoneView) : Type 0 where

@@ -1,13 +1,17 @@
 -- What is taken away from one zone, residue by residue.
-use Rattle.std.specs.Prelude.{◌≡◌, ℕ, ℤ, ◌*◌, ◌-◌, ◌^◌, ◌<◌, ◌≤◌, List, length, map, pos, slice_index_or, take, ◌-ℤ◌}
+use Rattle.std.specs.Prelude.{◌≡◌, ℕ, ℤ, ◌+◌, ◌-◌, ◌^◌, ◌<◌, ◌≤◌, List, All, length, map, pos, slice_index_or, take, ◌-ℤ◌}
 use Rattle.lrp_theory.specs.Divides.{Divides}
 use Rattle.lrp_theory.specs.Entries.{node}
 use Rattle.lrp_model.specs.declared.tuples.Cell.{Cell}
+use Rattle.lrp_model.specs.declared.tuples.Shape.{Shape}
 use Rattle.lrp_zone.specs.Spread.{target}
-use Rattle.lrp_zone.specs.Zones.{ZoneView, reach_of}
-use Rattle.lrp_store.specs.Choices.{AgreesTo, AreMet, IsPartOf}
+use Rattle.lrp_zone.specs.Zones.{ZoneView}
 use Rattle.lrp_store.specs.Growing.{IsTupleOf}
-use Rattle.lrp_store.specs.Stores.{StoreView}
+use Rattle.lrp_store.specs.Stores.{StoreView, HasReach}
+use Rattle.lrp_systems.specs.Choices.{AgreesAlong}
+use Rattle.lrp_systems.specs.Frames.{IsFrame, IsNumbered}
+use Rattle.lrp_systems.specs.Parts.{Fits, system_reach}
+use Rattle.lrp_systems.specs.Systems.{IsBranch}
 use Rattle.lrp_minus.specs.Beneath.{HasBeneath}
 use Rattle.lrp_tables.specs.Calls.{number_at}
 use Rattle.lrp_minus.specs.Cutters.{CanCut}
@@ -21,17 +25,24 @@ pub record IsLeftOf (places : Places) (z : ZoneView) (named : List ℕ) (right :
   pub tuple : IsTupleOf z named times texts
   pub none : HasBeneath places right times texts → ⊥
 
--- one that has the residues of the cell up to column p, and the first n texts of the cell
-pub record IsLeftIn (t : Taking) (k n : ℕ) (cell : Cell) (p : ℕ) (times : List ℤ) (texts : List ℕ) : Type 0 where
-  pub part : IsPartOf t.zone.now k n cell p times texts
+-- a solution of the system with the residues of the cell at its first p columns, and the cell's texts, that has none of the right store at the places
+pub record IsLeftIn (t : Taking) (shape : Shape) (k : ℕ) (cell : Cell) (p : ℕ) (times : List ℤ) (texts : List ℕ) : Type 0 where
+  pub branch : IsBranch t.parts.now shape k t.frame.now.order cell p times texts
   pub none : HasBeneath t.places.now t.right.now times texts → ⊥
 
--- the bounds are those of the zone, no place is behind the last one, and bounds of both sides can be turned in cells of the store s
+-- the frame is that of the parts, with the columns in order, no place is behind the last one, and bounds of both sides can be turned in cells of the store s
 pub record IsTaking (t : Taking) (s : StoreView) : Type 0 where
-  pub met : AreMet t.zone.now t.least.now
+  pub fits : All (Fits s.shape.times s.period) t.parts.now
+  pub frame : IsFrame t.parts.now s.shape.times s.period t.frame.now
+  pub order : IsNumbered t.frame.now.order
   pub last : (i : ℕ) → i < length t.places.now.times → slice_index_or t.places.now.times i 0 ≤ t.last
-  pub reach : reach_of t.zone.now ≤ 2 ^ 62 - 2 * s.period
+  pub reach : system_reach s.period t.parts.now ≤ 2 ^ 62 - s.period
   pub cut : CanCut t.places.now s t.right.now
+
+-- the zones of the right store reach no farther than this, and the parts' pieces no farther than that and the period
+pub record IsWithin (t : Taking) (k high : ℕ) : Type 0 where
+  pub parts : system_reach k t.parts.now ≤ high + k
+  pub right : HasReach t.right.now high
 
 -- at the places the values are equal to the cell's residues modulo k, and the texts are the cell's
 pub record AgreesBeneath (places : Places) (k : ℕ) (cell : Cell) (times : List ℤ) (texts : List ℕ) : Type 0 where
@@ -45,5 +56,5 @@ pub record IsContentBeneath (places : Places) (right : StoreView) (cell : Cell) 
 
 -- the same of the tuples that have the residues of the cell up to column p, and its first n texts
 pub record IsContentOf (t : Taking) (k n : ℕ) (cell : Cell) (p : ℕ) (content : Content) : Type 0 where
-  pub nothing : content ≡ Nothing → (times : List ℤ) (texts : List ℕ) → AgreesTo k cell.residues p times → take n cell.texts ≡ texts → HasBeneath t.places.now t.right.now times texts → ⊥
-  pub everything : content ≡ Everything → (times : List ℤ) (texts : List ℕ) → AgreesTo k cell.residues p times → take n cell.texts ≡ texts → HasBeneath t.places.now t.right.now times texts
+  pub nothing : content ≡ Nothing → (times : List ℤ) (texts : List ℕ) → AgreesAlong k t.frame.now.order cell.residues p times → take n cell.texts ≡ texts → HasBeneath t.places.now t.right.now times texts → ⊥
+  pub everything : content ≡ Everything → (times : List ℤ) (texts : List ℕ) → AgreesAlong k t.frame.now.order cell.residues p times → take n cell.texts ≡ texts → HasBeneath t.places.now t.right.now times texts

@@ -1,37 +1,20 @@
 // Complements of tables.
-ghost use Rattle.std.specs.Prelude.{◌≡◌, ◌+◌, ◌*◌, ◌-◌, ◌≤◌, ◌^◌, ℕ, IfOk, OnOk, Err};
-ghost use Rattle.lrp_store.specs.Stores.{HasReach};
-ghost use Rattle.lrp_tables.specs.Caps.{InhabitsMoreThan};
-ghost use Rattle.lrp_tables.specs.Tables.{IsMissing, IsTableOf};
+ghost use Rattle.lrp_tables.specs.Steps.{CanComplement, IsComplementResult};
 
 use crate::absences::fill_texts;
-use lrp_model::{Copies, Domain};
+use lrp_model::Copies;
 use lrp_store::{Store, StoreFault};
-use lrp_tables::{StepFault, Table, Vars};
-use std::alloc::Global;
+use lrp_tables::{Setting, StepFault, Table, Vars};
 
 /// The assignments of integers and texts of the domain to the table's variables that are none of the table.
 ///
-/// `TooManyCells` comes exactly where they inhabit more than `cap` cells of the table's period.
-pub fn complement(
-    alloc: Global,
-    table: &Table,
-    domain: &Domain,
-    cap: u32,
-) -> Result<Table, StepFault>
-    requires period { 2 * table.now.store.period ≤ 2 ^ 62 }
-    requires reach { HasReach table.now.store (2 ^ 62 - 2 * table.now.store.period) }
-    ensures table { IfOk result (λ made. IsTableOf domain.now table.now.vars.times
-        table.now.vars.texts table.now.store.period (IsMissing domain.now table.now) made) }
-    ensures reach { IfOk result (λ made. (high : ℕ) → HasReach table.now.store high
-        → HasReach made.store (high + 2 * table.now.store.period)) }
-    ensures few { OnOk result (InhabitsMoreThan cap domain.now table.now.store.period
-        table.now.vars.times table.now.vars.texts (IsMissing domain.now table.now) → ⊥) }
-    ensures many { result ≡ Err StepFault.TooManyCells
-        → InhabitsMoreThan cap domain.now table.now.store.period table.now.vars.times
-        table.now.vars.texts (IsMissing domain.now table.now) }
+/// `TooManyCells` comes exactly where they inhabit more than the setting's number of cells of the table's period.
+pub fn complement(setting: &Setting<'_>, table: &Table) -> Result<Table, StepFault>
+    requires { CanComplement table.now }
+    ensures { IsComplementResult setting.now.cap setting.now.domain.now table.now result }
 {
-    let domain_size = domain.len();
+    let (alloc, cap) = (setting.alloc, setting.cap);
+    let domain_size = setting.domain.len();
     let vars = Vars {
         times: table.vars.times.copy(alloc)?,
         texts: table.vars.texts.copy(alloc)?,

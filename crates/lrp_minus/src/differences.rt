@@ -1,13 +1,8 @@
 // Differences of tables.
-ghost use Rattle.std.specs.Prelude.{◌≡◌, ◌+◌, ◌*◌, ◌-◌, ◌≤◌, ◌^◌, ◌≤ℤ◌, ℕ, List as Items, pos, nat_abs, IfOk, OnOk, Err};
-ghost use Rattle.lrp_theory.specs.Divides.{Divides};
-ghost use Rattle.lrp_model.specs.Texts.{Ascends, Text};
+ghost use Rattle.std.specs.Prelude.{◌≡◌, ◌+◌, ◌*◌, ℕ, OnOk, Err};
 ghost use Rattle.lrp_store.specs.Growing.{IsAdded, IsRefused};
 ghost use Rattle.lrp_store.specs.Stores.{HasReach, IsCellOf};
-ghost use Rattle.lrp_store.specs.Tables.{AreNumbered};
-ghost use Rattle.lrp_tables.specs.Calls.{AreVariablesOf};
-ghost use Rattle.lrp_tables.specs.Caps.{InhabitsMoreThan};
-ghost use Rattle.lrp_tables.specs.Tables.{IsLess, IsTableOf};
+ghost use Rattle.lrp_tables.specs.Steps.{CanMinus, IsMinusResult};
 ghost use Rattle.lrp_minus.specs.Absences.{IsLike};
 ghost use Rattle.lrp_minus.specs.Cutters.{CanSubtract, CanTake, HaveReach, IsSpared, IsSparedIn};
 
@@ -17,41 +12,23 @@ use crate::filling::add_left;
 use crate::taking::add_taken;
 use lrp_model::{Cell, Copies};
 use lrp_store::{Store, StoreFault};
-use lrp_tables::{StepFault, Table, Vars};
+use lrp_tables::{Setting, StepFault, Table, Vars};
 use std::alloc::Global;
 
 /// The assignments of the left table that are none of the right one, whose variables are among the left one's.
 ///
-/// `TooManyCells` comes exactly where they inhabit more than `cap` cells of the period. Only these cells are ever made.
+/// `TooManyCells` comes exactly where they inhabit more than the setting's number of cells of the period. Only these cells are
+/// ever made. The setting's constants play no part: the table is the same in each domain that has the left one's texts.
 pub fn minus(
-    alloc: Global,
+    setting: &Setting<'_>,
     left: &Table,
     right: &Table,
     period: i64,
-    cap: u32,
 ) -> Result<Table, StepFault>
-    requires low { pos 1 ≤ℤ period }
-    requires high { 2 * nat_abs period ≤ 2 ^ 62 }
-    requires left_period { Divides (pos left.now.store.period) period }
-    requires right_period { Divides (pos right.now.store.period) period }
-    requires left_reach { HasReach left.now.store (2 ^ 62 - 2 * nat_abs period) }
-    requires right_reach { HasReach right.now.store (2 ^ 62 - 2 * nat_abs period) }
-    requires columns { AreVariablesOf left.now right.now }
-    ensures table { IfOk result (λ made. (domain : Items Text) → Ascends domain
-        → AreNumbered domain left.now.store
-        → IsTableOf domain left.now.vars.times left.now.vars.texts (nat_abs period)
-        (IsLess domain left.now right.now) made) }
-    ensures reach { IfOk result (λ made. (high : ℕ) → HasReach left.now.store high
-        → HasReach right.now.store high → HasReach made.store (high + 2 * nat_abs period)) }
-    ensures few { OnOk result ((domain : Items Text) → Ascends domain
-        → AreNumbered domain left.now.store
-        → InhabitsMoreThan cap domain (nat_abs period) left.now.vars.times left.now.vars.texts
-        (IsLess domain left.now right.now) → ⊥) }
-    ensures many { result ≡ Err StepFault.TooManyCells → (domain : Items Text) → Ascends domain
-        → AreNumbered domain left.now.store
-        → InhabitsMoreThan cap domain (nat_abs period) left.now.vars.times left.now.vars.texts
-        (IsLess domain left.now right.now) }
+    requires { CanMinus period left.now right.now }
+    ensures { IsMinusResult setting.now.cap period left.now right.now result }
 {
+    let (alloc, cap) = (setting.alloc, setting.cap);
     let vars = Vars {
         times: left.vars.times.copy(alloc)?,
         texts: left.vars.texts.copy(alloc)?,
@@ -61,7 +38,7 @@ pub fn minus(
     right.store.shape();
     let mut out = Store::new(alloc, left.store.shape(), period);
     out.shape();
-    match add_less(alloc, &left.store, &right.store, &places, cap, &mut out) {
+    match add_minus(alloc, &left.store, &right.store, &places, cap, &mut out) {
         Ok(()) => Ok(Table { vars, store: out }),
         Err(StoreFault::TooManyCells) => Err(StepFault::TooManyCells),
         Err(StoreFault::Memory) => Err(StepFault::Memory),
@@ -69,7 +46,7 @@ pub fn minus(
 }
 
 // Adds the tuples of the left store that have none of the right one at the places, in cells of the period of `out`.
-fn add_less(
+fn add_minus(
     alloc: Global,
     left: &Store,
     right: &Store,

@@ -109,8 +109,8 @@ pub(crate) fn is_apart(last: Interval, next: Interval, period: i64) -> bool
     }
 }
 
-// An interval and one that begins no sooner, with no number of the cell between them.
-fn joined(last: Interval, next: Interval) -> Interval
+/// An interval and one that begins no sooner, with no number of the cell between them.
+pub(crate) fn joined(last: Interval, next: Interval) -> Interval
     ensures { (z : ZoneView) → 0 < z.period → IsInterval z last → IsInterval z next
         → BeginsBy last next → (LiesApart z.period last next → ⊥) → IsJoined z last next result }
 {

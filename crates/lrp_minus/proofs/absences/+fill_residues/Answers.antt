@@ -6,7 +6,7 @@ use Rattle.std.specs.Int.{w64}
 use Rattle.std.proofs.lemmas.Int.{ints}
 use Rattle.lrp_minus.specs.Absences.{IsAbsentAt, IsChosenTo}
 use Rattle.lrp_minus.proofs.AbsenceLaws.{IsBehind, period_word, next_word, behind_none, residue_chosen, residue_more, residue_refused}
-use Rattle.lrp_minus.proofs.Gathering.{IsGathering, gathering_none}
+use Rattle.lrp_tables.proofs.Gathering.{IsGathering, gathering_none}
 use Rattle.lrp_minus.proofs.absences.+fill_residues.Goals as goal
 
 pub loop-residue-init : goal.loop-residue-init

@@ -4,7 +4,7 @@ use Rattle.std.specs.Prelude.{pos, ◌≤ℤ◌}
 use Rattle.lrp_store.specs.Stores.{HasReach}
 use Rattle.lrp_minus.specs.Absences.{IsAbsentAt}
 use Rattle.lrp_minus.proofs.AbsenceLaws.{IsBehind}
-use Rattle.lrp_minus.proofs.Gathering.{IsGathering}
+use Rattle.lrp_tables.proofs.Gathering.{IsGathering}
 use Rattle.lrp_minus.proofs.absences.+fill_residues.Given as goal
 
 abbrev pub decreases-fill_residues : goal.decreases-fill_residues

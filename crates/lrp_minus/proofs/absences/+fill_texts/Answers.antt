@@ -3,7 +3,7 @@ use Rattle.std.proofs.Common.{◌≡◌, ◌+◌, ◌*◌, ◌<◌, ◌≤◌, �
 use Rattle.std.specs.Prelude.{ℤ, pos}
 use Rattle.lrp_minus.specs.Absences.{IsAbsent}
 use Rattle.lrp_minus.proofs.AbsenceLaws.{noughts, texts_added, texts_refused, chosen_more, text_more, text_refused}
-use Rattle.lrp_minus.proofs.Gathering.{gathering_none}
+use Rattle.lrp_tables.proofs.Gathering.{gathering_none}
 use Rattle.lrp_minus.proofs.Lists.{on_ok}
 use Rattle.lrp_minus.proofs.absences.+fill_texts.Goals as goal
 use Rattle.lrp_store.specs.Stores.{AreChosenTexts}

@@ -2,7 +2,7 @@
 use Rattle.std.proofs.Common.{ℕ, ◌-◌, ◌+◌, ◌*◌, ◌≤◌, get_or}
 use Rattle.lrp_store.specs.Stores.{HasReach}
 use Rattle.lrp_minus.specs.Absences.{IsAbsent}
-use Rattle.lrp_minus.proofs.Gathering.{IsGathering}
+use Rattle.lrp_tables.proofs.Gathering.{IsGathering}
 use Rattle.lrp_minus.proofs.absences.+fill_texts.Given as goal
 
 abbrev pub decreases-fill_texts : goal.decreases-fill_texts

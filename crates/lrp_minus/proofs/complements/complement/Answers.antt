@@ -5,22 +5,22 @@ use Rattle.lrp_minus.proofs.AbsenceLaws.{period_word}
 use Rattle.lrp_minus.proofs.ComplementLaws.{fresh_store, fresh_by, complement_table, complement_few, complement_reach, complement_many}
 use Rattle.lrp_minus.proofs.complements.complement.Goals as goal
 
-pub returns-in-Ok-clause-table : goal.returns-in-Ok-clause-table
-returns-in-Ok-clause-table c =
+pub returns-in-Ok : goal.returns-in-Ok
+returns-in-Ok c =
     let fresh : c.new-out.result ≡ fresh_store c.args.table.now.store = fresh_by c.args.table.now.store c.new-out.result _ _ c.new-out.ensures c.shape.ensures.value (ap nat_abs (period_word c.args.table.now.store c.shape.ensures.valid c.period.result c.period.ensures)) in
-    complement_table c.args.domain.now c.len-domain_size.ensures.ascending c.args.table.now c.len-domain_size.result c.len-domain_size.ensures.count (replicate 8 0) c.args.cap c.new-out.result c.fill_texts.new.out fresh c.shape-2.ensures.valid _ (c.in-Ok.ensures.ok _ c.requires.reach) _ c.in_ok-copy.ensures c.in_ok-copy-2.ensures refl
+    record {
+      table = complement_table c.args.setting.now.domain.now c.len-domain_size.ensures.ascending c.args.table.now c.len-domain_size.result c.len-domain_size.ensures.count (replicate 8 0) c.args.setting.now.cap c.new-out.result c.fill_texts.new.out fresh c.shape-2.ensures.valid _ (c.in-Ok.ensures.ok _ c.requires.reach) _ c.in_ok-copy.ensures c.in_ok-copy-2.ensures refl;
+      reach = λ high r. complement_reach c.args.setting.now.domain.now c.len-domain_size.ensures.ascending c.args.table.now c.len-domain_size.result c.len-domain_size.ensures.count (replicate 8 0) c.args.setting.now.cap c.new-out.result c.fill_texts.new.out fresh c.shape-2.ensures.valid _ (c.in-Ok.ensures.ok high r);
+      few = complement_few c.args.setting.now.domain.now c.len-domain_size.ensures.ascending c.args.table.now c.len-domain_size.result c.len-domain_size.ensures.count (replicate 8 0) c.args.setting.now.cap c.new-out.result c.fill_texts.new.out fresh c.shape-2.ensures.valid _ (c.in-Ok.ensures.ok _ c.requires.reach);
+      many = λ e. cc;
+    }
 
-pub returns-in-Ok-clause-reach : goal.returns-in-Ok-clause-reach
-returns-in-Ok-clause-reach c = λ high r.
+pub returns-in-Err-TooManyCells : goal.returns-in-Err-TooManyCells
+returns-in-Err-TooManyCells c =
     let fresh : c.new-out.result ≡ fresh_store c.args.table.now.store = fresh_by c.args.table.now.store c.new-out.result _ _ c.new-out.ensures c.shape.ensures.value (ap nat_abs (period_word c.args.table.now.store c.shape.ensures.valid c.period.result c.period.ensures)) in
-    complement_reach c.args.domain.now c.len-domain_size.ensures.ascending c.args.table.now c.len-domain_size.result c.len-domain_size.ensures.count (replicate 8 0) c.args.cap c.new-out.result c.fill_texts.new.out fresh c.shape-2.ensures.valid _ (c.in-Ok.ensures.ok high r)
-
-pub returns-in-Ok-clause-few : goal.returns-in-Ok-clause-few
-returns-in-Ok-clause-few c =
-    let fresh : c.new-out.result ≡ fresh_store c.args.table.now.store = fresh_by c.args.table.now.store c.new-out.result _ _ c.new-out.ensures c.shape.ensures.value (ap nat_abs (period_word c.args.table.now.store c.shape.ensures.valid c.period.result c.period.ensures)) in
-    complement_few c.args.domain.now c.len-domain_size.ensures.ascending c.args.table.now c.len-domain_size.result c.len-domain_size.ensures.count (replicate 8 0) c.args.cap c.new-out.result c.fill_texts.new.out fresh c.shape-2.ensures.valid _ (c.in-Ok.ensures.ok _ c.requires.reach)
-
-pub returns-in-Err-TooManyCells-clause-many : goal.returns-in-Err-TooManyCells-clause-many
-returns-in-Err-TooManyCells-clause-many c = λ e.
-    let fresh : c.new-out.result ≡ fresh_store c.args.table.now.store = fresh_by c.args.table.now.store c.new-out.result _ _ c.new-out.ensures c.shape.ensures.value (ap nat_abs (period_word c.args.table.now.store c.shape.ensures.valid c.period.result c.period.ensures)) in
-    complement_many c.args.domain.now c.len-domain_size.ensures.ascending c.args.table.now c.len-domain_size.result c.len-domain_size.ensures.count (replicate 8 0) c.args.cap c.new-out.result c.fill_texts.new.out fresh c.shape-2.ensures.valid _ (c.fill_texts.ensures.refused (c.in-Err-TooManyCells.is ∙ ap Err c.in-Err-TooManyCells.field-0-is) _ c.requires.reach)
+    record {
+      table = tt;
+      reach = tt;
+      few = tt;
+      many = λ e. complement_many c.args.setting.now.domain.now c.len-domain_size.ensures.ascending c.args.table.now c.len-domain_size.result c.len-domain_size.ensures.count (replicate 8 0) c.args.setting.now.cap c.new-out.result c.fill_texts.new.out fresh c.shape-2.ensures.valid _ (c.fill_texts.ensures.refused (c.in-Err-TooManyCells.is ∙ ap Err c.in-Err-TooManyCells.field-0-is) _ c.requires.reach);
+    }

@@ -2,7 +2,7 @@
 use Rattle.std.proofs.Common.{◌≡◌, ℕ, ◌+◌, ◌*◌}
 use Rattle.lrp_store.specs.Stores.{HasReach, zones_at}
 use Rattle.lrp_minus.specs.Cutters.{IsSparedIn}
-use Rattle.lrp_minus.proofs.Gathering.{IsGathering}
+use Rattle.lrp_tables.proofs.Gathering.{IsGathering}
 use Rattle.lrp_minus.proofs.Lists.{IsReadTo}
 use Rattle.lrp_minus.proofs.SparedLaws.{IsBehindZone}
 use Rattle.lrp_minus.proofs.differences.add_cells_within.Given as goal

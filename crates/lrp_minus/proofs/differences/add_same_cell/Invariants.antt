@@ -2,7 +2,7 @@
 use Rattle.std.proofs.Common.{ℕ, ◌+◌, ◌*◌}
 use Rattle.lrp_store.specs.Stores.{zones_at}
 use Rattle.lrp_minus.specs.Cutters.{HaveReach, IsSparedIn}
-use Rattle.lrp_minus.proofs.Gathering.{IsGathering}
+use Rattle.lrp_tables.proofs.Gathering.{IsGathering}
 use Rattle.lrp_minus.proofs.Lists.{IsReadTo}
 use Rattle.lrp_minus.proofs.SparedLaws.{IsBehindZone}
 use Rattle.lrp_minus.proofs.differences.add_same_cell.Given as goal

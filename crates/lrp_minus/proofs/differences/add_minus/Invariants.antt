@@ -4,9 +4,9 @@ use Rattle.std.specs.FinMap as finite
 use Rattle.lrp_model.specs.declared.tuples.Cell.{Cell}
 use Rattle.lrp_store.specs.Stores.{HasReach}
 use Rattle.lrp_minus.specs.Cutters.{IsSpared}
-use Rattle.lrp_minus.proofs.Gathering.{IsGathering}
+use Rattle.lrp_tables.proofs.Gathering.{IsGathering}
 use Rattle.lrp_minus.proofs.SparedLaws.{InCells}
-use Rattle.lrp_minus.proofs.differences.add_less.Given as goal
+use Rattle.lrp_minus.proofs.differences.add_minus.Given as goal
 
 abbrev pub invariant-loop-cell : goal.invariant-loop-cell
 invariant-loop-cell l = record {

@@ -5,9 +5,9 @@ use Rattle.lrp_model.specs.declared.tuples.Cell.{Cell}
 use Rattle.lrp_store.specs.Growing.{IsAdded, IsRefused}
 use Rattle.lrp_store.proofs.Aligning.{head_in, tail_in}
 use Rattle.lrp_minus.specs.Cutters.{CanSubtract, IsSpared, IsSparedIn}
-use Rattle.lrp_minus.proofs.Gathering.{IsGathering}
+use Rattle.lrp_tables.proofs.Gathering.{IsGathering}
 use Rattle.lrp_minus.proofs.SparedLaws.{InCells, key_proper, cells_all, cells_none, cells_more, cells_refused}
-use Rattle.lrp_minus.proofs.differences.add_less.Goals as goal
+use Rattle.lrp_minus.proofs.differences.add_minus.Goals as goal
 
 pub loop-cell-init : goal.loop-cell-init
 loop-cell-init c =
