@@ -21,7 +21,7 @@ use Rattle.lrp_tables.specs.Tables.{Has}
 use Rattle.lrp_tables.proofs.CellsNamed.{many_named, many_placed}
 use Rattle.lrp_tables.proofs.Named.{pairs_left, pairs_right}
 use Rattle.lrp_tables.proofs.TableMade.{tuples_of}
-use Rattle.lrp_eval.proofs.Counted.{many_map}
+use Rattle.lrp_tables.proofs.Mapped.{many_map}
 use Rattle.lrp_eval.proofs.Denotes.{in_left}
 use Rattle.lrp_eval.proofs.Named.{all_by}
 use Rattle.lrp_eval.proofs.SettleLaws.{is_decided}

@@ -14,45 +14,13 @@ use Rattle.lrp_model.specs.Steps.{PlanStep, step_at}
 use Rattle.lrp_model.specs.Plans.{plan}
 use Rattle.lrp_model.specs.declared.relations.Relation.{Relation}
 use Rattle.lrp_tables.specs.Caps.{Inhabits}
+use Rattle.lrp_tables.proofs.Mapped.{many_map}
 use Rattle.lrp_eval.specs.Running.{HasConstants, SameVariables}
 use Rattle.lrp_eval.proofs.Denotes.{Set}
 use Rattle.lrp_eval.proofs.Named.{all_of, all_by}
 
 all_from : {X : Type 0} (p : X → Type 0) (xs ys : List X) → ((x : X) → Contains ys x → Contains xs x) → AllByRecursion p xs → AllByRecursion p ys
 all_from p xs ys s h = all_by p ys (λ x c. all_of p xs x h (s x c))
-
-at_map : {C D : Type 0} (f : C → D) (xs : List C) (i : ℕ) (d : D) (c : C) → i < length xs → slice_index_or (map f xs) i d ≡ f (slice_index_or xs i c)
-at_map f [] i d c lt = absurd (omega arith)
-at_map f (x ∷ xs) zero d c lt = refl
-at_map f (x ∷ xs) (suc i) d c lt = at_map f xs i d c (omega arith)
-
-all_at : {C : Type 0} (p : C → Type 0) (xs : List C) (i : ℕ) (c : C) → i < length xs → AllByRecursion p xs → p (slice_index_or xs i c)
-all_at p [] i c lt h = absurd (omega arith)
-all_at p (x ∷ xs) zero c lt h = h.0
-all_at p (x ∷ xs) (suc i) c lt h = all_at p xs i c (omega arith) h.1
-
-some_of : {C : Type 0} (xs : List C) (i : ℕ) → i < length xs → C
-some_of [] i lt = absurd (omega arith)
-some_of (x ∷ xs) i lt = x
-
-all_map : {C D : Type 0} (f : C → D) (p : C → Type 0) (q : D → Type 0) (xs : List C) → ((c : C) → p c → q (f c)) → AllByRecursion p xs → AllByRecursion q (map f xs)
-all_map f p q [] h a = tt
-all_map f p q (x ∷ xs) h a = (h x a.0, all_map f p q xs h a.1)
-
--- ---- many cells of one kind give as many of another
-
-module _ {C D : Type 0} (f : C → D) (differ : C → C → Type 0) (apart : D → D → Type 0) (p : C → Type 0) (q : D → Type 0)
-    (moves : (c : C) → p c → q (f c)) (parts : (a b : C) → p a → p b → differ a b → apart (f a) (f b)) where
-  pairs : (xs : List C) → AllByRecursion p xs → AllPairs differ xs → AllPairs apart (map f xs)
-  pairs xs h a i j d lt below =
-      let inside : j < length xs = subst (λ n. j < n) (length-map xs f) below in
-      let first : i < length xs = omega (arith, inside, lt) in
-      let c : C = some_of xs j inside in
-      let r : apart (f (slice_index_or xs i c)) (f (slice_index_or xs j c)) = parts _ _ (all_at p xs i c first h) (all_at p xs j c inside h) (a i j c lt inside) in
-      subst (λ x. apart x (slice_index_or (map f xs) j d)) (sym (at_map f xs i d c first)) (subst (λ y. apart (f (slice_index_or xs i c)) y) (sym (at_map f xs j d c inside)) r)
-
-  pub many_map : (cap : ℕ) → Many differ p cap → Many apart q cap
-  many_map cap m = record { cells = map f m.cells; count = length-map m.cells f ∙ m.count; apart = pairs m.cells m.each m.apart; each = all_map f p q m.cells moves m.each }
 
 -- ---- cells over names
 

@@ -1,5 +1,5 @@
 -- The step `head`.
-use Rattle.std.proofs.Common.{◌≡◌, ◌↔◌, ⊎_elim, ℕ, suc, List, ◌++◌, length, Contains, refl, sym, ap, ap₂, subst, ◌∙◌, arith}
+use Rattle.std.proofs.Common.{◌≡◌, ◌↔◌, ⊎_elim, ℕ, suc, List, ◌++◌, length, Contains, Ok, Result, refl, sym, ap, ap₂, subst, ◌∙◌, arith}
 use Rattle.std.specs.Prelude.{ℤ}
 use Rattle.lrp_model.specs.Texts.{Text}
 use Rattle.lrp_model.specs.Formulas.{Question}
@@ -8,28 +8,29 @@ use Rattle.lrp_model.specs.Variables.{Variable, time_variable, data_variable, fr
 use Rattle.lrp_model.specs.Satisfaction.{Assignment, Satisfies, structure}
 use Rattle.lrp_model.specs.Domains.{constants}
 use Rattle.lrp_model.specs.Cells.{Differ, Many}
-use Rattle.lrp_model.specs.Caps.{ManyAt, step_variables, variables_with}
+use Rattle.lrp_model.specs.Caps.{step_variables, variables_with}
 use Rattle.lrp_model.specs.Steps.{formula_at, reach_at}
 use Rattle.lrp_model.specs.Plans.{plan, core_steps}
 use Rattle.lrp_model.specs.declared.relations.Relation.{Relation}
 use Rattle.lrp_model.specs.declared.plans.StepKind.TheVariants.{Extend}
 use Rattle.lrp_store.specs.Stores.{HasReach}
 use Rattle.lrp_store.specs.Tables.{AreNumbered}
+use Rattle.lrp_store.specs.declared.table.StepFault.{StepFault}
 use Rattle.lrp_store.specs.declared.table.Table.{Table}
-use Rattle.lrp_tables.specs.Calls.{CanExtend}
 use Rattle.lrp_tables.specs.Caps.{Inhabits, InhabitsMoreThan}
 use Rattle.lrp_tables.specs.Columns.{head_times, head_texts}
+use Rattle.lrp_tables.specs.Steps.{CanExtend, IsExtendResult}
 use Rattle.lrp_tables.specs.Tables.{Has, HasTexts, IsTableOf, IsExtended, named_variables}
 use Rattle.lrp_tables.proofs.HeadNames.{head_names_differ}
 use Rattle.lrp_tables.proofs.TableLaws.{table_texts}
 use Rattle.lrp_plan_laws.specs.Scopes.{IsNarrow}
 use Rattle.lrp_plan_laws.proofs.Elements.{formula_front, formula_made}
 use Rattle.lrp_plan_laws.proofs.PlanSound.{steps_say}
-use Rattle.lrp_eval.specs.Running.{HasConstants, variables_of, IsStepTable, IsOperand, IsNext}
-use Rattle.lrp_eval.proofs.Counted.{many_map}
+use Rattle.lrp_tables.proofs.Mapped.{many_map}
+use Rattle.lrp_eval.specs.Running.{HasConstants, variables_of, IsStepTable, IsOperand, IsNext, IsRunResult}
 use Rattle.lrp_eval.proofs.Denotes.{in_left, in_one}
 use Rattle.lrp_eval.proofs.Named.{all_by, head_columns, times_in_head, texts_in_head, time_named, data_named, are_texts}
-use Rattle.lrp_eval.proofs.Nexts.{IsRead, formula_kind, reach_kind, keeps_kind, denotes_of, many_read, sound_plan, too_many, run, run_of, IsMeant}
+use Rattle.lrp_eval.proofs.Nexts.{IsRead, formula_kind, reach_kind, keeps_kind, denotes_of, many_read, sound_plan, ran, run_of, IsMeant}
 use Rattle.lrp_eval.proofs.Reading.{earlier, reach_within, numbered, first_differ, second_differ}
 
 module _ {db : List Relation} {q : Question} {cap : ℕ} {domain : List Text} {tables : List Table} {of : ℕ} {period : ℤ} (n : IsNext db q cap domain tables (Extend of) period) {table : Table} (o : IsOperand tables of table) where
@@ -43,14 +44,15 @@ module _ {db : List Relation} {q : Question} {cap : ℕ} {domain : List Text} {t
   among : (v : Variable) → Contains (variables_of table) v → Contains (head_variables q.head) v
   among v c = (sound_plan n).core v (subst (λ l. Contains (free (formula_at (plan db q) l)) v) (formula_kind n).0 (((denotes_of n of table before o).variables v).0 c))
 
-  pub head_numbered : AreNumbered domain table.store
+  head_numbered : AreNumbered domain table.store
   head_numbered = numbered n o before
 
   narrow : IsNarrow (head_variables q.head ++ free q.body)
   narrow = n.planned.1.settled.whole
 
-  pub can_extend : CanExtend q.head table
+  pub can_extend : CanExtend domain q.head table
   can_extend = record {
+    numbered = head_numbered;
     times = λ v c. (times_in_head q.head v).1 (among (time_variable v) ((time_named table.vars.times table.vars.texts v).1 c));
     texts = λ v c. (texts_in_head q.head v).1 (among (data_variable v) ((data_named table.vars.times table.vars.texts v).1 c));
     names = n.planned.1.settled.names;
@@ -94,16 +96,10 @@ module _ {db : List Relation} {q : Question} {cap : ℕ} {domain : List Text} {t
   same_period : table.store.period ≡ n.step.period
   same_period = (run_of n of table before o).period ∙ sym (keeps_kind n)
 
-  pub head_many : InhabitsMoreThan cap domain table.store.period (head_times q.head) (head_texts q.head) (IsExtended domain q.head table) → ManyAt db q cap (suc (length tables))
-  head_many = too_many n _ _ _ _ is_meant same_period
-
-  pub head_run : (made : Table) → IsTableOf domain (head_times q.head) (head_texts q.head) table.store.period (IsExtended domain q.head table) made
-      → ((high : ℕ) → HasReach table.store high → HasReach made.store high)
-      → (InhabitsMoreThan cap domain table.store.period (head_times q.head) (head_texts q.head) (IsExtended domain q.head table) → ⊥) → IsStepTable db q cap (suc (length tables)) made
-  head_run made is reach few =
-      run n _ _ _ _ is_meant same_period made is
-      (subst (λ r. HasReach made.store r) (sym (reach_kind n)) (reach (reach_at (plan db q) of) (reach_within n o before (reach_at (plan db q) of) (omega arith))))
-      few (λ step l at kind. (is.times_are, is.texts_are))
+  pub head_ran : (result : Result Table StepFault) → IsExtendResult cap domain q.head table result → IsRunResult db q cap (suc (length tables)) result
+  head_ran result is =
+      let most : ℕ = reach_at (plan db q) of in
+      ran n _ _ _ _ is_meant same_period (HasReach table.store) (λ high. high) most (reach_within n o before most (omega arith)) (sym (reach_kind n)) (λ t i step l at kind. (i.times_are, i.texts_are)) result is
 
   -- a table that has the head's columns already is that of the step
   module _ (times : table.vars.times ≡ head_times q.head) (texts : table.vars.texts ≡ head_texts q.head) where
@@ -129,4 +125,4 @@ module _ {db : List Relation} {q : Question} {cap : ℕ} {domain : List Text} {t
         (run_of n of table before o).few (many_read n of table before o table.store.period (run_of n of table before o).period told)
 
     pub head_stands : IsStepTable db q cap (suc (length tables)) table
-    head_stands = head_run table as_it_is (λ high r. r) no_more
+    head_stands = (head_ran (Ok table) (record { table = as_it_is; reach = λ high r. r; few = no_more; many = λ e. cc })).table

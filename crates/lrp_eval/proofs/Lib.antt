@@ -25,5 +25,7 @@ pub mod WayLaws
 pub mod ReachLaws
 pub mod ShownLaws
 pub mod NarrowLaws
+pub mod ComplementCounts
+pub mod ComplementJoins
 pub mod TogetherLaws
 pub mod ProjectionLaws

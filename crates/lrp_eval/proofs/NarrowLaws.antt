@@ -1,22 +1,24 @@
 -- What a table has beside a difference is what it has beside the difference of their join.
-use Rattle.std.proofs.Common.{◌≡◌, ◌≤◌, ◌+◌, ◌-◌, ◌*◌, ◌^◌, ⊎_elim, inr, ℕ, Bool, true, false, cond, List, [], ◌∷◌, Contains, map, bytes_eq, refl, sym, ap, ap₂, subst, ◌∙◌, arith, to_z, of_z, w64}
-use Rattle.std.specs.Prelude.{ℤ, pos, nat_abs, ◌≤ℤ◌}
+use Rattle.std.proofs.Common.{◌≡◌, ◌≤◌, ◌+◌, ◌-◌, ◌*◌, ◌^◌, ⊎_elim, inr, ℕ, Bool, true, false, cond, List, [], ◌∷◌, Contains, map, bytes_eq, Err, Ok, Result, refl, sym, ap, ap₂, subst, ◌∙◌, arith, to_z, of_z, w64}
+use Rattle.std.specs.Prelude.{ℤ, pos, nat_abs, ◌≤ℤ◌, IfOk}
+use Rattle.std.specs.List.{AllByRecursion}
 use Rattle.std.proofs.lemmas.Int.{ints}
 use Rattle.std.specs.Cmp.Lexicographic.{bytes_decides}
 use Rattle.lrp_theory.specs.Divides.{Divides}
 use Rattle.lrp_theory.proofs.Modulo.{Divides-self}
-use Rattle.lrp_model.specs.Texts.{Text, Identifier, Ascends}
+use Rattle.lrp_model.specs.Texts.{Text, Identifier}
 use Rattle.lrp_model.specs.Rows.{time}
 use Rattle.lrp_model.specs.Satisfaction.{Assignment, with_value}
 use Rattle.lrp_model.specs.declared.formulas.Test.{Test}
 use Rattle.lrp_model.proofs.Decided.{contains_first, contains_later}
 use Rattle.lrp_store.specs.Stores.{HasReach}
-use Rattle.lrp_store.specs.Tables.{AreNumbered, StoreHolds}
+use Rattle.lrp_store.specs.Tables.{StoreHolds}
+use Rattle.lrp_store.specs.declared.table.StepFault.{StepFault}
 use Rattle.lrp_store.specs.declared.table.Table.{Table}
-use Rattle.lrp_tables.specs.Calls.{AreVariablesOf, tests_reach}
-use Rattle.lrp_tables.specs.Caps.{InhabitsMoreThan}
+use Rattle.lrp_tables.specs.Calls.{AreVariablesOf, CanBeCarried, tests_reach}
 use Rattle.lrp_tables.specs.Columns.{joint}
-use Rattle.lrp_tables.specs.Tables.{Has, IsJoined, IsLess, IsTableOf}
+use Rattle.lrp_tables.specs.Steps.{CanJoin, CanMinus, IsJoinResult, IsMinusResult}
+use Rattle.lrp_tables.specs.Tables.{Has, IsJoined, IsMinus, IsTableOf}
 use Rattle.lrp_tables.proofs.DropCounts.{of_others}
 use Rattle.lrp_algebra.specs.Tables.{IsTimeDropped}
 use Rattle.lrp_eval.specs.Together.{CanNarrow, IsNarrow, IsNarrowed}
@@ -56,7 +58,7 @@ module _ {domain : List Text} {of : Sides} {name : Identifier} {period : ℤ} (c
   abbrev right_table : Table
   right_table = of.right.now
 
-  moved : (env : Assignment) (x : ℤ) → Has from_table domain env → Has from_table domain (with_value name (time x) env)
+  pub moved : (env : Assignment) (x : ℤ) → Has from_table domain env → Has from_table domain (with_value name (time x) env)
   moved env x h = subst (λ xs. StoreHolds domain from_table.store xs (map env.texts from_table.vars.texts)) (sym (moved_times from_table.vars.times name x env can.fresh)) h
 
   -- ---- the join
@@ -70,13 +72,22 @@ module _ {domain : List Text} {of : Sides} {name : Identifier} {period : ℤ} (c
   pub left_joins : HasReach left_table.store (2 ^ 62 - nat_abs period)
   left_joins = reach_up left_table.store (2 ^ 59) _ (let h = can.high in omega arith) can.left_reach
 
-  pub no_tests_reach : tests_reach [] + nat_abs period ≤ 2 ^ 62
+  no_tests_reach : tests_reach [] + nat_abs period ≤ 2 ^ 62
   no_tests_reach = let h = can.high in omega arith
 
-  module _ {tests : List Test} (none : tests ≡ []) {part : Table} (joined : IsTableOf domain (joint from_table.vars.times left_table.vars.times) (joint from_table.vars.texts left_table.vars.texts) (nat_abs period) (IsJoined domain from_table left_table tests) part)
-      (joined_reach : (high : ℕ) → HasReach from_table.store high → HasReach left_table.store high → tests_reach tests ≤ high → HasReach part.store (high + nat_abs period)) where
+  pub twice : 2 * nat_abs period ≤ 2 ^ 62
+  twice = let h = can.high in omega arith
+
+  pub joins : {tests : List Test} → tests ≡ [] → CanJoin period from_table left_table tests
+  joins {tests} none = record {
+    tables = record { low = can.low; high = join_high; left_period = can.from_period; right_period = can.left_period; left_reach = from_joins; right_reach = left_joins; columns = can.meet };
+    carried = subst (λ ts. AllByRecursion (CanBeCarried (joint from_table.vars.times left_table.vars.times) (joint from_table.vars.texts left_table.vars.texts) period) ts) (sym none) tt;
+    tests_small = subst (λ ts. tests_reach ts + nat_abs period ≤ 2 ^ 62) (sym none) no_tests_reach;
+  }
+
+  module _ {cap : ℕ} {tests : List Test} (none : tests ≡ []) {part : Table} (joined : IsJoinResult cap domain period from_table left_table tests (Ok part)) where
     p : IsTableOf domain (joint from_table.vars.times left_table.vars.times) (joint from_table.vars.texts left_table.vars.texts) (nat_abs period) (IsJoined domain from_table left_table []) part
-    p = subst (λ ts. IsTableOf domain (joint from_table.vars.times left_table.vars.times) (joint from_table.vars.texts left_table.vars.texts) (nat_abs period) (IsJoined domain from_table left_table ts) part) none joined
+    p = subst (λ ts. IsTableOf domain (joint from_table.vars.times left_table.vars.times) (joint from_table.vars.texts left_table.vars.texts) (nat_abs period) (IsJoined domain from_table left_table ts) part) none joined.table
 
     natural : pos (nat_abs period) ≡ period
     natural = let l = can.low in omega (arith, ints)
@@ -84,52 +95,51 @@ module _ {domain : List Text} {of : Sides} {name : Identifier} {period : ℤ} (c
     same_divides : (k : ℕ) → k ≡ nat_abs period → Divides (pos k) period
     same_divides k e = subst (λ z. Divides z period) (sym (ap pos e ∙ natural)) (Divides-self period)
 
-    pub twice : 2 * nat_abs period ≤ 2 ^ 62
-    twice = let h = can.high in omega arith
-
-    pub part_period : Divides (pos part.store.period) period
+    part_period : Divides (pos part.store.period) period
     part_period = same_divides part.store.period p.period_is
 
     part_small : HasReach part.store (2 ^ 59 + nat_abs period)
-    part_small = joined_reach (2 ^ 59) can.from_reach can.left_reach (subst (λ ts. tests_reach ts ≤ 2 ^ 59) (sym none) (omega arith))
+    part_small = joined.reach (2 ^ 59) (record { left_reach = can.from_reach; right_reach = can.left_reach; tests_small = subst (λ ts. tests_reach ts ≤ 2 ^ 59) (sym none) (omega arith) })
 
-    pub part_reach : HasReach part.store (2 ^ 62 - 2 * nat_abs period)
+    part_reach : HasReach part.store (2 ^ 62 - 2 * nat_abs period)
     part_reach = reach_up part.store _ _ (let h = can.high in omega arith) part_small
 
-    pub right_reach : HasReach right_table.store (2 ^ 62 - 2 * nat_abs period)
-    right_reach = reach_up right_table.store (2 ^ 59) _ (let h = can.high in omega arith) can.right_reach
+    right_small : HasReach right_table.store (2 ^ 62 - 2 * nat_abs period)
+    right_small = reach_up right_table.store (2 ^ 59) _ (let h = can.high in omega arith) can.right_reach
 
-    pub part_columns : AreVariablesOf part right_table
+    part_columns : AreVariablesOf part right_table
     part_columns = record {
       times = λ v c. subst (λ vs. Contains vs v) (sym p.times_are) ((in_joint from_table.vars.times left_table.vars.times v).1 (inr (can.columns.times v c)));
       texts = λ v c. subst (λ vs. Contains vs v) (sym p.texts_are) ((in_joint from_table.vars.texts left_table.vars.texts v).1 (inr (can.columns.texts v c)));
     }
 
-    module _ {rest : Table} (r : (d : List Text) → Ascends d → AreNumbered d part.store → IsTableOf d part.vars.times part.vars.texts (nat_abs period) (IsLess d part right_table) rest)
-        (r_reach : (high : ℕ) → HasReach part.store high → HasReach right_table.store high → HasReach rest.store (high + 2 * nat_abs period)) where
-      rest_is : IsTableOf domain part.vars.times part.vars.texts (nat_abs period) (IsLess domain part right_table) rest
-      rest_is = r domain can.ascends p.numbered
+    pub part_minus : CanMinus period part right_table
+    part_minus = record { low = can.low; high = twice; left_period = part_period; right_period = can.right_period; left_reach = part_reach; right_reach = right_small; columns = part_columns }
+
+    module _ {rest : Table} (r : IsMinusResult cap period part right_table (Ok rest)) where
+      rest_is : IsTableOf domain part.vars.times part.vars.texts (nat_abs period) (IsMinus domain part right_table) rest
+      rest_is = (r.step domain can.ascends p.numbered).table
 
       rest_small : HasReach rest.store (2 ^ 59 + nat_abs period + 2 * nat_abs period)
-      rest_small = r_reach (2 ^ 59 + nat_abs period) part_small (reach_up right_table.store (2 ^ 59) _ (omega arith) can.right_reach)
+      rest_small = r.reach (2 ^ 59 + nat_abs period) (record { left_reach = part_small; right_reach = reach_up right_table.store (2 ^ 59) _ (omega arith) can.right_reach })
 
       pub rest_reach : HasReach rest.store (2 ^ 61)
       rest_reach = reach_up rest.store _ _ (let h = can.high in omega arith) rest_small
 
       module _ {taken : Table} (t : IsTimeDropped name rest taken) where
-        pub taken_period : Divides (pos taken.store.period) period
+        taken_period : Divides (pos taken.store.period) period
         taken_period = same_divides taken.store.period (t.period ∙ rest_is.period_is)
 
-        pub taken_reach : HasReach taken.store (2 ^ 62 - 2 * nat_abs period)
+        taken_reach : HasReach taken.store (2 ^ 62 - 2 * nat_abs period)
         taken_reach = reach_up taken.store _ _ (let h = can.high in omega arith) (t.reach _ rest_small)
 
-        pub from_reach : HasReach from_table.store (2 ^ 62 - 2 * nat_abs period)
-        from_reach = reach_up from_table.store (2 ^ 59) _ (let h = can.high in omega arith) can.from_reach
+        from_small : HasReach from_table.store (2 ^ 62 - 2 * nat_abs period)
+        from_small = reach_up from_table.store (2 ^ 59) _ (let h = can.high in omega arith) can.from_reach
 
         in_from : (v : Identifier) → Contains (joint from_table.vars.times left_table.vars.times) v → bytes_eq name v ≡ false → Contains from_table.vars.times v
         in_from v c other = ⊎_elim (λ a. a) (λ b. can.times v b other) ((in_joint from_table.vars.times left_table.vars.times v).0 c)
 
-        pub taken_columns : AreVariablesOf from_table taken
+        taken_columns : AreVariablesOf from_table taken
         taken_columns = record {
           times = λ v c.
               let o = of_others name rest.vars.times v (subst (λ vs. Contains vs v) t.times c) in
@@ -137,7 +147,7 @@ module _ {domain : List Text} {of : Sides} {name : Identifier} {period : ℤ} (c
           texts = λ v c. ⊎_elim (λ a. a) (λ b. can.texts v b) ((in_joint from_table.vars.texts left_table.vars.texts v).0 (subst (λ vs. Contains vs v) (t.texts ∙ rest_is.texts_are ∙ p.texts_are) c));
         }
 
-        to : (env : Assignment) → IsLess domain from_table taken env → IsNarrow domain of name env
+        to : (env : Assignment) → IsMinus domain from_table taken env → IsNarrow domain of name env
         to env h = record {
           has = h.has;
           none = λ c. h.none (t.from domain env c.0 (rest_is.whole (with_value name (time c.0) env) (record {
@@ -146,7 +156,7 @@ module _ {domain : List Text} {of : Sides} {name : Identifier} {period : ℤ} (c
           })));
         }
 
-        from : (env : Assignment) → IsNarrow domain of name env → IsLess domain from_table taken env
+        from : (env : Assignment) → IsNarrow domain of name env → IsMinus domain from_table taken env
         from env h = record {
           has = h.has;
           none = λ c.
@@ -155,11 +165,15 @@ module _ {domain : List Text} {of : Sides} {name : Identifier} {period : ℤ} (c
               h.none (x.0, record { has = (p.sound (with_value name (time x.0) env) l.has).in_right; none = l.none });
         }
 
-        pub narrowed : (cap : ℕ) (made : Table) → ((d : List Text) → Ascends d → AreNumbered d from_table.store → IsTableOf d from_table.vars.times from_table.vars.texts (nat_abs period) (IsLess d from_table taken) made)
-            → ((d : List Text) → Ascends d → AreNumbered d from_table.store → InhabitsMoreThan cap d (nat_abs period) from_table.vars.times from_table.vars.texts (IsLess d from_table taken) → ⊥) → IsNarrowed domain of name period cap made
-        narrowed cap made is few =
-            let m = is domain can.ascends can.from_numbered in
+        pub taken_minus : CanMinus period from_table taken
+        taken_minus = record { low = can.low; high = twice; left_period = can.from_period; right_period = taken_period; left_reach = from_small; right_reach = taken_reach; columns = taken_columns }
+
+        pub narrowed : (result : Result Table StepFault) → IsMinusResult cap period from_table taken result → IfOk result (IsNarrowed domain of name period cap)
+        narrowed (Ok made) is =
+            let step = is.step domain can.ascends can.from_numbered in
+            let m = step.table in
             record {
               is = record { times_are = m.times_are; texts_are = m.texts_are; period_is = m.period_is; sound = λ env h. to env (m.sound env h); whole = λ env h. m.whole env (from env h); numbered = m.numbered };
-              few = λ many. few domain can.ascends can.from_numbered (more_of cap domain (nat_abs period) from_table.vars.times from_table.vars.texts (IsNarrow domain of name) (IsLess domain from_table taken) from many);
+              few = λ many. step.few (more_of cap domain (nat_abs period) from_table.vars.times from_table.vars.texts (IsNarrow domain of name) (IsMinus domain from_table taken) from many);
             }
+        narrowed (Err fault) is = tt

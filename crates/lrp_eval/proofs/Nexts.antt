@@ -1,5 +1,5 @@
 -- What is known of the next step of a plan, of the tables that it reads, and what its own table has to be.
-use Rattle.std.proofs.Common.{◌≡◌, ◌↔◌, ◌≤◌, ◌<◌, ◌+◌, ◌-◌, ◌*◌, ◌^◌, ℕ, zero, suc, List, [], ◌∷◌, length, Some, map, refl, sym, ap, ap₂, subst, ◌∙◌, arith, slice_get, unwrap_or, option_map}
+use Rattle.std.proofs.Common.{◌≡◌, ◌↔◌, ◌≤◌, ◌<◌, ◌+◌, ◌-◌, ◌*◌, ◌^◌, ℕ, zero, suc, List, [], ◌∷◌, length, Some, map, refl, sym, ap, ap₂, subst, ◌∙◌, arith, slice_get, unwrap_or, option_map, Result, Ok, Err}
 use Rattle.std.proofs.Common.{add-one, mul_assoc}
 use Rattle.std.proofs.Math.Nat.{pow-succ', mul-le-mul_right}
 use Rattle.std.specs.Prelude.{ℤ, pos, nat_abs, flat_map, Contains}
@@ -23,8 +23,10 @@ use Rattle.lrp_model.specs.declared.plans.StepKind.{StepKind}
 use Rattle.lrp_model.specs.declared.plans.StepKind.TheVariants.{Scan, Leaf, Sort as SortStep, Join, Select, Union, Minus, Complement, DropTime, DropData, Extend}
 use Rattle.lrp_model.proofs.DomainLaws.{in_order_ascends}
 use Rattle.lrp_store.specs.Stores.{HasReach}
+use Rattle.lrp_store.specs.declared.table.StepFault.{StepFault}
 use Rattle.lrp_store.specs.declared.table.Table.{Table}
 use Rattle.lrp_tables.specs.Caps.{Inhabits, InhabitsMoreThan}
+use Rattle.lrp_tables.specs.Steps.{IsStepResult}
 use Rattle.lrp_tables.specs.Tables.{Has, IsTableOf, named_variables}
 use Rattle.lrp_plan_laws.specs.Made.{IsMade, IsFormula, HasVariables, operands, head_step}
 use Rattle.lrp_plan_laws.specs.Rising.{IsRising, KeepsPeriod, period_at}
@@ -33,7 +35,7 @@ use Rattle.lrp_plan_laws.specs.Settled.{IsSoundPlan, IsSoundStep}
 use Rattle.lrp_plan_laws.proofs.SettledLaws.{sound}
 use Rattle.lrp_plan_laws.proofs.Elements.{length_made}
 use Rattle.lrp_plan_laws.proofs.NarrowLaws.{no_other_head}
-use Rattle.lrp_eval.specs.Running.{HasConstants, SameVariables, variables_of, variables_at, IsStepTable, IsOperand, IsNext, IsInOrder}
+use Rattle.lrp_eval.specs.Running.{HasConstants, SameVariables, variables_of, variables_at, IsStepTable, IsOperand, IsNext, IsNumbered, IsRunResult}
 use Rattle.lrp_eval.proofs.Denotes.{Set, Denotes}
 use Rattle.lrp_eval.proofs.Counted.{many_at}
 
@@ -211,7 +213,7 @@ module _ {db : List Relation} {q : Question} {cap : ℕ} {domain : List Text} {t
     too_many h = cap_of.0 h
 
     -- a table of the set is the step's table
-    pub run : (t : Table) → IsTableOf domain times texts K set t → HasReach t.store n.step.reach → (InhabitsMoreThan cap domain K times texts set → ⊥) → IsInOrder db q (suc (length tables)) t → IsStepTable db q cap (suc (length tables)) t
+    pub run : (t : Table) → IsTableOf domain times texts K set t → HasReach t.store n.step.reach → (InhabitsMoreThan cap domain K times texts set → ⊥) → IsNumbered db q (suc (length tables)) t → IsStepTable db q cap (suc (length tables)) t
     run t is reach few order =
         let d : IsTableOf (constants db q) times texts K set t = subst (λ c. IsTableOf c times texts K set t) n.domain_is is in
         let vs : variables_of t ≡ named_variables times texts = ap₂ named_variables d.times_are d.texts_are in
@@ -227,8 +229,14 @@ module _ {db : List Relation} {q : Question} {cap : ℕ} {domain : List Text} {t
           order = order;
         }
 
+    -- what a step makes of the set is what running it makes
+    pub ran : (has : ℕ → Type 0) (most : ℕ → ℕ) (high : ℕ) → has high → most high ≡ n.step.reach → ((t : Table) → IsTableOf domain times texts K set t → IsNumbered db q (suc (length tables)) t)
+        → (result : Result Table StepFault) → IsStepResult cap domain times texts K set has most result → IsRunResult db q cap (suc (length tables)) result
+    ran has most high h e order (Ok t) is = record { table = run t is.table (subst (λ r. HasReach t.store r) e (is.reach high h)) is.few (order t is.table); many = λ x. too_many (is.many x) }
+    ran has most high h e order (Err fault) is = record { table = tt; many = λ x. too_many (is.many x) }
+
   -- no order is asked of a step other than `head`
-  pub no_order : ((of : ℕ) → kind ≡ Extend of → ⊥) → (t : Table) → IsInOrder db q (suc (length tables)) t
+  pub no_order : ((of : ℕ) → kind ≡ Extend of → ⊥) → (t : Table) → IsNumbered db q (suc (length tables)) t
   no_order other t step of at e =
       let same : n.step ≡ step = cc (n.at, at) in
       absurd (other of (n.kind_is ∙ ap (λ s. s.kind) same ∙ e))

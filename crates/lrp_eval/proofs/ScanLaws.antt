@@ -1,7 +1,8 @@
 -- The steps of an atom, and of the texts of a sort.
-use Rattle.std.proofs.Common.{◌≡◌, ◌≤◌, ◌+◌, ◌*◌, ◌^◌, ⊎_elim, ℕ, suc, Bool, true, false, not, cond, List, [], ◌∷◌, length, map, Option, Some, None, Contains, refl, sym, ap, subst, ◌∙◌, arith, bytes_eq}
+use Rattle.std.proofs.Common.{◌≡◌, ◌≤◌, ◌+◌, ◌*◌, ◌^◌, ⊎_elim, ℕ, suc, Bool, true, false, not, cond, List, [], ◌∷◌, length, map, Option, Some, None, Contains, Result, refl, sym, ap, subst, ◌∙◌, arith, bytes_eq}
 use Rattle.std.specs.Prelude.{ℤ, pos, nat_abs, flat_map, MatchOption}
 use Rattle.std.specs.List.{AllByRecursion, AllZip}
+use Rattle.std.proofs.lemmas.Int.{ints}
 use Rattle.lrp_theory.specs.Divides.{Divides}
 use Rattle.lrp_model.specs.Texts.{Text, Identifier}
 use Rattle.lrp_model.specs.Formulas.{Question, atom}
@@ -10,7 +11,6 @@ use Rattle.lrp_model.specs.Rows.{text, IsInRow, rows_of, rows_in, relation_named
 use Rattle.lrp_model.specs.Variables.{time_variable, data_variable, free}
 use Rattle.lrp_model.specs.Satisfaction.{structure}
 use Rattle.lrp_model.specs.Domains.{constants, row_texts, database_texts}
-use Rattle.lrp_model.specs.Caps.{ManyAt}
 use Rattle.lrp_model.specs.Periods.{IsMultiple, value_periods}
 use Rattle.lrp_model.specs.Reach.{greatest, scan_reach}
 use Rattle.lrp_model.specs.declared.relations.Sort.{Sort}
@@ -26,20 +26,20 @@ use Rattle.lrp_model.specs.declared.formulas.Term.TheVariants.{Time as time_term
 use Rattle.lrp_model.specs.declared.plans.StepKind.TheVariants.{Scan, Sort as SortStep, Extend}
 use Rattle.lrp_model.proofs.Decided.{cons_cases, contains_first, contains_later, contains_none}
 use Rattle.lrp_model.proofs.Logic.{all_append}
-use Rattle.lrp_store.specs.Stores.{HasReach}
+use Rattle.lrp_store.specs.declared.table.StepFault.{StepFault}
 use Rattle.lrp_store.specs.declared.table.Table.{Table}
-use Rattle.lrp_tables.specs.Calls.{CanScan, CanBeRow, CanStand, IsColumnBound, HasText}
-use Rattle.lrp_tables.specs.Caps.{InhabitsMoreThan}
+use Rattle.lrp_tables.specs.Calls.{CanBeRow, CanStand, IsColumnBound, HasText}
 use Rattle.lrp_tables.specs.Columns.{scan_times, scan_texts}
-use Rattle.lrp_tables.specs.Tables.{IsTableOf, IsScanned, named_variables}
+use Rattle.lrp_tables.specs.Steps.{CanScan, IsScanResult}
+use Rattle.lrp_tables.specs.Tables.{IsScanned, named_variables}
 use Rattle.lrp_print.specs.Kept.{IsKept, IsRowOf, IsBoundOf, AreValuesOf}
 use Rattle.lrp_plan_laws.specs.Atoms.{IsKnownScan, texts_among}
 use Rattle.lrp_plan_laws.specs.Scopes.{IsNarrow}
-use Rattle.lrp_eval.specs.Running.{IsStepTable, IsNext, text_row, text_column}
+use Rattle.lrp_eval.specs.Running.{IsNext, IsRunResult, text_row, text_column}
 use Rattle.lrp_eval.proofs.Denotes.{Denotes, scan_keeps, sort_keeps}
 use Rattle.lrp_eval.proofs.Named.{all_of, all_by, scan_variables, time_named, data_named, texts_are, are_texts}
-use Rattle.lrp_eval.proofs.Nexts.{formula_kind, reach_kind, keeps_kind, period_nat, own_variables, sound_plan, sound_step, meant, too_many, run, no_order, to_divides, IsMeant}
-use Rattle.lrp_eval.proofs.Reading.{step_small, own_periods, natural}
+use Rattle.lrp_eval.proofs.Nexts.{formula_kind, reach_kind, keeps_kind, period_nat, own_variables, sound_plan, sound_step, meant, ran, no_order, to_divides, IsMeant}
+use Rattle.lrp_eval.proofs.Reading.{step_small, own_periods, natural, high, low}
 
 -- ---- rows of a relation that is kept
 
@@ -107,8 +107,13 @@ module _ {db : List Relation} {q : Question} {cap : ℕ} {domain : List Text} {t
     own : IsNarrow (free (atom name terms))
     own = subst IsNarrow (own_variables n.step.kind q.head (free n.step.formula) (λ of e. other of (n.kind_is ∙ e)) ∙ ap free (formula_kind n)) (sound_step n).narrow.own
 
+    reach_is : n.step.reach ≡ scan_reach relation.rows terms (nat_abs period)
+    reach_is = reach_kind n ∙ ap (λ rows. scan_reach rows terms n.step.period) rows_are ∙ ap (scan_reach relation.rows terms) (sym (period_nat n))
+
     pub can_scan : CanScan domain period relation terms
     can_scan = record {
+      low = low n;
+      high = high n;
       times = kept.times;
       texts = kept.texts;
       rows = subst (λ p. AllByRecursion (CanBeRow domain p relation.columns) relation.rows) (sym n.period_is)
@@ -118,13 +123,8 @@ module _ {db : List Relation} {q : Question} {cap : ℕ} {domain : List Text} {t
       terms_fit = suits relation.columns terms (subst (λ o. MatchOption o ⊥ (λ r. AllZip FitsColumn r.columns terms)) found scan_is.fits);
       terms_known = subst (λ d. AllByRecursion (HasText d) terms) (sym n.domain_is) (has_texts (constants db q) terms scan_is.texts);
       apart = λ v a b. own.kinds v ((scan_variables name terms (time_variable v)).0 ((time_named (scan_times terms) (scan_texts terms) v).1 a)) ((scan_variables name terms (data_variable v)).0 ((data_named (scan_times terms) (scan_texts terms) v).1 b));
+      reach = (let s = step_small n in subst (λ r. r ≤ 2 ^ 62) reach_is (omega arith));
     }
-
-    reach_is : n.step.reach ≡ scan_reach relation.rows terms (nat_abs period)
-    reach_is = reach_kind n ∙ ap (λ rows. scan_reach rows terms n.step.period) rows_are ∙ ap (scan_reach relation.rows terms) (sym (period_nat n))
-
-    pub scan_small : scan_reach relation.rows terms (nat_abs period) ≤ 2 ^ 62
-    scan_small = let s = step_small n in subst (λ r. r ≤ 2 ^ 62) reach_is (omega arith)
 
     denotes : Denotes (constants db q) (structure db q) (named_variables (scan_times terms) (scan_texts terms)) (IsScanned domain relation terms) n.step.formula
     denotes =
@@ -139,12 +139,9 @@ module _ {db : List Relation} {q : Question} {cap : ℕ} {domain : List Text} {t
     is_meant : IsMeant n (named_variables (scan_times terms) (scan_texts terms)) (IsScanned domain relation terms)
     is_meant = meant n _ _ other denotes
 
-    pub scan_many : InhabitsMoreThan cap domain (nat_abs period) (scan_times terms) (scan_texts terms) (IsScanned domain relation terms) → ManyAt db q cap (suc (length tables))
-    scan_many = too_many n _ _ _ _ is_meant (period_nat n)
-
-    pub scan_run : (made : Table) → IsTableOf domain (scan_times terms) (scan_texts terms) (nat_abs period) (IsScanned domain relation terms) made → HasReach made.store (scan_reach relation.rows terms (nat_abs period))
-        → (InhabitsMoreThan cap domain (nat_abs period) (scan_times terms) (scan_texts terms) (IsScanned domain relation terms) → ⊥) → IsStepTable db q cap (suc (length tables)) made
-    scan_run made is reach few = run n _ _ _ _ is_meant (period_nat n) made is (subst (λ r. HasReach made.store r) (sym reach_is) reach) few (no_order n other made)
+    pub scan_ran : (result : Result Table StepFault) → IsScanResult cap domain period relation terms result → IsRunResult db q cap (suc (length tables)) result
+    scan_ran result is =
+        ran n _ _ _ _ is_meant (period_nat n) (λ high. scan_reach relation.rows terms (nat_abs period) ≤ high) (λ high. high) (scan_reach relation.rows terms (nat_abs period)) (omega arith) (sym reach_is) (λ t i. no_order n other t) result is
 
 -- ---- the texts of a sort
 
@@ -176,21 +173,21 @@ module _ {db : List Relation} {q : Question} {cap : ℕ} {domain : List Text} {t
   known : AllByRecursion (Contains domain) texts
   known = subst (λ d. AllByRecursion (Contains d) texts) (sym n.domain_is) (all_by (Contains (constants db q)) texts (λ t c. (sound_plan n).sorts s t (subst (λ ts. Contains ts t) (formula_kind n).1 c)))
 
+  reach_one : scan_reach relation.rows (variable_term name) 1 ≡ 1
+  reach_one = ap (λ rs. scan_reach rs (variable_term name) 1) rows ∙ ap (λ ns. greatest ns + 2 * 0 + 1) (no_bounds texts)
+
   pub can_scan_texts : CanScan domain (pos 1) relation (variable_term name)
   can_scan_texts = record {
+    low = omega (arith, ints);
+    high = omega (arith, ints);
     times = subst (λ cs. time_count cs ≤ 8) (sym columns) (omega arith);
     texts = subst (λ cs. text_count cs ≤ 8) (sym columns) (omega arith);
     rows = subst (λ cs. AllByRecursion (CanBeRow domain (pos 1) cs) relation.rows) (sym columns) (subst (λ rs. AllByRecursion (CanBeRow domain (pos 1) (text_column column ∷ [])) rs) (sym rows) (texts_can domain (text_column column) texts refl known));
     terms_fit = subst (λ cs. AllZip FitsColumn cs (variable_term name)) (sym columns) (refl, tt);
     terms_known = (tt, tt);
     apart = λ v a b. contains_none v a;
+    reach = subst (λ r. r ≤ 2 ^ 62) (sym reach_one) (omega arith);
   }
-
-  reach_one : scan_reach relation.rows (variable_term name) 1 ≡ 1
-  reach_one = ap (λ rs. scan_reach rs (variable_term name) 1) rows ∙ ap (λ ns. greatest ns + 2 * 0 + 1) (no_bounds texts)
-
-  pub scan_texts_small : scan_reach relation.rows (variable_term name) 1 ≤ 2 ^ 62
-  scan_texts_small = subst (λ r. r ≤ 2 ^ 62) (sym reach_one) (omega arith)
 
   sort_denotes : Denotes (constants db q) (structure db q) (named_variables (scan_times (variable_term name)) (scan_texts (variable_term name))) (IsScanned domain relation (variable_term name)) n.step.formula
   sort_denotes =
@@ -209,9 +206,6 @@ module _ {db : List Relation} {q : Question} {cap : ℕ} {domain : List Text} {t
   sort_meant : IsMeant n (named_variables (scan_times (variable_term name)) (scan_texts (variable_term name))) (IsScanned domain relation (variable_term name))
   sort_meant = meant n _ _ sort_other sort_denotes
 
-  pub sort_many : InhabitsMoreThan cap domain 1 (scan_times (variable_term name)) (scan_texts (variable_term name)) (IsScanned domain relation (variable_term name)) → ManyAt db q cap (suc (length tables))
-  sort_many = too_many n (scan_times (variable_term name)) (scan_texts (variable_term name)) _ _ sort_meant (sym (keeps_kind n))
-
-  pub sort_run : (made : Table) → IsTableOf domain (scan_times (variable_term name)) (scan_texts (variable_term name)) 1 (IsScanned domain relation (variable_term name)) made → HasReach made.store (scan_reach relation.rows (variable_term name) 1)
-      → (InhabitsMoreThan cap domain 1 (scan_times (variable_term name)) (scan_texts (variable_term name)) (IsScanned domain relation (variable_term name)) → ⊥) → IsStepTable db q cap (suc (length tables)) made
-  sort_run made is reach few = run n (scan_times (variable_term name)) (scan_texts (variable_term name)) _ _ sort_meant (sym (keeps_kind n)) made is (subst (λ r. HasReach made.store r) (reach_one ∙ sym (reach_kind n)) reach) few (no_order n sort_other made)
+  pub sort_ran : (result : Result Table StepFault) → IsScanResult cap domain (pos 1) relation (variable_term name) result → IsRunResult db q cap (suc (length tables)) result
+  sort_ran result is =
+      ran n (scan_times (variable_term name)) (scan_texts (variable_term name)) _ _ sort_meant (sym (keeps_kind n)) (λ high. scan_reach relation.rows (variable_term name) 1 ≤ high) (λ high. high) (scan_reach relation.rows (variable_term name) 1) (omega arith) (reach_one ∙ sym (reach_kind n)) (λ t i. no_order n sort_other t) result is

@@ -1,13 +1,11 @@
 -- The steps of a test and of a selection.
-use Rattle.std.proofs.Common.{◌≡◌, ◌≤◌, ◌+◌, ◌-◌, ◌^◌, ⊎_elim, ℕ, suc, List, [], length, max, refl, sym, ap, subst, ◌∙◌, arith}
-use Rattle.std.specs.Prelude.{ℤ, pos, nat_abs, ◌≤ℤ◌}
-use Rattle.lrp_theory.specs.Divides.{Divides}
+use Rattle.std.proofs.Common.{◌≡◌, ◌≤◌, ◌+◌, ⊎_elim, ℕ, suc, List, [], length, max, Result, refl, sym, ap, subst, ◌∙◌, arith}
+use Rattle.std.specs.Prelude.{ℤ, nat_abs}
 use Rattle.lrp_model.specs.Texts.{Text}
 use Rattle.lrp_model.specs.Formulas.{Question, conjunction, test, no_forms, form}
 use Rattle.lrp_model.specs.Variables.{variables_of_test}
 use Rattle.lrp_model.specs.Satisfaction.{structure}
 use Rattle.lrp_model.specs.Domains.{constants}
-use Rattle.lrp_model.specs.Caps.{ManyAt}
 use Rattle.lrp_model.specs.Reach.{test_reach}
 use Rattle.lrp_model.specs.Steps.{formula_at, reach_at}
 use Rattle.lrp_model.specs.Plans.{plan}
@@ -17,19 +15,19 @@ use Rattle.lrp_model.specs.declared.formulas.Test.TheVariants.{Compare, Member, 
 use Rattle.lrp_model.specs.declared.plans.StepKind.TheVariants.{Leaf, Select, Extend}
 use Rattle.lrp_model.proofs.Decided.{contains_none}
 use Rattle.lrp_store.specs.Stores.{HasReach}
-use Rattle.lrp_store.specs.Tables.{AreNumbered}
+use Rattle.lrp_store.specs.declared.table.StepFault.{StepFault}
 use Rattle.lrp_store.specs.declared.table.Table.{Table}
 use Rattle.lrp_tables.specs.Calls.{CanBeCarried, test_period}
-use Rattle.lrp_tables.specs.Caps.{InhabitsMoreThan}
 use Rattle.lrp_tables.specs.Columns.{test_times, test_names}
-use Rattle.lrp_tables.specs.Tables.{Has, IsTableOf, IsTested, IsSelected, named_variables}
+use Rattle.lrp_tables.specs.Steps.{CanSelect, CanTest, IsLeafResult, IsSelectResult}
+use Rattle.lrp_tables.specs.Tables.{Has, IsTested, IsSelected, named_variables}
 use Rattle.lrp_plan_laws.specs.Made.{AreAmong}
 use Rattle.lrp_plan_laws.specs.Rising.{natural_test_period as period_of}
-use Rattle.lrp_eval.specs.Running.{variables_of, IsStepTable, IsOperand, IsNext}
+use Rattle.lrp_eval.specs.Running.{variables_of, IsOperand, IsNext, IsRunResult}
 use Rattle.lrp_eval.proofs.Denotes.{Denotes, in_one, leaf_keeps, select_keeps}
 use Rattle.lrp_eval.proofs.Named.{test_variables, texts_are, are_texts}
-use Rattle.lrp_eval.proofs.Nexts.{IsRead, formula_kind, variables_kind, reach_kind, keeps_kind, period_nat, denotes_of, meant, too_many, run, no_order, IsMeant}
-use Rattle.lrp_eval.proofs.Reading.{step_small, point_periods, own_periods, earlier, multiples, period_divides, reach_within, numbered, variables, carried, low_period}
+use Rattle.lrp_eval.proofs.Nexts.{IsRead, formula_kind, variables_kind, reach_kind, keeps_kind, period_nat, denotes_of, meant, ran, no_order, IsMeant}
+use Rattle.lrp_eval.proofs.Reading.{step_small, point_periods, own_periods, earlier, multiples, period_divides, reach_within, variables, carried, high, low, low_period}
 
 same_period : (t : Test) → nat_abs (test_period t) ≡ period_of t
 same_period (Compare left op right) = refl
@@ -37,11 +35,8 @@ same_period (Member term point) = refl
 same_period (Equal left right) = refl
 
 module _ {db : List Relation} {q : Question} {cap : ℕ} {domain : List Text} {tables : List Table} {t : Test} {period : ℤ} (n : IsNext db q cap domain tables (Leaf t) period) where
-  pub leaf_low : pos 1 ≤ℤ test_period t
-  leaf_low = low_period t (point_periods n)
-
-  pub leaf_reach : test_reach t ≤ 2 ^ 62
-  leaf_reach = let e = reach_kind n in let s = step_small n in omega arith
+  pub can_test : CanTest t
+  can_test = record { low = low_period t (point_periods n); reach = (let e = reach_kind n in let s = step_small n in omega arith) }
 
   leaf_period : nat_abs (test_period t) ≡ n.step.period
   leaf_period = same_period t ∙ sym (keeps_kind n)
@@ -59,20 +54,8 @@ module _ {db : List Relation} {q : Question} {cap : ℕ} {domain : List Text} {t
   leaf_meant : IsMeant n (named_variables (test_times t) (test_names t)) (IsTested domain t)
   leaf_meant = meant n _ _ leaf_other leaf_denotes
 
-  pub leaf_many : InhabitsMoreThan cap domain (nat_abs (test_period t)) (test_times t) (test_names t) (IsTested domain t) → ManyAt db q cap (suc (length tables))
-  leaf_many = too_many n _ _ _ _ leaf_meant leaf_period
-
-  pub leaf_run : (made : Table) → IsTableOf domain (test_times t) (test_names t) (nat_abs (test_period t)) (IsTested domain t) made → HasReach made.store (test_reach t)
-      → (InhabitsMoreThan cap domain (nat_abs (test_period t)) (test_times t) (test_names t) (IsTested domain t) → ⊥) → IsStepTable db q cap (suc (length tables)) made
-  leaf_run made is reach few = run n _ _ _ _ leaf_meant leaf_period made is (subst (λ r. HasReach made.store r) (sym (reach_kind n)) reach) few (no_order n leaf_other made)
-
--- what the call of a selection asks
-pub record CanSelect (domain : List Text) (table : Table) (t : Test) (period : ℤ) : Type 0 where
-  pub divides : Divides (pos table.store.period) period
-  pub reach : HasReach table.store (2 ^ 62 - nat_abs period)
-  pub numbers : AreNumbered domain table.store
-  pub carries : CanBeCarried table.vars.times table.vars.texts period t
-  pub small : test_reach t + nat_abs period ≤ 2 ^ 62
+  pub leaf_ran : (result : Result Table StepFault) → IsLeafResult cap domain t result → IsRunResult db q cap (suc (length tables)) result
+  leaf_ran result is = ran n _ _ _ _ leaf_meant leaf_period (λ high. test_reach t ≤ high) (λ high. high) (test_reach t) (omega arith) (sym (reach_kind n)) (λ u i. no_order n leaf_other u) result is
 
 module _ {db : List Relation} {q : Question} {cap : ℕ} {domain : List Text} {tables : List Table} {of : ℕ} {t : Test} {period : ℤ} (n : IsNext db q cap domain tables (Select of t) period) {table : Table} (o : IsOperand tables of table) where
   before : IsRead n of
@@ -81,13 +64,14 @@ module _ {db : List Relation} {q : Question} {cap : ℕ} {domain : List Text} {t
   known : AreAmong (variables_of_test t) (variables_of table)
   known v c = (variables n o before v).1 (variables_kind n v c)
 
-  pub can_select : CanSelect domain table t period
+  pub can_select : CanSelect period table t
   can_select = record {
+    low = low n;
+    high = high n;
     divides = period_divides n o before (multiples n).0;
     reach = reach_within n o before _ (let e = reach_kind n in let s = step_small n in let p = period_nat n in omega arith);
-    numbers = numbered n o before;
-    carries = subst (λ p. CanBeCarried table.vars.times table.vars.texts p t) (sym n.period_is) (carried table.vars.times table.vars.texts n.step.period t known (point_periods n) (own_periods n));
-    small = (let e = reach_kind n in let s = step_small n in let p = period_nat n in omega arith);
+    carried = subst (λ p. CanBeCarried table.vars.times table.vars.texts p t) (sym n.period_is) (carried table.vars.times table.vars.texts n.step.period t known (point_periods n) (own_periods n));
+    test_small = (let e = reach_kind n in let s = step_small n in let p = period_nat n in omega arith);
   }
 
   denotes : Denotes (constants db q) (structure db q) (variables_of table) (IsSelected domain table t) n.step.formula
@@ -104,14 +88,8 @@ module _ {db : List Relation} {q : Question} {cap : ℕ} {domain : List Text} {t
   is_meant : IsMeant n (variables_of table) (IsSelected domain table t)
   is_meant = meant n _ _ other denotes
 
-  pub select_many : InhabitsMoreThan cap domain (nat_abs period) table.vars.times table.vars.texts (IsSelected domain table t) → ManyAt db q cap (suc (length tables))
-  select_many = too_many n _ _ _ _ is_meant (period_nat n)
-
-  pub select_run : (made : Table) → IsTableOf domain table.vars.times table.vars.texts (nat_abs period) (IsSelected domain table t) made
-      → ((high : ℕ) → HasReach table.store high → test_reach t ≤ high → HasReach made.store (high + nat_abs period))
-      → (InhabitsMoreThan cap domain (nat_abs period) table.vars.times table.vars.texts (IsSelected domain table t) → ⊥) → IsStepTable db q cap (suc (length tables)) made
-  select_run made is reach few =
-      let high : ℕ = max (reach_at (plan db q) of) (test_reach t) in
-      run n _ _ _ _ is_meant (period_nat n) made is
-      (subst (λ r. HasReach made.store r) (sym (reach_kind n ∙ ap (λ k. high + k) (sym (period_nat n)))) (reach high (reach_within n o before high (omega arith)) (omega arith)))
-      few (no_order n other made)
+  pub select_ran : (result : Result Table StepFault) → IsSelectResult cap domain period table t result → IsRunResult db q cap (suc (length tables)) result
+  select_ran result is =
+      let most : ℕ = max (reach_at (plan db q) of) (test_reach t) in
+      ran n _ _ _ _ is_meant (period_nat n) (λ high. HasReach table.store high × (test_reach t ≤ high)) (λ high. high + nat_abs period) most
+      (reach_within n o before most (omega arith), omega arith) (sym (reach_kind n ∙ ap (λ k. most + k) (sym (period_nat n)))) (λ u i. no_order n other u) result is

@@ -17,10 +17,13 @@ use Rattle.lrp_zone.specs.Zones.{ZoneView}
 use Rattle.lrp_zone.specs.Pairs.{IsOfCell}
 use Rattle.lrp_slots.specs.Lists.{cell_cmp, list_at}
 use Rattle.lrp_store.specs.Stores.{StoreView, IsStore, IsCellOf, zone_of, tables_at, zones_at}
-use Rattle.lrp_store.proofs.Held.{cell_or, list_put, held_of, cell_held}
+use Rattle.lrp_store.proofs.Held.{cell_or, held_of, cell_held}
 use Rattle.lrp_minus.specs.Differences.{AreOfCell}
 use Rattle.lrp_minus.specs.Settling.{IsSettlement}
-use Rattle.lrp_eval.specs.Settling.{AddsZones, IsSettledStore}
+use Rattle.lrp_minus.specs.Absences.{IsLike}
+use Rattle.lrp_minus.specs.Settling.{AddsZones, SettlesCell}
+use Rattle.lrp_minus.proofs.Lists.{some_in}
+use Rattle.lrp_eval.specs.Settling.{IsSettledStore}
 
 -- ---- the zones of a cell
 
@@ -74,33 +77,6 @@ zones_back s cell (w ∷ ws) h =
     let a : zone_of s cell w.bounds ≡ w = ap (λ k. record { period = k; residues = take s.shape.times cell.residues; bounds = w.bounds }) (sym e.0) ∙ ap (λ rs. record { period = w.period; residues = rs; bounds = w.bounds }) (sym e.1) in
     ap (λ z. z ∷ map (zone_of s cell) (map (λ w. w.bounds) ws)) a ∙ ap (λ zs. w ∷ zs) (zones_back s cell ws (λ v c. h v (contains_later w v ws c)))
 
--- ---- zones are appended
-
-pub none_added : (cell : Cell) (s : StoreView) → AddsZones cell [] s s
-none_added cell s = record { shape = refl; period = refl; here = sym (append_none (tables_at s cell)); others = λ d n. refl }
-  where
-    append_none : {X : Type 0} (xs : List X) → xs ++ [] ≡ xs
-    append_none [] = refl
-    append_none (x ∷ xs) = ap (λ l. x ∷ l) (append_none xs)
-
-append_one : {X : Type 0} (xs ys : List X) (z : X) → (xs ++ ys) ++ z ∷ [] ≡ xs ++ (ys ++ z ∷ [])
-append_one [] ys z = refl
-append_one (x ∷ xs) ys z = ap (λ l. x ∷ l) (append_one xs ys z)
-
-map_one : (zs : List ZoneView) (z : ZoneView) → map (λ z. z.bounds) (zs ++ z ∷ []) ≡ map (λ z. z.bounds) zs ++ z.bounds ∷ []
-map_one [] z = refl
-map_one (w ∷ ws) z = ap (λ l. w.bounds ∷ l) (map_one ws z)
-
-pub one_added : (cell : Cell) (zones more : List ZoneView) (z : ZoneView) (start old new : StoreView) → more ≡ zones ++ z ∷ [] → AddsZones cell zones start old
-    → new.tables ≡ finite.insert old.tables cell (tables_at old cell ++ z.bounds ∷ []) → new.shape ≡ old.shape → new.period ≡ old.period → AddsZones cell more start new
-one_added cell zones more z start old new same h e shape period = record {
-  shape = shape ∙ h.shape;
-  period = period ∙ h.period;
-  here = ⊎_elim (λ x. ap (λ m. list_at m cell) e ∙ x.1 ∙ ap (λ l. l ++ z.bounds ∷ []) h.here ∙ append_one (tables_at start cell) (map (λ z. z.bounds) zones) z.bounds ∙ ap (λ l. tables_at start cell ++ l) (sym (ap (map (λ z. z.bounds)) same ∙ map_one zones z)))
-      (λ x. absurd (x.0 refl)) (list_put old.tables cell (tables_at old cell ++ z.bounds ∷ []) cell);
-  others = λ d n. ⊎_elim (λ x. absurd (n x.0)) (λ x. ap (λ m. list_at m d) e ∙ x.1 ∙ h.others d n) (list_put old.tables cell (tables_at old cell ++ z.bounds ∷ []) d);
-}
-
 -- ---- cell after cell
 
 -- the cells that are left are different and not held, and each other one is settled
@@ -121,18 +97,18 @@ pub rest_differ : (c : Cell) (cs : List Cell) → AllPairs ◌≢◌ (c ∷ cs) 
 rest_differ c cs h i j d lt below = h (suc i) (suc j) d (omega arith) (omega arith)
 
 -- one cell more
-pub settling_more : (s old new : StoreView) (left rest : List Cell) (c : Cell) (zones made : List ZoneView) → left ≡ c ∷ rest → IsSettling s old left → IsStore new → zones ≡ zones_at s c
-    → ((z : ZoneView) → Contains zones z → IsSettlement z zones made) → AddsZones c made old new → IsSettling s new rest
-settling_more s old new left rest c zones made el h valid ez settle adds =
+pub settling_more : (s old new : StoreView) (left rest : List Cell) (c : Cell) → left ≡ c ∷ rest → IsSettling s old left → IsStore new → SettlesCell c s old new → IsSettling s new rest
+settling_more s old new left rest c el h valid settles =
     let g : IsSettling s old (c ∷ rest) = subst (λ l. IsSettling s old l) el h in
+    let adds : AddsZones c settles.made old new = settles.adds in
     let shape : new.shape ≡ s.shape = adds.shape ∙ g.shape in
     let period : new.period ≡ s.period = adds.period ∙ g.period_is in
     let own : (z : ZoneView) → Contains (zones_at s c) z → IsSettlement z (zones_at s c) (zones_at new c) = λ z k.
-    let i : IsSettlement z (zones_at s c) made = subst (λ zs. IsSettlement z zs made) ez (settle z (subst (λ zs. Contains zs z) (sym ez) k)) in
+    let i : IsSettlement z (zones_at s c) settles.made = settles.settled z k in
     let t = table_of s c (tables_at s c) z k in
-    let b : tables_at new c ≡ map (λ w. w.bounds) made = adds.here ∙ ap (λ l. l ++ map (λ w. w.bounds) made) (g.fresh c (contains_first c rest)) in
-    let e : zones_at new c ≡ made =
-    ap (map (zone_of new c)) b ∙ zones_back new c made (λ w m. let o : IsOfCell z w = (i.zones w m).1 in (
+    let b : tables_at new c ≡ map (λ w. w.bounds) settles.made = adds.here ∙ ap (λ l. l ++ map (λ w. w.bounds) settles.made) (g.fresh c (contains_first c rest)) in
+    let e : zones_at new c ≡ settles.made =
+    ap (map (zone_of new c)) b ∙ zones_back new c settles.made (λ w m. let o : IsOfCell z w = (i.zones w m).1 in (
       (o.period ∙ sym (ap (λ (v : ZoneView). v.period) t.2) ∙ sym period),
       o.residues ∙ sym (ap (λ (v : ZoneView). v.residues) t.2) ∙ sym (ap (λ sh. take sh.times c.residues) shape),
     )) in
@@ -159,8 +135,8 @@ settling_more s old new left rest c zones made el h valid ez settle adds =
   where
     zones_same : (cell : Cell) → new.shape ≡ s.shape → new.period ≡ s.period → cell ≢ c → zones_at old cell ≡ zones_at new cell
     zones_same cell shape period n =
-        ap (map (zone_of old cell)) (sym (adds.others cell n)) ∙ ap (λ k. map (λ t. record { period = k; residues = take old.shape.times cell.residues; bounds = t }) (tables_at new cell)) (sym adds.period)
-        ∙ ap (λ sh. map (λ t. record { period = new.period; residues = take sh.times cell.residues; bounds = t }) (tables_at new cell)) (sym adds.shape)
+        ap (map (zone_of old cell)) (sym (settles.adds.others cell n)) ∙ ap (λ k. map (λ t. record { period = k; residues = take old.shape.times cell.residues; bounds = t }) (tables_at new cell)) (sym settles.adds.period)
+        ∙ ap (λ sh. map (λ t. record { period = new.period; residues = take sh.times cell.residues; bounds = t }) (tables_at new cell)) (sym settles.adds.shape)
 
 -- all cells are settled
 pub settled_all : (s new : StoreView) (left : List Cell) → left ≡ [] → IsSettling s new left → IsSettledStore s new
@@ -210,25 +186,21 @@ settling_none s new left is valid shape period empty keys = record {
     nothing cell = ap (λ m. list_at m cell) empty ∙ ap (λ o. unwrap_or o []) (get-empty cell_cmp cell)
 
 -- the zones that a cell is settled to are of the cell
-pub cell_of : (s old : StoreView) (left rest : List Cell) (c : Cell) (zones made : List ZoneView) → left ≡ c ∷ rest → IsStore s → IsSettling s old left → zones ≡ zones_at s c
+pub cell_of : (s old : StoreView) (c : Cell) (zones made : List ZoneView) → IsLike s old → zones ≡ zones_at s c → 0 < length zones
     → ((z : ZoneView) → Contains zones z → IsSettlement z zones made) → (w : ZoneView) → Contains made w → (w.period ≡ old.period) × (w.residues ≡ take old.shape.times c.residues)
-cell_of s old left rest c zones made el is h ez settle w m =
-    let g : IsSettling s old (c ∷ rest) = subst (λ l. IsSettling s old l) el h in
-    let z = g.held c (contains_first c rest) in
-    let t = table_of s c (tables_at s c) z.0 z.1 in
-    let o : IsOfCell z.0 w = ((settle z.0 (subst (λ zs. Contains zs z.0) (sym ez) z.1)).zones w m).1 in (
-      o.period ∙ sym (ap (λ (v : ZoneView). v.period) t.2) ∙ sym g.period_is,
-      o.residues ∙ sym (ap (λ (v : ZoneView). v.residues) t.2) ∙ sym (ap (λ sh. take sh.times c.residues) g.shape),
+cell_of s old c zones made like ez some settle w m =
+    let z = some_in zones some in
+    let t = table_of s c (tables_at s c) z.0 (subst (λ zs. Contains zs z.0) ez z.1) in
+    let o : IsOfCell z.0 w = ((settle z.0 z.1).zones w m).1 in (
+      o.period ∙ sym (ap (λ (v : ZoneView). v.period) t.2) ∙ sym like.period,
+      o.residues ∙ sym (ap (λ (v : ZoneView). v.residues) t.2) ∙ sym (ap (λ sh. take sh.times c.residues) like.shape),
     )
 
-pub proper_cell : (s old : StoreView) (left rest : List Cell) (c : Cell) → left ≡ c ∷ rest → IsStore s → IsSettling s old left → IsCellOf s.shape s.period c
-proper_cell s old left rest c el is h =
-    let z = h.held c (subst (λ l. Contains l c) (sym el) (contains_first c rest)) in
+pub proper_cell : (s : StoreView) → IsStore s → (c : Cell) → 0 < length (zones_at s c) → IsCellOf s.shape s.period c
+proper_cell s is c some =
+    let z = some_in (zones_at s c) some in
     let t = table_of s c (tables_at s c) z.0 z.1 in
     cell_held s is c t.0 t.1
 
-pub some_zone : (s old : StoreView) (left rest : List Cell) (c : Cell) (zones : List ZoneView) → left ≡ c ∷ rest → IsSettling s old left → zones ≡ zones_at s c → 0 < length zones
-some_zone s old left rest c zones el h ez =
-    let z = h.held c (subst (λ l. Contains l c) (sym el) (contains_first c rest)) in
-    let k : Contains zones z.0 = subst (λ zs. Contains zs z.0) (sym ez) z.1 in
-    omega (arith, k.1)
+pub some_zone : (s old : StoreView) (left rest : List Cell) (c : Cell) → left ≡ c ∷ rest → IsSettling s old left → 0 < length (zones_at s c)
+some_zone s old left rest c el h = let z = h.held c (subst (λ l. Contains l c) (sym el) (contains_first c rest)) in omega (arith, z.1.1)

@@ -28,7 +28,8 @@ use Rattle.lrp_plan_laws.specs.Rising.{KeepsPeriod, period_at}
 use Rattle.lrp_plan_laws.specs.Settled.{IsSoundPlan, IsSoundStep}
 use Rattle.lrp_eval.specs.Running.{HasConstants, SameVariables, variables_of, variables_at, IsStepTable}
 use Rattle.lrp_dropping.specs.Without.{IsCompleted}
-use Rattle.lrp_eval.proofs.Counted.{constants_of, many_at, many_map}
+use Rattle.lrp_eval.proofs.Counted.{constants_of, many_at}
+use Rattle.lrp_tables.proofs.Mapped.{many_map}
 use Rattle.lrp_eval.proofs.Denotes.{Denotes, Set, constants_time, same_others, in_one, same_more}
 use Rattle.lrp_eval.proofs.Named.{time_dropped}
 use Rattle.lrp_eval.proofs.Nexts.{own_variables}

@@ -1,40 +1,26 @@
 -- The step of a union.
-use Rattle.std.proofs.Common.{◌≡◌, ◌⊎◌, inl, inr, ◌+◌, ◌-◌, ◌^◌, ⊎_elim, ℕ, suc, List, length, max, Contains, sym, ap, subst, ◌∙◌, arith}
-use Rattle.std.specs.Prelude.{ℤ, pos, nat_abs}
-use Rattle.lrp_theory.specs.Divides.{Divides}
+use Rattle.std.proofs.Common.{◌≡◌, ◌⊎◌, inl, inr, ◌+◌, ⊎_elim, ℕ, suc, List, length, max, Contains, Result, sym, ap, subst, ◌∙◌, arith}
+use Rattle.std.specs.Prelude.{ℤ, nat_abs}
 use Rattle.lrp_model.specs.Texts.{Text, Ascends}
 use Rattle.lrp_model.specs.Formulas.{Question, disjunction, no_forms, form}
 use Rattle.lrp_model.specs.Satisfaction.{Assignment, structure}
 use Rattle.lrp_model.specs.Domains.{constants}
-use Rattle.lrp_model.specs.Caps.{ManyAt}
 use Rattle.lrp_model.specs.Steps.{formula_at, reach_at}
 use Rattle.lrp_model.specs.Plans.{plan}
 use Rattle.lrp_model.specs.declared.relations.Relation.{Relation}
 use Rattle.lrp_model.specs.declared.plans.StepKind.TheVariants.{Union, Extend}
 use Rattle.lrp_model.proofs.Decided.{Decided, decided_iff, decided_both, decided_all, decided_contains}
-use Rattle.lrp_store.specs.Stores.{HasReach}
-use Rattle.lrp_store.specs.Tables.{AreNumbered}
+use Rattle.lrp_store.specs.declared.table.StepFault.{StepFault}
 use Rattle.lrp_store.specs.declared.table.Table.{Table}
-use Rattle.lrp_tables.specs.Calls.{CanMeet}
-use Rattle.lrp_tables.specs.Caps.{InhabitsMoreThan}
 use Rattle.lrp_tables.specs.Columns.{joint}
-use Rattle.lrp_tables.specs.Tables.{Has, HasTexts, IsTableOf, IsUnited, named_variables}
+use Rattle.lrp_tables.specs.Steps.{BothReach, CanUnite, IsUnionResult}
+use Rattle.lrp_tables.specs.Tables.{Has, HasTexts, IsUnited, named_variables}
 use Rattle.lrp_tables.proofs.TableLaws.{decided_table}
-use Rattle.lrp_eval.specs.Running.{variables_of, IsStepTable, IsOperand, IsNext}
+use Rattle.lrp_eval.specs.Running.{variables_of, IsOperand, IsNext, IsRunResult}
 use Rattle.lrp_eval.proofs.Denotes.{Denotes, union_keeps}
 use Rattle.lrp_eval.proofs.Named.{joint_variables, texts_are, are_texts}
-use Rattle.lrp_eval.proofs.Nexts.{IsRead, formula_kind, reach_kind, narrow_kind, period_nat, denotes_of, meant, too_many, run, ascends, no_order, IsMeant}
-use Rattle.lrp_eval.proofs.Reading.{step_small, earlier, multiples, period_divides, reach_within, numbered, can_meet}
-
--- what the call asks
-pub record CanUnite (domain : List Text) (lt rt : Table) (period : ℤ) : Type 0 where
-  pub left_period : Divides (pos lt.store.period) period
-  pub right_period : Divides (pos rt.store.period) period
-  pub left_reach : HasReach lt.store (2 ^ 62 - nat_abs period)
-  pub right_reach : HasReach rt.store (2 ^ 62 - nat_abs period)
-  pub left_numbered : AreNumbered domain lt.store
-  pub right_numbered : AreNumbered domain rt.store
-  pub columns : CanMeet lt rt
+use Rattle.lrp_eval.proofs.Nexts.{IsRead, formula_kind, reach_kind, narrow_kind, period_nat, denotes_of, meant, ran, ascends, no_order, IsMeant}
+use Rattle.lrp_eval.proofs.Reading.{step_small, earlier, multiples, period_divides, reach_within, numbered, can_meet, high, low}
 
 decided_one : {p q : Type 0} → Decided p → Decided q → Decided (p ⊎ q)
 decided_one (inl a) d = inl (inl a)
@@ -55,15 +41,19 @@ module _ {db : List Relation} {q : Question} {cap : ℕ} {domain : List Text} {t
   re : IsRead n right
   re = (earlier n).1.0
 
-  pub can_unite : CanUnite domain lt rt period
+  pub can_unite : CanUnite domain period lt rt
   can_unite = record {
-    left_period = period_divides n lo le (multiples n).0;
-    right_period = period_divides n ro re (multiples n).1.0;
-    left_reach = reach_within n lo le _ (let e = reach_kind n in let s = step_small n in let p = period_nat n in omega arith);
-    right_reach = reach_within n ro re _ (let e = reach_kind n in let s = step_small n in let p = period_nat n in omega arith);
+    tables = record {
+      low = low n;
+      high = high n;
+      left_period = period_divides n lo le (multiples n).0;
+      right_period = period_divides n ro re (multiples n).1.0;
+      left_reach = reach_within n lo le _ (let e = reach_kind n in let s = step_small n in let p = period_nat n in omega arith);
+      right_reach = reach_within n ro re _ (let e = reach_kind n in let s = step_small n in let p = period_nat n in omega arith);
+      columns = can_meet n lo ro le re (narrow_kind n);
+    };
     left_numbered = numbered n lo le;
     right_numbered = numbered n ro re;
-    columns = can_meet n lo ro le re (narrow_kind n);
   }
 
   denotes : Denotes (constants db q) (structure db q) (named_variables (joint lt.vars.times rt.vars.times) (joint lt.vars.texts rt.vars.texts)) (IsUnited domain lt rt) n.step.formula
@@ -85,14 +75,8 @@ module _ {db : List Relation} {q : Question} {cap : ℕ} {domain : List Text} {t
   is_meant : IsMeant n (named_variables (joint lt.vars.times rt.vars.times) (joint lt.vars.texts rt.vars.texts)) (IsUnited domain lt rt)
   is_meant = meant n _ _ other denotes
 
-  pub union_many : InhabitsMoreThan cap domain (nat_abs period) (joint lt.vars.times rt.vars.times) (joint lt.vars.texts rt.vars.texts) (IsUnited domain lt rt) → ManyAt db q cap (suc (length tables))
-  union_many = too_many n _ _ _ _ is_meant (period_nat n)
-
-  pub union_run : (made : Table) → IsTableOf domain (joint lt.vars.times rt.vars.times) (joint lt.vars.texts rt.vars.texts) (nat_abs period) (IsUnited domain lt rt) made
-      → ((high : ℕ) → HasReach lt.store high → HasReach rt.store high → HasReach made.store (high + nat_abs period))
-      → (InhabitsMoreThan cap domain (nat_abs period) (joint lt.vars.times rt.vars.times) (joint lt.vars.texts rt.vars.texts) (IsUnited domain lt rt) → ⊥) → IsStepTable db q cap (suc (length tables)) made
-  union_run made is reach few =
-      let high : ℕ = max (reach_at (plan db q) left) (reach_at (plan db q) right) in
-      run n _ _ _ _ is_meant (period_nat n) made is
-      (subst (λ r. HasReach made.store r) (sym (reach_kind n ∙ ap (λ k. high + k) (sym (period_nat n)))) (reach high (reach_within n lo le high (omega arith)) (reach_within n ro re high (omega arith))))
-      few (no_order n other made)
+  pub union_ran : (result : Result Table StepFault) → IsUnionResult cap domain period lt rt result → IsRunResult db q cap (suc (length tables)) result
+  union_ran result is =
+      let most : ℕ = max (reach_at (plan db q) left) (reach_at (plan db q) right) in
+      ran n _ _ _ _ is_meant (period_nat n) (BothReach lt rt) (λ high. high + nat_abs period) most
+      (record { left_reach = reach_within n lo le most (omega arith); right_reach = reach_within n ro re most (omega arith) }) (sym (reach_kind n ∙ ap (λ k. most + k) (sym (period_nat n)))) (λ t i. no_order n other t) result is

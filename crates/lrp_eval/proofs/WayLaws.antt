@@ -30,7 +30,7 @@ use Rattle.lrp_tables.specs.Tables.{Has}
 use Rattle.lrp_tables.proofs.CellsNamed.{many_placed, same_padded}
 use Rattle.lrp_tables.proofs.Named.{pairs_left, pairs_right}
 use Rattle.lrp_tables.proofs.TableMade.{tuples_of}
-use Rattle.lrp_eval.proofs.Counted.{many_map}
+use Rattle.lrp_tables.proofs.Mapped.{Known, many_known, many_map}
 use Rattle.lrp_eval.proofs.Named.{all_of}
 use Rattle.lrp_eval.proofs.SettleLaws.{key_is}
 
@@ -41,7 +41,7 @@ module _ (w : ℕ) where
   more : (i j d e : ℕ) → i < j → d < w → i * w + d ≡ j * w + e → ⊥
   more i j d e less low same = let r : (i + 1) * w ≤ j * w = mul-le-mul_right w (omega arith) in let x : (i + 1) * w ≡ i * w + w = omega arith in omega arith
 
-  first_same : (i j d e : ℕ) → d < w → e < w → i * w + d ≡ j * w + e → i ≡ j
+  pub first_same : (i j d e : ℕ) → d < w → e < w → i * w + d ≡ j * w + e → i ≡ j
   first_same i j d e dl el same = elim (compare i j) [
     | inl less ↦ absurd (more i j d e less dl same)
     | inr other ↦ elim other [
@@ -53,14 +53,14 @@ module _ (w : ℕ) where
       compare : (i j : ℕ) → (i < j) ⊎ ((i ≡ j) ⊎ (j < i))
       compare i j = grind arith
 
-  second_same : (i j d e : ℕ) → i ≡ j → i * w + d ≡ j * w + e → d ≡ e
+  pub second_same : (i j d e : ℕ) → i ≡ j → i * w + d ≡ j * w + e → d ≡ e
   second_same i j d e s same = let x : i * w ≡ j * w = ap (λ k. k * w) s in omega arith
 
-  below : (i d n : ℕ) → i < n → d < w → i * w + d < n * w
+  pub below : (i d n : ℕ) → i < n → d < w → i * w + d < n * w
   below i d n less low = let r : (i + 1) * w ≤ n * w = mul-le-mul_right w (omega arith) in let x : (i + 1) * w ≡ i * w + w = omega arith in omega arith
 
 -- as many different numbers as there are below n, at most
-few_numbers : (n : ℕ) (xs : List ℕ) → AllPairs ◌≢◌ xs → AllByRecursion (λ x. x < n) xs → length xs ≤ n
+pub few_numbers : (n : ℕ) (xs : List ℕ) → AllPairs ◌≢◌ xs → AllByRecursion (λ x. x < n) xs → length xs ≤ n
 few_numbers n xs pairs low = length-le_from_distinct_below xs n (IsDistinct-from_AllPairs Decides-eqb xs pairs) (λ q h. all_of (λ x. x < n) xs q low (Contains-from_any (λ x y e. eqb-true x y e) q xs h))
 
 -- ---- the ways that a cell is chosen anew
@@ -116,39 +116,6 @@ module _ (p ways : ℕ) where
       where
         last : (i n : ℕ) → i < suc n → (i < n) ⊎ (i ≡ n)
         last i n l = grind arith
-
--- ---- elements with what is known of them
-
-module _ {C : Type 0} (p : C → Type 0) where
-  abbrev Known : Type 0
-  Known = (c : C) × p c
-
-  abbrev pack : (xs : List C) → AllByRecursion p xs → List Known
-  pack [] h = []
-  pack (x ∷ xs) h = (x, h.0) ∷ pack xs h.1
-
-  pack_length : (xs : List C) (h : AllByRecursion p xs) → length (pack xs h) ≡ length xs
-  pack_length [] h = refl
-  pack_length (x ∷ xs) h = ap suc (pack_length xs h.1)
-
-  pack_at : (xs : List C) (h : AllByRecursion p xs) (i : ℕ) (d : Known) → get_or xs i d.0 ≡ (get_or (pack xs h) i d).0
-  pack_at [] h i d = refl
-  pack_at (x ∷ xs) h zero d = refl
-  pack_at (x ∷ xs) h (suc i) d = pack_at xs h.1 i d
-
-  pack_each : (xs : List C) (h : AllByRecursion p xs) → AllByRecursion (λ k. Unit {0}) (pack xs h)
-  pack_each [] h = tt
-  pack_each (x ∷ xs) h = (tt, pack_each xs h.1)
-
-  many_known : (differ : C → C → Type 0) (cap : ℕ) → Many differ p cap → Many {C = Known} (λ a b. differ a.0 b.0) (λ k. Unit {0}) cap
-  many_known differ cap m = record {
-    cells = pack m.cells m.each;
-    count = pack_length m.cells m.each ∙ m.count;
-    apart = λ i j d lt high.
-        let r : differ (get_or m.cells i d.0) (get_or m.cells j d.0) = m.apart i j d.0 lt (subst (λ n. j < n) (pack_length m.cells m.each) high) in
-        subst (λ x. differ x (get_or (pack m.cells m.each) j d).0) (pack_at m.cells m.each i d) (subst (λ y. differ (get_or m.cells i d.0) y) (pack_at m.cells m.each j d) r);
-    each = pack_each m.cells m.each;
-  }
 
 -- ---- a store at a multiple of its period
 

@@ -1,5 +1,5 @@
 -- What the tables of the steps of a plan stand for.
-use Rattle.std.specs.Prelude.{◌≡◌, ◌≢◌, ◌↔◌, ◌<◌, ◌≤◌, ℕ, suc, ◌-◌, ℤ, pos, List, [], ◌∷◌, ◌++◌, length, AllPairs, Some, Contains, slice_get, unwrap_or, option_map}
+use Rattle.std.specs.Prelude.{◌≡◌, ◌≢◌, ◌↔◌, ◌<◌, ◌≤◌, ℕ, suc, ◌-◌, ℤ, pos, List, [], ◌∷◌, ◌++◌, length, AllPairs, Some, Contains, slice_get, unwrap_or, option_map, Result, Err, IfOk}
 use Rattle.lrp_model.specs.Texts.{Text, Identifier}
 use Rattle.lrp_model.specs.Formulas.{Question}
 use Rattle.lrp_model.specs.Variables.{Variable, data_variable}
@@ -8,6 +8,7 @@ use Rattle.lrp_model.specs.Domains.{constants}
 use Rattle.lrp_model.specs.Caps.{ManyAt, step_variables}
 use Rattle.lrp_model.specs.Steps.{PlanStep, Steps, step_at, formula_at, reach_at}
 use Rattle.lrp_model.specs.Plans.{plan}
+use Rattle.lrp_model.specs.declared.relations.Sort.{Sort}
 use Rattle.lrp_model.specs.declared.relations.Sort.TheVariants.{Data}
 use Rattle.lrp_model.specs.declared.relations.Column.{Column}
 use Rattle.lrp_model.specs.declared.relations.Value.TheVariants.{Const}
@@ -15,9 +16,11 @@ use Rattle.lrp_model.specs.declared.relations.Row.{Row}
 use Rattle.lrp_model.specs.declared.relations.Relation.{Relation}
 use Rattle.lrp_model.specs.declared.plans.Plan.{Plan}
 use Rattle.lrp_model.specs.declared.plans.StepKind.{StepKind}
-use Rattle.lrp_model.specs.declared.plans.StepKind.TheVariants.{Extend}
+use Rattle.lrp_model.specs.declared.plans.StepKind.TheVariants.{Extend, Sort as SortStep}
 use Rattle.lrp_store.specs.Stores.{IsStore, HasReach}
 use Rattle.lrp_store.specs.Tables.{AreNumbered}
+use Rattle.lrp_store.specs.declared.table.StepFault.{StepFault}
+use Rattle.lrp_store.specs.declared.table.StepFault.TheVariants.{TooManyCells}
 use Rattle.lrp_store.specs.declared.table.Table.{Table}
 use Rattle.lrp_tables.specs.Columns.{head_times, head_texts}
 use Rattle.lrp_tables.specs.Tables.{Has, named_variables}
@@ -37,13 +40,13 @@ SameVariables vs ws = (v : Variable) → Contains vs v ↔ Contains ws v
 abbrev pub variables_of : Table → List Variable
 variables_of table = named_variables table.vars.times table.vars.texts
 
--- the variables of the cells of step s
+-- the variables of the cells of step s; only steps that are there are asked for
 abbrev pub variables_at : List Relation → Question → ℕ → List Variable
 variables_at db q s = unwrap_or (option_map (step_variables q.head) (step_at (plan db q) s)) []
 
 -- at the step `head` the columns are the head's, in its order
-abbrev pub IsInOrder : List Relation → Question → ℕ → Table → Type 0
-IsInOrder db q s table =
+abbrev pub IsNumbered : List Relation → Question → ℕ → Table → Type 0
+IsNumbered db q s table =
     (step : PlanStep) (of : ℕ) → step_at (plan db q) s ≡ Some step → step.kind ≡ Extend of → (table.vars.times ≡ head_times q.head) × (table.vars.texts ≡ head_texts q.head)
 
 -- the table has just the assignments that satisfy the formula of step s, over its variables; it has the step's period, and no more than its reach and cap cells
@@ -54,7 +57,7 @@ pub record IsStepTable (db : List Relation) (q : Question) (cap s : ℕ) (table 
   pub period : table.store.period ≡ period_at (plan db q) s
   pub reach : HasReach table.store (reach_at (plan db q) s)
   pub few : ManyAt db q cap s → ⊥
-  pub order : IsInOrder db q s table
+  pub order : IsNumbered db q s table
 
 -- the table of a step by its number, from 1
 pub record IsOperand (tables : List Table) (number : ℕ) (table : Table) : Type 0 where
@@ -92,33 +95,10 @@ pub record IsNext (db : List Relation) (q : Question) (cap : ℕ) (domain : List
   pub domain_is : domain ≡ constants db q
   pub before : AreReadBy db q cap tables kind
 
--- some database and query have such a step
-pub record IsSomeNext (cap : ℕ) (domain : List Text) (tables : List Table) (kind : StepKind) (period : ℤ) : Type 0 where
-  pub database : List Relation
-  pub query : Question
-  pub is : IsNext database query cap domain tables kind period
-
--- the table is that of the next step, in each database and query that has it
-abbrev pub IsNextTable : ℕ → List Text → List Table → StepKind → ℤ → Table → Type 0
-IsNextTable cap domain tables kind period made = (db : List Relation) (q : Question) → IsNext db q cap domain tables kind period → IsStepTable db q cap (suc (length tables)) made
-
--- the next step has more than cap cells, in each database and query that has it
-abbrev pub HasTooMany : ℕ → List Text → List Table → StepKind → ℤ → Type 0
-HasTooMany cap domain tables kind period = (db : List Relation) (q : Question) → IsNext db q cap domain tables kind period → ManyAt db q cap (suc (length tables))
-
--- some database and query have the step `head` next, with these columns
-pub record IsSomeLast (cap : ℕ) (domain : List Text) (tables : List Table) (of : ℕ) (columns : List Column) (period : ℤ) : Type 0 where
-  pub database : List Relation
-  pub query : Question
-  pub head : columns ≡ query.head
-  pub is : IsNext database query cap domain tables (Extend of) period
-
--- the table is that of the step `head`, and the step has too many cells, in each database and query that has it next
-abbrev pub IsLastTable : ℕ → List Text → List Table → ℕ → List Column → ℤ → Table → Type 0
-IsLastTable cap domain tables of columns period made = (db : List Relation) (q : Question) → columns ≡ q.head → IsNext db q cap domain tables (Extend of) period → IsStepTable db q cap (suc (length tables)) made
-
-abbrev pub HasTooManyLast : ℕ → List Text → List Table → ℕ → List Column → ℤ → Type 0
-HasTooManyLast cap domain tables of columns period = (db : List Relation) (q : Question) → columns ≡ q.head → IsNext db q cap domain tables (Extend of) period → ManyAt db q cap (suc (length tables))
+-- the result of running step s: its table, or `TooManyCells` where it has more than cap cells
+pub record IsRunResult (db : List Relation) (q : Question) (cap s : ℕ) (result : Result Table StepFault) : Type 0 where
+  pub table : IfOk result (IsStepTable db q cap s)
+  pub many : result ≡ Err TooManyCells → ManyAt db q cap s
 
 -- the step is the step `head` of the last table, whose columns are these, in order
 pub record StandsAtHead (columns : List Column) (tables : List Table) (kind : StepKind) : Type 0 where
@@ -137,6 +117,20 @@ text_row t = record { values = Const t ∷ []; bounds = [] }
 -- a column of a data sort
 abbrev pub text_column : Identifier → Column
 text_column name = record { name = name; sort = Data }
+
+-- some database and query have the step of a sort next
+pub record IsSomeSort (cap : ℕ) (domain : List Text) (name : Identifier) (texts : List Text) : Type 0 where
+  pub database : List Relation
+  pub query : Question
+  pub tables : List Table
+  pub sort : Sort
+  pub period : ℤ
+  pub is : IsNext database query cap domain tables (SortStep name sort texts) period
+
+-- the result is that of running the step, in each database and query that has it next
+abbrev pub IsSortResult : ℕ → List Text → Identifier → List Text → Result Table StepFault → Type 0
+IsSortResult cap domain name texts result =
+    (db : List Relation) (q : Question) (tables : List Table) (sort : Sort) (period : ℤ) → IsNext db q cap domain tables (SortStep name sort texts) period → IsRunResult db q cap (suc (length tables)) result
 
 -- ---- the whole plan
 

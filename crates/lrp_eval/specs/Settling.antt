@@ -1,16 +1,9 @@
 -- Stores whose cells are settled.
-use Rattle.std.specs.Prelude.{◌≡◌, ◌≢◌, ◌+◌, ◌*◌, ◌≤◌, ◌^◌, List, [], ◌++◌, length, map, Contains}
+use Rattle.std.specs.Prelude.{◌≡◌, ◌+◌, ◌*◌, ◌≤◌, ◌^◌, [], length, Contains}
 use Rattle.lrp_model.specs.declared.tuples.Cell.{Cell}
 use Rattle.lrp_zone.specs.Zones.{ZoneView, columns_of, reach_of}
 use Rattle.lrp_store.specs.Stores.{StoreView, IsStore, tables_at, zones_at}
 use Rattle.lrp_minus.specs.Settling.{IsSettlement}
-
--- the zones are appended to the cell's list, and nothing else changes
-pub record AddsZones (cell : Cell) (zones : List ZoneView) (old new : StoreView) : Type 0 where
-  pub shape : new.shape ≡ old.shape
-  pub period : new.period ≡ old.period
-  pub here : tables_at new cell ≡ tables_at old cell ++ map (λ z. z.bounds) zones
-  pub others : (other : Cell) → other ≢ cell → tables_at new other ≡ tables_at old other
 
 -- each zone has room for the bounds of a settlement
 abbrev pub CanSettle : StoreView → Type 0

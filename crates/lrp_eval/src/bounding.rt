@@ -42,8 +42,8 @@ fn ways_of(store: &Store, period: u64) -> u64
     period / store.period() as u64
 }
 
-// The product, where it is at most the cap.
-fn product_within(count: u32, ways: u64, cap: u32) -> Option<u32>
+/// The product, where it is at most the cap.
+pub(crate) fn product_within(count: u32, ways: u64, cap: u32) -> Option<u32>
     ensures { IfSome result (λ product. (product ≡ count * ways) × (product ≤ cap)) }
 {
     let product = u128::from(count) * u128::from(ways);

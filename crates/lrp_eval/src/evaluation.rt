@@ -12,10 +12,10 @@ ghost use Rattle.lrp_eval.specs.Running.{AreRun};
 use crate::following::{Together, run_together};
 use crate::freeing::{give_up, last_readers, nothing};
 use crate::heading::is_headed;
-use crate::running::{Setting, run_step};
+use crate::running::run_step;
 use lrp_model::{List, Memory, Plan};
 use lrp_rel::Database;
-use lrp_tables::{StepFault, Table};
+use lrp_tables::{Setting, StepFault, Table};
 use std::alloc::Global;
 use thiserror::Error;
 

@@ -4,10 +4,9 @@ ghost use Rattle.lrp_model.specs.declared.plans.StepKind.TheVariants.{DropTime, 
 ghost use Rattle.lrp_eval.specs.Together.{AreDroppedFrom, ArePassed, AreTogether, IsNarrowing, IsProjection, IsSomeRun};
 
 use crate::projecting::{Projection, projected};
-use crate::running::Setting;
 use crate::together::{Narrowing, narrowed};
 use lrp_model::{Copies, List, Memory, Name, Plan, Step, StepKind};
-use lrp_tables::Table;
+use lrp_tables::{Setting, Table};
 use std::alloc::Global;
 
 // The greatest reach of steps that are run together: what is made on the way has bounds that can be stored.

@@ -3,21 +3,17 @@
 
 mod answering;
 mod bounding;
-mod dropping;
+mod complementing;
 mod evaluation;
 mod following;
 mod freeing;
 mod heading;
-mod joining;
 mod laws;
 mod projecting;
 mod running;
-mod scanning;
-mod selecting;
 mod settling;
-mod subtracting;
+mod sorting;
 mod together;
-mod uniting;
 
 pub use answering::answer;
 pub use evaluation::{EvalFault, run_steps};

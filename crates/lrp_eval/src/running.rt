@@ -1,27 +1,14 @@
-// What the steps of a plan share.
-ghost use Rattle.std.specs.Prelude.{◌≡◌, ◌<◌, ◌≤◌, suc, length, IfOk, Err};
-ghost use Rattle.lrp_model.specs.Caps.{ManyAt};
+// The steps of a plan, each by its call.
+ghost use Rattle.std.specs.Prelude.{◌≡◌, ◌<◌, ◌≤◌, suc, length};
 ghost use Rattle.lrp_model.specs.Formulas.{Question};
-ghost use Rattle.lrp_eval.specs.Running.{IsNext, IsOperand, IsStepTable};
+ghost use Rattle.lrp_eval.specs.Running.{IsNext, IsOperand, IsRunResult};
 
-use crate::dropping::{without_text, without_time};
-use crate::joining::joined;
-use crate::scanning::{scanned, sorted};
-use crate::selecting::{selected, tested};
-use crate::subtracting::{less, missing};
-use crate::uniting::{headed, united};
-use lrp_model::{Domain, Head, Step, StepKind};
+use crate::sorting::sort_step;
+use lrp_algebra::{drop_data, drop_time, extend, join, leaf, scan, select, union};
+use lrp_minus::{complement, minus};
+use lrp_model::{Head, Step, StepKind};
 use lrp_rel::Database;
-use lrp_tables::{StepFault, Table};
-use std::alloc::Global;
-
-/// Where memory comes from, the constants, and how many cells a step may have.
-#[derive(Drop)]
-pub(crate) struct Setting<'a> {
-    pub(crate) alloc: Global,
-    pub(crate) domain: &'a Domain,
-    pub(crate) cap: u32,
-}
+use lrp_tables::{Setting, StepFault, Table};
 
 /// The table of a step, by its number from 1.
 pub(crate) fn operand(tables: &[Table], number: u32) -> &Table
@@ -45,28 +32,43 @@ pub(crate) fn run_step(
     requires next { (q : Question) × (head.now.columns ≡ q.head)
         × IsNext database.now q setting.now.cap setting.now.domain.now tables.now step.now.kind
         step.now.period }
-    ensures table { IfOk result (λ made. (q : Question) → head.now.columns ≡ q.head
+    ensures { (q : Question) → head.now.columns ≡ q.head
         → IsNext database.now q setting.now.cap setting.now.domain.now tables.now step.now.kind
-        step.now.period → IsStepTable database.now q setting.now.cap
-        (suc (length tables.now)) made) }
-    ensures many { result ≡ Err StepFault.TooManyCells → (q : Question) → head.now.columns ≡ q.head
-        → IsNext database.now q setting.now.cap setting.now.domain.now tables.now step.now.kind
-        step.now.period → ManyAt database.now q setting.now.cap (suc (length tables.now)) }
+        step.now.period
+        → IsRunResult database.now q setting.now.cap (suc (length tables.now)) result }
 {
     let period = step.period;
     match &step.kind {
-        StepKind::Scan { relation, terms } => scanned(setting, database, relation, terms, period),
-        StepKind::Leaf { test } => tested(setting, test),
-        StepKind::Sort { name, texts, .. } => sorted(setting, name, texts),
+        StepKind::Scan { relation, terms } => match database.relation(relation) {
+            Some(relation) => scan(setting, relation, terms, period),
+            None => unreachable!(),
+        },
+        StepKind::Leaf { test } => leaf(setting, test),
+        StepKind::Sort { name, texts, .. } => sort_step(setting, name, texts),
         StepKind::Join { left, right, tests } => {
-            joined(setting, tables, *left, *right, tests, period)
+            let (left, right) = (operand(tables, *left), operand(tables, *right));
+            join(setting, left, right, tests, period)
         }
-        StepKind::Select { of, test } => selected(setting, tables, *of, test, period),
-        StepKind::Union { left, right } => united(setting, tables, *left, *right, period),
-        StepKind::Minus { left, right } => less(setting, tables, *left, *right, period),
-        StepKind::Complement { of } => missing(setting, tables, *of),
-        StepKind::DropTime { of, name } => Ok(without_time(setting, tables, *of, name)?),
-        StepKind::DropData { of, name } => Ok(without_text(setting, tables, *of, name)?),
-        StepKind::Extend { of } => headed(setting, tables, *of, head),
+        StepKind::Select { of, test } => select(setting, operand(tables, *of), test, period),
+        StepKind::Union { left, right } => {
+            let (left, right) = (operand(tables, *left), operand(tables, *right));
+            union(setting, left, right, period)
+        }
+        StepKind::Minus { left, right } => {
+            let (left, right) = (operand(tables, *left), operand(tables, *right));
+            minus(setting, left, right, period)
+        }
+        StepKind::Complement { of } => complement(setting, operand(tables, *of)),
+        StepKind::DropTime { of, name } => {
+            let made = drop_time(setting.alloc, operand(tables, *of), name)?;
+            made.store.shape();
+            Ok(made)
+        }
+        StepKind::DropData { of, name } => {
+            let made = drop_data(setting.alloc, operand(tables, *of), name, setting.domain)?;
+            made.store.shape();
+            Ok(made)
+        }
+        StepKind::Extend { of } => extend(setting, operand(tables, *of), head),
     }
 }

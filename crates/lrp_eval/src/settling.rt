@@ -1,10 +1,12 @@
 // Stores whose cells are settled.
-ghost use Rattle.std.specs.Prelude.{◌≡◌, IfOk, OnOk, IsTrue, Contains, take, pos};
+ghost use Rattle.std.specs.Prelude.{◌≡◌, ◌<◌, IfOk, OnOk, IsTrue, Contains, length, take, pos};
 ghost use Rattle.lrp_zone.specs.Zones.{ZoneView};
-ghost use Rattle.lrp_store.specs.Stores.{IsPadded, IsStore};
-ghost use Rattle.lrp_eval.specs.Settling.{AddsZones, CanSettle, HasSingleZones, IsSettledStore};
+ghost use Rattle.lrp_store.specs.Stores.{IsPadded, IsStore, zones_at};
+ghost use Rattle.lrp_minus.specs.Absences.{IsLike};
+ghost use Rattle.lrp_minus.specs.Settling.{AddsZones, SettlesCell};
+ghost use Rattle.lrp_eval.specs.Settling.{CanSettle, HasSingleZones, IsSettledStore};
 
-use lrp_minus::{is_settled, settle};
+use lrp_minus::{is_settled, settle, settle_line};
 use lrp_model::{Cell, Memory};
 use lrp_store::Store;
 use lrp_zone::Zone;
@@ -57,12 +59,25 @@ fn settled_cells(alloc: Global, store: &Store) -> Result<Store, Memory>
     let mut made = Store::new(alloc, store.shape(), store.period());
     made.shape();
     for cell in store.cells() {
-        let zones = store.zones_in(alloc, &cell)?;
-        let zones = settle(alloc, &zones)?;
-        add_all(&mut made, &cell, zones.as_slice())?;
+        settle_cell(alloc, store, &cell, &mut made)?;
         made.shape();
     }
     Ok(made)
+}
+
+// Appends the zones that a cell is settled to. Only with two columns or more are they listed before.
+fn settle_cell(alloc: Global, store: &Store, cell: &Cell, made: &mut Store) -> Result<(), Memory>
+    requires room { CanSettle store.now }
+    requires some { 0 < length (zones_at store.now cell.now) }
+    requires like { IsLike store.now made.old }
+    ensures { OnOk result (SettlesCell cell.now store.now made.old made.new) }
+{
+    if store.shape().times == 1 {
+        return settle_line(alloc, store, cell, made);
+    }
+    let zones = store.zones_in(alloc, cell)?;
+    let zones = settle(alloc, &zones)?;
+    add_all(made, cell, zones.as_slice())
 }
 
 // Appends zones to a cell's list.
