@@ -383,6 +383,12 @@ add_eights()
 CYCLES = (7, 11, 13, 17, 19)
 
 
+def uncovered(periods):
+    """How long the cycles take to come back together, and the instants of that time at which none is on."""
+    whole = math.prod(periods)
+    return whole, [(t,) for t in range(whole) if all(t % period >= 2 * period // 3 for period in periods)]
+
+
 @family(
     "cycles",
     "two",
@@ -393,10 +399,9 @@ CYCLES = (7, 11, 13, 17, 19)
 def cycles(size):
     periods = CYCLES[:size]
     rows = ["(%d+%dn)" % (start, period) for period in periods for start in range(2 * period // 3)]
-    whole = math.prod(periods)
+    whole, left = uncovered(periods)
     database = relation("cycle", times("t"), rows)
     text = query(times("t"), "not cycle(t)")
-    left = [(t,) for t in range(whole) if all(t % period >= 2 * period // 3 for period in periods)]
     output = whole_page(left) if size <= 4 else None
     return Case(listed(0, whole - 1), database, text, units=whole - len(left), output=output)
 
@@ -414,10 +419,9 @@ def cycles_as_intervals(size):
         "(0+%dn, %d+%dn) where till = begin + %d" % (period, 2 * period // 3, period, 2 * period // 3)
         for period in periods
     ]
-    whole = math.prod(periods)
+    whole, left = uncovered(periods)
     database = relation("on", times("begin", "till"), rows)
     text = query(times("t"), "not exists f: time exists e: time (on(f, e) and f <= t and t < e)")
-    left = [(t,) for t in range(whole) if all(t % period >= 2 * period // 3 for period in periods)]
     output = whole_page(left) if size <= 3 else None
     return Case(listed(0, whole - 1), database, text, units=whole, output=output)
 
@@ -507,15 +511,29 @@ def difference(size):
     "instants since which one thing held without a break from another one on, within a period of N",
 )
 def since(size):
-    begin, on = {0, size // 2 + 1}, set(range(2 * size // 3))
+    return since_case(size, {0, size // 2 + 1}, set(range(2 * size // 3)), [])
+
+
+@family(
+    "since, few breaks",
+    "two",
+    (60, 240, 1440),
+    "the same where the one thing has two breaks in a period of N, with up to 10,000,000 cells",
+)
+def since_few_breaks(size):
+    return since_case(size, {0, size // 2}, set(range(size)) - {size // 3, size - 1}, ["cap=10000000"])
+
+
+def since_case(size, begin, on, words):
     points = lambda these: ["(%d+%dn)" % (start, size) for start in sorted(these)]
     database = relation("p", times("t"), points(on)) + relation("q", times("t"), points(begin))
     text = query(times("t"), "exists u: time (q(u) and u <= t and forall v: time (v <= u or t < v or p(v)))")
-    holds = lambda t: any(
-        u % size in begin and all(v % size in on for v in range(u + 1, t + 1)) for u in range(t - 2 * size, t + 1)
-    )
-    found = [(t,) for t in range(3 * size) if holds(t)]
-    return Case(listed(0, 3 * size - 1), database, text, units=size * size, output=whole_page(found))
+    found, held = [], False
+    for t in range(-2 * size, 3 * size):
+        held = t % size in begin or held and t % size in on
+        if held and t >= 0:
+            found.append((t,))
+    return Case(listed(0, 3 * size - 1) + words, database, text, units=size * size, output=whole_page(found))
 
 
 def instants(size):

@@ -2,11 +2,9 @@
 
 import errno
 import itertools
-import os
-import subprocess
 
-from common import HERE, WAIT
 from memory import BUS, EDITS, SORTS
+from preloaded import library_of, run_with
 
 DEPARTURES = b"{ t: time | bus(t) }"
 RUNS = (
@@ -30,45 +28,21 @@ FILES = (b"database", b"query", b"edits")
 ERRORS = (errno.EIO, errno.ENOSPC, errno.EINTR, errno.EAGAIN)
 
 
-def build(folder):
-    """The library that lets calls fail, or none where there is no C compiler."""
-    made = os.path.join(folder, "fail.so")
-    words = ["cc", "-O1", "-shared", "-fPIC", "-o", made, os.path.join(HERE, "fail.c"), "-ldl"]
-    try:
-        subprocess.run(words, check=True, capture_output=True)
-    except (OSError, subprocess.CalledProcessError):
-        return None
-    return made
-
-
 class Failing:
-    """The program with a library before the C library's calls."""
+    """The program with a library that lets one of the C library's calls fail."""
 
     def __init__(self, program, library):
         self.program, self.library = program, library
 
     def run(self, words, most, call="none", number=0, error=0):
         """The status and the output, and whether a call failed."""
-        told, tell = os.pipe()
-        keys = {"FAIL_CALL": call, "FAIL": number, "FAIL_ERROR": error, "FAIL_TELL": tell, "FAIL_MOST": most}
-        ran = subprocess.run(
-            [self.program.path, *words],
-            cwd=self.program.folder,
-            env={"LD_PRELOAD": self.library, **{key: str(value) for key, value in keys.items()}},
-            pass_fds=[tell],
-            stdin=subprocess.DEVNULL,
-            capture_output=True,
-            timeout=WAIT,
-        )
-        os.close(tell)
-        has_failed = os.read(told, 1) != b""
-        os.close(told)
-        return (ran.returncode, ran.stdout + ran.stderr), has_failed
+        keys = {"FAIL_CALL": call, "FAIL": number, "FAIL_ERROR": error, "FAIL_MOST": most}
+        return run_with(self.library, self.program, words, "FAIL_TELL", keys)
 
 
 def calls(program, tally, few=False):
     """Each call in turn, with an error each, and all calls of a run with one byte and with three."""
-    library = build(program.room)
+    library = library_of("fail", program.room)
     if library is None:
         print("calls: there is no C compiler here, so no call fails")
         return

@@ -11,10 +11,8 @@ import random
 from invent import TEXTS, quoted
 from language import Relation, Row, read_database, read_query, relation_text
 from meaning import Meaning, TooHard, Universe
-from opinion import Case, compare
+from opinion import Case, compare, far_from_zero
 from plan import Plan
-from shifted import database_text, query_text
-from tense import read_tense
 
 NEEDS_ONE = b"refused: canon needs one time column\n"
 
@@ -121,20 +119,14 @@ def try_caps(program, chance, plan, meaning, keys, files):
 
 
 def canonical_far(program, case):
-    """The same case, moved as far from zero as the reach allows."""
+    """The same case, far from zero."""
     if not has_one(case.parsed):
         return
-    by = case.chance.choice((1, -1)) * (2**60 - case.chance.randint(0, 1000))
-    while True:
-        database, query = database_text(case.relations, by).encode(), query_text(case.parsed, by).encode()
-        relations = read_database(database)
-        if not Plan(relations, read_tense(query, relations, case.is_tense)[1]).refusal():
-            break
-        by = by // 2
+    by, files = far_from_zero(case)
     meaning = case.meaning()
     wanted = canonical_text(meaning, canonical_rows(meaning, by))
     keys = ["tense=yes"] if case.is_tense else []
-    program.expect(wanted, 0, "ask", "canon=yes", *keys, database=database, query=query)
+    program.expect(wanted, 0, "ask", "canon=yes", *keys, **files)
 
 
 def queries(program, tally, seeds, budget):

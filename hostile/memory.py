@@ -4,9 +4,9 @@ Where memory for the program's words is refused it ends with the same status, an
 """
 
 import os
-import subprocess
 
-from common import EXAMPLES, HERE, WAIT
+from common import EXAMPLES
+from preloaded import library_of, run_with
 
 REFUSED = b"refused: memory\n"
 BUS = b"relation bus(t: time) { (5+60n); }"
@@ -58,44 +58,15 @@ def runs():
     yield ["check", "check"], None, None
 
 
-def build(folder):
-    """The library that refuses, or none where there is no C compiler."""
-    made = os.path.join(folder, "refuse.so")
-    words = ["cc", "-O1", "-shared", "-fPIC", "-o", made, os.path.join(HERE, "refuse.c"), "-ldl"]
-    try:
-        subprocess.run(words, check=True, capture_output=True)
-    except (OSError, subprocess.CalledProcessError):
-        return None
-    return made
-
-
 def refused_run(program, library, words, number, to_the_end):
     """The status and the output, and whether a request was refused."""
-    told, tell = os.pipe()
-    env = {
-        "LD_PRELOAD": library,
-        "REFUSE": str(number),
-        "REFUSE_TELL": str(tell),
-        **({"REFUSE_ON": "1"} if to_the_end else {}),
-    }
-    ran = subprocess.run(
-        [program.path, *words],
-        cwd=program.folder,
-        env=env,
-        pass_fds=[tell],
-        stdin=subprocess.DEVNULL,
-        capture_output=True,
-        timeout=WAIT,
-    )
-    os.close(tell)
-    was_refused = os.read(told, 1) != b""
-    os.close(told)
-    return (ran.returncode, ran.stdout + ran.stderr), was_refused
+    keys = {"REFUSE": number, **({"REFUSE_ON": 1} if to_the_end else {})}
+    return run_with(library, program, words, "REFUSE_TELL", keys)
 
 
 def memory(program, tally, most=None):
     """Each request in turn; where a number is given, so many one by one, and then ever larger steps."""
-    library = build(program.room)
+    library = library_of("refuse", program.room)
     if library is None:
         print("memory: there is no C compiler here, so no request is refused")
         return

@@ -124,18 +124,23 @@ def listing(program, case):
     program.expect(case.page(left, 1000), 0, "list", *ends, "after=" + token(times, texts), **case.files)
 
 
-def moved(program, case):
-    """A window of the same case, moved as far from zero as the reach allows."""
-    start, end = window(case)
-    meaning = case.meaning()
-    answers = [meaning.tuple_of(env) for env in meaning.answers(start, end)]
+def far_from_zero(case):
+    """How far the same case is moved, as far from zero as the reach allows, and its files."""
     by = case.chance.choice((1, -1)) * (2**60 - case.chance.randint(0, 1000))
     while True:
         database, query = database_text(case.relations, by).encode(), query_text(case.parsed, by).encode()
         relations = read_database(database)
         if not Plan(relations, read_tense(query, relations, case.is_tense)[1]).refusal():
-            break
+            return by, {"database": database, "query": query}
         by = by // 2
+
+
+def moved(program, case):
+    """A window of the same case, far from zero."""
+    start, end = window(case)
+    meaning = case.meaning()
+    answers = [meaning.tuple_of(env) for env in meaning.answers(start, end)]
+    by, files = far_from_zero(case)
     far = [tuple(it + by if isinstance(it, int) else it for it in answer) for answer in answers]
     text = "".join(plain(answer) + "\n" for answer in far) + "end\n"
     program.expect(
@@ -146,8 +151,7 @@ def moved(program, case):
         "to=%d" % (end + by),
         "limit=1000000",
         *(["tense=yes"] if case.is_tense else []),
-        database=database,
-        query=query,
+        **files,
     )
 
 

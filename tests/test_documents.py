@@ -132,15 +132,41 @@ class Scale(unittest.TestCase):
             self.assertEqual(Path(name, "day-0").read_text(), passes()["silence"])
 
 
+class Definitions(unittest.TestCase):
+    """The list of what to read for the promise of a run, and the tables of crates."""
+
+    def test_each_file_to_read_is_there_and_has_what_it_is_named_for(self):
+        page = (TOP / "docs/definitions.md").read_text().split("## What to read")[1].split("\n## ")[0]
+        rows = [line.strip("| ").split(" | ") for line in page.splitlines() if line.startswith("| `lrp_")]
+        self.assertGreater(len(rows), 15)
+        for row in rows:
+            text = ""
+            for crate, files in re.findall(r"`(lrp_\w+)`(?:: ([^;(]*))?", row[0]):
+                folder = TOP / "crates" / crate / "specs"
+                for name in re.split(r", | of ", files.strip()) if files else [file.stem for file in folder.glob("*.antt")]:
+                    if name != "Task":
+                        text += (folder / f"{name}.antt").read_text()
+            for name in re.findall(r"`(\w+)`", row[2] if len(row) == 5 else ""):
+                self.assertRegex(text, rf"(?m)^ *(?:\w+ )*{name} ")
+
+    def test_each_crate_has_its_rows(self):
+        crates = re.findall(r"(?m)^(lrp_\w+):", (TOP / "crates.txt").read_text())
+        for document in ("docs/architecture.md", "docs/proved.md"):
+            rows = re.findall(r"(?m)^\| (`lrp_[^|]*) \|", (TOP / document).read_text())
+            self.assertEqual(sorted(crates), sorted(re.findall(r"lrp_\w+", " ".join(rows))), document)
+
+
 class Links(unittest.TestCase):
     """What documents and pages name is there."""
 
     def test_named_files_are_there(self):
-        documents = [GUIDE, TOP / "docs/scale.md", TOP / "examples/README.md", TOP / "CONTRIBUTING.md", *TOP.glob("examples/*/README.md"), *TOP.glob("editors/*/README.md")]
+        documents = [page for folder in (".", "docs", "bench", "examples", "examples/*", "editors/*") for page in TOP.glob(f"{folder}/*.md")]
+        self.assertGreater(len(documents), 20)
         for document in documents:
-            for name in re.findall(r"`((?:docs|examples|tests|share|tools|packaging|editors|crates)/[\w./-]*)`",
+            for name in re.findall(r"`((?:docs|examples|tests|share|tools|packaging|editors|bench|hostile|crates)/[\w./-]*)`",
                                    document.read_text()):
-                self.assertTrue((TOP / name).exists(), f"{document.name}: {name}")
+                # Definitions and proofs are named without their ending.
+                self.assertTrue((TOP / name).exists() or (TOP / f"{name}.antt").exists(), f"{document.name}: {name}")
 
 
 if __name__ == "__main__":

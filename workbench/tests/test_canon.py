@@ -3,7 +3,7 @@
 from pathlib import Path
 
 import pytest
-from tools import program, tool
+from tools import program, shell, tool
 
 BUS = "relation bus(t: time) { (5+120n); (65+120n); }"
 ALL = "{ t: time | bus(t) }"
@@ -18,9 +18,7 @@ def bus(tmp_path: Path) -> Path:
 
 
 def piped(folder: Path, text: str, *words: str) -> tuple[str, int]:
-    done = tool("shell", "db=bus.lrp", "from=0", "to=5", *words, text=text, folder=folder)
-    assert done.stderr == ""
-    return done.stdout, done.returncode
+    return shell(folder, text, "db=bus.lrp", "from=0", "to=5", *words)
 
 
 def test_whole_answers_are_canonical_where_that_is_on(bus: Path) -> None:

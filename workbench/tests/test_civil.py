@@ -8,7 +8,7 @@ import pytest
 from fizhedul_workbench.civil import FIRST, LAST, dated, minute_of
 from fizhedul_workbench.imports.civil_values import written_civil
 from fizhedul_workbench.lrp import Point
-from tools import TOP, program, tool
+from tools import TOP, program, shell, tool
 
 ROSTER = """# Minutes since 1970-01-01 00:00, to be read with civil=yes.
 relation shift(begin: time, end: time, who: driver) {
@@ -28,14 +28,12 @@ def roster(tmp_path: Path) -> Path:
     return tmp_path
 
 
-def shell(folder: Path, text: str, *words: str) -> tuple[str, int]:
-    done = tool("shell", "db=roster.lrp", *words, text=text, folder=folder)
-    assert done.stderr == ""
-    return done.stdout, done.returncode
+def piped(folder: Path, text: str, *words: str) -> tuple[str, int]:
+    return shell(folder, text, "db=roster.lrp", *words)
 
 
 def test_times_are_shown_as_dates(roster: Path) -> None:
-    out, status = shell(roster, SHIFTS + "\n.next\n.next\n", *WINDOW, "civil=yes", "limit=2")
+    out, status = piped(roster, SHIFTS + "\n.next\n.next\n", *WINDOW, "civil=yes", "limit=2")
     assert status == 0 and out == (
         "b                 w    e\n----------------  ---  ----------------\n"
         "2024-02-26 08:15  Ada  2024-02-26 16:15\n2024-02-29 22:00  Zoë  2024-03-01 06:00\n"
@@ -48,7 +46,7 @@ def test_times_are_shown_as_dates(roster: Path) -> None:
 
 
 def test_the_least_answer_is_shown_by_its_date(roster: Path) -> None:
-    out, status = shell(roster, ".window 2024-02-27T00:00 2024-02-27T23:59\n" + SHIFTS + "\n.decide\n", "civil=yes")
+    out, status = piped(roster, ".window 2024-02-27T00:00 2024-02-27T23:59\n" + SHIFTS + "\n.decide\n", "civil=yes")
     least = '1969-12-29 08:15, "Ada", 1969-12-29 16:15'
     where = "no answer from 2024-02-27 00:00 to 2024-02-27 23:59"
     assert status == 0 and out == f"({where}; the least answer of all is {least})\nNonempty\n{least}\n"
@@ -58,7 +56,7 @@ def test_civil_times_are_turned_on_and_off(roster: Path) -> None:
     (roster / "plain.lrp").write_text('relation shift(begin: time, end: time, who: driver) { (0+1440n, 9, "Bo"); }')
     text = ".open plain.lrp\n" + SHIFTS + "\n.civil on\n.civil\n.window 1970-01-01T00:00 1970-01-01T00:08\n"
     text += ".window 0 8\n.civil off\n.window 0 9\n.window 0 99999999999\n.civil on\n.civil maybe\n"
-    out, status = shell(roster, text, "to=9")
+    out, status = piped(roster, text, "to=9")
     # Without the word, the file that the session begins with is refused.
     assert status == 3 and "refused: database Syntax at 3:4" in out
     for line in (

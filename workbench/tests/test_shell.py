@@ -20,7 +20,7 @@ from fizhedul_workbench.shell.session import Session
 from fizhedul_workbench.shell.table import table
 from prompt_toolkit.completion import CompleteEvent
 from prompt_toolkit.document import Document
-from tools import RUN, environment, program, tool
+from tools import RUN, environment, program, shell
 
 BUS = 'relation bus(dep: time, line: line) {\n  (5+60n, "7");\n  (20+30n, "Ä");\n}\n'
 
@@ -32,9 +32,7 @@ def bus(tmp_path: Path) -> Path:
 
 
 def piped(folder: Path, text: str, *words: str) -> tuple[str, int]:
-    done = tool("shell", "db=bus.lrp", *words, text=text, folder=folder)
-    assert done.stderr == ""
-    return done.stdout, done.returncode
+    return shell(folder, text, "db=bus.lrp", *words)
 
 
 def test_a_query_is_a_table_page_by_page(bus: Path) -> None:

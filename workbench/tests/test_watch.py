@@ -3,7 +3,7 @@
 from pathlib import Path
 
 import pytest
-from tools import tool
+from tools import shell
 
 BUS = "relation bus(t: time) { (5+60n); }"
 ALL = "{ t: time | bus(t) }"
@@ -18,9 +18,7 @@ def bus(tmp_path: Path) -> Path:
 
 
 def piped(folder: Path, text: str, *words: str) -> tuple[str, int]:
-    done = tool("shell", "db=bus.lrp", "from=0", "to=5", *words, text=text, folder=folder)
-    assert done.stderr == ""
-    return done.stdout, done.returncode
+    return shell(folder, text, "db=bus.lrp", "from=0", "to=5", *words)
 
 
 def test_the_least_answer_is_told_at_first_and_after_each_edit(bus: Path) -> None:

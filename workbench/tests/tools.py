@@ -23,6 +23,13 @@ def tool(*words: str, text: str = "", folder: Path | None = None) -> subprocess.
     )
 
 
+def shell(folder: Path, text: str, *words: str) -> tuple[str, int]:
+    """What the shell writes for these lines, with nothing on standard error, and its status."""
+    done = tool("shell", *words, text=text, folder=folder)
+    assert done.stderr == ""
+    return done.stdout, done.returncode
+
+
 def program(*words: str) -> str:
     """The output of the program, which has to be whole."""
     done = subprocess.run([PROGRAM, *words], capture_output=True, text=True, timeout=TIME, stdin=subprocess.DEVNULL)
