@@ -5,13 +5,13 @@ use Rattle.std.specs.FinMap as finite
 use Rattle.std.specs.FinMap.{len-empty}
 use Rattle.lrp_slots.specs.Lists.{cell_cmp}
 use Rattle.lrp_model.specs.declared.tuples.Shape.{Shape}
-use Rattle.lrp_store.specs.Stores.{StoreView, IsStore, InStore, HasReach, HoldsJust}
+use Rattle.lrp_store.specs.Stores.{StoreView, IsStore, HasReach, HoldsJust}
 use Rattle.lrp_store.specs.Growing.{IsAdded, IsRefused, InhabitsMany}
 use Rattle.lrp_store.proofs.Held.{Table}
 use Rattle.lrp_store.proofs.Grown.{Set, grown_same}
 use Rattle.lrp_store.proofs.Aligning.{nothing_held}
 use Rattle.lrp_store.proofs.Counted.{many, not_many}
-use Rattle.lrp_tables.proofs.Passing.{nothing_at}
+use Rattle.lrp_store.proofs.Rooms.{empty_reach}
 
 -- a set without a tuple
 pub added_nothing : (cap high : ℕ) (set : Set) (s : StoreView) → IsStore s → ((xs : List ℤ) (ns : List ℕ) → set xs ns → ⊥) → IsAdded set cap high s s
@@ -24,7 +24,7 @@ module _ (set : Set) (cap high : ℕ) (start out : StoreView) (empty : start.tab
 
   -- in zones of this reach
   pub added_reach : IsAdded set cap high start out → HasReach out high
-  added_reach a = record { each = λ c t h. elim (a.grown.reach c t h) [ inl i ↦ absurd (nothing_at start empty c t i) | inr i ↦ i ] }
+  added_reach a = a.grown.reach high (omega arith) (empty_reach start high empty)
 
   -- it inhabits no more than cap cells
   pub added_few : IsAdded set cap high start out → InhabitsMany start.shape start.period set cap → ⊥

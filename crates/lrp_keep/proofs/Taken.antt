@@ -57,9 +57,7 @@ module _ (from start out : StoreView) (p : IsPassing StaysSame (λ high. high) (
           | inl made ↦ made xs ns (record { times_are = refl; texts_are = refl })
           | inr j ↦ absurd (let l : j.listed.0 < 0 = j.listed.1 in omega (arith, l))
         ];
-        within = λ high reach old. record {
-          each = λ c t i. elim ((p.grown high reach).reach c t i) [ inl was ↦ old.each c t was | inr low ↦ low ];
-        };
+        within = λ high reach old. (p.grown high reach).reach high (omega arith) old;
       }
 
 -- ---- no store, or one

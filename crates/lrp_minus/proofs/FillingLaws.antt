@@ -1,16 +1,14 @@
 -- The pieces of a zone are added to a cell of a store, one after another.
-use Rattle.std.proofs.Common.{◌≡◌, ℕ, ◌+◌, ◌<◌, ◌≤◌, length, refl, inl, inr, List, [], ◌∷◌, ◌++◌, take, None, Result, Ok, Err, OnOk, OnErr, ◌↔◌, arith, sym, ap, subst, ◌∙◌}
+use Rattle.std.proofs.Common.{◌≡◌, ℕ, ◌+◌, ◌<◌, ◌≤◌, length, inl, inr, List, [], ◌∷◌, ◌++◌, take, Result, OnOk, arith, sym, ap, subst, ◌∙◌}
 use Rattle.std.specs.Prelude.{ℤ, pos, Contains}
-use Rattle.std.specs.FinMap as finite
 use Rattle.lrp_model.specs.declared.tuples.Cell.{Cell}
 use Rattle.lrp_zone.specs.Zones.{ZoneView, IsZone, IsMember, greatest_of}
-use Rattle.lrp_store.specs.Stores.{StoreView, IsStore, IsPadded, InStore, tables_at}
-use Rattle.lrp_store.specs.Growing.{IsGrown, IsAdded, IsRefused}
+use Rattle.lrp_store.specs.Stores.{StoreView, IsStore, IsPadded, InStore}
+use Rattle.lrp_store.specs.Growing.{IsGrown, IsAdded, IsRefused, IsTupleOf}
 use Rattle.lrp_store.specs.Settled.{InSome}
 use Rattle.lrp_store.specs.declared.store.StoreFault.{StoreFault}
-use Rattle.lrp_store.specs.declared.store.StoreFault.TheVariants.{TooManyCells}
-use Rattle.lrp_store.proofs.Grown.{grown_same, grown_on, added, refused}
-use Rattle.lrp_tables.proofs.Adding.{IsZoneOf}
+use Rattle.lrp_store.proofs.Grown.{grown_on, grown_same, grown_within, one_more_of}
+use Rattle.lrp_systems.proofs.AddedAs.{added_as, refused_as}
 use Rattle.lrp_minus.specs.Differences.{greatest_reach}
 use Rattle.lrp_minus.specs.Filling.{IsUncut}
 use Rattle.lrp_minus.specs.Leaving.{AreLeftOf}
@@ -49,24 +47,20 @@ module _ (z : ZoneView) (cutters : List ZoneView) (named : List ℕ) (cap high :
     low : greatest_of p.bounds ≤ high
     low = gap.reach p here
 
-    module _ {T : Type 0} (new : StoreView) (is : IsStore new) (rest : new ≡ record now { tables = new.tables; spare = new.spare }) (r : Result T StoreFault) (exact : (r ≡ Err TooManyCells) ↔ ((finite.get now.tables cell ≡ None) × (cap ≤ finite.len now.tables))) where
-      pub filled_more : OnOk r (new.tables ≡ finite.insert now.tables cell (tables_at now cell ++ p.bounds ∷ [])) → OnOk r (AreFilled z cutters named cap high old new (done ++ p ∷ []))
-      filled_more ok = on_ok r (added now f.grown.valid cell p valid piece_period piece_residues piece_texts piece_times cap high (IsUncut z cutters named) is_left low new is rest r exact ok)
-        where
-          on_ok : (o : Result T StoreFault) → OnOk o (IsGrown (IsUncut z cutters named) cap high now new × ((xs : List ℤ) → IsMember p xs → InStore new xs (take now.shape.texts cell.texts))) → OnOk o (AreFilled z cutters named cap high old new (done ++ p ∷ []))
-          on_ok (Ok x) h = record {
-            grown = grown_on cap high _ _ old now new (λ xs ns m. m) f.grown h.0;
-            held = λ xs s. elim (in_either done (p ∷ []) xs s) [
-              | inl a ↦ h.0.kept xs named (f.held xs a)
-              | inr b ↦ subst (λ ns. InStore new xs ns) (sym same_texts) (h.1 xs (this_has p xs b))
-            ];
-          }
-          on_ok (Err x) h = tt
+    of_piece : (xs : List ℤ) (ns : List ℕ) → IsTupleOf p (take now.shape.texts cell.texts) xs ns → IsUncut z cutters named xs ns
+    of_piece xs ns t = subst (λ ms. IsUncut z cutters named xs ms) t.same (is_left xs t.member)
 
-      pub filled_refused : OnErr r (new.tables ≡ now.tables) → r ≡ Err TooManyCells → IsRefused (IsUncut z cutters named) cap high old new
-      filled_refused err e =
-          let h : IsRefused (IsUncut z cutters named) cap high now new = refused now f.grown.valid cell p valid piece_period piece_residues piece_texts piece_times cap high (IsUncut z cutters named) is_left low new is rest r exact err e in
-          record { grown = grown_on cap high _ _ old now new (λ xs ns m. m) f.grown h.grown; more = h.more }
+    pub filled_more : (new : StoreView) → IsAdded (IsTupleOf p (take now.shape.texts cell.texts)) cap (greatest_of p.bounds) now new → AreFilled z cutters named cap high old new (done ++ p ∷ [])
+    filled_more new h = record {
+      grown = grown_on cap high _ _ old now new of_piece f.grown (grown_within cap (greatest_of p.bounds) high _ now new low h.grown);
+      held = λ xs s. elim (in_either done (p ∷ []) xs s) [
+        | inl a ↦ h.grown.kept xs named (f.held xs a)
+        | inr b ↦ h.whole.each xs named (record { member = this_has p xs b; same = sym same_texts })
+      ];
+    }
+
+    pub filled_refused : (new : StoreView) → IsRefused (IsTupleOf p (take now.shape.texts cell.texts)) cap (greatest_of p.bounds) now new → IsRefused (IsUncut z cutters named) cap high old new
+    filled_refused new h = record { grown = grown_on cap high _ _ old now new of_piece f.grown (grown_within cap (greatest_of p.bounds) high _ now new low h.grown); more = one_more_of cap _ _ new of_piece h.more }
 
   -- all pieces were added
   pub filled_all : (pieces : List ZoneView) → AreLeftOf z (z ∷ []) cutters high pieces → (now : StoreView) → AreFilled z cutters named cap high old now pieces → IsAdded (IsUncut z cutters named) cap high old now
@@ -78,15 +72,15 @@ module _ (z : ZoneView) (cutters : List ZoneView) (named : List ℕ) (cap high :
 -- ---- nothing is taken away
 
 -- without cutters the zone is left as it is
-pub all_left : (z : ZoneView) (cutters : List ZoneView) → length cutters ≡ 0 → IsZone z → (old : StoreView) → z.period ≡ old.period → (cell : Cell) → z.residues ≡ take old.shape.times cell.residues → IsPadded 0 old.shape.texts cell.texts → IsPadded (pos 0) old.shape.times cell.residues
-    → IsZoneOf (IsUncut z cutters (take old.shape.texts cell.texts)) old cell z (greatest_reach (z ∷ cutters) + z.period)
-all_left z cutters none valid old period cell residues texts times = record {
-  zone = valid;
-  period = period;
-  residues = residues;
-  texts = texts;
-  times = times;
-  to = λ xs m. record { member = m; none = λ s. let l : s.listed.0 < length cutters = s.listed.1 in absurd (omega arith); same = refl };
-  from = λ xs ns h. (h.member, h.same);
-  low = omega arith;
-}
+module _ (z : ZoneView) (cutters : List ZoneView) (none : length cutters ≡ 0) (old : StoreView) (is : IsStore old) (cell : Cell) (cap : ℕ) (new : StoreView) where
+  to_left : (xs : List ℤ) (ns : List ℕ) → IsTupleOf z (take old.shape.texts cell.texts) xs ns → IsUncut z cutters (take old.shape.texts cell.texts) xs ns
+  to_left xs ns t = record { member = t.member; none = λ s. let l : s.listed.0 < length cutters = s.listed.1 in absurd (omega arith); same = t.same }
+
+  from_left : (xs : List ℤ) (ns : List ℕ) → IsUncut z cutters (take old.shape.texts cell.texts) xs ns → IsTupleOf z (take old.shape.texts cell.texts) xs ns
+  from_left xs ns h = record { member = h.member; same = h.same }
+
+  pub all_added : {T : Type 0} (r : Result T StoreFault) → OnOk r (IsAdded (IsTupleOf z (take old.shape.texts cell.texts)) cap (greatest_of z.bounds) old new) → OnOk r (IsAdded (IsUncut z cutters (take old.shape.texts cell.texts)) cap (greatest_reach (z ∷ cutters) + z.period) old new)
+  all_added r ok = added_as (IsTupleOf z (take old.shape.texts cell.texts)) (IsUncut z cutters (take old.shape.texts cell.texts)) cap (greatest_of z.bounds) (greatest_reach (z ∷ cutters) + z.period) old new is to_left (omega arith) from_left r ok
+
+  pub all_refused : IsRefused (IsTupleOf z (take old.shape.texts cell.texts)) cap (greatest_of z.bounds) old new → IsRefused (IsUncut z cutters (take old.shape.texts cell.texts)) cap (greatest_reach (z ∷ cutters) + z.period) old new
+  all_refused h = refused_as (IsTupleOf z (take old.shape.texts cell.texts)) (IsUncut z cutters (take old.shape.texts cell.texts)) cap (greatest_of z.bounds) (greatest_reach (z ∷ cutters) + z.period) old new is to_left (omega arith) h

@@ -8,10 +8,10 @@ use Rattle.lrp_theory.specs.Entries.{node, AtMost}
 use Rattle.lrp_theory.proofs.Modulo.{Divides-+, Divides--, Divides-is, Divides-self}
 use Rattle.lrp_matrix.specs.Ranges.{Above}
 use Rattle.lrp_zone.specs.Zones.{ZoneView}
+use Rattle.lrp_store.proofs.Unions.{next_number}
 use Rattle.lrp_minus.specs.declared.intervals.Interval.{Interval}
 use Rattle.lrp_minus.specs.Gaps.{IsAbove, IsBelow, IsLater, IsReversed, IsSooner}
 use Rattle.lrp_minus.specs.Intervals.{HasSmallEnds, IsEnd, IsInterval, IsNumber, IsStoredEnd, IsStoredInterval}
-use Rattle.lrp_minus.proofs.SpanLaws.{next_number}
 
 -- an end and a period are added as they are
 pub word_is : (t : ℤ) → nat_abs t ≤ 2 ^ 62 → to_z w64 (of_z w64 t) ≡ t

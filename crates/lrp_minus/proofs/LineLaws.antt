@@ -1,17 +1,16 @@
 -- Zones with one column are settled by their intervals: these in order, and merged.
-use Rattle.std.proofs.Common.{◌≡◌, ℕ, zero, suc, ◌+◌, ◌*◌, ◌<◌, ◌≤◌, ◌^◌, inl, inr, List, [], ◌∷◌, Option, Some, None, false, length, get_or, arith, refl, sym, subst, ◌∙◌, ap}
-use Rattle.std.specs.Prelude.{ℤ, ◌<ℤ◌, Contains, All, AllPairs, map}
+use Rattle.std.proofs.Common.{◌≡◌, ℕ, zero, suc, ◌+◌, ◌*◌, ◌<◌, ◌≤◌, ◌^◌, inl, inr, List, [], ◌∷◌, false, length, get_or, arith, sym, subst, ◌∙◌, ap}
+use Rattle.std.specs.Prelude.{ℤ, Contains, All, AllPairs, map}
 use Rattle.std.specs.List.Sorted.{IsPermutation}
 use Rattle.std.specs.Option.{option_cmp}
 use Rattle.std.specs.Ordering.{int_cmp, is_lt, ordering_then}
-use Rattle.std.proofs.lemmas.Int.{ints}
 use Rattle.std.proofs.lemmas.List.Elements.{All-contains, Contains-get_or}
 use Rattle.std.proofs.lemmas.List.Sorted.{Contains-permutation, IsPermutation-sym}
-use Rattle.lrp_matrix.specs.Ranges.{Above}
 use Rattle.lrp_zone.specs.Zones.{ZoneView, IsZone, columns_of, reach_of}
 use Rattle.lrp_zone.specs.Pairs.{IsOfCell}
 use Rattle.lrp_store.specs.Settled.{InSome}
 use Rattle.lrp_store.proofs.Rooms.{closed_small}
+use Rattle.lrp_store.proofs.Unions.{one_number}
 use Rattle.lrp_minus.specs.declared.intervals.Interval.{Interval}
 use Rattle.lrp_minus.specs.Differences.{AreOfCell, greatest_reach}
 use Rattle.lrp_minus.specs.Intervals.{span_of, IsNumber, IsInterval, HasSmallEnds, BeginsBy, InInterval, AreMerged}
@@ -19,7 +18,7 @@ use Rattle.lrp_minus.specs.Lines.{HaveNumbers}
 use Rattle.lrp_minus.specs.Settling.{IsSmallZone, IsSettlement}
 use Rattle.lrp_minus.proofs.IntervalLaws.{intervals}
 use Rattle.lrp_minus.proofs.Lists.{below_or, in_map, from_map, reach_below}
-use Rattle.lrp_minus.proofs.SpanLaws.{one_number, span_to, span_from, span_interval, span_small, number_moved, number_back, interval_moved}
+use Rattle.lrp_minus.proofs.SpanLaws.{span_to, span_from, span_interval, span_small, number_moved, number_back, interval_moved}
 use Rattle.lrp_matrix.proofs.Ends.{not_before}
 
 -- ---- order

@@ -12,6 +12,7 @@ use Rattle.lrp_zone.specs.Pairs.{IsOfCell}
 use Rattle.lrp_store.specs.Stores.{StoreView, IsStore, zone_of, tables_at, zones_at}
 use Rattle.lrp_store.proofs.Aligning.{head_in, tail_in}
 use Rattle.lrp_store.proofs.Held.{cell_held, zone_held}
+use Rattle.lrp_store.proofs.Unions.{one_number}
 use Rattle.lrp_minus.specs.Differences.{greatest_reach}
 use Rattle.lrp_minus.specs.declared.intervals.Interval.{Interval}
 use Rattle.lrp_minus.specs.Intervals.{AreFarInTurn, IsFarBelow, IsOnLine, LiesApart, span_of}
@@ -20,7 +21,7 @@ use Rattle.lrp_minus.proofs.IntervalLaws.{intervals}
 use Rattle.lrp_minus.proofs.LineLaws.{small_zone, times_one}
 use Rattle.lrp_minus.proofs.Lists.{below_or, from_map, reach_below}
 use Rattle.lrp_minus.proofs.MergeLaws.{end_room}
-use Rattle.lrp_minus.proofs.SpanLaws.{one_number, span_interval, span_to}
+use Rattle.lrp_minus.proofs.SpanLaws.{span_interval, span_to}
 
 -- zones whose intervals lie apart are far from one another
 pub far_of : (u v : ZoneView) → IsZone u → IsZone v → columns_of u ≡ 1 → columns_of v ≡ 1 → LiesApart u.period (span_of u) (span_of v) → IsFarBelow u v

@@ -1,5 +1,5 @@
 -- The interval of a zone with one column, and the zone of an interval.
-use Rattle.std.proofs.Common.{◌≡◌, ℕ, zero, suc, ◌+◌, ◌≤◌, ◌⊎◌, ◌^◌, inl, inr, List, [], ◌∷◌, Option, Some, None, length, arith, refl, sym, subst, ◌∙◌, ap}
+use Rattle.std.proofs.Common.{◌≡◌, ℕ, zero, suc, ◌+◌, ◌≤◌, ◌⊎◌, ◌^◌, inl, inr, [], ◌∷◌, Option, Some, None, arith, refl, sym, subst, ◌∙◌, ap}
 use Rattle.std.specs.Prelude.{ℤ, pos, neg_ℤ, nat_abs, ◌-ℤ◌, ◌+ℤ◌, ◌≤ℤ◌, ◌<ℤ◌, Contains}
 use Rattle.std.proofs.lemmas.Int.{ints, by_lt_z}
 use Rattle.std.proofs.lemmas.List.Elements.{Contains-append_cases, Contains-append_left, Contains-append_right}
@@ -7,12 +7,13 @@ use Rattle.lrp_theory.specs.Bounds.{Within}
 use Rattle.lrp_theory.specs.Divides.{Divides}
 use Rattle.lrp_theory.specs.Entries.{entry, node, AtMost}
 use Rattle.lrp_theory.proofs.Decided.{decided_within}
-use Rattle.lrp_theory.proofs.Modulo.{Divides--, Divides-neg, Divides-zero, Divides-is, multiple_below}
+use Rattle.lrp_theory.proofs.Modulo.{Divides-neg, Divides-zero, Divides-is}
 use Rattle.lrp_matrix.specs.Ranges.{Above, negation}
 use Rattle.lrp_model.specs.declared.relations.Bound.{Bound}
 use Rattle.lrp_zone.specs.Zones.{ZoneView, IsZone, IsMember, IsTight, columns_of, reach_of}
 use Rattle.lrp_zone.specs.Pairs.{IsOfCell}
 use Rattle.lrp_zone.proofs.Reaches.{reach_small}
+use Rattle.lrp_store.proofs.Unions.{next_number, one_number}
 use Rattle.lrp_minus.specs.declared.intervals.Interval.{Interval}
 use Rattle.lrp_minus.specs.Bounded.{AllCanBeStored, MeetsAll, IsBounded}
 use Rattle.lrp_minus.specs.Halves.{MeetsBound, CanBeStored}
@@ -21,12 +22,6 @@ use Rattle.lrp_minus.specs.Intervals.{span_of, ends_of, IsNumber, IsEnd, IsInter
 use Rattle.lrp_minus.specs.Thresholds.{bound_there}
 use Rattle.lrp_zone.proofs.Lines.{in_line, line_cell, line_high, line_low}
 use Rattle.lrp_minus.proofs.Lists.{in_none, in_one, one_in}
-
--- a list of one number
-pub one_number : (xs : List ℤ) → length xs ≡ 1 → (x : ℤ) × (xs ≡ x ∷ [])
-one_number [] h = absurd (omega arith)
-one_number (x ∷ []) h = (x, refl)
-one_number (x ∷ y ∷ ys) h = absurd (omega arith)
 
 -- ---- the interval of a zone
 low_to : (x : ℤ) (e : Option ℤ) → Within (pos 0 -ℤ x) e → Above x (negation e)
@@ -205,13 +200,6 @@ module _ (z : ZoneView) (v : Interval) (one : columns_of z ≡ 1) where
   }
 
 -- ---- two intervals with no number between them
--- a number of the cell behind another one is a period behind it
-pub next_number : (k r a x : ℤ) → pos 1 ≤ℤ k → Divides k (a -ℤ r) → Divides k (x -ℤ r) → a <ℤ x → (a +ℤ k) ≤ℤ x
-next_number k r a x one da dx l = by_lt_z x (a +ℤ k)
-    (λ lt. let d : Divides k (x -ℤ a) = Divides-is k ((x -ℤ r) -ℤ (a -ℤ r)) _ (omega (arith, ints)) (Divides-- k _ _ dx da) in
-    let le : (x -ℤ a) ≤ℤ pos 0 = multiple_below k (x -ℤ a) d one (omega (arith, ints)) in absurd (omega (arith, ints)))
-    (λ le. le)
-
 module _ (z : ZoneView) (v w : Interval) (low : pos 1 ≤ℤ pos z.period) (vi : IsInterval z v) (begins : BeginsBy v w) (near : LiesApart z.period v w → ⊥) where
   -- what lies behind the first lies behind the start of the second
   behind : (x : ℤ) (e f : Option ℤ) → v.most ≡ e → w.least ≡ f → Divides (pos z.period) (x -ℤ node z.residues 1) → (Within x e → ⊥) → Above x f

@@ -10,6 +10,7 @@ use Rattle.lrp_matrix.specs.Ranges.{Above}
 use Rattle.lrp_zone.specs.Zones.{ZoneView, IsZone, IsMember, columns_of, reach_of}
 use Rattle.lrp_zone.specs.Pairs.{IsOfCell}
 use Rattle.lrp_store.specs.Settled.{InSome}
+use Rattle.lrp_store.proofs.Unions.{one_number}
 use Rattle.lrp_minus.specs.declared.intervals.Interval.{Interval}
 use Rattle.lrp_minus.specs.Differences.{AreOfCell, greatest_reach}
 use Rattle.lrp_minus.specs.Gaps.{AppendsSpan, AreGaps, IsAbove, IsBelow}
@@ -18,7 +19,7 @@ use Rattle.lrp_minus.specs.Leaving.{AreLeftOf}
 use Rattle.lrp_minus.proofs.LineLaws.{ends_small, number_from, number_to}
 use Rattle.lrp_minus.proofs.Lists.{below_or, in_either, in_left, in_none, in_nothing, in_one, in_right, in_this, one_in, reach_below, this_has}
 use Rattle.lrp_minus.proofs.MergeLaws.{interval_either, interval_left, interval_new}
-use Rattle.lrp_minus.proofs.SpanLaws.{one_number, span_from, span_small, span_to}
+use Rattle.lrp_minus.proofs.SpanLaws.{span_from, span_small, span_to}
 
 -- of the numbers of v those that are in none of the intervals swept so far: what is made of them, and what is left
 pub record AreSwept (z : ZoneView) (v : Interval) (done : List Interval) (made : List ZoneView) (left : ℤ → Type 0) : Type 0 where

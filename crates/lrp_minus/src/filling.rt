@@ -38,12 +38,12 @@ pub(crate) fn add_left(
     store.shape();
     if cutters.len() == 0 {
         zone.columns();
-        return store.add(cell, zone, cap);
+        return store.add_new(cell, zone, cap);
     }
     let left = left_over(alloc, zone, cutters)?;
     for piece in left.as_slice() {
         piece.columns();
-        store.add(cell, piece, cap)?;
+        store.add_new(cell, piece, cap)?;
     }
     Ok(())
 }

@@ -10,3 +10,4 @@ pub mod Unlinked
 pub mod Copying
 pub mod Entries
 pub mod Shortened
+pub mod Replaced

@@ -125,6 +125,14 @@ module _ {V : Type 0} where
     pub vacant : new.vacant_key ≡ old.vacant_key
     pub capacity : new.capacity ≡ old.capacity
 
+  -- one slot has another value
+  pub record Sets (old new : Slab (Link V)) (key : ℕ) (value : V) : Type 0 where
+    pub set : value_at (get new key) ≡ value ∷ []
+    pub nexts : (k : ℕ) → next_of (get new k) ≡ next_of (get old k)
+    pub others : (k : ℕ) → k ≢ key → get new k ≡ get old k
+    pub len : slab_len new ≡ slab_len old
+    pub capacity : new.capacity ≡ old.capacity
+
   -- a value took the vacant slot, which follows the last slot of a chain, if there is one
   pub record Pushes (old new : Slab (Link V)) (held : Option Chain) (value : V) : Type 0 where
     pub vacant : get old old.vacant_key ≡ None

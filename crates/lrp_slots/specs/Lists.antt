@@ -1,5 +1,5 @@
 -- Lists of values by cell, and how many more values can be taken in without memory.
-use Rattle.std.specs.Prelude.{ℕ, ℤ, List, [], ◌∷◌, ◌++◌, unwrap_or, refl}
+use Rattle.std.specs.Prelude.{ℕ, ℤ, ◌-◌, List, [], ◌∷◌, ◌++◌, length, take, unwrap_or, refl}
 use Rattle.std.specs.Ordering.{nat_cmp, int_cmp, ordering_then}
 use Rattle.std.specs.declared.cmp.Ordering.{Ordering}
 use Rattle.std.specs.Cmp.Lexicographic.{slice_cmp}
@@ -40,3 +40,7 @@ module _ {V : Type 0} where
   abbrev pub append_all : finite.FinMap cell_cmp (List V) → Cell → List V → finite.FinMap cell_cmp (List V)
   append_all lists cell [] = lists
   append_all lists cell (value ∷ values) = append_all (finite.insert lists cell (list_at lists cell ++ value ∷ [])) cell values
+
+  -- the list with another value in the place of its last one
+  abbrev pub with_last : List V → V → List V
+  with_last values value = take (length values - 1) values ++ value ∷ []

@@ -5,7 +5,7 @@ ghost use Rattle.slab.specs.Slab.{get, ContainsKey as HasValue, slab_len, HasRoo
 ghost use Rattle.lrp_slots.specs.Lists.{cell_cmp};
 ghost use Rattle.lrp_model.specs.declared.tuples.Cell.{Cell as CellValue};
 ghost use Rattle.lrp_slots.specs.Lines.{IsLine};
-ghost use Rattle.lrp_slots.specs.Links.{key_after, keys_from, chain_at, slots_of, AreHeld, IsWhole, Joins, Pushes, TakesOut, extended, if_some};
+ghost use Rattle.lrp_slots.specs.Links.{key_after, keys_from, chain_at, slots_of, AreHeld, IsWhole, Joins, Pushes, Sets, TakesOut, extended, if_some};
 
 use crate::held::Held;
 use lrp_model::{Cell, Memory};
@@ -58,6 +58,14 @@ fn join<V>(links: &mut Slab<Link<V>>, key: usize, next: usize)
     ensures { Joins links.old links.new key next }
 {
     links[key].next = next;
+}
+
+// Puts another value into a slot. The slot that follows stays the same.
+pub(crate) fn set_value<V: Drop>(links: &mut Slab<Link<V>>, key: usize, value: V)
+    requires { HasValue links.old key }
+    ensures { Sets links.old links.new key value }
+{
+    links[key].value = value;
 }
 
 // The key of a slot for one more value.

@@ -2,11 +2,11 @@
 ghost use Rattle.std.specs.Prelude.{◌≡◌, ◌≢◌, Err, Ok, true, false, IsTrue, ◌+◌, ◌-◌, ◌<◌, ◌≤◌, ◌↔◌, All, Some, None, [], ◌∷◌, ◌++◌, length, sum_by, slice_get, IsSome, IsOk, IfOk, OnOk, OnErr, OnSome, IfSome, IfNone, option_copied};
 ghost use Rattle.std.specs.List.{remove};
 ghost use Rattle.std.specs.FinMap as finite;
-ghost use Rattle.lrp_slots.specs.Lists.{list_at, set_list, append_all};
+ghost use Rattle.lrp_slots.specs.Lists.{list_at, set_list, with_last, append_all};
 ghost use Rattle.lrp_slots.specs.declared.refusal.Refusal.TheVariants.{TooManyCells};
 ghost use Rattle.lrp_model.specs.declared.tuples.Cell.{Cell as CellValue};
 
-use crate::chains::{Chain, Link, keep_rest, key_at, push, take_out, vacant_key};
+use crate::chains::{Chain, Link, keep_rest, key_at, push, set_value, take_out, vacant_key};
 use crate::held::Held;
 use crate::iterators::{Cells, Lists, Values};
 use crate::refusal::Refusal;
@@ -207,6 +207,19 @@ impl<V: Drop> Slots<V> {
             first: &links[chain.first].value,
             last: &links[chain.last].value,
         })
+    }
+
+    /// Puts a value in the place of the last one of a cell that is held. It takes no slot and no memory.
+    pub fn replace_last(&mut self, cell: &Cell, value: V)
+        requires { IsSome (finite.get self.old.lists cell.now) }
+        ensures lists { self.new.lists ≡ finite.insert self.old.lists cell.now
+            (with_last (list_at self.old.lists cell.now) value) }
+        ensures spare { self.new.spare ≡ self.old.spare }
+    {
+        match self.chains.get(cell) {
+            Some(chain) => set_value(&mut self.links, chain.last, value),
+            None => unreachable!(),
+        }
     }
 
     /// Takes the value at a place out of a cell's list. The cell goes with its last value.

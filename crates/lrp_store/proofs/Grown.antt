@@ -23,7 +23,7 @@ Set = List ℤ → List ℕ → Type 0
 module _ (cap reach : ℕ) where
   -- nothing was added
   pub grown_same : (set : Set) (s : StoreView) → IsStore s → IsGrown set cap reach s s
-  grown_same set s is = record { valid = is; shape = refl; period = refl; kept = λ xs ns h. h; sound = λ xs ns h. inl h; few = λ h. h; reach = λ c t h. inl h }
+  grown_same set s is = record { valid = is; shape = refl; period = refl; kept = λ xs ns h. h; sound = λ xs ns h. inl h; few = λ h. h; reach = λ n l r. r }
 
   -- then a part of the set was added
   pub grown_on : (p q : Set) (s t u : StoreView) → ((xs : List ℤ) (ns : List ℕ) → p xs ns → q xs ns) → IsGrown q cap reach s t → IsGrown p cap reach t u → IsGrown q cap reach s u
@@ -34,7 +34,7 @@ module _ (cap reach : ℕ) where
     kept = λ xs ns i. h.kept xs ns (g.kept xs ns i);
     sound = λ xs ns i. elim (h.sound xs ns i) [ inl j ↦ g.sound xs ns j | inr j ↦ inr (f xs ns j) ];
     few = λ i. h.few (g.few i);
-    reach = λ c table i. elim (h.reach c table i) [ inl j ↦ g.reach c table j | inr j ↦ inr j ];
+    reach = λ n l r. h.reach n l (g.reach n l r);
   }
 
 -- zones of a lesser reach were added
@@ -46,7 +46,7 @@ grown_within cap low high set s t le g = record {
   kept = g.kept;
   sound = g.sound;
   few = g.few;
-  reach = λ c table h. elim (g.reach c table h) [ inl j ↦ inl j | inr j ↦ inr (omega arith) ];
+  reach = λ n l r. g.reach n (omega arith) r;
 }
 
 -- a cell that a part inhabits is inhabited by the set
@@ -107,7 +107,7 @@ module _ (s : StoreView) (is : IsStore s) (c : Cell) (z : ZoneView) (zone : IsZo
       | inr i ↦ inr (subst (λ ms. set xs ms) (ap (λ d. take s.shape.texts d.texts) (sym i.0) ∙ h.named) (f xs (member xs h.cell h.table i.0 i.1 h.inside)))
     ];
     few = len_added s is c z.bounds proper (subst (λ w. IsZone w) (sym is_seen) zone) cap room;
-    reach = λ q t h. elim (held_after q t h) [ inl i ↦ inl i | inr i ↦ inr (subst (λ y. greatest_of y ≤ reach) i.1 low) ];
+    reach = λ n l r. record { each = λ q t h. elim (held_after q t h) [ inl i ↦ r.each q t i | inr i ↦ subst (λ y. greatest_of y ≤ n) i.1 (omega arith) ] };
   }
     where
       member : (xs : List ℤ) (q : Cell) (t : Table) → q ≡ c → z.bounds ≡ t → IsMember (zone_of s q t) xs → IsMember z xs
@@ -142,7 +142,7 @@ grown_spare set cap high s n valid = record {
   kept = λ xs ns h. record { cell = h.cell; table = h.table; held = h.held; named = h.named; inside = h.inside };
   sound = λ xs ns h. inl (record { cell = h.cell; table = h.table; held = h.held; named = h.named; inside = h.inside });
   few = λ h. h;
-  reach = λ c t h. inl h;
+  reach = λ n l r. record { each = λ c t h. r.each c t h };
 }
 
 -- what a call that adds one zone of a set gives

@@ -92,7 +92,7 @@ pub cell_held : (s : StoreView) → IsStore s → (c : Cell) (t : Table) → Con
 cell_held s is c t h = (is.cells c (tables_at s c) (held_of s.tables c t h)).proper
 
 -- a value is one value
-some_is : {X : Type 0} (o : Option X) (x y : X) → o ≡ Some x → o ≡ Some y → x ≡ y
+pub some_is : {X : Type 0} (o : Option X) (x y : X) → o ≡ Some x → o ≡ Some y → x ≡ y
 some_is o x y e f = cc
 
 -- and not none
@@ -100,7 +100,7 @@ none_is : {X : Type 0} (o : Option X) (x : X) → o ≡ None → o ≡ Some x �
 none_is o x e f = cc
 
 -- the tables of a held cell and of one that is not are zones of the store
-all_zones : (s : StoreView) → IsStore s → (c : Cell) → All (λ table. IsZone (zone_of s c table)) (tables_at s c)
+pub all_zones : (s : StoreView) → IsStore s → (c : Cell) → All (λ table. IsZone (zone_of s c table)) (tables_at s c)
 all_zones s is c = by_option (get s.tables c) refl
   where
     by_option : (o : Option (List Table)) → get s.tables c ≡ o → All (λ table. IsZone (zone_of s c table)) (unwrap_or o [])

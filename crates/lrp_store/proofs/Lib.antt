@@ -18,3 +18,6 @@ pub mod Looser
 pub mod Added
 pub mod WholeFirst
 pub mod Ordered
+pub mod LineBounds
+pub mod Unions
+pub mod LastJoined

@@ -175,7 +175,7 @@ module _ (z : ZoneView) (valid : IsZone z) where
       by (inr l) (inr r) = tight_is_small (pos z.period) (node z.residues (p / 9) -ℤ node z.residues (p % 9)) (entry z.bounds (p / 9) (p % 9)) f (is ∙ sym (at_place p)) (valid.shape.tight (p / 9) (p % 9) l r)
 
 -- the bounds of the entries with one more
-map_push : (es : List Entry) (e : Entry) → bounds_of (es ++ e ∷ []) ≡ bounds_of es ++ bound_with e ∷ []
+pub map_push : (es : List Entry) (e : Entry) → bounds_of (es ++ e ∷ []) ≡ bounds_of es ++ bound_with e ∷ []
 map_push [] e = refl
 map_push (x ∷ es) e = ap (λ bs. bound_with x ∷ bs) (map_push es e)
 

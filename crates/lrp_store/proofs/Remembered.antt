@@ -1,10 +1,10 @@
 -- Cells that are remembered stay held whole.
-use Rattle.std.proofs.Common.{◌≡◌, ℕ, ◌⊎◌, inl, inr, List, [], ◌∷◌, ◌++◌, replicate, Option, Some, None, refl, sym, ap, subst, ◌∙◌, arith, Contains}
+use Rattle.std.proofs.Common.{◌≡◌, ◌≢◌, ℕ, ◌⊎◌, inl, inr, List, [], ◌∷◌, ◌++◌, replicate, Option, Some, None, refl, sym, ap, subst, ◌∙◌, arith, Contains}
 use Rattle.std.specs.Prelude.{ℤ, IsSome, slice_get, unwrap_or}
 use Rattle.std.specs.FinMap as finite
 use Rattle.std.specs.FinMap.{get}
 use Rattle.lrp_model.specs.declared.tuples.Cell.{Cell}
-use Rattle.lrp_slots.specs.Lists.{list_at}
+use Rattle.lrp_slots.specs.Lists.{list_at, with_last}
 use Rattle.lrp_store.specs.Remembered.{AreWhole}
 use Rattle.lrp_store.specs.Stores.{StoreView}
 use Rattle.lrp_store.specs.Growing.{IsAdded}
@@ -57,6 +57,14 @@ one_remembered m old new c more first whole = λ q held. elim (more q held) [
   | inr before ↦ whole q before
 ]
 
+-- the last table of a list that begins with a bound was replaced
+pub replaced_remembered : (m n : Tables) (cells : List Cell) (c : Cell) (t : Table) → n ≡ finite.insert m c (with_last (list_at m c) t) → slice_get (list_at m c) 0 ≢ Some (replicate 81 None) → AreWhole m cells → AreWhole n cells
+replaced_remembered m n cells c t e first whole = λ q held.
+    subst (λ k. slice_get (list_at k q) 0 ≡ Some (replicate 81 None)) (sym e) (elim (get_put m c (with_last (list_at m c) t) q) [
+      | inl f ↦ absurd (first (subst (λ d. slice_get (list_at m d) 0 ≡ Some (replicate 81 None)) f.0 (whole q held)))
+      | inr f ↦ ap (λ o. slice_get (unwrap_or o []) 0) f.1 ∙ whole q held
+    ])
+
 -- what was added to a store with other spare slots was added to it
 pub added_from_spare : (set : List ℤ → List ℕ → Type 0) (cap high n : ℕ) (s new : StoreView) → IsAdded set cap high (record s { spare = n }) new → IsAdded set cap high s new
 added_from_spare set cap high n s new a = record {
@@ -70,7 +78,7 @@ added_from_spare set cap high n s new a = record {
       | inr i ↦ inr i
     ];
     few = a.grown.few;
-    reach = a.grown.reach;
+    reach = λ h l r. a.grown.reach h l (record { each = λ c t i. r.each c t i });
   };
   whole = a.whole;
 }

@@ -1,5 +1,5 @@
 -- A zone of a small reach and a small period has room for its least tuple.
-use Rattle.std.proofs.Common.{◌≡◌, ℕ, ◌+◌, ◌-◌, ◌*◌, ◌^◌, ◌<◌, ◌≤◌, ◌≢◌, List, [], arith, ap, subst, ◌∙◌, length, unwrap_or, inl, inr}
+use Rattle.std.proofs.Common.{◌≡◌, ℕ, ◌+◌, ◌-◌, ◌*◌, ◌^◌, ◌<◌, ◌≤◌, ◌≢◌, List, [], arith, ap, subst, ◌∙◌, length, unwrap_or}
 use Rattle.std.specs.Prelude.{ℤ, pos}
 use Rattle.std.specs.FinMap as finite
 use Rattle.lrp_theory.specs.Bounds.{Within}
@@ -65,7 +65,7 @@ empty_reach s h e = record {
 
 -- a store that grows by zones of at most its reach keeps it
 pub grown_reach : (set : List ℤ → List ℕ → Type 0) (cap high h : ℕ) (old new : StoreView) → IsGrown set cap high old new → high ≤ h → HasReach old h → HasReach new h
-grown_reach set cap high h old new g l r = record { each = λ cell table held. elim (g.reach cell table held) [ inl i ↦ r.each cell table i | inr i ↦ omega arith ] }
+grown_reach set cap high h old new g l r = g.reach h l r
 
 -- a period divides itself
 pub own_period : (a b : ℕ) → a ≡ b → Divides (pos a) (pos b)

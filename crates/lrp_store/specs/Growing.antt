@@ -1,13 +1,13 @@
 -- What calls that add to a store do: they add a part of a set, or refuse because of a cell that is one too many.
-use Rattle.std.specs.Prelude.{◌≡◌, ◌≢◌, ℕ, ℤ, ◌≤◌, ◌⊎◌, List, Option, None, Contains}
+use Rattle.std.specs.Prelude.{◌≡◌, ◌≢◌, ℕ, ℤ, ◌≤◌, ◌⊎◌, List, None}
 use Rattle.std.specs.FinMap as finite
 use Rattle.lrp_model.specs.Cells.{Many}
 use Rattle.lrp_model.specs.declared.tuples.Cell.{Cell}
 use Rattle.lrp_model.specs.declared.tuples.Shape.{Shape}
-use Rattle.lrp_zone.specs.Zones.{ZoneView, IsMember, greatest_of}
-use Rattle.lrp_store.specs.Stores.{StoreView, IsStore, InStore, IsInhabitedCell, tables_at}
+use Rattle.lrp_zone.specs.Zones.{ZoneView, IsMember}
+use Rattle.lrp_store.specs.Stores.{StoreView, IsStore, HasReach, InStore, IsInhabitedCell}
 
--- new is a store that has what old has, and besides only tuples of the set, in zones of at most this reach; it has not more than cap cells where old had not
+-- new is a store that has what old has, and besides only tuples of the set; its zones reach no further than this or those of old, and it has not more than cap cells where old had not
 pub record IsGrown (set : List ℤ → List ℕ → Type 0) (cap high : ℕ) (old new : StoreView) : Type 0 where
   pub valid : IsStore new
   pub shape : new.shape ≡ old.shape
@@ -15,7 +15,7 @@ pub record IsGrown (set : List ℤ → List ℕ → Type 0) (cap high : ℕ) (ol
   pub kept : (times : List ℤ) (texts : List ℕ) → InStore old times texts → InStore new times texts
   pub sound : (times : List ℤ) (texts : List ℕ) → InStore new times texts → InStore old times texts ⊎ set times texts
   pub few : finite.len old.tables ≤ cap → finite.len new.tables ≤ cap
-  pub reach : (cell : Cell) (table : List (Option ℤ)) → Contains (tables_at new cell) table → Contains (tables_at old cell) table ⊎ (greatest_of table ≤ high)
+  pub reach : (h : ℕ) → high ≤ h → HasReach old h → HasReach new h
 
 -- all of the set is held
 pub record IsWhole (set : List ℤ → List ℕ → Type 0) (s : StoreView) : Type 0 where

@@ -11,5 +11,6 @@ pub mod Stored
 pub mod Faults
 -- What functions inside say to one another.
 pub mod Codes
+pub mod Joined
 pub mod Remembered
 pub mod Settled

@@ -3,6 +3,7 @@
 
 mod answer;
 mod least;
+mod line;
 mod nearest;
 mod reading;
 mod store;

@@ -1,12 +1,13 @@
 // Zones by cell, each zone in a slot of one vector.
-ghost use Rattle.std.specs.Prelude.{◌≡◌, ◌≢◌, ◌⊎◌, ◌+◌, ◌<◌, ◌≤◌, ◌^◌, ◌≤ℤ◌, ◌↔◌, ℕ, pos, take, nat_abs, replicate, IsTrue, Ok, true, false, Some, None, [], ◌∷◌, ◌++◌, length, map, slice_get, IsSome, IsOk, IfOk, IfErr, OnOk, OnErr, OnSome, IfNone};
+ghost use Rattle.std.specs.Prelude.{◌≡◌, ◌≢◌, ◌⊎◌, ◌+◌, ◌<◌, ◌≤◌, ◌^◌, ◌≤ℤ◌, ◌↔◌, ℕ, ℤ, List, Option, pos, take, nat_abs, replicate, IsTrue, Ok, true, false, Some, None, [], ◌∷◌, ◌++◌, length, map, slice_get, IsSome, IsOk, IfOk, IfErr, OnOk, OnErr, OnSome, IfNone};
 ghost use Rattle.std.specs.List.{remove};
 ghost use Rattle.lrp_model.specs.declared.tuples.Cell.{Cell as CellValue};
 ghost use Rattle.std.specs.FinMap as finite;
-ghost use Rattle.lrp_slots.specs.Lists.{list_at, set_list};
+ghost use Rattle.lrp_slots.specs.Lists.{list_at, set_list, with_last};
+ghost use Rattle.lrp_store.specs.Joined.{JoinsLast};
 ghost use Rattle.lrp_store.specs.Stored.{count_of};
 ghost use Rattle.std.specs.Prelude.{Contains};
-ghost use Rattle.lrp_zone.specs.Zones.{greatest_of};
+ghost use Rattle.lrp_zone.specs.Zones.{IsZone, greatest_of};
 ghost use Rattle.lrp_store.specs.Stores.{IsStore, IsCellOf, IsPadded, tables_at, zone_count, zone_of, zones_at};
 ghost use Rattle.lrp_store.specs.Growing.{IsAdded, IsRefused, IsTupleOf, IsWhole};
 
@@ -25,6 +26,17 @@ pub enum StoreFault {
     TooManyCells,
     #[error("memory")]
     Memory,
+}
+
+// What becomes of a zone that is added to a cell.
+#[derive(Drop)]
+enum Standing {
+    // Its tuples are held.
+    Held,
+    // It is joined to the last zone, and both have these bounds.
+    Joined(StoredBounds),
+    // It is one more zone.
+    Apart,
 }
 
 /// A set of tuples of times and texts: for each cell that is held the zones of its times.
@@ -183,7 +195,8 @@ impl Store {
     /// Appends a zone to a cell's list, unless the first or the last zone of the list shows that its tuples are held.
     ///
     /// It shows so where no bound of it is less than the zone's bound at its place, as in an equal zone and in one without
-    /// bounds. The store is left as it is then.
+    /// bounds. The store is left as it is then. A zone of one column that goes on where the last one of the list ends, with no
+    /// number of the cell between them, is joined to that one, so intervals that come in order take as few zones as they can.
     pub fn add_new(&mut self, cell: &Cell, zone: &Zone, cap: u32) -> Result<(), StoreFault>
         requires period { zone.now.period ≡ self.old.period }
         requires residues { zone.now.residues ≡ take self.old.shape.times cell.now.residues }
@@ -207,10 +220,27 @@ impl Store {
     {
         zone.columns();
         self.shape();
-        if self.has_looser(cell, zone) {
-            return Ok(());
+        match self.standing_of(cell, zone) {
+            Standing::Held => Ok(()),
+            Standing::Joined(both) => {
+                self.replace_last(cell, both);
+                Ok(())
+            }
+            Standing::Apart => self.add(cell, zone, cap),
         }
-        self.add(cell, zone, cap)
+    }
+
+    // Puts bounds in the place of those of a cell's last zone. The cell is held, and its list begins with a bound.
+    fn replace_last(&mut self, cell: &Cell, bounds: StoredBounds)
+        requires held { IsSome (finite.get self.old.tables cell.now) }
+        requires first { slice_get (tables_at self.old cell.now) 0 ≢ Some (replicate 81 None) }
+        requires zone { IsZone (zone_of self.old cell.now bounds) }
+        ensures tables { self.new.tables ≡ finite.insert self.old.tables cell.now
+            (with_last (tables_at self.old cell.now) bounds) }
+        ensures rest { self.new ≡ record self.old { tables = self.new.tables } }
+        ensures valid { IsStore self.new }
+    {
+        self.slots.replace_last(cell, bounds);
     }
 
     /// Appends the zone without bounds to a cell's list, unless the list begins with it.
@@ -331,22 +361,33 @@ impl Store {
         self.slots.len() >= cap as usize && self.slots.count(cell) == 0
     }
 
-    // Whether the first or the last zone of a cell has no bound that is less than the zone's.
-    fn has_looser(&self, cell: &Cell, zone: &Zone) -> bool
+    // How a zone stands to the first and the last zone of its cell, which is looked up once.
+    fn standing_of(&self, cell: &Cell, zone: &Zone) -> Standing
         requires period { zone.now.period ≡ self.now.period }
         requires residues { zone.now.residues ≡ take self.now.shape.times cell.now.residues }
-        ensures whole { IsTrue result → IsWhole (IsTupleOf zone.now
+        ensures whole { result ≡ Standing.Held → IsWhole (IsTupleOf zone.now
             (take self.now.shape.texts cell.now.texts)) self.now }
-        ensures held { IsTrue result → IsSome (finite.get self.now.tables cell.now) }
+        ensures held { result ≢ Standing.Apart → IsSome (finite.get self.now.tables cell.now) }
+        ensures joined { (both : List (Option ℤ)) → result ≡ Standing.Joined both
+            → JoinsLast self.now cell.now zone.now both }
     {
         self.shape();
         let Some(ends) = self.slots.ends(cell) else {
-            return false;
+            return Standing::Apart;
         };
         if ends.first.are_looser(zone) {
-            return true;
+            return Standing::Held;
         }
-        ends.last.are_looser(zone)
+        if ends.last.are_looser(zone) {
+            return Standing::Held;
+        }
+        if zone.columns() != 1 {
+            return Standing::Apart;
+        }
+        match ends.last.joined(self.alloc, zone) {
+            Some(both) => Standing::Joined(both),
+            None => Standing::Apart,
+        }
     }
 
     /// How many zones a cell has, 0 where it is not held.

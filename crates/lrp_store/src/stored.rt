@@ -1,5 +1,5 @@
 // The stored bounds of one zone, up to eight of them in place.
-ghost use Rattle.std.specs.Prelude.{◌≡◌, ◌↔◌, ◌+◌, ◌*◌, ◌<◌, ◌≤◌, ◌^◌, IfOk, IsOk, IsTrue, None, Some, replicate, slice_index_or};
+ghost use Rattle.std.specs.Prelude.{◌≡◌, ◌↔◌, ◌+◌, ◌*◌, ◌<◌, ◌≤◌, ◌^◌, [], IfOk, IsOk, IsTrue, None, Some, replicate, slice_index_or};
 ghost use Rattle.lrp_theory.specs.Entries.{AtMost, IsBelow};
 ghost use Rattle.lrp_zone.specs.Pairs.{IsWithin};
 ghost use Rattle.lrp_zone.specs.Zones.{IsZone, columns_of};
@@ -13,15 +13,15 @@ use std::marker::Model;
 
 /// A bound and its place in the table. Its number stands as bytes, so that an entry takes nine bytes and no padding.
 #[derive(Clone, Copy, Default)]
-struct Entry {
-    place: u8,
+pub(crate) struct Entry {
+    pub(crate) place: u8,
     most: [u8; 8],
 }
 
 /// The stored bounds of a zone, which contracts see as their table. Its period and its residues stand elsewhere.
 #[derive(Drop)]
 pub struct StoredBounds {
-    entries: SmallVec<Entry, 8>,
+    pub(crate) entries: SmallVec<Entry, 8>,
 }
 
 impl Model for StoredBounds {
@@ -37,7 +37,7 @@ impl Model for StoredBounds {
 
 impl Entry {
     // The entry of the bound at a place.
-    fn at(place: u8, most: i64) -> Entry
+    pub(crate) fn at(place: u8, most: i64) -> Entry
         ensures { bound_with result ≡ placed place most }
     {
         Entry {
@@ -47,7 +47,7 @@ impl Entry {
     }
 
     // The bound of an entry.
-    fn most(&self) -> i64
+    pub(crate) fn most(&self) -> i64
         ensures { result ≡ (bound_with self.now).most }
     {
         i64::from_le_bytes(self.most)
@@ -90,7 +90,8 @@ impl StoredBounds {
     /// Whether each of these bounds is at least the zone's bound at its place.
     pub fn are_looser(&self, zone: &Zone) -> bool
         requires { IsZone (record zone.now { bounds = self.now }) }
-        ensures { IsTrue result → IsWithin zone.now (record zone.now { bounds = self.now }) }
+        ensures within { IsTrue result → IsWithin zone.now (record zone.now { bounds = self.now }) }
+        ensures free { self.now ≡ replicate 81 None → IsTrue result }
     {
         zone.columns();
         are_above(zone, self.entries.as_slice())
@@ -122,7 +123,7 @@ fn places_of(zone: &Zone) -> u8
 }
 
 // The stored bound at a place of the table.
-fn bound_of(zone: &Zone, place: u8) -> Option<i64>
+pub(crate) fn bound_of(zone: &Zone, place: u8) -> Option<i64>
     requires { place < 81 }
     ensures value { result ≡ slice_index_or zone.now.bounds place None }
     ensures small { AtMost (2 ^ 62) result }
@@ -134,8 +135,9 @@ fn bound_of(zone: &Zone, place: u8) -> Option<i64>
 fn are_above(zone: &Zone, entries: &[Entry]) -> bool
     requires listed { AreListed (bounds_of entries.now) }
     requires small { AreSmall (bounds_of entries.now) }
-    ensures { IsTrue result → IsWithin zone.now
+    ensures within { IsTrue result → IsWithin zone.now
         (record zone.now { bounds = table_of (bounds_of entries.now) }) }
+    ensures none { entries.now ≡ [] → IsTrue result }
 {
     zone.columns();
     for entry in entries {

@@ -7,16 +7,16 @@ use Rattle.std.proofs.lemmas.Int.{ints}
 use Rattle.std.proofs.lemmas.List.{length-take-le}
 use Rattle.lrp_theory.specs.Divides.{Divides}
 use Rattle.lrp_slots.specs.Lists.{cell_cmp}
-use Rattle.lrp_zone.specs.Zones.{columns_of, reach_of, greatest_of}
+use Rattle.lrp_zone.specs.Zones.{columns_of, reach_of}
 use Rattle.lrp_store.specs.Stores.{StoreView, IsStore, InStore, IsPadded, HasReach}
 use Rattle.lrp_store.specs.Growing.{IsGrown, IsAdded, IsRefused, InhabitsMany}
 use Rattle.lrp_store.proofs.Held.{Table}
 use Rattle.lrp_store.proofs.Grown.{grown_same, grown_on, grown_within, one_more_of}
 use Rattle.lrp_store.proofs.Aligning.{head_in, tail_in, nothing_held}
 use Rattle.lrp_store.proofs.Counted.{many, not_many}
+use Rattle.lrp_store.proofs.Rooms.{empty_reach}
 use Rattle.lrp_tables.specs.Pieces.{IsPieceOf, InPiece, InPieces, ArePieces, Fits}
 use Rattle.lrp_tables.specs.declared.pieces.Piece.{Piece}
-use Rattle.lrp_tables.proofs.Passing.{nothing_at}
 use Rattle.lrp_tables.proofs.Pieced.{in_store, piece_fits, piece_reach}
 use Rattle.lrp_systems.specs.Aligned.{IsAligned}
 
@@ -107,12 +107,7 @@ module _ (cap : ℕ) (s start : StoreView) (is : IsStore s) (shape : start.shape
       shape = last_grown.shape ∙ shape;
       period_is = last_grown.period ∙ period;
       same = record { sound = λ xs ns h. elim (last_grown.sound xs ns h) [ inl i ↦ absurd (nothing_held start empty xs ns i) | inr i ↦ i ]; whole = all_held };
-      reach = λ most r. record {
-        each = λ c t held. elim ((p.grown most r).reach c t held) [
-          | inl i ↦ absurd (nothing_at start empty c t i)
-          | inr i ↦ subst (λ n. greatest_of t ≤ most + (n - 1)) period i
-        ];
-      };
+      reach = λ most r. subst (λ n. HasReach out (most + (n - 1))) period ((p.grown most r).reach (most + (start.period - 1)) (omega arith) (empty_reach start (most + (start.period - 1)) empty));
     }
 
     -- and its tuples inhabit no more than cap cells

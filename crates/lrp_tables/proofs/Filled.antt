@@ -12,11 +12,11 @@ use Rattle.lrp_store.specs.declared.table.Table.{Table}
 use Rattle.lrp_store.proofs.Held.{Table as Bounds}
 use Rattle.lrp_store.proofs.Aligning.{nothing_held}
 use Rattle.lrp_store.proofs.Counted.{many, not_many}
+use Rattle.lrp_store.proofs.Rooms.{empty_reach}
 use Rattle.lrp_tables.specs.Tables.{IsTableOf}
 use Rattle.lrp_tables.specs.Caps.{InhabitsMoreThan}
 use Rattle.lrp_tables.proofs.CellsNamed.{Tuples, AreTuplesOf, many_named, few_named}
 use Rattle.lrp_tables.proofs.Named.{pairs_left, pairs_right}
-use Rattle.lrp_tables.proofs.Passing.{nothing_at}
 use Rattle.lrp_tables.proofs.TableMade.{table_of}
 
 module _ (tuples : Tuples) (cap high : ℕ) (start out : StoreView) (empty : start.tables ≡ finite.empty) where
@@ -26,7 +26,7 @@ module _ (tuples : Tuples) (cap high : ℕ) (start out : StoreView) (empty : sta
 
   -- in zones of at most this reach
   pub reach_held : IsGrown tuples cap high start out → HasReach out high
-  reach_held g = record { each = λ c t h. elim (g.reach c t h) [ inl old ↦ absurd (nothing_at start empty c t old) | inr new ↦ new ] }
+  reach_held g = g.reach high (omega arith) (empty_reach start high empty)
 
   -- and the set inhabits no more than cap cells
   pub few_held : IsAdded tuples cap high start out → InhabitsMany start.shape start.period tuples cap → ⊥

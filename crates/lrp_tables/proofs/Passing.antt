@@ -12,6 +12,7 @@ use Rattle.lrp_store.proofs.Held.{Table}
 use Rattle.lrp_store.proofs.Grown.{grown_same, grown_on, grown_within, one_more_of}
 use Rattle.lrp_store.proofs.Aligning.{head_in, tail_in, nothing_held}
 use Rattle.lrp_store.proofs.Counted.{many, not_many}
+use Rattle.lrp_store.proofs.Rooms.{empty_reach}
 use Rattle.lrp_tables.specs.Pieces.{IsPieceOf, InPiece, InPieces, ArePieces}
 use Rattle.lrp_tables.specs.Passes.{IsMadeFrom, IsResult}
 use Rattle.lrp_tables.specs.declared.pieces.Piece.{Piece}
@@ -88,12 +89,7 @@ module _ (makes : Makes) (reach : ℕ → ℕ) (cap : ℕ) (s start : StoreView)
     passed period = record {
       period = (p.grown h0 r0).period ∙ period;
       same = record { sound = λ ys ms h. elim ((p.grown h0 r0).sound ys ms h) [ inl j ↦ absurd (nothing_held start empty ys ms j) | inr j ↦ j ]; whole = all_made };
-      within = λ high r. record {
-        each = λ c t held. elim ((p.grown high r).reach c t held) [
-          | inl i ↦ absurd (nothing_at start empty c t i)
-          | inr i ↦ i
-        ];
-      };
+      within = λ high r. (p.grown high r).reach (reach high) (omega arith) (empty_reach start (reach high) empty);
     }
 
     -- and what is made inhabits no more than cap cells

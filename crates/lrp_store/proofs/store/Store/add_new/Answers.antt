@@ -1,9 +1,21 @@
--- All tuples of the zone are held already, or the zone was added or refused.
+-- All tuples of the zone are held already, or the zone was joined, added or refused.
+use Rattle.std.proofs.Common.{refl}
 use Rattle.lrp_store.proofs.Added.{zone_added, zone_refused}
+use Rattle.lrp_store.proofs.LastJoined.{last_joined}
 use Rattle.lrp_store.proofs.store.Store.add_new.Goals as goal
 
-pub returns-clause-ok : goal.returns-clause-ok
-returns-clause-ok c = zone_added c.args.self.now c.shape.ensures.valid c.args.cell.now c.args.zone.now c.columns.ensures.valid c.requires.period c.requires.residues c.requires.texts c.requires.times c.args.cap c.add.new.self c.add.ensures.valid c.add.ensures.rest c.add.result c.add.ensures.too_many c.add.ensures.ok
+pub replace_last-requires-clause-first : goal.replace_last-requires-clause-first
+replace_last-requires-clause-first c = (c.in-Joined.ensures.joined c.in-Joined.both refl).first
 
-pub returns-clause-too_many : goal.returns-clause-too_many
-returns-clause-too_many c = zone_refused c.args.self.now c.shape.ensures.valid c.args.cell.now c.args.zone.now c.columns.ensures.valid c.requires.period c.requires.residues c.requires.texts c.requires.times c.args.cap c.add.new.self c.add.ensures.valid c.add.ensures.rest c.add.result c.add.ensures.too_many c.add.ensures.err
+pub replace_last-requires-clause-zone : goal.replace_last-requires-clause-zone
+replace_last-requires-clause-zone c = (c.in-Joined.ensures.joined c.in-Joined.both refl).union.valid
+
+pub returns-in-Joined-clause-ok : goal.returns-in-Joined-clause-ok
+returns-in-Joined-clause-ok c = last_joined c.args.self.now c.replace_last.new.self c.shape.ensures.valid c.replace_last.ensures.valid c.args.cell.now c.args.zone.now c.in-Joined.both
+    (c.in-Joined.ensures.joined c.in-Joined.both refl) c.replace_last.ensures.tables c.replace_last.ensures.rest c.args.cap
+
+pub returns-in-Apart-clause-ok : goal.returns-in-Apart-clause-ok
+returns-in-Apart-clause-ok c = zone_added c.args.self.now c.shape.ensures.valid c.args.cell.now c.args.zone.now c.columns.ensures.valid c.requires.period c.requires.residues c.requires.texts c.requires.times c.args.cap c.add.new.self c.add.ensures.valid c.add.ensures.rest c.add.result c.add.ensures.too_many c.add.ensures.ok
+
+pub returns-in-Apart-clause-too_many : goal.returns-in-Apart-clause-too_many
+returns-in-Apart-clause-too_many c = zone_refused c.args.self.now c.shape.ensures.valid c.args.cell.now c.args.zone.now c.columns.ensures.valid c.requires.period c.requires.residues c.requires.texts c.requires.times c.args.cap c.add.new.self c.add.ensures.valid c.add.ensures.rest c.add.result c.add.ensures.too_many c.add.ensures.err
