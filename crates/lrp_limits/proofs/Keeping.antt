@@ -1,13 +1,15 @@
 -- A least common multiple with further numbers, and with those of two lists.
-use Rattle.std.proofs.Common.{◌≡◌, ◌↔◌, ◌≤◌, ◌*◌, ℕ, zero, suc, List, [], ◌∷◌, ◌++◌, Option, Some, None, unwrap_or, option_map, sym, ap, subst, append_assoc, append-nil, arith}
+use Rattle.std.proofs.Common.{◌≡◌, ◌↔◌, ◌≤◌, ◌*◌, ℕ, pos, List, [], ◌∷◌, ◌++◌, Option, Some, None, unwrap_or, option_map, sym, ap, subst, append_assoc, append-nil, arith}
 use Rattle.std.specs.List.{AllByRecursion}
-use Rattle.lrp_model.specs.Periods.{IsMultiple, lcm_all, IsLeastMultiple, IsCommon}
+use Rattle.lrp_theory.specs.Divides.{IsMultiple, IsLeastMultiple, IsCommon}
+use Rattle.lrp_model.specs.Periods.{lcm_all}
+use Rattle.lrp_theory.proofs.Modulo.{Divides-self}
+use Rattle.lrp_theory.proofs.Multiples.{multiple_by, multiple_low, same_multiples}
 use Rattle.lrp_model.proofs.Logic.{all_append}
 use Rattle.lrp_plan_laws.proofs.PeriodLaws.{lcm_all_is}
 use Rattle.lrp_limits.specs.Multiples.{IsLeastWithinLimit, IsPeriodOf, AlwaysJoins}
 use Rattle.lrp_limits.specs.Facts.{KeepsPeriod}
 use Rattle.lrp_limits.specs.declared.periods.Period.{Period}
-use Rattle.lrp_limits.proofs.Multiples.{multiple_le}
 
 pub common_both : (ks ls : List ℕ) (n : ℕ) → IsCommon (ks ++ ls) n ↔ (IsCommon ks n × IsCommon ls n)
 common_both ks ls n = all_append (λ k. IsMultiple k n) ks ls
@@ -32,7 +34,7 @@ by_one n = omega arith
 
 -- 1 is the least common multiple of no numbers
 pub least_of_none : IsLeastWithinLimit [] 1
-least_of_none = record { period = record { low = omega arith; high = omega arith }; multiples = λ n. ((λ m. tt), λ c. record { times = n; is = by_one n }) }
+least_of_none = record { period = record { low = omega arith; high = omega arith }; multiples = λ n. ((λ m. tt), λ c. multiple_by n (by_one n)) }
 
 -- the multiples of l are those of the numbers that it stands for
 pub stands_for : (ks ls : List ℕ) (l m : ℕ) → IsLeastWithinLimit ls l → IsLeastWithinLimit (ks ++ l ∷ []) m → IsLeastWithinLimit (ks ++ ls) m
@@ -53,30 +55,15 @@ joins_always k l None d h = record { joins = λ ks ls K a b p c e. absurd (h ks 
 
 positive_each : (ks : List ℕ) (n : ℕ) → 1 ≤ n → IsCommon ks n → AllByRecursion (λ k. 1 ≤ k) ks
 positive_each [] n low c = tt
-positive_each (k ∷ ks) n low c = (positive k c.0, positive_each ks n low c.1)
-  where
-    positive : (k : ℕ) → IsMultiple k n → 1 ≤ k
-    positive zero m = let e : n ≡ 0 * m.times = m.is in absurd (omega arith)
-    positive (suc k) m = omega arith
+positive_each (k ∷ ks) n low c = (multiple_low k n low c.0, positive_each ks n low c.1)
 
 -- the least common multiple is that of the definition
 pub least_is : (ks : List ℕ) (k : ℕ) → IsLeastWithinLimit ks k → k ≡ lcm_all ks
 least_is ks k h =
     let low : 1 ≤ k = h.period.low in
-    let each : IsCommon ks k = (h.multiples k).0 (record { times = 1; is = times_one k }) in
+    let each : IsCommon ks k = (h.multiples k).0 (Divides-self (pos k)) in
     let least : IsLeastMultiple ks (lcm_all ks) = lcm_all_is ks (positive_each ks k low each) in
-    let up : IsMultiple (lcm_all ks) k = least.least k each in
-    let down : IsMultiple k (lcm_all ks) = (h.multiples (lcm_all ks)).1 least.common in
-    let le : lcm_all ks ≤ k = multiple_le (lcm_all ks) k up low in
-    let ge : k ≤ lcm_all ks = by_low (lcm_all ks) up down in
-    omega arith
-  where
-    times_one : (a : ℕ) → a ≡ a * 1
-    times_one a = omega arith
-
-    by_low : (m : ℕ) → IsMultiple m k → IsMultiple k m → k ≤ m
-    by_low zero u d = let e : k ≡ 0 * u.times = u.is in let low : 1 ≤ k = h.period.low in absurd (omega arith)
-    by_low (suc m) u d = multiple_le k (suc m) d (omega arith)
+    same_multiples k (lcm_all ks) ((h.multiples (lcm_all ks)).1 least.common) (least.least k each)
 
 -- the number of a period that stands for none
 pub joined_number : (o : Option Period) (d r : Period) → r ≡ unwrap_or o d → r.number ≡ unwrap_or (option_map (λ p. p.number) o) d.number

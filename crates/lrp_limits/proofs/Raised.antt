@@ -1,12 +1,13 @@
 -- The least common multiple of other lists with the same members, and that of a period and further numbers.
-use Rattle.std.proofs.Common.{◌≡◌, ◌≤◌, ◌<◌, ◌*◌, ◌^◌, ℕ, zero, suc, List, [], ◌∷◌, Option, Some, None, Contains, subst, ⊎_elim, arith}
+use Rattle.std.proofs.Common.{◌≡◌, ◌≤◌, ◌<◌, ◌^◌, ℕ, List, [], ◌∷◌, Option, Some, None, Contains, subst, ⊎_elim, arith}
 use Rattle.std.specs.List.{AllByRecursion}
 use Rattle.std.proofs.lemmas.Bool.{cases_lt}
-use Rattle.lrp_model.specs.Periods.{IsMultiple, lcm, lcm_all, IsCommon}
+use Rattle.lrp_theory.specs.Divides.{IsMultiple, IsCommon}
+use Rattle.lrp_model.specs.Periods.{lcm, lcm_all}
+use Rattle.lrp_theory.proofs.Multiples.{same_multiples}
 use Rattle.lrp_plan_laws.proofs.Members.{all_from}
 use Rattle.lrp_plan_laws.proofs.PeriodLaws.{lcm_all_is, lcm_common, lcm_least, lcm_positive}
 use Rattle.lrp_limits.specs.Multiples.{IsLeastWithinLimit, IsPeriod, IsPeriodOf}
-use Rattle.lrp_limits.proofs.Multiples.{multiple_le}
 use Rattle.lrp_limits.proofs.Keeping.{least_is}
 
 -- lists with the same members have the same common multiples
@@ -35,15 +36,6 @@ above ks h none =
 -- a period is the least common multiple of itself
 pub least_of_one : (k : ℕ) → IsPeriod k → IsLeastWithinLimit (k ∷ []) k
 least_of_one k p = record { period = p; multiples = λ n. ((λ m. (m, tt)), λ c. c.0) }
-
--- multiples of each other are the same
-same_multiples : (a b : ℕ) → IsMultiple a b → IsMultiple b a → a ≡ b
-same_multiples zero b h i = let e : b ≡ 0 * h.times = h.is in omega (arith, e)
-same_multiples (suc a) zero h i = let e : suc a ≡ 0 * i.times = i.is in omega (arith, e)
-same_multiples (suc a) (suc b) h i =
-    let l : suc a ≤ suc b = multiple_le (suc a) (suc b) h (omega arith) in
-    let g : suc b ≤ suc a = multiple_le (suc b) (suc a) i (omega arith) in
-    omega (arith, l, g)
 
 pub lcm_swapped : (a b : ℕ) → 1 ≤ a → 1 ≤ b → lcm a b ≡ lcm b a
 lcm_swapped a b h i =

@@ -1,7 +1,6 @@
 -- Least common multiples up to 2^62, by the numbers that they divide.
 use Rattle.std.specs.Prelude.{ℕ, ◌≤◌, ◌^◌, ◌↔◌, List, ◌++◌, Option, Some, None}
-use Rattle.std.specs.List.{AllByRecursion}
-use Rattle.lrp_model.specs.Periods.{IsMultiple, IsCommon}
+use Rattle.lrp_theory.specs.Divides.{IsMultiple, IsCommon}
 
 -- from 1 to 2^62
 pub record IsPeriod (k : ℕ) : Type 0 where

@@ -8,7 +8,8 @@ ghost use Rattle.lrp_limits.specs.Facts.{AreFacts, most_of_row, KeepsPeriod};
 use crate::periods::{Period, one};
 use lrp_model::{Bound, Row, RowPoint, Value};
 
-/// The least common multiple of a relation's periods, or `None` where it is above 2^62; the greatest magnitude of a bound of its rows; and how many rows it has.
+/// The least common multiple of a relation's periods, or `None` where it is above 2^62; the greatest magnitude of a
+/// bound of its rows; and how many rows it has.
 #[derive(Clone, Copy)]
 pub struct Facts {
     pub period: Option<Period>,

@@ -24,7 +24,8 @@ pub fn one() -> Period
 impl Period {
     ghost use Rattle.lrp_limits.specs.Multiples.{IsLeastWithinLimit, IsPeriodOf};
 
-    /// The least common multiple of this period and a further number, or `None` where it is none from 1 to 2^62. A divisor adds nothing.
+    /// The least common multiple of this period and a further number, or `None` where it is none from 1 to 2^62. A
+    /// divisor adds nothing.
     pub fn with(self, further: u64) -> Option<Period>
         ensures { (ks : List ℕ) → IsLeastWithinLimit ks self.number
             → IsPeriodOf (ks ++ further ∷ []) (option_map (λ p. p.number) result) }

@@ -7,7 +7,8 @@ ghost use Rattle.lrp_limits.specs.Capped.{capped as capped_at};
 use crate::reaches::{capped, doubled};
 use lrp_model::{Column, Sort};
 
-/// The reach of the last step times two, and once more times two for each time column of the head; 2^62 + 1 where that is above 2^62.
+/// The reach of the last step times two, and once more times two for each time column of the head; 2^62 + 1 where that
+/// is above 2^62.
 pub fn scaled(reach: u64, columns: &[Column]) -> u64
     ensures { (n : ℕ) → reach ≡ capped_at n
         → result ≡ capped_at (2 ^ (time_count columns.now + 1) * n) }

@@ -1,4 +1,4 @@
-//! The integer nearest to zero in an interval, among those of a residue.
+// The integer nearest to zero in an interval, among those of a residue.
 
 ghost use Rattle.std.specs.Prelude.{◌≡◌, ◌<◌, ◌≤◌, ◌^◌, ℤ, pos, ◌≤ℤ◌, ◌<ℤ◌, IfNone, IfSome, neg_ℤ};
 ghost use Rattle.lrp_theory.specs.Entries.{AtMost};
@@ -74,8 +74,8 @@ fn last_below_zero(
     }
 }
 
-/// The first integer of the order 0, 1, -1, 2, -2, .. that has the residue and lies between the ends, or `None` where there is none.
-/// An end that is `None` leaves that side open.
+/// The first integer of the order 0, 1, -1, 2, -2, .. that has the residue and lies between the ends, or `None` where
+/// there is none. An end that is `None` leaves that side open.
 pub fn nearest_zero(
     least: Option<i128>,
     most: Option<i128>,

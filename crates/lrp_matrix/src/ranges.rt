@@ -1,4 +1,4 @@
-//! The ends that the bounds to earlier columns give a column.
+// The ends that the bounds to earlier columns give a column.
 
 ghost use Rattle.std.specs.Prelude.{◌≡◌, ◌<◌, ◌≤◌, ◌^◌, ◌*◌, ◌+◌, length, Some};
 ghost use Rattle.lrp_theory.specs.Entries.{AtMost, IsSmallClosure, node};
@@ -28,7 +28,8 @@ fn negated(a: Option<i128>) -> Option<i128>
     }
 }
 
-/// The low and the high end of column i behind the integers of the columns before it: the greatest `x_p` less the bound of p minus i, and the least `x_p` plus the bound of i minus p.
+/// The low and the high end of column i behind the integers of the columns before it: the greatest `x_p` less the bound
+/// of p minus i, and the least `x_p` plus the bound of i minus p.
 pub fn ends(cells: &[Option<i128>; 81], i: usize, prefix: &[i64]) -> (Option<i128>, Option<i128>)
     requires column { i < 9 }
     requires count { length prefix.now + 1 ≡ i }

@@ -14,3 +14,5 @@ pub mod TupleLaws
 pub mod ColumnCounts
 pub mod TokenLaws
 pub mod Unique
+pub mod FirstFault
+pub mod Everywhere

@@ -40,6 +40,7 @@ wrong_sorts _ _ = []
 abbrev pub unknown : List RawColumn → Located Identifier → List DbFault
 unknown cs n = fault_if (time_number 0 cs n.item == 0) (database_fault Column n.place)
 
+-- the same of the right side, where a name stands there
 abbrev pub side_faults : List RawColumn → Side → List DbFault
 side_faults cs (Alone i) = []
 side_faults cs (side_column n) = unknown cs n

@@ -73,6 +73,7 @@ side_bounds cs op x (Alone i) = kept op x 0 (integer_of i)
 side_bounds cs op x (side_column n) = kept op x (time_number 0 cs n.item) (pos 0)
 side_bounds cs op x (Shifted n down k) = kept op x (time_number 0 cs n.item) (signed down k)
 
+-- a written bound, by the numbers of its columns
 abbrev pub kept_bounds : List RawColumn → RawBound → List Bound
 kept_bounds cs b = side_bounds cs b.op (time_number 0 cs b.left.item) b.side
 
@@ -80,8 +81,10 @@ kept_bounds cs b = side_bounds cs b.op (time_number 0 cs b.left.item) b.side
 abbrev pub row_of : List RawColumn → RawRow → Row
 row_of cs r = record { values = map (λ v. value_of v.item) r.values; bounds = instant_bounds r.values 0 ++ flat_map (kept_bounds cs) r.bounds }
 
+-- a relation, without its places
 abbrev pub relation_of : RawRelation → Relation
 relation_of r = record { name = r.name.item; columns = map column_of r.columns; rows = map (λ row. row_of r.columns row.item) r.rows }
 
+-- the relations, in order
 abbrev pub database_of : List RawRelation → List Relation
 database_of = map relation_of

@@ -64,5 +64,6 @@ IsDatabaseFaultOf bytes Column f = HasDatabaseFault bytes f
 IsDatabaseFaultOf bytes Wide f = HasDatabaseFault bytes f
 IsDatabaseFaultOf bytes UnknownRelation f = ⊥
 
+-- the same, by the kind that the fault has
 abbrev pub IsDatabaseFault : List ℕ → DbFault → Type 0
 IsDatabaseFault bytes f = IsDatabaseFaultOf bytes f.kind f

@@ -88,6 +88,7 @@ database_text rs = flat_map relation_text rs ++ any end_token ∷ []
 
 -- ---- what makes a tree lawful beyond the grammar: the sizes of numbers and texts, and periods that are not 0
 
+-- a text of at most 255 bytes, an integer within the limit, or a point of a period from 1 to the limit
 abbrev pub FitsValue : WrittenValue → Type 0
 FitsValue (Constant t) = length t ≤ 255
 FitsValue (Instant i) = i.size ≤ greatest_number
@@ -107,5 +108,6 @@ FitsRow r = AllByRecursion (λ v. FitsValue v.item) r.values × AllByRecursion F
 abbrev pub FitsRelation : RawRelation → Type 0
 FitsRelation r = AllByRecursion (λ row. FitsRow row.item) r.rows
 
+-- all numbers and texts of all relations fit
 abbrev pub FitsDatabase : List RawRelation → Type 0
 FitsDatabase = AllByRecursion FitsRelation

@@ -1,7 +1,8 @@
 -- From bytes to tokens with their places.
-use Rattle.std.specs.Prelude.{◌+◌, ◌-◌, ◌*◌, ℕ, zero, suc, Bool, true, false, ◌||◌, ◌==◌, nat_le, List, [], ◌∷◌, length, Result, Ok, Err, if◌then◌else◌, codes}
+use Rattle.std.specs.Prelude.{◌+◌, ℕ, zero, suc, Bool, true, false, ◌||◌, ◌==◌, nat_le, List, [], ◌∷◌, length, Result, Ok, Err, if◌then◌else◌, codes}
 use Rattle.std.specs.Char.{is_ascii_digit, is_ascii_lowercase, is_ascii_uppercase}
 use Rattle.std.specs.Str.{bytes_eq}
+use Rattle.std.specs.Str.Parse.{digits_value}
 use Rattle.lrp_model.specs.declared.tokens.Symbol.{Symbol}
 use Rattle.lrp_model.specs.declared.tokens.Symbol.TheVariants.{Open, Close, OpenBrace, CloseBrace, Comma, Colon, Semicolon, Bar, Plus, Minus, Le, Ge, Lt, Gt, Equals}
 use Rattle.lrp_model.specs.declared.tokens.Word.TheVariants.{Relation, Where, Time, Data, Letter, Exists, Forall, Not, And, Or, Implies, In}
@@ -55,11 +56,6 @@ unfoldable pub behind_run : (ℕ → Bool) → List ℕ → List ℕ
 behind_run test [] = []
 behind_run test (b ∷ bs) = if test b then behind_run test bs else b ∷ bs
 
--- the value of digits behind a number
-unfoldable pub value_from : ℕ → List ℕ → ℕ
-value_from n [] = n
-value_from n (b ∷ bs) = value_from (10 * n + (b - 48)) bs
-
 -- a token, the bytes that it takes, and those behind it; at a bad byte, the bytes before it
 pub record Scanned : Type 0 where
   pub token : Token
@@ -89,14 +85,17 @@ pub record QuotedText : Type 0 where
   pub taken : List ℕ
   pub left : List ℕ
 
+-- a text, or what was read of one, with byte b in front, and the byte that is written for it
 abbrev pub longer : ℕ → ℕ → Result QuotedText Scanned → Result QuotedText Scanned
 longer written b (Ok t) = Ok (record { meant = b ∷ t.meant; taken = written ∷ t.taken; left = t.left })
 longer written b (Err s) = Err (record { token = bad_token; taken = written ∷ s.taken; left = s.left })
 
+-- the same with a byte in front that is written and means nothing by itself
 abbrev pub more_taken : ℕ → Result QuotedText Scanned → Result QuotedText Scanned
 more_taken b (Ok t) = Ok (record { meant = t.meant; taken = b ∷ t.taken; left = t.left })
 more_taken b (Err s) = Err (record { token = bad_token; taken = b ∷ s.taken; left = s.left })
 
+-- no text, at these bytes
 abbrev pub bad_at : List ℕ → Result QuotedText Scanned
 bad_at bs = Err (record { token = bad_token; taken = []; left = bs })
 
@@ -107,10 +106,12 @@ text_from true (b ∷ bs) = if (b == 34) || (b == 92) then more_taken 92 (longer
 text_from false [] = bad_at []
 text_from false (b ∷ bs) = if b == 34 then Ok (record { meant = []; taken = b ∷ []; left = bs }) else if b == 92 then text_from true bs else if is_forbidden b then bad_at (b ∷ bs) else longer b b (text_from false bs)
 
+-- the token of a text behind its opening quote, or the bad byte in it
 abbrev pub text_scanned : Result QuotedText Scanned → Scanned
 text_scanned (Ok t) = record { token = text_token t.meant; taken = 34 ∷ t.taken; left = t.left }
 text_scanned (Err s) = record { token = bad_token; taken = 34 ∷ s.taken; left = s.left }
 
+-- a symbol of one byte
 abbrev pub one : Symbol → ℕ → List ℕ → Scanned
 one s b bs = record { token = symbol_token s; taken = b ∷ []; left = bs }
 
@@ -119,6 +120,7 @@ abbrev pub one_or_two : Symbol → Symbol → ℕ → List ℕ → Scanned
 one_or_two s r b [] = one s b []
 one_or_two s r b (c ∷ bs) = if c == 61 then record { token = symbol_token r; taken = b ∷ c ∷ []; left = bs } else one s b (c ∷ bs)
 
+-- the symbol that a byte and those behind it begin with
 unfoldable pub symbol_from : ℕ → List ℕ → Scanned
 symbol_from b bs =
     if b == 40 then one Open b bs else
@@ -141,7 +143,7 @@ unfoldable pub scan : List ℕ → Scanned
 scan [] = record { token = end_token; taken = []; left = [] }
 scan (b ∷ bs) =
     if is_letter b then record { token = word_or_name (run is_name_byte (b ∷ bs)); taken = run is_name_byte (b ∷ bs); left = behind_run is_name_byte (b ∷ bs) } else
-    if is_ascii_digit b then record { token = number_token (value_from 0 (run is_ascii_digit (b ∷ bs))); taken = run is_ascii_digit (b ∷ bs); left = behind_run is_ascii_digit (b ∷ bs) } else
+    if is_ascii_digit b then record { token = number_token (digits_value 10 (run is_ascii_digit (b ∷ bs))); taken = run is_ascii_digit (b ∷ bs); left = behind_run is_ascii_digit (b ∷ bs) } else
     if b == 34 then text_scanned (text_from false bs) else
     symbol_from b bs
 

@@ -56,6 +56,7 @@ abbrev pub shifted_sort : Option Sort → TermSort
 shifted_sort None = unsorted
 shifted_sort (Some s) = of_sort Time
 
+-- the sort of a term within binders, by its kind
 abbrev pub kind_sort : Binders → RawTermKind → TermSort
 kind_sort bs (Int x) = of_sort Time
 kind_sort bs (Text t) = any_data
@@ -141,6 +142,7 @@ binder_faults db bs c = fault_if (is_named_in (map (λ b. b.name) bs) c.name) (q
 
 -- ---- too many free variables
 
+-- the name in a term, if there is one
 abbrev pub term_names : RawTerm → List Identifier
 term_names t = kind_names t.kind
   where
@@ -168,6 +170,7 @@ abbrev mutual
   free_names_each no_raws = []
   free_names_each (raw f fs) = free_names f ++ free_names_each fs
 
+-- 1 where there is a binder whose sort passes, else 0; a variable without a binder has a fault of its own
 abbrev pub counted : (Sort → Bool) → Option Sort → ℕ
 counted passes None = 0
 counted passes (Some s) = if passes s then 1 else 0
@@ -181,6 +184,7 @@ count passes bs (n ∷ ns) = if is_named_in ns n then count passes bs ns else co
 abbrev pub too_many : Binders → List Identifier → Bool
 too_many bs names = nat_lt 8 (count is_time bs names) || nat_lt 8 (count is_data bs names)
 
+-- the place of a formula, that of its first token
 abbrev pub place_of : RawForm → Place
 place_of (raw_atom p n ts) = p
 place_of (raw_compare p l op r) = p

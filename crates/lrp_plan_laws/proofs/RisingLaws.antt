@@ -7,7 +7,8 @@ use Rattle.lrp_model.specs.Formulas.{Form, Forms, Question, atom, test, sorted, 
 use Rattle.lrp_model.specs.Variables.{Variable, free, head_variables}
 use Rattle.lrp_model.specs.Satisfaction.{Structure, structure}
 use Rattle.lrp_model.specs.Core.{core_form, guarded, has_named_sort, column_elements, head_elements, HasElements}
-use Rattle.lrp_model.specs.Periods.{IsMultiple, lcm_all, test_periods, periods, periods_each, period}
+use Rattle.lrp_theory.specs.Divides.{IsMultiple}
+use Rattle.lrp_model.specs.Periods.{lcm_all, test_periods, periods, periods_each, period}
 use Rattle.lrp_model.specs.Reach.{reach_of, greatest, test_reach}
 use Rattle.lrp_model.specs.Steps.{PlanStep, Steps, step_at, formula_at, reach_at, step_behind, made, tests_as_forms}
 use Rattle.lrp_model.specs.Plans.{plan, core_steps, query_reach}
@@ -26,7 +27,8 @@ use Rattle.lrp_plan_laws.specs.Rising.{period_at, HasPeriods, named_periods, nat
 use Rattle.lrp_plan_laws.proofs.Elements.{found, within, formula_front, step_made, reach_made, period_made}
 use Rattle.lrp_plan_laws.proofs.Names.{Names, names_self}
 use Rattle.lrp_plan_laws.proofs.Marks.{Mark, marks, marked_periods}
-use Rattle.lrp_plan_laws.proofs.PeriodLaws.{lcm_all_is, multiple_least, lcm_positive, lcm_part, lcm_alone, lcm_same, lcm_one}
+use Rattle.lrp_theory.proofs.Multiples.{multiple_le}
+use Rattle.lrp_plan_laws.proofs.PeriodLaws.{lcm_all_is, lcm_positive, lcm_part, lcm_alone, lcm_same, lcm_one}
 use Rattle.lrp_plan_laws.proofs.PlanSound.{core_of_query}
 use Rattle.lrp_plan_laws.proofs.Builds.{AreMade, AreUnder, IsUnder, LastIsUnder, Builds, made_more}
 use Rattle.lrp_plan_laws.proofs.PlanBuilds.{EachGuard, EachOfGuard, builds}
@@ -395,7 +397,7 @@ module _ (db : List Relation) (q : Question) (some : HasElements q.body) (low : 
         keeps = subst (λ K. KeepsPeriod (period_at (plan db q)) K step.kind) (sym m.period)
             (period_kept (structure db q) (head_step db q) (formula_at (plan db q)) (period_at (plan db q)) (period_of (structure db q) (head_step db q) (plan db q) (plan_made db q some)) same_period step.kind step.formula m.formula l);
         divides = subst (λ K. IsMultiple K (period db q.body)) (sym m.period) d;
-        within = subst (λ K. K ≤ period db q.body) (sym m.period) (multiple_least (period db step.formula) (period db q.body) (lcm_positive (periods q.body db) low) d);
+        within = subst (λ K. K ≤ period db q.body) (sym m.period) (multiple_le (period db step.formula) (period db q.body) (lcm_positive (periods q.body db) low) d);
         below = u.0;
       }
 

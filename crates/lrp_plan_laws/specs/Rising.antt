@@ -3,7 +3,8 @@ use Rattle.std.specs.Prelude.{◌≡◌, ℕ, ◌≤◌, List, [], flat_map, nat
 use Rattle.std.specs.List.{AllByRecursion}
 use Rattle.lrp_model.specs.Rows.{rows_of}
 use Rattle.lrp_model.specs.Formulas.{Question}
-use Rattle.lrp_model.specs.Periods.{IsMultiple, value_periods, test_periods, periods, period}
+use Rattle.lrp_theory.specs.Divides.{IsMultiple}
+use Rattle.lrp_model.specs.Periods.{value_periods, test_periods, periods, period}
 use Rattle.lrp_model.specs.Steps.{PlanStep, Steps, step_at, reach_at}
 use Rattle.lrp_model.specs.Plans.{plan, query_reach}
 use Rattle.lrp_model.specs.declared.relations.Relation.{Relation}

@@ -10,7 +10,8 @@ ghost use Rattle.lrp_model.specs.Checked.{plain_question};
 ghost use Rattle.lrp_model.specs.Domains.{constants};
 ghost use Rattle.lrp_model.specs.Satisfaction.{Structure, Assignment, Satisfies, IsAnswer, structure, assignment, HasShape, HaveDistinctNames};
 ghost use Rattle.lrp_model.specs.Core.{positive, negative, core_form, guarded, has_named_sort, HasElements};
-ghost use Rattle.lrp_model.specs.Periods.{IsLeastMultiple, lcm_all, period};
+ghost use Rattle.lrp_theory.specs.Divides.{IsLeastMultiple};
+ghost use Rattle.lrp_model.specs.Periods.{lcm_all, period};
 ghost use Rattle.lrp_model.specs.Reach.{reach_of};
 ghost use Rattle.lrp_model.specs.Steps.{PlanStep, step_at, formula_at};
 ghost use Rattle.lrp_model.specs.Plans.{core_steps, plan, HasNoNamedSorts};
@@ -35,7 +36,8 @@ pub fn core_form_is_sound()
         → Satisfies (core_form named q) M env ↔ Satisfies (guarded named q.head q.body) M env }
 {}
 
-/// The step before `head` says what `head` says. The formula of the last step holds for exactly the answers, among the tuples of the head's shape whose texts are constants.
+/// The step before `head` says what `head` says. The formula of the last step holds for exactly the answers, among the
+/// tuples of the head's shape whose texts are constants.
 pub fn plan_is_sound()
     ensures steps { (db : List Relation) (q : Question) → HasElements q.body → (env : Assignment)
         → Satisfies (formula_at (core_steps db q) (length (core_steps db q))) (structure db q) env
@@ -47,7 +49,8 @@ pub fn plan_is_sound()
         (assignment q.head tuple) ↔ IsAnswer db q tuple }
 {}
 
-/// The period is the least common multiple of the periods, where each of them is at least 1; and each is, where those in the rows and in the `in` points are.
+/// The period is the least common multiple of the periods, where each of them is at least 1; and each is, where those
+/// in the rows and in the `in` points are.
 pub fn periods_are_least()
     ensures least { (ks : List ℕ) → AllByRecursion (λ k. 1 ≤ k) ks
         → IsLeastMultiple ks (lcm_all ks) }
@@ -56,7 +59,8 @@ pub fn periods_are_least()
         → AllByRecursion (λ at. 1 ≤ nat_abs at.period) (points q.body) → HasPeriods db q }
 {}
 
-/// Along the steps of a plan periods and reaches rise, up to those of the query. The last step has the period of the query, and a step's reach is no less where those of the steps that it reads are no less.
+/// Along the steps of a plan periods and reaches rise, up to those of the query. The last step has the period of the
+/// query, and a step's reach is no less where those of the steps that it reads are no less.
 pub fn plan_rises()
     ensures steps { (db : List Relation) (q : Question) → HasElements q.body → HasPeriods db q
         → (s : ℕ) (step : PlanStep) → step_at (plan db q) s ≡ Some step → IsRising db q s step }
@@ -67,7 +71,8 @@ pub fn plan_rises()
         → reach_of db at K kind ≤ reach_of db more K kind }
 {}
 
-/// Each step of a plan is made of earlier ones by the rule of its kind, with the variables that the rule relies on, and the points of its tests are the query's. The last one and no other is `head`, and it reads the step before it.
+/// Each step of a plan is made of earlier ones by the rule of its kind, with the variables that the rule relies on, and
+/// the points of its tests are the query's. The last one and no other is `head`, and it reads the step before it.
 pub fn steps_are_made()
     ensures steps { (db : List Relation) (q : Question) → HasElements q.body
         → (s : ℕ) (step : PlanStep) → step_at (plan db q) s ≡ Some step
@@ -86,7 +91,9 @@ pub fn steps_are_made()
         → length (plan db q) ≡ length (core_steps db q) + 1 }
 {}
 
-/// The variables of a step, and those of the steps that it reads together, are at most eight of each kind, and none has the name of one of the other kind, where this is so in each part of the query. Where the head has all variables of the body, it has all of the last two steps' too.
+/// The variables of a step, and those of the steps that it reads together, are at most eight of each kind, and none has
+/// the name of one of the other kind, where this is so in each part of the query. Where the head has all variables of
+/// the body, it has all of the last two steps' too.
 pub fn steps_are_narrow()
     ensures steps { (db : List Relation) (q : Question) → HasElements q.body
         → IsNarrow (head_variables q.head ++ free q.body) → EachScope IsNarrow q.body
@@ -100,14 +107,16 @@ pub fn steps_are_narrow()
         (head_variables q.head) }
 {}
 
-/// Where a step drops a data variable, only texts of its sort complete a member: the core form has a sort element beside each quantifier where sorts are named, and else there is one sort.
+/// Where a step drops a data variable, only texts of its sort complete a member: the core form has a sort element
+/// beside each quantifier where sorts are named, and else there is one sort.
 pub fn drops_are_guarded()
     ensures { (db : List Relation) (q : Question) → HasElements q.body
         → (has_named_sort db ≡ false → HasNoNamedSorts db q × BindsPlainly q.body)
         → (s : ℕ) (step : PlanStep) → step_at (plan db q) s ≡ Some step → IsGuardedDrop db q step }
 {}
 
-/// A well-sorted query over a database is settled, where each `and` and `or` of it has an element, each period is at least 1 and each text of the database stands in a data column.
+/// A well-sorted query over a database is settled, where each `and` and `or` of it has an element, each period is at
+/// least 1 and each text of the database stands in a data column.
 pub fn sorted_queries_are_settled()
     ensures { (db : List Relation) (q : RawQuestion) → IsWellSorted db q → HasSortedTexts db
         → HasElements (plain_question q).body → HasPeriods db (plain_question q)

@@ -1,4 +1,4 @@
-//! Common divisors, common multiples and common members: Euclid's algorithm and the theorem on two congruences.
+// Common divisors, common multiples and common members: Euclid's algorithm and the theorem on two congruences.
 
 ghost use Rattle.std.specs.Prelude.{◌≡◌, ◌<◌, ◌≤◌, ◌^◌, ◌%◌, ◌↔◌, pos, nat_abs, IfNone, IfSome, IfOk, IsErr, ◌≤ℤ◌, ◌-ℤ◌, ◌*ℤ◌};
 ghost use Rattle.lrp_theory.specs.Divides.{Divides, IsLcm};
@@ -7,8 +7,8 @@ ghost use Rattle.lrp_point.specs.Points.{AreApart, IsCommonPoint, IsLcmAbove, po
 use crate::point::PeriodLimit;
 use lrp_model::LIMIT;
 
-/// A common divisor g of a and b, and a number s such that b divides g - s a.
-/// This is Euclid's extended algorithm with the factor of a kept from 0 to b - 1 (Knuth, "The Art of Computer Programming", volume 2, 1969, section 4.5.2).
+/// A common divisor g of a and b, and a number s such that b divides g - s a. This is Euclid's extended algorithm with
+/// the factor of a kept from 0 to b - 1 (Knuth, "The Art of Computer Programming", volume 2, 1969, section 4.5.2).
 pub(crate) fn bezout(a: u128, b: u128) -> (u128, u128)
     requires a_low { 0 < a }
     requires b_low { 0 < b }
@@ -60,7 +60,8 @@ fn multiple(a: u128, b: u128) -> u128
     requires b_low { 0 < b }
     requires a_high { a ≤ 2 ^ 62 }
     requires b_high { b ≤ 2 ^ 62 }
-    ensures { IsLcm a b result }
+    ensures low { 0 < result }
+    ensures least { IsLcm a b result }
 {
     let (g, _) = bezout(a, b);
     a / g * b

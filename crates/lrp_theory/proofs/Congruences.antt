@@ -7,7 +7,7 @@ use Rattle.lrp_theory.specs.Divides.{Divides, IsMember, IsLcm}
 use Rattle.lrp_theory.specs.Congruences.{IsGreatestDivisor, IsCommonMember}
 use Rattle.lrp_theory.proofs.Ring.{distrib_left, minus_left, minus_right, times_assoc}
 use Rattle.lrp_theory.proofs.Modulo.{Divides-+, Divides--, Divides-is, Divides-zero, Divides-self, Divides-times}
-use Rattle.lrp_theory.proofs.Multiples.{Divides-trans}
+use Rattle.lrp_theory.proofs.Multiples.{Divides-trans, lcm_divides}
 
 -- a common divisor g of a and b, as a sum of multiples of both
 pub record IsCombined (a b g : ℕ) : Type 0 where
@@ -85,8 +85,8 @@ member_from c k x y h g = Divides-is k ((y -ℤ x) +ℤ (x -ℤ c)) _ (omega (ar
 -- one common member gives them all: those at a distance that the least common multiple divides
 pub common_members : (c d : ℤ) (k m l : ℕ) (x : ℤ) → IsLcm k m l → IsCommonMember c k d m x → (y : ℤ) → (IsCommonMember c k d m y → IsMember x (pos l) y) × (IsMember x (pos l) y → IsCommonMember c k d m y)
 common_members c d k m l x lcm h y = (
-  (λ g. lcm.least (y -ℤ x) (members_differ c (pos k) x y h.0 g.0) (members_differ d (pos m) x y h.1 g.1)),
-  (λ g. (member_from c (pos k) x y h.0 (Divides-trans (pos k) (pos l) _ lcm.left g), member_from d (pos m) x y h.1 (Divides-trans (pos m) (pos l) _ lcm.right g))),
+  (λ g. lcm_divides k m l (y -ℤ x) lcm (members_differ c (pos k) x y h.0 g.0) (members_differ d (pos m) x y h.1 g.1)),
+  (λ g. (member_from c (pos k) x y h.0 (Divides-trans (pos k) (pos l) _ lcm.common.0 g), member_from d (pos m) x y h.1 (Divides-trans (pos m) (pos l) _ lcm.common.1.0 g))),
 )
 
 -- a common member makes a common divisor divide the distance of the offsets
