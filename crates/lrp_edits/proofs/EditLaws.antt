@@ -32,7 +32,7 @@ use Rattle.lrp_edits.specs.EditMeaning.{written_columns, edit_of, faults_in, edi
 use Rattle.lrp_edits.specs.EditReading.{IsEditsText, SaysEdits, IsNoEditsText, HasEditsFault, IsEditsFaultOf, IsEditsFault, AreEditsRefused}
 use Rattle.lrp_edits.specs.EditRules.{edits}
 use Rattle.lrp_edits.specs.EditGathered.{AreEditsOf, AreEditsFrom}
-use Rattle.lrp_rel.proofs.FirstFault.{none_is_empty}
+use Rattle.lrp_model.proofs.FirstFault.{none_is_empty}
 use Rattle.lrp_rel.proofs.OneFault.{kind_met, fault_of}
 use Rattle.lrp_rel.proofs.RowKinds.{AreOf, IsOneOf, HasRowKinds, flat_of, row_kinds, first_of}
 use Rattle.lrp_edits.proofs.EditRuleLaws.{edits_sound, edits_refused, edits_shallow, same_edits}

@@ -23,7 +23,7 @@ use Rattle.lrp_model.specs.declared.written.RawRow.{RawRow}
 use Rattle.lrp_model.specs.declared.faults.DbFault.{DbFault}
 use Rattle.lrp_model.specs.declared.faults.DbKind.TheVariants.{Name, Wide, UnknownRelation}
 use Rattle.lrp_model.specs.declared.memory.Memory.{Memory}
-use Rattle.lrp_print.specs.Kept.{IsKept}
+use Rattle.lrp_model.specs.Kept.{IsKept}
 use Rattle.lrp_edits.specs.declared.edits.Edit.{Edit}
 use Rattle.lrp_edits.specs.declared.edits.Edits.{Edits}
 use Rattle.lrp_edits.specs.declared.edits.RawEdit.{RawEdit}
@@ -31,9 +31,9 @@ use Rattle.lrp_rel.specs.declared.gathering.Heading.{Heading}
 use Rattle.lrp_edits.specs.EditMeaning.{written_columns, edit_with, edit_of, faults_in, edit_faults}
 use Rattle.lrp_edits.specs.EditGathered.{IsHeadingOf, AreHeadings, IsHeadingIn, TakesEdit, AreEditsOf}
 use Rattle.lrp_rel.specs.Gathered.{IsHeading}
-use Rattle.lrp_rel.specs.Sooner.{sooner}
-use Rattle.lrp_rel.proofs.FirstFault.{none_of_both}
-use Rattle.lrp_rel.proofs.SeenLemmas.{IsFirst}
+use Rattle.lrp_model.specs.Sooner.{sooner}
+use Rattle.lrp_model.proofs.FirstFault.{none_of_both}
+use Rattle.lrp_database.proofs.SeenLemmas.{IsFirst}
 use Rattle.lrp_rel.proofs.SoundLemmas.{times_more, texts_more}
 use Rattle.lrp_rel.proofs.GatheredLemmas.{first_more, column_faults}
 

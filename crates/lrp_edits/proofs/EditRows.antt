@@ -12,7 +12,7 @@ use Rattle.lrp_model.specs.DatabaseMeaning.{row_of}
 use Rattle.lrp_model.specs.declared.relations.Column.{Column}
 use Rattle.lrp_model.specs.declared.relations.Relation.{Relation}
 use Rattle.lrp_text.proofs.NameTokens.{all_front, all_behind, all_tail}
-use Rattle.lrp_print.specs.Kept.{IsRowOf}
+use Rattle.lrp_model.specs.Kept.{IsRowOf}
 use Rattle.lrp_edits.specs.declared.edits.Edit.{Edit}
 use Rattle.lrp_edits.specs.declared.edits.RawEdit.{RawEdit}
 use Rattle.lrp_edits.specs.EditTexts.{change_part, edit_text, edits_text, FitsEdit, FitsEdits}

@@ -1,6 +1,5 @@
 -- The rules for edits: local, complete, sound and viable, so that they refuse exactly where the grammar says, and never for depth.
-use Rattle.std.proofs.Common.{◌≡◌, ◌<◌, ◌≤◌, ◌+◌, ℕ, suc, Bool, true, false, List, [], ◌∷◌, ◌++◌, inl, refl, sym, subst, Ok, Err, if◌then◌else◌, length, arith, append-nil}
-use Rattle.std.specs.List.{flat_map}
+use Rattle.std.proofs.Common.{◌≡◌, ◌<◌, ◌+◌, ℕ, Bool, true, false, List, [], ◌∷◌, ◌++◌, inl, refl, sym, subst, Ok, Err, if◌then◌else◌, length, arith, append-nil}
 use Rattle.lrp_model.specs.declared.tokens.Symbol.{Symbol}
 use Rattle.lrp_model.specs.declared.tokens.Symbol.TheVariants.{Open, Close, Semicolon, Plus, Minus}
 use Rattle.lrp_model.specs.declared.tokens.Fault.{Fault}
@@ -9,17 +8,17 @@ use Rattle.lrp_model.specs.declared.written.RawRow.{RawRow}
 use Rattle.lrp_model.specs.Texts.{Identifier}
 use Rattle.lrp_model.specs.Lexing.{start}
 use Rattle.lrp_model.specs.Tokens.{Placed, Tokens, Part, Takes, Spells, located_text}
-use Rattle.lrp_model.specs.Tokens.Token.{name_token, symbol_token, end_token}
+use Rattle.lrp_model.specs.Tokens.Token.{name_token, symbol_token}
 use Rattle.lrp_model.specs.Tokens.Part.{any}
 use Rattle.lrp_model.specs.Refused.{Stops, TextOf, IsRefusedAt}
 use Rattle.lrp_model.specs.Databases.{name_part, row_text, FitsRow}
 use Rattle.lrp_text.specs.Parsers.{◌>>=◌, pure, eat, until_from}
 use Rattle.lrp_text.specs.Taking.{is_symbol, is_symbol_token, is_end, is_end_token, expect, expect_end, located}
-use Rattle.lrp_text.proofs.Local.{Local, bind_local, accept_local, pure_local, eat_local, if_local, until_local}
-use Rattle.lrp_text.proofs.Complete.{Answers, ReadsBack, Anything, Sees, bind_back, then_back, pure_back, accepts_back, eat_back, eat_none, answers_then, first_sees_any, first_is_not, MemberUntil, until_back, joined_long}
-use Rattle.lrp_text.proofs.Sound.{Sound, bind_ok, eat_sound, eaten_parts, takes_join, takes_split, takes_shorter, until_sound}
-use Rattle.lrp_text.proofs.Viable.{Viable, One, sub_step, sub_short, eat_step, spells_join, always, until_viable}
-use Rattle.lrp_text.proofs.TokenTests.{symbol_told, symbol_seen, expect_seen, end_required}
+use Rattle.lrp_text.proofs.Local.{Local, bind_local, accept_local, pure_local, eat_local, if_local}
+use Rattle.lrp_text.proofs.Complete.{Answers, ReadsBack, Anything, Sees, bind_back, then_back, pure_back, accepts_back, eat_back, eat_none, answers_then, first_sees_any, first_is_not, MemberUntil}
+use Rattle.lrp_text.proofs.Sound.{Sound, bind_ok, eat_sound, eaten_parts, takes_join, takes_split, takes_shorter}
+use Rattle.lrp_text.proofs.Viable.{Viable, One, sub_step, sub_short, eat_step, spells_join, always}
+use Rattle.lrp_text.proofs.TokenTests.{symbol_told, symbol_seen, expect_seen}
 use Rattle.lrp_text.proofs.LocatedRule.{located_local, located_answers, located_sound, located_stops}
 use Rattle.lrp_text.proofs.Refusal.{Rule, refused_at}
 use Rattle.lrp_edits.specs.declared.edits.RawEdit.{RawEdit}
@@ -30,7 +29,7 @@ use Rattle.lrp_rel.proofs.Labels.{label_local, label_back, label_sound, label_vi
 use Rattle.lrp_rel.proofs.LocalRules.{row_local}
 use Rattle.lrp_rel.proofs.RowRules.{row_answers, row_sound, row_viable, sym_part, symbol_sound, symbol_viable}
 use Rattle.lrp_rel.proofs.RelationRules.{row_leads}
-use Rattle.lrp_rel.proofs.DatabaseRules.{end_part, end_sound, end_viable, ending, one_answer}
+use Rattle.lrp_rel.proofs.UntilEnd.{ItemRule, items_once, items_rule, items_sound}
 use Rattle.lrp_rel.proofs.Shallow.{Shallow, bind_shallow, if_shallow, pure_shallow, eat_shallow, until_shallow, located_shallow, expects, label_shallow, row_shallow}
 
 -- ---- local
@@ -49,13 +48,6 @@ edit_local n =
     bind_local change _ change_local (λ add.
     bind_local label _ label_local (λ who.
     bind_local (located (row n)) _ (located_local (row n) (row_local n)) (λ r. pure_local _)))
-
--- edits depend on their tokens and on the next one alone
-edits_local : (n : ℕ) → Local (edits n)
-unfolding edits
-edits_local n =
-    bind_local (until_from (edit n) is_end n []) _ (until_local _ _ (edit_local n) n []) (λ es.
-    bind_local expect_end _ (accept_local _) (λ u. pure_local _))
 
 -- ---- complete
 
@@ -102,18 +94,6 @@ edits_member n = record {
 edit_has_token : (e : RawEdit) → 0 < length (edit_text e)
 edit_has_token e = omega arith
 
--- edits that fewer tokens spell than the number of turns are read, or refused for another cause than syntax where they are not lawful
-edits_complete : (n : ℕ) (es : List RawEdit) (ts : Tokens) → length ts < n → Spells (edits_text es) ts → Answers (edits n ts) es [] (FitsEdits es)
-unfolding edits
-edits_complete n es ts lt h =
-    let k = takes_split (flat_map edit_text es) (any end_token ∷ []) ts [] h in
-    let size : length k.0 + length (flat_map edit_text es) ≡ length ts = takes_shorter (flat_map edit_text es) ts k.0 k.1 in
-    let few : length es ≤ length (flat_map edit_text es) = joined_long edit_text edit_has_token es in
-    let L : Type 0 = FitsEdits es in
-    answers_then (until_from (edit n) is_end n [] ts) _ es k.0 es [] L
-    (until_back (edits_member n) n [] es (omega (arith, few, size, lt)) ts k.0 lt k.1 (first_sees_any false is_end_token end_token [] k.0 [] k.2) tt)
-    (answers_then (expect_end k.0) _ tt [] es [] L ((accepts_back _ (any end_token) tt L end_required).reads k.0 [] k.2 tt) (inl refl))
-
 -- ---- sound
 
 -- behind a plus, or where there is none
@@ -154,24 +134,6 @@ edit_sound n ts q e =
           (takes_join (One name_part m.0.0) (located_text row_text r.0.0) c.0.1 m.0.1 r.0.1 (label_sound c.0.1 m.0 m.1).0 one.0),
       one.1,
     )
-
--- the edits before the end that are read are spelled so, and are lawful
-all_sound : (n : ℕ) → Sound (until_from (edit n) is_end n []) (flat_map edit_text) FitsEdits
-all_sound n ts q e =
-    let k = until_sound (edit n) edit_text FitsEdit is_end (edit_sound n) n [] ts q e in
-    let R : List RawEdit → Type 0 = λ l. Takes (flat_map edit_text l) ts q.1 × FitsEdits l in
-    subst R (sym k.made) (k.spelled, k.fits)
-
--- what is read as edits is lawful, and the tokens spell it
-pub edits_sound : (n : ℕ) → Sound (edits n) edits_text FitsEdits
-unfolding edits
-edits_sound n ts q e =
-    let es = bind_ok (until_from (edit n) is_end n [] ts) _ q e in
-    let u = bind_ok (expect_end es.0.1) _ q es.2 in
-    let h : (es.0.0, u.0.1) ≡ q = cc in
-    let read = all_sound n ts es.0 es.1 in
-    subst (λ y. Takes (edits_text y.0) ts y.1 × FitsEdits y.0) h
-    (takes_join (flat_map edit_text es.0.0) (any end_token ∷ []) ts es.0.1 u.0.1 read.0 (end_sound es.0.1 u.0 u.1).0, read.1)
 
 -- ---- viable
 
@@ -219,22 +181,21 @@ edit_viable n ts e lt h =
     (λ c r x spelled fit. ([], (made_of add m r, fit, spells_join (One change_part add) (from_name m r) h1 (h2 ++ (x ++ [])) s1 (spells_join (One name_part m) (located_text row_text r) h2 (x ++ []) s2 (subst (λ y. Spells (located_text row_text r) y) (sym (append-nil x)) spelled)))))
     (λ r h3 ws s3 f3 l3 d3. absurd cc)))
 
--- the tokens before a fault of edits begin some
-edits_viable : (n : ℕ) (ts : Tokens) (e : Fault × Tokens) → length ts < n → edits n ts ≡ Err e → Stops (TextOf edits_text FitsEdits) ts e
-unfolding edits
-edits_viable n ts e lt h =
-    let R : Bool → Tokens → Type 0 = TextOf edits_text FitsEdits in
-    sub_short (until_from (edit n) is_end n []) _ (flat_map edit_text) FitsEdits R ts e (all_sound n) (λ d. until_viable (edit n) edit_text FitsEdit is_end n (edit_sound n) (edit_viable n) edit_has_token n [] ts e lt lt d) h
-    (λ c es x spelled fit. (ending, (es, fit, spells_join (flat_map edit_text es) (any end_token ∷ []) x ending spelled (refl, refl))))
-    (λ es h1 us s1 f1 l1 d1. sub_short expect_end _ (One end_part) (λ u. Unit {0}) (λ c x. R c (h1 ++ x)) us e end_sound (end_viable us e) d1
-    (λ c u x spelled fit. ([], (es, always (FitsEdits es) c f1, spells_join (flat_map edit_text es) (any end_token ∷ []) h1 (x ++ []) s1 (subst (λ y. Spells (One end_part u) y) (sym (append-nil x)) spelled))))
-    (λ u h2 vs s2 f2 l2 d2. absurd cc))
+-- ---- all edits
 
--- ---- refused exactly where the grammar says
+-- the rule of an edit has all that an item's owes
+edit_rule : ItemRule edit edit_text FitsEdit
+edit_rule = record { local = edit_local; member = edits_member; sound = edit_sound; viable = edit_viable; some = edit_has_token }
+
+-- what is read as edits is lawful, and the tokens spell it
+pub edits_sound : (n : ℕ) → Sound (edits n) edits_text FitsEdits
+unfolding edits
+edits_sound n = items_sound edit edit_text FitsEdit edit_rule n
 
 -- the rule of edits has all that a rule owes
 edits_rule : Rule edits edits_text FitsEdits
-edits_rule = record { local = edits_local; complete = edits_complete; viable = edits_viable }
+unfolding edits
+edits_rule = let r = items_rule edit edit_text FitsEdit edit_rule in record { local = r.local; complete = r.complete; viable = r.viable }
 
 -- the tokens of no lawful edits are refused where the grammar says, for its cause
 pub edits_refused : (ts : Tokens) (k : Fault) (bad : Placed) (tail : Tokens) → ((n : ℕ) → length ts < n → edits n ts ≡ Err (k, bad ∷ tail)) → IsRefusedAt (TextOf edits_text FitsEdits) ts k bad tail
@@ -242,9 +203,7 @@ edits_refused = refused_at edits edits_text FitsEdits edits_rule
 
 -- tokens that spell lawful edits spell no others
 pub same_edits : (a b : List RawEdit) (ts : Tokens) → FitsEdits a → Spells (edits_text a) ts → Spells (edits_text b) ts → a ≡ b
-same_edits a b ts fits h k =
-    let n = suc (length ts) in
-    one_answer (edits n ts) a b (FitsEdits a) (FitsEdits b) fits (edits_complete n a ts (omega arith) h) (edits_complete n b ts (omega arith) k)
+same_edits = items_once edit edit_text FitsEdit edit_rule
 
 -- ---- never for depth
 

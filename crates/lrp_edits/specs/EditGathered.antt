@@ -8,7 +8,7 @@ use Rattle.lrp_edits.specs.declared.edits.Edit.{Edit}
 use Rattle.lrp_edits.specs.declared.edits.RawEdit.{RawEdit}
 use Rattle.lrp_edits.specs.declared.edits.Edits.{Edits}
 use Rattle.lrp_rel.specs.declared.gathering.Heading.{Heading}
-use Rattle.lrp_rel.specs.Sooner.{sooner}
+use Rattle.lrp_model.specs.Sooner.{sooner}
 use Rattle.lrp_rel.specs.Gathered.{IsHeading}
 use Rattle.lrp_edits.specs.EditMeaning.{written_columns, edit_of, edits_faults}
 use Rattle.lrp_edits.specs.EditReading.{IsEditsText}

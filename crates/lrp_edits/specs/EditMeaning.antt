@@ -12,7 +12,7 @@ use Rattle.lrp_model.specs.declared.relations.Column.{Column}
 use Rattle.lrp_model.specs.declared.relations.Relation.{Relation}
 use Rattle.lrp_model.specs.declared.faults.DbFault.{DbFault}
 use Rattle.lrp_model.specs.declared.faults.DbKind.TheVariants.{UnknownRelation}
-use Rattle.lrp_print.specs.Kept.{IsRowOf}
+use Rattle.lrp_model.specs.Kept.{IsRowOf}
 use Rattle.lrp_edits.specs.declared.edits.Edit.{Edit}
 use Rattle.lrp_edits.specs.declared.edits.RawEdit.{RawEdit}
 
@@ -36,9 +36,11 @@ abbrev pub faults_in : Option Relation → RawEdit → List DbFault
 faults_in None e = database_fault UnknownRelation e.relation.place ∷ []
 faults_in (Some r) e = row_faults (written_columns r.columns) e.row
 
+-- the faults of an edit of a database
 abbrev pub edit_faults : List Relation → RawEdit → List DbFault
 edit_faults db e = faults_in (relation_named db e.relation.item) e
 
+-- those of all edits, in order
 abbrev pub edits_faults : List Relation → List RawEdit → List DbFault
 edits_faults db = flat_map (edit_faults db)
 

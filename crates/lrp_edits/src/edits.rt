@@ -9,8 +9,9 @@ ghost use Rattle.lrp_edits.specs.EditMeaning.{edit_with, edit_of, edit_faults};
 ghost use Rattle.lrp_edits.specs.EditGathered.{AreEditsOf, AreHeadings, TakesEdit};
 
 use crate::headings::heading_named;
+use lrp_database::Database;
 use lrp_model::{DbFault, DbKind, List, Located, Memory, Name, Place, RawRow, Row};
-use lrp_rel::{Database, Heading, meant_row, row_fault, sooner_of};
+use lrp_rel::{Heading, meant_row, row_fault, sooner_of};
 use std::alloc::Global;
 
 /// A change of a relation: a row that is added, or one that is taken out.

@@ -3,12 +3,13 @@ ghost use Rattle.std.specs.Prelude.{◌≡◌, IfOk};
 ghost use Rattle.std.specs.List.{AllByRecursion};
 ghost use Rattle.std.specs.Option.{option_copied};
 ghost use Rattle.lrp_model.specs.Rows.{relation_named};
-ghost use Rattle.lrp_print.specs.Kept.{IsKept};
+ghost use Rattle.lrp_model.specs.Kept.{IsKept};
 ghost use Rattle.lrp_edits.specs.EditMeaning.{written_column, written_columns};
 ghost use Rattle.lrp_edits.specs.EditGathered.{IsHeadingOf, AreHeadings, IsHeadingIn};
 
+use lrp_database::Database;
 use lrp_model::{Column, Copies, List, Memory, Name, Place, RawColumn, Relation};
-use lrp_rel::{Database, Heading};
+use lrp_rel::Heading;
 use std::alloc::Global;
 
 // A column as a text may write it.

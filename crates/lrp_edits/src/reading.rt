@@ -9,8 +9,9 @@ ghost use Rattle.lrp_edits.specs.EditRules.{change, edit, edits};
 ghost use Rattle.lrp_edits.specs.EditGathered.{AreEditsOf, AreHeadings};
 
 use crate::edits::{Edits, RawEdit};
+use lrp_database::Database;
 use lrp_model::{Fault, List, Symbol};
-use lrp_rel::{Database, Heading, read_label, read_placed_row};
+use lrp_rel::{Heading, read_label, read_placed_row};
 use lrp_text::Cursor;
 use std::alloc::Global;
 

@@ -36,7 +36,7 @@ use Rattle.lrp_model.specs.declared.relations.Row.{Row}
 use Rattle.lrp_model.specs.declared.relations.Sort.{Sort}
 use Rattle.lrp_model.specs.declared.relations.Value.{Value}
 use Rattle.lrp_model.specs.declared.relations.Value.TheVariants.{Point, Const}
-use Rattle.lrp_print.specs.Kept.{AreKept, AreValuesOf, IsKept, IsRowOf}
+use Rattle.lrp_model.specs.Kept.{AreKept, AreValuesOf, IsKept, IsRowOf}
 use Rattle.lrp_rel.proofs.MeaningKept.{tree_kept}
 use Rattle.lrp_rel.proofs.NameLemmas.{tree_named}
 use Rattle.lrp_rel.proofs.TreeTexts.{tree_texted}

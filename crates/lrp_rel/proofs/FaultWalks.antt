@@ -18,10 +18,10 @@ use Rattle.lrp_model.specs.declared.written.WrittenValue.{WrittenValue}
 use Rattle.lrp_model.specs.declared.written.RawBound.{RawBound}
 use Rattle.lrp_model.specs.declared.faults.DbFault.{DbFault}
 use Rattle.lrp_model.specs.declared.faults.DbKind.TheVariants.{Name, Sort}
-use Rattle.lrp_rel.specs.Sooner.{sooner}
-use Rattle.lrp_rel.specs.Once.{put_once}
+use Rattle.lrp_model.specs.Sooner.{sooner}
+use Rattle.lrp_database.proofs.OnceLaws.{any_put, any_once}
 use Rattle.lrp_rel.specs.Times.{time_names, AreTimesOf}
-use Rattle.lrp_rel.proofs.FirstFault.{first_of_both, sooner_again}
+use Rattle.lrp_model.proofs.FirstFault.{first_of_both, sooner_again}
 
 -- the faults of a bound
 abbrev pub bound_faults : List RawColumn → RawBound → List DbFault
@@ -48,29 +48,6 @@ flat_walk f xs i x best more found all h lt here e is =
     walk best more found all (f x) (flat_map f (drop (i + 1) xs)) (ap (λ l. sooner database_standing best (earliest database_standing (flat_map f l))) (sym (behind xs i x lt here)) ∙ h) e is
 
 -- ---- names that stand twice
-
--- whether a name more passes
-pub any_more : (p : Identifier → Bool) (xs : List Identifier) (x : Identifier) → list_any p (xs ++ x ∷ []) ≡ p x || list_any p xs
-any_more p [] x = refl
-any_more p (y ∷ xs) x = ap (λ b. p y || b) (any_more p xs x) ∙ turned (p y) (p x) (list_any p xs)
-  where
-    turned : (a b c : Bool) → a || (b || c) ≡ b || (a || c)
-    turned true true c = refl
-    turned true false c = refl
-    turned false b c = refl
-
--- a name that is there already passes no further test
-there_already : (names : List Identifier) (n m : Identifier) (b : Bool) → list_any (bytes_eq n) names ≡ true → bytes_eq m n ≡ b → list_any (bytes_eq m) names ≡ b || list_any (bytes_eq m) names
-there_already names n m false h e = refl
-there_already names n m true h e = ap (λ k. list_any (bytes_eq k) names) ((bytes_decides m n).0 e) ∙ h
-
--- a name put in is there, beside those before
-pub any_put : (names : List Identifier) (n m : Identifier) → list_any (bytes_eq m) (insert_key bytes_eq names n) ≡ bytes_eq m n || list_any (bytes_eq m) names
-any_put names n m = by (list_any (bytes_eq n) names) refl
-  where
-    by : (b : Bool) → list_any (bytes_eq n) names ≡ b → list_any (bytes_eq m) (if b then names else names ++ n ∷ []) ≡ bytes_eq m n || list_any (bytes_eq m) names
-    by true e = there_already names n m (bytes_eq m n) e refl
-    by false e = any_more (bytes_eq m) names n
 
 -- the names that stand twice depend only on which names stand before
 repeated_as : (f : Place → DbFault) (b c : List Identifier) → ((m : Identifier) → is_named_in b m ≡ is_named_in c m) → (ns : List (Located Identifier)) → repeated f b ns ≡ repeated f c ns
@@ -113,22 +90,6 @@ sorts_walk cs vs i c v best more found all h lt less here there e is =
     (ap (λ l. sooner database_standing best (earliest database_standing (wrong_sorts l (v ∷ drop (i + 1) vs)))) (sym (behind cs i c lt here)) ∙ ap (λ l. sooner database_standing best (earliest database_standing (wrong_sorts (drop i cs) l))) (sym (behind vs i v less there)) ∙ h) e is
 
 -- ---- names of time columns
-
--- a name among those that were put in, each once
-pub any_once : (n : Identifier) (before ns : List Identifier) → list_any (bytes_eq n) (fold put_once before ns) ≡ list_any (bytes_eq n) before || list_any (bytes_eq n) ns
-any_once n before [] = or_false (list_any (bytes_eq n) before)
-  where
-    or_false : (b : Bool) → b ≡ b || false
-    or_false true = refl
-    or_false false = refl
-any_once n before (m ∷ ns) =
-    any_once n (put_once before m) ns ∙ ap (λ b. b || list_any (bytes_eq n) ns) (any_put before m n) ∙ moved_out (bytes_eq n m) (list_any (bytes_eq n) before) (list_any (bytes_eq n) ns)
-  where
-    moved_out : (a b c : Bool) → (a || b) || c ≡ b || (a || c)
-    moved_out true true c = refl
-    moved_out true false c = refl
-    moved_out false true c = refl
-    moved_out false false c = refl
 
 -- a number behind others is not 0
 not_zero : (k : ℕ) → (k + 1 == 0) ≡ false

@@ -1,6 +1,7 @@
 -- A text has fewer data texts than bytes.
 use Rattle.std.proofs.Common.{◌≡◌, ◌<◌, ◌≤◌, ℕ, zero, suc, false, List, [], ◌∷◌, ◌++◌, length, length-append, map, refl, sym, ap, arith}
 use Rattle.std.specs.List.{flat_map}
+use Rattle.lrp_model.proofs.Everywhere.{map_count}
 use Rattle.lrp_model.specs.Domains.{row_texts, database_texts}
 use Rattle.lrp_model.specs.declared.tokens.Place.{Place}
 use Rattle.lrp_model.specs.declared.tokens.Symbol.TheVariants.{Close, OpenBrace, CloseBrace, Semicolon, Plus}
@@ -84,11 +85,6 @@ texts_count [] vs = omega arith
 texts_count (c ∷ cs) [] = omega arith
 texts_count (c ∷ cs) (point p ∷ vs) = let h = texts_count cs vs in omega (arith, h)
 texts_count (c ∷ cs) (Const t ∷ vs) = let h = texts_count cs vs in omega (arith, h)
-
--- a map has as many elements
-pub map_count : {A B : Type 0} (f : A → B) (xs : List A) → length (map f xs) ≡ length xs
-map_count f [] = refl
-map_count f (x ∷ xs) = ap suc (map_count f xs)
 
 -- a row has more parts than texts
 pub row_count : (ks : List Column) (cs : List RawColumn) (row : Located RawRow) → length (row_texts ks (row_of cs row.item).values) ≤ length (located_text row_text row)

@@ -20,7 +20,7 @@ use Rattle.lrp_model.specs.declared.relations.Relation.{Relation}
 use Rattle.lrp_model.specs.declared.written.Located.{Located}
 use Rattle.lrp_model.specs.declared.written.RawRow.{RawRow}
 use Rattle.lrp_model.specs.declared.written.RawRelation.{RawRelation}
-use Rattle.lrp_rel.specs.Sooner.{sooner}
+use Rattle.lrp_model.specs.Sooner.{sooner}
 use Rattle.lrp_rel.specs.Times.{AreTimesOf, AreTimePlaces, HasRowMeaning}
 use Rattle.lrp_rel.specs.Gathered.{IsHeading, IsBodyOf, IsMeaningOf, AreGathered}
 use Rattle.lrp_rel.specs.Reading.{IsSoundTree}
@@ -28,7 +28,7 @@ use Rattle.lrp_rel.specs.declared.gathering.Heading.{Heading}
 use Rattle.lrp_rel.specs.declared.gathering.Body.{Body}
 use Rattle.lrp_rel.specs.declared.gathering.Meaning.{Meaning}
 use Rattle.lrp_rel.specs.declared.gathering.Gathered.{Gathered}
-use Rattle.lrp_rel.proofs.FirstFault.{first_of_both, none_of_both, none_is_empty, sooner_than_none}
+use Rattle.lrp_model.proofs.FirstFault.{first_of_both, none_of_both, none_is_empty, sooner_than_none}
 use Rattle.lrp_rel.proofs.FaultWalks.{names_walk}
 use Rattle.lrp_rel.proofs.SoundLemmas.{second_empty, columns_few, times_few, times_numbered, points_many, row_many, row_suits}
 

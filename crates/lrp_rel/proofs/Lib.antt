@@ -1,4 +1,3 @@
-pub mod FirstFault
 pub mod FaultWalks
 pub mod KeptTurns
 pub mod GatheredLemmas
@@ -9,15 +8,13 @@ pub mod MeaningKept
 pub mod FewTexts
 pub mod RowKinds
 pub mod WholeFault
-pub mod SeenLemmas
-pub mod StoredLemmas
-pub mod OnceLaws
 pub mod Labels
 pub mod LocalRules
 pub mod ValueRules
 pub mod BoundRules
 pub mod RowRules
 pub mod RelationRules
+pub mod UntilEnd
 pub mod DatabaseRules
 pub mod Ops
 pub mod Shallow

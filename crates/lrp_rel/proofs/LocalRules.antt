@@ -3,14 +3,14 @@ use Rattle.std.proofs.Common.{ℕ, false, []}
 use Rattle.lrp_model.specs.declared.tokens.Symbol.TheVariants.{Open, Close, OpenBrace, CloseBrace, Comma, Semicolon, Plus, Minus}
 use Rattle.lrp_model.specs.declared.tokens.Word.TheVariants.{Relation, Where, Letter}
 use Rattle.lrp_text.specs.Parsers.{accept, look, eat, listed, until_from}
-use Rattle.lrp_text.specs.Taking.{is_symbol, is_word, expect, expect_word, number, period, text, is_text, is_name, is_end, expect_end, located}
+use Rattle.lrp_text.specs.Taking.{is_symbol, is_word, expect, expect_word, number, period, text, is_text, is_name, located}
 use Rattle.lrp_text.proofs.Local.{Local, bind_local, accept_local, pure_local, eat_local, look_local, if_local, separated_local, listed_local, until_local}
 use Rattle.lrp_text.proofs.LocatedRule.{located_local}
 use Rattle.lrp_text.proofs.ColumnRule.{column_local}
 use Rattle.lrp_text.proofs.IntegerRule.{integer_local}
 use Rattle.lrp_rel.proofs.Labels.{label_local}
 use Rattle.lrp_text.specs.IntegerRule.{integer}
-use Rattle.lrp_rel.specs.Rules.{label, numeric, bare_value, value, named_side, side, op_of, bound, bounds, row, relation, database}
+use Rattle.lrp_rel.specs.Rules.{label, numeric, bare_value, value, named_side, side, op_of, bound, bounds, row, relation}
 
 -- an instant or a point depends on its tokens and on the next one alone
 pub numeric_local : Local numeric
@@ -87,10 +87,3 @@ relation_local n =
     bind_local (expect OpenBrace) _ (accept_local _) (λ x.
     bind_local (until_from (located (row n)) (is_symbol CloseBrace) n []) _ (until_local _ _ (located_local (row n) (row_local n)) n []) (λ rows.
     bind_local (expect CloseBrace) _ (accept_local _) (λ y. pure_local _))))))))
-
--- a database depends on its tokens and on the next one alone
-pub database_local : (n : ℕ) → Local (database n)
-unfolding database
-database_local n =
-    bind_local (until_from (relation n) is_end n []) _ (until_local _ _ (relation_local n) n []) (λ rs.
-    bind_local expect_end _ (accept_local _) (λ u. pure_local _))

@@ -25,7 +25,7 @@ use Rattle.lrp_model.specs.declared.written.RawBound.{RawBound}
 use Rattle.lrp_model.specs.declared.written.RawRow.{RawRow}
 use Rattle.lrp_model.specs.declared.written.RawRelation.{RawRelation}
 use Rattle.lrp_model.specs.declared.faults.DbKind.TheVariants.{Name, Arity, Sort, Column as column_kind}
-use Rattle.lrp_print.specs.Kept.{IsValueOf, AreValuesOf, IsBoundOf, IsRowOf, IsKept, AreKept}
+use Rattle.lrp_model.specs.Kept.{IsValueOf, AreValuesOf, IsBoundOf, IsRowOf, IsKept, AreKept}
 use Rattle.lrp_rel.specs.Times.{points_in, point_count, HasMeaning}
 use Rattle.lrp_rel.proofs.FaultWalks.{bound_faults}
 use Rattle.lrp_rel.proofs.NameLemmas.{IsNamedRelation}

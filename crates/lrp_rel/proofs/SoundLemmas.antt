@@ -20,10 +20,11 @@ use Rattle.lrp_model.specs.declared.written.RawRow.{RawRow}
 use Rattle.lrp_model.specs.declared.written.RawRelation.{RawRelation}
 use Rattle.lrp_model.specs.declared.faults.DbFault.{DbFault}
 use Rattle.lrp_model.specs.declared.faults.DbKind.TheVariants.{Name, Arity, Sort, Wide}
-use Rattle.lrp_rel.specs.Once.{once, put_once}
+use Rattle.lrp_database.specs.Once.{once, put_once}
 use Rattle.lrp_rel.specs.Times.{time_names, AreTimesOf, AreTimePlaces, place_from, points_in, point_count}
-use Rattle.lrp_rel.proofs.SeenLemmas.{IsFirst, neither}
-use Rattle.lrp_rel.proofs.FaultWalks.{any_more, bound_faults}
+use Rattle.lrp_database.proofs.SeenLemmas.{IsFirst, neither}
+use Rattle.lrp_database.proofs.OnceLaws.{any_more}
+use Rattle.lrp_rel.proofs.FaultWalks.{bound_faults}
 
 -- of two lists that are empty together, each is
 pub first_empty : {A : Type 0} (xs ys : List A) → xs ++ ys ≡ [] → xs ≡ []

@@ -13,7 +13,7 @@ use Rattle.lrp_model.specs.declared.written.Located.{Located}
 use Rattle.lrp_model.specs.declared.written.RawRow.{RawRow}
 use Rattle.lrp_model.specs.declared.written.RawRelation.{RawRelation}
 use Rattle.lrp_text.specs.Parsers.{Outcome, Reads}
-use Rattle.lrp_rel.specs.Sooner.{sooner}
+use Rattle.lrp_model.specs.Sooner.{sooner}
 use Rattle.lrp_rel.specs.Times.{AreTimesOf}
 use Rattle.lrp_rel.specs.declared.gathering.Heading.{Heading}
 use Rattle.lrp_rel.specs.declared.gathering.Body.{Body}

@@ -12,7 +12,7 @@ use Rattle.lrp_model.specs.declared.written.WrittenValue.{WrittenValue}
 use Rattle.lrp_model.specs.declared.written.WrittenValue.TheVariants.{Constant, Instant, Point}
 use Rattle.lrp_model.specs.declared.written.RawRow.{RawRow}
 use Rattle.lrp_model.specs.declared.written.RawRelation.{RawRelation}
-use Rattle.lrp_rel.specs.Once.{once}
+use Rattle.lrp_database.specs.Once.{once}
 
 -- the names of the time columns, in order
 abbrev pub time_names : List RawColumn → List Identifier

@@ -6,8 +6,8 @@ ghost use Rattle.indexmap.specs.IndexSet.{keys, insert_key};
 ghost use Rattle.lrp_model.specs.Faults.{earliest, fault_if, repeated, ninth, is_named_in};
 ghost use Rattle.lrp_model.specs.DatabaseFaults.{database_standing, database_fault, suits, wrong_sorts, unknown, side_faults, row_faults, named_at};
 ghost use Rattle.lrp_model.specs.declared.raw.RawColumn.{RawColumn as ColumnOf};
-ghost use Rattle.lrp_rel.specs.Once.{put_once};
-ghost use Rattle.lrp_rel.specs.Sooner.{sooner};
+ghost use Rattle.lrp_database.specs.Once.{put_once};
+ghost use Rattle.lrp_model.specs.Sooner.{sooner};
 ghost use Rattle.lrp_rel.specs.Times.{time_names, AreTimesOf};
 
 use indexmap::IndexSet;

@@ -1,19 +1,15 @@
 //! Databases as text: what is read and what is written.
 #![tactic(auto)]
 
-mod database;
 mod faults;
 mod gathering;
 mod laws;
 mod meaning;
 mod read;
 mod reading;
-mod seen;
-mod texts;
 mod trees;
 mod written;
 
-pub use database::Database;
 pub use faults::{row_fault, sooner_of};
 pub use gathering::Heading;
 pub use laws::{database_texts_have_one_tree, databases_read_back};

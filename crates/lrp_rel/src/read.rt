@@ -8,9 +8,9 @@ ghost use Rattle.lrp_rel.specs.Gathered.{AreGathered};
 ghost use Rattle.lrp_rel.specs.Reading.{IsReadOrMemory, IsDatabaseFaultOrMemory, IsRefusedBy, IsSoundTree, IsGatheredFromText, IsTreeRefusal};
 ghost use Rattle.lrp_model.specs.Limits.{most_bytes};
 
-use crate::database::Database;
 use crate::gathering::Gathered;
 use crate::trees::{ReadFault, read_bytes};
+use lrp_database::Database;
 use std::alloc::Global;
 
 // The database of what a text says, or the first fault of that.

@@ -4,7 +4,7 @@ ghost use Rattle.lrp_io.specs.Pieces.{IsWritten};
 ghost use Rattle.lrp_model.specs.Printed.{database_bytes};
 ghost use Rattle.lrp_print.specs.ReadBack.{ReadsBack};
 
-use crate::Database;
+use lrp_database::Database;
 use lrp_io::{Failed, Sink};
 use lrp_print::write_relations;
 

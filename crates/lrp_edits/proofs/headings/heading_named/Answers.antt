@@ -7,8 +7,8 @@ use Rattle.std.proofs.lemmas.List.{length-map}
 use Rattle.std.proofs.lemmas.List.Quantifiers.{position-Some}
 use Rattle.lrp_model.specs.declared.relations.Relation.{Relation}
 use Rattle.lrp_edits.specs.EditGathered.{IsHeadingIn}
-use Rattle.lrp_rel.proofs.SeenLemmas.{found_first}
-use Rattle.lrp_rel.proofs.StoredLemmas.{named_none}
+use Rattle.lrp_database.proofs.SeenLemmas.{found_first}
+use Rattle.lrp_database.proofs.StoredLemmas.{named_none}
 use Rattle.lrp_edits.proofs.EditLemmas.{headings_many, heading_found}
 use Rattle.lrp_edits.proofs.headings.heading_named.Goals as goal
 

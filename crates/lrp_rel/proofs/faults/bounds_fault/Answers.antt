@@ -2,8 +2,8 @@
 use Rattle.std.proofs.Common.{◌≡◌, ◌∙◌, ap, sym}
 use Rattle.lrp_model.specs.Faults.{earliest}
 use Rattle.lrp_model.specs.DatabaseFaults.{database_standing, unknown, side_faults}
-use Rattle.lrp_rel.specs.Sooner.{sooner}
-use Rattle.lrp_rel.proofs.FirstFault.{first_of_both, sooner_again}
+use Rattle.lrp_model.specs.Sooner.{sooner}
+use Rattle.lrp_model.proofs.FirstFault.{first_of_both, sooner_again}
 use Rattle.lrp_rel.proofs.FaultWalks.{bound_faults, flat_walk}
 use Rattle.lrp_rel.proofs.faults.bounds_fault.Goals as goal
 

@@ -5,7 +5,7 @@ use Rattle.indexmap.specs.IndexSet.{keys}
 use Rattle.lrp_model.specs.Faults.{earliest}
 use Rattle.lrp_model.specs.DatabaseFaults.{database_standing}
 use Rattle.lrp_model.specs.declared.raw.RawColumn.{RawColumn}
-use Rattle.lrp_rel.specs.Sooner.{sooner}
+use Rattle.lrp_model.specs.Sooner.{sooner}
 use Rattle.lrp_rel.specs.Times.{AreTimesOf}
 use Rattle.lrp_rel.proofs.FaultWalks.{bound_faults}
 use Rattle.lrp_rel.proofs.faults.bounds_fault.Given as goal

@@ -3,7 +3,7 @@ use Rattle.std.proofs.Common.{◌≡◌, ◌+◌, drop}
 use Rattle.lrp_model.specs.Faults.{earliest, ninth}
 use Rattle.lrp_model.specs.DatabaseFaults.{database_standing, database_fault}
 use Rattle.lrp_model.specs.declared.faults.DbKind.TheVariants.{Wide}
-use Rattle.lrp_rel.specs.Sooner.{sooner}
+use Rattle.lrp_model.specs.Sooner.{sooner}
 use Rattle.lrp_rel.proofs.faults.ninth_column.Given as goal
 
 abbrev pub invariant-loop-column : goal.invariant-loop-column

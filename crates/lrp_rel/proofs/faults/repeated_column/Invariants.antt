@@ -4,7 +4,7 @@ use Rattle.indexmap.specs.IndexSet.{keys}
 use Rattle.lrp_model.specs.Faults.{earliest, repeated}
 use Rattle.lrp_model.specs.DatabaseFaults.{database_standing, database_fault, named_at}
 use Rattle.lrp_model.specs.declared.faults.DbKind.TheVariants.{Name}
-use Rattle.lrp_rel.specs.Sooner.{sooner}
+use Rattle.lrp_model.specs.Sooner.{sooner}
 use Rattle.lrp_rel.proofs.faults.repeated_column.Given as goal
 
 abbrev pub invariant-loop-column : goal.invariant-loop-column

@@ -4,7 +4,7 @@ use Rattle.std.specs.List.{flat_map}
 use Rattle.lrp_model.specs.Faults.{earliest, fault_if}
 use Rattle.lrp_model.specs.DatabaseFaults.{database_standing, database_fault, wrong_sorts}
 use Rattle.lrp_model.specs.declared.faults.DbKind.TheVariants.{Arity}
-use Rattle.lrp_rel.specs.Sooner.{sooner}
+use Rattle.lrp_model.specs.Sooner.{sooner}
 use Rattle.lrp_rel.proofs.FaultWalks.{bound_faults, first_of_three}
 use Rattle.lrp_rel.proofs.faults.row_fault.Goals as goal
 

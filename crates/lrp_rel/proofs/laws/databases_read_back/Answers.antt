@@ -1,5 +1,5 @@
 use Rattle.std.proofs.Common.{List, ℕ, sym, subst}
-use Rattle.lrp_print.specs.Kept.{AreKept}
+use Rattle.lrp_model.specs.Kept.{AreKept}
 use Rattle.lrp_print.proofs.Reading.{reads_back}
 use Rattle.lrp_rel.proofs.NameLemmas.{tree_named}
 use Rattle.lrp_rel.proofs.TreeTexts.{tree_texted}

@@ -4,7 +4,7 @@ use Rattle.std.specs.List.{list_any}
 use Rattle.std.specs.Option.{is_some}
 use Rattle.std.specs.Str.{bytes_eq}
 use Rattle.indexmap.specs.IndexSet.{keys}
-use Rattle.lrp_rel.proofs.SeenLemmas.{found_first}
+use Rattle.lrp_database.proofs.SeenLemmas.{found_first}
 use Rattle.lrp_rel.proofs.SoundLemmas.{place_found, place_none}
 use Rattle.lrp_rel.proofs.meaning.number_of.Goals as goal
 

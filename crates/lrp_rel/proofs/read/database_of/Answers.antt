@@ -4,7 +4,7 @@ use Rattle.lrp_model.specs.Faults.{earliest}
 use Rattle.lrp_model.specs.Domains.{database_texts}
 use Rattle.lrp_model.specs.DatabaseFaults.{database_standing, database_faults}
 use Rattle.lrp_model.specs.declared.relations.Relation.{Relation}
-use Rattle.lrp_print.specs.Kept.{AreKept}
+use Rattle.lrp_model.specs.Kept.{AreKept}
 use Rattle.lrp_rel.proofs.GatheredLemmas.{gathered_sound}
 use Rattle.lrp_rel.proofs.NameLemmas.{tree_named}
 use Rattle.lrp_rel.proofs.TreeTexts.{tree_texted}

@@ -5,7 +5,7 @@ use Rattle.lrp_model.specs.Rows.{relation_named}
 use Rattle.lrp_rel.specs.declared.gathering.Heading.{Heading}
 use Rattle.lrp_edits.specs.EditGathered.{IsHeadingIn}
 use Rattle.lrp_edits.specs.EditMeaning.{edit_of}
-use Rattle.lrp_rel.proofs.SeenLemmas.{on_ok}
+use Rattle.lrp_database.proofs.SeenLemmas.{on_ok}
 use Rattle.lrp_edits.proofs.EditLemmas.{headed, none_headed, takes_known, takes_unknown}
 use Rattle.lrp_edits.proofs.edits.Edits.keep.Goals as goal
 

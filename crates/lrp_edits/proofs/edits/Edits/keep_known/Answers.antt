@@ -2,7 +2,7 @@
 use Rattle.std.proofs.Common.{◌≡◌, ◌∷◌, [], ◌++◌, ◌∙◌, ap, sym, None}
 use Rattle.lrp_model.specs.Faults.{earliest}
 use Rattle.lrp_model.specs.DatabaseFaults.{database_standing, row_faults}
-use Rattle.lrp_rel.proofs.FirstFault.{none_of_both, none_is_empty}
+use Rattle.lrp_model.proofs.FirstFault.{none_of_both, none_is_empty}
 use Rattle.lrp_rel.proofs.GatheredLemmas.{none_or_some}
 use Rattle.lrp_edits.proofs.EditLemmas.{takes_row}
 use Rattle.lrp_edits.proofs.edits.Edits.keep_known.Goals as goal

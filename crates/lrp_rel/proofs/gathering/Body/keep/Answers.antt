@@ -2,8 +2,8 @@
 use Rattle.std.proofs.Common.{◌≡◌, ◌∷◌, [], ◌++◌, ◌∙◌, ap, sym, None}
 use Rattle.lrp_model.specs.Faults.{earliest}
 use Rattle.lrp_model.specs.DatabaseFaults.{database_standing, row_faults}
-use Rattle.lrp_rel.specs.Sooner.{sooner}
-use Rattle.lrp_rel.proofs.FirstFault.{none_of_both}
+use Rattle.lrp_model.specs.Sooner.{sooner}
+use Rattle.lrp_model.proofs.FirstFault.{none_of_both}
 use Rattle.lrp_rel.proofs.GatheredLemmas.{heading_few, heading_numbered, row_means, body_more, none_or_some}
 use Rattle.lrp_rel.proofs.gathering.Body.keep.Goals as goal
 

@@ -1,0 +1,3 @@
+pub mod SeenLemmas
+pub mod StoredLemmas
+pub mod OnceLaws

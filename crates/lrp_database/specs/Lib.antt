@@ -1,0 +1,5 @@
+-- What contracts of public calls say.
+pub mod Stored
+pub mod Once
+-- What functions inside say to one another.
+pub mod Seen
