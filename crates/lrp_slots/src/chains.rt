@@ -162,14 +162,14 @@ pub(crate) fn take_out<V: Drop>(links: &mut Slab<Link<V>>, chain: Chain, place: 
 
 // Keeps what is left of a held cell's chain; a cell with no slot goes.
 pub(crate) fn keep_rest(chains: &mut Held, cell: &Cell, rest: Chain)
-    requires { IsSome (chain_at chains.old cell.now) }
+    requires line { IsLine chains.old }
+    requires held { IsSome (chain_at chains.old cell.now) }
     ensures updates { (other : CellValue) → chain_at chains.new other
         ≡ cond (is_at (cell_cmp cell.now) other) (if_some rest) (chain_at chains.old other) }
     ensures total { (chain : Chain) → chain_at chains.old cell.now ≡ Some chain
         → slots_of chains.new + chain.count ≡ slots_of chains.old + rest.count }
     ensures ordered { IsLine chains.new }
 {
-    chains.len();
     if rest.count == 0 {
         chains.remove(cell);
         return;

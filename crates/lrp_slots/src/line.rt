@@ -178,7 +178,8 @@ fn place_of(line: &[(Narrow, Chain)], cell: &Cell) -> Option<usize>
     search(line, &key).ok()
 }
 
-// The place of a key in a line, or the one where it is missing. The last one is looked at first, since cells mostly come in order.
+// The place of a key in a line, or the one where it is missing. The last one is looked at first, since cells mostly
+// come in order.
 fn search(line: &[(Narrow, Chain)], key: &Narrow) -> Result<usize, usize>
     requires { IsLine (wide_entries line.now) }
     ensures there { IfOk result (StandsAt (wide_entries line.now) (wide key.now)) }

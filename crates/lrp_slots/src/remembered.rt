@@ -52,7 +52,7 @@ impl Remembered {
         self.places.is_empty()
     }
 
-    /// Tells whether a cell is remembered.
+    /// Whether a cell is remembered.
     pub fn has(&self, cell: &Cell) -> bool
         ensures { result ≡ true → Contains self.now cell.now }
     {

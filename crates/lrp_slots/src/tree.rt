@@ -1,6 +1,6 @@
 // The chains of cells that did not come in order.
 ghost use Rattle.std.specs.Prelude.{◌≡◌, ◌≢◌, ◌+◌, ◌<◌, ◌^◌, [], None, Ok, true, false, IfOk, IfSome, IsSome, IsTrue, ◌↔◌, OnErr, OnOk, option_copied, unwrap_or, length};
-ghost use Rattle.std.specs.BTreeMap.{is_at, insert_entry, get};
+ghost use Rattle.std.specs.BTreeMap.{is_at, insert_entry, get, IsOrdered};
 ghost use Rattle.std.specs.Map.{remove_entry};
 ghost use Rattle.lrp_slots.specs.Lists.{cell_cmp};
 ghost use Rattle.lrp_slots.specs.Links.{chain_at, extended};
@@ -202,6 +202,7 @@ fn hold_at<K: Ord + Drop>(
     ensures entries { IfOk result (λ held. chains.new.entries
         ≡ insert_entry K.cmp chains.old.entries at (unwrap_or held fresh)) }
     ensures err { OnErr result (chains.new.entries ≡ chains.old.entries) }
+    ensures ordered { IsOrdered K.cmp chains.old }
 {
     match chains.entry(at) {
         Ok(Entry::Occupied(entry)) => {
@@ -231,7 +232,6 @@ fn begin_at<K: Ord + Copy + Drop>(
     ensures held { result ≡ Ok false → IsSome (get K.cmp chains.old at) }
     ensures left { result ≢ Ok true → chains.new.entries ≡ chains.old.entries }
 {
-    chains.len();
     let held = hold_at(chains, at, extended(None, key))?;
     Ok(held.is_none())
 }
@@ -241,7 +241,6 @@ fn widened(alloc: Global, narrow: &BTreeMap<Narrow, Chain>) -> Result<BTreeMap<C
     ensures { IfOk result (λ wide. wide.entries ≡ wide_entries narrow.now.entries) }
 {
     let mut wide = BTreeMap::new(alloc);
-    narrow.len();
     for entry in narrow.iter() {
         wide.insert(entry.0.cell(), *entry.1)?;
     }

@@ -3,7 +3,6 @@ pub mod Counted
 pub mod Grown
 pub mod Held
 pub mod Listed
-pub mod AnswerFirst
 pub mod Aligning
 pub mod Emptiness
 pub mod Tidying
@@ -21,3 +20,4 @@ pub mod Ordered
 pub mod LineBounds
 pub mod Unions
 pub mod LastJoined
+pub mod ZoneCounts

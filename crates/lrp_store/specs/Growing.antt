@@ -1,11 +1,11 @@
 -- What calls that add to a store do: they add a part of a set, or refuse because of a cell that is one too many.
-use Rattle.std.specs.Prelude.{◌≡◌, ◌≢◌, ℕ, ℤ, ◌≤◌, ◌⊎◌, List, None}
+use Rattle.std.specs.Prelude.{◌≡◌, ◌≢◌, ℕ, ℤ, ◌≤◌, ◌⊎◌, List, None, take}
 use Rattle.std.specs.FinMap as finite
 use Rattle.lrp_model.specs.Cells.{Many}
 use Rattle.lrp_model.specs.declared.tuples.Cell.{Cell}
 use Rattle.lrp_model.specs.declared.tuples.Shape.{Shape}
-use Rattle.lrp_zone.specs.Zones.{ZoneView, IsMember}
-use Rattle.lrp_store.specs.Stores.{StoreView, IsStore, HasReach, InStore, IsInhabitedCell}
+use Rattle.lrp_zone.specs.Zones.{ZoneView, IsMember, greatest_of}
+use Rattle.lrp_store.specs.Stores.{StoreView, IsStore, HasReach, InStore, IsInhabitedCell, whole_zone}
 
 -- new is a store that has what old has, and besides only tuples of the set; its zones reach no further than this or those of old, and it has not more than cap cells where old had not
 pub record IsGrown (set : List ℤ → List ℕ → Type 0) (cap high : ℕ) (old new : StoreView) : Type 0 where
@@ -42,6 +42,26 @@ pub record IsRefused (set : List ℤ → List ℕ → Type 0) (cap high : ℕ) (
 pub record IsTupleOf (z : ZoneView) (named : List ℕ) (times : List ℤ) (texts : List ℕ) : Type 0 where
   pub member : IsMember z times
   pub same : named ≡ texts
+
+-- the tuples of a zone of a cell: times of the zone with the cell's texts
+abbrev pub tuples_in : StoreView → Cell → ZoneView → List ℤ → List ℕ → Type 0
+tuples_in s cell z = IsTupleOf z (take s.shape.texts cell.texts)
+
+-- all tuples of a zone of the cell were added
+abbrev pub IsZoneAdded : ZoneView → Cell → ℕ → StoreView → StoreView → Type 0
+IsZoneAdded z cell cap old new = IsAdded (tuples_in old cell z) cap (greatest_of z.bounds) old new
+
+-- a zone of the cell was refused, since the cell would be one too many
+abbrev pub IsZoneRefused : ZoneView → Cell → ℕ → StoreView → StoreView → Type 0
+IsZoneRefused z cell cap old new = IsRefused (tuples_in old cell z) cap (greatest_of z.bounds) old new
+
+-- all tuples of the cell were added
+abbrev pub IsCellAdded : Cell → ℕ → StoreView → StoreView → Type 0
+IsCellAdded cell cap old new = IsZoneAdded (whole_zone old cell) cell cap old new
+
+-- the cell was refused, since it would be one too many
+abbrev pub IsCellRefused : Cell → ℕ → StoreView → StoreView → Type 0
+IsCellRefused cell cap old new = IsZoneRefused (whole_zone old cell) cell cap old new
 
 -- the set inhabits more than cap cells of this shape and period
 abbrev pub InhabitsMany : Shape → ℕ → (List ℤ → List ℕ → Type 0) → ℕ → Type 0

@@ -8,7 +8,6 @@ pub mod Growing
 pub mod Tidied
 pub mod Reading
 pub mod Stored
-pub mod Faults
 -- What functions inside say to one another.
 pub mod Codes
 pub mod Joined

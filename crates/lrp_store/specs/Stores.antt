@@ -1,5 +1,5 @@
 -- What a store stands for: tuples of times and of numbers of texts, in cells that have zones.
-use Rattle.std.specs.Prelude.{◌≡◌, ◌≢◌, ℕ, ℤ, pos, ◌^◌, ◌<◌, ◌≤◌, List, [], map, length, take, Option, Some, All, Contains, slice_index, slice_index_or, sum_by, ◌-ℤ◌}
+use Rattle.std.specs.Prelude.{◌≡◌, ◌≢◌, ℕ, ℤ, pos, ◌^◌, ◌<◌, ◌≤◌, List, [], map, length, take, Option, Some, None, All, Contains, replicate, slice_get, slice_index, slice_index_or, sum_by, ◌-ℤ◌}
 use Rattle.std.specs.FinMap as finite
 use Rattle.lrp_theory.specs.Divides.{Divides}
 use Rattle.lrp_theory.specs.Entries.{node}
@@ -30,6 +30,22 @@ zones_at s cell = map (zone_of s cell) (tables_at s cell)
 -- the number of all zones
 abbrev pub zone_count : StoreView → ℕ
 zone_count s = sum_by (λ tables. length tables) (finite.values s.tables)
+
+-- the zone of a cell that has no bounds
+abbrev pub whole_zone : StoreView → Cell → ZoneView
+whole_zone s cell = zone_of s cell (replicate 81 None)
+
+-- the list of a cell begins with that zone
+abbrev pub BeginsWhole : StoreView → Cell → Type 0
+BeginsWhole s cell = slice_get (tables_at s cell) 0 ≡ Some (replicate 81 None)
+
+-- only the tables and the number of spare slots may differ
+abbrev pub ChangesTablesAlone : StoreView → StoreView → Type 0
+ChangesTablesAlone old new = new ≡ record old { tables = new.tables; spare = new.spare }
+
+-- the cell is not held, and cap cells or more are
+abbrev pub IsOneTooMany : StoreView → Cell → ℕ → Type 0
+IsOneTooMany s cell cap = (finite.get s.tables cell ≡ None) × (cap ≤ finite.len s.tables)
 
 -- some zone of a cell with these texts has the times
 pub record InStore (s : StoreView) (times : List ℤ) (texts : List ℕ) : Type 0 where

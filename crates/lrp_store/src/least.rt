@@ -4,7 +4,7 @@ ghost use Rattle.std.specs.Ordering.{nat_cmp};
 ghost use Rattle.std.specs.Cmp.Lexicographic.{slice_cmp};
 ghost use Rattle.std.specs.declared.cmp.Ordering.TheVariants.{Less, Greater};
 ghost use Rattle.lrp_store.specs.Least.{HasRoom, IsFound, IsNearestTo, IsNotAfter, IsRoom, held_cmp};
-ghost use Rattle.lrp_store.specs.Stores.{InCell, InStore, IsCellOf, tables_at, zone_of};
+ghost use Rattle.lrp_store.specs.Stores.{InCell, InStore, IsCellOf, IsStore, tables_at, zone_of};
 ghost use Rattle.lrp_zone.specs.Zones.{columns_of};
 ghost use Rattle.lrp_theory.specs.Residues.{rank};
 
@@ -62,15 +62,15 @@ fn nearer(found: Option<Spot>, spot: Spot) -> Spot
 
 impl Store {
     /// The first tuple of all that are held, if there is one.
-    pub(crate) fn first(&self) -> Option<Spot>
+    pub fn first(&self) -> Option<Spot>
         requires { HasRoom self.now }
         ensures none { IfNone result ((times : List ℤ) (texts : List ℕ)
             → InStore self.now times texts → ⊥) }
         ensures some { IsFound self.now result }
+        ensures valid { IsStore self.now }
         ensures first { IfSome result (λ spot. (times : List ℤ) (texts : List ℕ)
             → InStore self.now times texts → IsNotAfter self.now (Some spot) times texts) }
     {
-        self.shape();
         let mut found = None;
         for (cell, tables) in self.slots.lists() {
             found = self.first_of_cell(&cell, tables, found);
@@ -85,6 +85,7 @@ impl Store {
         tables: Values<'_, StoredBounds>,
         found: Option<Spot>,
     ) -> Option<Spot>
+        requires valid { IsStore self.now }
         requires tables { tables ≡ tables_at self.now cell.now }
         requires room { HasRoom self.now }
         requires found { IsFound self.now found }
@@ -94,7 +95,6 @@ impl Store {
         ensures cell { (times : List ℤ) (texts : List ℕ) → InCell self.now cell.now times texts
             → IsNotAfter self.now result times texts }
     {
-        self.shape();
         let mut found = found;
         for bounds in tables {
             if !self.may_be_nearer(cell, &found) {
@@ -117,7 +117,6 @@ impl Store {
         ensures { result ≡ false → (times : List ℤ) (texts : List ℕ)
             → InCell self.now cell.now times texts → IsNotAfter self.now found.now times texts }
     {
-        self.shape();
         let Some(old) = found else {
             return true;
         };
@@ -136,7 +135,6 @@ impl Store {
         ensures { IsNearestTo (zone_of self.now cell.now bounds.now)
             (columns_of (zone_of self.now cell.now bounds.now)) result }
     {
-        self.shape();
         let times = usize::from(self.shape.times);
         if bounds.is_free() {
             return nearest_of_cell(self.period, &cell.residues, times);

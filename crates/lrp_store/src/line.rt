@@ -25,7 +25,6 @@ impl StoredBounds {
         ensures { IfSome result (λ both. IsUnion (record zone.now { bounds = self.now }) zone.now
             (record zone.now { bounds = both })) }
     {
-        zone.columns();
         let low = self.bound(LOW);
         if !goes_on(low, self.bound(HIGH), zone) {
             return None;
@@ -59,7 +58,6 @@ fn goes_on(low: Option<i64>, high: Option<i64>, zone: &Zone) -> bool
     requires high { AtMost (2 ^ 62) high }
     ensures { IsTrue result → GoesOn low high zone.now }
 {
-    zone.columns();
     let next_low = bound_of(zone, LOW);
     are_near(high, next_low, zone.period())
         && is_below(next_low, low)

@@ -9,6 +9,7 @@ use lrp_zone::Zone;
 
 /// The values of one more column. Behind those before it, a column may have what lies within two ends and has its residue.
 fn with_next(zone: &Zone, least: &Matrix, xs: &[i64; 8], i: usize) -> [i64; 8]
+    requires valid { IsZone zone.now }
     requires column { i < columns_of zone.now }
     requires closed { IsClosed least.now }
     requires integers { HaveSameIntegers (matrix_of zone.now) least.now }
@@ -16,7 +17,6 @@ fn with_next(zone: &Zone, least: &Matrix, xs: &[i64; 8], i: usize) -> [i64; 8]
     requires begun { IsNearestTo zone.now i xs.now }
     ensures { IsNearestTo zone.now (i + 1) result }
 {
-    zone.columns();
     let (low, high) = least.range(i + 1, &xs[..i]);
     let mut next = *xs;
     match nearest_zero(low, high, zone.residue(i + 1), zone.period()) {

@@ -14,7 +14,6 @@ impl Store {
     pub fn zones_of(&self, cell: &Cell) -> Zones<'_>
         ensures { result ≡ zones_at self.now cell.now }
     {
-        self.shape();
         let residues = cell.residues;
         Zones {
             period: self.period,
@@ -28,7 +27,6 @@ impl Store {
     pub fn entries(&self) -> Entries<'_>
         ensures { result ≡ entries_of self.now }
     {
-        self.shape();
         Entries {
             period: self.period,
             times: usize::from(self.shape.times),
@@ -40,7 +38,6 @@ impl Store {
     pub fn zones_in(&self, alloc: Global, cell: &Cell) -> Result<List<Zone>, Memory>
         ensures { IfOk result (λ made. made ≡ zones_at self.now cell.now) }
     {
-        self.shape();
         let times = usize::from(self.shape.times);
         let mut made = List::new(alloc);
         for bounds in self.slots.iter(cell) {

@@ -7,9 +7,9 @@ ghost use Rattle.lrp_slots.specs.Lists.{list_at, set_list, with_last};
 ghost use Rattle.lrp_store.specs.Joined.{JoinsLast};
 ghost use Rattle.lrp_store.specs.Stored.{count_of};
 ghost use Rattle.std.specs.Prelude.{Contains};
-ghost use Rattle.lrp_zone.specs.Zones.{IsZone, greatest_of};
-ghost use Rattle.lrp_store.specs.Stores.{IsStore, IsCellOf, IsPadded, tables_at, zone_count, zone_of, zones_at};
-ghost use Rattle.lrp_store.specs.Growing.{IsAdded, IsRefused, IsTupleOf, IsWhole};
+ghost use Rattle.lrp_zone.specs.Zones.{IsZone};
+ghost use Rattle.lrp_store.specs.Stores.{IsStore, IsCellOf, IsPadded, IsOneTooMany, BeginsWhole, ChangesTablesAlone, InStore, tables_at, zone_count, zone_of, zones_at};
+ghost use Rattle.lrp_store.specs.Growing.{IsCellAdded, IsCellRefused, IsWhole, IsZoneAdded, IsZoneRefused, tuples_in};
 
 use crate::stored::StoredBounds;
 use lrp_model::{Cell, Copies, Memory, Shape};
@@ -28,9 +28,9 @@ pub enum StoreFault {
     Memory,
 }
 
-// What becomes of a zone that is added to a cell.
+// The place of a zone that is added to a cell.
 #[derive(Drop)]
-enum Standing {
+enum PlaceInCell {
     // Its tuples are held.
     Held,
     // It is joined to the last zone, and both have these bounds.
@@ -128,6 +128,14 @@ impl Store {
         self.slots.len() as u32
     }
 
+    /// Whether no tuple is held.
+    pub fn is_empty(&self) -> bool
+        ensures { IsTrue result ↔ ((times : List ℤ) (texts : List ℕ)
+            → InStore self.now times texts → ⊥) }
+    {
+        self.slots.len() == 0
+    }
+
     /// The number of all zones.
     pub fn zones(&self) -> usize
         ensures { result ≡ zone_count self.now }
@@ -164,13 +172,9 @@ impl Store {
             ≡ finite.insert self.old.tables cell.now
             (tables_at self.old cell.now ++ zone.now.bounds ∷ [])) }
         ensures err { OnErr result (self.new.tables ≡ self.old.tables) }
-        ensures rest { self.new ≡ record self.old {
-          tables = self.new.tables;
-          spare =
-              self.new.spare;
-        } }
+        ensures rest { ChangesTablesAlone self.old self.new }
         ensures too_many { (result ≡ Err StoreFault.TooManyCells)
-            ↔ ((finite.get self.old.tables cell.now ≡ None) × (cap ≤ finite.len self.old.tables)) }
+            ↔ IsOneTooMany self.old cell.now cap }
 
         // A caller learns here that it is still a store.
         ensures valid { IsStore self.new }
@@ -183,7 +187,6 @@ impl Store {
         ensures lowered { self.old.spare ≤ self.new.spare + 1 }
         ensures kept { OnErr result (self.old.spare ≤ self.new.spare) }
     {
-        zone.columns();
         if self.is_one_too_many(cell, cap) {
             return Err(StoreFault::TooManyCells);
         }
@@ -202,38 +205,29 @@ impl Store {
         requires residues { zone.now.residues ≡ take self.old.shape.times cell.now.residues }
         requires texts { IsPadded 0 self.old.shape.texts cell.now.texts }
         requires times { IsPadded (pos 0) self.old.shape.times cell.now.residues }
-        ensures ok { OnOk result (IsAdded (IsTupleOf zone.now
-            (take self.old.shape.texts cell.now.texts)) cap
-            (greatest_of zone.now.bounds) self.old self.new) }
+        ensures ok { OnOk result (IsZoneAdded zone.now cell.now cap self.old self.new) }
         ensures err { OnErr result (self.new.tables ≡ self.old.tables) }
-        ensures rest { self.new ≡ record self.old {
-          tables = self.new.tables;
-          spare =
-              self.new.spare;
-        } }
+        ensures rest { ChangesTablesAlone self.old self.new }
         ensures too_many { result ≡ Err StoreFault.TooManyCells
-            → IsRefused (IsTupleOf zone.now (take self.old.shape.texts cell.now.texts)) cap
-            (greatest_of zone.now.bounds) self.old self.new }
+            → IsZoneRefused zone.now cell.now cap self.old self.new }
         ensures exact { (result ≡ Err StoreFault.TooManyCells)
-            ↔ ((finite.get self.old.tables cell.now ≡ None) × (cap ≤ finite.len self.old.tables)) }
+            ↔ IsOneTooMany self.old cell.now cap }
         ensures lowered { self.old.spare ≤ self.new.spare + 1 }
     {
-        zone.columns();
-        self.shape();
-        match self.standing_of(cell, zone) {
-            Standing::Held => Ok(()),
-            Standing::Joined(both) => {
+        match self.place_of(cell, zone) {
+            PlaceInCell::Held => Ok(()),
+            PlaceInCell::Joined(both) => {
                 self.replace_last(cell, both);
                 Ok(())
             }
-            Standing::Apart => self.add(cell, zone, cap),
+            PlaceInCell::Apart => self.add(cell, zone, cap),
         }
     }
 
     // Puts bounds in the place of those of a cell's last zone. The cell is held, and its list begins with a bound.
     fn replace_last(&mut self, cell: &Cell, bounds: StoredBounds)
         requires held { IsSome (finite.get self.old.tables cell.now) }
-        requires first { slice_get (tables_at self.old cell.now) 0 ≢ Some (replicate 81 None) }
+        requires first { BeginsWhole self.old cell.now → ⊥ }
         requires zone { IsZone (zone_of self.old cell.now bounds) }
         ensures tables { self.new.tables ≡ finite.insert self.old.tables cell.now
             (with_last (tables_at self.old cell.now) bounds) }
@@ -246,23 +240,14 @@ impl Store {
     /// Appends the zone without bounds to a cell's list, unless the list begins with it.
     pub fn add_whole(&mut self, cell: &Cell, cap: u32) -> Result<(), StoreFault>
         requires proper { IsCellOf self.old.shape self.old.period cell.now }
-        ensures ok { OnOk result (IsAdded (IsTupleOf (zone_of self.old cell.now (replicate 81 None))
-            (take self.old.shape.texts cell.now.texts)) cap
-            (greatest_of (replicate 81 None)) self.old self.new) }
+        ensures ok { OnOk result (IsCellAdded cell.now cap self.old self.new) }
         ensures err { OnErr result (self.new.tables ≡ self.old.tables) }
-        ensures rest { self.new ≡ record self.old {
-          tables = self.new.tables;
-          spare =
-              self.new.spare;
-        } }
+        ensures rest { ChangesTablesAlone self.old self.new }
         ensures too_many { result ≡ Err StoreFault.TooManyCells
-            → IsRefused (IsTupleOf (zone_of self.old cell.now (replicate 81 None))
-            (take self.old.shape.texts cell.now.texts)) cap
-            (greatest_of (replicate 81 None)) self.old self.new }
+            → IsCellRefused cell.now cap self.old self.new }
         ensures exact { (result ≡ Err StoreFault.TooManyCells)
-            ↔ ((finite.get self.old.tables cell.now ≡ None) × (cap ≤ finite.len self.old.tables)) }
+            ↔ IsOneTooMany self.old cell.now cap }
     {
-        self.shape();
         if self.is_remembered(cell) {
             return Ok(());
         }
@@ -281,19 +266,11 @@ impl Store {
         requires proper { IsCellOf self.old.shape self.old.period cell.now }
         requires room { finite.get self.old.tables cell.now ≡ None
             → finite.len self.old.tables < cap }
-        ensures begun { result ≡ Ok true → IsAdded
-            (IsTupleOf (zone_of self.old cell.now (replicate 81 None))
-            (take self.old.shape.texts cell.now.texts)) cap
-            (greatest_of (replicate 81 None)) self.old self.new }
+        ensures begun { result ≡ Ok true → IsCellAdded cell.now cap self.old self.new }
         ensures held { result ≡ Ok false → IsSome (finite.get self.old.tables cell.now) }
         ensures left { result ≢ Ok true → self.new.tables ≡ self.old.tables }
-        ensures rest { self.new ≡ record self.old {
-          tables = self.new.tables;
-          spare =
-              self.new.spare;
-        } }
+        ensures rest { ChangesTablesAlone self.old self.new }
     {
-        self.shape();
         if self.slots.begin(cell, StoredBounds::free(self.alloc))? {
             follow(&mut self.whole, cell, self.slots.len());
             return Ok(true);
@@ -301,21 +278,15 @@ impl Store {
         Ok(false)
     }
 
-    // Appends the zone without bounds to the list of a cell that is held, unless the list begins with it. Then the cell is remembered.
+    // Appends the zone without bounds to the list of a cell that is held, unless the list begins with it. Then the cell
+    // is remembered.
     fn add_free(&mut self, cell: &Cell, cap: u32) -> Result<(), Memory>
         requires proper { IsCellOf self.old.shape self.old.period cell.now }
         requires held { IsSome (finite.get self.old.tables cell.now) }
-        ensures ok { OnOk result (IsAdded (IsTupleOf (zone_of self.old cell.now (replicate 81 None))
-            (take self.old.shape.texts cell.now.texts)) cap
-            (greatest_of (replicate 81 None)) self.old self.new) }
+        ensures ok { OnOk result (IsCellAdded cell.now cap self.old self.new) }
         ensures err { OnErr result (self.new.tables ≡ self.old.tables) }
-        ensures rest { self.new ≡ record self.old {
-          tables = self.new.tables;
-          spare =
-              self.new.spare;
-        } }
+        ensures rest { ChangesTablesAlone self.old self.new }
     {
-        self.shape();
         if self.is_whole(cell) {
             self.whole.put(cell, self.slots.len());
             return Ok(());
@@ -326,17 +297,16 @@ impl Store {
 
     /// Whether a cell is remembered as one that is held whole. It is not searched for.
     pub fn is_remembered(&self, cell: &Cell) -> bool
-        ensures first { IsTrue result → slice_get (tables_at self.now cell.now) 0
-            ≡ Some (replicate 81 None) }
+        ensures first { IsTrue result → BeginsWhole self.now cell.now }
         ensures held { IsTrue result → Contains (tables_at self.now cell.now) (replicate 81 None) }
+        ensures valid { IsStore self.now }
     {
         self.whole.has(cell)
     }
 
     /// Whether a cell's first zone has no bound.
     pub fn is_whole(&self, cell: &Cell) -> bool
-        ensures first { IsTrue result ↔ (slice_get (tables_at self.now cell.now) 0
-            ≡ Some (replicate 81 None)) }
+        ensures first { IsTrue result ↔ BeginsWhole self.now cell.now }
         ensures held { IsTrue result → Contains (tables_at self.now cell.now) (replicate 81 None) }
     {
         self.is_remembered(cell) || self.begins_whole(cell)
@@ -344,8 +314,7 @@ impl Store {
 
     // Whether the zone that a cell's list begins with has no bound.
     fn begins_whole(&self, cell: &Cell) -> bool
-        ensures { IsTrue result ↔ (slice_get (tables_at self.now cell.now) 0
-            ≡ Some (replicate 81 None)) }
+        ensures { IsTrue result ↔ BeginsWhole self.now cell.now }
     {
         match self.slots.get(cell, 0) {
             Some(bounds) => bounds.is_free(),
@@ -355,38 +324,39 @@ impl Store {
 
     // Whether a cell is not held, and there are cap cells or more.
     fn is_one_too_many(&self, cell: &Cell, cap: u32) -> bool
-        ensures { IsTrue result ↔ ((finite.get self.now.tables cell.now ≡ None)
-            × (cap ≤ finite.len self.now.tables)) }
+        ensures { IsTrue result ↔ IsOneTooMany self.now cell.now cap }
     {
         self.slots.len() >= cap as usize && self.slots.count(cell) == 0
     }
 
-    // How a zone stands to the first and the last zone of its cell, which is looked up once.
-    fn standing_of(&self, cell: &Cell, zone: &Zone) -> Standing
+    // The place of a zone beside the first and the last zone of its cell, which is looked up once.
+    fn place_of(&self, cell: &Cell, zone: &Zone) -> PlaceInCell
         requires period { zone.now.period ≡ self.now.period }
         requires residues { zone.now.residues ≡ take self.now.shape.times cell.now.residues }
-        ensures whole { result ≡ Standing.Held → IsWhole (IsTupleOf zone.now
-            (take self.now.shape.texts cell.now.texts)) self.now }
-        ensures held { result ≢ Standing.Apart → IsSome (finite.get self.now.tables cell.now) }
-        ensures joined { (both : List (Option ℤ)) → result ≡ Standing.Joined both
+        ensures whole { result ≡ PlaceInCell.Held
+            → IsWhole (tuples_in self.now cell.now zone.now) self.now }
+        ensures held { result ≢ PlaceInCell.Apart → IsSome (finite.get self.now.tables cell.now) }
+        ensures joined { (both : List (Option ℤ)) → result ≡ PlaceInCell.Joined both
             → JoinsLast self.now cell.now zone.now both }
+        ensures store { IsStore self.now }
+        ensures zone { IsZone zone.now }
     {
-        self.shape();
+        let is_line = zone.columns() == 1;
         let Some(ends) = self.slots.ends(cell) else {
-            return Standing::Apart;
+            return PlaceInCell::Apart;
         };
         if ends.first.are_looser(zone) {
-            return Standing::Held;
+            return PlaceInCell::Held;
         }
         if ends.last.are_looser(zone) {
-            return Standing::Held;
+            return PlaceInCell::Held;
         }
-        if zone.columns() != 1 {
-            return Standing::Apart;
+        if !is_line {
+            return PlaceInCell::Apart;
         }
         match ends.last.joined(self.alloc, zone) {
-            Some(both) => Standing::Joined(both),
-            None => Standing::Apart,
+            Some(both) => PlaceInCell::Joined(both),
+            None => PlaceInCell::Apart,
         }
     }
 
@@ -412,11 +382,7 @@ impl Store {
         ensures value { result ≡ slice_get (zones_at self.old cell.now) i }
         ensures tables { OnSome result (self.new.tables
             ≡ set_list self.old.tables cell.now (remove (tables_at self.old cell.now) i)) }
-        ensures rest { self.new ≡ record self.old {
-          tables = self.new.tables;
-          spare =
-              self.new.spare;
-        } }
+        ensures rest { ChangesTablesAlone self.old self.new }
         ensures spare { OnSome result (self.new.spare ≡ self.old.spare + 1) }
         ensures none { IfNone result (self.new ≡ self.old) }
     {

@@ -6,7 +6,7 @@ ghost use Rattle.lrp_zone.specs.Zones.{IsZone, columns_of};
 ghost use Rattle.lrp_store.specs.Stored.{bound_with, bounds_of, count_of, placed, table_of, AreListed, AreSmall};
 
 use lrp_model::{Copies, Memory};
-use lrp_zone::{Table, Zone};
+use lrp_zone::{BoundTable, Zone};
 use smallvec::SmallVec;
 use std::alloc::Global;
 use std::marker::Model;
@@ -59,9 +59,9 @@ impl StoredBounds {
     pub fn of(alloc: Global, zone: &Zone) -> Result<StoredBounds, Memory>
         ensures ok { IfOk result (λ made. made ≡ zone.now.bounds) }
         ensures succeeds { count_of zone.now.bounds ≤ 8 → IsOk result }
+        ensures valid { IsZone zone.now }
     {
         let mut entries = SmallVec::new(alloc);
-        zone.columns();
         let places = places_of(zone);
         for place in 0..places {
             if let Some(most) = bound_of(zone, place) {
@@ -93,7 +93,6 @@ impl StoredBounds {
         ensures within { IsTrue result → IsWithin zone.now (record zone.now { bounds = self.now }) }
         ensures free { self.now ≡ replicate 81 None → IsTrue result }
     {
-        zone.columns();
         are_above(zone, self.entries.as_slice())
     }
 
@@ -118,6 +117,7 @@ impl Copies for StoredBounds {
 fn places_of(zone: &Zone) -> u8
     ensures value { result ≡ 9 * (columns_of zone.now + 1) }
     ensures high { result ≤ 81 }
+    ensures valid { IsZone zone.now }
 {
     9 * (zone.columns() as u8 + 1)
 }
@@ -127,19 +127,20 @@ pub(crate) fn bound_of(zone: &Zone, place: u8) -> Option<i64>
     requires { place < 81 }
     ensures value { result ≡ slice_index_or zone.now.bounds place None }
     ensures small { AtMost (2 ^ 62) result }
+    ensures valid { IsZone zone.now }
 {
     zone.bounds().get(usize::from(place))
 }
 
 // Whether each of the entries is at least the zone's bound at its place.
 fn are_above(zone: &Zone, entries: &[Entry]) -> bool
+    requires columns { columns_of zone.now ≤ 8 }
     requires listed { AreListed (bounds_of entries.now) }
     requires small { AreSmall (bounds_of entries.now) }
     ensures within { IsTrue result → IsWithin zone.now
         (record zone.now { bounds = table_of (bounds_of entries.now) }) }
     ensures none { entries.now ≡ [] → IsTrue result }
 {
-    zone.columns();
     for entry in entries {
         if !is_at_most(bound_of(zone, entry.place), entry.most()) {
             return false;
@@ -159,12 +160,12 @@ fn is_at_most(bound: Option<i64>, most: i64) -> bool
 }
 
 // The table of the bounds of the entries.
-fn written(entries: &[Entry]) -> Table
+fn written(entries: &[Entry]) -> BoundTable
     requires listed { AreListed (bounds_of entries.now) }
     requires small { AreSmall (bounds_of entries.now) }
     ensures { result ≡ table_of (bounds_of entries.now) }
 {
-    let mut table = Table::free();
+    let mut table = BoundTable::free();
     for entry in entries {
         table.set(usize::from(entry.place), Some(entry.most()));
     }

@@ -2,7 +2,7 @@
 ghost use Rattle.std.specs.Prelude.{◌≡◌, ◌≢◌, ◌+◌, ◌<◌, ◌↔◌, IsTrue, length};
 ghost use Rattle.std.specs.FinMap as finite;
 ghost use Rattle.lrp_model.specs.declared.tuples.Cell.{Cell as CellValue};
-ghost use Rattle.lrp_store.specs.Stores.{tables_at};
+ghost use Rattle.lrp_store.specs.Stores.{ChangesTablesAlone, tables_at};
 ghost use Rattle.lrp_store.specs.Tidied.{IsCovered, IsTidied};
 
 use crate::store::Store;
@@ -15,11 +15,7 @@ impl Store {
             (tables_at self.new cell.now) }
         ensures others { (other : CellValue) → other ≢ cell.now
             → finite.get self.new.tables other ≡ finite.get self.old.tables other }
-        ensures rest { self.new ≡ record self.old {
-          tables = self.new.tables;
-          spare =
-              self.new.spare;
-        } }
+        ensures rest { ChangesTablesAlone self.old self.new }
         ensures spare { self.new.spare + length (tables_at self.new cell.now)
             ≡ self.old.spare + length (tables_at self.old cell.now) }
     {
@@ -38,7 +34,6 @@ impl Store {
         requires { i < length (tables_at self.now cell.now) }
         ensures { IsTrue result ↔ IsCovered self.now cell.now i }
     {
-        self.shape();
         let times = usize::from(self.shape.times);
         let Some(zone) = self.zone(cell, i) else {
             return false;

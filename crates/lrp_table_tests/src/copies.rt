@@ -2,7 +2,7 @@
 use crate::parts::{answer, list, name, sixths};
 use lrp_list::{Form, JsonTexts};
 use lrp_model::{Copies, DataText, Domain, List};
-use lrp_store::{Table, Vars};
+use lrp_tables::{Table, Vars};
 use std::alloc::Global;
 use std::process::Abort;
 

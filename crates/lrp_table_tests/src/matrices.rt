@@ -1,4 +1,4 @@
-//! A matrix at the limits of its nodes and bounds, and the integer nearest to zero at the limit of its ends.
+// A matrix at the limits of its nodes and bounds, and the integer nearest to zero at the limit of its ends.
 
 ghost use Rattle.std.specs.Prelude.{◌≡◌, ◌+◌, ◌^◌};
 ghost use Rattle.lrp_theory.specs.Entries.{AllSmall};

@@ -1,5 +1,5 @@
-//! What the tests are made of: zones whose numbers are small, cells, and stores. A test stops where memory is refused,
-//! since each way out of a function is proved.
+// What the tests are made of: zones whose numbers are small, cells, and stores. A test stops where memory is refused,
+// since each way out of a function is proved.
 
 ghost use Rattle.std.specs.Prelude.{◌≡◌, ◌+◌, ◌≤◌, ◌^◌, ℕ, [], ◌∷◌, length, take, pos, nat_abs, ◌≤ℤ◌, IfSome};
 ghost use Rattle.lrp_theory.specs.Entries.{node};
@@ -7,8 +7,9 @@ ghost use Rattle.lrp_zone.specs.Zones.{IsResidue, reach_of};
 ghost use Rattle.lrp_model.specs.Sorts.{time_count};
 ghost use Rattle.lrp_store.specs.Stores.{IsPadded, HasReach};
 
+use lrp_answers::Answer;
 use lrp_model::{Bound, Cell, Column, Domain, Head, List, Name, Shape, Sort};
-use lrp_store::{Answer, Store};
+use lrp_store::Store;
 use lrp_systems::{Part, add_system};
 use lrp_zone::Zone;
 use std::alloc::Global;

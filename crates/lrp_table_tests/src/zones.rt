@@ -1,4 +1,4 @@
-//! The calls of a zone on worked values, and at the limit.
+// The calls of a zone on worked values, and at the limit.
 
 ghost use Rattle.std.specs.Prelude.{◌<◌, ◌≤ℤ◌, ◌^◌, ℕ, pos};
 ghost use Rattle.lrp_zone.specs.Order.{at};

@@ -8,7 +8,7 @@ use Rattle.lrp_model.specs.Texts.{Text, Identifier, Ascends}
 use Rattle.lrp_model.specs.Satisfaction.{Assignment}
 use Rattle.lrp_store.specs.Stores.{StoreView, IsStore, HoldsJust, HasReach}
 use Rattle.lrp_store.specs.Growing.{IsGrown, IsAdded, IsRefused, InhabitsMany}
-use Rattle.lrp_store.specs.declared.table.Table.{Table}
+use Rattle.lrp_tables.specs.declared.table.Table.{Table}
 use Rattle.lrp_store.proofs.Held.{Table as Bounds}
 use Rattle.lrp_store.proofs.Aligning.{nothing_held}
 use Rattle.lrp_store.proofs.Counted.{many, not_many}

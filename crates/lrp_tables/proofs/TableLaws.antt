@@ -16,7 +16,7 @@ use Rattle.lrp_model.proofs.Decided.{Decided, decided_both, decided_iff, decided
 use Rattle.lrp_zone.specs.Zones.{ZoneView, IsMember, IsResidue, columns_of}
 use Rattle.lrp_store.specs.Stores.{StoreView, IsStore, IsCellOf, IsPadded, LiesInCell, zone_of, tables_at}
 use Rattle.lrp_store.specs.Tables.{StoreHolds}
-use Rattle.lrp_store.specs.declared.table.Table.{Table}
+use Rattle.lrp_tables.specs.declared.table.Table.{Table}
 use Rattle.lrp_store.proofs.Held.{cell_held}
 use Rattle.lrp_store.proofs.Counted.{lies_in, one_cell}
 use Rattle.lrp_tables.specs.Tables.{Has, HasTexts}

@@ -7,7 +7,7 @@ use Rattle.lrp_model.specs.Texts.{Text, Identifier}
 use Rattle.lrp_model.specs.Satisfaction.{Assignment}
 use Rattle.lrp_store.specs.Stores.{StoreView, IsStore, InStore, HoldsJust, IsInhabitedCell}
 use Rattle.lrp_store.specs.Tables.{AreTexts, AreNumbered}
-use Rattle.lrp_store.specs.declared.table.Table.{Table}
+use Rattle.lrp_tables.specs.declared.table.Table.{Table}
 use Rattle.lrp_store.proofs.Held.{Table as Bounds, held_of, cell_held}
 use Rattle.lrp_store.proofs.Counted.{lies_in, held_inhabited, first_of}
 use Rattle.lrp_tables.specs.Tables.{Has, IsTableOf}

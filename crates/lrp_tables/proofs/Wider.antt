@@ -9,7 +9,7 @@ use Rattle.lrp_model.specs.Satisfaction.{Assignment}
 use Rattle.lrp_model.proofs.Ascending.{all_at}
 use Rattle.lrp_store.specs.Stores.{StoreView, InStore}
 use Rattle.lrp_store.specs.Tables.{AreTexts}
-use Rattle.lrp_store.specs.declared.table.Table.{Table}
+use Rattle.lrp_tables.specs.declared.table.Table.{Table}
 use Rattle.lrp_tables.specs.Columns.{ArePlacesOf}
 use Rattle.lrp_tables.specs.Tables.{Has, HasTexts}
 use Rattle.lrp_tables.proofs.CellsNamed.{Tuples, AreTuplesOf}

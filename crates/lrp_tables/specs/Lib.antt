@@ -10,3 +10,4 @@ pub mod Columns
 pub mod Passes
 pub mod Pieces
 pub mod Tables
+pub mod Faults

@@ -12,9 +12,9 @@ use Rattle.lrp_model.specs.declared.relations.Column.{Column}
 use Rattle.lrp_model.specs.declared.relations.Relation.{Relation}
 use Rattle.lrp_store.specs.Stores.{HasReach}
 use Rattle.lrp_store.specs.Tables.{AreNumbered}
-use Rattle.lrp_store.specs.declared.table.StepFault.{StepFault}
-use Rattle.lrp_store.specs.declared.table.StepFault.TheVariants.{TooManyCells}
-use Rattle.lrp_store.specs.declared.table.Table.{Table}
+use Rattle.lrp_tables.specs.declared.table.StepFault.{StepFault}
+use Rattle.lrp_tables.specs.declared.table.StepFault.TheVariants.{TooManyCells}
+use Rattle.lrp_tables.specs.declared.table.Table.{Table}
 use Rattle.lrp_tables.specs.Calls.{AreVariablesOf, CanBeCarried, CanBeRow, CanMeet, HasText, test_period, tests_reach}
 use Rattle.lrp_tables.specs.Caps.{InhabitsMoreThan}
 use Rattle.lrp_tables.specs.Columns.{head_times, head_texts, joint, scan_times, scan_texts, test_names, test_times}

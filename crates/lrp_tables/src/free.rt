@@ -4,7 +4,7 @@ ghost use Rattle.lrp_zone.specs.Zones.{IsInCell, IsMember};
 
 use lrp_zone::Zone;
 
-/// Tells whether a zone has no bound, so that it has all tuples of its cell.
+/// Whether a zone has no bound, so that it has all tuples of its cell.
 pub fn is_free(zone: &Zone) -> bool
     ensures { result ≡ true → (xs : List ℤ) → IsInCell zone.now xs → IsMember zone.now xs }
 {

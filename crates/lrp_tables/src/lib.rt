@@ -6,10 +6,11 @@ mod names;
 mod pieces;
 mod remembered;
 mod setting;
+mod table;
 
 pub use free::is_free;
-pub use lrp_store::{StepFault, Table, Vars};
-pub use names::{joint, place_of, places_among, without};
+pub use names::{Places, joint, place_of, places_among, places_of, without};
 pub use pieces::{Piece, Pieces};
 pub use remembered::Remembered;
 pub use setting::Setting;
+pub use table::{StepFault, Table, Vars};

@@ -4,8 +4,24 @@ ghost use Rattle.lrp_tables.specs.Columns.{joint, IsPlace, ArePlacesOf};
 ghost use Rattle.lrp_tables.specs.Tables.{AreNamesAmong};
 ghost use Rattle.lrp_model.specs.Texts.{without};
 
+use crate::Vars;
 use lrp_model::{List, Memory, Name};
 use std::alloc::Global;
+
+/// The places of a table's time columns and of its data columns among those of a longer tuple, both counted from 1.
+pub struct Places {
+    pub times: List<usize>,
+    pub texts: List<usize>,
+}
+
+impl Drop for Places {
+    fn drop(self) {
+        let Places {
+            times: _times,
+            texts: _texts,
+        } = self;
+    }
+}
 
 /// The number of the column with this name, from 0, where there is one.
 pub fn place_of(names: &List<Name>, name: &Name) -> Option<usize>
@@ -72,4 +88,17 @@ pub fn places_among(
         places.push(column_of(all, name))?;
     }
     Ok(places)
+}
+
+/// The places of these variables among all of them.
+pub fn places_of(alloc: Global, vars: &Vars, all: &Vars) -> Result<Places, Memory>
+    requires times { AreNamesAmong vars.now.times all.now.times }
+    requires texts { AreNamesAmong vars.now.texts all.now.texts }
+    ensures times { IfOk result (λ places. ArePlacesOf vars.now.times all.now.times places.times) }
+    ensures texts { IfOk result (λ places. ArePlacesOf vars.now.texts all.now.texts places.texts) }
+{
+    Ok(Places {
+        times: List::from_vec(places_among(alloc, &vars.times, &all.times)?),
+        texts: List::from_vec(places_among(alloc, &vars.texts, &all.texts)?),
+    })
 }

@@ -40,7 +40,7 @@ impl Remembered {
         Ok(Remembered { places })
     }
 
-    /// Tells whether a cell is remembered.
+    /// Whether a cell is remembered.
     pub fn has(&self, cell: &Cell) -> bool
         ensures { result ≡ true → Contains self.now (Some cell.now) }
     {

@@ -1,4 +1,4 @@
-//! Tables of bounds: the bound of node i minus node j stands at `9 * i + j`, and node 0 is the number zero.
+// Tables of bounds: the bound of node i minus node j stands at `9 * i + j`, and node 0 is the number zero.
 
 ghost use Rattle.std.specs.Prelude.{◌≡◌, ◌<◌, ◌≤◌, ◌^◌, ◌*◌, ◌+◌, ℕ, List, None, length, replicate, slice_index_or, slice_set};
 ghost use Rattle.lrp_theory.specs.Bounds.{plus};
@@ -13,11 +13,11 @@ use std::marker::Model;
 ///
 /// A number stands at each place, and where there is no bound the greatest one of its type.
 #[derive(Clone, Copy)]
-pub struct Table {
+pub struct BoundTable {
     numbers: [i64; 81],
 }
 
-impl Model for Table {
+impl Model for BoundTable {
     ghost use Rattle.std.specs.Prelude.{◌≡◌, ℤ, List, Option, map, length};
     ghost use Rattle.lrp_zone.specs.Numbers.{bound_of, number_of, numbers_again};
 
@@ -32,12 +32,12 @@ impl Model for Table {
     ghost inverse_ok = { λ t _ i. record { numbers = numbers_again t.numbers i } };
 }
 
-impl Table {
+impl BoundTable {
     /// No bounds.
-    pub fn free() -> Table
+    pub fn free() -> BoundTable
         ensures { result ≡ replicate 81 None }
     {
-        Table {
+        BoundTable {
             numbers: [i64::MAX; 81],
         }
     }
@@ -95,14 +95,14 @@ fn number_of(bound: Option<i64>) -> i64
 }
 
 /// A table without bounds.
-pub fn free() -> Table
+pub fn free() -> BoundTable
     ensures { result ≡ replicate 81 None }
 {
-    Table::free()
+    BoundTable::free()
 }
 
 /// The bound at a place.
-pub fn at(bounds: &Table, i: usize, j: usize) -> Option<i64>
+pub fn at(bounds: &BoundTable, i: usize, j: usize) -> Option<i64>
     requires row { i < 9 }
     requires column { j < 9 }
     ensures value { result ≡ entry bounds.now i j }
@@ -112,7 +112,7 @@ pub fn at(bounds: &Table, i: usize, j: usize) -> Option<i64>
 }
 
 /// Writes a bound at a place.
-pub fn put(bounds: &mut Table, i: usize, j: usize, bound: Option<i64>)
+pub fn put(bounds: &mut BoundTable, i: usize, j: usize, bound: Option<i64>)
     requires row { i < 9 }
     requires column { j < 9 }
     requires stands { CanStand bound }
@@ -124,7 +124,7 @@ pub fn put(bounds: &mut Table, i: usize, j: usize, bound: Option<i64>)
 }
 
 /// One bound alone.
-pub fn single(i: usize, j: usize, bound: Option<i64>) -> Table
+pub fn single(i: usize, j: usize, bound: Option<i64>) -> BoundTable
     requires row { i < 9 }
     requires column { j < 9 }
     requires stands { CanStand bound }
@@ -154,7 +154,7 @@ fn lesser_number(a: i64, b: i64) -> i64
 }
 
 /// The lesser bound at each place.
-pub fn least(a: &Table, b: &Table) -> Table
+pub fn least(a: &BoundTable, b: &BoundTable) -> BoundTable
     ensures { (p : ℕ) → p < 81 → IsLesser (slice_index_or result p None)
         (slice_index_or a.now p None) (slice_index_or b.now p None) }
 {
@@ -162,7 +162,7 @@ pub fn least(a: &Table, b: &Table) -> Table
     for place in 0..81 {
         numbers[place] = lesser_number(a.numbers[place], b.numbers[place]);
     }
-    Table { numbers }
+    BoundTable { numbers }
 }
 
 /// The sum of two bounds, which is no bound where one of them is none.
@@ -199,7 +199,7 @@ pub fn narrow(bound: Option<i128>) -> Option<i64>
 }
 
 /// The same bounds with more bits.
-pub fn widened(bounds: &Table) -> [Option<i128>; 81]
+pub fn widened(bounds: &BoundTable) -> [Option<i128>; 81]
     ensures { result ≡ bounds.now }
 {
     let numbers = &bounds.numbers;

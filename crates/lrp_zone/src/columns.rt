@@ -1,4 +1,4 @@
-//! Tables and residues with one column fewer, and tables whose columns move.
+// Tables and residues with one column fewer, and tables whose columns move.
 
 ghost use Rattle.std.specs.Prelude.{◌≡◌, ◌<◌, ◌≤◌, ◌^◌, ◌+◌, ℕ, List, length};
 ghost use Rattle.lrp_theory.specs.Entries.{entry, node, AtMost, AllSmall};
@@ -6,7 +6,7 @@ ghost use Rattle.lrp_zone.specs.Columns.{past, IsPath, IsWithout};
 ghost use Rattle.lrp_zone.specs.Numbers.{CanStand};
 ghost use Rattle.lrp_zone.specs.Spread.{target, ArePlaces, IsSpreadTo};
 
-use crate::bounds::{Table, at, free, lesser, put, sum};
+use crate::bounds::{BoundTable, at, free, lesser, put, sum};
 
 /// The node whose number is p once node k is left out.
 fn skip(k: usize, p: usize) -> usize
@@ -17,7 +17,7 @@ fn skip(k: usize, p: usize) -> usize
 }
 
 /// The bound at a place once node k is left out: the lesser of the old one and of the path through k.
-fn path(bounds: &Table, k: usize, p: usize, q: usize) -> Option<i64>
+fn path(bounds: &BoundTable, k: usize, p: usize, q: usize) -> Option<i64>
     requires node { k < 9 }
     requires row { p < 8 }
     requires column { q < 8 }
@@ -35,7 +35,7 @@ fn path(bounds: &Table, k: usize, p: usize, q: usize) -> Option<i64>
 }
 
 /// The bounds of the nodes but k, after the paths through it.
-pub fn without(bounds: &Table, k: usize, n: usize) -> Table
+pub fn without(bounds: &BoundTable, k: usize, n: usize) -> BoundTable
     requires nodes { n < 9 }
     requires node { k ≤ n }
     requires small { AllSmall (n + 1) (2 ^ 61) bounds.now }
@@ -75,7 +75,7 @@ fn place(places: &[usize], i: usize) -> usize
 }
 
 /// The bounds at the new places of their nodes.
-pub fn moved(bounds: &Table, places: &[usize]) -> Table
+pub fn moved(bounds: &BoundTable, places: &[usize]) -> BoundTable
     requires count { length places.now ≤ 8 }
     requires places { ArePlaces places.now 8 }
     ensures { IsSpreadTo places.now bounds.now (length places.now + 1)

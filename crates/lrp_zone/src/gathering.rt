@@ -1,4 +1,4 @@
-//! The stored bounds of a list of given bounds.
+// The stored bounds of a list of given bounds.
 
 ghost use Rattle.std.specs.Prelude.{◌≡◌, ◌<◌, ◌≤◌, ◌^◌, ℕ, IsTrue, ◌↔◌, length, pos};
 ghost use Rattle.lrp_theory.specs.Entries.{node};
@@ -6,11 +6,11 @@ ghost use Rattle.lrp_zone.specs.Numbers.{CanStand};
 ghost use Rattle.lrp_zone.specs.Zones.{IsResidue};
 ghost use Rattle.lrp_zone.specs.Given.{HasNegative, IsGiven, IsStoredFor, IsWith, AreGiven, IsGathered};
 
-use crate::bounds::{Table, at, free, lesser, put};
+use crate::bounds::{BoundTable, at, free, lesser, put};
 use crate::tightening::tightened;
 use lrp_model::Bound;
 
-/// Tells whether some given bound of a column from itself is negative.
+/// Whether some given bound of a column from itself is negative.
 pub fn has_negative(bounds: &[Bound]) -> bool
     ensures { IsTrue result ↔ HasNegative bounds.now }
 {
@@ -40,7 +40,7 @@ fn kept(bound: &Bound, residues: &[i64], period: u64) -> Option<i64>
 }
 
 /// Keeps the lesser of the bound at a place and of what is stored for a given bound.
-fn gather(out: &mut Table, bound: &Bound, residues: &[i64], period: u64)
+fn gather(out: &mut BoundTable, bound: &Bound, residues: &[i64], period: u64)
     requires columns { length residues.now ≤ 8 }
     requires low { 0 < period }
     requires high { period ≤ 2 ^ 62 }
@@ -55,7 +55,7 @@ fn gather(out: &mut Table, bound: &Bound, residues: &[i64], period: u64)
 }
 
 /// The least of the tightened bounds at each place.
-pub fn gathered(bounds: &[Bound], residues: &[i64], period: u64) -> Table
+pub fn gathered(bounds: &[Bound], residues: &[i64], period: u64) -> BoundTable
     requires columns { length residues.now ≤ 8 }
     requires low { 0 < period }
     requires high { period ≤ 2 ^ 62 }

@@ -1,13 +1,13 @@
-//! Whether some integers meet the bounds of a table.
+// Whether some integers meet the bounds of a table.
 
 ghost use Rattle.std.specs.Prelude.{◌≡◌, ◌<◌, ◌≤◌, ◌^◌, ◌↔◌, ℤ, IsTrue, ◌-ℤ◌, ◌≤ℤ◌, pos, slice_index_or};
 ghost use Rattle.lrp_theory.specs.Bounds.{Meets, Within};
 ghost use Rattle.lrp_theory.specs.Entries.{entry, AllSmall, HasSolution};
 
-use crate::bounds::{Table, at, widened};
+use crate::bounds::{BoundTable, at, widened};
 use lrp_matrix::cells::close;
 
-/// Tells whether one number minus another one is at most a bound.
+/// Whether one number minus another one is at most a bound.
 fn keeps(left: i64, right: i64, bound: Option<i64>) -> bool
     ensures { IsTrue result ↔ Within (left -ℤ right) bound }
 {
@@ -17,8 +17,8 @@ fn keeps(left: i64, right: i64, bound: Option<i64>) -> bool
     }
 }
 
-/// Tells whether the numbers of the nodes meet the bounds.
-fn meets(bounds: &Table, numbers: &[i64; 9], nodes: usize) -> bool
+/// Whether the numbers of the nodes meet the bounds.
+fn meets(bounds: &BoundTable, numbers: &[i64; 9], nodes: usize) -> bool
     requires nodes { nodes ≤ 9 }
     ensures { IsTrue result ↔ Meets nodes (entry bounds.now)
         (λ i. slice_index_or numbers.now i (pos 0)) }
@@ -45,7 +45,7 @@ fn lowered(number: i64, other: i64, bound: Option<i64>) -> i64
 }
 
 /// Lowers each number to what the bounds on its differences to the others leave it, one after another.
-fn lower(bounds: &Table, numbers: &mut [i64; 9], nodes: usize)
+fn lower(bounds: &BoundTable, numbers: &mut [i64; 9], nodes: usize)
     requires nodes { nodes ≤ 9 }
 {
     for i in 0..nodes {
@@ -55,10 +55,10 @@ fn lower(bounds: &Table, numbers: &mut [i64; 9], nodes: usize)
     }
 }
 
-/// Tells whether zeros meet the bounds once they were lowered a few times (Richard Bellman, "On a routing problem", 1958).
+/// Whether zeros meet the bounds once they were lowered a few times (Richard Bellman, "On a routing problem", 1958).
 ///
 /// Few bounds are met after a turn or two, so most tables need no closing.
-fn is_soon_met(bounds: &Table, nodes: usize) -> bool
+fn is_soon_met(bounds: &BoundTable, nodes: usize) -> bool
     requires nodes { nodes ≤ 9 }
     ensures { IsTrue result → HasSolution nodes (entry bounds.now) }
 {
@@ -72,7 +72,7 @@ fn is_soon_met(bounds: &Table, nodes: usize) -> bool
     false
 }
 
-/// Tells whether no difference is at most one bound while its reverse is at most the other one.
+/// Whether no difference is at most one bound while its reverse is at most the other one.
 fn excludes(there: Option<i64>, back: Option<i64>) -> bool
     ensures { IsTrue result → (d : ℤ) → Within d there → Within (pos 0 -ℤ d) back → ⊥ }
 {
@@ -82,8 +82,8 @@ fn excludes(there: Option<i64>, back: Option<i64>) -> bool
     }
 }
 
-/// Tells whether the two bounds between some nodes exclude one another.
-fn has_excluded(bounds: &Table, nodes: usize) -> bool
+/// Whether the two bounds between some nodes exclude one another.
+fn has_excluded(bounds: &BoundTable, nodes: usize) -> bool
     requires nodes { nodes ≤ 9 }
     ensures { IsTrue result → HasSolution nodes (entry bounds.now) → ⊥ }
 {
@@ -97,8 +97,8 @@ fn has_excluded(bounds: &Table, nodes: usize) -> bool
     false
 }
 
-/// Tells whether the bounds can be closed.
-fn can_close(bounds: &Table, nodes: usize) -> bool
+/// Whether the bounds can be closed.
+fn can_close(bounds: &BoundTable, nodes: usize) -> bool
     requires nodes { nodes ≤ 9 }
     requires small { AllSmall nodes (2 ^ 62) bounds.now }
     ensures { IsTrue result ↔ HasSolution nodes (entry bounds.now) }
@@ -107,8 +107,8 @@ fn can_close(bounds: &Table, nodes: usize) -> bool
     close(&mut cells, nodes)
 }
 
-/// Tells whether some integers meet the bounds.
-pub fn has_solution(bounds: &Table, nodes: usize) -> bool
+/// Whether some integers meet the bounds.
+pub fn has_solution(bounds: &BoundTable, nodes: usize) -> bool
     requires nodes { nodes ≤ 9 }
     requires small { AllSmall nodes (2 ^ 62) bounds.now }
     ensures { IsTrue result ↔ HasSolution nodes (entry bounds.now) }

@@ -1,4 +1,4 @@
-//! Bounds that are tightened to the residues of their nodes.
+// Bounds that are tightened to the residues of their nodes.
 
 ghost use Rattle.std.specs.Prelude.{◌≡◌, ◌<◌, ◌≤◌, ◌^◌, ◌+◌, ◌-◌, ℕ, ℤ, Some, length, pos, ◌-ℤ◌};
 ghost use Rattle.lrp_theory.specs.Entries.{entry, node, AtMost};
@@ -7,7 +7,7 @@ ghost use Rattle.lrp_zone.specs.Tight.{CanTighten, IsTightened, IsStored, AreSto
 ghost use Rattle.lrp_zone.specs.Numbers.{CanStand};
 ghost use Rattle.lrp_zone.specs.Pieces.{broken_by};
 
-use crate::bounds::{Table, at, free, narrow, put, wide};
+use crate::bounds::{BoundTable, at, free, narrow, put, wide};
 use crate::tuples::value;
 use lrp_matrix::Matrix;
 use lrp_point::numbers::tighten;
@@ -57,7 +57,7 @@ pub fn tightened(
 }
 
 /// The bounds of the nodes, tightened.
-pub fn all_tightened(bounds: &Table, residues: &[i64], period: u64) -> Table
+pub fn all_tightened(bounds: &BoundTable, residues: &[i64], period: u64) -> BoundTable
     requires columns { length residues.now ≤ 8 }
     requires low { 0 < period }
     requires high { period ≤ 2 ^ 62 }
@@ -83,7 +83,7 @@ pub fn all_tightened(bounds: &Table, residues: &[i64], period: u64) -> Table
 }
 
 /// The bounds of a matrix, tightened.
-pub fn all_tightest(bounds: &Matrix, residues: &[i64], period: u64) -> Table
+pub fn all_tightest(bounds: &Matrix, residues: &[i64], period: u64) -> BoundTable
     requires columns { length residues.now ≤ 8 }
     requires count { bounds.now.columns ≡ length residues.now }
     requires low { 0 < period }

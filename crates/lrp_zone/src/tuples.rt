@@ -1,4 +1,4 @@
-//! Tuples of integers, and which of them a zone holds.
+// Tuples of integers, and which of them a zone holds.
 
 ghost use Rattle.std.specs.Prelude.{◌≡◌, ◌<◌, ◌≤◌, ◌^◌, ◌+◌, ℕ, IsTrue, ◌↔◌, List, length, replicate, ◌++◌, ◌-◌, pos, ◌-ℤ◌};
 ghost use Rattle.lrp_theory.specs.Divides.{Divides};
@@ -6,7 +6,7 @@ ghost use Rattle.lrp_theory.specs.Bounds.{Within};
 ghost use Rattle.lrp_theory.specs.Entries.{node};
 ghost use Rattle.lrp_zone.specs.Zones.{IsMember};
 
-use crate::bounds::{Table, at};
+use crate::bounds::{BoundTable, at};
 use lrp_point::numbers::remainder;
 
 /// The value of a node: the number zero, or the value of a column.
@@ -17,7 +17,7 @@ pub fn value(xs: &[i64], i: usize) -> i64
     if i == 0 { 0 } else { xs[i - 1] }
 }
 
-/// Tells whether node i has the residue of node i of another tuple.
+/// Whether node i has the residue of node i of another tuple.
 fn agrees(xs: &[i64], residues: &[i64], i: usize, period: u64) -> bool
     requires node { i ≤ length xs.now }
     requires residue { i ≤ length residues.now }
@@ -28,7 +28,7 @@ fn agrees(xs: &[i64], residues: &[i64], i: usize, period: u64) -> bool
     remainder(value(xs, i), period) == remainder(value(residues, i), period)
 }
 
-/// Tells whether node i minus node j is at most a bound.
+/// Whether node i minus node j is at most a bound.
 fn keeps(xs: &[i64], i: usize, j: usize, bound: Option<i64>) -> bool
     requires row { i ≤ length xs.now }
     requires column { j ≤ length xs.now }
@@ -40,8 +40,8 @@ fn keeps(xs: &[i64], i: usize, j: usize, bound: Option<i64>) -> bool
     }
 }
 
-/// Tells whether a tuple has the residues and keeps the bounds.
-pub fn holds(xs: &[i64], residues: &[i64], bounds: &Table, period: u64) -> bool
+/// Whether a tuple has the residues and keeps the bounds.
+pub fn holds(xs: &[i64], residues: &[i64], bounds: &BoundTable, period: u64) -> bool
     requires columns { length residues.now ≤ 8 }
     requires count { length xs.now ≡ length residues.now }
     requires low { 0 < period }

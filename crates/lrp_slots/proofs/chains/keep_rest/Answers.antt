@@ -15,11 +15,11 @@ gone rest e = ap (λ n. if n == 0 then None else Some rest) e
 
 pub returns-then-rest-eq0-clause-updates : goal.returns-then-rest-eq0-clause-updates
 returns-then-rest-eq0-clause-updates c = λ q.
-    ap (λ es. chain_at es q) c.remove.ensures ∙ taken_updates c.args.chains.now c.args.cell.now q c.len.ensures.ordered
+    ap (λ es. chain_at es q) c.remove.ensures ∙ taken_updates c.args.chains.now c.args.cell.now q c.requires.line
     ∙ ap (λ o. cond (is_at (cell_cmp c.args.cell.now) q) o (chain_at c.args.chains.now q)) (sym (gone c.args.rest c.if-rest-eq0.true))
 
 pub returns-then-rest-eq0-clause-ordered : goal.returns-then-rest-eq0-clause-ordered
-returns-then-rest-eq0-clause-ordered c = subst IsLine (sym c.remove.ensures) (taken_line c.args.chains.now c.args.cell.now c.len.ensures.ordered)
+returns-then-rest-eq0-clause-ordered c = subst IsLine (sym c.remove.ensures) (taken_line c.args.chains.now c.args.cell.now c.requires.line)
 
 pub returns-then-rest-eq0-clause-total : goal.returns-then-rest-eq0-clause-total
 returns-then-rest-eq0-clause-total c =
@@ -27,4 +27,4 @@ returns-then-rest-eq0-clause-total c =
 
 pub returns-clause-total : goal.returns-clause-total
 returns-clause-total c =
-    λ chain held. ap (λ es. slots_of es + chain.count) c.in-Ok.ensures.ok.inserted ∙ slots_of-insert c.args.chains.now c.args.cell.now c.args.rest chain c.len.ensures.ordered held
+    λ chain held. ap (λ es. slots_of es + chain.count) c.in-Ok.ensures.ok.inserted ∙ slots_of-insert c.args.chains.now c.args.cell.now c.args.rest chain c.requires.line held

@@ -9,5 +9,5 @@ use Rattle.lrp_slots.proofs.tree.widened.Goals as goal
 pub loop-entry-preserved : goal.loop-entry-preserved
 loop-entry-preserved c =
     ap (λ es. es ++ wide_entries c.next.new.self) (c.in_ok-insert.ensures.entries ∙ ap (λ cell. insert_entry cell_cmp c.loop-entry.wide.entries cell c.in-Some.entry.1.now) c.cell.ensures)
-    ∙ one_widened c.loop-entry.wide.entries (c.in-Some.entry.0.now, c.in-Some.entry.1.now) c.next.new.self (wide_entries c.args.narrow.now.entries) (wide_line c.args.narrow.now.entries c.len.ensures.ordered)
+    ∙ one_widened c.loop-entry.wide.entries (c.in-Some.entry.0.now, c.in-Some.entry.1.now) c.next.new.self (wide_entries c.args.narrow.now.entries) (wide_line c.args.narrow.now.entries c.iter-entry-items.ensures.ordered)
     (ap (λ es. c.loop-entry.wide.entries ++ wide_entries es) (sym c.in-Some.ensures.steps) ∙ c.loop-entry.invariant)

@@ -25,4 +25,4 @@ pub returns-clause-within : goal.returns-clause-within
 returns-clause-within c = λ yes.
     let many : length (bounds_of c.args.entries.now) ≡ length c.args.entries.now = length-map c.args.entries.now _ in
     let end : c.loop-entry.entry-index ≡ length (bounds_of c.args.entries.now) = omega arith in
-    above_within c.args.zone.now (bounds_of c.args.entries.now) c.columns.ensures.valid.shape.columns c.requires.listed (subst (AreAbove c.args.zone.now.bounds (bounds_of c.args.entries.now)) end c.loop-entry.invariant)
+    above_within c.args.zone.now (bounds_of c.args.entries.now) c.requires.columns c.requires.listed (subst (AreAbove c.args.zone.now.bounds (bounds_of c.args.entries.now)) end c.loop-entry.invariant)

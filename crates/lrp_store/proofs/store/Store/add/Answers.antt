@@ -14,7 +14,7 @@ invariant_of-self c = record {
 pub invariant_of-self-2 : goal.invariant_of-self-2
 invariant_of-self-2 c = record {
   valid =
-      appended (record { shape = c.self.inside.shape; period = c.self.inside.period; tables = c.self.inside.slots.lists; spare = c.self.inside.slots.spare }) c.args.self.now c.self.view_is c.self.invariant.valid c.args.cell.now c.args.zone.now c.columns.ensures.valid c.requires.period c.requires.residues c.requires.texts c.requires.times
+      appended (record { shape = c.self.inside.shape; period = c.self.inside.period; tables = c.self.inside.slots.lists; spare = c.self.inside.slots.spare }) c.args.self.now c.self.view_is c.self.invariant.valid c.args.cell.now c.args.zone.now c.of.ensures.valid c.requires.period c.requires.residues c.requires.texts c.requires.times
       c.in_ok-bounds.bounds c.in_ok-bounds.ensures.ok c.append.new.self.lists c.in_ok-append.ensures.ok c.args.cap c.append.new.self.spare (omega (arith, c.ranges.cap))
       (room_left (record { shape = c.self.inside.shape; period = c.self.inside.period; tables = c.self.inside.slots.lists; spare = c.self.inside.slots.spare }) c.args.self.now c.self.view_is c.args.cell.now c.args.cap c.is_one_too_many.result c.is_one_too_many.ensures c.if-is_one_too_many.false);
   whole = appended_remembered c.self.inside.slots.lists c.append.new.self.lists c.self.inside.whole c.args.cell.now c.in_ok-bounds.bounds c.in_ok-append.ensures.ok c.self.invariant.whole;

@@ -11,11 +11,11 @@ pub replace_last-requires-clause-zone : goal.replace_last-requires-clause-zone
 replace_last-requires-clause-zone c = (c.in-Joined.ensures.joined c.in-Joined.both refl).union.valid
 
 pub returns-in-Joined-clause-ok : goal.returns-in-Joined-clause-ok
-returns-in-Joined-clause-ok c = last_joined c.args.self.now c.replace_last.new.self c.shape.ensures.valid c.replace_last.ensures.valid c.args.cell.now c.args.zone.now c.in-Joined.both
+returns-in-Joined-clause-ok c = last_joined c.args.self.now c.replace_last.new.self c.place_of.ensures.store c.replace_last.ensures.valid c.args.cell.now c.args.zone.now c.in-Joined.both
     (c.in-Joined.ensures.joined c.in-Joined.both refl) c.replace_last.ensures.tables c.replace_last.ensures.rest c.args.cap
 
 pub returns-in-Apart-clause-ok : goal.returns-in-Apart-clause-ok
-returns-in-Apart-clause-ok c = zone_added c.args.self.now c.shape.ensures.valid c.args.cell.now c.args.zone.now c.columns.ensures.valid c.requires.period c.requires.residues c.requires.texts c.requires.times c.args.cap c.add.new.self c.add.ensures.valid c.add.ensures.rest c.add.result c.add.ensures.too_many c.add.ensures.ok
+returns-in-Apart-clause-ok c = zone_added c.args.self.now c.place_of.ensures.store c.args.cell.now c.args.zone.now c.place_of.ensures.zone c.requires.period c.requires.residues c.requires.texts c.requires.times c.args.cap c.add.new.self c.add.ensures.valid c.add.ensures.rest c.add.result c.add.ensures.too_many c.add.ensures.ok
 
 pub returns-in-Apart-clause-too_many : goal.returns-in-Apart-clause-too_many
-returns-in-Apart-clause-too_many c = zone_refused c.args.self.now c.shape.ensures.valid c.args.cell.now c.args.zone.now c.columns.ensures.valid c.requires.period c.requires.residues c.requires.texts c.requires.times c.args.cap c.add.new.self c.add.ensures.valid c.add.ensures.rest c.add.result c.add.ensures.too_many c.add.ensures.err
+returns-in-Apart-clause-too_many c = zone_refused c.args.self.now c.place_of.ensures.store c.args.cell.now c.args.zone.now c.place_of.ensures.zone c.requires.period c.requires.residues c.requires.texts c.requires.times c.args.cap c.add.new.self c.add.ensures.valid c.add.ensures.rest c.add.result c.add.ensures.too_many c.add.ensures.err

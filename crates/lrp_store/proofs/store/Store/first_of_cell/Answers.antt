@@ -9,7 +9,7 @@ use Rattle.lrp_store.proofs.StoreFirst.{found_more, kept_more, here_more, behind
 use Rattle.lrp_store.proofs.store.Store.first_of_cell.Goals as goal
 
 pub may_be_nearer-requires-clause-proper : goal.may_be_nearer-requires-clause-proper
-may_be_nearer-requires-clause-proper c = cell_held c.args.self.now c.shape.ensures.valid c.args.cell.now c.in-Some.bounds.now (c.loop-bounds.invariant.within c.in-Some.bounds.now (head_in c.in-Some.bounds.now c.next.new.self c.loop-bounds.bounds-iterator c.in-Some.ensures.steps))
+may_be_nearer-requires-clause-proper c = cell_held c.args.self.now c.requires.valid c.args.cell.now c.in-Some.bounds.now (c.loop-bounds.invariant.within c.in-Some.bounds.now (head_in c.in-Some.bounds.now c.next.new.self c.loop-bounds.bounds-iterator c.in-Some.ensures.steps))
 
 pub nearest_in-requires-clause-held : goal.nearest_in-requires-clause-held
 nearest_in-requires-clause-held c = (c.loop-bounds.invariant.within c.in-Some.bounds.now (head_in c.in-Some.bounds.now c.next.new.self c.loop-bounds.bounds-iterator c.in-Some.ensures.steps))
@@ -23,13 +23,13 @@ loop-bounds-preserved c =
     let near : IsNearestTo (zone_of c.args.self.now c.args.cell.now c.in-Some.bounds.now) (columns_of (zone_of c.args.self.now c.args.cell.now c.in-Some.bounds.now)) c.nearest_in.result = c.nearest_in.ensures in
     record {
       within = λ u h. c.loop-bounds.invariant.within u (tail_in c.in-Some.bounds.now c.next.new.self c.loop-bounds.bounds-iterator c.in-Some.ensures.steps u h);
-      found = found_more c.args.self.now c.shape.ensures.valid c.args.cell.now c.in-Some.bounds.now held c.nearest_in.result near c.loop-bounds.found c.loop-bounds.invariant.found c.nearer.result c.nearer.ensures.one c.nearer.ensures.found c.nearer.ensures.spot;
-      kept = λ xs ns h. kept_more c.args.self.now c.shape.ensures.valid c.args.cell.now c.in-Some.bounds.now held c.nearest_in.result near c.loop-bounds.found c.loop-bounds.invariant.found c.nearer.result c.nearer.ensures.one c.nearer.ensures.found c.nearer.ensures.spot xs ns (c.loop-bounds.invariant.kept xs ns h);
-      behind = behind_more c.args.self.now c.shape.ensures.valid c.args.cell.now c.in-Some.bounds.now c.next.new.self c.loop-bounds.bounds-iterator c.in-Some.ensures.steps c.loop-bounds.found c.nearer.result
-          (kept_more c.args.self.now c.shape.ensures.valid c.args.cell.now c.in-Some.bounds.now held c.nearest_in.result near c.loop-bounds.found c.loop-bounds.invariant.found c.nearer.result c.nearer.ensures.one c.nearer.ensures.found c.nearer.ensures.spot)
-          (here_more c.args.self.now c.shape.ensures.valid c.args.cell.now c.in-Some.bounds.now held c.nearest_in.result near c.loop-bounds.found c.loop-bounds.invariant.found c.nearer.result c.nearer.ensures.one c.nearer.ensures.found c.nearer.ensures.spot)
+      found = found_more c.args.self.now c.requires.valid c.args.cell.now c.in-Some.bounds.now held c.nearest_in.result near c.loop-bounds.found c.loop-bounds.invariant.found c.nearer.result c.nearer.ensures.one c.nearer.ensures.found c.nearer.ensures.spot;
+      kept = λ xs ns h. kept_more c.args.self.now c.requires.valid c.args.cell.now c.in-Some.bounds.now held c.nearest_in.result near c.loop-bounds.found c.loop-bounds.invariant.found c.nearer.result c.nearer.ensures.one c.nearer.ensures.found c.nearer.ensures.spot xs ns (c.loop-bounds.invariant.kept xs ns h);
+      behind = behind_more c.args.self.now c.requires.valid c.args.cell.now c.in-Some.bounds.now c.next.new.self c.loop-bounds.bounds-iterator c.in-Some.ensures.steps c.loop-bounds.found c.nearer.result
+          (kept_more c.args.self.now c.requires.valid c.args.cell.now c.in-Some.bounds.now held c.nearest_in.result near c.loop-bounds.found c.loop-bounds.invariant.found c.nearer.result c.nearer.ensures.one c.nearer.ensures.found c.nearer.ensures.spot)
+          (here_more c.args.self.now c.requires.valid c.args.cell.now c.in-Some.bounds.now held c.nearest_in.result near c.loop-bounds.found c.loop-bounds.invariant.found c.nearer.result c.nearer.ensures.one c.nearer.ensures.found c.nearer.ensures.spot)
           c.loop-bounds.invariant.behind;
     }
 
 pub returns-clause-cell : goal.returns-clause-cell
-returns-clause-cell c = cell_done c.args.self.now c.shape.ensures.valid c.args.cell.now c.loop-bounds.found (λ t xs h m. subst (λ l. IsNotAfter c.args.self.now c.loop-bounds.found xs (take c.args.self.now.shape.texts c.args.cell.now.texts) ⊎ Contains l t) c.in-None.ensures.steps.0 (c.loop-bounds.invariant.behind t xs h m))
+returns-clause-cell c = cell_done c.args.self.now c.requires.valid c.args.cell.now c.loop-bounds.found (λ t xs h m. subst (λ l. IsNotAfter c.args.self.now c.loop-bounds.found xs (take c.args.self.now.shape.texts c.args.cell.now.texts) ⊎ Contains l t) c.in-None.ensures.steps.0 (c.loop-bounds.invariant.behind t xs h m))

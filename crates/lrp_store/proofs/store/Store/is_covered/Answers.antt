@@ -2,7 +2,7 @@
 use Rattle.std.proofs.Common.{◌≡◌, inl, inr, arith, refl, subst, sym, ◌∙◌, true, false}
 use Rattle.std.proofs.lemmas.Bool.{cases_lt}
 use Rattle.lrp_zone.specs.Pairs.{IsWithin}
-use Rattle.lrp_store.specs.Stores.{tables_at}
+use Rattle.lrp_store.specs.Stores.{tables_at, IsStore}
 use Rattle.lrp_store.specs.Tidied.{nth_zone}
 use Rattle.lrp_store.proofs.Aligning.{zone_valid}
 use Rattle.lrp_store.proofs.Tidying.{nth_is, of_one_cell, seen_within, read_within, read_next, none_left, next_held, next_zone}
@@ -22,7 +22,7 @@ loop-j-preserved-then-j-i c = record {
 
 pub zone-other-requires : goal.zone-other-requires
 zone-other-requires c =
-    zone_valid (record { shape = c.self.inside.shape; period = c.self.inside.period; tables = c.self.inside.slots.lists; spare = c.self.inside.slots.spare }) c.args.self.now c.self.view_is c.shape.ensures.valid c.args.cell.now c.in-Some-next.bounds.now c.from-times.result
+    zone_valid (record { shape = c.self.inside.shape; period = c.self.inside.period; tables = c.self.inside.slots.lists; spare = c.self.inside.slots.spare }) c.args.self.now c.self.view_is (subst IsStore c.self.view_is c.self.invariant.valid) c.args.cell.now c.in-Some-next.bounds.now c.from-times.result
     (next_held (tables_at c.args.self.now c.args.cell.now) c.loop-j.rest c.next.new.self c.loop-j.j c.in-Some-next.bounds.now c.loop-j.invariant.left (omega (arith, c.loop-j-test.true, c.count-j-end.ensures.count)) c.in-Some-next.ensures.steps) c.from-times.ensures
 
 pub within-requires : goal.within-requires

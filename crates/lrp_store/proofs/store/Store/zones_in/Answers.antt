@@ -1,10 +1,12 @@
 -- One zone more is read.
+use Rattle.std.proofs.Common.{subst}
+use Rattle.lrp_store.specs.Stores.{IsStore}
 use Rattle.lrp_store.proofs.Aligning.{zone_read, zone_valid, head_in, tail_in}
 use Rattle.lrp_store.proofs.ZonesRead.{one_read, all_read}
 use Rattle.lrp_store.proofs.store.Store.zones_in.Goals as goal
 
 pub zone-zone-requires : goal.zone-zone-requires
-zone-zone-requires c = zone_valid (record { shape = c.self.inside.shape; period = c.self.inside.period; tables = c.self.inside.slots.lists; spare = c.self.inside.slots.spare }) c.args.self.now c.self.view_is c.shape.ensures.valid c.args.cell.now c.in-Some.bounds.now c.from-times.result (c.loop-bounds.invariant.within c.in-Some.bounds.now (head_in c.in-Some.bounds.now c.next.new.self c.loop-bounds.bounds-iterator c.in-Some.ensures.steps)) c.from-times.ensures
+zone-zone-requires c = zone_valid (record { shape = c.self.inside.shape; period = c.self.inside.period; tables = c.self.inside.slots.lists; spare = c.self.inside.slots.spare }) c.args.self.now c.self.view_is (subst IsStore c.self.view_is c.self.invariant.valid) c.args.cell.now c.in-Some.bounds.now c.from-times.result (c.loop-bounds.invariant.within c.in-Some.bounds.now (head_in c.in-Some.bounds.now c.next.new.self c.loop-bounds.bounds-iterator c.in-Some.ensures.steps)) c.from-times.ensures
 
 pub loop-bounds-preserved : goal.loop-bounds-preserved
 loop-bounds-preserved c = record {

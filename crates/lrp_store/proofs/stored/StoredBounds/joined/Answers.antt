@@ -20,6 +20,6 @@ returns c =
     let low : c.bound-low.result ≡ entry c.args.self.now 0 1 = c.bound-low.ensures in
     let high : c.bound.result ≡ entry c.args.self.now 1 0 = c.bound.ensures in
     let next : c.bound_of.result ≡ entry c.args.zone.now.bounds 1 0 = c.bound_of.ensures.value in
-    are_joined c.args.zone.now c.columns.ensures.valid c.requires.column c.args.self.now c.requires.valid
+    are_joined c.args.zone.now c.bound_of.ensures.valid c.requires.column c.args.self.now c.requires.valid
     (subst (λ e. GoesOn e (entry c.args.self.now 1 0) c.args.zone.now) low (subst (λ e. GoesOn c.bound-low.result e c.args.zone.now) high (c.goes_on.ensures c.if-not-goes_on.false)))
     c.line_bounds.result (c.line_bounds.ensures ∙ ap (λ e. line_table e c.bound_of.result) low ∙ ap (line_table (entry c.args.self.now 0 1)) next)

@@ -2,7 +2,7 @@
 use Rattle.std.proofs.Common.{◌≡◌, ◌∙◌, rules, to_z, of_z}
 use Rattle.std.specs.Int.{w64}
 use Rattle.lrp_zone.proofs.Stands.{write_bound}
-use Rattle.lrp_zone.proofs.bounds.Table.set.Goals as goal
+use Rattle.lrp_zone.proofs.bounds.BoundTable.set.Goals as goal
 
 pub returns-clause-value : goal.returns-clause-value
 returns-clause-value c =

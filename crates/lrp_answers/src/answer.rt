@@ -6,8 +6,8 @@ ghost use Rattle.lrp_store.specs.Stores.{InStore};
 ghost use Rattle.lrp_store.specs.Least.{HasRoom, IsLeastSpot};
 ghost use Rattle.lrp_store.specs.Tables.{AreNumbered, InAnswer};
 
-use crate::store::Store;
 use lrp_model::{Copies, Domain, Head, Memory, Spot};
+use lrp_store::Store;
 use std::alloc::Global;
 
 /// The tuples of a store, with a time or a text for each column of the head, in its order.
@@ -50,8 +50,7 @@ impl Answer {
         ensures { IsTrue result ↔ ((times : List ℤ) (texts : List ℕ)
             → InStore self.now.store times texts → ⊥) }
     {
-        self.store.shape();
-        self.store.len() == 0
+        self.store.is_empty()
     }
 
     /// The first answer in the order 0, 1, -1, 2, -2, .. of its times in head order, and then of its texts, if there is one.
@@ -64,7 +63,6 @@ impl Answer {
         ensures some { IfSome result (λ spot. IsLeastSpot self.now.head.columns self.now.domain
             self.now.store spot) }
     {
-        self.store.shape();
         self.domain.len();
         self.store.first()
     }

@@ -1,8 +1,8 @@
 // Stores whose columns are named by variables.
 ghost use Rattle.std.specs.Prelude.{◌≡◌, ◌≢◌, ◌++◌, length, AllPairs, IfOk};
 
-use crate::store::{Store, StoreFault};
 use lrp_model::{Copies, List, Memory, Name};
+use lrp_store::{Store, StoreFault};
 use std::alloc::Global;
 use thiserror::Error;
 
@@ -55,7 +55,7 @@ impl Table {
 }
 
 impl From<StoreFault> for StepFault {
-    ghost use Rattle.lrp_store.specs.Faults.{step_fault};
+    ghost use Rattle.lrp_tables.specs.Faults.{step_fault};
     ghost use Rattle.std.specs.Prelude.{◌≡◌};
 
     ghost from_gives = { λ fault made. made ≡ step_fault fault };
@@ -69,7 +69,7 @@ impl From<StoreFault> for StepFault {
 }
 
 impl From<Memory> for StepFault {
-    ghost use Rattle.lrp_store.specs.declared.table.StepFault.TheVariants.{Memory as MemoryFault};
+    ghost use Rattle.lrp_tables.specs.declared.table.StepFault.TheVariants.{Memory as MemoryFault};
     ghost use Rattle.std.specs.Prelude.{◌≡◌};
 
     ghost from_gives = { λ _ made. made ≡ MemoryFault };
