@@ -6,7 +6,8 @@ use Rattle.lrp_model.specs.declared.tokens.Symbol.TheVariants.{Open, Close, Open
 use Rattle.lrp_model.specs.declared.tokens.Place.{Place}
 use Rattle.lrp_model.specs.Tokens.{Token, Tokens}
 use Rattle.lrp_model.specs.Tokens.Token.{name_token, word_token, number_token, text_token, symbol_token, end_token, bad_token, hole_token}
-use Rattle.lrp_model.specs.Lexing.{is_letter, is_name_byte, run, behind_run, value_from, word_or_name, Scanned, QuotedText as TextRead, text_from, text_scanned, one, one_or_two, symbol_from, scan, after, skip, start, headed, tokens_from, tokens}
+use Rattle.std.specs.Str.Parse.{digits_value}
+use Rattle.lrp_model.specs.Lexing.{is_letter, is_name_byte, run, behind_run, word_or_name, Scanned, QuotedText as TextRead, text_from, text_scanned, one, one_or_two, symbol_from, scan, after, skip, start, headed, tokens_from, tokens}
 use Rattle.std.specs.Char.{is_ascii_digit}
 use Rattle.lrp_query.specs.Rules.{is_hole_token}
 use Rattle.lrp_query.proofs.Marks.{NoHoles}
@@ -60,7 +61,7 @@ unfolding scan
 scan_clean [] = refl
 scan_clean (b ∷ bs) =
     scanned (is_letter b) (record { token = word_or_name (run is_name_byte (b ∷ bs)); taken = run is_name_byte (b ∷ bs); left = behind_run is_name_byte (b ∷ bs) }) _ (word_clean (run is_name_byte (b ∷ bs)))
-    (scanned (is_ascii_digit b) (record { token = number_token (value_from 0 (run is_ascii_digit (b ∷ bs))); taken = run is_ascii_digit (b ∷ bs); left = behind_run is_ascii_digit (b ∷ bs) }) _ refl
+    (scanned (is_ascii_digit b) (record { token = number_token (digits_value 10 (run is_ascii_digit (b ∷ bs))); taken = run is_ascii_digit (b ∷ bs); left = behind_run is_ascii_digit (b ∷ bs) }) _ refl
     (scanned (b == 34) (text_scanned (text_from false bs)) (symbol_from b bs) (text_clean (text_from false bs)) (symbol_clean b bs)))
 
 -- a token and those that follow it

@@ -52,16 +52,18 @@ many_members make p _ = hole p
 abbrev pub layered : {F X Q : Type 0} → (Layer F X → F) → (List RawColumn → F → Q) → Trees WrittenTerm (Located WrittenTerm) F Q
 layered roll question = record {
   terms = written_terms;
-  atom_of = λ p n ts. roll (atom p n ts);
-  comparison = λ l op r. roll (compared l op r);
-  membership = λ t i k. roll (member t i k);
-  negation = λ p f. roll (denied p f);
-  conjunction = λ p fs. roll (many_members all_of p fs);
-  disjunction = λ p fs. roll (many_members any_of p fs);
-  implication = λ p f g. roll (implied p f g);
-  parenthesis = λ p f. roll (group p f);
-  existential = λ p c f. roll (some p c f);
-  universal = λ p c f. roll (every p c f);
+  formulas = record {
+    atom_of = λ p n ts. roll (atom p n ts);
+    comparison = λ l op r. roll (compared l op r);
+    membership = λ t i k. roll (member t i k);
+    negation = λ p f. roll (denied p f);
+    conjunction = λ p fs. roll (many_members all_of p fs);
+    disjunction = λ p fs. roll (many_members any_of p fs);
+    implication = λ p f g. roll (implied p f g);
+    parenthesis = λ p f. roll (group p f);
+    existential = λ p c f. roll (some p c f);
+    universal = λ p c f. roll (every p c f);
+  };
   cut = λ t. cut_at (roll (hole t.place)) t.token;
   question = question;
 }

@@ -1,5 +1,7 @@
 pub mod Shown
 pub mod Started
+mod Behind
+mod OfBytes
 pub mod LocalRules
 pub mod TermRules
 mod Below
@@ -13,6 +15,7 @@ pub mod QueryRules
 pub mod Natural
 pub mod Marks
 pub mod Readers
+pub mod OperatorLaws
 pub mod HoleFree
 mod Ranks
 pub mod TextLaws

@@ -32,16 +32,18 @@ use Rattle.lrp_query.proofs.LocalRules.{offset_local, named_term_local, unnamed_
 abbrev pub marking : Trees (Unit {0}) (Unit {0}) (Unit {0}) (Unit {0})
 marking = record {
   terms = record { kind_of = λ t. tt; term_at = λ p k. tt };
-  atom_of = λ p n ts. tt;
-  comparison = λ l op r. tt;
-  membership = λ l i k. tt;
-  negation = λ p f. tt;
-  conjunction = λ p fs. tt;
-  disjunction = λ p fs. tt;
-  implication = λ p f g. tt;
-  parenthesis = λ p f. tt;
-  existential = λ p c f. tt;
-  universal = λ p c f. tt;
+  formulas = record {
+    atom_of = λ p n ts. tt;
+    comparison = λ l op r. tt;
+    membership = λ l i k. tt;
+    negation = λ p f. tt;
+    conjunction = λ p fs. tt;
+    disjunction = λ p fs. tt;
+    implication = λ p f g. tt;
+    parenthesis = λ p f. tt;
+    existential = λ p c f. tt;
+    universal = λ p c f. tt;
+  };
   cut = λ t. Err Memory;
   question = λ cs f. tt;
 }

@@ -1,33 +1,24 @@
 -- The reader that makes raw queries reads what the written tree means.
-use Rattle.std.proofs.Common.{◌≡◌, ℕ, inl, inr, List, [], ◌∷◌, map, refl, ap}
+use Rattle.std.proofs.Common.{◌≡◌, ℕ, inl, List, [], ◌∷◌, map, refl, ap, sym, subst}
+use Rattle.lrp_model.specs.Texts.{Identifier}
 use Rattle.lrp_model.specs.declared.tokens.Place.{Place}
-use Rattle.lrp_model.specs.Tokens.{Token, Tokens}
-use Rattle.lrp_model.specs.Tokens.Token.{name_token, word_token, number_token, text_token, symbol_token, end_token, bad_token, hole_token}
-use Rattle.lrp_model.specs.Queries.{WrittenFormula, WrittenQuery}
+use Rattle.lrp_model.specs.Tokens.{Tokens}
+use Rattle.lrp_model.specs.Queries.{WrittenFormula}
 use Rattle.lrp_model.specs.Queries.WrittenFormula.{hole}
 use Rattle.lrp_model.specs.QueryMeaning.{term_kind, raw_term, raw_form, raw_forms, raw_question}
-use Rattle.lrp_model.specs.RawQueries.{raw, no_raws, raw_and, raw_or}
-use Rattle.lrp_text.specs.Parsers.{Outcome}
-use Rattle.lrp_query.specs.Rules.{meant, raws, cut_at, query}
+use Rattle.lrp_model.specs.RawQueries.{RawForm, raw, no_raws, raw_and, raw_or}
+use Rattle.lrp_text.specs.Parsers.{Parser}
+use Rattle.lrp_query.specs.Rules.{raws, behind_name, plainly, query_with}
+use Rattle.lrp_query.specs.Grammars.{raw_making, operators_made, behind_made, query_made, meant}
 use Rattle.lrp_query.proofs.Layers.{trees}
 use Rattle.lrp_query.proofs.PlainGrammar.{further, plain}
-use Rattle.lrp_query.proofs.Natural.{mapped, result_map, Same, Mapping, plain_same}
+use Rattle.lrp_query.proofs.Natural.{mapped, Same, Mapping, cut_same, unmarked, behind_name_same, query_same}
+use Rattle.lrp_query.proofs.Behind.{wordless}
 
 -- the further members as a list
 further_raws : (g : WrittenFormula) (gs : List WrittenFormula) → raws (map raw_form (g ∷ gs)) ≡ raw_forms (further g gs)
 further_raws g [] = refl
 further_raws g (h ∷ gs) = ap (raw (raw_form g)) (further_raws h gs)
-
--- what a token gives where a formula would be too deep
-cut_meant : (p : Place) (k : Token) → cut_at (raw_or p no_raws) k ≡ result_map raw_form (cut_at (hole p) k)
-cut_meant p hole_token = refl
-cut_meant p (name_token n) = refl
-cut_meant p (word_token w) = refl
-cut_meant p (number_token n) = refl
-cut_meant p (text_token t) = refl
-cut_meant p (symbol_token s) = refl
-cut_meant p end_token = refl
-cut_meant p bad_token = refl
 
 -- raw queries are made from written ones
 meaning : Mapping ⊥ (trees plain) meant
@@ -49,15 +40,16 @@ meaning = record {
   existential_is = λ p c f. refl;
   universal_is = λ p c f. refl;
   question_is = λ cs f. refl;
-  cut_is = λ t. inl (cut_meant t.place t.token);
+  cut_is = λ t. inl (cut_same raw_form (hole t.place) (raw_or t.place no_raws) refl t.token);
 }
 
--- no token is marked
-unmarked : (o : Outcome WrittenQuery) (turns : ℕ) (ts : Tokens) → Same ⊥ (trees plain).cut raw_question o (query meant turns ts) → query meant turns ts ≡ mapped raw_question o
-unmarked o turns ts (inl e) = e
-unmarked o turns ts (inr m) = absurd m.allowed
+-- behind a name both read alike, since none is the first word of an operator
+behind_meant : (inner : Parser RawForm) (turns : ℕ) (n : Identifier) (p : Place) (ts : Tokens) → Same ⊥ (trees plain).cut raw_form (behind_name (trees plain) turns n p ts) (behind_made raw_making inner turns n p ts)
+unfolding meaning
+behind_meant inner turns n p ts =
+    subst (Same ⊥ (trees plain).cut raw_form (behind_name (trees plain) turns n p ts)) (sym (wordless meant (operators_made raw_making) inner turns n p ts refl)) (behind_name_same ⊥ (trees plain) meant meaning turns n p ts)
 
 -- a query is read as the raw one that it means
-pub query_meant : (turns : ℕ) (ts : Tokens) → query meant turns ts ≡ mapped raw_question (query (trees plain) turns ts)
+pub query_meant : (turns : ℕ) (ts : Tokens) → query_made raw_making turns ts ≡ mapped raw_question (query_with (trees plain) (plainly (trees plain)) turns ts)
 unfolding meaning
-query_meant turns ts = unmarked (query (trees plain) turns ts) turns ts (plain_same ⊥ (trees plain) meant meaning turns ts)
+query_meant turns ts = unmarked raw_question (query_with (trees plain) (plainly (trees plain)) turns ts) (query_made raw_making turns ts) (query_same ⊥ (trees plain) meant meaning (plainly (trees plain)) (behind_made raw_making) (λ inner other same n p q us. behind_meant other n p q us) turns ts)

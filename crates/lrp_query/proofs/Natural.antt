@@ -9,7 +9,8 @@ use Rattle.lrp_model.specs.declared.tokens.Fault.TheVariants.{Memory}
 use Rattle.lrp_model.specs.declared.raw.RawColumn.{RawColumn}
 use Rattle.lrp_model.specs.declared.formulas.Op.{Op}
 use Rattle.lrp_model.specs.declared.written.Integer.{Integer}
-use Rattle.lrp_model.specs.Tokens.{Placed, Tokens}
+use Rattle.lrp_model.specs.Tokens.{Token, Placed, Tokens}
+use Rattle.lrp_model.specs.Tokens.Token.{name_token, word_token, number_token, text_token, symbol_token, end_token, bad_token, hole_token}
 use Rattle.lrp_model.specs.Queries.{WrittenTerm}
 use Rattle.lrp_model.specs.Queries.WrittenTerm.{integer as integer_term, text_term}
 use Rattle.lrp_text.specs.Parsers.{Outcome, Parser, and_then, pure, accept, look, eat, listed, separated_from, taken}
@@ -19,7 +20,7 @@ use Rattle.lrp_text.proofs.Sound.{bind_ok}
 use Rattle.lrp_query.specs.declared.starts.Start.{Start}
 use Rattle.lrp_query.specs.declared.starts.Start.TheVariants.{Not as by_not, Exists as by_exists, Forall as by_forall, Open as by_open, Name as by_name, Term as by_term}
 use Rattle.lrp_text.specs.IntegerRule.{integer}
-use Rattle.lrp_query.specs.Rules.{Trees, BehindName, offset, with_offset, named_term, unnamed_term, bare_term, term, op_of, point, comparing, tested, atom_terms, behind_name, named, unnamed, negated, existing, holding, implying, conjoined, disjoined, behind_first, enclosed, start_of, is_hole_token, started, formula_over, formula_with, query_with, plainly, query}
+use Rattle.lrp_query.specs.Rules.{Trees, BehindName, cut_at, offset, with_offset, named_term, unnamed_term, bare_term, term, op_of, point, comparing, tested, atom_terms, behind_name, named, unnamed, negated, existing, holding, implying, conjoined, disjoined, behind_first, enclosed, start_of, is_hole_token, started, formula_over, formula_with, query_with}
 
 -- ---- outcomes
 
@@ -45,6 +46,22 @@ pub record Marked {F A B : Type 0} (E : Type 0) (cut : Placed → Result F Fault
 abbrev pub Same : {F A B : Type 0} → Type 0 → (Placed → Result F Fault) → (A → B) → Outcome A → Outcome B → Type 0
 Same E cut h o p = (p ≡ mapped h o) ⊎ Marked E cut o p
 
+-- where no token may be marked, nothing else is told
+pub unmarked : {F A B : Type 0} {cut : _} (h : A → B) (o : Outcome A) (p : Outcome B) → Same {F = F} ⊥ cut h o p → p ≡ mapped h o
+unmarked h o p (inl e) = e
+unmarked h o p (inr m) = absurd m.allowed
+
+-- a hole that means another gives it at the same token
+pub cut_same : {A B : Type 0} (h : A → B) (a : A) (b : B) → b ≡ h a → (k : Token) → cut_at b k ≡ result_map h (cut_at a k)
+cut_same h a b e hole_token = ap Ok e
+cut_same h a b e (name_token n) = refl
+cut_same h a b e (word_token w) = refl
+cut_same h a b e (number_token n) = refl
+cut_same h a b e (text_token t) = refl
+cut_same h a b e (symbol_token s) = refl
+cut_same h a b e end_token = refl
+cut_same h a b e bad_token = refl
+
 -- how one kind of trees is made from another
 pub record Mapping {K T F Q L U G R : Type 0} (E : Type 0) (one : Trees K T F Q) (two : Trees L U G R) : Type 0 where
   pub kind : K → L
@@ -53,16 +70,16 @@ pub record Mapping {K T F Q L U G R : Type 0} (E : Type 0) (one : Trees K T F Q)
   pub question : Q → R
   pub kind_is : (t : WrittenTerm) → two.terms.kind_of t ≡ kind (one.terms.kind_of t)
   pub term_is : (p : Place) (k : K) → two.terms.term_at p (kind k) ≡ term (one.terms.term_at p k)
-  pub atom_is : (p : Place) (n : Identifier) (ts : List T) → two.atom_of p n (map term ts) ≡ formula (one.atom_of p n ts)
-  pub comparison_is : (l : T) (op : Op) (r : T) → two.comparison (term l) op (term r) ≡ formula (one.comparison l op r)
-  pub membership_is : (l : T) (i : Integer) (k : ℕ) → two.membership (term l) i k ≡ formula (one.membership l i k)
-  pub negation_is : (p : Place) (f : F) → two.negation p (formula f) ≡ formula (one.negation p f)
-  pub conjunction_is : (p : Place) (f g : F) (fs : List F) → two.conjunction p (map formula (f ∷ g ∷ fs)) ≡ formula (one.conjunction p (f ∷ g ∷ fs))
-  pub disjunction_is : (p : Place) (f g : F) (fs : List F) → two.disjunction p (map formula (f ∷ g ∷ fs)) ≡ formula (one.disjunction p (f ∷ g ∷ fs))
-  pub implication_is : (p : Place) (f g : F) → two.implication p (formula f) (formula g) ≡ formula (one.implication p f g)
-  pub parenthesis_is : (p : Place) (f : F) → two.parenthesis p (formula f) ≡ formula (one.parenthesis p f)
-  pub existential_is : (p : Place) (c : RawColumn) (f : F) → two.existential p c (formula f) ≡ formula (one.existential p c f)
-  pub universal_is : (p : Place) (c : RawColumn) (f : F) → two.universal p c (formula f) ≡ formula (one.universal p c f)
+  pub atom_is : (p : Place) (n : Identifier) (ts : List T) → two.formulas.atom_of p n (map term ts) ≡ formula (one.formulas.atom_of p n ts)
+  pub comparison_is : (l : T) (op : Op) (r : T) → two.formulas.comparison (term l) op (term r) ≡ formula (one.formulas.comparison l op r)
+  pub membership_is : (l : T) (i : Integer) (k : ℕ) → two.formulas.membership (term l) i k ≡ formula (one.formulas.membership l i k)
+  pub negation_is : (p : Place) (f : F) → two.formulas.negation p (formula f) ≡ formula (one.formulas.negation p f)
+  pub conjunction_is : (p : Place) (f g : F) (fs : List F) → two.formulas.conjunction p (map formula (f ∷ g ∷ fs)) ≡ formula (one.formulas.conjunction p (f ∷ g ∷ fs))
+  pub disjunction_is : (p : Place) (f g : F) (fs : List F) → two.formulas.disjunction p (map formula (f ∷ g ∷ fs)) ≡ formula (one.formulas.disjunction p (f ∷ g ∷ fs))
+  pub implication_is : (p : Place) (f g : F) → two.formulas.implication p (formula f) (formula g) ≡ formula (one.formulas.implication p f g)
+  pub parenthesis_is : (p : Place) (f : F) → two.formulas.parenthesis p (formula f) ≡ formula (one.formulas.parenthesis p f)
+  pub existential_is : (p : Place) (c : RawColumn) (f : F) → two.formulas.existential p c (formula f) ≡ formula (one.formulas.existential p c f)
+  pub universal_is : (p : Place) (c : RawColumn) (f : F) → two.formulas.universal p c (formula f) ≡ formula (one.formulas.universal p c f)
   pub question_is : (cs : List RawColumn) (f : F) → two.question cs (formula f) ≡ question (one.question cs f)
   pub cut_is : (t : Placed) → (two.cut t ≡ result_map formula (one.cut t)) ⊎ (E × (two.cut t ≡ Err Memory))
 
@@ -170,14 +187,14 @@ module _ {K T F Q L U G R : Type 0} (E : Type 0) (one : Trees K T F Q) (two : Tr
       leaf E one.cut (integer ts) _ _ m.formula (λ i us.
       leaf E one.cut (expect Plus us) _ _ m.formula (λ a vs.
       leaf E one.cut (period vs) _ _ m.formula (λ k ws.
-      leaf E one.cut (expect_word Letter ws) _ _ m.formula (λ b xs. made E one.cut m.formula (one.membership l i k) (two.membership (m.term l) i k) xs (m.membership_is l i k)))))
+      leaf E one.cut (expect_word Letter ws) _ _ m.formula (λ b xs. made E one.cut m.formula (one.formulas.membership l i k) (two.formulas.membership (m.term l) i k) xs (m.membership_is l i k)))))
 
   -- a comparison
   comparing_same : (l : T) (ts : Tokens) → Same E one.cut m.formula (comparing one l ts) (comparing two (m.term l) ts)
   unfolding comparing
   comparing_same l ts =
       leaf E one.cut (accept (λ t. op_of t.token) ts) _ _ m.formula (λ op us.
-      bind E one.cut (term one.terms us) (term two.terms us) m.term _ _ m.formula (term_same us) (λ r vs e. made E one.cut m.formula (one.comparison l op r) (two.comparison (m.term l) op (m.term r)) vs (m.comparison_is l op r)))
+      bind E one.cut (term one.terms us) (term two.terms us) m.term _ _ m.formula (term_same us) (λ r vs e. made E one.cut m.formula (one.formulas.comparison l op r) (two.formulas.comparison (m.term l) op (m.term r)) vs (m.comparison_is l op r)))
 
   -- what stands behind a first term
   test_same : (l : T) (ts : Tokens) → Same E one.cut m.formula (tested one l ts) (tested two (m.term l) ts)
@@ -193,7 +210,7 @@ module _ {K T F Q L U G R : Type 0} (E : Type 0) (one : Trees K T F Q) (two : Tr
   unfolding atom_terms
   atom_terms_same turns n p ts =
       bind E one.cut (listed (term one.terms) (is_symbol Comma) (is_symbol Close) turns ts) (listed (term two.terms) (is_symbol Comma) (is_symbol Close) turns ts) (map m.term) _ _ m.formula (listed_same E one.cut (term one.terms) (term two.terms) m.term (is_symbol Comma) (is_symbol Close) term_same turns ts) (λ all us e.
-      leaf E one.cut (expect Close us) _ _ m.formula (λ a vs. made E one.cut m.formula (one.atom_of p n all) (two.atom_of p n (map m.term all)) vs (m.atom_is p n all)))
+      leaf E one.cut (expect Close us) _ _ m.formula (λ a vs. made E one.cut m.formula (one.formulas.atom_of p n all) (two.formulas.atom_of p n (map m.term all)) vs (m.atom_is p n all)))
 
   -- what stands behind a name
   pub behind_name_same : (turns : ℕ) (n : Identifier) (p : Place) (ts : Tokens) → Same E one.cut m.formula (behind_name one turns n p ts) (behind_name two turns n p ts)
@@ -214,7 +231,7 @@ module _ {K T F Q L U G R : Type 0} (E : Type 0) (one : Trees K T F Q) (two : Tr
     unfolding negated
     negated_same p ts =
         leaf E one.cut (expect_word Not ts) _ _ m.formula (λ a us.
-        bind E one.cut (inner us) (other us) m.formula _ _ m.formula (same us) (λ f vs e. made E one.cut m.formula (one.negation p f) (two.negation p (m.formula f)) vs (m.negation_is p f)))
+        bind E one.cut (inner us) (other us) m.formula _ _ m.formula (same us) (λ f vs e. made E one.cut m.formula (one.formulas.negation p f) (two.formulas.negation p (m.formula f)) vs (m.negation_is p f)))
 
     -- a formula behind `exists`
     existing_same : (p : Place) (ts : Tokens) → Same E one.cut m.formula (existing one inner p ts) (existing two other p ts)
@@ -222,7 +239,7 @@ module _ {K T F Q L U G R : Type 0} (E : Type 0) (one : Trees K T F Q) (two : Tr
     existing_same p ts =
         leaf E one.cut (expect_word Exists ts) _ _ m.formula (λ a us.
         leaf E one.cut (column us) _ _ m.formula (λ c vs.
-        bind E one.cut (inner vs) (other vs) m.formula _ _ m.formula (same vs) (λ f ws e. made E one.cut m.formula (one.existential p c f) (two.existential p c (m.formula f)) ws (m.existential_is p c f))))
+        bind E one.cut (inner vs) (other vs) m.formula _ _ m.formula (same vs) (λ f ws e. made E one.cut m.formula (one.formulas.existential p c f) (two.formulas.existential p c (m.formula f)) ws (m.existential_is p c f))))
 
     -- a formula behind `forall`
     holding_same : (p : Place) (ts : Tokens) → Same E one.cut m.formula (holding one inner p ts) (holding two other p ts)
@@ -230,14 +247,14 @@ module _ {K T F Q L U G R : Type 0} (E : Type 0) (one : Trees K T F Q) (two : Tr
     holding_same p ts =
         leaf E one.cut (expect_word Forall ts) _ _ m.formula (λ a us.
         leaf E one.cut (column us) _ _ m.formula (λ c vs.
-        bind E one.cut (inner vs) (other vs) m.formula _ _ m.formula (same vs) (λ f ws e. made E one.cut m.formula (one.universal p c f) (two.universal p c (m.formula f)) ws (m.universal_is p c f))))
+        bind E one.cut (inner vs) (other vs) m.formula _ _ m.formula (same vs) (λ f ws e. made E one.cut m.formula (one.formulas.universal p c f) (two.formulas.universal p c (m.formula f)) ws (m.universal_is p c f))))
 
     -- what stands behind `implies`
     implying_same : (p : Place) (f : F) (ts : Tokens) → Same E one.cut m.formula (implying one inner p f ts) (implying two other p (m.formula f) ts)
     unfolding implying
     implying_same p f ts =
         bind E one.cut (inner ts) (other ts) m.formula _ _ m.formula (same ts) (λ g us e.
-        leaf E one.cut (expect Close us) _ _ m.formula (λ a vs. made E one.cut m.formula (one.implication p f g) (two.implication p (m.formula f) (m.formula g)) vs (m.implication_is p f g)))
+        leaf E one.cut (expect Close us) _ _ m.formula (λ a vs. made E one.cut m.formula (one.formulas.implication p f g) (two.formulas.implication p (m.formula f) (m.formula g)) vs (m.implication_is p f g)))
 
     -- what stands behind `and`
     conjoined_same : (p : Place) (f : F) (ts : Tokens) → Same E one.cut m.formula (conjoined one inner turns p f ts) (conjoined two other turns p (m.formula f) ts)
@@ -245,8 +262,8 @@ module _ {K T F Q L U G R : Type 0} (E : Type 0) (one : Trees K T F Q) (two : Tr
     conjoined_same p f ts =
         bind E one.cut (separated_from inner (is_word And) turns (f ∷ []) ts) (separated_from other (is_word And) turns (m.formula f ∷ []) ts) (map m.formula) _ _ m.formula (separated_same E one.cut inner other m.formula (is_word And) same turns (f ∷ []) ts) (λ all us e.
         let s = some_read inner (is_word And) turns (f ∷ []) ts (all, us) e in
-        leaf E one.cut (expect Close us) _ _ m.formula (λ a vs. made E one.cut m.formula (one.conjunction p all) (two.conjunction p (map m.formula all)) vs
-        (subst (λ l. two.conjunction p (map m.formula l) ≡ m.formula (one.conjunction p l)) (sym s.2) (m.conjunction_is p f s.0 s.1))))
+        leaf E one.cut (expect Close us) _ _ m.formula (λ a vs. made E one.cut m.formula (one.formulas.conjunction p all) (two.formulas.conjunction p (map m.formula all)) vs
+        (subst (λ l. two.formulas.conjunction p (map m.formula l) ≡ m.formula (one.formulas.conjunction p l)) (sym s.2) (m.conjunction_is p f s.0 s.1))))
 
     -- what stands behind `or`
     disjoined_same : (p : Place) (f : F) (ts : Tokens) → Same E one.cut m.formula (disjoined one inner turns p f ts) (disjoined two other turns p (m.formula f) ts)
@@ -254,8 +271,8 @@ module _ {K T F Q L U G R : Type 0} (E : Type 0) (one : Trees K T F Q) (two : Tr
     disjoined_same p f ts =
         bind E one.cut (separated_from inner (is_word Or) turns (f ∷ []) ts) (separated_from other (is_word Or) turns (m.formula f ∷ []) ts) (map m.formula) _ _ m.formula (separated_same E one.cut inner other m.formula (is_word Or) same turns (f ∷ []) ts) (λ all us e.
         let s = some_read inner (is_word Or) turns (f ∷ []) ts (all, us) e in
-        leaf E one.cut (expect Close us) _ _ m.formula (λ a vs. made E one.cut m.formula (one.disjunction p all) (two.disjunction p (map m.formula all)) vs
-        (subst (λ l. two.disjunction p (map m.formula l) ≡ m.formula (one.disjunction p l)) (sym s.2) (m.disjunction_is p f s.0 s.1))))
+        leaf E one.cut (expect Close us) _ _ m.formula (λ a vs. made E one.cut m.formula (one.formulas.disjunction p all) (two.formulas.disjunction p (map m.formula all)) vs
+        (subst (λ l. two.formulas.disjunction p (map m.formula l) ≡ m.formula (one.formulas.disjunction p l)) (sym s.2) (m.disjunction_is p f s.0 s.1))))
 
     -- what stands behind a first formula
     behind_first_same : (p : Place) (f : F) (ts : Tokens) → Same E one.cut m.formula (behind_first one inner turns p f ts) (behind_first two other turns p (m.formula f) ts)
@@ -267,7 +284,7 @@ module _ {K T F Q L U G R : Type 0} (E : Type 0) (one : Trees K T F Q) (two : Tr
         choice E one.cut ands _ _ _ _ m.formula vs (conjoined_same p f vs)
         (leaf E one.cut (eat (is_word Or) vs) _ _ m.formula (λ ors ws.
         choice E one.cut ors _ _ _ _ m.formula ws (disjoined_same p f ws)
-        (leaf E one.cut (expect Close ws) _ _ m.formula (λ a xs. made E one.cut m.formula (one.parenthesis p f) (two.parenthesis p (m.formula f)) xs (m.parenthesis_is p f))))))))
+        (leaf E one.cut (expect Close ws) _ _ m.formula (λ a xs. made E one.cut m.formula (one.formulas.parenthesis p f) (two.formulas.parenthesis p (m.formula f)) xs (m.parenthesis_is p f))))))))
 
     -- formulas in parentheses
     enclosed_same : (p : Place) (ts : Tokens) → Same E one.cut m.formula (enclosed one inner turns p ts) (enclosed two other turns p ts)
@@ -326,7 +343,3 @@ module _ {K T F Q L U G R : Type 0} (E : Type 0) (one : Trees K T F Q) (two : Tr
         bind E one.cut (formula_with one behind 64 turns ws) (formula_with two beyond 64 turns ws) m.formula _ _ m.question (formula_same 64 turns ws) (λ f xs e.
         leaf E one.cut (expect CloseBrace xs) _ _ m.question (λ c ys.
         leaf E one.cut (expect_end ys) _ _ m.question (λ d zs. made E one.cut m.question (one.question cs f) (two.question cs (m.formula f)) zs (m.question_is cs f)))))))
-
-  -- the same of the grammar of queries
-  pub plain_same : (turns : ℕ) (ts : Tokens) → Same E one.cut m.question (query one turns ts) (query two turns ts)
-  plain_same turns ts = query_same (plainly one) (plainly two) (λ inner other same n. behind_name_same n) turns ts

@@ -12,7 +12,7 @@ use Rattle.lrp_model.specs.Refused.{IsCause}
 use Rattle.lrp_model.specs.DatabaseReading.{IsNoUtf8}
 use Rattle.lrp_text.proofs.OneCause.{same_token, same_front, second_cause, for_syntax, IsShown, apart_syntax, same_kind}
 use Rattle.lrp_text.proofs.LongestFront.{not_cut, same_cut}
-use Rattle.lrp_query.specs.Refusals.{Grammatical, IsRankedIn, IsNoTextOf, IsTextFault, IsTextFaultOf}
+use Rattle.lrp_model.specs.TextFaults.{Grammatical, IsRankedIn, IsNoTextOf, IsTextFault, IsTextFaultOf}
 
 -- two refusals of one text
 module _ (Texts : Grammatical) (bytes : List ℕ) (k l : TokenFault) (p q : Place) (r : IsNoTextOf Texts bytes k p) (s : IsNoTextOf Texts bytes l q) where

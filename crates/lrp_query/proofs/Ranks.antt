@@ -13,7 +13,7 @@ use Rattle.lrp_text.specs.Parsers.{Outcome}
 use Rattle.lrp_text.proofs.Complete.{Answers}
 use Rattle.lrp_text.proofs.Sound.{takes_onto}
 use Rattle.lrp_query.specs.Rules.{too_deep, deep_or_number, is_hole_token, query_with}
-use Rattle.lrp_query.specs.Refusals.{Grammatical, IsTooDeepIn, IsRankedIn}
+use Rattle.lrp_model.specs.TextFaults.{Grammatical, IsTooDeepIn, IsRankedIn}
 use Rattle.lrp_query.proofs.Layers.{hole, Grammar, trees}
 use Rattle.lrp_query.proofs.Readers.{Reader, forget, marks_of}
 use Rattle.lrp_query.proofs.Shown.{cut_told, large_at}

@@ -1,10 +1,12 @@
 -- The query of a text of a grammar, and the fault of one that is none.
-use Rattle.std.proofs.Common.{◌≡◌, ◌<◌, ℕ, suc, List, [], ◌∷◌, refl, ap, ◌∙◌, sym, subst, Ok, Err, length, arith}
+use Rattle.std.proofs.Common.{◌≡◌, ◌<◌, inl, inr, ℕ, suc, List, [], ◌∷◌, refl, ap, ◌∙◌, sym, subst, Ok, Err, length, arith}
 use Rattle.std.specs.Str.{IsUtf8}
 use Rattle.lrp_model.specs.declared.tokens.Place.{Place}
 use Rattle.lrp_model.specs.declared.tokens.Fault.{Fault as TokenFault}
 use Rattle.lrp_model.specs.declared.tokens.Fault.TheVariants.{Syntax as syntax, Number as number, TextTooLong as text_too_long, Period as period, Deep as deep, Memory as memory}
 use Rattle.lrp_model.specs.declared.faults.QueryFault.{QueryFault}
+use Rattle.lrp_model.specs.declared.faults.QueryRead.{QueryRead}
+use Rattle.lrp_model.specs.declared.faults.QueryRead.TheVariants.{Fault, Memory}
 use Rattle.lrp_model.specs.declared.faults.QueryKind.{QueryKind}
 use Rattle.lrp_model.specs.declared.faults.QueryKind.TheVariants.{Utf8, Syntax, Number, Period, Deep, UnknownRelation, Arity, Sort, Unbound, Rebound, Wide, TextTooLong, UnknownSort}
 use Rattle.lrp_model.specs.Tokens.{Placed, Tokens, Spells}
@@ -15,8 +17,9 @@ use Rattle.lrp_text.specs.Sources.{Stands}
 use Rattle.lrp_text.specs.declared.lexemes.Lexeme.{Lexeme}
 use Rattle.lrp_text.proofs.LongestFront.{not_cut}
 use Rattle.lrp_query.specs.Rules.{query_with}
-use Rattle.lrp_query.specs.Reading.{refusal_of}
-use Rattle.lrp_query.specs.Refusals.{Grammatical, IsNoTextOf, IsTextFaultOf, IsUnreadOf}
+use Rattle.lrp_model.specs.TextFaults.{Grammatical, IsNoTextOf, IsTextFaultOf}
+use Rattle.lrp_query.specs.Reading.{IsUnreadOf, refusal_of}
+use Rattle.lrp_query.specs.Grammars.{IsTextRead, IsTextUnread}
 use Rattle.lrp_query.proofs.Layers.{Grammar, trees}
 use Rattle.lrp_query.proofs.Readers.{Reader}
 use Rattle.lrp_query.proofs.Natural.{mapped}
@@ -70,12 +73,13 @@ module _ {F X Q : Type 0} (grammar : Grammar F X Q) where
   -- a reader that gives what the trees mean
   module _ (reader : Reader grammar) {R : Type 0} (h : Q → R) (read : ℕ → Parser R) (meant : (n : ℕ) (ts : Tokens) → read n ts ≡ mapped h (query_with (trees grammar) reader.behind n ts)) where
     -- what was read is the query of the text
-    pub query_read : (bytes : List ℕ) (ts : Tokens) (r : R) → ts ≡ tokens bytes → IsUtf8 bytes → ((n : ℕ) → length ts < n → read n ts ≡ Ok (r, [])) → (tree : Q) × IsTextOf bytes tree × (r ≡ h tree)
-    query_read bytes ts r e utf8 reads =
+    pub query_read : (bytes : List ℕ) (r : R) → IsTextRead read bytes r → (tree : Q) × IsTextOf bytes tree × (r ≡ h tree)
+    query_read bytes r t =
+        let ts = tokens bytes in
         let n = suc (length ts) in
-        let w = mapped_ok h (query_with (trees grammar) reader.behind n ts) r [] (sym (meant n ts) ∙ reads n (omega arith)) in
+        let w = mapped_ok h (query_with (trees grammar) reader.behind n ts) r [] (sym (meant n ts) ∙ t.reads n (omega arith)) in
         let k = query_sound grammar reader.behind reader.rules n ts (w.0, []) w.1 in
-        (w.0, record { utf8 = utf8; spelled = subst (Spells (query_text grammar w.0)) e k.0; lawful = k.1 }, w.2)
+        (w.0, record { utf8 = t.utf8; spelled = k.0; lawful = k.1 }, w.2)
 
     -- the text is refused at the token that stands there
     refused_there : (bytes : List ℕ) (us : Tokens) (k : TokenFault) (l : Lexeme) (slice : List ℕ) (place : Place) → IsUtf8 bytes → Stands us l slice place → ((n : ℕ) → length (tokens bytes) < n → read n (tokens bytes) ≡ Err (k, us)) → IsNoTextOf Texts bytes k place
@@ -102,8 +106,8 @@ module _ {F X Q : Type 0} (grammar : Grammar F X Q) where
     refused_as bytes us period l slice place utf8 s reads = refused_there bytes us period l slice place utf8 s reads
     refused_as bytes us deep l slice place utf8 s reads = refused_there bytes us deep l slice place utf8 s reads
 
-    -- the same of tokens that are those of the bytes
-    pub text_refused : (bytes : List ℕ) (ts us : Tokens) (k : TokenFault) (l : Lexeme) (slice : List ℕ) (place : Place) → ts ≡ tokens bytes → IsUtf8 bytes → Stands us l slice place → ((n : ℕ) → length ts < n → Reads (read n ts) (Err k) us) → IsUnreadOf Texts bytes (refusal_of k place)
-    text_refused bytes ts us k l slice place e utf8 s reads =
-        let P : Tokens → Type 0 = λ xs. (n : ℕ) → length xs < n → Reads (read n xs) (Err k) us in
-        refused_as bytes us k l slice place utf8 s (subst P e reads)
+    -- and why nothing was read is its fault
+    pub text_unread : (bytes : List ℕ) (r : QueryRead) → IsTextUnread read bytes r → IsUnreadOf Texts bytes r
+    text_unread bytes Memory u = tt
+    text_unread bytes (Fault f) (inl u) = subst (λ k. IsTextFaultOf Texts bytes k f) (sym u.0) u.1
+    text_unread bytes (Fault f) (inr (k, e, s)) = subst (IsUnreadOf Texts bytes) e (refused_as bytes s.left k s.lexeme s.slice f.place s.utf8 s.stands s.stops)

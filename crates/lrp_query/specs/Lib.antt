@@ -1,6 +1,6 @@
--- What the contract of `run` reaches.
-pub mod Refusals
 -- What contracts of single functions need beside.
 pub mod Rules
+pub mod OperatorRules
+pub mod Grammars
 pub mod Reading
 pub mod Lawful

@@ -4,13 +4,9 @@ use Rattle.std.specs.Global.{Global}
 use Rattle.lrp_model.specs.declared.tokens.Fault.{Fault as TokenFault}
 use Rattle.lrp_model.specs.declared.tokens.Fault.TheVariants.{Syntax as syntax, Number as number, TextTooLong as text_too_long, Period as period, Deep as deep, Memory as memory}
 use Rattle.lrp_model.specs.declared.tokens.Place.{Place}
-use Rattle.lrp_model.specs.declared.faults.QueryFault.{QueryFault}
 use Rattle.lrp_model.specs.declared.faults.QueryRead.{QueryRead}
 use Rattle.lrp_model.specs.declared.faults.QueryRead.TheVariants.{Fault, Memory}
 use Rattle.lrp_model.specs.declared.faults.QueryKind.TheVariants.{Syntax, Number, Period, Deep, TextTooLong}
-use Rattle.lrp_model.specs.declared.raw.RawFormula.{RawFormula}
-use Rattle.lrp_model.specs.declared.raw.RawQuery.{RawQuery}
-use Rattle.lrp_model.specs.declared.raw.RawKind.{RawKind, Atom, Compare, Member}
 use Rattle.lrp_model.specs.declared.tokens.Word.{Word as WordOf}
 use Rattle.lrp_model.specs.declared.tokens.Word.TheVariants.{Not as not_word, Exists as exists_word, Forall as forall_word}
 use Rattle.lrp_model.specs.declared.tokens.Symbol.{Symbol as SymbolOf}
@@ -18,35 +14,23 @@ use Rattle.lrp_model.specs.declared.tokens.Symbol.TheVariants.{Open as open_sign
 use Rattle.lrp_model.specs.declared.formulas.Op.{Op}
 use Rattle.lrp_model.specs.declared.formulas.Op.TheVariants.{Le, Lt, Ge, Gt, Eq}
 use Rattle.lrp_model.specs.Tokens.{Tokens}
-use Rattle.lrp_model.specs.RawQueries.{RawForm, RawQuestion, raw_form_of, raw_question_of}
-use Rattle.lrp_model.specs.QueryReading.{IsQueryFault}
+use Rattle.lrp_model.specs.TextFaults.{Grammatical, IsTextFault}
+use Rattle.lrp_model.specs.QueryReading.{Texts}
 use Rattle.lrp_text.specs.Parsers.{Outcome, Reads}
 use Rattle.lrp_text.specs.declared.lexemes.Lexeme.{Lexeme}
 use Rattle.lrp_text.specs.declared.lexemes.Lexeme.TheVariants.{Name as name_seen, Word as word_seen, Number as number_seen, LargeNumber as large_seen, Text as text_seen, LongText as long_seen, Symbol as symbol_seen, End as end_seen, Bad as bad_seen}
 use Rattle.lrp_query.specs.declared.starts.Start.{Start}
 use Rattle.lrp_query.specs.declared.starts.Start.TheVariants.{Not as by_not, Exists as by_exists, Forall as by_forall, Open as by_open, Name as by_name, Term as by_term}
 
--- the parser's outcome, seen as a raw formula, unless memory ran out
-abbrev pub ReadsFormula : Outcome RawForm → Result RawFormula TokenFault → Tokens → Type 0
-ReadsFormula outcome (Ok f) new = outcome ≡ Ok (raw_form_of f, new)
-ReadsFormula outcome (Err k) new = Reads outcome (Err k) new
+-- the parser's outcome, seen so, unless memory ran out
+abbrev pub ReadsAs : {A B : Type 0} → (A → B) → Outcome B → Result A TokenFault → Tokens → Type 0
+ReadsAs view outcome (Ok a) new = outcome ≡ Ok (view a, new)
+ReadsAs view outcome (Err k) new = Reads outcome (Err k) new
 
--- the same of several formulas
-abbrev pub ReadsFormulas : Outcome (List RawForm) → Result (Vec RawFormula Global) TokenFault → Tokens → Type 0
-ReadsFormulas outcome (Ok fs) new = outcome ≡ Ok (map raw_form_of fs.items, new)
-ReadsFormulas outcome (Err k) new = Reads outcome (Err k) new
-
--- the same of a query
-abbrev pub ReadsQuery : Outcome RawQuestion → Result RawQuery TokenFault → Tokens → Type 0
-ReadsQuery outcome (Ok q) new = outcome ≡ Ok (raw_question_of q, new)
-ReadsQuery outcome (Err k) new = Reads outcome (Err k) new
-
--- an atom, a comparison or an `in`, with no other formula inside
-abbrev pub IsAlone : RawKind → Type 0
-IsAlone (Atom n ts) = Unit {0}
-IsAlone (Compare l op r) = Unit {0}
-IsAlone (Member t point) = Unit {0}
-IsAlone _ = ⊥
+-- the same of several
+abbrev pub ReadsEach : {A B : Type 0} → (A → B) → Outcome (List B) → Result (Vec A Global) TokenFault → Tokens → Type 0
+ReadsEach view outcome (Ok all) new = outcome ≡ Ok (map view all.items, new)
+ReadsEach view outcome (Err k) new = Reads outcome (Err k) new
 
 -- the comparison that a symbol stands for
 abbrev pub symbol_op : SymbolOf → Result Op TokenFault
@@ -111,10 +95,14 @@ abbrev pub left_behind : {A : Type 0} → Result A TokenFault → Tokens → Tok
 left_behind (Ok a) ts = []
 left_behind (Err k) ts = ts
 
--- why there is no query: the fault of its text, or want of memory
+-- why bytes gave nothing by a grammar: the fault of the text, or want of memory
+abbrev pub IsUnreadOf : Grammatical → List ℕ → QueryRead → Type 0
+IsUnreadOf Grammar bytes (Fault f) = IsTextFault Grammar bytes f
+IsUnreadOf Grammar bytes Memory = Unit {0}
+
+-- why there is no query
 abbrev pub IsUnread : List ℕ → QueryRead → Type 0
-IsUnread bytes (Fault f) = IsQueryFault bytes f
-IsUnread bytes Memory = Unit {0}
+IsUnread = IsUnreadOf Texts
 
 -- the fault of a text, from the kind that was met at a place
 abbrev pub refusal_of : TokenFault → Place → QueryRead

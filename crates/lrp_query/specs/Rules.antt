@@ -9,6 +9,7 @@ use Rattle.lrp_model.specs.declared.tokens.Fault.TheVariants.{Syntax, Number, De
 use Rattle.lrp_model.specs.declared.written.Integer.{Integer}
 use Rattle.lrp_model.specs.declared.formulas.Op.{Op}
 use Rattle.lrp_model.specs.declared.formulas.Op.TheVariants.{Le, Lt, Ge, Gt, Eq}
+use Rattle.lrp_model.specs.declared.relations.RowPoint.{RowPoint}
 use Rattle.lrp_model.specs.declared.raw.RawColumn.{RawColumn}
 use Rattle.lrp_model.specs.declared.raw.RawTerm.{RawTerm}
 use Rattle.lrp_model.specs.declared.raw.RawTermKind.{RawTermKind}
@@ -18,7 +19,7 @@ use Rattle.lrp_model.specs.DatabaseMeaning.{integer_of}
 use Rattle.lrp_model.specs.Queries.{WrittenTerm}
 use Rattle.lrp_model.specs.Queries.WrittenTerm.{integer as integer_term, text_term, variable, shifted}
 use Rattle.lrp_model.specs.QueryMeaning.{term_kind}
-use Rattle.lrp_model.specs.RawQueries.{RawForm, RawForms, RawQuestion, raw_atom, raw_compare, raw_member, raw_not, raw_and, raw_or, raw_implies, raw_group, raw_exists, raw_forall, no_raws, raw}
+use Rattle.lrp_model.specs.RawQueries.{RawForm, RawForms, raw_atom, raw_compare, raw_member, raw_not, raw_and, raw_or, raw_implies, raw_group, raw_exists, raw_forall, no_raws, raw}
 use Rattle.lrp_text.specs.Parsers.{Parser, ◌>>=◌, ◌>>◌, pure, fail, accept, look, eat, listed, separated_from}
 use Rattle.lrp_text.specs.Taking.{is_symbol, is_word, is_text, is_name, expect, expect_word, expect_end, name, number, period, text, here}
 use Rattle.lrp_text.specs.ColumnRule.{column}
@@ -33,9 +34,8 @@ pub record TermTrees (K T : Type 0) : Type 0 where
   pub kind_of : WrittenTerm → K
   pub term_at : Place → K → T
 
--- how what is read is put together, from the terms to the query; `cut` says what a token gives where a formula would be too deep
-pub record Trees (K T F Q : Type 0) : Type 0 where
-  pub terms : TermTrees K T
+-- how formulas are put together, over terms and others
+pub record FormulaTrees (T F : Type 0) : Type 0 where
   pub atom_of : Place → Identifier → List T → F
   pub comparison : T → Op → T → F
   pub membership : T → Integer → ℕ → F
@@ -46,6 +46,11 @@ pub record Trees (K T F Q : Type 0) : Type 0 where
   pub parenthesis : Place → F → F
   pub existential : Place → RawColumn → F → F
   pub universal : Place → RawColumn → F → F
+
+-- how what is read is put together, from the terms to the query; `cut` says what a token gives where a formula would be too deep
+pub record Trees (K T F Q : Type 0) : Type 0 where
+  pub terms : TermTrees K T
+  pub formulas : FormulaTrees T F
   pub cut : Placed → Result F Fault
   pub question : List RawColumn → F → Q
 
@@ -71,18 +76,25 @@ abbrev pub cut_at : {F : Type 0} → F → Token → Result F Fault
 cut_at f hole_token = Ok f
 cut_at f t = Err (too_deep t)
 
+-- raw terms
+abbrev pub raw_terms : TermTrees RawTermKind RawTerm
+raw_terms = record { kind_of = term_kind; term_at = λ p k. record { kind = k; place = p } }
+
+-- the point of a written offset and a period
+abbrev pub point_of : Integer → ℕ → RowPoint
+point_of i k = record { offset = integer_of i; period = pos k }
+
 -- the raw formulas of a list
 abbrev pub raws : List RawForm → RawForms
 raws [] = no_raws
 raws (f ∷ fs) = raw f (raws fs)
 
--- the raw query that the tree means
-abbrev pub meant : Trees RawTermKind RawTerm RawForm RawQuestion
-meant = record {
-  terms = record { kind_of = term_kind; term_at = λ p k. record { kind = k; place = p } };
+-- the raw formula that the tree means
+abbrev pub raw_formulas : FormulaTrees RawTerm RawForm
+raw_formulas = record {
   atom_of = raw_atom;
   comparison = λ l op r. raw_compare l.place l op r;
-  membership = λ t i k. raw_member t.place t (record { offset = integer_of i; period = pos k });
+  membership = λ t i k. raw_member t.place t (point_of i k);
   negation = raw_not;
   conjunction = λ p fs. raw_and p (raws fs);
   disjunction = λ p fs. raw_or p (raws fs);
@@ -90,8 +102,6 @@ meant = record {
   parenthesis = raw_group;
   existential = raw_exists;
   universal = raw_forall;
-  cut = λ t. cut_at (raw_or t.place no_raws) t.token;
-  question = λ cs f. record { head = cs; body = f };
 }
 
 -- ---- terms
@@ -167,14 +177,14 @@ point make left = do
   expect Plus
   k ← period
   expect_word Letter
-  pure (make.membership left i k)
+  pure (make.formulas.membership left i k)
 
 -- a comparison and its right side, behind a term
 unfoldable pub comparing : {K T F Q : Type 0} → Trees K T F Q → T → Parser F
 comparing make left = do
   op ← accept (λ t. op_of t.token)
   right ← term make.terms
-  pure (make.comparison left op right)
+  pure (make.formulas.comparison left op right)
 
 -- what stands behind the first term of a comparison or an `in`
 unfoldable pub tested : {K T F Q : Type 0} → Trees K T F Q → T → Parser F
@@ -187,7 +197,7 @@ unfoldable pub atom_terms : {K T F Q : Type 0} → Trees K T F Q → ℕ → Ide
 atom_terms make turns n p = do
   ts ← listed (term make.terms) (is_symbol Comma) (is_symbol Close) turns
   expect Close
-  pure (make.atom_of p n ts)
+  pure (make.formulas.atom_of p n ts)
 
 -- behind a name that begins a formula: an atom where a parenthesis follows, and else a term
 unfoldable pub behind_name : {K T F Q : Type 0} → Trees K T F Q → ℕ → Identifier → Place → Parser F
@@ -216,7 +226,7 @@ unfoldable pub negated : {K T F Q : Type 0} → Trees K T F Q → Parser F → P
 negated make inner p = do
   expect_word Not
   f ← inner
-  pure (make.negation p f)
+  pure (make.formulas.negation p f)
 
 -- a binder and its formula, behind `exists`
 unfoldable pub existing : {K T F Q : Type 0} → Trees K T F Q → Parser F → Place → Parser F
@@ -224,7 +234,7 @@ existing make inner p = do
   expect_word Exists
   c ← column
   f ← inner
-  pure (make.existential p c f)
+  pure (make.formulas.existential p c f)
 
 -- a binder and its formula, behind `forall`
 unfoldable pub holding : {K T F Q : Type 0} → Trees K T F Q → Parser F → Place → Parser F
@@ -232,34 +242,34 @@ holding make inner p = do
   expect_word Forall
   c ← column
   f ← inner
-  pure (make.universal p c f)
+  pure (make.formulas.universal p c f)
 
 -- what stands behind `implies`
 unfoldable pub implying : {K T F Q : Type 0} → Trees K T F Q → Parser F → Place → F → Parser F
 implying make inner p f = do
   g ← inner
   expect Close
-  pure (make.implication p f g)
+  pure (make.formulas.implication p f g)
 
 -- the members behind the first `and`
 unfoldable pub conjoined : {K T F Q : Type 0} → Trees K T F Q → Parser F → ℕ → Place → F → Parser F
 conjoined make inner turns p f = do
   fs ← separated_from inner (is_word And) turns (f ∷ [])
   expect Close
-  pure (make.conjunction p fs)
+  pure (make.formulas.conjunction p fs)
 
 -- the members behind the first `or`
 unfoldable pub disjoined : {K T F Q : Type 0} → Trees K T F Q → Parser F → ℕ → Place → F → Parser F
 disjoined make inner turns p f = do
   fs ← separated_from inner (is_word Or) turns (f ∷ [])
   expect Close
-  pure (make.disjunction p fs)
+  pure (make.formulas.disjunction p fs)
 
 -- the end of a formula alone in parentheses
 abbrev pub alone : {K T F Q : Type 0} → Trees K T F Q → Place → F → Parser F
 alone make p f = do
   expect Close
-  pure (make.parenthesis p f)
+  pure (make.formulas.parenthesis p f)
 
 -- what stands behind a parenthesis and a formula
 unfoldable pub behind_first : {K T F Q : Type 0} → Trees K T F Q → Parser F → ℕ → Place → F → Parser F
@@ -335,11 +345,3 @@ query_with make behind turns = do
 -- behind a name nothing stands but an atom or a term
 abbrev pub plainly : {K T F Q : Type 0} → Trees K T F Q → BehindName F
 plainly make inner turns = behind_name make turns
-
--- a formula of the grammar of queries
-abbrev pub formula : {K T F Q : Type 0} → Trees K T F Q → ℕ → ℕ → Parser F
-formula make = formula_with make (plainly make)
-
--- a query, and then the end
-abbrev pub query : {K T F Q : Type 0} → Trees K T F Q → ℕ → Parser Q
-query make = query_with make (plainly make)

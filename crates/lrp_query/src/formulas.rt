@@ -1,119 +1,39 @@
 // Formulas, read from their tokens.
 ghost use Rattle.std.specs.Prelude.{◌≡◌, ◌<◌, ◌≤◌, ℕ, [], ◌∷◌, ◌++◌, map, length, IfOk};
-ghost use Rattle.lrp_model.specs.RawQueries.{raw_form_of, raw_not, raw_and, raw_or, raw_implies, raw_group, raw_exists, raw_forall};
 ghost use Rattle.lrp_text.specs.Parsers.{separated_from};
 ghost use Rattle.lrp_text.specs.Taking.{is_word};
-ghost use Rattle.lrp_query.specs.Reading.{ReadsFormula, ReadsFormulas};
-ghost use Rattle.lrp_query.specs.Rules.{meant, raws, formula, behind_name, named, negated, existing, holding, enclosed, behind_first, alone, implying, conjoined, disjoined};
+ghost use Rattle.lrp_query.specs.Reading.{ReadsAs, ReadsEach};
+ghost use Rattle.lrp_query.specs.Rules.{named, negated, existing, holding, enclosed, behind_first, alone, implying, conjoined, disjoined};
+ghost use Rattle.lrp_query.specs.OperatorRules.{closed_by, ranged_parts, paired_parts};
+ghost use Rattle.lrp_query.specs.Grammars.{trees_made, operators_made, behind_made, formula_made};
 
+use crate::atoms::{read_behind_name, read_unnamed};
+use crate::grammar::Grammar;
+use crate::operators::{read_ends, read_variable};
 use crate::starts::{Start, start_of, too_deep};
-use crate::terms::{read_behind_name, read_unnamed};
-use lrp_model::{Fault, Memory, Place, RawColumn, RawFormula, RawKind, Symbol, Word};
+use crate::words::{Leading, Opening};
+use lrp_model::{Fault, Memory, Name, Place, Symbol, Word};
 use lrp_text::{Cursor, column};
 use std::alloc::Global;
 
-fn denied(alloc: Global, place: Place, of: RawFormula) -> Result<RawFormula, Memory>
-    ensures { IfOk result (λ made. raw_form_of made ≡ raw_not place (raw_form_of of)) }
-{
-    let of = Box::new(alloc, of)?;
-    Ok(RawFormula {
-        kind: RawKind::Not { of },
-        place,
-    })
-}
-
-fn implied(
-    alloc: Global,
-    place: Place,
-    left: RawFormula,
-    right: RawFormula,
-) -> Result<RawFormula, Memory>
-    ensures { IfOk result (λ made. raw_form_of made
-        ≡ raw_implies place (raw_form_of left) (raw_form_of right)) }
-{
-    let left = Box::new(alloc, left)?;
-    let right = Box::new(alloc, right)?;
-    Ok(RawFormula {
-        kind: RawKind::Implies { left, right },
-        place,
-    })
-}
-
-fn grouped(alloc: Global, place: Place, of: RawFormula) -> Result<RawFormula, Memory>
-    ensures { IfOk result (λ made. raw_form_of made ≡ raw_group place (raw_form_of of)) }
-{
-    let of = Box::new(alloc, of)?;
-    Ok(RawFormula {
-        kind: RawKind::Group { of },
-        place,
-    })
-}
-
-fn some(
-    alloc: Global,
-    place: Place,
-    binder: RawColumn,
-    of: RawFormula,
-) -> Result<RawFormula, Memory>
-    ensures { IfOk result (λ made. raw_form_of made ≡ raw_exists place binder (raw_form_of of)) }
-{
-    let of = Box::new(alloc, of)?;
-    Ok(RawFormula {
-        kind: RawKind::Exists { binder, of },
-        place,
-    })
-}
-
-fn every(
-    alloc: Global,
-    place: Place,
-    binder: RawColumn,
-    of: RawFormula,
-) -> Result<RawFormula, Memory>
-    ensures { IfOk result (λ made. raw_form_of made ≡ raw_forall place binder (raw_form_of of)) }
-{
-    let of = Box::new(alloc, of)?;
-    Ok(RawFormula {
-        kind: RawKind::Forall { binder, of },
-        place,
-    })
-}
-
-fn conjunction(place: Place, of: Vec<RawFormula>) -> RawFormula
-    ensures { raw_form_of result ≡ raw_and place (raws (map raw_form_of of.items)) }
-{
-    RawFormula {
-        kind: RawKind::And { of },
-        place,
-    }
-}
-
-fn disjunction(place: Place, of: Vec<RawFormula>) -> RawFormula
-    ensures { raw_form_of result ≡ raw_or place (raws (map raw_form_of of.items)) }
-{
-    RawFormula {
-        kind: RawKind::Or { of },
-        place,
-    }
-}
-
 // A formula alone in parentheses, of which the last one is read.
-fn read_group(
+fn read_group<G: Grammar>(
     alloc: Global,
     tokens: &mut Cursor<'_>,
     place: Place,
-    of: RawFormula,
-) -> Result<RawFormula, Fault>
-    ensures value { ReadsFormula (alone meant place (raw_form_of of) tokens.old) result tokens.new }
+    of: G::Formula,
+) -> Result<G::Formula, Fault>
+    ensures value { ReadsAs G.form_of (alone (trees_made G.makes) place (G.form_of of) tokens.old)
+        result tokens.new }
     ensures fewer { IfOk result (λ _. length tokens.new < length tokens.old) }
 {
     tokens.expect(Symbol::Close)?;
-    Ok(grouped(alloc, place, of)?)
+    Ok(G::grouped(alloc, place, of)?)
 }
 
 // The first member, with room for a second one.
-fn members_from(alloc: Global, first: RawFormula) -> Result<Vec<RawFormula>, Memory>
-    ensures { IfOk result (λ made. map raw_form_of made.items ≡ raw_form_of first ∷ []) }
+fn members_from<G: Grammar>(alloc: Global, first: G::Formula) -> Result<Vec<G::Formula>, Memory>
+    ensures { IfOk result (λ made. map G.form_of made.items ≡ G.form_of first ∷ []) }
 {
     let mut all = Vec::with_capacity(alloc, 2)?;
     all.push(first)?;
@@ -121,29 +41,31 @@ fn members_from(alloc: Global, first: RawFormula) -> Result<Vec<RawFormula>, Mem
 }
 
 // One more member behind the others.
-fn add(all: &mut Vec<RawFormula>, one: RawFormula) -> Result<(), Memory>
-    ensures { IfOk result (λ _. map raw_form_of all.new.items ≡ map raw_form_of all.old.items
-        ++ raw_form_of one ∷ []) }
+fn add<G: Grammar>(all: &mut Vec<G::Formula>, one: G::Formula) -> Result<(), Memory>
+    ensures { IfOk result (λ _. map G.form_of all.new.items ≡ map G.form_of all.old.items
+        ++ G.form_of one ∷ []) }
 {
     Ok(all.push(one)?)
 }
 
-// A formula that begins with a name.
-#[tactic(auto, unfolding(crate::specs::Rules::named))]
-fn read_named(alloc: Global, tokens: &mut Cursor<'_>) -> Result<RawFormula, Fault>
-    ensures value { (turns : ℕ) → length tokens.old < turns
-        → ReadsFormula (named (behind_name meant turns) tokens.old) result tokens.new }
-    ensures fewer { IfOk result (λ _. length tokens.new < length tokens.old) }
+// These members, with no room for more.
+fn exact<G: Grammar>(members: Vec<G::Formula>) -> Vec<G::Formula>
+    ensures { result.items ≡ members.items }
 {
-    let (name, place) = tokens.name(alloc)?;
-    read_behind_name(alloc, tokens, name, place)
+    let mut items = members;
+    items.shrink_to_fit();
+    items
 }
 
 /// Reads a formula that is at most so deep.
 #[cycle(reading)]
-pub fn read_formula(alloc: Global, tokens: &mut Cursor<'_>, depth: u32) -> Result<RawFormula, Fault>
+pub fn read_formula<G: Grammar>(
+    alloc: Global,
+    tokens: &mut Cursor<'_>,
+    depth: u32,
+) -> Result<G::Formula, Fault>
     ensures value { (turns : ℕ) → length tokens.old < turns
-        → ReadsFormula (formula meant depth turns tokens.old) result tokens.new }
+        → ReadsAs G.form_of (formula_made G.makes depth turns tokens.old) result tokens.new }
     ensures fewer { IfOk result (λ _. length tokens.new < length tokens.old) }
 {
     if depth == 0 {
@@ -152,202 +74,305 @@ pub fn read_formula(alloc: Global, tokens: &mut Cursor<'_>, depth: u32) -> Resul
     let inner = depth - 1;
     let place = tokens.place();
     match start_of(tokens) {
-        Start::Not => read_negation(alloc, tokens, inner, place),
-        Start::Exists => read_existential(alloc, tokens, inner, place),
-        Start::Forall => read_universal(alloc, tokens, inner, place),
-        Start::Open => read_enclosed(alloc, tokens, inner, place),
-        Start::Name => read_named(alloc, tokens),
-        Start::Term => read_unnamed(alloc, tokens, place),
+        Start::Not => read_negation::<G>(alloc, tokens, inner, place),
+        Start::Exists => read_existential::<G>(alloc, tokens, inner, place),
+        Start::Forall => read_universal::<G>(alloc, tokens, inner, place),
+        Start::Open => read_enclosed::<G>(alloc, tokens, inner, place),
+        Start::Name => read_named::<G>(alloc, tokens, inner),
+        Start::Term => read_unnamed::<G>(alloc, tokens, place),
     }
 }
 
 #[cycle(reading)]
 #[tactic(auto, unfolding(crate::specs::Rules::negated))]
-fn read_negation(
+fn read_negation<G: Grammar>(
     alloc: Global,
     tokens: &mut Cursor<'_>,
     depth: u32,
     place: Place,
-) -> Result<RawFormula, Fault>
+) -> Result<G::Formula, Fault>
     ensures value { (turns : ℕ) → length tokens.old < turns
-        → ReadsFormula (negated meant (formula meant depth turns) place tokens.old) result
-        tokens.new }
+        → ReadsAs G.form_of (negated (trees_made G.makes) (formula_made G.makes depth turns) place
+        tokens.old) result tokens.new }
     ensures fewer { IfOk result (λ _. length tokens.new < length tokens.old) }
 {
     tokens.expect_word(Word::Not)?;
-    let of = read_formula(alloc, tokens, depth)?;
-    Ok(denied(alloc, place, of)?)
+    let of = read_formula::<G>(alloc, tokens, depth)?;
+    Ok(G::denied(alloc, place, of)?)
 }
 
 #[cycle(reading)]
 #[tactic(auto, unfolding(crate::specs::Rules::existing))]
-fn read_existential(
+fn read_existential<G: Grammar>(
     alloc: Global,
     tokens: &mut Cursor<'_>,
     depth: u32,
     place: Place,
-) -> Result<RawFormula, Fault>
+) -> Result<G::Formula, Fault>
     ensures value { (turns : ℕ) → length tokens.old < turns
-        → ReadsFormula (existing meant (formula meant depth turns) place tokens.old) result
-        tokens.new }
+        → ReadsAs G.form_of (existing (trees_made G.makes) (formula_made G.makes depth turns) place
+        tokens.old) result tokens.new }
     ensures fewer { IfOk result (λ _. length tokens.new < length tokens.old) }
 {
     tokens.expect_word(Word::Exists)?;
     let binder = column(alloc, tokens)?;
-    let of = read_formula(alloc, tokens, depth)?;
-    Ok(some(alloc, place, binder, of)?)
+    let of = read_formula::<G>(alloc, tokens, depth)?;
+    Ok(G::some(alloc, place, binder, of)?)
 }
 
 #[cycle(reading)]
 #[tactic(auto, unfolding(crate::specs::Rules::holding))]
-fn read_universal(
+fn read_universal<G: Grammar>(
     alloc: Global,
     tokens: &mut Cursor<'_>,
     depth: u32,
     place: Place,
-) -> Result<RawFormula, Fault>
+) -> Result<G::Formula, Fault>
     ensures value { (turns : ℕ) → length tokens.old < turns
-        → ReadsFormula (holding meant (formula meant depth turns) place tokens.old) result
-        tokens.new }
+        → ReadsAs G.form_of (holding (trees_made G.makes) (formula_made G.makes depth turns) place
+        tokens.old) result tokens.new }
     ensures fewer { IfOk result (λ _. length tokens.new < length tokens.old) }
 {
     tokens.expect_word(Word::Forall)?;
     let binder = column(alloc, tokens)?;
-    let of = read_formula(alloc, tokens, depth)?;
-    Ok(every(alloc, place, binder, of)?)
+    let of = read_formula::<G>(alloc, tokens, depth)?;
+    Ok(G::every(alloc, place, binder, of)?)
 }
 
 #[cycle(reading)]
 #[tactic(auto, unfolding(crate::specs::Rules::enclosed))]
-fn read_enclosed(
+fn read_enclosed<G: Grammar>(
     alloc: Global,
     tokens: &mut Cursor<'_>,
     depth: u32,
     place: Place,
-) -> Result<RawFormula, Fault>
+) -> Result<G::Formula, Fault>
     ensures value { (turns : ℕ) → length tokens.old < turns
-        → ReadsFormula (enclosed meant (formula meant depth turns) turns place tokens.old) result
-        tokens.new }
+        → ReadsAs G.form_of (enclosed (trees_made G.makes) (formula_made G.makes depth turns) turns
+        place tokens.old) result tokens.new }
     ensures fewer { IfOk result (λ _. length tokens.new < length tokens.old) }
 {
     tokens.expect(Symbol::Open)?;
-    let first = read_formula(alloc, tokens, depth)?;
-    read_behind_first(alloc, tokens, depth, place, first)
+    let first = read_formula::<G>(alloc, tokens, depth)?;
+    read_behind_first::<G>(alloc, tokens, depth, place, first)
 }
 
 // What stands behind a parenthesis and a formula.
 #[cycle(reading)]
 #[tactic(auto, unfolding(crate::specs::Rules::behind_first))]
-fn read_behind_first(
+fn read_behind_first<G: Grammar>(
     alloc: Global,
     tokens: &mut Cursor<'_>,
     depth: u32,
     place: Place,
-    first: RawFormula,
-) -> Result<RawFormula, Fault>
+    first: G::Formula,
+) -> Result<G::Formula, Fault>
     ensures value { (turns : ℕ) → length tokens.old < turns
-        → ReadsFormula (behind_first meant (formula meant depth turns) turns place
-        (raw_form_of first) tokens.old) result tokens.new }
+        → ReadsAs G.form_of (behind_first (trees_made G.makes) (formula_made G.makes depth turns)
+        turns place (G.form_of first) tokens.old) result tokens.new }
     ensures fewer { IfOk result (λ _. length tokens.new < length tokens.old) }
 {
     if tokens.eat_word(Word::Implies) {
-        return read_implication(alloc, tokens, depth, place, first);
+        return read_implication::<G>(alloc, tokens, depth, place, first);
     }
     if tokens.eat_word(Word::And) {
-        return read_conjunction(alloc, tokens, depth, place, first);
+        return read_conjunction::<G>(alloc, tokens, depth, place, first);
     }
     if tokens.eat_word(Word::Or) {
-        return read_disjunction(alloc, tokens, depth, place, first);
+        return read_disjunction::<G>(alloc, tokens, depth, place, first);
     }
-    read_group(alloc, tokens, place, first)
+    read_group::<G>(alloc, tokens, place, first)
 }
 
 #[cycle(reading)]
 #[tactic(auto, unfolding(crate::specs::Rules::implying))]
-fn read_implication(
+fn read_implication<G: Grammar>(
     alloc: Global,
     tokens: &mut Cursor<'_>,
     depth: u32,
     place: Place,
-    first: RawFormula,
-) -> Result<RawFormula, Fault>
+    first: G::Formula,
+) -> Result<G::Formula, Fault>
     ensures value { (turns : ℕ) → length tokens.old < turns
-        → ReadsFormula (implying meant (formula meant depth turns) place
-        (raw_form_of first) tokens.old) result tokens.new }
+        → ReadsAs G.form_of (implying (trees_made G.makes) (formula_made G.makes depth turns) place
+        (G.form_of first) tokens.old) result tokens.new }
     ensures fewer { IfOk result (λ _. length tokens.new < length tokens.old) }
 {
-    let second = read_formula(alloc, tokens, depth)?;
+    let second = read_formula::<G>(alloc, tokens, depth)?;
     tokens.expect(Symbol::Close)?;
-    Ok(implied(alloc, place, first, second)?)
+    Ok(G::implied(alloc, place, first, second)?)
 }
 
 #[cycle(reading)]
 #[tactic(auto, unfolding(crate::specs::Rules::conjoined))]
-fn read_conjunction(
+fn read_conjunction<G: Grammar>(
     alloc: Global,
     tokens: &mut Cursor<'_>,
     depth: u32,
     place: Place,
-    first: RawFormula,
-) -> Result<RawFormula, Fault>
+    first: G::Formula,
+) -> Result<G::Formula, Fault>
     ensures value { (turns : ℕ) → length tokens.old < turns
-        → ReadsFormula (conjoined meant (formula meant depth turns) turns place
-        (raw_form_of first) tokens.old) result tokens.new }
+        → ReadsAs G.form_of (conjoined (trees_made G.makes) (formula_made G.makes depth turns) turns
+        place (G.form_of first) tokens.old) result tokens.new }
     ensures fewer { IfOk result (λ _. length tokens.new < length tokens.old) }
 {
-    let of = read_members(alloc, tokens, depth, Word::And, first)?;
+    let of = read_members::<G>(alloc, tokens, depth, Word::And, first)?;
     tokens.expect(Symbol::Close)?;
-    Ok(conjunction(place, of))
+    Ok(G::conjunction(place, of))
 }
 
 #[cycle(reading)]
 #[tactic(auto, unfolding(crate::specs::Rules::disjoined))]
-fn read_disjunction(
+fn read_disjunction<G: Grammar>(
     alloc: Global,
     tokens: &mut Cursor<'_>,
     depth: u32,
     place: Place,
-    first: RawFormula,
-) -> Result<RawFormula, Fault>
+    first: G::Formula,
+) -> Result<G::Formula, Fault>
     ensures value { (turns : ℕ) → length tokens.old < turns
-        → ReadsFormula (disjoined meant (formula meant depth turns) turns place
-        (raw_form_of first) tokens.old) result tokens.new }
+        → ReadsAs G.form_of (disjoined (trees_made G.makes) (formula_made G.makes depth turns) turns
+        place (G.form_of first) tokens.old) result tokens.new }
     ensures fewer { IfOk result (λ _. length tokens.new < length tokens.old) }
 {
-    let of = read_members(alloc, tokens, depth, Word::Or, first)?;
+    let of = read_members::<G>(alloc, tokens, depth, Word::Or, first)?;
     tokens.expect(Symbol::Close)?;
-    Ok(disjunction(place, of))
-}
-
-// These members, with no room for more.
-fn exact(members: Vec<RawFormula>) -> Vec<RawFormula>
-    ensures { result.items ≡ members.items }
-{
-    let mut items = members;
-    items.shrink_to_fit();
-    items
+    Ok(G::disjunction(place, of))
 }
 
 // The members behind a reserved word that stands between them, and the first one before these.
 #[cycle(reading)]
-fn read_members(
+fn read_members<G: Grammar>(
     alloc: Global,
     tokens: &mut Cursor<'_>,
     depth: u32,
     word: Word,
-    first: RawFormula,
-) -> Result<Vec<RawFormula>, Fault>
+    first: G::Formula,
+) -> Result<Vec<G::Formula>, Fault>
     ensures value { (turns : ℕ) → length tokens.old < turns
-        → ReadsFormulas (separated_from (formula meant depth turns) (is_word word) turns
-        (raw_form_of first ∷ []) tokens.old) result tokens.new }
+        → ReadsEach G.form_of (separated_from (formula_made G.makes depth turns) (is_word word)
+        turns (G.form_of first ∷ []) tokens.old) result tokens.new }
     ensures shorter { IfOk result (λ _. length tokens.new ≤ length tokens.old) }
 {
-    let mut found = members_from(alloc, first)?;
+    let mut found = members_from::<G>(alloc, first)?;
     loop {
-        let next = read_formula(alloc, tokens, depth)?;
-        add(&mut found, next)?;
+        let next = read_formula::<G>(alloc, tokens, depth)?;
+        add::<G>(&mut found, next)?;
         if !tokens.eat_word(word) {
-            return Ok(exact(found));
+            return Ok(exact::<G>(found));
         }
     }
+}
+
+// A formula that begins with a name.
+#[cycle(reading)]
+#[tactic(auto, unfolding(crate::specs::Rules::named))]
+fn read_named<G: Grammar>(
+    alloc: Global,
+    tokens: &mut Cursor<'_>,
+    depth: u32,
+) -> Result<G::Formula, Fault>
+    ensures value { (turns : ℕ) → length tokens.old < turns
+        → ReadsAs G.form_of (named (behind_made G.makes (formula_made G.makes depth turns) turns)
+        tokens.old) result tokens.new }
+    ensures fewer { IfOk result (λ _. length tokens.new < length tokens.old) }
+{
+    let (name, place) = tokens.name(alloc)?;
+    read_behind::<G>(alloc, tokens, depth, name, place)
+}
+
+// What stands behind a name that begins a formula: an operator where another name follows.
+#[cycle(reading)]
+fn read_behind<G: Grammar>(
+    alloc: Global,
+    tokens: &mut Cursor<'_>,
+    depth: u32,
+    name: Name,
+    place: Place,
+) -> Result<G::Formula, Fault>
+    ensures value { (turns : ℕ) → length tokens.old < turns
+        → ReadsAs G.form_of (behind_made G.makes (formula_made G.makes depth turns) turns name place
+        tokens.old) result tokens.new }
+    ensures shorter { IfOk result (λ _. length tokens.new ≤ length tokens.old) }
+{
+    if !tokens.sees_name() {
+        return read_behind_name::<G>(alloc, tokens, name, place);
+    }
+    match G::word_of(&name) {
+        Some(Leading::OfRange(word)) => read_ranged::<G>(alloc, tokens, depth, word, place),
+        Some(Leading::OfPair(word)) => read_paired::<G>(alloc, tokens, depth, word, place),
+        None => Err(Fault::Syntax),
+    }
+}
+
+// An operator with an interval, behind its first word.
+#[cycle(reading)]
+#[tactic(auto, unfolding(crate::specs::OperatorRules::ranged_parts))]
+fn read_ranged<G: Grammar>(
+    alloc: Global,
+    tokens: &mut Cursor<'_>,
+    depth: u32,
+    word: G::Ranged,
+    place: Place,
+) -> Result<G::Formula, Fault>
+    ensures value { (turns : ℕ) → length tokens.old < turns
+        → ReadsAs G.form_of (ranged_parts (operators_made G.makes)
+        (formula_made G.makes depth turns) word place tokens.old) result tokens.new }
+    ensures fewer { IfOk result (λ _. length tokens.new < length tokens.old) }
+{
+    let (name, name_place) = read_variable(alloc, tokens)?;
+    let ends = read_ends(tokens)?;
+    let of = read_formula::<G>(alloc, tokens, depth)?;
+    let opening = Opening {
+        place,
+        name,
+        name_place,
+    };
+    Ok(G::ranged(alloc, word, opening, ends, of)?)
+}
+
+// An operator over two formulas, behind its first word.
+#[cycle(reading)]
+#[tactic(auto, unfolding(crate::specs::OperatorRules::paired_parts))]
+fn read_paired<G: Grammar>(
+    alloc: Global,
+    tokens: &mut Cursor<'_>,
+    depth: u32,
+    word: G::Paired,
+    place: Place,
+) -> Result<G::Formula, Fault>
+    ensures value { (turns : ℕ) → length tokens.old < turns
+        → ReadsAs G.form_of (paired_parts (operators_made G.makes)
+        (formula_made G.makes depth turns) word place tokens.old) result tokens.new }
+    ensures fewer { IfOk result (λ _. length tokens.new < length tokens.old) }
+{
+    let (name, name_place) = read_variable(alloc, tokens)?;
+    let left = read_closed::<G>(alloc, tokens, depth, Symbol::Comma)?;
+    let right = read_closed::<G>(alloc, tokens, depth, Symbol::Close)?;
+    let opening = Opening {
+        place,
+        name,
+        name_place,
+    };
+    Ok(G::paired(alloc, word, opening, left, right)?)
+}
+
+// A formula and the symbol behind it.
+#[cycle(reading)]
+#[tactic(auto, unfolding(crate::specs::OperatorRules::closed_by))]
+fn read_closed<G: Grammar>(
+    alloc: Global,
+    tokens: &mut Cursor<'_>,
+    depth: u32,
+    behind: Symbol,
+) -> Result<G::Formula, Fault>
+    ensures value { (turns : ℕ) → length tokens.old < turns
+        → ReadsAs G.form_of (closed_by (formula_made G.makes depth turns) behind tokens.old) result
+        tokens.new }
+    ensures fewer { IfOk result (λ _. length tokens.new < length tokens.old) }
+{
+    let of = read_formula::<G>(alloc, tokens, depth)?;
+    tokens.expect(behind)?;
+    Ok(of)
 }

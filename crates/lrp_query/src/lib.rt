@@ -1,17 +1,22 @@
 //! Queries as text: what is read.
 #![tactic(auto)]
 
+mod atoms;
 mod formulas;
+mod grammar;
 mod laws;
+mod operators;
+mod plain;
 mod queries;
 mod starts;
 mod terms;
+mod words;
 
+pub use grammar::Grammar;
 pub use laws::query_texts_have_one_tree;
 pub use lrp_model::{
     QueryFault, QueryKind, QueryRead, RawColumn, RawFormula, RawKind, RawQuery, RawTerm,
     RawTermKind,
 };
-pub use queries::{read_query, refusal};
-pub use starts::{Start, start_of, too_deep};
-pub use terms::{read_behind_name, read_unnamed};
+pub use queries::{read_bytes, read_query};
+pub use words::{Leading, Opening};

@@ -4,12 +4,14 @@ ghost use Rattle.lrp_model.specs.declared.faults.QueryFault.{QueryFault as Fault
 ghost use Rattle.lrp_model.specs.RawQueries.{RawQuestion, raw_question_of};
 ghost use Rattle.lrp_model.specs.QueryReading.{IsQuery, IsQueryFault};
 ghost use Rattle.lrp_query.specs.Lawful.{IsLawful};
-ghost use Rattle.lrp_query.specs.Rules.{meant, query};
-ghost use Rattle.lrp_query.specs.Reading.{ReadsQuery, left_behind, refusal_of, IsUnread};
+ghost use Rattle.lrp_query.specs.Grammars.{query_made, IsTextRead, IsTextUnread};
+ghost use Rattle.lrp_query.specs.Reading.{ReadsAs, left_behind, refusal_of, IsUnread};
 ghost use Rattle.lrp_model.specs.Outcomes.{IsQueryOrMemory, IsFaultOrMemory};
 ghost use Rattle.lrp_model.specs.Limits.{most_bytes};
 
 use crate::formulas::read_formula;
+use crate::grammar::Grammar;
+use crate::plain::Plain;
 use lrp_model::{Fault, Place, QueryFault, QueryKind, QueryRead, RawQuery, Symbol};
 use lrp_text::{Cursor, columns, place_behind};
 use std::alloc::Global;
@@ -18,8 +20,8 @@ use std::str::from_utf8;
 // How deep formulas may stand; the body has depth 1.
 const DEPTH: u32 = 64;
 
-/// The fault of a text, from what was met at a place.
-pub fn refusal(kind: Fault, place: Place) -> QueryRead
+// The fault of a text, from what was met at a place.
+fn refusal(kind: Fault, place: Place) -> QueryRead
     ensures { result ≡ refusal_of kind place }
 {
     let kind = match kind {
@@ -37,40 +39,40 @@ pub fn refusal(kind: Fault, place: Place) -> QueryRead
 
 // The query of some tokens, and the end behind it.
 #[tactic(auto, unfolding(crate::specs::Rules::query_with))]
-fn read_tokens(alloc: Global, tokens: &mut Cursor<'_>) -> Result<RawQuery, Fault>
-    ensures { (turns : ℕ) → length tokens.old < turns
-        → ReadsQuery (query meant turns tokens.old) result (left_behind result tokens.new) }
+fn read_tokens<G: Grammar>(alloc: Global, tokens: &mut Cursor<'_>) -> Result<G::Query, Fault>
+    ensures { (turns : ℕ) → length tokens.old < turns → ReadsAs G.question_of
+        (query_made G.makes turns tokens.old) result (left_behind result tokens.new) }
 {
     tokens.expect(Symbol::OpenBrace)?;
     let head = columns(alloc, tokens, Symbol::Bar)?;
     tokens.expect(Symbol::Bar)?;
-    let body = read_formula(alloc, tokens, DEPTH)?;
+    let body = read_formula::<G>(alloc, tokens, DEPTH)?;
     tokens.expect(Symbol::CloseBrace)?;
     tokens.expect_end()?;
-    Ok(RawQuery { head, body })
+    Ok(G::query(head, body))
 }
 
 // The query of a text.
-fn read_text(alloc: Global, text: &str) -> Result<RawQuery, QueryRead>
+fn read_text<G: Grammar>(alloc: Global, text: &str) -> Result<G::Query, QueryRead>
     requires { length text.now ≤ most_bytes }
-    ensures query { IfOk result (λ q. IsQuery text.now (raw_question_of q)) }
-    ensures refused { IfErr result (IsUnread text.now) }
+    ensures query { IfOk result (λ q. IsTextRead (query_made G.makes) text.now (G.question_of q)) }
+    ensures refused { IfErr result (IsTextUnread (query_made G.makes) text.now) }
 {
     let mut tokens = Cursor::new(text);
-    match read_tokens(alloc, &mut tokens) {
+    match read_tokens::<G>(alloc, &mut tokens) {
         Ok(query) => Ok(query),
         Err(fault) => Err(refusal(fault, tokens.peek().place)),
     }
 }
 
-// The query of bytes, where they are UTF-8 and a text of the grammar.
-fn read_bytes(alloc: Global, bytes: &[u8]) -> Result<RawQuery, QueryRead>
+/// The query of bytes, where they are UTF-8 and a text of the grammar.
+pub fn read_bytes<G: Grammar>(alloc: Global, bytes: &[u8]) -> Result<G::Query, QueryRead>
     requires { length bytes.now ≤ most_bytes }
-    ensures query { IfOk result (λ q. IsQuery bytes.now (raw_question_of q)) }
-    ensures refused { IfErr result (IsUnread bytes.now) }
+    ensures query { IfOk result (λ q. IsTextRead (query_made G.makes) bytes.now (G.question_of q)) }
+    ensures refused { IfErr result (IsTextUnread (query_made G.makes) bytes.now) }
 {
     match from_utf8(bytes) {
-        Ok(text) => read_text(alloc, text),
+        Ok(text) => read_text::<G>(alloc, text),
         Err(error) => {
             let place = place_behind(&bytes[..error.valid_up_to()]);
             Err(QueryRead::Fault {
@@ -98,5 +100,5 @@ pub fn read_query(alloc: Global, bytes: &[u8]) -> Result<RawQuery, QueryRead>
     ensures every_fault { (fault : FaultOf) → IsQueryFault bytes.now fault
         → IsFaultOrMemory fault result }
 {
-    read_bytes(alloc, bytes)
+    read_bytes::<Plain>(alloc, bytes)
 }

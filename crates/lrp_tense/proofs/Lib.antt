@@ -12,7 +12,6 @@ pub mod TenseReader
 pub mod TenseMeant
 pub mod TenseTexts
 pub mod TenseViews
-mod Behind
 pub mod TokenPlaces
 pub mod LawfulTense
 pub mod WithoutOperators

@@ -20,13 +20,13 @@ use Rattle.lrp_text.proofs.Sound.{Sound, bind_ok, accept_sound, takes_join, take
 use Rattle.lrp_text.proofs.Viable.{Viable, One, accept_viable, sub_step, sub_short, spells_join, always, fits_as}
 use Rattle.lrp_text.proofs.TokenTests.{expect_seen, name_part, name_told, name_seen, name_stops}
 use Rattle.lrp_text.proofs.IntegerRule.{integer_back, integer_sound, integer_viable}
+use Rattle.lrp_query.specs.OperatorRules.{ends, ranged, paired}
 use Rattle.lrp_query.proofs.Layers.{Layer, other, FormulaRules, text_of, FitsLayer, LayerTexts, IsFormula, read_layer}
 use Rattle.lrp_query.proofs.TermRules.{NoShift}
 use Rattle.lrp_query.proofs.TestRules.{sym_part, symbol_sound, symbol_viable, symbol_at, name_at}
 use Rattle.lrp_query.proofs.OverRules.{some_formula, some_tokens, some_spelled, some_fits}
 use Rattle.lrp_tense.specs.Trees.{Operator, operator_at}
 use Rattle.lrp_tense.specs.TenseQueries.{WrittenTense, tense_text, interval_text}
-use Rattle.lrp_tense.specs.Rules.{ends, ranged, paired}
 use Rattle.lrp_tense.specs.declared.words.Ranged.{Ranged}
 use Rattle.lrp_tense.specs.declared.words.Paired.{Paired}
 use Rattle.lrp_tense.proofs.TenseGrammar.{OperatorOver, over_range, over_pair, FitsTenseAt, FitsOperator, written_ranged, written_paired, written_operators, ranged_word, paired_word, ranged_rest, paired_rest, tense_grammar}

@@ -1,6 +1,6 @@
 -- Formulas one after another: gathered, and written out.
 use Rattle.std.proofs.Common.{◌≡◌, ◌+◌, ◌<◌, ℕ, suc, cond, arith, List, [], ◌∷◌, ◌++◌, Vec, Box, Global, length, take, get_or, refl, ap, ap₂, sym, ◌∙◌, append_assoc, append-nil, rules}
-use Rattle.std.specs.Prelude.{ℤ, reverse, Result, Ok, Err, IfOk, OnOk}
+use Rattle.std.specs.Prelude.{reverse, Result, Ok, Err, IfOk, OnOk}
 use Rattle.std.specs.Str.{bytes_eq}
 use Rattle.std.proofs.lemmas.List.{take_more, reverse-append, length-reverse}
 use Rattle.lrp_model.specs.Texts.{Identifier}
@@ -8,15 +8,19 @@ use Rattle.lrp_model.specs.declared.tokens.Place.{Place}
 use Rattle.lrp_model.specs.declared.raw.RawFormula.{RawFormula}
 use Rattle.lrp_model.specs.RawQueries.{RawForm, RawForms, raw_form_of, raw_forms_of, raw_and, raw_or, raw_implies, raw, no_raws}
 use Rattle.lrp_tense.specs.declared.tree.TenseFormula.{TenseFormula}
-use Rattle.lrp_tense.specs.declared.tree.TenseKind.{And, Or, Implies, Once, Always, Since, Until, the_lemmas}
-use Rattle.lrp_tense.specs.declared.expansion.Operator.{Operator as WrittenOperator}
+use Rattle.lrp_tense.specs.declared.tree.TenseKind.{TenseKind, And, Or, Implies, Since, Until, the_lemmas}
+use Rattle.lrp_tense.specs.declared.words.Paired.{Paired}
+use Rattle.lrp_tense.specs.declared.words.Paired.TheVariants.{Since as since_word, Until as until_word}
+use Rattle.lrp_tense.specs.declared.expansion.Pair.{Pair}
 use Rattle.lrp_tense.specs.declared.expansion.Begun.{Begun}
-use Rattle.lrp_tense.specs.Trees.{Operator, TenseForm, TenseForms, operator_at, tense_kind, tense_form_of, tense_forms_of, tense_implies, tense, no_tenses, once, always, since, until}
-use Rattle.lrp_tense.specs.Expanding.{Naming, Renaming, present_name, operators, operators_each, moment_name, between_name, since_form, until_form}
+use Rattle.lrp_tense.specs.Trees.{Operator, TenseForm, TenseForms, operator_at, tense_kind, tense_form_of, tense_forms_of, tense_implies, tense, no_tenses}
+use Rattle.lrp_tense.specs.Expanding.{Naming, Renaming, present_name, operators, operators_each, moment_name, between_name}
 use Rattle.lrp_tense.specs.Named.{naming_of}
 use Rattle.lrp_tense.specs.Numbers.{Numbers, next_number, behind_one, behind_all, expanded_from, each_from}
-use Rattle.lrp_tense.specs.Scopes.{Around, within, past, past_one, past_each, expanded_in, each_in, once_numbered, always_numbered, since_numbered, until_numbered}
-use Rattle.lrp_tense.specs.Written.{operator_of, form_inside}
+use Rattle.lrp_tense.specs.Scopes.{Around, within, past, past_one, past_each, expanded_in, each_in, form_of_pair}
+use Rattle.lrp_tense.specs.Written.{operator_of, form_inside, pair_of}
+use Rattle.lrp_tense.specs.Begun.{IsBegun, pair_begun}
+use Rattle.lrp_tense.specs.Rules.{paired_form}
 use Rattle.lrp_tense.proofs.TenseViews.{tense_kind-And, tense_kind-Or}
 
 -- ---- members of a node
@@ -124,19 +128,7 @@ length-naming_of vs = length-reverse vs
 pub is_inside : (a b : Around) (v n : Identifier) → b ≡ within a v n → 0 < length b.names
 is_inside a b v n e = let one : length b.names ≡ suc (length a.names) = ap (λ c. length c.names) e in omega (arith, one)
 
--- ---- operators over two formulas
-
-since_kind : (n : Identifier) (at p : Place) (left right : Box TenseFormula Global) → tense_kind (Since n at left right) p ≡ since (operator_at p n at) (tense_form_of left.value) (tense_form_of right.value)
-since_kind n at p left right = search (rules, the_lemmas)
-
-until_kind : (n : Identifier) (at p : Place) (left right : Box TenseFormula Global) → tense_kind (Until n at left right) p ≡ until (operator_at p n at) (tense_form_of left.value) (tense_form_of right.value)
-until_kind n at p left right = search (rules, the_lemmas)
-
-once_kind : (n : Identifier) (at p : Place) (from to : ℤ) (of : Box TenseFormula Global) → tense_kind (Once n at from to of) p ≡ once (operator_at p n at) from to (tense_form_of of.value)
-once_kind n at p from to of = search (rules, the_lemmas)
-
-always_kind : (n : Identifier) (at p : Place) (from to : ℤ) (of : Box TenseFormula Global) → tense_kind (Always n at from to of) p ≡ always (operator_at p n at) from to (tense_form_of of.value)
-always_kind n at p from to of = search (rules, the_lemmas)
+-- ---- implications
 
 implies_kind : (p : Place) (left right : Box TenseFormula Global) → tense_kind (Implies left right) p ≡ tense_implies p (tense_form_of left.value) (tense_form_of right.value)
 implies_kind p left right = search (rules, the_lemmas)
@@ -154,91 +146,47 @@ implies_joined s t p f g x e h = ap₂ (λ y a. raw_implies p y (expanded_in a g
 pub implies_past : (s t u : Around) (p : Place) (f g : TenseForm) → t ≡ past s f → u ≡ past t g → u ≡ past s (tense_implies p f g)
 implies_past s t u p f g e h = h ∙ ap (λ a. past a g) e ∙ ap (λ (n : Numbers). record s { numbers = n }) (sym (behind_append s.numbers (operators f) (operators g)))
 
--- the node of an operator
-pub once_node : (f g : TenseFormula) (n : Identifier) (at : Place) (from to : ℤ) (of : Box TenseFormula Global) → f.kind ≡ Once n at from to of → g ≡ of.value
-    → once (operator_at f.place n at) from to (tense_form_of g) ≡ tense_form_of f
-once_node f g n at from to of e eg = ap (λ x. once (operator_at f.place n at) from to (tense_form_of x)) eg ∙ sym (ap (λ k. tense_kind k f.place) e ∙ once_kind n at f.place from to of)
+-- ---- operators over two formulas
 
-pub always_node : (f g : TenseFormula) (n : Identifier) (at : Place) (from to : ℤ) (of : Box TenseFormula Global) → f.kind ≡ Always n at from to of → g ≡ of.value
-    → always (operator_at f.place n at) from to (tense_form_of g) ≡ tense_form_of f
-always_node f g n at from to of e eg = ap (λ x. always (operator_at f.place n at) from to (tense_form_of x)) eg ∙ sym (ap (λ k. tense_kind k f.place) e ∙ always_kind n at f.place from to of)
+-- the kind of one's formula
+abbrev pub kind_of_pair : Paired → Identifier → Place → Box TenseFormula Global → Box TenseFormula Global → TenseKind
+kind_of_pair since_word = Since
+kind_of_pair until_word = Until
 
-pub since_node : (f l r : TenseFormula) (n : Identifier) (at : Place) (left right : Box TenseFormula Global) → f.kind ≡ Since n at left right → l ≡ left.value → r ≡ right.value
-    → since (operator_at f.place n at) (tense_form_of l) (tense_form_of r) ≡ tense_form_of f
-since_node f l r n at left right e el er =
-    ap₂ (λ x y. since (operator_at f.place n at) (tense_form_of x) (tense_form_of y)) el er ∙ sym (ap (λ k. tense_kind k f.place) e ∙ since_kind n at f.place left right)
+pair_kind : (word : Paired) (n : Identifier) (at p : Place) (left right : Box TenseFormula Global) → tense_kind (kind_of_pair word n at left right) p ≡ paired_form word (operator_at p n at) (tense_form_of left.value) (tense_form_of right.value)
+pair_kind since_word n at p left right = search (rules, the_lemmas)
+pair_kind until_word n at p left right = search (rules, the_lemmas)
 
-pub until_node : (f l r : TenseFormula) (n : Identifier) (at : Place) (left right : Box TenseFormula Global) → f.kind ≡ Until n at left right → l ≡ left.value → r ≡ right.value
-    → until (operator_at f.place n at) (tense_form_of l) (tense_form_of r) ≡ tense_form_of f
-until_node f l r n at left right e el er =
-    ap₂ (λ x y. until (operator_at f.place n at) (tense_form_of x) (tense_form_of y)) el er ∙ sym (ap (λ k. tense_kind k f.place) e ∙ until_kind n at f.place left right)
+-- its node
+pub pair_node : (f g h : TenseFormula) (p : Pair) (n : Identifier) (at : Place) (left right : Box TenseFormula Global)
+    → operator_of p.at ≡ operator_at f.place n at → f.kind ≡ kind_of_pair p.word n at left right → g ≡ left.value → h ≡ right.value → pair_of p (tense_form_of g) (tense_form_of h) ≡ tense_form_of f
+pair_node f g h p n at left right there e el er =
+    ap (λ o. paired_form p.word o (tense_form_of g) (tense_form_of h)) there
+    ∙ ap₂ (λ x y. paired_form p.word (operator_at f.place n at) (tense_form_of x) (tense_form_of y)) el er ∙ sym (ap (λ k. tense_kind k f.place) e ∙ pair_kind p.word n at f.place left right)
 
--- what is known of an operator whose first formula is expanded: the operator, its names and that formula, in the scope around it
-pub record IsBegun (s : Around) (w : WrittenOperator) (f : TenseForm) (b : Begun) : Type 0 where
-  pub same : b.at ≡ w
-  pub moment : b.moment ≡ moment_name w.name.now w.number
-  pub name : b.between.name ≡ between_name w.name.now w.number
-  pub tree : form_inside b.between ≡ expanded_in (within s w.name.now (between_name w.name.now w.number)) f
+-- with the next number it is what the expansion makes of it
+pair_next : (word : Paired) (s : Around) (o : Operator) (f g : TenseForm)
+    → form_of_pair word o (moment_name o.name (next_number s.numbers o.place)) (between_name o.name (next_number s.numbers o.place)) (present_name s.names o.name)
+    (expanded_in (within (past_one s o.place) o.name (between_name o.name (next_number s.numbers o.place))) f) (expanded_in (within (past (past_one s o.place) f) o.name (moment_name o.name (next_number s.numbers o.place))) g)
+    ≡ expanded_in s (paired_form word o f g)
+pair_next since_word s o f g = refl
+pair_next until_word s o f g = refl
 
 -- the second formula expanded too, they are the operator's
-pub since_joined : (s t : Around) (w : WrittenOperator) (b : Begun) (f g : TenseForm) → t ≡ past s f → IsBegun s w f b
-    → since_form (operator_of b.at) b.moment b.between.name (present_name t.names b.at.name.now) (form_inside b.between) (expanded_in (within t b.at.name.now b.moment) g) ≡ since_numbered s (operator_of w) w.number f g
-since_joined s t w b f g e h =
-    let form : Around → WrittenOperator → Identifier → Identifier → RawForm → RawForm =
-    λ a v m y i. since_form (operator_of v) m y (present_name a.names v.name.now) i (expanded_in (within a v.name.now m) g) in
-    ap (λ a. form a b.at b.moment b.between.name (form_inside b.between)) e
-    ∙ ap (λ v. form (past s f) v b.moment b.between.name (form_inside b.between)) h.same
-    ∙ ap (λ m. form (past s f) w m b.between.name (form_inside b.between)) h.moment
-    ∙ ap₂ (λ y i. form (past s f) w (moment_name w.name.now w.number) y i) h.name h.tree
+pub pair_joined : (s t : Around) (p : Pair) (b : Begun) (f g : TenseForm) → IsBegun s p f b → t ≡ past (past_one s p.at.places.place) f → pair_begun t p b g ≡ expanded_in s (pair_of p f g)
+pair_joined s t p b f g h e =
+    let n : Identifier = p.at.name.now in
+    let form : Around → Identifier → Identifier → RawForm → RawForm =
+    λ a m y x. form_of_pair p.word (operator_of p.at) m y (present_name a.names n) x (expanded_in (within a n m) g) in
+    ap (λ a. form a b.moment b.between.name (form_inside b.between)) e
+    ∙ ap (λ m. form (past (past_one s p.at.places.place) f) m b.between.name (form_inside b.between)) h.moment
+    ∙ ap₂ (λ y x. form (past (past_one s p.at.places.place) f) (moment_name n (next_number s.numbers p.at.places.place)) y x) h.name h.tree
+    ∙ pair_next p.word s (operator_of p.at) f g
 
-pub until_joined : (s t : Around) (w : WrittenOperator) (b : Begun) (f g : TenseForm) → t ≡ past s f → IsBegun s w f b
-    → until_form (operator_of b.at) b.moment b.between.name (present_name t.names b.at.name.now) (form_inside b.between) (expanded_in (within t b.at.name.now b.moment) g) ≡ until_numbered s (operator_of w) w.number f g
-until_joined s t w b f g e h =
-    let form : Around → WrittenOperator → Identifier → Identifier → RawForm → RawForm =
-    λ a v m y i. until_form (operator_of v) m y (present_name a.names v.name.now) i (expanded_in (within a v.name.now m) g) in
-    ap (λ a. form a b.at b.moment b.between.name (form_inside b.between)) e
-    ∙ ap (λ v. form (past s f) v b.moment b.between.name (form_inside b.between)) h.same
-    ∙ ap (λ m. form (past s f) w m b.between.name (form_inside b.between)) h.moment
-    ∙ ap₂ (λ y i. form (past s f) w (moment_name w.name.now w.number) y i) h.name h.tree
+-- and passed
+pair_behind : (word : Paired) (s : Around) (o : Operator) (f g : TenseForm) → past (past (past_one s o.place) f) g ≡ past s (paired_form word o f g)
+pair_behind since_word s o f g = ap (λ (n : Numbers). record s { numbers = n }) (sym (behind_append (behind_one s.numbers o.place) (operators f) (operators g)))
+pair_behind until_word s o f g = ap (λ (n : Numbers). record s { numbers = n }) (sym (behind_append (behind_one s.numbers o.place) (operators f) (operators g)))
 
--- ---- an operator that is met
-
--- what an operator with its number stands for is what it stands for where it is the next
-module _ (s t : Around) (p : Place) (o v : Operator) (i : ℕ) (behind : t ≡ past_one s p) (same : v ≡ o) (number : i ≡ next_number s.numbers p) (there : o.place ≡ p) where
-  numbered : {A : Type 0} (form : Around → Operator → ℕ → A) → form t v i ≡ form (past_one s o.place) o (next_number s.numbers o.place)
-  numbered form =
-      ap (λ a. form a v i) (behind ∙ ap (past_one s) (sym there)) ∙ ap (λ w. form (past_one s o.place) w i) same
-      ∙ ap (form (past_one s o.place) o) (number ∙ ap (next_number s.numbers) (sym there))
-
-  pub once_met : (from to low high : ℤ) (f : TenseForm) → low ≡ from → high ≡ to → once_numbered t v i low high f ≡ expanded_in s (once o from to f)
-  once_met from to low high f l h = ap₂ (λ x y. once_numbered t v i x y f) l h ∙ numbered (λ a w k. once_numbered a w k from to f)
-
-  pub always_met : (from to low high : ℤ) (f : TenseForm) → low ≡ from → high ≡ to → always_numbered t v i low high f ≡ expanded_in s (always o from to f)
-  always_met from to low high f l h = ap₂ (λ x y. always_numbered t v i x y f) l h ∙ numbered (λ a w k. always_numbered a w k from to f)
-
-  pub since_met : (f g : TenseForm) → since_numbered t v i f g ≡ expanded_in s (since o f g)
-  since_met f g = numbered (λ a w k. since_numbered a w k f g)
-
-  pub until_met : (f g : TenseForm) → until_numbered t v i f g ≡ expanded_in s (until o f g)
-  until_met f g = numbered (λ a w k. until_numbered a w k f g)
-
-  -- behind it and its formulas
-  met_past : past_one s p ≡ past_one s o.place
-  met_past = ap (past_one s) (sym there)
-
-  pub once_past : (u : Around) (from to : ℤ) (f : TenseForm) → u ≡ past t f → u ≡ past s (once o from to f)
-  once_past u from to f h = h ∙ ap (λ a. past a f) (behind ∙ met_past)
-
-  pub always_past : (u : Around) (from to : ℤ) (f : TenseForm) → u ≡ past t f → u ≡ past s (always o from to f)
-  always_past u from to f h = h ∙ ap (λ a. past a f) (behind ∙ met_past)
-
-  both_past : (u w : Around) (f g : TenseForm) → w ≡ past t f → u ≡ past w g → u ≡ record s { numbers = behind_all (behind_one s.numbers o.place) (operators f ++ operators g) }
-  both_past u w f g e h =
-      h ∙ ap (λ a. past a g) (e ∙ ap (λ a. past a f) (behind ∙ met_past))
-      ∙ ap (λ (n : Numbers). record s { numbers = n }) (sym (behind_append (behind_one s.numbers o.place) (operators f) (operators g)))
-
-  pub since_past : (u w : Around) (f g : TenseForm) → w ≡ past t f → u ≡ past w g → u ≡ past s (since o f g)
-  since_past u w f g e h = both_past u w f g e h
-
-  pub until_past : (u w : Around) (f g : TenseForm) → w ≡ past t f → u ≡ past w g → u ≡ past s (until o f g)
-  until_past u w f g e h = both_past u w f g e h
+pub pair_past : (s t u : Around) (p : Pair) (f g : TenseForm) → t ≡ past (past_one s p.at.places.place) f → u ≡ past t g → u ≡ past s (pair_of p f g)
+pair_past s t u p f g e h = h ∙ ap (λ a. past a g) e ∙ pair_behind p.word s (operator_of p.at) f g

@@ -1,47 +1,38 @@
 -- The query with operators of a text, and the fault of one that is none.
-use Rattle.std.proofs.Common.{◌≡◌, ◌<◌, ℕ, List, [], ap, ◌∙◌, sym, Ok, Err, Result, IfOk, IfErr, length}
-use Rattle.std.specs.Str.{IsUtf8}
-use Rattle.lrp_model.specs.declared.tokens.Place.{Place}
-use Rattle.lrp_model.specs.declared.tokens.Fault.{Fault as TokenFault}
+use Rattle.std.proofs.Common.{◌≡◌, ℕ, List, ap, ◌∙◌, sym, Ok, Err, Result, IfOk, IfErr}
 use Rattle.lrp_model.specs.declared.faults.QueryFault.{QueryFault}
 use Rattle.lrp_model.specs.declared.faults.QueryRead.{QueryRead}
 use Rattle.lrp_model.specs.declared.faults.QueryRead.TheVariants.{Fault, Memory}
-use Rattle.lrp_model.specs.Tokens.{Tokens}
 use Rattle.lrp_model.specs.Lexing.{tokens}
-use Rattle.lrp_text.specs.Sources.{Stands}
-use Rattle.lrp_text.specs.declared.lexemes.Lexeme.{Lexeme}
-use Rattle.lrp_query.specs.Reading.{refusal_of}
+use Rattle.lrp_query.specs.Grammars.{query_made, IsTextRead, IsTextUnread}
 use Rattle.lrp_model.specs.Outcomes.{IsFaultOrMemory}
-use Rattle.lrp_query.specs.Refusals.{IsUnreadOf}
 use Rattle.lrp_query.proofs.QueryRules.{one_tree}
-use Rattle.lrp_query.proofs.TextLaws.{IsTextOf, query_read as text_read, text_refused as text_unread, no_fault as no_text_fault}
+use Rattle.lrp_query.proofs.TextLaws.{IsTextOf, query_read as text_read, text_unread, no_fault as no_text_fault}
 use Rattle.lrp_query.proofs.OneFault.{fault_once}
 use Rattle.lrp_tense.specs.declared.tree.TenseQuery.{TenseQuery}
 use Rattle.lrp_tense.specs.Trees.{TenseQuestion, tense_question_of}
 use Rattle.lrp_tense.specs.TenseQueries.{WrittenTenseQuery}
 use Rattle.lrp_tense.specs.TenseReading.{tense_question, TenseTexts, IsTenseText, IsTenseQuery, IsTenseQueryFault}
-use Rattle.lrp_tense.specs.Reading.{ReadsTenseQuery, IsTenseUnread, IsTenseOrMemory}
-use Rattle.lrp_tense.specs.Rules.{tense_query}
+use Rattle.lrp_tense.specs.Reading.{IsTenseUnread, IsTenseOrMemory}
+use Rattle.lrp_tense.specs.Rules.{tense_making}
 use Rattle.lrp_tense.proofs.TenseGrammar.{tense_grammar}
 use Rattle.lrp_tense.proofs.TenseReader.{tense_reader}
 use Rattle.lrp_tense.proofs.TenseMeant.{query_meant}
-
-unread_out : (bytes : List ℕ) (r : QueryRead) → IsUnreadOf TenseTexts bytes r → IsTenseUnread bytes r
-unread_out bytes (Fault f) u = u
-unread_out bytes Memory u = u
 
 text_in : (bytes : List ℕ) (tree : WrittenTenseQuery) → IsTenseText bytes tree → IsTextOf tense_grammar bytes tree
 text_in bytes tree t = record { utf8 = t.utf8; spelled = t.spelled; lawful = t.lawful }
 
 -- what was read is the query of the text
-pub query_read : (bytes : List ℕ) (ts : Tokens) (r : TenseQuestion) → ts ≡ tokens bytes → IsUtf8 bytes → ((n : ℕ) → length ts < n → tense_query n ts ≡ Ok (r, [])) → IsTenseQuery bytes r
-query_read bytes ts r e utf8 reads =
-    let k = text_read tense_grammar tense_reader tense_question tense_query query_meant bytes ts r e utf8 reads in
+pub query_read : (bytes : List ℕ) (r : Result TenseQuery QueryRead) → IfOk r (λ q. IsTextRead (query_made tense_making) bytes (tense_question_of q)) → IfOk r (λ q. IsTenseQuery bytes (tense_question_of q))
+query_read bytes (Ok q) t =
+    let k = text_read tense_grammar tense_reader tense_question (query_made tense_making) query_meant bytes (tense_question_of q) t in
     record { tree = k.0; text = record { utf8 = k.1.utf8; spelled = k.1.spelled; lawful = k.1.lawful }; meant = k.2 }
+query_read bytes (Err e) t = t
 
--- what was met while a text was read is its fault
-pub text_refused : (bytes : List ℕ) (ts us : Tokens) (k : TokenFault) (l : Lexeme) (slice : List ℕ) (place : Place) → ts ≡ tokens bytes → IsUtf8 bytes → Stands us l slice place → ((n : ℕ) → length ts < n → ReadsTenseQuery (tense_query n ts) (Err k) us) → IsTenseUnread bytes (refusal_of k place)
-text_refused bytes ts us k l slice place e utf8 s reads = unread_out bytes (refusal_of k place) (text_unread tense_grammar tense_reader tense_question tense_query query_meant bytes ts us k l slice place e utf8 s reads)
+-- and why nothing was read is its fault
+pub query_unread : (bytes : List ℕ) (r : Result TenseQuery QueryRead) → IfErr r (IsTextUnread (query_made tense_making) bytes) → IfErr r (IsTenseUnread bytes)
+query_unread bytes (Ok q) u = u
+query_unread bytes (Err e) u = text_unread tense_grammar tense_reader tense_question (query_made tense_making) query_meant bytes e u
 
 -- a text has one query
 pub one_query : (bytes : List ℕ) (q r : TenseQuestion) → IsTenseQuery bytes q → IsTenseQuery bytes r → q ≡ r

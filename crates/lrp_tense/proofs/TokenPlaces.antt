@@ -7,7 +7,8 @@ use Rattle.lrp_model.specs.declared.tokens.Symbol.TheVariants.{Open, Close, Open
 use Rattle.lrp_model.specs.Texts.{Identifier}
 use Rattle.lrp_model.specs.Tokens.{Token, Placed, Tokens}
 use Rattle.lrp_model.specs.Tokens.Token.{name_token, word_token, number_token, text_token, symbol_token, end_token, bad_token, hole_token}
-use Rattle.lrp_model.specs.Lexing.{Scanned, QuotedText as TextRead, scan, run, is_letter, is_blank, is_name_byte, value_from, word_or_name, one, one_or_two, symbol_from, text_from, text_scanned, skip, after, moved, headed, tokens_from, tokens, start}
+use Rattle.std.specs.Str.Parse.{digits_value}
+use Rattle.lrp_model.specs.Lexing.{Scanned, QuotedText as TextRead, scan, run, is_letter, is_blank, is_name_byte, word_or_name, one, one_or_two, symbol_from, text_from, text_scanned, skip, after, moved, headed, tokens_from, tokens, start}
 use Rattle.std.specs.Char.{is_ascii_digit}
 use Rattle.lrp_model.specs.Names.{IsName}
 use Rattle.lrp_text.specs.Sources.{GoesOn}
@@ -149,7 +150,7 @@ scan_bytes [] = tt
 scan_bytes (b ∷ bs) =
     let P : Scanned → Type 0 = λ s. HasBytes s.token s.taken in
     chosen P (is_letter b) _ _ (λ e. run_bytes is_name_byte (word_or_name (run is_name_byte (b ∷ bs))) b bs (ap (λ c. c || is_ascii_digit b) e)) (λ n.
-    chosen P (is_ascii_digit b) _ _ (λ e. run_bytes is_ascii_digit (number_token (value_from 0 (run is_ascii_digit (b ∷ bs)))) b bs e) (λ m.
+    chosen P (is_ascii_digit b) _ _ (λ e. run_bytes is_ascii_digit (number_token (digits_value 10 (run is_ascii_digit (b ∷ bs)))) b bs e) (λ m.
     chosen P (b == 34) (text_scanned (text_from false bs)) (symbol_from b bs) (λ e. text_bytes (text_from false bs)) (λ o. symbol_bytes b bs)))
 
 -- each place stands before all that follow

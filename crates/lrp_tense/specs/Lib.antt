@@ -8,10 +8,10 @@ pub mod TenseReading
 -- What contracts of single functions need beside.
 pub mod Lawful
 pub mod Rules
-pub mod Parts
 pub mod Reading
 pub mod Named
 pub mod Counting
 pub mod Written
 pub mod Numbers
 pub mod Scopes
+pub mod Begun

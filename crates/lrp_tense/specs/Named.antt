@@ -1,5 +1,5 @@
 -- What the program keeps of the variables around a formula.
-use Rattle.std.specs.Prelude.{◌-◌, ℕ, List, length, slice_index_or, reverse}
+use Rattle.std.specs.Prelude.{◌-◌, List, length, slice_index_or, reverse}
 use Rattle.lrp_model.specs.Texts.{Identifier}
 use Rattle.lrp_tense.specs.declared.variables.Look.{Look}
 use Rattle.lrp_tense.specs.Expanding.{Naming, Renaming}

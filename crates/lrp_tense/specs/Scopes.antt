@@ -1,10 +1,14 @@
 -- What surrounds a formula while the program expands it.
-use Rattle.std.specs.Prelude.{ℕ, ℤ, ◌∷◌}
+use Rattle.std.specs.Prelude.{ℤ, ◌∷◌}
 use Rattle.lrp_model.specs.Texts.{Identifier}
 use Rattle.lrp_model.specs.RawQueries.{RawForm, RawForms}
 use Rattle.lrp_model.specs.declared.tokens.Place.{Place}
+use Rattle.lrp_tense.specs.declared.words.Ranged.{Ranged}
+use Rattle.lrp_tense.specs.declared.words.Ranged.TheVariants.{Once, Always}
+use Rattle.lrp_tense.specs.declared.words.Paired.{Paired}
+use Rattle.lrp_tense.specs.declared.words.Paired.TheVariants.{Since, Until}
 use Rattle.lrp_tense.specs.Trees.{Operator, TenseForm, TenseForms}
-use Rattle.lrp_tense.specs.Expanding.{Naming, renamed_to, operators, operators_each, present_name, moment_name, between_name, once_form, always_form, since_form, until_form}
+use Rattle.lrp_tense.specs.Expanding.{Naming, renamed_to, operators, operators_each, once_form, always_form, since_form, until_form}
 use Rattle.lrp_tense.specs.Numbers.{Numbers, behind_one, behind_all, expanded_from, each_from}
 
 -- how operators are numbered, and the variables around the formula, the innermost first
@@ -33,23 +37,11 @@ expanded_in a f = expanded_from f a.numbers a.names
 abbrev pub each_in : Around → TenseForms → RawForms
 each_in a fs = each_from fs a.numbers a.names
 
--- a formula inside the moment of an operator of this number
-abbrev pub at_moment : Around → Operator → ℕ → TenseForm → RawForm
-at_moment a o i f = expanded_in (within a o.name (moment_name o.name i)) f
+-- what an operator with an interval stands for, and one over two formulas
+abbrev pub form_of_range : Ranged → Operator → Identifier → Identifier → ℤ → ℤ → RawForm → RawForm
+form_of_range Once = once_form
+form_of_range Always = always_form
 
--- what an operator of this number stands for
-abbrev pub once_numbered : Around → Operator → ℕ → ℤ → ℤ → TenseForm → RawForm
-once_numbered a o i from to f = once_form o (moment_name o.name i) (present_name a.names o.name) from to (at_moment a o i f)
-
-abbrev pub always_numbered : Around → Operator → ℕ → ℤ → ℤ → TenseForm → RawForm
-always_numbered a o i from to f = always_form o (moment_name o.name i) (present_name a.names o.name) from to (at_moment a o i f)
-
-abbrev pub since_numbered : Around → Operator → ℕ → TenseForm → TenseForm → RawForm
-since_numbered a o i f g =
-    since_form o (moment_name o.name i) (between_name o.name i) (present_name a.names o.name)
-    (expanded_in (within a o.name (between_name o.name i)) f) (at_moment (past a f) o i g)
-
-abbrev pub until_numbered : Around → Operator → ℕ → TenseForm → TenseForm → RawForm
-until_numbered a o i f g =
-    until_form o (moment_name o.name i) (between_name o.name i) (present_name a.names o.name)
-    (expanded_in (within a o.name (between_name o.name i)) f) (at_moment (past a f) o i g)
+abbrev pub form_of_pair : Paired → Operator → Identifier → Identifier → Identifier → RawForm → RawForm → RawForm
+form_of_pair Since = since_form
+form_of_pair Until = until_form

@@ -7,7 +7,7 @@ use Rattle.lrp_model.specs.Lexing.{tokens}
 use Rattle.lrp_model.specs.Refused.{TextOf}
 use Rattle.lrp_model.specs.DatabaseMeaning.{integer_of}
 use Rattle.lrp_model.specs.QueryMeaning.{raw_term}
-use Rattle.lrp_query.specs.Refusals.{IsTextFault}
+use Rattle.lrp_model.specs.TextFaults.{IsTextFault}
 use Rattle.lrp_tense.specs.Trees.{TenseForm, TenseForms, TenseQuestion, tense_atom, tense_compare, tense_member, tense_not, tense_and, tense_or, tense_implies, tense_group, tense_exists, tense_forall, once, always, since, until, no_tenses, tense}
 use Rattle.lrp_tense.specs.TenseQueries.{WrittenTense, FurtherTenses, WrittenTenseQuery, tense_query_text, FitsTenseQuery}
 use Rattle.lrp_tense.specs.TenseQueries.WrittenTense.{atom, compared, member, denied, all_of, any_of, implied, group, some, every, once_in, always_in, since_when, until_when, hole}

@@ -1,20 +1,69 @@
 -- The operators of the program, and what they stand for.
-use Rattle.std.specs.Prelude.{ℤ}
+use Rattle.std.specs.Prelude.{ℤ, Option, Some, None}
 use Rattle.lrp_model.specs.Texts.{Identifier}
-use Rattle.lrp_model.specs.RawQueries.{RawForm, raw_form_of, raw_forall}
-use Rattle.lrp_tense.specs.Trees.{Operator, operator_at}
-use Rattle.lrp_tense.specs.Expanding.{time_binder, once_form, always_form, since_form, until_form}
+use Rattle.lrp_model.specs.RawQueries.{RawForm, RawForms, raw_form_of, raw_compare, raw_and, raw_or, raw_exists, raw_forall}
+use Rattle.lrp_model.specs.declared.tokens.Place.{Place}
+use Rattle.lrp_model.specs.declared.raw.RawColumn.{RawColumn}
+use Rattle.lrp_model.specs.declared.raw.RawTerm.{RawTerm}
+use Rattle.lrp_model.specs.declared.raw.RawTermKind.{RawTermKind}
+use Rattle.lrp_model.specs.declared.raw.RawTermKind.TheVariants.{Var, Shifted}
+use Rattle.lrp_tense.specs.Trees.{Operator, TenseForm, operator_at}
+use Rattle.lrp_tense.specs.Rules.{ranged_form, paired_form}
+use Rattle.lrp_tense.specs.Expanding.{time_binder, name_term}
+use Rattle.lrp_tense.specs.Scopes.{form_of_range, form_of_pair}
+use Rattle.lrp_tense.specs.declared.words.Ranged.{Ranged}
+use Rattle.lrp_tense.specs.declared.words.Paired.{Paired}
 use Rattle.lrp_tense.specs.declared.expansion.Operator.{Operator as WrittenOperator}
+use Rattle.lrp_tense.specs.declared.expansion.Range.{Range}
+use Rattle.lrp_tense.specs.declared.expansion.Pair.{Pair}
 use Rattle.lrp_tense.specs.declared.written_out.Places.{Places}
 use Rattle.lrp_tense.specs.declared.written_out.Inside.{Inside}
+use Rattle.lrp_tense.specs.declared.written_out.Bound.{Bound}
+use Rattle.lrp_tense.specs.declared.written_out.Connective.{Connective}
+use Rattle.lrp_tense.specs.declared.written_out.Connective.TheVariants.{And, Or}
+use Rattle.lrp_tense.specs.declared.written_out.Quantifier.{Quantifier}
+use Rattle.lrp_tense.specs.declared.written_out.Quantifier.TheVariants.{Exists, Forall}
+
+-- ---- connectives and quantifiers
+
+abbrev pub joined_form : Connective → Place → RawForms → RawForm
+joined_form And = raw_and
+joined_form Or = raw_or
+
+abbrev pub quantified_form : Quantifier → Place → RawColumn → RawForm → RawForm
+quantified_form Exists = raw_exists
+quantified_form Forall = raw_forall
+
+-- ---- operators of the program
 
 -- an operator at these places, where its variable has this name
 abbrev pub operator_there : Places → Identifier → Operator
 operator_there p v = operator_at p.place v p.name_place
 
--- an operator of the program
 abbrev pub operator_of : WrittenOperator → Operator
 operator_of o = operator_there o.places o.name.now
+
+-- the formula that one with an interval makes of a formula, and one over two formulas of these
+abbrev pub range_of : Range → TenseForm → TenseForm
+range_of r f = ranged_form r.word (operator_of r.at) r.from r.to f
+
+abbrev pub pair_of : Pair → TenseForm → TenseForm → TenseForm
+pair_of p f g = paired_form p.word (operator_of p.at) f g
+
+-- ---- what they stand for
+
+-- a variable, or one plus a number
+abbrev pub variable_plus : Identifier → Option ℤ → RawTermKind
+variable_plus n None = Var n
+variable_plus n (Some plus) = Shifted n plus
+
+-- the term that is compared with
+abbrev pub term_of_bound : Bound → RawTerm
+term_of_bound b = record { kind = variable_plus b.name.now b.plus; place = b.place }
+
+-- x is within the bound
+abbrev pub bounded : Places → Identifier → Bound → RawForm
+bounded p x b = raw_compare p.place (name_term p.place x) b.op (term_of_bound b)
 
 -- the formula that stands inside a variable
 abbrev pub form_inside : Inside → RawForm
@@ -25,14 +74,8 @@ abbrev pub each_there : Places → Inside → RawForm
 each_there p i = raw_forall p.place (time_binder p.place i.name) (form_inside i)
 
 -- what operators at these places stand for, where their variable is v: of the formula inside their moment, and of the one inside each moment between
-abbrev pub once_at : Places → Identifier → ℤ → ℤ → Inside → RawForm
-once_at p v from to i = once_form (operator_there p v) i.name v from to (form_inside i)
+abbrev pub range_at : Ranged → Places → Identifier → ℤ → ℤ → Inside → RawForm
+range_at word p v from to i = form_of_range word (operator_there p v) i.name v from to (form_inside i)
 
-abbrev pub always_at : Places → Identifier → ℤ → ℤ → Inside → RawForm
-always_at p v from to i = always_form (operator_there p v) i.name v from to (form_inside i)
-
-abbrev pub since_at : Places → Identifier → Inside → Inside → RawForm
-since_at p v b i = since_form (operator_there p v) i.name b.name v (form_inside b) (form_inside i)
-
-abbrev pub until_at : Places → Identifier → Inside → Inside → RawForm
-until_at p v b i = until_form (operator_there p v) i.name b.name v (form_inside b) (form_inside i)
+abbrev pub pair_at : Paired → Places → Identifier → Inside → Inside → RawForm
+pair_at word p v b i = form_of_pair word (operator_there p v) i.name b.name v (form_inside b) (form_inside i)

@@ -1,38 +1,62 @@
 // The query without operators that stands for one with them: each operator is written out by quantifiers over time.
 ghost use Rattle.std.specs.Prelude.{◌≡◌, ◌<◌, ◌^◌, [], length, IfOk, OnOk};
-ghost use Rattle.lrp_model.specs.RawQueries.{raw_form_of, raw_forms_of, raw_question_of, raw_and, raw_or, raw_not, raw_group, raw_exists, raw_forall, raw_implies};
+ghost use Rattle.lrp_model.specs.RawQueries.{raw_form_of, raw_forms_of, raw_question_of, raw_not, raw_group, raw_implies};
 ghost use Rattle.lrp_tense.specs.Trees.{operator_at, tense_form_of, tense_forms_of, tense_question_of};
-ghost use Rattle.lrp_tense.specs.Expanding.{IsExpandable, operators, number_of, expanded, expanded_question, moment_name, between_name, since_form, until_form, present_name};
+ghost use Rattle.lrp_tense.specs.Expanding.{IsExpandable, operators, number_of, expanded, expanded_question};
 ghost use Rattle.lrp_tense.specs.Counting.{ArePositions};
 ghost use Rattle.lrp_tense.specs.Laws.{KeepsMeaning};
-ghost use Rattle.lrp_tense.specs.Written.{operator_of, form_inside};
-ghost use Rattle.lrp_tense.specs.Numbers.{met, expanded_from, next_number};
-ghost use Rattle.lrp_tense.specs.Scopes.{expanded_in, each_in, past, past_one, past_each, within, at_moment, once_numbered, always_numbered};
+ghost use Rattle.lrp_tense.specs.Written.{operator_of, form_inside, joined_form, quantified_form, range_of};
+ghost use Rattle.lrp_tense.specs.Numbers.{met, expanded_from};
+ghost use Rattle.lrp_tense.specs.Scopes.{expanded_in, each_in, past, past_one, past_each, within};
+ghost use Rattle.lrp_tense.specs.Begun.{IsBegun, pair_begun};
 
 use crate::counting::{is_ascending, positions_of};
 use crate::renaming::{atom, comparison, membership};
 use crate::scope::{Moments, Scope};
+use crate::words::{Paired, Ranged};
 use crate::written_out::{
-    Inside, Places, boxed, conjunction, denied, disjunction, every, grouped, implied, some,
+    Connective, Inside, Places, Quantifier, boxed, denied, grouped, implied, joined, quantified,
 };
 use crate::{TenseFormula, TenseKind, TenseQuery};
 use lrp_model::{Copies, Memory, Name, Place, RawColumn, RawFormula, RawQuery};
 use std::alloc::Global;
 
-/// An operator as it is written: its number, where it stands, and its variable.
+/// An operator as it is written: where it stands, and its variable.
 #[derive(Clone, Copy)]
 pub struct Operator<'a> {
-    pub number: u64,
     pub places: Places,
     pub name: &'a Name,
 }
 
-/// An operator over two formulas whose first is expanded, and the name of its moment.
-#[derive(Drop)]
-pub struct Begun<'a> {
+/// An operator with an interval: which one, and the ends of that.
+#[derive(Clone, Copy)]
+pub struct Range<'a> {
     pub at: Operator<'a>,
+    pub word: Ranged,
+    pub from: i64,
+    pub to: i64,
+}
+
+/// An operator over two formulas: which one.
+#[derive(Clone, Copy)]
+pub struct Pair<'a> {
+    pub at: Operator<'a>,
+    pub word: Paired,
+}
+
+/// The name of an operator's moment, and its first formula inside its variable for each moment between.
+#[derive(Drop)]
+pub struct Begun {
     pub moment: Name,
     pub between: Inside,
+}
+
+// A quantifier as it is written: where it stands, which one it is, and its variable.
+#[derive(Clone, Copy)]
+struct Binding<'a> {
+    place: Place,
+    quantifier: Quantifier,
+    binder: &'a RawColumn,
 }
 
 // A formula expanded with its operators counted as they are met, and their positions.
@@ -102,26 +126,6 @@ fn expand_ranking(
     expand_formula(alloc, &mut scope, f)
 }
 
-// An operator with its number.
-fn operator_with<'a>(
-    scope: &mut Scope<'_>,
-    place: Place,
-    name: &'a Name,
-    name_place: Place,
-) -> Result<Operator<'a>, Memory>
-    ensures operator { IfOk result (λ made. operator_of made
-        ≡ operator_at place name.now name_place) }
-    ensures number { IfOk result (λ made. made.number ≡ next_number scope.old.numbers place) }
-    ensures scope { OnOk result (scope.new ≡ past_one scope.old place) }
-{
-    let number = scope.number(place)?;
-    Ok(Operator {
-        number,
-        places: Places { place, name_place },
-        name,
-    })
-}
-
 // A column whose name is given.
 fn renamed_column(alloc: Global, column: &RawColumn, name: Name) -> Result<RawColumn, Memory>
     ensures { IfOk result (λ made. made ≡ record column.now { name = name }) }
@@ -158,15 +162,31 @@ fn expand_formula<'a>(
         }
         TenseKind::Member { term, point } => membership(alloc, scope, place, term, *point),
         TenseKind::Not { of } => expand_negation(alloc, scope, place, of),
-        TenseKind::And { of } => expand_conjunction(alloc, scope, place, of),
-        TenseKind::Or { of } => expand_disjunction(alloc, scope, place, of),
+        TenseKind::And { of } => expand_joined(alloc, scope, place, Connective::And, of),
+        TenseKind::Or { of } => expand_joined(alloc, scope, place, Connective::Or, of),
         TenseKind::Implies { left, right } => {
             let left = expand_formula(alloc, scope, left)?;
             expand_implication(alloc, scope, place, right, left)
         }
         TenseKind::Group { of } => expand_group(alloc, scope, place, of),
-        TenseKind::Exists { binder, of } => expand_existential(alloc, scope, place, binder, of),
-        TenseKind::Forall { binder, of } => expand_universal(alloc, scope, place, binder, of),
+        TenseKind::Exists { binder, of } => {
+            let quantifier = Quantifier::Exists;
+            let at = Binding {
+                place,
+                quantifier,
+                binder,
+            };
+            expand_quantified(alloc, scope, at, of)
+        }
+        TenseKind::Forall { binder, of } => {
+            let quantifier = Quantifier::Forall;
+            let at = Binding {
+                place,
+                quantifier,
+                binder,
+            };
+            expand_quantified(alloc, scope, at, of)
+        }
         TenseKind::Once {
             name,
             name_place,
@@ -174,8 +194,14 @@ fn expand_formula<'a>(
             to,
             of,
         } => {
-            let at = operator_with(scope, place, name, *name_place)?;
-            expand_once(alloc, scope, at, (*from, *to), of)
+            let at = written(place, name, *name_place);
+            let range = Range {
+                at,
+                word: Ranged::Once,
+                from: *from,
+                to: *to,
+            };
+            expand_ranged(alloc, scope, range, of)
         }
         TenseKind::Always {
             name,
@@ -184,8 +210,14 @@ fn expand_formula<'a>(
             to,
             of,
         } => {
-            let at = operator_with(scope, place, name, *name_place)?;
-            expand_always(alloc, scope, at, (*from, *to), of)
+            let at = written(place, name, *name_place);
+            let range = Range {
+                at,
+                word: Ranged::Always,
+                from: *from,
+                to: *to,
+            };
+            expand_ranged(alloc, scope, range, of)
         }
         TenseKind::Since {
             name,
@@ -193,9 +225,11 @@ fn expand_formula<'a>(
             left,
             right,
         } => {
-            let at = operator_with(scope, place, name, *name_place)?;
-            let begun = expand_between(alloc, scope, at, left)?;
-            expand_since(alloc, scope, begun, right)
+            let at = written(place, name, *name_place);
+            let word = Paired::Since;
+            let pair = Pair { at, word };
+            let begun = expand_between(alloc, scope, pair, left)?;
+            expand_paired(alloc, scope, pair, begun, right)
         }
         TenseKind::Until {
             name,
@@ -203,11 +237,20 @@ fn expand_formula<'a>(
             left,
             right,
         } => {
-            let at = operator_with(scope, place, name, *name_place)?;
-            let begun = expand_between(alloc, scope, at, left)?;
-            expand_until(alloc, scope, begun, right)
+            let at = written(place, name, *name_place);
+            let word = Paired::Until;
+            let pair = Pair { at, word };
+            let begun = expand_between(alloc, scope, pair, left)?;
+            expand_paired(alloc, scope, pair, begun, right)
         }
     }
+}
+
+fn written(place: Place, name: &Name, name_place: Place) -> Operator<'_>
+    ensures { operator_of result ≡ operator_at place name.now name_place }
+{
+    let places = Places { place, name_place };
+    Operator { places, name }
 }
 
 #[cycle(expanding)]
@@ -259,33 +302,19 @@ fn expand_implication<'a>(
 }
 
 #[cycle(expanding)]
-fn expand_conjunction<'a>(
+fn expand_joined<'a>(
     alloc: Global,
     scope: &mut Scope<'a>,
     place: Place,
+    connective: Connective,
     of: &'a [TenseFormula],
 ) -> Result<Box<RawFormula>, Memory>
     ensures tree { IfOk result (λ made. raw_form_of made.value
-        ≡ raw_and place (each_in scope.old (tense_forms_of of.now))) }
+        ≡ joined_form connective place (each_in scope.old (tense_forms_of of.now))) }
     ensures scope { OnOk result (scope.new ≡ past_each scope.old (tense_forms_of of.now)) }
 {
     let of = expand_each(alloc, scope, of)?;
-    conjunction(alloc, place, of)
-}
-
-#[cycle(expanding)]
-fn expand_disjunction<'a>(
-    alloc: Global,
-    scope: &mut Scope<'a>,
-    place: Place,
-    of: &'a [TenseFormula],
-) -> Result<Box<RawFormula>, Memory>
-    ensures tree { IfOk result (λ made. raw_form_of made.value
-        ≡ raw_or place (each_in scope.old (tense_forms_of of.now))) }
-    ensures scope { OnOk result (scope.new ≡ past_each scope.old (tense_forms_of of.now)) }
-{
-    let of = expand_each(alloc, scope, of)?;
-    disjunction(alloc, place, of)
+    joined(alloc, place, connective, of)
 }
 
 #[cycle(expanding)]
@@ -308,41 +337,24 @@ fn expand_each<'a>(
 }
 
 #[cycle(expanding)]
-fn expand_existential<'a>(
+fn expand_quantified<'a>(
     alloc: Global,
     scope: &mut Scope<'a>,
-    place: Place,
-    binder: &'a RawColumn,
+    at: Binding<'a>,
     of: &'a TenseFormula,
 ) -> Result<Box<RawFormula>, Memory>
     ensures tree { IfOk result (λ made. raw_form_of made.value
-        ≡ raw_exists place binder.now (expanded_in
-        (within scope.old binder.now.name binder.now.name) (tense_form_of of.now))) }
+        ≡ quantified_form at.entry.quantifier at.entry.place at.entry.binder.now (expanded_in
+        (within scope.old at.entry.binder.now.name at.entry.binder.now.name)
+        (tense_form_of of.now))) }
     ensures scope { OnOk result (scope.new ≡ past scope.old (tense_form_of of.now)) }
 {
-    let same = binder.name.copy(alloc)?;
-    let inside = expand_inside(alloc, scope, &binder.name, same, of)?;
+    let written = &at.binder.name;
+    let same = written.copy(alloc)?;
+    let inside = expand_inside(alloc, scope, written, same, of)?;
     let Inside { name, of } = inside;
-    some(alloc, place, renamed_column(alloc, binder, name)?, of)
-}
-
-#[cycle(expanding)]
-fn expand_universal<'a>(
-    alloc: Global,
-    scope: &mut Scope<'a>,
-    place: Place,
-    binder: &'a RawColumn,
-    of: &'a TenseFormula,
-) -> Result<Box<RawFormula>, Memory>
-    ensures tree { IfOk result (λ made. raw_form_of made.value
-        ≡ raw_forall place binder.now (expanded_in
-        (within scope.old binder.now.name binder.now.name) (tense_form_of of.now))) }
-    ensures scope { OnOk result (scope.new ≡ past scope.old (tense_form_of of.now)) }
-{
-    let same = binder.name.copy(alloc)?;
-    let inside = expand_inside(alloc, scope, &binder.name, same, of)?;
-    let Inside { name, of } = inside;
-    every(alloc, place, renamed_column(alloc, binder, name)?, of)
+    let binder = renamed_column(alloc, at.binder, name)?;
+    quantified(alloc, at.place, at.quantifier, binder, of)
 }
 
 // The formula inside one variable more.
@@ -365,22 +377,29 @@ fn expand_inside<'a>(
     Ok(Inside { name, of })
 }
 
-// An operator's formula at its moment.
+// The formula of an operator with an interval stands inside its moment.
 #[cycle(expanding)]
-fn expand_at_moment<'a>(
+fn expand_ranged<'a>(
     alloc: Global,
     scope: &mut Scope<'a>,
-    at: Operator<'a>,
+    range: Range<'a>,
     of: &'a TenseFormula,
-) -> Result<Inside, Memory>
-    ensures name { IfOk result (λ made. made.name
-        ≡ moment_name at.entry.name.now at.entry.number) }
-    ensures tree { IfOk result (λ made. form_inside made
-        ≡ at_moment scope.old (operator_of at.entry) at.entry.number (tense_form_of of.now)) }
-    ensures scope { OnOk result (scope.new ≡ past scope.old (tense_form_of of.now)) }
+) -> Result<Box<RawFormula>, Memory>
+    ensures tree { IfOk result (λ made. raw_form_of made.value
+        ≡ expanded_in scope.old (range_of range.entry (tense_form_of of.now))) }
+    ensures scope { OnOk result (scope.new
+        ≡ past scope.old (range_of range.entry (tense_form_of of.now))) }
 {
-    let moment = scope.moment(alloc, at.name, at.number)?;
-    expand_inside(alloc, scope, at.name, moment, of)
+    let at = range.at;
+    let number = scope.number(at.places.place)?;
+    let moment = scope.moment(alloc, at.name, number)?;
+    let inside = expand_inside(alloc, scope, at.name, moment, of)?;
+    let now = scope.present(at.name);
+    let ends = (range.from, range.to);
+    match range.word {
+        Ranged::Once => at.places.once(alloc, now, ends, inside),
+        Ranged::Always => at.places.always(alloc, now, ends, inside),
+    }
 }
 
 // The first formula of an operator, inside its variable for each moment between.
@@ -388,113 +407,43 @@ fn expand_at_moment<'a>(
 fn expand_between<'a>(
     alloc: Global,
     scope: &mut Scope<'a>,
-    at: Operator<'a>,
+    pair: Pair<'a>,
     of: &'a TenseFormula,
-) -> Result<Begun<'a>, Memory>
-    ensures at { IfOk result (λ made. made.at ≡ at.entry) }
-    ensures moment { IfOk result (λ made. made.moment
-        ≡ moment_name at.entry.name.now at.entry.number) }
-    ensures name { IfOk result (λ made. made.between.name
-        ≡ between_name at.entry.name.now at.entry.number) }
-    ensures tree { IfOk result (λ made. form_inside made.between
-        ≡ expanded_in (within scope.old at.entry.name.now
-        (between_name at.entry.name.now at.entry.number)) (tense_form_of of.now)) }
-    ensures scope { OnOk result (scope.new ≡ past scope.old (tense_form_of of.now)) }
+) -> Result<Begun, Memory>
+    ensures begun { IfOk result (λ made. IsBegun scope.old pair.entry (tense_form_of of.now) made) }
+    ensures scope { OnOk result (scope.new
+        ≡ past (past_one scope.old pair.entry.at.places.place) (tense_form_of of.now)) }
 {
-    let names = scope.moments(alloc, at.name, at.number)?;
+    let number = scope.number(pair.at.places.place)?;
+    let written = pair.at.name;
+    let names = scope.moments(alloc, written, number)?;
     let Moments {
         own: moment,
         between,
     } = names;
-    let between = expand_inside(alloc, scope, at.name, between, of)?;
-    Ok(Begun {
-        at,
-        moment,
-        between,
-    })
+    let between = expand_inside(alloc, scope, written, between, of)?;
+    Ok(Begun { moment, between })
 }
 
+// The operator whose first formula is expanded; the second one stands inside its moment.
 #[cycle(expanding)]
-fn expand_once<'a>(
+fn expand_paired<'a>(
     alloc: Global,
     scope: &mut Scope<'a>,
-    at: Operator<'a>,
-    ends: (i64, i64),
+    pair: Pair<'a>,
+    begun: Begun,
     of: &'a TenseFormula,
 ) -> Result<Box<RawFormula>, Memory>
     ensures tree { IfOk result (λ made. raw_form_of made.value
-        ≡ once_numbered scope.old (operator_of at.entry) at.entry.number ends.0 ends.1
-        (tense_form_of of.now)) }
+        ≡ pair_begun scope.old pair.entry begun (tense_form_of of.now)) }
     ensures scope { OnOk result (scope.new ≡ past scope.old (tense_form_of of.now)) }
 {
-    let inside = expand_at_moment(alloc, scope, at, of)?;
-    at.places.once(alloc, scope.present(at.name), ends, inside)
-}
-
-#[cycle(expanding)]
-fn expand_always<'a>(
-    alloc: Global,
-    scope: &mut Scope<'a>,
-    at: Operator<'a>,
-    ends: (i64, i64),
-    of: &'a TenseFormula,
-) -> Result<Box<RawFormula>, Memory>
-    ensures tree { IfOk result (λ made. raw_form_of made.value
-        ≡ always_numbered scope.old (operator_of at.entry) at.entry.number ends.0 ends.1
-        (tense_form_of of.now)) }
-    ensures scope { OnOk result (scope.new ≡ past scope.old (tense_form_of of.now)) }
-{
-    let inside = expand_at_moment(alloc, scope, at, of)?;
-    at.places
-        .always(alloc, scope.present(at.name), ends, inside)
-}
-
-// The operator whose first formula is expanded.
-#[cycle(expanding)]
-fn expand_since<'a>(
-    alloc: Global,
-    scope: &mut Scope<'a>,
-    begun: Begun<'a>,
-    of: &'a TenseFormula,
-) -> Result<Box<RawFormula>, Memory>
-    ensures tree { IfOk result (λ made. raw_form_of made.value
-        ≡ since_form (operator_of begun.entry.at) begun.entry.moment begun.entry.between.name
-        (present_name scope.old.names begun.entry.at.name.now) (form_inside begun.entry.between)
-        (expanded_in (within scope.old begun.entry.at.name.now begun.entry.moment)
-        (tense_form_of of.now))) }
-    ensures scope { OnOk result (scope.new ≡ past scope.old (tense_form_of of.now)) }
-{
-    let Begun {
-        at,
-        moment,
-        between,
-    } = begun;
-    let inside = expand_inside(alloc, scope, at.name, moment, of)?;
-    at.places
-        .since(alloc, scope.present(at.name), between, inside)
-}
-
-// The same for the other direction.
-#[cycle(expanding)]
-fn expand_until<'a>(
-    alloc: Global,
-    scope: &mut Scope<'a>,
-    begun: Begun<'a>,
-    of: &'a TenseFormula,
-) -> Result<Box<RawFormula>, Memory>
-    ensures tree { IfOk result (λ made. raw_form_of made.value
-        ≡ until_form (operator_of begun.entry.at) begun.entry.moment begun.entry.between.name
-        (present_name scope.old.names begun.entry.at.name.now) (form_inside begun.entry.between)
-        (expanded_in (within scope.old begun.entry.at.name.now begun.entry.moment)
-        (tense_form_of of.now))) }
-    ensures scope { OnOk result (scope.new ≡ past scope.old (tense_form_of of.now)) }
-{
-    let Begun {
-        at,
-        moment,
-        between,
-    } = begun;
-    let inside = expand_inside(alloc, scope, at.name, moment, of)?;
-    at.places
-        .until(alloc, scope.present(at.name), between, inside)
+    let Begun { moment, between } = begun;
+    let inside = expand_inside(alloc, scope, pair.at.name, moment, of)?;
+    let now = scope.present(pair.at.name);
+    let places = &pair.at.places;
+    match pair.word {
+        Paired::Since => places.since(alloc, now, between, inside),
+        Paired::Until => places.until(alloc, now, between, inside),
+    }
 }

@@ -1,10 +1,9 @@
 //! Queries with temporal operators: what they mean, how they are read, and the query without operators that says the same.
 #![tactic(auto)]
 
-mod building;
 mod counting;
 mod expansion;
-mod formulas;
+mod grammar;
 mod laws;
 mod queries;
 mod renaming;
@@ -21,4 +20,4 @@ pub use laws::{
 };
 pub use queries::read_tense;
 pub use tree::{TenseFormula, TenseKind, TenseQuery};
-pub use words::{Leading, Paired, Ranged, word_of};
+pub use words::{Paired, Ranged};

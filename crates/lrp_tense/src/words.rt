@@ -3,6 +3,7 @@ ghost use Rattle.std.specs.Prelude.{◌≡◌};
 ghost use Rattle.lrp_tense.specs.Rules.{word_of as word_rule};
 
 use lrp_model::Name;
+use lrp_query::Leading;
 
 /// The operators with an interval.
 #[derive(Clone, Copy, PartialEq, Eq)]
@@ -18,15 +19,8 @@ pub enum Paired {
     Until,
 }
 
-/// An operator by its first word.
-#[derive(Clone, Copy, PartialEq, Eq)]
-pub enum Leading {
-    OfRange(Ranged),
-    OfPair(Paired),
-}
-
 /// The operator that a name begins where another name follows it.
-pub fn word_of(name: &Name) -> Option<Leading>
+pub fn word_of(name: &Name) -> Option<Leading<Ranged, Paired>>
     ensures { result ≡ word_rule name.now }
 {
     let word = name.as_bytes();

@@ -1,11 +1,12 @@
 // What each operator stands for, by quantifiers over time.
 //
 // A formula is moved as rarely as can be: it stands in a box as soon as it is made, and what can fail is done before its parts are put together.
-ghost use Rattle.std.specs.Prelude.{◌≡◌, ◌∷◌, [], IfOk};
-ghost use Rattle.lrp_model.specs.RawQueries.{raw_kind, raw_form_of, raw_forms_of, raw_and, raw_or, raw_not, raw_group, raw_exists, raw_forall, raw_implies, raw_compare};
-ghost use Rattle.lrp_model.specs.declared.formulas.Op.TheVariants.{Le, Lt, Ge, Gt};
-ghost use Rattle.lrp_tense.specs.Expanding.{time_binder as time_column, name_term, moved_term, beside as beside_variable, beside_end as beside_end_of, beside_moment as beside_own, between_form, all_three};
-ghost use Rattle.lrp_tense.specs.Written.{operator_there, form_inside, each_there, once_at, always_at, since_at, until_at};
+ghost use Rattle.std.specs.Prelude.{◌≡◌, IfOk};
+ghost use Rattle.lrp_model.specs.RawQueries.{raw_kind, raw_form_of, raw_forms_of, raw_and, raw_not, raw_group, raw_exists, raw_implies};
+ghost use Rattle.lrp_tense.specs.declared.words.Ranged.TheVariants.{Once, Always};
+ghost use Rattle.lrp_tense.specs.declared.words.Paired.TheVariants.{Since, Until};
+ghost use Rattle.lrp_tense.specs.Expanding.{time_binder as time_column, name_term, moved_term, both, all_three};
+ghost use Rattle.lrp_tense.specs.Written.{form_inside, each_there, term_of_bound, bounded, joined_form, quantified_form, range_at, pair_at};
 
 use lrp_model::{
     Memory, Name, Op, Place, RawColumn, RawFormula, RawKind, RawTerm, RawTermKind, Sort,
@@ -26,11 +27,33 @@ pub struct Inside {
     pub of: Box<RawFormula>,
 }
 
-// A name compared with another one.
+/// How several formulas are joined.
+#[derive(Clone, Copy)]
+pub enum Connective {
+    And,
+    Or,
+}
+
+/// Which quantifier.
+#[derive(Clone, Copy)]
+pub enum Quantifier {
+    Exists,
+    Forall,
+}
+
+/// What a variable is compared with: how, with which variable, and what is added to that.
+#[derive(Clone, Copy)]
+pub struct Bound<'a> {
+    pub op: Op,
+    pub name: &'a Name,
+    pub place: Place,
+    pub plus: Option<i64>,
+}
+
+// The names on both sides of a comparison.
 #[derive(Drop)]
 struct Sides {
     left: Name,
-    op: Op,
     right: Name,
 }
 
@@ -66,64 +89,34 @@ pub fn implied(
     boxed(alloc, place, RawKind::Implies { left, right })
 }
 
-pub fn some(
+pub fn quantified(
     alloc: Global,
     place: Place,
+    quantifier: Quantifier,
     binder: RawColumn,
     of: Box<RawFormula>,
 ) -> Result<Box<RawFormula>, Memory>
     ensures { IfOk result (λ made. raw_form_of made.value
-        ≡ raw_exists place binder (raw_form_of of.value)) }
+        ≡ quantified_form quantifier place binder (raw_form_of of.value)) }
 {
-    boxed(alloc, place, RawKind::Exists { binder, of })
+    match quantifier {
+        Quantifier::Exists => boxed(alloc, place, RawKind::Exists { binder, of }),
+        Quantifier::Forall => boxed(alloc, place, RawKind::Forall { binder, of }),
+    }
 }
 
-pub fn every(
+pub fn joined(
     alloc: Global,
     place: Place,
-    binder: RawColumn,
-    of: Box<RawFormula>,
+    connective: Connective,
+    of: Vec<RawFormula>,
 ) -> Result<Box<RawFormula>, Memory>
     ensures { IfOk result (λ made. raw_form_of made.value
-        ≡ raw_forall place binder (raw_form_of of.value)) }
+        ≡ joined_form connective place (raw_forms_of of.items)) }
 {
-    boxed(alloc, place, RawKind::Forall { binder, of })
-}
-
-pub fn conjunction(
-    alloc: Global,
-    place: Place,
-    of: Vec<RawFormula>,
-) -> Result<Box<RawFormula>, Memory>
-    ensures { IfOk result (λ made. raw_form_of made.value ≡ raw_and place (raw_forms_of of.items)) }
-{
-    boxed(alloc, place, RawKind::And { of })
-}
-
-pub fn disjunction(
-    alloc: Global,
-    place: Place,
-    of: Vec<RawFormula>,
-) -> Result<Box<RawFormula>, Memory>
-    ensures { IfOk result (λ made. raw_form_of made.value ≡ raw_or place (raw_forms_of of.items)) }
-{
-    boxed(alloc, place, RawKind::Or { of })
-}
-
-fn copied(alloc: Global, left: &Name, op: Op, right: &Name) -> Result<Sides, Memory>
-    ensures { IfOk result (λ made. made ≡ record { left = left.now; op = op; right = right.now }) }
-{
-    let left = left.copy(alloc)?;
-    let right = right.copy(alloc)?;
-    Ok(Sides { left, op, right })
-}
-
-fn named(place: Place, name: Name) -> RawTerm
-    ensures { result ≡ name_term place name }
-{
-    RawTerm {
-        kind: RawTermKind::Var { name },
-        place,
+    match connective {
+        Connective::And => boxed(alloc, place, RawKind::And { of }),
+        Connective::Or => boxed(alloc, place, RawKind::Or { of }),
     }
 }
 
@@ -138,53 +131,80 @@ fn time_binder(place: Place, name: Name) -> RawColumn
     }
 }
 
-// A name compared with another term.
-fn compared(place: Place, name: Name, op: Op, right: RawTerm) -> RawFormula
-    ensures { raw_form_of result ≡ raw_compare place (name_term place name) op right }
+// The names of a variable and of what it is compared with.
+fn copied(alloc: Global, name: &Name, bound: &Bound<'_>) -> Result<Sides, Memory>
+    ensures { IfOk result (λ made. made ≡ record { left = name.now; right = bound.now.name.now }) }
 {
-    RawFormula {
-        kind: RawKind::Compare {
-            left: named(place, name),
-            op,
-            right,
-        },
-        place,
-    }
+    let left = name.copy(alloc)?;
+    let right = bound.name.copy(alloc)?;
+    Ok(Sides { left, right })
 }
 
 impl Places {
     // Compared with the operator's variable.
-    fn beside(&self, names: Sides) -> RawFormula
-        ensures { raw_form_of result ≡ beside_variable
-            (operator_there self.now names.right) names.left names.op names.right }
+    fn present<'a>(&self, op: Op, name: &'a Name) -> Bound<'a>
+        ensures op { result.op ≡ op }
+        ensures term { term_of_bound result ≡ name_term self.now.name_place name.now }
     {
-        let Sides { left, op, right } = names;
-        compared(self.place, left, op, named(self.name_place, right))
-    }
-
-    // Compared with the operator's variable plus an end of the interval.
-    fn beside_end(&self, names: Sides, end: i64) -> RawFormula
-        ensures { raw_form_of result ≡ beside_end_of
-            (operator_there self.now names.right) names.left names.op names.right end }
-    {
-        let Sides { left, op, right } = names;
-        let right = RawTerm {
-            kind: RawTermKind::Shifted {
-                name: right,
-                plus: end,
-            },
+        Bound {
+            op,
+            name,
             place: self.name_place,
-        };
-        compared(self.place, left, op, right)
+            plus: None,
+        }
     }
 
-    // Two variables of the operator compared.
-    fn beside_moment(&self, names: Sides) -> RawFormula
-        ensures { raw_form_of result ≡ beside_own
-            (operator_there self.now names.right) names.left names.op names.right }
+    // Compared with the operator's variable plus an end of its interval.
+    fn end<'a>(&self, op: Op, name: &'a Name, plus: i64) -> Bound<'a>
+        ensures op { result.op ≡ op }
+        ensures term { term_of_bound result ≡ moved_term self.now.name_place name.now plus }
     {
-        let Sides { left, op, right } = names;
-        compared(self.place, left, op, named(self.place, right))
+        Bound {
+            op,
+            name,
+            place: self.name_place,
+            plus: Some(plus),
+        }
+    }
+
+    // Compared with the variable of the operator's moment.
+    fn moment<'a>(&self, op: Op, name: &'a Name) -> Bound<'a>
+        ensures op { result.op ≡ op }
+        ensures term { term_of_bound result ≡ name_term self.now.place name.now }
+    {
+        Bound {
+            op,
+            name,
+            place: self.place,
+            plus: None,
+        }
+    }
+
+    // The comparison with a bound, of these names.
+    fn compared(&self, bound: &Bound<'_>, sides: Sides) -> RawFormula
+        requires { sides.right ≡ bound.now.name.now }
+        ensures { raw_form_of result ≡ bounded self.now sides.left bound.now }
+    {
+        let Sides { left, right: name } = sides;
+        let left = RawTermKind::Var { name: left };
+        let right = match bound.plus {
+            None => RawTermKind::Var { name },
+            Some(plus) => RawTermKind::Shifted { name, plus },
+        };
+        RawFormula {
+            kind: RawKind::Compare {
+                left: RawTerm {
+                    kind: left,
+                    place: self.place,
+                },
+                op: bound.op,
+                right: RawTerm {
+                    kind: right,
+                    place: bound.place,
+                },
+            },
+            place: self.place,
+        }
     }
 
     // Some moment for which all hold.
@@ -198,24 +218,32 @@ impl Places {
             ≡ raw_exists self.now.place (time_column self.now.place name)
             (raw_and self.now.place (raw_forms_of all.items))) }
     {
-        let all = conjunction(alloc, self.place, all)?;
-        some(alloc, self.place, time_binder(self.place, name), all)
+        let all = joined(alloc, self.place, Connective::And, all)?;
+        let binder = time_binder(self.place, name);
+        quantified(alloc, self.place, Quantifier::Exists, binder, all)
     }
 
-    // Where both hold, the formula inside the variable does.
+    // Where the variable is within both bounds, the formula inside it holds.
     fn limited(
         &self,
         alloc: Global,
-        both: Vec<RawFormula>,
+        low: &Bound<'_>,
+        high: &Bound<'_>,
         inside: Inside,
     ) -> Result<Inside, Memory>
         ensures name { IfOk result (λ made. made.name ≡ inside.name) }
         ensures tree { IfOk result (λ made. form_inside made
-            ≡ raw_implies self.now.place (raw_and self.now.place (raw_forms_of both.items))
+            ≡ raw_implies self.now.place (both self.now.place
+            (bounded self.now inside.name low.now) (bounded self.now inside.name high.now))
             (form_inside inside)) }
     {
+        let lower = copied(alloc, &inside.name, low)?;
+        let upper = copied(alloc, &inside.name, high)?;
+        let mut both = Vec::with_capacity(alloc, 2)?;
+        both.push_reserved(self.compared(low, lower));
+        both.push_reserved(self.compared(high, upper));
         let Inside { name, of } = inside;
-        let within = conjunction(alloc, self.place, both)?;
+        let within = joined(alloc, self.place, Connective::And, both)?;
         let of = implied(alloc, self.place, within, of)?;
         Ok(Inside { name, of })
     }
@@ -232,6 +260,28 @@ impl Places {
         }
     }
 
+    // exists x: time (x within the bound and g and forall y: time each)
+    fn far_end(
+        &self,
+        alloc: Global,
+        bound: &Bound<'_>,
+        inside: Inside,
+        each: Inside,
+    ) -> Result<Box<RawFormula>, Memory>
+        ensures { IfOk result (λ made. raw_form_of made.value
+            ≡ raw_exists self.now.place (time_column self.now.place inside.name)
+            (all_three self.now.place (bounded self.now inside.name bound.now)
+            (form_inside inside) (each_there self.now each))) }
+    {
+        let first = copied(alloc, &inside.name, bound)?;
+        let mut all = Vec::with_capacity(alloc, 3)?;
+        let Inside { name, of } = inside;
+        all.push_reserved(self.compared(bound, first));
+        all.push_reserved(Box::into_inner(of));
+        all.push_reserved(self.each_value(each));
+        self.some_moment(alloc, name, all)
+    }
+
     /// exists x: time (x >= v + from and x <= v + to and f)
     pub fn once(
         &self,
@@ -241,14 +291,16 @@ impl Places {
         inside: Inside,
     ) -> Result<Box<RawFormula>, Memory>
         ensures { IfOk result (λ made. raw_form_of made.value
-            ≡ once_at self.now v.now ends.0 ends.1 inside) }
+            ≡ range_at Once self.now v.now ends.0 ends.1 inside) }
     {
-        let low = copied(alloc, &inside.name, Op::Ge, v)?;
-        let high = copied(alloc, &inside.name, Op::Le, v)?;
+        let low = self.end(Op::Ge, v, ends.0);
+        let high = self.end(Op::Le, v, ends.1);
+        let lower = copied(alloc, &inside.name, &low)?;
+        let upper = copied(alloc, &inside.name, &high)?;
         let mut all = Vec::with_capacity(alloc, 3)?;
         let Inside { name, of } = inside;
-        all.push_reserved(self.beside_end(low, ends.0));
-        all.push_reserved(self.beside_end(high, ends.1));
+        all.push_reserved(self.compared(&low, lower));
+        all.push_reserved(self.compared(&high, upper));
         all.push_reserved(Box::into_inner(of));
         self.some_moment(alloc, name, all)
     }
@@ -262,82 +314,14 @@ impl Places {
         inside: Inside,
     ) -> Result<Box<RawFormula>, Memory>
         ensures { IfOk result (λ made. raw_form_of made.value
-            ≡ always_at self.now v.now ends.0 ends.1 inside) }
+            ≡ range_at Always self.now v.now ends.0 ends.1 inside) }
     {
-        let low = copied(alloc, &inside.name, Op::Ge, v)?;
-        let high = copied(alloc, &inside.name, Op::Le, v)?;
-        let mut both = Vec::with_capacity(alloc, 2)?;
-        both.push_reserved(self.beside_end(low, ends.0));
-        both.push_reserved(self.beside_end(high, ends.1));
-        let limited = self.limited(alloc, both, inside)?;
+        let low = self.end(Op::Ge, v, ends.0);
+        let high = self.end(Op::Le, v, ends.1);
+        let limited = self.limited(alloc, &low, &high, inside)?;
         let Inside { name, of } = limited;
-        every(alloc, self.place, time_binder(self.place, name), of)
-    }
-
-    // (y > x and y <= v) implies f
-    fn each_since(
-        &self,
-        alloc: Global,
-        v: &Name,
-        x: &Name,
-        between: Inside,
-    ) -> Result<Inside, Memory>
-        ensures { IfOk result (λ made. each_there self.now made
-            ≡ between_form (operator_there self.now v.now) between.name
-            (beside_own (operator_there self.now v.now) between.name Gt x.now)
-            (beside_variable (operator_there self.now v.now) between.name Le v.now)
-            (form_inside between)) }
-    {
-        let low = copied(alloc, &between.name, Op::Gt, x)?;
-        let high = copied(alloc, &between.name, Op::Le, v)?;
-        let mut both = Vec::with_capacity(alloc, 2)?;
-        both.push_reserved(self.beside_moment(low));
-        both.push_reserved(self.beside(high));
-        self.limited(alloc, both, between)
-    }
-
-    // (y >= v and y < x) implies f
-    fn each_until(
-        &self,
-        alloc: Global,
-        v: &Name,
-        x: &Name,
-        between: Inside,
-    ) -> Result<Inside, Memory>
-        ensures { IfOk result (λ made. each_there self.now made
-            ≡ between_form (operator_there self.now v.now) between.name
-            (beside_variable (operator_there self.now v.now) between.name Ge v.now)
-            (beside_own (operator_there self.now v.now) between.name Lt x.now)
-            (form_inside between)) }
-    {
-        let low = copied(alloc, &between.name, Op::Ge, v)?;
-        let high = copied(alloc, &between.name, Op::Lt, x)?;
-        let mut both = Vec::with_capacity(alloc, 2)?;
-        both.push_reserved(self.beside(low));
-        both.push_reserved(self.beside_moment(high));
-        self.limited(alloc, both, between)
-    }
-
-    // exists x: time (x beside v and g and forall y: time each)
-    fn far_end(
-        &self,
-        alloc: Global,
-        first: Sides,
-        inside: Inside,
-        each: Inside,
-    ) -> Result<Box<RawFormula>, Memory>
-        ensures { IfOk result (λ made. raw_form_of made.value
-            ≡ raw_exists self.now.place (time_column self.now.place inside.name)
-            (all_three self.now.place (beside_variable
-            (operator_there self.now first.right) first.left first.op first.right)
-            (form_inside inside) (each_there self.now each))) }
-    {
-        let mut all = Vec::with_capacity(alloc, 3)?;
-        let Inside { name, of } = inside;
-        all.push_reserved(self.beside(first));
-        all.push_reserved(Box::into_inner(of));
-        all.push_reserved(self.each_value(each));
-        self.some_moment(alloc, name, all)
+        let binder = time_binder(self.place, name);
+        quantified(alloc, self.place, Quantifier::Forall, binder, of)
     }
 
     /// exists x: time (x <= v and g and forall y: time ((y > x and y <= v) implies f))
@@ -349,11 +333,12 @@ impl Places {
         inside: Inside,
     ) -> Result<Box<RawFormula>, Memory>
         ensures { IfOk result (λ made. raw_form_of made.value
-            ≡ since_at self.now v.now between inside) }
+            ≡ pair_at Since self.now v.now between inside) }
     {
-        let each = self.each_since(alloc, v, &inside.name, between)?;
-        let first = copied(alloc, &inside.name, Op::Le, v)?;
-        self.far_end(alloc, first, inside, each)
+        let moment = self.moment(Op::Gt, &inside.name);
+        let present = self.present(Op::Le, v);
+        let each = self.limited(alloc, &moment, &present, between)?;
+        self.far_end(alloc, &present, inside, each)
     }
 
     /// exists x: time (x >= v and g and forall y: time ((y >= v and y < x) implies f))
@@ -365,10 +350,11 @@ impl Places {
         inside: Inside,
     ) -> Result<Box<RawFormula>, Memory>
         ensures { IfOk result (λ made. raw_form_of made.value
-            ≡ until_at self.now v.now between inside) }
+            ≡ pair_at Until self.now v.now between inside) }
     {
-        let each = self.each_until(alloc, v, &inside.name, between)?;
-        let first = copied(alloc, &inside.name, Op::Ge, v)?;
-        self.far_end(alloc, first, inside, each)
+        let present = self.present(Op::Ge, v);
+        let moment = self.moment(Op::Lt, &inside.name);
+        let each = self.limited(alloc, &present, &moment, between)?;
+        self.far_end(alloc, &present, inside, each)
     }
 }

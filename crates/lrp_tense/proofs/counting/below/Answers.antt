@@ -1,4 +1,4 @@
-use Rattle.std.proofs.Common.{◌≡◌, ltb, count_by, sym, arith, rules}
+use Rattle.std.proofs.Common.{ltb, sym, arith, rules}
 use Rattle.std.proofs.lemmas.List.Sorted.{IsPartitionPoint-from_clause, IsPartitionedBy-ltb}
 use Rattle.lrp_tense.proofs.Positions.{count_point}
 use Rattle.lrp_tense.proofs.counting.below.Goals as goal

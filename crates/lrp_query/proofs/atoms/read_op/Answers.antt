@@ -1,7 +1,7 @@
 use Rattle.std.proofs.Common.{◌∙◌, sym}
 use Rattle.std.proofs.lemmas.Result.{err_from_is_err_and}
 use Rattle.lrp_query.proofs.Shown.{op_goes_on, op_read, op_refused}
-use Rattle.lrp_query.proofs.terms.read_op.Goals as goal
+use Rattle.lrp_query.proofs.atoms.read_op.Goals as goal
 
 pub returns-in_err-op-clause-value : goal.returns-in_err-op-clause-value
 returns-in_err-op-clause-value c =

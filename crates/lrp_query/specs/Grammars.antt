@@ -1,0 +1,93 @@
+-- What the program makes of what it reads, in each grammar.
+use Rattle.std.specs.Prelude.{◌≡◌, ◌<◌, ◌⊎◌, ℕ, ℤ, List, [], length, Option, None, Ok, Err}
+use Rattle.std.specs.Str.{IsUtf8}
+use Rattle.lrp_model.specs.Texts.{Identifier}
+use Rattle.lrp_model.specs.declared.raw.RawColumn.{RawColumn}
+use Rattle.lrp_model.specs.declared.raw.RawTerm.{RawTerm}
+use Rattle.lrp_model.specs.declared.raw.RawTermKind.{RawTermKind}
+use Rattle.lrp_model.specs.DatabaseMeaning.{integer_of}
+use Rattle.lrp_model.specs.RawQueries.{RawForm, RawQuestion}
+use Rattle.lrp_model.specs.declared.tokens.Fault.{Fault as TokenFault}
+use Rattle.lrp_model.specs.declared.tokens.Place.{Place}
+use Rattle.lrp_model.specs.declared.faults.QueryRead.{QueryRead}
+use Rattle.lrp_model.specs.declared.faults.QueryRead.TheVariants.{Fault, Memory}
+use Rattle.lrp_model.specs.declared.faults.QueryKind.TheVariants.{Utf8}
+use Rattle.lrp_model.specs.Tokens.{Tokens}
+use Rattle.lrp_model.specs.Lexing.{tokens}
+use Rattle.lrp_model.specs.DatabaseReading.{IsNoUtf8}
+use Rattle.lrp_text.specs.Parsers.{Parser, Reads}
+use Rattle.lrp_text.specs.Sources.{Stands}
+use Rattle.lrp_text.specs.declared.lexemes.Lexeme.{Lexeme}
+use Rattle.lrp_query.specs.Reading.{refusal_of}
+use Rattle.lrp_query.specs.declared.words.NoWord.{NoWord}
+use Rattle.lrp_query.specs.declared.words.Leading.{Leading}
+use Rattle.lrp_query.specs.declared.words.Opening.{Opening}
+use Rattle.lrp_query.specs.Rules.{FormulaTrees, Trees, BehindName, raw_terms, raw_formulas, cut_at, formula_with, query_with}
+use Rattle.lrp_query.specs.OperatorRules.{OperatorTrees, with_operators}
+
+-- formulas over raw terms, operators with these first words, and queries
+pub record Making (R P F Q : Type 0) : Type 0 where
+  pub formulas : FormulaTrees RawTerm F
+  pub word_of : Identifier → Option (Leading R P)
+  pub ranged : R → Opening → ℤ → ℤ → F → F
+  pub paired : P → Opening → F → F → F
+  pub question : List RawColumn → F → Q
+
+module _ {R P F Q : Type 0} (make : Making R P F Q) where
+  -- a hole, which no bytes spell, is an `or` of nothing
+  abbrev pub trees_made : Trees RawTermKind RawTerm F Q
+  trees_made = record { terms = raw_terms; formulas = make.formulas; cut = λ t. cut_at (make.formulas.disjunction t.place []) t.token; question = make.question }
+
+  -- the ends of an interval are whole numbers
+  abbrev pub operators_made : OperatorTrees R P ℤ F
+  operators_made = record { word_of = make.word_of; number_of = integer_of; ranged = make.ranged; paired = make.paired }
+
+  -- what stands behind a name that begins a formula
+  abbrev pub behind_made : BehindName F
+  behind_made = with_operators trees_made operators_made
+
+  -- a formula of at most this depth; the second number bounds the turns of each list
+  abbrev pub formula_made : ℕ → ℕ → Parser F
+  formula_made = formula_with trees_made behind_made
+
+  -- a query, and then the end
+  abbrev pub query_made : ℕ → Parser Q
+  query_made = query_with trees_made behind_made
+
+-- ---- without operators
+
+-- no name is the first word of an operator, so what would be made of one is never asked
+abbrev pub raw_making : Making NoWord NoWord RawForm RawQuestion
+raw_making = record {
+  formulas = raw_formulas;
+  word_of = λ n. None;
+  ranged = λ word o a b f. f;
+  paired = λ word o f g. f;
+  question = λ cs f. record { head = cs; body = f };
+}
+
+-- the raw query that the tree means
+abbrev pub meant : Trees RawTermKind RawTerm RawForm RawQuestion
+meant = trees_made raw_making
+
+-- ---- bytes
+
+module _ {Q : Type 0} (parser : ℕ → Parser Q) (bytes : List ℕ) where
+  -- the bytes are UTF-8, and of their tokens this is read
+  pub record IsTextRead (q : Q) : Type 0 where
+    pub utf8 : IsUtf8 bytes
+    pub reads : (turns : ℕ) → length (tokens bytes) < turns → parser turns (tokens bytes) ≡ Ok (q, [])
+
+  -- the bytes are UTF-8, and of their tokens the one at this place is refused
+  pub record IsTextStopped (k : TokenFault) (place : Place) : Type 0 where
+    pub utf8 : IsUtf8 bytes
+    pub left : Tokens
+    pub lexeme : Lexeme
+    pub slice : List ℕ
+    pub stands : Stands left lexeme slice place
+    pub stops : (turns : ℕ) → length (tokens bytes) < turns → Reads (parser turns (tokens bytes)) (Err k) left
+
+  -- why nothing is read: bytes that are no UTF-8, a token that is refused, or want of memory
+  abbrev pub IsTextUnread : QueryRead → Type 0
+  IsTextUnread (Fault f) = ((f.kind ≡ Utf8) × IsNoUtf8 bytes f.place) ⊎ ((k : TokenFault) × (refusal_of k f.place ≡ Fault f) × IsTextStopped k f.place)
+  IsTextUnread Memory = Unit {0}

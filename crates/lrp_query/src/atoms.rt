@@ -1,0 +1,139 @@
+// Formulas with no others inside, read from their tokens.
+ghost use Rattle.std.specs.Prelude.{◌≡◌, ◌≤◌, ◌<◌, ℕ, length, IfOk};
+ghost use Rattle.lrp_text.specs.Parsers.{Reads, accept};
+ghost use Rattle.lrp_query.specs.Reading.{ReadsAs, shown_op};
+ghost use Rattle.lrp_query.specs.Rules.{op_of as op_rule, point, comparing, tested, atom_terms, behind_name, unnamed};
+ghost use Rattle.lrp_query.specs.Grammars.{trees_made};
+
+use crate::grammar::Grammar;
+use crate::terms::{read_named_term, read_term, read_terms, read_unnamed_term, signed};
+use lrp_model::{Fault, Name, Op, Place, RawTerm, RowPoint, Symbol, Word};
+use lrp_text::{Cursor, Lexeme, integer};
+use std::alloc::Global;
+
+// The comparison that a symbol stands for.
+fn op_of(lexeme: Lexeme) -> Result<Op, Fault>
+    ensures { result ≡ shown_op lexeme }
+{
+    match lexeme {
+        Lexeme::Symbol(Symbol::Le) => Ok(Op::Le),
+        Lexeme::Symbol(Symbol::Lt) => Ok(Op::Lt),
+        Lexeme::Symbol(Symbol::Ge) => Ok(Op::Ge),
+        Lexeme::Symbol(Symbol::Gt) => Ok(Op::Gt),
+        Lexeme::Symbol(Symbol::Equals) => Ok(Op::Eq),
+        _ => Err(Fault::Syntax),
+    }
+}
+
+fn read_op(tokens: &mut Cursor<'_>) -> Result<Op, Fault>
+    ensures value { Reads (accept (λ t. op_rule t.token) tokens.old) result tokens.new }
+    ensures fewer { IfOk result (λ _. length tokens.new < length tokens.old) }
+{
+    let op = op_of(tokens.peek().lexeme)?;
+    tokens.advance();
+    Ok(op)
+}
+
+// The point behind a term and `in`.
+#[tactic(auto, unfolding(crate::specs::Rules::point))]
+fn read_point<G: Grammar>(tokens: &mut Cursor<'_>, term: RawTerm) -> Result<G::Formula, Fault>
+    ensures value { ReadsAs G.form_of (point (trees_made G.makes) term tokens.old) result tokens.new }
+    ensures fewer { IfOk result (λ _. length tokens.new < length tokens.old) }
+{
+    let offset = integer(tokens)?;
+    tokens.expect(Symbol::Plus)?;
+    let period = tokens.period()?;
+    tokens.expect_word(Word::Letter)?;
+    let point = RowPoint {
+        offset: signed(offset.negative, offset.size),
+        period: signed(false, period),
+    };
+    Ok(G::membership(term, point))
+}
+
+// The comparison behind a term.
+#[tactic(auto, unfolding(crate::specs::Rules::comparing))]
+fn read_comparison<G: Grammar>(
+    alloc: Global,
+    tokens: &mut Cursor<'_>,
+    left: RawTerm,
+) -> Result<G::Formula, Fault>
+    ensures value { ReadsAs G.form_of (comparing (trees_made G.makes) left tokens.old) result
+        tokens.new }
+    ensures fewer { IfOk result (λ _. length tokens.new < length tokens.old) }
+{
+    let op = read_op(tokens)?;
+    let right = read_term(alloc, tokens)?;
+    Ok(G::comparison(left, op, right))
+}
+
+// What stands behind the first term of a comparison or of an `in`.
+#[tactic(auto, unfolding(crate::specs::Rules::tested))]
+fn read_test<G: Grammar>(
+    alloc: Global,
+    tokens: &mut Cursor<'_>,
+    left: RawTerm,
+) -> Result<G::Formula, Fault>
+    ensures value { ReadsAs G.form_of (tested (trees_made G.makes) left tokens.old) result
+        tokens.new }
+    ensures fewer { IfOk result (λ _. length tokens.new < length tokens.old) }
+{
+    if tokens.eat_word(Word::In) {
+        read_point::<G>(tokens, left)
+    } else {
+        read_comparison::<G>(alloc, tokens, left)
+    }
+}
+
+// The terms of an atom and its parenthesis, behind its name and the first parenthesis.
+#[tactic(auto, unfolding(crate::specs::Rules::atom_terms))]
+fn read_atom<G: Grammar>(
+    alloc: Global,
+    tokens: &mut Cursor<'_>,
+    relation: Name,
+    place: Place,
+) -> Result<G::Formula, Fault>
+    ensures value { (n : ℕ) → length tokens.old < n
+        → ReadsAs G.form_of (atom_terms (trees_made G.makes) n relation place tokens.old) result
+        tokens.new }
+    ensures fewer { IfOk result (λ _. length tokens.new < length tokens.old) }
+{
+    let terms = read_terms(alloc, tokens)?;
+    tokens.expect(Symbol::Close)?;
+    Ok(G::atom(place, relation, terms))
+}
+
+/// Reads what stands behind a name that begins a formula, the name being given: an atom, a comparison or an `in`.
+#[tactic(auto, unfolding(crate::specs::Rules::behind_name))]
+pub fn read_behind_name<G: Grammar>(
+    alloc: Global,
+    tokens: &mut Cursor<'_>,
+    name: Name,
+    place: Place,
+) -> Result<G::Formula, Fault>
+    ensures value { (n : ℕ) → length tokens.old < n
+        → ReadsAs G.form_of (behind_name (trees_made G.makes) n name place tokens.old) result
+        tokens.new }
+    ensures shorter { IfOk result (λ _. length tokens.new ≤ length tokens.old) }
+{
+    if tokens.eat(Symbol::Open) {
+        return read_atom::<G>(alloc, tokens, name, place);
+    }
+    let kind = read_named_term(name, tokens)?;
+    read_test::<G>(alloc, tokens, RawTerm { kind, place })
+}
+
+/// Reads a comparison or an `in` that begins with a text or an integer, at its place.
+#[tactic(auto, unfolding(crate::specs::Rules::unnamed))]
+pub fn read_unnamed<G: Grammar>(
+    alloc: Global,
+    tokens: &mut Cursor<'_>,
+    place: Place,
+) -> Result<G::Formula, Fault>
+    ensures value { ReadsAs G.form_of (unnamed (trees_made G.makes) place tokens.old) result
+        tokens.new }
+    ensures fewer { IfOk result (λ _. length tokens.new < length tokens.old) }
+{
+    let kind = read_unnamed_term(alloc, tokens)?;
+    read_test::<G>(alloc, tokens, RawTerm { kind, place })
+}
