@@ -13,4 +13,3 @@ pub mod PlainLemmas
 pub mod PlainSizes
 pub mod Places
 pub mod PushLemmas
-pub mod CivilLineLaws

@@ -6,7 +6,8 @@ use Rattle.std.proofs.lemmas.Bool.{eq-eqb, ne_eqb}
 use Rattle.lrp_model.specs.declared.tokens.Place.{Place}
 use Rattle.lrp_model.specs.Tokens.{Token}
 use Rattle.lrp_model.specs.Tokens.Token.{number_token}
-use Rattle.lrp_model.specs.Lexing.{QuotedText, Scanned, behind_run, is_blank, is_letter, is_name_byte, moved, run, scan, skip, start, symbol_from, text_from, text_scanned, value_from, word_or_name}
+use Rattle.std.specs.Str.Parse.{digits_value}
+use Rattle.lrp_model.specs.Lexing.{QuotedText, Scanned, behind_run, is_blank, is_letter, is_name_byte, moved, run, scan, skip, start, symbol_from, text_from, text_scanned, word_or_name}
 use Rattle.std.specs.Char.{is_ascii_digit}
 use Rattle.lrp_text.proofs.Scans.{chosen}
 use Rattle.lrp_civil.specs.Tokens.{IsBehindSymbol, IsBehindToken, behind_text, is_last}
@@ -56,7 +57,7 @@ scan_name : (b : ℕ) (bytes : List ℕ) → is_letter b ≡ true → scan (b �
 unfolding scan
 scan_name b bytes e = rw e refl
 
-scan_number : (b : ℕ) (bytes : List ℕ) → is_letter b ≡ false → is_ascii_digit b ≡ true → scan (b ∷ bytes) ≡ record { token = number_token (value_from 0 (run is_ascii_digit (b ∷ bytes))); taken = run is_ascii_digit (b ∷ bytes); left = behind_run is_ascii_digit (b ∷ bytes) }
+scan_number : (b : ℕ) (bytes : List ℕ) → is_letter b ≡ false → is_ascii_digit b ≡ true → scan (b ∷ bytes) ≡ record { token = number_token (digits_value 10 (run is_ascii_digit (b ∷ bytes))); taken = run is_ascii_digit (b ∷ bytes); left = behind_run is_ascii_digit (b ∷ bytes) }
 unfolding scan
 scan_number b bytes e f = rw (e, f) refl
 

@@ -2,7 +2,8 @@
 use Rattle.std.specs.Prelude.{◌≡◌, ℕ, zero, suc, ◌+◌, ◌-◌, ◌*◌, nat_eq, find, Bool, not, ◌&&◌, IsTrue, List, [], ◌∷◌, ◌++◌, length, take, drop, Option, Some, None, MatchOption, if◌then◌else◌}
 use Rattle.std.specs.List.{starts_with}
 use Rattle.std.specs.Str.{is_utf8}
-use Rattle.lrp_model.specs.Lexing.{Scanned, after, scan, start, value_from}
+use Rattle.std.specs.Str.Parse.{digits_value}
+use Rattle.lrp_model.specs.Lexing.{Scanned, after, scan, start}
 use Rattle.lrp_civil.specs.declared.dates.Date.{Date}
 use Rattle.lrp_civil.specs.declared.plain.Found.{Found}
 use Rattle.lrp_civil.specs.declared.values.CivilValue.{CivilValue}
@@ -15,7 +16,7 @@ use Rattle.lrp_civil.specs.Tokens.{behind_blanks, is_last}
 
 -- the number in the first n of the bytes
 abbrev pub front_number : ℕ → List ℕ → ℕ
-front_number n bytes = value_from 0 (take n bytes)
+front_number n bytes = digits_value 10 (take n bytes)
 
 -- the time of day in HH:MM, and the date in YYYY-MM-DD
 abbrev pub time_in : List ℕ → ℕ

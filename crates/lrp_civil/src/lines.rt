@@ -1,25 +1,22 @@
 // The line of an answer with its times as dates and times of day.
-ghost use Rattle.std.specs.Prelude.{◌≡◌, ◌<◌, ◌+◌, ◌++◌, ℤ, false, true, codes, take, length};
+ghost use Rattle.std.specs.Prelude.{◌≡◌, ◌<◌, ◌++◌, ℤ, codes, take, length};
 ghost use Rattle.std.specs.List.{AllByRecursion};
 ghost use Rattle.lrp_io.specs.Causes.{HasCause};
 ghost use Rattle.lrp_io.specs.Pieces.{IsWritten};
 ghost use Rattle.lrp_model.specs.Rows.{Tuple};
-ghost use Rattle.lrp_model.specs.Sorts.{time_count};
-ghost use Rattle.lrp_model.specs.Printed.{quoted};
 ghost use Rattle.lrp_model.specs.Satisfaction.{HasShape};
-ghost use Rattle.lrp_model.specs.Tuples.{in_head_order, text_at, texts_at};
 ghost use Rattle.lrp_store.specs.Least.{StandsFor};
 ghost use Rattle.lrp_list.specs.Lines.{is_json, spot_tuple};
-ghost use Rattle.lrp_civil.specs.CivilLines.{behind, civil_line, civil_time_bytes};
+ghost use Rattle.lrp_civil.specs.CivilLines.{civil_line, civil_time_bytes};
 ghost use Rattle.lrp_civil.specs.Dates.{IsDateOf, date_of};
 ghost use Rattle.lrp_civil.specs.Moments.{IsCivilMinute, day_of};
 
 use crate::moments::moment;
+use lrp_answers::Answer;
 use lrp_io::{Failed, Sink};
-use lrp_list::Form;
-use lrp_model::{Column, Domain, Spot};
-use lrp_print::{write_bytes, write_quoted};
-use lrp_store::Answer;
+use lrp_list::{Form, write_line_in};
+use lrp_model::Spot;
+use lrp_print::{Notation, write_bytes};
 
 /// Writes the values of a spot as `write_line` of `lrp_list` does, but each time as `YYYY-MM-DD HH:MM`, between quotes in
 /// JSON form. After a failure a front of the line was written.
@@ -45,137 +42,29 @@ pub fn write_civil_line<S: Sink>(
         ≡ tuple }
     ensures dates { (x : ℤ) → IsCivilMinute x → IsDateOf (day_of x) (date_of (day_of x)) }
 {
-    let shape = answer.store.shape();
-    let columns = answer.head.columns.as_slice();
-    let times = &spot.times[..shape.times as usize];
-    let numbers = &spot.texts[..shape.texts as usize];
-    match form {
-        Form::Plain => {
-            let line = Line {
-                domain: &answer.domain,
-                json: false,
-                between: b", ",
-            };
-            write_plain(out, &line, columns, times, numbers)
-        }
-        Form::Json { .. } => {
-            let line = Line {
-                domain: &answer.domain,
-                json: true,
-                between: b",",
-            };
-            write_json(out, &line, columns, times, numbers)
-        }
-    }
+    let json = form.is_json();
+    write_line_in(out, answer, spot, json, &Moments { json })
 }
 
-// What the texts of a line are taken from, whether it is JSON, and what stands between its values.
+// Times as dates and times of day, in quotes where the line is JSON.
 #[derive(Clone, Copy)]
-struct Line<'a> {
-    domain: &'a Domain,
+struct Moments {
     json: bool,
-    between: &'a [u8],
 }
 
-// The values with the separator between and a line feed, or `()` where there is no column.
-fn write_plain<S: Sink>(
-    out: &mut S,
-    line: &Line<'_>,
-    columns: &[Column],
-    times: &[i64],
-    numbers: &[u32],
-) -> Result<(), Failed>
-    requires known { AllByRecursion (λ n. n < length line.now.domain.now) numbers.now }
-    requires civil { AllByRecursion IsCivilMinute times.now }
-    requires json { line.now.json ≡ false }
-    requires between { line.now.between.now ≡ codes ", " }
-    requires times { time_count columns.now ≡ length times.now }
-    requires all { length columns.now ≡ length times.now + length numbers.now }
-    ensures text { IsWritten (S.written out.old) (S.written out.new)
-        (civil_line false (in_head_order columns.now times.now
-        (texts_at line.now.domain.now numbers.now))) result }
-    ensures cause { HasCause (S.faults out.old) (S.faults out.new) result }
-{
-    if columns.is_empty() {
-        return write_bytes(out, b"()\n");
-    }
-    write_values(out, line, b"", columns, times, numbers)?;
-    write_bytes(out, b"\n")
-}
+impl Notation for Moments {
+    type Item = i64;
 
-// The values in brackets with the separator between, and a line feed.
-fn write_json<S: Sink>(
-    out: &mut S,
-    line: &Line<'_>,
-    columns: &[Column],
-    times: &[i64],
-    numbers: &[u32],
-) -> Result<(), Failed>
-    requires known { AllByRecursion (λ n. n < length line.now.domain.now) numbers.now }
-    requires civil { AllByRecursion IsCivilMinute times.now }
-    requires json { line.now.json ≡ true }
-    requires between { line.now.between.now ≡ codes "," }
-    ensures text { IsWritten (S.written out.old) (S.written out.new)
-        (civil_line true (in_head_order columns.now times.now
-        (texts_at line.now.domain.now numbers.now))) result }
-    ensures cause { HasCause (S.faults out.old) (S.faults out.new) result }
-{
-    write_bytes(out, b"[")?;
-    write_values(out, line, b"", columns, times, numbers)?;
-    write_bytes(out, b"]\n")
-}
+    ghost spells = { λ _ time. IsCivilMinute time };
 
-// The values in head order, the first behind these bytes and each further one behind the separator.
-fn write_values<S: Sink>(
-    out: &mut S,
-    line: &Line<'_>,
-    before: &[u8],
-    columns: &[Column],
-    times: &[i64],
-    numbers: &[u32],
-) -> Result<(), Failed>
-    requires known { AllByRecursion (λ n. n < length line.now.domain.now) numbers.now }
-    requires civil { AllByRecursion IsCivilMinute times.now }
-    ensures text { IsWritten (S.written out.old) (S.written out.new)
-        (behind line.now.json before.now line.now.between.now
-        (in_head_order columns.now times.now (texts_at line.now.domain.now numbers.now))) result }
-    ensures cause { HasCause (S.faults out.old) (S.faults out.new) result }
-{
-    let [column, columns @ ..] = columns else {
-        return Ok(());
-    };
-    if column.sort.is_time() {
-        let [time, times @ ..] = times else {
-            return Ok(());
-        };
-        write_time(out, line, before, time)?;
-        write_values(out, line, line.between, columns, times, numbers)
-    } else {
-        let [number, numbers @ ..] = numbers else {
-            return Ok(());
-        };
-        write_text(out, line, before, *number)?;
-        write_values(out, line, line.between, columns, times, numbers)
-    }
-}
+    ghost bytes = { λ s time. civil_time_bytes s.json time };
 
-// A time behind these bytes, in quotes where the line is JSON.
-fn write_time<S: Sink>(
-    out: &mut S,
-    line: &Line<'_>,
-    before: &[u8],
-    time: &i64,
-) -> Result<(), Failed>
-    requires { IsCivilMinute time.now }
-    ensures text { IsWritten (S.written out.old) (S.written out.new)
-        (before.now ++ civil_time_bytes line.now.json time.now) result }
-    ensures cause { HasCause (S.faults out.old) (S.faults out.new) result }
-{
-    write_bytes(out, before)?;
-    if line.json {
-        write_between_quotes(out, &moment(time))
-    } else {
-        write_bytes(out, &moment(time))
+    fn write<S: Sink>(&self, out: &mut S, time: &i64) -> Result<(), Failed> {
+        if self.json {
+            write_between_quotes(out, &moment(time))
+        } else {
+            write_bytes(out, &moment(time))
+        }
     }
 }
 
@@ -188,20 +77,4 @@ fn write_between_quotes<S: Sink>(out: &mut S, bytes: &[u8]) -> Result<(), Failed
     write_bytes(out, b"\"")?;
     write_bytes(out, bytes)?;
     write_bytes(out, b"\"")
-}
-
-// A text in quotes, by its number, behind these bytes.
-fn write_text<S: Sink>(
-    out: &mut S,
-    line: &Line<'_>,
-    before: &[u8],
-    number: u32,
-) -> Result<(), Failed>
-    requires { number < length line.now.domain.now }
-    ensures text { IsWritten (S.written out.old) (S.written out.new)
-        (before.now ++ quoted (text_at line.now.domain.now number)) result }
-    ensures cause { HasCause (S.faults out.old) (S.faults out.new) result }
-{
-    write_bytes(out, before)?;
-    write_quoted(out, line.domain.text(number).as_bytes())
 }

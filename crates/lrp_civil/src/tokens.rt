@@ -1,4 +1,4 @@
-// Where tokens begin and end.
+// Where tokens begin and end. Their places, which the lexer counts at each byte, are not needed here.
 ghost use Rattle.std.specs.Prelude.{◌≡◌, ◌≤◌, ◌<◌, IfSome, length, false};
 ghost use Rattle.std.specs.Option.{option_map};
 ghost use Rattle.lrp_model.specs.Lexing.{behind_run, is_blank as is_blank_byte, is_forbidden as is_forbidden_byte, is_letter as is_letter_byte, is_name_byte as is_byte_of_names, text_from};

@@ -20,7 +20,7 @@ use Rattle.lrp_store.specs.Least.{HasRoom, IsRoom}
 use Rattle.lrp_store.specs.Settled.{AreSettled, InSome, AreOneZone}
 use Rattle.lrp_store.specs.Stores.{IsStore, LiesInCell, StoreView, tables_at, zone_of, zones_at}
 use Rattle.lrp_store.specs.Tables.{AreTexts, InAnswer}
-use Rattle.lrp_store.specs.declared.answer.Answer.{Answer}
+use Rattle.lrp_answers.specs.declared.answer.Answer.{Answer}
 use Rattle.lrp_store.proofs.Counted.{lies_in, one_cell}
 use Rattle.lrp_store.proofs.Held.{cell_held, node_take}
 use Rattle.lrp_list.specs.AnswerText.{cell_rows, row_of, rows_of}

@@ -18,7 +18,7 @@ use Rattle.lrp_slots.proofs.Copying.{keys_ascend}
 use Rattle.lrp_slots.proofs.Tables.{cells_total}
 use Rattle.lrp_store.specs.Stores.{IsCellOf, IsStore, tables_at}
 use Rattle.lrp_store.specs.Tables.{AreTexts, InAnswer}
-use Rattle.lrp_store.specs.declared.answer.Answer.{Answer}
+use Rattle.lrp_answers.specs.declared.answer.Answer.{Answer}
 use Rattle.lrp_store.proofs.Aligning.{key_of}
 use Rattle.lrp_store.proofs.Held.{cell_held}
 use Rattle.lrp_list.specs.AnswerText.{answer_relation, cell_rows, row_of, rows_of, value_of}

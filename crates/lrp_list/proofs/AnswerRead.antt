@@ -31,7 +31,7 @@ use Rattle.lrp_model.specs.declared.relations.Value.TheVariants.{Point, Const}
 use Rattle.lrp_model.specs.declared.tokens.Place.{Place}
 use Rattle.lrp_model.specs.declared.tuples.Cell.{Cell}
 use Rattle.lrp_model.specs.declared.written.RawRelation.{RawRelation}
-use Rattle.lrp_print.specs.Kept.{AreKept, AreValuesOf, IsBoundOf, IsKept, IsRowOf}
+use Rattle.lrp_model.specs.Kept.{AreKept, AreValuesOf, IsBoundOf, IsKept, IsRowOf}
 use Rattle.lrp_print.proofs.Faultless.{relations_fit, relations_sound}
 use Rattle.lrp_print.proofs.Meant.{reduced, reduced_row, reduced_value, relations_mean}
 use Rattle.lrp_print.proofs.PieceLaws.{trees, behind}
@@ -42,7 +42,7 @@ use Rattle.lrp_zone.specs.Zones.{columns_of}
 use Rattle.lrp_store.specs.Least.{HasRoom}
 use Rattle.lrp_store.specs.Stores.{IsStore, tables_at}
 use Rattle.lrp_store.specs.Tables.{AreTexts}
-use Rattle.lrp_store.specs.declared.answer.Answer.{Answer}
+use Rattle.lrp_answers.specs.declared.answer.Answer.{Answer}
 use Rattle.lrp_store.proofs.Held.{Contains-from_get}
 use Rattle.lrp_list.specs.AnswerText.{answer_relation, cell_rows, closed_bounds, row_of, rows_of, value_of}
 use Rattle.lrp_list.specs.Listing.{window_of}

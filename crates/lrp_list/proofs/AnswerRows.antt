@@ -21,7 +21,7 @@ use Rattle.lrp_model.specs.declared.relations.Sort.TheVariants.{Time, Data, Name
 use Rattle.lrp_model.specs.declared.tuples.Cell.{Cell}
 use Rattle.lrp_zone.specs.Zones.{ZoneView, IsZone, IsInCell, IsMember, IsResidue, columns_of}
 use Rattle.lrp_store.specs.Stores.{IsStore, zone_of, tables_at}
-use Rattle.lrp_store.specs.declared.answer.Answer.{Answer}
+use Rattle.lrp_answers.specs.declared.answer.Answer.{Answer}
 use Rattle.lrp_store.proofs.Held.{zone_held}
 use Rattle.lrp_list.specs.AnswerText.{closed_bounds, row_of, value_of}
 use Rattle.lrp_list.specs.Listing.{window_of}

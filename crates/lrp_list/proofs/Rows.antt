@@ -19,7 +19,7 @@ use Rattle.lrp_zone.specs.Zones.{ZoneView}
 use Rattle.lrp_store.specs.Least.{HasRoom, IsRoom}
 use Rattle.lrp_store.specs.Reading.{entries_of}
 use Rattle.lrp_store.specs.Stores.{StoreView, IsStore, zone_of, zones_at, tables_at}
-use Rattle.lrp_store.specs.declared.answer.Answer.{Answer}
+use Rattle.lrp_answers.specs.declared.answer.Answer.{Answer}
 use Rattle.lrp_store.proofs.Held.{Contains-from_get}
 use Rattle.lrp_list.specs.AnswerText.{answer_text, cell_rows, cell_values, closed_bounds, row_of, rows_of}
 use Rattle.lrp_list.specs.Listing.{window_of}

@@ -1,5 +1,5 @@
 -- The text of a whole answer: the relation `answer`, with a row for each zone of each cell, or `Empty`.
-use Rattle.std.specs.Prelude.{◌==◌, ◌+◌, ℕ, zero, suc, ℤ, pos, List, [], ◌∷◌, ◌++◌, map, take, Option, Some, None, if◌then◌else◌, codes}
+use Rattle.std.specs.Prelude.{◌==◌, ◌+◌, ℕ, zero, suc, ℤ, pos, List, [], ◌∷◌, map, take, Option, Some, None, if◌then◌else◌, codes}
 use Rattle.std.specs.Int.{int_min}
 use Rattle.std.specs.List.{flat_map, range_with_len}
 use Rattle.std.specs.FinMap as finite
@@ -7,7 +7,7 @@ use Rattle.lrp_theory.specs.Bounds.{plus}
 use Rattle.lrp_theory.specs.Entries.{entry}
 use Rattle.lrp_model.specs.Texts.{Text}
 use Rattle.lrp_model.specs.Rows.{Datum, time, text}
-use Rattle.lrp_model.specs.Printed.{relation_bytes, value_bytes}
+use Rattle.lrp_model.specs.Printed.{point_bytes, relation_bytes}
 use Rattle.lrp_model.specs.Tuples.{in_head_order, texts_at}
 use Rattle.lrp_model.specs.declared.relations.Bound.{Bound}
 use Rattle.lrp_model.specs.declared.relations.Column.{Column}
@@ -18,7 +18,7 @@ use Rattle.lrp_model.specs.declared.relations.Value.TheVariants.{Point, Const}
 use Rattle.lrp_model.specs.declared.tuples.Cell.{Cell}
 use Rattle.lrp_zone.specs.Zones.{ZoneView, columns_of}
 use Rattle.lrp_store.specs.Stores.{StoreView, zone_of, tables_at}
-use Rattle.lrp_store.specs.declared.answer.Answer.{Answer}
+use Rattle.lrp_answers.specs.declared.answer.Answer.{Answer}
 
 -- the lesser of two bounds
 abbrev pub lesser : Option ℤ → Option ℤ → Option ℤ
@@ -47,6 +47,10 @@ bounds_in nodes table = flat_map (bounds_in_row nodes table) (range_with_len 0 n
 abbrev pub closed_bounds : ZoneView → List Bound
 closed_bounds z = let nodes = columns_of z + 1 in bounds_in nodes (shortest z.bounds nodes)
 
+-- a residue as it is written: as the point of the period
+abbrev pub point_of : ℤ → ℤ → List ℕ
+point_of period residue = point_bytes (record { offset = residue; period = period })
+
 -- a residue as the point of the period, and a text as it is
 abbrev pub value_of : ℤ → Datum → Value
 value_of period (time residue) = Point (record { offset = residue; period = period })
@@ -55,11 +59,6 @@ value_of period (text t) = Const t
 -- the residues and the texts of a cell, in head order
 abbrev pub cell_values : List Column → List Text → StoreView → Cell → List Value
 cell_values columns domain s cell = map (value_of (pos s.period)) (in_head_order columns (take s.shape.times cell.residues) (texts_at domain (take s.shape.texts cell.texts)))
-
--- values, the first behind some bytes and each further one behind a comma
-abbrev pub values_behind : List ℕ → List Value → List ℕ
-values_behind before [] = []
-values_behind before (v ∷ vs) = before ++ (value_bytes v ++ values_behind (codes ", ") vs)
 
 -- the row of a zone
 abbrev pub row_of : List Column → List Text → StoreView → Cell → List (Option ℤ) → Row

@@ -9,13 +9,13 @@ use Rattle.lrp_model.specs.DataTexts.{IsDataText}
 use Rattle.lrp_model.specs.declared.relations.Column.{Column}
 use Rattle.lrp_model.specs.declared.relations.Relation.{Relation}
 use Rattle.lrp_model.specs.declared.tuples.Cell.{Cell}
-use Rattle.lrp_print.specs.Kept.{IsKept}
+use Rattle.lrp_model.specs.Kept.{IsKept}
 use Rattle.lrp_zone.specs.Zones.{ZoneView}
 use Rattle.lrp_store.specs.Least.{HasRoom}
 use Rattle.lrp_store.specs.Settled.{AreSettled}
 use Rattle.lrp_store.specs.Stores.{IsStore, zones_at}
 use Rattle.lrp_store.specs.Tables.{InAnswer}
-use Rattle.lrp_store.specs.declared.answer.Answer.{Answer}
+use Rattle.lrp_answers.specs.declared.answer.Answer.{Answer}
 
 -- the columns can be those of a relation `answer` that is read
 abbrev pub AreAnswerColumns : List Column → Type 0

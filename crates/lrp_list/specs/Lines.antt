@@ -1,9 +1,8 @@
 -- The tuple that a spot stands for, and the form of its line.
-use Rattle.std.specs.Prelude.{◌≡◌, ℕ, Bool, true, false, List, [], ◌∷◌, ◌++◌, map, take}
+use Rattle.std.specs.Prelude.{◌≡◌, ℕ, ℤ, Bool, true, false, List, [], ◌∷◌, ◌++◌, map, take, codes}
 use Rattle.lrp_model.specs.Texts.{Text}
-use Rattle.lrp_model.specs.Rows.{Tuple}
-use Rattle.lrp_model.specs.Printed.{quoted}
-use Rattle.lrp_model.specs.PrintedPages.{datum_bytes}
+use Rattle.lrp_model.specs.Rows.{Datum, time, text, Tuple}
+use Rattle.lrp_model.specs.Printed.{joined_by, quoted}
 use Rattle.lrp_model.specs.Tuples.{in_head_order, texts_at}
 use Rattle.lrp_model.specs.declared.relations.Column.{Column}
 use Rattle.lrp_model.specs.declared.tuples.Shape.{Shape}
@@ -25,7 +24,18 @@ abbrev pub IsFormOf : List Text → Form → Type 0
 IsFormOf domain Plain = Unit {0}
 IsFormOf domain (Json texts) = texts ≡ map quoted domain
 
+-- a time by its bytes, or a text in quotes
+abbrev pub spelled : (ℤ → List ℕ) → Datum → List ℕ
+spelled times (time x) = times x
+spelled times (text t) = quoted t
+
+-- the line of a tuple with its times spelled so, in JSON where the flag is set
+abbrev pub line_of : (ℤ → List ℕ) → Bool → Tuple → List ℕ
+line_of times false [] = codes "()\n"
+line_of times false (d ∷ ds) = joined_by (codes ", ") (spelled times) (d ∷ ds) ++ codes "\n"
+line_of times true tuple = codes "[" ++ (joined_by (codes ",") (spelled times) tuple ++ codes "]\n")
+
 -- the values of a tuple, the first behind some bytes and each further one behind others
-abbrev pub behind : List ℕ → List ℕ → Tuple → List ℕ
-behind before between [] = []
-behind before between (d ∷ ds) = before ++ (datum_bytes d ++ behind between between ds)
+abbrev pub values_behind : (ℤ → List ℕ) → List ℕ → List ℕ → Tuple → List ℕ
+values_behind times before between [] = []
+values_behind times before between (d ∷ ds) = before ++ (spelled times d ++ values_behind times between between ds)

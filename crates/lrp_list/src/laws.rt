@@ -8,7 +8,7 @@ ghost use Rattle.lrp_model.specs.declared.tuples.Spot.{Spot};
 ghost use Rattle.lrp_model.specs.AnswerTexts.{IsAnswerTextOf};
 ghost use Rattle.lrp_model.specs.Formulas.{Question};
 ghost use Rattle.lrp_model.specs.declared.relations.Relation.{Relation};
-ghost use Rattle.lrp_store.specs.declared.answer.Answer.{Answer};
+ghost use Rattle.lrp_answers.specs.declared.answer.Answer.{Answer};
 ghost use Rattle.lrp_list.specs.AnswerText.{answer_text};
 ghost use Rattle.lrp_list.specs.Answering.{AreAnswerColumns, IsSettledAnswer};
 ghost use Rattle.lrp_model.specs.Checked.{plain_question};
@@ -39,8 +39,9 @@ pub fn moves_are_few()
         → standing_at spot cursors ≤ zone_count w.store }
 {}
 
-/// The text of a settled answer is an answer text of the query, in rows of the answer's period: `Empty` where nothing is an
-/// answer, and else a relation `answer` that holds just the answers, with closed bounds and in order, which reads back as it is.
+/// The text of a settled answer is an answer text of the query, in rows of the answer's period: `Empty` where nothing
+/// is an answer, and else a relation `answer` that holds just the answers, with closed bounds and in order, which reads
+/// back as it is.
 pub fn answers_are_texts()
     ensures { (db : List Relation) (q : Question) (a : Answer) → IsSettledAnswer db q a
         → IsAnswerTextOf a.store.period db q (answer_text a) }

@@ -1,6 +1,8 @@
 // The JSON texts of the constants of a domain.
-ghost use Rattle.std.specs.Prelude.{◌≡◌, map, IfOk};
+ghost use Rattle.std.specs.Prelude.{◌≡◌, List as ListOf, map, IfOk, IfSome};
 ghost use Rattle.lrp_model.specs.Printed.{quoted};
+ghost use Rattle.lrp_model.specs.Texts.{Text};
+ghost use Rattle.lrp_list.specs.Lines.{IsFormOf, is_json};
 
 use lrp_model::{Copies, DataText, Domain, List, Memory};
 use serde_json::Value;
@@ -47,6 +49,26 @@ impl JsonTexts {
         ensures { result.now ≡ self.now }
     {
         self.texts.as_slice()
+    }
+}
+
+impl Form {
+    /// Whether lines are JSON.
+    pub fn is_json(&self) -> bool
+        ensures { result ≡ is_json self.now }
+    {
+        matches!(self, Form::Json { .. })
+    }
+
+    /// The JSON texts, where lines are JSON.
+    pub(crate) fn texts(&self) -> Option<&JsonTexts>
+        ensures { (domain : ListOf Text) → IsFormOf domain self.now
+            → IfSome result (λ texts. texts.now ≡ map quoted domain) }
+    {
+        match self {
+            Form::Plain => None,
+            Form::Json { texts } => Some(texts),
+        }
     }
 }
 

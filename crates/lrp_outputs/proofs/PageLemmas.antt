@@ -9,7 +9,7 @@ use Rattle.lrp_model.specs.PrintedPages.{token_behind, token_of, token_text}
 use Rattle.lrp_model.specs.Tuples.{texts_at}
 use Rattle.lrp_model.specs.declared.tuples.Spot.{Spot}
 use Rattle.lrp_store.specs.Stores.{IsStore}
-use Rattle.lrp_store.specs.declared.answer.Answer.{Answer}
+use Rattle.lrp_answers.specs.declared.answer.Answer.{Answer}
 use Rattle.lrp_civil.specs.Moments.{IsCivilMinute}
 use Rattle.lrp_list.proofs.HeadOrder.{head_is}
 use Rattle.lrp_token.specs.Spots.{spot_token}

@@ -15,7 +15,7 @@ use Rattle.lrp_model.specs.declared.plans.StepKind.TheVariants.{Scan, Leaf, Sort
 use Rattle.lrp_model.specs.declared.tuples.Spot.{Spot}
 use Rattle.lrp_zone.specs.Zones.{ZoneView}
 use Rattle.lrp_store.specs.Stores.{StoreView, zone_of}
-use Rattle.lrp_store.specs.declared.answer.Answer.{Answer}
+use Rattle.lrp_answers.specs.declared.answer.Answer.{Answer}
 use Rattle.lrp_list.specs.Lines.{IsFormOf}
 use Rattle.lrp_list.specs.declared.texts.Form.{Form}
 use Rattle.lrp_list.specs.declared.texts.Form.TheVariants.{Plain, Json}

@@ -4,7 +4,7 @@ use Rattle.std.specs.List.{AllByRecursion}
 use Rattle.lrp_civil.specs.Moments.{IsCivilMinute}
 use Rattle.lrp_model.specs.PrintedPages.{IsSmall}
 use Rattle.lrp_model.specs.declared.tuples.Spot.{Spot}
-use Rattle.lrp_store.specs.declared.answer.Answer.{Answer}
+use Rattle.lrp_answers.specs.declared.answer.Answer.{Answer}
 use Rattle.lrp_outputs.specs.Spots.{HasKnownTexts}
 
 -- its times have a magnitude of at most 2^62

@@ -12,5 +12,6 @@ counts_text rows cells = codes "rows " ++ (decimal rows ++ (codes "\ncells " ++ 
 abbrev pub window_line : ℕ → List ℕ
 window_line count = codes "window " ++ (decimal count ++ codes "\n")
 
+-- the four lines: the rows, the cells, the least answer, and the answers in the window
 abbrev pub sample_lines : ℕ → ℕ → Option Tuple → ℕ → List ℕ
 sample_lines rows cells first count = counts_text rows cells ++ (first_line first ++ window_line count)

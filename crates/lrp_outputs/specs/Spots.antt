@@ -3,7 +3,7 @@ use Rattle.std.specs.Prelude.{◌<◌, length, take, Option, IfSome}
 use Rattle.std.specs.List.{AllByRecursion}
 use Rattle.lrp_model.specs.Rows.{Tuple}
 use Rattle.lrp_model.specs.declared.tuples.Spot.{Spot}
-use Rattle.lrp_store.specs.declared.answer.Answer.{Answer}
+use Rattle.lrp_answers.specs.declared.answer.Answer.{Answer}
 use Rattle.lrp_list.specs.Lines.{spot_tuple}
 
 -- the tuple that a spot of the answer stands for

@@ -4,9 +4,9 @@ ghost use Rattle.lrp_store.specs.Least.{HasRoom};
 ghost use Rattle.lrp_outputs.specs.Carried.{roomy_prop};
 ghost use Rattle.lrp_outputs.specs.Rooms.{IsRoomy};
 
+use lrp_answers::Answer;
 use lrp_io::{Failed, Sink, Text};
 use lrp_list::write_answer;
-use lrp_store::Answer;
 
 /// All answers of a query, whose text can be written.
 #[derive(Drop)]

@@ -5,11 +5,11 @@ ghost use Rattle.lrp_io.specs.Pieces.{IsWritten};
 ghost use Rattle.lrp_outputs.specs.First.{first_line};
 ghost use Rattle.lrp_outputs.specs.Spots.{IsKnownLeast, answer_tuple};
 
+use lrp_answers::Answer;
 use lrp_io::{Failed, Sink};
 use lrp_list::{Form, write_line};
 use lrp_model::Spot;
 use lrp_print::write_bytes;
-use lrp_store::Answer;
 
 /// Writes the plain line of a least answer, or `none` where there is none.
 pub fn write_first<S: Sink>(

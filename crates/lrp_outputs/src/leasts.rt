@@ -4,9 +4,9 @@ ghost use Rattle.lrp_outputs.specs.Carried.{leasts_prop};
 ghost use Rattle.lrp_outputs.specs.Spots.{IsKnownLeast};
 
 use crate::first::write_first;
+use lrp_answers::Answer;
 use lrp_io::{Failed, Sink, Text};
 use lrp_model::{List, Spot};
-use lrp_store::Answer;
 
 /// The least answers of one query over some databases, one after the other, by the numbers of one answer's domain.
 #[derive(Drop)]

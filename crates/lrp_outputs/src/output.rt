@@ -5,7 +5,7 @@ use crate::page::Page;
 use crate::plan::WritablePlan;
 use crate::report::Report;
 use crate::witness::Witness;
-use lrp_rel::Database;
+use lrp_database::Database;
 
 /// What a command writes.
 pub enum Output {

@@ -5,10 +5,10 @@ ghost use Rattle.lrp_outputs.specs.Carried.{civil_prop, form_prop, spots_prop};
 ghost use Rattle.lrp_outputs.specs.Known.{HaveCivilTimes, IsKnown};
 
 use crate::lines::write_page;
+use lrp_answers::Answer;
 use lrp_io::{Failed, Sink, Text};
 use lrp_list::Form;
 use lrp_model::{List, Spot};
-use lrp_store::Answer;
 
 /// Some answers one after the other, whether more come behind them, and the digest of the files that they are of. With
 /// `civil` their times are shown as dates.

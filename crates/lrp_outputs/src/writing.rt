@@ -9,10 +9,11 @@ use crate::output::Output;
 use crate::refusal::Refusal;
 use crate::watch_refusal::WatchRefusal;
 use itoa::Buffer;
+use lrp_database::Database;
 use lrp_io::{Failed, Sink, Text, write_buffered};
 use lrp_model::Place;
 use lrp_print::write_bytes;
-use lrp_rel::{Database, write_database};
+use lrp_rel::write_database;
 
 /// Writes an outcome's text, or a front of it where the sink fails.
 pub fn write_outcome<S: Sink>(out: &mut S, outcome: &Result<Output, Refusal>) -> Result<(), Failed>

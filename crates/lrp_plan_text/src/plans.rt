@@ -13,7 +13,8 @@ use lrp_io::{Failed, Sink};
 use lrp_model::{Name, Plan, Sort, Step, StepKind, Term, Test};
 use lrp_print::{write_bytes, write_count, write_integer, write_number, write_sort};
 
-/// Writes a plan: for each step a line with its number, its word and operands, its period and its reach. After a failure a front of the text was written.
+/// Writes a plan: for each step a line with its number, its word and operands, its period and its reach. After a
+/// failure a front of the text was written.
 pub fn write_plan<S: Sink>(out: &mut S, plan: &Plan) -> Result<(), Failed>
     requires { AllByRecursion StepHasPeriods plan.now.steps }
     ensures text { IsWritten (S.written out.old) (S.written out.new) (plan_bytes plan.now) result }

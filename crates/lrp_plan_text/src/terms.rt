@@ -1,6 +1,6 @@
 // Terms and tests.
-ghost use Rattle.std.specs.Prelude.{◌≡◌, ◌≤ℤ◌, ◌++◌, pos, codes};
-ghost use Rattle.std.specs.List.{flat_map, AllByRecursion};
+ghost use Rattle.std.specs.Prelude.{⊤, ◌≡◌, ◌≤ℤ◌, ◌++◌, pos, codes};
+ghost use Rattle.std.specs.List.{AllByRecursion};
 ghost use Rattle.lrp_io.specs.Causes.{HasCause};
 ghost use Rattle.lrp_io.specs.Pieces.{IsWritten};
 ghost use Rattle.lrp_model.specs.Printed.{joined_by, point_bytes, offset_bytes};
@@ -9,7 +9,9 @@ ghost use Rattle.lrp_plan_text.specs.Writable.{TestHasPeriod};
 
 use lrp_io::{Failed, Sink};
 use lrp_model::{DataTerm, Name, Op, RowPoint, Term, Test, TimeTerm};
-use lrp_print::{write_bytes, write_integer, write_offset, write_point, write_quoted};
+use lrp_print::{
+    Notation, write_bytes, write_integer, write_joined, write_offset, write_point, write_quoted,
+};
 
 // A variable with its offset.
 fn write_variable<S: Sink>(out: &mut S, name: &Name, plus: &i64) -> Result<(), Failed>
@@ -130,25 +132,20 @@ pub(crate) fn leaf_word(test: &Test) -> &'static [u8]
     }
 }
 
-fn write_next_term<S: Sink>(out: &mut S, term: &Term) -> Result<(), Failed>
-    ensures text { IsWritten (S.written out.old) (S.written out.new)
-        (codes ", " ++ term_bytes term.now) result }
-    ensures cause { HasCause (S.faults out.old) (S.faults out.new) result }
-{
-    write_bytes(out, b", ")?;
-    write_term(out, term)
-}
+// Terms.
+#[derive(Clone, Copy)]
+struct Terms;
 
-// Terms, with a comma before each.
-fn write_further_terms<S: Sink>(out: &mut S, terms: &[Term]) -> Result<(), Failed>
-    ensures text { IsWritten (S.written out.old) (S.written out.new)
-        (flat_map (λ x. codes ", " ++ term_bytes x) terms.now) result }
-    ensures cause { HasCause (S.faults out.old) (S.faults out.new) result }
-{
-    for term in terms {
-        write_next_term(out, term)?;
+impl Notation for Terms {
+    type Item = Term;
+
+    ghost spells = { λ _ _. ⊤ };
+
+    ghost bytes = { λ _ term. term_bytes term };
+
+    fn write<S: Sink>(&self, out: &mut S, term: &Term) -> Result<(), Failed> {
+        write_term(out, term)
     }
-    Ok(())
 }
 
 /// Terms, with commas between.
@@ -157,51 +154,22 @@ pub(crate) fn write_terms<S: Sink>(out: &mut S, terms: &[Term]) -> Result<(), Fa
         (joined_by (codes ", ") term_bytes terms.now) result }
     ensures cause { HasCause (S.faults out.old) (S.faults out.new) result }
 {
-    match terms {
-        [] => Ok(()),
-        [first, rest @ ..] => {
-            write_term(out, first)?;
-            write_further_terms(out, rest)
-        }
-    }
+    write_joined(out, &Terms, b", ", terms)
 }
 
-fn write_next_test<S: Sink>(out: &mut S, test: &Test) -> Result<(), Failed>
-    requires { TestHasPeriod test.now }
-    ensures text { IsWritten (S.written out.old) (S.written out.new)
-        (codes ", " ++ test_bytes test.now) result }
-    ensures cause { HasCause (S.faults out.old) (S.faults out.new) result }
-{
-    write_bytes(out, b", ")?;
-    write_test(out, test)
-}
+// Tests.
+#[derive(Clone, Copy)]
+struct Tests;
 
-// Tests, with a comma before each.
-fn write_further_tests<S: Sink>(out: &mut S, tests: &[Test]) -> Result<(), Failed>
-    requires { AllByRecursion TestHasPeriod tests.now }
-    ensures text { IsWritten (S.written out.old) (S.written out.new)
-        (flat_map (λ x. codes ", " ++ test_bytes x) tests.now) result }
-    ensures cause { HasCause (S.faults out.old) (S.faults out.new) result }
-{
-    for test in tests {
-        write_next_test(out, test)?;
-    }
-    Ok(())
-}
+impl Notation for Tests {
+    type Item = Test;
 
-// Tests, with commas between.
-fn write_tests<S: Sink>(out: &mut S, tests: &[Test]) -> Result<(), Failed>
-    requires { AllByRecursion TestHasPeriod tests.now }
-    ensures text { IsWritten (S.written out.old) (S.written out.new)
-        (joined_by (codes ", ") test_bytes tests.now) result }
-    ensures cause { HasCause (S.faults out.old) (S.faults out.new) result }
-{
-    match tests {
-        [] => Ok(()),
-        [first, rest @ ..] => {
-            write_test(out, first)?;
-            write_further_tests(out, rest)
-        }
+    ghost spells = { λ _ test. TestHasPeriod test };
+
+    ghost bytes = { λ _ test. test_bytes test };
+
+    fn write<S: Sink>(&self, out: &mut S, test: &Test) -> Result<(), Failed> {
+        write_test(out, test)
     }
 }
 
@@ -216,7 +184,7 @@ pub(crate) fn write_carried<S: Sink>(out: &mut S, tests: &[Test]) -> Result<(), 
         [] => Ok(()),
         [_, ..] => {
             write_bytes(out, b" where ")?;
-            write_tests(out, tests)
+            write_joined(out, &Tests, b", ", tests)
         }
     }
 }

@@ -28,7 +28,7 @@ use Rattle.lrp_model.specs.Faults.{fault_if, repeated, ninth, is_named_in}
 use Rattle.lrp_model.specs.DatabaseFaults.{database_fault, wrong_sorts, unknown, side_faults, row_faults, named_at, relation_faults, database_faults}
 use Rattle.lrp_model.specs.DatabaseMeaning.{column_of, time_number}
 use Rattle.lrp_model.specs.Printed.{time_name, value_bytes, bound_bytes, column_bytes, row_line, relation_bytes}
-use Rattle.lrp_print.specs.Kept.{AreValuesOf, IsBoundOf, IsRowOf, IsKept, AreKept}
+use Rattle.lrp_model.specs.Kept.{AreValuesOf, IsBoundOf, IsRowOf, IsKept, AreKept}
 use Rattle.lrp_print.proofs.PieceLaws.{IsShort, short, trees, behind_comma, behind}
 use Rattle.lrp_print.proofs.Trees.{value_at, IsReadable, values_readable, times_cons, side_tree, lower_tree, upper_tree, between_tree, bound_tree, row_tree, row_at, relation_tree}
 use Rattle.lrp_print.proofs.Meant.{trees_all, columns_mean, not_equal, numbered_as, above, period_is}

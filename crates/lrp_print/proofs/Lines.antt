@@ -31,22 +31,6 @@ joined_rest between text (x ∷ xs) a lt e =
     let all : take (length (x ∷ xs) - 1) xs ≡ xs = take_all (length (x ∷ xs) - 1) xs few in
     ap (λ y. text y ++ flat_map (λ z. between ++ text z) (take (length (x ∷ xs) - 1) xs)) e ∙ ap (λ y. text x ++ flat_map (λ z. between ++ text z) y) all ∙ joined_first between text x xs
 
--- what holds of each element holds of the one at an index
-pub all_at : {A : Type 0} (P : A → Type 0) (xs : List A) (i : ℕ) (a : A) → AllByRecursion P xs → i < length xs → a ≡ get_or xs i a → P a
-all_at P [] i a h lt e = absurd (omega arith)
-all_at P (x ∷ xs) zero a h lt e = subst P (sym e) h.0
-all_at P (x ∷ xs) (suc i) a h lt e = all_at P xs i a h.1 (omega arith) e
-
--- what holds of each element, where one fact gives another
-pub all_as : {A : Type 0} (P Q : A → Type 0) → ((a : A) → P a → Q a) → (xs : List A) → AllByRecursion P xs → AllByRecursion Q xs
-all_as P Q f [] h = tt
-all_as P Q f (x ∷ xs) h = (f x h.0, all_as P Q f xs h.1)
-
--- the first element does not depend on what a read past the end gives
-pub first_of : {A : Type 0} (xs : List A) (d : A) → 1 ≤ length xs → get_or xs 0 d ≡ get_or xs 0 (get_or xs 0 d)
-first_of [] d lt = absurd (omega arith)
-first_of (x ∷ xs) d lt = refl
-
 -- after the bytes of some elements, those of the next
 pub item_step : {A : Type 0} (f : A → List ℕ) (xs : List A) (i : ℕ) (a : A) (old now new : Option (List ℕ)) → i < length xs → a ≡ get_or xs i a → now ≡ appended old (flat_map f (take i xs)) → new ≡ appended now (f a) → new ≡ appended old (flat_map f (take (i + 1) xs))
 item_step f xs i a old now new lt e w n = each_step f xs i a old now new lt w (n ∙ ap (λ x. appended now (f x)) e)

@@ -21,7 +21,7 @@ use Rattle.lrp_model.specs.Texts.{Identifier, AreDistinct}
 use Rattle.lrp_model.specs.Sorts.{is_time, time_count}
 use Rattle.lrp_model.specs.Printed.{time_name, value_bytes, bound_bytes, column_bytes, row_line, relation_bytes}
 use Rattle.lrp_model.specs.DatabaseMeaning.{integer_of, column_of, time_number, value_of, bound_of, instant_bounds, side_bounds, kept_bounds, row_of, relation_of, database_of}
-use Rattle.lrp_print.specs.Kept.{IsBoundOf, IsRowOf, IsKept}
+use Rattle.lrp_model.specs.Kept.{IsBoundOf, IsRowOf, IsKept}
 use Rattle.lrp_print.proofs.PieceLaws.{written, trees, behind_comma, behind}
 use Rattle.lrp_print.proofs.Trees.{value_at, IsReadable, values_readable, column_tree, times_cons, side_tree, lower_tree, upper_tree, between_tree, bound_tree, bound_trees, row_tree, row_at, relation_tree}
 

@@ -15,7 +15,8 @@ use Rattle.lrp_model.specs.Tokens.{Token, Part, from, separated}
 use Rattle.lrp_model.specs.Tokens.Token.{name_token, word_token, number_token, text_token, symbol_token}
 use Rattle.lrp_model.specs.Tokens.Part.{at, any}
 use Rattle.lrp_model.specs.Databases.{comma, integer_text}
-use Rattle.lrp_model.specs.Lexing.{is_letter, is_name_byte, run, value_from, word_or_name, scan, symbol_from, after}
+use Rattle.std.specs.Str.Parse.{digits_value}
+use Rattle.lrp_model.specs.Lexing.{is_letter, is_name_byte, run, word_or_name, scan, symbol_from, after}
 use Rattle.std.specs.Char.{is_ascii_digit}
 use Rattle.lrp_model.specs.Limits.{greatest_number}
 use Rattle.lrp_model.specs.Printed.{joined_by, quoted, escaped}
@@ -142,7 +143,7 @@ number_at n p rest lt s =
     let w = decimal_number n lt in
     let P : ℕ → Type 0 = λ m. Spelled (at p (number_token m) ∷ []) p (w.first ∷ w.others) rest in
     let Q : List ℕ → Type 0 = λ bs. Spelled (at p (number_token n) ∷ []) p bs rest in
-    subst Q (sym w.is) (subst P w.value (token_at (number_token (value_from 0 (w.first ∷ w.others))) p w.first w.others rest tt (digit_begins w.first w.digit) (number_scanned w.first w.others rest w.digit w.whole s)))
+    subst Q (sym w.is) (subst P w.value (token_at (number_token (digits_value 10 (w.first ∷ w.others))) p w.first w.others rest tt (digit_begins w.first w.digit) (number_scanned w.first w.others rest w.digit w.whole s)))
 
 -- a number at any place
 pub number_any : (n : ℕ) (p : Place) (rest : List ℕ) → n < 2 ^ 64 → Stops is_ascii_digit rest → Spelled (any (number_token n) ∷ []) p (decimal n) rest
@@ -150,7 +151,7 @@ number_any n p rest lt s =
     let w = decimal_number n lt in
     let P : ℕ → Type 0 = λ m. Spelled (any (number_token m) ∷ []) p (w.first ∷ w.others) rest in
     let Q : List ℕ → Type 0 = λ bs. Spelled (any (number_token n) ∷ []) p bs rest in
-    subst Q (sym w.is) (subst P w.value (token_any (number_token (value_from 0 (w.first ∷ w.others))) p w.first w.others rest tt (digit_begins w.first w.digit) (number_scanned w.first w.others rest w.digit w.whole s)))
+    subst Q (sym w.is) (subst P w.value (token_any (number_token (digits_value 10 (w.first ∷ w.others))) p w.first w.others rest tt (digit_begins w.first w.digit) (number_scanned w.first w.others rest w.digit w.whole s)))
 
 -- an integer as it is written
 abbrev pub written : ℤ → Integer

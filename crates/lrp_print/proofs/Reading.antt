@@ -11,7 +11,7 @@ use Rattle.lrp_model.specs.Lexing.{after, start, tokens, tokens_from, skip, scan
 use Rattle.lrp_model.specs.Databases.{relation_text, database_text}
 use Rattle.lrp_model.specs.Printed.{relation_bytes, database_bytes}
 use Rattle.lrp_text.proofs.Sound.{takes_join}
-use Rattle.lrp_print.specs.Kept.{IsKept, AreKept}
+use Rattle.lrp_model.specs.Kept.{IsKept, AreKept}
 use Rattle.lrp_print.specs.ReadBack.{ReadsBack}
 use Rattle.lrp_print.proofs.Spelling.{tokens_at}
 use Rattle.lrp_print.proofs.PieceLaws.{trees, behind}

@@ -10,8 +10,8 @@ use Rattle.lrp_model.specs.declared.relations.Value.{Value}
 use Rattle.lrp_model.specs.declared.relations.Value.TheVariants.{Point, Const}
 use Rattle.lrp_model.specs.declared.relations.Row.{Row}
 use Rattle.lrp_model.specs.declared.relations.Relation.{Relation}
-use Rattle.lrp_print.specs.Kept.{HasLowPeriod, IsWritable, AreValuesOf, IsBoundOf, IsRowOf, IsKept}
-use Rattle.lrp_print.proofs.Lines.{all_as}
+use Rattle.lrp_model.specs.Kept.{HasLowPeriod, IsWritable, AreValuesOf, IsBoundOf, IsRowOf, IsKept}
+use Rattle.lrp_model.proofs.Everywhere.{all_as}
 use Rattle.lrp_model.specs.Sorts.{time_count}
 
 -- the lines of rows that are spelled in another way
@@ -34,7 +34,3 @@ periods (c ∷ cs) (Const t ∷ vs) h = (tt, periods cs vs h.1)
 -- the rows that are kept can be written
 pub kept_writable : (r : Relation) → IsKept r → AllByRecursion IsWritable r.rows
 kept_writable r k = all_as (IsRowOf r.columns) IsWritable (λ row h. record { values = periods r.columns row.values h.values; bounds = all_as (IsBoundOf (time_count r.columns)) (λ b. neg_ℤ (pos greatest_number) ≤ℤ b.most) (λ b g. g.low) row.bounds h.bounds }) r.rows k.rows
-
--- what a read past the end of a list of bounds gives
-abbrev pub no_bound : Bound
-no_bound = record { left = 0; right = 0; most = pos 0 }

@@ -14,7 +14,7 @@ use Rattle.lrp_model.specs.declared.relations.Row.{Row}
 use Rattle.lrp_model.specs.declared.relations.Relation.{Relation}
 use Rattle.lrp_model.specs.Rows.{Datum, time, text, IsOf, IsInRow, rows_in, rows_of}
 use Rattle.lrp_model.proofs.Decided.{cons_cases, contains_first, contains_later, contains_none}
-use Rattle.lrp_print.specs.Kept.{IsRowOf, IsKept}
+use Rattle.lrp_model.specs.Kept.{IsRowOf, IsKept}
 use Rattle.lrp_print.specs.ReadBack.{IsSame, AreSame}
 use Rattle.lrp_print.proofs.Trees.{IsReadable, values_readable}
 use Rattle.lrp_print.proofs.Meant.{reduced_value, reduced_row, reduced}

@@ -1,12 +1,11 @@
 -- The token that a written piece begins with, before what may follow it.
-use Rattle.std.proofs.Common.{◌≡◌, ◌<◌, ◌^◌, ◌+◌, ◌-◌, ◌*◌, ℕ, Bool, true, false, ◌||◌, ◌==◌, if◌then◌else◌, List, [], ◌∷◌, ◌++◌, length, refl, ap, ◌∙◌, sym, subst, Result, Ok, Err, arith, append_assoc}
+use Rattle.std.proofs.Common.{◌≡◌, ◌<◌, ◌^◌, ◌+◌, ℕ, Bool, true, false, ◌||◌, ◌==◌, if◌then◌else◌, List, [], ◌∷◌, ◌++◌, length, refl, ap, ◌∙◌, sym, subst, Result, Ok, Err, arith, append_assoc}
 use Rattle.std.proofs.lemmas.Bool.Decides.{nat_tests}
 use Rattle.std.specs.List.{flat_map, AllByRecursion}
 use Rattle.std.specs.Fmt.{decimal}
-use Rattle.std.specs.Str.Parse.{AllDigits, digits_value_after}
+use Rattle.std.specs.Str.Parse.{AllDigits, digits_value}
 use Rattle.std.specs.Char.{digit_value, is_ascii_digit}
 use Rattle.std.proofs.lemmas.Fmt.{decimal_is_IsNumeral}
-use Rattle.std.proofs.lemmas.Str.{digit_value_digit}
 use Rattle.std.proofs.lemmas.Str.Parse.{digit_from_value}
 use Rattle.lrp_model.specs.declared.tokens.Symbol.{Symbol}
 use Rattle.lrp_model.specs.declared.tokens.Symbol.TheVariants.{Open, Close, OpenBrace, CloseBrace, Comma, Colon, Semicolon, Bar, Plus, Minus, Le, Ge, Lt, Gt, Equals}
@@ -14,7 +13,7 @@ use Rattle.lrp_model.specs.Texts.{Identifier}
 use Rattle.lrp_model.specs.Tokens.{Token}
 use Rattle.lrp_model.specs.Tokens.Token.{name_token, number_token, text_token}
 use Rattle.lrp_model.specs.Printed.{escaped, quoted}
-use Rattle.lrp_model.specs.Lexing.{is_letter, is_name_byte, is_forbidden, run, behind_run, value_from, word_or_name, Scanned, QuotedText as TextRead, text_from, text_scanned, one, one_or_two, symbol_from, scan}
+use Rattle.lrp_model.specs.Lexing.{is_letter, is_name_byte, is_forbidden, run, behind_run, word_or_name, Scanned, QuotedText as TextRead, text_from, text_scanned, one, one_or_two, symbol_from, scan}
 use Rattle.lrp_text.proofs.Scans.{chosen}
 use Rattle.lrp_model.specs.Names.{IsName}
 use Rattle.lrp_print.proofs.Spelling.{took, Begins}
@@ -117,15 +116,6 @@ digits_run (c ∷ cs) d = rw (digit_told c d.0) (ap (λ x. c ∷ x) (digits_run 
     digit_told : (c : ℕ) → digit_value c < 10 → is_ascii_digit c ≡ true
     digit_told c lt = let k = digit_from_value c lt in grind (arith, nat_tests)
 
--- the value of digits behind a number
-digits_from : (n : ℕ) (ds : List ℕ) → AllDigits 10 ds → value_from n ds ≡ digits_value_after 10 n ds
-unfolding value_from
-digits_from n [] d = refl
-digits_from n (c ∷ cs) d =
-    let k = digit_value_digit c (digit_from_value c d.0) in
-    let e : 10 * n + (c - 48) ≡ n * 10 + digit_value c = omega (arith, k) in
-    ap (λ m. value_from m cs) e ∙ digits_from (n * 10 + digit_value c) cs d.1
-
 -- a number as it is written: a digit and others, all of them one run, of its value
 pub record IsNumber (n : ℕ) : Type 0 where
   pub first : ℕ
@@ -133,7 +123,7 @@ pub record IsNumber (n : ℕ) : Type 0 where
   pub is : decimal n ≡ first ∷ others
   pub digit : is_ascii_digit first ≡ true
   pub whole : run is_ascii_digit (first ∷ others) ≡ first ∷ others
-  pub value : value_from 0 (first ∷ others) ≡ n
+  pub value : digits_value 10 (first ∷ others) ≡ n
 
 -- a digit begins the run
 first_digit : (b : ℕ) (bs : List ℕ) → run is_ascii_digit (b ∷ bs) ≡ b ∷ bs → is_ascii_digit b ≡ true
@@ -148,9 +138,9 @@ first_digit b bs e = by (is_ascii_digit b) refl e
 pub decimal_number : (n : ℕ) → n < 2 ^ 64 → IsNumber n
 decimal_number n lt =
     let k = decimal_is_IsNumeral n lt in
-    by (decimal n) refl k.0.0 k.0.1 (digits_from 0 (decimal n) k.0.1 ∙ k.1)
+    by (decimal n) refl k.0.0 k.0.1 k.1
   where
-    by : (ds : List ℕ) → decimal n ≡ ds → 0 < length ds → AllDigits 10 ds → value_from 0 ds ≡ n → IsNumber n
+    by : (ds : List ℕ) → decimal n ≡ ds → 0 < length ds → AllDigits 10 ds → digits_value 10 ds ≡ n → IsNumber n
     by [] e some d v = absurd (omega (arith, some))
     by (b ∷ bs) e some d v = let whole = digits_run (b ∷ bs) d in record { first = b; others = bs; is = e; digit = first_digit b bs whole; whole = whole; value = v }
 
@@ -163,12 +153,12 @@ pub digit_begins : (b : ℕ) → is_ascii_digit b ≡ true → Begins b
 digit_begins b e = record { plain = grind (arith, nat_tests); dark = grind (arith, nat_tests) }
 
 -- a run of digits is one token
-pub number_scanned : (b : ℕ) (bs rest : List ℕ) → is_ascii_digit b ≡ true → run is_ascii_digit (b ∷ bs) ≡ b ∷ bs → Stops is_ascii_digit rest → scan (b ∷ (bs ++ rest)) ≡ took (number_token (value_from 0 (b ∷ bs))) (b ∷ bs) rest
+pub number_scanned : (b : ℕ) (bs rest : List ℕ) → is_ascii_digit b ≡ true → run is_ascii_digit (b ∷ bs) ≡ b ∷ bs → Stops is_ascii_digit rest → scan (b ∷ (bs ++ rest)) ≡ took (number_token (digits_value 10 (b ∷ bs))) (b ∷ bs) rest
 unfolding scan
 number_scanned b bs rest e whole s =
     let k = run_over is_ascii_digit (b ∷ bs) rest whole s in
-    let here : scan (b ∷ (bs ++ rest)) ≡ took (number_token (value_from 0 (run is_ascii_digit (b ∷ (bs ++ rest))))) (run is_ascii_digit (b ∷ (bs ++ rest))) (behind_run is_ascii_digit (b ∷ (bs ++ rest))) = rw (digit_no_letter b e, e) refl in
-    here ∙ ap (λ r. took (number_token (value_from 0 r)) r (behind_run is_ascii_digit (b ∷ (bs ++ rest)))) k.0 ∙ ap (took (number_token (value_from 0 (b ∷ bs))) (b ∷ bs)) k.1
+    let here : scan (b ∷ (bs ++ rest)) ≡ took (number_token (digits_value 10 (run is_ascii_digit (b ∷ (bs ++ rest))))) (run is_ascii_digit (b ∷ (bs ++ rest))) (behind_run is_ascii_digit (b ∷ (bs ++ rest))) = rw (digit_no_letter b e, e) refl in
+    here ∙ ap (λ r. took (number_token (digits_value 10 r)) r (behind_run is_ascii_digit (b ∷ (bs ++ rest)))) k.0 ∙ ap (took (number_token (digits_value 10 (b ∷ bs))) (b ∷ bs)) k.1
 
 -- ---- data texts
 

@@ -43,7 +43,7 @@ use Rattle.std.specs.Char.{is_ascii_digit}
 use Rattle.lrp_model.specs.Limits.{greatest_number}
 use Rattle.lrp_model.specs.Printed.{joined_by, value_bytes, column_bytes, sort_bytes, time_name, offset_bytes, bound_bytes, bounds_bytes, row_line, relation_bytes}
 use Rattle.lrp_model.specs.Names.{IsName, IsNamedSort, AreNamed}
-use Rattle.lrp_print.specs.Kept.{AreValuesOf, IsBoundOf, IsRowOf, IsKept}
+use Rattle.lrp_model.specs.Kept.{AreValuesOf, IsBoundOf, IsRowOf, IsKept}
 use Rattle.lrp_print.proofs.Spelling.{Spelled, nothing, both}
 use Rattle.lrp_print.proofs.Scanned.{Stops, IsPlain}
 use Rattle.lrp_print.proofs.PieceLaws.{space, feed, open_at, open_any, close, open_brace, close_brace, colon, semicolon, plus, minus, at_most, at_least, relation_word, where_word, letter_word, time_at, data_at, name_at, number_any, written, IsShort, short, integer_any, integer_at, text_at, trees, behind_comma, behind, separated_spelled, joined_spelled}

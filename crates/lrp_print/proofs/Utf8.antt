@@ -26,7 +26,7 @@ use Rattle.lrp_model.specs.Sorts.{is_time, time_count}
 use Rattle.lrp_model.specs.Lexing.{is_name_byte, run}
 use Rattle.lrp_model.specs.Printed.{joined_by, escaped, quoted, value_bytes, sort_bytes, column_bytes, time_name, offset_bytes, bound_bytes, bounds_bytes, row_line, relation_bytes}
 use Rattle.lrp_model.specs.Names.{IsName, IsNamedSort, AreNamed}
-use Rattle.lrp_print.specs.Kept.{IsBoundOf, IsRowOf, IsKept}
+use Rattle.lrp_model.specs.Kept.{IsBoundOf, IsRowOf, IsKept}
 use Rattle.lrp_print.proofs.Scanned.{name_word}
 use Rattle.lrp_print.proofs.PieceLaws.{IsShort, short}
 use Rattle.lrp_print.proofs.Trees.{IsReadable, values_readable}

@@ -1,9 +1,11 @@
 //! Texts as they are written out: numbers, data texts, sorts, points and offsets, and relations made of them.
 #![tactic(auto)]
 
+mod notation;
 mod pieces;
 mod relations;
 
+pub use notation::{Notation, write_each, write_joined};
 pub use pieces::{
     write_bytes, write_count, write_integer, write_number, write_offset, write_point, write_quoted,
     write_sort,

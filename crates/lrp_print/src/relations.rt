@@ -1,14 +1,15 @@
 // Relations as they are written out.
-ghost use Rattle.std.specs.Prelude.{◌≡◌, ◌≤ℤ◌, ◌++◌, ◌∷◌, [], pos, codes, neg_ℤ};
-ghost use Rattle.std.specs.List.{flat_map, AllByRecursion};
+ghost use Rattle.std.specs.Prelude.{⊤, ◌≡◌, ◌≤ℤ◌, ◌++◌, ◌∷◌, [], pos, codes, neg_ℤ};
+ghost use Rattle.std.specs.List.{AllByRecursion};
 ghost use Rattle.std.specs.Fmt.{signed_decimal};
 ghost use Rattle.lrp_io.specs.Causes.{HasCause};
 ghost use Rattle.lrp_io.specs.Pieces.{IsWritten};
 ghost use Rattle.lrp_model.specs.Printed.{column_bytes, value_bytes, time_name, offset_bytes, bound_bytes, bounds_bytes, row_line, relation_bytes, database_bytes, joined_by};
 ghost use Rattle.lrp_model.specs.Limits.{greatest_number};
-ghost use Rattle.lrp_print.specs.Kept.{HasLowPeriod, IsKept, IsWritable};
+ghost use Rattle.lrp_model.specs.Kept.{HasLowPeriod, IsKept, IsWritable};
 ghost use Rattle.lrp_print.specs.ReadBack.{ReadsBack};
 
+use crate::notation::{Notation, write_each, write_joined};
 use crate::pieces::{
     write_bytes, write_integer, write_offset, write_point, write_quoted, write_sort,
 };
@@ -16,25 +17,40 @@ use itoa::Buffer;
 use lrp_io::{Failed, Sink, put_all};
 use lrp_model::{Bound, Column, Relation, Row, Value};
 
-fn write_column<S: Sink>(out: &mut S, column: &Column) -> Result<(), Failed>
-    ensures text { IsWritten (S.written out.old) (S.written out.new)
-        (column_bytes column.now) result }
-    ensures cause { HasCause (S.faults out.old) (S.faults out.new) result }
-{
-    write_bytes(out, column.name.as_bytes())?;
-    write_bytes(out, b": ")?;
-    write_sort(out, &column.sort)
+// Columns, as `name: sort`.
+#[derive(Clone, Copy)]
+struct Columns;
+
+impl Notation for Columns {
+    type Item = Column;
+
+    ghost spells = { λ _ _. ⊤ };
+
+    ghost bytes = { λ _ column. column_bytes column };
+
+    fn write<S: Sink>(&self, out: &mut S, column: &Column) -> Result<(), Failed> {
+        write_bytes(out, column.name.as_bytes())?;
+        write_bytes(out, b": ")?;
+        write_sort(out, &column.sort)
+    }
 }
 
-fn write_value<S: Sink>(out: &mut S, value: &Value) -> Result<(), Failed>
-    requires { HasLowPeriod value.now }
-    ensures text { IsWritten (S.written out.old) (S.written out.new)
-        (value_bytes value.now) result }
-    ensures cause { HasCause (S.faults out.old) (S.faults out.new) result }
-{
-    match value {
-        Value::Point { at } => write_point(out, at),
-        Value::Const { text } => write_quoted(out, text.as_bytes()),
+// Points, and constants in quotes.
+#[derive(Clone, Copy)]
+struct Values;
+
+impl Notation for Values {
+    type Item = Value;
+
+    ghost spells = { λ _ value. HasLowPeriod value };
+
+    ghost bytes = { λ _ value. value_bytes value };
+
+    fn write<S: Sink>(&self, out: &mut S, value: &Value) -> Result<(), Failed> {
+        match value {
+            Value::Point { at } => write_point(out, at),
+            Value::Const { text } => write_quoted(out, text.as_bytes()),
+        }
     }
 }
 
@@ -104,40 +120,28 @@ fn write_between<S: Sink>(out: &mut S, columns: &[Column], bound: &Bound) -> Res
     write_offset(out, &bound.most)
 }
 
-fn write_bound<S: Sink>(out: &mut S, columns: &[Column], bound: &Bound) -> Result<(), Failed>
-    requires { neg_ℤ (pos greatest_number) ≤ℤ bound.now.most }
-    ensures text { IsWritten (S.written out.old) (S.written out.new)
-        (bound_bytes columns.now bound.now) result }
-    ensures cause { HasCause (S.faults out.old) (S.faults out.new) result }
-{
-    if bound.left == 0 {
-        write_lower(out, columns, bound)
-    } else if bound.right == 0 {
-        write_upper(out, columns, bound)
-    } else {
-        write_between(out, columns, bound)
-    }
+// Bounds of the times of these columns.
+#[derive(Clone, Copy)]
+struct Bounds<'a> {
+    columns: &'a [Column],
 }
 
-fn write_next_column<S: Sink>(out: &mut S, column: &Column) -> Result<(), Failed>
-    ensures text { IsWritten (S.written out.old) (S.written out.new)
-        (codes ", " ++ column_bytes column.now) result }
-    ensures cause { HasCause (S.faults out.old) (S.faults out.new) result }
-{
-    write_bytes(out, b", ")?;
-    write_column(out, column)
-}
+impl Notation for Bounds<'_> {
+    type Item = Bound;
 
-// Columns, with a comma before each.
-fn write_further_columns<S: Sink>(out: &mut S, columns: &[Column]) -> Result<(), Failed>
-    ensures text { IsWritten (S.written out.old) (S.written out.new)
-        (flat_map (λ x. codes ", " ++ column_bytes x) columns.now) result }
-    ensures cause { HasCause (S.faults out.old) (S.faults out.new) result }
-{
-    for column in columns {
-        write_next_column(out, column)?;
+    ghost spells = { λ _ bound. neg_ℤ (pos greatest_number) ≤ℤ bound.most };
+
+    ghost bytes = { λ s bound. bound_bytes s.columns.now bound };
+
+    fn write<S: Sink>(&self, out: &mut S, bound: &Bound) -> Result<(), Failed> {
+        if bound.left == 0 {
+            write_lower(out, self.columns, bound)
+        } else if bound.right == 0 {
+            write_upper(out, self.columns, bound)
+        } else {
+            write_between(out, self.columns, bound)
+        }
     }
-    Ok(())
 }
 
 /// Columns, with commas between. After a failure a front of them was written.
@@ -146,95 +150,7 @@ pub fn write_columns<S: Sink>(out: &mut S, columns: &[Column]) -> Result<(), Fai
         (joined_by (codes ", ") column_bytes columns.now) result }
     ensures cause { HasCause (S.faults out.old) (S.faults out.new) result }
 {
-    match columns {
-        [] => Ok(()),
-        [first, rest @ ..] => {
-            write_column(out, first)?;
-            write_further_columns(out, rest)
-        }
-    }
-}
-
-fn write_next_value<S: Sink>(out: &mut S, value: &Value) -> Result<(), Failed>
-    requires { HasLowPeriod value.now }
-    ensures text { IsWritten (S.written out.old) (S.written out.new)
-        (codes ", " ++ value_bytes value.now) result }
-    ensures cause { HasCause (S.faults out.old) (S.faults out.new) result }
-{
-    write_bytes(out, b", ")?;
-    write_value(out, value)
-}
-
-// Values, with a comma before each.
-fn write_further_values<S: Sink>(out: &mut S, values: &[Value]) -> Result<(), Failed>
-    requires { AllByRecursion HasLowPeriod values.now }
-    ensures text { IsWritten (S.written out.old) (S.written out.new)
-        (flat_map (λ x. codes ", " ++ value_bytes x) values.now) result }
-    ensures cause { HasCause (S.faults out.old) (S.faults out.new) result }
-{
-    for value in values {
-        write_next_value(out, value)?;
-    }
-    Ok(())
-}
-
-// Values, with commas between.
-fn write_values<S: Sink>(out: &mut S, values: &[Value]) -> Result<(), Failed>
-    requires { AllByRecursion HasLowPeriod values.now }
-    ensures text { IsWritten (S.written out.old) (S.written out.new)
-        (joined_by (codes ", ") value_bytes values.now) result }
-    ensures cause { HasCause (S.faults out.old) (S.faults out.new) result }
-{
-    match values {
-        [] => Ok(()),
-        [first, rest @ ..] => {
-            write_value(out, first)?;
-            write_further_values(out, rest)
-        }
-    }
-}
-
-fn write_next_bound<S: Sink>(out: &mut S, columns: &[Column], bound: &Bound) -> Result<(), Failed>
-    requires { neg_ℤ (pos greatest_number) ≤ℤ bound.now.most }
-    ensures text { IsWritten (S.written out.old) (S.written out.new)
-        (codes ", " ++ bound_bytes columns.now bound.now) result }
-    ensures cause { HasCause (S.faults out.old) (S.faults out.new) result }
-{
-    write_bytes(out, b", ")?;
-    write_bound(out, columns, bound)
-}
-
-// Bounds, with a comma before each.
-fn write_further_bounds<S: Sink>(
-    out: &mut S,
-    columns: &[Column],
-    bounds: &[Bound],
-) -> Result<(), Failed>
-    requires { AllByRecursion (λ b. neg_ℤ (pos greatest_number) ≤ℤ b.most) bounds.now }
-    ensures text { IsWritten (S.written out.old) (S.written out.new)
-        (flat_map (λ x. codes ", " ++ bound_bytes columns.now x) bounds.now) result }
-    ensures cause { HasCause (S.faults out.old) (S.faults out.new) result }
-{
-    for bound in bounds {
-        write_next_bound(out, columns, bound)?;
-    }
-    Ok(())
-}
-
-// Bounds, with commas between.
-fn write_bounds<S: Sink>(out: &mut S, columns: &[Column], bounds: &[Bound]) -> Result<(), Failed>
-    requires { AllByRecursion (λ b. neg_ℤ (pos greatest_number) ≤ℤ b.most) bounds.now }
-    ensures text { IsWritten (S.written out.old) (S.written out.new)
-        (joined_by (codes ", ") (bound_bytes columns.now) bounds.now) result }
-    ensures cause { HasCause (S.faults out.old) (S.faults out.new) result }
-{
-    match bounds {
-        [] => Ok(()),
-        [first, rest @ ..] => {
-            write_bound(out, columns, first)?;
-            write_further_bounds(out, columns, rest)
-        }
-    }
+    write_joined(out, &Columns, b", ", columns)
 }
 
 /// ` where ` and the bounds, if there are any. After a failure a front of them was written.
@@ -252,36 +168,31 @@ pub fn write_conditions<S: Sink>(
         [] => Ok(()),
         [_, ..] => {
             write_bytes(out, b" where ")?;
-            write_bounds(out, columns, bounds)
+            write_joined(out, &Bounds { columns }, b", ", bounds)
         }
     }
 }
 
-// The line of a row.
-fn write_row<S: Sink>(out: &mut S, columns: &[Column], row: &Row) -> Result<(), Failed>
-    requires { IsWritable row.now }
-    ensures text { IsWritten (S.written out.old) (S.written out.new)
-        (row_line columns.now row.now) result }
-    ensures cause { HasCause (S.faults out.old) (S.faults out.new) result }
-{
-    write_bytes(out, b"  (")?;
-    write_values(out, row.values.as_slice())?;
-    write_bytes(out, b")")?;
-    write_conditions(out, columns, row.bounds.as_slice())?;
-    write_bytes(out, b";\n")
+// The lines of rows with these columns.
+#[derive(Clone, Copy)]
+struct Rows<'a> {
+    columns: &'a [Column],
 }
 
-// The lines of the rows.
-fn write_rows<S: Sink>(out: &mut S, columns: &[Column], rows: &[Row]) -> Result<(), Failed>
-    requires { AllByRecursion IsWritable rows.now }
-    ensures text { IsWritten (S.written out.old) (S.written out.new)
-        (flat_map (row_line columns.now) rows.now) result }
-    ensures cause { HasCause (S.faults out.old) (S.faults out.new) result }
-{
-    for row in rows {
-        write_row(out, columns, row)?;
+impl Notation for Rows<'_> {
+    type Item = Row;
+
+    ghost spells = { λ _ row. IsWritable row };
+
+    ghost bytes = { λ s row. row_line s.columns.now row };
+
+    fn write<S: Sink>(&self, out: &mut S, row: &Row) -> Result<(), Failed> {
+        write_bytes(out, b"  (")?;
+        write_joined(out, &Values, b", ", row.values.as_slice())?;
+        write_bytes(out, b")")?;
+        write_conditions(out, self.columns, row.bounds.as_slice())?;
+        write_bytes(out, b";\n")
     }
-    Ok(())
 }
 
 /// Writes a relation: a line with its name and its columns, a line for each row, and a line with `}`. After a failure a front
@@ -298,10 +209,27 @@ pub fn write_relation<S: Sink>(out: &mut S, relation: &Relation) -> Result<(), F
     write_bytes(out, b"relation ")?;
     write_bytes(out, relation.name.as_bytes())?;
     write_bytes(out, b"(")?;
-    write_columns(out, relation.columns.as_slice())?;
+    let columns = relation.columns.as_slice();
+    write_columns(out, columns)?;
     write_bytes(out, b") {\n")?;
-    write_rows(out, relation.columns.as_slice(), relation.rows.as_slice())?;
+    write_each(out, &Rows { columns }, relation.rows.as_slice())?;
     write_bytes(out, b"}\n")
+}
+
+// Relations that are kept.
+#[derive(Clone, Copy)]
+struct Relations;
+
+impl Notation for Relations {
+    type Item = Relation;
+
+    ghost spells = { λ _ relation. IsKept relation };
+
+    ghost bytes = { λ _ relation. relation_bytes relation };
+
+    fn write<S: Sink>(&self, out: &mut S, relation: &Relation) -> Result<(), Failed> {
+        write_relation(out, relation)
+    }
 }
 
 /// Writes relations, one after the other. After a failure a front of their text was written.
@@ -311,8 +239,5 @@ pub fn write_relations<S: Sink>(out: &mut S, relations: &[Relation]) -> Result<(
         (database_bytes relations.now) result }
     ensures cause { HasCause (S.faults out.old) (S.faults out.new) result }
 {
-    for relation in relations {
-        write_relation(out, relation)?;
-    }
-    Ok(())
+    write_each(out, &Relations, relations)
 }

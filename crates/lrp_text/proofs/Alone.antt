@@ -5,7 +5,8 @@ use Rattle.lrp_model.specs.declared.tokens.Symbol.{Symbol}
 use Rattle.lrp_model.specs.declared.tokens.Symbol.TheVariants.{Open, Close, OpenBrace, CloseBrace, Comma, Colon, Semicolon, Bar, Plus, Minus, Le, Ge, Lt, Gt, Equals}
 use Rattle.lrp_model.specs.Tokens.{Token}
 use Rattle.lrp_model.specs.Tokens.Token.{text_token, number_token, end_token}
-use Rattle.lrp_model.specs.Lexing.{is_letter, is_name_byte, is_forbidden, run, behind_run, value_from, word_or_name, Scanned, QuotedText as TextRead, longer, more_taken, bad_at, text_from, text_scanned, one, one_or_two, symbol_from, scan}
+use Rattle.std.specs.Str.Parse.{digits_value}
+use Rattle.lrp_model.specs.Lexing.{is_letter, is_name_byte, is_forbidden, run, behind_run, word_or_name, Scanned, QuotedText as TextRead, longer, more_taken, bad_at, text_from, text_scanned, one, one_or_two, symbol_from, scan}
 use Rattle.std.specs.Char.{is_ascii_digit}
 use Rattle.lrp_text.proofs.Scans.{chosen}
 
@@ -105,7 +106,7 @@ unfolding scan
 scan_alone [] = λ t e. absurd cc
 scan_alone (b ∷ bs) =
     chosen SameText (is_letter b) _ _ (λ e. none_same (record { token = word_or_name (run is_name_byte (b ∷ bs)); taken = run is_name_byte (b ∷ bs); left = behind_run is_name_byte (b ∷ bs) }) (word_no_text (run is_name_byte (b ∷ bs))))
-    (λ n. chosen SameText (is_ascii_digit b) _ _ (λ e. none_same (record { token = number_token (value_from 0 (run is_ascii_digit (b ∷ bs))); taken = run is_ascii_digit (b ∷ bs); left = behind_run is_ascii_digit (b ∷ bs) }) tt)
+    (λ n. chosen SameText (is_ascii_digit b) _ _ (λ e. none_same (record { token = number_token (digits_value 10 (run is_ascii_digit (b ∷ bs))); taken = run is_ascii_digit (b ∷ bs); left = behind_run is_ascii_digit (b ∷ bs) }) tt)
     (λ m. chosen SameText (b == 34) (text_scanned (text_from false bs)) (symbol_from b bs) (λ e. quoted_same (text_from false bs) (text_alone false bs))
     (λ o. none_same (symbol_from b bs) (symbol_no_text b bs))))
 
@@ -128,6 +129,6 @@ unfolding scan
 scan_end [] = λ e. refl
 scan_end (b ∷ bs) =
     chosen (EndsHere (b ∷ bs)) (is_letter b) _ _ (λ e. none_ends (b ∷ bs) (record { token = word_or_name (run is_name_byte (b ∷ bs)); taken = run is_name_byte (b ∷ bs); left = behind_run is_name_byte (b ∷ bs) }) (word_no_text (run is_name_byte (b ∷ bs))))
-    (λ n. chosen (EndsHere (b ∷ bs)) (is_ascii_digit b) _ _ (λ e. none_ends (b ∷ bs) (record { token = number_token (value_from 0 (run is_ascii_digit (b ∷ bs))); taken = run is_ascii_digit (b ∷ bs); left = behind_run is_ascii_digit (b ∷ bs) }) tt)
+    (λ n. chosen (EndsHere (b ∷ bs)) (is_ascii_digit b) _ _ (λ e. none_ends (b ∷ bs) (record { token = number_token (digits_value 10 (run is_ascii_digit (b ∷ bs))); taken = run is_ascii_digit (b ∷ bs); left = behind_run is_ascii_digit (b ∷ bs) }) tt)
     (λ m. chosen (EndsHere (b ∷ bs)) (b == 34) (text_scanned (text_from false bs)) (symbol_from b bs) (λ e. quoted_ends (b ∷ bs) (text_from false bs))
     (λ o. none_ends (b ∷ bs) (symbol_from b bs) (symbol_no_text b bs))))

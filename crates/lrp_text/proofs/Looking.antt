@@ -20,65 +20,44 @@ use Rattle.lrp_text.specs.declared.lexemes.Lexeme.TheVariants.{Name, Word, Numbe
 use Rattle.lrp_text.specs.Lexemes.{IsSaid, shows_symbol, shows_word, shows_name, shows_text, shows_end, shown_number, shown_period}
 use Rattle.lrp_text.specs.Sources.{Stands, GoesOn, Goes}
 
--- a symbol is told by its lexeme
-symbol_said : (s : SymbolOf) (l : Lexeme) (slice : List ℕ) (k : Token) → IsSaid l slice k → is_symbol_token s k ≡ shows_symbol s l
-symbol_said s Name slice k e = ap (is_symbol_token s) e
-symbol_said s (Word w) slice k e = ap (is_symbol_token s) e
-symbol_said s (Number n) slice k e = ap (is_symbol_token s) e.0
-symbol_said s LargeNumber slice k e = ap (is_symbol_token s) e.1
-symbol_said s Text slice k e = ap (is_symbol_token s) e.1
-symbol_said s LongText slice k e = ap (is_symbol_token s) e.1
-symbol_said s (Symbol y) slice k e = ap (is_symbol_token s) e
-symbol_said s End slice k e = ap (is_symbol_token s) e
-symbol_said s Bad slice k e = ap (is_symbol_token s) e
+-- a test says of each token what is shown of the lexeme of a slice
+pub record IsShown {A : Type 0} (test : Token → A) (slice : List ℕ) (shown : Lexeme → A) : Type 0 where
+  pub name : test (name_token slice) ≡ shown Name
+  pub word : (w : WordOf) → test (word_token w) ≡ shown (Word w)
+  pub number : (n : ℕ) → n ≤ greatest_number → test (number_token n) ≡ shown (Number n)
+  pub large : (n : ℕ) → greatest_number < n → test (number_token n) ≡ shown LargeNumber
+  pub text : (t : List ℕ) → test (text_token t) ≡ shown Text
+  pub long : (t : List ℕ) → test (text_token t) ≡ shown LongText
+  pub symbol : (s : SymbolOf) → test (symbol_token s) ≡ shown (Symbol s)
+  pub ended : test end_token ≡ shown End
+  pub bad : test bad_token ≡ shown Bad
 
--- so is a reserved word
-word_said : (w : WordOf) (l : Lexeme) (slice : List ℕ) (k : Token) → IsSaid l slice k → is_word_token w k ≡ shows_word w l
-word_said w Name slice k e = ap (is_word_token w) e
-word_said w (Word v) slice k e = ap (is_word_token w) e
-word_said w (Number n) slice k e = ap (is_word_token w) e.0
-word_said w LargeNumber slice k e = ap (is_word_token w) e.1
-word_said w Text slice k e = ap (is_word_token w) e.1
-word_said w LongText slice k e = ap (is_word_token w) e.1
-word_said w (Symbol y) slice k e = ap (is_word_token w) e
-word_said w End slice k e = ap (is_word_token w) e
-word_said w Bad slice k e = ap (is_word_token w) e
+-- so a token is told by its lexeme
+pub said : {A : Type 0} (test : Token → A) (slice : List ℕ) (shown : Lexeme → A) → IsShown test slice shown → (l : Lexeme) (k : Token) → IsSaid l slice k → test k ≡ shown l
+said test slice shown is Name k e = ap test e ∙ is.name
+said test slice shown is (Word w) k e = ap test e ∙ is.word w
+said test slice shown is (Number n) k e = ap test e.0 ∙ is.number n e.1
+said test slice shown is LargeNumber k e = ap test e.1 ∙ is.large e.0 e.2
+said test slice shown is Text k e = ap test e.1 ∙ is.text e.0
+said test slice shown is LongText k e = ap test e.1 ∙ is.long e.0
+said test slice shown is (Symbol s) k e = ap test e ∙ is.symbol s
+said test slice shown is End k e = ap test e ∙ is.ended
+said test slice shown is Bad k e = ap test e ∙ is.bad
 
--- so is a name
-name_said : (l : Lexeme) (slice : List ℕ) (k : Token) → IsSaid l slice k → is_name_token k ≡ shows_name l
-name_said Name slice k e = ap is_name_token e
-name_said (Word v) slice k e = ap is_name_token e
-name_said (Number n) slice k e = ap is_name_token e.0
-name_said LargeNumber slice k e = ap is_name_token e.1
-name_said Text slice k e = ap is_name_token e.1
-name_said LongText slice k e = ap is_name_token e.1
-name_said (Symbol y) slice k e = ap is_name_token e
-name_said End slice k e = ap is_name_token e
-name_said Bad slice k e = ap is_name_token e
+symbol_shown : (s : SymbolOf) (slice : List ℕ) → IsShown (is_symbol_token s) slice (shows_symbol s)
+symbol_shown s slice = record { name = refl; word = λ _. refl; number = λ _ _. refl; large = λ _ _. refl; text = λ _. refl; long = λ _. refl; symbol = λ _. refl; ended = refl; bad = refl }
 
--- so is a text
-text_said : (l : Lexeme) (slice : List ℕ) (k : Token) → IsSaid l slice k → is_text_token k ≡ shows_text l
-text_said Name slice k e = ap is_text_token e
-text_said (Word v) slice k e = ap is_text_token e
-text_said (Number n) slice k e = ap is_text_token e.0
-text_said LargeNumber slice k e = ap is_text_token e.1
-text_said Text slice k e = ap is_text_token e.1
-text_said LongText slice k e = ap is_text_token e.1
-text_said (Symbol y) slice k e = ap is_text_token e
-text_said End slice k e = ap is_text_token e
-text_said Bad slice k e = ap is_text_token e
+word_shown : (w : WordOf) (slice : List ℕ) → IsShown (is_word_token w) slice (shows_word w)
+word_shown w slice = record { name = refl; word = λ _. refl; number = λ _ _. refl; large = λ _ _. refl; text = λ _. refl; long = λ _. refl; symbol = λ _. refl; ended = refl; bad = refl }
 
--- so is the end
-end_said : (l : Lexeme) (slice : List ℕ) (k : Token) → IsSaid l slice k → is_end_token k ≡ shows_end l
-end_said Name slice k e = ap is_end_token e
-end_said (Word v) slice k e = ap is_end_token e
-end_said (Number n) slice k e = ap is_end_token e.0
-end_said LargeNumber slice k e = ap is_end_token e.1
-end_said Text slice k e = ap is_end_token e.1
-end_said LongText slice k e = ap is_end_token e.1
-end_said (Symbol y) slice k e = ap is_end_token e
-end_said End slice k e = ap is_end_token e
-end_said Bad slice k e = ap is_end_token e
+name_shown : (slice : List ℕ) → IsShown is_name_token slice shows_name
+name_shown slice = record { name = refl; word = λ _. refl; number = λ _ _. refl; large = λ _ _. refl; text = λ _. refl; long = λ _. refl; symbol = λ _. refl; ended = refl; bad = refl }
+
+text_shown : (slice : List ℕ) → IsShown is_text_token slice shows_text
+text_shown slice = record { name = refl; word = λ _. refl; number = λ _ _. refl; large = λ _ _. refl; text = λ _. refl; long = λ _. refl; symbol = λ _. refl; ended = refl; bad = refl }
+
+end_shown : (slice : List ℕ) → IsShown is_end_token slice shows_end
+end_shown slice = record { name = refl; word = λ _. refl; number = λ _ _. refl; large = λ _ _. refl; text = λ _. refl; long = λ _. refl; symbol = λ _. refl; ended = refl; bad = refl }
 
 -- a number that is found at most the limit or not
 above_at : (n : ℕ) (b : Bool) → nat_le n 4611686018427387904 ≡ b → greatest_number < n → b ≡ false
@@ -89,17 +68,8 @@ above_at n false e h = refl
 above : (n : ℕ) → greatest_number < n → nat_le n 4611686018427387904 ≡ false
 above n h = above_at n (nat_le n 4611686018427387904) refl h
 
--- so is a number
-number_said : (l : Lexeme) (slice : List ℕ) (k : Token) → IsSaid l slice k → number_of k ≡ shown_number l
-number_said Name slice k e = ap number_of e
-number_said (Word v) slice k e = ap number_of e
-number_said (Number n) slice k e = ap number_of e.0 ∙ ap (limited n TooLarge) (le-leb n 4611686018427387904 e.1)
-number_said LargeNumber slice k e = ap number_of e.1 ∙ ap (limited e.0 TooLarge) (above e.0 e.2)
-number_said Text slice k e = ap number_of e.1
-number_said LongText slice k e = ap number_of e.1
-number_said (Symbol y) slice k e = ap number_of e
-number_said End slice k e = ap number_of e
-number_said Bad slice k e = ap number_of e
+number_shown : (slice : List ℕ) → IsShown number_of slice shown_number
+number_shown slice = record { name = refl; word = λ _. refl; number = λ n h. ap (limited n TooLarge) (le-leb n 4611686018427387904 h); large = λ n h. ap (limited n TooLarge) (above n h); text = λ _. refl; long = λ _. refl; symbol = λ _. refl; ended = refl; bad = refl }
 
 -- a period within the limit, and one above it
 counted_low : (n : ℕ) (b : Bool) → n ≤ greatest_number → counted n b ≡ (if b then Err Period else Ok n)
@@ -111,17 +81,8 @@ counted_high : (n : ℕ) (b : Bool) → (n == 0) ≡ b → greatest_number < n �
 counted_high n true e h = let z : n ≡ 0 = eqb-true n 0 e in absurd (omega arith)
 counted_high n false e h = ap (limited n TooLarge) (above n h)
 
--- so is a period
-period_said : (l : Lexeme) (slice : List ℕ) (k : Token) → IsSaid l slice k → period_of k ≡ shown_period l
-period_said Name slice k e = ap period_of e
-period_said (Word v) slice k e = ap period_of e
-period_said (Number n) slice k e = ap period_of e.0 ∙ counted_low n (n == 0) e.1
-period_said LargeNumber slice k e = ap period_of e.1 ∙ counted_high e.0 (e.0 == 0) refl e.2
-period_said Text slice k e = ap period_of e.1
-period_said LongText slice k e = ap period_of e.1
-period_said (Symbol y) slice k e = ap period_of e
-period_said End slice k e = ap period_of e
-period_said Bad slice k e = ap period_of e
+period_shown : (slice : List ℕ) → IsShown period_of slice shown_period
+period_shown slice = record { name = refl; word = λ _. refl; number = λ n h. counted_low n (n == 0) h; large = λ n h. counted_high n (n == 0) refl h; text = λ _. refl; long = λ _. refl; symbol = λ _. refl; ended = refl; bad = refl }
 
 -- what is seen of the next token is what a test says of it
 pub look_shown : {A : Type 0} (none : A) (test : Token → A) (ts : Tokens) (l : Lexeme) (slice : List ℕ) (place : Place) (st : Stands ts l slice place) (a : A) → test st.token ≡ a → look none (λ t. test t.token) ts ≡ Ok (a, ts)
@@ -130,23 +91,23 @@ look_shown none test ts l slice place st a e = ap (look none (λ t. test t.token
 
 -- whether a symbol is seen
 pub look_symbol : (s : SymbolOf) (ts : Tokens) (l : Lexeme) (slice : List ℕ) (place : Place) → Stands ts l slice place → look false (λ t. is_symbol_token s t.token) ts ≡ Ok (shows_symbol s l, ts)
-look_symbol s ts l slice place st = look_shown false (is_symbol_token s) ts l slice place st (shows_symbol s l) (symbol_said s l slice st.token st.said)
+look_symbol s ts l slice place st = look_shown false (is_symbol_token s) ts l slice place st (shows_symbol s l) (said (is_symbol_token s) slice (shows_symbol s) (symbol_shown s slice) l st.token st.said)
 
 -- whether a reserved word is seen
 pub look_word : (w : WordOf) (ts : Tokens) (l : Lexeme) (slice : List ℕ) (place : Place) → Stands ts l slice place → look false (λ t. is_word_token w t.token) ts ≡ Ok (shows_word w l, ts)
-look_word w ts l slice place st = look_shown false (is_word_token w) ts l slice place st (shows_word w l) (word_said w l slice st.token st.said)
+look_word w ts l slice place st = look_shown false (is_word_token w) ts l slice place st (shows_word w l) (said (is_word_token w) slice (shows_word w) (word_shown w slice) l st.token st.said)
 
 -- whether a name is seen
 pub look_name : (ts : Tokens) (l : Lexeme) (slice : List ℕ) (place : Place) → Stands ts l slice place → look false (λ t. is_name_token t.token) ts ≡ Ok (shows_name l, ts)
-look_name ts l slice place st = look_shown false is_name_token ts l slice place st (shows_name l) (name_said l slice st.token st.said)
+look_name ts l slice place st = look_shown false is_name_token ts l slice place st (shows_name l) (said is_name_token slice shows_name (name_shown slice) l st.token st.said)
 
 -- whether a text is seen
 pub look_text : (ts : Tokens) (l : Lexeme) (slice : List ℕ) (place : Place) → Stands ts l slice place → look false (λ t. is_text_token t.token) ts ≡ Ok (shows_text l, ts)
-look_text ts l slice place st = look_shown false is_text_token ts l slice place st (shows_text l) (text_said l slice st.token st.said)
+look_text ts l slice place st = look_shown false is_text_token ts l slice place st (shows_text l) (said is_text_token slice shows_text (text_shown slice) l st.token st.said)
 
 -- whether the end is seen
 pub look_end : (ts : Tokens) (l : Lexeme) (slice : List ℕ) (place : Place) → Stands ts l slice place → look false (λ t. is_end_token t.token) ts ≡ Ok (shows_end l, ts)
-look_end ts l slice place st = look_shown false is_end_token ts l slice place st (shows_end l) (end_said l slice st.token st.said)
+look_end ts l slice place st = look_shown false is_end_token ts l slice place st (shows_end l) (said is_end_token slice shows_end (end_shown slice) l st.token st.said)
 
 -- the place of the next token
 pub look_place : (ts : Tokens) (l : Lexeme) (slice : List ℕ) (place : Place) → Stands ts l slice place → look start (λ t. t.place) ts ≡ Ok (place, ts)
@@ -271,19 +232,19 @@ reads_fault o Deep ts e = e
 
 -- a number is taken
 pub number_read : (ts us : Tokens) (l : Lexeme) (slice : List ℕ) (place : Place) (u : Placed) (n : ℕ) → Stands ts l slice place → shown_number l ≡ Ok n → ts ≡ u ∷ us → number ts ≡ Ok (n, us)
-number_read ts us l slice place u n st e w = accepts_next (λ t. number_of t.token) ts us (record { token = st.token; place = place }) u st.left n st.whole w (number_said l slice st.token st.said ∙ e)
+number_read ts us l slice place u n st e w = accepts_next (λ t. number_of t.token) ts us (record { token = st.token; place = place }) u st.left n st.whole w (said number_of slice shown_number (number_shown slice) l st.token st.said ∙ e)
 
 -- or it is refused
 pub number_refused : (ts : Tokens) (l : Lexeme) (slice : List ℕ) (place : Place) (k : Fault) → Stands ts l slice place → shown_number l ≡ Err k → Reads (number ts) (Err k) ts
-number_refused ts l slice place k st e = reads_fault (number ts) k ts (refuses_next (λ t. number_of t.token) ts (record { token = st.token; place = place }) st.left k st.whole (number_said l slice st.token st.said ∙ e))
+number_refused ts l slice place k st e = reads_fault (number ts) k ts (refuses_next (λ t. number_of t.token) ts (record { token = st.token; place = place }) st.left k st.whole (said number_of slice shown_number (number_shown slice) l st.token st.said ∙ e))
 
 -- a period is taken
 pub period_read : (ts us : Tokens) (l : Lexeme) (slice : List ℕ) (place : Place) (u : Placed) (n : ℕ) → Stands ts l slice place → shown_period l ≡ Ok n → ts ≡ u ∷ us → period ts ≡ Ok (n, us)
-period_read ts us l slice place u n st e w = accepts_next (λ t. period_of t.token) ts us (record { token = st.token; place = place }) u st.left n st.whole w (period_said l slice st.token st.said ∙ e)
+period_read ts us l slice place u n st e w = accepts_next (λ t. period_of t.token) ts us (record { token = st.token; place = place }) u st.left n st.whole w (said period_of slice shown_period (period_shown slice) l st.token st.said ∙ e)
 
 -- or it is refused
 pub period_refused : (ts : Tokens) (l : Lexeme) (slice : List ℕ) (place : Place) (k : Fault) → Stands ts l slice place → shown_period l ≡ Err k → Reads (period ts) (Err k) ts
-period_refused ts l slice place k st e = reads_fault (period ts) k ts (refuses_next (λ t. period_of t.token) ts (record { token = st.token; place = place }) st.left k st.whole (period_said l slice st.token st.said ∙ e))
+period_refused ts l slice place k st e = reads_fault (period ts) k ts (refuses_next (λ t. period_of t.token) ts (record { token = st.token; place = place }) st.left k st.whole (said period_of slice shown_period (period_shown slice) l st.token st.said ∙ e))
 
 -- the name of a token that is one
 named : (l : Lexeme) (slice : List ℕ) (k : Token) → shows_name l ≡ true → IsSaid l slice k → name_of k ≡ Ok slice
@@ -365,7 +326,7 @@ end_read ts l slice place st e =
 
 -- or what stands before it is refused
 pub end_refused : (ts : Tokens) (l : Lexeme) (slice : List ℕ) (place : Place) → Stands ts l slice place → shows_end l ≡ false → expect_end ts ≡ Err (Syntax, ts)
-end_refused ts l slice place st e = refuses_next (λ t. required (is_end_token t.token)) ts (record { token = st.token; place = place }) st.left Syntax st.whole (ap required (end_said l slice st.token st.said ∙ e))
+end_refused ts l slice place st e = refuses_next (λ t. required (is_end_token t.token)) ts (record { token = st.token; place = place }) st.left Syntax st.whole (ap required (said is_end_token slice shows_end (end_shown slice) l st.token st.said ∙ e))
 
 -- the sort that a reserved word stands for
 sort_word : (w : WordOf) → sort_of (word_token w) ≡ word_sort w
@@ -374,16 +335,8 @@ sort_word Data = refl
 sort_word _ = refl
 
 -- a sort is told by its lexeme
-sort_said : (l : Lexeme) (slice : List ℕ) (k : Token) → IsSaid l slice k → sort_of k ≡ shown_sort l slice
-sort_said Name slice k s = ap sort_of s
-sort_said (Word w) slice k s = ap sort_of s ∙ sort_word w
-sort_said (Number n) slice k s = ap sort_of s.0
-sort_said LargeNumber slice k s = ap sort_of s.1
-sort_said Text slice k s = ap sort_of s.1
-sort_said LongText slice k s = ap sort_of s.1
-sort_said (Symbol y) slice k s = ap sort_of s
-sort_said End slice k s = ap sort_of s
-sort_said Bad slice k s = ap sort_of s
+sort_shown : (slice : List ℕ) → IsShown sort_of slice (λ l. shown_sort l slice)
+sort_shown slice = record { name = refl; word = sort_word; number = λ _ _. refl; large = λ _ _. refl; text = λ _. refl; long = λ _. refl; symbol = λ _. refl; ended = refl; bad = refl }
 
 -- neither the end nor a bad byte is a sort
 sort_going : (l : Lexeme) (slice : List ℕ) (a : Sort) → shown_sort l slice ≡ Ok a → goes l ≡ true
@@ -397,9 +350,9 @@ sort_goes ts l slice place a st e = goes_shown ts l slice place st (sort_going l
 
 -- a sort is taken
 pub sort_read : (ts us : Tokens) (l : Lexeme) (slice : List ℕ) (place : Place) (u : Placed) (a : Sort) → Stands ts l slice place → shown_sort l slice ≡ Ok a → ts ≡ u ∷ us → sort ts ≡ Ok ((a, place), us)
-sort_read ts us l slice place u a st e w = accepts_next (λ t. with_place t.place (sort_of t.token)) ts us (record { token = st.token; place = place }) u st.left (a, place) st.whole w (ap (with_place place) (sort_said l slice st.token st.said ∙ e))
+sort_read ts us l slice place u a st e w = accepts_next (λ t. with_place t.place (sort_of t.token)) ts us (record { token = st.token; place = place }) u st.left (a, place) st.whole w (ap (with_place place) (said sort_of slice (λ k. shown_sort k slice) (sort_shown slice) l st.token st.said ∙ e))
 
 -- or what stands there is refused
 pub sort_refused : (ts : Tokens) (l : Lexeme) (slice : List ℕ) (place : Place) (k : Fault) → Stands ts l slice place → IsResultOrMemory (shown_sort l slice) (Err k) → Reads (sort ts) (Err k) ts
 sort_refused ts l slice place Memory st e = tt
-sort_refused ts l slice place k st e = reads_fault (sort ts) k ts (refuses_next (λ t. with_place t.place (sort_of t.token)) ts (record { token = st.token; place = place }) st.left k st.whole (ap (with_place place) (sort_said l slice st.token st.said ∙ e)))
+sort_refused ts l slice place k st e = reads_fault (sort ts) k ts (refuses_next (λ t. with_place t.place (sort_of t.token)) ts (record { token = st.token; place = place }) st.left k st.whole (ap (with_place place) (said sort_of slice (λ k. shown_sort k slice) (sort_shown slice) l st.token st.said ∙ e)))

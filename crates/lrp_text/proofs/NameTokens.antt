@@ -11,7 +11,8 @@ use Rattle.lrp_model.specs.declared.raw.RawColumn.{RawColumn}
 use Rattle.lrp_model.specs.Tokens.{Token, Tokens, Part, Takes, Spells, separated}
 use Rattle.lrp_model.specs.Tokens.Token.{name_token, word_token, number_token, text_token, symbol_token, end_token, bad_token, hole_token}
 use Rattle.lrp_model.specs.Tokens.Part.{at, any}
-use Rattle.lrp_model.specs.Lexing.{Scanned, QuotedText as TextRead, scan, run, behind_run, is_letter, is_name_byte, value_from, word_or_name, one, one_or_two, symbol_from, text_from, text_scanned, skip, after, headed, tokens_from, tokens, start}
+use Rattle.std.specs.Str.Parse.{digits_value}
+use Rattle.lrp_model.specs.Lexing.{Scanned, QuotedText as TextRead, scan, run, behind_run, is_letter, is_name_byte, word_or_name, one, one_or_two, symbol_from, text_from, text_scanned, skip, after, headed, tokens_from, tokens, start}
 use Rattle.std.specs.Char.{is_ascii_digit}
 use Rattle.lrp_model.specs.Columns.{column_text, sort_token}
 use Rattle.lrp_model.specs.Databases.{comma}
@@ -42,7 +43,7 @@ scan_word b r e whole none =
     let one_run : (if is_name_byte b then b ∷ run is_name_byte r else []) ≡ b ∷ r = ap (λ c. if c then b ∷ run is_name_byte r else []) letter ∙ ap (λ l. b ∷ l) whole in
     let left : (if is_name_byte b then behind_run is_name_byte r else b ∷ r) ≡ [] = ap (λ c. if c then behind_run is_name_byte r else b ∷ r) letter ∙ none in
     ap (λ c. if c then scanned_word (if is_name_byte b then b ∷ run is_name_byte r else []) (if is_name_byte b then behind_run is_name_byte r else b ∷ r) else
-    (if is_ascii_digit b then record { token = number_token (value_from 0 (run is_ascii_digit (b ∷ r))); taken = run is_ascii_digit (b ∷ r); left = behind_run is_ascii_digit (b ∷ r) } else
+    (if is_ascii_digit b then record { token = number_token (digits_value 10 (run is_ascii_digit (b ∷ r))); taken = run is_ascii_digit (b ∷ r); left = behind_run is_ascii_digit (b ∷ r) } else
     (if b == 34 then text_scanned (text_from false r) else symbol_from b r))) e
     ∙ ap (λ l. scanned_word l (if is_name_byte b then behind_run is_name_byte r else b ∷ r)) one_run ∙ ap (scanned_word (b ∷ r)) left
   where

@@ -11,7 +11,8 @@ use Rattle.lrp_model.specs.declared.tokens.Symbol.{Symbol}
 use Rattle.lrp_model.specs.declared.tokens.Symbol.TheVariants.{Open, Close, OpenBrace, CloseBrace, Comma, Colon, Semicolon, Bar, Plus, Minus, Le, Ge, Lt, Gt, Equals}
 use Rattle.lrp_model.specs.Tokens.{Token}
 use Rattle.lrp_model.specs.Tokens.Token.{end_token, bad_token, number_token}
-use Rattle.lrp_model.specs.Lexing.{is_letter, is_name_byte, is_forbidden, moved, after, run, behind_run, value_from, word_or_name, Scanned, QuotedText as TextRead, longer, more_taken, bad_at, text_from, text_scanned, one, one_or_two, symbol_from, scan}
+use Rattle.std.specs.Str.Parse.{digits_value}
+use Rattle.lrp_model.specs.Lexing.{is_letter, is_name_byte, is_forbidden, moved, after, run, behind_run, word_or_name, Scanned, QuotedText as TextRead, longer, more_taken, bad_at, text_from, text_scanned, one, one_or_two, symbol_from, scan}
 use Rattle.std.specs.Char.{is_ascii_digit}
 use Rattle.lrp_text.proofs.Runs.{run_whole}
 
@@ -218,7 +219,7 @@ scan_taken (b ∷ bs) =
     chosen P (is_letter b) _ _
     (λ e. run_taken_so is_name_byte (word_or_name (run is_name_byte (b ∷ bs))) b bs (λ x t. no_feed is_name_byte x true false t refl (λ h. absurd cc)) name_small (ap (λ c. c || is_ascii_digit b) e))
     (λ n. chosen P (is_ascii_digit b) _ _
-    (λ e. run_taken_so is_ascii_digit (number_token (value_from 0 (run is_ascii_digit (b ∷ bs)))) b bs (λ x t. no_feed is_ascii_digit x true false t refl (λ h. absurd cc)) digit_small e)
+    (λ e. run_taken_so is_ascii_digit (number_token (digits_value 10 (run is_ascii_digit (b ∷ bs)))) b bs (λ x t. no_feed is_ascii_digit x true false t refl (λ h. absurd cc)) digit_small e)
     (λ m. chosen P (b == 34) _ _
     (λ e. subst (λ x. IsTaken (x ∷ bs) (text_scanned (text_from false bs))) (sym (eqb-true b 34 e)) (quoted_taken bs (text_from false bs) (text_taken false bs)))
     (λ o. symbol_taken b bs)))

@@ -1,6 +1,7 @@
 // The bytes that tokens are made of, and the runs of them.
 ghost use Rattle.std.specs.Prelude.{◌≡◌, ◌≤◌, ◌<◌, ◌+◌, ◌^◌, length, min, false};
-ghost use Rattle.lrp_model.specs.Lexing.{is_letter as is_letter_byte, is_name_byte as is_byte_of_names, is_blank as is_blank_byte, is_forbidden as is_forbidden_byte, skip as skip_rule, run, behind_run, value_from};
+ghost use Rattle.std.specs.Str.Parse.{digits_value};
+ghost use Rattle.lrp_model.specs.Lexing.{is_letter as is_letter_byte, is_name_byte as is_byte_of_names, is_blank as is_blank_byte, is_forbidden as is_forbidden_byte, skip as skip_rule, run, behind_run};
 ghost use Rattle.std.specs.Char.{is_ascii_digit as is_digit_byte};
 ghost use Rattle.lrp_model.specs.Limits.{greatest_number};
 
@@ -83,9 +84,9 @@ pub fn behind_name(bytes: &[u8]) -> &[u8]
 }
 
 // The value of the digits that come first, or one more than the limit where it is greater, and what stands behind them.
-#[tactic(auto, unfolding(lrp_model::specs::Lexing::run, lrp_model::specs::Lexing::behind_run, lrp_model::specs::Lexing::value_from))]
+#[tactic(auto, unfolding(lrp_model::specs::Lexing::run, lrp_model::specs::Lexing::behind_run))]
 pub fn number(bytes: &[u8]) -> (u64, &[u8])
-    ensures value { result.0 ≡ min (value_from 0 (run is_digit_byte bytes.now))
+    ensures value { result.0 ≡ min (digits_value 10 (run is_digit_byte bytes.now))
         (greatest_number + 1) }
     ensures rest { result.1.now ≡ behind_run is_digit_byte bytes.now }
 {

@@ -50,9 +50,10 @@ impl<'a> Lexer<'a> {
         found
     }
 
-    /// The next token. `LexKind::Number` is a number above 2^62, at its first digit, and `LexKind::TextTooLong` a text of more than 255 bytes
-    /// without its escapes, at its opening quote; the lexer goes on behind them. `LexKind::BadByte` stands at a character that begins no token,
-    /// at one that may not stand in a text, or at the end inside a text, and comes again for ever, as the end does.
+    /// The next token. `LexKind::Number` is a number above 2^62, at its first digit, and `LexKind::TextTooLong` a text
+    /// of more than 255 bytes without its escapes, at its opening quote; the lexer goes on behind them.
+    /// `LexKind::BadByte` stands at a character that begins no token, at one that may not stand in a text, or at the
+    /// end inside a text, and comes again for ever, as the end does.
     pub fn next(&mut self) -> Result<Token<'a>, LexFault>
         ensures step { Gives self.old self.new result }
         ensures order { IsNextToken result (tokens_left self.old) (tokens_left self.new) }

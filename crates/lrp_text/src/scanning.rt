@@ -1,7 +1,8 @@
 // The token that bytes begin with.
 ghost use Rattle.std.specs.Prelude.{◌≡◌, ◌<◌, [], ◌∷◌, MatchOption, IfSome, length};
 ghost use Rattle.std.specs.Option.{option_map};
-ghost use Rattle.lrp_model.specs.Lexing.{symbol_from, word_or_name, run, behind_run, value_from, is_name_byte, scan as scan_rule};
+ghost use Rattle.std.specs.Str.Parse.{digits_value};
+ghost use Rattle.lrp_model.specs.Lexing.{symbol_from, word_or_name, run, behind_run, is_name_byte, scan as scan_rule};
 ghost use Rattle.std.specs.Char.{is_ascii_digit as is_digit_byte};
 ghost use Rattle.lrp_model.specs.Tokens.Token.{symbol_token};
 ghost use Rattle.lrp_text.specs.Lexemes.{IsLexeme, IsNamed, IsNumberLexeme, bad_symbol, text_read, behind_bytes, ended};
@@ -77,7 +78,7 @@ fn name(bytes: &[u8]) -> (Lexeme, &[u8])
 
 // The number that digits make, and what stands behind it.
 fn limited_number(bytes: &[u8]) -> (Lexeme, &[u8])
-    ensures lexeme { IsNumberLexeme result.0 (value_from 0 (run is_digit_byte bytes.now)) }
+    ensures lexeme { IsNumberLexeme result.0 (digits_value 10 (run is_digit_byte bytes.now)) }
     ensures rest { result.1.now ≡ behind_run is_digit_byte bytes.now }
 {
     let (value, rest) = number(bytes);
@@ -106,7 +107,8 @@ pub fn character(bytes: &[u8]) -> Option<(u8, &[u8])>
     }
 }
 
-// The length of the text behind an opening quote, without its escapes, and what stands behind the closing one; none where a byte may not stand there, and the bytes from it on.
+// The length of the text behind an opening quote, without its escapes, and what stands behind the closing one; none
+// where a byte may not stand there, and the bytes from it on.
 fn text(bytes: &[u8]) -> (Option<usize>, &[u8])
     ensures length { result.0 ≡ option_map length (text_read bytes.now).0 }
     ensures left { result.1.now ≡ (text_read bytes.now).1 }

@@ -1,10 +1,9 @@
 // Tokens as they are written: version 2, with the files' digest.
-ghost use Rattle.std.specs.Prelude.{◌<◌, ◌≤◌, ◌++◌, codes, Some, length, take};
-ghost use Rattle.std.specs.List.{AllByRecursion, flat_map};
+ghost use Rattle.std.specs.Prelude.{⊤, ◌<◌, ◌≤◌, ◌++◌, codes, Some, length, take};
+ghost use Rattle.std.specs.List.{AllByRecursion};
 ghost use Rattle.std.specs.Fmt.{signed_decimal};
 ghost use Rattle.lrp_io.specs.Causes.{HasCause};
 ghost use Rattle.lrp_io.specs.Pieces.{IsWritten};
-ghost use Rattle.lrp_model.specs.Printed.{joined_by};
 ghost use Rattle.lrp_model.specs.PrintedPages.{IsSmall, IsToken, hex as hex_of, text_part, tuple_text};
 ghost use Rattle.lrp_model.specs.DataTexts.{IsDataText};
 ghost use Rattle.lrp_token.specs.Spots.{spot_token, texts_in, times_in};
@@ -13,7 +12,7 @@ ghost use Rattle.lrp_model.specs.Tuples.{text_at};
 use crate::digits::{MOST_DIGITS, digits_of};
 use lrp_io::{Failed, Sink};
 use lrp_model::{Domain, Shape, Spot};
-use lrp_print::{write_bytes, write_integer};
+use lrp_print::{Notation, write_bytes, write_integer, write_joined};
 
 /// Writes the token of a spot's times and texts and of the files' digest. After a failure a front of it was written.
 pub fn write_token<S: Sink>(
@@ -65,9 +64,10 @@ fn write_tuple<S: Sink>(
         (tuple_text (times_in shape spot.now) (texts_in shape domain.now spot.now)) result }
     ensures cause { HasCause (S.faults out.old) (S.faults out.new) result }
 {
-    write_times(out, &spot.times[..shape.times as usize])?;
+    write_joined(out, &Times, b",", &spot.times[..shape.times as usize])?;
     write_bytes(out, b"/")?;
-    write_texts(out, domain, &spot.texts[..shape.texts as usize])
+    let texts = &spot.texts[..shape.texts as usize];
+    write_joined(out, &Texts { domain }, b",", texts)
 }
 
 // Two lower-case hex digits for each byte.
@@ -80,88 +80,37 @@ fn write_hex<S: Sink>(out: &mut S, bytes: &[u8]) -> Result<(), Failed>
     write_bytes(out, digits_of(bytes, &mut room))
 }
 
-// Times, with commas between.
-fn write_times<S: Sink>(out: &mut S, times: &[i64]) -> Result<(), Failed>
-    ensures text { IsWritten (S.written out.old) (S.written out.new)
-        (joined_by (codes ",") signed_decimal times.now) result }
-    ensures cause { HasCause (S.faults out.old) (S.faults out.new) result }
-{
-    match times {
-        [] => Ok(()),
-        [first, rest @ ..] => {
-            write_integer(out, first)?;
-            write_further_times(out, rest)
-        }
+// Times in decimal.
+#[derive(Clone, Copy)]
+struct Times;
+
+impl Notation for Times {
+    type Item = i64;
+
+    ghost spells = { λ _ _. ⊤ };
+
+    ghost bytes = { λ _ time. signed_decimal time };
+
+    fn write<S: Sink>(&self, out: &mut S, time: &i64) -> Result<(), Failed> {
+        write_integer(out, time)
     }
 }
 
-// Times, with a comma before each.
-fn write_further_times<S: Sink>(out: &mut S, times: &[i64]) -> Result<(), Failed>
-    ensures text { IsWritten (S.written out.old) (S.written out.new)
-        (flat_map (λ x. codes "," ++ signed_decimal x) times.now) result }
-    ensures cause { HasCause (S.faults out.old) (S.faults out.new) result }
-{
-    for time in times {
-        write_next_time(out, time)?;
+// Texts of a domain by their numbers: `x`, and the hex digits of each.
+#[derive(Clone, Copy)]
+struct Texts<'a> {
+    domain: &'a Domain,
+}
+
+impl Notation for Texts<'_> {
+    type Item = u32;
+
+    ghost spells = { λ s number. number < length s.domain.now };
+
+    ghost bytes = { λ s number. text_part (text_at s.domain.now number) };
+
+    fn write<S: Sink>(&self, out: &mut S, number: &u32) -> Result<(), Failed> {
+        write_bytes(out, b"x")?;
+        write_hex(out, self.domain.text(*number).as_bytes())
     }
-    Ok(())
-}
-
-fn write_next_time<S: Sink>(out: &mut S, time: &i64) -> Result<(), Failed>
-    ensures text { IsWritten (S.written out.old) (S.written out.new)
-        (codes "," ++ signed_decimal time.now) result }
-    ensures cause { HasCause (S.faults out.old) (S.faults out.new) result }
-{
-    write_bytes(out, b",")?;
-    write_integer(out, time)
-}
-
-// Texts by their numbers, with commas between.
-fn write_texts<S: Sink>(out: &mut S, domain: &Domain, numbers: &[u32]) -> Result<(), Failed>
-    requires { AllByRecursion (λ n. n < length domain.now) numbers.now }
-    ensures text { IsWritten (S.written out.old) (S.written out.new)
-        (joined_by (codes ",") (λ n. text_part (text_at domain.now n)) numbers.now) result }
-    ensures cause { HasCause (S.faults out.old) (S.faults out.new) result }
-{
-    match numbers {
-        [] => Ok(()),
-        [first, rest @ ..] => {
-            write_text(out, domain, *first)?;
-            write_further_texts(out, domain, rest)
-        }
-    }
-}
-
-// Texts by their numbers, with a comma before each.
-fn write_further_texts<S: Sink>(out: &mut S, domain: &Domain, numbers: &[u32]) -> Result<(), Failed>
-    requires { AllByRecursion (λ n. n < length domain.now) numbers.now }
-    ensures text { IsWritten (S.written out.old) (S.written out.new)
-        (flat_map (λ n. codes "," ++ text_part (text_at domain.now n)) numbers.now) result }
-    ensures cause { HasCause (S.faults out.old) (S.faults out.new) result }
-{
-    for number in numbers {
-        write_next_text(out, domain, *number)?;
-    }
-    Ok(())
-}
-
-fn write_next_text<S: Sink>(out: &mut S, domain: &Domain, number: u32) -> Result<(), Failed>
-    requires { number < length domain.now }
-    ensures text { IsWritten (S.written out.old) (S.written out.new)
-        (codes "," ++ text_part (text_at domain.now number)) result }
-    ensures cause { HasCause (S.faults out.old) (S.faults out.new) result }
-{
-    write_bytes(out, b",")?;
-    write_text(out, domain, number)
-}
-
-// `x`, and the hex digits of a text.
-fn write_text<S: Sink>(out: &mut S, domain: &Domain, number: u32) -> Result<(), Failed>
-    requires { number < length domain.now }
-    ensures text { IsWritten (S.written out.old) (S.written out.new)
-        (text_part (text_at domain.now number)) result }
-    ensures cause { HasCause (S.faults out.old) (S.faults out.new) result }
-{
-    write_bytes(out, b"x")?;
-    write_hex(out, domain.text(number).as_bytes())
 }

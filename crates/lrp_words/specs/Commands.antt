@@ -23,12 +23,12 @@ pub data Task : Type 0 where
   watch : Text → Text → Text → ℕ → Task
   sample : ℕ → ℕ → Task
 
--- a text that may be left out
+-- the text of a token, where one is given
 abbrev pub after_text : Option (Bor Text) → Option Text
 after_text None = None
 after_text (Some text) = Some text.now
 
--- what a command asks
+-- what a command of the program asks; `Page` is its command `List`
 abbrev pub task_of : Command → Task
 task_of (Ask db query cap tense canon civil) = ask db.now query.now cap tense canon civil
 task_of (Decide db query cap tense civil) = decide db.now query.now cap tense civil
@@ -38,7 +38,7 @@ task_of (Check db civil) = check db.now civil
 task_of (Watch db query edits cap) = watch db.now query.now edits.now cap
 task_of (Sample seed size) = sample seed size
 
--- and what may be a command
+-- the same where there may be no command
 abbrev pub tasks_of : Option Command → Option Task
 tasks_of None = None
 tasks_of (Some command) = Some (task_of command)
@@ -47,7 +47,7 @@ tasks_of (Some command) = Some (task_of command)
 abbrev pub with_some : {A B : Type 0} → Option A → (A → Option B) → Option B
 with_some found rest = option_and_then rest found
 
--- the name of a file is not empty
+-- the name of a file, which is not empty
 abbrev pub file : Option Text → Option Text
 file None = None
 file (Some []) = None

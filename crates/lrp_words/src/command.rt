@@ -3,10 +3,10 @@ use thiserror::Error;
 
 /// A command with its values, whose texts are borrowed from the words.
 ///
-/// `db`, `query` and `edits` are names of files, and not empty. `from` and `to` have a magnitude of at most 2^62, and are minutes of
-/// the years 1 to 9999 where `civil` is set. `after` is any text; its form is judged later. With `tense` a query may have
-/// temporal operators, with `canon` the canonical answer is told, and with `civil` times are minutes since 1970-01-01 00:00,
-/// and databases may have civil values.
+/// `db`, `query` and `edits` are names of files, and not empty. `from` and `to` have a magnitude of at most 2^62, and
+/// are minutes of the years 1 to 9999 where `civil` is set. `after` is any text; its form is judged later. With `tense`
+/// a query may have temporal operators, with `canon` the canonical answer is told, and with `civil` times are minutes
+/// since 1970-01-01 00:00, and databases may have civil values.
 #[derive(Clone, Copy)]
 pub enum Command<'a> {
     Ask {

@@ -12,7 +12,8 @@ use lrp_civil::minute_of;
 
 /// The command that the words after the program's name spell, or `Usage` where they spell none.
 ///
-/// The first word is the command's name. Every other is `key=value`, cut at its first `=`, in any order; each key is one of the command's, and stands at most once.
+/// The first word is the command's name. Every other is `key=value`, cut at its first `=`, in any order; each key is
+/// one of the command's, and stands at most once.
 pub fn read_words(words: &[String]) -> Result<Command<'_>, Usage>
     ensures command { MatchResult result (λ found. command (map string_bytes words.now)
         ≡ Some (task_of found)) (λ _. command (map string_bytes words.now) ≡ None) }

@@ -1,16 +1,19 @@
+use Rattle.std.proofs.Common.{ap}
+use Rattle.lrp_print.proofs.Lines.{written_as}
+use Rattle.lrp_list.specs.Lines.{spot_tuple}
 use Rattle.lrp_list.proofs.HeadOrder.{spot_tuple_is}
+use Rattle.lrp_civil.specs.CivilLines.{civil_line}
 use Rattle.lrp_civil.proofs.DateLemmas.{date_is}
 use Rattle.lrp_civil.proofs.MomentLemmas.{civil_day}
 use Rattle.lrp_civil.proofs.lines.write_civil_line.Goals as goal
 
-pub returns-in-Plain-clause-tuple : goal.returns-in-Plain-clause-tuple
-returns-in-Plain-clause-tuple g c = λ tuple h s. spot_tuple_is _ _ _ _ tuple h s
+pub returns-clause-text : goal.returns-clause-text
+returns-clause-text g c =
+    let answer = c.args.answer.now in
+    written_as _ _ _ _ _ (ap (λ json. civil_line json (spot_tuple answer.head.columns answer.store.shape answer.domain c.args.spot.now)) c.is_json-json.ensures) c.write_line_in.ensures.text
 
-pub returns-in-Plain-clause-dates : goal.returns-in-Plain-clause-dates
-returns-in-Plain-clause-dates g c = λ x h. date_is _ (civil_day x h)
+pub returns-clause-tuple : goal.returns-clause-tuple
+returns-clause-tuple g c = λ tuple h s. spot_tuple_is _ _ _ _ tuple h s
 
-pub returns-in-Json-clause-tuple : goal.returns-in-Json-clause-tuple
-returns-in-Json-clause-tuple g c = λ tuple h s. spot_tuple_is _ _ _ _ tuple h s
-
-pub returns-in-Json-clause-dates : goal.returns-in-Json-clause-dates
-returns-in-Json-clause-dates g c = λ x h. date_is _ (civil_day x h)
+pub returns-clause-dates : goal.returns-clause-dates
+returns-clause-dates g c = λ x h. date_is _ (civil_day x h)

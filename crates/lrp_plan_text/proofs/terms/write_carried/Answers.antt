@@ -15,4 +15,4 @@ returns-in_err-write_bytes-in-len1-up-clause-text g c =
 
 pub returns-in_ok-write_bytes-in-len1-up-clause-text : goal.returns-in_ok-write_bytes-in-len1-up-clause-text
 returns-in_ok-write_bytes-in-len1-up-clause-text g c =
-    written_as _ _ _ _ _ (some_carried c.args.tests.now c.in-len1-up.len_at_least) (written_behind _ _ _ (codes " where ") (joined_by (codes ", ") test_bytes c.args.tests.now) _ c.in_ok-write_bytes-in-len1-up.ensures.text c.write_tests.ensures.text)
+    written_as _ _ _ _ _ (some_carried c.args.tests.now c.in-len1-up.len_at_least) (written_behind _ _ _ (codes " where ") (joined_by (codes ", ") test_bytes c.args.tests.now) _ c.in_ok-write_bytes-in-len1-up.ensures.text c.write_joined.ensures.text)

@@ -6,12 +6,12 @@ use Rattle.lrp_print.proofs.Lines.{ok_as, front_as}
 use Rattle.lrp_print.proofs.relations.write_relation.Goals as goal
 use Rattle.std.proofs.Common.{subst}
 use Rattle.std.specs.List.{flat_map, AllByRecursion}
-use Rattle.lrp_print.specs.Kept.{IsWritable}
+use Rattle.lrp_model.specs.Kept.{IsWritable}
 use Rattle.lrp_print.proofs.RowLemmas.{rows_as, kept_writable}
 use Rattle.lrp_print.proofs.Reading.{one_reads_back}
 
-pub write_rows-requires : goal.write_rows-requires
-write_rows-requires g c = subst (AllByRecursion IsWritable) (sym c.as_slice-3.ensures) (kept_writable c.args.relation.now c.requires)
+pub write_each-requires : goal.write_each-requires
+write_each-requires g c = subst (AllByRecursion IsWritable) (sym c.as_slice.ensures) (kept_writable c.args.relation.now c.requires)
 
 pub returns-in_err-write_bytes-clause-text : goal.returns-in_err-write_bytes-clause-text
 returns-in_err-write_bytes-clause-text g c =
@@ -31,20 +31,20 @@ returns-in_err-write_bytes-3-clause-text g c =
 pub returns-in_err-write_columns-clause-text : goal.returns-in_err-write_columns-clause-text
 returns-in_err-write_columns-clause-text g c =
     let p = err_from_is_err_and c.from_residual-in_err-write_columns.result c.from_residual-in_err-write_columns.ensures.1 in
-    written_err _ _ (relation_bytes c.args.relation.now) _ p.0 p.1 (front_behind _ _ _ (codes "relation ") (c.args.relation.now.name ++ (codes "(" ++ (joined_by (codes ", ") column_bytes c.args.relation.now.columns ++ (codes ") {\n" ++ (flat_map (row_line c.args.relation.now.columns) c.args.relation.now.rows ++ (codes "}\n")))))) c.in_ok-write_bytes.ensures.text (front_behind _ _ _ (c.args.relation.now.name) (codes "(" ++ (joined_by (codes ", ") column_bytes c.args.relation.now.columns ++ (codes ") {\n" ++ (flat_map (row_line c.args.relation.now.columns) c.args.relation.now.rows ++ (codes "}\n"))))) (ok_as _ _ _ _ c.as_bytes.ensures c.in_ok-write_bytes-2.ensures.text) (front_behind _ _ _ (codes "(") (joined_by (codes ", ") column_bytes c.args.relation.now.columns ++ (codes ") {\n" ++ (flat_map (row_line c.args.relation.now.columns) c.args.relation.now.rows ++ (codes "}\n")))) c.in_ok-write_bytes-3.ensures.text (front_before _ _ (joined_by (codes ", ") column_bytes c.args.relation.now.columns) (codes ") {\n" ++ (flat_map (row_line c.args.relation.now.columns) c.args.relation.now.rows ++ (codes "}\n"))) (front_as _ _ _ _ (ap (joined_by (codes ", ") column_bytes) c.as_slice.ensures) c.in_err-write_columns.ensures.text)))))
+    written_err _ _ (relation_bytes c.args.relation.now) _ p.0 p.1 (front_behind _ _ _ (codes "relation ") (c.args.relation.now.name ++ (codes "(" ++ (joined_by (codes ", ") column_bytes c.args.relation.now.columns ++ (codes ") {\n" ++ (flat_map (row_line c.args.relation.now.columns) c.args.relation.now.rows ++ (codes "}\n")))))) c.in_ok-write_bytes.ensures.text (front_behind _ _ _ (c.args.relation.now.name) (codes "(" ++ (joined_by (codes ", ") column_bytes c.args.relation.now.columns ++ (codes ") {\n" ++ (flat_map (row_line c.args.relation.now.columns) c.args.relation.now.rows ++ (codes "}\n"))))) (ok_as _ _ _ _ c.as_bytes.ensures c.in_ok-write_bytes-2.ensures.text) (front_behind _ _ _ (codes "(") (joined_by (codes ", ") column_bytes c.args.relation.now.columns ++ (codes ") {\n" ++ (flat_map (row_line c.args.relation.now.columns) c.args.relation.now.rows ++ (codes "}\n")))) c.in_ok-write_bytes-3.ensures.text (front_before _ _ (joined_by (codes ", ") column_bytes c.args.relation.now.columns) (codes ") {\n" ++ (flat_map (row_line c.args.relation.now.columns) c.args.relation.now.rows ++ (codes "}\n"))) (front_as _ _ _ _ (ap (joined_by (codes ", ") column_bytes) c.as_slice-columns.ensures) c.in_err-write_columns.ensures.text)))))
 
 pub returns-in_err-write_bytes-4-clause-text : goal.returns-in_err-write_bytes-4-clause-text
 returns-in_err-write_bytes-4-clause-text g c =
     let p = err_from_is_err_and c.from_residual-in_err-write_bytes-4.result c.from_residual-in_err-write_bytes-4.ensures.1 in
-    written_err _ _ (relation_bytes c.args.relation.now) _ p.0 p.1 (front_behind _ _ _ (codes "relation ") (c.args.relation.now.name ++ (codes "(" ++ (joined_by (codes ", ") column_bytes c.args.relation.now.columns ++ (codes ") {\n" ++ (flat_map (row_line c.args.relation.now.columns) c.args.relation.now.rows ++ (codes "}\n")))))) c.in_ok-write_bytes.ensures.text (front_behind _ _ _ (c.args.relation.now.name) (codes "(" ++ (joined_by (codes ", ") column_bytes c.args.relation.now.columns ++ (codes ") {\n" ++ (flat_map (row_line c.args.relation.now.columns) c.args.relation.now.rows ++ (codes "}\n"))))) (ok_as _ _ _ _ c.as_bytes.ensures c.in_ok-write_bytes-2.ensures.text) (front_behind _ _ _ (codes "(") (joined_by (codes ", ") column_bytes c.args.relation.now.columns ++ (codes ") {\n" ++ (flat_map (row_line c.args.relation.now.columns) c.args.relation.now.rows ++ (codes "}\n")))) c.in_ok-write_bytes-3.ensures.text (front_behind _ _ _ (joined_by (codes ", ") column_bytes c.args.relation.now.columns) (codes ") {\n" ++ (flat_map (row_line c.args.relation.now.columns) c.args.relation.now.rows ++ (codes "}\n"))) (ok_as _ _ _ _ (ap (joined_by (codes ", ") column_bytes) c.as_slice.ensures) c.in_ok-write_columns.ensures.text) (front_before _ _ (codes ") {\n") (flat_map (row_line c.args.relation.now.columns) c.args.relation.now.rows ++ (codes "}\n")) c.in_err-write_bytes-4.ensures.text)))))
+    written_err _ _ (relation_bytes c.args.relation.now) _ p.0 p.1 (front_behind _ _ _ (codes "relation ") (c.args.relation.now.name ++ (codes "(" ++ (joined_by (codes ", ") column_bytes c.args.relation.now.columns ++ (codes ") {\n" ++ (flat_map (row_line c.args.relation.now.columns) c.args.relation.now.rows ++ (codes "}\n")))))) c.in_ok-write_bytes.ensures.text (front_behind _ _ _ (c.args.relation.now.name) (codes "(" ++ (joined_by (codes ", ") column_bytes c.args.relation.now.columns ++ (codes ") {\n" ++ (flat_map (row_line c.args.relation.now.columns) c.args.relation.now.rows ++ (codes "}\n"))))) (ok_as _ _ _ _ c.as_bytes.ensures c.in_ok-write_bytes-2.ensures.text) (front_behind _ _ _ (codes "(") (joined_by (codes ", ") column_bytes c.args.relation.now.columns ++ (codes ") {\n" ++ (flat_map (row_line c.args.relation.now.columns) c.args.relation.now.rows ++ (codes "}\n")))) c.in_ok-write_bytes-3.ensures.text (front_behind _ _ _ (joined_by (codes ", ") column_bytes c.args.relation.now.columns) (codes ") {\n" ++ (flat_map (row_line c.args.relation.now.columns) c.args.relation.now.rows ++ (codes "}\n"))) (ok_as _ _ _ _ (ap (joined_by (codes ", ") column_bytes) c.as_slice-columns.ensures) c.in_ok-write_columns.ensures.text) (front_before _ _ (codes ") {\n") (flat_map (row_line c.args.relation.now.columns) c.args.relation.now.rows ++ (codes "}\n")) c.in_err-write_bytes-4.ensures.text)))))
 
-pub returns-in_err-write_rows-clause-text : goal.returns-in_err-write_rows-clause-text
-returns-in_err-write_rows-clause-text g c =
-    let p = err_from_is_err_and c.from_residual-in_err-write_rows.result c.from_residual-in_err-write_rows.ensures.1 in
-    written_err _ _ (relation_bytes c.args.relation.now) _ p.0 p.1 (front_behind _ _ _ (codes "relation ") (c.args.relation.now.name ++ (codes "(" ++ (joined_by (codes ", ") column_bytes c.args.relation.now.columns ++ (codes ") {\n" ++ (flat_map (row_line c.args.relation.now.columns) c.args.relation.now.rows ++ (codes "}\n")))))) c.in_ok-write_bytes.ensures.text (front_behind _ _ _ (c.args.relation.now.name) (codes "(" ++ (joined_by (codes ", ") column_bytes c.args.relation.now.columns ++ (codes ") {\n" ++ (flat_map (row_line c.args.relation.now.columns) c.args.relation.now.rows ++ (codes "}\n"))))) (ok_as _ _ _ _ c.as_bytes.ensures c.in_ok-write_bytes-2.ensures.text) (front_behind _ _ _ (codes "(") (joined_by (codes ", ") column_bytes c.args.relation.now.columns ++ (codes ") {\n" ++ (flat_map (row_line c.args.relation.now.columns) c.args.relation.now.rows ++ (codes "}\n")))) c.in_ok-write_bytes-3.ensures.text (front_behind _ _ _ (joined_by (codes ", ") column_bytes c.args.relation.now.columns) (codes ") {\n" ++ (flat_map (row_line c.args.relation.now.columns) c.args.relation.now.rows ++ (codes "}\n"))) (ok_as _ _ _ _ (ap (joined_by (codes ", ") column_bytes) c.as_slice.ensures) c.in_ok-write_columns.ensures.text) (front_behind _ _ _ (codes ") {\n") (flat_map (row_line c.args.relation.now.columns) c.args.relation.now.rows ++ (codes "}\n")) c.in_ok-write_bytes-4.ensures.text (front_before _ _ (flat_map (row_line c.args.relation.now.columns) c.args.relation.now.rows) (codes "}\n") (front_as _ _ _ _ (rows_as _ _ _ _ c.as_slice-2.ensures c.as_slice-3.ensures) c.in_err-write_rows.ensures.text)))))))
+pub returns-in_err-write_each-clause-text : goal.returns-in_err-write_each-clause-text
+returns-in_err-write_each-clause-text g c =
+    let p = err_from_is_err_and c.from_residual-in_err-write_each.result c.from_residual-in_err-write_each.ensures.1 in
+    written_err _ _ (relation_bytes c.args.relation.now) _ p.0 p.1 (front_behind _ _ _ (codes "relation ") (c.args.relation.now.name ++ (codes "(" ++ (joined_by (codes ", ") column_bytes c.args.relation.now.columns ++ (codes ") {\n" ++ (flat_map (row_line c.args.relation.now.columns) c.args.relation.now.rows ++ (codes "}\n")))))) c.in_ok-write_bytes.ensures.text (front_behind _ _ _ (c.args.relation.now.name) (codes "(" ++ (joined_by (codes ", ") column_bytes c.args.relation.now.columns ++ (codes ") {\n" ++ (flat_map (row_line c.args.relation.now.columns) c.args.relation.now.rows ++ (codes "}\n"))))) (ok_as _ _ _ _ c.as_bytes.ensures c.in_ok-write_bytes-2.ensures.text) (front_behind _ _ _ (codes "(") (joined_by (codes ", ") column_bytes c.args.relation.now.columns ++ (codes ") {\n" ++ (flat_map (row_line c.args.relation.now.columns) c.args.relation.now.rows ++ (codes "}\n")))) c.in_ok-write_bytes-3.ensures.text (front_behind _ _ _ (joined_by (codes ", ") column_bytes c.args.relation.now.columns) (codes ") {\n" ++ (flat_map (row_line c.args.relation.now.columns) c.args.relation.now.rows ++ (codes "}\n"))) (ok_as _ _ _ _ (ap (joined_by (codes ", ") column_bytes) c.as_slice-columns.ensures) c.in_ok-write_columns.ensures.text) (front_behind _ _ _ (codes ") {\n") (flat_map (row_line c.args.relation.now.columns) c.args.relation.now.rows ++ (codes "}\n")) c.in_ok-write_bytes-4.ensures.text (front_before _ _ (flat_map (row_line c.args.relation.now.columns) c.args.relation.now.rows) (codes "}\n") (front_as _ _ _ _ (rows_as _ _ _ _ c.as_slice-columns.ensures c.as_slice.ensures) c.in_err-write_each.ensures.text)))))))
 
 pub returns-clause-text : goal.returns-clause-text
-returns-clause-text g c = written_behind _ _ _ (codes "relation ") (c.args.relation.now.name ++ (codes "(" ++ (joined_by (codes ", ") column_bytes c.args.relation.now.columns ++ (codes ") {\n" ++ (flat_map (row_line c.args.relation.now.columns) c.args.relation.now.rows ++ (codes "}\n")))))) _ c.in_ok-write_bytes.ensures.text (written_behind _ _ _ (c.args.relation.now.name) (codes "(" ++ (joined_by (codes ", ") column_bytes c.args.relation.now.columns ++ (codes ") {\n" ++ (flat_map (row_line c.args.relation.now.columns) c.args.relation.now.rows ++ (codes "}\n"))))) _ (ok_as _ _ _ _ c.as_bytes.ensures c.in_ok-write_bytes-2.ensures.text) (written_behind _ _ _ (codes "(") (joined_by (codes ", ") column_bytes c.args.relation.now.columns ++ (codes ") {\n" ++ (flat_map (row_line c.args.relation.now.columns) c.args.relation.now.rows ++ (codes "}\n")))) _ c.in_ok-write_bytes-3.ensures.text (written_behind _ _ _ (joined_by (codes ", ") column_bytes c.args.relation.now.columns) (codes ") {\n" ++ (flat_map (row_line c.args.relation.now.columns) c.args.relation.now.rows ++ (codes "}\n"))) _ (ok_as _ _ _ _ (ap (joined_by (codes ", ") column_bytes) c.as_slice.ensures) c.in_ok-write_columns.ensures.text) (written_behind _ _ _ (codes ") {\n") (flat_map (row_line c.args.relation.now.columns) c.args.relation.now.rows ++ (codes "}\n")) _ c.in_ok-write_bytes-4.ensures.text (written_behind _ _ _ (flat_map (row_line c.args.relation.now.columns) c.args.relation.now.rows) (codes "}\n") _ (ok_as _ _ _ _ (rows_as _ _ _ _ c.as_slice-2.ensures c.as_slice-3.ensures) c.in_ok-write_rows.ensures.text) (c.write_bytes-5.ensures.text))))))
+returns-clause-text g c = written_behind _ _ _ (codes "relation ") (c.args.relation.now.name ++ (codes "(" ++ (joined_by (codes ", ") column_bytes c.args.relation.now.columns ++ (codes ") {\n" ++ (flat_map (row_line c.args.relation.now.columns) c.args.relation.now.rows ++ (codes "}\n")))))) _ c.in_ok-write_bytes.ensures.text (written_behind _ _ _ (c.args.relation.now.name) (codes "(" ++ (joined_by (codes ", ") column_bytes c.args.relation.now.columns ++ (codes ") {\n" ++ (flat_map (row_line c.args.relation.now.columns) c.args.relation.now.rows ++ (codes "}\n"))))) _ (ok_as _ _ _ _ c.as_bytes.ensures c.in_ok-write_bytes-2.ensures.text) (written_behind _ _ _ (codes "(") (joined_by (codes ", ") column_bytes c.args.relation.now.columns ++ (codes ") {\n" ++ (flat_map (row_line c.args.relation.now.columns) c.args.relation.now.rows ++ (codes "}\n")))) _ c.in_ok-write_bytes-3.ensures.text (written_behind _ _ _ (joined_by (codes ", ") column_bytes c.args.relation.now.columns) (codes ") {\n" ++ (flat_map (row_line c.args.relation.now.columns) c.args.relation.now.rows ++ (codes "}\n"))) _ (ok_as _ _ _ _ (ap (joined_by (codes ", ") column_bytes) c.as_slice-columns.ensures) c.in_ok-write_columns.ensures.text) (written_behind _ _ _ (codes ") {\n") (flat_map (row_line c.args.relation.now.columns) c.args.relation.now.rows ++ (codes "}\n")) _ c.in_ok-write_bytes-4.ensures.text (written_behind _ _ _ (flat_map (row_line c.args.relation.now.columns) c.args.relation.now.rows) (codes "}\n") _ (ok_as _ _ _ _ (rows_as _ _ _ _ c.as_slice-columns.ensures c.as_slice.ensures) c.in_ok-write_each.ensures.text) (c.write_bytes-5.ensures.text))))))
 
 pub returns-in_err-write_bytes-clause-reads_back : goal.returns-in_err-write_bytes-clause-reads_back
 returns-in_err-write_bytes-clause-reads_back g c = one_reads_back c.args.relation.now c.requires
@@ -61,8 +61,8 @@ returns-in_err-write_columns-clause-reads_back g c = one_reads_back c.args.relat
 pub returns-in_err-write_bytes-4-clause-reads_back : goal.returns-in_err-write_bytes-4-clause-reads_back
 returns-in_err-write_bytes-4-clause-reads_back g c = one_reads_back c.args.relation.now c.requires
 
-pub returns-in_err-write_rows-clause-reads_back : goal.returns-in_err-write_rows-clause-reads_back
-returns-in_err-write_rows-clause-reads_back g c = one_reads_back c.args.relation.now c.requires
+pub returns-in_err-write_each-clause-reads_back : goal.returns-in_err-write_each-clause-reads_back
+returns-in_err-write_each-clause-reads_back g c = one_reads_back c.args.relation.now c.requires
 
 pub returns-clause-reads_back : goal.returns-clause-reads_back
 returns-clause-reads_back g c = one_reads_back c.args.relation.now c.requires
