@@ -66,7 +66,8 @@ impl<'a> TermTest<'a> {
     }
 }
 
-/// A formula in core form: no implication, no `forall`, and a `Not` before an atom, an `in`, an equality, an `And` or an `Exists` alone. `Sorted` says that the variable's text is a text of the sort.
+/// A formula in core form: no implication, no `forall`, and a `Not` before an atom, an `in`, an equality, an `And` or
+/// an `Exists` alone. `Sorted` says that the variable's text is a text of the sort.
 pub enum Core<'a> {
     Atom {
         relation: &'a Name,

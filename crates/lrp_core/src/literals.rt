@@ -7,10 +7,10 @@ ghost use Rattle.lrp_model.specs.declared.relations.Sort.{Sort as SortOf};
 ghost use Rattle.lrp_model.specs.declared.relations.Column.{Column as ColumnOf};
 ghost use Rattle.lrp_core.specs.Literals.{AddsTexts, one_text, one_in};
 
+use lrp_database::Database;
 use lrp_model::{
     Column, Copies, DataTerm, DataText, Formula, List, Memory, Name, Query, Sort, Term, Test,
 };
-use lrp_rel::Database;
 use std::alloc::Global;
 
 /// The data texts of a query's body in order, each with its sort: that of its column, or of the variable that it is equal to.

@@ -6,7 +6,8 @@ use Rattle.lrp_model.specs.Formulas.{Form, atom, test}
 use Rattle.lrp_model.specs.Rows.{rows_of}
 use Rattle.lrp_model.specs.Satisfaction.{Structure}
 use Rattle.lrp_model.specs.Sorts.{is_time}
-use Rattle.lrp_model.specs.Periods.{periods, test_periods, IsCommon}
+use Rattle.lrp_theory.specs.Divides.{IsCommon}
+use Rattle.lrp_model.specs.Periods.{periods, test_periods}
 use Rattle.lrp_model.specs.Reach.{greatest, test_reach, term_magnitudes}
 use Rattle.lrp_model.specs.Steps.{scan_of, leaf, sort_texts, join, select, union, minus, complement, drop_of}
 use Rattle.lrp_model.specs.declared.relations.Sort.{Sort}

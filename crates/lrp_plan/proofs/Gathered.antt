@@ -19,7 +19,7 @@ use Rattle.std.proofs.lemmas.Map.Views.{btree_set_contains_iff}
 use Rattle.lrp_model.proofs.Decided.{cons_cases, contains_first, contains_later, contains_none}
 use Rattle.lrp_model.proofs.Ascending.{same_ascending}
 use Rattle.lrp_model.proofs.DomainLaws.{contains_in_order, in_order_ascends}
-use Rattle.lrp_rel.specs.Once.{put_once, once, texts_among, texts_with}
+use Rattle.lrp_database.specs.Once.{put_once, once, texts_among, texts_with}
 use Rattle.lrp_plan.specs.Domains.{IsTextSet, AreDomains, Gathers, TakesIn, gathered}
 use Rattle.lrp_model.specs.Satisfaction.{Structure}
 use Rattle.lrp_model.specs.Domains.{database_texts}

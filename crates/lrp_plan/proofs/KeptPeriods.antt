@@ -10,7 +10,7 @@ use Rattle.lrp_model.specs.declared.relations.Row.{Row}
 use Rattle.lrp_model.specs.declared.relations.Relation.{Relation}
 use Rattle.lrp_model.proofs.Logic.{all_append}
 use Rattle.lrp_plan_laws.specs.Rising.{database_periods}
-use Rattle.lrp_print.specs.Kept.{IsValueOf, AreValuesOf, IsRowOf, IsKept}
+use Rattle.lrp_model.specs.Kept.{IsValueOf, AreValuesOf, IsRowOf, IsKept}
 
 abbrev IsSome : ℕ → Type 0
 IsSome k = 1 ≤ k

@@ -5,7 +5,8 @@ use Rattle.lrp_model.specs.Texts.{Text, Identifier}
 use Rattle.lrp_model.specs.Formulas.{Form, atom, test, sorted}
 use Rattle.lrp_model.specs.Rows.{rows_of}
 use Rattle.lrp_model.specs.Satisfaction.{Structure}
-use Rattle.lrp_model.specs.Periods.{period, periods, periods_each, test_periods, IsCommon}
+use Rattle.lrp_theory.specs.Divides.{IsCommon}
+use Rattle.lrp_model.specs.Periods.{period, periods, periods_each, test_periods}
 use Rattle.lrp_model.specs.Reach.{greatest, reach_of, test_reach, term_magnitudes}
 use Rattle.lrp_model.specs.Steps.{Steps, formula_at, reach_at, made, step_behind, tests_as_forms, scan_of, leaf, sort_texts, join, select, union, minus, complement, drop_of}
 use Rattle.lrp_model.specs.Conjunctions.{is_test}

@@ -11,7 +11,8 @@ use Rattle.lrp_model.specs.Rows.{rows_of}
 use Rattle.lrp_model.specs.Variables.{is_among}
 use Rattle.lrp_model.specs.Satisfaction.{Structure}
 use Rattle.lrp_model.specs.Core.{AreCore}
-use Rattle.lrp_model.specs.Periods.{periods, periods_each, test_periods, IsCommon}
+use Rattle.lrp_theory.specs.Divides.{IsCommon}
+use Rattle.lrp_model.specs.Periods.{periods, periods_each, test_periods}
 use Rattle.lrp_model.specs.Steps.{scan_of, leaf, sort_texts, complement, drop_of}
 use Rattle.lrp_model.specs.Conjunctions.{is_test, tests_in, ranked, nothing_taken, take_positives, take_tests, take_negations, State}
 use Rattle.lrp_model.specs.Plans.{plan_of, positives_in, negations_in}

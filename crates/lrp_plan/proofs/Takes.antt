@@ -6,7 +6,8 @@ use Rattle.std.proofs.lemmas.List.Elements.{filter_agree}
 use Rattle.lrp_model.specs.Formulas.{test}
 use Rattle.lrp_model.specs.Variables.{Variable, free, are_among}
 use Rattle.lrp_model.specs.Satisfaction.{Structure}
-use Rattle.lrp_model.specs.Periods.{periods, test_periods, IsCommon}
+use Rattle.lrp_theory.specs.Divides.{IsCommon}
+use Rattle.lrp_model.specs.Periods.{periods, test_periods}
 use Rattle.lrp_model.specs.Steps.{Steps, formula_at, reach_at, join, select, minus, complement, leaf, step_behind}
 use Rattle.lrp_model.specs.Conjunctions.{Taken, is_test, select_each, take_in}
 use Rattle.lrp_model.specs.declared.relations.Relation.{Relation}

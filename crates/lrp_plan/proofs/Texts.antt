@@ -9,7 +9,7 @@ use Rattle.lrp_model.specs.Sorts.{same_sort}
 use Rattle.lrp_model.specs.declared.relations.Sort.{Sort}
 use Rattle.lrp_model.proofs.Ascending.{same_ascending}
 use Rattle.lrp_model.proofs.DomainLaws.{contains_in_order, in_order_ascends}
-use Rattle.lrp_rel.specs.Once.{put_once, once, texts_among, texts_with}
+use Rattle.lrp_database.specs.Once.{put_once, once, texts_among, texts_with}
 
 first_is : (t w : Text) → Contains (t ∷ []) w → t ≡ w
 first_is t w (zero, lt, e) = e

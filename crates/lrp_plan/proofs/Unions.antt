@@ -7,7 +7,8 @@ use Rattle.lrp_core.proofs.CoreViews.{cores_of-append}
 use Rattle.lrp_model.specs.Formulas.{Form, Forms, no_forms, form, joined}
 use Rattle.lrp_model.specs.Satisfaction.{Structure, Satisfies}
 use Rattle.lrp_model.specs.Core.{IsCore, AreCore}
-use Rattle.lrp_model.specs.Periods.{periods, periods_each, IsCommon}
+use Rattle.lrp_theory.specs.Divides.{IsCommon}
+use Rattle.lrp_model.specs.Periods.{periods, periods_each}
 use Rattle.lrp_model.specs.Steps.{Steps, union}
 use Rattle.lrp_model.specs.Plans.{plan_of, plan_of_some, plan_of_others}
 use Rattle.lrp_plan_laws.proofs.PlanLaws.{Makes}

@@ -1,5 +1,5 @@
 -- The whole plan of a query: its core form has the periods of the body, and so its draft is the query's.
-use Rattle.std.proofs.Common.{◌≡◌, ◌≤◌, ◌<◌, ◌+◌, ◌*◌, ◌^◌, ℕ, Bool, List, [], ◌∷◌, ◌++◌, Contains, Option, Some, None, option_map, Result, Ok, Err, zero, suc, ⊎_elim, refl, sym, ap, subst, ◌∙◌, arith}
+use Rattle.std.proofs.Common.{◌≡◌, ◌≤◌, ◌<◌, ◌+◌, ◌*◌, ◌^◌, ℕ, pos, Bool, List, [], ◌∷◌, ◌++◌, Contains, Option, Some, None, option_map, Result, Ok, Err, zero, suc, ⊎_elim, refl, sym, ap, subst, ◌∙◌, arith}
 use Rattle.std.specs.List.{AllZip, AllByRecursion}
 use Rattle.std.specs.Result.{IfOk}
 use Rattle.std.specs.Str.{bytes_eq}
@@ -13,7 +13,9 @@ use Rattle.lrp_model.specs.Variables.{Variable, free, head_variables}
 use Rattle.lrp_model.specs.Satisfaction.{Structure, structure}
 use Rattle.lrp_model.specs.Core.{core_form, guarded, has_named_sort, HasElements}
 use Rattle.lrp_model.specs.Domains.{database_texts, all_texts}
-use Rattle.lrp_model.specs.Periods.{lcm_all, periods, period, IsCommon}
+use Rattle.lrp_theory.specs.Divides.{IsCommon}
+use Rattle.lrp_theory.proofs.Modulo.{Divides-self}
+use Rattle.lrp_model.specs.Periods.{lcm_all, periods, period}
 use Rattle.lrp_model.specs.Plans.{plan, plan_of, query_reach, scaled_reach, IsStep}
 use Rattle.lrp_model.specs.Sorts.{time_count}
 use Rattle.lrp_model.specs.declared.relations.Relation.{Relation}
@@ -27,8 +29,8 @@ use Rattle.lrp_plan_laws.proofs.Members.{all_self}
 use Rattle.lrp_plan_laws.proofs.CoreNames.{core_named, guarded_within, guarded_body}
 use Rattle.lrp_plan_laws.proofs.PeriodLaws.{lcm_all_is, lcm_positive}
 use Rattle.lrp_plan_laws.proofs.PlanSound.{core_of_query}
-use Rattle.lrp_rel.specs.Once.{once, texts_among, texts_with}
-use Rattle.lrp_rel.proofs.OnceLaws.{once_in_order}
+use Rattle.lrp_database.specs.Once.{once, texts_among, texts_with}
+use Rattle.lrp_database.proofs.OnceLaws.{once_in_order}
 use Rattle.lrp_plan.specs.declared.drafts.Draft.{Draft}
 use Rattle.lrp_plan.specs.declared.sources.Sources.{Sources}
 use Rattle.lrp_limits.specs.Capped.{capped}
@@ -92,7 +94,7 @@ head_in_core named q db =
 
 -- the least common multiple is a common one
 common_self : (ks : List ℕ) (k : ℕ) → IsLeastWithinLimit ks k → IsCommon ks k
-common_self ks k least = (least.multiples k).0 (record { times = 1; is = omega arith })
+common_self ks k least = (least.multiples k).0 (Divides-self (pos k))
 
 -- the period of the core form is the query's, so that is at most 2^62
 pub low_period : (db : List Relation) (q : Question) (k : ℕ) → IsLeastWithinLimit (periods (core_form (has_named_sort db) q) db) k → period db q.body ≤ 2 ^ 62

@@ -6,7 +6,7 @@ use Rattle.std.specs.HashMap.{get}
 use Rattle.lrp_model.specs.Texts.{Text, in_order}
 use Rattle.lrp_model.specs.declared.relations.Sort.{Sort}
 use Rattle.lrp_model.specs.declared.relations.Sort.TheVariants.{Time, Data, Named}
-use Rattle.lrp_rel.specs.Once.{texts_with}
+use Rattle.lrp_database.specs.Once.{texts_with}
 use Rattle.lrp_plan.specs.declared.domains.Domains.{Domains}
 
 -- the texts that were gathered of a sort

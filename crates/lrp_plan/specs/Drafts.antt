@@ -3,7 +3,8 @@ use Rattle.std.specs.Prelude.{◌≡◌, ℕ, ◌+◌, ◌≤◌, pos, true, Lis
 use Rattle.std.specs.List.{AllZip, AllByRecursion}
 use Rattle.lrp_model.specs.Formulas.{Form}
 use Rattle.lrp_model.specs.Satisfaction.{Structure}
-use Rattle.lrp_model.specs.Periods.{periods, IsCommon}
+use Rattle.lrp_theory.specs.Divides.{IsCommon}
+use Rattle.lrp_model.specs.Periods.{periods}
 use Rattle.lrp_model.specs.Steps.{PlanStep, Steps, Rule, formula_at, reach_at, made, union}
 use Rattle.lrp_model.specs.Conjunctions.{is_test}
 use Rattle.lrp_model.specs.declared.formulas.Test.{Test}

@@ -19,7 +19,8 @@ use Rattle.lrp_plan.specs.declared.elements.Split.{Split}
 use Rattle.lrp_plan.specs.declared.drafts.Draft.{Draft}
 use Rattle.lrp_plan.specs.declared.taking.Taking.{Taking}
 use Rattle.lrp_model.specs.Core.{IsCore}
-use Rattle.lrp_model.specs.Periods.{periods, IsCommon}
+use Rattle.lrp_theory.specs.Divides.{IsCommon}
+use Rattle.lrp_model.specs.Periods.{periods}
 use Rattle.lrp_plan.specs.Drafts.{IsDraft, Extends}
 use Rattle.lrp_plan.specs.Taking.{HaveSame, IsTaking}
 

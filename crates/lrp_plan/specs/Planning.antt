@@ -4,7 +4,8 @@ use Rattle.lrp_model.specs.Formulas.{Form, Question}
 use Rattle.lrp_model.specs.Satisfaction.{Structure, structure}
 use Rattle.lrp_model.specs.Core.{core_form, has_named_sort, HasElements}
 use Rattle.lrp_model.specs.Domains.{database_texts, all_texts}
-use Rattle.lrp_model.specs.Periods.{periods, IsCommon}
+use Rattle.lrp_theory.specs.Divides.{IsCommon}
+use Rattle.lrp_model.specs.Periods.{periods}
 use Rattle.lrp_model.specs.Plans.{plan_of, IsPlan, IsWithinLimits, HasLongPeriod, HasFarReach}
 use Rattle.lrp_model.specs.declared.plans.Plan.{Plan}
 use Rattle.lrp_model.specs.declared.relations.Relation.{Relation}

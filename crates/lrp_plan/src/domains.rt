@@ -7,8 +7,8 @@ ghost use Rattle.lrp_model.specs.Texts.{in_order};
 ghost use Rattle.lrp_model.specs.declared.relations.Sort.TheVariants.{Data, Named};
 ghost use Rattle.lrp_plan.specs.Domains.{AreDomains, Gathers, TakesIn, gathered};
 
+use lrp_database::Database;
 use lrp_model::{Copies, DataText, List, Memory, Name, Sort};
-use lrp_rel::Database;
 use std::alloc::Global;
 use std::collections::{BTreeSet, HashMap};
 

@@ -2,7 +2,8 @@
 ghost use Rattle.std.specs.Prelude.{◌≡◌, ℕ, [], ◌∷◌, OnOk};
 ghost use Rattle.lrp_model.specs.Formulas.{Form, atom, test as test_form};
 ghost use Rattle.lrp_model.specs.Rows.{rows_of};
-ghost use Rattle.lrp_model.specs.Periods.{periods, test_periods, IsCommon};
+ghost use Rattle.lrp_theory.specs.Divides.{IsCommon};
+ghost use Rattle.lrp_model.specs.Periods.{periods, test_periods};
 ghost use Rattle.lrp_model.specs.Satisfaction.{Structure};
 ghost use Rattle.lrp_model.specs.Steps.{scan_of as scanned, leaf as tested, sort_texts, join as joined, select as selected, union as united, minus as taken_off, complement as complemented, drop_of};
 ghost use Rattle.lrp_limits.specs.Capped.{capped as capped_at};

@@ -3,7 +3,8 @@ use lrp_core::VariableTree;
 use lrp_model::{List, Test};
 use std::collections::VecDeque;
 
-/// An element of an `and` that is no test: its place in the list, its tree (of a negation that of what it denies), and its rank, which is its number of rows, or 2^64 where it has none.
+/// An element of an `and` that is no test: its place in the list, its tree (of a negation that of what it denies), and
+/// its rank, which is its number of rows, or 2^64 where it has none.
 #[derive(Clone, Copy)]
 pub(crate) struct Element<'a> {
     pub(crate) index: usize,

@@ -5,7 +5,7 @@ ghost use Rattle.lrp_model.specs.Formulas.{Question};
 ghost use Rattle.lrp_model.specs.TestPoints.{points};
 ghost use Rattle.lrp_model.specs.declared.relations.Relation.{Relation};
 ghost use Rattle.lrp_plan_laws.specs.Rising.{HasPeriods};
-ghost use Rattle.lrp_print.specs.Kept.{IsKept};
+ghost use Rattle.lrp_model.specs.Kept.{IsKept};
 
 /// A query over kept relations has periods of at least 1, where the points of its `in` tests have.
 pub fn kept_queries_have_periods()

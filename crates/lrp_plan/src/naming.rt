@@ -8,9 +8,9 @@ ghost use Rattle.lrp_plan_laws.specs.Rising.{database_periods};
 ghost use Rattle.lrp_plan.specs.Sources.{AreFactsOf};
 ghost use Rattle.lrp_plan.specs.Naming.{IsNamedAs};
 
+use lrp_database::Database;
 use lrp_limits::facts::{Facts, facts_of};
 use lrp_model::{Memory, Name, Relation};
-use lrp_rel::Database;
 use std::alloc::Global;
 use std::collections::HashMap;
 

@@ -148,7 +148,8 @@ fn plan_all(
     plan_each(turns, draft, of, negations, &mut taking)
 }
 
-// Each element in turn: of positives the next that shares a variable with what was taken in, of negations the next that is covered; or else the first.
+// Each element in turn: of positives the next that shares a variable with what was taken in, of negations the next that
+// is covered; or else the first.
 #[cycle(planning)]
 fn plan_each(
     turns: Turns<'_, '_>,

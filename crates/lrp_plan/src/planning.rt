@@ -18,7 +18,7 @@ ghost use Rattle.lrp_plan_text.specs.Writable.{StepHasPeriods};
 ghost use Rattle.lrp_limits.specs.Multiples.{IsPeriodOf};
 ghost use Rattle.lrp_plan.specs.Planning.{IsPastLimits, IsWholeDraft, AreGathered, IsOutcome};
 ghost use Rattle.lrp_plan.specs.Sources.{AreSources};
-ghost use Rattle.lrp_rel.specs.Once.{texts_among};
+ghost use Rattle.lrp_database.specs.Once.{texts_among};
 
 use crate::domains::domains_of;
 use crate::drafts::Draft;
@@ -28,10 +28,10 @@ use crate::sorts::has_named_sort;
 use crate::sources::Sources;
 use crate::wholes::with_core;
 use lrp_core::{Core, core_form, query_texts, variable_tree};
+use lrp_database::Database;
 use lrp_limits::periods::{Period, one};
 use lrp_limits::scaling::scaled;
 use lrp_model::{Copies, DataText, Domain, LIMIT, List, Memory, Plan, Query, Sort};
-use lrp_rel::Database;
 use std::alloc::Global;
 use thiserror::Error;
 

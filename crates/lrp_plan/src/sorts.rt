@@ -3,8 +3,8 @@ ghost use Rattle.std.specs.Prelude.{◌≡◌};
 ghost use Rattle.std.specs.List.{list_any};
 ghost use Rattle.lrp_model.specs.Core.{has_named_sort as names_some_sort, is_named as is_named_sort};
 
+use lrp_database::Database;
 use lrp_model::{Relation, Sort};
-use lrp_rel::Database;
 
 /// Whether some column of the database has a named sort.
 pub(crate) fn has_named_sort(database: &Database) -> bool

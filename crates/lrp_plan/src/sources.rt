@@ -6,9 +6,9 @@ ghost use Rattle.lrp_limits.specs.Facts.{AreFacts};
 ghost use Rattle.lrp_plan.specs.Sources.{AreSources};
 
 use crate::domains::{Domains, list_of, ordered};
+use lrp_database::Database;
 use lrp_limits::facts::{Facts, facts_of};
 use lrp_model::{DataText, List, Memory, Name, Sort};
-use lrp_rel::Database;
 use std::alloc::Global;
 use std::collections::HashMap;
 

@@ -19,7 +19,9 @@ use lrp_model::{List, Memory, Test};
 use std::alloc::Global;
 use std::mem;
 
-/// What was taken in: the result so far, if there is one, and its variables; and the tests that remain, in list order. Where they are settled, the variables cover none of them, so that they need not be looked at until there is a further variable.
+/// What was taken in: the result so far, if there is one, and its variables; and the tests that remain, in list order.
+/// Where they are settled, the variables cover none of them, so that they need not be looked at until there is a
+/// further variable.
 pub(crate) struct Taking {
     pub(crate) result: Option<Operand>,
     pub(crate) variables: List<Variable>,
@@ -40,8 +42,9 @@ impl Drop for Taking {
 }
 
 impl Taking {
-    /// The element whose steps were just made is taken in, with these variables. The tests that are then covered follow by `select` where it is the first element, and are else carried by a `join`.
-    pub(crate) fn take_in(
+    /// The element whose steps were just made is taken in, with these variables. The tests that are then covered follow
+    /// by `select` where it is the first element, and are else carried by a `join`.
+    fn take_in(
         &mut self,
         alloc: Global,
         draft: &mut Draft,
@@ -117,8 +120,9 @@ impl Taking {
         self.take_in(alloc, draft, variables.as_slice())
     }
 
-    /// The formula whose steps were just made is taken off: by a `minus` where its variables are covered, and else as its complement, which is joined with the result so far.
-    pub(crate) fn take_off(
+    /// The formula whose steps were just made is taken off: by a `minus` where its variables are covered, and else as
+    /// its complement, which is joined with the result so far.
+    fn take_off(
         &mut self,
         alloc: Global,
         draft: &mut Draft,
@@ -190,7 +194,8 @@ fn carry(draft: &mut Draft, left: Option<Operand>, tests: List<Test>) -> Result<
     }
 }
 
-// The last step taken off the result so far where it is covered; else its complement, joined with the result where there is one.
+// The last step taken off the result so far where it is covered; else its complement, joined with the result where
+// there is one.
 fn subtract(
     alloc: Global,
     draft: &mut Draft,

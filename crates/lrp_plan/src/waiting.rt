@@ -13,14 +13,16 @@ use std::collections::VecDeque;
 use std::marker::Model;
 use std::mem;
 
-/// Which elements go before the others: those that share a variable with what was taken in; or, where something was, those whose variables were all taken in.
+/// Which elements go before the others: those that share a variable with what was taken in; or, where something was,
+/// those whose variables were all taken in.
 #[derive(Clone, Copy, PartialEq, Eq)]
 pub(crate) enum Turn {
     Meeting,
     Covered { some: bool },
 }
 
-/// The elements that wait, in order. Those that were passed over do not go before the others where these variables were taken in; the rest were not looked at since these were.
+/// The elements that wait, in order. Those that were passed over do not go before the others where these variables were
+/// taken in; the rest were not looked at since these were.
 pub(crate) struct Waiting<'a> {
     turn: Turn,
     seen: List<Variable>,
@@ -71,7 +73,8 @@ impl<'a> Waiting<'a> {
         }
     }
 
-    /// The first element that goes before the others, or else the first, is taken out. One that was passed over is not looked at again until there are other variables.
+    /// The first element that goes before the others, or else the first, is taken out. One that was passed over is not
+    /// looked at again until there are other variables.
     pub(crate) fn take_next(
         &mut self,
         alloc: Global,
@@ -122,7 +125,8 @@ fn is_same(left: Turn, right: Turn, seen: &[Variable], variables: &[Variable]) -
     left == right && are_same(seen, variables)
 }
 
-// All elements are looked at again, those that were passed over ahead of the others. Where memory is refused they are as before.
+// All elements are looked at again, those that were passed over ahead of the others. Where memory is refused they are
+// as before.
 fn look_again<'a>(
     passed: &mut VecDeque<Element<'a>>,
     rest: &mut VecDeque<Element<'a>>,
@@ -137,7 +141,8 @@ fn look_again<'a>(
     Ok(())
 }
 
-// The first of the rest that goes before the others is taken out, and those ahead of it are passed over; where there is none, the first of all is.
+// The first of the rest that goes before the others is taken out, and those ahead of it are passed over; where there is
+// none, the first of all is.
 fn take_first<'a>(
     passed: &mut VecDeque<Element<'a>>,
     rest: &mut VecDeque<Element<'a>>,

@@ -5,7 +5,7 @@ use Rattle.lrp_model.specs.declared.relations.Sort.TheVariants.{Time, Data}
 use Rattle.lrp_model.specs.declared.formulas.Op.TheVariants.{Ge, Le}
 use Rattle.lrp_model.specs.declared.written.Located.{Located}
 use Rattle.lrp_model.specs.Tokens.{Spells}
-use Rattle.lrp_model.specs.Lexing.{tokens, tokens_from, after, skip, run, behind_run, value_from, word_or_name, text_from, symbol_from, scan}
+use Rattle.lrp_model.specs.Lexing.{tokens, tokens_from, after, skip, run, behind_run, word_or_name, text_from, symbol_from, scan}
 use Rattle.lrp_model.specs.Queries.{WrittenTerm, WrittenFormula, WrittenQuery, query_text, FitsQuery}
 use Rattle.lrp_model.specs.Queries.WrittenTerm.{variable, shifted}
 use Rattle.lrp_model.specs.Queries.WrittenFormula.{atom_formula, compared, denied, all_of, some}
@@ -38,7 +38,7 @@ written_sample = record {
 }
 
 query_spelled : Spells (query_text written_sample) (tokens sample_query)
-unfolding tokens_from after skip run behind_run value_from word_or_name text_from symbol_from scan lib.Utf8.encode
+unfolding tokens_from after skip run behind_run word_or_name text_from symbol_from scan lib.Utf8.encode
 query_spelled = (refl, ((refl, refl), (refl, ((refl, refl), (refl, ((refl, refl), (refl, ((refl, refl), (refl, ((refl, refl), ((refl, refl), (refl, ((refl, refl), ((refl, refl), ((refl, refl), (refl, ((refl, refl), (refl, ((refl, refl), (refl, ((refl, refl), (refl, (refl, ((refl, refl), ((refl, refl), ((refl, refl), (refl, ((refl, refl), ((refl, refl), ((refl, refl), (refl, ((refl, refl), ((refl, refl), ((refl, refl), (refl, ((refl, refl), ((refl, refl), ((refl, refl), (refl, ((refl, refl), (refl, ((refl, refl), (refl, ((refl, refl), (refl, (refl, ((refl, refl), (refl, ((refl, refl), (refl, ((refl, refl), (refl, ((refl, refl), (refl, (refl, (refl, (refl, (refl, (refl, refl)))))))))))))))))))))))))))))))))))))))))))))))))))))))))))
 
 query_utf8 : IsUtf8 sample_query

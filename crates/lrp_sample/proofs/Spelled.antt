@@ -23,7 +23,7 @@ use Rattle.lrp_model.specs.Tokens.Token.{name_token, word_token, number_token, s
 use Rattle.lrp_model.specs.Tokens.Part.{at, any}
 use Rattle.lrp_model.specs.Columns.{column_text}
 use Rattle.lrp_model.specs.Databases.{comma, row_text, relation_text, database_text}
-use Rattle.lrp_model.specs.Lexing.{is_name_byte, after, start, tokens, tokens_from, skip, scan, run, behind_run, value_from, word_or_name, symbol_from}
+use Rattle.lrp_model.specs.Lexing.{is_name_byte, after, start, tokens, tokens_from, skip, scan, run, behind_run, word_or_name, symbol_from}
 use Rattle.std.specs.Char.{is_ascii_digit}
 use Rattle.lrp_model.specs.Printed.{quoted}
 use Rattle.lrp_model.specs.Names.{IsName}
@@ -129,7 +129,7 @@ begun p rest =
 
 -- the minutes of a day
 minutes : (p : Place) (rest : List ℕ) → Stops is_ascii_digit rest → Spelled (any (number_token 1440) ∷ []) p (codes "1440") rest
-unfolding run value_from
+unfolding run
 minutes p rest s = token_any (number_token 1440) p 49 (codes "440") rest tt (digit_begins 49 refl) (number_scanned 49 (codes "440") rest refl refl s)
 
 -- the period of a day, and a comma

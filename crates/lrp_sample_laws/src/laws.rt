@@ -13,7 +13,8 @@ pub fn sample_is_within_limits()
     ensures limits { (seed size : ℕ) → IsSampleSize size → IsSampleWithinLimits seed size }
 {}
 
-/// A trip and, where the plan joins, how many minutes before it determine each inhabited cell of a step. So no step has more than the default cap.
+/// A trip and, where the plan joins, how many minutes before it determine each inhabited cell of a step. So no step has
+/// more than the default cap.
 pub fn sample_has_few_cells()
     ensures few { (seed size : ℕ) → IsSampleSize size → HasAtMostCells seed size (16 * size) }
     ensures default { (seed size : ℕ) → IsSampleSize size → HasAtMostCells seed size 1000000 }

@@ -10,8 +10,8 @@ use Rattle.lrp_model.specs.declared.tokens.Place.{Place}
 use Rattle.lrp_model.specs.declared.raw.RawTerm.{RawTerm}
 use Rattle.lrp_model.specs.declared.relations.Column.{Column}
 use Rattle.lrp_model.specs.declared.relations.Relation.{Relation}
-use Rattle.lrp_rel.specs.Sooner.{sooner}
-use Rattle.lrp_rel.proofs.FirstFault.{first_of_both}
+use Rattle.lrp_model.specs.Sooner.{sooner}
+use Rattle.lrp_model.proofs.FirstFault.{first_of_both}
 use Rattle.lrp_sorts.specs.Terms.{misfits, atom_head_faults}
 use Rattle.lrp_model.specs.Rows.{columns_in}
 

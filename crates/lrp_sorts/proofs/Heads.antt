@@ -14,8 +14,8 @@ use Rattle.lrp_model.specs.declared.faults.QueryKind.TheVariants.{Rebound}
 use Rattle.lrp_model.specs.declared.relations.Relation.{Relation}
 use Rattle.lrp_model.specs.declared.relations.Sort.{Sort}
 use Rattle.lrp_model.specs.declared.raw.RawColumn.{RawColumn}
-use Rattle.lrp_rel.specs.Sooner.{sooner}
-use Rattle.lrp_rel.proofs.FirstFault.{first_of_both, sooner_again}
+use Rattle.lrp_model.specs.Sooner.{sooner}
+use Rattle.lrp_model.proofs.FirstFault.{first_of_both, sooner_again}
 use Rattle.lrp_sorts.specs.Scopes.{kept_at}
 use Rattle.lrp_sorts.specs.declared.head.Before.{Before}
 use Rattle.lrp_sorts.proofs.Binding.{bound_names}

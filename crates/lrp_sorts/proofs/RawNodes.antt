@@ -13,8 +13,8 @@ use Rattle.lrp_model.specs.declared.raw.RawColumn.{RawColumn}
 use Rattle.lrp_model.specs.declared.raw.RawFormula.{RawFormula}
 use Rattle.lrp_model.specs.declared.raw.RawKind.{RawKind, Atom, Compare, Member, Not, Group, And, Or, Implies, Exists, Forall, Not', And', Or', Implies', Group', Exists', Forall', the_lemmas}
 use Rattle.lrp_model.proofs.RawViews.{raw_kind-And, raw_kind-Or}
-use Rattle.lrp_rel.specs.Sooner.{sooner}
-use Rattle.lrp_rel.proofs.FirstFault.{first_of_both}
+use Rattle.lrp_model.specs.Sooner.{sooner}
+use Rattle.lrp_model.proofs.FirstFault.{first_of_both}
 use Rattle.lrp_sorts.specs.declared.finding.Finding.{Finding}
 use Rattle.lrp_sorts.specs.Scopes.{Around, binders}
 use Rattle.lrp_sorts.specs.Widths.{IsTally, IsCounted}

@@ -8,8 +8,8 @@ use Rattle.lrp_model.specs.declared.faults.QueryKind.TheVariants.{Wide}
 use Rattle.lrp_model.specs.declared.raw.RawColumn.{RawColumn}
 use Rattle.lrp_model.specs.declared.raw.RawQuery.{RawQuery}
 use Rattle.lrp_model.specs.declared.relations.Relation.{Relation}
-use Rattle.lrp_rel.specs.Sooner.{sooner}
-use Rattle.lrp_rel.proofs.FirstFault.{first_of_both}
+use Rattle.lrp_model.specs.Sooner.{sooner}
+use Rattle.lrp_model.proofs.FirstFault.{first_of_both}
 use Rattle.lrp_sorts.specs.Scopes.{Around, binders}
 use Rattle.lrp_sorts.proofs.RawNodes.{shown}
 

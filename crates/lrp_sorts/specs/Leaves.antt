@@ -8,7 +8,7 @@ use Rattle.lrp_model.specs.declared.raw.RawFormula.{RawFormula}
 use Rattle.lrp_model.specs.declared.raw.RawKind.{RawKind}
 use Rattle.lrp_model.specs.declared.raw.RawKind.TheVariants.{Atom, Compare, Member}
 use Rattle.lrp_model.specs.declared.relations.Relation.{Relation}
-use Rattle.lrp_rel.specs.Sooner.{sooner}
+use Rattle.lrp_model.specs.Sooner.{sooner}
 use Rattle.lrp_sorts.specs.Scopes.{Around, binders}
 use Rattle.lrp_sorts.specs.Widths.{IsCounted}
 use Rattle.lrp_sorts.specs.declared.finding.Finding.{Finding}

@@ -10,8 +10,8 @@ ghost use Rattle.lrp_model.specs.Texts.{Identifier};
 ghost use Rattle.lrp_sorts.specs.Scopes.{holds};
 
 use crate::earliest::fault_where;
+use lrp_database::Database;
 use lrp_model::{Column, Memory, Name, Place, QueryFault, QueryKind, Relation, Sort};
-use lrp_rel::Database;
 use std::alloc::Global;
 use std::collections::HashSet;
 use std::marker::Model;

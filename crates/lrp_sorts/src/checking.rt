@@ -19,8 +19,8 @@ use crate::head::{Opening, head_width, open};
 use crate::plain::{plain_columns, plain_formula};
 use crate::scope::Scope;
 use crate::walk::inspect;
+use lrp_database::Database;
 use lrp_model::{Head, Memory, Query, QueryRead, RawQuery};
-use lrp_rel::Database;
 use std::alloc::Global;
 
 // The first sort fault of a query, and the binders of its head.

@@ -2,7 +2,7 @@
 ghost use Rattle.std.specs.Prelude.{◌≡◌, Some};
 ghost use Rattle.lrp_model.specs.Sorting.{query_standing, query_fault};
 ghost use Rattle.lrp_model.specs.Faults.{earlier, earliest, fault_if};
-ghost use Rattle.lrp_rel.specs.Sooner.{sooner};
+ghost use Rattle.lrp_model.specs.Sooner.{sooner};
 
 use lrp_model::{Place, QueryFault, QueryKind};
 

@@ -8,7 +8,7 @@ ghost use Rattle.lrp_model.specs.declared.relations.Relation.{Relation as Relati
 ghost use Rattle.lrp_model.specs.declared.relations.RowPoint.{RowPoint as PointOf};
 ghost use Rattle.lrp_model.specs.declared.tokens.Place.{Place as PlaceOf};
 ghost use Rattle.lrp_model.specs.declared.faults.QueryKind.TheVariants.{Wide as wide, Rebound as rebound};
-ghost use Rattle.lrp_rel.specs.Sooner.{sooner};
+ghost use Rattle.lrp_model.specs.Sooner.{sooner};
 ghost use Rattle.lrp_sorts.specs.Scopes.{Around, binders};
 ghost use Rattle.lrp_sorts.specs.Terms.{IsSeen};
 ghost use Rattle.lrp_sorts.specs.Leaves.{CountsOn, IsLeaf, IsNarrow, ShowsOn};

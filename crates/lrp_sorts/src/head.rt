@@ -9,12 +9,10 @@ use crate::catalog::Catalog;
 use crate::earliest::{fault_where, sooner_of};
 use crate::finding::binder_fault;
 use crate::scope::Scope;
+use crate::width::MOST;
 use lrp_model::{Memory, QueryFault, QueryKind, RawColumn, Sort};
 use std::alloc::Global;
 use std::collections::HashMap;
-
-// The most columns of a kind.
-const MOST: usize = 8;
 
 /// The binders of a head, and the first fault of one of them.
 #[derive(Drop)]

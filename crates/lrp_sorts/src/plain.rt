@@ -4,7 +4,7 @@ ghost use Rattle.lrp_model.specs.Checked.{time_of, data_of, term_of, compare_of,
 ghost use Rattle.lrp_model.specs.DatabaseMeaning.{column_of};
 ghost use Rattle.lrp_model.specs.Formulas.{form_of, forms_of, atom, test, negation, conjunction, disjunction, implication, exists, forall};
 ghost use Rattle.lrp_model.specs.RawQueries.{raw_form_of, raw_forms_of};
-ghost use Rattle.lrp_sorts.specs.Scopes.{Around, binders};
+ghost use Rattle.lrp_sorts.specs.Scopes.{binders};
 
 use crate::scope::Scope;
 use crate::terms::is_data;
@@ -138,7 +138,8 @@ fn plain_member(alloc: Global, term: &RawTerm, point: RowPoint) -> Result<Formul
 
 // The formula within the binders of the scope; one in parentheses is the formula itself.
 //
-// A function clears its locals when it begins. So each kind of formula has a function of its own, and a formula pays for its own kind alone.
+// A function clears its locals when it begins. So each kind of formula has a function of its own, and a formula pays
+// for its own kind alone.
 #[cycle(plain)]
 pub fn plain_formula<'a>(
     alloc: Global,
@@ -235,9 +236,8 @@ fn plain_existential<'a>(
         (plain_form (raw_form_of f.now) (binder.now ∷ binders scope.old))) }
     ensures scope { OnOk result (scope.new ≡ scope.old) }
 {
-    scope.enter(binder)?;
-    let of = plain_formula(alloc, scope, f)?;
-    some(alloc, scope, binder, of)
+    let of = plain_within(alloc, scope, binder, f)?;
+    some(alloc, binder, of)
 }
 
 #[cycle(plain)]
@@ -252,9 +252,26 @@ fn plain_universal<'a>(
         (plain_form (raw_form_of f.now) (binder.now ∷ binders scope.old))) }
     ensures scope { OnOk result (scope.new ≡ scope.old) }
 {
+    let of = plain_within(alloc, scope, binder, f)?;
+    every(alloc, binder, of)
+}
+
+// The formula within a binder, outside of which the scope is again behind it.
+#[cycle(plain)]
+fn plain_within<'a>(
+    alloc: Global,
+    scope: &mut Scope<'a>,
+    binder: &'a RawColumn,
+    f: &'a RawFormula,
+) -> Result<Formula, Memory>
+    ensures form { IfOk result (λ made. form_of made
+        ≡ plain_form (raw_form_of f.now) (binder.now ∷ binders scope.old)) }
+    ensures scope { OnOk result (scope.new ≡ scope.old) }
+{
     scope.enter(binder)?;
     let of = plain_formula(alloc, scope, f)?;
-    every(alloc, scope, binder, of)
+    scope.leave();
+    Ok(of)
 }
 
 #[cycle(plain)]
@@ -290,40 +307,18 @@ fn implied(alloc: Global, f: Formula, g: Formula) -> Result<Formula, Memory>
     Ok(Formula::Implies { left, right })
 }
 
-// The quantified formula, outside its quantifier again.
-fn some(
-    alloc: Global,
-    scope: &mut Scope<'_>,
-    binder: &RawColumn,
-    f: Formula,
-) -> Result<Formula, Memory>
-    ensures form { IfOk result (λ g. form_of g ≡ exists binder.now.name binder.now.sort
-        (form_of f)) }
-    ensures scope { OnOk result ((outer : Around)
-        → scope.old ≡ record outer { quantifiers = binder.now ∷ outer.quantifiers }
-        → scope.new ≡ outer) }
+fn some(alloc: Global, binder: &RawColumn, f: Formula) -> Result<Formula, Memory>
+    ensures { IfOk result (λ g. form_of g ≡ exists binder.now.name binder.now.sort (form_of f)) }
 {
-    scope.leave();
     let name = binder.name.copy(alloc)?;
     let sort = binder.sort.copy(alloc)?;
     let of = Box::new(alloc, f)?;
     Ok(Formula::Exists { name, sort, of })
 }
 
-// The same for the other quantifier.
-fn every(
-    alloc: Global,
-    scope: &mut Scope<'_>,
-    binder: &RawColumn,
-    f: Formula,
-) -> Result<Formula, Memory>
-    ensures form { IfOk result (λ g. form_of g ≡ forall binder.now.name binder.now.sort
-        (form_of f)) }
-    ensures scope { OnOk result ((outer : Around)
-        → scope.old ≡ record outer { quantifiers = binder.now ∷ outer.quantifiers }
-        → scope.new ≡ outer) }
+fn every(alloc: Global, binder: &RawColumn, f: Formula) -> Result<Formula, Memory>
+    ensures { IfOk result (λ g. form_of g ≡ forall binder.now.name binder.now.sort (form_of f)) }
 {
-    scope.leave();
     let name = binder.name.copy(alloc)?;
     let sort = binder.sort.copy(alloc)?;
     let of = Box::new(alloc, f)?;

@@ -9,8 +9,9 @@ use crate::earliest::{fault_where, sooner_of};
 use crate::scope::Scope;
 use lrp_model::{Column, Op, Place, QueryFault, QueryKind, RawTerm, RawTermKind, Relation, Sort};
 
-/// The sort of a term, found by one look at its binder: a name alone is `Of` its binder's sort, a name with an offset is `Shifted`, of which the
-/// binder's sort is kept, an integer is an `Instant`, and a variable without a binder is `Unbound`.
+/// The sort of a term, found by one look at its binder: a name alone is `Of` its binder's sort, a name with an offset
+/// is `Shifted`, of which the binder's sort is kept, an integer is an `Instant`, and a variable without a binder is
+/// `Unbound`.
 #[derive(Clone, Copy)]
 pub enum Sorted<'a> {
     Of { sort: &'a Sort },
@@ -142,7 +143,7 @@ pub fn relation_fault(place: Place, terms: usize, relation: Option<&Relation>) -
 }
 
 // Sides of a comparison that do not go together, from the sorts of both.
-#[tactic(auto, using(lrp_rel::proofs::FirstFault::first_of_both))]
+#[tactic(auto, using(lrp_model::proofs::FirstFault::first_of_both))]
 pub fn sides_fault(
     left: &RawTerm,
     one: Sorted<'_>,
@@ -166,7 +167,7 @@ pub fn sides_fault(
 }
 
 // The first fault of a comparison, from the sorts of its sides.
-#[tactic(auto, using(lrp_rel::proofs::FirstFault::first_of_both))]
+#[tactic(auto, using(lrp_model::proofs::FirstFault::first_of_both))]
 pub fn compare_fault(
     left: &RawTerm,
     one: Sorted<'_>,
@@ -184,7 +185,7 @@ pub fn compare_fault(
 }
 
 // The first fault of a term in a point, from its sort.
-#[tactic(auto, using(lrp_rel::proofs::FirstFault::first_of_both))]
+#[tactic(auto, using(lrp_model::proofs::FirstFault::first_of_both))]
 pub fn member_fault(term: &RawTerm, sorted: Sorted<'_>) -> Option<QueryFault>
     ensures { (bs : Binders) → IsSeen bs term.now sorted.entry
         → result ≡ earliest query_standing (term_faults bs term.now ++ time_faults bs term.now) }

@@ -4,7 +4,7 @@ ghost use Rattle.lrp_model.specs.Texts.{Identifier, without};
 ghost use Rattle.lrp_model.specs.Faults.{earliest};
 ghost use Rattle.lrp_model.specs.RawQueries.{raw_form_of, raw_forms_of};
 ghost use Rattle.lrp_model.specs.Sorting.{query_standing, widened, binder_faults, form_faults, forms_faults, free_names, free_names_each};
-ghost use Rattle.lrp_rel.specs.Sooner.{sooner};
+ghost use Rattle.lrp_model.specs.Sooner.{sooner};
 ghost use Rattle.lrp_sorts.specs.Scopes.{binders};
 ghost use Rattle.lrp_sorts.specs.Widths.{IsCounted};
 
@@ -16,8 +16,9 @@ use std::alloc::Global;
 
 // What a formula shows within the binders of the scope, all but its own width.
 //
-// The variables of a formula go up to the formula around it, each once. So a formula takes time by the variables of its parts, of which
-// there are few where none is too wide. A function clears its locals when it begins, so each kind of formula has one of its own.
+// The variables of a formula go up to the formula around it, each once. So a formula takes time by the variables of its
+// parts, of which there are few where none is too wide. A function clears its locals when it begins, so each kind of
+// formula has one of its own.
 #[cycle(walking)]
 pub fn inspect<'a>(
     alloc: Global,

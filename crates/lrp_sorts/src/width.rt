@@ -10,11 +10,11 @@ ghost use Rattle.lrp_sorts.specs.Widths.{AreKeptNames, IsTally, names_behind, pa
 use lrp_model::{Memory, Name, Sort};
 use std::alloc::Global;
 
-// The most variables of a kind that may occur free in a formula.
+// The most columns of a kind in a head, and the most variables of a kind that may occur free in a formula.
 pub const MOST: usize = 8;
 
-/// The names of time variables and of data variables that occur free, each once. A list that is longer than 8 and the number of the quantifiers
-/// around stays too long, however many of these take a name off, so it need not grow.
+/// The names of time variables and of data variables that occur free, each once. A list that is longer than 8 and the
+/// number of the quantifiers around stays too long, however many of these take a name off, so it need not grow.
 pub struct Tally<'a> {
     pub times: Vec<&'a Name>,
     pub texts: Vec<&'a Name>,
@@ -117,7 +117,8 @@ fn keep<'a>(kept: &mut Vec<&'a Name>, quantifiers: usize, name: &'a Name) -> Res
     Ok(())
 }
 
-// The names of two lists. Those of the shorter one go behind the others, so that a long list is neither copied nor gone through for each of its names.
+// The names of two lists. Those of the shorter one go behind the others, so that a long list is neither copied nor gone
+// through for each of its names.
 fn merged<'a>(
     quantifiers: usize,
     left: Vec<&'a Name>,

@@ -1,5 +1,5 @@
 use Rattle.std.proofs.Common.{◌≡◌, ◌++◌, take}
-use Rattle.lrp_rel.specs.Once.{texts_among}
+use Rattle.lrp_database.specs.Once.{texts_among}
 use Rattle.lrp_plan.proofs.planning.add_all.Given as goal
 
 -- those of the texts so far were added

@@ -1,6 +1,6 @@
 use Rattle.std.proofs.Common.{◌≡◌, ◌++◌, rules}
 use Rattle.lrp_model.specs.Domains.{database_texts}
-use Rattle.lrp_rel.specs.Once.{once, texts_among}
+use Rattle.lrp_database.specs.Once.{once, texts_among}
 use Rattle.lrp_plan.proofs.Whole.{constants_made}
 use Rattle.lrp_plan.proofs.planning.domain_of.Goals as goal
 

@@ -4,7 +4,7 @@ use Rattle.lrp_model.specs.Core.{HasElements}
 use Rattle.lrp_model.specs.Formulas.{form_of}
 use Rattle.lrp_model.specs.RawQueries.{raw_form_of, raw_question_of}
 use Rattle.lrp_model.specs.Sorting.{query_standing, query_faults}
-use Rattle.lrp_rel.proofs.FirstFault.{none_is_empty}
+use Rattle.lrp_model.proofs.FirstFault.{none_is_empty}
 use Rattle.lrp_model.specs.TestPoints.{points}
 use Rattle.lrp_sorts.proofs.Carries.{members_stay, points_stay}
 use Rattle.lrp_sorts.proofs.checking.check.Goals as goal

@@ -2,8 +2,8 @@ use Rattle.std.proofs.Common.{ap, sym, ◌∙◌, flat_map, option_map, length}
 use Rattle.lrp_model.specs.Faults.{earliest}
 use Rattle.lrp_model.specs.Rows.{relation_named}
 use Rattle.lrp_model.specs.Sorting.{query_standing, term_faults, column_faults, atom_faults}
-use Rattle.lrp_rel.specs.Sooner.{sooner}
-use Rattle.lrp_rel.proofs.FirstFault.{first_of_both}
+use Rattle.lrp_model.specs.Sooner.{sooner}
+use Rattle.lrp_model.proofs.FirstFault.{first_of_both}
 use Rattle.lrp_sorts.specs.Scopes.{binders}
 use Rattle.lrp_sorts.specs.Terms.{atom_head_faults}
 use Rattle.lrp_sorts.proofs.ColumnFaults.{atom_shows}

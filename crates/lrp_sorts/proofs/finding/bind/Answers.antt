@@ -3,8 +3,8 @@ use Rattle.std.specs.Option.{is_some}
 use Rattle.lrp_model.specs.Faults.{earliest, fault_if, is_named_in}
 use Rattle.lrp_model.specs.Sorting.{query_standing, query_fault, sort_faults}
 use Rattle.lrp_model.specs.declared.faults.QueryKind.TheVariants.{Rebound}
-use Rattle.lrp_rel.specs.Sooner.{sooner}
-use Rattle.lrp_rel.proofs.FirstFault.{first_of_both}
+use Rattle.lrp_model.specs.Sooner.{sooner}
+use Rattle.lrp_model.proofs.FirstFault.{first_of_both}
 use Rattle.lrp_sorts.specs.Scopes.{binders}
 use Rattle.lrp_sorts.proofs.Binding.{bound_names, there_behind}
 use Rattle.lrp_sorts.proofs.finding.bind.Goals as goal

@@ -1,6 +1,6 @@
 use Rattle.std.proofs.Common.{◌++◌, ap, sym, ◌∙◌, subst, append_assoc}
 use Rattle.lrp_model.specs.Sorting.{query_standing, term_names}
-use Rattle.lrp_rel.specs.Sooner.{sooner}
+use Rattle.lrp_model.specs.Sooner.{sooner}
 use Rattle.lrp_sorts.specs.Scopes.{binders}
 use Rattle.lrp_sorts.specs.Widths.{IsTally, IsCounted}
 use Rattle.lrp_sorts.proofs.finding.comparison.Goals as goal

@@ -1,6 +1,6 @@
 use Rattle.std.proofs.Common.{◌++◌, ap, sym, ◌∙◌, subst}
 use Rattle.lrp_model.specs.Sorting.{query_standing, term_names}
-use Rattle.lrp_rel.specs.Sooner.{sooner}
+use Rattle.lrp_model.specs.Sooner.{sooner}
 use Rattle.lrp_sorts.specs.Scopes.{binders}
 use Rattle.lrp_sorts.specs.Widths.{IsTally}
 use Rattle.lrp_sorts.proofs.finding.membership.Goals as goal

@@ -3,7 +3,7 @@ use Rattle.std.proofs.Math.Seq.{take-length}
 use Rattle.std.proofs.lemmas.List.{append-nil}
 use Rattle.lrp_model.specs.Faults.{earliest}
 use Rattle.lrp_model.specs.Sorting.{query_standing, term_sort, term_names, term_faults, column_faults}
-use Rattle.lrp_rel.specs.Sooner.{sooner}
+use Rattle.lrp_model.specs.Sooner.{sooner}
 use Rattle.lrp_sorts.specs.Scopes.{binders}
 use Rattle.lrp_sorts.specs.Terms.{misfits}
 use Rattle.lrp_sorts.specs.Widths.{IsTally, IsCounted}

@@ -2,7 +2,7 @@ use Rattle.std.proofs.Common.{ap, ◌∙◌}
 use Rattle.lrp_model.specs.Faults.{earliest, fault_if}
 use Rattle.lrp_model.specs.Sorting.{query_standing, query_fault}
 use Rattle.lrp_model.specs.declared.faults.QueryKind.TheVariants.{Wide}
-use Rattle.lrp_rel.specs.Sooner.{sooner}
+use Rattle.lrp_model.specs.Sooner.{sooner}
 use Rattle.lrp_sorts.proofs.finding.with_width.Goals as goal
 
 pub returns-clause-fault : goal.returns-clause-fault

@@ -2,7 +2,7 @@ use Rattle.std.proofs.Common.{◌≡◌, ◌+◌, drop}
 use Rattle.lrp_model.specs.Faults.{earliest, ninth}
 use Rattle.lrp_model.specs.Sorting.{query_standing, query_fault}
 use Rattle.lrp_model.specs.declared.faults.QueryKind.TheVariants.{Wide}
-use Rattle.lrp_rel.specs.Sooner.{sooner}
+use Rattle.lrp_model.specs.Sooner.{sooner}
 use Rattle.lrp_sorts.proofs.head.head_width.Given as goal
 
 -- the first fault so far, and of what is left, is that of all

@@ -5,7 +5,7 @@ use Rattle.lrp_sorts.specs.Scopes.{binders}
 use Rattle.lrp_model.specs.Formulas.{conjunction, disjunction}
 use Rattle.lrp_model.proofs.Views.{form_of-And, form_of-Or}
 use Rattle.lrp_sorts.proofs.PlainForms.{and_plain, or_plain, one_plain}
-use Rattle.lrp_sorts.proofs.RawNodes.{then_ok, if_ok_then}
+use Rattle.lrp_sorts.proofs.RawNodes.{if_ok_then}
 use Rattle.lrp_sorts.proofs.plain.+plain.Goals as goal
 
 pub plain_formula-returns-in-And-clause-form : goal.plain_formula-returns-in-And-clause-form
@@ -24,11 +24,8 @@ plain_conjunction-returns-clause-form t c = form_of-And c.in_ok-of.of ∙ ap con
 pub plain_disjunction-returns-clause-form : goal.plain_disjunction-returns-clause-form
 plain_disjunction-returns-clause-form t c = form_of-Or c.in_ok-of.of ∙ ap disjunction c.in_ok-of.ensures.forms
 
-pub plain_existential-returns-clause-scope : goal.plain_existential-returns-clause-scope
-plain_existential-returns-clause-scope t c = then_ok c.some.result _ _ c.some.ensures.scope (λ left. left c.args.scope.now (c.in_ok-of.ensures.scope ∙ c.in_ok-enter.ensures.scope))
-
-pub plain_universal-returns-clause-scope : goal.plain_universal-returns-clause-scope
-plain_universal-returns-clause-scope t c = then_ok c.every.result _ _ c.every.ensures.scope (λ left. left c.args.scope.now (c.in_ok-of.ensures.scope ∙ c.in_ok-enter.ensures.scope))
+pub plain_within-returns-clause-scope : goal.plain_within-returns-clause-scope
+plain_within-returns-clause-scope t c = c.leave.ensures c.args.binder.now c.args.scope.now (c.in_ok-of.ensures.scope ∙ c.in_ok-enter.ensures.scope)
 
 pub plain_each-loop-f-preserved : goal.plain_each-loop-f-preserved
 plain_each-loop-f-preserved t c =

@@ -2,7 +2,7 @@ use Rattle.std.proofs.Common.{◌∷◌, ap, sym, ◌∙◌, [], ◌++◌, lengt
 use Rattle.lrp_model.specs.Faults.{earliest}
 use Rattle.lrp_model.specs.RawQueries.{raw_form_of, raw_forms_of}
 use Rattle.lrp_model.specs.Sorting.{query_standing, widened, form_faults, forms_faults, free_names, free_names_each, binder_faults}
-use Rattle.lrp_rel.specs.Sooner.{sooner}
+use Rattle.lrp_model.specs.Sooner.{sooner}
 use Rattle.lrp_sorts.specs.Scopes.{binders}
 use Rattle.lrp_sorts.specs.Widths.{IsCounted}
 use Rattle.lrp_sorts.proofs.RawNodes.{fault_then, free_then, counted_then, tally_at, at_tally, then_ok, if_ok_then, shown, shown_bound, not_faults, group_faults, and_faults, or_faults, implies_faults, exists_faults, forall_faults, not_names, group_names, and_names, or_names, implies_names, exists_names, forall_names, one_member_faults, one_member_names}

@@ -4,7 +4,7 @@ use Rattle.std.specs.BTreeSet.{keys}
 use Rattle.std.specs.HashMap.{get}
 use Rattle.lrp_model.specs.Texts.{Identifier, in_order}
 use Rattle.lrp_model.specs.Domains.{database_texts}
-use Rattle.lrp_rel.specs.Once.{once, texts_with}
+use Rattle.lrp_database.specs.Once.{once, texts_with}
 use Rattle.lrp_plan.proofs.Gathered.{named_gathers, first_gathers}
 use Rattle.lrp_plan.proofs.domains.Domains.add_named.Goals as goal
 

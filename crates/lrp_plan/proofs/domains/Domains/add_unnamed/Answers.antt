@@ -3,7 +3,7 @@ use Rattle.std.specs.BTreeSet.{keys}
 use Rattle.lrp_model.specs.Texts.{in_order}
 use Rattle.lrp_model.specs.Domains.{database_texts}
 use Rattle.lrp_model.specs.declared.relations.Sort.TheVariants.{Data}
-use Rattle.lrp_rel.specs.Once.{once, texts_with}
+use Rattle.lrp_database.specs.Once.{once, texts_with}
 use Rattle.lrp_plan.proofs.Gathered.{unnamed_gathers, first_unnamed}
 use Rattle.lrp_plan.proofs.domains.Domains.add_unnamed.Goals as goal
 

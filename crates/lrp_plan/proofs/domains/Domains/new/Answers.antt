@@ -5,7 +5,7 @@ use Rattle.std.specs.HashMap.{get}
 use Rattle.lrp_model.specs.Texts.{Identifier, in_order}
 use Rattle.lrp_model.specs.Domains.{database_texts}
 use Rattle.lrp_model.specs.declared.relations.Sort.TheVariants.{Time}
-use Rattle.lrp_rel.specs.Once.{once, texts_with}
+use Rattle.lrp_database.specs.Once.{once, texts_with}
 use Rattle.lrp_plan.proofs.Gathered.{begins_all}
 use Rattle.lrp_plan.proofs.domains.Domains.new.Goals as goal
 

@@ -1,7 +1,7 @@
 use Rattle.std.proofs.Common.{◌≡◌, None, refl, subst, IfOk, rules}
 use Rattle.lrp_model.specs.Texts.{in_order}
 use Rattle.lrp_model.specs.Domains.{database_texts}
-use Rattle.lrp_rel.specs.Once.{once, texts_with}
+use Rattle.lrp_database.specs.Once.{once, texts_with}
 use Rattle.lrp_plan.specs.Domains.{gathered}
 use Rattle.lrp_plan.proofs.Gathered.{ordered_is}
 use Rattle.lrp_plan.proofs.sources.Sources.texts.Goals as goal
