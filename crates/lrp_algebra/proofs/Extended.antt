@@ -9,7 +9,7 @@ use Rattle.lrp_model.specs.declared.tuples.Shape.{Shape}
 use Rattle.lrp_model.specs.declared.relations.Column.{Column}
 use Rattle.lrp_store.specs.Stores.{StoreView, IsStore, HasReach}
 use Rattle.lrp_store.specs.Growing.{IsAdded, IsRefused}
-use Rattle.lrp_store.specs.declared.table.Table.{Table}
+use Rattle.lrp_tables.specs.declared.table.Table.{Table}
 use Rattle.lrp_store.proofs.Grown.{Set}
 use Rattle.lrp_systems.specs.Parts.{system_reach}
 use Rattle.lrp_tables.specs.Steps.{CanExtend}
@@ -20,7 +20,7 @@ use Rattle.lrp_tables.proofs.CellsNamed.{AreTuplesOf}
 use Rattle.lrp_tables.proofs.HeadNames.{head_times_differ, head_texts_differ}
 use Rattle.lrp_tables.proofs.Named.{pairs_left}
 use Rattle.lrp_tables.proofs.Pieced.{any_reach}
-use Rattle.lrp_algebra.specs.declared.layout.Places.{Places}
+use Rattle.lrp_tables.specs.declared.names.Places.{Places}
 use Rattle.lrp_algebra.specs.declared.pattern.Pattern.{Pattern}
 use Rattle.lrp_algebra.specs.Patterns.{parts_of, IsOver}
 use Rattle.lrp_algebra.specs.Gathered.{IsFound, CanStandIn, HasBrought}

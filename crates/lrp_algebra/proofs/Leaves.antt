@@ -19,7 +19,7 @@ use Rattle.lrp_model.specs.declared.formulas.Test.TheVariants.{Compare, Member, 
 use Rattle.lrp_model.specs.declared.tuples.Shape.{Shape}
 use Rattle.lrp_store.specs.Stores.{StoreView, IsStore, HasReach}
 use Rattle.lrp_store.specs.Growing.{IsAdded, IsRefused}
-use Rattle.lrp_store.specs.declared.table.Table.{Table}
+use Rattle.lrp_tables.specs.declared.table.Table.{Table}
 use Rattle.lrp_store.proofs.Grown.{Set}
 use Rattle.lrp_systems.specs.Parts.{Fits, system_reach}
 use Rattle.lrp_tables.specs.Calls.{test_period}

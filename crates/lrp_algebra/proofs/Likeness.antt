@@ -21,7 +21,7 @@ use Rattle.lrp_tables.specs.Pieces.{piece_of, pieces_at, pieces_in, IsPieceOf, I
 use Rattle.lrp_tables.specs.declared.pieces.Piece.{Piece}
 use Rattle.lrp_tables.proofs.Pieced.{in_store, none_left, piece_fits, piece_reach, pieces_are, any_reach}
 use Rattle.lrp_tables.proofs.TableMade.{held_times, held_texts}
-use Rattle.lrp_algebra.specs.declared.layout.Places.{Places}
+use Rattle.lrp_tables.specs.declared.names.Places.{Places}
 use Rattle.lrp_algebra.specs.declared.pattern.Pattern.{Pattern}
 use Rattle.lrp_algebra.specs.Patterns.{parts_of, IsOver}
 use Rattle.lrp_tables.specs.Calls.{number_at}

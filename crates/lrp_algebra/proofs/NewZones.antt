@@ -8,8 +8,8 @@ use Rattle.lrp_store.specs.Growing.{IsAdded, IsTupleOf}
 use Rattle.lrp_store.specs.declared.store.StoreFault.{StoreFault}
 use Rattle.lrp_store.proofs.Grown.{Set}
 use Rattle.lrp_tables.proofs.Adding.{IsZoneOf}
-use Rattle.lrp_algebra.proofs.Parts.{on_ok}
 use Rattle.lrp_tables.proofs.Gathering.{added_as}
+use Rattle.lrp_systems.proofs.Taken.{add_ok}
 
 module _ (set : Set) (s : StoreView) (is : IsStore s) (c : Cell) (z : ZoneView) (high : ℕ) (of : IsZoneOf set s c z high) (cap : ℕ) (new : StoreView) where
   to_set : (xs : List ℤ) (ns : List ℕ) → IsTupleOf z (take s.shape.texts c.texts) xs ns → set xs ns
@@ -20,4 +20,4 @@ module _ (set : Set) (s : StoreView) (is : IsStore s) (c : Cell) (z : ZoneView) 
 
   -- then the set was added
   pub new_added : {T : Type 0} (r : Result T StoreFault) → OnOk r (IsAdded (IsTupleOf z (take s.shape.texts c.texts)) cap (greatest_of z.bounds) s new) → OnOk r (IsAdded set cap high s new)
-  new_added r ok = on_ok r _ _ (λ a. added_as cap (IsTupleOf z (take s.shape.texts c.texts)) set (greatest_of z.bounds) high of.low s new is to_set from_set a) ok
+  new_added r ok = add_ok r _ _ (λ a. added_as cap (IsTupleOf z (take s.shape.texts c.texts)) set (greatest_of z.bounds) high of.low s new is to_set from_set a) ok

@@ -1,5 +1,5 @@
 -- A set that is added to a store part by part.
-use Rattle.std.proofs.Common.{◌≡◌, ℕ, inl, inr, List, Result, Ok, Err, OnOk, sym, ap, subst, ◌∙◌, arith}
+use Rattle.std.proofs.Common.{◌≡◌, ℕ, inl, inr, List, sym, ap, subst, ◌∙◌, arith}
 use Rattle.std.specs.Prelude.{ℤ}
 use Rattle.std.specs.FinMap as finite
 use Rattle.std.specs.FinMap.{len-empty}
@@ -37,8 +37,3 @@ module _ (set : Set) (cap high : ℕ) (start out : StoreView) (empty : start.tab
   refused_many r =
       subst (λ (q : Shape). InhabitsMany q start.period set cap) r.grown.shape (subst (λ k. InhabitsMany out.shape k set cap) r.grown.period
       (many out r.grown.valid set cap (λ xs ns h. elim (r.grown.sound xs ns h) [ inl i ↦ absurd (nothing_held start empty xs ns i) | inr i ↦ i ]) r.more))
-
--- what an answer says of a part, said of the whole
-pub on_ok : {T E : Type 0} (r : Result T E) (P Q : Type 0) → (P → Q) → OnOk r P → OnOk r Q
-on_ok (Ok x) P Q f h = f h
-on_ok (Err x) P Q f h = tt

@@ -31,7 +31,7 @@ use Rattle.lrp_model.proofs.Decided.{contains_first}
 use Rattle.lrp_store.specs.Growing.{IsAdded, IsRefused}
 use Rattle.lrp_store.specs.Stores.{StoreView, IsStore, HasReach}
 use Rattle.lrp_store.specs.Tables.{AreTexts}
-use Rattle.lrp_store.specs.declared.table.Table.{Table}
+use Rattle.lrp_tables.specs.declared.table.Table.{Table}
 use Rattle.lrp_store.proofs.Grown.{Set}
 use Rattle.lrp_tables.specs.Calls.{CanBeRow, CanStand}
 use Rattle.lrp_tables.specs.Steps.{CanScan}
@@ -297,7 +297,14 @@ module _ (domain : List Text) (ascends : Ascends domain) (relation : Relation) (
   pub scanning_none : IsStore start → IsScanning domain times texts terms relation.rows relation.rows cap begun_high start start
   scanning_none valid = as_begun relation.rows start (record { gathering = gathering_none (IsOver start.shape (length domain) Atoms) cap high start Atoms valid (λ xs ns h. h.is) })
 
-  module _ (i : ℕ) (row : Row) (inside : i < length relation.rows) (is : row ≡ get_or relation.rows i row) where
+  -- the rows as they are read
+  module _ (read : List Row) (same : read ≡ relation.rows) (i : ℕ) (row : Row) (i_inside : i < length read) (row_is : row ≡ get_or read i row) where
+    inside : i < length relation.rows
+    inside = subst (λ l. i < length l) same i_inside
+
+    is : row ≡ get_or relation.rows i row
+    is = row_is ∙ ap (λ l. get_or l i row) same
+
     listed : Contains relation.rows row
     listed = (i, inside, sym is)
 
@@ -373,7 +380,10 @@ module _ (domain : List Text) (ascends : Ascends domain) (relation : Relation) (
 
   -- ---- all of them
 
-  module _ (i : ℕ) (end : length relation.rows ≤ i) (out : StoreView) (g : IsScanning domain times texts terms relation.rows (drop i relation.rows) cap begun_high start out) where
+  module _ (read : List Row) (same : read ≡ relation.rows) (i : ℕ) (read_all : length read ≤ i) (out : StoreView) (g : IsScanning domain times texts terms relation.rows (drop i relation.rows) cap begun_high start out) where
+    end : length relation.rows ≤ i
+    end = subst (λ l. length l ≤ i) same read_all
+
     whole : IsScanning domain times texts terms relation.rows (drop i relation.rows) cap high start out
     whole = as_high (drop i relation.rows) out g
 

@@ -8,7 +8,7 @@ use Rattle.lrp_model.specs.declared.formulas.Test.{Test}
 use Rattle.lrp_model.specs.declared.tuples.Shape.{Shape}
 use Rattle.lrp_store.specs.Stores.{StoreView, IsStore, HasReach}
 use Rattle.lrp_store.specs.Growing.{IsAdded, IsRefused}
-use Rattle.lrp_store.specs.declared.table.Table.{Table}
+use Rattle.lrp_tables.specs.declared.table.Table.{Table}
 use Rattle.lrp_store.proofs.Grown.{Set}
 use Rattle.lrp_systems.specs.Parts.{Fits, system_reach}
 use Rattle.lrp_tables.specs.Calls.{CanBeCarried, test_period}
@@ -18,7 +18,7 @@ use Rattle.lrp_tables.specs.Tables.{IsSelected, IsTableOf}
 use Rattle.lrp_tables.proofs.CellsNamed.{AreTuplesOf}
 use Rattle.lrp_tables.proofs.Named.{pairs_left, pairs_right}
 use Rattle.lrp_tables.proofs.TableLaws.{table_texts}
-use Rattle.lrp_algebra.specs.declared.layout.Places.{Places}
+use Rattle.lrp_tables.specs.declared.names.Places.{Places}
 use Rattle.lrp_algebra.specs.declared.pattern.Pattern.{Pattern}
 use Rattle.lrp_algebra.specs.Conditions.{condition_reach, IsWithTest, HasNoTest}
 use Rattle.lrp_algebra.specs.Patterns.{parts_of, IsOver}

@@ -18,7 +18,7 @@ use Rattle.lrp_zone.specs.Zones.{reach_of}
 use Rattle.lrp_store.specs.Stores.{StoreView, IsStore, InStore, HasReach, HoldsJust, zone_of}
 use Rattle.lrp_store.specs.Growing.{IsAdded, IsRefused, InhabitsMany}
 use Rattle.lrp_store.specs.Tables.{AreTexts, InTable}
-use Rattle.lrp_store.specs.declared.table.Table.{Table}
+use Rattle.lrp_tables.specs.declared.table.Table.{Table}
 use Rattle.lrp_store.proofs.Grown.{Set}
 use Rattle.lrp_systems.specs.Parts.{system_reach}
 use Rattle.lrp_tables.specs.Columns.{ArePlacesOf}
@@ -28,7 +28,7 @@ use Rattle.lrp_tables.proofs.CellsNamed.{AreTuplesOf, many_named, few_named}
 use Rattle.lrp_tables.proofs.Joining.{places_count, places_are, values_at}
 use Rattle.lrp_tables.proofs.Numbers.{number_of, domain_differs, numbers_are, are_numbers, all_mapped, numbers_known, texts_known}
 use Rattle.lrp_tables.proofs.TableMade.{table_of}
-use Rattle.lrp_algebra.specs.declared.layout.Places.{Places}
+use Rattle.lrp_tables.specs.declared.names.Places.{Places}
 use Rattle.lrp_algebra.specs.declared.pattern.Pattern.{Pattern}
 use Rattle.lrp_algebra.specs.Patterns.{parts_of, IsAt, IsOver, IsKnown, Suits}
 use Rattle.lrp_tables.specs.Calls.{number_at}

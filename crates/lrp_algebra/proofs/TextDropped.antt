@@ -1,5 +1,5 @@
 -- The tuples of a zone and of a table without one data column.
-use Rattle.std.proofs.Common.{◌≡◌, ℕ, ◌+◌, ◌-◌, ◌<◌, ◌≤◌, List, [], ◌++◌, length, take, Some, refl, sym, ap, subst, ◌∙◌, arith, map, get_or, Contains, ◌⊎◌, inl, inr}
+use Rattle.std.proofs.Common.{◌≡◌, ℕ, ◌+◌, ◌-◌, ◌<◌, ◌≤◌, List, [], ◌++◌, length, take, Some, refl, sym, ap, subst, ◌∙◌, arith, map, get_or, Contains, inl, inr}
 use Rattle.std.specs.Prelude.{ℤ, All, AllPairs, ◌≢◌, slice_get}
 use Rattle.std.specs.List.{insert, remove}
 use Rattle.std.specs.FinMap as finite
@@ -13,13 +13,13 @@ use Rattle.lrp_zone.specs.Zones.{IsZone, IsMember, reach_of}
 use Rattle.lrp_store.specs.Stores.{StoreView, IsStore, InStore, tables_at}
 use Rattle.lrp_store.specs.Growing.{IsAdded}
 use Rattle.lrp_store.specs.Tables.{InTable, AreTexts, AreNumbered}
-use Rattle.lrp_store.specs.declared.table.Table.{Table}
+use Rattle.lrp_tables.specs.declared.table.Table.{Table}
 use Rattle.lrp_store.proofs.Grown.{grown_same}
 use Rattle.lrp_store.proofs.Aligning.{nothing_held}
 use Rattle.lrp_algebra.specs.Columns.{IsCut}
 use Rattle.lrp_tables.specs.Pieces.{InPiece, Fits}
 use Rattle.lrp_tables.specs.Passes.{IsMadeFrom}
-use Rattle.lrp_algebra.specs.Tuples.{IsWithoutText, IsStoreWithoutText}
+use Rattle.lrp_algebra.specs.Tuples.{IsWithoutText, IsStoreWithoutName, IsStoreWithoutText}
 use Rattle.lrp_tables.specs.Tables.{Has}
 use Rattle.lrp_algebra.specs.Tables.{IsTextDropped}
 use Rattle.lrp_tables.specs.declared.pieces.Piece.{Piece}
@@ -212,15 +212,9 @@ module _ (domain : List Text) (name : Identifier) (old new : Table) (times : new
       numbered = λ n. numbered_by new.store is_new domain (λ xs ns h. absurd (nothing_held new.store empty xs ns h));
     }
 
--- the store without the column of the name, or its copy or no cell where there is none
-abbrev pub StoreOf : List Text → Identifier → Table → StoreView → Type 0
-StoreOf domain name old new =
-    ((place : ℕ) × (slice_get old.vars.texts place ≡ Some name) × IsStoreWithoutText place (length domain) old.store new)
-    ⊎ ((Contains old.vars.texts name → ⊥) × (((new ≡ record old.store { spare = new.spare }) × (0 < length domain)) ⊎ ((new.shape ≡ old.store.shape) × (new.period ≡ old.store.period) × (new.tables ≡ finite.empty) × (length domain ≡ 0))))
-
 module _ (domain : List Text) (name : Identifier) (old : Table) (differ : AllPairs ◌≢◌ (old.vars.times ++ old.vars.texts)) where
   -- each has what is left of the assignments
-  pub either_dropped : (new : Table) → new.vars.times ≡ old.vars.times → new.vars.texts ≡ without name old.vars.texts → StoreOf domain name old new.store → IsStore old.store → IsStore new.store → IsTextDropped domain name old new
+  pub either_dropped : (new : Table) → new.vars.times ≡ old.vars.times → new.vars.texts ≡ without name old.vars.texts → IsStoreWithoutName domain name old new.store → IsStore old.store → IsStore new.store → IsTextDropped domain name old new
   either_dropped new times texts h is_old is_new = elim h [
     | inl g ↦ texts_dropped domain name old new times texts differ is_old is_new g.0 g.1 (length domain) refl g.2
     | inr g ↦ elim g.1 [
@@ -230,7 +224,7 @@ module _ (domain : List Text) (name : Identifier) (old : Table) (differ : AllPai
   ]
 
   -- a column for each name
-  pub either_texts : (new : StoreView) → length old.vars.texts ≡ old.store.shape.texts → StoreOf domain name old new → length (without name old.vars.texts) ≡ new.shape.texts
+  pub either_texts : (new : StoreView) → length old.vars.texts ≡ old.store.shape.texts → IsStoreWithoutName domain name old new → length (without name old.vars.texts) ≡ new.shape.texts
   either_texts new named h = elim h [
     | inl g ↦ (
         let a : length (without name old.vars.texts) + 1 ≡ length old.vars.texts = others_fewer name old.vars.texts g.0 (pairs_right ◌≢◌ old.vars.times old.vars.texts differ) g.1 in
@@ -243,7 +237,7 @@ module _ (domain : List Text) (name : Identifier) (old : Table) (differ : AllPai
   ]
 
   -- and the times stay
-  pub either_times : (new : StoreView) → StoreOf domain name old new → new.shape.times ≡ old.store.shape.times
+  pub either_times : (new : StoreView) → IsStoreWithoutName domain name old new → new.shape.times ≡ old.store.shape.times
   either_times new h = elim h [
     | inl g ↦ g.2.times
     | inr g ↦ elim g.1 [ inl k ↦ ap (λ s. s.shape.times) k.0 | inr k ↦ ap (λ s. s.times) k.0 ]

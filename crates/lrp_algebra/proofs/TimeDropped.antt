@@ -11,7 +11,7 @@ use Rattle.lrp_zone.specs.Zones.{ZoneView, IsZone, IsMember, columns_of, reach_o
 use Rattle.lrp_zone.specs.Columns.{IsDropped}
 use Rattle.lrp_store.specs.Stores.{StoreView, IsStore, InStore, HasReach, zone_of, tables_at}
 use Rattle.lrp_store.specs.Tables.{InTable, AreNumbered}
-use Rattle.lrp_store.specs.declared.table.Table.{Table}
+use Rattle.lrp_tables.specs.declared.table.Table.{Table}
 use Rattle.lrp_algebra.specs.Columns.{IsCut}
 use Rattle.lrp_tables.specs.Pieces.{InPiece, Fits}
 use Rattle.lrp_tables.specs.Passes.{IsMadeFrom}

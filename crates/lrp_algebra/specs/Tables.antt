@@ -5,7 +5,7 @@ use Rattle.lrp_model.specs.Rows.{time, text}
 use Rattle.lrp_model.specs.Satisfaction.{Assignment, with_value}
 use Rattle.lrp_store.specs.Stores.{HasReach}
 use Rattle.lrp_store.specs.Tables.{AreNumbered}
-use Rattle.lrp_store.specs.declared.table.Table.{Table}
+use Rattle.lrp_tables.specs.declared.table.Table.{Table}
 use Rattle.lrp_tables.specs.Tables.{Has}
 
 -- the assignments of old that some integer for the time variable completes; numbers of texts stay numbers of a domain

@@ -1,7 +1,10 @@
 -- What a step makes of tuples of times and numbers of texts.
-use Rattle.std.specs.Prelude.{◌≡◌, ℕ, ℤ, ◌+◌, ◌*◌, ◌<◌, List}
+use Rattle.std.specs.Prelude.{◌≡◌, ◌⊎◌, ℕ, ℤ, ◌+◌, ◌*◌, ◌<◌, List, Some, Contains, length, slice_get}
+use Rattle.std.specs.FinMap as finite
 use Rattle.std.specs.List.{insert}
+use Rattle.lrp_model.specs.Texts.{Identifier, Text}
 use Rattle.lrp_store.specs.Stores.{StoreView}
+use Rattle.lrp_tables.specs.declared.table.Table.{Table}
 use Rattle.lrp_tables.specs.Passes.{IsResult}
 
 -- the tuple without the time at a place
@@ -28,3 +31,12 @@ pub record IsStoreWithoutText (place size : ℕ) (old new : StoreView) : Type 0 
   pub times : new.shape.times ≡ old.shape.times
   pub texts : new.shape.texts + 1 ≡ old.shape.texts
   pub made : IsResult (IsWithoutText place size) (λ high. high) old new
+
+-- a copy, or no tuple where the domain has no text
+abbrev pub IsCopyOrEmpty : List Text → StoreView → StoreView → Type 0
+IsCopyOrEmpty domain old new = ((new ≡ record old { spare = new.spare }) × (0 < length domain)) ⊎ ((new.shape ≡ old.shape) × (new.period ≡ old.period) × (new.tables ≡ finite.empty) × (length domain ≡ 0))
+
+-- the store without the column of the name, where there is one
+abbrev pub IsStoreWithoutName : List Text → Identifier → Table → StoreView → Type 0
+IsStoreWithoutName domain name old new =
+    ((place : ℕ) × (slice_get old.vars.texts place ≡ Some name) × IsStoreWithoutText place (length domain) old.store new) ⊎ ((Contains old.vars.texts name → ⊥) × IsCopyOrEmpty domain old.store new)

@@ -4,7 +4,7 @@ ghost use Rattle.lrp_zone.specs.Zones.{reach_of};
 ghost use Rattle.lrp_store.specs.Growing.{IsAdded};
 ghost use Rattle.lrp_tables.specs.Pieces.{Fits, InPiece};
 ghost use Rattle.lrp_tables.specs.Passes.{IsMadeFrom};
-ghost use Rattle.lrp_algebra.specs.Tuples.{IsWithoutText, IsStoreWithoutText};
+ghost use Rattle.lrp_algebra.specs.Tuples.{IsWithoutText, IsStoreWithoutName, IsStoreWithoutText};
 ghost use Rattle.lrp_algebra.specs.Tables.{IsTextDropped};
 
 use crate::places::without_number;
@@ -28,15 +28,23 @@ pub fn drop_data(
         times: table.vars.times.copy(alloc)?,
         texts: without(alloc, &table.vars.texts, name)?,
     };
-    let shape = table.store.shape();
-    let size = domain.len();
-    let store = match place_of(&table.vars.texts, name) {
-        Some(place) => without_text(alloc, &table.store, place, size)?,
-        None if size == 0 => Store::new(alloc, shape, table.store.period()),
-        None => table.store.copy(alloc)?,
-    };
+    let store = without_name(alloc, table, name, domain)?;
+    table.store.shape();
     store.shape();
     Ok(Table { vars, store })
+}
+
+// The tuples without the text of a name, where a column has it.
+fn without_name(alloc: Global, table: &Table, name: &Name, domain: &Domain) -> Result<Store, Memory>
+    ensures { IfOk result (IsStoreWithoutName domain.now name.now table.now) }
+{
+    let shape = table.store.shape();
+    let size = domain.len();
+    match place_of(&table.vars.texts, name) {
+        Some(place) => without_text(alloc, &table.store, place, size),
+        None if size == 0 => Ok(Store::new(alloc, shape, table.store.period())),
+        None => table.store.copy(alloc),
+    }
 }
 
 // The tuples without the text at a place, where its number is below the size of the domain.

@@ -31,7 +31,7 @@ pub use columns::{head_vars, joint_vars, scan_vars, store_over};
 pub use data_drops::drop_data;
 pub use filling::{add_pattern, is_asked, parts_from};
 pub use joins::join;
-pub use layout::{Operand, Places, places_of};
+pub use layout::Operand;
 pub use lrp_tables::{StepFault, Table, Vars};
 pub use pair::Pair;
 pub use pattern::{Known, Pattern, Placed, known_at};

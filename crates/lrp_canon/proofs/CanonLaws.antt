@@ -1,8 +1,7 @@
 -- The store of the maximal rows of all groups is canonical.
-use Rattle.std.proofs.Common.{◌≡◌, ◌≢◌, ℕ, ◌*◌, ◌<◌, ◌≤◌, ◌^◌, inl, inr, List, [], ◌∷◌, Option, Some, None, get_or, length, take, replicate, unwrap_or, Decides, arith, refl, sym, subst, ap, ◌∙◌}
+use Rattle.std.proofs.Common.{◌≡◌, ◌≢◌, ℕ, ◌*◌, ◌<◌, ◌≤◌, ◌^◌, inl, inr, List, [], ◌∷◌, Option, Some, None, get_or, length, take, replicate, unwrap_or, arith, refl, sym, subst, ap, ◌∙◌}
 use Rattle.std.specs.Prelude.{ℤ, pos, AllPairs, Contains, IfNone, IfSome, IsSome, slice_index}
 use Rattle.std.specs.FinMap as finite
-use Rattle.std.specs.Ordering.{eq_by_cmp}
 use Rattle.std.proofs.lemmas.List.{ext_get_or, get_or-take}
 use Rattle.std.proofs.lemmas.Map.Keys.{IsDistinct-from_sorted}
 use Rattle.std.proofs.lemmas.Map.Made.{AllPairs-from_IsDistinct}
@@ -18,7 +17,7 @@ use Rattle.lrp_store.specs.Least.{HasRoom, IsRoom}
 use Rattle.lrp_store.specs.Settled.{AreSettled}
 use Rattle.lrp_store.specs.Stores.{HoldsJust, InStore, IsCellOf, IsPadded, IsStore, StoreView, tables_at, zone_of, zones_at}
 use Rattle.lrp_store.specs.Tables.{AreNumbered}
-use Rattle.lrp_store.proofs.Held.{cell_held, cell_or, held_of, zone_held}
+use Rattle.lrp_store.proofs.Held.{cell_held, held_of, zone_held}
 use Rattle.lrp_store.proofs.Rooms.{closed_small}
 use Rattle.lrp_minus.proofs.IntervalLaws.{intervals}
 use Rattle.lrp_spans.specs.declared.spans.Span.{Span}
@@ -27,7 +26,7 @@ use Rattle.lrp_spans.specs.Periods.{IsEndPeriod}
 use Rattle.lrp_spans.specs.Spans.{SpansHaveNumber}
 use Rattle.lrp_spans.proofs.EndSteps.{span_key}
 use Rattle.lrp_spans.proofs.GroupLaws.{group_numbers, zone_column}
-use Rattle.lrp_spans.proofs.Lists.{below_or, head_in, in_map, map_in}
+use Rattle.lrp_spans.proofs.Lists.{below_or, head_in}
 use Rattle.lrp_spans.proofs.Repeats.{divisor_le}
 use Rattle.lrp_canon.specs.declared.edges.Periods.{Periods}
 use Rattle.lrp_canon.specs.Canonical.{HasCanonicalZones, HasMoreRows, IsCanonicalOf}
@@ -37,23 +36,19 @@ use Rattle.lrp_canon.specs.Rows.{HasRowCount, IsLeastPeriod, IsSetOfRows}
 use Rattle.lrp_canon.proofs.JoinedCounts.{same_rows}
 use Rattle.lrp_canon.proofs.LeastLaws.{least_period}
 use Rattle.lrp_canon.proofs.ZoneLaws.{canonical_zones}
-
--- the keys of lists differ
-decided : (c d : Cell) → Decides (eq_by_cmp cell_cmp c d) (c ≡ d)
-decided c d = elim (cell_or c d) [
-  | inl e ↦ (λ _. e.0, λ _. e.1)
-  | inr e ↦ (λ h. absurd (cc), λ h. absurd (e.0 h))
-]
+use Rattle.lrp_theory.proofs.Members.{from_map, in_map}
+use Rattle.lrp_store.proofs.ZoneCounts.{is_decided}
+use Rattle.lrp_store.proofs.Unions.{one_number}
 
 pub keys_apart : (lists : SpanLists) → AllPairs ◌≢◌ (finite.keys lists)
-keys_apart lists = AllPairs-from_IsDistinct decided (finite.keys lists) (IsDistinct-from_sorted cell_cmp (finite.keys lists) (keys_ascend lists))
+keys_apart lists = AllPairs-from_IsDistinct is_decided (finite.keys lists) (IsDistinct-from_sorted cell_cmp (finite.keys lists) (keys_ascend lists))
 
 -- ---- the groups of a store
 module _ (s : StoreView) (is : IsStore s) (one : s.shape.times ≡ 1) (lists : SpanLists) (groups : AreGroups s lists) where
   cell_of : (group : Cell) (p : Span) → Contains (list_at lists group) p → (c : Cell) × (group ≡ group_cell c) × IsCellOf s.shape s.period c
   cell_of group p l =
       let i = groups.to group p l in
-      let t = in_map (zone_of s i.cell) (tables_at s i.cell) i.zone i.held in
+      let t = from_map (zone_of s i.cell) (tables_at s i.cell) i.zone i.held in
       (i.cell, i.grouped, cell_held s is i.cell t.0 t.1)
 
   pub group_cells : AreGroupCells s.shape lists
@@ -78,15 +73,9 @@ module _ (s : StoreView) (is : IsStore s) (one : s.shape.times ≡ 1) (lists : S
         | inr l ↦ a.zeros i l ∙ sym (b.zeros i l)
       ])
 
--- a list of one
-one_of : (xs : List ℤ) → length xs ≡ 1 → (x : ℤ) × (xs ≡ x ∷ [])
-one_of [] h = absurd (omega arith)
-one_of (x ∷ []) h = (x, refl)
-one_of (x ∷ y ∷ ys) h = absurd (omega arith)
-
 -- the tuples of a store of one time column are single numbers
 single : (s : StoreView) → IsStore s → s.shape.times ≡ 1 → (times : List ℤ) (texts : List ℕ) → InStore s times texts → (x : ℤ) × (times ≡ x ∷ [])
-single s is one times texts h = one_of times (h.inside.cell.count ∙ zone_column s is one h.cell (zone_of s h.cell h.table) (map_in (zone_of s h.cell) (tables_at s h.cell) h.table h.held))
+single s is one times texts h = one_number times (h.inside.cell.count ∙ zone_column s is one h.cell (zone_of s h.cell h.table) (in_map (zone_of s h.cell) (tables_at s h.cell) h.table h.held))
 
 -- a set has the least period of a set with the same numbers
 moved_rows : (f g : ℤ → List ℕ → Type 0) (period : ℕ) → ((x : ℤ) (t : List ℕ) → f x t → g x t) → ((x : ℤ) (t : List ℕ) → g x t → f x t) → IsSetOfRows f period → IsSetOfRows g period
@@ -106,18 +95,18 @@ module _ (s : StoreView) (is : IsStore s) (one : s.shape.times ≡ 1) (lists : S
 
   sound : (x : ℤ) (texts : List ℕ) → HoldsNumber made x texts → HoldsNumber s x texts
   sound x texts h =
-      let o = holds.to h.cell (zone_of made h.cell h.table) x (map_in (zone_of made h.cell) (tables_at made h.cell) h.table h.held) h.inside in
+      let o = holds.to h.cell (zone_of made h.cell h.table) x (in_map (zone_of made h.cell) (tables_at made h.cell) h.table h.held) h.inside in
       let n = group_numbers s is one lists groups o.group o.inside.inside.span o.inside.inside.listed in
       let e : take s.shape.texts o.group.texts ≡ texts = ap (take s.shape.texts) (sym o.named) ∙ ap (λ (v : Shape). take v.texts h.cell.texts) (sym shape) ∙ h.named in
       subst (HoldsNumber s x) e (n.to x (at_period o.group x o.inside))
 
   full : (x : ℤ) (texts : List ℕ) → HoldsNumber s x texts → HoldsNumber made x texts
   full x texts h =
-      let f = groups.from h.cell (zone_of s h.cell h.table) (map_in (zone_of s h.cell) (tables_at s h.cell) h.table h.held) in
+      let f = groups.from h.cell (zone_of s h.cell h.table) (in_map (zone_of s h.cell) (tables_at s h.cell) h.table h.held) in
       let n = group_numbers s is one lists groups (group_cell h.cell) f.span f.listed in
       let i : SpansHaveNumber s.period (list_at lists (group_cell h.cell)) x = n.from x (subst (HoldsNumber s x) (sym h.named) h) in
       let r = holds.from (group_cell h.cell) x (span_key lists (group_cell h.cell) f.span f.listed) (subst (λ k. SpansHaveNumber k (list_at lists (group_cell h.cell)) x) (sym whole) i) in
-      let t = in_map (zone_of made r.cell) (tables_at made r.cell) r.zone r.held in
+      let t = from_map (zone_of made r.cell) (tables_at made r.cell) r.zone r.held in
       record {
         cell = r.cell;
         table = t.0;
@@ -133,12 +122,12 @@ module _ (s : StoreView) (is : IsStore s) (one : s.shape.times ≡ 1) (lists : S
   }
 
   zone_there : (c : Cell) (z : ZoneView) → Contains (zones_at made c) z → IsZone z × (columns_of z ≡ 1)
-  zone_there c z h = (let t = in_map (zone_of made c) (tables_at made c) z h in subst IsZone t.2 (zone_held made valid c t.0 t.1), zone_column made valid made_one c z h)
+  zone_there c z h = (let t = from_map (zone_of made c) (tables_at made c) z h in subst IsZone t.2 (zone_held made valid c t.0 t.1), zone_column made valid made_one c z h)
 
   one_cell : (c : Cell) (v w : ZoneView) → Contains (zones_at made c) v → Contains (zones_at made c) w → IsOfCell v w
   one_cell c v w hv hw =
-      let a = in_map (zone_of made c) (tables_at made c) v hv in
-      let b = in_map (zone_of made c) (tables_at made c) w hw in
+      let a = from_map (zone_of made c) (tables_at made c) v hv in
+      let b = from_map (zone_of made c) (tables_at made c) w hw in
       record { period = ap (λ (z : ZoneView). z.period) (sym b.2) ∙ ap (λ (z : ZoneView). z.period) a.2; residues = ap (λ (z : ZoneView). z.residues) (sym b.2) ∙ ap (λ (z : ZoneView). z.residues) a.2 }
 
   settled : (c : Cell) (z : ZoneView) → Contains (zones_at made c) z → AreSettled z (zones_at made c)
@@ -151,7 +140,7 @@ module _ (s : StoreView) (is : IsStore s) (one : s.shape.times ≡ 1) (lists : S
       }
 
   room : HasRoom made
-  room = record { each = λ c t h. (2 ^ 62, at c (zone_of made c t) (map_in (zone_of made c) (tables_at made c) t h) refl) }
+  room = record { each = λ c t h. (2 ^ 62, at c (zone_of made c t) (in_map (zone_of made c) (tables_at made c) t h) refl) }
     where
       at : (c : Cell) (z : ZoneView) → Contains (zones_at made c) z → z.period ≡ made.period → IsRoom z (2 ^ 62)
       at c z h e =
@@ -197,7 +186,7 @@ module _ (s : StoreView) (is : IsStore s) (one : s.shape.times ≡ 1) (lists : S
   of_store : (x : ℤ) (texts : List ℕ) → HoldsNumber s x texts → InGroups periods.whole lists name (finite.keys lists) x texts
   unfolding name
   of_store x texts h =
-      let f = groups.from h.cell (zone_of s h.cell h.table) (map_in (zone_of s h.cell) (tables_at s h.cell) h.table h.held) in
+      let f = groups.from h.cell (zone_of s h.cell h.table) (in_map (zone_of s h.cell) (tables_at s h.cell) h.table h.held) in
       let n = group_numbers s is one lists groups (group_cell h.cell) f.span f.listed in
       record {
         group = group_cell h.cell;
@@ -227,12 +216,12 @@ module _ (s : StoreView) (lists : SpanLists) (groups : AreGroups s lists) (perio
     (domain : List Text) (numbered : AreNumbered domain s) where
   of_zone : (c : Cell) (z : ZoneView) → Contains (zones_at made c) z → (i : ℕ) → i < s.shape.texts → slice_index c.texts i < length domain
   of_zone c z h i il =
-      let t = in_map (zone_of made c) (tables_at made c) z h in
+      let t = from_map (zone_of made c) (tables_at made c) z h in
       let v : IsZone z = subst IsZone t.2 (zone_held made valid c t.0 t.1) in
-      let x = one_of v.some.member (v.some.is.cell.count ∙ zone_column made valid one c z h) in
+      let x = one_number v.some.member (v.some.is.cell.count ∙ zone_column made valid one c z h) in
       let o = holds.to c z x.0 h (subst (IsMember z) x.1 v.some.is) in
       let p = groups.to o.group o.inside.inside.span o.inside.inside.listed in
-      let u = in_map (zone_of s p.cell) (tables_at s p.cell) p.zone p.held in
+      let u = from_map (zone_of s p.cell) (tables_at s p.cell) p.zone p.held in
       let e : p.cell.texts ≡ c.texts = sym (o.named ∙ ap (λ (g : Cell). g.texts) p.grouped) in
       subst (λ ns. slice_index ns i < length domain) e (numbered p.cell i (subst IsSome (sym (held_of s.tables p.cell u.0 u.1)) refl) il)
 
@@ -242,7 +231,7 @@ module _ (s : StoreView) (lists : SpanLists) (groups : AreGroups s lists) (perio
       at : (o : Option (List (List (Option ℤ)))) → finite.get made.tables c ≡ o → IsSome o → slice_index c.texts i < length domain
       at None e k = absurd (cc)
       at (Some []) e k = absurd ((valid.cells c [] e).some refl)
-      at (Some (t ∷ ts)) e k = of_zone c (zone_of made c t) (map_in (zone_of made c) (tables_at made c) t (subst (λ o. Contains (unwrap_or o []) t) (sym e) (head_in t ts))) i (subst (λ (h : Shape). i < h.texts) shape il)
+      at (Some (t ∷ ts)) e k = of_zone c (zone_of made c t) (in_map (zone_of made c) (tables_at made c) t (subst (λ o. Contains (unwrap_or o []) t) (sym e) (head_in t ts))) i (subst (λ (h : Shape). i < h.texts) shape il)
 
 -- ---- the number of rows, if it is at most the given one
 module _ (s : StoreView) (is : IsStore s) (one : s.shape.times ≡ 1) (lists : SpanLists) (groups : AreGroups s lists) (periods : Periods) (whole : periods.whole ≡ s.period) (end : IsEndPeriod s.period lists periods.least)

@@ -13,7 +13,7 @@ use Rattle.lrp_spans.specs.Repeating.{RepeatsAtEnds}
 use Rattle.lrp_spans.specs.Spans.{AreBelow, AreOpenBelow, SpansHaveNumber, IsSpan}
 use Rattle.lrp_spans.proofs.EndLaws.{before_last, no_first}
 use Rattle.lrp_spans.proofs.Repeats.{divisor_le}
-use Rattle.lrp_spans.proofs.Lists.{below_or, in_map, map_in, pairs_map}
+use Rattle.lrp_spans.proofs.Lists.{below_or, pairs_map}
 use Rattle.lrp_canon.specs.declared.edges.Periods.{Periods}
 use Rattle.lrp_canon.specs.Counting.{HasRows, HasWith, IsCount, capped, turns_of}
 use Rattle.lrp_canon.specs.Edges.{AreEdgeSpans, AreRepeating, Begins, GoesDown}
@@ -21,6 +21,7 @@ use Rattle.lrp_canon.specs.Rows.{AreJust, IsOpenBelow, IsStart, Moment}
 use Rattle.lrp_canon.proofs.Numbers.{in_places, of_places, places, places_apart, places_length}
 use Rattle.lrp_canon.proofs.StartLaws.{one_residue, one_turn}
 use Rattle.lrp_canon.proofs.Stepping.{at_least, between, deep_all}
+use Rattle.lrp_theory.proofs.Members.{from_map, in_map}
 
 -- ---- residues that go on downwards are those of spans without a first turn
 module _ (k high step bound : ℕ) (spans : List Span) (low : 0 < k) (positive : 0 < step) (divides : Divides (pos step) (pos k)) (each : (s : Span) → Contains spans s → IsSpan high s) (below : AreBelow k spans)
@@ -127,7 +128,7 @@ module _ (k high step bound : ℕ) (spans : List Span) (low : 0 < k) (positive :
       unbegun = record {
         apart = pairs_map ◌≢◌ ◌<◌ down_place (take place residues) (pairs_take ◌<◌ residues place are.ascending) (λ x y _ _ lt e. (let q : pos x ≡ pos y = ap (λ (p : Moment ℕ). p.number) e in absurd (omega (arith, ints))));
         to = λ p h. (
-            let t = in_map down_place (take place residues) p h in
+            let t = from_map down_place (take place residues) p h in
             subst (IsOpenBelow (HasWith (SpansHaveNumber k spans) texts) step) t.2 (to t.0 t.1));
         from = λ p o. (
             let q : pos (nat_abs p.number) ≡ p.number = (let a : pos 0 ≤ℤ p.number = o.residue.low in omega (arith, ints)) in
@@ -140,7 +141,7 @@ module _ (k high step bound : ℕ) (spans : List Span) (low : 0 < k) (positive :
             } in
             let named : p.texts ≡ texts = (let m : ℕ = nat_abs first in let v : m ≤ step * m = at_least step m positive in (o.all (p.number -ℤ pos (step * m)) (omega (arith, ints, v)) (Divides-is (pos step) (pos 0 -ℤ pos (step * m)) _ (omega (arith, ints)) (Divides-- (pos step) (pos 0) (pos (step * m)) (Divides-zero (pos step)) (Divides-multiple step m)))).named) in
             let l : Contains (take place residues) (nat_abs p.number) = in_front (nat_abs p.number) (down_open (nat_abs p.number) (omega (arith, rl, le)) g) rl in
-            subst (Contains (map down_place (take place residues))) (same p q named) (map_in down_place (take place residues) (nat_abs p.number) l));
+            subst (Contains (map down_place (take place residues))) (same p q named) (in_map down_place (take place residues) (nat_abs p.number) l));
       }
         where
           pairs_take : (R : ℕ → ℕ → Type 0) (xs : List ℕ) (n : ℕ) → AllPairs R xs → AllPairs R (take n xs)

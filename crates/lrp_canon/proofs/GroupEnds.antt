@@ -20,10 +20,11 @@ use Rattle.lrp_spans.specs.Repeating.{RepeatsAtEnds}
 use Rattle.lrp_spans.specs.Spans.{AreBelow, SpansHaveNumber}
 use Rattle.lrp_spans.proofs.EndSteps.{merged_ordered}
 use Rattle.lrp_spans.proofs.GroupLaws.{group_below, group_numbers, group_valid, merged_below, zone_column}
-use Rattle.lrp_spans.proofs.Lists.{head_in, in_none, map_in}
+use Rattle.lrp_spans.proofs.Lists.{head_in, in_none}
 use Rattle.lrp_canon.specs.declared.edges.Periods.{Periods}
 use Rattle.lrp_canon.specs.Counting.{AreRepeatingGroups}
 use Rattle.lrp_canon.proofs.Stepping.{repeats_from}
+use Rattle.lrp_theory.proofs.Members.{in_map}
 
 -- ---- behind all stored bounds a zone has all numbers of its residue, or none
 module _ (z : ZoneView) (valid : IsZone z) (one : columns_of z ≡ 1) (reach : ℕ) (small : (i j : ℕ) → i < 2 → j < 2 → AtMost reach (entry z.bounds i j)) where
@@ -63,7 +64,7 @@ module _ (s : StoreView) (is : IsStore s) (one : s.shape.times ≡ 1) (room : Ha
   moved x y step h =
       let z : ZoneView = zone_of s h.cell h.table in
       let valid : IsZone z = zone_held s is h.cell h.table h.held in
-      let col : columns_of z ≡ 1 = zone_column s is one h.cell z (map_in (zone_of s h.cell) (tables_at s h.cell) h.table h.held) in
+      let col : columns_of z ≡ 1 = zone_column s is one h.cell z (in_map (zone_of s h.cell) (tables_at s h.cell) h.table h.held) in
       record {
         cell = h.cell;
         table = h.table;

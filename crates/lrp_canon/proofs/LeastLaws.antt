@@ -1,26 +1,26 @@
 -- The period of all groups is the least one of rows that give the store.
-use Rattle.std.proofs.Common.{◌≡◌, ℕ, ◌≤◌, inl, inr, List, [], ◌∷◌, Option, Some, map, take, unwrap_or, refl, subst, sym, ap}
+use Rattle.std.proofs.Common.{◌≡◌, ℕ, ◌≤◌, inl, inr, List, [], ◌∷◌, map, take, refl, subst, sym}
 use Rattle.std.specs.Prelude.{ℤ, pos, ◌+ℤ◌, ◌-ℤ◌, Contains}
 use Rattle.std.specs.FinMap as finite
 use Rattle.lrp_theory.proofs.Decided.{Decided}
 use Rattle.lrp_theory.proofs.Modulo.{Divides-self}
 use Rattle.lrp_model.specs.declared.tuples.Cell.{Cell}
 use Rattle.lrp_slots.specs.Lists.{list_at}
-use Rattle.lrp_zone.specs.Zones.{ZoneView}
-use Rattle.lrp_store.specs.Stores.{IsStore, StoreView, tables_at, zone_of, zones_at}
+use Rattle.lrp_store.specs.Stores.{IsStore, StoreView}
 use Rattle.lrp_store.proofs.Aligning.{key_of}
-use Rattle.lrp_store.proofs.Counted.{key_held}
+use Rattle.lrp_store.proofs.ZoneCounts.{key_zone}
 use Rattle.lrp_spans.specs.declared.spans.Span.{Span}
 use Rattle.lrp_spans.specs.Groups.{AreGroups, AreNumbersOf, HoldsNumber, SpanLists, group_cell}
 use Rattle.lrp_spans.specs.Periods.{AreSpanLists, IsEndPeriod, RepeatsFar}
 use Rattle.lrp_spans.specs.Spans.{SpansHaveNumber}
 use Rattle.lrp_spans.proofs.GroupLaws.{group_below, group_numbers, group_valid}
-use Rattle.lrp_spans.proofs.Lists.{head_in, in_map, in_none, map_in}
+use Rattle.lrp_spans.proofs.Lists.{head_in, in_none}
 use Rattle.lrp_spans.proofs.Repeats.{divisor_le}
 use Rattle.lrp_canon.specs.Rows.{IsLeastPeriod, IsSetOfRows}
 use Rattle.lrp_canon.proofs.RowLaws.{set_repeats}
 use Rattle.lrp_canon.proofs.RowMaking.{rows_of_ends}
 use Rattle.lrp_canon.proofs.SpanDecisions.{decided_number}
+use Rattle.lrp_theory.proofs.Members.{from_map, in_map}
 
 -- no span, no number
 none_far : (k step : ℕ) → RepeatsFar (SpansHaveNumber k []) step
@@ -33,14 +33,6 @@ none_far k step = (
     up = λ x l h. absurd (in_none h.inside.span h.inside.listed);
   },
 )
-
--- each cell of a store has a zone
-pub key_zone : (s : StoreView) → IsStore s → (cell : Cell) → Contains (finite.keys s.tables) cell → (z : ZoneView) × Contains (zones_at s cell) z
-key_zone s is cell k = let h = key_held s is (λ xs ns. Unit {0}) 0 cell k in some h.0 h.1
-  where
-    some : (ts : List (List (Option ℤ))) → finite.get s.tables cell ≡ Some ts → (z : ZoneView) × Contains (zones_at s cell) z
-    some [] e = absurd ((is.cells cell [] e).some refl)
-    some (t ∷ ts) e = (zone_of s cell t, map_in (zone_of s cell) (tables_at s cell) t (subst (λ l. Contains l t) (sym (ap (λ o. unwrap_or o []) e)) (head_in t ts)))
 
 module _ (s : StoreView) (is : IsStore s) (one : s.shape.times ≡ 1) (lists : SpanLists) (groups : AreGroups s lists) where
   pub span_lists : AreSpanLists s.period lists
@@ -78,7 +70,7 @@ module _ (s : StoreView) (is : IsStore s) (one : s.shape.times ≡ 1) (lists : S
   group_of : (texts : List ℕ) → Contains known texts → IsGroupOf texts
   unfolding known
   group_of texts n =
-      let t = in_map (λ (c : Cell). take s.shape.texts c.texts) (finite.keys s.tables) texts n in
+      let t = from_map (λ (c : Cell). take s.shape.texts c.texts) (finite.keys s.tables) texts n in
       let z = key_zone s is t.0 t.1 in
       let f = groups.from t.0 z.0 z.1 in
       record { cell = t.0; named = t.2; span = f.span; listed = f.listed }
@@ -89,7 +81,7 @@ module _ (s : StoreView) (is : IsStore s) (one : s.shape.times ≡ 1) (lists : S
   all_known : (x : ℤ) (texts : List ℕ) → HoldsNumber s x texts → Contains known texts
   unfolding known
   all_known x texts h = subst (Contains (map (λ (c : Cell). take s.shape.texts c.texts) (finite.keys s.tables))) h.named
-      (map_in (λ (c : Cell). take s.shape.texts c.texts) (finite.keys s.tables) h.cell (key_of s (x ∷ []) texts h))
+      (in_map (λ (c : Cell). take s.shape.texts c.texts) (finite.keys s.tables) h.cell (key_of s (x ∷ []) texts h))
 
   decided : (texts : List ℕ) → Contains known texts → (x : ℤ) → Decided (HoldsNumber s x texts)
   decided texts n x =

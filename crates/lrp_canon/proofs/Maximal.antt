@@ -11,20 +11,13 @@ use Rattle.lrp_theory.proofs.Multiples.{Divides-multiple}
 use Rattle.lrp_matrix.specs.Ranges.{Above}
 use Rattle.lrp_spans.specs.Repeating.{RepeatsAtEnds}
 use Rattle.lrp_canon.specs.declared.edges.Edge.{Edge}
-use Rattle.lrp_canon.specs.declared.rows.Row.{Row}
+use Rattle.lrp_canon.specs.declared.rows.MaximalRow.{MaximalRow}
 use Rattle.lrp_canon.specs.Edges.{AreBeginnings, AreStops, Begins, IsBeginning, IsEarlier, IsEdgeAt, IsSooner, StopsAt}
 use Rattle.lrp_canon.specs.Making.{AreRowsOf, EndsAt, IsEdgeAhead, IsInside, IsRow, IsRowEnd, IsRowFrom, LieApart}
 use Rattle.lrp_canon.specs.Pairing.{AreRowsFrom}
 use Rattle.lrp_canon.proofs.Stepping.{at_least, between, deep_all, one_rest, rest_of, same_apart, times_of}
-
--- what is above a lesser number's end
-later_above : (x y : ℤ) (e : Option ℤ) → x ≤ℤ y → Above x e → Above y e
-later_above x y None l a = tt
-later_above x y (Some b) l a = omega (arith, ints)
-
-sooner_within : (x y : ℤ) (e : Option ℤ) → x ≤ℤ y → Within y e → Within x e
-sooner_within x y None l a = tt
-sooner_within x y (Some b) l a = omega (arith, ints)
+use Rattle.lrp_theory.proofs.Below.{within_less}
+use Rattle.lrp_matrix.proofs.NearestLemmas.{above_more}
 
 -- an edge of this residue and number is the edge of the number
 edge_is : (period : ℕ) (x : ℤ) (r : ℕ) (e : Edge) → r < period → Divides (pos period) (x -ℤ pos r) → IsEdgeAt period x e → e ≡ record { residue = r; number = Some x }
@@ -89,7 +82,7 @@ module _ (set : ℤ → Type 0) (either : (x : ℤ) → set x ⊎ (set x → ⊥
         edge = u.edge;
         listed = u.listed;
         residue = u.residue;
-        above = later_above (x -ℤ pos period) x u.edge.number (omega (arith, ints)) u.above;
+        above = above_more (x -ℤ pos period) x u.edge.number (omega (arith, ints)) u.above;
         none = λ y a le e s. by_lt_z y x
             (λ lt. let m : (y +ℤ pos period) ≤ℤ x = same_apart period (pos r) y x low e d lt in u.none y a (omega (arith, ints)) e s)
             (λ ge. let q : y ≡ x = omega (arith, ints) in s.over (subst set (sym q) h));
@@ -107,7 +100,7 @@ module _ (set : ℤ → Type 0) (either : (x : ℤ) → set x ⊎ (set x → ⊥
           })
 
   -- ---- one row
-  module _ (e : Edge) (listed : Contains starts e) (row : Row) (from : IsRowFrom period stops e row) where
+  module _ (e : Edge) (listed : Contains starts e) (row : MaximalRow) (from : IsRowFrom period stops e row) where
     -- a stop of this residue behind the start is behind the row
     stop_ahead : (y : ℤ) → Above y e.number → Divides (pos period) (y -ℤ pos e.residue) → StopsAt set period y → IsEdgeAhead stops e y
     stop_ahead y a d s = (let t = stop.from y s in record { listed = subst (Contains stops) (edge_is period y e.residue t.0 (begin.below e listed) d t.1) t.2; later = a })
@@ -128,7 +121,7 @@ module _ (set : ℤ → Type 0) (either : (x : ℤ) → set x ⊎ (set x → ⊥
         let g : a +ℤ pos (period * t.0) ≡ x = omega (arith, ints, f) in
         subst set g (climb t.0 a h (λ y lt ly dy s.
         let dr : Divides (pos period) (y -ℤ pos e.residue) = Divides-is (pos period) ((y -ℤ a) +ℤ (a -ℤ pos e.residue)) _ (omega (arith, ints)) (Divides-+ (pos period) _ _ dy d) in
-        let b : x <ℤ y = behind x y i.high (stop_ahead y (later_above a y e.number (omega (arith, ints)) above) dr s) in
+        let b : x <ℤ y = behind x y i.high (stop_ahead y (above_more a y e.number (omega (arith, ints)) above) dr s) in
         absurd (omega (arith, ints))))
 
     pub row_to : (x : ℤ) → IsInside period row x → set x
@@ -219,7 +212,7 @@ module _ (set : ℤ → Type 0) (either : (x : ℤ) → set x ⊎ (set x → ⊥
                 ))
 
   -- ---- all rows
-  module _ (rows : List Row) (paired : AreRowsFrom period stops starts rows) (limit : bound + period ≤ 2 ^ 62 + 1) where
+  module _ (rows : List MaximalRow) (paired : AreRowsFrom period stops starts rows) (limit : bound + period ≤ 2 ^ 62 + 1) where
     small : (r : ℕ) (y : ℤ) → Contains stops (record { residue = r; number = Some y }) → AtMost (2 ^ 62) (Some (y -ℤ pos period))
     small r y l =
         let s = stop.to (record { residue = r; number = Some y }) l in
@@ -229,14 +222,14 @@ module _ (set : ℤ → Type 0) (either : (x : ℤ) → set x ⊎ (set x → ⊥
         let b : s.0 <ℤ pos (bound + period) = stop_high s.0 s.1 in
         (omega (arith, ints, limit), omega (arith, ints, limit))
 
-    row_at : (row : Row) → Contains rows row → (e : Edge) × Contains starts e × IsRowFrom period stops e row
+    row_at : (row : MaximalRow) → Contains rows row → (e : Edge) × Contains starts e × IsRowFrom period stops e row
     row_at row l =
         let il : l.0 < length starts = (let k : l.0 < length rows = l.1 in omega (arith, paired.count)) in
         let d : Edge = record { residue = 0; number = None } in
         (get_or starts l.0 d, Contains-get_or starts l.0 d il, subst (IsRowFrom period stops (get_or starts l.0 d)) l.2 (paired.each l.0 d row il))
 
     -- a row is below each row of its residue that begins later
-    far_apart : (e f : Edge) (v w : Row) → Contains starts e → Contains starts f → IsEarlier e f → IsRowFrom period stops e v → IsRowFrom period stops f w → LieApart period v w
+    far_apart : (e f : Edge) (v w : MaximalRow) → Contains starts e → Contains starts f → IsEarlier e f → IsRowFrom period stops e v → IsRowFrom period stops f w → LieApart period v w
     far_apart e f v w le lf earlier fe ff = record { far = λ same x y ix iy. of earlier same x y ix iy f.number refl (begin.to f lf) }
       where
         of : IsEarlier e f → v.residue ≡ w.residue → (x y : ℤ) → IsInside period v x → IsInside period w y → (n : Option ℤ) → f.number ≡ n → IsBeginning set period f.residue n → (x +ℤ pos period) <ℤ y
@@ -256,7 +249,7 @@ module _ (set : ℤ → Type 0) (either : (x : ℤ) → set x ⊎ (set x → ⊥
             let i : IsInside period v (b -ℤ pos period) = record {
               residue = db;
               low = subst (Above (b -ℤ pos period)) (sym fe.least) (lower e.number refl (begin.to e le) (subst (IsSooner e.number) q a.1));
-              high = sooner_within (b -ℤ pos period) x v.most (omega (arith, ints)) ix.high;
+              high = within_less (b -ℤ pos period) x v.most (omega (arith, ints)) ix.high;
             } in
             absurd (g.0.first (row_to e le v fe (b -ℤ pos period) i)))
           where
@@ -275,7 +268,7 @@ module _ (set : ℤ → Type 0) (either : (x : ℤ) → set x ⊎ (set x → ⊥
       from = λ x h. (
           let r = rest_of period x low in
           let u : IsUnder x r.0 = descend (nat_abs x + bound) x r.0 r.1 r.2 (omega (arith, ints)) h in
-          let d : Row = record { residue = 0; least = None; most = None } in
+          let d : MaximalRow = record { residue = 0; least = None; most = None } in
           let il : u.listed.0 < length starts = u.listed.1 in
           let f : IsRowFrom period stops u.edge (get_or rows u.listed.0 d) = subst (λ e. IsRowFrom period stops e (get_or rows u.listed.0 d)) u.listed.2 (paired.each u.listed.0 u.edge d il) in (
             get_or rows u.listed.0 d,

@@ -10,11 +10,12 @@ use Rattle.lrp_theory.specs.Bounds.{Within}
 use Rattle.lrp_matrix.specs.Ranges.{Above}
 use Rattle.lrp_spans.specs.declared.spans.Span.{Span}
 use Rattle.lrp_spans.specs.Spans.{AreBelow, SpanComesBefore, SpansHaveNumber, HasTurn, IsSpan}
-use Rattle.lrp_spans.proofs.Lists.{in_cons, in_map, in_none, in_one, later, head_in, map_in, pairs_append, pairs_head, pairs_map, pairs_none, pairs_one, pairs_right}
+use Rattle.lrp_spans.proofs.Lists.{in_cons, in_none, in_one, later, head_in, pairs_append, pairs_head, pairs_map, pairs_none, pairs_one, pairs_right}
 use Rattle.lrp_canon.specs.Counting.{capped, turns_between, turns_of}
 use Rattle.lrp_canon.specs.Edges.{HasEnds}
 use Rattle.lrp_canon.specs.Rows.{Moment}
 use Rattle.lrp_canon.proofs.StartLaws.{one_residue, one_turn}
+use Rattle.lrp_theory.proofs.Members.{from_map, in_map}
 
 -- so many numbers from one on
 pub turns : ℤ → ℕ → List ℤ
@@ -116,7 +117,7 @@ module _ (k high : ℕ) (texts : List ℕ) where
   in_places [] valid ends p h = absurd (in_none p h)
   in_places (s ∷ spans) valid ends p h = elim (Contains-append_cases (places_in k texts s) (places k texts spans) p h) [
     | inl a ↦ (
-        let t = in_map (place k texts s.residue) (turns (start_of s.first) (turns_of s)) p a in (
+        let t = from_map (place k texts s.residue) (turns (start_of s.first) (turns_of s)) p a in (
           ap (λ (q : Moment ℕ). q.texts) (sym t.2),
           record { residue = s.residue; turn = t.0; is = ap (λ (q : Moment ℕ). q.number) (sym t.2); inside = record { span = s; listed = head_in s spans; is = turn_to s high (valid s (head_in s spans)) (ends s (head_in s spans)) t.0 t.1 } },
         ))
@@ -132,7 +133,7 @@ module _ (k high : ℕ) (texts : List ℕ) where
   from_span (v ∷ spans) valid ends s l n h = elim (in_cons v spans s l) [
     | inl e ↦ subst (λ q. Contains (places k texts (v ∷ spans)) (place k texts q.residue n)) e
         (Contains-append_left (places_in k texts v) (places k texts spans) (place k texts v.residue n)
-        (map_in (place k texts v.residue) (turns (start_of v.first) (turns_of v)) n (turn_from v high (valid v (head_in v spans)) (ends v (head_in v spans)) n (subst (λ q. HasTurn q q.residue n) (sym e) h))))
+        (in_map (place k texts v.residue) (turns (start_of v.first) (turns_of v)) n (turn_from v high (valid v (head_in v spans)) (ends v (head_in v spans)) n (subst (λ q. HasTurn q q.residue n) (sym e) h))))
     | inr m ↦ Contains-append_right (places_in k texts v) (places k texts spans) (place k texts s.residue n) (from_span spans (λ q l. valid q (later v spans q l)) (λ q l. ends q (later v spans q l)) s m n h)
   ]
 
@@ -175,7 +176,7 @@ module _ (k high : ℕ) (texts : List ℕ) where
     where
       across : (p q : Moment ℕ) → Contains (map (place k texts s.residue) (turns (start_of s.first) (turns_of s))) p → Contains (places k texts spans) q → p ≡ q → ⊥
       across p q a b e =
-          let t = in_map (place k texts s.residue) (turns (start_of s.first) (turns_of s)) p a in
+          let t = from_map (place k texts s.residue) (turns (start_of s.first) (turns_of s)) p a in
           let i = in_places spans (λ v l. valid v (later s spans v l)) (λ v l. ends v (later s spans v l)) q b in
           let f : q.number ≡ pos s.residue +ℤ (pos k *ℤ t.0) = ap (λ (v : Moment ℕ). v.number) (sym e ∙ sym t.2) in
           differ s spans low (below s (head_in s spans)) (λ v l. below v (later s spans v l)) (pairs_head SpanComesBefore s spans all) t.0

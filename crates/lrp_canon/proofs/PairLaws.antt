@@ -6,7 +6,7 @@ use Rattle.std.proofs.lemmas.List.{append_assoc, get_or_append_left, get_or_defa
 use Rattle.lrp_matrix.specs.Ranges.{Above}
 use Rattle.lrp_spans.proofs.Lists.{below_or, head_in, pairs_head, pairs_right}
 use Rattle.lrp_canon.specs.declared.edges.Edge.{Edge}
-use Rattle.lrp_canon.specs.declared.rows.Row.{Row}
+use Rattle.lrp_canon.specs.declared.rows.MaximalRow.{MaximalRow}
 use Rattle.lrp_canon.specs.Edges.{AreStops, IsEarlier, IsSooner}
 use Rattle.lrp_canon.specs.Making.{EndsAt, IsEdgeAhead, IsRowFrom}
 use Rattle.lrp_canon.specs.Pairing.{AreRowsFrom, AreStopEdges}
@@ -130,8 +130,8 @@ here_left (s ∷ starts) zero d l = head_in s starts
 here_left (s ∷ starts) (suc k) d l = here_left starts k d (omega arith)
 
 -- one more row
-pub rows_more : (period : ℕ) (stops starts : List Edge) (k : ℕ) (d : Edge) (made new : List Row) (row : Row) → k < length starts → length made ≡ k → new ≡ made ++ row ∷ [] → ((i : ℕ) (e : Edge) (r : Row) → i < k → IsRowFrom period stops (get_or starts i e) (get_or made i r))
-    → IsRowFrom period stops (get_or starts k d) row → (i : ℕ) (e : Edge) (r : Row) → i < k + 1 → IsRowFrom period stops (get_or starts i e) (get_or new i r)
+pub rows_more : (period : ℕ) (stops starts : List Edge) (k : ℕ) (d : Edge) (made new : List MaximalRow) (row : MaximalRow) → k < length starts → length made ≡ k → new ≡ made ++ row ∷ [] → ((i : ℕ) (e : Edge) (r : MaximalRow) → i < k → IsRowFrom period stops (get_or starts i e) (get_or made i r))
+    → IsRowFrom period stops (get_or starts k d) row → (i : ℕ) (e : Edge) (r : MaximalRow) → i < k + 1 → IsRowFrom period stops (get_or starts i e) (get_or new i r)
 rows_more period stops starts k d made new row kl n q each here i e r il = elim (below_or i k) [
   | inl a ↦ subst (IsRowFrom period stops (get_or starts i e)) (sym (get_or_append_left made (row ∷ []) r i (omega (arith, a, n))) ∙ ap (λ xs. get_or xs i r) (sym q)) (each i e r a)
   | inr b ↦ (let f : i ≡ k = omega (arith, il, b) in
@@ -143,7 +143,7 @@ rows_more period stops starts k d made new row kl n q each here i e r il = elim 
     last_get [] y d = refl
     last_get (x ∷ xs) y d = last_get xs y d
 
-pub count_more : (made new : List Row) (row : Row) (k : ℕ) → length made ≡ k → new ≡ made ++ row ∷ [] → length new ≡ k + 1
+pub count_more : (made new : List MaximalRow) (row : MaximalRow) (k : ℕ) → length made ≡ k → new ≡ made ++ row ∷ [] → length new ≡ k + 1
 count_more made new row k n q = ap (λ xs. length xs) q ∙ length-append made (row ∷ []) ∙ omega (arith, n)
 
 -- the stops of a set have numbers
@@ -155,5 +155,5 @@ stop_edges set period stops high are = record {
 }
 
 -- all rows
-pub rows_end : (period : ℕ) (stops starts : List Edge) (k : ℕ) (made : List Row) → length starts ≤ k → k ≤ length starts → length made ≡ k → ((i : ℕ) (e : Edge) (r : Row) → i < k → IsRowFrom period stops (get_or starts i e) (get_or made i r)) → AreRowsFrom period stops starts made
+pub rows_end : (period : ℕ) (stops starts : List Edge) (k : ℕ) (made : List MaximalRow) → length starts ≤ k → k ≤ length starts → length made ≡ k → ((i : ℕ) (e : Edge) (r : MaximalRow) → i < k → IsRowFrom period stops (get_or starts i e) (get_or made i r)) → AreRowsFrom period stops starts made
 rows_end period stops starts k made l m n each = record { count = omega (arith, l, m, n); each = λ i e r il. each i e r (omega (arith, il, l)) }

@@ -1,75 +1,26 @@
 -- A store of the least period with one zone in each cell is canonical as it stands.
-use Rattle.std.proofs.Common.{◌≡◌, ℕ, ◌+◌, ◌-◌, ◌<◌, ◌≤◌, ◌^◌, inl, inr, List, [], ◌∷◌, Option, length, take, arith, refl, sym, subst, ap, ◌∙◌}
-use Rattle.std.specs.Prelude.{ℤ, pos, ◌+ℤ◌, AllPairs, Contains, is_some, sum_by}
+use Rattle.std.proofs.Common.{◌≡◌, ◌+◌, ◌-◌, ◌<◌, ◌≤◌, ◌^◌, List, [], ◌∷◌, length, take, arith, refl, sym, subst, ap, ◌∙◌}
+use Rattle.std.specs.Prelude.{ℤ, pos, ◌+ℤ◌, AllPairs, Contains}
 use Rattle.std.specs.FinMap as finite
-use Rattle.std.specs.FinMap.{contains_key-keys, entries, len-entries}
 use Rattle.std.proofs.Math.IntN.{◌*ℤ◌}
 use Rattle.std.proofs.lemmas.List.{length-map}
-use Rattle.std.proofs.lemmas.List.Sums.{sum_by-cons}
-use Rattle.std.proofs.lemmas.Map.Views.{Contains-from_any}
 use Rattle.lrp_model.specs.declared.tuples.Cell.{Cell}
 use Rattle.lrp_slots.specs.Lists.{list_at}
-use Rattle.lrp_slots.proofs.Tables.{same_cell}
 use Rattle.lrp_zone.specs.Zones.{IsMember, ZoneView, reach_of}
 use Rattle.lrp_store.specs.Stores.{IsStore, StoreView, tables_at, zone_count, zone_of, zones_at}
-use Rattle.lrp_store.proofs.Held.{held_of}
 use Rattle.lrp_minus.specs.Intervals.{IsFarBelow}
 use Rattle.lrp_spans.specs.Groups.{AreGroups, HoldsNumber, SpanLists, group_cell}
 use Rattle.lrp_spans.specs.Periods.{IsEndPeriod}
 use Rattle.lrp_spans.specs.Spans.{SpansHaveNumber}
 use Rattle.lrp_spans.proofs.EndSteps.{span_key}
 use Rattle.lrp_spans.proofs.GroupLaws.{group_numbers, zone_period}
-use Rattle.lrp_spans.proofs.Lists.{head_in, in_cons, in_map, in_none, later}
 use Rattle.lrp_canon.specs.declared.edges.Periods.{Periods}
 use Rattle.lrp_canon.specs.Canonical.{CanMakeCanonical, HasCanonicalZones, IsCanonicalOf, StandsAlready}
 use Rattle.lrp_canon.specs.Making.{HasAtGroup, HoldsGroups, IsOfGroup}
 use Rattle.lrp_canon.proofs.CanonLaws.{is_canonical}
-use Rattle.lrp_canon.proofs.LeastLaws.{key_zone, least_period}
+use Rattle.lrp_canon.proofs.LeastLaws.{least_period}
 use Rattle.lrp_canon.proofs.ZoneLaws.{canonical_zones, zone_row_count}
-use Rattle.lrp_canon.proofs.ZoneSums.{zones_by_cells}
-
--- ---- sums of numbers that are not zero
-module _ {X : Type 0} (f : X → ℕ) where
-  at_least : (xs : List X) → ((x : X) → Contains xs x → 1 ≤ f x) → length xs ≤ sum_by f xs
-  at_least [] some = omega arith
-  at_least (x ∷ xs) some =
-      let one : 1 ≤ f x = some x (head_in x xs) in
-      let rest : length xs ≤ sum_by f xs = at_least xs (λ y c. some y (later x xs y c)) in
-      omega (arith, sum_by-cons f x xs)
-
-  at_most : (xs : List X) → ((x : X) → Contains xs x → 1 ≤ f x) → (x : X) → Contains xs x → f x + length xs ≤ sum_by f xs + 1
-  at_most [] some x c = absurd (in_none x c)
-  at_most (y ∷ ys) some x c = elim (in_cons y ys x c) [
-    | inl e ↦ (let rest : length ys ≤ sum_by f ys = at_least ys (λ z d. some z (later y ys z d)) in
-        let same : f y ≡ f x = ap f e in omega (arith, sum_by-cons f y ys))
-    | inr d ↦ (let one : 1 ≤ f y = some y (head_in y ys) in
-        let rest : f x + length ys ≤ sum_by f ys + 1 = at_most ys (λ z k. some z (later y ys z k)) x d in
-        omega (arith, sum_by-cons f y ys))
-  ]
-
--- ---- a store with as many zones as cells has one in each
-module _ (s : StoreView) (is : IsStore s) where
-  counted : length (finite.keys s.tables) ≡ finite.len s.tables
-  counted = length-map (entries s.tables) (λ e. e.0) ∙ sym (len-entries s.tables)
-
-  some_zone : (k : Cell) → Contains (finite.keys s.tables) k → 1 ≤ length (tables_at s k)
-  some_zone k c =
-      let z = key_zone s is k c in
-      let t = in_map (zone_of s k) (tables_at s k) z.0 z.1 in
-      let low : t.1.0 < length (tables_at s k) = t.1.1 in
-      omega arith
-
-  pub single_zones : zone_count s ≡ finite.len s.tables → (cell : Cell) → length (tables_at s cell) ≤ 1
-  single_zones e cell = by (tables_at s cell) refl
-    where
-      by : (ts : List (List (Option ℤ))) → tables_at s cell ≡ ts → length (tables_at s cell) ≤ 1
-      by [] none = rw none (omega arith)
-      by (t ∷ ts) first =
-          let held : Contains (tables_at s cell) t = subst (λ l. Contains l t) (sym first) (head_in t ts) in
-          let key : Contains (finite.keys s.tables) cell = Contains-from_any same_cell cell (finite.keys s.tables) (sym (contains_key-keys s.tables cell) ∙ ap is_some (held_of s.tables cell t held)) in
-          let total : sum_by (λ k. length (tables_at s k)) (finite.keys s.tables) ≡ length (finite.keys s.tables) = zones_by_cells s ∙ e ∙ sym counted in
-          let most : length (tables_at s cell) + length (finite.keys s.tables) ≤ sum_by (λ k. length (tables_at s k)) (finite.keys s.tables) + 1 = at_most (λ k. length (tables_at s k)) (finite.keys s.tables) some_zone cell key in
-          omega (arith, most, total)
+use Rattle.lrp_theory.proofs.Members.{from_map}
 
 -- two of fewer than two elements
 few_pairs : {X : Type 0} (R : X → X → Type 0) (xs : List X) → length xs ≤ 1 → AllPairs R xs
@@ -82,12 +33,12 @@ module _ (s : StoreView) (is : IsStore s) (can : CanMakeCanonical s) (lists : Sp
 
   reach : (c : Cell) (z : ZoneView) → Contains (zones_at s c) z → reach_of z ≤ 2 ^ 62
   reach c z m =
-      let t = in_map (zone_of s c) (tables_at s c) z m in
+      let t = from_map (zone_of s c) (tables_at s c) z m in
       let r : reach_of (zone_of s c t.0) ≤ 2 ^ 62 - s.period = can.reach.each c t.0 t.1 in
       subst (λ v. reach_of v ≤ 2 ^ 62) t.2 (omega (arith, r))
 
   held : (c : Cell) (z : ZoneView) (x : ℤ) → Contains (zones_at s c) z → IsMember z (x ∷ []) → HoldsNumber s x (take s.shape.texts c.texts)
-  held c z x m i = let t = in_map (zone_of s c) (tables_at s c) z m in record { cell = c; table = t.0; held = t.1; named = refl; inside = subst (λ v. IsMember v (x ∷ [])) (sym t.2) i }
+  held c z x m i = let t = from_map (zone_of s c) (tables_at s c) z m in record { cell = c; table = t.0; held = t.1; named = refl; inside = subst (λ v. IsMember v (x ∷ [])) (sym t.2) i }
 
   of_group : (c : Cell) (z : ZoneView) (x : ℤ) → Contains (zones_at s c) z → IsMember z (x ∷ []) → IsOfGroup periods.whole lists (finite.keys lists) c x
   of_group c z x m i =

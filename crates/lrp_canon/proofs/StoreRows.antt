@@ -20,14 +20,15 @@ use Rattle.lrp_spans.specs.declared.spans.Span.{Span}
 use Rattle.lrp_spans.specs.Groups.{SpanLists}
 use Rattle.lrp_spans.specs.Spans.{AreMerged, SpansHaveNumber}
 use Rattle.lrp_spans.proofs.GroupLaws.{zone_column}
-use Rattle.lrp_spans.proofs.Lists.{before, head_in, in_map, in_none, in_one, one_in, pairs_append, pairs_left, pairs_none, pairs_one}
+use Rattle.lrp_spans.proofs.Lists.{before, head_in, in_none, in_one, one_in, pairs_append, pairs_left, pairs_none, pairs_one}
 use Rattle.lrp_canon.specs.declared.edges.Periods.{Periods}
-use Rattle.lrp_canon.specs.declared.rows.Row.{Row}
+use Rattle.lrp_canon.specs.declared.rows.MaximalRow.{MaximalRow}
 use Rattle.lrp_canon.proofs.JoinedCounts.{pairs_across}
 use Rattle.lrp_canon.specs.Making.{AddsRow, AddsRows, AreGroupCells, AreRowsOf, HasAtGroup, HasRowZone, HoldsGroups, IsInside, IsOfGroup, IsRowZone, IsZoneOf, LieApart, TakesRows, row_cell}
+use Rattle.lrp_theory.proofs.Members.{from_map}
 
 -- ---- one row
-module _ (group : Cell) (row : Row) (old new : StoreView) (one : old.shape.times ≡ 1) (a : AddsRow group row old new) where
+module _ (group : Cell) (row : MaximalRow) (old new : StoreView) (one : old.shape.times ≡ 1) (a : AddsRow group row old new) where
   abbrev cell : Cell
   cell = row_cell group row.residue
 
@@ -58,7 +59,7 @@ module _ (group : Cell) (row : Row) (old new : StoreView) (one : old.shape.times
 pub adds_none : (group : Cell) (s : StoreView) → AddsRows group [] s s
 adds_none group s = record { rest = refl; to = λ c z h. inl h; kept = λ c z h. h; from = λ r l. absurd (in_none r l); far = λ _ f. f }
 
-module _ (group : Cell) (rows : List Row) (row : Row) (old now new : StoreView) (one : old.shape.times ≡ 1) (so : AddsRows group rows old now) (a : AddsRow group row now new) (across : (v : Row) → Contains rows v → LieApart old.period v row) where
+module _ (group : Cell) (rows : List MaximalRow) (row : MaximalRow) (old now new : StoreView) (one : old.shape.times ≡ 1) (so : AddsRows group rows old now) (a : AddsRow group row now new) (across : (v : MaximalRow) → Contains rows v → LieApart old.period v row) where
   now_one : now.shape.times ≡ 1
   now_one = ap (λ (s : StoreView). s.shape.times) so.rest ∙ one
 
@@ -96,7 +97,7 @@ module _ (group : Cell) (rows : List Row) (row : Row) (old now new : StoreView) 
   more_rest : new ≡ record old { tables = new.tables; spare = new.spare }
   more_rest = a.rest ∙ ap (λ (s : StoreView). record s { tables = new.tables; spare = new.spare }) so.rest
 
-  row_cases : (v : Row) → Contains (rows ++ row ∷ []) v → Contains rows v ⊎ (row ≡ v)
+  row_cases : (v : MaximalRow) → Contains (rows ++ row ∷ []) v → Contains rows v ⊎ (row ≡ v)
   row_cases v l = elim (Contains-append_cases rows (row ∷ []) v l) [ inl k ↦ inl k | inr k ↦ inr (in_one row v k) ]
 
   far : ((c : Cell) → c.texts ≡ group.texts → zones_at old c ≡ []) → ((c : Cell) → AllPairs IsFarBelow (zones_at old c)) → (c : Cell) → AllPairs IsFarBelow (zones_at new c)
@@ -140,7 +141,7 @@ holds_none periods lists s none = record {
   from = λ g x l h. absurd (in_none g l);
 }
 
-module _ (periods : Periods) (lists : SpanLists) (done : List Cell) (group : Cell) (spans : List Span) (rows : List Row) (s new : StoreView) (is : IsStore s) (one : s.shape.times ≡ 1) (period : s.period ≡ periods.least) (holds : HoldsGroups periods lists done s)
+module _ (periods : Periods) (lists : SpanLists) (done : List Cell) (group : Cell) (spans : List Span) (rows : List MaximalRow) (s new : StoreView) (is : IsStore s) (one : s.shape.times ≡ 1) (period : s.period ≡ periods.least) (holds : HoldsGroups periods lists done s)
     (merged : AreMerged (list_at lists group) spans) (are : AreRowsOf (SpansHaveNumber periods.whole spans) periods.least rows) (a : AddsRows group rows s new)
     (apart : (g : Cell) (p q : Span) → Contains done g → Contains (list_at lists g) p → Contains (list_at lists group) q → g.texts ≡ group.texts → ⊥) (q : Span) (some : Contains (list_at lists group) q) where
   -- no zone has the texts of the group yet
@@ -148,7 +149,7 @@ module _ (periods : Periods) (lists : SpanLists) (done : List Cell) (group : Cel
   no_zone c e [] f = refl
   no_zone c e (z ∷ zs) f =
       let h : Contains (zones_at s c) z = subst (λ l. Contains l z) (sym f) (head_in z zs) in
-      let t = in_map (zone_of s c) (tables_at s c) z h in
+      let t = from_map (zone_of s c) (tables_at s c) z h in
       let valid : IsZone z = subst IsZone t.2 (zone_held s is c t.0 t.1) in
       let col : columns_of z ≡ 1 = zone_column s is one c z h in
       absurd (at h valid.some.member valid.some.is (valid.some.is.cell.count ∙ col))
@@ -222,17 +223,17 @@ pub next_key : (lists : SpanLists) (done : List Cell) (group : Cell) (rest : Lis
 next_key lists done group rest e = subst (λ xs. Contains xs group) e (Contains-append_right done (group ∷ rest) group (head_in group rest))
 
 -- one more of the rows
-pub adds_next : (group : Cell) (period : ℕ) (rows : List Row) (i : ℕ) (d : Row) (old now new : StoreView) → i < length rows → old.period ≡ period → old.shape.times ≡ 1 → AllPairs (LieApart period) rows → AddsRow group (get_or rows i d) now new
+pub adds_next : (group : Cell) (period : ℕ) (rows : List MaximalRow) (i : ℕ) (d : MaximalRow) (old now new : StoreView) → i < length rows → old.period ≡ period → old.shape.times ≡ 1 → AllPairs (LieApart period) rows → AddsRow group (get_or rows i d) now new
     → AddsRows group (take i rows) old now → AddsRows group (take (i + 1) rows) old new
 adds_next group period rows i d old now new l e one apart a so = subst (λ rs. AddsRows group rs old new) (sym (take_more rows i d l))
     (adds_more group (take i rows) (get_or rows i d) old now new one so a
     (λ v h. subst (λ p. LieApart p v (get_or rows i d)) (sym e) (before (LieApart period) rows i (get_or rows i d) apart l (get_or_default rows i d (get_or rows i d) l) v h)))
 
 -- the store still takes rows
-pub period_on : (group : Cell) (rows : List Row) (old now : StoreView) (period : ℕ) → old.period ≡ period → AddsRows group rows old now → now.period ≡ period
+pub period_on : (group : Cell) (rows : List MaximalRow) (old now : StoreView) (period : ℕ) → old.period ≡ period → AddsRows group rows old now → now.period ≡ period
 period_on group rows old now period e a = ap (λ (s : StoreView). s.period) a.rest ∙ e
 
-pub takes_on : (group : Cell) (rows : List Row) (old now : StoreView) → TakesRows group old → AddsRows group rows old now → TakesRows group now
+pub takes_on : (group : Cell) (rows : List MaximalRow) (old now : StoreView) → TakesRows group old → AddsRows group rows old now → TakesRows group now
 takes_on group rows old now t a = record {
   column = ap (λ (s : StoreView). s.shape.times) a.rest ∙ t.column;
   texts = subst (λ n. IsPadded 0 n group.texts) (sym (ap (λ (s : StoreView). s.shape.texts) a.rest)) t.texts;
@@ -253,7 +254,7 @@ key_takes shape lists are filled done group rest left el e s es =
 
 -- one more of the keys
 pub holds_next : (periods : Periods) (shape : Shape) (lists : SpanLists) → AreGroupCells shape lists → AllPairs ◌≢◌ (finite.keys lists) → ((c : Cell) → finite.get lists c ≢ Some []) → (done : List Cell) (group : Cell) (rest left : List Cell) → left ≡ group ∷ rest → done ++ left ≡ finite.keys lists
-    → (spans : List Span) (rows : List Row) (s new : StoreView) → IsStore s → s.shape ≡ shape → s.period ≡ periods.least → AreMerged (list_at lists group) spans → AreRowsOf (SpansHaveNumber periods.whole spans) periods.least rows → AddsRows group rows s new
+    → (spans : List Span) (rows : List MaximalRow) (s new : StoreView) → IsStore s → s.shape ≡ shape → s.period ≡ periods.least → AreMerged (list_at lists group) spans → AreRowsOf (SpansHaveNumber periods.whole spans) periods.least rows → AddsRows group rows s new
     → HoldsGroups periods lists done s → HoldsGroups periods lists (done ++ group ∷ []) new
 holds_next periods shape lists are apart filled done group rest left el e spans rows s new is es ep merged of a holds =
     let f : done ++ group ∷ rest ≡ finite.keys lists = ap (λ xs. done ++ xs) (sym el) ∙ e in
@@ -261,10 +262,10 @@ holds_next periods shape lists are apart filled done group rest left el e spans 
     holds_more periods lists done group spans rows s new is (ap (λ (h : Shape). h.times) es ∙ are.column) ep holds merged of a (λ g u v l lu lv t. next_apart shape lists are apart done group rest f g u v l lu lv t) p.0 p.1
 
 -- the shape and the period stay
-pub same_shape : (group : Cell) (rows : List Row) (old new : StoreView) → AddsRows group rows old new → new.shape ≡ old.shape
+pub same_shape : (group : Cell) (rows : List MaximalRow) (old new : StoreView) → AddsRows group rows old new → new.shape ≡ old.shape
 same_shape group rows old new a = ap (λ (s : StoreView). s.shape) a.rest
 
-pub same_period : (group : Cell) (rows : List Row) (old new : StoreView) → AddsRows group rows old new → new.period ≡ old.period
+pub same_period : (group : Cell) (rows : List MaximalRow) (old new : StoreView) → AddsRows group rows old new → new.period ≡ old.period
 same_period group rows old new a = ap (λ (s : StoreView). s.period) a.rest
 
 -- ---- the cell of a row
@@ -288,7 +289,7 @@ row_times times group c r one e = subst (λ n. IsPadded (pos 0) n c.residues) (s
     zeros (suc (suc (suc (suc (suc (suc (suc zero))))))) l = refl
     zeros (suc (suc (suc (suc (suc (suc (suc (suc i)))))))) l = refl
 
-pub row_put : (group c : Cell) (row : Row) (period : ℕ) (z : ZoneView) (old new : StoreView) → old.period ≡ period → IsZoneOf period row z → c ≡ row_cell group row.residue → new.tables ≡ finite.insert old.tables c (tables_at old c ++ z.bounds ∷ []) → new ≡ record old { tables = new.tables; spare = new.spare } → AddsRow group row old new
+pub row_put : (group c : Cell) (row : MaximalRow) (period : ℕ) (z : ZoneView) (old new : StoreView) → old.period ≡ period → IsZoneOf period row z → c ≡ row_cell group row.residue → new.tables ≡ finite.insert old.tables c (tables_at old c ++ z.bounds ∷ []) → new ≡ record old { tables = new.tables; spare = new.spare } → AddsRow group row old new
 row_put group c row period z old new e is f t r = record {
   zone = z;
   is = subst (λ p. IsZoneOf p row z) (sym e) is;

@@ -32,6 +32,7 @@ use Rattle.lrp_model.specs.declared.relations.Value.{Value}
 use Rattle.lrp_model.specs.declared.relations.Value.TheVariants.{Const, Point}
 use Rattle.lrp_model.proofs.Ascending.{all_at}
 use Rattle.lrp_spans.proofs.Lists.{head_in, in_cons, in_none, later, pairs_head, pairs_right}
+use Rattle.lrp_store.proofs.Unions.{one_number}
 
 -- ---- lists in a strict order are fixed by their elements
 first_same : {X : Type 0} (R : X → X → Type 0) (x y : X) (xs ys : List X) → ((a b : X) → Contains (x ∷ xs) a → Contains (x ∷ xs) b → R a b → R b a → ⊥) → AllPairs R (x ∷ xs) → AllPairs R (y ∷ ys) → (y ≡ x) ⊎ Contains ys x → (x ≡ y) ⊎ Contains xs y → x ≡ y
@@ -195,11 +196,6 @@ times_size M [] (d ∷ tuple) h = absurd h
 times_size M (c ∷ columns) [] h = absurd h
 times_size M (c ∷ columns) (d ∷ tuple) h = more_times M c.sort d tuple (time_count columns) h.0 (times_size M columns tuple h.1) ∙ sym (times_more c columns)
 
-one_time : (xs : List ℤ) → length xs ≡ 1 → (x : ℤ) × (xs ≡ x ∷ [])
-one_time [] e = absurd (omega (arith, e))
-one_time (x ∷ []) e = (x, refl)
-one_time (x ∷ y ∷ xs) e = absurd (omega (arith, e))
-
 -- ---- the order of rows
 rows_total : IsTotalOrder row_cell_cmp
 rows_total = then_total (on_total (λ r. value_texts r.values) (lists_total nat_list_cmp_total)) (on_total (λ r. value_residues r.values) (lists_total int_cmp_total))
@@ -310,7 +306,7 @@ module _ (K : ℕ) (db : List Relation) (q : Question) (one : time_count q.head 
   held t w = let h = (is.holds t).0 w in (h.0, subst (λ rs. Contains rs h.0) own_rows h.1, h.2)
 
   time_of : (t : List Datum) → IsAnswer db q t → (x : ℤ) × (times_of t ≡ x ∷ [])
-  time_of t w = one_time (times_of t) (times_size (structure db q) q.head t w.fits ∙ one)
+  time_of t w = one_number (times_of t) (times_size (structure db q) q.head t w.fits ∙ one)
 
   apart : AllPairs (λ r s. OfOneCell r s → IsApart K r s) answer.rows
   apart = subst (λ m. AllPairs (λ r s. OfOneCell r s → MayStandBeside (IsAnswer db q) K m r s) answer.rows) one is.beside

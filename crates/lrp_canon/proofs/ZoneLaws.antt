@@ -23,13 +23,16 @@ use Rattle.lrp_list.proofs.Lists.{from_flat, in_flat}
 use Rattle.lrp_spans.specs.Groups.{HoldsNumber}
 use Rattle.lrp_spans.proofs.GroupLaws.{zone_column, zone_period}
 use Rattle.lrp_zone.proofs.Lines.{in_line, line_cell, line_high, line_low}
-use Rattle.lrp_spans.proofs.Lists.{head_in, in_cons, in_map, in_none, in_one, later, map_in, one_in, pairs_none, pairs_one}
+use Rattle.lrp_spans.proofs.Lists.{head_in, in_cons, in_none, in_one, later, one_in, pairs_none, pairs_one}
 use Rattle.lrp_canon.specs.Canonical.{IsCanonical, IsCanonicalOf}
 use Rattle.lrp_canon.specs.Rows.{AreJust, HasRowCount, IsOpenBelow, IsStart, Moment}
 use Rattle.lrp_canon.proofs.CountLaws.{count_moved, one_row_count}
 use Rattle.lrp_canon.proofs.RowMaking.{deep}
 use Rattle.lrp_canon.proofs.TextLaws.{either}
-use Rattle.lrp_canon.proofs.ZoneSums.{flat_length, keys_differ, pairs_flat, sum_of_ones, zones_by_cells}
+use Rattle.lrp_store.proofs.ZoneCounts.{keys_differ, zones_by_cells}
+use Rattle.lrp_canon.proofs.ZoneSums.{flat_length, pairs_flat, sum_of_ones}
+use Rattle.lrp_theory.proofs.Members.{from_map, in_map}
+use Rattle.lrp_minus.proofs.IntervalLaws.{less_high, more_low}
 
 -- ---- where a zone of one column begins
 abbrev begin_of : ZoneView → Option ℤ
@@ -42,14 +45,6 @@ negated (Some b) a e = let f : neg_ℤ b ≡ a = cc in let g : b ≡ neg_ℤ a =
 not_negated : (e : Option ℤ) → negation e ≡ None → e ≡ None
 not_negated None e = refl
 not_negated (Some b) e = cc
-
-less_high : (x y : ℤ) (e : Option ℤ) → x ≤ℤ y → Within (y -ℤ pos 0) e → Within (x -ℤ pos 0) e
-less_high x y None l h = tt
-less_high x y (Some a) l h = omega (arith, ints, l, h)
-
-more_low : (x y : ℤ) (e : Option ℤ) → x ≤ℤ y → Within (pos 0 -ℤ x) e → Within (pos 0 -ℤ y) e
-more_low x y None l h = tt
-more_low x y (Some a) l h = omega (arith, ints, l, h)
 
 module _ (z : ZoneView) (valid : IsZone z) (one : columns_of z ≡ 1) where
   some_number : (x : ℤ) × IsMember z (x ∷ [])
@@ -145,19 +140,19 @@ module _ (s : StoreView) (h : IsCanonical s) (room : HasRoom s) where
   low = h.valid.period_low
 
   is_zone : (c : Cell) (z : ZoneView) → Contains (zones_at s c) z → IsZone z
-  is_zone c z m = let t = in_map (zone_of s c) (tables_at s c) z m in subst IsZone t.2 (zone_held s h.valid c t.0 t.1)
+  is_zone c z m = let t = from_map (zone_of s c) (tables_at s c) z m in subst IsZone t.2 (zone_held s h.valid c t.0 t.1)
 
   proper : (c : Cell) (z : ZoneView) → Contains (zones_at s c) z → IsCellOf s.shape s.period c
-  proper c z m = let t = in_map (zone_of s c) (tables_at s c) z m in cell_held s h.valid c t.0 t.1
+  proper c z m = let t = from_map (zone_of s c) (tables_at s c) z m in cell_held s h.valid c t.0 t.1
 
   one_column : (c : Cell) (z : ZoneView) → Contains (zones_at s c) z → columns_of z ≡ 1
   one_column c z m = zone_column s h.valid h.column c z m
 
   room_of : (c : Cell) (z : ZoneView) → Contains (zones_at s c) z → (k : ℕ) × IsRoom z k
-  room_of c z m = let t = in_map (zone_of s c) (tables_at s c) z m in subst (λ v. (k : ℕ) × IsRoom v k) t.2 (room.each c t.0 t.1)
+  room_of c z m = let t = from_map (zone_of s c) (tables_at s c) z m in subst (λ v. (k : ℕ) × IsRoom v k) t.2 (room.each c t.0 t.1)
 
   residue_is : (c : Cell) (z : ZoneView) → Contains (zones_at s c) z → node z.residues 1 ≡ node c.residues 1
-  residue_is c z m = let t = in_map (zone_of s c) (tables_at s c) z m in ap (λ (v : ZoneView). node v.residues 1) (sym t.2) ∙ node_take s.shape.times c.residues 1 (let e : s.shape.times ≡ 1 = h.column in omega (arith, e))
+  residue_is c z m = let t = from_map (zone_of s c) (tables_at s c) z m in ap (λ (v : ZoneView). node v.residues 1) (sym t.2) ∙ node_take s.shape.times c.residues 1 (let e : s.shape.times ≡ 1 = h.column in omega (arith, e))
 
   -- the numbers of a zone have its cell's residue, and all of it are in its cell
   to_cell : (c : Cell) (z : ZoneView) → Contains (zones_at s c) z → (x : ℤ) → IsMember z (x ∷ []) → Divides (pos s.period) (x -ℤ node c.residues 1)
@@ -181,7 +176,7 @@ module _ (s : StoreView) (h : IsCanonical s) (room : HasRoom s) where
       each (suc (suc i)) l = absurd (omega (arith, l))
 
   in_store : (c : Cell) (z : ZoneView) → Contains (zones_at s c) z → (x : ℤ) → IsMember z (x ∷ []) → HoldsNumber s x (named c)
-  in_store c z m x i = let t = in_map (zone_of s c) (tables_at s c) z m in record { cell = c; table = t.0; held = t.1; named = refl; inside = subst (λ v. IsMember v (x ∷ [])) (sym t.2) i }
+  in_store c z m x i = let t = from_map (zone_of s c) (tables_at s c) z m in record { cell = c; table = t.0; held = t.1; named = refl; inside = subst (λ v. IsMember v (x ∷ [])) (sym t.2) i }
 
   -- cells with one residue and the same texts are one
   cells_meet : (c d : Cell) → IsCellOf s.shape s.period c → IsCellOf s.shape s.period d → (x : ℤ) → Divides (pos s.period) (x -ℤ node c.residues 1) → Divides (pos s.period) (x -ℤ node d.residues 1) → named c ≡ named d → c ≡ d
@@ -193,8 +188,8 @@ module _ (s : StoreView) (h : IsCanonical s) (room : HasRoom s) where
 
   of_cell : (c : Cell) (v w : ZoneView) → Contains (zones_at s c) v → Contains (zones_at s c) w → IsOfCell v w
   of_cell c v w m n =
-      let t = in_map (zone_of s c) (tables_at s c) v m in
-      let u = in_map (zone_of s c) (tables_at s c) w n in
+      let t = from_map (zone_of s c) (tables_at s c) v m in
+      let u = from_map (zone_of s c) (tables_at s c) w n in
       record { period = zone_period s c w n ∙ sym (zone_period s c v m); residues = ap (λ (y : ZoneView). y.residues) (sym u.2) ∙ ap (λ (y : ZoneView). y.residues) t.2 }
 
   zones_far : (c : Cell) → AllPairs IsFar (zones_at s c)
@@ -257,7 +252,7 @@ module _ (s : StoreView) (h : IsCanonical s) (room : HasRoom s) where
   none_before c p b g =
       let d : Cell = g.cell in
       let w : ZoneView = zone_of s d g.table in
-      let n : Contains (zones_at s d) w = map_in (zone_of s d) (tables_at s d) g.table g.held in
+      let n : Contains (zones_at s d) w = in_map (zone_of s d) (tables_at s d) g.table g.held in
       let x : ℤ = b.number -ℤ pos s.period in
       let e : d ≡ c = cells_meet d c (proper d w n) (proper c b.zone b.held) x (to_cell d w n x g.inside) (stepped c b.number x (one_before b.number) (to_cell c b.zone b.held b.number (begins_in c p b))) g.named in
       clash w (subst (λ q. Contains (zones_at s q) w) e n) g.inside
@@ -304,7 +299,7 @@ module _ (s : StoreView) (h : IsCanonical s) (room : HasRoom s) where
   start_from p i =
       let c : Cell = i.inside.cell in
       let z : ZoneView = zone_of s c i.inside.table in
-      let m : Contains (zones_at s c) z = map_in (zone_of s c) (tables_at s c) i.inside.table i.inside.held in
+      let m : Contains (zones_at s c) z = in_map (zone_of s c) (tables_at s c) i.inside.table i.inside.held in
       let e : begin_of z ≡ Some p.number = begin_found c z m p.number i.inside.inside (λ g. i.first (subst (HoldsNumber s (p.number -ℤ pos s.period)) i.inside.named g)) in
       let f : at p.number (named c) ≡ p = ap (λ ts. at p.number ts) i.inside.named in
       subst (Contains (flat_map (λ d. flat_map (λ w. start_in (named d) (begin_of w)) (zones_at s d)) (finite.keys s.tables))) f
@@ -409,7 +404,7 @@ module _ (s : StoreView) (h : IsCanonical s) (room : HasRoom s) where
         let f : lesser bound (b.0 -ℤ pos 1) ≤ℤ bound = lesser_left bound (b.0 -ℤ pos 1) in
         let g : lesser bound (b.0 -ℤ pos 1) ≤ℤ (b.0 -ℤ pos 1) = lesser_right bound (b.0 -ℤ pos 1) in
         let o = all k.0 (omega (arith, ints, l, f)) k.3 in
-        let n : Contains (zones_at s o.cell) (zone_of s o.cell o.table) = map_in (zone_of s o.cell) (tables_at s o.cell) o.table o.held in
+        let n : Contains (zones_at s o.cell) (zone_of s o.cell o.table) = in_map (zone_of s o.cell) (tables_at s o.cell) o.table o.held in
         let e : o.cell ≡ c = cells_meet o.cell c (proper o.cell (zone_of s o.cell o.table) n) (proper c z m) k.0 (to_cell o.cell (zone_of s o.cell o.table) n k.0 o.inside) k.3 o.named in
         let d : b.0 ≤ℤ k.0 = b.1 (zone_of s o.cell o.table) (subst (λ q. Contains (zones_at s q) (zone_of s o.cell o.table)) e n) k.0 o.inside in
         absurd (omega (arith, ints, l, g, d)))
@@ -432,7 +427,7 @@ module _ (s : StoreView) (h : IsCanonical s) (room : HasRoom s) where
       let o = i.all k.0 k.1 k.3 in
       let c : Cell = o.cell in
       let z : ZoneView = zone_of s c o.table in
-      let m : Contains (zones_at s c) z = map_in (zone_of s c) (tables_at s c) o.table o.held in
+      let m : Contains (zones_at s c) z = in_map (zone_of s c) (tables_at s c) o.table o.held in
       let one : s.shape.times ≡ 1 = h.column in
       let r : node c.residues 1 ≡ p.number = residue_same (node c.residues 1) p.number k.0 ((proper c z m).range 1 (omega (arith, one))) i.residue (to_cell c z m k.0 o.inside) k.3 in
       let w = endless_held c z m i.bound (λ x l d. subst (HoldsNumber s x) (sym o.named) (i.all x l (subst (λ q. Divides (pos s.period) (x -ℤ q)) r d))) in

@@ -17,10 +17,10 @@ use Rattle.lrp_spans.specs.Groups.{SpanLists}
 use Rattle.lrp_spans.specs.Spans.{SpansHaveNumber}
 use Rattle.lrp_canon.specs.declared.edges.Edge.{Edge}
 use Rattle.lrp_canon.specs.declared.edges.Periods.{Periods}
-use Rattle.lrp_canon.specs.declared.rows.Row.{Row}
+use Rattle.lrp_canon.specs.declared.rows.MaximalRow.{MaximalRow}
 
 -- x has the row's residue modulo the period, and lies between its ends
-pub record IsInside (period : ℕ) (row : Row) (x : ℤ) : Type 0 where
+pub record IsInside (period : ℕ) (row : MaximalRow) (x : ℤ) : Type 0 where
   pub residue : Divides (pos period) (x -ℤ pos row.residue)
   pub low : Above x row.least
   pub high : Within x row.most
@@ -31,7 +31,7 @@ IsRowEnd period r None = Unit {0}
 IsRowEnd period r (Some a) = Divides (pos period) (a -ℤ pos r) × AtMost (2 ^ 62) (Some a)
 
 -- the row has a residue, ends of it, and some number
-pub record IsRow (period : ℕ) (row : Row) : Type 0 where
+pub record IsRow (period : ℕ) (row : MaximalRow) : Type 0 where
   pub below : row.residue < period
   pub least : IsRowEnd period row.residue row.least
   pub most : IsRowEnd period row.residue row.most
@@ -39,15 +39,15 @@ pub record IsRow (period : ℕ) (row : Row) : Type 0 where
   pub is : IsInside period row number
 
 -- two rows have different residues, or some number of the residue lies between those of the first and of the second
-pub record LieApart (period : ℕ) (v w : Row) : Type 0 where
+pub record LieApart (period : ℕ) (v w : MaximalRow) : Type 0 where
   pub far : v.residue ≡ w.residue → (x y : ℤ) → IsInside period v x → IsInside period w y → (x +ℤ pos period) <ℤ y
 
 -- the rows hold just the numbers of the set, and lie apart
-pub record AreRowsOf (set : ℤ → Type 0) (period : ℕ) (rows : List Row) : Type 0 where
-  pub each : (row : Row) → Contains rows row → IsRow period row
+pub record AreRowsOf (set : ℤ → Type 0) (period : ℕ) (rows : List MaximalRow) : Type 0 where
+  pub each : (row : MaximalRow) → Contains rows row → IsRow period row
   pub apart : AllPairs (LieApart period) rows
-  pub to : (row : Row) (x : ℤ) → Contains rows row → IsInside period row x → set x
-  pub from : (x : ℤ) → set x → (row : Row) × Contains rows row × IsInside period row x
+  pub to : (row : MaximalRow) (x : ℤ) → Contains rows row → IsInside period row x → set x
+  pub from : (x : ℤ) → set x → (row : MaximalRow) × Contains rows row × IsInside period row x
 
 -- the number is that of an edge of this residue which is no sooner than the start
 pub record IsEdgeAhead (stops : List Edge) (start : Edge) (y : ℤ) : Type 0 where
@@ -60,7 +60,7 @@ EndsAt period stops start None = (y : ℤ) → IsEdgeAhead stops start y → ⊥
 EndsAt period stops start (Some b) = IsEdgeAhead stops start (b +ℤ pos period) × ((y : ℤ) → IsEdgeAhead stops start y → (b +ℤ pos period) ≤ℤ y)
 
 -- the row begins at the edge and goes on to the first stop
-pub record IsRowFrom (period : ℕ) (stops : List Edge) (start : Edge) (row : Row) : Type 0 where
+pub record IsRowFrom (period : ℕ) (stops : List Edge) (start : Edge) (row : MaximalRow) : Type 0 where
   pub residue : row.residue ≡ start.residue
   pub least : row.least ≡ start.number
   pub most : EndsAt period stops start row.most
@@ -75,7 +75,7 @@ high_of None = record { left = 0; right = 0; most = pos 0 }
 high_of (Some a) = record { left = 1; right = 0; most = a }
 
 -- the zone has the row's period and residue, and just its numbers
-pub record IsZoneOf (period : ℕ) (row : Row) (z : ZoneView) : Type 0 where
+pub record IsZoneOf (period : ℕ) (row : MaximalRow) (z : ZoneView) : Type 0 where
   pub valid : IsZone z
   pub same : z.period ≡ period
   pub residues : z.residues ≡ pos row.residue ∷ []
@@ -88,31 +88,31 @@ abbrev pub row_cell : Cell → ℕ → Cell
 row_cell group r = record { texts = group.texts; residues = pos r ∷ pos 0 ∷ pos 0 ∷ pos 0 ∷ pos 0 ∷ pos 0 ∷ pos 0 ∷ pos 0 ∷ [] }
 
 -- the zone is that of one of the rows, and the cell that of this row
-pub record IsRowZone (group : Cell) (rows : List Row) (period : ℕ) (cell : Cell) (z : ZoneView) : Type 0 where
-  pub row : Row
+pub record IsRowZone (group : Cell) (rows : List MaximalRow) (period : ℕ) (cell : Cell) (z : ZoneView) : Type 0 where
+  pub row : MaximalRow
   pub listed : Contains rows row
   pub named : cell ≡ row_cell group row.residue
   pub is : IsZoneOf period row z
 
 -- the row's zone is in its cell
-pub record HasRowZone (s : StoreView) (group : Cell) (row : Row) : Type 0 where
+pub record HasRowZone (s : StoreView) (group : Cell) (row : MaximalRow) : Type 0 where
   pub zone : ZoneView
   pub held : Contains (zones_at s (row_cell group row.residue)) zone
   pub is : IsZoneOf s.period row zone
 
 -- the new store has one more zone, which is that of the row, at the end of the row's cell
-pub record AddsRow (group : Cell) (row : Row) (old new : StoreView) : Type 0 where
+pub record AddsRow (group : Cell) (row : MaximalRow) (old new : StoreView) : Type 0 where
   pub zone : ZoneView
   pub is : IsZoneOf old.period row zone
   pub tables : new.tables ≡ finite.insert old.tables (row_cell group row.residue) (tables_at old (row_cell group row.residue) ++ zone.bounds ∷ [])
   pub rest : new ≡ record old { tables = new.tables; spare = new.spare }
 
 -- the new store has the zones of the old one, and behind them those of the rows with the group's texts
-pub record AddsRows (group : Cell) (rows : List Row) (old new : StoreView) : Type 0 where
+pub record AddsRows (group : Cell) (rows : List MaximalRow) (old new : StoreView) : Type 0 where
   pub rest : new ≡ record old { tables = new.tables; spare = new.spare }
   pub to : (cell : Cell) (z : ZoneView) → Contains (zones_at new cell) z → Contains (zones_at old cell) z ⊎ IsRowZone group rows old.period cell z
   pub kept : (cell : Cell) (z : ZoneView) → Contains (zones_at old cell) z → Contains (zones_at new cell) z
-  pub from : (row : Row) → Contains rows row → HasRowZone new group row
+  pub from : (row : MaximalRow) → Contains rows row → HasRowZone new group row
   pub far : ((cell : Cell) → cell.texts ≡ group.texts → zones_at old cell ≡ []) → ((cell : Cell) → AllPairs IsFarBelow (zones_at old cell)) → (cell : Cell) → AllPairs IsFarBelow (zones_at new cell)
 
 -- x is a number of the spans of one of the groups, which has the cell's texts

@@ -2,7 +2,7 @@
 use Rattle.std.specs.Prelude.{◌≡◌, ℕ, ℤ, ◌^◌, ◌<◌, ◌≤◌, List, length, Some, AllPairs, Contains, get_or}
 use Rattle.lrp_theory.specs.Entries.{AtMost}
 use Rattle.lrp_canon.specs.declared.edges.Edge.{Edge}
-use Rattle.lrp_canon.specs.declared.rows.Row.{Row}
+use Rattle.lrp_canon.specs.declared.rows.MaximalRow.{MaximalRow}
 use Rattle.lrp_canon.specs.Edges.{IsEarlier}
 use Rattle.lrp_canon.specs.Making.{IsRowFrom}
 
@@ -13,6 +13,6 @@ pub record AreStopEdges (period : ℕ) (stops : List Edge) : Type 0 where
   pub numbers : (e : Edge) → Contains stops e → (y : ℤ) × (e.number ≡ Some y) × AtMost (2 ^ 62) (Some y)
 
 -- the rows begin at the starts, one after another
-pub record AreRowsFrom (period : ℕ) (stops starts : List Edge) (rows : List Row) : Type 0 where
+pub record AreRowsFrom (period : ℕ) (stops starts : List Edge) (rows : List MaximalRow) : Type 0 where
   pub count : length rows ≡ length starts
-  pub each : (i : ℕ) (e : Edge) (row : Row) → i < length starts → IsRowFrom period stops (get_or starts i e) (get_or rows i row)
+  pub each : (i : ℕ) (e : Edge) (row : MaximalRow) → i < length starts → IsRowFrom period stops (get_or starts i e) (get_or rows i row)

@@ -8,10 +8,11 @@ ghost use Rattle.lrp_canon.specs.Canonical.{CanMakeCanonical, HasCanonicalZones,
 use crate::counting::rows_of;
 use crate::edges::Periods;
 use crate::storing::rows_in_store;
+use lrp_answers::Answer;
 use lrp_model::{Copies, Memory, Shape};
 use lrp_slots::Slots;
 use lrp_spans::{Span, groups_of, period_of};
-use lrp_store::{Answer, Store};
+use lrp_store::Store;
 use std::alloc::Global;
 
 /// The same answers over the least period with which finitely many rows give them, in maximal rows.

@@ -13,14 +13,18 @@ use std::alloc::Global;
 
 /// The numbers of a residue from one end to another, both included. `None` is no end.
 #[derive(Clone, Copy)]
-pub struct Row {
+pub struct MaximalRow {
     pub residue: u64,
     pub least: Option<i64>,
     pub most: Option<i64>,
 }
 
 /// The maximal rows of the numbers of spans, by residues and ascending.
-pub fn maximal_rows(alloc: Global, spans: &[Span], periods: Periods) -> Result<Vec<Row>, Memory>
+pub fn maximal_rows(
+    alloc: Global,
+    spans: &[Span],
+    periods: Periods,
+) -> Result<Vec<MaximalRow>, Memory>
     requires { AreRepeating periods spans.now }
     ensures { IfOk result (λ made. AreRowsOf
         (SpansHaveNumber periods.whole spans.now) periods.least made.items) }
@@ -31,7 +35,12 @@ pub fn maximal_rows(alloc: Global, spans: &[Span], periods: Periods) -> Result<V
 }
 
 // The rows from each start to the first stop of its residue that does not come before it.
-fn paired(alloc: Global, starts: &[Edge], stops: &[Edge], period: u64) -> Result<Vec<Row>, Memory>
+fn paired(
+    alloc: Global,
+    starts: &[Edge],
+    stops: &[Edge],
+    period: u64,
+) -> Result<Vec<MaximalRow>, Memory>
     requires starts { AllPairs IsEarlier starts.now }
     requires stops { AreStopEdges period stops.now }
     ensures { IfOk result (λ made. AreRowsFrom period stops.now starts.now made.items) }
@@ -40,7 +49,7 @@ fn paired(alloc: Global, starts: &[Edge], stops: &[Edge], period: u64) -> Result
     let mut next = 0;
     for start in starts {
         next = passed(stops, next, start);
-        made.push(Row {
+        made.push(MaximalRow {
             residue: start.residue,
             least: start.number,
             most: end_at(stops, next, start, period),

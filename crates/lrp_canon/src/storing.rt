@@ -5,10 +5,10 @@ ghost use Rattle.lrp_theory.specs.Entries.{AtMost};
 ghost use Rattle.lrp_store.specs.Stores.{IsStore};
 ghost use Rattle.lrp_canon.specs.Counting.{AreRepeatingGroups};
 ghost use Rattle.lrp_canon.specs.Making.{AddsRow, AddsRows, AreGroupCells, HoldsGroups, IsRow, IsZoneOf, LieApart, TakesRows, high_of, low_of, row_cell};
-ghost use Rattle.lrp_canon.specs.declared.rows.Row.{Row as RowValue};
+ghost use Rattle.lrp_canon.specs.declared.rows.MaximalRow.{MaximalRow as RowValue};
 
 use crate::edges::Periods;
-use crate::rows::{Row, maximal_rows};
+use crate::rows::{MaximalRow, maximal_rows};
 use lrp_model::{Bound, Cell, Memory, Shape};
 use lrp_slots::Slots;
 use lrp_spans::{Span, spans_at};
@@ -45,7 +45,7 @@ pub fn rows_in_store(
 }
 
 // Adds the rows to the cells of a group.
-fn add_rows(rows: &[Row], group: &Cell, period: u64, out: &mut Store) -> Result<(), Memory>
+fn add_rows(rows: &[MaximalRow], group: &Cell, period: u64, out: &mut Store) -> Result<(), Memory>
     requires period { out.old.period ≡ period }
     requires takes { TakesRows group.now out.old }
     requires rows { (row : RowValue) → Contains rows.now row → IsRow period row }
@@ -59,7 +59,7 @@ fn add_rows(rows: &[Row], group: &Cell, period: u64, out: &mut Store) -> Result<
 }
 
 // Adds a row to the cell of its residue.
-fn add_row(row: &Row, group: &Cell, period: u64, out: &mut Store) -> Result<(), Memory>
+fn add_row(row: &MaximalRow, group: &Cell, period: u64, out: &mut Store) -> Result<(), Memory>
     requires period { out.old.period ≡ period }
     requires takes { TakesRows group.now out.old }
     requires row { IsRow period row.now }
@@ -86,7 +86,7 @@ fn cell_of(group: &Cell, residue: u64) -> Cell
 }
 
 // The zone of a row.
-fn zone_of(row: &Row, period: u64) -> Zone
+fn zone_of(row: &MaximalRow, period: u64) -> Zone
     requires high { period ≤ 2 ^ 62 }
     requires row { IsRow period row.now }
     ensures { IsZoneOf period row.now result }

@@ -12,7 +12,8 @@ use Rattle.lrp_model.specs.declared.relations.Relation.{Relation}
 use Rattle.lrp_model.proofs.Resume.{tuples_total, before_trans}
 use Rattle.lrp_model.proofs.Unique.{one_page, exact_answers}
 use Rattle.lrp_eval.specs.Counts.{HasCells, HasAnswerCount}
-use Rattle.lrp_eval.proofs.Named.{all_of, all_by}
+use Rattle.lrp_eval.proofs.Named.{all_of}
+use Rattle.lrp_plan_laws.proofs.Members.{all_by}
 
 not_before : (o : Ordering) → o ≡ ordering_reverse o → o ≡ Less → ⊥
 not_before Less e h = cc

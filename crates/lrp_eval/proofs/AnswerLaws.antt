@@ -20,7 +20,7 @@ use Rattle.lrp_model.specs.Caps.{ManyAt, step_variables}
 use Rattle.lrp_model.proofs.DomainLaws.{in_order_ascends}
 use Rattle.lrp_store.specs.Stores.{IsStore}
 use Rattle.lrp_store.specs.Tables.{StoreHolds}
-use Rattle.lrp_store.specs.declared.table.Table.{Table}
+use Rattle.lrp_tables.specs.declared.table.Table.{Table}
 use Rattle.lrp_tables.specs.Columns.{head_times, head_texts}
 use Rattle.lrp_tables.specs.Caps.{InhabitsMoreThan}
 use Rattle.lrp_tables.specs.Tables.{Has}

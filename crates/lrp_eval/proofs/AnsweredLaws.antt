@@ -28,8 +28,8 @@ use Rattle.lrp_zone.specs.Pairs.{IsOfCell}
 use Rattle.lrp_store.specs.Stores.{StoreView, IsStore, InStore, HasReach, zone_of, tables_at, zones_at}
 use Rattle.lrp_store.specs.Settled.{AreSettled, InSome}
 use Rattle.lrp_store.specs.Tables.{AreNumbered, InAnswer}
-use Rattle.lrp_store.specs.declared.table.Table.{Table}
-use Rattle.lrp_store.specs.declared.answer.Answer.{Answer}
+use Rattle.lrp_tables.specs.declared.table.Table.{Table}
+use Rattle.lrp_answers.specs.declared.answer.Answer.{Answer}
 use Rattle.lrp_tables.specs.Columns.{with_time_name, text_name, head_times, head_texts}
 use Rattle.lrp_minus.specs.Settling.{IsSettlement, IsSmallZone}
 use Rattle.lrp_minus.specs.Differences.{greatest_reach}

@@ -5,16 +5,12 @@ use Rattle.std.specs.FinMap as finite
 use Rattle.std.specs.FinMap.{len-entries}
 use Rattle.std.proofs.lemmas.Bool.{cases_lt}
 use Rattle.std.proofs.lemmas.List.{length-map, length-take-le, take-append-drop}
-use Rattle.std.proofs.lemmas.Map.Made.{AllPairs-from_IsDistinct}
-use Rattle.std.proofs.lemmas.Map.Keys.{IsDistinct-from_sorted}
 use Rattle.lrp_model.specs.Texts.{Text, Ascends}
 use Rattle.lrp_model.specs.declared.tuples.Cell.{Cell}
-use Rattle.lrp_slots.specs.Lists.{cell_cmp}
-use Rattle.lrp_slots.proofs.Copying.{keys_ascend}
 use Rattle.lrp_store.specs.Stores.{StoreView, IsStore, InStore, IsInhabitedCell}
 use Rattle.lrp_store.specs.Growing.{InhabitsMany}
 use Rattle.lrp_store.specs.Tables.{AreNumbered}
-use Rattle.lrp_store.specs.declared.table.Table.{Table}
+use Rattle.lrp_tables.specs.declared.table.Table.{Table}
 use Rattle.lrp_store.proofs.Counted.{held_inhabited, first_of, key_held, not_many}
 use Rattle.lrp_tables.specs.Caps.{InhabitsMoreThan}
 use Rattle.lrp_tables.specs.Tables.{Has}
@@ -22,14 +18,10 @@ use Rattle.lrp_tables.proofs.CellsNamed.{many_named, many_placed}
 use Rattle.lrp_tables.proofs.Named.{pairs_left, pairs_right}
 use Rattle.lrp_tables.proofs.TableMade.{tuples_of}
 use Rattle.lrp_tables.proofs.Mapped.{many_map}
-use Rattle.lrp_eval.proofs.Denotes.{in_left}
-use Rattle.lrp_eval.proofs.Named.{all_by}
-use Rattle.lrp_eval.proofs.SettleLaws.{is_decided}
+use Rattle.lrp_store.proofs.ZoneCounts.{keys_differ}
+use Rattle.lrp_plan_laws.proofs.Members.{all_by, in_left}
 
 module _ (s : StoreView) (is : IsStore s) where
-  keys_differ : AllPairs ◌≢◌ (finite.keys s.tables)
-  keys_differ = AllPairs-from_IsDistinct is_decided (finite.keys s.tables) (IsDistinct-from_sorted cell_cmp (finite.keys s.tables) (keys_ascend s.tables))
-
   keys_counted : length (finite.keys s.tables) ≡ finite.len s.tables
   keys_counted = length-map (finite.entries s.tables) _ ∙ sym (len-entries s.tables)
 
@@ -52,7 +44,7 @@ module _ (s : StoreView) (is : IsStore s) where
     λ more. record {
       cells = take (cap + 1) (finite.keys s.tables);
       count = length-take-le (cap + 1) (finite.keys s.tables) (let n = keys_counted in omega (arith, n));
-      apart = pairs_left ◌≢◌ (take (cap + 1) (finite.keys s.tables)) (drop (cap + 1) (finite.keys s.tables)) (subst (AllPairs ◌≢◌) (sym (first_keys (cap + 1))) keys_differ);
+      apart = pairs_left ◌≢◌ (take (cap + 1) (finite.keys s.tables)) (drop (cap + 1) (finite.keys s.tables)) (subst (AllPairs ◌≢◌) (sym (first_keys (cap + 1))) (keys_differ s));
       each = all_by (IsInhabitedCell s.shape s.period (InStore s)) (take (cap + 1) (finite.keys s.tables))
           (λ c k. key_inhabited c (subst (λ l. Contains l c) (first_keys (cap + 1)) (in_left (take (cap + 1) (finite.keys s.tables)) (drop (cap + 1) (finite.keys s.tables)) c k)));
     },

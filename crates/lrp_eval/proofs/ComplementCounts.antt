@@ -17,7 +17,7 @@ use Rattle.lrp_model.specs.Variables.{time_variable}
 use Rattle.lrp_model.specs.declared.tuples.Cell.{Cell}
 use Rattle.lrp_model.proofs.Decided.{cons_cases, contains_first, contains_later, contains_none}
 use Rattle.lrp_store.specs.Stores.{HasReach, IsStore, LiesInCell}
-use Rattle.lrp_store.specs.declared.table.Table.{Table}
+use Rattle.lrp_tables.specs.declared.table.Table.{Table}
 use Rattle.lrp_store.proofs.Counted.{lies_in}
 use Rattle.lrp_tables.specs.Calls.{AreVariablesOf}
 use Rattle.lrp_tables.specs.Caps.{Inhabits, InhabitsMoreThan}
@@ -29,7 +29,7 @@ use Rattle.lrp_minus.proofs.Lists.{got_in}
 use Rattle.lrp_tables.proofs.Mapped.{Known, many_known, many_map}
 use Rattle.lrp_eval.specs.Together.{HasComplement, IsSmallComplement, ways_at, ways_for}
 use Rattle.lrp_eval.specs.declared.together.Sides.{Sides}
-use Rattle.lrp_eval.proofs.SettleLaws.{key_is}
+use Rattle.lrp_store.proofs.ZoneCounts.{key_is}
 use Rattle.lrp_eval.proofs.WayLaws.{below, few_numbers, first_same, second_same}
 
 -- ---- the number of choices

@@ -12,8 +12,8 @@ use Rattle.lrp_model.specs.Satisfaction.{Assignment, with_value}
 use Rattle.lrp_model.specs.declared.formulas.Test.{Test}
 use Rattle.lrp_model.proofs.Decided.{contains_none}
 use Rattle.lrp_store.specs.Stores.{HasReach}
-use Rattle.lrp_store.specs.declared.table.StepFault.{StepFault}
-use Rattle.lrp_store.specs.declared.table.Table.{Table}
+use Rattle.lrp_tables.specs.declared.table.StepFault.{StepFault}
+use Rattle.lrp_tables.specs.declared.table.Table.{Table}
 use Rattle.lrp_tables.specs.Calls.{AreVariablesOf, CanBeCarried, CanMeet, tests_reach}
 use Rattle.lrp_tables.specs.Columns.{joint}
 use Rattle.lrp_tables.specs.Steps.{CanJoin, CanMinus, IsJoinResult, IsMinusResult}
@@ -26,9 +26,9 @@ use Rattle.lrp_eval.specs.declared.together.Sides.{Sides}
 use Rattle.lrp_eval.proofs.ComplementCounts.{no_names, no_texts}
 use Rattle.lrp_eval.proofs.Named.{in_joint}
 use Rattle.lrp_eval.proofs.NarrowLaws.{from_joins, join_high, left_joins, moved, twice, word_is}
-use Rattle.lrp_eval.proofs.Reading.{reach_up}
 use Rattle.lrp_eval.proofs.ShownLaws.{more_of}
 use Rattle.lrp_eval.proofs.TogetherLaws.{joint_few, joint_known}
+use Rattle.lrp_algebra.proofs.Steps.{farther}
 
 -- ---- a period is its word
 
@@ -98,10 +98,10 @@ module _ {domain : List Text} {of : Sides} {name : Identifier} {period : ℤ} (c
   complement_small = l.reach (2 ^ 59) can.right_reach
 
   complement_reach : HasReach outside.store (2 ^ 62 - nat_abs period)
-  complement_reach = reach_up outside.store _ _ (let h = can.high in omega arith) complement_small
+  complement_reach = farther outside.store _ _ (let h = can.high in omega arith) complement_small
 
   from_reach : HasReach from_table.store (2 ^ 62 - 2 * nat_abs period)
-  from_reach = reach_up from_table.store (2 ^ 59) _ (let h = can.high in omega arith) can.from_reach
+  from_reach = farther from_table.store (2 ^ 59) _ (let h = can.high in omega arith) can.from_reach
 
   module _ {tests : List Test} (none : tests ≡ []) where
     no_tests_reach : tests_reach tests + nat_abs period ≤ 2 ^ 62
@@ -122,10 +122,10 @@ module _ {domain : List Text} {of : Sides} {name : Identifier} {period : ℤ} (c
       part_period = same_divides part.store.period p.period_is
 
       part_small : HasReach part.store (2 ^ 59 + 2 * nat_abs period + nat_abs period)
-      part_small = joined.reach (2 ^ 59 + 2 * nat_abs period) (record { left_reach = reach_up from_table.store (2 ^ 59) _ (omega arith) can.from_reach; right_reach = complement_small; tests_small = subst (λ ts. tests_reach ts ≤ 2 ^ 59 + 2 * nat_abs period) (sym none) (omega arith) })
+      part_small = joined.reach (2 ^ 59 + 2 * nat_abs period) (record { left_reach = farther from_table.store (2 ^ 59) _ (omega arith) can.from_reach; right_reach = complement_small; tests_small = subst (λ ts. tests_reach ts ≤ 2 ^ 59 + 2 * nat_abs period) (sym none) (omega arith) })
 
       part_reach : HasReach part.store (2 ^ 62 - nat_abs period)
-      part_reach = reach_up part.store _ _ (let h = can.high in omega arith) part_small
+      part_reach = farther part.store _ _ (let h = can.high in omega arith) part_small
 
       part_texts : part.vars.texts ≡ from_table.vars.texts
       part_texts = p.texts_are ∙ ap (λ ts. joint from_table.vars.texts ts) complement_plain
@@ -152,17 +152,17 @@ module _ {domain : List Text} {of : Sides} {name : Identifier} {period : ℤ} (c
         r = subst (λ ts. IsTableOf domain (joint part.vars.times left_table.vars.times) (joint part.vars.texts left_table.vars.texts) (nat_abs period) (IsJoined domain part left_table ts) rest) none again.table
 
         rest_small : HasReach rest.store (2 ^ 59 + 2 * nat_abs period + nat_abs period + nat_abs period)
-        rest_small = again.reach (2 ^ 59 + 2 * nat_abs period + nat_abs period) (record { left_reach = part_small; right_reach = reach_up left_table.store (2 ^ 59) _ (omega arith) can.left_reach; tests_small = subst (λ ts. tests_reach ts ≤ 2 ^ 59 + 2 * nat_abs period + nat_abs period) (sym none) (omega arith) })
+        rest_small = again.reach (2 ^ 59 + 2 * nat_abs period + nat_abs period) (record { left_reach = part_small; right_reach = farther left_table.store (2 ^ 59) _ (omega arith) can.left_reach; tests_small = subst (λ ts. tests_reach ts ≤ 2 ^ 59 + 2 * nat_abs period + nat_abs period) (sym none) (omega arith) })
 
         pub rest_reach : HasReach rest.store (2 ^ 61)
-        rest_reach = reach_up rest.store _ _ (let h = can.high in omega arith) rest_small
+        rest_reach = farther rest.store _ _ (let h = can.high in omega arith) rest_small
 
         module _ {taken : Table} (t : IsTimeDropped name rest taken) where
           taken_period : Divides (pos taken.store.period) period
           taken_period = same_divides taken.store.period (t.period ∙ r.period_is)
 
           taken_reach : HasReach taken.store (2 ^ 62 - 2 * nat_abs period)
-          taken_reach = reach_up taken.store _ _ (let h = can.high in omega arith) (t.reach _ rest_small)
+          taken_reach = farther taken.store _ _ (let h = can.high in omega arith) (t.reach _ rest_small)
 
           in_from : (v : Identifier) → Contains (joint (joint from_table.vars.times outside.vars.times) left_table.vars.times) v → bytes_eq name v ≡ false → Contains from_table.vars.times v
           in_from v c other = ⊎_elim (λ a. ⊎_elim (λ b. b) (λ k. can.times v (complement_times v k) other) ((in_joint from_table.vars.times outside.vars.times v).0 a)) (λ b. can.times v b other) ((in_joint (joint from_table.vars.times outside.vars.times) left_table.vars.times v).0 c)

@@ -1,7 +1,6 @@
 -- The cap of a step: the cells that a table's set inhabits are those of the step's formula.
-use Rattle.std.proofs.Common.{◌≡◌, ◌↔◌, ◌<◌, ℕ, zero, suc, List, [], ◌∷◌, length, slice_index_or, Some, Contains, refl, sym, subst, ◌∙◌, map, arith}
-use Rattle.std.proofs.lemmas.List.{length-map}
-use Rattle.std.specs.Prelude.{AllPairs, MatchOption}
+use Rattle.std.proofs.Common.{◌≡◌, ◌↔◌, ℕ, List, Some, Contains, sym, subst}
+use Rattle.std.specs.Prelude.{MatchOption}
 use Rattle.std.specs.List.{AllByRecursion}
 use Rattle.lrp_model.specs.Texts.{Text}
 use Rattle.lrp_model.specs.Formulas.{Form, Question}
@@ -17,7 +16,8 @@ use Rattle.lrp_tables.specs.Caps.{Inhabits}
 use Rattle.lrp_tables.proofs.Mapped.{many_map}
 use Rattle.lrp_eval.specs.Running.{HasConstants, SameVariables}
 use Rattle.lrp_eval.proofs.Denotes.{Set}
-use Rattle.lrp_eval.proofs.Named.{all_of, all_by}
+use Rattle.lrp_eval.proofs.Named.{all_of}
+use Rattle.lrp_plan_laws.proofs.Members.{all_by}
 
 all_from : {X : Type 0} (p : X → Type 0) (xs ys : List X) → ((x : X) → Contains ys x → Contains xs x) → AllByRecursion p xs → AllByRecursion p ys
 all_from p xs ys s h = all_by p ys (λ x c. all_of p xs x h (s x c))

@@ -15,6 +15,7 @@ use Rattle.lrp_model.specs.declared.formulas.Test.{Test}
 use Rattle.lrp_plan_laws.specs.Guards.{IsGuarded}
 use Rattle.lrp_eval.specs.Running.{HasConstants, SameVariables}
 use Rattle.lrp_model.proofs.Decided.{Decided, stable_of, cons_cases, contains_first, contains_later, contains_none}
+use Rattle.lrp_plan_laws.proofs.Members.{in_left, in_one, in_right}
 
 -- ---- what is said
 
@@ -66,20 +67,6 @@ abbrev pub IsExtend : List Text → List Variable → Set → Set → Type 0
 IsExtend domain vs of set = (env : Assignment) → set env ↔ (HasConstants domain vs env × of env)
 
 -- ---- lists
-
-pub in_left : {X : Type 0} (xs ys : List X) (x : X) → Contains xs x → Contains (xs ++ ys) x
-in_left [] ys x c = absurd (contains_none x c)
-in_left (y ∷ xs) ys x c = ⊎_elim (λ e. subst (λ z. Contains (y ∷ xs ++ ys) z) e (contains_first y (xs ++ ys))) (λ d. contains_later y x (xs ++ ys) (in_left xs ys x d)) (cons_cases y x xs c)
-
-pub in_right : {X : Type 0} (xs ys : List X) (x : X) → Contains ys x → Contains (xs ++ ys) x
-in_right [] ys x c = c
-in_right (y ∷ xs) ys x c = contains_later y x (xs ++ ys) (in_right xs ys x c)
-
-pub in_one : {X : Type 0} (xs ys : List X) (x : X) → Contains (xs ++ ys) x → Contains xs x ⊎ Contains ys x
-in_one [] ys x c = inr c
-in_one (y ∷ xs) ys x c =
-    ⊎_elim (λ e. inl (subst (λ z. Contains (y ∷ xs) z) e (contains_first y xs)))
-    (λ d. ⊎_elim (λ l. inl (contains_later y x xs l)) (λ r. inr r) (in_one xs ys x d)) (cons_cases y x (xs ++ ys) c)
 
 first_at : {X : Type 0} (b : Bool) (y x : X) (zs : List X) → b ≡ true → y ≡ x → Contains (cond b (y ∷ zs) zs) x
 first_at true y x zs e same = subst (λ z. Contains (y ∷ zs) z) same (contains_first y zs)

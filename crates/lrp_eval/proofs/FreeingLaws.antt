@@ -3,7 +3,7 @@ use Rattle.std.proofs.Common.{◌≡◌, ◌≢◌, ◌⊎◌, inl, inr, ⊎_eli
 use Rattle.std.specs.Prelude.{Contains}
 use Rattle.lrp_model.specs.declared.plans.Step.{Step}
 use Rattle.lrp_plan_laws.specs.Made.{operands}
-use Rattle.lrp_store.specs.declared.table.Table.{Table}
+use Rattle.lrp_tables.specs.declared.table.Table.{Table}
 use Rattle.lrp_minus.proofs.Lists.{below_or}
 use Rattle.lrp_eval.specs.Freeing.{AreLeft, AreNoted, IsDone, IsNoted}
 

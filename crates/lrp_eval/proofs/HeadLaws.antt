@@ -15,8 +15,8 @@ use Rattle.lrp_model.specs.declared.relations.Relation.{Relation}
 use Rattle.lrp_model.specs.declared.plans.StepKind.TheVariants.{Extend}
 use Rattle.lrp_store.specs.Stores.{HasReach}
 use Rattle.lrp_store.specs.Tables.{AreNumbered}
-use Rattle.lrp_store.specs.declared.table.StepFault.{StepFault}
-use Rattle.lrp_store.specs.declared.table.Table.{Table}
+use Rattle.lrp_tables.specs.declared.table.StepFault.{StepFault}
+use Rattle.lrp_tables.specs.declared.table.Table.{Table}
 use Rattle.lrp_tables.specs.Caps.{Inhabits, InhabitsMoreThan}
 use Rattle.lrp_tables.specs.Columns.{head_times, head_texts}
 use Rattle.lrp_tables.specs.Steps.{CanExtend, IsExtendResult}
@@ -28,10 +28,10 @@ use Rattle.lrp_plan_laws.proofs.Elements.{formula_front, formula_made}
 use Rattle.lrp_plan_laws.proofs.PlanSound.{steps_say}
 use Rattle.lrp_tables.proofs.Mapped.{many_map}
 use Rattle.lrp_eval.specs.Running.{HasConstants, variables_of, IsStepTable, IsOperand, IsNext, IsRunResult}
-use Rattle.lrp_eval.proofs.Denotes.{in_left, in_one}
-use Rattle.lrp_eval.proofs.Named.{all_by, head_columns, times_in_head, texts_in_head, time_named, data_named, are_texts}
+use Rattle.lrp_eval.proofs.Named.{head_columns, times_in_head, texts_in_head, time_named, data_named, are_texts}
 use Rattle.lrp_eval.proofs.Nexts.{IsRead, formula_kind, reach_kind, keeps_kind, denotes_of, many_read, sound_plan, ran, run_of, IsMeant}
 use Rattle.lrp_eval.proofs.Reading.{earlier, reach_within, numbered, first_differ, second_differ}
+use Rattle.lrp_plan_laws.proofs.Members.{all_by, in_left, in_one}
 
 module _ {db : List Relation} {q : Question} {cap : ℕ} {domain : List Text} {tables : List Table} {of : ℕ} {period : ℤ} (n : IsNext db q cap domain tables (Extend of) period) {table : Table} (o : IsOperand tables of table) where
   before : IsRead n of

@@ -17,17 +17,17 @@ use Rattle.lrp_model.specs.declared.relations.Relation.{Relation}
 use Rattle.lrp_model.specs.declared.plans.Plan.{Plan}
 use Rattle.lrp_model.specs.declared.plans.StepKind.{StepKind}
 use Rattle.lrp_model.specs.declared.plans.StepKind.TheVariants.{Extend}
-use Rattle.lrp_store.specs.declared.table.Table.{Table}
-use Rattle.lrp_plan_laws.proofs.Elements.{length_made}
+use Rattle.lrp_tables.specs.declared.table.Table.{Table}
+use Rattle.lrp_plan_laws.proofs.Elements.{length_made, within}
 use Rattle.lrp_eval.specs.Planned.{IsPlanOf}
 use Rattle.lrp_eval.specs.Running.{AreRun, IsLastRun, IsNext, IsStepTable, StandsAtHead}
 use Rattle.lrp_eval.proofs.HeadLaws.{head_stands}
 use Rattle.lrp_eval.proofs.LoopLaws.{at_last, last_run, more_count, more_run, zip_length}
-use Rattle.lrp_eval.proofs.Nexts.{formula_kind, inside}
+use Rattle.lrp_eval.proofs.Nexts.{formula_kind}
 
 -- there is a table
 pub some_table : (tables : List Table) (t : Table) → slice_get tables (length tables - 1) ≡ Some t → 0 < length tables
-some_table tables t e = let l : length tables - 1 < length tables = inside tables (length tables - 1) t e in omega arith
+some_table tables t e = let l : length tables - 1 < length tables = within tables (length tables - 1) t e in omega arith
 
 pub headed_run : (db : List Relation) (q : Question) (cap : ℕ) (p : Plan) (tables front : List Table) (t : Table) (kind : StepKind) (period : ℤ) → IsPlanOf db q p → IsNext db q cap p.domain tables kind period
     → StandsAtHead q.head tables kind → AreRun db q cap tables → tables ≡ front ++ t ∷ [] → IsLastRun db q cap t

@@ -15,8 +15,8 @@ use Rattle.lrp_model.specs.declared.relations.Relation.{Relation}
 use Rattle.lrp_model.specs.declared.plans.Plan.{Plan}
 use Rattle.lrp_model.specs.declared.plans.Step.{Step}
 use Rattle.lrp_model.specs.declared.plans.StepKind.TheVariants.{Extend}
-use Rattle.lrp_store.specs.declared.table.Table.{Table}
-use Rattle.lrp_plan_laws.proofs.Elements.{length_made}
+use Rattle.lrp_tables.specs.declared.table.Table.{Table}
+use Rattle.lrp_plan_laws.proofs.Elements.{length_made, within}
 use Rattle.lrp_eval.specs.declared.evaluation.EvalFault.{EvalFault}
 use Rattle.lrp_eval.specs.declared.evaluation.EvalFault.TheVariants.{TooManyCells, Memory}
 use Rattle.lrp_eval.specs.Planned.{IsPlanOf, IsEvalCause}
@@ -27,7 +27,7 @@ use Rattle.lrp_minus.proofs.Lists.{below_or}
 use Rattle.lrp_eval.specs.Together.{AreRunTogether, IsNarrowing, IsNarrowingNext, IsNarrowingRun, IsProjection, IsProjectionNext, IsProjectionRun}
 use Rattle.lrp_eval.specs.declared.projecting.Projection.{Projection}
 use Rattle.lrp_eval.specs.declared.together.Narrowing.{Narrowing}
-use Rattle.lrp_eval.proofs.Nexts.{as_kind, inside, suc_pred}
+use Rattle.lrp_eval.proofs.Nexts.{as_kind, suc_pred}
 use Rattle.std.specs.Prelude.{pos}
 use Rattle.std.proofs.lemmas.Int.{ints}
 use Rattle.std.proofs.lemmas.Option.{get_or_from_slice_get}
@@ -98,7 +98,7 @@ module _ (db : List Relation) (q : Question) (cap : ℕ) where
         read = λ i table e behind. ⊎_elim
             (λ l. run.read i table l (let h : length new < behind.number = behind.behind in record { number = behind.number; step = behind.step; behind = omega arith; at = behind.at; reads = behind.reads }))
             (λ x. this i table x) (at i table e);
-        last = λ i table e whole. ⊎_elim (λ l. let lt : i < length tables = inside tables i table l in absurd (omega arith)) (λ x. this i table x) (at i table e);
+        last = λ i table e whole. ⊎_elim (λ l. let lt : i < length tables = within tables i table l in absurd (omega arith)) (λ x. this i table x) (at i table e);
         few = λ s le m. few_more (length tables) s t run.few r (omega arith) m;
       }
     where
@@ -124,7 +124,7 @@ module _ (db : List Relation) (q : Question) (cap : ℕ) where
       by (suc j) e =
           let at : slice_get (plan db q) j ≡ Some behind.step = subst (λ n. step_at (plan db q) n ≡ Some behind.step) e behind.at in
           let x : (step : Step) × (slice_get p.steps j ≡ Some step) × IsStep step behind.step = zip_back p.steps (plan db q) j behind.step h.is.steps at in
-          let lt : j < d.reader = noted j i d.reader x.0 (inside p.steps j x.0 x.1) x.1 (subst (λ k. Contains (operands k) (suc i)) (sym x.2.kind) behind.reads) d.noted in
+          let lt : j < d.reader = noted j i d.reader x.0 (within p.steps j x.0 x.1) x.1 (subst (λ k. Contains (operands k) (suc i)) (sym x.2.kind) behind.reads) d.noted in
           let b : count < behind.number = behind.behind in
           let c : d.reader ≤ count = d.run in
           omega arith
@@ -148,7 +148,7 @@ module _ (db : List Relation) (q : Question) (cap : ℕ) where
 
   many_in : (o : Option PlanStep) (j : ℕ) → slice_get (plan db q) j ≡ o → MatchOption o ⊥ (λ step. ManyCells (structure db q) step.period (constants db q) (step_variables q.head step) step.formula cap) → j < length (plan db q)
   many_in None j e m = absurd m
-  many_in (Some step) j e m = inside (plan db q) j step e
+  many_in (Some step) j e m = within (plan db q) j step e
 
   few_all : (tables : List Table) → AreRun db q cap tables → length (plan db q) ≤ length tables → (s : ℕ) → ManyAt db q cap s → ⊥
   few_all tables run whole zero m = m
@@ -188,10 +188,10 @@ at_more (x ∷ xs) ys (suc i) lt = at_more xs ys i (omega arith)
 module _ (db : List Relation) (q : Question) (cap : ℕ) where
   -- a step of a plan that is written at a place
   pub step_here : (p : Plan) (i : ℕ) (step : Step) → IsPlanOf db q p → slice_get p.steps i ≡ Some step → (y : PlanStep) × (slice_get (plan db q) i ≡ Some y) × IsStep step y
-  step_here p i step h at = zip_at p.steps (plan db q) i step h.is.steps (inside p.steps i step at) (sym (get_or_from_slice_get p.steps i step step at))
+  step_here p i step h at = zip_at p.steps (plan db q) i step h.is.steps (within p.steps i step at) (sym (get_or_from_slice_get p.steps i step step at))
 
   pub next_here : (p : Plan) (tables : List Table) (step : Step) → IsPlanOf db q p → slice_get p.steps (length tables) ≡ Some step → AreRun db q cap tables → IsNext db q cap p.domain tables step.kind step.period
-  next_here p tables step h at run = next_step db q cap p tables (length tables) step p.steps h refl (inside p.steps (length tables) step at) (sym (get_or_from_slice_get p.steps (length tables) step step at)) refl run
+  next_here p tables step h at run = next_step db q cap p tables (length tables) step p.steps h refl (within p.steps (length tables) step at) (sym (get_or_from_slice_get p.steps (length tables) step step at)) refl run
 
   pub next_run : (p : Plan) (tables ts : List Table) (domain : List Text) (i : ℕ) (step : Step) (steps : List Step) → domain ≡ p.domain → ts ≡ tables → steps ≡ p.steps → i ≡ length tables → i < length steps → step ≡ get_or steps i step → IsPlanOf db q p → AreRun db q cap tables
       → IsNext db q cap domain ts step.kind step.period
@@ -268,10 +268,10 @@ module _ (db : List Relation) (q : Question) (cap : ℕ) where
         read = λ i table e behind. ⊎_elim
             (λ l. elim (below_or i (length tables)) [
               | inl old ↦ run.read i table (sym (at_more tables more i old) ∙ l) (record { number = behind.number; step = behind.step; behind = (let b : length ((tables ++ more) ++ made ∷ []) < behind.number = behind.behind in omega (arith, all, b)); at = behind.at; reads = behind.reads })
-              | inr new ↦ absurd (not_behind db q cap p readers (suc (length tables + between)) i h noted (t.done i new (let lt : i < length (tables ++ more) = inside (tables ++ more) i table l in omega (arith, lt, front))) (subst (λ k. IsReadBehind (plan db q) k (suc i)) all behind))
+              | inr new ↦ absurd (not_behind db q cap p readers (suc (length tables + between)) i h noted (t.done i new (let lt : i < length (tables ++ more) = within (tables ++ more) i table l in omega (arith, lt, front))) (subst (λ k. IsReadBehind (plan db q) k (suc i)) all behind))
             ])
             (λ x. this i table x) (at_push (tables ++ more) made table i e);
-        last = λ i table e whole. ⊎_elim (λ l. let lt : i < length (tables ++ more) = inside (tables ++ more) i table l in absurd (omega (arith, lt, front, all, whole))) (λ x. this i table x) (at_push (tables ++ more) made table i e);
+        last = λ i table e whole. ⊎_elim (λ l. let lt : i < length (tables ++ more) = within (tables ++ more) i table l in absurd (omega (arith, lt, front, all, whole))) (λ x. this i table x) (at_push (tables ++ more) made table i e);
         few = λ s le m. elim (below_or (length tables) s) [
           | inl new ↦ elim (below_or (length tables + between) s) [
             | inl last ↦ (let e : s ≡ suc (length tables + between) = omega (arith, le, all, last) in t.run.few (subst (ManyAt db q cap) e m))

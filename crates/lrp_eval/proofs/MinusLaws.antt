@@ -11,8 +11,8 @@ use Rattle.lrp_model.specs.Plans.{plan}
 use Rattle.lrp_model.specs.declared.relations.Relation.{Relation}
 use Rattle.lrp_model.specs.declared.plans.StepKind.TheVariants.{Minus, Complement, Extend}
 use Rattle.lrp_store.specs.Stores.{HasReach}
-use Rattle.lrp_store.specs.declared.table.StepFault.{StepFault}
-use Rattle.lrp_store.specs.declared.table.Table.{Table}
+use Rattle.lrp_tables.specs.declared.table.StepFault.{StepFault}
+use Rattle.lrp_tables.specs.declared.table.Table.{Table}
 use Rattle.lrp_tables.specs.Steps.{BothReach, CanComplement, CanMinus, IsComplementResult, IsMinusResult}
 use Rattle.lrp_tables.specs.Tables.{Has, IsMinus, IsComplement}
 use Rattle.lrp_plan_laws.specs.Made.{AreAmong}

@@ -22,21 +22,15 @@ use Rattle.lrp_model.proofs.Decided.{cons_cases, contains_first, contains_later,
 use Rattle.lrp_tables.specs.Columns.{joint, names_of_time, names_of_data, times_of_term, texts_of_term, scan_times, scan_texts, times_of_test, texts_of_test, test_times, test_names, with_time_name, text_name, head_times, head_texts}
 use Rattle.lrp_tables.specs.Tables.{named_variables, HasTexts}
 use Rattle.lrp_eval.specs.Running.{HasConstants, SameVariables}
-use Rattle.lrp_eval.proofs.Denotes.{in_left, in_right, in_one, in_filter, of_filter, others}
+use Rattle.lrp_eval.proofs.Denotes.{in_filter, of_filter, others}
+use Rattle.lrp_plan_laws.proofs.Members.{all_by, in_left, in_one, in_right}
+use Rattle.lrp_theory.proofs.Members.{in_map}
 
 -- ---- lists
 
 pub all_of : {X : Type 0} (p : X → Type 0) (xs : List X) (x : X) → AllByRecursion p xs → Contains xs x → p x
 all_of p [] x h c = absurd (contains_none x c)
 all_of p (y ∷ ys) x h c = ⊎_elim (λ e. subst p e h.0) (λ d. all_of p ys x h.1 d) (cons_cases y x ys c)
-
-pub all_by : {X : Type 0} (p : X → Type 0) (xs : List X) → ((x : X) → Contains xs x → p x) → AllByRecursion p xs
-all_by p [] h = tt
-all_by p (y ∷ ys) h = (h y (contains_first y ys), all_by p ys (λ x c. h x (contains_later y x ys c)))
-
-in_map : {X Y : Type 0} (f : X → Y) (xs : List X) (x : X) → Contains xs x → Contains (map f xs) (f x)
-in_map f [] x c = absurd (contains_none x c)
-in_map f (y ∷ ys) x c = ⊎_elim (λ e. subst (λ z. Contains (f y ∷ map f ys) (f z)) e (contains_first (f y) (map f ys))) (λ d. contains_later (f y) (f x) (map f ys) (in_map f ys x d)) (cons_cases y x ys c)
 
 -- ---- names and variables
 

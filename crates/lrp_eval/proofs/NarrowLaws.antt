@@ -13,8 +13,8 @@ use Rattle.lrp_model.specs.declared.formulas.Test.{Test}
 use Rattle.lrp_model.proofs.Decided.{contains_first, contains_later}
 use Rattle.lrp_store.specs.Stores.{HasReach}
 use Rattle.lrp_store.specs.Tables.{StoreHolds}
-use Rattle.lrp_store.specs.declared.table.StepFault.{StepFault}
-use Rattle.lrp_store.specs.declared.table.Table.{Table}
+use Rattle.lrp_tables.specs.declared.table.StepFault.{StepFault}
+use Rattle.lrp_tables.specs.declared.table.Table.{Table}
 use Rattle.lrp_tables.specs.Calls.{AreVariablesOf, CanBeCarried, tests_reach}
 use Rattle.lrp_tables.specs.Columns.{joint}
 use Rattle.lrp_tables.specs.Steps.{CanJoin, CanMinus, IsJoinResult, IsMinusResult}
@@ -24,8 +24,8 @@ use Rattle.lrp_algebra.specs.Tables.{IsTimeDropped}
 use Rattle.lrp_eval.specs.Together.{CanNarrow, IsNarrow, IsNarrowed}
 use Rattle.lrp_eval.specs.declared.together.Sides.{Sides}
 use Rattle.lrp_eval.proofs.Named.{in_joint}
-use Rattle.lrp_eval.proofs.Reading.{reach_up}
 use Rattle.lrp_eval.proofs.ShownLaws.{more_of}
+use Rattle.lrp_algebra.proofs.Steps.{farther}
 
 -- ---- a period is its word
 
@@ -67,10 +67,10 @@ module _ {domain : List Text} {of : Sides} {name : Identifier} {period : ℤ} (c
   join_high = let h = can.high in omega (arith, ints)
 
   pub from_joins : HasReach from_table.store (2 ^ 62 - nat_abs period)
-  from_joins = reach_up from_table.store (2 ^ 59) _ (let h = can.high in omega arith) can.from_reach
+  from_joins = farther from_table.store (2 ^ 59) _ (let h = can.high in omega arith) can.from_reach
 
   pub left_joins : HasReach left_table.store (2 ^ 62 - nat_abs period)
-  left_joins = reach_up left_table.store (2 ^ 59) _ (let h = can.high in omega arith) can.left_reach
+  left_joins = farther left_table.store (2 ^ 59) _ (let h = can.high in omega arith) can.left_reach
 
   no_tests_reach : tests_reach [] + nat_abs period ≤ 2 ^ 62
   no_tests_reach = let h = can.high in omega arith
@@ -102,10 +102,10 @@ module _ {domain : List Text} {of : Sides} {name : Identifier} {period : ℤ} (c
     part_small = joined.reach (2 ^ 59) (record { left_reach = can.from_reach; right_reach = can.left_reach; tests_small = subst (λ ts. tests_reach ts ≤ 2 ^ 59) (sym none) (omega arith) })
 
     part_reach : HasReach part.store (2 ^ 62 - 2 * nat_abs period)
-    part_reach = reach_up part.store _ _ (let h = can.high in omega arith) part_small
+    part_reach = farther part.store _ _ (let h = can.high in omega arith) part_small
 
     right_small : HasReach right_table.store (2 ^ 62 - 2 * nat_abs period)
-    right_small = reach_up right_table.store (2 ^ 59) _ (let h = can.high in omega arith) can.right_reach
+    right_small = farther right_table.store (2 ^ 59) _ (let h = can.high in omega arith) can.right_reach
 
     part_columns : AreVariablesOf part right_table
     part_columns = record {
@@ -121,20 +121,20 @@ module _ {domain : List Text} {of : Sides} {name : Identifier} {period : ℤ} (c
       rest_is = (r.step domain can.ascends p.numbered).table
 
       rest_small : HasReach rest.store (2 ^ 59 + nat_abs period + 2 * nat_abs period)
-      rest_small = r.reach (2 ^ 59 + nat_abs period) (record { left_reach = part_small; right_reach = reach_up right_table.store (2 ^ 59) _ (omega arith) can.right_reach })
+      rest_small = r.reach (2 ^ 59 + nat_abs period) (record { left_reach = part_small; right_reach = farther right_table.store (2 ^ 59) _ (omega arith) can.right_reach })
 
       pub rest_reach : HasReach rest.store (2 ^ 61)
-      rest_reach = reach_up rest.store _ _ (let h = can.high in omega arith) rest_small
+      rest_reach = farther rest.store _ _ (let h = can.high in omega arith) rest_small
 
       module _ {taken : Table} (t : IsTimeDropped name rest taken) where
         taken_period : Divides (pos taken.store.period) period
         taken_period = same_divides taken.store.period (t.period ∙ rest_is.period_is)
 
         taken_reach : HasReach taken.store (2 ^ 62 - 2 * nat_abs period)
-        taken_reach = reach_up taken.store _ _ (let h = can.high in omega arith) (t.reach _ rest_small)
+        taken_reach = farther taken.store _ _ (let h = can.high in omega arith) (t.reach _ rest_small)
 
         from_small : HasReach from_table.store (2 ^ 62 - 2 * nat_abs period)
-        from_small = reach_up from_table.store (2 ^ 59) _ (let h = can.high in omega arith) can.from_reach
+        from_small = farther from_table.store (2 ^ 59) _ (let h = can.high in omega arith) can.from_reach
 
         in_from : (v : Identifier) → Contains (joint from_table.vars.times left_table.vars.times) v → bytes_eq name v ≡ false → Contains from_table.vars.times v
         in_from v c other = ⊎_elim (λ a. a) (λ b. can.times v b other) ((in_joint from_table.vars.times left_table.vars.times v).0 c)

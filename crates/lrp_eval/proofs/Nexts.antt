@@ -1,9 +1,8 @@
 -- What is known of the next step of a plan, of the tables that it reads, and what its own table has to be.
-use Rattle.std.proofs.Common.{◌≡◌, ◌↔◌, ◌≤◌, ◌<◌, ◌+◌, ◌-◌, ◌*◌, ◌^◌, ℕ, zero, suc, List, [], ◌∷◌, length, Some, map, refl, sym, ap, ap₂, subst, ◌∙◌, arith, slice_get, unwrap_or, option_map, Result, Ok, Err}
+use Rattle.std.proofs.Common.{◌≡◌, ◌↔◌, ◌≤◌, ◌<◌, ◌+◌, ◌-◌, ◌*◌, ◌^◌, ℕ, zero, suc, List, [], length, Some, map, refl, sym, ap, ap₂, subst, ◌∙◌, arith, slice_get, unwrap_or, option_map, Result, Ok, Err}
 use Rattle.std.proofs.Common.{add-one, mul_assoc}
 use Rattle.std.proofs.Math.Nat.{pow-succ', mul-le-mul_right}
-use Rattle.std.specs.Prelude.{ℤ, pos, nat_abs, flat_map, Contains}
-use Rattle.lrp_theory.specs.Divides.{Divides}
+use Rattle.std.specs.Prelude.{ℤ, nat_abs, flat_map, Contains}
 use Rattle.lrp_model.specs.Texts.{Text, Identifier, Ascends}
 use Rattle.lrp_model.specs.Formulas.{Question, conjunction, no_forms}
 use Rattle.lrp_model.specs.Core.{guarded, has_named_sort}
@@ -12,7 +11,6 @@ use Rattle.lrp_model.specs.Satisfaction.{Assignment, Satisfies, structure}
 use Rattle.lrp_model.specs.Domains.{constants, all_texts}
 use Rattle.lrp_model.specs.Cells.{Differ, Many}
 use Rattle.lrp_model.specs.Caps.{ManyAt, step_variables, variables_with}
-use Rattle.lrp_model.specs.Periods.{IsMultiple}
 use Rattle.lrp_model.specs.Reach.{reach_of}
 use Rattle.lrp_model.specs.Steps.{PlanStep, step_at, formula_at, reach_at}
 use Rattle.lrp_model.specs.Plans.{plan, core_steps, query_reach}
@@ -23,8 +21,8 @@ use Rattle.lrp_model.specs.declared.plans.StepKind.{StepKind}
 use Rattle.lrp_model.specs.declared.plans.StepKind.TheVariants.{Scan, Leaf, Sort as SortStep, Join, Select, Union, Minus, Complement, DropTime, DropData, Extend}
 use Rattle.lrp_model.proofs.DomainLaws.{in_order_ascends}
 use Rattle.lrp_store.specs.Stores.{HasReach}
-use Rattle.lrp_store.specs.declared.table.StepFault.{StepFault}
-use Rattle.lrp_store.specs.declared.table.Table.{Table}
+use Rattle.lrp_tables.specs.declared.table.StepFault.{StepFault}
+use Rattle.lrp_tables.specs.declared.table.Table.{Table}
 use Rattle.lrp_tables.specs.Caps.{Inhabits, InhabitsMoreThan}
 use Rattle.lrp_tables.specs.Steps.{IsStepResult}
 use Rattle.lrp_tables.specs.Tables.{Has, IsTableOf, named_variables}
@@ -33,7 +31,7 @@ use Rattle.lrp_plan_laws.specs.Rising.{IsRising, KeepsPeriod, period_at}
 use Rattle.lrp_plan_laws.specs.Scopes.{IsNarrow}
 use Rattle.lrp_plan_laws.specs.Settled.{IsSoundPlan, IsSoundStep}
 use Rattle.lrp_plan_laws.proofs.SettledLaws.{sound}
-use Rattle.lrp_plan_laws.proofs.Elements.{length_made}
+use Rattle.lrp_plan_laws.proofs.Elements.{found, length_made, within as inside}
 use Rattle.lrp_plan_laws.proofs.NarrowLaws.{no_other_head}
 use Rattle.lrp_eval.specs.Running.{HasConstants, SameVariables, variables_of, variables_at, IsStepTable, IsOperand, IsNext, IsNumbered, IsRunResult}
 use Rattle.lrp_eval.proofs.Denotes.{Set, Denotes}
@@ -43,17 +41,6 @@ use Rattle.lrp_eval.proofs.Counted.{many_at}
 
 pub suc_pred : (l : ℕ) → 0 < l → suc (l - 1) ≡ l
 suc_pred l h = omega arith
-
--- a number within a list has an element
-pub element : {X : Type 0} (xs : List X) (i : ℕ) → i < length xs → (x : X) × (slice_get xs i ≡ Some x)
-element [] i lt = absurd (omega arith)
-element (x ∷ xs) zero lt = (x, refl)
-element (x ∷ xs) (suc i) lt = element xs i (omega arith)
-
-pub inside : {X : Type 0} (xs : List X) (i : ℕ) (x : X) → slice_get xs i ≡ Some x → i < length xs
-inside [] i x e = cc
-inside (y ∷ ys) zero x e = omega arith
-inside (y ∷ ys) (suc i) x e = let r : i < length ys = inside ys i x e in omega arith
 
 -- ---- numbers
 
@@ -141,7 +128,7 @@ module _ {db : List Relation} {q : Question} {cap : ℕ} {domain : List Text} {t
       let lt : length tables < length (plan db q) = inside (plan db q) (length tables) n.step n.at in
       let b : l < suc (length tables) = e.1 in
       let low : 0 < l = e.0 in
-      let x : (step : PlanStep) × (slice_get (plan db q) (l - 1) ≡ Some step) = element (plan db q) (l - 1) (omega arith) in
+      let x : (step : PlanStep) × (slice_get (plan db q) (l - 1) ≡ Some step) = found (plan db q) (l - 1) (omega arith) in
       (x.0, subst (λ s. step_at (plan db q) s ≡ Some x.0) (suc_pred l low) x.1)
 
   not_head : (l : ℕ) → IsRead l → (step : PlanStep) → step_at (plan db q) l ≡ Some step → (of : ℕ) → step.kind ≡ Extend of → ⊥
@@ -240,10 +227,6 @@ module _ {db : List Relation} {q : Question} {cap : ℕ} {domain : List Text} {t
   no_order other t step of at e =
       let same : n.step ≡ step = cc (n.at, at) in
       absurd (other of (n.kind_is ∙ ap (λ s. s.kind) same ∙ e))
-
--- a multiple divides, as integers
-pub to_divides : (k n : ℕ) → IsMultiple k n → Divides (pos k) (pos n)
-to_divides k n h = record { times = pos h.times; is = ap pos h.is }
 
 -- the same step, by what its kind is
 pub as_kind : {db : List Relation} {q : Question} {cap : ℕ} {domain : List Text} {tables : List Table} {kind : StepKind} {period : ℤ} (k : StepKind) → IsNext db q cap domain tables kind period → kind ≡ k → IsNext db q cap domain tables k period

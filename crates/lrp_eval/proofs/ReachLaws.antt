@@ -11,7 +11,8 @@ use Rattle.lrp_zone.specs.Zones.{ZoneView, magnitude_of, greatest_of, reach_of}
 use Rattle.lrp_store.specs.Stores.{StoreView, HasReach, tables_at, zone_of, zones_at}
 use Rattle.lrp_minus.proofs.Lists.{below_or}
 use Rattle.lrp_eval.specs.Together.{HasReachIn}
-use Rattle.lrp_eval.proofs.SettleLaws.{key_is, zone_in}
+use Rattle.lrp_store.proofs.ZoneCounts.{key_is}
+use Rattle.lrp_eval.proofs.SettleLaws.{zone_in}
 
 -- ---- one zone
 

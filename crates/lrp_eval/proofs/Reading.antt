@@ -4,11 +4,12 @@ use Rattle.std.specs.Prelude.{ℤ, pos, nat_abs, ◌≤ℤ◌, AllPairs, IfOk, I
 use Rattle.std.specs.List.{AllByRecursion, list_any}
 use Rattle.std.specs.Cmp.Lexicographic.{bytes_decides}
 use Rattle.std.proofs.lemmas.Int.{ints}
-use Rattle.lrp_theory.specs.Divides.{Divides}
+use Rattle.lrp_theory.specs.Divides.{Divides, IsMultiple}
+use Rattle.lrp_algebra.proofs.Compared.{one_divides}
 use Rattle.lrp_model.specs.Texts.{Text, Identifier, AreDistinct}
 use Rattle.lrp_model.specs.Formulas.{Question}
 use Rattle.lrp_model.specs.Variables.{Variable, time_variable, data_variable, variables_of_test, free}
-use Rattle.lrp_model.specs.Periods.{IsMultiple, test_periods}
+use Rattle.lrp_model.specs.Periods.{test_periods}
 use Rattle.lrp_model.specs.Steps.{formula_at, reach_at}
 use Rattle.lrp_model.specs.Plans.{plan}
 use Rattle.lrp_model.specs.TestPoints.{points, test_points}
@@ -16,9 +17,9 @@ use Rattle.lrp_model.specs.declared.relations.Relation.{Relation}
 use Rattle.lrp_model.specs.declared.formulas.Test.{Test}
 use Rattle.lrp_model.specs.declared.formulas.Test.TheVariants.{Compare, Member, Equal}
 use Rattle.lrp_model.specs.declared.plans.StepKind.{StepKind}
-use Rattle.lrp_store.specs.Stores.{StoreView, HasReach}
+use Rattle.lrp_store.specs.Stores.{HasReach}
 use Rattle.lrp_store.specs.Tables.{AreNumbered}
-use Rattle.lrp_store.specs.declared.table.Table.{Table}
+use Rattle.lrp_tables.specs.declared.table.Table.{Table}
 use Rattle.lrp_tables.specs.Calls.{CanMeet, CanBeCarried, test_period}
 use Rattle.lrp_tables.specs.Columns.{joint}
 use Rattle.lrp_tables.specs.Tables.{named_variables}
@@ -28,15 +29,13 @@ use Rattle.lrp_plan_laws.specs.Rising.{period_at, named_periods}
 use Rattle.lrp_plan_laws.specs.Scopes.{IsNarrow}
 use Rattle.lrp_plan_laws.proofs.PointLaws.{points_known}
 use Rattle.lrp_eval.specs.Running.{variables_of, IsOperand, IsNext}
-use Rattle.lrp_eval.proofs.Denotes.{in_left, in_right}
-use Rattle.lrp_eval.proofs.Named.{all_of, all_by, in_joint, time_named, data_named, times_in_test, texts_in_test}
-use Rattle.lrp_eval.proofs.Nexts.{IsRead, of_kind, run_of, made, rises, reach_low, denotes_of, to_divides}
+use Rattle.lrp_eval.proofs.Named.{all_of, in_joint, time_named, data_named, times_in_test, texts_in_test}
+use Rattle.lrp_eval.proofs.Nexts.{IsRead, of_kind, run_of, made, rises, reach_low, denotes_of}
+use Rattle.lrp_plan_laws.proofs.Members.{all_by, in_left, in_right}
+use Rattle.lrp_algebra.proofs.Steps.{abs_is, farther}
+use Rattle.lrp_slots.proofs.Keys.{all_front}
 
 -- ---- results
-
-pub if_ok : {A E : Type 0} (P R : A → Type 0) (r : Result A E) → ((a : A) → P a → R a) → IfOk r P → IfOk r R
-if_ok P R (Ok a) f p = f a p
-if_ok P R (Err e) f p = tt
 
 -- what holds of an Ok
 ok_is : {A F : Type 0} (P : A → Type 0) (r : Result A F) (a : A) → r ≡ Ok a → IfOk r P → P a
@@ -57,9 +56,6 @@ some_ok P o a e p = value (subst (λ u. IfSome u P) e p)
 
 -- ---- reaches
 
-pub reach_up : (s : StoreView) (low high : ℕ) → low ≤ high → HasReach s low → HasReach s high
-reach_up s low high le h = record { each = λ cell table held. let r = h.each cell table held in omega (arith, r) }
-
 -- ---- names that differ
 
 pub first_apart : {X : Type 0} (x : X) (xs : List X) → AllPairs ◌≢◌ (x ∷ xs) → AllByRecursion (λ y. x ≢ y) xs
@@ -68,13 +64,9 @@ first_apart x xs h = all_by (λ y. x ≢ y) xs (λ y c e. h zero (suc c.0) y (om
 pub rest_apart : {X : Type 0} (x : X) (xs : List X) → AllPairs ◌≢◌ (x ∷ xs) → AllPairs ◌≢◌ xs
 rest_apart x xs h i j d lt below = h (suc i) (suc j) d (omega arith) (omega arith)
 
-front_all : {X : Type 0} (p : X → Type 0) (xs ys : List X) → AllByRecursion p (xs ++ ys) → AllByRecursion p xs
-front_all p [] ys h = tt
-front_all p (x ∷ xs) ys h = (h.0, front_all p xs ys h.1)
-
 pub first_differ : (ns ms : List Identifier) → AllPairs ◌≢◌ (ns ++ ms) → AreDistinct ns
 first_differ [] ms h = tt
-first_differ (n ∷ ns) ms h = (front_all (λ m. n ≢ m) ns ms (first_apart n (ns ++ ms) h), first_differ ns ms (rest_apart n (ns ++ ms) h))
+first_differ (n ∷ ns) ms h = (all_front (λ m. n ≢ m) ns ms (first_apart n (ns ++ ms) h), first_differ ns ms (rest_apart n (ns ++ ms) h))
 
 all_differ : (ms : List Identifier) → AllPairs ◌≢◌ ms → AreDistinct ms
 all_differ [] h = tt
@@ -115,16 +107,10 @@ low_period (Compare left op right) h = omega (arith, ints)
 low_period (Member term point) h = h.0
 low_period (Equal left right) h = omega (arith, ints)
 
-pub natural : (z : ℤ) → pos 1 ≤ℤ z → pos (nat_abs z) ≡ z
-natural z h = omega (arith, ints)
-
-one_divides : (k : ℕ) → Divides (pos 1) (pos k)
-one_divides k = to_divides 1 k (record { times = k; is = omega arith })
-
 divides_test : (t : Test) (K : ℕ) → AllByRecursion (λ at. pos 1 ≤ℤ at.period) (test_points t) → AllByRecursion (λ k. (1 ≤ k) × IsMultiple k K) (test_periods t) → Divides (test_period t) (pos K)
-divides_test (Compare left op right) K h m = one_divides K
-divides_test (Member term point) K h m = subst (λ z. Divides z (pos K)) (natural point.period h.0) (to_divides (nat_abs point.period) K m.0.1)
-divides_test (Equal left right) K h m = one_divides K
+divides_test (Compare left op right) K h m = one_divides (pos K)
+divides_test (Member term point) K h m = subst (λ z. Divides z (pos K)) (abs_is point.period h.0) m.0.1
+divides_test (Equal left right) K h m = one_divides (pos K)
 
 pub carried : (times texts : List Identifier) (K : ℕ) (t : Test) → AreAmong (variables_of_test t) (named_variables times texts)
     → AllByRecursion (λ at. pos 1 ≤ℤ at.period) (test_points t) → AllByRecursion (λ k. (1 ≤ k) × IsMultiple k K) (test_periods t) → CanBeCarried times texts (pos K) t
@@ -181,10 +167,10 @@ module _ {db : List Relation} {q : Question} {cap : ℕ} {domain : List Text} {t
   module _ {l : ℕ} {t : Table} (o : IsOperand tables l t) (e : IsRead n l) where
     pub period_divides : IsMultiple (period_at (plan db q) l) n.step.period → Divides (pos t.store.period) period
     period_divides m =
-        subst (λ p. Divides (pos t.store.period) p) (sym n.period_is) (subst (λ k. Divides (pos k) (pos n.step.period)) (sym (run_of n l t e o).period) (to_divides (period_at (plan db q) l) n.step.period m))
+        subst (λ p. Divides (pos t.store.period) p) (sym n.period_is) (subst (λ k. Divides (pos k) (pos n.step.period)) (sym (run_of n l t e o).period) m)
 
     pub reach_within : (high : ℕ) → reach_at (plan db q) l ≤ high → HasReach t.store high
-    reach_within high le = reach_up t.store (reach_at (plan db q) l) high le (run_of n l t e o).reach
+    reach_within high le = farther t.store (reach_at (plan db q) l) high le (run_of n l t e o).reach
 
     pub numbered : AreNumbered domain t.store
     numbered = subst (λ d. AreNumbered d t.store) (sym n.domain_is) (run_of n l t e o).numbered

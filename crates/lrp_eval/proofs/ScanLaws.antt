@@ -3,7 +3,7 @@ use Rattle.std.proofs.Common.{◌≡◌, ◌≤◌, ◌+◌, ◌*◌, ◌^◌, �
 use Rattle.std.specs.Prelude.{ℤ, pos, nat_abs, flat_map, MatchOption}
 use Rattle.std.specs.List.{AllByRecursion, AllZip}
 use Rattle.std.proofs.lemmas.Int.{ints}
-use Rattle.lrp_theory.specs.Divides.{Divides}
+use Rattle.lrp_theory.specs.Divides.{Divides, IsMultiple}
 use Rattle.lrp_model.specs.Texts.{Text, Identifier}
 use Rattle.lrp_model.specs.Formulas.{Question, atom}
 use Rattle.lrp_model.specs.Sorts.{is_data, FitsColumn, time_count, text_count}
@@ -11,7 +11,7 @@ use Rattle.lrp_model.specs.Rows.{text, IsInRow, rows_of, rows_in, relation_named
 use Rattle.lrp_model.specs.Variables.{time_variable, data_variable, free}
 use Rattle.lrp_model.specs.Satisfaction.{structure}
 use Rattle.lrp_model.specs.Domains.{constants, row_texts, database_texts}
-use Rattle.lrp_model.specs.Periods.{IsMultiple, value_periods}
+use Rattle.lrp_model.specs.Periods.{value_periods}
 use Rattle.lrp_model.specs.Reach.{greatest, scan_reach}
 use Rattle.lrp_model.specs.declared.relations.Sort.{Sort}
 use Rattle.lrp_model.specs.declared.relations.Column.{Column}
@@ -26,20 +26,22 @@ use Rattle.lrp_model.specs.declared.formulas.Term.TheVariants.{Time as time_term
 use Rattle.lrp_model.specs.declared.plans.StepKind.TheVariants.{Scan, Sort as SortStep, Extend}
 use Rattle.lrp_model.proofs.Decided.{cons_cases, contains_first, contains_later, contains_none}
 use Rattle.lrp_model.proofs.Logic.{all_append}
-use Rattle.lrp_store.specs.declared.table.StepFault.{StepFault}
-use Rattle.lrp_store.specs.declared.table.Table.{Table}
+use Rattle.lrp_tables.specs.declared.table.StepFault.{StepFault}
+use Rattle.lrp_tables.specs.declared.table.Table.{Table}
 use Rattle.lrp_tables.specs.Calls.{CanBeRow, CanStand, IsColumnBound, HasText}
 use Rattle.lrp_tables.specs.Columns.{scan_times, scan_texts}
 use Rattle.lrp_tables.specs.Steps.{CanScan, IsScanResult}
 use Rattle.lrp_tables.specs.Tables.{IsScanned, named_variables}
-use Rattle.lrp_print.specs.Kept.{IsKept, IsRowOf, IsBoundOf, AreValuesOf}
+use Rattle.lrp_model.specs.Kept.{IsKept, IsRowOf, IsBoundOf, AreValuesOf}
 use Rattle.lrp_plan_laws.specs.Atoms.{IsKnownScan, texts_among}
 use Rattle.lrp_plan_laws.specs.Scopes.{IsNarrow}
 use Rattle.lrp_eval.specs.Running.{IsNext, IsRunResult, text_row, text_column}
 use Rattle.lrp_eval.proofs.Denotes.{Denotes, scan_keeps, sort_keeps}
-use Rattle.lrp_eval.proofs.Named.{all_of, all_by, scan_variables, time_named, data_named, texts_are, are_texts}
-use Rattle.lrp_eval.proofs.Nexts.{formula_kind, reach_kind, keeps_kind, period_nat, own_variables, sound_plan, sound_step, meant, ran, no_order, to_divides, IsMeant}
-use Rattle.lrp_eval.proofs.Reading.{step_small, own_periods, natural, high, low}
+use Rattle.lrp_eval.proofs.Named.{all_of, scan_variables, time_named, data_named, texts_are, are_texts}
+use Rattle.lrp_eval.proofs.Nexts.{formula_kind, reach_kind, keeps_kind, period_nat, own_variables, sound_plan, sound_step, meant, ran, no_order, IsMeant}
+use Rattle.lrp_eval.proofs.Reading.{step_small, own_periods, high, low}
+use Rattle.lrp_plan_laws.proofs.Members.{all_by}
+use Rattle.lrp_algebra.proofs.Steps.{abs_is}
 
 -- ---- rows of a relation that is kept
 
@@ -48,7 +50,7 @@ stands domain K [] [] h p t = tt
 stands domain K [] (v ∷ vs) h p t = absurd h
 stands domain K (c ∷ cs) [] h p t = absurd h
 stands domain K (c ∷ cs) (Point at ∷ vs) h p t =
-    ((h.0.0, h.0.1, subst (λ z. Divides z (pos K)) (natural at.period h.0.1) (to_divides (nat_abs at.period) K p.0.1)), stands domain K cs vs h.1 p.1 t)
+    ((h.0.0, h.0.1, subst (λ z. Divides z (pos K)) (abs_is at.period h.0.1) p.0.1), stands domain K cs vs h.1 p.1 t)
 stands domain K (c ∷ cs) (Const x ∷ vs) h p t = ((ap not h.0.0, t.0), stands domain K cs vs h.1 p t.1)
 
 between : (times : ℕ) (bs : List Bound) → AllByRecursion (IsBoundOf times) bs → AllByRecursion (IsColumnBound times) bs

@@ -15,8 +15,8 @@ use Rattle.lrp_model.specs.declared.formulas.Test.TheVariants.{Compare, Member, 
 use Rattle.lrp_model.specs.declared.plans.StepKind.TheVariants.{Leaf, Select, Extend}
 use Rattle.lrp_model.proofs.Decided.{contains_none}
 use Rattle.lrp_store.specs.Stores.{HasReach}
-use Rattle.lrp_store.specs.declared.table.StepFault.{StepFault}
-use Rattle.lrp_store.specs.declared.table.Table.{Table}
+use Rattle.lrp_tables.specs.declared.table.StepFault.{StepFault}
+use Rattle.lrp_tables.specs.declared.table.Table.{Table}
 use Rattle.lrp_tables.specs.Calls.{CanBeCarried, test_period}
 use Rattle.lrp_tables.specs.Columns.{test_times, test_names}
 use Rattle.lrp_tables.specs.Steps.{CanSelect, CanTest, IsLeafResult, IsSelectResult}
@@ -24,10 +24,11 @@ use Rattle.lrp_tables.specs.Tables.{Has, IsTested, IsSelected, named_variables}
 use Rattle.lrp_plan_laws.specs.Made.{AreAmong}
 use Rattle.lrp_plan_laws.specs.Rising.{natural_test_period as period_of}
 use Rattle.lrp_eval.specs.Running.{variables_of, IsOperand, IsNext, IsRunResult}
-use Rattle.lrp_eval.proofs.Denotes.{Denotes, in_one, leaf_keeps, select_keeps}
+use Rattle.lrp_eval.proofs.Denotes.{Denotes, leaf_keeps, select_keeps}
 use Rattle.lrp_eval.proofs.Named.{test_variables, texts_are, are_texts}
 use Rattle.lrp_eval.proofs.Nexts.{IsRead, formula_kind, variables_kind, reach_kind, keeps_kind, period_nat, denotes_of, meant, ran, no_order, IsMeant}
 use Rattle.lrp_eval.proofs.Reading.{step_small, point_periods, own_periods, earlier, multiples, period_divides, reach_within, variables, carried, high, low, low_period}
+use Rattle.lrp_plan_laws.proofs.Members.{in_one}
 
 same_period : (t : Test) → nat_abs (test_period t) ≡ period_of t
 same_period (Compare left op right) = refl

@@ -1,15 +1,7 @@
 -- Cells are settled one after another.
-use Rattle.std.proofs.Common.{◌≡◌, ◌≢◌, ◌⊎◌, inl, inr, ⊎_elim, ◌≤◌, ◌<◌, ◌+◌, ℕ, zero, suc, List, [], ◌∷◌, ◌++◌, length, get_or, take, map, Option, Some, unwrap_or, slice_get, Contains, refl, sym, ap, subst, ◌∙◌, arith, add-one}
-use Rattle.std.specs.Prelude.{ℤ, AllPairs, is_some}
-use Rattle.std.specs.Bool.{Decides}
-use Rattle.std.specs.Ordering.{eq_by_cmp}
-use Rattle.std.specs.FinMap.{contains_key-keys, get-empty}
-use Rattle.std.proofs.lemmas.Map.Made.{AllPairs-from_IsDistinct}
-use Rattle.std.proofs.lemmas.Map.Views.{Contains-from_any}
-use Rattle.std.proofs.lemmas.Map.Keys.{IsDistinct-from_sorted}
-use Rattle.lrp_slots.proofs.Tables.{same_cell}
-use Rattle.lrp_slots.proofs.Copying.{keys_ascend}
-use Rattle.lrp_store.proofs.Counted.{key_held}
+use Rattle.std.proofs.Common.{◌≡◌, ◌≢◌, ◌⊎◌, inl, inr, ⊎_elim, ◌≤◌, ◌<◌, ◌+◌, ℕ, zero, suc, List, [], ◌∷◌, ◌++◌, length, take, map, Option, unwrap_or, Contains, refl, sym, ap, subst, ◌∙◌, arith}
+use Rattle.std.specs.Prelude.{ℤ, AllPairs}
+use Rattle.std.specs.FinMap.{get-empty}
 use Rattle.std.specs.FinMap as finite
 use Rattle.lrp_model.specs.declared.tuples.Cell.{Cell}
 use Rattle.lrp_model.proofs.Decided.{cons_cases, contains_first, contains_later, contains_none}
@@ -17,31 +9,16 @@ use Rattle.lrp_zone.specs.Zones.{ZoneView}
 use Rattle.lrp_zone.specs.Pairs.{IsOfCell}
 use Rattle.lrp_slots.specs.Lists.{cell_cmp, list_at}
 use Rattle.lrp_store.specs.Stores.{StoreView, IsStore, IsCellOf, zone_of, tables_at, zones_at}
-use Rattle.lrp_store.proofs.Held.{cell_or, held_of, cell_held}
+use Rattle.lrp_store.proofs.Held.{cell_or, cell_held}
 use Rattle.lrp_minus.specs.Differences.{AreOfCell}
 use Rattle.lrp_minus.specs.Settling.{IsSettlement}
 use Rattle.lrp_minus.specs.Absences.{IsLike}
 use Rattle.lrp_minus.specs.Settling.{AddsZones, SettlesCell}
 use Rattle.lrp_minus.proofs.Lists.{some_in}
+use Rattle.lrp_store.proofs.ZoneCounts.{first_differs, key_is, key_zone, keys_differ, rest_differ}
 use Rattle.lrp_eval.specs.Settling.{IsSettledStore}
 
 -- ---- the zones of a cell
-
-pub take_some : {X : Type 0} (xs : List X) (i : ℕ) (x : X) → slice_get xs i ≡ Some x → take (i + 1) xs ≡ take i xs ++ x ∷ []
-take_some xs i x e = ap (λ n. take n xs) (add-one i) ∙ by_place xs i x e
-  where
-    by_place : {X : Type 0} (xs : List X) (i : ℕ) (x : X) → slice_get xs i ≡ Some x → take (suc i) xs ≡ take i xs ++ x ∷ []
-    by_place [] i x e = cc
-    by_place (y ∷ ys) zero x e = let same : y ≡ x = cc in ap (λ z. z ∷ []) same
-    by_place (y ∷ ys) (suc i) x e = ap (λ zs. y ∷ zs) (by_place ys i x e)
-
-pub take_read : {X : Type 0} (xs : List X) (i : ℕ) (x : X) → i < length xs → x ≡ get_or xs i x → take (i + 1) xs ≡ take i xs ++ x ∷ []
-take_read xs i x lt e = take_some xs i x (found xs i x lt e)
-  where
-    found : {X : Type 0} (xs : List X) (i : ℕ) (x : X) → i < length xs → x ≡ get_or xs i x → slice_get xs i ≡ Some x
-    found [] i x lt e = absurd (omega arith)
-    found (y ∷ ys) zero x lt e = ap Some (sym e)
-    found (y ∷ ys) (suc i) x lt e = found ys i x (omega arith) e
 
 pub take_whole : {X : Type 0} (xs : List X) (n : ℕ) → length xs ≤ n → take n xs ≡ xs
 take_whole [] zero le = refl
@@ -89,12 +66,6 @@ pub record IsSettling (old new : StoreView) (left : List Cell) : Type 0 where
   pub fresh : (cell : Cell) → Contains left cell → tables_at new cell ≡ []
   pub differ : AllPairs ◌≢◌ left
   pub held : (cell : Cell) → Contains left cell → (z : ZoneView) × Contains (zones_at old cell) z
-
-pub first_differs : (c : Cell) (cs : List Cell) → AllPairs ◌≢◌ (c ∷ cs) → (d : Cell) → Contains cs d → d ≢ c
-first_differs c cs h d k e = h zero (suc k.0) d (omega arith) (omega (arith, k.1)) (sym (k.2 ∙ e))
-
-pub rest_differ : (c : Cell) (cs : List Cell) → AllPairs ◌≢◌ (c ∷ cs) → AllPairs ◌≢◌ cs
-rest_differ c cs h i j d lt below = h (suc i) (suc j) d (omega arith) (omega arith)
 
 -- one cell more
 pub settling_more : (s old new : StoreView) (left rest : List Cell) (c : Cell) → left ≡ c ∷ rest → IsSettling s old left → IsStore new → SettlesCell c s old new → IsSettling s new rest
@@ -149,26 +120,6 @@ settled_all s new left none h = record {
 }
 
 -- ---- before the first cell
-
-pub is_decided : (c d : Cell) → Decides (eq_by_cmp cell_cmp c d) (c ≡ d)
-is_decided c d = elim (cell_or c d) [
-  | inl e ↦ ((λ h. e.0), λ h. e.1)
-  | inr e ↦ ((λ h. same_cell c d h), λ h. absurd (e.0 h))
-]
-
-pub key_is : (s : StoreView) (cell : Cell) (t : List (Option ℤ)) → Contains (tables_at s cell) t → Contains (finite.keys s.tables) cell
-key_is s cell t c = Contains-from_any same_cell cell (finite.keys s.tables) (sym (contains_key-keys s.tables cell) ∙ ap is_some (held_of s.tables cell t c))
-
-pub some_table : (s : StoreView) → IsStore s → (cell : Cell) (ts : List (List (Option ℤ))) → finite.get s.tables cell ≡ Some ts → (z : ZoneView) × Contains (zones_at s cell) z
-some_table s is cell [] e = absurd ((is.cells cell [] e).some refl)
-some_table s is cell (t ∷ ts) e = (zone_of s cell t, zone_in s cell (tables_at s cell) t (subst (λ l. Contains l t) (sym (ap (λ o. unwrap_or o []) e)) (contains_first t ts)))
-
--- the cells of a store are different, and each has a zone
-pub keys_differ : (s : StoreView) → AllPairs ◌≢◌ (finite.keys s.tables)
-keys_differ s = AllPairs-from_IsDistinct is_decided (finite.keys s.tables) (IsDistinct-from_sorted cell_cmp (finite.keys s.tables) (keys_ascend s.tables))
-
-pub key_zone : (s : StoreView) → IsStore s → (cell : Cell) → Contains (finite.keys s.tables) cell → (z : ZoneView) × Contains (zones_at s cell) z
-key_zone s is cell k = let h = key_held s is (λ xs ns. Unit {0}) 0 cell k in some_table s is cell h.0 h.1
 
 pub settling_none : (s new : StoreView) (left : List Cell) → IsStore s → IsStore new → new.shape ≡ s.shape → new.period ≡ s.period → new.tables ≡ finite.empty → left ≡ finite.keys s.tables → IsSettling s new left
 settling_none s new left is valid shape period empty keys = record {

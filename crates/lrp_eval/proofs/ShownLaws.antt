@@ -18,7 +18,7 @@ use Rattle.lrp_model.specs.declared.plans.StepKind.TheVariants.{Minus, DropTime,
 use Rattle.lrp_model.proofs.Decided.{contains_none, stable_of}
 use Rattle.lrp_model.proofs.DomainLaws.{in_order_ascends}
 use Rattle.lrp_store.specs.Stores.{IsStore, HasReach}
-use Rattle.lrp_store.specs.declared.table.Table.{Table}
+use Rattle.lrp_tables.specs.declared.table.Table.{Table}
 use Rattle.lrp_tables.specs.Caps.{Inhabits, InhabitsMoreThan}
 use Rattle.lrp_tables.specs.Tables.{Has, IsTableOf, named_variables}
 use Rattle.lrp_tables.proofs.DropCounts.{drop_time_counts}
@@ -30,9 +30,10 @@ use Rattle.lrp_eval.specs.Running.{HasConstants, SameVariables, variables_of, va
 use Rattle.lrp_dropping.specs.Without.{IsCompleted}
 use Rattle.lrp_eval.proofs.Counted.{constants_of, many_at}
 use Rattle.lrp_tables.proofs.Mapped.{many_map}
-use Rattle.lrp_eval.proofs.Denotes.{Denotes, Set, constants_time, same_others, in_one, same_more}
+use Rattle.lrp_eval.proofs.Denotes.{Denotes, Set, constants_time, same_others, same_more}
 use Rattle.lrp_eval.proofs.Named.{time_dropped}
 use Rattle.lrp_eval.proofs.Nexts.{own_variables}
+use Rattle.lrp_plan_laws.proofs.Members.{in_one}
 
 -- the set is the meaning of the formula of step s, up to double negation, and inhabits no more than cap cells of its period
 pub record IsShown (db : List Relation) (q : Question) (cap s : ℕ) (times texts : List Identifier) (set : Assignment → Type 0) : Type 0 where

@@ -8,7 +8,8 @@ use Rattle.lrp_store.specs.Stores.{StoreView, IsStore, tables_at, zones_at}
 use Rattle.lrp_minus.specs.Settling.{IsSettlement}
 use Rattle.lrp_minus.proofs.SettledLaws.{zone_on_line}
 use Rattle.lrp_eval.specs.Settling.{CanSettle, IsSettledStore}
-use Rattle.lrp_eval.proofs.SettleLaws.{key_is, table_of}
+use Rattle.lrp_store.proofs.ZoneCounts.{key_is}
+use Rattle.lrp_eval.proofs.SettleLaws.{table_of}
 
 -- the zones of the cell are a settlement of themselves
 abbrev pub StandsSettled : StoreView → Cell → Type 0

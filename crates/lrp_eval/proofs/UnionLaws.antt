@@ -10,8 +10,8 @@ use Rattle.lrp_model.specs.Plans.{plan}
 use Rattle.lrp_model.specs.declared.relations.Relation.{Relation}
 use Rattle.lrp_model.specs.declared.plans.StepKind.TheVariants.{Union, Extend}
 use Rattle.lrp_model.proofs.Decided.{Decided, decided_iff, decided_both, decided_all, decided_contains}
-use Rattle.lrp_store.specs.declared.table.StepFault.{StepFault}
-use Rattle.lrp_store.specs.declared.table.Table.{Table}
+use Rattle.lrp_tables.specs.declared.table.StepFault.{StepFault}
+use Rattle.lrp_tables.specs.declared.table.Table.{Table}
 use Rattle.lrp_tables.specs.Columns.{joint}
 use Rattle.lrp_tables.specs.Steps.{BothReach, CanUnite, IsUnionResult}
 use Rattle.lrp_tables.specs.Tables.{Has, HasTexts, IsUnited, named_variables}

@@ -23,7 +23,7 @@ use Rattle.lrp_zone.specs.Zones.{IsResidue}
 use Rattle.lrp_store.specs.Stores.{StoreView, IsStore, InStore, IsInhabitedCell, LiesInCell}
 use Rattle.lrp_store.specs.Growing.{InhabitsMany}
 use Rattle.lrp_store.specs.Tables.{AreNumbered}
-use Rattle.lrp_store.specs.declared.table.Table.{Table}
+use Rattle.lrp_tables.specs.declared.table.Table.{Table}
 use Rattle.lrp_store.proofs.Counted.{lies_in}
 use Rattle.lrp_tables.specs.Caps.{InhabitsMoreThan}
 use Rattle.lrp_tables.specs.Tables.{Has}
@@ -32,7 +32,7 @@ use Rattle.lrp_tables.proofs.Named.{pairs_left, pairs_right}
 use Rattle.lrp_tables.proofs.TableMade.{tuples_of}
 use Rattle.lrp_tables.proofs.Mapped.{Known, many_known, many_map}
 use Rattle.lrp_eval.proofs.Named.{all_of}
-use Rattle.lrp_eval.proofs.SettleLaws.{key_is}
+use Rattle.lrp_store.proofs.ZoneCounts.{key_is}
 
 -- ---- numbers
 

@@ -2,7 +2,7 @@
 use Rattle.std.specs.Prelude.{◌≡◌, ◌≢◌, ◌⊎◌, ◌<◌, ◌≤◌, ℕ, suc, List, length, Contains, Some, slice_get}
 use Rattle.lrp_model.specs.declared.plans.Step.{Step}
 use Rattle.lrp_plan_laws.specs.Made.{operands}
-use Rattle.lrp_store.specs.declared.table.Table.{Table}
+use Rattle.lrp_tables.specs.declared.table.Table.{Table}
 
 -- a reader is noted for a step, and each other step has the one that it had
 abbrev pub IsNoted : ℕ → ℕ → List ℕ → List ℕ → Type 0

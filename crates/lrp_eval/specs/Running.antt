@@ -5,7 +5,7 @@ use Rattle.lrp_model.specs.Formulas.{Question}
 use Rattle.lrp_model.specs.Variables.{Variable, data_variable}
 use Rattle.lrp_model.specs.Satisfaction.{Assignment, Satisfies, structure}
 use Rattle.lrp_model.specs.Domains.{constants}
-use Rattle.lrp_model.specs.Caps.{ManyAt, step_variables}
+use Rattle.lrp_model.specs.Caps.{IsFirstMany, ManyAt, step_variables}
 use Rattle.lrp_model.specs.Steps.{PlanStep, Steps, step_at, formula_at, reach_at}
 use Rattle.lrp_model.specs.Plans.{plan}
 use Rattle.lrp_model.specs.declared.relations.Sort.{Sort}
@@ -19,14 +19,16 @@ use Rattle.lrp_model.specs.declared.plans.StepKind.{StepKind}
 use Rattle.lrp_model.specs.declared.plans.StepKind.TheVariants.{Extend, Sort as SortStep}
 use Rattle.lrp_store.specs.Stores.{IsStore, HasReach}
 use Rattle.lrp_store.specs.Tables.{AreNumbered}
-use Rattle.lrp_store.specs.declared.table.StepFault.{StepFault}
-use Rattle.lrp_store.specs.declared.table.StepFault.TheVariants.{TooManyCells}
-use Rattle.lrp_store.specs.declared.table.Table.{Table}
+use Rattle.lrp_tables.specs.declared.table.StepFault.{StepFault}
+use Rattle.lrp_tables.specs.declared.table.StepFault.TheVariants.{TooManyCells}
+use Rattle.lrp_tables.specs.declared.table.Table.{Table}
 use Rattle.lrp_tables.specs.Columns.{head_times, head_texts}
 use Rattle.lrp_tables.specs.Tables.{Has, named_variables}
 use Rattle.lrp_plan_laws.specs.Made.{operands}
 use Rattle.lrp_plan_laws.specs.Rising.{period_at}
 use Rattle.lrp_eval.specs.Planned.{IsPlanOf}
+use Rattle.lrp_eval.specs.declared.evaluation.EvalFault.{EvalFault}
+use Rattle.lrp_eval.specs.declared.evaluation.EvalFault.TheVariants.{TooManyCells as TooManyCellsAt}
 
 -- the assignment gives each data variable of the list a text of the domain
 abbrev pub HasConstants : List Text → List Variable → Assignment → Type 0
@@ -80,6 +82,18 @@ pub record AreRun (db : List Relation) (q : Question) (cap : ℕ) (tables : List
   pub read : (i : ℕ) (table : Table) → slice_get tables i ≡ Some table → IsReadBehind (plan db q) (length tables) (suc i) → IsStepTable db q cap (suc i) table
   pub last : (i : ℕ) (table : Table) → slice_get tables i ≡ Some table → suc i ≡ length tables → IsStepTable db q cap (suc i) table
   pub few : (s : ℕ) → s ≤ length tables → ManyAt db q cap s → ⊥
+
+-- some query has the plan, and these are the tables of its first steps
+abbrev pub AreRunBySome : List Relation → Plan → ℕ → List Table → Type 0
+AreRunBySome db p cap tables = (q : Question) × IsPlanOf db q p × AreRun db q cap tables
+
+-- in each query that has the plan the new ones are too, where the old ones are
+abbrev pub AreRunThen : List Relation → Plan → ℕ → List Table → List Table → Type 0
+AreRunThen db p cap old new = (q : Question) → IsPlanOf db q p → AreRun db q cap old → AreRun db q cap new
+
+-- the fault names the first step with too many cells, in each query that has the plan and whose first steps have these tables
+abbrev pub NamesFirstMany : List Relation → Plan → ℕ → List Table → EvalFault → Type 0
+NamesFirstMany db p cap tables fault = (step : ℕ) → fault ≡ TooManyCellsAt step → (q : Question) → IsPlanOf db q p → AreRun db q cap tables → IsFirstMany db q cap step
 
 -- the tables that a step of this kind reads are those of their steps
 abbrev pub AreReadBy : List Relation → Question → ℕ → List Table → StepKind → Type 0

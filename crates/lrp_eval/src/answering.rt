@@ -6,9 +6,9 @@ ghost use Rattle.lrp_eval.specs.Planned.{IsEvalCause, IsPlanOf, IsSomePlan};
 
 use crate::evaluation::{EvalFault, run_steps};
 use crate::settling::settled;
+use lrp_answers::Answer;
+use lrp_database::Database;
 use lrp_model::{Copies, Plan};
-use lrp_rel::Database;
-use lrp_store::Answer;
 use std::alloc::Global;
 
 /// The answers of each settled query that has the plan, with the zones of each cell settled.

@@ -1,20 +1,19 @@
 // The steps of a plan, one after another.
 ghost use Rattle.std.specs.Prelude.{◌≡◌, ◌<◌, ◌≤◌, ◌+◌, ◌++◌, ◌∷◌, [], ℕ, suc, length, List as ListOf, IfOk, IfErr};
 ghost use Rattle.lrp_store.specs.Stores.{IsStore};
-ghost use Rattle.lrp_store.specs.declared.table.Table.{Table as TableOf};
-ghost use Rattle.lrp_model.specs.Caps.{IsFirstMany};
+ghost use Rattle.lrp_tables.specs.declared.table.Table.{Table as TableOf};
 ghost use Rattle.lrp_model.specs.Formulas.{Question};
-ghost use Rattle.lrp_store.specs.declared.table.StepFault.TheVariants.{TooManyCells as too_many};
+ghost use Rattle.lrp_tables.specs.declared.table.StepFault.TheVariants.{TooManyCells as too_many};
 ghost use Rattle.lrp_eval.specs.Freeing.{AreLastReaders};
 ghost use Rattle.lrp_eval.specs.Planned.{HasAnswers, IsEvalCause, IsPlanOf, IsSomePlan};
-ghost use Rattle.lrp_eval.specs.Running.{AreRun};
+ghost use Rattle.lrp_eval.specs.Running.{AreRunBySome, AreRunThen, NamesFirstMany};
 
 use crate::following::{Together, run_together};
 use crate::freeing::{give_up, last_readers, nothing};
 use crate::heading::is_headed;
 use crate::running::run_step;
+use lrp_database::Database;
 use lrp_model::{List, Memory, Plan};
-use lrp_rel::Database;
 use lrp_tables::{Setting, StepFault, Table};
 use std::alloc::Global;
 use thiserror::Error;
@@ -41,8 +40,8 @@ impl From<Memory> for EvalFault {
 
 /// The table of the last step of a plan, which has just the answers of each settled query that has the plan.
 ///
-/// The steps are run one after another, and a table is kept until the last step that reads it is done. `TooManyCells` comes at the first step whose formula is inhabited in more than `cap`
-/// cells of its period.
+/// The steps are run one after another, and a table is kept until the last step that reads it is done. `TooManyCells`
+/// comes at the first step whose formula is inhabited in more than `cap` cells of its period.
 pub fn run_steps(
     alloc: Global,
     plan: &Plan,
@@ -89,19 +88,13 @@ fn run_next(
     tables: List<Table>,
 ) -> Result<List<Table>, EvalFault>
     requires domain { setting.now.domain.now ≡ plan.now.domain }
-    requires plan { (q : Question) × IsPlanOf database.now q plan.now
-        × AreRun database.now q setting.now.cap tables }
+    requires plan { AreRunBySome database.now plan.now setting.now.cap tables }
     requires readers { AreLastReaders plan.now.steps readers.now }
     requires below { length tables < length plan.now.steps }
-    ensures run { IfOk result (λ new. (q : Question) → IsPlanOf database.now q plan.now
-        → AreRun database.now q setting.now.cap tables
-        → AreRun database.now q setting.now.cap new) }
+    ensures run { IfOk result (AreRunThen database.now plan.now setting.now.cap tables) }
     ensures more { IfOk result (λ new. (length tables < length new)
         × (length new ≤ length plan.now.steps)) }
-    ensures fault { IfErr result (λ fault. (step : ℕ) → fault ≡ EvalFault.TooManyCells step
-        → (q : Question) → IsPlanOf database.now q plan.now
-        → AreRun database.now q setting.now.cap tables
-        → IsFirstMany database.now q setting.now.cap step) }
+    ensures fault { IfErr result (NamesFirstMany database.now plan.now setting.now.cap tables) }
 {
     match run_together(setting, plan, readers, tables.as_slice()) {
         Ok(Some(together)) => Ok(with_together(setting.alloc, tables, together)?),
@@ -137,18 +130,12 @@ fn run_one(
     mut tables: List<Table>,
 ) -> Result<List<Table>, EvalFault>
     requires domain { setting.now.domain.now ≡ plan.now.domain }
-    requires plan { (q : Question) × IsPlanOf database.now q plan.now
-        × AreRun database.now q setting.now.cap tables }
+    requires plan { AreRunBySome database.now plan.now setting.now.cap tables }
     requires readers { AreLastReaders plan.now.steps readers.now }
     requires below { length tables < length plan.now.steps }
-    ensures run { IfOk result (λ new. (q : Question) → IsPlanOf database.now q plan.now
-        → AreRun database.now q setting.now.cap tables
-        → AreRun database.now q setting.now.cap new) }
+    ensures run { IfOk result (AreRunThen database.now plan.now setting.now.cap tables) }
     ensures more { IfOk result (λ new. length new ≡ length tables + 1) }
-    ensures fault { IfErr result (λ fault. (step : ℕ) → fault ≡ EvalFault.TooManyCells step
-        → (q : Question) → IsPlanOf database.now q plan.now
-        → AreRun database.now q setting.now.cap tables
-        → IsFirstMany database.now q setting.now.cap step) }
+    ensures fault { IfErr result (NamesFirstMany database.now plan.now setting.now.cap tables) }
 {
     let step = &plan.steps.as_slice()[tables.len()];
     match run_step(setting, database, &plan.head, tables.as_slice(), step) {

@@ -1,7 +1,7 @@
 // Which of the next steps can be run together.
 ghost use Rattle.std.specs.Prelude.{◌≡◌, ◌<◌, ◌≤◌, ◌+◌, ◌^◌, IfOk, IfSome, IsTrue, length};
 ghost use Rattle.lrp_model.specs.declared.plans.StepKind.TheVariants.{DropTime, Minus};
-ghost use Rattle.lrp_eval.specs.Together.{AreDroppedFrom, ArePassed, AreTogether, IsNarrowing, IsProjection, IsSomeRun};
+ghost use Rattle.lrp_eval.specs.Together.{AreDroppedFrom, AreInside, ArePassed, AreTogether, IsNarrowing, IsProjection, IsSomeRun};
 
 use crate::projecting::{Projection, projected};
 use crate::together::{Narrowing, narrowed};
@@ -29,10 +29,8 @@ pub(crate) fn run_together(
     requires domain { setting.now.domain.now ≡ plan.now.domain }
     requires plan { IsSomeRun plan.now setting.now.cap tables.now }
     ensures table { IfOk result (λ found. IfSome found
-        (λ made. AreTogether plan.now setting.now.cap readers.now tables.now made.between
-        made.table)) }
-    ensures inside { IfOk result (λ found. IfSome found
-        (λ made. length tables.now + made.between < length plan.now.steps)) }
+        (AreTogether plan.now setting.now.cap readers.now tables.now)) }
+    ensures inside { IfOk result (λ found. IfSome found (AreInside plan.now tables.now)) }
 {
     match run_narrowing(setting, plan, readers, tables) {
         Ok(Some(together)) => Ok(Some(together)),
@@ -51,10 +49,8 @@ fn run_narrowing(
     requires domain { setting.now.domain.now ≡ plan.now.domain }
     requires plan { IsSomeRun plan.now setting.now.cap tables.now }
     ensures table { IfOk result (λ found. IfSome found
-        (λ made. AreTogether plan.now setting.now.cap readers.now tables.now made.between
-        made.table)) }
-    ensures inside { IfOk result (λ found. IfSome found
-        (λ made. length tables.now + made.between < length plan.now.steps)) }
+        (AreTogether plan.now setting.now.cap readers.now tables.now)) }
+    ensures inside { IfOk result (λ found. IfSome found (AreInside plan.now tables.now)) }
 {
     let Some(narrowing) = narrowing_at(plan.steps.as_slice(), readers, tables.len()) else {
         return Ok(None);
@@ -76,10 +72,8 @@ fn run_projection(
     requires domain { setting.now.domain.now ≡ plan.now.domain }
     requires plan { IsSomeRun plan.now setting.now.cap tables.now }
     ensures table { IfOk result (λ found. IfSome found
-        (λ made. AreTogether plan.now setting.now.cap readers.now tables.now made.between
-        made.table)) }
-    ensures inside { IfOk result (λ found. IfSome found
-        (λ made. length tables.now + made.between < length plan.now.steps)) }
+        (AreTogether plan.now setting.now.cap readers.now tables.now)) }
+    ensures inside { IfOk result (λ found. IfSome found (AreInside plan.now tables.now)) }
 {
     let at = tables.len();
     let projection = match projection_at(setting.alloc, plan.steps.as_slice(), readers, at) {

@@ -5,9 +5,9 @@ ghost use Rattle.lrp_eval.specs.Running.{IsNext, IsOperand, IsRunResult};
 
 use crate::sorting::sort_step;
 use lrp_algebra::{drop_data, drop_time, extend, join, leaf, scan, select, union};
+use lrp_database::Database;
 use lrp_minus::{complement, minus};
 use lrp_model::{Head, Step, StepKind};
-use lrp_rel::Database;
 use lrp_tables::{Setting, StepFault, Table};
 
 /// The table of a step, by its number from 1.

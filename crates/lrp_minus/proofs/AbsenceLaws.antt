@@ -2,7 +2,7 @@
 use Rattle.std.proofs.Common.{◌≡◌, ◌≢◌, ℕ, zero, suc, ◌+◌, ◌-◌, ◌*◌, ◌<◌, ◌≤◌, ◌^◌, ◌⊎◌, inl, inr, List, [], ◌∷◌, length, take, replicate, refl, sym, ap, subst, ◌∙◌, arith, get_or, set, get_or-set_other, get_or-set_same, below_more}
 use Rattle.std.proofs.Common.{to_z, of_z}
 use Rattle.std.specs.Int.{w64}
-use Rattle.std.specs.Prelude.{ℤ, pos, Contains, map, ◌-ℤ◌, ◌≤ℤ◌, ◌<ℤ◌, ◌+ℤ◌}
+use Rattle.std.specs.Prelude.{ℤ, pos, Contains, ◌-ℤ◌, ◌≤ℤ◌, ◌<ℤ◌, ◌+ℤ◌}
 use Rattle.std.proofs.lemmas.Bool.{cases_lt}
 use Rattle.std.proofs.lemmas.Int.{ints}
 use Rattle.std.proofs.lemmas.List.{ext_get_or, get_or-take, get_or_default, length-take-le, length-set}
@@ -23,6 +23,7 @@ use Rattle.lrp_minus.specs.Differences.{AreOfCell, greatest_reach}
 use Rattle.lrp_minus.specs.Filling.{IsUncut}
 use Rattle.lrp_tables.proofs.Gathering.{IsGathering, gathering_more, gathering_refused, gathered, added_as, refused_as}
 use Rattle.lrp_minus.proofs.Lists.{greatest_below}
+use Rattle.lrp_theory.proofs.Members.{from_map, in_map}
 
 -- the time in a column has this residue or a later one
 pub record IsBehind (k column : ℕ) (residue : ℤ) (times : List ℤ) (texts : List ℕ) : Type 0 where
@@ -34,17 +35,6 @@ pub record IsBehind (k column : ℕ) (residue : ℤ) (times : List ℤ) (texts :
 -- a number as it is passed
 pub word_is : (m : ℤ) → pos 0 ≤ℤ m → m ≤ℤ pos (2 ^ 62) → to_z w64 (of_z w64 m) ≡ m
 word_is m low high = omega (arith, ints)
-
--- what a mapped list has
-pub of_map : {X Y : Type 0} (f : X → Y) (xs : List X) (y : Y) → Contains (map f xs) y → (x : X) × Contains xs x × (f x ≡ y)
-of_map f [] y h = let l : h.0 < 0 = h.1 in absurd (omega arith)
-of_map f (x ∷ xs) y (zero, l, e) = (x, (0, omega arith, refl), e)
-of_map f (x ∷ xs) y (suc k, l, e) = let r = of_map f xs y (k, omega arith, e) in (r.0, (suc r.1.0, omega (arith, r.1.1), r.1.2), r.2)
-
-in_map : {X Y : Type 0} (f : X → Y) (xs : List X) (x : X) → Contains xs x → Contains (map f xs) (f x)
-in_map f [] x h = let l : h.0 < 0 = h.1 in absurd (omega arith)
-in_map f (y ∷ xs) x (zero, l, e) = (0, omega arith, ap f e)
-in_map f (y ∷ xs) x (suc k, l, e) = let r = in_map f xs x (k, omega arith, e) in (suc r.0, omega (arith, r.1), r.2)
 
 -- no residue is chosen
 pub noughts : IsPadded (pos 0) 0 (replicate 8 (pos 0))
@@ -283,14 +273,14 @@ module _ (s : StoreView) (is : IsStore s) where
 
         pub free_cutters : AreOfCell z (zones_at s cell)
         free_cutters = record {
-          each = λ w h. let t = of_map (zone_of s cell) (tables_at s cell) w h in
+          each = λ w h. let t = from_map (zone_of s cell) (tables_at s cell) w h in
               subst (IsOfCell z) t.2 (record { period = sym free_period; residues = sym free_residues });
         }
 
         pub free_reach : (high : ℕ) → HasReach s high → greatest_reach (z ∷ zones_at s cell) + z.period ≤ high + 2 * s.period
         free_reach high r =
             let a : reach_of z ≤ 0 + (z.period - 1) = o.reach 0 (λ i l. absurd (omega arith)) in
-            let b : greatest_reach (zones_at s cell) ≤ high = greatest_below (zones_at s cell) high (λ w h. let t = of_map (zone_of s cell) (tables_at s cell) w h in subst (λ v. reach_of v ≤ high) t.2 (r.each cell t.0 t.1)) in
+            let b : greatest_reach (zones_at s cell) ≤ high = greatest_below (zones_at s cell) high (λ w h. let t = from_map (zone_of s cell) (tables_at s cell) w h in subst (λ v. reach_of v ≤ high) t.2 (r.each cell t.0 t.1)) in
             let e : z.period ≡ s.period = free_period in
             omega arith
 
@@ -338,7 +328,7 @@ module _ (s : StoreView) (is : IsStore s) where
             meets = λ i l. absurd (omega arith);
           }));
           none = λ i.
-              let t = of_map (zone_of s cell) (tables_at s cell) i.zone i.listed in
+              let t = from_map (zone_of s cell) (tables_at s cell) i.zone i.listed in
               h.none (record { cell = cell; table = t.0; held = t.1; named = h.named; inside = subst (λ w. IsMember w xs) (sym t.2) i.inside });
           same = h.named;
         }

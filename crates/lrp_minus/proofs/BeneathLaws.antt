@@ -13,7 +13,7 @@ use Rattle.lrp_zone.specs.Zones.{IsResidue}
 use Rattle.lrp_store.specs.Stores.{StoreView, IsStore, IsPadded}
 use Rattle.lrp_minus.specs.Beneath.{ArePlacesFor, AreNumbersAt, AreResiduesAt, IsCellBeneath}
 use Rattle.lrp_tables.specs.Calls.{number_at}
-use Rattle.lrp_minus.specs.declared.beneath.Places.{Places}
+use Rattle.lrp_tables.specs.declared.names.Places.{Places}
 
 -- ---- values that are put one after another
 

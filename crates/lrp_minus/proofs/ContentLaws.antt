@@ -18,7 +18,7 @@ use Rattle.lrp_systems.specs.Choices.{AgreesAlong}
 use Rattle.lrp_minus.specs.Beneath.{IsCellBeneath}
 use Rattle.lrp_tables.specs.Calls.{number_at}
 use Rattle.lrp_minus.specs.Taking.{AgreesBeneath, IsContentBeneath, IsContentOf, IsTaking}
-use Rattle.lrp_minus.specs.declared.beneath.Places.{Places}
+use Rattle.lrp_tables.specs.declared.names.Places.{Places}
 use Rattle.lrp_minus.specs.declared.taking.Content.{Content}
 use Rattle.lrp_minus.specs.declared.taking.Content.TheVariants.{Nothing, Everything}
 use Rattle.lrp_minus.specs.declared.taking.Taking.{Taking}

@@ -22,7 +22,7 @@ use Rattle.lrp_minus.specs.Beneath.{AgreesAt, AreResiduesAt, IsCellBeneath}
 use Rattle.lrp_tables.specs.Calls.{number_at}
 use Rattle.lrp_minus.specs.Cutters.{AreCutOf, AreCutters, CanCut, HasNoCutter, IsCutter}
 use Rattle.lrp_minus.specs.Differences.{greatest_reach}
-use Rattle.lrp_minus.specs.declared.beneath.Places.{Places}
+use Rattle.lrp_tables.specs.declared.names.Places.{Places}
 use Rattle.lrp_minus.proofs.BeneathLaws.{numbers_front}
 use Rattle.lrp_minus.proofs.Lists.{from_map, front_more, got_in, greatest_below, in_either, in_left, in_map, in_nothing, in_right, in_this, reach_below, reach_push, this_has, in_none, in_one}
 use Rattle.std.proofs.lemmas.List.Elements.{Contains-append_cases, Contains-append_left, Contains-push}

@@ -14,7 +14,7 @@ use Rattle.lrp_zone.specs.Zones.{reach_of}
 use Rattle.lrp_store.specs.Growing.{IsAdded, IsRefused}
 use Rattle.lrp_store.specs.Stores.{StoreView, IsStore, InStore, HasReach, zone_of}
 use Rattle.lrp_store.specs.Tables.{AreNumbered}
-use Rattle.lrp_store.specs.declared.table.Table.{Table}
+use Rattle.lrp_tables.specs.declared.table.Table.{Table}
 use Rattle.lrp_tables.specs.Caps.{InhabitsMoreThan}
 use Rattle.lrp_tables.specs.Columns.{ArePlacesOf, IsPlace}
 use Rattle.lrp_tables.specs.Tables.{Has, HasTexts, IsMinus, IsTableOf}
@@ -28,7 +28,7 @@ use Rattle.lrp_tables.proofs.Wider.{IsWider, less_tuples, same_tuples, wider_tup
 use Rattle.lrp_minus.specs.Absences.{IsLike}
 use Rattle.lrp_minus.specs.Beneath.{ArePlacesFor}
 use Rattle.lrp_minus.specs.Cutters.{CanCut, CanSubtract, CanTake, HaveReach, IsSpared}
-use Rattle.lrp_minus.specs.declared.beneath.Places.{Places}
+use Rattle.lrp_tables.specs.declared.names.Places.{Places}
 
 -- a period as it is passed
 pub passed_is : (k : ℤ) → pos 1 ≤ℤ k → 2 * nat_abs k ≤ 2 ^ 62 → to_z w64 (of_z w64 k) ≡ k

@@ -13,9 +13,9 @@ use Rattle.lrp_store.proofs.Counted.{lies_in, one_cell}
 use Rattle.lrp_store.proofs.Grown.{grown_same}
 use Rattle.lrp_store.proofs.Held.{cell_held, node_take}
 use Rattle.lrp_minus.specs.Absences.{IsAbsentAt, IsChosenTo, IsLike}
-use Rattle.lrp_minus.proofs.AbsenceLaws.{of_map}
 use Rattle.lrp_tables.proofs.FreeZones.{free_zone}
 use Rattle.lrp_tables.proofs.Gathering.{added_as, refused_as}
+use Rattle.lrp_theory.proofs.Members.{from_map}
 
 -- a table without bounds has none at any place, and no reach
 no_bound : (n i : ℕ) → get_or {A = Option ℤ} (replicate n None) i None ≡ None
@@ -107,7 +107,7 @@ module _ (s : StoreView) (is : IsStore s) (cell : Cell) (c : IsChosenTo s s.shap
 
   nothing_absent : (xs : List ℤ) (ns : List ℕ) → IsAbsentAt s s.shape.times cell xs ns → ⊥
   nothing_absent xs ns h =
-      let g = of_map (zone_of s cell) (tables_at s cell) z there in
+      let g = from_map (zone_of s cell) (tables_at s cell) z there in
       h.none (record { cell = cell; table = g.0; held = g.1; named = h.named; inside = subst (λ (w : ZoneView). IsMember w xs) (sym g.2) (all xs (subst (λ (w : ZoneView). IsInCell w xs) g.2 (in_cell g.0))) })
     where
       in_cell : (table : List (Option ℤ)) → IsInCell (zone_of s cell table) xs

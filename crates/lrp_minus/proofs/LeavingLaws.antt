@@ -10,7 +10,7 @@ use Rattle.lrp_model.specs.declared.relations.Bound.{Bound}
 use Rattle.lrp_zone.specs.Zones.{ZoneView, IsZone, IsMember, IsTight, columns_of, reach_of}
 use Rattle.lrp_zone.specs.Pairs.{IsOfCell, IsWithin}
 use Rattle.lrp_store.specs.Settled.{InSome}
-use Rattle.lrp_minus.specs.Cutting.{HaveCommon}
+use Rattle.lrp_minus.specs.Cutting.{HaveCommon, side_reach}
 use Rattle.lrp_minus.specs.Differences.{AreOfCell, greatest_reach}
 use Rattle.lrp_minus.specs.Halves.{MeetsBound, CanBeStored, IsHalf, HasNoHalf, other_side}
 use Rattle.lrp_minus.specs.Leaving.{IsBoundOf, AreBoundsOf, AreFromRow, HasGap, AreLeftOf, AppendsLeft, AreMeeting}
@@ -318,6 +318,15 @@ module _ (z c : ZoneView) (h : ℕ) (sides cutters : List ZoneView) (here : Cont
 
     pub reach_met : greatest_reach met ≤ greatest_reach cutters
     reach_met = greatest_below met (greatest_reach cutters) (λ v k. reach_below cutters v (m.listed v k))
+
+    -- so one can go on with the side and the cutters that it meets
+    pub goes_on : (given : List ZoneView) → given ≡ met → AreOfCell z cutters → side_reach z.period cutters ≤ 2 ^ 62 → (length given < length cutters) × AreOfCell w given × (side_reach w.period given ≤ 2 ^ 62)
+    goes_on given e cells room =
+        let less : greatest_reach met ≤ greatest_reach cutters = reach_met in
+        let period : w.period ≡ z.period = (left.zones w l).1.period in
+        let top : greatest_reach cutters + z.period ≤ 2 ^ 62 = room in
+        let low : greatest_reach met + w.period ≤ 2 ^ 62 = omega (arith, less, period, top) in
+        subst (λ x. (length x < length cutters) × AreOfCell w x × (side_reach w.period x ≤ 2 ^ 62)) (sym e) (meets_fewer, cells_met cells, low)
 
   -- no side has a gap
   pub no_gap_left : ((w : ZoneView) → Contains sides w → HasGap w cutters → ⊥) → HasGap z cutters → ⊥

@@ -22,6 +22,7 @@ use Rattle.lrp_minus.specs.Intervals.{span_of, ends_of, IsNumber, IsEnd, IsInter
 use Rattle.lrp_minus.specs.Thresholds.{bound_there}
 use Rattle.lrp_zone.proofs.Lines.{in_line, line_cell, line_high, line_low}
 use Rattle.lrp_minus.proofs.Lists.{in_none, in_one, one_in}
+use Rattle.lrp_matrix.proofs.RangeLemmas.{AtMost-negation}
 
 -- ---- the interval of a zone
 low_to : (x : ℤ) (e : Option ℤ) → Within (pos 0 -ℤ x) e → Above x (negation e)
@@ -48,10 +49,6 @@ end_high : (z : ZoneView) (e : Option ℤ) → IsTight (pos z.period) (node z.re
 end_high z None t s room = tt
 end_high z (Some a) t s room = (Divides-is (pos z.period) (a -ℤ (node z.residues 1 -ℤ pos 0)) _ (omega (arith, ints)) t.0, omega (arith, ints, s.0, s.1))
 
-small_low : (h : ℕ) (e : Option ℤ) → AtMost h e → AtMost h (negation e)
-small_low h None s = tt
-small_low h (Some a) s = (omega (arith, ints, s.0, s.1), omega (arith, ints, s.0, s.1))
-
 module _ (z : ZoneView) (valid : IsZone z) (one : columns_of z ≡ 1) where
   pub span_to : (x : ℤ) → IsMember z (x ∷ []) → IsNumber z (span_of z) x
   span_to x m = record {
@@ -75,7 +72,7 @@ module _ (z : ZoneView) (valid : IsZone z) (one : columns_of z ≡ 1) where
 
   pub span_small : (h : ℕ) → reach_of z ≤ h → HasSmallEnds h (span_of z)
   span_small h l = record {
-    least = small_low h (entry z.bounds 0 1) ((reach_small z h l).each 0 1 (omega arith) (omega (arith, one)));
+    least = AtMost-negation h (entry z.bounds 0 1) ((reach_small z h l).each 0 1 (omega arith) (omega (arith, one)));
     most = (reach_small z h l).each 1 0 (omega (arith, one)) (omega arith);
   }
 

@@ -20,7 +20,7 @@ use Rattle.lrp_minus.specs.Beneath.{HasBeneath}
 use Rattle.lrp_minus.specs.Cutters.{AreCutters, CanTake, HaveReach, IsSpared, IsSparedIn}
 use Rattle.lrp_minus.specs.Differences.{AreOfCell, greatest_reach}
 use Rattle.lrp_minus.specs.Filling.{IsUncut}
-use Rattle.lrp_minus.specs.declared.beneath.Places.{Places}
+use Rattle.lrp_tables.specs.declared.names.Places.{Places}
 use Rattle.lrp_minus.proofs.CutterLaws.{read_at, read_period, read_residues, read_columns, read_reach}
 use Rattle.lrp_tables.proofs.Gathering.{IsGathering, gathering_none, gathering_more, gathering_refused, gathered}
 use Rattle.lrp_minus.proofs.Lists.{in_cons, in_map, in_nothing}

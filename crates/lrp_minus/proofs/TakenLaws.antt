@@ -12,7 +12,7 @@ use Rattle.lrp_store.specs.Settled.{InSome}
 use Rattle.lrp_store.specs.Stores.{StoreView, IsStore, IsCellOf, IsPadded, zones_at}
 use Rattle.lrp_minus.specs.Cutters.{CanCut, CanSubtract, IsSparedIn}
 use Rattle.lrp_minus.specs.Taking.{IsLeftOf}
-use Rattle.lrp_minus.specs.declared.beneath.Places.{Places}
+use Rattle.lrp_tables.specs.declared.names.Places.{Places}
 use Rattle.lrp_minus.proofs.CutterLaws.{read_at, read_columns, read_period, read_reach}
 use Rattle.lrp_minus.proofs.DifferenceLaws.{can_cut}
 use Rattle.lrp_tables.proofs.Gathering.{IsGathering, gathering_more, gathering_refused}

@@ -29,7 +29,7 @@ use Rattle.lrp_minus.specs.Cutters.{AreCutters}
 use Rattle.lrp_minus.specs.Differences.{AreOfCell, greatest_reach}
 use Rattle.lrp_minus.specs.Filling.{IsUncut}
 use Rattle.lrp_minus.specs.Taking.{IsContentOf, IsLeftIn, IsLeftOf, IsTaking, IsWithin}
-use Rattle.lrp_minus.specs.declared.beneath.Places.{Places}
+use Rattle.lrp_tables.specs.declared.names.Places.{Places}
 use Rattle.lrp_minus.specs.declared.taking.Content.{Content}
 use Rattle.lrp_minus.specs.declared.taking.Content.TheVariants.{Nothing, Everything}
 use Rattle.lrp_minus.specs.declared.taking.Taking.{Taking}

@@ -1,9 +1,10 @@
 -- What a store has not, as the tuples of its cells.
-use Rattle.std.specs.Prelude.{◌≡◌, ℕ, ℤ, ◌*◌, ◌-◌, ◌^◌, ◌<◌, ◌≤◌, pos, ◌-ℤ◌, List, length, take, All, slice_index}
+use Rattle.std.specs.Prelude.{◌≡◌, ℕ, ℤ, ◌+◌, ◌*◌, ◌-◌, ◌^◌, ◌<◌, ◌≤◌, pos, ◌-ℤ◌, List, length, take, All, slice_index}
 use Rattle.lrp_theory.specs.Divides.{Divides}
 use Rattle.lrp_theory.specs.Entries.{node}
 use Rattle.lrp_model.specs.declared.tuples.Cell.{Cell}
 use Rattle.lrp_zone.specs.Zones.{IsResidue}
+use Rattle.lrp_store.specs.Growing.{IsAdded, IsRefused}
 use Rattle.lrp_store.specs.Stores.{StoreView, InStore, IsPadded, HasReach}
 
 -- a tuple of the store's shape that is not in it; its numbers of texts are below the size, and those before a column are the chosen ones
@@ -36,3 +37,11 @@ pub record IsLike (s out : StoreView) : Type 0 where
 pub record CanBeTurned (s : StoreView) : Type 0 where
   pub period : 2 * s.period ≤ 2 ^ 62
   pub reach : HasReach s (2 ^ 62 - 2 * s.period)
+
+-- the set is added to old, by bounds that are at most two periods greater than those of the store s
+abbrev pub IsAddedBeyond : StoreView → (List ℤ → List ℕ → Type 0) → ℕ → StoreView → StoreView → Type 0
+IsAddedBeyond s set cap old new = (high : ℕ) → HasReach s high → IsAdded set cap (high + 2 * s.period) old new
+
+-- or it has a cell that would be one too many
+abbrev pub IsRefusedBeyond : StoreView → (List ℤ → List ℕ → Type 0) → ℕ → StoreView → StoreView → Type 0
+IsRefusedBeyond s set cap old new = (high : ℕ) → HasReach s high → IsRefused set cap (high + 2 * s.period) old new

@@ -5,7 +5,7 @@ use Rattle.lrp_theory.specs.Entries.{node}
 use Rattle.lrp_model.specs.declared.tuples.Cell.{Cell}
 use Rattle.lrp_zone.specs.Spread.{ArePlaces, target}
 use Rattle.lrp_store.specs.Stores.{StoreView, InStore, IsCellOf, IsPadded}
-use Rattle.lrp_minus.specs.declared.beneath.Places.{Places}
+use Rattle.lrp_tables.specs.declared.names.Places.{Places}
 use Rattle.lrp_tables.specs.Calls.{number_at}
 
 -- the values at the places are a tuple of the store

@@ -5,11 +5,12 @@ use Rattle.lrp_theory.specs.Entries.{node}
 use Rattle.lrp_model.specs.declared.tuples.Cell.{Cell}
 use Rattle.lrp_zone.specs.Residues.{HasResidues}
 use Rattle.lrp_zone.specs.Zones.{ZoneView, IsMember, reach_of}
+use Rattle.lrp_store.specs.Growing.{IsAdded, IsRefused}
 use Rattle.lrp_store.specs.Settled.{InSome}
 use Rattle.lrp_store.specs.Stores.{StoreView, InCell, InStore, HasReach}
 use Rattle.lrp_minus.specs.Beneath.{ArePlacesFor, HasBeneath}
 use Rattle.lrp_minus.specs.Differences.{greatest_reach}
-use Rattle.lrp_minus.specs.declared.beneath.Places.{Places}
+use Rattle.lrp_tables.specs.declared.names.Places.{Places}
 
 -- a tuple of the left store that has none of the right one at the places
 pub record IsSpared (places : Places) (left right : StoreView) (times : List ℤ) (texts : List ℕ) : Type 0 where
@@ -20,6 +21,14 @@ pub record IsSpared (places : Places) (left right : StoreView) (times : List ℤ
 pub record IsSparedIn (places : Places) (left : StoreView) (cell : Cell) (right : StoreView) (times : List ℤ) (texts : List ℕ) : Type 0 where
   pub held : InCell left cell times texts
   pub none : HasBeneath places right times texts → ⊥
+
+-- the set is added to the store old, by bounds that are at most two of its periods greater than a reach that both stores have
+abbrev pub IsAddedFrom : StoreView → StoreView → (List ℤ → List ℕ → Type 0) → ℕ → StoreView → StoreView → Type 0
+IsAddedFrom left right set cap old new = (high : ℕ) → HasReach left high → HasReach right high → IsAdded set cap (high + 2 * old.period) old new
+
+-- or it has a cell that would be one too many
+abbrev pub IsRefusedFrom : StoreView → StoreView → (List ℤ → List ℕ → Type 0) → ℕ → StoreView → StoreView → Type 0
+IsRefusedFrom left right set cap old new = (high : ℕ) → HasReach left high → HasReach right high → IsRefused set cap (high + 2 * old.period) old new
 
 -- the zones of the right store reach no farther than this, and those of the left one no farther than that and the period less 1
 pub record HaveReach (left right : StoreView) (high : ℕ) : Type 0 where

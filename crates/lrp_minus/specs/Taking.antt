@@ -15,7 +15,7 @@ use Rattle.lrp_systems.specs.Systems.{IsBranch}
 use Rattle.lrp_minus.specs.Beneath.{HasBeneath}
 use Rattle.lrp_tables.specs.Calls.{number_at}
 use Rattle.lrp_minus.specs.Cutters.{CanCut}
-use Rattle.lrp_minus.specs.declared.beneath.Places.{Places}
+use Rattle.lrp_tables.specs.declared.names.Places.{Places}
 use Rattle.lrp_minus.specs.declared.taking.Content.{Content}
 use Rattle.lrp_minus.specs.declared.taking.Content.TheVariants.{Nothing, Everything}
 use Rattle.lrp_minus.specs.declared.taking.Taking.{Taking}

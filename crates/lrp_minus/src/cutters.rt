@@ -8,9 +8,10 @@ ghost use Rattle.lrp_store.specs.Stores.{HasReach, IsCellOf, zones_at};
 ghost use Rattle.lrp_minus.specs.Beneath.{AgreesAt};
 ghost use Rattle.lrp_minus.specs.Cutters.{AreCutOf, AreCutters, CanCut, HasNoCutter, IsCutter};
 
-use crate::beneath::{Places, cell_beneath, residues_at};
+use crate::beneath::{cell_beneath, residues_at};
 use lrp_model::{Cell, List, Memory};
 use lrp_store::Store;
+use lrp_tables::Places;
 use lrp_zone::Zone;
 use std::alloc::Global;
 

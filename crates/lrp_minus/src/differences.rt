@@ -1,18 +1,17 @@
 // Differences of tables.
 ghost use Rattle.std.specs.Prelude.{◌≡◌, ◌+◌, ◌*◌, ℕ, OnOk, Err};
 ghost use Rattle.lrp_store.specs.Growing.{IsAdded, IsRefused};
-ghost use Rattle.lrp_store.specs.Stores.{HasReach, IsCellOf};
+ghost use Rattle.lrp_store.specs.Stores.{IsCellOf};
 ghost use Rattle.lrp_tables.specs.Steps.{CanMinus, IsMinusResult};
 ghost use Rattle.lrp_minus.specs.Absences.{IsLike};
-ghost use Rattle.lrp_minus.specs.Cutters.{CanSubtract, CanTake, HaveReach, IsSpared, IsSparedIn};
+ghost use Rattle.lrp_minus.specs.Cutters.{CanSubtract, CanTake, HaveReach, IsAddedFrom, IsRefusedFrom, IsSpared, IsSparedIn};
 
-use crate::beneath::{Places, places_of};
 use crate::cutters::cutters_of;
 use crate::filling::add_left;
 use crate::taking::add_taken;
 use lrp_model::{Cell, Copies};
 use lrp_store::{Store, StoreFault};
-use lrp_tables::{Setting, StepFault, Table, Vars};
+use lrp_tables::{Places, Setting, StepFault, Table, Vars, places_of};
 use std::alloc::Global;
 
 /// The assignments of the left table that are none of the right one, whose variables are among the left one's.
@@ -56,12 +55,10 @@ fn add_minus(
 ) -> Result<(), StoreFault>
     requires shape { out.old.shape ≡ left.now.shape }
     requires subtract { CanSubtract places.now left.now right.now out.old.period }
-    ensures ok { OnOk result ((high : ℕ) → HasReach left.now high → HasReach right.now high
-        → IsAdded (IsSpared places.now left.now right.now) cap
-        (high + 2 * out.old.period) out.old out.new) }
-    ensures refused { result ≡ Err StoreFault.TooManyCells → (high : ℕ) → HasReach left.now high
-        → HasReach right.now high → IsRefused (IsSpared places.now left.now right.now) cap
-        (high + 2 * out.old.period) out.old out.new }
+    ensures ok { OnOk result (IsAddedFrom left.now right.now
+        (IsSpared places.now left.now right.now) cap out.old out.new) }
+    ensures refused { result ≡ Err StoreFault.TooManyCells → IsRefusedFrom left.now right.now
+        (IsSpared places.now left.now right.now) cap out.old out.new }
 {
     left.shape();
     out.shape();
@@ -87,13 +84,10 @@ fn add_cell(
     requires cell { IsCellOf left.now.shape left.now.period cell.now }
     requires shape { out.old.shape ≡ left.now.shape }
     requires subtract { CanSubtract places.now left.now right.now out.old.period }
-    ensures ok { OnOk result ((high : ℕ) → HasReach left.now high → HasReach right.now high
-        → IsAdded (IsSparedIn places.now left.now cell.now right.now) cap
-        (high + 2 * out.old.period) out.old out.new) }
-    ensures refused { result ≡ Err StoreFault.TooManyCells → (high : ℕ) → HasReach left.now high
-        → HasReach right.now high → IsRefused
-        (IsSparedIn places.now left.now cell.now right.now) cap
-        (high + 2 * out.old.period) out.old out.new }
+    ensures ok { OnOk result (IsAddedFrom left.now right.now
+        (IsSparedIn places.now left.now cell.now right.now) cap out.old out.new) }
+    ensures refused { result ≡ Err StoreFault.TooManyCells → IsRefusedFrom left.now right.now
+        (IsSparedIn places.now left.now cell.now right.now) cap out.old out.new }
 {
     left.shape();
     out.shape();
@@ -150,13 +144,10 @@ fn add_cells_within(
     requires cell { IsCellOf left.now.shape left.now.period cell.now }
     requires shape { out.old.shape ≡ left.now.shape }
     requires subtract { CanSubtract places.now left.now right.now out.old.period }
-    ensures ok { OnOk result ((high : ℕ) → HasReach left.now high → HasReach right.now high
-        → IsAdded (IsSparedIn places.now left.now cell.now right.now) cap
-        (high + 2 * out.old.period) out.old out.new) }
-    ensures refused { result ≡ Err StoreFault.TooManyCells → (high : ℕ) → HasReach left.now high
-        → HasReach right.now high → IsRefused
-        (IsSparedIn places.now left.now cell.now right.now) cap
-        (high + 2 * out.old.period) out.old out.new }
+    ensures ok { OnOk result (IsAddedFrom left.now right.now
+        (IsSparedIn places.now left.now cell.now right.now) cap out.old out.new) }
+    ensures refused { result ≡ Err StoreFault.TooManyCells → IsRefusedFrom left.now right.now
+        (IsSparedIn places.now left.now cell.now right.now) cap out.old out.new }
 {
     out.shape();
     left.shape();

@@ -7,7 +7,7 @@ use Rattle.std.proofs.lemmas.List.{drop_all, ext_get_or, length-map}
 use Rattle.std.proofs.lemmas.List.FromFn.{get_or-map-range_with_len, length-range_with_len}
 use Rattle.lrp_model.specs.declared.tuples.Cell.{Cell}
 use Rattle.lrp_packed.specs.Entries.{ArePacked, IsEntryAt, IsProper, IsPut, bound_in, cell_of, entry_for, read_from, residue_in, table_of, text_in}
-use Rattle.lrp_packed.specs.declared.zones.Entry.{Entry}
+use Rattle.lrp_packed.specs.declared.zones.PackedEntry.{PackedEntry}
 
 none_some : {X : Type 0} (x : X) → None ≡ Some x → ⊥
 none_some x e = cc
@@ -28,7 +28,7 @@ cell_is c texts residues e f = ap (λ t. record { texts = t; residues = c.residu
 
 -- ---- an entry behind others
 
-push_other : (es : List Entry) (e : Entry) (q : ℕ) → e.place ≢ q → entry_for (es ++ e ∷ []) q ≡ entry_for es q
+push_other : (es : List PackedEntry) (e : PackedEntry) (q : ℕ) → e.place ≢ q → entry_for (es ++ e ∷ []) q ≡ entry_for es q
 push_other [] e q d =
     elim (eqb e.place q) as (λ t. eqb e.place q ≡ t → cond t (Some e) None ≡ None) [
       | true ↦ λ is. absurd (d (eqb-true _ _ is))
@@ -40,7 +40,7 @@ push_other (x ∷ es) e q d =
       | false ↦ push_other es e q d
     ]
 
-push_here : (es : List Entry) (e : Entry) → entry_for es e.place ≡ None → entry_for (es ++ e ∷ []) e.place ≡ Some e
+push_here : (es : List PackedEntry) (e : PackedEntry) → entry_for es e.place ≡ None → entry_for (es ++ e ∷ []) e.place ≡ Some e
 push_here [] e none =
     elim (eqb e.place e.place) as (λ t. eqb e.place e.place ≡ t → cond t (Some e) None ≡ Some e) [
       | true ↦ λ is. refl
@@ -54,18 +54,18 @@ push_here (x ∷ es) e none =
 
 -- ---- what stands at places
 
-module _ {X : Type 0} (f : Option Entry → X) (first count : ℕ) where
-  read_at : (es : List Entry) (i : ℕ) (d : X) → i < count → get_or (read_from f first count es) i d ≡ f (entry_for es (first + i))
+module _ {X : Type 0} (f : Option PackedEntry → X) (first count : ℕ) where
+  read_at : (es : List PackedEntry) (i : ℕ) (d : X) → i < count → get_or (read_from f first count es) i d ≡ f (entry_for es (first + i))
   read_at es i d low = get_or-map-range_with_len (λ place. f (entry_for es place)) first count i (first + i) d low refl
 
-  length_read : (es : List Entry) → length (read_from f first count es) ≡ count
+  length_read : (es : List PackedEntry) → length (read_from f first count es) ≡ count
   length_read es = length-map (range_with_len first count) (λ place. f (entry_for es place)) ∙ length-range_with_len first count
 
   -- a list that has at each place what is read there
-  read_is : (es : List Entry) (d : X) (xs : List X) → length xs ≡ count → ((i : ℕ) → i < count → f (entry_for es (first + i)) ≡ get_or xs i d) → read_from f first count es ≡ xs
+  read_is : (es : List PackedEntry) (d : X) (xs : List X) → length xs ≡ count → ((i : ℕ) → i < count → f (entry_for es (first + i)) ≡ get_or xs i d) → read_from f first count es ≡ xs
   read_is es d xs size each = ext_get_or d (read_from f first count es) xs (length_read es ∙ sym size) (λ i h. let l : length (read_from f first count es) ≡ count = length_read es in let low : i < count = omega arith in read_at es i d low ∙ each i low)
 
-none_read : {X : Type 0} (f : Option Entry → X) (first count : ℕ) → read_from f first count [] ≡ replicate count (f None)
+none_read : {X : Type 0} (f : Option PackedEntry → X) (first count : ℕ) → read_from f first count [] ≡ replicate count (f None)
 none_read f first zero = refl
 none_read f first (suc count) = ap (λ xs. f None ∷ xs) (none_read f (first + 1) count)
 
@@ -73,16 +73,16 @@ none_read f first (suc count) = ap (λ xs. f None ∷ xs) (none_read f (first + 
 
 module _ (cell : Cell) (table : List (Option ℤ)) where
   -- the entries are those of the first n places
-  pub record AreFirst (n : ℕ) (es : List Entry) : Type 0 where
+  pub record AreFirst (n : ℕ) (es : List PackedEntry) : Type 0 where
     pub done : (q : ℕ) → q < n → IsEntryAt cell table q (entry_for es q)
     pub rest : (q : ℕ) → n ≤ q → entry_for es q ≡ None
     pub proper : AllByRecursion IsProper es
 
-  pub first_none : (es : List Entry) → es ≡ [] → AreFirst 0 es
+  pub first_none : (es : List PackedEntry) → es ≡ [] → AreFirst 0 es
   first_none es e = subst (AreFirst 0) (sym e) (record { done = λ q h. absurd (omega arith); rest = λ q h. refl; proper = tt })
 
   -- the next place has an entry
-  pub first_push : (n : ℕ) (es : List Entry) (e : Entry) → IsEntryAt cell table n (Some e) → IsProper e → AreFirst n es → AreFirst (n + 1) (es ++ e ∷ [])
+  pub first_push : (n : ℕ) (es : List PackedEntry) (e : PackedEntry) → IsEntryAt cell table n (Some e) → IsProper e → AreFirst n es → AreFirst (n + 1) (es ++ e ∷ [])
   first_push n es e is p f = record {
     done = λ q h. elim (cases_lt q n) [
       | inl low ↦ subst (IsEntryAt cell table q) (sym (push_other es e q (λ s. let at : e.place ≡ n = is.place_is in omega (arith, low, s, at)))) (f.done q low)
@@ -96,7 +96,7 @@ module _ (cell : Cell) (table : List (Option ℤ)) where
       here = ap (entry_for (es ++ e ∷ [])) (sym is.place_is) ∙ push_here es e (ap (entry_for es) is.place_is ∙ f.rest n (omega arith))
 
   -- or none
-  pub first_pass : (n : ℕ) (es : List Entry) → IsEntryAt cell table n None → AreFirst n es → AreFirst (n + 1) es
+  pub first_pass : (n : ℕ) (es : List PackedEntry) → IsEntryAt cell table n None → AreFirst n es → AreFirst (n + 1) es
   first_pass n es is f = record {
     done = λ q h. elim (cases_lt q n) [
       | inl low ↦ f.done q low
@@ -107,7 +107,7 @@ module _ (cell : Cell) (table : List (Option ℤ)) where
   }
 
   -- those of all places stand for the zone
-  pub all_first : (n : ℕ) (es : List Entry) → n ≡ 97 → length cell.texts ≡ 8 → length cell.residues ≡ 8 → length table ≡ 81 → AreFirst n es → ArePacked cell table es
+  pub all_first : (n : ℕ) (es : List PackedEntry) → n ≡ 97 → length cell.texts ≡ 8 → length cell.residues ≡ 8 → length table ≡ 81 → AreFirst n es → ArePacked cell table es
   all_first n es e texts residues size f = record {
     proper = f.proper;
     cell_is = sym (cell_is cell (read_from text_in 0 8 es) (read_from residue_in 8 8 es)
@@ -124,7 +124,7 @@ module _ (cell : Cell) (table : List (Option ℤ)) where
 
 -- ---- an entry before others
 
-module _ (e : Entry) (es : List Entry) where
+module _ (e : PackedEntry) (es : List PackedEntry) where
   there : entry_for (e ∷ es) e.place ≡ Some e
   there =
       elim (eqb e.place e.place) as (λ t. eqb e.place e.place ≡ t → cond t (Some e) (entry_for es e.place) ≡ Some e) [
@@ -139,7 +139,7 @@ module _ (e : Entry) (es : List Entry) where
         | false ↦ λ is. refl
       ] refl
 
-  module _ {X : Type 0} (f : Option Entry → X) (first count : ℕ) where
+  module _ {X : Type 0} (f : Option PackedEntry → X) (first count : ℕ) where
     -- it is read at its place
     read_in : (i : ℕ) → e.place ≡ first + i → i < count → read_from f first count (e ∷ es) ≡ set (read_from f first count es) i (f (Some e))
     read_in i at low =
@@ -160,7 +160,7 @@ module _ (e : Entry) (es : List Entry) where
         apart p h s (inr l) = omega (arith, h, s, l)
 
 -- a text, a residue or a bound is put
-module _ (e : Entry) (cell new : Cell) (table : List (Option ℤ)) where
+module _ (e : PackedEntry) (cell new : Cell) (table : List (Option ℤ)) where
   pub text_put : e.place < 8 → new.texts ≡ set cell.texts e.place e.text → new.residues ≡ cell.residues → IsPut e cell new table table
   text_put low texts residues = record {
     cell_is = λ es h. cell_is new (read_from text_in 0 8 (e ∷ es)) (read_from residue_in 8 8 (e ∷ es))
@@ -177,7 +177,7 @@ module _ (e : Entry) (cell new : Cell) (table : List (Option ℤ)) where
     table_is = λ es h. h ∙ sym (read_out e es bound_in 16 81 (inl (omega (arith, at, low))));
   }
 
-pub bound_put : (e : Entry) (cell : Cell) (table new : List (Option ℤ)) (i : ℕ) → e.place ≡ 16 + i → i < 81 → new ≡ set table i (Some e.time) → IsPut e cell cell table new
+pub bound_put : (e : PackedEntry) (cell : Cell) (table new : List (Option ℤ)) (i : ℕ) → e.place ≡ 16 + i → i < 81 → new ≡ set table i (Some e.time) → IsPut e cell cell table new
 bound_put e cell table new i at low made = record {
   cell_is = λ es h. h ∙ cell_is (cell_of es) (read_from text_in 0 8 (e ∷ es)) (read_from residue_in 8 8 (e ∷ es))
       (sym (read_out e es text_in 0 8 (inr (omega (arith, at)))))
@@ -188,22 +188,22 @@ bound_put e cell table new i at low made = record {
 -- ---- from the last entry to the first
 
 -- the cell and the table are those of the entries from a number on
-pub record AreWritten (es : List Entry) (left : ℕ) (cell : Cell) (table : List (Option ℤ)) : Type 0 where
+pub record AreWritten (es : List PackedEntry) (left : ℕ) (cell : Cell) (table : List (Option ℤ)) : Type 0 where
   pub cell_is : cell ≡ cell_of (drop left es)
   pub table_is : table ≡ table_of (drop left es)
 
-drop_one : (es : List Entry) (k : ℕ) (d : Entry) → k < length es → drop k es ≡ get_or es k d ∷ drop (suc k) es
+drop_one : (es : List PackedEntry) (k : ℕ) (d : PackedEntry) → k < length es → drop k es ≡ get_or es k d ∷ drop (suc k) es
 drop_one [] k d h = absurd (omega arith)
 drop_one (x ∷ es) zero d h = refl
 drop_one (x ∷ es) (suc k) d h = drop_one es k d (omega arith)
 
-pub written_none : (es : List Entry) (left : ℕ) (cell : Cell) (table : List (Option ℤ)) → length es ≤ left → cell ≡ record { texts = replicate 8 0; residues = replicate 8 (pos 0) } → table ≡ replicate 81 None → AreWritten es left cell table
+pub written_none : (es : List PackedEntry) (left : ℕ) (cell : Cell) (table : List (Option ℤ)) → length es ≤ left → cell ≡ record { texts = replicate 8 0; residues = replicate 8 (pos 0) } → table ≡ replicate 81 None → AreWritten es left cell table
 written_none es left cell table le c t = record {
   cell_is = c ∙ sym (ap cell_of (drop_all left es le) ∙ cell_is (cell_of []) (replicate 8 0) (replicate 8 (pos 0)) (none_read text_in 0 8) (none_read residue_in 8 8));
   table_is = t ∙ sym (ap table_of (drop_all left es le) ∙ none_read bound_in 16 81);
 }
 
-pub written_more : (es : List Entry) (left n : ℕ) (e d : Entry) (cell new : Cell) (table more : List (Option ℤ)) → left ≡ suc n → n < length es → e ≡ get_or es n d → IsPut e cell new table more → AreWritten es left cell table → AreWritten es n new more
+pub written_more : (es : List PackedEntry) (left n : ℕ) (e d : PackedEntry) (cell new : Cell) (table more : List (Option ℤ)) → left ≡ suc n → n < length es → e ≡ get_or es n d → IsPut e cell new table more → AreWritten es left cell table → AreWritten es n new more
 written_more es left n e d cell new table more at low is put w = record {
   cell_is = put.cell_is (drop left es) w.cell_is ∙ ap cell_of (sym all);
   table_is = put.table_is (drop left es) w.table_is ∙ ap table_of (sym all);
@@ -212,5 +212,5 @@ written_more es left n e d cell new table more at low is put w = record {
     all : drop n es ≡ e ∷ drop left es
     all = drop_one es n d low ∙ ap (λ x. x ∷ drop (suc n) es) (sym is) ∙ ap (λ k. e ∷ drop k es) (sym at)
 
-pub written_all : (es : List Entry) (left : ℕ) (cell : Cell) (table : List (Option ℤ)) → left ≡ 0 → AreWritten es left cell table → (cell ≡ cell_of es) × (table ≡ table_of es)
+pub written_all : (es : List PackedEntry) (left : ℕ) (cell : Cell) (table : List (Option ℤ)) → left ≡ 0 → AreWritten es left cell table → (cell ≡ cell_of es) × (table ≡ table_of es)
 written_all es left cell table none w = (w.cell_is ∙ ap (λ k. cell_of (drop k es)) none, w.table_is ∙ ap (λ k. table_of (drop k es)) none)

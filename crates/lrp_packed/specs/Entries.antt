@@ -3,60 +3,60 @@ use Rattle.std.specs.Prelude.{◌≡◌, ℕ, ℤ, ◌-◌, ◌<◌, ◌≤◌, 
 use Rattle.std.specs.List.{AllByRecursion, range_with_len}
 use Rattle.lrp_model.specs.declared.tuples.Cell.{Cell}
 use Rattle.lrp_zone.specs.Numbers.{CanStand}
-use Rattle.lrp_packed.specs.declared.zones.Entry.{Entry}
+use Rattle.lrp_packed.specs.declared.zones.PackedEntry.{PackedEntry}
 
 -- a cell, and the table of the stored bounds of one of its zones
 abbrev pub CellZone : Type 0
 CellZone = Cell × List (Option ℤ)
 
 -- the first entry for a place
-abbrev pub entry_for : List Entry → ℕ → Option Entry
+abbrev pub entry_for : List PackedEntry → ℕ → Option PackedEntry
 entry_for [] place = None
 entry_for (e ∷ es) place = if e.place == place then Some e else entry_for es place
 
 -- the text, the residue and the bound that an entry stands for
-abbrev pub text_in : Option Entry → ℕ
+abbrev pub text_in : Option PackedEntry → ℕ
 text_in None = 0
 text_in (Some e) = e.text
 
-abbrev pub residue_in : Option Entry → ℤ
+abbrev pub residue_in : Option PackedEntry → ℤ
 residue_in None = pos 0
 residue_in (Some e) = e.time
 
-abbrev pub bound_in : Option Entry → Option ℤ
+abbrev pub bound_in : Option PackedEntry → Option ℤ
 bound_in None = None
 bound_in (Some e) = Some e.time
 
 -- what stands at so many places from one on
-abbrev pub read_from : {X : Type 0} → (Option Entry → X) → ℕ → ℕ → List Entry → List X
+abbrev pub read_from : {X : Type 0} → (Option PackedEntry → X) → ℕ → ℕ → List PackedEntry → List X
 read_from f first count es = map (λ place. f (entry_for es place)) (range_with_len first count)
 
 -- the cell that entries stand for, and the table
-abbrev pub cell_of : List Entry → Cell
+abbrev pub cell_of : List PackedEntry → Cell
 cell_of es = record { texts = read_from text_in 0 8 es; residues = read_from residue_in 8 8 es }
 
-abbrev pub table_of : List Entry → List (Option ℤ)
+abbrev pub table_of : List PackedEntry → List (Option ℤ)
 table_of es = read_from bound_in 16 81 es
 
 -- an entry of a place, whose bound can stand in a table
-pub record IsProper (e : Entry) : Type 0 where
+pub record IsProper (e : PackedEntry) : Type 0 where
   pub low : e.place < 97
   pub stands : 16 ≤ e.place → CanStand (Some e.time)
 
 -- the entry, if there is one, is what stands at the place
-pub record IsEntryAt (cell : Cell) (table : List (Option ℤ)) (place : ℕ) (found : Option Entry) : Type 0 where
+pub record IsEntryAt (cell : Cell) (table : List (Option ℤ)) (place : ℕ) (found : Option PackedEntry) : Type 0 where
   pub place_is : IfSome found (λ e. e.place ≡ place)
   pub text : place < 8 → text_in found ≡ slice_index_or cell.texts place 0
   pub residue : 8 ≤ place → place < 16 → residue_in found ≡ slice_index_or cell.residues (place - 8) (pos 0)
   pub bound : 16 ≤ place → bound_in found ≡ slice_index_or table (place - 16) None
 
 -- the entries stand for the cell and the table
-pub record ArePacked (cell : Cell) (table : List (Option ℤ)) (es : List Entry) : Type 0 where
+pub record ArePacked (cell : Cell) (table : List (Option ℤ)) (es : List PackedEntry) : Type 0 where
   pub proper : AllByRecursion IsProper es
   pub cell_is : cell_of es ≡ cell
   pub table_is : table_of es ≡ table
 
 -- where the cell and the table are those of some entries, they become those of this entry before them
-pub record IsPut (e : Entry) (cell new_cell : Cell) (table new_table : List (Option ℤ)) : Type 0 where
-  pub cell_is : (es : List Entry) → cell ≡ cell_of es → new_cell ≡ cell_of (e ∷ es)
-  pub table_is : (es : List Entry) → table ≡ table_of es → new_table ≡ table_of (e ∷ es)
+pub record IsPut (e : PackedEntry) (cell new_cell : Cell) (table new_table : List (Option ℤ)) : Type 0 where
+  pub cell_is : (es : List PackedEntry) → cell ≡ cell_of es → new_cell ≡ cell_of (e ∷ es)
+  pub table_is : (es : List PackedEntry) → table ≡ table_of es → new_table ≡ table_of (e ∷ es)

@@ -6,14 +6,14 @@ ghost use Rattle.lrp_packed.specs.Packed.{CanBeUnpacked, unpacked};
 
 use lrp_model::{Cell, Memory, Shape};
 use lrp_tables::Piece;
-use lrp_zone::{Table, Zone};
+use lrp_zone::{BoundTable, Zone};
 use std::alloc::Global;
 use std::marker::Model;
 
 /// What stands at a place of a zone: a text at the places from 0, a residue from 8, and a stored bound from 16 on, in the
 /// order of the table.
 #[derive(Clone, Copy)]
-pub(crate) struct Entry {
+pub(crate) struct PackedEntry {
     pub(crate) place: u8,
     pub(crate) text: u32,
     pub(crate) time: i64,
@@ -23,7 +23,7 @@ pub(crate) struct Entry {
 /// stored bounds.
 #[derive(Drop)]
 pub(crate) struct PackedZone {
-    entries: Vec<Entry>,
+    entries: Vec<PackedEntry>,
 }
 
 impl Model for PackedZone {
@@ -61,7 +61,7 @@ impl PackedZone {
 }
 
 // The entries of a zone, in as many places of a vector.
-fn entries_of(alloc: Global, piece: &Piece) -> Result<Vec<Entry>, Memory>
+fn entries_of(alloc: Global, piece: &Piece) -> Result<Vec<PackedEntry>, Memory>
     requires texts { length piece.now.cell.texts ≡ 8 }
     requires residues { length piece.now.cell.residues ≡ 8 }
     ensures { IfOk result (λ made. ArePacked piece.now.cell piece.now.zone.bounds made.items) }
@@ -78,7 +78,7 @@ fn entries_of(alloc: Global, piece: &Piece) -> Result<Vec<Entry>, Memory>
 }
 
 // The entry for a place of a zone, if there is one.
-fn entry_at(piece: &Piece, place: u8) -> Option<Entry>
+fn entry_at(piece: &Piece, place: u8) -> Option<PackedEntry>
     requires place { place < 97 }
     requires texts { length piece.now.cell.texts ≡ 8 }
     requires residues { length piece.now.cell.residues ≡ 8 }
@@ -94,7 +94,7 @@ fn entry_at(piece: &Piece, place: u8) -> Option<Entry>
     }
 }
 
-fn text_entry(place: u8, text: u32) -> Option<Entry>
+fn text_entry(place: u8, text: u32) -> Option<PackedEntry>
     requires { place < 8 }
     ensures place { IfSome result (λ e. e.place ≡ place) }
     ensures text { text_in result ≡ text }
@@ -102,14 +102,14 @@ fn text_entry(place: u8, text: u32) -> Option<Entry>
     if text == 0 {
         return None;
     }
-    Some(Entry {
+    Some(PackedEntry {
         place,
         text,
         time: 0,
     })
 }
 
-fn residue_entry(place: u8, residue: i64) -> Option<Entry>
+fn residue_entry(place: u8, residue: i64) -> Option<PackedEntry>
     requires { place < 16 }
     ensures place { IfSome result (λ e. e.place ≡ place) }
     ensures residue { residue_in result ≡ residue }
@@ -117,21 +117,21 @@ fn residue_entry(place: u8, residue: i64) -> Option<Entry>
     if residue == 0 {
         return None;
     }
-    Some(Entry {
+    Some(PackedEntry {
         place,
         text: 0,
         time: residue,
     })
 }
 
-fn bound_entry(piece: &Piece, place: u8) -> Option<Entry>
+fn bound_entry(piece: &Piece, place: u8) -> Option<PackedEntry>
     requires low { 16 ≤ place }
     requires high { place < 97 }
     ensures is { IsEntryAt piece.now.cell piece.now.zone.bounds place result }
     ensures proper { IfSome result IsProper }
 {
     let time = piece.zone.bounds().get(usize::from(place) - 16)?;
-    Some(Entry {
+    Some(PackedEntry {
         place,
         text: 0,
         time,
@@ -139,7 +139,7 @@ fn bound_entry(piece: &Piece, place: u8) -> Option<Entry>
 }
 
 // The cell and the table that entries stand for. The first one for a place is the last that is put there.
-fn written(entries: &[Entry]) -> (Cell, Table)
+fn written(entries: &[PackedEntry]) -> (Cell, BoundTable)
     requires { AllByRecursion IsProper entries.now }
     ensures cell { result.0 ≡ cell_of entries.now }
     ensures table { result.1 ≡ table_of entries.now }
@@ -148,14 +148,14 @@ fn written(entries: &[Entry]) -> (Cell, Table)
         texts: [0; 8],
         residues: [0; 8],
     };
-    let mut bounds = Table::free();
+    let mut bounds = BoundTable::free();
     for turn in 0..entries.len() {
         put(entries[entries.len() - 1 - turn], &mut cell, &mut bounds);
     }
     (cell, bounds)
 }
 
-fn put(entry: Entry, cell: &mut Cell, bounds: &mut Table)
+fn put(entry: PackedEntry, cell: &mut Cell, bounds: &mut BoundTable)
     requires { IsProper entry }
     ensures { IsPut entry cell.old cell.new bounds.old bounds.new }
 {

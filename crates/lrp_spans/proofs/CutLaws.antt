@@ -11,6 +11,8 @@ use Rattle.lrp_spans.specs.Spans.{AreFronts, SpanComesBefore, EndsBefore, HasTur
 use Rattle.lrp_spans.proofs.Lists.{below_or, in_none, in_one, later, head_in, pairs_append, pairs_one, pairs_none}
 use Rattle.lrp_spans.proofs.MergeLaws.{in_left, in_right, in_either, in_this, this_has}
 use Rattle.lrp_spans.proofs.SpanLaws.{behind}
+use Rattle.lrp_theory.proofs.Below.{within_less}
+use Rattle.lrp_matrix.proofs.NearestLemmas.{above_more}
 
 -- ---- order by turns
 -- each turn of p is below each of q
@@ -157,14 +159,6 @@ same_residues p q a b = elim (below_or p.residue q.residue) [
 decided_above : (n : ℤ) (e : Option ℤ) → Above n e ⊎ (Above n e → ⊥)
 decided_above n None = inl tt
 decided_above n (Some a) = by_lt_z n a (λ lt. inr (λ le. absurd (omega (arith, ints)))) (λ le. inl le)
-
-above_more : (n m : ℤ) (e : Option ℤ) → n ≤ℤ m → Above n e → Above m e
-above_more n m None l a = tt
-above_more n m (Some f) l a = omega (arith, ints)
-
-within_less : (n m : ℤ) (e : Option ℤ) → n ≤ℤ m → Within m e → Within n e
-within_less n m None l a = tt
-within_less n m (Some f) l a = omega (arith, ints)
 
 -- what comes before a span comes before a part of it
 inner_before : (high : ℕ) (p q s : Span) → IsSpan high p → IsSpan high s → s.residue ≡ q.residue → ((n : ℤ) → HasTurn s s.residue n → HasTurn q q.residue n) → SpanComesBefore p q → SpanComesBefore p s

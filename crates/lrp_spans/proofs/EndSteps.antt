@@ -10,7 +10,7 @@ use Rattle.std.proofs.lemmas.List.Elements.{Contains-get_or}
 use Rattle.lrp_theory.specs.Bounds.{Within}
 use Rattle.lrp_theory.specs.Divides.{Divides, IsLcm}
 use Rattle.lrp_theory.proofs.Modulo.{Divides-is, Divides-neg, Divides-self}
-use Rattle.lrp_theory.proofs.Multiples.{Divides-trans}
+use Rattle.lrp_theory.proofs.Multiples.{Divides-trans, multiple_low}
 use Rattle.lrp_matrix.specs.Ranges.{Above}
 use Rattle.lrp_model.specs.declared.tuples.Cell.{Cell}
 use Rattle.lrp_slots.specs.Lists.{list_at}
@@ -19,21 +19,14 @@ use Rattle.lrp_spans.specs.declared.spans.Span.{Span}
 use Rattle.lrp_spans.specs.Groups.{SpanLists}
 use Rattle.lrp_spans.specs.Periods.{IsEndPeriod, IsWithEnds, RepeatsByAll, RepeatsFar}
 use Rattle.lrp_spans.specs.Repeating.{AreResidues, HasOneOf, IsLeastStep, Repeats, RepeatsAtEnds}
-use Rattle.lrp_spans.specs.Spans.{AreBelow, AreMerged, AreOpenAbove, AreOpenBelow, AreOrdered, SpansHaveNumber, IsSpan}
+use Rattle.lrp_spans.specs.Spans.{AreBelow, AreMerged, AreOpen, AreOpenAbove, AreOpenBelow, AreOrdered, SpansHaveNumber, IsSpan}
 use Rattle.lrp_spans.proofs.EndLaws.{before_last, behind_first, deep_turn, far_turn, from_deep, from_far, moved, repeats_above, repeats_below}
 use Rattle.lrp_spans.proofs.Lists.{in_cons, in_none}
 use Rattle.lrp_spans.proofs.Repeats.{repeats_multiple}
 
 -- the residues of open spans are residues of the period
-pub above_residues : (k : ℕ) (spans : List Span) (residues : List ℕ) → 0 < k → AreBelow k spans → AreOpenAbove spans residues → AreResidues k residues
-above_residues k spans residues low below ends = record {
-  low = low;
-  ascending = ends.ascending;
-  below = λ i l. (let t = ends.to (get_or residues i 0) (Contains-get_or residues i 0 l) in subst (λ r. r < k) t.2 (below t.0 t.1));
-}
-
-pub below_residues : (k : ℕ) (spans : List Span) (residues : List ℕ) → 0 < k → AreBelow k spans → AreOpenBelow spans residues → AreResidues k residues
-below_residues k spans residues low below ends = record {
+pub open_residues : (open_end : Span → Option ℤ) (k : ℕ) (spans : List Span) (residues : List ℕ) → 0 < k → AreBelow k spans → AreOpen open_end spans residues → AreResidues k residues
+open_residues open_end k spans residues low below ends = record {
   low = low;
   ascending = ends.ascending;
   below = λ i l. (let t = ends.to (get_or residues i 0) (Contains-get_or residues i 0 l) in subst (λ r. r < k) t.2 (below t.0 t.1));
@@ -96,18 +89,19 @@ module _ (k high : ℕ) (spans : List Span) (low : 0 < k) (each : (s : Span) →
     -- a number with the steps of both ends
     pub with_both : (a b old first made : ℕ) → IsLeastStep (HasOneOf k up) a → IsLeastStep (HasOneOf k down) b → IsLcm old a first → IsLcm first b made → Divides (pos made) (pos k) → IsWithEnds k spans old made
     with_both a b old first made la lb one two divides = record {
-      positive = two.positive;
+      positive = multiple_low made k low divides;
       divides = divides;
-      multiple = Divides-trans (pos old) (pos first) (pos made) one.left two.left;
+      multiple = Divides-trans (pos old) (pos first) (pos made) one.common.0 two.common.0;
       ends = λ other positive d. (
         k * (high + 1),
         ends_repeat other
-            (repeats_multiple (HasOneOf k up) a other positive (Divides-trans (pos a) (pos made) (pos other) (Divides-trans (pos a) (pos first) (pos made) one.right two.left) d) la.is)
-            (repeats_multiple (HasOneOf k down) b other positive (Divides-trans (pos b) (pos made) (pos other) two.right d) lb.is),
+            (repeats_multiple (HasOneOf k up) a other positive (Divides-trans (pos a) (pos made) (pos other) (Divides-trans (pos a) (pos first) (pos made) one.common.1.0 two.common.0) d) la.is)
+            (repeats_multiple (HasOneOf k down) b other positive (Divides-trans (pos b) (pos made) (pos other) two.common.1.0 d) lb.is),
       );
-      least = λ other positive d r. two.least (pos other)
-          (one.least (pos other) d (la.least other (repeats_above k high spans up low each below above r.0 other positive r.1)))
-          (lb.least other (repeats_below k high spans down low each below beneath r.0 other positive r.1));
+      least = λ other positive d r. two.least other (
+        one.least other (d, (la.least other (repeats_above k high spans up low each below above r.0 other positive r.1), tt)),
+        (lb.least other (repeats_below k high spans down low each below beneath r.0 other positive r.1), tt),
+      );
     }
 
 -- ---- group after group

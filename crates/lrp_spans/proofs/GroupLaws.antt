@@ -17,7 +17,8 @@ use Rattle.lrp_store.specs.Reading.{entries_of}
 use Rattle.lrp_spans.specs.Groups.{AppendsSpans, AreGroups, AreNumbersOf, HasSpanAt, HoldsNumber, IsSpanAt, IsSpanIn, SpanLists, group_cell}
 use Rattle.lrp_spans.specs.Spans.{AreMerged, SpansHaveNumber, IsSpan, IsSpanOf}
 use Rattle.lrp_spans.specs.declared.spans.Span.{Span}
-use Rattle.lrp_spans.proofs.Lists.{below_or, head_in, in_cons, in_map, in_none, in_one, later, map_in, one_in}
+use Rattle.lrp_spans.proofs.Lists.{below_or, head_in, in_cons, in_none, in_one, later, one_in}
+use Rattle.lrp_theory.proofs.Members.{from_map, in_map}
 
 -- the list of one cell was put in its place
 put : (lists : SpanLists) (c : Cell) (list : List Span) (q : Cell) → ((q ≡ c) × (list_at (finite.insert lists c list) q ≡ list)) ⊎ (list_at (finite.insert lists c list) q ≡ list_at lists q)
@@ -29,7 +30,7 @@ put lists c list q = elim (cell_or q c) [
 -- a zone of a store of one column has one
 pub zone_column : (s : StoreView) → IsStore s → s.shape.times ≡ 1 → (cell : Cell) (z : ZoneView) → Contains (zones_at s cell) z → columns_of z ≡ 1
 zone_column s is one cell z h =
-    let t = in_map (zone_of s cell) (tables_at s cell) z h in
+    let t = from_map (zone_of s cell) (tables_at s cell) z h in
     let p : IsCellOf s.shape s.period cell = cell_held s is cell t.0 t.1 in
     let n : length (take 1 cell.residues) ≡ 1 = (let e : length cell.residues ≡ 8 = p.residues.size in length-take-one cell.residues (omega (arith, e))) in
     ap columns_of (sym t.2) ∙ ap (λ k. length (take k cell.residues)) one ∙ n
@@ -39,7 +40,7 @@ zone_column s is one cell z h =
     length-take-one (x ∷ xs) l = refl
 
 pub zone_period : (s : StoreView) (cell : Cell) (z : ZoneView) → Contains (zones_at s cell) z → z.period ≡ s.period
-zone_period s cell z h = let t = in_map (zone_of s cell) (tables_at s cell) z h in ap (λ v. v.period) (sym t.2)
+zone_period s cell z h = let t = from_map (zone_of s cell) (tables_at s cell) z h in ap (λ v. v.period) (sym t.2)
 
 pub appends_none : (group : Cell) (lists : SpanLists) → AppendsSpans group [] lists lists
 appends_none group lists = record { to = λ g p h. inl h; kept = λ g p h. h; from = λ z h. absurd (in_none z h) }
@@ -175,7 +176,7 @@ module _ (s : StoreView) (is : IsStore s) (one : s.shape.times ≡ 1) (lists : S
   group_to : (x : ℤ) → SpansHaveNumber s.period (list_at lists group) x → HoldsNumber s x (take s.shape.texts group.texts)
   group_to x h =
       let i = groups.to group h.inside.span h.inside.listed in
-      let t = in_map (zone_of s i.cell) (tables_at s i.cell) i.zone i.held in
+      let t = from_map (zone_of s i.cell) (tables_at s i.cell) i.zone i.held in
       let m = i.is.to h.turn (record { residue = refl; low = h.inside.is.low; high = h.inside.is.high }) in
       let e : pos h.inside.span.residue +ℤ (pos i.zone.period *ℤ h.turn) ≡ x =
       ap (λ k. pos h.inside.span.residue +ℤ (pos k *ℤ h.turn)) (zone_period s i.cell i.zone i.held) ∙ ap (λ r. pos r +ℤ (pos s.period *ℤ h.turn)) h.inside.is.residue ∙ sym h.is in
@@ -197,8 +198,8 @@ module _ (s : StoreView) (is : IsStore s) (one : s.shape.times ≡ 1) (lists : S
   group_from : (p : Span) → Contains (list_at lists group) p → (x : ℤ) → HoldsNumber s x (take s.shape.texts group.texts) → SpansHaveNumber s.period (list_at lists group) x
   group_from p l x h =
       let i = groups.to group p l in
-      let t = in_map (zone_of s i.cell) (tables_at s i.cell) i.zone i.held in
-      let held : Contains (zones_at s h.cell) (zone_of s h.cell h.table) = map_in (zone_of s h.cell) (tables_at s h.cell) h.table h.held in
+      let t = from_map (zone_of s i.cell) (tables_at s i.cell) i.zone i.held in
+      let held : Contains (zones_at s h.cell) (zone_of s h.cell h.table) = in_map (zone_of s h.cell) (tables_at s h.cell) h.table h.held in
       let f = groups.from h.cell (zone_of s h.cell h.table) held in
       let named : take s.shape.texts h.cell.texts ≡ take s.shape.texts i.cell.texts = h.named ∙ ap (λ (c : Cell). take s.shape.texts c.texts) i.grouped in
       let same : h.cell.texts ≡ i.cell.texts = same_texts h.cell i.cell (cell_held s is h.cell h.table h.held) (cell_held s is i.cell t.0 t.1) named in
@@ -229,9 +230,9 @@ held_key s c t h = Contains-from_any same_cell c (finite.keys s.tables) (sym (co
 -- before the first cell
 pub gathering_none : (s : StoreView) (left : List (Cell × List ZoneView)) (lists : SpanLists) → left ≡ entries_of s → lists ≡ finite.empty → AreGathering s left lists
 gathering_none s left lists all none = record {
-  entries = λ e h. (let t = in_map (λ c. (c, zones_at s c)) (finite.keys s.tables) e (subst (λ l. Contains l e) all h) in ap (λ d. d.1) (sym t.2) ∙ ap (λ (d : Cell × List ZoneView). zones_at s d.0) t.2);
+  entries = λ e h. (let t = from_map (λ c. (c, zones_at s c)) (finite.keys s.tables) e (subst (λ l. Contains l e) all h) in ap (λ d. d.1) (sym t.2) ∙ ap (λ (d : Cell × List ZoneView). zones_at s d.0) t.2);
   to = λ g p h. absurd (in_none p (subst (λ l. Contains l p) (ap (λ m. list_at m g) none ∙ ap (λ o. unwrap_or o []) (get-empty cell_cmp g)) h));
   from = λ c z h. (
-      let t = in_map (zone_of s c) (tables_at s c) z h in
-      inl (subst (λ l. Contains l (c, zones_at s c)) (sym all) (map_in (λ d. (d, zones_at s d)) (finite.keys s.tables) c (held_key s c t.0 t.1))));
+      let t = from_map (zone_of s c) (tables_at s c) z h in
+      inl (subst (λ l. Contains l (c, zones_at s c)) (sym all) (in_map (λ d. (d, zones_at s d)) (finite.keys s.tables) c (held_key s c t.0 t.1))));
 }

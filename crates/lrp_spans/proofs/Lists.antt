@@ -3,7 +3,7 @@ use Rattle.std.proofs.Common.{zero, suc, ap, map, drop, Some, ◌∙◌, ◌≡�
 use Rattle.std.specs.Prelude.{Contains, AllPairs, slice_get}
 use Rattle.std.proofs.lemmas.List.{append_assoc, get_or_append_left, map-append, take-append-drop, take_all, take_more}
 use Rattle.std.proofs.lemmas.List.Elements.{Contains-append_left, Contains-append_right, Contains-append_cases}
-pub use Rattle.lrp_theory.proofs.Members.{pairs_append, below_or, in_none, in_one, one_in, in_cons, later, head_in, pairs_one, pairs_none, before, front_more}
+pub use Rattle.lrp_theory.proofs.Members.{before, below_or, from_map, in_map, front_more, head_in, in_cons, in_none, in_one, later, one_in, pairs_append, pairs_none, pairs_one}
 
 -- each two of the front of a list
 pub pairs_left : {X : Type 0} (R : X → X → Type 0) (xs ys : List X) → AllPairs R (xs ++ ys) → AllPairs R xs
@@ -20,27 +20,12 @@ pairs_head R x xs all y h =
     let l : h.0 < length xs = h.1 in
     subst (R x) h.2 (all 0 (suc h.0) y (omega arith) (omega (arith, l)))
 
--- what is in a list that a function was put on
-pub in_map : {X Y : Type 0} (f : X → Y) (xs : List X) (y : Y) → Contains (map f xs) y → (x : X) × Contains xs x × (f x ≡ y)
-in_map f [] y h = absurd (in_none y h)
-in_map f (x ∷ xs) y h = elim (in_cons (f x) (map f xs) y h) [
-  | inl e ↦ (x, head_in x xs, e)
-  | inr m ↦ (let r = in_map f xs y m in (r.0, later x xs r.0 r.1, r.2))
-]
-
-pub map_in : {X Y : Type 0} (f : X → Y) (xs : List X) (x : X) → Contains xs x → Contains (map f xs) (f x)
-map_in f [] x h = absurd (in_none x h)
-map_in f (y ∷ ys) x h = elim (in_cons y ys x h) [
-  | inl e ↦ subst (λ z. Contains (f y ∷ map f ys) (f z)) e (head_in (f y) (map f ys))
-  | inr m ↦ later (f y) (map f ys) (f x) (map_in f ys x m)
-]
-
 -- a relation holds of each two of them, where it follows from one that holds of each two of the list
 pub pairs_map : {X Y : Type 0} (R : Y → Y → Type 0) (S : X → X → Type 0) (f : X → Y) (xs : List X) → AllPairs S xs → ((x y : X) → Contains xs x → Contains xs y → S x y → R (f x) (f y)) → AllPairs R (map f xs)
 pairs_map R S f [] all each = pairs_none R
 pairs_map R S f (x ∷ xs) all each = pairs_append R (f x ∷ []) (map f xs) (pairs_one R (f x))
     (pairs_map R S f xs (pairs_right S (x ∷ []) xs all) (λ u v l m s. each u v (later x xs u l) (later x xs v m) s))
-    (λ a b l m. (let r = in_map f xs b m in subst (λ c. R c b) (in_one (f x) a l) (subst (R (f x)) r.2 (each x r.0 (head_in x xs) (later x xs r.0 r.1) (pairs_head S x xs all r.0 r.1)))))
+    (λ a b l m. (let r = from_map f xs b m in subst (λ c. R c b) (in_one (f x) a l) (subst (R (f x)) r.2 (each x r.0 (head_in x xs) (later x xs r.0 r.1) (pairs_head S x xs all r.0 r.1)))))
 
 -- the first of what is behind a place
 pub slice_get_drop : {X : Type 0} (xs : List X) (i : ℕ) (x : X) → slice_get (drop i xs) 0 ≡ Some x → slice_get xs i ≡ Some x

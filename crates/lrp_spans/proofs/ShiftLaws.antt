@@ -12,8 +12,9 @@ use Rattle.lrp_matrix.specs.Ranges.{Above}
 use Rattle.lrp_spans.specs.declared.spans.Span.{Span}
 use Rattle.lrp_spans.specs.Spans.{AreBelow, AreOrdered, AreShifted, SpanComesBefore, SpansHaveNumber, HasTurn, IsSpan, moved_past, moved_within, next_turn}
 use Rattle.lrp_spans.proofs.CutLaws.{wider_span}
-use Rattle.lrp_spans.proofs.Lists.{in_cons, in_map, in_none, map_in, pairs_append, pairs_head, pairs_left, pairs_map, pairs_right, slice_get_drop}
+use Rattle.lrp_spans.proofs.Lists.{in_cons, in_none, pairs_append, pairs_head, pairs_left, pairs_map, pairs_right, slice_get_drop}
 use Rattle.lrp_spans.proofs.MergeLaws.{in_either, in_left, in_right}
+use Rattle.lrp_theory.proofs.Members.{from_map, in_map}
 
 -- one turn later
 above_next : (n : ℤ) (e : Option ℤ) → Above n (next_turn e) → Above (n -ℤ pos 1) e
@@ -63,7 +64,7 @@ module _ (high K step : ℕ) (left right : List Span) (ordered : AreOrdered high
   pub shifted_to : (x : ℤ) → SpansHaveNumber K made x → SpansHaveNumber K (left ++ right) (x -ℤ pos step)
   shifted_to x h = elim (in_either (map (moved_past K step) right) (map (moved_within step) left) h.residue h.turn h.inside) [
     | inl a ↦ (
-        let m = in_map (moved_past K step) right a.span a.listed in
+        let m = from_map (moved_past K step) right a.span a.listed in
         let t : HasTurn (past m.0) h.residue h.turn = subst (λ s. HasTurn s h.residue h.turn) (sym m.2) a.is in
         record {
           residue = m.0.residue;
@@ -76,7 +77,7 @@ module _ (high K step : ℕ) (left right : List Span) (ordered : AreOrdered high
           };
         })
     | inr a ↦ (
-        let m = in_map (moved_within step) left a.span a.listed in
+        let m = from_map (moved_within step) left a.span a.listed in
         let t : HasTurn (within m.0) h.residue h.turn = subst (λ s. HasTurn s h.residue h.turn) (sym m.2) a.is in
         let e : m.0.residue + step ≡ h.residue = t.residue in
         let i : x ≡ pos h.residue +ℤ (pos K *ℤ h.turn) = h.is in
@@ -97,7 +98,7 @@ module _ (high K step : ℕ) (left right : List Span) (ordered : AreOrdered high
           residue = a.span.residue + step;
           turn = h.turn;
           is = omega (arith, ints, e);
-          inside = in_right (map (moved_past K step) right) (map (moved_within step) left) _ _ (record { span = within a.span; listed = map_in (moved_within step) left a.span a.listed; is = record { residue = refl; low = a.is.low; high = a.is.high } });
+          inside = in_right (map (moved_past K step) right) (map (moved_within step) left) _ _ (record { span = within a.span; listed = in_map (moved_within step) left a.span a.listed; is = record { residue = refl; low = a.is.low; high = a.is.high } });
         })
     | inr a ↦ (
         let e : a.span.residue ≡ h.residue = a.is.residue in
@@ -112,7 +113,7 @@ module _ (high K step : ℕ) (left right : List Span) (ordered : AreOrdered high
           is = omega (arith, ints, e, b, q);
           inside = in_left (map (moved_past K step) right) (map (moved_within step) left) _ _ (record {
             span = past a.span;
-            listed = map_in (moved_past K step) right a.span a.listed;
+            listed = in_map (moved_past K step) right a.span a.listed;
             is = record { residue = refl; low = next_above h.turn a.span.first a.is.low; high = next_within h.turn a.span.last a.is.high };
           });
         })
@@ -137,8 +138,8 @@ module _ (high K step : ℕ) (left right : List Span) (ordered : AreOrdered high
 
   across : (x y : Span) → Contains (map (moved_past K step) right) x → Contains (map (moved_within step) left) y → SpanComesBefore x y
   across x y l m =
-      let a = in_map (moved_past K step) right x l in
-      let b = in_map (moved_within step) left y m in
+      let a = from_map (moved_past K step) right x l in
+      let b = from_map (moved_within step) left y m in
       let c : a.0.residue < K = below a.0 (Contains-append_right left right a.0 a.1) in
       let d : K ≤ a.0.residue + step = behind a.0 a.1 in
       subst (λ v. SpanComesBefore v y) a.2 (subst (SpanComesBefore (past a.0)) b.2 (inl (omega (arith, c, d))))
@@ -149,16 +150,16 @@ module _ (high K step : ℕ) (left right : List Span) (ordered : AreOrdered high
     from = shifted_from;
     ordered = record {
       each = λ s l. elim (Contains-append_cases (map (moved_past K step) right) (map (moved_within step) left) s l) [
-        | inl a ↦ (let m = in_map (moved_past K step) right s a in subst (IsSpan (high + 1)) m.2 (past_span m.0 (ordered.each m.0 (Contains-append_right left right m.0 m.1))))
-        | inr a ↦ (let m = in_map (moved_within step) left s a in subst (IsSpan (high + 1)) m.2 (within_span m.0 (ordered.each m.0 (Contains-append_left left right m.0 m.1))))
+        | inl a ↦ (let m = from_map (moved_past K step) right s a in subst (IsSpan (high + 1)) m.2 (past_span m.0 (ordered.each m.0 (Contains-append_right left right m.0 m.1))))
+        | inr a ↦ (let m = from_map (moved_within step) left s a in subst (IsSpan (high + 1)) m.2 (within_span m.0 (ordered.each m.0 (Contains-append_left left right m.0 m.1))))
       ];
       apart = pairs_append SpanComesBefore (map (moved_past K step) right) (map (moved_within step) left)
           (pairs_map SpanComesBefore SpanComesBefore (moved_past K step) right (pairs_right SpanComesBefore left right ordered.apart) past_before)
           (pairs_map SpanComesBefore SpanComesBefore (moved_within step) left (pairs_left SpanComesBefore left right ordered.apart) within_before) across;
     };
     below = λ s l. elim (Contains-append_cases (map (moved_past K step) right) (map (moved_within step) left) s l) [
-      | inl a ↦ (let m = in_map (moved_past K step) right s a in subst (λ t. t.residue < K) m.2 (omega (arith, below m.0 (Contains-append_right left right m.0 m.1), behind m.0 m.1)))
-      | inr a ↦ (let m = in_map (moved_within step) left s a in subst (λ t. t.residue < K) m.2 (before m.0 m.1))
+      | inl a ↦ (let m = from_map (moved_past K step) right s a in subst (λ t. t.residue < K) m.2 (omega (arith, below m.0 (Contains-append_right left right m.0 m.1), behind m.0 m.1)))
+      | inr a ↦ (let m = from_map (moved_within step) left s a in subst (λ t. t.residue < K) m.2 (before m.0 m.1))
     ];
   }
 

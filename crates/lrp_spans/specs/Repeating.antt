@@ -1,5 +1,5 @@
 -- Sets of integers that repeat: the integers of some residues, and the numbers with which such a set goes over into itself.
-use Rattle.std.specs.Prelude.{◌≡◌, ℕ, ℤ, ◌+◌, ◌*◌, ◌/◌, ◌%◌, ◌<◌, List, length, Contains, AllPairs, pos, slice_index_or, ◌+ℤ◌, ◌-ℤ◌, ◌≤ℤ◌, neg_ℤ}
+use Rattle.std.specs.Prelude.{◌≡◌, ℕ, ℤ, ◌+◌, ◌*◌, ◌/◌, ◌%◌, ◌^◌, ◌<◌, ◌≤◌, List, length, Contains, AllPairs, pos, slice_index_or, ◌+ℤ◌, ◌-ℤ◌, ◌≤ℤ◌, neg_ℤ}
 use Rattle.lrp_theory.specs.Divides.{Divides}
 
 -- x has one of the residues modulo the period
@@ -39,6 +39,13 @@ nth period residues i = slice_index_or residues (i % length residues) 0 + period
 -- each of the residues is so much below the number that stands so many places further on as the first one
 abbrev pub Moves : ℕ → List ℕ → ℕ → Type 0
 Moves period residues places = (i : ℕ) → i < length residues → nth period residues (i + places) + nth period residues 0 ≡ slice_index_or residues i 0 + nth period residues places
+
+-- residues modulo a period that fits, and a number of places less than theirs
+pub record CanMove (period : ℕ) (rs : List ℕ) (places : ℕ) : Type 0 where
+  pub residues : AreResidues period rs
+  pub high : period ≤ 2 ^ 62
+  pub low : 0 < places
+  pub inside : places < length rs
 
 -- so many places divide the number of residues, and move them so
 pub record IsShift (period : ℕ) (residues : List ℕ) (places : ℕ) : Type 0 where

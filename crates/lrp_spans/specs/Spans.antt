@@ -128,17 +128,19 @@ pub record AppendsLeft (high : ℕ) (s : Span) (holes old new : List Span) : Typ
   pub is : new ≡ old ++ left
   pub difference : IsDifference high (s ∷ []) holes left
 
--- the residues of the spans that have no last turn, ascending
-pub record AreOpenAbove (spans : List Span) (residues : List ℕ) : Type 0 where
+-- the residues of the spans that have no such end, ascending
+pub record AreOpen (end : Span → Option ℤ) (spans : List Span) (residues : List ℕ) : Type 0 where
   pub ascending : AllPairs ◌<◌ residues
-  pub to : (r : ℕ) → Contains residues r → (s : Span) × Contains spans s × (s.residue ≡ r) × (s.last ≡ None)
-  pub from : (s : Span) → Contains spans s → s.last ≡ None → Contains residues s.residue
+  pub to : (r : ℕ) → Contains residues r → (s : Span) × Contains spans s × (s.residue ≡ r) × (end s ≡ None)
+  pub from : (s : Span) → Contains spans s → end s ≡ None → Contains residues s.residue
 
--- the residues of the spans that have no first turn, ascending
-pub record AreOpenBelow (spans : List Span) (residues : List ℕ) : Type 0 where
-  pub ascending : AllPairs ◌<◌ residues
-  pub to : (r : ℕ) → Contains residues r → (s : Span) × Contains spans s × (s.residue ≡ r) × (s.first ≡ None)
-  pub from : (s : Span) → Contains spans s → s.first ≡ None → Contains residues s.residue
+-- the residues of the spans that have no last turn
+abbrev pub AreOpenAbove : List Span → List ℕ → Type 0
+AreOpenAbove = AreOpen (λ s. s.last)
+
+-- the residues of the spans that have no first turn
+abbrev pub AreOpenBelow : List Span → List ℕ → Type 0
+AreOpenBelow = AreOpen (λ s. s.first)
 
 -- the residues of the spans are below the period
 abbrev pub AreBelow : ℕ → List Span → Type 0

@@ -1,6 +1,6 @@
 // The least period of a set of residues.
 ghost use Rattle.std.specs.Prelude.{◌+◌, ◌<◌, ◌≤◌, ◌^◌, ◌↔◌, ◌≡◌, IsTrue, length};
-ghost use Rattle.lrp_spans.specs.Repeating.{AreResidues, HasOneOf, IsLeastStep, Moves, nth};
+ghost use Rattle.lrp_spans.specs.Repeating.{AreResidues, CanMove, HasOneOf, IsLeastStep, Moves, nth};
 
 /// The least number with which the integers of some residues repeat, of which each such number is a multiple; 1 where there
 /// is no residue.
@@ -28,10 +28,7 @@ pub fn least_period(residues: &[u64], period: u64) -> u64
 //
 // The last one is tried first: where all but a few numbers are in the set, it mostly tells that they don't.
 fn moves(residues: &[u64], period: u64, places: usize) -> bool
-    requires residues { AreResidues period residues.now }
-    requires high { period ≤ 2 ^ 62 }
-    requires low { 0 < places }
-    requires inside { places < length residues.now }
+    requires { CanMove period residues.now places }
     ensures { IsTrue result ↔ Moves period residues.now places }
 {
     last_moves(residues, period, places) && all_move(residues, period, places)
@@ -39,10 +36,7 @@ fn moves(residues: &[u64], period: u64, places: usize) -> bool
 
 // Whether the last of the residues moves so.
 fn last_moves(residues: &[u64], period: u64, places: usize) -> bool
-    requires residues { AreResidues period residues.now }
-    requires high { period ≤ 2 ^ 62 }
-    requires low { 0 < places }
-    requires inside { places < length residues.now }
+    requires { CanMove period residues.now places }
     ensures { Moves period residues.now places → IsTrue result }
 {
     let step = residues[places] - residues[0];
@@ -55,10 +49,7 @@ fn last_moves(residues: &[u64], period: u64, places: usize) -> bool
 
 // Whether each of the residues moves so.
 fn all_move(residues: &[u64], period: u64, places: usize) -> bool
-    requires residues { AreResidues period residues.now }
-    requires high { period ≤ 2 ^ 62 }
-    requires low { 0 < places }
-    requires inside { places < length residues.now }
+    requires { CanMove period residues.now places }
     ensures { IsTrue result ↔ Moves period residues.now places }
 {
     let step = residues[places] - residues[0];

@@ -14,4 +14,5 @@ pub mod Frames
 pub mod FrontCodes
 pub mod Joint
 pub mod Pieces
+pub mod Placing
 pub mod Sole

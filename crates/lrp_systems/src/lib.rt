@@ -4,6 +4,7 @@
 mod align;
 mod alone;
 mod choice;
+mod chosen;
 mod divisor;
 mod frame;
 mod free;
@@ -22,13 +23,14 @@ mod windows;
 
 pub use align::Align;
 pub use choice::{Choice, choose};
+pub use chosen::{put, with_text};
 pub use divisor::common_divisor;
 pub use frame::Frame;
 pub use front_walk::add_fronts;
 pub use fronts::Fronts;
 pub use order::Order;
 pub use part::Part;
-pub use system::{add_system, put};
+pub use system::add_system;
 pub use wholes::add_zone;
-pub use window::Window;
+pub use window::ResidueWindow;
 pub use windows::{Windows, windows_of};

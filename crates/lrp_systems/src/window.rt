@@ -2,7 +2,7 @@
 
 /// The numbers that are `start`, or up to `width` more, modulo `step`.
 #[derive(Clone, Copy)]
-pub struct Window {
+pub struct ResidueWindow {
     pub start: u64,
     pub width: u64,
     pub step: u64,

@@ -1,8 +1,8 @@
 -- A table that stands alike is added zone by zone, and any other one as a pattern with it asks.
 use Rattle.std.proofs.Common.{rules}
 use Rattle.lrp_algebra.proofs.Likeness.{same_shapes, alike_added, alike_refused, free_fits, free_known}
-use Rattle.lrp_algebra.proofs.Parts.{on_ok}
 use Rattle.lrp_algebra.proofs.alike.add_table.Goals as goal
+use Rattle.lrp_systems.proofs.Taken.{add_ok}
 
 pub add_zones-requires-clause-shape : goal.add_zones-requires-clause-shape
 add_zones-requires-clause-shape c = same_shapes c.args.operand.store.now c.args.out.now c.args.operand.places.now c.requires.stands (c.is_alike.ensures (search rules))
@@ -17,7 +17,7 @@ pub add_store-requires-clause-known : goal.add_store-requires-clause-known
 add_store-requires-clause-known c = free_known c.args.pattern.now c.requires.free
 
 pub returns-then-is_alike-clause-ok : goal.returns-then-is_alike-clause-ok
-returns-then-is_alike-clause-ok c = on_ok c.add_zones.result _ _
+returns-then-is_alike-clause-ok c = add_ok c.add_zones.result _ _
     (λ all high b r. alike_added c.args.operand.store.now c.args.out.now c.shape-2.ensures.valid c.shape.ensures.valid c.args.operand.places.now (c.is_alike.ensures (search rules)) (same_shapes c.args.operand.store.now c.args.out.now c.args.operand.places.now c.requires.stands (c.is_alike.ensures (search rules))) c.args.pattern.now c.requires.free c.args.size c.requires.numbered c.args.cap c.add_zones.new.out all high b)
     c.add_zones.ensures.ok
 

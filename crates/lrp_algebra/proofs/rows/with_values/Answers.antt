@@ -1,10 +1,10 @@
 -- Value after value is asked for.
 use Rattle.std.proofs.Common.{◌≡◌, ◌+◌, ◌≤◌, ◌++◌, ◌∷◌, [], length, take, sym, subst}
-use Rattle.std.specs.Prelude.{MatchOption}
 use Rattle.std.proofs.lemmas.List.{take_all}
 use Rattle.lrp_tables.specs.Columns.{times_of_term, texts_of_term}
-use Rattle.lrp_algebra.specs.Rows.{IsWithValue, HasNoValue, IsWithValues, HasNoValues}
+use Rattle.lrp_algebra.specs.Rows.{IsWithValues, HasNoValues}
 use Rattle.lrp_algebra.proofs.ReadRows.{same_front, front_get, flat_get, period_get, values_none, values_one_more, values_no, none_of_values}
+use Rattle.lrp_algebra.proofs.Conditioned.{matched_none, matched_some}
 use Rattle.lrp_algebra.proofs.rows.with_values.Goals as goal
 
 pub loop-i-init : goal.loop-i-init
@@ -21,7 +21,7 @@ with_value-requires-clause-period c = period_get c.args.values.now c.loop-i.i c.
 
 pub loop-i-preserved : goal.loop-i-preserved
 loop-i-preserved c =
-    let w : IsWithValue c.args.domain.now c.args.vars.now.times c.args.vars.now.texts c.at.result.now c.at-in-loop-i.result.now c.loop-i.pattern c.in-Some.next = subst (λ o. MatchOption o (HasNoValue c.args.domain.now c.args.vars.now.times c.args.vars.now.texts c.at.result.now c.at-in-loop-i.result.now c.loop-i.pattern) (IsWithValue c.args.domain.now c.args.vars.now.times c.args.vars.now.texts c.at.result.now c.at-in-loop-i.result.now c.loop-i.pattern)) c.in-Some.is c.in_ok-next.ensures in
+    let w = matched_some _ _ _ _ c.in-Some.is c.in_ok-next.ensures in
     let count : length (take c.loop-i.i c.args.values.now) ≡ length (take c.loop-i.i c.args.terms.now) = same_front c.loop-i.i c.args.values.now c.args.terms.now c.requires.count in
     subst (λ l. IsWithValues c.args.domain.now c.args.vars.now.times c.args.vars.now.texts l (take (c.loop-i.i + 1) c.args.terms.now) c.in-Some.next) (sym (front_get c.args.values.now c.loop-i.i c.at.result.now c.at.ensures))
     (subst (λ l. IsWithValues c.args.domain.now c.args.vars.now.times c.args.vars.now.texts (take c.loop-i.i c.args.values.now ++ c.at.result.now ∷ []) l c.in-Some.next) (sym (front_get c.args.terms.now c.loop-i.i c.at-in-loop-i.result.now c.at-in-loop-i.ensures))
@@ -35,7 +35,7 @@ returns c =
 
 pub returns-in-None : goal.returns-in-None
 returns-in-None c =
-    let fails : HasNoValue c.args.domain.now c.args.vars.now.times c.args.vars.now.texts c.at.result.now c.at-in-loop-i.result.now c.loop-i.pattern = subst (λ o. MatchOption o (HasNoValue c.args.domain.now c.args.vars.now.times c.args.vars.now.texts c.at.result.now c.at-in-loop-i.result.now c.loop-i.pattern) (IsWithValue c.args.domain.now c.args.vars.now.times c.args.vars.now.texts c.at.result.now c.at-in-loop-i.result.now c.loop-i.pattern)) c.in-None.is c.in_ok-next.ensures in
+    let fails = matched_none _ _ _ c.in-None.is c.in_ok-next.ensures in
     let count : length (take c.loop-i.i c.args.values.now) ≡ length (take c.loop-i.i c.args.terms.now) = same_front c.loop-i.i c.args.values.now c.args.terms.now c.requires.count in
     none_of_values c.args.domain.now c.args.vars.now.times c.args.vars.now.texts c.args.values.now c.args.terms.now (c.loop-i.i + 1)
     (subst (λ l. HasNoValues c.args.domain.now c.args.vars.now.times c.args.vars.now.texts l (take (c.loop-i.i + 1) c.args.terms.now)) (sym (front_get c.args.values.now c.loop-i.i c.at.result.now c.at.ensures))

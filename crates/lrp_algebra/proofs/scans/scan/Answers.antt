@@ -1,5 +1,5 @@
 -- Row after row is added.
-use Rattle.std.proofs.Common.{◌≡◌, ◌<◌, ◌≤◌, Err, length, get_or, refl, ap, subst, ◌∙◌}
+use Rattle.std.proofs.Common.{Err, refl, ap, ◌∙◌}
 use Rattle.lrp_algebra.proofs.Scanned.{few_times, few_texts, times_among, texts_among, differ_times, differ_texts, names_differ, scanning_none, row_reads, row_times, row_texts, row_periods, row_room, scanning_more, scan_many, scan_table, scan_few, scan_high, made_times, made_texts}
 use Rattle.lrp_algebra.proofs.Steps.{farther}
 use Rattle.lrp_algebra.proofs.scans.scan.Goals as goal
@@ -34,66 +34,50 @@ add_row-requires-clause-texts_differ c =
 
 pub add_row-requires-clause-times_count : goal.add_row-requires-clause-times_count
 add_row-requires-clause-times_count c =
-    let low : c.loop-row.row-index < length c.args.relation.now.rows = subst (λ l. c.loop-row.row-index < length l) c.as_slice-row-items.ensures c.loop-row-test.true in
-    let is : c.row-item.result ≡ get_or c.args.relation.now.rows c.loop-row.row-index c.row-item.result = c.row-item.is ∙ ap (λ l. get_or l c.loop-row.row-index c.row-item.result) c.as_slice-row-items.ensures in
-    row_times c.args.setting.now.domain.now c.len.ensures.ascending c.args.relation.now c.args.terms.now c.args.period c.requires.low c.requires.high c.requires c.requires.reach c.in_ok-vars.vars.times c.in_ok-vars.vars.texts c.in_ok-vars.ensures.times c.in_ok-vars.ensures.texts c.args.setting.now.cap c.store_over-out.result c.store_over-out.ensures c.loop-row.row-index c.row-item.result low is c.loop-row.out c.loop-row.invariant
+    row_times c.args.setting.now.domain.now c.len.ensures.ascending c.args.relation.now c.args.terms.now c.args.period c.requires.low c.requires.high c.requires c.requires.reach c.in_ok-vars.vars.times c.in_ok-vars.vars.texts c.in_ok-vars.ensures.times c.in_ok-vars.ensures.texts c.args.setting.now.cap c.store_over-out.result c.store_over-out.ensures _ c.as_slice-row-items.ensures c.loop-row.row-index c.row-item.result c.loop-row-test.true c.row-item.is c.loop-row.out c.loop-row.invariant
 
 pub add_row-requires-clause-texts_count : goal.add_row-requires-clause-texts_count
 add_row-requires-clause-texts_count c =
-    let low : c.loop-row.row-index < length c.args.relation.now.rows = subst (λ l. c.loop-row.row-index < length l) c.as_slice-row-items.ensures c.loop-row-test.true in
-    let is : c.row-item.result ≡ get_or c.args.relation.now.rows c.loop-row.row-index c.row-item.result = c.row-item.is ∙ ap (λ l. get_or l c.loop-row.row-index c.row-item.result) c.as_slice-row-items.ensures in
-    row_texts c.args.setting.now.domain.now c.len.ensures.ascending c.args.relation.now c.args.terms.now c.args.period c.requires.low c.requires.high c.requires c.requires.reach c.in_ok-vars.vars.times c.in_ok-vars.vars.texts c.in_ok-vars.ensures.times c.in_ok-vars.ensures.texts c.args.setting.now.cap c.store_over-out.result c.store_over-out.ensures c.loop-row.row-index c.row-item.result low is c.loop-row.out c.loop-row.invariant
+    row_texts c.args.setting.now.domain.now c.len.ensures.ascending c.args.relation.now c.args.terms.now c.args.period c.requires.low c.requires.high c.requires c.requires.reach c.in_ok-vars.vars.times c.in_ok-vars.vars.texts c.in_ok-vars.ensures.times c.in_ok-vars.ensures.texts c.args.setting.now.cap c.store_over-out.result c.store_over-out.ensures _ c.as_slice-row-items.ensures c.loop-row.row-index c.row-item.result c.loop-row-test.true c.row-item.is c.loop-row.out c.loop-row.invariant
 
 pub add_row-requires-clause-row : goal.add_row-requires-clause-row
 add_row-requires-clause-row c =
-    let low : c.loop-row.row-index < length c.args.relation.now.rows = subst (λ l. c.loop-row.row-index < length l) c.as_slice-row-items.ensures c.loop-row-test.true in
-    let is : c.row-item.result ≡ get_or c.args.relation.now.rows c.loop-row.row-index c.row-item.result = c.row-item.is ∙ ap (λ l. get_or l c.loop-row.row-index c.row-item.result) c.as_slice-row-items.ensures in
-    row_reads c.args.setting.now.domain.now c.len.ensures.ascending c.args.relation.now c.args.terms.now c.args.period c.requires.low c.requires.high c.requires c.requires.reach c.in_ok-vars.vars.times c.in_ok-vars.vars.texts c.in_ok-vars.ensures.times c.in_ok-vars.ensures.texts c.args.setting.now.cap c.store_over-out.result c.store_over-out.ensures c.loop-row.row-index c.row-item.result low is
+    row_reads c.args.setting.now.domain.now c.len.ensures.ascending c.args.relation.now c.args.terms.now c.args.period c.requires.low c.requires.high c.requires c.requires.reach c.in_ok-vars.vars.times c.in_ok-vars.vars.texts c.in_ok-vars.ensures.times c.in_ok-vars.ensures.texts c.args.setting.now.cap c.store_over-out.result c.store_over-out.ensures _ c.as_slice-row-items.ensures c.loop-row.row-index c.row-item.result c.loop-row-test.true c.row-item.is
 
 pub add_row-requires-clause-periods : goal.add_row-requires-clause-periods
 add_row-requires-clause-periods c =
-    let low : c.loop-row.row-index < length c.args.relation.now.rows = subst (λ l. c.loop-row.row-index < length l) c.as_slice-row-items.ensures c.loop-row-test.true in
-    let is : c.row-item.result ≡ get_or c.args.relation.now.rows c.loop-row.row-index c.row-item.result = c.row-item.is ∙ ap (λ l. get_or l c.loop-row.row-index c.row-item.result) c.as_slice-row-items.ensures in
-    row_periods c.args.setting.now.domain.now c.len.ensures.ascending c.args.relation.now c.args.terms.now c.args.period c.requires.low c.requires.high c.requires c.requires.reach c.in_ok-vars.vars.times c.in_ok-vars.vars.texts c.in_ok-vars.ensures.times c.in_ok-vars.ensures.texts c.args.setting.now.cap c.store_over-out.result c.store_over-out.ensures c.loop-row.row-index c.row-item.result low is c.loop-row.out c.loop-row.invariant
+    row_periods c.args.setting.now.domain.now c.len.ensures.ascending c.args.relation.now c.args.terms.now c.args.period c.requires.low c.requires.high c.requires c.requires.reach c.in_ok-vars.vars.times c.in_ok-vars.vars.texts c.in_ok-vars.ensures.times c.in_ok-vars.ensures.texts c.args.setting.now.cap c.store_over-out.result c.store_over-out.ensures _ c.as_slice-row-items.ensures c.loop-row.row-index c.row-item.result c.loop-row-test.true c.row-item.is c.loop-row.out c.loop-row.invariant
 
 pub add_row-requires-clause-room : goal.add_row-requires-clause-room
 add_row-requires-clause-room c =
-    let low : c.loop-row.row-index < length c.args.relation.now.rows = subst (λ l. c.loop-row.row-index < length l) c.as_slice-row-items.ensures c.loop-row-test.true in
-    let is : c.row-item.result ≡ get_or c.args.relation.now.rows c.loop-row.row-index c.row-item.result = c.row-item.is ∙ ap (λ l. get_or l c.loop-row.row-index c.row-item.result) c.as_slice-row-items.ensures in
-    row_room c.args.setting.now.domain.now c.len.ensures.ascending c.args.relation.now c.args.terms.now c.args.period c.requires.low c.requires.high c.requires c.requires.reach c.in_ok-vars.vars.times c.in_ok-vars.vars.texts c.in_ok-vars.ensures.times c.in_ok-vars.ensures.texts c.args.setting.now.cap c.store_over-out.result c.store_over-out.ensures c.loop-row.row-index c.row-item.result low is c.loop-row.out c.loop-row.invariant
+    row_room c.args.setting.now.domain.now c.len.ensures.ascending c.args.relation.now c.args.terms.now c.args.period c.requires.low c.requires.high c.requires c.requires.reach c.in_ok-vars.vars.times c.in_ok-vars.vars.texts c.in_ok-vars.ensures.times c.in_ok-vars.ensures.texts c.args.setting.now.cap c.store_over-out.result c.store_over-out.ensures _ c.as_slice-row-items.ensures c.loop-row.row-index c.row-item.result c.loop-row-test.true c.row-item.is c.loop-row.out c.loop-row.invariant
 
 pub loop-row-preserved : goal.loop-row-preserved
 loop-row-preserved c =
-    let low : c.loop-row.row-index < length c.args.relation.now.rows = subst (λ l. c.loop-row.row-index < length l) c.as_slice-row-items.ensures c.loop-row-test.true in
-    let is : c.row-item.result ≡ get_or c.args.relation.now.rows c.loop-row.row-index c.row-item.result = c.row-item.is ∙ ap (λ l. get_or l c.loop-row.row-index c.row-item.result) c.as_slice-row-items.ensures in
-    scanning_more c.args.setting.now.domain.now c.len.ensures.ascending c.args.relation.now c.args.terms.now c.args.period c.requires.low c.requires.high c.requires c.requires.reach c.in_ok-vars.vars.times c.in_ok-vars.vars.texts c.in_ok-vars.ensures.times c.in_ok-vars.ensures.texts c.args.setting.now.cap c.store_over-out.result c.store_over-out.ensures c.loop-row.row-index c.row-item.result low is c.loop-row.out c.loop-row.invariant c.add_row.new.out c.in-Ok.ensures.ok
+    scanning_more c.args.setting.now.domain.now c.len.ensures.ascending c.args.relation.now c.args.terms.now c.args.period c.requires.low c.requires.high c.requires c.requires.reach c.in_ok-vars.vars.times c.in_ok-vars.vars.texts c.in_ok-vars.ensures.times c.in_ok-vars.ensures.texts c.args.setting.now.cap c.store_over-out.result c.store_over-out.ensures _ c.as_slice-row-items.ensures c.loop-row.row-index c.row-item.result c.loop-row-test.true c.row-item.is c.loop-row.out c.loop-row.invariant c.add_row.new.out c.in-Ok.ensures.ok
 
 pub returns-in-Err-TooManyCells : goal.returns-in-Err-TooManyCells
 returns-in-Err-TooManyCells c =
-    let low : c.loop-row.row-index < length c.args.relation.now.rows = subst (λ l. c.loop-row.row-index < length l) c.as_slice-row-items.ensures c.loop-row-test.true in
-    let is : c.row-item.result ≡ get_or c.args.relation.now.rows c.loop-row.row-index c.row-item.result = c.row-item.is ∙ ap (λ l. get_or l c.loop-row.row-index c.row-item.result) c.as_slice-row-items.ensures in
     record {
       table = tt;
       reach = tt;
       few = tt;
-      many = λ e. scan_many c.args.setting.now.domain.now c.len.ensures.ascending c.args.relation.now c.args.terms.now c.args.period c.requires.low c.requires.high c.requires c.requires.reach c.in_ok-vars.vars.times c.in_ok-vars.vars.texts c.in_ok-vars.ensures.times c.in_ok-vars.ensures.texts c.args.setting.now.cap c.store_over-out.result c.store_over-out.ensures c.loop-row.row-index c.row-item.result low is c.loop-row.out c.loop-row.invariant c.add_row.new.out (c.add_row.ensures.too_many (c.in-Err-TooManyCells.is ∙ ap Err c.in-Err-TooManyCells.field-0-is));
+      many = λ e. scan_many c.args.setting.now.domain.now c.len.ensures.ascending c.args.relation.now c.args.terms.now c.args.period c.requires.low c.requires.high c.requires c.requires.reach c.in_ok-vars.vars.times c.in_ok-vars.vars.texts c.in_ok-vars.ensures.times c.in_ok-vars.ensures.texts c.args.setting.now.cap c.store_over-out.result c.store_over-out.ensures _ c.as_slice-row-items.ensures c.loop-row.row-index c.row-item.result c.loop-row-test.true c.row-item.is c.loop-row.out c.loop-row.invariant c.add_row.new.out (c.add_row.ensures.too_many (c.in-Err-TooManyCells.is ∙ ap Err c.in-Err-TooManyCells.field-0-is));
     }
 
 pub invariant_of-result : goal.invariant_of-result
 invariant_of-result c =
-    let end : length c.args.relation.now.rows ≤ c.loop-row.row-index = subst (λ l. length l ≤ c.loop-row.row-index) c.as_slice-row-items.ensures c.loop-row-test.false in
     record {
-      times_named = made_times c.args.setting.now.domain.now c.len.ensures.ascending c.args.relation.now c.args.terms.now c.args.period c.requires.low c.requires.high c.requires c.requires.reach c.in_ok-vars.vars.times c.in_ok-vars.vars.texts c.in_ok-vars.ensures.times c.in_ok-vars.ensures.texts c.args.setting.now.cap c.store_over-out.result c.store_over-out.ensures c.loop-row.row-index end c.loop-row.out c.loop-row.invariant;
-      texts_named = made_texts c.args.setting.now.domain.now c.len.ensures.ascending c.args.relation.now c.args.terms.now c.args.period c.requires.low c.requires.high c.requires c.requires.reach c.in_ok-vars.vars.times c.in_ok-vars.vars.texts c.in_ok-vars.ensures.times c.in_ok-vars.ensures.texts c.args.setting.now.cap c.store_over-out.result c.store_over-out.ensures c.loop-row.row-index end c.loop-row.out c.loop-row.invariant;
+      times_named = made_times c.args.setting.now.domain.now c.len.ensures.ascending c.args.relation.now c.args.terms.now c.args.period c.requires.low c.requires.high c.requires c.requires.reach c.in_ok-vars.vars.times c.in_ok-vars.vars.texts c.in_ok-vars.ensures.times c.in_ok-vars.ensures.texts c.args.setting.now.cap c.store_over-out.result c.store_over-out.ensures _ c.as_slice-row-items.ensures c.loop-row.row-index c.loop-row-test.false c.loop-row.out c.loop-row.invariant;
+      texts_named = made_texts c.args.setting.now.domain.now c.len.ensures.ascending c.args.relation.now c.args.terms.now c.args.period c.requires.low c.requires.high c.requires c.requires.reach c.in_ok-vars.vars.times c.in_ok-vars.vars.texts c.in_ok-vars.ensures.times c.in_ok-vars.ensures.texts c.args.setting.now.cap c.store_over-out.result c.store_over-out.ensures _ c.as_slice-row-items.ensures c.loop-row.row-index c.loop-row-test.false c.loop-row.out c.loop-row.invariant;
       names_differ = names_differ c.args.setting.now.domain.now c.len.ensures.ascending c.args.relation.now c.args.terms.now c.args.period c.requires.low c.requires.high c.requires c.requires.reach c.in_ok-vars.vars.times c.in_ok-vars.vars.texts c.in_ok-vars.ensures.times c.in_ok-vars.ensures.texts c.args.setting.now.cap c.store_over-out.result c.store_over-out.ensures;
     }
 
 pub returns : goal.returns
 returns c =
-    let end : length c.args.relation.now.rows ≤ c.loop-row.row-index = subst (λ l. length l ≤ c.loop-row.row-index) c.as_slice-row-items.ensures c.loop-row-test.false in
     record {
-      table = scan_table c.args.setting.now.domain.now c.len.ensures.ascending c.args.relation.now c.args.terms.now c.args.period c.requires.low c.requires.high c.requires c.requires.reach c.in_ok-vars.vars.times c.in_ok-vars.vars.texts c.in_ok-vars.ensures.times c.in_ok-vars.ensures.texts c.args.setting.now.cap c.store_over-out.result c.store_over-out.ensures c.loop-row.row-index end c.loop-row.out c.loop-row.invariant _ refl refl refl;
-      reach = λ high h. farther _ _ high h (scan_high c.args.setting.now.domain.now c.len.ensures.ascending c.args.relation.now c.args.terms.now c.args.period c.requires.low c.requires.high c.requires c.requires.reach c.in_ok-vars.vars.times c.in_ok-vars.vars.texts c.in_ok-vars.ensures.times c.in_ok-vars.ensures.texts c.args.setting.now.cap c.store_over-out.result c.store_over-out.ensures c.loop-row.row-index end c.loop-row.out c.loop-row.invariant);
-      few = scan_few c.args.setting.now.domain.now c.len.ensures.ascending c.args.relation.now c.args.terms.now c.args.period c.requires.low c.requires.high c.requires c.requires.reach c.in_ok-vars.vars.times c.in_ok-vars.vars.texts c.in_ok-vars.ensures.times c.in_ok-vars.ensures.texts c.args.setting.now.cap c.store_over-out.result c.store_over-out.ensures c.loop-row.row-index end c.loop-row.out c.loop-row.invariant;
+      table = scan_table c.args.setting.now.domain.now c.len.ensures.ascending c.args.relation.now c.args.terms.now c.args.period c.requires.low c.requires.high c.requires c.requires.reach c.in_ok-vars.vars.times c.in_ok-vars.vars.texts c.in_ok-vars.ensures.times c.in_ok-vars.ensures.texts c.args.setting.now.cap c.store_over-out.result c.store_over-out.ensures _ c.as_slice-row-items.ensures c.loop-row.row-index c.loop-row-test.false c.loop-row.out c.loop-row.invariant _ refl refl refl;
+      reach = λ high h. farther _ _ high h (scan_high c.args.setting.now.domain.now c.len.ensures.ascending c.args.relation.now c.args.terms.now c.args.period c.requires.low c.requires.high c.requires c.requires.reach c.in_ok-vars.vars.times c.in_ok-vars.vars.texts c.in_ok-vars.ensures.times c.in_ok-vars.ensures.texts c.args.setting.now.cap c.store_over-out.result c.store_over-out.ensures _ c.as_slice-row-items.ensures c.loop-row.row-index c.loop-row-test.false c.loop-row.out c.loop-row.invariant);
+      few = scan_few c.args.setting.now.domain.now c.len.ensures.ascending c.args.relation.now c.args.terms.now c.args.period c.requires.low c.requires.high c.requires c.requires.reach c.in_ok-vars.vars.times c.in_ok-vars.vars.texts c.in_ok-vars.ensures.times c.in_ok-vars.ensures.texts c.args.setting.now.cap c.store_over-out.result c.store_over-out.ensures _ c.as_slice-row-items.ensures c.loop-row.row-index c.loop-row-test.false c.loop-row.out c.loop-row.invariant;
       many = λ e. cc;
     }

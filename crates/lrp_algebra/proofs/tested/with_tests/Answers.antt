@@ -1,10 +1,10 @@
 -- Test after test is asked.
 use Rattle.std.proofs.Common.{◌≡◌, ◌<◌, ◌≤◌, ◌+◌, length, take, get_or, subst, sym, ap, ◌∙◌, arith}
-use Rattle.std.specs.Prelude.{MatchOption}
 use Rattle.std.proofs.lemmas.List.{take_all}
 use Rattle.lrp_model.specs.Reach.{test_reach}
-use Rattle.lrp_algebra.specs.Conditions.{CanBeAsked, IsWithTest, HasNoTest, IsWithTests, HasNoTests}
+use Rattle.lrp_algebra.specs.Conditions.{CanBeAsked, IsWithTests, HasNoTests}
 use Rattle.lrp_algebra.proofs.AllTests.{all_there, front_more, test_within, tests_none, tests_more, tests_no, none_of_front}
+use Rattle.lrp_algebra.proofs.Conditioned.{matched_none, matched_some}
 use Rattle.lrp_algebra.proofs.tested.with_tests.Goals as goal
 
 pub loop-test-init : goal.loop-test-init
@@ -29,7 +29,7 @@ pub loop-test-preserved : goal.loop-test-preserved
 loop-test-preserved c =
     let low : c.loop-test.test-index < length c.args.tests.now = subst (λ l. c.loop-test.test-index < length l) c.as_slice-test-items.ensures c.loop-test-test.true in
     let is : c.test-item.result ≡ get_or c.args.tests.now c.loop-test.test-index c.test-item.result = c.test-item.is ∙ ap (λ l. get_or l c.loop-test.test-index c.test-item.result) c.as_slice-test-items.ensures in
-    let w : IsWithTest c.args.domain.now c.args.vars.now.times c.args.vars.now.texts c.test-item.result c.loop-test.pattern c.in-Some.next = subst (λ o. MatchOption o (HasNoTest c.args.domain.now c.args.vars.now.times c.args.vars.now.texts c.test-item.result c.loop-test.pattern) (IsWithTest c.args.domain.now c.args.vars.now.times c.args.vars.now.texts c.test-item.result c.loop-test.pattern)) c.in-Some.is c.in_ok-next.ensures in
+    let w = matched_some _ _ _ _ c.in-Some.is c.in_ok-next.ensures in
     subst (λ l. IsWithTests c.args.domain.now c.args.vars.now.times c.args.vars.now.texts l c.in-Some.next) (sym (front_more c.args.tests.now c.loop-test.test-index c.test-item.result low is))
     (tests_more c.args.domain.now c.args.vars.now.times c.args.vars.now.texts (take c.loop-test.test-index c.args.tests.now) c.test-item.result c.loop-test.pattern c.loop-test.invariant c.in-Some.next w)
 
@@ -42,7 +42,7 @@ pub returns-in-None : goal.returns-in-None
 returns-in-None c =
     let low : c.loop-test.test-index < length c.args.tests.now = subst (λ l. c.loop-test.test-index < length l) c.as_slice-test-items.ensures c.loop-test-test.true in
     let is : c.test-item.result ≡ get_or c.args.tests.now c.loop-test.test-index c.test-item.result = c.test-item.is ∙ ap (λ l. get_or l c.loop-test.test-index c.test-item.result) c.as_slice-test-items.ensures in
-    let fails : HasNoTest c.args.domain.now c.args.vars.now.times c.args.vars.now.texts c.test-item.result c.loop-test.pattern = subst (λ o. MatchOption o (HasNoTest c.args.domain.now c.args.vars.now.times c.args.vars.now.texts c.test-item.result c.loop-test.pattern) (IsWithTest c.args.domain.now c.args.vars.now.times c.args.vars.now.texts c.test-item.result c.loop-test.pattern)) c.in-None.is c.in_ok-next.ensures in
+    let fails = matched_none _ _ _ c.in-None.is c.in_ok-next.ensures in
     none_of_front c.args.domain.now c.args.vars.now.times c.args.vars.now.texts c.args.tests.now (c.loop-test.test-index + 1)
     (subst (HasNoTests c.args.domain.now c.args.vars.now.times c.args.vars.now.texts) (sym (front_more c.args.tests.now c.loop-test.test-index c.test-item.result low is))
     (tests_no c.args.domain.now c.args.vars.now.times c.args.vars.now.texts (take c.loop-test.test-index c.args.tests.now) c.test-item.result c.loop-test.pattern c.loop-test.invariant fails))

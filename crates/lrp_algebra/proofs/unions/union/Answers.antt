@@ -1,14 +1,11 @@
 -- The store holds what is found at the places of either table's columns.
-use Rattle.std.proofs.Common.{◌<◌, Err, refl, sym, ap, subst, ◌∙◌, length, ◌++◌}
-use Rattle.std.specs.Prelude.{nat_abs, AllPairs, ◌≢◌}
-use Rattle.std.proofs.Common.{to_z, of_z}
-use Rattle.std.specs.Int.{w64}
-use Rattle.lrp_tables.specs.Columns.{ArePlacesOf, joint}
+use Rattle.std.proofs.Common.{Err, refl, sym, ap, subst, ◌∙◌, length, ◌++◌}
+use Rattle.std.specs.Prelude.{AllPairs, ◌≢◌}
+use Rattle.lrp_tables.specs.Columns.{joint}
 use Rattle.lrp_tables.specs.Tables.{AreNamesAmong}
 use Rattle.lrp_tables.proofs.Joining.{in_joint_left, in_joint_right}
 use Rattle.lrp_algebra.proofs.United.{joint_names_differ, left_stands, right_stands, left_many, right_many, union_table, union_few, union_reach, union_times, union_texts}
 use Rattle.lrp_algebra.proofs.Likeness.{numbers_below}
-use Rattle.lrp_algebra.proofs.Steps.{fresh_by, positive, divides_abs, same_word}
 use Rattle.lrp_algebra.proofs.unions.union.Goals as goal
 
 pub places_of-requires-clause-times : goal.places_of-requires-clause-times
@@ -25,38 +22,20 @@ places_of-requires-2-clause-texts c = subst (λ l. AreNamesAmong c.args.right.no
 
 pub add_table-requires-clause-stands : goal.add_table-requires-clause-stands
 add_table-requires-clause-stands c =
-    let lt : ArePlacesOf c.args.left.now.vars.times (joint c.args.left.now.vars.times c.args.right.now.vars.times) c.in_ok-left_places.left_places.times = subst (λ l. ArePlacesOf c.args.left.now.vars.times l c.in_ok-left_places.left_places.times) c.in_ok-vars.ensures.times c.in_ok-left_places.ensures.times in
-    let lx : ArePlacesOf c.args.left.now.vars.texts (joint c.args.left.now.vars.texts c.args.right.now.vars.texts) c.in_ok-left_places.left_places.texts = subst (λ l. ArePlacesOf c.args.left.now.vars.texts l c.in_ok-left_places.left_places.texts) c.in_ok-vars.ensures.texts c.in_ok-left_places.ensures.texts in
-    let rt : ArePlacesOf c.args.right.now.vars.times (joint c.args.left.now.vars.times c.args.right.now.vars.times) c.in_ok-right_places.right_places.times = subst (λ l. ArePlacesOf c.args.right.now.vars.times l c.in_ok-right_places.right_places.times) c.in_ok-vars.ensures.times c.in_ok-right_places.ensures.times in
-    let rx : ArePlacesOf c.args.right.now.vars.texts (joint c.args.left.now.vars.texts c.args.right.now.vars.texts) c.in_ok-right_places.right_places.texts = subst (λ l. ArePlacesOf c.args.right.now.vars.texts l c.in_ok-right_places.right_places.texts) c.in_ok-vars.ensures.texts c.in_ok-right_places.ensures.texts in
-    let fresh = fresh_by c.store_over-out.result c.in_ok-vars.vars.times (joint c.args.left.now.vars.times c.args.right.now.vars.times) c.in_ok-vars.vars.texts (joint c.args.left.now.vars.texts c.args.right.now.vars.texts) (nat_abs (to_z w64 (of_z w64 c.args.period))) (nat_abs c.args.period) c.store_over-out.ensures c.in_ok-vars.ensures.times c.in_ok-vars.ensures.texts (same_word c.args.period c.requires.tables.low c.requires.tables.high) in
-    let low : 0 < nat_abs c.args.period = positive c.args.period c.requires.tables.low in
-    left_stands c.args.setting.now.domain.now c.len-size.ensures.ascending c.args.left.now c.args.right.now c.requires.tables.columns c.in_ok-left_places.left_places c.in_ok-right_places.right_places lt lx rt rx c.new-all.result c.new-all.ensures c.len-size.result c.len-size.ensures.count (nat_abs c.args.period) low c.args.setting.now.cap c.store_over-out.result fresh (divides_abs c.args.period _ c.requires.tables.low c.requires.tables.left_period) (divides_abs c.args.period _ c.requires.tables.low c.requires.tables.right_period) c.requires.tables.left_reach c.requires.tables.right_reach
+    left_stands _ c.len-size.ensures.ascending c.args.period c.args.left.now c.args.right.now c.requires.tables c.in_ok-vars.vars c.in_ok-vars.ensures.times c.in_ok-vars.ensures.texts c.in_ok-left_places.left_places c.in_ok-right_places.right_places c.in_ok-left_places.ensures.times c.in_ok-left_places.ensures.texts c.in_ok-right_places.ensures.times c.in_ok-right_places.ensures.texts _ c.new-all.ensures _ c.len-size.ensures.count c.args.setting.now.cap _ c.store_over-out.ensures
 
 pub returns-in-Err-TooManyCells : goal.returns-in-Err-TooManyCells
 returns-in-Err-TooManyCells c =
-    let lt : ArePlacesOf c.args.left.now.vars.times (joint c.args.left.now.vars.times c.args.right.now.vars.times) c.in_ok-left_places.left_places.times = subst (λ l. ArePlacesOf c.args.left.now.vars.times l c.in_ok-left_places.left_places.times) c.in_ok-vars.ensures.times c.in_ok-left_places.ensures.times in
-    let lx : ArePlacesOf c.args.left.now.vars.texts (joint c.args.left.now.vars.texts c.args.right.now.vars.texts) c.in_ok-left_places.left_places.texts = subst (λ l. ArePlacesOf c.args.left.now.vars.texts l c.in_ok-left_places.left_places.texts) c.in_ok-vars.ensures.texts c.in_ok-left_places.ensures.texts in
-    let rt : ArePlacesOf c.args.right.now.vars.times (joint c.args.left.now.vars.times c.args.right.now.vars.times) c.in_ok-right_places.right_places.times = subst (λ l. ArePlacesOf c.args.right.now.vars.times l c.in_ok-right_places.right_places.times) c.in_ok-vars.ensures.times c.in_ok-right_places.ensures.times in
-    let rx : ArePlacesOf c.args.right.now.vars.texts (joint c.args.left.now.vars.texts c.args.right.now.vars.texts) c.in_ok-right_places.right_places.texts = subst (λ l. ArePlacesOf c.args.right.now.vars.texts l c.in_ok-right_places.right_places.texts) c.in_ok-vars.ensures.texts c.in_ok-right_places.ensures.texts in
-    let fresh = fresh_by c.store_over-out.result c.in_ok-vars.vars.times (joint c.args.left.now.vars.times c.args.right.now.vars.times) c.in_ok-vars.vars.texts (joint c.args.left.now.vars.texts c.args.right.now.vars.texts) (nat_abs (to_z w64 (of_z w64 c.args.period))) (nat_abs c.args.period) c.store_over-out.ensures c.in_ok-vars.ensures.times c.in_ok-vars.ensures.texts (same_word c.args.period c.requires.tables.low c.requires.tables.high) in
-    let low : 0 < nat_abs c.args.period = positive c.args.period c.requires.tables.low in
     record {
       table = tt;
       reach = tt;
       few = tt;
-      many = λ e. left_many c.args.setting.now.domain.now c.len-size.ensures.ascending c.args.left.now c.args.right.now c.requires.tables.columns c.in_ok-left_places.left_places c.in_ok-right_places.right_places lt lx rt rx c.new-all.result c.new-all.ensures c.len-size.result c.len-size.ensures.count (nat_abs c.args.period) low c.args.setting.now.cap c.store_over-out.result fresh (divides_abs c.args.period _ c.requires.tables.low c.requires.tables.left_period) (divides_abs c.args.period _ c.requires.tables.low c.requires.tables.right_period) c.requires.tables.left_reach c.requires.tables.right_reach c.shape-3.ensures.valid c.add_table.new.out (c.add_table.ensures.too_many (c.in-Err-TooManyCells.is ∙ ap Err c.in-Err-TooManyCells.field-0-is));
+      many = λ e. left_many _ c.len-size.ensures.ascending c.args.period c.args.left.now c.args.right.now c.requires.tables c.in_ok-vars.vars c.in_ok-vars.ensures.times c.in_ok-vars.ensures.texts c.in_ok-left_places.left_places c.in_ok-right_places.right_places c.in_ok-left_places.ensures.times c.in_ok-left_places.ensures.texts c.in_ok-right_places.ensures.times c.in_ok-right_places.ensures.texts _ c.new-all.ensures _ c.len-size.ensures.count c.args.setting.now.cap _ c.store_over-out.ensures c.shape-3.ensures.valid c.add_table.new.out (c.add_table.ensures.too_many (c.in-Err-TooManyCells.is ∙ ap Err c.in-Err-TooManyCells.field-0-is));
     }
 
 pub add_table-requires-2-clause-stands : goal.add_table-requires-2-clause-stands
 add_table-requires-2-clause-stands c =
-    let lt : ArePlacesOf c.args.left.now.vars.times (joint c.args.left.now.vars.times c.args.right.now.vars.times) c.in_ok-left_places.left_places.times = subst (λ l. ArePlacesOf c.args.left.now.vars.times l c.in_ok-left_places.left_places.times) c.in_ok-vars.ensures.times c.in_ok-left_places.ensures.times in
-    let lx : ArePlacesOf c.args.left.now.vars.texts (joint c.args.left.now.vars.texts c.args.right.now.vars.texts) c.in_ok-left_places.left_places.texts = subst (λ l. ArePlacesOf c.args.left.now.vars.texts l c.in_ok-left_places.left_places.texts) c.in_ok-vars.ensures.texts c.in_ok-left_places.ensures.texts in
-    let rt : ArePlacesOf c.args.right.now.vars.times (joint c.args.left.now.vars.times c.args.right.now.vars.times) c.in_ok-right_places.right_places.times = subst (λ l. ArePlacesOf c.args.right.now.vars.times l c.in_ok-right_places.right_places.times) c.in_ok-vars.ensures.times c.in_ok-right_places.ensures.times in
-    let rx : ArePlacesOf c.args.right.now.vars.texts (joint c.args.left.now.vars.texts c.args.right.now.vars.texts) c.in_ok-right_places.right_places.texts = subst (λ l. ArePlacesOf c.args.right.now.vars.texts l c.in_ok-right_places.right_places.texts) c.in_ok-vars.ensures.texts c.in_ok-right_places.ensures.texts in
-    let fresh = fresh_by c.store_over-out.result c.in_ok-vars.vars.times (joint c.args.left.now.vars.times c.args.right.now.vars.times) c.in_ok-vars.vars.texts (joint c.args.left.now.vars.texts c.args.right.now.vars.texts) (nat_abs (to_z w64 (of_z w64 c.args.period))) (nat_abs c.args.period) c.store_over-out.ensures c.in_ok-vars.ensures.times c.in_ok-vars.ensures.texts (same_word c.args.period c.requires.tables.low c.requires.tables.high) in
-    let low : 0 < nat_abs c.args.period = positive c.args.period c.requires.tables.low in
-    right_stands c.args.setting.now.domain.now c.len-size.ensures.ascending c.args.left.now c.args.right.now c.requires.tables.columns c.in_ok-left_places.left_places c.in_ok-right_places.right_places lt lx rt rx c.new-all.result c.new-all.ensures c.len-size.result c.len-size.ensures.count (nat_abs c.args.period) low c.args.setting.now.cap c.store_over-out.result fresh (divides_abs c.args.period _ c.requires.tables.low c.requires.tables.left_period) (divides_abs c.args.period _ c.requires.tables.low c.requires.tables.right_period) c.requires.tables.left_reach c.requires.tables.right_reach c.shape-3.ensures.valid c.add_table.new.out c.in-Ok.ensures.ok
+    right_stands _ c.len-size.ensures.ascending c.args.period c.args.left.now c.args.right.now c.requires.tables c.in_ok-vars.vars c.in_ok-vars.ensures.times c.in_ok-vars.ensures.texts c.in_ok-left_places.left_places c.in_ok-right_places.right_places c.in_ok-left_places.ensures.times c.in_ok-left_places.ensures.texts c.in_ok-right_places.ensures.times c.in_ok-right_places.ensures.texts _ c.new-all.ensures _ c.len-size.ensures.count c.args.setting.now.cap _ c.store_over-out.ensures c.shape-3.ensures.valid c.add_table.new.out c.in-Ok.ensures.ok
 
 pub add_table-requires-clause-numbered : goal.add_table-requires-clause-numbered
 add_table-requires-clause-numbered c = numbers_below c.args.setting.now.domain.now c.args.left.now.store c.len-size.result c.len-size.ensures.count c.requires.left_numbered
@@ -66,44 +45,26 @@ add_table-requires-2-clause-numbered c = numbers_below c.args.setting.now.domain
 
 pub invariant_of-result : goal.invariant_of-result
 invariant_of-result c =
-    let lt : ArePlacesOf c.args.left.now.vars.times (joint c.args.left.now.vars.times c.args.right.now.vars.times) c.in_ok-left_places.left_places.times = subst (λ l. ArePlacesOf c.args.left.now.vars.times l c.in_ok-left_places.left_places.times) c.in_ok-vars.ensures.times c.in_ok-left_places.ensures.times in
-    let lx : ArePlacesOf c.args.left.now.vars.texts (joint c.args.left.now.vars.texts c.args.right.now.vars.texts) c.in_ok-left_places.left_places.texts = subst (λ l. ArePlacesOf c.args.left.now.vars.texts l c.in_ok-left_places.left_places.texts) c.in_ok-vars.ensures.texts c.in_ok-left_places.ensures.texts in
-    let rt : ArePlacesOf c.args.right.now.vars.times (joint c.args.left.now.vars.times c.args.right.now.vars.times) c.in_ok-right_places.right_places.times = subst (λ l. ArePlacesOf c.args.right.now.vars.times l c.in_ok-right_places.right_places.times) c.in_ok-vars.ensures.times c.in_ok-right_places.ensures.times in
-    let rx : ArePlacesOf c.args.right.now.vars.texts (joint c.args.left.now.vars.texts c.args.right.now.vars.texts) c.in_ok-right_places.right_places.texts = subst (λ l. ArePlacesOf c.args.right.now.vars.texts l c.in_ok-right_places.right_places.texts) c.in_ok-vars.ensures.texts c.in_ok-right_places.ensures.texts in
-    let fresh = fresh_by c.store_over-out.result c.in_ok-vars.vars.times (joint c.args.left.now.vars.times c.args.right.now.vars.times) c.in_ok-vars.vars.texts (joint c.args.left.now.vars.texts c.args.right.now.vars.texts) (nat_abs (to_z w64 (of_z w64 c.args.period))) (nat_abs c.args.period) c.store_over-out.ensures c.in_ok-vars.ensures.times c.in_ok-vars.ensures.texts (same_word c.args.period c.requires.tables.low c.requires.tables.high) in
-    let low : 0 < nat_abs c.args.period = positive c.args.period c.requires.tables.low in
     record {
-      times_named = ap length c.in_ok-vars.ensures.times ∙ union_times c.args.setting.now.domain.now c.len-size.ensures.ascending c.args.left.now c.args.right.now c.requires.tables.columns c.in_ok-left_places.left_places c.in_ok-right_places.right_places lt lx rt rx c.new-all.result c.new-all.ensures c.len-size.result c.len-size.ensures.count (nat_abs c.args.period) low c.args.setting.now.cap c.store_over-out.result fresh (divides_abs c.args.period _ c.requires.tables.low c.requires.tables.left_period) (divides_abs c.args.period _ c.requires.tables.low c.requires.tables.right_period) c.requires.tables.left_reach c.requires.tables.right_reach c.shape-3.ensures.valid c.add_table.new.out c.in-Ok.ensures.ok c.add_table-2.new.out c.in-Ok-add_table.ensures.ok;
-      texts_named = ap length c.in_ok-vars.ensures.texts ∙ union_texts c.args.setting.now.domain.now c.len-size.ensures.ascending c.args.left.now c.args.right.now c.requires.tables.columns c.in_ok-left_places.left_places c.in_ok-right_places.right_places lt lx rt rx c.new-all.result c.new-all.ensures c.len-size.result c.len-size.ensures.count (nat_abs c.args.period) low c.args.setting.now.cap c.store_over-out.result fresh (divides_abs c.args.period _ c.requires.tables.low c.requires.tables.left_period) (divides_abs c.args.period _ c.requires.tables.low c.requires.tables.right_period) c.requires.tables.left_reach c.requires.tables.right_reach c.shape-3.ensures.valid c.add_table.new.out c.in-Ok.ensures.ok c.add_table-2.new.out c.in-Ok-add_table.ensures.ok;
+      times_named = ap length c.in_ok-vars.ensures.times ∙ union_times _ c.len-size.ensures.ascending c.args.period c.args.left.now c.args.right.now c.requires.tables c.in_ok-vars.vars c.in_ok-vars.ensures.times c.in_ok-vars.ensures.texts c.in_ok-left_places.left_places c.in_ok-right_places.right_places c.in_ok-left_places.ensures.times c.in_ok-left_places.ensures.texts c.in_ok-right_places.ensures.times c.in_ok-right_places.ensures.texts _ c.new-all.ensures _ c.len-size.ensures.count c.args.setting.now.cap _ c.store_over-out.ensures c.shape-3.ensures.valid c.add_table.new.out c.in-Ok.ensures.ok c.add_table-2.new.out c.in-Ok-add_table.ensures.ok;
+      texts_named = ap length c.in_ok-vars.ensures.texts ∙ union_texts _ c.len-size.ensures.ascending c.args.period c.args.left.now c.args.right.now c.requires.tables c.in_ok-vars.vars c.in_ok-vars.ensures.times c.in_ok-vars.ensures.texts c.in_ok-left_places.left_places c.in_ok-right_places.right_places c.in_ok-left_places.ensures.times c.in_ok-left_places.ensures.texts c.in_ok-right_places.ensures.times c.in_ok-right_places.ensures.texts _ c.new-all.ensures _ c.len-size.ensures.count c.args.setting.now.cap _ c.store_over-out.ensures c.shape-3.ensures.valid c.add_table.new.out c.in-Ok.ensures.ok c.add_table-2.new.out c.in-Ok-add_table.ensures.ok;
       names_differ = subst (λ l. AllPairs ◌≢◌ (l ++ c.in_ok-vars.vars.texts)) (sym c.in_ok-vars.ensures.times) (subst (λ l. AllPairs ◌≢◌ (joint c.args.left.now.vars.times c.args.right.now.vars.times ++ l)) (sym c.in_ok-vars.ensures.texts) (joint_names_differ c.args.left.now c.args.right.now c.requires.tables.columns));
     }
 
 pub returns-in-Ok-add_table : goal.returns-in-Ok-add_table
 returns-in-Ok-add_table c =
-    let lt : ArePlacesOf c.args.left.now.vars.times (joint c.args.left.now.vars.times c.args.right.now.vars.times) c.in_ok-left_places.left_places.times = subst (λ l. ArePlacesOf c.args.left.now.vars.times l c.in_ok-left_places.left_places.times) c.in_ok-vars.ensures.times c.in_ok-left_places.ensures.times in
-    let lx : ArePlacesOf c.args.left.now.vars.texts (joint c.args.left.now.vars.texts c.args.right.now.vars.texts) c.in_ok-left_places.left_places.texts = subst (λ l. ArePlacesOf c.args.left.now.vars.texts l c.in_ok-left_places.left_places.texts) c.in_ok-vars.ensures.texts c.in_ok-left_places.ensures.texts in
-    let rt : ArePlacesOf c.args.right.now.vars.times (joint c.args.left.now.vars.times c.args.right.now.vars.times) c.in_ok-right_places.right_places.times = subst (λ l. ArePlacesOf c.args.right.now.vars.times l c.in_ok-right_places.right_places.times) c.in_ok-vars.ensures.times c.in_ok-right_places.ensures.times in
-    let rx : ArePlacesOf c.args.right.now.vars.texts (joint c.args.left.now.vars.texts c.args.right.now.vars.texts) c.in_ok-right_places.right_places.texts = subst (λ l. ArePlacesOf c.args.right.now.vars.texts l c.in_ok-right_places.right_places.texts) c.in_ok-vars.ensures.texts c.in_ok-right_places.ensures.texts in
-    let fresh = fresh_by c.store_over-out.result c.in_ok-vars.vars.times (joint c.args.left.now.vars.times c.args.right.now.vars.times) c.in_ok-vars.vars.texts (joint c.args.left.now.vars.texts c.args.right.now.vars.texts) (nat_abs (to_z w64 (of_z w64 c.args.period))) (nat_abs c.args.period) c.store_over-out.ensures c.in_ok-vars.ensures.times c.in_ok-vars.ensures.texts (same_word c.args.period c.requires.tables.low c.requires.tables.high) in
-    let low : 0 < nat_abs c.args.period = positive c.args.period c.requires.tables.low in
     record {
-      table = union_table c.args.setting.now.domain.now c.len-size.ensures.ascending c.args.left.now c.args.right.now c.requires.tables.columns c.in_ok-left_places.left_places c.in_ok-right_places.right_places lt lx rt rx c.new-all.result c.new-all.ensures c.len-size.result c.len-size.ensures.count (nat_abs c.args.period) low c.args.setting.now.cap c.store_over-out.result fresh (divides_abs c.args.period _ c.requires.tables.low c.requires.tables.left_period) (divides_abs c.args.period _ c.requires.tables.low c.requires.tables.right_period) c.requires.tables.left_reach c.requires.tables.right_reach c.shape-3.ensures.valid c.add_table.new.out c.in-Ok.ensures.ok c.add_table-2.new.out c.in-Ok-add_table.ensures.ok _ c.in_ok-vars.ensures.times c.in_ok-vars.ensures.texts refl;
-      reach = λ high h. union_reach c.args.setting.now.domain.now c.len-size.ensures.ascending c.args.left.now c.args.right.now c.requires.tables.columns c.in_ok-left_places.left_places c.in_ok-right_places.right_places lt lx rt rx c.new-all.result c.new-all.ensures c.len-size.result c.len-size.ensures.count (nat_abs c.args.period) low c.args.setting.now.cap c.store_over-out.result fresh (divides_abs c.args.period _ c.requires.tables.low c.requires.tables.left_period) (divides_abs c.args.period _ c.requires.tables.low c.requires.tables.right_period) c.requires.tables.left_reach c.requires.tables.right_reach c.shape-3.ensures.valid c.add_table.new.out c.in-Ok.ensures.ok c.add_table-2.new.out c.in-Ok-add_table.ensures.ok high h.left_reach h.right_reach;
-      few = union_few c.args.setting.now.domain.now c.len-size.ensures.ascending c.args.left.now c.args.right.now c.requires.tables.columns c.in_ok-left_places.left_places c.in_ok-right_places.right_places lt lx rt rx c.new-all.result c.new-all.ensures c.len-size.result c.len-size.ensures.count (nat_abs c.args.period) low c.args.setting.now.cap c.store_over-out.result fresh (divides_abs c.args.period _ c.requires.tables.low c.requires.tables.left_period) (divides_abs c.args.period _ c.requires.tables.low c.requires.tables.right_period) c.requires.tables.left_reach c.requires.tables.right_reach c.shape-3.ensures.valid c.add_table.new.out c.in-Ok.ensures.ok c.add_table-2.new.out c.in-Ok-add_table.ensures.ok;
+      table = union_table _ c.len-size.ensures.ascending c.args.period c.args.left.now c.args.right.now c.requires.tables c.in_ok-vars.vars c.in_ok-vars.ensures.times c.in_ok-vars.ensures.texts c.in_ok-left_places.left_places c.in_ok-right_places.right_places c.in_ok-left_places.ensures.times c.in_ok-left_places.ensures.texts c.in_ok-right_places.ensures.times c.in_ok-right_places.ensures.texts _ c.new-all.ensures _ c.len-size.ensures.count c.args.setting.now.cap _ c.store_over-out.ensures c.shape-3.ensures.valid c.add_table.new.out c.in-Ok.ensures.ok c.add_table-2.new.out c.in-Ok-add_table.ensures.ok _ c.in_ok-vars.ensures.times c.in_ok-vars.ensures.texts refl;
+      reach = λ high h. union_reach _ c.len-size.ensures.ascending c.args.period c.args.left.now c.args.right.now c.requires.tables c.in_ok-vars.vars c.in_ok-vars.ensures.times c.in_ok-vars.ensures.texts c.in_ok-left_places.left_places c.in_ok-right_places.right_places c.in_ok-left_places.ensures.times c.in_ok-left_places.ensures.texts c.in_ok-right_places.ensures.times c.in_ok-right_places.ensures.texts _ c.new-all.ensures _ c.len-size.ensures.count c.args.setting.now.cap _ c.store_over-out.ensures c.shape-3.ensures.valid c.add_table.new.out c.in-Ok.ensures.ok c.add_table-2.new.out c.in-Ok-add_table.ensures.ok high h.left_reach h.right_reach;
+      few = union_few _ c.len-size.ensures.ascending c.args.period c.args.left.now c.args.right.now c.requires.tables c.in_ok-vars.vars c.in_ok-vars.ensures.times c.in_ok-vars.ensures.texts c.in_ok-left_places.left_places c.in_ok-right_places.right_places c.in_ok-left_places.ensures.times c.in_ok-left_places.ensures.texts c.in_ok-right_places.ensures.times c.in_ok-right_places.ensures.texts _ c.new-all.ensures _ c.len-size.ensures.count c.args.setting.now.cap _ c.store_over-out.ensures c.shape-3.ensures.valid c.add_table.new.out c.in-Ok.ensures.ok c.add_table-2.new.out c.in-Ok-add_table.ensures.ok;
       many = λ e. cc;
     }
 
 pub returns-in-Err-TooManyCells-add_table : goal.returns-in-Err-TooManyCells-add_table
 returns-in-Err-TooManyCells-add_table c =
-    let lt : ArePlacesOf c.args.left.now.vars.times (joint c.args.left.now.vars.times c.args.right.now.vars.times) c.in_ok-left_places.left_places.times = subst (λ l. ArePlacesOf c.args.left.now.vars.times l c.in_ok-left_places.left_places.times) c.in_ok-vars.ensures.times c.in_ok-left_places.ensures.times in
-    let lx : ArePlacesOf c.args.left.now.vars.texts (joint c.args.left.now.vars.texts c.args.right.now.vars.texts) c.in_ok-left_places.left_places.texts = subst (λ l. ArePlacesOf c.args.left.now.vars.texts l c.in_ok-left_places.left_places.texts) c.in_ok-vars.ensures.texts c.in_ok-left_places.ensures.texts in
-    let rt : ArePlacesOf c.args.right.now.vars.times (joint c.args.left.now.vars.times c.args.right.now.vars.times) c.in_ok-right_places.right_places.times = subst (λ l. ArePlacesOf c.args.right.now.vars.times l c.in_ok-right_places.right_places.times) c.in_ok-vars.ensures.times c.in_ok-right_places.ensures.times in
-    let rx : ArePlacesOf c.args.right.now.vars.texts (joint c.args.left.now.vars.texts c.args.right.now.vars.texts) c.in_ok-right_places.right_places.texts = subst (λ l. ArePlacesOf c.args.right.now.vars.texts l c.in_ok-right_places.right_places.texts) c.in_ok-vars.ensures.texts c.in_ok-right_places.ensures.texts in
-    let fresh = fresh_by c.store_over-out.result c.in_ok-vars.vars.times (joint c.args.left.now.vars.times c.args.right.now.vars.times) c.in_ok-vars.vars.texts (joint c.args.left.now.vars.texts c.args.right.now.vars.texts) (nat_abs (to_z w64 (of_z w64 c.args.period))) (nat_abs c.args.period) c.store_over-out.ensures c.in_ok-vars.ensures.times c.in_ok-vars.ensures.texts (same_word c.args.period c.requires.tables.low c.requires.tables.high) in
-    let low : 0 < nat_abs c.args.period = positive c.args.period c.requires.tables.low in
     record {
       table = tt;
       reach = tt;
       few = tt;
-      many = λ e. right_many c.args.setting.now.domain.now c.len-size.ensures.ascending c.args.left.now c.args.right.now c.requires.tables.columns c.in_ok-left_places.left_places c.in_ok-right_places.right_places lt lx rt rx c.new-all.result c.new-all.ensures c.len-size.result c.len-size.ensures.count (nat_abs c.args.period) low c.args.setting.now.cap c.store_over-out.result fresh (divides_abs c.args.period _ c.requires.tables.low c.requires.tables.left_period) (divides_abs c.args.period _ c.requires.tables.low c.requires.tables.right_period) c.requires.tables.left_reach c.requires.tables.right_reach c.shape-3.ensures.valid c.add_table.new.out c.in-Ok.ensures.ok c.add_table-2.new.out (c.add_table-2.ensures.too_many (c.in-Err-TooManyCells-add_table.is ∙ ap Err c.in-Err-TooManyCells-add_table.field-0-is));
+      many = λ e. right_many _ c.len-size.ensures.ascending c.args.period c.args.left.now c.args.right.now c.requires.tables c.in_ok-vars.vars c.in_ok-vars.ensures.times c.in_ok-vars.ensures.texts c.in_ok-left_places.left_places c.in_ok-right_places.right_places c.in_ok-left_places.ensures.times c.in_ok-left_places.ensures.texts c.in_ok-right_places.ensures.times c.in_ok-right_places.ensures.texts _ c.new-all.ensures _ c.len-size.ensures.count c.args.setting.now.cap _ c.store_over-out.ensures c.shape-3.ensures.valid c.add_table.new.out c.in-Ok.ensures.ok c.add_table-2.new.out (c.add_table-2.ensures.too_many (c.in-Err-TooManyCells-add_table.is ∙ ap Err c.in-Err-TooManyCells-add_table.field-0-is));
     }

@@ -1,7 +1,7 @@
 -- There are as many zones as cells.
 use Rattle.std.proofs.Common.{sym, ◌∙◌}
 use Rattle.std.proofs.lemmas.Bool.{eqb-true}
-use Rattle.lrp_canon.proofs.Standing.{single_zones}
+use Rattle.lrp_store.proofs.ZoneCounts.{single_zones}
 use Rattle.lrp_canon.proofs.answers.stands_already.Goals as goal
 
 pub returns : goal.returns

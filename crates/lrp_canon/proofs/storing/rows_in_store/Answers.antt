@@ -4,7 +4,7 @@ use Rattle.std.specs.Prelude.{AllPairs, Contains, nat_abs}
 use Rattle.std.proofs.lemmas.Int.{to_z_pos}
 use Rattle.lrp_spans.specs.Spans.{SpansHaveNumber}
 use Rattle.lrp_store.specs.Stores.{StoreView}
-use Rattle.lrp_canon.specs.declared.rows.Row.{Row}
+use Rattle.lrp_canon.specs.declared.rows.MaximalRow.{MaximalRow}
 use Rattle.lrp_canon.specs.Edges.{AreRepeating}
 use Rattle.lrp_canon.specs.Making.{AddsRows, AreRowsOf, HoldsGroups, IsRow, LieApart}
 use Rattle.lrp_canon.proofs.CanonLaws.{keys_apart}
@@ -27,7 +27,7 @@ pub add_rows-requires-clause-takes : goal.add_rows-requires-clause-takes
 add_rows-requires-clause-takes c = key_takes c.args.shape c.args.groups.now.lists c.requires.groups c.cells-group-items.ensures.filled c.loop-group.invariant.done c.in-Some.group c.next.new.self c.loop-group.group-iterator c.in-Some.ensures.steps c.loop-group.invariant.keys c.loop-group.store c.loop-group.invariant.shape
 
 pub add_rows-requires-clause-rows : goal.add_rows-requires-clause-rows
-add_rows-requires-clause-rows c = subst (λ rows. (row : Row) → Contains rows row → IsRow c.args.periods.least row) (sym c.deref-in-loop-group.ensures.value) c.in_ok-rows.ensures.each
+add_rows-requires-clause-rows c = subst (λ rows. (row : MaximalRow) → Contains rows row → IsRow c.args.periods.least row) (sym c.deref-in-loop-group.ensures.value) c.in_ok-rows.ensures.each
 
 pub add_rows-requires-clause-apart : goal.add_rows-requires-clause-apart
 add_rows-requires-clause-apart c = subst (AllPairs (LieApart c.args.periods.least)) (sym c.deref-in-loop-group.ensures.value) c.in_ok-rows.ensures.apart

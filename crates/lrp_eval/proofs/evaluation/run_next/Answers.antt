@@ -1,6 +1,6 @@
 -- The table of some steps that were run together stands behind tables of none.
 use Rattle.std.proofs.Common.{List, sym, subst}
-use Rattle.lrp_store.specs.declared.table.Table.{Table}
+use Rattle.lrp_tables.specs.declared.table.Table.{Table}
 use Rattle.lrp_eval.specs.Running.{AreRun}
 use Rattle.lrp_eval.specs.Together.{AreRunTogether}
 use Rattle.lrp_eval.proofs.LoopLaws.{together_run}

@@ -1,7 +1,7 @@
 -- One more table, and those that are done are given up.
 use Rattle.std.proofs.Common.{◌<◌, Err, List, suc, length, sym, ap, subst, ◌∙◌, arith}
 use Rattle.lrp_model.specs.Caps.{ManyAt, IsFirstMany}
-use Rattle.lrp_store.specs.declared.table.Table.{Table}
+use Rattle.lrp_tables.specs.declared.table.Table.{Table}
 use Rattle.lrp_eval.specs.Running.{IsStepTable}
 use Rattle.lrp_eval.proofs.LoopLaws.{first_many, left_run, more_run, next_run}
 use Rattle.lrp_eval.proofs.evaluation.run_one.Goals as goal

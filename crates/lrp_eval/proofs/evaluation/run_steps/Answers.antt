@@ -1,6 +1,6 @@
 -- The last table is that of the last step.
 use Rattle.std.proofs.Common.{◌≡◌, ◌<◌, List, length, refl, ap, subst, arith}
-use Rattle.lrp_store.specs.declared.table.Table.{Table}
+use Rattle.lrp_tables.specs.declared.table.Table.{Table}
 use Rattle.lrp_eval.specs.Running.{StandsAtHead}
 use Rattle.lrp_eval.proofs.AnswerLaws.{has_answers}
 use Rattle.lrp_eval.proofs.HeadedLaws.{headed_run}

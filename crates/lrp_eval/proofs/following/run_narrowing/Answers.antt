@@ -3,9 +3,9 @@ use Rattle.std.proofs.Common.{◌<◌, List, suc, length, sym, subst, arith}
 use Rattle.lrp_model.specs.declared.plans.Step.{Step}
 use Rattle.lrp_eval.specs.Together.{IsNarrowing, IsNarrowingNext}
 use Rattle.lrp_eval.proofs.LoopLaws.{narrowing_next, narrowing_together}
-use Rattle.lrp_eval.proofs.Nexts.{inside}
 use Rattle.lrp_eval.proofs.Reading.{some_ok}
 use Rattle.lrp_eval.proofs.following.run_narrowing.Goals as goal
+use Rattle.lrp_plan_laws.proofs.Elements.{within}
 
 pub narrowed-requires : goal.narrowed-requires
 narrowed-requires c =
@@ -29,5 +29,5 @@ returns-in-Ok-Some-clause-table c = λ db q h run.
 pub returns-in-Ok-Some-clause-inside : goal.returns-in-Ok-Some-clause-inside
 returns-in-Ok-Some-clause-inside c =
     let is : IsNarrowing c.args.plan.now.steps c.args.readers.now (length c.args.tables.now) c.in-Some.narrowing = subst (λ (ss : List Step). IsNarrowing ss c.args.readers.now (length c.args.tables.now) c.in-Some.narrowing) c.as_slice.ensures c.in-Some.ensures in
-    let l : suc (suc (length c.args.tables.now)) < length c.args.plan.now.steps = inside c.args.plan.now.steps (suc (suc (length c.args.tables.now))) is.third is.third_at in
+    let l : suc (suc (length c.args.tables.now)) < length c.args.plan.now.steps = within c.args.plan.now.steps (suc (suc (length c.args.tables.now))) is.third is.third_at in
     omega (arith, l)

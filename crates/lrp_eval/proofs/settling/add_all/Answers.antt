@@ -6,8 +6,9 @@ use Rattle.lrp_model.specs.declared.tuples.Shape.{Shape}
 use Rattle.lrp_store.specs.Stores.{StoreView, IsPadded}
 use Rattle.lrp_minus.specs.Settling.{AddsZones}
 use Rattle.lrp_minus.proofs.AddingLaws.{none_added, one_added}
-use Rattle.lrp_eval.proofs.SettleLaws.{take_read, take_whole}
+use Rattle.lrp_eval.proofs.SettleLaws.{take_whole}
 use Rattle.lrp_eval.proofs.settling.add_all.Goals as goal
+use Rattle.lrp_theory.proofs.Members.{front_more}
 
 -- what is read at a place is in the list
 read : (xs : List ZoneView) (i : ℕ) (x : ZoneView) → i < length xs → x ≡ get_or xs i x → Contains xs x
@@ -29,7 +30,7 @@ pub add-requires-clause-times : goal.add-requires-clause-times
 add-requires-clause-times c = subst (λ (s : Shape). IsPadded (pos 0) s.times c.args.cell.now.residues) (sym c.loop-zone.invariant.shape) c.requires.times
 
 pub loop-zone-preserved : goal.loop-zone-preserved
-loop-zone-preserved c = one_added c.args.cell.now _ _ c.zone-item.result c.args.store.now c.loop-zone.store c.add.new.self (take_read _ _ _ c.loop-zone-test.true c.zone-item.is) c.loop-zone.invariant c.in-Ok.ensures.ok
+loop-zone-preserved c = one_added c.args.cell.now _ _ c.zone-item.result c.args.store.now c.loop-zone.store c.add.new.self (front_more _ _ _ c.loop-zone-test.true c.zone-item.is) c.loop-zone.invariant c.in-Ok.ensures.ok
     (ap (λ (s : StoreView). s.shape) c.add.ensures.rest) (ap (λ (s : StoreView). s.period) c.add.ensures.rest)
 
 pub returns : goal.returns

@@ -1,7 +1,7 @@
 -- There are as many zones as cells.
 use Rattle.std.proofs.Common.{sym, ◌∙◌}
 use Rattle.std.proofs.lemmas.Bool.{eqb-true}
-use Rattle.lrp_eval.proofs.SingleLaws.{single_zones}
+use Rattle.lrp_store.proofs.ZoneCounts.{single_zones}
 use Rattle.lrp_eval.proofs.settling.has_single_zones.Goals as goal
 
 pub returns-clause-single : goal.returns-clause-single

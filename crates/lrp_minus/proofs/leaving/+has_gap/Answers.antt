@@ -5,12 +5,11 @@ use Rattle.std.proofs.Math.Seq.{take-length}
 use Rattle.std.proofs.lemmas.Bool.{eqb-true}
 use Rattle.std.proofs.lemmas.List.Elements.{Contains-append_cases}
 use Rattle.lrp_zone.specs.Zones.{reach_of}
-use Rattle.lrp_minus.specs.Cutting.{side_reach}
-use Rattle.lrp_minus.specs.Differences.{AreOfCell, greatest_reach}
+use Rattle.lrp_minus.specs.Differences.{greatest_reach}
 use Rattle.lrp_minus.specs.Leaving.{HasGap}
 use Rattle.lrp_minus.proofs.CutLaws.{cells_moved}
 use Rattle.lrp_minus.proofs.Lists.{front_more, in_one, reach_below, read}
-use Rattle.lrp_minus.proofs.LeavingLaws.{all_gap, cells_met, gap_found, meets_fewer, no_gap, no_gap_left, reach_met}
+use Rattle.lrp_minus.proofs.LeavingLaws.{all_gap, gap_found, goes_on, no_gap, no_gap_left}
 use Rattle.lrp_minus.proofs.leaving.+has_gap.Goals as goal
 
 pub returns-then-is_empty : goal.returns-then-is_empty
@@ -35,18 +34,9 @@ meeting-requires t c =
 pub has_gap-requires : goal.has_gap-requires
 has_gap-requires t c =
     let l : Contains c.in_ok-sides.sides c.side-item.result = subst (λ x. Contains x c.side-item.result) c.as_slice-side-items.ensures (read _ _ _ c.loop-side-test.true c.side-item.is) in
-    let fewer : length c.in_ok-met.met < length c.args.cutters.now = meets_fewer c.args.part.now c.middle.result.now _ c.in_ok-sides.sides c.args.cutters.now c.middle.ensures c.in_ok-sides.ensures c.side-item.result l c.in_ok-met.met c.in_ok-met.ensures in
-    let same : length c.as_slice.result.now ≡ length c.in_ok-met.met = ap (λ x. length x) c.as_slice.ensures in
-    let less : greatest_reach c.in_ok-met.met ≤ greatest_reach c.args.cutters.now = reach_met c.args.part.now c.middle.result.now _ c.in_ok-sides.sides c.args.cutters.now c.middle.ensures c.in_ok-sides.ensures c.side-item.result l c.in_ok-met.met c.in_ok-met.ensures in
-    let period : c.side-item.result.period ≡ c.args.part.now.period = (c.in_ok-sides.ensures.zones c.side-item.result l).1.period in
-    let room : greatest_reach c.args.cutters.now + c.args.part.now.period ≤ 2 ^ 62 = c.requires.reach in (
-      omega (arith, c.decreases, fewer, same),
-      (
-        subst (λ x. AreOfCell c.side-item.result x) (sym c.as_slice.ensures)
-            (cells_met c.args.part.now c.middle.result.now _ c.in_ok-sides.sides c.args.cutters.now c.middle.ensures c.in_ok-sides.ensures c.side-item.result l c.in_ok-met.met c.in_ok-met.ensures c.requires.cell),
-        subst (λ x. side_reach c.side-item.result.period x ≤ 2 ^ 62) (sym c.as_slice.ensures) (omega (arith, less, period, room)),
-      ),
-    )
+    let on = goes_on c.args.part.now c.middle.result.now _ c.in_ok-sides.sides c.args.cutters.now c.middle.ensures c.in_ok-sides.ensures c.side-item.result l c.in_ok-met.met c.in_ok-met.ensures _ c.as_slice.ensures c.requires.cell c.requires.reach in
+    let fewer : length c.as_slice.result.now < length c.args.cutters.now = on.0 in
+    (omega (arith, c.decreases, fewer), (on.1, on.2))
 
 pub returns-then-branch : goal.returns-then-branch
 returns-then-branch t c =

@@ -2,11 +2,11 @@
 use Rattle.std.proofs.Common.{◌≡◌, ℕ, ◌+◌, ◌-◌, ap, arith, get_or, length, refl}
 use Rattle.std.specs.Prelude.{pos}
 use Rattle.lrp_packed.specs.Entries.{IsProper}
-use Rattle.lrp_packed.specs.declared.zones.Entry.{Entry}
+use Rattle.lrp_packed.specs.declared.zones.PackedEntry.{PackedEntry}
 use Rattle.lrp_packed.proofs.Listed.{all_at, written_all, written_more, written_none}
 use Rattle.lrp_packed.proofs.zones.written.Goals as goal
 
-abbrev nothing : Entry
+abbrev nothing : PackedEntry
 nothing = record { place = 0; text = 0; time = pos 0 }
 
 before : (n k : ℕ) → n - 1 - k ≡ n - (k + 1)

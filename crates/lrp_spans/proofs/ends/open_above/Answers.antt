@@ -1,15 +1,16 @@
 -- The next span has an end there, or it has none.
 use Rattle.std.proofs.Common.{None, get_or}
-use Rattle.lrp_spans.proofs.OpenLaws.{none_is, none_not, above_more, above_same}
+use Rattle.lrp_spans.proofs.OpenLaws.{none_not, last_apart, open_more, open_same}
 use Rattle.lrp_spans.proofs.ends.open_above.Goals.{then-is_none+in_ok-push, else-is_none}
 use Rattle.lrp_spans.proofs.ends.open_above.Goals as goal
+use Rattle.lrp_matrix.proofs.Pivots.{none_found}
 
 pub loop-span-preserved : goal.loop-span-preserved
 loop-span-preserved c = elim c.if-is_none.branch [
   | then-is_none+in_ok-push w ↦ rw (w.made-is, w.in_ok-push.ensures.items)
-      (above_more c.args.spans.now c.loop-span.span-index (record { residue = 0; first = None; last = None }) c.loop-span-test.true c.requires c.loop-span.made.items
-      (none_is (get_or c.args.spans.now c.loop-span.span-index (record { residue = 0; first = None; last = None })).last c.is_none.result c.is_none.ensures w.if-is_none.true) c.loop-span.invariant)
+      (open_more (λ s. s.last) last_apart c.args.spans.now c.loop-span.span-index (record { residue = 0; first = None; last = None }) c.loop-span-test.true c.requires c.loop-span.made.items
+      (none_found (get_or c.args.spans.now c.loop-span.span-index (record { residue = 0; first = None; last = None })).last c.is_none.result c.is_none.ensures w.if-is_none.true) c.loop-span.invariant)
   | else-is_none w ↦ rw w.made-is
-      (above_same c.args.spans.now c.loop-span.span-index (record { residue = 0; first = None; last = None }) c.loop-span-test.true c.requires c.loop-span.made.items
+      (open_same (λ s. s.last) last_apart c.args.spans.now c.loop-span.span-index (record { residue = 0; first = None; last = None }) c.loop-span-test.true c.requires c.loop-span.made.items
       (none_not (get_or c.args.spans.now c.loop-span.span-index (record { residue = 0; first = None; last = None })).last c.is_none.result c.is_none.ensures w.if-is_none.false) c.loop-span.invariant)
 ]
