@@ -6,7 +6,8 @@ use Rattle.slab.specs.Slab.{get}
 use Rattle.lrp_model.specs.DatabaseMeaning.{column_of}
 use Rattle.lrp_model.specs.Domains.{constants}
 use Rattle.lrp_model.specs.Formulas.{Question, question_of}
-use Rattle.lrp_model.specs.Periods.{IsMultiple, row_periods}
+use Rattle.lrp_theory.specs.Divides.{IsMultiple}
+use Rattle.lrp_model.specs.Periods.{row_periods}
 use Rattle.lrp_model.specs.Sorts.{time_count}
 use Rattle.lrp_model.specs.Rows.{relation_named, rows_in, rows_of}
 use Rattle.lrp_model.specs.Texts.{AreDistinct, Identifier}
@@ -51,10 +52,16 @@ use Rattle.lrp_keep.proofs.Exchanged.{all_fit, columns_stay, have_still, keeps_n
 use Rattle.lrp_keep.proofs.KeeperAnswers.{rests}
 use Rattle.lrp_keep.proofs.KeptParts.{literal_of, scaled_named}
 use Rattle.lrp_keep.proofs.LargeChoices.{large_choice, no_large_choice}
-use Rattle.lrp_keep.proofs.Lists.{any_at, at_mapped, equal_self, got, length_mapped, mapped_at, none_some, place_of, read_at, same_images, some_at, some_same, there_is}
+use Rattle.lrp_keep.proofs.Lists.{any_at, at_mapped, equal_self, read_at, same_images}
 use Rattle.lrp_keep.proofs.LowRows.{low_rows, most_at}
 use Rattle.lrp_keep.proofs.Readable.{can_be_read, carried_further, divides_further, readable}
 use Rattle.lrp_keep.proofs.Views.{names_stay, relations_now, rows_both, rows_same, rows_under}
+use Rattle.lrp_holdings.proofs.Chained.{none_some, some_is}
+use Rattle.lrp_plan_laws.proofs.Elements.{found as some_at, within}
+use Rattle.lrp_store.proofs.Held.{Contains-from_get}
+use Rattle.lrp_tables.proofs.Joining.{place_in}
+use Rattle.lrp_model.proofs.Everywhere.{map_count}
+use Rattle.lrp_algebra.proofs.Steps.{mapped_get}
 
 -- the names of the relations are those of the view
 pub names_in : (sources : ℕ → Option Source) (rs : List HeldRelation) → map (λ (r : Relation). r.name) (relations_of sources rs) ≡ map (λ (r : HeldRelation). r.name) rs
@@ -95,10 +102,10 @@ module _ (of : KeptQuery) (old : State) (is : IsKeeping of old) (relation : ℕ)
   db = relations_of (get old.rows.sources) old.rows.relations.items
 
   low : relation < length old.rows.relations.items
-  low = there_is old.rows.relations.items relation fits.held fits.at
+  low = within old.rows.relations.items relation fits.held fits.at
 
   named : (name : Identifier) → slice_get (names_of old.rows) relation ≡ Some name → fits.held.name ≡ name
-  named name e = let m = at_mapped (λ (r : HeldRelation). r.name) old.rows.relations.items relation name e in ap (λ (r : HeldRelation). r.name) (some_same fits.held m.0 (sym fits.at ∙ m.1)) ∙ m.2
+  named name e = let m = at_mapped (λ (r : HeldRelation). r.name) old.rows.relations.items relation name e in ap (λ (r : HeldRelation). r.name) (some_is fits.held m.0 (sym fits.at ∙ m.1)) ∙ m.2
 
   read : (d : Disjunct) (a : JoinedAtom) → Contains ds d → Contains d.atoms.items a → a.relation ≡ relation → list_any (is_reader relation) ds ≡ true
   read d a listed own e = any_at (is_reader relation) ds d listed (any_at (λ (j : JoinedAtom). j.relation == relation) d.atoms.items a own (subst (λ n. (n == relation) ≡ true) (sym e) (equal_self relation)))
@@ -115,7 +122,7 @@ module _ (of : KeptQuery) (old : State) (is : IsKeeping of old) (relation : ℕ)
 
   module _ (reach : scaled_over bounds period of.query.now.head.columns ds ≤ 2 ^ 62) where
     can_of : (d : Disjunct) → Contains ds d → CanDerive (ground_at of old.rows old.period.number) d
-    can_of d listed = let p = place_of ds d listed in is.state.can p.0 d p.1
+    can_of d listed = let p = place_in ds d listed in is.state.can p.0 d p.1
 
     room : (d : Disjunct) (a : JoinedAtom) → Contains ds d → Contains d.atoms.items a → joined_reach bounds period a ≤ 2 ^ 62
     room d a listed own =
@@ -125,7 +132,7 @@ module _ (of : KeptQuery) (old : State) (is : IsKeeping of old) (relation : ℕ)
     -- each atom of the relation can read the row
     pub can_sketch : CanBeSketched ds relation row
     can_sketch d a listed own e =
-        let p = place_of d.atoms.items a own in
+        let p = place_in d.atoms.items a own in
         let j = (can_of d listed).joined p.0 a p.1 in
         let l : row_bound row ≤ fits.held.most = fits.low in
         let m : slice_index_or bounds a.relation 0 ≡ fits.held.most = ap (λ n. slice_index_or bounds n 0) e ∙ most_at old.rows.relations.items relation fits.held fits.at in
@@ -159,7 +166,7 @@ module _ (of : KeptQuery) (old : State) (is : IsKeeping of old) (relation : ℕ)
         count = is.state.derived.count;
         each = λ i d levels at there. (derived_before (ground_at of new old.period.number) old.rows key without d levels (is.state.derived.each i d levels at there)).0;
         none = λ i levels there.
-            let d = some_at ds i (let l : i < length (levels_of old) = there_is (levels_of old) i levels there in let n : length (levels_of old) ≡ length ds = is.state.derived.count in omega (arith, l, n)) in
+            let d = some_at ds i (let l : i < length (levels_of old) = within (levels_of old) i levels there in let n : length (levels_of old) ≡ length ds = is.state.derived.count in omega (arith, l, n)) in
             (derived_before (ground_at of new old.period.number) old.rows key without d.0 levels (is.state.derived.each i d.0 levels d.1 there)).1;
       }
 
@@ -195,15 +202,15 @@ module _ (of : KeptQuery) (old : State) (is : IsKeeping of old) (relation : ℕ)
       -- no row has a bound above its relation's number
       pub low_now : AreLowRows new
       low_now i k r s at c e =
-          let h = some_at old.rows.relations.items i (let l : i < length new.relations.items = there_is new.relations.items i r at in let n : length new.relations.items ≡ length old.rows.relations.items = listed_now.count in omega (arith, l, n)) in
+          let h = some_at old.rows.relations.items i (let l : i < length new.relations.items = within new.relations.items i r at in let n : length new.relations.items ≡ length old.rows.relations.items = listed_now.count in omega (arith, l, n)) in
           let a = relisted_alike (λ h s. s.most ≡ h.most) relation (keys_of old.rows relation ++ key ∷ []) old.rows.relations.items new.relations.items listed_now (λ h. refl) (λ h s at x. x.most) in
           let same : r.most ≡ h.0.most = a.each i h.0 r h.1 at in
           let here : Contains (keys_of new i) k = subst (λ l. Contains l k) (sym (keys_at new i r at)) c in
           subst (λ n. row_bound s.row ≤ n) (sym same) (elim (eq_or k key) [
             | inl same_key ↦
                 let place : i ≡ relation = (last_now 0).alone i (subst (λ x. Contains (keys_of new i) x) same_key here) in
-                let held : h.0 ≡ fits.held = some_same h.0 fits.held (sym h.1 ∙ ap (slice_get old.rows.relations.items) place ∙ fits.at) in
-                let own : s ≡ source = some_same s source (sym e ∙ ap (get new.sources) same_key ∙ w.there) in
+                let held : h.0 ≡ fits.held = some_is h.0 fits.held (sym h.1 ∙ ap (slice_get old.rows.relations.items) place ∙ fits.at) in
+                let own : s ≡ source = some_is s source (sym e ∙ ap (get new.sources) same_key ∙ w.there) in
                 subst (λ (x : HeldRelation). row_bound s.row ≤ x.most) (sym held) (subst (λ r. row_bound r ≤ fits.held.most) (sym (ap (λ (x : Source). x.row) own ∙ row_is)) fits.low)
             | inr other ↦
                 let was : Contains (keys_of old.rows i) k = without.from i k here other in
@@ -214,7 +221,7 @@ module _ (of : KeptQuery) (old : State) (is : IsKeeping of old) (relation : ℕ)
       pub can_now : CanDeriveEach (ground_at of new period) ds
       can_now i d at =
           let can = is.state.can i d at in
-          let listed : Contains ds d = got ds i d at in
+          let listed : Contains ds d = Contains-from_get ds i d at in
           let g : Ground = ground_at of new period in
           let high_now : scaled_over (bounds_of new.relations.items) period of.query.now.head.columns ds ≤ 2 ^ 62 = subst (λ bs. scaled_over bs period of.query.now.head.columns ds ≤ 2 ^ 62) (sym bounds_now) reach in
           let tests_high = tests_room bounds period of.query.now.head.columns ds reach d listed can.some in
@@ -235,8 +242,8 @@ module _ (of : KeptQuery) (old : State) (is : IsKeeping of old) (relation : ℕ)
           readable_now : (i : ℕ) (d : Disjunct) → slice_get ds i ≡ Some d → (j : ℕ) (a : JoinedAtom) (k : ℕ) → slice_get d.atoms.items j ≡ Some a → Contains (keys_of new a.relation) k → IsReadable (ground_at of new period) (bounds_of new.relations.items) d j a k
           readable_now i d at j a k p c =
               let can = is.state.can i d at in
-              let listed : Contains ds d = got ds i d at in
-              let own : Contains d.atoms.items a = got d.atoms.items j a p in
+              let listed : Contains ds d = Contains-from_get ds i d at in
+              let own : Contains d.atoms.items a = Contains-from_get d.atoms.items j a p in
               elim (eq_or k key) [
                 | inl same_key ↦
                     let place : a.relation ≡ relation = (last_now 0).alone a.relation (subst (λ x. Contains (keys_of new a.relation) x) same_key c) in
@@ -306,18 +313,18 @@ module _ (of : KeptQuery) (old : State) (is : IsKeeping of old) (relation : ℕ)
             let own : rows_of db name ≡ (relation_of (get old.rows.sources) fits.held).rows = ap (λ n. rows_in (relation_named db n)) (sym (named name name_is)) ∙ ap rows_in found in
             subst (λ (x : Relation). AllByRecursion (CanBeHeld of.domain x.columns) (rows_of db name ++ row ∷ [])) (sym here)
             (all_by (CanBeHeld of.domain fits.held.columns) (rows_of db name ++ row ∷ []) (λ x i. elim (in_one (rows_of db name) (row ∷ []) x i) [
-              | inl j ↦ all_of (CanBeHeld of.domain fits.held.columns) (relation_of (get old.rows.sources) fits.held).rows x (all_of (λ (r : Relation). AllByRecursion (CanBeHeld of.domain r.columns) r.rows) db (relation_of (get old.rows.sources) fits.held) is.rows (got db relation (relation_of (get old.rows.sources) fits.held) (mapped_at (relation_of (get old.rows.sources)) old.rows.relations.items relation fits.held fits.at))) (subst (λ l. Contains l x) own j)
+              | inl j ↦ all_of (CanBeHeld of.domain fits.held.columns) (relation_of (get old.rows.sources) fits.held).rows x (all_of (λ (r : Relation). AllByRecursion (CanBeHeld of.domain r.columns) r.rows) db (relation_of (get old.rows.sources) fits.held) is.rows (Contains-from_get db relation (relation_of (get old.rows.sources) fits.held) (mapped_get (relation_of (get old.rows.sources)) old.rows.relations.items relation fits.held fits.at))) (subst (λ l. Contains l x) own j)
               | inr j ↦ elim (cons_cases row x [] j) [ inl s ↦ subst (CanBeHeld of.domain fits.held.columns) s fits.row_fits | inr none ↦ absurd (let l : none.0 < 0 = none.1 in omega (arith, l)) ]
             ])))
           where
             one_named : (r : Relation) → Contains db r → r.name ≡ fits.held.name → r ≡ relation_of (get old.rows.sources) fits.held
             one_named r c e =
-                let p = place_of db r c in
+                let p = place_in db r c in
                 let m = at_mapped (relation_of (get old.rows.sources)) old.rows.relations.items p.0 r p.1 in
                 let found = found_at (get old.rows.sources) old.rows.relations.items p.0 m.0 is.distinct m.1 in
                 let own = found_at (get old.rows.sources) old.rows.relations.items relation fits.held is.distinct fits.at in
                 let same : m.0.name ≡ fits.held.name = ap (λ (x : Relation). x.name) m.2 ∙ e in
-                sym m.2 ∙ some_same (relation_of (get old.rows.sources) m.0) (relation_of (get old.rows.sources) fits.held) (sym found ∙ ap (relation_named db) same ∙ own)
+                sym m.2 ∙ some_is (relation_of (get old.rows.sources) m.0) (relation_of (get old.rows.sources) fits.held) (sym found ∙ ap (relation_named db) same ∙ own)
 
         -- the new state
         module _ (after : State) (rows_are : after.rows ≡ new) (period_is : after.period.number ≡ period) (derived : AreDerived (ground_at of new period) ds (levels_of after)) where
@@ -404,7 +411,7 @@ module _ (of : KeptQuery) (old : State) (is : IsKeeping of old) (relation : ℕ)
           derived = record {
             count = counts ∙ still.count;
             each = λ i d levels at there.
-                let b = some_at (levels_of mid) i (let l : i < length (levels_of last) = there_is (levels_of last) i levels there in let n : length (levels_of last) ≡ length (levels_of mid) = counts in omega (arith, l, n)) in
+                let b = some_at (levels_of mid) i (let l : i < length (levels_of last) = within (levels_of last) i levels there in let n : length (levels_of last) ≡ length (levels_of mid) = counts in omega (arith, l, n)) in
                 subst (λ (p : Period). IsDerivedFrom (ground_at of last.rows p.number) d levels) (sym (gone.period ∙ period_is))
                 (derived_after (ground_at of new old.period.number) last.rows key (subst (λ k. IsWithoutKey new last.rows k) key_is (let_go_without relation place gone.key new last.rows low_new held_new gone_now)) d b.0 levels
                 (subst (λ k. AreReleased k b.0 levels) key_is (gone.released i b.0 levels b.1 there)) (still.each i d b.0 at b.1));
@@ -412,4 +419,4 @@ module _ (of : KeptQuery) (old : State) (is : IsKeeping of old) (relation : ℕ)
         }
           where
             counts : length (levels_of last) ≡ length (levels_of mid)
-            counts = length_mapped (λ d. d.levels.items) last.derived.items ∙ gone.count ∙ sym (length_mapped (λ d. d.levels.items) mid.derived.items)
+            counts = map_count (λ d. d.levels.items) last.derived.items ∙ gone.count ∙ sym (map_count (λ d. d.levels.items) mid.derived.items)

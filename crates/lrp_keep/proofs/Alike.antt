@@ -6,9 +6,11 @@ use Rattle.lrp_zone.proofs.Cases.{eq_or}
 use Rattle.lrp_kept.specs.Keys.{keys_in, keys_of}
 use Rattle.lrp_kept.specs.Keyed.{AreRelisted, AreSameRows, IsWithKeys}
 use Rattle.lrp_keep.specs.States.{IsMarked}
-use Rattle.lrp_keep.proofs.Lists.{none_past, past_end, some_at, some_same, there_is}
+use Rattle.lrp_keep.proofs.Lists.{none_past, past_end}
 use Rattle.lrp_kept.specs.declared.rows.HeldRelation.{HeldRelation}
 use Rattle.lrp_kept.specs.declared.rows.HeldRows.{HeldRows}
+use Rattle.lrp_holdings.proofs.Chained.{some_is}
+use Rattle.lrp_plan_laws.proofs.Elements.{found, within}
 
 -- each relation is changed in the same way
 pub record AreAlike (alike : HeldRelation → HeldRelation → Type 0) (old new : List HeldRelation) : Type 0 where
@@ -26,8 +28,8 @@ relisted_alike p n keys old new r same one = record {
     | inl e ↦
         let at : slice_get old n ≡ Some h = ap (slice_get old) (sym e) ∙ x in
         let z = r.at h at in
-        subst (λ t. p h t) (some_same z.0 s (sym z.1 ∙ ap (slice_get new) (sym e) ∙ y)) (one h z.0 at z.2)
-    | inr d ↦ subst (λ t. p h t) (some_same h s (sym x ∙ sym (r.rest i d) ∙ y)) (same h)
+        subst (λ t. p h t) (some_is z.0 s (sym z.1 ∙ ap (slice_get new) (sym e) ∙ y)) (one h z.0 at z.2)
+    | inr d ↦ subst (λ t. p h t) (some_is h s (sym x ∙ sym (r.rest i d) ∙ y)) (same h)
   ];
 }
 
@@ -38,8 +40,8 @@ marked_alike p n most old new r same one = record {
   each = λ i h s x y. elim (eq_or i n) [
     | inl e ↦
         let at : slice_get old.relations.items n ≡ Some h = ap (slice_get old.relations.items) (sym e) ∙ x in
-        subst (λ t. p h t) (some_same (record h { most = most }) s (sym (r.at h at) ∙ ap (slice_get new.relations.items) (sym e) ∙ y)) (one h at)
-    | inr d ↦ subst (λ t. p h t) (some_same h s (sym x ∙ sym (r.rest i d) ∙ y)) (same h)
+        subst (λ t. p h t) (some_is (record h { most = most }) s (sym (r.at h at) ∙ ap (slice_get new.relations.items) (sym e) ∙ y)) (one h at)
+    | inr d ↦ subst (λ t. p h t) (some_is h s (sym x ∙ sym (r.rest i d) ∙ y)) (same h)
   ];
 }
 
@@ -55,7 +57,7 @@ same_keys old new a i = by (slice_get old.relations.items i) refl
     by : (o : Option HeldRelation) → slice_get old.relations.items i ≡ o → keys_of new i ≡ keys_of old i
     by None e = ap keys_in (none_past new.relations.items i (let l : length old.relations.items ≤ i = past_end old.relations.items i e in let c : length new.relations.items ≡ length old.relations.items = a.count in omega (arith, l, c))) ∙ sym (ap keys_in e)
     by (Some h) e =
-        let s = some_at new.relations.items i (let l : i < length old.relations.items = there_is old.relations.items i h e in let c : length new.relations.items ≡ length old.relations.items = a.count in omega (arith, l, c)) in
+        let s = found new.relations.items i (let l : i < length old.relations.items = within old.relations.items i h e in let c : length new.relations.items ≡ length old.relations.items = a.count in omega (arith, l, c)) in
         ap keys_in s.1 ∙ a.each i h s.0 e s.1 ∙ sym (ap keys_in e)
 
 -- the rows are listed as they were, under the same keys

@@ -19,8 +19,9 @@ use Rattle.std.specs.Prelude.{nat_abs, pos}
 use Rattle.std.proofs.lemmas.Int.{ints}
 use Rattle.lrp_algebra.proofs.Steps.{store_period}
 use Rattle.lrp_limits.specs.declared.periods.Period.{Period}
-use Rattle.lrp_keep.proofs.Lists.{got, some_at, there_is}
 use Rattle.lrp_keep.proofs.Taken.{HoldsAmong, holds_all, none_among}
+use Rattle.lrp_plan_laws.proofs.Elements.{found, within}
+use Rattle.lrp_store.proofs.Held.{Contains-from_get}
 
 abbrev as_shape : ℕ → ℕ → Shape
 as_shape times texts = record { times = times; texts = texts }
@@ -38,7 +39,7 @@ module _ (of : KeptQuery) (s : State) (is : IsKeeping of s) (start : StoreView) 
   -- what is held of whole choices is over the head, too
   pub alike : (now : StoreView) → now.shape ≡ start.shape → now.period ≡ start.period → (i : ℕ) (levels : Levels) → slice_get all i ≡ Some levels → AreAlike levels now
   alike now shape period i levels there keys value held =
-      let d = some_at of.disjuncts.items i (let l : i < length all = there_is all i levels there in let n : length all ≡ length of.disjuncts.items = is.state.derived.count in omega (arith, l, n)) in
+      let d = found of.disjuncts.items i (let l : i < length all = within all i levels there in let n : length all ≡ length of.disjuncts.items = is.state.derived.count in omega (arith, l, n)) in
       let w = is.state.derived.each i d.0 levels d.1 there in
       let x = w.sound.each (length levels - 1) keys value held in
       let low : 0 < length d.0.atoms.items = (is.state.can i d.0 d.1).some in
@@ -63,7 +64,7 @@ module _ (of : KeptQuery) (s : State) (is : IsKeeping of s) (start : StoreView) 
     all_hold = holds_all all of.domain start final nothing taken
 
     pub all_reach : (high : ℕ) → ((levels : Levels) → Contains all levels → HaveReach (HoldsIn levels (length levels - 1)) high) → HasReach final high
-    all_reach high each = taken.within high (λ keys store x. each x.1 (got all x.0 x.1 x.3) keys store x.4) (record { each = λ cell table c. absurd (nothing_at start empty cell table c) })
+    all_reach high each = taken.within high (λ keys store x. each x.1 (Contains-from_get all x.0 x.1 x.3) keys store x.4) (record { each = λ cell table c. absurd (nothing_at start empty cell table c) })
 
 -- the period as it is passed
 pub word_period : (p : Period) → nat_abs (to_z w64 (of_z w64 (pos p.number))) ≡ p.number

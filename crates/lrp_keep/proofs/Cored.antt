@@ -33,7 +33,10 @@ use Rattle.lrp_kept.specs.declared.disjuncts.JoinedAtom.{JoinedAtom}
 use Rattle.lrp_zone.proofs.Cases.{eq_or}
 use Rattle.lrp_kept.proofs.DisjunctAtoms.{atoms_are}
 use Rattle.lrp_keep.specs.States.{periods_at, read_periods}
-use Rattle.lrp_keep.proofs.Lists.{any_at, any_of, at_mapped, both_or_none, equal_self, from_flat, into_flat, none_some, nowhere, one_place, some_same, there_is, zip_in, zip_of}
+use Rattle.lrp_keep.proofs.Lists.{any_at, any_of, at_mapped, both_or_none, equal_self, nowhere, one_place, zip_in, zip_of}
+use Rattle.lrp_holdings.proofs.Chained.{none_some, some_is}
+use Rattle.lrp_theory.proofs.Members.{from_flat, in_flat}
+use Rattle.lrp_plan_laws.proofs.Elements.{within}
 
 -- ---- disjuncts of a form
 
@@ -279,7 +282,7 @@ module _ (names : List Identifier) (q : Question) (ds : List Disjunct) (are : Ar
       let w = any_of (λ (j : JoinedAtom). j.relation == relation) x.0.atoms.items x.2 in
       let y = atom_of_joined x.0 w.0 x.1 w.1 in
       let here : w.0.relation ≡ relation = eqb-true w.0.relation relation w.2 in
-      let same : y.0.name ≡ name = some_same y.0.name name (sym y.2.name ∙ ap (slice_get names) here ∙ at) in
+      let same : y.0.name ≡ name = some_is y.0.name name (sym y.2.name ∙ ap (slice_get names) here ∙ at) in
       any_at (λ (a : Atom). bytes_eq a.name name) (atoms q.body) y.0 y.1 (ap (λ n. bytes_eq n name) same ∙ own_name name))
 
   -- ---- periods
@@ -290,7 +293,7 @@ module _ (names : List Identifier) (q : Question) (ds : List Disjunct) (are : Ar
 
     found : (rs : List Relation) (i : ℕ) (r : Relation) → AreDistinct (map (λ (r : Relation). r.name) rs) → slice_get rs i ≡ Some r → relation_named rs r.name ≡ Some r
     found [] i r d e = absurd (none_some r e)
-    found (s ∷ rs) zero r d e = subst (λ (x : Relation). (if bytes_eq s.name x.name then Some s else relation_named rs x.name) ≡ Some x) (some_same s r e) (by (bytes_eq s.name s.name) (own_name s.name))
+    found (s ∷ rs) zero r d e = subst (λ (x : Relation). (if bytes_eq s.name x.name then Some s else relation_named rs x.name) ≡ Some x) (some_is s r e) (by (bytes_eq s.name s.name) (own_name s.name))
       where
         by : (b : Bool) → b ≡ true → (if b then Some s else relation_named rs s.name) ≡ Some s
         by true t = refl
@@ -299,7 +302,7 @@ module _ (names : List Identifier) (q : Question) (ds : List Disjunct) (are : Ar
       where
         not_later : (xs : List Relation) (k : ℕ) → AllByRecursion (λ m. s.name ≢ m) (map (λ (x : Relation). x.name) xs) → slice_get xs k ≡ Some r → s.name ≡ r.name → ⊥
         not_later [] k all e same = none_some r e
-        not_later (x ∷ xs) zero all e same = all.0 (same ∙ ap (λ (y : Relation). y.name) (sym (some_same x r e)))
+        not_later (x ∷ xs) zero all e same = all.0 (same ∙ ap (λ (y : Relation). y.name) (sym (some_is x r e)))
         not_later (x ∷ xs) (suc k) all e same = not_later xs k all.1 e same
 
         by : (b : Bool) → b ≡ false → relation_named rs r.name ≡ Some r → (if b then Some s else relation_named rs r.name) ≡ Some r
@@ -334,9 +337,9 @@ module _ (names : List Identifier) (q : Question) (ds : List Disjunct) (are : Ar
           let w = zip_in (IsAtomOf names) (atoms f) d.atoms.items x.0 is.atoms_are (subst (λ l. Contains l x.0) (sym (atoms_are f)) x.1) in
           let r = rows_at w.0.relation x.0.name w.2.name in
           let read : list_any (is_reader w.0.relation) ds ≡ true = any_at (is_reader w.0.relation) ds d c (any_at (λ (j : JoinedAtom). j.relation == w.0.relation) d.atoms.items w.0 w.1 (equal_self w.0.relation)) in
-          in_right (flat_map tested_periods ds) (read_periods ds db (length db)) k (read_in ds db (length db) w.0.relation k (there_is db w.0.relation r.0 r.1)
+          in_right (flat_map tested_periods ds) (read_periods ds db (length db)) k (read_in ds db (length db) w.0.relation k (within db w.0.relation r.0 r.1)
           (subst (λ o. Contains (periods_at ds w.0.relation o) k) (sym r.1) (to_at w.0.relation r.0 k read (subst (λ rows. Contains (flat_map row_periods rows) k) r.2 x.2))))
-      | inr x ↦ in_left (flat_map tested_periods ds) (read_periods ds db (length db)) k (into_flat tested_periods ds d k c (into_flat test_periods d.tests x.0 k (subst (λ l. Contains l x.0) (sym is.tests_are) x.1) x.2))
+      | inr x ↦ in_left (flat_map tested_periods ds) (read_periods ds db (length db)) k (in_flat tested_periods ds d k c (in_flat test_periods d.tests x.0 k (subst (λ l. Contains l x.0) (sym is.tests_are) x.1) x.2))
     ]
 
     pub periods_to : (k : ℕ) → Contains (periods q.body db) k → Contains all_periods k
@@ -364,7 +367,7 @@ module _ (names : List Identifier) (q : Question) (ds : List Disjunct) (are : Ar
           let a = zip_of (IsAtomOf names) (atoms z.0) d.0.atoms.items j.0 z.2.atoms_are j.1 in
           let r = rows_at j.0.relation a.0.name a.2.name in
           let here : j.0.relation ≡ x.0 = eqb-true j.0.relation x.0 j.2 in
-          let same : r.0 ≡ y.0 = some_same r.0 y.0 (sym r.1 ∙ ap (slice_get db) here ∙ y.1) in
+          let same : r.0 ≡ y.0 = some_is r.0 y.0 (sym r.1 ∙ ap (slice_get db) here ∙ y.1) in
           into_body z.0 k z.1 (inl (a.0, subst (λ l. Contains l a.0) (atoms_are z.0) a.1, subst (λ rows. Contains (flat_map row_periods rows) k) (sym (r.2 ∙ ap (λ (s : Relation). s.rows) same)) y.3))
     ]
 

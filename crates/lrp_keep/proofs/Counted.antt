@@ -20,11 +20,12 @@ use Rattle.lrp_kept.specs.declared.rows.HeldRelation.{HeldRelation}
 use Rattle.lrp_kept.specs.declared.rows.HeldRows.{HeldRows}
 use Rattle.lrp_kept.proofs.DisjunctAtoms.{IsSorted, atoms_are, sorted_atoms, sorted_elements}
 use Rattle.lrp_parts.proofs.KeyedRows.{found_at}
-use Rattle.lrp_keep.proofs.Lists.{at_mapped, some_same, zip_of}
+use Rattle.lrp_keep.proofs.Lists.{at_mapped, zip_of}
+use Rattle.lrp_holdings.proofs.Chained.{some_is}
 
 sorted_count : (bs : List Column) (a : Atom) (o : Option Relation) (r : Relation) → MatchOption o ⊥ (IsSortedAtom bs a.terms) → o ≡ Some r → length a.terms ≡ length r.columns
 sorted_count bs a None r h e = absurd h
-sorted_count bs a (Some s) r h e = h.count ∙ ap (λ (x : Relation). length x.columns) (some_same s r e)
+sorted_count bs a (Some s) r h e = h.count ∙ ap (λ (x : Relation). length x.columns) (some_is s r e)
 
 module _ (db : List Relation) (f : Form) (bs : List Column) (sorted : IsSortedForm f db bs) (literal : some_passes is_neither (elements f) ≡ false) where
   -- an atom of the formula
@@ -40,7 +41,7 @@ joined_count rows q ds bs are distinct sorted literal d a h listed own at =
     let z = zip_of (IsDisjunctOf (names_of rows)) (listed_disjuncts q) ds d are.each listed in
     let w = zip_of (IsAtomOf (names_of rows)) (atoms z.0) d.atoms.items a z.2.atoms_are own in
     let m = at_mapped (λ (r : HeldRelation). r.name) rows.relations.items a.relation w.0.name w.2.name in
-    let same : m.0 ≡ h = some_same m.0 h (sym m.1 ∙ at) in
+    let same : m.0 ≡ h = some_is m.0 h (sym m.1 ∙ at) in
     let named : h.name ≡ w.0.name = ap (λ (r : HeldRelation). r.name) (sym same) ∙ m.2 in
     let found = found_at (get rows.sources) rows.relations.items a.relation h distinct at in
     ap length w.2.terms ∙ atom_count (relations_of (get rows.sources) rows.relations.items) z.0 bs (sorted z.0 z.1) (literal z.0 z.1) w.0 (relation_of (get rows.sources) h) w.1 (ap (relation_named (relations_of (get rows.sources) rows.relations.items)) (sym named) ∙ found)

@@ -28,10 +28,11 @@ use Rattle.lrp_kept.specs.declared.disjuncts.JoinedAtom.{JoinedAtom}
 use Rattle.lrp_kept.specs.declared.rows.Sketch.{Sketch}
 use Rattle.lrp_kept.specs.declared.rows.Source.{Source}
 use Rattle.lrp_parts.proofs.Behind.{own_reach, rises}
-use Rattle.lrp_keep.proofs.KeptAnswers.{there_is, zip_back}
+use Rattle.lrp_keep.proofs.KeptAnswers.{zip_back}
 use Rattle.lrp_parts.proofs.Narrow.{can_be_joined, has_head}
 use Rattle.lrp_kept.proofs.Room.{at_most, atom_room, tests_room}
 use Rattle.lrp_keep.proofs.WholeAtoms.{some_joined}
+use Rattle.lrp_plan_laws.proofs.Elements.{within}
 
 -- the row under the key is as the atom reads it, in cells of the period, and no bound of it is above the relation's
 pub record IsReadable (g : Ground) (bounds : List ℕ) (d : Disjunct) (i : ℕ) (a : JoinedAtom) (key : ℕ) : Type 0 where
@@ -76,7 +77,7 @@ module _ (names : List Identifier) (f : Form) (d : Disjunct) (is : IsDisjunctOf 
   low_tests = at_most bounds g.period g.head ds high d listed some (tests_reach d.tests + g.period) (tests_room bounds g.period g.head ds high d listed some)
 
   number_known : (i : ℕ) (a : JoinedAtom) → slice_get d.atoms.items i ≡ Some a → a.relation < length names
-  number_known i a at = let x = zip_back (IsAtomOf names) (atoms f) d.atoms.items i a is.atoms_are at in there_is names a.relation x.0.name x.2.name
+  number_known i a at = let x = zip_back (IsAtomOf names) (atoms f) d.atoms.items i a is.atoms_are at in within names a.relation x.0.name x.2.name
 
   pub can_derive : 0 < g.period → length names ≤ length g.rows.relations.items → IsNarrow (free_each (elements f)) → ((t : Test) → Contains d.tests t → (pos 1 ≤ℤ test_period t) × Divides (test_period t) (pos g.period)) → IsOfHead g f
       → ((i : ℕ) (a : JoinedAtom) (key : ℕ) → slice_get d.atoms.items i ≡ Some a → Contains (keys_of g.rows a.relation) key → IsReadable g bounds d i a key) → CanDerive g d

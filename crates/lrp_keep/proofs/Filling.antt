@@ -17,8 +17,8 @@ use Rattle.lrp_keep.specs.States.{AreAllHeld, AreHeldAlso}
 use Rattle.lrp_kept.specs.Sketches.{AreSketchesOf}
 use Rattle.lrp_keep.specs.declared.kept_query.KeptQuery.{KeptQuery}
 use Rattle.lrp_keep.proofs.Alike.{keys_at, relisted_same, relisted_twice}
-use Rattle.lrp_keep.proofs.Lists.{none_some, some_same}
 use Rattle.lrp_keep.proofs.Views.{rows_both, rows_same, rows_under}
+use Rattle.lrp_holdings.proofs.Chained.{none_some, some_is}
 
 -- ---- the rows of one relation
 
@@ -103,7 +103,7 @@ module _ (of : KeptQuery) (db : List Relation) (number : ℕ) (relation : Relati
       | inl e ↦
           let h_mid : slice_get mid.relations.items number ≡ Some h = ap (slice_get mid.relations.items) (sym e) ∙ a.rest i (let s : i ≡ number = e in omega (arith, s)) ∙ was in
           let s = b.listed.at h h_mid in
-          let same : r ≡ relation = some_same r relation (sym is ∙ ap (slice_get db) e ∙ there) in (
+          let same : r ≡ relation = some_is r relation (sym is ∙ ap (slice_get db) e ∙ there) in (
             s.0,
             ap (slice_get new.relations.items) e ∙ s.1,
             record {

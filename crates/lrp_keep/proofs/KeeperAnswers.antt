@@ -12,7 +12,7 @@ use Rattle.lrp_model.specs.Texts.{Identifier}
 use Rattle.lrp_model.specs.Variables.{head_variables}
 use Rattle.lrp_model.specs.declared.relations.Column.{Column}
 use Rattle.lrp_store.specs.Tables.{InAnswer}
-use Rattle.lrp_store.specs.declared.answer.Answer.{Answer}
+use Rattle.lrp_answers.specs.declared.answer.Answer.{Answer}
 use Rattle.lrp_tables.specs.Columns.{head_times}
 use Rattle.lrp_kept.specs.Choices.{listed_disjuncts}
 use Rattle.lrp_parts.specs.Derivations.{Ground, Levels}

@@ -1,5 +1,5 @@
 -- The answers of all whole choices are those of the query.
-use Rattle.std.proofs.Common.{◌≡◌, ◌≢◌, ◌<◌, ◌+◌, ◌-◌, ℕ, zero, suc, Bool, true, false, List, [], ◌∷◌, length, map, flat_map, Contains, Option, Some, None, ◌⊎◌, inl, inr, refl, sym, ap, subst, ◌∙◌, arith}
+use Rattle.std.proofs.Common.{◌≡◌, ◌<◌, ◌+◌, ◌-◌, ℕ, zero, suc, Bool, true, false, List, [], ◌∷◌, length, map, flat_map, Contains, Option, Some, None, ◌⊎◌, inl, inr, refl, sym, ap, subst, ◌∙◌, arith}
 use Rattle.std.specs.Prelude.{pos, ◌&&◌, not, slice_get}
 use Rattle.std.proofs.lemmas.List.{length-map}
 use Rattle.std.specs.List.{AllByRecursion, AllZip}
@@ -43,6 +43,9 @@ use Rattle.lrp_parts.proofs.KeyedRows.{keys_chosen, rows_chosen}
 use Rattle.lrp_kept.proofs.MatchedTexts.{in_domain}
 use Rattle.lrp_parts.proofs.Parted.{tests_are}
 use Rattle.lrp_tables.proofs.TupleLaws.{tuple_times, tuple_texts}
+use Rattle.lrp_model.proofs.Unique.{shape_of}
+use Rattle.lrp_plan_laws.proofs.Elements.{found as at_place, within as there_is}
+use Rattle.lrp_plan_laws.proofs.PlanLaws.{and_first}
 
 -- ---- lists
 
@@ -64,41 +67,27 @@ zip_back R (x ∷ xs) [] i y z e = absurd z
 zip_back R (x ∷ xs) (w ∷ ys) zero y z e = (x, contains_first x xs, subst (λ v. R x v) (let s : w ≡ y = cc in s) z.0)
 zip_back R (x ∷ xs) (w ∷ ys) (suc i) y z e = let r = zip_back R xs ys i y z.1 e in (r.0, contains_later x r.0 xs r.1, r.2)
 
-pub there_is : {X : Type 0} (xs : List X) (i : ℕ) (x : X) → slice_get xs i ≡ Some x → i < length xs
-there_is [] i x e = cc
-there_is (y ∷ xs) zero x e = omega arith
-there_is (y ∷ xs) (suc i) x e = let l : i < length xs = there_is xs i x e in omega (arith, l)
-
-at_place : {X : Type 0} (xs : List X) (i : ℕ) → i < length xs → (x : X) × (slice_get xs i ≡ Some x)
-at_place [] i l = absurd (let k : i < 0 = l in omega (arith, k))
-at_place (x ∷ xs) zero l = (x, refl)
-at_place (x ∷ xs) (suc i) l = at_place xs i (let k : suc i < suc (length xs) = l in omega (arith, k))
-
 -- ---- Booleans
-
-and_left : (a b : Bool) → (a && b) ≡ true → a ≡ true
-and_left true b e = refl
-and_left false b e = cc
 
 and_right : (a b : Bool) → (a && b) ≡ true → b ≡ true
 and_right true b e = e
 and_right false b e = cc
 
-not_true : (a : Bool) → not a ≡ true → a ≡ false
+pub not_true : (a : Bool) → not a ≡ true → a ≡ false
 not_true true e = cc
 not_true false e = refl
 
 one_occurs : (fs : Forms) (vs : List Variable) (v : Variable) → all_occur fs vs ≡ true → Contains vs v → some_passes (is_atom_with v) fs ≡ true
 one_occurs fs [] v e i = absurd (let l : i.0 < 0 = i.1 in omega (arith, l))
 one_occurs fs (w ∷ vs) v e i = elim (cons_cases w v vs i) [
-  | inl s ↦ subst (λ x. some_passes (is_atom_with x) fs ≡ true) s (and_left (some_passes (is_atom_with w) fs) (all_occur fs vs) e)
+  | inl s ↦ subst (λ x. some_passes (is_atom_with x) fs ≡ true) s (and_first (some_passes (is_atom_with w) fs) (all_occur fs vs) e)
   | inr more ↦ one_occurs fs vs v (and_right (some_passes (is_atom_with w) fs) (all_occur fs vs) e) more
 ]
 
 pub one_passes : (p : Form → Bool) (fs : Forms) (f : Form) → all_pass p fs ≡ true → Contains (as_list fs) f → p f ≡ true
 one_passes p no_forms f e i = absurd (let l : i.0 < 0 = i.1 in omega (arith, l))
 one_passes p (form g fs) f e i = elim (cons_cases g f (as_list fs) i) [
-  | inl s ↦ subst (λ x. p x ≡ true) s (and_left (p g) (all_pass p fs) e)
+  | inl s ↦ subst (λ x. p x ≡ true) s (and_first (p g) (all_pass p fs) e)
   | inr more ↦ one_passes p fs f (and_right (p g) (all_pass p fs) e) more
 ]
 
@@ -127,20 +116,6 @@ pub record RestsOn (g : Ground) (q : Question) (bs : List Column) (ds : List Dis
   pub known : (s : Sort) (t : Text) → Contains (domain_of (relations_of (get g.rows.sources) g.rows.relations.items) q s) t → Contains g.domain t
 
 -- ---- a tuple and its assignment
-
-of_kind : (M : Structure) (s : Sort) (d : Datum) → IsOfSort M s d → IsOfKind s d
-of_kind M Time (time x) h = tt
-of_kind M Time (text t) h = h
-of_kind M Data (time x) h = h
-of_kind M Data (text t) h = tt
-of_kind M (Named name) (time x) h = h
-of_kind M (Named name) (text t) h = tt
-
-shape_of : (M : Structure) (cs : List Column) (ds : List Datum) → AllZip (λ c d. IsOfSort M c.sort d) cs ds → HasShape cs ds
-shape_of M [] [] h = tt
-shape_of M [] (d ∷ ds) h = absurd h
-shape_of M (c ∷ cs) [] h = absurd h
-shape_of M (c ∷ cs) (d ∷ ds) h = (of_kind M c.sort d h.0, shape_of M cs ds h.1)
 
 -- texts of their sorts are of the domain
 known_texts : (M : Structure) (domain : List Text) → ((s : Sort) (t : Text) → Contains (M.domain s) t → Contains domain t) → (env : Assignment) (cs : List Column) (ds : List Datum) → AllZip (λ c d. IsOfSort M c.sort d) cs ds → map env.texts (head_texts cs) ≡ texts_of ds → HasTexts domain (head_texts cs) env
@@ -187,13 +162,13 @@ module _ (g : Ground) (q : Question) (bs : List Column) (ds : List Disjunct) (on
     good = one_passes (is_disjunct q.head) (query_disjuncts q) f on.kept listed
 
     conjunctive : is_conjunctive (elements f) ≡ true
-    conjunctive = and_left (is_conjunctive (elements f)) (all_occur (elements f) (head_variables q.head)) (and_left (is_conjunctive (elements f) && all_occur (elements f) (head_variables q.head)) (all_occur (elements f) (bound_variables f)) good)
+    conjunctive = and_first (is_conjunctive (elements f)) (all_occur (elements f) (head_variables q.head)) (and_first (is_conjunctive (elements f) && all_occur (elements f) (head_variables q.head)) (all_occur (elements f) (bound_variables f)) good)
 
     literal : some_passes is_neither (elements f) ≡ false
-    literal = not_true (some_passes is_neither (elements f)) (and_left (not (some_passes is_neither (elements f))) _ (and_left (not (some_passes is_neither (elements f)) && some_passes _ (elements f)) _ conjunctive))
+    literal = not_true (some_passes is_neither (elements f)) (and_first (not (some_passes is_neither (elements f))) _ (and_first (not (some_passes is_neither (elements f)) && some_passes _ (elements f)) _ conjunctive))
 
     head_occurs : all_occur (elements f) (head_variables q.head) ≡ true
-    head_occurs = and_right (is_conjunctive (elements f)) (all_occur (elements f) (head_variables q.head)) (and_left (is_conjunctive (elements f) && all_occur (elements f) (head_variables q.head)) (all_occur (elements f) (bound_variables f)) good)
+    head_occurs = and_right (is_conjunctive (elements f)) (all_occur (elements f) (head_variables q.head)) (and_first (is_conjunctive (elements f) && all_occur (elements f) (head_variables q.head)) (all_occur (elements f) (bound_variables f)) good)
 
     bound_occur : all_occur (elements f) (bound_variables f) ≡ true
     bound_occur = and_right (is_conjunctive (elements f) && all_occur (elements f) (head_variables q.head)) (all_occur (elements f) (bound_variables f)) good

@@ -1,5 +1,5 @@
 -- What kept form says of each disjunct, and what the kept reach reads of relations.
-use Rattle.std.proofs.Common.{◌≡◌, ◌+◌, ◌*◌, ◌^◌, ℕ, Bool, true, false, not, List, [], ◌∷◌, ◌++◌, length, map, flat_map, refl, ap, ap₂, bytes_eq, Contains}
+use Rattle.std.proofs.Common.{◌≡◌, ◌+◌, ◌*◌, ◌^◌, ℕ, true, false, not, List, [], ◌∷◌, ◌++◌, length, map, flat_map, refl, ap, ap₂, bytes_eq, Contains}
 use Rattle.std.specs.Prelude.{◌&&◌, if◌then◌else◌}
 use mathlib.Core.Path.{fun_ext}
 use Rattle.lrp_model.specs.Formulas.{Form, Question}
@@ -13,11 +13,7 @@ use Rattle.lrp_kept.specs.KeptForm.{all_occur, all_pass, bound_variables, elemen
 use Rattle.lrp_kept.specs.Limits.{kept_reach, most_of, scaled_kept_reach, time_quantifiers, number_beside}
 use Rattle.lrp_model.specs.Variables.{head_variables}
 use Rattle.lrp_parts.proofs.Behind.{each_true}
-use Rattle.lrp_keep.proofs.KeptAnswers.{one_passes}
-
-not_true : (a : Bool) → not a ≡ true → a ≡ false
-not_true true e = cc
-not_true false e = refl
+use Rattle.lrp_keep.proofs.KeptAnswers.{not_true, one_passes}
 
 pub conjunctive_of : (q : Question) → is_kept q ≡ true → (f : Form) → Contains (listed_disjuncts q) f → is_conjunctive (elements f) ≡ true
 conjunctive_of q kept f c =

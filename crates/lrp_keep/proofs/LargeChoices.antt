@@ -23,7 +23,9 @@ use Rattle.lrp_parts.proofs.LargeParts.{AreUnder, many_of_keys, many_of_rows}
 use Rattle.lrp_keep.specs.States.{HasSomeLargePart}
 use Rattle.lrp_keep.specs.Unions.{AreDerived}
 use Rattle.lrp_keep.proofs.KeptAnswers.{zip_at}
-use Rattle.lrp_keep.proofs.Lists.{some_at, there_is, zip_of}
+use Rattle.lrp_keep.proofs.Lists.{zip_of}
+use Rattle.lrp_plan_laws.proofs.Elements.{found, within}
+use Rattle.lrp_keep.proofs.Readable.{zip_count}
 
 -- ---- keys
 
@@ -63,12 +65,6 @@ zip_first R (suc n) [] [] z = tt
 zip_first R (suc n) [] (y ∷ ys) z = absurd z
 zip_first R (suc n) (x ∷ xs) [] z = absurd z
 zip_first R (suc n) (x ∷ xs) (y ∷ ys) z = (z.0, zip_first R n xs ys z.1)
-
-zip_size : {X Y : Type 0} (R : X → Y → Type 0) (xs : List X) (ys : List Y) → AllZip R xs ys → length ys ≡ length xs
-zip_size R [] [] z = refl
-zip_size R [] (y ∷ ys) z = absurd z
-zip_size R (x ∷ xs) [] z = absurd z
-zip_size R (x ∷ xs) (y ∷ ys) z = ap suc (zip_size R xs ys z.1)
 
 first_size : {X : Type 0} (n : ℕ) (xs : List X) → n ≤ length xs → length (take n xs) ≡ n
 first_size zero xs l = refl
@@ -112,9 +108,9 @@ module _ (g : Ground) (q : Question) (ds : List Disjunct) (are : AreDisjunctsOf 
       let more = completed_keys g d.atoms.items keys k h.large.choices in
       let r = rows_under_keys g.rows distinct (atoms f) d.atoms.items (keys ++ more.0) is.atoms_are more.1 more.2 under_key in
       let few : length keys ≤ length d.atoms.items = few_keys g.rows d.atoms.items keys k in
-      let same : length d.atoms.items ≡ length (atoms f) = zip_size (IsAtomOf (names_of g.rows)) (atoms f) d.atoms.items is.atoms_are in
-      let many_rows : length r.0 ≡ length (atoms f) = zip_size (λ (a : Atom) row. Contains (rows_of relations a.name) row) (atoms f) r.0 r.1 in
-      let last = some_at d.atoms.items (length keys - 1) (omega (arith, low, few)) in
+      let same : length d.atoms.items ≡ length (atoms f) = zip_count (IsAtomOf (names_of g.rows)) (atoms f) d.atoms.items is.atoms_are in
+      let many_rows : length r.0 ≡ length (atoms f) = zip_count (λ (a : Atom) row. Contains (rows_of relations a.name) row) (atoms f) r.0 r.1 in
+      let last = found d.atoms.items (length keys - 1) (omega (arith, low, few)) in
       record {
         disjunct = f;
         listed = z.1;
@@ -132,14 +128,14 @@ module _ (g : Ground) (q : Question) (ds : List Disjunct) (are : AreDisjunctsOf 
       let d = z.1 in
       let is = z.3 in
       let k = keys_under g.rows distinct (atoms h.disjunct) d.atoms.items h.rows is.atoms_are h.choice in
-      let size : length h.rows ≡ length (atoms h.disjunct) = zip_size (λ (a : Atom) row. Contains (rows_of relations a.name) row) (atoms h.disjunct) h.rows h.choice in
-      let joined : length d.atoms.items ≡ length (atoms h.disjunct) = zip_size (IsAtomOf (names_of g.rows)) (atoms h.disjunct) d.atoms.items is.atoms_are in
+      let size : length h.rows ≡ length (atoms h.disjunct) = zip_count (λ (a : Atom) row. Contains (rows_of relations a.name) row) (atoms h.disjunct) h.rows h.choice in
+      let joined : length d.atoms.items ≡ length (atoms h.disjunct) = zip_count (IsAtomOf (names_of g.rows)) (atoms h.disjunct) d.atoms.items is.atoms_are in
       let all_keys : length k.0 ≡ length d.atoms.items = k.2 in
       let high : h.count ≤ length h.rows = h.high in
       let low : 0 < h.count = h.low in
       let count : length (take h.count k.0) ≡ h.count = first_size h.count k.0 (omega (arith, high, size, joined, all_keys)) in
-      let there = some_at all z.0 (let l : z.0 < length ds = there_is ds z.0 d z.2 in let n : length all ≡ length ds = derived.count in omega (arith, l, n)) in
-      let last = some_at d.atoms.items (length (take h.count k.0) - 1) (omega (arith, count, low, high, size, joined)) in
+      let there = found all z.0 (let l : z.0 < length ds = within ds z.0 d z.2 in let n : length all ≡ length ds = derived.count in omega (arith, l, n)) in
+      let last = found d.atoms.items (length (take h.count k.0) - 1) (omega (arith, count, low, high, size, joined)) in
       let under = subst (λ n. AreUnder g.rows (take h.count k.0) (take n h.rows)) (sym count) (zip_first _ h.count k.0 h.rows k.3) in
       let first : length (take (length (take h.count k.0)) (atoms h.disjunct)) ≡ length (take h.count k.0) = first_size (length (take h.count k.0)) (atoms h.disjunct) (omega (arith, count, high, size)) in
       let many : HasManyKeyedCells g d (take h.count k.0) =

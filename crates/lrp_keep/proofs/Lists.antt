@@ -1,28 +1,12 @@
 -- Lists: what stands at a place, in a mapped list, and beside it in another one.
-use Rattle.std.proofs.Common.{◌≡◌, ◌≢◌, ◌<◌, ◌≤◌, ℕ, zero, suc, Bool, true, false, List, [], ◌∷◌, length, map, flat_map, Contains, Some, None, ◌⊎◌, inl, inr, refl, sym, ap, ap₂, subst, ◌∙◌, eq-eqb, get_or, arith}
+use Rattle.std.proofs.Common.{◌≡◌, ◌≢◌, ◌<◌, ◌≤◌, ℕ, zero, suc, Bool, true, false, List, [], ◌∷◌, length, map, Contains, Some, None, ◌⊎◌, inl, inr, refl, sym, ap, ap₂, subst, ◌∙◌, eq-eqb, get_or, arith}
 use Rattle.std.specs.Prelude.{◌==◌, ◌||◌, slice_get}
 use Rattle.std.specs.List.{AllByRecursion, AllZip, list_any}
 use Rattle.std.proofs.lemmas.Bool.{false≢true}
 use Rattle.std.proofs.lemmas.Option.{slice_get_read}
 use Rattle.lrp_model.specs.Texts.{AreDistinct, Identifier}
 use Rattle.lrp_model.proofs.Decided.{cons_cases, contains_first, contains_later}
-use Rattle.lrp_plan_laws.proofs.Members.{in_left, in_one, in_right}
-
-pub some_same : {X : Type 0} (x y : X) → Some x ≡ Some y → x ≡ y
-some_same x y e = cc
-
-pub none_some : {X : Type 0} (x : X) → None ≡ Some x → ⊥
-none_some x e = cc
-
-pub some_at : {X : Type 0} (xs : List X) (i : ℕ) → i < length xs → (x : X) × (slice_get xs i ≡ Some x)
-some_at [] i l = absurd (let k : i < 0 = l in omega (arith, k))
-some_at (x ∷ xs) zero l = (x, refl)
-some_at (x ∷ xs) (suc i) l = some_at xs i (let k : suc i < suc (length xs) = l in omega (arith, k))
-
-pub there_is : {X : Type 0} (xs : List X) (i : ℕ) (x : X) → slice_get xs i ≡ Some x → i < length xs
-there_is [] i x e = absurd (none_some x e)
-there_is (y ∷ xs) zero x e = omega arith
-there_is (y ∷ xs) (suc i) x e = let l : i < length xs = there_is xs i x e in omega (arith, l)
+use Rattle.lrp_holdings.proofs.Chained.{none_some, some_is}
 
 pub past_end : {X : Type 0} (xs : List X) (i : ℕ) → slice_get xs i ≡ None → length xs ≤ i
 past_end [] i e = omega arith
@@ -37,17 +21,8 @@ none_past (x ∷ xs) (suc i) l = none_past xs i (let k : suc (length xs) ≤ suc
 -- what stands at a place of a mapped list
 pub at_mapped : {X Y : Type 0} (f : X → Y) (xs : List X) (i : ℕ) (y : Y) → slice_get (map f xs) i ≡ Some y → (x : X) × (slice_get xs i ≡ Some x) × (f x ≡ y)
 at_mapped f [] i y e = absurd (none_some y e)
-at_mapped f (x ∷ xs) zero y e = (x, refl, some_same (f x) y e)
+at_mapped f (x ∷ xs) zero y e = (x, refl, some_is (f x) y e)
 at_mapped f (x ∷ xs) (suc i) y e = at_mapped f xs i y e
-
-pub mapped_at : {X Y : Type 0} (f : X → Y) (xs : List X) (i : ℕ) (x : X) → slice_get xs i ≡ Some x → slice_get (map f xs) i ≡ Some (f x)
-mapped_at f [] i x e = absurd (none_some x e)
-mapped_at f (y ∷ xs) zero x e = ap (λ z. Some (f z)) (some_same y x e)
-mapped_at f (y ∷ xs) (suc i) x e = mapped_at f xs i x e
-
-pub length_mapped : {X Y : Type 0} (f : X → Y) (xs : List X) → length (map f xs) ≡ length xs
-length_mapped f [] = refl
-length_mapped f (x ∷ xs) = ap suc (length_mapped f xs)
 
 -- two lists whose images agree at each place
 pub same_images : {X Y Z : Type 0} (f : X → Z) (g : Y → Z) (xs : List X) (ys : List Y) → length ys ≡ length xs → ((i : ℕ) (x : X) (y : Y) → slice_get xs i ≡ Some x → slice_get ys i ≡ Some y → g y ≡ f x) → map g ys ≡ map f xs
@@ -58,32 +33,6 @@ same_images f g (x ∷ xs) (y ∷ ys) e h = ap₂ (λ a b. a ∷ b) (h 0 x y ref
 
 pub nowhere : {X : Type 0} (x : X) → Contains [] x → ⊥
 nowhere x c = let l : c.0 < 0 = c.1 in omega (arith, l)
-
-pub place_of : {X : Type 0} (xs : List X) (x : X) → Contains xs x → (i : ℕ) × (slice_get xs i ≡ Some x)
-place_of [] x c = absurd (nowhere x c)
-place_of (y ∷ xs) x c = elim (cons_cases y x xs c) [
-  | inl e ↦ (0, ap (λ z. Some z) e)
-  | inr d ↦ let r = place_of xs x d in (suc r.0, r.1)
-]
-
-pub got : {X : Type 0} (xs : List X) (i : ℕ) (x : X) → slice_get xs i ≡ Some x → Contains xs x
-got [] i x e = absurd (none_some x e)
-got (y ∷ xs) zero x e = subst (λ z. Contains (y ∷ xs) z) (some_same y x e) (contains_first y xs)
-got (y ∷ xs) (suc i) x e = contains_later y x xs (got xs i x e)
-
-pub from_flat : {X Y : Type 0} (f : X → List Y) (xs : List X) (y : Y) → Contains (flat_map f xs) y → (x : X) × Contains xs x × Contains (f x) y
-from_flat f [] y i = absurd (nowhere y i)
-from_flat f (x ∷ xs) y i = elim (in_one (f x) (flat_map f xs) y i) [
-  | inl h ↦ (x, contains_first x xs, h)
-  | inr more ↦ let r = from_flat f xs y more in (r.0, contains_later x r.0 xs r.1, r.2)
-]
-
-pub into_flat : {X Y : Type 0} (f : X → List Y) (xs : List X) (x : X) (y : Y) → Contains xs x → Contains (f x) y → Contains (flat_map f xs) y
-into_flat f [] x y c i = absurd (nowhere x c)
-into_flat f (z ∷ xs) x y c i = elim (cons_cases z x xs c) [
-  | inl e ↦ in_left (f z) (flat_map f xs) y (subst (λ w. Contains (f w) y) (sym e) i)
-  | inr d ↦ in_right (f z) (flat_map f xs) y (into_flat f xs x y d i)
-]
 
 pub zip_in : {X Y : Type 0} (R : X → Y → Type 0) (xs : List X) (ys : List Y) (x : X) → AllZip R xs ys → Contains xs x → (y : Y) × Contains ys y × R x y
 zip_in R [] ys x z c = absurd (nowhere x c)
@@ -141,15 +90,15 @@ equal_self n = eq-eqb n n refl
 
 not_later : (m n : Identifier) (xs : List Identifier) (k : ℕ) → AllByRecursion (λ x. m ≢ x) xs → slice_get xs k ≡ Some n → m ≡ n → ⊥
 not_later m n [] k all e same = none_some n e
-not_later m n (x ∷ xs) zero all e same = all.0 (same ∙ sym (some_same x n e))
+not_later m n (x ∷ xs) zero all e same = all.0 (same ∙ sym (some_is x n e))
 not_later m n (x ∷ xs) (suc k) all e same = not_later m n xs k all.1 e same
 
 -- names that differ stand at one place each
 pub one_place : (names : List Identifier) (i j : ℕ) (n : Identifier) → AreDistinct names → slice_get names i ≡ Some n → slice_get names j ≡ Some n → i ≡ j
 one_place [] i j n d e f = absurd (none_some n e)
 one_place (m ∷ names) zero zero n d e f = refl
-one_place (m ∷ names) zero (suc j) n d e f = absurd (not_later m n names j d.0 f (some_same m n e))
-one_place (m ∷ names) (suc i) zero n d e f = absurd (not_later m n names i d.0 e (some_same m n f))
+one_place (m ∷ names) zero (suc j) n d e f = absurd (not_later m n names j d.0 f (some_is m n e))
+one_place (m ∷ names) (suc i) zero n d e f = absurd (not_later m n names i d.0 e (some_is m n f))
 one_place (m ∷ names) (suc i) (suc j) n d e f = ap suc (one_place names i j n d.1 e f)
 
 -- what is read at a place stands there

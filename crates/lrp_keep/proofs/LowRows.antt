@@ -20,16 +20,12 @@ use Rattle.lrp_kept.specs.declared.disjuncts.JoinedAtom.{JoinedAtom}
 use Rattle.lrp_kept.specs.declared.rows.HeldRelation.{HeldRelation}
 use Rattle.lrp_keep.proofs.Reaching.{HaveLowRows, low_answers}
 use Rattle.lrp_kept.proofs.SameReach.{kept_reach_is}
-
-none_is : {X : Type 0} (x : X) → None ≡ Some x → ⊥
-none_is x e = cc
-
-some_same : {X : Type 0} (x y : X) → Some x ≡ Some y → x ≡ y
-some_same x y e = cc
+use Rattle.lrp_holdings.proofs.Chained.{none_some, some_is}
+use Rattle.lrp_plan_laws.proofs.Elements.{found}
 
 pub most_at : (rs : List HeldRelation) (i : ℕ) (r : HeldRelation) → slice_get rs i ≡ Some r → slice_index_or (bounds_of rs) i 0 ≡ r.most
-most_at [] i r e = absurd (none_is r e)
-most_at (h ∷ rs) zero r e = ap (λ (x : HeldRelation). x.most) (some_same h r e)
+most_at [] i r e = absurd (none_some r e)
+most_at (h ∷ rs) zero r e = ap (λ (x : HeldRelation). x.most) (some_is h r e)
 most_at (h ∷ rs) (suc i) r e = most_at rs i r e
 
 pub low_rows : (g : Ground) (atoms : List JoinedAtom) → AreLowRows g.rows → HaveLowRows g (bounds_of g.rows.relations.items) atoms
@@ -49,11 +45,6 @@ place_of (y ∷ xs) x c = elim (cons_cases y x xs c) [
   | inr d ↦ let r = place_of xs x d in (suc r.0, r.1, let l : r.0 < length xs = r.2 in omega (arith, l))
 ]
 
-there_at : {X : Type 0} (xs : List X) (i : ℕ) → i < length xs → (x : X) × (slice_get xs i ≡ Some x)
-there_at [] i l = absurd (let k : i < 0 = l in omega (arith, k))
-there_at (x ∷ xs) zero l = (x, refl)
-there_at (x ∷ xs) (suc i) l = there_at xs i (let k : suc i < suc (length xs) = l in omega (arith, k))
-
 -- what is held of whole choices has at most the kept reach of the query
 pub kept_low : (g : Ground) (q : Question) (ds : List Disjunct) (all : List Levels) → AreDistinct (names_of g.rows) → AreDisjunctsOf (names_of g.rows) q ds → AreDerived g ds all → AreLowRows g.rows → ((i : ℕ) (d : Disjunct) → slice_get ds i ≡ Some d → 0 < length d.atoms.items)
     → (levels : Levels) → Contains all levels → HaveReach (HoldsIn levels (length levels - 1)) (kept_reach (relations_of (get g.rows.sources) g.rows.relations.items) (bounds_of g.rows.relations.items) g.period q)
@@ -61,7 +52,7 @@ kept_low g q ds all distinct are derived low some levels c =
     let at = place_of all levels c in
     let n : length all ≡ length ds = derived.count in
     let within : at.0 < length all = at.2 in
-    let d = there_at ds at.0 (omega (arith, n, within)) in
+    let d = found ds at.0 (omega (arith, n, within)) in
     let held : HaveReach (HoldsIn levels (length levels - 1)) (reach_over (bounds_of g.rows.relations.items) g.period ds) =
     low_answers g (bounds_of g.rows.relations.items) ds d.0 (got_in ds at.0 d.0 d.1) (some at.0 d.0 d.1) (low_rows g d.0.atoms.items low) levels (derived.each at.0 d.0 levels d.1 at.1).sound in
     subst (λ r. HaveReach (HoldsIn levels (length levels - 1)) r) (sym (kept_reach_is (get g.rows.sources) g.rows.relations.items distinct g.period q ds are)) held

@@ -16,7 +16,7 @@ use Rattle.lrp_kept.specs.Sizes.{is_reader, number_in}
 use Rattle.lrp_kept.specs.declared.disjuncts.Disjunct.{Disjunct}
 use Rattle.lrp_kept.specs.declared.rows.HeldRows.{HeldRows}
 use Rattle.lrp_keep.specs.States.{AreMarkedBy, IsMarked, periods_at, read_periods}
-use Rattle.lrp_keep.proofs.Lists.{some_same}
+use Rattle.lrp_holdings.proofs.Chained.{some_is}
 
 -- ---- periods
 
@@ -49,7 +49,7 @@ one_marked db number r most old mid new at most_is a m = record {
   at = λ i h s l was is. elim (eq_or i number) [
     | inl e ↦
         let here : slice_get mid.relations.items number ≡ Some h = ap (slice_get mid.relations.items) (sym e) ∙ a.rest i (let q : i ≡ number = e in omega (arith, q)) ∙ was in
-        let same : r ≡ s = some_same r s (sym at ∙ ap (slice_get db) (sym e) ∙ is) in
+        let same : r ≡ s = some_is r s (sym at ∙ ap (slice_get db) (sym e) ∙ is) in
         ap (slice_get new.relations.items) e ∙ m.at h here ∙ ap (λ n. Some (record h { most = n })) (most_is ∙ ap relation_bound same)
     | inr n ↦ m.rest i n ∙ a.at i h s (omega (arith, l, n)) was is
   ];

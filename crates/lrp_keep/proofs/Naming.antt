@@ -28,7 +28,10 @@ use Rattle.lrp_keep.specs.declared.kept_query.KeptQuery.{KeptQuery}
 use Rattle.lrp_keep.specs.declared.states.State.{State}
 use Rattle.lrp_keep.proofs.Adding.{names_in}
 use Rattle.lrp_keep.proofs.KeptParts.{conjunctive_of, literal_in}
-use Rattle.lrp_keep.proofs.Lists.{at_mapped, got, mapped_at, one_place, place_of}
+use Rattle.lrp_keep.proofs.Lists.{at_mapped, one_place}
+use Rattle.lrp_store.proofs.Held.{Contains-from_get}
+use Rattle.lrp_tables.proofs.Joining.{place_in}
+use Rattle.lrp_algebra.proofs.Steps.{mapped_get}
 
 -- the name of a relation that is found is one of the names
 pub found_name : (db : List Relation) (name : Identifier) (r : Relation) → relation_named db name ≡ Some r → Contains (map (λ (r : Relation). r.name) db) name
@@ -60,9 +63,9 @@ can_join db q domain names can same = all_by (CanBeJoinedUp names) (listed_disju
 
 pub known_name : (of : KeptQuery) (s : State) (name : Identifier) (row : Row) → CanBeAdded (view_of of s) name row → Contains (names_of s.rows) name
 known_name of s name row can =
-    let p = place_of (view_of of s).relations can.relation can.is.listed in
-    let at = mapped_at (λ (r : Relation). r.name) (view_of of s).relations p.0 can.relation p.1 in
-    subst (λ n. Contains (names_of s.rows) n) can.is.named (subst (λ ns. Contains ns can.relation.name) (names_in (get s.rows.sources) s.rows.relations.items) (got (map (λ (r : Relation). r.name) (view_of of s).relations) p.0 can.relation.name at))
+    let p = place_in (view_of of s).relations can.relation can.is.listed in
+    let at = mapped_get (λ (r : Relation). r.name) (view_of of s).relations p.0 can.relation p.1 in
+    subst (λ n. Contains (names_of s.rows) n) can.is.named (subst (λ ns. Contains ns can.relation.name) (names_in (get s.rows.sources) s.rows.relations.items) (Contains-from_get (map (λ (r : Relation). r.name) (view_of of s).relations) p.0 can.relation.name at))
 
 -- the relation of the number has the name
 pub held_named : (s : State) (number : ℕ) (name : Identifier) → slice_get (names_of s.rows) number ≡ Some name → (h : HeldRelation) × (slice_get s.rows.relations.items number ≡ Some h) × (h.name ≡ name)
@@ -70,10 +73,10 @@ held_named s number name at = at_mapped (λ (h : HeldRelation). h.name) s.rows.r
 
 pub can_be_added_at : (of : KeptQuery) (s : State) (number : ℕ) (name : Identifier) (row : Row) → IsKeeper of s → CanBeAdded (view_of of s) name row → slice_get (names_of s.rows) number ≡ Some name → CanBeAddedAt of s number row
 can_be_added_at of s number name row keeper can at =
-    let p = place_of (view_of of s).relations can.relation can.is.listed in
+    let p = place_in (view_of of s).relations can.relation can.is.listed in
     let m = at_mapped (relation_of (get s.rows.sources)) s.rows.relations.items p.0 can.relation p.1 in
     let same : m.0.name ≡ name = ap (λ (r : Relation). r.name) m.2 ∙ can.is.named in
-    let here : p.0 ≡ number = one_place (names_of s.rows) p.0 number name keeper.keeping.distinct (mapped_at (λ (h : HeldRelation). h.name) s.rows.relations.items p.0 m.0 m.1 ∙ ap (λ n. Some n) same) at in
+    let here : p.0 ≡ number = one_place (names_of s.rows) p.0 number name keeper.keeping.distinct (mapped_get (λ (h : HeldRelation). h.name) s.rows.relations.items p.0 m.0 m.1 ∙ ap (λ n. Some n) same) at in
     record {
       held = m.0;
       at = ap (slice_get s.rows.relations.items) (sym here) ∙ m.1;

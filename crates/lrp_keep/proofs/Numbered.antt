@@ -21,8 +21,8 @@ use Rattle.lrp_keep.specs.Taken.{HasTakenSome}
 use Rattle.lrp_keep.specs.declared.kept_query.KeptQuery.{KeptQuery}
 use Rattle.lrp_keep.specs.declared.states.State.{State}
 use Rattle.lrp_keep.proofs.Answering.{alike}
-use Rattle.lrp_keep.proofs.Lists.{some_at, there_is}
 use Rattle.lrp_keep.proofs.Taken.{HoldsAmong}
+use Rattle.lrp_plan_laws.proofs.Elements.{found, within}
 
 -- ---- tuples and cells
 
@@ -56,7 +56,7 @@ numbered_by domain s valid each c i some lt = at (finite.get s.tables c) refl so
 module _ (of : KeptQuery) (s : State) (is : IsKeeping of s) (start : StoreView) (valid : IsStore start) (empty : start.tables ≡ finite.empty) (times_are : start.shape.times ≡ length (head_times of.query.now.head.columns)) (texts_are : start.shape.texts ≡ length (head_texts of.query.now.head.columns)) (period_is : start.period ≡ s.period.number) where
   held_numbered : (i : ℕ) (levels : Levels) → slice_get (levels_of s) i ≡ Some levels → (keys : List ℕ) (store : StoreView) → HoldsIn levels (length levels - 1) keys (Some store) → AreNumbered of.domain store
   held_numbered i levels there keys store held =
-      let d = some_at of.disjuncts.items i (let l : i < length (levels_of s) = there_is (levels_of s) i levels there in let n : length (levels_of s) ≡ length of.disjuncts.items = is.state.derived.count in omega (arith, l, n)) in
+      let d = found of.disjuncts.items i (let l : i < length (levels_of s) = within (levels_of s) i levels there in let n : length (levels_of s) ≡ length of.disjuncts.items = is.state.derived.count in omega (arith, l, n)) in
       let w = is.state.derived.each i d.0 levels d.1 there in
       let x = w.sound.each (length levels - 1) keys (Some store) held in
       let low : 0 < length d.0.atoms.items = (is.state.can i d.0 d.1).some in

@@ -1,14 +1,16 @@
 -- A database whose rows are held: the period, the limits, and what can be derived.
-use Rattle.std.proofs.Common.{◌≡◌, ◌<◌, ◌≤◌, ◌*◌, ◌^◌, ℕ, true, false, Bool, List, [], ◌∷◌, ◌++◌, length, map, flat_map, Contains, Option, Some, None, refl, sym, ap, subst, ◌∙◌, bytes_eq, map-id, arith}
+use Rattle.std.proofs.Common.{◌≡◌, ◌<◌, ◌≤◌, ◌^◌, ℕ, true, false, Bool, List, [], ◌∷◌, ◌++◌, length, map, flat_map, Contains, Option, Some, None, refl, sym, ap, subst, ◌∙◌, bytes_eq, map-id, arith}
 use Rattle.std.specs.Prelude.{◌==◌, ℤ, pos, ◌≤ℤ◌, nat_abs, reverse, slice_get, slice_index_or, if◌then◌else◌}
 use Rattle.std.specs.List.{AllByRecursion, list_any}
 use Rattle.std.proofs.lemmas.Int.{ints}
 use Rattle.slab.specs.Slab.{get}
-use Rattle.lrp_theory.specs.Divides.{Divides}
+use Rattle.lrp_theory.specs.Divides.{Divides, IsMultiple, IsCommon}
+use Rattle.lrp_theory.proofs.Modulo.{Divides-self}
+use Rattle.lrp_algebra.proofs.Compared.{one_divides}
 use Rattle.lrp_model.specs.Checked.{plain_question}
 use Rattle.lrp_model.specs.DatabaseMeaning.{column_of}
 use Rattle.lrp_model.specs.Formulas.{Form, Question, question_of}
-use Rattle.lrp_model.specs.Periods.{IsMultiple, period as period_of, periods, test_periods, IsCommon, row_periods}
+use Rattle.lrp_model.specs.Periods.{period as period_of, periods, test_periods, row_periods}
 use Rattle.lrp_model.specs.Rows.{relation_named}
 use Rattle.lrp_model.specs.TestPoints.{points}
 use Rattle.lrp_model.specs.Texts.{AreDistinct, Identifier, Text}
@@ -65,11 +67,18 @@ use Rattle.lrp_keep.proofs.Counted.{joined_count}
 use Rattle.lrp_keep.proofs.Deriving.{IsReadable, can_derive}
 use Rattle.lrp_keep.proofs.KeptParts.{conjunctive_of, literal_of, scaled_named}
 use Rattle.lrp_keep.proofs.LargeChoices.{large_choice, no_large_choice}
-use Rattle.lrp_keep.proofs.Lists.{any_at, equal_self, got, into_flat, length_mapped, mapped_at, place_of, same_images, some_at, some_same, there_is, zip_of}
+use Rattle.lrp_keep.proofs.Lists.{any_at, equal_self, same_images, zip_of}
 use Rattle.lrp_keep.proofs.LowRows.{most_at}
-use Rattle.lrp_keep.proofs.Readable.{can_be_read, low_periods, readable, to_divides}
+use Rattle.lrp_keep.proofs.Readable.{can_be_read, low_periods, readable}
 use Rattle.lrp_keep.proofs.Views.{rows_under}
 use Rattle.lrp_keep.proofs.WholeAtoms.{some_joined}
+use Rattle.lrp_holdings.proofs.Chained.{some_is}
+use Rattle.lrp_plan_laws.proofs.Elements.{found, within}
+use Rattle.lrp_store.proofs.Held.{Contains-from_get}
+use Rattle.lrp_tables.proofs.Joining.{place_in}
+use Rattle.lrp_theory.proofs.Members.{in_flat}
+use Rattle.lrp_model.proofs.Everywhere.{map_count}
+use Rattle.lrp_algebra.proofs.Steps.{abs_is, mapped_get}
 
 -- ---- names and columns
 
@@ -88,19 +97,13 @@ module _ (sources : ℕ → Option Source) where
     where
       by : (b : Bool) → (if b then Some x else relation_named db name) ≡ Some r → (relation_named db name ≡ Some r → (s : Relation) × (relation_named (relations_of sources rs) name ≡ Some s) × (s.columns ≡ r.columns)) → h.columns ≡ x.columns
           → (s : Relation) × ((if b then Some (relation_of sources h) else relation_named (relations_of sources rs) name) ≡ Some s) × (s.columns ≡ r.columns)
-      by true f rest k = (relation_of sources h, refl, k ∙ ap (λ (y : Relation). y.columns) (some_same x r f))
+      by true f rest k = (relation_of sources h, refl, k ∙ ap (λ (y : Relation). y.columns) (some_is x r f))
       by false f rest k = rest f
 
   have_columns : (db : List Relation) (rs : List HeldRelation) → map (λ (h : HeldRelation). h.name) rs ≡ map (λ (r : Relation). r.name) db → map (λ (h : HeldRelation). h.columns) rs ≡ map (λ (r : Relation). r.columns) db → HaveColumnsOf db (relations_of sources rs)
   have_columns db rs n c = record { each = λ name r e. found_too db rs name r n c e }
 
 -- ---- tests
-
-one_divides : (k : ℕ) → Divides (pos 1) (pos k)
-one_divides k = to_divides 1 k (record { times = k; is = omega arith })
-
-natural : (z : ℤ) → pos 1 ≤ℤ z → pos (nat_abs z) ≡ z
-natural z h = omega (arith, ints)
 
 module _ (of : KeptQuery) (db : List Relation) (start : HeldRows) (can : CanBeOpened of db start) where
   abbrev ds : List Disjunct
@@ -167,54 +170,51 @@ module _ (of : KeptQuery) (db : List Relation) (start : HeldRows) (can : CanBeOp
     high = least.period.high
 
     common : IsCommon all_periods p
-    common = (least.multiples p).0 (record { times = 1; is = by_one p })
-      where
-        by_one : (n : ℕ) → n ≡ n * 1
-        by_one n = omega arith
+    common = (least.multiples p).0 (Divides-self (pos p))
 
     multiple : (k : ℕ) → Contains all_periods k → IsMultiple k p
     multiple k c = all_of (λ k. IsMultiple k p) all_periods k common c
 
     test_fits : (d : Disjunct) (t : Test) → Contains ds d → Contains d.tests t → (pos 1 ≤ℤ test_period t) × Divides (test_period t) (pos p)
-    test_fits d (Compare l o r) listed c = ((omega (arith, ints)), one_divides p)
-    test_fits d (Equal l r) listed c = ((omega (arith, ints)), one_divides p)
+    test_fits d (Compare l o r) listed c = ((omega (arith, ints)), one_divides (pos p))
+    test_fits d (Equal l r) listed c = ((omega (arith, ints)), one_divides (pos p))
     test_fits d (Member term point) listed c =
         let z = zip_of (IsDisjunctOf names) (listed_disjuncts q) ds d can.disjuncts.each listed in
         let low : pos 1 ≤ℤ point.period = all_of (λ at. pos 1 ≤ℤ at.period) (points q.body) point can.can.points (tested_point q z.0 (Member term point) point z.1 (subst (λ l. Contains l (Member term point)) z.2.tests_are c) (contains_first point [])) in
-        let m : IsMultiple (nat_abs point.period) p = multiple (nat_abs point.period) (in_left (flat_map tested_periods ds) (read_periods ds db (length db)) (nat_abs point.period) (into_flat tested_periods ds d (nat_abs point.period) listed (into_flat test_periods d.tests (Member term point) (nat_abs point.period) c (contains_first (nat_abs point.period) [])))) in
-        (low, subst (λ z. Divides z (pos p)) (natural point.period low) (to_divides (nat_abs point.period) p m))
+        let m : IsMultiple (nat_abs point.period) p = multiple (nat_abs point.period) (in_left (flat_map tested_periods ds) (read_periods ds db (length db)) (nat_abs point.period) (in_flat tested_periods ds d (nat_abs point.period) listed (in_flat test_periods d.tests (Member term point) (nat_abs point.period) c (contains_first (nat_abs point.period) [])))) in
+        (low, subst (λ z. Divides z (pos p)) (abs_is point.period low) m)
 
     -- the periods of the rows of a relation that is read
     row_multiples : (i : ℕ) (r : Relation) (row : Row) → slice_get db i ≡ Some r → Contains r.rows row → list_any (is_reader i) ds ≡ true → AllByRecursion (λ k. IsMultiple k p) (row_periods row)
     row_multiples i r row at c read = all_by (λ k. IsMultiple k p) (row_periods row) (λ k d. multiple k (in_right (flat_map tested_periods ds) (read_periods ds db (length db)) k
-        (read_in ds db (length db) i k (there_is db i r at) (subst (λ o. Contains (periods_at ds i o) k) (sym at) (subst (λ b. Contains (if b then flat_map row_periods r.rows else []) k) (sym read) (into_flat row_periods r.rows row k c d))))))
+        (read_in ds db (length db) i k (within db i r at) (subst (λ o. Contains (periods_at ds i o) k) (sym at) (subst (λ b. Contains (if b then flat_map row_periods r.rows else []) k) (sym read) (in_flat row_periods r.rows row k c d))))))
 
     -- ---- the greatest bounds
 
     module _ (marked : HeldRows) (marks : AreMarkedBy db (length db) start marked) where
       counts : length start.relations.items ≡ length db
-      counts = sym (length_mapped (λ (r : HeldRelation). r.name) start.relations.items) ∙ ap length can.empty.names ∙ length_mapped (λ (r : Relation). r.name) db
+      counts = sym (map_count (λ (r : HeldRelation). r.name) start.relations.items) ∙ ap length can.empty.names ∙ map_count (λ (r : Relation). r.name) db
 
       -- the relation at a place
       pub marked_at : (i : ℕ) (h : HeldRelation) → slice_get marked.relations.items i ≡ Some h → (s : HeldRelation) × (r : Relation) × (slice_get start.relations.items i ≡ Some s) × (slice_get db i ≡ Some r) × (h ≡ record s { most = relation_bound r })
       marked_at i h e =
-          let l : i < length marked.relations.items = there_is marked.relations.items i h e in
+          let l : i < length marked.relations.items = within marked.relations.items i h e in
           let n : length marked.relations.items ≡ length start.relations.items = marks.count in
           let m = counts in
-          let s = some_at start.relations.items i (omega (arith, l, n)) in
-          let r = some_at db i (omega (arith, l, n, m)) in
-          (s.0, r.0, s.1, r.1, some_same h (record s.0 { most = relation_bound r.0 }) (sym e ∙ marks.at i s.0 r.0 (omega (arith, l, n, m)) s.1 r.1))
+          let s = found start.relations.items i (omega (arith, l, n)) in
+          let r = found db i (omega (arith, l, n, m)) in
+          (s.0, r.0, s.1, r.1, some_is h (record s.0 { most = relation_bound r.0 }) (sym e ∙ marks.at i s.0 r.0 (omega (arith, l, n, m)) s.1 r.1))
 
       named_at : (i : ℕ) (s : HeldRelation) (r : Relation) → slice_get start.relations.items i ≡ Some s → slice_get db i ≡ Some r → (s.name ≡ r.name) × (s.columns ≡ r.columns)
       named_at i s r e f = (
-        some_same s.name r.name (sym (mapped_at (λ (h : HeldRelation). h.name) start.relations.items i s e) ∙ ap (λ l. slice_get l i) can.empty.names ∙ mapped_at (λ (r : Relation). r.name) db i r f),
-        some_same s.columns r.columns (sym (mapped_at (λ (h : HeldRelation). h.columns) start.relations.items i s e) ∙ ap (λ l. slice_get l i) can.empty.columns ∙ mapped_at (λ (r : Relation). r.columns) db i r f),
+        some_is s.name r.name (sym (mapped_get (λ (h : HeldRelation). h.name) start.relations.items i s e) ∙ ap (λ l. slice_get l i) can.empty.names ∙ mapped_get (λ (r : Relation). r.name) db i r f),
+        some_is s.columns r.columns (sym (mapped_get (λ (h : HeldRelation). h.columns) start.relations.items i s e) ∙ ap (λ l. slice_get l i) can.empty.columns ∙ mapped_get (λ (r : Relation). r.columns) db i r f),
       )
 
       images : {X : Type 0} (f : HeldRelation → X) (g : Relation → X) → ((s : HeldRelation) (r : Relation) → s.name ≡ r.name → s.columns ≡ r.columns → f (record s { most = relation_bound r }) ≡ g r) → map f marked.relations.items ≡ map g db
       images f g go = same_images g f db marked.relations.items (marks.count ∙ counts) (λ i r h e m.
           let x = marked_at i h m in
-          let same : x.1 ≡ r = some_same x.1 r (sym x.3 ∙ e) in
+          let same : x.1 ≡ r = some_is x.1 r (sym x.3 ∙ e) in
           let n = named_at i x.0 x.1 x.2 x.3 in
           ap f x.4 ∙ go x.0 x.1 n.0 n.1 ∙ ap g same)
 
@@ -285,17 +285,17 @@ module _ (of : KeptQuery) (db : List Relation) (start : HeldRows) (can : CanBeOp
         reads_own d a listed own = any_at (is_reader a.relation) ds d listed (any_at (λ (j : JoinedAtom). j.relation == a.relation) d.atoms.items a own (equal_self a.relation))
 
         fits_at : (i : ℕ) (r : Relation) → slice_get db i ≡ Some r → AllByRecursion (CanBeHeld of.domain r.columns) r.rows
-        fits_at i r at = all_of (λ (r : Relation). AllByRecursion (CanBeHeld of.domain r.columns) r.rows) db r can.can.rows (got db i r at)
+        fits_at i r at = all_of (λ (r : Relation). AllByRecursion (CanBeHeld of.domain r.columns) r.rows) db r can.can.rows (Contains-from_get db i r at)
 
         -- each row can be sketched
         pub can_sketch_all : (i : ℕ) (r : Relation) → slice_get db i ≡ Some r → AllByRecursion (CanBeSketched ds i) r.rows
         can_sketch_all i r at = all_by (CanBeSketched ds i) r.rows (λ row c d a listed own e.
             let z = zip_of (IsDisjunctOf names) (listed_disjuncts q) ds d can.disjuncts.each listed in
-            let place = place_of d.atoms.items a own in
+            let place = place_in d.atoms.items a own in
             let j = can_be_joined names z.0 d z.2 (literal z.0 z.1) place.0 a place.1 (ground_at of marked p) (narrow z.0 z.1) (λ t k. test_fits d t listed k) in
-            let h = some_at marked.relations.items i (let l : i < length db = there_is db i r at in let n = size_marked in omega (arith, l, n)) in
+            let h = found marked.relations.items i (let l : i < length db = within db i r at in let n = size_marked in omega (arith, l, n)) in
             let x = marked_at i h.0 h.1 in
-            let same : x.1 ≡ r = some_same x.1 r (sym x.3 ∙ at) in
+            let same : x.1 ≡ r = some_is x.1 r (sym x.3 ∙ at) in
             let n = named_at i x.0 x.1 x.2 x.3 in
             let columns : h.0.columns ≡ r.columns = ap (λ (y : HeldRelation). y.columns) x.4 ∙ n.1 ∙ ap (λ (y : Relation). y.columns) same in
             let most : h.0.most ≡ relation_bound r = ap (λ (y : HeldRelation). y.most) x.4 ∙ ap relation_bound same in
@@ -316,13 +316,13 @@ module _ (of : KeptQuery) (db : List Relation) (start : HeldRows) (can : CanBeOp
         module _ (filled : HeldRows) (all : AreAllHeld of db (length db) marked filled) where
           filled_at : (i : ℕ) (s : HeldRelation) → slice_get filled.relations.items i ≡ Some s → (h : HeldRelation) × (r : Relation) × (slice_get marked.relations.items i ≡ Some h) × (slice_get db i ≡ Some r) × IsFilled (get filled.sources) r.rows h s
           filled_at i s e =
-              let l : i < length filled.relations.items = there_is filled.relations.items i s e in
+              let l : i < length filled.relations.items = within filled.relations.items i s e in
               let n : length filled.relations.items ≡ length marked.relations.items = all.count in
               let m : length marked.relations.items ≡ length db = size_marked in
-              let h = some_at marked.relations.items i (omega (arith, l, n)) in
-              let r = some_at db i (omega (arith, l, n, m)) in
+              let h = found marked.relations.items i (omega (arith, l, n)) in
+              let r = found db i (omega (arith, l, n, m)) in
               let x = all.at i h.0 r.0 (omega (arith, l, n, m)) h.1 r.1 in
-              (h.0, r.0, h.1, r.1, subst (λ t. IsFilled (get filled.sources) r.0.rows h.0 t) (some_same x.0 s (sym x.1 ∙ e)) x.2)
+              (h.0, r.0, h.1, r.1, subst (λ t. IsFilled (get filled.sources) r.0.rows h.0 t) (some_is x.0 s (sym x.1 ∙ e)) x.2)
 
           abbrev relation_as : Identifier → List Column → List Row → Relation
           relation_as name columns rows = record { name = name; columns = columns; rows = rows }
@@ -335,18 +335,18 @@ module _ (of : KeptQuery) (db : List Relation) (start : HeldRows) (can : CanBeOp
               let x = filled_at i s f in
               let y = marked_at i x.0 x.2 in
               let n = named_at i y.0 y.1 y.2 y.3 in
-              let same : x.1 ≡ r = some_same x.1 r (sym x.3 ∙ e) in
-              let again : y.1 ≡ r = some_same y.1 r (sym y.3 ∙ e) in
+              let same : x.1 ≡ r = some_is x.1 r (sym x.3 ∙ e) in
+              let again : y.1 ≡ r = some_is y.1 r (sym y.3 ∙ e) in
               as_relation s.name r.name s.columns r.columns (rows_under (get filled.sources) s.keys.items) r.rows
               (x.4.name ∙ ap (λ (t : HeldRelation). t.name) y.4 ∙ n.0 ∙ ap (λ (t : Relation). t.name) again)
               (x.4.columns ∙ ap (λ (t : HeldRelation). t.columns) y.4 ∙ n.1 ∙ ap (λ (t : Relation). t.columns) again)
               (x.4.under ∙ ap (λ (t : Relation). t.rows) same)) ∙ map-id db
 
           pub bounds_filled : bounds_of filled.relations.items ≡ bounds_of marked.relations.items
-          bounds_filled = same_images (λ (h : HeldRelation). h.most) (λ (h : HeldRelation). h.most) marked.relations.items filled.relations.items all.count (λ i h s e f. let x = filled_at i s f in x.4.most ∙ ap (λ (t : HeldRelation). t.most) (some_same x.0 h (sym x.2 ∙ e)))
+          bounds_filled = same_images (λ (h : HeldRelation). h.most) (λ (h : HeldRelation). h.most) marked.relations.items filled.relations.items all.count (λ i h s e f. let x = filled_at i s f in x.4.most ∙ ap (λ (t : HeldRelation). t.most) (some_is x.0 h (sym x.2 ∙ e)))
 
           names_filled : names_of filled ≡ names
-          names_filled = same_images (λ (h : HeldRelation). h.name) (λ (h : HeldRelation). h.name) marked.relations.items filled.relations.items all.count (λ i h s e f. let x = filled_at i s f in x.4.name ∙ ap (λ (t : HeldRelation). t.name) (some_same x.0 h (sym x.2 ∙ e))) ∙ same_names
+          names_filled = same_images (λ (h : HeldRelation). h.name) (λ (h : HeldRelation). h.name) marked.relations.items filled.relations.items all.count (λ i h s e f. let x = filled_at i s f in x.4.name ∙ ap (λ (t : HeldRelation). t.name) (some_is x.0 h (sym x.2 ∙ e))) ∙ same_names
 
           disjuncts_filled : AreDisjunctsOf (names_of filled) q ds
           disjuncts_filled = subst (λ l. AreDisjunctsOf l q ds) (sym names_filled) can.disjuncts
@@ -359,7 +359,7 @@ module _ (of : KeptQuery) (db : List Relation) (start : HeldRows) (can : CanBeOp
           row_in i key s source e c held =
               let x = filled_at i s e in
               let y = marked_at i x.0 x.2 in
-              let same : y.1 ≡ x.1 = some_same y.1 x.1 (sym y.3 ∙ x.3) in
+              let same : y.1 ≡ x.1 = some_is y.1 x.1 (sym y.3 ∙ x.3) in
               let n = named_at i y.0 y.1 y.2 y.3 in
               (x.1, x.3, subst (λ l. Contains l source.row) x.4.under (row_of_key (get filled.sources) s.keys.items key source c held), x.4.most ∙ ap (λ (t : HeldRelation). t.most) y.4 ∙ ap relation_bound same, x.4.columns ∙ ap (λ (t : HeldRelation). t.columns) y.4 ∙ n.1 ∙ ap (λ (t : Relation). t.columns) same)
 
@@ -371,11 +371,11 @@ module _ (of : KeptQuery) (db : List Relation) (start : HeldRows) (can : CanBeOp
 
           pub can_opened : CanDeriveEach (ground_at of filled p) ds
           can_opened i d at =
-              let listed : Contains ds d = got ds i d at in
+              let listed : Contains ds d = Contains-from_get ds i d at in
               let z = zip_of (IsDisjunctOf (names_of filled)) (listed_disjuncts q) ds d disjuncts_filled.each listed in
               let inside : Contains (listed_disjuncts (plain_question can.can.query.raw)) z.0 = subst (λ p. Contains (listed_disjuncts p) z.0) can.can.query.is z.1 in
               can_derive (names_of filled) z.0 d z.2 (conjunctive_of q can.can.kept z.0 z.1) (literal z.0 z.1) (ground_at of filled p) (bounds_of filled.relations.items) ds listed high_filled
-              (omega (arith, positive)) (let n : length (names_of filled) ≡ length filled.relations.items = length_mapped (λ (h : HeldRelation). h.name) filled.relations.items in omega (arith, n)) (narrow z.0 z.1) (λ t k. test_fits d t listed k)
+              (omega (arith, positive)) (let n : length (names_of filled) ≡ length filled.relations.items = map_count (λ (h : HeldRelation). h.name) filled.relations.items in omega (arith, n)) (narrow z.0 z.1) (λ t k. test_fits d t listed k)
               (record {
                 own = subst (λ (p : Question). HaveDistinctNames p.head) (sym can.can.query.is) (head_named db can.can.query.raw can.can.query.sorted);
                 few_times = subst (λ (p : Question). length (head_times p.head) ≤ 8) (sym can.can.query.is) (few_head_times db can.can.query.raw can.can.query.sorted);
@@ -386,14 +386,14 @@ module _ (of : KeptQuery) (db : List Relation) (start : HeldRows) (can : CanBeOp
             where
               readable_in : (d : Disjunct) → Contains ds d → (j : ℕ) (a : JoinedAtom) (key : ℕ) → slice_get d.atoms.items j ≡ Some a → Contains (keys_of filled a.relation) key → IsReadable (ground_at of filled p) (bounds_of filled.relations.items) d j a key
               readable_in d listed j a key e c =
-                  let own : Contains d.atoms.items a = got d.atoms.items j a e in
+                  let own : Contains d.atoms.items a = Contains-from_get d.atoms.items j a e in
                   let x = all.sketched a.relation key c in
                   by (slice_get filled.relations.items a.relation) refl
                 where
                   by : (o : Option HeldRelation) → slice_get filled.relations.items a.relation ≡ o → IsReadable (ground_at of filled p) (bounds_of filled.relations.items) d j a key
                   by None none = absurd (let d : Contains [] key = subst (λ o. Contains (keys_in o) key) none c in let l : d.0 < 0 = d.1 in omega (arith, l))
                   by (Some s) at =
-                      let own : Contains d.atoms.items a = got d.atoms.items j a e in
+                      let own : Contains d.atoms.items a = Contains-from_get d.atoms.items j a e in
                       let x = all.sketched a.relation key c in
                       let r = row_in a.relation key s x.source at (subst (λ o. Contains (keys_in o) key) at c) x.is in
                       let f = filled_at a.relation s at in

@@ -1,11 +1,14 @@
 -- The number beside a relation is raised, or put back: the keeper's rows and what is derived stay.
-use Rattle.std.proofs.Common.{◌≡◌, ◌<◌, ◌≤◌, ◌*◌, ◌^◌, ℕ, max, Vec, Global, Bool, true, false, List, [], ◌∷◌, length, map, Contains, Option, Some, inl, inr, refl, sym, ap, subst, ◌∙◌, bytes_eq, arith}
+use Rattle.std.proofs.Common.{◌≡◌, ◌<◌, ◌≤◌, ◌^◌, ℕ, max, Vec, Global, Bool, true, false, List, [], ◌∷◌, length, map, Contains, Option, Some, inl, inr, refl, sym, ap, subst, ◌∙◌, bytes_eq, arith, pos}
 use Rattle.std.specs.Prelude.{if◌then◌else◌, slice_get}
 use Rattle.std.specs.List.{AllByRecursion, list_any}
 use Rattle.slab.specs.Slab.{get}
 use Rattle.lrp_model.specs.Domains.{constants}
 use Rattle.lrp_model.specs.Formulas.{question_of}
-use Rattle.lrp_model.specs.Periods.{IsMultiple, lcm, lcm_all, row_periods}
+use Rattle.lrp_theory.specs.Divides.{IsMultiple}
+use Rattle.lrp_theory.proofs.Modulo.{Divides-self}
+use Rattle.lrp_theory.proofs.Multiples.{Divides-trans}
+use Rattle.lrp_model.specs.Periods.{lcm, lcm_all, row_periods}
 use Rattle.lrp_model.specs.Texts.{AreDistinct, Identifier}
 use Rattle.lrp_model.specs.declared.relations.Column.{Column}
 use Rattle.lrp_model.specs.declared.relations.Relation.{Relation}
@@ -36,9 +39,11 @@ use Rattle.lrp_keep.specs.declared.states.State.{State}
 use Rattle.lrp_keep.proofs.Alike.{AreAlike, AreAsHeld, as_held_then, marked_alike, marked_as_held, same_alike, same_as_held}
 use Rattle.lrp_keep.proofs.Carried.{same_can, same_derived, same_held_rows}
 use Rattle.lrp_keep.proofs.Cored.{reads}
-use Rattle.lrp_keep.proofs.Lists.{at_mapped, mapped_at, one_place, same_images, some_at, some_same, there_is}
-use Rattle.lrp_keep.proofs.Readable.{multiple_then}
+use Rattle.lrp_keep.proofs.Lists.{at_mapped, one_place, same_images}
 use Rattle.lrp_keep.proofs.Views.{rows_same, rows_under}
+use Rattle.lrp_holdings.proofs.Chained.{some_is}
+use Rattle.lrp_plan_laws.proofs.Elements.{found, within}
+use Rattle.lrp_algebra.proofs.Steps.{mapped_get}
 
 -- the same relation, with another number maybe
 pub record IsSameBut (old new : HeldRelation) : Type 0 where
@@ -65,9 +70,9 @@ module _ (old new : HeldRows) (held : AreAsHeld old new) (alike : AreAlike IsSam
   -- the rows are low, where no number has become less than its rows' bounds
   pub low_still : AreLowRows old → ((i : ℕ) (h s : HeldRelation) → slice_get old.relations.items i ≡ Some h → slice_get new.relations.items i ≡ Some s → h.most ≤ s.most) → AreLowRows new
   low_still low more i key s source at c e =
-      let l : i < length new.relations.items = there_is new.relations.items i s at in
+      let l : i < length new.relations.items = within new.relations.items i s at in
       let n : length new.relations.items ≡ length old.relations.items = alike.count in
-      let h = some_at old.relations.items i (omega (arith, l, n)) in
+      let h = found old.relations.items i (omega (arith, l, n)) in
       let a = alike.each i h.0 s h.1 at in
       let x : row_bound source.row ≤ h.0.most = low i key h.0 source h.1 (subst (λ l. Contains l key) a.keys c) (sym (held.sources key) ∙ e) in
       let y : h.0.most ≤ s.most = more i h.0 s h.1 at in
@@ -125,7 +130,7 @@ module _ (of : KeptQuery) (old : State) (keeper : IsKeeper of old) (relation : �
   -- the old number is no greater
   risen : AreAlike (λ h s. h.most ≤ s.most) old.rows.relations.items new.rows.relations.items
   risen = marked_alike (λ h s. h.most ≤ s.most) relation most old.rows new.rows marked (λ h. omega arith) (λ h at.
-      let e : h ≡ fits.held = some_same h fits.held (sym at ∙ fits.at) in
+      let e : h ≡ fits.held = some_is h fits.held (sym at ∙ fits.at) in
       let m : h.most ≡ fits.held.most = ap (λ (x : HeldRelation). x.most) e in
       let n : most ≡ max (row_bound row) fits.held.most = most_is in
       omega (arith, m, n))
@@ -147,7 +152,7 @@ module _ (of : KeptQuery) (old : State) (keeper : IsKeeper of old) (relation : �
   names_new = same_names old.rows new.rows held alike
 
   named : (name : Identifier) → slice_get (names_of old.rows) relation ≡ Some name → fits.held.name ≡ name
-  named name e = let m = at_mapped (λ (r : HeldRelation). r.name) old.rows.relations.items relation name e in ap (λ (r : HeldRelation). r.name) (some_same fits.held m.0 (sym fits.at ∙ m.1)) ∙ m.2
+  named name e = let m = at_mapped (λ (r : HeldRelation). r.name) old.rows.relations.items relation name e in ap (λ (r : HeldRelation). r.name) (some_is fits.held m.0 (sym fits.at ∙ m.1)) ∙ m.2
 
   bounds_raised : (name : Identifier) → slice_get (names_of old.rows) relation ≡ Some name → bounds_of new.rows.relations.items ≡ raised_at name (row_bound row) (view_of of old).relations (bounds_of old.rows.relations.items)
   bounds_raised name e =
@@ -157,12 +162,12 @@ module _ (of : KeptQuery) (old : State) (keeper : IsKeeper of old) (relation : �
       one : (i : ℕ) (h s : HeldRelation) → slice_get old.rows.relations.items i ≡ Some h → slice_get new.rows.relations.items i ≡ Some s → s.most ≡ (if bytes_eq h.name name then max h.most (row_bound row) else h.most)
       one i h s x y = elim (eq_or i relation) [
         | inl same ↦
-            let here : h ≡ fits.held = some_same h fits.held (sym x ∙ ap (slice_get old.rows.relations.items) same ∙ fits.at) in
-            let there : s ≡ record fits.held { most = most } = some_same s (record fits.held { most = most }) (sym y ∙ ap (slice_get new.rows.relations.items) same ∙ marked.at fits.held fits.at) in
+            let here : h ≡ fits.held = some_is h fits.held (sym x ∙ ap (slice_get old.rows.relations.items) same ∙ fits.at) in
+            let there : s ≡ record fits.held { most = most } = some_is s (record fits.held { most = most }) (sym y ∙ ap (slice_get new.rows.relations.items) same ∙ marked.at fits.held fits.at) in
             by (bytes_eq h.name name) (ap (λ (r : HeldRelation). bytes_eq r.name name) here ∙ ap (λ n. bytes_eq n name) (named name e) ∙ own_name name) (ap (λ (r : HeldRelation). r.most) there ∙ most_is ∙ swapped (row_bound row) fits.held.most ∙ ap (λ (r : HeldRelation). max r.most (row_bound row)) (sym here))
         | inr other ↦
-            let there : s ≡ h = some_same s h (sym y ∙ marked.rest i other ∙ x) in
-            not_by (bytes_eq h.name name) (other_name h.name name (λ same. other (one_place (names_of old.rows) i relation name keeper.keeping.distinct (mapped_at (λ (r : HeldRelation). r.name) old.rows.relations.items i h x ∙ ap (λ n. Some n) (sym same)) e))) (ap (λ (r : HeldRelation). r.most) there)
+            let there : s ≡ h = some_is s h (sym y ∙ marked.rest i other ∙ x) in
+            not_by (bytes_eq h.name name) (other_name h.name name (λ same. other (one_place (names_of old.rows) i relation name keeper.keeping.distinct (mapped_get (λ (r : HeldRelation). r.name) old.rows.relations.items i h x ∙ ap (λ n. Some n) (sym same)) e))) (ap (λ (r : HeldRelation). r.most) there)
       ]
         where
           by : (b : Bool) → b ≡ true → s.most ≡ max h.most (row_bound row) → s.most ≡ (if b then max h.most (row_bound row) else h.most)
@@ -198,12 +203,9 @@ module _ (of : KeptQuery) (old : State) (keeper : IsKeeper of old) (relation : �
         let all : ℕ = lcm_all (row_periods row) in
         let both = lcm_common all old.period.number (lcm_positive (row_periods row) low_row) in (
           subst (λ n. IsMultiple old.period.number n) (sym e) both.1,
-          λ t. all_by (λ k. IsMultiple k period) (row_periods row) (λ k c. subst (λ n. IsMultiple k n) (sym e) (multiple_then k all (lcm all old.period.number) (all_of (λ k. IsMultiple k all) (row_periods row) k (lcm_all_is (row_periods row) low_row).common c) both.0)),
+          λ t. all_by (λ k. IsMultiple k period) (row_periods row) (λ k c. subst (λ n. IsMultiple k n) (sym e) (Divides-trans (pos k) (pos all) (pos (lcm all old.period.number)) (all_of (λ k. IsMultiple k all) (row_periods row) k (lcm_all_is (row_periods row) low_row).common c) both.0)),
         )
-    grown false e = (subst (λ n. IsMultiple old.period.number n) (sym e) (record { times = 1; is = by_one old.period.number }), λ t. cc)
-      where
-        by_one : (n : ℕ) → n ≡ n * 1
-        by_one n = omega arith
+    grown false e = (subst (λ n. IsMultiple old.period.number n) (sym e) (Divides-self (pos old.period.number)), λ t. cc)
 
     pub can_be_held : CanBeHeldIn of new relation row period
     can_be_held =
@@ -231,17 +233,17 @@ module _ (of : KeptQuery) (old : State) (keeper : IsKeeper of old) (relation : �
       alike_back = record {
         count = unmarked.count ∙ same.rows.listed.count ∙ marked.count;
         each = λ i h s x y.
-            let l : i < length old.rows.relations.items = there_is old.rows.relations.items i h x in
+            let l : i < length old.rows.relations.items = within old.rows.relations.items i h x in
             let m : length new.rows.relations.items ≡ length old.rows.relations.items = marked.count in
             let n : length still.rows.relations.items ≡ length new.rows.relations.items = same.rows.listed.count in
-            let b = some_at new.rows.relations.items i (omega (arith, l, m)) in
-            let c = some_at still.rows.relations.items i (omega (arith, l, m, n)) in
+            let b = found new.rows.relations.items i (omega (arith, l, m)) in
+            let c = found still.rows.relations.items i (omega (arith, l, m, n)) in
             let up = alike.each i h b.0 x b.1 in
             let flat = (same_alike (λ h s. IsSameBut h s × (s.most ≡ h.most)) new.rows still.rows same.rows (λ h s p q r t. (record { name = p; columns = q; keys = t }, r))).each i b.0 c.0 b.1 c.1 in
             elim (eq_or i relation) [
               | inl e ↦
-                  let there : s ≡ record c.0 { most = fits.held.most } = some_same s (record c.0 { most = fits.held.most }) (sym y ∙ ap (slice_get back.rows.relations.items) e ∙ unmarked.at c.0 (ap (slice_get still.rows.relations.items) (sym e) ∙ c.1)) in
-                  let here : h ≡ fits.held = some_same h fits.held (sym x ∙ ap (slice_get old.rows.relations.items) e ∙ fits.at) in (
+                  let there : s ≡ record c.0 { most = fits.held.most } = some_is s (record c.0 { most = fits.held.most }) (sym y ∙ ap (slice_get back.rows.relations.items) e ∙ unmarked.at c.0 (ap (slice_get still.rows.relations.items) (sym e) ∙ c.1)) in
+                  let here : h ≡ fits.held = some_is h fits.held (sym x ∙ ap (slice_get old.rows.relations.items) e ∙ fits.at) in (
                     record {
                       name = ap (λ (r : HeldRelation). r.name) there ∙ flat.0.name ∙ up.name;
                       columns = ap (λ (r : HeldRelation). r.columns) there ∙ flat.0.columns ∙ up.columns;
@@ -250,8 +252,8 @@ module _ (of : KeptQuery) (old : State) (keeper : IsKeeper of old) (relation : �
                     ap (λ (r : HeldRelation). r.most) there ∙ ap (λ (r : HeldRelation). r.most) (sym here),
                   )
               | inr d ↦
-                  let there : s ≡ c.0 = some_same s c.0 (sym y ∙ unmarked.rest i d ∙ c.1) in
-                  let here : b.0 ≡ h = some_same b.0 h (sym b.1 ∙ marked.rest i d ∙ x) in (
+                  let there : s ≡ c.0 = some_is s c.0 (sym y ∙ unmarked.rest i d ∙ c.1) in
+                  let here : b.0 ≡ h = some_is b.0 h (sym b.1 ∙ marked.rest i d ∙ x) in (
                     record {
                       name = ap (λ (r : HeldRelation). r.name) there ∙ flat.0.name ∙ up.name;
                       columns = ap (λ (r : HeldRelation). r.columns) there ∙ flat.0.columns ∙ up.columns;

@@ -7,7 +7,7 @@ use Rattle.slab.specs.Slab.{get}
 use Rattle.lrp_model.specs.Reach.{greatest, test_reach}
 use Rattle.lrp_model.specs.Sorts.{time_count}
 use Rattle.lrp_model.proofs.Decided.{contains_first, contains_later}
-use Rattle.lrp_store.specs.Stores.{HasReach, StoreView}
+use Rattle.lrp_store.specs.Stores.{HasReach}
 use Rattle.lrp_tables.specs.Calls.{tests_reach}
 use Rattle.lrp_algebra.specs.Rows.{bounds_reach}
 use Rattle.lrp_limits.proofs.Greatest.{greatest-append}
@@ -19,6 +19,7 @@ use Rattle.lrp_kept.specs.declared.disjuncts.Disjunct.{Disjunct}
 use Rattle.lrp_kept.specs.declared.disjuncts.JoinedAtom.{JoinedAtom}
 use Rattle.lrp_kept.specs.declared.rows.Source.{Source}
 use Rattle.lrp_kept.proofs.Room.{below_greatest, room}
+use Rattle.lrp_algebra.proofs.Steps.{farther}
 
 -- no row of the atom has a bound above its relation's
 abbrev pub HaveLowRows : Ground → List ℕ → List JoinedAtom → Type 0
@@ -31,9 +32,6 @@ rows_within g high (a ∷ atoms) [] k each = tt
 rows_within g high [] (key ∷ keys) k each = absurd k
 rows_within g high (a ∷ atoms) (key ∷ keys) k each =
     ((λ s e. each a key s (contains_first a atoms) k.0 e), rows_within g high atoms keys k.1 (λ b other s c l e. each b other s (contains_later a b atoms c) l e))
-
-more_reach : (s : StoreView) (low high : ℕ) → low ≤ high → HasReach s low → HasReach s high
-more_reach s low high le h = record { each = λ cell table c. let l = h.each cell table c in omega (arith, le, l) }
 
 module _ (g : Ground) (bounds : List ℕ) (ds : List Disjunct) (d : Disjunct) (listed : Contains ds d) (some : 0 < length d.atoms.items) (rows : HaveLowRows g bounds d.atoms.items) where
   abbrev P : ℕ
@@ -88,4 +86,4 @@ module _ (g : Ground) (bounds : List ℕ) (ds : List Disjunct) (d : Disjunct) (l
       let t : time_count d.bound ≤ T = below_greatest (λ (e : Disjunct). time_count e.bound) ds d listed in
       let l : 2 ^ time_count d.bound * high ≤ high * 2 ^ T = room (time_count d.bound) T high high t (omega arith) in
       let r : HasReach found.0 (2 ^ time_count d.bound * high) = found.2.reach high (record { rows = rows_within g high d.atoms.items keys one.1.rows low_row; tests = low_tests }) in
-      more_reach s (2 ^ time_count d.bound * high) (reach_over bounds P ds) l (subst (λ x. HasReach x (2 ^ time_count d.bound * high)) (sym (same_Some s found.0 found.1)) r)
+      farther s (2 ^ time_count d.bound * high) (reach_over bounds P ds) l (subst (λ x. HasReach x (2 ^ time_count d.bound * high)) (sym (same_Some s found.0 found.1)) r)

@@ -1,12 +1,12 @@
 -- A row that can be held can be read by each atom of its relation, within the limits.
-use Rattle.std.proofs.Common.{◌≡◌, ◌≤◌, ◌+◌, ◌*◌, ◌^◌, ℕ, zero, suc, List, [], ◌∷◌, length, flat_map, Contains, Some, refl, sym, ap, subst, ◌∙◌, arith}
+use Rattle.std.proofs.Common.{◌≡◌, ◌≤◌, ◌+◌, ◌^◌, ℕ, suc, List, [], ◌∷◌, length, flat_map, Contains, Some, refl, sym, ap, subst, ◌∙◌, arith}
 use Rattle.std.specs.Prelude.{ℤ, pos, ◌≤ℤ◌, nat_abs, slice_get}
 use Rattle.std.specs.List.{AllByRecursion, AllZip}
 use Rattle.std.proofs.lemmas.Int.{ints}
 use Rattle.slab.specs.Slab.{get}
-use Rattle.lrp_theory.specs.Divides.{Divides}
-use Rattle.lrp_theory.proofs.Multiples.{Divides-trans}
-use Rattle.lrp_model.specs.Periods.{IsMultiple, value_periods, row_periods}
+use Rattle.lrp_theory.specs.Divides.{Divides, IsMultiple}
+use Rattle.lrp_theory.proofs.Multiples.{Divides-trans, multiple_le}
+use Rattle.lrp_model.specs.Periods.{value_periods, row_periods}
 use Rattle.lrp_model.specs.Texts.{Identifier, Text}
 use Rattle.lrp_model.specs.declared.formulas.Term.{Term}
 use Rattle.lrp_model.specs.declared.formulas.Test.{Test}
@@ -29,42 +29,22 @@ use Rattle.lrp_keep.specs.Keeps.{CanBeHeld, CanStandAlone}
 use Rattle.lrp_kept.specs.Sketches.{AreSketchesOf, IsSketchAmong}
 use Rattle.lrp_keep.proofs.Deriving.{IsReadable}
 use Rattle.lrp_keep.proofs.LowRows.{low_rows}
-use Rattle.lrp_keep.proofs.Lists.{got, place_of, some_same}
+use Rattle.lrp_holdings.proofs.Chained.{some_is}
+use Rattle.lrp_store.proofs.Held.{Contains-from_get}
+use Rattle.lrp_tables.proofs.Joining.{place_in}
+use Rattle.lrp_algebra.proofs.Steps.{abs_is}
 
 -- ---- periods
 
-natural : (z : ℤ) → pos 1 ≤ℤ z → pos (nat_abs z) ≡ z
-natural z h = omega (arith, ints)
-
 at_most : (z : ℤ) (n : ℕ) → nat_abs z ≤ n → z ≤ℤ pos n
 at_most z n h = omega (arith, ints, h)
-
-pub to_divides : (k n : ℕ) → IsMultiple k n → Divides (pos k) (pos n)
-to_divides k n h = record { times = pos h.times; is = ap pos h.is }
-
-pub least_multiple : (k n : ℕ) → 1 ≤ n → IsMultiple k n → 1 ≤ k
-least_multiple zero n low m = let e : n ≡ 0 * m.times = m.is in omega (arith, low, e)
-least_multiple (suc k) n low m = omega arith
-
-pub at_most_multiple : (k n : ℕ) → 1 ≤ n → IsMultiple k n → k ≤ n
-at_most_multiple k n low m = by m.times m.is
-  where
-    by : (t : ℕ) → n ≡ k * t → k ≤ n
-    by zero e = omega (arith, low, e)
-    by (suc t) e = omega (arith, e)
-
-pub multiple_then : (k l n : ℕ) → IsMultiple k l → IsMultiple l n → IsMultiple k n
-multiple_then k l n a b = record { times = a.times * b.times; is = b.is ∙ ap (λ x. x * b.times) a.is ∙ regrouped k a.times b.times }
-  where
-    regrouped : (x y z : ℕ) → (x * y) * z ≡ x * (y * z)
-    regrouped x y z = omega arith
 
 -- points stand in their columns with periods of at least 1
 values_divide : (domain : List Text) (K : ℕ) (cs : List Column) (vs : List Value) → AllZip (CanStandAlone domain) cs vs → AllByRecursion (λ k. IsMultiple k K) (flat_map value_periods vs) → AllByRecursion (DividesPeriod (pos K)) vs
 values_divide domain K [] [] h m = tt
 values_divide domain K [] (v ∷ vs) h m = absurd h
 values_divide domain K (c ∷ cs) [] h m = absurd h
-values_divide domain K (c ∷ cs) (Point at ∷ vs) h m = ((h.0.1, subst (λ z. Divides z (pos K)) (natural at.period h.0.1) (to_divides (nat_abs at.period) K m.0)), values_divide domain K cs vs h.1 m.1)
+values_divide domain K (c ∷ cs) (Point at ∷ vs) h m = ((h.0.1, subst (λ z. Divides z (pos K)) (abs_is at.period h.0.1) m.0), values_divide domain K cs vs h.1 m.1)
 values_divide domain K (c ∷ cs) (Const t ∷ vs) h m = (tt, values_divide domain K cs vs h.1 m)
 
 values_small : (domain : List Text) (K : ℕ) (cs : List Column) (vs : List Value) → 1 ≤ K → K ≤ 2 ^ 62 → AllZip (CanStandAlone domain) cs vs → AllByRecursion (λ k. IsMultiple k K) (flat_map value_periods vs) → AllByRecursion HasSmallPeriod vs
@@ -72,7 +52,7 @@ values_small domain K [] [] low high h m = tt
 values_small domain K [] (v ∷ vs) low high h m = absurd h
 values_small domain K (c ∷ cs) [] low high h m = absurd h
 values_small domain K (c ∷ cs) (Point at ∷ vs) low high h m =
-    let l : nat_abs at.period ≤ K = at_most_multiple (nat_abs at.period) K low m.0 in
+    let l : nat_abs at.period ≤ K = multiple_le (nat_abs at.period) K low m.0 in
     ((h.0.1, at_most at.period (2 ^ 62) (omega (arith, l, high))), values_small domain K cs vs low high h.1 m.1)
 values_small domain K (c ∷ cs) (Const t ∷ vs) low high h m = (tt, values_small domain K cs vs low high h.1 m)
 
@@ -87,7 +67,7 @@ low_periods domain (c ∷ cs) (Point at ∷ vs) h = (low at.period h.0.1, low_pe
     low z l = omega (arith, ints)
 low_periods domain (c ∷ cs) (Const t ∷ vs) h = low_periods domain cs vs h.1
 
-zip_count : {X Y : Type 0} (R : X → Y → Type 0) (xs : List X) (ys : List Y) → AllZip R xs ys → length ys ≡ length xs
+pub zip_count : {X Y : Type 0} (R : X → Y → Type 0) (xs : List X) (ys : List Y) → AllZip R xs ys → length ys ≡ length xs
 zip_count R [] [] z = refl
 zip_count R [] (y ∷ ys) z = absurd z
 zip_count R (x ∷ xs) [] z = absurd z
@@ -108,10 +88,10 @@ pub sketched_for : (domain : List Text) (ds : List Disjunct) → ((i : ℕ) (d :
     → (d : Disjunct) → Contains ds d → (i : ℕ) (a : JoinedAtom) → slice_get d.atoms.items i ≡ Some a → (s : Sketch) → Contains all s → s.disjunct ≡ d.number → s.atom ≡ i → IsOutlineFor domain a.vars a.terms row s.outline
 sketched_for domain ds numbered relation row all are d listed i a at s c number place =
     let w : IsSketchAmong domain ds relation row s = are s c in
-    let p = place_of ds w.disjunct w.listed in
-    let r = place_of ds d listed in
+    let p = place_in ds w.disjunct w.listed in
+    let r = place_in ds d listed in
     let same_place : p.0 ≡ r.0 = sym (numbered p.0 w.disjunct p.1) ∙ sym w.is.disjunct_is ∙ number ∙ numbered r.0 d r.1 in
-    let same : w.disjunct ≡ d = some_same w.disjunct d (sym p.1 ∙ ap (slice_get ds) same_place ∙ r.1) in
+    let same : w.disjunct ≡ d = some_is w.disjunct d (sym p.1 ∙ ap (slice_get ds) same_place ∙ r.1) in
     let here : w.atom ≡ i = sym w.is.atom_is ∙ place in
     w.is.outline a (ap (λ (e : Disjunct). slice_get e.atoms.items w.atom) same ∙ ap (slice_get d.atoms.items) here ∙ at)
 
@@ -122,7 +102,7 @@ module _ (g : Ground) (ds : List Disjunct) (numbered : (i : ℕ) (d : Disjunct) 
       → CanBeHeld g.domain columns source.row → length a.terms ≡ length columns → AllByRecursion (λ k. IsMultiple k g.period) (row_periods source.row) → joined_reach (bounds_of g.rows.relations.items) g.period a ≤ 2 ^ 62
       → AreSketchesOf g.domain ds a.relation source.row source.sketches.items → IsReadable g (bounds_of g.rows.relations.items) d i a key
   readable d listed i a key source columns at c held fits count multiples room sketches =
-      let l : bounds_reach source.row.bounds a.terms + g.period ≤ joined_reach (bounds_of g.rows.relations.items) g.period a = low_rows g d.atoms.items low a key source (got d.atoms.items i a at) c held in
+      let l : bounds_reach source.row.bounds a.terms + g.period ≤ joined_reach (bounds_of g.rows.relations.items) g.period a = low_rows g d.atoms.items low a key source (Contains-from_get d.atoms.items i a at) c held in
       record {
         source = source;
         held = held;
@@ -136,9 +116,9 @@ module _ (g : Ground) (ds : List Disjunct) (numbered : (i : ℕ) (d : Disjunct) 
 
 pub divides_further : (k l : ℕ) (vs : List Value) → IsMultiple k l → AllByRecursion (DividesPeriod (pos k)) vs → AllByRecursion (DividesPeriod (pos l)) vs
 divides_further k l [] m h = tt
-divides_further k l (Point at ∷ vs) m h = ((h.0.0, Divides-trans at.period (pos k) (pos l) h.0.1 (to_divides k l m)), divides_further k l vs m h.1)
+divides_further k l (Point at ∷ vs) m h = ((h.0.0, Divides-trans at.period (pos k) (pos l) h.0.1 m), divides_further k l vs m h.1)
 divides_further k l (Const t ∷ vs) m h = (tt, divides_further k l vs m h.1)
 
 pub carried_further : (times texts : List Identifier) (k l : ℕ) (ts : List Test) → IsMultiple k l → AllByRecursion (CanBeCarried times texts (pos k)) ts → AllByRecursion (CanBeCarried times texts (pos l)) ts
 carried_further times texts k l [] m h = tt
-carried_further times texts k l (t ∷ ts) m h = (record { times_known = h.0.times_known; texts_known = h.0.texts_known; low = h.0.low; divides = Divides-trans (test_period t) (pos k) (pos l) h.0.divides (to_divides k l m) }, carried_further times texts k l ts m h.1)
+carried_further times texts k l (t ∷ ts) m h = (record { times_known = h.0.times_known; texts_known = h.0.texts_known; low = h.0.low; divides = Divides-trans (test_period t) (pos k) (pos l) h.0.divides m }, carried_further times texts k l ts m h.1)

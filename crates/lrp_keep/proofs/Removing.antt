@@ -36,9 +36,12 @@ use Rattle.lrp_keep.proofs.Adding.{names_in, names_replaced}
 use Rattle.lrp_keep.proofs.Alike.{keys_at, relisted_alike}
 use Rattle.lrp_keep.proofs.Exchanged.{all_fit, columns_stay, have_still, known_still}
 use Rattle.lrp_keep.proofs.KeptParts.{scaled_named}
-use Rattle.lrp_keep.proofs.Lists.{at_mapped, none_some, place_of, same_images, some_at, some_same, there_is}
+use Rattle.lrp_keep.proofs.Lists.{at_mapped, same_images}
 use Rattle.lrp_keep.proofs.StateLaws.{state_after}
 use Rattle.lrp_keep.proofs.Views.{names_stay, relations_now, rows_both, rows_same, rows_under}
+use Rattle.lrp_holdings.proofs.Chained.{none_some, some_is}
+use Rattle.lrp_plan_laws.proofs.Elements.{found as some_at, within}
+use Rattle.lrp_tables.proofs.Joining.{place_in}
 
 -- ---- lists
 
@@ -95,7 +98,7 @@ module _ (of : KeptQuery) (old new : State) (keeper : IsKeeper of old) (relation
   is = keeper.keeping
 
   low : relation < length old.rows.relations.items
-  low = there_is old.rows.relations.items relation held at
+  low = within old.rows.relations.items relation held at
 
   without : IsWithoutKey old.rows new.rows key
   without = let_go_without relation r.place key old.rows new.rows low is.state.rows gone
@@ -108,14 +111,14 @@ module _ (of : KeptQuery) (old new : State) (keeper : IsKeeper of old) (relation
   alone i c =
       let s = is.state.rows.there i key c in
       let t = is.state.rows.there relation key was_listed in
-      sym s.relation_is ∙ ap (λ (x : Source). x.relation) (some_same s.source t.source (sym s.held ∙ t.held)) ∙ t.relation_is
+      sym s.relation_is ∙ ap (λ (x : Source). x.relation) (some_is s.source t.source (sym s.held ∙ t.held)) ∙ t.relation_is
 
   others_stay : (i k : ℕ) → i ≢ relation → Contains (keys_of old.rows i) k → get new.rows.sources k ≡ get old.rows.sources k
   others_stay i k n c = gone.others k (λ e. n (alone i (subst (λ x. Contains (keys_of old.rows i) x) e c)))
 
   -- the row that goes
   place_is : r.first.key ≡ key
-  place_is = some_same r.first.key key (sym r.first.at ∙ ap (λ l. slice_get l r.place) gone.were ∙ ap (slice_get (gone.front ++ key ∷ gone.back)) (sym gone.size) ∙ at_end gone.front gone.back key)
+  place_is = some_is r.first.key key (sym r.first.at ∙ ap (λ l. slice_get l r.place) gone.were ∙ ap (slice_get (gone.front ++ key ∷ gone.back)) (sym gone.size) ∙ at_end gone.front gone.back key)
 
   abbrev front_rows : List Row
   front_rows = rows_under (get old.rows.sources) gone.front
@@ -146,8 +149,8 @@ module _ (of : KeptQuery) (old new : State) (keeper : IsKeeper of old) (relation
     equal = r.first.equal;
     first = All-from_recursion (λ other. AreEqualRows other row → ⊥) front_rows (all_by (λ other. AreEqualRows other row → ⊥) front_rows (λ other c equal.
         let k = key_of_row (get old.rows.sources) gone.front other c in
-        let p = place_of gone.front k.0 k.2 in
-        let l : p.0 < length gone.front = there_is gone.front p.0 k.0 p.1 in
+        let p = place_in gone.front k.0 k.2 in
+        let l : p.0 < length gone.front = within gone.front p.0 k.0 p.1 in
         let size : length gone.front ≡ r.place = gone.size in
         r.first.before p.0 k.0 k.1 (omega (arith, l, size)) (ap (λ l. slice_get l p.0) gone.were ∙ before_end gone.front (key ∷ gone.back) p.0 k.0 p.1) k.3 (subst (λ x. AreEqualRows x row) (sym k.4) equal)));
   }
@@ -176,7 +179,7 @@ module _ (of : KeptQuery) (old new : State) (keeper : IsKeeper of old) (relation
 
   rows_fit : AllByRecursion (λ (r : Relation). AllByRecursion (CanBeHeld of.domain r.columns) r.rows) (replaced db name (front_rows ++ back_rows))
   rows_fit = all_fit (front_rows ++ back_rows) name of.domain db is.rows (λ x c e.
-      let p = place_of db x c in
+      let p = place_in db x c in
       let m = at_mapped (relation_of (get old.rows.sources)) old.rows.relations.items p.0 x p.1 in
       let found = found_at (get old.rows.sources) old.rows.relations.items p.0 m.0 is.distinct m.1 in
       let same : m.0.name ≡ name = ap (λ (y : Relation). y.name) m.2 ∙ e in
@@ -188,7 +191,7 @@ module _ (of : KeptQuery) (old new : State) (keeper : IsKeeper of old) (relation
   low_new : AreLowRows new.rows
   low_new i k s source e c f =
       let a = relisted_alike (λ h s. s.most ≡ h.most) relation (gone.front ++ gone.back) old.rows.relations.items new.rows.relations.items gone.listed (λ h. refl) (λ h s at x. x.most) in
-      let l : i < length new.rows.relations.items = there_is new.rows.relations.items i s e in
+      let l : i < length new.rows.relations.items = within new.rows.relations.items i s e in
       let n : length new.rows.relations.items ≡ length old.rows.relations.items = gone.listed.count in
       let h = some_at old.rows.relations.items i (omega (arith, l, n)) in
       let was = without.to i k (subst (λ l. Contains l k) (sym (keys_at new.rows i s e)) c) in

@@ -1,8 +1,8 @@
 -- A refusal leaves the same rows, and has its cause.
 use Rattle.std.proofs.Common.{◌≡◌, ℕ, refl, sym, subst, ap, Vec, Global, map, Result, Ok, Err}
 use Rattle.std.specs.Prelude.{OnErr, OnOk}
-use Rattle.lrp_store.specs.declared.table.StepFault.{StepFault}
-use Rattle.lrp_store.specs.declared.table.StepFault.TheVariants.{TooManyCells as too_many_cells, Memory as no_memory}
+use Rattle.lrp_tables.specs.declared.table.StepFault.{StepFault}
+use Rattle.lrp_tables.specs.declared.table.StepFault.TheVariants.{TooManyCells as too_many_cells, Memory as no_memory}
 use Rattle.lrp_kept.specs.Keyed.{AreSameRows}
 use Rattle.lrp_limits.specs.declared.periods.Period.{Period}
 use Rattle.lrp_parts.specs.declared.derivation.Derived.{Derived}

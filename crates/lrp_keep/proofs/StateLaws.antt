@@ -2,36 +2,16 @@
 use Rattle.std.proofs.Common.{◌≡◌, ◌<◌, ℕ, zero, suc, List, [], ◌∷◌, length, map, Some, refl, sym, ap, subst, ◌∙◌, arith}
 use Rattle.std.specs.Prelude.{slice_get}
 use Rattle.lrp_model.specs.Formulas.{question_of}
-use Rattle.lrp_parts.specs.Derivations.{AreReleased, CanBeReadBy, CanDerive, Ground, IsDerivedFrom, IsWithoutKey, Levels}
+use Rattle.lrp_parts.specs.Derivations.{AreReleased, CanDerive, IsDerivedFrom, IsWithoutKey, Levels}
 use Rattle.lrp_kept.specs.Disjuncts.{AreDisjunctsOf}
 use Rattle.lrp_kept.specs.Keyed.{IsLetGoAt}
 use Rattle.lrp_keep.specs.States.{IsStateOf, ground_at}
-use Rattle.lrp_kept.specs.declared.disjuncts.Disjunct.{Disjunct}
 use Rattle.lrp_keep.specs.declared.kept_query.KeptQuery.{KeptQuery}
-use Rattle.lrp_kept.specs.declared.rows.HeldRows.{HeldRows}
 use Rattle.lrp_keep.specs.declared.states.State.{State}
 use Rattle.lrp_parts.proofs.Rekeyed.{let_go_rows, let_go_without}
 use Rattle.lrp_keep.proofs.Views.{names_stay}
-use Rattle.lrp_parts.proofs.Without.{derived_after, derived_but, with_rows}
-
--- fewer rows can be derived from
-pub can_fewer : (g : Ground) (others : HeldRows) (key : ℕ) (d : Disjunct) → IsWithoutKey g.rows others key → length others.relations.items ≡ length g.rows.relations.items → CanDerive g d → CanDerive (with_rows g others) d
-can_fewer g others key d w size can = record {
-  low = can.low;
-  high = can.high;
-  some = can.some;
-  relations = λ i a at. subst (λ n. a.relation < n) (sym size) (can.relations i a at);
-  joined = λ i a at. let c = can.joined i a at in record { differ = c.differ; few_times = c.few_times; few_texts = c.few_texts; times_known = c.times_known; texts_known = c.texts_known; tests = c.tests };
-  rise = can.rise;
-  tests = can.tests;
-  tests_room = can.tests_room;
-  room = can.room;
-  rows = λ i a k at listed.
-      let x = w.to a.relation k listed in
-      let c : CanBeReadBy g d i a k = can.rows i a k at x.0 in
-      record { source = c.source; held = w.sources k x.1 ∙ c.held; read = c.read; periods = c.periods; room = c.room; drops = c.drops; sketched = c.sketched };
-  head = λ a at. let c = can.head a at in record { names = c.names };
-}
+use Rattle.lrp_parts.proofs.Without.{derived_after, derived_but}
+use Rattle.lrp_keep.proofs.Carried.{can_among}
 
 module _ (of : KeptQuery) (old new : State) (relation place key : ℕ) (is : IsStateOf of old) (low : relation < length old.rows.relations.items) (gone : IsLetGoAt relation place key old.rows new.rows) (same_period : new.period ≡ old.period)
     (count : length new.derived.items ≡ length old.derived.items) (released : (i : ℕ) (before after : Levels) → slice_get (map (λ d. d.levels.items) old.derived.items) i ≡ Some before → slice_get (map (λ d. d.levels.items) new.derived.items) i ≡ Some after → AreReleased key before after) where
@@ -65,7 +45,7 @@ module _ (of : KeptQuery) (old new : State) (relation place key : ℕ) (is : IsS
   state_after = record {
     rows = let_go_rows relation place key old.rows new.rows low is.rows gone;
     disjuncts = subst (λ l. AreDisjunctsOf l (question_of of.query.now) of.disjuncts.items) (sym (names_stay old.rows new.rows relation _ gone.listed)) is.disjuncts;
-    can = λ i d at. subst (λ p. CanDerive (ground_at of new.rows p) d) (sym (ap (λ p. p.number) same_period)) (can_fewer (ground_at of old.rows old.period.number) new.rows key d without gone.listed.count (is.can i d at));
+    can = λ i d at. subst (λ p. CanDerive (ground_at of new.rows p) d) (sym (ap (λ p. p.number) same_period)) (can_among (ground_at of old.rows old.period.number) new.rows d (λ r k c. let x = without.to r k c in (x.0, without.sources k x.1)) gone.listed.count (is.can i d at));
     derived = record {
       count = sizes ∙ is.derived.count;
       each = λ i d levels at there.

@@ -14,12 +14,7 @@ use Rattle.lrp_model.specs.Texts.{Text}
 use Rattle.lrp_parts.specs.Derivations.{HoldsIn, Levels}
 use Rattle.lrp_keep.specs.Unions.{HoldsAll}
 use Rattle.lrp_keep.specs.Taken.{HasTaken, HasTakenSome, HasTakenValue, StaysSame}
-
-some_same : {X : Type 0} (x y : X) → Some x ≡ Some y → x ≡ y
-some_same x y e = cc
-
-none_some : {X : Type 0} (x : X) → None ≡ Some x → ⊥
-none_some x e = cc
+use Rattle.lrp_holdings.proofs.Chained.{none_some, some_is}
 
 -- ---- one zone
 
@@ -80,7 +75,7 @@ one_taken from old new t = record {
   period = t.period;
   to = λ xs ns h. elim (t.to xs ns h) [ inl was ↦ inl was | inr i ↦ inr (record { keys = []; store = from; is = record { is = refl }; inside = i }) ];
   kept = t.kept;
-  from = λ xs ns h. t.from xs ns (subst (λ s. InStore s xs ns) (some_same h.store from h.is.is) h.inside);
+  from = λ xs ns h. t.from xs ns (subst (λ s. InStore s xs ns) (some_is h.store from h.is.is) h.inside);
   within = λ high reach was. t.within high (reach [] from (record { is = refl })) was;
 }
 
@@ -132,7 +127,7 @@ module _ (h : HoldingsView (Option StoreView)) where
     ];
     kept = λ xs ns i. u.kept xs ns (t.kept xs ns i);
     from = λ xs ns i. elim (eq_or i.is.0 count) [
-      | inl e ↦ u.from xs ns (record { keys = i.keys; store = i.store; is = record { is = ap (λ (y : Held (Option StoreView)). y.value) (some_same (record { owners = i.keys; value = Some i.store }) x (sym i.is.2 ∙ ap (held_at h) e ∙ at)) }; inside = i.inside })
+      | inl e ↦ u.from xs ns (record { keys = i.keys; store = i.store; is = record { is = ap (λ (y : Held (Option StoreView)). y.value) (some_is (record { owners = i.keys; value = Some i.store }) x (sym i.is.2 ∙ ap (held_at h) e ∙ at)) }; inside = i.inside })
       | inr n ↦ u.kept xs ns (t.from xs ns (record { keys = i.keys; store = i.store; is = (i.is.0, (let l : i.is.0 < count + 1 = i.is.1 in omega (arith, l, n)), i.is.2); inside = i.inside }))
     ];
     within = λ high reach was. u.within high
@@ -154,7 +149,7 @@ module _ (h : HoldingsView (Option StoreView)) where
     where
       below : (keys : List ℕ) (value : Option StoreView) → HoldsIn (h ∷ []) 0 keys value → HoldsBelow h count keys value
       below keys value x =
-          let same : h ≡ x.0 = some_same h x.0 x.1 in
+          let same : h ≡ x.0 = some_is h x.0 x.1 in
           let e : held_at h x.2.0 ≡ Some (record { owners = keys; value = value }) = ap (λ v. held_at v x.2.0) same ∙ x.2.1 in
           (x.2.0, low x.2.0 (subst (λ o. IsSome o) (sym e) refl), e)
 
@@ -166,11 +161,11 @@ last_level levels h old new at t = record {
   period = t.period;
   to = λ xs ns i. elim (t.to xs ns i) [
     | inl was ↦ inl was
-    | inr s ↦ inr (record { keys = s.keys; store = s.store; is = (h, at, subst (λ v. Holds v s.keys (Some s.store)) (sym (some_same h s.is.0 s.is.1)) s.is.2); inside = s.inside })
+    | inr s ↦ inr (record { keys = s.keys; store = s.store; is = (h, at, subst (λ v. Holds v s.keys (Some s.store)) (sym (some_is h s.is.0 s.is.1)) s.is.2); inside = s.inside })
   ];
   kept = t.kept;
-  from = λ xs ns i. t.from xs ns (record { keys = i.keys; store = i.store; is = (h, refl, subst (λ v. Holds v i.keys (Some i.store)) (some_same i.is.0 h (sym i.is.1 ∙ at)) i.is.2); inside = i.inside });
-  within = λ high reach was. t.within high (λ keys s y. reach keys s (h, at, subst (λ v. Holds v keys (Some s)) (sym (some_same h y.0 y.1)) y.2)) was;
+  from = λ xs ns i. t.from xs ns (record { keys = i.keys; store = i.store; is = (h, refl, subst (λ v. Holds v i.keys (Some i.store)) (some_is i.is.0 h (sym i.is.1 ∙ at)) i.is.2); inside = i.inside });
+  within = λ high reach was. t.within high (λ keys s y. reach keys s (h, at, subst (λ v. Holds v keys (Some s)) (sym (some_is h y.0 y.1)) y.2)) was;
 }
 
 -- ---- all disjuncts
@@ -204,7 +199,7 @@ one_among all count levels old now new at t u = record {
   ];
   kept = λ xs ns i. u.kept xs ns (t.kept xs ns i);
   from = λ xs ns i. elim (eq_or i.is.0 count) [
-    | inl e ↦ u.from xs ns (record { keys = i.keys; store = i.store; is = subst (λ (l : Levels). HoldsIn l (length l - 1) i.keys (Some i.store)) (some_same i.is.1 levels (sym i.is.3 ∙ ap (slice_get all) e ∙ at)) i.is.4; inside = i.inside })
+    | inl e ↦ u.from xs ns (record { keys = i.keys; store = i.store; is = subst (λ (l : Levels). HoldsIn l (length l - 1) i.keys (Some i.store)) (some_is i.is.1 levels (sym i.is.3 ∙ ap (slice_get all) e ∙ at)) i.is.4; inside = i.inside })
     | inr n ↦ u.kept xs ns (t.from xs ns (record { keys = i.keys; store = i.store; is = (i.is.0, i.is.1, (let l : i.is.0 < count + 1 = i.is.2 in omega (arith, l, n)), i.is.3, i.is.4); inside = i.inside }))
   ];
   within = λ high reach was. u.within high

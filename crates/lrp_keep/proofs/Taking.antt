@@ -6,8 +6,8 @@ use Rattle.lrp_holdings.specs.Holdings.{Held, HoldingsView, held_at}
 use Rattle.lrp_store.specs.Stores.{IsStore, StoreView}
 use Rattle.lrp_parts.specs.Derivations.{HoldsIn, Levels}
 use Rattle.lrp_keep.specs.Taken.{AreAlike, HasTaken, HasTakenSome, HasTakenValue, IsAlike}
-use Rattle.lrp_keep.proofs.Lists.{none_some, some_same}
 use Rattle.lrp_keep.proofs.Taken.{HoldsBelow, all_below, last_level, nothing_taken, one_below, one_taken, skip_below}
+use Rattle.lrp_holdings.proofs.Chained.{none_some, some_is}
 
 -- ---- a value
 
@@ -23,7 +23,7 @@ nothing_of value old e is = subst (λ v. HasTakenValue v old old) (sym e) (nothi
 -- where the slot has a value, it is held there for some keys
 held_there : (o : Option (Held (Option StoreView))) (value : Option StoreView) → Some value ≡ option_map (λ h. h.value) o → (x : Held (Option StoreView)) × (o ≡ Some x) × (x.value ≡ value)
 held_there None value e = absurd (none_some value (sym e))
-held_there (Some x) value e = (x, refl, some_same x.value value (sym e))
+held_there (Some x) value e = (x, refl, some_is x.value value (sym e))
 
 pub alike_slot : (h : HoldingsView (Option StoreView)) (slot : ℕ) (value : Option StoreView) (out : StoreView) → Some value ≡ option_map (λ x. x.value) (held_at h slot) → AreAlike (h ∷ []) out → IsAlike value out
 alike_slot h slot value out e alike =

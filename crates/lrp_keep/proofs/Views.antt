@@ -1,5 +1,5 @@
 -- The relations that a keeper stands for, after a row is put behind others or taken out.
-use Rattle.std.proofs.Common.{◌≡◌, ◌≢◌, ℕ, zero, suc, Bool, true, false, List, [], ◌∷◌, ◌++◌, length, map, flat_map, Contains, Option, Some, None, inl, inr, refl, sym, ap, ap₂, subst, ◌∙◌, bytes_eq, append_assoc, arith}
+use Rattle.std.proofs.Common.{◌≡◌, ◌≢◌, ℕ, zero, suc, Bool, true, false, List, [], ◌∷◌, ◌++◌, length, map, flat_map, Contains, Option, Some, inl, inr, refl, sym, ap, ap₂, subst, ◌∙◌, bytes_eq, append_assoc, arith}
 use Rattle.std.specs.Prelude.{if◌then◌else◌, slice_get}
 use Rattle.std.specs.List.{AllByRecursion}
 use Rattle.slab.specs.Slab.{get}
@@ -18,12 +18,9 @@ use Rattle.lrp_keep.specs.Replaced.{replaced, with_rows}
 use Rattle.lrp_kept.specs.declared.rows.HeldRelation.{HeldRelation}
 use Rattle.lrp_kept.specs.declared.rows.HeldRows.{HeldRows}
 use Rattle.lrp_kept.specs.declared.rows.Source.{Source}
-
-some_same : {X : Type 0} (x y : X) → Some x ≡ Some y → x ≡ y
-some_same x y e = cc
-
-none_some : {X : Type 0} (x : X) → None ≡ Some x → ⊥
-none_some x e = cc
+use Rattle.lrp_holdings.proofs.Chained.{none_some, some_is}
+use Rattle.lrp_model.proofs.Everywhere.{map_count}
+use Rattle.lrp_keep.proofs.Lists.{at_mapped}
 
 -- ---- rows under keys
 
@@ -54,31 +51,21 @@ same_names [] (s ∷ ss) e h = absurd (let l : suc (length ss) ≡ 0 = e in omeg
 same_names (r ∷ rs) [] e h = absurd (let l : 0 ≡ suc (length rs) = e in omega (arith, l))
 same_names (r ∷ rs) (s ∷ ss) e h = ap₂ (λ a b. a ∷ b) (h 0 r s refl refl) (same_names rs ss (let l : suc (length ss) ≡ suc (length rs) = e in omega (arith, l)) (λ i x y p q. h (suc i) x y p q))
 
--- what stands at a place of a mapped list
-at_mapped : {X Y : Type 0} (f : X → Y) (xs : List X) (i : ℕ) (y : Y) → slice_get (map f xs) i ≡ Some y → (x : X) × (slice_get xs i ≡ Some x) × (f x ≡ y)
-at_mapped f [] i y e = absurd (none_some y e)
-at_mapped f (x ∷ xs) zero y e = (x, refl, some_same (f x) y e)
-at_mapped f (x ∷ xs) (suc i) y e = at_mapped f xs i y e
-
-length_mapped : {X Y : Type 0} (f : X → Y) (xs : List X) → length (map f xs) ≡ length xs
-length_mapped f [] = refl
-length_mapped f (x ∷ xs) = ap suc (length_mapped f xs)
-
 -- names that differ stand at one place each
 one_place : (rs : List HeldRelation) (i j : ℕ) (r s : HeldRelation) → AreDistinct (map (λ (h : HeldRelation). h.name) rs) → slice_get rs i ≡ Some r → slice_get rs j ≡ Some s → r.name ≡ s.name → i ≡ j
 one_place [] i j r s d e f n = absurd (none_some r e)
 one_place (h ∷ rs) zero zero r s d e f n = refl
-one_place (h ∷ rs) zero (suc j) r s d e f n = absurd (later rs j s f d.0 (ap (λ (x : HeldRelation). x.name) (some_same h r e) ∙ n))
+one_place (h ∷ rs) zero (suc j) r s d e f n = absurd (later rs j s f d.0 (ap (λ (x : HeldRelation). x.name) (some_is h r e) ∙ n))
   where
     later : (xs : List HeldRelation) (k : ℕ) (x : HeldRelation) → slice_get xs k ≡ Some x → AllByRecursion (λ m. h.name ≢ m) (map (λ (y : HeldRelation). y.name) xs) → h.name ≡ x.name → ⊥
     later [] k x e all same = none_some x e
-    later (y ∷ xs) zero x e all same = all.0 (same ∙ sym (ap (λ (z : HeldRelation). z.name) (some_same y x e)))
+    later (y ∷ xs) zero x e all same = all.0 (same ∙ sym (ap (λ (z : HeldRelation). z.name) (some_is y x e)))
     later (y ∷ xs) (suc k) x e all same = later xs k x e all.1 same
-one_place (h ∷ rs) (suc i) zero r s d e f n = absurd (later rs i r e d.0 (ap (λ (x : HeldRelation). x.name) (some_same h s f) ∙ sym n))
+one_place (h ∷ rs) (suc i) zero r s d e f n = absurd (later rs i r e d.0 (ap (λ (x : HeldRelation). x.name) (some_is h s f) ∙ sym n))
   where
     later : (xs : List HeldRelation) (k : ℕ) (x : HeldRelation) → slice_get xs k ≡ Some x → AllByRecursion (λ m. h.name ≢ m) (map (λ (y : HeldRelation). y.name) xs) → h.name ≡ x.name → ⊥
     later [] k x e all same = none_some x e
-    later (y ∷ xs) zero x e all same = all.0 (same ∙ sym (ap (λ (z : HeldRelation). z.name) (some_same y x e)))
+    later (y ∷ xs) zero x e all same = all.0 (same ∙ sym (ap (λ (z : HeldRelation). z.name) (some_is y x e)))
     later (y ∷ xs) (suc k) x e all same = later xs k x e all.1 same
 one_place (h ∷ rs) (suc i) (suc j) r s d e f n = ap suc (one_place rs i j r s d.1 e f n)
 
@@ -87,8 +74,8 @@ module _ (old new : HeldRows) (number : ℕ) (keys : List ℕ) (x : AreRelisted 
   names_stay = same_names old.relations.items new.relations.items x.count (λ i r s p q. elim (eq_or i number) [
     | inl e ↦
         let y = x.at r (ap (slice_get old.relations.items) (sym e) ∙ p) in
-        ap (λ (z : HeldRelation). z.name) (some_same s y.0 (sym q ∙ ap (slice_get new.relations.items) e ∙ y.1)) ∙ y.2.name
-    | inr n ↦ ap (λ (z : HeldRelation). z.name) (some_same s r (sym q ∙ x.rest i n ∙ p))
+        ap (λ (z : HeldRelation). z.name) (some_is s y.0 (sym q ∙ ap (slice_get new.relations.items) e ∙ y.1)) ∙ y.2.name
+    | inr n ↦ ap (λ (z : HeldRelation). z.name) (some_is s r (sym q ∙ x.rest i n ∙ p))
   ])
 
   -- the relation of the number has the rows under its new keys, and each other one its own
@@ -135,17 +122,17 @@ module _ (old new : HeldRows) (number : ℕ) (keys : List ℕ) (x : AreRelisted 
         let c = at_mapped now_of new.relations.items i s q in
         elim (eq_or i number) [
           | inl e ↦
-              let here : b.0 ≡ own = some_same b.0 own (sym b.1 ∙ ap (slice_get old.relations.items) e ∙ at) in
+              let here : b.0 ≡ own = some_is b.0 own (sym b.1 ∙ ap (slice_get old.relations.items) e ∙ at) in
               let y = x.at own at in
-              let there : c.0 ≡ y.0 = some_same c.0 y.0 (sym c.1 ∙ ap (slice_get new.relations.items) e ∙ y.1) in
+              let there : c.0 ≡ y.0 = some_is c.0 y.0 (sym c.1 ∙ ap (slice_get new.relations.items) e ∙ y.1) in
               sym c.2 ∙ ap now_of there ∙ made y.0 y.2 ∙ sym (ap (λ h. with_rows rows own.name (was_of h)) here) ∙ ap (with_rows rows own.name) b.2 ∙ a.2
           | inr n ↦
-              let same : c.0 ≡ b.0 = some_same c.0 b.0 (sym c.1 ∙ x.rest i n ∙ b.1) in
+              let same : c.0 ≡ b.0 = some_is c.0 b.0 (sym c.1 ∙ x.rest i n ∙ b.1) in
               let differ : b.0.name ≢ own.name = λ e. n (one_place old.relations.items i number b.0 own distinct b.1 at e) in
               sym c.2 ∙ ap now_of same ∙ kept i b.0 n b.1 ∙ sym (passed b.0 differ) ∙ ap (with_rows rows own.name) b.2 ∙ a.2
         ]
 
     pub relations_now : relations_of (get new.sources) new.relations.items ≡ replaced (relations_of (get old.sources) old.relations.items) own.name rows
     relations_now = same_all (replaced (relations_of (get old.sources) old.relations.items) own.name rows) (relations_of (get new.sources) new.relations.items)
-        (length_mapped now_of new.relations.items ∙ x.count ∙ sym (length_mapped was_of old.relations.items) ∙ sym (length_mapped (with_rows rows own.name) (relations_of (get old.sources) old.relations.items)))
+        (map_count now_of new.relations.items ∙ x.count ∙ sym (map_count was_of old.relations.items) ∙ sym (map_count (with_rows rows own.name) (relations_of (get old.sources) old.relations.items)))
         one

@@ -29,7 +29,7 @@ use Rattle.lrp_kept.specs.declared.disjuncts.Disjunct.{Disjunct}
 use Rattle.lrp_kept.specs.declared.disjuncts.JoinedAtom.{JoinedAtom}
 use Rattle.lrp_parts.proofs.Behind.{both_true, each_true, in_kept, kept_test, own_tests, own_texts, own_times, rises, some_terms}
 use Rattle.lrp_kept.proofs.DisjunctAtoms.{atoms_are}
-use Rattle.lrp_keep.proofs.KeptAnswers.{IsWholeAt}
+use Rattle.lrp_keep.proofs.KeptAnswers.{IsWholeAt, zip_at}
 
 -- ---- variables in atoms
 
@@ -150,15 +150,6 @@ somewhere : (js : List JoinedAtom) → 0 < length js → slice_get js (length js
 somewhere [] low e = omega (arith, low)
 somewhere (j ∷ js) low e = some_is_not (get_or (j ∷ js) (length (j ∷ js) - 1) j) (sym (slice_get-get_or (j ∷ js) (length (j ∷ js) - 1) j (omega arith)) ∙ e)
 
-zip_find : {X Y : Type 0} (R : X → Y → Type 0) (xs : List X) (ys : List Y) (x : X) → AllZip R xs ys → Contains xs x → (i : ℕ) × (y : Y) × (slice_get ys i ≡ Some y) × R x y
-zip_find R [] [] x h c = absurd (contains_none x c)
-zip_find R [] (z ∷ ys) x h c = absurd h
-zip_find R (w ∷ xs) [] x h c = absurd h
-zip_find R (w ∷ xs) (z ∷ ys) x h c = elim (cons_cases w x xs c) [
-  | inl s ↦ (0, z, refl, subst (λ k. R k z) s h.0)
-  | inr d ↦ let r = zip_find R xs ys x h.1 d in (suc r.0, r.1, r.2, r.3)
-]
-
 zip_length : {X Y : Type 0} (R : X → Y → Type 0) (xs : List X) (ys : List Y) → AllZip R xs ys → length ys ≡ length xs
 zip_length R [] [] h = refl
 zip_length R [] (z ∷ ys) h = absurd h
@@ -184,7 +175,7 @@ module _ (names : List Identifier) (f : Form) (d : Disjunct) (is : IsDisjunctOf 
 
   module _ (last : JoinedAtom) (at : last_of d (length d.atoms.items) ≡ Some last) where
     joined_with : (a : Atom) → Contains (atoms_each (elements f)) a → (i : ℕ) × (j : JoinedAtom) × (slice_get d.atoms.items i ≡ Some j) × IsAtomOf names a j
-    joined_with a c = zip_find (IsAtomOf names) (atoms f) d.atoms.items a is.atoms_are (subst (λ xs. Contains xs a) (sym (atoms_are f)) c)
+    joined_with a c = zip_at (IsAtomOf names) (atoms f) d.atoms.items a is.atoms_are (subst (λ xs. Contains xs a) (sym (atoms_are f)) c)
 
     low : (i : ℕ) (j : JoinedAtom) → slice_get d.atoms.items i ≡ Some j → i ≤ length d.atoms.items - 1
     low i j e = let l : i < length d.atoms.items = slice_get_within d.atoms.items i j e in omega (arith, l)

@@ -26,7 +26,7 @@ use Rattle.lrp_model.specs.declared.tuples.Cell.{Cell}
 use Rattle.lrp_zone.specs.Zones.{ZoneView}
 use Rattle.lrp_store.specs.Stores.{zones_at}
 use Rattle.lrp_store.specs.Tables.{InAnswer}
-use Rattle.lrp_store.specs.declared.answer.Answer.{Answer}
+use Rattle.lrp_answers.specs.declared.answer.Answer.{Answer}
 use Rattle.lrp_minus.specs.Settling.{IsSmallZone}
 use Rattle.lrp_kept.specs.KeptForm.{is_kept}
 use Rattle.lrp_kept.specs.Choices.{HasLargePart}
@@ -118,6 +118,7 @@ pub record IsWithout (name : Identifier) (row : Row) (old new : KeepView) : Type
 abbrev pub scaled_reach_of : KeepView → ℕ
 scaled_reach_of k = scaled_kept_reach k.relations k.bounds k.period (question_of k.query)
 
+-- some part of a choice of held rows inhabits more than cap cells
 abbrev pub HasTooManyCells : KeepView → Type 0
 HasTooManyCells k = HasLargePart k.relations (question_of k.query) k.domain k.period k.cap
 

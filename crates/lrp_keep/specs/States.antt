@@ -5,11 +5,12 @@ use Rattle.slab.specs.Slab.{get}
 use Rattle.lrp_model.specs.Domains.{constants}
 use Rattle.lrp_model.specs.Formulas.{Question, question_of}
 use Rattle.lrp_model.specs.Texts.{AreDistinct, Ascends, Identifier}
-use Rattle.lrp_model.specs.Periods.{IsMultiple, row_periods}
+use Rattle.lrp_theory.specs.Divides.{IsMultiple}
+use Rattle.lrp_model.specs.Periods.{row_periods}
 use Rattle.lrp_model.specs.declared.relations.Relation.{Relation}
 use Rattle.lrp_model.specs.declared.relations.Row.{Row}
 use Rattle.lrp_store.specs.Stores.{HasReach, IsStore}
-use Rattle.lrp_store.specs.declared.answer.Answer.{Answer}
+use Rattle.lrp_answers.specs.declared.answer.Answer.{Answer}
 use Rattle.lrp_tables.specs.Columns.{head_texts, head_times}
 use Rattle.lrp_parts.specs.Derivations.{AreReleased, CanDerive, Ground, HasLargePart, HoldsIn, IsDerivedFrom, Levels, ground_of}
 use Rattle.lrp_kept.specs.Disjuncts.{AreDisjunctsOf}

@@ -7,10 +7,10 @@ ghost use Rattle.lrp_keep.specs.Keeps.{CanBeAdded, CanBeKept, HasNoEqual, IsKept
 use crate::faults::KeepFault;
 use crate::kept_query::KeptQuery;
 use crate::states::State;
+use lrp_answers::Answer;
+use lrp_database::Database;
 use lrp_kept::HeldRows;
 use lrp_model::{Domain, Memory, Name, Query, Row};
-use lrp_rel::Database;
-use lrp_store::Answer;
 use std::alloc::Global;
 use std::marker::Model;
 

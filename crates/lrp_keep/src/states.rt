@@ -17,13 +17,13 @@ use crate::faults::{KeepFault, of_step};
 use crate::kept_query::KeptQuery;
 use crate::unions::add_derived;
 use lrp_algebra::{head_vars, store_over};
+use lrp_answers::Answer;
+use lrp_database::Database;
 use lrp_kept::{HeldRows, is_read, scaled_reach, tested_period, with_bounds, with_periods};
 use lrp_limits::facts::with_row;
 use lrp_limits::periods::Period;
 use lrp_model::{Copies, LIMIT, Memory, Relation, Row};
 use lrp_parts::{Derived, Setting};
-use lrp_rel::Database;
-use lrp_store::Answer;
 use lrp_tables::StepFault;
 
 /// The rows that are held, the kept period, and by disjuncts what is derived from the rows in cells of this period.

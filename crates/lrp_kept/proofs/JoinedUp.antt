@@ -12,7 +12,7 @@ use Rattle.lrp_core.specs.Cores.{core_of, cores_of}
 use Rattle.lrp_core.specs.declared.core_forms.Core.{Core, Or}
 use Rattle.lrp_core.proofs.CoreViews.{cores_of-append, disjunct_added}
 use Rattle.lrp_plan_laws.specs.Atoms.{Atom}
-use Rattle.lrp_store.specs.declared.table.Vars.{Vars}
+use Rattle.lrp_tables.specs.declared.table.Vars.{Vars}
 use Rattle.lrp_tables.specs.Columns.{joint, scan_texts, scan_times}
 use Rattle.lrp_kept.specs.Choices.{as_list, listed_disjuncts}
 use Rattle.lrp_kept.specs.Disjuncts.{AreDisjunctsOf, AreJoined, IsAtomOf, IsDisjunctOf, is_covered}

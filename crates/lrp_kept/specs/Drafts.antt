@@ -5,7 +5,7 @@ use Rattle.lrp_model.specs.Texts.{Identifier}
 use Rattle.lrp_model.specs.Formulas.{Form, Forms, atom, no_forms, form}
 use Rattle.lrp_model.specs.declared.formulas.Test.{Test}
 use Rattle.lrp_plan_laws.specs.Atoms.{Atom, atoms}
-use Rattle.lrp_store.specs.declared.table.Vars.{Vars}
+use Rattle.lrp_tables.specs.declared.table.Vars.{Vars}
 use Rattle.lrp_kept.specs.Choices.{disjunct_tests, tests_among}
 use Rattle.lrp_kept.specs.Disjuncts.{AreJoined, IsAtomOf, IsDisjunctOf, bound_columns, is_covered}
 use Rattle.lrp_kept.specs.KeptForm.{elements, is_conjunctive}

@@ -16,6 +16,7 @@ abbrev pub some_passes : (Form → Bool) → Forms → Bool
 some_passes p no_forms = false
 some_passes p (form f fs) = p f || some_passes p fs
 
+-- the formula is an atom
 abbrev pub is_atom : Form → Bool
 is_atom (atom name terms) = true
 is_atom f = false

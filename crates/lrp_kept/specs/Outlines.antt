@@ -7,7 +7,7 @@ use Rattle.lrp_model.specs.Texts.{Text}
 use Rattle.lrp_model.specs.declared.formulas.Term.{Term}
 use Rattle.lrp_model.specs.declared.relations.Row.{Row}
 use Rattle.lrp_store.specs.Tables.{AreTexts}
-use Rattle.lrp_store.specs.declared.table.Vars.{Vars}
+use Rattle.lrp_tables.specs.declared.table.Vars.{Vars}
 use Rattle.lrp_systems.specs.Parts.{InPart}
 use Rattle.lrp_algebra.specs.Patterns.{part_of, AreKnown, Suits}
 use Rattle.lrp_algebra.specs.declared.pattern.Placed.{Placed}

@@ -8,8 +8,8 @@ ghost use Rattle.lrp_kept.specs.Keyed.{AreRelisted, AreSameRows, HasNoEqualRow, 
 
 use crate::equal_rows::are_equal;
 use crate::outlines::Outline;
+use lrp_database::Database;
 use lrp_model::{Column, Copies, List, Memory, Name, Relation, Row};
-use lrp_rel::Database;
 use slab::Slab;
 use std::alloc::Global;
 

@@ -1,4 +1,4 @@
-//! What the tests copy is made of. A test stops where memory is refused, since each way out of a function is proved.
+// What the tests copy is made of. A test stops where memory is refused, since each way out of a function is proved.
 
 use lrp_model::{
     Column, DataText, Head, List, Name, Place, RawColumn, RowPoint, Sort, Test, TimeTerm,

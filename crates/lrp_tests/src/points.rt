@@ -1,4 +1,4 @@
-//! Points and bounds at the limits.
+// Points and bounds at the limits.
 
 use lrp_model::LIMIT;
 use lrp_point::{PeriodLimit, Point, common, tighten};

@@ -24,7 +24,7 @@ use Rattle.lrp_zone.specs.Zones.{reach_of}
 use Rattle.lrp_store.specs.Least.{IsLeastSpot, StandsFor}
 use Rattle.lrp_store.specs.Stores.{StoreView, tables_at, zone_of}
 use Rattle.lrp_store.specs.Tables.{InAnswer}
-use Rattle.lrp_store.specs.declared.answer.Answer.{Answer}
+use Rattle.lrp_answers.specs.declared.answer.Answer.{Answer}
 use Rattle.lrp_list.specs.Lines.{spot_tuple}
 use Rattle.lrp_canon.specs.Canonical.{CanMakeCanonical}
 use Rattle.lrp_eval.specs.Answered.{IsAnswerOf}

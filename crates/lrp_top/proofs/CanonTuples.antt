@@ -15,12 +15,12 @@ use Rattle.lrp_model.specs.declared.tuples.Cell.{Cell}
 use Rattle.lrp_model.specs.declared.formulas.Head.{Head}
 use Rattle.lrp_store.specs.Stores.{StoreView, HoldsJust, IsStore, InStore, tables_at}
 use Rattle.lrp_store.specs.Tables.{AreTexts, InAnswer}
-use Rattle.lrp_store.specs.declared.answer.Answer.{Answer}
+use Rattle.lrp_answers.specs.declared.answer.Answer.{Answer}
 use Rattle.lrp_spans.specs.Groups.{HoldsNumber}
 use Rattle.lrp_eval.specs.Answered.{IsAnswerOf}
 use Rattle.lrp_canon.specs.Answers.{HasNumber}
 use Rattle.lrp_top.proofs.CanonSets.{IsRenamed}
-use Rattle.lrp_store.proofs.AnswerFirst.{texts_exist, length_texts, tuple_of}
+use Rattle.lrp_answers.proofs.AnswerFirst.{texts_exist, length_texts, tuple_of}
 
 -- ---- numbers of texts
 

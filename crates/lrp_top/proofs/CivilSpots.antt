@@ -7,7 +7,7 @@ use Rattle.lrp_civil.specs.Moments.{IsCivilMinute}
 use Rattle.lrp_list.specs.Listing.{AreEnds, window_of}
 use Rattle.lrp_model.specs.Rows.{times_of}
 use Rattle.lrp_model.specs.declared.tuples.Spot.{Spot}
-use Rattle.lrp_store.specs.declared.answer.Answer.{Answer}
+use Rattle.lrp_answers.specs.declared.answer.Answer.{Answer}
 use Rattle.lrp_words.specs.Ranges.{IsEnd}
 use Rattle.lrp_outputs.specs.Known.{HasCivilTimes, HaveCivilTimes}
 use Rattle.lrp_top.specs.Standing.{IsStanding}

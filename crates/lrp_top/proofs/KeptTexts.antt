@@ -12,7 +12,7 @@ use Rattle.lrp_model.specs.declared.relations.Row.{Row}
 use Rattle.lrp_model.specs.declared.relations.Relation.{Relation}
 use Rattle.lrp_top.proofs.Lists.{both_all}
 use Rattle.lrp_plan_laws.specs.Settled.{HasSortedTexts}
-use Rattle.lrp_print.specs.Kept.{AreValuesOf, IsKept, IsRowOf}
+use Rattle.lrp_model.specs.Kept.{AreValuesOf, IsKept, IsRowOf}
 
 -- a text with a data sort
 abbrev IsPlaced : Sort × Text → Type 0

@@ -19,7 +19,7 @@ use Rattle.lrp_model.specs.declared.relations.Relation.{Relation}
 use Rattle.lrp_model.specs.declared.tuples.Spot.{Spot}
 use Rattle.lrp_store.specs.Least.{IsLeastSpot}
 use Rattle.lrp_store.specs.Tables.{InAnswer}
-use Rattle.lrp_store.specs.declared.answer.Answer.{Answer}
+use Rattle.lrp_answers.specs.declared.answer.Answer.{Answer}
 use Rattle.lrp_eval.specs.Answered.{IsAnswerOf}
 use Rattle.lrp_sample.specs.Texts.{sample_database, sample_query}
 use Rattle.lrp_sample.specs.Trees.{raw_sample, sample_question, sample_relations}

@@ -42,6 +42,7 @@ IsDatabaseReadOf civil seen name bytes (Err (Database fault)) = (length bytes �
 IsDatabaseReadOf civil seen name bytes (Err Memory) = Unit {0}
 IsDatabaseReadOf civil seen name bytes (Err _) = ⊥
 
+-- the same for some bytes, which are the file's where the files are told
 abbrev pub IsDatabaseRead : Bool → ShelfSeen → Identifier → Result (Source (List Relation)) Refusal → Type 0
 IsDatabaseRead civil seen name = FromFile seen name (IsDatabaseReadOf civil seen name)
 
@@ -54,6 +55,7 @@ IsQueryReadOf tense db seen name bytes (Err (Query fault)) = (length bytes ≤ m
 IsQueryReadOf tense db seen name bytes (Err Memory) = Unit {0}
 IsQueryReadOf tense db seen name bytes (Err _) = ⊥
 
+-- the same for some bytes, which are the file's where the files are told
 abbrev pub IsQueryRead : Bool → List Relation → ShelfSeen → Identifier → Result (Source Question) Refusal → Type 0
 IsQueryRead tense db seen name = FromFile seen name (IsQueryReadOf tense db seen name)
 
@@ -72,7 +74,7 @@ IsPlanned db q (Err BoundLimit) = HasFarReach db q
 IsPlanned db q (Err Memory) = Unit {0}
 IsPlanned db q (Err _) = ⊥
 
--- the one and then the other; the flag says whether a canonical answer is asked for
+-- the head is looked at, and then the query is planned; the flag says whether a canonical answer is asked for
 abbrev pub IsPlannedAs : Bool → List Relation → Question → Result Plan Refusal → Type 0
 IsPlannedAs canon db q = Then (IsHeadFit canon q) (λ fit. IsPlanned db q)
 
@@ -158,6 +160,7 @@ abbrev pub files_asked : Option Task → List Identifier
 files_asked None = []
 files_asked (Some task) = files_of task
 
+-- the same for words as the program has them
 abbrev pub files_named : List (String Global) → List Identifier
 files_named words = files_asked (command (map string_bytes words))
 

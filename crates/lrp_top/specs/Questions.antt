@@ -33,7 +33,7 @@ use Rattle.lrp_top.specs.Due.{IsAnswered, IsDecided, IsExplained, IsListed, IsPl
 use Rattle.lrp_outputs.specs.Outcomes.{Outcome}
 use Rattle.lrp_outputs.specs.Spots.{answer_tuple}
 use Rattle.lrp_store.specs.Tables.{InAnswer}
-use Rattle.lrp_store.specs.declared.answer.Answer.{Answer}
+use Rattle.lrp_answers.specs.declared.answer.Answer.{Answer}
 use Rattle.lrp_top.specs.Seen.{ShelfSeen}
 use Rattle.lrp_top.specs.Sources.{Source}
 use Rattle.lrp_top.specs.declared.asking.Asked.{Asked}

@@ -31,6 +31,7 @@ AreEditsReadOf db seen name bytes (Err (Watch (watch.Edits fault))) = (length by
 AreEditsReadOf db seen name bytes (Err Memory) = Unit {0}
 AreEditsReadOf db seen name bytes (Err _) = ⊥
 
+-- the same for some bytes, which are the file's where the files are told
 abbrev pub AreEditsRead : List Relation → ShelfSeen → Identifier → Result (List Edit) Refusal → Type 0
 AreEditsRead db seen name = FromFile seen name (AreEditsReadOf db seen name)
 

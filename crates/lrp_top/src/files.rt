@@ -9,11 +9,11 @@ ghost use Rattle.lrp_top.specs.Watched.{AreEditsRead};
 
 use crate::reading::{database_in, edits_in, query_in};
 use crate::seeing::Watched;
+use lrp_database::Database;
 use lrp_edits::Edit;
 use lrp_io::{LoadFault, Shelf, load};
 use lrp_model::{List, Query};
 use lrp_outputs::{Refusal, WatchRefusal};
-use lrp_rel::Database;
 use std::alloc::Global;
 
 /// The bytes of a database's file, and the relations that they mean.

@@ -13,11 +13,11 @@ use crate::asking::QuestionFiles;
 use crate::files::{DatabaseFile, QueryFile, database_of, query_of};
 use crate::resuming::times_of;
 use crate::seeing::Watched;
+use lrp_database::Database;
 use lrp_io::Shelf;
 use lrp_model::{Plan, Query};
 use lrp_outputs::Refusal;
 use lrp_plan::{PlanFault, plan};
-use lrp_rel::Database;
 use std::alloc::Global;
 
 /// A database, a query that is well-sorted over it, and its plan.

@@ -19,6 +19,7 @@ ghost use Rattle.lrp_model.specs.Limits.{most_bytes};
 
 use crate::files::{DatabaseFile, QueryFile};
 use lrp_civil::plain_text;
+use lrp_database::Database;
 use lrp_edits::{Edit, read_edits};
 use lrp_list::heads_are_columns;
 use lrp_model::{List, Memory, QueryRead, RawQuery};
@@ -26,7 +27,7 @@ use lrp_outputs::{Refusal, WatchRefusal};
 use lrp_plan::kept_queries_have_periods;
 use lrp_plan_laws::sorted_queries_are_settled;
 use lrp_query::read_query;
-use lrp_rel::{Database, ReadFault, read_database};
+use lrp_rel::{ReadFault, read_database};
 use lrp_sorts::check;
 use lrp_tense::{expand, read_tense};
 use std::alloc::Global;

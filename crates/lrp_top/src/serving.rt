@@ -16,6 +16,7 @@ ghost use Rattle.lrp_top.specs.Telling.{TellsWitness};
 use crate::listing::page;
 use crate::purpose::Purpose;
 use crate::question::Question;
+use lrp_answers::Answer;
 use lrp_canon::canonical_within;
 use lrp_eval::{EvalFault, answer};
 use lrp_list::answers_are_texts;
@@ -25,7 +26,6 @@ use lrp_outputs::{
     spots_stand_for_tuples,
 };
 use lrp_plan_laws::{plan_rises, steps_are_made};
-use lrp_store::Answer;
 use lrp_theory::floors_keep_bounds;
 use std::alloc::Global;
 

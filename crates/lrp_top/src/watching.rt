@@ -11,12 +11,12 @@ ghost use Rattle.lrp_watch.specs.Watching.{CanBeWatched};
 
 use crate::files::{database_of, edits_of, query_of};
 use crate::seeing::Watched;
+use lrp_database::Database;
 use lrp_edits::Edit;
 use lrp_io::Shelf;
 use lrp_kept::is_kept;
 use lrp_model::Query;
 use lrp_outputs::{Output, Refusal, WatchRefusal};
-use lrp_rel::Database;
 use lrp_watch::{WatchFault, least_answers};
 use std::alloc::Global;
 

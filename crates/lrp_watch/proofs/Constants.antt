@@ -4,8 +4,8 @@ use Rattle.std.specs.Prelude.{IfOk}
 use Rattle.std.proofs.lemmas.List.{map-append}
 use Rattle.lrp_model.specs.Texts.{Text, in_order}
 use Rattle.lrp_model.specs.declared.relations.Sort.{Sort}
-use Rattle.lrp_rel.specs.Once.{once, texts_among}
-use Rattle.lrp_rel.proofs.OnceLaws.{once_in_order}
+use Rattle.lrp_database.specs.Once.{once, texts_among}
+use Rattle.lrp_database.proofs.OnceLaws.{once_in_order}
 
 pub constants_made : {E : Type 0} (r : Result (List Text) E) (all : List Text) (xs ys : List (Sort × Text)) (zs : List Text) → all ≡ (once (texts_among xs) ++ texts_among ys) ++ zs → IfOk r (λ made. made ≡ in_order all)
     → IfOk r (λ made. made ≡ in_order (texts_among (xs ++ ys) ++ zs))

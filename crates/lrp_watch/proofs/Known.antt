@@ -13,7 +13,7 @@ use Rattle.lrp_model.specs.declared.tuples.Shape.{Shape}
 use Rattle.lrp_model.specs.declared.tuples.Spot.{Spot}
 use Rattle.lrp_store.specs.Least.{IsLeastSpot, StandsFor}
 use Rattle.lrp_store.specs.Tables.{InAnswer}
-use Rattle.lrp_store.specs.declared.answer.Answer.{Answer}
+use Rattle.lrp_answers.specs.declared.answer.Answer.{Answer}
 use Rattle.lrp_list.specs.Lines.{spot_tuple}
 use Rattle.lrp_minus.specs.Settling.{IsSmallZone}
 use Rattle.lrp_kept.specs.Limits.{kept_reach}

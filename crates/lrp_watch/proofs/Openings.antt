@@ -19,7 +19,7 @@ use Rattle.lrp_model.specs.declared.relations.Row.{Row}
 use Rattle.lrp_model.specs.declared.relations.Sort.{Sort}
 use Rattle.lrp_model.specs.declared.relations.Value.{Value}
 use Rattle.lrp_model.specs.declared.relations.Value.TheVariants.{Point, Const}
-use Rattle.lrp_print.specs.Kept.{AreValuesOf, IsBoundOf, IsKept, IsRowOf, IsValueOf}
+use Rattle.lrp_model.specs.Kept.{AreValuesOf, IsBoundOf, IsKept, IsRowOf, IsValueOf}
 use Rattle.lrp_tables.specs.Calls.{IsColumnBound}
 use Rattle.lrp_edits.specs.EditMeaning.{IsEditOf}
 use Rattle.lrp_edits.specs.declared.edits.Edit.{Edit}

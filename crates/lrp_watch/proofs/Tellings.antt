@@ -10,7 +10,7 @@ use Rattle.lrp_model.specs.declared.relations.Column.{Column}
 use Rattle.lrp_model.specs.declared.relations.Relation.{Relation}
 use Rattle.lrp_model.specs.declared.tuples.Shape.{Shape}
 use Rattle.lrp_model.specs.declared.tuples.Spot.{Spot}
-use Rattle.lrp_store.specs.declared.answer.Answer.{Answer}
+use Rattle.lrp_answers.specs.declared.answer.Answer.{Answer}
 use Rattle.lrp_tables.specs.Columns.{head_texts, head_times}
 use Rattle.lrp_list.specs.Lines.{spot_tuple}
 use Rattle.lrp_edits.specs.declared.edits.Edit.{Edit}

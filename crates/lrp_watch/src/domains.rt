@@ -4,9 +4,9 @@ ghost use Rattle.lrp_model.specs.Formulas.{question_of};
 ghost use Rattle.lrp_watch.specs.Watching.{row_texts_of, watched_constants, texts_of_value};
 
 use lrp_core::query_texts;
+use lrp_database::Database;
 use lrp_edits::Edit;
 use lrp_model::{Copies, DataText, Domain, List, Memory, Query, Sort, Value};
-use lrp_rel::Database;
 use std::alloc::Global;
 
 /// The constants of a database, a query and edits; memory is refused at 2^32 of them.

@@ -4,8 +4,9 @@ use Rattle.std.proofs.lemmas.List.{length-set}
 use Rattle.lrp_parts.specs.Derivations.{ground_of}
 use Rattle.lrp_parts.proofs.Parted.{set_here, set_there}
 use Rattle.lrp_keep.proofs.EachDerived.{AreAddedBelow, all_added, none_added, one_added, stopped}
-use Rattle.lrp_keep.proofs.Lists.{got, read_at}
+use Rattle.lrp_keep.proofs.Lists.{read_at}
 use Rattle.lrp_keep.proofs.states.add_each.Goals as goal
+use Rattle.lrp_store.proofs.Held.{Contains-from_get}
 
 pub loop-number-init : goal.loop-number-init
 loop-number-init c = none_added (ground_of c.args.setting.now) c.args.of.now.disjuncts.items c.args.key c.args.derived.now.items c.requires.old
@@ -43,7 +44,7 @@ returns-in-Err-clause-others c =
 pub returns-in-Err-clause-many : goal.returns-in-Err-clause-many
 returns-in-Err-clause-many c = λ e. record {
   disjunct = c.index.result.now;
-  listed = got c.args.of.now.disjuncts.items c.loop-number.number c.index.result.now (read_at c.args.of.now.disjuncts.items c.loop-number.number c.index.result.now (omega (arith, c.loop-number-test.true, c.len-number-end.ensures)) c.index.ensures);
+  listed = Contains-from_get c.args.of.now.disjuncts.items c.loop-number.number c.index.result.now (read_at c.args.of.now.disjuncts.items c.loop-number.number c.index.result.now (omega (arith, c.loop-number-test.true, c.len-number-end.ensures)) c.index.ensures);
   large = c.in-Err.ensures.many e;
 }
 

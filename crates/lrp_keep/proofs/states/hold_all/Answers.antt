@@ -6,8 +6,8 @@ use Rattle.lrp_plan_laws.proofs.Members.{all_of}
 use Rattle.lrp_keep.specs.States.{AreHeldAlso}
 use Rattle.lrp_kept.specs.Sketches.{CanBeSketched}
 use Rattle.lrp_keep.proofs.Filling.{none_also, one_also}
-use Rattle.lrp_keep.proofs.Lists.{got}
 use Rattle.lrp_keep.proofs.states.hold_all.Goals as goal
+use Rattle.lrp_store.proofs.Held.{Contains-from_get}
 
 pub loop-row-init : goal.loop-row-init
 loop-row-init c = none_also c.args.of.now c.args.number c.args.rows.now c.requires.held
@@ -17,7 +17,7 @@ source-requires c =
     let low : c.loop-row.row-index < length c.args.relation.now.rows = subst (λ xs. c.loop-row.row-index < length xs) c.as_slice-row-items.ensures c.loop-row-test.true in
     let is : c.row-item.result ≡ get_or c.args.relation.now.rows c.loop-row.row-index c.row-item.result = subst (λ xs. c.row-item.result ≡ get_or xs c.loop-row.row-index c.row-item.result) c.as_slice-row-items.ensures c.row-item.is in
     all_of (CanBeSketched c.args.of.now.disjuncts.items c.args.number) c.args.relation.now.rows c.row-item.result c.requires.can
-    (got c.args.relation.now.rows c.loop-row.row-index c.row-item.result (slice_get_read c.args.relation.now.rows (length c.args.relation.now.rows) c.loop-row.row-index c.row-item.result refl low is))
+    (Contains-from_get c.args.relation.now.rows c.loop-row.row-index c.row-item.result (slice_get_read c.args.relation.now.rows (length c.args.relation.now.rows) c.loop-row.row-index c.row-item.result refl low is))
 
 pub hold-requires : goal.hold-requires
 hold-requires c = omega (arith, c.in_ok-source.ensures.relation, c.loop-row.invariant.listed.count, c.requires.number)

@@ -3,7 +3,7 @@ use Rattle.std.proofs.Common.{◌≡◌, ◌++◌, rules}
 use Rattle.std.specs.Prelude.{flat_map}
 use Rattle.lrp_model.specs.Domains.{database_texts, form_texts}
 use Rattle.lrp_model.specs.Formulas.{question_of}
-use Rattle.lrp_rel.specs.Once.{once, texts_among}
+use Rattle.lrp_database.specs.Once.{once, texts_among}
 use Rattle.lrp_watch.specs.Watching.{row_texts_of}
 use Rattle.lrp_watch.proofs.Constants.{constants_made}
 use Rattle.lrp_watch.proofs.domains.constants_of.Goals as goal

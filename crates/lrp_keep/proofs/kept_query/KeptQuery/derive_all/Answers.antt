@@ -1,7 +1,7 @@
 -- Disjunct after disjunct is derived.
 use Rattle.std.proofs.Common.{◌≡◌, ◌<◌, ◌+◌, Err, length, get_or, refl, sym, ap, subst, arith}
 use Rattle.std.proofs.lemmas.Option.{slice_get_read}
-use Rattle.lrp_store.specs.declared.table.StepFault.TheVariants.{TooManyCells}
+use Rattle.lrp_tables.specs.declared.table.StepFault.TheVariants.{TooManyCells}
 use Rattle.lrp_parts.specs.Derivations.{CanDerive, HasLargePart, IsDerivedFrom}
 use Rattle.lrp_keep.specs.States.{ground_at}
 use Rattle.lrp_keep.proofs.EachDerived.{AreDerivedBelow, all_derived, none_derived, one_derived}

@@ -4,14 +4,16 @@ use Rattle.std.specs.Prelude.{slice_get}
 use Rattle.lrp_kept.specs.Limits.{row_bound}
 use Rattle.lrp_kept.specs.declared.rows.HeldRelation.{HeldRelation}
 use Rattle.lrp_keep.specs.States.{IsMarked}
-use Rattle.lrp_keep.proofs.Lists.{read_at, some_same, there_is}
+use Rattle.lrp_keep.proofs.Lists.{read_at}
 use Rattle.lrp_keep.proofs.Raising.{added_cause, added_view, can_be_held, keeper_back, keeping_raised, period_cause, view_back}
 use Rattle.lrp_keep.proofs.Readable.{low_periods}
 use Rattle.lrp_keep.proofs.states.State.add.Goals as goal
+use Rattle.lrp_holdings.proofs.Chained.{some_is}
+use Rattle.lrp_plan_laws.proofs.Elements.{within}
 
 -- what is read at the relation's place is the relation
 held_is : (items : List HeldRelation) (i : ℕ) (x h : HeldRelation) → slice_get items i ≡ Some h → x ≡ get_or items i x → x ≡ h
-held_is items i x h at is = some_same x h (sym (read_at items i x (there_is items i h at) is) ∙ at)
+held_is items i x h at is = some_is x h (sym (read_at items i x (within items i h at) is) ∙ at)
 
 raised_to : (items : List HeldRelation) (i : ℕ) (x h : HeldRelation) (bound most : ℕ) → slice_get items i ≡ Some h → x ≡ get_or items i x → most ≡ max bound x.most → most ≡ max bound h.most
 raised_to items i x h bound most at is e = e ∙ ap (λ (r : HeldRelation). max bound r.most) (held_is items i x h at is)
@@ -24,11 +26,11 @@ returns-in_default-clause-fault c = period_cause c.args.of.now c.args.self.now c
 
 pub index-requires : goal.index-requires
 index-requires c =
-    let l : c.args.relation < length c.args.self.now.rows.relations.items = there_is c.args.self.now.rows.relations.items c.args.relation c.requires.row.held c.requires.row.at in
+    let l : c.args.relation < length c.args.self.now.rows.relations.items = within c.args.self.now.rows.relations.items c.args.relation c.requires.row.held c.requires.row.at in
     omega (arith, l, c.args.self.now.rows.relations.ok.0)
 
 pub mark-requires : goal.mark-requires
-mark-requires c = there_is c.args.self.now.rows.relations.items c.args.relation c.requires.row.held c.requires.row.at
+mark-requires c = within c.args.self.now.rows.relations.items c.args.relation c.requires.row.held c.requires.row.at
 
 pub add_within-requires-clause-keeping : goal.add_within-requires-clause-keeping
 add_within-requires-clause-keeping c =
@@ -43,7 +45,7 @@ add_within-requires-clause-row c =
 
 pub mark-requires-in-Err : goal.mark-requires-in-Err
 mark-requires-in-Err c =
-    let l : c.args.relation < length c.args.self.now.rows.relations.items = there_is c.args.self.now.rows.relations.items c.args.relation c.requires.row.held c.requires.row.at in
+    let l : c.args.relation < length c.args.self.now.rows.relations.items = within c.args.self.now.rows.relations.items c.args.relation c.requires.row.held c.requires.row.at in
     omega (arith, l, c.mark.ensures.count, c.in-Err.ensures.same.rows.listed.count)
 
 pub returns-in-Ok-clause-view : goal.returns-in-Ok-clause-view

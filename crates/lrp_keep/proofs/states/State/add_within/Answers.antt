@@ -5,9 +5,10 @@ use Rattle.lrp_kept.specs.declared.rows.HeldRelation.{HeldRelation}
 use Rattle.lrp_kept.specs.declared.rows.HeldRows.{HeldRows}
 use Rattle.lrp_keep.specs.States.{IsHoldingCause}
 use Rattle.lrp_keep.proofs.Adding.{above_cause, can_now, can_sketch, derived_without, keeper_after, large_cause, last_now, last_place, limits_after, low_new, still_state, view_after}
-use Rattle.lrp_keep.proofs.Lists.{mapped_at, there_is}
 use Rattle.lrp_keep.proofs.Standing.{step_cause, still_rows, still_self}
 use Rattle.lrp_keep.proofs.states.State.add_within.Goals as goal
+use Rattle.lrp_plan_laws.proofs.Elements.{within}
+use Rattle.lrp_algebra.proofs.Steps.{mapped_get}
 
 pub returns-then-is_above-clause-fault : goal.returns-then-is_above-clause-fault
 returns-then-is_above-clause-fault c = above_cause c.args.of.now c.args.self.now c.requires.keeping c.args.relation c.args.row.now c.args.period.number c.requires.row c.args.period.low c.args.period.high (c.is_above.ensures.above c.if-is_above.true)
@@ -20,7 +21,7 @@ source-requires c = can_sketch c.args.of.now c.args.self.now c.requires.keeping 
 
 pub hold-requires : goal.hold-requires
 hold-requires c =
-    let l : c.args.relation < length c.args.self.now.rows.relations.items = there_is c.args.self.now.rows.relations.items c.args.relation c.requires.row.held c.requires.row.at in
+    let l : c.args.relation < length c.args.self.now.rows.relations.items = within c.args.self.now.rows.relations.items c.args.relation c.requires.row.held c.requires.row.at in
     omega (arith, l, c.in-Ok.ensures.relation)
 
 pub derive-requires-clause-can : goal.derive-requires-clause-can
@@ -55,13 +56,13 @@ let_go-requires-clause-place c =
     (last_place c.args.of.now c.args.self.now c.requires.keeping c.args.relation c.args.row.now c.args.period.number c.requires.row c.args.period.low c.args.period.high (c.is_above.ensures.within c.if-is_above.false) c.hold.new.self c.in-Ok-hold.key c.in-Ok.source c.in-Ok.ensures.relation c.in-Ok.ensures.row c.in-Ok.ensures.sketches c.in-Ok-hold.ensures.held c.derive.new.self.rows c.derive.ensures.rows c.index.result.now c.index.ensures c.len-last.result e).1
 
 pub returns-in-Ok-derive-clause-keeper : goal.returns-in-Ok-derive-clause-keeper
-returns-in-Ok-derive-clause-keeper c = keeper_after c.args.of.now c.args.self.now c.requires.keeping c.args.relation c.args.row.now c.args.period.number c.requires.row c.args.period.low c.args.period.high (c.is_above.ensures.within c.if-is_above.false) c.hold.new.self c.in-Ok-hold.key c.in-Ok.source c.in-Ok.ensures.relation c.in-Ok.ensures.row c.in-Ok.ensures.sketches c.in-Ok-hold.ensures.held c.requires.row.held.name (mapped_at (λ (r : HeldRelation). r.name) c.args.self.now.rows.relations.items c.args.relation c.requires.row.held c.requires.row.at) c.derive.new.self c.derive.ensures.rows (ap (λ (p : Period). p.number) c.in-Ok-derive.ensures.period) c.in-Ok-derive.ensures.derived
+returns-in-Ok-derive-clause-keeper c = keeper_after c.args.of.now c.args.self.now c.requires.keeping c.args.relation c.args.row.now c.args.period.number c.requires.row c.args.period.low c.args.period.high (c.is_above.ensures.within c.if-is_above.false) c.hold.new.self c.in-Ok-hold.key c.in-Ok.source c.in-Ok.ensures.relation c.in-Ok.ensures.row c.in-Ok.ensures.sketches c.in-Ok-hold.ensures.held c.requires.row.held.name (mapped_get (λ (r : HeldRelation). r.name) c.args.self.now.rows.relations.items c.args.relation c.requires.row.held c.requires.row.at) c.derive.new.self c.derive.ensures.rows (ap (λ (p : Period). p.number) c.in-Ok-derive.ensures.period) c.in-Ok-derive.ensures.derived
 
 pub returns-in-Ok-derive-clause-view : goal.returns-in-Ok-derive-clause-view
 returns-in-Ok-derive-clause-view c = record { is = λ name e. view_after c.args.of.now c.args.self.now c.requires.keeping c.args.relation c.args.row.now c.args.period.number c.requires.row c.args.period.low c.args.period.high (c.is_above.ensures.within c.if-is_above.false) c.hold.new.self c.in-Ok-hold.key c.in-Ok.source c.in-Ok.ensures.relation c.in-Ok.ensures.row c.in-Ok.ensures.sketches c.in-Ok-hold.ensures.held name e c.derive.new.self c.derive.ensures.rows (ap (λ (p : Period). p.number) c.in-Ok-derive.ensures.period) c.in-Ok-derive.ensures.derived }
 
 pub returns-in-Ok-derive-clause-limits : goal.returns-in-Ok-derive-clause-limits
-returns-in-Ok-derive-clause-limits c = limits_after c.args.of.now c.args.self.now c.requires.keeping c.args.relation c.args.row.now c.args.period.number c.requires.row c.args.period.low c.args.period.high (c.is_above.ensures.within c.if-is_above.false) c.hold.new.self c.in-Ok-hold.key c.in-Ok.source c.in-Ok.ensures.relation c.in-Ok.ensures.row c.in-Ok.ensures.sketches c.in-Ok-hold.ensures.held c.requires.row.held.name (mapped_at (λ (r : HeldRelation). r.name) c.args.self.now.rows.relations.items c.args.relation c.requires.row.held c.requires.row.at) c.derive.new.self c.derive.ensures.rows (ap (λ (p : Period). p.number) c.in-Ok-derive.ensures.period) c.in-Ok-derive.ensures.derived
+returns-in-Ok-derive-clause-limits c = limits_after c.args.of.now c.args.self.now c.requires.keeping c.args.relation c.args.row.now c.args.period.number c.requires.row c.args.period.low c.args.period.high (c.is_above.ensures.within c.if-is_above.false) c.hold.new.self c.in-Ok-hold.key c.in-Ok.source c.in-Ok.ensures.relation c.in-Ok.ensures.row c.in-Ok.ensures.sketches c.in-Ok-hold.ensures.held c.requires.row.held.name (mapped_get (λ (r : HeldRelation). r.name) c.args.self.now.rows.relations.items c.args.relation c.requires.row.held c.requires.row.at) c.derive.new.self c.derive.ensures.rows (ap (λ (p : Period). p.number) c.in-Ok-derive.ensures.period) c.in-Ok-derive.ensures.derived
 
 pub returns-in_default-clause-same : goal.returns-in_default-clause-same
 returns-in_default-clause-same c = still_self c.args.of.now c.args.self.now c.args.relation c.requires.keeping.state

@@ -15,11 +15,12 @@ use Rattle.lrp_parts.specs.declared.derivation.Derived.{Derived}
 use Rattle.lrp_keep.specs.States.{levels_of}
 use Rattle.lrp_keep.specs.Taken.{HasTakenSome}
 use Rattle.lrp_keep.proofs.Answering.{all_hold, all_reach, alike, none_yet, passed_period, word_period}
-use Rattle.lrp_keep.proofs.Lists.{length_mapped, mapped_at}
 use Rattle.lrp_keep.proofs.Numbered.{all_numbered, columns_counted}
 use Rattle.lrp_keep.proofs.SmallAnswers.{times_counted}
 use Rattle.lrp_keep.proofs.Taken.{HoldsAmong, one_among}
 use Rattle.lrp_keep.proofs.states.State.answer.Goals as goal
+use Rattle.lrp_model.proofs.Everywhere.{map_count}
+use Rattle.lrp_algebra.proofs.Steps.{mapped_get}
 
 pub store_over-store-requires-clause-times : goal.store_over-store-requires-clause-times
 store_over-store-requires-clause-times c =
@@ -45,14 +46,14 @@ add_derived-requires c =
     let period : c.store_over-store.result.period ≡ c.args.self.now.period.number = ap (λ (v : StoreView). v.period) c.store_over-store.ensures ∙ word_period c.args.self.now.period in
     let low : c.loop-derived.derived-index < length c.args.self.now.derived.items = subst (λ xs. c.loop-derived.derived-index < length xs) c.deref-derived-items.ensures.value c.loop-derived-test.true in
     let is : c.derived-item.result ≡ get_or c.args.self.now.derived.items c.loop-derived.derived-index c.derived-item.result = subst (λ xs. c.derived-item.result ≡ get_or xs c.loop-derived.derived-index c.derived-item.result) c.deref-derived-items.ensures.value c.derived-item.is in
-    let there : slice_get (levels_of c.args.self.now) c.loop-derived.derived-index ≡ Some c.derived-item.result.levels.items = mapped_at (λ (d : Derived). d.levels.items) c.args.self.now.derived.items c.loop-derived.derived-index c.derived-item.result (slice_get_read c.args.self.now.derived.items (length c.args.self.now.derived.items) c.loop-derived.derived-index c.derived-item.result refl low is) in
+    let there : slice_get (levels_of c.args.self.now) c.loop-derived.derived-index ≡ Some c.derived-item.result.levels.items = mapped_get (λ (d : Derived). d.levels.items) c.args.self.now.derived.items c.loop-derived.derived-index c.derived-item.result (slice_get_read c.args.self.now.derived.items (length c.args.self.now.derived.items) c.loop-derived.derived-index c.derived-item.result refl low is) in
     alike c.args.of.now c.args.self.now c.requires c.store_over-store.result c.shape.ensures.valid empty times texts period c.loop-derived.store c.loop-derived.invariant.shape c.loop-derived.invariant.period c.loop-derived.derived-index c.derived-item.result.levels.items there
 
 pub loop-derived-preserved : goal.loop-derived-preserved
 loop-derived-preserved c =
     let low : c.loop-derived.derived-index < length c.args.self.now.derived.items = subst (λ xs. c.loop-derived.derived-index < length xs) c.deref-derived-items.ensures.value c.loop-derived-test.true in
     let is : c.derived-item.result ≡ get_or c.args.self.now.derived.items c.loop-derived.derived-index c.derived-item.result = subst (λ xs. c.derived-item.result ≡ get_or xs c.loop-derived.derived-index c.derived-item.result) c.deref-derived-items.ensures.value c.derived-item.is in
-    let there : slice_get (levels_of c.args.self.now) c.loop-derived.derived-index ≡ Some c.derived-item.result.levels.items = mapped_at (λ (d : Derived). d.levels.items) c.args.self.now.derived.items c.loop-derived.derived-index c.derived-item.result (slice_get_read c.args.self.now.derived.items (length c.args.self.now.derived.items) c.loop-derived.derived-index c.derived-item.result refl low is) in
+    let there : slice_get (levels_of c.args.self.now) c.loop-derived.derived-index ≡ Some c.derived-item.result.levels.items = mapped_get (λ (d : Derived). d.levels.items) c.args.self.now.derived.items c.loop-derived.derived-index c.derived-item.result (slice_get_read c.args.self.now.derived.items (length c.args.self.now.derived.items) c.loop-derived.derived-index c.derived-item.result refl low is) in
     one_among (levels_of c.args.self.now) c.loop-derived.derived-index c.derived-item.result.levels.items c.store_over-store.result c.loop-derived.store c.add_derived.new.out there c.loop-derived.invariant c.in_ok-add_derived.ensures
 
 pub invariant_of-result : goal.invariant_of-result
@@ -62,7 +63,7 @@ invariant_of-result c =
     let empty : c.store_over-store.result.tables ≡ finite.empty = ap (λ (v : StoreView). v.tables) c.store_over-store.ensures in
     let period : c.store_over-store.result.period ≡ c.args.self.now.period.number = ap (λ (v : StoreView). v.period) c.store_over-store.ensures ∙ word_period c.args.self.now.period in
     let own : length c.deref-derived-items.result.now ≡ length c.args.self.now.derived.items = ap length c.deref-derived-items.ensures.value in
-    let all : length (levels_of c.args.self.now) ≡ length c.args.self.now.derived.items = length_mapped (λ (d : Derived). d.levels.items) c.args.self.now.derived.items in
+    let all : length (levels_of c.args.self.now) ≡ length c.args.self.now.derived.items = map_count (λ (d : Derived). d.levels.items) c.args.self.now.derived.items in
     let end : c.loop-derived.derived-index ≡ length (levels_of c.args.self.now) = omega (arith, own, all, c.loop-derived-test.false, c.loop-derived.auto.derived-index-end) in
     let taken : HasTakenSome (HoldsAmong (levels_of c.args.self.now) (length (levels_of c.args.self.now))) c.store_over-store.result c.loop-derived.store = subst (λ n. HasTakenSome (HoldsAmong (levels_of c.args.self.now) n) c.store_over-store.result c.loop-derived.store) end c.loop-derived.invariant in
     let heads : c.in_ok-copy.field-0.columns ≡ c.args.of.now.query.now.head.columns = ap (λ (h : Head). h.columns) c.in_ok-copy.ensures in
@@ -77,7 +78,7 @@ returns c =
     let empty : c.store_over-store.result.tables ≡ finite.empty = ap (λ (v : StoreView). v.tables) c.store_over-store.ensures in
     let period : c.store_over-store.result.period ≡ c.args.self.now.period.number = ap (λ (v : StoreView). v.period) c.store_over-store.ensures ∙ word_period c.args.self.now.period in
     let own : length c.deref-derived-items.result.now ≡ length c.args.self.now.derived.items = ap length c.deref-derived-items.ensures.value in
-    let all : length (levels_of c.args.self.now) ≡ length c.args.self.now.derived.items = length_mapped (λ (d : Derived). d.levels.items) c.args.self.now.derived.items in
+    let all : length (levels_of c.args.self.now) ≡ length c.args.self.now.derived.items = map_count (λ (d : Derived). d.levels.items) c.args.self.now.derived.items in
     let end : c.loop-derived.derived-index ≡ length (levels_of c.args.self.now) = omega (arith, own, all, c.loop-derived-test.false, c.loop-derived.auto.derived-index-end) in
     let taken : HasTakenSome (HoldsAmong (levels_of c.args.self.now) (length (levels_of c.args.self.now))) c.store_over-store.result c.loop-derived.store = subst (λ n. HasTakenSome (HoldsAmong (levels_of c.args.self.now) n) c.store_over-store.result c.loop-derived.store) end c.loop-derived.invariant in
     record { head = ap (λ (h : Head). h.columns) c.in_ok-copy.ensures; domain = c.in_ok-copy-2.ensures; period = passed_period c.args.self.now.period; valid = c.loop-derived.invariant.valid; times = ap (λ (h : Shape). h.times) c.loop-derived.invariant.shape ∙ times; texts = ap (λ (h : Shape). h.texts) c.loop-derived.invariant.shape ∙ texts; holds = all_hold c.args.of.now c.args.self.now c.requires c.store_over-store.result c.shape.ensures.valid empty times texts period c.loop-derived.store taken; reach = all_reach c.args.of.now c.args.self.now c.requires c.store_over-store.result c.shape.ensures.valid empty times texts period c.loop-derived.store taken }
