@@ -156,6 +156,21 @@ class Definitions(unittest.TestCase):
             self.assertEqual(sorted(crates), sorted(re.findall(r"lrp_\w+", " ".join(rows))), document)
 
 
+class Walk(unittest.TestCase):
+    """The way of a query, with the functions that go it."""
+
+    def test_each_call_is_a_function_of_its_crate(self):
+        text = (TOP / "docs/architecture.md").read_text().split("## The way of a query")[1].split("\n## ")[0]
+        listed = re.findall(r"(?m)^    (lrp_\w+) +(.*)$", text)
+        calls = [(crate, name) for crate, names in listed for name in names.split(", ")]
+        calls += [(crate, name) for name, crate in re.findall(r"`(\w+)` (?:\(|of )`(lrp_\w+)`", text) if name[0].islower()]
+        self.assertGreater(len(calls), 30)
+        for crate, name in calls:
+            with self.subTest(f"{crate} {name}"):
+                code = "\n".join(file.read_text() for file in TOP.glob(f"crates/{crate}/src/*.rt"))
+                self.assertRegex(code, rf"\bfn {name}\b")
+
+
 class Links(unittest.TestCase):
     """What documents and pages name is there."""
 
