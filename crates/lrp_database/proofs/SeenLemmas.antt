@@ -23,7 +23,7 @@ use Rattle.lrp_model.specs.declared.relations.Value.TheVariants.{Point, Const}
 use Rattle.lrp_model.specs.Kept.{AreValuesOf}
 use Rattle.lrp_database.specs.Seen.{HasSeen, SeesMore, named_texts}
 use Rattle.lrp_database.specs.declared.seen.Seen.{Seen}
-use Rattle.lrp_database.specs.Once.{once, put_once, texts_among, texts_with, beside}
+use Rattle.lrp_database.specs.Once.{once, put_once, texts_among, texts_with, texts_beside}
 
 -- a fact of an Ok gives another
 pub on_ok : {T E : Type 0} {P Q : Type 0} (r : Result T E) → (P → Q) → OnOk r P → OnOk r Q
@@ -66,23 +66,23 @@ not_both name m n apart a b =
     cc
 
 -- other texts at the place of a name
-beside_set : (ns : List Identifier) (tss : List (List Text)) (i : ℕ) (name : Identifier) (u : List Text) → IsFirst (bytes_eq name) ns i → length ns ≡ length tss → (n : Identifier) → beside ns (slice_set tss i u) n ≡ (if bytes_eq n name then u else beside ns tss n)
+beside_set : (ns : List Identifier) (tss : List (List Text)) (i : ℕ) (name : Identifier) (u : List Text) → IsFirst (bytes_eq name) ns i → length ns ≡ length tss → (n : Identifier) → texts_beside ns (slice_set tss i u) n ≡ (if bytes_eq n name then u else texts_beside ns tss n)
 beside_set [] tss i name u first same n = absurd first
 beside_set (m ∷ ns) [] i name u first same n = absurd (omega (arith, same))
 beside_set (m ∷ ns) (ts ∷ tss) zero name u first same n =
-    let P : Identifier → Type 0 = λ x. (if bytes_eq n x then u else beside ns tss n) ≡ (if bytes_eq n name then u else (if bytes_eq n x then ts else beside ns tss n)) in
-    subst P ((bytes_decides name m).0 first) (same_choice (bytes_eq n name) u ts (beside ns tss n))
+    let P : Identifier → Type 0 = λ x. (if bytes_eq n x then u else texts_beside ns tss n) ≡ (if bytes_eq n name then u else (if bytes_eq n x then ts else texts_beside ns tss n)) in
+    subst P ((bytes_decides name m).0 first) (same_choice (bytes_eq n name) u ts (texts_beside ns tss n))
 beside_set (m ∷ ns) (ts ∷ tss) (suc i) name u first same n =
     ap (λ r. if bytes_eq n m then ts else r) (beside_set ns tss i name u first.1 (omega (arith, same)) n)
-    ∙ swap_choice (bytes_eq n m) (bytes_eq n name) ts u (beside ns tss n) (not_both name m n first.0)
+    ∙ swap_choice (bytes_eq n m) (bytes_eq n name) ts u (texts_beside ns tss n) (not_both name m n first.0)
 
 -- the texts at the place of a name are those beside it
-beside_here : (ns : List Identifier) (tss : List (List Text)) (i : ℕ) (name : Identifier) (d : List Text) → IsFirst (bytes_eq name) ns i → length ns ≡ length tss → get_or tss i d ≡ beside ns tss name
+beside_here : (ns : List Identifier) (tss : List (List Text)) (i : ℕ) (name : Identifier) (d : List Text) → IsFirst (bytes_eq name) ns i → length ns ≡ length tss → get_or tss i d ≡ texts_beside ns tss name
 beside_here [] tss i name d first same = absurd first
 beside_here (m ∷ ns) [] i name d first same = absurd (omega (arith, same))
-beside_here (m ∷ ns) (ts ∷ tss) zero name d first same = sym (ap (λ b. if b then ts else beside ns tss name) first)
+beside_here (m ∷ ns) (ts ∷ tss) zero name d first same = sym (ap (λ b. if b then ts else texts_beside ns tss name) first)
 beside_here (m ∷ ns) (ts ∷ tss) (suc i) name d first same =
-    beside_here ns tss i name d first.1 (omega (arith, same)) ∙ sym (ap (λ b. if b then ts else beside ns tss name) first.0)
+    beside_here ns tss i name d first.1 (omega (arith, same)) ∙ sym (ap (λ b. if b then ts else texts_beside ns tss name) first.0)
 
 -- a text more beside a name, said of any name
 put_at : (f : Identifier → List Text) (name : Identifier) (text : Text) (n : Identifier) (b : Bool) → bytes_eq n name ≡ b → (if b then put_once (f name) text else f n) ≡ (if b then put_once (f n) text else f n)
@@ -91,11 +91,11 @@ put_at f name text n false e = refl
 
 -- a text more in the set beside a name that is there
 pub put_found : (ns : List Identifier) (tss : List (List Text)) (i : ℕ) (name : Identifier) (text : Text) (u d : List Text) → IsFirst (bytes_eq name) ns i → length ns ≡ length tss → u ≡ put_once (get_or tss i d) text
-    → (n : Identifier) → beside ns (slice_set tss i u) n ≡ (if bytes_eq n name then put_once (beside ns tss n) text else beside ns tss n)
+    → (n : Identifier) → texts_beside ns (slice_set tss i u) n ≡ (if bytes_eq n name then put_once (texts_beside ns tss n) text else texts_beside ns tss n)
 put_found ns tss i name text u d first same is n =
     beside_set ns tss i name u first same n
-    ∙ ap (λ x. if bytes_eq n name then x else beside ns tss n) (is ∙ ap (λ x. put_once x text) (beside_here ns tss i name d first same))
-    ∙ put_at (beside ns tss) name text n (bytes_eq n name) refl
+    ∙ ap (λ x. if bytes_eq n name then x else texts_beside ns tss n) (is ∙ ap (λ x. put_once x text) (beside_here ns tss i name d first same))
+    ∙ put_at (texts_beside ns tss) name text n (bytes_eq n name) refl
 
 -- of two tests that fail together, each fails
 pub neither : (a b : Bool) → a || b ≡ false → (a ≡ false) × (b ≡ false)
@@ -103,30 +103,30 @@ neither true b e = absurd cc
 neither false b e = (refl, e)
 
 -- nothing is beside a name that is not there
-pub beside_none : (ns : List Identifier) (tss : List (List Text)) (name : Identifier) → list_any (bytes_eq name) ns ≡ false → beside ns tss name ≡ []
+pub beside_none : (ns : List Identifier) (tss : List (List Text)) (name : Identifier) → list_any (bytes_eq name) ns ≡ false → texts_beside ns tss name ≡ []
 beside_none [] tss name none = refl
 beside_none (m ∷ ns) [] name none = refl
 beside_none (m ∷ ns) (ts ∷ tss) name none =
     let both = neither (bytes_eq name m) (list_any (bytes_eq name) ns) none in
-    ap (λ b. if b then ts else beside ns tss name) both.0 ∙ beside_none ns tss name both.1
+    ap (λ b. if b then ts else texts_beside ns tss name) both.0 ∙ beside_none ns tss name both.1
 
 -- a new name with its texts, behind the others
-beside_new : (ns : List Identifier) (tss : List (List Text)) (name : Identifier) (u : List Text) → list_any (bytes_eq name) ns ≡ false → length ns ≡ length tss → (n : Identifier) → beside (ns ++ name ∷ []) (tss ++ u ∷ []) n ≡ (if bytes_eq n name then u else beside ns tss n)
+beside_new : (ns : List Identifier) (tss : List (List Text)) (name : Identifier) (u : List Text) → list_any (bytes_eq name) ns ≡ false → length ns ≡ length tss → (n : Identifier) → texts_beside (ns ++ name ∷ []) (tss ++ u ∷ []) n ≡ (if bytes_eq n name then u else texts_beside ns tss n)
 beside_new [] [] name u none same n = refl
 beside_new [] (ts ∷ tss) name u none same n = absurd (omega (arith, same))
 beside_new (m ∷ ns) [] name u none same n = absurd (omega (arith, same))
 beside_new (m ∷ ns) (ts ∷ tss) name u none same n =
     let both = neither (bytes_eq name m) (list_any (bytes_eq name) ns) none in
     ap (λ r. if bytes_eq n m then ts else r) (beside_new ns tss name u both.1 (omega (arith, same)) n)
-    ∙ swap_choice (bytes_eq n m) (bytes_eq n name) ts u (beside ns tss n) (not_both name m n both.0)
+    ∙ swap_choice (bytes_eq n m) (bytes_eq n name) ts u (texts_beside ns tss n) (not_both name m n both.0)
 
 -- a name with one text, which was not there
 pub put_new : (ns : List Identifier) (tss : List (List Text)) (name : Identifier) (text : Text) → list_any (bytes_eq name) ns ≡ false → length ns ≡ length tss
-    → (n : Identifier) → beside (ns ++ name ∷ []) (tss ++ (text ∷ []) ∷ []) n ≡ (if bytes_eq n name then put_once (beside ns tss n) text else beside ns tss n)
+    → (n : Identifier) → texts_beside (ns ++ name ∷ []) (tss ++ (text ∷ []) ∷ []) n ≡ (if bytes_eq n name then put_once (texts_beside ns tss n) text else texts_beside ns tss n)
 put_new ns tss name text none same n =
     beside_new ns tss name (text ∷ []) none same n
-    ∙ ap (λ x. if bytes_eq n name then put_once x text else beside ns tss n) (sym (beside_none ns tss name none))
-    ∙ put_at (beside ns tss) name text n (bytes_eq n name) refl
+    ∙ ap (λ x. if bytes_eq n name then put_once x text else texts_beside ns tss n) (sym (beside_none ns tss name none))
+    ∙ put_at (texts_beside ns tss) name text n (bytes_eq n name) refl
 
 -- one more among the texts
 once_more : (es : List (Sort × Text)) (e : Sort × Text) → once (texts_among (es ++ e ∷ [])) ≡ put_once (once (texts_among es)) e.1
@@ -199,5 +199,5 @@ row_all cs vs i h le =
     ap (λ l. row_texts l (take i vs)) (take_all i cs (omega (arith, le, same))) ∙ ap (row_texts cs) (take_all i vs le)
 
 -- the texts at the place that a search finds are those beside the name
-pub beside_found : (ns : List Identifier) (tss : List (List Text)) (i : ℕ) (name : Identifier) (ts : List Text) → position (bytes_eq name) ns ≡ Some i → length ns ≡ length tss → slice_get tss i ≡ Some ts → ts ≡ beside ns tss name
+pub beside_found : (ns : List Identifier) (tss : List (List Text)) (i : ℕ) (name : Identifier) (ts : List Text) → position (bytes_eq name) ns ≡ Some i → length ns ≡ length tss → slice_get tss i ≡ Some ts → ts ≡ texts_beside ns tss name
 beside_found ns tss i name ts found same at = sym (get_or_from_slice_get tss i ts [] at) ∙ beside_here ns tss i name [] (found_first (bytes_eq name) ns i name found) same

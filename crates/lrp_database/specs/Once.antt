@@ -23,6 +23,6 @@ abbrev pub texts_with : Sort → List (Sort × Text) → List Text
 texts_with s entries = texts_among (filter (λ entry. same_sort entry.0 s) entries)
 
 -- the texts beside a name, where lists of texts stand beside names; none where the name is not among them
-abbrev pub beside : List Identifier → List (List Text) → Identifier → List Text
-beside (n ∷ ns) (ts ∷ tss) m = if bytes_eq m n then ts else beside ns tss m
-beside _ _ m = []
+abbrev pub texts_beside : List Identifier → List (List Text) → Identifier → List Text
+texts_beside (n ∷ ns) (ts ∷ tss) m = if bytes_eq m n then ts else texts_beside ns tss m
+texts_beside _ _ m = []

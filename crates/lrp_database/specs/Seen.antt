@@ -5,12 +5,12 @@ use Rattle.indexmap.specs.IndexSet.{keys}
 use Rattle.lrp_model.specs.Texts.{Text, Identifier}
 use Rattle.lrp_model.specs.declared.relations.Sort.{Sort}
 use Rattle.lrp_model.specs.declared.relations.Sort.TheVariants.{Data, Named}
-use Rattle.lrp_database.specs.Once.{once, put_once, texts_among, texts_with, beside}
+use Rattle.lrp_database.specs.Once.{once, put_once, texts_among, texts_with, texts_beside}
 use Rattle.lrp_database.specs.declared.seen.Seen.{Seen}
 
 -- the texts that were seen of the sort of this name
 abbrev pub named_texts : Seen → Identifier → List Text
-named_texts seen = beside (keys seen.names) (map keys seen.named.items)
+named_texts seen = texts_beside (keys seen.names) (map keys seen.named.items)
 
 -- each name has a set beside it
 abbrev pub IsPaired : Seen → Type 0

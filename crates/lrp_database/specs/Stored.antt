@@ -7,7 +7,7 @@ use Rattle.lrp_model.specs.declared.relations.Sort.TheVariants.{Data, Named}
 use Rattle.lrp_model.specs.declared.relations.Relation.{Relation}
 use Rattle.lrp_model.specs.Kept.{AreKept}
 use Rattle.lrp_database.specs.declared.texts.Texts.{Texts}
-use Rattle.lrp_database.specs.Once.{once, texts_among, texts_with, beside}
+use Rattle.lrp_database.specs.Once.{once, texts_among, texts_with, texts_beside}
 
 -- a database has fewer than 2 ^ 24 data texts in its rows
 abbrev pub HasFewTexts : List Relation → Type 0
@@ -17,12 +17,12 @@ HasFewTexts relations = length (database_texts relations) < 2 ^ 24
 pub record AreTextsOf (relations : List Relation) (texts : Texts) : Type 0 where
   pub all : texts.all ≡ once (texts_among (database_texts relations))
   pub unnamed : texts.unnamed ≡ once (texts_with Data (database_texts relations))
-  pub named : (n : Identifier) → beside (keys texts.names) texts.named n ≡ once (texts_with (Named n) (database_texts relations))
+  pub named : (n : Identifier) → texts_beside (keys texts.names) texts.named n ≡ once (texts_with (Named n) (database_texts relations))
   pub paired : length (keys texts.names) ≡ length texts.named
   pub none : texts.none ≡ []
 
 -- the relations are kept, their names stand in order, and the texts are theirs
-pub record IsStored (relations : List Relation) (names : List Identifier) (texts : Texts) : Type 0 where
+pub record IsDatabaseStored (relations : List Relation) (names : List Identifier) (texts : Texts) : Type 0 where
   pub kept : AreKept relations
   pub few : HasFewTexts relations
   pub order : names ≡ map (λ r. r.name) relations

@@ -32,13 +32,13 @@ impl Model for Database {
     ghost use Rattle.std.specs.Prelude.{List, ◌≡◌, []};
     ghost use Rattle.indexmap.specs.IndexSet.{keys};
     ghost use Rattle.lrp_model.specs.declared.relations.Relation.{Relation as RelationOf};
-    ghost use Rattle.lrp_database.specs.Stored.{IsStored};
+    ghost use Rattle.lrp_database.specs.Stored.{IsDatabaseStored};
 
     ghost Value = { List RelationOf };
 
     ghost view = { λ d. d.relations };
 
-    ghost invariant = { λ d. IsStored d.relations (keys d.names) d.texts };
+    ghost invariant = { λ d. IsDatabaseStored d.relations (keys d.names) d.texts };
 }
 
 // The names of relations, in order.

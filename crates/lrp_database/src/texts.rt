@@ -3,7 +3,7 @@ ghost use Rattle.std.specs.Prelude.{◌≡◌, ◌∷◌, [], map, length, IfOk}
 ghost use Rattle.std.specs.List.{AllByRecursion};
 ghost use Rattle.indexmap.specs.IndexSet.{keys};
 ghost use Rattle.lrp_model.specs.Kept.{IsKept};
-ghost use Rattle.lrp_database.specs.Once.{beside};
+ghost use Rattle.lrp_database.specs.Once.{texts_beside};
 ghost use Rattle.lrp_database.specs.Stored.{AreTextsOf};
 
 use crate::seen::Seen;
@@ -67,7 +67,7 @@ impl Texts {
     pub fn of_name(&self, name: &Name) -> &List<DataText>
         requires none { self.now.none ≡ [] }
         requires paired { length (keys self.now.names) ≡ length self.now.named }
-        ensures { result.now ≡ beside (keys self.now.names) self.now.named name.now }
+        ensures { result.now ≡ texts_beside (keys self.now.names) self.now.named name.now }
     {
         match self.names.get_index_of(name) {
             Some(i) => self.named.at(i),

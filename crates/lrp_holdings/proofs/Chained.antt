@@ -4,7 +4,7 @@ use Rattle.std.specs.Prelude.{slice_set}
 use Rattle.std.proofs.lemmas.List.{get_or-set_same, get_or-set_other, length-set}
 use Rattle.lrp_holdings.proofs.Cases.{eq_or}
 use Rattle.lrp_holdings.specs.Chains.{AreChained, HasRoomForFirst, IsLedTo, first_of}
-use Rattle.lrp_holdings.specs.declared.chains.Link.{Link}
+use Rattle.lrp_holdings.specs.declared.chains.OwnerLink.{OwnerLink}
 use Rattle.lrp_holdings.specs.declared.chains.Owner.{Owner}
 
 pub some_is : {X : Type 0} (a b : X) → Some a ≡ Some b → a ≡ b
@@ -17,25 +17,25 @@ pub some_stands : {X : Type 0} (x : Option X) (p : X) → x ≡ Some p → IsSom
 some_stands x p e = subst (λ y. IsSome y) (sym e) refl
 
 -- equal in both numbers
-pub same_link : (a b : Link) → a.slot ≡ b.slot → a.place ≡ b.place → a ≡ b
+pub same_link : (a b : OwnerLink) → a.slot ≡ b.slot → a.place ≡ b.place → a ≡ b
 same_link a b s p = ap (λ n. record { slot = n; place = a.place }) s ∙ ap (λ n. record { slot = b.slot; place = n }) p
 
 pub none_some : {X : Type 0} (a : X) → None ≡ Some a → ⊥
 none_some a e = cc
 
 -- equal or not
-pub link_or : (a b : Link) → (a ≡ b) ⊎ (a ≢ b)
+pub link_or : (a b : OwnerLink) → (a ≡ b) ⊎ (a ≢ b)
 link_or a b = elim (eq_or a.slot b.slot) [
-  | inl s ↦ elim (eq_or a.place b.place) [ inl p ↦ inl (same_link a b s p) | inr d ↦ inr (λ e. d (ap (λ (l : Link). l.place) e)) ]
-  | inr d ↦ inr (λ e. d (ap (λ (l : Link). l.slot) e))
+  | inl s ↦ elim (eq_or a.place b.place) [ inl p ↦ inl (same_link a b s p) | inr d ↦ inr (λ e. d (ap (λ (l : OwnerLink). l.place) e)) ]
+  | inr d ↦ inr (λ e. d (ap (λ (l : OwnerLink). l.slot) e))
 ]
 
-pub some_or : (a : Option Link) (l : Link) → (a ≡ Some l) ⊎ (a ≢ Some l)
+pub some_or : (a : Option OwnerLink) (l : OwnerLink) → (a ≡ Some l) ⊎ (a ≢ Some l)
 some_or None l = inr (λ e. none_some l e)
 some_or (Some m) l = elim (link_or m l) [ inl e ↦ inl (ap (λ k. Some k) e) | inr d ↦ inr (λ e. d (some_is m l e)) ]
 
 -- the same links
-pub mapped : (P Q : Link → Owner → Type 0) (chains : List (Option Link)) → ((m : Link) (o : Owner) → P m o → Q m o) → ((m : Link) (o : Owner) → Q m o → P m o) → AreChained P chains → AreChained Q chains
+pub mapped : (P Q : OwnerLink → Owner → Type 0) (chains : List (Option OwnerLink)) → ((m : OwnerLink) (o : Owner) → P m o → Q m o) → ((m : OwnerLink) (o : Owner) → Q m o → P m o) → AreChained P chains → AreChained Q chains
 mapped P Q chains f g c = record {
   serial = c.serial;
   room = λ l o h. c.room l o (g l o h);
@@ -46,7 +46,7 @@ mapped P Q chains f g c = record {
 }
 
 -- room for more chains
-pub roomier : (P : Link → Owner → Type 0) (old new : List (Option Link)) → HasRoomForFirst old new → AreChained P old → AreChained P new
+pub roomier : (P : OwnerLink → Owner → Type 0) (old new : List (Option OwnerLink)) → HasRoomForFirst old new → AreChained P old → AreChained P new
 roomier P old new w c = record {
   serial = c.serial;
   room = λ l o h. let x = c.room l o h in omega (arith, x, w.more);
@@ -57,45 +57,45 @@ roomier P old new w c = record {
 }
 
 -- where no chain begins, no owner of that number stands: from each link one comes back to a beginning
-module _ (P : Link → Owner → Type 0) (chains : List (Option Link)) (c : AreChained P chains) (n : ℕ) (none : first_of chains n ≡ None) where
-  absent_from : (l : Link) (o : Owner) → P l o → o.number ≡ n → ((m : Link) (p : Owner) → c.serial m < c.serial l → P m p → p.number ≡ n → ⊥) → ⊥
+module _ (P : OwnerLink → Owner → Type 0) (chains : List (Option OwnerLink)) (c : AreChained P chains) (n : ℕ) (none : first_of chains n ≡ None) where
+  absent_from : (l : OwnerLink) (o : Owner) → P l o → o.number ≡ n → ((m : OwnerLink) (p : Owner) → c.serial m < c.serial l → P m p → p.number ≡ n → ⊥) → ⊥
   absent_from l o h e rest = by o.before refl
     where
-      by : (b : Option Link) → o.before ≡ b → ⊥
+      by : (b : Option OwnerLink) → o.before ≡ b → ⊥
       by None i = none_some l (sym none ∙ sym (ap (λ x. first_of chains x) e) ∙ c.first_to l o h i)
       by (Some m) i = let x = c.before l o m h i in rest m x.0 x.4 x.1 (x.2 ∙ e)
 
-  absent_by : (k : ℕ) (l : Link) (o : Owner) → c.serial l < k → P l o → o.number ≡ n → ⊥
+  absent_by : (k : ℕ) (l : OwnerLink) (o : Owner) → c.serial l < k → P l o → o.number ≡ n → ⊥
   absent_by zero l o low h e = omega (arith, low)
   absent_by (suc k) l o low h e = absent_from l o h e (λ m p s i j. absent_by k m p (omega (arith, low, s)) i j)
 
-  pub absent : (l : Link) (o : Owner) → P l o → o.number ≡ n → ⊥
+  pub absent : (l : OwnerLink) (o : Owner) → P l o → o.number ≡ n → ⊥
   absent l o h e = absent_by (suc (c.serial l)) l o (omega arith) h e
 
 -- ---- a link is taken out
 
 -- what was linked to it is linked to what it was linked to
-pub record IsRedirected (l : Link) (o p q : Owner) : Type 0 where
+pub record IsRedirected (l : OwnerLink) (o p q : Owner) : Type 0 where
   pub number : q.number ≡ p.number
   pub next_to : p.next ≡ Some l → q.next ≡ o.next
   pub next_same : p.next ≢ Some l → q.next ≡ p.next
   pub before_to : p.before ≡ Some l → q.before ≡ o.before
   pub before_same : p.before ≢ Some l → q.before ≡ p.before
 
-pub record IsUnlinked (P Q : Link → Owner → Type 0) (l : Link) (o : Owner) : Type 0 where
-  pub to : (m : Link) (q : Owner) → Q m q → (p : Owner) × P m p × (m ≢ l) × IsRedirected l o p q
-  pub from : (m : Link) (p : Owner) → P m p → m ≢ l → (q : Owner) × Q m q × IsRedirected l o p q
+pub record IsUnlinked (P Q : OwnerLink → Owner → Type 0) (l : OwnerLink) (o : Owner) : Type 0 where
+  pub to : (m : OwnerLink) (q : Owner) → Q m q → (p : Owner) × P m p × (m ≢ l) × IsRedirected l o p q
+  pub from : (m : OwnerLink) (p : Owner) → P m p → m ≢ l → (q : Owner) × Q m q × IsRedirected l o p q
 
-module _ (P Q : Link → Owner → Type 0) (old new : List (Option Link)) (c : AreChained P old) (one : (m : Link) (p q : Owner) → P m p → P m q → p ≡ q)
-    (l : Link) (o : Owner) (at : P l o) (led : IsLedTo o old new) (w : IsUnlinked P Q l o) where
+module _ (P Q : OwnerLink → Owner → Type 0) (old new : List (Option OwnerLink)) (c : AreChained P old) (one : (m : OwnerLink) (p q : Owner) → P m p → P m q → p ≡ q)
+    (l : OwnerLink) (o : Owner) (at : P l o) (led : IsLedTo o old new) (w : IsUnlinked P Q l o) where
   first_same : (n : ℕ) → n ≢ o.number → first_of new n ≡ first_of old n
   first_same n d = by o.before refl
     where
-      by : (b : Option Link) → o.before ≡ b → first_of new n ≡ first_of old n
+      by : (b : Option OwnerLink) → o.before ≡ b → first_of new n ≡ first_of old n
       by None e = ap (λ cs. first_of cs n) (led.first e) ∙ get_or-set_other old o.number n o.next None d
       by (Some b) e = ap (λ cs. first_of cs n) (led.later b e)
 
-  first_later : (b : Link) → o.before ≡ Some b → (n : ℕ) → first_of new n ≡ first_of old n
+  first_later : (b : OwnerLink) → o.before ≡ Some b → (n : ℕ) → first_of new n ≡ first_of old n
   first_later b e n = ap (λ cs. first_of cs n) (led.later b e)
 
   first_led : o.before ≡ None → first_of new o.number ≡ o.next
@@ -104,25 +104,25 @@ module _ (P Q : Link → Owner → Type 0) (old new : List (Option Link)) (c : A
   same_size : length new ≡ length old
   same_size = by o.before refl
     where
-      by : (b : Option Link) → o.before ≡ b → length new ≡ length old
-      by None e = ap (λ (cs : List (Option Link)). length cs) (led.first e) ∙ length-set old o.number o.next
-      by (Some b) e = ap (λ (cs : List (Option Link)). length cs) (led.later b e)
+      by : (b : Option OwnerLink) → o.before ≡ b → length new ≡ length old
+      by None e = ap (λ (cs : List (Option OwnerLink)). length cs) (led.first e) ∙ length-set old o.number o.next
+      by (Some b) e = ap (λ (cs : List (Option OwnerLink)). length cs) (led.later b e)
 
   -- a link with this one before or behind it is another one
-  apart_before : (m : Link) (p : Owner) → P m p → p.before ≡ Some l → m ≢ l
+  apart_before : (m : OwnerLink) (p : Owner) → P m p → p.before ≡ Some l → m ≢ l
   apart_before m p h b e = let x = c.before m p l h b in let s : c.serial l < c.serial m = x.4 in let t : c.serial m ≡ c.serial l = ap c.serial e in omega (arith, s, t)
 
-  keeps : (m : Link) (p : Owner) → P m p → m ≢ l → p.before ≡ None → first_of new p.number ≡ Some m
+  keeps : (m : OwnerLink) (p : Owner) → P m p → m ≢ l → p.before ≡ None → first_of new p.number ≡ Some m
   keeps m p h d none = elim (eq_or p.number o.number) [
     | inr differ ↦ first_same p.number differ ∙ c.first_to m p h none
     | inl same ↦ by same o.before refl
   ]
     where
-      by : p.number ≡ o.number → (b : Option Link) → o.before ≡ b → first_of new p.number ≡ Some m
+      by : p.number ≡ o.number → (b : Option OwnerLink) → o.before ≡ b → first_of new p.number ≡ Some m
       by same (Some b) e = first_later b e p.number ∙ c.first_to m p h none
       by same None e = absurd (d (some_is m l (sym (c.first_to m p h none) ∙ ap (λ n. first_of old n) same ∙ c.first_to l o at e)))
 
-  to_first : (m : Link) (q : Owner) → Q m q → q.before ≡ None → first_of new q.number ≡ Some m
+  to_first : (m : OwnerLink) (q : Owner) → Q m q → q.before ≡ None → first_of new q.number ≡ Some m
   to_first m q h e =
       let x = w.to m q h in
       elim (some_or x.0.before l) [
@@ -132,7 +132,7 @@ module _ (P Q : Link → Owner → Type 0) (old new : List (Option Link)) (c : A
         | inr d ↦ ap (λ n. first_of new n) x.3.number ∙ keeps m x.0 x.1 x.2 (sym (x.3.before_same d) ∙ e)
       ]
 
-  from_first : (n : ℕ) (m : Link) → first_of new n ≡ Some m → (q : Owner) × Q m q × (q.number ≡ n) × (q.before ≡ None)
+  from_first : (n : ℕ) (m : OwnerLink) → first_of new n ≡ Some m → (q : Owner) × Q m q × (q.number ≡ n) × (q.before ≡ None)
   from_first n m h = elim (eq_or n o.number) [ inr d ↦ stays (sym (first_same n d) ∙ h) (λ same none. d (sym same)) | inl s ↦ by s o.before refl ]
     where
       stays : first_of old n ≡ Some m → (o.number ≡ n → o.before ≡ None → ⊥) → (q : Owner) × Q m q × (q.number ≡ n) × (q.before ≡ None)
@@ -142,14 +142,14 @@ module _ (P Q : Link → Owner → Type 0) (old new : List (Option Link)) (c : A
           let y = w.from m x.0 x.1 d in
           (y.0, y.1, y.2.number ∙ x.2, y.2.before_same (λ e. none_some l (sym x.3 ∙ e)) ∙ x.3)
 
-      by : n ≡ o.number → (b : Option Link) → o.before ≡ b → (q : Owner) × Q m q × (q.number ≡ n) × (q.before ≡ None)
+      by : n ≡ o.number → (b : Option OwnerLink) → o.before ≡ b → (q : Owner) × Q m q × (q.number ≡ n) × (q.before ≡ None)
       by s (Some b) e = stays (sym (first_later b e n) ∙ h) (λ same none. none_some b (sym none ∙ e))
       by s None e =
           let x = c.next l o m at (sym (first_led e) ∙ ap (λ k. first_of new k) (sym s) ∙ h) in
           let y = w.from m x.0 x.1 (apart_before m x.0 x.1 x.3) in
           (y.0, y.1, y.2.number ∙ x.2 ∙ sym s, y.2.before_to x.3 ∙ e)
 
-  to_next : (m : Link) (q : Owner) (k : Link) → Q m q → q.next ≡ Some k → (p : Owner) × Q k p × (p.number ≡ q.number) × (p.before ≡ Some m)
+  to_next : (m : OwnerLink) (q : Owner) (k : OwnerLink) → Q m q → q.next ≡ Some k → (p : Owner) × Q k p × (p.number ≡ q.number) × (p.before ≡ Some m)
   to_next m q k h e =
       let x = w.to m q h in
       elim (some_or x.0.next l) [
@@ -164,7 +164,7 @@ module _ (P Q : Link → Owner → Type 0) (old new : List (Option Link)) (c : A
             (u.0, u.1, u.2.number ∙ z.2 ∙ sym x.3.number, u.2.before_same (λ i. x.2 (some_is m l (sym z.3 ∙ i))) ∙ z.3)
       ]
 
-  to_before : (m : Link) (q : Owner) (k : Link) → Q m q → q.before ≡ Some k → (p : Owner) × Q k p × (p.number ≡ q.number) × (p.next ≡ Some m) × (c.serial k < c.serial m)
+  to_before : (m : OwnerLink) (q : Owner) (k : OwnerLink) → Q m q → q.before ≡ Some k → (p : Owner) × Q k p × (p.number ≡ q.number) × (p.next ≡ Some m) × (c.serial k < c.serial m)
   to_before m q k h e =
       let x = w.to m q h in
       elim (some_or x.0.before l) [
@@ -194,32 +194,32 @@ module _ (P Q : Link → Owner → Type 0) (old new : List (Option Link)) (c : A
 -- ---- a link is put before the others of a chain
 
 -- the link that was the first has this one before it
-pub record IsFronted (l : Link) (first : Option Link) (m : Link) (p q : Owner) : Type 0 where
+pub record IsFronted (l : OwnerLink) (first : Option OwnerLink) (m : OwnerLink) (p q : Owner) : Type 0 where
   pub number : q.number ≡ p.number
   pub next : q.next ≡ p.next
   pub before_to : first ≡ Some m → q.before ≡ Some l
   pub before_same : first ≢ Some m → q.before ≡ p.before
 
-pub record IsLinked (P Q : Link → Owner → Type 0) (l : Link) (n : ℕ) (first : Option Link) : Type 0 where
+pub record IsLinked (P Q : OwnerLink → Owner → Type 0) (l : OwnerLink) (n : ℕ) (first : Option OwnerLink) : Type 0 where
   pub free : (p : Owner) → P l p → ⊥
   pub there : (q : Owner) × Q l q × (q.number ≡ n) × (q.before ≡ None) × (q.next ≡ first)
   pub one : (p q : Owner) → Q l p → Q l q → p ≡ q
-  pub to : (m : Link) (q : Owner) → Q m q → m ≢ l → (p : Owner) × P m p × IsFronted l first m p q
-  pub from : (m : Link) (p : Owner) → P m p → (q : Owner) × Q m q × IsFronted l first m p q
+  pub to : (m : OwnerLink) (q : Owner) → Q m q → m ≢ l → (p : Owner) × P m p × IsFronted l first m p q
+  pub from : (m : OwnerLink) (p : Owner) → P m p → (q : Owner) × Q m q × IsFronted l first m p q
 
-module _ (P Q : Link → Owner → Type 0) (old : List (Option Link)) (c : AreChained P old) (one : (m : Link) (p q : Owner) → P m p → P m q → p ≡ q)
-    (l : Link) (n : ℕ) (low : n < length old) (w : IsLinked P Q l n (first_of old n)) where
-  abbrev New : List (Option Link)
+module _ (P Q : OwnerLink → Owner → Type 0) (old : List (Option OwnerLink)) (c : AreChained P old) (one : (m : OwnerLink) (p q : Owner) → P m p → P m q → p ≡ q)
+    (l : OwnerLink) (n : ℕ) (low : n < length old) (w : IsLinked P Q l n (first_of old n)) where
+  abbrev New : List (Option OwnerLink)
   New = slice_set old n (Some l)
 
-  abbrev first : Option Link
+  abbrev first : Option OwnerLink
   first = first_of old n
 
-  abbrev rank : (m : Link) → (m ≡ l) ⊎ (m ≢ l) → ℕ
+  abbrev rank : (m : OwnerLink) → (m ≡ l) ⊎ (m ≢ l) → ℕ
   rank m (inl e) = 0
   rank m (inr d) = suc (c.serial m)
 
-  abbrev ranked : Link → ℕ
+  abbrev ranked : OwnerLink → ℕ
   ranked m = rank m (link_or m l)
 
   ranked_here : ranked l ≡ 0
@@ -229,7 +229,7 @@ module _ (P Q : Link → Owner → Type 0) (old : List (Option Link)) (c : AreCh
       by (inl e) = refl
       by (inr d) = absurd (d refl)
 
-  ranked_other : (m : Link) → m ≢ l → ranked m ≡ suc (c.serial m)
+  ranked_other : (m : OwnerLink) → m ≢ l → ranked m ≡ suc (c.serial m)
   ranked_other m d = by (link_or m l)
     where
       by : (x : (m ≡ l) ⊎ (m ≢ l)) → rank m x ≡ suc (c.serial m)
@@ -250,16 +250,16 @@ module _ (P Q : Link → Owner → Type 0) (old : List (Option Link)) (c : AreCh
   here q h = let same : q ≡ w.there.0 = w.one q w.there.0 h w.there.1 in
       (ap (λ (p : Owner). p.number) same ∙ w.there.2, ap (λ (p : Owner). p.before) same ∙ w.there.3, ap (λ (p : Owner). p.next) same ∙ w.there.4)
 
-  at_other : (m : Link) (p : Owner) → P m p → m ≢ l
+  at_other : (m : OwnerLink) (p : Owner) → P m p → m ≢ l
   at_other m p h e = w.free p (subst (λ k. P k p) e h)
 
-  linked_room : (m : Link) (q : Owner) → Q m q → q.number < length New
+  linked_room : (m : OwnerLink) (q : Owner) → Q m q → q.number < length New
   linked_room m q h = elim (link_or m l) [
     | inl e ↦ let x = here q (subst (λ k. Q k q) e h) in let s : q.number ≡ n = x.0 in omega (arith, s, low, size)
     | inr d ↦ let x = w.to m q h d in let r = c.room m x.0 x.1 in let s = x.2.number in omega (arith, r, s, size)
   ]
 
-  linked_first_to : (m : Link) (q : Owner) → Q m q → q.before ≡ None → first_of New q.number ≡ Some m
+  linked_first_to : (m : OwnerLink) (q : Owner) → Q m q → q.before ≡ None → first_of New q.number ≡ Some m
   linked_first_to m q h e = elim (link_or m l) [
     | inl s ↦ let x = here q (subst (λ k. Q k q) s h) in ap (λ k. first_of New k) x.0 ∙ begins ∙ ap (λ k. Some k) (sym s)
     | inr d ↦ let x = w.to m q h d in
@@ -270,7 +270,7 @@ module _ (P Q : Link → Owner → Type 0) (old : List (Option Link)) (c : AreCh
         ]
   ]
 
-  linked_first_from : (k : ℕ) (m : Link) → first_of New k ≡ Some m → (q : Owner) × Q m q × (q.number ≡ k) × (q.before ≡ None)
+  linked_first_from : (k : ℕ) (m : OwnerLink) → first_of New k ≡ Some m → (q : Owner) × Q m q × (q.number ≡ k) × (q.before ≡ None)
   linked_first_from k m h = elim (eq_or k n) [
     | inl e ↦ let s : l ≡ m = some_is l m (sym begins ∙ ap (λ j. first_of New j) (sym e) ∙ h) in (w.there.0, subst (λ j. Q j w.there.0) s w.there.1, w.there.2 ∙ sym e, w.there.3)
     | inr d ↦ let x = c.first_from k m (sym (others k d) ∙ h) in
@@ -281,7 +281,7 @@ module _ (P Q : Link → Owner → Type 0) (old : List (Option Link)) (c : AreCh
         ]
   ]
 
-  linked_next : (m : Link) (q : Owner) (k : Link) → Q m q → q.next ≡ Some k → (p : Owner) × Q k p × (p.number ≡ q.number) × (p.before ≡ Some m)
+  linked_next : (m : OwnerLink) (q : Owner) (k : OwnerLink) → Q m q → q.next ≡ Some k → (p : Owner) × Q k p × (p.number ≡ q.number) × (p.before ≡ Some m)
   linked_next m q k h e = elim (link_or m l) [
     | inl s ↦ let x = here q (subst (λ j. Q j q) s h) in
         let f : first ≡ Some k = sym x.2 ∙ e in
@@ -295,7 +295,7 @@ module _ (P Q : Link → Owner → Type 0) (old : List (Option Link)) (c : AreCh
         (u.0, u.1, u.2.number ∙ z.2 ∙ sym x.2.number, u.2.before_same g ∙ z.3)
   ]
 
-  linked_before : (m : Link) (q : Owner) (k : Link) → Q m q → q.before ≡ Some k → (p : Owner) × Q k p × (p.number ≡ q.number) × (p.next ≡ Some m) × (ranked k < ranked m)
+  linked_before : (m : OwnerLink) (q : Owner) (k : OwnerLink) → Q m q → q.before ≡ Some k → (p : Owner) × Q k p × (p.number ≡ q.number) × (p.next ≡ Some m) × (ranked k < ranked m)
   linked_before m q k h e = elim (link_or m l) [
     | inl s ↦ let x = here q (subst (λ j. Q j q) s h) in absurd (none_some k (sym x.1 ∙ e))
     | inr d ↦ let x = w.to m q h d in

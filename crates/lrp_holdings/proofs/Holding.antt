@@ -10,7 +10,7 @@ use Rattle.lrp_holdings.proofs.Cases.{eq_or}
 use Rattle.lrp_model.proofs.Decided.{contains_first, contains_later}
 use Rattle.lrp_holdings.specs.Chains.{AreAllChained, AreLoose, HasRoomForFirst, IsHeldInChains, IsReleasedFrom, IsRelinked, IsShort, held_in, loose_owner, owner_at, owner_in}
 use Rattle.lrp_holdings.specs.Holdings.{Held, HoldingsView, IsHeldToo, IsReleased, held_at}
-use Rattle.lrp_holdings.specs.declared.chains.Link.{Link}
+use Rattle.lrp_holdings.specs.declared.chains.OwnerLink.{OwnerLink}
 use Rattle.lrp_holdings.specs.declared.chains.Owner.{Owner}
 use Rattle.lrp_holdings.specs.declared.chains.Holding.{Holding}
 use Rattle.lrp_holdings.proofs.LetGo.{short_still}
@@ -31,14 +31,14 @@ loose_one (n ∷ ns) (suc p) o e = let r = loose_one ns p o e in (r.0, contains_
 
 -- ---- room for chains
 
-pub same_room : (cs : List (Option Link)) → HasRoomForFirst cs cs
+pub same_room : (cs : List (Option OwnerLink)) → HasRoomForFirst cs cs
 same_room cs = record { more = omega arith; same = λ n. refl }
 
-pub more_room : (bs cs ds : List (Option Link)) → HasRoomForFirst bs cs → HasRoomForFirst cs ds → HasRoomForFirst bs ds
+pub more_room : (bs cs ds : List (Option OwnerLink)) → HasRoomForFirst bs cs → HasRoomForFirst cs ds → HasRoomForFirst bs ds
 more_room bs cs ds h k = record { more = (let a = h.more in let b = k.more in omega (arith, a, b)); same = λ n. k.same n ∙ h.same n }
 
 -- one number more has room
-pub room_for_one_more : (ns : List ℕ) (i d : ℕ) (cs ds : List (Option Link)) → i < length ns → All (λ k. k < length cs) (take i ns) → HasRoomForFirst cs ds → get_or ns i d < length ds → All (λ k. k < length ds) (take (i + 1) ns)
+pub room_for_one_more : (ns : List ℕ) (i d : ℕ) (cs ds : List (Option OwnerLink)) → i < length ns → All (λ k. k < length cs) (take i ns) → HasRoomForFirst cs ds → get_or ns i d < length ds → All (λ k. k < length ds) (take (i + 1) ns)
 room_for_one_more ns i d cs ds lt all room low =
     All-more (λ k. k < length ds) ns i d lt
     (All-weaker (λ k. k < length cs) (λ k. k < length ds) (λ k l. let m = room.more in omega (arith, l, m)) (take i ns) all)
@@ -58,10 +58,10 @@ module _ {V : Type 0} where
 
   -- ---- room
 
-  pub roomier_held : (s : Slab (Holding V)) (cs ds : List (Option Link)) → HasRoomForFirst cs ds → IsHeldInChains s cs → IsHeldInChains s ds
+  pub roomier_held : (s : Slab (Holding V)) (cs ds : List (Option OwnerLink)) → HasRoomForFirst cs ds → IsHeldInChains s cs → IsHeldInChains s ds
   roomier_held s cs ds w h = record { chained = roomier (λ m o. owner_at (get s) m ≡ Some o) cs ds w h.chained; within = h.within; short = h.short }
 
-  pub larger_held : (s t : Slab (Holding V)) (cs : List (Option Link)) → t ≡ record s { capacity = t.capacity } → s.capacity ≤ t.capacity → IsHeldInChains s cs → IsHeldInChains t cs
+  pub larger_held : (s t : Slab (Holding V)) (cs : List (Option OwnerLink)) → t ≡ record s { capacity = t.capacity } → s.capacity ≤ t.capacity → IsHeldInChains s cs → IsHeldInChains t cs
   larger_held s t cs e low h = record {
     chained = mapped (λ m o. owner_at (get s) m ≡ Some o) (λ m o. owner_at (get t) m ≡ Some o) cs (λ m o i. ap (λ x. owner_in x m.place) (same m.slot) ∙ i) (λ m o i. sym (ap (λ x. owner_in x m.place) (same m.slot)) ∙ i) h.chained;
     within = λ k i. let l : k < s.capacity = h.within k (subst (λ x. IsSome x) (same k) i) in omega (arith, l, low);
@@ -73,14 +73,14 @@ module _ {V : Type 0} where
 
   -- ---- a value is held
 
-  module _ (s t u : Slab (Holding V)) (cs ds : List (Option Link)) (slot : ℕ) (h : Holding V) (numbers : List ℕ) (free : get s slot ≡ None) (w : Updates s t slot (Some h)) (owners : h.owners.items ≡ map loose_owner numbers) where
+  module _ (s t u : Slab (Holding V)) (cs ds : List (Option OwnerLink)) (slot : ℕ) (h : Holding V) (numbers : List ℕ) (free : get s slot ≡ None) (w : Updates s t slot (Some h)) (owners : h.owners.items ≡ map loose_owner numbers) where
     pub loose_put : All (λ n. n < length ds) numbers → AreLoose t ds slot 0
     loose_put all = record {
       first = λ m o e low at. (one m o e at).0;
       room = λ m o e low at. All-contains (λ n. n < length ds) numbers o.number all (one m o e at).1;
     }
       where
-        one : (m : Link) (o : Owner) → m.slot ≡ slot → owner_at (get t) m ≡ Some o → (o.before ≡ None) × Contains numbers o.number
+        one : (m : OwnerLink) (o : Owner) → m.slot ≡ slot → owner_at (get t) m ≡ Some o → (o.before ≡ None) × Contains numbers o.number
         one m o e at = loose_one numbers m.place o (ap (λ xs. slice_get xs m.place) (sym owners) ∙ sym (ap (λ x. owner_in x m.place) w.changed) ∙ ap (λ k. owner_in (get t k) m.place) (sym e) ∙ at)
 
     pub within_after : IsHeldInChains s cs → slot < t.capacity → s.capacity ≤ t.capacity → IsRelinked t u → (k : ℕ) → IsSome (get u k) → k < u.capacity
@@ -120,7 +120,7 @@ module _ {V : Type 0} where
       here : (k : ℕ) → held_in (get s k) ≡ held_at old k
       here k = sym (view_at s k) ∙ ap (λ v. held_at v k) e
 
-  pub released_held : (n : ℕ) (s t : Slab (Holding V)) (cs ds : List (Option Link)) → IsHeldInChains s cs → IsReleasedFrom n s t → AreAllChained t ds → IsHeldInChains t ds
+  pub released_held : (n : ℕ) (s t : Slab (Holding V)) (cs ds : List (Option OwnerLink)) → IsHeldInChains s cs → IsReleasedFrom n s t → AreAllChained t ds → IsHeldInChains t ds
   released_held n s t cs ds h w c = record { chained = c; within = λ k i. by (get t k) k refl i; short = λ k. short_still (get s k) (get t k) (λ x e. (w.to k x e).0) (h.short k) }
     where
       by : (x : Option (Holding V)) → (k : ℕ) → get t k ≡ x → IsSome (get t k) → k < t.capacity

@@ -10,7 +10,7 @@ use Rattle.lrp_holdings.proofs.Cases.{eq_or}
 use Rattle.lrp_model.proofs.Decided.{contains_first, contains_later, contains_none}
 use Rattle.lrp_holdings.specs.Chains.{AreAllChained, AreChained, AreChainedBelow, AreChainedFrom, AreLoose, IsHeldInChains, IsLetGo, IsReleasedFrom, IsRelinked, IsShort, first_of, held_in, loose_owner, owner_at, owner_in}
 use Rattle.lrp_holdings.specs.Holdings.{Held, HoldingsView, held_at}
-use Rattle.lrp_holdings.specs.declared.chains.Link.{Link}
+use Rattle.lrp_holdings.specs.declared.chains.OwnerLink.{OwnerLink}
 use Rattle.lrp_holdings.specs.declared.chains.Owner.{Owner}
 use Rattle.lrp_holdings.specs.declared.chains.Holding.{Holding}
 use Rattle.lrp_holdings.proofs.Chained.{absent, mapped, none_some, not_some, some_is}
@@ -44,7 +44,7 @@ module _ {V : Type 0} where
       let m : length (map number b.owners.items) ≡ length b.owners.items = length-map b.owners.items number in
       omega (arith, s, same, l, m)
 
-  pub from_all : (s : Slab (Holding V)) (cs : List (Option Link)) (slot : ℕ) → AreAllChained s cs → AreChainedFrom s cs slot 0
+  pub from_all : (s : Slab (Holding V)) (cs : List (Option OwnerLink)) (slot : ℕ) → AreAllChained s cs → AreChainedFrom s cs slot 0
   from_all s cs slot c = mapped (λ m o. owner_at (get s) m ≡ Some o) (λ m o. (owner_at (get s) m ≡ Some o) × (m.slot ≡ slot → 0 ≤ m.place)) cs (λ m o h. (h, λ e. omega arith)) (λ m o h. h.0) c
 
   pub relinked_none : (s : Slab (Holding V)) → IsRelinked s s
@@ -79,19 +79,19 @@ module _ {V : Type 0} where
   none_past (Some h) n p o i l e = let b : p < length h.owners.items = slice_get_within h.owners.items p o e in omega (arith, i, l, b)
 
   -- all owners of a value are out, and the value goes
-  pub all_let_go : (s t u : Slab (Holding V)) (cs : List (Option Link)) (slot n k : ℕ) → n ≤ k → IsRelinked s t → IsSome (get s slot) → IfSome (get s slot) (λ h. n ≡ length h.owners.items) → AreChainedFrom t cs slot k → Updates t u slot None → AreAllChained u cs
+  pub all_let_go : (s t u : Slab (Holding V)) (cs : List (Option OwnerLink)) (slot n k : ℕ) → n ≤ k → IsRelinked s t → IsSome (get s slot) → IfSome (get s slot) (λ h. n ≡ length h.owners.items) → AreChainedFrom t cs slot k → Updates t u slot None → AreAllChained u cs
   all_let_go s t u cs slot n k low r s' i c w = mapped (λ m o. (owner_at (get t) m ≡ Some o) × (m.slot ≡ slot → k ≤ m.place)) (λ m o. owner_at (get u) m ≡ Some o) cs to from c
     where
       count : IfSome (get t slot) (λ h. n ≡ length h.owners.items)
       count = (same_count (get s slot) (get t slot) n (r.held slot) s' i).1
 
-      to : (m : Link) (o : Owner) → (owner_at (get t) m ≡ Some o) × (m.slot ≡ slot → k ≤ m.place) → owner_at (get u) m ≡ Some o
+      to : (m : OwnerLink) (o : Owner) → (owner_at (get t) m ≡ Some o) × (m.slot ≡ slot → k ≤ m.place) → owner_at (get u) m ≡ Some o
       to m o h = elim (eq_or m.slot slot) [
         | inl e ↦ absurd (none_past (get t slot) n m.place o count (let f : k ≤ m.place = h.1 e in omega (arith, low, f)) (ap (λ j. owner_in (get t j) m.place) (sym e) ∙ h.0))
         | inr d ↦ ap (λ x. owner_in x m.place) (w.others m.slot d) ∙ h.0
       ]
 
-      from : (m : Link) (o : Owner) → owner_at (get u) m ≡ Some o → (owner_at (get t) m ≡ Some o) × (m.slot ≡ slot → k ≤ m.place)
+      from : (m : OwnerLink) (o : Owner) → owner_at (get u) m ≡ Some o → (owner_at (get t) m ≡ Some o) × (m.slot ≡ slot → k ≤ m.place)
       from m o h = elim (eq_or m.slot slot) [
         | inl e ↦ absurd (none_some o (sym (ap (λ j. owner_in (get u j) m.place) e ∙ ap (λ x. owner_in x m.place) w.changed) ∙ h))
         | inr d ↦ (sym (ap (λ x. owner_in x m.place) (w.others m.slot d)) ∙ h, λ e. absurd (d e))
@@ -124,7 +124,7 @@ module _ {V : Type 0} where
   owned None h p o e f = absurd (none_some o f)
   owned (Some a) h p o e f = subst (λ (y : Held V). Contains y.owners o.number) (some_is (record { owners = map number a.owners.items; value = a.value }) h e) (contains_of a.owners.items p o f)
 
-  pub released_one : (n : ℕ) (s t u : Slab (Holding V)) (link : Link) (o : Owner) → ArePartlyReleased n s t → owner_at (get t) link ≡ Some o → o.number ≡ n → IsLetGo t u link.slot → ArePartlyReleased n s u
+  pub released_one : (n : ℕ) (s t u : Slab (Holding V)) (link : OwnerLink) (o : Owner) → ArePartlyReleased n s t → owner_at (get t) link ≡ Some o → o.number ≡ n → IsLetGo t u link.slot → ArePartlyReleased n s u
   released_one n s t u link o p at same w = record { kept = kept; left = left; capacity = w.capacity ∙ p.capacity }
     where
       kept : (slot : ℕ) (h : Held V) → held_in (get u slot) ≡ Some h → held_in (get s slot) ≡ Some h
@@ -143,7 +143,7 @@ module _ {V : Type 0} where
   found None h n e c = absurd (none_some h e)
   found (Some a) h n e c = owner_found a.owners.items n (subst (λ (y : Held V). Contains y.owners n) (sym (some_is (record { owners = map number a.owners.items; value = a.value }) h e)) c)
 
-  pub released_all : (n : ℕ) (s t : Slab (Holding V)) (cs : List (Option Link)) → ArePartlyReleased n s t → AreAllChained t cs → first_of cs n ≡ None → IsReleasedFrom n s t
+  pub released_all : (n : ℕ) (s t : Slab (Holding V)) (cs : List (Option OwnerLink)) → ArePartlyReleased n s t → AreAllChained t cs → first_of cs n ≡ None → IsReleasedFrom n s t
   released_all n s t cs p c none = record {
     to = λ slot h e. (p.kept slot h e, λ i. let x = found (get t slot) h n e i in absent (λ m o. owner_at (get t) m ≡ Some o) cs c n none (record { slot = slot; place = x.0 }) x.1 x.2 x.3);
     from = p.left;
@@ -151,19 +151,19 @@ module _ {V : Type 0} where
   }
 
   -- a chain that begins somewhere begins at an owner of this number
-  pub begins : (t : Slab (Holding V)) (cs : List (Option Link)) (n : ℕ) (link : Link) → AreAllChained t cs → first_of cs n ≡ Some link → (o : Owner) × (owner_at (get t) link ≡ Some o) × (o.number ≡ n)
+  pub begins : (t : Slab (Holding V)) (cs : List (Option OwnerLink)) (n : ℕ) (link : OwnerLink) → AreAllChained t cs → first_of cs n ≡ Some link → (o : Owner) × (owner_at (get t) link ≡ Some o) × (o.number ≡ n)
   begins t cs n link c e = let x = c.first_from n link e in (x.0, x.1, x.2)
 
   has_value : (x : Option (Holding V)) (p : ℕ) (o : Owner) → owner_in x p ≡ Some o → IsSome x
   has_value None p o e = absurd (none_some o e)
   has_value (Some h) p o e = refl
 
-  pub begins_at_value : (t : Slab (Holding V)) (cs : List (Option Link)) (n : ℕ) (link : Link) → AreAllChained t cs → first_of cs n ≡ Some link → IsSome (get t link.slot)
+  pub begins_at_value : (t : Slab (Holding V)) (cs : List (Option OwnerLink)) (n : ℕ) (link : OwnerLink) → AreAllChained t cs → first_of cs n ≡ Some link → IsSome (get t link.slot)
   begins_at_value t cs n link c e = let x = begins t cs n link c e in has_value (get t link.slot) link.place x.0 x.1
 
   -- ---- a value is held
 
-  pub below_all : (s t : Slab (Holding V)) (cs : List (Option Link)) (slot n k : ℕ) → n ≤ k → IsRelinked s t → IsSome (get s slot) → IfSome (get s slot) (λ h. n ≡ length h.owners.items) → AreChainedBelow t cs slot k → AreAllChained t cs
+  pub below_all : (s t : Slab (Holding V)) (cs : List (Option OwnerLink)) (slot n k : ℕ) → n ≤ k → IsRelinked s t → IsSome (get s slot) → IfSome (get s slot) (λ h. n ≡ length h.owners.items) → AreChainedBelow t cs slot k → AreAllChained t cs
   below_all s t cs slot n k low r s' i c = mapped (λ m o. (owner_at (get t) m ≡ Some o) × (m.slot ≡ slot → m.place < k)) (λ m o. owner_at (get t) m ≡ Some o) cs (λ m o h. h.0) from c
     where
       count : IfSome (get t slot) (λ h. n ≡ length h.owners.items)
@@ -173,21 +173,21 @@ module _ {V : Type 0} where
       below None p o j e = absurd (none_some o e)
       below (Some h) p o j e = let b : p < length h.owners.items = slice_get_within h.owners.items p o e in omega (arith, j, b)
 
-      from : (m : Link) (o : Owner) → owner_at (get t) m ≡ Some o → (owner_at (get t) m ≡ Some o) × (m.slot ≡ slot → m.place < k)
+      from : (m : OwnerLink) (o : Owner) → owner_at (get t) m ≡ Some o → (owner_at (get t) m ≡ Some o) × (m.slot ≡ slot → m.place < k)
       from m o h = (h, λ e. let f : m.place < n = below (get t slot) m.place o count (ap (λ j. owner_in (get t j) m.place) (sym e) ∙ h) in omega (arith, low, f))
 
   -- a value is put into a free slot, and no chain has its owners yet
-  module _ (s t : Slab (Holding V)) (cs : List (Option Link)) (slot : ℕ) (h : Holding V) (free : get s slot ≡ None) (w : Updates s t slot (Some h)) where
+  module _ (s t : Slab (Holding V)) (cs : List (Option OwnerLink)) (slot : ℕ) (h : Holding V) (free : get s slot ≡ None) (w : Updates s t slot (Some h)) where
     pub not_chained_yet : AreAllChained s cs → AreChainedBelow t cs slot 0
     not_chained_yet c = mapped (λ m o. owner_at (get s) m ≡ Some o) (λ m o. (owner_at (get t) m ≡ Some o) × (m.slot ≡ slot → m.place < 0)) cs to from c
       where
-        to : (m : Link) (o : Owner) → owner_at (get s) m ≡ Some o → (owner_at (get t) m ≡ Some o) × (m.slot ≡ slot → m.place < 0)
+        to : (m : OwnerLink) (o : Owner) → owner_at (get s) m ≡ Some o → (owner_at (get t) m ≡ Some o) × (m.slot ≡ slot → m.place < 0)
         to m o e = elim (eq_or m.slot slot) [
           | inl i ↦ absurd (none_some o (sym (ap (λ k. owner_in (get s k) m.place) i ∙ ap (λ x. owner_in x m.place) free) ∙ e))
           | inr d ↦ (ap (λ x. owner_in x m.place) (w.others m.slot d) ∙ e, λ i. absurd (d i))
         ]
 
-        from : (m : Link) (o : Owner) → (owner_at (get t) m ≡ Some o) × (m.slot ≡ slot → m.place < 0) → owner_at (get s) m ≡ Some o
+        from : (m : OwnerLink) (o : Owner) → (owner_at (get t) m ≡ Some o) × (m.slot ≡ slot → m.place < 0) → owner_at (get s) m ≡ Some o
         from m o e = elim (eq_or m.slot slot) [
           | inl i ↦ absurd (let l : m.place < 0 = e.1 i in omega (arith, l))
           | inr d ↦ sym (ap (λ x. owner_in x m.place) (w.others m.slot d)) ∙ e.0
@@ -195,7 +195,7 @@ module _ {V : Type 0} where
 
   -- ---- no value
 
-  pub nothing_held : (s : Slab (Holding V)) (cs : List (Option Link)) → s.slots ≡ [] → cs ≡ [] → IsHeldInChains s cs
+  pub nothing_held : (s : Slab (Holding V)) (cs : List (Option OwnerLink)) → s.slots ≡ [] → cs ≡ [] → IsHeldInChains s cs
   nothing_held s cs e f = record {
     chained = record {
       serial = λ l. 0;
@@ -212,5 +212,5 @@ module _ {V : Type 0} where
       vacant : (k : ℕ) → get s k ≡ None
       vacant k = ap (λ xs. get_or xs k None) e ∙ get_or_past [] k None (omega arith)
 
-      stands_nowhere : (l : Link) (o : Owner) → owner_at (get s) l ≡ Some o → ⊥
+      stands_nowhere : (l : OwnerLink) (o : Owner) → owner_at (get s) l ≡ Some o → ⊥
       stands_nowhere l o h = none_some o (sym (ap (λ x. owner_in x l.place) (vacant l.slot)) ∙ h)

@@ -10,7 +10,7 @@ use smallvec::SmallVec;
 
 /// A place of a value's list of owners: the value's slot, and a number from 0.
 #[derive(Clone, Copy)]
-pub(crate) struct Link {
+pub(crate) struct OwnerLink {
     pub(crate) slot: u32,
     pub(crate) place: u32,
 }
@@ -19,8 +19,8 @@ pub(crate) struct Link {
 #[derive(Clone, Copy, Default)]
 pub(crate) struct Owner {
     pub(crate) number: u32,
-    pub(crate) before: Option<Link>,
-    pub(crate) next: Option<Link>,
+    pub(crate) before: Option<OwnerLink>,
+    pub(crate) next: Option<OwnerLink>,
 }
 
 /// A value with its owners, of which two take no memory of their own.
@@ -31,7 +31,7 @@ pub(crate) struct Holding<V> {
 }
 
 // The owner at a link.
-fn owner_of<V>(slots: &Slab<Holding<V>>, link: Link) -> Owner
+fn owner_of<V>(slots: &Slab<Holding<V>>, link: OwnerLink) -> Owner
     requires { IsSome (owner_at (get slots.now) link) }
     ensures { owner_at (get slots.now) link ≡ Some result }
 {
@@ -48,7 +48,7 @@ fn owner_count<V>(slots: &Slab<Holding<V>>, slot: u32) -> u32
 }
 
 // Sets what is next after a link, if there is one.
-fn set_next<V>(slots: &mut Slab<Holding<V>>, link: Option<Link>, next: Option<Link>)
+fn set_next<V>(slots: &mut Slab<Holding<V>>, link: Option<OwnerLink>, next: Option<OwnerLink>)
     requires { IfSome link (λ at. IsSome (owner_at (get slots.old) at)) }
     ensures { IsChanged (with_next next) slots.old slots.new link }
 {
@@ -57,7 +57,7 @@ fn set_next<V>(slots: &mut Slab<Holding<V>>, link: Option<Link>, next: Option<Li
     }
 }
 
-fn next_at(owners: &mut SmallVec<Owner, 2>, place: u32, next: Option<Link>)
+fn next_at(owners: &mut SmallVec<Owner, 2>, place: u32, next: Option<OwnerLink>)
     requires { place < length owners.old.items }
     ensures { IsSetAt (with_next next) owners.old.items owners.new.items place }
 {
@@ -65,7 +65,7 @@ fn next_at(owners: &mut SmallVec<Owner, 2>, place: u32, next: Option<Link>)
 }
 
 // Sets what is before a link, if there is one.
-fn set_before<V>(slots: &mut Slab<Holding<V>>, link: Option<Link>, before: Option<Link>)
+fn set_before<V>(slots: &mut Slab<Holding<V>>, link: Option<OwnerLink>, before: Option<OwnerLink>)
     requires { IfSome link (λ at. IsSome (owner_at (get slots.old) at)) }
     ensures { IsChanged (with_before before) slots.old slots.new link }
 {
@@ -74,7 +74,7 @@ fn set_before<V>(slots: &mut Slab<Holding<V>>, link: Option<Link>, before: Optio
     }
 }
 
-fn before_at(owners: &mut SmallVec<Owner, 2>, place: u32, before: Option<Link>)
+fn before_at(owners: &mut SmallVec<Owner, 2>, place: u32, before: Option<OwnerLink>)
     requires { place < length owners.old.items }
     ensures { IsSetAt (with_before before) owners.old.items owners.new.items place }
 {
@@ -82,7 +82,7 @@ fn before_at(owners: &mut SmallVec<Owner, 2>, place: u32, before: Option<Link>)
 }
 
 // Lets a chain begin behind its first link.
-fn set_first(chains: &mut Vec<Option<Link>>, owner: Owner)
+fn set_first(chains: &mut Vec<Option<OwnerLink>>, owner: Owner)
     requires { owner.number < length chains.old.items }
     ensures { IsLedTo owner chains.old.items chains.new.items }
 {
@@ -92,7 +92,7 @@ fn set_first(chains: &mut Vec<Option<Link>>, owner: Owner)
 }
 
 // Takes a link out of its owner's chain: those before and after it are joined.
-fn unlink<V>(slots: &mut Slab<Holding<V>>, chains: &mut Vec<Option<Link>>, link: Link)
+fn unlink<V>(slots: &mut Slab<Holding<V>>, chains: &mut Vec<Option<OwnerLink>>, link: OwnerLink)
     requires chained { AreChainedFrom slots.old chains.old.items link.slot link.place }
     requires held { IsSome (owner_at (get slots.old) link) }
     ensures chained { AreChainedFrom slots.new chains.new.items link.slot (link.place + 1) }
@@ -105,7 +105,7 @@ fn unlink<V>(slots: &mut Slab<Holding<V>>, chains: &mut Vec<Option<Link>>, link:
 }
 
 // Puts a link before the others of its owner's chain.
-fn put_first<V>(slots: &mut Slab<Holding<V>>, chains: &mut Vec<Option<Link>>, link: Link)
+fn put_first<V>(slots: &mut Slab<Holding<V>>, chains: &mut Vec<Option<OwnerLink>>, link: OwnerLink)
     requires chained { AreChainedBelow slots.old chains.old.items link.slot link.place }
     requires loose { AreLoose slots.old chains.old.items link.slot link.place }
     requires held { IsSome (owner_at (get slots.old) link) }
@@ -121,7 +121,11 @@ fn put_first<V>(slots: &mut Slab<Holding<V>>, chains: &mut Vec<Option<Link>>, li
 }
 
 /// Puts the links of the value in a slot into the chains of its owners.
-pub(crate) fn link_all<V>(slots: &mut Slab<Holding<V>>, chains: &mut Vec<Option<Link>>, slot: u32)
+pub(crate) fn link_all<V>(
+    slots: &mut Slab<Holding<V>>,
+    chains: &mut Vec<Option<OwnerLink>>,
+    slot: u32,
+)
     requires chained { AreChainedBelow slots.old chains.old.items slot 0 }
     requires loose { AreLoose slots.old chains.old.items slot 0 }
     requires held { IsSome (get slots.old slot) }
@@ -130,12 +134,12 @@ pub(crate) fn link_all<V>(slots: &mut Slab<Holding<V>>, chains: &mut Vec<Option<
     ensures same { IsRelinked slots.old slots.new }
 {
     for place in 0..owner_count(slots, slot) {
-        put_first(slots, chains, Link { slot, place });
+        put_first(slots, chains, OwnerLink { slot, place });
     }
 }
 
 // Takes the value of a slot out of the chains of its owners, and gives the slot up.
-fn let_go<V: Drop>(slots: &mut Slab<Holding<V>>, chains: &mut Vec<Option<Link>>, slot: u32)
+fn let_go<V: Drop>(slots: &mut Slab<Holding<V>>, chains: &mut Vec<Option<OwnerLink>>, slot: u32)
     requires chained { AreAllChained slots.old chains.old.items }
     requires held { IsSome (get slots.old slot) }
     requires short { IsShort (get slots.old slot) }
@@ -143,13 +147,13 @@ fn let_go<V: Drop>(slots: &mut Slab<Holding<V>>, chains: &mut Vec<Option<Link>>,
     ensures gone { IsLetGo slots.old slots.new slot }
 {
     for place in 0..owner_count(slots, slot) {
-        unlink(slots, chains, Link { slot, place });
+        unlink(slots, chains, OwnerLink { slot, place });
     }
     slots.try_remove(slot as usize);
 }
 
 // The first link of an owner's chain.
-fn first(chains: &Vec<Option<Link>>, number: usize) -> Option<Link>
+fn first(chains: &Vec<Option<OwnerLink>>, number: usize) -> Option<OwnerLink>
     ensures { result ≡ first_of chains.now.items number }
 {
     if number < chains.len() {
@@ -162,7 +166,7 @@ fn first(chains: &Vec<Option<Link>>, number: usize) -> Option<Link>
 /// Lets go each value that the owner holds.
 pub(crate) fn release<V: Drop>(
     slots: &mut Slab<Holding<V>>,
-    chains: &mut Vec<Option<Link>>,
+    chains: &mut Vec<Option<OwnerLink>>,
     number: usize,
 )
     requires chained { AreAllChained slots.old chains.old.items }
@@ -176,7 +180,10 @@ pub(crate) fn release<V: Drop>(
 }
 
 /// Makes room for the chains of these owners.
-pub(crate) fn make_room(chains: &mut Vec<Option<Link>>, numbers: &[usize]) -> Result<(), Memory>
+pub(crate) fn make_room(
+    chains: &mut Vec<Option<OwnerLink>>,
+    numbers: &[usize],
+) -> Result<(), Memory>
     ensures room { OnOk result (All (λ number. number < length chains.new.items) numbers.now) }
     ensures same { HasRoomForFirst chains.old.items chains.new.items }
 {
@@ -186,7 +193,7 @@ pub(crate) fn make_room(chains: &mut Vec<Option<Link>>, numbers: &[usize]) -> Re
     Ok(())
 }
 
-fn make_room_for(chains: &mut Vec<Option<Link>>, number: usize) -> Result<(), Memory>
+fn make_room_for(chains: &mut Vec<Option<OwnerLink>>, number: usize) -> Result<(), Memory>
     ensures room { OnOk result (number < length chains.new.items) }
     ensures same { HasRoomForFirst chains.old.items chains.new.items }
 {

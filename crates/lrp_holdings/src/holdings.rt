@@ -4,7 +4,7 @@ ghost use Rattle.std.specs.Option.{option_map};
 ghost use Rattle.lrp_holdings.specs.Chains.{loose_owner};
 ghost use Rattle.lrp_holdings.specs.Holdings.{IsHeldToo, IsReleased, held_at, owners_at};
 
-use crate::chains::{Holding, Link, Owner, link_all, make_room, release};
+use crate::chains::{Holding, Owner, OwnerLink, link_all, make_room, release};
 use lrp_model::Memory;
 use slab::Slab;
 use smallvec::SmallVec;
@@ -19,7 +19,7 @@ use std::marker::Model;
 pub struct Holdings<V> {
     alloc: Global,
     slots: Slab<Holding<V>>,
-    chains: Vec<Option<Link>>,
+    chains: Vec<Option<OwnerLink>>,
 }
 
 // A derived drop would be proved anew, type by type, in each crate that lets one go.

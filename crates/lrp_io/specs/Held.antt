@@ -4,8 +4,8 @@ use Rattle.lrp_io.specs.Files.{name_at, bytes_at}
 use Rattle.lrp_io.specs.declared.held.HeldFiles.{HeldFiles}
 
 -- the name of the file that is read
-abbrev pub name_of : HeldFiles → List ℕ
-name_of held = name_at held.files held.file
+abbrev pub held_name : HeldFiles → List ℕ
+held_name held = name_at held.files held.file
 
 -- the bytes of that file that the reader has not given yet
 abbrev pub left_of : HeldFiles → List ℕ

@@ -8,14 +8,14 @@ use Rattle.lrp_theory.proofs.Multiples.{multiple_by, multiple_low, same_multiple
 use Rattle.lrp_model.proofs.Logic.{all_append}
 use Rattle.lrp_plan_laws.proofs.PeriodLaws.{lcm_all_is}
 use Rattle.lrp_limits.specs.Multiples.{IsLeastWithinLimit, IsPeriodOf, AlwaysJoins}
-use Rattle.lrp_limits.specs.Facts.{KeepsPeriod}
+use Rattle.lrp_limits.specs.Facts.{KeepsMultiples}
 use Rattle.lrp_limits.specs.declared.periods.Period.{Period}
 
 pub common_both : (ks ls : List ℕ) (n : ℕ) → IsCommon (ks ++ ls) n ↔ (IsCommon ks n × IsCommon ls n)
 common_both ks ls n = all_append (λ k. IsMultiple k n) ks ls
 
 -- nothing further
-pub keeps_none : (o : Option ℕ) → KeepsPeriod [] o o
+pub keeps_none : (o : Option ℕ) → KeepsMultiples [] o o
 keeps_none o = record { keeps = λ ks h. subst (λ xs. IsPeriodOf xs o) (sym (append-nil ks)) h }
 
 -- where there is none, there is none with further numbers
@@ -23,11 +23,11 @@ pub none_stays : (ks further : List ℕ) → IsPeriodOf ks None → IsPeriodOf (
 none_stays ks further h n p c = h n p ((common_both ks further n).0 c).0
 
 -- and then further ones
-pub keeps_more : (a b : List ℕ) (o p q : Option ℕ) → KeepsPeriod a o p → KeepsPeriod b p q → KeepsPeriod (a ++ b) o q
+pub keeps_more : (a b : List ℕ) (o p q : Option ℕ) → KeepsMultiples a o p → KeepsMultiples b p q → KeepsMultiples (a ++ b) o q
 keeps_more a b o p q h k = record { keeps = λ ks x. subst (λ xs. IsPeriodOf xs q) (append_assoc ks a b) (k.keeps (ks ++ a) (h.keeps ks x)) }
 
-pub keeps_as : (a b : List ℕ) (o p : Option ℕ) → a ≡ b → KeepsPeriod a o p → KeepsPeriod b o p
-keeps_as a b o p e h = subst (λ xs. KeepsPeriod xs o p) e h
+pub keeps_as : (a b : List ℕ) (o p : Option ℕ) → a ≡ b → KeepsMultiples a o p → KeepsMultiples b o p
+keeps_as a b o p e h = subst (λ xs. KeepsMultiples xs o p) e h
 
 by_one : (n : ℕ) → n ≡ 1 * n
 by_one n = omega arith
@@ -71,8 +71,8 @@ joined_number None d r e = ap (λ p. p.number) e
 joined_number (Some p) d r e = ap (λ q. q.number) e
 
 -- a point more, where there is a period and where there is none
-pub kept_some : (o : Option Period) (p : Period) (further : List ℕ) (r : Option ℕ) → o ≡ Some p → ((ks : List ℕ) → IsLeastWithinLimit ks p.number → IsPeriodOf (ks ++ further) r) → KeepsPeriod further (option_map (λ q. q.number) o) r
-kept_some o p further r e h = subst (λ x. KeepsPeriod further (option_map (λ (q : Period). q.number) x) r) (sym e) (record { keeps = h })
+pub kept_some : (o : Option Period) (p : Period) (further : List ℕ) (r : Option ℕ) → o ≡ Some p → ((ks : List ℕ) → IsLeastWithinLimit ks p.number → IsPeriodOf (ks ++ further) r) → KeepsMultiples further (option_map (λ q. q.number) o) r
+kept_some o p further r e h = subst (λ x. KeepsMultiples further (option_map (λ (q : Period). q.number) x) r) (sym e) (record { keeps = h })
 
-pub kept_nothing : (o : Option Period) (further : List ℕ) → o ≡ None → KeepsPeriod further (option_map (λ q. q.number) o) None
-kept_nothing o further e = subst (λ x. KeepsPeriod further (option_map (λ (q : Period). q.number) x) None) (sym e) (record { keeps = λ ks h. none_stays ks further h })
+pub kept_nothing : (o : Option Period) (further : List ℕ) → o ≡ None → KeepsMultiples further (option_map (λ q. q.number) o) None
+kept_nothing o further e = subst (λ x. KeepsMultiples further (option_map (λ (q : Period). q.number) x) None) (sym e) (record { keeps = λ ks h. none_stays ks further h })

@@ -18,7 +18,7 @@ pub record AreFacts (all : List Row) (facts : Facts) : Type 0 where
   pub rows : facts.rows ≡ length all
 
 -- a least common multiple, and the one with further numbers
-pub record KeepsPeriod (further : List ℕ) (old new : Option ℕ) : Type 0 where
+pub record KeepsMultiples (further : List ℕ) (old new : Option ℕ) : Type 0 where
   pub keeps : (ks : List ℕ) → IsPeriodOf ks old → IsPeriodOf (ks ++ further) new
 
 -- a least common multiple, and the one with that of other numbers, if they have one
@@ -27,4 +27,4 @@ pub record KeepsRows (rows : Option ℕ) (old : ℕ) (new : Option ℕ) : Type 0
 
 -- and the one with those of rows
 pub record KeepsFacts (facts : Facts) (old new : Option ℕ) : Type 0 where
-  pub keeps : (all : List Row) → AreFacts all facts → KeepsPeriod (flat_map row_periods all) old new
+  pub keeps : (all : List Row) → AreFacts all facts → KeepsMultiples (flat_map row_periods all) old new

@@ -3,7 +3,7 @@ ghost use Rattle.std.specs.Prelude.{◌≡◌, ◌∷◌, [], nat_abs};
 ghost use Rattle.std.specs.Option.{option_map};
 ghost use Rattle.lrp_model.specs.Periods.{value_periods, row_periods};
 ghost use Rattle.lrp_model.specs.Reach.{greatest};
-ghost use Rattle.lrp_limits.specs.Facts.{AreFacts, most_of_row, KeepsPeriod};
+ghost use Rattle.lrp_limits.specs.Facts.{AreFacts, most_of_row, KeepsMultiples};
 
 use crate::periods::{Period, one};
 use lrp_model::{Bound, Row, RowPoint, Value};
@@ -36,7 +36,7 @@ pub fn facts_of(rows: &[Row]) -> Facts
 
 /// The period with those of a row's points.
 pub fn with_row(period: Option<Period>, row: &Row) -> Option<Period>
-    ensures { KeepsPeriod (row_periods row.now) (option_map (λ p. p.number) period)
+    ensures { KeepsMultiples (row_periods row.now) (option_map (λ p. p.number) period)
         (option_map (λ p. p.number) result) }
 {
     let mut all = period;
@@ -48,7 +48,7 @@ pub fn with_row(period: Option<Period>, row: &Row) -> Option<Period>
 
 // The period with that of a point.
 fn with_value(period: Option<Period>, value: &Value) -> Option<Period>
-    ensures { KeepsPeriod (value_periods value.now) (option_map (λ p. p.number) period)
+    ensures { KeepsMultiples (value_periods value.now) (option_map (λ p. p.number) period)
         (option_map (λ p. p.number) result) }
 {
     match value {
@@ -59,7 +59,7 @@ fn with_value(period: Option<Period>, value: &Value) -> Option<Period>
 
 /// The period with that of a point.
 pub fn with_point(period: Option<Period>, at: &RowPoint) -> Option<Period>
-    ensures { KeepsPeriod (nat_abs at.now.period ∷ []) (option_map (λ p. p.number) period)
+    ensures { KeepsMultiples (nat_abs at.now.period ∷ []) (option_map (λ p. p.number) period)
         (option_map (λ p. p.number) result) }
 {
     match period {

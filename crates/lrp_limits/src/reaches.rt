@@ -1,6 +1,6 @@
 // Reaches of steps, counted up to 2^62 + 1.
 ghost use Rattle.std.specs.Prelude.{◌≡◌, ◌+◌, ◌*◌, ◌-ℤ◌, nat_abs, map, flat_map};
-ghost use Rattle.lrp_model.specs.Reach.{test_reach as reach_of_test, offset as offset_of, greatest, term_magnitudes};
+ghost use Rattle.lrp_model.specs.Reach.{test_reach as reach_of_test, term_offset as offset_of, greatest, term_magnitudes};
 ghost use Rattle.lrp_limits.specs.Capped.{capped as capped_at};
 
 use crate::periods::Period;

@@ -8,7 +8,7 @@ use Rattle.lrp_theory.specs.Divides.{Divides}
 use Rattle.lrp_theory.proofs.Modulo.{Divides--, Divides-neg, Divides-is, rem_divides, rem_between, multiple_below, tight_is, tight_greatest}
 use Rattle.lrp_theory.proofs.Below.{within_less}
 use Rattle.lrp_matrix.specs.Ranges.{Above}
-use Rattle.lrp_matrix.specs.Nearest.{IsBetween, IsNearest, IsStart, IsLastStart, IsFirstFromZero, IsLastBelowZero}
+use Rattle.lrp_matrix.specs.Nearest.{IsBetween, IsNearest, IsLeastAbove, IsLastStart, IsFirstFromZero, IsLastBelowZero}
 use Rattle.lrp_theory.specs.Residues.{rank}
 
 -- a greater number is above the end too
@@ -21,7 +21,7 @@ pub rest_is : (r s k m a b : ℤ) → m ≡ int_rem_euclid a b → a ≡ r -ℤ 
 rest_is r s k m a b e f g = rw (← f, ← g) e
 
 module _ (least most : Option ℤ) (k r s m x : ℤ) (one : pos 1 ≤ℤ k) where
-  module _ (start : IsStart least s) (e : m ≡ int_rem_euclid (r -ℤ s) k) (f : x ≡ s +ℤ m) where
+  module _ (start : IsLeastAbove least s) (e : m ≡ int_rem_euclid (r -ℤ s) k) (f : x ≡ s +ℤ m) where
     -- the number s + (r - s) mod k lies from the start on
     from_start : s ≤ℤ x
     from_start = let b : pos 0 ≤ℤ m = (rem_between k (r -ℤ s) m one e).0 in omega (arith, ints)

@@ -1,7 +1,7 @@
 -- The integer nearest to zero in an interval, among those of a residue.
 use Rattle.std.specs.Prelude.{ℤ, pos, ◌*◌, ◌-◌, ◌≤◌, ◌≤ℤ◌, ◌<ℤ◌, Option}
 use Rattle.lrp_theory.specs.Bounds.{Within}
-use Rattle.lrp_theory.specs.Divides.{IsMember}
+use Rattle.lrp_theory.specs.Divides.{IsPointMember}
 use Rattle.lrp_matrix.specs.Ranges.{Above}
 use Rattle.lrp_theory.specs.Residues.{rank}
 
@@ -9,7 +9,7 @@ use Rattle.lrp_theory.specs.Residues.{rank}
 pub record IsBetween (least most : Option ℤ) (r k x : ℤ) : Type 0 where
   pub low : Above x least
   pub high : Within x most
-  pub residue : IsMember r k x
+  pub residue : IsPointMember r k x
 
 -- x is the first of them by rank
 pub record IsNearest (least most : Option ℤ) (r k x : ℤ) : Type 0 where
@@ -17,7 +17,7 @@ pub record IsNearest (least most : Option ℤ) (r k x : ℤ) : Type 0 where
   pub first : (y : ℤ) → IsBetween least most r k y → rank x ≤ rank y
 
 -- s is the least number from zero on that is above the end
-pub record IsStart (least : Option ℤ) (s : ℤ) : Type 0 where
+pub record IsLeastAbove (least : Option ℤ) (s : ℤ) : Type 0 where
   pub side : pos 0 ≤ℤ s
   pub above : Above s least
   pub first : (x : ℤ) → pos 0 ≤ℤ x → Above x least → s ≤ℤ x

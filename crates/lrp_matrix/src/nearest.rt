@@ -2,12 +2,12 @@
 
 ghost use Rattle.std.specs.Prelude.{◌≡◌, ◌<◌, ◌≤◌, ◌^◌, ℤ, pos, ◌≤ℤ◌, ◌<ℤ◌, IfNone, IfSome, neg_ℤ};
 ghost use Rattle.lrp_theory.specs.Entries.{AtMost};
-ghost use Rattle.lrp_matrix.specs.Nearest.{IsBetween, IsStart, IsLastStart, IsFirstFromZero, IsLastBelowZero, IsNearest};
+ghost use Rattle.lrp_matrix.specs.Nearest.{IsBetween, IsLeastAbove, IsLastStart, IsFirstFromZero, IsLastBelowZero, IsNearest};
 
 /// The least number from zero on that is above the end.
 fn start_from_zero(least: Option<i128>) -> i128
     requires { AtMost (2 ^ 70) least }
-    ensures start { IsStart least result }
+    ensures start { IsLeastAbove least result }
     ensures high { result ≤ℤ pos (2 ^ 70) }
 {
     match least {

@@ -16,3 +16,4 @@ pub mod TokenLaws
 pub mod Unique
 pub mod FirstFault
 pub mod Everywhere
+pub mod NoFaults

@@ -1,12 +1,11 @@
 -- What reading a database means: the relations of a text, or the fault that is reported.
 use Rattle.std.specs.Prelude.{◌≡◌, ℕ, List, [], Some, take}
-use Rattle.std.specs.Str.{IsUtf8, IsValidUpTo}
+use Rattle.std.specs.Str.{IsValidUpTo}
 use Rattle.lrp_model.specs.declared.tokens.Place.{Place}
 use Rattle.lrp_model.specs.declared.tokens.Fault.{Fault}
 use Rattle.lrp_model.specs.declared.tokens.Fault.TheVariants.{Syntax as syntax, Number as number, TextTooLong as text_too_long, Period as period}
-use Rattle.lrp_model.specs.Tokens.{Placed, Tokens, Spells}
-use Rattle.lrp_model.specs.Lexing.{tokens, after, start}
-use Rattle.lrp_model.specs.Refused.{TextOf, IsRefusedAt}
+use Rattle.lrp_model.specs.Lexing.{after, start}
+use Rattle.lrp_model.specs.Refused.{TextOf, IsLawfulText, IsRefusedText}
 use Rattle.lrp_model.specs.Faults.{earliest}
 use Rattle.lrp_model.specs.declared.relations.Relation.{Relation}
 use Rattle.lrp_model.specs.declared.faults.DbFault.{DbFault}
@@ -18,10 +17,8 @@ use Rattle.lrp_model.specs.DatabaseMeaning.{database_of}
 use Rattle.lrp_model.specs.DatabaseFaults.{database_standing, database_faults}
 
 -- the bytes are a lawful text of the grammar, of this written tree
-pub record IsDatabaseText (bytes : List ℕ) (tree : List RawRelation) : Type 0 where
-  pub utf8 : IsUtf8 bytes
-  pub spelled : Spells (database_text tree) (tokens bytes)
-  pub lawful : FitsDatabase tree
+abbrev pub IsDatabaseText : List ℕ → List RawRelation → Type 0
+IsDatabaseText = IsLawfulText database_text FitsDatabase
 
 -- the bytes are a database, with these relations
 pub record IsDatabase (bytes : List ℕ) (db : List Relation) : Type 0 where
@@ -37,12 +34,8 @@ pub record IsNoUtf8 (bytes : List ℕ) (place : Place) : Type 0 where
   pub place_is : place ≡ after start (take valid bytes)
 
 -- UTF-8, and refused by the grammar at this place
-pub record IsNoDatabaseText (bytes : List ℕ) (k : Fault) (place : Place) : Type 0 where
-  pub utf8 : IsUtf8 bytes
-  pub bad : Placed
-  pub tail : Tokens
-  pub refused : IsRefusedAt (TextOf database_text FitsDatabase) (tokens bytes) k bad tail
-  pub place_is : place ≡ bad.place
+abbrev pub IsNoDatabaseText : List ℕ → Fault → Place → Type 0
+IsNoDatabaseText = IsRefusedText (TextOf database_text FitsDatabase)
 
 -- a lawful text, whose tree has this fault as its earliest
 pub record HasDatabaseFault (bytes : List ℕ) (fault : DbFault) : Type 0 where

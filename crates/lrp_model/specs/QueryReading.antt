@@ -1,9 +1,7 @@
 -- What reading a query means: the raw query of a text, or the fault that is reported.
-use Rattle.std.specs.Prelude.{◌≡◌, ℕ, Bool, List}
-use Rattle.std.specs.Str.{IsUtf8}
-use Rattle.lrp_model.specs.Tokens.{Tokens, Spells}
-use Rattle.lrp_model.specs.Lexing.{tokens}
-use Rattle.lrp_model.specs.Refused.{TextOf}
+use Rattle.std.specs.Prelude.{ℕ, Bool, List}
+use Rattle.lrp_model.specs.Tokens.{Tokens}
+use Rattle.lrp_model.specs.Refused.{TextOf, IsLawfulText, IsTextSaying}
 use Rattle.lrp_model.specs.TextFaults.{IsTextFault}
 use Rattle.lrp_model.specs.declared.faults.QueryFault.{QueryFault}
 use Rattle.lrp_model.specs.Queries.{WrittenQuery, query_text, FitsQuery}
@@ -11,16 +9,12 @@ use Rattle.lrp_model.specs.QueryMeaning.{raw_question}
 use Rattle.lrp_model.specs.RawQueries.{RawQuestion}
 
 -- the bytes are a lawful text of the grammar, of this written tree; as no bytes spell a hole, the tree has none
-pub record IsQueryText (bytes : List ℕ) (tree : WrittenQuery) : Type 0 where
-  pub utf8 : IsUtf8 bytes
-  pub spelled : Spells (query_text tree) (tokens bytes)
-  pub lawful : FitsQuery tree
+abbrev pub IsQueryText : List ℕ → WrittenQuery → Type 0
+IsQueryText = IsLawfulText query_text FitsQuery
 
 -- the bytes are a query, and this is what it says
-pub record IsQuery (bytes : List ℕ) (q : RawQuestion) : Type 0 where
-  pub tree : WrittenQuery
-  pub text : IsQueryText bytes tree
-  pub meant : q ≡ raw_question tree
+abbrev pub IsQuery : List ℕ → RawQuestion → Type 0
+IsQuery = IsTextSaying query_text FitsQuery raw_question
 
 -- the tokens spell a tree, and with the flag a lawful one
 abbrev pub Texts : Bool → Tokens → Type 0

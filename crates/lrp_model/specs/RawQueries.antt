@@ -32,7 +32,7 @@ mutual
 abbrev mutual
   pub raw_kind : RawKind → Place → RawForm
   raw_kind (Atom name terms) p = raw_atom p name terms
-  raw_kind (Compare left op right) p = raw_compare p left op right
+  raw_kind (Compare op left right) p = raw_compare p left op right
   raw_kind (Member term point) p = raw_member p term point
   raw_kind (Not' m k q) p = raw_not p (raw_kind k q)
   raw_kind (And' shape all) p = raw_and p (row_raws all)

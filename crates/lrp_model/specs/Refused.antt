@@ -1,9 +1,12 @@
 -- Where a text is refused, apart from any parser.
-use Rattle.std.specs.Prelude.{◌≡◌, ◌≢◌, ◌<◌, length, Bool, true, false, List, ◌∷◌, ◌++◌}
+use Rattle.std.specs.Prelude.{◌≡◌, ◌≢◌, ◌<◌, ℕ, length, Bool, true, false, List, ◌∷◌, ◌++◌}
+use Rattle.std.specs.Str.{IsUtf8}
 use Rattle.lrp_model.specs.declared.tokens.Fault.{Fault}
 use Rattle.lrp_model.specs.declared.tokens.Fault.TheVariants.{Syntax, Number, TextTooLong, Period, Deep, Memory}
+use Rattle.lrp_model.specs.declared.tokens.Place.{Place}
 use Rattle.lrp_model.specs.Tokens.{Token, Placed, Tokens, Part, Spells}
 use Rattle.lrp_model.specs.Tokens.Token.{number_token, text_token}
+use Rattle.lrp_model.specs.Lexing.{tokens}
 use Rattle.lrp_model.specs.Limits.{greatest_number}
 
 -- what a token shows of a fault that is no syntax fault
@@ -63,3 +66,23 @@ pub record IsRefusedAt (Text : Bool → Tokens → Type 0) (ts : Tokens) (k : Fa
   -- for its syntax: no text at all does; else some text does
   pub syntax : k ≡ Syntax → (other : Tokens) → Text false (front ++ bad ∷ other) → ⊥
   pub others : k ≢ Syntax → (other : Tokens) × Text false (front ++ bad ∷ other)
+
+-- the bytes are a lawful text of a grammar, of this tree
+pub record IsLawfulText {A : Type 0} (spell : A → List Part) (Fits : A → Type 0) (bytes : List ℕ) (tree : A) : Type 0 where
+  pub utf8 : IsUtf8 bytes
+  pub spelled : Spells (spell tree) (tokens bytes)
+  pub lawful : Fits tree
+
+-- the bytes are a lawful text of a grammar, and this is what its tree says
+pub record IsTextSaying {A R : Type 0} (spell : A → List Part) (Fits : A → Type 0) (says : A → R) (bytes : List ℕ) (said : R) : Type 0 where
+  pub tree : A
+  pub text : IsLawfulText spell Fits bytes tree
+  pub meant : said ≡ says tree
+
+-- UTF-8, and refused by the grammar at this place
+pub record IsRefusedText (Text : Bool → Tokens → Type 0) (bytes : List ℕ) (k : Fault) (place : Place) : Type 0 where
+  pub utf8 : IsUtf8 bytes
+  pub bad : Placed
+  pub tail : Tokens
+  pub refused : IsRefusedAt Text (tokens bytes) k bad tail
+  pub place_is : place ≡ bad.place

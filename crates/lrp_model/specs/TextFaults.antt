@@ -1,6 +1,5 @@
 -- The fault of bytes that are no text of a grammar: which kind is reported, and where.
 use Rattle.std.specs.Prelude.{◌≡◌, ℕ, Bool, true, List, ◌∷◌, ◌++◌}
-use Rattle.std.specs.Str.{IsUtf8}
 use Rattle.lrp_model.specs.declared.tokens.Place.{Place}
 use Rattle.lrp_model.specs.declared.tokens.Fault.{Fault}
 use Rattle.lrp_model.specs.declared.tokens.Fault.TheVariants.{Syntax as syntax, Number as number, TextTooLong as text_too_long, Period as period, Deep as deep, Memory as memory}
@@ -9,8 +8,7 @@ use Rattle.lrp_model.specs.declared.faults.QueryKind.{QueryKind}
 use Rattle.lrp_model.specs.declared.faults.QueryKind.TheVariants.{Utf8, Syntax, Number, Period, Deep, TextTooLong}
 use Rattle.lrp_model.specs.Tokens.{Token, Placed, Tokens}
 use Rattle.lrp_model.specs.Tokens.Token.{hole_token}
-use Rattle.lrp_model.specs.Lexing.{tokens}
-use Rattle.lrp_model.specs.Refused.{IsCause, IsRefusedAt}
+use Rattle.lrp_model.specs.Refused.{IsCause, IsRefusedText}
 use Rattle.lrp_model.specs.DatabaseReading.{IsNoUtf8}
 
 -- the texts of a grammar, with the flag its lawful ones
@@ -30,14 +28,10 @@ IsRankedIn Texts syntax front t = Unit {0}
 IsRankedIn Texts number front t = Unit {0}
 IsRankedIn Texts memory front t = ⊥
 
--- UTF-8, and refused by the grammar at this place
+-- refused by the grammar at this place, for the kind that is reported there
 pub record IsNoTextOf (Texts : Grammatical) (bytes : List ℕ) (k : Fault) (place : Place) : Type 0 where
-  pub utf8 : IsUtf8 bytes
-  pub bad : Placed
-  pub tail : Tokens
-  pub refused : IsRefusedAt Texts (tokens bytes) k bad tail
-  pub ranked : IsRankedIn Texts k refused.front bad.token
-  pub place_is : place ≡ bad.place
+  pub refusal : IsRefusedText Texts bytes k place
+  pub ranked : IsRankedIn Texts k refusal.refused.front refusal.bad.token
 
 -- the fault that reading reports; the other kinds are those of sorts
 abbrev pub IsTextFaultOf : Grammatical → List ℕ → QueryKind → QueryFault → Type 0

@@ -1,23 +1,23 @@
-// The bytes of a short name, which are copied whole.
+// Bytes that stand in a value of fixed size.
 ghost use Rattle.std.specs.Prelude.{◌≡◌, ◌≤◌, take, IfSome};
 
-/// At most 22 bytes, in the value itself: as many as a list takes beside what tells the two apart.
+/// At most `ROOM` bytes, in the value itself.
 #[derive(Clone, Copy, Drop)]
-pub(crate) struct Short {
+pub(crate) struct Short<const ROOM: usize> {
     size: u8,
-    bytes: [u8; 22],
-    ghost held: { size ≤ 22 },
+    bytes: [u8; ROOM],
+    ghost held: { size ≤ ROOM },
 }
 
-impl Short {
-    /// The short name with these bytes, if they are few.
-    pub(crate) fn of(bytes: &[u8]) -> Option<Short>
+impl<const ROOM: usize> Short<ROOM> {
+    /// These bytes, if they are few.
+    pub(crate) fn of(bytes: &[u8]) -> Option<Short<ROOM>>
         ensures { IfSome result (λ short. take short.size short.bytes ≡ bytes.now) }
     {
-        if bytes.len() > 22 {
+        if bytes.len() > ROOM || bytes.len() > 255 {
             return None;
         }
-        let mut held = [0; 22];
+        let mut held = [0; ROOM];
         held[..bytes.len()].copy_from_slice(bytes);
         Some(Short {
             size: bytes.len() as u8,

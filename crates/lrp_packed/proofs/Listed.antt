@@ -6,7 +6,7 @@ use Rattle.std.proofs.lemmas.Bool.{eqb-true, eqb-false, cases_lt, cases_eq}
 use Rattle.std.proofs.lemmas.List.{drop_all, ext_get_or, length-map}
 use Rattle.std.proofs.lemmas.List.FromFn.{get_or-map-range_with_len, length-range_with_len}
 use Rattle.lrp_model.specs.declared.tuples.Cell.{Cell}
-use Rattle.lrp_packed.specs.Entries.{ArePacked, IsEntryAt, IsProper, IsPut, bound_in, cell_of, entry_for, read_from, residue_in, table_of, text_in}
+use Rattle.lrp_packed.specs.Entries.{ArePacked, IsEntryAt, IsProper, IsEntryPut, bound_in, cell_of_entries, entry_for, read_from, residue_in, table_of_entries, text_in}
 use Rattle.lrp_packed.specs.declared.zones.PackedEntry.{PackedEntry}
 
 none_some : {X : Type 0} (x : X) → None ≡ Some x → ⊥
@@ -161,7 +161,7 @@ module _ (e : PackedEntry) (es : List PackedEntry) where
 
 -- a text, a residue or a bound is put
 module _ (e : PackedEntry) (cell new : Cell) (table : List (Option ℤ)) where
-  pub text_put : e.place < 8 → new.texts ≡ set cell.texts e.place e.text → new.residues ≡ cell.residues → IsPut e cell new table table
+  pub text_put : e.place < 8 → new.texts ≡ set cell.texts e.place e.text → new.residues ≡ cell.residues → IsEntryPut e cell new table table
   text_put low texts residues = record {
     cell_is = λ es h. cell_is new (read_from text_in 0 8 (e ∷ es)) (read_from residue_in 8 8 (e ∷ es))
         (texts ∙ ap (λ (c : Cell). set c.texts e.place e.text) h ∙ sym (read_in e es text_in 0 8 e.place (omega arith) low))
@@ -169,7 +169,7 @@ module _ (e : PackedEntry) (cell new : Cell) (table : List (Option ℤ)) where
     table_is = λ es h. h ∙ sym (read_out e es bound_in 16 81 (inl (omega (arith, low))));
   }
 
-  pub residue_put : (i : ℕ) → e.place ≡ 8 + i → i < 8 → new.texts ≡ cell.texts → new.residues ≡ set cell.residues i e.time → IsPut e cell new table table
+  pub residue_put : (i : ℕ) → e.place ≡ 8 + i → i < 8 → new.texts ≡ cell.texts → new.residues ≡ set cell.residues i e.time → IsEntryPut e cell new table table
   residue_put i at low texts residues = record {
     cell_is = λ es h. cell_is new (read_from text_in 0 8 (e ∷ es)) (read_from residue_in 8 8 (e ∷ es))
         (texts ∙ ap (λ (c : Cell). c.texts) h ∙ sym (read_out e es text_in 0 8 (inr (omega (arith, at)))))
@@ -177,9 +177,9 @@ module _ (e : PackedEntry) (cell new : Cell) (table : List (Option ℤ)) where
     table_is = λ es h. h ∙ sym (read_out e es bound_in 16 81 (inl (omega (arith, at, low))));
   }
 
-pub bound_put : (e : PackedEntry) (cell : Cell) (table new : List (Option ℤ)) (i : ℕ) → e.place ≡ 16 + i → i < 81 → new ≡ set table i (Some e.time) → IsPut e cell cell table new
+pub bound_put : (e : PackedEntry) (cell : Cell) (table new : List (Option ℤ)) (i : ℕ) → e.place ≡ 16 + i → i < 81 → new ≡ set table i (Some e.time) → IsEntryPut e cell cell table new
 bound_put e cell table new i at low made = record {
-  cell_is = λ es h. h ∙ cell_is (cell_of es) (read_from text_in 0 8 (e ∷ es)) (read_from residue_in 8 8 (e ∷ es))
+  cell_is = λ es h. h ∙ cell_is (cell_of_entries es) (read_from text_in 0 8 (e ∷ es)) (read_from residue_in 8 8 (e ∷ es))
       (sym (read_out e es text_in 0 8 (inr (omega (arith, at)))))
       (sym (read_out e es residue_in 8 8 (inr (omega (arith, at)))));
   table_is = λ es h. made ∙ ap (λ t. set t i (Some e.time)) h ∙ sym (read_in e es bound_in 16 81 i at low);
@@ -189,8 +189,8 @@ bound_put e cell table new i at low made = record {
 
 -- the cell and the table are those of the entries from a number on
 pub record AreWritten (es : List PackedEntry) (left : ℕ) (cell : Cell) (table : List (Option ℤ)) : Type 0 where
-  pub cell_is : cell ≡ cell_of (drop left es)
-  pub table_is : table ≡ table_of (drop left es)
+  pub cell_is : cell ≡ cell_of_entries (drop left es)
+  pub table_is : table ≡ table_of_entries (drop left es)
 
 drop_one : (es : List PackedEntry) (k : ℕ) (d : PackedEntry) → k < length es → drop k es ≡ get_or es k d ∷ drop (suc k) es
 drop_one [] k d h = absurd (omega arith)
@@ -199,18 +199,18 @@ drop_one (x ∷ es) (suc k) d h = drop_one es k d (omega arith)
 
 pub written_none : (es : List PackedEntry) (left : ℕ) (cell : Cell) (table : List (Option ℤ)) → length es ≤ left → cell ≡ record { texts = replicate 8 0; residues = replicate 8 (pos 0) } → table ≡ replicate 81 None → AreWritten es left cell table
 written_none es left cell table le c t = record {
-  cell_is = c ∙ sym (ap cell_of (drop_all left es le) ∙ cell_is (cell_of []) (replicate 8 0) (replicate 8 (pos 0)) (none_read text_in 0 8) (none_read residue_in 8 8));
-  table_is = t ∙ sym (ap table_of (drop_all left es le) ∙ none_read bound_in 16 81);
+  cell_is = c ∙ sym (ap cell_of_entries (drop_all left es le) ∙ cell_is (cell_of_entries []) (replicate 8 0) (replicate 8 (pos 0)) (none_read text_in 0 8) (none_read residue_in 8 8));
+  table_is = t ∙ sym (ap table_of_entries (drop_all left es le) ∙ none_read bound_in 16 81);
 }
 
-pub written_more : (es : List PackedEntry) (left n : ℕ) (e d : PackedEntry) (cell new : Cell) (table more : List (Option ℤ)) → left ≡ suc n → n < length es → e ≡ get_or es n d → IsPut e cell new table more → AreWritten es left cell table → AreWritten es n new more
+pub written_more : (es : List PackedEntry) (left n : ℕ) (e d : PackedEntry) (cell new : Cell) (table more : List (Option ℤ)) → left ≡ suc n → n < length es → e ≡ get_or es n d → IsEntryPut e cell new table more → AreWritten es left cell table → AreWritten es n new more
 written_more es left n e d cell new table more at low is put w = record {
-  cell_is = put.cell_is (drop left es) w.cell_is ∙ ap cell_of (sym all);
-  table_is = put.table_is (drop left es) w.table_is ∙ ap table_of (sym all);
+  cell_is = put.cell_is (drop left es) w.cell_is ∙ ap cell_of_entries (sym all);
+  table_is = put.table_is (drop left es) w.table_is ∙ ap table_of_entries (sym all);
 }
   where
     all : drop n es ≡ e ∷ drop left es
     all = drop_one es n d low ∙ ap (λ x. x ∷ drop (suc n) es) (sym is) ∙ ap (λ k. e ∷ drop k es) (sym at)
 
-pub written_all : (es : List PackedEntry) (left : ℕ) (cell : Cell) (table : List (Option ℤ)) → left ≡ 0 → AreWritten es left cell table → (cell ≡ cell_of es) × (table ≡ table_of es)
-written_all es left cell table none w = (w.cell_is ∙ ap (λ k. cell_of (drop k es)) none, w.table_is ∙ ap (λ k. table_of (drop k es)) none)
+pub written_all : (es : List PackedEntry) (left : ℕ) (cell : Cell) (table : List (Option ℤ)) → left ≡ 0 → AreWritten es left cell table → (cell ≡ cell_of_entries es) × (table ≡ table_of_entries es)
+written_all es left cell table none w = (w.cell_is ∙ ap (λ k. cell_of_entries (drop k es)) none, w.table_is ∙ ap (λ k. table_of_entries (drop k es)) none)

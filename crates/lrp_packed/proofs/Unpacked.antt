@@ -21,7 +21,7 @@ use Rattle.lrp_store.proofs.Listed.{tight_is_small, word_abs}
 use Rattle.lrp_tables.specs.Pieces.{ArePieces, IsPieceOf}
 use Rattle.lrp_tables.specs.declared.pieces.Piece.{Piece}
 use Rattle.lrp_tables.proofs.Pieced.{in_map, of_map}
-use Rattle.lrp_packed.specs.Entries.{CellZone, cell_of, table_of}
+use Rattle.lrp_packed.specs.Entries.{CellZone, cell_of_entries, table_of_entries}
 use Rattle.lrp_packed.specs.declared.zones.PackedEntry.{PackedEntry}
 use Rattle.lrp_packed.specs.Packed.{AllFit, CanBeUnpacked, HasSame, store_of, tables_of, unpacked}
 
@@ -123,8 +123,8 @@ module _ (shape : Shape) (period : ℕ) (zs : List CellZone) where
 -- ---- a zone is unpacked
 
 -- the cell and the table that entries stand for are those that are seen
-pub seen : (cell : Cell) (table : Table) (slice items : List PackedEntry) (now : CellZone) → cell ≡ cell_of slice → table ≡ table_of slice → slice ≡ items → (cell_of items, table_of items) ≡ now → (cell, table) ≡ now
-seen cell table slice items now c t e view = ap (λ x. (x, table)) c ∙ ap (λ y. (cell_of slice, y)) t ∙ ap (λ es. (cell_of es, table_of es)) e ∙ view
+pub seen : (cell : Cell) (table : Table) (slice items : List PackedEntry) (now : CellZone) → cell ≡ cell_of_entries slice → table ≡ table_of_entries slice → slice ≡ items → (cell_of_entries items, table_of_entries items) ≡ now → (cell, table) ≡ now
+seen cell table slice items now c t e view = ap (λ x. (x, table)) c ∙ ap (λ y. (cell_of_entries slice, y)) t ∙ ap (λ es. (cell_of_entries es, table_of_entries es)) e ∙ view
 
 module _ (shape : Shape) (period from : ℕ) (cell : Cell) (table : Table) (now : CellZone) (from_is : from ≡ shape.times) (is : (cell, table) ≡ now) where
   pub zone_again : CanBeUnpacked shape period now → IsZone (record { period = period; residues = take from cell.residues; bounds = table })

@@ -2,7 +2,7 @@
 use Rattle.std.specs.Prelude.{◌≡◌, ℕ, ℤ, ◌-◌, ◌<◌, ◌≤◌, ◌==◌, pos, List, [], ◌∷◌, map, Option, Some, None, IfSome, slice_index_or, if◌then◌else◌}
 use Rattle.std.specs.List.{AllByRecursion, range_with_len}
 use Rattle.lrp_model.specs.declared.tuples.Cell.{Cell}
-use Rattle.lrp_zone.specs.Numbers.{CanStand}
+use Rattle.lrp_zone.specs.Numbers.{FitsNumber}
 use Rattle.lrp_packed.specs.declared.zones.PackedEntry.{PackedEntry}
 
 -- a cell, and the table of the stored bounds of one of its zones
@@ -32,16 +32,16 @@ abbrev pub read_from : {X : Type 0} → (Option PackedEntry → X) → ℕ → �
 read_from f first count es = map (λ place. f (entry_for es place)) (range_with_len first count)
 
 -- the cell that entries stand for, and the table
-abbrev pub cell_of : List PackedEntry → Cell
-cell_of es = record { texts = read_from text_in 0 8 es; residues = read_from residue_in 8 8 es }
+abbrev pub cell_of_entries : List PackedEntry → Cell
+cell_of_entries es = record { texts = read_from text_in 0 8 es; residues = read_from residue_in 8 8 es }
 
-abbrev pub table_of : List PackedEntry → List (Option ℤ)
-table_of es = read_from bound_in 16 81 es
+abbrev pub table_of_entries : List PackedEntry → List (Option ℤ)
+table_of_entries es = read_from bound_in 16 81 es
 
 -- an entry of a place, whose bound can stand in a table
 pub record IsProper (e : PackedEntry) : Type 0 where
   pub low : e.place < 97
-  pub stands : 16 ≤ e.place → CanStand (Some e.time)
+  pub stands : 16 ≤ e.place → FitsNumber (Some e.time)
 
 -- the entry, if there is one, is what stands at the place
 pub record IsEntryAt (cell : Cell) (table : List (Option ℤ)) (place : ℕ) (found : Option PackedEntry) : Type 0 where
@@ -53,10 +53,10 @@ pub record IsEntryAt (cell : Cell) (table : List (Option ℤ)) (place : ℕ) (fo
 -- the entries stand for the cell and the table
 pub record ArePacked (cell : Cell) (table : List (Option ℤ)) (es : List PackedEntry) : Type 0 where
   pub proper : AllByRecursion IsProper es
-  pub cell_is : cell_of es ≡ cell
-  pub table_is : table_of es ≡ table
+  pub cell_is : cell_of_entries es ≡ cell
+  pub table_is : table_of_entries es ≡ table
 
 -- where the cell and the table are those of some entries, they become those of this entry before them
-pub record IsPut (e : PackedEntry) (cell new_cell : Cell) (table new_table : List (Option ℤ)) : Type 0 where
-  pub cell_is : (es : List PackedEntry) → cell ≡ cell_of es → new_cell ≡ cell_of (e ∷ es)
-  pub table_is : (es : List PackedEntry) → table ≡ table_of es → new_table ≡ table_of (e ∷ es)
+pub record IsEntryPut (e : PackedEntry) (cell new_cell : Cell) (table new_table : List (Option ℤ)) : Type 0 where
+  pub cell_is : (es : List PackedEntry) → cell ≡ cell_of_entries es → new_cell ≡ cell_of_entries (e ∷ es)
+  pub table_is : (es : List PackedEntry) → table ≡ table_of_entries es → new_table ≡ table_of_entries (e ∷ es)

@@ -6,7 +6,7 @@ use Rattle.lrp_model.specs.declared.tuples.Cell.{Cell}
 use Rattle.lrp_zone.specs.Zones.{IsZone}
 use Rattle.lrp_slots.specs.Lists.{cell_cmp, list_at}
 use Rattle.lrp_store.specs.Stores.{InStore, IsCellOf, StoreView, tables_at}
-use Rattle.lrp_tables.specs.Pieces.{Fits, IsPieceOf}
+use Rattle.lrp_tables.specs.Pieces.{FitsCell, IsPieceOf}
 use Rattle.lrp_tables.specs.declared.pieces.Piece.{Piece}
 use Rattle.lrp_packed.specs.Entries.{CellZone}
 
@@ -30,7 +30,7 @@ store_of shape period zs = record { shape = shape; period = period; tables = tab
 
 -- each zone has the residues of its cell, and the store's period
 abbrev pub AllFit : StoreView → Type 0
-AllFit s = (piece : Piece) → IsPieceOf s piece → Fits s.shape s.period piece
+AllFit s = (piece : Piece) → IsPieceOf s piece → FitsCell s.shape s.period piece
 
 -- new has the cells, the zones and the tuples of old
 pub record HasSame (old new : StoreView) : Type 0 where

@@ -1,7 +1,7 @@
 // Zones in as few bytes as they need.
 ghost use Rattle.std.specs.Prelude.{◌≡◌, ◌<◌, ◌≤◌, IfOk, IfSome, length};
 ghost use Rattle.std.specs.List.{AllByRecursion};
-ghost use Rattle.lrp_packed.specs.Entries.{ArePacked, IsEntryAt, IsProper, IsPut, cell_of, residue_in, table_of, text_in};
+ghost use Rattle.lrp_packed.specs.Entries.{ArePacked, IsEntryAt, IsProper, IsEntryPut, cell_of_entries, residue_in, table_of_entries, text_in};
 ghost use Rattle.lrp_packed.specs.Packed.{CanBeUnpacked, unpacked};
 
 use lrp_model::{Cell, Memory, Shape};
@@ -28,11 +28,11 @@ pub(crate) struct PackedZone {
 
 impl Model for PackedZone {
     ghost use Rattle.std.specs.List.{AllByRecursion};
-    ghost use Rattle.lrp_packed.specs.Entries.{CellZone, IsProper, cell_of, table_of};
+    ghost use Rattle.lrp_packed.specs.Entries.{CellZone, IsProper, cell_of_entries, table_of_entries};
 
     ghost Value = { CellZone };
 
-    ghost view = { λ z. (cell_of z.entries.items, table_of z.entries.items) };
+    ghost view = { λ z. (cell_of_entries z.entries.items, table_of_entries z.entries.items) };
 
     ghost invariant = { λ z. AllByRecursion IsProper z.entries.items };
 }
@@ -141,8 +141,8 @@ fn bound_entry(piece: &Piece, place: u8) -> Option<PackedEntry>
 // The cell and the table that entries stand for. The first one for a place is the last that is put there.
 fn written(entries: &[PackedEntry]) -> (Cell, BoundTable)
     requires { AllByRecursion IsProper entries.now }
-    ensures cell { result.0 ≡ cell_of entries.now }
-    ensures table { result.1 ≡ table_of entries.now }
+    ensures cell { result.0 ≡ cell_of_entries entries.now }
+    ensures table { result.1 ≡ table_of_entries entries.now }
 {
     let mut cell = Cell {
         texts: [0; 8],
@@ -157,7 +157,7 @@ fn written(entries: &[PackedEntry]) -> (Cell, BoundTable)
 
 fn put(entry: PackedEntry, cell: &mut Cell, bounds: &mut BoundTable)
     requires { IsProper entry }
-    ensures { IsPut entry cell.old cell.new bounds.old bounds.new }
+    ensures { IsEntryPut entry cell.old cell.new bounds.old bounds.new }
 {
     let place = usize::from(entry.place);
     if place < 8 {

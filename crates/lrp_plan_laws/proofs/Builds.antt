@@ -6,7 +6,7 @@ use Rattle.lrp_model.specs.Texts.{Identifier}
 use Rattle.lrp_model.specs.Formulas.{Form, test, negation, conjunction, disjunction, exists, no_forms, form}
 use Rattle.lrp_model.specs.Variables.{Variable, variables_of_test, free}
 use Rattle.lrp_model.specs.Satisfaction.{Structure}
-use Rattle.lrp_model.specs.Reach.{reach_of, greatest, test_reach}
+use Rattle.lrp_model.specs.Reach.{step_reach, greatest, test_reach}
 use Rattle.lrp_model.specs.Steps.{PlanStep, Steps, step_at, formula_at, reach_at, step_behind, made, tests_as_forms}
 use Rattle.lrp_model.specs.declared.relations.Sort.{Sort}
 use Rattle.lrp_model.specs.declared.relations.Sort.TheVariants.{Time}
@@ -56,7 +56,7 @@ module _ (M : Structure) (head : HeadStep) (at other : ℕ → Form) (s : ℕ) (
   moved_variables (Extend of) o h = tt
 
 -- the reach is the same where the reaches that are read are
-moved_reach : (db : List Relation) (at other : ℕ → ℕ) (s K : ℕ) → ((l : ℕ) → IsEarlier s l → other l ≡ at l) → (kind : StepKind) → AllByRecursion (IsEarlier s) (operands kind) → reach_of db at K kind ≡ reach_of db other K kind
+moved_reach : (db : List Relation) (at other : ℕ → ℕ) (s K : ℕ) → ((l : ℕ) → IsEarlier s l → other l ≡ at l) → (kind : StepKind) → AllByRecursion (IsEarlier s) (operands kind) → step_reach db at K kind ≡ step_reach db other K kind
 moved_reach db at other s K same (Scan name terms) o = refl
 moved_reach db at other s K same (Leaf t) o = refl
 moved_reach db at other s K same (SortStep v t texts) o = refl

@@ -9,7 +9,7 @@ use Rattle.lrp_model.specs.Satisfaction.{Structure, structure}
 use Rattle.lrp_model.specs.Core.{core_form, guarded, has_named_sort, column_elements, head_elements, HasElements}
 use Rattle.lrp_theory.specs.Divides.{IsMultiple}
 use Rattle.lrp_model.specs.Periods.{lcm_all, test_periods, periods, periods_each, period}
-use Rattle.lrp_model.specs.Reach.{reach_of, greatest, test_reach}
+use Rattle.lrp_model.specs.Reach.{step_reach, greatest, test_reach}
 use Rattle.lrp_model.specs.Steps.{PlanStep, Steps, step_at, formula_at, reach_at, step_behind, made, tests_as_forms}
 use Rattle.lrp_model.specs.Plans.{plan, core_steps, query_reach}
 use Rattle.lrp_model.specs.declared.relations.Sort.{Sort}
@@ -268,7 +268,7 @@ period_of M head steps made l = by_step (step_at steps l) refl
 -- ---- a reach is at least the reaches of the steps that are read
 
 -- a reach is at least those of the steps that are read
-read_reaches : (db : List Relation) (at : ℕ → ℕ) (K r : ℕ) (kind : StepKind) → r ≡ reach_of db at K kind → AllByRecursion (λ l. at l ≤ r) (operands kind)
+read_reaches : (db : List Relation) (at : ℕ → ℕ) (K r : ℕ) (kind : StepKind) → r ≡ step_reach db at K kind → AllByRecursion (λ l. at l ≤ r) (operands kind)
 read_reaches db at K r (Scan name terms) e = tt
 read_reaches db at K r (Leaf t) e = tt
 read_reaches db at K r (SortStep v s texts) e = tt
@@ -282,7 +282,7 @@ read_reaches db at K r (DropData of v) e = let h : r ≡ at of = e in (omega ari
 read_reaches db at K r (Extend of) e = let h : r ≡ at of = e in (omega arith, tt)
 
 -- a step's reach grows with those of the steps that it reads
-pub reach_grows : (db : List Relation) (at more : ℕ → ℕ) (K : ℕ) (kind : StepKind) → AllByRecursion (λ l. at l ≤ more l) (operands kind) → reach_of db at K kind ≤ reach_of db more K kind
+pub reach_grows : (db : List Relation) (at more : ℕ → ℕ) (K : ℕ) (kind : StepKind) → AllByRecursion (λ l. at l ≤ more l) (operands kind) → step_reach db at K kind ≤ step_reach db more K kind
 reach_grows db at more K (Scan name terms) h = omega arith
 reach_grows db at more K (Leaf t) h = omega arith
 reach_grows db at more K (SortStep v s texts) h = omega arith
@@ -306,8 +306,8 @@ test_wide db (Equal left right) h = omega arith
 -- the reach of a step, where those of the steps that it reads are at least their periods
 step_wide : (M : Structure) (head : HeadStep) (at : ℕ → Form) (reach : ℕ → ℕ) → period M.relations head.formula ≤ period M.relations (at head.of)
     → (kind : StepKind) (f : Form) (r : ℕ) → IsFormula M head at kind f → AllByRecursion (λ k. 1 ≤ k) (periods f M.relations) → AllByRecursion (λ l. period M.relations (at l) ≤ reach l) (operands kind)
-    → r ≡ reach_of M.relations reach (period M.relations f) kind → period M.relations f ≤ r
-step_wide M head at reach top (Scan name terms) f r h low below e = let g : r ≡ reach_of M.relations reach (period M.relations f) (Scan name terms) = e in omega arith
+    → r ≡ step_reach M.relations reach (period M.relations f) kind → period M.relations f ≤ r
+step_wide M head at reach top (Scan name terms) f r h low below e = let g : r ≡ step_reach M.relations reach (period M.relations f) (Scan name terms) = e in omega arith
 step_wide M head at reach top (Leaf t) f r h low below e =
     let k : period M.relations (test t) ≤ test_reach t = test_wide M.relations t (subst (λ g. AllByRecursion (λ k. 1 ≤ k) (periods g M.relations)) h low) in
     let s : period M.relations f ≡ period M.relations (test t) = ap (period M.relations) h in
@@ -374,7 +374,7 @@ module _ (db : List Relation) (q : Question) (some : HasElements q.body) (low : 
       let h : period db x.0.formula ≤ x.0.reach = wide_to n l x.0 (omega arith) x.1 in
       subst (λ o. period db (unwrap_or (option_map (λ y. y.formula) o) (conjunction no_forms)) ≤ unwrap_or (option_map (λ y. y.reach) o) 0) (sym x.1) h)
       m.earlier)
-      (subst (λ K. step.reach ≡ reach_of db (reach_at (plan db q)) K step.kind) m.period m.reach)
+      (subst (λ K. step.reach ≡ step_reach db (reach_at (plan db q)) K step.kind) m.period m.reach)
 
   -- periods and reaches rise along a plan
   pub rises : (s : ℕ) (step : PlanStep) → step_at (plan db q) s ≡ Some step → IsRising db q s step

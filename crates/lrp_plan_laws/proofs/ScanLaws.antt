@@ -20,7 +20,7 @@ use Rattle.lrp_model.specs.declared.plans.StepKind.TheVariants.{Scan}
 use Rattle.lrp_model.proofs.Decided.{cons_cases, contains_first, contains_later, contains_none}
 use Rattle.lrp_model.proofs.DomainLaws.{contains_in_order}
 use Rattle.lrp_plan_laws.specs.Made.{IsFormula, IsMade, head_step}
-use Rattle.lrp_plan_laws.specs.Atoms.{Atom, atoms, atoms_each, FitsAtom, texts_among, IsKnownScan}
+use Rattle.lrp_plan_laws.specs.Atoms.{Atom, atoms, atoms_each, FitsAtom, texts_of_terms, IsKnownScan}
 use Rattle.lrp_plan_laws.proofs.Members.{all_of, all_by, all_self, all_map, in_left, in_right, in_one}
 use Rattle.lrp_plan_laws.proofs.Marks.{marks, marked_atom}
 use Rattle.lrp_plan_laws.proofs.RisingLaws.{plan_made, step_marks}
@@ -79,7 +79,7 @@ database_known db q =
     all_by (λ entry. Contains (constants db q) entry.1) (database_texts db) (λ e c. entry_known db q e (in_left (database_texts db) (form_texts q.body db q.head) e c))
 
 -- texts among terms that fit columns are among the texts with sorts
-among_known : (ds : List Text) (cs : List Column) (ts : List Term) → AllZip FitsColumn cs ts → AllByRecursion (λ entry. Contains ds entry.1) (term_texts cs ts) → AllByRecursion (Contains ds) (texts_among ts)
+among_known : (ds : List Text) (cs : List Column) (ts : List Term) → AllZip FitsColumn cs ts → AllByRecursion (λ entry. Contains ds entry.1) (term_texts cs ts) → AllByRecursion (Contains ds) (texts_of_terms ts)
 among_known ds [] [] z h = tt
 among_known ds [] (t ∷ ts) z h = absurd z
 among_known ds (c ∷ cs) [] z h = tt
@@ -88,7 +88,7 @@ among_known ds (c ∷ cs) (data_term (data_var v) ∷ ts) z h = among_known ds c
 among_known ds (c ∷ cs) (time_term t ∷ ts) z h = among_known ds cs ts z.1 h
 
 -- the texts among the terms of an atom that fits
-atom_known : (db : List Relation) (q : Question) (a : Atom) (o : Option Relation) → MatchOption o ⊥ (λ r. AllZip FitsColumn r.columns a.terms) → AllByRecursion (λ entry. Contains (constants db q) entry.1) (term_texts (columns_in o) a.terms) → AllByRecursion (Contains (constants db q)) (texts_among a.terms)
+atom_known : (db : List Relation) (q : Question) (a : Atom) (o : Option Relation) → MatchOption o ⊥ (λ r. AllZip FitsColumn r.columns a.terms) → AllByRecursion (λ entry. Contains (constants db q) entry.1) (term_texts (columns_in o) a.terms) → AllByRecursion (Contains (constants db q)) (texts_of_terms a.terms)
 atom_known db q a None f h = absurd f
 atom_known db q a (Some r) f h = among_known (constants db q) r.columns a.terms f h
 

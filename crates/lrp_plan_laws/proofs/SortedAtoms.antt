@@ -22,7 +22,7 @@ use Rattle.lrp_model.specs.declared.raw.RawTermKind.{RawTermKind}
 use Rattle.lrp_model.specs.declared.raw.RawTermKind.TheVariants.{Int, Text, Var, Shifted}
 use Rattle.lrp_model.proofs.Logic.{all_append}
 use Rattle.lrp_plan_laws.specs.Atoms.{atoms, atoms_each, FitsAtom}
-use Rattle.lrp_plan_laws.proofs.SortedNames.{both_none, none_if, not_false, not_wide, not_wide_inside, same_kind, no_time}
+use Rattle.lrp_model.proofs.NoFaults.{both_none, none_if, not_false, not_wide, not_wide_inside, same_kind, no_time}
 use Rattle.lrp_plan_laws.proofs.SortedScopes.{parts_sorted}
 
 -- a term of the column's sort fits it

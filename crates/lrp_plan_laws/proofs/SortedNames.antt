@@ -4,11 +4,9 @@ use Rattle.std.specs.Prelude.{option_map, find, if◌then◌else◌}
 use Rattle.std.specs.List.{AllByRecursion}
 use Rattle.std.specs.Cmp.Lexicographic.{bytes_decides}
 use Rattle.lrp_model.specs.Texts.{Identifier, without}
-use Rattle.lrp_model.specs.Sorts.{same_sort, is_time, is_data}
-use Rattle.lrp_model.specs.Faults.{fault_if}
 use Rattle.lrp_model.specs.Variables.{Variable, time_variable, data_variable, bound_by, same_variable, variables_of_time, variables_of_data, variables_of_term, variables_of_test, free, free_each}
 use Rattle.lrp_model.specs.RawQueries.{RawForm, RawForms, raw_atom, raw_compare, raw_member, raw_not, raw_and, raw_or, raw_implies, raw_group, raw_exists, raw_forall, no_raws, raw}
-use Rattle.lrp_model.specs.Sorting.{Binders, binder_sort, TermSort, of_sort, any_data, unsorted, alone_sort, shifted_sort, kind_sort, term_sort, is_data_term, unlike, variable_faults, kind_faults, term_faults, time_faults, compare_faults, binder_faults, term_names, free_names, free_names_each, widened, form_faults, forms_faults, too_many, place_of, query_fault}
+use Rattle.lrp_model.specs.Sorting.{Binders, binder_sort, TermSort, alone_sort, kind_sort, term_sort, is_data_term, unlike, variable_faults, kind_faults, term_faults, time_faults, compare_faults, term_names, free_names, free_names_each, widened, form_faults, forms_faults}
 use Rattle.lrp_model.specs.Checked.{time_of, data_of, term_of, compare_of, plain, plain_each}
 use Rattle.lrp_model.specs.declared.tokens.Place.{Place}
 use Rattle.lrp_model.specs.declared.relations.Sort.{Sort}
@@ -23,30 +21,12 @@ use Rattle.lrp_model.specs.declared.raw.RawColumn.{RawColumn}
 use Rattle.lrp_model.specs.declared.raw.RawTerm.{RawTerm}
 use Rattle.lrp_model.specs.declared.raw.RawTermKind.{RawTermKind}
 use Rattle.lrp_model.specs.declared.raw.RawTermKind.TheVariants.{Int, Text, Var, Shifted}
-use Rattle.lrp_model.specs.declared.faults.QueryFault.{QueryFault}
-use Rattle.lrp_model.specs.declared.faults.QueryKind.TheVariants.{Wide}
 use Rattle.lrp_model.proofs.Decided.{cons_cases, contains_first, contains_later, contains_none}
 use Rattle.lrp_model.proofs.Logic.{all_append}
+use Rattle.lrp_model.proofs.NoFaults.{both_none, none_if, not_wide, not_wide_inside, shifted_known, kind_known, alike}
 use Rattle.lrp_plan_laws.specs.Made.{IsDataSort}
 use Rattle.lrp_plan_laws.proofs.Names.{same_own}
 use Rattle.lrp_plan_laws.proofs.Members.{all_map, in_left, in_right}
-
--- ---- lists without an element
-
--- two lists that are nothing together
-pub both_none : {F : Type 0} (xs ys : List F) → xs ++ ys ≡ [] → (xs ≡ []) × (ys ≡ [])
-both_none [] ys e = (refl, e)
-both_none (x ∷ xs) ys e = cc
-
--- what is not false is true
-pub not_false : (b : Bool) → not b ≡ false → b ≡ true
-not_false true e = refl
-not_false false e = cc
-
--- where there is no fault, its test is false
-pub none_if : {F : Type 0} (b : Bool) (f : F) → fault_if b f ≡ [] → b ≡ false
-none_if true f e = cc
-none_if false f e = refl
 
 -- ---- binders
 
@@ -127,11 +107,6 @@ module _ (bs : Binders) (n : Identifier) where
   shifted_time (Some Data) p e f = cc
   shifted_time (Some (Named m)) p e f = cc
 
-  -- and has the sort of times
-  shifted_known : (o : Option Sort) (p : Place) → variable_faults o true p ≡ [] → shifted_sort o ≡ of_sort Time
-  shifted_known None p f = cc
-  shifted_known (Some s) p f = refl
-
 module _ (bs : Binders) (p : Place) where
   -- a term of an atom
   kind_bound : (k : RawTermKind) → kind_faults bs k p ≡ [] → AllByRecursion (Occurs (term_names (raw_term k p)) bs) (variables_of_term (term_as (kind_sort bs k) k))
@@ -139,7 +114,7 @@ module _ (bs : Binders) (p : Place) where
   kind_bound (Text t) f = tt
   kind_bound (Var n) f = alone_bound bs n (binder_sort bs n) p refl f
   kind_bound (Shifted n plus) f =
-      subst (λ s. AllByRecursion (Occurs (n ∷ []) bs) (variables_of_term (term_as s (Shifted n plus)))) (sym (shifted_known bs n (binder_sort bs n) p f)) (shifted_time bs n (binder_sort bs n) p refl f)
+      subst (λ s. AllByRecursion (Occurs (n ∷ []) bs) (variables_of_term (term_as s (Shifted n plus)))) (sym (shifted_known (binder_sort bs n) p f)) (shifted_time bs n (binder_sort bs n) p refl f)
 
   -- a term that is read as a time
   time_bound : (k : RawTermKind) → kind_faults bs k p ≡ [] → is_data_term (kind_sort bs k) ≡ false → AllByRecursion (Occurs (term_names (raw_term k p)) bs) (variables_of_time (time_of k))
@@ -163,52 +138,6 @@ terms_bound bs (t ∷ ts) f =
     all_both (term_names t) (flat_map term_names ts) bs (variables_of_term (term_of bs t)) (flat_map variables_of_term (map (term_of bs) ts)) (kind_bound bs t.place t.kind x.0) (terms_bound bs ts x.1)
 
 -- ---- comparisons
-
--- a sort that is known
-abbrev IsKnown : TermSort → Type 0
-IsKnown (of_sort s) = Unit {0}
-IsKnown any_data = Unit {0}
-IsKnown unsorted = ⊥
-
--- a name that has a binder has a sort
-alone_known : (o : Option Sort) (b : Bool) (p : Place) → variable_faults o b p ≡ [] → IsKnown (alone_sort o)
-alone_known None b p f = cc
-alone_known (Some s) b p f = tt
-
--- a term without a fault has a sort
-kind_known : (bs : Binders) (p : Place) (k : RawTermKind) → kind_faults bs k p ≡ [] → IsKnown (kind_sort bs k)
-kind_known bs p (Int x) f = tt
-kind_known bs p (Text t) f = tt
-kind_known bs p (Var n) f = alone_known (binder_sort bs n) false p f
-kind_known bs p (Shifted n plus) f = subst IsKnown (sym (shifted_known bs n (binder_sort bs n) p f)) tt
-
--- sorts that are one are of one kind
-pub same_kind : (s t : Sort) → not (same_sort t s) ≡ false → is_data s ≡ is_data t
-same_kind Time Time e = refl
-same_kind Time Data e = cc
-same_kind Time (Named n) e = cc
-same_kind Data Time e = cc
-same_kind Data Data e = refl
-same_kind Data (Named n) e = cc
-same_kind (Named m) Time e = cc
-same_kind (Named m) Data e = cc
-same_kind (Named m) (Named n) e = refl
-
--- a sort that is not that of times is a data sort
-pub no_time : (s : Sort) → is_time s ≡ false → is_data s ≡ true
-no_time Time e = cc
-no_time Data e = refl
-no_time (Named n) e = refl
-
--- the sides of a well-sorted `=` are both data terms, or both time terms
-alike : (a b : TermSort) → IsKnown a → IsKnown b → unlike a b ≡ false → is_data_term a ≡ is_data_term b
-alike (of_sort s) (of_sort t) h k e = same_kind s t e
-alike (of_sort s) any_data h k e = no_time s e
-alike (of_sort s) unsorted h k e = absurd k
-alike any_data (of_sort t) h k e = sym (no_time t e)
-alike any_data any_data h k e = refl
-alike any_data unsorted h k e = absurd k
-alike unsorted b h k e = absurd h
 
 module _ (bs : Binders) (l r : RawTerm) (lf : term_faults bs l ≡ []) (rf : term_faults bs r ≡ []) where
   -- two sides that are read as times
@@ -285,16 +214,6 @@ under c bs names (v ∷ vs) h = at_variable (same_variable (bound_by c.sort c.na
     at_variable false e false d rest = ((in_without c.name names (name_of v) h.0.0 d, other_bound c bs v d h.0.1), rest)
 
 -- ---- formulas
-
--- a formula with no fault is not too wide, and has none inside
-pub not_wide : (bs : Binders) (bound : List Identifier) (f : RawForm) (inside : List QueryFault) → widened bs bound f inside ≡ [] → (too_many bs (bound ++ free_names f) ≡ false) × (inside ≡ [])
-not_wide bs bound f inside e =
-    let x = both_none (fault_if (too_many bs (bound ++ free_names f)) (query_fault Wide (place_of f))) inside e in
-    (none_if (too_many bs (bound ++ free_names f)) (query_fault Wide (place_of f)) x.0, x.1)
-
--- and so is the formula of a quantifier, with the quantifier's variable
-pub not_wide_inside : (db : List Relation) (bs : Binders) (c : RawColumn) (f : RawForm) (inside : List QueryFault) → binder_faults db bs c ++ widened (c ∷ bs) (c.name ∷ []) f inside ≡ [] → (too_many (c ∷ bs) (c.name ∷ free_names f) ≡ false) × (inside ≡ [])
-not_wide_inside db bs c f inside e = not_wide (c ∷ bs) (c.name ∷ []) f inside (both_none (binder_faults db bs c) (widened (c ∷ bs) (c.name ∷ []) f inside) e).1
 
 mutual
   -- each free variable of a formula without a fault occurs in it and is of its binder's kind

@@ -26,7 +26,8 @@ use Rattle.lrp_plan_laws.specs.Scopes.{IsNarrow, EachScope, EachOfScope}
 use Rattle.lrp_plan_laws.proofs.CoreLaws.{own_name}
 use Rattle.lrp_plan_laws.proofs.HeadLaws.{other_name}
 use Rattle.lrp_plan_laws.proofs.Members.{all_of, all_map}
-use Rattle.lrp_plan_laws.proofs.SortedNames.{Occurs, IsBound, name_of, bound_here, bound_further, same_name, both_none, none_if, not_wide, not_wide_inside, raw_bound}
+use Rattle.lrp_model.proofs.NoFaults.{both_none, none_if, not_wide, not_wide_inside}
+use Rattle.lrp_plan_laws.proofs.SortedNames.{Occurs, IsBound, name_of, bound_here, bound_further, same_name, raw_bound}
 use Rattle.lrp_plan_laws.proofs.SortedCounts.{narrow_by, no_more, one_kind}
 
 -- ---- parts of a formula

@@ -35,7 +35,8 @@ use Rattle.lrp_model.proofs.Logic.{all_append}
 use Rattle.lrp_plan_laws.specs.Guards.{BindsPlainly, BindPlainly}
 use Rattle.lrp_plan_laws.specs.Settled.{HasSortedTexts}
 use Rattle.lrp_plan_laws.proofs.Members.{all_map}
-use Rattle.lrp_plan_laws.proofs.SortedNames.{bound_here, bound_further, same_name, both_none, none_if, not_false, not_wide, not_wide_inside}
+use Rattle.lrp_model.proofs.NoFaults.{both_none, none_if, not_false, not_wide, not_wide_inside}
+use Rattle.lrp_plan_laws.proofs.SortedNames.{bound_here, bound_further, same_name}
 use Rattle.lrp_plan_laws.proofs.SortedScopes.{names_in, head_first, still, turned_more, parts_sorted}
 
 -- ---- lists

@@ -38,13 +38,13 @@ abbrev pub FitsAtom : List Relation → Atom → Type 0
 FitsAtom db a = MatchOption (relation_named db a.name) ⊥ (λ r. AllZip FitsColumn r.columns a.terms)
 
 -- the texts among terms
-abbrev pub texts_among : List Term → List Text
-texts_among [] = []
-texts_among (data_term (data_const t) ∷ ts) = t ∷ texts_among ts
-texts_among (t ∷ ts) = texts_among ts
+abbrev pub texts_of_terms : List Term → List Text
+texts_of_terms [] = []
+texts_of_terms (data_term (data_const t) ∷ ts) = t ∷ texts_of_terms ts
+texts_of_terms (t ∷ ts) = texts_of_terms ts
 
 -- a scan is of an atom of the body, which fits the database, and the texts among its terms are constants
 pub record IsKnownScan (db : List Relation) (q : Question) (a : Atom) : Type 0 where
   pub within : Contains (atoms q.body) a
   pub fits : FitsAtom db a
-  pub texts : AllByRecursion (Contains (constants db q)) (texts_among a.terms)
+  pub texts : AllByRecursion (Contains (constants db q)) (texts_of_terms a.terms)

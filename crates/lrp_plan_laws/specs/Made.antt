@@ -5,7 +5,7 @@ use Rattle.lrp_model.specs.Formulas.{Form, Question, atom, test, sorted, negatio
 use Rattle.lrp_model.specs.Variables.{Variable, variables_of_test, free}
 use Rattle.lrp_model.specs.Satisfaction.{Structure}
 use Rattle.lrp_model.specs.Periods.{period}
-use Rattle.lrp_model.specs.Reach.{reach_of}
+use Rattle.lrp_model.specs.Reach.{step_reach}
 use Rattle.lrp_model.specs.Steps.{PlanStep, Steps, formula_at, reach_at, tests_as_forms}
 use Rattle.lrp_model.specs.declared.relations.Sort.{Sort}
 use Rattle.lrp_model.specs.declared.relations.Sort.TheVariants.{Time, Data, Named}
@@ -75,7 +75,7 @@ pub record IsMade (M : Structure) (head : HeadStep) (steps : Steps) (s : ℕ) (s
   pub formula : IsFormula M head (formula_at steps) step.kind step.formula
   pub variables : HasVariables (formula_at steps) step.kind
   pub period : step.period ≡ period M.relations step.formula
-  pub reach : step.reach ≡ reach_of M.relations (reach_at steps) step.period step.kind
+  pub reach : step.reach ≡ step_reach M.relations (reach_at steps) step.period step.kind
 
 -- the step `head` of a query reads the last step of its core form; its formula is the body, with the head's sort elements where sorts are named
 abbrev pub head_step : List Relation → Question → HeadStep

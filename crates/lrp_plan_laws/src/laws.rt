@@ -12,7 +12,7 @@ ghost use Rattle.lrp_model.specs.Satisfaction.{Structure, Assignment, Satisfies,
 ghost use Rattle.lrp_model.specs.Core.{positive, negative, core_form, guarded, has_named_sort, HasElements};
 ghost use Rattle.lrp_theory.specs.Divides.{IsLeastMultiple};
 ghost use Rattle.lrp_model.specs.Periods.{lcm_all, period};
-ghost use Rattle.lrp_model.specs.Reach.{reach_of};
+ghost use Rattle.lrp_model.specs.Reach.{step_reach};
 ghost use Rattle.lrp_model.specs.Steps.{PlanStep, step_at, formula_at};
 ghost use Rattle.lrp_model.specs.Plans.{core_steps, plan, HasNoNamedSorts};
 ghost use Rattle.lrp_model.specs.declared.relations.Relation.{Relation};
@@ -68,7 +68,7 @@ pub fn plan_rises()
         → period_at (plan db q) (length (plan db q)) ≡ period db q.body }
     ensures grows { (db : List Relation) (at more : ℕ → ℕ) (K : ℕ) (kind : StepKind)
         → AllByRecursion (λ l. at l ≤ more l) (operands kind)
-        → reach_of db at K kind ≤ reach_of db more K kind }
+        → step_reach db at K kind ≤ step_reach db more K kind }
 {}
 
 /// Each step of a plan is made of earlier ones by the rule of its kind, with the variables that the rule relies on, and

@@ -14,7 +14,7 @@ pub record StaysBelow (left next step period : ℕ) : Type 0 where
   pub period_high : period ≤ 2 ^ 62
 
 -- the points ps of period k, by ascending offsets, have together the members of p, and no two of them have a common one
-pub record IsSplit (p : PointView) (k : ℤ) (ps : List PointView) : Type 0 where
+pub record IsPointSplit (p : PointView) (k : ℤ) (ps : List PointView) : Type 0 where
   pub count : pos (length ps * p.period) ≡ k
   pub each : (i : ℕ) → i < length ps → get_or ps i p ≡ point (p.offset + i * p.period) (nat_abs k)
   pub to : (x : ℤ) → IsIn p x → (i : ℕ) × (i < length ps) × IsIn (get_or ps i p) x

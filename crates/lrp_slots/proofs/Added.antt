@@ -6,7 +6,7 @@ use Rattle.std.specs.List.{AllByRecursion}
 use Rattle.slab.specs.Slab.{Slab, get}
 use Rattle.lrp_slots.specs.declared.chains.Link.{Link}
 use Rattle.lrp_slots.specs.declared.chains.Chain.{Chain}
-use Rattle.lrp_slots.specs.Links.{next_of, value_at, keys_from, key_after, values_at, chain_keys, chain_values, extended, IsWhole, AreApart, AreHeld, Pushes}
+use Rattle.lrp_slots.specs.Links.{next_of, value_at, keys_from, key_after, values_at, chain_keys, chain_values, extended, IsWhole, AreDistinctSlots, AreHeld, Pushes}
 use Rattle.lrp_slots.proofs.Keys.{all_so, all_both, all_front, all_joined, apart_before, AreApart-push, below_or, keys_from-add, key_after-suc, same_end, same_walk, same_values, values_at-append, held_of, still_held}
 
 module _ {V : Type 0} where
@@ -68,7 +68,7 @@ module _ {V : Type 0} (old new : Slab (Link V)) (chain : Chain) (value : V) (who
 
   -- no key before it is the same
   unlike_last : AllByRecursion (λ k. k ≢ key_after (get old) n chain.first) front
-  unlike_last = apart_before front (key_after (get old) n chain.first) [] (subst AreApart keys_split whole.apart)
+  unlike_last = apart_before front (key_after (get old) n chain.first) [] (subst AreDistinctSlots keys_split whole.apart)
 
   -- no key is that of the new slot
   unlike_key : AllByRecursion (λ k. k ≢ key) keys
@@ -121,7 +121,7 @@ module _ {V : Type 0} (old new : Slab (Link V)) (chain : Chain) (value : V) (who
     whole = record {
       some = omega arith;
       held = subst (AreHeld (get new)) (sym keys_more) all_held;
-      apart = subst AreApart (sym keys_more) (AreApart-push keys key whole.apart unlike_key);
+      apart = subst AreDistinctSlots (sym keys_more) (AreApart-push keys key whole.apart unlike_key);
       last = ap (λ k. key_after (get new) k chain.first) last_count ∙ end_is;
       line = λ e i within. line_more e i within (below_or i chain.count);
     };

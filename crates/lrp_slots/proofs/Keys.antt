@@ -3,7 +3,7 @@ use Rattle.std.proofs.Common.{◌≡◌, ◌≢◌, ℕ, zero, suc, ◌+◌, ◌
 use Rattle.std.specs.Prelude.{slice_get}
 use Rattle.std.specs.List.{AllByRecursion}
 use Rattle.lrp_slots.specs.declared.chains.Link.{Link}
-use Rattle.lrp_slots.specs.Links.{next_of, value_at, keys_from, key_after, values_at, AreHeld, AreApart}
+use Rattle.lrp_slots.specs.Links.{next_of, value_at, keys_from, key_after, values_at, AreHeld, AreDistinctSlots}
 
 -- one number is below another, or is not
 pub below_or : (m n : ℕ) → (m < n) ⊎ (n ≤ m)
@@ -35,23 +35,23 @@ all_back P [] ys p = p
 all_back P (x ∷ xs) ys p = all_back P xs ys p.1
 
 -- a number at the end that no other is
-pub AreApart-push : (xs : List ℕ) (y : ℕ) → AreApart xs → AllByRecursion (λ x. x ≢ y) xs → AreApart (xs ++ y ∷ [])
+pub AreApart-push : (xs : List ℕ) (y : ℕ) → AreDistinctSlots xs → AllByRecursion (λ x. x ≢ y) xs → AreDistinctSlots (xs ++ y ∷ [])
 AreApart-push [] y apart new = (tt, tt)
 AreApart-push (x ∷ xs) y apart new =
     (all_joined (λ other. other ≢ x) xs (y ∷ []) apart.0 ((λ e. new.0 (sym e), tt)), AreApart-push xs y apart.1 new.1)
 
 -- a number in the middle differs from those before it
-pub apart_before : (xs : List ℕ) (y : ℕ) (ys : List ℕ) → AreApart (xs ++ y ∷ ys) → AllByRecursion (λ x. x ≢ y) xs
+pub apart_before : (xs : List ℕ) (y : ℕ) (ys : List ℕ) → AreDistinctSlots (xs ++ y ∷ ys) → AllByRecursion (λ x. x ≢ y) xs
 apart_before [] y ys apart = tt
 apart_before (x ∷ xs) y ys apart = (λ e. (all_back (λ other. other ≢ x) xs (y ∷ ys) apart.0).0 (sym e), apart_before xs y ys apart.1)
 
 -- and from those after it
-pub apart_after : (xs : List ℕ) (y : ℕ) (ys : List ℕ) → AreApart (xs ++ y ∷ ys) → AllByRecursion (λ x. x ≢ y) ys
+pub apart_after : (xs : List ℕ) (y : ℕ) (ys : List ℕ) → AreDistinctSlots (xs ++ y ∷ ys) → AllByRecursion (λ x. x ≢ y) ys
 apart_after [] y ys apart = apart.0
 apart_after (x ∷ xs) y ys apart = apart_after xs y ys apart.1
 
 -- without it the others are apart
-pub AreApart-without : (xs : List ℕ) (y : ℕ) (ys : List ℕ) → AreApart (xs ++ y ∷ ys) → AreApart (xs ++ ys)
+pub AreApart-without : (xs : List ℕ) (y : ℕ) (ys : List ℕ) → AreDistinctSlots (xs ++ y ∷ ys) → AreDistinctSlots (xs ++ ys)
 AreApart-without [] y ys apart = apart.1
 AreApart-without (x ∷ xs) y ys apart =
     (all_joined (λ other. other ≢ x) xs ys (all_front (λ other. other ≢ x) xs (y ∷ ys) apart.0) ((all_back (λ other. other ≢ x) xs (y ∷ ys) apart.0).1), AreApart-without xs y ys apart.1)

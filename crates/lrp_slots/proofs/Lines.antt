@@ -16,7 +16,7 @@ use Rattle.lrp_model.specs.declared.tuples.Cell.{Cell}
 use Rattle.lrp_slots.specs.declared.chains.Chain.{Chain}
 use Rattle.lrp_slots.specs.Lists.{cell_cmp}
 use Rattle.lrp_slots.specs.Links.{chain_at, IsLengthened}
-use Rattle.lrp_slots.specs.Lines.{IsLine, IsBehindAll, IsBetween, IsGap, StandsAt, StandOnce}
+use Rattle.lrp_slots.specs.Lines.{IsLine, IsBehindAll, ComesBetween, IsGap, StandsInLine, StandOnce}
 use Rattle.lrp_slots.proofs.Tables.{exact_cells, cells_total, same_cell, other_cell}
 
 same_some : {X : Type 0} {x y : X} → Some x ≡ Some y → x ≡ y
@@ -72,7 +72,7 @@ no_entry (x ∷ es) zero e le p = absurd (omega arith)
 no_entry (x ∷ es) (suc j) e le p = no_entry es j e (omega arith) p
 
 -- at first
-pub between_all : (es : List (Cell × Chain)) (k : Cell) (high : ℕ) → high ≡ length es → IsBetween es k 0 high
+pub between_all : (es : List (Cell × Chain)) (k : Cell) (high : ℕ) → high ≡ length es → ComesBetween es k 0 high
 between_all es k high e = record {
   order = omega arith;
   within = omega arith;
@@ -81,8 +81,8 @@ between_all es k high e = record {
 }
 
 -- behind the one in the middle
-pub goes_up : (es : List (Cell × Chain)) (k : Cell) (low high middle : ℕ) (m : Cell × Chain) → IsLine es → IsBetween es k low high → low ≤ middle → middle < high → slice_get es middle ≡ Some m
-    → cell_cmp k m.0 ≡ Greater → IsBetween es k (middle + 1) high
+pub goes_up : (es : List (Cell × Chain)) (k : Cell) (low high middle : ℕ) (m : Cell × Chain) → IsLine es → ComesBetween es k low high → low ≤ middle → middle < high → slice_get es middle ≡ Some m
+    → cell_cmp k m.0 ≡ Greater → ComesBetween es k (middle + 1) high
 goes_up es k low high middle m line b le lt at gt = record {
   order = omega arith;
   within = b.within;
@@ -97,8 +97,8 @@ goes_up es k low high middle m line b le lt at gt = record {
     below_or j m less = grind arith
 
 -- before it
-pub goes_down : (es : List (Cell × Chain)) (k : Cell) (low high middle : ℕ) (m : Cell × Chain) → IsLine es → IsBetween es k low high → low ≤ middle → middle < high → slice_get es middle ≡ Some m
-    → cell_cmp k m.0 ≡ Less → IsBetween es k low middle
+pub goes_down : (es : List (Cell × Chain)) (k : Cell) (low high middle : ℕ) (m : Cell × Chain) → IsLine es → ComesBetween es k low high → low ≤ middle → middle < high → slice_get es middle ≡ Some m
+    → cell_cmp k m.0 ≡ Less → ComesBetween es k low middle
 goes_down es k low high middle m line b le lt at less = record {
   order = le;
   within = let w = b.within in omega (arith, w, lt);
@@ -139,7 +139,7 @@ gap_none es k i line gap = lookup_at_gap cells_total k es i line gap.before (λ 
 -- ---- a cell that stands in line
 
 -- its chain is found
-pub stands : (es : List (Cell × Chain)) (k : Cell) (i : ℕ) → IsLine es → (s : StandsAt es k i) → chain_at es k ≡ Some s.entry.1
+pub stands : (es : List (Cell × Chain)) (k : Cell) (i : ℕ) → IsLine es → (s : StandsInLine es k i) → chain_at es k ≡ Some s.entry.1
 stands es k i line s =
     let same : k ≡ s.entry.0 = exact_cells k s.entry.0 s.same in
     lookup_from_place (eq_by_cmp_equiv cells_total) es i k s.entry.1 (IsDistinct-from_sorted cell_cmp (keys_of es) line) (s.read ∙ ap (λ c. Some (c, s.entry.1)) (sym same))

@@ -19,7 +19,7 @@ use Rattle.lrp_model.specs.declared.tuples.Cell.{Cell}
 use Rattle.lrp_slots.specs.declared.chains.Link.{Link}
 use Rattle.lrp_slots.specs.declared.chains.Chain.{Chain}
 use Rattle.lrp_slots.specs.Lists.{cell_cmp, list_at, set_list}
-use Rattle.lrp_slots.specs.Links.{next_of, value_at, values_at, chain_keys, chain_values, list_of, chain_at, slots_of, extended, lists_of, IsLast, IsWhole, AreApart, AreHeld, AreLinked, Pushes}
+use Rattle.lrp_slots.specs.Links.{next_of, value_at, values_at, chain_keys, chain_values, list_of, chain_at, slots_of, extended, lists_of, IsLastSlot, IsWhole, AreDistinctSlots, AreHeld, AreLinked, Pushes}
 use Rattle.lrp_slots.proofs.Keys.{all_so, all_both, all_joined, same_walk, same_end, same_values, on_the_way, length-keys_from, length-values_at}
 use Rattle.lrp_slots.proofs.Tables.{cells_total, get-lists_of, entries-lists_of, same_cell, other_cell, some_list, lists_set, list_held, list_absent}
 use Rattle.lrp_slots.proofs.Added.{vacant_apart, Extends, begins, extends}
@@ -43,7 +43,7 @@ module _ {V : Type 0} where
         whole = record {
           some = whole.some;
           held = subst (AreHeld new) (sym keys) held;
-          apart = subst AreApart (sym keys) whole.apart;
+          apart = subst AreDistinctSlots (sym keys) whole.apart;
           last = same_end old new chain.count (chain.count - 1) chain.first (omega arith) next ∙ whole.last;
           line = λ e i within. same_end old new chain.count i chain.first (omega arith) next ∙ whole.line e i within;
         };
@@ -52,7 +52,7 @@ module _ {V : Type 0} where
       }
 
   -- the last slot of a cell's chain is the cell's
-  last_is_owned : (slab : Slab (Link V)) (es : List (Cell × Chain)) (linked : AreLinked slab es) (c : Cell) (o : Option Chain) → chain_at es c ≡ o → (k : ℕ) → IsLast o k → linked.owner k ≡ c
+  last_is_owned : (slab : Slab (Link V)) (es : List (Cell × Chain)) (linked : AreLinked slab es) (c : Cell) (o : Option Chain) → chain_at es c ≡ o → (k : ℕ) → IsLastSlot o k → linked.owner k ≡ c
   last_is_owned slab es linked c None e k last = absurd last
   last_is_owned slab es linked c (Some chain) e k last =
       let whole = linked.whole c chain e in

@@ -4,7 +4,7 @@ use Rattle.std.specs.List.{AllByRecursion}
 use Rattle.slab.specs.Slab.{Slab, get, slab_len, HasRoomFor, Updates}
 use Rattle.lrp_slots.specs.declared.chains.Link.{Link}
 use Rattle.lrp_slots.specs.declared.chains.Chain.{Chain}
-use Rattle.lrp_slots.specs.Links.{next_of, value_at, keys_from, key_after, chain_keys, IsWhole, AreApart, Joins, TakesOut}
+use Rattle.lrp_slots.specs.Links.{next_of, value_at, keys_from, key_after, chain_keys, IsWhole, AreDistinctSlots, Joins, TakesOut}
 use Rattle.lrp_slots.proofs.Keys.{all_so, all_both, all_back, all_front, apart_before, apart_after, keys_from-add, key_after-add, key_after-suc, length-keys_from, on_the_way, same_walk, same_end}
 
 -- what holds of each chain with at least one slot, by the number of the others
@@ -83,7 +83,7 @@ module _ {V : Type 0} where
   -- the slot before the place is another one
   pub apart_from_before : (old : Slab (Link V)) (chain : Chain) (i m key : ℕ) (link : Link V) → Parts old chain i m key link → key ≢ key_after (get old) i chain.first
   apart_from_before old chain i m key link parts =
-      (apart_after (keys_from (get old) i chain.first) _ _ (subst AreApart (keys_are_around old chain i m key link parts) parts.whole.apart)).0
+      (apart_after (keys_from (get old) i chain.first) _ _ (subst AreDistinctSlots (keys_are_around old chain i m key link parts) parts.whole.apart)).0
 
 module _ {V : Type 0} (old mid new : Slab (Link V)) (chain : Chain) (i m key : ℕ) (link : Link V) (parts : Parts old chain i m key link)
     (updates : Updates old mid key None) (joins : Joins mid new (key_after (get old) i chain.first) link.next) where
@@ -113,12 +113,12 @@ module _ {V : Type 0} (old mid new : Slab (Link V)) (chain : Chain) (i m key : �
       all_so (λ k. (k ≢ key) × (k ≢ before)) SameNext ks (λ k both. ap next_of (untouched k both.0 both.1)) (all_both (λ k. k ≢ key) (λ k. k ≢ before) ks a b)
 
   -- no key comes twice
-  are_apart : AreApart (front ++ key ∷ back)
-  are_apart = subst AreApart (keys_are old chain i m key link parts) parts.whole.apart
+  are_apart : AreDistinctSlots (front ++ key ∷ back)
+  are_apart = subst AreDistinctSlots (keys_are old chain i m key link parts) parts.whole.apart
 
   -- the same, with the key before apart
-  are_apart_around : AreApart (keys_from (get old) i chain.first ++ before ∷ key ∷ back)
-  are_apart_around = subst AreApart (keys_are_around old chain i m key link parts) parts.whole.apart
+  are_apart_around : AreDistinctSlots (keys_from (get old) i chain.first ++ before ∷ key ∷ back)
+  are_apart_around = subst AreDistinctSlots (keys_are_around old chain i m key link parts) parts.whole.apart
 
   -- the key before is the last of the first keys
   front_splits : front ≡ keys_from (get old) i chain.first ++ before ∷ []

@@ -10,7 +10,7 @@ use Rattle.lrp_model.specs.declared.tuples.Cell.{Cell}
 use Rattle.lrp_slots.specs.declared.chains.Link.{Link}
 use Rattle.lrp_slots.specs.declared.chains.Chain.{Chain}
 use Rattle.lrp_slots.specs.Lists.{cell_cmp, list_at, set_list, with_last}
-use Rattle.lrp_slots.specs.Links.{next_of, value_at, keys_from, values_at, chain_at, chain_keys, chain_values, lists_of, AreApart, AreHeld, AreLinked, IsWhole, Sets}
+use Rattle.lrp_slots.specs.Links.{next_of, value_at, keys_from, values_at, chain_at, chain_keys, chain_values, lists_of, AreDistinctSlots, AreHeld, AreLinked, IsWhole, Sets}
 use Rattle.lrp_slots.proofs.Keys.{all_back, all_front, all_so, apart_before, held_of, keys_from-add, length-keys_from, length-values_at, same_end, same_values, same_walk, values_at-append}
 use Rattle.lrp_slots.proofs.Tables.{list_held, lists_set, same_cell, some_list}
 
@@ -46,7 +46,7 @@ module _ {V : Type 0} (old new : Slab (Link V)) (es : List (Cell × Chain)) (c :
   still_whole other whole = record {
     some = whole.some;
     held = subst (AreHeld (get new)) (sym (same_keys other)) (all_so (λ k. IsSome (get old k)) (λ k. IsSome (get new k)) (chain_keys (get old) other) still_has whole.held);
-    apart = subst AreApart (sym (same_keys other)) whole.apart;
+    apart = subst AreDistinctSlots (sym (same_keys other)) whole.apart;
     last = same_end (get old) (get new) other.count (other.count - 1) other.first (omega arith) (leads (chain_keys (get old) other)) ∙ whole.last;
     line = λ e i within. same_end (get old) (get new) other.count i other.first (omega arith) (leads (chain_keys (get old) other)) ∙ whole.line e i within;
   }
@@ -89,7 +89,7 @@ module _ {V : Type 0} (old new : Slab (Link V)) (es : List (Cell × Chain)) (c :
 
   -- no key before the last is the same
   unlike_last : AllByRecursion (λ k. k ≢ chain.last) front
-  unlike_last = apart_before front chain.last [] (subst AreApart keys_split whole_here.apart)
+  unlike_last = apart_before front chain.last [] (subst AreDistinctSlots keys_split whole_here.apart)
 
   -- so their values stay
   front_same : values_at (get new) front ≡ values_at (get old) front

@@ -16,7 +16,7 @@ use Rattle.lrp_slots.specs.declared.chains.Chain.{Chain}
 use Rattle.lrp_slots.specs.declared.narrow.Narrow.{Narrow}
 use Rattle.lrp_slots.specs.Lists.{cell_cmp}
 use Rattle.lrp_slots.specs.Links.{chain_at}
-use Rattle.lrp_slots.specs.Lines.{IsLine, IsBehindAll, IsBetween, IsGap, StandsAt}
+use Rattle.lrp_slots.specs.Lines.{IsLine, IsBehindAll, ComesBetween, IsGap, StandsInLine}
 use Rattle.lrp_slots.specs.Narrow.{narrow_cmp, wide, wide_entries, AreOneWidth}
 use Rattle.lrp_slots.proofs.Tables.{exact_cells, same_cell}
 use Rattle.lrp_slots.proofs.Lines.{empty_of, goes_behind, turned, first_of, rest_of, between_all, goes_down, goes_up, stands, set_there, taken_there, put_at_gap, put_line, taken_line, no_line, one_in_read}
@@ -310,20 +310,20 @@ wide_read (x ∷ es) (suc i) d lt = wide_read es i d (omega arith)
 
 -- what a key at a place says of another one
 module _ (es : List (Narrow × Chain)) (k : Narrow) (low high middle : ℕ) (d : Narrow × Chain) where
-  within_line : IsBetween (wide_entries es) (wide k) low high → middle < high → middle < length es
+  within_line : ComesBetween (wide_entries es) (wide k) low high → middle < high → middle < length es
   within_line b lt = let w = b.within in let size = wide_length es in omega (arith, w, size, lt)
 
-  pub key_less : IsLine (wide_entries es) → IsBetween (wide_entries es) (wide k) low high → low ≤ middle → middle < high → narrow_cmp k (slice_index_or es middle d).0 ≡ Less → IsBetween (wide_entries es) (wide k) low middle
+  pub key_less : IsLine (wide_entries es) → ComesBetween (wide_entries es) (wide k) low high → low ≤ middle → middle < high → narrow_cmp k (slice_index_or es middle d).0 ≡ Less → ComesBetween (wide_entries es) (wide k) low middle
   key_less line b le lt less =
       goes_down (wide_entries es) (wide k) low high middle (wide (slice_index_or es middle d).0, (slice_index_or es middle d).1) line b le lt (wide_read es middle d (within_line b lt))
       (sym (same_order k (slice_index_or es middle d).0) ∙ less)
 
-  pub key_greater : IsLine (wide_entries es) → IsBetween (wide_entries es) (wide k) low high → low ≤ middle → middle < high → narrow_cmp k (slice_index_or es middle d).0 ≡ Greater → IsBetween (wide_entries es) (wide k) (middle + 1) high
+  pub key_greater : IsLine (wide_entries es) → ComesBetween (wide_entries es) (wide k) low high → low ≤ middle → middle < high → narrow_cmp k (slice_index_or es middle d).0 ≡ Greater → ComesBetween (wide_entries es) (wide k) (middle + 1) high
   key_greater line b le lt gt =
       goes_up (wide_entries es) (wide k) low high middle (wide (slice_index_or es middle d).0, (slice_index_or es middle d).1) line b le lt (wide_read es middle d (within_line b lt))
       (sym (same_order k (slice_index_or es middle d).0) ∙ gt)
 
-  pub key_equal : IsBetween (wide_entries es) (wide k) low high → middle < high → narrow_cmp k (slice_index_or es middle d).0 ≡ Equal → StandsAt (wide_entries es) (wide k) middle
+  pub key_equal : ComesBetween (wide_entries es) (wide k) low high → middle < high → narrow_cmp k (slice_index_or es middle d).0 ≡ Equal → StandsInLine (wide_entries es) (wide k) middle
   key_equal b lt same = record {
     within = let w = b.within in omega (arith, w, lt);
     entry = (wide (slice_index_or es middle d).0, (slice_index_or es middle d).1);
@@ -332,12 +332,12 @@ module _ (es : List (Narrow × Chain)) (k : Narrow) (low high middle : ℕ) (d :
   }
 
 -- all of a line
-pub all_between : (es : List (Narrow × Chain)) (k : Narrow) → IsBetween (wide_entries es) (wide k) 0 (length es)
+pub all_between : (es : List (Narrow × Chain)) (k : Narrow) → ComesBetween (wide_entries es) (wide k) 0 (length es)
 all_between es k = between_all (wide_entries es) (wide k) (length es) (sym (wide_length es))
 
 -- a place between both ends is a gap
-pub closed_gap : (es : List (Cell × Chain)) (k : Cell) (low high : ℕ) → IsBetween es k low high → high ≤ low → IsGap es k low
-closed_gap es k low high b le = let o = b.order in let same : high ≡ low = omega (arith, o, le) in subst (λ n. IsBetween es k low n) same b
+pub closed_gap : (es : List (Cell × Chain)) (k : Cell) (low high : ℕ) → ComesBetween es k low high → high ≤ low → IsGap es k low
+closed_gap es k low high b le = let o = b.order in let same : high ≡ low = omega (arith, o, le) in subst (λ n. ComesBetween es k low n) same b
 
 -- a new entry put in at its gap
 pub key_inserted : (es : List (Narrow × Chain)) (k : Narrow) (v : Chain) (i : ℕ) → IsGap (wide_entries es) (wide k) i → wide_entries (insert es i (k, v)) ≡ insert_entry cell_cmp (wide_entries es) (wide k) v
@@ -354,7 +354,7 @@ line_of_taken es new k line e = subst IsLine (sym e) (taken_line es k line)
 pub record IsFound (es : List (Narrow × Chain)) (old : List (Cell × Chain)) (cell : Cell) (i : ℕ) : Type 0 where
   pub line : IsLine (wide_entries es)
   pub view : wide_entries es ≡ old
-  pub stands : StandsAt (wide_entries es) cell i
+  pub stands : StandsInLine (wide_entries es) cell i
 
 -- the entry there
 found_entry : (es : List (Narrow × Chain)) (old : List (Cell × Chain)) (cell : Cell) (i : ℕ) (e : Narrow × Chain) → (f : IsFound es old cell i) → e ≡ slice_index_or es i e → f.stands.entry ≡ (wide e.0, e.1)
@@ -413,7 +413,7 @@ key_put_line es old k v i new line view gap e = line_of_put old (wide_entries ne
 -- a gap behind the last key, and one in an empty line
 pub end_gap : (es : List (Narrow × Chain)) (k : Narrow) (last : ℕ) (d : Narrow × Chain) → IsLine (wide_entries es) → last + 1 ≡ length es → narrow_cmp k (slice_index_or es last d).0 ≡ Greater → IsGap (wide_entries es) (wide k) (length es)
 end_gap es k last d line e gt =
-    subst (λ n. IsBetween (wide_entries es) (wide k) n (length es)) e (key_greater es k 0 (length es) last d line (all_between es k) (omega arith) (omega (arith, e)) gt)
+    subst (λ n. ComesBetween (wide_entries es) (wide k) n (length es)) e (key_greater es k 0 (length es) last d line (all_between es k) (omega arith) (omega (arith, e)) gt)
 
 pub first_gap : (es : List (Narrow × Chain)) (k : Narrow) → length es ≡ 0 → IsGap (wide_entries es) (wide k) 0
-first_gap es k e = subst (λ n. IsBetween (wide_entries es) (wide k) 0 n) e (all_between es k)
+first_gap es k e = subst (λ n. ComesBetween (wide_entries es) (wide k) 0 n) e (all_between es k)

@@ -11,7 +11,7 @@ use Rattle.lrp_model.specs.declared.tuples.Cell.{Cell}
 use Rattle.lrp_slots.specs.declared.chains.Link.{Link}
 use Rattle.lrp_slots.specs.declared.chains.Chain.{Chain}
 use Rattle.lrp_slots.specs.Lists.{cell_cmp, list_at, set_list}
-use Rattle.lrp_slots.specs.Links.{value_at, values_at, chain_keys, chain_values, chain_at, slots_of, if_some, lists_of, IsWhole, AreApart, AreHeld, AreLinked, TakesOut}
+use Rattle.lrp_slots.specs.Links.{value_at, values_at, chain_keys, chain_values, chain_at, slots_of, if_some, lists_of, IsWhole, AreDistinctSlots, AreHeld, AreLinked, TakesOut}
 use Rattle.lrp_slots.proofs.Keys.{all_so, all_both, all_front, all_back, all_joined, apart_before, apart_after, AreApart-without, values_at-append, same_values, length-values_at, length-keys_from, still_held}
 use Rattle.lrp_slots.proofs.Tables.{same_cell, other_cell, some_list, lists_set, list_held}
 use Rattle.lrp_slots.proofs.Linked.{Keeps, keeps, changed_or_kept}
@@ -81,8 +81,8 @@ module _ {V : Type 0} (old new : Slab (Link V)) (es fs : List (Cell × Chain)) (
   whole = linked.whole c chain removal.held
 
   -- no key came twice
-  were_apart : AreApart (taken.front ++ taken.key ∷ taken.back)
-  were_apart = subst AreApart taken.were whole.apart
+  were_apart : AreDistinctSlots (taken.front ++ taken.key ∷ taken.back)
+  were_apart = subst AreDistinctSlots taken.were whole.apart
 
   -- each had a value
   were_held : AreHeld (get old) (taken.front ++ taken.key ∷ taken.back)
@@ -111,7 +111,7 @@ module _ {V : Type 0} (old new : Slab (Link V)) (es fs : List (Cell × Chain)) (
   rest_is_whole some = record {
     some = some;
     held = subst (AreHeld (get new)) (sym taken.are) still;
-    apart = subst AreApart (sym taken.are) (AreApart-without taken.front taken.key taken.back were_apart);
+    apart = subst AreDistinctSlots (sym taken.are) (AreApart-without taken.front taken.key taken.back were_apart);
     last = taken.last some;
     line = λ e. absurd (cc (e, taken.broken));
   }

@@ -17,14 +17,14 @@ abbrev pub IsBehindAll : Cell → List (Cell × Chain) → Type 0
 IsBehindAll cell line = AllByRecursion (λ e. cell_cmp cell e.0 ≡ Greater) line
 
 -- the cell stands at this place of the line
-pub record StandsAt (line : List (Cell × Chain)) (cell : Cell) (place : ℕ) : Type 0 where
+pub record StandsInLine (line : List (Cell × Chain)) (cell : Cell) (place : ℕ) : Type 0 where
   pub within : place < length line
   pub entry : Cell × Chain
   pub read : slice_get line place ≡ Some entry
   pub same : cell_cmp cell entry.0 ≡ Equal
 
 -- a cell comes behind all before the one place, and before all from the other one on
-pub record IsBetween (line : List (Cell × Chain)) (cell : Cell) (low high : ℕ) : Type 0 where
+pub record ComesBetween (line : List (Cell × Chain)) (cell : Cell) (low high : ℕ) : Type 0 where
   pub order : low ≤ high
   pub within : high ≤ length line
   pub before : (i : ℕ) (entry : Cell × Chain) → i < low → slice_get line i ≡ Some entry → cell_cmp cell entry.0 ≡ Greater
@@ -32,7 +32,7 @@ pub record IsBetween (line : List (Cell × Chain)) (cell : Cell) (low high : ℕ
 
 -- the cell is missing in the line, and this is the place where it goes
 abbrev pub IsGap : List (Cell × Chain) → Cell → ℕ → Type 0
-IsGap line cell place = IsBetween line cell place place
+IsGap line cell place = ComesBetween line cell place place
 
 -- the cells stand in the line or in the tree, in order
 pub record StandOnce (line tree : List (Cell × Chain)) : Type 0 where

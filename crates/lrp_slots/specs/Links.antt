@@ -35,14 +35,14 @@ pub record IsLengthened (old new : List (Cell × Chain)) (cell : Cell) (chain : 
   pub ascending : IsStrictlySortedBy cell_cmp (keys_of new)
 
 -- the slot is the last one of a chain
-abbrev pub IsLast : Option Chain → ℕ → Type 0
-IsLast None key = ⊥
-IsLast (Some chain) key = key ≡ chain.last
+abbrev pub IsLastSlot : Option Chain → ℕ → Type 0
+IsLastSlot None key = ⊥
+IsLastSlot (Some chain) key = key ≡ chain.last
 
 -- each number differs from each later one
-abbrev pub AreApart : List ℕ → Type 0
-AreApart [] = Unit {0}
-AreApart (key ∷ keys) = AllByRecursion (λ other. other ≢ key) keys × AreApart keys
+abbrev pub AreDistinctSlots : List ℕ → Type 0
+AreDistinctSlots [] = Unit {0}
+AreDistinctSlots (key ∷ keys) = AllByRecursion (λ other. other ≢ key) keys × AreDistinctSlots keys
 
 module _ {V : Type 0} where
   -- the key that follows, and 0 at a slot with no value, of which a chain has none
@@ -99,7 +99,7 @@ module _ {V : Type 0} where
   pub record IsWhole (slots : ℕ → Option (Link V)) (chain : Chain) : Type 0 where
     pub some : 0 < chain.count
     pub held : AreHeld slots (chain_keys slots chain)
-    pub apart : AreApart (chain_keys slots chain)
+    pub apart : AreDistinctSlots (chain_keys slots chain)
     pub last : key_after slots (chain.count - 1) chain.first ≡ chain.last
     pub line : chain.in_line ≡ true → (i : ℕ) → i < chain.count → key_after slots i chain.first ≡ chain.first + i
 
@@ -137,9 +137,9 @@ module _ {V : Type 0} where
   pub record Pushes (old new : Slab (Link V)) (held : Option Chain) (value : V) : Type 0 where
     pub vacant : get old old.vacant_key ≡ None
     pub added : value_at (get new old.vacant_key) ≡ value ∷ []
-    pub joined : (key : ℕ) → IsLast held key → next_of (get new key) ≡ old.vacant_key
+    pub joined : (key : ℕ) → IsLastSlot held key → next_of (get new key) ≡ old.vacant_key
     pub values : (k : ℕ) → k ≢ old.vacant_key → value_at (get new k) ≡ value_at (get old k)
-    pub others : (k : ℕ) → k ≢ old.vacant_key → (IsLast held k → ⊥) → get new k ≡ get old k
+    pub others : (k : ℕ) → k ≢ old.vacant_key → (IsLastSlot held k → ⊥) → get new k ≡ get old k
     pub len : slab_len new ≡ slab_len old + 1
     pub capacity : new.capacity ≡ old.capacity
 

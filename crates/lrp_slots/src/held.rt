@@ -7,7 +7,7 @@ ghost use Rattle.lrp_slots.specs.Links.{chain_at, extended, IsLengthened};
 ghost use Rattle.lrp_slots.specs.Lines.{IsLine};
 
 use crate::chains::{Chain, extended};
-use crate::iterators::Entries;
+use crate::iterators::ChainEntries;
 use crate::line::Line;
 use crate::tree::Tree;
 use lrp_model::{Cell, Memory};
@@ -73,11 +73,11 @@ impl Held {
     }
 
     /// The cells with their chains, in order.
-    pub(crate) fn iter(&self) -> Entries<'_>
+    pub(crate) fn iter(&self) -> ChainEntries<'_>
         ensures rest { result ≡ self.now }
         ensures ordered { IsLine self.now }
     {
-        Entries {
+        ChainEntries {
             line: self.line.entries(),
             tree: self.tree.iter(),
         }

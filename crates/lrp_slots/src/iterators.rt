@@ -13,12 +13,12 @@ use std::marker::Model;
 
 /// The cells with their chains in order, seen as the list of those that are left.
 #[derive(Drop)]
-pub(crate) struct Entries<'a> {
+pub(crate) struct ChainEntries<'a> {
     pub(crate) line: &'a [(Narrow, Chain)],
     pub(crate) tree: Branches<'a>,
 }
 
-impl<'a> Model for Entries<'a> {
+impl<'a> Model for ChainEntries<'a> {
     ghost use Rattle.std.specs.Prelude.{List, ◌++◌};
     ghost use Rattle.lrp_model.specs.declared.tuples.Cell.{Cell};
     ghost use Rattle.lrp_slots.specs.declared.chains.Chain.{Chain};
@@ -29,7 +29,7 @@ impl<'a> Model for Entries<'a> {
     ghost view = { λ a. wide_entries a.line.now ++ a.tree };
 }
 
-impl<'a> Iterator for Entries<'a> {
+impl<'a> Iterator for ChainEntries<'a> {
     type Item = (Cell, Chain);
 
     ghost next_gives = { YieldsFirst (λ left. left) };
@@ -82,7 +82,7 @@ impl<'a> Iterator for Branches<'a> {
 /// The cells that are held, ascending by texts and then by residues, seen as the list of those that are left.
 #[derive(Drop)]
 pub struct Cells<'a> {
-    pub(crate) left: Entries<'a>,
+    pub(crate) left: ChainEntries<'a>,
 }
 
 impl<'a> Model for Cells<'a> {
@@ -114,7 +114,7 @@ impl<'a> Iterator for Cells<'a> {
 #[derive(Drop)]
 pub struct Lists<'a, V> {
     pub(crate) links: &'a Slab<Link<V>>,
-    pub(crate) left: Entries<'a>,
+    pub(crate) left: ChainEntries<'a>,
 }
 
 impl<'a, V> Model for Lists<'a, V> {
@@ -132,29 +132,29 @@ impl<'a, V> Model for Lists<'a, V> {
 }
 
 impl<'a, V> Iterator for Lists<'a, V> {
-    type Item = (Cell, Values<'a, V>);
+    type Item = (Cell, ChainValues<'a, V>);
 
     ghost next_gives = { YieldsFirst (λ left. left) };
 
     ghost remaining = { item_count (λ left. left) };
 
-    fn next(&mut self) -> Option<(Cell, Values<'a, V>)> {
+    fn next(&mut self) -> Option<(Cell, ChainValues<'a, V>)> {
         let links = self.links;
         let (cell, chain) = self.left.next()?;
-        let values = Values::along(links, Some(chain));
+        let values = ChainValues::along(links, Some(chain));
         Some((cell, values))
     }
 }
 
 /// The values of one cell in order, seen as the list of those that are left. Each step follows one link.
 #[derive(Drop)]
-pub struct Values<'a, V> {
+pub struct ChainValues<'a, V> {
     links: &'a Slab<Link<V>>,
     next: usize,
     left: usize,
 }
 
-impl<'a, V> Model for Values<'a, V> {
+impl<'a, V> Model for ChainValues<'a, V> {
     ghost use Rattle.std.specs.Prelude.{List};
     ghost use Rattle.slab.specs.Slab.{get};
 
@@ -167,7 +167,7 @@ impl<'a, V> Model for Values<'a, V> {
     ghost invariant = { λ a. AreHeld (get a.links.now) (keys_from (get a.links.now) a.left a.next) };
 }
 
-impl<'a, V> Values<'a, V> {
+impl<'a, V> ChainValues<'a, V> {
     // The values of a chain, if there is one.
     pub(crate) fn along(links: &'a Slab<Link<V>>, held: Option<Chain>) -> Self
         requires { IfSome held (λ chain. AreHeld (get links.now)
@@ -175,12 +175,12 @@ impl<'a, V> Values<'a, V> {
         ensures { result ≡ list_of (get links.now) held }
     {
         match held {
-            Some(chain) => Values {
+            Some(chain) => ChainValues {
                 links,
                 next: chain.first,
                 left: chain.count,
             },
-            None => Values {
+            None => ChainValues {
                 links,
                 next: 0,
                 left: 0,
@@ -189,7 +189,7 @@ impl<'a, V> Values<'a, V> {
     }
 }
 
-impl<'a, V> Iterator for Values<'a, V> {
+impl<'a, V> Iterator for ChainValues<'a, V> {
     type Item = &'a V;
 
     ghost next_gives = { YieldsFirstRef (λ left. left) };

@@ -11,7 +11,7 @@ mod remembered;
 mod slots;
 mod tree;
 
-pub use iterators::{Cells, Lists, Values};
-pub use refusal::Refusal;
+pub use iterators::{Cells, ChainValues, Lists};
+pub use refusal::SlotFault;
 pub use remembered::Remembered;
 pub use slots::{Ends, Slots};

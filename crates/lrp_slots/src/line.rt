@@ -4,7 +4,7 @@ ghost use Rattle.std.specs.BTreeMap.{is_at, insert_entry};
 ghost use Rattle.std.specs.Map.{remove_entry};
 ghost use Rattle.lrp_slots.specs.Lists.{cell_cmp};
 ghost use Rattle.lrp_slots.specs.Links.{chain_at, extended};
-ghost use Rattle.lrp_slots.specs.Lines.{IsLine, IsGap, StandsAt};
+ghost use Rattle.lrp_slots.specs.Lines.{IsLine, IsGap, StandsInLine};
 ghost use Rattle.lrp_slots.specs.Narrow.{wide, wide_entries};
 
 use crate::chains::{Chain, extended};
@@ -172,7 +172,7 @@ fn late_with(late: u32, moved: usize) -> u32 {
 fn place_of(line: &[(Narrow, Chain)], cell: &Cell) -> Option<usize>
     requires { IsLine (wide_entries line.now) }
     ensures none { IfNone result (chain_at (wide_entries line.now) cell.now ≡ None) }
-    ensures some { IfSome result (StandsAt (wide_entries line.now) cell.now) }
+    ensures some { IfSome result (StandsInLine (wide_entries line.now) cell.now) }
 {
     let key = Narrow::of(cell)?;
     search(line, &key).ok()
@@ -182,7 +182,7 @@ fn place_of(line: &[(Narrow, Chain)], cell: &Cell) -> Option<usize>
 // come in order.
 fn search(line: &[(Narrow, Chain)], key: &Narrow) -> Result<usize, usize>
     requires { IsLine (wide_entries line.now) }
-    ensures there { IfOk result (StandsAt (wide_entries line.now) (wide key.now)) }
+    ensures there { IfOk result (StandsInLine (wide_entries line.now) (wide key.now)) }
     ensures gap { IfErr result (IsGap (wide_entries line.now) (wide key.now)) }
 {
     let Some(last) = line.len().checked_sub(1) else {
@@ -198,7 +198,7 @@ fn search(line: &[(Narrow, Chain)], key: &Narrow) -> Result<usize, usize>
 // The same, by halving.
 fn search_by_halving(line: &[(Narrow, Chain)], key: &Narrow) -> Result<usize, usize>
     requires { IsLine (wide_entries line.now) }
-    ensures there { IfOk result (StandsAt (wide_entries line.now) (wide key.now)) }
+    ensures there { IfOk result (StandsInLine (wide_entries line.now) (wide key.now)) }
     ensures gap { IfErr result (IsGap (wide_entries line.now) (wide key.now)) }
 {
     let mut low = 0;

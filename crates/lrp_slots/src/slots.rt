@@ -3,13 +3,13 @@ ghost use Rattle.std.specs.Prelude.{◌≡◌, ◌≢◌, Err, Ok, true, false, 
 ghost use Rattle.std.specs.List.{remove};
 ghost use Rattle.std.specs.FinMap as finite;
 ghost use Rattle.lrp_slots.specs.Lists.{list_at, set_list, with_last, append_all};
-ghost use Rattle.lrp_slots.specs.declared.refusal.Refusal.TheVariants.{TooManyCells};
+ghost use Rattle.lrp_slots.specs.declared.refusal.SlotFault.TheVariants.{TooManyCells};
 ghost use Rattle.lrp_model.specs.declared.tuples.Cell.{Cell as CellValue};
 
 use crate::chains::{Chain, Link, keep_rest, key_at, push, set_value, take_out, vacant_key};
 use crate::held::Held;
-use crate::iterators::{Cells, Lists, Values};
-use crate::refusal::Refusal;
+use crate::iterators::{Cells, ChainValues, Lists};
+use crate::refusal::SlotFault;
 use lrp_model::{Cell, Copies, Memory};
 use slab::Slab;
 use std::alloc::Global;
@@ -139,7 +139,7 @@ impl<V: Drop> Slots<V> {
     /// Appends a value to a cell's list, unless the cell is not held and there are as many cells as the cap.
     ///
     /// As long as there are fewer cells than the cap, the cell is looked up once.
-    pub fn append_within(&mut self, cell: &Cell, value: V, cap: usize) -> Result<(), Refusal>
+    pub fn append_within(&mut self, cell: &Cell, value: V, cap: usize) -> Result<(), SlotFault>
         ensures ok { OnOk result (self.new.lists
             ≡ finite.insert self.old.lists cell.now
             (list_at self.old.lists cell.now ++ value ∷ [])) }
@@ -156,7 +156,7 @@ impl<V: Drop> Slots<V> {
         ensures kept { OnErr result (self.old.spare ≤ self.new.spare) }
     {
         if self.is_one_too_many(cell, cap) {
-            return Err(Refusal::TooManyCells);
+            return Err(SlotFault::TooManyCells);
         }
         self.append(cell, value)?;
         Ok(())
@@ -261,10 +261,10 @@ impl<V: Drop> Slots<V> {
     }
 
     /// The values of a cell, in order.
-    pub fn iter(&self, cell: &Cell) -> Values<'_, V>
+    pub fn iter(&self, cell: &Cell) -> ChainValues<'_, V>
         ensures { result ≡ list_at self.now.lists cell.now }
     {
-        Values::along(&self.links, self.chains.get(cell).copied())
+        ChainValues::along(&self.links, self.chains.get(cell).copied())
     }
 }
 
@@ -287,7 +287,7 @@ fn append_copies<V: Copies + Drop>(
     alloc: Global,
     made: &mut Slots<V>,
     cell: &Cell,
-    values: Values<'_, V>,
+    values: ChainValues<'_, V>,
 ) -> Result<(), Memory>
     ensures { OnOk result (made.new.lists ≡ append_all made.old.lists cell.now values.entry) }
 {

@@ -5,13 +5,13 @@ use Rattle.std.specs.FinMap as finite
 use Rattle.std.specs.FinMap.{get}
 use Rattle.lrp_model.specs.declared.tuples.Cell.{Cell}
 use Rattle.lrp_slots.specs.Lists.{list_at, with_last}
-use Rattle.lrp_store.specs.Remembered.{AreWhole}
+use Rattle.lrp_store.specs.Remembered.{BeginUnbounded}
 use Rattle.lrp_store.specs.Stores.{StoreView}
 use Rattle.lrp_store.specs.Growing.{IsAdded}
 use Rattle.lrp_store.proofs.Held.{Table, Tables, get_put}
 
 -- none is remembered
-pub none_remembered : (m : Tables) (cells : List Cell) → cells ≡ [] → AreWhole m cells
+pub none_remembered : (m : Tables) (cells : List Cell) → cells ≡ [] → BeginUnbounded m cells
 none_remembered m cells e = λ cell held. absurd (nowhere cell (subst (λ l. Contains l cell) e held))
   where
     nowhere : (cell : Cell) → Contains [] cell → ⊥
@@ -23,8 +23,8 @@ held_is_some None e some = cc
 held_is_some (Some x) e some = cc
 
 -- the tables are as they were
-pub same_remembered : (m n : Tables) (cells : List Cell) → n ≡ m → AreWhole m cells → AreWhole n cells
-same_remembered m n cells e whole = subst (λ k. AreWhole k cells) (sym e) whole
+pub same_remembered : (m n : Tables) (cells : List Cell) → n ≡ m → BeginUnbounded m cells → BeginUnbounded n cells
+same_remembered m n cells e whole = subst (λ k. BeginUnbounded k cells) (sym e) whole
 
 -- the first table of a list stays first
 first_stays : (ts us : List Table) (t : Table) → slice_get ts 0 ≡ Some t → slice_get (ts ++ us) 0 ≡ Some t
@@ -32,7 +32,7 @@ first_stays [] us t e = cc
 first_stays (u ∷ ts) us t e = e
 
 -- a table was appended
-pub appended_remembered : (m n : Tables) (cells : List Cell) (c : Cell) (t : Table) → n ≡ finite.insert m c (list_at m c ++ t ∷ []) → AreWhole m cells → AreWhole n cells
+pub appended_remembered : (m n : Tables) (cells : List Cell) (c : Cell) (t : Table) → n ≡ finite.insert m c (list_at m c ++ t ∷ []) → BeginUnbounded m cells → BeginUnbounded n cells
 appended_remembered m n cells c t e whole = λ q held.
     subst (λ k. slice_get (list_at k q) 0 ≡ Some (replicate 81 None)) (sym e) (elim (get_put m c (list_at m c ++ t ∷ []) q) [
       | inl f ↦ ap (λ o. slice_get (unwrap_or o []) 0) f.1 ∙ first_stays (list_at m c) (t ∷ []) (replicate 81 None) (subst (λ d. slice_get (list_at m d) 0 ≡ Some (replicate 81 None)) f.0 (whole q held))
@@ -51,14 +51,14 @@ begun_first m n c t e free = subst (λ k. slice_get (list_at k c) 0 ≡ Some (re
 ])
 
 -- one cell more is remembered
-pub one_remembered : (m : Tables) (old new : List Cell) (c : Cell) → ((other : Cell) → Contains new other → (other ≡ c) ⊎ Contains old other) → slice_get (list_at m c) 0 ≡ Some (replicate 81 None) → AreWhole m old → AreWhole m new
+pub one_remembered : (m : Tables) (old new : List Cell) (c : Cell) → ((other : Cell) → Contains new other → (other ≡ c) ⊎ Contains old other) → slice_get (list_at m c) 0 ≡ Some (replicate 81 None) → BeginUnbounded m old → BeginUnbounded m new
 one_remembered m old new c more first whole = λ q held. elim (more q held) [
   | inl e ↦ subst (λ d. slice_get (list_at m d) 0 ≡ Some (replicate 81 None)) (sym e) first
   | inr before ↦ whole q before
 ]
 
 -- the last table of a list that begins with a bound was replaced
-pub replaced_remembered : (m n : Tables) (cells : List Cell) (c : Cell) (t : Table) → n ≡ finite.insert m c (with_last (list_at m c) t) → slice_get (list_at m c) 0 ≢ Some (replicate 81 None) → AreWhole m cells → AreWhole n cells
+pub replaced_remembered : (m n : Tables) (cells : List Cell) (c : Cell) (t : Table) → n ≡ finite.insert m c (with_last (list_at m c) t) → slice_get (list_at m c) 0 ≢ Some (replicate 81 None) → BeginUnbounded m cells → BeginUnbounded n cells
 replaced_remembered m n cells c t e first whole = λ q held.
     subst (λ k. slice_get (list_at k q) 0 ≡ Some (replicate 81 None)) (sym e) (elim (get_put m c (with_last (list_at m c) t) q) [
       | inl f ↦ absurd (first (subst (λ d. slice_get (list_at m d) 0 ≡ Some (replicate 81 None)) f.0 (whole q held)))

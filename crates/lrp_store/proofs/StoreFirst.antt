@@ -15,7 +15,7 @@ use Rattle.lrp_model.specs.declared.tuples.Cell.{Cell}
 use Rattle.lrp_store.proofs.Held.{Table, cell_held}
 use Rattle.lrp_store.specs.Stores.{StoreView, IsStore, InCell, InStore, IsCellOf, IsPadded, zone_of, tables_at}
 use Rattle.lrp_store.proofs.Aligning.{tail_in}
-use Rattle.lrp_store.specs.Least.{IsNotNearer, IsNearestTo, held_cmp, IsSpotOf, IsFound, IsNotAfter}
+use Rattle.lrp_store.specs.Least.{IsNotNearer, IsNearestTo, held_cmp, IsSpotOf, IsFoundSpot, IsNotAfter}
 use Rattle.lrp_theory.specs.Residues.{rank}
 
 -- times by their ranks
@@ -166,17 +166,17 @@ module _ (s : StoreView) (is : IsStore s) (cell : Cell) (t : Table) (held : Cont
       held = record { cell = cell; table = t; held = held; named = refl; inside = subst (IsMember (zone_of s cell t)) (sym (taken s is cell proper t xs of_times)) of_times.is };
     }
 
-    module _ (old : Option Spot) (found : IsFound s old) (new : Spot) (one : (old ≡ Some new) ⊎ (new ≡ record { times = xs; texts = cell.texts }))
+    module _ (old : Option Spot) (found : IsFoundSpot s old) (new : Spot) (one : (old ≡ Some new) ⊎ (new ≡ record { times = xs; texts = cell.texts }))
         (before_old : IfSome old (λ o. held_cmp new.times new.texts o.times o.texts ≢ Greater)) (before_spot : held_cmp new.times new.texts xs cell.texts ≢ Greater) where
       -- the nearer one is a spot of the store
       pub found_more : IsSpotOf s new
-      found_more = elim one [ inl e ↦ subst (IsFound s) e found | inr e ↦ subst (IsSpotOf s) (sym e) spot_is ]
+      found_more = elim one [ inl e ↦ subst (IsFoundSpot s) e found | inr e ↦ subst (IsSpotOf s) (sym e) spot_is ]
 
       -- it is not after what the old one was not after
       pub kept_more : (ys : List ℤ) (ns : List ℕ) → IsNotAfter s old ys ns → IsNotAfter s (Some new) ys ns
       kept_more ys ns = by old found before_old
         where
-          by : (o : Option Spot) → IsFound s o → IfSome o (λ p. held_cmp new.times new.texts p.times p.texts ≢ Greater) → IsNotAfter s o ys ns → IsNotAfter s (Some new) ys ns
+          by : (o : Option Spot) → IsFoundSpot s o → IfSome o (λ p. held_cmp new.times new.texts p.times p.texts ≢ Greater) → IsNotAfter s o ys ns → IsNotAfter s (Some new) ys ns
           by None f b h = absurd h
           by (Some p) f b h = held_upto _ (take s.shape.times p.times) ys _ (take s.shape.texts p.texts) ns (subst (λ o. o ≢ Greater) (spots_cmp s new p found_more f) b) h
 

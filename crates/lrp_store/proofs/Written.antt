@@ -9,7 +9,7 @@ use Rattle.lrp_zone.specs.Given.{bound_at}
 use Rattle.lrp_theory.specs.Entries.{AtMost}
 use Rattle.lrp_zone.specs.Zones.{ZoneView, IsZone}
 use Rattle.lrp_store.specs.declared.stored.Entry.{Entry}
-use Rattle.lrp_store.specs.Stored.{bound_with, bounds_of, table_place, listed_at, table_of, AreListed, AreSmall}
+use Rattle.lrp_store.specs.Stored.{bound_with, bounds_of, table_place, listed_at, table_of, AreListed, AreStorable}
 use Rattle.lrp_store.proofs.Listed.{some_listed, get_or-table_of, length-table_of, place_small, word_bound}
 
 -- the table has the first n bounds, and no bound that is not listed
@@ -109,18 +109,18 @@ entry_low es n are low =
     omega arith
 
 -- and its bound is small
-pub entry_small : (es : List Entry) (n : ℕ) → AreSmall (bounds_of es) → n < length es → AtMost (2 ^ 62) (Some (bound_with (get_or es n nothing)).most)
+pub entry_small : (es : List Entry) (n : ℕ) → AreStorable (bounds_of es) → n < length es → AtMost (2 ^ 62) (Some (bound_with (get_or es n nothing)).most)
 entry_small es n small low =
     let many : length (bounds_of es) ≡ length es = length-map es _ in
     subst (λ (x : Bound). AtMost (2 ^ 62) (Some x.most)) (get_or-map bound_with es n nothing none low) (small.each n (omega arith))
 
 -- so it is the same in a word
-pub entry_word : (es : List Entry) (n : ℕ) (v : ℤ) → AreSmall (bounds_of es) → n < length es → v ≡ (bound_with (get_or es n nothing)).most → to_z w64 (of_z w64 v) ≡ (bound_with (get_or es n nothing)).most
+pub entry_word : (es : List Entry) (n : ℕ) (v : ℤ) → AreStorable (bounds_of es) → n < length es → v ≡ (bound_with (get_or es n nothing)).most → to_z w64 (of_z w64 v) ≡ (bound_with (get_or es n nothing)).most
 entry_word es n v small low e = ap (λ a. to_z w64 (of_z w64 a)) e ∙ word_bound (bound_with (get_or es n nothing)).most (entry_small es n small low)
 
 -- the bounds of a zone are small
-pub zone_small : (k : ℕ) (rs : List ℤ) (now : List (Option ℤ)) (items slice : List Entry) → slice ≡ items → AreListed (bounds_of items) → table_of (bounds_of items) ≡ now → IsZone (record { period = k; residues = rs; bounds = now }) → AreSmall (bounds_of slice)
-zone_small k rs now items slice e are view valid = subst (λ es. AreSmall (bounds_of es)) (sym e) (record { each = λ i h. place_small (record { period = k; residues = rs; bounds = now }) valid (table_place (bound_at (bounds_of items) i)) _ (place_low (bounds_of items) are i h) (sym (are.one i h) ∙ sym (get_or-table_of (bounds_of items) (table_place (bound_at (bounds_of items) i)) (place_low (bounds_of items) are i h)) ∙ ap (λ t. get_or t (table_place (bound_at (bounds_of items) i)) None) view) })
+pub zone_small : (k : ℕ) (rs : List ℤ) (now : List (Option ℤ)) (items slice : List Entry) → slice ≡ items → AreListed (bounds_of items) → table_of (bounds_of items) ≡ now → IsZone (record { period = k; residues = rs; bounds = now }) → AreStorable (bounds_of slice)
+zone_small k rs now items slice e are view valid = subst (λ es. AreStorable (bounds_of es)) (sym e) (record { each = λ i h. place_small (record { period = k; residues = rs; bounds = now }) valid (table_place (bound_at (bounds_of items) i)) _ (place_low (bounds_of items) are i h) (sym (are.one i h) ∙ sym (get_or-table_of (bounds_of items) (table_place (bound_at (bounds_of items) i)) (place_low (bounds_of items) are i h)) ∙ ap (λ t. get_or t (table_place (bound_at (bounds_of items) i)) None) view) })
 
 -- once all entries are
 pub entries_written : (es : List Entry) (n : ℕ) (table : List (Option ℤ)) → AreListed (bounds_of es) → n ≡ length es → IsWritten (bounds_of es) n table → table ≡ table_of (bounds_of es)

@@ -67,9 +67,9 @@ pub record IsSpotOf (s : StoreView) (spot : Spot) : Type 0 where
   pub held : InStore s (take s.shape.times spot.times) (take s.shape.texts spot.texts)
 
 -- the spot that was found, if any, is one of the store
-abbrev pub IsFound : StoreView → Option Spot → Type 0
-IsFound s None = Unit {0}
-IsFound s (Some spot) = IsSpotOf s spot
+abbrev pub IsFoundSpot : StoreView → Option Spot → Type 0
+IsFoundSpot s None = Unit {0}
+IsFoundSpot s (Some spot) = IsSpotOf s spot
 
 -- and does not come after these times and texts
 abbrev pub IsNotAfter : StoreView → Option Spot → List ℤ → List ℕ → Type 0

@@ -6,10 +6,10 @@ use Rattle.lrp_slots.specs.Lists.{cell_cmp, list_at}
 use Rattle.lrp_store.specs.Stores.{StoreView, IsStore}
 
 -- the list of each of the cells begins with the table that has no bound
-abbrev pub AreWhole : finite.FinMap cell_cmp (List (List (Option ℤ))) → List Cell → Type 0
-AreWhole tables cells = (cell : Cell) → Contains cells cell → slice_get (list_at tables cell) 0 ≡ Some (replicate 81 None)
+abbrev pub BeginUnbounded : finite.FinMap cell_cmp (List (List (Option ℤ))) → List Cell → Type 0
+BeginUnbounded tables cells = (cell : Cell) → Contains cells cell → slice_get (list_at tables cell) 0 ≡ Some (replicate 81 None)
 
 -- a store remembers only cells that it holds whole
 pub record IsRemembering (s : StoreView) (cells : List Cell) : Type 0 where
   pub valid : IsStore s
-  pub whole : AreWhole s.tables cells
+  pub whole : BeginUnbounded s.tables cells

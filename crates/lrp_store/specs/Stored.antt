@@ -40,7 +40,7 @@ pub record AreListed (bs : List Bound) : Type 0 where
   pub one : (i : ℕ) → i < length bs → listed_at bs (table_place (bound_at bs i)) ≡ Some (bound_at bs i).most
 
 -- the magnitude of each listed bound is at most the limit
-pub record AreSmall (bs : List Bound) : Type 0 where
+pub record AreStorable (bs : List Bound) : Type 0 where
   pub each : (i : ℕ) → i < length bs → AtMost (2 ^ 62) (Some (bound_at bs i).most)
 
 -- how many bounds a table has

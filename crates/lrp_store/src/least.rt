@@ -3,7 +3,7 @@ ghost use Rattle.std.specs.Prelude.{◌≡◌, ◌≢◌, ◌⊎◌, ◌↔◌, 
 ghost use Rattle.std.specs.Ordering.{nat_cmp};
 ghost use Rattle.std.specs.Cmp.Lexicographic.{slice_cmp};
 ghost use Rattle.std.specs.declared.cmp.Ordering.TheVariants.{Less, Greater};
-ghost use Rattle.lrp_store.specs.Least.{HasRoom, IsFound, IsNearestTo, IsNotAfter, IsRoom, held_cmp};
+ghost use Rattle.lrp_store.specs.Least.{HasRoom, IsFoundSpot, IsNearestTo, IsNotAfter, IsRoom, held_cmp};
 ghost use Rattle.lrp_store.specs.Stores.{InCell, InStore, IsCellOf, IsStore, tables_at, zone_of};
 ghost use Rattle.lrp_zone.specs.Zones.{columns_of};
 ghost use Rattle.lrp_theory.specs.Residues.{rank};
@@ -12,7 +12,7 @@ use crate::nearest::{nearest, nearest_of_cell};
 use crate::store::Store;
 use crate::stored::StoredBounds;
 use lrp_model::{Cell, Spot};
-use lrp_slots::Values;
+use lrp_slots::ChainValues;
 use std::cmp::Ordering;
 
 /// The place of a time in the order 0, 1, -1, 2, -2, ..
@@ -66,7 +66,7 @@ impl Store {
         requires { HasRoom self.now }
         ensures none { IfNone result ((times : List ℤ) (texts : List ℕ)
             → InStore self.now times texts → ⊥) }
-        ensures some { IsFound self.now result }
+        ensures some { IsFoundSpot self.now result }
         ensures valid { IsStore self.now }
         ensures first { IfSome result (λ spot. (times : List ℤ) (texts : List ℕ)
             → InStore self.now times texts → IsNotAfter self.now (Some spot) times texts) }
@@ -82,14 +82,14 @@ impl Store {
     fn first_of_cell(
         &self,
         cell: &Cell,
-        tables: Values<'_, StoredBounds>,
+        tables: ChainValues<'_, StoredBounds>,
         found: Option<Spot>,
     ) -> Option<Spot>
         requires valid { IsStore self.now }
         requires tables { tables ≡ tables_at self.now cell.now }
         requires room { HasRoom self.now }
-        requires found { IsFound self.now found }
-        ensures found { IsFound self.now result }
+        requires found { IsFoundSpot self.now found }
+        ensures found { IsFoundSpot self.now result }
         ensures kept { (times : List ℤ) (texts : List ℕ) → IsNotAfter self.now found times texts
             → IsNotAfter self.now result times texts }
         ensures cell { (times : List ℤ) (texts : List ℕ) → InCell self.now cell.now times texts
@@ -113,7 +113,7 @@ impl Store {
     // bounds, which is read off the residues, so most cells are passed over and no matrix of their zones is closed.
     fn may_be_nearer(&self, cell: &Cell, found: &Option<Spot>) -> bool
         requires proper { IsCellOf self.now.shape self.now.period cell.now }
-        requires found { IsFound self.now found.now }
+        requires found { IsFoundSpot self.now found.now }
         ensures { result ≡ false → (times : List ℤ) (texts : List ℕ)
             → InCell self.now cell.now times texts → IsNotAfter self.now found.now times texts }
     {

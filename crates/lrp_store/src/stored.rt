@@ -3,7 +3,7 @@ ghost use Rattle.std.specs.Prelude.{◌≡◌, ◌↔◌, ◌+◌, ◌*◌, ◌<
 ghost use Rattle.lrp_theory.specs.Entries.{AtMost, IsBelow};
 ghost use Rattle.lrp_zone.specs.Pairs.{IsWithin};
 ghost use Rattle.lrp_zone.specs.Zones.{IsZone, columns_of};
-ghost use Rattle.lrp_store.specs.Stored.{bound_with, bounds_of, count_of, placed, table_of, AreListed, AreSmall};
+ghost use Rattle.lrp_store.specs.Stored.{bound_with, bounds_of, count_of, placed, table_of, AreListed, AreStorable};
 
 use lrp_model::{Copies, Memory};
 use lrp_zone::{BoundTable, Zone};
@@ -136,7 +136,7 @@ pub(crate) fn bound_of(zone: &Zone, place: u8) -> Option<i64>
 fn are_above(zone: &Zone, entries: &[Entry]) -> bool
     requires columns { columns_of zone.now ≤ 8 }
     requires listed { AreListed (bounds_of entries.now) }
-    requires small { AreSmall (bounds_of entries.now) }
+    requires small { AreStorable (bounds_of entries.now) }
     ensures within { IsTrue result → IsWithin zone.now
         (record zone.now { bounds = table_of (bounds_of entries.now) }) }
     ensures none { entries.now ≡ [] → IsTrue result }
@@ -162,7 +162,7 @@ fn is_at_most(bound: Option<i64>, most: i64) -> bool
 // The table of the bounds of the entries.
 fn written(entries: &[Entry]) -> BoundTable
     requires listed { AreListed (bounds_of entries.now) }
-    requires small { AreSmall (bounds_of entries.now) }
+    requires small { AreStorable (bounds_of entries.now) }
     ensures { result ≡ table_of (bounds_of entries.now) }
 {
     let mut table = BoundTable::free();

@@ -3,7 +3,7 @@ ghost use Rattle.std.specs.Iterator.{YieldsFirst, item_count};
 
 use crate::stored::StoredBounds;
 use lrp_model::Cell;
-use lrp_slots::{Lists, Values};
+use lrp_slots::{ChainValues, Lists};
 use lrp_zone::Zone;
 use std::marker::Model;
 
@@ -13,7 +13,7 @@ pub struct Zones<'a> {
     pub(crate) period: u64,
     pub(crate) times: usize,
     pub(crate) residues: [i64; 8],
-    pub(crate) left: Values<'a, StoredBounds>,
+    pub(crate) left: ChainValues<'a, StoredBounds>,
 }
 
 impl<'a> Model for Zones<'a> {

@@ -3,7 +3,7 @@ use Rattle.std.proofs.Common.{◌≡◌, ℕ, zero, suc, ◌+◌, ◌*◌, ◌%�
 use Rattle.std.specs.Prelude.{ℤ, pos, ◌+ℤ◌, ◌-ℤ◌, ◌*ℤ◌, neg_ℤ}
 use Rattle.std.proofs.Math.IntN.{*ℤ_comm, *ℤ-one, *ℤ-zero, one}
 use Rattle.std.proofs.lemmas.Int.{ints}
-use Rattle.lrp_theory.specs.Divides.{Divides, IsMember, IsLcm}
+use Rattle.lrp_theory.specs.Divides.{Divides, IsPointMember, IsLcm}
 use Rattle.lrp_theory.specs.Congruences.{IsGreatestDivisor, IsCommonMember}
 use Rattle.lrp_theory.proofs.Ring.{distrib_left, minus_left, minus_right, times_assoc}
 use Rattle.lrp_theory.proofs.Modulo.{Divides-+, Divides--, Divides-is, Divides-zero, Divides-self, Divides-times}
@@ -75,15 +75,15 @@ combined_is_greatest a b g w = record {
 }
 
 -- two members of one point differ by what the period divides
-members_differ : (c k x y : ℤ) → IsMember c k x → IsMember c k y → Divides k (y -ℤ x)
+members_differ : (c k x y : ℤ) → IsPointMember c k x → IsPointMember c k y → Divides k (y -ℤ x)
 members_differ c k x y h g = Divides-is k ((y -ℤ c) -ℤ (x -ℤ c)) _ (omega (arith, ints)) (Divides-- k _ _ g h)
 
 -- a number at such a distance from a member is a member
-member_from : (c k x y : ℤ) → IsMember c k x → Divides k (y -ℤ x) → IsMember c k y
+member_from : (c k x y : ℤ) → IsPointMember c k x → Divides k (y -ℤ x) → IsPointMember c k y
 member_from c k x y h g = Divides-is k ((y -ℤ x) +ℤ (x -ℤ c)) _ (omega (arith, ints)) (Divides-+ k _ _ g h)
 
 -- one common member gives them all: those at a distance that the least common multiple divides
-pub common_members : (c d : ℤ) (k m l : ℕ) (x : ℤ) → IsLcm k m l → IsCommonMember c k d m x → (y : ℤ) → (IsCommonMember c k d m y → IsMember x (pos l) y) × (IsMember x (pos l) y → IsCommonMember c k d m y)
+pub common_members : (c d : ℤ) (k m l : ℕ) (x : ℤ) → IsLcm k m l → IsCommonMember c k d m x → (y : ℤ) → (IsCommonMember c k d m y → IsPointMember x (pos l) y) × (IsPointMember x (pos l) y → IsCommonMember c k d m y)
 common_members c d k m l x lcm h y = (
   (λ g. lcm_divides k m l (y -ℤ x) lcm (members_differ c (pos k) x y h.0 g.0) (members_differ d (pos m) x y h.1 g.1)),
   (λ g. (member_from c (pos k) x y h.0 (Divides-trans (pos k) (pos l) _ lcm.common.0 g), member_from d (pos m) x y h.1 (Divides-trans (pos m) (pos l) _ lcm.common.1.0 g))),

@@ -1,6 +1,6 @@
 -- Numbers of a residue, and bounds that are tight for residues.
 use Rattle.std.specs.Prelude.{ℕ, ℤ, zero, suc, pos, negsuc, ◌*◌, ◌-◌, ◌<◌, ◌≤ℤ◌, ◌-ℤ◌, Option, Some, None}
-use Rattle.lrp_theory.specs.Divides.{Divides, IsMember}
+use Rattle.lrp_theory.specs.Divides.{Divides, IsPointMember}
 
 -- the bound, where there is one, has the residue w modulo k
 abbrev pub Agrees : ℤ → ℤ → Option ℤ → Type 0
@@ -14,12 +14,12 @@ pub record IsTightAll (n : ℕ) (k : ℤ) (r : ℕ → ℤ) (b : ℕ → ℕ →
 -- f is the greatest number of the residue r modulo k that is at most x
 pub record IsFloor (k r x f : ℤ) : Type 0 where
   pub below : f ≤ℤ x
-  pub tight : IsMember r k f
-  pub greatest : (b : ℤ) → b ≤ℤ x → IsMember r k b → b ≤ℤ f
+  pub tight : IsPointMember r k f
+  pub greatest : (b : ℤ) → b ≤ℤ x → IsPointMember r k b → b ≤ℤ f
 
 -- each node below n has a number of its residue
 abbrev pub HaveResidues : ℕ → ℤ → (ℕ → ℤ) → (ℕ → ℤ) → Type 0
-HaveResidues n k r x = (i : ℕ) → i < n → IsMember (r i) k (x i)
+HaveResidues n k r x = (i : ℕ) → i < n → IsPointMember (r i) k (x i)
 
 -- the place in the order 0, 1, -1, 2, -2 and so on
 abbrev pub rank : ℤ → ℕ

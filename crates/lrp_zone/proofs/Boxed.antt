@@ -11,7 +11,7 @@ use Rattle.lrp_theory.proofs.Floor.{Agrees, IsTightAll, reached_in_cell}
 use Rattle.lrp_zone.specs.Zones.{ZoneView, IsShape, IsMember, columns_of}
 use Rattle.lrp_zone.specs.Order.{at}
 use Rattle.lrp_zone.specs.Tight.{IsTightened}
-use Rattle.lrp_zone.specs.Windows.{ends, IsWindowAt, IsWindow, IsInBox, IsBoxEmpty, IsBoxLeast, IsLowEnd, AreWindowEnds}
+use Rattle.lrp_zone.specs.Windows.{end_bounds, IsWindowAt, IsWindow, IsInBox, IsBoxEmpty, IsBoxLeast, IsLowEnd, AreWindowEnds}
 use Rattle.lrp_zone.proofs.Inclusion.{lesser_met}
 use Rattle.lrp_zone.proofs.Floors.{tightened_below, below_tightened, tightened_agrees}
 use Rattle.lrp_zone.proofs.Members.{tight_all, period_one}
@@ -27,7 +27,7 @@ module _ (z : ZoneView) (s : IsShape z) (low high : List ℤ) (out least : List 
   below_low p h = omega arith
 
   -- the values of a box meet what its ends say
-  in_box : (xs : List ℤ) → IsInBox (columns_of z) low high xs → (p q : ℕ) → p ≤ columns_of z → q ≤ columns_of z → Within (node xs p -ℤ node xs q) (ends low high p q)
+  in_box : (xs : List ℤ) → IsInBox (columns_of z) low high xs → (p q : ℕ) → p ≤ columns_of z → q ≤ columns_of z → Within (node xs p -ℤ node xs q) (end_bounds low high p q)
   in_box xs b zero zero pl ql = tt
   in_box xs b zero (suc i) pl ql = let h = b.each i (omega arith) in let l : slice_index_or low i (pos 0) ≤ℤ slice_index_or xs i (pos 0) = h.0 in omega (arith, ints)
   in_box xs b (suc i) zero pl ql = let h = b.each i (omega arith) in let l : slice_index_or xs i (pos 0) ≤ℤ slice_index_or high i (pos 0) = h.1 in omega (arith, ints)
@@ -42,7 +42,7 @@ module _ (z : ZoneView) (s : IsShape z) (low high : List ℤ) (out least : List 
   box_meets xs m b p q pl ql =
       let l = (w.each p q pl ql).lesser in
       lesser_met (node xs p -ℤ node xs q) (entry out p q) (entry z.bounds p q) l.0 l.2 (m.meets p q (omega arith) (omega arith))
-      (below_tightened (pos z.period) (node z.residues p -ℤ node z.residues q) (ends low high p q) l.0 (node xs p -ℤ node xs q) l.1
+      (below_tightened (pos z.period) (node z.residues p -ℤ node z.residues q) (end_bounds low high p q) l.0 (node xs p -ℤ node xs q) l.1
       (pair_fits (node xs p) (node xs q) (node z.residues p) (node z.residues q) (m.cell.each p (omega arith)) (m.cell.each q (omega arith))) (in_box xs b p q (omega arith) (omega arith)))
 
   -- integers that meet the window meet the stored bounds
@@ -50,17 +50,17 @@ module _ (z : ZoneView) (s : IsShape z) (low high : List ℤ) (out least : List 
   out_stored x h p q pl ql = ((w.each p q (below_low p pl) (below_low q ql)).lesser.2.below _ (h p q (below_low p pl) (below_low q ql))).0
 
   -- and the ends of the box
-  out_ends : (x : ℕ → ℤ) → Meets (columns_of z + 1) (entry out) x → (p q : ℕ) → p ≤ columns_of z → q ≤ columns_of z → Within (x p -ℤ x q) (ends low high p q)
+  out_ends : (x : ℕ → ℤ) → Meets (columns_of z + 1) (entry out) x → (p q : ℕ) → p ≤ columns_of z → q ≤ columns_of z → Within (x p -ℤ x q) (end_bounds low high p q)
   out_ends x h p q pl ql =
       let l = (w.each p q (below_low p pl) (below_low q ql)).lesser in
-      tightened_below (pos z.period) (node z.residues p -ℤ node z.residues q) (ends low high p q) l.0 (x p -ℤ x q) l.1 (l.2.below _ (h p q (below_low p pl) (below_low q ql))).1
+      tightened_below (pos z.period) (node z.residues p -ℤ node z.residues q) (end_bounds low high p q) l.0 (x p -ℤ x q) l.1 (l.2.below _ (h p q (below_low p pl) (below_low q ql))).1
 
   -- the window's bounds are of the residues
   tight_out : IsTightAll (columns_of z + 1) (pos z.period) (node z.residues) (entry out)
   tight_out = record {
     each = λ p q pl ql.
         let l = (w.each p q pl ql).lesser in
-        agrees_one (pos z.period) (node z.residues p -ℤ node z.residues q) (entry out p q) (entry z.bounds p q) l.0 l.2.one ((tight_all z s).each p q pl ql) (tightened_agrees (pos z.period) _ (ends low high p q) l.0 l.1);
+        agrees_one (pos z.period) (node z.residues p -ℤ node z.residues q) (entry out p q) (entry z.bounds p q) l.0 l.2.one ((tight_all z s).each p q pl ql) (tightened_agrees (pos z.period) _ (end_bounds low high p q) l.0 l.1);
   }
 
   -- the period is at least 1
@@ -162,15 +162,15 @@ module _ (z : ZoneView) (s : IsShape z) (low high : List ℤ) (out least : List 
         };
         box = record {
           each = λ i il.
-              let a : (pos 0 -ℤ slice_index_or ys i (pos 0)) ≤ℤ neg_ℤ (slice_index_or low i (pos 0)) = ends_meet 0 (suc i) (omega arith) (omega arith) (ends low high 0 (suc i)) (λ x h. out_ends x h 0 (suc i) (omega arith) (omega arith)) in
-              let b : (slice_index_or ys i (pos 0) -ℤ pos 0) ≤ℤ slice_index_or high i (pos 0) = ends_meet (suc i) 0 (omega arith) (omega arith) (ends low high (suc i) 0) (λ x h. out_ends x h (suc i) 0 (omega arith) (omega arith)) in
+              let a : (pos 0 -ℤ slice_index_or ys i (pos 0)) ≤ℤ neg_ℤ (slice_index_or low i (pos 0)) = ends_meet 0 (suc i) (omega arith) (omega arith) (end_bounds low high 0 (suc i)) (λ x h. out_ends x h 0 (suc i) (omega arith) (omega arith)) in
+              let b : (slice_index_or ys i (pos 0) -ℤ pos 0) ≤ℤ slice_index_or high i (pos 0) = ends_meet (suc i) 0 (omega arith) (omega arith) (end_bounds low high (suc i) 0) (λ x h. out_ends x h (suc i) 0 (omega arith) (omega arith)) in
               (omega (arith, ints), omega (arith, ints));
         };
         least = λ xs m b i il. let a : at ys i ≤ℤ (at xs i -ℤ pos 0) = above (node xs) (box_meets xs m b) (suc i) (omega arith) in omega (arith, ints);
       }
 
 -- the bound that one turn of the loop writes
-pub window_at : (k : ℤ) (rs low high : List ℤ) (p q : ℕ) (bound out b end e o : Option ℤ) → b ≡ bound → end ≡ ends low high p q → IsTightened k (node rs p -ℤ node rs q) end e → IsLesser o b e → out ≡ o → IsWindowAt k rs low high p q bound out
+pub window_at : (k : ℤ) (rs low high : List ℤ) (p q : ℕ) (bound out b end e o : Option ℤ) → b ≡ bound → end ≡ end_bounds low high p q → IsTightened k (node rs p -ℤ node rs q) end e → IsLesser o b e → out ≡ o → IsWindowAt k rs low high p q bound out
 window_at k rs low high p q bound out b end e o f g h l i = record { lesser = (e, subst (λ y. IsTightened k (node rs p -ℤ node rs q) y e) g h, rw (i, ← f) l) }
 
 -- a bound that a turn leaves alone

@@ -7,7 +7,7 @@ use Rattle.lrp_theory.specs.Entries.{entry, node, AtMost}
 use Rattle.lrp_theory.proofs.Modulo.{Divides--, Divides-is}
 use Rattle.lrp_matrix.specs.Matrices.{MatrixView, MeetsBounds}
 use Rattle.lrp_zone.specs.Zones.{ZoneView, IsShape, IsMember, HasMember, IsResidue}
-use Rattle.lrp_zone.specs.Residues.{HasResidues, IsCut, HasNoCut}
+use Rattle.lrp_zone.specs.Residues.{HasResidues, IsCutToResidues, HasNoCut}
 use Rattle.lrp_zone.specs.Tight.{CanTighten, IsTightened, AreStored}
 use Rattle.lrp_zone.proofs.Floors.{stored_tight, tightened_below, below_tightened}
 
@@ -71,7 +71,7 @@ module _ (k : ℕ) (n : ℤ) (rs : List ℤ) (m : MatrixView) (bs : List (Option
       residue p pl = subst (λ y. Divides y (node xs p -ℤ node rs p)) (sym g.period) (fit.each p pl)
 
   -- so it holds what the call promises
-  cut_is : IsCut n rs m cut
+  cut_is : IsCutToResidues n rs m cut
   cut_is = record {
     period = g.period;
     residues = refl;
@@ -80,7 +80,7 @@ module _ (k : ℕ) (n : ℤ) (rs : List ℤ) (m : MatrixView) (bs : List (Option
     stored = λ i j il jl. subst (λ y. IsTightened y (node rs i -ℤ node rs j) (entry m.cells i j) (entry bs i j)) g.period (g.made.each i j (omega arith) (omega arith)).tightened;
   }
 
-  pub cut_some : (o : Option ZoneView) → IfSome o (λ y. y ≡ cut) → IfSome o (λ y. IsCut n rs m y)
+  pub cut_some : (o : Option ZoneView) → IfSome o (λ y. y ≡ cut) → IfSome o (λ y. IsCutToResidues n rs m y)
   cut_some None h = tt
   cut_some (Some y) h = rw h cut_is
 

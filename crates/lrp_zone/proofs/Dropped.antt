@@ -18,7 +18,7 @@ use Rattle.lrp_theory.proofs.Lists.{listed}
 use Rattle.std.specs.List.{remove}
 use Rattle.std.proofs.lemmas.List.Edits.{length-remove}
 use Rattle.lrp_zone.specs.Zones.{ZoneView, IsTight, IsShape, IsZone, IsMember, HasMember, columns_of, reach_of}
-use Rattle.lrp_zone.specs.Columns.{past, with_column_value, IsWithout, IsDropped}
+use Rattle.lrp_zone.specs.Columns.{past_node, with_column_value, IsWithoutNode, IsDropped}
 use Rattle.lrp_zone.proofs.Members.{list_member, member_meets, agrees_of}
 use Rattle.lrp_zone.proofs.Cases.{eq_or}
 use Rattle.lrp_zone.proofs.Inclusion.{lesser_tight, lesser_met}
@@ -74,7 +74,7 @@ AtMost-none : (h : ℕ) (e : Option ℤ) → e ≡ None → AtMost h e
 AtMost-none h e q = subst (λ f. AtMost h f) (sym q) tt
 
 module _ (z : ZoneView) (valid : IsZone z) (k : ℕ) (low : 0 < k) (high : k ≤ columns_of z) (room : 2 * reach_of z ≤ 2 ^ 62) (rs : List ℤ) (bs : List (Option ℤ))
-    (is : rs ≡ remove z.residues (k - 1)) (made : IsWithout z.bounds k (columns_of z) bs) where
+    (is : rs ≡ remove z.residues (k - 1)) (made : IsWithoutNode z.bounds k (columns_of z) bs) where
   -- the zone without column k
   abbrev rest : ZoneView
   rest = record { period = z.period; residues = rs; bounds = bs }
@@ -84,7 +84,7 @@ module _ (z : ZoneView) (valid : IsZone z) (k : ℕ) (low : 0 < k) (high : k ≤
   count = rw is (length-remove z.residues (k - 1) (omega arith))
 
   -- its residues are those of the other columns
-  residues : (p : ℕ) → p < columns_of z → node rs p ≡ node z.residues (past k p)
+  residues : (p : ℕ) → p < columns_of z → node rs p ≡ node z.residues (past_node k p)
   residues p pl = rw is (node_remove k p z.residues low high)
 
   -- the bounds are small enough for a sum of two
@@ -92,27 +92,27 @@ module _ (z : ZoneView) (valid : IsZone z) (k : ℕ) (low : 0 < k) (high : k ≤
   small = reach_small z (2 ^ 61) (omega arith)
 
   -- integers that meet the old bounds meet the new ones
-  dropped_pair : (x : ℕ → ℤ) → Meets (columns_of z + 1) (entry z.bounds) x → (p q : ℕ) → p < columns_of z → q < columns_of z → (p ≡ q) ⊎ (p ≢ q) → Within (x (past k p) -ℤ x (past k q)) (entry bs p q)
-  dropped_pair x h p q pl ql (inl e) = subst (λ f. Within (x (past k p) -ℤ x (past k q)) f) (sym ((made.each p q pl ql).same e)) tt
+  dropped_pair : (x : ℕ → ℤ) → Meets (columns_of z + 1) (entry z.bounds) x → (p q : ℕ) → p < columns_of z → q < columns_of z → (p ≡ q) ⊎ (p ≢ q) → Within (x (past_node k p) -ℤ x (past_node k q)) (entry bs p q)
+  dropped_pair x h p q pl ql (inl e) = subst (λ f. Within (x (past_node k p) -ℤ x (past_node k q)) f) (sym ((made.each p q pl ql).same e)) tt
   dropped_pair x h p q pl ql (inr ne) =
-      let a : past k p ≤ columns_of z = past_below k p (columns_of z) pl in
-      let b : past k q ≤ columns_of z = past_below k q (columns_of z) ql in
-      lesser_met (x (past k p) -ℤ x (past k q)) _ _ _ ((made.each p q pl ql).lesser ne)
-      (h (past k p) (past k q) (omega (arith, count)) (omega (arith, count)))
-      (through (x (past k p)) (x (past k q)) (x k) _ _ (h (past k p) k (omega (arith, count)) (omega (arith, count))) (h k (past k q) (omega (arith, count)) (omega (arith, count))))
+      let a : past_node k p ≤ columns_of z = past_below k p (columns_of z) pl in
+      let b : past_node k q ≤ columns_of z = past_below k q (columns_of z) ql in
+      lesser_met (x (past_node k p) -ℤ x (past_node k q)) _ _ _ ((made.each p q pl ql).lesser ne)
+      (h (past_node k p) (past_node k q) (omega (arith, count)) (omega (arith, count)))
+      (through (x (past_node k p)) (x (past_node k q)) (x k) _ _ (h (past_node k p) k (omega (arith, count)) (omega (arith, count))) (h k (past_node k q) (omega (arith, count)) (omega (arith, count))))
 
   -- the same for all pairs
-  dropped_meets : (x : ℕ → ℤ) → Meets (columns_of z + 1) (entry z.bounds) x → Meets (length rs + 1) (entry bs) (λ p. x (past k p))
+  dropped_meets : (x : ℕ → ℤ) → Meets (columns_of z + 1) (entry z.bounds) x → Meets (length rs + 1) (entry bs) (λ p. x (past_node k p))
   dropped_meets x h p q pl ql = dropped_pair x h p q (omega (arith, count)) (omega (arith, count)) (eq_or p q)
 
   -- values of the old residues have the new ones
-  node_fits : (xs : List ℤ) → IsMember z xs → (p : ℕ) → p < columns_of z → Divides (pos z.period) (node xs (past k p) -ℤ node rs p)
-  node_fits xs m p pl = rw (residues p pl) (m.cell.each (past k p) (past_below k p (columns_of z) pl))
+  node_fits : (xs : List ℤ) → IsMember z xs → (p : ℕ) → p < columns_of z → Divides (pos z.period) (node xs (past_node k p) -ℤ node rs p)
+  node_fits xs m p pl = rw (residues p pl) (m.cell.each (past_node k p) (past_below k p (columns_of z) pl))
 
   -- a tuple that a value completes is in the rest
   pub from_member : (xs : List ℤ) (v : ℤ) → length xs ≡ length rs → IsMember z (with_column_value k v xs) → IsMember rest xs
   from_member xs v counted m =
-      let at : (p : ℕ) → node (with_column_value k v xs) (past k p) ≡ node xs p = λ p. node_past_at k p v xs low (let c : length xs ≡ length rs = counted in omega (arith, count)) in
+      let at : (p : ℕ) → node (with_column_value k v xs) (past_node k p) ≡ node xs p = λ p. node_past_at k p v xs low (let c : length xs ≡ length rs = counted in omega (arith, count)) in
       record {
         cell = record { count = counted; each = λ p pl. subst (λ y. Divides (pos z.period) (y -ℤ node rs p)) (at p) (node_fits (with_column_value k v xs) m p (omega (arith, count))) };
         meets = λ p q pl ql. rw (← at p, ← at q) (dropped_meets (node (with_column_value k v xs)) (member_meets z (with_column_value k v xs) m) p q (omega (arith, count)) (omega (arith, count)));
@@ -124,7 +124,7 @@ module _ (z : ZoneView) (valid : IsZone z) (k : ℕ) (low : 0 < k) (high : k ≤
     period_low = valid.shape.period_low;
     period_high = valid.shape.period_high;
     columns = let c : columns_of z ≤ 8 = valid.shape.columns in omega (arith, count);
-    residues = λ p pl. rw (residues p (omega (arith, count))) (valid.shape.residues (past k p) (past_below k p (columns_of z) (omega (arith, count))));
+    residues = λ p pl. rw (residues p (omega (arith, count))) (valid.shape.residues (past_node k p) (past_below k p (columns_of z) (omega (arith, count))));
     tight = λ p q pl ql. rw (residues p (omega (arith, count)), residues q (omega (arith, count))) (tight_pair p q (omega (arith, count)) (omega (arith, count)) (eq_or p q));
     diagonal = λ p pl. (made.each p p (omega (arith, count)) (omega (arith, count))).same refl;
     outside = record { none = λ p q pl ql o. made.outside.none p q pl ql (outer p q o) };
@@ -134,21 +134,21 @@ module _ (z : ZoneView) (valid : IsZone z) (k : ℕ) (low : 0 < k) (high : k ≤
       outer p q (inl o) = inl (omega (arith, count))
       outer p q (inr o) = inr (omega (arith, count))
 
-      tight_pair : (p q : ℕ) → p < columns_of z → q < columns_of z → (p ≡ q) ⊎ (p ≢ q) → IsTight (pos z.period) (node z.residues (past k p) -ℤ node z.residues (past k q)) (entry bs p q)
-      tight_pair p q pl ql (inl e) = subst (λ f. IsTight (pos z.period) (node z.residues (past k p) -ℤ node z.residues (past k q)) f) (sym ((made.each p q pl ql).same e)) tt
+      tight_pair : (p q : ℕ) → p < columns_of z → q < columns_of z → (p ≡ q) ⊎ (p ≢ q) → IsTight (pos z.period) (node z.residues (past_node k p) -ℤ node z.residues (past_node k q)) (entry bs p q)
+      tight_pair p q pl ql (inl e) = subst (λ f. IsTight (pos z.period) (node z.residues (past_node k p) -ℤ node z.residues (past_node k q)) f) (sym ((made.each p q pl ql).same e)) tt
       tight_pair p q pl ql (inr ne) =
-          let a : past k p ≤ columns_of z = past_below k p (columns_of z) pl in
-          let b : past k q ≤ columns_of z = past_below k q (columns_of z) ql in
-          lesser_tight _ _ _ _ _ ((made.each p q pl ql).lesser ne) (valid.shape.tight (past k p) (past k q) a b)
-          (plus_tight _ _ (node z.residues k) _ _ _ (valid.shape.tight (past k p) k a high) (valid.shape.tight k (past k q) high b) (small.each (past k p) k (omega (arith, count)) (omega (arith, count))) (small.each k (past k q) (omega (arith, count)) (omega (arith, count))))
+          let a : past_node k p ≤ columns_of z = past_below k p (columns_of z) pl in
+          let b : past_node k q ≤ columns_of z = past_below k q (columns_of z) ql in
+          lesser_tight _ _ _ _ _ ((made.each p q pl ql).lesser ne) (valid.shape.tight (past_node k p) (past_node k q) a b)
+          (plus_tight _ _ (node z.residues k) _ _ _ (valid.shape.tight (past_node k p) k a high) (valid.shape.tight k (past_node k q) high b) (small.each (past_node k p) k (omega (arith, count)) (omega (arith, count))) (small.each k (past_node k q) (omega (arith, count)) (omega (arith, count))))
 
   -- the old tuple without column k is in the rest
   pub has_rest : HasMember rest
   has_rest =
       let ys : List ℤ = valid.some.member in
       record {
-        member = listed (λ p. node ys (past k p)) (length rs);
-        is = list_member rest (λ p. node ys (past k p)) (dropped_meets (node ys) (member_meets z ys valid.some.is)) (λ p pl. node_fits ys valid.some.is p (omega (arith, count)));
+        member = listed (λ p. node ys (past_node k p)) (length rs);
+        is = list_member rest (λ p. node ys (past_node k p)) (dropped_meets (node ys) (member_meets z ys valid.some.is)) (λ p pl. node_fits ys valid.some.is p (omega (arith, count)));
       }
 
   -- the reach at most doubles
@@ -158,10 +158,10 @@ module _ (z : ZoneView) (valid : IsZone z) (k : ℕ) (low : 0 < k) (high : k ≤
         each = λ p q pl ql. elim (eq_or p q) [
           | inl e ↦ AtMost-none (2 * reach_of z) _ ((made.each p q (omega (arith, count)) (omega (arith, count))).same e)
           | inr ne ↦
-              let a : past k p ≤ columns_of z = past_below k p (columns_of z) (omega (arith, count)) in
-              let b : past k q ≤ columns_of z = past_below k q (columns_of z) (omega (arith, count)) in
+              let a : past_node k p ≤ columns_of z = past_below k p (columns_of z) (omega (arith, count)) in
+              let b : past_node k q ≤ columns_of z = past_below k q (columns_of z) (omega (arith, count)) in
               let twice : reach_of z + reach_of z ≡ 2 * reach_of z = omega (arith, count) in
-              subst (λ h. AtMost h (entry bs p q)) twice (AtMost-lesser (reach_of z) _ _ _ (own (past k p) (past k q) a b) (AtMost-plus (reach_of z) _ _ (own (past k p) k a high) (own k (past k q) high b)) ((made.each p q (omega (arith, count)) (omega (arith, count))).lesser ne).one)
+              subst (λ h. AtMost h (entry bs p q)) twice (AtMost-lesser (reach_of z) _ _ _ (own (past_node k p) (past_node k q) a b) (AtMost-plus (reach_of z) _ _ (own (past_node k p) k a high) (own k (past_node k q) high b)) ((made.each p q (omega (arith, count)) (omega (arith, count))).lesser ne).one)
         ];
       })
     where
@@ -174,9 +174,9 @@ module _ (z : ZoneView) (valid : IsZone z) (k : ℕ) (low : 0 < k) (high : k ≤
     enough = let c : length xs ≡ length rs = m.cell.count in omega (arith, count)
 
     -- another column's value is one of the tuple
-    same_other : (v : ℤ) (i : ℕ) → i ≤ columns_of z → i ≢ k → (p : ℕ) × (past k p ≡ i) × (p < columns_of z) × (node (with_column_value k v xs) i ≡ node xs p)
+    same_other : (v : ℤ) (i : ℕ) → i ≤ columns_of z → i ≢ k → (p : ℕ) × (past_node k p ≡ i) × (p < columns_of z) × (node (with_column_value k v xs) i ≡ node xs p)
     same_other v i il ne =
-        let r : (p : ℕ) × (past k p ≡ i) × (p < columns_of z) = from_past k i (columns_of z) ne il high in
+        let r : (p : ℕ) × (past_node k p ≡ i) × (p < columns_of z) = from_past k i (columns_of z) ne il high in
         (r.0, r.1, r.2, subst (λ j. node (with_column_value k v xs) j ≡ node xs r.0) r.1 (node_past_at k r.0 v xs low enough))
 
     -- and it has the residue
@@ -191,12 +191,12 @@ module _ (z : ZoneView) (valid : IsZone z) (k : ℕ) (low : 0 < k) (high : k ≤
         below h = omega (arith, count)
 
     -- two values of the rest meet the path through column k
-    through_pair : (p q : ℕ) → p < columns_of z → q < columns_of z → (p ≡ q) ⊎ (p ≢ q) → Within (node xs p -ℤ node xs q) (plus (entry z.bounds (past k p) k) (entry z.bounds k (past k q)))
+    through_pair : (p q : ℕ) → p < columns_of z → q < columns_of z → (p ≡ q) ⊎ (p ≢ q) → Within (node xs p -ℤ node xs q) (plus (entry z.bounds (past_node k p) k) (entry z.bounds k (past_node k q)))
     through_pair p q pl ql (inl e) =
         let ys : List ℤ = valid.some.member in
-        let a : past k p ≤ columns_of z = past_below k p (columns_of z) pl in
-        subst (λ r. Within (node xs p -ℤ node xs r) (plus (entry z.bounds (past k p) k) (entry z.bounds k (past k r)))) e
-        (within_same (node ys (past k p)) (node xs p) _ (through (node ys (past k p)) (node ys (past k p)) (node ys k) _ _ (valid.some.is.meets (past k p) k a high) (valid.some.is.meets k (past k p) high a)))
+        let a : past_node k p ≤ columns_of z = past_below k p (columns_of z) pl in
+        subst (λ r. Within (node xs p -ℤ node xs r) (plus (entry z.bounds (past_node k p) k) (entry z.bounds k (past_node k r)))) e
+        (within_same (node ys (past_node k p)) (node xs p) _ (through (node ys (past_node k p)) (node ys (past_node k p)) (node ys k) _ _ (valid.some.is.meets (past_node k p) k a high) (valid.some.is.meets k (past_node k p) high a)))
     through_pair p q pl ql (inr ne) = (((made.each p q pl ql).lesser ne).below _ (m.meets p q (omega (arith, count)) (omega (arith, count)))).1
 
     -- the same by the old numbers of the columns
@@ -207,7 +207,7 @@ module _ (z : ZoneView) (valid : IsZone z) (k : ℕ) (low : 0 < k) (high : k ≤
         let e : node (with_column_value k (pos 0) xs) i ≡ node xs r.0 = r.3 in
         let f : node (with_column_value k (pos 0) xs) j ≡ node xs s.0 = s.3 in
         rw (e, f) (subst (λ a. Within (node xs r.0 -ℤ node xs s.0) (plus (entry z.bounds a k) (entry z.bounds k j))) r.1
-        (subst (λ b. Within (node xs r.0 -ℤ node xs s.0) (plus (entry z.bounds (past k r.0) k) (entry z.bounds k b))) s.1 (through_pair r.0 s.0 r.2 s.2 (eq_or r.0 s.0))))
+        (subst (λ b. Within (node xs r.0 -ℤ node xs s.0) (plus (entry z.bounds (past_node k r.0) k) (entry z.bounds k b))) s.1 (through_pair r.0 s.0 r.2 s.2 (eq_or r.0 s.0))))
 
     -- two other columns meet their stored bound
     old_pair : (v : ℤ) (i j : ℕ) → i ≤ columns_of z → j ≤ columns_of z → i ≢ k → j ≢ k → Within (node (with_column_value k v xs) i -ℤ node (with_column_value k v xs) j) (entry z.bounds i j)
@@ -217,10 +217,10 @@ module _ (z : ZoneView) (valid : IsZone z) (k : ℕ) (low : 0 < k) (high : k ≤
         let e : node (with_column_value k v xs) i ≡ node xs r.0 = r.3 in
         let f : node (with_column_value k v xs) j ≡ node xs s.0 = s.3 in
         rw (e, f) (subst (λ a. Within (node xs r.0 -ℤ node xs s.0) (entry z.bounds a j)) r.1
-        (subst (λ b. Within (node xs r.0 -ℤ node xs s.0) (entry z.bounds (past k r.0) b)) s.1 (place r.0 s.0 r.2 s.2 (eq_or r.0 s.0))))
+        (subst (λ b. Within (node xs r.0 -ℤ node xs s.0) (entry z.bounds (past_node k r.0) b)) s.1 (place r.0 s.0 r.2 s.2 (eq_or r.0 s.0))))
       where
-        place : (p q : ℕ) → p < columns_of z → q < columns_of z → (p ≡ q) ⊎ (p ≢ q) → Within (node xs p -ℤ node xs q) (entry z.bounds (past k p) (past k q))
-        place p q pl ql (inl e) = subst (λ f. Within (node xs p -ℤ node xs q) f) (sym (subst (λ r. entry z.bounds (past k p) (past k r) ≡ None) e (valid.shape.diagonal (past k p) (past_below k p (columns_of z) pl)))) tt
+        place : (p q : ℕ) → p < columns_of z → q < columns_of z → (p ≡ q) ⊎ (p ≢ q) → Within (node xs p -ℤ node xs q) (entry z.bounds (past_node k p) (past_node k q))
+        place p q pl ql (inl e) = subst (λ f. Within (node xs p -ℤ node xs q) f) (sym (subst (λ r. entry z.bounds (past_node k p) (past_node k r) ≡ None) e (valid.shape.diagonal (past_node k p) (past_below k p (columns_of z) pl)))) tt
         place p q pl ql (inr ne) = (((made.each p q pl ql).lesser ne).below _ (m.meets p q (omega (arith, count)) (omega (arith, count)))).0
 
     -- some value for column k completes a tuple of the rest
@@ -266,7 +266,7 @@ module _ (z : ZoneView) (valid : IsZone z) (k : ℕ) (low : 0 < k) (high : k ≤
 
         same_both : (v : ℤ) (i : ℕ) → i ≤ columns_of z → i ≢ k → node (with_column_value k v xs) i ≡ node (with_column_value k (pos 0) xs) i
         same_both v i il ne =
-            let r : (p : ℕ) × (past k p ≡ i) × (p < columns_of z) = from_past k i (columns_of z) ne il high in
+            let r : (p : ℕ) × (past_node k p ≡ i) × (p < columns_of z) = from_past k i (columns_of z) ne il high in
             subst (λ j. node (with_column_value k v xs) j ≡ node (with_column_value k (pos 0) xs) j) r.1 (node_past_at k r.0 v xs low enough ∙ sym (node_past_at k r.0 (pos 0) xs low enough))
 
   -- the rest holds the tuples that some value completes

@@ -3,7 +3,7 @@ use Rattle.std.proofs.Common.{◌≡◌, ℕ, zero, suc, ◌+◌, ◌-◌, ◌<�
 use Rattle.std.specs.Prelude.{ℤ, pos, ◌≤ℤ◌, ◌<ℤ◌, IfSome, IfNone, is_some}
 use Rattle.std.proofs.lemmas.Int.{ints, by_lt_z}
 use Rattle.lrp_zone.specs.Zones.{ZoneView, columns_of}
-use Rattle.lrp_zone.specs.Windows.{IsInBox, IsBoxEmpty, IsBoxLeast, HasNoStep, IsLeastStep, IsNextInWindow, HasNoneFrom, IsLowOf, IsHighOf}
+use Rattle.lrp_zone.specs.Windows.{IsInBox, IsBoxEmpty, IsBoxLeast, HasNoStep, IsLeastFollowing, IsNextInWindow, HasNoneFrom, IsLowOf, IsHighOf}
 use Rattle.lrp_zone.specs.Order.{at, IsFrom, IsNotBefore, IsInWindow, IsFirstFrom, HasNoneNotBefore, IsNextIn, HasNoneAfter}
 
 module _ (z : ZoneView) (columns : columns_of z ≤ 8) (from to : ℤ) (xs low high : List ℤ) (p : ℕ) (lows : (i : ℕ) → i < 8 → IsLowOf from (at xs i) i p (at low i)) (highs : (i : ℕ) → i < 8 → IsHighOf to (at xs i) i p (at high i)) where
@@ -52,7 +52,7 @@ module _ (z : ZoneView) (columns : columns_of z ≤ 8) (from to : ℤ) (xs low h
   step_none (Some zs) h = tt
 
   -- the least tuple in the box is the least that follows
-  pub step_some : (o : Option (List ℤ)) → p ≤ columns_of z → IfSome o (λ zs. IsBoxLeast z low high zs) → IfSome o (λ zs. IsLeastStep z from to xs p zs)
+  pub step_some : (o : Option (List ℤ)) → p ≤ columns_of z → IfSome o (λ zs. IsBoxLeast z low high zs) → IfSome o (λ zs. IsLeastFollowing z from to xs p zs)
   step_some None pl h = tt
   step_some (Some zs) pl h = record {
     holds = h.holds;
@@ -88,7 +88,7 @@ three : (p q : ℕ) → (q < p) ⊎ ((q ≡ p) ⊎ (p < q))
 three p q = grind arith
 
 -- the first step that there is, from the top down, gives the first member
-pub first_is : (z : ZoneView) (from to : ℤ) (xs zs : List ℤ) (top p : ℕ) → p ≤ top → top ≤ columns_of z → ((q : ℕ) → p < q → q ≤ top → HasNoStep z from to xs q) → IsLeastStep z from to xs p zs → IsNextInWindow z from to xs top zs
+pub first_is : (z : ZoneView) (from to : ℤ) (xs zs : List ℤ) (top p : ℕ) → p ≤ top → top ≤ columns_of z → ((q : ℕ) → p < q → q ≤ top → HasNoStep z from to xs q) → IsLeastFollowing z from to xs p zs → IsNextInWindow z from to xs top zs
 first_is z from to xs zs top p pl tl above s = record {
   holds = s.holds;
   window = s.window;
@@ -122,7 +122,7 @@ ends_more P out i v w l e h old = below_more (λ j. P j (at (set out i w) j)) i
     (subst (λ y. P i y) (sym (get_or-set_same out i w (pos 0) l ∙ e)) h)
 
 -- the same for the result of a call
-pub first_some : (z : ZoneView) (from to : ℤ) (xs : List ℤ) (top p : ℕ) → p ≤ top → top ≤ columns_of z → ((q : ℕ) → p < q → q ≤ top → HasNoStep z from to xs q) → (o : Option (List ℤ)) → IfSome o (λ zs. IsLeastStep z from to xs p zs) → IfSome o (λ zs. IsNextInWindow z from to xs top zs)
+pub first_some : (z : ZoneView) (from to : ℤ) (xs : List ℤ) (top p : ℕ) → p ≤ top → top ≤ columns_of z → ((q : ℕ) → p < q → q ≤ top → HasNoStep z from to xs q) → (o : Option (List ℤ)) → IfSome o (λ zs. IsLeastFollowing z from to xs p zs) → IfSome o (λ zs. IsNextInWindow z from to xs top zs)
 first_some z from to xs top p pl tl above None h = tt
 first_some z from to xs top p pl tl above (Some zs) h = first_is z from to xs zs top p pl tl above h
 

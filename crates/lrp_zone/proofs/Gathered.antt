@@ -11,7 +11,7 @@ use Rattle.lrp_theory.proofs.Below.{none_above}
 use Rattle.lrp_model.specs.declared.relations.Bound.{Bound}
 use Rattle.lrp_zone.specs.Zones.{ZoneView, IsShape, IsZone, IsMember, HasMember, IsTight, IsResidue, columns_of, reach_of}
 use Rattle.lrp_zone.specs.Tight.{IsStored}
-use Rattle.lrp_zone.specs.Given.{bound_at, HasNegative, IsGiven, AreGiven, IsStoredFor, IsWith, IsGathered, MeetsGiven, IsGivenZone, HasNone, AreOwn}
+use Rattle.lrp_zone.specs.Given.{bound_at, HasNegative, IsGiven, AreGiven, IsStoredFor, IsWith, IsGathered, MeetsGiven, IsGivenZone, HasNone, AreOwnBounds}
 use Rattle.lrp_zone.proofs.Cases.{eq_or, place_or}
 use Rattle.lrp_zone.proofs.Floors.{stored_tight, stored_own, tightened_below, below_tightened, tightened_small}
 use Rattle.lrp_zone.proofs.Reaches.{small_reach}
@@ -214,7 +214,7 @@ module _ (k : ℕ) (n : ℤ) (rs : List ℤ) (bs : List Bound) (out : List (Opti
   of_none (Some y) h = tt
 
   -- ---- the parts of a zone z are given
-  module _ (z : ZoneView) (valid : IsZone z) (own : AreOwn z n rs bs) where
+  module _ (z : ZoneView) (valid : IsZone z) (own : AreOwnBounds z n rs bs) where
     -- the given period is that of z
     same_period : k ≡ z.period
     same_period = let e : pos k ≡ n = g.period in let f : n ≡ pos z.period = own.period in omega (arith, ints)
@@ -284,7 +284,7 @@ module _ (k : ℕ) (n : ℤ) (rs : List ℤ) (bs : List Bound) (out : List (Opti
     own_again size (Some y) s h = ap Some (s ∙ same_zone size)
 
 -- a zone's own parts may be given
-pub own_given : (z : ZoneView) (n : ℤ) (rs : List ℤ) (bs : List Bound) → IsZone z → AreOwn z n rs bs → AreGiven n rs bs
+pub own_given : (z : ZoneView) (n : ℤ) (rs : List ℤ) (bs : List Bound) → IsZone z → AreOwnBounds z n rs bs → AreGiven n rs bs
 own_given z n rs bs valid own = record {
   each = λ i il.
       let o = own.stored i il in

@@ -51,7 +51,7 @@ pub record HasNone (k : ℤ) (rs : List ℤ) (bs : List Bound) : Type 0 where
   pub none : (xs : List ℤ) → MeetsGiven k rs bs xs → ⊥
 
 -- k, rs and bs are the period, the residues and the stored bounds of z
-pub record AreOwn (z : ZoneView) (k : ℤ) (rs : List ℤ) (bs : List Bound) : Type 0 where
+pub record AreOwnBounds (z : ZoneView) (k : ℤ) (rs : List ℤ) (bs : List Bound) : Type 0 where
   pub period : k ≡ pos z.period
   pub residues : rs ≡ z.residues
   pub stored : (i : ℕ) → i < length bs → ((bound_at bs i).left ≤ columns_of z) × ((bound_at bs i).right ≤ columns_of z) × (entry z.bounds (bound_at bs i).left (bound_at bs i).right ≡ Some (bound_at bs i).most)

@@ -24,7 +24,7 @@ pub record HasNoRefined (z : ZoneView) (k : ℤ) (rs : List ℤ) : Type 0 where
   pub none : (xs : List ℤ) → IsMember z xs → HasResidues k rs xs → ⊥
 
 -- z holds the integers that meet the bounds and have the residues rs modulo k, and stores each bound tightened to them
-pub record IsCut (k : ℤ) (rs : List ℤ) (m : MatrixView) (z : ZoneView) : Type 0 where
+pub record IsCutToResidues (k : ℤ) (rs : List ℤ) (m : MatrixView) (z : ZoneView) : Type 0 where
   pub period : pos z.period ≡ k
   pub residues : z.residues ≡ rs
   pub to : (xs : List ℤ) → IsMember z xs → MeetsBounds m xs

@@ -3,7 +3,7 @@
 ghost use Rattle.std.specs.Prelude.{◌≡◌, ◌<◌, ◌≤◌, ◌^◌, ◌*◌, ◌+◌, ℕ, List, None, length, replicate, slice_index_or, slice_set};
 ghost use Rattle.lrp_theory.specs.Bounds.{plus};
 ghost use Rattle.lrp_theory.specs.Entries.{entry, IsLesser, AtMost};
-ghost use Rattle.lrp_zone.specs.Numbers.{CanStand, bound_of, number_of};
+ghost use Rattle.lrp_zone.specs.Numbers.{FitsNumber, bound_from_number, number_for_bound};
 ghost use Rattle.lrp_zone.specs.Pieces.{IsSingle};
 
 use lrp_matrix::cells::no_bounds;
@@ -19,13 +19,13 @@ pub struct BoundTable {
 
 impl Model for BoundTable {
     ghost use Rattle.std.specs.Prelude.{◌≡◌, ℤ, List, Option, map, length};
-    ghost use Rattle.lrp_zone.specs.Numbers.{bound_of, number_of, numbers_again};
+    ghost use Rattle.lrp_zone.specs.Numbers.{bound_from_number, number_for_bound, numbers_again};
 
     ghost Value = { List (Option ℤ) };
 
-    ghost view = { λ t. map bound_of t.numbers };
+    ghost view = { λ t. map bound_from_number t.numbers };
 
-    ghost inverse = { λ v. record { numbers = map number_of v } };
+    ghost inverse = { λ v. record { numbers = map number_for_bound v } };
 
     ghost invariant = { λ t. length t.numbers ≡ 81 };
 
@@ -55,7 +55,7 @@ impl BoundTable {
     pub fn get(&self, place: usize) -> Option<i64>
         requires { place < 81 }
         ensures value { result ≡ slice_index_or self.now place None }
-        ensures stands { CanStand result }
+        ensures stands { FitsNumber result }
         ensures size { length self.now ≡ 81 }
     {
         bound_of(self.numbers[place])
@@ -64,7 +64,7 @@ impl BoundTable {
     /// Writes a bound at a place.
     pub fn set(&mut self, place: usize, bound: Option<i64>)
         requires place { place < 81 }
-        requires stands { CanStand bound }
+        requires stands { FitsNumber bound }
         ensures value { self.new ≡ slice_set self.old place bound }
         ensures size { length self.old ≡ 81 }
     {
@@ -74,8 +74,8 @@ impl BoundTable {
 
 /// The bound that a number stands for.
 fn bound_of(number: i64) -> Option<i64>
-    ensures value { result ≡ bound_of number }
-    ensures stands { CanStand result }
+    ensures value { result ≡ bound_from_number number }
+    ensures stands { FitsNumber result }
 {
     if number < i64::MAX {
         Some(number)
@@ -86,7 +86,7 @@ fn bound_of(number: i64) -> Option<i64>
 
 /// The number that stands for a bound.
 fn number_of(bound: Option<i64>) -> i64
-    ensures { result ≡ number_of bound }
+    ensures { result ≡ number_for_bound bound }
 {
     match bound {
         Some(a) => a,
@@ -106,7 +106,7 @@ pub fn at(bounds: &BoundTable, i: usize, j: usize) -> Option<i64>
     requires row { i < 9 }
     requires column { j < 9 }
     ensures value { result ≡ entry bounds.now i j }
-    ensures stands { CanStand result }
+    ensures stands { FitsNumber result }
 {
     bounds.get(9 * i + j)
 }
@@ -115,7 +115,7 @@ pub fn at(bounds: &BoundTable, i: usize, j: usize) -> Option<i64>
 pub fn put(bounds: &mut BoundTable, i: usize, j: usize, bound: Option<i64>)
     requires row { i < 9 }
     requires column { j < 9 }
-    requires stands { CanStand bound }
+    requires stands { FitsNumber bound }
     ensures here { entry bounds.new i j ≡ bound }
     ensures others { (p q : ℕ) → q < 9 → (p ≡ i → q ≡ j → ⊥)
         → entry bounds.new p q ≡ entry bounds.old p q }
@@ -127,7 +127,7 @@ pub fn put(bounds: &mut BoundTable, i: usize, j: usize, bound: Option<i64>)
 pub fn single(i: usize, j: usize, bound: Option<i64>) -> BoundTable
     requires row { i < 9 }
     requires column { j < 9 }
-    requires stands { CanStand bound }
+    requires stands { FitsNumber bound }
     ensures { IsSingle result i j bound }
 {
     let mut bounds = free();
@@ -148,7 +148,7 @@ pub fn lesser(a: Option<i64>, b: Option<i64>) -> Option<i64>
 
 /// The number that stands for the lesser of the bounds of two numbers.
 fn lesser_number(a: i64, b: i64) -> i64
-    ensures { IsLesser (bound_of result) (bound_of a) (bound_of b) }
+    ensures { IsLesser (bound_from_number result) (bound_from_number a) (bound_from_number b) }
 {
     if a <= b { a } else { b }
 }

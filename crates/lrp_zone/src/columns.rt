@@ -2,8 +2,8 @@
 
 ghost use Rattle.std.specs.Prelude.{◌≡◌, ◌<◌, ◌≤◌, ◌^◌, ◌+◌, ℕ, List, length};
 ghost use Rattle.lrp_theory.specs.Entries.{entry, node, AtMost, AllSmall};
-ghost use Rattle.lrp_zone.specs.Columns.{past, IsPath, IsWithout};
-ghost use Rattle.lrp_zone.specs.Numbers.{CanStand};
+ghost use Rattle.lrp_zone.specs.Columns.{past_node, IsPath, IsWithoutNode};
+ghost use Rattle.lrp_zone.specs.Numbers.{FitsNumber};
 ghost use Rattle.lrp_zone.specs.Spread.{target, ArePlaces, IsSpreadTo};
 
 use crate::bounds::{BoundTable, at, free, lesser, put, sum};
@@ -11,7 +11,7 @@ use crate::bounds::{BoundTable, at, free, lesser, put, sum};
 /// The node whose number is p once node k is left out.
 fn skip(k: usize, p: usize) -> usize
     requires small { p < 9 }
-    ensures { result ≡ past k p }
+    ensures { result ≡ past_node k p }
 {
     if p < k { p } else { p + 1 }
 }
@@ -21,10 +21,10 @@ fn path(bounds: &BoundTable, k: usize, p: usize, q: usize) -> Option<i64>
     requires node { k < 9 }
     requires row { p < 8 }
     requires column { q < 8 }
-    requires left { AtMost (2 ^ 61) (entry bounds.now (past k p) k) }
-    requires right { AtMost (2 ^ 61) (entry bounds.now k (past k q)) }
+    requires left { AtMost (2 ^ 61) (entry bounds.now (past_node k p) k) }
+    requires right { AtMost (2 ^ 61) (entry bounds.now k (past_node k q)) }
     ensures value { IsPath bounds.now k p q result }
-    ensures stands { CanStand result }
+    ensures stands { FitsNumber result }
 {
     if p == q {
         return None;
@@ -39,7 +39,7 @@ pub fn without(bounds: &BoundTable, k: usize, n: usize) -> BoundTable
     requires nodes { n < 9 }
     requires node { k ≤ n }
     requires small { AllSmall (n + 1) (2 ^ 61) bounds.now }
-    ensures { IsWithout bounds.now k n result }
+    ensures { IsWithoutNode bounds.now k n result }
 {
     let mut out = free();
     for p in 0..n {
@@ -57,7 +57,7 @@ pub fn residues_without(residues: &[i64], k: usize) -> [i64; 8]
     requires columns { length residues.now ≤ 8 }
     ensures size { length result ≡ 8 }
     ensures values { (p : ℕ) → p < length residues.now
-        → node result p ≡ node residues.now (past k p) }
+        → node result p ≡ node residues.now (past_node k p) }
 {
     let mut out = [0; 8];
     for p in 1..residues.len() {

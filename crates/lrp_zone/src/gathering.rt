@@ -2,7 +2,7 @@
 
 ghost use Rattle.std.specs.Prelude.{◌≡◌, ◌<◌, ◌≤◌, ◌^◌, ℕ, IsTrue, ◌↔◌, length, pos};
 ghost use Rattle.lrp_theory.specs.Entries.{node};
-ghost use Rattle.lrp_zone.specs.Numbers.{CanStand};
+ghost use Rattle.lrp_zone.specs.Numbers.{FitsNumber};
 ghost use Rattle.lrp_zone.specs.Zones.{IsResidue};
 ghost use Rattle.lrp_zone.specs.Given.{HasNegative, IsGiven, IsStoredFor, IsWith, AreGiven, IsGathered};
 
@@ -30,7 +30,7 @@ fn kept(bound: &Bound, residues: &[i64], period: u64) -> Option<i64>
     requires left { IsResidue period (node residues.now bound.now.left) }
     requires right { IsResidue period (node residues.now bound.now.right) }
     ensures value { IsStoredFor (pos period) residues.now bound.now result }
-    ensures stands { CanStand result }
+    ensures stands { FitsNumber result }
 {
     let (i, j) = (usize::from(bound.left), usize::from(bound.right));
     if i == j {

@@ -4,7 +4,7 @@ ghost use Rattle.std.specs.Prelude.{◌≡◌, ◌<◌, ◌≤◌, ◌^◌, ◌+
 ghost use Rattle.lrp_theory.specs.Entries.{entry, node, AtMost};
 ghost use Rattle.lrp_zone.specs.Zones.{IsResidue};
 ghost use Rattle.lrp_zone.specs.Tight.{CanTighten, IsTightened, IsStored, AreStored};
-ghost use Rattle.lrp_zone.specs.Numbers.{CanStand};
+ghost use Rattle.lrp_zone.specs.Numbers.{FitsNumber};
 ghost use Rattle.lrp_zone.specs.Pieces.{broken_by};
 
 use crate::bounds::{BoundTable, at, free, narrow, put, wide};
@@ -116,7 +116,7 @@ pub fn broken(bound: Option<i64>, period: u64) -> Option<i64>
     requires high { period ≤ 2 ^ 62 }
     requires small { AtMost (2 ^ 62 - period) bound }
     ensures value { result ≡ broken_by period bound }
-    ensures stands { CanStand result }
+    ensures stands { FitsNumber result }
 {
     match bound {
         Some(a) => Some(-a - period as i64),

@@ -1,7 +1,7 @@
 -- A key is missing at a gap, and a cell that has no key is missing anywhere.
 use Rattle.std.proofs.Common.{◌≡◌, ◌∙◌, None, ap, subst, sym}
 use Rattle.std.specs.Prelude.{IfNone}
-use Rattle.lrp_slots.specs.Lines.{IsGap, StandsAt}
+use Rattle.lrp_slots.specs.Lines.{IsGap, StandsInLine}
 use Rattle.lrp_slots.specs.Links.{chain_at}
 use Rattle.lrp_slots.specs.Narrow.{wide, wide_entries}
 use Rattle.lrp_slots.proofs.Lines.{gap_none}
@@ -19,5 +19,5 @@ returns-clause-none c =
 
 pub returns-clause-some : goal.returns-clause-some
 returns-clause-some c =
-    found_place c.search.result c.ok.result (StandsAt (wide_entries c.args.line.now) (wide c.in_ok-key.key)) (StandsAt (wide_entries c.args.line.now) c.args.cell.now) c.ok.ensures.value
-    (λ i stands. subst (λ k. StandsAt (wide_entries c.args.line.now) k i) c.in_ok-key.ensures.some stands) c.search.ensures.there
+    found_place c.search.result c.ok.result (StandsInLine (wide_entries c.args.line.now) (wide c.in_ok-key.key)) (StandsInLine (wide_entries c.args.line.now) c.args.cell.now) c.ok.ensures.value
+    (λ i stands. subst (λ k. StandsInLine (wide_entries c.args.line.now) k i) c.in_ok-key.ensures.some stands) c.search.ensures.there

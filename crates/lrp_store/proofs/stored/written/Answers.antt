@@ -1,7 +1,7 @@
 -- Each turn writes one entry.
 use Rattle.std.proofs.Common.{refl, sym, ap, subst, arith, Some, get_or, to_z, of_z, ◌<◌}
 use Rattle.std.specs.Int.{w64}
-use Rattle.lrp_zone.specs.Numbers.{CanStand}
+use Rattle.lrp_zone.specs.Numbers.{FitsNumber}
 use Rattle.lrp_zone.proofs.Stands.{stands_small}
 use Rattle.lrp_store.specs.Stored.{bound_with, bounds_of}
 use Rattle.lrp_store.proofs.Written.{nothing, written_none, entry_low, entry_small, entry_word, entry_written, entries_written}
@@ -17,7 +17,7 @@ set-requires-clause-place c =
 
 pub set-requires-clause-stands : goal.set-requires-clause-stands
 set-requires-clause-stands c =
-    subst (λ m. CanStand (Some m)) (sym (entry_word c.args.entries.now c.loop-entry.entry-index c.most.result c.requires.small (omega arith) c.most.ensures))
+    subst (λ m. FitsNumber (Some m)) (sym (entry_word c.args.entries.now c.loop-entry.entry-index c.most.result c.requires.small (omega arith) c.most.ensures))
     (stands_small (Some (bound_with (get_or c.args.entries.now c.loop-entry.entry-index nothing)).most) (entry_small c.args.entries.now c.loop-entry.entry-index c.requires.small (omega arith)))
 
 pub loop-entry-preserved : goal.loop-entry-preserved

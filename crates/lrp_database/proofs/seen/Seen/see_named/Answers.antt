@@ -6,7 +6,7 @@ use Rattle.std.specs.Str.{bytes_eq}
 use Rattle.std.proofs.lemmas.List.{map-set, map-append, length-map}
 use Rattle.std.proofs.Math.ListN.{get_or-map}
 use Rattle.indexmap.specs.IndexSet.{keys}
-use Rattle.lrp_database.specs.Once.{beside, put_once}
+use Rattle.lrp_database.specs.Once.{texts_beside, put_once}
 use Rattle.lrp_database.proofs.SeenLemmas.{on_ok, found_first, put_found, put_new}
 use Rattle.lrp_database.proofs.seen.Seen.see_named.Goals as goal
 
@@ -20,7 +20,7 @@ returns-in-Some-clause-seen c =
     on_ok c.see.result (λ e. record {
       all = refl;
       unnamed = refl;
-      named = λ n. ap (λ l. beside names l n) (map-set keys sets i c.see.new.texts)
+      named = λ n. ap (λ l. texts_beside names l n) (map-set keys sets i c.see.new.texts)
           ∙ put_found names (map keys sets) i name c.args.text.now (keys c.see.new.texts) (keys old)
           (found_first (bytes_eq name) names i name (sym c.get_index_of.ensures.index ∙ c.in-Some.is))
           (c.requires ∙ sym (length-map sets keys))
@@ -40,7 +40,7 @@ returns-in_ok-push-in-None-clause-seen c =
     record {
       all = refl;
       unnamed = refl;
-      named = λ n. ap (λ l. beside l (map keys c.push.new.self.items) n) more
-          ∙ ap (λ l. beside (names ++ name ∷ []) l n) (ap (map keys) c.in_ok-push-in-None.ensures.items ∙ map-append keys sets (made ∷ []) ∙ ap (λ t. map keys sets ++ t ∷ []) c.in_ok-set_of-in-None.ensures)
+      named = λ n. ap (λ l. texts_beside l (map keys c.push.new.self.items) n) more
+          ∙ ap (λ l. texts_beside (names ++ name ∷ []) l n) (ap (map keys) c.in_ok-push-in-None.ensures.items ∙ map-append keys sets (made ∷ []) ∙ ap (λ t. map keys sets ++ t ∷ []) c.in_ok-set_of-in-None.ensures)
           ∙ put_new names (map keys sets) name c.args.text.now none (c.requires ∙ sym (length-map sets keys)) n;
     }

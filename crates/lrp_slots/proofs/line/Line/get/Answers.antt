@@ -1,6 +1,6 @@
 -- A cell is found at its place.
 use Rattle.std.proofs.Common.{ap, sym, subst, ◌∙◌}
-use Rattle.lrp_slots.specs.Lines.{StandsAt}
+use Rattle.lrp_slots.specs.Lines.{StandsInLine}
 use Rattle.lrp_slots.specs.Narrow.{wide_entries}
 use Rattle.std.specs.Prelude.{option_copied}
 use Rattle.lrp_slots.proofs.Shortened.{found_chain, not_in_line}
@@ -10,4 +10,4 @@ pub returns-in_err-place : goal.returns-in_err-place
 returns-in_err-place c = record { value = ap option_copied c.from_residual.ensures ∙ sym (not_in_line c.self.inside.entries.items c.deref.result.now c.args.self.now c.args.cell.now c.deref.ensures.value c.self.view_is c.in_err-place.ensures.none) }
 
 pub returns : goal.returns
-returns c = record { value = found_chain c.self.inside.entries.items c.args.self.now c.args.cell.now c.in_ok-place.place c.index.result.now (record { line = c.self.invariant; view = c.self.view_is; stands = subst (λ es. StandsAt (wide_entries es) c.args.cell.now c.in_ok-place.place) c.deref.ensures.value c.in_ok-place.ensures.some }) c.index.ensures }
+returns c = record { value = found_chain c.self.inside.entries.items c.args.self.now c.args.cell.now c.in_ok-place.place c.index.result.now (record { line = c.self.invariant; view = c.self.view_is; stands = subst (λ es. StandsInLine (wide_entries es) c.args.cell.now c.in_ok-place.place) c.deref.ensures.value c.in_ok-place.ensures.some }) c.index.ensures }

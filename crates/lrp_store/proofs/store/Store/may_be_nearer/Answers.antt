@@ -5,7 +5,7 @@ use Rattle.std.proofs.lemmas.List.{length-take-le}
 use Rattle.lrp_model.specs.declared.tuples.Cell.{Cell}
 use Rattle.lrp_zone.specs.Zones.{IsZone}
 use Rattle.lrp_store.specs.Stores.{StoreView, zone_of, IsStore}
-use Rattle.lrp_store.specs.Least.{IsFound, IsNearestTo, IsNotAfter}
+use Rattle.lrp_store.specs.Least.{IsFoundSpot, IsNearestTo, IsNotAfter}
 use Rattle.lrp_store.proofs.Held.{Table}
 use Rattle.lrp_store.proofs.Added.{free_zone}
 use Rattle.lrp_store.proofs.Aligning.{zone_read}
@@ -29,4 +29,4 @@ returns c = λ e ys ns h.
     subst (λ f. IsNotAfter c.args.self.now f ys ns) (sym c.in-Some.is)
     (front_test c.args.self.now (subst IsStore c.self.view_is c.self.invariant.valid) c.args.cell.now c.requires.proper c.is_before.result c.nearest_of_cell.result
     (read (record { shape = c.self.inside.shape; period = c.self.inside.period; tables = c.self.inside.slots.lists; spare = c.self.inside.slots.spare }) c.args.self.now c.self.view_is c.args.cell.now (replicate 81 None) c.from-times.result c.from-times.ensures c.nearest_of_cell.result c.nearest_of_cell.ensures)
-    c.in-Some.old (subst (IsFound c.args.self.now) c.in-Some.is c.requires.found) c.is_before.ensures e ys ns h)
+    c.in-Some.old (subst (IsFoundSpot c.args.self.now) c.in-Some.is c.requires.found) c.is_before.ensures e ys ns h)
