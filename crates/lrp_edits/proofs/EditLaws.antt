@@ -9,7 +9,7 @@ use Rattle.lrp_model.specs.declared.faults.DbKind.{DbKind}
 use Rattle.lrp_model.specs.declared.faults.DbKind.TheVariants.{Utf8, Syntax, Number, Period, TextTooLong, Name, Arity, Sort, Column, Wide, UnknownRelation}
 use Rattle.lrp_model.specs.declared.relations.Relation.{Relation}
 use Rattle.lrp_model.specs.Faults.{earliest}
-use Rattle.lrp_model.specs.Tokens.{Placed, Tokens, Spells}
+use Rattle.lrp_model.specs.Tokens.{Tokens}
 use Rattle.lrp_model.specs.Lexing.{tokens}
 use Rattle.lrp_model.specs.Rows.{relation_named}
 use Rattle.lrp_model.specs.Refused.{TextOf}
@@ -19,14 +19,15 @@ use Rattle.lrp_text.specs.Parsers.{Reads}
 use Rattle.lrp_text.specs.Sources.{Stands}
 use Rattle.lrp_text.specs.declared.lexemes.Lexeme.{Lexeme}
 use Rattle.lrp_text.proofs.LongestFront.{not_cut, same_cut}
-use Rattle.lrp_text.proofs.OneCause.{same_token, same_kind, IsShown}
+use Rattle.lrp_text.proofs.OneCause.{IsShown}
+use Rattle.lrp_text.proofs.OneFault.{not_refused, shown_once}
 use Rattle.lrp_rel.specs.declared.trees.ReadFault.{ReadFault}
 use Rattle.lrp_rel.specs.declared.trees.ReadFault.TheVariants.{Fault, Memory}
 use Rattle.lrp_edits.specs.declared.edits.Edit.{Edit}
 use Rattle.lrp_edits.specs.declared.edits.RawEdit.{RawEdit}
 use Rattle.lrp_edits.specs.declared.edits.Edits.{Edits}
-use Rattle.lrp_rel.specs.Gathered.{IsReadAs}
-use Rattle.lrp_rel.specs.Reading.{IsReadOrMemory, IsDatabaseFaultOrMemory, refusal_of}
+use Rattle.lrp_rel.specs.Gathered.{IsReadInto}
+use Rattle.lrp_rel.specs.Reading.{IsReadOrMemory, IsDatabaseFaultOrMemory, database_refusal}
 use Rattle.lrp_edits.specs.EditTexts.{edits_text, FitsEdits}
 use Rattle.lrp_edits.specs.EditMeaning.{written_columns, edit_of, faults_in, edit_faults, edits_faults}
 use Rattle.lrp_edits.specs.EditReading.{IsEditsText, SaysEdits, IsNoEditsText, HasEditsFault, IsEditsFaultOf, IsEditsFault, AreEditsRefused}
@@ -34,50 +35,34 @@ use Rattle.lrp_edits.specs.EditRules.{edits}
 use Rattle.lrp_edits.specs.EditGathered.{AreEditsOf, AreEditsFrom}
 use Rattle.lrp_model.proofs.FirstFault.{none_is_empty}
 use Rattle.lrp_rel.proofs.OneFault.{kind_met, fault_of}
+use Rattle.lrp_rel.proofs.WholeTexts.{tree_read, never_deep as parser_never_deep, refused_there as parser_refused_there}
 use Rattle.lrp_rel.proofs.RowKinds.{AreOf, IsOneOf, HasRowKinds, flat_of, row_kinds, first_of}
 use Rattle.lrp_edits.proofs.EditRuleLaws.{edits_sound, edits_refused, edits_shallow, same_edits}
 
 -- ---- read
 
--- edits that were read are those of the text
-tree_read : (bytes : List ℕ) (tree : List RawEdit) → IsUtf8 bytes → edits (suc (length (tokens bytes))) (tokens bytes) ≡ Ok (tree, []) → IsEditsText bytes tree
-tree_read bytes tree utf8 read =
-    let k = edits_sound (suc (length (tokens bytes))) (tokens bytes) (tree, []) read in
-    record { utf8 = utf8; spelled = k.0; lawful = k.1 }
-
 -- what was kept is what the text says
-kept_read : (bytes : List ℕ) (db : List Relation) (kept : Edits) → IsUtf8 bytes → ((n : ℕ) → length (tokens bytes) < n → IsReadAs (AreEditsOf db) (edits n (tokens bytes)) kept []) → AreEditsFrom bytes db kept
+kept_read : (bytes : List ℕ) (db : List Relation) (kept : Edits) → IsUtf8 bytes → ((n : ℕ) → length (tokens bytes) < n → IsReadInto (AreEditsOf db) (edits n (tokens bytes)) kept []) → AreEditsFrom bytes db kept
 kept_read bytes db kept utf8 reads =
     let one = reads (suc (length (tokens bytes))) (omega arith) in
-    record { tree = one.value; text = tree_read bytes one.value utf8 one.read; are = one.stands }
+    record { tree = one.value; text = tree_read edits_text FitsEdits edits edits_sound bytes one.value utf8 one.read; are = one.stands }
 
 -- the same of tokens that are those of the bytes
-pub text_kept : (bytes : List ℕ) (ts : Tokens) (db : List Relation) (kept : Edits) → ts ≡ tokens bytes → IsUtf8 bytes → ((n : ℕ) → length ts < n → IsReadAs (AreEditsOf db) (edits n ts) kept []) → AreEditsFrom bytes db kept
+pub text_kept : (bytes : List ℕ) (ts : Tokens) (db : List Relation) (kept : Edits) → ts ≡ tokens bytes → IsUtf8 bytes → ((n : ℕ) → length ts < n → IsReadInto (AreEditsOf db) (edits n ts) kept []) → AreEditsFrom bytes db kept
 text_kept bytes ts db kept e utf8 reads =
-    let P : Tokens → Type 0 = λ xs. (n : ℕ) → length xs < n → IsReadAs (AreEditsOf db) (edits n xs) kept [] in
+    let P : Tokens → Type 0 = λ xs. (n : ℕ) → length xs < n → IsReadInto (AreEditsOf db) (edits n xs) kept [] in
     kept_read bytes db kept utf8 (subst P e reads)
 
 -- no text is refused for depth
 pub never_deep : (ts us : Tokens) (k : TokenFault) → ((n : ℕ) → length ts < n → Reads {A = List RawEdit} (edits n ts) (Err k) us) → k ≡ Deep → ⊥
-never_deep ts us k reads e =
-    let P : TokenFault → Type 0 = λ j. (n : ℕ) → length ts < n → Reads {A = List RawEdit} (edits n ts) (Err j) us in
-    let at_depth = subst P e reads in
-    edits_shallow (suc (length ts)) ts us (at_depth (suc (length ts)) (omega arith))
+never_deep = parser_never_deep edits_text FitsEdits edits edits_shallow
 
 -- the text is refused at the token that stands there
 refused_there : (bytes : List ℕ) (us : Tokens) (k : TokenFault) (l : Lexeme) (slice : List ℕ) (place : Place) → IsUtf8 bytes → Stands us l slice place → ((n : ℕ) → length (tokens bytes) < n → edits n (tokens bytes) ≡ Err (k, us)) → IsNoEditsText bytes k place
-refused_there bytes us k l slice place utf8 s reads =
-    let bad : Placed = record { token = s.token; place = place } in
-    record {
-      utf8 = utf8;
-      bad = bad;
-      tail = s.left;
-      refused = edits_refused (tokens bytes) k bad s.left (λ n lt. reads n lt ∙ ap (λ x. Err (k, x)) s.whole);
-      place_is = refl;
-    }
+refused_there = parser_refused_there edits_text FitsEdits edits edits_refused
 
 -- what was met while a text was read is its fault
-refused_as : (bytes : List ℕ) (db : List Relation) (us : Tokens) (k : TokenFault) (l : Lexeme) (slice : List ℕ) (place : Place) → IsUtf8 bytes → Stands us l slice place → ((n : ℕ) → length (tokens bytes) < n → Reads {A = List RawEdit} (edits n (tokens bytes)) (Err k) us) → AreEditsRefused bytes db (refusal_of k place)
+refused_as : (bytes : List ℕ) (db : List Relation) (us : Tokens) (k : TokenFault) (l : Lexeme) (slice : List ℕ) (place : Place) → IsUtf8 bytes → Stands us l slice place → ((n : ℕ) → length (tokens bytes) < n → Reads {A = List RawEdit} (edits n (tokens bytes)) (Err k) us) → AreEditsRefused bytes db (database_refusal k place)
 refused_as bytes db us memory l slice place utf8 s reads = tt
 refused_as bytes db us Deep l slice place utf8 s reads = tt
 refused_as bytes db us syntax l slice place utf8 s reads = refused_there bytes us syntax l slice place utf8 s reads
@@ -86,7 +71,7 @@ refused_as bytes db us text_too_long l slice place utf8 s reads = refused_there 
 refused_as bytes db us period l slice place utf8 s reads = refused_there bytes us period l slice place utf8 s reads
 
 -- the same of tokens that are those of the bytes
-pub text_refused : (bytes : List ℕ) (db : List Relation) (ts us : Tokens) (k : TokenFault) (l : Lexeme) (slice : List ℕ) (place : Place) → ts ≡ tokens bytes → IsUtf8 bytes → Stands us l slice place → ((n : ℕ) → length ts < n → Reads {A = List RawEdit} (edits n ts) (Err k) us) → AreEditsRefused bytes db (refusal_of k place)
+pub text_refused : (bytes : List ℕ) (db : List Relation) (ts us : Tokens) (k : TokenFault) (l : Lexeme) (slice : List ℕ) (place : Place) → ts ≡ tokens bytes → IsUtf8 bytes → Stands us l slice place → ((n : ℕ) → length ts < n → Reads {A = List RawEdit} (edits n ts) (Err k) us) → AreEditsRefused bytes db (database_refusal k place)
 text_refused bytes db ts us k l slice place e utf8 s reads =
     let P : Tokens → Type 0 = λ xs. (n : ℕ) → length xs < n → Reads {A = List RawEdit} (edits n xs) (Err k) us in
     refused_as bytes db us k l slice place utf8 s (subst P e reads)
@@ -169,17 +154,6 @@ group_of bytes db Wide f e h = absurd h
 same_tree : (bytes : List ℕ) (a b : List RawEdit) → IsEditsText bytes a → IsEditsText bytes b → a ≡ b
 same_tree bytes a b t u = same_edits a b (tokens bytes) t.lawful t.spelled u.spelled
 
--- a text of the grammar is refused nowhere
-not_refused : (bytes : List ℕ) (tree : List RawEdit) (k : TokenFault) (place : Place) → IsEditsText bytes tree → IsNoEditsText bytes k place → ⊥
-not_refused bytes tree k place t r = r.refused.first r.tail (tree, t.lawful, subst (Spells (edits_text tree)) r.refused.whole t.spelled)
-
--- two refusals of one text are one
-same_place : (bytes : List ℕ) (k l : TokenFault) (p q : Place) → IsNoEditsText bytes k p → IsNoEditsText bytes l q → p ≡ q
-same_place bytes k l p q r s = r.place_is ∙ ap (λ t. t.place) (same_token (TextOf edits_text FitsEdits) (tokens bytes) k l r.bad s.bad r.tail s.tail r.refused s.refused) ∙ sym s.place_is
-
-one_kind : (bytes : List ℕ) (k l : TokenFault) (p q : Place) → IsNoEditsText bytes k p → IsNoEditsText bytes l q → IsShown k → IsShown l → k ≡ l
-one_kind bytes k l p q r s = same_kind (TextOf edits_text FitsEdits) (tokens bytes) k l r.bad s.bad r.tail s.tail r.refused s.refused
-
 -- faults of one kind at one place are one
 one_fault : (f g : DbFault) → f.kind ≡ g.kind → f.place ≡ g.place → f ≡ g
 one_fault f g e d = ap (λ k. fault_of k f.place) e ∙ ap (fault_of g.kind) d
@@ -194,17 +168,17 @@ both_same bytes db f g (cut e a) (cut d b) = one_fault f g (e ∙ sym d) (same_c
 both_same bytes db f g (cut e a) (met j m d s) = absurd (not_cut bytes f.place s.utf8 a)
 both_same bytes db f g (cut e a) (said s) = absurd (not_cut bytes f.place s.text.utf8 a)
 both_same bytes db f g (met j m d s) (cut e a) = absurd (not_cut bytes g.place s.utf8 a)
-both_same bytes db f g (met j m e r) (met i n d s) = one_fault f g (e ∙ ap kind_met (one_kind bytes j i f.place g.place r s m n) ∙ sym d) (same_place bytes j i f.place g.place r s)
-both_same bytes db f g (met j m d r) (said s) = absurd (not_refused bytes s.tree j f.place s.text r)
+both_same bytes db f g (met j m e r) (met i n d s) = let h = shown_once (TextOf edits_text FitsEdits) bytes j i f.place g.place r s m n in one_fault f g (e ∙ ap kind_met h.0 ∙ sym d) h.1
+both_same bytes db f g (met j m d r) (said s) = absurd (not_refused edits_text FitsEdits bytes s.tree j f.place s.text r)
 both_same bytes db f g (said s) (cut e a) = absurd (not_cut bytes g.place s.text.utf8 a)
-both_same bytes db f g (said s) (met j m d r) = absurd (not_refused bytes s.tree j g.place s.text r)
+both_same bytes db f g (said s) (met j m d r) = absurd (not_refused edits_text FitsEdits bytes s.tree j g.place s.text r)
 both_same bytes db f g (said s) (said t) =
     some_same f g (sym s.found ∙ ap (λ x. earliest database_standing (edits_faults db x)) (same_tree bytes s.tree t.tree s.text t.text) ∙ t.found)
 
 -- a text that says edits has no fault
 none_said : (bytes : List ℕ) (db : List Relation) (es : List Edit) (f : DbFault) → SaysEdits bytes db es → Group bytes db f → ⊥
 none_said bytes db es f d (cut e a) = not_cut bytes f.place d.text.utf8 a
-none_said bytes db es f d (met j m e r) = not_refused bytes d.tree j f.place d.text r
+none_said bytes db es f d (met j m e r) = not_refused edits_text FitsEdits bytes d.tree j f.place d.text r
 none_said bytes db es f d (said s) =
     let h : None ≡ Some f = sym (ap (earliest database_standing) (ap (edits_faults db) (same_tree bytes s.tree d.tree s.text d.text) ∙ d.sound)) ∙ s.found in
     cc

@@ -1,6 +1,5 @@
 -- What reading edits of a database means: the edits of a text, or the fault that is reported.
 use Rattle.std.specs.Prelude.{◌≡◌, ℕ, List, [], Some, map}
-use Rattle.std.specs.Str.{IsUtf8}
 use Rattle.lrp_model.specs.declared.tokens.Place.{Place}
 use Rattle.lrp_model.specs.declared.tokens.Fault.{Fault as TokenFault}
 use Rattle.lrp_model.specs.declared.tokens.Fault.TheVariants.{Syntax as syntax, Number as number, TextTooLong as text_too_long, Period as period}
@@ -8,9 +7,7 @@ use Rattle.lrp_model.specs.declared.faults.DbFault.{DbFault}
 use Rattle.lrp_model.specs.declared.faults.DbKind.{DbKind}
 use Rattle.lrp_model.specs.declared.faults.DbKind.TheVariants.{Utf8, Syntax, Number, Period, TextTooLong, Name, Arity, Sort, Column, Wide, UnknownRelation}
 use Rattle.lrp_model.specs.declared.relations.Relation.{Relation}
-use Rattle.lrp_model.specs.Tokens.{Placed, Tokens, Spells}
-use Rattle.lrp_model.specs.Lexing.{tokens}
-use Rattle.lrp_model.specs.Refused.{TextOf, IsRefusedAt}
+use Rattle.lrp_model.specs.Refused.{TextOf, IsLawfulText, IsRefusedText}
 use Rattle.lrp_model.specs.Faults.{earliest}
 use Rattle.lrp_model.specs.DatabaseFaults.{database_standing}
 use Rattle.lrp_model.specs.DatabaseReading.{IsNoUtf8}
@@ -22,10 +19,8 @@ use Rattle.lrp_edits.specs.EditTexts.{edits_text, FitsEdits}
 use Rattle.lrp_edits.specs.EditMeaning.{edit_of, edits_faults}
 
 -- the bytes are a lawful text of the grammar, of these written edits
-pub record IsEditsText (bytes : List ℕ) (tree : List RawEdit) : Type 0 where
-  pub utf8 : IsUtf8 bytes
-  pub spelled : Spells (edits_text tree) (tokens bytes)
-  pub lawful : FitsEdits tree
+abbrev pub IsEditsText : List ℕ → List RawEdit → Type 0
+IsEditsText = IsLawfulText edits_text FitsEdits
 
 -- the bytes are edits of the database, and these are what they say
 pub record SaysEdits (bytes : List ℕ) (db : List Relation) (edits : List Edit) : Type 0 where
@@ -35,12 +30,8 @@ pub record SaysEdits (bytes : List ℕ) (db : List Relation) (edits : List Edit)
   pub meant : edits ≡ map (edit_of db) tree
 
 -- UTF-8, and refused by the grammar at this place
-pub record IsNoEditsText (bytes : List ℕ) (k : TokenFault) (place : Place) : Type 0 where
-  pub utf8 : IsUtf8 bytes
-  pub bad : Placed
-  pub tail : Tokens
-  pub refused : IsRefusedAt (TextOf edits_text FitsEdits) (tokens bytes) k bad tail
-  pub place_is : place ≡ bad.place
+abbrev pub IsNoEditsText : List ℕ → TokenFault → Place → Type 0
+IsNoEditsText = IsRefusedText (TextOf edits_text FitsEdits)
 
 -- a lawful text, whose edits of the database have this fault as their first
 pub record HasEditsFault (bytes : List ℕ) (db : List Relation) (fault : DbFault) : Type 0 where

@@ -15,7 +15,7 @@ use crate::reading::read_edits_to_end;
 use lrp_database::Database;
 use lrp_model::{DbFault, DbKind, List};
 use lrp_rel::{ReadFault, refusal};
-use lrp_text::{Cursor, place_behind};
+use lrp_text::{TokenCursor, place_behind};
 use std::alloc::Global;
 use std::str::from_utf8;
 
@@ -26,7 +26,7 @@ fn read_text(alloc: Global, text: &str, database: &Database) -> Result<Edits, Re
     ensures refused { IfErr result (AreEditsRefused text.now database.now) }
 {
     let headings = headings_of(alloc, database.as_slice())?;
-    let mut tokens = Cursor::new(text);
+    let mut tokens = TokenCursor::new(text);
     match read_edits_to_end(alloc, database, &headings, &mut tokens) {
         Ok(kept) => Ok(kept),
         Err(fault) => Err(refusal(fault, tokens.peek().place)),

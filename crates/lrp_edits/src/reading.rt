@@ -1,9 +1,8 @@
 // Edits, read from the tokens of a text: a written row is dropped as soon as what it means is kept.
 ghost use Rattle.std.specs.Prelude.{◌<◌, ℕ, length, IfOk, []};
-ghost use Rattle.lrp_text.specs.Parsers.{Reads, until_from};
+ghost use Rattle.lrp_text.specs.Parsers.{Reads, left_behind, until_from};
 ghost use Rattle.lrp_text.specs.Taking.{is_end};
-ghost use Rattle.lrp_rel.specs.Rules.{left_behind};
-ghost use Rattle.lrp_rel.specs.Gathered.{ReadsAs};
+ghost use Rattle.lrp_rel.specs.Gathered.{ReadsInto};
 ghost use Rattle.lrp_edits.specs.EditTexts.{FitsEdit};
 ghost use Rattle.lrp_edits.specs.EditRules.{change, edit, edits};
 ghost use Rattle.lrp_edits.specs.EditGathered.{AreEditsOf, AreHeadings};
@@ -12,12 +11,12 @@ use crate::edits::{Edits, RawEdit};
 use lrp_database::Database;
 use lrp_model::{Fault, List, Symbol};
 use lrp_rel::{Heading, read_label, read_placed_row};
-use lrp_text::Cursor;
+use lrp_text::TokenCursor;
 use std::alloc::Global;
 
 // Whether a row is added or taken out.
 #[tactic(auto, unfolding(crate::specs::EditRules::change))]
-fn read_change(tokens: &mut Cursor<'_>) -> Result<bool, Fault>
+fn read_change(tokens: &mut TokenCursor<'_>) -> Result<bool, Fault>
     ensures value { Reads (change tokens.old) result tokens.new }
     ensures fewer { IfOk result (λ _. length tokens.new < length tokens.old) }
 {
@@ -29,7 +28,7 @@ fn read_change(tokens: &mut Cursor<'_>) -> Result<bool, Fault>
 }
 
 #[tactic(auto, unfolding(crate::specs::EditRules::edit))]
-fn read_edit(alloc: Global, tokens: &mut Cursor<'_>) -> Result<RawEdit, Fault>
+fn read_edit(alloc: Global, tokens: &mut TokenCursor<'_>) -> Result<RawEdit, Fault>
     ensures value { (n : ℕ) → length tokens.old < n → Reads (edit n tokens.old) result tokens.new }
     ensures fits { IfOk result FitsEdit }
     ensures fewer { IfOk result (λ _. length tokens.new < length tokens.old) }
@@ -45,11 +44,11 @@ fn read_all(
     alloc: Global,
     database: &Database,
     headings: &List<Heading>,
-    tokens: &mut Cursor<'_>,
+    tokens: &mut TokenCursor<'_>,
 ) -> Result<Edits, Fault>
     requires { AreHeadings database.now headings.now }
     ensures { (n : ℕ) → length tokens.old < n
-        → ReadsAs (AreEditsOf database.now)
+        → ReadsInto (AreEditsOf database.now)
         (until_from (edit n) is_end n [] tokens.old) result tokens.new }
 {
     let mut kept = Edits::new(alloc);
@@ -68,11 +67,11 @@ pub fn read_edits_to_end(
     alloc: Global,
     database: &Database,
     headings: &List<Heading>,
-    tokens: &mut Cursor<'_>,
+    tokens: &mut TokenCursor<'_>,
 ) -> Result<Edits, Fault>
     requires { AreHeadings database.now headings.now }
     ensures { (n : ℕ) → length tokens.old < n
-        → ReadsAs (AreEditsOf database.now) (edits n tokens.old) result
+        → ReadsInto (AreEditsOf database.now) (edits n tokens.old) result
         (left_behind result tokens.new) }
 {
     let kept = read_all(alloc, database, headings, tokens)?;

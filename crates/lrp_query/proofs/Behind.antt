@@ -6,22 +6,23 @@ use Rattle.lrp_model.specs.declared.tokens.Symbol.TheVariants.{Open, Close, Comm
 use Rattle.lrp_model.specs.declared.tokens.Fault.TheVariants.{Syntax}
 use Rattle.lrp_model.specs.Tokens.{Token, Tokens}
 use Rattle.lrp_model.specs.Tokens.Token.{name_token, word_token, number_token, text_token, symbol_token, end_token, bad_token, hole_token}
-use Rattle.lrp_text.specs.Parsers.{Outcome, Parser, and_then, accept, look, eat}
+use Rattle.lrp_text.specs.Parsers.{ParseOutcome, Parser, and_then, accept, look, eat}
 use Rattle.lrp_text.specs.Taking.{is_name, is_name_token, expect, name}
 use Rattle.lrp_query.specs.declared.words.Leading.{Leading}
 use Rattle.lrp_query.specs.declared.words.Leading.TheVariants.{OfRange, OfPair}
-use Rattle.lrp_query.specs.Rules.{Trees, offset, named_term, comparing, tested, behind_name}
+use Rattle.lrp_text.specs.OffsetRule.{offset}
+use Rattle.lrp_query.specs.Rules.{Trees, named_term, comparing, tested, behind_name}
 use Rattle.lrp_query.specs.OperatorRules.{OperatorTrees, ranged, paired, operator, with_operators, variable, closed_by, ranged_parts, paired_parts}
 
 -- ---- part by part
 
 -- one parser after two others is one after the other two
-in_turn : {A B C : Type 0} (o : Outcome A) (f : A → Parser B) (g : B → Parser C) → and_then (and_then o f) g ≡ and_then o (λ a ts. and_then (f a ts) g)
+in_turn : {A B C : Type 0} (o : ParseOutcome A) (f : A → Parser B) (g : B → Parser C) → and_then (and_then o f) g ≡ and_then o (λ a ts. and_then (f a ts) g)
 in_turn (Ok q) f g = refl
 in_turn (Err e) f g = refl
 
 -- parsers that go on alike
-alike : {A B : Type 0} (o : Outcome A) (f g : A → Parser B) → ((a : A) (ts : Tokens) → f a ts ≡ g a ts) → and_then o f ≡ and_then o g
+alike : {A B : Type 0} (o : ParseOutcome A) (f g : A → Parser B) → ((a : A) (ts : Tokens) → f a ts ≡ g a ts) → and_then o f ≡ and_then o g
 alike (Ok q) f g h = h q.0 q.1
 alike (Err e) f g h = refl
 

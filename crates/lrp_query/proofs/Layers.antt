@@ -18,13 +18,14 @@ use Rattle.lrp_model.specs.Limits.{greatest_number}
 use Rattle.lrp_model.specs.Columns.{column_text}
 use Rattle.lrp_model.specs.Databases.{integer_text, comma}
 use Rattle.lrp_model.specs.Queries.{WrittenTerm, term_text, op_symbol, FitsTerm}
-use Rattle.lrp_text.specs.Parsers.{Parser, Outcome}
+use Rattle.lrp_text.specs.Parsers.{Parser, ParseOutcome}
 use Rattle.lrp_text.proofs.Complete.{Answers, answers_as, IsNot}
 use Rattle.lrp_text.proofs.Sound.{Sound}
 use Rattle.lrp_text.proofs.Viable.{ViableBelow, behind, fits_as}
 use Rattle.lrp_text.specs.Taking.{is_name}
 use Rattle.lrp_query.specs.Rules.{Trees, cut_at, behind_name}
-use Rattle.lrp_query.proofs.TermRules.{NoShift, written_terms}
+use Rattle.lrp_text.proofs.OffsetRule.{NoShift}
+use Rattle.lrp_query.proofs.TermRules.{written_terms}
 
 -- ---- layers
 
@@ -179,7 +180,7 @@ module _ {F X Q : Type 0} (g : Grammar F X Q) where
   rolled_stops d head ts e s = behind (λ c x. LayerTexts d c (head ++ x)) (λ c x. FormulaTexts (suc d) c (head ++ x)) [] ts ts e refl (λ c x r. rolled d c (head ++ x) r) s
 
   -- a formula is read back where its layer is
-  pub back_unrolled : (d : ℕ) (o : Outcome F) (w : F) (left : Tokens) → Answers o (g.roll (g.unroll w)) left (FitsLayer d (g.unroll w)) → Answers o w left (g.Fits (suc d) w)
+  pub back_unrolled : (d : ℕ) (o : ParseOutcome F) (w : F) (left : Tokens) → Answers o (g.roll (g.unroll w)) left (FitsLayer d (g.unroll w)) → Answers o w left (g.Fits (suc d) w)
   back_unrolled d o w left a =
       let R : F → Type 0 = λ f. Answers o f left (g.Fits (suc d) f) in
       subst R (g.unrolled w) (answers_as o (g.roll (g.unroll w)) left (FitsLayer d (g.unroll w)) (g.Fits (suc d) (g.roll (g.unroll w))) (g.fits_is d (g.unroll w)).0 a)

@@ -1,29 +1,22 @@
 -- The rules of queries are local, whatever they make.
 use Rattle.std.proofs.Common.{ℕ, zero, suc, false, [], ◌∷◌}
 use Rattle.lrp_model.specs.Texts.{Identifier}
-use Rattle.lrp_model.specs.declared.tokens.Symbol.TheVariants.{Open, Close, OpenBrace, CloseBrace, Comma, Bar, Plus, Minus}
+use Rattle.lrp_model.specs.declared.tokens.Symbol.TheVariants.{Open, Close, OpenBrace, CloseBrace, Comma, Bar, Plus}
 use Rattle.lrp_model.specs.declared.tokens.Word.TheVariants.{Letter, Exists, Forall, Not, And, Or, Implies, In}
 use Rattle.lrp_model.specs.declared.tokens.Place.{Place}
 use Rattle.lrp_model.specs.declared.tokens.Fault.TheVariants.{Deep}
 use Rattle.lrp_text.specs.Parsers.{Parser, accept, look, eat, listed, separated_from}
-use Rattle.lrp_text.specs.Taking.{is_symbol, is_word, expect, expect_word, name, number, period, text, is_text, is_name, expect_end, here}
+use Rattle.lrp_text.specs.Taking.{is_symbol, is_word, expect, expect_word, name, period, text, is_text, is_name, expect_end, here}
 use Rattle.lrp_text.specs.ColumnRule.{column}
 use Rattle.lrp_text.proofs.Local.{Local, bind_local, accept_local, pure_local, fail_local, eat_local, look_local, if_local, separated_local, listed_local}
 use Rattle.lrp_text.proofs.ColumnRule.{column_local}
 use Rattle.lrp_text.proofs.IntegerRule.{integer_local}
+use Rattle.lrp_text.proofs.OffsetRule.{offset_local}
 use Rattle.lrp_query.specs.declared.starts.Start.{Start}
 use Rattle.lrp_query.specs.declared.starts.Start.TheVariants.{Not as by_not, Exists as by_exists, Forall as by_forall, Open as by_open, Name as by_name, Term as by_term}
 use Rattle.lrp_text.specs.IntegerRule.{integer}
-use Rattle.lrp_query.specs.Rules.{TermTrees, Trees, BehindName, offset, named_term, unnamed_term, bare_term, term, op_of, point, comparing, tested, atom_terms, behind_name, named, unnamed, negated, existing, holding, implying, conjoined, disjoined, behind_first, enclosed, start_of, is_hole_token, started, formula_over, formula_with, query_with}
-
--- an offset depends on its tokens and on the next one alone
-pub offset_local : Local offset
-unfolding offset
-offset_local =
-    bind_local (eat (is_symbol Plus)) _ (eat_local _) (λ up.
-    if_local up _ _ (bind_local number _ (accept_local _) (λ k. pure_local _))
-    (bind_local (eat (is_symbol Minus)) _ (eat_local _) (λ down.
-    if_local down _ _ (bind_local number _ (accept_local _) (λ k. pure_local _)) (pure_local _))))
+use Rattle.lrp_text.specs.OffsetRule.{offset}
+use Rattle.lrp_query.specs.Rules.{TermTrees, Trees, BehindName, named_term, unnamed_term, bare_term, term, op_of, point, comparing, tested, atom_terms, behind_name, named, unnamed, negated, existing, holding, implying, conjoined, disjoined, behind_first, enclosed, start_of, is_hole_token, started, formula_over, formula_with, query_with}
 
 module _ {K T : Type 0} (make : TermTrees K T) where
   -- a name with or without an offset depends on its tokens and on the next one alone

@@ -14,8 +14,8 @@ use Rattle.lrp_model.specs.declared.written.Integer.{Integer}
 use Rattle.lrp_model.specs.Tokens.{Token, Placed, Tokens}
 use Rattle.lrp_model.specs.Tokens.Token.{name_token, word_token, number_token, text_token, symbol_token, end_token}
 use Rattle.lrp_model.specs.Refused.{Fitting}
-use Rattle.lrp_text.specs.Parsers.{Outcome, Parser, and_then, ◌>>=◌, pure, fail, accept, taken, look, eat, eaten, listed, separated_from}
-use Rattle.lrp_text.specs.Taking.{same_symbol, same_word, is_symbol, is_symbol_token, is_word, is_word_token, required, expect, expect_word, name, name_of, with_place, number, number_of, limited, period_of, counted, text_of, short_enough, is_text, is_name, is_end, is_end_token, here}
+use Rattle.lrp_text.specs.Parsers.{ParseOutcome, Parser, and_then, ◌>>=◌, pure, fail, accept, taken, look, eat, eaten, listed, separated_from}
+use Rattle.lrp_text.specs.Taking.{same_symbol, same_word, is_symbol, is_symbol_token, is_word, is_word_token, required, expect, expect_word, name, name_of, with_place, number, number_of, limited, period_of, limited_period, text_of, short_enough, is_text, is_name, is_end, is_end_token, here}
 use Rattle.lrp_text.specs.ColumnRule.{column, sort_of}
 use Rattle.lrp_text.proofs.Local.{Local, IsLocal, left_of, onto, listed_local, separated_local}
 use Rattle.lrp_text.proofs.Viable.{always}
@@ -24,9 +24,11 @@ use Rattle.lrp_text.proofs.ColumnRule.{column_local}
 use Rattle.lrp_query.specs.declared.starts.Start.{Start}
 use Rattle.lrp_query.specs.declared.starts.Start.TheVariants.{Not as by_not, Exists as by_exists, Forall as by_forall, Open as by_open, Name as by_name, Term as by_term}
 use Rattle.lrp_text.specs.IntegerRule.{integer}
-use Rattle.lrp_query.specs.Rules.{Trees, BehindName, unmoved, moved_by, offset, named_term, unnamed_term, bare_term, term, op_of, point, comparing, tested, atom_terms, behind_name, named, unnamed, negated, existing, holding, implying, conjoined, disjoined, behind_first, enclosed, start_of, is_hole_token, started, formula_over, formula_with, query_with}
+use Rattle.lrp_text.specs.OffsetRule.{unmoved, moved_by, offset}
+use Rattle.lrp_query.specs.Rules.{Trees, BehindName, named_term, unnamed_term, bare_term, term, op_of, point, comparing, tested, atom_terms, behind_name, named, unnamed, negated, existing, holding, implying, conjoined, disjoined, behind_first, enclosed, start_of, is_hole_token, started, formula_over, formula_with, query_with}
 use Rattle.lrp_text.proofs.IntegerRule.{integer_local}
-use Rattle.lrp_query.proofs.LocalRules.{offset_local, named_term_local, unnamed_term_local, bare_term_local, term_local, formula_local}
+use Rattle.lrp_text.proofs.OffsetRule.{offset_local}
+use Rattle.lrp_query.proofs.LocalRules.{named_term_local, unnamed_term_local, bare_term_local, term_local, formula_local}
 
 -- trees of which nothing is kept, where each token is marked at which a formula would be too deep
 abbrev pub marking : Trees (Unit {0}) (Unit {0}) (Unit {0}) (Unit {0})
@@ -76,7 +78,7 @@ pub data Why {A : Type 0} (late : Bool) (p : Parser A) (ts : Tokens) (e : Fault 
   mark : (front : Tokens) → Fitting late (NotEmpty front) → ts ≡ front ++ e.1 → NoHoles front → e.0 ≡ Memory → ((b : Placed) (y : Tokens) → p (front ++ b ∷ y) ≡ Err (Memory, b ∷ y)) → Why late p ts e
 
 -- what a reader tells by its outcome
-abbrev pub Told : {A : Type 0} → Bool → Parser A → Tokens → Outcome A → Type 0
+abbrev pub Told : {A : Type 0} → Bool → Parser A → Tokens → ParseOutcome A → Type 0
 Told late p ts (Ok q) = Took ts q.1
 Told late p ts (Err e) = Why late p ts e
 
@@ -125,7 +127,7 @@ why_sooner p ts e (at_hole t us d w h) = at_hole t us d w h
 why_sooner p ts e (mark front ne w clean k all) = mark front tt w clean k all
 
 -- the same by the outcome
-told_sooner : {A : Type 0} (p : Parser A) (ts : Tokens) (o : Outcome A) → Told true p ts o → Told false p ts o
+told_sooner : {A : Type 0} (p : Parser A) (ts : Tokens) (o : ParseOutcome A) → Told true p ts o → Told false p ts o
 told_sooner p ts (Ok q) t = t
 told_sooner p ts (Err e) w = why_sooner p ts e w
 
@@ -140,7 +142,7 @@ as_late true p t = t
 as_late false p t = sooner true p t
 
 -- a reader that reads on from the first token as another does
-same_first : {A : Type 0} (g h : Parser A) (t : Placed) (ts : Tokens) (o : Outcome A) → ((us : Tokens) → h (t ∷ us) ≡ g (t ∷ us)) → Told true g (t ∷ ts) o → Told true h (t ∷ ts) o
+same_first : {A : Type 0} (g h : Parser A) (t : Placed) (ts : Tokens) (o : ParseOutcome A) → ((us : Tokens) → h (t ∷ us) ≡ g (t ∷ us)) → Told true g (t ∷ ts) o → Told true h (t ∷ ts) o
 same_first g h t ts (Ok q) same w = w
 same_first g h t ts (Err e) same (plain k) = plain k
 same_first g h t ts (Err e) same (at_hole u us d w k) = at_hole u us d w k
@@ -150,7 +152,7 @@ same_first g h t ts (Err e) same (mark (c ∷ cs) ne w clean k all) =
     mark (c ∷ cs) ne w clean k (λ b y. subst (λ x. h (x ∷ (cs ++ b ∷ y)) ≡ g (x ∷ (cs ++ b ∷ y))) one (same (cs ++ b ∷ y)) ∙ all b y)
 
 -- the same where no token stands
-empty_first : {A : Type 0} (g h : Parser A) (o : Outcome A) → Told true g [] o → Told true h [] o
+empty_first : {A : Type 0} (g h : Parser A) (o : ParseOutcome A) → Told true g [] o → Told true h [] o
 empty_first g h (Ok q) w = w
 empty_first g h (Err e) (plain k) = plain k
 empty_first g h (Err e) (at_hole u us d w k) = at_hole u us d w k
@@ -158,7 +160,7 @@ empty_first g h (Err e) (mark [] ne w clean k all) = absurd ne
 empty_first g h (Err e) (mark (c ∷ cs) ne w clean k all) = absurd cc
 
 -- a token in front of what another reader tells
-behind_token : {A : Type 0} (g h : Parser A) (t : Placed) (ts : Tokens) (o : Outcome A) → is_hole_token t.token ≡ false → ((us : Tokens) → h (t ∷ us) ≡ g us) → Told false g ts o → Told true h (t ∷ ts) o
+behind_token : {A : Type 0} (g h : Parser A) (t : Placed) (ts : Tokens) (o : ParseOutcome A) → is_hole_token t.token ≡ false → ((us : Tokens) → h (t ∷ us) ≡ g us) → Told false g ts o → Told true h (t ∷ ts) o
 behind_token g h t ts (Ok q) n same w = record { front = t ∷ w.front; whole = ap (λ x. t ∷ x) w.whole; clean = (n, w.clean) }
 behind_token g h t ts (Err e) n same (plain k) = plain k
 behind_token g h t ts (Err e) n same (at_hole u us d w k) = at_hole u us d w k
@@ -200,7 +202,7 @@ look_then none test f next [] = empty_first (f none) (look none test >>= f) (f n
 look_then none test f next (t ∷ ts) = same_first (f (test t)) (look none test >>= f) t ts (f (test t) (t ∷ ts)) (λ us. refl) (next (test t) (t ∷ ts))
 
 -- behind what was read, a reader that marks no token at once
-second_at : {A B : Type 0} (late : Bool) (p : Parser A) (f : A → Parser B) (ts : Tokens) (q : A × Tokens) → p ts ≡ Ok q → Took ts q.1 → IsLocal p ts → (o : Outcome B) → Told true (f q.0) q.1 o → Told late (p >>= f) ts o
+second_at : {A B : Type 0} (late : Bool) (p : Parser A) (f : A → Parser B) (ts : Tokens) (q : A × Tokens) → p ts ≡ Ok q → Took ts q.1 → IsLocal p ts → (o : ParseOutcome B) → Told true (f q.0) q.1 o → Told late (p >>= f) ts o
 second_at late p f ts q is took l (Ok r) w = took_join ts q.1 r.1 took w
 second_at late p f ts q is took l (Err e) (plain k) = plain k
 second_at late p f ts q is took l (Err e) (at_hole t us d w k) = at_hole t us d w k
@@ -213,7 +215,7 @@ second_at {A} late p f ts q is took l (Err e) (mark (c ∷ cs) ne w clean k all)
     (λ b y. ap (λ x. and_then (p x) f) (append_assoc took.front (c ∷ cs) (b ∷ y)) ∙ ap (λ x. and_then x f) (again (cs ++ b ∷ y)) ∙ all b y)
 
 -- one reader, and then one that marks no token at once
-bind_at : {A B : Type 0} (late : Bool) (p : Parser A) (f : A → Parser B) (ts : Tokens) (o : Outcome A) → p ts ≡ o → Told late p ts o → IsLocal p ts → ((a : A) → Tells true (f a)) → Told late (p >>= f) ts (and_then o f)
+bind_at : {A B : Type 0} (late : Bool) (p : Parser A) (f : A → Parser B) (ts : Tokens) (o : ParseOutcome A) → p ts ≡ o → Told late p ts o → IsLocal p ts → ((a : A) → Tells true (f a)) → Told late (p >>= f) ts (and_then o f)
 bind_at late p f ts (Ok q) is took l next = second_at late p f ts q is took l (f q.0 q.1) (next q.0 q.1)
 bind_at late p f ts (Err e) is (plain k) l next = plain k
 bind_at late p f ts (Err e) is (at_hole t us d w k) l next = at_hole t us d w k
@@ -251,7 +253,7 @@ pub record Fixed {A : Type 0} (p : Parser A) (ts : Tokens) (q : A × Tokens) : T
   pub same : (y : Tokens) → p (front ++ y) ≡ Ok (q.0, y)
 
 -- the same by the outcome
-abbrev pub FixedAt : {A : Type 0} → Parser A → Tokens → Outcome A → Type 0
+abbrev pub FixedAt : {A : Type 0} → Parser A → Tokens → ParseOutcome A → Type 0
 FixedAt p ts (Ok q) = Fixed p ts q
 FixedAt p ts (Err e) = IsPlain e.0
 
@@ -272,7 +274,7 @@ fixed_accept test leaf [] = tt
 fixed_accept test leaf (t ∷ ts) = fixed_at test t ts (test t) refl (leaf t)
 
 -- one after the other
-fixed_second : {A B : Type 0} (p : Parser A) (f : A → Parser B) (ts : Tokens) (q : A × Tokens) → Fixed p ts q → (o : Outcome B) → FixedAt (f q.0) q.1 o → FixedAt (p >>= f) ts o
+fixed_second : {A B : Type 0} (p : Parser A) (f : A → Parser B) (ts : Tokens) (q : A × Tokens) → Fixed p ts q → (o : ParseOutcome B) → FixedAt (f q.0) q.1 o → FixedAt (p >>= f) ts o
 fixed_second p f ts q a (Ok r) b = record {
   front = a.front ++ b.front;
   whole = a.whole ∙ ap (λ x. a.front ++ x) b.whole ∙ sym (append_assoc a.front b.front r.1);
@@ -282,7 +284,7 @@ fixed_second p f ts q a (Ok r) b = record {
 fixed_second p f ts q a (Err e) b = b
 
 -- the same by the first one's outcome
-fixed_first : {A B : Type 0} (p : Parser A) (f : A → Parser B) (ts : Tokens) (o : Outcome A) → FixedAt p ts o → ((a : A) → IsFixed (f a)) → FixedAt (p >>= f) ts (and_then o f)
+fixed_first : {A B : Type 0} (p : Parser A) (f : A → Parser B) (ts : Tokens) (o : ParseOutcome A) → FixedAt p ts o → ((a : A) → IsFixed (f a)) → FixedAt (p >>= f) ts (and_then o f)
 fixed_first p f ts (Ok q) a next = fixed_second p f ts q a (f q.0 q.1) (next q.0 q.1)
 fixed_first p f ts (Err e) a next = a
 
@@ -295,19 +297,19 @@ pub fixed_pure : {A : Type 0} (a : A) → IsFixed (pure a)
 fixed_pure a ts = record { front = []; whole = refl; clean = tt; same = λ y. refl }
 
 -- it tells by its outcome
-fixed_told : {A : Type 0} (late : Bool) (p : Parser A) (ts : Tokens) (o : Outcome A) → FixedAt p ts o → Told late p ts o
+fixed_told : {A : Type 0} (late : Bool) (p : Parser A) (ts : Tokens) (o : ParseOutcome A) → FixedAt p ts o → Told late p ts o
 fixed_told late p ts (Ok q) a = record { front = a.front; whole = a.whole; clean = a.clean }
 fixed_told late p ts (Err e) a = plain a
 
 -- behind it
-behind_fixed : {A B : Type 0} (p : Parser A) (f : A → Parser B) (ts : Tokens) (q : A × Tokens) → Fixed p ts q → (o : Outcome B) → Told false (f q.0) q.1 o → Told false (p >>= f) ts o
+behind_fixed : {A B : Type 0} (p : Parser A) (f : A → Parser B) (ts : Tokens) (q : A × Tokens) → Fixed p ts q → (o : ParseOutcome B) → Told false (f q.0) q.1 o → Told false (p >>= f) ts o
 behind_fixed p f ts q a (Ok r) w = took_join ts q.1 r.1 (record { front = a.front; whole = a.whole; clean = a.clean }) w
 behind_fixed p f ts q a (Err e) (plain k) = plain k
 behind_fixed p f ts q a (Err e) (at_hole t us d w k) = at_hole t us d w k
 behind_fixed p f ts q a (Err e) (mark front ne w clean k all) = mark (a.front ++ front) tt (a.whole ∙ ap (λ x. a.front ++ x) w ∙ sym (append_assoc a.front front e.1)) (holes_join a.front front a.clean clean) k (λ b y. ap (λ x. and_then (p x) f) (append_assoc a.front front (b ∷ y)) ∙ ap (λ x. and_then x f) (a.same (front ++ b ∷ y)) ∙ all b y)
 
 -- the same by the outcome
-fixed_then_at : {A B : Type 0} (p : Parser A) (f : A → Parser B) (ts : Tokens) (o : Outcome A) → FixedAt p ts o → ((a : A) → Tells false (f a)) → Told false (p >>= f) ts (and_then o f)
+fixed_then_at : {A B : Type 0} (p : Parser A) (f : A → Parser B) (ts : Tokens) (o : ParseOutcome A) → FixedAt p ts o → ((a : A) → Tells false (f a)) → Told false (p >>= f) ts (and_then o f)
 fixed_then_at p f ts (Ok q) a next = behind_fixed p f ts q a (f q.0 q.1) (next q.0 q.1)
 fixed_then_at p f ts (Err e) a next = plain a
 
@@ -353,7 +355,7 @@ number_leaf (number_token n) = limited_leaf n n (nat_le n 4611686018427387904)
 number_leaf _ = tt
 
 -- a number that is not 0
-counted_leaf : (n : ℕ) (b : Bool) → LeafAt (number_token n) (counted n b)
+counted_leaf : (n : ℕ) (b : Bool) → LeafAt (number_token n) (limited_period n b)
 counted_leaf n true = tt
 counted_leaf n false = limited_leaf n n (nat_le n 4611686018427387904)
 

@@ -13,19 +13,20 @@ use Rattle.lrp_model.specs.Tokens.{Token, Placed, Tokens}
 use Rattle.lrp_model.specs.Tokens.Token.{name_token, word_token, number_token, text_token, symbol_token, end_token, bad_token, hole_token}
 use Rattle.lrp_model.specs.Queries.{WrittenTerm}
 use Rattle.lrp_model.specs.Queries.WrittenTerm.{integer as integer_term, text_term}
-use Rattle.lrp_text.specs.Parsers.{Outcome, Parser, and_then, pure, accept, look, eat, listed, separated_from, taken}
+use Rattle.lrp_text.specs.Parsers.{ParseOutcome, Parser, and_then, pure, accept, look, eat, listed, separated_from, taken}
 use Rattle.lrp_text.specs.Taking.{is_symbol, is_word, expect, expect_word, name, period, text, is_text, is_name, expect_end, here}
 use Rattle.lrp_text.specs.ColumnRule.{column}
 use Rattle.lrp_text.proofs.Sound.{bind_ok}
 use Rattle.lrp_query.specs.declared.starts.Start.{Start}
 use Rattle.lrp_query.specs.declared.starts.Start.TheVariants.{Not as by_not, Exists as by_exists, Forall as by_forall, Open as by_open, Name as by_name, Term as by_term}
 use Rattle.lrp_text.specs.IntegerRule.{integer}
-use Rattle.lrp_query.specs.Rules.{Trees, BehindName, cut_at, offset, with_offset, named_term, unnamed_term, bare_term, term, op_of, point, comparing, tested, atom_terms, behind_name, named, unnamed, negated, existing, holding, implying, conjoined, disjoined, behind_first, enclosed, start_of, is_hole_token, started, formula_over, formula_with, query_with}
+use Rattle.lrp_text.specs.OffsetRule.{offset}
+use Rattle.lrp_query.specs.Rules.{Trees, BehindName, cut_at, with_offset, named_term, unnamed_term, bare_term, term, op_of, point, comparing, tested, atom_terms, behind_name, named, unnamed, negated, existing, holding, implying, conjoined, disjoined, behind_first, enclosed, start_of, is_hole_token, started, formula_over, formula_with, query_with}
 
 -- ---- outcomes
 
 -- the outcome with another value
-abbrev pub mapped : {A B : Type 0} → (A → B) → Outcome A → Outcome B
+abbrev pub mapped : {A B : Type 0} → (A → B) → ParseOutcome A → ParseOutcome B
 mapped h (Ok q) = Ok (h q.0, q.1)
 mapped h (Err e) = Err e
 
@@ -35,7 +36,7 @@ result_map h (Ok a) = Ok (h a)
 result_map h (Err k) = Err k
 
 -- the second one was marked at a token where a formula would be too deep; the first one has the fault that `cut` gives there
-pub record Marked {F A B : Type 0} (E : Type 0) (cut : Placed → Result F Fault) (o : Outcome A) (p : Outcome B) : Type 0 where
+pub record Marked {F A B : Type 0} (E : Type 0) (cut : Placed → Result F Fault) (o : ParseOutcome A) (p : ParseOutcome B) : Type 0 where
   pub allowed : E
   pub token : Placed
   pub rest : Tokens
@@ -43,11 +44,11 @@ pub record Marked {F A B : Type 0} (E : Type 0) (cut : Placed → Result F Fault
   pub cause : (k : Fault) → cut token ≡ Err k → o ≡ Err (k, token ∷ rest)
 
 -- the same outcome with another value, or one that was marked
-abbrev pub Same : {F A B : Type 0} → Type 0 → (Placed → Result F Fault) → (A → B) → Outcome A → Outcome B → Type 0
+abbrev pub Same : {F A B : Type 0} → Type 0 → (Placed → Result F Fault) → (A → B) → ParseOutcome A → ParseOutcome B → Type 0
 Same E cut h o p = (p ≡ mapped h o) ⊎ Marked E cut o p
 
 -- where no token may be marked, nothing else is told
-pub unmarked : {F A B : Type 0} {cut : _} (h : A → B) (o : Outcome A) (p : Outcome B) → Same {F = F} ⊥ cut h o p → p ≡ mapped h o
+pub unmarked : {F A B : Type 0} {cut : _} (h : A → B) (o : ParseOutcome A) (p : ParseOutcome B) → Same {F = F} ⊥ cut h o p → p ≡ mapped h o
 unmarked h o p (inl e) = e
 unmarked h o p (inr m) = absurd m.allowed
 
@@ -108,17 +109,17 @@ some_read p comma (suc n) found ts q e =
 
 module _ {F : Type 0} (E : Type 0) (cut : Placed → Result F Fault) where
   -- behind something that both read alike
-  pub leaf : {A B C : Type 0} (o : Outcome A) (f : A → Parser B) (g : A → Parser C) (h : B → C) → ((a : A) (us : Tokens) → Same E cut h (f a us) (g a us)) → Same E cut h (and_then o f) (and_then o g)
+  pub leaf : {A B C : Type 0} (o : ParseOutcome A) (f : A → Parser B) (g : A → Parser C) (h : B → C) → ((a : A) (us : Tokens) → Same E cut h (f a us) (g a us)) → Same E cut h (and_then o f) (and_then o g)
   leaf (Ok q) f g h onward = onward q.0 q.1
   leaf (Err e) f g h onward = inl refl
 
   -- behind something that one reads as the other does
-  pub bind_at : {A B C D : Type 0} (o : Outcome A) (p : Outcome B) (k : A → B) (f : A → Parser C) (g : B → Parser D) (h : C → D) → p ≡ mapped k o → ((a : A) (us : Tokens) → o ≡ Ok (a, us) → Same E cut h (f a us) (g (k a) us)) → Same E cut h (and_then o f) (and_then p g)
+  pub bind_at : {A B C D : Type 0} (o : ParseOutcome A) (p : ParseOutcome B) (k : A → B) (f : A → Parser C) (g : B → Parser D) (h : C → D) → p ≡ mapped k o → ((a : A) (us : Tokens) → o ≡ Ok (a, us) → Same E cut h (f a us) (g (k a) us)) → Same E cut h (and_then o f) (and_then p g)
   bind_at (Ok q) p k f g h e onward = subst (λ x. Same E cut h (f q.0 q.1) (and_then x g)) (sym e) (onward q.0 q.1 refl)
   bind_at (Err x) p k f g h e onward = inl (ap (λ y. and_then y g) e)
 
   -- the same, where the first one may be marked
-  pub bind : {A B C D : Type 0} (o : Outcome A) (p : Outcome B) (k : A → B) (f : A → Parser C) (g : B → Parser D) (h : C → D) → Same E cut k o p → ((a : A) (us : Tokens) → o ≡ Ok (a, us) → Same E cut h (f a us) (g (k a) us)) → Same E cut h (and_then o f) (and_then p g)
+  pub bind : {A B C D : Type 0} (o : ParseOutcome A) (p : ParseOutcome B) (k : A → B) (f : A → Parser C) (g : B → Parser D) (h : C → D) → Same E cut k o p → ((a : A) (us : Tokens) → o ≡ Ok (a, us) → Same E cut h (f a us) (g (k a) us)) → Same E cut h (and_then o f) (and_then p g)
   bind o p k f g h (inl e) onward = bind_at o p k f g h e onward
   bind o p k f g h (inr m) onward = inr (record { allowed = m.allowed; token = m.token; rest = m.rest; marked = ap (λ x. and_then x g) m.marked; cause = λ j c. ap (λ x. and_then x f) (m.cause j c) })
 

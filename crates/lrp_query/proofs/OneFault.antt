@@ -9,47 +9,34 @@ use Rattle.lrp_model.specs.declared.faults.QueryKind.TheVariants.{Utf8, Syntax, 
 use Rattle.lrp_model.specs.Tokens.{Placed, Tokens}
 use Rattle.lrp_model.specs.Lexing.{tokens}
 use Rattle.lrp_model.specs.Refused.{IsCause}
-use Rattle.lrp_model.specs.DatabaseReading.{IsNoUtf8}
-use Rattle.lrp_text.proofs.OneCause.{same_token, same_front, second_cause, for_syntax, IsShown, apart_syntax, same_kind}
-use Rattle.lrp_text.proofs.LongestFront.{not_cut, same_cut}
+use Rattle.lrp_text.proofs.OneCause.{same_front, second_cause, for_syntax, IsShown, apart_syntax}
+use Rattle.lrp_text.proofs.OneFault.{at_token, same_place, shown_kind, IsCutOrMet, both_once}
 use Rattle.lrp_model.specs.TextFaults.{Grammatical, IsRankedIn, IsNoTextOf, IsTextFault, IsTextFaultOf}
 
 -- two refusals of one text
 module _ (Texts : Grammatical) (bytes : List ℕ) (k l : TokenFault) (p q : Place) (r : IsNoTextOf Texts bytes k p) (s : IsNoTextOf Texts bytes l q) where
-  -- they stand at one token
-  at_token : r.bad ≡ s.bad
-  at_token = same_token Texts (tokens bytes) k l r.bad s.bad r.tail s.tail r.refused s.refused
-
-  -- and at one place
-  pub same_place : p ≡ q
-  same_place = r.place_is ∙ ap (λ t. t.place) at_token ∙ sym s.place_is
-
-  -- behind the same tokens
-  behind_front : r.refused.front ≡ s.refused.front
-  behind_front = same_front Texts (tokens bytes) k l r.bad s.bad r.tail s.tail r.refused s.refused
+  -- they stand behind the same tokens
+  behind_front : r.refusal.refused.front ≡ s.refusal.refused.front
+  behind_front = same_front Texts (tokens bytes) k l r.refusal.bad s.refusal.bad r.refusal.tail s.refusal.tail r.refusal.refused s.refusal.refused
 
   -- the second one's rank, at the token of the first
-  second_rank : IsRankedIn Texts l r.refused.front r.bad.token
+  second_rank : IsRankedIn Texts l r.refusal.refused.front r.refusal.bad.token
   second_rank =
-      let P : Placed → Type 0 = λ t. IsRankedIn Texts l s.refused.front t.token in
-      let Q : Tokens → Type 0 = λ f. IsRankedIn Texts l f r.bad.token in
-      subst Q (sym behind_front) (subst P (sym at_token) s.ranked)
+      let P : Placed → Type 0 = λ t. IsRankedIn Texts l s.refusal.refused.front t.token in
+      let Q : Tokens → Type 0 = λ f. IsRankedIn Texts l f r.refusal.bad.token in
+      subst Q (sym behind_front) (subst P (sym (at_token Texts bytes k l p q r.refusal s.refusal)) s.ranked)
 
   -- two ranks that exclude each other
-  pub ranks : (IsRankedIn Texts k r.refused.front r.bad.token → IsRankedIn Texts l r.refused.front r.bad.token → ⊥) → ⊥
+  pub ranks : (IsRankedIn Texts k r.refusal.refused.front r.refusal.bad.token → IsRankedIn Texts l r.refusal.refused.front r.refusal.bad.token → ⊥) → ⊥
   ranks a = a r.ranked second_rank
 
   -- a rank of the first that excludes a cause of the second
-  pub rank_or_cause : (IsRankedIn Texts k r.refused.front r.bad.token → IsCause l r.bad.token → ⊥) → ⊥
-  rank_or_cause a = a r.ranked (second_cause Texts (tokens bytes) k l r.bad s.bad r.tail s.tail r.refused s.refused)
+  pub rank_or_cause : (IsRankedIn Texts k r.refusal.refused.front r.refusal.bad.token → IsCause l r.refusal.bad.token → ⊥) → ⊥
+  rank_or_cause a = a r.ranked (second_cause Texts (tokens bytes) k l r.refusal.bad s.refusal.bad r.refusal.tail s.refusal.tail r.refusal.refused s.refusal.refused)
 
   -- where one is for the syntax, so is the other
   pub both_syntax : k ≡ syntax → (l ≡ syntax → ⊥) → ⊥
-  both_syntax = for_syntax Texts (tokens bytes) k l r.bad s.bad r.tail s.tail r.refused s.refused
-
-  -- kinds that tokens show by themselves are one
-  pub shown_kind : IsShown k → IsShown l → k ≡ l
-  shown_kind = same_kind Texts (tokens bytes) k l r.bad s.bad r.tail s.tail r.refused s.refused
+  both_syntax = for_syntax Texts (tokens bytes) k l r.refusal.bad s.refusal.bad r.refusal.tail s.refusal.tail r.refusal.refused s.refusal.refused
 
 -- the kinds that are met while a text is read
 abbrev IsMet : TokenFault → Type 0
@@ -90,7 +77,7 @@ module _ (Texts : Grammatical) where
   -- two refusals of one text are for one kind, where each is for the depth or a token shows it
   either_kind : (bytes : List ℕ) (k l : TokenFault) (p q : Place) → IsNoTextOf Texts bytes k p → IsNoTextOf Texts bytes l q → (k ≡ deep) ⊎ IsShown k → (l ≡ deep) ⊎ IsShown l → k ≡ l
   either_kind bytes k l p q r s (inl e) (inl d) = e ∙ sym d
-  either_kind bytes k l p q r s (inr m) (inr n) = shown_kind Texts bytes k l p q r s m n
+  either_kind bytes k l p q r s (inr m) (inr n) = shown_kind Texts bytes k l p q r.refusal s.refusal m n
   either_kind bytes k l p q r s (inl e) (inr n) = let P : TokenFault → Type 0 = λ j. IsNoTextOf Texts bytes j p in absurd (never_alone bytes l p q (subst P e r) s n)
   either_kind bytes k l p q r s (inr m) (inl d) = let P : TokenFault → Type 0 = λ j. IsNoTextOf Texts bytes j q in absurd (never_alone bytes k q p (subst P d s) r m)
 
@@ -98,19 +85,18 @@ module _ (Texts : Grammatical) where
   one_kind : (bytes : List ℕ) (k l : TokenFault) (p q : Place) → IsNoTextOf Texts bytes k p → IsNoTextOf Texts bytes l q → IsMet k → IsMet l → k ≡ l
   one_kind bytes k l p q r s m n = either_kind bytes k l p q r s (met_kind k m) (met_kind l n)
 
-  -- a fault is one of the bytes, or one that was met
-  data Group (bytes : List ℕ) (k : QueryKind) (p : Place) : Type 0 where
-    cut : k ≡ Utf8 → IsNoUtf8 bytes p → Group bytes k p
-    met : (j : TokenFault) → IsMet j → k ≡ kind_met j → IsNoTextOf Texts bytes j p → Group bytes k p
+  -- a fault that was met
+  abbrev IsMetAt : List ℕ → TokenFault → Place → Type 0
+  IsMetAt bytes j p = IsMet j × IsNoTextOf Texts bytes j p
 
-  -- which of both
-  group_of : (bytes : List ℕ) (k : QueryKind) (f : QueryFault) → IsTextFaultOf Texts bytes k f → Group bytes k f.place
-  group_of bytes Utf8 f r = cut refl r
-  group_of bytes Syntax f r = met syntax tt refl r
-  group_of bytes Number f r = met number tt refl r
-  group_of bytes TextTooLong f r = met text_too_long tt refl r
-  group_of bytes Period f r = met period tt refl r
-  group_of bytes Deep f r = met deep tt refl r
+  -- a fault is one of the bytes, or one that was met
+  group_of : (bytes : List ℕ) (k : QueryKind) (f : QueryFault) → IsTextFaultOf Texts bytes k f → IsCutOrMet Utf8 kind_met (IsMetAt bytes) bytes k f.place
+  group_of bytes Utf8 f r = inl (refl, r)
+  group_of bytes Syntax f r = inr (syntax, refl, (tt, r))
+  group_of bytes Number f r = inr (number, refl, (tt, r))
+  group_of bytes TextTooLong f r = inr (text_too_long, refl, (tt, r))
+  group_of bytes Period f r = inr (period, refl, (tt, r))
+  group_of bytes Deep f r = inr (deep, refl, (tt, r))
   group_of bytes UnknownRelation f r = absurd r
   group_of bytes Arity f r = absurd r
   group_of bytes Sort f r = absurd r
@@ -119,15 +105,12 @@ module _ (Texts : Grammatical) where
   group_of bytes Wide f r = absurd r
   group_of bytes UnknownSort f r = absurd r
 
-  -- two faults are one
-  both_once : (bytes : List ℕ) (k l : QueryKind) (p q : Place) → Group bytes k p → Group bytes l q → (k ≡ l) × (p ≡ q)
-  both_once bytes k l p q (cut e a) (cut d b) = (e ∙ sym d, same_cut bytes p q a b)
-  both_once bytes k l p q (cut e a) (met j m d s) = absurd (not_cut bytes p s.utf8 a)
-  both_once bytes k l p q (met j m e r) (cut d b) = absurd (not_cut bytes q r.utf8 b)
-  both_once bytes k l p q (met j m e r) (met i n d s) = (e ∙ ap kind_met (one_kind bytes j i p q r s m n) ∙ sym d, same_place Texts bytes j i p q r s)
+  -- those that were met are one
+  met_once : (bytes : List ℕ) (j i : TokenFault) (p q : Place) → IsMetAt bytes j p → IsMetAt bytes i q → (j ≡ i) × (p ≡ q)
+  met_once bytes j i p q r s = (one_kind bytes j i p q r.1 s.1 r.0 s.0, same_place Texts bytes j i p q r.1.refusal s.1.refusal)
 
   -- a text has at most one fault
   pub fault_once : (bytes : List ℕ) (f g : QueryFault) → IsTextFault Texts bytes f → IsTextFault Texts bytes g → f ≡ g
   fault_once bytes f g a b =
-      let h = both_once bytes f.kind g.kind f.place g.place (group_of bytes f.kind f a) (group_of bytes g.kind g b) in
+      let h = both_once Utf8 kind_met (IsMetAt bytes) bytes (λ j p m. m.1.refusal.utf8) (met_once bytes) f.kind g.kind f.place g.place (group_of bytes f.kind f a) (group_of bytes g.kind g b) in
       ap (λ k. fault_of k f.place) h.0 ∙ ap (fault_of g.kind) h.1

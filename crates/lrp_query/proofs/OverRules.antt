@@ -27,9 +27,11 @@ use Rattle.lrp_text.proofs.Sound.{takes_split, takes_shorter}
 use Rattle.lrp_text.proofs.TokenTests.{word_seen, word_required, expect_seen}
 use Rattle.lrp_text.proofs.LocatedRule.{takes_from}
 use Rattle.lrp_text.proofs.ColumnRule.{column_back}
-use Rattle.lrp_query.specs.Rules.{Offset, unmoved, moved_by, unnamed_term, tested, unnamed, negated, existing, holding, implying, conjoined, disjoined, behind_first, enclosed, start_of, is_hole_token, started, named, behind_name, formula_over}
+use Rattle.lrp_text.specs.OffsetRule.{Offset, unmoved, moved_by}
+use Rattle.lrp_query.specs.Rules.{unnamed_term, tested, unnamed, negated, existing, holding, implying, conjoined, disjoined, behind_first, enclosed, start_of, is_hole_token, started, named, behind_name, formula_over}
 use Rattle.lrp_query.proofs.Layers.{Layer, atom, compared, member, denied, all_of, any_of, implied, group, some, every, hole, other, Grammar, trees, text_of, FitsLayer, BehindRules, back_unrolled, takes_unrolled}
-use Rattle.lrp_query.proofs.TermRules.{NoShift, written_terms, offset_text, quoted_back, integer_term_back, term_leads, placed_text}
+use Rattle.lrp_text.proofs.OffsetRule.{NoShift, offset_text}
+use Rattle.lrp_query.proofs.TermRules.{written_terms, quoted_back, integer_term_back, term_leads, placed_text}
 use Rattle.lrp_query.proofs.Below.{separated_below}
 use Rattle.lrp_query.proofs.TestRules.{symbol_at, point_text, test_point_back, test_compared_back, Ends, name_test_back, name_atom_back, zero_term, zero_tokens}
 

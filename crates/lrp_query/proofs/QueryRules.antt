@@ -13,7 +13,7 @@ use Rattle.lrp_model.specs.Tokens.Part.{at, any}
 use Rattle.lrp_model.specs.Columns.{sort_token, column_text}
 use Rattle.lrp_model.specs.Databases.{comma}
 use Rattle.lrp_model.specs.Refused.{Stops, TextOf, IsRefusedAt}
-use Rattle.lrp_text.specs.Parsers.{Outcome, Parser, listed}
+use Rattle.lrp_text.specs.Parsers.{ParseOutcome, Parser, listed}
 use Rattle.lrp_text.specs.Taking.{is_symbol, is_symbol_token, expect, expect_end}
 use Rattle.lrp_text.specs.ColumnRule.{column}
 use Rattle.lrp_text.proofs.Complete.{Answers, Anything, Sees, answers_then, answers_as, accepts_back, first_sees_any, first_sees_at, first_is_not, MemberBack, listed_back, separated_long}
@@ -237,7 +237,7 @@ module _ {F X Q : Type 0} (grammar : Grammar F X Q) where
     whole a = (a, [])
 
     -- the same outcome gives one tree
-    one_answer : (o : Outcome Q) (a b : Q) (L M : Type 0) → L → Answers o a [] L → Answers o b [] M → a ≡ b
+    one_answer : (o : ParseOutcome Q) (a b : Q) (L M : Type 0) → L → Answers o a [] L → Answers o b [] M → a ≡ b
     one_answer o a b L M l (inl e) (inl d) = let h : whole a ≡ whole b = cc in ap (λ p. p.0) h
     one_answer o a b L M l (inl e) (inr d) = cc d.is
     one_answer o a b L M l (inr e) d = absurd (e.unlawful l)

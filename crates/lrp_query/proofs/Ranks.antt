@@ -9,7 +9,7 @@ use Rattle.lrp_model.specs.Tokens.{Token, Placed, Tokens, Takes, Spells}
 use Rattle.lrp_model.specs.Tokens.Token.{name_token, word_token, number_token, text_token, symbol_token, hole_token}
 use Rattle.lrp_model.specs.Refused.{IsCause}
 use Rattle.lrp_model.specs.Refused.{TextOf}
-use Rattle.lrp_text.specs.Parsers.{Outcome}
+use Rattle.lrp_text.specs.Parsers.{ParseOutcome}
 use Rattle.lrp_text.proofs.Complete.{Answers}
 use Rattle.lrp_text.proofs.Sound.{takes_onto}
 use Rattle.lrp_query.specs.Rules.{too_deep, deep_or_number, is_hole_token, query_with}
@@ -98,12 +98,12 @@ not_large _ e lt = lt
 -- ---- outcomes
 
 -- equal faults have equal kinds and tokens
-same_fault : {A : Type 0} (o : Outcome A) (j k : Fault) (a b : Placed) (xs ys : Tokens) → o ≡ Err (j, a ∷ xs) → o ≡ Err (k, b ∷ ys) → (j ≡ k) × (a ∷ xs ≡ b ∷ ys)
+same_fault : {A : Type 0} (o : ParseOutcome A) (j k : Fault) (a b : Placed) (xs ys : Tokens) → o ≡ Err (j, a ∷ xs) → o ≡ Err (k, b ∷ ys) → (j ≡ k) × (a ∷ xs ≡ b ∷ ys)
 same_fault o j k a b xs ys e d = let h : ◌≡◌ {A = Fault × Tokens} (j, a ∷ xs) (k, b ∷ ys) = cc in (ap (λ p. p.0) h, ap (λ p. p.1) h)
 
 -- nothing is read and refused
-ok_or_err : {A : Type 0} (o : Outcome A) (q : A × Tokens) (e : Fault × Tokens) → o ≡ Ok q → o ≡ Err e → ⊥
-ok_or_err o q e a b = let h : ◌≡◌ {A = Outcome _} (Ok q) (Err e) = sym a ∙ b in absurd cc
+ok_or_err : {A : Type 0} (o : ParseOutcome A) (q : A × Tokens) (e : Fault × Tokens) → o ≡ Ok q → o ≡ Err e → ⊥
+ok_or_err o q e a b = let h : ◌≡◌ {A = ParseOutcome _} (Ok q) (Err e) = sym a ∙ b in absurd cc
 
 module _ {F X Q : Type 0} (grammar : Grammar F X Q) (reader : Reader grammar) where
   -- the texts of the grammar
@@ -111,7 +111,7 @@ module _ {F X Q : Type 0} (grammar : Grammar F X Q) (reader : Reader grammar) wh
   Texts = TextOf (query_text grammar) grammar.FitsQuery
 
   -- a lawful query is read
-  lawful_ok : (o : Outcome Q) (q : Q) (left : Tokens) → Answers o q left (grammar.FitsQuery q) → grammar.FitsQuery q → o ≡ Ok (q, left)
+  lawful_ok : (o : ParseOutcome Q) (q : Q) (left : Tokens) → Answers o q left (grammar.FitsQuery q) → grammar.FitsQuery q → o ≡ Ok (q, left)
   lawful_ok o q left (inl e) fits = e
   lawful_ok o q left (inr r) fits = absurd (r.unlawful fits)
 

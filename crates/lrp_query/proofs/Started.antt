@@ -6,7 +6,7 @@ use Rattle.lrp_model.specs.declared.tokens.Fault.{Fault}
 use Rattle.lrp_model.specs.declared.tokens.Fault.TheVariants.{Syntax, Number, TextTooLong, Period, Deep, Memory}
 use Rattle.lrp_model.specs.declared.raw.RawFormula.{RawFormula}
 use Rattle.lrp_model.specs.RawQueries.{raw, raw_form_of, raw_forms_of}
-use Rattle.lrp_text.specs.Parsers.{Outcome, Reads, accept, look, taken}
+use Rattle.lrp_text.specs.Parsers.{ParseOutcome, Reads, accept, look, taken}
 use Rattle.lrp_text.specs.Taking.{here}
 use Rattle.lrp_query.specs.declared.starts.Start.{Start}
 use Rattle.lrp_query.specs.declared.starts.Start.TheVariants.{Term as by_term}
@@ -14,7 +14,7 @@ use Rattle.lrp_query.specs.Rules.{Trees, BehindName, start_of, is_hole_token, to
 use Rattle.lrp_query.proofs.Shown.{cut_told}
 
 -- a fault that a reader tells
-fault_reads : {A : Type 0} (o : Outcome A) (k : Fault) (us : Tokens) → o ≡ Err (k, us) → Reads o (Err k) us
+fault_reads : {A : Type 0} (o : ParseOutcome A) (k : Fault) (us : Tokens) → o ≡ Err (k, us) → Reads o (Err k) us
 fault_reads o Memory us e = tt
 fault_reads o Syntax us e = e
 fault_reads o Number us e = e
@@ -23,7 +23,7 @@ fault_reads o Period us e = e
 fault_reads o Deep us e = e
 
 -- one outcome gives one value
-one_read : {A : Type 0} (p q : A × Tokens) → ◌≡◌ {A = Outcome A} (Ok p) (Ok q) → p ≡ q
+one_read : {A : Type 0} (p q : A × Tokens) → ◌≡◌ {A = ParseOutcome A} (Ok p) (Ok q) → p ≡ q
 one_read p q e = cc
 
 module _ {K T F Q : Type 0} (make : Trees K T F Q) (behind : BehindName F) where

@@ -22,7 +22,7 @@ use Rattle.lrp_model.specs.Refused.{Stops, TextOf, Fitting}
 use Rattle.lrp_model.specs.Databases.{sign, integer_text, shift, comma}
 use Rattle.lrp_model.specs.Queries.{WrittenTerm, term_text, op_symbol, FitsTerm}
 use Rattle.lrp_model.specs.Queries.WrittenTerm.{integer as integer_term, text_term, variable, shifted}
-use Rattle.lrp_text.specs.Parsers.{Parser, Outcome, and_then, ◌>>=◌, pure, accept, eat, listed}
+use Rattle.lrp_text.specs.Parsers.{Parser, ParseOutcome, and_then, ◌>>=◌, pure, accept, eat, listed}
 use Rattle.lrp_text.specs.Taking.{is_symbol, is_symbol_token, is_word, is_word_token, expect, expect_word, required, period, period_of, is_name_token, IsWrittenPeriod}
 use Rattle.lrp_text.proofs.Complete.{ReadsBack, back_as, IsNot, Sees, bind_back, then_back, pure_back, accept_back, accepts_back, eat_back, eat_none, first_sees_any, first_is_not, last_back, MemberBack, FollowsList, listed_back}
 use Rattle.lrp_text.proofs.Sound.{Sound, bind_ok, accept_gives, accept_sound, eat_sound, eaten_parts, takes_join, takes_front, listed_sound}
@@ -30,10 +30,12 @@ use Rattle.lrp_text.proofs.Viable.{Viable, One, TestStops, accept_viable, bind_e
 use Rattle.lrp_text.proofs.TokenTests.{symbol_told, symbol_seen, word_told, word_seen, word_expected, word_required, word_stops, expect_told, expect_seen, expect_stops, number_part, period_told, period_fits, period_stops, period_tells}
 use Rattle.lrp_text.proofs.LocatedRule.{Leads, from_place, takes_from}
 use Rattle.lrp_text.specs.IntegerRule.{integer}
-use Rattle.lrp_query.specs.Rules.{Offset, unmoved, moved_by, offset, with_offset, named_term, unnamed_term, term, op_of, point, comparing, tested, atom_terms, behind_name, unnamed}
+use Rattle.lrp_text.specs.OffsetRule.{Offset, unmoved, moved_by, offset}
+use Rattle.lrp_query.specs.Rules.{with_offset, named_term, unnamed_term, term, op_of, point, comparing, tested, atom_terms, behind_name, unnamed}
 use Rattle.lrp_text.proofs.IntegerRule.{integer_back, integer_sound, integer_viable}
 use Rattle.lrp_query.proofs.Layers.{atom, compared, member, Grammar, trees, text_of, FitsLayer, LayerTexts, IsFormula, read_layer}
-use Rattle.lrp_query.proofs.TermRules.{NoShift, written_terms, offset_text, FitsOffset, offset_back, offset_sound, offset_viable, with_offset_fits, unnamed_term_sound, unnamed_term_viable, term_leads, placed_text, FitsPlaced, term_back, term_sound, term_viable}
+use Rattle.lrp_text.proofs.OffsetRule.{NoShift, offset_text, FitsOffset, offset_back, offset_sound, offset_viable}
+use Rattle.lrp_query.proofs.TermRules.{written_terms, with_offset_fits, unnamed_term_sound, unnamed_term_viable, term_leads, placed_text, FitsPlaced, term_back, term_sound, term_viable}
 
 -- ---- single tokens
 
@@ -202,7 +204,7 @@ abbrev no_terms : Tokens
 no_terms = symbol_at Open ∷ symbol_at Close ∷ []
 
 -- what is put together of what was read, and read on
-through_pure : {A B C : Type 0} (o : Outcome A) (h : A → B) (f : B → Parser C) → and_then (and_then o (λ a. pure (h a))) f ≡ and_then o (λ a. f (h a))
+through_pure : {A B C : Type 0} (o : ParseOutcome A) (h : A → B) (f : B → Parser C) → and_then (and_then o (λ a. pure (h a))) f ≡ and_then o (λ a. f (h a))
 through_pure (Ok q) h f = refl
 through_pure (Err e) h f = refl
 

@@ -1,5 +1,5 @@
 -- What the readers of queries ensure.
-use Rattle.std.specs.Prelude.{◌≡◌, ℕ, List, [], map, Result, Ok, Err, Vec}
+use Rattle.std.specs.Prelude.{◌≡◌, ℕ, List, map, Result, Ok, Err, Vec}
 use Rattle.std.specs.Global.{Global}
 use Rattle.lrp_model.specs.declared.tokens.Fault.{Fault as TokenFault}
 use Rattle.lrp_model.specs.declared.tokens.Fault.TheVariants.{Syntax as syntax, Number as number, TextTooLong as text_too_long, Period as period, Deep as deep, Memory as memory}
@@ -16,19 +16,19 @@ use Rattle.lrp_model.specs.declared.formulas.Op.TheVariants.{Le, Lt, Ge, Gt, Eq}
 use Rattle.lrp_model.specs.Tokens.{Tokens}
 use Rattle.lrp_model.specs.TextFaults.{Grammatical, IsTextFault}
 use Rattle.lrp_model.specs.QueryReading.{Texts}
-use Rattle.lrp_text.specs.Parsers.{Outcome, Reads}
+use Rattle.lrp_text.specs.Parsers.{ParseOutcome, Reads}
 use Rattle.lrp_text.specs.declared.lexemes.Lexeme.{Lexeme}
 use Rattle.lrp_text.specs.declared.lexemes.Lexeme.TheVariants.{Name as name_seen, Word as word_seen, Number as number_seen, LargeNumber as large_seen, Text as text_seen, LongText as long_seen, Symbol as symbol_seen, End as end_seen, Bad as bad_seen}
 use Rattle.lrp_query.specs.declared.starts.Start.{Start}
 use Rattle.lrp_query.specs.declared.starts.Start.TheVariants.{Not as by_not, Exists as by_exists, Forall as by_forall, Open as by_open, Name as by_name, Term as by_term}
 
 -- the parser's outcome, seen so, unless memory ran out
-abbrev pub ReadsAs : {A B : Type 0} → (A → B) → Outcome B → Result A TokenFault → Tokens → Type 0
+abbrev pub ReadsAs : {A B : Type 0} → (A → B) → ParseOutcome B → Result A TokenFault → Tokens → Type 0
 ReadsAs view outcome (Ok a) new = outcome ≡ Ok (view a, new)
 ReadsAs view outcome (Err k) new = Reads outcome (Err k) new
 
 -- the same of several
-abbrev pub ReadsEach : {A B : Type 0} → (A → B) → Outcome (List B) → Result (Vec A Global) TokenFault → Tokens → Type 0
+abbrev pub ReadsEach : {A B : Type 0} → (A → B) → ParseOutcome (List B) → Result (Vec A Global) TokenFault → Tokens → Type 0
 ReadsEach view outcome (Ok all) new = outcome ≡ Ok (map view all.items, new)
 ReadsEach view outcome (Err k) new = Reads outcome (Err k) new
 
@@ -89,11 +89,6 @@ shown_too_deep long_seen = deep
 shown_too_deep (symbol_seen s) = symbol_too_deep s
 shown_too_deep end_seen = syntax
 shown_too_deep bad_seen = syntax
-
--- nothing is left behind a query, and all from the fault on where it was refused
-abbrev pub left_behind : {A : Type 0} → Result A TokenFault → Tokens → Tokens
-left_behind (Ok a) ts = []
-left_behind (Err k) ts = ts
 
 -- why bytes gave nothing by a grammar: the fault of the text, or want of memory
 abbrev pub IsUnreadOf : Grammatical → List ℕ → QueryRead → Type 0

@@ -24,6 +24,7 @@ use Rattle.lrp_text.specs.Parsers.{Parser, ◌>>=◌, ◌>>◌, pure, fail, acce
 use Rattle.lrp_text.specs.Taking.{is_symbol, is_word, is_text, is_name, expect, expect_word, expect_end, name, number, period, text, here}
 use Rattle.lrp_text.specs.ColumnRule.{column}
 use Rattle.lrp_text.specs.IntegerRule.{integer}
+use Rattle.lrp_text.specs.OffsetRule.{Offset, unmoved, moved_by, offset}
 use Rattle.lrp_query.specs.declared.starts.Start.{Start}
 use Rattle.lrp_query.specs.declared.starts.Start.TheVariants.{Not as by_not, Exists as by_exists, Forall as by_forall, Open as by_open, Name as by_name, Term as by_term}
 
@@ -105,23 +106,6 @@ raw_formulas = record {
 }
 
 -- ---- terms
-
--- what stands behind the name of a term: nothing, or an offset downwards or upwards
-pub data Offset : Type 0 where
-  unmoved : Offset
-  moved_by : Bool → ℕ → Offset
-
--- an offset, if there is one
-unfoldable pub offset : Parser Offset
-offset = do
-  up ← eat (is_symbol Plus)
-  if up then (do
-    k ← number
-    pure (moved_by false k)) else (do
-      down ← eat (is_symbol Minus)
-      if down then (do
-        k ← number
-        pure (moved_by true k)) else pure unmoved)
 
 -- a name, alone or with an offset
 abbrev pub with_offset : Identifier → Offset → WrittenTerm

@@ -8,7 +8,7 @@ ghost use Rattle.lrp_query.specs.Grammars.{trees_made};
 use crate::grammar::Grammar;
 use crate::terms::{read_named_term, read_term, read_terms, read_unnamed_term, signed};
 use lrp_model::{Fault, Name, Op, Place, RawTerm, RowPoint, Symbol, Word};
-use lrp_text::{Cursor, Lexeme, integer};
+use lrp_text::{Lexeme, TokenCursor, integer};
 use std::alloc::Global;
 
 // The comparison that a symbol stands for.
@@ -25,7 +25,7 @@ fn op_of(lexeme: Lexeme) -> Result<Op, Fault>
     }
 }
 
-fn read_op(tokens: &mut Cursor<'_>) -> Result<Op, Fault>
+fn read_op(tokens: &mut TokenCursor<'_>) -> Result<Op, Fault>
     ensures value { Reads (accept (λ t. op_rule t.token) tokens.old) result tokens.new }
     ensures fewer { IfOk result (λ _. length tokens.new < length tokens.old) }
 {
@@ -36,8 +36,9 @@ fn read_op(tokens: &mut Cursor<'_>) -> Result<Op, Fault>
 
 // The point behind a term and `in`.
 #[tactic(auto, unfolding(crate::specs::Rules::point))]
-fn read_point<G: Grammar>(tokens: &mut Cursor<'_>, term: RawTerm) -> Result<G::Formula, Fault>
-    ensures value { ReadsAs G.form_of (point (trees_made G.makes) term tokens.old) result tokens.new }
+fn read_point<G: Grammar>(tokens: &mut TokenCursor<'_>, term: RawTerm) -> Result<G::Formula, Fault>
+    ensures value { ReadsAs G.form_of (point (trees_made G.makes) term tokens.old) result
+        tokens.new }
     ensures fewer { IfOk result (λ _. length tokens.new < length tokens.old) }
 {
     let offset = integer(tokens)?;
@@ -55,7 +56,7 @@ fn read_point<G: Grammar>(tokens: &mut Cursor<'_>, term: RawTerm) -> Result<G::F
 #[tactic(auto, unfolding(crate::specs::Rules::comparing))]
 fn read_comparison<G: Grammar>(
     alloc: Global,
-    tokens: &mut Cursor<'_>,
+    tokens: &mut TokenCursor<'_>,
     left: RawTerm,
 ) -> Result<G::Formula, Fault>
     ensures value { ReadsAs G.form_of (comparing (trees_made G.makes) left tokens.old) result
@@ -71,7 +72,7 @@ fn read_comparison<G: Grammar>(
 #[tactic(auto, unfolding(crate::specs::Rules::tested))]
 fn read_test<G: Grammar>(
     alloc: Global,
-    tokens: &mut Cursor<'_>,
+    tokens: &mut TokenCursor<'_>,
     left: RawTerm,
 ) -> Result<G::Formula, Fault>
     ensures value { ReadsAs G.form_of (tested (trees_made G.makes) left tokens.old) result
@@ -89,7 +90,7 @@ fn read_test<G: Grammar>(
 #[tactic(auto, unfolding(crate::specs::Rules::atom_terms))]
 fn read_atom<G: Grammar>(
     alloc: Global,
-    tokens: &mut Cursor<'_>,
+    tokens: &mut TokenCursor<'_>,
     relation: Name,
     place: Place,
 ) -> Result<G::Formula, Fault>
@@ -107,7 +108,7 @@ fn read_atom<G: Grammar>(
 #[tactic(auto, unfolding(crate::specs::Rules::behind_name))]
 pub fn read_behind_name<G: Grammar>(
     alloc: Global,
-    tokens: &mut Cursor<'_>,
+    tokens: &mut TokenCursor<'_>,
     name: Name,
     place: Place,
 ) -> Result<G::Formula, Fault>
@@ -127,7 +128,7 @@ pub fn read_behind_name<G: Grammar>(
 #[tactic(auto, unfolding(crate::specs::Rules::unnamed))]
 pub fn read_unnamed<G: Grammar>(
     alloc: Global,
-    tokens: &mut Cursor<'_>,
+    tokens: &mut TokenCursor<'_>,
     place: Place,
 ) -> Result<G::Formula, Fault>
     ensures value { ReadsAs G.form_of (unnamed (trees_made G.makes) place tokens.old) result

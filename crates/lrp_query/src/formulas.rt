@@ -13,13 +13,13 @@ use crate::operators::{read_ends, read_variable};
 use crate::starts::{Start, start_of, too_deep};
 use crate::words::{Leading, Opening};
 use lrp_model::{Fault, Memory, Name, Place, Symbol, Word};
-use lrp_text::{Cursor, column};
+use lrp_text::{TokenCursor, column};
 use std::alloc::Global;
 
 // A formula alone in parentheses, of which the last one is read.
 fn read_group<G: Grammar>(
     alloc: Global,
-    tokens: &mut Cursor<'_>,
+    tokens: &mut TokenCursor<'_>,
     place: Place,
     of: G::Formula,
 ) -> Result<G::Formula, Fault>
@@ -61,7 +61,7 @@ fn exact<G: Grammar>(members: Vec<G::Formula>) -> Vec<G::Formula>
 #[cycle(reading)]
 pub fn read_formula<G: Grammar>(
     alloc: Global,
-    tokens: &mut Cursor<'_>,
+    tokens: &mut TokenCursor<'_>,
     depth: u32,
 ) -> Result<G::Formula, Fault>
     ensures value { (turns : ℕ) → length tokens.old < turns
@@ -87,7 +87,7 @@ pub fn read_formula<G: Grammar>(
 #[tactic(auto, unfolding(crate::specs::Rules::negated))]
 fn read_negation<G: Grammar>(
     alloc: Global,
-    tokens: &mut Cursor<'_>,
+    tokens: &mut TokenCursor<'_>,
     depth: u32,
     place: Place,
 ) -> Result<G::Formula, Fault>
@@ -105,7 +105,7 @@ fn read_negation<G: Grammar>(
 #[tactic(auto, unfolding(crate::specs::Rules::existing))]
 fn read_existential<G: Grammar>(
     alloc: Global,
-    tokens: &mut Cursor<'_>,
+    tokens: &mut TokenCursor<'_>,
     depth: u32,
     place: Place,
 ) -> Result<G::Formula, Fault>
@@ -124,7 +124,7 @@ fn read_existential<G: Grammar>(
 #[tactic(auto, unfolding(crate::specs::Rules::holding))]
 fn read_universal<G: Grammar>(
     alloc: Global,
-    tokens: &mut Cursor<'_>,
+    tokens: &mut TokenCursor<'_>,
     depth: u32,
     place: Place,
 ) -> Result<G::Formula, Fault>
@@ -143,7 +143,7 @@ fn read_universal<G: Grammar>(
 #[tactic(auto, unfolding(crate::specs::Rules::enclosed))]
 fn read_enclosed<G: Grammar>(
     alloc: Global,
-    tokens: &mut Cursor<'_>,
+    tokens: &mut TokenCursor<'_>,
     depth: u32,
     place: Place,
 ) -> Result<G::Formula, Fault>
@@ -162,7 +162,7 @@ fn read_enclosed<G: Grammar>(
 #[tactic(auto, unfolding(crate::specs::Rules::behind_first))]
 fn read_behind_first<G: Grammar>(
     alloc: Global,
-    tokens: &mut Cursor<'_>,
+    tokens: &mut TokenCursor<'_>,
     depth: u32,
     place: Place,
     first: G::Formula,
@@ -188,7 +188,7 @@ fn read_behind_first<G: Grammar>(
 #[tactic(auto, unfolding(crate::specs::Rules::implying))]
 fn read_implication<G: Grammar>(
     alloc: Global,
-    tokens: &mut Cursor<'_>,
+    tokens: &mut TokenCursor<'_>,
     depth: u32,
     place: Place,
     first: G::Formula,
@@ -207,7 +207,7 @@ fn read_implication<G: Grammar>(
 #[tactic(auto, unfolding(crate::specs::Rules::conjoined))]
 fn read_conjunction<G: Grammar>(
     alloc: Global,
-    tokens: &mut Cursor<'_>,
+    tokens: &mut TokenCursor<'_>,
     depth: u32,
     place: Place,
     first: G::Formula,
@@ -226,7 +226,7 @@ fn read_conjunction<G: Grammar>(
 #[tactic(auto, unfolding(crate::specs::Rules::disjoined))]
 fn read_disjunction<G: Grammar>(
     alloc: Global,
-    tokens: &mut Cursor<'_>,
+    tokens: &mut TokenCursor<'_>,
     depth: u32,
     place: Place,
     first: G::Formula,
@@ -245,7 +245,7 @@ fn read_disjunction<G: Grammar>(
 #[cycle(reading)]
 fn read_members<G: Grammar>(
     alloc: Global,
-    tokens: &mut Cursor<'_>,
+    tokens: &mut TokenCursor<'_>,
     depth: u32,
     word: Word,
     first: G::Formula,
@@ -270,7 +270,7 @@ fn read_members<G: Grammar>(
 #[tactic(auto, unfolding(crate::specs::Rules::named))]
 fn read_named<G: Grammar>(
     alloc: Global,
-    tokens: &mut Cursor<'_>,
+    tokens: &mut TokenCursor<'_>,
     depth: u32,
 ) -> Result<G::Formula, Fault>
     ensures value { (turns : ℕ) → length tokens.old < turns
@@ -286,7 +286,7 @@ fn read_named<G: Grammar>(
 #[cycle(reading)]
 fn read_behind<G: Grammar>(
     alloc: Global,
-    tokens: &mut Cursor<'_>,
+    tokens: &mut TokenCursor<'_>,
     depth: u32,
     name: Name,
     place: Place,
@@ -311,7 +311,7 @@ fn read_behind<G: Grammar>(
 #[tactic(auto, unfolding(crate::specs::OperatorRules::ranged_parts))]
 fn read_ranged<G: Grammar>(
     alloc: Global,
-    tokens: &mut Cursor<'_>,
+    tokens: &mut TokenCursor<'_>,
     depth: u32,
     word: G::Ranged,
     place: Place,
@@ -337,7 +337,7 @@ fn read_ranged<G: Grammar>(
 #[tactic(auto, unfolding(crate::specs::OperatorRules::paired_parts))]
 fn read_paired<G: Grammar>(
     alloc: Global,
-    tokens: &mut Cursor<'_>,
+    tokens: &mut TokenCursor<'_>,
     depth: u32,
     word: G::Paired,
     place: Place,
@@ -363,7 +363,7 @@ fn read_paired<G: Grammar>(
 #[tactic(auto, unfolding(crate::specs::OperatorRules::closed_by))]
 fn read_closed<G: Grammar>(
     alloc: Global,
-    tokens: &mut Cursor<'_>,
+    tokens: &mut TokenCursor<'_>,
     depth: u32,
     behind: Symbol,
 ) -> Result<G::Formula, Fault>

@@ -6,12 +6,12 @@ ghost use Rattle.lrp_query.specs.OperatorRules.{ends as ends_rule, variable};
 
 use crate::terms::signed;
 use lrp_model::{Fault, Name, Place, Symbol};
-use lrp_text::{Cursor, integer};
+use lrp_text::{TokenCursor, integer};
 use std::alloc::Global;
 
 /// The ends of an interval, behind a parenthesis.
 #[tactic(auto, unfolding(crate::specs::OperatorRules::ends))]
-pub fn read_ends(tokens: &mut Cursor<'_>) -> Result<(i64, i64), Fault>
+pub fn read_ends(tokens: &mut TokenCursor<'_>) -> Result<(i64, i64), Fault>
     ensures value { Reads (ends_rule integer_of tokens.old) result tokens.new }
     ensures fewer { IfOk result (λ _. length tokens.new < length tokens.old) }
 {
@@ -27,7 +27,7 @@ pub fn read_ends(tokens: &mut Cursor<'_>) -> Result<(i64, i64), Fault>
 
 /// The variable of an operator, and a parenthesis.
 #[tactic(auto, unfolding(crate::specs::OperatorRules::variable))]
-pub fn read_variable(alloc: Global, tokens: &mut Cursor<'_>) -> Result<(Name, Place), Fault>
+pub fn read_variable(alloc: Global, tokens: &mut TokenCursor<'_>) -> Result<(Name, Place), Fault>
     ensures value { Reads (variable tokens.old) result tokens.new }
     ensures fewer { IfOk result (λ _. length tokens.new < length tokens.old) }
 {

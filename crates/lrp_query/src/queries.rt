@@ -5,7 +5,8 @@ ghost use Rattle.lrp_model.specs.RawQueries.{RawQuestion, raw_question_of};
 ghost use Rattle.lrp_model.specs.QueryReading.{IsQuery, IsQueryFault};
 ghost use Rattle.lrp_query.specs.Lawful.{IsLawful};
 ghost use Rattle.lrp_query.specs.Grammars.{query_made, IsTextRead, IsTextUnread};
-ghost use Rattle.lrp_query.specs.Reading.{ReadsAs, left_behind, refusal_of, IsUnread};
+ghost use Rattle.lrp_text.specs.Parsers.{left_behind};
+ghost use Rattle.lrp_query.specs.Reading.{ReadsAs, refusal_of, IsUnread};
 ghost use Rattle.lrp_model.specs.Outcomes.{IsQueryOrMemory, IsFaultOrMemory};
 ghost use Rattle.lrp_model.specs.Limits.{most_bytes};
 
@@ -13,7 +14,7 @@ use crate::formulas::read_formula;
 use crate::grammar::Grammar;
 use crate::plain::Plain;
 use lrp_model::{Fault, Place, QueryFault, QueryKind, QueryRead, RawQuery, Symbol};
-use lrp_text::{Cursor, columns, place_behind};
+use lrp_text::{TokenCursor, columns, place_behind};
 use std::alloc::Global;
 use std::str::from_utf8;
 
@@ -39,7 +40,7 @@ fn refusal(kind: Fault, place: Place) -> QueryRead
 
 // The query of some tokens, and the end behind it.
 #[tactic(auto, unfolding(crate::specs::Rules::query_with))]
-fn read_tokens<G: Grammar>(alloc: Global, tokens: &mut Cursor<'_>) -> Result<G::Query, Fault>
+fn read_tokens<G: Grammar>(alloc: Global, tokens: &mut TokenCursor<'_>) -> Result<G::Query, Fault>
     ensures { (turns : ℕ) → length tokens.old < turns → ReadsAs G.question_of
         (query_made G.makes turns tokens.old) result (left_behind result tokens.new) }
 {
@@ -58,7 +59,7 @@ fn read_text<G: Grammar>(alloc: Global, text: &str) -> Result<G::Query, QueryRea
     ensures query { IfOk result (λ q. IsTextRead (query_made G.makes) text.now (G.question_of q)) }
     ensures refused { IfErr result (IsTextUnread (query_made G.makes) text.now) }
 {
-    let mut tokens = Cursor::new(text);
+    let mut tokens = TokenCursor::new(text);
     match read_tokens::<G>(alloc, &mut tokens) {
         Ok(query) => Ok(query),
         Err(fault) => Err(refusal(fault, tokens.peek().place)),

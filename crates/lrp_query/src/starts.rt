@@ -5,7 +5,7 @@ ghost use Rattle.lrp_query.specs.Reading.{shown_start, shown_too_deep};
 ghost use Rattle.lrp_query.specs.Rules.{start_of as start_rule, too_deep as too_deep_rule, is_hole_token};
 
 use lrp_model::{Fault, Symbol, Word};
-use lrp_text::{Cursor, Lexeme};
+use lrp_text::{Lexeme, TokenCursor};
 
 /// By what a formula begins: a reserved word, a parenthesis, a name, or another term.
 #[derive(Clone, Copy, PartialEq, Eq)]
@@ -45,7 +45,7 @@ fn told(lexeme: Lexeme) -> Fault
 }
 
 /// By what the formula begins that stands next.
-pub fn start_of(tokens: &Cursor<'_>) -> Start
+pub fn start_of(tokens: &TokenCursor<'_>) -> Start
     ensures value { look Start.Term (λ t. start_rule t.token) tokens.now ≡ Ok (result, tokens.now) }
     ensures no_hole { look false (λ t. is_hole_token t.token) tokens.now ≡ Ok (false, tokens.now) }
 {
@@ -53,7 +53,7 @@ pub fn start_of(tokens: &Cursor<'_>) -> Start
 }
 
 /// The fault at the next token, where a formula would be too deep.
-pub fn too_deep(tokens: &Cursor<'_>) -> Fault
+pub fn too_deep(tokens: &TokenCursor<'_>) -> Fault
     ensures value { look Fault.Syntax (λ t. too_deep_rule t.token) tokens.now
         ≡ Ok (result, tokens.now) }
     ensures no_hole { look false (λ t. is_hole_token t.token) tokens.now ≡ Ok (false, tokens.now) }

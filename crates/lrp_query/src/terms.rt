@@ -7,7 +7,7 @@ ghost use Rattle.lrp_text.specs.Taking.{is_symbol};
 ghost use Rattle.lrp_query.specs.Rules.{raw_terms, named_term, unnamed_term, bare_term, term};
 
 use lrp_model::{Fault, List, Memory, Name, RawTerm, RawTermKind, Symbol};
-use lrp_text::{Cursor, integer};
+use lrp_text::{TokenCursor, integer};
 use std::alloc::Global;
 
 /// The number of this size, negative with the flag.
@@ -20,8 +20,8 @@ pub fn signed(negative: bool, size: u64) -> i64
 }
 
 /// A name, alone or with an offset.
-#[tactic(auto, unfolding(crate::specs::Rules::named_term, crate::specs::Rules::offset))]
-pub fn read_named_term(name: Name, tokens: &mut Cursor<'_>) -> Result<RawTermKind, Fault>
+#[tactic(auto, unfolding(crate::specs::Rules::named_term, lrp_text::specs::OffsetRule::offset))]
+pub fn read_named_term(name: Name, tokens: &mut TokenCursor<'_>) -> Result<RawTermKind, Fault>
     ensures value { Reads (named_term raw_terms name tokens.old) result tokens.new }
     ensures shorter { IfOk result (λ _. length tokens.new ≤ length tokens.old) }
 {
@@ -38,7 +38,7 @@ pub fn read_named_term(name: Name, tokens: &mut Cursor<'_>) -> Result<RawTermKin
 
 /// A text or an integer.
 #[tactic(auto, unfolding(crate::specs::Rules::unnamed_term))]
-pub fn read_unnamed_term(alloc: Global, tokens: &mut Cursor<'_>) -> Result<RawTermKind, Fault>
+pub fn read_unnamed_term(alloc: Global, tokens: &mut TokenCursor<'_>) -> Result<RawTermKind, Fault>
     ensures value { Reads (unnamed_term raw_terms tokens.old) result tokens.new }
     ensures fewer { IfOk result (λ _. length tokens.new < length tokens.old) }
 {
@@ -52,7 +52,7 @@ pub fn read_unnamed_term(alloc: Global, tokens: &mut Cursor<'_>) -> Result<RawTe
 }
 
 #[tactic(auto, unfolding(crate::specs::Rules::bare_term))]
-fn read_bare_term(alloc: Global, tokens: &mut Cursor<'_>) -> Result<RawTermKind, Fault>
+fn read_bare_term(alloc: Global, tokens: &mut TokenCursor<'_>) -> Result<RawTermKind, Fault>
     ensures value { Reads (bare_term raw_terms tokens.old) result tokens.new }
     ensures fewer { IfOk result (λ _. length tokens.new < length tokens.old) }
 {
@@ -66,7 +66,7 @@ fn read_bare_term(alloc: Global, tokens: &mut Cursor<'_>) -> Result<RawTermKind,
 
 /// A term, with the place of its first token.
 #[tactic(auto, unfolding(crate::specs::Rules::term))]
-pub fn read_term(alloc: Global, tokens: &mut Cursor<'_>) -> Result<RawTerm, Fault>
+pub fn read_term(alloc: Global, tokens: &mut TokenCursor<'_>) -> Result<RawTerm, Fault>
     ensures value { Reads (term raw_terms tokens.old) result tokens.new }
     ensures fewer { IfOk result (λ _. length tokens.new < length tokens.old) }
 {
@@ -96,7 +96,7 @@ fn terms_from(alloc: Global, first: RawTerm, room: usize) -> Result<List<RawTerm
 // The terms behind a comma, and the first one before these.
 fn read_more_terms(
     alloc: Global,
-    tokens: &mut Cursor<'_>,
+    tokens: &mut TokenCursor<'_>,
     first: RawTerm,
 ) -> Result<List<RawTerm>, Fault>
     ensures value { (n : ℕ) → length tokens.old < n
@@ -115,7 +115,7 @@ fn read_more_terms(
 }
 
 // One term or more, with commas between. A term alone takes room for one: to give room back costs more than the atom.
-fn read_some_terms(alloc: Global, tokens: &mut Cursor<'_>) -> Result<List<RawTerm>, Fault>
+fn read_some_terms(alloc: Global, tokens: &mut TokenCursor<'_>) -> Result<List<RawTerm>, Fault>
     ensures value { (n : ℕ) → length tokens.old < n
         → Reads (separated_from (term raw_terms) (is_symbol Symbol.Comma) n [] tokens.old) result
         tokens.new }
@@ -130,7 +130,7 @@ fn read_some_terms(alloc: Global, tokens: &mut Cursor<'_>) -> Result<List<RawTer
 
 /// The terms of an atom, up to the parenthesis that ends them.
 #[tactic(auto, unfolding(lrp_text::specs::Parsers::listed))]
-pub fn read_terms(alloc: Global, tokens: &mut Cursor<'_>) -> Result<List<RawTerm>, Fault>
+pub fn read_terms(alloc: Global, tokens: &mut TokenCursor<'_>) -> Result<List<RawTerm>, Fault>
     ensures value { (n : ℕ) → length tokens.old < n
         → Reads (listed (term raw_terms) (is_symbol Symbol.Comma)
         (is_symbol Symbol.Close) n tokens.old) result tokens.new }

@@ -28,7 +28,7 @@ use Rattle.lrp_model.specs.declared.tokens.Symbol.TheVariants.{Close, Comma, Bar
 use Rattle.lrp_model.specs.declared.tokens.Word.{Word}
 use Rattle.lrp_model.specs.declared.tokens.Word.TheVariants.{And, Or, Implies}
 use Rattle.lrp_model.specs.declared.written.Located.{Located}
-use Rattle.lrp_tense.specs.Expanding.{Naming, renamed, renamed_kind, expanded, expanded_each, expanded_question, moment_of, between_of, renamed_to, number_of, operators}
+use Rattle.lrp_tense.specs.Expanding.{Naming, renamed, renamed_kind, expanded, expanded_each, expanded_question, moment_of, between_of, renamed_to, operator_number, operators}
 use Rattle.lrp_tense.specs.TenseQueries.{WrittenTense, FurtherTenses, FitsTenseSizes, FitTenseSizes, interval_text, tense_text, tenses_text, tense_query_text}
 use Rattle.lrp_tense.specs.TenseQueries.WrittenTense.{atom, compared, member, denied, all_of, any_of, implied, group, some, every, once_in, always_in, since_when, until_when, hole}
 use Rattle.lrp_tense.specs.TenseQueries.FurtherTenses.{last, more}
@@ -230,6 +230,6 @@ body_good bytes q is =
 -- and those of a database and the expanded query
 pub tense_entries : (bytes query : List ℕ) (db : List Relation) (q : TenseQuestion) → IsDatabase bytes db → IsTenseQuery query q → AllByRecursion IsEntry (all_texts db (plain_question (expanded_question q)))
 tense_entries bytes query db q d is =
-    let good = expanded_good q.body (body_good query q is) (number_of (operators q.body)) [] in
+    let good = expanded_good q.body (body_good query q is) (operator_number (operators q.body)) [] in
     both (database_texts db) (form_texts (plain_question (expanded_question q)).body db (plain_question (expanded_question q)).head) (database_entries bytes db d)
     (good_entries (expanded_question q).body good (reverse q.head) db (map column_of q.head))

@@ -6,54 +6,44 @@ use Rattle.lrp_model.specs.declared.written.RawBound.{RawBound}
 use Rattle.lrp_model.specs.Texts.{Identifier}
 use Rattle.lrp_model.specs.Lexing.{start}
 use Rattle.lrp_model.specs.Databases.{integer_text, shift, name_part, side_text, bound_symbol, bound_text, FitsSide, FitsBound}
-use Rattle.std.proofs.Common.{◌≡◌, inl, ◌≤◌, ℕ, Bool, true, false, [], ◌∷◌, ◌++◌, refl, ap, ◌∙◌, sym, subst, Ok, Err, if◌then◌else◌, arith, append-nil}
-use Rattle.lrp_model.specs.declared.tokens.Symbol.TheVariants.{Plus, Minus, Le, Ge, Equals}
+use Rattle.std.proofs.Common.{◌≡◌, inl, ◌≤◌, Bool, true, false, [], ◌∷◌, ◌++◌, refl, ap, ◌∙◌, sym, subst, Ok, Err, if◌then◌else◌, arith, append-nil}
+use Rattle.lrp_model.specs.declared.tokens.Symbol.TheVariants.{Le, Ge, Equals}
 use Rattle.lrp_model.specs.declared.tokens.Fault.{Fault}
 use Rattle.lrp_model.specs.declared.tokens.Fault.TheVariants.{Syntax}
 use Rattle.lrp_model.specs.Tokens.{Token, Placed, Tokens, Part, IsPart, Takes, Spells}
 use Rattle.lrp_model.specs.Tokens.Token.{name_token, number_token, symbol_token}
 use Rattle.lrp_model.specs.Tokens.Part.{any}
-use Rattle.lrp_text.specs.Parsers.{◌>>=◌, pure, accept, look, eat}
-use Rattle.lrp_model.specs.Refused.{Stops, TextOf}
+use Rattle.lrp_text.specs.Parsers.{◌>>=◌, pure, accept, look}
+use Rattle.lrp_model.specs.Refused.{TextOf}
 use Rattle.lrp_model.specs.Limits.{greatest_number}
-use Rattle.lrp_text.specs.Taking.{is_name, is_symbol, is_symbol_token, number, is_name_token}
-use Rattle.lrp_text.proofs.Complete.{ReadsBack, IsNot, bind_back, then_back, pure_back, accepts_back, eat_back, eat_none, look_back, first_sees_at, first_is_not, last_back, same_next}
-use Rattle.lrp_text.proofs.Sound.{Sound, bind_ok, accept_sound, eat_sound, eaten_parts, takes_join, look_ok}
-use Rattle.lrp_text.proofs.Viable.{Viable, One, TestStops, accept_viable, sub_step, eat_step, look_step, spells_join, always}
-use Rattle.lrp_text.proofs.TokenTests.{symbol_told, symbol_seen, number_part}
+use Rattle.lrp_text.specs.Taking.{is_name, is_name_token}
+use Rattle.lrp_text.proofs.Complete.{ReadsBack, bind_back, then_back, accepts_back, look_back, first_sees_at, last_back}
+use Rattle.lrp_text.proofs.Sound.{Sound, bind_ok, accept_sound, takes_join, look_ok}
+use Rattle.lrp_text.proofs.Viable.{Viable, One, TestStops, accept_viable, sub_step, look_step, spells_join, always, fits_as}
+use Rattle.lrp_text.proofs.TokenTests.{number_part}
 use Rattle.lrp_model.specs.declared.written.BoundOp.{BoundOp}
 use Rattle.lrp_model.specs.declared.written.BoundOp.TheVariants.{AtMost, AtLeast, Equal}
 use Rattle.lrp_rel.proofs.Labels.{label_back, label_sound, label_viable}
 use Rattle.lrp_text.specs.IntegerRule.{integer}
-use Rattle.lrp_rel.specs.Rules.{label, named_side, side, op_of, bound}
-use Rattle.lrp_text.proofs.IntegerRule.{number_back, integer_back, number_sound, number_viable, integer_sound, integer_viable, no_name}
+use Rattle.lrp_text.specs.OffsetRule.{Offset, unmoved, moved_by, offset}
+use Rattle.lrp_text.proofs.OffsetRule.{NoShift, offset_text, FitsOffset, offset_back, offset_sound, offset_viable}
+use Rattle.lrp_rel.specs.Rules.{label, side_of, named_side, side, bound_op_of, bound}
+use Rattle.lrp_text.proofs.IntegerRule.{integer_back, integer_sound, integer_viable, no_name}
 
--- neither a plus nor a minus comes next
-abbrev pub NoShift : Tokens → Type 0
-NoShift ts = IsNot (is_symbol Plus) ts × IsNot (is_symbol Minus) ts
+-- a side with an offset is spelled by its column and the offset
+side_parts : (n : Located Identifier) (o : Offset) → side_text (side_of n o) ≡ name_part n ∷ offset_text o
+side_parts n unmoved = refl
+side_parts n (moved_by down k) = refl
 
--- the tokens of a side that is a column alone are read back
-pub column_side_back : (n : Located Identifier) → ReadsBack named_side (side_text (Column n)) (Column n) (Unit {0}) NoShift
+-- and it is lawful where the offset is
+side_fits : (n : Located Identifier) (o : Offset) → FitsOffset o → FitsSide (side_of n o)
+side_fits n unmoved f = f
+side_fits n (moved_by down k) f = f
+
+-- the tokens of a column, alone or with an offset, are read back
+pub column_side_back : (n : Located Identifier) (o : Offset) → ReadsBack named_side (name_part n ∷ offset_text o) (side_of n o) (FitsOffset o) NoShift
 unfolding named_side
-column_side_back n =
-    then_back _ (label_back n (Unit {0}))
-    (bind_back _ {G = NoShift} (eat_none (is_symbol Plus) (Unit {0}))
-    (bind_back _ {G = NoShift} (eat_none (is_symbol Minus) (Unit {0})) (pure_back (Column n) (Unit {0}) NoShift) (λ ts left h g. (same_next NoShift ts left h g).1))
-    (λ ts left h g. (same_next NoShift ts left h g).0))
-
--- the tokens of a column with an offset are read back
-pub shifted_side_back : (n : Located Identifier) (down : Bool) (k : ℕ) → ReadsBack named_side (side_text (Shifted n down k)) (Shifted n down k) (k ≤ greatest_number) NoShift
-unfolding named_side
-shifted_side_back n false k =
-    then_back _ (label_back n (k ≤ greatest_number))
-    (then_back _ (eat_back (is_symbol Plus) (any (symbol_token Plus)) (k ≤ greatest_number) (symbol_seen Plus))
-    (then_back _ (number_back k (k ≤ greatest_number) (λ l. l)) (pure_back _ _ NoShift)))
-shifted_side_back n true k =
-    then_back _ (label_back n (k ≤ greatest_number))
-    (bind_back _ (eat_none (is_symbol Plus) (k ≤ greatest_number))
-    (then_back _ (eat_back (is_symbol Minus) (any (symbol_token Minus)) (k ≤ greatest_number) (symbol_seen Minus))
-    (then_back _ (number_back k (k ≤ greatest_number) (λ l. l)) (pure_back _ _ NoShift)))
-    (λ ts left h g. first_is_not (is_symbol_token Plus) (symbol_token Minus) (number_part k ∷ []) ts left refl h))
+column_side_back n o = then_back _ (label_back n (FitsOffset o)) (last_back offset (side_of n) (offset_text o) o (FitsOffset o) NoShift (offset_back o))
 
 -- the tokens of a side are read back
 pub side_back : (s : Side) → ReadsBack side (side_text s) s (FitsSide s) NoShift
@@ -63,10 +53,10 @@ side_back (Alone i) =
     (last_back integer Alone (integer_text i) i (i.size ≤ greatest_number) NoShift (record { reads = λ ts left h g. (integer_back i).reads ts left h tt }))
     (λ ts left h g. no_name i.negative i.size ts left h)
 side_back (Column n) =
-    bind_back _ {G = NoShift} (look_back false is_name true (Unit {0})) (column_side_back n)
+    bind_back _ {G = NoShift} (look_back false is_name true (Unit {0})) (column_side_back n unmoved)
     (λ ts left h g. first_sees_at false is_name_token n.place (name_token n.item) [] ts left h)
 side_back (Shifted n down k) =
-    bind_back _ {G = NoShift} (look_back false is_name true (k ≤ greatest_number)) (shifted_side_back n down k)
+    bind_back _ {G = NoShift} (look_back false is_name true (k ≤ greatest_number)) (column_side_back n (moved_by down k))
     (λ ts left h g. first_sees_at false is_name_token n.place (name_token n.item) (any (symbol_token (shift down)) ∷ number_part k ∷ []) ts left h)
 
 -- the symbols of bounds
@@ -74,35 +64,35 @@ abbrev pub op_part : BoundOp → Part
 op_part op = any (symbol_token (bound_symbol op))
 
 -- the token of a comparison that was read
-op_is : (k : Token) (op : BoundOp) → op_of k ≡ Ok op → k ≡ symbol_token (bound_symbol op)
+op_is : (k : Token) (op : BoundOp) → bound_op_of k ≡ Ok op → k ≡ symbol_token (bound_symbol op)
 op_is (symbol_token Le) op e = let h : AtMost ≡ op = cc in ap (λ x. symbol_token (bound_symbol x)) h
 op_is (symbol_token Ge) op e = let h : AtLeast ≡ op = cc in ap (λ x. symbol_token (bound_symbol x)) h
 op_is (symbol_token Equals) op e = let h : Equal ≡ op = cc in ap (λ x. symbol_token (bound_symbol x)) h
 op_is _ op e = absurd cc
 
 -- a comparison is read from its symbol
-op_again : (op : BoundOp) → op_of (symbol_token (bound_symbol op)) ≡ Ok op
+op_again : (op : BoundOp) → bound_op_of (symbol_token (bound_symbol op)) ≡ Ok op
 op_again AtMost = refl
 op_again AtLeast = refl
 op_again Equal = refl
 
 -- a token that is no comparison is a syntax fault
-op_err : (t : Token) (k : Fault) → op_of t ≡ Err k → k ≡ Syntax
+op_err : (t : Token) (k : Fault) → bound_op_of t ≡ Err k → k ≡ Syntax
 op_err (symbol_token Le) k e = absurd cc
 op_err (symbol_token Ge) k e = absurd cc
 op_err (symbol_token Equals) k e = absurd cc
 op_err _ k e = cc
 
 -- the part of a comparison that was read
-op_told : (t : Placed) (op : BoundOp) → op_of t.token ≡ Ok op → IsPart (op_part op) t
+op_told : (t : Placed) (op : BoundOp) → bound_op_of t.token ≡ Ok op → IsPart (op_part op) t
 op_told t op e = op_is t.token op e
 
 -- the comparison of a part
-op_seen : (op : BoundOp) (t : Placed) → IsPart (op_part op) t → op_of t.token ≡ Ok op
-op_seen op t h = ap op_of h ∙ op_again op
+op_seen : (op : BoundOp) (t : Placed) → IsPart (op_part op) t → bound_op_of t.token ≡ Ok op
+op_seen op t h = ap bound_op_of h ∙ op_again op
 
 -- a comparison stops for its syntax alone
-op_stops : TestStops (λ t. op_of t.token) op_part (λ op. Unit {0})
+op_stops : TestStops (λ t. bound_op_of t.token) op_part (λ op. Unit {0})
 op_stops = record { token = record { token = symbol_token Le; place = start }; value = AtMost; fits = tt; is = refl; fault = λ t k e. inl (op_err t.token k e) }
 
 -- the tokens of a bound are read back
@@ -110,38 +100,23 @@ pub bound_back : (b : RawBound) → ReadsBack bound (bound_text b) b (FitsBound 
 unfolding bound
 bound_back b =
     then_back _ (label_back b.left (FitsBound b))
-    (then_back _ (accepts_back (λ t. op_of t.token) (op_part b.op) b.op (FitsBound b) (op_seen b.op))
+    (then_back _ (accepts_back (λ t. bound_op_of t.token) (op_part b.op) b.op (FitsBound b) (op_seen b.op))
     (last_back side (λ s. record { left = b.left; op = b.op; side = s }) (side_text b.side) b.side (FitsBound b) NoShift (side_back b.side)))
 
 -- soundness
-shift_sound : (n : Located Identifier) (is_down : Bool) (ts us vs : Tokens) (q : Side × Tokens) → (number >>= (λ k. pure (Shifted n is_down k))) vs ≡ Ok q → Takes (name_part n ∷ []) ts us → Takes (any (symbol_token (shift is_down)) ∷ []) us vs → Takes (side_text q.0) ts q.1 × FitsSide q.0
-shift_sound n is_down ts us vs q e one sym_taken =
-    let k = bind_ok (number vs) _ q e in
-    let h : (Shifted n is_down k.0.0, k.0.1) ≡ q = cc in
-    let sized = number_sound vs k.0 k.1 in
-    subst (λ y. Takes (side_text y.0) ts y.1 × FitsSide y.0) h (takes_join (name_part n ∷ []) (any (symbol_token (shift is_down)) ∷ number_part k.0.0 ∷ []) ts us k.0.1 one (takes_join (any (symbol_token (shift is_down)) ∷ []) (number_part k.0.0 ∷ []) us vs k.0.1 sym_taken sized.0), sized.1)
-
--- behind a name, with or without a minus
-after_minus_sound : (n : Located Identifier) (down : Bool) (ts us vs : Tokens) (q : Side × Tokens) → (if down then (number >>= (λ k. pure (Shifted n true k))) else pure (Column n)) vs ≡ Ok q → Takes (name_part n ∷ []) ts us → Takes (eaten_parts (any (symbol_token Minus)) down) us vs → Takes (side_text q.0) ts q.1 × FitsSide q.0
-after_minus_sound n true ts us vs q e one eaten = shift_sound n true ts us vs q e one eaten
-after_minus_sound n false ts us vs q e one eaten =
-    let h : (Column n, vs) ≡ q = cc in
-    subst (λ y. Takes (side_text y.0) ts y.1 × FitsSide y.0) h (subst (λ x. Takes (name_part n ∷ []) ts x) eaten one, tt)
-
--- behind a name, with or without a plus
-after_name_sound : (n : Located Identifier) (up : Bool) (ts us vs : Tokens) (q : Side × Tokens) → (if up then (number >>= (λ k. pure (Shifted n false k))) else (eat (is_symbol Minus) >>= (λ down. if down then (number >>= (λ k. pure (Shifted n true k))) else pure (Column n)))) vs ≡ Ok q → Takes (name_part n ∷ []) ts us → Takes (eaten_parts (any (symbol_token Plus)) up) us vs → Takes (side_text q.0) ts q.1 × FitsSide q.0
-after_name_sound n true ts us vs q e one eaten = shift_sound n false ts us vs q e one eaten
-after_name_sound n false ts us vs q e one eaten =
-    let m = bind_ok (eat (is_symbol Minus) vs) _ q e in
-    after_minus_sound n m.0.0 ts vs m.0.1 q m.2 (subst (λ x. Takes (name_part n ∷ []) ts x) eaten one) (eat_sound (is_symbol Minus) (any (symbol_token Minus)) (symbol_told Minus) vs m.0 m.1)
 
 -- a side that names a column that is read is spelled so, and is lawful
 pub named_side_sound : Sound named_side side_text FitsSide
 unfolding named_side
 named_side_sound ts q e =
     let n = bind_ok (label ts) _ q e in
-    let u = bind_ok (eat (is_symbol Plus) n.0.1) _ q n.2 in
-    after_name_sound n.0.0 u.0.0 ts n.0.1 u.0.1 q u.2 (label_sound ts n.0 n.1).0 (eat_sound (is_symbol Plus) (any (symbol_token Plus)) (symbol_told Plus) n.0.1 u.0 u.1)
+    let o = bind_ok (offset n.0.1) _ q n.2 in
+    let read = offset_sound n.0.1 o.0 o.1 in
+    let h : (side_of n.0.0 o.0.0, o.0.1) ≡ q = cc in
+    subst (λ y. Takes (side_text y.0) ts y.1 × FitsSide y.0) h (
+      subst (λ ps. Takes ps ts o.0.1) (sym (side_parts n.0.0 o.0.0)) (takes_join (name_part n.0.0 ∷ []) (offset_text o.0.0) ts n.0.1 o.0.1 (label_sound ts n.0 n.1).0 read.0),
+      side_fits n.0.0 o.0.0 read.1,
+    )
 
 -- a side that names a column or an integer alone
 either_side_sound : (named : Bool) → Sound (if named then named_side else (integer >>= (λ i. pure (Alone i)))) side_text FitsSide
@@ -163,7 +138,7 @@ pub bound_sound : Sound bound bound_text FitsBound
 unfolding bound
 bound_sound ts q e =
     let n = bind_ok (label ts) _ q e in
-    let o = bind_ok (accept (λ t. op_of t.token) n.0.1) _ q n.2 in
+    let o = bind_ok (accept (λ t. bound_op_of t.token) n.0.1) _ q n.2 in
     let s = bind_ok (side o.0.1) _ q o.2 in
     let made : RawBound = record { left = n.0.0; op = o.0.0; side = s.0.0 } in
     let h : (made, s.0.1) ≡ q = cc in
@@ -178,12 +153,10 @@ bound_sound ts q e =
 abbrev Sides : Bool → Tokens → Type 0
 Sides = TextOf side_text FitsSide
 
--- behind a name and a sign stands a number
-sides_shift : (n : Located Identifier) (is_down : Bool) (head : Tokens) (t : Placed) (vs : Tokens) (e : Fault × Tokens) → Spells (name_part n ∷ []) head → IsPart (any (symbol_token (shift is_down))) t → (number >>= (λ k. pure (Shifted n is_down k))) vs ≡ Err e → Stops (λ c x. Sides c (head ++ t ∷ x)) vs e
-sides_shift n is_down head t vs e one is d =
-    sub_step number _ (One number_part) (λ k. k ≤ greatest_number) (λ c x. Sides c (head ++ t ∷ x)) vs e number_sound number_viable d
-    (λ c k x spelled fit. ([], (Shifted n is_down k, fit, spells_join (name_part n ∷ []) (any (symbol_token (shift is_down)) ∷ number_part k ∷ []) head (t ∷ (x ++ [])) one (is, spells_join (One number_part k) [] x [] spelled refl))))
-    (λ k h3 ws s3 f3 d3. absurd cc)
+-- a side behind its column
+side_spelled : (n : Located Identifier) (o : Offset) (head x : Tokens) → Spells (name_part n ∷ []) head → Spells (offset_text o) x → Spells (side_text (side_of n o)) (head ++ (x ++ []))
+side_spelled n o head x one two =
+    subst (λ ps. Spells ps (head ++ (x ++ []))) (sym (side_parts n o)) (spells_join (name_part n ∷ []) (offset_text o) head (x ++ []) one (subst (λ y. Spells (offset_text o) y) (sym (append-nil x)) two))
 
 -- the tokens before a fault of a side that names a column begin one
 pub named_side_viable : Viable named_side side_text FitsSide
@@ -191,11 +164,9 @@ unfolding named_side
 named_side_viable ts e h =
     sub_step label _ (One name_part) (λ n. Unit {0}) Sides ts e label_sound label_viable h
     (λ c n x spelled fit. ([], (Column n, always (Unit {0}) c tt, subst (λ y. Spells (name_part n ∷ []) y) (sym (append-nil x)) spelled)))
-    (λ n head us one fit d. eat_step (is_symbol Plus) _ (λ c x. Sides c (head ++ x)) us e d
-    (λ t vs told d2. sides_shift n false head t vs e one (symbol_told Plus t told) d2)
-    (λ d2. eat_step (is_symbol Minus) _ (λ c x. Sides c (head ++ x)) us e d2
-    (λ t vs told d3. sides_shift n true head t vs e one (symbol_told Minus t told) d3)
-    (λ d3. absurd cc)))
+    (λ n head us one fit d. sub_step offset _ offset_text FitsOffset (λ c x. Sides c (head ++ x)) us e offset_sound offset_viable d
+    (λ c o x spelled fits. ([], (side_of n o, fits_as (FitsOffset o) (FitsSide (side_of n o)) c (side_fits n o) fits, side_spelled n o head x one spelled)))
+    (λ o h2 vs s2 f2 d2. absurd cc))
 
 -- a side that names a column, or an integer alone, stops where it says
 either_side_viable : (named : Bool) → Viable (if named then named_side else (integer >>= (λ i. pure (Alone i)))) side_text FitsSide
@@ -229,7 +200,7 @@ bound_viable ts e h =
     let R : Bool → Tokens → Type 0 = TextOf bound_text FitsBound in
     sub_step label _ (One name_part) (λ n. Unit {0}) R ts e label_sound label_viable h
     (λ c n x spelled fit. (least_tokens, (record { left = n; op = AtMost; side = zero_side }, always (0 ≤ greatest_number) c (omega arith), spells_join (One name_part n) (op_part AtMost ∷ side_text zero_side) x least_tokens spelled (refl, (refl, refl)))))
-    (λ n h1 us s1 f1 d1. sub_step (accept (λ t. op_of t.token)) _ (One op_part) (λ op. Unit {0}) (λ c x. R c (h1 ++ x)) us e (λ vs q r. (accept_sound _ op_part op_told vs q r, tt)) (accept_viable _ op_part (λ op. Unit {0}) op_stops) d1
+    (λ n h1 us s1 f1 d1. sub_step (accept (λ t. bound_op_of t.token)) _ (One op_part) (λ op. Unit {0}) (λ c x. R c (h1 ++ x)) us e (λ vs q r. (accept_sound _ op_part op_told vs q r, tt)) (accept_viable _ op_part (λ op. Unit {0}) op_stops) d1
     (λ c op x spelled fit. (zero_tokens, (record { left = n; op = op; side = zero_side }, always (0 ≤ greatest_number) c (omega arith), spells_join (One name_part n) (op_part op ∷ side_text zero_side) h1 (x ++ zero_tokens) s1 (spells_join (One op_part op) (side_text zero_side) x zero_tokens spelled (refl, refl)))))
     (λ op h2 vs s2 f2 d2. sub_step side _ side_text FitsSide (λ c x. R c (h1 ++ (h2 ++ x))) vs e side_sound side_viable d2
     (λ c s x spelled fit. ([], (record { left = n; op = op; side = s }, fit, spells_join (One name_part n) (op_part op ∷ side_text s) h1 (h2 ++ (x ++ [])) s1 (spells_join (One op_part op) (side_text s) h2 (x ++ []) s2 (subst (λ y. Spells (side_text s) y) (sym (append-nil x)) spelled)))))

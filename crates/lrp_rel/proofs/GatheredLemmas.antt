@@ -22,7 +22,7 @@ use Rattle.lrp_model.specs.declared.written.RawRow.{RawRow}
 use Rattle.lrp_model.specs.declared.written.RawRelation.{RawRelation}
 use Rattle.lrp_model.specs.Sooner.{sooner}
 use Rattle.lrp_rel.specs.Times.{AreTimesOf, AreTimePlaces, HasRowMeaning}
-use Rattle.lrp_rel.specs.Gathered.{IsHeading, IsBodyOf, IsMeaningOf, AreGathered}
+use Rattle.lrp_rel.specs.Gathered.{IsHeading, IsBodyOf, IsMeaningOf, AreRelationsGathered}
 use Rattle.lrp_rel.specs.Reading.{IsSoundTree}
 use Rattle.lrp_rel.specs.declared.gathering.Heading.{Heading}
 use Rattle.lrp_rel.specs.declared.gathering.Body.{Body}
@@ -123,9 +123,9 @@ meaning_of n heading rows body columns f is h e d = record {
 }
 
 -- what is kept of relations and one more
-pub gathered_more : (tree : List RawRelation) (raw : RawRelation) (meaning : Meaning) (old new : Gathered) (found : Option DbFault) → IsMeaningOf raw meaning → AreGathered tree old
+pub gathered_more : (tree : List RawRelation) (raw : RawRelation) (meaning : Meaning) (old new : Gathered) (found : Option DbFault) → IsMeaningOf raw meaning → AreRelationsGathered tree old
     → found ≡ earliest database_standing (fault_if (is_named_in (keys old.names) meaning.relation.name) (database_fault Name meaning.place)) → keys new.names ≡ insert_key bytes_eq (keys old.names) meaning.relation.name
-    → new.repeated ≡ sooner database_standing old.repeated found → new.within ≡ sooner database_standing old.within meaning.fault → new.relations ≡ old.relations ++ meaning.relation ∷ [] → AreGathered (tree ++ raw ∷ []) new
+    → new.repeated ≡ sooner database_standing old.repeated found → new.within ≡ sooner database_standing old.within meaning.fault → new.relations ≡ old.relations ++ meaning.relation ∷ [] → AreRelationsGathered (tree ++ raw ∷ []) new
 gathered_more tree raw meaning old new found m g e put again inner kept = record {
   names = λ further.
       let all = earliest database_standing (repeated (database_fault Name) [] (map (λ r. r.name) tree ++ raw.name ∷ further)) in
@@ -140,14 +140,14 @@ gathered_more tree raw meaning old new found m g e put again inner kept = record
 }
 
 -- the first fault of all is the sooner one of a name that stands twice and of those within relations
-pub gathered_fault : (tree : List RawRelation) (g : Gathered) (f : Option DbFault) → AreGathered tree g → f ≡ sooner database_standing g.repeated g.within → f ≡ earliest database_standing (database_faults tree)
+pub gathered_fault : (tree : List RawRelation) (g : Gathered) (f : Option DbFault) → AreRelationsGathered tree g → f ≡ sooner database_standing g.repeated g.within → f ≡ earliest database_standing (database_faults tree)
 gathered_fault tree g f h e =
     let names = map (λ r. r.name) tree in
     let again : g.repeated ≡ earliest database_standing (repeated (database_fault Name) [] names) = sym (sooner_than_none database_standing g.repeated) ∙ h.names [] ∙ ap (λ l. earliest database_standing (repeated (database_fault Name) [] l)) (append-nil names) in
     e ∙ ap (λ x. sooner database_standing x g.within) again ∙ ap (sooner database_standing (earliest database_standing (repeated (database_fault Name) [] names))) h.within ∙ sym (first_of_both database_standing (repeated (database_fault Name) [] names) (flat_map relation_faults tree))
 
 -- what is gathered without a fault is what the tree means
-pub gathered_sound : (tree : List RawRelation) (g : Gathered) → AreGathered tree g → earliest database_standing (database_faults tree) ≡ None → IsSoundTree tree g.relations
+pub gathered_sound : (tree : List RawRelation) (g : Gathered) → AreRelationsGathered tree g → earliest database_standing (database_faults tree) ≡ None → IsSoundTree tree g.relations
 gathered_sound tree g h none =
     let again = repeated (database_fault Name) [] (map (λ r. r.name) tree) in
     let empty : database_faults tree ≡ [] = none_is_empty database_standing (database_faults tree) none in

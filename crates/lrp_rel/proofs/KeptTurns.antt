@@ -4,7 +4,7 @@ use Rattle.lrp_model.specs.declared.tokens.Fault.{Fault}
 use Rattle.lrp_model.specs.Tokens.{Placed, Tokens}
 use Rattle.lrp_text.specs.Parsers.{Parser, look, until_from, Reads}
 use Rattle.lrp_text.proofs.Turns.{ends_below, goes_below, fails_below}
-use Rattle.lrp_rel.specs.Gathered.{IsReadAs}
+use Rattle.lrp_rel.specs.Gathered.{IsReadInto}
 
 -- what is kept stands for the members found so far, and the rule goes on from these as it began
 pub record KeptTurn {A B : Type 0} (p : Parser A) (stop : Placed → Bool) (Stands : List A → B → Type 0) (turns : ℕ) (whole ts : Tokens) (kept : B) : Type 0 where
@@ -19,7 +19,7 @@ pub turn_starts : {A B : Type 0} (p : Parser A) (stop : Placed → Bool) (Stands
 turn_starts p stop Stands turns whole kept lt h = record { n = turns; found = []; room = lt; same = refl; stands = h }
 
 -- the token that ends the repetition comes next
-pub turn_ends : {A B : Type 0} (p : Parser A) (stop : Placed → Bool) (Stands : List A → B → Type 0) (turns : ℕ) (whole ts : Tokens) (kept : B) → KeptTurn p stop Stands turns whole ts kept → look false stop ts ≡ Ok (true, ts) → IsReadAs Stands (until_from p stop turns [] whole) kept ts
+pub turn_ends : {A B : Type 0} (p : Parser A) (stop : Placed → Bool) (Stands : List A → B → Type 0) (turns : ℕ) (whole ts : Tokens) (kept : B) → KeptTurn p stop Stands turns whole ts kept → look false stop ts ≡ Ok (true, ts) → IsReadInto Stands (until_from p stop turns [] whole) kept ts
 turn_ends p stop Stands turns whole ts kept t e = record { value = t.found; read = sym t.same ∙ ends_below p stop t.n (length ts) t.found ts t.room e; stands = t.stands }
 
 -- a member comes next

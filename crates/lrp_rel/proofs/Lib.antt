@@ -18,5 +18,6 @@ pub mod UntilEnd
 pub mod DatabaseRules
 pub mod Ops
 pub mod Shallow
+pub mod WholeTexts
 pub mod TextLaws
 pub mod OneFault

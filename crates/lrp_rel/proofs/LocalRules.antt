@@ -1,16 +1,18 @@
 -- The rules of databases are local.
 use Rattle.std.proofs.Common.{ℕ, false, []}
-use Rattle.lrp_model.specs.declared.tokens.Symbol.TheVariants.{Open, Close, OpenBrace, CloseBrace, Comma, Semicolon, Plus, Minus}
+use Rattle.lrp_model.specs.declared.tokens.Symbol.TheVariants.{Open, Close, OpenBrace, CloseBrace, Comma, Semicolon, Plus}
 use Rattle.lrp_model.specs.declared.tokens.Word.TheVariants.{Relation, Where, Letter}
 use Rattle.lrp_text.specs.Parsers.{accept, look, eat, listed, until_from}
-use Rattle.lrp_text.specs.Taking.{is_symbol, is_word, expect, expect_word, number, period, text, is_text, is_name, located}
+use Rattle.lrp_text.specs.Taking.{is_symbol, is_word, expect, expect_word, period, text, is_text, is_name, located}
 use Rattle.lrp_text.proofs.Local.{Local, bind_local, accept_local, pure_local, eat_local, look_local, if_local, separated_local, listed_local, until_local}
 use Rattle.lrp_text.proofs.LocatedRule.{located_local}
 use Rattle.lrp_text.proofs.ColumnRule.{column_local}
 use Rattle.lrp_text.proofs.IntegerRule.{integer_local}
+use Rattle.lrp_text.proofs.OffsetRule.{offset_local}
 use Rattle.lrp_rel.proofs.Labels.{label_local}
 use Rattle.lrp_text.specs.IntegerRule.{integer}
-use Rattle.lrp_rel.specs.Rules.{label, numeric, bare_value, value, named_side, side, op_of, bound, bounds, row, relation}
+use Rattle.lrp_text.specs.OffsetRule.{offset}
+use Rattle.lrp_rel.specs.Rules.{label, numeric, bare_value, value, named_side, side, bound_op_of, bound, bounds, row, relation}
 
 -- an instant or a point depends on its tokens and on the next one alone
 pub numeric_local : Local numeric
@@ -36,12 +38,7 @@ value_local = located_local bare_value bare_value_local
 -- a side that names a column depends on its tokens and on the next one alone
 pub named_side_local : Local named_side
 unfolding named_side
-named_side_local =
-    bind_local label _ label_local (λ n.
-    bind_local (eat (is_symbol Plus)) _ (eat_local _) (λ up.
-    if_local up _ _ (bind_local number _ (accept_local _) (λ k. pure_local _))
-    (bind_local (eat (is_symbol Minus)) _ (eat_local _) (λ down.
-    if_local down _ _ (bind_local number _ (accept_local _) (λ k. pure_local _)) (pure_local _)))))
+named_side_local = bind_local label _ label_local (λ n. bind_local offset _ offset_local (λ o. pure_local _))
 
 -- a side depends on its tokens and on the next one alone
 pub side_local : Local side
@@ -55,7 +52,7 @@ pub bound_local : Local bound
 unfolding bound
 bound_local =
     bind_local label _ label_local (λ n.
-    bind_local (accept (λ t. op_of t.token)) _ (accept_local _) (λ op.
+    bind_local (accept (λ t. bound_op_of t.token)) _ (accept_local _) (λ op.
     bind_local side _ side_local (λ s. pure_local _)))
 
 -- the bounds of a row depends on its tokens and on the next one alone

@@ -6,30 +6,30 @@ use Rattle.lrp_model.specs.declared.tokens.Fault.TheVariants.{Syntax}
 use Rattle.lrp_model.specs.declared.written.BoundOp.{BoundOp}
 use Rattle.lrp_model.specs.Tokens.{Token, Placed, Tokens}
 use Rattle.lrp_model.specs.Tokens.Token.{symbol_token}
-use Rattle.lrp_text.specs.Parsers.{Parser, Outcome, accept, taken, eat, eaten}
+use Rattle.lrp_text.specs.Parsers.{Parser, ParseOutcome, accept, taken, eat, eaten}
 use Rattle.lrp_text.specs.Taking.{is_symbol, is_symbol_token}
 use Rattle.lrp_text.proofs.Sound.{eat_ok}
 use Rattle.lrp_text.proofs.Complete.{IsNot}
 use Rattle.lrp_text.proofs.TokenTests.{symbol_told}
-use Rattle.lrp_rel.specs.Rules.{op_of}
+use Rattle.lrp_rel.specs.Rules.{bound_op_of}
 
 -- the rule for a comparison
 abbrev op_rule : Parser BoundOp
-op_rule = accept (λ t. op_of t.token)
+op_rule = accept (λ t. bound_op_of t.token)
 
 -- a symbol that was eaten is read as its comparison
-pub op_read : (s : Symbol) (op : BoundOp) (ts us : Tokens) → op_of (symbol_token s) ≡ Ok op → eat (is_symbol s) ts ≡ Ok (true, us) → op_rule ts ≡ Ok (op, us)
+pub op_read : (s : Symbol) (op : BoundOp) (ts us : Tokens) → bound_op_of (symbol_token s) ≡ Ok op → eat (is_symbol s) ts ≡ Ok (true, us) → op_rule ts ≡ Ok (op, us)
 unfolding accept
 op_read s op ts us is e =
     let k = eat_ok (is_symbol s) ts (true, us) e in
-    ap op_rule k.1 ∙ ap (λ r. taken r k.0 us) (ap op_of (symbol_told s k.0 k.2) ∙ is)
+    ap op_rule k.1 ∙ ap (λ r. taken r k.0 us) (ap bound_op_of (symbol_told s k.0 k.2) ∙ is)
 
 -- what was eaten and the tokens left
 abbrev pair : Bool → Tokens → Bool × Tokens
 pair b ts = (b, ts)
 
 -- whether a token was eaten
-abbrev was_eaten : Outcome Bool → Bool
+abbrev was_eaten : ParseOutcome Bool → Bool
 was_eaten (Ok p) = p.0
 was_eaten (Err e) = false
 
@@ -45,15 +45,15 @@ left_over test [] us e = let h : pair false [] ≡ pair false us = cc in (ap (λ
 left_over test (t ∷ ts) us e = left_at t ts us (test t) e
 
 -- what is read where `<=` was tried before
-pub still_ge : (ts us : Tokens) (o : Outcome BoundOp) → eat (is_symbol Le) ts ≡ Ok (false, us) → op_rule us ≡ o → op_rule ts ≡ o
+pub still_ge : (ts us : Tokens) (o : ParseOutcome BoundOp) → eat (is_symbol Le) ts ≡ Ok (false, us) → op_rule us ≡ o → op_rule ts ≡ o
 still_ge ts us o e d = ap op_rule (left_over (is_symbol Le) ts us e).0 ∙ d
 
 -- what is read where `>=` was tried before
-pub still_equals : (ts us : Tokens) (o : Outcome BoundOp) → eat (is_symbol Ge) ts ≡ Ok (false, us) → op_rule us ≡ o → op_rule ts ≡ o
+pub still_equals : (ts us : Tokens) (o : ParseOutcome BoundOp) → eat (is_symbol Ge) ts ≡ Ok (false, us) → op_rule us ≡ o → op_rule ts ≡ o
 still_equals ts us o e d = ap op_rule (left_over (is_symbol Ge) ts us e).0 ∙ d
 
 -- a token that is none of the three symbols
-op_none : (k : Token) → is_symbol_token Le k ≡ false → is_symbol_token Ge k ≡ false → is_symbol_token Equals k ≡ false → op_of k ≡ Err Syntax
+op_none : (k : Token) → is_symbol_token Le k ≡ false → is_symbol_token Ge k ≡ false → is_symbol_token Equals k ≡ false → bound_op_of k ≡ Err Syntax
 op_none (symbol_token Le) a b c = absurd cc
 op_none (symbol_token Ge) a b c = absurd cc
 op_none (symbol_token Equals) a b c = absurd cc

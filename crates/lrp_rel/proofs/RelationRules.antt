@@ -19,7 +19,7 @@ use Rattle.lrp_model.specs.Tokens.Part.{at, any}
 use Rattle.lrp_model.specs.Refused.{Stops, TextOf}
 use Rattle.lrp_model.specs.Columns.{sort_token, column_text}
 use Rattle.lrp_model.specs.Databases.{name_part, comma, row_text, relation_text, FitsRow, FitsRelation}
-use Rattle.lrp_text.specs.Parsers.{Outcome, listed, until_from}
+use Rattle.lrp_text.specs.Parsers.{ParseOutcome, listed, until_from}
 use Rattle.lrp_text.specs.Taking.{is_symbol, is_symbol_token, expect, expect_word, located}
 use Rattle.lrp_text.specs.ColumnRule.{column}
 use Rattle.lrp_text.proofs.Complete.{Answers, ReadsBack, answers_as, Anything, Sees, bind_back, then_back, pure_back, accepts_back, first_sees_any, first_sees_at, first_is_not, MemberBack, FollowsList, listed_back, MemberUntil, until_back, separated_long, joined_long}
@@ -201,7 +201,7 @@ abbrev made_of : Located Identifier → List RawColumn → List (Located RawRow)
 made_of n cs rows = record { name = n; columns = cs; rows = rows }
 
 -- one outcome reads one thing
-abbrev read_of : RawRelation × Tokens → Outcome RawRelation
+abbrev read_of : RawRelation × Tokens → ParseOutcome RawRelation
 read_of p = Ok p
 
 -- one outcome reads one thing

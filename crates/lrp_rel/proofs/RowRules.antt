@@ -27,7 +27,8 @@ use Rattle.lrp_text.proofs.TokenTests.{symbol_told, symbol_seen, word_told, word
 use Rattle.lrp_text.proofs.LocatedRule.{takes_from}
 use Rattle.lrp_rel.specs.Rules.{value, bound, bounds, row}
 use Rattle.lrp_rel.proofs.ValueRules.{NoPlus, value_back, value_sound, value_viable, bare_value_leads}
-use Rattle.lrp_rel.proofs.BoundRules.{NoShift, bound_back, bound_sound, bound_viable}
+use Rattle.lrp_text.proofs.OffsetRule.{NoShift}
+use Rattle.lrp_rel.proofs.BoundRules.{bound_back, bound_sound, bound_viable}
 
 -- what a comma is among symbols
 comma_token : (t : Placed) (s : Symbol) → IsPart comma t → is_symbol s t ≡ is_symbol_token s (symbol_token Comma)

@@ -8,11 +8,12 @@ use Rattle.lrp_model.specs.declared.tokens.Fault.TheVariants.{Syntax, Number, Te
 use Rattle.lrp_model.specs.Tokens.{Token, Placed, Tokens}
 use Rattle.lrp_model.specs.Tokens.Token.{name_token, word_token, number_token, text_token, symbol_token}
 use Rattle.lrp_text.specs.Parsers.{Parser, ◌>>=◌, pure, fail, accept, taken, look, eat, listed, separated_from, until_from}
-use Rattle.lrp_text.specs.Taking.{is_symbol, is_word, is_text, is_name, is_end, required, expect, expect_word, expect_end, name, name_of, with_place, number, number_of, limited, period, period_of, counted, text, text_of, short_enough, located, here}
+use Rattle.lrp_text.specs.Taking.{is_symbol, is_word, is_text, is_name, is_end, required, expect, expect_word, expect_end, name, name_of, with_place, number, number_of, limited, period, period_of, limited_period, text, text_of, short_enough, located, here}
 use Rattle.lrp_text.specs.ColumnRule.{sort, sort_of, column}
 use Rattle.lrp_text.proofs.Viable.{bind_err, eat_err, look_err}
 use Rattle.lrp_text.specs.IntegerRule.{integer}
-use Rattle.lrp_rel.specs.Rules.{label, numeric, bare_value, value, named_side, side, op_of, bound, bounds, row, relation, database}
+use Rattle.lrp_text.specs.OffsetRule.{offset}
+use Rattle.lrp_rel.specs.Rules.{label, numeric, bare_value, value, named_side, side, bound_op_of, bound, bounds, row, relation, database}
 
 -- the parser has no fault of this kind
 abbrev pub Shallow : {A : Type 0} → Parser A → Type 0
@@ -132,7 +133,7 @@ number_shallow (number_token n) e = limited_shallow n (nat_le n 4611686018427387
 number_shallow _ e = deep Syntax (ap fault_of e)
 
 -- a number that is not 0
-counted_shallow : (n : ℕ) (b : Bool) → NotDeep (counted n b)
+counted_shallow : (n : ℕ) (b : Bool) → NotDeep (limited_period n b)
 counted_shallow n true e = deep Period (ap fault_of e)
 counted_shallow n false e = limited_shallow n (nat_le n 4611686018427387904) e
 
@@ -152,7 +153,7 @@ text_shallow (text_token t) e = short_shallow t (nat_le (length t) 255) e
 text_shallow _ e = deep Syntax (ap fault_of e)
 
 -- a comparison
-op_shallow : (k : Token) → NotDeep (op_of k)
+op_shallow : (k : Token) → NotDeep (bound_op_of k)
 op_shallow (symbol_token Le) e = deep Syntax (ap fault_of e)
 op_shallow (symbol_token Ge) e = deep Syntax (ap fault_of e)
 op_shallow (symbol_token Equals) e = deep Syntax (ap fault_of e)
@@ -206,15 +207,19 @@ bare_value_shallow =
     bind_shallow (look false is_text) _ (look_shallow _ _) (λ quoted.
     if_shallow quoted _ _ (bind_shallow text _ (accept_shallow _ (λ t. text_shallow t.token)) (λ t. pure_shallow _)) numeric_shallow)
 
--- a side that names a column is not refused for depth
-named_side_shallow : Shallow named_side
-unfolding named_side
-named_side_shallow =
-    bind_shallow label _ label_shallow (λ n.
+-- an offset is not refused for depth
+offset_shallow : Shallow offset
+unfolding offset
+offset_shallow =
     bind_shallow (eat (is_symbol Plus)) _ (eat_shallow _) (λ up.
     if_shallow up _ _ (bind_shallow number _ numbers (λ k. pure_shallow _))
     (bind_shallow (eat (is_symbol Minus)) _ (eat_shallow _) (λ down.
-    if_shallow down _ _ (bind_shallow number _ numbers (λ k. pure_shallow _)) (pure_shallow _)))))
+    if_shallow down _ _ (bind_shallow number _ numbers (λ k. pure_shallow _)) (pure_shallow _))))
+
+-- a side that names a column is not refused for depth
+named_side_shallow : Shallow named_side
+unfolding named_side
+named_side_shallow = bind_shallow label _ label_shallow (λ n. bind_shallow offset _ offset_shallow (λ o. pure_shallow _))
 
 -- a side is not refused for depth
 side_shallow : Shallow side
@@ -228,7 +233,7 @@ bound_shallow : Shallow bound
 unfolding bound
 bound_shallow =
     bind_shallow label _ label_shallow (λ n.
-    bind_shallow (accept (λ t. op_of t.token)) _ (accept_shallow _ (λ t. op_shallow t.token)) (λ op.
+    bind_shallow (accept (λ t. bound_op_of t.token)) _ (accept_shallow _ (λ t. op_shallow t.token)) (λ op.
     bind_shallow side _ side_shallow (λ s. pure_shallow _)))
 
 -- the bounds of a row is not refused for depth

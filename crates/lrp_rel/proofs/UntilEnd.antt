@@ -7,7 +7,7 @@ use Rattle.lrp_model.specs.Tokens.{Tokens, Part, Takes, Spells}
 use Rattle.lrp_model.specs.Tokens.Token.{end_token}
 use Rattle.lrp_model.specs.Tokens.Part.{any}
 use Rattle.lrp_model.specs.Refused.{Stops, TextOf}
-use Rattle.lrp_text.specs.Parsers.{Outcome, Parser, ◌>>=◌, pure, until_from}
+use Rattle.lrp_text.specs.Parsers.{ParseOutcome, Parser, ◌>>=◌, pure, until_from}
 use Rattle.lrp_text.specs.Taking.{is_end, is_end_token, expect_end}
 use Rattle.lrp_text.proofs.Local.{Local, accept_local, bind_local, pure_local, until_local}
 use Rattle.lrp_text.proofs.Complete.{Answers, Anything, accepts_back, answers_then, first_sees_any, MemberUntil, until_back, joined_long}
@@ -41,7 +41,7 @@ abbrev whole : {A : Type 0} → A → A × Tokens
 whole a = (a, [])
 
 -- the same outcome gives one tree
-one_answer : {A : Type 0} (o : Outcome A) (a b : A) (L M : Type 0) → L → Answers o a [] L → Answers o b [] M → a ≡ b
+one_answer : {A : Type 0} (o : ParseOutcome A) (a b : A) (L M : Type 0) → L → Answers o a [] L → Answers o b [] M → a ≡ b
 one_answer o a b L M l (inl e) (inl d) = let h : whole a ≡ whole b = cc in ap (λ p. p.0) h
 one_answer o a b L M l (inl e) (inr d) = cc d.is
 one_answer o a b L M l (inr e) d = absurd (e.unlawful l)

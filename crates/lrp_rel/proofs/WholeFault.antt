@@ -17,7 +17,7 @@ use Rattle.lrp_model.specs.declared.faults.DbKind.{DbKind}
 use Rattle.lrp_model.specs.declared.faults.DbKind.TheVariants.{Utf8, Syntax, Number, Period, TextTooLong, Name, Arity, Sort, Column, Wide, UnknownRelation}
 use Rattle.lrp_rel.specs.declared.trees.ReadFault.{ReadFault}
 use Rattle.lrp_rel.specs.declared.trees.ReadFault.TheVariants.{Fault, Memory}
-use Rattle.lrp_rel.specs.Reading.{IsTextFault, IsTextFaultOf, IsRefusedBy, IsTreeRefusal, IsUnread, IsReadOrMemory, IsDatabaseFaultOrMemory}
+use Rattle.lrp_rel.specs.Reading.{IsDatabaseTextFault, IsDatabaseTextFaultOf, IsRefusedBy, IsTreeRefusal, IsUnreadDatabase, IsReadOrMemory, IsDatabaseFaultOrMemory}
 use Rattle.lrp_rel.proofs.DatabaseRules.{one_tree}
 use Rattle.lrp_rel.proofs.TextLaws.{no_fault}
 use Rattle.lrp_rel.proofs.OneFault.{fault_once}
@@ -81,7 +81,7 @@ as_fault bytes TextTooLong f o h = absurd o
 as_fault bytes UnknownRelation f o h = absurd o
 
 -- so is a fault of the bytes or of the grammar
-as_text_fault : (bytes : List ℕ) (k : DbKind) (f : DbFault) → IsTextFaultOf bytes k f → IsDatabaseFaultOf bytes k f
+as_text_fault : (bytes : List ℕ) (k : DbKind) (f : DbFault) → IsDatabaseTextFaultOf bytes k f → IsDatabaseFaultOf bytes k f
 as_text_fault bytes Utf8 f h = h
 as_text_fault bytes Syntax f h = h
 as_text_fault bytes Number f h = h
@@ -95,7 +95,7 @@ as_text_fault bytes Wide f h = absurd h
 as_text_fault bytes UnknownRelation f h = absurd h
 
 -- why there was no tree is why there is no database
-pub unread_refused : (bytes : List ℕ) (r : ReadFault) → IsUnread bytes r → IsRefusedBy bytes r
+pub unread_refused : (bytes : List ℕ) (r : ReadFault) → IsUnreadDatabase bytes r → IsRefusedBy bytes r
 unread_refused bytes (Fault f) h = as_text_fault bytes f.kind f h
 unread_refused bytes Memory h = tt
 
@@ -109,15 +109,15 @@ tree_refused bytes tree Memory t h = tt
 
 -- a fault is one of the bytes or of the grammar, or one of the tree
 data Split (bytes : List ℕ) (f : DbFault) : Type 0 where
-  of_text : IsTextFault bytes f → Split bytes f
+  of_text : IsDatabaseTextFault bytes f → Split bytes f
   of_tree : HasDatabaseFault bytes f → Split bytes f
 
 split_of : (bytes : List ℕ) (k : DbKind) (f : DbFault) → k ≡ f.kind → IsDatabaseFaultOf bytes k f → Split bytes f
-split_of bytes Utf8 f e h = of_text (subst (λ k. IsTextFaultOf bytes k f) e h)
-split_of bytes Syntax f e h = of_text (subst (λ k. IsTextFaultOf bytes k f) e h)
-split_of bytes Number f e h = of_text (subst (λ k. IsTextFaultOf bytes k f) e h)
-split_of bytes Period f e h = of_text (subst (λ k. IsTextFaultOf bytes k f) e h)
-split_of bytes TextTooLong f e h = of_text (subst (λ k. IsTextFaultOf bytes k f) e h)
+split_of bytes Utf8 f e h = of_text (subst (λ k. IsDatabaseTextFaultOf bytes k f) e h)
+split_of bytes Syntax f e h = of_text (subst (λ k. IsDatabaseTextFaultOf bytes k f) e h)
+split_of bytes Number f e h = of_text (subst (λ k. IsDatabaseTextFaultOf bytes k f) e h)
+split_of bytes Period f e h = of_text (subst (λ k. IsDatabaseTextFaultOf bytes k f) e h)
+split_of bytes TextTooLong f e h = of_text (subst (λ k. IsDatabaseTextFaultOf bytes k f) e h)
 split_of bytes Name f e h = of_tree h
 split_of bytes Arity f e h = of_tree h
 split_of bytes Sort f e h = of_tree h

@@ -12,7 +12,7 @@ use Rattle.lrp_model.specs.declared.faults.DbKind.TheVariants.{Name, Wide}
 use Rattle.lrp_model.specs.declared.written.Located.{Located}
 use Rattle.lrp_model.specs.declared.written.RawRow.{RawRow}
 use Rattle.lrp_model.specs.declared.written.RawRelation.{RawRelation}
-use Rattle.lrp_text.specs.Parsers.{Outcome, Reads}
+use Rattle.lrp_text.specs.Parsers.{ParseOutcome, Reads}
 use Rattle.lrp_model.specs.Sooner.{sooner}
 use Rattle.lrp_rel.specs.Times.{AreTimesOf}
 use Rattle.lrp_rel.specs.declared.gathering.Heading.{Heading}
@@ -21,15 +21,15 @@ use Rattle.lrp_rel.specs.declared.gathering.Meaning.{Meaning}
 use Rattle.lrp_rel.specs.declared.gathering.Gathered.{Gathered}
 
 -- the rule reads a value, and what is kept stands for it
-pub record IsReadAs {A B : Type 0} (Stands : A → B → Type 0) (outcome : Outcome A) (kept : B) (left : Tokens) : Type 0 where
+pub record IsReadInto {A B : Type 0} (Stands : A → B → Type 0) (outcome : ParseOutcome A) (kept : B) (left : Tokens) : Type 0 where
   pub value : A
   pub read : outcome ≡ Ok (value, left)
   pub stands : Stands value kept
 
 -- what a function ensures that keeps something in place of what the rule reads: that it stands for it, or the rule's fault, unless memory ran out
-abbrev pub ReadsAs : {A B : Type 0} → (A → B → Type 0) → Outcome A → Result B Fault → Tokens → Type 0
-ReadsAs Stands outcome (Ok kept) left = IsReadAs Stands outcome kept left
-ReadsAs Stands outcome (Err k) left = Reads outcome (Err k) left
+abbrev pub ReadsInto : {A B : Type 0} → (A → B → Type 0) → ParseOutcome A → Result B Fault → Tokens → Type 0
+ReadsInto Stands outcome (Ok kept) left = IsReadInto Stands outcome kept left
+ReadsInto Stands outcome (Err k) left = Reads outcome (Err k) left
 
 -- the names are those of the time columns, and the fault is the first that columns have
 pub record IsHeading (heading : Heading) : Type 0 where
@@ -49,7 +49,7 @@ pub record IsMeaningOf (raw : RawRelation) (meaning : Meaning) : Type 0 where
   pub meant : meaning.fault ≡ None → meaning.relation ≡ relation_of raw
 
 -- the names of relations and the first that stands twice, whatever names follow; the first fault of their own, and the relations that they mean where they have none
-pub record AreGathered (tree : List RawRelation) (gathered : Gathered) : Type 0 where
+pub record AreRelationsGathered (tree : List RawRelation) (gathered : Gathered) : Type 0 where
   pub names : (further : List (Located Identifier)) → sooner database_standing gathered.repeated (earliest database_standing (repeated (database_fault Name) (keys gathered.names) further)) ≡ earliest database_standing (repeated (database_fault Name) [] (map (λ r. r.name) tree ++ further))
   pub within : gathered.within ≡ earliest database_standing (flat_map relation_faults tree)
   pub meant : gathered.within ≡ None → gathered.relations ≡ database_of tree

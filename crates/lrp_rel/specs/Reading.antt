@@ -12,34 +12,34 @@ use Rattle.lrp_model.specs.DatabaseFaults.{database_standing, database_faults}
 use Rattle.lrp_model.specs.DatabaseReading.{IsNoUtf8, IsNoDatabaseText, IsDatabaseText, IsDatabaseFault}
 use Rattle.lrp_model.specs.declared.relations.Relation.{Relation}
 use Rattle.lrp_model.specs.declared.written.RawRelation.{RawRelation}
-use Rattle.lrp_rel.specs.Gathered.{AreGathered}
+use Rattle.lrp_rel.specs.Gathered.{AreRelationsGathered}
 use Rattle.lrp_rel.specs.declared.gathering.Gathered.{Gathered}
 use Rattle.lrp_rel.specs.declared.trees.ReadFault.{ReadFault}
 use Rattle.lrp_rel.specs.declared.trees.ReadFault.TheVariants.{Fault, Memory}
 use Rattle.lrp_model.specs.Limits.{most_bytes}
 
 -- a fault of the bytes, or one of the grammar
-abbrev pub IsTextFaultOf : List ℕ → DbKind → DbFault → Type 0
-IsTextFaultOf bytes Utf8 f = IsNoUtf8 bytes f.place
-IsTextFaultOf bytes Syntax f = IsNoDatabaseText bytes syntax f.place
-IsTextFaultOf bytes Number f = IsNoDatabaseText bytes number f.place
-IsTextFaultOf bytes TextTooLong f = IsNoDatabaseText bytes text_too_long f.place
-IsTextFaultOf bytes Period f = IsNoDatabaseText bytes period f.place
-IsTextFaultOf bytes Name f = ⊥
-IsTextFaultOf bytes Arity f = ⊥
-IsTextFaultOf bytes Sort f = ⊥
-IsTextFaultOf bytes Column f = ⊥
-IsTextFaultOf bytes Wide f = ⊥
-IsTextFaultOf bytes UnknownRelation f = ⊥
+abbrev pub IsDatabaseTextFaultOf : List ℕ → DbKind → DbFault → Type 0
+IsDatabaseTextFaultOf bytes Utf8 f = IsNoUtf8 bytes f.place
+IsDatabaseTextFaultOf bytes Syntax f = IsNoDatabaseText bytes syntax f.place
+IsDatabaseTextFaultOf bytes Number f = IsNoDatabaseText bytes number f.place
+IsDatabaseTextFaultOf bytes TextTooLong f = IsNoDatabaseText bytes text_too_long f.place
+IsDatabaseTextFaultOf bytes Period f = IsNoDatabaseText bytes period f.place
+IsDatabaseTextFaultOf bytes Name f = ⊥
+IsDatabaseTextFaultOf bytes Arity f = ⊥
+IsDatabaseTextFaultOf bytes Sort f = ⊥
+IsDatabaseTextFaultOf bytes Column f = ⊥
+IsDatabaseTextFaultOf bytes Wide f = ⊥
+IsDatabaseTextFaultOf bytes UnknownRelation f = ⊥
 
 -- the same by its own kind
-abbrev pub IsTextFault : List ℕ → DbFault → Type 0
-IsTextFault bytes f = IsTextFaultOf bytes f.kind f
+abbrev pub IsDatabaseTextFault : List ℕ → DbFault → Type 0
+IsDatabaseTextFault bytes f = IsDatabaseTextFaultOf bytes f.kind f
 
 -- why there is no tree: a fault of the text, or want of memory
-abbrev pub IsUnread : List ℕ → ReadFault → Type 0
-IsUnread bytes (Fault f) = IsTextFault bytes f
-IsUnread bytes Memory = Unit {0}
+abbrev pub IsUnreadDatabase : List ℕ → ReadFault → Type 0
+IsUnreadDatabase bytes (Fault f) = IsDatabaseTextFault bytes f
+IsUnreadDatabase bytes Memory = Unit {0}
 
 -- why there is no database: its one fault, or want of memory
 abbrev pub IsRefusedBy : List ℕ → ReadFault → Type 0
@@ -50,7 +50,7 @@ IsRefusedBy bytes Memory = Unit {0}
 pub record IsGatheredFrom (bytes : List ℕ) (gathered : Gathered) : Type 0 where
   pub tree : List RawRelation
   pub text : IsDatabaseText bytes tree
-  pub are : AreGathered tree gathered
+  pub are : AreRelationsGathered tree gathered
 
 -- the same of some bytes that are few enough
 pub record IsGatheredFromText (gathered : Gathered) : Type 0 where
@@ -81,10 +81,10 @@ IsDatabaseFaultOrMemory f (Err Memory) = Unit {0}
 IsDatabaseFaultOrMemory f (Err (Fault g)) = g ≡ f
 
 -- the fault of a text, from the kind that was met at a place
-abbrev pub refusal_of : TokenFault → Place → ReadFault
-refusal_of syntax p = Fault (record { kind = Syntax; place = p })
-refusal_of number p = Fault (record { kind = Number; place = p })
-refusal_of text_too_long p = Fault (record { kind = TextTooLong; place = p })
-refusal_of period p = Fault (record { kind = Period; place = p })
-refusal_of Deep p = Memory
-refusal_of memory p = Memory
+abbrev pub database_refusal : TokenFault → Place → ReadFault
+database_refusal syntax p = Fault (record { kind = Syntax; place = p })
+database_refusal number p = Fault (record { kind = Number; place = p })
+database_refusal text_too_long p = Fault (record { kind = TextTooLong; place = p })
+database_refusal period p = Fault (record { kind = Period; place = p })
+database_refusal Deep p = Memory
+database_refusal memory p = Memory

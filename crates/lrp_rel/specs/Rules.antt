@@ -15,12 +15,13 @@ use Rattle.lrp_model.specs.declared.written.Side.TheVariants.{Alone, Column, Shi
 use Rattle.lrp_model.specs.declared.written.RawBound.{RawBound}
 use Rattle.lrp_model.specs.declared.written.RawRow.{RawRow}
 use Rattle.lrp_model.specs.declared.written.RawRelation.{RawRelation}
-use Rattle.lrp_model.specs.Tokens.{Token, Tokens}
+use Rattle.lrp_model.specs.Tokens.{Token}
 use Rattle.lrp_model.specs.Tokens.Token.{symbol_token}
 use Rattle.lrp_text.specs.Parsers.{Parser, ◌>>=◌, ◌>>◌, pure, accept, look, eat, listed, separated_from, until_from}
 use Rattle.lrp_text.specs.Taking.{is_symbol, is_word, is_text, is_name, is_end, expect, expect_word, expect_end, name, number, period, text, located}
 use Rattle.lrp_text.specs.ColumnRule.{column}
 use Rattle.lrp_text.specs.IntegerRule.{integer}
+use Rattle.lrp_text.specs.OffsetRule.{Offset, unmoved, moved_by, offset}
 
 -- a name with its place
 unfoldable pub label : Parser (Located Identifier)
@@ -50,18 +51,17 @@ bare_value = do
 abbrev pub value : Parser (Located WrittenValue)
 value = located bare_value
 
--- a column, or a column with an offset
+-- a column, alone or with an offset
+abbrev pub side_of : Located Identifier → Offset → Side
+side_of n unmoved = Column n
+side_of n (moved_by down k) = Shifted n down k
+
+-- a column that was read, alone or with an offset
 unfoldable pub named_side : Parser Side
 named_side = do
   n ← label
-  up ← eat (is_symbol Plus)
-  if up then (do
-    k ← number
-    pure (Shifted n false k)) else (do
-      down ← eat (is_symbol Minus)
-      if down then (do
-        k ← number
-        pure (Shifted n true k)) else pure (Column n))
+  o ← offset
+  pure (side_of n o)
 
 -- the right side of a bound
 unfoldable pub side : Parser Side
@@ -72,17 +72,17 @@ side = do
     pure (Alone i))
 
 -- the comparison that a symbol stands for
-abbrev pub op_of : Token → Result BoundOp Fault
-op_of (symbol_token Le) = Ok AtMost
-op_of (symbol_token Ge) = Ok AtLeast
-op_of (symbol_token Equals) = Ok Equal
-op_of _ = Err Syntax
+abbrev pub bound_op_of : Token → Result BoundOp Fault
+bound_op_of (symbol_token Le) = Ok AtMost
+bound_op_of (symbol_token Ge) = Ok AtLeast
+bound_op_of (symbol_token Equals) = Ok Equal
+bound_op_of _ = Err Syntax
 
 -- a column, a comparison and a side
 unfoldable pub bound : Parser RawBound
 bound = do
   n ← label
-  op ← accept (λ t. op_of t.token)
+  op ← accept (λ t. bound_op_of t.token)
   s ← side
   pure (record { left = n; op = op; side = s })
 
@@ -121,8 +121,3 @@ database n = do
   rs ← until_from (relation n) is_end n []
   expect_end
   pure rs
-
--- nothing is left behind a database, and all from the fault on where it was refused
-abbrev pub left_behind : {A : Type 0} → Result A Fault → Tokens → Tokens
-left_behind (Ok a) ts = []
-left_behind (Err k) ts = ts

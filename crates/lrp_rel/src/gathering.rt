@@ -6,7 +6,7 @@ ghost use Rattle.lrp_model.specs.DatabaseFaults.{database_standing, database_fau
 ghost use Rattle.lrp_model.specs.declared.written.Located.{Located as LocatedOf};
 ghost use Rattle.lrp_model.specs.declared.written.RawRow.{RawRow as RawRowOf};
 ghost use Rattle.lrp_model.specs.declared.written.RawRelation.{RawRelation as Tree};
-ghost use Rattle.lrp_rel.specs.Gathered.{IsHeading, IsBodyOf, IsMeaningOf, AreGathered};
+ghost use Rattle.lrp_rel.specs.Gathered.{IsHeading, IsBodyOf, IsMeaningOf, AreRelationsGathered};
 
 use crate::faults::{ninth_column, repeated_column, repeated_name, row_fault, sooner_of, times_of};
 use crate::meaning::{meant_columns, meant_row};
@@ -130,7 +130,7 @@ impl Meaning {
 impl Gathered {
     // No relations.
     pub fn new(alloc: Global) -> Gathered
-        ensures { AreGathered [] result }
+        ensures { AreRelationsGathered [] result }
     {
         Gathered {
             relations: List::new(alloc),
@@ -143,7 +143,8 @@ impl Gathered {
     // One relation more.
     pub fn keep(&mut self, alloc: Global, meaning: Meaning) -> Result<(), Memory>
         ensures { OnOk result ((tree : ListOf Tree) (raw : Tree) → IsMeaningOf raw meaning
-            → AreGathered tree self.old → AreGathered (tree ++ raw ∷ []) self.new) }
+            → AreRelationsGathered tree self.old
+            → AreRelationsGathered (tree ++ raw ∷ []) self.new) }
     {
         let name = &meaning.relation.name;
         let found = repeated_name(alloc, &mut self.names, name, meaning.place)?;
@@ -155,7 +156,7 @@ impl Gathered {
 
     // The first fault of all.
     pub fn fault(&self) -> Option<DbFault>
-        ensures { (tree : ListOf Tree) → AreGathered tree self.now
+        ensures { (tree : ListOf Tree) → AreRelationsGathered tree self.now
             → result ≡ earliest database_standing (database_faults tree) }
     {
         sooner_of(self.repeated, self.within)

@@ -4,7 +4,7 @@ ghost use Rattle.lrp_model.specs.DatabaseReading.{IsDatabase, IsDatabaseFault};
 ghost use Rattle.lrp_model.specs.declared.faults.DbFault.{DbFault as FaultOf};
 ghost use Rattle.lrp_model.specs.declared.relations.Relation.{Relation as RelationOf};
 ghost use Rattle.lrp_model.specs.declared.written.RawRelation.{RawRelation as Tree};
-ghost use Rattle.lrp_rel.specs.Gathered.{AreGathered};
+ghost use Rattle.lrp_rel.specs.Gathered.{AreRelationsGathered};
 ghost use Rattle.lrp_rel.specs.Reading.{IsReadOrMemory, IsDatabaseFaultOrMemory, IsRefusedBy, IsSoundTree, IsGatheredFromText, IsTreeRefusal};
 ghost use Rattle.lrp_model.specs.Limits.{most_bytes};
 
@@ -16,9 +16,9 @@ use std::alloc::Global;
 // The database of what a text says, or the first fault of that.
 fn database_of(alloc: Global, gathered: Gathered) -> Result<Database, ReadFault>
     requires { IsGatheredFromText gathered }
-    ensures read { IfOk result (λ db. (tree : ListOf Tree) → AreGathered tree gathered
+    ensures read { IfOk result (λ db. (tree : ListOf Tree) → AreRelationsGathered tree gathered
         → IsSoundTree tree db) }
-    ensures refused { IfErr result (λ e. (tree : ListOf Tree) → AreGathered tree gathered
+    ensures refused { IfErr result (λ e. (tree : ListOf Tree) → AreRelationsGathered tree gathered
         → IsTreeRefusal tree e) }
 {
     match gathered.fault() {

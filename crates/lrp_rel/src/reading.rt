@@ -1,21 +1,21 @@
 // Databases, read from the tokens of a text: a written row is dropped as soon as what it means is kept.
 ghost use Rattle.std.specs.Prelude.{◌≡◌, ◌<◌, ◌≤◌, ℕ, length, IfOk, []};
 ghost use Rattle.lrp_model.specs.Databases.{FitsRow};
-ghost use Rattle.lrp_text.specs.Parsers.{Reads, accept, separated_from, listed, until_from};
+ghost use Rattle.lrp_text.specs.Parsers.{Reads, left_behind, accept, separated_from, listed, until_from};
 ghost use Rattle.lrp_text.specs.Taking.{is_symbol, is_end, located};
-ghost use Rattle.lrp_rel.specs.Gathered.{ReadsAs, IsHeading, IsBodyOf, IsMeaningOf, AreGathered};
-ghost use Rattle.lrp_rel.specs.Rules.{label, numeric, bare_value, value, named_side, side, op_of, bound, bounds, row, relation, database, left_behind};
+ghost use Rattle.lrp_rel.specs.Gathered.{ReadsInto, IsHeading, IsBodyOf, IsMeaningOf, AreRelationsGathered};
+ghost use Rattle.lrp_rel.specs.Rules.{label, numeric, bare_value, value, named_side, side, bound_op_of, bound, bounds, row, relation, database};
 
 use crate::gathering::{Body, Gathered, Heading, Meaning};
 use lrp_model::{
     BoundOp, Fault, List, Located, Name, RawBound, RawRow, Side, Symbol, Word, WrittenValue,
 };
-use lrp_text::{Cursor, columns, integer};
+use lrp_text::{TokenCursor, columns, integer};
 use std::alloc::Global;
 
 /// A name that is no reserved word, with its place.
 #[tactic(auto, unfolding(crate::specs::Rules::label))]
-pub fn read_label(alloc: Global, tokens: &mut Cursor<'_>) -> Result<Located<Name>, Fault>
+pub fn read_label(alloc: Global, tokens: &mut TokenCursor<'_>) -> Result<Located<Name>, Fault>
     ensures value { Reads (label tokens.old) result tokens.new }
     ensures fewer { IfOk result (λ _. length tokens.new < length tokens.old) }
 {
@@ -24,7 +24,7 @@ pub fn read_label(alloc: Global, tokens: &mut Cursor<'_>) -> Result<Located<Name
 }
 
 #[tactic(auto, unfolding(crate::specs::Rules::numeric))]
-fn read_numeric(tokens: &mut Cursor<'_>) -> Result<WrittenValue, Fault>
+fn read_numeric(tokens: &mut TokenCursor<'_>) -> Result<WrittenValue, Fault>
     ensures value { Reads (numeric tokens.old) result tokens.new }
     ensures fewer { IfOk result (λ _. length tokens.new < length tokens.old) }
 {
@@ -38,7 +38,7 @@ fn read_numeric(tokens: &mut Cursor<'_>) -> Result<WrittenValue, Fault>
 }
 
 #[tactic(auto, unfolding(crate::specs::Rules::bare_value))]
-fn read_bare_value(alloc: Global, tokens: &mut Cursor<'_>) -> Result<WrittenValue, Fault>
+fn read_bare_value(alloc: Global, tokens: &mut TokenCursor<'_>) -> Result<WrittenValue, Fault>
     ensures value { Reads (bare_value tokens.old) result tokens.new }
     ensures fewer { IfOk result (λ _. length tokens.new < length tokens.old) }
 {
@@ -50,7 +50,7 @@ fn read_bare_value(alloc: Global, tokens: &mut Cursor<'_>) -> Result<WrittenValu
     }
 }
 
-fn read_value(alloc: Global, tokens: &mut Cursor<'_>) -> Result<Located<WrittenValue>, Fault>
+fn read_value(alloc: Global, tokens: &mut TokenCursor<'_>) -> Result<Located<WrittenValue>, Fault>
     ensures value { Reads (value tokens.old) result tokens.new }
     ensures fewer { IfOk result (λ _. length tokens.new < length tokens.old) }
 {
@@ -59,8 +59,8 @@ fn read_value(alloc: Global, tokens: &mut Cursor<'_>) -> Result<Located<WrittenV
     Ok(Located { place, item })
 }
 
-#[tactic(auto, unfolding(crate::specs::Rules::named_side))]
-fn read_named_side(alloc: Global, tokens: &mut Cursor<'_>) -> Result<Side, Fault>
+#[tactic(auto, unfolding(crate::specs::Rules::named_side, lrp_text::specs::OffsetRule::offset))]
+fn read_named_side(alloc: Global, tokens: &mut TokenCursor<'_>) -> Result<Side, Fault>
     ensures value { Reads (named_side tokens.old) result tokens.new }
     ensures fewer { IfOk result (λ _. length tokens.new < length tokens.old) }
 {
@@ -85,7 +85,7 @@ fn read_named_side(alloc: Global, tokens: &mut Cursor<'_>) -> Result<Side, Fault
 }
 
 #[tactic(auto, unfolding(crate::specs::Rules::side))]
-fn read_side(alloc: Global, tokens: &mut Cursor<'_>) -> Result<Side, Fault>
+fn read_side(alloc: Global, tokens: &mut TokenCursor<'_>) -> Result<Side, Fault>
     ensures value { Reads (side tokens.old) result tokens.new }
     ensures fewer { IfOk result (λ _. length tokens.new < length tokens.old) }
 {
@@ -98,8 +98,8 @@ fn read_side(alloc: Global, tokens: &mut Cursor<'_>) -> Result<Side, Fault>
 }
 
 // The comparison of a bound.
-fn read_op(tokens: &mut Cursor<'_>) -> Result<BoundOp, Fault>
-    ensures value { Reads (accept (λ t. op_of t.token) tokens.old) result tokens.new }
+fn read_op(tokens: &mut TokenCursor<'_>) -> Result<BoundOp, Fault>
+    ensures value { Reads (accept (λ t. bound_op_of t.token) tokens.old) result tokens.new }
     ensures fewer { IfOk result (λ _. length tokens.new < length tokens.old) }
 {
     if tokens.eat(Symbol::Le) {
@@ -115,7 +115,7 @@ fn read_op(tokens: &mut Cursor<'_>) -> Result<BoundOp, Fault>
 }
 
 #[tactic(auto, unfolding(crate::specs::Rules::bound))]
-fn read_bound(alloc: Global, tokens: &mut Cursor<'_>) -> Result<RawBound, Fault>
+fn read_bound(alloc: Global, tokens: &mut TokenCursor<'_>) -> Result<RawBound, Fault>
     ensures value { Reads (bound tokens.old) result tokens.new }
     ensures fewer { IfOk result (λ _. length tokens.new < length tokens.old) }
 {
@@ -128,7 +128,7 @@ fn read_bound(alloc: Global, tokens: &mut Cursor<'_>) -> Result<RawBound, Fault>
 // One value or more, with commas between.
 fn read_some_values(
     alloc: Global,
-    tokens: &mut Cursor<'_>,
+    tokens: &mut TokenCursor<'_>,
 ) -> Result<List<Located<WrittenValue>>, Fault>
     ensures value { (n : ℕ) → length tokens.old < n
         → Reads (separated_from value (is_symbol Symbol.Comma) n [] tokens.old) result tokens.new }
@@ -146,7 +146,10 @@ fn read_some_values(
 
 // The values of a row, up to the parenthesis that ends them.
 #[tactic(auto, unfolding(lrp_text::specs::Parsers::listed))]
-fn read_values(alloc: Global, tokens: &mut Cursor<'_>) -> Result<List<Located<WrittenValue>>, Fault>
+fn read_values(
+    alloc: Global,
+    tokens: &mut TokenCursor<'_>,
+) -> Result<List<Located<WrittenValue>>, Fault>
     ensures value { (n : ℕ) → length tokens.old < n
         → Reads (listed value (is_symbol Symbol.Comma) (is_symbol Symbol.Close) n tokens.old) result
         tokens.new }
@@ -159,7 +162,7 @@ fn read_values(alloc: Global, tokens: &mut Cursor<'_>) -> Result<List<Located<Wr
 }
 
 // One bound or more, with commas between.
-fn read_some_bounds(alloc: Global, tokens: &mut Cursor<'_>) -> Result<List<RawBound>, Fault>
+fn read_some_bounds(alloc: Global, tokens: &mut TokenCursor<'_>) -> Result<List<RawBound>, Fault>
     ensures value { (n : ℕ) → length tokens.old < n
         → Reads (separated_from bound (is_symbol Symbol.Comma) n [] tokens.old) result tokens.new }
     ensures shorter { IfOk result (λ _. length tokens.new ≤ length tokens.old) }
@@ -176,7 +179,7 @@ fn read_some_bounds(alloc: Global, tokens: &mut Cursor<'_>) -> Result<List<RawBo
 
 // The bounds of a row, if there are any.
 #[tactic(auto, unfolding(crate::specs::Rules::bounds))]
-fn read_bounds(alloc: Global, tokens: &mut Cursor<'_>) -> Result<List<RawBound>, Fault>
+fn read_bounds(alloc: Global, tokens: &mut TokenCursor<'_>) -> Result<List<RawBound>, Fault>
     ensures value { (n : ℕ) → length tokens.old < n
         → Reads (bounds n tokens.old) result tokens.new }
     ensures shorter { IfOk result (λ _. length tokens.new ≤ length tokens.old) }
@@ -188,7 +191,7 @@ fn read_bounds(alloc: Global, tokens: &mut Cursor<'_>) -> Result<List<RawBound>,
 }
 
 #[tactic(auto, unfolding(crate::specs::Rules::row))]
-fn read_row(alloc: Global, tokens: &mut Cursor<'_>) -> Result<RawRow, Fault>
+fn read_row(alloc: Global, tokens: &mut TokenCursor<'_>) -> Result<RawRow, Fault>
     ensures value { (n : ℕ) → length tokens.old < n → Reads (row n tokens.old) result tokens.new }
     ensures fewer { IfOk result (λ _. length tokens.new < length tokens.old) }
 {
@@ -201,7 +204,10 @@ fn read_row(alloc: Global, tokens: &mut Cursor<'_>) -> Result<RawRow, Fault>
 }
 
 /// A written row, with the place of its parenthesis.
-pub fn read_placed_row(alloc: Global, tokens: &mut Cursor<'_>) -> Result<Located<RawRow>, Fault>
+pub fn read_placed_row(
+    alloc: Global,
+    tokens: &mut TokenCursor<'_>,
+) -> Result<Located<RawRow>, Fault>
     ensures value { (n : ℕ) → length tokens.old < n
         → Reads (located (row n) tokens.old) result tokens.new }
     ensures fits { IfOk result (λ row. FitsRow row.item) }
@@ -213,10 +219,10 @@ pub fn read_placed_row(alloc: Global, tokens: &mut Cursor<'_>) -> Result<Located
 }
 
 // The rows of a relation, up to the brace that ends them.
-fn read_rows(alloc: Global, heading: &Heading, tokens: &mut Cursor<'_>) -> Result<Body, Fault>
+fn read_rows(alloc: Global, heading: &Heading, tokens: &mut TokenCursor<'_>) -> Result<Body, Fault>
     requires { IsHeading heading.now }
     ensures value { (n : ℕ) → length tokens.old < n
-        → ReadsAs (IsBodyOf heading.now)
+        → ReadsInto (IsBodyOf heading.now)
         (until_from (located (row n)) (is_symbol Symbol.CloseBrace) n [] tokens.old) result
         tokens.new }
     ensures shorter { IfOk result (λ _. length tokens.new ≤ length tokens.old) }
@@ -232,9 +238,9 @@ fn read_rows(alloc: Global, heading: &Heading, tokens: &mut Cursor<'_>) -> Resul
 }
 
 #[tactic(auto, unfolding(crate::specs::Rules::relation))]
-fn read_relation(alloc: Global, tokens: &mut Cursor<'_>) -> Result<Meaning, Fault>
+fn read_relation(alloc: Global, tokens: &mut TokenCursor<'_>) -> Result<Meaning, Fault>
     ensures value { (n : ℕ) → length tokens.old < n
-        → ReadsAs IsMeaningOf (relation n tokens.old) result tokens.new }
+        → ReadsInto IsMeaningOf (relation n tokens.old) result tokens.new }
     ensures fewer { IfOk result (λ _. length tokens.new < length tokens.old) }
 {
     tokens.expect_word(Word::Relation)?;
@@ -250,9 +256,10 @@ fn read_relation(alloc: Global, tokens: &mut Cursor<'_>) -> Result<Meaning, Faul
 }
 
 // The relations of a database, up to the end.
-fn read_relations(alloc: Global, tokens: &mut Cursor<'_>) -> Result<Gathered, Fault>
+fn read_relations(alloc: Global, tokens: &mut TokenCursor<'_>) -> Result<Gathered, Fault>
     ensures { (n : ℕ) → length tokens.old < n
-        → ReadsAs AreGathered (until_from (relation n) is_end n [] tokens.old) result tokens.new }
+        → ReadsInto AreRelationsGathered
+        (until_from (relation n) is_end n [] tokens.old) result tokens.new }
 {
     let mut gathered = Gathered::new(alloc);
     'relations: loop {
@@ -266,9 +273,10 @@ fn read_relations(alloc: Global, tokens: &mut Cursor<'_>) -> Result<Gathered, Fa
 
 // The relations, and the end behind them.
 #[tactic(auto, unfolding(crate::specs::Rules::database))]
-pub fn read_relations_to_end(alloc: Global, tokens: &mut Cursor<'_>) -> Result<Gathered, Fault>
+pub fn read_relations_to_end(alloc: Global, tokens: &mut TokenCursor<'_>) -> Result<Gathered, Fault>
     ensures { (n : ℕ) → length tokens.old < n
-        → ReadsAs AreGathered (database n tokens.old) result (left_behind result tokens.new) }
+        → ReadsInto AreRelationsGathered (database n tokens.old) result
+        (left_behind result tokens.new) }
 {
     let gathered = read_relations(alloc, tokens)?;
     tokens.expect_end()?;

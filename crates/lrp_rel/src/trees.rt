@@ -1,12 +1,12 @@
 // What the text of a database says, read from its bytes, or the fault of the bytes or of the grammar.
 ghost use Rattle.std.specs.Prelude.{◌≡◌, ◌≢◌, ◌≤◌, length, IfOk, IfErr};
-ghost use Rattle.lrp_rel.specs.Reading.{refusal_of, IsGatheredFrom, IsUnread};
+ghost use Rattle.lrp_rel.specs.Reading.{database_refusal, IsGatheredFrom, IsUnreadDatabase};
 ghost use Rattle.lrp_model.specs.Limits.{most_bytes};
 
 use crate::gathering::Gathered;
 use crate::reading::read_relations_to_end;
 use lrp_model::{DbFault, DbKind, Fault, Memory, Place};
-use lrp_text::{Cursor, place_behind};
+use lrp_text::{TokenCursor, place_behind};
 use std::alloc::Global;
 use std::str::from_utf8;
 use thiserror::Error;
@@ -34,7 +34,7 @@ impl From<Memory> for ReadFault {
 /// The fault of a text, from what was met at a place.
 pub fn refusal(kind: Fault, place: Place) -> ReadFault
     requires { kind ≢ Fault.Deep }
-    ensures { result ≡ refusal_of kind place }
+    ensures { result ≡ database_refusal kind place }
 {
     let kind = match kind {
         Fault::Syntax => DbKind::Syntax,
@@ -53,9 +53,9 @@ pub fn refusal(kind: Fault, place: Place) -> ReadFault
 fn read_text(alloc: Global, text: &str) -> Result<Gathered, ReadFault>
     requires { length text.now ≤ most_bytes }
     ensures gathered { IfOk result (IsGatheredFrom text.now) }
-    ensures refused { IfErr result (IsUnread text.now) }
+    ensures refused { IfErr result (IsUnreadDatabase text.now) }
 {
-    let mut tokens = Cursor::new(text);
+    let mut tokens = TokenCursor::new(text);
     match read_relations_to_end(alloc, &mut tokens) {
         Ok(gathered) => Ok(gathered),
         Err(fault) => Err(refusal(fault, tokens.peek().place)),
@@ -66,7 +66,7 @@ fn read_text(alloc: Global, text: &str) -> Result<Gathered, ReadFault>
 pub fn read_bytes(alloc: Global, bytes: &[u8]) -> Result<Gathered, ReadFault>
     requires { length bytes.now ≤ most_bytes }
     ensures gathered { IfOk result (IsGatheredFrom bytes.now) }
-    ensures refused { IfErr result (IsUnread bytes.now) }
+    ensures refused { IfErr result (IsUnreadDatabase bytes.now) }
 {
     match from_utf8(bytes) {
         Ok(text) => read_text(alloc, text),

@@ -8,21 +8,21 @@ use Rattle.lrp_model.specs.declared.relations.Sort.{Sort}
 use Rattle.lrp_model.specs.declared.raw.RawColumn.{RawColumn}
 use Rattle.lrp_sorts.specs.Scopes.{kept_at}
 use Rattle.lrp_sorts.specs.Nesting.{binders_with, IsNested}
-use Rattle.lrp_sorts.specs.declared.scope.Quantifier.{Quantifier}
+use Rattle.lrp_sorts.specs.declared.scope.QuantifierBinder.{QuantifierBinder}
 use Rattle.lrp_sorts.proofs.Binding.{map_reverse}
 use Rattle.lrp_sorts.proofs.Counting.{same_name}
 use Rattle.lrp_sorts.proofs.Heads.{sort_choice}
 use Rattle.lrp_sorts.proofs.Tallies.{own_binder}
 
 -- the binders of a scope, from its quantifiers
-pub bound_around : (qs : List Quantifier) (head : Binders) (n : Identifier) → binder_sort (binders_with (reverse qs) head) n ≡ binder_sort (reverse (map (λ (q : Quantifier). q.binder.now) qs) ++ head) n
-bound_around qs head n = ap (λ l. binder_sort (l ++ head) n) (map_reverse (λ (q : Quantifier). q.binder.now) qs)
+pub bound_around : (qs : List QuantifierBinder) (head : Binders) (n : Identifier) → binder_sort (binders_with (reverse qs) head) n ≡ binder_sort (reverse (map (λ (q : QuantifierBinder). q.binder.now) qs) ++ head) n
+bound_around qs head n = ap (λ l. binder_sort (l ++ head) n) (map_reverse (λ (q : QuantifierBinder). q.binder.now) qs)
 
 -- a head alone
 pub nested_head : {S : Type 0} (m : HashMap (Bor (List ℕ)) (Bor Sort) S) (head : Binders) → ((n : Identifier) → kept_at m n ≡ binder_sort head n) → IsNested m [] head
 nested_head m head h = record { sorts = h; outer = tt }
 
-module _ {S : Type 0} (m n : HashMap (Bor (List ℕ)) (Bor Sort) S) (q : Quantifier) (qs : List Quantifier) (head : Binders) where
+module _ {S : Type 0} (m n : HashMap (Bor (List ℕ)) (Bor Sort) S) (q : QuantifierBinder) (qs : List QuantifierBinder) (head : Binders) where
   -- one quantifier further in
   pub entered : IsNested m qs head → option_map (λ (s : Bor Sort). s.now) q.outer ≡ binder_sort (binders_with qs head) q.binder.now.name
       → ((name : Identifier) → kept_at n name ≡ cond (bytes_eq q.binder.now.name name) (Some q.binder.now.sort) (kept_at m name)) → IsNested n (q ∷ qs) head
@@ -44,5 +44,5 @@ module _ {S : Type 0} (m n : HashMap (Bor (List ℕ)) (Bor Sort) S) (q : Quantif
   left k u = record { sorts = λ name. u name ∙ left_at name (bytes_eq q.binder.now.name name) refl k; outer = k.outer.1 }
 
 -- the name of the innermost quantifier is there
-pub own_kept : {S : Type 0} (m : HashMap (Bor (List ℕ)) (Bor Sort) S) (q : Quantifier) (qs : List Quantifier) (head : Binders) → IsNested m (q ∷ qs) head → kept_at m q.binder.now.name ≡ Some q.binder.now.sort
+pub own_kept : {S : Type 0} (m : HashMap (Bor (List ℕ)) (Bor Sort) S) (q : QuantifierBinder) (qs : List QuantifierBinder) (head : Binders) → IsNested m (q ∷ qs) head → kept_at m q.binder.now.name ≡ Some q.binder.now.sort
 own_kept m q qs head k = k.sorts q.binder.now.name ∙ own_binder q.binder.now (binders_with qs head)

@@ -17,7 +17,7 @@ use Rattle.lrp_model.specs.Sooner.{sooner}
 use Rattle.lrp_model.proofs.FirstFault.{first_of_both}
 use Rattle.lrp_sorts.specs.declared.finding.Finding.{Finding}
 use Rattle.lrp_sorts.specs.Scopes.{Around, binders}
-use Rattle.lrp_sorts.specs.Widths.{IsTally, IsCounted}
+use Rattle.lrp_sorts.specs.Widths.{IsTally, IsTallied}
 use Rattle.lrp_sorts.specs.declared.width.Tally.{Tally}
 
 -- ---- nodes of the tree in memory
@@ -63,20 +63,20 @@ fault_then (Ok x) a b e h = h ∙ e
 fault_then (Err x) a b e h = h
 
 -- the same of names
-pub free_then : {E : Type 0} (around : Around) (r : Result Finding E) (a b : List Identifier) → a ≡ b → IfOk r (λ made. IsCounted around a made.free) → IfOk r (λ made. IsCounted around b made.free)
-free_then around (Ok x) a b e h = subst (λ ns. IsCounted around ns x.free) e h
+pub free_then : {E : Type 0} (around : Around) (r : Result Finding E) (a b : List Identifier) → a ≡ b → IfOk r (λ made. IsTallied around a made.free) → IfOk r (λ made. IsTallied around b made.free)
+free_then around (Ok x) a b e h = subst (λ ns. IsTallied around ns x.free) e h
 free_then around (Err x) a b e h = h
 
 -- the same of a tally that is there
-pub counted_then : (around : Around) (a b : List Identifier) (t u : Tally) → a ≡ b → u ≡ t → IsCounted around a t → IsCounted around b u
-counted_then around a b t u e d h = subst (λ ns. IsCounted around ns u) e (subst (λ v. IsCounted around a v) (sym d) h)
+pub counted_then : (around : Around) (a b : List Identifier) (t u : Tally) → a ≡ b → u ≡ t → IsTallied around a t → IsTallied around b u
+counted_then around a b t u e d h = subst (λ ns. IsTallied around ns u) e (subst (λ v. IsTallied around a v) (sym d) h)
 
 -- a tally within so many quantifiers, which are those of the scope
-pub tally_at : (around : Around) (q : ℕ) (names : List Identifier) (t : Tally) → q ≡ length around.quantifiers → IsTally (binders around) q names t → IsCounted around names t
+pub tally_at : (around : Around) (q : ℕ) (names : List Identifier) (t : Tally) → q ≡ length around.quantifiers → IsTally (binders around) q names t → IsTallied around names t
 tally_at around q names t e h = subst (λ n. IsTally (binders around) n names t) e h
 
 -- the same the other way round
-pub at_tally : (around : Around) (q : ℕ) (names : List Identifier) (t : Tally) → q ≡ length around.quantifiers → IsCounted around names t → IsTally (binders around) q names t
+pub at_tally : (around : Around) (q : ℕ) (names : List Identifier) (t : Tally) → q ≡ length around.quantifiers → IsTallied around names t → IsTally (binders around) q names t
 at_tally around q names t e h = subst (λ n. IsTally (binders around) n names t) (sym e) h
 
 -- ---- widths

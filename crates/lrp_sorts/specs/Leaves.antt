@@ -10,7 +10,7 @@ use Rattle.lrp_model.specs.declared.raw.RawKind.TheVariants.{Atom, Compare, Memb
 use Rattle.lrp_model.specs.declared.relations.Relation.{Relation}
 use Rattle.lrp_model.specs.Sooner.{sooner}
 use Rattle.lrp_sorts.specs.Scopes.{Around, binders}
-use Rattle.lrp_sorts.specs.Widths.{IsCounted}
+use Rattle.lrp_sorts.specs.Widths.{IsTallied}
 use Rattle.lrp_sorts.specs.declared.finding.Finding.{Finding}
 use Rattle.lrp_sorts.specs.declared.width.Tally.{Tally}
 
@@ -22,13 +22,13 @@ IsLeaf (Member t point) = Unit {0}
 IsLeaf _ = ⊥
 
 -- so few names occur in it that they are not too many, whatever binds them
-pub record IsNarrow (f : RawFormula) : Type 0 where
+pub record IsNarrowLeaf (f : RawFormula) : Type 0 where
   pub leaf : IsLeaf f.kind
   pub few : length (free_names (raw_form_of f)) ≤ 8
 
 -- a tally, and these names beside it
 abbrev pub CountsOn : Around → Tally → List Identifier → Tally → Type 0
-CountsOn a before more made = (names : List Identifier) → IsCounted a names before → IsCounted a (names ++ more) made
+CountsOn a before more made = (names : List Identifier) → IsTallied a names before → IsTallied a (names ++ more) made
 
 -- what was found, and what this formula shows beside it, all but its own width
 pub record ShowsOn (db : List Relation) (a : Around) (before : Finding) (f : RawForm) (made : Finding) : Type 0 where

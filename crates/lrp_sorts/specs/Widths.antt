@@ -30,8 +30,8 @@ pub record IsTally (bs : Binders) (quantifiers : ℕ) (names : List Identifier) 
   pub texts : AreKeptNames is_data bs quantifiers names (names_behind tally.texts.items)
 
 -- the tally of the names that occur free within the binders of a scope
-abbrev pub IsCounted : Around → List Identifier → Tally → Type 0
-IsCounted a = IsTally (binders a) (length a.quantifiers)
+abbrev pub IsTallied : Around → List Identifier → Tally → Type 0
+IsTallied a = IsTally (binders a) (length a.quantifiers)
 
 -- the name in a term, if there is one
 abbrev pub added : Option (Bor Identifier) → List Identifier

@@ -15,7 +15,7 @@ ghost use Rattle.lrp_model.specs.Outcomes.{IsQueryOrMemory, IsFaultOrMemory};
 use crate::catalog::Catalog;
 use crate::earliest::sooner_of;
 use crate::finding::with_width;
-use crate::head::{Opening, head_width, open};
+use crate::head::{OpenedHead, head_width, open};
 use crate::plain::{plain_columns, plain_formula};
 use crate::scope::Scope;
 use crate::walk::inspect;
@@ -24,7 +24,7 @@ use lrp_model::{Head, Memory, Query, QueryRead, RawQuery};
 use std::alloc::Global;
 
 // The first sort fault of a query, and the binders of its head.
-fn survey<'a>(alloc: Global, raw: &'a RawQuery, db: &Database) -> Result<Opening<'a>, Memory>
+fn survey<'a>(alloc: Global, raw: &'a RawQuery, db: &Database) -> Result<OpenedHead<'a>, Memory>
     ensures fault { IfOk result (λ made. made.fault
         ≡ earliest query_standing (query_faults db.now (raw_question_of raw.now))) }
     ensures scope { IfOk result (λ made. made.scope
@@ -32,11 +32,11 @@ fn survey<'a>(alloc: Global, raw: &'a RawQuery, db: &Database) -> Result<Opening
 {
     let catalog = Catalog::new(alloc, db)?;
     let columns = raw.head.as_slice();
-    let Opening { fault, mut scope } = open(alloc, &catalog, columns)?;
+    let OpenedHead { fault, mut scope } = open(alloc, &catalog, columns)?;
     let inside = inspect(alloc, &catalog, &mut scope, &raw.body)?;
     let body = with_width(raw.body.place, inside);
     let head = sooner_of(fault, head_width(columns));
-    Ok(Opening {
+    Ok(OpenedHead {
         fault: sooner_of(head, body.fault),
         scope,
     })

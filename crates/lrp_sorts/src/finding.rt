@@ -11,8 +11,8 @@ ghost use Rattle.lrp_model.specs.declared.faults.QueryKind.TheVariants.{Wide as 
 ghost use Rattle.lrp_model.specs.Sooner.{sooner};
 ghost use Rattle.lrp_sorts.specs.Scopes.{Around, binders};
 ghost use Rattle.lrp_sorts.specs.Terms.{IsSeen};
-ghost use Rattle.lrp_sorts.specs.Leaves.{CountsOn, IsLeaf, IsNarrow, ShowsOn};
-ghost use Rattle.lrp_sorts.specs.Widths.{IsTally, IsCounted, added};
+ghost use Rattle.lrp_sorts.specs.Leaves.{CountsOn, IsLeaf, IsNarrowLeaf, ShowsOn};
+ghost use Rattle.lrp_sorts.specs.Widths.{IsTally, IsTallied, added};
 ghost use Rattle.lrp_model.specs.Rows.{columns_in};
 
 use crate::catalog::Catalog;
@@ -126,15 +126,15 @@ pub fn unbind<'a>(
 ) -> Result<Finding<'a>, Memory>
     ensures fault { (outer : Around) (names : List Identifier)
         → scope.old ≡ record outer { quantifiers = binder.now ∷ outer.quantifiers }
-        → IsCounted scope.old names inside.entry.free
+        → IsTallied scope.old names inside.entry.free
         → IfOk result (λ made. made.fault
         ≡ sooner query_standing own (sooner query_standing
         (earliest query_standing (fault_if (too_many (binders scope.old) (binder.now.name ∷ names))
         (query_fault wide place))) inside.entry.fault)) }
     ensures free { (outer : Around) (names : List Identifier)
         → scope.old ≡ record outer { quantifiers = binder.now ∷ outer.quantifiers }
-        → IsCounted scope.old names inside.entry.free
-        → IfOk result (λ made. IsCounted outer (without binder.now.name names) made.free) }
+        → IsTallied scope.old names inside.entry.free
+        → IfOk result (λ made. IsTallied outer (without binder.now.name names) made.free) }
     ensures scope { OnOk result ((outer : Around)
         → scope.old ≡ record outer { quantifiers = binder.now ∷ outer.quantifiers }
         → scope.new ≡ outer) }
@@ -225,18 +225,29 @@ fn columns_of(relation: Option<&Relation>) -> &[Column]
     }
 }
 
+// A relation's name at its place, and the terms of which the relation is to hold.
+#[derive(Clone, Copy)]
+struct AtomicFormula<'a> {
+    place: Place,
+    relation: &'a Name,
+    terms: &'a [RawTerm],
+}
+
 // What an atom shows, together with what was found before it.
 fn atom<'a>(
     catalog: &Catalog<'_>,
     scope: &Scope<'_>,
     before: Finding<'a>,
-    place: Place,
-    name: &Name,
-    terms: &'a [RawTerm],
+    formula: AtomicFormula<'a>,
 ) -> Result<Finding<'a>, Memory>
     ensures { IfOk result (ShowsOn catalog.now scope.now before.entry
-        (raw_atom place name.now terms.now)) }
+        (raw_atom formula.entry.place formula.entry.relation.now formula.entry.terms.now)) }
 {
+    let AtomicFormula {
+        place,
+        relation: name,
+        terms,
+    } = formula;
     let relation = catalog.relation(name);
     let Shown {
         fault,
@@ -295,7 +306,7 @@ fn membership<'a>(
 
 // Whether it is a formula without parts that has few enough names not to be too wide.
 pub fn is_narrow_leaf(f: &RawFormula) -> bool
-    ensures { IsTrue result → IsNarrow f.now }
+    ensures { IsTrue result → IsNarrowLeaf f.now }
 {
     match &f.kind {
         RawKind::Atom { terms, .. } => terms.len() <= MOST,
@@ -316,7 +327,12 @@ pub fn leaf<'a>(
 {
     match &f.kind {
         RawKind::Atom { relation, terms } => {
-            atom(catalog, scope, before, f.place, relation, terms.as_slice())
+            let formula = AtomicFormula {
+                place: f.place,
+                relation,
+                terms: terms.as_slice(),
+            };
+            atom(catalog, scope, before, formula)
         }
         RawKind::Compare { left, op, right } => comparison(scope, before, left, *op, right),
         RawKind::Member { term, .. } => membership(scope, before, term),

@@ -16,7 +16,7 @@ use std::collections::HashMap;
 
 /// The binders of a head, and the first fault of one of them.
 #[derive(Drop)]
-pub struct Opening<'a> {
+pub struct OpenedHead<'a> {
     pub fault: Option<QueryFault>,
     pub scope: Scope<'a>,
 }
@@ -26,7 +26,7 @@ pub fn open<'a>(
     alloc: Global,
     catalog: &Catalog<'_>,
     columns: &'a [RawColumn],
-) -> Result<Opening<'a>, Memory>
+) -> Result<OpenedHead<'a>, Memory>
     ensures fault { IfOk result (λ made. made.fault
         ≡ earliest query_standing (head_faults catalog.now [] columns.now)) }
     ensures scope { IfOk result (λ made. made.scope
@@ -39,7 +39,7 @@ pub fn open<'a>(
         found = sooner_of(found, binder_fault(catalog, bound, column));
         sorts.insert(column.name.as_bytes(), &column.sort)?;
     }
-    Ok(Opening {
+    Ok(OpenedHead {
         fault: found,
         scope: Scope::of(alloc, columns, sorts),
     })

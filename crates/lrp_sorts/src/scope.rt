@@ -11,7 +11,7 @@ use std::marker::Model;
 
 /// A quantifier's binder, and the sort that its name has outside, where it is bound there too.
 #[derive(Clone, Copy)]
-pub struct Quantifier<'a> {
+pub struct QuantifierBinder<'a> {
     pub binder: &'a RawColumn,
     pub outer: Option<&'a Sort>,
 }
@@ -20,7 +20,7 @@ pub struct Quantifier<'a> {
 pub struct Scope<'a> {
     columns: &'a [RawColumn],
     sorts: HashMap<&'a [u8], &'a Sort>,
-    quantifiers: Vec<Quantifier<'a>>,
+    quantifiers: Vec<QuantifierBinder<'a>>,
 }
 
 // It is let go by one call, which is proved once.
@@ -89,7 +89,8 @@ impl<'a> Scope<'a> {
     {
         self.quantifiers.reserve(1)?;
         let outer = bind_name(&mut self.sorts, binder.name.as_bytes(), &binder.sort)?;
-        self.quantifiers.push_reserved(Quantifier { binder, outer });
+        self.quantifiers
+            .push_reserved(QuantifierBinder { binder, outer });
         Ok(outer)
     }
 

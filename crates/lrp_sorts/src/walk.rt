@@ -6,7 +6,7 @@ ghost use Rattle.lrp_model.specs.RawQueries.{raw_form_of, raw_forms_of};
 ghost use Rattle.lrp_model.specs.Sorting.{query_standing, widened, binder_faults, form_faults, forms_faults, free_names, free_names_each};
 ghost use Rattle.lrp_model.specs.Sooner.{sooner};
 ghost use Rattle.lrp_sorts.specs.Scopes.{binders};
-ghost use Rattle.lrp_sorts.specs.Widths.{IsCounted};
+ghost use Rattle.lrp_sorts.specs.Widths.{IsTallied};
 
 use crate::catalog::Catalog;
 use crate::finding::{Finding, bind, both, is_narrow_leaf, leaf, unbind, with_width};
@@ -29,7 +29,7 @@ pub fn inspect<'a>(
     ensures fault { IfOk result (λ made. made.fault
         ≡ earliest query_standing (form_faults (raw_form_of f.now) catalog.now
         (binders scope.old))) }
-    ensures free { IfOk result (λ made. IsCounted scope.old
+    ensures free { IfOk result (λ made. IsTallied scope.old
         (free_names (raw_form_of f.now)) made.free) }
     ensures scope { OnOk result (scope.new ≡ scope.old) }
 {
@@ -61,7 +61,7 @@ pub fn inspect_whole<'a>(
     ensures fault { IfOk result (λ made. made.fault
         ≡ earliest query_standing (widened (binders scope.old) [] (raw_form_of f.now)
         (form_faults (raw_form_of f.now) catalog.now (binders scope.old)))) }
-    ensures free { IfOk result (λ made. IsCounted scope.old
+    ensures free { IfOk result (λ made. IsTallied scope.old
         (free_names (raw_form_of f.now)) made.free) }
     ensures scope { OnOk result (scope.new ≡ scope.old) }
 {
@@ -83,8 +83,8 @@ fn inspect_behind<'a>(
         (earliest query_standing (widened (binders scope.old) [] (raw_form_of f.now)
         (form_faults (raw_form_of f.now) catalog.now (binders scope.old))))) }
     ensures free { IfOk result (λ made. (names : List Identifier)
-        → IsCounted scope.old names before.entry.free
-        → IsCounted scope.old (names ++ free_names (raw_form_of f.now)) made.free) }
+        → IsTallied scope.old names before.entry.free
+        → IsTallied scope.old (names ++ free_names (raw_form_of f.now)) made.free) }
     ensures scope { OnOk result (scope.new ≡ scope.old) }
 {
     if is_narrow_leaf(f) {
@@ -109,7 +109,7 @@ fn inspect_bound<'a>(
         (earliest query_standing (widened (binder.now ∷ binders scope.old) (binder.now.name ∷ [])
         (raw_form_of f.now) (form_faults (raw_form_of f.now) catalog.now
         (binder.now ∷ binders scope.old))))) }
-    ensures free { IfOk result (λ made. IsCounted scope.old
+    ensures free { IfOk result (λ made. IsTallied scope.old
         (without binder.now.name (free_names (raw_form_of f.now))) made.free) }
     ensures scope { OnOk result (scope.new ≡ scope.old) }
 {
@@ -129,7 +129,7 @@ fn inspect_each<'a>(
     ensures fault { IfOk result (λ made. made.fault
         ≡ earliest query_standing (forms_faults (raw_forms_of fs.now) catalog.now
         (binders scope.old))) }
-    ensures free { IfOk result (λ made. IsCounted scope.old
+    ensures free { IfOk result (λ made. IsTallied scope.old
         (free_names_each (raw_forms_of fs.now)) made.free) }
     ensures scope { OnOk result (scope.new ≡ scope.old) }
 {

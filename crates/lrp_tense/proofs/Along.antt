@@ -7,8 +7,8 @@ use Rattle.std.proofs.lemmas.List.{get_or_default}
 use Rattle.lrp_model.specs.declared.tokens.Place.{Place}
 use Rattle.lrp_model.specs.RawQueries.{raw_not, raw_and, raw_or, raw_implies, raw_group, raw_exists, raw_forall, raw}
 use Rattle.lrp_tense.specs.Trees.{TenseForm, TenseForms, tense_atom, tense_compare, tense_member, tense_not, tense_and, tense_or, tense_implies, tense_group, tense_exists, tense_forall, once, always, since, until, no_tenses, tense}
-use Rattle.lrp_tense.specs.Expanding.{number_of, operators, operators_each, Naming, renamed_to, expanded, expanded_each, once_form, always_form, since_form, until_form, present_name, moment_name, between_name}
-use Rattle.lrp_tense.specs.Counting.{position_of, number_in, ArePositions, AreNumbers}
+use Rattle.lrp_tense.specs.Expanding.{operator_number, operators, operators_each, Naming, renamed_to, expanded, expanded_each, once_form, always_form, since_form, until_form, present_name, moment_name, between_name}
+use Rattle.lrp_tense.specs.Counting.{position_of, operator_number_in, ArePositions, AreNumbers}
 use Rattle.lrp_tense.specs.Numbers.{Numbers, met, ranked, next_number, behind_one, behind_all, expanded_from, each_from}
 use Rattle.lrp_tense.proofs.Numbering.{trichotomy}
 use Rattle.lrp_tense.proofs.Positions.{IsFirstAt, number_there, expansion_same}
@@ -64,12 +64,12 @@ mutual
 
 -- ---- by positions in order
 
-gives_ranked : (xs : List ℕ) (ps : List Place) → Gives (ranked xs) (number_in xs) ps
+gives_ranked : (xs : List ℕ) (ps : List Place) → Gives (ranked xs) (operator_number_in xs) ps
 gives_ranked xs [] = tt
 gives_ranked xs (p ∷ ps) = (refl, gives_ranked xs ps)
 
-pub ranked_is : (f : TenseForm) (xs : List ℕ) → AreNumbers xs (operators f) → expanded_from f (ranked xs) [] ≡ expanded f (number_of (operators f)) []
-ranked_is f xs h = same_from f (ranked xs) (number_in xs) (gives_ranked xs (operators f)) [] ∙ expansion_same xs f h []
+pub ranked_is : (f : TenseForm) (xs : List ℕ) → AreNumbers xs (operators f) → expanded_from f (ranked xs) [] ≡ expanded f (operator_number (operators f)) []
+ranked_is f xs h = same_from f (ranked xs) (operator_number_in xs) (gives_ranked xs (operators f)) [] ∙ expansion_same xs f h []
 
 -- ---- as they are met
 
@@ -115,7 +115,7 @@ module _ (xs : List ℕ) (rises : IsStrictlyIncreasing xs) where
         omega (arith, r, same, found));
   }
 
-  gives_met : (before ps : List Place) → xs ≡ map position_of (before ++ ps) → Gives (met before) (number_in xs) ps
+  gives_met : (before ps : List Place) → xs ≡ map position_of (before ++ ps) → Gives (met before) (operator_number_in xs) ps
   gives_met before [] e = tt
   gives_met before (p ∷ ps) e =
       let within : length before < length xs = subst (λ l. length before < length l) (sym e) (has_room before p ps) in
@@ -124,7 +124,7 @@ module _ (xs : List ℕ) (rises : IsStrictlyIncreasing xs) where
         gives_met (before ++ p ∷ []) ps (e ∙ ap (map position_of) (sym (append_assoc before (p ∷ []) ps))),
       )
 
-pub along_is : (f : TenseForm) (xs : List ℕ) → ArePositions xs (operators f) → IsStrictlyIncreasing xs → expanded_from f (met []) [] ≡ expanded f (number_of (operators f)) []
+pub along_is : (f : TenseForm) (xs : List ℕ) → ArePositions xs (operators f) → IsStrictlyIncreasing xs → expanded_from f (met []) [] ≡ expanded f (operator_number (operators f)) []
 along_is f xs h rises =
-    same_from f (met []) (number_in xs) (gives_met xs rises [] (operators f) h.same) []
+    same_from f (met []) (operator_number_in xs) (gives_met xs rises [] (operators f) h.same) []
     ∙ expansion_same xs f (record { same = subst (IsPermutation (map position_of (operators f))) (sym h.same) (IsPermutation-refl (map position_of (operators f))); order = never_falls xs rises; small = h.small; few = h.few }) []

@@ -12,8 +12,8 @@ use Rattle.lrp_model.specs.declared.relations.Sort.TheVariants.{Time, Data, Name
 use Rattle.lrp_model.specs.declared.raw.RawColumn.{RawColumn}
 use Rattle.lrp_model.proofs.Logic.{same}
 use Rattle.lrp_tense.specs.Trees.{Operator, TenseForm, TenseForms, TenseQuestion, tense_atom, tense_compare, tense_member, tense_not, tense_and, tense_or, tense_implies, tense_group, tense_exists, tense_forall, once, always, since, until, no_tenses, tense}
-use Rattle.lrp_tense.specs.Meaning.{variable_of, TenseSatisfies, TenseSatisfiesAll, TenseSatisfiesSome}
-use Rattle.lrp_tense.specs.Expanding.{operators, operators_each, Naming, present_name, renamed, renamed_to, IsPlain, moment_of, between_of, time_binder, name_term, expanded, expanded_each, expanded_question, number_of, HasPlainNames, HavePlainNames, IsExpandable}
+use Rattle.lrp_tense.specs.Meaning.{operator_variable, TenseSatisfies, TenseSatisfiesAll, TenseSatisfiesSome}
+use Rattle.lrp_tense.specs.Expanding.{operators, operators_each, Naming, present_name, renamed, renamed_to, IsPlain, moment_of, between_of, time_binder, name_term, expanded, expanded_each, expanded_question, operator_number, HasPlainNames, HavePlainNames, IsExpandable}
 use Rattle.lrp_tense.specs.Laws.{KeepsMeaning}
 use Rattle.lrp_tense.proofs.Iff.{both_iff, two_iff, three_iff, imply_iff, not_iff, either_iff, some_iff, each_iff, some_time, each_time, le_iff, lt_iff, plus_zero, plus_end}
 use Rattle.lrp_tense.proofs.Timely.{IsTimely, AreTimely, shifted_times, are_times, timely_body}
@@ -63,8 +63,8 @@ module _ (o : Operator) (number : Place → ℕ) (names : Naming) (bs cs : Binde
     at_now : (with_value (moment_of number o) (time x) other).times (present_name names o.name) ≡ env.times o.name
     at_now = set_other (moment_of number o) (present_name names o.name) x (other.times (present_name names o.name)) (moment_free o.name op) ∙ h.times o.name op k
 
-    moment_followed : Follows (renamed_to o.name (moment_of number o) ∷ names) (variable_of o ∷ bs) (time_binder o.place (moment_of number o) ∷ cs) (with_value o.name (time x) env) (with_value (moment_of number o) (time x) other)
-    moment_followed = followed_time names bs cs env other (variable_of o) (time_binder o.place (moment_of number o)) refl (λ w wp ne. moment_free w wp) h x refl
+    moment_followed : Follows (renamed_to o.name (moment_of number o) ∷ names) (operator_variable o ∷ bs) (time_binder o.place (moment_of number o) ∷ cs) (with_value o.name (time x) env) (with_value (moment_of number o) (time x) other)
+    moment_followed = followed_time names bs cs env other (operator_variable o) (time_binder o.place (moment_of number o)) refl (λ w wp ne. moment_free w wp) h x refl
 
     module _ (y : ℤ) where
       between_at : (with_value (between_of number o) (time y) (with_value (moment_of number o) (time x) other)).times (between_of number o) ≡ y
@@ -76,9 +76,9 @@ module _ (o : Operator) (number : Place → ℕ) (names : Naming) (bs cs : Binde
       between_now : (with_value (between_of number o) (time y) (with_value (moment_of number o) (time x) other)).times (present_name names o.name) ≡ env.times o.name
       between_now = set_other (between_of number o) (present_name names o.name) y ((with_value (moment_of number o) (time x) other).times (present_name names o.name)) (between_free o.name op) ∙ at_now
 
-      between_followed : Follows (renamed_to o.name (between_of number o) ∷ names) (variable_of o ∷ bs) (time_binder o.place (between_of number o) ∷ time_binder o.place (moment_of number o) ∷ cs) (with_value o.name (time y) env) (with_value (between_of number o) (time y) (with_value (moment_of number o) (time x) other))
+      between_followed : Follows (renamed_to o.name (between_of number o) ∷ names) (operator_variable o ∷ bs) (time_binder o.place (between_of number o) ∷ time_binder o.place (moment_of number o) ∷ cs) (with_value o.name (time y) env) (with_value (between_of number o) (time y) (with_value (moment_of number o) (time x) other))
       between_followed =
-          followed_time names bs (time_binder o.place (moment_of number o) ∷ cs) env (with_value (moment_of number o) (time x) other) (variable_of o) (time_binder o.place (between_of number o)) refl (λ w wp ne. between_free w wp)
+          followed_time names bs (time_binder o.place (moment_of number o) ∷ cs) env (with_value (moment_of number o) (time x) other) (operator_variable o) (time_binder o.place (between_of number o)) refl (λ w wp ne. between_free w wp)
           (followed_aside names bs cs env other (time_binder o.place (moment_of number o)) x (λ w wp. moment_free w wp) h) y refl
 
 -- ---- formulas
@@ -111,7 +111,7 @@ mutual
       let a = at_moment o number names bs cs env other (operators f) hp.0 n v h k x in
       let b = at_now o number names bs cs env other (operators f) hp.0 n v h k x in
       three_iff (le_iff _ _ _ _ (plus_end _ _ from b) (plus_zero _ _ a)) (le_iff _ _ _ _ (plus_zero _ _ a) (plus_end _ _ to b))
-      (same_meaning f number (renamed_to o.name (moment_of number o) ∷ names) (variable_of o ∷ bs) (time_binder o.place (moment_of number o) ∷ cs) M (with_value o.name (time x) env) (with_value (moment_of number o) (time x) other)
+      (same_meaning f number (renamed_to o.name (moment_of number o) ∷ names) (operator_variable o ∷ bs) (time_binder o.place (moment_of number o) ∷ cs) M (with_value o.name (time x) env) (with_value (moment_of number o) (time x) other)
       hp.1 n.1.1 (apart_moment names number o.place (operators f) o.name hp.0 n v) t.1.1.0 (moment_followed o number names bs cs env other (operators f) hp.0 n v h k x)))
   same_meaning (always o from to f) number names bs cs M env other hp n v t h =
       let k : is_for_texts bs o.name ≡ false = times_by_end o number names bs cs env other (operators f) hp.0 n v h o.name_place t.0.0.1.0 in
@@ -119,7 +119,7 @@ mutual
       let a = at_moment o number names bs cs env other (operators f) hp.0 n v h k x in
       let b = at_now o number names bs cs env other (operators f) hp.0 n v h k x in
       imply_iff (two_iff (le_iff _ _ _ _ (plus_end _ _ from b) (plus_zero _ _ a)) (le_iff _ _ _ _ (plus_zero _ _ a) (plus_end _ _ to b)))
-      (same_meaning f number (renamed_to o.name (moment_of number o) ∷ names) (variable_of o ∷ bs) (time_binder o.place (moment_of number o) ∷ cs) M (with_value o.name (time x) env) (with_value (moment_of number o) (time x) other)
+      (same_meaning f number (renamed_to o.name (moment_of number o) ∷ names) (operator_variable o ∷ bs) (time_binder o.place (moment_of number o) ∷ cs) M (with_value o.name (time x) env) (with_value (moment_of number o) (time x) other)
       hp.1 n.1.1 (apart_moment names number o.place (operators f) o.name hp.0 n v) t.1 (moment_followed o number names bs cs env other (operators f) hp.0 n v h k x)))
   same_meaning (since o f g) number names bs cs M env other hp n v t h =
       let m = numbered_parts number (operators f) (operators g) n.1.1 in
@@ -128,7 +128,7 @@ mutual
       let a = at_moment o number names bs cs env other (operators f ++ operators g) hp.0 n v h k x in
       let b = at_now o number names bs cs env other (operators f ++ operators g) hp.0 n v h k x in
       three_iff (le_iff _ _ _ _ (plus_zero _ _ a) (plus_zero _ _ b))
-      (same_meaning g number (renamed_to o.name (moment_of number o) ∷ names) (variable_of o ∷ bs) (time_binder o.place (moment_of number o) ∷ cs) M (with_value o.name (time x) env) (with_value (moment_of number o) (time x) other)
+      (same_meaning g number (renamed_to o.name (moment_of number o) ∷ names) (operator_variable o ∷ bs) (time_binder o.place (moment_of number o) ∷ cs) M (with_value o.name (time x) env) (with_value (moment_of number o) (time x) other)
       hp.2 m.1 (apart_right (renamed_to o.name (moment_of number o) ∷ names) number (operators f) (operators g) (apart_moment names number o.place (operators f ++ operators g) o.name hp.0 n v)) t.1.0
       (moment_followed o number names bs cs env other (operators f ++ operators g) hp.0 n v h k x))
       (each_time M (λ y.
@@ -136,7 +136,7 @@ mutual
       let d = between_moment o number names bs cs env other (operators f ++ operators g) hp.0 n v h k x y in
       let e = between_now o number names bs cs env other (operators f ++ operators g) hp.0 n v h k x y in
       imply_iff (two_iff (lt_iff _ _ _ _ (plus_zero _ _ d) (plus_zero _ _ c)) (le_iff _ _ _ _ (plus_zero _ _ c) (plus_zero _ _ e)))
-      (same_meaning f number (renamed_to o.name (between_of number o) ∷ names) (variable_of o ∷ bs) (time_binder o.place (between_of number o) ∷ time_binder o.place (moment_of number o) ∷ cs) M (with_value o.name (time y) env) (with_value (between_of number o) (time y) (with_value (moment_of number o) (time x) other))
+      (same_meaning f number (renamed_to o.name (between_of number o) ∷ names) (operator_variable o ∷ bs) (time_binder o.place (between_of number o) ∷ time_binder o.place (moment_of number o) ∷ cs) M (with_value o.name (time y) env) (with_value (between_of number o) (time y) (with_value (moment_of number o) (time x) other))
       hp.1 m.0 (apart_left (renamed_to o.name (between_of number o) ∷ names) number (operators f) (operators g) (apart_between names number o.place (operators f ++ operators g) o.name hp.0 n v)) t.1.1.0.1
       (between_followed o number names bs cs env other (operators f ++ operators g) hp.0 n v h k x y)))))
   same_meaning (until o f g) number names bs cs M env other hp n v t h =
@@ -146,7 +146,7 @@ mutual
       let a = at_moment o number names bs cs env other (operators f ++ operators g) hp.0 n v h k x in
       let b = at_now o number names bs cs env other (operators f ++ operators g) hp.0 n v h k x in
       three_iff (le_iff _ _ _ _ (plus_zero _ _ b) (plus_zero _ _ a))
-      (same_meaning g number (renamed_to o.name (moment_of number o) ∷ names) (variable_of o ∷ bs) (time_binder o.place (moment_of number o) ∷ cs) M (with_value o.name (time x) env) (with_value (moment_of number o) (time x) other)
+      (same_meaning g number (renamed_to o.name (moment_of number o) ∷ names) (operator_variable o ∷ bs) (time_binder o.place (moment_of number o) ∷ cs) M (with_value o.name (time x) env) (with_value (moment_of number o) (time x) other)
       hp.2 m.1 (apart_right (renamed_to o.name (moment_of number o) ∷ names) number (operators f) (operators g) (apart_moment names number o.place (operators f ++ operators g) o.name hp.0 n v)) t.1.0
       (moment_followed o number names bs cs env other (operators f ++ operators g) hp.0 n v h k x))
       (each_time M (λ y.
@@ -154,7 +154,7 @@ mutual
       let d = between_moment o number names bs cs env other (operators f ++ operators g) hp.0 n v h k x y in
       let e = between_now o number names bs cs env other (operators f ++ operators g) hp.0 n v h k x y in
       imply_iff (two_iff (le_iff _ _ _ _ (plus_zero _ _ e) (plus_zero _ _ c)) (lt_iff _ _ _ _ (plus_zero _ _ c) (plus_zero _ _ d)))
-      (same_meaning f number (renamed_to o.name (between_of number o) ∷ names) (variable_of o ∷ bs) (time_binder o.place (between_of number o) ∷ time_binder o.place (moment_of number o) ∷ cs) M (with_value o.name (time y) env) (with_value (between_of number o) (time y) (with_value (moment_of number o) (time x) other))
+      (same_meaning f number (renamed_to o.name (between_of number o) ∷ names) (operator_variable o ∷ bs) (time_binder o.place (between_of number o) ∷ time_binder o.place (moment_of number o) ∷ cs) M (with_value o.name (time y) env) (with_value (between_of number o) (time y) (with_value (moment_of number o) (time x) other))
       hp.1 m.0 (apart_left (renamed_to o.name (between_of number o) ∷ names) number (operators f) (operators g) (apart_between names number o.place (operators f ++ operators g) o.name hp.0 n v)) t.1.1.0.1
       (between_followed o number names bs cs env other (operators f ++ operators g) hp.0 n v h k x y)))))
 
@@ -184,4 +184,4 @@ itself bs env = record { sorts = λ w p. refl; times = λ w p e. refl; texts = �
 
 pub kept_meaning : (q : TenseQuestion) → IsExpandable q → length (operators q.body) < 2 ^ 64 → KeepsMeaning q (expanded_question q)
 kept_meaning q h small db well M env =
-    same_meaning q.body (number_of (operators q.body)) [] (reverse q.head) (reverse q.head) M env env h.names (are_numbered (operators q.body) small h.places) (nothing_apart (number_of (operators q.body)) (operators q.body)) (timely_body db (expanded_question q) well) (itself (reverse q.head) env)
+    same_meaning q.body (operator_number (operators q.body)) [] (reverse q.head) (reverse q.head) M env env h.names (are_numbered (operators q.body) small h.places) (nothing_apart (operator_number (operators q.body)) (operators q.body)) (timely_body db (expanded_question q) well) (itself (reverse q.head) env)

@@ -38,7 +38,7 @@ use Rattle.lrp_tense.specs.TenseQueries.{WrittenTense, FurtherTenses, WrittenTen
 use Rattle.lrp_tense.specs.TenseQueries.WrittenTense.{atom, compared, member, denied, all_of, any_of, implied, group, some, every, once_in, always_in, since_when, until_when, hole}
 use Rattle.lrp_tense.specs.TenseQueries.FurtherTenses.{last, more}
 use Rattle.lrp_tense.specs.TenseReading.{tense_form, tense_forms, tense_question, IsTenseQuery}
-use Rattle.lrp_tense.specs.Expanding.{Naming, renamed, renamed_kind, renamed_to, moment_of, between_of, operators, operators_each, number_of, expanded, expanded_each, expanded_question, IsPlain, IsPlainKind, IsPlainTerm, HasPlainNames, HavePlainNames, IsExpandable}
+use Rattle.lrp_tense.specs.Expanding.{Naming, renamed, renamed_kind, renamed_to, moment_of, between_of, operators, operators_each, operator_number, expanded, expanded_each, expanded_question, IsPlain, IsPlainKind, IsPlainTerm, HasPlainNames, HavePlainNames, IsExpandable}
 use Rattle.lrp_tense.specs.Lawful.{IsLawfulExpansion}
 use Rattle.lrp_tense.proofs.TokenPlaces.{plain_name, Rises, place_at, tokens_rise, risen_differ, Some, past, kept, some_rise, some_none, some_join}
 
@@ -412,7 +412,7 @@ lawful_tree bytes t small spelled sizes =
     let size : length {A = Placed} [] + length (tense_query_text t) ≡ length (tokens bytes) = takes_shorter (tense_query_text t) (tokens bytes) [] spelled in
     let long = tokens_long bytes in
     let short = body_short t in
-    let number : Place → ℕ = number_of (operators (tense_form t.body)) in
+    let number : Place → ℕ = operator_number (operators (tense_form t.body)) in
     let k = counted t.body number [] in
     record {
       names = columns_named t.head (front_of NamedPart (separated comma column_text t.head) (behind_head t.body) (spelled_named bytes (tense_query_text t) spelled).1);

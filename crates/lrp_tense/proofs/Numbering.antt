@@ -5,7 +5,7 @@ use Rattle.std.specs.List.{AllByRecursion}
 use Rattle.std.proofs.lemmas.Bool.{ltb-true, ltb-false, eqb-true, eqb-false}
 use Rattle.lrp_model.specs.declared.tokens.Place.{Place}
 use Rattle.lrp_model.proofs.Decided.{cons_cases, contains_first, contains_later, contains_none}
-use Rattle.lrp_tense.specs.Expanding.{is_before, number_of, AllDiffer}
+use Rattle.lrp_tense.specs.Expanding.{is_before, operator_number, AllDiffer}
 use Rattle.lrp_tense.proofs.Scoping.{AreNumbered}
 
 -- ---- the order of places
@@ -126,16 +126,16 @@ less_than_all p (q ∷ ps) c = at_test (is_before q p) refl (cons_cases q p ps c
 
 -- ---- numbers
 
-numbers_differ : (all : List Place) (p q : Place) → Contains all p → Contains all q → p ≢ q → number_of all p ≢ number_of all q
+numbers_differ : (all : List Place) (p q : Place) → Contains all p → Contains all q → p ≢ q → operator_number all p ≢ operator_number all q
 numbers_differ all p q c d ne e =
     ⊎_elim (λ h. let k = fewer p q h all c in omega (arith, k, e)) (λ h. let k = fewer q p h all d in omega (arith, k, e)) (one_first p q ne)
 
 module _ (all : List Place) (small : length all < 2 ^ 64) where
-  differ_from : (p : Place) → Contains all p → (ps : List Place) → AllByRecursion (Contains all) ps → AllByRecursion (λ q. p ≢ q) ps → AllByRecursion (λ q. number_of all p ≢ number_of all q) ps
+  differ_from : (p : Place) → Contains all p → (ps : List Place) → AllByRecursion (Contains all) ps → AllByRecursion (λ q. p ≢ q) ps → AllByRecursion (λ q. operator_number all p ≢ operator_number all q) ps
   differ_from p c [] d ne = tt
   differ_from p c (q ∷ ps) d ne = (numbers_differ all p q c d.0 ne.0, differ_from p c ps d.1 ne.1)
 
-  numbered : (ps : List Place) → AllByRecursion (Contains all) ps → AllDiffer ps → AreNumbered (number_of all) ps
+  numbered : (ps : List Place) → AllByRecursion (Contains all) ps → AllDiffer ps → AreNumbered (operator_number all) ps
   numbered [] c d = tt
   numbered (p ∷ ps) c d = ((let k = less_than_all p all c.0 in omega (arith, k, small)), (differ_from p c.0 ps c.1 d.0, numbered ps c.1 d.1))
 
@@ -147,5 +147,5 @@ all_there : (ps : List Place) → AllByRecursion (Contains ps) ps
 all_there [] = tt
 all_there (p ∷ ps) = (contains_first p ps, all_later p ps ps (all_there ps))
 
-pub are_numbered : (ps : List Place) → length ps < 2 ^ 64 → AllDiffer ps → AreNumbered (number_of ps) ps
+pub are_numbered : (ps : List Place) → length ps < 2 ^ 64 → AllDiffer ps → AreNumbered (operator_number ps) ps
 are_numbered ps small d = numbered ps small ps (all_there ps) d

@@ -12,7 +12,7 @@ use Rattle.lrp_model.specs.Tokens.Token.{name_token, number_token, symbol_token}
 use Rattle.lrp_model.specs.Tokens.Part.{at, any}
 use Rattle.lrp_model.specs.Databases.{integer_text}
 use Rattle.lrp_model.specs.Refused.{Stops, TextOf}
-use Rattle.lrp_text.specs.Parsers.{Outcome, Parser}
+use Rattle.lrp_text.specs.Parsers.{ParseOutcome, Parser}
 use Rattle.lrp_text.specs.Taking.{is_symbol_token, expect, name, name_of, with_place}
 use Rattle.lrp_text.specs.IntegerRule.{integer}
 use Rattle.lrp_text.proofs.Complete.{ReadsBack, Answers, Anything, answers_then, answers_as, back_as, then_back, pure_back, accepts_back, first_is_not}
@@ -22,7 +22,7 @@ use Rattle.lrp_text.proofs.TokenTests.{expect_seen, name_part, name_told, name_s
 use Rattle.lrp_text.proofs.IntegerRule.{integer_back, integer_sound, integer_viable}
 use Rattle.lrp_query.specs.OperatorRules.{ends, ranged, paired}
 use Rattle.lrp_query.proofs.Layers.{Layer, other, FormulaRules, text_of, FitsLayer, LayerTexts, IsFormula, read_layer}
-use Rattle.lrp_query.proofs.TermRules.{NoShift}
+use Rattle.lrp_text.proofs.OffsetRule.{NoShift}
 use Rattle.lrp_query.proofs.TestRules.{sym_part, symbol_sound, symbol_viable, symbol_at, name_at}
 use Rattle.lrp_query.proofs.OverRules.{some_formula, some_tokens, some_spelled, some_fits}
 use Rattle.lrp_tense.specs.Trees.{Operator, operator_at}
@@ -32,7 +32,7 @@ use Rattle.lrp_tense.specs.declared.words.Paired.{Paired}
 use Rattle.lrp_tense.proofs.TenseGrammar.{OperatorOver, over_range, over_pair, FitsTenseAt, FitsOperator, written_ranged, written_paired, written_operators, ranged_word, paired_word, ranged_rest, paired_rest, tense_grammar}
 
 -- one outcome gives one value
-one_read : {A : Type 0} (p q : A × Tokens) → ◌≡◌ {A = Outcome A} (Ok p) (Ok q) → p ≡ q
+one_read : {A : Type 0} (p q : A × Tokens) → ◌≡◌ {A = ParseOutcome A} (Ok p) (Ok q) → p ≡ q
 one_read p q e = cc
 
 -- ---- intervals

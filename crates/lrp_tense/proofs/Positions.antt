@@ -8,7 +8,7 @@ use Rattle.std.proofs.lemmas.List.Sums.{length-filter, sum_by-cons}
 use Rattle.std.proofs.lemmas.List.Sorted.{sum_by-IsPermutation}
 use Rattle.lrp_model.specs.declared.tokens.Place.{Place}
 use Rattle.lrp_tense.specs.Trees.{TenseForm, TenseForms, tense_atom, tense_compare, tense_member, tense_not, tense_and, tense_or, tense_implies, tense_group, tense_exists, tense_forall, once, always, since, until, no_tenses, tense}
-use Rattle.lrp_tense.specs.Expanding.{is_before, number_of, operators, operators_each, Naming, renamed_to, expanded, expanded_each, once_form, always_form, since_form, until_form, present_name, moment_name, between_name, moment_of, between_of}
+use Rattle.lrp_tense.specs.Expanding.{is_before, operator_number, operators, operators_each, Naming, renamed_to, expanded, expanded_each, once_form, always_form, since_form, until_form, present_name, moment_name, between_name, moment_of, between_of}
 use Rattle.lrp_model.specs.RawQueries.{raw_not, raw_and, raw_or, raw_implies, raw_group, raw_exists, raw_forall, raw}
 use Rattle.lrp_model.specs.RawQueries.{RawForm, raw_form_of, raw_question_of}
 use Rattle.lrp_model.specs.declared.raw.RawColumn.{RawColumn}
@@ -16,7 +16,7 @@ use Rattle.lrp_model.specs.declared.raw.RawQuery.{RawQuery}
 use Rattle.lrp_tense.specs.declared.tree.TenseQuery.{TenseQuery}
 use Rattle.lrp_tense.specs.Trees.{tense_form_of, tense_question_of}
 use Rattle.lrp_tense.specs.Expanding.{expanded_question}
-use Rattle.lrp_tense.specs.Counting.{position_of, number_in, HasSmallColumn, AreNumbers}
+use Rattle.lrp_tense.specs.Counting.{position_of, operator_number_in, HasSmallColumn, AreNumbers}
 use Rattle.lrp_tense.proofs.Numbering.{IsEarlier, earlier, before, trichotomy}
 
 -- ---- positions are in the order of places
@@ -78,7 +78,7 @@ counted_to xs i here order f =
     (λ k le lt. let rises : get_or xs i 0 ≤ get_or xs k 0 = order i k 0 le lt in le-ltb (get_or xs k 0) here (omega arith))
 
 -- so the operator there has the next number
-pub number_there : (xs : List ℕ) (i here : ℕ) (p : Place) → IsNonDecreasing xs → here ≡ position_of p → IsFirstAt xs i here → i + 1 ≡ number_in xs p
+pub number_there : (xs : List ℕ) (i here : ℕ) (p : Place) → IsNonDecreasing xs → here ≡ position_of p → IsFirstAt xs i here → i + 1 ≡ operator_number_in xs p
 number_there xs i here p order is f =
     let count : count_by (λ q. nat_lt q here) xs ≡ i = counted_to xs i here order f in
     add-one i ∙ ap suc (sym count ∙ ap (λ h. count_by (λ q. nat_lt q h) xs) is)
@@ -94,7 +94,7 @@ counted p small (q ∷ qs) all =
     counted_first (λ r. is_before r p) q qs ∙ ap₂ (λ b n. cond b (suc n) n) (before_is q p all.0 small) (counted p small qs all.1)
     ∙ sym (counted_first (λ n. nat_lt n (position_of p)) (position_of q) (map position_of qs))
 
-pub number_same : (positions : List ℕ) (places : List Place) → AreNumbers positions places → (p : Place) → HasSmallColumn p → number_in positions p ≡ number_of places p
+pub number_same : (positions : List ℕ) (places : List Place) → AreNumbers positions places → (p : Place) → HasSmallColumn p → operator_number_in positions p ≡ operator_number places p
 number_same positions places n p small =
     ap suc (same_count (λ q. nat_lt q (position_of p)) (map position_of places) positions n.same ∙ sym (counted p small places n.small) ∙ sym (length-filter (λ q. is_before q p) places))
 
@@ -142,14 +142,14 @@ mutual
   same_expansions (tense f fs) n m a names = ap₂ raw (same_expansion f n m (agree_left n m (operators f) (operators_each fs) a) names) (same_expansions fs n m (agree_right n m (operators f) (operators_each fs) a) names)
 
 -- the numbers by positions are those by places, at the places themselves
-all_agree : (positions : List ℕ) (places ps : List Place) → AreNumbers positions places → AllByRecursion HasSmallColumn ps → Agree (number_in positions) (number_of places) ps
+all_agree : (positions : List ℕ) (places ps : List Place) → AreNumbers positions places → AllByRecursion HasSmallColumn ps → Agree (operator_number_in positions) (operator_number places) ps
 all_agree positions places [] n s = tt
 all_agree positions places (p ∷ ps) n s = (number_same positions places n p s.0, all_agree positions places ps n s.1)
 
-pub expansion_same : (positions : List ℕ) (f : TenseForm) → AreNumbers positions (operators f) → (names : Naming) → expanded f (number_in positions) names ≡ expanded f (number_of (operators f)) names
-expansion_same positions f n names = same_expansion f (number_in positions) (number_of (operators f)) (all_agree positions (operators f) (operators f) n n.small) names
+pub expansion_same : (positions : List ℕ) (f : TenseForm) → AreNumbers positions (operators f) → (names : Naming) → expanded f (operator_number_in positions) names ≡ expanded f (operator_number (operators f)) names
+expansion_same positions f n names = same_expansion f (operator_number_in positions) (operator_number (operators f)) (all_agree positions (operators f) (operators f) n n.small) names
 
 -- ---- a whole query
 
-pub expanded_query : (q : TenseQuery) (r : RawQuery) → r.head ≡ q.head → raw_form_of r.body ≡ expanded (tense_form_of q.body) (number_of (operators (tense_form_of q.body))) [] → raw_question_of r ≡ expanded_question (tense_question_of q)
+pub expanded_query : (q : TenseQuery) (r : RawQuery) → r.head ≡ q.head → raw_form_of r.body ≡ expanded (tense_form_of q.body) (operator_number (operators (tense_form_of q.body))) [] → raw_question_of r ≡ expanded_question (tense_question_of q)
 expanded_query q r h b = ap₂ (λ (head : List RawColumn) (body : RawForm). record { head = head; body = body }) h b

@@ -11,13 +11,13 @@ use Rattle.lrp_tense.specs.declared.tree.TenseFormula.{TenseFormula}
 use Rattle.lrp_tense.specs.declared.tree.TenseKind.{TenseKind, And, Or, Implies, Since, Until, the_lemmas}
 use Rattle.lrp_tense.specs.declared.words.Paired.{Paired}
 use Rattle.lrp_tense.specs.declared.words.Paired.TheVariants.{Since as since_word, Until as until_word}
-use Rattle.lrp_tense.specs.declared.expansion.Pair.{Pair}
+use Rattle.lrp_tense.specs.declared.expansion.PairOperator.{PairOperator}
 use Rattle.lrp_tense.specs.declared.expansion.Begun.{Begun}
 use Rattle.lrp_tense.specs.Trees.{Operator, TenseForm, TenseForms, operator_at, tense_kind, tense_form_of, tense_forms_of, tense_implies, tense, no_tenses}
 use Rattle.lrp_tense.specs.Expanding.{Naming, Renaming, present_name, operators, operators_each, moment_name, between_name}
 use Rattle.lrp_tense.specs.Named.{naming_of}
 use Rattle.lrp_tense.specs.Numbers.{Numbers, next_number, behind_one, behind_all, expanded_from, each_from}
-use Rattle.lrp_tense.specs.Scopes.{Around, within, past, past_one, past_each, expanded_in, each_in, form_of_pair}
+use Rattle.lrp_tense.specs.Scopes.{ScopeView, inside_variable, past, past_one, past_each, expanded_in, each_in, form_of_pair}
 use Rattle.lrp_tense.specs.Written.{operator_of, form_inside, pair_of}
 use Rattle.lrp_tense.specs.Begun.{IsBegun, pair_begun}
 use Rattle.lrp_tense.specs.Rules.{paired_form}
@@ -26,18 +26,18 @@ use Rattle.lrp_tense.proofs.TenseViews.{tense_kind-And, tense_kind-Or}
 -- ---- members of a node
 
 -- an `and` of the expanded members
-pub and_node : (f : TenseFormula) (v : Vec TenseFormula Global) (fs : List TenseFormula) (a : Around) → f.kind ≡ And v → fs ≡ v.items → raw_and f.place (each_in a (tense_forms_of fs)) ≡ expanded_in a (tense_form_of f)
+pub and_node : (f : TenseFormula) (v : Vec TenseFormula Global) (fs : List TenseFormula) (a : ScopeView) → f.kind ≡ And v → fs ≡ v.items → raw_and f.place (each_in a (tense_forms_of fs)) ≡ expanded_in a (tense_form_of f)
 and_node f v fs a e i = ap (λ l. raw_and f.place (each_in a (tense_forms_of l))) i ∙ sym (ap (λ k. expanded_in a (tense_kind k f.place)) e ∙ ap (expanded_in a) (tense_kind-And v f.place))
 
 -- an `or` of them
-pub or_node : (f : TenseFormula) (v : Vec TenseFormula Global) (fs : List TenseFormula) (a : Around) → f.kind ≡ Or v → fs ≡ v.items → raw_or f.place (each_in a (tense_forms_of fs)) ≡ expanded_in a (tense_form_of f)
+pub or_node : (f : TenseFormula) (v : Vec TenseFormula Global) (fs : List TenseFormula) (a : ScopeView) → f.kind ≡ Or v → fs ≡ v.items → raw_or f.place (each_in a (tense_forms_of fs)) ≡ expanded_in a (tense_form_of f)
 or_node f v fs a e i = ap (λ l. raw_or f.place (each_in a (tense_forms_of l))) i ∙ sym (ap (λ k. expanded_in a (tense_kind k f.place)) e ∙ ap (expanded_in a) (tense_kind-Or v f.place))
 
 -- behind them
-pub and_past : (f : TenseFormula) (v : Vec TenseFormula Global) (fs : List TenseFormula) (a : Around) → f.kind ≡ And v → fs ≡ v.items → past_each a (tense_forms_of fs) ≡ past a (tense_form_of f)
+pub and_past : (f : TenseFormula) (v : Vec TenseFormula Global) (fs : List TenseFormula) (a : ScopeView) → f.kind ≡ And v → fs ≡ v.items → past_each a (tense_forms_of fs) ≡ past a (tense_form_of f)
 and_past f v fs a e i = ap (λ l. past_each a (tense_forms_of l)) i ∙ sym (ap (λ k. past a (tense_kind k f.place)) e ∙ ap (past a) (tense_kind-And v f.place))
 
-pub or_past : (f : TenseFormula) (v : Vec TenseFormula Global) (fs : List TenseFormula) (a : Around) → f.kind ≡ Or v → fs ≡ v.items → past_each a (tense_forms_of fs) ≡ past a (tense_form_of f)
+pub or_past : (f : TenseFormula) (v : Vec TenseFormula Global) (fs : List TenseFormula) (a : ScopeView) → f.kind ≡ Or v → fs ≡ v.items → past_each a (tense_forms_of fs) ≡ past a (tense_form_of f)
 or_past f v fs a e i = ap (λ l. past_each a (tense_forms_of l)) i ∙ sym (ap (λ k. past a (tense_kind k f.place)) e ∙ ap (past a) (tense_kind-Or v f.place))
 
 -- ---- results
@@ -77,7 +77,7 @@ behind_append n [] ys = refl
 behind_append n (x ∷ xs) ys = behind_append (behind_one n x) xs ys
 
 -- behind the formulas so far, and one more
-pub past_step : (fs : List TenseFormula) (i : ℕ) (f : TenseFormula) (a b c : Around) → i < length fs → f ≡ get_or fs i f → b ≡ past_each a (tense_forms_of (take i fs)) → c ≡ past b (tense_form_of f) → c ≡ past_each a (tense_forms_of (take (i + 1) fs))
+pub past_step : (fs : List TenseFormula) (i : ℕ) (f : TenseFormula) (a b c : ScopeView) → i < length fs → f ≡ get_or fs i f → b ≡ past_each a (tense_forms_of (take i fs)) → c ≡ past b (tense_form_of f) → c ≡ past_each a (tense_forms_of (take (i + 1) fs))
 past_step fs i f a b c lt is e h =
     let one : operators_each (tense_forms_of (take (i + 1) fs)) ≡ operators_each (tense_forms_of (take i fs)) ++ operators (tense_form_of f) =
     ap operators_each (one_more fs i f lt is) ∙ operators_join (tense_forms_of (take i fs)) (tense (tense_form_of f) no_tenses) ∙ ap (λ x. operators_each (tense_forms_of (take i fs)) ++ x) (append-nil (operators (tense_form_of f))) in
@@ -101,7 +101,7 @@ each_join (tense f fs) gs n names =
     (each_join fs gs (behind_all n (operators f)) names ∙ ap (λ m. raws_joined (each_from fs (behind_all n (operators f)) names) (each_from gs m names)) (sym (behind_append n (operators f) (operators_each fs))))
 
 -- the formulas expanded so far, and one more
-pub expand_step : (fs : List TenseFormula) (gs hs : List RawFormula) (i : ℕ) (f : TenseFormula) (g : RawFormula) (a : Around) → i < length fs → f ≡ get_or fs i f → hs ≡ gs ++ g ∷ []
+pub expand_step : (fs : List TenseFormula) (gs hs : List RawFormula) (i : ℕ) (f : TenseFormula) (g : RawFormula) (a : ScopeView) → i < length fs → f ≡ get_or fs i f → hs ≡ gs ++ g ∷ []
     → raw_forms_of gs ≡ each_in a (tense_forms_of (take i fs)) → raw_form_of g ≡ expanded_in (past_each a (tense_forms_of (take i fs))) (tense_form_of f) → raw_forms_of hs ≡ each_in a (tense_forms_of (take (i + 1) fs))
 expand_step fs gs hs i f g a lt is e h k =
     ap raw_forms_of e ∙ raws_append gs (g ∷ []) ∙ ap₂ (λ x y. raws_joined x (raw y no_raws)) h k
@@ -125,7 +125,7 @@ pub length-naming_of : (vs : List Renaming) → length (naming_of vs) ≡ length
 length-naming_of vs = length-reverse vs
 
 -- inside a variable there is one
-pub is_inside : (a b : Around) (v n : Identifier) → b ≡ within a v n → 0 < length b.names
+pub is_inside : (a b : ScopeView) (v n : Identifier) → b ≡ inside_variable a v n → 0 < length b.names
 is_inside a b v n e = let one : length b.names ≡ suc (length a.names) = ap (λ c. length c.names) e in omega (arith, one)
 
 -- ---- implications
@@ -140,10 +140,10 @@ implies_node f l r left right e el er =
     ap₂ (λ x y. tense_implies f.place (tense_form_of x) (tense_form_of y)) el er ∙ sym (ap (λ k. tense_kind k f.place) e ∙ implies_kind f.place left right)
 
 -- an implication whose parts are expanded one behind the other
-pub implies_joined : (s t : Around) (p : Place) (f g : TenseForm) (x : RawForm) → t ≡ past s f → x ≡ expanded_in s f → raw_implies p x (expanded_in t g) ≡ expanded_in s (tense_implies p f g)
+pub implies_joined : (s t : ScopeView) (p : Place) (f g : TenseForm) (x : RawForm) → t ≡ past s f → x ≡ expanded_in s f → raw_implies p x (expanded_in t g) ≡ expanded_in s (tense_implies p f g)
 implies_joined s t p f g x e h = ap₂ (λ y a. raw_implies p y (expanded_in a g)) h e
 
-pub implies_past : (s t u : Around) (p : Place) (f g : TenseForm) → t ≡ past s f → u ≡ past t g → u ≡ past s (tense_implies p f g)
+pub implies_past : (s t u : ScopeView) (p : Place) (f g : TenseForm) → t ≡ past s f → u ≡ past t g → u ≡ past s (tense_implies p f g)
 implies_past s t u p f g e h = h ∙ ap (λ a. past a g) e ∙ ap (λ (n : Numbers). record s { numbers = n }) (sym (behind_append s.numbers (operators f) (operators g)))
 
 -- ---- operators over two formulas
@@ -158,35 +158,35 @@ pair_kind since_word n at p left right = search (rules, the_lemmas)
 pair_kind until_word n at p left right = search (rules, the_lemmas)
 
 -- its node
-pub pair_node : (f g h : TenseFormula) (p : Pair) (n : Identifier) (at : Place) (left right : Box TenseFormula Global)
+pub pair_node : (f g h : TenseFormula) (p : PairOperator) (n : Identifier) (at : Place) (left right : Box TenseFormula Global)
     → operator_of p.at ≡ operator_at f.place n at → f.kind ≡ kind_of_pair p.word n at left right → g ≡ left.value → h ≡ right.value → pair_of p (tense_form_of g) (tense_form_of h) ≡ tense_form_of f
 pair_node f g h p n at left right there e el er =
     ap (λ o. paired_form p.word o (tense_form_of g) (tense_form_of h)) there
     ∙ ap₂ (λ x y. paired_form p.word (operator_at f.place n at) (tense_form_of x) (tense_form_of y)) el er ∙ sym (ap (λ k. tense_kind k f.place) e ∙ pair_kind p.word n at f.place left right)
 
 -- with the next number it is what the expansion makes of it
-pair_next : (word : Paired) (s : Around) (o : Operator) (f g : TenseForm)
+pair_next : (word : Paired) (s : ScopeView) (o : Operator) (f g : TenseForm)
     → form_of_pair word o (moment_name o.name (next_number s.numbers o.place)) (between_name o.name (next_number s.numbers o.place)) (present_name s.names o.name)
-    (expanded_in (within (past_one s o.place) o.name (between_name o.name (next_number s.numbers o.place))) f) (expanded_in (within (past (past_one s o.place) f) o.name (moment_name o.name (next_number s.numbers o.place))) g)
+    (expanded_in (inside_variable (past_one s o.place) o.name (between_name o.name (next_number s.numbers o.place))) f) (expanded_in (inside_variable (past (past_one s o.place) f) o.name (moment_name o.name (next_number s.numbers o.place))) g)
     ≡ expanded_in s (paired_form word o f g)
 pair_next since_word s o f g = refl
 pair_next until_word s o f g = refl
 
 -- the second formula expanded too, they are the operator's
-pub pair_joined : (s t : Around) (p : Pair) (b : Begun) (f g : TenseForm) → IsBegun s p f b → t ≡ past (past_one s p.at.places.place) f → pair_begun t p b g ≡ expanded_in s (pair_of p f g)
+pub pair_joined : (s t : ScopeView) (p : PairOperator) (b : Begun) (f g : TenseForm) → IsBegun s p f b → t ≡ past (past_one s p.at.places.place) f → pair_begun t p b g ≡ expanded_in s (pair_of p f g)
 pair_joined s t p b f g h e =
     let n : Identifier = p.at.name.now in
-    let form : Around → Identifier → Identifier → RawForm → RawForm =
-    λ a m y x. form_of_pair p.word (operator_of p.at) m y (present_name a.names n) x (expanded_in (within a n m) g) in
+    let form : ScopeView → Identifier → Identifier → RawForm → RawForm =
+    λ a m y x. form_of_pair p.word (operator_of p.at) m y (present_name a.names n) x (expanded_in (inside_variable a n m) g) in
     ap (λ a. form a b.moment b.between.name (form_inside b.between)) e
     ∙ ap (λ m. form (past (past_one s p.at.places.place) f) m b.between.name (form_inside b.between)) h.moment
     ∙ ap₂ (λ y x. form (past (past_one s p.at.places.place) f) (moment_name n (next_number s.numbers p.at.places.place)) y x) h.name h.tree
     ∙ pair_next p.word s (operator_of p.at) f g
 
 -- and passed
-pair_behind : (word : Paired) (s : Around) (o : Operator) (f g : TenseForm) → past (past (past_one s o.place) f) g ≡ past s (paired_form word o f g)
+pair_behind : (word : Paired) (s : ScopeView) (o : Operator) (f g : TenseForm) → past (past (past_one s o.place) f) g ≡ past s (paired_form word o f g)
 pair_behind since_word s o f g = ap (λ (n : Numbers). record s { numbers = n }) (sym (behind_append (behind_one s.numbers o.place) (operators f) (operators g)))
 pair_behind until_word s o f g = ap (λ (n : Numbers). record s { numbers = n }) (sym (behind_append (behind_one s.numbers o.place) (operators f) (operators g)))
 
-pub pair_past : (s t u : Around) (p : Pair) (f g : TenseForm) → t ≡ past (past_one s p.at.places.place) f → u ≡ past t g → u ≡ past s (pair_of p f g)
+pub pair_past : (s t u : ScopeView) (p : PairOperator) (f g : TenseForm) → t ≡ past (past_one s p.at.places.place) f → u ≡ past t g → u ≡ past s (pair_of p f g)
 pair_past s t u p f g e h = h ∙ ap (λ a. past a g) e ∙ pair_behind p.word s (operator_of p.at) f g

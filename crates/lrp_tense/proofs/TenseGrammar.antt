@@ -17,7 +17,7 @@ use Rattle.lrp_tense.specs.TenseQueries.{WrittenTense, FurtherTenses, WrittenTen
 use Rattle.lrp_tense.specs.TenseQueries.WrittenTense.{atom as written_atom, compared as written_compared, member as written_member, denied as written_denied, all_of as written_all, any_of as written_any, implied as written_implied, group as written_group, some as written_some, every as written_every, once_in, always_in, since_when, until_when, hole as written_hole}
 use Rattle.lrp_tense.specs.TenseQueries.FurtherTenses.{last, more}
 use Rattle.lrp_query.specs.OperatorRules.{OperatorTrees}
-use Rattle.lrp_tense.specs.Rules.{word_of, operator_of}
+use Rattle.lrp_tense.specs.Rules.{word_of, opened_operator}
 use Rattle.lrp_tense.specs.declared.words.Ranged.{Ranged}
 use Rattle.lrp_tense.specs.declared.words.Ranged.TheVariants.{Once, Always}
 use Rattle.lrp_tense.specs.declared.words.Paired.{Paired}
@@ -83,7 +83,7 @@ rolled_operator (over_range word o from to f) = written_ranged word o from to f
 rolled_operator (over_pair word o f g) = written_paired word o f g
 
 abbrev pub written_operators : OperatorTrees Ranged Paired Integer WrittenTense
-written_operators = record { word_of = word_of; number_of = λ i. i; ranged = λ word o. written_ranged word (operator_of o); paired = λ word o. written_paired word (operator_of o) }
+written_operators = record { word_of = word_of; number_of = λ i. i; ranged = λ word o. written_ranged word (opened_operator o); paired = λ word o. written_paired word (opened_operator o) }
 
 -- its first word
 abbrev pub ranged_word : Ranged → Identifier

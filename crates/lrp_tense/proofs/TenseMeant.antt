@@ -14,7 +14,7 @@ use Rattle.lrp_tense.specs.Trees.{tense, no_tenses, tense_and, tense_or}
 use Rattle.lrp_tense.specs.TenseQueries.{WrittenTense}
 use Rattle.lrp_tense.specs.TenseQueries.WrittenTense.{hole}
 use Rattle.lrp_tense.specs.TenseReading.{tense_form, tense_forms, tense_question}
-use Rattle.lrp_tense.specs.Rules.{tenses, tense_making, tense_meant, ranged_form, paired_form, operator_of}
+use Rattle.lrp_tense.specs.Rules.{tenses, tense_making, tense_meant, ranged_form, paired_form, opened_operator}
 use Rattle.lrp_tense.specs.declared.words.Ranged.{Ranged}
 use Rattle.lrp_tense.specs.declared.words.Ranged.TheVariants.{Once, Always}
 use Rattle.lrp_tense.specs.declared.words.Paired.{Paired}
@@ -48,11 +48,11 @@ meaning = record {
   cut_is = λ t. inl (cut_same tense_form (hole t.place) (tense_or t.place no_tenses) refl t.token);
 }
 
-ranged_is : (word : Ranged) (o : Opening) (a b : Integer) (f : WrittenTense) → ranged_form word (operator_of o) (integer_of a) (integer_of b) (tense_form f) ≡ tense_form (written_ranged word (operator_of o) a b f)
+ranged_is : (word : Ranged) (o : Opening) (a b : Integer) (f : WrittenTense) → ranged_form word (opened_operator o) (integer_of a) (integer_of b) (tense_form f) ≡ tense_form (written_ranged word (opened_operator o) a b f)
 ranged_is Once o a b f = refl
 ranged_is Always o a b f = refl
 
-paired_is : (word : Paired) (o : Opening) (f g : WrittenTense) → paired_form word (operator_of o) (tense_form f) (tense_form g) ≡ tense_form (written_paired word (operator_of o) f g)
+paired_is : (word : Paired) (o : Opening) (f g : WrittenTense) → paired_form word (opened_operator o) (tense_form f) (tense_form g) ≡ tense_form (written_paired word (opened_operator o) f g)
 paired_is Since o f g = refl
 paired_is Until o f g = refl
 

@@ -20,7 +20,7 @@ use Rattle.lrp_query.proofs.Layers.{atom, other, trees, FormulaRules, BehindRule
 use Rattle.lrp_query.proofs.OperatorLaws.{behind_local, marked_operators, behind_told, behind_same}
 use Rattle.lrp_query.proofs.Marks.{marking}
 use Rattle.lrp_query.proofs.Readers.{Reader, forget, marks_of}
-use Rattle.lrp_query.proofs.TermRules.{NoShift}
+use Rattle.lrp_text.proofs.OffsetRule.{NoShift}
 use Rattle.lrp_query.proofs.TestRules.{name_at, symbol_at, behind_name_sound, behind_name_stops}
 use Rattle.lrp_tense.specs.TenseQueries.{WrittenTense}
 use Rattle.lrp_tense.specs.Rules.{word_of}

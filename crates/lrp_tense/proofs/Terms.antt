@@ -17,8 +17,9 @@ use Rattle.lrp_model.specs.declared.raw.RawTermKind.{RawTermKind}
 use Rattle.lrp_model.specs.declared.raw.RawTermKind.TheVariants.{Int, Text, Var, Shifted}
 use Rattle.lrp_tense.specs.Expanding.{Naming, renamed_kind, renamed, IsPlainKind, IsPlainTerm}
 use Rattle.lrp_tense.proofs.Scoping.{Follows}
-use Rattle.lrp_tense.proofs.Timely.{IsTimely, both_none, none_if, shifted_times, read_times, read_texts}
-use Rattle.lrp_theory.specs.Divides.{IsMember}
+use Rattle.lrp_model.proofs.NoFaults.{both_none, none_if}
+use Rattle.lrp_tense.proofs.Timely.{IsTimely, shifted_times, read_times, read_texts}
+use Rattle.lrp_theory.specs.Divides.{IsPointMember}
 
 pub by_equal : {A : Type 0} (P : A → Type 0) (x y : A) → x ≡ y → P x ↔ P y
 by_equal P x y e = (subst P e, subst P (sym e))
@@ -66,7 +67,7 @@ module _ (names : Naming) (bs cs : Binders) (env other : Assignment) (h : Follow
       → Passes env (Member (time_of t.kind) point) ↔ Passes other (Member (time_of (renamed_kind names t.kind)) point)
   same_member t point p f e =
       let k : is_data_term (term_sort bs t) ≡ false = sym (ap is_data_term (same_sort t.kind p)) ∙ none_if (is_data_term (term_sort cs (renamed names t))) _ e in
-      by_equal (λ x. IsMember point.offset point.period x) (time_value env (time_of t.kind)) (time_value other (time_of (renamed_kind names t.kind))) (sym (same_time t.kind t.place p f k))
+      by_equal (λ x. IsPointMember point.offset point.period x) (time_value env (time_of t.kind)) (time_value other (time_of (renamed_kind names t.kind))) (sym (same_time t.kind t.place p f k))
 
   pub same_compare : (op : Op) (q : Place) (l r : RawTerm) → IsPlainTerm l → IsPlainTerm r → IsTimely (raw_compare q (renamed names l) op (renamed names r)) cs
       → Passes env (compare_of bs l op r) ↔ Passes other (compare_of cs (renamed names l) op (renamed names r))

@@ -7,7 +7,7 @@ use Rattle.lrp_model.specs.declared.raw.RawTerm.{RawTerm}
 use Rattle.lrp_model.specs.declared.raw.RawTermKind.{RawTermKind}
 use Rattle.lrp_model.specs.declared.raw.RawTermKind.TheVariants.{Int, Text, Var, Shifted}
 use Rattle.lrp_tense.specs.Trees.{tense_of, tenses_of, without_operators}
-use Rattle.lrp_tense.specs.Expanding.{Naming, present_name, renamed_to, renamed_kind, renamed, operators, number_of, expanded, expanded_each, expanded_question}
+use Rattle.lrp_tense.specs.Expanding.{Naming, present_name, renamed_to, renamed_kind, renamed, operators, operator_number, expanded, expanded_each, expanded_question}
 use Rattle.lrp_tense.proofs.Scoping.{choose}
 
 -- each variable has its own name
@@ -48,4 +48,4 @@ mutual
   unchanged_each (raw f fs) number names h = ap₂ raw (unchanged f number names h) (unchanged_each fs number names h)
 
 pub unchanged_query : (q : RawQuestion) → expanded_question (without_operators q) ≡ q
-unchanged_query q = ap (λ f. record { head = q.head; body = f }) (unchanged q.body (number_of (operators (tense_of q.body))) [] (λ w. refl))
+unchanged_query q = ap (λ f. record { head = q.head; body = f }) (unchanged q.body (operator_number (operators (tense_of q.body))) [] (λ w. refl))

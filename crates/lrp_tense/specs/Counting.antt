@@ -9,8 +9,8 @@ abbrev pub position_of : Place → ℕ
 position_of p = 4294967296 * p.line + p.column
 
 -- the number of the operator at a place among those at these positions, counted from 1
-abbrev pub number_in : List ℕ → Place → ℕ
-number_in positions p = suc (count_by (λ q. nat_lt q (position_of p)) positions)
+abbrev pub operator_number_in : List ℕ → Place → ℕ
+operator_number_in positions p = suc (count_by (λ q. nat_lt q (position_of p)) positions)
 
 -- a column of 32 bits
 abbrev pub HasSmallColumn : Place → Type 0

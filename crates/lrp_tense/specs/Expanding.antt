@@ -44,8 +44,8 @@ abbrev pub is_before : Place → Place → Bool
 is_before p q = nat_lt p.line q.line || ((p.line == q.line) && nat_lt p.column q.column)
 
 -- the number of the operator at a place among those at these places, counted from 1
-abbrev pub number_of : List Place → Place → ℕ
-number_of places p = suc (length (filter (λ q. is_before q p) places))
+abbrev pub operator_number : List Place → Place → ℕ
+operator_number places p = suc (length (filter (λ q. is_before q p) places))
 
 -- ---- names
 
@@ -168,7 +168,7 @@ abbrev mutual
 
 -- the query, its operators counted by their places
 abbrev pub expanded_question : TenseQuestion → RawQuestion
-expanded_question q = record { head = q.head; body = expanded q.body (number_of (operators q.body)) [] }
+expanded_question q = record { head = q.head; body = expanded q.body (operator_number (operators q.body)) [] }
 
 -- ---- which trees the law speaks of
 

@@ -10,8 +10,8 @@ use Rattle.lrp_model.specs.declared.formulas.Test.TheVariants.{Member}
 use Rattle.lrp_tense.specs.Trees.{Operator, TenseForm, TenseForms, tense_atom, tense_compare, tense_member, tense_not, tense_and, tense_or, tense_implies, tense_group, tense_exists, tense_forall, once, always, since, until, no_tenses, tense}
 
 -- the variable of an operator, which inside it is one for integers
-abbrev pub variable_of : Operator → RawColumn
-variable_of o = record { name = o.name; place = o.name_place; sort = Time; sort_place = o.name_place }
+abbrev pub operator_variable : Operator → RawColumn
+operator_variable o = record { name = o.name; place = o.name_place; sort = Time; sort_place = o.name_place }
 
 -- within binders, the assignment satisfies the formula in the structure
 abbrev mutual
@@ -28,16 +28,16 @@ abbrev mutual
   TenseSatisfies (tense_forall p c f) bs M env = (d : Datum) → IsOfSort M c.sort d → TenseSatisfies f (c ∷ bs) M (with_value c.name d env)
   -- some moment of the interval satisfies f
   TenseSatisfies (once o from to f) bs M env =
-      ForSome (λ x. ((env.times o.name +ℤ from) ≤ℤ x) × (x ≤ℤ (env.times o.name +ℤ to)) × TenseSatisfies f (variable_of o ∷ bs) M (with_value o.name (time x) env))
+      ForSome (λ x. ((env.times o.name +ℤ from) ≤ℤ x) × (x ≤ℤ (env.times o.name +ℤ to)) × TenseSatisfies f (operator_variable o ∷ bs) M (with_value o.name (time x) env))
   -- every moment of the interval does
   TenseSatisfies (always o from to f) bs M env =
-      (x : ℤ) → ((env.times o.name +ℤ from) ≤ℤ x) × (x ≤ℤ (env.times o.name +ℤ to)) → TenseSatisfies f (variable_of o ∷ bs) M (with_value o.name (time x) env)
+      (x : ℤ) → ((env.times o.name +ℤ from) ≤ℤ x) × (x ≤ℤ (env.times o.name +ℤ to)) → TenseSatisfies f (operator_variable o ∷ bs) M (with_value o.name (time x) env)
   -- some moment up to now satisfies g, and every later one up to now satisfies f
   TenseSatisfies (since o f g) bs M env =
-      ForSome (λ x. (x ≤ℤ env.times o.name) × TenseSatisfies g (variable_of o ∷ bs) M (with_value o.name (time x) env) × ((y : ℤ) → (x <ℤ y) × (y ≤ℤ env.times o.name) → TenseSatisfies f (variable_of o ∷ bs) M (with_value o.name (time y) env)))
+      ForSome (λ x. (x ≤ℤ env.times o.name) × TenseSatisfies g (operator_variable o ∷ bs) M (with_value o.name (time x) env) × ((y : ℤ) → (x <ℤ y) × (y ≤ℤ env.times o.name) → TenseSatisfies f (operator_variable o ∷ bs) M (with_value o.name (time y) env)))
   -- some moment from now on satisfies g, and every earlier one from now on satisfies f
   TenseSatisfies (until o f g) bs M env =
-      ForSome (λ x. (env.times o.name ≤ℤ x) × TenseSatisfies g (variable_of o ∷ bs) M (with_value o.name (time x) env) × ((y : ℤ) → (env.times o.name ≤ℤ y) × (y <ℤ x) → TenseSatisfies f (variable_of o ∷ bs) M (with_value o.name (time y) env)))
+      ForSome (λ x. (env.times o.name ≤ℤ x) × TenseSatisfies g (operator_variable o ∷ bs) M (with_value o.name (time x) env) × ((y : ℤ) → (env.times o.name ≤ℤ y) × (y <ℤ x) → TenseSatisfies f (operator_variable o ∷ bs) M (with_value o.name (time y) env)))
 
   pub TenseSatisfiesAll : TenseForms → Binders → Structure → Assignment → Type 0
   TenseSatisfiesAll no_tenses bs M env = Unit {0}

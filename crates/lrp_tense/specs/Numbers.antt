@@ -4,7 +4,7 @@ use Rattle.lrp_model.specs.RawQueries.{RawForm, RawForms, raw_atom, raw_compare,
 use Rattle.lrp_model.specs.declared.tokens.Place.{Place}
 use Rattle.lrp_tense.specs.Trees.{TenseForm, TenseForms, tense_atom, tense_compare, tense_member, tense_not, tense_and, tense_or, tense_implies, tense_group, tense_exists, tense_forall, once, always, since, until, no_tenses, tense}
 use Rattle.lrp_tense.specs.Expanding.{operators, Naming, renamed, renamed_to, present_name, moment_name, between_name, once_form, always_form, since_form, until_form}
-use Rattle.lrp_tense.specs.Counting.{number_in}
+use Rattle.lrp_tense.specs.Counting.{operator_number_in}
 
 -- as they are met, behind those at these places, or by the positions of all of them
 pub data Numbers : Type 0 where
@@ -14,7 +14,7 @@ pub data Numbers : Type 0 where
 -- the number of the next operator, which stands at a place
 abbrev pub next_number : Numbers → Place → ℕ
 next_number (met ps) p = suc (length ps)
-next_number (ranked positions) p = number_in positions p
+next_number (ranked positions) p = operator_number_in positions p
 
 -- behind that operator
 abbrev pub behind_one : Numbers → Place → Numbers

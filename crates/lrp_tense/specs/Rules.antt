@@ -33,8 +33,8 @@ paired_form Since = since
 paired_form Until = until
 
 -- an operator that begins so
-abbrev pub operator_of : Opening → Operator
-operator_of o = operator_at o.place o.name o.name_place
+abbrev pub opened_operator : Opening → Operator
+opened_operator o = operator_at o.place o.name o.name_place
 
 -- the formulas of a list
 abbrev pub tenses : List TenseForm → TenseForms
@@ -60,8 +60,8 @@ abbrev pub tense_making : Making Ranged Paired TenseForm TenseQuestion
 tense_making = record {
   formulas = tense_formulas;
   word_of = word_of;
-  ranged = λ word o. ranged_form word (operator_of o);
-  paired = λ word o. paired_form word (operator_of o);
+  ranged = λ word o. ranged_form word (opened_operator o);
+  paired = λ word o. paired_form word (opened_operator o);
   question = λ cs f. record { head = cs; body = f };
 }
 

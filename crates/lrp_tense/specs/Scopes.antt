@@ -12,29 +12,29 @@ use Rattle.lrp_tense.specs.Expanding.{Naming, renamed_to, operators, operators_e
 use Rattle.lrp_tense.specs.Numbers.{Numbers, behind_one, behind_all, expanded_from, each_from}
 
 -- how operators are numbered, and the variables around the formula, the innermost first
-pub record Around : Type 0 where
+pub record ScopeView : Type 0 where
   pub numbers : Numbers
   pub names : Naming
 
 -- inside one variable more
-abbrev pub within : Around → Identifier → Identifier → Around
-within a v n = record a { names = renamed_to v n ∷ a.names }
+abbrev pub inside_variable : ScopeView → Identifier → Identifier → ScopeView
+inside_variable a v n = record a { names = renamed_to v n ∷ a.names }
 
 -- behind the operator at a place, those of a formula, and those of several
-abbrev pub past_one : Around → Place → Around
+abbrev pub past_one : ScopeView → Place → ScopeView
 past_one a p = record a { numbers = behind_one a.numbers p }
 
-abbrev pub past : Around → TenseForm → Around
+abbrev pub past : ScopeView → TenseForm → ScopeView
 past a f = record a { numbers = behind_all a.numbers (operators f) }
 
-abbrev pub past_each : Around → TenseForms → Around
+abbrev pub past_each : ScopeView → TenseForms → ScopeView
 past_each a fs = record a { numbers = behind_all a.numbers (operators_each fs) }
 
 -- a formula there, expanded, and several
-abbrev pub expanded_in : Around → TenseForm → RawForm
+abbrev pub expanded_in : ScopeView → TenseForm → RawForm
 expanded_in a f = expanded_from f a.numbers a.names
 
-abbrev pub each_in : Around → TenseForms → RawForms
+abbrev pub each_in : ScopeView → TenseForms → RawForms
 each_in a fs = each_from fs a.numbers a.names
 
 -- what an operator with an interval stands for, and one over two formulas

@@ -1,10 +1,8 @@
 -- What reading a query with temporal operators means: its tree, or the fault that is reported.
-use Rattle.std.specs.Prelude.{◌≡◌, ℕ, pos, Bool, List, map}
-use Rattle.std.specs.Str.{IsUtf8}
+use Rattle.std.specs.Prelude.{ℕ, pos, Bool, List, map}
 use Rattle.lrp_model.specs.declared.faults.QueryFault.{QueryFault}
-use Rattle.lrp_model.specs.Tokens.{Tokens, Spells}
-use Rattle.lrp_model.specs.Lexing.{tokens}
-use Rattle.lrp_model.specs.Refused.{TextOf}
+use Rattle.lrp_model.specs.Tokens.{Tokens}
+use Rattle.lrp_model.specs.Refused.{TextOf, IsLawfulText, IsTextSaying}
 use Rattle.lrp_model.specs.DatabaseMeaning.{integer_of}
 use Rattle.lrp_model.specs.QueryMeaning.{raw_term}
 use Rattle.lrp_model.specs.TextFaults.{IsTextFault}
@@ -44,16 +42,12 @@ tense_question q = record { head = q.head; body = tense_form q.body }
 -- ---- what the bytes are
 
 -- the bytes are a lawful text of the grammar, of this written tree
-pub record IsTenseText (bytes : List ℕ) (tree : WrittenTenseQuery) : Type 0 where
-  pub utf8 : IsUtf8 bytes
-  pub spelled : Spells (tense_query_text tree) (tokens bytes)
-  pub lawful : FitsTenseQuery tree
+abbrev pub IsTenseText : List ℕ → WrittenTenseQuery → Type 0
+IsTenseText = IsLawfulText tense_query_text FitsTenseQuery
 
 -- the bytes are a query, and this is what it says
-pub record IsTenseQuery (bytes : List ℕ) (q : TenseQuestion) : Type 0 where
-  pub tree : WrittenTenseQuery
-  pub text : IsTenseText bytes tree
-  pub meant : q ≡ tense_question tree
+abbrev pub IsTenseQuery : List ℕ → TenseQuestion → Type 0
+IsTenseQuery = IsTextSaying tense_query_text FitsTenseQuery tense_question
 
 -- the tokens spell a tree, and with the flag a lawful one
 abbrev pub TenseTexts : Bool → Tokens → Type 0

@@ -46,7 +46,7 @@ operator_at p n q = record { place = p; name = n; name_place = q }
 abbrev mutual
   pub tense_kind : TenseKind → Place → TenseForm
   tense_kind (Atom name terms) p = tense_atom p name terms
-  tense_kind (Compare left op right) p = tense_compare p left op right
+  tense_kind (Compare op left right) p = tense_compare p left op right
   tense_kind (Member term point) p = tense_member p term point
   tense_kind (Not' m k q) p = tense_not p (tense_kind k q)
   tense_kind (And' shape all) p = tense_and p (row_tenses all)

@@ -14,11 +14,11 @@ use Rattle.lrp_tense.specs.Scopes.{form_of_range, form_of_pair}
 use Rattle.lrp_tense.specs.declared.words.Ranged.{Ranged}
 use Rattle.lrp_tense.specs.declared.words.Paired.{Paired}
 use Rattle.lrp_tense.specs.declared.expansion.Operator.{Operator as WrittenOperator}
-use Rattle.lrp_tense.specs.declared.expansion.Range.{Range}
-use Rattle.lrp_tense.specs.declared.expansion.Pair.{Pair}
-use Rattle.lrp_tense.specs.declared.written_out.Places.{Places}
+use Rattle.lrp_tense.specs.declared.expansion.RangeOperator.{RangeOperator}
+use Rattle.lrp_tense.specs.declared.expansion.PairOperator.{PairOperator}
+use Rattle.lrp_tense.specs.declared.written_out.OperatorPlaces.{OperatorPlaces}
 use Rattle.lrp_tense.specs.declared.written_out.Inside.{Inside}
-use Rattle.lrp_tense.specs.declared.written_out.Bound.{Bound}
+use Rattle.lrp_tense.specs.declared.written_out.Comparand.{Comparand}
 use Rattle.lrp_tense.specs.declared.written_out.Connective.{Connective}
 use Rattle.lrp_tense.specs.declared.written_out.Connective.TheVariants.{And, Or}
 use Rattle.lrp_tense.specs.declared.written_out.Quantifier.{Quantifier}
@@ -37,17 +37,17 @@ quantified_form Forall = raw_forall
 -- ---- operators of the program
 
 -- an operator at these places, where its variable has this name
-abbrev pub operator_there : Places → Identifier → Operator
+abbrev pub operator_there : OperatorPlaces → Identifier → Operator
 operator_there p v = operator_at p.place v p.name_place
 
 abbrev pub operator_of : WrittenOperator → Operator
 operator_of o = operator_there o.places o.name.now
 
 -- the formula that one with an interval makes of a formula, and one over two formulas of these
-abbrev pub range_of : Range → TenseForm → TenseForm
+abbrev pub range_of : RangeOperator → TenseForm → TenseForm
 range_of r f = ranged_form r.word (operator_of r.at) r.from r.to f
 
-abbrev pub pair_of : Pair → TenseForm → TenseForm → TenseForm
+abbrev pub pair_of : PairOperator → TenseForm → TenseForm → TenseForm
 pair_of p f g = paired_form p.word (operator_of p.at) f g
 
 -- ---- what they stand for
@@ -58,11 +58,11 @@ variable_plus n None = Var n
 variable_plus n (Some plus) = Shifted n plus
 
 -- the term that is compared with
-abbrev pub term_of_bound : Bound → RawTerm
+abbrev pub term_of_bound : Comparand → RawTerm
 term_of_bound b = record { kind = variable_plus b.name.now b.plus; place = b.place }
 
 -- x is within the bound
-abbrev pub bounded : Places → Identifier → Bound → RawForm
+abbrev pub bounded : OperatorPlaces → Identifier → Comparand → RawForm
 bounded p x b = raw_compare p.place (name_term p.place x) b.op (term_of_bound b)
 
 -- the formula that stands inside a variable
@@ -70,12 +70,12 @@ abbrev pub form_inside : Inside → RawForm
 form_inside i = raw_form_of i.of.value
 
 -- each value of that variable satisfies it, written at an operator's place
-abbrev pub each_there : Places → Inside → RawForm
+abbrev pub each_there : OperatorPlaces → Inside → RawForm
 each_there p i = raw_forall p.place (time_binder p.place i.name) (form_inside i)
 
 -- what operators at these places stand for, where their variable is v: of the formula inside their moment, and of the one inside each moment between
-abbrev pub range_at : Ranged → Places → Identifier → ℤ → ℤ → Inside → RawForm
+abbrev pub range_at : Ranged → OperatorPlaces → Identifier → ℤ → ℤ → Inside → RawForm
 range_at word p v from to i = form_of_range word (operator_there p v) i.name v from to (form_inside i)
 
-abbrev pub pair_at : Paired → Places → Identifier → Inside → Inside → RawForm
+abbrev pub pair_at : Paired → OperatorPlaces → Identifier → Inside → Inside → RawForm
 pair_at word p v b i = form_of_pair word (operator_there p v) i.name b.name v (form_inside b) (form_inside i)

@@ -2,7 +2,7 @@
 ghost use Rattle.std.specs.Prelude.{◌≡◌, ◌<◌, ◌^◌, map, length, count_by, nat_lt, IsTrue, IfOk};
 ghost use Rattle.std.specs.List.Sorted.{IsNonDecreasing, IsStrictlyIncreasing};
 ghost use Rattle.std.specs.List.{AllByRecursion};
-ghost use Rattle.lrp_tense.specs.Counting.{position_of, number_in, HasSmallColumn};
+ghost use Rattle.lrp_tense.specs.Counting.{position_of, operator_number_in, HasSmallColumn};
 
 use lrp_model::{Memory, Place};
 use std::alloc::Global;
@@ -51,7 +51,7 @@ fn below(positions: &[u64], here: u64) -> usize
 /// The number of the operator at a place among those at these positions, counted from 1.
 pub fn number(positions: &[u64], place: Place) -> u64
     requires { IsNonDecreasing positions.now }
-    ensures { result ≡ number_in positions.now place }
+    ensures { result ≡ operator_number_in positions.now place }
 {
     below(positions, position(place)) as u64 + 1
 }

@@ -2,20 +2,21 @@
 ghost use Rattle.std.specs.Prelude.{◌≡◌, ◌<◌, ◌^◌, [], length, IfOk, OnOk};
 ghost use Rattle.lrp_model.specs.RawQueries.{raw_form_of, raw_forms_of, raw_question_of, raw_not, raw_group, raw_implies};
 ghost use Rattle.lrp_tense.specs.Trees.{operator_at, tense_form_of, tense_forms_of, tense_question_of};
-ghost use Rattle.lrp_tense.specs.Expanding.{IsExpandable, operators, number_of, expanded, expanded_question};
+ghost use Rattle.lrp_tense.specs.Expanding.{IsExpandable, operators, operator_number, expanded, expanded_question};
 ghost use Rattle.lrp_tense.specs.Counting.{ArePositions};
 ghost use Rattle.lrp_tense.specs.Laws.{KeepsMeaning};
 ghost use Rattle.lrp_tense.specs.Written.{operator_of, form_inside, joined_form, quantified_form, range_of};
 ghost use Rattle.lrp_tense.specs.Numbers.{met, expanded_from};
-ghost use Rattle.lrp_tense.specs.Scopes.{expanded_in, each_in, past, past_one, past_each, within};
+ghost use Rattle.lrp_tense.specs.Scopes.{expanded_in, each_in, past, past_one, past_each, inside_variable};
 ghost use Rattle.lrp_tense.specs.Begun.{IsBegun, pair_begun};
 
 use crate::counting::{is_ascending, positions_of};
 use crate::renaming::{atom, comparison, membership};
-use crate::scope::{Moments, Scope};
+use crate::scope::{Moments, OperatorScope};
 use crate::words::{Paired, Ranged};
 use crate::written_out::{
-    Connective, Inside, Places, Quantifier, boxed, denied, grouped, implied, joined, quantified,
+    Connective, Inside, OperatorPlaces, Quantifier, boxed, denied, grouped, implied, joined,
+    quantified,
 };
 use crate::{TenseFormula, TenseKind, TenseQuery};
 use lrp_model::{Copies, Memory, Name, Place, RawColumn, RawFormula, RawQuery};
@@ -24,13 +25,13 @@ use std::alloc::Global;
 /// An operator as it is written: where it stands, and its variable.
 #[derive(Clone, Copy)]
 pub struct Operator<'a> {
-    pub places: Places,
+    pub places: OperatorPlaces,
     pub name: &'a Name,
 }
 
 /// An operator with an interval: which one, and the ends of that.
 #[derive(Clone, Copy)]
-pub struct Range<'a> {
+pub struct RangeOperator<'a> {
     pub at: Operator<'a>,
     pub word: Ranged,
     pub from: i64,
@@ -39,7 +40,7 @@ pub struct Range<'a> {
 
 /// An operator over two formulas: which one.
 #[derive(Clone, Copy)]
-pub struct Pair<'a> {
+pub struct PairOperator<'a> {
     pub at: Operator<'a>,
     pub word: Paired,
 }
@@ -85,7 +86,7 @@ pub fn expand(alloc: Global, query: &TenseQuery) -> Result<RawQuery, Memory>
 // In a formula that was read they stand in the order of their places, so that counting them as they are met is enough.
 fn expand_body(alloc: Global, f: &TenseFormula) -> Result<Box<RawFormula>, Memory>
     ensures tree { IfOk result (λ made. raw_form_of made.value
-        ≡ expanded (tense_form_of f.now) (number_of (operators (tense_form_of f.now))) []) }
+        ≡ expanded (tense_form_of f.now) (operator_number (operators (tense_form_of f.now))) []) }
     ensures few { IfOk result (λ _. length (operators (tense_form_of f.now)) < 2 ^ 64) }
 {
     let counted = expand_counting(alloc, f)?;
@@ -103,7 +104,7 @@ fn expand_counting(alloc: Global, f: &TenseFormula) -> Result<Counted, Memory>
     ensures positions { IfOk result (λ made. ArePositions made.positions.items
         (operators (tense_form_of f.now))) }
 {
-    let mut scope = Scope::counting(alloc);
+    let mut scope = OperatorScope::counting(alloc);
     let of = expand_formula(alloc, &mut scope, f)?;
     let places = scope.into_places();
     let positions = positions_of(alloc, places.as_slice())?;
@@ -118,11 +119,11 @@ fn expand_ranking(
 ) -> Result<Box<RawFormula>, Memory>
     requires { ArePositions positions.items (operators (tense_form_of f.now)) }
     ensures { IfOk result (λ made. raw_form_of made.value
-        ≡ expanded (tense_form_of f.now) (number_of (operators (tense_form_of f.now))) []) }
+        ≡ expanded (tense_form_of f.now) (operator_number (operators (tense_form_of f.now))) []) }
 {
     let mut positions = positions;
     positions.sort_unstable();
-    let mut scope = Scope::ranking(alloc, positions);
+    let mut scope = OperatorScope::ranking(alloc, positions);
     expand_formula(alloc, &mut scope, f)
 }
 
@@ -144,7 +145,7 @@ fn renamed_column(alloc: Global, column: &RawColumn, name: Name) -> Result<RawCo
 #[cycle(expanding)]
 fn expand_formula<'a>(
     alloc: Global,
-    scope: &mut Scope<'a>,
+    scope: &mut OperatorScope<'a>,
     f: &'a TenseFormula,
 ) -> Result<Box<RawFormula>, Memory>
     ensures tree { IfOk result (λ made. raw_form_of made.value
@@ -195,7 +196,7 @@ fn expand_formula<'a>(
             of,
         } => {
             let at = written(place, name, *name_place);
-            let range = Range {
+            let range = RangeOperator {
                 at,
                 word: Ranged::Once,
                 from: *from,
@@ -211,7 +212,7 @@ fn expand_formula<'a>(
             of,
         } => {
             let at = written(place, name, *name_place);
-            let range = Range {
+            let range = RangeOperator {
                 at,
                 word: Ranged::Always,
                 from: *from,
@@ -227,7 +228,7 @@ fn expand_formula<'a>(
         } => {
             let at = written(place, name, *name_place);
             let word = Paired::Since;
-            let pair = Pair { at, word };
+            let pair = PairOperator { at, word };
             let begun = expand_between(alloc, scope, pair, left)?;
             expand_paired(alloc, scope, pair, begun, right)
         }
@@ -239,7 +240,7 @@ fn expand_formula<'a>(
         } => {
             let at = written(place, name, *name_place);
             let word = Paired::Until;
-            let pair = Pair { at, word };
+            let pair = PairOperator { at, word };
             let begun = expand_between(alloc, scope, pair, left)?;
             expand_paired(alloc, scope, pair, begun, right)
         }
@@ -249,14 +250,14 @@ fn expand_formula<'a>(
 fn written(place: Place, name: &Name, name_place: Place) -> Operator<'_>
     ensures { operator_of result ≡ operator_at place name.now name_place }
 {
-    let places = Places { place, name_place };
+    let places = OperatorPlaces { place, name_place };
     Operator { places, name }
 }
 
 #[cycle(expanding)]
 fn expand_negation<'a>(
     alloc: Global,
-    scope: &mut Scope<'a>,
+    scope: &mut OperatorScope<'a>,
     place: Place,
     of: &'a TenseFormula,
 ) -> Result<Box<RawFormula>, Memory>
@@ -271,7 +272,7 @@ fn expand_negation<'a>(
 #[cycle(expanding)]
 fn expand_group<'a>(
     alloc: Global,
-    scope: &mut Scope<'a>,
+    scope: &mut OperatorScope<'a>,
     place: Place,
     of: &'a TenseFormula,
 ) -> Result<Box<RawFormula>, Memory>
@@ -287,7 +288,7 @@ fn expand_group<'a>(
 #[cycle(expanding)]
 fn expand_implication<'a>(
     alloc: Global,
-    scope: &mut Scope<'a>,
+    scope: &mut OperatorScope<'a>,
     place: Place,
     right: &'a TenseFormula,
     left: Box<RawFormula>,
@@ -304,7 +305,7 @@ fn expand_implication<'a>(
 #[cycle(expanding)]
 fn expand_joined<'a>(
     alloc: Global,
-    scope: &mut Scope<'a>,
+    scope: &mut OperatorScope<'a>,
     place: Place,
     connective: Connective,
     of: &'a [TenseFormula],
@@ -320,7 +321,7 @@ fn expand_joined<'a>(
 #[cycle(expanding)]
 fn expand_each<'a>(
     alloc: Global,
-    scope: &mut Scope<'a>,
+    scope: &mut OperatorScope<'a>,
     fs: &'a [TenseFormula],
 ) -> Result<Vec<RawFormula>, Memory>
     ensures trees { IfOk result (λ made. raw_forms_of made.items
@@ -339,13 +340,13 @@ fn expand_each<'a>(
 #[cycle(expanding)]
 fn expand_quantified<'a>(
     alloc: Global,
-    scope: &mut Scope<'a>,
+    scope: &mut OperatorScope<'a>,
     at: Binding<'a>,
     of: &'a TenseFormula,
 ) -> Result<Box<RawFormula>, Memory>
     ensures tree { IfOk result (λ made. raw_form_of made.value
         ≡ quantified_form at.entry.quantifier at.entry.place at.entry.binder.now (expanded_in
-        (within scope.old at.entry.binder.now.name at.entry.binder.now.name)
+        (inside_variable scope.old at.entry.binder.now.name at.entry.binder.now.name)
         (tense_form_of of.now))) }
     ensures scope { OnOk result (scope.new ≡ past scope.old (tense_form_of of.now)) }
 {
@@ -361,14 +362,14 @@ fn expand_quantified<'a>(
 #[cycle(expanding)]
 fn expand_inside<'a>(
     alloc: Global,
-    scope: &mut Scope<'a>,
+    scope: &mut OperatorScope<'a>,
     written: &'a Name,
     present: Name,
     of: &'a TenseFormula,
 ) -> Result<Inside, Memory>
     ensures name { IfOk result (λ made. made.name ≡ present) }
     ensures tree { IfOk result (λ made. form_inside made
-        ≡ expanded_in (within scope.old written.now present) (tense_form_of of.now)) }
+        ≡ expanded_in (inside_variable scope.old written.now present) (tense_form_of of.now)) }
     ensures scope { OnOk result (scope.new ≡ past scope.old (tense_form_of of.now)) }
 {
     scope.enter(written, present)?;
@@ -381,8 +382,8 @@ fn expand_inside<'a>(
 #[cycle(expanding)]
 fn expand_ranged<'a>(
     alloc: Global,
-    scope: &mut Scope<'a>,
-    range: Range<'a>,
+    scope: &mut OperatorScope<'a>,
+    range: RangeOperator<'a>,
     of: &'a TenseFormula,
 ) -> Result<Box<RawFormula>, Memory>
     ensures tree { IfOk result (λ made. raw_form_of made.value
@@ -406,8 +407,8 @@ fn expand_ranged<'a>(
 #[cycle(expanding)]
 fn expand_between<'a>(
     alloc: Global,
-    scope: &mut Scope<'a>,
-    pair: Pair<'a>,
+    scope: &mut OperatorScope<'a>,
+    pair: PairOperator<'a>,
     of: &'a TenseFormula,
 ) -> Result<Begun, Memory>
     ensures begun { IfOk result (λ made. IsBegun scope.old pair.entry (tense_form_of of.now) made) }
@@ -429,8 +430,8 @@ fn expand_between<'a>(
 #[cycle(expanding)]
 fn expand_paired<'a>(
     alloc: Global,
-    scope: &mut Scope<'a>,
-    pair: Pair<'a>,
+    scope: &mut OperatorScope<'a>,
+    pair: PairOperator<'a>,
     begun: Begun,
     of: &'a TenseFormula,
 ) -> Result<Box<RawFormula>, Memory>

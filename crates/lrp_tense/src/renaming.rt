@@ -4,14 +4,18 @@ ghost use Rattle.lrp_model.specs.RawQueries.{raw_kind, raw_form_of, raw_atom, ra
 ghost use Rattle.lrp_model.specs.declared.tokens.Place.{Place as PlaceOf};
 ghost use Rattle.lrp_tense.specs.Expanding.{renamed as renamed_term, renamed_kind as renamed_kind_of};
 
-use crate::scope::Scope;
+use crate::scope::OperatorScope;
 use crate::written_out::boxed;
 use lrp_model::{
     List, Memory, Name, Op, Place, RawFormula, RawKind, RawTerm, RawTermKind, RowPoint,
 };
 use std::alloc::Global;
 
-fn renamed_kind(alloc: Global, scope: &Scope<'_>, kind: &RawTermKind) -> Result<RawTermKind, Memory>
+fn renamed_kind(
+    alloc: Global,
+    scope: &OperatorScope<'_>,
+    kind: &RawTermKind,
+) -> Result<RawTermKind, Memory>
     ensures { IfOk result (λ made. made ≡ renamed_kind_of scope.now.names kind.now) }
 {
     match kind {
@@ -31,7 +35,7 @@ fn renamed_kind(alloc: Global, scope: &Scope<'_>, kind: &RawTermKind) -> Result<
     }
 }
 
-fn renamed(alloc: Global, scope: &Scope<'_>, term: &RawTerm) -> Result<RawTerm, Memory>
+fn renamed(alloc: Global, scope: &OperatorScope<'_>, term: &RawTerm) -> Result<RawTerm, Memory>
     ensures { IfOk result (λ made. made ≡ renamed_term scope.now.names term.now) }
 {
     let kind = renamed_kind(alloc, scope, &term.kind)?;
@@ -43,7 +47,7 @@ fn renamed(alloc: Global, scope: &Scope<'_>, term: &RawTerm) -> Result<RawTerm, 
 
 fn renamed_each(
     alloc: Global,
-    scope: &Scope<'_>,
+    scope: &OperatorScope<'_>,
     terms: &[RawTerm],
 ) -> Result<List<RawTerm>, Memory>
     ensures { IfOk result (λ made. made ≡ map (renamed_term scope.now.names) terms.now) }
@@ -58,7 +62,7 @@ fn renamed_each(
 /// An atom, whose relation keeps its name.
 pub fn atom(
     alloc: Global,
-    scope: &Scope<'_>,
+    scope: &OperatorScope<'_>,
     place: Place,
     relation: &Name,
     terms: &[RawTerm],
@@ -74,7 +78,7 @@ pub fn atom(
 /// What a comparison is, wherever it stands.
 pub fn comparison(
     alloc: Global,
-    scope: &Scope<'_>,
+    scope: &OperatorScope<'_>,
     left: &RawTerm,
     op: Op,
     right: &RawTerm,
@@ -91,7 +95,7 @@ pub fn comparison(
 /// An `in`.
 pub fn membership(
     alloc: Global,
-    scope: &Scope<'_>,
+    scope: &OperatorScope<'_>,
     place: Place,
     term: &RawTerm,
     point: RowPoint,

@@ -6,10 +6,10 @@ ghost use Rattle.std.specs.List.Sorted.{IsNonDecreasing};
 ghost use Rattle.lrp_tense.specs.Expanding.{present_name, moment_name, between_name};
 ghost use Rattle.lrp_tense.specs.Named.{naming_of};
 ghost use Rattle.lrp_tense.specs.Numbers.{met, ranked, next_number};
-ghost use Rattle.lrp_tense.specs.Scopes.{Around, within, past_one};
+ghost use Rattle.lrp_tense.specs.Scopes.{ScopeView, inside_variable, past_one};
 
 use crate::counting::number;
-use crate::variables::{Variable, look_of};
+use crate::variables::{ScopedVariable, look_of};
 use itoa::Buffer;
 use lrp_model::{Memory, Name, Place};
 use std::alloc::Global;
@@ -25,17 +25,17 @@ pub struct Moments {
 
 /// The variables around a formula, the innermost last, and how operators are numbered: in the order in which they are met,
 /// whose places are kept, or by the positions of all of them in order. Beside them room for the text of a name.
-pub struct Scope<'a> {
-    variables: Vec<Variable<'a>>,
+pub struct OperatorScope<'a> {
+    variables: Vec<ScopedVariable<'a>>,
     is_ranked: bool,
     places: Vec<Place>,
     positions: Vec<u64>,
     text: String,
 }
 
-impl<'a> Drop for Scope<'a> {
+impl<'a> Drop for OperatorScope<'a> {
     fn drop(self) {
-        let Scope {
+        let OperatorScope {
             variables: _variables,
             is_ranked: _is_ranked,
             places: _places,
@@ -45,26 +45,26 @@ impl<'a> Drop for Scope<'a> {
     }
 }
 
-impl<'a> Model for Scope<'a> {
+impl<'a> Model for OperatorScope<'a> {
     ghost use Rattle.std.specs.Prelude.{cond};
     ghost use Rattle.std.specs.List.Sorted.{IsNonDecreasing};
     ghost use Rattle.lrp_tense.specs.Named.{naming_of};
     ghost use Rattle.lrp_tense.specs.Numbers.{met, ranked};
-    ghost use Rattle.lrp_tense.specs.Scopes.{Around};
+    ghost use Rattle.lrp_tense.specs.Scopes.{ScopeView};
 
-    ghost Value = { Around };
+    ghost Value = { ScopeView };
 
     ghost view = { λ a. record { numbers = cond a.is_ranked (ranked a.positions.items) (met a.places.items); names = naming_of a.variables.items } };
 
     ghost invariant = { λ a. IsNonDecreasing a.positions.items };
 }
 
-impl<'a> Scope<'a> {
+impl<'a> OperatorScope<'a> {
     /// No variable, and operators are numbered as they are met.
     pub fn counting(alloc: Global) -> Self
         ensures { result ≡ record { numbers = met []; names = [] } }
     {
-        Scope {
+        OperatorScope {
             variables: Vec::new(alloc),
             is_ranked: false,
             places: Vec::new(alloc),
@@ -78,7 +78,7 @@ impl<'a> Scope<'a> {
         requires { IsNonDecreasing positions.items }
         ensures { result ≡ record { numbers = ranked positions.items; names = [] } }
     {
-        Scope {
+        OperatorScope {
             variables: Vec::new(alloc),
             is_ranked: true,
             places: Vec::new(alloc),
@@ -104,7 +104,7 @@ impl<'a> Scope<'a> {
         ensures { (places : ListOf PlaceOf) → self.entry.numbers ≡ met places
             → result.items ≡ places }
     {
-        let Scope {
+        let OperatorScope {
             variables: _variables,
             is_ranked: _is_ranked,
             places,
@@ -145,16 +145,17 @@ impl<'a> Scope<'a> {
 
     /// One variable further in.
     pub fn enter(&mut self, written: &'a Name, present: Name) -> Result<(), Memory>
-        ensures { OnOk result (self.new ≡ within self.old written.now present) }
+        ensures { OnOk result (self.new ≡ inside_variable self.old written.now present) }
     {
-        self.variables.push(Variable::new(written, present))?;
+        self.variables.push(ScopedVariable::new(written, present))?;
         Ok(())
     }
 
     /// Out of the innermost variable, whose name is given back.
     pub fn leave(&mut self) -> Name
         requires { 0 < length self.old.names }
-        ensures { (v present : Identifier) (outer : Around) → self.old ≡ within outer v present
+        ensures { (v present : Identifier) (outer : ScopeView)
+            → self.old ≡ inside_variable outer v present
             → (result ≡ present) × (self.new ≡ outer) }
     {
         self.variables.take_last().into_present()
@@ -162,7 +163,7 @@ impl<'a> Scope<'a> {
 }
 
 // The name that the last of these variables which is so written gives, and else its own.
-fn present<'b>(variables: &'b [Variable<'_>], written: &'b Name) -> &'b Name
+fn present<'b>(variables: &'b [ScopedVariable<'_>], written: &'b Name) -> &'b Name
     ensures { result.now ≡ present_name (naming_of variables.now) written.now }
 {
     let look = look_of(written);

@@ -13,8 +13,8 @@ pub enum TenseKind {
         terms: List<RawTerm>,
     },
     Compare {
-        left: RawTerm,
         op: Op,
+        left: RawTerm,
         right: RawTerm,
     },
     Member {

@@ -26,13 +26,13 @@ pub fn look_of(name: &Name) -> Look
 
 /// A variable as it is written, and its name in the expanded query.
 #[derive(Drop)]
-pub struct Variable<'a> {
+pub struct ScopedVariable<'a> {
     written: &'a Name,
     look: Look,
     present: Name,
 }
 
-impl<'a> Model for Variable<'a> {
+impl<'a> Model for ScopedVariable<'a> {
     ghost use Rattle.std.specs.Prelude.{◌≡◌};
     ghost use Rattle.lrp_tense.specs.Expanding.{Renaming, renamed_to};
     ghost use Rattle.lrp_tense.specs.Named.{look_at};
@@ -44,12 +44,12 @@ impl<'a> Model for Variable<'a> {
     ghost invariant = { λ a. a.look ≡ look_at a.written.now };
 }
 
-impl<'a> Variable<'a> {
+impl<'a> ScopedVariable<'a> {
     /// A written name and what stands for it.
     pub fn new(written: &'a Name, present: Name) -> Self
         ensures { result ≡ renamed_to written.now present }
     {
-        Variable {
+        ScopedVariable {
             written,
             look: look_of(written),
             present,
@@ -75,7 +75,7 @@ impl<'a> Variable<'a> {
     pub fn into_present(self) -> Name
         ensures { result ≡ self.entry.present }
     {
-        let Variable { present, .. } = self;
+        let ScopedVariable { present, .. } = self;
         present
     }
 }

@@ -15,7 +15,7 @@ use std::alloc::Global;
 
 /// Where an operator stands: the place of its first token, and that of its variable's name.
 #[derive(Clone, Copy)]
-pub struct Places {
+pub struct OperatorPlaces {
     pub place: Place,
     pub name_place: Place,
 }
@@ -43,7 +43,7 @@ pub enum Quantifier {
 
 /// What a variable is compared with: how, with which variable, and what is added to that.
 #[derive(Clone, Copy)]
-pub struct Bound<'a> {
+pub struct Comparand<'a> {
     pub op: Op,
     pub name: &'a Name,
     pub place: Place,
@@ -132,7 +132,7 @@ fn time_binder(place: Place, name: Name) -> RawColumn
 }
 
 // The names of a variable and of what it is compared with.
-fn copied(alloc: Global, name: &Name, bound: &Bound<'_>) -> Result<Sides, Memory>
+fn copied(alloc: Global, name: &Name, bound: &Comparand<'_>) -> Result<Sides, Memory>
     ensures { IfOk result (λ made. made ≡ record { left = name.now; right = bound.now.name.now }) }
 {
     let left = name.copy(alloc)?;
@@ -140,13 +140,13 @@ fn copied(alloc: Global, name: &Name, bound: &Bound<'_>) -> Result<Sides, Memory
     Ok(Sides { left, right })
 }
 
-impl Places {
+impl OperatorPlaces {
     // Compared with the operator's variable.
-    fn present<'a>(&self, op: Op, name: &'a Name) -> Bound<'a>
+    fn present<'a>(&self, op: Op, name: &'a Name) -> Comparand<'a>
         ensures op { result.op ≡ op }
         ensures term { term_of_bound result ≡ name_term self.now.name_place name.now }
     {
-        Bound {
+        Comparand {
             op,
             name,
             place: self.name_place,
@@ -155,11 +155,11 @@ impl Places {
     }
 
     // Compared with the operator's variable plus an end of its interval.
-    fn end<'a>(&self, op: Op, name: &'a Name, plus: i64) -> Bound<'a>
+    fn end<'a>(&self, op: Op, name: &'a Name, plus: i64) -> Comparand<'a>
         ensures op { result.op ≡ op }
         ensures term { term_of_bound result ≡ moved_term self.now.name_place name.now plus }
     {
-        Bound {
+        Comparand {
             op,
             name,
             place: self.name_place,
@@ -168,11 +168,11 @@ impl Places {
     }
 
     // Compared with the variable of the operator's moment.
-    fn moment<'a>(&self, op: Op, name: &'a Name) -> Bound<'a>
+    fn moment<'a>(&self, op: Op, name: &'a Name) -> Comparand<'a>
         ensures op { result.op ≡ op }
         ensures term { term_of_bound result ≡ name_term self.now.place name.now }
     {
-        Bound {
+        Comparand {
             op,
             name,
             place: self.place,
@@ -181,7 +181,7 @@ impl Places {
     }
 
     // The comparison with a bound, of these names.
-    fn compared(&self, bound: &Bound<'_>, sides: Sides) -> RawFormula
+    fn compared(&self, bound: &Comparand<'_>, sides: Sides) -> RawFormula
         requires { sides.right ≡ bound.now.name.now }
         ensures { raw_form_of result ≡ bounded self.now sides.left bound.now }
     {
@@ -227,8 +227,8 @@ impl Places {
     fn limited(
         &self,
         alloc: Global,
-        low: &Bound<'_>,
-        high: &Bound<'_>,
+        low: &Comparand<'_>,
+        high: &Comparand<'_>,
         inside: Inside,
     ) -> Result<Inside, Memory>
         ensures name { IfOk result (λ made. made.name ≡ inside.name) }
@@ -264,7 +264,7 @@ impl Places {
     fn far_end(
         &self,
         alloc: Global,
-        bound: &Bound<'_>,
+        bound: &Comparand<'_>,
         inside: Inside,
         each: Inside,
     ) -> Result<Box<RawFormula>, Memory>

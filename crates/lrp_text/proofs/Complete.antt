@@ -7,18 +7,18 @@ use Rattle.lrp_model.specs.declared.tokens.Fault.TheVariants.{Syntax}
 use Rattle.lrp_model.specs.declared.tokens.Place.{Place}
 use Rattle.lrp_model.specs.Tokens.Part.{at, any}
 use Rattle.lrp_model.specs.Tokens.{Token, Placed, Tokens, Part, IsPart, Takes, separated}
-use Rattle.lrp_text.specs.Parsers.{Outcome, Parser, and_then, ◌>>=◌, pure, taken, accept, look, eaten, eat, separated_from, until_from, listed}
+use Rattle.lrp_text.specs.Parsers.{ParseOutcome, Parser, and_then, ◌>>=◌, pure, taken, accept, look, eaten, eat, separated_from, until_from, listed}
 use Rattle.lrp_text.proofs.Sound.{takes_split, takes_shorter}
 
 -- refused for another cause than syntax, which no lawful text is
-pub record Refused {A : Type 0} (o : Outcome A) (L : Type 0) : Type 0 where
+pub record Refused {A : Type 0} (o : ParseOutcome A) (L : Type 0) : Type 0 where
   pub unlawful : L → ⊥
   pub fault : Fault × Tokens
   pub is : o ≡ Err fault
   pub kind : fault.0 ≢ Syntax
 
 -- the outcome is a and the tokens left, or a refusal
-abbrev pub Answers : {A : Type 0} → Outcome A → A → Tokens → Type 0 → Type 0
+abbrev pub Answers : {A : Type 0} → ParseOutcome A → A → Tokens → Type 0 → Type 0
 Answers o a left L = (o ≡ Ok (a, left)) ⊎ Refused o L
 
 -- the parser reads a from tokens that begin with the parts, where what is left may follow
@@ -30,12 +30,12 @@ abbrev pub Anything : Tokens → Type 0
 Anything ts = Unit {0}
 
 -- an answer, then another one
-pub answers_then : {A B : Type 0} (o : Outcome A) (f : A → Parser B) (a : A) (us : Tokens) (b : B) (left : Tokens) (L : Type 0) → Answers o a us L → Answers (f a us) b left L → Answers (and_then o f) b left L
-answers_then o f a us b left L (inl e) two = let R : Outcome _ → Type 0 = λ x. Answers (and_then x f) b left L in subst R (sym e) two
+pub answers_then : {A B : Type 0} (o : ParseOutcome A) (f : A → Parser B) (a : A) (us : Tokens) (b : B) (left : Tokens) (L : Type 0) → Answers o a us L → Answers (f a us) b left L → Answers (and_then o f) b left L
+answers_then o f a us b left L (inl e) two = let R : ParseOutcome _ → Type 0 = λ x. Answers (and_then x f) b left L in subst R (sym e) two
 answers_then o f a us b left L (inr r) two = inr (record { unlawful = r.unlawful; fault = r.fault; is = ap (λ x. and_then x f) r.is; kind = r.kind })
 
 -- an answer for what is lawful of a part
-pub answers_as : {A : Type 0} (o : Outcome A) (a : A) (left : Tokens) (L M : Type 0) → (M → L) → Answers o a left L → Answers o a left M
+pub answers_as : {A : Type 0} (o : ParseOutcome A) (a : A) (left : Tokens) (L M : Type 0) → (M → L) → Answers o a left L → Answers o a left M
 answers_as o a left L M f (inl e) = inl e
 answers_as o a left L M f (inr r) = inr (record { unlawful = λ m. r.unlawful (f m); fault = r.fault; is = r.is; kind = r.kind })
 

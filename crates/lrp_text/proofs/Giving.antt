@@ -9,7 +9,7 @@ use Rattle.lrp_model.specs.Tokens.Token.{name_token, word_token, number_token, t
 use Rattle.lrp_model.specs.Lexing.{At, after, skip, scan, headed, tokens_from}
 use Rattle.lrp_text.specs.declared.lexemes.Lexeme.{Lexeme}
 use Rattle.lrp_text.specs.declared.lexemes.Lexeme.TheVariants.{Name, Word, Number, LargeNumber, Text, LongText, Symbol, End, Bad}
-use Rattle.lrp_text.specs.Sources.{next_at, next_of, behind_next, tokens_left, IsFound, GoesOn}
+use Rattle.lrp_text.specs.Sources.{next_at, next_of, behind_next, tokens_left, IsFoundLexeme, HasTokensBehind}
 use Rattle.lrp_text.specs.Stream.{TokenFirst, FaultFirst, IsSliceOf, IsNextText, kind_of}
 use Rattle.lrp_text.proofs.Scans.{scan_taken}
 use Rattle.lrp_text.proofs.Alone.{scan_end}
@@ -23,7 +23,7 @@ FirstKind (Ok kind) place ts us = TokenFirst kind place ts us
 FirstKind (Err kind) place ts us = FaultFirst kind place ts us
 
 -- a token that others follow comes first
-first_go : (old new : At) (place : Place) (k : Token) → (next_of old).token ≡ k → GoesOn k → place ≡ (next_at old).place → new ≡ behind_next old → tokens_left old ≡ record { token = k; place = place } ∷ tokens_left new
+first_go : (old new : At) (place : Place) (k : Token) → (next_of old).token ≡ k → HasTokensBehind k → place ≡ (next_at old).place → new ≡ behind_next old → tokens_left old ≡ record { token = k; place = place } ∷ tokens_left new
 first_go old new place k e g p n = tokens_go old place k e g p ∙ ap (λ s. record { token = k; place = place } ∷ tokens_left s) (sym n)
 
 -- behind the end stands the end
@@ -35,7 +35,7 @@ end_again old e =
     ap (λ bs. tokens_left (record { place = after place (scan bs).taken; bytes = (scan bs).left })) none
 
 -- what was found comes first
-pub first_found : (old : At) (l : Lexeme) (slice : List ℕ) (place : Place) (new : At) → IsFound old l slice place new → FirstKind (kind_of l) place (tokens_left old) (tokens_left new)
+pub first_found : (old : At) (l : Lexeme) (slice : List ℕ) (place : Place) (new : At) → IsFoundLexeme old l slice place new → FirstKind (kind_of l) place (tokens_left old) (tokens_left new)
 first_found old Name slice place new f = (name_token slice, tt, first_go old new place (name_token slice) f.0 tt f.2 f.3)
 first_found old (Word w) slice place new f = (word_token w, tt, first_go old new place (word_token w) f.0 tt f.2 f.3)
 first_found old (Number n) slice place new f = (number_token n, f.0.1, first_go old new place (number_token n) f.0.0 tt f.2 f.3)
@@ -68,7 +68,7 @@ SliceKind (Ok kind) old slice place new = IsSliceOf old slice place new
 SliceKind (Err kind) old slice place new = Unit {0}
 
 -- what was found is a slice
-pub slice_found : (old : At) (l : Lexeme) (slice : List ℕ) (place : Place) (new : At) → IsFound old l slice place new → SliceKind (kind_of l) old slice place new
+pub slice_found : (old : At) (l : Lexeme) (slice : List ℕ) (place : Place) (new : At) → IsFoundLexeme old l slice place new → SliceKind (kind_of l) old slice place new
 slice_found old Name slice place new f = slice_go old new slice place f.1 f.2 f.3
 slice_found old (Word w) slice place new f = slice_go old new slice place f.1 f.2 f.3
 slice_found old (Number n) slice place new f = slice_go old new slice place f.1 f.2 f.3
@@ -85,7 +85,7 @@ TextKindOf (Ok kind) old slice = kind ≡ TextKind → IsNextText old slice
 TextKindOf (Err kind) old slice = Unit {0}
 
 -- the slice of a text that was found is that text
-pub text_found : (old : At) (l : Lexeme) (slice : List ℕ) (place : Place) (new : At) → IsFound old l slice place new → TextKindOf (kind_of l) old slice
+pub text_found : (old : At) (l : Lexeme) (slice : List ℕ) (place : Place) (new : At) → IsFoundLexeme old l slice place new → TextKindOf (kind_of l) old slice
 text_found old Text slice place new f = λ is. (record { text = f.0.0; token = text_slice old slice (text_token f.0.0) f.0.1 f.1 f.0.0 refl; short = f.0.2 }, f.0.1)
 text_found old Name slice place new f = λ is. absurd cc
 text_found old (Word w) slice place new f = λ is. absurd cc

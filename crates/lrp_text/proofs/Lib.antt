@@ -6,11 +6,13 @@ pub mod LocatedRule
 pub mod Refusal
 pub mod Unique
 pub mod OneCause
+pub mod OneFault
 pub mod LongestFront
 pub mod Turns
 pub mod TokenTests
 pub mod ColumnRule
 pub mod IntegerRule
+pub mod OffsetRule
 pub mod Behind
 pub mod Runs
 pub mod Scans

@@ -3,21 +3,21 @@ use Rattle.std.proofs.Common.{◌≡◌, ℕ, zero, suc, Bool, true, false, List
 use Rattle.lrp_model.specs.declared.tokens.Fault.{Fault}
 use Rattle.lrp_model.specs.declared.tokens.Fault.TheVariants.{Syntax}
 use Rattle.lrp_model.specs.Tokens.{Placed, Tokens}
-use Rattle.lrp_text.specs.Parsers.{Outcome, Parser, and_then, ◌>>=◌, pure, fail, taken, accept, look, eaten, eat, separated_from, until_from, listed}
+use Rattle.lrp_text.specs.Parsers.{ParseOutcome, Parser, and_then, ◌>>=◌, pure, fail, taken, accept, look, eaten, eat, separated_from, until_from, listed}
 
 -- the outcome with other tokens left
-abbrev pub onto : {A : Type 0} → Outcome A → Tokens → Outcome A
+abbrev pub onto : {A : Type 0} → ParseOutcome A → Tokens → ParseOutcome A
 onto (Ok p) left = Ok (p.0, left)
 onto (Err e) left = Err (e.0, left)
 
 -- the tokens left, or those from the fault on
-abbrev pub left_of : {A : Type 0} → Outcome A → Tokens
+abbrev pub left_of : {A : Type 0} → ParseOutcome A → Tokens
 left_of (Ok p) = p.1
 left_of (Err e) = e.1
 
 -- a front is taken, and with the same next token the outcome is the same
 pub record IsLocal {A : Type 0} (p : Parser A) (ts : Tokens) : Type 0 where
-  pub outcome : Outcome A
+  pub outcome : ParseOutcome A
   pub is : p ts ≡ outcome
   pub front : Tokens
   pub whole : ts ≡ front ++ left_of outcome
@@ -100,7 +100,7 @@ eat_local test [] = record { outcome = Ok (false, []); is = refl; front = []; wh
 eat_local test (t ∷ ts) = eaten_at test t ts (test t) refl
 
 -- one after the other
-second : {A B : Type 0} (p : Parser A) (f : A → Parser B) (ts : Tokens) (a : A) (rest front : Tokens) (r : Outcome B) (more : Tokens) → p ts ≡ Ok (a, rest) → ts ≡ front ++ rest → ((b : Placed) (tail other : Tokens) → rest ≡ b ∷ tail → p (front ++ b ∷ other) ≡ Ok (a, b ∷ other)) → f a rest ≡ r → rest ≡ more ++ left_of r → ((b : Placed) (tail other : Tokens) → left_of r ≡ b ∷ tail → f a (more ++ b ∷ other) ≡ onto r (b ∷ other)) → IsLocal (p >>= f) ts
+second : {A B : Type 0} (p : Parser A) (f : A → Parser B) (ts : Tokens) (a : A) (rest front : Tokens) (r : ParseOutcome B) (more : Tokens) → p ts ≡ Ok (a, rest) → ts ≡ front ++ rest → ((b : Placed) (tail other : Tokens) → rest ≡ b ∷ tail → p (front ++ b ∷ other) ≡ Ok (a, b ∷ other)) → f a rest ≡ r → rest ≡ more ++ left_of r → ((b : Placed) (tail other : Tokens) → left_of r ≡ b ∷ tail → f a (more ++ b ∷ other) ≡ onto r (b ∷ other)) → IsLocal (p >>= f) ts
 second p f ts a rest front r [] is whole same is2 whole2 same2 = record {
   outcome = r;
   is = ap (λ x. and_then x f) is ∙ is2;
@@ -118,7 +118,7 @@ second p f ts a rest front r (c ∷ cs) is whole same is2 whole2 same2 = record 
 }
 
 -- a parser that has failed, or another behind it
-first : {A B : Type 0} (p : Parser A) (f : A → Parser B) (ts : Tokens) (r : Outcome A) (front : Tokens) → p ts ≡ r → ts ≡ front ++ left_of r → ((b : Placed) (tail other : Tokens) → left_of r ≡ b ∷ tail → p (front ++ b ∷ other) ≡ onto r (b ∷ other)) → ((a : A) → Local (f a)) → IsLocal (p >>= f) ts
+first : {A B : Type 0} (p : Parser A) (f : A → Parser B) (ts : Tokens) (r : ParseOutcome A) (front : Tokens) → p ts ≡ r → ts ≡ front ++ left_of r → ((b : Placed) (tail other : Tokens) → left_of r ≡ b ∷ tail → p (front ++ b ∷ other) ≡ onto r (b ∷ other)) → ((a : A) → Local (f a)) → IsLocal (p >>= f) ts
 first p f ts (Err e) front is whole same lf = record {
   outcome = Err e;
   is = ap (λ x. and_then x f) is;

@@ -12,13 +12,13 @@ use Rattle.lrp_model.specs.Lexing.{start, scan}
 use Rattle.lrp_model.specs.Limits.{greatest_number}
 use Rattle.lrp_model.specs.declared.relations.Sort.{Sort}
 use Rattle.lrp_model.specs.declared.tokens.Word.TheVariants.{Time, Data}
-use Rattle.lrp_text.specs.Parsers.{Outcome, accept, taken, look, eat, eaten, Reads, IsResultOrMemory}
+use Rattle.lrp_text.specs.Parsers.{ParseOutcome, accept, taken, look, eat, eaten, Reads, IsResultOrMemory}
 use Rattle.lrp_text.specs.ColumnRule.{sort_of, sort, word_sort, shown_sort}
-use Rattle.lrp_text.specs.Taking.{is_symbol_token, is_word_token, is_name_token, is_text_token, is_end_token, required, name_of, number_of, limited, period_of, counted, text_of, short_enough, with_place, name, number, period, text, expect_end}
+use Rattle.lrp_text.specs.Taking.{is_symbol_token, is_word_token, is_name_token, is_text_token, is_end_token, required, name_of, number_of, limited, period_of, limited_period, text_of, short_enough, with_place, name, number, period, text, expect_end}
 use Rattle.lrp_text.specs.declared.lexemes.Lexeme.{Lexeme}
 use Rattle.lrp_text.specs.declared.lexemes.Lexeme.TheVariants.{Name, Word, Number, LargeNumber, Text, LongText, Symbol, End, Bad}
 use Rattle.lrp_text.specs.Lexemes.{IsSaid, shows_symbol, shows_word, shows_name, shows_text, shows_end, shown_number, shown_period}
-use Rattle.lrp_text.specs.Sources.{Stands, GoesOn, Goes}
+use Rattle.lrp_text.specs.Sources.{Stands, HasTokensBehind, Goes}
 
 -- a test says of each token what is shown of the lexeme of a slice
 pub record IsShown {A : Type 0} (test : Token → A) (slice : List ℕ) (shown : Lexeme → A) : Type 0 where
@@ -72,12 +72,12 @@ number_shown : (slice : List ℕ) → IsShown number_of slice shown_number
 number_shown slice = record { name = refl; word = λ _. refl; number = λ n h. ap (limited n TooLarge) (le-leb n 4611686018427387904 h); large = λ n h. ap (limited n TooLarge) (above n h); text = λ _. refl; long = λ _. refl; symbol = λ _. refl; ended = refl; bad = refl }
 
 -- a period within the limit, and one above it
-counted_low : (n : ℕ) (b : Bool) → n ≤ greatest_number → counted n b ≡ (if b then Err Period else Ok n)
+counted_low : (n : ℕ) (b : Bool) → n ≤ greatest_number → limited_period n b ≡ (if b then Err Period else Ok n)
 counted_low n true h = refl
 counted_low n false h = ap (limited n TooLarge) (le-leb n 4611686018427387904 h)
 
 -- a number above the limit is no period
-counted_high : (n : ℕ) (b : Bool) → (n == 0) ≡ b → greatest_number < n → counted n b ≡ Err TooLarge
+counted_high : (n : ℕ) (b : Bool) → (n == 0) ≡ b → greatest_number < n → limited_period n b ≡ Err TooLarge
 counted_high n true e h = let z : n ≡ 0 = eqb-true n 0 e in absurd (omega arith)
 counted_high n false e h = ap (limited n TooLarge) (above n h)
 
@@ -115,7 +115,7 @@ unfolding look
 look_place ts l slice place st = ap (look start (λ t. t.place)) st.whole ∙ ap (λ x. Ok (place, x)) (sym st.whole)
 
 -- a token of a test goes on, where the end and a bad byte are none of it
-goes_on : (test : Token → Bool) (k : Token) → test end_token ≡ false → test bad_token ≡ false → test k ≡ true → GoesOn k
+goes_on : (test : Token → Bool) (k : Token) → test end_token ≡ false → test bad_token ≡ false → test k ≡ true → HasTokensBehind k
 goes_on test (name_token n) e b h = tt
 goes_on test (word_token w) e b h = tt
 goes_on test (number_token n) e b h = tt
@@ -132,14 +132,14 @@ goes Bad = false
 goes _ = true
 
 -- what a lexeme says goes on
-said_goes : (l : Lexeme) (slice : List ℕ) (k : Token) → goes l ≡ true → IsSaid l slice k → GoesOn k
-said_goes Name slice k g e = subst GoesOn (sym e) tt
-said_goes (Word w) slice k g e = subst GoesOn (sym e) tt
-said_goes (Number n) slice k g e = subst GoesOn (sym e.0) tt
-said_goes LargeNumber slice k g e = subst GoesOn (sym e.1) tt
-said_goes Text slice k g e = subst GoesOn (sym e.1) tt
-said_goes LongText slice k g e = subst GoesOn (sym e.1) tt
-said_goes (Symbol y) slice k g e = subst GoesOn (sym e) tt
+said_goes : (l : Lexeme) (slice : List ℕ) (k : Token) → goes l ≡ true → IsSaid l slice k → HasTokensBehind k
+said_goes Name slice k g e = subst HasTokensBehind (sym e) tt
+said_goes (Word w) slice k g e = subst HasTokensBehind (sym e) tt
+said_goes (Number n) slice k g e = subst HasTokensBehind (sym e.0) tt
+said_goes LargeNumber slice k g e = subst HasTokensBehind (sym e.1) tt
+said_goes Text slice k g e = subst HasTokensBehind (sym e.1) tt
+said_goes LongText slice k g e = subst HasTokensBehind (sym e.1) tt
+said_goes (Symbol y) slice k g e = subst HasTokensBehind (sym e) tt
 said_goes End slice k g e = absurd cc
 said_goes Bad slice k g e = absurd cc
 
@@ -222,7 +222,7 @@ unfolding accept
 refuses_next test ts t left k w e = ap (accept test) w ∙ ap (λ r. taken r t left) e ∙ ap (λ x. Err (k, x)) (sym w)
 
 -- a fault, and the tokens from it on
-reads_fault : {A : Type 0} (o : Outcome A) (k : Fault) (ts : Tokens) → o ≡ Err (k, ts) → Reads o (Err k) ts
+reads_fault : {A : Type 0} (o : ParseOutcome A) (k : Fault) (ts : Tokens) → o ≡ Err (k, ts) → Reads o (Err k) ts
 reads_fault o Memory ts e = tt
 reads_fault o Syntax ts e = e
 reads_fault o TooLarge ts e = e

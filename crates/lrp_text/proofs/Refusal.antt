@@ -4,7 +4,7 @@ use Rattle.std.proofs.lemmas.List.{append_cancel_right}
 use Rattle.lrp_model.specs.declared.tokens.Fault.{Fault}
 use Rattle.lrp_model.specs.declared.tokens.Fault.TheVariants.{Syntax, Number, TextTooLong, Period, Deep, Memory}
 use Rattle.lrp_model.specs.Tokens.{Placed, Tokens, Part, Spells}
-use Rattle.lrp_text.specs.Parsers.{Outcome, Parser}
+use Rattle.lrp_text.specs.Parsers.{ParseOutcome, Parser}
 use Rattle.lrp_model.specs.Refused.{IsCause, Through, Stops, TextOf, IsRefusedAt}
 use Rattle.lrp_text.proofs.Local.{IsLocal, Local, left_of, onto}
 use Rattle.lrp_text.proofs.Complete.{Answers}
@@ -39,7 +39,7 @@ again p ts front k bad tail other l e whole =
     ap (λ f. p (f ++ bad ∷ other)) (sym same_front) ∙ l.same bad tail other (ap left_of o) ∙ ap (λ x. onto x (bad ∷ other)) o
 
 -- where the outcome is a fault, no lawful tree is spelled so, and at a syntax fault none at all
-no_text : {A : Type 0} (o : Outcome A) (a : A) (L : Type 0) (k : Fault) (us : Tokens) → o ≡ Err (k, us) → Answers o a [] L → (k ≡ Syntax → ⊥) × (L → ⊥)
+no_text : {A : Type 0} (o : ParseOutcome A) (a : A) (L : Type 0) (k : Fault) (us : Tokens) → o ≡ Err (k, us) → Answers o a [] L → (k ≡ Syntax → ⊥) × (L → ⊥)
 no_text o a L k us e (inl d) = absurd cc
 no_text o a L k us e (inr r) = let h : k ≡ r.fault.0 = cc in ((λ s. r.kind (sym h ∙ s)), r.unlawful)
 

@@ -3,7 +3,7 @@ use Rattle.std.proofs.Common.{◌≡◌, ℕ, zero, suc, Bool, true, false, List
 use Rattle.std.specs.List.{AllByRecursion, flat_map}
 use Rattle.lrp_model.specs.declared.tokens.Fault.{Fault}
 use Rattle.lrp_model.specs.Tokens.{Placed, Tokens, Part, IsPart, Takes, Spells, separated}
-use Rattle.lrp_text.specs.Parsers.{Outcome, Parser, and_then, ◌>>=◌, pure, taken, accept, look, eaten, eat, separated_from, until_from, listed}
+use Rattle.lrp_text.specs.Parsers.{ParseOutcome, Parser, and_then, ◌>>=◌, pure, taken, accept, look, eaten, eat, separated_from, until_from, listed}
 
 -- parts one after the other
 pub takes_join : (P Q : List Part) (ts us vs : Tokens) → Takes P ts us → Takes Q us vs → Takes (P ++ Q) ts vs
@@ -18,7 +18,7 @@ takes_split (a ∷ P) Q [] vs h = absurd h
 takes_split (a ∷ P) Q (t ∷ ts) vs h = let k = takes_split P Q ts vs h.1 in (k.0, (h.0, k.1), k.2)
 
 -- two parsers that are done, taken apart
-pub bind_ok : {A B : Type 0} (o : Outcome A) (f : A → Parser B) (y : B × Tokens) → and_then o f ≡ Ok y → (q : A × Tokens) × (o ≡ Ok q) × (f q.0 q.1 ≡ Ok y)
+pub bind_ok : {A B : Type 0} (o : ParseOutcome A) (f : A → Parser B) (y : B × Tokens) → and_then o f ≡ Ok y → (q : A × Tokens) × (o ≡ Ok q) × (f q.0 q.1 ≡ Ok y)
 bind_ok (Ok q) f y e = (q, refl, e)
 bind_ok (Err x) f y e = absurd cc
 

@@ -7,12 +7,12 @@ use Rattle.lrp_model.specs.Lexing.{At, Scanned, scan, headed}
 use Rattle.lrp_text.specs.declared.lexemes.Lexeme.{Lexeme}
 use Rattle.lrp_text.specs.declared.lexemes.Lexeme.TheVariants.{Name, Word, Number, LargeNumber, Text, LongText, Symbol, End, Bad}
 use Rattle.lrp_text.specs.Lexemes.{IsSaid}
-use Rattle.lrp_text.specs.Sources.{next_at, next_of, behind_next, tokens_left, IsFound, Stands, GoesOn, Goes}
+use Rattle.lrp_text.specs.Sources.{next_at, next_of, behind_next, tokens_left, IsFoundLexeme, Stands, HasTokensBehind, Goes}
 use Rattle.lrp_text.proofs.Following.{next_tokens}
 use Rattle.lrp_text.proofs.Alone.{scan_alone}
 
 -- a token that others follow
-headed_goes : (p : Place) (s : Scanned) (k : Token) (rest : Tokens) → GoesOn k → headed p s k rest ≡ record { token = k; place = p } ∷ rest
+headed_goes : (p : Place) (s : Scanned) (k : Token) (rest : Tokens) → HasTokensBehind k → headed p s k rest ≡ record { token = k; place = p } ∷ rest
 headed_goes p s (name_token n) rest g = refl
 headed_goes p s (word_token w) rest g = refl
 headed_goes p s (number_token n) rest g = refl
@@ -23,7 +23,7 @@ headed_goes p s end_token rest g = absurd g
 headed_goes p s bad_token rest g = absurd g
 
 -- the tokens that are left, where others follow the first
-pub tokens_go : (old : At) (place : Place) (k : Token) → (next_of old).token ≡ k → GoesOn k → place ≡ (next_at old).place → tokens_left old ≡ record { token = k; place = place } ∷ tokens_left (behind_next old)
+pub tokens_go : (old : At) (place : Place) (k : Token) → (next_of old).token ≡ k → HasTokensBehind k → place ≡ (next_at old).place → tokens_left old ≡ record { token = k; place = place } ∷ tokens_left (behind_next old)
 tokens_go old place k e g d =
     let rest = tokens_left (behind_next old) in
     next_tokens old ∙ ap (λ t. headed (next_at old).place (next_of old) t rest) e ∙ headed_goes (next_at old).place (next_of old) k rest g ∙ ap (λ p. record { token = k; place = p } ∷ rest) (sym d)
@@ -33,11 +33,11 @@ pub text_slice : (old : At) (slice : List ℕ) (k : Token) → (next_of old).tok
 text_slice old slice k e d t is = ap (λ x. (scan x).token) d ∙ scan_alone (next_at old).bytes t (e ∙ is)
 
 -- what stands next, where others follow it
-stands_go : (old : At) (l : Lexeme) (slice : List ℕ) (place : Place) (k : Token) → (next_of old).token ≡ k → GoesOn k → IsSaid l slice k → slice ≡ (next_of old).taken → place ≡ (next_at old).place → Stands (tokens_left old) l slice place
-stands_go old l slice place k e g said d p = record { token = k; left = tokens_left (behind_next old); whole = tokens_go old place k e g p; said = said; text = text_slice old slice k e d; last = λ n. absurd (subst GoesOn n g) }
+stands_go : (old : At) (l : Lexeme) (slice : List ℕ) (place : Place) (k : Token) → (next_of old).token ≡ k → HasTokensBehind k → IsSaid l slice k → slice ≡ (next_of old).taken → place ≡ (next_at old).place → Stands (tokens_left old) l slice place
+stands_go old l slice place k e g said d p = record { token = k; left = tokens_left (behind_next old); whole = tokens_go old place k e g p; said = said; text = text_slice old slice k e d; last = λ n. absurd (subst HasTokensBehind n g) }
 
 -- what was found stands next
-pub stands_next : (old : At) (l : Lexeme) (slice : List ℕ) (place : Place) (new : At) → IsFound old l slice place new → Stands (tokens_left old) l slice place
+pub stands_next : (old : At) (l : Lexeme) (slice : List ℕ) (place : Place) (new : At) → IsFoundLexeme old l slice place new → Stands (tokens_left old) l slice place
 stands_next old Name slice place new f = stands_go old Name slice place (name_token slice) f.0 tt refl f.1 f.2
 stands_next old (Word w) slice place new f = stands_go old (Word w) slice place (word_token w) f.0 tt refl f.1 f.2
 stands_next old (Number n) slice place new f = stands_go old (Number n) slice place (number_token n) f.0.0 tt (refl, f.0.1) f.1 f.2
@@ -63,11 +63,11 @@ stands_next old Bad slice place new f = record {
 }
 
 -- behind a token that others follow
-goes_to : (old : At) (place : Place) (new : At) (k : Token) → (next_of old).token ≡ k → GoesOn k → place ≡ (next_at old).place → new ≡ behind_next old → (t : Placed) × (tokens_left old ≡ t ∷ tokens_left new)
+goes_to : (old : At) (place : Place) (new : At) (k : Token) → (next_of old).token ≡ k → HasTokensBehind k → place ≡ (next_at old).place → new ≡ behind_next old → (t : Placed) × (tokens_left old ≡ t ∷ tokens_left new)
 goes_to old place new k e g p n = (record { token = k; place = place }, tokens_go old place k e g p ∙ ap (λ s. record { token = k; place = place } ∷ tokens_left s) (sym n))
 
 -- where a token follows, what was found leaves the others
-pub goes_behind : (old : At) (l : Lexeme) (slice : List ℕ) (place : Place) (new : At) → IsFound old l slice place new → Goes (tokens_left old) → (t : Placed) × (tokens_left old ≡ t ∷ tokens_left new)
+pub goes_behind : (old : At) (l : Lexeme) (slice : List ℕ) (place : Place) (new : At) → IsFoundLexeme old l slice place new → Goes (tokens_left old) → (t : Placed) × (tokens_left old ≡ t ∷ tokens_left new)
 unfolding stands_next
 goes_behind old Name slice place new f g = goes_to old place new (name_token slice) f.0 tt f.2 f.3
 goes_behind old (Word w) slice place new f g = goes_to old place new (word_token w) f.0 tt f.2 f.3

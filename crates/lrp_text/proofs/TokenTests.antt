@@ -10,7 +10,7 @@ use Rattle.lrp_model.specs.declared.tokens.Fault.TheVariants.{Syntax, Number, Te
 use Rattle.lrp_model.specs.Tokens.{Token, Placed, Part, IsPart}
 use Rattle.lrp_model.specs.Tokens.Token.{name_token, word_token, number_token, text_token, symbol_token, end_token}
 use Rattle.lrp_model.specs.Tokens.Part.{at, any}
-use Rattle.lrp_text.specs.Taking.{same_symbol, same_word, is_symbol_token, is_symbol, is_word_token, is_word, is_end_token, is_end, required, name_of, number_of, limited, text_of, short_enough, period_of, counted, IsWrittenPeriod, with_place}
+use Rattle.lrp_text.specs.Taking.{same_symbol, same_word, is_symbol_token, is_symbol, is_word_token, is_word, is_end_token, is_end, required, name_of, number_of, limited, text_of, short_enough, period_of, limited_period, IsWrittenPeriod, with_place}
 use Rattle.lrp_model.specs.Lexing.{start}
 use Rattle.lrp_model.specs.Limits.{greatest_number}
 use Rattle.std.proofs.lemmas.Bool.{leb-true, le-leb, eqb-true}
@@ -257,7 +257,7 @@ pub number_tells : (t : Placed) (n : ℕ) (L : Type 0) → (L → n ≤ greatest
 number_tells t n L f e = subst (λ x. Tells (number_of x) n L) (sym e) (limited_tells n (nat_le n 4611686018427387904) L (λ l. le-leb n 4611686018427387904 (f l)))
 
 -- periods
-counted_is : (n : ℕ) (b : Bool) (m : ℕ) → counted n b ≡ Ok m → (b ≡ false) × (number_of (number_token n) ≡ Ok m)
+counted_is : (n : ℕ) (b : Bool) (m : ℕ) → limited_period n b ≡ Ok m → (b ≡ false) × (number_of (number_token n) ≡ Ok m)
 counted_is n true m e = absurd cc
 counted_is n false m e = (refl, e)
 
@@ -284,7 +284,7 @@ pub period_fits : (t : Placed) (n : ℕ) → period_of t.token ≡ Ok n → IsWr
 period_fits t n e = (period_is t.token n e).1
 
 -- a period of 0 or above the limit is the cause of its fault
-counted_err : (n : ℕ) (b : Bool) (k : Fault) → (n == 0) ≡ b → counted n b ≡ Err k → IsCause k (number_token n)
+counted_err : (n : ℕ) (b : Bool) (k : Fault) → (n == 0) ≡ b → limited_period n b ≡ Err k → IsCause k (number_token n)
 counted_err n true k told e = let h : Period ≡ k = cc in subst (λ x. IsCause x (number_token n)) h (eqb-true n 0 told)
 counted_err n false k told e = limited_err n (nat_le n 4611686018427387904) k refl e
 
@@ -298,7 +298,7 @@ pub period_stops : TestStops (λ t. period_of t.token) number_part IsWrittenPeri
 period_stops = record { token = record { token = number_token 1; place = start }; value = 1; fits = (omega arith, omega arith); is = refl; fault = λ t k e. period_err t.token k e }
 
 -- a lawful period is told
-counted_tells : (n : ℕ) (b : Bool) (L : Type 0) → (L → b ≡ false) → (L → n ≤ greatest_number) → Tells (counted n b) n L
+counted_tells : (n : ℕ) (b : Bool) (L : Type 0) → (L → b ≡ false) → (L → n ≤ greatest_number) → Tells (limited_period n b) n L
 counted_tells n true L f g = inr ((λ l. let h : true ≡ false = f l in absurd cc), Period, refl, (λ e. absurd cc))
 counted_tells n false L f g = limited_tells n (nat_le n 4611686018427387904) L (λ l. le-leb n 4611686018427387904 (g l))
 

@@ -3,7 +3,7 @@ use Rattle.std.proofs.Common.{◌≡◌, ◌<◌, ℕ, zero, suc, Bool, true, fa
 use Rattle.lrp_model.specs.declared.tokens.Fault.{Fault}
 use Rattle.lrp_model.specs.declared.tokens.Fault.TheVariants.{Syntax, Number, TextTooLong, Period, Deep, Memory}
 use Rattle.lrp_model.specs.Tokens.{Placed, Tokens}
-use Rattle.lrp_text.specs.Parsers.{Parser, Outcome, eat, look, separated_from, until_from, Reads}
+use Rattle.lrp_text.specs.Parsers.{Parser, ParseOutcome, eat, look, separated_from, until_from, Reads}
 
 -- a member and a separator
 more : {A : Type 0} (p : Parser A) (comma : Placed → Bool) (n : ℕ) (found : List A) (ts us vs : Tokens) (a : A) → p ts ≡ Ok (a, us) → eat comma us ≡ Ok (true, vs) → separated_from p comma (suc n) found ts ≡ separated_from p comma n (found ++ a ∷ []) vs
@@ -31,7 +31,7 @@ last_below p comma zero k found ts us vs a lt e d = absurd (omega arith)
 last_below p comma (suc n) k found ts us vs a lt e d = last p comma n found ts us vs a e d
 
 -- the fault of one outcome, handed on by another
-pub lifts : {A B : Type 0} (o : Outcome A) (q : Outcome B) (us : Tokens) (fault : Fault) → ((k : Fault) → o ≡ Err (k, us) → q ≡ Err (k, us)) → Reads o (Err fault) us → Reads q (Err fault) us
+pub lifts : {A B : Type 0} (o : ParseOutcome A) (q : ParseOutcome B) (us : Tokens) (fault : Fault) → ((k : Fault) → o ≡ Err (k, us) → q ≡ Err (k, us)) → Reads o (Err fault) us → Reads q (Err fault) us
 lifts o q us Memory f e = tt
 lifts o q us Syntax f e = f Syntax e
 lifts o q us Number f e = f Number e
@@ -40,7 +40,7 @@ lifts o q us Period f e = f Period e
 lifts o q us Deep f e = f Deep e
 
 -- a member that fails
-pub none_below : {A : Type 0} (p : Parser A) (comma : Placed → Bool) (n k : ℕ) (found : List A) (ts us : Tokens) (result : Outcome (List A)) (fault : Fault) → k < n → Reads (p ts) (Err fault) us → separated_from p comma n found ts ≡ result → Reads result (Err fault) us
+pub none_below : {A : Type 0} (p : Parser A) (comma : Placed → Bool) (n k : ℕ) (found : List A) (ts us : Tokens) (result : ParseOutcome (List A)) (fault : Fault) → k < n → Reads (p ts) (Err fault) us → separated_from p comma n found ts ≡ result → Reads result (Err fault) us
 none_below p comma zero k found ts us result fault lt e w = absurd (omega arith)
 none_below p comma (suc n) k found ts us result fault lt e w = lifts (p ts) result us fault (λ kind d. sym w ∙ none p comma n found ts us kind d) e
 
@@ -70,6 +70,6 @@ goes_below p stop zero k found ts us a lt e d s = absurd (omega arith)
 goes_below p stop (suc n) k found ts us a lt e d s = (n, omega arith, goes p stop n found ts us a e d)
 
 -- a member that fails
-pub fails_below : {A : Type 0} (p : Parser A) (stop : Placed → Bool) (n k : ℕ) (found : List A) (ts us : Tokens) (result : Outcome (List A)) (fault : Fault) → k < n → look false stop ts ≡ Ok (false, ts) → Reads (p ts) (Err fault) us → until_from p stop n found ts ≡ result → Reads result (Err fault) us
+pub fails_below : {A : Type 0} (p : Parser A) (stop : Placed → Bool) (n k : ℕ) (found : List A) (ts us : Tokens) (result : ParseOutcome (List A)) (fault : Fault) → k < n → look false stop ts ≡ Ok (false, ts) → Reads (p ts) (Err fault) us → until_from p stop n found ts ≡ result → Reads result (Err fault) us
 fails_below p stop zero k found ts us result fault lt e d w = absurd (omega arith)
 fails_below p stop (suc n) k found ts us result fault lt e d w = lifts (p ts) result us fault (λ kind f. sym w ∙ fails p stop n found ts us kind e f) d

@@ -4,7 +4,7 @@ use Rattle.std.specs.List.{AllByRecursion, flat_map}
 use Rattle.lrp_model.specs.declared.tokens.Fault.{Fault}
 use Rattle.lrp_model.specs.declared.tokens.Fault.TheVariants.{Syntax}
 use Rattle.lrp_model.specs.Tokens.{Placed, Tokens, Part, IsPart, Spells, separated}
-use Rattle.lrp_text.specs.Parsers.{Outcome, Parser, and_then, ◌>>=◌, pure, taken, accept, look, eaten, eat, separated_from, until_from, listed}
+use Rattle.lrp_text.specs.Parsers.{ParseOutcome, Parser, and_then, ◌>>=◌, pure, taken, accept, look, eaten, eat, separated_from, until_from, listed}
 use Rattle.lrp_model.specs.Refused.{IsCause, Through, GoesThrough, Stops, Fitting, TextOf}
 use Rattle.lrp_text.proofs.Sound.{takes_join, eat_ok, Eaten, takes_onto, Sound, look_ok, Front, takes_front, takes_shorter}
 
@@ -47,7 +47,7 @@ pub at_once : (T : Bool → Tokens → Type 0) (ts : Tokens) (more : Tokens) →
 at_once T ts more t = record { front = []; whole = refl; more = more; begins = t; through = tt }
 
 -- the first parser failed, or the second behind it
-pub bind_err : {A B : Type 0} (o : Outcome A) (f : A → Parser B) (e : Fault × Tokens) → and_then o f ≡ Err e → (o ≡ Err e) ⊎ ((q : A × Tokens) × (o ≡ Ok q) × (f q.0 q.1 ≡ Err e))
+pub bind_err : {A B : Type 0} (o : ParseOutcome A) (f : A → Parser B) (e : Fault × Tokens) → and_then o f ≡ Err e → (o ≡ Err e) ⊎ ((q : A × Tokens) × (o ≡ Ok q) × (f q.0 q.1 ≡ Err e))
 bind_err (Ok q) f e h = inr (q, refl, h)
 bind_err (Err x) f e h = let k : x ≡ e = cc in inl (ap Err k)
 

@@ -5,15 +5,15 @@ use Rattle.lrp_model.specs.declared.tokens.Fault.TheVariants.{Syntax, Memory}
 use Rattle.lrp_model.specs.Tokens.{Placed, Tokens}
 
 -- what was read and the tokens left, or the kind of a fault and the tokens from it on
-abbrev pub Outcome : Type 0 → Type 0
-Outcome A = Result (A × Tokens) (Fault × Tokens)
+abbrev pub ParseOutcome : Type 0 → Type 0
+ParseOutcome A = Result (A × Tokens) (Fault × Tokens)
 
 -- from the tokens that are left to an outcome
 abbrev pub Parser : Type 0 → Type 0
-Parser A = Tokens → Outcome A
+Parser A = Tokens → ParseOutcome A
 
 -- goes on with another parser where the first one has read something
-abbrev pub and_then : {A B : Type 0} → Outcome A → (A → Parser B) → Outcome B
+abbrev pub and_then : {A B : Type 0} → ParseOutcome A → (A → Parser B) → ParseOutcome B
 and_then (Ok p) f = f p.0 p.1
 and_then (Err e) f = Err e
 
@@ -34,7 +34,7 @@ abbrev pub fail : {A : Type 0} → Fault → Parser A
 fail k = λ ts. Err (k, ts)
 
 -- the next token's value is taken, or its fault stands there
-abbrev pub taken : {A : Type 0} → Result A Fault → Placed → Tokens → Outcome A
+abbrev pub taken : {A : Type 0} → Result A Fault → Placed → Tokens → ParseOutcome A
 taken (Ok a) t ts = Ok (a, ts)
 taken (Err k) t ts = Err (k, t ∷ ts)
 
@@ -49,7 +49,7 @@ look none test [] = Ok (none, [])
 look none test (t ∷ ts) = Ok (test t, t ∷ ts)
 
 -- takes a token where the flag says so
-abbrev pub eaten : Bool → Placed → Tokens → Outcome Bool
+abbrev pub eaten : Bool → Placed → Tokens → ParseOutcome Bool
 eaten true t ts = Ok (true, ts)
 eaten false t ts = Ok (false, t ∷ ts)
 
@@ -82,10 +82,15 @@ listed p comma stop n = do
   if none then pure [] else separated_from p comma n []
 
 -- what a function that parses ensures: the parser's outcome, unless memory ran out
-abbrev pub Reads : {A : Type 0} → Outcome A → Result A Fault → Tokens → Type 0
+abbrev pub Reads : {A : Type 0} → ParseOutcome A → Result A Fault → Tokens → Type 0
 Reads outcome (Ok a) new = outcome ≡ Ok (a, new)
 Reads outcome (Err Memory) new = Unit {0}
 Reads outcome (Err k) new = outcome ≡ Err (k, new)
+
+-- nothing is left behind a whole text, and all from the fault on where it was refused
+abbrev pub left_behind : {A : Type 0} → Result A Fault → Tokens → Tokens
+left_behind (Ok a) ts = []
+left_behind (Err k) ts = ts
 
 -- what a function that may run out of memory ensures: this result, unless memory ran out
 abbrev pub IsResultOrMemory : {A : Type 0} → Result A Fault → Result A Fault → Type 0

@@ -15,7 +15,7 @@ abbrev pub at_of : Source → At
 at_of s = record { place = s.place; bytes = s.rest.now }
 
 -- every place up to the end of what is left is below 2 ^ 32
-pub record IsInRange (s : At) : Type 0 where
+pub record HasPlacesInRange (s : At) : Type 0 where
   pub line : s.place.line + length s.bytes < 2 ^ 32
   pub column : s.place.column + length s.bytes < 2 ^ 32
 
@@ -36,9 +36,9 @@ abbrev pub tokens_left : At → Tokens
 tokens_left s = tokens_from (suc (length s.bytes)) s.place s.bytes
 
 -- what stands next is this lexeme, with its slice and its place, and the source goes on behind it; at a bad byte it stays
-abbrev pub IsFound : At → Lexeme → List ℕ → Place → At → Type 0
-IsFound old Bad slice place new = ((next_of old).token ≡ bad_token) × (slice ≡ (next_of old).taken) × (place ≡ after (next_at old).place (next_of old).taken) × (new ≡ old)
-IsFound old l slice place new = IsSaid l slice (next_of old).token × (slice ≡ (next_of old).taken) × (place ≡ (next_at old).place) × (new ≡ behind_next old)
+abbrev pub IsFoundLexeme : At → Lexeme → List ℕ → Place → At → Type 0
+IsFoundLexeme old Bad slice place new = ((next_of old).token ≡ bad_token) × (slice ≡ (next_of old).taken) × (place ≡ after (next_at old).place (next_of old).taken) × (new ≡ old)
+IsFoundLexeme old l slice place new = IsSaid l slice (next_of old).token × (slice ≡ (next_of old).taken) × (place ≡ (next_at old).place) × (new ≡ behind_next old)
 
 -- the next token is what a lexeme says, at its place; where it is a text, the slice by itself is that text; behind the end stands nothing
 pub record Stands (ts : Tokens) (l : Lexeme) (slice : List ℕ) (place : Place) : Type 0 where
@@ -50,17 +50,17 @@ pub record Stands (ts : Tokens) (l : Lexeme) (slice : List ℕ) (place : Place) 
   pub last : token ≡ end_token → left ≡ []
 
 -- others follow this token
-abbrev pub GoesOn : Token → Type 0
-GoesOn end_token = ⊥
-GoesOn bad_token = ⊥
-GoesOn _ = Unit {0}
+abbrev pub HasTokensBehind : Token → Type 0
+HasTokensBehind end_token = ⊥
+HasTokensBehind bad_token = ⊥
+HasTokensBehind _ = Unit {0}
 
 -- the next token is one that others follow
 abbrev pub Goes : Tokens → Type 0
 Goes [] = ⊥
-Goes (t ∷ ts) = GoesOn t.token
+Goes (t ∷ ts) = HasTokensBehind t.token
 
 -- a cursor: what stands next where it is, and the source behind that
-pub record IsReady (here : Source) (found : Found) (behind : Source) : Type 0 where
-  pub next : IsFound (at_of here) found.lexeme found.slice.now found.place (at_of behind)
-  pub range : IsInRange (at_of behind)
+pub record IsCursorAt (here : Source) (found : Found) (behind : Source) : Type 0 where
+  pub next : IsFoundLexeme (at_of here) found.lexeme found.slice.now found.place (at_of behind)
+  pub range : HasPlacesInRange (at_of behind)

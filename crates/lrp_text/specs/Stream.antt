@@ -16,14 +16,14 @@ use Rattle.lrp_text.specs.declared.lexemes.Lexeme.TheVariants.{Name as NameSeen,
 use Rattle.lrp_text.specs.Sources.{next_at, next_of, behind_next}
 
 -- a lawful token of this kind
-abbrev pub IsOfKind : TokenKind → Token → Type 0
-IsOfKind Name (name_token n) = Unit {0}
-IsOfKind Word (word_token w) = Unit {0}
-IsOfKind Number (number_token n) = n ≤ greatest_number
-IsOfKind Text (text_token t) = length t ≤ 255
-IsOfKind Symbol (symbol_token s) = Unit {0}
-IsOfKind End end_token = Unit {0}
-IsOfKind _ _ = ⊥
+abbrev pub IsTokenOfKind : TokenKind → Token → Type 0
+IsTokenOfKind Name (name_token n) = Unit {0}
+IsTokenOfKind Word (word_token w) = Unit {0}
+IsTokenOfKind Number (number_token n) = n ≤ greatest_number
+IsTokenOfKind Text (text_token t) = length t ≤ 255
+IsTokenOfKind Symbol (symbol_token s) = Unit {0}
+IsTokenOfKind End end_token = Unit {0}
+IsTokenOfKind _ _ = ⊥
 
 -- a token with this fault
 abbrev pub IsFaulty : LexKind → Token → Type 0
@@ -34,7 +34,7 @@ IsFaulty _ _ = ⊥
 
 -- the next token is given, with its slice and its place, and the lexer stands behind it
 pub record GivesToken (old new : At) (kind : TokenKind) (slice : List ℕ) (place : Place) : Type 0 where
-  pub kind_is : IsOfKind kind (next_of old).token
+  pub kind_is : IsTokenOfKind kind (next_of old).token
   pub slice_is : slice ≡ (next_of old).taken
   pub place_is : place ≡ (next_at old).place
   pub goes_on : new ≡ behind_next old
@@ -51,9 +51,9 @@ FaultAt old new BadByte place = GivesFault old new BadByte place (after (next_at
 FaultAt old new kind place = GivesFault old new kind place (next_at old).place (behind_next old)
 
 -- what the next token gives
-abbrev pub Gives : At → At → Result SourceToken LexFault → Type 0
-Gives old new (Ok t) = GivesToken old new t.kind t.slice.now t.place
-Gives old new (Err f) = FaultAt old new f.kind f.place
+abbrev pub GivesNext : At → At → Result SourceToken LexFault → Type 0
+GivesNext old new (Ok t) = GivesToken old new t.kind t.slice.now t.place
+GivesNext old new (Err f) = FaultAt old new f.kind f.place
 
 -- a slice of what was left, behind other bytes, with its place and the place behind it
 pub record IsSliceOf (old : At) (slice : List ℕ) (place : Place) (new : At) : Type 0 where
@@ -65,7 +65,7 @@ pub record IsSliceOf (old : At) (slice : List ℕ) (place : Place) (new : At) : 
 -- the first of them is a lawful token of this kind
 abbrev pub TokenFirst : TokenKind → Place → Tokens → Tokens → Type 0
 TokenFirst End place ts us = (ts ≡ record { token = end_token; place = place } ∷ []) × (us ≡ ts)
-TokenFirst kind place ts us = (k : Token) × IsOfKind kind k × (ts ≡ record { token = k; place = place } ∷ us)
+TokenFirst kind place ts us = (k : Token) × IsTokenOfKind kind k × (ts ≡ record { token = k; place = place } ∷ us)
 
 -- the first of them is a faulty one
 abbrev pub FaultFirst : LexKind → Place → Tokens → Tokens → Type 0

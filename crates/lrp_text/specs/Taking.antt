@@ -134,13 +134,13 @@ abbrev pub text : Parser (List ℕ)
 text = accept (λ t. text_of t.token)
 
 -- a period, where the flag says that it is 0
-abbrev pub counted : ℕ → Bool → Result ℕ Fault
-counted n true = Err Period
-counted n false = limited n Number (nat_le n 4611686018427387904)
+abbrev pub limited_period : ℕ → Bool → Result ℕ Fault
+limited_period n true = Err Period
+limited_period n false = limited n Number (nat_le n 4611686018427387904)
 
 -- a period, which is not 0
 abbrev pub period_of : Token → Result ℕ Fault
-period_of (number_token n) = counted n (n == 0)
+period_of (number_token n) = limited_period n (n == 0)
 period_of _ = Err Syntax
 
 -- a period is from 1 to 2 ^ 62

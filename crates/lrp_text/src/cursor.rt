@@ -8,25 +8,25 @@ use std::marker::Model;
 
 /// The tokens of a text that are left to read; a reader looks at the next one and takes it.
 #[derive(Drop)]
-pub struct Cursor<'a> {
+pub struct TokenCursor<'a> {
     here: Source<'a>,
     found: Found<'a>,
     behind: Source<'a>,
 }
 
-impl<'a> Model for Cursor<'a> {
+impl<'a> Model for TokenCursor<'a> {
     ghost use Rattle.std.specs.Prelude.{List};
     ghost use Rattle.lrp_model.specs.Tokens.{Placed};
-    ghost use Rattle.lrp_text.specs.Sources.{at_of, tokens_left, IsReady};
+    ghost use Rattle.lrp_text.specs.Sources.{at_of, tokens_left, IsCursorAt};
 
     ghost Value = { List Placed };
 
     ghost view = { λ c. tokens_left (at_of c.here) };
 
-    ghost invariant = { λ c. IsReady c.here c.found c.behind };
+    ghost invariant = { λ c. IsCursorAt c.here c.found c.behind };
 }
 
-impl<'a> Cursor<'a> {
+impl<'a> TokenCursor<'a> {
     ghost use Rattle.std.specs.Prelude.{◌≡◌, ◌≢◌, ◌≤◌, ◌<◌, ◌∷◌, true, false, length, Ok, Err, IfOk};
     ghost use Rattle.lrp_model.specs.Tokens.{Placed};
     ghost use Rattle.lrp_model.specs.Lexing.{tokens};
@@ -45,7 +45,7 @@ impl<'a> Cursor<'a> {
             rest: text,
         };
         let (found, behind) = step(here);
-        Cursor {
+        TokenCursor {
             here,
             found,
             behind,

@@ -12,20 +12,20 @@ pub struct Lexer<'a> {
 
 impl<'a> Model for Lexer<'a> {
     ghost use Rattle.lrp_model.specs.Lexing.{At};
-    ghost use Rattle.lrp_text.specs.Sources.{at_of, IsInRange};
+    ghost use Rattle.lrp_text.specs.Sources.{at_of, HasPlacesInRange};
 
     ghost Value = { At };
 
     ghost view = { λ l. at_of l.source };
 
-    ghost invariant = { λ l. IsInRange (at_of l.source) };
+    ghost invariant = { λ l. HasPlacesInRange (at_of l.source) };
 }
 
 impl<'a> Lexer<'a> {
     ghost use Rattle.std.specs.Prelude.{◌≡◌, ◌≤◌, length, IfOk};
     ghost use Rattle.lrp_model.specs.Lexing.{start};
-    ghost use Rattle.lrp_text.specs.Sources.{IsFound, tokens_left};
-    ghost use Rattle.lrp_text.specs.Stream.{Gives, IsNextToken, IsSliceOf, IsNextText};
+    ghost use Rattle.lrp_text.specs.Sources.{IsFoundLexeme, tokens_left};
+    ghost use Rattle.lrp_text.specs.Stream.{GivesNext, IsNextToken, IsSliceOf, IsNextText};
     ghost use Rattle.lrp_model.specs.Limits.{most_bytes};
 
     /// The lexer of a text of at most 16,777,216 bytes.
@@ -43,7 +43,7 @@ impl<'a> Lexer<'a> {
 
     // What stands next, with its slice and its place.
     fn found(&mut self) -> Found<'a>
-        ensures { IsFound self.old result.lexeme result.slice.now result.place self.new }
+        ensures { IsFoundLexeme self.old result.lexeme result.slice.now result.place self.new }
     {
         let (found, source) = step(self.source);
         self.source = source;
@@ -55,7 +55,7 @@ impl<'a> Lexer<'a> {
     /// `LexKind::BadByte` stands at a character that begins no token, at one that may not stand in a text, or at the
     /// end inside a text, and comes again for ever, as the end does.
     pub fn next(&mut self) -> Result<Token<'a>, LexFault>
-        ensures step { Gives self.old self.new result }
+        ensures step { GivesNext self.old self.new result }
         ensures order { IsNextToken result (tokens_left self.old) (tokens_left self.new) }
         ensures slice { IfOk result (λ t. IsSliceOf self.old t.slice.now t.place self.new) }
         // What the slice of a text means is what `text_of` gives of it.

@@ -11,7 +11,7 @@ mod scanning;
 mod sources;
 mod texts;
 
-pub use cursor::Cursor;
+pub use cursor::TokenCursor;
 pub use lexemes::{Found, Lexeme};
 pub use lexer::Lexer;
 pub use lrp_model::{LexFault, LexKind, Token, TokenKind};

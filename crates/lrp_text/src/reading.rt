@@ -6,14 +6,14 @@ ghost use Rattle.lrp_model.specs.Limits.{greatest_number};
 ghost use Rattle.lrp_text.specs.ColumnRule.{shown_sort, sort as sort_rule, column as column_rule};
 ghost use Rattle.lrp_text.specs.IntegerRule.{integer as integer_rule};
 
-use crate::cursor::Cursor;
+use crate::cursor::TokenCursor;
 use crate::lexemes::{Found, Lexeme};
 use lrp_model::{Fault, Integer, List, Name, Place, RawColumn, Sort, Symbol, Word};
 use std::alloc::Global;
 
 /// Reads an integer: a number of at most 2^62, which may have a minus before it.
 #[tactic(auto, unfolding(crate::specs::IntegerRule::integer))]
-pub fn integer(tokens: &mut Cursor<'_>) -> Result<Integer, Fault>
+pub fn integer(tokens: &mut TokenCursor<'_>) -> Result<Integer, Fault>
     ensures value { Reads (integer_rule tokens.old) result tokens.new }
     ensures fewer { IfOk result (λ _. length tokens.new < length tokens.old) }
     ensures takes_no_memory { result ≢ Err Fault.Memory }
@@ -39,7 +39,7 @@ fn sort_of(alloc: Global, found: Found<'_>) -> Result<Sort, Fault>
 }
 
 /// Reads a sort, and tells its place.
-pub fn sort(alloc: Global, tokens: &mut Cursor<'_>) -> Result<(Sort, Place), Fault>
+pub fn sort(alloc: Global, tokens: &mut TokenCursor<'_>) -> Result<(Sort, Place), Fault>
     ensures value { Reads (sort_rule tokens.old) result tokens.new }
     ensures shorter { length tokens.new ≤ length tokens.old }
     ensures fewer { IfOk result (λ _. length tokens.new < length tokens.old) }
@@ -52,7 +52,7 @@ pub fn sort(alloc: Global, tokens: &mut Cursor<'_>) -> Result<(Sort, Place), Fau
 
 /// Reads a column: a name, a colon and a sort.
 #[tactic(auto, unfolding(crate::specs::ColumnRule::column))]
-pub fn column(alloc: Global, tokens: &mut Cursor<'_>) -> Result<RawColumn, Fault>
+pub fn column(alloc: Global, tokens: &mut TokenCursor<'_>) -> Result<RawColumn, Fault>
     ensures value { Reads (column_rule tokens.old) result tokens.new }
     ensures shorter { length tokens.new ≤ length tokens.old }
     ensures fewer { IfOk result (λ _. length tokens.new < length tokens.old) }
@@ -69,7 +69,7 @@ pub fn column(alloc: Global, tokens: &mut Cursor<'_>) -> Result<RawColumn, Fault
 }
 
 // Reads one column or more, with commas between.
-fn some_columns(alloc: Global, tokens: &mut Cursor<'_>) -> Result<List<RawColumn>, Fault>
+fn some_columns(alloc: Global, tokens: &mut TokenCursor<'_>) -> Result<List<RawColumn>, Fault>
     ensures value { (n : ℕ) → length tokens.old < n
         → Reads (separated_from column_rule (is_symbol Symbol.Comma) n [] tokens.old) result
         tokens.new }
@@ -89,7 +89,7 @@ fn some_columns(alloc: Global, tokens: &mut Cursor<'_>) -> Result<List<RawColumn
 #[tactic(auto, unfolding(crate::specs::Parsers::listed))]
 pub fn columns(
     alloc: Global,
-    tokens: &mut Cursor<'_>,
+    tokens: &mut TokenCursor<'_>,
     stop: Symbol,
 ) -> Result<List<RawColumn>, Fault>
     ensures value { (n : ℕ) → length tokens.old < n

@@ -2,7 +2,7 @@
 ghost use Rattle.std.specs.Prelude.{◌≡◌, ◌+◌, length, false};
 ghost use Rattle.lrp_model.specs.Lexing.{skip as skip_rule, scan as scan_rule};
 ghost use Rattle.lrp_text.specs.Lexemes.{IsLexeme};
-ghost use Rattle.lrp_text.specs.Sources.{at_of, next_at, IsFound, IsInRange};
+ghost use Rattle.lrp_text.specs.Sources.{at_of, next_at, IsFoundLexeme, HasPlacesInRange};
 
 use crate::bytes::skip;
 use crate::lexemes::{Found, Lexeme};
@@ -19,9 +19,9 @@ pub struct Source<'a> {
 // Goes behind the blanks and comments that come first.
 #[tactic(auto, using(crate::proofs::Cuts::skip_cut, crate::proofs::Cuts::skip_rest, crate::proofs::Cuts::skip_shorter))]
 fn behind_blanks(source: Source<'_>) -> Source<'_>
-    requires { IsInRange (at_of source) }
+    requires { HasPlacesInRange (at_of source) }
     ensures next { at_of result ≡ next_at (at_of source.entry) }
-    ensures range { IsInRange (at_of result) }
+    ensures range { HasPlacesInRange (at_of result) }
 {
     let text = source.rest;
     let (place, rest) = skip(source.place, text.as_bytes());
@@ -46,10 +46,11 @@ fn first(text: &str) -> (Lexeme, &str, &str)
 
 // What stands next, with its slice and its place, and where the source goes on: behind it, or at a bad byte where it was.
 pub fn step(source: Source<'_>) -> (Found<'_>, Source<'_>)
-    requires { IsInRange (at_of source) }
-    ensures found { IsFound (at_of source.entry) result.0.lexeme result.0.slice.now result.0.place
+    requires { HasPlacesInRange (at_of source) }
+    ensures found { IsFoundLexeme (at_of source.entry) result.0.lexeme result.0.slice.now
+        result.0.place
         (at_of result.1) }
-    ensures range { IsInRange (at_of result.1) }
+    ensures range { HasPlacesInRange (at_of result.1) }
 {
     let Source { place, rest: text } = behind_blanks(source);
     let (lexeme, slice, rest) = first(text);

@@ -1,18 +1,18 @@
-use Rattle.lrp_query.proofs.PlainTexts.{query_read, query_unread, every_query, every_fault}
+use Rattle.lrp_query.proofs.PlainTexts.{answered}
 use Rattle.lrp_query.proofs.LawfulQueries.{lawful_read}
 use Rattle.lrp_query.proofs.queries.read_query.Goals as goal
 
 pub returns-clause-every_query : goal.returns-clause-every_query
-returns-clause-every_query c = every_query c.args.bytes.now c.read_bytes.result (query_read c.args.bytes.now c.read_bytes.result c.read_bytes.ensures.query) (query_unread c.args.bytes.now c.read_bytes.result c.read_bytes.ensures.refused)
+returns-clause-every_query c = (answered c.args.bytes.now c.read_bytes.result c.read_bytes.ensures.query c.read_bytes.ensures.refused).every_query
 
 pub returns-clause-every_fault : goal.returns-clause-every_fault
-returns-clause-every_fault c = every_fault c.args.bytes.now c.read_bytes.result (query_read c.args.bytes.now c.read_bytes.result c.read_bytes.ensures.query) (query_unread c.args.bytes.now c.read_bytes.result c.read_bytes.ensures.refused)
+returns-clause-every_fault c = (answered c.args.bytes.now c.read_bytes.result c.read_bytes.ensures.query c.read_bytes.ensures.refused).every_fault
 
 pub returns-clause-lawful : goal.returns-clause-lawful
-returns-clause-lawful c = lawful_read c.args.bytes.now c.read_bytes.result c.requires (query_read c.args.bytes.now c.read_bytes.result c.read_bytes.ensures.query)
+returns-clause-lawful c = lawful_read c.args.bytes.now c.read_bytes.result c.requires (answered c.args.bytes.now c.read_bytes.result c.read_bytes.ensures.query c.read_bytes.ensures.refused).query
 
 pub returns-clause-query : goal.returns-clause-query
-returns-clause-query c = query_read c.args.bytes.now c.read_bytes.result c.read_bytes.ensures.query
+returns-clause-query c = (answered c.args.bytes.now c.read_bytes.result c.read_bytes.ensures.query c.read_bytes.ensures.refused).query
 
 pub returns-clause-refused : goal.returns-clause-refused
-returns-clause-refused c = query_unread c.args.bytes.now c.read_bytes.result c.read_bytes.ensures.refused
+returns-clause-refused c = (answered c.args.bytes.now c.read_bytes.result c.read_bytes.ensures.query c.read_bytes.ensures.refused).refused

@@ -1,5 +1,5 @@
 use Rattle.std.proofs.Common.{subst, sym}
-use Rattle.lrp_rel.specs.Reading.{IsUnread}
+use Rattle.lrp_rel.specs.Reading.{IsUnreadDatabase}
 use Rattle.lrp_rel.proofs.TextLaws.{never_deep, text_gathered, text_refused}
 use Rattle.lrp_rel.proofs.trees.read_text.Goals as goal
 
@@ -11,5 +11,5 @@ returns-in-Ok-clause-gathered c = text_gathered c.args.text.now c.new-tokens.res
 
 pub returns-in-Err-clause-refused : goal.returns-in-Err-clause-refused
 returns-in-Err-clause-refused c =
-    subst (IsUnread c.args.text.now) (sym c.refusal.ensures)
+    subst (IsUnreadDatabase c.args.text.now) (sym c.refusal.ensures)
     (text_refused c.args.text.now c.new-tokens.result c.read_relations_to_end.new.tokens c.in-Err.fault c.peek.result.lexeme c.peek.result.slice.now c.peek.result.place c.new-tokens.ensures c.utf8.text c.peek.ensures c.in-Err.ensures)

@@ -12,7 +12,7 @@ use Rattle.lrp_sorts.proofs.finding.atom.Goals as goal
 pub returns : goal.returns
 returns c =
     let bs = binders c.args.scope.now in
-    let ts = c.args.terms.now in
+    let ts = c.args.formula.terms.now in
     let relation = option_map (λ r. r.now) c.relation-relation.result in
     let made = c.in_ok-fault.ensures in
     record {
@@ -24,9 +24,9 @@ returns c =
           ∙ ap (sooner query_standing (earliest query_standing (flat_map (term_faults bs) ts)))
           (c.sooner_of.ensures
           ∙ ap (λ f. sooner query_standing f c.in_ok-fault.field-0.misfit) c.relation_fault-own.ensures
-          ∙ ap (sooner query_standing (earliest query_standing (atom_head_faults c.args.place (length ts) relation))) (made.misfit ∙ ap (λ cs. earliest query_standing (column_faults bs ts cs)) c.columns_of.ensures)
-          ∙ atom_shows bs c.args.place ts relation
-          ∙ ap (λ r. earliest query_standing (atom_faults bs c.args.place ts r)) c.relation-relation.ensures)
-          ∙ sym (first_of_both query_standing (flat_map (term_faults bs) ts) (atom_faults bs c.args.place ts (relation_named c.args.catalog.now c.args.name.now))));
+          ∙ ap (sooner query_standing (earliest query_standing (atom_head_faults c.args.formula.place (length ts) relation))) (made.misfit ∙ ap (λ cs. earliest query_standing (column_faults bs ts cs)) c.columns_of.ensures)
+          ∙ atom_shows bs c.args.formula.place ts relation
+          ∙ ap (λ r. earliest query_standing (atom_faults bs c.args.formula.place ts r)) c.relation-relation.ensures)
+          ∙ sym (first_of_both query_standing (flat_map (term_faults bs) ts) (atom_faults bs c.args.formula.place ts (relation_named c.args.catalog.now c.args.formula.relation.now))));
       free = made.free;
     }

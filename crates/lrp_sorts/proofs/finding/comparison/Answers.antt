@@ -2,7 +2,7 @@ use Rattle.std.proofs.Common.{◌++◌, ap, sym, ◌∙◌, subst, append_assoc}
 use Rattle.lrp_model.specs.Sorting.{query_standing, term_names}
 use Rattle.lrp_model.specs.Sooner.{sooner}
 use Rattle.lrp_sorts.specs.Scopes.{binders}
-use Rattle.lrp_sorts.specs.Widths.{IsTally, IsCounted}
+use Rattle.lrp_sorts.specs.Widths.{IsTally, IsTallied}
 use Rattle.lrp_sorts.proofs.finding.comparison.Goals as goal
 
 pub returns : goal.returns
@@ -13,7 +13,7 @@ returns c = λ db place.
     record {
       fault = c.sooner_of.ensures ∙ ap (sooner query_standing c.args.before.fault) (c.compare_fault-inside.ensures bs c.term_sort-one.ensures c.term_sort-other.ensures);
       free = λ names k.
-          subst (λ ns. IsCounted c.args.scope.now ns c.add_variable-2.new.variables) (append_assoc names l r)
+          subst (λ ns. IsTallied c.args.scope.now ns c.add_variable-2.new.variables) (append_assoc names l r)
           (subst (λ q. IsTally bs q ((names ++ l) ++ r) c.add_variable-2.new.variables) c.quantifiers-quantifiers.ensures
           (c.in_ok-add_variable-2.ensures bs (names ++ l) c.term_sort-other.ensures
           (c.in_ok-add_variable.ensures bs names c.term_sort-one.ensures (subst (λ q. IsTally bs q names c.args.before.free) (sym c.quantifiers-quantifiers.ensures) k))));

@@ -6,7 +6,7 @@ use Rattle.lrp_model.specs.Sorting.{query_standing, term_sort, term_names, term_
 use Rattle.lrp_model.specs.Sooner.{sooner}
 use Rattle.lrp_sorts.specs.Scopes.{binders}
 use Rattle.lrp_sorts.specs.Terms.{misfits}
-use Rattle.lrp_sorts.specs.Widths.{IsTally, IsCounted}
+use Rattle.lrp_sorts.specs.Widths.{IsTally, IsTallied}
 use Rattle.lrp_sorts.proofs.ColumnFaults.{no_terms, column_further, column_at}
 use Rattle.lrp_sorts.proofs.FaultLists.{one_further, one_more}
 use Rattle.lrp_sorts.proofs.finding.terms_shown.Goals.{After-loop-i}
@@ -57,6 +57,6 @@ returns-clause-misfit c =
 pub returns-clause-free : goal.returns-clause-free
 returns-clause-free c = λ names k.
     let bs = binders c.args.scope.now in
-    subst (λ ts. IsCounted c.args.scope.now (names ++ flat_map term_names ts) c.loop-i.free) (all_terms c)
+    subst (λ ts. IsTallied c.args.scope.now (names ++ flat_map term_names ts) c.loop-i.free) (all_terms c)
     (subst (λ q. IsTally bs q (names ++ flat_map term_names (take c.loop-i.i c.args.terms.now)) c.loop-i.free) c.quantifiers-quantifiers.ensures
     (c.loop-i.invariant.free names (subst (λ q. IsTally bs q names c.args.before) (sym c.quantifiers-quantifiers.ensures) k)))

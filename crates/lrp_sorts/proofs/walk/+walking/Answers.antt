@@ -4,7 +4,7 @@ use Rattle.lrp_model.specs.RawQueries.{raw_form_of, raw_forms_of}
 use Rattle.lrp_model.specs.Sorting.{query_standing, widened, form_faults, forms_faults, free_names, free_names_each, binder_faults}
 use Rattle.lrp_model.specs.Sooner.{sooner}
 use Rattle.lrp_sorts.specs.Scopes.{binders}
-use Rattle.lrp_sorts.specs.Widths.{IsCounted}
+use Rattle.lrp_sorts.specs.Widths.{IsTallied}
 use Rattle.lrp_sorts.proofs.RawNodes.{fault_then, free_then, counted_then, tally_at, at_tally, then_ok, if_ok_then, shown, shown_bound, not_faults, group_faults, and_faults, or_faults, implies_faults, exists_faults, forall_faults, not_names, group_names, and_names, or_names, implies_names, exists_names, forall_names, one_member_faults, one_member_names}
 use Rattle.lrp_sorts.proofs.Leaves.{narrow_faults}
 use Rattle.lrp_sorts.proofs.walk.+walking.Goals as goal
@@ -83,12 +83,12 @@ inspect-returns-in_ok-before-in-Implies-clause-free t c =
     let k = c.in_ok-before-in-Implies in
     let names = free_names (raw_form_of c.deref-in-Implies.result.now) in
     if_ok_then c.inspect_behind.result _ _ c.inspect_behind.ensures.free (λ made h.
-    subst (λ a. IsCounted a (free_names (raw_form_of c.args.f.now)) made.free) k.ensures.scope
-    (subst (λ ns. IsCounted after ns made.free)
+    subst (λ a. IsTallied a (free_names (raw_form_of c.args.f.now)) made.free) k.ensures.scope
+    (subst (λ ns. IsTallied after ns made.free)
     (ap (λ g. free_names (raw_form_of g) ++ free_names (raw_form_of c.deref-in-Implies-2.result.now)) c.deref-in-Implies.ensures
     ∙ ap (λ g. free_names (raw_form_of c.in-Implies.left.value) ++ free_names (raw_form_of g)) c.deref-in-Implies-2.ensures
     ∙ implies_names c.args.f.now c.in-Implies.left c.in-Implies.right c.in-Implies.is)
-    (h names (subst (λ a. IsCounted a names k.before.free) (sym k.ensures.scope) k.ensures.free))))
+    (h names (subst (λ a. IsTallied a names k.before.free) (sym k.ensures.scope) k.ensures.free))))
 
 pub inspect-returns-in-Exists-clause-fault : goal.inspect-returns-in-Exists-clause-fault
 inspect-returns-in-Exists-clause-fault t c =
@@ -161,7 +161,7 @@ inspect_bound-returns-clause-fault t c =
     let own = c.in_ok-own in
     fault_then c.unbind.result _ _
     (shown_bound db around c.bind.new.scope c.inspect.new.scope c.args.binder.now own.own f f f k.inside.fault own.ensures.scope k.ensures.scope own.ensures.fault refl refl k.ensures.fault)
-    (c.unbind.ensures.fault around (free_names (raw_form_of f)) (k.ensures.scope ∙ own.ensures.scope) (subst (λ a. IsCounted a (free_names (raw_form_of f)) k.inside.free) (sym k.ensures.scope) k.ensures.free))
+    (c.unbind.ensures.fault around (free_names (raw_form_of f)) (k.ensures.scope ∙ own.ensures.scope) (subst (λ a. IsTallied a (free_names (raw_form_of f)) k.inside.free) (sym k.ensures.scope) k.ensures.free))
 
 pub inspect_bound-returns-clause-free : goal.inspect_bound-returns-clause-free
 inspect_bound-returns-clause-free t c =
@@ -169,7 +169,7 @@ inspect_bound-returns-clause-free t c =
     let f = c.args.f.now in
     let k = c.in_ok-inside in
     let own = c.in_ok-own in
-    c.unbind.ensures.free around (free_names (raw_form_of f)) (k.ensures.scope ∙ own.ensures.scope) (subst (λ a. IsCounted a (free_names (raw_form_of f)) k.inside.free) (sym k.ensures.scope) k.ensures.free)
+    c.unbind.ensures.free around (free_names (raw_form_of f)) (k.ensures.scope ∙ own.ensures.scope) (subst (λ a. IsTallied a (free_names (raw_form_of f)) k.inside.free) (sym k.ensures.scope) k.ensures.free)
 
 pub inspect_bound-returns-clause-scope : goal.inspect_bound-returns-clause-scope
 inspect_bound-returns-clause-scope t c =
@@ -193,8 +193,8 @@ inspect_each-loop-f-preserved t c =
           ∙ ap (λ a. sooner query_standing (earliest query_standing (forms_faults (raw_forms_of (take c.loop-f.f-index c.args.fs.now)) db (binders around))) (earliest query_standing (widened (binders a) [] (raw_form_of f) (form_faults (raw_form_of f) db (binders a))))) kept.scope
           ∙ one_member_faults db (binders around) c.args.fs.now c.loop-f.f-index f c.loop-f-test.true c.f-item.is;
       free =
-          subst (λ ns. IsCounted around ns c.in_ok-found.found.free) (one_member_names c.args.fs.now c.loop-f.f-index f c.loop-f-test.true c.f-item.is)
-          (subst (λ a. IsCounted a (before ++ free_names (raw_form_of f)) c.in_ok-found.found.free) kept.scope
-          (k.free before (subst (λ a. IsCounted a before c.loop-f.found.free) (sym kept.scope) kept.free)));
+          subst (λ ns. IsTallied around ns c.in_ok-found.found.free) (one_member_names c.args.fs.now c.loop-f.f-index f c.loop-f-test.true c.f-item.is)
+          (subst (λ a. IsTallied a (before ++ free_names (raw_form_of f)) c.in_ok-found.found.free) kept.scope
+          (k.free before (subst (λ a. IsTallied a before c.loop-f.found.free) (sym kept.scope) kept.free)));
       scope = k.scope ∙ kept.scope;
     }

@@ -1,7 +1,7 @@
 use Rattle.std.proofs.Common.{ap, ◌∙◌}
 use Rattle.lrp_model.specs.RawQueries.{raw_form_of}
 use Rattle.lrp_tense.specs.declared.words.Paired.TheVariants.{Since, Until}
-use Rattle.lrp_tense.specs.declared.expansion.Pair.{Pair}
+use Rattle.lrp_tense.specs.declared.expansion.PairOperator.{PairOperator}
 use Rattle.lrp_tense.specs.Trees.{tense_form_of}
 use Rattle.lrp_tense.specs.Scopes.{past, expanded_in}
 use Rattle.lrp_tense.proofs.Steps.{and_node, and_past, or_node, or_past, implies_node, implies_joined, implies_past, pair_node, pair_joined, pair_past, if_ok_then, then_ok, expand_step, past_step, is_inside}
@@ -69,7 +69,7 @@ expand_formula-returns-in_ok-left-in-Implies-clause-scope t c =
 pub expand_formula-returns-in_ok-begun-in-Since-clause-tree : goal.expand_formula-returns-in_ok-begun-in-Since-clause-tree
 expand_formula-returns-in_ok-begun-in-Since-clause-tree t c =
     let b = c.in_ok-begun-in-Since.ensures in
-    let p : Pair = record { at = c.written-at-in-Since.result; word = Since } in
+    let p : PairOperator = record { at = c.written-at-in-Since.result; word = Since } in
     if_ok_then c.expand_paired.result _ _ c.expand_paired.ensures.tree (λ made h.
     h ∙ pair_joined _ _ p c.in_ok-begun-in-Since.begun (tense_form_of c.deref-in-Since.result.now) (tense_form_of c.deref-in-Since-2.result.now) b.begun b.scope
     ∙ ap (expanded_in c.args.scope.now) (pair_node c.args.f.now _ _ p _ _ _ _ c.written-at-in-Since.ensures c.in-Since.is c.deref-in-Since.ensures c.deref-in-Since-2.ensures))
@@ -77,7 +77,7 @@ expand_formula-returns-in_ok-begun-in-Since-clause-tree t c =
 pub expand_formula-returns-in_ok-begun-in-Since-clause-scope : goal.expand_formula-returns-in_ok-begun-in-Since-clause-scope
 expand_formula-returns-in_ok-begun-in-Since-clause-scope t c =
     let b = c.in_ok-begun-in-Since.ensures in
-    let p : Pair = record { at = c.written-at-in-Since.result; word = Since } in
+    let p : PairOperator = record { at = c.written-at-in-Since.result; word = Since } in
     then_ok c.expand_paired.result _ _ c.expand_paired.ensures.scope (λ h.
     pair_past c.args.scope.now _ _ p (tense_form_of c.deref-in-Since.result.now) (tense_form_of c.deref-in-Since-2.result.now) b.scope h
     ∙ ap (past c.args.scope.now) (pair_node c.args.f.now _ _ p _ _ _ _ c.written-at-in-Since.ensures c.in-Since.is c.deref-in-Since.ensures c.deref-in-Since-2.ensures))
@@ -85,7 +85,7 @@ expand_formula-returns-in_ok-begun-in-Since-clause-scope t c =
 pub expand_formula-returns-in_ok-begun-in-Until-clause-tree : goal.expand_formula-returns-in_ok-begun-in-Until-clause-tree
 expand_formula-returns-in_ok-begun-in-Until-clause-tree t c =
     let b = c.in_ok-begun-in-Until.ensures in
-    let p : Pair = record { at = c.written-at-in-Until.result; word = Until } in
+    let p : PairOperator = record { at = c.written-at-in-Until.result; word = Until } in
     if_ok_then c.expand_paired-in-Until.result _ _ c.expand_paired-in-Until.ensures.tree (λ made h.
     h ∙ pair_joined _ _ p c.in_ok-begun-in-Until.begun (tense_form_of c.deref-in-Until.result.now) (tense_form_of c.deref-in-Until-2.result.now) b.begun b.scope
     ∙ ap (expanded_in c.args.scope.now) (pair_node c.args.f.now _ _ p _ _ _ _ c.written-at-in-Until.ensures c.in-Until.is c.deref-in-Until.ensures c.deref-in-Until-2.ensures))
@@ -93,7 +93,7 @@ expand_formula-returns-in_ok-begun-in-Until-clause-tree t c =
 pub expand_formula-returns-in_ok-begun-in-Until-clause-scope : goal.expand_formula-returns-in_ok-begun-in-Until-clause-scope
 expand_formula-returns-in_ok-begun-in-Until-clause-scope t c =
     let b = c.in_ok-begun-in-Until.ensures in
-    let p : Pair = record { at = c.written-at-in-Until.result; word = Until } in
+    let p : PairOperator = record { at = c.written-at-in-Until.result; word = Until } in
     then_ok c.expand_paired-in-Until.result _ _ c.expand_paired-in-Until.ensures.scope (λ h.
     pair_past c.args.scope.now _ _ p (tense_form_of c.deref-in-Until.result.now) (tense_form_of c.deref-in-Until-2.result.now) b.scope h
     ∙ ap (past c.args.scope.now) (pair_node c.args.f.now _ _ p _ _ _ _ c.written-at-in-Until.ensures c.in-Until.is c.deref-in-Until.ensures c.deref-in-Until-2.ensures))

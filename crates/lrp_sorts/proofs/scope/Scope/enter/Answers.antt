@@ -4,7 +4,7 @@ use Rattle.lrp_model.specs.Texts.{Identifier}
 use Rattle.lrp_model.specs.Sorting.{binder_sort}
 use Rattle.lrp_sorts.specs.Scopes.{binders, kept_at}
 use Rattle.lrp_sorts.specs.Nesting.{binders_with, IsNested}
-use Rattle.lrp_sorts.specs.declared.scope.Quantifier.{Quantifier}
+use Rattle.lrp_sorts.specs.declared.scope.QuantifierBinder.{QuantifierBinder}
 use Rattle.lrp_sorts.proofs.Nested.{bound_around, entered}
 use Rattle.lrp_sorts.proofs.scope.Scope.enter.Goals.{After-push_reserved}
 use Rattle.lrp_sorts.proofs.scope.Scope.enter.Goals as goal
@@ -26,7 +26,7 @@ invariant_of-self-2 c =
     let before = c.self.inside.quantifiers.items in
     let head = reverse c.self.inside.columns.now in
     let binder = c.args.binder.now in
-    let one : Quantifier = record { binder = c.args.binder; outer = c.in_ok-outer.outer } in
+    let one : QuantifierBinder = record { binder = c.args.binder; outer = c.in_ok-outer.outer } in
     let items : c.push_reserved.new.self.items ≡ before ++ one ∷ [] = c.push_reserved.ensures.items ∙ ap (λ l. l ++ one ∷ []) c.in_ok-reserve.ensures.items in
     let outside : option_map (λ s. s.now) one.outer ≡ binder_sort (binders_with (reverse before) head) binder.name =
     c.in_ok-outer.ensures.outer ∙ ap (kept_at c.self.inside.sorts) c.as_bytes.ensures ∙ c.self.invariant.sorts binder.name in

@@ -1,0 +1,9 @@
+use Rattle.std.proofs.Common.{◌∙◌, sym, subst}
+use Rattle.lrp_text.specs.Sources.{Goes}
+use Rattle.lrp_text.proofs.Standing.{goes_behind}
+use Rattle.lrp_text.proofs.cursor.TokenCursor.advance.Goals as goal
+
+pub returns : goal.returns
+returns c =
+    let k = goes_behind _ _ _ _ _ c.self.invariant.next (subst Goes (sym c.self.view_is) c.requires) in
+    (k.0, sym c.self.view_is ∙ k.1)

@@ -1,0 +1,6 @@
+use Rattle.std.proofs.Common.{◌∙◌, ap, sym, Ok}
+use Rattle.lrp_text.proofs.Looking.{look_text}
+use Rattle.lrp_text.proofs.cursor.TokenCursor.sees_text.Goals as goal
+
+pub returns : goal.returns
+returns c = look_text _ _ _ _ c.peek.ensures ∙ ap (λ b. Ok (b, c.args.self.now)) (sym c.is_text.ensures)
