@@ -14,7 +14,7 @@ use Rattle.lrp_model.specs.declared.formulas.Op.{Op}
 use Rattle.lrp_model.specs.declared.formulas.Op.TheVariants.{Le, Lt, Ge, Gt, Eq}
 use Rattle.lrp_zone.specs.Zones.{ZoneView, IsResidue}
 use Rattle.lrp_zone.specs.Given.{bound_at, IsGivenZone, HasNone, AreGiven, MeetsGiven}
-use Rattle.lrp_algebra.specs.declared.comparisons.Side.{Side}
+use Rattle.lrp_algebra.specs.declared.comparisons.ShiftedColumn.{ShiftedColumn}
 use Rattle.lrp_algebra.specs.Comparisons.{side_value, AreBounds, IsCompared, HasNoCompared}
 
 -- one divides every integer
@@ -94,7 +94,7 @@ sides_from Ge x y p q m e h = omega (arith, ints)
 sides_from Gt x y p q m e h = omega (arith, ints)
 sides_from Eq x y p q m e h = omega (arith, ints)
 
-module _ (l r : Side) (op : Op) (columns : ℕ) (few : columns ≤ 8) (ll : l.column ≤ columns) (lr : r.column ≤ columns) (room : 1 + nat_abs (l.plus -ℤ r.plus) ≤ 2 ^ 62) (bounds : List Bound) (m : ℤ) (are : AreBounds op l.column r.column m bounds) (em : m ≡ r.plus -ℤ l.plus) (rs : List ℤ) (count : length rs ≡ columns) where
+module _ (l r : ShiftedColumn) (op : Op) (columns : ℕ) (few : columns ≤ 8) (ll : l.column ≤ columns) (lr : r.column ≤ columns) (room : 1 + nat_abs (l.plus -ℤ r.plus) ≤ 2 ^ 62) (bounds : List Bound) (m : ℤ) (are : AreBounds op l.column r.column m bounds) (em : m ≡ r.plus -ℤ l.plus) (rs : List ℤ) (count : length rs ≡ columns) where
   near : nat_abs m ≡ nat_abs (l.plus -ℤ r.plus)
   near = omega (arith, ints)
 

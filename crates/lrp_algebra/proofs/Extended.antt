@@ -44,7 +44,7 @@ module _ (domain : List Text) (ascends : Ascends domain) (columns : List Column)
 
   -- the table's columns can stand among those of the head
   pub extend_stands : CanStandIn places table.store start
-  extend_stands = can_stand domain ascends table.store table.vars.times table.vars.texts (head_times columns) (head_texts columns) places t x start table.times_named table.texts_named (pairs_left ◌≢◌ table.vars.times table.vars.texts table.names_differ)
+  extend_stands = can_stand domain ascends table.store table.vars.times table.vars.texts (head_times columns) (head_texts columns) places t x start is table.times_named table.texts_named (pairs_left ◌≢◌ table.vars.times table.vars.texts table.names_differ)
       (ap (λ (s : StoreView). s.shape.times) fresh) (ap (λ (s : StoreView). s.shape.texts) fresh) (subst (λ k. Divides (pos table.store.period) (pos k)) (sym same_period) (Divides-self (pos table.store.period))) (λ n. absurd (n (sym same_period)))
 
   of_start : (set : Set) → (high : ℕ) → IsAdded (IsOver start.shape size set) cap high start out → IsAdded (IsOver (record { times = length (head_times columns); texts = length (head_texts columns) }) size set) cap high start out

@@ -17,7 +17,7 @@ use Rattle.lrp_store.proofs.Grown.{Set}
 use Rattle.lrp_store.proofs.Held.{Table, held_of}
 use Rattle.lrp_store.proofs.Aligning.{head_in, tail_in}
 use Rattle.lrp_systems.specs.Parts.{Fits as FitsIn}
-use Rattle.lrp_tables.specs.Pieces.{piece_of, pieces_at, pieces_in, IsPieceOf, InPiece, InPieces, ArePieces, Fits}
+use Rattle.lrp_tables.specs.Pieces.{piece_of, pieces_at, pieces_in, IsPieceOf, InPiece, InPieces, ArePieces, FitsCell}
 use Rattle.lrp_tables.specs.declared.pieces.Piece.{Piece}
 use Rattle.lrp_tables.proofs.Pieced.{in_store, none_left, piece_fits, piece_reach, pieces_are, any_reach}
 use Rattle.lrp_tables.proofs.TableMade.{held_times, held_texts}
@@ -157,8 +157,8 @@ module _ (s start : StoreView) (is : IsStore s) (valid : IsStore start) (shape :
     next_of = f.each piece (head_in piece rest list el)
 
     -- the next zone stands in its cell
-    pub taking_fits : Fits out.shape out.period piece
-    taking_fits = subst (λ k. Fits out.shape k piece) (period ∙ sym grown.period) (subst (λ q. Fits q s.period piece) same_shape (piece_fits s is piece next_of))
+    pub taking_fits : FitsCell out.shape out.period piece
+    taking_fits = subst (λ k. FitsCell out.shape k piece) (period ∙ sym grown.period) (subst (λ q. FitsCell q s.period piece) same_shape (piece_fits s is piece next_of))
 
     module _ (new : StoreView) where
       -- the tuples of the next zone

@@ -9,7 +9,7 @@ use Rattle.std.proofs.lemmas.List.{drop_more, take_more, length-take, get_or_def
 use Rattle.std.proofs.lemmas.Bool.{cases_lt}
 use Rattle.lrp_theory.specs.Divides.{Divides}
 use Rattle.lrp_theory.specs.Entries.{node}
-use Rattle.lrp_model.specs.Reach.{greatest, offset, term_magnitudes}
+use Rattle.lrp_model.specs.Reach.{greatest, term_offset, term_magnitudes}
 use Rattle.lrp_model.specs.Rows.{Datum, time, text, IsOf, MeetsBound}
 use Rattle.lrp_model.specs.Satisfaction.{Assignment, Passes, term_value, time_value}
 use Rattle.lrp_model.specs.Texts.{Text, Identifier}
@@ -33,12 +33,12 @@ use Rattle.lrp_systems.specs.Parts.{PartView, Fits, part_reach, system_reach}
 use Rattle.lrp_tables.specs.Calls.{test_period}
 use Rattle.lrp_zone.specs.Zones.{ZoneView, IsMember as InZone, reach_of}
 use Rattle.lrp_zone.specs.Given.{bound_at, IsGivenZone as IsZoneOf, HasNone, AreGiven, MeetsGiven}
-use Rattle.lrp_algebra.specs.declared.comparisons.Side.{Side}
+use Rattle.lrp_algebra.specs.declared.comparisons.ShiftedColumn.{ShiftedColumn}
 use Rattle.lrp_algebra.specs.declared.pattern.Pattern.{Pattern}
 use Rattle.lrp_algebra.specs.Comparisons.{side_value}
 use Rattle.lrp_algebra.specs.Conditions.{condition_reach, IsWithTest, HasNoTest, IsWithZone}
 use Rattle.lrp_algebra.specs.Patterns.{parts_of}
-use Rattle.lrp_algebra.specs.Rows.{IsOfValue, DividesPeriod, HasSmallPeriod, term_times, offsets_reach, bounds_reach, IsShifted, MeetsEach, IsBounded, HasNoBounded, IsWithBounds, HasNoBounds, IsWithValue, HasNoValue, IsWithValues, HasNoValues, IsOfRow, HasNoRow}
+use Rattle.lrp_algebra.specs.Rows.{IsOfValue, DividesPeriod, HasSmallPeriod, term_times, offsets_reach, bounds_reach, IsShifted, MeetsEach, IsZoneOfBounds, HasNoBounded, IsWithBounds, HasNoBounds, IsWithValue, HasNoValue, IsWithValues, HasNoValues, IsOfRow, HasNoRow}
 use Rattle.lrp_algebra.proofs.Compared.{one_divides}
 use Rattle.lrp_algebra.proofs.Conditioned.{zone_to, zone_from, all_places, all_values}
 use Rattle.lrp_algebra.proofs.Found.{all_one, reach_more}
@@ -228,8 +228,8 @@ greatest_in (m ∷ ns) n (suc i, low, e) = by m (greatest ns) n (greatest_in ns 
     by : (a b c : ℕ) → c ≤ b → c ≤ max a b
     by a b c h = omega (arith, h)
 
-pub offset_within : (terms : List Term) (i : ℕ) (item : Term) (t : TimeTerm) → i < length terms → item ≡ get_or terms i item → item ≡ time_term t → nat_abs (offset t) ≤ greatest (flat_map term_magnitudes terms)
-offset_within terms i item t low is e = greatest_in (flat_map term_magnitudes terms) (nat_abs (offset t)) (in_flat term_magnitudes terms i item (nat_abs (offset t)) low is (subst (λ u. Contains (term_magnitudes u) (nat_abs (offset t))) (sym e) (0, omega arith, refl)))
+pub offset_within : (terms : List Term) (i : ℕ) (item : Term) (t : TimeTerm) → i < length terms → item ≡ get_or terms i item → item ≡ time_term t → nat_abs (term_offset t) ≤ greatest (flat_map term_magnitudes terms)
+offset_within terms i item t low is e = greatest_in (flat_map term_magnitudes terms) (nat_abs (term_offset t)) (in_flat term_magnitudes terms i item (nat_abs (term_offset t)) low is (subst (λ u. Contains (term_magnitudes u) (nat_abs (term_offset t))) (sym e) (0, omega arith, refl)))
 
 -- ---- bounds
 
@@ -248,7 +248,7 @@ zip_to_all P Q (x ∷ xs) (y ∷ ys) e f h zero d low = f 0 x y (omega arith) h.
 zip_to_all P Q (x ∷ xs) (y ∷ ys) e f h (suc k) d low = zip_to_all P Q xs ys (omega (arith, e)) (λ i a b l. f (suc i) a b (omega (arith, l))) h.1 k d (omega (arith, low))
 
 -- a bound of sides, as one of their columns
-pub shift_bound : (times : List Identifier) (terms : List Term) (bound new : Bound) (l r : Side) → ((env : Assignment) → side_value l (map env.times times) ≡ node (term_times env terms) bound.left) → ((env : Assignment) → side_value r (map env.times times) ≡ node (term_times env terms) bound.right)
+pub shift_bound : (times : List Identifier) (terms : List Term) (bound new : Bound) (l r : ShiftedColumn) → ((env : Assignment) → side_value l (map env.times times) ≡ node (term_times env terms) bound.left) → ((env : Assignment) → side_value r (map env.times times) ≡ node (term_times env terms) bound.right)
     → l.column ≤ length times → r.column ≤ length times → nat_abs l.plus ≤ greatest (flat_map term_magnitudes terms) → nat_abs r.plus ≤ greatest (flat_map term_magnitudes terms) → new.left ≡ l.column → new.right ≡ r.column → new.most ≡ (bound.most -ℤ l.plus) +ℤ r.plus → IsShifted times terms bound new
 shift_bound times terms bound new l r lv rv lc rc ls rs el er em = record {
   left = subst (λ n. n ≤ length times) (sym el) lc;
@@ -299,7 +299,7 @@ module _ (bounds : List Bound) (columns : ℕ) (rs : List ℤ) (count : length r
   pub bounded_none : HasNone (pos 1) rs bounds → HasNoBounded bounds columns
   bounded_none none = record { none = λ xs e h. none.none xs (met_given xs e h) }
 
-  pub bounded_some : (z : ZoneView) → IsZoneOf (pos 1) rs bounds z → IsBounded bounds columns z
+  pub bounded_some : (z : ZoneView) → IsZoneOf (pos 1) rs bounds z → IsZoneOfBounds bounds columns z
   bounded_some z of = record {
     period = one;
     count = ap length of.residues ∙ count;
@@ -381,7 +381,7 @@ module _ (times : List Identifier) (terms : List Term) (old new : List Bound) (a
   shifted_no fails = record { none = λ env h. fails.none (map env.times times) (length-map times env.times) (shifted_from env h) }
 
   -- a pattern with the zone of the shifted bounds
-  module _ (z : ZoneView) (is : IsBounded new (length times) z) (places : List ℕ) (size : length places ≡ 8) (each : (i : ℕ) → i < 8 → get_or places i 0 ≡ i + 1) (few : length times ≤ 8) (pattern more : Pattern) (known : length pattern.texts ≡ 8)
+  module _ (z : ZoneView) (is : IsZoneOfBounds new (length times) z) (places : List ℕ) (size : length places ≡ 8) (each : (i : ℕ) → i < 8 → get_or places i 0 ≡ i + 1) (few : length times ≤ 8) (pattern more : Pattern) (known : length pattern.texts ≡ 8)
       (w : IsWithZone pattern (record { zone = z; places = take (length times) places }) more) where
     abbrev part : PartView
     part = record { zone = z; places = take (length times) places }

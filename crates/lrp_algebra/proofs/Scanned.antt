@@ -337,6 +337,9 @@ module _ (domain : List Text) (ascends : Ascends domain) (relation : Relation) (
       out_period : out.period ≡ k
       out_period = f.gathering.grown.period ∙ start_period
 
+      pub row_valid : IsStore out
+      row_valid = f.gathering.grown.valid
+
       pub row_times : length times ≡ out.shape.times
       row_times = ap (λ (q : Shape). q.times) (sym (same_shape ∙ start_shape))
 

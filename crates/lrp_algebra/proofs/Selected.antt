@@ -102,7 +102,7 @@ module _ (domain : List Text) (ascends : Ascends domain) (table : Table) (is : I
         (λ env m ns a. record { held = has_at domain ascends table.store times texts times texts places t x env ns a m.has; suits = w.from env ns a (free_suits old none (map env.times times) ns) m.passes })
 
     pub select_stands : CanStandIn places table.store start
-    select_stands = can_stand domain ascends table.store times texts times texts places t x start table.times_named table.texts_named differ_times (ap (λ (q : Shape). q.times) start_shape) (ap (λ (q : Shape). q.texts) start_shape)
+    select_stands = can_stand domain ascends table.store times texts times texts places t x start is table.times_named table.texts_named differ_times (ap (λ (q : Shape). q.times) start_shape) (ap (λ (q : Shape). q.texts) start_shape)
         (subst (λ n. Divides (pos table.store.period) (pos n)) (sym start_period) (divides_abs period (pos table.store.period) one divides)) (λ n. subst (λ m. HasReach table.store (2 ^ 62 - m)) (sym start_period) high_reach)
 
     pub select_fits : All (Fits start.shape.times start.period) (parts_of pattern)

@@ -94,8 +94,9 @@ module _ (domain : List Text) (ascends : Ascends domain) (s : StoreView) (times 
         subst (λ xs. InStore s xs (map (number_at ns) places.texts)) (sym (values_at times all_times places.times t env.times)) (subst (λ ms. InStore s (map env.times times) ms) e h.2)
 
   -- the columns can stand at the places
-  pub can_stand : (out : StoreView) → length times ≡ s.shape.times → length texts ≡ s.shape.texts → AllPairs ◌≢◌ times → out.shape.times ≡ length all_times → out.shape.texts ≡ length all_texts → Divides (pos s.period) (pos out.period) → (s.period ≢ out.period → HasReach s (2 ^ 62 - out.period)) → CanStandIn places s out
-  can_stand out et ex differ at ax divides reach = record {
+  pub can_stand : (out : StoreView) → IsStore s → length times ≡ s.shape.times → length texts ≡ s.shape.texts → AllPairs ◌≢◌ times → out.shape.times ≡ length all_times → out.shape.texts ≡ length all_texts → Divides (pos s.period) (pos out.period) → (s.period ≢ out.period → HasReach s (2 ^ 62 - out.period)) → CanStandIn places s out
+  can_stand out is et ex differ at ax divides reach = record {
+    valid = is;
     count = places_count times all_times places.times t ∙ et;
     times = subst (λ n. ArePlaces places.times n) (sym at) (places_are times all_times places.times t differ);
     texts = record { count = places_count texts all_texts places.texts x ∙ ex; among = subst (λ n. All (λ p. (1 ≤ p) × (p ≤ n)) places.texts) (sym ax) (among_all all_texts texts places.texts x) };

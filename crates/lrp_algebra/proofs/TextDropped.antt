@@ -1,5 +1,5 @@
 -- The tuples of a zone and of a table without one data column.
-use Rattle.std.proofs.Common.{◌≡◌, ℕ, ◌+◌, ◌-◌, ◌<◌, ◌≤◌, List, [], ◌++◌, length, take, Some, refl, sym, ap, subst, ◌∙◌, arith, map, get_or, Contains, inl, inr}
+use Rattle.std.proofs.Common.{◌≡◌, ℕ, ◌+◌, ◌-◌, ◌<◌, ◌≤◌, ◌^◌, List, [], ◌++◌, length, take, Some, refl, sym, ap, subst, ◌∙◌, arith, map, get_or, Contains, inl, inr}
 use Rattle.std.specs.Prelude.{ℤ, All, AllPairs, ◌≢◌, slice_get}
 use Rattle.std.specs.List.{insert, remove}
 use Rattle.std.specs.FinMap as finite
@@ -15,9 +15,10 @@ use Rattle.lrp_store.specs.Growing.{IsAdded}
 use Rattle.lrp_store.specs.Tables.{InTable, AreTexts, AreNumbered}
 use Rattle.lrp_tables.specs.declared.table.Table.{Table}
 use Rattle.lrp_store.proofs.Grown.{grown_same}
+use Rattle.lrp_store.proofs.Held.{new_store, other_spare}
 use Rattle.lrp_store.proofs.Aligning.{nothing_held}
 use Rattle.lrp_algebra.specs.Columns.{IsCut}
-use Rattle.lrp_tables.specs.Pieces.{InPiece, Fits}
+use Rattle.lrp_tables.specs.Pieces.{InPiece, FitsCell}
 use Rattle.lrp_tables.specs.Passes.{IsMadeFrom}
 use Rattle.lrp_algebra.specs.Tuples.{IsWithoutText, IsStoreWithoutName, IsStoreWithoutText}
 use Rattle.lrp_tables.specs.Tables.{Has}
@@ -32,7 +33,7 @@ use Rattle.lrp_tables.proofs.Passing.{nothing_at}
 use Rattle.lrp_algebra.proofs.TimeDropped.{spare_same, same_spare}
 
 -- the zone in the cell without the text has what is left of the tuples
-module _ (piece : Piece) (place size : ℕ) (s : StoreView) (is : IsStore s) (low : place ≤ s.shape.texts) (short : s.shape.texts < 8) (fits : Fits (record { times = s.shape.times; texts = s.shape.texts + 1 }) s.period piece) where
+module _ (piece : Piece) (place size : ℕ) (s : StoreView) (is : IsStore s) (low : place ≤ s.shape.texts) (short : s.shape.texts < 8) (fits : FitsCell (record { times = s.shape.times; texts = s.shape.texts + 1 }) s.period piece) where
   -- what is left of the tuples of the zone
   abbrev pub Left : List ℤ → List ℕ → Type 0
   Left = IsMadeFrom (IsWithoutText place size) (InPiece (s.shape.texts + 1) piece)
@@ -99,12 +100,12 @@ module _ (piece : Piece) (place size : ℕ) (s : StoreView) (is : IsStore s) (lo
     }
 
 -- the zone fits the store with one data column fewer
-pub fits_wider : (s out : StoreView) (place : ℕ) → place < s.shape.texts → out.shape ≡ record { times = s.shape.times; texts = s.shape.texts - 1 } → out.period ≡ s.period → (piece : Piece) → Fits s.shape s.period piece → Fits (record { times = out.shape.times; texts = out.shape.texts + 1 }) out.period piece
+pub fits_wider : (s out : StoreView) (place : ℕ) → place < s.shape.texts → out.shape ≡ record { times = s.shape.times; texts = s.shape.texts - 1 } → out.period ≡ s.period → (piece : Piece) → FitsCell s.shape s.period piece → FitsCell (record { times = out.shape.times; texts = out.shape.texts + 1 }) out.period piece
 fits_wider s out place low shape period piece fits =
     let e : out.shape.texts ≡ s.shape.texts - 1 = ap (λ h. h.texts) shape in
     let texts : s.shape.texts ≡ out.shape.texts + 1 = omega arith in
-    subst (λ k. Fits (record { times = out.shape.times; texts = out.shape.texts + 1 }) k piece) (sym period)
-    (subst (λ m. Fits (record { times = m; texts = out.shape.texts + 1 }) s.period piece) (sym (ap (λ h. h.times) shape)) (subst (λ n. Fits (record { times = s.shape.times; texts = n }) s.period piece) texts fits))
+    subst (λ k. FitsCell (record { times = out.shape.times; texts = out.shape.texts + 1 }) k piece) (sym period)
+    (subst (λ m. FitsCell (record { times = m; texts = out.shape.texts + 1 }) s.period piece) (sym (ap (λ h. h.times) shape)) (subst (λ n. FitsCell (record { times = s.shape.times; texts = n }) s.period piece) texts fits))
 
 -- a number below the size of the domain is that of a text
 pub number_text : (domain : List Text) (n : ℕ) → n < length domain → (t : Text) × Contains domain t × (slice_get domain n ≡ Some t)
@@ -212,14 +213,21 @@ module _ (domain : List Text) (name : Identifier) (old new : Table) (times : new
       numbered = λ n. numbered_by new.store is_new domain (λ xs ns h. absurd (nothing_held new.store empty xs ns h));
     }
 
+-- a store of another one's shape and period that has no cells is a store
+emptied_valid : (old new : StoreView) → IsStore old → new.shape ≡ old.shape → new.period ≡ old.period → new.tables ≡ finite.empty → IsStore new
+emptied_valid old new is shape period empty =
+    subst IsStore (sym (ap (λ t. record new { tables = t }) empty))
+    (other_spare (record { shape = new.shape; period = new.period; tables = finite.empty; spare = 0 }) new.spare
+    (new_store new.shape new.period (subst (λ q. q.times ≤ 8) (sym shape) is.times) (subst (λ q. q.texts ≤ 8) (sym shape) is.texts) (subst (λ n. 0 < n) (sym period) is.period_low) (subst (λ n. n ≤ 2 ^ 62) (sym period) is.period_high)))
+
 module _ (domain : List Text) (name : Identifier) (old : Table) (differ : AllPairs ◌≢◌ (old.vars.times ++ old.vars.texts)) where
   -- each has what is left of the assignments
-  pub either_dropped : (new : Table) → new.vars.times ≡ old.vars.times → new.vars.texts ≡ without name old.vars.texts → IsStoreWithoutName domain name old new.store → IsStore old.store → IsStore new.store → IsTextDropped domain name old new
-  either_dropped new times texts h is_old is_new = elim h [
-    | inl g ↦ texts_dropped domain name old new times texts differ is_old is_new g.0 g.1 (length domain) refl g.2
+  pub either_dropped : (new : Table) → new.vars.times ≡ old.vars.times → new.vars.texts ≡ without name old.vars.texts → IsStoreWithoutName domain name old new.store → IsStore old.store → IsTextDropped domain name old new
+  either_dropped new times texts h is_old = elim h [
+    | inl g ↦ texts_dropped domain name old new times texts differ is_old g.2.valid g.0 g.1 (length domain) refl g.2
     | inr g ↦ elim g.1 [
-      | inl k ↦ texts_copied domain name old new times texts differ is_old is_new g.0 k.0 k.1
-      | inr k ↦ texts_emptied domain name old new times texts differ is_old is_new g.0 k.1 k.2 k.3
+      | inl k ↦ texts_copied domain name old new times texts differ is_old (subst IsStore (sym k.0) (other_spare old.store new.store.spare is_old)) g.0 k.0 k.1
+      | inr k ↦ texts_emptied domain name old new times texts differ is_old (emptied_valid old.store new.store is_old k.0 k.1 k.2) g.0 k.1 k.2 k.3
     ]
   ]
 

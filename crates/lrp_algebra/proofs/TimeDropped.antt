@@ -11,9 +11,10 @@ use Rattle.lrp_zone.specs.Zones.{ZoneView, IsZone, IsMember, columns_of, reach_o
 use Rattle.lrp_zone.specs.Columns.{IsDropped}
 use Rattle.lrp_store.specs.Stores.{StoreView, IsStore, InStore, HasReach, zone_of, tables_at}
 use Rattle.lrp_store.specs.Tables.{InTable, AreNumbered}
+use Rattle.lrp_store.proofs.Held.{other_spare}
 use Rattle.lrp_tables.specs.declared.table.Table.{Table}
 use Rattle.lrp_algebra.specs.Columns.{IsCut}
-use Rattle.lrp_tables.specs.Pieces.{InPiece, Fits}
+use Rattle.lrp_tables.specs.Pieces.{InPiece, FitsCell}
 use Rattle.lrp_tables.specs.Passes.{IsMadeFrom}
 use Rattle.lrp_algebra.specs.Tuples.{IsWithoutTime, IsStoreWithoutTime}
 use Rattle.lrp_tables.specs.Tables.{Has}
@@ -26,7 +27,7 @@ use Rattle.lrp_algebra.proofs.Cuts.{cut_front, cut_padded}
 use Rattle.lrp_algebra.proofs.Inserts.{length_insert}
 
 -- the zone without the column has what is left of the tuples
-module _ (piece : Piece) (place : ℕ) (s : StoreView) (is : IsStore s) (low : place ≤ s.shape.times) (short : s.shape.times < 8) (fits : Fits (record { times = s.shape.times + 1; texts = s.shape.texts }) s.period piece)
+module _ (piece : Piece) (place : ℕ) (s : StoreView) (is : IsStore s) (low : place ≤ s.shape.times) (short : s.shape.times < 8) (fits : FitsCell (record { times = s.shape.times + 1; texts = s.shape.texts }) s.period piece)
     (w : ZoneView) (zone : IsZone w) (d : IsDropped piece.zone (place + 1) w) (residues : List ℤ) (cut : IsCut (pos 0) place piece.cell.residues residues) where
   -- places are counted from 0, columns from 1
   before : (place + 1) - 1 ≡ place
@@ -83,12 +84,12 @@ pub spare_reach : (s : StoreView) (n high : ℕ) → HasReach s high → HasReac
 spare_reach s n high r = record { each = λ c t h. r.each c t h }
 
 -- the zone fits the store with one time column fewer
-pub fits_longer : (s out : StoreView) (place : ℕ) → place < s.shape.times → out.shape ≡ record { times = s.shape.times - 1; texts = s.shape.texts } → out.period ≡ s.period → (piece : Piece) → Fits s.shape s.period piece → Fits (record { times = out.shape.times + 1; texts = out.shape.texts }) out.period piece
+pub fits_longer : (s out : StoreView) (place : ℕ) → place < s.shape.times → out.shape ≡ record { times = s.shape.times - 1; texts = s.shape.texts } → out.period ≡ s.period → (piece : Piece) → FitsCell s.shape s.period piece → FitsCell (record { times = out.shape.times + 1; texts = out.shape.texts }) out.period piece
 fits_longer s out place low shape period piece fits =
     let e : out.shape.times ≡ s.shape.times - 1 = ap (λ h. h.times) shape in
     let times : s.shape.times ≡ out.shape.times + 1 = omega arith in
-    subst (λ k. Fits (record { times = out.shape.times + 1; texts = out.shape.texts }) k piece) (sym period)
-    (subst (λ m. Fits (record { times = out.shape.times + 1; texts = m }) s.period piece) (sym (ap (λ h. h.texts) shape)) (subst (λ n. Fits (record { times = n; texts = s.shape.texts }) s.period piece) times fits))
+    subst (λ k. FitsCell (record { times = out.shape.times + 1; texts = out.shape.texts }) k piece) (sym period)
+    (subst (λ m. FitsCell (record { times = out.shape.times + 1; texts = m }) s.period piece) (sym (ap (λ h. h.texts) shape)) (subst (λ n. FitsCell (record { times = n; texts = s.shape.texts }) s.period piece) times fits))
 
 -- a table without one time column, or its copy where there is none of the name
 module _ (name : Identifier) (old new : Table) (times : new.vars.times ≡ without name old.vars.times) (texts : new.vars.texts ≡ old.vars.texts) (differ : AllPairs ◌≢◌ (old.vars.times ++ old.vars.texts)) (is_old : IsStore old.store) (is_new : IsStore new.store) where
@@ -164,10 +165,10 @@ StoreOf name old new = ((place : ℕ) × (slice_get old.vars.times place ≡ Som
 
 module _ (name : Identifier) (old : Table) (differ : AllPairs ◌≢◌ (old.vars.times ++ old.vars.texts)) where
   -- either has what is left of the assignments
-  pub either_dropped : (new : Table) → new.vars.times ≡ without name old.vars.times → new.vars.texts ≡ old.vars.texts → StoreOf name old new.store → IsStore old.store → IsStore new.store → IsTimeDropped name old new
-  either_dropped new times texts h is_old is_new = elim h [
-    | inl g ↦ table_dropped name old new times texts differ is_old is_new g.0 g.1 g.2
-    | inr g ↦ table_copied name old new times texts differ is_old is_new g.0 g.1
+  pub either_dropped : (new : Table) → new.vars.times ≡ without name old.vars.times → new.vars.texts ≡ old.vars.texts → StoreOf name old new.store → IsStore old.store → IsTimeDropped name old new
+  either_dropped new times texts h is_old = elim h [
+    | inl g ↦ table_dropped name old new times texts differ is_old g.2.valid g.0 g.1 g.2
+    | inr g ↦ table_copied name old new times texts differ is_old (subst IsStore (sym g.1) (other_spare old.store new.store.spare is_old)) g.0 g.1
   ]
 
   -- a column for each name

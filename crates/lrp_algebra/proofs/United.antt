@@ -125,12 +125,12 @@ module _ (domain : List Text) (ascends : Ascends domain) (step : ℤ) (left righ
   start_shape = ap (λ (s : StoreView). s.shape) fresh
 
   -- both can stand among the columns
-  pub left_stands : CanStandIn lp left.store start
-  left_stands = can_stand domain ascends left.store left.vars.times left.vars.texts times texts lp lt lx start left.times_named left.texts_named (pairs_left ◌≢◌ left.vars.times left.vars.texts left.names_differ)
+  pub left_stands : IsStore left.store → CanStandIn lp left.store start
+  left_stands is = can_stand domain ascends left.store left.vars.times left.vars.texts times texts lp lt lx start is left.times_named left.texts_named (pairs_left ◌≢◌ left.vars.times left.vars.texts left.names_differ)
       (ap (λ (q : Shape). q.times) start_shape) (ap (λ (q : Shape). q.texts) start_shape) (subst (λ k. Divides (pos left.store.period) (pos k)) (sym start_period) (divides_abs step _ tables.low tables.left_period)) (λ n. subst (λ k. HasReach left.store (2 ^ 62 - k)) (sym start_period) tables.left_reach)
 
-  right_of : (out : StoreView) → out.shape ≡ shape → out.period ≡ period → CanStandIn rp right.store out
-  right_of out e k = can_stand domain ascends right.store right.vars.times right.vars.texts times texts rp rt rx out right.times_named right.texts_named (pairs_left ◌≢◌ right.vars.times right.vars.texts right.names_differ)
+  right_of : (out : StoreView) → IsStore right.store → out.shape ≡ shape → out.period ≡ period → CanStandIn rp right.store out
+  right_of out is e k = can_stand domain ascends right.store right.vars.times right.vars.texts times texts rp rt rx out is right.times_named right.texts_named (pairs_left ◌≢◌ right.vars.times right.vars.texts right.names_differ)
       (ap (λ (q : Shape). q.times) e) (ap (λ (q : Shape). q.texts) e) (subst (λ p. Divides (pos right.store.period) (pos p)) (sym k) (divides_abs step _ tables.low tables.right_period)) (λ n. subst (λ p. HasReach right.store (2 ^ 62 - p)) (sym k) tables.right_reach)
 
   to_left : (xs : List ℤ) (ns : List ℕ) → IsOver start.shape size OfLeft xs ns → United xs ns
@@ -167,11 +167,14 @@ module _ (domain : List Text) (ascends : Ascends domain) (step : ℤ) (left righ
       mid_shape : mid.shape ≡ shape
       mid_shape = (half (2 ^ 62 - period) tables.left_reach).grown.shape ∙ start_shape
 
+      pub mid_valid : IsStore mid
+      mid_valid = (half (2 ^ 62 - period) tables.left_reach).grown.valid
+
       mid_period : mid.period ≡ period
       mid_period = (half (2 ^ 62 - period) tables.left_reach).grown.period ∙ start_period
 
-      pub right_stands : CanStandIn rp right.store mid
-      right_stands = right_of mid mid_shape mid_period
+      pub right_stands : IsStore right.store → CanStandIn rp right.store mid
+      right_stands is = right_of mid is mid_shape mid_period
 
       to_right : (xs : List ℤ) (ns : List ℕ) → IsOver mid.shape size OfRight xs ns → United xs ns
       to_right xs ns h = subst (λ (q : Shape). IsOver q size OfBoth xs ns) mid_shape (record { times_count = h.times_count; texts_count = h.texts_count; known = h.known; is = inr h.is })

@@ -5,10 +5,10 @@ use Rattle.lrp_model.specs.Satisfaction.{Compares}
 use Rattle.lrp_model.specs.declared.relations.Bound.{Bound}
 use Rattle.lrp_model.specs.declared.formulas.Op.{Op}
 use Rattle.lrp_zone.specs.Zones.{ZoneView, IsMember, columns_of, reach_of}
-use Rattle.lrp_algebra.specs.declared.comparisons.Side.{Side}
+use Rattle.lrp_algebra.specs.declared.comparisons.ShiftedColumn.{ShiftedColumn}
 
 -- the value of a side
-abbrev pub side_value : Side → List ℤ → ℤ
+abbrev pub side_value : ShiftedColumn → List ℤ → ℤ
 side_value side xs = node xs side.column +ℤ side.plus
 
 -- the bounds hold exactly where the left value compares with the right one and the number
@@ -20,7 +20,7 @@ pub record AreBounds (op : Op) (left right : ℕ) (most : ℤ) (bounds : List Bo
   pub from : (xs : List ℤ) → Compares op (node xs left) (node xs right +ℤ most) → All (λ b. (node xs b.left -ℤ node xs b.right) ≤ℤ b.most) bounds
 
 -- the zone holds the tuples of so many times whose sides compare
-pub record IsCompared (left : Side) (op : Op) (right : Side) (columns : ℕ) (z : ZoneView) : Type 0 where
+pub record IsCompared (left : ShiftedColumn) (op : Op) (right : ShiftedColumn) (columns : ℕ) (z : ZoneView) : Type 0 where
   pub period : z.period ≡ 1
   pub count : columns_of z ≡ columns
   pub to : (xs : List ℤ) → IsMember z xs → Compares op (side_value left xs) (side_value right xs)
@@ -28,5 +28,5 @@ pub record IsCompared (left : Side) (op : Op) (right : Side) (columns : ℕ) (z 
   pub reach : reach_of z ≤ 1 + nat_abs (left.plus -ℤ right.plus)
 
 -- no tuple of so many times has sides that compare
-pub record HasNoCompared (left : Side) (op : Op) (right : Side) (columns : ℕ) : Type 0 where
+pub record HasNoCompared (left : ShiftedColumn) (op : Op) (right : ShiftedColumn) (columns : ℕ) : Type 0 where
   pub none : (xs : List ℤ) → length xs ≡ columns → Compares op (side_value left xs) (side_value right xs) → ⊥

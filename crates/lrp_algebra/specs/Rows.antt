@@ -1,7 +1,7 @@
 -- What the rows of a relation ask of the values of an atom's terms.
 use Rattle.std.specs.Prelude.{◌≡◌, ℕ, ℤ, ◌+◌, ◌*◌, ◌<◌, ◌≤◌, ◌^◌, ◌≤ℤ◌, ◌-ℤ◌, pos, nat_abs, List, All, map, flat_map, length}
 use Rattle.std.specs.List.{AllByRecursion}
-use Rattle.lrp_theory.specs.Divides.{Divides, IsMember}
+use Rattle.lrp_theory.specs.Divides.{Divides, IsPointMember}
 use Rattle.lrp_theory.specs.Entries.{node}
 use Rattle.lrp_model.specs.Reach.{greatest, term_magnitudes}
 use Rattle.lrp_model.specs.Rows.{Datum, time, text, times_of, IsOf, IsInRow, MeetsBound}
@@ -21,7 +21,7 @@ use Rattle.lrp_algebra.specs.declared.pattern.Pattern.{Pattern}
 
 -- the datum is of the value: a member of the point, or the constant
 abbrev pub IsOfValue : Value → Datum → Type 0
-IsOfValue (Point at) (time x) = IsMember at.offset at.period x
+IsOfValue (Point at) (time x) = IsPointMember at.offset at.period x
 IsOfValue (Const constant) (text t) = t ≡ constant
 IsOfValue _ _ = ⊥
 
@@ -57,7 +57,7 @@ abbrev pub MeetsEach : List Bound → List ℤ → Type 0
 MeetsEach bounds xs = All (λ b. (node xs b.left -ℤ node xs b.right) ≤ℤ b.most) bounds
 
 -- the zone holds the tuples of so many times that meet the bounds
-pub record IsBounded (bounds : List Bound) (columns : ℕ) (z : ZoneView) : Type 0 where
+pub record IsZoneOfBounds (bounds : List Bound) (columns : ℕ) (z : ZoneView) : Type 0 where
   pub period : z.period ≡ 1
   pub count : columns_of z ≡ columns
   pub to : (xs : List ℤ) → InZone z xs → MeetsEach bounds xs

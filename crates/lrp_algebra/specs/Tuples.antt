@@ -3,7 +3,7 @@ use Rattle.std.specs.Prelude.{◌≡◌, ◌⊎◌, ℕ, ℤ, ◌+◌, ◌*◌, 
 use Rattle.std.specs.FinMap as finite
 use Rattle.std.specs.List.{insert}
 use Rattle.lrp_model.specs.Texts.{Identifier, Text}
-use Rattle.lrp_store.specs.Stores.{StoreView}
+use Rattle.lrp_store.specs.Stores.{StoreView, IsStore}
 use Rattle.lrp_tables.specs.declared.table.Table.{Table}
 use Rattle.lrp_tables.specs.Passes.{IsResult}
 
@@ -22,12 +22,14 @@ pub record IsWithoutText (place size : ℕ) (old_times : List ℤ) (old_texts : 
 
 -- the tuples of old without the time at a place
 pub record IsStoreWithoutTime (place : ℕ) (old new : StoreView) : Type 0 where
+  pub valid : IsStore new
   pub times : new.shape.times + 1 ≡ old.shape.times
   pub texts : new.shape.texts ≡ old.shape.texts
   pub made : IsResult (IsWithoutTime place) (λ high. 2 * high) old new
 
 -- the tuples of old without the text at a place, where its number is below the size
 pub record IsStoreWithoutText (place size : ℕ) (old new : StoreView) : Type 0 where
+  pub valid : IsStore new
   pub times : new.shape.times ≡ old.shape.times
   pub texts : new.shape.texts + 1 ≡ old.shape.texts
   pub made : IsResult (IsWithoutText place size) (λ high. high) old new

@@ -1,6 +1,7 @@
 // The columns that steps make.
 ghost use Rattle.std.specs.Prelude.{◌≡◌, ◌≤◌, ◌^◌, ◌++◌, ◌≤ℤ◌, pos, nat_abs, length, flat_map, IfOk, OnOk};
 ghost use Rattle.std.specs.FinMap as finite;
+ghost use Rattle.lrp_store.specs.Stores.{IsStore};
 ghost use Rattle.lrp_tables.specs.Columns.{head_times, head_texts, joint, names_of_time, names_of_data, times_of_test, texts_of_test, test_times, test_names, times_of_term, texts_of_term, scan_times, scan_texts};
 
 use lrp_model::{DataTerm, Head, List, Memory, Name, Shape, Term, Test, TimeTerm};
@@ -60,7 +61,7 @@ pub fn store_over(alloc: Global, vars: &Vars, period: i64) -> Store
     requires texts { length vars.now.texts ≤ 8 }
     requires low { pos 1 ≤ℤ period }
     requires high { period ≤ℤ pos (2 ^ 62) }
-    ensures { result ≡ record {
+    ensures made { result ≡ record {
       shape = record {
         times = length vars.now.times;
         texts = length
@@ -70,6 +71,7 @@ pub fn store_over(alloc: Global, vars: &Vars, period: i64) -> Store
       tables = finite.empty;
       spare = 0;
     } }
+    ensures valid { IsStore result }
 {
     let shape = Shape {
         times: vars.times.len() as u8,

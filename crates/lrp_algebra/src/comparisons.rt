@@ -1,6 +1,6 @@
 // The zones of comparisons and of points.
 ghost use Rattle.std.specs.Prelude.{◌≡◌, ◌+◌, ◌<◌, ◌≤◌, ◌^◌, ◌↔◌, ◌+ℤ◌, ◌-ℤ◌, ◌≤ℤ◌, ◌<ℤ◌, ℤ, List, pos, nat_abs, neg_ℤ, length, IfSome, IfNone};
-ghost use Rattle.lrp_theory.specs.Divides.{Divides, IsMember};
+ghost use Rattle.lrp_theory.specs.Divides.{Divides, IsPointMember};
 ghost use Rattle.lrp_theory.specs.Entries.{node};
 ghost use Rattle.lrp_model.specs.Satisfaction.{Compares};
 ghost use Rattle.lrp_zone.specs.Zones.{IsResidue};
@@ -11,13 +11,13 @@ use lrp_zone::Zone;
 
 /// The value of a time column, counted from 1, and an offset; column 0 is the number zero.
 #[derive(Clone, Copy, PartialEq, Eq)]
-pub struct Side {
+pub struct ShiftedColumn {
     pub column: usize,
     pub plus: i64,
 }
 
 /// The tuples of so many times whose sides compare, or `None` where there are none.
-pub fn compared(left: &Side, op: Op, right: &Side, columns: usize) -> Option<Zone>
+pub fn compared(left: &ShiftedColumn, op: Op, right: &ShiftedColumn, columns: usize) -> Option<Zone>
     requires few { columns ≤ 8 }
     requires left { left.now.column ≤ columns }
     requires right { right.now.column ≤ columns }
@@ -76,8 +76,9 @@ pub fn shifted(offset: i64, plus: i64, period: i64) -> i64
     requires low { pos 1 ≤ℤ period }
     requires high { period ≤ℤ pos (2 ^ 62) }
     ensures residue { IsResidue (nat_abs period) result }
-    ensures to { (x : ℤ) → IsMember result period x → IsMember offset period (x +ℤ plus) }
-    ensures from { (x : ℤ) → IsMember offset period (x +ℤ plus) → IsMember result period x }
+    ensures to { (x : ℤ) → IsPointMember result period x → IsPointMember offset period (x +ℤ plus) }
+    ensures from { (x : ℤ) → IsPointMember offset period (x +ℤ plus)
+        → IsPointMember result period x }
 {
     let from = offset.rem_euclid(period);
     let less = plus.rem_euclid(period);

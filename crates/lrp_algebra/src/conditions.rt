@@ -1,6 +1,6 @@
 // Tests as conditions of a pattern.
 ghost use Rattle.std.specs.Prelude.{◌≡◌, ◌+◌, ◌<◌, ◌≤◌, ◌^◌, ◌++◌, ◌-ℤ◌, ◌≤ℤ◌, ℕ, List as ListOf, pos, nat_abs, length, slice_index, IfOk, MatchOption};
-ghost use Rattle.lrp_model.specs.Reach.{offset, test_reach};
+ghost use Rattle.lrp_model.specs.Reach.{term_offset, test_reach};
 ghost use Rattle.lrp_model.specs.Texts.{Text, Identifier};
 ghost use Rattle.lrp_model.specs.declared.formulas.Test.TheVariants.{Compare, Member};
 ghost use Rattle.lrp_tables.specs.Columns.{names_of_time};
@@ -25,7 +25,7 @@ pub fn with_comparison(
     requires known { length pattern.texts ≡ 8 }
     requires left { AreNamesAmong (names_of_time left.now) times.now }
     requires right { AreNamesAmong (names_of_time right.now) times.now }
-    requires reach { 1 + nat_abs (offset left.now -ℤ offset right.now) ≤ 2 ^ 62 }
+    requires reach { 1 + nat_abs (term_offset left.now -ℤ term_offset right.now) ≤ 2 ^ 62 }
     ensures { IfOk result (λ found. (domain : ListOf Text) (texts : ListOf Identifier)
         → MatchOption found (HasNoTest domain times.now texts
         (Compare left.now op right.now) pattern)

@@ -1,8 +1,9 @@
 // One data column fewer: some text of the domain completes what is left.
 ghost use Rattle.std.specs.Prelude.{◌≡◌, ◌+◌, ◌-◌, ◌<◌, ◌≤◌, ◌^◌, OnOk, IfOk};
-ghost use Rattle.lrp_zone.specs.Zones.{reach_of};
+ghost use Rattle.lrp_zone.specs.Zones.{IsZone, reach_of};
 ghost use Rattle.lrp_store.specs.Growing.{IsAdded};
-ghost use Rattle.lrp_tables.specs.Pieces.{Fits, InPiece};
+ghost use Rattle.lrp_store.specs.Stores.{IsStore};
+ghost use Rattle.lrp_tables.specs.Pieces.{FitsCell, InPiece};
 ghost use Rattle.lrp_tables.specs.Passes.{IsMadeFrom};
 ghost use Rattle.lrp_algebra.specs.Tuples.{IsWithoutText, IsStoreWithoutName, IsStoreWithoutText};
 ghost use Rattle.lrp_algebra.specs.Tables.{IsTextDropped};
@@ -29,14 +30,13 @@ pub fn drop_data(
         texts: without(alloc, &table.vars.texts, name)?,
     };
     let store = without_name(alloc, table, name, domain)?;
-    table.store.shape();
-    store.shape();
     Ok(Table { vars, store })
 }
 
 // The tuples without the text of a name, where a column has it.
 fn without_name(alloc: Global, table: &Table, name: &Name, domain: &Domain) -> Result<Store, Memory>
-    ensures { IfOk result (IsStoreWithoutName domain.now name.now table.now) }
+    ensures made { IfOk result (IsStoreWithoutName domain.now name.now table.now) }
+    ensures valid { IsStore table.now.store }
 {
     let shape = table.store.shape();
     let size = domain.len();
@@ -58,7 +58,6 @@ fn without_text(alloc: Global, store: &Store, place: usize, size: u32) -> Result
         texts: shape.texts - 1,
     };
     let mut out = Store::new(alloc, shape, store.period());
-    out.shape();
     for piece in Pieces::of(store) {
         match add_without_text(&piece, place, size, &mut out) {
             Ok(()) => {}
@@ -77,16 +76,19 @@ fn add_without_text(
     size: u32,
     out: &mut Store,
 ) -> Result<(), StoreFault>
+    requires valid { IsStore out.old }
+    requires zone { IsZone piece.now.zone }
     requires place { place ≤ out.old.shape.texts }
     requires wide { out.old.shape.texts < 8 }
-    requires fits { Fits (record { times = out.old.shape.times; texts = out.old.shape.texts + 1 })
+    requires fits { FitsCell (record {
+      times = out.old.shape.times;
+      texts = out.old.shape.texts + 1;
+    })
         out.old.period piece.now }
     ensures ok { OnOk result (IsAdded (IsMadeFrom (IsWithoutText place size)
         (InPiece (out.old.shape.texts + 1) piece.now)) (2 ^ 32 - 1)
         (reach_of piece.now.zone) out.old out.new) }
 {
-    out.shape();
-    piece.zone.columns();
     if piece.cell.texts[place] >= size {
         return Ok(());
     }

@@ -1,6 +1,6 @@
 // Equal texts as conditions of a pattern.
 ghost use Rattle.std.specs.Prelude.{◌≡◌, ◌-◌, ◌<◌, ◌≤◌, length, List as ListOf, IfOk, MatchOption};
-ghost use Rattle.lrp_model.specs.Texts.{Identifier};
+ghost use Rattle.lrp_model.specs.Texts.{Ascends, Identifier};
 ghost use Rattle.lrp_model.specs.declared.formulas.Test.TheVariants.{Equal};
 ghost use Rattle.lrp_model.specs.declared.formulas.DataTerm.TheVariants.{Const as constant};
 ghost use Rattle.lrp_tables.specs.Columns.{names_of_data};
@@ -98,10 +98,10 @@ fn with_text(
     requires low { 0 < column }
     requires high { column ≤ 8 }
     requires known { length pattern.texts ≡ 8 }
+    requires ascends { Ascends domain.now }
     ensures { IfOk result (λ found. MatchOption found (HasNoText domain.now pattern column text.now)
         (IsWithText domain.now pattern column text.now)) }
 {
-    domain.len();
     let Some(number) = domain.find(text) else {
         return Ok(None);
     };

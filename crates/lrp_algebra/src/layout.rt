@@ -1,4 +1,5 @@
-// Operands of steps.
+// Operands of steps, and what is made of them.
+use crate::pattern::Pattern;
 use lrp_store::Store;
 use lrp_tables::Places;
 
@@ -7,4 +8,12 @@ use lrp_tables::Places;
 pub struct Operand<'a> {
     pub store: &'a Store,
     pub places: &'a Places,
+}
+
+/// The tuples that a pattern asks for with each text below a size, in at most so many cells.
+#[derive(Clone, Copy)]
+pub struct Wanted<'a> {
+    pub pattern: &'a Pattern,
+    pub size: u32,
+    pub cap: u32,
 }

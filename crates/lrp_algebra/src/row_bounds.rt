@@ -6,9 +6,9 @@ ghost use Rattle.lrp_model.specs.Satisfaction.{Assignment};
 ghost use Rattle.lrp_tables.specs.Columns.{times_of_term};
 ghost use Rattle.lrp_tables.specs.Tables.{AreNamesAmong};
 ghost use Rattle.lrp_algebra.specs.Comparisons.{side_value};
-ghost use Rattle.lrp_algebra.specs.Rows.{term_times, offsets_reach, bounds_reach, IsShifted, IsBounded, HasNoBounded, IsWithBounds, HasNoBounds};
+ghost use Rattle.lrp_algebra.specs.Rows.{term_times, offsets_reach, bounds_reach, IsShifted, IsZoneOfBounds, HasNoBounded, IsWithBounds, HasNoBounds};
 
-use crate::comparisons::Side;
+use crate::comparisons::ShiftedColumn;
 use crate::conditions::counted;
 use crate::pattern::Pattern;
 use crate::sides::side_of;
@@ -56,7 +56,7 @@ fn bounded(bounds: &[Bound], columns: usize) -> Option<Zone>
     requires between { All (λ b. (b.left ≤ columns) × (b.right ≤ columns)) bounds.now }
     requires small { All (λ b. nat_abs b.most ≤ 2 ^ 62) bounds.now }
     ensures none { IfNone result (HasNoBounded bounds.now columns) }
-    ensures some { IfSome result (IsBounded bounds.now columns) }
+    ensures some { IfSome result (IsZoneOfBounds bounds.now columns) }
 {
     let residues = [0; 8];
     Zone::of(1, &residues[..columns], bounds)
@@ -79,7 +79,7 @@ fn shifted_bound(bound: &Bound, terms: &List<Term>, times: &List<Name>) -> Bound
 }
 
 // The value of the time column with this number among the terms, counted from 1; zero is the number zero.
-fn side_at(terms: &List<Term>, place: u8, times: &List<Name>) -> Side
+fn side_at(terms: &List<Term>, place: u8, times: &List<Name>) -> ShiftedColumn
     requires few { length times.now ≤ 8 }
     requires names { AreNamesAmong (flat_map times_of_term terms.now) times.now }
     ensures value { (env : Assignment) → side_value result (map env.times times.now)
@@ -96,5 +96,5 @@ fn side_at(terms: &List<Term>, place: u8, times: &List<Name>) -> Side
             left = left.saturating_sub(1);
         }
     }
-    Side { column: 0, plus: 0 }
+    ShiftedColumn { column: 0, plus: 0 }
 }

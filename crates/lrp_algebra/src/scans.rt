@@ -2,6 +2,7 @@
 ghost use Rattle.std.specs.Prelude.{◌≡◌, ◌≢◌, ◌+◌, ◌≤◌, ◌^◌, pos, length, flat_map, AllPairs, OnOk, Err};
 ghost use Rattle.std.specs.List.{AllByRecursion};
 ghost use Rattle.lrp_store.specs.Growing.{IsAdded, IsRefused};
+ghost use Rattle.lrp_store.specs.Stores.{IsStore};
 ghost use Rattle.lrp_tables.specs.Columns.{texts_of_term, times_of_term};
 ghost use Rattle.lrp_tables.specs.Steps.{CanScan, IsScanResult};
 ghost use Rattle.lrp_tables.specs.Tables.{AreNamesAmong};
@@ -10,6 +11,7 @@ ghost use Rattle.lrp_algebra.specs.Rows.{bounds_reach, CanBeRead, DividesPeriod,
 
 use crate::columns::{scan_vars, store_over};
 use crate::filling::add_pattern;
+use crate::layout::Wanted;
 use crate::rows::row_pattern;
 use lrp_model::{List, Relation, Row, Term};
 use lrp_store::{Store, StoreFault};
@@ -31,7 +33,6 @@ pub fn scan(
     setting.domain.len();
     let vars = scan_vars(setting.alloc, terms)?;
     let mut out = store_over(setting.alloc, &vars, period);
-    out.shape();
     for row in relation.rows.as_slice() {
         match add_row(setting, row, terms, &vars, &mut out) {
             Ok(()) => {}
@@ -50,6 +51,7 @@ fn add_row(
     vars: &Vars,
     out: &mut Store,
 ) -> Result<(), StoreFault>
+    requires valid { IsStore out.old }
     requires times { AreNamesAmong (flat_map times_of_term terms.now) vars.now.times }
     requires texts { AreNamesAmong (flat_map texts_of_term terms.now) vars.now.texts }
     requires times_differ { AllPairs ◌≢◌ vars.now.times }
@@ -67,10 +69,16 @@ fn add_row(
         (IsRowTuple setting.now.domain.now vars.now.times vars.now.texts terms.now row.now))
         setting.now.cap (bounds_reach row.now.bounds terms.now + out.old.period) out.old out.new }
 {
-    out.shape();
-    let (alloc, domain) = (setting.alloc, setting.domain);
-    match row_pattern(alloc, row, terms, vars, domain)? {
-        Some(pattern) => add_pattern(alloc, &pattern, domain.len(), out, setting.cap),
+    let domain = setting.domain;
+    match row_pattern(setting.alloc, row, terms, vars, domain)? {
+        Some(pattern) => {
+            let wanted = Wanted {
+                pattern: &pattern,
+                size: domain.len(),
+                cap: setting.cap,
+            };
+            add_pattern(wanted, out)
+        }
         None => Ok(()),
     }
 }

@@ -1,30 +1,30 @@
 // The sides of a comparison, by their columns.
 ghost use Rattle.std.specs.Prelude.{◌≡◌, ◌≤◌, ◌++◌, ◌∷◌, [], map, length, Contains, IfOk};
-ghost use Rattle.lrp_model.specs.Reach.{offset};
+ghost use Rattle.lrp_model.specs.Reach.{term_offset};
 ghost use Rattle.lrp_model.specs.Satisfaction.{Assignment, time_value};
 ghost use Rattle.lrp_tables.specs.Columns.{IsPlace, names_of_time};
 ghost use Rattle.lrp_tables.specs.Tables.{AreNamesAmong};
 ghost use Rattle.lrp_algebra.specs.Comparisons.{side_value};
 
-use crate::comparisons::Side;
+use crate::comparisons::ShiftedColumn;
 use lrp_model::{List, Name, TimeTerm};
 use lrp_tables::place_of;
 
 /// The value of a time term of these variables.
-pub fn side_of(term: &TimeTerm, names: &List<Name>) -> Side
+pub fn side_of(term: &TimeTerm, names: &List<Name>) -> ShiftedColumn
     requires few { length names.now ≤ 8 }
     requires names { AreNamesAmong (names_of_time term.now) names.now }
     ensures value { (env : Assignment) → side_value result (map env.times names.now)
         ≡ time_value env term.now }
     ensures column { result.column ≤ length names.now }
-    ensures plus { result.plus ≡ offset term.now }
+    ensures plus { result.plus ≡ term_offset term.now }
 {
     match term {
-        TimeTerm::Var { name, plus } => Side {
+        TimeTerm::Var { name, plus } => ShiftedColumn {
             column: column_among(names, name),
             plus: *plus,
         },
-        TimeTerm::Int { value } => Side {
+        TimeTerm::Int { value } => ShiftedColumn {
             column: 0,
             plus: *value,
         },

@@ -5,6 +5,7 @@ ghost use Rattle.lrp_tables.specs.Steps.{CanTest, IsLeafResult};
 
 use crate::columns::{store_over, test_vars};
 use crate::filling::add_pattern;
+use crate::layout::Wanted;
 use crate::pattern::Pattern;
 use crate::tested::with_test;
 use lrp_model::Test;
@@ -22,13 +23,17 @@ pub fn leaf(setting: &Setting<'_>, test: &Test) -> Result<Table, StepFault>
     let (alloc, domain) = (setting.alloc, setting.domain);
     let vars = test_vars(alloc, test)?;
     let mut out = store_over(alloc, &vars, period_of(test));
-    out.shape();
     let size = domain.len();
     let all = Pattern::new(alloc);
     let Some(pattern) = with_test(all, test, &vars, domain)? else {
         return Ok(Table { vars, store: out });
     };
-    match add_pattern(alloc, &pattern, size, &mut out, setting.cap) {
+    let wanted = Wanted {
+        pattern: &pattern,
+        size,
+        cap: setting.cap,
+    };
+    match add_pattern(wanted, &mut out) {
         Ok(()) => Ok(Table { vars, store: out }),
         Err(StoreFault::TooManyCells) => Err(StepFault::TooManyCells),
         Err(StoreFault::Memory) => Err(StepFault::Memory),

@@ -1,9 +1,9 @@
 // One time column fewer: some integer completes what is left.
 ghost use Rattle.std.specs.Prelude.{◌≡◌, ◌+◌, ◌*◌, ◌-◌, ◌<◌, ◌≤◌, ◌^◌, OnOk, IfOk};
-ghost use Rattle.lrp_zone.specs.Zones.{reach_of};
-ghost use Rattle.lrp_store.specs.Stores.{HasReach};
+ghost use Rattle.lrp_zone.specs.Zones.{IsZone, reach_of};
+ghost use Rattle.lrp_store.specs.Stores.{IsStore, HasReach};
 ghost use Rattle.lrp_store.specs.Growing.{IsAdded};
-ghost use Rattle.lrp_tables.specs.Pieces.{Fits, InPiece};
+ghost use Rattle.lrp_tables.specs.Pieces.{FitsCell, InPiece};
 ghost use Rattle.lrp_tables.specs.Passes.{IsMadeFrom};
 ghost use Rattle.lrp_algebra.specs.Tuples.{IsWithoutTime, IsStoreWithoutTime};
 ghost use Rattle.lrp_systems.specs.Wholes.{AreWhole};
@@ -13,7 +13,7 @@ use crate::places::without_residue;
 use lrp_model::{Cell, Copies, Memory, Name, Shape};
 use lrp_store::{Store, StoreFault};
 use lrp_systems::add_zone;
-use lrp_tables::{Piece, Pieces, Remembered, Table, Vars, place_of, without};
+use lrp_tables::{Piece, Pieces, RememberedCells, Table, Vars, place_of, without};
 use std::alloc::Global;
 
 /// The assignments that some integer for the time variable completes to one of the table, over its other columns.
@@ -32,7 +32,6 @@ pub fn drop_time(alloc: Global, table: &Table, name: &Name) -> Result<Table, Mem
         Some(place) => without_time(alloc, &table.store, place)?,
         None => table.store.copy(alloc)?,
     };
-    store.shape();
     Ok(Table { vars, store })
 }
 
@@ -48,8 +47,7 @@ fn without_time(alloc: Global, store: &Store, place: usize) -> Result<Store, Mem
         texts: shape.texts,
     };
     let mut out = Store::new(alloc, shape, store.period());
-    out.shape();
-    let mut wholes = Remembered::new(alloc, store.len() as usize)?;
+    let mut wholes = RememberedCells::new(alloc, store.len() as usize)?;
     for piece in Pieces::of(store) {
         match add_without_time(&piece, place, &mut wholes, &mut out) {
             Ok(()) => {}
@@ -67,12 +65,17 @@ fn without_time(alloc: Global, store: &Store, place: usize) -> Result<Store, Mem
 fn add_without_time(
     piece: &Piece,
     place: usize,
-    wholes: &mut Remembered,
+    wholes: &mut RememberedCells,
     out: &mut Store,
 ) -> Result<(), StoreFault>
+    requires valid { IsStore out.old }
+    requires zone { IsZone piece.now.zone }
     requires place { place ≤ out.old.shape.times }
     requires wide { out.old.shape.times < 8 }
-    requires fits { Fits (record { times = out.old.shape.times + 1; texts = out.old.shape.texts })
+    requires fits { FitsCell (record {
+      times = out.old.shape.times + 1;
+      texts = out.old.shape.texts;
+    })
         out.old.period piece.now }
     requires reach { 2 * reach_of piece.now.zone ≤ 2 ^ 62 }
     requires wholes { AreWhole wholes.old out.old }
@@ -81,8 +84,6 @@ fn add_without_time(
         (2 * reach_of piece.now.zone) out.old out.new) }
     ensures wholes { OnOk result (AreWhole wholes.new out.new) }
 {
-    out.shape();
-    piece.zone.columns();
     let cell = Cell {
         texts: piece.cell.texts,
         residues: without_residue(&piece.cell.residues, place),

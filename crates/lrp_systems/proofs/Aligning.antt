@@ -15,10 +15,10 @@ use Rattle.lrp_store.proofs.Grown.{grown_same, grown_on, grown_within, one_more_
 use Rattle.lrp_store.proofs.Aligning.{head_in, tail_in, nothing_held}
 use Rattle.lrp_store.proofs.Counted.{many, not_many}
 use Rattle.lrp_store.proofs.Rooms.{empty_reach}
-use Rattle.lrp_tables.specs.Pieces.{IsPieceOf, InPiece, InPieces, ArePieces, Fits}
+use Rattle.lrp_tables.specs.Pieces.{IsPieceOf, InPiece, InPieces, ArePieces, FitsCell}
 use Rattle.lrp_tables.specs.declared.pieces.Piece.{Piece}
 use Rattle.lrp_tables.proofs.Pieced.{in_store, piece_fits, piece_reach}
-use Rattle.lrp_systems.specs.Aligned.{IsAligned}
+use Rattle.lrp_systems.specs.Aligned.{CanBeBrought, IsAligned}
 
 -- the tuples of all zones but these were added, and no others
 pub record IsAligning (cap : ℕ) (s start out : StoreView) (rest : List Piece) : Type 0 where
@@ -36,7 +36,7 @@ module _ (cap : ℕ) (s start : StoreView) (is : IsStore s) (shape : start.shape
     next_is : IsPieceOf s piece
     next_is = p.each piece (head_in piece rest list el)
 
-    next_fits : Fits s.shape s.period piece
+    next_fits : FitsCell s.shape s.period piece
     next_fits = piece_fits s is piece next_is
 
     out_shape : out.shape ≡ s.shape
@@ -45,21 +45,24 @@ module _ (cap : ℕ) (s start : StoreView) (is : IsStore s) (shape : start.shape
     out_period : out.period ≡ k
     out_period = (p.grown (2 ^ 62 - k) room).period ∙ period
 
-    -- so it can be brought to the larger period
-    pub next_columns : columns_of piece.zone ≡ out.shape.times
+    next_columns : columns_of piece.zone ≡ out.shape.times
     next_columns =
         let few : s.shape.times ≤ 8 = is.times in
         let size : length piece.cell.residues ≡ 8 = next_fits.cell.residues.size in
         ap length next_fits.residues ∙ length-take-le s.shape.times piece.cell.residues (omega arith) ∙ ap (λ h. h.times) (sym out_shape)
 
-    pub next_texts : IsPadded 0 out.shape.texts piece.cell.texts
+    next_texts : IsPadded 0 out.shape.texts piece.cell.texts
     next_texts = subst (λ h. IsPadded 0 h.texts piece.cell.texts) (sym out_shape) next_fits.cell.texts
 
-    pub next_multiple : Divides (pos s.period) (pos k) → Divides (pos piece.zone.period) (pos out.period)
+    next_multiple : Divides (pos s.period) (pos k) → Divides (pos piece.zone.period) (pos out.period)
     next_multiple d = subst (λ m. Divides (pos m) (pos out.period)) (sym next_fits.period_is) (subst (λ m. Divides (pos s.period) (pos m)) (sym out_period) d)
 
-    pub next_reach : reach_of piece.zone + out.period ≤ 2 ^ 62
+    next_reach : reach_of piece.zone + out.period ≤ 2 ^ 62
     next_reach = let l : reach_of piece.zone ≤ 2 ^ 62 - k = piece_reach s piece next_is (2 ^ 62 - k) room in let e : out.period ≡ k = out_period in omega arith
+
+    -- so it can be brought to the larger period
+    pub next_brought : Divides (pos s.period) (pos k) → CanBeBrought piece out
+    next_brought d = record { valid = (p.grown (2 ^ 62 - k) room).valid; columns = next_columns; texts = next_texts; multiple = next_multiple d; reach = next_reach }
 
     -- its tuples are tuples of the store
     of_piece : (xs : List ℤ) (ns : List ℕ) → InPiece out.shape.texts piece xs ns → InStore s xs ns

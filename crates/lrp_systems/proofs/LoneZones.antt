@@ -11,7 +11,7 @@ use Rattle.lrp_store.specs.Stores.{StoreView, IsStore, IsPadded}
 use Rattle.lrp_store.specs.Growing.{IsAdded, IsRefused, IsTupleOf}
 use Rattle.lrp_store.specs.declared.store.StoreFault.{StoreFault}
 use Rattle.lrp_systems.specs.Parts.{PartView, InPart, Fits, part_reach, system_reach}
-use Rattle.lrp_systems.specs.Sole.{IsCellOfZone, IsWhole}
+use Rattle.lrp_systems.specs.Sole.{IsCellOfZone, IsWholePart}
 use Rattle.lrp_systems.specs.Systems.{IsSolution}
 use Rattle.lrp_systems.proofs.AddedAs.{added_as, refused_as}
 use Rattle.lrp_systems.proofs.CellPieces.{reach_own}
@@ -23,7 +23,7 @@ list_of_one [] part e is = absurd (omega (arith, e))
 list_of_one (p ∷ []) part e is = ap (λ q. q ∷ []) is
 list_of_one (p ∷ q ∷ ps) part e is = absurd (omega (arith, e))
 
-module _ (part : PartView) (k n : ℕ) (w : IsWhole k n part) where
+module _ (part : PartView) (k n : ℕ) (w : IsWholePart k n part) where
   -- the values at its places are the tuple
   values_same : (xs : List ℤ) → length xs ≡ n → map (node xs) part.places ≡ xs
   values_same xs e =
@@ -71,7 +71,7 @@ module _ (part : PartView) (k n : ℕ) (w : IsWhole k n part) where
       by : (a b : ℕ) → a ≡ b → b ≤ max a 0
       by a b e = omega (arith, e)
 
-module _ (s : StoreView) (is : IsStore s) (part : PartView) (w : IsWhole s.period s.shape.times part) (texts : List ℕ) (padded : IsPadded 0 s.shape.texts texts) (c : Cell) (cell : IsCellOfZone part.zone (columns_of part.zone) texts c) where
+module _ (s : StoreView) (is : IsStore s) (part : PartView) (w : IsWholePart s.period s.shape.times part) (texts : List ℕ) (padded : IsPadded 0 s.shape.texts texts) (c : Cell) (cell : IsCellOfZone part.zone (columns_of part.zone) texts c) where
   -- the cell is of the store's shape
   pub own_texts : IsPadded 0 s.shape.texts c.texts
   own_texts = subst (λ t. IsPadded 0 s.shape.texts t) (sym cell.texts) padded
@@ -103,9 +103,9 @@ module _ (s : StoreView) (is : IsStore s) (part : PartView) (w : IsWhole s.perio
     alone_refused no_more = refused_as _ Solution cap (greatest_of part.zone.bounds) (system_reach s.period (part ∷ [])) s new is of_tuple (alone_reach part s.period s.shape.times w) no_more
 
 -- a zone of which a part was made, whose columns are the store's times
-module _ (z : ZoneView) (part : PartView) (same : part.zone ≡ z) (s : StoreView) (is : IsStore s) (whole : IsWhole z.period (columns_of z) part) (columns : columns_of z ≡ s.shape.times) where
-  own : IsWhole z.period s.shape.times part
-  own = subst (λ n. IsWhole z.period n part) columns whole
+module _ (z : ZoneView) (part : PartView) (same : part.zone ≡ z) (s : StoreView) (is : IsStore s) (whole : IsWholePart z.period (columns_of z) part) (columns : columns_of z ≡ s.shape.times) where
+  own : IsWholePart z.period s.shape.times part
+  own = subst (λ n. IsWholePart z.period n part) columns whole
 
   -- it can be brought to a multiple of its period that leaves room
   pub lone_fits : Divides (pos z.period) (pos s.period) → reach_of z + s.period ≤ 2 ^ 62 → All (Fits s.shape.times s.period) (part ∷ [])

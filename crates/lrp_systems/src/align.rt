@@ -1,11 +1,11 @@
 // Stores over a larger period.
 ghost use Rattle.std.specs.Prelude.{◌≡◌, ◌+◌, ◌-◌, ◌≤◌, ◌^◌, ◌≤ℤ◌, pos, nat_abs, OnOk, IfOk, Err};
 ghost use Rattle.lrp_theory.specs.Divides.{Divides};
-ghost use Rattle.lrp_zone.specs.Zones.{columns_of, reach_of};
+ghost use Rattle.lrp_zone.specs.Zones.{reach_of};
 ghost use Rattle.lrp_store.specs.Growing.{IsAdded, IsRefused, InhabitsMany};
-ghost use Rattle.lrp_store.specs.Stores.{InStore, IsPadded, HasReach};
+ghost use Rattle.lrp_store.specs.Stores.{InStore, HasReach};
 ghost use Rattle.lrp_tables.specs.Pieces.{InPiece};
-ghost use Rattle.lrp_systems.specs.Aligned.{IsAligned};
+ghost use Rattle.lrp_systems.specs.Aligned.{CanBeBrought, IsAligned};
 
 use crate::part::Part;
 use crate::system::add_system;
@@ -42,7 +42,6 @@ impl Align for Store {
     fn align(&self, period: i64, cap: u32) -> Result<Store, StoreFault> {
         let shape = self.shape();
         let mut out = Store::new(self.alloc(), shape, period);
-        out.shape();
         for piece in Pieces::of(self) {
             match add_piece(&piece, &mut out, cap) {
                 Ok(()) => {}
@@ -55,17 +54,13 @@ impl Align for Store {
 
 // Adds the tuples of one zone, as a system of one part.
 fn add_piece(piece: &Piece, out: &mut Store, cap: u32) -> Result<(), StoreFault>
-    requires columns { columns_of piece.now.zone ≡ out.old.shape.times }
-    requires texts { IsPadded 0 out.old.shape.texts piece.now.cell.texts }
-    requires multiple { Divides (pos piece.now.zone.period) (pos out.old.period) }
-    requires reach { reach_of piece.now.zone + out.old.period ≤ 2 ^ 62 }
+    requires { CanBeBrought piece.now out.old }
     ensures ok { OnOk result (IsAdded (InPiece out.old.shape.texts piece.now) cap
         (reach_of piece.now.zone + (out.old.period - 1)) out.old out.new) }
     ensures too_many { result ≡ Err StoreFault.TooManyCells
         → IsRefused (InPiece out.old.shape.texts piece.now) cap
         (reach_of piece.now.zone + (out.old.period - 1)) out.old out.new }
 {
-    out.shape();
     let parts = [Part::in_order(&piece.zone)];
     add_system(&parts, &piece.cell.texts, out, cap)
 }

@@ -7,14 +7,14 @@ ghost use Rattle.lrp_systems.specs.Wholes.{AreWhole};
 
 use lrp_model::Cell;
 use lrp_store::{Store, StoreFault};
-use lrp_tables::{Remembered, is_free};
+use lrp_tables::{RememberedCells, is_free};
 use lrp_zone::Zone;
 
 /// Adds a zone to its cell, which is remembered where all its tuples are held then.
 pub fn add_zone(
     cell: &Cell,
     zone: &Zone,
-    wholes: &mut Remembered,
+    wholes: &mut RememberedCells,
     out: &mut Store,
 ) -> Result<(), StoreFault>
     requires period { zone.now.period ≡ out.old.period }
@@ -28,7 +28,6 @@ pub fn add_zone(
     ensures kept { OnErr result ((wholes.new ≡ wholes.old)
         × (out.new ≡ record out.old { spare = out.new.spare })) }
 {
-    out.shape();
     match out.add_new(cell, zone, u32::MAX) {
         Ok(()) => {}
         Err(fault) => return Err(fault),

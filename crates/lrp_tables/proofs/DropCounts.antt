@@ -15,7 +15,7 @@ use Rattle.lrp_tables.specs.Tables.{named_variables}
 use Rattle.lrp_tables.specs.Caps.{Inhabits, InhabitsMoreThan}
 use Rattle.lrp_tables.proofs.Mapped.{Known, many_known, many_map}
 use Rattle.lrp_tables.proofs.Numbers.{all_variables}
-use Rattle.lrp_theory.specs.Divides.{IsMember}
+use Rattle.lrp_theory.specs.Divides.{IsPointMember}
 
 -- ---- the names but one
 
@@ -70,7 +70,7 @@ module _ (domain : List Text) (period : ℕ) (low : 0 < period) (times texts : L
         in_time : (w : Identifier) → Contains times w → LiesIn period domain (with_value name (time (completes k.1.witness k.1.member).0) k.1.witness) (with_time k) (time_variable w)
         in_time w c =
             let x : ℤ = (completes k.1.witness k.1.member).0 in
-            both_ways (λ r y. (pos 0 ≤ℤ r) × (r <ℤ pos period) × IsMember r (pos period) y) (bytes_eq name w) (int_rem_euclid x (pos period)) (k.0.residues w) x (k.1.witness.times w)
+            both_ways (λ r y. (pos 0 ≤ℤ r) × (r <ℤ pos period) × IsPointMember r (pos period) y) (bytes_eq name w) (int_rem_euclid x (pos period)) (k.0.residues w) x (k.1.witness.times w)
             (λ e. (rem_low period x low, rem_high period x low, rem_divides (pos period) x (int_rem_euclid x (pos period)) (omega (arith, ints, low)) refl))
             (λ e. lies.0 w (in_others name times w c e))
 

@@ -1,14 +1,16 @@
 -- A pass over the zones of a store that adds what a step makes of the tuples of each.
-use Rattle.std.proofs.Common.{◌≡◌, ℕ, zero, suc, ◌<◌, ◌≤◌, ◌⊎◌, inl, inr, List, [], ◌∷◌, length, sym, ap, subst, ◌∙◌, arith, Contains}
-use Rattle.std.specs.Prelude.{ℤ, unwrap_or}
+use Rattle.std.proofs.Common.{◌≡◌, ℕ, zero, suc, ◌<◌, ◌≤◌, ◌^◌, ◌⊎◌, inl, inr, List, [], ◌∷◌, length, sym, ap, subst, ◌∙◌, arith, Contains}
+use Rattle.std.specs.Prelude.{ℤ, pos, nat_abs, ◌≤ℤ◌, unwrap_or}
+use Rattle.std.proofs.lemmas.Int.{ints}
 use Rattle.std.specs.FinMap as finite
 use Rattle.std.specs.FinMap.{get-empty, len-empty}
 use Rattle.lrp_slots.specs.Lists.{cell_cmp}
 use Rattle.lrp_model.specs.declared.tuples.Cell.{Cell}
+use Rattle.lrp_model.specs.declared.tuples.Shape.{Shape}
 use Rattle.lrp_zone.specs.Zones.{reach_of}
 use Rattle.lrp_store.specs.Stores.{StoreView, IsStore, InStore, HasReach, tables_at}
 use Rattle.lrp_store.specs.Growing.{IsGrown, IsAdded, IsRefused, InhabitsMany}
-use Rattle.lrp_store.proofs.Held.{Table}
+use Rattle.lrp_store.proofs.Held.{Table, new_store}
 use Rattle.lrp_store.proofs.Grown.{grown_same, grown_on, grown_within, one_more_of}
 use Rattle.lrp_store.proofs.Aligning.{head_in, tail_in, nothing_held}
 use Rattle.lrp_store.proofs.Counted.{many, not_many}
@@ -17,6 +19,14 @@ use Rattle.lrp_tables.specs.Pieces.{IsPieceOf, InPiece, InPieces, ArePieces}
 use Rattle.lrp_tables.specs.Passes.{IsMadeFrom, IsResult}
 use Rattle.lrp_tables.specs.declared.pieces.Piece.{Piece}
 use Rattle.lrp_tables.proofs.Pieced.{in_store, piece_reach}
+
+-- a store that was begun with a shape and a period is a store
+pub begun_store : (out : StoreView) (shape : Shape) (period : ℕ) → out ≡ record { shape = shape; period = period; tables = finite.empty; spare = 0 } → shape.times ≤ 8 → shape.texts ≤ 8 → 0 < period → period ≤ 2 ^ 62 → IsStore out
+begun_store out shape period e times texts low high = subst IsStore (sym e) (new_store shape period times texts low high)
+
+-- and so is one whose period is a word's
+pub begun_by : (out : StoreView) (shape : Shape) (period : ℕ) (step : ℤ) → out ≡ record { shape = shape; period = period; tables = finite.empty; spare = 0 } → period ≡ nat_abs step → shape.times ≤ 8 → shape.texts ≤ 8 → pos 1 ≤ℤ step → step ≤ℤ pos (2 ^ 62) → IsStore out
+begun_by out shape period step e k times texts low high = begun_store out shape period e times texts (let l : 0 < nat_abs step = omega (arith, ints) in omega (arith, k, l)) (let h : nat_abs step ≤ 2 ^ 62 = omega (arith, ints) in omega (arith, k, h))
 
 -- a store without cells has no zone
 pub nothing_at : (s : StoreView) → s.tables ≡ finite.empty → (c : Cell) (t : Table) → Contains (tables_at s c) t → ⊥

@@ -14,7 +14,7 @@ use Rattle.lrp_store.proofs.Held.{Table, cell_held, zone_held}
 use Rattle.lrp_store.specs.Reading.{entries_of}
 use Rattle.lrp_store.proofs.Aligning.{key_of}
 use Rattle.lrp_store.proofs.Counted.{key_held}
-use Rattle.lrp_tables.specs.Pieces.{piece_of, pieces_at, pieces_left, pieces_in, pieces_from, HaveZones, IsPieceOf, InPiece, ArePieces, Fits}
+use Rattle.lrp_tables.specs.Pieces.{piece_of, pieces_at, pieces_left, pieces_in, pieces_from, HaveZones, IsPieceOf, InPiece, ArePieces, FitsCell}
 use Rattle.lrp_tables.specs.declared.pieces.Piece.{Piece}
 
 -- what a part of a list has, the list has
@@ -183,5 +183,5 @@ any_reach s is = record {
     tight_small k w (Some a) h = h.1
 
 -- the zone fits its cell
-pub piece_fits : (s : StoreView) → IsStore s → (piece : Piece) → IsPieceOf s piece → Fits s.shape s.period piece
+pub piece_fits : (s : StoreView) → IsStore s → (piece : Piece) → IsPieceOf s piece → FitsCell s.shape s.period piece
 piece_fits s is piece p = record { cell = cell_held s is piece.cell p.table p.held; period_is = ap (λ z. z.period) p.zone; residues = ap (λ z. z.residues) p.zone }

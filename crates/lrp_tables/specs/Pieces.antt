@@ -54,7 +54,7 @@ pub record ArePieces (s : StoreView) (pieces : List Piece) : Type 0 where
   pub all : (times : List ℤ) (texts : List ℕ) → InStore s times texts → InPieces s.shape.texts pieces times texts
 
 -- the zone has the residues of its cell, which is of this shape and period
-pub record Fits (shape : Shape) (period : ℕ) (piece : Piece) : Type 0 where
+pub record FitsCell (shape : Shape) (period : ℕ) (piece : Piece) : Type 0 where
   pub cell : IsCellOf shape period piece.cell
   pub period_is : piece.zone.period ≡ period
   pub residues : piece.zone.residues ≡ take shape.times piece.cell.residues

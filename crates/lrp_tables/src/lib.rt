@@ -11,6 +11,6 @@ mod table;
 pub use free::is_free;
 pub use names::{Places, joint, place_of, places_among, places_of, without};
 pub use pieces::{Piece, Pieces};
-pub use remembered::Remembered;
+pub use remembered::RememberedCells;
 pub use setting::Setting;
 pub use table::{StepFault, Table, Vars};

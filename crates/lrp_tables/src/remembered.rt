@@ -1,7 +1,7 @@
 // A few cells that are remembered.
 ghost use Rattle.std.specs.Prelude.{◌≡◌, ◌<◌, ◌⊎◌, ℕ, Some, Contains, IfOk, length, None, replicate, true};
 ghost use Rattle.lrp_model.specs.declared.tuples.Cell.{Cell as CellValue};
-ghost use Rattle.lrp_tables.specs.Cells.{HasNone};
+ghost use Rattle.lrp_tables.specs.Cells.{RemembersNone};
 
 use lrp_model::{Cell, Memory};
 use std::alloc::Global;
@@ -12,11 +12,11 @@ const MOST: usize = 16384;
 
 /// Cells at places that their numbers give, seen as the list of the places. A cell takes over the place of another one.
 #[derive(Drop)]
-pub struct Remembered {
+pub struct RememberedCells {
     places: Vec<Option<Cell>>,
 }
 
-impl Model for Remembered {
+impl Model for RememberedCells {
     ghost use Rattle.std.specs.Prelude.{◌<◌, List, Option, length};
     ghost use Rattle.lrp_model.specs.declared.tuples.Cell.{Cell};
 
@@ -27,17 +27,17 @@ impl Model for Remembered {
     ghost invariant = { λ a. 0 < length a.places.items };
 }
 
-impl Remembered {
+impl RememberedCells {
     /// No cell is remembered. There are places for so many, but 16,384 at most.
-    pub fn new(alloc: Global, cells: usize) -> Result<Remembered, Memory>
-        ensures { IfOk result HasNone }
+    pub fn new(alloc: Global, cells: usize) -> Result<RememberedCells, Memory>
+        ensures { IfOk result RemembersNone }
     {
         let mut places = Vec::new(alloc);
         places.push(None)?;
         for _place in 1..cells.min(MOST) {
             places.push(None)?;
         }
-        Ok(Remembered { places })
+        Ok(RememberedCells { places })
     }
 
     /// Whether a cell is remembered.

@@ -1,6 +1,7 @@
 // Stores whose columns are named by variables.
 ghost use Rattle.std.specs.Prelude.{◌≡◌, ◌≢◌, ◌++◌, length, AllPairs, IfOk};
 
+use crate::names::{Places, places_of};
 use lrp_model::{Copies, List, Memory, Name};
 use lrp_store::{Store, StoreFault};
 use std::alloc::Global;
@@ -42,6 +43,10 @@ impl Copies for Vars {
 }
 
 impl Table {
+    ghost use Rattle.lrp_store.specs.Stores.{IsStore};
+    ghost use Rattle.lrp_tables.specs.Columns.{ArePlacesOf};
+    ghost use Rattle.lrp_tables.specs.Tables.{AreNamesAmong};
+
     /// The same assignments, in as many slots as there are zones.
     pub fn copy(&self, alloc: Global) -> Result<Table, Memory>
         ensures vars { IfOk result (λ made. made.vars ≡ self.now.vars) }
@@ -51,6 +56,20 @@ impl Table {
         let vars = self.vars.copy(alloc)?;
         let store = self.store.copy(alloc)?;
         Ok(Table { vars, store })
+    }
+
+    /// The places of its columns among these variables. A caller learns here what its store keeps.
+    pub fn places_in(&self, alloc: Global, all: &Vars) -> Result<Places, Memory>
+        requires times { AreNamesAmong self.now.vars.times all.now.times }
+        requires texts { AreNamesAmong self.now.vars.texts all.now.texts }
+        ensures times { IfOk result (λ places. ArePlacesOf self.now.vars.times all.now.times
+            places.times) }
+        ensures texts { IfOk result (λ places. ArePlacesOf self.now.vars.texts all.now.texts
+            places.texts) }
+        ensures valid { IsStore self.now.store }
+    {
+        self.store.shape();
+        places_of(alloc, &self.vars, all)
     }
 }
 

@@ -6,7 +6,7 @@ use Rattle.lrp_algebra.proofs.data_drops.add_without_text.Goals as goal
 
 pub returns : goal.returns
 returns c = record {
-  ok = new_added _ c.args.out.now c.shape.ensures.valid (record { texts = c.without_number.result; residues = c.args.piece.now.cell.residues }) c.args.piece.now.zone (reach_of c.args.piece.now.zone)
-      (text_dropped c.args.piece.now c.args.place c.args.size c.args.out.now c.shape.ensures.valid c.requires.place c.requires.wide c.requires.fits c.columns.ensures.valid c.without_number.result c.without_number.ensures c.if-piece-place.false)
+  ok = new_added _ c.args.out.now c.requires.valid (record { texts = c.without_number.result; residues = c.args.piece.now.cell.residues }) c.args.piece.now.zone (reach_of c.args.piece.now.zone)
+      (text_dropped c.args.piece.now c.args.place c.args.size c.args.out.now c.requires.valid c.requires.place c.requires.wide c.requires.fits c.requires.zone c.without_number.result c.without_number.ensures c.if-piece-place.false)
       4294967295 c.add_new.new.self c.add_new.result c.add_new.ensures.ok;
 }

@@ -7,10 +7,10 @@ use Rattle.lrp_algebra.proofs.data_drops.drop_data.Goals as goal
 
 pub invariant_of-result : goal.invariant_of-result
 invariant_of-result c = record {
-  times_named = ap length c.in_ok-copy.ensures ∙ c.args.table.now.times_named ∙ sym (either_times c.args.domain.now c.args.name.now c.args.table.now c.args.table.now.names_differ c.in_ok-store.store c.in_ok-store.ensures);
-  texts_named = ap length c.in_ok-without.ensures ∙ either_texts c.args.domain.now c.args.name.now c.args.table.now c.args.table.now.names_differ c.in_ok-store.store c.args.table.now.texts_named c.in_ok-store.ensures;
+  times_named = ap length c.in_ok-copy.ensures ∙ c.args.table.now.times_named ∙ sym (either_times c.args.domain.now c.args.name.now c.args.table.now c.args.table.now.names_differ c.in_ok-store.store c.in_ok-store.ensures.made);
+  texts_named = ap length c.in_ok-without.ensures ∙ either_texts c.args.domain.now c.args.name.now c.args.table.now c.args.table.now.names_differ c.in_ok-store.store c.args.table.now.texts_named c.in_ok-store.ensures.made;
   names_differ = subst (λ l. AllPairs ◌≢◌ (l ++ c.in_ok-without.field-0)) (sym c.in_ok-copy.ensures) (subst (λ l. AllPairs ◌≢◌ (c.args.table.now.vars.times ++ l)) (sym c.in_ok-without.ensures) (others_differ_behind c.args.name.now c.args.table.now.vars.times c.args.table.now.vars.texts c.args.table.now.names_differ));
 }
 
 pub returns : goal.returns
-returns c = either_dropped c.args.domain.now c.args.name.now c.args.table.now c.args.table.now.names_differ _ c.in_ok-copy.ensures c.in_ok-without.ensures c.in_ok-store.ensures c.shape.ensures.valid c.shape-2.ensures.valid
+returns c = either_dropped c.args.domain.now c.args.name.now c.args.table.now c.args.table.now.names_differ _ c.in_ok-copy.ensures c.in_ok-without.ensures c.in_ok-store.ensures.made c.in_ok-store.ensures.valid

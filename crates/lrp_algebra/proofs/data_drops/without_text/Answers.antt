@@ -5,11 +5,22 @@ use Rattle.lrp_tables.specs.Pieces.{ArePieces}
 use Rattle.lrp_algebra.specs.Tuples.{IsWithoutText}
 use Rattle.lrp_tables.proofs.Pieced.{piece_fits, any_reach}
 use Rattle.lrp_tables.proofs.Passing.{IsPassing, passing_none, passing_more, next_is, passed}
+use Rattle.lrp_algebra.proofs.NewZones.{begun_like, piece_zone}
 use Rattle.lrp_algebra.proofs.TextDropped.{fits_wider}
 use Rattle.lrp_algebra.proofs.data_drops.without_text.Goals as goal
 
 pub loop-piece-init : goal.loop-piece-init
-loop-piece-init c = passing_none (IsWithoutText c.args.place c.args.size) (λ high. high) 4294967295 c.args.store.now c.new-out.result c.shape.ensures.valid _ (subst (λ l. ArePieces c.args.store.now l) (sym c.into_iter-piece-iterator.ensures.into_iter_gives) c.of-piece-items.ensures)
+loop-piece-init c = passing_none (IsWithoutText c.args.place c.args.size) (λ high. high) 4294967295 c.args.store.now c.new-out.result (begun_like c.args.store.now c.new-out.result _ c.period.result c.shape-shape.ensures.valid c.new-out.ensures c.period.ensures (let e = ap (λ h. h.times) c.shape-shape.ensures.value in omega (arith, e)) (let e = ap (λ h. h.texts) c.shape-shape.ensures.value in omega (arith, e))) _ (subst (λ l. ArePieces c.args.store.now l) (sym c.into_iter-piece-iterator.ensures.into_iter_gives) c.of-piece-items.ensures)
+
+pub add_without_text-requires-clause-valid : goal.add_without_text-requires-clause-valid
+add_without_text-requires-clause-valid c =
+    let grown = c.loop-piece.invariant.grown (2 ^ 62) (any_reach c.args.store.now c.shape-shape.ensures.valid) in
+    grown.valid
+
+pub add_without_text-requires-clause-zone : goal.add_without_text-requires-clause-zone
+add_without_text-requires-clause-zone c =
+    let is = next_is (IsWithoutText c.args.place c.args.size) (λ high. high) 4294967295 c.args.store.now c.new-out.result c.loop-piece.out c.loop-piece.out c.loop-piece.piece-iterator c.next.new.self c.in-Some.piece c.in-Some.ensures.steps c.loop-piece.invariant in
+    piece_zone c.args.store.now c.shape-shape.ensures.valid c.in-Some.piece is
 
 pub add_without_text-requires-clause-fits : goal.add_without_text-requires-clause-fits
 add_without_text-requires-clause-fits c =
@@ -52,6 +63,7 @@ returns c =
     let t : c.loop-piece.out.shape.texts ≡ c.args.store.now.shape.texts - 1 = ap (λ h. h.texts) grown.shape ∙ ap (λ v. v.shape.texts) c.new-out.ensures ∙ ap (λ h. h.texts - 1) c.shape-shape.ensures.value in
     let low : c.args.place < c.args.store.now.shape.texts = c.requires.place in
     record {
+      valid = grown.valid;
       times = ap (λ h. h.times) grown.shape ∙ ap (λ v. v.shape.times) c.new-out.ensures ∙ ap (λ h. h.times) c.shape-shape.ensures.value;
       texts = omega (arith, t, low);
       made = passed (IsWithoutText c.args.place c.args.size) (λ high. high) 4294967295 c.args.store.now c.new-out.result c.loop-piece.out (subst (λ l. IsPassing (IsWithoutText c.args.place c.args.size) (λ high. high) 4294967295 c.args.store.now c.new-out.result c.loop-piece.out l) c.in-None.ensures.steps.0 c.loop-piece.invariant)

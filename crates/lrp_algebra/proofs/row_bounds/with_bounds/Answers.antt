@@ -4,7 +4,7 @@ use Rattle.std.specs.Prelude.{pos, nat_abs, All}
 use Rattle.std.proofs.lemmas.List.{take_more, take_all}
 use Rattle.lrp_model.specs.declared.relations.Bound.{Bound}
 use Rattle.lrp_algebra.specs.Conditions.{IsWithZone}
-use Rattle.lrp_algebra.specs.Rows.{offsets_reach, IsShifted, IsBounded, HasNoBounded}
+use Rattle.lrp_algebra.specs.Rows.{offsets_reach, IsShifted, IsZoneOfBounds, HasNoBounded}
 use Rattle.lrp_algebra.proofs.ReadRows.{AreShifted, one_shifted, bound_room, shifted_between, shifted_fit, shifted_no, with_shifted, no_bounds}
 use Rattle.lrp_algebra.proofs.row_bounds.with_bounds.Goals as goal
 
@@ -35,7 +35,7 @@ pub returns-in_ok-with_zone-in-Some : goal.returns-in_ok-with_zone-in-Some
 returns-in_ok-with_zone-in-Some c =
     let are : AreShifted c.args.times.now c.args.terms.now c.args.bounds.now c.loop-bound.shifted.items = subst (λ l. AreShifted c.args.times.now c.args.terms.now l c.loop-bound.shifted.items) (take_all c.loop-bound.bound-index c.args.bounds.now (subst (λ l. length l ≤ c.loop-bound.bound-index) c.as_slice-bound-items.ensures c.loop-bound-test.false)) c.loop-bound.invariant in
     with_shifted c.args.times.now c.args.terms.now c.args.bounds.now c.loop-bound.shifted.items are c.in-Some.zone
-    (subst (λ n. IsBounded c.loop-bound.shifted.items n c.in-Some.zone) c.len-columns.ensures (subst (λ l. IsBounded l c.len-columns.result c.in-Some.zone) c.deref.ensures.value c.in-Some.ensures.some))
+    (subst (λ n. IsZoneOfBounds c.loop-bound.shifted.items n c.in-Some.zone) c.len-columns.ensures (subst (λ l. IsZoneOfBounds l c.len-columns.result c.in-Some.zone) c.deref.ensures.value c.in-Some.ensures.some))
     c.counted-places.result c.counted-places.ensures.size c.counted-places.ensures.each c.requires.few c.args.pattern _ c.requires.known
     (subst (λ n. IsWithZone c.args.pattern (record { zone = c.in-Some.zone; places = take n c.counted-places.result }) c.in_ok-with_zone-in-Some.field-0) c.len-columns.ensures c.in_ok-with_zone-in-Some.ensures)
 

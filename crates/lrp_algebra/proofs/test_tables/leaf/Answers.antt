@@ -37,21 +37,21 @@ with_test-requires c =
 
 pub add_pattern-requires : goal.add_pattern-requires
 add_pattern-requires c =
-    let fresh = fresh_by c.store_over-out.result c.in_ok-vars.vars.times (test_times c.args.test.now) c.in_ok-vars.vars.texts (test_names c.args.test.now) (nat_abs (to_z w64 (of_z w64 c.period_of.result))) (nat_abs (test_period c.args.test.now)) c.store_over-out.ensures c.in_ok-vars.ensures.times c.in_ok-vars.ensures.texts (test_word c.args.test.now c.period_of.result c.requires.low c.requires.reach c.period_of.ensures) in
+    let fresh = fresh_by c.store_over-out.result c.in_ok-vars.vars.times (test_times c.args.test.now) c.in_ok-vars.vars.texts (test_names c.args.test.now) (nat_abs (to_z w64 (of_z w64 c.period_of.result))) (nat_abs (test_period c.args.test.now)) c.store_over-out.ensures.made c.in_ok-vars.ensures.times c.in_ok-vars.ensures.texts (test_word c.args.test.now c.period_of.result c.requires.low c.requires.reach c.period_of.ensures) in
     let w : IsWithTest c.args.setting.now.domain.now (test_times c.args.test.now) (test_names c.args.test.now) c.args.test.now c.new-all.result c.in-Some.pattern = subst (λ l. IsWithTest c.args.setting.now.domain.now l (test_names c.args.test.now) c.args.test.now c.new-all.result c.in-Some.pattern) c.in_ok-vars.ensures.times (subst (λ l. IsWithTest c.args.setting.now.domain.now c.in_ok-vars.vars.times l c.args.test.now c.new-all.result c.in-Some.pattern) c.in_ok-vars.ensures.texts (subst (λ o. MatchOption o (HasNoTest c.args.setting.now.domain.now c.in_ok-vars.vars.times c.in_ok-vars.vars.texts c.args.test.now c.new-all.result) (IsWithTest c.args.setting.now.domain.now c.in_ok-vars.vars.times c.in_ok-vars.vars.texts c.args.test.now c.new-all.result)) c.in-Some.is c.in_ok-pattern.ensures)) in
-    record { fits = leaf_fits c.args.setting.now.domain.now c.len-size.ensures.ascending c.args.test.now c.requires.low c.new-all.result c.new-all.ensures c.len-size.result c.len-size.ensures.count c.args.setting.now.cap c.store_over-out.result fresh c.in-Some.pattern w; known = w.size }
+    record { valid = c.store_over-out.ensures.valid; fits = leaf_fits c.args.setting.now.domain.now c.len-size.ensures.ascending c.args.test.now c.requires.low c.new-all.result c.new-all.ensures c.len-size.result c.len-size.ensures.count c.args.setting.now.cap c.store_over-out.result fresh c.in-Some.pattern w; known = w.size }
 
 pub invariant_of-result : goal.invariant_of-result
 invariant_of-result c =
     record {
-      times_named = sym (ap (λ (s : StoreView). s.shape.times) c.store_over-out.ensures);
-      texts_named = sym (ap (λ (s : StoreView). s.shape.texts) c.store_over-out.ensures);
+      times_named = sym (ap (λ (s : StoreView). s.shape.times) c.store_over-out.ensures.made);
+      texts_named = sym (ap (λ (s : StoreView). s.shape.texts) c.store_over-out.ensures.made);
       names_differ = subst (λ l. AllPairs ◌≢◌ (l ++ c.in_ok-vars.vars.texts)) (sym c.in_ok-vars.ensures.times) (subst (λ l. AllPairs ◌≢◌ (test_times c.args.test.now ++ l)) (sym c.in_ok-vars.ensures.texts) (test_names_differ c.args.test.now));
     }
 
 pub invariant_of-result-in-Ok : goal.invariant_of-result-in-Ok
 invariant_of-result-in-Ok c =
-    let fresh = fresh_by c.store_over-out.result c.in_ok-vars.vars.times (test_times c.args.test.now) c.in_ok-vars.vars.texts (test_names c.args.test.now) (nat_abs (to_z w64 (of_z w64 c.period_of.result))) (nat_abs (test_period c.args.test.now)) c.store_over-out.ensures c.in_ok-vars.ensures.times c.in_ok-vars.ensures.texts (test_word c.args.test.now c.period_of.result c.requires.low c.requires.reach c.period_of.ensures) in
+    let fresh = fresh_by c.store_over-out.result c.in_ok-vars.vars.times (test_times c.args.test.now) c.in_ok-vars.vars.texts (test_names c.args.test.now) (nat_abs (to_z w64 (of_z w64 c.period_of.result))) (nat_abs (test_period c.args.test.now)) c.store_over-out.ensures.made c.in_ok-vars.ensures.times c.in_ok-vars.ensures.texts (test_word c.args.test.now c.period_of.result c.requires.low c.requires.reach c.period_of.ensures) in
     let w : IsWithTest c.args.setting.now.domain.now (test_times c.args.test.now) (test_names c.args.test.now) c.args.test.now c.new-all.result c.in-Some.pattern = subst (λ l. IsWithTest c.args.setting.now.domain.now l (test_names c.args.test.now) c.args.test.now c.new-all.result c.in-Some.pattern) c.in_ok-vars.ensures.times (subst (λ l. IsWithTest c.args.setting.now.domain.now c.in_ok-vars.vars.times l c.args.test.now c.new-all.result c.in-Some.pattern) c.in_ok-vars.ensures.texts (subst (λ o. MatchOption o (HasNoTest c.args.setting.now.domain.now c.in_ok-vars.vars.times c.in_ok-vars.vars.texts c.args.test.now c.new-all.result) (IsWithTest c.args.setting.now.domain.now c.in_ok-vars.vars.times c.in_ok-vars.vars.texts c.args.test.now c.new-all.result)) c.in-Some.is c.in_ok-pattern.ensures)) in
     let shape = leaf_shape c.args.setting.now.domain.now c.len-size.ensures.ascending c.args.test.now c.requires.low c.new-all.result c.new-all.ensures c.len-size.result c.len-size.ensures.count c.args.setting.now.cap c.store_over-out.result fresh c.in-Some.pattern w c.add_pattern.new.out c.in-Ok.ensures.ok in
     record {
@@ -62,7 +62,7 @@ invariant_of-result-in-Ok c =
 
 pub returns-in-Ok : goal.returns-in-Ok
 returns-in-Ok c =
-    let fresh = fresh_by c.store_over-out.result c.in_ok-vars.vars.times (test_times c.args.test.now) c.in_ok-vars.vars.texts (test_names c.args.test.now) (nat_abs (to_z w64 (of_z w64 c.period_of.result))) (nat_abs (test_period c.args.test.now)) c.store_over-out.ensures c.in_ok-vars.ensures.times c.in_ok-vars.ensures.texts (test_word c.args.test.now c.period_of.result c.requires.low c.requires.reach c.period_of.ensures) in
+    let fresh = fresh_by c.store_over-out.result c.in_ok-vars.vars.times (test_times c.args.test.now) c.in_ok-vars.vars.texts (test_names c.args.test.now) (nat_abs (to_z w64 (of_z w64 c.period_of.result))) (nat_abs (test_period c.args.test.now)) c.store_over-out.ensures.made c.in_ok-vars.ensures.times c.in_ok-vars.ensures.texts (test_word c.args.test.now c.period_of.result c.requires.low c.requires.reach c.period_of.ensures) in
     let w : IsWithTest c.args.setting.now.domain.now (test_times c.args.test.now) (test_names c.args.test.now) c.args.test.now c.new-all.result c.in-Some.pattern = subst (λ l. IsWithTest c.args.setting.now.domain.now l (test_names c.args.test.now) c.args.test.now c.new-all.result c.in-Some.pattern) c.in_ok-vars.ensures.times (subst (λ l. IsWithTest c.args.setting.now.domain.now c.in_ok-vars.vars.times l c.args.test.now c.new-all.result c.in-Some.pattern) c.in_ok-vars.ensures.texts (subst (λ o. MatchOption o (HasNoTest c.args.setting.now.domain.now c.in_ok-vars.vars.times c.in_ok-vars.vars.texts c.args.test.now c.new-all.result) (IsWithTest c.args.setting.now.domain.now c.in_ok-vars.vars.times c.in_ok-vars.vars.texts c.args.test.now c.new-all.result)) c.in-Some.is c.in_ok-pattern.ensures)) in
     record {
       table = leaf_table c.args.setting.now.domain.now c.len-size.ensures.ascending c.args.test.now c.requires.low c.new-all.result c.new-all.ensures c.len-size.result c.len-size.ensures.count c.args.setting.now.cap c.store_over-out.result fresh c.in-Some.pattern w c.add_pattern.new.out c.in-Ok.ensures.ok _ c.in_ok-vars.ensures.times c.in_ok-vars.ensures.texts refl;
@@ -73,7 +73,7 @@ returns-in-Ok c =
 
 pub returns-in-Err-TooManyCells : goal.returns-in-Err-TooManyCells
 returns-in-Err-TooManyCells c =
-    let fresh = fresh_by c.store_over-out.result c.in_ok-vars.vars.times (test_times c.args.test.now) c.in_ok-vars.vars.texts (test_names c.args.test.now) (nat_abs (to_z w64 (of_z w64 c.period_of.result))) (nat_abs (test_period c.args.test.now)) c.store_over-out.ensures c.in_ok-vars.ensures.times c.in_ok-vars.ensures.texts (test_word c.args.test.now c.period_of.result c.requires.low c.requires.reach c.period_of.ensures) in
+    let fresh = fresh_by c.store_over-out.result c.in_ok-vars.vars.times (test_times c.args.test.now) c.in_ok-vars.vars.texts (test_names c.args.test.now) (nat_abs (to_z w64 (of_z w64 c.period_of.result))) (nat_abs (test_period c.args.test.now)) c.store_over-out.ensures.made c.in_ok-vars.ensures.times c.in_ok-vars.ensures.texts (test_word c.args.test.now c.period_of.result c.requires.low c.requires.reach c.period_of.ensures) in
     let w : IsWithTest c.args.setting.now.domain.now (test_times c.args.test.now) (test_names c.args.test.now) c.args.test.now c.new-all.result c.in-Some.pattern = subst (λ l. IsWithTest c.args.setting.now.domain.now l (test_names c.args.test.now) c.args.test.now c.new-all.result c.in-Some.pattern) c.in_ok-vars.ensures.times (subst (λ l. IsWithTest c.args.setting.now.domain.now c.in_ok-vars.vars.times l c.args.test.now c.new-all.result c.in-Some.pattern) c.in_ok-vars.ensures.texts (subst (λ o. MatchOption o (HasNoTest c.args.setting.now.domain.now c.in_ok-vars.vars.times c.in_ok-vars.vars.texts c.args.test.now c.new-all.result) (IsWithTest c.args.setting.now.domain.now c.in_ok-vars.vars.times c.in_ok-vars.vars.texts c.args.test.now c.new-all.result)) c.in-Some.is c.in_ok-pattern.ensures)) in
     record {
       table = tt;
@@ -84,11 +84,11 @@ returns-in-Err-TooManyCells c =
 
 pub returns-in_default : goal.returns-in_default
 returns-in_default c =
-    let fresh = fresh_by c.store_over-out.result c.in_ok-vars.vars.times (test_times c.args.test.now) c.in_ok-vars.vars.texts (test_names c.args.test.now) (nat_abs (to_z w64 (of_z w64 c.period_of.result))) (nat_abs (test_period c.args.test.now)) c.store_over-out.ensures c.in_ok-vars.ensures.times c.in_ok-vars.ensures.texts (test_word c.args.test.now c.period_of.result c.requires.low c.requires.reach c.period_of.ensures) in
+    let fresh = fresh_by c.store_over-out.result c.in_ok-vars.vars.times (test_times c.args.test.now) c.in_ok-vars.vars.texts (test_names c.args.test.now) (nat_abs (to_z w64 (of_z w64 c.period_of.result))) (nat_abs (test_period c.args.test.now)) c.store_over-out.ensures.made c.in_ok-vars.ensures.times c.in_ok-vars.ensures.texts (test_word c.args.test.now c.period_of.result c.requires.low c.requires.reach c.period_of.ensures) in
     let no : HasNoTest c.args.setting.now.domain.now (test_times c.args.test.now) (test_names c.args.test.now) c.args.test.now c.new-all.result = subst (λ l. HasNoTest c.args.setting.now.domain.now l (test_names c.args.test.now) c.args.test.now c.new-all.result) c.in_ok-vars.ensures.times (subst (λ l. HasNoTest c.args.setting.now.domain.now c.in_ok-vars.vars.times l c.args.test.now c.new-all.result) c.in_ok-vars.ensures.texts (subst (λ o. MatchOption o (HasNoTest c.args.setting.now.domain.now c.in_ok-vars.vars.times c.in_ok-vars.vars.texts c.args.test.now c.new-all.result) (IsWithTest c.args.setting.now.domain.now c.in_ok-vars.vars.times c.in_ok-vars.vars.texts c.args.test.now c.new-all.result)) c.in_default.is c.in_ok-pattern.ensures)) in
     record {
-      table = no_table c.args.setting.now.domain.now c.len-size.ensures.ascending c.args.test.now c.requires.low c.new-all.result c.new-all.ensures c.len-size.result c.len-size.ensures.count c.args.setting.now.cap c.store_over-out.result fresh no c.shape.ensures.valid _ c.in_ok-vars.ensures.times c.in_ok-vars.ensures.texts refl;
-      reach = λ high h. no_reach c.args.setting.now.domain.now c.len-size.ensures.ascending c.args.test.now c.requires.low c.new-all.result c.new-all.ensures c.len-size.result c.len-size.ensures.count c.args.setting.now.cap c.store_over-out.result fresh no c.shape.ensures.valid high;
-      few = no_few c.args.setting.now.domain.now c.len-size.ensures.ascending c.args.test.now c.requires.low c.new-all.result c.new-all.ensures c.len-size.result c.len-size.ensures.count c.args.setting.now.cap c.store_over-out.result fresh no c.shape.ensures.valid;
+      table = no_table c.args.setting.now.domain.now c.len-size.ensures.ascending c.args.test.now c.requires.low c.new-all.result c.new-all.ensures c.len-size.result c.len-size.ensures.count c.args.setting.now.cap c.store_over-out.result fresh no c.store_over-out.ensures.valid _ c.in_ok-vars.ensures.times c.in_ok-vars.ensures.texts refl;
+      reach = λ high h. no_reach c.args.setting.now.domain.now c.len-size.ensures.ascending c.args.test.now c.requires.low c.new-all.result c.new-all.ensures c.len-size.result c.len-size.ensures.count c.args.setting.now.cap c.store_over-out.result fresh no c.store_over-out.ensures.valid high;
+      few = no_few c.args.setting.now.domain.now c.len-size.ensures.ascending c.args.test.now c.requires.low c.new-all.result c.new-all.ensures c.len-size.result c.len-size.ensures.count c.args.setting.now.cap c.store_over-out.result fresh no c.store_over-out.ensures.valid;
       many = λ e. cc;
     }

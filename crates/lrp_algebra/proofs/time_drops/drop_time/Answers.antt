@@ -27,4 +27,4 @@ returns c =
       | in-Some+in_ok-store-in-Some w ↦ inl (w.in-Some.place, w.in-Some.ensures.some, subst (λ s. IsStoreWithoutTime w.in-Some.place c.args.table.now.store s) (sym w.store-is) w.in_ok-store-in-Some.ensures)
       | in-None+in_ok-store-in-None w ↦ inr (w.in-None.ensures.none, subst (λ (s : StoreView). s ≡ record c.args.table.now.store { spare = s.spare }) (sym w.store-is) w.in_ok-store-in-None.ensures)
     ] in
-    either_dropped c.args.name.now c.args.table.now c.args.table.now.names_differ _ c.in_ok-without.ensures c.in_ok-copy.ensures store c.shape.ensures.valid c.shape-2.ensures.valid
+    either_dropped c.args.name.now c.args.table.now c.args.table.now.names_differ _ c.in_ok-without.ensures c.in_ok-copy.ensures store c.shape.ensures.valid

@@ -6,12 +6,23 @@ use Rattle.lrp_tables.specs.Pieces.{ArePieces}
 use Rattle.lrp_algebra.specs.Tuples.{IsWithoutTime}
 use Rattle.lrp_tables.proofs.Pieced.{piece_fits, piece_reach}
 use Rattle.lrp_tables.proofs.Passing.{IsPassing, passing_none, passing_more, next_is, passed}
+use Rattle.lrp_algebra.proofs.NewZones.{begun_like, piece_zone}
 use Rattle.lrp_algebra.proofs.TimeDropped.{fits_longer}
 use Rattle.lrp_systems.proofs.WholeCells.{wholes_none}
 use Rattle.lrp_algebra.proofs.time_drops.without_time.Goals as goal
 
 pub loop-piece-init : goal.loop-piece-init
-loop-piece-init c = (passing_none (IsWithoutTime c.args.place) (λ high. 2 * high) 4294967295 c.args.store.now c.new-out.result c.shape.ensures.valid _ (subst (λ l. ArePieces c.args.store.now l) (sym c.into_iter-piece-iterator.ensures.into_iter_gives) c.of-piece-items.ensures), wholes_none c.in_ok-wholes.wholes c.new-out.result c.in_ok-wholes.ensures)
+loop-piece-init c = (passing_none (IsWithoutTime c.args.place) (λ high. 2 * high) 4294967295 c.args.store.now c.new-out.result (begun_like c.args.store.now c.new-out.result _ c.period.result c.shape-shape.ensures.valid c.new-out.ensures c.period.ensures (let e = ap (λ h. h.times) c.shape-shape.ensures.value in omega (arith, e)) (let e = ap (λ h. h.texts) c.shape-shape.ensures.value in omega (arith, e))) _ (subst (λ l. ArePieces c.args.store.now l) (sym c.into_iter-piece-iterator.ensures.into_iter_gives) c.of-piece-items.ensures), wholes_none c.in_ok-wholes.wholes c.new-out.result c.in_ok-wholes.ensures)
+
+pub add_without_time-requires-clause-valid : goal.add_without_time-requires-clause-valid
+add_without_time-requires-clause-valid c =
+    let grown = c.loop-piece.invariant.0.grown (2 ^ 61) c.requires.reach in
+    grown.valid
+
+pub add_without_time-requires-clause-zone : goal.add_without_time-requires-clause-zone
+add_without_time-requires-clause-zone c =
+    let is = next_is (IsWithoutTime c.args.place) (λ high. 2 * high) 4294967295 c.args.store.now c.new-out.result c.loop-piece.out c.loop-piece.out c.loop-piece.piece-iterator c.next.new.self c.in-Some.piece c.in-Some.ensures.steps c.loop-piece.invariant.0 in
+    piece_zone c.args.store.now c.shape-shape.ensures.valid c.in-Some.piece is
 
 pub add_without_time-requires-clause-fits : goal.add_without_time-requires-clause-fits
 add_without_time-requires-clause-fits c =
@@ -48,6 +59,7 @@ returns c =
     let f : c.loop-piece.out.shape.times ≡ c.args.store.now.shape.times - 1 = ap (λ h. h.times) grown.shape ∙ ap (λ v. v.shape.times) c.new-out.ensures ∙ ap (λ h. h.times - 1) c.shape-shape.ensures.value in
     let low : c.args.place < c.args.store.now.shape.times = c.requires.place in
     record {
+      valid = grown.valid;
       times = omega (arith, f, low);
       texts = ap (λ h. h.texts) grown.shape ∙ ap (λ v. v.shape.texts) c.new-out.ensures ∙ ap (λ h. h.texts) c.shape-shape.ensures.value;
       made = passed (IsWithoutTime c.args.place) (λ high. 2 * high) 4294967295 c.args.store.now c.new-out.result c.loop-piece.out (subst (λ l. IsPassing (IsWithoutTime c.args.place) (λ high. 2 * high) 4294967295 c.args.store.now c.new-out.result c.loop-piece.out l) c.in-None.ensures.steps.0 c.loop-piece.invariant.0)

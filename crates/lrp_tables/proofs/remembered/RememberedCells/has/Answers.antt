@@ -2,7 +2,7 @@
 use Rattle.std.proofs.Common.{◌≡◌, ◌<◌, List, Option, Some, Contains, length, get_or, refl, sym, ap, subst, ◌∙◌, arith}
 use Rattle.lrp_model.specs.declared.tuples.Cell.{Cell}
 use Rattle.lrp_slots.proofs.Shortened.{same_numbers}
-use Rattle.lrp_tables.proofs.remembered.Remembered.has.Goals as goal
+use Rattle.lrp_tables.proofs.remembered.RememberedCells.has.Goals as goal
 
 pub returns-in-Some : goal.returns-in-Some
 returns-in-Some c = λ t.
