@@ -11,18 +11,19 @@ use Rattle.lrp_theory.specs.Entries.{node}
 use Rattle.lrp_theory.proofs.Modulo.{Divides-is, Divides-zero, rem_divides, rem_between}
 use Rattle.lrp_model.specs.declared.tuples.Cell.{Cell}
 use Rattle.lrp_model.specs.declared.tuples.Shape.{Shape}
-use Rattle.lrp_zone.specs.Zones.{ZoneView, IsMember, IsResidue, reach_of}
+use Rattle.lrp_zone.specs.Zones.{ZoneView, IsZone, IsMember, IsResidue, reach_of}
 use Rattle.lrp_store.specs.Stores.{StoreView, IsStore, IsPadded, IsCellOf, LiesInCell, HasReach, zones_at, zone_of, tables_at, AreChosenTexts}
-use Rattle.lrp_store.specs.Growing.{IsAdded, IsRefused}
+use Rattle.lrp_store.specs.Growing.{IsAdded, IsGrown, IsRefused}
 use Rattle.lrp_zone.specs.Given.{HasNone, IsGivenZone, MeetsGiven}
 use Rattle.lrp_zone.specs.Pairs.{IsOfCell}
 use Rattle.lrp_store.proofs.Held.{node_take, cell_held}
 use Rattle.lrp_store.proofs.Counted.{one_cell, lies_in}
-use Rattle.lrp_minus.specs.Absences.{CanBeTurned, IsAbsent, IsAbsentAt, IsChosenTo}
-use Rattle.lrp_minus.specs.Differences.{AreOfCell, greatest_reach}
+use Rattle.lrp_minus.specs.Absences.{CanBeTurned, CanFill, IsAbsent, IsAbsentAt, IsChosenTo}
+use Rattle.lrp_cutting.specs.Differences.{AreOfCell, greatest_reach}
+use Rattle.lrp_cutting.specs.Settling.{IsLike, IsPlaceOf}
 use Rattle.lrp_minus.specs.Filling.{IsUncut}
 use Rattle.lrp_tables.proofs.Gathering.{IsGathering, gathering_more, gathering_refused, gathered, added_as, refused_as}
-use Rattle.lrp_minus.proofs.Lists.{greatest_below}
+use Rattle.lrp_cutting.proofs.Lists.{greatest_below}
 use Rattle.lrp_theory.proofs.Members.{from_map, in_map}
 
 -- the time in a column has this residue or a later one
@@ -31,6 +32,10 @@ pub record IsBehind (k column : ℕ) (residue : ℤ) (times : List ℤ) (texts :
   pub behind : residue ≤ℤ own
   pub high : own <ℤ pos k
   pub is : Divides (pos k) (node times (column + 1) -ℤ own)
+
+-- a store that grew can be filled further
+pub filling_on : {set : List ℤ → List ℕ → Type 0} {cap high : ℕ} (s start out : StoreView) → CanFill s start → IsGrown set cap high start out → CanFill s out
+filling_on s start out can g = record { store = can.store; valid = g.valid; like = record { shape = g.shape ∙ can.like.shape; period = g.period ∙ can.like.period }; turned = can.turned }
 
 -- a number as it is passed
 pub word_is : (m : ℤ) → pos 0 ≤ℤ m → m ≤ℤ pos (2 ^ 62) → to_z w64 (of_z w64 m) ≡ m
@@ -270,6 +275,16 @@ module _ (s : StoreView) (is : IsStore s) where
 
         pub free_residues : z.residues ≡ take s.shape.times cell.residues
         free_residues = o.residues ∙ ap (λ m. take m cell.residues) en
+
+        -- it can be added to a store that is like s
+        pub free_place : (out : StoreView) → IsLike s out → IsZone z → IsPlaceOf out cell z
+        free_place out like valid = record {
+          zone = valid;
+          period = free_period ∙ sym like.period;
+          residues = free_residues ∙ ap (λ (q : Shape). take q.times cell.residues) (sym like.shape);
+          texts = subst (λ (q : Shape). IsPadded 0 q.texts cell.texts) (sym like.shape) c.texts;
+          times = subst (λ (q : Shape). IsPadded (pos 0) q.times cell.residues) (sym like.shape) c.residues;
+        }
 
         pub free_cutters : AreOfCell z (zones_at s cell)
         free_cutters = record {

@@ -11,7 +11,7 @@ use Rattle.lrp_model.specs.declared.tuples.Cell.{Cell}
 use Rattle.lrp_zone.specs.Spread.{target}
 use Rattle.lrp_zone.specs.Zones.{IsResidue}
 use Rattle.lrp_store.specs.Stores.{StoreView, IsStore, IsPadded}
-use Rattle.lrp_minus.specs.Beneath.{ArePlacesFor, AreNumbersAt, AreResiduesAt, IsCellBeneath}
+use Rattle.lrp_minus.specs.Beneath.{ArePlacesFor, ArePickedNumbers, AreResiduesAt, IsCellBeneath}
 use Rattle.lrp_tables.specs.Calls.{number_at}
 use Rattle.lrp_tables.specs.declared.names.Places.{Places}
 
@@ -144,7 +144,7 @@ numbers_front n numbers places low =
     let up : get_or places i 0 ≤ n = p.1 in
     get_or-map (number_at (take n numbers)) places i 0 0 l ∙ get_or-take n numbers (get_or places i 0 - 1) 0 (omega arith) ∙ sym (get_or-map (number_at numbers) places i 0 0 l))
 
-pub beneath_is : (places : Places) (s : StoreView) → IsStore s → (cell : Cell) → ArePlacesFor 8 8 s places → (own : List ℤ) → AreResiduesAt places.times cell.residues own → (numbers : List ℕ) → AreNumbersAt places.texts cell.texts numbers
+pub beneath_is : (places : Places) (s : StoreView) → IsStore s → (cell : Cell) → ArePlacesFor 8 8 s places → (own : List ℤ) → AreResiduesAt places.times cell.residues own → (numbers : List ℕ) → ArePickedNumbers places.texts cell.texts numbers
     → (k : ℤ) → k ≡ pos s.period → (rs : List ℤ) → rs ≡ map (λ r. int_rem_euclid r k) own → IsCellBeneath places s cell (record { texts = numbers; residues = rs })
 beneath_is places s is cell among own residues numbers texts k ek rs ers =
     subst (λ (l : List ℤ). IsCellBeneath places s cell (record { texts = numbers; residues = l })) (sym (ers ∙ ap (λ (d : ℤ). map (λ r. int_rem_euclid r d) own) ek)) (record {

@@ -6,6 +6,7 @@ use Rattle.lrp_model.specs.Texts.{Text, Ascends}
 use Rattle.lrp_model.specs.declared.tuples.Shape.{Shape}
 use Rattle.lrp_store.specs.Stores.{StoreView, IsStore, InStore, HasReach}
 use Rattle.lrp_store.specs.Growing.{IsAdded, IsRefused}
+use Rattle.lrp_store.proofs.Held.{new_store}
 use Rattle.lrp_tables.specs.declared.table.Table.{Table}
 use Rattle.lrp_tables.specs.Caps.{InhabitsMoreThan}
 use Rattle.lrp_tables.specs.Tables.{Has, HasTexts, IsComplement, IsTableOf}
@@ -21,6 +22,10 @@ fresh_store s = record { shape = s.shape; period = s.period; tables = finite.emp
 
 pub fresh_by : (s start : StoreView) (q : Shape) (k : ℕ) → start ≡ record { shape = q; period = k; tables = finite.empty; spare = 0 } → q ≡ s.shape → k ≡ s.period → start ≡ fresh_store s
 fresh_by s start q k e eq ek = e ∙ ap (λ (p : Shape). record { shape = p; period = k; tables = finite.empty; spare = 0 }) eq ∙ ap (λ (n : ℕ). record { shape = s.shape; period = n; tables = finite.empty; spare = 0 }) ek
+
+-- it is a store
+pub fresh_valid : (s : StoreView) → IsStore s → (start : StoreView) → start ≡ fresh_store s → IsStore start
+fresh_valid s is start fresh = subst IsStore (sym fresh) (new_store s.shape s.period is.times is.texts is.period_low is.period_high)
 
 module _ (domain : List Text) (ascends : Ascends domain) (table : Table) (size : ℕ) (es : size ≡ length domain) (chosen : List ℕ) where
   -- the tuples that are absent are those of the assignments that are missing

@@ -17,13 +17,13 @@ use Rattle.lrp_store.proofs.Held.{Table, cell_held, node_take}
 use Rattle.lrp_systems.specs.Choices.{AgreesAlong}
 use Rattle.lrp_minus.specs.Beneath.{IsCellBeneath}
 use Rattle.lrp_tables.specs.Calls.{number_at}
-use Rattle.lrp_minus.specs.Taking.{AgreesBeneath, IsContentBeneath, IsContentOf, IsTaking}
+use Rattle.lrp_minus.specs.Taking.{AgreesBeneath, IsContentBeneath, IsContentOf, IsSubtraction}
 use Rattle.lrp_tables.specs.declared.names.Places.{Places}
 use Rattle.lrp_minus.specs.declared.taking.Content.{Content}
 use Rattle.lrp_minus.specs.declared.taking.Content.TheVariants.{Nothing, Everything}
 use Rattle.lrp_minus.specs.declared.taking.Taking.{Taking}
 use Rattle.lrp_minus.proofs.BeneathLaws.{numbers_front}
-use Rattle.lrp_minus.proofs.Lists.{from_map, in_map, in_none}
+use Rattle.lrp_cutting.proofs.Lists.{from_map, in_map, in_none}
 
 module _ (places : Places) (right : StoreView) (right_is : IsStore right) (cell below : Cell) (beneath : IsCellBeneath places right cell below) (count : length places.times ≡ right.shape.times) where
   lies : (xs : List ℤ) (ns : List ℕ) → AgreesBeneath places right.period cell xs ns → LiesInCell right.shape right.period below (map (node xs) places.times) (map (number_at ns) places.texts)
@@ -75,7 +75,7 @@ module _ (places : Places) (right : StoreView) (right_is : IsStore right) (cell 
   }
 
 -- what is beneath a cell whose residues stand up to the last of the places is beneath the tuples that have them
-module _ (t : Taking) (s : StoreView) (taking : IsTaking t s) (cell : Cell) (p : ℕ) (few : p ≤ 8) (last : t.last ≤ p) where
+module _ (t : Taking) (s : StoreView) (taking : IsSubtraction t s) (cell : Cell) (p : ℕ) (few : p ≤ 8) (last : t.last ≤ p) where
   before : (q : ℕ) → q ≤ length t.places.now.times → target t.places.now.times q ≤ p
   before zero h = omega arith
   before (suc q) h = let l : get_or t.places.now.times q 0 ≤ t.last = taking.last q (omega arith) in omega arith

@@ -17,14 +17,14 @@ use Rattle.lrp_zone.proofs.Placed.{node_map}
 use Rattle.lrp_store.specs.Settled.{InSome}
 use Rattle.lrp_store.specs.Stores.{StoreView, IsStore, InStore, IsCellOf, HasReach, LiesInCell, zone_of, tables_at, zones_at}
 use Rattle.lrp_store.proofs.Counted.{lies_in, one_cell}
-use Rattle.lrp_store.proofs.Held.{Table, cell_held, node_take}
+use Rattle.lrp_store.proofs.Held.{Table, cell_held, node_take, zone_held}
 use Rattle.lrp_minus.specs.Beneath.{AgreesAt, AreResiduesAt, IsCellBeneath}
 use Rattle.lrp_tables.specs.Calls.{number_at}
 use Rattle.lrp_minus.specs.Cutters.{AreCutOf, AreCutters, CanCut, HasNoCutter, IsCutter}
-use Rattle.lrp_minus.specs.Differences.{greatest_reach}
+use Rattle.lrp_cutting.specs.Differences.{greatest_reach}
 use Rattle.lrp_tables.specs.declared.names.Places.{Places}
 use Rattle.lrp_minus.proofs.BeneathLaws.{numbers_front}
-use Rattle.lrp_minus.proofs.Lists.{from_map, front_more, got_in, greatest_below, in_either, in_left, in_map, in_nothing, in_right, in_this, reach_below, reach_push, this_has, in_none, in_one}
+use Rattle.lrp_cutting.proofs.Lists.{from_map, front_more, got_in, greatest_below, in_either, in_left, in_map, in_nothing, in_right, in_this, reach_below, reach_push, this_has, in_none, in_one}
 use Rattle.std.proofs.lemmas.List.Elements.{Contains-append_cases, Contains-append_left, Contains-push}
 
 -- ---- one zone
@@ -144,6 +144,9 @@ module _ (places : List ℕ) (k : ℕ) (rs : List ℤ) where
 module _ (s : StoreView) (is : IsStore s) (c : Cell) (i : ℕ) (z : ZoneView) (e : slice_get (zones_at s c) i ≡ Some z) where
   pub read_at : (t : Table) × Contains (tables_at s c) t × (zone_of s c t ≡ z)
   read_at = from_map (zone_of s c) (tables_at s c) z (got_in (zones_at s c) i z e)
+
+  pub read_zone : IsZone z
+  read_zone = subst IsZone read_at.2 (zone_held s is c read_at.0 read_at.1)
 
   pub read_period : z.period ≡ s.period
   read_period = ap (λ v. v.period) (sym read_at.2)

@@ -14,6 +14,7 @@ use Rattle.lrp_zone.specs.Zones.{reach_of}
 use Rattle.lrp_store.specs.Growing.{IsAdded, IsRefused}
 use Rattle.lrp_store.specs.Stores.{StoreView, IsStore, InStore, HasReach, zone_of}
 use Rattle.lrp_store.specs.Tables.{AreNumbered}
+use Rattle.lrp_store.proofs.Held.{new_store}
 use Rattle.lrp_tables.specs.declared.table.Table.{Table}
 use Rattle.lrp_tables.specs.Caps.{InhabitsMoreThan}
 use Rattle.lrp_tables.specs.Columns.{ArePlacesOf, IsPlace}
@@ -25,9 +26,11 @@ use Rattle.lrp_tables.proofs.Named.{pairs_left}
 use Rattle.lrp_tables.proofs.TableLaws.{table_texts}
 use Rattle.lrp_tables.proofs.TableMade.{held_times, held_texts, held_known, tuples_of}
 use Rattle.lrp_tables.proofs.Wider.{IsWider, less_tuples, same_tuples, wider_tuples}
-use Rattle.lrp_minus.specs.Absences.{IsLike}
+use Rattle.lrp_cutting.specs.Settling.{IsLike}
+use Rattle.lrp_cutting.proofs.LineLaws.{word_pos}
 use Rattle.lrp_minus.specs.Beneath.{ArePlacesFor}
-use Rattle.lrp_minus.specs.Cutters.{CanCut, CanSubtract, CanTake, HaveReach, IsSpared}
+use Rattle.lrp_minus.specs.Cutters.{CanCut, CanSubtract, CanSubtractIn, CanTake, SidesHaveReach, IsSpared}
+use Rattle.lrp_minus.specs.declared.differences.Difference.{Difference}
 use Rattle.lrp_tables.specs.declared.names.Places.{Places}
 
 -- a period as it is passed
@@ -43,9 +46,6 @@ passed_pos k low = omega (arith, ints)
 -- the period of a store as it is passed
 pub word_abs : (z : ℤ) (k : ℕ) → z ≡ pos k → k ≤ 2 ^ 62 → nat_abs (to_z w64 (of_z w64 z)) ≡ k
 word_abs z k e h = omega (arith, ints)
-
-pub word_pos : (z : ℤ) (k : ℕ) → z ≡ pos k → k ≤ 2 ^ 62 → to_z w64 (of_z w64 z) ≡ pos k
-word_pos z k e h = omega (arith, ints)
 
 pub same_word : (a b : ℤ) (j k : ℕ) → a ≡ pos j → b ≡ pos k → j ≤ 2 ^ 62 → k ≤ 2 ^ 62 → of_z w64 a ≡ of_z w64 b → j ≡ k
 same_word a b j k ea eb hj hk h =
@@ -63,11 +63,16 @@ align_reach s z k e h r = subst (λ (n : ℕ). HasReach s (2 ^ 62 - n)) (sym (wo
 -- the right store can be cut to cells of the common period
 pub can_cut : (places : Places) (left right : StoreView) (k : ℕ) → CanSubtract places left right k → (out : StoreView) → out.shape ≡ left.shape → out.period ≡ k → CanCut places out right
 can_cut places left right k can out shape period = record {
+  right_store = can.right_store;
   among = subst (λ (q : Shape). ArePlacesFor q.times q.texts right places) (sym shape) can.among;
   multiple = subst (λ (n : ℕ). Divides (pos right.period) (pos n)) (sym period) can.right_multiple;
   period = let h : 2 * k ≤ 2 ^ 62 = can.period in omega arith;
   reach = subst (λ (n : ℕ). HasReach right (2 ^ 62 - 2 * n)) (sym period) can.right_reach;
 }
+
+-- a store that grew can take more of a difference
+pub subtract_on : (d : Difference) (start out : StoreView) → IsStore out → out.shape ≡ start.shape → out.period ≡ start.period → CanSubtractIn d start → CanSubtractIn d out
+subtract_on d start out valid shape period can = record { valid = valid; shape = shape ∙ can.shape; subtract = subst (λ (n : ℕ). CanSubtract d.places.now d.left.now d.right.now n) (sym period) can.subtract }
 
 -- a store without cells of a shape and a period
 abbrev pub without_cells : Shape → ℕ → StoreView
@@ -76,16 +81,20 @@ without_cells q k = record { shape = q; period = k; tables = finite.empty; spare
 pub started : (start : StoreView) (q r : Shape) (j k : ℕ) → start ≡ without_cells q j → q ≡ r → j ≡ k → start ≡ without_cells r k
 started start q r j k e eq ek = e ∙ ap (λ (p : Shape). without_cells p j) eq ∙ ap (λ (n : ℕ). without_cells r n) ek
 
+-- it is a store
+pub fresh_valid : (s : StoreView) → IsStore s → (k : ℤ) → pos 1 ≤ℤ k → 2 * nat_abs k ≤ 2 ^ 62 → (start : StoreView) → start ≡ without_cells s.shape (nat_abs k) → IsStore start
+fresh_valid s is k low high start fresh = subst IsStore (sym fresh) (new_store s.shape (nat_abs k) is.times is.texts (omega (arith, ints)) (omega (arith, ints)))
+
 -- ---- the left store where its period is the common one
 module _ (places : Places) (left right : StoreView) (k : ℕ) (can : CanSubtract places left right k) (same : left.period ≡ k) where
   -- both reach no farther than tables may
-  pub both_reach : (high : ℕ) → HasReach left high → HasReach right high → HaveReach left right high
+  pub both_reach : (high : ℕ) → HasReach left high → HasReach right high → SidesHaveReach left right high
   both_reach high l r = record { in_left = farther left high (high + (left.period - 1)) (omega arith) l; in_right = r }
 
   pub can_take : CanTake places left right
   can_take = record {
     cut = can_cut places left right k can left refl same;
-    reach = subst (λ (n : ℕ). HaveReach left right (2 ^ 62 - 2 * n)) (sym same) (both_reach (2 ^ 62 - 2 * k) can.left_reach can.right_reach);
+    reach = subst (λ (n : ℕ). SidesHaveReach left right (2 ^ 62 - 2 * n)) (sym same) (both_reach (2 ^ 62 - 2 * k) can.left_reach can.right_reach);
   }
 
   pub is_like : (out : StoreView) → out.shape ≡ left.shape → out.period ≡ k → IsLike left out
@@ -111,16 +120,20 @@ module _ (left right : Table) (right_is : IsStore right.store) (places : Places)
       let t = left.texts_named in
       subst (λ p. (0 < p) × (p ≤ left.store.shape.texts)) (get_or_default places.texts i 0 d h) (low, omega arith)
 
+  -- each of its times has a place
+  pub all_placed : length places.times ≡ right.store.shape.times
+  all_placed = places_count right.vars.times left.vars.times places.times times_at ∙ right.times_named
+
   among : ArePlacesFor left.store.shape.times left.store.shape.texts right.store places
   among = record {
-    times_count = places_count right.vars.times left.vars.times places.times times_at ∙ right.times_named;
+    times_count = all_placed;
     texts_count = places_count right.vars.texts left.vars.texts places.texts texts_at ∙ right.texts_named;
     in_times = subst (ArePlaces places.times) left.times_named (places_are right.vars.times left.vars.times places.times times_at (pairs_left ◌≢◌ right.vars.times right.vars.texts right.names_differ));
     in_texts = text_place;
   }
 
-  pub can_subtract : Divides (pos left.store.period) (pos k) → Divides (pos right.store.period) (pos k) → 2 * k ≤ 2 ^ 62 → HasReach left.store (2 ^ 62 - 2 * k) → HasReach right.store (2 ^ 62 - 2 * k) → CanSubtract places left.store right.store k
-  can_subtract own other small l r = record { among = among; left_multiple = own; right_multiple = other; period = small; left_reach = l; right_reach = r }
+  pub can_subtract : IsStore left.store → Divides (pos left.store.period) (pos k) → Divides (pos right.store.period) (pos k) → 2 * k ≤ 2 ^ 62 → HasReach left.store (2 ^ 62 - 2 * k) → HasReach right.store (2 ^ 62 - 2 * k) → CanSubtract places left.store right.store k
+  can_subtract left_is own other small l r = record { left_store = left_is; right_store = right_is; among = among; left_multiple = own; right_multiple = other; period = small; left_reach = l; right_reach = r }
 
   -- ---- tuples that are spared are those of the assignments of the difference
 

@@ -12,7 +12,8 @@ use Rattle.lrp_store.specs.Stores.{StoreView, IsStore, IsCellOf, InStore, LiesIn
 use Rattle.lrp_store.proofs.Counted.{lies_in, one_cell}
 use Rattle.lrp_store.proofs.Grown.{grown_same}
 use Rattle.lrp_store.proofs.Held.{cell_held, node_take}
-use Rattle.lrp_minus.specs.Absences.{IsAbsentAt, IsChosenTo, IsLike}
+use Rattle.lrp_cutting.specs.Settling.{IsLike}
+use Rattle.lrp_minus.specs.Absences.{IsAbsentAt, IsChosenTo}
 use Rattle.lrp_tables.proofs.FreeZones.{free_zone}
 use Rattle.lrp_tables.proofs.Gathering.{added_as, refused_as}
 use Rattle.lrp_theory.proofs.Members.{from_map}

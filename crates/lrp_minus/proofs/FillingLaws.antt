@@ -2,17 +2,17 @@
 use Rattle.std.proofs.Common.{◌≡◌, ℕ, ◌+◌, ◌<◌, ◌≤◌, length, inl, inr, List, [], ◌∷◌, ◌++◌, take, Result, OnOk, arith, sym, ap, subst, ◌∙◌}
 use Rattle.std.specs.Prelude.{ℤ, pos, Contains}
 use Rattle.lrp_model.specs.declared.tuples.Cell.{Cell}
-use Rattle.lrp_zone.specs.Zones.{ZoneView, IsZone, IsMember, greatest_of}
+use Rattle.lrp_zone.specs.Zones.{ZoneView, IsMember, greatest_of}
 use Rattle.lrp_store.specs.Stores.{StoreView, IsStore, IsPadded, InStore}
 use Rattle.lrp_store.specs.Growing.{IsGrown, IsAdded, IsRefused, IsTupleOf}
 use Rattle.lrp_store.specs.Settled.{InSome}
 use Rattle.lrp_store.specs.declared.store.StoreFault.{StoreFault}
 use Rattle.lrp_store.proofs.Grown.{grown_on, grown_same, grown_within, one_more_of}
 use Rattle.lrp_systems.proofs.AddedAs.{added_as, refused_as}
-use Rattle.lrp_minus.specs.Differences.{greatest_reach}
+use Rattle.lrp_cutting.specs.Differences.{greatest_reach}
 use Rattle.lrp_minus.specs.Filling.{IsUncut}
-use Rattle.lrp_minus.specs.Leaving.{AreLeftOf}
-use Rattle.lrp_minus.proofs.Lists.{in_either, in_nothing, in_this, this_has}
+use Rattle.lrp_cutting.specs.Leaving.{AreLeftOf}
+use Rattle.lrp_cutting.proofs.Lists.{in_either, in_nothing, in_this, this_has}
 
 -- the first pieces were added
 pub record AreFilled (z : ZoneView) (cutters : List ZoneView) (named : List ℕ) (cap high : ℕ) (old now : StoreView) (done : List ZoneView) : Type 0 where
@@ -25,7 +25,7 @@ module _ (z : ZoneView) (cutters : List ZoneView) (named : List ℕ) (cap high :
 
   -- one piece more
   module _ (pieces : List ZoneView) (gap : AreLeftOf z (z ∷ []) cutters high pieces) (period : z.period ≡ old.period) (cell : Cell) (residues : z.residues ≡ take old.shape.times cell.residues) (texts : IsPadded 0 old.shape.texts cell.texts) (times : IsPadded (pos 0) old.shape.times cell.residues)
-      (is_named : named ≡ take old.shape.texts cell.texts) (now : StoreView) (done : List ZoneView) (f : AreFilled z cutters named cap high old now done) (p : ZoneView) (here : Contains pieces p) (valid : IsZone p) where
+      (is_named : named ≡ take old.shape.texts cell.texts) (now : StoreView) (done : List ZoneView) (f : AreFilled z cutters named cap high old now done) (p : ZoneView) (here : Contains pieces p) where
     pub piece_period : p.period ≡ now.period
     piece_period = (gap.zones p here).1.period ∙ period ∙ sym f.grown.period
 

@@ -1,34 +1,12 @@
--- What is proved of differences of zones, by topic.
+-- What is proved of differences and complements of stores, by topic.
 pub mod AbsenceLaws
-pub mod AddingLaws
-pub mod Alike
 pub mod BeneathLaws
-pub mod BoundedLaws
 pub mod ComplementLaws
 pub mod ContentLaws
-pub mod CutLaws
 pub mod CutterLaws
 pub mod DifferenceLaws
 pub mod EmptyCells
 pub mod FillingLaws
-pub mod GapLaws
-pub mod HalfLaws
-pub mod HullLaws
-pub mod IntervalLaws
-pub mod LeavingLaws
-pub mod LineLaws
-pub mod Lists
-pub mod Membership
-pub mod MergeLaws
-pub mod PairLists
-pub mod SettledLaws
-pub mod SettlingLaws
-pub mod SpanLaws
 pub mod SparedLaws
-pub mod SplitLaws
-pub mod SweepLaws
 pub mod TakenLaws
 pub mod TakingLaws
-pub mod ThresholdLaws
-pub mod TurnLaws
-pub mod WidestLaws

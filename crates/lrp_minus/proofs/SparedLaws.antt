@@ -15,15 +15,15 @@ use Rattle.lrp_store.specs.Settled.{InSome}
 use Rattle.lrp_store.specs.Stores.{StoreView, IsStore, InCell, IsCellOf, IsPadded, zone_of, tables_at, zones_at}
 use Rattle.lrp_store.proofs.Aligning.{key_of}
 use Rattle.lrp_store.proofs.Counted.{key_held}
-use Rattle.lrp_minus.specs.Absences.{IsLike}
+use Rattle.lrp_cutting.specs.Settling.{IsLike, IsPlaceOf}
 use Rattle.lrp_minus.specs.Beneath.{HasBeneath}
-use Rattle.lrp_minus.specs.Cutters.{AreCutters, CanTake, HaveReach, IsSpared, IsSparedIn}
-use Rattle.lrp_minus.specs.Differences.{AreOfCell, greatest_reach}
+use Rattle.lrp_minus.specs.Cutters.{AreCutters, CanTake, SidesHaveReach, IsSpared, IsSparedIn}
+use Rattle.lrp_cutting.specs.Differences.{AreOfCell, greatest_reach}
 use Rattle.lrp_minus.specs.Filling.{IsUncut}
 use Rattle.lrp_tables.specs.declared.names.Places.{Places}
-use Rattle.lrp_minus.proofs.CutterLaws.{read_at, read_period, read_residues, read_columns, read_reach}
+use Rattle.lrp_minus.proofs.CutterLaws.{read_at, read_period, read_residues, read_columns, read_reach, read_zone}
 use Rattle.lrp_tables.proofs.Gathering.{IsGathering, gathering_none, gathering_more, gathering_refused, gathered}
-use Rattle.lrp_minus.proofs.Lists.{in_cons, in_map, in_nothing}
+use Rattle.lrp_cutting.proofs.Lists.{in_cons, in_map, in_nothing}
 
 -- some of the zones from this number on has the times
 abbrev pub IsBehindZone : List ZoneView → ℕ → List ℤ → List ℕ → Type 0
@@ -62,7 +62,7 @@ module _ (places : Places) (left : StoreView) (left_is : IsStore left) (cell : C
   pub of_cell : AreOfCell z cutters
   of_cell = record { each = λ w h. record { period = are.period w h ∙ sym z_period; residues = are.residues w h ∙ sym z_residues } }
 
-  pub left_reach : (high : ℕ) → HaveReach left right high → greatest_reach (z ∷ cutters) + z.period ≤ high + 2 * left.period
+  pub left_reach : (high : ℕ) → SidesHaveReach left right high → greatest_reach (z ∷ cutters) + z.period ≤ high + 2 * left.period
   left_reach high r =
       let a : reach_of z ≤ high + (left.period - 1) = read_reach left left_is cell i z e (high + (left.period - 1)) r.in_left in
       let b : greatest_reach cutters ≤ high + (left.period - 1) = are.reach high r.in_right in
@@ -77,17 +77,14 @@ module _ (places : Places) (left : StoreView) (left_is : IsStore left) (cell : C
 
   -- the zone has the store's parts also in a store that is like it
   module _ (out : StoreView) (like : IsLike left out) where
-    pub like_period : z.period ≡ out.period
-    like_period = z_period ∙ sym like.period
-
-    pub like_residues : z.residues ≡ take out.shape.times cell.residues
-    like_residues = z_residues ∙ ap (λ (q : Shape). take q.times cell.residues) (sym like.shape)
-
-    pub like_texts : IsPadded 0 out.shape.texts cell.texts
-    like_texts = subst (λ (q : Shape). IsPadded 0 q.texts cell.texts) (sym like.shape) proper.texts
-
-    pub like_times : IsPadded (pos 0) out.shape.times cell.residues
-    like_times = subst (λ (q : Shape). IsPadded (pos 0) q.times cell.residues) (sym like.shape) proper.residues
+    pub like_place : IsPlaceOf out cell z
+    like_place = record {
+      zone = read_zone left left_is cell i z e;
+      period = z_period ∙ sym like.period;
+      residues = z_residues ∙ ap (λ (q : Shape). take q.times cell.residues) (sym like.shape);
+      texts = subst (λ (q : Shape). IsPadded 0 q.texts cell.texts) (sym like.shape) proper.texts;
+      times = subst (λ (q : Shape). IsPadded (pos 0) q.times cell.residues) (sym like.shape) proper.residues;
+    }
 
   abbrev Left : List ℤ → List ℕ → Type 0
   Left = IsUncut z cutters (take left.shape.texts cell.texts)
@@ -117,7 +114,7 @@ module _ (places : Places) (left : StoreView) (left_is : IsStore left) (cell : C
         | inr k ↦ inr (record { zone = s.zone; listed = k; inside = s.inside })
       ]
 
-  module _ (cap high : ℕ) (reach : HaveReach left right high) (start out new : StoreView) (shape : out.shape ≡ left.shape) (g : IsGathering (IsSparedIn places left cell right) (IsBehindZone (zones_at left cell) i) cap (high + 2 * left.period) start out) where
+  module _ (cap high : ℕ) (reach : SidesHaveReach left right high) (start out new : StoreView) (shape : out.shape ≡ left.shape) (g : IsGathering (IsSparedIn places left cell right) (IsBehindZone (zones_at left cell) i) cap (high + 2 * left.period) start out) where
     pub spared_more : IsAdded (IsUncut z cutters (take out.shape.texts cell.texts)) cap (greatest_reach (z ∷ cutters) + z.period) out new → IsGathering (IsSparedIn places left cell right) (IsBehindZone (zones_at left cell) (i + 1)) cap (high + 2 * left.period) start new
     spared_more a =
         gathering_more (IsSparedIn places left cell right) cap (high + 2 * left.period) start (IsBehindZone (zones_at left cell) i) (IsBehindZone (zones_at left cell) (i + 1)) (IsUncut z cutters (take left.shape.texts cell.texts)) (greatest_reach (z ∷ cutters) + z.period) out new g (left_reach high reach) left_to left_from

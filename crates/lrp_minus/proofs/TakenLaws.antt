@@ -11,18 +11,18 @@ use Rattle.lrp_store.specs.Growing.{IsAdded, IsRefused}
 use Rattle.lrp_store.specs.Settled.{InSome}
 use Rattle.lrp_store.specs.Stores.{StoreView, IsStore, IsCellOf, IsPadded, zones_at}
 use Rattle.lrp_minus.specs.Cutters.{CanCut, CanSubtract, IsSparedIn}
-use Rattle.lrp_minus.specs.Taking.{IsLeftOf}
+use Rattle.lrp_minus.specs.Taking.{CanBeSplit, IsLeftOf}
 use Rattle.lrp_tables.specs.declared.names.Places.{Places}
-use Rattle.lrp_minus.proofs.CutterLaws.{read_at, read_columns, read_period, read_reach}
+use Rattle.lrp_minus.proofs.CutterLaws.{read_at, read_columns, read_period, read_reach, read_zone}
 use Rattle.lrp_minus.proofs.DifferenceLaws.{can_cut}
 use Rattle.lrp_tables.proofs.Gathering.{IsGathering, gathering_more, gathering_refused}
-use Rattle.lrp_minus.proofs.Lists.{in_cons}
+use Rattle.lrp_cutting.proofs.Lists.{in_cons}
 use Rattle.lrp_minus.proofs.SparedLaws.{IsBehindZone}
 
 module _ (places : Places) (left : StoreView) (left_is : IsStore left) (cell : Cell) (proper : IsCellOf left.shape left.period cell) (right : StoreView) (k : ℕ) (can : CanSubtract places left right k)
     (i : ℕ) (z : ZoneView) (e : slice_get (zones_at left cell) i ≡ Some z) where
   -- the zone can be split to the period
-  pub taken_multiple : (n : ℕ) → n ≡ k → Divides (pos z.period) (pos n)
+  taken_multiple : (n : ℕ) → n ≡ k → Divides (pos z.period) (pos n)
   taken_multiple n en = subst (λ (m : ℕ). Divides (pos m) (pos n)) (sym (read_period left left_is cell i z e)) (subst (λ (m : ℕ). Divides (pos left.period) (pos m)) (sym en) can.left_multiple)
 
   pub taken_reach : (n : ℕ) → n ≡ k → reach_of z ≤ 2 ^ 62 - 2 * n
@@ -30,8 +30,11 @@ module _ (places : Places) (left : StoreView) (left_is : IsStore left) (cell : C
 
   -- in a store of the left one's shape
   module _ (out : StoreView) (shape : out.shape ≡ left.shape) (period : out.period ≡ k) where
-    pub taken_columns : columns_of z ≡ out.shape.times
+    taken_columns : columns_of z ≡ out.shape.times
     taken_columns = read_columns left left_is cell i z e ∙ ap (λ (q : Shape). q.times) (sym shape)
+
+    pub taken_split : CanBeSplit z out
+    taken_split = record { valid = read_zone left left_is cell i z e; columns = taken_columns; multiple = taken_multiple out.period period; reach = taken_reach out.period period }
 
     pub taken_texts : IsPadded 0 out.shape.texts cell.texts
     taken_texts = subst (λ (q : Shape). IsPadded 0 q.texts cell.texts) (sym shape) proper.texts

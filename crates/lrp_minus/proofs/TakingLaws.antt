@@ -9,7 +9,7 @@ use Rattle.lrp_model.specs.declared.tuples.Cell.{Cell}
 use Rattle.lrp_model.specs.declared.tuples.Shape.{Shape}
 use Rattle.lrp_zone.specs.Residues.{HasResidues}
 use Rattle.lrp_zone.specs.Spread.{target}
-use Rattle.lrp_zone.specs.Zones.{ZoneView, columns_of, reach_of}
+use Rattle.lrp_zone.specs.Zones.{ZoneView, IsZone, columns_of, reach_of}
 use Rattle.lrp_store.specs.Growing.{IsAdded, IsRefused}
 use Rattle.lrp_store.specs.Stores.{StoreView, IsStore, IsCellOf, HasReach}
 use Rattle.lrp_store.proofs.Grown.{grown_same}
@@ -19,22 +19,23 @@ use Rattle.lrp_systems.specs.Frames.{IsOrder}
 use Rattle.lrp_systems.specs.Parts.{PartView, system_reach}
 use Rattle.lrp_systems.specs.Pieces.{IsCommonPiece, HasNoCommonPiece}
 use Rattle.lrp_systems.specs.Residues.{HasNoSolution}
-use Rattle.lrp_systems.specs.Sole.{IsWhole}
+use Rattle.lrp_systems.specs.Sole.{IsWholePart}
 use Rattle.lrp_systems.specs.Systems.{IsBegunCell, IsPut, IsSolution}
 use Rattle.lrp_systems.specs.declared.choice.Choice.{Choice}
 use Rattle.lrp_systems.proofs.Branches.{before, branch_less, branch_more, fits_more, frame_more, no_common, of_solution, of_tuple, to_solution, to_tuple}
 use Rattle.lrp_systems.proofs.LoneZones.{lone_within, of_lone, to_lone}
 use Rattle.lrp_minus.specs.Beneath.{ArePlacesFor, HasBeneath}
 use Rattle.lrp_minus.specs.Cutters.{AreCutters}
-use Rattle.lrp_minus.specs.Differences.{AreOfCell, greatest_reach}
+use Rattle.lrp_cutting.specs.Differences.{AreOfCell, greatest_reach}
+use Rattle.lrp_cutting.specs.Settling.{IsPlaceOf}
 use Rattle.lrp_minus.specs.Filling.{IsUncut}
-use Rattle.lrp_minus.specs.Taking.{IsContentOf, IsLeftIn, IsLeftOf, IsTaking, IsWithin}
+use Rattle.lrp_minus.specs.Taking.{IsContentOf, IsLeftIn, IsLeftOf, IsSubtraction, HasPartsWithin}
 use Rattle.lrp_tables.specs.declared.names.Places.{Places}
 use Rattle.lrp_minus.specs.declared.taking.Content.{Content}
 use Rattle.lrp_minus.specs.declared.taking.Content.TheVariants.{Nothing, Everything}
 use Rattle.lrp_minus.specs.declared.taking.Taking.{Taking}
 use Rattle.lrp_tables.proofs.Gathering.{IsGathering, added_as, gathered, gathering_more, gathering_none, gathering_refused, refused_as}
-use Rattle.lrp_minus.proofs.Lists.{in_none, in_nothing}
+use Rattle.lrp_cutting.proofs.Lists.{in_none, in_nothing}
 
 -- the time at the next column has a residue that is not tried yet
 pub record IsAhead (k : ℕ) (order : List ℕ) (p : ℕ) (choice : Choice) (turn : ℕ) (xs : List ℤ) (ns : List ℕ) : Type 0 where
@@ -45,14 +46,16 @@ pub record IsAhead (k : ℕ) (order : List ℕ) (p : ℕ) (choice : Choice) (tur
 
 -- a store that grew keeps what is asked of it
 module _ (t : Taking) (s u : StoreView) (shape : u.shape ≡ s.shape) (period : u.period ≡ s.period) where
-  pub taking_on : IsTaking t s → IsTaking t u
-  taking_on h = record {
+  pub taking_on : IsStore u → IsSubtraction t s → IsSubtraction t u
+  taking_on valid h = record {
+    store = valid;
     fits = fits_more t.parts.now s u shape period h.fits;
     frame = frame_more t.parts.now s u t.frame.now shape period h.frame;
     order = h.order;
     last = h.last;
     reach = subst (λ (n : ℕ). system_reach n t.parts.now ≤ 2 ^ 62 - n) (sym period) h.reach;
     cut = record {
+      right_store = h.cut.right_store;
       among = subst (λ (q : Shape). ArePlacesFor q.times q.texts t.right.now t.places.now) (sym shape) h.cut.among;
       multiple = subst (λ (n : ℕ). Divides (pos t.right.now.period) (pos n)) (sym period) h.cut.multiple;
       period = subst (λ (n : ℕ). 2 * n ≤ 2 ^ 62) (sym period) h.cut.period;
@@ -60,8 +63,8 @@ module _ (t : Taking) (s u : StoreView) (shape : u.shape ≡ s.shape) (period : 
     };
   }
 
-  pub within_on : (high : ℕ) → IsWithin t s.period high → IsWithin t u.period high
-  within_on high h = subst (λ (n : ℕ). IsWithin t n high) (sym period) h
+  pub within_on : (high : ℕ) → HasPartsWithin t s.period high → HasPartsWithin t u.period high
+  within_on high h = subst (λ (n : ℕ). HasPartsWithin t n high) (sym period) h
 
   module _ (c : Cell) (p : ℕ) where
     pub content_on : (content : Content) → IsContentOf t s.period s.shape.texts c p content → IsContentOf t u.period u.shape.texts c p content
@@ -75,7 +78,7 @@ module _ (t : Taking) (s u : StoreView) (shape : u.shape ≡ s.shape) (period : 
       refused_on a = subst (λ (q : Shape). IsRefused (IsLeftIn t q s.period c p) cap (high + 2 * s.period) u new) shape (subst (λ (m : ℕ). IsRefused (IsLeftIn t u.shape m c p) cap (high + 2 * m) u new) period a)
 
 -- the least reach that is asked
-pub taking_within : (t : Taking) (s : StoreView) → IsTaking t s → IsWithin t s.period (2 ^ 62 - 2 * s.period)
+pub taking_within : (t : Taking) (s : StoreView) → IsSubtraction t s → HasPartsWithin t s.period (2 ^ 62 - 2 * s.period)
 taking_within t s h = record { parts = (let l : system_reach s.period t.parts.now ≤ 2 ^ 62 - s.period = h.reach in let m : 2 * s.period ≤ 2 ^ 62 = h.cut.period in omega arith); right = h.cut.reach }
 
 module _ (t : Taking) (s : StoreView) (low : 0 < s.period) (is_order : IsOrder s.shape.times t.frame.now.order) (c : Cell) (p : ℕ) (pl : p < s.shape.times) (choice : Choice) (is : IsCovering t.parts.now s.period t.frame.now.order c.residues p choice) where
@@ -134,7 +137,7 @@ nothing_left t cap high s is c p content = record {
 
 -- ---- all residues are chosen
 
-module _ (t : Taking) (s : StoreView) (is : IsStore s) (taking : IsTaking t s) (c : Cell) (begun : IsBegunCell s c) where
+module _ (t : Taking) (s : StoreView) (is : IsStore s) (taking : IsSubtraction t s) (c : Cell) (begun : IsBegunCell s c) where
   pub cell_is : IsCellOf s.shape s.period c
   cell_is = record { texts = begun.texts; residues = begun.residues; range = begun.chosen }
 
@@ -185,11 +188,18 @@ module _ (t : Taking) (s : StoreView) (is : IsStore s) (taking : IsTaking t s) (
       piece_residues : piece.residues ≡ take s.shape.times c.residues
       piece_residues = r.residues ∙ er
 
+      -- it has a column for each time, and can be added to the cell
+      pub piece_columns : columns_of piece ≡ s.shape.times
+      piece_columns = ap length piece_residues ∙ front_count
+
+      pub piece_place : IsZone piece → IsPlaceOf s c piece
+      piece_place valid = record { zone = valid; period = piece_period; residues = piece_residues; texts = begun.texts; times = begun.residues }
+
       module _ (cutters : List ZoneView) (are : AreCutters t.places.now s c t.right.now cutters) where
         pub piece_cell : AreOfCell piece cutters
         piece_cell = record { each = λ w h. record { period = are.period w h ∙ sym piece_period; residues = are.residues w h ∙ sym piece_residues } }
 
-        piece_reach : (high : ℕ) → IsWithin t s.period high → greatest_reach (piece ∷ cutters) + piece.period ≤ high + 2 * s.period
+        piece_reach : (high : ℕ) → HasPartsWithin t s.period high → greatest_reach (piece ∷ cutters) + piece.period ≤ high + 2 * s.period
         piece_reach high h =
             let a : reach_of piece ≤ system_reach s.period t.parts.now = subst (λ (m : ℕ). reach_of piece ≤ system_reach m t.parts.now) ek r.reach in
             let l : system_reach s.period t.parts.now ≤ high + s.period = h.parts in
@@ -215,7 +225,7 @@ module _ (t : Taking) (s : StoreView) (is : IsStore s) (taking : IsTaking t s) (
           same = h.branch.solution.same;
         }
 
-        module _ (cap high : ℕ) (within : IsWithin t s.period high) (new : StoreView) where
+        module _ (cap high : ℕ) (within : HasPartsWithin t s.period high) (new : StoreView) where
           pub piece_added : IsAdded (IsUncut piece cutters (take s.shape.texts c.texts)) cap (greatest_reach (piece ∷ cutters) + piece.period) s new → IsAdded (IsLeftIn t s.shape s.period c s.shape.times) cap (high + 2 * s.period) s new
           piece_added a = added_as cap (IsUncut piece cutters (take s.shape.texts c.texts)) Part (greatest_reach (piece ∷ cutters) + piece.period) (high + 2 * s.period) (piece_reach high within) s new is uncut_to uncut_from a
 
@@ -225,14 +235,14 @@ module _ (t : Taking) (s : StoreView) (is : IsStore s) (taking : IsTaking t s) (
 -- ---- no residue is chosen
 
 -- the tuples of a zone of which a part was made
-module _ (z : ZoneView) (part : PartView) (same : part.zone ≡ z) (s : StoreView) (is : IsStore s) (whole : IsWhole z.period (columns_of z) part) (columns : columns_of z ≡ s.shape.times) where
+module _ (z : ZoneView) (part : PartView) (same : part.zone ≡ z) (s : StoreView) (is : IsStore s) (whole : IsWholePart z.period (columns_of z) part) (columns : columns_of z ≡ s.shape.times) where
   -- where there is none, nothing is left
   pub none_left : (places : Places) (right : StoreView) (named : List ℕ) (cap high : ℕ) → HasNoSolution (part ∷ []) → IsAdded (IsLeftOf places z named right) cap high s s
   none_left places right named cap high h = record { grown = grown_same cap high _ s is; whole = record { each = λ xs ns l. absurd (h.none xs (of_lone z part same s is whole columns named xs ns l.tuple).inside) } }
 
   module _ (t : Taking) (one : t.parts.now ≡ part ∷ []) where
     -- the right store reaches as far as the zone, and the part's pieces a period farther
-    pub whole_within : (high : ℕ) → 0 < s.period → reach_of z ≤ high → HasReach t.right.now high → IsWithin t s.period high
+    pub whole_within : (high : ℕ) → 0 < s.period → reach_of z ≤ high → HasReach t.right.now high → HasPartsWithin t s.period high
     whole_within high low l r = record { parts = subst (λ ps. system_reach s.period ps ≤ high + s.period) (sym one) (let h : system_reach s.period (part ∷ []) ≤ reach_of z + (s.period - 1) = lone_within z part same s is whole columns in omega arith); right = r }
 
     module _ (c : Cell) (texts : List ℕ) (et : c.texts ≡ texts) (cap high : ℕ) (new : StoreView) where

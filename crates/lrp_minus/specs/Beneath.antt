@@ -18,7 +18,7 @@ pub record AreResiduesAt (places : List ℕ) (residues own : List ℤ) : Type 0 
   pub each : (p : ℕ) → p ≤ length places → node own p ≡ node residues (target places p)
 
 -- own has the numbers at the places, in order, and zeros behind them
-pub record AreNumbersAt (places numbers own : List ℕ) : Type 0 where
+pub record ArePickedNumbers (places numbers own : List ℕ) : Type 0 where
   pub padded : IsPadded 0 (length places) own
   pub each : (i : ℕ) → i < length places → slice_index_or own i 0 ≡ number_at numbers (slice_index_or places i 0)
 

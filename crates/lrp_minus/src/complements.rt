@@ -1,7 +1,7 @@
 // Complements of tables.
 ghost use Rattle.lrp_tables.specs.Steps.{CanComplement, IsComplementResult};
 
-use crate::absences::fill_texts;
+use crate::absences::{Absences, fill_texts};
 use lrp_model::Copies;
 use lrp_store::{Store, StoreFault};
 use lrp_tables::{Setting, StepFault, Table, Vars};
@@ -13,15 +13,18 @@ pub fn complement(setting: &Setting<'_>, table: &Table) -> Result<Table, StepFau
     requires { CanComplement table.now }
     ensures { IsComplementResult setting.now.cap setting.now.domain.now table.now result }
 {
-    let (alloc, cap) = (setting.alloc, setting.cap);
-    let domain_size = setting.domain.len();
+    let alloc = setting.alloc;
     let vars = Vars {
         times: table.vars.times.copy(alloc)?,
         texts: table.vars.texts.copy(alloc)?,
     };
     let mut out = Store::new(alloc, table.store.shape(), table.store.period());
-    out.shape();
-    match fill_texts(alloc, &table.store, domain_size, &[0; 8], 0, cap, &mut out) {
+    let absences = Absences {
+        store: &table.store,
+        size: setting.domain.len(),
+        cap: setting.cap,
+    };
+    match fill_texts(&absences, &[0; 8], 0, &mut out) {
         Ok(()) => Ok(Table { vars, store: out }),
         Err(StoreFault::TooManyCells) => Err(StepFault::TooManyCells),
         Err(StoreFault::Memory) => Err(StepFault::Memory),

@@ -3,8 +3,8 @@ ghost use Rattle.std.specs.Prelude.{◌≡◌, ◌+◌, ◌-◌, ◌≤◌, ◌^
 ghost use Rattle.lrp_theory.specs.Divides.{Divides};
 ghost use Rattle.lrp_theory.specs.Entries.{node};
 ghost use Rattle.lrp_zone.specs.Spread.{ArePlaces, target};
-ghost use Rattle.lrp_zone.specs.Zones.{IsResidue, columns_of, reach_of};
-ghost use Rattle.lrp_store.specs.Stores.{HasReach, IsCellOf, zones_at};
+ghost use Rattle.lrp_zone.specs.Zones.{IsResidue, IsZone, columns_of, reach_of};
+ghost use Rattle.lrp_store.specs.Stores.{HasReach, IsCellOf, IsStore, zones_at};
 ghost use Rattle.lrp_minus.specs.Beneath.{AgreesAt};
 ghost use Rattle.lrp_minus.specs.Cutters.{AreCutOf, AreCutters, CanCut, HasNoCutter, IsCutter};
 
@@ -13,11 +13,9 @@ use lrp_model::{Cell, List, Memory};
 use lrp_store::Store;
 use lrp_tables::Places;
 use lrp_zone::Zone;
-use std::alloc::Global;
 
 /// Zones that hold the tuples of a cell of the left store's shape and period that have one of the right store at the places.
 pub(crate) fn cutters_of(
-    alloc: Global,
     left: &Store,
     cell: &Cell,
     right: &Store,
@@ -27,11 +25,9 @@ pub(crate) fn cutters_of(
     requires cut { CanCut places.now left.now right.now }
     ensures { IfOk result (AreCutters places.now left.now cell.now right.now) }
 {
-    right.shape();
     let times = usize::from(left.shape().times);
     let beneath = cell_beneath(cell, places, right);
     cut_all(
-        alloc,
         right,
         &beneath,
         left.period(),
@@ -42,13 +38,13 @@ pub(crate) fn cutters_of(
 
 // The zones of a cell, each as the tuples with these residues that have one of its own at the places.
 fn cut_all(
-    alloc: Global,
     store: &Store,
     cell: &Cell,
     period: i64,
     places: &[usize],
     residues: &[i64],
 ) -> Result<List<Zone>, Memory>
+    requires store { IsStore store.now }
     requires low { pos 1 ≤ℤ period }
     requires multiple { Divides (pos store.now.period) period }
     requires columns { length residues.now ≤ 8 }
@@ -62,8 +58,7 @@ fn cut_all(
     ensures { IfOk result (AreCutOf (zones_at store.now cell.now) places.now
         (nat_abs period) residues.now) }
 {
-    store.shape();
-    let mut cutters = List::new(alloc);
+    let mut cutters = List::new(store.alloc());
     for i in 0..store.count(cell) {
         let Some(zone) = store.zone(cell, i) else {
             unreachable!()
@@ -77,6 +72,7 @@ fn cut_all(
 
 // The tuples with these residues that have one of the zone at the places, or `None` where there are none.
 fn cutter_of(zone: &Zone, period: i64, places: &[usize], residues: &[i64]) -> Option<Zone>
+    requires zone { IsZone zone.now }
     requires low { pos 1 ≤ℤ period }
     requires multiple { Divides (pos zone.now.period) period }
     requires columns { length residues.now ≤ 8 }
@@ -91,9 +87,8 @@ fn cutter_of(zone: &Zone, period: i64, places: &[usize], residues: &[i64]) -> Op
     ensures none { IfNone result (HasNoCutter zone.now places.now period residues.now) }
     ensures some { IfSome result (IsCutter zone.now places.now period residues.now) }
 {
-    zone.columns();
     let own = residues_at(places, residues);
     let piece = zone.refine(period, &own[..places.len()])?;
-    piece.columns();
+    prove_eq!(piece.columns(), zone.columns());
     Some(piece.spread(places, residues))
 }

@@ -1,10 +1,7 @@
 // Differences of tables.
-ghost use Rattle.std.specs.Prelude.{◌≡◌, ◌+◌, ◌*◌, ℕ, OnOk, Err};
-ghost use Rattle.lrp_store.specs.Growing.{IsAdded, IsRefused};
-ghost use Rattle.lrp_store.specs.Stores.{IsCellOf};
+ghost use Rattle.std.specs.Prelude.{◌≡◌, OnOk, Err};
 ghost use Rattle.lrp_tables.specs.Steps.{CanMinus, IsMinusResult};
-ghost use Rattle.lrp_minus.specs.Absences.{IsLike};
-ghost use Rattle.lrp_minus.specs.Cutters.{CanSubtract, CanTake, HaveReach, IsAddedFrom, IsRefusedFrom, IsSpared, IsSparedIn};
+ghost use Rattle.lrp_minus.specs.Cutters.{CanSubtractIn, CanTakeIn, IsCellOfLeft, IsDifferenceAdded, IsDifferenceRefused, IsInDifference, IsInDifferenceAt, IsSameAdded, IsSameRefused};
 
 use crate::cutters::cutters_of;
 use crate::filling::add_left;
@@ -12,7 +9,15 @@ use crate::taking::add_taken;
 use lrp_model::{Cell, Copies};
 use lrp_store::{Store, StoreFault};
 use lrp_tables::{Places, Setting, StepFault, Table, Vars, places_of};
-use std::alloc::Global;
+
+/// A store of which the tuples that have one of another store at places are taken away, for one of at most so many cells.
+#[derive(Clone, Copy)]
+pub(crate) struct Difference<'a> {
+    pub(crate) left: &'a Store,
+    pub(crate) right: &'a Store,
+    pub(crate) places: &'a Places,
+    pub(crate) cap: u32,
+}
 
 /// The assignments of the left table that are none of the right one, whose variables are among the left one's.
 ///
@@ -27,17 +32,21 @@ pub fn minus(
     requires { CanMinus period left.now right.now }
     ensures { IsMinusResult setting.now.cap period left.now right.now result }
 {
-    let (alloc, cap) = (setting.alloc, setting.cap);
+    let alloc = setting.alloc;
     let vars = Vars {
         times: left.vars.times.copy(alloc)?,
         texts: left.vars.texts.copy(alloc)?,
     };
     let places = places_of(alloc, &right.vars, &left.vars)?;
-    left.store.shape();
-    right.store.shape();
+    prove_eq!(places.times.len(), usize::from(right.store.shape().times));
     let mut out = Store::new(alloc, left.store.shape(), period);
-    out.shape();
-    match add_minus(alloc, &left.store, &right.store, &places, cap, &mut out) {
+    let difference = Difference {
+        left: &left.store,
+        right: &right.store,
+        places: &places,
+        cap: setting.cap,
+    };
+    match add_difference(&difference, &mut out) {
         Ok(()) => Ok(Table { vars, store: out }),
         Err(StoreFault::TooManyCells) => Err(StepFault::TooManyCells),
         Err(StoreFault::Memory) => Err(StepFault::Memory),
@@ -45,25 +54,15 @@ pub fn minus(
 }
 
 // Adds the tuples of the left store that have none of the right one at the places, in cells of the period of `out`.
-fn add_minus(
-    alloc: Global,
-    left: &Store,
-    right: &Store,
-    places: &Places,
-    cap: u32,
-    out: &mut Store,
-) -> Result<(), StoreFault>
-    requires shape { out.old.shape ≡ left.now.shape }
-    requires subtract { CanSubtract places.now left.now right.now out.old.period }
-    ensures ok { OnOk result (IsAddedFrom left.now right.now
-        (IsSpared places.now left.now right.now) cap out.old out.new) }
-    ensures refused { result ≡ Err StoreFault.TooManyCells → IsRefusedFrom left.now right.now
-        (IsSpared places.now left.now right.now) cap out.old out.new }
+fn add_difference(difference: &Difference<'_>, out: &mut Store) -> Result<(), StoreFault>
+    requires { CanSubtractIn difference.now out.old }
+    ensures ok { OnOk result (IsDifferenceAdded difference.now
+        (IsInDifference difference.now) out.old out.new) }
+    ensures refused { result ≡ Err StoreFault.TooManyCells → IsDifferenceRefused difference.now
+        (IsInDifference difference.now) out.old out.new }
 {
-    left.shape();
-    out.shape();
-    for cell in left.cells() {
-        match add_cell(alloc, left, &cell, right, places, cap, out) {
+    for cell in difference.left.cells() {
+        match add_cell(difference, &cell, out) {
             Ok(()) => {}
             Err(fault) => return Err(fault),
         }
@@ -71,88 +70,44 @@ fn add_minus(
     Ok(())
 }
 
-// Adds those of one cell.
-fn add_cell(
-    alloc: Global,
-    left: &Store,
-    cell: &Cell,
-    right: &Store,
-    places: &Places,
-    cap: u32,
-    out: &mut Store,
-) -> Result<(), StoreFault>
-    requires cell { IsCellOf left.now.shape left.now.period cell.now }
-    requires shape { out.old.shape ≡ left.now.shape }
-    requires subtract { CanSubtract places.now left.now right.now out.old.period }
-    ensures ok { OnOk result (IsAddedFrom left.now right.now
-        (IsSparedIn places.now left.now cell.now right.now) cap out.old out.new) }
-    ensures refused { result ≡ Err StoreFault.TooManyCells → IsRefusedFrom left.now right.now
-        (IsSparedIn places.now left.now cell.now right.now) cap out.old out.new }
+// Adds those of one cell, in that cell where the periods are the same.
+fn add_cell(difference: &Difference<'_>, cell: &Cell, out: &mut Store) -> Result<(), StoreFault>
+    requires cell { IsCellOfLeft difference.now cell.now }
+    requires subtract { CanSubtractIn difference.now out.old }
+    ensures ok { OnOk result (IsDifferenceAdded difference.now
+        (IsInDifferenceAt difference.now cell.now) out.old out.new) }
+    ensures refused { result ≡ Err StoreFault.TooManyCells → IsDifferenceRefused difference.now
+        (IsInDifferenceAt difference.now cell.now) out.old out.new }
 {
-    left.shape();
-    out.shape();
-    if left.period() == out.period() {
-        add_same_cell(alloc, left, cell, right, places, cap, out)
-    } else {
-        add_cells_within(alloc, left, cell, right, places, cap, out)
+    if difference.left.period() == out.period() {
+        return add_same_cell(difference, cell, out);
     }
+    for zone in difference.left.zones_of(cell) {
+        match add_taken(difference, &zone, &cell.texts, out) {
+            Ok(()) => {}
+            Err(fault) => return Err(fault),
+        }
+    }
+    Ok(())
 }
 
 // Adds those of one cell where the periods are the same, in that cell.
 fn add_same_cell(
-    alloc: Global,
-    left: &Store,
+    difference: &Difference<'_>,
     cell: &Cell,
-    right: &Store,
-    places: &Places,
-    cap: u32,
     out: &mut Store,
 ) -> Result<(), StoreFault>
-    requires cell { IsCellOf left.now.shape left.now.period cell.now }
-    requires take { CanTake places.now left.now right.now }
-    requires like { IsLike left.now out.old }
-    ensures ok { OnOk result ((high : ℕ) → HaveReach left.now right.now high
-        → IsAdded (IsSparedIn places.now left.now cell.now right.now) cap
-        (high + 2 * left.now.period) out.old out.new) }
-    ensures refused { result ≡ Err StoreFault.TooManyCells → (high : ℕ)
-        → HaveReach left.now right.now high
-        → IsRefused (IsSparedIn places.now left.now cell.now right.now) cap
-        (high + 2 * left.now.period) out.old out.new }
+    requires cell { IsCellOfLeft difference.now cell.now }
+    requires take { CanTakeIn difference.now out.old }
+    ensures ok { OnOk result (IsSameAdded difference.now
+        (IsInDifferenceAt difference.now cell.now) out.old out.new) }
+    ensures refused { result ≡ Err StoreFault.TooManyCells → IsSameRefused difference.now
+        (IsInDifferenceAt difference.now cell.now) out.old out.new }
 {
-    out.shape();
-    left.shape();
-    let cutters = cutters_of(alloc, left, cell, right, places)?;
+    let left = difference.left;
+    let cutters = cutters_of(left, cell, difference.right, difference.places)?;
     for zone in left.zones_of(cell) {
-        match add_left(alloc, &zone, &cutters, cell, cap, out) {
-            Ok(()) => {}
-            Err(fault) => return Err(fault),
-        }
-    }
-    Ok(())
-}
-
-// Adds those of one cell in cells of the period of `out`.
-fn add_cells_within(
-    alloc: Global,
-    left: &Store,
-    cell: &Cell,
-    right: &Store,
-    places: &Places,
-    cap: u32,
-    out: &mut Store,
-) -> Result<(), StoreFault>
-    requires cell { IsCellOf left.now.shape left.now.period cell.now }
-    requires shape { out.old.shape ≡ left.now.shape }
-    requires subtract { CanSubtract places.now left.now right.now out.old.period }
-    ensures ok { OnOk result (IsAddedFrom left.now right.now
-        (IsSparedIn places.now left.now cell.now right.now) cap out.old out.new) }
-    ensures refused { result ≡ Err StoreFault.TooManyCells → IsRefusedFrom left.now right.now
-        (IsSparedIn places.now left.now cell.now right.now) cap out.old out.new }
-{
-    out.shape();
-    left.shape();
-    for zone in left.zones_of(cell) {
-        match add_taken(alloc, &zone, &cell.texts, right, places, cap, out) {
+        match add_left(&zone, &cutters, cell, difference.cap, out) {
             Ok(()) => {}
             Err(fault) => return Err(fault),
         }

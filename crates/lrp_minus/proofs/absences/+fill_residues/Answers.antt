@@ -5,56 +5,53 @@ use Rattle.lrp_model.specs.declared.tuples.Cell.{Cell}
 use Rattle.std.specs.Int.{w64}
 use Rattle.std.proofs.lemmas.Int.{ints}
 use Rattle.lrp_minus.specs.Absences.{IsAbsentAt, IsChosenTo}
-use Rattle.lrp_minus.proofs.AbsenceLaws.{IsBehind, period_word, next_word, behind_none, residue_chosen, residue_more, residue_refused}
+use Rattle.lrp_minus.proofs.AbsenceLaws.{IsBehind, filling_on, period_word, next_word, behind_none, residue_chosen, residue_more, residue_refused}
 use Rattle.lrp_tables.proofs.Gathering.{IsGathering, gathering_none}
 use Rattle.lrp_minus.proofs.absences.+fill_residues.Goals as goal
 
 pub loop-residue-init : goal.loop-residue-init
 loop-residue-init t c =
-    let columns : c.from-columns.result ≡ c.args.store.now.shape.times = c.from-columns.ensures ∙ ap (λ s. s.times) c.shape-2.ensures.value in
-    let low : c.args.column < c.args.store.now.shape.times = omega (arith, c.requires.column, columns, c.if-column-columns.false) in (
+    let columns : c.from-columns.result ≡ c.args.absences.now.store.now.shape.times = c.from-columns.ensures ∙ ap (λ s. s.times) c.shape.ensures.value in
+    let low : c.args.column < c.args.absences.now.store.now.shape.times = omega (arith, c.requires.column, columns, c.if-column-columns.false) in (
       omega (arith, ints),
-      λ high r. gathering_none (IsAbsentAt c.args.store.now c.args.column c.args.cell.now) c.args.cap (high + 2 * c.args.store.now.period) c.args.out.now (IsBehind c.args.store.now.period c.args.column (pos 0)) c.shape.ensures.valid
-          (behind_none c.args.store.now c.shape-2.ensures.valid c.args.column c.args.cell.now c.requires.chosen low),
+      λ high r. gathering_none (IsAbsentAt c.args.absences.now.store.now c.args.column c.args.cell.now) c.args.absences.now.cap (high + 2 * c.args.absences.now.store.now.period) c.args.out.now (IsBehind c.args.absences.now.store.now.period c.args.column (pos 0)) c.requires.fill.valid
+          (behind_none c.args.absences.now.store.now c.requires.fill.store c.args.column c.args.cell.now c.requires.chosen low),
     )
 
 pub fill_residues-requires : goal.fill_residues-requires
 fill_residues-requires t c =
-    let columns : c.from-columns.result ≡ c.args.store.now.shape.times = c.from-columns.ensures ∙ ap (λ s. s.times) c.shape-2.ensures.value in
-    let low : c.args.column < c.args.store.now.shape.times = omega (arith, c.requires.column, columns, c.if-column-columns.false) in
-    let g = (c.loop-residue.invariant.1 _ c.requires.turned.reach).grown in
-    let end : to_z w64 (of_z w64 c.period-residue-end.result) ≡ pos c.args.store.now.period = period_word c.args.store.now c.shape-2.ensures.valid c.period-residue-end.result c.period-residue-end.ensures in
-    let below : to_z w64 c.loop-residue.residue-bits <ℤ pos c.args.store.now.period = omega (arith, ints, end, c.loop-residue-test.true) in (
+    let columns : c.from-columns.result ≡ c.args.absences.now.store.now.shape.times = c.from-columns.ensures ∙ ap (λ s. s.times) c.shape.ensures.value in
+    let low : c.args.column < c.args.absences.now.store.now.shape.times = omega (arith, c.requires.column, columns, c.if-column-columns.false) in
+    let g = (c.loop-residue.invariant.1 _ c.requires.fill.turned.reach).grown in
+    let end : to_z w64 (of_z w64 c.period-residue-end.result) ≡ pos c.args.absences.now.store.now.period = period_word c.args.absences.now.store.now c.requires.fill.store c.period-residue-end.result c.period-residue-end.ensures in
+    let below : to_z w64 c.loop-residue.residue-bits <ℤ pos c.args.absences.now.store.now.period = omega (arith, ints, end, c.loop-residue-test.true) in (
       omega arith,
       (
-        record { shape = g.shape ∙ c.requires.like.shape; period = g.period ∙ c.requires.like.period },
+        filling_on c.args.absences.now.store.now c.args.out.now c.loop-residue.out c.requires.fill g,
         (
-          c.requires.turned,
-          (
-            omega arith,
-            subst (λ (d : Cell). IsChosenTo c.args.store.now (c.args.column + 1) d) (sym c.with_residue-next.ensures)
-                (residue_chosen c.args.store.now c.shape-2.ensures.valid c.args.column c.args.cell.now c.requires.chosen low (to_z w64 c.loop-residue.residue-bits) c.loop-residue.invariant.0 below),
-          ),
+          omega arith,
+          subst (λ (d : Cell). IsChosenTo c.args.absences.now.store.now (c.args.column + 1) d) (sym c.with_residue-next.ensures)
+              (residue_chosen c.args.absences.now.store.now c.requires.fill.store c.args.column c.args.cell.now c.requires.chosen low (to_z w64 c.loop-residue.residue-bits) c.loop-residue.invariant.0 below),
         ),
       ),
     )
 
 pub returns-in-Err-clause-refused : goal.returns-in-Err-clause-refused
 returns-in-Err-clause-refused t c = λ e high r.
-    let columns : c.from-columns.result ≡ c.args.store.now.shape.times = c.from-columns.ensures ∙ ap (λ s. s.times) c.shape-2.ensures.value in
-    let low : c.args.column < c.args.store.now.shape.times = omega (arith, c.requires.column, columns, c.if-column-columns.false) in
-    residue_refused c.args.store.now c.shape-2.ensures.valid c.args.column c.args.cell.now c.requires.chosen low (to_z w64 c.loop-residue.residue-bits) c.args.cap (high + 2 * c.args.store.now.period) c.args.out.now c.loop-residue.out c.fill_residues.new.out c.with_residue-next.result c.with_residue-next.ensures
+    let columns : c.from-columns.result ≡ c.args.absences.now.store.now.shape.times = c.from-columns.ensures ∙ ap (λ s. s.times) c.shape.ensures.value in
+    let low : c.args.column < c.args.absences.now.store.now.shape.times = omega (arith, c.requires.column, columns, c.if-column-columns.false) in
+    residue_refused c.args.absences.now.store.now c.requires.fill.store c.args.column c.args.cell.now c.requires.chosen low (to_z w64 c.loop-residue.residue-bits) c.args.absences.now.cap (high + 2 * c.args.absences.now.store.now.period) c.args.out.now c.loop-residue.out c.fill_residues.new.out c.with_residue-next.result c.with_residue-next.ensures
     (c.loop-residue.invariant.1 high r) (c.in-Err.ensures.refused e high r)
 
 pub loop-residue-preserved : goal.loop-residue-preserved
 loop-residue-preserved t c =
-    let columns : c.from-columns.result ≡ c.args.store.now.shape.times = c.from-columns.ensures ∙ ap (λ s. s.times) c.shape-2.ensures.value in
-    let low : c.args.column < c.args.store.now.shape.times = omega (arith, c.requires.column, columns, c.if-column-columns.false) in
-    let end : to_z w64 (of_z w64 c.period-residue-end.result) ≡ pos c.args.store.now.period = period_word c.args.store.now c.shape-2.ensures.valid c.period-residue-end.result c.period-residue-end.ensures in
-    let below : to_z w64 c.loop-residue.residue-bits <ℤ pos c.args.store.now.period = omega (arith, ints, end, c.loop-residue-test.true) in
-    let next = next_word c.args.store.now c.shape-2.ensures.valid (to_z w64 c.loop-residue.residue-bits) c.loop-residue.invariant.0 below in (
+    let columns : c.from-columns.result ≡ c.args.absences.now.store.now.shape.times = c.from-columns.ensures ∙ ap (λ s. s.times) c.shape.ensures.value in
+    let low : c.args.column < c.args.absences.now.store.now.shape.times = omega (arith, c.requires.column, columns, c.if-column-columns.false) in
+    let end : to_z w64 (of_z w64 c.period-residue-end.result) ≡ pos c.args.absences.now.store.now.period = period_word c.args.absences.now.store.now c.requires.fill.store c.period-residue-end.result c.period-residue-end.ensures in
+    let below : to_z w64 c.loop-residue.residue-bits <ℤ pos c.args.absences.now.store.now.period = omega (arith, ints, end, c.loop-residue-test.true) in
+    let next = next_word c.args.absences.now.store.now c.requires.fill.store (to_z w64 c.loop-residue.residue-bits) c.loop-residue.invariant.0 below in (
       next.1,
-      λ high r. subst (λ (e : ℤ). IsGathering (IsAbsentAt c.args.store.now c.args.column c.args.cell.now) (IsBehind c.args.store.now.period c.args.column e) c.args.cap (high + 2 * c.args.store.now.period) c.args.out.now c.fill_residues.new.out) (sym next.0)
-          (residue_more c.args.store.now c.shape-2.ensures.valid c.args.column c.args.cell.now c.requires.chosen low (to_z w64 c.loop-residue.residue-bits) c.args.cap (high + 2 * c.args.store.now.period) c.args.out.now c.loop-residue.out c.fill_residues.new.out c.with_residue-next.result c.with_residue-next.ensures
+      λ high r. subst (λ (e : ℤ). IsGathering (IsAbsentAt c.args.absences.now.store.now c.args.column c.args.cell.now) (IsBehind c.args.absences.now.store.now.period c.args.column e) c.args.absences.now.cap (high + 2 * c.args.absences.now.store.now.period) c.args.out.now c.fill_residues.new.out) (sym next.0)
+          (residue_more c.args.absences.now.store.now c.requires.fill.store c.args.column c.args.cell.now c.requires.chosen low (to_z w64 c.loop-residue.residue-bits) c.args.absences.now.cap (high + 2 * c.args.absences.now.store.now.period) c.args.out.now c.loop-residue.out c.fill_residues.new.out c.with_residue-next.result c.with_residue-next.ensures
           (c.loop-residue.invariant.1 high r) (c.in-Ok.ensures.ok high r)),
     )

@@ -8,7 +8,7 @@ use Rattle.lrp_tables.proofs.Gathering.{IsGathering}
 use Rattle.lrp_minus.proofs.absences.+fill_residues.Given as goal
 
 abbrev pub decreases-fill_residues : goal.decreases-fill_residues
-decreases-fill_residues a = a.store.now.shape.times - a.column
+decreases-fill_residues a = a.absences.now.store.now.shape.times - a.column
 
 abbrev pub invariant-loop-residue : goal.invariant-loop-residue
-invariant-loop-residue l = (pos 0 ≤ℤ l.residue) × ((high : ℕ) → HasReach l.store high → IsGathering (IsAbsentAt l.store l.column l.cell) (IsBehind l.store.period l.column l.residue) l.cap (high + 2 * l.store.period) l.initial.out l.out)
+invariant-loop-residue l = (pos 0 ≤ℤ l.residue) × ((high : ℕ) → HasReach l.absences.store.now high → IsGathering (IsAbsentAt l.absences.store.now l.column l.cell) (IsBehind l.absences.store.now.period l.column l.residue) l.absences.cap (high + 2 * l.absences.store.now.period) l.initial.out l.out)

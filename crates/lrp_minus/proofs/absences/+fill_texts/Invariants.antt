@@ -6,7 +6,7 @@ use Rattle.lrp_tables.proofs.Gathering.{IsGathering}
 use Rattle.lrp_minus.proofs.absences.+fill_texts.Given as goal
 
 abbrev pub decreases-fill_texts : goal.decreases-fill_texts
-decreases-fill_texts a = a.store.now.shape.texts - a.column
+decreases-fill_texts a = a.absences.now.store.now.shape.texts - a.column
 
 abbrev pub invariant-loop-number : goal.invariant-loop-number
-invariant-loop-number l = (high : ℕ) → HasReach l.store high → IsGathering (IsAbsent l.size l.store l.column l.texts) (λ xs ns. l.number ≤ get_or ns l.column 0) l.cap (high + 2 * l.store.period) l.initial.out l.out
+invariant-loop-number l = (high : ℕ) → HasReach l.absences.store.now high → IsGathering (IsAbsent l.absences.size l.absences.store.now l.column l.texts) (λ xs ns. l.number ≤ get_or ns l.column 0) l.absences.cap (high + 2 * l.absences.store.now.period) l.initial.out l.out

@@ -3,26 +3,26 @@ use Rattle.std.proofs.Common.{◌≡◌, ◌∷◌, ◌+◌, ◌*◌, sym, subst
 use Rattle.std.specs.Prelude.{Contains}
 use Rattle.lrp_store.specs.Stores.{zones_at}
 use Rattle.lrp_minus.proofs.EmptyCells.{no_table, nothing_added, proper_there, whole_absent, whole_absent_refused, whole_leaves}
-use Rattle.lrp_minus.proofs.Lists.{on_ok}
+use Rattle.lrp_cutting.proofs.Lists.{on_ok}
 use Rattle.lrp_minus.proofs.absences.fill_cell.Goals as goal
 
 pub returns-then-is_remembered-clause-ok : goal.returns-then-is_remembered-clause-ok
 returns-then-is_remembered-clause-ok c = λ high r.
-    whole_leaves c.args.store.now c.shape-2.ensures.valid c.args.cell.now c.requires.chosen (c.is_remembered.ensures.held c.if-is_remembered.true) c.args.out.now c.shape.ensures.valid c.args.cap (high + 2 * c.args.store.now.period)
+    whole_leaves c.args.absences.now.store.now c.requires.fill.store c.args.cell.now c.requires.chosen (c.is_remembered.ensures.held c.if-is_remembered.true) c.args.out.now c.requires.fill.valid c.args.absences.now.cap (high + 2 * c.args.absences.now.store.now.period)
 
 pub add_whole-requires : goal.add_whole-requires
-add_whole-requires c = record { proper = proper_there c.args.store.now c.shape-2.ensures.valid c.args.cell.now c.requires.chosen (no_table c.args.store.now c.args.cell.now (sym c.zones_of.ensures ∙ c.in_default.ensures.steps.0)) c.args.out.now c.requires.like }
+add_whole-requires c = record { proper = proper_there c.args.absences.now.store.now c.requires.fill.store c.args.cell.now c.requires.chosen (no_table c.args.absences.now.store.now c.args.cell.now (sym c.zones_of.ensures ∙ c.in_default.ensures.steps.0)) c.args.out.now c.requires.fill.like }
 
 pub returns-in_default-clause-ok : goal.returns-in_default-clause-ok
 returns-in_default-clause-ok c = on_ok _ _ c.add_whole.result
-    (λ a high r. whole_absent c.args.store.now c.shape-2.ensures.valid c.args.cell.now c.requires.chosen (no_table c.args.store.now c.args.cell.now (sym c.zones_of.ensures ∙ c.in_default.ensures.steps.0)) c.args.out.now c.requires.like c.args.cap (high + 2 * c.args.store.now.period) c.shape.ensures.valid c.add_whole.new.self a)
+    (λ a high r. whole_absent c.args.absences.now.store.now c.requires.fill.store c.args.cell.now c.requires.chosen (no_table c.args.absences.now.store.now c.args.cell.now (sym c.zones_of.ensures ∙ c.in_default.ensures.steps.0)) c.args.out.now c.requires.fill.like c.args.absences.now.cap (high + 2 * c.args.absences.now.store.now.period) c.requires.fill.valid c.add_whole.new.self a)
     c.add_whole.ensures.ok
 
 pub returns-in_default-clause-refused : goal.returns-in_default-clause-refused
-returns-in_default-clause-refused c = λ e high r. whole_absent_refused c.args.store.now c.shape-2.ensures.valid c.args.cell.now c.requires.chosen (no_table c.args.store.now c.args.cell.now (sym c.zones_of.ensures ∙ c.in_default.ensures.steps.0)) c.args.out.now c.requires.like c.args.cap (high + 2 * c.args.store.now.period) c.shape.ensures.valid c.add_whole.new.self (c.add_whole.ensures.too_many e)
+returns-in_default-clause-refused c = λ e high r. whole_absent_refused c.args.absences.now.store.now c.requires.fill.store c.args.cell.now c.requires.chosen (no_table c.args.absences.now.store.now c.args.cell.now (sym c.zones_of.ensures ∙ c.in_default.ensures.steps.0)) c.args.out.now c.requires.fill.like c.args.absences.now.cap (high + 2 * c.args.absences.now.store.now.period) c.requires.fill.valid c.add_whole.new.self (c.add_whole.ensures.too_many e)
 
 pub returns-in-Everything-clause-ok : goal.returns-in-Everything-clause-ok
 returns-in-Everything-clause-ok c =
-    let listed : zones_at c.args.store.now c.args.cell.now ≡ c.in-Some.zone ∷ c.next.new.self = sym c.zones_of.ensures ∙ c.in-Some.ensures.steps in
-    λ high r. nothing_added c.args.store.now c.shape-2.ensures.valid c.args.cell.now c.requires.chosen c.in-Some.zone (subst (λ l. Contains l c.in-Some.zone) (sym listed) (0, omega arith, refl)) (c.in-Everything.ensures.everything refl)
-    c.args.out.now c.shape.ensures.valid c.args.cap (high + 2 * c.args.store.now.period)
+    let listed : zones_at c.args.absences.now.store.now c.args.cell.now ≡ c.in-Some.zone ∷ c.next.new.self = sym c.zones_of.ensures ∙ c.in-Some.ensures.steps in
+    λ high r. nothing_added c.args.absences.now.store.now c.requires.fill.store c.args.cell.now c.requires.chosen c.in-Some.zone (subst (λ l. Contains l c.in-Some.zone) (sym listed) (0, omega arith, refl)) (c.in-Everything.ensures.everything refl)
+    c.args.out.now c.requires.fill.valid c.args.absences.now.cap (high + 2 * c.args.absences.now.store.now.period)

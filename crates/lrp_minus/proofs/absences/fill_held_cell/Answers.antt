@@ -2,52 +2,59 @@
 use Rattle.std.proofs.Common.{sym, ap, subst, ◌∙◌, arith, ◌≤◌, ◌<◌, ◌^◌}
 use Rattle.std.specs.Prelude.{nat_abs}
 use Rattle.std.proofs.lemmas.Int.{ints}
-use Rattle.lrp_minus.specs.Differences.{AreOfCell, greatest_reach}
+use Rattle.lrp_cutting.specs.Differences.{AreOfCell, greatest_reach}
 use Rattle.std.specs.Prelude.{◌∷◌, ◌+◌}
-use Rattle.lrp_minus.proofs.AbsenceLaws.{word_is, cell_residues, cell_some, free_cutters, free_small, cell_added, cell_refused}
-use Rattle.lrp_minus.proofs.Lists.{on_ok}
+use Rattle.lrp_minus.proofs.AbsenceLaws.{word_is, cell_residues, cell_some, free_cutters, free_place, free_small, cell_added, cell_refused}
+use Rattle.lrp_cutting.proofs.Lists.{on_ok}
 use Rattle.lrp_minus.proofs.absences.fill_held_cell.Goals as goal
 
 pub of-requires-clause-residues : goal.of-requires-clause-residues
 of-requires-clause-residues c =
-    let low : 0 < c.args.store.now.period = c.shape-2.ensures.valid.period_low in
-    let high : c.args.store.now.period ≤ 2 ^ 62 = c.shape-2.ensures.valid.period_high in
+    let low : 0 < c.args.absences.now.store.now.period = c.requires.fill.store.period_low in
+    let high : c.args.absences.now.store.now.period ≤ 2 ^ 62 = c.requires.fill.store.period_high in
     let k = word_is c.period.result (let e = c.period.ensures in omega (arith, ints)) (let e = c.period.ensures in omega (arith, ints)) in
-    cell_residues c.args.store.now c.shape-2.ensures.valid c.args.cell.now c.requires.chosen c.from-times.result _ (c.from-times.ensures ∙ ap (λ s. s.times) c.shape-2.ensures.value) (ap nat_abs (k ∙ c.period.ensures))
+    cell_residues c.args.absences.now.store.now c.requires.fill.store c.args.cell.now c.requires.chosen c.from-times.result _ (c.from-times.ensures ∙ ap (λ s. s.times) c.shape.ensures.value) (ap nat_abs (k ∙ c.period.ensures))
 
 pub unreachable-requires : goal.unreachable-requires
 unreachable-requires c =
-    let low : 0 < c.args.store.now.period = c.shape-2.ensures.valid.period_low in
-    let high : c.args.store.now.period ≤ 2 ^ 62 = c.shape-2.ensures.valid.period_high in
+    let low : 0 < c.args.absences.now.store.now.period = c.requires.fill.store.period_low in
+    let high : c.args.absences.now.store.now.period ≤ 2 ^ 62 = c.requires.fill.store.period_high in
     let k = word_is c.period.result (let e = c.period.ensures in omega (arith, ints)) (let e = c.period.ensures in omega (arith, ints)) in
-    cell_some c.args.store.now c.shape-2.ensures.valid c.args.cell.now c.requires.chosen c.from-times.result (c.from-times.ensures ∙ ap (λ s. s.times) c.shape-2.ensures.value) _ (k ∙ c.period.ensures) c.in_default.ensures.none
+    cell_some c.args.absences.now.store.now c.requires.fill.store c.args.cell.now c.requires.chosen c.from-times.result (c.from-times.ensures ∙ ap (λ s. s.times) c.shape.ensures.value) _ (k ∙ c.period.ensures) c.in_default.ensures.none
+
+pub add_left-requires-clause-place : goal.add_left-requires-clause-place
+add_left-requires-clause-place c =
+    let low : 0 < c.args.absences.now.store.now.period = c.requires.fill.store.period_low in
+    let high : c.args.absences.now.store.now.period ≤ 2 ^ 62 = c.requires.fill.store.period_high in
+    let k = word_is c.period.result (let e = c.period.ensures in omega (arith, ints)) (let e = c.period.ensures in omega (arith, ints)) in
+    free_place c.args.absences.now.store.now c.requires.fill.store c.args.cell.now c.requires.chosen c.from-times.result (c.from-times.ensures ∙ ap (λ s. s.times) c.shape.ensures.value) _ (k ∙ c.period.ensures) c.in-Some.zone c.in-Some.ensures.some c.args.out.now c.requires.fill.like c.columns.ensures.valid
 
 pub add_left-requires-clause-cutters : goal.add_left-requires-clause-cutters
 add_left-requires-clause-cutters c =
-    let low : 0 < c.args.store.now.period = c.shape-2.ensures.valid.period_low in
-    let high : c.args.store.now.period ≤ 2 ^ 62 = c.shape-2.ensures.valid.period_high in
+    let low : 0 < c.args.absences.now.store.now.period = c.requires.fill.store.period_low in
+    let high : c.args.absences.now.store.now.period ≤ 2 ^ 62 = c.requires.fill.store.period_high in
     let k = word_is c.period.result (let e = c.period.ensures in omega (arith, ints)) (let e = c.period.ensures in omega (arith, ints)) in
-    subst (AreOfCell c.in-Some.zone) (sym c.in_ok-cutters.ensures) (free_cutters c.args.store.now c.shape-2.ensures.valid c.args.cell.now c.requires.chosen c.from-times.result (c.from-times.ensures ∙ ap (λ s. s.times) c.shape-2.ensures.value) _ (k ∙ c.period.ensures) c.in-Some.zone c.in-Some.ensures.some)
+    subst (AreOfCell c.in-Some.zone) (sym c.in_ok-cutters.ensures) (free_cutters c.args.absences.now.store.now c.requires.fill.store c.args.cell.now c.requires.chosen c.from-times.result (c.from-times.ensures ∙ ap (λ s. s.times) c.shape.ensures.value) _ (k ∙ c.period.ensures) c.in-Some.zone c.in-Some.ensures.some)
 
 pub add_left-requires-clause-reach : goal.add_left-requires-clause-reach
 add_left-requires-clause-reach c =
-    let low : 0 < c.args.store.now.period = c.shape-2.ensures.valid.period_low in
-    let high : c.args.store.now.period ≤ 2 ^ 62 = c.shape-2.ensures.valid.period_high in
+    let low : 0 < c.args.absences.now.store.now.period = c.requires.fill.store.period_low in
+    let high : c.args.absences.now.store.now.period ≤ 2 ^ 62 = c.requires.fill.store.period_high in
     let k = word_is c.period.result (let e = c.period.ensures in omega (arith, ints)) (let e = c.period.ensures in omega (arith, ints)) in
-    subst (λ ws. greatest_reach (c.in-Some.zone ∷ ws) + c.in-Some.zone.period ≤ 2 ^ 62) (sym c.in_ok-cutters.ensures) (free_small c.args.store.now c.shape-2.ensures.valid c.args.cell.now c.requires.chosen c.from-times.result (c.from-times.ensures ∙ ap (λ s. s.times) c.shape-2.ensures.value) _ (k ∙ c.period.ensures) c.in-Some.zone c.in-Some.ensures.some c.requires.turned)
+    subst (λ ws. greatest_reach (c.in-Some.zone ∷ ws) + c.in-Some.zone.period ≤ 2 ^ 62) (sym c.in_ok-cutters.ensures) (free_small c.args.absences.now.store.now c.requires.fill.store c.args.cell.now c.requires.chosen c.from-times.result (c.from-times.ensures ∙ ap (λ s. s.times) c.shape.ensures.value) _ (k ∙ c.period.ensures) c.in-Some.zone c.in-Some.ensures.some c.requires.fill.turned)
 
 pub returns-clause-ok : goal.returns-clause-ok
 returns-clause-ok c =
-    let low : 0 < c.args.store.now.period = c.shape-2.ensures.valid.period_low in
-    let high : c.args.store.now.period ≤ 2 ^ 62 = c.shape-2.ensures.valid.period_high in
+    let low : 0 < c.args.absences.now.store.now.period = c.requires.fill.store.period_low in
+    let high : c.args.absences.now.store.now.period ≤ 2 ^ 62 = c.requires.fill.store.period_high in
     let k = word_is c.period.result (let e = c.period.ensures in omega (arith, ints)) (let e = c.period.ensures in omega (arith, ints)) in
-    on_ok _ _ c.add_left.result (λ a h r. cell_added c.args.store.now c.shape-2.ensures.valid c.args.cell.now c.requires.chosen c.from-times.result (c.from-times.ensures ∙ ap (λ s. s.times) c.shape-2.ensures.value) _ (k ∙ c.period.ensures) c.in-Some.zone c.in-Some.ensures.some
-    c.args.cap c.in_ok-cutters.cutters c.in_ok-cutters.ensures c.args.out.now c.add_left.new.store c.shape.ensures.valid c.requires.like.shape h r a) c.add_left.ensures.ok
+    on_ok _ _ c.add_left.result (λ a h r. cell_added c.args.absences.now.store.now c.requires.fill.store c.args.cell.now c.requires.chosen c.from-times.result (c.from-times.ensures ∙ ap (λ s. s.times) c.shape.ensures.value) _ (k ∙ c.period.ensures) c.in-Some.zone c.in-Some.ensures.some
+    c.args.absences.now.cap c.in_ok-cutters.cutters c.in_ok-cutters.ensures c.args.out.now c.add_left.new.store c.requires.fill.valid c.requires.fill.like.shape h r a) c.add_left.ensures.ok
 
 pub returns-clause-refused : goal.returns-clause-refused
 returns-clause-refused c = λ e h r.
-    let low : 0 < c.args.store.now.period = c.shape-2.ensures.valid.period_low in
-    let high : c.args.store.now.period ≤ 2 ^ 62 = c.shape-2.ensures.valid.period_high in
+    let low : 0 < c.args.absences.now.store.now.period = c.requires.fill.store.period_low in
+    let high : c.args.absences.now.store.now.period ≤ 2 ^ 62 = c.requires.fill.store.period_high in
     let k = word_is c.period.result (let e = c.period.ensures in omega (arith, ints)) (let e = c.period.ensures in omega (arith, ints)) in
-    cell_refused c.args.store.now c.shape-2.ensures.valid c.args.cell.now c.requires.chosen c.from-times.result (c.from-times.ensures ∙ ap (λ s. s.times) c.shape-2.ensures.value) _ (k ∙ c.period.ensures) c.in-Some.zone c.in-Some.ensures.some
-    c.args.cap c.in_ok-cutters.cutters c.in_ok-cutters.ensures c.args.out.now c.add_left.new.store c.shape.ensures.valid c.requires.like.shape h r (c.add_left.ensures.refused e)
+    cell_refused c.args.absences.now.store.now c.requires.fill.store c.args.cell.now c.requires.chosen c.from-times.result (c.from-times.ensures ∙ ap (λ s. s.times) c.shape.ensures.value) _ (k ∙ c.period.ensures) c.in-Some.zone c.in-Some.ensures.some
+    c.args.absences.now.cap c.in_ok-cutters.cutters c.in_ok-cutters.ensures c.args.out.now c.add_left.new.store c.requires.fill.valid c.requires.fill.like.shape h r (c.add_left.ensures.refused e)

@@ -2,16 +2,26 @@
 use Rattle.std.proofs.Common.{◌≡◌, Err, refl, ap, replicate, ◌∙◌}
 use Rattle.std.specs.Prelude.{nat_abs}
 use Rattle.lrp_minus.proofs.AbsenceLaws.{period_word}
-use Rattle.lrp_minus.proofs.ComplementLaws.{fresh_store, fresh_by, complement_table, complement_few, complement_reach, complement_many}
+use Rattle.lrp_minus.proofs.ComplementLaws.{fresh_store, fresh_by, fresh_valid, complement_table, complement_few, complement_reach, complement_many}
 use Rattle.lrp_minus.proofs.complements.complement.Goals as goal
+
+pub fill_texts-requires-clause-fill : goal.fill_texts-requires-clause-fill
+fill_texts-requires-clause-fill c =
+    let fresh : c.new-out.result ≡ fresh_store c.args.table.now.store = fresh_by c.args.table.now.store c.new-out.result _ _ c.new-out.ensures c.shape.ensures.value (ap nat_abs (period_word c.args.table.now.store c.shape.ensures.valid c.period.result c.period.ensures)) in
+    record {
+      store = c.shape.ensures.valid;
+      valid = fresh_valid c.args.table.now.store c.shape.ensures.valid c.new-out.result fresh;
+      like = record { shape = ap (λ s. s.shape) fresh; period = ap (λ s. s.period) fresh };
+      turned = record { period = c.requires.period; reach = c.requires.reach };
+    }
 
 pub returns-in-Ok : goal.returns-in-Ok
 returns-in-Ok c =
     let fresh : c.new-out.result ≡ fresh_store c.args.table.now.store = fresh_by c.args.table.now.store c.new-out.result _ _ c.new-out.ensures c.shape.ensures.value (ap nat_abs (period_word c.args.table.now.store c.shape.ensures.valid c.period.result c.period.ensures)) in
     record {
-      table = complement_table c.args.setting.now.domain.now c.len-domain_size.ensures.ascending c.args.table.now c.len-domain_size.result c.len-domain_size.ensures.count (replicate 8 0) c.args.setting.now.cap c.new-out.result c.fill_texts.new.out fresh c.shape-2.ensures.valid _ (c.in-Ok.ensures.ok _ c.requires.reach) _ c.in_ok-copy.ensures c.in_ok-copy-2.ensures refl;
-      reach = λ high r. complement_reach c.args.setting.now.domain.now c.len-domain_size.ensures.ascending c.args.table.now c.len-domain_size.result c.len-domain_size.ensures.count (replicate 8 0) c.args.setting.now.cap c.new-out.result c.fill_texts.new.out fresh c.shape-2.ensures.valid _ (c.in-Ok.ensures.ok high r);
-      few = complement_few c.args.setting.now.domain.now c.len-domain_size.ensures.ascending c.args.table.now c.len-domain_size.result c.len-domain_size.ensures.count (replicate 8 0) c.args.setting.now.cap c.new-out.result c.fill_texts.new.out fresh c.shape-2.ensures.valid _ (c.in-Ok.ensures.ok _ c.requires.reach);
+      table = complement_table c.args.setting.now.domain.now c.len.ensures.ascending c.args.table.now c.len.result c.len.ensures.count (replicate 8 0) c.args.setting.now.cap c.new-out.result c.fill_texts.new.out fresh (fresh_valid c.args.table.now.store c.shape.ensures.valid c.new-out.result fresh) _ (c.in-Ok.ensures.ok _ c.requires.reach) _ c.in_ok-copy.ensures c.in_ok-copy-2.ensures refl;
+      reach = λ high r. complement_reach c.args.setting.now.domain.now c.len.ensures.ascending c.args.table.now c.len.result c.len.ensures.count (replicate 8 0) c.args.setting.now.cap c.new-out.result c.fill_texts.new.out fresh (fresh_valid c.args.table.now.store c.shape.ensures.valid c.new-out.result fresh) _ (c.in-Ok.ensures.ok high r);
+      few = complement_few c.args.setting.now.domain.now c.len.ensures.ascending c.args.table.now c.len.result c.len.ensures.count (replicate 8 0) c.args.setting.now.cap c.new-out.result c.fill_texts.new.out fresh (fresh_valid c.args.table.now.store c.shape.ensures.valid c.new-out.result fresh) _ (c.in-Ok.ensures.ok _ c.requires.reach);
       many = λ e. cc;
     }
 
@@ -22,5 +32,5 @@ returns-in-Err-TooManyCells c =
       table = tt;
       reach = tt;
       few = tt;
-      many = λ e. complement_many c.args.setting.now.domain.now c.len-domain_size.ensures.ascending c.args.table.now c.len-domain_size.result c.len-domain_size.ensures.count (replicate 8 0) c.args.setting.now.cap c.new-out.result c.fill_texts.new.out fresh c.shape-2.ensures.valid _ (c.fill_texts.ensures.refused (c.in-Err-TooManyCells.is ∙ ap Err c.in-Err-TooManyCells.field-0-is) _ c.requires.reach);
+      many = λ e. complement_many c.args.setting.now.domain.now c.len.ensures.ascending c.args.table.now c.len.result c.len.ensures.count (replicate 8 0) c.args.setting.now.cap c.new-out.result c.fill_texts.new.out fresh (fresh_valid c.args.table.now.store c.shape.ensures.valid c.new-out.result fresh) _ (c.fill_texts.ensures.refused (c.in-Err-TooManyCells.is ∙ ap Err c.in-Err-TooManyCells.field-0-is) _ c.requires.reach);
     }

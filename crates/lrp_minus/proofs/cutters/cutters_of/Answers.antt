@@ -2,16 +2,16 @@
 use Rattle.std.proofs.Common.{ap, ◌∙◌}
 use Rattle.lrp_minus.proofs.AbsenceLaws.{period_word}
 use Rattle.lrp_minus.proofs.CutterLaws.{passed_residues, passed_cutters}
-use Rattle.lrp_minus.proofs.Lists.{if_ok}
+use Rattle.lrp_cutting.proofs.Lists.{if_ok}
 use Rattle.lrp_minus.proofs.cutters.cutters_of.Goals as goal
 
 pub cut_all-requires-clause-residues : goal.cut_all-requires-clause-residues
 cut_all-requires-clause-residues c =
-    passed_residues c.args.places.now c.args.left.now c.shape-2.ensures.valid c.args.cell.now c.requires.cell c.args.right.now c.shape.ensures.valid c.requires.cut c.cell_beneath-beneath.result c.cell_beneath-beneath.ensures
-    c.from-times.result (c.from-times.ensures ∙ ap (λ s. s.times) c.shape-2.ensures.value) _ (period_word c.args.left.now c.shape-2.ensures.valid c.period.result c.period.ensures)
+    passed_residues c.args.places.now c.args.left.now c.shape.ensures.valid c.args.cell.now c.requires.cell c.args.right.now c.requires.cut.right_store c.requires.cut c.cell_beneath-beneath.result c.cell_beneath-beneath.ensures
+    c.from-times.result (c.from-times.ensures ∙ ap (λ s. s.times) c.shape.ensures.value) _ (period_word c.args.left.now c.shape.ensures.valid c.period.result c.period.ensures)
 
 pub returns : goal.returns
 returns c = if_ok _ _ c.cut_all.result
-    (passed_cutters c.args.places.now c.args.left.now c.shape-2.ensures.valid c.args.cell.now c.requires.cell c.args.right.now c.shape.ensures.valid c.requires.cut c.cell_beneath-beneath.result c.cell_beneath-beneath.ensures
-    c.from-times.result (c.from-times.ensures ∙ ap (λ s. s.times) c.shape-2.ensures.value) _ (period_word c.args.left.now c.shape-2.ensures.valid c.period.result c.period.ensures) c.as_slice.result.now c.as_slice.ensures)
+    (passed_cutters c.args.places.now c.args.left.now c.shape.ensures.valid c.args.cell.now c.requires.cell c.args.right.now c.requires.cut.right_store c.requires.cut c.cell_beneath-beneath.result c.cell_beneath-beneath.ensures
+    c.from-times.result (c.from-times.ensures ∙ ap (λ s. s.times) c.shape.ensures.value) _ (period_word c.args.left.now c.shape.ensures.valid c.period.result c.period.ensures) c.as_slice.result.now c.as_slice.ensures)
     c.cut_all.ensures

@@ -3,56 +3,51 @@ use Rattle.std.proofs.Common.{◌≡◌, ◌+◌, ◌*◌, Some, ◌∙◌, arit
 use Rattle.std.specs.Prelude.{slice_get}
 use Rattle.std.proofs.lemmas.List.{length-map}
 use Rattle.lrp_store.specs.Stores.{tables_at, zone_of, zones_at}
-use Rattle.lrp_minus.specs.Absences.{IsLike}
-use Rattle.lrp_minus.proofs.Lists.{read_begins, read_next, read_goes, read_ends}
-use Rattle.lrp_minus.proofs.SparedLaws.{spared_all, spared_none, of_cell, left_small, like_period, like_residues, spared_more, spared_refused}
+use Rattle.lrp_cutting.proofs.Lists.{read_begins, read_next, read_goes, read_ends}
+use Rattle.lrp_minus.proofs.SparedLaws.{spared_all, spared_none, of_cell, left_small, like_place, spared_more, spared_refused}
 use Rattle.lrp_minus.proofs.differences.add_same_cell.Goals as goal
 
 pub loop-zone-init : goal.loop-zone-init
 loop-zone-init c =
-    read_begins _ (zones_at c.args.left.now c.args.cell.now) c.into_iter-zone-iterator.result (c.into_iter-zone-iterator.ensures.into_iter_gives ∙ c.zones_of-zone-items.ensures)
-    (λ high r. spared_none c.args.places.now c.args.left.now c.args.cell.now c.args.right.now c.args.cap (high + 2 * c.args.left.now.period) c.args.out.now c.shape.ensures.valid)
+    read_begins _ (zones_at c.args.difference.now.left.now c.args.cell.now) c.into_iter-zone-iterator.result (c.into_iter-zone-iterator.ensures.into_iter_gives ∙ c.zones_of-zone-items.ensures)
+    (λ high r. spared_none c.args.difference.now.places.now c.args.difference.now.left.now c.args.cell.now c.args.difference.now.right.now c.args.difference.now.cap (high + 2 * c.args.difference.now.left.now.period) c.args.out.now c.requires.take.valid)
 
-pub add_left-requires-clause-period : goal.add_left-requires-clause-period
-add_left-requires-clause-period c =
-    let read : slice_get (zones_at c.args.left.now c.args.cell.now) c.loop-zone.invariant.place ≡ Some c.in-Some.zone = read_next _ (zones_at c.args.left.now c.args.cell.now) c.loop-zone.zone-iterator c.loop-zone.invariant c.in-Some.zone c.next.new.self c.in-Some.ensures.steps in
-    let g = (c.loop-zone.invariant.holds _ c.requires.take.reach).grown in
-    let like : IsLike c.args.left.now c.loop-zone.out = record { shape = g.shape ∙ c.requires.like.shape; period = g.period ∙ c.requires.like.period } in
-    like_period c.args.places.now c.args.left.now c.shape-2.ensures.valid c.args.cell.now c.requires.cell c.args.right.now c.in_ok-cutters.cutters c.in_ok-cutters.ensures c.loop-zone.invariant.place c.in-Some.zone read c.loop-zone.out like
+pub add_left-requires-clause-store : goal.add_left-requires-clause-store
+add_left-requires-clause-store c = (c.loop-zone.invariant.holds _ c.requires.take.take.reach).grown.valid
 
-pub add_left-requires-clause-residues : goal.add_left-requires-clause-residues
-add_left-requires-clause-residues c =
-    let read : slice_get (zones_at c.args.left.now c.args.cell.now) c.loop-zone.invariant.place ≡ Some c.in-Some.zone = read_next _ (zones_at c.args.left.now c.args.cell.now) c.loop-zone.zone-iterator c.loop-zone.invariant c.in-Some.zone c.next.new.self c.in-Some.ensures.steps in
-    let g = (c.loop-zone.invariant.holds _ c.requires.take.reach).grown in
-    let like : IsLike c.args.left.now c.loop-zone.out = record { shape = g.shape ∙ c.requires.like.shape; period = g.period ∙ c.requires.like.period } in
-    like_residues c.args.places.now c.args.left.now c.shape-2.ensures.valid c.args.cell.now c.requires.cell c.args.right.now c.in_ok-cutters.cutters c.in_ok-cutters.ensures c.loop-zone.invariant.place c.in-Some.zone read c.loop-zone.out like
+pub add_left-requires-clause-place : goal.add_left-requires-clause-place
+add_left-requires-clause-place c =
+    let read : slice_get (zones_at c.args.difference.now.left.now c.args.cell.now) c.loop-zone.invariant.place ≡ Some c.in-Some.zone = read_next _ (zones_at c.args.difference.now.left.now c.args.cell.now) c.loop-zone.zone-iterator c.loop-zone.invariant c.in-Some.zone c.next.new.self c.in-Some.ensures.steps in
+    let g = (c.loop-zone.invariant.holds _ c.requires.take.take.reach).grown in
+    like_place c.args.difference.now.places.now c.args.difference.now.left.now c.requires.take.store c.args.cell.now c.requires.cell c.args.difference.now.right.now c.in_ok-cutters.cutters c.in_ok-cutters.ensures c.loop-zone.invariant.place c.in-Some.zone read c.loop-zone.out
+    (record { shape = g.shape ∙ c.requires.take.like.shape; period = g.period ∙ c.requires.take.like.period })
 
 pub add_left-requires-clause-cutters : goal.add_left-requires-clause-cutters
 add_left-requires-clause-cutters c =
-    let read : slice_get (zones_at c.args.left.now c.args.cell.now) c.loop-zone.invariant.place ≡ Some c.in-Some.zone = read_next _ (zones_at c.args.left.now c.args.cell.now) c.loop-zone.zone-iterator c.loop-zone.invariant c.in-Some.zone c.next.new.self c.in-Some.ensures.steps in
-    of_cell c.args.places.now c.args.left.now c.shape-2.ensures.valid c.args.cell.now c.requires.cell c.args.right.now c.in_ok-cutters.cutters c.in_ok-cutters.ensures c.loop-zone.invariant.place c.in-Some.zone read
+    let read : slice_get (zones_at c.args.difference.now.left.now c.args.cell.now) c.loop-zone.invariant.place ≡ Some c.in-Some.zone = read_next _ (zones_at c.args.difference.now.left.now c.args.cell.now) c.loop-zone.zone-iterator c.loop-zone.invariant c.in-Some.zone c.next.new.self c.in-Some.ensures.steps in
+    of_cell c.args.difference.now.places.now c.args.difference.now.left.now c.requires.take.store c.args.cell.now c.requires.cell c.args.difference.now.right.now c.in_ok-cutters.cutters c.in_ok-cutters.ensures c.loop-zone.invariant.place c.in-Some.zone read
 
 pub add_left-requires-clause-reach : goal.add_left-requires-clause-reach
 add_left-requires-clause-reach c =
-    let read : slice_get (zones_at c.args.left.now c.args.cell.now) c.loop-zone.invariant.place ≡ Some c.in-Some.zone = read_next _ (zones_at c.args.left.now c.args.cell.now) c.loop-zone.zone-iterator c.loop-zone.invariant c.in-Some.zone c.next.new.self c.in-Some.ensures.steps in
-    left_small c.args.places.now c.args.left.now c.shape-2.ensures.valid c.args.cell.now c.requires.cell c.args.right.now c.in_ok-cutters.cutters c.in_ok-cutters.ensures c.loop-zone.invariant.place c.in-Some.zone read c.requires.take
+    let read : slice_get (zones_at c.args.difference.now.left.now c.args.cell.now) c.loop-zone.invariant.place ≡ Some c.in-Some.zone = read_next _ (zones_at c.args.difference.now.left.now c.args.cell.now) c.loop-zone.zone-iterator c.loop-zone.invariant c.in-Some.zone c.next.new.self c.in-Some.ensures.steps in
+    left_small c.args.difference.now.places.now c.args.difference.now.left.now c.requires.take.store c.args.cell.now c.requires.cell c.args.difference.now.right.now c.in_ok-cutters.cutters c.in_ok-cutters.ensures c.loop-zone.invariant.place c.in-Some.zone read c.requires.take.take
 
 pub returns-in-Err-clause-refused : goal.returns-in-Err-clause-refused
 returns-in-Err-clause-refused c = λ e high r.
-    let read : slice_get (zones_at c.args.left.now c.args.cell.now) c.loop-zone.invariant.place ≡ Some c.in-Some.zone = read_next _ (zones_at c.args.left.now c.args.cell.now) c.loop-zone.zone-iterator c.loop-zone.invariant c.in-Some.zone c.next.new.self c.in-Some.ensures.steps in
-    let g = (c.loop-zone.invariant.holds _ c.requires.take.reach).grown in
-    spared_refused c.args.places.now c.args.left.now c.shape-2.ensures.valid c.args.cell.now c.requires.cell c.args.right.now c.in_ok-cutters.cutters c.in_ok-cutters.ensures c.loop-zone.invariant.place c.in-Some.zone read
-    c.args.cap high r c.args.out.now c.loop-zone.out c.add_left.new.store (g.shape ∙ c.requires.like.shape) (c.loop-zone.invariant.holds high r) (c.in-Err.ensures.refused e)
+    let read : slice_get (zones_at c.args.difference.now.left.now c.args.cell.now) c.loop-zone.invariant.place ≡ Some c.in-Some.zone = read_next _ (zones_at c.args.difference.now.left.now c.args.cell.now) c.loop-zone.zone-iterator c.loop-zone.invariant c.in-Some.zone c.next.new.self c.in-Some.ensures.steps in
+    let g = (c.loop-zone.invariant.holds _ c.requires.take.take.reach).grown in
+    spared_refused c.args.difference.now.places.now c.args.difference.now.left.now c.requires.take.store c.args.cell.now c.requires.cell c.args.difference.now.right.now c.in_ok-cutters.cutters c.in_ok-cutters.ensures c.loop-zone.invariant.place c.in-Some.zone read
+    c.args.difference.now.cap high r c.args.out.now c.loop-zone.out c.add_left.new.store (g.shape ∙ c.requires.take.like.shape) (c.loop-zone.invariant.holds high r) (c.in-Err.ensures.refused e)
 
 pub loop-zone-preserved : goal.loop-zone-preserved
-loop-zone-preserved c = read_goes _ _ (zones_at c.args.left.now c.args.cell.now) c.loop-zone.zone-iterator c.loop-zone.invariant c.in-Some.zone c.next.new.self c.in-Some.ensures.steps (λ high r.
-    let read : slice_get (zones_at c.args.left.now c.args.cell.now) c.loop-zone.invariant.place ≡ Some c.in-Some.zone = read_next _ (zones_at c.args.left.now c.args.cell.now) c.loop-zone.zone-iterator c.loop-zone.invariant c.in-Some.zone c.next.new.self c.in-Some.ensures.steps in
-    let g = (c.loop-zone.invariant.holds _ c.requires.take.reach).grown in
-    spared_more c.args.places.now c.args.left.now c.shape-2.ensures.valid c.args.cell.now c.requires.cell c.args.right.now c.in_ok-cutters.cutters c.in_ok-cutters.ensures c.loop-zone.invariant.place c.in-Some.zone read
-    c.args.cap high r c.args.out.now c.loop-zone.out c.add_left.new.store (g.shape ∙ c.requires.like.shape) (c.loop-zone.invariant.holds high r) c.in-Ok.ensures.ok)
+loop-zone-preserved c = read_goes _ _ (zones_at c.args.difference.now.left.now c.args.cell.now) c.loop-zone.zone-iterator c.loop-zone.invariant c.in-Some.zone c.next.new.self c.in-Some.ensures.steps (λ high r.
+    let read : slice_get (zones_at c.args.difference.now.left.now c.args.cell.now) c.loop-zone.invariant.place ≡ Some c.in-Some.zone = read_next _ (zones_at c.args.difference.now.left.now c.args.cell.now) c.loop-zone.zone-iterator c.loop-zone.invariant c.in-Some.zone c.next.new.self c.in-Some.ensures.steps in
+    let g = (c.loop-zone.invariant.holds _ c.requires.take.take.reach).grown in
+    spared_more c.args.difference.now.places.now c.args.difference.now.left.now c.requires.take.store c.args.cell.now c.requires.cell c.args.difference.now.right.now c.in_ok-cutters.cutters c.in_ok-cutters.ensures c.loop-zone.invariant.place c.in-Some.zone read
+    c.args.difference.now.cap high r c.args.out.now c.loop-zone.out c.add_left.new.store (g.shape ∙ c.requires.take.like.shape) (c.loop-zone.invariant.holds high r) c.in-Ok.ensures.ok)
 
 pub returns-clause-ok : goal.returns-clause-ok
 returns-clause-ok c = λ high r.
-    let all = read_ends _ (zones_at c.args.left.now c.args.cell.now) c.loop-zone.zone-iterator c.loop-zone.invariant c.in-None.ensures.steps.0 in
-    let e = length-map (tables_at c.args.left.now c.args.cell.now) (zone_of c.args.left.now c.args.cell.now) in
-    spared_all c.args.places.now c.args.left.now c.args.cell.now c.args.right.now c.args.cap (high + 2 * c.args.left.now.period) c.args.out.now c.loop-zone.out c.loop-zone.invariant.place (omega (arith, all, e)) (c.loop-zone.invariant.holds high r)
+    let all = read_ends _ (zones_at c.args.difference.now.left.now c.args.cell.now) c.loop-zone.zone-iterator c.loop-zone.invariant c.in-None.ensures.steps.0 in
+    let e = length-map (tables_at c.args.difference.now.left.now c.args.cell.now) (zone_of c.args.difference.now.left.now c.args.cell.now) in
+    spared_all c.args.difference.now.places.now c.args.difference.now.left.now c.args.cell.now c.args.difference.now.right.now c.args.difference.now.cap (high + 2 * c.args.difference.now.left.now.period) c.args.out.now c.loop-zone.out c.loop-zone.invariant.place (omega (arith, all, e)) (c.loop-zone.invariant.holds high r)

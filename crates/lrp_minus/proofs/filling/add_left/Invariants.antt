@@ -1,6 +1,6 @@
 -- The first pieces were added.
 use Rattle.std.proofs.Common.{take, ◌+◌, ◌∷◌}
-use Rattle.lrp_minus.specs.Differences.{greatest_reach}
+use Rattle.lrp_cutting.specs.Differences.{greatest_reach}
 use Rattle.lrp_minus.proofs.FillingLaws.{AreFilled}
 use Rattle.lrp_minus.proofs.filling.add_left.Given as goal
 

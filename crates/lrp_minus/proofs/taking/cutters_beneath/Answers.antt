@@ -7,8 +7,8 @@ use Rattle.lrp_minus.proofs.TakingLaws.{cell_is, no_cutters}
 use Rattle.lrp_minus.proofs.taking.cutters_beneath.Goals as goal
 
 pub returns-in-Nothing : goal.returns-in-Nothing
-returns-in-Nothing c = subst (AreCutters c.args.taking.now.places.now c.args.out.now c.args.cell.now c.args.taking.now.right.now) (sym c.new.ensures) (no_cutters c.args.taking.now c.args.out.now c.shape.ensures.valid c.requires.taking c.args.cell.now c.requires.begun
+returns-in-Nothing c = subst (AreCutters c.args.taking.now.places.now c.args.out.now c.args.cell.now c.args.taking.now.right.now) (sym c.new.ensures) (no_cutters c.args.taking.now c.args.out.now c.requires.taking.store c.requires.taking c.args.cell.now c.requires.begun
     (subst (λ (d : Content). IsContentOf c.args.taking.now c.args.out.now.period c.args.out.now.shape.texts c.args.cell.now c.args.out.now.shape.times d) c.in-Nothing.is c.requires.content))
 
 pub cutters_of-requires-clause-cell : goal.cutters_of-requires-clause-cell
-cutters_of-requires-clause-cell c = cell_is c.args.taking.now c.args.out.now c.shape.ensures.valid c.requires.taking c.args.cell.now c.requires.begun
+cutters_of-requires-clause-cell c = cell_is c.args.taking.now c.args.out.now c.requires.taking.store c.requires.taking c.args.cell.now c.requires.begun

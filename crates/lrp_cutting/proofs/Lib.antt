@@ -1,0 +1,24 @@
+-- What is proved of zones of one cell, cut and settled, by topic.
+pub mod AddingLaws
+pub mod Alike
+pub mod BoundedLaws
+pub mod CutLaws
+pub mod Examples
+pub mod GapLaws
+pub mod HalfLaws
+pub mod HullLaws
+pub mod IntervalLaws
+pub mod LeavingLaws
+pub mod LineLaws
+pub mod Lists
+pub mod Membership
+pub mod MergeLaws
+pub mod PairLists
+pub mod SettledLaws
+pub mod SettlingLaws
+pub mod SpanLaws
+pub mod SplitLaws
+pub mod SweepLaws
+pub mod ThresholdLaws
+pub mod TurnLaws
+pub mod WidestLaws

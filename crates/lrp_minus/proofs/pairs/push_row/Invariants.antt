@@ -1,7 +1,0 @@
--- The first pairs of the row are appended.
-use Rattle.std.proofs.Common.{◌≡◌, ◌++◌}
-use Rattle.lrp_minus.specs.Thresholds.{row_of_pairs}
-use Rattle.lrp_minus.proofs.pairs.push_row.Given as goal
-
-abbrev pub invariant-loop-right : goal.invariant-loop-right
-invariant-loop-right l = (l.made.items ≡ l.initial.made.items ++ row_of_pairs l.right l.left)

@@ -1,6 +1,0 @@
--- The columns before are listed.
-use Rattle.lrp_minus.specs.Leaving.{AreFromRow}
-use Rattle.lrp_minus.proofs.stored.push_row.Given as goal
-
-abbrev pub invariant-loop-right : goal.invariant-loop-right
-invariant-loop-right l = AreFromRow l.zone l.left l.right l.initial.made.items l.made.items
