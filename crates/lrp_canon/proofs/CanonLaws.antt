@@ -19,7 +19,7 @@ use Rattle.lrp_store.specs.Stores.{HoldsJust, InStore, IsCellOf, IsPadded, IsSto
 use Rattle.lrp_store.specs.Tables.{AreNumbered}
 use Rattle.lrp_store.proofs.Held.{cell_held, held_of, zone_held}
 use Rattle.lrp_store.proofs.Rooms.{closed_small}
-use Rattle.lrp_minus.proofs.IntervalLaws.{intervals}
+use Rattle.lrp_cutting.proofs.IntervalLaws.{intervals}
 use Rattle.lrp_spans.specs.declared.spans.Span.{Span}
 use Rattle.lrp_spans.specs.Groups.{AreGroups, HoldsNumber, SpanLists, group_cell}
 use Rattle.lrp_spans.specs.Periods.{IsEndPeriod}
@@ -30,7 +30,7 @@ use Rattle.lrp_spans.proofs.Lists.{below_or, head_in}
 use Rattle.lrp_spans.proofs.Repeats.{divisor_le}
 use Rattle.lrp_canon.specs.declared.edges.Periods.{Periods}
 use Rattle.lrp_canon.specs.Canonical.{HasCanonicalZones, HasMoreRows, IsCanonicalOf}
-use Rattle.lrp_canon.specs.Counting.{HaveOwnTexts, HasRows, InGroups, IsCountOf, capped}
+use Rattle.lrp_canon.specs.Counting.{HaveOwnTexts, HasRows, InGroups, IsCountOf, capped_count}
 use Rattle.lrp_canon.specs.Making.{AreGroupCells, HoldsGroups}
 use Rattle.lrp_canon.specs.Rows.{HasRowCount, IsLeastPeriod, IsSetOfRows}
 use Rattle.lrp_canon.proofs.JoinedCounts.{same_rows}
@@ -206,10 +206,10 @@ module _ (s : StoreView) (is : IsStore s) (one : s.shape.times ≡ 1) (lists : S
 
   -- a count that is a small word is the number
   pub count_is : (count most : ℕ) → count ≡ made → count ≤ most → most < 2 ^ 32 → HasCanonicalZones s count
-  count_is count most e l m = subst (HasCanonicalZones s) (let c : made ≡ capped counted.count = counted.capped in let f : counted.count ≡ count = omega (arith, e, l, m, c) in f) canonical_count
+  count_is count most e l m = subst (HasCanonicalZones s) (let c : made ≡ capped_count counted.count = counted.capped in let f : counted.count ≡ count = omega (arith, e, l, m, c) in f) canonical_count
 
   pub more_is : (most : ℕ) → most < made → HasMoreRows s most
-  more_is most l = (counted.count, (let c : made ≡ capped counted.count = counted.capped in omega (arith, l, c)), canonical_count)
+  more_is most l = (counted.count, (let c : made ≡ capped_count counted.count = counted.capped in omega (arith, l, c)), canonical_count)
 
 -- ---- the texts of the new store are numbers of the domain
 module _ (s : StoreView) (lists : SpanLists) (groups : AreGroups s lists) (periods : Periods) (made : StoreView) (valid : IsStore made) (one : made.shape.times ≡ 1) (shape : made.shape ≡ s.shape) (holds : HoldsGroups periods lists (finite.keys lists) made)

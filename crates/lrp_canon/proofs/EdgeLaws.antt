@@ -7,7 +7,7 @@ use Rattle.lrp_theory.specs.Bounds.{Within}
 use Rattle.lrp_theory.proofs.Modulo.{times_neg}
 use Rattle.lrp_matrix.specs.Ranges.{Above}
 use Rattle.lrp_spans.specs.declared.spans.Span.{Span}
-use Rattle.lrp_spans.specs.Spans.{AreBelow, AreOrdered, AreShifted, SpansHaveNumber, HasTurn, InSpans, IsDifference, IsSpan}
+use Rattle.lrp_spans.specs.Spans.{HaveResiduesBelow, AreOrdered, AreShifted, SpansHaveNumber, HasTurn, InSpans, IsSpanDifference, IsSpan}
 use Rattle.lrp_spans.proofs.CutLaws.{wider_span}
 use Rattle.lrp_spans.proofs.Repeats.{divisor_le}
 use Rattle.lrp_canon.specs.declared.edges.Periods.{Periods}
@@ -74,13 +74,13 @@ module _ (periods : Periods) (spans before : List Span) (is : AreRepeating perio
   step_le = divisor_le periods.least periods.whole is.positive is.divides
 
   -- the spans of a difference have residues below the period
-  below_of : (one other made : List Span) → AreBelow periods.whole one → IsDifference (2 ^ 62 + 1) one other made → AreBelow periods.whole made
+  below_of : (one other made : List Span) → HaveResiduesBelow periods.whole one → IsSpanDifference (2 ^ 62 + 1) one other made → HaveResiduesBelow periods.whole made
   below_of one other made b d s l =
       let v : IsSpan (2 ^ 62 + 2) s = d.each s l in
       let t = d.to s.residue v.turn (record { span = s; listed = l; is = v.is }) in
       subst (λ r. r < periods.whole) t.0.is.residue (b t.0.span t.0.listed)
 
-  pub starts_are : (made : List Span) → IsDifference (2 ^ 62 + 1) spans before made → AreEdgeSpans periods.whole (Begins (SpansHaveNumber periods.whole spans) periods.least) made
+  pub starts_are : (made : List Span) → IsSpanDifference (2 ^ 62 + 1) spans before made → AreEdgeSpans periods.whole (Begins (SpansHaveNumber periods.whole spans) periods.least) made
   starts_are made d = record {
     to = λ x h. (let t = start_is (2 ^ 62) periods.whole periods.least spans before made shift d is.below x h in record { inside = t.0; first = t.1 });
     from = λ x b. start_from (2 ^ 62) periods.whole periods.least spans before made shift d is.below x b.inside b.first;
@@ -105,7 +105,7 @@ module _ (periods : Periods) (spans before : List Span) (is : AreRepeating perio
       between x a b = let p : periods.whole ≤ 2 ^ 62 = is.high in let q : periods.least ≤ periods.whole = step_le in let r : 0 < periods.whole = is.positive in (omega (arith, ints, p, q, r), omega (arith, ints, p, q, r))
 
   -- ---- stops
-  module _ (made : List Span) (d : IsDifference (2 ^ 62 + 1) before spans made) where
+  module _ (made : List Span) (d : IsSpanDifference (2 ^ 62 + 1) before spans made) where
     stop_is : (x : ℤ) → SpansHaveNumber periods.whole made x → StopsAt (SpansHaveNumber periods.whole spans) periods.least x
     stop_is x h =
         let t = d.to h.residue h.turn h.inside in

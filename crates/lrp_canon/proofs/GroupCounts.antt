@@ -10,12 +10,12 @@ use Rattle.lrp_theory.proofs.Multiples.{Divides-multiple, Divides-trans}
 use Rattle.lrp_matrix.specs.Ranges.{Above}
 use Rattle.lrp_spans.specs.declared.spans.Span.{Span}
 use Rattle.lrp_spans.specs.Repeating.{RepeatsAtEnds}
-use Rattle.lrp_spans.specs.Spans.{AreBelow, AreOpenBelow, SpansHaveNumber, IsSpan}
+use Rattle.lrp_spans.specs.Spans.{HaveResiduesBelow, AreOpenBelow, SpansHaveNumber, IsSpan}
 use Rattle.lrp_spans.proofs.EndLaws.{before_last, no_first}
 use Rattle.lrp_spans.proofs.Repeats.{divisor_le}
 use Rattle.lrp_spans.proofs.Lists.{below_or, pairs_map}
 use Rattle.lrp_canon.specs.declared.edges.Periods.{Periods}
-use Rattle.lrp_canon.specs.Counting.{HasRows, HasWith, IsCount, capped, turns_of}
+use Rattle.lrp_canon.specs.Counting.{HasRows, HasWith, IsCount, capped_count, turns_of}
 use Rattle.lrp_canon.specs.Edges.{AreEdgeSpans, AreRepeating, Begins, GoesDown}
 use Rattle.lrp_canon.specs.Rows.{AreJust, IsOpenBelow, IsStart, Moment}
 use Rattle.lrp_canon.proofs.Numbers.{in_places, of_places, places, places_apart, places_length}
@@ -24,7 +24,7 @@ use Rattle.lrp_canon.proofs.Stepping.{at_least, between, deep_all}
 use Rattle.lrp_theory.proofs.Members.{from_map, in_map}
 
 -- ---- residues that go on downwards are those of spans without a first turn
-module _ (k high step bound : ℕ) (spans : List Span) (low : 0 < k) (positive : 0 < step) (divides : Divides (pos step) (pos k)) (each : (s : Span) → Contains spans s → IsSpan high s) (below : AreBelow k spans)
+module _ (k high step bound : ℕ) (spans : List Span) (low : 0 < k) (positive : 0 < step) (divides : Divides (pos step) (pos k)) (each : (s : Span) → Contains spans s → IsSpan high s) (below : HaveResiduesBelow k spans)
     (ends : RepeatsAtEnds (SpansHaveNumber k spans) bound step) (residues : List ℕ) (are : AreOpenBelow spans residues) where
   -- the number of a residue so many turns down
   deep : ℕ → ℕ → ℤ
@@ -197,7 +197,7 @@ module _ (k high step bound : ℕ) (spans : List Span) (low : 0 < k) (positive :
 
 -- the count of the rows of spans, from what was counted of both
 pub is_count : (periods : Periods) (spans starts : List Span) (residues : List ℕ) (numbers place made : ℕ) → AreRepeating periods spans → AreEdgeSpans periods.whole (Begins (SpansHaveNumber periods.whole spans) periods.least) starts → AreOpenBelow spans residues
-    → numbers ≡ capped (sum_by turns_of starts) → place ≤ length residues → ((r : ℕ) → Contains (take place residues) r → r < periods.least) → ((r : ℕ) → slice_get residues place ≡ Some r → periods.least ≤ r) → made ≡ min (numbers + place) (2 ^ 64 - 1) → IsCount periods spans made
+    → numbers ≡ capped_count (sum_by turns_of starts) → place ≤ length residues → ((r : ℕ) → Contains (take place residues) r → r < periods.least) → ((r : ℕ) → slice_get residues place ≡ Some r → periods.least ≤ r) → made ≡ min (numbers + place) (2 ^ 64 - 1) → IsCount periods spans made
 is_count periods spans starts residues numbers place made is edges are n inside front stop e = record {
   count = sum_by turns_of starts + place;
   capped = (let a : numbers ≡ min (sum_by turns_of starts) (2 ^ 64 - 1) = n in omega (arith, a, e));

@@ -17,7 +17,7 @@ use Rattle.lrp_spans.specs.declared.spans.Span.{Span}
 use Rattle.lrp_spans.specs.Groups.{AreGroups, HoldsNumber, SpanLists}
 use Rattle.lrp_spans.specs.Periods.{IsEndPeriod, RepeatsFar}
 use Rattle.lrp_spans.specs.Repeating.{RepeatsAtEnds}
-use Rattle.lrp_spans.specs.Spans.{AreBelow, SpansHaveNumber}
+use Rattle.lrp_spans.specs.Spans.{HaveResiduesBelow, SpansHaveNumber}
 use Rattle.lrp_spans.proofs.EndSteps.{merged_ordered}
 use Rattle.lrp_spans.proofs.GroupLaws.{group_below, group_numbers, group_valid, merged_below, zone_column}
 use Rattle.lrp_spans.proofs.Lists.{head_in, in_none}
@@ -120,7 +120,7 @@ module _ (s : StoreView) (is : IsStore s) (one : s.shape.times ≡ 1) (room : Ha
   groups_repeat = record {
     each = λ group spans m. record {
       ordered = merged_ordered (2 ^ 62) (list_at lists group) spans m (group_valid s is one lists groups group);
-      below = subst (λ k. AreBelow k spans) (sym whole) (merged_below s.period (2 ^ 62) (list_at lists group) spans m (group_valid s is one lists groups group) (group_below s is one lists groups group));
+      below = subst (λ k. HaveResiduesBelow k spans) (sym whole) (merged_below s.period (2 ^ 62) (list_at lists group) spans m (group_valid s is one lists groups group) (group_below s is one lists groups group));
       low = least.positive;
       divides = subst (λ k. Divides (pos periods.least) (pos k)) (sym whole) least.divides;
       positive = subst (λ k. 0 < k) (sym whole) is.period_low;

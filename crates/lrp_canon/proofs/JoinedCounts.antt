@@ -11,10 +11,10 @@ use Rattle.lrp_model.specs.declared.tuples.Cell.{Cell}
 use Rattle.lrp_slots.specs.Lists.{list_at}
 use Rattle.lrp_spans.specs.declared.spans.Span.{Span}
 use Rattle.lrp_spans.specs.Groups.{SpanLists}
-use Rattle.lrp_spans.specs.Spans.{AreMerged, SpansHaveNumber}
+use Rattle.lrp_spans.specs.Spans.{AreMergedSpans, SpansHaveNumber}
 use Rattle.lrp_spans.proofs.Lists.{in_none, in_one, one_in, pairs_append, pairs_left, pairs_none}
 use Rattle.lrp_canon.specs.declared.edges.Periods.{Periods}
-use Rattle.lrp_canon.specs.Counting.{HaveOwnTexts, HasRows, HasWith, InGroups, IsCount, IsCountOf, capped}
+use Rattle.lrp_canon.specs.Counting.{HaveOwnTexts, HasRows, HasWith, InGroups, IsCount, IsCountOf, capped_count}
 use Rattle.lrp_canon.specs.Rows.{AreJust, IsOpenBelow, IsStart, Moment}
 use Rattle.lrp_canon.proofs.Stepping.{at_least}
 
@@ -163,11 +163,11 @@ module _ (periods : Periods) (lists : SpanLists) (low : 0 < periods.least) where
     rows = λ name named. none_rows (InGroups periods.whole lists name []) periods.least low (λ x texts h. in_none h.group h.listed);
   }
 
-  pub more_counted : (done : List Cell) (group : Cell) (spans : List Span) (old more : ℕ) → AreMerged (list_at lists group) spans → IsCountOf periods lists done old → IsCount periods spans more
+  pub more_counted : (done : List Cell) (group : Cell) (spans : List Span) (old more : ℕ) → AreMergedSpans (list_at lists group) spans → IsCountOf periods lists done old → IsCount periods spans more
       → IsCountOf periods lists (done ++ group ∷ []) (min (old + more) (2 ^ 64 - 1))
   more_counted done group spans old more merged o m = record {
     count = o.count + m.count;
-    capped = (let a : old ≡ capped o.count = o.capped in let b : more ≡ capped m.count = m.capped in omega (arith, a, b));
+    capped = (let a : old ≡ capped_count o.count = o.capped in let b : more ≡ capped_count m.count = m.capped in omega (arith, a, b));
     rows = λ name named. both_rows (InGroups periods.whole lists name done) (HasWith (SpansHaveNumber periods.whole spans) (name group)) (InGroups periods.whole lists name (done ++ group ∷ [])) (both name named) periods.least low o.count m.count
         (o.rows name (pairs_left (λ g h. (p q : Span) → Contains (list_at lists g) p → Contains (list_at lists h) q → name g ≢ name h) done (group ∷ []) named)) (m.rows (name group));
   }

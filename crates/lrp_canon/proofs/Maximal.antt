@@ -12,7 +12,7 @@ use Rattle.lrp_matrix.specs.Ranges.{Above}
 use Rattle.lrp_spans.specs.Repeating.{RepeatsAtEnds}
 use Rattle.lrp_canon.specs.declared.edges.Edge.{Edge}
 use Rattle.lrp_canon.specs.declared.rows.MaximalRow.{MaximalRow}
-use Rattle.lrp_canon.specs.Edges.{AreBeginnings, AreStops, Begins, IsBeginning, IsEarlier, IsEdgeAt, IsSooner, StopsAt}
+use Rattle.lrp_canon.specs.Edges.{AreBeginnings, AreStops, Begins, IsBeginning, IsEarlierEdge, IsEdgeAt, IsSooner, StopsAt}
 use Rattle.lrp_canon.specs.Making.{AreRowsOf, EndsAt, IsEdgeAhead, IsInside, IsRow, IsRowEnd, IsRowFrom, LieApart}
 use Rattle.lrp_canon.specs.Pairing.{AreRowsFrom}
 use Rattle.lrp_canon.proofs.Stepping.{at_least, between, deep_all, one_rest, rest_of, same_apart, times_of}
@@ -229,10 +229,10 @@ module _ (set : ℤ → Type 0) (either : (x : ℤ) → set x ⊎ (set x → ⊥
         (get_or starts l.0 d, Contains-get_or starts l.0 d il, subst (IsRowFrom period stops (get_or starts l.0 d)) l.2 (paired.each l.0 d row il))
 
     -- a row is below each row of its residue that begins later
-    far_apart : (e f : Edge) (v w : MaximalRow) → Contains starts e → Contains starts f → IsEarlier e f → IsRowFrom period stops e v → IsRowFrom period stops f w → LieApart period v w
+    far_apart : (e f : Edge) (v w : MaximalRow) → Contains starts e → Contains starts f → IsEarlierEdge e f → IsRowFrom period stops e v → IsRowFrom period stops f w → LieApart period v w
     far_apart e f v w le lf earlier fe ff = record { far = λ same x y ix iy. of earlier same x y ix iy f.number refl (begin.to f lf) }
       where
-        of : IsEarlier e f → v.residue ≡ w.residue → (x y : ℤ) → IsInside period v x → IsInside period w y → (n : Option ℤ) → f.number ≡ n → IsBeginning set period f.residue n → (x +ℤ pos period) <ℤ y
+        of : IsEarlierEdge e f → v.residue ≡ w.residue → (x y : ℤ) → IsInside period v x → IsInside period w y → (n : Option ℤ) → f.number ≡ n → IsBeginning set period f.residue n → (x +ℤ pos period) <ℤ y
         of (inl a) same x y ix iy n q g = let p : e.residue ≡ f.residue = sym fe.residue ∙ same ∙ ff.residue in absurd (omega (arith, a, p))
         of (inr a) same x y ix iy None q g = absurd (none e.number (subst (IsSooner e.number) q a.1))
           where

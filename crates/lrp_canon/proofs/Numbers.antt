@@ -9,9 +9,9 @@ use Rattle.std.proofs.lemmas.List.Elements.{Contains-append_cases, Contains-appe
 use Rattle.lrp_theory.specs.Bounds.{Within}
 use Rattle.lrp_matrix.specs.Ranges.{Above}
 use Rattle.lrp_spans.specs.declared.spans.Span.{Span}
-use Rattle.lrp_spans.specs.Spans.{AreBelow, SpanComesBefore, SpansHaveNumber, HasTurn, IsSpan}
+use Rattle.lrp_spans.specs.Spans.{HaveResiduesBelow, SpanComesBefore, SpansHaveNumber, HasTurn, IsSpan}
 use Rattle.lrp_spans.proofs.Lists.{in_cons, in_none, in_one, later, head_in, pairs_append, pairs_head, pairs_map, pairs_none, pairs_one, pairs_right}
-use Rattle.lrp_canon.specs.Counting.{capped, turns_between, turns_of}
+use Rattle.lrp_canon.specs.Counting.{capped_count, turns_between, turns_of}
 use Rattle.lrp_canon.specs.Edges.{HasEnds}
 use Rattle.lrp_canon.specs.Rows.{Moment}
 use Rattle.lrp_canon.proofs.StartLaws.{one_residue, one_turn}
@@ -146,7 +146,7 @@ module _ (k high : ℕ) (texts : List ℕ) where
       (from_span spans valid ends s h.inside.listed h.turn (record { residue = refl; low = h.inside.is.low; high = h.inside.is.high }))
 
   -- numbers of spans that come one before the other differ
-  differ : (s : Span) (spans : List Span) → 0 < k → s.residue < k → AreBelow k spans → ((v : Span) → Contains spans v → SpanComesBefore s v) → (n : ℤ) → HasTurn s s.residue n → SpansHaveNumber k spans (pos s.residue +ℤ (pos k *ℤ n)) → ⊥
+  differ : (s : Span) (spans : List Span) → 0 < k → s.residue < k → HaveResiduesBelow k spans → ((v : Span) → Contains spans v → SpanComesBefore s v) → (n : ℤ) → HasTurn s s.residue n → SpansHaveNumber k spans (pos s.residue +ℤ (pos k *ℤ n)) → ⊥
   differ s spans low sl below before n t h =
       let v : Span = h.inside.span in
       let hl : h.residue < k = subst (λ r. r < k) h.inside.is.residue (below v h.inside.listed) in
@@ -166,7 +166,7 @@ module _ (k high : ℕ) (texts : List ℕ) where
   unfolding place
   same_turn r n m low rl e = one_turn k r r n m rl rl (ap (λ (q : Moment ℕ). q.number) e)
 
-  pub places_apart : (spans : List Span) → 0 < k → ((s : Span) → Contains spans s → IsSpan high s) → ((s : Span) → Contains spans s → HasEnds s) → AreBelow k spans → AllPairs SpanComesBefore spans → AllPairs ◌≢◌ (places k texts spans)
+  pub places_apart : (spans : List Span) → 0 < k → ((s : Span) → Contains spans s → IsSpan high s) → ((s : Span) → Contains spans s → HasEnds s) → HaveResiduesBelow k spans → AllPairs SpanComesBefore spans → AllPairs ◌≢◌ (places k texts spans)
   unfolding places places_in place
   places_apart [] low valid ends below all = pairs_none ◌≢◌
   places_apart (s ∷ spans) low valid ends below all = pairs_append ◌≢◌ (places_in k texts s) (places k texts spans)
@@ -183,9 +183,9 @@ module _ (k high : ℕ) (texts : List ℕ) where
           (turn_to s high (valid s (head_in s spans)) (ends s (head_in s spans)) t.0 t.1) (subst (SpansHaveNumber k spans) f i.1)
 
 -- one more span is counted
-pub counted_more : (spans : List Span) (i : ℕ) (d : Span) (old more new : ℕ) → i < length spans → old ≡ capped (sum_by turns_of (take i spans)) → more ≡ turns_of (get_or spans i d) → new ≡ min (old + more) (2 ^ 64 - 1) → new ≡ capped (sum_by turns_of (take (i + 1) spans))
+pub counted_more : (spans : List Span) (i : ℕ) (d : Span) (old more new : ℕ) → i < length spans → old ≡ capped_count (sum_by turns_of (take i spans)) → more ≡ turns_of (get_or spans i d) → new ≡ min (old + more) (2 ^ 64 - 1) → new ≡ capped_count (sum_by turns_of (take (i + 1) spans))
 counted_more spans i d old more new l e f g =
     let s : sum_by turns_of (take (i + 1) spans) ≡ sum_by turns_of (take i spans) + turns_of (get_or spans i d) = sum_by_more turns_of spans i d l in
     let a : old ≡ min (sum_by turns_of (take i spans)) (2 ^ 64 - 1) = e in
-    let b : min (sum_by turns_of (take (i + 1) spans)) (2 ^ 64 - 1) ≡ capped (sum_by turns_of (take (i + 1) spans)) = refl in
+    let b : min (sum_by turns_of (take (i + 1) spans)) (2 ^ 64 - 1) ≡ capped_count (sum_by turns_of (take (i + 1) spans)) = refl in
     omega (arith, s, a, f, g) ∙ b

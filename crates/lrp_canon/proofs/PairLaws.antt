@@ -7,7 +7,7 @@ use Rattle.lrp_matrix.specs.Ranges.{Above}
 use Rattle.lrp_spans.proofs.Lists.{below_or, head_in, pairs_head, pairs_right}
 use Rattle.lrp_canon.specs.declared.edges.Edge.{Edge}
 use Rattle.lrp_canon.specs.declared.rows.MaximalRow.{MaximalRow}
-use Rattle.lrp_canon.specs.Edges.{AreStops, IsEarlier, IsSooner}
+use Rattle.lrp_canon.specs.Edges.{AreStops, IsEarlierEdge, IsSooner}
 use Rattle.lrp_canon.specs.Making.{EndsAt, IsEdgeAhead, IsRowFrom}
 use Rattle.lrp_canon.specs.Pairing.{AreRowsFrom, AreStopEdges}
 
@@ -17,7 +17,7 @@ some_get (y ∷ xs) zero x h e = ap Some e
 some_get (y ∷ xs) (suc i) x h e = some_get xs i x (omega arith) e
 
 module _ (period : ℕ) (stops : List Edge) (is : AreStopEdges period stops) (place : ℕ) (start : Edge)
-    (before : (e : Edge) → Contains (take place stops) e → IsEarlier e start) (stop : (e : Edge) → slice_get stops place ≡ Some e → IsEarlier e start → ⊥) where
+    (before : (e : Edge) → Contains (take place stops) e → IsEarlierEdge e start) (stop : (e : Edge) → slice_get stops place ≡ Some e → IsEarlierEdge e start → ⊥) where
   -- an edge that is ahead stands at the place or behind it
   not_front : (y : ℤ) (a : IsEdgeAhead stops start y) → a.listed.0 < place → ⊥
   not_front y a l =
@@ -35,7 +35,7 @@ module _ (period : ℕ) (stops : List Edge) (is : AreStopEdges period stops) (pl
       by None s v = s
       by (Some b) s v = absurd (omega (arith, ints))
 
-      of : IsEarlier (record { residue = start.residue; number = Some y }) start → ⊥
+      of : IsEarlierEdge (record { residue = start.residue; number = Some y }) start → ⊥
       of (inl b) = absurd (omega arith)
       of (inr b) = by start.number b.1 a.later
 
@@ -48,15 +48,15 @@ module _ (period : ℕ) (stops : List Edge) (is : AreStopEdges period stops) (pl
     found = some_get stops place here l at
 
     -- the stop at the place is that edge, or comes before it
-    at_or_before : (y : ℤ) (a : IsEdgeAhead stops start y) → (here ≡ record { residue = start.residue; number = Some y } → ⊥) → IsEarlier here (record { residue = start.residue; number = Some y })
+    at_or_before : (y : ℤ) (a : IsEdgeAhead stops start y) → (here ≡ record { residue = start.residue; number = Some y } → ⊥) → IsEarlierEdge here (record { residue = start.residue; number = Some y })
     at_or_before y a ne =
         let e : Edge = record { residue = start.residue; number = Some y } in
         let n : a.listed.0 < length stops = a.listed.1 in
         elim (below_or a.listed.0 place) [
           | inl b ↦ absurd (not_front y a b)
           | inr b ↦ elim (below_or place a.listed.0) [
-            | inl c ↦ (let r : IsEarlier (get_or stops place here) (get_or stops a.listed.0 here) = is.apart place a.listed.0 here c n in
-                subst (λ v. IsEarlier v e) at (subst (IsEarlier (get_or stops place here)) (get_or_default stops a.listed.0 here e n ∙ a.listed.2) r))
+            | inl c ↦ (let r : IsEarlierEdge (get_or stops place here) (get_or stops a.listed.0 here) = is.apart place a.listed.0 here c n in
+                subst (λ v. IsEarlierEdge v e) at (subst (IsEarlierEdge (get_or stops place here)) (get_or_default stops a.listed.0 here e n ∙ a.listed.2) r))
             | inr c ↦ (let q : a.listed.0 ≡ place = omega arith in absurd (ne (sym at ∙ get_or_default stops place here e l ∙ ap (λ i. get_or stops i e) (sym q) ∙ a.listed.2)))
           ]
         ]
@@ -64,7 +64,7 @@ module _ (period : ℕ) (stops : List Edge) (is : AreStopEdges period stops) (pl
     pub ends_other : (here.residue ≡ start.residue → ⊥) → EndsAt period stops start None
     ends_other ne y a = of (at_or_before y a (λ e. ne (ap (λ (v : Edge). v.residue) e)))
       where
-        of : IsEarlier here (record { residue = start.residue; number = Some y }) → ⊥
+        of : IsEarlierEdge here (record { residue = start.residue; number = Some y }) → ⊥
         of (inl b) = stop here found (inl b)
         of (inr b) = ne b.0
 
@@ -91,7 +91,7 @@ module _ (period : ℕ) (stops : List Edge) (is : AreStopEdges period stops) (pl
             (λ lt. absurd (of lt (at_or_before y a (λ e. (let q : Some n ≡ Some y = sym num ∙ ap (λ (v : Edge). v.number) e in let r : n ≡ y = cc in absurd (omega (arith, ints)))))))
             (λ le. le)
           where
-            of : y <ℤ (b +ℤ pos period) → IsEarlier here (record { residue = start.residue; number = Some y }) → ⊥
+            of : y <ℤ (b +ℤ pos period) → IsEarlierEdge here (record { residue = start.residue; number = Some y }) → ⊥
             of lt (inl c) = absurd (omega (arith, c, same))
             of lt (inr c) = let r : n <ℤ y = subst (λ v. IsSooner v (Some y)) num c.1 in absurd (omega (arith, ints))
 
@@ -107,21 +107,21 @@ number_trans None (Some b) (Some c) p q = tt
 number_trans (Some a) (Some b) None p q = q
 number_trans (Some a) (Some b) (Some c) p q = omega (arith, ints)
 
-earlier_trans : (d e f : Edge) → IsEarlier d e → IsEarlier e f → IsEarlier d f
+earlier_trans : (d e f : Edge) → IsEarlierEdge d e → IsEarlierEdge e f → IsEarlierEdge d f
 earlier_trans d e f (inl a) (inl b) = inl (omega (arith, a, b))
 earlier_trans d e f (inl a) (inr b) = inl (let p : e.residue ≡ f.residue = b.0 in omega (arith, a, p))
 earlier_trans d e f (inr a) (inl b) = inl (let p : d.residue ≡ e.residue = a.0 in omega (arith, b, p))
 earlier_trans d e f (inr a) (inr b) = inr (a.0 ∙ b.0, number_trans d.number e.number f.number a.1 b.1)
 
 -- what stands behind a place of a list in order comes behind the edge there
-behind : (edges : List Edge) (k : ℕ) (d : Edge) → k < length edges → AllPairs IsEarlier edges → (s : Edge) → Contains (drop (k + 1) edges) s → IsEarlier (get_or edges k d) s
+behind : (edges : List Edge) (k : ℕ) (d : Edge) → k < length edges → AllPairs IsEarlierEdge edges → (s : Edge) → Contains (drop (k + 1) edges) s → IsEarlierEdge (get_or edges k d) s
 behind edges k d l all s h =
     let e : take (k + 1) edges ++ drop (k + 1) edges ≡ edges = take-append-drop (k + 1) edges in
     let f : take (k + 1) edges ≡ take k edges ++ get_or edges k d ∷ [] = take_more edges k d l in
     let g : take k edges ++ (get_or edges k d ∷ drop (k + 1) edges) ≡ edges = sym (append_assoc (take k edges) (get_or edges k d ∷ []) (drop (k + 1) edges)) ∙ ap (λ xs. xs ++ drop (k + 1) edges) (sym f) ∙ e in
-    pairs_head IsEarlier (get_or edges k d) (drop (k + 1) edges) (pairs_right IsEarlier (take k edges) (get_or edges k d ∷ drop (k + 1) edges) (subst (AllPairs IsEarlier) (sym g) all)) s h
+    pairs_head IsEarlierEdge (get_or edges k d) (drop (k + 1) edges) (pairs_right IsEarlierEdge (take k edges) (get_or edges k d ∷ drop (k + 1) edges) (subst (AllPairs IsEarlierEdge) (sym g) all)) s h
 
-pub still_before : (stops starts : List Edge) (k next : ℕ) (d : Edge) → k < length starts → AllPairs IsEarlier starts → ((e : Edge) → Contains (take next stops) e → IsEarlier e (get_or starts k d)) → (s : Edge) → Contains (drop (k + 1) starts) s → (e : Edge) → Contains (take next stops) e → IsEarlier e s
+pub still_before : (stops starts : List Edge) (k next : ℕ) (d : Edge) → k < length starts → AllPairs IsEarlierEdge starts → ((e : Edge) → Contains (take next stops) e → IsEarlierEdge e (get_or starts k d)) → (s : Edge) → Contains (drop (k + 1) starts) s → (e : Edge) → Contains (take next stops) e → IsEarlierEdge e s
 still_before stops starts k next d l all before s h e m = earlier_trans e (get_or starts k d) s (before e m) (behind starts k d l all s h)
 
 pub here_left : (starts : List Edge) (k : ℕ) (d : Edge) → k < length starts → Contains (drop k starts) (get_or starts k d)

@@ -13,7 +13,7 @@ use Rattle.std.proofs.lemmas.List.Kept.{AllPairs-cons, Contains-from_dedup, Cont
 use Rattle.std.proofs.lemmas.List.Sorted.{Contains-permutation, IsPermutation-sym}
 use Rattle.lrp_spans.proofs.Lists.{pairs_none}
 use Rattle.lrp_canon.specs.declared.edges.Edge.{Edge}
-use Rattle.lrp_canon.specs.Edges.{AreInOrder, IsEarlier, IsSooner}
+use Rattle.lrp_canon.specs.Edges.{AreInOrder, IsEarlierEdge, IsSooner}
 
 abbrev pub number_cmp : Option ℤ → Option ℤ → Ordering
 number_cmp e f = option_cmp int_cmp e f
@@ -54,18 +54,18 @@ sooner None (Some b) h = tt
 sooner (Some a) None h = cc
 sooner (Some a) (Some b) h = subst (λ o. MatchOrdering o (a <ℤ b) (a ≡ b) (b <ℤ a)) h (int_ranks a b)
 
-earlier : (e f : Edge) → edge_cmp e f ≡ Less → IsEarlier e f
+earlier : (e f : Edge) → edge_cmp e f ≡ Less → IsEarlierEdge e f
 earlier e f h = by (nat_cmp e.residue f.residue) (ranks e.residue f.residue) h
   where
-    by : (o : Ordering) → MatchOrdering o (e.residue < f.residue) (e.residue ≡ f.residue) (f.residue < e.residue) → ordering_then o (number_cmp e.number f.number) ≡ Less → IsEarlier e f
+    by : (o : Ordering) → MatchOrdering o (e.residue < f.residue) (e.residue ≡ f.residue) (f.residue < e.residue) → ordering_then o (number_cmp e.number f.number) ≡ Less → IsEarlierEdge e f
     by Less r g = inl r
     by Equal r g = inr (r, sooner e.number f.number g)
     by Greater r g = absurd (cc)
 
-strictly : (edges : List Edge) → IsStrictlySortedBy edge_cmp edges → AllPairs IsEarlier edges
+strictly : (edges : List Edge) → IsStrictlySortedBy edge_cmp edges → AllPairs IsEarlierEdge edges
 unfolding IsStrictlySortedBy
-strictly [] h = pairs_none IsEarlier
-strictly (e ∷ edges) h = AllPairs-cons IsEarlier e edges (All-weaker (λ f. edge_cmp e f ≡ Less) (IsEarlier e) (λ f l. earlier e f l) edges (All-from_recursion (λ f. edge_cmp e f ≡ Less) edges h.0)) (strictly edges h.1)
+strictly [] h = pairs_none IsEarlierEdge
+strictly (e ∷ edges) h = AllPairs-cons IsEarlierEdge e edges (All-weaker (λ f. edge_cmp e f ≡ Less) (IsEarlierEdge e) (λ f l. earlier e f l) edges (All-from_recursion (λ f. edge_cmp e f ≡ Less) edges h.0)) (strictly edges h.1)
 
 -- equal in order is equal
 same_number : (e f : Option ℤ) → number_cmp e f ≡ Equal → e ≡ f

@@ -8,7 +8,7 @@ use Rattle.lrp_model.specs.declared.tuples.Cell.{Cell}
 use Rattle.lrp_slots.specs.Lists.{list_at}
 use Rattle.lrp_zone.specs.Zones.{IsMember, ZoneView, reach_of}
 use Rattle.lrp_store.specs.Stores.{IsStore, StoreView, tables_at, zone_count, zone_of, zones_at}
-use Rattle.lrp_minus.specs.Intervals.{IsFarBelow}
+use Rattle.lrp_cutting.specs.Intervals.{IsFarBelow}
 use Rattle.lrp_spans.specs.Groups.{AreGroups, HoldsNumber, SpanLists, group_cell}
 use Rattle.lrp_spans.specs.Periods.{IsEndPeriod}
 use Rattle.lrp_spans.specs.Spans.{SpansHaveNumber}

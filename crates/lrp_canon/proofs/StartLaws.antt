@@ -8,7 +8,7 @@ use Rattle.lrp_theory.proofs.Modulo.{minus_right, small_multiple, times_neg}
 use Rattle.lrp_matrix.specs.Ranges.{Above}
 use Rattle.lrp_spans.specs.declared.spans.Span.{Span}
 use Rattle.lrp_spans.specs.Repeating.{RepeatsAtEnds}
-use Rattle.lrp_spans.specs.Spans.{AreBelow, AreShifted, SpansHaveNumber, HasTurn, InSpans, IsDifference}
+use Rattle.lrp_spans.specs.Spans.{HaveResiduesBelow, AreShifted, SpansHaveNumber, HasTurn, InSpans, IsSpanDifference}
 use Rattle.lrp_spans.proofs.TurnLaws.{turn_falls}
 
 -- a number has one residue and one turn
@@ -26,7 +26,7 @@ one_turn k r q n m rl ql e =
     let b : m ≤ℤ n = turn_falls k m n low (omega (arith, ints)) in
     omega (arith, ints)
 
-module _ (high k step : ℕ) (spans before starts : List Span) (shift : AreShifted high k step spans before) (d : IsDifference (high + 1) spans before starts) (below : AreBelow k spans) where
+module _ (high k step : ℕ) (spans before starts : List Span) (shift : AreShifted high k step spans before) (d : IsSpanDifference (high + 1) spans before starts) (below : HaveResiduesBelow k spans) where
   -- the numbers of the starts, both ways
   pub start_is : (x : ℤ) → SpansHaveNumber k starts x → SpansHaveNumber k spans x × (SpansHaveNumber k spans (x -ℤ pos step) → ⊥)
   start_is x h =

@@ -15,10 +15,10 @@ use Rattle.lrp_slots.proofs.Tables.{cells_total}
 use Rattle.lrp_zone.specs.Zones.{IsMember, IsZone, ZoneView, columns_of}
 use Rattle.lrp_store.specs.Stores.{IsPadded, IsStore, StoreView, tables_at, zone_of, zones_at}
 use Rattle.lrp_store.proofs.Held.{list_put, zone_held}
-use Rattle.lrp_minus.specs.Intervals.{IsFarBelow}
+use Rattle.lrp_cutting.specs.Intervals.{IsFarBelow}
 use Rattle.lrp_spans.specs.declared.spans.Span.{Span}
 use Rattle.lrp_spans.specs.Groups.{SpanLists}
-use Rattle.lrp_spans.specs.Spans.{AreMerged, SpansHaveNumber}
+use Rattle.lrp_spans.specs.Spans.{AreMergedSpans, SpansHaveNumber}
 use Rattle.lrp_spans.proofs.GroupLaws.{zone_column}
 use Rattle.lrp_spans.proofs.Lists.{before, head_in, in_none, in_one, one_in, pairs_append, pairs_left, pairs_none, pairs_one}
 use Rattle.lrp_canon.specs.declared.edges.Periods.{Periods}
@@ -142,7 +142,7 @@ holds_none periods lists s none = record {
 }
 
 module _ (periods : Periods) (lists : SpanLists) (done : List Cell) (group : Cell) (spans : List Span) (rows : List MaximalRow) (s new : StoreView) (is : IsStore s) (one : s.shape.times ≡ 1) (period : s.period ≡ periods.least) (holds : HoldsGroups periods lists done s)
-    (merged : AreMerged (list_at lists group) spans) (are : AreRowsOf (SpansHaveNumber periods.whole spans) periods.least rows) (a : AddsRows group rows s new)
+    (merged : AreMergedSpans (list_at lists group) spans) (are : AreRowsOf (SpansHaveNumber periods.whole spans) periods.least rows) (a : AddsRows group rows s new)
     (apart : (g : Cell) (p q : Span) → Contains done g → Contains (list_at lists g) p → Contains (list_at lists group) q → g.texts ≡ group.texts → ⊥) (q : Span) (some : Contains (list_at lists group) q) where
   -- no zone has the texts of the group yet
   no_zone : (c : Cell) → c.texts ≡ group.texts → (zs : List ZoneView) → zones_at s c ≡ zs → zs ≡ []
@@ -254,7 +254,7 @@ key_takes shape lists are filled done group rest left el e s es =
 
 -- one more of the keys
 pub holds_next : (periods : Periods) (shape : Shape) (lists : SpanLists) → AreGroupCells shape lists → AllPairs ◌≢◌ (finite.keys lists) → ((c : Cell) → finite.get lists c ≢ Some []) → (done : List Cell) (group : Cell) (rest left : List Cell) → left ≡ group ∷ rest → done ++ left ≡ finite.keys lists
-    → (spans : List Span) (rows : List MaximalRow) (s new : StoreView) → IsStore s → s.shape ≡ shape → s.period ≡ periods.least → AreMerged (list_at lists group) spans → AreRowsOf (SpansHaveNumber periods.whole spans) periods.least rows → AddsRows group rows s new
+    → (spans : List Span) (rows : List MaximalRow) (s new : StoreView) → IsStore s → s.shape ≡ shape → s.period ≡ periods.least → AreMergedSpans (list_at lists group) spans → AreRowsOf (SpansHaveNumber periods.whole spans) periods.least rows → AddsRows group rows s new
     → HoldsGroups periods lists done s → HoldsGroups periods lists (done ++ group ∷ []) new
 holds_next periods shape lists are apart filled done group rest left el e spans rows s new is es ep merged of a holds =
     let f : done ++ group ∷ rest ≡ finite.keys lists = ap (λ xs. done ++ xs) (sym el) ∙ e in

@@ -18,8 +18,8 @@ use Rattle.lrp_store.specs.Stores.{IsCellOf, LiesInCell, StoreView, tables_at, z
 use Rattle.lrp_store.proofs.Aligning.{key_of}
 use Rattle.lrp_store.proofs.Counted.{one_cell}
 use Rattle.lrp_store.proofs.Held.{cell_held, node_take, zone_held}
-use Rattle.lrp_list.proofs.Apart.{far_apart, has_of}
-use Rattle.lrp_list.proofs.Lists.{from_flat, in_flat}
+use Rattle.lrp_answer_text.proofs.Apart.{far_apart, has_of}
+use Rattle.lrp_answer_text.proofs.Lists.{from_flat, in_flat}
 use Rattle.lrp_spans.specs.Groups.{HoldsNumber}
 use Rattle.lrp_spans.proofs.GroupLaws.{zone_column, zone_period}
 use Rattle.lrp_zone.proofs.Lines.{in_line, line_cell, line_high, line_low}
@@ -32,7 +32,7 @@ use Rattle.lrp_canon.proofs.TextLaws.{either}
 use Rattle.lrp_store.proofs.ZoneCounts.{keys_differ, zones_by_cells}
 use Rattle.lrp_canon.proofs.ZoneSums.{flat_length, pairs_flat, sum_of_ones}
 use Rattle.lrp_theory.proofs.Members.{from_map, in_map}
-use Rattle.lrp_minus.proofs.IntervalLaws.{less_high, more_low}
+use Rattle.lrp_cutting.proofs.IntervalLaws.{less_high, more_low}
 
 -- ---- where a zone of one column begins
 abbrev begin_of : ZoneView → Option ℤ

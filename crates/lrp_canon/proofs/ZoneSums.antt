@@ -2,7 +2,7 @@
 use Rattle.std.proofs.Common.{◌≡◌, ℕ, ◌+◌, List, [], ◌∷◌, ◌++◌, length, length-append, refl, arith}
 use Rattle.std.specs.Prelude.{AllPairs, Contains, sum_by, flat_map}
 use Rattle.std.proofs.lemmas.List.Sums.{sum_by-cons}
-use Rattle.lrp_list.proofs.Lists.{from_flat}
+use Rattle.lrp_answer_text.proofs.Lists.{from_flat}
 use Rattle.lrp_spans.proofs.Lists.{head_in, later, pairs_append, pairs_head, pairs_none, pairs_right}
 
 -- ---- lists that are put together

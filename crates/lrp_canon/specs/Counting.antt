@@ -4,7 +4,7 @@ use Rattle.lrp_model.specs.declared.tuples.Cell.{Cell}
 use Rattle.lrp_slots.specs.Lists.{list_at}
 use Rattle.lrp_spans.specs.declared.spans.Span.{Span}
 use Rattle.lrp_spans.specs.Groups.{SpanLists}
-use Rattle.lrp_spans.specs.Spans.{AreMerged, SpansHaveNumber}
+use Rattle.lrp_spans.specs.Spans.{AreMergedSpans, SpansHaveNumber}
 use Rattle.lrp_canon.specs.Edges.{AreRepeating}
 use Rattle.lrp_canon.specs.Rows.{AreJust, IsOpenBelow, IsStart, Moment}
 use Rattle.lrp_canon.specs.declared.edges.Periods.{Periods}
@@ -28,8 +28,8 @@ abbrev pub turns_of : Span → ℕ
 turns_of s = turns_between s.first s.last
 
 -- a count that stops at the greatest word
-abbrev pub capped : ℕ → ℕ
-capped n = min n (2 ^ 64 - 1)
+abbrev pub capped_count : ℕ → ℕ
+capped_count n = min n (2 ^ 64 - 1)
 
 -- the numbers of a set, with these texts alone
 pub record HasWith (set : ℤ → Type 0) (own : List ℕ) (x : ℤ) (texts : List ℕ) : Type 0 where
@@ -39,7 +39,7 @@ pub record HasWith (set : ℤ → Type 0) (own : List ℕ) (x : ℤ) (texts : Li
 -- the count is that of the maximal rows of the spans, with any texts
 pub record IsCount (periods : Periods) (spans : List Span) (made : ℕ) : Type 0 where
   pub count : ℕ
-  pub capped : made ≡ capped count
+  pub capped : made ≡ capped_count count
   pub rows : (texts : List ℕ) → HasRows (HasWith (SpansHaveNumber periods.whole spans) texts) periods.least count
 
 -- the numbers of the spans of some of the groups, with the texts by which each group is named
@@ -56,9 +56,9 @@ HaveOwnTexts lists name groups = AllPairs (λ g h. (p q : Span) → Contains (li
 -- the count is that of the maximal rows of the groups, where their names differ
 pub record IsCountOf (periods : Periods) (lists : SpanLists) (groups : List Cell) (made : ℕ) : Type 0 where
   pub count : ℕ
-  pub capped : made ≡ capped count
+  pub capped : made ≡ capped_count count
   pub rows : (name : Cell → List ℕ) → HaveOwnTexts lists name groups → HasRows (InGroups periods.whole lists name groups) periods.least count
 
 -- the spans of each group repeat so, once they are merged
 pub record AreRepeatingGroups (periods : Periods) (lists : SpanLists) : Type 0 where
-  pub each : (group : Cell) (spans : List Span) → AreMerged (list_at lists group) spans → AreRepeating periods spans
+  pub each : (group : Cell) (spans : List Span) → AreMergedSpans (list_at lists group) spans → AreRepeating periods spans

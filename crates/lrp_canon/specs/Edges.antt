@@ -4,7 +4,7 @@ use Rattle.lrp_theory.specs.Divides.{Divides}
 use Rattle.lrp_theory.specs.Entries.{AtMost}
 use Rattle.lrp_spans.specs.declared.spans.Span.{Span}
 use Rattle.lrp_spans.specs.Repeating.{RepeatsAtEnds}
-use Rattle.lrp_spans.specs.Spans.{AreBelow, AreOrdered, SpanComesBefore, SpansHaveNumber, IsSpan}
+use Rattle.lrp_spans.specs.Spans.{HaveResiduesBelow, AreOrdered, SpanComesBefore, SpansHaveNumber, IsSpan}
 use Rattle.lrp_canon.specs.declared.edges.Edge.{Edge}
 use Rattle.lrp_canon.specs.declared.edges.Periods.{Periods}
 
@@ -28,7 +28,7 @@ pub record GoesDown (set : ℤ → Type 0) (period r : ℕ) : Type 0 where
 -- whole one may not stand any more
 pub record AreRepeating (periods : Periods) (spans : List Span) : Type 0 where
   pub ordered : AreOrdered (2 ^ 62) spans
-  pub below : AreBelow periods.whole spans
+  pub below : HaveResiduesBelow periods.whole spans
   pub low : 0 < periods.least
   pub divides : Divides (pos periods.least) (pos periods.whole)
   pub positive : 0 < periods.whole
@@ -49,7 +49,7 @@ pub record AreEdgeSpans (whole : ℕ) (kind : ℤ → Type 0) (spans : List Span
   pub small : (x : ℤ) → SpansHaveNumber whole spans x → AtMost (2 ^ 62) (Some x)
   pub each : (s : Span) → Contains spans s → IsSpan (2 ^ 62 + 2) s
   pub apart : AllPairs SpanComesBefore spans
-  pub below : AreBelow whole spans
+  pub below : HaveResiduesBelow whole spans
   pub ends : (s : Span) → Contains spans s → HasEnds s
 
 -- the spans are those of the numbers where the maximal rows of others begin
@@ -66,7 +66,7 @@ pub record AreEdgeNumbers (periods : Periods) (spans : List Span) : Type 0 where
   pub divides : Divides (pos periods.least) (pos periods.whole)
   pub high : periods.whole ≤ 2 ^ 62
   pub each : (s : Span) → Contains spans s → IsSpan (2 ^ 62 + 2) s
-  pub below : AreBelow periods.whole spans
+  pub below : HaveResiduesBelow periods.whole spans
   pub ends : (s : Span) → Contains spans s → HasEnds s
   pub small : (x : ℤ) → SpansHaveNumber periods.whole spans x → AtMost (2 ^ 62) (Some x)
 
@@ -100,12 +100,12 @@ IsSooner (Some x) None = ⊥
 IsSooner (Some x) (Some y) = x <ℤ y
 
 -- by residues first, and then by numbers
-abbrev pub IsEarlier : Edge → Edge → Type 0
-IsEarlier e f = (e.residue < f.residue) ⊎ ((e.residue ≡ f.residue) × IsSooner e.number f.number)
+abbrev pub IsEarlierEdge : Edge → Edge → Type 0
+IsEarlierEdge e f = (e.residue < f.residue) ⊎ ((e.residue ≡ f.residue) × IsSooner e.number f.number)
 
 -- the new edges are the old ones in order, each once
 pub record AreInOrder (old new : List Edge) : Type 0 where
-  pub apart : AllPairs IsEarlier new
+  pub apart : AllPairs IsEarlierEdge new
   pub to : (e : Edge) → Contains new e → Contains old e
   pub from : (e : Edge) → Contains old e → Contains new e
 
@@ -116,7 +116,7 @@ IsBeginning set period r (Some x) = Begins set period x × Divides (pos period) 
 
 -- the edges are those where the maximal rows begin, in order, each once
 pub record AreBeginnings (set : ℤ → Type 0) (period : ℕ) (edges : List Edge) : Type 0 where
-  pub apart : AllPairs IsEarlier edges
+  pub apart : AllPairs IsEarlierEdge edges
   pub below : (e : Edge) → Contains edges e → e.residue < period
   pub to : (e : Edge) → Contains edges e → IsBeginning set period e.residue e.number
   pub from : (x : ℤ) → Begins set period x → (e : Edge) × IsEdgeAt period x e × Contains edges e
@@ -125,7 +125,7 @@ pub record AreBeginnings (set : ℤ → Type 0) (period : ℕ) (edges : List Edg
 
 -- the edges are the first numbers behind the maximal rows, in order, each once
 pub record AreStops (set : ℤ → Type 0) (period : ℕ) (edges : List Edge) : Type 0 where
-  pub apart : AllPairs IsEarlier edges
+  pub apart : AllPairs IsEarlierEdge edges
   pub to : (e : Edge) → Contains edges e → (x : ℤ) × StopsAt set period x × IsEdgeAt period x e
   pub from : (x : ℤ) → StopsAt set period x → (e : Edge) × IsEdgeAt period x e × Contains edges e
   pub small : (e : Edge) (x : ℤ) → Contains edges e → e.number ≡ Some x → AtMost (2 ^ 62) (Some x)

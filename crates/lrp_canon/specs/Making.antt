@@ -11,7 +11,7 @@ use Rattle.lrp_model.specs.declared.tuples.Shape.{Shape}
 use Rattle.lrp_zone.specs.Zones.{ZoneView, IsMember, IsZone, reach_of}
 use Rattle.lrp_slots.specs.Lists.{list_at}
 use Rattle.lrp_store.specs.Stores.{StoreView, IsPadded, tables_at, zones_at}
-use Rattle.lrp_minus.specs.Intervals.{IsFarBelow}
+use Rattle.lrp_cutting.specs.Intervals.{IsFarBelow}
 use Rattle.lrp_spans.specs.declared.spans.Span.{Span}
 use Rattle.lrp_spans.specs.Groups.{SpanLists}
 use Rattle.lrp_spans.specs.Spans.{SpansHaveNumber}

@@ -3,12 +3,12 @@ use Rattle.std.specs.Prelude.{◌≡◌, ℕ, ℤ, ◌^◌, ◌<◌, ◌≤◌, 
 use Rattle.lrp_theory.specs.Entries.{AtMost}
 use Rattle.lrp_canon.specs.declared.edges.Edge.{Edge}
 use Rattle.lrp_canon.specs.declared.rows.MaximalRow.{MaximalRow}
-use Rattle.lrp_canon.specs.Edges.{IsEarlier}
+use Rattle.lrp_canon.specs.Edges.{IsEarlierEdge}
 use Rattle.lrp_canon.specs.Making.{IsRowFrom}
 
 -- the edges are in order, and each has a number from which the period can be taken
 pub record AreStopEdges (period : ℕ) (stops : List Edge) : Type 0 where
-  pub apart : AllPairs IsEarlier stops
+  pub apart : AllPairs IsEarlierEdge stops
   pub high : period ≤ 2 ^ 62
   pub numbers : (e : Edge) → Contains stops e → (y : ℤ) × (e.number ≡ Some y) × AtMost (2 ^ 62) (Some y)
 

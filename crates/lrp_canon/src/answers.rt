@@ -84,9 +84,9 @@ pub fn canonical_within(alloc: Global, answer: Answer, most: u32) -> Result<Opti
 
 // Whether the period is the least one, and each cell has one zone.
 fn stands_already(store: &Store, periods: Periods) -> bool
+    requires { IsStore store.now }
     ensures { IsTrue result → StandsAlready store.now periods }
 {
-    store.shape();
     if periods.least != periods.whole {
         return false;
     }
@@ -153,12 +153,11 @@ fn shape_of(store: Store) -> Shape
 // The period of the store, and the least one of its groups.
 fn periods_of(alloc: Global, store: &Store, groups: &Slots<Span>) -> Result<Periods, Memory>
     requires can { CanMakeCanonical store.now }
+    requires valid { IsStore store.now }
     requires groups { AreGroups store.now groups.now.lists }
     ensures whole { IfOk result (λ made. made.whole ≡ store.now.period) }
     ensures least { IfOk result (λ made. IsEndPeriod store.now.period groups.now.lists made.least) }
-    ensures valid { IfOk result (λ _. IsStore store.now) }
 {
-    store.shape();
     let whole = store.period() as u64;
     let least = period_of(alloc, groups, whole)?;
     Ok(Periods { whole, least })

@@ -3,7 +3,7 @@ ghost use Rattle.std.specs.Prelude.{◌≡◌, ◌≤◌, ◌+◌, ◌^◌, IfOk
 ghost use Rattle.std.specs.FinMap as finite;
 ghost use Rattle.lrp_spans.specs.Spans.{IsSpan};
 ghost use Rattle.lrp_spans.specs.declared.spans.Span.{Span as SpanValue};
-ghost use Rattle.lrp_canon.specs.Counting.{AreRepeatingGroups, IsCount, IsCountOf, capped, turns_of};
+ghost use Rattle.lrp_canon.specs.Counting.{AreRepeatingGroups, IsCount, IsCountOf, capped_count, turns_of};
 ghost use Rattle.lrp_canon.specs.Edges.{AreRepeating, HasEnds};
 
 use crate::edges::{Periods, starts_of};
@@ -42,7 +42,7 @@ fn rows_at(alloc: Global, spans: &[Span], periods: Periods) -> Result<u64, Memor
 fn numbers_of(spans: &[Span]) -> u64
     requires valid { (s : SpanValue) → Contains spans.now s → IsSpan (2 ^ 62 + 2) s }
     requires ends { (s : SpanValue) → Contains spans.now s → HasEnds s }
-    ensures { result ≡ capped (sum_by turns_of spans.now) }
+    ensures { result ≡ capped_count (sum_by turns_of spans.now) }
 {
     let mut count = 0_u64;
     for span in spans {

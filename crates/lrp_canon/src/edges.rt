@@ -2,7 +2,7 @@
 ghost use Rattle.std.specs.Prelude.{◌≡◌, ◌≤◌, ◌<◌, ◌^◌, ◌↔◌, ◌∷◌, [], Some, IsTrue, IfOk, OnOk, pos, ◌+ℤ◌, ◌*ℤ◌};
 ghost use Rattle.lrp_theory.specs.Entries.{AtMost};
 ghost use Rattle.lrp_spans.specs.Spans.{SpansHaveNumber};
-ghost use Rattle.lrp_canon.specs.Edges.{AddsNumbers, AddsOpen, AreBeginnings, AreEdgeNumbers, AreInOrder, AreRepeating, AreStarts, AreStopSpans, AreStops, HasEnds, IsEarlier};
+ghost use Rattle.lrp_canon.specs.Edges.{AddsNumbers, AddsOpen, AreBeginnings, AreEdgeNumbers, AreInOrder, AreRepeating, AreStarts, AreStopSpans, AreStops, HasEnds, IsEarlierEdge};
 
 use lrp_model::Memory;
 use lrp_spans::{Span, difference, open_below, shifted};
@@ -25,7 +25,7 @@ pub struct Edge {
 impl Edge {
     /// Whether the edge comes before the other one.
     pub fn is_before(&self, other: &Edge) -> bool
-        ensures { IsTrue result ↔ IsEarlier self.now other.now }
+        ensures { IsTrue result ↔ IsEarlierEdge self.now other.now }
     {
         if self.residue != other.residue {
             return self.residue < other.residue;

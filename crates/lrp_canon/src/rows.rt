@@ -1,7 +1,7 @@
 // The maximal rows of the numbers of spans.
 ghost use Rattle.std.specs.Prelude.{◌≡◌, ◌≤◌, AllPairs, Contains, IfOk, length, take, slice_get, Some};
 ghost use Rattle.lrp_spans.specs.Spans.{SpansHaveNumber};
-ghost use Rattle.lrp_canon.specs.Edges.{AreRepeating, IsEarlier};
+ghost use Rattle.lrp_canon.specs.Edges.{AreRepeating, IsEarlierEdge};
 ghost use Rattle.lrp_canon.specs.Making.{AreRowsOf, EndsAt};
 ghost use Rattle.lrp_canon.specs.Pairing.{AreRowsFrom, AreStopEdges};
 ghost use Rattle.lrp_canon.specs.declared.edges.Edge.{Edge as EdgeValue};
@@ -41,7 +41,7 @@ fn paired(
     stops: &[Edge],
     period: u64,
 ) -> Result<Vec<MaximalRow>, Memory>
-    requires starts { AllPairs IsEarlier starts.now }
+    requires starts { AllPairs IsEarlierEdge starts.now }
     requires stops { AreStopEdges period stops.now }
     ensures { IfOk result (λ made. AreRowsFrom period stops.now starts.now made.items) }
 {
@@ -61,10 +61,12 @@ fn paired(
 // The place of the first stop, from one on, that does not come before the start.
 fn passed(stops: &[Edge], from: usize, start: &Edge) -> usize
     requires from { from ≤ length stops.now }
-    requires before { (e : EdgeValue) → Contains (take from stops.now) e → IsEarlier e start.now }
+    requires before { (e : EdgeValue) → Contains (take from stops.now) e
+        → IsEarlierEdge e start.now }
     ensures place { result ≤ length stops.now }
-    ensures before { (e : EdgeValue) → Contains (take result stops.now) e → IsEarlier e start.now }
-    ensures stop { (e : EdgeValue) → slice_get stops.now result ≡ Some e → IsEarlier e start.now
+    ensures before { (e : EdgeValue) → Contains (take result stops.now) e
+        → IsEarlierEdge e start.now }
+    ensures stop { (e : EdgeValue) → slice_get stops.now result ≡ Some e → IsEarlierEdge e start.now
         → ⊥ }
 {
     let mut next = from;
@@ -78,8 +80,9 @@ fn passed(stops: &[Edge], from: usize, start: &Edge) -> usize
 fn end_at(stops: &[Edge], place: usize, start: &Edge, period: u64) -> Option<i64>
     requires stops { AreStopEdges period stops.now }
     requires place { place ≤ length stops.now }
-    requires before { (e : EdgeValue) → Contains (take place stops.now) e → IsEarlier e start.now }
-    requires stop { (e : EdgeValue) → slice_get stops.now place ≡ Some e → IsEarlier e start.now
+    requires before { (e : EdgeValue) → Contains (take place stops.now) e
+        → IsEarlierEdge e start.now }
+    requires stop { (e : EdgeValue) → slice_get stops.now place ≡ Some e → IsEarlierEdge e start.now
         → ⊥ }
     ensures { EndsAt period stops.now start.now result }
 {

@@ -35,17 +35,17 @@ pub fn rows_in_store(
 {
     let mut store = Store::new(alloc, shape, periods.least as i64);
     for group in groups.cells() {
-        store.shape();
         let spans = spans_at(alloc, groups, &group)?;
         let rows = maximal_rows(alloc, &spans, periods)?;
         add_rows(&rows, &group, periods.least, &mut store)?;
+        store.shape();
     }
-    store.shape();
     Ok(store)
 }
 
 // Adds the rows to the cells of a group.
 fn add_rows(rows: &[MaximalRow], group: &Cell, period: u64, out: &mut Store) -> Result<(), Memory>
+    requires high { period ≤ 2 ^ 62 }
     requires period { out.old.period ≡ period }
     requires takes { TakesRows group.now out.old }
     requires rows { (row : RowValue) → Contains rows.now row → IsRow period row }
@@ -60,12 +60,12 @@ fn add_rows(rows: &[MaximalRow], group: &Cell, period: u64, out: &mut Store) -> 
 
 // Adds a row to the cell of its residue.
 fn add_row(row: &MaximalRow, group: &Cell, period: u64, out: &mut Store) -> Result<(), Memory>
+    requires high { period ≤ 2 ^ 62 }
     requires period { out.old.period ≡ period }
     requires takes { TakesRows group.now out.old }
     requires row { IsRow period row.now }
     ensures { OnOk result (AddsRow group.now row.now out.old out.new) }
 {
-    out.shape();
     let zone = zone_of(row, period);
     let cell = cell_of(group, row.residue);
     match out.add(&cell, &zone, u32::MAX) {

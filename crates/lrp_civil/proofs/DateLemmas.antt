@@ -11,7 +11,7 @@ use Rattle.jiff_core.specs.declared.civil.date.Date.{Date as CivilDate}
 use Rattle.jiff_core.proofs.DateLemmas.{civil, days_from_civil-max, epoch_day_injective, epoch_day_range}
 use Rattle.jiff_core.proofs.SignedLemmas.{signed_arith}
 use Rattle.lrp_civil.specs.declared.dates.Date.{Date}
-use Rattle.lrp_civil.specs.Dates.{is_date, day_number, first_of, year_of, month_of, date_of, IsDateOf, IsCivilDay}
+use Rattle.lrp_civil.specs.Dates.{is_date, day_number, first_day, year_of, month_of, date_of, IsDateOf, IsCivilDay}
 use Rattle.lrp_civil.proofs.Counts.{OnlyFirst, count_is}
 use borrow.Author.Differences.{up, down}
 
@@ -35,28 +35,28 @@ abs_is (negsuc n) h = absurd (omega (arith, signed_arith))
 
 -- ---- years
 
-year_before : (i j : ℕ) → i ≤ j → day_number (first_of i 1) ≤ℤ day_number (first_of j 1)
+year_before : (i j : ℕ) → i ≤ j → day_number (first_day i 1) ≤ℤ day_number (first_day j 1)
 year_before i j h =
     elim (cases_order i j) [
       | inl e ↦ rw e (omega (arith, signed_arith))
-      | inr (inl lt) ↦ omega (arith, signed_arith, day_number-day_count (first_of i 1), day_number-day_count (first_of j 1), day_count-later_year (pos i) (pos j) (omega (arith, signed_arith)) (omega (arith, signed_arith)))
+      | inr (inl lt) ↦ omega (arith, signed_arith, day_number-day_count (first_day i 1), day_number-day_count (first_day j 1), day_count-later_year (pos i) (pos j) (omega (arith, signed_arith)) (omega (arith, signed_arith)))
       | inr (inr gt) ↦ absurd (omega arith)
     ]
 
-years_first : (day : ℤ) → OnlyFirst (λ year. int_le (day_number (first_of year 1)) day)
-years_first day = record { down = λ i j low le e. le_true (day_number (first_of i 1)) day (omega (arith, signed_arith, year_before i j le, true_le (day_number (first_of j 1)) day e)) }
+years_first : (day : ℤ) → OnlyFirst (λ year. int_le (day_number (first_day year 1)) day)
+years_first day = record { down = λ i j low le e. le_true (day_number (first_day i 1)) day (omega (arith, signed_arith, year_before i j le, true_le (day_number (first_day j 1)) day e)) }
 
 -- ---- months
 
 month_count : (year : ℤ) (m : ℕ) → day_count year m 1 ≡ day_count year 1 1 + days_of_months year (m - 1)
 month_count year m = omega (arith, day_count-day_of_year year m 1 (omega arith))
 
-month_before : (year i j : ℕ) → i ≤ j → day_number (first_of year i) ≤ℤ day_number (first_of year j)
+month_before : (year i j : ℕ) → i ≤ j → day_number (first_day year i) ≤ℤ day_number (first_day year j)
 month_before year i j h =
-    omega (arith, signed_arith, day_number-day_count (first_of year i), day_number-day_count (first_of year j), month_count (pos year) i, month_count (pos year) j, days_of_months_mono (pos year) (i - 1) (j - 1) (omega arith))
+    omega (arith, signed_arith, day_number-day_count (first_day year i), day_number-day_count (first_day year j), month_count (pos year) i, month_count (pos year) j, days_of_months_mono (pos year) (i - 1) (j - 1) (omega arith))
 
-months_first : (year : ℕ) (day : ℤ) → OnlyFirst (λ month. int_le (day_number (first_of year month)) day)
-months_first year day = record { down = λ i j low le e. le_true (day_number (first_of year i)) day (omega (arith, signed_arith, month_before year i j le, true_le (day_number (first_of year j)) day e)) }
+months_first : (year : ℕ) (day : ℤ) → OnlyFirst (λ month. int_le (day_number (first_day year month)) day)
+months_first year day = record { down = λ i j low le e. le_true (day_number (first_day year i)) day (omega (arith, signed_arith, month_before year i j le, true_le (day_number (first_day year j)) day e)) }
 
 -- ---- the date of a day
 
@@ -64,25 +64,25 @@ months_first year day = record { down = λ i j low le e. le_true (day_number (fi
 record IsYearOf (day : ℤ) (year : ℕ) : Type 0 where
   low : 1 ≤ year
   high : year ≤ 9999
-  begins : day_number (first_of year 1) ≤ℤ day
-  ends : day <ℤ day_number (first_of (year + 1) 1)
+  begins : day_number (first_day year 1) ≤ℤ day
+  ends : day <ℤ day_number (first_day (year + 1) 1)
 
 year_is : (day : ℤ) → IsCivilDay day → IsYearOf day (year_of day)
 year_is day h =
-    let test : ℕ → Bool = λ year. int_le (day_number (first_of year 1)) day in
+    let test : ℕ → Bool = λ year. int_le (day_number (first_day year 1)) day in
     let k = count_is 9999 test (years_first day) in
     let some : 1 ≤ year_of day = (elim (cases_order (year_of day) 0) [
-      | inl e ↦ absurd (omega (arith, signed_arith, h.low, false_lt (day_number (first_of 1 1)) day (rw e at (k.fail (omega (arith, e))))))
+      | inl e ↦ absurd (omega (arith, signed_arith, h.low, false_lt (day_number (first_day 1 1)) day (rw e at (k.fail (omega (arith, e))))))
       | inr (inl lt) ↦ absurd (omega arith)
       | inr (inr gt) ↦ omega arith
     ]) in
     record {
       low = some;
       high = k.few;
-      begins = true_le (day_number (first_of (year_of day) 1)) day (k.pass some);
+      begins = true_le (day_number (first_day (year_of day) 1)) day (k.pass some);
       ends = elim (cases_order (year_of day) 9999) [
-        | inl e ↦ rw e (omega (arith, signed_arith, h.high, day_number-day_count (first_of 10000 1), day_number-day_count (record { year = 9999; month = 12; day = 31 }), day_count-end, day_count-last_of_year (pos 9999), day_count-next_year (pos 9999) (pos 10000) (omega (arith, signed_arith)) refl))
-        | inr (inl lt) ↦ let next : suc (year_of day) ≡ year_of day + 1 = omega arith in false_lt (day_number (first_of (year_of day + 1) 1)) day (rw next at (k.fail lt))
+        | inl e ↦ rw e (omega (arith, signed_arith, h.high, day_number-day_count (first_day 10000 1), day_number-day_count (record { year = 9999; month = 12; day = 31 }), day_count-end, day_count-last_of_year (pos 9999), day_count-next_year (pos 9999) (pos 10000) (omega (arith, signed_arith)) refl))
+        | inr (inl lt) ↦ let next : suc (year_of day) ≡ year_of day + 1 = omega arith in false_lt (day_number (first_day (year_of day + 1) 1)) day (rw next at (k.fail lt))
         | inr (inr gt) ↦ absurd (omega (arith, k.few))
       ];
     }
@@ -91,36 +91,36 @@ year_is day h =
 record IsMonthOf (day : ℤ) (year month : ℕ) : Type 0 where
   low : 1 ≤ month
   high : month ≤ 12
-  begins : day_number (first_of year month) ≤ℤ day
-  ends : day <ℤ (day_number (first_of year month) +ℤ pos (days_in_month (pos year) month))
+  begins : day_number (first_day year month) ≤ℤ day
+  ends : day <ℤ (day_number (first_day year month) +ℤ pos (days_in_month (pos year) month))
 
 month_is : (day : ℤ) → IsCivilDay day → IsMonthOf day (year_of day) (month_of day)
 month_is day h =
     let year = year_of day in
     let month = month_of day in
     let y = year_is day h in
-    let test : ℕ → Bool = λ m. int_le (day_number (first_of year m)) day in
+    let test : ℕ → Bool = λ m. int_le (day_number (first_day year m)) day in
     let k = count_is 12 test (months_first year day) in
     let some : 1 ≤ month = (elim (cases_order month 0) [
-      | inl e ↦ absurd (omega (arith, signed_arith, y.begins, false_lt (day_number (first_of year 1)) day (rw e at (k.fail (omega (arith, e))))))
+      | inl e ↦ absurd (omega (arith, signed_arith, y.begins, false_lt (day_number (first_day year 1)) day (rw e at (k.fail (omega (arith, e))))))
       | inr (inl lt) ↦ absurd (omega arith)
       | inr (inr gt) ↦ omega arith
     ]) in
     record {
       low = some;
       high = k.few;
-      begins = true_le (day_number (first_of year month)) day (k.pass some);
+      begins = true_le (day_number (first_day year month)) day (k.pass some);
       ends = elim (cases_order month 12) [
-        | inl e ↦ rw e (omega (arith, signed_arith, y.ends, day_number-day_count (first_of year 12), day_number-day_count (first_of (year + 1) 1), day_count-last_of_year (pos year), day_count-day (pos year) 12 31 1 (omega arith) (omega arith), day_count-next_year (pos year) (pos (year + 1)) (omega (arith, signed_arith)) (omega (arith, signed_arith))))
+        | inl e ↦ rw e (omega (arith, signed_arith, y.ends, day_number-day_count (first_day year 12), day_number-day_count (first_day (year + 1) 1), day_count-last_of_year (pos year), day_count-day (pos year) 12 31 1 (omega arith) (omega arith), day_count-next_year (pos year) (pos (year + 1)) (omega (arith, signed_arith)) (omega (arith, signed_arith))))
         | inr (inl lt) ↦
             let next : suc month ≡ month + 1 = omega arith in
-            omega (arith, signed_arith, false_lt (day_number (first_of year (month + 1))) day (rw next at (k.fail lt)), day_number-day_count (first_of year month), day_number-day_count (first_of year (month + 1)), day_count-next_month (pos year) month some)
+            omega (arith, signed_arith, false_lt (day_number (first_day year (month + 1))) day (rw next at (k.fail lt)), day_number-day_count (first_day year month), day_number-day_count (first_day year (month + 1)), day_count-next_month (pos year) month some)
         | inr (inr gt) ↦ absurd (omega (arith, k.few))
       ];
     }
 
 -- the parts of the date of a day
-date_of-parts : (day : ℤ) → date_of day ≡ record { year = year_of day; month = month_of day; day = unsigned_abs (day -ℤ day_number (first_of (year_of day) (month_of day))) + 1 }
+date_of-parts : (day : ℤ) → date_of day ≡ record { year = year_of day; month = month_of day; day = unsigned_abs (day -ℤ day_number (first_day (year_of day) (month_of day))) + 1 }
 unfolding date_of
 date_of-parts day = refl
 
@@ -132,7 +132,7 @@ pub date_is : (day : ℤ) → IsCivilDay day → IsDateOf day (date_of day)
 date_is day h =
     let y = year_is day h in
     let m = month_is day h in
-    let first = first_of (year_of day) (month_of day) in
+    let first = first_day (year_of day) (month_of day) in
     let n = unsigned_abs (day -ℤ day_number first) + 1 in
     let date : Date = record { year = year_of day; month = month_of day; day = n } in
     let gap = abs_is (day -ℤ day_number first) (omega (arith, signed_arith, m.begins)) in
@@ -191,7 +191,7 @@ date_of_number d h k = let is = date_is (day_number d) k in date_unique (date_of
 -- it has each civil day
 pub civil_epoch_day : (day : ℤ) → IsCivilDay day → IsEpochDay day
 civil_epoch_day day h = (
-  omega (arith, signed_arith, h.low, day_number-day_count (first_of 1 1), day_count-later_year (neg_ℤ (pos 9999)) (pos 1) (omega (arith, signed_arith)) (omega (arith, signed_arith)), day_count-min),
+  omega (arith, signed_arith, h.low, day_number-day_count (first_day 1 1), day_count-later_year (neg_ℤ (pos 9999)) (pos 1) (omega (arith, signed_arith)) (omega (arith, signed_arith)), day_count-min),
   omega (arith, signed_arith, h.high, days_from_civil-max),
 )
 
@@ -199,7 +199,7 @@ civil_epoch_day day h = (
 pub civil_year : (d : CivilDate) (day : ℤ) → IsCivilDay day → epoch_day d ≡ day → pos 1 ≤ℤ d.year
 civil_year d day h e =
     by_lt_z d.year (pos 1)
-    (λ lt. absurd (omega (arith, signed_arith, h.low, e, days_from_civil-day_count d.year d.month d.day, day_number-day_count (first_of 1 1), day_count-lt_year d.year d.month d.day (pos 1) 1 1 (civil d) (omega arith) lt)))
+    (λ lt. absurd (omega (arith, signed_arith, h.low, e, days_from_civil-day_count d.year d.month d.day, day_number-day_count (first_day 1 1), day_count-lt_year d.year d.month d.day (pos 1) 1 1 (civil d) (omega arith) lt)))
     (λ le. le)
 
 -- and has the numbers of the date of that day
@@ -223,6 +223,6 @@ real_day d h =
     let r = real_parts d h in
     let high = epoch_day_range (civil_date d r) in
     record {
-      low = omega (arith, signed_arith, year_before 1 d.year r.year_low, day_number-day_count d, day_number-day_count (first_of d.year 1), day_count-day_of_year (pos d.year) d.month d.day r.day_low);
+      low = omega (arith, signed_arith, year_before 1 d.year r.year_low, day_number-day_count d, day_number-day_count (first_day d.year 1), day_count-day_of_year (pos d.year) d.month d.day r.day_low);
       high = omega (arith, signed_arith, days_from_civil-max, is_day d r, high.1);
     }

@@ -6,27 +6,27 @@ use Rattle.std.proofs.lemmas.Bool.Decides.{nat_tests}
 use Rattle.jiff_core.specs.Calendar.{weekday_number}
 use Rattle.jiff_core.proofs.CalendarLemmas.{weekday_number-parts}
 use Rattle.jiff_core.proofs.SignedLemmas.{signed_arith}
-use Rattle.lrp_theory.specs.Divides.{IsMember}
+use Rattle.lrp_theory.specs.Divides.{IsPointMember}
 use Rattle.lrp_civil.specs.Dates.{is_date, day_number}
 use Rattle.lrp_civil.specs.Moments.{day_of, time_of_day}
 use Rattle.lrp_civil.specs.declared.values.CivilValue.{CivilValue}
 use Rattle.lrp_civil.specs.declared.values.CivilValue.TheVariants.{Daily, Weekly, On}
-use Rattle.lrp_civil.specs.CivilValues.{is_civil, StandsFor, FallsAt}
+use Rattle.lrp_civil.specs.CivilValues.{is_civil, MeansMinute, FallsAt}
 use Rattle.lrp_civil.proofs.MomentLemmas.{minute_is, day_is, time_is}
 
 -- ---- each day
 
-pub daily_stands : (time : ℕ) (x : ℤ) → time < 1440 → IsMember (pos time) (pos 1440) x → time_of_day x ≡ time
+pub daily_stands : (time : ℕ) (x : ℤ) → time < 1440 → IsPointMember (pos time) (pos 1440) x → time_of_day x ≡ time
 daily_stands time x small m =
     let e = m.is in
     time_is x m.times time (omega (arith, signed_arith)) small
 
-pub daily_falls : (time : ℕ) (x : ℤ) → time_of_day x ≡ time → IsMember (pos time) (pos 1440) x
+pub daily_falls : (time : ℕ) (x : ℤ) → time_of_day x ≡ time → IsPointMember (pos time) (pos 1440) x
 daily_falls time x e = record { times = day_of x; is = omega (arith, signed_arith, minute_is x) }
 
 -- ---- each week
 
-pub weekly_stands : (day time : ℕ) (x : ℤ) → day < 7 → time < 1440 → IsMember (pos (1440 * ((day + 4) % 7) + time)) (pos 10080) x → (weekday_number (day_of x) ≡ day) × (time_of_day x ≡ time)
+pub weekly_stands : (day time : ℕ) (x : ℤ) → day < 7 → time < 1440 → IsPointMember (pos (1440 * ((day + 4) % 7) + time)) (pos 10080) x → (weekday_number (day_of x) ≡ day) × (time_of_day x ≡ time)
 weekly_stands day time x week small m =
     let e = m.is in
     let on : ℤ = (m.times *ℤ pos 7) +ℤ pos ((day + 4) % 7) in
@@ -34,7 +34,7 @@ weekly_stands day time x week small m =
     let here : day_of x ≡ on = day_is x on time is small in
     (rw here (omega (arith, signed_arith, weekday_number-parts on)), time_is x on time is small)
 
-pub weekly_falls : (day time : ℕ) (x : ℤ) → day < 7 → (weekday_number (day_of x) ≡ day) × (time_of_day x ≡ time) → IsMember (pos (1440 * ((day + 4) % 7) + time)) (pos 10080) x
+pub weekly_falls : (day time : ℕ) (x : ℤ) → day < 7 → (weekday_number (day_of x) ≡ day) × (time_of_day x ≡ time) → IsPointMember (pos (1440 * ((day + 4) % 7) + time)) (pos 10080) x
 weekly_falls day time x week f =
     let on = day_of x in
     let first = (day + 4) % 7 in
@@ -57,7 +57,7 @@ both : (a b : Bool) → IsTrue (a && b) → IsTrue a × IsTrue b
 both true b h = (refl, h)
 both false b h = absurd cc
 
-pub meaning : (value : CivilValue) (x : ℤ) → IsTrue (is_civil value) → StandsFor value x ↔ FallsAt value x
+pub meaning : (value : CivilValue) (x : ℤ) → IsTrue (is_civil value) → MeansMinute value x ↔ FallsAt value x
 meaning (Daily time) x h =
     let small : time < 1440 = grind (arith, nat_tests) in
     (daily_stands time x small, daily_falls time x)

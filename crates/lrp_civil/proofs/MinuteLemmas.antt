@@ -6,7 +6,7 @@ use Rattle.std.proofs.lemmas.Bool.{false≢true}
 use Rattle.lrp_civil.specs.declared.dates.Date.{Date}
 use Rattle.lrp_civil.specs.Dates.{is_date}
 use Rattle.lrp_civil.specs.Moments.{clock_bytes, date_bytes, minute_at, is_time_of_day}
-use Rattle.lrp_civil.specs.Parts.{BeginsWithNone, IsReadAs}
+use Rattle.lrp_civil.specs.Parts.{BeginsWithNone, BeginsAs}
 use Rattle.lrp_civil.specs.PlainText.{date_in, time_in}
 use Rattle.lrp_civil.specs.Minutes.{SpellsMinute, minute_by, word_bytes}
 use Rattle.lrp_civil.proofs.Counts.{either}
@@ -17,12 +17,12 @@ use Rattle.lrp_civil.proofs.Numbers.{date_in_is, time_in_is}
 pub no_date : (word : List ℕ) → BeginsWithNone is_date date_bytes word → (x : ℤ) → SpellsMinute word x → ⊥
 no_date word none = λ x s. none s.date (84 ∷ clock_bytes s.time) (record { is = s.real; whole = s.word_is })
 
-pub no_letter : (word left : List ℕ) (date : Date) → IsReadAs is_date date_bytes word date left → ((behind : List ℕ) → left ≡ 84 ∷ behind → ⊥) → (x : ℤ) → SpellsMinute word x → ⊥
+pub no_letter : (word left : List ℕ) (date : Date) → BeginsAs is_date date_bytes word date left → ((behind : List ℕ) → left ≡ 84 ∷ behind → ⊥) → (x : ℤ) → SpellsMinute word x → ⊥
 no_letter word left date r none = λ x s.
     let whole = sym r.whole ∙ s.word_is in
     none (clock_bytes s.time) (cc whole)
 
-pub no_time : (word left rest : List ℕ) (date : Date) → IsReadAs is_date date_bytes word date left → left ≡ 84 ∷ rest → BeginsWithNone is_time_of_day clock_bytes rest → (x : ℤ) → SpellsMinute word x → ⊥
+pub no_time : (word left rest : List ℕ) (date : Date) → BeginsAs is_date date_bytes word date left → left ≡ 84 ∷ rest → BeginsWithNone is_time_of_day clock_bytes rest → (x : ℤ) → SpellsMinute word x → ⊥
 no_time word left rest date r e none = λ x s.
     let whole = sym r.whole ∙ s.word_is in
     none s.time [] (record { is = s.in_day; whole = cc (whole, e) })

@@ -5,7 +5,7 @@ use Rattle.jiff_core.proofs.CalendarLemmas.{days_in_month_bounds}
 use Rattle.lrp_civil.specs.declared.dates.Date.{Date}
 use Rattle.lrp_civil.specs.Dates.{is_date}
 use Rattle.lrp_civil.specs.Moments.{clock_bytes, date_bytes, is_short, two_digits, is_time_of_day}
-use Rattle.lrp_civil.specs.Parts.{BeginsWithNone, IsReadAs}
+use Rattle.lrp_civil.specs.Parts.{BeginsWithNone, BeginsAs}
 use Rattle.lrp_civil.proofs.DateLemmas.{real_parts}
 
 -- a result that is none, where there is nothing
@@ -19,7 +19,7 @@ short_time time h = (grind (arith, nat_tests), grind (arith, nat_tests))
 pub no_hours : (bytes : List ℕ) → BeginsWithNone is_short two_digits bytes → BeginsWithNone is_time_of_day clock_bytes bytes
 no_hours bytes none = λ time behind r. none (time / 60) (58 ∷ (two_digits (time % 60) ++ behind)) (record { is = (short_time time r.is).0; whole = r.whole })
 
-pub no_minutes : (bytes left rest : List ℕ) (hours : ℕ) → IsReadAs is_short two_digits bytes hours left → left ≡ 58 ∷ rest → BeginsWithNone is_short two_digits rest → BeginsWithNone is_time_of_day clock_bytes bytes
+pub no_minutes : (bytes left rest : List ℕ) (hours : ℕ) → BeginsAs is_short two_digits bytes hours left → left ≡ 58 ∷ rest → BeginsWithNone is_short two_digits rest → BeginsWithNone is_time_of_day clock_bytes bytes
 no_minutes bytes left rest hours r e none = λ time behind s.
     let whole : two_digits hours ++ (58 ∷ rest) ≡ clock_bytes time ++ behind = ap (λ x. two_digits hours ++ x) (sym e) ∙ sym r.whole ∙ s.whole in
     none (time % 60) behind (record { is = (short_time time s.is).1; whole = cc whole })
@@ -36,18 +36,18 @@ no_parts bytes f = λ date behind r. let k = short_date date r.is in f (date.yea
 pub no_century : (bytes : List ℕ) → BeginsWithNone is_short two_digits bytes → BeginsWithNone is_date date_bytes bytes
 no_century bytes none = no_parts bytes (λ c y m d behind i j k l e. none c (two_digits y ++ (45 ∷ (two_digits m ++ (45 ∷ (two_digits d ++ behind))))) (record { is = i; whole = e }))
 
-pub no_year : (bytes left : List ℕ) (century : ℕ) → IsReadAs is_short two_digits bytes century left → BeginsWithNone is_short two_digits left → BeginsWithNone is_date date_bytes bytes
+pub no_year : (bytes left : List ℕ) (century : ℕ) → BeginsAs is_short two_digits bytes century left → BeginsWithNone is_short two_digits left → BeginsWithNone is_date date_bytes bytes
 no_year bytes left century r none = no_parts bytes (λ c y m d behind i j k l e.
     let whole = sym r.whole ∙ e in
     none y (45 ∷ (two_digits m ++ (45 ∷ (two_digits d ++ behind)))) (record { is = j; whole = cc whole }))
 
-pub no_month : (bytes left rest more : List ℕ) (century year : ℕ) → IsReadAs is_short two_digits bytes century left → IsReadAs is_short two_digits left year rest → rest ≡ 45 ∷ more → BeginsWithNone is_short two_digits more → BeginsWithNone is_date date_bytes bytes
+pub no_month : (bytes left rest more : List ℕ) (century year : ℕ) → BeginsAs is_short two_digits bytes century left → BeginsAs is_short two_digits left year rest → rest ≡ 45 ∷ more → BeginsWithNone is_short two_digits more → BeginsWithNone is_date date_bytes bytes
 no_month bytes left rest more century year r s t none = no_parts bytes (λ c y m d behind i j k l e.
     let whole = sym r.whole ∙ e in
     none m (45 ∷ (two_digits d ++ behind)) (record { is = k; whole = cc (whole, s.whole, t) }))
 
-pub no_day : (bytes left rest more last end : List ℕ) (century year month : ℕ) → IsReadAs is_short two_digits bytes century left → IsReadAs is_short two_digits left year rest → rest ≡ 45 ∷ more
-    → IsReadAs is_short two_digits more month last → last ≡ 45 ∷ end → BeginsWithNone is_short two_digits end → BeginsWithNone is_date date_bytes bytes
+pub no_day : (bytes left rest more last end : List ℕ) (century year month : ℕ) → BeginsAs is_short two_digits bytes century left → BeginsAs is_short two_digits left year rest → rest ≡ 45 ∷ more
+    → BeginsAs is_short two_digits more month last → last ≡ 45 ∷ end → BeginsWithNone is_short two_digits end → BeginsWithNone is_date date_bytes bytes
 no_day bytes left rest more last end century year month r s t u v none = no_parts bytes (λ c y m d behind i j k l e.
     let whole = sym r.whole ∙ e in
     none d behind (record { is = l; whole = cc (whole, s.whole, t, u.whole, v) }))

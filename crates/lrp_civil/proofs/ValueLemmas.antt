@@ -11,7 +11,7 @@ use Rattle.lrp_civil.specs.declared.values.CivilValue.TheVariants.{Daily, Weekly
 use Rattle.lrp_civil.specs.Dates.{is_date}
 use Rattle.lrp_civil.specs.Moments.{clock_bytes, date_bytes, is_time_of_day}
 use Rattle.lrp_civil.specs.CivilValues.{day_name, is_weekday, spelled}
-use Rattle.lrp_civil.specs.Parts.{BeginsWithNone, HasNoLast, IsReadAs}
+use Rattle.lrp_civil.specs.Parts.{BeginsWithNone, HasNoLast, BeginsAs}
 use Rattle.lrp_civil.specs.PlainText.{IsSpelledAt}
 use Rattle.lrp_civil.proofs.Weekdays.{name_unique}
 
@@ -56,7 +56,7 @@ no_day bytes rest e none = λ day time s.
     let k = first_of (is_weekday day) (is_time_of_day time) s.read.is in
     none day (32 ∷ (clock_bytes time ++ s.behind)) (record { is = k.0; whole = week_whole bytes rest s.behind day time e s.read.whole })
 
-pub no_weekly_time : (bytes rest left more : List ℕ) (named : ℕ) → bytes ≡ codes "weekly " ++ rest → IsReadAs is_weekday day_name rest named left → left ≡ 32 ∷ more → HasNoLast is_time_of_day clock_bytes more → (day time : ℕ) → IsSpelledAt bytes (Weekly day time) → ⊥
+pub no_weekly_time : (bytes rest left more : List ℕ) (named : ℕ) → bytes ≡ codes "weekly " ++ rest → BeginsAs is_weekday day_name rest named left → left ≡ 32 ∷ more → HasNoLast is_time_of_day clock_bytes more → (day time : ℕ) → IsSpelledAt bytes (Weekly day time) → ⊥
 no_weekly_time bytes rest left more named e r f none = λ day time s.
     let k = first_of (is_weekday day) (is_time_of_day time) s.read.is in
     let same = name_unique named day left (32 ∷ (clock_bytes time ++ s.behind)) r.is k.0 (sym r.whole ∙ week_whole bytes rest s.behind day time e s.read.whole) in
@@ -69,7 +69,7 @@ no_date bytes rest e none = λ date time s.
     let whole : rest ≡ date_bytes date ++ (32 ∷ (clock_bytes time ++ s.behind)) = cc (sym e ∙ s.read.whole) in
     none date (32 ∷ (clock_bytes time ++ s.behind)) (record { is = k.0; whole = whole })
 
-pub no_on_time : (bytes rest left more : List ℕ) (read : Date) → bytes ≡ codes "on " ++ rest → IsReadAs is_date date_bytes rest read left → left ≡ 32 ∷ more → HasNoLast is_time_of_day clock_bytes more → (date : Date) (time : ℕ) → IsSpelledAt bytes (On date time) → ⊥
+pub no_on_time : (bytes rest left more : List ℕ) (read : Date) → bytes ≡ codes "on " ++ rest → BeginsAs is_date date_bytes rest read left → left ≡ 32 ∷ more → HasNoLast is_time_of_day clock_bytes more → (date : Date) (time : ℕ) → IsSpelledAt bytes (On date time) → ⊥
 no_on_time bytes rest left more read e r f none = λ date time s.
     let k = first_of (is_date date) (is_time_of_day time) s.read.is in
     let whole : more ≡ clock_bytes time ++ s.behind = cc (sym e ∙ s.read.whole, r.whole, f) in

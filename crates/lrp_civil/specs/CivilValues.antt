@@ -2,7 +2,7 @@
 use Rattle.std.specs.Prelude.{◌≡◌, ℕ, ℤ, pos, ◌+◌, ◌-◌, ◌*◌, ◌%◌, nat_lt, Bool, true, ◌&&◌, List, [], ◌∷◌, ◌++◌, Option, MatchOption, length, replicate, slice_index_or, codes}
 use Rattle.std.specs.Fmt.{signed_decimal}
 use Rattle.jiff_core.specs.Calendar.{weekday_number}
-use Rattle.lrp_theory.specs.Divides.{IsMember}
+use Rattle.lrp_theory.specs.Divides.{IsPointMember}
 use Rattle.lrp_model.specs.Printed.{point_bytes}
 use Rattle.lrp_model.specs.declared.relations.RowPoint.{RowPoint}
 use Rattle.lrp_civil.specs.declared.values.CivilValue.{CivilValue}
@@ -46,10 +46,10 @@ abbrev pub weekly_point : ℕ → ℕ → RowPoint
 weekly_point day time = record { offset = pos (1440 * ((day + 4) % 7) + time); period = pos 10080 }
 
 -- the minutes that it stands for: those of its point, or one instant
-abbrev pub StandsFor : CivilValue → ℤ → Type 0
-StandsFor (Daily time) x = IsMember (daily_point time).offset (daily_point time).period x
-StandsFor (Weekly day time) x = IsMember (weekly_point day time).offset (weekly_point day time).period x
-StandsFor (On date time) x = x ≡ minute_at date time
+abbrev pub MeansMinute : CivilValue → ℤ → Type 0
+MeansMinute (Daily time) x = IsPointMember (daily_point time).offset (daily_point time).period x
+MeansMinute (Weekly day time) x = IsPointMember (weekly_point day time).offset (weekly_point day time).period x
+MeansMinute (On date time) x = x ≡ minute_at date time
 
 -- when it falls: at its time of day, on each day, on each such weekday, or on its date
 abbrev pub FallsAt : CivilValue → ℤ → Type 0

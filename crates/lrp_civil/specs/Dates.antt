@@ -14,8 +14,8 @@ abbrev pub day_number : Date → ℤ
 day_number d = days_from_civil (pos d.year) d.month d.day
 
 -- the first day of a month
-abbrev pub first_of : ℕ → ℕ → Date
-first_of year month = record { year = year; month = month; day = 1 }
+abbrev pub first_day : ℕ → ℕ → Date
+first_day year month = record { year = year; month = month; day = 1 }
 
 -- how many of the numbers from 1 to n pass the test
 unfoldable pub count_to : ℕ → (ℕ → Bool) → ℕ
@@ -24,18 +24,18 @@ count_to (suc n) test = if test (suc n) then count_to n test + 1 else count_to n
 
 -- the year of a day: how many years have begun by then
 abbrev pub year_of : ℤ → ℕ
-year_of day = count_to 9999 (λ year. int_le (day_number (first_of year 1)) day)
+year_of day = count_to 9999 (λ year. int_le (day_number (first_day year 1)) day)
 
 -- the month of a day: how many months of its year have begun by then
 abbrev pub month_of : ℤ → ℕ
-month_of day = count_to 12 (λ month. int_le (day_number (first_of (year_of day) month)) day)
+month_of day = count_to 12 (λ month. int_le (day_number (first_day (year_of day) month)) day)
 
 -- the date of a day number
 unfoldable pub date_of : ℤ → Date
 date_of day = record {
   year = year_of day;
   month = month_of day;
-  day = unsigned_abs (day -ℤ day_number (first_of (year_of day) (month_of day))) + 1;
+  day = unsigned_abs (day -ℤ day_number (first_day (year_of day) (month_of day))) + 1;
 }
 
 -- the calendar has the date, and it has this day number

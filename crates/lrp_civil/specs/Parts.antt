@@ -4,17 +4,17 @@ use Rattle.std.specs.Borrow.{Bor}
 use Rattle.std.specs.Char.{is_ascii_digit}
 
 -- the bytes are the text of a value with the test, and others behind it
-pub record IsReadAs {A : Type 0} (test : A → Bool) (text : A → List ℕ) (bytes : List ℕ) (value : A) (behind : List ℕ) : Type 0 where
+pub record BeginsAs {A : Type 0} (test : A → Bool) (text : A → List ℕ) (bytes : List ℕ) (value : A) (behind : List ℕ) : Type 0 where
   pub is : test value ≡ true
   pub whole : bytes ≡ text value ++ behind
 
 -- they begin with the text of no such value
 abbrev pub BeginsWithNone : {A : Type 0} → (A → Bool) → (A → List ℕ) → List ℕ → Type 0
-BeginsWithNone {A} test text bytes = (value : A) (behind : List ℕ) → IsReadAs test text bytes value behind → ⊥
+BeginsWithNone {A} test text bytes = (value : A) (behind : List ℕ) → BeginsAs test text bytes value behind → ⊥
 
 -- what is found at their front: such a value and the bytes behind it, or none
 abbrev pub Finds : {A : Type 0} → (A → Bool) → (A → List ℕ) → List ℕ → Option (A × Bor (List ℕ)) → Type 0
-Finds test text bytes found = MatchOption found (BeginsWithNone test text bytes) (λ part. IsReadAs test text bytes part.0 part.1.now)
+Finds test text bytes found = MatchOption found (BeginsWithNone test text bytes) (λ part. BeginsAs test text bytes part.0 part.1.now)
 
 -- what stands behind these bytes at their front, or none where they don't begin so
 abbrev pub FindsBehind : List ℕ → List ℕ → Option (Bor (List ℕ)) → Type 0
@@ -28,7 +28,7 @@ goes_on (b ∷ bytes) = is_ascii_digit b
 -- the bytes are the text of a value with the test, and others behind it with which no number goes on
 pub record IsReadLast {A : Type 0} (test : A → Bool) (text : A → List ℕ) (bytes : List ℕ) (value : A) : Type 0 where
   pub behind : List ℕ
-  pub read : IsReadAs test text bytes value behind
+  pub read : BeginsAs test text bytes value behind
   pub ends : goes_on behind ≡ false
 
 -- they begin with the text of no such value, or a number goes on behind it

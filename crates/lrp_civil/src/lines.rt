@@ -6,19 +6,20 @@ ghost use Rattle.lrp_io.specs.Pieces.{IsWritten};
 ghost use Rattle.lrp_model.specs.Rows.{Tuple};
 ghost use Rattle.lrp_model.specs.Satisfaction.{HasShape};
 ghost use Rattle.lrp_store.specs.Least.{StandsFor};
-ghost use Rattle.lrp_list.specs.Lines.{is_json, spot_tuple};
+ghost use Rattle.lrp_answers.specs.Spots.{spot_tuple};
+ghost use Rattle.lrp_answer_text.specs.Lines.{is_json};
 ghost use Rattle.lrp_civil.specs.CivilLines.{civil_line, civil_time_bytes};
 ghost use Rattle.lrp_civil.specs.Dates.{IsDateOf, date_of};
 ghost use Rattle.lrp_civil.specs.Moments.{IsCivilMinute, day_of};
 
 use crate::moments::moment;
+use lrp_answer_text::{Form, write_line_in};
 use lrp_answers::Answer;
 use lrp_io::{Failed, Sink};
-use lrp_list::{Form, write_line_in};
 use lrp_model::Spot;
 use lrp_print::{Notation, write_bytes};
 
-/// Writes the values of a spot as `write_line` of `lrp_list` does, but each time as `YYYY-MM-DD HH:MM`, between quotes in
+/// Writes the values of a spot as `write_line` of `lrp_answer_text` does, but each time as `YYYY-MM-DD HH:MM`, between quotes in
 /// JSON form. After a failure a front of the line was written.
 pub fn write_civil_line<S: Sink>(
     out: &mut S,

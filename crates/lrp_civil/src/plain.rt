@@ -1,7 +1,7 @@
 // Database texts without civil values.
 ghost use Rattle.std.specs.Prelude.{◌≡◌, ◌↔◌, ◌<◌, ◌++◌, ℕ, ℤ, pos, IsTrue, IfOk, IfSome, OnOk, List as ListOf, Some, length};
 ghost use Rattle.lrp_model.specs.Printed.{point_bytes};
-ghost use Rattle.lrp_civil.specs.CivilValues.{FallsAt, StandsFor, is_civil, padded_bytes, plain_bytes};
+ghost use Rattle.lrp_civil.specs.CivilValues.{FallsAt, MeansMinute, is_civil, padded_bytes, plain_bytes};
 ghost use Rattle.lrp_civil.specs.PlainText.{FindsFirst, HasSamePlaces, IsSpelledAt, plain_utf8, plain_of, value_at};
 ghost use Rattle.lrp_civil.specs.declared.values.CivilValue.{CivilValue as CivilValueOf};
 
@@ -24,7 +24,7 @@ pub fn plain_text(alloc: Global, bytes: &[u8]) -> Result<List<u8>, Memory>
     // Which civil value stands at the front of some bytes, and which minutes it stands for.
     ensures spelled { (here : ListOf ℕ) (value : CivilValueOf) → (value_at here ≡ Some value)
         ↔ IsSpelledAt here value }
-    ensures meaning { (value : CivilValueOf) (x : ℤ) → IsTrue (is_civil value) → StandsFor value x
+    ensures meaning { (value : CivilValueOf) (x : ℤ) → IsTrue (is_civil value) → MeansMinute value x
         ↔ FallsAt value x }
 {
     plain_list(alloc, bytes)

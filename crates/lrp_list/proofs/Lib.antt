@@ -1,23 +1,4 @@
--- The lemmas: lines, orders of tuples, tuples in head order, the first tuples of zones, and what a listing keeps.
-pub mod LineLaws
-pub mod Escapes
-pub mod AnswerLines
-pub mod Shortest
-pub mod OneColumn
-pub mod Rows
-pub mod Lists
-pub mod Closed
-pub mod AnswerRows
-pub mod AnswerHolds
-pub mod AnswerRead
-pub mod Made
-pub mod Apart
-pub mod Hull
-pub mod AnswerBeside
-pub mod AnswerLaw
-pub mod HeadColumns
-pub mod Orders
-pub mod HeadOrder
+-- The lemmas: the first tuples of zones, and what a listing keeps.
 pub mod HeapLaws
 pub mod Firsts
 pub mod Placed

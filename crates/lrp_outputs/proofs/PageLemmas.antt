@@ -11,7 +11,7 @@ use Rattle.lrp_model.specs.declared.tuples.Spot.{Spot}
 use Rattle.lrp_store.specs.Stores.{IsStore}
 use Rattle.lrp_answers.specs.declared.answer.Answer.{Answer}
 use Rattle.lrp_civil.specs.Moments.{IsCivilMinute}
-use Rattle.lrp_list.proofs.HeadOrder.{head_is}
+use Rattle.lrp_answers.proofs.HeadOrder.{head_is}
 use Rattle.lrp_token.specs.Spots.{spot_token}
 use Rattle.lrp_outputs.specs.Known.{HaveCivilTimes}
 use Rattle.lrp_outputs.specs.PageLines.{line_as}

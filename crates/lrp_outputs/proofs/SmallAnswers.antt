@@ -6,7 +6,7 @@ use Rattle.lrp_zone.specs.Zones.{columns_of}
 use Rattle.lrp_store.specs.Least.{HasRoom}
 use Rattle.lrp_store.specs.Stores.{tables_at, zone_of}
 use Rattle.lrp_answers.specs.declared.answer.Answer.{Answer}
-use Rattle.lrp_minus.proofs.Lists.{in_map}
+use Rattle.lrp_cutting.proofs.Lists.{in_map}
 use Rattle.lrp_outputs.specs.SmallAnswers.{IsSmallAnswer}
 use Rattle.lrp_outputs.proofs.RoomLemmas.{within_more}
 

@@ -16,13 +16,13 @@ use Rattle.lrp_model.specs.declared.tuples.Spot.{Spot}
 use Rattle.lrp_zone.specs.Zones.{ZoneView}
 use Rattle.lrp_store.specs.Stores.{StoreView, zone_of}
 use Rattle.lrp_answers.specs.declared.answer.Answer.{Answer}
-use Rattle.lrp_list.specs.Lines.{IsFormOf}
-use Rattle.lrp_list.specs.declared.texts.Form.{Form}
-use Rattle.lrp_list.specs.declared.texts.Form.TheVariants.{Plain, Json}
+use Rattle.lrp_answer_text.specs.Lines.{IsFormOf}
+use Rattle.lrp_answer_text.specs.declared.texts.Form.{Form}
+use Rattle.lrp_answer_text.specs.declared.texts.Form.TheVariants.{Plain, Json}
 use Rattle.lrp_civil.specs.Moments.{IsCivilMinute}
-use Rattle.lrp_plan_text.specs.Writable.{TestHasPeriod, KindHasPeriods, StepHasPeriods}
+use Rattle.lrp_print.specs.Writable.{TestHasPeriod, KindHasPeriods, StepHasPeriods}
 use Rattle.lrp_outputs.specs.Spots.{IsKnownLeast}
-use Rattle.lrp_outputs.specs.Known.{IsKnown, HasCivilTimes, HaveCivilTimes}
+use Rattle.lrp_outputs.specs.Known.{IsKnownSpot, HasCivilTimes, HaveCivilTimes}
 use Rattle.lrp_outputs.specs.Rooms.{HasSmallBounds, IsRoomy, greatest_in}
 
 -- ---- spots
@@ -40,13 +40,13 @@ leasts_prop a = AllByRecursion-prop (IsKnownLeast a) (spot_prop a)
 times_prop : (xs : List ℤ) → IsProp (AllByRecursion IsSmall xs)
 times_prop = AllByRecursion-prop IsSmall (λ x. Prim.hlevel (le_prop))
 
-known_prop : (a : Answer) (spot : Spot) → IsProp (IsKnown a spot)
+known_prop : (a : Answer) (spot : Spot) → IsProp (IsKnownSpot a spot)
 known_prop a spot =
     ×_prop (×_prop (numbers_prop (length a.domain) (take a.store.shape.texts spot.texts)) (times_prop (take a.store.shape.times spot.times)))
     (×_prop (Coded-set coded_ℕ (length spot.times) 8) (Coded-set coded_ℕ (length spot.texts) 8))
 
-pub spots_prop : (a : Answer) (spots : List Spot) → IsProp (AllByRecursion (IsKnown a) spots)
-spots_prop a = AllByRecursion-prop (IsKnown a) (known_prop a)
+pub spots_prop : (a : Answer) (spots : List Spot) → IsProp (AllByRecursion (IsKnownSpot a) spots)
+spots_prop a = AllByRecursion-prop (IsKnownSpot a) (known_prop a)
 
 minutes_prop : (a : Answer) (spot : Spot) → IsProp (HasCivilTimes a spot)
 minutes_prop a spot = AllByRecursion-prop IsCivilMinute (λ x. ×_prop (Prim.hlevel (T_prop)) (Prim.hlevel (T_prop))) (take a.store.shape.times spot.times)

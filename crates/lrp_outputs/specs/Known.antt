@@ -16,8 +16,8 @@ abbrev pub HasPlaces : Spot → Type 0
 HasPlaces spot = (length spot.times ≡ 8) × (length spot.texts ≡ 8)
 
 -- the line of the spot and its token can be written
-abbrev pub IsKnown : Answer → Spot → Type 0
-IsKnown a spot = (HasKnownTexts a spot × HasTimes a spot) × HasPlaces spot
+abbrev pub IsKnownSpot : Answer → Spot → Type 0
+IsKnownSpot a spot = (HasKnownTexts a spot × HasTimes a spot) × HasPlaces spot
 
 -- where times are civil ones, those of the spots are minutes of the years 1 to 9999
 abbrev pub HasCivilTimes : Answer → Spot → Type 0

@@ -6,8 +6,8 @@ use Rattle.lrp_model.specs.PrintedPlans.{plan_bytes}
 use Rattle.lrp_model.specs.Rows.{Tuple}
 use Rattle.lrp_model.specs.declared.tuples.Spot.{Spot}
 use Rattle.lrp_answers.specs.declared.answer.Answer.{Answer}
-use Rattle.lrp_list.specs.AnswerText.{answer_text}
-use Rattle.lrp_list.specs.Lines.{is_json}
+use Rattle.lrp_answer_text.specs.AnswerText.{answer_text}
+use Rattle.lrp_answer_text.specs.Lines.{is_json}
 use Rattle.lrp_outputs.specs.First.{first_line}
 use Rattle.lrp_outputs.specs.Spots.{answer_tuple}
 use Rattle.lrp_outputs.specs.Outcomes.{Outcome}

@@ -5,7 +5,7 @@ use Rattle.lrp_model.specs.declared.tuples.Cell.{Cell}
 use Rattle.lrp_zone.specs.Zones.{ZoneView}
 use Rattle.lrp_store.specs.Stores.{zones_at}
 use Rattle.lrp_answers.specs.declared.answer.Answer.{Answer}
-use Rattle.lrp_minus.specs.Settling.{IsSmallZone}
+use Rattle.lrp_cutting.specs.Settling.{IsSmallZone}
 
 -- the period and the bounds of each zone are small enough for this number, and that is for 2^62
 pub record IsSmallAnswer (a : Answer) (reach : ℕ) : Type 0 where

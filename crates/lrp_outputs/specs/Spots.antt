@@ -4,7 +4,7 @@ use Rattle.std.specs.List.{AllByRecursion}
 use Rattle.lrp_model.specs.Rows.{Tuple}
 use Rattle.lrp_model.specs.declared.tuples.Spot.{Spot}
 use Rattle.lrp_answers.specs.declared.answer.Answer.{Answer}
-use Rattle.lrp_list.specs.Lines.{spot_tuple}
+use Rattle.lrp_answers.specs.Spots.{spot_tuple}
 
 -- the tuple that a spot of the answer stands for
 abbrev pub answer_tuple : Answer → Spot → Tuple

@@ -4,9 +4,9 @@ ghost use Rattle.lrp_store.specs.Least.{HasRoom};
 ghost use Rattle.lrp_outputs.specs.Carried.{roomy_prop};
 ghost use Rattle.lrp_outputs.specs.Rooms.{IsRoomy};
 
+use lrp_answer_text::write_answer;
 use lrp_answers::Answer;
 use lrp_io::{Failed, Sink, Text};
-use lrp_list::write_answer;
 
 /// All answers of a query, whose text can be written.
 #[derive(Drop)]
@@ -26,7 +26,7 @@ impl WholeAnswer {
 }
 
 impl Text for WholeAnswer {
-    ghost use Rattle.lrp_list.specs.AnswerText.{answer_text};
+    ghost use Rattle.lrp_answer_text.specs.AnswerText.{answer_text};
 
     ghost text = { λ whole. answer_text whole.answer };
 

@@ -5,9 +5,9 @@ ghost use Rattle.lrp_io.specs.Pieces.{IsWritten};
 ghost use Rattle.lrp_outputs.specs.First.{first_line};
 ghost use Rattle.lrp_outputs.specs.Spots.{IsKnownLeast, answer_tuple};
 
+use lrp_answer_text::{Form, write_line};
 use lrp_answers::Answer;
 use lrp_io::{Failed, Sink};
-use lrp_list::{Form, write_line};
 use lrp_model::Spot;
 use lrp_print::write_bytes;
 

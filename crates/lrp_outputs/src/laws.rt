@@ -9,7 +9,7 @@ ghost use Rattle.lrp_model.specs.declared.tuples.Shape.{Shape};
 ghost use Rattle.lrp_model.specs.declared.tuples.Spot.{Spot};
 ghost use Rattle.lrp_store.specs.Least.{HasRoom, StandsFor};
 ghost use Rattle.lrp_answers.specs.declared.answer.Answer.{Answer};
-ghost use Rattle.lrp_list.specs.Lines.{spot_tuple};
+ghost use Rattle.lrp_answers.specs.Spots.{spot_tuple};
 ghost use Rattle.lrp_outputs.specs.SmallAnswers.{IsSmallAnswer};
 
 /// An answer whose zones are small has room for its least tuple.

@@ -3,18 +3,18 @@ ghost use Rattle.std.specs.Prelude.{[], ◌∷◌, ◌++◌, map, None, Some};
 ghost use Rattle.std.specs.List.{flat_map};
 ghost use Rattle.lrp_io.specs.Causes.{HasCause};
 ghost use Rattle.lrp_io.specs.Pieces.{IsWritten};
-ghost use Rattle.lrp_list.specs.Lines.{is_json};
+ghost use Rattle.lrp_answer_text.specs.Lines.{is_json};
 ghost use Rattle.lrp_model.specs.Pages.{last_of};
 ghost use Rattle.lrp_model.specs.PrintedPages.{end_line, token_behind, token_of};
-ghost use Rattle.lrp_outputs.specs.Known.{HaveCivilTimes, IsKnown};
+ghost use Rattle.lrp_outputs.specs.Known.{HaveCivilTimes, IsKnownSpot};
 ghost use Rattle.lrp_outputs.specs.Spots.{answer_tuple};
 ghost use Rattle.lrp_outputs.specs.Outputs.{page_text};
 ghost use Rattle.lrp_outputs.specs.PageLines.{line_as};
 
 use crate::page::Page;
+use lrp_answer_text::{Form, write_line};
 use lrp_civil::write_civil_line;
 use lrp_io::{Failed, Sink};
-use lrp_list::{Form, write_line};
 use lrp_model::Spot;
 use lrp_print::write_bytes;
 use lrp_token::write_token;
@@ -44,7 +44,7 @@ fn write_lines<S: Sink>(out: &mut S, page: &Page) -> Result<(), Failed>
 
 /// The line of a spot, with its times as dates where they are civil ones.
 fn write_spot<S: Sink>(out: &mut S, page: &Page, spot: &Spot) -> Result<(), Failed>
-    requires known { IsKnown page.now.answer spot.now }
+    requires known { IsKnownSpot page.now.answer spot.now }
     requires dates { HaveCivilTimes page.now.civil page.now.answer (spot.now ∷ []) }
     ensures text { IsWritten (S.written out.old) (S.written out.new)
         (line_as page.now.civil (is_json page.now.form) (answer_tuple page.now.answer spot.now))
@@ -90,7 +90,7 @@ fn write_no_more<S: Sink>(out: &mut S, form: &Form) -> Result<(), Failed>
 
 /// The line with the token of a spot, behind which the next page begins.
 fn write_more<S: Sink>(out: &mut S, page: &Page, last: &Spot) -> Result<(), Failed>
-    requires { IsKnown page.now.answer last.now }
+    requires { IsKnownSpot page.now.answer last.now }
     ensures text { IsWritten (S.written out.old) (S.written out.new)
         (end_line (is_json page.now.form)
         (Some (token_of page.now.files (answer_tuple page.now.answer last.now)))) result }
@@ -110,7 +110,7 @@ fn write_between<S: Sink>(
     last: &Spot,
     behind: &[u8],
 ) -> Result<(), Failed>
-    requires { IsKnown page.now.answer last.now }
+    requires { IsKnownSpot page.now.answer last.now }
     ensures text { IsWritten (S.written out.old) (S.written out.new)
         (before.now ++ (token_of page.now.files (answer_tuple page.now.answer last.now)
         ++ behind.now)) result }
@@ -123,7 +123,7 @@ fn write_between<S: Sink>(
 
 /// The token of a spot.
 fn write_last<S: Sink>(out: &mut S, page: &Page, last: &Spot) -> Result<(), Failed>
-    requires { IsKnown page.now.answer last.now }
+    requires { IsKnownSpot page.now.answer last.now }
     ensures text { IsWritten (S.written out.old) (S.written out.new)
         (token_of page.now.files (answer_tuple page.now.answer last.now)) result }
     ensures cause { HasCause (S.faults out.old) (S.faults out.new) result }

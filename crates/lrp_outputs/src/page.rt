@@ -1,13 +1,13 @@
 // A page of answers as it is written.
 ghost use Rattle.std.specs.List.{AllByRecursion};
-ghost use Rattle.lrp_list.specs.Lines.{IsFormOf};
+ghost use Rattle.lrp_answer_text.specs.Lines.{IsFormOf};
 ghost use Rattle.lrp_outputs.specs.Carried.{civil_prop, form_prop, spots_prop};
-ghost use Rattle.lrp_outputs.specs.Known.{HaveCivilTimes, IsKnown};
+ghost use Rattle.lrp_outputs.specs.Known.{HaveCivilTimes, IsKnownSpot};
 
 use crate::lines::write_page;
+use lrp_answer_text::Form;
 use lrp_answers::Answer;
 use lrp_io::{Failed, Sink, Text};
-use lrp_list::Form;
 use lrp_model::{List, Spot};
 
 /// Some answers one after the other, whether more come behind them, and the digest of the files that they are of. With
@@ -23,7 +23,7 @@ pub struct Page {
     pub spots: List<Spot>,
     pub more: bool,
     ghost form_is: { IsFormOf answer.domain form } by { form_prop answer.domain form },
-    ghost known: { AllByRecursion (IsKnown answer) spots } by { spots_prop answer spots },
+    ghost known: { AllByRecursion (IsKnownSpot answer) spots } by { spots_prop answer spots },
     ghost dates: { HaveCivilTimes civil answer spots } by { civil_prop civil answer spots },
 }
 

@@ -1,11 +1,11 @@
 // The plan of a question as it is written.
 ghost use Rattle.std.specs.List.{AllByRecursion};
-ghost use Rattle.lrp_plan_text.specs.Writable.{StepHasPeriods};
+ghost use Rattle.lrp_print.specs.Writable.{StepHasPeriods};
 ghost use Rattle.lrp_outputs.specs.Carried.{steps_prop};
 
 use lrp_io::{Failed, Sink, Text};
 use lrp_model::{Plan, Query};
-use lrp_plan_text::write_plan;
+use lrp_print::write_plan;
 
 /// A plan whose text can be written: the points of its `in` tests have periods.
 ///

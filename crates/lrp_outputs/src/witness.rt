@@ -3,9 +3,9 @@ ghost use Rattle.std.specs.Prelude.{IfSome};
 ghost use Rattle.lrp_outputs.specs.Carried.{spot_prop};
 ghost use Rattle.lrp_outputs.specs.Spots.{HasKnownTexts};
 
+use lrp_answer_text::{Form, write_line};
 use lrp_answers::Answer;
 use lrp_io::{Failed, Sink, Text};
-use lrp_list::{Form, write_line};
 use lrp_model::Spot;
 use lrp_print::write_bytes;
 

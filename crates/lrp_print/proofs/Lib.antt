@@ -1,4 +1,5 @@
 pub mod Lines
+pub mod PlanLines
 pub mod RowLemmas
 pub mod Spelling
 pub mod Scanned

@@ -1,10 +1,11 @@
 -- Texts of lists with a separator, and pieces under another spelling.
-use Rattle.std.proofs.Common.{◌≡◌, ◌<◌, ◌≤◌, ◌+◌, ◌-◌, take_all, ℕ, zero, suc, length, take, drop, get_or, arith, List, [], ◌∷◌, ◌++◌, Option, Result, refl, ap, subst, append-nil, append_assoc, sym, ◌∙◌}
+use Rattle.std.proofs.Common.{◌≡◌, ◌<◌, ◌≤◌, ◌+◌, ◌-◌, take_all, codes, ℕ, zero, suc, length, take, drop, get_or, arith, List, [], ◌∷◌, ◌++◌, Option, Result, refl, ap, subst, append-nil, append_assoc, sym, ◌∙◌}
 use Rattle.std.specs.List.{flat_map, AllByRecursion}
 use Rattle.lrp_io.specs.Bytes.{appended, AppendsFront}
 use Rattle.lrp_io.specs.Pieces.{IsWritten}
 use Rattle.lrp_io.proofs.PieceLemmas.{each_step, each_front}
 use Rattle.lrp_model.specs.Printed.{joined_by}
+use Rattle.lrp_print.specs.Conditions.{behind_where}
 
 -- what was appended, spelled in another way
 pub ok_as : (old new : Option (List ℕ)) (a b : List ℕ) → a ≡ b → new ≡ appended old a → new ≡ appended old b
@@ -30,6 +31,11 @@ joined_rest between text (x ∷ xs) a lt e =
     let few : length xs ≤ length (x ∷ xs) - 1 = omega arith in
     let all : take (length (x ∷ xs) - 1) xs ≡ xs = take_all (length (x ∷ xs) - 1) xs few in
     ap (λ y. text y ++ flat_map (λ z. between ++ text z) (take (length (x ∷ xs) - 1) xs)) e ∙ ap (λ y. text x ++ flat_map (λ z. between ++ text z) y) all ∙ joined_first between text x xs
+
+-- the conditions where there are some
+pub some_behind : {A : Type 0} (text : A → List ℕ) (xs : List A) → 1 ≤ length xs → codes " where " ++ joined_by (codes ", ") text xs ≡ behind_where text xs
+some_behind text [] lt = absurd (omega arith)
+some_behind text (x ∷ xs) lt = refl
 
 -- after the bytes of some elements, those of the next
 pub item_step : {A : Type 0} (f : A → List ℕ) (xs : List A) (i : ℕ) (a : A) (old now new : Option (List ℕ)) → i < length xs → a ≡ get_or xs i a → now ≡ appended old (flat_map f (take i xs)) → new ≡ appended now (f a) → new ≡ appended old (flat_map f (take (i + 1) xs))

@@ -1,8 +1,8 @@
 -- Rows and bounds of relations that are written out.
-use Rattle.std.proofs.Common.{◌≡◌, ◌≤◌, codes, length, arith, List, [], ◌∷◌, ◌++◌, refl, ap, ◌∙◌}
+use Rattle.std.proofs.Common.{◌≡◌, List, [], ◌∷◌, refl, ap, ◌∙◌}
 use Rattle.std.specs.Prelude.{◌≤ℤ◌, pos, neg_ℤ}
 use Rattle.std.specs.List.{flat_map, AllByRecursion}
-use Rattle.lrp_model.specs.Printed.{joined_by, row_line, bound_bytes, bounds_bytes}
+use Rattle.lrp_model.specs.Printed.{row_line, bound_bytes, bounds_bytes}
 use Rattle.lrp_model.specs.Limits.{greatest_number}
 use Rattle.lrp_model.specs.declared.relations.Bound.{Bound}
 use Rattle.lrp_model.specs.declared.relations.Column.{Column}
@@ -13,15 +13,16 @@ use Rattle.lrp_model.specs.declared.relations.Relation.{Relation}
 use Rattle.lrp_model.specs.Kept.{HasLowPeriod, IsWritable, AreValuesOf, IsBoundOf, IsRowOf, IsKept}
 use Rattle.lrp_model.proofs.Everywhere.{all_as}
 use Rattle.lrp_model.specs.Sorts.{time_count}
+use Rattle.lrp_print.specs.Conditions.{behind_where}
 
 -- the lines of rows that are spelled in another way
 pub rows_as : (cs ds : List Column) (rs ss : List Row) → cs ≡ ds → rs ≡ ss → flat_map (row_line cs) rs ≡ flat_map (row_line ds) ss
 rows_as cs ds rs ss e d = ap (λ c. flat_map (row_line c) rs) e ∙ ap (flat_map (row_line ds)) d
 
--- the bounds of a row that has some
-pub some_conditions : (cs : List Column) (bs : List Bound) → 1 ≤ length bs → codes " where " ++ joined_by (codes ", ") (bound_bytes cs) bs ≡ bounds_bytes cs bs
-some_conditions cs [] lt = absurd (omega arith)
-some_conditions cs (b ∷ bs) lt = refl
+-- the bounds of a row are its conditions
+pub bounds_are : (cs : List Column) (bs : List Bound) → behind_where (bound_bytes cs) bs ≡ bounds_bytes cs bs
+bounds_are cs [] = refl
+bounds_are cs (b ∷ bs) = refl
 
 -- values of columns have periods
 periods : (cs : List Column) (vs : List Value) → AreValuesOf cs vs → AllByRecursion HasLowPeriod vs

@@ -4,7 +4,7 @@ use Rattle.lrp_model.specs.declared.tokens.Place.{Place}
 use Rattle.lrp_model.specs.Tokens.{Token, Tokens, Part, Takes}
 use Rattle.lrp_model.specs.Tokens.Part.{at, any}
 use Rattle.lrp_model.specs.Lexing.{At, Scanned, is_blank, moved, after, skip, scan, headed}
-use Rattle.lrp_text.specs.Sources.{next_at, next_of, behind_next, tokens_left, GoesOn}
+use Rattle.lrp_text.specs.Sources.{next_at, next_of, behind_next, tokens_left, HasTokensBehind}
 use Rattle.lrp_text.proofs.Following.{next_tokens}
 use Rattle.lrp_text.proofs.Standing.{tokens_go}
 use Rattle.lrp_text.proofs.Sound.{takes_join}
@@ -52,7 +52,7 @@ unfolding skip
 not_skipped p b bs s = rw (s.plain, s.dark) refl
 
 -- the token that stands first
-next_token : (p : Place) (k : Token) (b : ℕ) (bs rest : List ℕ) → GoesOn k → Begins b → scan (b ∷ (bs ++ rest)) ≡ took k (b ∷ bs) rest → tokens_at p (b ∷ (bs ++ rest)) ≡ record { token = k; place = p } ∷ tokens_at (after p (b ∷ bs)) rest
+next_token : (p : Place) (k : Token) (b : ℕ) (bs rest : List ℕ) → HasTokensBehind k → Begins b → scan (b ∷ (bs ++ rest)) ≡ took k (b ∷ bs) rest → tokens_at p (b ∷ (bs ++ rest)) ≡ record { token = k; place = p } ∷ tokens_at (after p (b ∷ bs)) rest
 next_token p k b bs rest g s e =
     let old : At = record { place = p; bytes = b ∷ (bs ++ rest) } in
     let here : next_at old ≡ old = not_skipped p b (bs ++ rest) s in
@@ -62,13 +62,13 @@ next_token p k b bs rest g s e =
     tokens_go old p k (ap (λ x. x.token) found) g (sym (ap (λ a. a.place) here)) ∙ ap (λ a. record { token = k; place = p } ∷ tokens_left a) behind
 
 -- a token at its place
-pub token_at : (k : Token) (p : Place) (b : ℕ) (bs rest : List ℕ) → GoesOn k → Begins b → scan (b ∷ (bs ++ rest)) ≡ took k (b ∷ bs) rest → Spelled (at p k ∷ []) p (b ∷ bs) rest
+pub token_at : (k : Token) (p : Place) (b : ℕ) (bs rest : List ℕ) → HasTokensBehind k → Begins b → scan (b ∷ (bs ++ rest)) ≡ took k (b ∷ bs) rest → Spelled (at p k ∷ []) p (b ∷ bs) rest
 token_at k p b bs rest g s e =
     let P : Tokens → Type 0 = λ ts. Takes (at p k ∷ []) ts (tokens_at (after p (b ∷ bs)) rest) in
     record { takes = subst P (sym (next_token p k b bs rest g s e)) ((refl, refl), refl) }
 
 -- a token at any place
-pub token_any : (k : Token) (p : Place) (b : ℕ) (bs rest : List ℕ) → GoesOn k → Begins b → scan (b ∷ (bs ++ rest)) ≡ took k (b ∷ bs) rest → Spelled (any k ∷ []) p (b ∷ bs) rest
+pub token_any : (k : Token) (p : Place) (b : ℕ) (bs rest : List ℕ) → HasTokensBehind k → Begins b → scan (b ∷ (bs ++ rest)) ≡ took k (b ∷ bs) rest → Spelled (any k ∷ []) p (b ∷ bs) rest
 token_any k p b bs rest g s e =
     let P : Tokens → Type 0 = λ ts. Takes (any k ∷ []) ts (tokens_at (after p (b ∷ bs)) rest) in
     record { takes = subst P (sym (next_token p k b bs rest g s e)) (refl, refl) }

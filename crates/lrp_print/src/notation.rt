@@ -4,6 +4,7 @@ ghost use Rattle.std.specs.List.{flat_map, AllByRecursion};
 ghost use Rattle.lrp_io.specs.Causes.{HasCause};
 ghost use Rattle.lrp_io.specs.Pieces.{IsWritten};
 ghost use Rattle.lrp_model.specs.Printed.{joined_by};
+ghost use Rattle.lrp_print.specs.Conditions.{behind_where};
 
 use crate::pieces::write_bytes;
 use lrp_io::{Failed, Sink};
@@ -64,6 +65,26 @@ pub fn write_joined<S: Sink, N: Notation>(
                 notation,
             };
             write_each(out, &further, rest)
+        }
+    }
+}
+
+/// ` where ` and the items with commas between, if there are any. After a failure a front of them was written.
+pub(crate) fn write_behind_where<S: Sink, N: Notation>(
+    out: &mut S,
+    notation: &N,
+    items: &[N::Item],
+) -> Result<(), Failed>
+    requires { AllByRecursion (N.spells notation.now) items.now }
+    ensures text { IsWritten (S.written out.old) (S.written out.new)
+        (behind_where (N.bytes notation.now) items.now) result }
+    ensures cause { HasCause (S.faults out.old) (S.faults out.new) result }
+{
+    match items {
+        [] => Ok(()),
+        [_, ..] => {
+            write_bytes(out, b" where ")?;
+            write_joined(out, notation, b", ", items)
         }
     }
 }

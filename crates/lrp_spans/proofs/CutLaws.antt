@@ -7,7 +7,7 @@ use Rattle.lrp_theory.specs.Bounds.{Within}
 use Rattle.lrp_theory.specs.Entries.{AtMost}
 use Rattle.lrp_matrix.specs.Ranges.{Above}
 use Rattle.lrp_spans.specs.declared.spans.Span.{Span}
-use Rattle.lrp_spans.specs.Spans.{AreFronts, SpanComesBefore, EndsBefore, HasTurn, InSpans, IsDifference, IsFront, IsRest, IsSpan}
+use Rattle.lrp_spans.specs.Spans.{AreFronts, SpanComesBefore, EndsBefore, HasTurn, InSpans, IsSpanDifference, IsSpanFront, IsRest, IsSpan}
 use Rattle.lrp_spans.proofs.Lists.{below_or, in_none, in_one, later, head_in, pairs_append, pairs_one, pairs_none}
 use Rattle.lrp_spans.proofs.MergeLaws.{in_left, in_right, in_either, in_this, this_has}
 use Rattle.lrp_spans.proofs.SpanLaws.{behind}
@@ -99,7 +99,7 @@ fronts_none high s hole all = record {
   apart = pairs_none SpanComesBefore;
 }
 
-pub fronts_one : (high : ℕ) (s hole front : Span) → IsSpan (high + 1) s → IsSpan high hole → s.residue ≡ front.residue → IsFront s hole front → AreFronts high s hole (front ∷ [])
+pub fronts_one : (high : ℕ) (s hole front : Span) → IsSpan (high + 1) s → IsSpan high hole → s.residue ≡ front.residue → IsSpanFront s hole front → AreFronts high s hole (front ∷ [])
 fronts_one high s hole front v w same f = record {
   to = λ r n h. f.to r n (this_has front r n h);
   from = λ r n t out. in_this front r n (f.from r n t out);
@@ -138,7 +138,7 @@ cut_start high span holes v behind = record {
 }
 
 -- where no hole is left
-pub cut_all : (high : ℕ) (span : Span) (done pieces : List Span) (rest : Span) → AreCut high span done [] pieces rest → IsDifference high (span ∷ []) done (pieces ++ rest ∷ [])
+pub cut_all : (high : ℕ) (span : Span) (done pieces : List Span) (rest : Span) → AreCut high span done [] pieces rest → IsSpanDifference high (span ∷ []) done (pieces ++ rest ∷ [])
 cut_all high span done pieces rest c = record {
   to = λ r n h. elim (in_either pieces (rest ∷ []) r n h) [
     | inl a ↦ (let t = c.to_pieces r n a in (in_this span r n t.0, t.1))
@@ -182,7 +182,7 @@ module _ (high : ℕ) (span : Span) (done : List Span) (hole : Span) (others pie
   ]
 
   -- where the rest comes before the hole
-  pub cut_break : SpanComesBefore rest hole → IsDifference high (span ∷ []) (done ++ hole ∷ others) (pieces ++ rest ∷ [])
+  pub cut_break : SpanComesBefore rest hole → IsSpanDifference high (span ∷ []) (done ++ hole ∷ others) (pieces ++ rest ∷ [])
   cut_break b = record {
     to = λ r n h. elim (in_either pieces (rest ∷ []) r n h) [
       | inl a ↦ (let t = c.to_pieces r n a in (
@@ -263,7 +263,7 @@ module _ (high : ℕ) (span : Span) (done : List Span) (hole : Span) (others pie
     ]
 
     -- where nothing is behind the hole
-    pub cut_stop : ((n : ℤ) → Within n rest.last → Within n hole.last) → IsDifference high (span ∷ []) (done ++ hole ∷ others) (pieces ++ fronts)
+    pub cut_stop : ((n : ℤ) → Within n rest.last → Within n hole.last) → IsSpanDifference high (span ∷ []) (done ++ hole ∷ others) (pieces ++ fronts)
     cut_stop none = record {
       to = λ r n h. (let t = pieces_to r n h in (in_this span r n t.0, t.1));
       from = λ r n h out. elim (pieces_from r n (this_has span r n h) (λ x. out (in_left done (hole ∷ others) r n x)) (λ x. out (in_right done (hole ∷ others) r n (record { span = hole; listed = hole_in; is = x })))) [

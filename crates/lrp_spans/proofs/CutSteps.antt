@@ -6,7 +6,7 @@ use Rattle.std.proofs.lemmas.List.{drop_all, drop_more, take-append-drop, take_m
 use Rattle.std.proofs.lemmas.List.Elements.{Contains-append_right}
 use Rattle.lrp_theory.specs.Bounds.{Within}
 use Rattle.lrp_spans.specs.declared.spans.Span.{Span}
-use Rattle.lrp_spans.specs.Spans.{AppendsFronts, AppendsLeft, AreOrdered, SpanComesBefore, IsDifference, IsRest, IsSpan}
+use Rattle.lrp_spans.specs.Spans.{AppendsFronts, AppendsLeftSpans, AreOrdered, SpanComesBefore, IsSpanDifference, IsRest, IsSpan}
 use Rattle.lrp_spans.proofs.CutLaws.{AreCut, cut_all, cut_break, cut_next, cut_start, cut_stop, same_residues}
 use Rattle.lrp_spans.proofs.Lists.{head_in, pairs_head, pairs_right}
 
@@ -17,7 +17,7 @@ start_cut high span holes made v behind = ([], sym (append-nil made), cut_start 
 
 -- all holes are cut out
 pub end_cut : (high : ℕ) (span : Span) (holes : List Span) (i : ℕ) (old pieces made : List Span) (rest : Span) → i ≡ length holes → made ≡ old ++ pieces
-    → AreCut high span (take i holes) (drop i holes) pieces rest → AppendsLeft high span holes old (made ++ rest ∷ [])
+    → AreCut high span (take i holes) (drop i holes) pieces rest → AppendsLeftSpans high span holes old (made ++ rest ∷ [])
 end_cut high span holes i old pieces made rest e is c = record {
   left = pieces ++ rest ∷ [];
   is = ap (λ l. l ++ rest ∷ []) is ∙ append_assoc old pieces (rest ∷ []);
@@ -58,11 +58,11 @@ module _ (high : ℕ) (span : Span) (holes : List Span) (ordered : AreOrdered hi
     hole_behind = at.behind (get_or holes i d) hole_in
 
     -- the rest comes before the hole
-    pub break_cut : (old made : List Span) → made ≡ old ++ pieces → SpanComesBefore rest (get_or holes i d) → AppendsLeft high span holes old (made ++ rest ∷ [])
+    pub break_cut : (old made : List Span) → made ≡ old ++ pieces → SpanComesBefore rest (get_or holes i d) → AppendsLeftSpans high span holes old (made ++ rest ∷ [])
     break_cut old made is b = record {
       left = pieces ++ rest ∷ [];
       is = ap (λ x. x ++ rest ∷ []) is ∙ append_assoc old pieces (rest ∷ []);
-      difference = subst (λ x. IsDifference high (span ∷ []) x (pieces ++ rest ∷ [])) whole (cut_break high span (take i holes) (get_or holes i d) (drop (i + 1) holes) pieces rest at all order b);
+      difference = subst (λ x. IsSpanDifference high (span ∷ []) x (pieces ++ rest ∷ [])) whole (cut_break high span (take i holes) (get_or holes i d) (drop (i + 1) holes) pieces rest at all order b);
     }
 
     module _ (ahead : SpanComesBefore rest (get_or holes i d) → ⊥) where
@@ -70,11 +70,11 @@ module _ (high : ℕ) (span : Span) (holes : List Span) (ordered : AreOrdered hi
       same = same_residues rest (get_or holes i d) ahead hole_behind
 
       -- nothing is left behind the hole
-      pub stop_cut : (old made new : List Span) → made ≡ old ++ pieces → AppendsFronts high rest (get_or holes i d) made new → ((n : ℤ) → Within n rest.last → Within n (get_or holes i d).last) → AppendsLeft high span holes old new
+      pub stop_cut : (old made new : List Span) → made ≡ old ++ pieces → AppendsFronts high rest (get_or holes i d) made new → ((n : ℤ) → Within n rest.last → Within n (get_or holes i d).last) → AppendsLeftSpans high span holes old new
       stop_cut old made new is f none = record {
         left = pieces ++ f.fronts;
         is = f.is ∙ ap (λ x. x ++ f.fronts) is ∙ append_assoc old pieces f.fronts;
-        difference = subst (λ x. IsDifference high (span ∷ []) x (pieces ++ f.fronts)) whole (cut_stop high span (take i holes) (get_or holes i d) (drop (i + 1) holes) pieces rest at all order same f.fronts f.fit none);
+        difference = subst (λ x. IsSpanDifference high (span ∷ []) x (pieces ++ f.fronts)) whole (cut_stop high span (take i holes) (get_or holes i d) (drop (i + 1) holes) pieces rest at all order same f.fronts f.fit none);
       }
 
       -- one more hole is cut out

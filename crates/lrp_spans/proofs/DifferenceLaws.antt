@@ -6,7 +6,7 @@ use Rattle.std.proofs.lemmas.List.Elements.{Contains-append_cases, Contains-appe
 use Rattle.std.proofs.lemmas.Option.{slice_get-get_or}
 use Rattle.std.proofs.lemmas.Slice.{between_to_end}
 use Rattle.lrp_spans.specs.declared.spans.Span.{Span}
-use Rattle.lrp_spans.specs.Spans.{AppendsLeft, AreBefore, AreOrdered, SpanComesBefore, HasTurn, InSpans, IsDifference, IsSpan}
+use Rattle.lrp_spans.specs.Spans.{AppendsLeftSpans, AreBefore, AreOrdered, SpanComesBefore, HasTurn, InSpans, IsSpanDifference, IsSpan}
 use Rattle.lrp_spans.proofs.CutLaws.{apart_turns, before_trans, below_ends, ends_below, own}
 use Rattle.lrp_spans.proofs.Lists.{before, below_or, head_in, in_none, in_one, pairs_append, pairs_head, pairs_none, pairs_right}
 use Rattle.lrp_spans.proofs.MergeLaws.{in_left, in_right, in_either, this_has}
@@ -44,11 +44,11 @@ none_before high holes i span o v low stop h m b = elim (below_or i (length hole
 ]
 
 -- no span yet
-pub difference_none : (high : ℕ) (holes : List Span) → IsDifference high [] holes []
+pub difference_none : (high : ℕ) (holes : List Span) → IsSpanDifference high [] holes []
 difference_none high holes = record { to = λ r n h. absurd (in_none h.span h.listed); from = λ r n h out. absurd (in_none h.span h.listed); each = λ s l. absurd (in_none s l); apart = pairs_none SpanComesBefore }
 
 -- holes before a span take nothing from it
-pub passed_holes : (high : ℕ) (span : Span) (holes left : List Span) (i : ℕ) → AreBefore (take i holes) span → IsDifference high (span ∷ []) (drop i holes) left → IsDifference high (span ∷ []) holes left
+pub passed_holes : (high : ℕ) (span : Span) (holes left : List Span) (i : ℕ) → AreBefore (take i holes) span → IsSpanDifference high (span ∷ []) (drop i holes) left → IsSpanDifference high (span ∷ []) holes left
 passed_holes high span holes left i b d = record {
   to = λ r n h. (let t = d.to r n h in (
     t.0,
@@ -64,7 +64,7 @@ passed_holes high span holes left i b d = record {
 
 -- one more span
 pub difference_more : (high : ℕ) (spans : List Span) (span : Span) (holes made left : List Span) → IsSpan high span → AreBefore spans span
-    → IsDifference high spans holes made → IsDifference high (span ∷ []) holes left → IsDifference high (spans ++ span ∷ []) holes (made ++ left)
+    → IsSpanDifference high spans holes made → IsSpanDifference high (span ∷ []) holes left → IsSpanDifference high (spans ++ span ∷ []) holes (made ++ left)
 difference_more high spans span holes made left v b d e = record {
   to = λ r n h. elim (in_either made left r n h) [
     | inl a ↦ (let t = d.to r n a in (in_left spans (span ∷ []) r n t.0, t.1))
@@ -105,10 +105,10 @@ difference_more high spans span holes made left v b d e = record {
 
 -- the first places, and one more
 pub step_difference : (high : ℕ) (spans holes : List Span) (i next : ℕ) (d : Span) (made new : List Span) → AreOrdered high spans → i < length spans
-    → AreBefore (take next holes) (get_or spans i d) → IsDifference high (take i spans) holes made → AppendsLeft high (get_or spans i d) (drop next holes) made new
-    → IsDifference high (take (i + 1) spans) holes new
+    → AreBefore (take next holes) (get_or spans i d) → IsSpanDifference high (take i spans) holes made → AppendsLeftSpans high (get_or spans i d) (drop next holes) made new
+    → IsSpanDifference high (take (i + 1) spans) holes new
 step_difference high spans holes i next d made new o l b old a =
-    subst (λ x. IsDifference high x holes new) (sym (take_more spans i d l)) (subst (IsDifference high (take i spans ++ get_or spans i d ∷ []) holes) (sym a.is)
+    subst (λ x. IsSpanDifference high x holes new) (sym (take_more spans i d l)) (subst (IsSpanDifference high (take i spans ++ get_or spans i d ∷ []) holes) (sym a.is)
     (difference_more high (take i spans) (get_or spans i d) holes made a.left (o.each _ (Contains-get_or spans i d l)) (before_place spans i d l o.apart) old (passed_holes high (get_or spans i d) holes a.left next b a.difference)))
 
 -- holes that come before a span come before the next one

@@ -18,14 +18,14 @@ use Rattle.lrp_slots.proofs.Tables.{same_cell}
 use Rattle.lrp_spans.specs.declared.spans.Span.{Span}
 use Rattle.lrp_spans.specs.Groups.{SpanLists}
 use Rattle.lrp_spans.specs.Periods.{IsEndPeriod, IsWithEnds, RepeatsByAll, RepeatsFar}
-use Rattle.lrp_spans.specs.Repeating.{AreResidues, HasOneOf, IsLeastStep, Repeats, RepeatsAtEnds}
-use Rattle.lrp_spans.specs.Spans.{AreBelow, AreMerged, AreOpen, AreOpenAbove, AreOpenBelow, AreOrdered, SpansHaveNumber, IsSpan}
+use Rattle.lrp_spans.specs.Repeating.{AreAscendingResidues, HasOneOf, IsLeastStep, Repeats, RepeatsAtEnds}
+use Rattle.lrp_spans.specs.Spans.{HaveResiduesBelow, AreMergedSpans, AreOpen, AreOpenAbove, AreOpenBelow, AreOrdered, SpansHaveNumber, IsSpan}
 use Rattle.lrp_spans.proofs.EndLaws.{before_last, behind_first, deep_turn, far_turn, from_deep, from_far, moved, repeats_above, repeats_below}
 use Rattle.lrp_spans.proofs.Lists.{in_cons, in_none}
 use Rattle.lrp_spans.proofs.Repeats.{repeats_multiple}
 
 -- the residues of open spans are residues of the period
-pub open_residues : (open_end : Span → Option ℤ) (k : ℕ) (spans : List Span) (residues : List ℕ) → 0 < k → AreBelow k spans → AreOpen open_end spans residues → AreResidues k residues
+pub open_residues : (open_end : Span → Option ℤ) (k : ℕ) (spans : List Span) (residues : List ℕ) → 0 < k → HaveResiduesBelow k spans → AreOpen open_end spans residues → AreAscendingResidues k residues
 open_residues open_end k spans residues low below ends = record {
   low = low;
   ascending = ends.ascending;
@@ -117,13 +117,13 @@ same_far f g step to from r = (
   },
 )
 
-merged_to : (k : ℕ) (old new : List Span) → AreMerged old new → (x : ℤ) → SpansHaveNumber k new x → SpansHaveNumber k old x
+merged_to : (k : ℕ) (old new : List Span) → AreMergedSpans old new → (x : ℤ) → SpansHaveNumber k new x → SpansHaveNumber k old x
 merged_to k old new m x h = record { residue = h.residue; turn = h.turn; is = h.is; inside = m.to h.residue h.turn h.inside }
 
-merged_from : (k : ℕ) (old new : List Span) → AreMerged old new → (x : ℤ) → SpansHaveNumber k old x → SpansHaveNumber k new x
+merged_from : (k : ℕ) (old new : List Span) → AreMergedSpans old new → (x : ℤ) → SpansHaveNumber k old x → SpansHaveNumber k new x
 merged_from k old new m x h = record { residue = h.residue; turn = h.turn; is = h.is; inside = m.from h.residue h.turn h.inside }
 
-pub merged_ordered : (high : ℕ) (old new : List Span) → AreMerged old new → ((s : Span) → Contains old s → IsSpan high s) → AreOrdered high new
+pub merged_ordered : (high : ℕ) (old new : List Span) → AreMergedSpans old new → ((s : Span) → Contains old s → IsSpan high s) → AreOrdered high new
 merged_ordered high old new m each = record { each = m.each high each; apart = m.apart }
 
 -- the groups that are not left repeat by all multiples of the number so far
@@ -152,7 +152,7 @@ begun_none period lists left all = record {
     one_divides : (n : ℕ) → Divides (pos 1) (pos n)
     one_divides n = record { times = pos n; is = (let e : 1 * n ≡ n = omega arith in ap pos (sym e)) }
 
-pub begun_more : (period : ℕ) (lists : SpanLists) (group : Cell) (rest left : List Cell) (spans : List Span) (old made : ℕ) → left ≡ group ∷ rest → AreMerged (list_at lists group) spans → IsWithEnds period spans old made
+pub begun_more : (period : ℕ) (lists : SpanLists) (group : Cell) (rest left : List Cell) (spans : List Span) (old made : ℕ) → left ≡ group ∷ rest → AreMergedSpans (list_at lists group) spans → IsWithEnds period spans old made
     → IsBegun period lists left old → IsBegun period lists rest made
 begun_more period lists group rest left spans old made e m w b = record {
   positive = w.positive;

@@ -10,12 +10,12 @@ use Rattle.std.proofs.lemmas.List.Elements.{Contains-append_cases, Contains-appe
 use Rattle.lrp_model.specs.declared.tuples.Cell.{Cell}
 use Rattle.lrp_slots.specs.Lists.{cell_cmp, list_at}
 use Rattle.lrp_slots.proofs.Tables.{cells_total, same_cell}
-use Rattle.lrp_zone.specs.Zones.{IsMember, ZoneView, columns_of}
+use Rattle.lrp_zone.specs.Zones.{IsMember, IsZone, ZoneView, columns_of}
 use Rattle.lrp_store.specs.Stores.{IsCellOf, IsStore, StoreView, tables_at, zone_of, zones_at}
-use Rattle.lrp_store.proofs.Held.{cell_held, cell_or, held_of}
+use Rattle.lrp_store.proofs.Held.{cell_held, cell_or, held_of, zone_held}
 use Rattle.lrp_store.specs.Reading.{entries_of}
 use Rattle.lrp_spans.specs.Groups.{AppendsSpans, AreGroups, AreNumbersOf, HasSpanAt, HoldsNumber, IsSpanAt, IsSpanIn, SpanLists, group_cell}
-use Rattle.lrp_spans.specs.Spans.{AreMerged, SpansHaveNumber, IsSpan, IsSpanOf}
+use Rattle.lrp_spans.specs.Spans.{AreMergedSpans, SpansHaveNumber, IsSpan, IsSpanOf}
 use Rattle.lrp_spans.specs.declared.spans.Span.{Span}
 use Rattle.lrp_spans.proofs.Lists.{below_or, head_in, in_cons, in_none, in_one, later, one_in}
 use Rattle.lrp_theory.proofs.Members.{from_map, in_map}
@@ -133,8 +133,12 @@ pub record AreGathering (s : StoreView) (left : List (Cell × List ZoneView)) (l
 pub entry_zones : (s : StoreView) (cell : Cell) (zones : List ZoneView) (rest left : List (Cell × List ZoneView)) (lists : SpanLists) → left ≡ (cell, zones) ∷ rest → AreGathering s left lists → zones ≡ zones_at s cell
 entry_zones s cell zones rest left lists e g = g.entries (cell, zones) (subst (λ l. Contains l (cell, zones)) (sym e) (head_in (cell, zones) rest))
 
-pub entry_columns : (s : StoreView) → IsStore s → s.shape.times ≡ 1 → (cell : Cell) (zones : List ZoneView) (rest left : List (Cell × List ZoneView)) (lists : SpanLists) → left ≡ (cell, zones) ∷ rest → AreGathering s left lists → (z : ZoneView) → Contains zones z → columns_of z ≡ 1
-entry_columns s is one cell zones rest left lists e g z h = zone_column s is one cell z (subst (λ zs. Contains zs z) (entry_zones s cell zones rest left lists e g) h)
+-- the zones of a cell that is gathered next
+pub entry_columns : (s : StoreView) → IsStore s → s.shape.times ≡ 1 → (cell : Cell) (zones : List ZoneView) (rest left : List (Cell × List ZoneView)) (lists : SpanLists) → left ≡ (cell, zones) ∷ rest → AreGathering s left lists → (z : ZoneView) → Contains zones z → IsZone z × (columns_of z ≡ 1)
+entry_columns s is one cell zones rest left lists e g z h =
+    let there : Contains (zones_at s cell) z = subst (λ zs. Contains zs z) (entry_zones s cell zones rest left lists e g) h in
+    let t = from_map (zone_of s cell) (tables_at s cell) z there in
+    (subst IsZone t.2 (zone_held s is cell t.0 t.1), zone_column s is one cell z there)
 
 module _ (s : StoreView) (cell : Cell) (zones : List ZoneView) (rest left : List (Cell × List ZoneView)) (e : left ≡ (cell, zones) ∷ rest) (group : Cell) (named : group ≡ group_cell cell) (now new : SpanLists) (a : AppendsSpans group zones now new) (g : AreGathering s left now) where
   same : zones ≡ zones_at s cell
@@ -211,13 +215,13 @@ module _ (s : StoreView) (is : IsStore s) (one : s.shape.times ≡ 1) (lists : S
   group_numbers p l = record { to = group_to; from = group_from p l }
 
 -- ---- merged spans have the same numbers
-pub merged_numbers : (set : ℤ → List ℕ → Type 0) (texts : List ℕ) (k : ℕ) (old new : List Span) → AreMerged old new → AreNumbersOf set texts k old → AreNumbersOf set texts k new
+pub merged_numbers : (set : ℤ → List ℕ → Type 0) (texts : List ℕ) (k : ℕ) (old new : List Span) → AreMergedSpans old new → AreNumbersOf set texts k old → AreNumbersOf set texts k new
 merged_numbers set texts k old new m a = record {
   to = λ x h. a.to x (record { residue = h.residue; turn = h.turn; is = h.is; inside = m.to h.residue h.turn h.inside });
   from = λ x h. (let g = a.from x h in record { residue = g.residue; turn = g.turn; is = g.is; inside = m.from g.residue g.turn g.inside });
 }
 
-pub merged_below : (k high : ℕ) (old new : List Span) → AreMerged old new → ((p : Span) → Contains old p → IsSpan high p) → ((p : Span) → Contains old p → p.residue < k) → (p : Span) → Contains new p → p.residue < k
+pub merged_below : (k high : ℕ) (old new : List Span) → AreMergedSpans old new → ((p : Span) → Contains old p → IsSpan high p) → ((p : Span) → Contains old p → p.residue < k) → (p : Span) → Contains new p → p.residue < k
 merged_below k high old new m valid below p l =
     let v : IsSpan high p = m.each high valid p l in
     let i = m.to p.residue v.turn (record { span = p; listed = l; is = v.is }) in

@@ -10,7 +10,7 @@ use Rattle.std.proofs.lemmas.List.Sorted.{Contains-permutation, IsPermutation-sy
 use Rattle.lrp_theory.specs.Entries.{AtMost}
 use Rattle.lrp_matrix.specs.Ranges.{Above}
 use Rattle.lrp_spans.specs.declared.spans.Span.{Span}
-use Rattle.lrp_spans.specs.Spans.{AreMerged, BeginsBy, SpanComesBefore, HasLessResidue, HasTurn, InSpans, IsNumbered, IsJoined, IsSpan}
+use Rattle.lrp_spans.specs.Spans.{AreMergedSpans, SpanBeginsBy, SpanComesBefore, HasLessResidue, HasTurn, InSpans, SpanComesNoLater, IsJoinedSpan, IsSpan}
 use Rattle.lrp_spans.proofs.Lists.{before, below_or, in_none, in_one, one_in, pairs_append, pairs_left, pairs_one, pairs_none}
 
 -- ---- turns in some span of a list
@@ -58,7 +58,7 @@ merging_start v = record {
 }
 
 -- what comes before a span comes before each that is behind it in order
-before_later : (u v w : Span) → SpanComesBefore u v → IsNumbered v w → SpanComesBefore u w
+before_later : (u v w : Span) → SpanComesBefore u v → SpanComesNoLater v w → SpanComesBefore u w
 before_later u v w (inl a) (inl b) = inl (omega arith)
 before_later u v w (inl a) (inr b) = inl (let e : v.residue ≡ w.residue = b.0 in omega arith)
 before_later u v w (inr a) (inl b) = inl (let e : u.residue ≡ v.residue = a.0 in omega arith)
@@ -75,12 +75,12 @@ before_later u v w (inr a) (inr b) = at w.first refl
         let m : a.1.end <ℤ a.1.start = a.1.below in
         inr (a.0 ∙ b.0, record { end = a.1.end; ends = a.1.ends; start = f; starts = e; below = omega (arith, ints) }))
 
-module _ (vs made : List Span) (last next : Span) (m : AreMerging vs made last) (order : (u : Span) → Contains vs u → IsNumbered u next) where
+module _ (vs made : List Span) (last next : Span) (m : AreMerging vs made last) (order : (u : Span) → Contains vs u → SpanComesNoLater u next) where
   -- the last one is in order with the next
-  pub last_in_order : IsNumbered last next
+  pub last_in_order : SpanComesNoLater last next
   last_in_order = of (order m.begun m.listed)
     where
-      of : IsNumbered m.begun next → IsNumbered last next
+      of : SpanComesNoLater m.begun next → SpanComesNoLater last next
       of (inl a) = inl (let e : last.residue ≡ m.begun.residue = m.residue in omega arith)
       of (inr a) = inr (m.residue ∙ a.0, record { each = λ n h. subst (Above n) (sym m.first) (a.1.each n h) })
 
@@ -111,7 +111,7 @@ module _ (vs made : List Span) (last next : Span) (m : AreMerging vs made last) 
       ]
 
   -- the next one joins the last
-  pub merging_joined : (j : Span) → last.residue ≡ next.residue → IsJoined last next j → AreMerging (vs ++ next ∷ []) made j
+  pub merging_joined : (j : Span) → last.residue ≡ next.residue → IsJoinedSpan last next j → AreMerging (vs ++ next ∷ []) made j
   merging_joined j same is = record {
     apart = pairs_append SpanComesBefore made (j ∷ []) (pairs_left SpanComesBefore made (last ∷ []) m.apart) (pairs_one SpanComesBefore j) (λ x y a b. subst (SpanComesBefore x) (in_one j y b) (before x a));
     before = before;
@@ -159,23 +159,23 @@ module _ (vs made : List Span) (last next : Span) (m : AreMerging vs made last) 
   pub same_residue : (SpanComesBefore last next → ⊥) → last.residue ≡ next.residue
   same_residue out = of last_in_order
     where
-      of : IsNumbered last next → last.residue ≡ next.residue
+      of : SpanComesNoLater last next → last.residue ≡ next.residue
       of (inl a) = absurd (out (inl a))
       of (inr a) = a.0
 
-  pub begins_by : (SpanComesBefore last next → ⊥) → BeginsBy last next
+  pub begins_by : (SpanComesBefore last next → ⊥) → SpanBeginsBy last next
   begins_by out = of last_in_order
     where
-      of : IsNumbered last next → BeginsBy last next
+      of : SpanComesNoLater last next → SpanBeginsBy last next
       of (inl a) = absurd (out (inl a))
       of (inr a) = a.1
 
-pub merging_end : (vs made : List Span) (last : Span) → AreMerging vs made last → AreMerged vs (made ++ last ∷ [])
+pub merging_end : (vs made : List Span) (last : Span) → AreMerging vs made last → AreMergedSpans vs (made ++ last ∷ [])
 merging_end vs made last m = record { to = m.to; from = m.from; apart = m.apart; each = m.each }
 
 -- ---- the list that is merged
-pub before_next : (first : Span) (rest : List Span) (k : ℕ) (d : Span) → AllPairs IsNumbered (first ∷ rest) → k < length rest → (u : Span) → Contains (first ∷ take k rest) u → IsNumbered u (get_or rest k d)
-before_next first rest k d all l u h = before IsNumbered (first ∷ rest) (suc k) (get_or rest k d) all (omega arith) (get_or_default rest k d (get_or rest k d) l) u h
+pub before_next : (first : Span) (rest : List Span) (k : ℕ) (d : Span) → AllPairs SpanComesNoLater (first ∷ rest) → k < length rest → (u : Span) → Contains (first ∷ take k rest) u → SpanComesNoLater u (get_or rest k d)
+before_next first rest k d all l u h = before SpanComesNoLater (first ∷ rest) (suc k) (get_or rest k d) all (omega arith) (get_or_default rest k d (get_or rest k d) l) u h
 
 pub more_taken : (first : Span) (rest : List Span) (k : ℕ) (d : Span) → k < length rest → first ∷ take (k + 1) rest ≡ (first ∷ take k rest) ++ get_or rest k d ∷ []
 more_taken first rest k d l = ap (λ xs. first ∷ xs) (take_more rest k d l)
@@ -184,7 +184,7 @@ pub all_taken : (first : Span) (rest : List Span) (k : ℕ) → k ≡ length res
 all_taken first rest k e = rw e (ap (λ xs. first ∷ xs) (take-length rest))
 
 -- the spans of a list in another order
-pub merged_permutation : (old sorted new : List Span) → IsPermutation old sorted → AreMerged sorted new → AreMerged old new
+pub merged_permutation : (old sorted new : List Span) → IsPermutation old sorted → AreMergedSpans sorted new → AreMergedSpans old new
 merged_permutation old sorted new p m = record {
   to = λ r n h. moved sorted old (IsPermutation-sym old sorted p) r n (m.to r n h);
   from = λ r n h. m.from r n (moved old sorted p r n h);
@@ -195,7 +195,7 @@ merged_permutation old sorted new p m = record {
     moved : (xs ys : List Span) → IsPermutation xs ys → (r : ℕ) (n : ℤ) → InSpans xs r n → InSpans ys r n
     moved xs ys q r n h = record { span = h.span; listed = Contains-permutation xs ys h.span q h.listed; is = h.is }
 
-pub merged_none : AreMerged [] []
+pub merged_none : AreMergedSpans [] []
 merged_none = record { to = λ r n h. h; from = λ r n h. h; apart = pairs_none SpanComesBefore; each = λ high all. all }
 
 -- ---- spans whose residues ascend
@@ -227,5 +227,5 @@ pub ascend_all : (end : ℕ) (spans : List Span) → length spans ≤ end → As
 ascend_all end spans l all i j d il jl = all.each i j d il (omega (arith, l, jl)) jl
 
 -- they are merged as they are
-pub merged_already : (spans : List Span) → AllPairs HasLessResidue spans → AreMerged spans spans
+pub merged_already : (spans : List Span) → AllPairs HasLessResidue spans → AreMergedSpans spans spans
 merged_already spans all = record { to = λ r n h. h; from = λ r n h. h; apart = λ i j d il jl. inl (all i j d il jl); each = λ high h. h }

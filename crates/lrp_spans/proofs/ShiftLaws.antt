@@ -10,7 +10,7 @@ use Rattle.lrp_theory.specs.Entries.{AtMost}
 use Rattle.lrp_theory.proofs.Modulo.{distrib, minus_right}
 use Rattle.lrp_matrix.specs.Ranges.{Above}
 use Rattle.lrp_spans.specs.declared.spans.Span.{Span}
-use Rattle.lrp_spans.specs.Spans.{AreBelow, AreOrdered, AreShifted, SpanComesBefore, SpansHaveNumber, HasTurn, IsSpan, moved_past, moved_within, next_turn}
+use Rattle.lrp_spans.specs.Spans.{HaveResiduesBelow, AreOrdered, AreShifted, SpanComesBefore, SpansHaveNumber, HasTurn, IsSpan, moved_past, moved_within, next_turn}
 use Rattle.lrp_spans.proofs.CutLaws.{wider_span}
 use Rattle.lrp_spans.proofs.Lists.{in_cons, in_none, pairs_append, pairs_head, pairs_left, pairs_map, pairs_right, slice_get_drop}
 use Rattle.lrp_spans.proofs.MergeLaws.{in_either, in_left, in_right}
@@ -37,7 +37,7 @@ next_small : (h : ℕ) (e : Option ℤ) → AtMost h e → AtMost (h + 1) (next_
 next_small h None a = tt
 next_small h (Some f) a = let l : neg_ℤ (pos h) ≤ℤ f = a.0 in let m : f ≤ℤ pos h = a.1 in (omega (arith, ints), omega (arith, ints))
 
-module _ (high K step : ℕ) (left right : List Span) (ordered : AreOrdered high (left ++ right)) (below : AreBelow K (left ++ right)) (fits : step ≤ K)
+module _ (high K step : ℕ) (left right : List Span) (ordered : AreOrdered high (left ++ right)) (below : HaveResiduesBelow K (left ++ right)) (fits : step ≤ K)
     (before : (s : Span) → Contains left s → s.residue + step < K) (behind : (s : Span) → Contains right s → K ≤ s.residue + step) where
   abbrev past : Span → Span
   past s = moved_past K step s
@@ -185,11 +185,11 @@ none_below high spans place end ordered stop s l = at (drop place spans) (pairs_
         of (inr a) = let e : x.residue ≡ s.residue = a.0 in omega (arith, first x refl)
 
 -- the moved spans of both parts
-pub all_shifted : (high K step : ℕ) (spans : List Span) (place : ℕ) → AreOrdered high spans → AreBelow K spans → step ≤ K
-    → AreBelow (K - step) (take place spans) → ((s : Span) → Contains (drop place spans) s → K - step ≤ s.residue)
+pub all_shifted : (high K step : ℕ) (spans : List Span) (place : ℕ) → AreOrdered high spans → HaveResiduesBelow K spans → step ≤ K
+    → HaveResiduesBelow (K - step) (take place spans) → ((s : Span) → Contains (drop place spans) s → K - step ≤ s.residue)
     → AreShifted high K step spans (map (moved_past K step) (drop place spans) ++ map (moved_within step) (take place spans))
 all_shifted high K step spans place ordered below fits before behind =
     let e : take place spans ++ drop place spans ≡ spans = take-append-drop place spans in
     subst (λ xs. AreShifted high K step xs (map (moved_past K step) (drop place spans) ++ map (moved_within step) (take place spans))) e
-    (shifted_is high K step (take place spans) (drop place spans) (subst (AreOrdered high) (sym e) ordered) (subst (AreBelow K) (sym e) below) fits
+    (shifted_is high K step (take place spans) (drop place spans) (subst (AreOrdered high) (sym e) ordered) (subst (HaveResiduesBelow K) (sym e) below) fits
     (λ s l. omega (arith, before s l)) (λ s l. omega (arith, behind s l, fits)))

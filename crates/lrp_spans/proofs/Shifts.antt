@@ -8,7 +8,7 @@ use Rattle.std.proofs.lemmas.List.{get_or_default}
 use Rattle.lrp_theory.specs.Divides.{Divides}
 use Rattle.lrp_theory.proofs.Modulo.{Divides--, Divides-neg, Divides-is, Divides-self}
 use Rattle.lrp_theory.proofs.Multiples.{Divides-multiple}
-use Rattle.lrp_spans.specs.Repeating.{HasOneOf, AreResidues, IsLeastStep, IsShift, Repeats, nth}
+use Rattle.lrp_spans.specs.Repeating.{HasOneOf, AreAscendingResidues, IsLeastStep, IsShift, Repeats, nth}
 use Rattle.lrp_spans.proofs.Repeats.{least_divides}
 use Rattle.lrp_spans.proofs.Turning.{order, nth_first, nth_turn, nth_rise, nth_below, nth_one, nth_behind, nth_inside, found, by_period, rest}
 
@@ -45,7 +45,7 @@ none_repeat K R e = record {
     empty : (x : ℤ) → HasOneOf K R x → ⊥
     empty x o = let l : o.listed.0 < length R = o.listed.1 in omega (arith, l, e)
 
-module _ (K : ℕ) (R : List ℕ) (h : AreResidues K R) (some : 0 < length R) where
+module _ (K : ℕ) (R : List ℕ) (h : AreAscendingResidues K R) (some : 0 < length R) where
   -- the set repeats with the period
   pub repeats_period : Repeats (HasOneOf K R) K
   repeats_period = record {

@@ -7,7 +7,7 @@ use Rattle.lrp_theory.specs.Entries.{AtMost}
 use Rattle.lrp_theory.proofs.Decided.{decided_within}
 use Rattle.lrp_matrix.specs.Ranges.{Above}
 use Rattle.lrp_spans.specs.declared.spans.Span.{Span}
-use Rattle.lrp_spans.specs.Spans.{BeginsBy, EndsBefore, HasTurn, IsFront, IsJoined, IsLater, IsRest}
+use Rattle.lrp_spans.specs.Spans.{SpanBeginsBy, EndsBefore, HasTurn, IsSpanFront, IsJoinedSpan, IsLater, IsRest}
 
 -- what lies behind an end of the first span, which has not ended before the second begins, is behind the beginning of the second
 pub behind : (v w : Span) (n : ℤ) (e f : Option ℤ) → v.last ≡ e → w.first ≡ f → (EndsBefore v w → ⊥) → (Within n e → ⊥) → Above n f
@@ -30,7 +30,7 @@ ahead v w n (Some a) (Some b) p q meets out = by_lt_z a n
     (λ le. le)
 
 pub joined_is : (v w j : Span) → j.residue ≡ v.residue → j.first ≡ v.first → IsLater v.last w.last j.last
-    → v.residue ≡ w.residue → BeginsBy v w → (EndsBefore v w → ⊥) → IsJoined v w j
+    → v.residue ≡ w.residue → SpanBeginsBy v w → (EndsBefore v w → ⊥) → IsJoinedSpan v w j
 joined_is v w j same first late residue begins meets = record {
   residue = same;
   begins = first;
@@ -52,7 +52,7 @@ joined_is v w j same first late residue begins meets = record {
 
 -- the front up to the turn before the hole
 pub front_is : (s hole front : Span) (f g : ℤ) → hole.first ≡ Some f → g ≡ f -ℤ pos 1 → front.residue ≡ s.residue → front.first ≡ s.first → front.last ≡ Some g
-    → (EndsBefore s hole → ⊥) → ((a : ℤ) → s.first ≡ Some a → a <ℤ f) → IsFront s hole front
+    → (EndsBefore s hole → ⊥) → ((a : ℤ) → s.first ≡ Some a → a <ℤ f) → IsSpanFront s hole front
 front_is s hole front f g is ge same first last meets own = record {
   to = λ r n t. (
       let high : n ≤ℤ g = subst (Within n) last t.high in

@@ -8,7 +8,7 @@ use Rattle.std.proofs.lemmas.Nat.{mod-mul-add, div-mul-add, div-add-mod'}
 use Rattle.lrp_theory.specs.Divides.{Divides}
 use Rattle.lrp_theory.proofs.Modulo.{Divides-+, Divides-is}
 use Rattle.lrp_theory.proofs.Multiples.{Divides-multiple}
-use Rattle.lrp_spans.specs.Repeating.{HasOneOf, AreResidues, nth}
+use Rattle.lrp_spans.specs.Repeating.{HasOneOf, AreAscendingResidues, nth}
 
 pub order : (m n : ℕ) → (m < n) ⊎ (n ≤ m)
 order m n = grind arith
@@ -17,7 +17,7 @@ order m n = grind arith
 turns : (k r x : ℤ) (t : ℤ) → x -ℤ r ≡ k *ℤ t → x ≡ r +ℤ (k *ℤ t)
 turns k r x t e = omega (arith, ints)
 
-module _ (K : ℕ) (R : List ℕ) (h : AreResidues K R) (some : 0 < length R) where
+module _ (K : ℕ) (R : List ℕ) (h : AreAscendingResidues K R) (some : 0 < length R) where
   -- the number at a place, by its turn and its residue
   pub nth_at : (q j : ℕ) → j < length R → nth K R (q * length R + j) ≡ get_or R j 0 + K * q
   nth_at q j l = rw (mod-mul-add q (length R) j l, div-mul-add q (length R) j l) refl

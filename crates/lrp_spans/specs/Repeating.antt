@@ -27,7 +27,7 @@ pub record RepeatsAtEnds (set : ℤ → Type 0) (bound step : ℕ) : Type 0 wher
   pub up : (x : ℤ) → x ≤ℤ neg_ℤ (pos bound) → set (x -ℤ pos step) → set x
 
 -- residues modulo the period, ascending
-pub record AreResidues (period : ℕ) (residues : List ℕ) : Type 0 where
+pub record AreAscendingResidues (period : ℕ) (residues : List ℕ) : Type 0 where
   pub low : 0 < period
   pub ascending : AllPairs ◌<◌ residues
   pub below : (i : ℕ) → i < length residues → slice_index_or residues i 0 < period
@@ -42,7 +42,7 @@ Moves period residues places = (i : ℕ) → i < length residues → nth period 
 
 -- residues modulo a period that fits, and a number of places less than theirs
 pub record CanMove (period : ℕ) (rs : List ℕ) (places : ℕ) : Type 0 where
-  pub residues : AreResidues period rs
+  pub residues : AreAscendingResidues period rs
   pub high : period ≤ 2 ^ 62
   pub low : 0 < places
   pub inside : places < length rs

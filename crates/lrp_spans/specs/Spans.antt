@@ -58,19 +58,19 @@ pub record AreOrdered (high : ℕ) (spans : List Span) : Type 0 where
   pub apart : AllPairs SpanComesBefore spans
 
 -- spans that have just the turns of others, and are in order where these are spans
-pub record AreMerged (old new : List Span) : Type 0 where
+pub record AreMergedSpans (old new : List Span) : Type 0 where
   pub to : (r : ℕ) (n : ℤ) → InSpans new r n → InSpans old r n
   pub from : (r : ℕ) (n : ℤ) → InSpans old r n → InSpans new r n
   pub apart : AllPairs SpanComesBefore new
   pub each : (high : ℕ) → ((s : Span) → Contains old s → IsSpan high s) → (s : Span) → Contains new s → IsSpan high s
 
 -- v begins no later than w
-pub record BeginsBy (v w : Span) : Type 0 where
+pub record SpanBeginsBy (v w : Span) : Type 0 where
   pub each : (n : ℤ) → Above n w.first → Above n v.first
 
 -- v has the lesser residue, or the same one and begins no later than w
-abbrev pub IsNumbered : Span → Span → Type 0
-IsNumbered v w = (v.residue < w.residue) ⊎ ((v.residue ≡ w.residue) × BeginsBy v w)
+abbrev pub SpanComesNoLater : Span → Span → Type 0
+SpanComesNoLater v w = (v.residue < w.residue) ⊎ ((v.residue ≡ w.residue) × SpanBeginsBy v w)
 
 -- g is the later of two ends, and none where one of them is none
 pub record IsLater (e f g : Option ℤ) : Type 0 where
@@ -79,7 +79,7 @@ pub record IsLater (e f g : Option ℤ) : Type 0 where
   pub right : (n : ℤ) → Within n f → Within n g
 
 -- joined has the turns of two spans of one residue, of which v begins no later
-pub record IsJoined (v w joined : Span) : Type 0 where
+pub record IsJoinedSpan (v w joined : Span) : Type 0 where
   pub residue : joined.residue ≡ v.residue
   pub begins : joined.first ≡ v.first
   pub to : (r : ℕ) (n : ℤ) → HasTurn joined r n → HasTurn v r n ⊎ HasTurn w r n
@@ -87,7 +87,7 @@ pub record IsJoined (v w joined : Span) : Type 0 where
   pub small : (high : ℕ) → AtMost high v.last → AtMost high w.last → AtMost high joined.last
 
 -- front has the turns of s that are below those of the hole
-pub record IsFront (s hole front : Span) : Type 0 where
+pub record IsSpanFront (s hole front : Span) : Type 0 where
   pub to : (r : ℕ) (n : ℤ) → HasTurn front r n → HasTurn s r n × (Above n hole.first → ⊥)
   pub from : (r : ℕ) (n : ℤ) → HasTurn s r n → (Above n hole.first → ⊥) → HasTurn front r n
   pub first : front.first ≡ s.first
@@ -103,7 +103,7 @@ pub record IsRest (s hole rest : Span) : Type 0 where
   pub turn : (n : ℤ) × HasTurn rest s.residue n
 
 -- made has just the turns of the spans that no hole has, in order
-pub record IsDifference (high : ℕ) (spans holes made : List Span) : Type 0 where
+pub record IsSpanDifference (high : ℕ) (spans holes made : List Span) : Type 0 where
   pub to : (r : ℕ) (n : ℤ) → InSpans made r n → InSpans spans r n × (InSpans holes r n → ⊥)
   pub from : (r : ℕ) (n : ℤ) → InSpans spans r n → (InSpans holes r n → ⊥) → InSpans made r n
   pub each : (s : Span) → Contains made s → IsSpan (high + 1) s
@@ -123,10 +123,10 @@ pub record AppendsFronts (high : ℕ) (s hole : Span) (old new : List Span) : Ty
   pub fit : AreFronts high s hole fronts
 
 -- the new spans are the old ones and behind them what the holes leave of s
-pub record AppendsLeft (high : ℕ) (s : Span) (holes old new : List Span) : Type 0 where
+pub record AppendsLeftSpans (high : ℕ) (s : Span) (holes old new : List Span) : Type 0 where
   pub left : List Span
   pub is : new ≡ old ++ left
-  pub difference : IsDifference high (s ∷ []) holes left
+  pub difference : IsSpanDifference high (s ∷ []) holes left
 
 -- the residues of the spans that have no such end, ascending
 pub record AreOpen (end : Span → Option ℤ) (spans : List Span) (residues : List ℕ) : Type 0 where
@@ -143,8 +143,8 @@ abbrev pub AreOpenBelow : List Span → List ℕ → Type 0
 AreOpenBelow = AreOpen (λ s. s.first)
 
 -- the residues of the spans are below the period
-abbrev pub AreBelow : ℕ → List Span → Type 0
-AreBelow period spans = (s : Span) → Contains spans s → s.residue < period
+abbrev pub HaveResiduesBelow : ℕ → List Span → Type 0
+HaveResiduesBelow period spans = (s : Span) → Contains spans s → s.residue < period
 
 -- one turn later
 abbrev pub next_turn : Option ℤ → Option ℤ
@@ -164,7 +164,7 @@ pub record AreShifted (high period step : ℕ) (spans made : List Span) : Type 0
   pub to : (x : ℤ) → SpansHaveNumber period made x → SpansHaveNumber period spans (x -ℤ pos step)
   pub from : (x : ℤ) → SpansHaveNumber period spans x → SpansHaveNumber period made (x +ℤ pos step)
   pub ordered : AreOrdered (high + 1) made
-  pub below : AreBelow period made
+  pub below : HaveResiduesBelow period made
 
 -- the bound is the number of the residue in this turn, and none where there is none
 abbrev pub IsTurnOf : ℤ → ℤ → Option ℤ → Option ℤ → Type 0

@@ -1,6 +1,6 @@
 // What some spans have and others have not.
 ghost use Rattle.std.specs.Prelude.{◌≡◌, ◌+◌, ◌≤◌, ◌^◌, Contains, IfOk, OnOk, Some, length, slice_get, take};
-ghost use Rattle.lrp_spans.specs.Spans.{AppendsFronts, AppendsLeft, AreBefore, AreOrdered, SpanComesBefore, IsDifference, IsSpan};
+ghost use Rattle.lrp_spans.specs.Spans.{AppendsFronts, AppendsLeftSpans, AreBefore, AreOrdered, SpanComesBefore, IsSpanDifference, IsSpan};
 ghost use Rattle.lrp_spans.specs.declared.spans.Span.{Span as SpanValue};
 
 use crate::spans::Span;
@@ -11,7 +11,7 @@ use std::alloc::Global;
 pub fn difference(alloc: Global, spans: &[Span], holes: &[Span]) -> Result<Vec<Span>, Memory>
     requires spans { AreOrdered (2 ^ 62 + 1) spans.now }
     requires holes { AreOrdered (2 ^ 62 + 1) holes.now }
-    ensures { IfOk result (λ made. IsDifference (2 ^ 62 + 1) spans.now holes.now made.items) }
+    ensures { IfOk result (λ made. IsSpanDifference (2 ^ 62 + 1) spans.now holes.now made.items) }
 {
     let mut made = Vec::new(alloc);
     let mut next = 0;
@@ -44,7 +44,7 @@ fn push_left(span: &Span, holes: &[Span], made: &mut Vec<Span>) -> Result<(), Me
     requires holes { AreOrdered (2 ^ 62 + 1) holes.now }
     requires behind { (hole : SpanValue) → Contains holes.now hole → SpanComesBefore hole span.now
         → ⊥ }
-    ensures { OnOk result (AppendsLeft (2 ^ 62 + 1) span.now holes.now made.old.items
+    ensures { OnOk result (AppendsLeftSpans (2 ^ 62 + 1) span.now holes.now made.old.items
         made.new.items) }
 {
     let mut left = *span;

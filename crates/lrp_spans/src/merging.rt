@@ -1,6 +1,6 @@
 // Spans in order, of which no two overlap.
 ghost use Rattle.std.specs.Prelude.{AllPairs, IfOk, IsTrue};
-ghost use Rattle.lrp_spans.specs.Spans.{AreMerged, HasLessResidue};
+ghost use Rattle.lrp_spans.specs.Spans.{AreMergedSpans, HasLessResidue};
 
 use crate::spans::Span;
 use lrp_model::Memory;
@@ -8,7 +8,7 @@ use std::alloc::Global;
 
 /// The spans in order, where those that overlap become one. Spans whose residues ascend are given back as they are.
 pub fn merged(alloc: Global, spans: Vec<Span>) -> Result<Vec<Span>, Memory>
-    ensures { IfOk result (λ made. AreMerged spans.items made.items) }
+    ensures { IfOk result (λ made. AreMergedSpans spans.items made.items) }
 {
     if residues_ascend(&spans) {
         return Ok(spans);
@@ -30,7 +30,7 @@ fn residues_ascend(spans: &[Span]) -> bool
 
 // The spans in order, where those that overlap become one.
 fn sorted_and_merged(alloc: Global, spans: Vec<Span>) -> Result<Vec<Span>, Memory>
-    ensures { IfOk result (λ made. AreMerged spans.items made.items) }
+    ensures { IfOk result (λ made. AreMergedSpans spans.items made.items) }
 {
     let mut spans = spans;
     spans.sort_unstable();

@@ -2,7 +2,7 @@
 ghost use Rattle.std.specs.Prelude.{◌<◌, ◌≤◌, ◌^◌, AllPairs, Contains, IfOk, pos};
 ghost use Rattle.lrp_theory.specs.Divides.{Divides};
 ghost use Rattle.lrp_spans.specs.Periods.{AreSpanLists, IsEndPeriod, IsWithEnds};
-ghost use Rattle.lrp_spans.specs.Spans.{AreBelow, AreOrdered};
+ghost use Rattle.lrp_spans.specs.Spans.{HaveResiduesBelow, AreOrdered};
 
 use crate::ends::{open_above, open_below};
 use crate::groups::spans_at;
@@ -33,7 +33,7 @@ pub fn period_of(alloc: Global, groups: &Slots<Span>, period: u64) -> Result<u64
 // The least common multiple of a number and the steps with which the spans repeat at their ends.
 fn with_ends(alloc: Global, spans: &[Span], period: u64, least: u64) -> Result<u64, Memory>
     requires spans { AreOrdered (2 ^ 62) spans.now }
-    requires below { AreBelow period spans.now }
+    requires below { HaveResiduesBelow period spans.now }
     requires period_low { 0 < period }
     requires period_high { period ≤ 2 ^ 62 }
     requires low { 0 < least }

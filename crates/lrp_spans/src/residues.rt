@@ -1,6 +1,6 @@
 // The least period of a set of residues.
 ghost use Rattle.std.specs.Prelude.{◌+◌, ◌<◌, ◌≤◌, ◌^◌, ◌↔◌, ◌≡◌, IsTrue, length};
-ghost use Rattle.lrp_spans.specs.Repeating.{AreResidues, CanMove, HasOneOf, IsLeastStep, Moves, nth};
+ghost use Rattle.lrp_spans.specs.Repeating.{AreAscendingResidues, CanMove, HasOneOf, IsLeastStep, Moves, nth};
 
 /// The least number with which the integers of some residues repeat, of which each such number is a multiple; 1 where there
 /// is no residue.
@@ -8,7 +8,7 @@ ghost use Rattle.lrp_spans.specs.Repeating.{AreResidues, CanMove, HasOneOf, IsLe
 /// A step takes each of them to the one that stands so many places further on, and so many places divide the number of
 /// residues. So only the divisors of that number are tried, and the period is never factored.
 pub fn least_period(residues: &[u64], period: u64) -> u64
-    requires residues { AreResidues period residues.now }
+    requires residues { AreAscendingResidues period residues.now }
     requires high { period ≤ 2 ^ 62 }
     ensures { IsLeastStep (HasOneOf period residues.now) result }
 {
@@ -63,7 +63,7 @@ fn all_move(residues: &[u64], period: u64, places: usize) -> bool
 
 // The number at a place, where the residues stand again behind the last, a period greater.
 fn number_at(residues: &[u64], period: u64, i: usize) -> u64
-    requires residues { AreResidues period residues.now }
+    requires residues { AreAscendingResidues period residues.now }
     requires high { period ≤ 2 ^ 62 }
     requires place { i < length residues.now + length residues.now }
     ensures { result ≡ nth period residues.now i }

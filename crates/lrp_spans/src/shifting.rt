@@ -3,8 +3,8 @@ ghost use Rattle.std.specs.Prelude.{◌≡◌, ◌+◌, ◌≤◌, ◌<◌, ◌^
 ghost use Rattle.lrp_theory.specs.Divides.{Divides};
 ghost use Rattle.lrp_theory.specs.Entries.{AtMost, entry};
 ghost use Rattle.lrp_matrix.specs.Ranges.{negation};
-ghost use Rattle.lrp_zone.specs.Zones.{IsTight, columns_of};
-ghost use Rattle.lrp_spans.specs.Spans.{AreBelow, AreOrdered, AreShifted, IsSpan, IsSpanOf, IsTurnOf, moved_past, moved_within, next_turn};
+ghost use Rattle.lrp_zone.specs.Zones.{IsTight, IsZone, columns_of};
+ghost use Rattle.lrp_spans.specs.Spans.{HaveResiduesBelow, AreOrdered, AreShifted, IsSpan, IsSpanOf, IsTurnOf, moved_past, moved_within, next_turn};
 ghost use Rattle.lrp_spans.specs.declared.spans.Span.{Span as SpanValue};
 
 use crate::spans::Span;
@@ -15,7 +15,7 @@ use std::alloc::Global;
 /// The numbers that are a step greater than those of the spans, in order. The step is at most the period.
 pub fn shifted(alloc: Global, spans: &[Span], step: u64, period: u64) -> Result<Vec<Span>, Memory>
     requires spans { AreOrdered (2 ^ 62) spans.now }
-    requires below { AreBelow period spans.now }
+    requires below { HaveResiduesBelow period spans.now }
     requires step { step ≤ period }
     requires period { period ≤ 2 ^ 62 }
     ensures { IfOk result (λ made. AreShifted (2 ^ 62) period step spans.now made.items) }
@@ -30,7 +30,7 @@ pub fn shifted(alloc: Global, spans: &[Span], step: u64, period: u64) -> Result<
 // The place of the first span whose residue is not below the end.
 fn count_below(spans: &[Span], end: u64) -> usize
     ensures place { result ≤ length spans.now }
-    ensures below { AreBelow end (take result spans.now) }
+    ensures below { HaveResiduesBelow end (take result spans.now) }
     ensures stop { (s : SpanValue) → slice_get spans.now result ≡ Some s → end ≤ s.residue }
 {
     let mut next = 0;
@@ -43,7 +43,7 @@ fn count_below(spans: &[Span], end: u64) -> usize
 // Appends spans a step further on, which leads them into the next turn.
 fn push_past(spans: &[Span], step: u64, period: u64, made: &mut Vec<Span>) -> Result<(), Memory>
     requires spans { (s : SpanValue) → Contains spans.now s → IsSpan (2 ^ 62) s }
-    requires below { AreBelow period spans.now }
+    requires below { HaveResiduesBelow period spans.now }
     requires past { (s : SpanValue) → Contains spans.now s → period ≤ s.residue + step }
     requires step { step ≤ period }
     requires period { period ≤ 2 ^ 62 }
@@ -99,10 +99,10 @@ fn after(turn: Option<i64>) -> Option<i64>
 
 /// The span of a zone with one column.
 pub fn span_of(zone: &Zone) -> Span
-    requires { columns_of zone.now ≡ 1 }
+    requires valid { IsZone zone.now }
+    requires column { columns_of zone.now ≡ 1 }
     ensures { IsSpanOf zone.now result }
 {
-    zone.columns();
     let (residue, period) = (zone.residue(1), zone.period());
     Span {
         residue: residue as u64,

@@ -3,7 +3,7 @@ ghost use Rattle.std.specs.Prelude.{◌≡◌, ◌+◌, ◌↔◌, ◌^◌, ◌�
 ghost use Rattle.lrp_theory.specs.Bounds.{Within};
 ghost use Rattle.lrp_theory.specs.Entries.{AtMost};
 ghost use Rattle.lrp_matrix.specs.Ranges.{Above};
-ghost use Rattle.lrp_spans.specs.Spans.{BeginsBy, SpanComesBefore, EndsBefore, HasTurn, IsFront, IsJoined, IsLater, IsRest};
+ghost use Rattle.lrp_spans.specs.Spans.{SpanBeginsBy, SpanComesBefore, EndsBefore, HasTurn, IsSpanFront, IsJoinedSpan, IsLater, IsRest};
 
 /// The numbers `residue + period n` for n from `first` to `last`, both included. `None` is no end.
 ///
@@ -32,9 +32,9 @@ impl Span {
     /// A span and one of its residue that begins no sooner, and before the first has ended.
     pub fn joined(&self, next: &Span) -> Span
         requires residue { self.now.residue ≡ next.now.residue }
-        requires begins { BeginsBy self.now next.now }
+        requires begins { SpanBeginsBy self.now next.now }
         requires meets { EndsBefore self.now next.now → ⊥ }
-        ensures { IsJoined self.now next.now result }
+        ensures { IsJoinedSpan self.now next.now result }
     {
         Span {
             last: later(self.last, next.last),
@@ -48,7 +48,7 @@ impl Span {
         requires some { (n : ℤ) × HasTurn self.now self.now.residue n }
         requires meets { EndsBefore self.now hole.now → ⊥ }
         ensures none { IfNone result ((n : ℤ) → Above n self.now.first → Above n hole.now.first) }
-        ensures some { IfSome result (λ front. IsFront self.now hole.now front) }
+        ensures some { IfSome result (λ front. IsSpanFront self.now hole.now front) }
     {
         let first = hole.first?;
         if starts_from(self.first, first) {

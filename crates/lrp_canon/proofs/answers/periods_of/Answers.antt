@@ -11,5 +11,5 @@ period_word : (k : ℕ) (p : ℤ) → k ≤ 2 ^ 62 → p ≡ pos k → nat_abs (
 period_word k p l e = omega (arith, ints)
 
 pub period_of-requires-clause-spans : goal.period_of-requires-clause-spans
-period_of-requires-clause-spans c = subst (λ k. AreSpanLists k c.args.groups.now.lists) (sym (period_word c.args.store.now.period c.period-whole.result c.shape.ensures.valid.period_high c.period-whole.ensures))
-    (span_lists c.args.store.now c.shape.ensures.valid c.requires.can.column c.args.groups.now.lists c.requires.groups)
+period_of-requires-clause-spans c = subst (λ k. AreSpanLists k c.args.groups.now.lists) (sym (period_word c.args.store.now.period c.period-whole.result c.requires.valid.period_high c.period-whole.ensures))
+    (span_lists c.args.store.now c.requires.valid c.requires.can.column c.args.groups.now.lists c.requires.groups)

@@ -5,4 +5,4 @@ use Rattle.lrp_store.proofs.ZoneCounts.{single_zones}
 use Rattle.lrp_canon.proofs.answers.stands_already.Goals as goal
 
 pub returns : goal.returns
-returns c = λ e. record { single = single_zones c.args.store.now c.shape.ensures.valid (sym c.zones.ensures ∙ eqb-true c.zones.result c.len.result e ∙ c.len.ensures); least = c.if-periods.false }
+returns c = λ e. record { single = single_zones c.args.store.now c.requires (sym c.zones.ensures ∙ eqb-true c.zones.result c.len.result e ∙ c.len.ensures); least = c.if-periods.false }

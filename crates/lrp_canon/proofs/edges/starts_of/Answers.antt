@@ -1,7 +1,7 @@
 -- The spans less those moved by the step.
 use Rattle.std.proofs.Common.{◌+◌, ◌^◌, subst, sym}
 use Rattle.std.proofs.lemmas.Result.{IfOk-weaker}
-use Rattle.lrp_spans.specs.Spans.{AreOrdered, SpansHaveNumber, IsDifference}
+use Rattle.lrp_spans.specs.Spans.{AreOrdered, SpansHaveNumber, IsSpanDifference}
 use Rattle.lrp_canon.specs.Edges.{AreEdgeSpans, Begins}
 use Rattle.lrp_canon.proofs.EdgeLaws.{ordered_wider, starts_are, step_of}
 use Rattle.lrp_canon.proofs.edges.starts_of.Goals as goal
@@ -16,5 +16,5 @@ pub difference-requires-clause-holes : goal.difference-requires-clause-holes
 difference-requires-clause-holes c = subst (AreOrdered (2 ^ 62 + 1)) (sym c.deref.ensures.value) c.in_ok-before.ensures.ordered
 
 pub returns : goal.returns
-returns c = IfOk-weaker c.difference.result (λ made. IsDifference (2 ^ 62 + 1) c.args.spans.now c.deref.result.now made.items) (λ made. AreEdgeSpans c.args.periods.whole (Begins (SpansHaveNumber c.args.periods.whole c.args.spans.now) c.args.periods.least) made.items) (λ made d. starts_are c.args.periods c.args.spans.now c.in_ok-before.before.items c.requires c.in_ok-before.ensures made.items
-    (subst (λ holes. IsDifference (2 ^ 62 + 1) c.args.spans.now holes made.items) c.deref.ensures.value d)) c.difference.ensures
+returns c = IfOk-weaker c.difference.result (λ made. IsSpanDifference (2 ^ 62 + 1) c.args.spans.now c.deref.result.now made.items) (λ made. AreEdgeSpans c.args.periods.whole (Begins (SpansHaveNumber c.args.periods.whole c.args.spans.now) c.args.periods.least) made.items) (λ made d. starts_are c.args.periods c.args.spans.now c.in_ok-before.before.items c.requires c.in_ok-before.ensures made.items
+    (subst (λ holes. IsSpanDifference (2 ^ 62 + 1) c.args.spans.now holes made.items) c.deref.ensures.value d)) c.difference.ensures

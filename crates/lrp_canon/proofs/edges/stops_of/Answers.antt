@@ -1,7 +1,7 @@
 -- The spans moved by the step, less the spans.
 use Rattle.std.proofs.Common.{◌+◌, ◌^◌, subst, sym}
 use Rattle.std.proofs.lemmas.Result.{IfOk-weaker}
-use Rattle.lrp_spans.specs.Spans.{AreOrdered, SpansHaveNumber, IsDifference}
+use Rattle.lrp_spans.specs.Spans.{AreOrdered, SpansHaveNumber, IsSpanDifference}
 use Rattle.lrp_canon.specs.Edges.{AreEdgeSpans, StopsAt}
 use Rattle.lrp_canon.proofs.EdgeLaws.{ordered_wider, step_of, stops_are}
 use Rattle.lrp_canon.proofs.edges.stops_of.Goals as goal
@@ -16,5 +16,5 @@ pub difference-requires-clause-holes : goal.difference-requires-clause-holes
 difference-requires-clause-holes c = ordered_wider (2 ^ 62) c.args.spans.now c.requires.ordered
 
 pub returns : goal.returns
-returns c = IfOk-weaker c.difference.result (λ made. IsDifference (2 ^ 62 + 1) c.deref.result.now c.args.spans.now made.items) (λ made. AreEdgeSpans c.args.periods.whole (StopsAt (SpansHaveNumber c.args.periods.whole c.args.spans.now) c.args.periods.least) made.items) (λ made d. stops_are c.args.periods c.args.spans.now c.in_ok-before.before.items c.requires c.in_ok-before.ensures made.items
-    (subst (λ spans. IsDifference (2 ^ 62 + 1) spans c.args.spans.now made.items) c.deref.ensures.value d)) c.difference.ensures
+returns c = IfOk-weaker c.difference.result (λ made. IsSpanDifference (2 ^ 62 + 1) c.deref.result.now c.args.spans.now made.items) (λ made. AreEdgeSpans c.args.periods.whole (StopsAt (SpansHaveNumber c.args.periods.whole c.args.spans.now) c.args.periods.least) made.items) (λ made d. stops_are c.args.periods c.args.spans.now c.in_ok-before.before.items c.requires c.in_ok-before.ensures made.items
+    (subst (λ spans. IsSpanDifference (2 ^ 62 + 1) spans c.args.spans.now made.items) c.deref.ensures.value d)) c.difference.ensures

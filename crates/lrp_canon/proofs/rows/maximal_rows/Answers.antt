@@ -3,7 +3,7 @@ use Rattle.std.proofs.Common.{◌+◌, ◌-◌, ◌^◌, arith, subst, sym}
 use Rattle.std.specs.Prelude.{AllPairs}
 use Rattle.std.proofs.lemmas.Result.{IfOk-weaker}
 use Rattle.lrp_spans.specs.Spans.{SpansHaveNumber}
-use Rattle.lrp_canon.specs.Edges.{AreBeginnings, AreStops, IsEarlier}
+use Rattle.lrp_canon.specs.Edges.{AreBeginnings, AreStops, IsEarlierEdge}
 use Rattle.lrp_canon.specs.Making.{AreRowsOf}
 use Rattle.lrp_canon.specs.Pairing.{AreRowsFrom, AreStopEdges}
 use Rattle.lrp_canon.proofs.EdgeLaws.{step_of}
@@ -13,7 +13,7 @@ use Rattle.lrp_canon.proofs.SpanDecisions.{decided_number}
 use Rattle.lrp_canon.proofs.rows.maximal_rows.Goals as goal
 
 pub paired-requires-clause-starts : goal.paired-requires-clause-starts
-paired-requires-clause-starts c = subst (AllPairs IsEarlier) (sym c.deref.ensures.value) c.in_ok-starts.ensures.apart
+paired-requires-clause-starts c = subst (AllPairs IsEarlierEdge) (sym c.deref.ensures.value) c.in_ok-starts.ensures.apart
 
 pub paired-requires-clause-stops : goal.paired-requires-clause-stops
 paired-requires-clause-stops c = subst (AreStopEdges c.args.periods.least) (sym c.deref-2.ensures.value)

@@ -1,7 +1,7 @@
 use Rattle.std.proofs.Common.{ap}
 use Rattle.lrp_print.proofs.Lines.{written_as}
-use Rattle.lrp_list.specs.Lines.{spot_tuple}
-use Rattle.lrp_list.proofs.HeadOrder.{spot_tuple_is}
+use Rattle.lrp_answers.specs.Spots.{spot_tuple}
+use Rattle.lrp_answers.proofs.HeadOrder.{spot_tuple_is}
 use Rattle.lrp_civil.specs.CivilLines.{civil_line}
 use Rattle.lrp_civil.proofs.DateLemmas.{date_is}
 use Rattle.lrp_civil.proofs.MomentLemmas.{civil_day}

@@ -1,4 +1,4 @@
-use Rattle.lrp_list.proofs.HeadOrder.{spot_tuple_is}
+use Rattle.lrp_answers.proofs.HeadOrder.{spot_tuple_is}
 use Rattle.lrp_outputs.proofs.Spots.{texts_known}
 use Rattle.lrp_outputs.proofs.laws.spots_stand_for_tuples.Goals as goal
 

@@ -2,7 +2,7 @@
 use Rattle.std.proofs.Common.{◌≡◌, ◌-◌, List, Some, length, sym, ap, subst, map}
 use Rattle.std.specs.Prelude.{slice_get}
 use Rattle.lrp_print.proofs.Lines.{written_as}
-use Rattle.lrp_list.specs.Lines.{is_json}
+use Rattle.lrp_answer_text.specs.Lines.{is_json}
 use Rattle.lrp_model.specs.Pages.{last_of}
 use Rattle.lrp_model.specs.PrintedPages.{end_line}
 use Rattle.lrp_model.specs.declared.tuples.Spot.{Spot}

@@ -2,7 +2,7 @@
 use Rattle.std.proofs.Common.{◌≡◌, ◌≤◌, take}
 use Rattle.std.specs.List.{flat_map}
 use Rattle.lrp_io.specs.Bytes.{appended}
-use Rattle.lrp_list.specs.Lines.{is_json}
+use Rattle.lrp_answer_text.specs.Lines.{is_json}
 use Rattle.lrp_outputs.specs.Spots.{answer_tuple}
 use Rattle.lrp_outputs.specs.PageLines.{line_as}
 use Rattle.lrp_outputs.proofs.lines.write_lines.Given as goal

@@ -4,7 +4,7 @@ use Rattle.std.specs.Prelude.{flat_map}
 use Rattle.std.proofs.lemmas.Result.{err_from_is_err_and}
 use Rattle.lrp_io.proofs.PieceLemmas.{front_before, written_behind, written_err}
 use Rattle.lrp_print.proofs.Lines.{front_as, ok_as}
-use Rattle.lrp_list.specs.Lines.{is_json}
+use Rattle.lrp_answer_text.specs.Lines.{is_json}
 use Rattle.lrp_model.specs.Pages.{last_of}
 use Rattle.lrp_model.specs.PrintedPages.{end_line, token_behind}
 use Rattle.lrp_outputs.specs.Spots.{answer_tuple}

@@ -1,6 +1,6 @@
 -- The line of its tuple, by how times are shown.
 use Rattle.std.proofs.Common.{sym, ap}
-use Rattle.lrp_list.specs.Lines.{is_json}
+use Rattle.lrp_answer_text.specs.Lines.{is_json}
 use Rattle.lrp_print.proofs.Lines.{written_as}
 use Rattle.lrp_outputs.specs.Spots.{answer_tuple}
 use Rattle.lrp_outputs.specs.PageLines.{line_as}

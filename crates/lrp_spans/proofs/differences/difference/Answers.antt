@@ -2,7 +2,7 @@
 use Rattle.std.proofs.Common.{◌+◌, ◌^◌, None, get_or, subst, sym}
 use Rattle.std.specs.Prelude.{Contains}
 use Rattle.std.proofs.lemmas.List.Elements.{Contains-get_or}
-use Rattle.lrp_spans.specs.Spans.{AppendsLeft, AreOrdered}
+use Rattle.lrp_spans.specs.Spans.{AppendsLeftSpans, AreOrdered}
 use Rattle.lrp_spans.proofs.DifferenceLaws.{none_before, place_in, step_difference, still_before, suffix_ordered, to_end}
 use Rattle.lrp_spans.proofs.differences.difference.Goals as goal
 
@@ -26,5 +26,5 @@ loop-span-preserved c = record {
   place = c.passed-next.ensures.place;
   before = still_before (2 ^ 62 + 1) c.args.spans.now c.args.holes.now c.loop-span.span-index c.passed-next.result (record { residue = 0; first = None; last = None }) c.requires.spans c.requires.holes c.loop-span-test.true c.passed-next.ensures.before;
   done = step_difference (2 ^ 62 + 1) c.args.spans.now c.args.holes.now c.loop-span.span-index c.passed-next.result (record { residue = 0; first = None; last = None }) c.loop-span.made.items c.push_left.new.made.items c.requires.spans c.loop-span-test.true
-      c.passed-next.ensures.before c.loop-span.invariant.done (subst (λ x. AppendsLeft (2 ^ 62 + 1) (get_or c.args.spans.now c.loop-span.span-index (record { residue = 0; first = None; last = None })) x c.loop-span.made.items c.push_left.new.made.items) (to_end c.args.holes.now c.passed-next.result) c.in_ok-push_left.ensures);
+      c.passed-next.ensures.before c.loop-span.invariant.done (subst (λ x. AppendsLeftSpans (2 ^ 62 + 1) (get_or c.args.spans.now c.loop-span.span-index (record { residue = 0; first = None; last = None })) x c.loop-span.made.items c.push_left.new.made.items) (to_end c.args.holes.now c.passed-next.result) c.in_ok-push_left.ensures);
 }

@@ -12,5 +12,5 @@ push_spans-requires c = entry_columns c.args.store.now c.shape.ensures.valid c.r
 pub loop-cell-preserved : goal.loop-cell-preserved
 loop-cell-preserved c = gathering_more c.args.store.now c.in-Some.cell c.in-Some.zones c.next.new.self c.loop-cell.cell-iterator c.in-Some.ensures.steps c.group_of.result c.group_of.ensures c.loop-cell.groups.lists c.push_spans.new.groups.lists c.in_ok-push_spans.ensures c.loop-cell.invariant
 
-pub returns : goal.returns
-returns c = gathering_end c.args.store.now c.loop-cell.cell-iterator c.loop-cell.groups.lists c.in-None.ensures.steps.0 c.loop-cell.invariant
+pub returns-clause-groups : goal.returns-clause-groups
+returns-clause-groups c = gathering_end c.args.store.now c.loop-cell.cell-iterator c.loop-cell.groups.lists c.in-None.ensures.steps.0 c.loop-cell.invariant

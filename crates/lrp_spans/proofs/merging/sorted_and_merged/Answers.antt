@@ -2,16 +2,16 @@
 use Rattle.std.proofs.Common.{◌≡◌, ℕ, ◌<◌, ◌∷◌, ◌∙◌, inr, List, None, get_or, length, take, sym, subst, arith}
 use Rattle.std.specs.Prelude.{AllPairs, Contains}
 use Rattle.lrp_spans.specs.declared.spans.Span.{Span}
-use Rattle.lrp_spans.specs.Spans.{AreMerged, IsNumbered}
+use Rattle.lrp_spans.specs.Spans.{AreMergedSpans, SpanComesNoLater}
 use Rattle.lrp_spans.proofs.MergeLaws.{AreMerging, all_taken, before_next, begins_by, merged_permutation, merging_apart, merging_end, merging_joined, merging_start, more_taken, same_residue}
 use Rattle.lrp_spans.proofs.SpanOrder.{spans_in_order}
 use Rattle.lrp_spans.proofs.merging.sorted_and_merged.Goals.{then-is_before+in_ok-push, else-is_before}
 use Rattle.lrp_spans.proofs.merging.sorted_and_merged.Goals as goal
 
 -- the sorted list begins with the first span, and each earlier one is in order with the next
-in_order : (items : List Span) (first : Span) (rest : List Span) → items ≡ first ∷ rest → AllPairs IsNumbered items
-    → (k : ℕ) → k < length rest → (u : Span) → Contains (first ∷ take k rest) u → IsNumbered u (get_or rest k (record { residue = 0; first = None; last = None }))
-in_order items first rest e all k l = before_next first rest k (record { residue = 0; first = None; last = None }) (subst (AllPairs IsNumbered) e all) l
+in_order : (items : List Span) (first : Span) (rest : List Span) → items ≡ first ∷ rest → AllPairs SpanComesNoLater items
+    → (k : ℕ) → k < length rest → (u : Span) → Contains (first ∷ take k rest) u → SpanComesNoLater u (get_or rest k (record { residue = 0; first = None; last = None }))
+in_order items first rest e all k l = before_next first rest k (record { residue = 0; first = None; last = None }) (subst (AllPairs SpanComesNoLater) e all) l
 
 pub loop-next-init : goal.loop-next-init
 loop-next-init c = rw c.new-made.ensures.items (merging_start c.in-Some.first.now)
@@ -50,5 +50,5 @@ returns c =
     let e : c.sort_unstable.new.self.items ≡ c.in-Some.first.now ∷ c.in-Some.rest.now = sym c.deref.ensures.value ∙ c.in-Some.ensures.cases.0 in
     let all : c.loop-next.next-index ≡ length c.in-Some.rest.now = omega (arith, c.loop-next.auto.next-index-end, c.loop-next-test.false) in
     merged_permutation c.args.spans.items c.sort_unstable.new.self.items c.push-2.new.self.items c.sort_unstable.ensures.permutation
-    (subst (λ l. AreMerged l c.push-2.new.self.items) (all_taken c.in-Some.first.now c.in-Some.rest.now c.loop-next.next-index all ∙ sym e)
+    (subst (λ l. AreMergedSpans l c.push-2.new.self.items) (all_taken c.in-Some.first.now c.in-Some.rest.now c.loop-next.next-index all ∙ sym e)
     (rw c.in_ok-push-2.ensures.items (merging_end _ c.loop-next.made.items c.loop-next.last c.loop-next.invariant)))

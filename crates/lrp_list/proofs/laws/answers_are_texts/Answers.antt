@@ -1,5 +1,0 @@
-use Rattle.lrp_list.proofs.AnswerLaw.{is_text}
-use Rattle.lrp_list.proofs.laws.answers_are_texts.Goals as goal
-
-pub returns : goal.returns
-returns c = λ db q a h. is_text db q a h

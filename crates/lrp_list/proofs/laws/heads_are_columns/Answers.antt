@@ -1,5 +1,0 @@
-use Rattle.lrp_list.proofs.HeadColumns.{head_columns}
-use Rattle.lrp_list.proofs.laws.heads_are_columns.Goals as goal
-
-pub returns : goal.returns
-returns c = head_columns
